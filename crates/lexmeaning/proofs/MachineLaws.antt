@@ -1,0 +1,44 @@
+-- The rules that a machine tells keep the laws, and there are matches in order at each place.
+use Rattle.std.proofs.Common.{◌≡◌, ℕ, ◌+◌, ◌≤◌, Bool, true, List, [], ◌∷◌, ◌++◌, length, refl, sym, ◌∙◌, ap, subst, arith}
+use Rattle.std.proofs.lemmas.List.{length-append}
+use Rattle.lexmeaning.specs.Text.{Among, IsText}
+use Rattle.lexmeaning.specs.Laws.{Laws}
+use Rattle.lexmeaning.specs.Spec.{Cut, Whole, Head, Trail}
+use Rattle.lexmeaning.specs.Machine.{Machine, Keeps, walk, state_after, rules_of_machine}
+use Rattle.lexmeaning.specs.MachineLaws.{MachineLaws, LeadsToAccept}
+use Rattle.lexmeaning.proofs.Cuts.{keeps_one}
+
+pub walk-append : (M : Machine) (s : ℕ) (v w : List ℕ) → walk M s (v ++ w) ≡ walk M (walk M s v) w
+walk-append M s [] w = refl
+walk-append M s (b ∷ v) w = walk-append M (M.next s b) v w
+
+keeps_some : (cut : Cut) (n k : ℕ) → 1 ≤ n → Keeps cut n k → 1 ≤ k
+keeps_some Whole n k some h = omega arith
+keeps_some (Head m) n k some h = omega (arith, h.0, h.1)
+keeps_some (Trail t) n k some h = h.1
+
+keeps_inside : (cut : Cut) (n k : ℕ) → Keeps cut n k → k ≤ n
+keeps_inside Whole n k h = omega arith
+keeps_inside (Head m) n k h = omega (arith, h.0, h.2)
+keeps_inside (Trail t) n k h = omega (arith, h.0)
+
+text_append : (u v : List ℕ) → IsText u → IsText v → IsText (u ++ v)
+text_append [] v h k = k
+text_append (b ∷ u) v h k = (h.0, text_append u v h.1 k)
+
+pub machine_laws : (M : Machine) → MachineLaws M → Laws (rules_of_machine M)
+machine_laws M laws = record {
+  some_text = λ c bol w i k h. keeps_some (M.cut i) (length w) k h.not_empty h.keeps;
+  inside = λ c bol w i k h. keeps_inside (M.cut i) (length w) k h.keeps;
+  one_text = λ c bol w i k l h g. keeps_one (M.cut i) (length w) k l h.keeps g.keeps;
+  live_from_full = λ c bol w u i k text some h.
+      (laws.goes_on (state_after M c bol w)).1 (u, text, some, i, subst (λ s. Among (M.accepts s) i) (walk-append M (M.start c bol) w u) h.accepted);
+  live_shorter = λ c bol w u text h. shorter c bol w u text ((laws.goes_on (state_after M c bol (w ++ u))).0 h);
+}
+  where
+    shorter : (c : ℕ) (bol : Bool) (w u : List ℕ) → IsText u → LeadsToAccept M (state_after M c bol (w ++ u)) → M.goes_on (state_after M c bol w) ≡ true
+    shorter c bol w u text (v, more, some, i, among) =
+        let size : length (u ++ v) ≡ length u + length v = length-append u v in
+        let there : walk M (state_after M c bol (w ++ u)) v ≡ walk M (state_after M c bol w) (u ++ v) =
+        ap (λ s. walk M s v) (walk-append M (M.start c bol) w u) ∙ sym (walk-append M (state_after M c bol w) u v) in
+        (laws.goes_on (state_after M c bol w)).1 (u ++ v, text_append u v text more, omega arith, i, subst (λ s. Among (M.accepts s) i) there among)

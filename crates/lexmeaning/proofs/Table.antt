@@ -1,0 +1,359 @@
+-- A machine for a specification has its turns, and asks for the same bytes.
+use Rattle.std.proofs.Common.{◌≡◌, ℕ, zero, suc, ◌+◌, ◌-◌, ◌≤◌, ◌<◌, Bool, true, false, List, [], ◌∷◌, ◌++◌, length, take, drop, ◌⊎◌, inl, inr, ◌↔◌, Option, Some, None, refl, sym, ◌∙◌, ap, subst, arith}
+use Rattle.std.specs.Prelude.{slice_get, nat_lt}
+use Rattle.std.proofs.lemmas.List.{length-append}
+use Rattle.std.proofs.lemmas.Bool.{cond-true, cond-false, lt-ltb, le-ltb, or_parts, cases_lt}
+use Rattle.lexmeaning.specs.Text.{IsText, Among, part, at_line_start}
+use Rattle.lexmeaning.specs.Spec.{Spec, Rule, Statement, Echo, Print, Begin, More, Less, Reject, End, has_reject, EndAction, Fits, statements_at, rejects, any_reject}
+use Rattle.lexmeaning.specs.Rules.{Rules, Full, rules_of, statements_of}
+use Rattle.lexmeaning.specs.Candidates.{Candidate, Before, IsCandidate, Candidates}
+use Rattle.lexmeaning.specs.Acting.{Ending, Status, Acting, Matched, Went, Done, Again, Over, act, settle, perform}
+use Rattle.lexmeaning.specs.Run.{Place, State, Turn, MatchTurn, EndTurn, NextFrom, Turns, Run}
+use Rattle.lexmeaning.specs.Demand.{AsksAt, Reach, AsksForEnd, FarFrom, Far, EndAsked}
+use Rattle.lexmeaning.specs.Scanned.{AfterTurns}
+use Rattle.lexmeaning.specs.Machine.{Machine, MachineFits, rules_of_machine, TableFor, Accepted, Keeps}
+use Rattle.lexmeaning.specs.Reports.{HasFit}
+use Rattle.lexmeaning.specs.Sound.{IsSound, BeginsBelow}
+use Rattle.lexmeaning.proofs.Texts.{is_text_take, is_text_drop}
+use Rattle.lexmeaning.proofs.Once.{one_state, same_order, same_heads}
+use Rattle.lexmeaning.proofs.Local.{settle_same}
+use Rattle.lexmeaning.proofs.Cuts.{cut_keeps, keeps_one}
+use Rattle.lexmeaning.proofs.Exists.{candidates_exist}
+
+-- R has the matches of Q: all of them, or of each word the first alone, where no rule has REJECT.
+abbrev pub HasMatches : Bool → Rules → Rules → Type 0
+HasMatches true R Q = (c : ℕ) (bol : Bool) (w : List ℕ) (i k : ℕ) → c < Q.conditions → IsText w → Q.full c bol w i k → R.full c bol w i k
+HasMatches false R Q =
+    ((c : ℕ) (bol : Bool) (w : List ℕ) (i k : ℕ) → c < Q.conditions → IsText w → Q.full c bol w i k → ((j l : ℕ) → j < i → Q.full c bol w j l → ⊥) → R.full c bol w i k)
+    × ((i : ℕ) → i < Q.count → has_reject (Q.statements i) ≡ false)
+
+pub record Alike (all : Bool) (R Q : Rules) : Type 0 where
+  pub count : R.count ≡ Q.count
+  pub statements : (i : ℕ) → i < Q.count → R.statements i ≡ Q.statements i
+  pub begins : (i : ℕ) → i < Q.count → BeginsBelow Q.conditions (Q.statements i)
+  pub ending : (c : ℕ) → c < Q.conditions → R.ending c ≡ Q.ending c
+  pub some_condition : 1 ≤ Q.conditions
+  pub live : (c : ℕ) (bol : Bool) (w : List ℕ) → c < Q.conditions → IsText w → R.live c bol w ↔ Q.live c bol w
+  pub full : (c : ℕ) (bol : Bool) (w : List ℕ) (i k : ℕ) → c < Q.conditions → IsText w → R.full c bol w i k → Q.full c bol w i k
+  pub matches : HasMatches all R Q
+  pub exist : (c : ℕ) (bol : Bool) (y : List ℕ) → (ms : List Candidate) × Candidates Q c bol y ms
+
+-- actions
+
+settle_quiet : (ss : List Statement) (a : Acting) (f g : Acting → Option Matched) → has_reject ss ≡ false → settle (act ss a) f ≡ settle (act ss a) g
+settle_quiet [] a f g h = refl
+settle_quiet (Echo ∷ ss) a f g h = settle_quiet ss (record a { written = a.written ++ a.text }) f g h
+settle_quiet (Print s ∷ ss) a f g h = settle_quiet ss (record a { written = a.written ++ s }) f g h
+settle_quiet (Begin d ∷ ss) a f g h = settle_quiet ss (record a { condition = d }) f g h
+settle_quiet (More ∷ ss) a f g h = settle_quiet ss (record a { more = true }) f g h
+settle_quiet (Less n ∷ ss) a f g h = settle_quiet ss (record a { text = take n a.text }) f g h
+settle_quiet (Reject ∷ ss) a f g h = absurd (no h)
+  where
+    no : true ≡ false → ⊥
+    no p = cc
+settle_quiet (End s ∷ ss) a f g h = refl
+
+-- the condition that an action leaves
+abbrev pub WentBelow : ℕ → Went → Type 0
+WentBelow n (Done a) = a.condition < n
+WentBelow n (Again a) = a.condition < n
+WentBelow n (Over a e) = a.condition < n
+
+pub act_below : (n : ℕ) (ss : List Statement) (a : Acting) → a.condition < n → BeginsBelow n ss → WentBelow n (act ss a)
+act_below n [] a h k = h
+act_below n (Echo ∷ ss) a h k = act_below n ss (record a { written = a.written ++ a.text }) h k
+act_below n (Print s ∷ ss) a h k = act_below n ss (record a { written = a.written ++ s }) h k
+act_below n (Begin d ∷ ss) a h k = act_below n ss (record a { condition = d }) k.0 k.1
+act_below n (More ∷ ss) a h k = act_below n ss (record a { more = true }) h k
+act_below n (Less m ∷ ss) a h k = act_below n ss (record a { text = take m a.text }) h k
+act_below n (Reject ∷ ss) a h k = h
+act_below n (End s ∷ ss) a h k = h
+
+settle_below : (n : ℕ) (w : Went) (f : Acting → Option Matched) (o : Matched) → WentBelow n w → ((a : Acting) → a.condition < n → f a ≡ Some o → o.after.condition < n) →
+    settle w f ≡ Some o → o.after.condition < n
+settle_below n (Done a) f o h later e = let same : record { after = a; ended = None } ≡ o = cc in subst (λ (z : Matched). z.after.condition < n) same h
+settle_below n (Again a) f o h later e = later a h e
+settle_below n (Over a d) f o h later e = let same : record { after = a; ended = Some d } ≡ o = cc in subst (λ (z : Matched). z.after.condition < n) same h
+
+-- the statements of a rule, and the default rule's
+statements_below : (R : Rules) (i : ℕ) → ((j : ℕ) → j < R.count → BeginsBelow R.conditions (R.statements j)) → (i < R.count) ⊎ (R.count ≤ i) → BeginsBelow R.conditions (statements_of R i)
+statements_below R i h (inl lt) = subst (BeginsBelow R.conditions) (sym (cond-true (nat_lt i R.count) (R.statements i) (Echo ∷ []) (lt-ltb i R.count lt))) (h i lt)
+statements_below R i h (inr le) = subst (BeginsBelow R.conditions) (sym (cond-false (nat_lt i R.count) (R.statements i) (Echo ∷ []) (le-ltb i R.count le))) tt
+
+pub perform_below : (R : Rules) → ((j : ℕ) → j < R.count → BeginsBelow R.conditions (R.statements j)) → (kept y : List ℕ) (ms : List Candidate) (out : List ℕ) (c : ℕ) (o : Matched) →
+    c < R.conditions → perform R kept y ms out c ≡ Some o → o.after.condition < R.conditions
+unfolding perform
+perform_below R h kept y [] out c o lt e = absurd (no e)
+  where
+    no : None ≡ Some o → ⊥
+    no p = cc
+perform_below R h kept y (m ∷ ms) out c o lt e =
+    let a : Acting = record { text = kept ++ take m.keep y; written = out; condition = c; more = false } in
+    settle_below R.conditions (act (statements_of R m.rule) a) (λ b. perform R kept y ms b.written b.condition) o
+    (act_below R.conditions (statements_of R m.rule) a lt (statements_below R m.rule h (cases_lt m.rule R.count)))
+    (λ b below p. perform_below R h kept y ms b.written b.condition o below p) e
+
+module _ (all : Bool) (R Q : Rules) (alike : Alike all R Q) where
+  pub same_statements : (i : ℕ) → statements_of R i ≡ statements_of Q i
+  same_statements i = from (cases_lt i Q.count)
+    where
+      from : (i < Q.count) ⊎ (Q.count ≤ i) → statements_of R i ≡ statements_of Q i
+      from (inl lt) =
+          cond-true (nat_lt i R.count) (R.statements i) (Echo ∷ []) (lt-ltb i R.count (omega (arith, alike.count))) ∙ alike.statements i lt
+          ∙ sym (cond-true (nat_lt i Q.count) (Q.statements i) (Echo ∷ []) (lt-ltb i Q.count lt))
+      from (inr le) =
+          cond-false (nat_lt i R.count) (R.statements i) (Echo ∷ []) (le-ltb i R.count (omega (arith, alike.count)))
+          ∙ sym (cond-false (nat_lt i Q.count) (Q.statements i) (Echo ∷ []) (le-ltb i Q.count le))
+
+  -- matches of R are matches of Q
+  pub full_to : (c : ℕ) (bol : Bool) (w : List ℕ) (i k : ℕ) → c < Q.conditions → IsText w → Full R c bol w i k → Full Q c bol w i k
+  full_to c bol w i k lt text (inl h) = inl (omega (arith, h.0, alike.count), alike.full c bol w i k lt text h.1)
+  full_to c bol w i k lt text (inr h) = inr (h.0 ∙ alike.count, h.1, h.2)
+
+  pub candidate_to : (c : ℕ) (bol : Bool) (y : List ℕ) (m : Candidate) → c < Q.conditions → IsText y → IsCandidate R c bol y m → IsCandidate Q c bol y m
+  candidate_to c bol y m lt text h = record { inside = h.inside; fits = full_to c bol (take m.len y) m.rule m.keep lt (is_text_take m.len y text) h.fits }
+
+same_perform : (all : Bool) (R Q : Rules) (alike : Alike all R Q) (kept y : List ℕ) (ms : List Candidate) (out : List ℕ) (d : ℕ) → perform R kept y ms out d ≡ perform Q kept y ms out d
+unfolding perform
+same_perform all R Q alike kept y [] out d = refl
+same_perform all R Q alike kept y (m ∷ ms) out d =
+    let a : Acting = record { text = kept ++ take m.keep y; written = out; condition = d; more = false } in
+    ap (λ ss. settle (act ss a) (λ b. perform R kept y ms b.written b.condition)) (same_statements all R Q alike m.rule)
+    ∙ settle_same (act (statements_of Q m.rule) a) (λ b. perform R kept y ms b.written b.condition) (λ b. perform Q kept y ms b.written b.condition)
+    (λ b. same_perform all R Q alike kept y ms b.written b.condition)
+
+quiet_statements : (Q : Rules) → ((i : ℕ) → i < Q.count → has_reject (Q.statements i) ≡ false) → (i : ℕ) → (i < Q.count) ⊎ (Q.count ≤ i) → has_reject (statements_of Q i) ≡ false
+quiet_statements Q h i (inl lt) = ap has_reject (cond-true (nat_lt i Q.count) (Q.statements i) (Echo ∷ []) (lt-ltb i Q.count lt)) ∙ h i lt
+quiet_statements Q h i (inr le) = ap has_reject (cond-false (nat_lt i Q.count) (Q.statements i) (Echo ∷ []) (le-ltb i Q.count le))
+
+-- the first match decides, where no rule has REJECT
+head_performed : (R Q : Rules) (alike : Alike false R Q) (kept y : List ℕ) (m : Candidate) (ms ns : List Candidate) (out : List ℕ) (d : ℕ) →
+    perform R kept y (m ∷ ms) out d ≡ perform Q kept y (m ∷ ns) out d
+unfolding perform
+head_performed R Q alike kept y m ms ns out d =
+    let a : Acting = record { text = kept ++ take m.keep y; written = out; condition = d; more = false } in
+    ap (λ ss. settle (act ss a) (λ b. perform R kept y ms b.written b.condition)) (same_statements false R Q alike m.rule)
+    ∙ settle_quiet (statements_of Q m.rule) a (λ b. perform R kept y ms b.written b.condition) (λ b. perform Q kept y ns b.written b.condition)
+    (quiet_statements Q alike.matches.1 m.rule (cases_lt m.rule Q.count))
+
+candidate_from : (R Q : Rules) (alike : Alike true R Q) (c : ℕ) (bol : Bool) (y : List ℕ) (m : Candidate) → c < Q.conditions → IsText y → IsCandidate Q c bol y m → IsCandidate R c bol y m
+candidate_from R Q alike c bol y m lt text h = record { inside = h.inside; fits = from h.fits }
+  where
+    from : Full Q c bol (take m.len y) m.rule m.keep → Full R c bol (take m.len y) m.rule m.keep
+    from (inl f) = inl (omega (arith, f.0, alike.count), alike.matches c bol (take m.len y) m.rule m.keep lt (is_text_take m.len y text) f.1)
+    from (inr f) = inr (f.0 ∙ sym alike.count, f.1, f.2)
+
+-- the first match of Q is one of R
+first_from : (R Q : Rules) (alike : Alike false R Q) (c : ℕ) (bol : Bool) (y : List ℕ) (n : Candidate) (ns : List Candidate) → c < Q.conditions → IsText y →
+    Candidates Q c bol y (n ∷ ns) → IsCandidate R c bol y n
+first_from R Q alike c bol y n ns lt text h = record { inside = own.inside; fits = from own.fits }
+  where
+    own : IsCandidate Q c bol y n
+    own = (h.members n).0 (inl refl)
+
+    not_after : (q : Candidate) → q.len ≡ n.len → q.rule < n.rule → Among (n ∷ ns) q → ⊥
+    not_after q len less (inl e) = let same : q.rule ≡ n.rule = ap (λ (z : Candidate). z.rule) e in omega arith
+    not_after q len less (inr k) = let b : Before n q = h.in_order.0 q k in omega arith
+
+    from : Full Q c bol (take n.len y) n.rule n.keep → Full R c bol (take n.len y) n.rule n.keep
+    from (inr f) = inr (f.0 ∙ sym alike.count, f.1, f.2)
+    from (inl f) = inl (omega (arith, f.0, alike.count), alike.matches.0 c bol (take n.len y) n.rule n.keep lt (is_text_take n.len y text) f.1 none)
+      where
+        none : (j l : ℕ) → j < n.rule → Q.full c bol (take n.len y) j l → ⊥
+        none j l less g =
+            let q : Candidate = record { len = n.len; rule = j; keep = l } in
+            not_after q refl less ((h.members q).1 (record { inside = own.inside; fits = inl (omega (arith, less, f.0), g) }))
+
+nothing_performed : (R : Rules) (kept y : List ℕ) (d : ℕ) (o : Matched) → perform R kept y [] [] d ≡ Some o → ⊥
+unfolding perform
+nothing_performed R kept y d o e = no e
+  where
+    no : None ≡ Some o → ⊥
+    no p = cc
+
+performed_to : (all : Bool) (R Q : Rules) (alike : Alike all R Q) (c : ℕ) (bol : Bool) (kept y : List ℕ) (ms ns : List Candidate) (d : ℕ) (o : Matched) → c < Q.conditions → IsText y →
+    Candidates R c bol y ms → Candidates Q c bol y ns → perform R kept y ms [] d ≡ Some o → perform Q kept y ns [] d ≡ Some o
+performed_to true R Q alike c bol kept y ms ns d o lt text p q e =
+    let same : ms ≡ ns = same_order ms ns p.in_order q.in_order (λ m. (
+      λ a. (q.members m).1 (candidate_to true R Q alike c bol y m lt text ((p.members m).0 a)),
+      λ a. (p.members m).1 (candidate_from R Q alike c bol y m lt text ((q.members m).0 a)),
+    )) in
+    ap (λ z. perform Q kept y z [] d) (sym same) ∙ sym (same_perform true R Q alike kept y ms [] d) ∙ e
+performed_to false R Q alike c bol kept y [] ns d o lt text p q e = absurd (nothing_performed R kept y d o e)
+performed_to false R Q alike c bol kept y (m ∷ ms) [] d o lt text p q e = absurd ((q.members m).1 (candidate_to false R Q alike c bol y m lt text ((p.members m).0 (inl refl))))
+performed_to false R Q alike c bol kept y (m ∷ ms) (n ∷ ns) d o lt text p q e =
+    let m_in : Among (n ∷ ns) m = (q.members m).1 (candidate_to false R Q alike c bol y m lt text ((p.members m).0 (inl refl))) in
+    let n_in : Among (m ∷ ms) n = (p.members n).1 (first_from R Q alike c bol y n ns lt text q) in
+    let same : m ≡ n = same_heads m n ms ns p.in_order q.in_order m_in n_in in
+    ap (λ z. perform Q kept y (z ∷ ns) [] d) (sym same) ∙ sym (head_performed R Q alike kept y m ms ns [] d) ∙ e
+
+-- turns
+
+-- where a turn leads, the condition is in range
+abbrev pub Leads : Rules → List ℕ → Place → State → Type 0
+Leads Q x p s = Turn Q x p s × (s.place.condition < Q.conditions)
+
+match_to : (all : Bool) (R Q : Rules) (alike : Alike all R Q) (x : List ℕ) (p : Place) (s : State) → IsText x → p.condition < Q.conditions → MatchTurn R x p s → Leads Q x p s
+match_to all R Q alike x p s text lt h =
+    let bol : Bool = at_line_start x p.at in
+    let y : List ℕ = drop p.at x in
+    let listed = alike.exist p.condition bol y in
+    let done : perform Q (part x p.start p.at) y listed.0 [] p.condition ≡ Some h.outcome =
+    performed_to all R Q alike p.condition bol (part x p.start p.at) y h.matches listed.0 p.condition h.outcome lt (is_text_drop p.at x text) h.all listed.1 h.performed in
+    let below : h.outcome.after.condition < Q.conditions = perform_below Q alike.begins (part x p.start p.at) y listed.0 [] p.condition h.outcome lt done in (
+      inl (record { before_end = h.before_end; matches = listed.0; all = listed.1; outcome = h.outcome; performed = done; leaves = h.leaves }),
+      subst (λ (z : State). z.place.condition < Q.conditions) (sym h.leaves) below,
+    )
+
+end_to : (all : Bool) (R Q : Rules) (alike : Alike all R Q) (x : List ℕ) (p : Place) (s : State) → p.condition < Q.conditions → EndTurn R x p s → Leads Q x p s
+end_to all R Q alike x p s lt h =
+    let make : EndAction → State = λ a. record { written = a.print; place = record { start = p.at; at = p.at; condition = p.condition }; ended = Some (Status a.status) } in
+    (inr (record { at_end = h.at_end; leaves = h.leaves ∙ ap make (alike.ending p.condition lt) }), subst (λ (z : State). z.place.condition < Q.conditions) (sym h.leaves) lt)
+
+turn_to : (all : Bool) (R Q : Rules) (alike : Alike all R Q) (x : List ℕ) (p : Place) (s : State) → IsText x → p.condition < Q.conditions → Turn R x p s → Leads Q x p s
+turn_to all R Q alike x p s text lt (inl h) = match_to all R Q alike x p s text lt h
+turn_to all R Q alike x p s text lt (inr h) = end_to all R Q alike x p s lt h
+
+next_to : (all : Bool) (R Q : Rules) (alike : Alike all R Q) (x : List ℕ) (s t : State) (e : Option Ending) → IsText x → s.place.condition < Q.conditions → NextFrom R x s e t →
+    NextFrom Q x s e t × (t.place.condition < Q.conditions)
+next_to all R Q alike x s t (Some e) text lt h = (h, subst (λ (z : State). z.place.condition < Q.conditions) (sym h) lt)
+next_to all R Q alike x s t None text lt (u, turn, is) =
+    let k = turn_to all R Q alike x s.place u text lt turn in
+    ((u, k.0, is), subst (λ (z : State). z.place.condition < Q.conditions) (sym is) k.1)
+
+-- n turns of R are n turns of Q
+pub turns_to : (all : Bool) (R Q : Rules) (alike : Alike all R Q) (x : List ℕ) (n : ℕ) (s : State) → IsText x → Turns R x n s → Turns Q x n s × (s.place.condition < Q.conditions)
+turns_to all R Q alike x zero s text h = (h, subst (λ (z : State). z.place.condition < Q.conditions) (sym h) alike.some_condition)
+turns_to all R Q alike x (suc n) s text (b, h, next) =
+    let ih = turns_to all R Q alike x n b text h in
+    let k = next_to all R Q alike x b s b.ended text ih.1 next in
+    ((b, ih.0, k.0), k.1)
+
+-- what they ask for
+
+module _ (all : Bool) (R Q : Rules) (alike : Alike all R Q) (x : List ℕ) (text : IsText x) where
+  asks_to : (p : Place) (i : ℕ) → p.condition < Q.conditions → AsksAt R x p i → AsksAt Q x p i
+  asks_to p i lt (inl e) = inl e
+  asks_to p i lt (inr h) = inr ((alike.live p.condition (at_line_start x p.at) (take i (drop p.at x)) lt (is_text_take i (drop p.at x) (is_text_drop p.at x text))).0 h)
+
+  asks_from : (p : Place) (i : ℕ) → p.condition < Q.conditions → AsksAt Q x p i → AsksAt R x p i
+  asks_from p i lt (inl e) = inl e
+  asks_from p i lt (inr h) = inr ((alike.live p.condition (at_line_start x p.at) (take i (drop p.at x)) lt (is_text_take i (drop p.at x) (is_text_drop p.at x text))).1 h)
+
+  reach_to : (p : Place) (r : ℕ) → p.condition < Q.conditions → Reach R x p r → Reach Q x p r
+  reach_to p r lt h = record { inside = h.inside; asked = λ i less. (λ a. asks_to p i lt ((h.asked i less).0 a), λ a. (h.asked i less).1 (asks_from p i lt a)) }
+
+  end_asks_to : (p : Place) → p.condition < Q.conditions → AsksForEnd R x p → AsksForEnd Q x p
+  end_asks_to p lt (inl e) = inl e
+  end_asks_to p lt (inr h) = inr (h.0, asks_to p (length x - p.at) lt h.1)
+
+  end_asks_from : (p : Place) → p.condition < Q.conditions → AsksForEnd Q x p → AsksForEnd R x p
+  end_asks_from p lt (inl e) = inl e
+  end_asks_from p lt (inr h) = inr (h.0, asks_from p (length x - p.at) lt h.1)
+
+  far_from_to : (s : State) (e : Option Ending) (f g : ℕ) → s.place.condition < Q.conditions → FarFrom R x s e f g → FarFrom Q x s e f g
+  far_from_to s (Some e) f g lt h = h
+  far_from_to s None f g lt (inl h) = inl h
+  far_from_to s None f g lt (inr (a, r, reach, is)) = inr (a, r, reach_to s.place r lt reach, is)
+
+  far_to : (n f : ℕ) → Far R x n f → Far Q x n f
+  far_to zero f h = h
+  far_to (suc n) g (s, f, turns, far, step) =
+      let k = turns_to all R Q alike x n s text turns in
+      (s, f, k.0, far_to n f far, far_from_to s s.ended f g k.1 step)
+
+  end_asked_to : (n : ℕ) → EndAsked R x n → EndAsked Q x n
+  end_asked_to zero h = h
+  end_asked_to (suc n) (inl h) = inl (end_asked_to n h)
+  end_asked_to (suc n) (inr (s, turns, going, asks)) =
+      let k = turns_to all R Q alike x n s text turns in
+      inr (s, k.0, going, end_asks_to s.place k.1 asks)
+
+  end_asked_from : (n : ℕ) (s : State) → Turns R x n s → EndAsked Q x n → EndAsked R x n
+  end_asked_from zero s turns h = h
+  end_asked_from (suc n) s (b, turns, next) (inl h) = inl (end_asked_from n b turns h)
+  end_asked_from (suc n) s (b, turns, next) (inr (t, other, going, asks)) =
+      let k = turns_to all R Q alike x n b text turns in
+      let same : t ≡ b = one_state Q x n t b other k.0 in
+      inr (b, turns, subst (λ (z : State). z.ended ≡ None) same going, end_asks_from b.place k.1 (subst (λ (z : State). AsksForEnd Q x z.place) same asks))
+
+  -- how a scan over R stands is how one over Q stands
+  pub after_to : (n : ℕ) (s : State) (far : ℕ) (e : Bool) → AfterTurns R x n s far e → AfterTurns Q x n s far e
+  after_to n s far e h = record {
+    turns = (turns_to all R Q alike x n s text h.turns).0;
+    reaches = far_to n far h.reaches;
+    end = (λ b. end_asked_to n (h.end.0 b), λ asked. h.end.1 (end_asked_from n s h.turns asked));
+  }
+
+  pub run_to : (w : List ℕ) (d : Ending) → Run R x w d → Run Q x w d
+  run_to w d h = record { turns = h.turns; last = h.last; reached = (turns_to all R Q alike x h.turns h.last text h.reached).0; writes = h.writes; ends = h.ends }
+
+-- a machine for a specification
+
+no_reject_at : (rs : List Rule) (i : ℕ) → any_reject rs ≡ false → has_reject (statements_at (slice_get rs i)) ≡ false
+no_reject_at [] i h = refl
+no_reject_at (r ∷ rs) zero h = (or_parts (has_reject r.statements) (any_reject rs) h).0
+no_reject_at (r ∷ rs) (suc i) h = no_reject_at rs i (or_parts (has_reject r.statements) (any_reject rs) h).1
+
+get_at : {X : Type 0} (xs : List X) (i : ℕ) → i < length xs → (x : X) × (slice_get xs i ≡ Some x)
+get_at [] i h = absurd (omega (arith, h))
+get_at (x ∷ xs) zero h = (x, refl)
+get_at (x ∷ xs) (suc i) h = get_at xs i (omega (arith, h))
+
+module _ (M : Machine) (S : Spec) (sound : IsSound S) (table : TableFor M S) where
+  -- a word that fits some text, and what the cut keeps
+  fit_kept : (c : ℕ) (bol : Bool) (w : List ℕ) (i k : ℕ) → Keeps (M.cut i) (length w) k → HasFit S c bol w i → Fits S c bol w i k
+  fit_kept c bol w i k keeps (l, fits) =
+      let cut : M.cut i ≡ fits.rule.cut = table.cut i fits.rule fits.at in
+      let same : l ≡ k = keeps_one fits.rule.cut (length w) l k (cut_keeps S sound c bol w i l fits.rule fits.at fits) (subst (λ z. Keeps z (length w) k) cut keeps) in
+      subst (Fits S c bol w i) same fits
+
+  kept_fit : (c : ℕ) (bol : Bool) (w : List ℕ) (i k : ℕ) → Fits S c bol w i k → Keeps (M.cut i) (length w) k × (1 ≤ length w)
+  kept_fit c bol w i k fits =
+      let size : length w ≡ length fits.text + length fits.trail = ap length fits.splits ∙ length-append fits.text fits.trail in (
+        subst (λ z. Keeps z (length w) k) (sym (table.cut i fits.rule fits.at)) (cut_keeps S sound c bol w i k fits.rule fits.at fits),
+        omega (arith, fits.length_is, fits.not_empty),
+      )
+
+  accepted_fits : (b : Bool) (c : ℕ) (bol : Bool) (w : List ℕ) (i : ℕ) → Accepted b S c bol w i → HasFit S c bol w i
+  accepted_fits true c bol w i h = h
+  accepted_fits false c bol w i h = h.0
+
+  machine_full : (c : ℕ) (bol : Bool) (w : List ℕ) (i k : ℕ) → c < length S.conditions → IsText w → MachineFits M c bol w i k → Fits S c bol w i k
+  machine_full c bol w i k lt text h = fit_kept c bol w i k h.keeps (accepted_fits (rejects S) c bol w i ((table.accepts c bol w i lt text).0 h.accepted))
+
+  full_machine : (c : ℕ) (bol : Bool) (w : List ℕ) (i k : ℕ) → c < length S.conditions → IsText w → Fits S c bol w i k → Accepted (rejects S) S c bol w i → MachineFits M c bol w i k
+  full_machine c bol w i k lt text fits ok =
+      let kept = kept_fit c bol w i k fits in
+      record { not_empty = kept.1; accepted = (table.accepts c bol w i lt text).1 ok; keeps = kept.0 }
+
+  has_matches : (b : Bool) → rejects S ≡ b → HasMatches b (rules_of_machine M) (rules_of S)
+  has_matches true e = λ c bol w i k lt text fits. full_machine c bol w i k lt text fits (subst (λ z. Accepted z S c bol w i) (sym e) (k, fits))
+  has_matches false e = (
+    λ c bol w i k lt text fits none. full_machine c bol w i k lt text fits (subst (λ z. Accepted z S c bol w i) (sym e) ((k, fits), λ j less h. none j h.0 less h.1)),
+    λ i lt. no_reject_at S.rules i e,
+  )
+
+  begins_at : (i : ℕ) → i < length S.rules → BeginsBelow (length S.conditions) (statements_at (slice_get S.rules i))
+  begins_at i lt = let r = get_at S.rules i lt in subst (λ o. BeginsBelow (length S.conditions) (statements_at o)) (sym r.1) (sound.begins i r.0 r.1)
+
+  pub table_alike : Alike (rejects S) (rules_of_machine M) (rules_of S)
+  table_alike = record {
+    count = table.count;
+    statements = table.statements;
+    begins = begins_at;
+    ending = table.ending;
+    some_condition = sound.some_condition;
+    live = table.goes_on;
+    full = machine_full;
+    matches = has_matches (rejects S) refl;
+    exist = λ c bol y. (let r = candidates_exist S sound c bol y in (r.0, r.2));
+  }
+
+  -- What is known of a scan over the machine is known of one over the specification.
+  pub table_after : (x : List ℕ) (n : ℕ) (s : State) (far : ℕ) (e : Bool) → IsText x → AfterTurns (rules_of_machine M) x n s far e → AfterTurns (rules_of S) x n s far e
+  table_after x n s far e text h = after_to (rejects S) (rules_of_machine M) (rules_of S) table_alike x text n s far e h
+
+  -- A run of the machine is the run of the specification.
+  pub table_run : (x w : List ℕ) (d : Ending) → IsText x → Run (rules_of_machine M) x w d → Run (rules_of S) x w d
+  table_run x w d text h = run_to (rejects S) (rules_of_machine M) (rules_of S) table_alike x text w d h

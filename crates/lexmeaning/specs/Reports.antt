@@ -1,0 +1,32 @@
+-- What the reports say: rules that cannot be matched, and states that back up. (flex, Generating Scanners: -b.)
+use Rattle.std.specs.Prelude.{ℕ, ◌≤◌, ◌<◌, Bool, true, false, List, length}
+use Rattle.lexmeaning.specs.Text.{IsText}
+use Rattle.lexmeaning.specs.Spec.{Spec, Fits, rejects}
+use Rattle.lexmeaning.specs.Rules.{Live}
+
+-- some word fits the rule in this condition
+abbrev pub HasFit : Spec → ℕ → Bool → List ℕ → ℕ → Type 0
+HasFit S c bol w i = (k : ℕ) × Fits S c bol w i k
+
+-- no word fits the rule
+abbrev pub NeverFits : Spec → ℕ → Type 0
+NeverFits S i = (c : ℕ) (bol : Bool) (w : List ℕ) → c < length S.conditions → IsText w → HasFit S c bol w i → ⊥
+
+-- each word that fits the rule fits an earlier one
+abbrev pub AlwaysLater : Spec → ℕ → Type 0
+AlwaysLater S i =
+    (c : ℕ) (bol : Bool) (w : List ℕ) → c < length S.conditions → IsText w → HasFit S c bol w i → (j : ℕ) × (j < i) × HasFit S c bol w j
+
+abbrev pub UselessWhere : Bool → Spec → ℕ → Type 0
+UselessWhere true S i = NeverFits S i
+UselessWhere false S i = AlwaysLater S i
+
+-- the rule is never carried out
+abbrev pub Useless : Spec → ℕ → Type 0
+Useless S i = UselessWhere (rejects S) S i
+
+-- after this word the scanner may have to back up: a longer word may fit, and this one fits no rule
+pub record BackWord (S : Spec) (c : ℕ) (bol : Bool) (w : List ℕ) : Type 0 where
+  pub two_or_more : 2 ≤ length w
+  pub goes_on : Live S c bol w
+  pub fits_none : (i : ℕ) → HasFit S c bol w i → ⊥
