@@ -4,19 +4,20 @@ use Rattle.std.specs.Prelude.{slice_get}
 use Rattle.std.proofs.lemmas.List.{length-append, append_assoc}
 use Rattle.lexmeaning.specs.Text.{IsText}
 use Rattle.lexmeaning.specs.Tree.{Tree, In}
-use Rattle.lexmeaning.specs.Spec.{Spec, Rule, Cut, Whole, Head, Trail, InTrail, Fits}
+use Rattle.lexmeaning.specs.Spec.{Spec, Rule, Cut, Whole, Head, Trail}
 use Rattle.lexmeaning.specs.Rules.{rules_of}
 use Rattle.lexmeaning.specs.Laws.{Laws}
 use Rattle.lexmeaning.specs.Machine.{Keeps}
 use Rattle.lexmeaning.specs.Sound.{CutFits, IsSound}
+use Rattle.lexmeaning.specs.Fits.{InTrail, Fits}
 
 pub same_rule : (S : Spec) (i : ℕ) (q r : Rule) → slice_get S.rules i ≡ Some q → slice_get S.rules i ≡ Some r → q ≡ r
 same_rule S i q r h k = cc
 
 keeps_from : (cut : Cut) (head : Tree) (trail : Option Tree) (u v : List ℕ) (n k : ℕ) → CutFits cut head trail → In head u → InTrail trail v → n ≡ length u + length v → k ≡ length u → 1 ≤ k → Keeps cut n k
-keeps_from Whole head trail u v n k fits h t size is some = let none : v ≡ [] = subst (λ o. InTrail o v) fits t in let z : length v ≡ 0 = ap length none in omega arith
-keeps_from (Head m) head trail u v n k fits h t size is some = let e : length u ≡ m = fits u h in (omega arith, omega arith, omega arith)
-keeps_from (Trail m) head None u v n k fits h t size is some = absurd fits
+keeps_from cut head None u v n k fits h t size is some = let z : length v ≡ 0 = ap length t in subst (λ d. Keeps d n k) (sym fits) (omega arith)
+keeps_from Whole head (Some q) u v n k fits h t size is some = absurd fits
+keeps_from (Head m) head (Some q) u v n k fits h t size is some = let e : length u ≡ m = fits u h in (omega arith, omega arith, omega arith)
 keeps_from (Trail m) head (Some q) u v n k fits h t size is some = let e : length v ≡ m = fits v t in (omega arith, some)
 
 -- The cut keeps the text.
@@ -25,7 +26,7 @@ cut_keeps S sound c bol w i k r at h =
     let size : length w ≡ length h.text + length h.trail = ap length h.splits ∙ length-append h.text h.trail in
     let same : h.rule ≡ r = same_rule S i h.rule r h.at at in
     subst (λ (q : Rule). Keeps q.cut (length w) k) same
-    (keeps_from h.rule.cut h.rule.head h.rule.trail h.text h.trail (length w) k (sound.cuts i h.rule h.at) h.in_head h.in_trail size h.length_is h.not_empty)
+    (keeps_from h.rule.cut h.rule.head h.rule.trail h.text h.trail (length w) k (sound.rules i h.rule h.at).cut h.in_head h.in_trail size h.length_is h.not_empty)
 
 pub keeps_one : (cut : Cut) (n k l : ℕ) → Keeps cut n k → Keeps cut n l → k ≡ l
 keeps_one Whole n k l h g = h ∙ sym g

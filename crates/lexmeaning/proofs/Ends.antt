@@ -7,7 +7,8 @@ use Rattle.lexmeaning.specs.Text.{Among, part, at_line_start}
 use Rattle.lexmeaning.specs.Spec.{Statement, Echo, Print, Begin, More, Less, Reject, End}
 use Rattle.lexmeaning.specs.Rules.{Rules, Full, statements_of}
 use Rattle.lexmeaning.specs.Laws.{Laws}
-use Rattle.lexmeaning.specs.Legal.{LessFromOne, has_less, has_more, IsLegal}
+use Rattle.lexmeaning.specs.Legal.{has_less, has_more, IsLegal}
+use Rattle.lexmeaning.proofs.Actions.{LessFromOne, less_from_one, apart, echo_legal}
 use Rattle.lexmeaning.specs.Candidates.{Candidate, IsCandidate, Candidates}
 use Rattle.lexmeaning.specs.Acting.{Ending, Status, Acting, Matched, Went, Done, Again, Over, act, settle, perform}
 use Rattle.lexmeaning.specs.Run.{Place, State, Turn, NextFrom, Turns, Run, first_state, next_place, next_start}
@@ -75,8 +76,8 @@ on_went P Q S (Done a) h k f = f a h k
 on_went P Q S (Again a) h k f = tt
 on_went P Q S (Over a e) h k f = f a h k
 
-act_goes_on : (kept left : ℕ) (ss : List Statement) (a : Acting) → IsLegal ss → a.more ≡ false → kept < length a.text → length a.text ≤ kept + left → Leaves (GoesOn kept left) (act ss a)
-act_goes_on kept left ss a legal more some inside = from legal.apart
+act_goes_on : (n kept left : ℕ) (ss : List Statement) (a : Acting) → IsLegal n ss → a.more ≡ false → kept < length a.text → length a.text ≤ kept + left → Leaves (GoesOn kept left) (act ss a)
+act_goes_on n kept left ss a legal more some inside = from (apart n ss legal)
   where
     size : Leaves (λ b. length b.text ≤ kept + left) (act ss a)
     size = no_longer (kept + left) ss a inside
@@ -87,7 +88,7 @@ act_goes_on kept left ss a legal more some inside = from legal.apart
         (λ b p q. record { inside = p; grows = inl (omega (arith, q, some)) })
     from (inr m) =
         let both : Leaves (λ b. (1 ≤ length b.text) × (b.more ≡ false)) (act ss a) =
-        on_went (λ b. 1 ≤ length b.text) (λ b. b.more ≡ false) (λ b. (1 ≤ length b.text) × (b.more ≡ false)) (act ss a) (not_empty ss a legal.from_one (omega arith)) (no_more ss a m more) (λ b p q. (p, q)) in
+        on_went (λ b. 1 ≤ length b.text) (λ b. b.more ≡ false) (λ b. (1 ≤ length b.text) × (b.more ≡ false)) (act ss a) (not_empty ss a (less_from_one n ss legal.ranges) (omega arith)) (no_more ss a m more) (λ b p q. (p, q)) in
         on_went (λ b. length b.text ≤ kept + left) (λ b. (1 ≤ length b.text) × (b.more ≡ false)) (GoesOn kept left) (act ss a) size both (λ b p q. record { inside = p; grows = inr q })
 
 abbrev pub GoodMatch : ℕ → ℕ → Option Matched → Type 0
@@ -99,10 +100,10 @@ settle_good kept left (Done a) f h later = (record { after = a; ended = None }, 
 settle_good kept left (Again a) f h later = later a refl
 settle_good kept left (Over a e) f h later = (record { after = a; ended = Some e }, refl, h)
 
-module _ (R : Rules) (legal : (i : ℕ) → i < R.count → IsLegal (R.statements i)) where
-  legal_of : (i : ℕ) → (i < R.count) ⊎ (R.count ≤ i) → IsLegal (statements_of R i)
-  legal_of i (inl lt) = subst IsLegal (sym (cond-true (nat_lt i R.count) (R.statements i) (Echo ∷ []) (lt-ltb i R.count lt))) (legal i lt)
-  legal_of i (inr le) = subst IsLegal (sym (cond-false (nat_lt i R.count) (R.statements i) (Echo ∷ []) (le-ltb i R.count le))) (record { from_one = tt; apart = inl refl })
+module _ (R : Rules) (legal : (i : ℕ) → i < R.count → IsLegal R.conditions (R.statements i)) where
+  legal_of : (i : ℕ) → (i < R.count) ⊎ (R.count ≤ i) → IsLegal R.conditions (statements_of R i)
+  legal_of i (inl lt) = subst (IsLegal R.conditions) (sym (cond-true (nat_lt i R.count) (R.statements i) (Echo ∷ []) (lt-ltb i R.count lt))) (legal i lt)
+  legal_of i (inr le) = subst (IsLegal R.conditions) (sym (cond-false (nat_lt i R.count) (R.statements i) (Echo ∷ []) (le-ltb i R.count le))) (echo_legal R.conditions)
 
   default_echoes : (i : ℕ) → i ≡ R.count → statements_of R i ≡ Echo ∷ []
   default_echoes i e = cond-false (nat_lt i R.count) (R.statements i) (Echo ∷ []) (le-ltb i R.count (omega arith))
@@ -116,7 +117,7 @@ module _ (R : Rules) (legal : (i : ℕ) → i < R.count → IsLegal (R.statement
       let k = h m (inl refl) in
       let size : length (kept ++ take m.keep y) ≡ length kept + m.keep = length-append kept (take m.keep y) ∙ ap (λ n. length kept + n) (length-take-le m.keep y k.1) in
       settle_good (length kept) (length y) (act (statements_of R m.rule) a) (λ b. perform R kept y ms b.written b.condition)
-      (act_goes_on (length kept) (length y) (statements_of R m.rule) a (legal_of m.rule (cases_lt m.rule R.count)) refl (omega (arith, k.0)) (omega (arith, k.1)))
+      (act_goes_on R.conditions (length kept) (length y) (statements_of R m.rule) a (legal_of m.rule (cases_lt m.rule R.count)) refl (omega (arith, k.0)) (omega (arith, k.1)))
       (λ b again. perform_good kept y ms b.written b.condition (λ n i. h n (inr i)) d (in_rest a b again among) is)
     where
       not_again : (a b : Acting) → Done a ≡ Again b → ⊥
@@ -166,7 +167,7 @@ moves_from x p o h g None is =
     let end : ℕ = p.start + length o.after.text in
     let r = place_from x p o.after h g o.after.more refl (next_place p o) (ap (λ z. record { start = next_start z o.after.more p.start end; at = end; condition = o.after.condition }) is) in inr (is, r.0, r.1)
 
-module _ (R : Rules) (l : Laws R) (legal : (i : ℕ) → i < R.count → IsLegal (R.statements i))
+module _ (R : Rules) (l : Laws R) (legal : (i : ℕ) → i < R.count → IsLegal R.conditions (R.statements i))
     (exist : (c : ℕ) (bol : Bool) (y : List ℕ) → (ms : List Candidate) × Candidates R c bol y ms) (x : List ℕ) where
   keep_bounds : (c : ℕ) (bol : Bool) (y : List ℕ) (m : Candidate) → IsCandidate R c bol y m → (1 ≤ m.keep) × (m.keep ≤ length y)
   keep_bounds c bol y m h = from h.fits

@@ -1,11 +1,12 @@
 -- The plain program's fronts of a text are the words of the tree.
 use Rattle.std.proofs.Common.{zero-add, ◌≡◌, ℕ, zero, suc, ◌+◌, ◌-◌, ◌≤◌, ◌<◌, Bool, true, false, List, [], ◌∷◌, ◌++◌, length, ◌⊎◌, inl, inr, Option, Some, None, refl, sym, ◌∙◌, ap, subst, arith}
-use Rattle.std.specs.Prelude.{nat_lt, nat_le, flat_map, if◌then◌else◌}
+use Rattle.std.specs.Prelude.{nat_lt, nat_le, ◌&&◌, flat_map, if◌then◌else◌}
 use Rattle.std.proofs.lemmas.List.{append_assoc, length-append}
-use Rattle.std.proofs.lemmas.Bool.{ltb-true, lt-ltb, leb-true, le-leb, cond-true}
+use Rattle.std.proofs.lemmas.Bool.{ltb-true, lt-ltb, leb-true, le-leb, cond-true, and_parts, and_from}
 use Rattle.lexmeaning.specs.Text.{Among}
-use Rattle.lexmeaning.specs.Tree.{Tree, Trees, Empty, Set, Cat, Alt, Star, Repeat, no_trees, tree, ByteSet, has, In, InEach, InSome, Joined, UpTo}
+use Rattle.lexmeaning.specs.Tree.{Tree, Trees, Empty, Set, Cat, Alt, Star, Repeat, no_trees, tree, In, InEach, InSome, Joined, UpTo}
 use Rattle.lexmeaning.specs.Plain.{Fronts, byte_front, times, up_to, shorter, rounds, any_times, repeated, fronts, fronts_each, fronts_some}
+use Rattle.lexmeaning.specs.ByteSets.{ByteSet, has}
 
 -- lists
 
@@ -219,10 +220,10 @@ module _ (f : Fronts) (P : List ℕ → Type 0) (are : AreFronts f P) where
 
 byte_sound : (s : ByteSet) (w v : List ℕ) → Among (byte_front s w) v → Leaves (In (Set s)) w v
 byte_sound s [] v h = absurd h
-byte_sound s (b ∷ w) v h = from (has s b) refl h
+byte_sound s (b ∷ w) v h = from (nat_lt b 256 && has s b) refl h
   where
-    from : (t : Bool) → has s b ≡ t → Among (if t then w ∷ [] else []) v → Leaves (In (Set s)) (b ∷ w) v
-    from true e (inl k) = (b ∷ [], ap (λ z. b ∷ z) (sym k), (b, refl, e))
+    from : (t : Bool) → (nat_lt b 256 && has s b) ≡ t → Among (if t then w ∷ [] else []) v → Leaves (In (Set s)) (b ∷ w) v
+    from true e (inl k) = (let both = and_parts (nat_lt b 256) (has s b) e in (b ∷ [], ap (λ z. b ∷ z) (sym k), (b, refl, (ltb-true b 256 both.0, both.1))))
     from true e (inr k) = absurd k
     from false e k = absurd k
 
@@ -235,7 +236,7 @@ byte_complete s (c ∷ w) v (u, e, (b, e', is)) =
     let same : c ∷ w ≡ b ∷ v = e ∙ ap (λ z. z ++ v) e' in
     let first : c ≡ b = cc in
     let rest : v ≡ w = cc in
-    subst (λ z. Among z v) (sym (cond-true (has s c) (w ∷ []) [] (ap (has s) first ∙ is))) (inl rest)
+    subst (λ z. Among z v) (sym (cond-true (nat_lt c 256 && has s c) (w ∷ []) [] (ap (λ z. nat_lt z 256 && has s z) first ∙ and_from (nat_lt b 256) (has s b) (lt-ltb b 256 is.0) is.1))) (inl rest)
 
 mutual
   sound : (t : Tree) (w v : List ℕ) → Among (fronts t w) v → Leaves (In t) w v

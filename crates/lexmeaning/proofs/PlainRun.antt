@@ -5,7 +5,7 @@ use Rattle.std.proofs.lemmas.Bool.{ltb-true, eqb-true, cond-true}
 use Rattle.std.proofs.lemmas.List.{append_assoc, length-append, take_at, take-append-drop, length-take-le}
 use Rattle.lexmeaning.specs.Text.{Among, part, at_line_start}
 use Rattle.lexmeaning.specs.Tree.{Tree, In}
-use Rattle.lexmeaning.specs.Spec.{Spec, Rule, active, InTrail, Fits}
+use Rattle.lexmeaning.specs.Spec.{Spec, Rule}
 use Rattle.lexmeaning.specs.Rules.{Rules, Full, rules_of}
 use Rattle.lexmeaning.specs.Candidates.{Candidate, Candidates, IsCandidate}
 use Rattle.lexmeaning.specs.Acting.{Ending, Status, Matched, perform}
@@ -13,6 +13,8 @@ use Rattle.lexmeaning.specs.Run.{State, Turn, NextFrom, Turns, Run, first_state,
 use Rattle.lexmeaning.specs.Plain.{shorter, fronts, fronts_trail, matches_from, matches_of_rule, matches_of_rules, default_match, candidates_of, after_match, perform_at, after_end, turn_at, turn_of, state_after, outcome_of, run_from, run_of, Listing}
 use Rattle.lexmeaning.proofs.Fronts.{AreFronts, Leaves, fronts_are, among_flat_map, flat_map_among, among_append, among_left, among_right, shorter_among, among_shorter}
 use Rattle.lexmeaning.proofs.Ordered.{ordered_is, candidate_same}
+use Rattle.lexmeaning.specs.Active.{active}
+use Rattle.lexmeaning.specs.Fits.{InTrail, Fits}
 
 among_map : {X Y : Type 0} (f : X → Y) (xs : List X) (x : X) → Among xs x → Among (map f xs) (f x)
 among_map f [] x h = absurd h

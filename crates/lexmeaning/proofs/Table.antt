@@ -4,21 +4,24 @@ use Rattle.std.specs.Prelude.{slice_get, nat_lt}
 use Rattle.std.proofs.lemmas.List.{length-append}
 use Rattle.std.proofs.lemmas.Bool.{cond-true, cond-false, lt-ltb, le-ltb, or_parts, cases_lt}
 use Rattle.lexmeaning.specs.Text.{IsText, Among, part, at_line_start}
-use Rattle.lexmeaning.specs.Spec.{Spec, Rule, Statement, Echo, Print, Begin, More, Less, Reject, End, has_reject, EndAction, Fits, statements_at, rejects, any_reject}
+use Rattle.lexmeaning.specs.Spec.{Spec, Rule, Statement, Echo, Print, Begin, More, Less, Reject, End, has_reject, EndAction, statements_at, rejects, any_reject}
 use Rattle.lexmeaning.specs.Rules.{Rules, Full, rules_of, statements_of}
 use Rattle.lexmeaning.specs.Candidates.{Candidate, Before, IsCandidate, Candidates}
 use Rattle.lexmeaning.specs.Acting.{Ending, Status, Acting, Matched, Went, Done, Again, Over, act, settle, perform}
 use Rattle.lexmeaning.specs.Run.{Place, State, Turn, MatchTurn, EndTurn, NextFrom, Turns, Run}
 use Rattle.lexmeaning.specs.Demand.{AsksAt, Reach, AsksForEnd, FarFrom, Far, EndAsked}
 use Rattle.lexmeaning.specs.Scanned.{AfterTurns}
-use Rattle.lexmeaning.specs.Machine.{Machine, MachineFits, rules_of_machine, TableFor, Accepted, Keeps}
+use Rattle.lexmeaning.specs.Machine.{Machine, MachineFits, rules_of_machine, Keeps}
 use Rattle.lexmeaning.specs.Reports.{HasFit}
-use Rattle.lexmeaning.specs.Sound.{IsSound, BeginsBelow}
+use Rattle.lexmeaning.specs.Sound.{IsSound}
+use Rattle.lexmeaning.proofs.Actions.{BeginsBelow, begins_below}
 use Rattle.lexmeaning.proofs.Texts.{is_text_take, is_text_drop}
 use Rattle.lexmeaning.proofs.Once.{one_state, same_order, same_heads}
 use Rattle.lexmeaning.proofs.Local.{settle_same}
 use Rattle.lexmeaning.proofs.Cuts.{cut_keeps, keeps_one}
 use Rattle.lexmeaning.proofs.Exists.{candidates_exist}
+use Rattle.lexmeaning.specs.Fits.{Fits}
+use Rattle.lexmeaning.specs.TableFor.{TableFor, Accepted}
 
 -- R has the matches of Q: all of them, or of each word the first alone, where no rule has REJECT.
 abbrev pub HasMatches : Bool → Rules → Rules → Type 0
@@ -295,7 +298,7 @@ no_reject_at [] i h = refl
 no_reject_at (r ∷ rs) zero h = (or_parts (has_reject r.statements) (any_reject rs) h).0
 no_reject_at (r ∷ rs) (suc i) h = no_reject_at rs i (or_parts (has_reject r.statements) (any_reject rs) h).1
 
-get_at : {X : Type 0} (xs : List X) (i : ℕ) → i < length xs → (x : X) × (slice_get xs i ≡ Some x)
+pub get_at : {X : Type 0} (xs : List X) (i : ℕ) → i < length xs → (x : X) × (slice_get xs i ≡ Some x)
 get_at [] i h = absurd (omega (arith, h))
 get_at (x ∷ xs) zero h = (x, refl)
 get_at (x ∷ xs) (suc i) h = get_at xs i (omega (arith, h))
@@ -335,7 +338,7 @@ module _ (M : Machine) (S : Spec) (sound : IsSound S) (table : TableFor M S) whe
   )
 
   begins_at : (i : ℕ) → i < length S.rules → BeginsBelow (length S.conditions) (statements_at (slice_get S.rules i))
-  begins_at i lt = let r = get_at S.rules i lt in subst (λ o. BeginsBelow (length S.conditions) (statements_at o)) (sym r.1) (sound.begins i r.0 r.1)
+  begins_at i lt = let r = get_at S.rules i lt in subst (λ o. BeginsBelow (length S.conditions) (statements_at o)) (sym r.1) (begins_below (length S.conditions) r.0.statements (sound.rules i r.0 r.1).legal.ranges)
 
   pub table_alike : Alike (rejects S) (rules_of_machine M) (rules_of S)
   table_alike = record {

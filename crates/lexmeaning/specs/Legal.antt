@@ -1,18 +1,47 @@
--- What the actions of a specification or a machine keep to. (POSIX, Actions in lex; that yyless and yymore don't
--- meet is this project's.)
-use Rattle.std.specs.Prelude.{◌≡◌, ◌≤◌, Bool, true, false, List, [], ◌∷◌, ◌⊎◌, ⊤}
-use Rattle.lexmeaning.specs.Spec.{Statement, Echo, Print, Begin, More, Less, Reject, End}
+-- What the actions of a specification or a machine keep to.
+-- (POSIX, lex, Actions in lex; what may not stand in one action is this project's.)
+use Rattle.std.specs.Prelude.{◌≡◌, ℕ, zero, suc, Bool, true, false, not, ◌&&◌, ◌||◌, List, [], ◌∷◌, length, nat_le, nat_lt}
+use Rattle.lexmeaning.specs.Spec.{Statement, Echo, Print, Begin, More, Less, Reject, End, has_reject}
 
--- each yyless keeps at least one byte
-abbrev pub LessFromOne : List Statement → Type 0
-LessFromOne [] = ⊤
-LessFromOne (Less n ∷ ss) = (1 ≤ n) × LessFromOne ss
-LessFromOne (Echo ∷ ss) = LessFromOne ss
-LessFromOne (Print s ∷ ss) = LessFromOne ss
-LessFromOne (Begin d ∷ ss) = LessFromOne ss
-LessFromOne (More ∷ ss) = LessFromOne ss
-LessFromOne (Reject ∷ ss) = LessFromOne ss
-LessFromOne (End s ∷ ss) = LessFromOne ss
+-- what a statement names: a condition, one of n; a count of bytes, from 1 to 65,535; a status, up to 63. A literal has
+-- a byte.
+abbrev pub in_range : ℕ → Statement → Bool
+in_range n (Print s) = nat_le 1 (length s)
+in_range n (Begin d) = nat_lt d n
+in_range n (Less k) = nat_le 1 k && nat_le k 65535
+in_range n (End s) = nat_le s 63
+in_range n _ = true
+
+abbrev pub all_in_range : ℕ → List Statement → Bool
+all_in_range n [] = true
+all_in_range n (s ∷ ss) = in_range n s && all_in_range n ss
+
+-- REJECT, yyterminate and exit
+abbrev pub ends_action : Statement → Bool
+ends_action Reject = true
+ends_action (End s) = true
+ends_action _ = false
+
+-- each of these stands last
+abbrev pub ends_last : List Statement → Bool
+ends_last [] = true
+ends_last (s ∷ []) = true
+ends_last (s ∷ t ∷ ss) = not (ends_action s) && ends_last (t ∷ ss)
+
+abbrev pub is_print : Statement → Bool
+is_print (Print s) = true
+is_print _ = false
+
+-- no two literals are neighbours
+abbrev pub are_joined : List Statement → Bool
+are_joined [] = true
+are_joined (s ∷ []) = true
+are_joined (s ∷ t ∷ ss) = not (is_print s && is_print t) && are_joined (t ∷ ss)
+
+abbrev pub count_less : List Statement → ℕ
+count_less [] = 0
+count_less (Less n ∷ ss) = suc (count_less ss)
+count_less (s ∷ ss) = count_less ss
 
 abbrev pub has_less : List Statement → Bool
 has_less [] = false
@@ -24,6 +53,14 @@ has_more [] = false
 has_more (More ∷ ss) = true
 has_more (s ∷ ss) = has_more ss
 
-pub record IsLegal (ss : List Statement) : Type 0 where
-  pub from_one : LessFromOne ss
-  pub apart : (has_less ss ≡ false) ⊎ (has_more ss ≡ false)
+-- no REJECT with yymore or yyless, no yyless with yymore, and at most one yyless
+abbrev pub are_compatible : List Statement → Bool
+are_compatible ss =
+    not (has_reject ss && (has_more ss || has_less ss)) && not (has_less ss && has_more ss) && nat_le (count_less ss) 1
+
+-- an action that is legal and in normal form, where there are n conditions
+pub record IsLegal (n : ℕ) (ss : List Statement) : Type 0 where
+  pub ranges : all_in_range n ss ≡ true
+  pub last : ends_last ss ≡ true
+  pub joined : are_joined ss ≡ true
+  pub compatible : are_compatible ss ≡ true

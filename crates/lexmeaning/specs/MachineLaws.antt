@@ -1,9 +1,8 @@
--- What each machine keeps to.
-use Rattle.std.specs.Prelude.{◌≡◌, ℕ, ◌≤◌, ◌<◌, true, List, length, ◌↔◌}
-use Rattle.lexmeaning.specs.Text.{IsText, Among}
-use Rattle.lexmeaning.specs.Machine.{Machine, walk, Ascending}
+-- What each machine keeps to. (This project's.)
+use Rattle.std.specs.Prelude.{◌≡◌, ℕ, ◌≤◌, ◌<◌, true, List, [], length, ◌↔◌}
+use Rattle.lexmeaning.specs.Text.{IsText, Among, Ascending}
+use Rattle.lexmeaning.specs.Machine.{Machine, walk}
 use Rattle.lexmeaning.specs.Legal.{IsLegal}
-use Rattle.lexmeaning.specs.Sound.{BeginsBelow}
 
 -- some word that is not empty leads from the state to one that accepts
 abbrev pub LeadsToAccept : Machine → ℕ → Type 0
@@ -13,6 +12,8 @@ pub record MachineLaws (M : Machine) : Type 0 where
   pub some_condition : 1 ≤ M.conditions
   pub in_range : (s i : ℕ) → Among (M.accepts s) i → i < M.count
   pub ascending : (s : ℕ) → Ascending (M.accepts s)
+  -- state 0 is dead
+  pub dead_stays : (b : ℕ) → M.next 0 b ≡ 0
+  pub dead_accepts : M.accepts 0 ≡ []
   pub goes_on : (s : ℕ) → (M.goes_on s ≡ true) ↔ LeadsToAccept M s
-  pub legal : (i : ℕ) → i < M.count → IsLegal (M.statements i)
-  pub begins : (i : ℕ) → i < M.count → BeginsBelow M.conditions (M.statements i)
+  pub legal : (i : ℕ) → i < M.count → IsLegal M.conditions (M.statements i)

@@ -1,12 +1,14 @@
 -- A plain slow program for the definitions: it tries every front of the input against every rule.
 use Rattle.std.specs.Prelude.{ℕ, zero, suc, ◌-◌, Bool, true, false, ◌&&◌, List, [], ◌∷◌, ◌++◌, length, map, drop, filter, flat_map, Option, Some, None, nat_lt, nat_le, nat_eq, if◌then◌else◌, option_and_then, option_map}
 use Rattle.lexmeaning.specs.Text.{part, at_line_start}
-use Rattle.lexmeaning.specs.Tree.{Tree, Trees, Empty, Set, Cat, Alt, Star, Repeat, no_trees, tree, ByteSet, has}
-use Rattle.lexmeaning.specs.Spec.{Spec, Rule, active}
+use Rattle.lexmeaning.specs.Tree.{Tree, Trees, Empty, Set, Cat, Alt, Star, Repeat, no_trees, tree}
+use Rattle.lexmeaning.specs.Spec.{Spec, Rule}
 use Rattle.lexmeaning.specs.Rules.{Rules, rules_of}
 use Rattle.lexmeaning.specs.Candidates.{Candidate}
 use Rattle.lexmeaning.specs.Acting.{Ending, Status, Matched, perform}
 use Rattle.lexmeaning.specs.Run.{State, first_state, next_place}
+use Rattle.lexmeaning.specs.ByteSets.{ByteSet, has}
+use Rattle.lexmeaning.specs.Active.{active}
 
 -- what follows a front of the text, for each front that will do
 abbrev pub Fronts : Type 0
@@ -14,7 +16,7 @@ Fronts = List ℕ → List (List ℕ)
 
 abbrev pub byte_front : ByteSet → Fronts
 byte_front s [] = []
-byte_front s (b ∷ w) = if has s b then w ∷ [] else []
+byte_front s (b ∷ w) = if nat_lt b 256 && has s b then w ∷ [] else []
 
 -- k fronts, one after another
 abbrev pub times : Fronts → ℕ → Fronts

@@ -1,8 +1,9 @@
 -- What the reports say: rules that cannot be matched, and states that back up. (flex, Generating Scanners: -b.)
 use Rattle.std.specs.Prelude.{ℕ, ◌≤◌, ◌<◌, Bool, true, false, List, length}
 use Rattle.lexmeaning.specs.Text.{IsText}
-use Rattle.lexmeaning.specs.Spec.{Spec, Fits, rejects}
+use Rattle.lexmeaning.specs.Spec.{Spec, rejects}
 use Rattle.lexmeaning.specs.Rules.{Live}
+use Rattle.lexmeaning.specs.Fits.{Fits}
 
 -- some word fits the rule in this condition
 abbrev pub HasFit : Spec → ℕ → Bool → List ℕ → ℕ → Type 0

@@ -1,7 +1,8 @@
 -- What a scan asks of a set of rules, whether a specification or a machine tells them.
 use Rattle.std.specs.Prelude.{◌≡◌, ℕ, ◌≤◌, ◌<◌, Bool, List, [], ◌∷◌, ◌++◌, length, ◌⊎◌, nat_lt, slice_get, if◌then◌else◌}
 use Rattle.lexmeaning.specs.Text.{IsText}
-use Rattle.lexmeaning.specs.Spec.{Spec, Statement, Echo, EndAction, Fits, statements_at, end_at}
+use Rattle.lexmeaning.specs.Spec.{Spec, Statement, Echo, EndAction, statements_at, end_at}
+use Rattle.lexmeaning.specs.Fits.{Fits}
 
 pub record Rules : Type 1 where
   -- how many conditions there are, and rules without the default rule

@@ -1,7 +1,7 @@
--- A specification: conditions, and rules with their patterns and actions.
--- (POSIX, Definitions, Rules and Actions in lex; flex, Start Conditions, End-of-File Rules.)
-use Rattle.std.specs.Prelude.{◌≡◌, ℕ, ◌≤◌, Bool, true, false, not, ◌&&◌, ◌||◌, List, [], ◌∷◌, ◌++◌, length, Option, Some, None, nat_eq, slice_get}
-use Rattle.lexmeaning.specs.Tree.{Tree, In}
+-- A specification as data: conditions, and rules with their patterns and actions.
+-- (POSIX, lex, Definitions in lex, Rules in lex and Actions in lex; flex, Start Conditions, End-of-File Rules.)
+use Rattle.std.specs.Prelude.{ℕ, Bool, true, false, ◌||◌, List, [], ◌∷◌, Option, Some, None}
+use Rattle.lexmeaning.specs.Tree.{Tree}
 
 -- one statement of an action in normal form
 pub data Statement : Type 0 where
@@ -50,44 +50,6 @@ pub record Rule : Type 0 where
 pub record Spec : Type 0 where
   pub conditions : List Condition
   pub rules : List Rule
-
--- whether a number is in the list
-abbrev pub lists : List ℕ → ℕ → Bool
-lists [] c = false
-lists (d ∷ ds) c = nat_eq d c || lists ds c
-
-abbrev pub is_inclusive : Option Condition → Bool
-is_inclusive None = false
-is_inclusive (Some k) = not k.exclusive
-
--- A rule with a list serves just the conditions there, and one without serves the inclusive ones.
--- (POSIX, start conditions.)
-abbrev pub serves : Option (List ℕ) → ℕ → Option Condition → Bool
-serves None c k = is_inclusive k
-serves (Some cs) c k = lists cs c
-
--- A rule with `^` is active only at the start of a line.
-abbrev pub active : Spec → ℕ → Bool → Rule → Bool
-active S c bol r = serves r.conditions c (slice_get S.conditions c) && (not r.anchored || bol)
-
--- a word of the trailing context, which is empty where there is none
-abbrev pub InTrail : Option Tree → List ℕ → Type 0
-InTrail None v = v ≡ []
-InTrail (Some t) v = In t v
-
--- Rule i is active, and the word is a text that is not empty, k bytes long, and then trailing context.
--- (flex, Patterns: `r/s`; that the text is not empty is this project's.)
-pub record Fits (S : Spec) (c : ℕ) (bol : Bool) (w : List ℕ) (i k : ℕ) : Type 0 where
-  pub rule : Rule
-  pub at : slice_get S.rules i ≡ Some rule
-  pub is_active : active S c bol rule ≡ true
-  pub text : List ℕ
-  pub trail : List ℕ
-  pub splits : w ≡ text ++ trail
-  pub length_is : k ≡ length text
-  pub not_empty : 1 ≤ k
-  pub in_head : In rule.head text
-  pub in_trail : InTrail rule.trail trail
 
 abbrev pub is_reject : Statement → Bool
 is_reject Reject = true

@@ -1,0 +1,23 @@
+-- Which rules are active. (POSIX, lex, Definitions in lex and Regular Expressions in lex: start conditions and `^`;
+-- flex, Start Conditions: `<*>`.)
+use Rattle.std.specs.Prelude.{ℕ, Bool, false, not, ◌&&◌, ◌||◌, List, [], ◌∷◌, Option, Some, None, nat_eq, slice_get}
+use Rattle.lexmeaning.specs.Spec.{Spec, Rule, Condition}
+
+-- whether a number is in the list
+abbrev pub lists : List ℕ → ℕ → Bool
+lists [] c = false
+lists (d ∷ ds) c = nat_eq d c || lists ds c
+
+abbrev pub is_inclusive : Option Condition → Bool
+is_inclusive None = false
+is_inclusive (Some k) = not k.exclusive
+
+-- A rule with a list serves just the conditions there, and one without serves the inclusive ones.
+-- (POSIX, start conditions.)
+abbrev pub serves : Option (List ℕ) → ℕ → Option Condition → Bool
+serves None c k = is_inclusive k
+serves (Some cs) c k = lists cs c
+
+-- A rule with `^` is active only at the start of a line.
+abbrev pub active : Spec → ℕ → Bool → Rule → Bool
+active S c bol r = serves r.conditions c (slice_get S.conditions c) && (not r.anchored || bol)
