@@ -52,7 +52,7 @@ other_case b =
     else if nat_le 97 b && nat_le b 122 then b - 32
     else b
 
--- closed under changing the case of ASCII letters (flex, Options: case-insensitive)
+-- closed under changing the case of ASCII letters (flex, Scanner Options: case-insensitive)
 unfoldable pub fold_case : ByteSet → ByteSet
 fold_case s = set_of (λ b. has s b || has s (other_case b))
 

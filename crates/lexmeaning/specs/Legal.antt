@@ -28,15 +28,15 @@ ends_last [] = true
 ends_last (s ∷ []) = true
 ends_last (s ∷ t ∷ ss) = not (ends_action s) && ends_last (t ∷ ss)
 
-abbrev pub is_print : Statement → Bool
-is_print (Print s) = true
-is_print _ = false
+abbrev pub is_literal : Statement → Bool
+is_literal (Print s) = true
+is_literal _ = false
 
 -- no two literals are neighbours
 abbrev pub are_joined : List Statement → Bool
 are_joined [] = true
 are_joined (s ∷ []) = true
-are_joined (s ∷ t ∷ ss) = not (is_print s && is_print t) && are_joined (t ∷ ss)
+are_joined (s ∷ t ∷ ss) = not (is_literal s && is_literal t) && are_joined (t ∷ ss)
 
 abbrev pub count_less : List Statement → ℕ
 count_less [] = 0

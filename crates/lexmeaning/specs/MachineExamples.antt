@@ -1,6 +1,7 @@
 -- Worked examples of machines, one for each specification of the same name: how far they ask after each turn, and where
 -- the text starts.
 use Rattle.std.specs.Prelude.{◌≡◌, ℕ, Bool, ◌&&◌, ◌||◌, List, [], ◌∷◌, codes, nat_eq, nat_le, if◌then◌else◌}
+use Rattle.lexmeaning.specs.ByteSets.{within}
 use Rattle.lexmeaning.specs.Spec.{Cut, Whole, Head, Statement, Echo, Print, Less, End}
 use Rattle.lexmeaning.specs.Machine.{Machine}
 use Rattle.lexmeaning.specs.PlainMachine.{told_of}
@@ -35,13 +36,10 @@ abbrev pub exit_after_bs : Machine
 exit_after_bs = machine 1 (λ s b. if nat_eq s 1 && nat_eq b 97 then 2 else (if nat_eq s 2 && nat_eq b 98 then 2 else 0))
     (λ s. if nat_eq s 2 then 0 ∷ [] else []) (λ s. nat_eq s 1 || nat_eq s 2) whole (λ i. End 7 ∷ [])
 
-abbrev pub is_digit : ℕ → Bool
-is_digit b = nat_le 48 b && nat_le b 57
-
 -- 1 is the start, 2 after i, 3 after if, 4 after a digit, 5 after two
 abbrev pub keys : Machine
 keys = machine 2
-    (λ s b. if nat_eq s 1 && nat_eq b 105 then 2 else (if nat_eq s 2 && nat_eq b 102 then 3 else (if nat_eq s 1 && is_digit b then 4 else (if nat_eq s 4 && is_digit b then 5 else 0))))
+    (λ s b. if nat_eq s 1 && nat_eq b 105 then 2 else (if nat_eq s 2 && nat_eq b 102 then 3 else (if nat_eq s 1 && within 48 57 b then 4 else (if nat_eq s 4 && within 48 57 b then 5 else 0))))
     (λ s. if nat_eq s 3 then 0 ∷ [] else (if nat_eq s 5 then 1 ∷ [] else [])) (λ s. nat_eq s 1 || nat_eq s 2 || nat_eq s 4) whole
     (λ i. if nat_eq i 0 then Print (codes "K") ∷ [] else Print (codes "N") ∷ [])
 
