@@ -1,13 +1,13 @@
 -- How a scan stands after n turns is determined; for a machine it exists. So a machine that is a table for a
 -- specification has its turns, demand and run, and the other way round.
-use Rattle.std.proofs.Common.{◌≡◌, ℕ, zero, suc, ◌+◌, ◌-◌, ◌≤◌, ◌<◌, max, Bool, true, false, List, [], ◌∷◌, ◌++◌, length, take, drop, ◌⊎◌, inl, inr, ◌↔◌, Option, Some, None, refl, sym, ◌∙◌, ap, subst, arith}
+use Rattle.std.proofs.Common.{◌≡◌, ℕ, zero, suc, ◌+◌, ◌-◌, ◌≤◌, ◌<◌, max, Bool, true, false, List, length, take, drop, ◌⊎◌, inl, inr, ◌↔◌, Option, Some, None, refl, sym, ◌∙◌, subst, arith}
 use Rattle.std.specs.Prelude.{◌||◌}
 use Rattle.std.proofs.lemmas.Bool.{cases_lt}
 use Rattle.lexmeaning.specs.Text.{IsText, at_line_start}
 use Rattle.lexmeaning.specs.Spec.{Spec}
 use Rattle.lexmeaning.specs.Rules.{Rules, rules_of}
 use Rattle.lexmeaning.specs.Acting.{Ending}
-use Rattle.lexmeaning.specs.Run.{Place, State, Turn, NextFrom, Turns, Run, first_state}
+use Rattle.lexmeaning.specs.Run.{Place, State, Run, first_state}
 use Rattle.lexmeaning.specs.Demand.{AsksForEnd, FarFrom, Far, EndAsked}
 use Rattle.lexmeaning.specs.Scanned.{AfterTurns, then_turn}
 use Rattle.lexmeaning.specs.Machine.{Machine, state_after, rules_of_machine}
@@ -97,11 +97,14 @@ module _ (M : Machine) (laws : MachineLaws M) (x : List ℕ) (text : IsText x) w
   one_more_exists n s f e h (inr (going, inside)) =
       let turn = turn_exists (rules_of_machine M) (machine_laws M laws) laws.legal (λ c bol y. machine_candidates_exist M laws c bol y) x s.place inside in
       let far = far_found s f inside in
-      let asked = end_decided s.place inside in
-      (then_turn s turn.0, far.0, e || asked.0,
+      let asked = end_decided s.place inside in (
+        then_turn s turn.0,
+        far.0,
+        e || asked.0,
         one_more (rules_of_machine M) x n s turn.0 f far.0 e (e || asked.0) h going turn.1 far.1
-          (either_true (e ≡ true) (AsksForEnd (rules_of_machine M) x s.place) e asked.0 (λ p. p, λ p. p) asked.1),
-        alive turn.0 turn.2)
+            (either_true (e ≡ true) (AsksForEnd (rules_of_machine M) x s.place) e asked.0 (λ p. p, λ p. p) asked.1),
+        alive turn.0 turn.2,
+      )
     where
       alive : (u : State) → Moves x s.place u → Alive x (then_turn s u)
       alive u (inl end) = inl end

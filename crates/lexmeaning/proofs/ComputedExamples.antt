@@ -1,10 +1,8 @@
 -- The worked examples, computed by the plain program.
-use Rattle.std.proofs.Common.{◌≡◌, ℕ, Bool, true, false, List, [], ◌∷◌, ◌++◌, Some, refl}
+use Rattle.std.proofs.Common.{true, false, [], ◌∷◌, ◌++◌, refl}
 use Rattle.std.specs.Prelude.{codes}
 use Rattle.lexmeaning.specs.ByteSets.{has, single, range_set, union, complement, fold_case, other_case, set_of, set_below}
-use Rattle.lexmeaning.specs.Spec.{Spec}
 use Rattle.lexmeaning.specs.Acting.{Status, perform}
-use Rattle.lexmeaning.specs.Plain.{run_of}
 use Rattle.lexmeaning.specs.Examples as E
 use Rattle.lexmeaning.specs.MachineExamples as M
 use Rattle.lexmeaning.proofs.PlainRun.{run_is}

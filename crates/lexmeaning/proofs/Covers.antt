@@ -1,6 +1,5 @@
 -- The place never passes what the matches asked for, so what is held is a part of what was taken.
 use Rattle.std.proofs.Common.{◌≡◌, ℕ, zero, suc, ◌+◌, ◌-◌, ◌≤◌, ◌<◌, max, Bool, true, false, List, [], ◌∷◌, ◌++◌, length, take, drop, ◌⊎◌, inl, inr, Option, Some, None, refl, sym, subst, arith}
-use Rattle.std.specs.Prelude.{if◌then◌else◌}
 use Rattle.std.proofs.lemmas.List.{length-append, length-take-le, length-take, length-drop}
 use Rattle.lexmeaning.specs.Text.{IsText, Among, part, at_line_start}
 use Rattle.lexmeaning.specs.Rules.{Rules, Full, statements_of}

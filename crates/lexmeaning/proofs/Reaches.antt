@@ -21,7 +21,7 @@ no_gap R l x p i j text fits le (inr live) =
     let n : length (drop p.at x) ≡ length x - p.at = length-drop p.at x in
     let longer = take_longer i j (drop p.at x) le (omega arith) in
     inr (l.live_shorter p.condition (at_line_start x p.at) (take i (drop p.at x)) longer.0 (longer.3 (is_text_drop p.at x text))
-      (subst (λ w. R.live p.condition (at_line_start x p.at) w) longer.1 live))
+    (subst (λ w. R.live p.condition (at_line_start x p.at) w) longer.1 live))
 
 reach_not_less : (R : Rules) (x : List ℕ) (p : Place) (q r : ℕ) → Reach R x p q → Reach R x p r → q < r → ⊥
 reach_not_less R x p q r h k lt =

@@ -1,5 +1,5 @@
 -- Turns that ask for nothing beyond a front are the same whatever follows.
-use Rattle.std.proofs.Common.{◌≡◌, ℕ, ◌≤◌, Bool, true, false, List, ◌++◌, length}
+use Rattle.std.proofs.Common.{◌≡◌, ℕ, ◌≤◌, true, false, List, ◌++◌, length}
 use Rattle.lexmeaning.specs.Text.{IsText}
 use Rattle.lexmeaning.specs.Rules.{Rules}
 use Rattle.lexmeaning.specs.Laws.{Laws}

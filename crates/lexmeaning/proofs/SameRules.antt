@@ -1,9 +1,8 @@
 -- Specifications with the same rules have the same turns, demand and run.
-use Rattle.std.proofs.Common.{◌≡◌, ℕ, ◌<◌, Bool, true, List, ◌++◌, length, ◌↔◌, Some, refl, sym, ◌∙◌, ap, subst, arith}
+use Rattle.std.proofs.Common.{◌≡◌, ℕ, ◌<◌, Bool, true, List, ◌++◌, length, ◌↔◌, sym, ◌∙◌, ap, subst, arith}
 use Rattle.std.specs.Prelude.{slice_get}
 use Rattle.lexmeaning.specs.Text.{IsText}
-use Rattle.lexmeaning.specs.Spec.{Spec, Rule, statements_at}
-use Rattle.lexmeaning.specs.Fits.{Fits}
+use Rattle.lexmeaning.specs.Spec.{Spec, statements_at}
 use Rattle.lexmeaning.specs.Rules.{Live, rules_of}
 use Rattle.lexmeaning.specs.SameRules.{SameRules}
 use Rattle.lexmeaning.specs.Sound.{IsSound}

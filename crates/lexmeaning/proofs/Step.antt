@@ -1,12 +1,12 @@
 -- One more turn of a scanner: what it saw of the input is enough for every input that goes on from there.
 use Rattle.std.proofs.Common.{◌≡◌, ℕ, suc, ◌+◌, ◌-◌, ◌≤◌, ◌<◌, max, Bool, true, false, List, [], ◌++◌, length, take, drop, ◌⊎◌, inl, inr, ◌↔◌, Some, None, refl, sym, ◌∙◌, ap, subst, arith}
 use Rattle.std.proofs.lemmas.List.{append-nil, append_assoc, length-append, length-take-le, length-drop, drop_all}
-use Rattle.lexmeaning.specs.Text.{part, at_line_start, IsText}
+use Rattle.lexmeaning.specs.Text.{at_line_start, IsText}
 use Rattle.lexmeaning.specs.Rules.{Rules}
 use Rattle.lexmeaning.specs.Laws.{Laws}
-use Rattle.lexmeaning.specs.Candidates.{Candidate, Candidates}
-use Rattle.lexmeaning.specs.Acting.{Ending, Matched, perform}
-use Rattle.lexmeaning.specs.Run.{Place, State, Turn, MatchTurn, EndTurn, NextFrom, first_state, next_place}
+use Rattle.lexmeaning.specs.Candidates.{Candidates}
+use Rattle.lexmeaning.specs.Acting.{Ending, perform}
+use Rattle.lexmeaning.specs.Run.{Place, State, Turn, MatchTurn, EndTurn, NextFrom, first_state}
 use Rattle.lexmeaning.specs.Demand.{AsksAt, Reach, AsksForEnd, FarFrom, EndAsked, GoesOnFrom}
 use Rattle.lexmeaning.specs.Scanned.{AfterTurns, Scanned, Seen, seen_turn, then_turn}
 use Rattle.lexmeaning.proofs.Texts.{is_text_drop, is_text_right, line_start_front, part_front}

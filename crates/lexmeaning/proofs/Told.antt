@@ -1,9 +1,8 @@
 -- What the plain program over a machine tells of each turn is how far the turns ask, and where the text starts.
-use Rattle.std.proofs.Common.{◌≡◌, ℕ, zero, suc, ◌+◌, ◌-◌, ◌≤◌, ◌<◌, max, Bool, List, [], ◌∷◌, length, drop, ◌⊎◌, inl, inr, Option, Some, None, refl, sym, ◌∙◌, ap, subst, arith}
+use Rattle.std.proofs.Common.{◌≡◌, ℕ, zero, suc, ◌+◌, ◌≤◌, List, [], drop, inl, inr, Option, Some, None, refl, sym, ap, subst, arith}
 use Rattle.std.specs.Prelude.{slice_get}
 use Rattle.std.proofs.lemmas.List.{drop_all}
 use Rattle.lexmeaning.specs.Text.{IsText, at_line_start}
-use Rattle.lexmeaning.specs.Rules.{Rules}
 use Rattle.lexmeaning.specs.Acting.{Ending}
 use Rattle.lexmeaning.specs.Run.{State, Turn, NextFrom, Turns, first_state}
 use Rattle.lexmeaning.specs.Demand.{FarFrom, Far}
@@ -58,7 +57,7 @@ module _ (M : Machine) (laws : MachineLaws M) (x : List ℕ) (text : IsText x) w
       let count : suc (suc k + i) ≡ suc (k + suc i) = omega arith in
       subst (λ z. IsTold (rules_of_machine M) x z row) count
       (row_from n (suc k) (far_of M x s f) t t.ended (turn_of (rules_of_machine M) (machine_candidates M) x t) refl more reach
-        (λ u p. turn_is (rules_of_machine M) (machine_candidates M) (λ c bol y ms z. machine_candidates_are M laws c bol y ms z) x t u p) i row h)
+      (λ u p. turn_is (rules_of_machine M) (machine_candidates M) (λ c bol y ms z. machine_candidates_are M laws c bol y ms z) x t u p) i row h)
 
   -- The rows that the plain program tells are true, row i after turn i + 1.
   pub rows_are_told : (n i : ℕ) (row : ℕ × ℕ) → slice_get (told_of M x n) i ≡ Some row → IsTold (rules_of_machine M) x (suc i) row
@@ -66,4 +65,4 @@ module _ (M : Machine) (laws : MachineLaws M) (x : List ℕ) (text : IsText x) w
       let count : suc (0 + i) ≡ suc i = omega arith in
       subst (λ z. IsTold (rules_of_machine M) x z row) count
       (row_from n 0 0 first_state None (turn_of (rules_of_machine M) (machine_candidates M) x first_state) refl refl refl
-        (λ u p. turn_is (rules_of_machine M) (machine_candidates M) (λ c bol y ms z. machine_candidates_are M laws c bol y ms z) x first_state u p) i row h)
+      (λ u p. turn_is (rules_of_machine M) (machine_candidates M) (λ c bol y ms z. machine_candidates_are M laws c bol y ms z) x first_state u p) i row h)

@@ -1,7 +1,7 @@
 -- Worked examples: small specifications, each with its rules as lex would write them.
-use Rattle.std.specs.Prelude.{ℕ, Bool, true, false, List, [], ◌∷◌, ◌++◌, Option, Some, None, codes}
+use Rattle.std.specs.Prelude.{ℕ, Bool, true, false, List, [], ◌∷◌, ◌++◌, Some, None, codes}
 use Rattle.lexmeaning.specs.ByteSets.{single, range_set, union, complement, fold_case}
-use Rattle.lexmeaning.specs.Tree.{Tree, Trees, Empty, Set, Cat, Alt, Star, Repeat, no_trees, tree}
+use Rattle.lexmeaning.specs.Tree.{Tree, Trees, Set, Cat, Alt, Star, Repeat, no_trees, tree}
 use Rattle.lexmeaning.specs.Spec.{Spec, Rule, Condition, Cut, Whole, Head, Trail, Statement, Echo, Print, Begin, More, Less, Reject, End}
 use Rattle.lexmeaning.specs.Rules.{rules_of}
 use Rattle.lexmeaning.specs.Acting.{Status}

@@ -1,7 +1,7 @@
 -- What the actions of a specification or a machine keep to.
 -- (POSIX, lex, Actions in lex; what may not stand in one action is this project's.)
-use Rattle.std.specs.Prelude.{◌≡◌, ℕ, zero, suc, Bool, true, false, not, ◌&&◌, ◌||◌, List, [], ◌∷◌, length, nat_le, nat_lt}
-use Rattle.lexmeaning.specs.Spec.{Statement, Echo, Print, Begin, More, Less, Reject, End, has_reject}
+use Rattle.std.specs.Prelude.{◌≡◌, ℕ, suc, Bool, true, false, not, ◌&&◌, ◌||◌, List, [], ◌∷◌, length, nat_le, nat_lt}
+use Rattle.lexmeaning.specs.Spec.{Statement, Print, Begin, More, Less, Reject, End, has_reject}
 
 -- what a statement names: a condition, one of n; a count of bytes, from 1 to 65,535; a status, up to 63. A literal has
 -- a byte.

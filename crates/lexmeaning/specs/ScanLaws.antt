@@ -1,5 +1,5 @@
 -- The laws of a scan. Each is the contract of a function of this crate. (This project's.)
-use Rattle.std.specs.Prelude.{◌≡◌, ℕ, suc, ◌+◌, ◌-◌, ◌≤◌, ◌<◌, max, Bool, true, false, List, [], ◌++◌, length, ◌⊎◌, ◌↔◌, Option, Some, None, slice_get}
+use Rattle.std.specs.Prelude.{◌≡◌, ℕ, suc, ◌+◌, ◌≤◌, max, Bool, true, false, List, [], ◌++◌, length, ◌↔◌, Option, Some, None, slice_get}
 use Rattle.lexmeaning.specs.Text.{IsText, BeginsWith}
 use Rattle.lexmeaning.specs.Rules.{Rules}
 use Rattle.lexmeaning.specs.Candidates.{Candidate, Candidates}
