@@ -4,3 +4,6 @@ pub mod CallLemmas
 pub mod StatementLemmas
 pub mod ActionLemmas
 pub mod OneAction
+pub mod LegalLemmas
+pub mod EndLemmas
+pub mod ReadLemmas

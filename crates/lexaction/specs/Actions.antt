@@ -201,10 +201,13 @@ module _ (condition : List ℕ → Option ℕ) where
 abbrev pub are_few : List Statement → Bool
 are_few ss = nat_le (length ss) 256 && nat_le (sum_by literal_bytes ss) 4096
 
+-- the statements may be the action of a rule
+abbrev pub may_stand : List Statement → Bool
+may_stand ss = are_few ss && ends_last ss && are_compatible ss
+
 -- the action of a rule
 abbrev pub SpellsAction : (List ℕ → Option ℕ) → List ℕ → List Statement → Type 0
-SpellsAction condition text ss =
-    SpellsStatements condition text ss × (are_few ss ≡ true) × (ends_last ss ≡ true) × (are_compatible ss ≡ true)
+SpellsAction condition text ss = SpellsStatements condition text ss × (may_stand ss ≡ true)
 
 -- what an `<<EOF>>` rule does with these statements: it may print, and it ends the scan, with status 0 where it says
 -- none (flex, End-of-File Rules)
@@ -214,6 +217,11 @@ end_of (Print bs ∷ []) = Some (record { print = bs; status = 0 })
 end_of (End n ∷ []) = Some (record { print = []; status = n })
 end_of (Print bs ∷ End n ∷ []) = Some (record { print = bs; status = n })
 end_of _ = None
+
+-- an end action, where no statements stand before it
+abbrev pub alone : List Statement → EndAction → Option EndAction
+alone [] e = Some e
+alone (s ∷ ss) e = None
 
 -- the action of an `<<EOF>>` rule
 abbrev pub SpellsEndAction : (List ℕ → Option ℕ) → List ℕ → EndAction → Type 0

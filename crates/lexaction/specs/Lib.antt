@@ -6,3 +6,4 @@ pub mod Outcome
 pub mod Views
 pub mod Names
 pub mod Formats
+pub mod Calls

@@ -1,5 +1,7 @@
 -- What the values of the code stand for.
 use Rattle.std.specs.Prelude.{ℕ, List, map, Option, option_map}
+use Rattle.lexaction.specs.declared.condition.Condition.{Condition}
+use Rattle.lexaction.specs.declared.condition.EndAction.{EndAction}
 use Rattle.lexaction.specs.declared.statement.Parts.{Parts}
 use Rattle.lexaction.specs.declared.statement.Piece.{Piece}
 use Rattle.lexaction.specs.declared.statement.Piece.TheVariants as Piece
@@ -37,3 +39,9 @@ parts_view p = (p.front.items, option_map (λ v. v.items) p.back)
 
 abbrev pub format_view : Format → State
 format_view f = state (option_map (λ v. v.items) f.front) f.bytes.items f.percent
+
+abbrev pub end_action_of : EndAction → S.EndAction
+end_action_of e = record { print = e.print.items; status = e.status }
+
+abbrev pub condition_of : Condition → S.Condition
+condition_of c = record { name = c.name.items; exclusive = c.exclusive; end = end_action_of c.end }

@@ -3,7 +3,7 @@ ghost use Rattle.std.specs.Prelude.{◌≡◌, ◌≤◌, ◌<◌, ◌+◌, suc,
 ghost use Rattle.lexaction.specs.Bytes.{passes, take_up_to, run, is_white, starts_name, name_at, digit_of, value, digits_at, skip, skip_in, outside, slash, block, line, next, as_byte, plain_escape, escape_at, string_byte_at, string_at, literal_at};
 ghost use Rattle.lexaction.specs.Outcome.{Reads};
 
-use crate::error::Fault;
+use crate::error::ActionError;
 use std::alloc::Global;
 
 #[derive(Clone, Copy)]
@@ -244,7 +244,7 @@ fn string_byte_at(text: &[u8]) -> Option<(u8, &[u8])>
 }
 
 /// After the opening quote.
-fn string_at(alloc: Global, text: &[u8]) -> Result<(Vec<u8>, &[u8]), Fault>
+fn string_at(alloc: Global, text: &[u8]) -> Result<(Vec<u8>, &[u8]), ActionError>
     ensures string { Reads (λ x. (x.0.items, x.1.now)) result (string_at (suc (length text.now)) text.now) }
     ensures shorter { IfOk result (λ x. length x.1.now < length text.now) }
 {
@@ -255,21 +255,21 @@ fn string_at(alloc: Global, text: &[u8]) -> Result<(Vec<u8>, &[u8]), Fault>
             return Ok((bytes, after));
         }
         let Some((byte, beyond)) = string_byte_at(rest) else {
-            return Err(Fault::UnknownStatement);
+            return Err(ActionError::UnknownStatement);
         };
         bytes.push(byte)?;
         rest = beyond;
     }
-    Err(Fault::Unclosed)
+    Err(ActionError::Unclosed)
 }
 
 #[tactic(auto, unfolding(crate::specs::Bytes::literal_at))]
-pub(crate) fn literal_at(alloc: Global, text: &[u8]) -> Result<(Vec<u8>, &[u8]), Fault>
+pub(crate) fn literal_at(alloc: Global, text: &[u8]) -> Result<(Vec<u8>, &[u8]), ActionError>
     ensures literal { Reads (λ x. (x.0.items, x.1.now)) result (literal_at text.now) }
     ensures shorter { IfOk result (λ x. length x.1.now ≤ length text.now) }
 {
     let Some(inside) = next(b'"', text) else {
-        return Err(Fault::UnknownStatement);
+        return Err(ActionError::UnknownStatement);
     };
     string_at(alloc, inside)
 }

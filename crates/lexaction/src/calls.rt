@@ -4,12 +4,13 @@ ghost use Rattle.lexaction.specs.Actions.{this_word, no_argument, number_argumen
 ghost use Rattle.lexaction.specs.Names.{number_from, names_of};
 ghost use Rattle.lexaction.specs.Views.{said_of};
 ghost use Rattle.lexaction.specs.Outcome.{Reads, UnlessMemory};
+ghost use Rattle.lexaction.specs.Calls.{CallReads, ConditionReads, BeginReads};
 
 use crate::bytes::{capped_value, digits_at, literal_at, name_at, next, skip};
 use crate::condition::Condition;
-use crate::error::Fault;
+use crate::error::ActionError;
 use crate::format::parts_of;
-use crate::statement::{Parts, Said, Statement};
+use crate::statement::{Called, Parts, Said, Statement};
 use std::alloc::Global;
 
 #[tactic(auto, unfolding(crate::specs::Actions::this_word))]
@@ -53,121 +54,128 @@ fn second_word<'a>(word: &[u8], text: &'a [u8]) -> Option<&'a [u8]>
 }
 
 #[tactic(auto, unfolding(crate::specs::Actions::formatted_at))]
-fn formatted_at<'a>(alloc: Global, format: &[u8], text: &'a [u8]) -> Result<(Said, &'a [u8]), Fault>
-    ensures spelled { Reads (λ x. (said_of x.0, x.1.now)) result (formatted_at format.now text.now) }
+fn formatted_at<'a>(
+    alloc: Global,
+    format: &[u8],
+    text: &'a [u8],
+) -> Result<(Called, &'a [u8]), ActionError>
+    ensures spelled { CallReads (λ x. x.0) (λ x. x.1.now) result (formatted_at format.now text.now) }
     ensures shorter { IfOk result (λ x. length x.1.now ≤ length text.now) }
 {
     let parts = parts_of(alloc, format)?;
     let Parts { front, back } = parts;
     match next(b')', text) {
         Some(after) => match back {
-            None => Ok((Said::Prints(front), after)),
-            Some(_) => Err(Fault::UnknownStatement),
+            None => Ok((Called::Says(Said::Prints(front)), after)),
+            Some(_) => Err(ActionError::UnknownStatement),
         },
         None => {
             let Some(after) = second_word(b"yytext".as_slice(), text) else {
-                return Err(Fault::UnknownStatement);
+                return Err(ActionError::UnknownStatement);
             };
             match back {
-                None => Err(Fault::UnknownStatement),
-                Some(back) => Ok((Said::PrintsText(front, back), after)),
+                None => Err(ActionError::UnknownStatement),
+                Some(back) => Ok((Called::Says(Said::PrintsText(front, back)), after)),
             }
         }
     }
 }
 
 #[tactic(auto, unfolding(crate::specs::Actions::printf_at))]
-fn printf_at(alloc: Global, text: &[u8]) -> Result<(Said, &[u8]), Fault>
-    ensures spelled { Reads (λ x. (said_of x.0, x.1.now)) result (printf_at text.now) }
+fn printf_at(alloc: Global, text: &[u8]) -> Result<(Called, &[u8]), ActionError>
+    ensures spelled { CallReads (λ x. x.0) (λ x. x.1.now) result (printf_at text.now) }
     ensures shorter { IfOk result (λ x. length x.1.now ≤ length text.now) }
 {
     let Some(inside) = next(b'(', text) else {
-        return Err(Fault::UnknownStatement);
+        return Err(ActionError::UnknownStatement);
     };
     let (literal, rest) = literal_at(alloc, inside)?;
     formatted_at(alloc, &literal, rest)
 }
 
 #[tactic(auto, unfolding(crate::specs::Actions::fputs_at))]
-fn fputs_at(alloc: Global, text: &[u8]) -> Result<(Said, &[u8]), Fault>
-    ensures spelled { Reads (λ x. (said_of x.0, x.1.now)) result (fputs_at text.now) }
+fn fputs_at(alloc: Global, text: &[u8]) -> Result<(Called, &[u8]), ActionError>
+    ensures spelled { CallReads (λ x. x.0) (λ x. x.1.now) result (fputs_at text.now) }
     ensures shorter { IfOk result (λ x. length x.1.now ≤ length text.now) }
 {
     let Some(inside) = next(b'(', text) else {
-        return Err(Fault::UnknownStatement);
+        return Err(ActionError::UnknownStatement);
     };
     let (literal, rest) = literal_at(alloc, inside)?;
     let Some(after) = second_word(b"yyout".as_slice(), rest) else {
-        return Err(Fault::UnknownStatement);
+        return Err(ActionError::UnknownStatement);
     };
-    Ok((Said::Prints(literal), after))
+    Ok((Called::Says(Said::Prints(literal)), after))
 }
 
 #[tactic(auto, unfolding(crate::specs::Actions::puts_at))]
-fn puts_at(alloc: Global, text: &[u8]) -> Result<(Said, &[u8]), Fault>
-    ensures spelled { Reads (λ x. (said_of x.0, x.1.now)) result (puts_at text.now) }
+fn puts_at(alloc: Global, text: &[u8]) -> Result<(Called, &[u8]), ActionError>
+    ensures spelled { CallReads (λ x. x.0) (λ x. x.1.now) result (puts_at text.now) }
     ensures shorter { IfOk result (λ x. length x.1.now ≤ length text.now) }
 {
     let Some(inside) = next(b'(', text) else {
-        return Err(Fault::UnknownStatement);
+        return Err(ActionError::UnknownStatement);
     };
     let (literal, rest) = literal_at(alloc, inside)?;
     let Some(after) = next(b')', rest) else {
-        return Err(Fault::UnknownStatement);
+        return Err(ActionError::UnknownStatement);
     };
     let mut line = literal;
     line.push(b'\n')?;
-    Ok((Said::Prints(line), after))
+    Ok((Called::Says(Said::Prints(line)), after))
 }
 
 #[tactic(auto, unfolding(crate::specs::Actions::yymore_at))]
-fn yymore_at(text: &[u8]) -> Result<(Said, &[u8]), Fault>
-    ensures spelled { Reads (λ x. (said_of x.0, x.1.now)) result (yymore_at text.now) }
+fn yymore_at(text: &[u8]) -> Result<(Called, &[u8]), ActionError>
+    ensures spelled { CallReads (λ x. x.0) (λ x. x.1.now) result (yymore_at text.now) }
     ensures shorter { IfOk result (λ x. length x.1.now ≤ length text.now) }
 {
     let Some(rest) = no_argument(text) else {
-        return Err(Fault::UnknownStatement);
+        return Err(ActionError::UnknownStatement);
     };
-    Ok((Said::Does(Statement::More), rest))
+    Ok((Called::Says(Said::Does(Statement::More)), rest))
 }
 
 #[tactic(auto, unfolding(crate::specs::Actions::yyterminate_at))]
-fn yyterminate_at(text: &[u8]) -> Result<(Said, &[u8]), Fault>
-    ensures spelled { Reads (λ x. (said_of x.0, x.1.now)) result (yyterminate_at text.now) }
+fn yyterminate_at(text: &[u8]) -> Result<(Called, &[u8]), ActionError>
+    ensures spelled { CallReads (λ x. x.0) (λ x. x.1.now) result (yyterminate_at text.now) }
     ensures shorter { IfOk result (λ x. length x.1.now ≤ length text.now) }
 {
     let Some(rest) = no_argument(text) else {
-        return Err(Fault::UnknownStatement);
+        return Err(ActionError::UnknownStatement);
     };
-    Ok((Said::Does(Statement::End(0)), rest))
+    Ok((Called::Says(Said::Does(Statement::End(0))), rest))
 }
 
 #[tactic(auto, unfolding(crate::specs::Actions::yyless_at))]
-fn yyless_at(text: &[u8]) -> Result<(Said, &[u8]), Fault>
-    ensures spelled { Reads (λ x. (said_of x.0, x.1.now)) result (yyless_at text.now) }
+fn yyless_at(text: &[u8]) -> Result<(Called, &[u8]), ActionError>
+    ensures spelled { CallReads (λ x. x.0) (λ x. x.1.now) result (yyless_at text.now) }
     ensures shorter { IfOk result (λ x. length x.1.now ≤ length text.now) }
 {
     let Some((number, rest)) = number_argument(text) else {
-        return Err(Fault::UnknownStatement);
+        return Err(ActionError::UnknownStatement);
     };
     if number == 0 || number > 65535 {
-        return Err(Fault::BadCount);
+        return Ok((Called::Faulty(ActionError::BadCount), rest));
     }
-    Ok((Said::Does(Statement::Less(number as u16)), rest))
+    Ok((
+        Called::Says(Said::Does(Statement::Less(number as u16))),
+        rest,
+    ))
 }
 
 #[tactic(auto, unfolding(crate::specs::Actions::exit_at))]
-fn exit_at(text: &[u8]) -> Result<(Said, &[u8]), Fault>
-    ensures spelled { Reads (λ x. (said_of x.0, x.1.now)) result (exit_at text.now) }
+fn exit_at(text: &[u8]) -> Result<(Called, &[u8]), ActionError>
+    ensures spelled { CallReads (λ x. x.0) (λ x. x.1.now) result (exit_at text.now) }
     ensures shorter { IfOk result (λ x. length x.1.now ≤ length text.now) }
 {
     let Some((number, rest)) = number_argument(text) else {
-        return Err(Fault::UnknownStatement);
+        return Err(ActionError::UnknownStatement);
     };
     if number > 63 {
-        return Err(Fault::BadStatus);
+        return Ok((Called::Faulty(ActionError::BadStatus), rest));
     }
-    Ok((Said::Does(Statement::End(number as u8)), rest))
+    Ok((Called::Says(Said::Does(Statement::End(number as u8))), rest))
 }
 
 /// The number of the condition with the name.
@@ -183,21 +191,19 @@ fn number_of(conditions: &[Condition], name: &[u8]) -> Option<u8>
     None
 }
 
+/// A condition, which may not be declared: its name, or `0`.
 #[tactic(auto, unfolding(crate::specs::Actions::condition_at))]
-fn condition_at<'a>(conditions: &[Condition], text: &'a [u8]) -> Option<(u8, &'a [u8])>
+fn condition_at<'a>(conditions: &[Condition], text: &'a [u8]) -> Option<(Option<u8>, &'a [u8])>
     requires { length conditions.now ≤ 255 }
-    ensures spelled { option_map (λ x. (x.0, x.1.now)) result ≡ condition_at (number_from 0 (names_of conditions.now)) text.now }
+    ensures spelled { ConditionReads (λ x. x.0) (λ x. x.1.now) result (condition_at (number_from 0 (names_of conditions.now)) text.now) }
     ensures shorter { IfSome result (λ x. length x.1.now ≤ length text.now) }
 {
     match name_at(skip(text)) {
-        Some((name, rest)) => {
-            let number = number_of(conditions, name)?;
-            Some((number, rest))
-        }
+        Some((name, rest)) => Some((number_of(conditions, name), rest)),
         None => {
             let (digits, rest) = digits_at(skip(text))?;
             if digits == b"0".as_slice() {
-                Some((0, rest))
+                Some((Some(0), rest))
             } else {
                 None
             }
@@ -206,9 +212,9 @@ fn condition_at<'a>(conditions: &[Condition], text: &'a [u8]) -> Option<(u8, &'a
 }
 
 #[tactic(auto, unfolding(crate::specs::Actions::closed_condition))]
-fn closed_condition<'a>(conditions: &[Condition], text: &'a [u8]) -> Option<(u8, &'a [u8])>
+fn closed_condition<'a>(conditions: &[Condition], text: &'a [u8]) -> Option<(Option<u8>, &'a [u8])>
     requires { length conditions.now ≤ 255 }
-    ensures spelled { option_map (λ x. (x.0, x.1.now)) result ≡ closed_condition (number_from 0 (names_of conditions.now)) text.now }
+    ensures spelled { ConditionReads (λ x. x.0) (λ x. x.1.now) result (closed_condition (number_from 0 (names_of conditions.now)) text.now) }
     ensures shorter { IfSome result (λ x. length x.1.now ≤ length text.now) }
 {
     let (number, rest) = condition_at(conditions, text)?;
@@ -216,20 +222,30 @@ fn closed_condition<'a>(conditions: &[Condition], text: &'a [u8]) -> Option<(u8,
     Some((number, after))
 }
 
+/// What a `BEGIN` of this condition says.
+fn begins(number: Option<u8>) -> Called
+    ensures { BeginReads number result }
+{
+    match number {
+        Some(number) => Called::Says(Said::Does(Statement::Begin(number))),
+        None => Called::Faulty(ActionError::UnknownCondition),
+    }
+}
+
 #[tactic(auto, unfolding(crate::specs::Actions::begin_at))]
-fn begin_at<'a>(conditions: &[Condition], text: &'a [u8]) -> Result<(Said, &'a [u8]), Fault>
+fn begin_at<'a>(conditions: &[Condition], text: &'a [u8]) -> Result<(Called, &'a [u8]), ActionError>
     requires { length conditions.now ≤ 255 }
-    ensures spelled { Reads (λ x. (said_of x.0, x.1.now)) result (begin_at (number_from 0 (names_of conditions.now)) text.now) }
+    ensures spelled { CallReads (λ x. x.0) (λ x. x.1.now) result (begin_at (number_from 0 (names_of conditions.now)) text.now) }
     ensures shorter { IfOk result (λ x. length x.1.now ≤ length text.now) }
 {
     match next(b'(', text) {
         Some(inside) => match closed_condition(conditions, inside) {
-            Some((number, rest)) => Ok((Said::Does(Statement::Begin(number)), rest)),
-            None => Err(Fault::UnknownCondition),
+            Some((number, rest)) => Ok((begins(number), rest)),
+            None => Err(ActionError::UnknownStatement),
         },
         None => match condition_at(conditions, text) {
-            Some((number, rest)) => Ok((Said::Does(Statement::Begin(number)), rest)),
-            None => Err(Fault::UnknownCondition),
+            Some((number, rest)) => Ok((begins(number), rest)),
+            None => Err(ActionError::UnknownStatement),
         },
     }
 }
@@ -254,15 +270,15 @@ fn after_word<'a>(
     conditions: &[Condition],
     word: &[u8],
     text: &'a [u8],
-) -> Result<(Said, &'a [u8]), Fault>
+) -> Result<(Called, &'a [u8]), ActionError>
     requires { length conditions.now ≤ 255 }
-    ensures spelled { Reads (λ x. (said_of x.0, x.1.now)) result (after_word (number_from 0 (names_of conditions.now)) word.now text.now) }
+    ensures spelled { CallReads (λ x. x.0) (λ x. x.1.now) result (after_word (number_from 0 (names_of conditions.now)) word.now text.now) }
     ensures shorter { IfOk result (λ x. length x.1.now ≤ length text.now) }
 {
     if word == b"ECHO".as_slice() {
-        Ok((Said::Does(Statement::Echo), text))
+        Ok((Called::Says(Said::Does(Statement::Echo)), text))
     } else if word == b"REJECT".as_slice() {
-        Ok((Said::Does(Statement::Reject), text))
+        Ok((Called::Says(Said::Does(Statement::Reject)), text))
     } else if word == b"BEGIN".as_slice() {
         begin_at(conditions, text)
     } else if word == b"yymore".as_slice() {
@@ -280,7 +296,7 @@ fn after_word<'a>(
     } else if word == b"puts".as_slice() {
         puts_at(alloc, text)
     } else {
-        Err(Fault::UnknownStatement)
+        Err(ActionError::UnknownStatement)
     }
 }
 
@@ -289,17 +305,20 @@ pub(crate) fn statement_at<'a>(
     alloc: Global,
     conditions: &[Condition],
     text: &'a [u8],
-) -> Result<(Said, &'a [u8]), Fault>
+) -> Result<(Said, &'a [u8]), ActionError>
     requires { length conditions.now ≤ 255 }
     ensures spelled { Reads (λ x. (said_of x.0, x.1.now)) result (statement_at (number_from 0 (names_of conditions.now)) text.now) }
     ensures shorter { IfOk result (λ x. length x.1.now < length text.now) }
 {
     let Some((word, rest)) = name_at(text) else {
-        return Err(Fault::UnknownStatement);
+        return Err(ActionError::UnknownStatement);
     };
-    let (said, after) = after_word(alloc, conditions, word, rest)?;
+    let (called, after) = after_word(alloc, conditions, word, rest)?;
     let Some(last) = after_statement(after) else {
-        return Err(Fault::UnknownStatement);
+        return Err(ActionError::UnknownStatement);
     };
-    Ok((said, last))
+    match called {
+        Called::Says(said) => Ok((said, last)),
+        Called::Faulty(error) => Err(error),
+    }
 }

@@ -5,7 +5,7 @@ ghost use Rattle.lexaction.specs.Formats.{read_on};
 ghost use Rattle.lexaction.specs.Views.{parts_view, format_view};
 ghost use Rattle.lexaction.specs.Outcome.{Reads, UnlessMemory};
 
-use crate::error::Fault;
+use crate::error::ActionError;
 use crate::statement::Parts;
 use std::alloc::Global;
 use std::mem;
@@ -21,7 +21,7 @@ pub(crate) struct Format {
 }
 
 impl Format {
-    fn take(&mut self, alloc: Global, byte: u8) -> Result<(), Fault>
+    fn take(&mut self, alloc: Global, byte: u8) -> Result<(), ActionError>
         ensures ok { OnOk result ((t : List ℕ) → read_on (format_view self.new) t ≡ read_on (format_view self.old) (byte ∷ t)) }
         ensures err { IfErr result (λ e. UnlessMemory e ((t : List ℕ) → read_on (format_view self.old) (byte ∷ t) ≡ None)) }
     {
@@ -39,7 +39,7 @@ impl Format {
             return Ok(());
         }
         if byte != b's' || self.front.is_some() {
-            return Err(Fault::UnknownStatement);
+            return Err(ActionError::UnknownStatement);
         }
         self.front = Some(mem::replace(&mut self.bytes, Vec::new(alloc)));
         self.percent = false;
@@ -49,7 +49,7 @@ impl Format {
 
 /// The literals of a format.
 #[tactic(auto, unfolding(crate::specs::Actions::parts_of))]
-pub(crate) fn parts_of(alloc: Global, text: &[u8]) -> Result<Parts, Fault>
+pub(crate) fn parts_of(alloc: Global, text: &[u8]) -> Result<Parts, ActionError>
     ensures { Reads parts_view result (parts_of text.now) }
 {
     let mut format = Format {
@@ -61,7 +61,7 @@ pub(crate) fn parts_of(alloc: Global, text: &[u8]) -> Result<Parts, Fault>
         format.take(alloc, *byte)?;
     }
     if format.percent {
-        return Err(Fault::UnknownStatement);
+        return Err(ActionError::UnknownStatement);
     }
     let Format { front, bytes, .. } = format;
     match front {

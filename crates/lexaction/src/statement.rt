@@ -5,7 +5,7 @@ ghost use Rattle.lexaction.specs.Actions.{said_by};
 ghost use Rattle.lexaction.specs.Views.{statement_of, said_of};
 ghost use Rattle.lexaction.specs.Outcome.{UnlessMemory};
 
-use crate::error::Fault;
+use crate::error::ActionError;
 
 /// A statement of an action in normal form.
 #[derive(Drop)]
@@ -28,6 +28,13 @@ pub(crate) enum Said {
     PrintsText(Vec<u8>, Vec<u8>),
 }
 
+/// What a call of the text says, or what is wrong with its argument.
+#[derive(Drop)]
+pub(crate) enum Called {
+    Says(Said),
+    Faulty(ActionError),
+}
+
 #[derive(Drop)]
 pub(crate) enum Piece {
     Semicolon,
@@ -44,7 +51,7 @@ pub(crate) struct Parts {
 }
 
 /// Puts a literal at the end.
-fn print(statements: &mut Vec<Statement>, bytes: Vec<u8>) -> Result<(), Fault>
+fn print(statements: &mut Vec<Statement>, bytes: Vec<u8>) -> Result<(), ActionError>
     ensures ok { OnOk result (map statement_of statements.new.items ≡ then_print (map statement_of statements.old.items) bytes.items) }
     ensures err { IfErr result (λ e. UnlessMemory e ⊥) }
 {
@@ -73,7 +80,7 @@ fn print(statements: &mut Vec<Statement>, bytes: Vec<u8>) -> Result<(), Fault>
 }
 
 /// Puts what is said at the end, in normal form.
-pub(crate) fn say(statements: &mut Vec<Statement>, said: Said) -> Result<(), Fault>
+pub(crate) fn say(statements: &mut Vec<Statement>, said: Said) -> Result<(), ActionError>
     ensures ok { OnOk result (map statement_of statements.new.items ≡ then_all (map statement_of statements.old.items) (said_by (said_of said))) }
     ensures err { IfErr result (λ e. UnlessMemory e ⊥) }
 {
