@@ -7,3 +7,5 @@ pub mod OneAction
 pub mod LegalLemmas
 pub mod EndLemmas
 pub mod ReadLemmas
+pub mod RangeLemmas
+pub mod NormalLemmas
