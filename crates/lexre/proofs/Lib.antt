@@ -1,2 +1,3 @@
+pub mod DefinitionLaws
 pub mod LengthLaws
 pub mod SetLaws

@@ -1,3 +1,4 @@
+pub mod Definitions
 pub mod Halves
 pub mod Lengths
 pub mod Views

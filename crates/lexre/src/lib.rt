@@ -3,12 +3,14 @@
 
 mod bounds;
 mod counts;
+mod definitions;
 mod measures;
 mod pattern;
 mod sets;
 
 pub use bounds::Lengths;
 pub use counts::positions;
+pub use definitions::{Defs, DefsError};
 pub use measures::lengths;
 pub use pattern::Pattern;
 pub use sets::ByteSet;
