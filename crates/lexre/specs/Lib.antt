@@ -1,4 +1,5 @@
 pub mod Definitions
 pub mod Halves
 pub mod Lengths
+pub mod Readings
 pub mod Views

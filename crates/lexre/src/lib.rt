@@ -4,6 +4,7 @@
 mod bounds;
 mod counts;
 mod definitions;
+mod laws;
 mod measures;
 mod pattern;
 mod sets;
@@ -11,6 +12,7 @@ mod sets;
 pub use bounds::Lengths;
 pub use counts::positions;
 pub use definitions::{Defs, DefsError};
+pub use laws::readings_use_own_positions;
 pub use measures::lengths;
 pub use pattern::Pattern;
 pub use sets::ByteSet;

@@ -11,32 +11,20 @@ use crate::pattern::Pattern;
 /// A length above this is as good as this.
 const CAP: u64 = 1 << 32;
 
-/// The lengths, or `None` if one of them passes the greatest u32.
+/// The least length of the words that the pattern matches, in bytes, and the greatest where lengths are bounded, of the
+/// language and not of its parts: `(""*)` has the greatest length 0. None exactly where one of the two passes
+/// 4,294,967,295. Takes no memory but stack, in proportion to the depth of the tree.
 pub fn lengths(pattern: &Pattern) -> Option<Lengths>
     requires { IsSoundTree (tree_of pattern.now) }
     ensures found { IfSome result (λ l. HasLengths (In (tree_of pattern.now)) l.min l.max) }
     ensures none { IfNone result (PassesLimit (tree_of pattern.now)) }
 {
-    let least = capped_least(pattern);
-    let greatest = capped_greatest(pattern);
-    if least >= CAP {
-        return None;
-    }
-    match greatest {
-        None => Some(Lengths {
-            min: least as u32,
-            max: None,
-        }),
-        Some(most) => {
-            if most >= CAP {
-                return None;
-            }
-            Some(Lengths {
-                min: least as u32,
-                max: Some(most as u32),
-            })
-        }
-    }
+    let min = u32::try_from(capped_least(pattern)).ok()?;
+    let max = match capped_greatest(pattern) {
+        None => None,
+        Some(greatest) => Some(u32::try_from(greatest).ok()?),
+    };
+    Some(Lengths { min, max })
 }
 
 #[cycle(least)]
