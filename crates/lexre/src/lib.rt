@@ -2,6 +2,7 @@
 #![tactic(auto)]
 
 mod bounds;
+mod classes;
 mod counts;
 mod definitions;
 mod laws;

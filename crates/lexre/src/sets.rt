@@ -1,8 +1,13 @@
 //! Sets of bytes. (POSIX, lex, Regular Expressions in lex: bracket expressions in the POSIX locale.)
 ghost use Rattle.std.specs.Prelude.{◌≡◌, ℕ, ◌<◌, ◌≤◌, ◌↔◌, Bool, IsTrue};
-ghost use Rattle.lexmeaning.specs.ByteSets.{has, set_of, empty_set, single, range_set, union, complement, fold_case, named_set, other_case, is_upper, is_lower, is_alpha, is_digit, is_alnum, is_space, is_blank, is_cntrl, is_graph, is_print, is_punct, is_xdigit};
+ghost use Rattle.lexmeaning.specs.ByteSets.{has, set_of, empty_set, single, range_set, union, complement, fold_case, named_set};
 
 use std::marker::Model;
+
+use crate::classes::{
+    is_alnum, is_alpha, is_blank, is_cntrl, is_digit, is_graph, is_lower, is_print, is_punct, is_space,
+    is_upper, is_xdigit, other_case,
+};
 
 /// A set of bytes. Bit b of the two words says whether the byte b is in it.
 #[derive(Clone, Copy, PartialEq, Eq, Debug)]
@@ -125,129 +130,31 @@ impl ByteSet {
         ensures { result ≡ named_set name.now }
     {
         if name == b"alpha".as_slice() {
-            Some(ByteSet::passing(|b| is_alpha(b)))
+            Some(ByteSet::passing(is_alpha))
         } else if name == b"digit".as_slice() {
-            Some(ByteSet::passing(|b| is_digit(b)))
+            Some(ByteSet::passing(is_digit))
         } else if name == b"alnum".as_slice() {
-            Some(ByteSet::passing(|b| is_alnum(b)))
+            Some(ByteSet::passing(is_alnum))
         } else if name == b"upper".as_slice() {
-            Some(ByteSet::passing(|b| is_upper(b)))
+            Some(ByteSet::passing(is_upper))
         } else if name == b"lower".as_slice() {
-            Some(ByteSet::passing(|b| is_lower(b)))
+            Some(ByteSet::passing(is_lower))
         } else if name == b"space".as_slice() {
-            Some(ByteSet::passing(|b| is_space(b)))
+            Some(ByteSet::passing(is_space))
         } else if name == b"blank".as_slice() {
-            Some(ByteSet::passing(|b| is_blank(b)))
+            Some(ByteSet::passing(is_blank))
         } else if name == b"cntrl".as_slice() {
-            Some(ByteSet::passing(|b| is_cntrl(b)))
+            Some(ByteSet::passing(is_cntrl))
         } else if name == b"graph".as_slice() {
-            Some(ByteSet::passing(|b| is_graph(b)))
+            Some(ByteSet::passing(is_graph))
         } else if name == b"print".as_slice() {
-            Some(ByteSet::passing(|b| is_print(b)))
+            Some(ByteSet::passing(is_print))
         } else if name == b"punct".as_slice() {
-            Some(ByteSet::passing(|b| is_punct(b)))
+            Some(ByteSet::passing(is_punct))
         } else if name == b"xdigit".as_slice() {
-            Some(ByteSet::passing(|b| is_xdigit(b)))
+            Some(ByteSet::passing(is_xdigit))
         } else {
             None
         }
     }
-}
-
-/// The letter in the other case, and any other byte itself.
-#[tactic(auto, unfolding(lexmeaning::specs::ByteSets::other_case))]
-fn other_case(byte: u8) -> u8
-    ensures { result ≡ other_case byte }
-{
-    if 65 <= byte && byte <= 90 {
-        byte + 32
-    } else if 97 <= byte && byte <= 122 {
-        byte - 32
-    } else {
-        byte
-    }
-}
-
-#[tactic(auto, unfolding(lexmeaning::specs::ByteSets::is_upper))]
-fn is_upper(byte: u8) -> bool
-    ensures { result ≡ is_upper byte }
-{
-    65 <= byte && byte <= 90
-}
-
-#[tactic(auto, unfolding(lexmeaning::specs::ByteSets::is_lower))]
-fn is_lower(byte: u8) -> bool
-    ensures { result ≡ is_lower byte }
-{
-    97 <= byte && byte <= 122
-}
-
-#[tactic(auto, unfolding(lexmeaning::specs::ByteSets::is_alpha))]
-fn is_alpha(byte: u8) -> bool
-    ensures { result ≡ is_alpha byte }
-{
-    is_upper(byte) || is_lower(byte)
-}
-
-#[tactic(auto, unfolding(lexmeaning::specs::ByteSets::is_digit))]
-fn is_digit(byte: u8) -> bool
-    ensures { result ≡ is_digit byte }
-{
-    48 <= byte && byte <= 57
-}
-
-#[tactic(auto, unfolding(lexmeaning::specs::ByteSets::is_alnum))]
-fn is_alnum(byte: u8) -> bool
-    ensures { result ≡ is_alnum byte }
-{
-    is_alpha(byte) || is_digit(byte)
-}
-
-#[tactic(auto, unfolding(lexmeaning::specs::ByteSets::is_space))]
-fn is_space(byte: u8) -> bool
-    ensures { result ≡ is_space byte }
-{
-    9 <= byte && byte <= 13 || byte == 32
-}
-
-#[tactic(auto, unfolding(lexmeaning::specs::ByteSets::is_blank))]
-fn is_blank(byte: u8) -> bool
-    ensures { result ≡ is_blank byte }
-{
-    byte == 9 || byte == 32
-}
-
-#[tactic(auto, unfolding(lexmeaning::specs::ByteSets::is_cntrl))]
-fn is_cntrl(byte: u8) -> bool
-    ensures { result ≡ is_cntrl byte }
-{
-    byte <= 31 || byte == 127
-}
-
-#[tactic(auto, unfolding(lexmeaning::specs::ByteSets::is_graph))]
-fn is_graph(byte: u8) -> bool
-    ensures { result ≡ is_graph byte }
-{
-    33 <= byte && byte <= 126
-}
-
-#[tactic(auto, unfolding(lexmeaning::specs::ByteSets::is_print))]
-fn is_print(byte: u8) -> bool
-    ensures { result ≡ is_print byte }
-{
-    32 <= byte && byte <= 126
-}
-
-#[tactic(auto, unfolding(lexmeaning::specs::ByteSets::is_punct))]
-fn is_punct(byte: u8) -> bool
-    ensures { result ≡ is_punct byte }
-{
-    is_graph(byte) && !is_alnum(byte)
-}
-
-#[tactic(auto, unfolding(lexmeaning::specs::ByteSets::is_xdigit))]
-fn is_xdigit(byte: u8) -> bool
-    ensures { result ≡ is_xdigit byte }
-{
-    is_digit(byte) || 65 <= byte && byte <= 70 || 97 <= byte && byte <= 102
 }
