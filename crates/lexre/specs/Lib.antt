@@ -1,3 +1,4 @@
+pub mod Classes
 pub mod Definitions
 pub mod Halves
 pub mod Lengths

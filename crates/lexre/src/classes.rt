@@ -1,6 +1,71 @@
 //! The character classes of the POSIX locale, on bytes. (POSIX, Base Definitions, LC_CTYPE.)
-ghost use Rattle.std.specs.Prelude.{◌≡◌};
-ghost use Rattle.lexmeaning.specs.ByteSets.{other_case, is_upper, is_lower, is_alpha, is_digit, is_alnum, is_space, is_blank, is_cntrl, is_graph, is_print, is_punct, is_xdigit};
+ghost use Rattle.std.specs.Prelude.{◌≡◌, option_map};
+ghost use Rattle.lexmeaning.specs.ByteSets.{named_set, other_case, set_of};
+ghost use Rattle.lexre.specs.Classes.{test_of};
+
+/// A character class.
+#[derive(Clone, Copy)]
+pub(crate) enum Class {
+    Alpha,
+    Digit,
+    Alnum,
+    Upper,
+    Lower,
+    Space,
+    Blank,
+    Cntrl,
+    Graph,
+    Print,
+    Punct,
+    Xdigit,
+}
+
+impl Class {
+    /// The class of this name, where there is one.
+    #[tactic(auto, unfolding(lexmeaning::specs::ByteSets::named_set))]
+    pub(crate) fn named(name: &[u8]) -> Option<Class>
+        ensures { named_set name.now ≡ option_map (λ c. set_of (test_of c)) result }
+    {
+        match name {
+            b"alpha" => Some(Class::Alpha),
+            b"digit" => Some(Class::Digit),
+            b"alnum" => Some(Class::Alnum),
+            b"upper" => Some(Class::Upper),
+            b"lower" => Some(Class::Lower),
+            b"space" => Some(Class::Space),
+            b"blank" => Some(Class::Blank),
+            b"cntrl" => Some(Class::Cntrl),
+            b"graph" => Some(Class::Graph),
+            b"print" => Some(Class::Print),
+            b"punct" => Some(Class::Punct),
+            b"xdigit" => Some(Class::Xdigit),
+            _ => None,
+        }
+    }
+
+    /// Whether the byte is in the class.
+    #[tactic(auto, unfolding(lexmeaning::specs::ByteSets::is_upper, lexmeaning::specs::ByteSets::is_lower, lexmeaning::specs::ByteSets::is_alpha, lexmeaning::specs::ByteSets::is_digit, lexmeaning::specs::ByteSets::is_alnum, lexmeaning::specs::ByteSets::is_space, lexmeaning::specs::ByteSets::is_blank, lexmeaning::specs::ByteSets::is_cntrl, lexmeaning::specs::ByteSets::is_graph, lexmeaning::specs::ByteSets::is_print, lexmeaning::specs::ByteSets::is_punct, lexmeaning::specs::ByteSets::is_xdigit))]
+    pub(crate) fn contains(self, byte: u8) -> bool
+        ensures { result ≡ test_of self byte }
+    {
+        match self {
+            Class::Alpha => matches!(byte, b'A'..=b'Z' | b'a'..=b'z'),
+            Class::Digit => matches!(byte, b'0'..=b'9'),
+            Class::Alnum => matches!(byte, b'A'..=b'Z' | b'a'..=b'z' | b'0'..=b'9'),
+            Class::Upper => matches!(byte, b'A'..=b'Z'),
+            Class::Lower => matches!(byte, b'a'..=b'z'),
+            Class::Space => matches!(byte, b'\t'..=b'\r' | b' '),
+            Class::Blank => matches!(byte, b'\t' | b' '),
+            Class::Cntrl => matches!(byte, 0..=31 | 127),
+            Class::Graph => matches!(byte, b'!'..=b'~'),
+            Class::Print => matches!(byte, b' '..=b'~'),
+            Class::Punct => {
+                matches!(byte, b'!'..=b'~') && !matches!(byte, b'A'..=b'Z' | b'a'..=b'z' | b'0'..=b'9')
+            }
+            Class::Xdigit => matches!(byte, b'0'..=b'9' | b'A'..=b'F' | b'a'..=b'f'),
+        }
+    }
+}
 
 /// The letter in the other case, and any other byte itself.
 #[tactic(auto, unfolding(lexmeaning::specs::ByteSets::other_case))]
@@ -12,88 +77,4 @@ pub(crate) fn other_case(byte: u8) -> u8
         b'a'..=b'z' => byte - 32,
         _ => byte,
     }
-}
-
-#[tactic(auto, unfolding(lexmeaning::specs::ByteSets::is_upper))]
-pub(crate) fn is_upper(byte: u8) -> bool
-    ensures { result ≡ is_upper byte }
-{
-    matches!(byte, b'A'..=b'Z')
-}
-
-#[tactic(auto, unfolding(lexmeaning::specs::ByteSets::is_lower))]
-pub(crate) fn is_lower(byte: u8) -> bool
-    ensures { result ≡ is_lower byte }
-{
-    matches!(byte, b'a'..=b'z')
-}
-
-#[tactic(auto, unfolding(lexmeaning::specs::ByteSets::is_alpha))]
-pub(crate) fn is_alpha(byte: u8) -> bool
-    ensures { result ≡ is_alpha byte }
-{
-    is_upper(byte) || is_lower(byte)
-}
-
-#[tactic(auto, unfolding(lexmeaning::specs::ByteSets::is_digit))]
-pub(crate) fn is_digit(byte: u8) -> bool
-    ensures { result ≡ is_digit byte }
-{
-    matches!(byte, b'0'..=b'9')
-}
-
-#[tactic(auto, unfolding(lexmeaning::specs::ByteSets::is_alnum))]
-pub(crate) fn is_alnum(byte: u8) -> bool
-    ensures { result ≡ is_alnum byte }
-{
-    is_alpha(byte) || is_digit(byte)
-}
-
-#[tactic(auto, unfolding(lexmeaning::specs::ByteSets::is_space))]
-pub(crate) fn is_space(byte: u8) -> bool
-    ensures { result ≡ is_space byte }
-{
-    matches!(byte, b'\t'..=b'\r' | b' ')
-}
-
-#[tactic(auto, unfolding(lexmeaning::specs::ByteSets::is_blank))]
-pub(crate) fn is_blank(byte: u8) -> bool
-    ensures { result ≡ is_blank byte }
-{
-    matches!(byte, b'\t' | b' ')
-}
-
-#[tactic(auto, unfolding(lexmeaning::specs::ByteSets::is_cntrl))]
-pub(crate) fn is_cntrl(byte: u8) -> bool
-    ensures { result ≡ is_cntrl byte }
-{
-    matches!(byte, 0..=31 | 127)
-}
-
-#[tactic(auto, unfolding(lexmeaning::specs::ByteSets::is_graph))]
-pub(crate) fn is_graph(byte: u8) -> bool
-    ensures { result ≡ is_graph byte }
-{
-    matches!(byte, b'!'..=b'~')
-}
-
-#[tactic(auto, unfolding(lexmeaning::specs::ByteSets::is_print))]
-pub(crate) fn is_print(byte: u8) -> bool
-    ensures { result ≡ is_print byte }
-{
-    matches!(byte, b' '..=b'~')
-}
-
-#[tactic(auto, unfolding(lexmeaning::specs::ByteSets::is_punct))]
-pub(crate) fn is_punct(byte: u8) -> bool
-    ensures { result ≡ is_punct byte }
-{
-    is_graph(byte) && !is_alnum(byte)
-}
-
-#[tactic(auto, unfolding(lexmeaning::specs::ByteSets::is_xdigit, lexmeaning::specs::ByteSets::is_digit))]
-pub(crate) fn is_xdigit(byte: u8) -> bool
-    ensures { result ≡ is_xdigit byte }
-{
-    matches!(byte, b'0'..=b'9' | b'A'..=b'F' | b'a'..=b'f')
 }

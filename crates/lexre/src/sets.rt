@@ -4,10 +4,7 @@ ghost use Rattle.lexmeaning.specs.ByteSets.{has, set_of, empty_set, single, rang
 
 use std::marker::Model;
 
-use crate::classes::{
-    is_alnum, is_alpha, is_blank, is_cntrl, is_digit, is_graph, is_lower, is_print, is_punct, is_space,
-    is_upper, is_xdigit, other_case,
-};
+use crate::classes::{Class, other_case};
 
 /// A set of bytes. Bit b of the two words says whether the byte b is in it.
 #[derive(Clone, Copy, PartialEq, Eq, Debug)]
@@ -125,36 +122,10 @@ impl ByteSet {
 
     /// The character class of this name in the POSIX locale, and None for a name that it does not have.
     /// (POSIX, Base Definitions, LC_CTYPE.)
-    #[tactic(auto, unfolding(lexmeaning::specs::ByteSets::named_set))]
     pub fn named(name: &[u8]) -> Option<ByteSet>
         ensures { result ≡ named_set name.now }
     {
-        if name == b"alpha".as_slice() {
-            Some(ByteSet::passing(is_alpha))
-        } else if name == b"digit".as_slice() {
-            Some(ByteSet::passing(is_digit))
-        } else if name == b"alnum".as_slice() {
-            Some(ByteSet::passing(is_alnum))
-        } else if name == b"upper".as_slice() {
-            Some(ByteSet::passing(is_upper))
-        } else if name == b"lower".as_slice() {
-            Some(ByteSet::passing(is_lower))
-        } else if name == b"space".as_slice() {
-            Some(ByteSet::passing(is_space))
-        } else if name == b"blank".as_slice() {
-            Some(ByteSet::passing(is_blank))
-        } else if name == b"cntrl".as_slice() {
-            Some(ByteSet::passing(is_cntrl))
-        } else if name == b"graph".as_slice() {
-            Some(ByteSet::passing(is_graph))
-        } else if name == b"print".as_slice() {
-            Some(ByteSet::passing(is_print))
-        } else if name == b"punct".as_slice() {
-            Some(ByteSet::passing(is_punct))
-        } else if name == b"xdigit".as_slice() {
-            Some(ByteSet::passing(is_xdigit))
-        } else {
-            None
-        }
+        let class = Class::named(name)?;
+        Some(ByteSet::passing(|byte| class.contains(byte)))
     }
 }
