@@ -17,3 +17,6 @@ pub use laws::readings_use_own_positions;
 pub use measures::lengths;
 pub use pattern::Pattern;
 pub use sets::ByteSet;
+
+#[cfg(test)]
+mod tests;
