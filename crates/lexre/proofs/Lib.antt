@@ -1,0 +1,4 @@
+pub mod DefinitionLaws
+pub mod LengthLaws
+pub mod ReadingLaws
+pub mod SetLaws

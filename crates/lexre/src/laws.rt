@@ -1,0 +1,10 @@
+//! Laws over the definitions.
+ghost use Rattle.std.specs.Prelude.{ℕ, ◌+◌, List};
+ghost use Rattle.lexmeaning.specs.Positions.{Cell, Reads, positions};
+ghost use Rattle.lexmeaning.specs.Tree.{Tree};
+ghost use Rattle.lexre.specs.Readings.{UsesFrom};
+
+/// A reading uses positions from its base on, and no more of them than the tree has.
+pub fn readings_use_own_positions()
+    ensures { (t : Tree) (base : ℕ) (rs : List Cell) → Reads t base rs → UsesFrom base (base + positions t) rs }
+{}

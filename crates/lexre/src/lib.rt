@@ -1,0 +1,22 @@
+//! Patterns of lex: sets of bytes, trees, and the reader of patterns.
+#![tactic(auto)]
+
+mod bounds;
+mod classes;
+mod counts;
+mod definitions;
+mod laws;
+mod measures;
+mod pattern;
+mod sets;
+
+pub use bounds::Lengths;
+pub use counts::positions;
+pub use definitions::{Defs, DefsError};
+pub use laws::readings_use_own_positions;
+pub use measures::lengths;
+pub use pattern::Pattern;
+pub use sets::ByteSet;
+
+#[cfg(test)]
+mod tests;
