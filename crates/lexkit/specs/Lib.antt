@@ -4,3 +4,6 @@ pub mod Sink
 pub mod Memory
 pub mod Adapters
 pub mod MemoryEnds
+pub mod Args
+pub mod Joined
+pub mod Faults

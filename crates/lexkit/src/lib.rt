@@ -2,10 +2,20 @@
 //! words and lines of its program.
 #![tactic(auto)]
 
+mod args;
+mod errors;
+mod faults;
 mod memory;
+mod options;
 mod sink;
 mod source;
 
+pub use args::{ArgsError, Job, read_args};
+pub use errors::{
+    GenError, PatternError, PatternErrorKind, RunError, ScanError, SpecError, SpecErrorKind,
+};
+pub use faults::{Fault, write_fault};
 pub use memory::{MemorySink, MemorySource};
+pub use options::Options;
 pub use sink::{Sink, ToWrite, WriteFault};
 pub use source::{FromRead, ReadFault, Source};
