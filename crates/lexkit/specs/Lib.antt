@@ -7,3 +7,4 @@ pub mod MemoryEnds
 pub mod Args
 pub mod Joined
 pub mod Faults
+pub mod ScanCounts

@@ -7,6 +7,7 @@ mod errors;
 mod faults;
 mod memory;
 mod options;
+mod scan;
 mod sink;
 mod source;
 
@@ -17,5 +18,6 @@ pub use errors::{
 pub use faults::{Fault, write_fault};
 pub use memory::{MemorySink, MemorySource};
 pub use options::Options;
+pub use scan::scan_spec;
 pub use sink::{Sink, ToWrite, WriteFault};
 pub use source::{FromRead, ReadFault, Source};
