@@ -8,3 +8,4 @@ pub mod Args
 pub mod Joined
 pub mod Faults
 pub mod ScanCounts
+pub mod Refusal
