@@ -1,0 +1,11 @@
+pub mod Source
+pub mod SourceLaws
+pub mod Sink
+pub mod Memory
+pub mod Adapters
+pub mod MemoryEnds
+pub mod Args
+pub mod Joined
+pub mod Faults
+pub mod ScanCounts
+pub mod Refusal

@@ -1,0 +1,289 @@
+//! The line on standard error, and the exit status.
+ghost use Rattle.std.specs.Prelude.{◌≡◌, ℕ, ◌+◌, ◌-◌, ◌^◌, ◌<◌, ◌≤◌, List, ◌++◌};
+ghost use Rattle.lexkit.specs.Source.{fault_count};
+ghost use Rattle.lexkit.specs.Sink.{Appended};
+ghost use Rattle.lexkit.specs.Joined.{joined};
+ghost use Rattle.lexkit.specs.Faults.{line_of, fault_words, scan_words, gen_words, spec_words, lacks_memory, pattern_name, kind_name, run_words, args_words};
+
+use crate::args::ArgsError;
+use crate::errors::{
+    GenError, PatternError, PatternErrorKind, RunError, ScanError, SpecError, SpecErrorKind,
+};
+use crate::sink::{Sink, WriteFault};
+use itoa::Buffer;
+
+/// What ended the program before its work was done.
+#[derive(Clone, Copy, Debug)]
+pub enum Fault<'a> {
+    /// The command line was refused.
+    Args(ArgsError),
+    /// The scan was refused, or stopped.
+    Scan(ScanError),
+    /// This file can't be read.
+    File(&'a str),
+    /// The output can't be written.
+    Output,
+}
+
+impl Fault<'_> {
+    ghost use Rattle.lexkit.specs.Faults.{status_of};
+
+    /// The exit status: 64 for the command line, 65 for the specification, 66 for a file, 71 for want of
+    /// memory, and 74 for a read or a write.
+    pub fn status(&self) -> u8
+        ensures { result ≡ status_of self.now }
+    {
+        match self {
+            Fault::Args(ArgsError::Usage) => 64,
+            Fault::Scan(ScanError::Generate(GenError::Spec(error))) if !lacks_memory(error.kind) =>
+                { 65 }
+            Fault::File(_) => 66,
+            Fault::Args(ArgsError::OutOfMemory)
+            | Fault::Scan(ScanError::Generate(_))
+            | Fault::Scan(ScanError::Run(RunError::OutOfMemory)) => 71,
+            Fault::Scan(ScanError::Run(_)) | Fault::Output => 74,
+        }
+    }
+}
+
+/// Writes the line that tells a fault, as `lex: line 2: BadDefinitionLine`. It takes no memory.
+pub fn write_fault<K: Sink>(fault: Fault<'_>, sink: &mut K) -> Result<(), WriteFault>
+    requires { K.failures sink.old < 2 ^ 64 - 1 }
+    ensures bytes { Appended (λ xs. K.wrote sink.old xs sink.new) (line_of (fault_words fault.entry)) result }
+    ensures failures { K.failures sink.new ≡ K.failures sink.old + fault_count result }
+{
+    match fault {
+        Fault::Args(error) => put_line(sink, &[args_text(error)]),
+        Fault::Scan(error) => write_scan_error(error, sink),
+        Fault::File(name) => put_line(sink, &["cannot read ", name]),
+        Fault::Output => put_line(sink, &["write fault"]),
+    }
+}
+
+const OUT_OF_MEMORY: &str = "out of memory";
+
+fn write_scan_error<K: Sink>(error: ScanError, sink: &mut K) -> Result<(), WriteFault>
+    requires { K.failures sink.old < 2 ^ 64 - 1 }
+    ensures bytes { Appended (λ xs. K.wrote sink.old xs sink.new) (line_of (scan_words error)) result }
+    ensures failures { K.failures sink.new ≡ K.failures sink.old + fault_count result }
+{
+    match error {
+        ScanError::Generate(error) => write_gen_error(error, sink),
+        ScanError::Run(error) => put_line(sink, &[run_text(error)]),
+    }
+}
+
+fn write_gen_error<K: Sink>(error: GenError, sink: &mut K) -> Result<(), WriteFault>
+    requires { K.failures sink.old < 2 ^ 64 - 1 }
+    ensures bytes { Appended (λ xs. K.wrote sink.old xs sink.new) (line_of (gen_words error)) result }
+    ensures failures { K.failures sink.new ≡ K.failures sink.old + fault_count result }
+{
+    match error {
+        GenError::Spec(error) => write_spec_error(error, sink),
+        GenError::OutOfMemory => put_line(sink, &[OUT_OF_MEMORY]),
+    }
+}
+
+fn write_spec_error<K: Sink>(error: SpecError, sink: &mut K) -> Result<(), WriteFault>
+    requires { K.failures sink.old < 2 ^ 64 - 1 }
+    ensures bytes { Appended (λ xs. K.wrote sink.old xs sink.new) (line_of (spec_words error)) result }
+    ensures failures { K.failures sink.new ≡ K.failures sink.old + fault_count result }
+{
+    if lacks_memory(error.kind) {
+        return put_line(sink, &[OUT_OF_MEMORY]);
+    }
+    let name = kind_text(error.kind);
+    let mut line = Buffer::new();
+    let line = line.format(error.line);
+    match error.kind {
+        SpecErrorKind::Pattern(pattern) => {
+            let mut at = Buffer::new();
+            let at = at.format(pattern.at);
+            put_line(sink, &["line ", line, ": ", name, " at ", at])
+        }
+        _ => put_line(sink, &["line ", line, ": ", name]),
+    }
+}
+
+fn lacks_memory(kind: SpecErrorKind) -> bool
+    ensures { result ≡ lacks_memory kind }
+{
+    matches!(
+        kind,
+        SpecErrorKind::OutOfMemory
+            | SpecErrorKind::Pattern(PatternError {
+                kind: PatternErrorKind::OutOfMemory,
+                ..
+            })
+    )
+}
+
+fn pattern_text(kind: PatternErrorKind) -> &'static str
+    ensures { result.now ≡ pattern_name kind }
+{
+    match kind {
+        PatternErrorKind::MissingOperand => "MissingOperand",
+        PatternErrorKind::TooBig => "TooBig",
+        PatternErrorKind::OutOfMemory => "OutOfMemory",
+    }
+}
+
+fn kind_text(kind: SpecErrorKind) -> &'static str
+    ensures { result.now ≡ kind_name kind }
+{
+    match kind {
+        SpecErrorKind::NoRulesSection => "NoRulesSection",
+        SpecErrorKind::BadDefinitionLine => "BadDefinitionLine",
+        SpecErrorKind::Pattern(error) => pattern_text(error.kind),
+        SpecErrorKind::UnknownStatement => "UnknownStatement",
+        SpecErrorKind::TooManyRules => "TooManyRules",
+        SpecErrorKind::TooLong => "TooLong",
+        SpecErrorKind::OutOfMemory => "OutOfMemory",
+    }
+}
+
+fn run_text(error: RunError) -> &'static str
+    ensures { result.now ≡ run_words error }
+{
+    match error {
+        RunError::Read => "read fault",
+        RunError::TooManyReads => "too many reads",
+        RunError::Write => "write fault",
+        RunError::OutOfMemory => OUT_OF_MEMORY,
+        RunError::Failed => "failed",
+    }
+}
+
+fn args_text(error: ArgsError) -> &'static str
+    ensures { result.now ≡ args_words error }
+{
+    match error {
+        ArgsError::Usage => "usage",
+        ArgsError::OutOfMemory => OUT_OF_MEMORY,
+    }
+}
+
+/// Puts `lex: `, the parts and a newline.
+fn put_line<K: Sink>(sink: &mut K, parts: &[&str]) -> Result<(), WriteFault>
+    requires { K.failures sink.old < 2 ^ 64 - 1 }
+    ensures bytes { Appended (λ xs. K.wrote sink.old xs sink.new) (line_of (joined parts.now)) result }
+    ensures failures { K.failures sink.new ≡ K.failures sink.old + fault_count result }
+{
+    if let Err(fault) = sink.put(b"lex: ") {
+        return Err(fault);
+    }
+    for part in parts {
+        if let Err(fault) = sink.put(part.as_bytes()) {
+            return Err(fault);
+        }
+    }
+    sink.put(b"\n")
+}
+
+#[cfg(test)]
+mod tests {
+    use super::*;
+    use crate::memory::MemorySink;
+
+    fn refused(line: u32, kind: SpecErrorKind) -> Fault<'static> {
+        Fault::Scan(ScanError::Generate(GenError::Spec(SpecError { line, kind })))
+    }
+
+    fn in_pattern(kind: PatternErrorKind, at: usize) -> SpecErrorKind {
+        SpecErrorKind::Pattern(PatternError { kind, at })
+    }
+
+    fn stopped(error: RunError) -> Fault<'static> {
+        Fault::Scan(ScanError::Run(error))
+    }
+
+    #[test]
+    fn tells_each_fault(rt: HostRuntime) {
+        let rows: [(Fault<'_>, u8, &str); 20] = [
+            (Fault::Args(ArgsError::Usage), 64, "lex: usage\n"),
+            (
+                Fault::Args(ArgsError::OutOfMemory),
+                71,
+                "lex: out of memory\n",
+            ),
+            (
+                refused(1, SpecErrorKind::NoRulesSection),
+                65,
+                "lex: line 1: NoRulesSection\n",
+            ),
+            (
+                refused(12, SpecErrorKind::BadDefinitionLine),
+                65,
+                "lex: line 12: BadDefinitionLine\n",
+            ),
+            (
+                refused(2, in_pattern(PatternErrorKind::MissingOperand, 0)),
+                65,
+                "lex: line 2: MissingOperand at 0\n",
+            ),
+            (
+                refused(2, in_pattern(PatternErrorKind::TooBig, 65_535)),
+                65,
+                "lex: line 2: TooBig at 65535\n",
+            ),
+            (
+                refused(2, in_pattern(PatternErrorKind::OutOfMemory, 7)),
+                71,
+                "lex: out of memory\n",
+            ),
+            (
+                refused(3, SpecErrorKind::UnknownStatement),
+                65,
+                "lex: line 3: UnknownStatement\n",
+            ),
+            (
+                refused(4_098, SpecErrorKind::TooManyRules),
+                65,
+                "lex: line 4098: TooManyRules\n",
+            ),
+            (
+                refused(9, SpecErrorKind::TooLong),
+                65,
+                "lex: line 9: TooLong\n",
+            ),
+            (
+                refused(2, SpecErrorKind::OutOfMemory),
+                71,
+                "lex: out of memory\n",
+            ),
+            (
+                Fault::Scan(ScanError::Generate(GenError::OutOfMemory)),
+                71,
+                "lex: out of memory\n",
+            ),
+            (Fault::File("a.l"), 66, "lex: cannot read a.l\n"),
+            (Fault::File(""), 66, "lex: cannot read \n"),
+            (stopped(RunError::Read), 74, "lex: read fault\n"),
+            (stopped(RunError::TooManyReads), 74, "lex: too many reads\n"),
+            (stopped(RunError::Write), 74, "lex: write fault\n"),
+            (Fault::Output, 74, "lex: write fault\n"),
+            (stopped(RunError::OutOfMemory), 71, "lex: out of memory\n"),
+            (stopped(RunError::Failed), 74, "lex: failed\n"),
+        ];
+        for (fault, status, line) in rows {
+            let mut sink = MemorySink::new(rt.alloc());
+            assert!(rt; write_fault(fault, &mut sink) == Ok(()), "{line}");
+            assert_eq!(rt; sink.written(), line.as_bytes());
+            assert_eq!(rt; fault.status(), status, "{line}");
+        }
+    }
+
+    #[test]
+    fn stops_at_a_write_fault(rt: HostRuntime) {
+        for (room, written) in [
+            (0usize, ""),
+            (3, "lex"),
+            (9, "lex: cann"),
+            (17, "lex: cannot read "),
+        ] {
+            let mut sink = MemorySink::failing_after(rt.alloc(), room);
+            assert!(rt; write_fault(Fault::File("a.l"), &mut sink) == Err(WriteFault));
+            assert_eq!(rt; sink.written(), written.as_bytes());
+        }
+    }
+}
