@@ -7,7 +7,7 @@ use Rattle.std.specs.Result.{OkIff, result_ok}
 use Rattle.lexmeaning.specs.ByteSets.{IsIn}
 use Rattle.lexmeaning.specs.Tree.{Tree, Trees, Empty, Set, Cat, Alt, Star, Repeat, no_trees, tree, Joined, UpTo, In, InEach, InSome}
 use Rattle.lexmeaning.specs.Shapes.{Language, LongestIs, HasLengths, IsSoundTree, AreSoundTrees, HasPart}
-use Rattle.lexre.specs.Lengths.{plus, larger, smaller, unbounded, repeated, least, least_of_each, least_of_some, greatest, greatest_of_each, greatest_of_some, capped, PassesLimit}
+use Rattle.lexre.specs.Lengths.{plus, larger, lesser, unbounded, repeated, least, least_of_each, least_of_some, greatest, greatest_of_each, greatest_of_some, capped, PassesLimit}
 
 -- ---- caps
 
@@ -182,15 +182,21 @@ larger_zero : (x : Option ℕ) → larger x (Some 0) ≡ x
 larger_zero None = refl
 larger_zero (Some m) = ap Some (omega arith)
 
+lesser_min : (a b : ℕ) (x : Option ℕ) → unwrap_or (lesser (Some a) (lesser (Some b) x)) 0 ≡ min a (unwrap_or (lesser (Some b) x) 0)
+lesser_min a b None = refl
+lesser_min a b (Some c) = refl
+
 some_step : (t : Tree) (ts : Trees) → HasLengths (In t) (least t) (greatest t)
     → (HasPart ts → HasLengths (InSome ts) (unwrap_or (least_of_some ts) 0) (greatest_of_some ts))
-    → HasLengths (InSome (tree t ts)) (smaller (least t) (least_of_some ts)) (larger (greatest t) (greatest_of_some ts))
+    → HasLengths (InSome (tree t ts)) (unwrap_or (least_of_some (tree t ts)) 0) (larger (greatest t) (greatest_of_some ts))
 some_step t no_trees h rest =
     let P : Option ℕ → Type 0 = λ x. HasLengths (InSome (tree t no_trees)) (least t) x in
     subst P (sym (larger_zero (greatest t)))
     (same_language (In t) (InSome (tree t no_trees)) (least t) (greatest t) (λ w i. inl i) (λ w i. ⊎_elim (λ j. j) (λ j. absurd j) i) h)
 some_step t (tree s ss) h rest =
-    either_lengths (In t) (InSome (tree s ss)) (least t) (smaller (least s) (least_of_some ss)) (greatest t) (larger (greatest s) (greatest_of_some ss)) h (rest tt)
+    along_least (InSome (tree t (tree s ss))) (min (least t) (unwrap_or (least_of_some (tree s ss)) 0)) (unwrap_or (least_of_some (tree t (tree s ss))) 0) (larger (greatest t) (larger (greatest s) (greatest_of_some ss)))
+    (sym (lesser_min (least t) (least s) (least_of_some ss)))
+    (either_lengths (In t) (InSome (tree s ss)) (least t) (unwrap_or (least_of_some (tree s ss)) 0) (greatest t) (larger (greatest s) (greatest_of_some ss)) h (rest tt))
 
 mutual
   pub has_lengths : (t : Tree) → IsSoundTree t → HasLengths (In t) (least t) (greatest t)

@@ -42,8 +42,8 @@ fn capped_positions_of(parts: &[Pattern]) -> u64
     ensures { result ≡ min (2 ^ 32) (positions_of (trees (map tree_of parts.now))) }
 {
     let mut total = 0;
-    for i in (0..parts.len()).rev() {
-        total = (total + capped_positions(&parts[i])).min(CAP);
+    for part in parts {
+        total = (total + capped_positions(part)).min(CAP);
     }
     total
 }
