@@ -1,5 +1,5 @@
 -- The lengths of a tree's words, by cases on the tree. (This project's; that they are those of its language is proved.)
-use Rattle.std.specs.Prelude.{◌≡◌, ℕ, zero, suc, ◌+◌, ◌*◌, ◌^◌, ◌≤◌, min, max, Option, Some, None, unwrap_or, option_map, IsSomeAnd, ◌⊎◌}
+use Rattle.std.specs.Prelude.{ℕ, zero, suc, ◌+◌, ◌*◌, ◌^◌, ◌≤◌, min, max, Option, Some, None, unwrap_or, option_map, IsSomeAnd, ◌⊎◌}
 use Rattle.lexmeaning.specs.Tree.{Tree, Trees, Empty, Set, Cat, Alt, Star, Repeat, no_trees, tree, In}
 use Rattle.lexmeaning.specs.Shapes.{HasLengths}
 

@@ -13,7 +13,7 @@ mod sets;
 pub use bounds::Lengths;
 pub use counts::positions;
 pub use definitions::{Defs, DefsError};
-pub use laws::readings_use_own_positions;
+pub use laws::{one_tree, readings_use_own_positions};
 pub use measures::lengths;
 pub use pattern::Pattern;
 pub use sets::ByteSet;

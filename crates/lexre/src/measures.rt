@@ -13,7 +13,7 @@ const CAP: u64 = 1 << 32;
 
 /// The least length of the words that the pattern matches, in bytes, and the greatest where lengths are bounded, of the
 /// language and not of its parts: `(""*)` has the greatest length 0. None exactly where one of the two passes
-/// 4,294,967,295. Takes no memory but stack, in proportion to the depth of the tree.
+/// 4,294,967,295.
 pub fn lengths(pattern: &Pattern) -> Option<Lengths>
     requires { IsSoundTree (tree_of pattern.now) }
     ensures found { IfSome result (λ l. HasLengths (In (tree_of pattern.now)) l.min l.max) }
