@@ -4,26 +4,26 @@ use Rattle.std.specs.Prelude.{codes}
 use Rattle.lexmeaning.specs.ByteSets.{single, is_digit, is_xdigit, is_alpha, is_alnum, is_upper, is_lower}
 use Rattle.lexmeaning.specs.Tree.{Empty, Set, Cat, trees}
 use Rattle.lexre.specs.Symbols.{item, name, interval}
-use Rattle.lexre.specs.Lexical.{take_up_to, control, escape_at, quoted_at, quoted_tree, span, named, unsupported, named_at, unsupported_at, class_byte_at, is_range, element_at, elements_at, class_at, interval_at, name_at, symbol_at, bracketed_at, enclosed_at, range_at, bounded, braces_at}
+use Rattle.lexre.specs.Lexical.{take_up_to, control, escape_at, octal_at, hexadecimal_at, quoted_at, quoted_tree, span, named, unsupported, named_at, unsupported_at, class_byte_at, is_range, element_at, elements_at, class_at, interval_at, name_at, symbol_at, bracketed_at, enclosed_at, range_at, bounded, braces_at}
 
 hex : symbol_at false (codes "\\x41") ≡ Some (item (Set (single 65)), [])
-unfolding symbol_at escape_at take_up_to is_digit is_xdigit is_alpha is_alnum is_upper is_lower bracketed_at enclosed_at range_at bounded braces_at
+unfolding symbol_at escape_at octal_at hexadecimal_at take_up_to is_digit is_xdigit is_alpha is_alnum is_upper is_lower bracketed_at enclosed_at range_at bounded braces_at
 hex = refl
 
 octal : symbol_at false (codes "\\101") ≡ Some (item (Set (single 65)), [])
-unfolding symbol_at escape_at take_up_to is_digit is_xdigit is_alpha is_alnum is_upper is_lower bracketed_at enclosed_at range_at bounded braces_at
+unfolding symbol_at escape_at octal_at hexadecimal_at take_up_to is_digit is_xdigit is_alpha is_alnum is_upper is_lower bracketed_at enclosed_at range_at bounded braces_at
 octal = refl
 
 bare_x : symbol_at false (codes "\\x") ≡ Some (item (Set (single 120)), [])
-unfolding symbol_at escape_at take_up_to is_digit is_xdigit is_alpha is_alnum is_upper is_lower bracketed_at enclosed_at range_at bounded braces_at
+unfolding symbol_at escape_at octal_at hexadecimal_at take_up_to is_digit is_xdigit is_alpha is_alnum is_upper is_lower bracketed_at enclosed_at range_at bounded braces_at
 bare_x = refl
 
 too_great : symbol_at false (codes "\\400") ≡ None
-unfolding symbol_at escape_at take_up_to is_digit is_xdigit is_alpha is_alnum is_upper is_lower bracketed_at enclosed_at range_at bounded braces_at
+unfolding symbol_at escape_at octal_at hexadecimal_at take_up_to is_digit is_xdigit is_alpha is_alnum is_upper is_lower bracketed_at enclosed_at range_at bounded braces_at
 too_great = refl
 
 quotes : symbol_at false (codes "\"a\\\"b\"") ≡ Some (item (Cat (trees (Set (single 97) ∷ Set (single 34) ∷ Set (single 98) ∷ []))), [])
-unfolding symbol_at quoted_at quoted_tree escape_at control take_up_to is_digit is_xdigit is_alpha is_alnum is_upper is_lower bracketed_at enclosed_at range_at bounded braces_at
+unfolding symbol_at quoted_at quoted_tree escape_at octal_at hexadecimal_at control take_up_to is_digit is_xdigit is_alpha is_alnum is_upper is_lower bracketed_at enclosed_at range_at bounded braces_at
 quotes = refl
 
 no_text : symbol_at false (codes "\"\"") ≡ Some (item Empty, [])

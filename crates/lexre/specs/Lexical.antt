@@ -1,6 +1,6 @@
 -- The symbols of a pattern, by their bytes. None means that the text begins with no symbol.
 -- (POSIX, lex, Regular Expressions in lex: quotes, escapes, bracket expressions, definitions; flex, Patterns.)
-use Rattle.std.specs.Prelude.{ℕ, zero, suc, ◌+◌, ◌*◌, ◌%◌, Bool, true, false, not, ◌&&◌, ◌||◌, ◌==◌, nat_le, nat_lt, nat_eq, if◌then◌else◌, List, [], ◌∷◌, map, fold, length, drop, Option, Some, None, option_and_then, codes}
+use Rattle.std.specs.Prelude.{ℕ, zero, suc, ◌+◌, ◌*◌, ◌%◌, Bool, true, false, not, ◌&&◌, ◌||◌, ◌==◌, nat_le, nat_lt, nat_eq, if◌then◌else◌, List, [], ◌∷◌, map, fold, length, drop, Option, Some, None, option_and_then, unwrap_or, codes}
 use Rattle.std.specs.List.{starts_with}
 use Rattle.lexmeaning.specs.ByteSets.{ByteSet, empty_set, single, range_set, union, complement, fold_case, named_set, within, is_alpha, is_alnum, is_digit, is_xdigit}
 use Rattle.lexmeaning.specs.Tree.{Tree, Empty, Set, Cat, trees}
@@ -47,14 +47,25 @@ control c =
     if c == 97 then 7 else if c == 98 then 8 else if c == 102 then 12 else if c == 110 then 10
     else if c == 114 then 13 else if c == 116 then 9 else if c == 118 then 11 else c
 
--- After a backslash: the byte, and what follows. One to three octal digits, as many as stand there, write a byte up to 255.
--- `x` and one or two hexadecimal digits write a byte, and `x` without one is itself. A newline cannot be escaped.
+-- one to three octal digits, as many as stand there, which write a byte
+unfoldable pub octal_at : List ℕ → Option (ℕ × List ℕ)
+octal_at t =
+    let (digits, rest) = take_up_to 3 (within 48 55) t in
+    if nat_lt (value 8 digits) 256 then Some (value 8 digits, rest) else None
+
+-- one or two hexadecimal digits, as many as stand there
+unfoldable pub hexadecimal_at : List ℕ → Option (ℕ × List ℕ)
+hexadecimal_at t =
+    let (digits, rest) = take_up_to 2 is_xdigit t in
+    if is_empty digits then None else Some (value 16 digits, rest)
+
+-- After a backslash: the byte, and what follows it. A newline cannot be escaped, and `x` without a digit is itself.
 unfoldable pub escape_at : List ℕ → Option (ℕ × List ℕ)
 escape_at [] = None
 escape_at (c ∷ t) =
     if c == 10 then None
-    else if within 48 55 c then (let (ds, rest) = take_up_to 3 (within 48 55) (c ∷ t) in if nat_lt (value 8 ds) 256 then Some (value 8 ds, rest) else None)
-    else if c == 120 then (let (ds, rest) = take_up_to 2 is_xdigit t in if is_empty ds then Some (c, t) else Some (value 16 ds, rest))
+    else if within 48 55 c then octal_at (c ∷ t)
+    else if c == 120 then Some (unwrap_or (hexadecimal_at t) (c, t))
     else Some (control c, t)
 
 -- Texts in quotes.

@@ -5,9 +5,12 @@ mod bounds;
 mod classes;
 mod counts;
 mod definitions;
+mod digits;
+mod escapes;
 mod laws;
 mod measures;
 mod pattern;
+mod runs;
 mod sets;
 
 pub use bounds::Lengths;
