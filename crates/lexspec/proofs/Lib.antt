@@ -1,1 +1,4 @@
 pub mod TestLaws
+pub mod OneSection
+pub mod OneItems
+pub mod OneSpec

@@ -1,5 +1,5 @@
 -- Lines, blanks and words of a specification file. (POSIX, lex, Definitions in lex.)
-use Rattle.std.specs.Prelude.{ℕ, zero, suc, Bool, ◌&&◌, ◌||◌, ◌==◌, nat_eq, if◌then◌else◌, List, [], ◌∷◌, length, Option, Some, None, codes}
+use Rattle.std.specs.Prelude.{ℕ, zero, suc, Bool, true, false, ◌&&◌, ◌||◌, ◌==◌, nat_eq, if◌then◌else◌, List, [], ◌∷◌, length, Option, Some, None, codes}
 use Rattle.std.specs.List.{starts_with}
 use Rattle.lexaction.specs.Reading.{◌>>=◌, Reader}
 
@@ -30,7 +30,8 @@ abbrev pub after_blanks : List ℕ → List ℕ
 after_blanks t = (blanks t).1
 
 abbrev pub is_empty : List ℕ → Bool
-is_empty t = length t == 0
+is_empty [] = true
+is_empty (c ∷ t) = false
 
 abbrev pub begins : List ℕ → List ℕ → Bool
 begins word t = starts_with nat_eq t word
