@@ -2,3 +2,4 @@ pub mod TestLaws
 pub mod OneSection
 pub mod OneItems
 pub mod OneSpec
+pub mod ComputedLines

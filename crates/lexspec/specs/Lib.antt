@@ -6,3 +6,4 @@ pub mod DefinitionLines
 pub mod Items
 pub mod RuleItems
 pub mod Files
+pub mod LineExamples
