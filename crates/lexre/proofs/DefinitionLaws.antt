@@ -1,12 +1,11 @@
 -- What the entries of a map from names to texts stand for.
-use Rattle.std.proofs.Common.{◌≡◌, ℕ, List, [], ◌∷◌, Bool, true, false, cond, Option, Some, None, option_map, is_some, IsSome, IsErrOf, Ok, Err, ◌↔◌, Vec, refl, sym, ap, ◌∙◌}
+use Rattle.std.proofs.Common.{◌≡◌, ℕ, List, [], ◌∷◌, true, false, cond, Option, Some, None, option_map, is_some, IsSome, IsErrOf, Ok, Err, ◌↔◌, Vec, refl, sym, ap, ◌∙◌}
 use Rattle.std.specs.BTreeMap.{insert_entry, is_at}
 use Rattle.std.specs.Cmp.Lexicographic.{slice_cmp, nat_list_cmp_total}
 use Rattle.std.specs.FinMap as map
 use Rattle.std.specs.FinMap.Entries.{by_order, put, find-put}
 use Rattle.std.specs.Map.{lookup}
 use Rattle.std.specs.Ordering.{nat_cmp, eq_by_cmp, is_eq, match_ordering}
-use Rattle.std.specs.declared.cmp.Ordering.{Ordering}
 use Rattle.std.specs.declared.cmp.Ordering.TheVariants.{Less, Equal, Greater}
 use Rattle.lexre.specs.Definitions.{Definitions, texts_of, definitions_of}
 use Rattle.lexre.specs.declared.definitions.DefsError.{DefsError}
@@ -42,11 +41,11 @@ pub one_more : {Y Z : Type 0} (es fs : List (Vec ℕ Y × Vec ℕ Z)) (k : Vec �
     → fs ≡ insert_entry (λ x y. slice_cmp nat_cmp x.items y.items) es k v → definitions_of fs ≡ map.insert (definitions_of es) k.items v.items
 one_more es fs k v e =
     map.same_map nat_list_cmp_total (map.slice_cmp-IsAntisymmetric map.nat_cmp-IsAntisymmetric) (definitions_of fs) (map.insert (definitions_of es) k.items v.items) (λ q.
-      map.get-from_entries nat_list_cmp_total (texts_of fs) q
-      ∙ ap (map.find (slice_cmp nat_cmp) q) (ap texts_of e ∙ texts_of_insert es k v)
-      ∙ find-put (slice_cmp nat_cmp) nat_list_cmp_total q k.items v.items (texts_of es)
-      ∙ ap (cond (eq_by_cmp (slice_cmp nat_cmp) q k.items) (Some v.items)) (sym (map.get-from_entries nat_list_cmp_total (texts_of es) q))
-      ∙ sym (map.get-insert nat_list_cmp_total (definitions_of es) k.items v.items q))
+    map.get-from_entries nat_list_cmp_total (texts_of fs) q
+    ∙ ap (map.find (slice_cmp nat_cmp) q) (ap texts_of e ∙ texts_of_insert es k v)
+    ∙ find-put (slice_cmp nat_cmp) nat_list_cmp_total q k.items v.items (texts_of es)
+    ∙ ap (cond (eq_by_cmp (slice_cmp nat_cmp) q k.items) (Some v.items)) (sym (map.get-from_entries nat_list_cmp_total (texts_of es) q))
+    ∙ sym (map.get-insert nat_list_cmp_total (definitions_of es) k.items v.items q))
 
 is_some-option_map : {A B : Type 0} (f : A → B) (o : Option A) → is_some (option_map f o) ≡ is_some o
 is_some-option_map f None = refl

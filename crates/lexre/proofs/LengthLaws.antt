@@ -4,10 +4,10 @@ use Rattle.std.proofs.Common.{⊎_elim, ◌≡◌, ℕ, zero, suc, ◌+◌, ◌*
 use Rattle.std.proofs.lemmas.Result.{OkIff-at_ok, OkIff-at_err}
 use Rattle.std.specs.Prelude.{IsSomeAnd}
 use Rattle.std.specs.Result.{OkIff, result_ok}
-use Rattle.lexmeaning.specs.ByteSets.{IsIn}
 use Rattle.lexmeaning.specs.Tree.{Tree, Trees, Empty, Set, Cat, Alt, Star, Repeat, no_trees, tree, Joined, UpTo, In, InEach, InSome}
 use Rattle.lexmeaning.specs.Shapes.{Language, LongestIs, HasLengths, IsSoundTree, AreSoundTrees, HasPart}
-use Rattle.lexre.specs.Lengths.{plus, larger, smaller, unbounded, repeated, least, least_of_each, least_of_some, greatest, greatest_of_each, greatest_of_some, capped, PassesLimit}
+use Rattle.lexre.proofs.Narrowing.{fits, too_large}
+use Rattle.lexre.specs.Lengths.{plus, larger, lesser, unbounded, repeated, least, least_of_each, least_of_some, greatest, greatest_of_each, greatest_of_some, capped, PassesLimit}
 
 -- ---- caps
 
@@ -182,15 +182,21 @@ larger_zero : (x : Option ℕ) → larger x (Some 0) ≡ x
 larger_zero None = refl
 larger_zero (Some m) = ap Some (omega arith)
 
+lesser_min : (a b : ℕ) (x : Option ℕ) → unwrap_or (lesser (Some a) (lesser (Some b) x)) 0 ≡ min a (unwrap_or (lesser (Some b) x) 0)
+lesser_min a b None = refl
+lesser_min a b (Some c) = refl
+
 some_step : (t : Tree) (ts : Trees) → HasLengths (In t) (least t) (greatest t)
     → (HasPart ts → HasLengths (InSome ts) (unwrap_or (least_of_some ts) 0) (greatest_of_some ts))
-    → HasLengths (InSome (tree t ts)) (smaller (least t) (least_of_some ts)) (larger (greatest t) (greatest_of_some ts))
+    → HasLengths (InSome (tree t ts)) (unwrap_or (least_of_some (tree t ts)) 0) (larger (greatest t) (greatest_of_some ts))
 some_step t no_trees h rest =
     let P : Option ℕ → Type 0 = λ x. HasLengths (InSome (tree t no_trees)) (least t) x in
     subst P (sym (larger_zero (greatest t)))
     (same_language (In t) (InSome (tree t no_trees)) (least t) (greatest t) (λ w i. inl i) (λ w i. ⊎_elim (λ j. j) (λ j. absurd j) i) h)
 some_step t (tree s ss) h rest =
-    either_lengths (In t) (InSome (tree s ss)) (least t) (smaller (least s) (least_of_some ss)) (greatest t) (larger (greatest s) (greatest_of_some ss)) h (rest tt)
+    along_least (InSome (tree t (tree s ss))) (min (least t) (unwrap_or (least_of_some (tree s ss)) 0)) (unwrap_or (least_of_some (tree t (tree s ss))) 0) (larger (greatest t) (larger (greatest s) (greatest_of_some ss)))
+    (sym (lesser_min (least t) (least s) (least_of_some ss)))
+    (either_lengths (In t) (InSome (tree s ss)) (least t) (unwrap_or (least_of_some (tree s ss)) 0) (greatest t) (larger (greatest s) (greatest_of_some ss)) h (rest tt))
 
 mutual
   pub has_lengths : (t : Tree) → IsSoundTree t → HasLengths (In t) (least t) (greatest t)
@@ -231,30 +237,17 @@ some_passes None m e h = absurd (none_some m e)
     none_some m e = cc
 some_passes (Some n) m e h = let f : m ≡ min (2 ^ 32) n = cc in omega (arith, f)
 
--- a number in 32 bits, or one that does not fit
-
-fits : {E : Type 0} (r : Result ℕ E) (n x : ℕ) → OkIff r (n < 2 ^ 32) n → Some x ≡ result_ok r → (n < 2 ^ 32) × (x ≡ n)
-fits {E} (Ok y) n x h e =
-    let p : (n < 2 ^ 32) × (y ≡ n) = OkIff-at_ok {E = E} (Ok y) (n < 2 ^ 32) n y h refl in
-    let same : x ≡ y = cc in
-    (p.0, same ∙ p.1)
-fits (Err d) n x h e = cc
-
-too_large : {E : Type 0} (r : Result ℕ E) (n : ℕ) → OkIff r (n < 2 ^ 32) n → None ≡ result_ok r → 2 ^ 32 ≤ n
-too_large (Ok y) n h e = cc
-too_large (Err d) n h e = ⊎_elim (λ lt. absurd (OkIff-at_err (Err d) (n < 2 ^ 32) n d h refl lt)) (λ le. le) (cases_lt n (2 ^ 32))
-
 pub passes_by_least : {E : Type 0} (t : Tree) → IsSoundTree t → (r : Result ℕ E) (l : ℕ) → l ≡ capped (least t) → OkIff r (l < 2 ^ 32) l → None ≡ result_ok r → PassesLimit t
-passes_by_least t sound r l e h k = (least t, greatest t, has_lengths t sound, inl (omega (arith, e, too_large r l h k)))
+passes_by_least t sound r l e h k = (least t, greatest t, has_lengths t sound, inl (omega (arith, e, too_large (2 ^ 32) r l h k)))
 
 pub passes_by_greatest : {E : Type 0} (t : Tree) → IsSoundTree t → (r : Result ℕ E) (m : ℕ) → Some m ≡ option_map capped (greatest t) → OkIff r (m < 2 ^ 32) m → None ≡ result_ok r → PassesLimit t
-passes_by_greatest t sound r m e h k = (least t, greatest t, has_lengths t sound, inr (some_passes (greatest t) m e (too_large r m h k)))
+passes_by_greatest t sound r m e h k = (least t, greatest t, has_lengths t sound, inr (some_passes (greatest t) m e (too_large (2 ^ 32) r m h k)))
 
 lengths_are : (t : Tree) → IsSoundTree t → (l : ℕ) (x : Option ℕ) → l ≡ least t → x ≡ greatest t → HasLengths (In t) l x
 lengths_are t sound l x e f = rw (e, f) (has_lengths t sound)
 
 least_is : {E : Type 0} (r : Result ℕ E) (n l min : ℕ) → l ≡ capped n → OkIff r (l < 2 ^ 32) l → Some min ≡ result_ok r → min ≡ n
-least_is r n l min e h k = let p = fits r l min h k in omega (arith, e, p.0, p.1)
+least_is r n l min e h k = let p = fits (2 ^ 32) r l min h k in omega (arith, e, p.0, p.1)
 
 pub found_unbounded : {E : Type 0} (t : Tree) → IsSoundTree t → (r : Result ℕ E) (l min : ℕ) → l ≡ capped (least t) → OkIff r (l < 2 ^ 32) l → Some min ≡ result_ok r
     → None ≡ option_map capped (greatest t) → HasLengths (In t) min None
@@ -263,5 +256,5 @@ found_unbounded t sound r l min e h k f = lengths_are t sound min None (least_is
 pub found_bounded : {D E : Type 0} (t : Tree) → IsSoundTree t → (r : Result ℕ D) (l min : ℕ) → l ≡ capped (least t) → OkIff r (l < 2 ^ 32) l → Some min ≡ result_ok r
     → (q : Result ℕ E) (g max : ℕ) → Some g ≡ option_map capped (greatest t) → OkIff q (g < 2 ^ 32) g → Some max ≡ result_ok q → HasLengths (In t) min (Some max)
 found_bounded t sound r l min e h k q g max f i j =
-    let p = fits q g max i j in
+    let p = fits (2 ^ 32) q g max i j in
     lengths_are t sound min (Some max) (least_is r (least t) l min e h k) (ap Some p.1 ∙ some_is (greatest t) g f p.0)

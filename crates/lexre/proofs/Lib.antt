@@ -1,4 +1,10 @@
 pub mod DefinitionLaws
+pub mod EscapeLaws
+pub mod GrammarLaws
 pub mod LengthLaws
+pub mod Narrowing
+pub mod OneTree
 pub mod ReadingLaws
+pub mod Rows
+pub mod RunLaws
 pub mod SetLaws

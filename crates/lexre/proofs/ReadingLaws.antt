@@ -1,5 +1,5 @@
 -- Which positions a reading uses.
-use Rattle.std.proofs.Common.{◌≡◌, ℕ, zero, suc, ◌+◌, ◌-◌, ◌*◌, ◌≤◌, ◌<◌, min, max, List, [], ◌∷◌, ◌++◌, Option, Some, None, ◌⊎◌, inl, inr, ⊎_elim, refl, ap, subst, arith}
+use Rattle.std.proofs.Common.{◌≡◌, ℕ, zero, suc, ◌+◌, ◌-◌, ◌*◌, ◌≤◌, ◌<◌, min, List, [], ◌∷◌, ◌++◌, Option, Some, None, ◌⊎◌, inl, inr, ⊎_elim, ap, subst, arith}
 use Rattle.lexmeaning.specs.Positions.{Cell, Readings, Passes, Reads, ReadsEach, ReadsSome, positions, positions_of, copies}
 use Rattle.lexmeaning.specs.Text.{Among}
 use Rattle.lexmeaning.specs.Tree.{Tree, Trees, Empty, Set, Cat, Alt, Star, Repeat, no_trees, tree, UpTo}
@@ -46,10 +46,10 @@ mutual
   uses (Repeat t m n) base rs (zero, low, high, h) = nothing base (base + copies m n * positions t) rs h
   uses (Repeat t m n) base rs (suc k, low, high, h) =
       passing (λ j. Reads t (base + min j (copies m n - 1) * positions t)) base (base + copies m n * positions t) (λ j us read.
-        let at = min j (copies m n - 1) in
-        let some : 1 ≤ copies m n = some_copy m n k high in
-        let fits : at * positions t + positions t ≤ copies m n * positions t = copy_fits at (copies m n) (positions t) (omega arith) in
-        wider (base + at * positions t) (base + at * positions t + positions t) base (base + copies m n * positions t) us (omega arith) (omega arith) (uses t (base + at * positions t) us read))
+      let at = min j (copies m n - 1) in
+      let some : 1 ≤ copies m n = some_copy m n k high in
+      let fits : at * positions t + positions t ≤ copies m n * positions t = copy_fits at (copies m n) (positions t) (omega arith) in
+      wider (base + at * positions t) (base + at * positions t + positions t) base (base + copies m n * positions t) us (omega arith) (omega arith) (uses t (base + at * positions t) us read))
       0 (suc k) rs h
 
   uses_each : (ts : Trees) (base : ℕ) (rs : List Cell) → ReadsEach ts base rs → UsesFrom base (base + positions_of ts) rs

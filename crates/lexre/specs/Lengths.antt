@@ -1,5 +1,5 @@
 -- The lengths of a tree's words, by cases on the tree. (This project's; that they are those of its language is proved.)
-use Rattle.std.specs.Prelude.{◌≡◌, ℕ, zero, suc, ◌+◌, ◌*◌, ◌^◌, ◌≤◌, min, max, Option, Some, None, unwrap_or, option_map, IsSomeAnd, ◌⊎◌}
+use Rattle.std.specs.Prelude.{ℕ, zero, suc, ◌+◌, ◌*◌, ◌^◌, ◌≤◌, min, max, Option, Some, None, unwrap_or, option_map, IsSomeAnd, ◌⊎◌}
 use Rattle.lexmeaning.specs.Tree.{Tree, Trees, Empty, Set, Cat, Alt, Star, Repeat, no_trees, tree, In}
 use Rattle.lexmeaning.specs.Shapes.{HasLengths}
 
@@ -15,10 +15,11 @@ larger (Some m) (Some n) = Some (max m n)
 larger (Some m) None = None
 larger None n = None
 
--- the smaller, where the second may be missing
-abbrev pub smaller : ℕ → Option ℕ → ℕ
-smaller m None = m
-smaller m (Some n) = min m n
+-- the smaller of two least lengths, of which one may be missing
+abbrev pub lesser : Option ℕ → Option ℕ → Option ℕ
+lesser (Some m) (Some n) = Some (min m n)
+lesser (Some m) None = Some m
+lesser None n = n
 
 -- any number of times: no greatest length, but where only nothing is repeated
 abbrev pub unbounded : Option ℕ → Option ℕ
@@ -46,7 +47,7 @@ abbrev mutual
 
   pub least_of_some : Trees → Option ℕ
   least_of_some no_trees = None
-  least_of_some (tree t ts) = Some (smaller (least t) (least_of_some ts))
+  least_of_some (tree t ts) = lesser (Some (least t)) (least_of_some ts)
 
 abbrev mutual
   pub greatest : Tree → Option ℕ

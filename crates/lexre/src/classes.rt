@@ -60,7 +60,8 @@ impl Class {
             Class::Graph => matches!(byte, b'!'..=b'~'),
             Class::Print => matches!(byte, b' '..=b'~'),
             Class::Punct => {
-                matches!(byte, b'!'..=b'~') && !matches!(byte, b'A'..=b'Z' | b'a'..=b'z' | b'0'..=b'9')
+                matches!(byte, b'!'..=b'~')
+                    && !matches!(byte, b'A'..=b'Z' | b'a'..=b'z' | b'0'..=b'9')
             }
             Class::Xdigit => matches!(byte, b'0'..=b'9' | b'A'..=b'F' | b'a'..=b'f'),
         }

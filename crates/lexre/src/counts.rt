@@ -1,4 +1,4 @@
-//! Counts of a pattern.
+//! The positions of a pattern: the places of it that read a byte.
 ghost use Rattle.std.specs.Prelude.{◌≡◌, ◌<◌, ◌≤◌, ◌^◌, min, map, IfSome, IfNone};
 ghost use Rattle.lexmeaning.specs.Positions.{positions, positions_of};
 ghost use Rattle.lexmeaning.specs.Tree.{trees};
@@ -9,7 +9,8 @@ use crate::pattern::Pattern;
 /// A count above this is as good as this.
 const CAP: u64 = 1 << 32;
 
-/// How many places of the pattern read a byte.
+/// How many positions the pattern has: one for each set, in each copy that a repetition counts. None exactly where there
+/// are more than 4,294,967,295.
 pub fn positions(pattern: &Pattern) -> Option<u32>
     ensures found { IfSome result (λ n. n ≡ positions (tree_of pattern.now)) }
     ensures none { IfNone result (2 ^ 32 ≤ positions (tree_of pattern.now)) }
@@ -42,9 +43,8 @@ fn capped_positions_of(parts: &[Pattern]) -> u64
     ensures { result ≡ min (2 ^ 32) (positions_of (trees (map tree_of parts.now))) }
 {
     let mut total = 0;
-    for i in (0..parts.len()).rev() {
-        total = (total + capped_positions(&parts[i])).min(CAP);
+    for part in parts {
+        total = (total + capped_positions(part)).min(CAP);
     }
     total
 }
-

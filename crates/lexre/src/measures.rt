@@ -13,7 +13,7 @@ const CAP: u64 = 1 << 32;
 
 /// The least length of the words that the pattern matches, in bytes, and the greatest where lengths are bounded, of the
 /// language and not of its parts: `(""*)` has the greatest length 0. None exactly where one of the two passes
-/// 4,294,967,295. Takes no memory but stack, in proportion to the depth of the tree.
+/// 4,294,967,295.
 pub fn lengths(pattern: &Pattern) -> Option<Lengths>
     requires { IsSoundTree (tree_of pattern.now) }
     ensures found { IfSome result (λ l. HasLengths (In (tree_of pattern.now)) l.min l.max) }
@@ -46,8 +46,8 @@ fn capped_least_of_each(parts: &[Pattern]) -> u64
     ensures { result ≡ capped (least_of_each (trees (map tree_of parts.now))) }
 {
     let mut total = 0;
-    for i in (0..parts.len()).rev() {
-        total = (total + capped_least(&parts[i])).min(CAP);
+    for part in parts {
+        total = (total + capped_least(part)).min(CAP);
     }
     total
 }
@@ -57,12 +57,8 @@ fn capped_least_of_some(parts: &[Pattern]) -> Option<u64>
     ensures { result ≡ option_map capped (least_of_some (trees (map tree_of parts.now))) }
 {
     let mut found: Option<u64> = None;
-    for i in (0..parts.len()).rev() {
-        let here = capped_least(&parts[i]);
-        found = match found {
-            None => Some(here),
-            Some(least) => Some(here.min(least)),
-        };
+    for part in parts {
+        found = Some(found.unwrap_or(CAP).min(capped_least(part)));
     }
     found
 }
@@ -102,26 +98,20 @@ fn repeated(times: Option<u8>, most: Option<u64>) -> Option<u64>
 fn capped_greatest_of_each(parts: &[Pattern]) -> Option<u64>
     ensures { result ≡ option_map capped (greatest_of_each (trees (map tree_of parts.now))) }
 {
-    let mut total: Option<u64> = Some(0);
-    for i in (0..parts.len()).rev() {
-        total = match (capped_greatest(&parts[i]), total) {
-            (Some(here), Some(rest)) => Some((here + rest).min(CAP)),
-            _ => None,
-        };
+    let mut total = 0;
+    for part in parts {
+        total = (total + capped_greatest(part)?).min(CAP);
     }
-    total
+    Some(total)
 }
 
 #[cycle(greatest)]
 fn capped_greatest_of_some(parts: &[Pattern]) -> Option<u64>
     ensures { result ≡ option_map capped (greatest_of_some (trees (map tree_of parts.now))) }
 {
-    let mut most: Option<u64> = Some(0);
-    for i in (0..parts.len()).rev() {
-        most = match (capped_greatest(&parts[i]), most) {
-            (Some(here), Some(rest)) => Some(here.max(rest)),
-            _ => None,
-        };
+    let mut most = 0;
+    for part in parts {
+        most = capped_greatest(part)?.max(most);
     }
-    most
+    Some(most)
 }

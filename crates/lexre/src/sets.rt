@@ -2,9 +2,8 @@
 ghost use Rattle.std.specs.Prelude.{◌≡◌, ℕ, ◌<◌, ◌≤◌, ◌↔◌, Bool, IsTrue};
 ghost use Rattle.lexmeaning.specs.ByteSets.{has, set_of, empty_set, single, range_set, union, complement, fold_case, named_set};
 
-use std::marker::Model;
-
 use crate::classes::{Class, other_case};
+use std::marker::Model;
 
 /// A set of bytes. Bit b of the two words says whether the byte b is in it.
 #[derive(Clone, Copy, PartialEq, Eq, Debug)]

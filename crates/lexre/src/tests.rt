@@ -4,7 +4,10 @@ ghost use Rattle.std.specs.Prelude.{◌≤◌, IfOk};
 ghost use Rattle.lexmeaning.specs.Shapes.{IsSoundTree};
 ghost use Rattle.lexre.specs.Views.{tree_of};
 
-use crate::{ByteSet, Defs, DefsError, Lengths, Pattern, lengths, positions, readings_use_own_positions};
+use crate::{
+    ByteSet, Defs, DefsError, Lengths, Pattern, lengths, one_tree, positions,
+    readings_use_own_positions,
+};
 use std::alloc::{AllocError, Global};
 use std::test::Fail;
 
@@ -48,13 +51,17 @@ fn alt(alloc: Global, first: Pattern, second: Pattern) -> Result<Pattern, AllocE
 #[test]
 fn laws() {
     readings_use_own_positions();
+    one_tree();
 }
 
 #[test]
 fn sets(rt: HostRuntime) {
     let letters = ByteSet::range(b'a', b'c').fold_case();
     assert!(rt; letters.contains(b'B') && letters.contains(b'c') && !letters.contains(b'd'));
-    assert!(rt; ByteSet::range(b'@', b'[').fold_case() == ByteSet::range(b'@', b'[').union(&ByteSet::range(b'a', b'z')));
+    assert!(rt;
+        ByteSet::range(b'@', b'[').fold_case()
+            == ByteSet::range(b'@', b'[').union(&ByteSet::range(b'a', b'z'))
+    );
     assert!(rt; ByteSet::of(200).complement().complement() == ByteSet::of(200));
     assert!(rt; ByteSet::of(7).union(&ByteSet::empty()) == ByteSet::of(7));
     assert!(rt; ByteSet::range(0, 255).complement().is_empty() && !ByteSet::of(255).is_empty());
@@ -90,7 +97,12 @@ fn classes(rt: HostRuntime) {
         assert_eq!(rt; members, count);
         assert!(rt; class.contains(first) && class.contains(last));
     }
-    for name in [b"word".as_slice(), b"Alpha".as_slice(), b"".as_slice(), b"alphas".as_slice()] {
+    for name in [
+        b"word".as_slice(),
+        b"Alpha".as_slice(),
+        b"".as_slice(),
+        b"alphas".as_slice(),
+    ] {
         assert!(rt; ByteSet::named(name).is_none());
     }
 }
@@ -103,7 +115,13 @@ fn counts(rt: HostRuntime) -> Result<(), Fail> {
     let twice = repeat(alloc, byte(b'a'), 2, Some(3))?;
     let maybe = repeat(alloc, byte(b'b'), 0, Some(1))?;
     let pattern = cat(alloc, twice, maybe)?;
-    assert_eq!(rt; lengths(&pattern), Some(Lengths { min: 2, max: Some(4) }));
+    assert_eq!(rt;
+        lengths(&pattern),
+        Some(Lengths {
+            min: 2,
+            max: Some(4)
+        })
+    );
     assert_eq!(rt; positions(&pattern), Some(4));
 
     // (ab)*
@@ -114,7 +132,13 @@ fn counts(rt: HostRuntime) -> Result<(), Fail> {
 
     // (""*)
     let pattern = star(alloc, Pattern::Empty)?;
-    assert_eq!(rt; lengths(&pattern), Some(Lengths { min: 0, max: Some(0) }));
+    assert_eq!(rt;
+        lengths(&pattern),
+        Some(Lengths {
+            min: 0,
+            max: Some(0)
+        })
+    );
     assert_eq!(rt; positions(&pattern), Some(0));
 
     // a{0,}
@@ -141,7 +165,13 @@ fn counts_past_the_limit(rt: HostRuntime) -> Result<(), Fail> {
 
     let pattern = huge(alloc, 3)?;
     let most = 255 * 255 * 255;
-    assert_eq!(rt; lengths(&pattern), Some(Lengths { min: most, max: Some(most) }));
+    assert_eq!(rt;
+        lengths(&pattern),
+        Some(Lengths {
+            min: most,
+            max: Some(most)
+        })
+    );
     assert_eq!(rt; positions(&pattern), Some(most));
 
     let pattern = huge(alloc, 5)?;
@@ -198,7 +228,13 @@ fn counts_of_65536_nodes(rt: HostRuntime) -> Result<(), Fail> {
     let alloc = rt.alloc();
     let deep = deepest(alloc)?;
     let pattern = lengthened(alloc, deep, 61_114)?;
-    assert_eq!(rt; lengths(&pattern), Some(Lengths { min: 61_115, max: None }));
+    assert_eq!(rt;
+        lengths(&pattern),
+        Some(Lengths {
+            min: 61_115,
+            max: None
+        })
+    );
     assert_eq!(rt; positions(&pattern), Some(61_245));
     Ok(())
 }

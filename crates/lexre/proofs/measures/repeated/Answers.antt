@@ -1,4 +1,4 @@
-use Rattle.std.proofs.Common.{◌≡◌, ◌∙◌, sym, arith}
+use Rattle.std.proofs.Common.{◌∙◌, sym, arith}
 use Rattle.lexre.proofs.LengthLaws.{capped_scaled}
 use Rattle.lexre.proofs.measures.repeated.Goals as goal
 

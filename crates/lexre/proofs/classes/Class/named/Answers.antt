@@ -1,4 +1,4 @@
-use Rattle.std.proofs.Common.{◌≡◌, ℕ, suc, ◌<◌, ◌≤◌, List, [], ◌∷◌, length, get_or, Some, refl, rules, arith}
+use Rattle.std.proofs.Common.{◌≡◌, ℕ, ◌<◌, ◌≤◌, List, [], ◌∷◌, length, get_or, Some, refl, rules, arith}
 use Rattle.lexmeaning.specs.ByteSets.{named_set, set_of, is_xdigit}
 use Rattle.lexre.proofs.classes.Class.named.Goals as goal
 

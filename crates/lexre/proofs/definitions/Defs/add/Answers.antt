@@ -1,4 +1,4 @@
-use Rattle.std.proofs.Common.{◌≡◌, ◌∙◌, sym}
+use Rattle.std.proofs.Common.{◌∙◌, sym}
 use Rattle.std.proofs.lemmas.Result.{err_from_is_err_and}
 use Rattle.lexre.proofs.DefinitionLaws.{one_more, when_taken, when_added, when_refused}
 use Rattle.lexre.proofs.definitions.Defs.add.Goals as goal

@@ -1,5 +1,4 @@
-use Rattle.std.proofs.Common.{◌≡◌, ◌∙◌, sym, ap, Some, option_map}
-use Rattle.std.specs.FinMap as map
+use Rattle.std.proofs.Common.{◌∙◌, sym, ap, Some, option_map}
 use Rattle.lexre.proofs.DefinitionLaws.{get_text}
 use Rattle.lexre.proofs.definitions.Defs.find.Goals as goal
 
