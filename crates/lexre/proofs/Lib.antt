@@ -4,6 +4,7 @@ pub mod GrammarLaws
 pub mod LengthLaws
 pub mod Narrowing
 pub mod OneTree
+pub mod QuoteLaws
 pub mod ReadingLaws
 pub mod Rows
 pub mod RunLaws

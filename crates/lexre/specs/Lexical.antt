@@ -79,6 +79,10 @@ quoted_at (suc n) (c ∷ t) =
     else if c == 10 then None
     else (if c == 92 then escape_at t else Some (c, t)) >>= λ (b, rest). quoted_at n rest >>= λ (bs, after). Some (b ∷ bs, after)
 
+-- what follows a text in quotes, after its first quote
+unfoldable pub after_quotes : List ℕ → Option (List ℕ)
+after_quotes t = quoted_at (suc (length t)) t >>= λ (bs, rest). Some rest
+
 unfoldable pub quoted_tree : Bool → List ℕ → Tree
 quoted_tree fold [] = Empty
 quoted_tree fold (b ∷ []) = Set (folded fold (single b))
@@ -236,7 +240,7 @@ symbol_at fold (c ∷ t) =
     else if c == 43 then Some (sign once_or_more, t)
     else if c == 63 then Some (sign at_most_once, t)
     else if c == 46 then Some (item (Set (complement (single 10))), t)
-    else if c == 34 then (quoted_at (length t + 1) t >>= λ (bs, rest). Some (item (quoted_tree fold bs), rest))
+    else if c == 34 then (quoted_at (suc (length t)) t >>= λ (bs, rest). Some (item (quoted_tree fold bs), rest))
     else if c == 91 then (class_at t >>= λ (negated, es, rest). class_set fold negated es >>= λ s. Some (item (Set s), rest))
     else if c == 92 then (escape_at t >>= λ (b, rest). Some (item (Set (folded fold (single b))), rest))
     else if c == 123 then braces_at t
