@@ -1,3 +1,4 @@
+pub mod BracketLaws
 pub mod DefinitionLaws
 pub mod EscapeLaws
 pub mod GrammarLaws
