@@ -4,7 +4,7 @@ use Rattle.std.proofs.lemmas.Bool.{lt-ltb, le-ltb}
 use Rattle.std.specs.List.{ends_with}
 use Rattle.std.specs.Prelude.{codes}
 use Rattle.lexmeaning.specs.ByteSets.{is_alpha}
-use Rattle.lexre.specs.Lexical.{take_up_to, is_empty, after_word, letters_at, named_at, enclosed_at, ◌>>=◌}
+use Rattle.lexre.specs.Lexical.{take_up_to, is_empty, after_word, letters_at, named_at, enclosed_at, unsupported_at, ◌>>=◌}
 
 abbrev Cut : Type 0
 Cut = Option (List ℕ × List ℕ)
@@ -49,3 +49,16 @@ neither false o = refl
 
 pub enclosed_other : (c : ℕ) (t bytes rest : List ℕ) → IsInside t bytes rest → ends_with nat_eq bytes (c ∷ []) ≡ false → enclosed_at c t ≡ None
 enclosed_other c t bytes rest e ends = enclosed_from c t bytes rest e ∙ rw ends (neither (nat_lt 1 (length bytes)) (after_word (codes "]") rest))
+
+pub negated_then : (t u : List ℕ) (o : Cut) → after_word (codes "[:^") t ≡ Some u → ◌≡◌ {A = Cut} (letters_at u) o → unsupported_at t ≡ (o >>= λ (letters, after). Some after)
+unfolding unsupported_at after_word
+negated_then t u o e f = rw (e, f) refl
+
+pub equivalence_then : (t u : List ℕ) (o : Option (List ℕ)) → after_word (codes "[:^") t ≡ None → after_word (codes "[=") t ≡ Some u → enclosed_at 61 u ≡ o → unsupported_at t ≡ o
+unfolding unsupported_at after_word
+equivalence_then t u o e f g = rw (e, f) g
+
+pub collating_then : (t : List ℕ) (o : Option (List ℕ)) → after_word (codes "[:^") t ≡ None → after_word (codes "[=") t ≡ None → after_word (codes "[.") t ≡ o
+    → unsupported_at t ≡ (o >>= enclosed_at 46)
+unfolding unsupported_at after_word
+collating_then t o e f g = rw (e, f) (ap (λ x. x >>= enclosed_at 46) g)
