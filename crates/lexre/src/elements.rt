@@ -1,0 +1,31 @@
+//! The elements of a class. (POSIX, Base Definitions, RE Bracket Expression.)
+ghost use Rattle.std.specs.Prelude.{◌≡◌, List, ℕ, Option, Some, None, MatchResult, option_map};
+ghost use Rattle.lexre.specs.Lexical.{Element, bracketed_at, element_at, is_range, range_at};
+ghost use Rattle.lexre.specs.Elements.{element_of};
+
+use crate::brackets::{class_byte_at, named_at, skip_unsupported};
+use crate::error::{Fault, PatternErrorKind};
+use crate::parts::Part;
+
+/// `[:name:]`, or what is like it and not supported, and what follows it.
+#[tactic(auto, unfolding(crate::specs::Lexical::bracketed_at))]
+fn bracketed_at(text: &[u8]) -> Option<(Part<'_>, &[u8])>
+    ensures { ◌≡◌ {A = Option (Element × List ℕ)} (bracketed_at text.now) (option_map (λ x. (element_of x.0, x.1.now)) result) }
+{
+    if let Some((letters, rest)) = named_at(text) {
+        return Some((Part::Named(letters), rest));
+    }
+    let rest = skip_unsupported(text)?;
+    Some((Part::Refused(PatternErrorKind::UnsupportedBracket), rest))
+}
+
+/// Whether a range goes on here: a `-` that is followed by anything but an unescaped `]`.
+#[tactic(auto, unfolding(crate::specs::Lexical::is_range))]
+fn is_range(text: &[u8]) -> bool
+    ensures { result ≡ is_range text.now }
+{
+    match text {
+        [first, second, ..] => *first == b'-' && *second != b']',
+        _ => false,
+    }
+}
