@@ -1,5 +1,6 @@
 pub mod BracketLaws
 pub mod DefinitionLaws
+pub mod ElementLaws
 pub mod EscapeLaws
 pub mod GrammarLaws
 pub mod LengthLaws

@@ -29,3 +29,34 @@ fn is_range(text: &[u8]) -> bool
         _ => false,
     }
 }
+
+/// After the first end of a range and its `-`: the range, and what follows it.
+#[tactic(auto, unfolding(crate::specs::Lexical::range_at))]
+fn range_at<'a>(class: &'a [u8], low: u8, text: &'a [u8]) -> Result<(Part<'a>, &'a [u8]), Fault<'a>>
+    ensures { MatchResult result (λ x. ◌≡◌ {A = Option (Element × List ℕ)} (range_at low text.now) (Some (element_of x.0, x.1.now))) (λ _. ◌≡◌ {A = Option (Element × List ℕ)} (range_at low text.now) None) }
+{
+    match bracketed_at(text) {
+        Some((Part::Named(_), rest)) => Ok((Part::Refused(PatternErrorKind::BadRange), rest)),
+        Some((_, rest)) => Ok((Part::Refused(PatternErrorKind::UnsupportedBracket), rest)),
+        None => {
+            let (high, rest) = class_byte_at(class, text)?;
+            Ok((Part::Span(low, high), rest))
+        }
+    }
+}
+
+/// An element of a class, and what follows it. `class` is the text from the class on, at which it is told that the class is
+/// not closed.
+#[tactic(auto, unfolding(crate::specs::Lexical::element_at))]
+pub(crate) fn element_at<'a>(class: &'a [u8], text: &'a [u8]) -> Result<(Part<'a>, &'a [u8]), Fault<'a>>
+    ensures { MatchResult result (λ x. ◌≡◌ {A = Option (Element × List ℕ)} (element_at text.now) (Some (element_of x.0, x.1.now))) (λ _. ◌≡◌ {A = Option (Element × List ℕ)} (element_at text.now) None) }
+{
+    if let Some(found) = bracketed_at(text) {
+        return Ok(found);
+    }
+    let (low, rest) = class_byte_at(class, text)?;
+    match rest.split_first() {
+        Some((_, after)) if is_range(rest) => range_at(class, low, after),
+        _ => Ok((Part::Span(low, low), rest)),
+    }
+}
