@@ -1,5 +1,5 @@
 -- The elements of a class.
-use Rattle.std.proofs.Common.{◌≡◌, ℕ, Bool, false, List, [], ◌∷◌, length, Option, Some, None, refl, arith}
+use Rattle.std.proofs.Common.{◌≡◌, ℕ, false, List, [], ◌∷◌, length, Option, Some, None, refl, arith}
 use Rattle.lexre.specs.Lexical.{Element, span, after_word, named_at, bracketed_at, class_byte_at, is_range, element_at}
 
 abbrev Found : Type 0

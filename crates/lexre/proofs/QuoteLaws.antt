@@ -1,9 +1,8 @@
 -- Texts in quotes, byte by byte.
-use Rattle.std.proofs.Common.{◌≡◌, ℕ, zero, suc, ◌+◌, ◌<◌, ◌≤◌, Bool, true, false, nat_lt, ◌==◌, if◌then◌else◌, List, [], ◌∷◌, length, Option, Some, None, option_map, unwrap_or, refl, sym, ap, ◌∙◌, subst, arith}
+use Rattle.std.proofs.Common.{◌≡◌, ℕ, zero, suc, ◌<◌, ◌≤◌, Bool, true, false, nat_lt, ◌==◌, if◌then◌else◌, List, [], ◌∷◌, length, Option, Some, None, unwrap_or, refl, sym, ap, ◌∙◌, subst, arith}
 use Rattle.std.proofs.lemmas.Bool.Decides.{nat_tests}
 use Rattle.lexmeaning.specs.ByteSets.{within, is_xdigit}
 use Rattle.lexre.specs.Lexical.{take_up_to, value, is_empty, octal_at, hexadecimal_at, control, escape_at, quoted_at, after_quotes, ◌>>=◌}
-use Rattle.lexre.proofs.OneTree.{some_is}
 
 abbrev Found : Type 0
 Found = Option (ℕ × List ℕ)

@@ -1,7 +1,6 @@
 -- What a `Part` of a class stands for.
 use Rattle.lexre.specs.Lexical.{Element, span, named, unsupported}
 use Rattle.lexre.specs.declared.parts.Part.{Part}
-use Rattle.lexre.specs.declared.parts.Part.TheVariants as Part
 
 abbrev pub element_of : Part → Element
 element_of (Part.Span lo hi) = span lo hi

@@ -67,7 +67,10 @@ pub(crate) fn skip_unsupported(text: &[u8]) -> Option<&[u8]>
 /// A byte of a class, and what follows it: an escape, or any byte but a newline. `class` is the text from the class on, at
 /// which it is told that the class is not closed.
 #[tactic(auto, unfolding(crate::specs::Lexical::class_byte_at))]
-pub(crate) fn class_byte_at<'a>(class: &'a [u8], text: &'a [u8]) -> Result<(u8, &'a [u8]), Fault<'a>>
+pub(crate) fn class_byte_at<'a>(
+    class: &'a [u8],
+    text: &'a [u8],
+) -> Result<(u8, &'a [u8]), Fault<'a>>
     ensures { MatchResult result (λ x. ◌≡◌ {A = Option (ℕ × List ℕ)} (class_byte_at text.now) (Some (x.0, x.1.now))) (λ _. ◌≡◌ {A = Option (ℕ × List ℕ)} (class_byte_at text.now) None) }
 {
     let unclosed = Fault {

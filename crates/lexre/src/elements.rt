@@ -48,7 +48,10 @@ fn range_at<'a>(class: &'a [u8], low: u8, text: &'a [u8]) -> Result<(Part<'a>, &
 /// An element of a class, and what follows it. `class` is the text from the class on, at which it is told that the class is
 /// not closed.
 #[tactic(auto, unfolding(crate::specs::Lexical::element_at))]
-pub(crate) fn element_at<'a>(class: &'a [u8], text: &'a [u8]) -> Result<(Part<'a>, &'a [u8]), Fault<'a>>
+pub(crate) fn element_at<'a>(
+    class: &'a [u8],
+    text: &'a [u8],
+) -> Result<(Part<'a>, &'a [u8]), Fault<'a>>
     ensures { MatchResult result (λ x. ◌≡◌ {A = Option (Element × List ℕ)} (element_at text.now) (Some (element_of x.0, x.1.now))) (λ _. ◌≡◌ {A = Option (Element × List ℕ)} (element_at text.now) None) }
 {
     if let Some(found) = bracketed_at(text) {

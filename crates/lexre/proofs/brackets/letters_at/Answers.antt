@@ -1,4 +1,4 @@
-use Rattle.std.proofs.Common.{◌≡◌, ◌∙◌, sym, rules, None, Some}
+use Rattle.std.proofs.Common.{◌∙◌, sym, rules, None, Some}
 use Rattle.lexmeaning.specs.ByteSets.{is_alpha}
 use Rattle.lexre.proofs.BracketLaws.{no_letters, letters_then}
 use Rattle.lexre.proofs.brackets.letters_at.Goals as goal

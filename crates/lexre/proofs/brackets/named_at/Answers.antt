@@ -1,4 +1,4 @@
-use Rattle.std.proofs.Common.{◌≡◌, ◌∙◌, None, Some}
+use Rattle.std.proofs.Common.{◌∙◌, None, Some}
 use Rattle.lexre.proofs.BracketLaws.{named_then}
 use Rattle.lexre.proofs.brackets.named_at.Goals as goal
 

@@ -1,4 +1,4 @@
-use Rattle.std.proofs.Common.{◌≡◌, ◌∙◌, ◌==◌, ◌||◌, not, sym, rules, arith}
+use Rattle.std.proofs.Common.{◌∙◌, ◌==◌, ◌||◌, not, sym, rules, arith}
 use Rattle.lexre.proofs.BracketLaws.{enclosed_then, enclosed_short, enclosed_other}
 use Rattle.lexre.proofs.brackets.skip_enclosed.Goals as goal
 use Rattle.lexre.proofs.brackets.skip_enclosed.Goals.{else-bytes-gt1-via-then-bytes-gt1+else-ends_with, else-bytes-gt1-via-else-bytes-gt1}

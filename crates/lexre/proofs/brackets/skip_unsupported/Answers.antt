@@ -1,4 +1,4 @@
-use Rattle.std.proofs.Common.{◌≡◌, ◌∙◌, Some, None}
+use Rattle.std.proofs.Common.{◌∙◌, Some, None}
 use Rattle.lexre.proofs.BracketLaws.{negated_then, equivalence_then, collating_then}
 use Rattle.lexre.proofs.brackets.skip_unsupported.Goals as goal
 

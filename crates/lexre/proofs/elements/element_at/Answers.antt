@@ -1,4 +1,4 @@
-use Rattle.std.proofs.Common.{◌≡◌, ◌∙◌, sym}
+use Rattle.std.proofs.Common.{◌∙◌, sym}
 use Rattle.lexre.proofs.ElementLaws.{lone_byte, no_range}
 use Rattle.lexre.proofs.elements.element_at.Goals as goal
 use Rattle.lexre.proofs.elements.element_at.Goals.{in_default-split_first-via-in-Some-split_first+else-is_range, in_default-split_first-via-in_default-split_first}
