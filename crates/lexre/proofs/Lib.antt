@@ -1,3 +1,4 @@
+pub mod BraceLaws
 pub mod BracketLaws
 pub mod DefinitionLaws
 pub mod ElementLaws

@@ -213,8 +213,8 @@ interval_at t =
 -- at a letter or `_`: letters, digits, `_` and `-`, and `}`
 unfoldable pub name_at : List ℕ → Option (Symbol × List ℕ)
 name_at t =
-    let (n, rest) = take_run (λ c. is_alnum c || c == 95 || c == 45) t in
-    if begins (codes "}") rest then Some (name n, drop 1 rest) else None
+    let (letters, rest) = take_run (λ c. is_alnum c || c == 95 || c == 45) t in
+    after_word (codes "}") rest >>= λ after. Some (name letters, after)
 
 unfoldable pub braces_at : List ℕ → Option (Symbol × List ℕ)
 braces_at [] = None

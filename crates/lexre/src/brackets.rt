@@ -1,23 +1,11 @@
 //! What stands between brackets inside a class. (POSIX, Base Definitions, RE Bracket Expression.)
 ghost use Rattle.std.specs.Prelude.{◌≡◌, ℕ, List, Option, Some, None, MatchResult, option_map};
-ghost use Rattle.lexre.specs.Lexical.{after_word, class_byte_at, enclosed_at, letters_at, named_at, unsupported_at};
+ghost use Rattle.lexre.specs.Lexical.{class_byte_at, enclosed_at, letters_at, named_at, unsupported_at};
 
 use crate::classes::Class;
 use crate::error::{Fault, PatternErrorKind};
 use crate::escapes::escape_at;
-use crate::runs::take_up_to;
-
-/// What follows the word, where the text begins with it.
-#[tactic(auto, unfolding(crate::specs::Lexical::after_word))]
-fn skip_word<'a>(word: &[u8], text: &'a [u8]) -> Option<&'a [u8]>
-    ensures { after_word word.now text.now ≡ option_map (λ x. x.now) result }
-{
-    if text.starts_with(word) {
-        text.get(word.len()..)
-    } else {
-        None
-    }
-}
+use crate::runs::{skip_word, take_up_to};
 
 /// At least one letter, and `:]`: the letters, and what follows.
 fn letters_at(text: &[u8]) -> Option<(&[u8], &[u8])>

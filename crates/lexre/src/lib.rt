@@ -2,6 +2,7 @@
 #![tactic(auto)]
 
 mod bounds;
+mod braces;
 mod brackets;
 mod classes;
 mod counts;
