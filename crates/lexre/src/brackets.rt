@@ -59,7 +59,9 @@ pub(crate) fn class_byte_at<'a>(
     class: &'a [u8],
     text: &'a [u8],
 ) -> Result<(u8, &'a [u8]), Fault<'a>>
-    ensures { MatchResult result (λ x. ◌≡◌ {A = Option (ℕ × List ℕ)} (class_byte_at text.now) (Some (x.0, x.1.now))) (λ _. ◌≡◌ {A = Option (ℕ × List ℕ)} (class_byte_at text.now) None) }
+    ensures { MatchResult result
+        (λ x. ◌≡◌ {A = Option (ℕ × List ℕ)} (class_byte_at text.now) (Some (x.0, x.1.now)))
+        (λ _. ◌≡◌ {A = Option (ℕ × List ℕ)} (class_byte_at text.now) None) }
 {
     let unclosed = Fault {
         kind: PatternErrorKind::UnclosedClass,

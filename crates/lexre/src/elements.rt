@@ -33,7 +33,9 @@ fn is_range(text: &[u8]) -> bool
 /// After the first end of a range and its `-`: the range, and what follows it.
 #[tactic(auto, unfolding(crate::specs::Lexical::range_at))]
 fn range_at<'a>(class: &'a [u8], low: u8, text: &'a [u8]) -> Result<(Part<'a>, &'a [u8]), Fault<'a>>
-    ensures { MatchResult result (λ x. ◌≡◌ {A = Option (Element × List ℕ)} (range_at low text.now) (Some (element_of x.0, x.1.now))) (λ _. ◌≡◌ {A = Option (Element × List ℕ)} (range_at low text.now) None) }
+    ensures { MatchResult result
+        (λ x. ◌≡◌ {A = Option (Element × List ℕ)} (range_at low text.now) (Some (element_of x.0, x.1.now)))
+        (λ _. ◌≡◌ {A = Option (Element × List ℕ)} (range_at low text.now) None) }
 {
     match bracketed_at(text) {
         Some((Part::Named(_), rest)) => Ok((Part::Refused(PatternErrorKind::BadRange), rest)),
@@ -52,7 +54,9 @@ pub(crate) fn element_at<'a>(
     class: &'a [u8],
     text: &'a [u8],
 ) -> Result<(Part<'a>, &'a [u8]), Fault<'a>>
-    ensures { MatchResult result (λ x. ◌≡◌ {A = Option (Element × List ℕ)} (element_at text.now) (Some (element_of x.0, x.1.now))) (λ _. ◌≡◌ {A = Option (Element × List ℕ)} (element_at text.now) None) }
+    ensures { MatchResult result
+        (λ x. ◌≡◌ {A = Option (Element × List ℕ)} (element_at text.now) (Some (element_of x.0, x.1.now)))
+        (λ _. ◌≡◌ {A = Option (Element × List ℕ)} (element_at text.now) None) }
 {
     if let Some(found) = bracketed_at(text) {
         return Ok(found);

@@ -5,7 +5,8 @@ ghost use Rattle.lexre.specs.Lexical.{after_word, take_up_to};
 /// The bytes at the front that pass the test, at most so many, and what follows them.
 pub(crate) fn take_up_to<F: Fn(u8) -> bool>(limit: usize, test: F, text: &[u8]) -> (&[u8], &[u8])
     requires { F.IsAlwaysCallable test }
-    ensures { (p : ℕ → Bool) → ((b : ℕ) (r : Bool) → b < 256 → F.post test b r → r ≡ p b) → ◌≡◌ {A = List ℕ × List ℕ} (take_up_to limit p text.now) (result.0.now, result.1.now) }
+    ensures { (p : ℕ → Bool) → ((b : ℕ) (r : Bool) → b < 256 → F.post test b r → r ≡ p b)
+        → ◌≡◌ {A = List ℕ × List ℕ} (take_up_to limit p text.now) (result.0.now, result.1.now) }
 {
     for (i, byte) in text.iter().enumerate() {
         if i == limit || !test(*byte) {
