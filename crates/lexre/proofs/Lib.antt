@@ -1,9 +1,12 @@
+pub mod CuttingLaws
 pub mod DefinitionLaws
 pub mod EscapeLaws
 pub mod GrammarLaws
 pub mod LengthLaws
 pub mod Narrowing
 pub mod OneTree
+pub mod PassingLaws
+pub mod OpenLaws
 pub mod ReadingLaws
 pub mod Rows
 pub mod RunLaws

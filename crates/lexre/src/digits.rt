@@ -24,5 +24,9 @@ fn digit_of(digit: u8) -> u32
     ensures at_most { result ≤ 24 }
 {
     let low = u32::from(digit % 16);
-    if matches!(digit, b'0'..=b'9') { low } else { low + 9 }
+    if matches!(digit, b'0'..=b'9') {
+        low
+    } else {
+        low + 9
+    }
 }

@@ -4,19 +4,24 @@
 mod bounds;
 mod classes;
 mod counts;
+mod cutting;
 mod definitions;
 mod digits;
+mod error;
 mod escapes;
 mod laws;
 mod measures;
+mod passing;
 mod pattern;
 mod runs;
 mod sets;
 
 pub use bounds::Lengths;
 pub use counts::positions;
+pub use cutting::{Cutting, cut_pattern};
 pub use definitions::{Defs, DefsError};
-pub use laws::{one_tree, readings_use_own_positions};
+pub use error::{PatternError, PatternErrorKind};
+pub use laws::{one_cutting, one_tree, readings_use_own_positions};
 pub use measures::lengths;
 pub use pattern::Pattern;
 pub use sets::ByteSet;
