@@ -1,12 +1,15 @@
+pub mod BraceLaws
+pub mod BracketLaws
 pub mod CuttingLaws
 pub mod DefinitionLaws
+pub mod ElementLaws
 pub mod EscapeLaws
 pub mod GrammarLaws
 pub mod LengthLaws
 pub mod Narrowing
 pub mod OneTree
 pub mod PassingLaws
-pub mod OpenLaws
+pub mod QuoteLaws
 pub mod ReadingLaws
 pub mod Rows
 pub mod RunLaws

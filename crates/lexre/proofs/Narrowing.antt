@@ -1,7 +1,7 @@
 -- What `try_from` says of a number, once it is an option.
 use Rattle.std.proofs.lemmas.Bool.{cases_lt}
 use Rattle.std.proofs.lemmas.Result.{OkIff-at_ok, OkIff-at_err}
-use Rattle.std.proofs.Common.{⊎_elim, ◌≡◌, ℕ, ◌<◌, ◌≤◌, Option, Some, None, Result, Ok, Err, refl, ◌∙◌}
+use Rattle.std.proofs.Common.{⊎_elim, ◌≡◌, ℕ, ◌<◌, ◌≤◌, Some, None, Result, Ok, Err, refl, ◌∙◌}
 use Rattle.std.specs.Result.{OkIff, result_ok}
 
 pub fits : {E : Type 0} (limit : ℕ) (r : Result ℕ E) (n x : ℕ) → OkIff r (n < limit) n → Some x ≡ result_ok r → (n < limit) × (x ≡ n)

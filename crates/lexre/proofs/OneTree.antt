@@ -6,7 +6,7 @@ use Rattle.lexre.specs.Grammar.{SpellsWithin}
 use Rattle.lexre.specs.Running.{frame, fresh, State, state, pushed, onto_last, Stands, Steps, Runs}
 use Rattle.lexre.proofs.GrammarLaws.{spelled_runs, chosen}
 
-some_is : {A : Type 0} (x y : A) → Some x ≡ Some y → x ≡ y
+pub some_is : {A : Type 0} (x y : A) → Some x ≡ Some y → x ≡ y
 some_is x y e = cc
 
 pub pair_is : (s s' : Symbol) (rest rest' : List ℕ) → ◌≡◌ {A = Option (Symbol × List ℕ)} (Some (s, rest)) (Some (s', rest')) → (s ≡ s') × (rest ≡ rest')

@@ -1,6 +1,6 @@
 -- Where the pattern of a rule ends, and what stands at its end. (POSIX, lex, Rules in lex; flex, Patterns: `r/s`, `r$`.)
 use Rattle.std.specs.Prelude.{◌≡◌, ℕ, zero, suc, ◌+◌, ◌-◌, Bool, true, false, ◌||◌, ◌==◌, if◌then◌else◌, List, [], ◌∷◌, length, Option, Some, None}
-use Rattle.lexre.specs.Lexical.{◌>>=◌, escape_at, quoted_at, class_at}
+use Rattle.lexre.specs.Lexical.{◌>>=◌, escape_at, after_quotes, class_at}
 
 -- what the text of a pattern is made of, as far as cutting it goes
 pub data Piece : Type 0 where
@@ -23,7 +23,7 @@ piece_at (c ∷ t) =
     else if c == 41 then Some (closes, t)
     else if c == 47 then Some (slash, t)
     else if c == 36 then Some (dollar, t)
-    else if c == 34 then (quoted_at (length t + 1) t >>= λ (bs, rest). Some (other, rest))
+    else if c == 34 then (after_quotes t >>= λ rest. Some (other, rest))
     else if c == 91 then (class_at t >>= λ (negated, es, rest). Some (other, rest))
     else if c == 92 then (escape_at t >>= λ (b, rest). Some (other, rest))
     else Some (other, t)

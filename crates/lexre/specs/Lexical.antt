@@ -1,7 +1,7 @@
 -- The symbols of a pattern, by their bytes. None means that the text begins with no symbol.
 -- (POSIX, lex, Regular Expressions in lex: quotes, escapes, bracket expressions, definitions; flex, Patterns.)
 use Rattle.std.specs.Prelude.{ℕ, zero, suc, ◌+◌, ◌*◌, ◌%◌, Bool, true, false, not, ◌&&◌, ◌||◌, ◌==◌, nat_le, nat_lt, nat_eq, if◌then◌else◌, List, [], ◌∷◌, map, fold, length, drop, Option, Some, None, option_and_then, unwrap_or, codes}
-use Rattle.std.specs.List.{starts_with}
+use Rattle.std.specs.List.{starts_with, ends_with}
 use Rattle.lexmeaning.specs.ByteSets.{ByteSet, empty_set, single, range_set, union, complement, fold_case, named_set, within, is_alpha, is_alnum, is_digit, is_xdigit}
 use Rattle.lexmeaning.specs.Tree.{Tree, Empty, Set, Cat, trees}
 use Rattle.lexre.specs.Symbols.{Symbol, item, name, opening, closing, bar, sign, interval, any_times, once_or_more, at_most_once, Lexer}
@@ -34,6 +34,10 @@ is_empty t = length t == 0
 
 abbrev pub begins : List ℕ → List ℕ → Bool
 begins word t = starts_with nat_eq t word
+
+-- what follows the word, where the text begins with it
+unfoldable pub after_word : List ℕ → List ℕ → Option (List ℕ)
+after_word word t = if begins word t then Some (drop (length word) t) else None
 
 -- under `fold` a set has each letter in both cases
 abbrev pub folded : Bool → ByteSet → ByteSet
@@ -79,6 +83,10 @@ quoted_at (suc n) (c ∷ t) =
     else if c == 10 then None
     else (if c == 92 then escape_at t else Some (c, t)) >>= λ (b, rest). quoted_at n rest >>= λ (bs, after). Some (b ∷ bs, after)
 
+-- what follows a text in quotes, after its first quote
+unfoldable pub after_quotes : List ℕ → Option (List ℕ)
+after_quotes t = quoted_at (suc (length t)) t >>= λ (bs, rest). Some rest
+
 unfoldable pub quoted_tree : Bool → List ℕ → Tree
 quoted_tree fold [] = Empty
 quoted_tree fold (b ∷ []) = Set (folded fold (single b))
@@ -95,33 +103,31 @@ pub data Element : Type 0 where
   -- `[:^name:]`, `[=a=]`, `[.a.]`, or a range whose second end is one of these or a named class
   unsupported : Element
 
--- `[:`, at least one letter, and `:]`: the letters, and what follows
-unfoldable pub named_at : List ℕ → Option (List ℕ × List ℕ)
-named_at t =
-    if not (begins (codes "[:") t) then None
-    else (let (letters, rest) = take_run is_alpha (drop 2 t) in
-    if not (is_empty letters) && begins (codes ":]") rest then Some (letters, drop 2 rest) else None)
+-- at least one letter, and `:]`: the letters, and what follows
+unfoldable pub letters_at : List ℕ → Option (List ℕ × List ℕ)
+letters_at t =
+    let (letters, rest) = take_run is_alpha t in
+    if is_empty letters then None else after_word (codes ":]") rest >>= λ after. Some (letters, after)
 
--- whether the last of the bytes is this one
-abbrev pub ends_with : ℕ → List ℕ → Bool
-ends_with c [] = false
-ends_with c (b ∷ []) = b == c
-ends_with c (b ∷ d ∷ bs) = ends_with c (d ∷ bs)
+-- `[:`, letters and `:]`
+unfoldable pub named_at : List ℕ → Option (List ℕ × List ℕ)
+named_at t = after_word (codes "[:") t >>= letters_at
 
 -- at least one byte that is no `]` and no newline, then the sign c and `]`: what follows
 unfoldable pub enclosed_at : ℕ → List ℕ → Option (List ℕ)
 enclosed_at c t =
     let (bytes, rest) = take_run (λ b. not (b == 93 || b == 10)) t in
-    if nat_lt 1 (length bytes) && ends_with c bytes && begins (codes "]") rest then Some (drop 1 rest) else None
+    if nat_lt 1 (length bytes) && ends_with nat_eq bytes (c ∷ []) then after_word (codes "]") rest else None
 
--- what follows `[:^`, at least one letter and `:]`; or `[=`, at least one byte and `=]`; or the same with dots
+-- what follows `[:^`, letters and `:]`; or `[=`, at least one byte and `=]`; or the same with dots
 unfoldable pub unsupported_at : List ℕ → Option (List ℕ)
-unsupported_at t =
-    if begins (codes "[:^") t then
-    (let (letters, rest) = take_run is_alpha (drop 3 t) in if not (is_empty letters) && begins (codes ":]") rest then Some (drop 2 rest) else None)
-    else if begins (codes "[=") t then enclosed_at 61 (drop 2 t)
-    else if begins (codes "[.") t then enclosed_at 46 (drop 2 t)
-    else None
+unsupported_at t = elim (after_word (codes "[:^") t) [
+  | Some rest ↦ letters_at rest >>= λ (letters, after). Some after
+  | None ↦ elim (after_word (codes "[=") t) [
+    | Some rest ↦ enclosed_at 61 rest
+    | None ↦ after_word (codes "[.") t >>= enclosed_at 46
+  ]
+]
 
 -- an escape, or any byte but a newline
 unfoldable pub class_byte_at : List ℕ → Option (ℕ × List ℕ)
@@ -207,8 +213,8 @@ interval_at t =
 -- at a letter or `_`: letters, digits, `_` and `-`, and `}`
 unfoldable pub name_at : List ℕ → Option (Symbol × List ℕ)
 name_at t =
-    let (n, rest) = take_run (λ c. is_alnum c || c == 95 || c == 45) t in
-    if begins (codes "}") rest then Some (name n, drop 1 rest) else None
+    let (letters, rest) = take_run (λ c. is_alnum c || c == 95 || c == 45) t in
+    after_word (codes "}") rest >>= λ after. Some (name letters, after)
 
 unfoldable pub braces_at : List ℕ → Option (Symbol × List ℕ)
 braces_at [] = None
@@ -236,7 +242,7 @@ symbol_at fold (c ∷ t) =
     else if c == 43 then Some (sign once_or_more, t)
     else if c == 63 then Some (sign at_most_once, t)
     else if c == 46 then Some (item (Set (complement (single 10))), t)
-    else if c == 34 then (quoted_at (length t + 1) t >>= λ (bs, rest). Some (item (quoted_tree fold bs), rest))
+    else if c == 34 then (quoted_at (suc (length t)) t >>= λ (bs, rest). Some (item (quoted_tree fold bs), rest))
     else if c == 91 then (class_at t >>= λ (negated, es, rest). class_set fold negated es >>= λ s. Some (item (Set s), rest))
     else if c == 92 then (escape_at t >>= λ (b, rest). Some (item (Set (folded fold (single b))), rest))
     else if c == 123 then braces_at t

@@ -1,6 +1,7 @@
 pub mod Classes
 pub mod Cutting
 pub mod Definitions
+pub mod Elements
 pub mod Grammar
 pub mod Halves
 pub mod Lengths

@@ -1,12 +1,12 @@
 //! Where the pattern of a rule ends. (POSIX, lex, Rules in lex; flex, Patterns: `r/s`, `r$`.)
 ghost use Rattle.std.specs.Prelude.{◌≡◌, ◌+◌, ◌^◌, ◌<◌, ◌≤◌, ℕ, Bool, ◌∷◌, List, length, Option, Some, None, IfOk, IfErr, IfSome, OnErr, MatchOption, MatchResult};
 ghost use Rattle.lexre.specs.Cutting.{piece_at, slash, IsCutting, IsEnd, Piece};
-ghost use Rattle.lexre.specs.Passing.{IsWithin};
 ghost use Rattle.lexre.specs.Progress.{ending, piece_of, Ending};
 
-use crate::error::{PatternError, PatternErrorKind};
+use crate::error::{Fault, PatternError, PatternErrorKind};
 use crate::escapes::escape_at;
-use crate::passing::{Fault, after_class, after_quotes};
+use crate::passing::skip_class;
+use crate::quotes::skip_quoted;
 
 /// Where the pattern of a rule ends, and what stands at its end.
 #[derive(Clone, Copy, PartialEq, Eq, Debug)]
@@ -149,13 +149,13 @@ fn piece_at(text: &[u8], at: usize) -> Result<Option<(Kind, &[u8])>, PatternErro
         b')' => Ok(Some((Kind::Closes, after))),
         b'/' => Ok(Some((Kind::Slash, after))),
         b'$' => Ok(Some((Kind::Dollar, after))),
-        b'"' => match after_quotes(after) {
+        b'"' => match skip_quoted(text) {
             Ok(rest) => Ok(Some((Kind::Other, rest))),
-            Err(fault) => Err(told(fault, PatternErrorKind::UnclosedQuote, at, after.len())),
+            Err(fault) => Err(told(fault, text, at)),
         },
-        b'[' => match after_class(after) {
+        b'[' => match skip_class(text, after) {
             Ok(rest) => Ok(Some((Kind::Other, rest))),
-            Err(fault) => Err(told(fault, PatternErrorKind::UnclosedClass, at, after.len())),
+            Err(fault) => Err(told(fault, text, at)),
         },
         b'\\' => match escape_at(after) {
             Some((_byte, rest)) => Ok(Some((Kind::Other, rest))),
@@ -168,16 +168,12 @@ fn piece_at(text: &[u8], at: usize) -> Result<Option<(Kind, &[u8])>, PatternErro
     }
 }
 
-/// The fault of what was opened at this place, and has so many bytes after the opening sign.
-fn told(fault: Fault, unclosed: PatternErrorKind, at: usize, len: usize) -> PatternError
-    requires within { IsWithin len fault }
-    requires at { at + len + 1 < 2 ^ 64 }
+/// The fault, by its place: the text, of which the fault has a part, stands at the place `at`.
+fn told(fault: Fault, text: &[u8], at: usize) -> PatternError
+    requires { at + length text.now < 2 ^ 64 }
 {
-    match fault {
-        Fault::Unclosed => PatternError { kind: unclosed, at },
-        Fault::BadEscape { left } => PatternError {
-            kind: PatternErrorKind::BadEscape,
-            at: at + 1 + (len - left),
-        },
+    PatternError {
+        kind: fault.kind,
+        at: at + text.len().saturating_sub(fault.rest.len()),
     }
 }

@@ -1,63 +1,69 @@
 //! Why a text is no pattern.
 use thiserror::Error;
 
-/// What is wrong in a text that is no pattern.
-#[derive(Clone, Copy, PartialEq, Eq, Debug, Error)]
+/// The reason, by its name. A fault inside a name's substitute is told of the name.
+#[derive(Clone, Copy, Debug, PartialEq, Eq, Error)]
 pub enum PatternErrorKind {
-    /// A text in quotes is not closed on its line.
-    #[error("a quote is not closed")]
+    /// A quote that is not closed on its line.
+    #[error("UnclosedQuote")]
     UnclosedQuote,
-    /// A class is not closed on its line.
-    #[error("a class is not closed")]
+    /// A class that is not closed on its line.
+    #[error("UnclosedClass")]
     UnclosedClass,
-    /// The ends of a range are reversed, or its second end is no byte.
-    #[error("bad range")]
+    /// A range whose ends are in the wrong order, or whose second end is a named class.
+    #[error("BadRange")]
     BadRange,
-    /// A negated class has no byte.
-    #[error("a class is empty")]
+    /// A negated class without a byte.
+    #[error("EmptyClass")]
     EmptyClass,
-    /// A name between `[:` and `:]` is no character class.
-    #[error("unknown class name")]
+    /// `[:name:]` with a name that the POSIX locale does not have.
+    #[error("UnknownClassName")]
     UnknownClassName,
     /// `[:^name:]`, `[=a=]` or `[.a.]`.
-    #[error("unsupported bracket")]
+    #[error("UnsupportedBracket")]
     UnsupportedBracket,
-    /// A backslash before a newline or the end of the text, or octal digits above 255.
-    #[error("bad escape")]
+    /// A backslash before a newline or at the end, or octal digits above 255.
+    #[error("BadEscape")]
     BadEscape,
-    /// `{` begins neither an interval within its bounds nor a name.
-    #[error("bad interval")]
+    /// Braces that hold neither an interval nor a name.
+    #[error("BadInterval")]
     BadInterval,
-    /// A parenthesis has no other.
-    #[error("unbalanced parenthesis")]
+    /// A parenthesis without its other.
+    #[error("UnbalancedParen")]
     UnbalancedParen,
-    /// Nothing stands where an operand was expected.
-    #[error("missing operand")]
+    /// No item where one is wanted.
+    #[error("MissingOperand")]
     MissingOperand,
-    /// A name has no definition.
-    #[error("undefined name")]
+    /// `{name}` where the name has no definition.
+    #[error("UndefinedName")]
     UndefinedName,
-    /// A definition needs itself.
-    #[error("definition cycle")]
+    /// A name whose substitute leads back to it.
+    #[error("DefinitionCycle")]
     DefinitionCycle,
-    /// More than 64 open parentheses and names at one place, or more than 64 repetition signs on one item.
-    #[error("too deep")]
+    /// More than 64 parentheses and names open at one place, or more than 64 signs on one item.
+    #[error("TooDeep")]
     TooDeep,
     /// More than 65,536 nodes.
-    #[error("too big")]
+    #[error("TooBig")]
     TooBig,
-    /// A `/` inside parentheses, or where no trailing context may stand.
-    #[error("misplaced slash")]
+    /// A slash inside a pattern, or inside parentheses.
+    #[error("MisplacedSlash")]
     MisplacedSlash,
-    #[error("out of memory")]
+    #[error("OutOfMemory")]
     OutOfMemory,
 }
 
-/// The first fault that was met, and its place.
-#[derive(Clone, Copy, PartialEq, Eq, Debug, Error)]
+/// The first fault that was met, and its place in the text, counted from 0.
+#[derive(Clone, Copy, Debug, PartialEq, Eq, Error)]
 #[error("{kind} at {at}")]
 pub struct PatternError {
     pub kind: PatternErrorKind,
-    /// The offset in the text, from 0.
     pub at: usize,
+}
+
+/// A fault, and the text from its place on.
+#[derive(Clone, Copy)]
+pub(crate) struct Fault<'a> {
+    pub(crate) kind: PatternErrorKind,
+    pub(crate) rest: &'a [u8],
 }

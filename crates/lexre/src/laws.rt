@@ -14,7 +14,8 @@ pub fn readings_use_own_positions()
 
 /// A text spells at most one tree.
 pub fn one_tree()
-    ensures { (fold : Bool) (defs : Definitions) (text : List ℕ) (t u : Tree) → Spells fold defs text t → Spells fold defs text u → t ≡ u }
+    ensures { (fold : Bool) (defs : Definitions) (text : List ℕ) (t u : Tree)
+        → Spells fold defs text t → Spells fold defs text u → t ≡ u }
 {}
 
 /// A text has at most one cutting.

@@ -2,17 +2,22 @@
 #![tactic(auto)]
 
 mod bounds;
+mod braces;
+mod brackets;
 mod classes;
 mod counts;
 mod cutting;
 mod definitions;
 mod digits;
+mod elements;
 mod error;
 mod escapes;
 mod laws;
 mod measures;
+mod parts;
 mod passing;
 mod pattern;
+mod quotes;
 mod runs;
 mod sets;
 

@@ -1,4 +1,4 @@
-use Rattle.std.proofs.Common.{◌≡◌, ◌≤◌, min, take}
+use Rattle.std.proofs.Common.{◌≡◌, min, take}
 use Rattle.lexre.specs.Lexical.{value}
 use Rattle.lexre.proofs.digits.capped_value.Given as goal
 

@@ -1,4 +1,4 @@
-use Rattle.std.proofs.Common.{◌≡◌, rules, sym, ◌∙◌}
+use Rattle.std.proofs.Common.{rules, sym, ◌∙◌}
 use Rattle.lexmeaning.specs.ByteSets.{is_xdigit}
 use Rattle.lexre.proofs.EscapeLaws.{hexadecimal_none, hexadecimal_found, hexadecimal_fits}
 use Rattle.lexre.proofs.escapes.hexadecimal_at.Goals as goal

@@ -1,4 +1,4 @@
-use Rattle.std.proofs.Common.{◌≡◌, rules}
+use Rattle.std.proofs.Common.{rules}
 use Rattle.lexmeaning.specs.ByteSets.{within}
 use Rattle.lexre.proofs.EscapeLaws.{octal_found, octal_refused}
 use Rattle.lexre.proofs.escapes.octal_at.Goals as goal

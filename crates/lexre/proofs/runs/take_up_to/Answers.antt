@@ -1,4 +1,4 @@
-use Rattle.std.proofs.Common.{◌≡◌, ◌∙◌, ℕ, true, get_or, sym, arith}
+use Rattle.std.proofs.Common.{◌≡◌, ◌∙◌, true, get_or, sym, arith}
 use borrow.Author.Count.{below_more}
 use Rattle.lexre.proofs.RunLaws.{ends_at_byte, ends_at_limit, ends_at_end}
 use Rattle.lexre.proofs.runs.take_up_to.Goals as goal

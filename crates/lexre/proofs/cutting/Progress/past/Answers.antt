@@ -1,5 +1,4 @@
-use Rattle.std.proofs.Common.{ap, refl}
-use Rattle.lexre.specs.Progress.{piece_of}
+use Rattle.std.proofs.Common.{refl}
 use Rattle.lexre.proofs.CuttingLaws.{past_piece, past_opens, past_closes, past_dollar, past_other}
 use Rattle.lexre.proofs.cutting.Progress.past.Goals as goal
 
