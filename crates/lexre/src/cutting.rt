@@ -50,7 +50,8 @@ struct Progress {
 /// backslash, and `MisplacedSlash` at a `/` inside parentheses. A `)` with none open counts for nothing.
 pub fn cut_pattern(text: &[u8]) -> Result<Cutting, PatternError>
     ensures found { IfOk result (λ c. IsCutting text.now c.end c.slash c.two c.dollar) }
-    ensures none { IfErr result (λ e. (end : ℕ) (first : Option ℕ) (two special : Bool) → IsCutting text.now end first two special → ⊥) }
+    ensures none { IfErr result
+        (λ _. (end : ℕ) (first : Option ℕ) (two special : Bool) → IsCutting text.now end first two special → ⊥) }
 {
     let mut progress = Progress {
         depth: 0,
@@ -79,7 +80,9 @@ impl Progress {
     #[tactic(auto, unfolding(crate::specs::Cutting::slashes, crate::specs::Progress::ending))]
     fn past(self, kind: Kind, at: usize) -> Result<Progress, PatternError>
         requires { self.depth + 1 < 2 ^ 64 }
-        ensures ending { MatchResult result (λ after. (ps : List (Piece × ℕ)) → ◌≡◌ {A = Ending} (ending self ((piece_of kind, at) ∷ ps)) (ending after ps)) (λ e. (ps : List (Piece × ℕ)) → ◌≡◌ {A = Ending} (ending self ((piece_of kind, at) ∷ ps)) None) }
+        ensures ending { MatchResult result
+            (λ after. (ps : List (Piece × ℕ)) → ◌≡◌ {A = Ending} (ending self ((piece_of kind, at) ∷ ps)) (ending after ps))
+            (λ _. (ps : List (Piece × ℕ)) → ◌≡◌ {A = Ending} (ending self ((piece_of kind, at) ∷ ps)) None) }
         ensures depth { IfOk result (λ after. after.depth ≤ self.depth + 1) }
     {
         match kind {
@@ -105,9 +108,12 @@ impl Progress {
         }
     }
 
+    /// What is known behind a slash.
     #[tactic(auto, unfolding(crate::specs::Cutting::slashes, crate::specs::Progress::ending))]
     fn past_slash(self, at: usize) -> Result<Progress, PatternError>
-        ensures ending { MatchResult result (λ after. (ps : List (Piece × ℕ)) → ◌≡◌ {A = Ending} (ending self ((slash, at) ∷ ps)) (ending after ps)) (λ e. (ps : List (Piece × ℕ)) → ◌≡◌ {A = Ending} (ending self ((slash, at) ∷ ps)) None) }
+        ensures ending { MatchResult result
+            (λ after. (ps : List (Piece × ℕ)) → ◌≡◌ {A = Ending} (ending self ((slash, at) ∷ ps)) (ending after ps))
+            (λ _. (ps : List (Piece × ℕ)) → ◌≡◌ {A = Ending} (ending self ((slash, at) ∷ ps)) None) }
         ensures depth { IfOk result (λ after. after.depth ≤ self.depth) }
     {
         if self.depth > 0 {
@@ -135,7 +141,9 @@ impl Progress {
 #[tactic(auto, unfolding(crate::specs::Cutting::piece_at))]
 fn piece_at(text: &[u8], at: usize) -> Result<Option<(Kind, &[u8])>, PatternError>
     requires { at + length text.now < 2 ^ 64 }
-    ensures found { IfOk result (λ found. MatchOption found (IsEnd text.now) (λ x. ◌≡◌ {A = Option (Piece × List ℕ)} (piece_at text.now) (Some (piece_of x.0, x.1.now)))) }
+    ensures found { IfOk result (λ found. MatchOption found
+        (IsEnd text.now)
+        (λ x. ◌≡◌ {A = Option (Piece × List ℕ)} (piece_at text.now) (Some (piece_of x.0, x.1.now)))) }
     ensures shorter { IfOk result (λ found. IfSome found (λ x. length x.1.now < length text.now)) }
     ensures none { OnErr result (◌≡◌ {A = Option (Piece × List ℕ)} (piece_at text.now) None) }
     ensures not_end { OnErr result (IsEnd text.now → ⊥) }

@@ -20,5 +20,7 @@ pub fn one_tree()
 
 /// A text has at most one cutting.
 pub fn one_cutting()
-    ensures { (text : List ℕ) (end end' : ℕ) (first first' : Option ℕ) (two two' special special' : Bool) → IsCutting text end first two special → IsCutting text end' first' two' special' → (end ≡ end') × (first ≡ first') × (two ≡ two') × (special ≡ special') }
+    ensures { (text : List ℕ) (end end' : ℕ) (first first' : Option ℕ) (two two' special special' : Bool)
+        → IsCutting text end first two special → IsCutting text end' first' two' special'
+        → (end ≡ end') × (first ≡ first') × (two ≡ two') × (special ≡ special') }
 {}
