@@ -1,5 +1,6 @@
 pub mod BraceLaws
 pub mod BracketLaws
+pub mod CuttingLaws
 pub mod DefinitionLaws
 pub mod ElementLaws
 pub mod EscapeLaws
@@ -7,6 +8,7 @@ pub mod GrammarLaws
 pub mod LengthLaws
 pub mod Narrowing
 pub mod OneTree
+pub mod PassingLaws
 pub mod QuoteLaws
 pub mod ReadingLaws
 pub mod Rows

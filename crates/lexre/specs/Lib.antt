@@ -6,6 +6,8 @@ pub mod Grammar
 pub mod Halves
 pub mod Lengths
 pub mod Lexical
+pub mod Passing
+pub mod Progress
 pub mod Readings
 pub mod Running
 pub mod Spelling

@@ -1,7 +1,8 @@
 //! Laws over the definitions.
-ghost use Rattle.std.specs.Prelude.{◌≡◌, ℕ, ◌+◌, Bool, List};
+ghost use Rattle.std.specs.Prelude.{◌≡◌, ℕ, ◌+◌, Bool, List, Option};
 ghost use Rattle.lexmeaning.specs.Positions.{Cell, Reads, positions};
 ghost use Rattle.lexmeaning.specs.Tree.{Tree};
+ghost use Rattle.lexre.specs.Cutting.{IsCutting};
 ghost use Rattle.lexre.specs.Definitions.{Definitions};
 ghost use Rattle.lexre.specs.Readings.{UsesFrom};
 ghost use Rattle.lexre.specs.Spelling.{Spells};
@@ -15,4 +16,11 @@ pub fn readings_use_own_positions()
 pub fn one_tree()
     ensures { (fold : Bool) (defs : Definitions) (text : List ℕ) (t u : Tree)
         → Spells fold defs text t → Spells fold defs text u → t ≡ u }
+{}
+
+/// A text has at most one cutting.
+pub fn one_cutting()
+    ensures { (text : List ℕ) (end end' : ℕ) (first first' : Option ℕ) (two two' special special' : Bool)
+        → IsCutting text end first two special → IsCutting text end' first' two' special'
+        → (end ≡ end') × (first ≡ first') × (two ≡ two') × (special ≡ special') }
 {}

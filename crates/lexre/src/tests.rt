@@ -5,8 +5,8 @@ ghost use Rattle.lexmeaning.specs.Shapes.{IsSoundTree};
 ghost use Rattle.lexre.specs.Views.{tree_of};
 
 use crate::{
-    ByteSet, Defs, DefsError, Lengths, Pattern, lengths, one_tree, positions,
-    readings_use_own_positions,
+    ByteSet, Cutting, Defs, DefsError, Lengths, Pattern, PatternError, PatternErrorKind,
+    cut_pattern, lengths, one_cutting, one_tree, positions, readings_use_own_positions,
 };
 use std::alloc::{AllocError, Global};
 use std::test::Fail;
@@ -52,6 +52,7 @@ fn alt(alloc: Global, first: Pattern, second: Pattern) -> Result<Pattern, AllocE
 fn laws() {
     readings_use_own_positions();
     one_tree();
+    one_cutting();
 }
 
 #[test]
@@ -249,5 +250,81 @@ fn definitions(rt: HostRuntime) -> Result<(), Fail> {
     assert_eq!(rt; defs.find(b"D").expect(&rt, "a text"), b"[0-9]".as_slice());
     assert_eq!(rt; defs.find(b"N").expect(&rt, "a text"), b"{D}+".as_slice());
     assert!(rt; defs.find(b"d").is_none());
+    Ok(())
+}
+
+// A text, where its pattern ends, the first slash, whether there is a second, and whether a special `$` ends it.
+const CUTTINGS: [(&[u8], usize, Option<usize>, bool, bool); 16] = [
+    (b"", 0, None, false, false),
+    (b" a", 0, None, false, false),
+    (b"a/b$ ;", 4, Some(1), false, true),
+    (b"a/(b$ ;", 5, Some(1), false, true),
+    (b"a/b/c ;", 5, Some(1), true, false),
+    (b"a)b/c\n;", 5, Some(3), false, false),
+    (b"a\\ b c", 4, None, false, false),
+    (b"\"a b\"c\td", 6, None, false, false),
+    (b"\"a\\\" /$\"b c", 9, None, false, false),
+    (b"[ ]x y", 4, None, false, false),
+    (b"[] /]$ x", 6, None, false, true),
+    (b"[^] (]/b x", 8, Some(6), false, false),
+    (b"[[:foo:] ]b c", 11, None, false, false),
+    (b"[z-a] b", 5, None, false, false),
+    (b"a\\$ b", 3, None, false, false),
+    (b"a$b/$[$] c", 8, Some(3), false, false),
+];
+
+#[test]
+fn cuttings(rt: HostRuntime) {
+    for (text, end, slash, two, dollar) in CUTTINGS {
+        assert_eq!(rt;
+            cut_pattern(text),
+            Ok(Cutting {
+                end,
+                slash,
+                two,
+                dollar
+            })
+        );
+    }
+}
+
+// A text that has no cutting, what is told of it, and where.
+const FAULTS: [(&[u8], PatternErrorKind, usize); 14] = [
+    (b"\"a", PatternErrorKind::UnclosedQuote, 0),
+    (b"[a]\"b", PatternErrorKind::UnclosedQuote, 3),
+    (b"a\"b\n\"", PatternErrorKind::UnclosedQuote, 1),
+    (b"[z-a", PatternErrorKind::UnclosedClass, 0),
+    (b"a[]", PatternErrorKind::UnclosedClass, 1),
+    (b"ab[^\n]", PatternErrorKind::UnclosedClass, 2),
+    (b"\\", PatternErrorKind::BadEscape, 0),
+    (b"a\\\n", PatternErrorKind::BadEscape, 1),
+    (b"\\400", PatternErrorKind::BadEscape, 0),
+    (b"\"a\\400", PatternErrorKind::BadEscape, 2),
+    (b"a[b-\\\n]", PatternErrorKind::BadEscape, 4),
+    (b"(a/b)", PatternErrorKind::MisplacedSlash, 2),
+    (b"a/b)(/c", PatternErrorKind::MisplacedSlash, 5),
+    (b"(a/b\"", PatternErrorKind::MisplacedSlash, 2),
+];
+
+#[test]
+fn cutting_faults(rt: HostRuntime) {
+    for (text, kind, at) in FAULTS {
+        assert_eq!(rt; cut_pattern(text), Err(PatternError { kind, at }));
+    }
+}
+
+#[test]
+fn cuttings_of_long_texts(rt: HostRuntime) -> Result<(), Fail> {
+    for byte in [b'a', b'"', b'[', b'(', b'\\'] {
+        let mut text = Vec::new(rt.alloc());
+        text.resize(1_048_576, byte)?;
+        let cutting = cut_pattern(&text);
+        if byte == b'[' {
+            let kind = PatternErrorKind::UnclosedClass;
+            assert_eq!(rt; cutting, Err(PatternError { kind, at: 0 }));
+        } else {
+            assert_eq!(rt; cutting.expect(&rt, "a cutting").end, 1_048_576);
+        }
+    }
     Ok(())
 }

@@ -1,0 +1,33 @@
+use Rattle.std.proofs.Common.{◌≡◌, ◌-◌, ◌<◌, ℕ, length, arith, subst}
+use Rattle.std.proofs.lemmas.Result.{err_from_is_err_and}
+use Rattle.lexre.proofs.CuttingLaws.{Agree, fresh, agree_first, agree_step, found_at, refused_piece, refused_slash}
+use Rattle.lexre.proofs.cutting.cut_pattern.Goals as goal
+
+pub pieces-init : goal.pieces-init
+pieces-init c =
+    let text = c.args.text.now in
+    let P : ℕ → Type 0 = λ at. Agree fresh at text text in
+    let e : 0 ≡ length text - length text = omega arith in
+    record { agree = subst P e (agree_first text); few = omega arith }
+
+pub returns-in_err-kind-clause-none : goal.returns-in_err-kind-clause-none
+returns-in_err-kind-clause-none c =
+    let p = err_from_is_err_and c.from_residual.result c.from_residual.ensures.1 in
+    rw p.1 (refused_piece _ _ _ _ c.pieces.invariant.agree c.in_err-kind.ensures.none c.in_err-kind.ensures.not_end)
+
+pub returns-in_default-clause-found : goal.returns-in_default-clause-found
+returns-in_default-clause-found c = found_at _ _ _ _ c.pieces.invariant.agree (rw c.in_default.is at c.in_ok-kind.ensures.found)
+
+pub returns-in_err-progress-clause-none : goal.returns-in_err-progress-clause-none
+returns-in_err-progress-clause-none c =
+    let p = err_from_is_err_and c.from_residual-in_err-progress.result c.from_residual-in_err-progress.ensures.1 in
+    rw p.1 (refused_slash _ _ _ _ _ _ c.pieces.invariant.agree (rw c.in-Some.is at c.in_ok-kind.ensures.found) c.in_err-progress.ensures.ending)
+
+pub pieces-preserved : goal.pieces-preserved
+pieces-preserved c =
+    let here = rw c.in-Some.is at c.in_ok-kind.ensures.found in
+    let shorter : length c.in-Some.after.now < length c.pieces.rest.now = rw c.in-Some.is at c.in_ok-kind.ensures.shorter in
+    record {
+      agree = agree_step _ _ _ _ _ _ _ _ here (omega arith) c.in_ok-progress.ensures.ending c.pieces.invariant.agree;
+      few = omega (arith, c.in_ok-progress.ensures.depth);
+    }

@@ -1,0 +1,9 @@
+use Rattle.std.proofs.Common.{◌<◌, length}
+use Rattle.lexre.proofs.PassingLaws.{ClassSo}
+use Rattle.lexre.proofs.passing.skip_class.Given as goal
+
+abbrev pub invariant-loop-first : goal.invariant-loop-first
+invariant-loop-first l = record { so : ClassSo l.text l.rest; shorter : length l.rest < length l.text }
+
+abbrev pub decreases-loop-first : goal.decreases-loop-first
+decreases-loop-first l = length l.rest
