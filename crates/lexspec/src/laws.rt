@@ -1,9 +1,10 @@
-//! The tests of an invariant say what soundness means.
-ghost use Rattle.std.specs.Prelude.{◌≡◌, ◌↔◌, true};
+//! Laws over the definitions.
+ghost use Rattle.std.specs.Prelude.{◌≡◌, ℕ, ◌↔◌, Bool, true, List};
 ghost use Rattle.lexmeaning.specs.Tree.{Tree};
 ghost use Rattle.lexmeaning.specs.Shapes.{IsSoundTree};
 ghost use Rattle.lexmeaning.specs.Spec.{Spec};
 ghost use Rattle.lexmeaning.specs.Sound.{IsSound};
+ghost use Rattle.lexspec.specs.Files.{SpellsSpec};
 ghost use Rattle.lexspec.specs.Tests.{is_sound, sound_tree};
 ghost use Rattle.lexspec.specs.LineExamples.{ReturnsDropped, BlanksTrimmed, DollarAnchors, Declares, Defines, NoDefinitions, Block, ConditionLists, Actions};
 
@@ -15,6 +16,11 @@ pub fn tested_trees()
 /// A specification that passes the test is sound.
 pub fn tested_specifications()
     ensures { (S : Spec) → is_sound S ≡ true → IsSound S }
+{}
+
+/// A file spells at most one specification.
+pub fn one_specification()
+    ensures { (fold : Bool) (file : List ℕ) (S T : Spec) → SpellsSpec fold file S → SpellsSpec fold file T → S ≡ T }
 {}
 
 /// Worked examples of lines.

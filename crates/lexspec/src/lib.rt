@@ -6,7 +6,7 @@ mod readers;
 mod rule;
 mod spec;
 
-pub use laws::{examples_of_lines, tested_specifications, tested_trees};
+pub use laws::{examples_of_lines, one_specification, tested_specifications, tested_trees};
 pub use lexaction::{Condition, EndAction, Statement};
 pub use rule::{Cut, Rule};
 pub use spec::Spec;
