@@ -4,6 +4,7 @@ pub mod DefinitionLaws
 pub mod ElementLaws
 pub mod EscapeLaws
 pub mod GrammarLaws
+pub mod IntervalLaws
 pub mod LengthLaws
 pub mod Narrowing
 pub mod OneTree

@@ -1,10 +1,11 @@
 //! What stands between braces. (POSIX, lex, Definitions in lex; flex, Patterns.)
-ghost use Rattle.std.specs.Prelude.{◌≡◌, ◌||◌, ◌==◌, List, ℕ, Option, option_map};
-ghost use Rattle.lexmeaning.specs.ByteSets.{is_alnum};
-ghost use Rattle.lexre.specs.Lexical.{name_at};
-ghost use Rattle.lexre.specs.Symbols.{Symbol, name};
+ghost use Rattle.std.specs.Prelude.{◌≡◌, ◌||◌, ◌==◌, List, ℕ, Option, length, option_map};
+ghost use Rattle.lexmeaning.specs.ByteSets.{is_alnum, is_digit};
+ghost use Rattle.lexre.specs.Lexical.{bounded, interval_at, name_at, take_up_to};
+ghost use Rattle.lexre.specs.Symbols.{Symbol, interval, name};
 
 use crate::classes::Class;
+use crate::digits::capped_value;
 use crate::runs::{skip_word, take_up_to};
 
 /// The letters of a name, after the opening brace, and what follows the closing one.
@@ -21,4 +22,43 @@ fn is_in_name(byte: u8) -> bool
     ensures { result ≡ (is_alnum byte || byte == 95 || byte == 45) }
 {
     Class::Alnum.contains(byte) || matches!(byte, b'_' | b'-')
+}
+
+/// The least and the greatest count of an interval, after the opening brace, and what follows the closing one.
+pub(crate) fn interval_at(text: &[u8]) -> Option<((u8, Option<u8>), &[u8])>
+    ensures { ◌≡◌ {A = Option (Symbol × List ℕ)} (interval_at text.now) (option_map (λ x. (interval x.0.0 x.0.1, x.1.now)) result) }
+{
+    let (digits, rest) = digits_at(text);
+    let least = capped_value(10, digits);
+    if let Some(after) = skip_word(b"}", rest) {
+        return Some((counts(least, least)?, after));
+    }
+    if let Some(after) = skip_word(b",}", rest) {
+        return Some(((u8::try_from(least).ok()?, None), after));
+    }
+    let (digits, rest) = digits_at(skip_word(b",", rest)?);
+    let after = skip_word(b"}", rest)?;
+    if digits.is_empty() {
+        return None;
+    }
+    Some((counts(least, capped_value(10, digits))?, after))
+}
+
+fn digits_at(text: &[u8]) -> (&[u8], &[u8])
+    ensures { ◌≡◌ {A = List ℕ × List ℕ} (take_up_to (length text.now) is_digit text.now) (result.0.now, result.1.now) }
+{
+    take_up_to(text.len(), |byte| Class::Digit.contains(byte), text)
+}
+
+/// The two counts, where they are in order and the greatest is from 1 to 255.
+#[tactic(auto, unfolding(crate::specs::Lexical::bounded))]
+fn counts(least: u32, most: u32) -> Option<(u8, Option<u8>)>
+    ensures { (rest : List ℕ) → ◌≡◌ {A = Option (Symbol × List ℕ)} (bounded least most rest) (option_map (λ x. (interval x.0 x.1, rest)) result) }
+{
+    if least > most || most == 0 {
+        return None;
+    }
+    let most = u8::try_from(most).ok()?;
+    let least = u8::try_from(least).ok()?;
+    Some((least, Some(most)))
 }
