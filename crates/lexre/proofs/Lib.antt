@@ -1,5 +1,6 @@
 pub mod BraceLaws
 pub mod BracketLaws
+pub mod ClassLaws
 pub mod DefinitionLaws
 pub mod ElementLaws
 pub mod EscapeLaws
@@ -13,3 +14,4 @@ pub mod ReadingLaws
 pub mod Rows
 pub mod RunLaws
 pub mod SetLaws
+pub mod ShorterLaws

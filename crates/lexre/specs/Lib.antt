@@ -1,3 +1,4 @@
+pub mod ClassSets
 pub mod Classes
 pub mod Cutting
 pub mod Definitions

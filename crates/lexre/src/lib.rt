@@ -11,6 +11,7 @@ mod digits;
 mod elements;
 mod error;
 mod escapes;
+mod expressions;
 mod laws;
 mod measures;
 mod parts;

@@ -1,4 +1,4 @@
-use Rattle.std.proofs.Common.{◌∙◌, sym, None, Some}
+use Rattle.std.proofs.Common.{◌∙◌, sym, None}
 use Rattle.lexre.proofs.IntervalLaws.{exactly, at_least, at_least_too_many, no_comma, comma_unclosed, comma_no_digit, between}
 use Rattle.lexre.proofs.braces.interval_at.Goals as goal
 

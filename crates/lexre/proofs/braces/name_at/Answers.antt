@@ -1,4 +1,4 @@
-use Rattle.std.proofs.Common.{◌≡◌, ◌||◌, ◌==◌, rules, None, Some}
+use Rattle.std.proofs.Common.{◌||◌, ◌==◌, rules, None, Some}
 use Rattle.lexmeaning.specs.ByteSets.{is_alnum}
 use Rattle.lexre.proofs.BraceLaws.{name_then}
 use Rattle.lexre.proofs.braces.name_at.Goals as goal
