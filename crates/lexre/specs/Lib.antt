@@ -10,5 +10,6 @@ pub mod Lexical
 pub mod Readings
 pub mod Running
 pub mod Spelling
+pub mod SymbolViews
 pub mod Symbols
 pub mod Views

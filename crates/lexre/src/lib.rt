@@ -19,6 +19,7 @@ mod pattern;
 mod quotes;
 mod runs;
 mod sets;
+mod symbols;
 
 pub use bounds::Lengths;
 pub use counts::positions;
