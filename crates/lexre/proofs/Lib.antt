@@ -1,10 +1,12 @@
 pub mod BraceLaws
 pub mod BracketLaws
+pub mod ClassLaws
 pub mod CuttingLaws
 pub mod DefinitionLaws
 pub mod ElementLaws
 pub mod EscapeLaws
 pub mod GrammarLaws
+pub mod IntervalLaws
 pub mod LengthLaws
 pub mod Narrowing
 pub mod OneTree
@@ -14,3 +16,4 @@ pub mod ReadingLaws
 pub mod Rows
 pub mod RunLaws
 pub mod SetLaws
+pub mod ShorterLaws

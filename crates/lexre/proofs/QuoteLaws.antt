@@ -11,7 +11,7 @@ abbrev IsShorter : ℕ → Found → Type 0
 IsShorter n None = Unit {0}
 IsShorter n (Some x) = length x.1 < n
 
-take_up_to_within : (n : ℕ) (p : ℕ → Bool) (t : List ℕ) → length (take_up_to n p t).1 ≤ length t
+pub take_up_to_within : (n : ℕ) (p : ℕ → Bool) (t : List ℕ) → length (take_up_to n p t).1 ≤ length t
 unfolding take_up_to
 take_up_to_within zero p t = omega arith
 take_up_to_within (suc n) p [] = omega arith
@@ -153,7 +153,7 @@ pub escape_passed : (rest after new : List ℕ) (b x : ℕ) (w : Option (List �
     → ◌≡◌ {A = Found} (escape_at after) (Some (x, new)) → after_quotes new ≡ w
 escape_passed rest after new b x w h e f found = sym (after_escape after new x found) ∙ sym (ap after_quotes (e ∙ ap (λ x. x ∷ after) f)) ∙ h
 
-differs : (b k : ℕ) → (b ≡ k → ⊥) → (b == k) ≡ false
+pub differs : (b k : ℕ) → (b ≡ k → ⊥) → (b == k) ≡ false
 differs b k h = grind (arith, nat_tests)
 
 pub other_passed : (rest after : List ℕ) (b : ℕ) (w : Option (List ℕ)) → after_quotes rest ≡ w → rest ≡ b ∷ after

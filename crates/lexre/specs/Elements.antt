@@ -5,4 +5,4 @@ use Rattle.lexre.specs.declared.parts.Part.{Part}
 abbrev pub element_of : Part → Element
 element_of (Part.Span lo hi) = span lo hi
 element_of (Part.Named letters) = named letters.now
-element_of (Part.Refused kind) = unsupported
+element_of (Part.Refused fault) = unsupported

@@ -1,3 +1,4 @@
+pub mod ClassSets
 pub mod Classes
 pub mod Cutting
 pub mod Definitions
@@ -11,5 +12,6 @@ pub mod Progress
 pub mod Readings
 pub mod Running
 pub mod Spelling
+pub mod SymbolViews
 pub mod Symbols
 pub mod Views

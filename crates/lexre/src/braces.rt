@@ -1,15 +1,19 @@
 //! What stands between braces. (POSIX, lex, Definitions in lex; flex, Patterns.)
-ghost use Rattle.std.specs.Prelude.{◌≡◌, ◌||◌, ◌==◌, List, ℕ, Option, option_map};
-ghost use Rattle.lexmeaning.specs.ByteSets.{is_alnum};
-ghost use Rattle.lexre.specs.Lexical.{name_at};
-ghost use Rattle.lexre.specs.Symbols.{Symbol, name};
+ghost use Rattle.std.specs.Prelude.{◌≡◌, ◌||◌, ◌==◌, List, ℕ, Option, Some, None, MatchResult, length, option_map};
+ghost use Rattle.lexmeaning.specs.ByteSets.{is_alnum, is_digit};
+ghost use Rattle.lexre.specs.SymbolViews.{Front, symbol_of};
+ghost use Rattle.lexre.specs.Lexical.{bounded, braces_at, interval_at, name_at, take_up_to};
+ghost use Rattle.lexre.specs.Symbols.{interval, name};
 
 use crate::classes::Class;
+use crate::digits::capped_value;
+use crate::error::{Fault, PatternErrorKind};
 use crate::runs::{skip_word, take_up_to};
+use crate::symbols::Symbol;
 
 /// The letters of a name, after the opening brace, and what follows the closing one.
 pub(crate) fn name_at(text: &[u8]) -> Option<(&[u8], &[u8])>
-    ensures { ◌≡◌ {A = Option (Symbol × List ℕ)} (name_at text.now) (option_map (λ x. (name x.0.now, x.1.now)) result) }
+    ensures { ◌≡◌ {A = Front} (name_at text.now) (option_map (λ x. (name x.0.now, x.1.now)) result) }
 {
     let (letters, rest) = take_up_to(text.len(), |byte| is_in_name(byte), text);
     let after = skip_word(b"}", rest)?;
@@ -21,4 +25,69 @@ fn is_in_name(byte: u8) -> bool
     ensures { result ≡ (is_alnum byte || byte == 95 || byte == 45) }
 {
     Class::Alnum.contains(byte) || matches!(byte, b'_' | b'-')
+}
+
+/// The least and the greatest count of an interval, after the opening brace, and what follows the closing one.
+pub(crate) fn interval_at(text: &[u8]) -> Option<((u8, Option<u8>), &[u8])>
+    ensures { ◌≡◌ {A = Front} (interval_at text.now) (option_map (λ x. (interval x.0.0 x.0.1, x.1.now)) result) }
+{
+    let (digits, rest) = digits_at(text);
+    let least = capped_value(10, digits);
+    if let Some(after) = skip_word(b"}", rest) {
+        return Some((counts(least, least)?, after));
+    }
+    if let Some(after) = skip_word(b",}", rest) {
+        return Some(((u8::try_from(least).ok()?, None), after));
+    }
+    let (digits, rest) = digits_at(skip_word(b",", rest)?);
+    let after = skip_word(b"}", rest)?;
+    if digits.is_empty() {
+        return None;
+    }
+    Some((counts(least, capped_value(10, digits))?, after))
+}
+
+fn digits_at(text: &[u8]) -> (&[u8], &[u8])
+    ensures { ◌≡◌ {A = List ℕ × List ℕ} (take_up_to (length text.now) is_digit text.now) (result.0.now, result.1.now) }
+{
+    take_up_to(text.len(), |byte| Class::Digit.contains(byte), text)
+}
+
+/// The two counts, where they are in order and the greatest is from 1 to 255.
+#[tactic(auto, unfolding(crate::specs::Lexical::bounded))]
+fn counts(least: u32, most: u32) -> Option<(u8, Option<u8>)>
+    ensures { (rest : List ℕ) → ◌≡◌ {A = Front} (bounded least most rest) (option_map (λ x. (interval x.0 x.1, rest)) result) }
+{
+    if least > most || most == 0 {
+        return None;
+    }
+    let most = u8::try_from(most).ok()?;
+    let least = u8::try_from(least).ok()?;
+    Some((least, Some(most)))
+}
+
+/// What stands after an opening brace, and what follows the closing one. `braces` is the text from the opening brace on.
+#[tactic(auto, unfolding(crate::specs::Lexical::braces_at))]
+pub(crate) fn braces_at<'a>(
+    braces: &'a [u8],
+    text: &'a [u8],
+) -> Result<(Symbol<'a>, &'a [u8]), Fault<'a>>
+    ensures { MatchResult result
+        (λ x. ◌≡◌ {A = Front} (braces_at text.now) (Some (symbol_of x.0, x.1.now)))
+        (λ _. ◌≡◌ {A = Front} (braces_at text.now) None) }
+{
+    let refused = Fault {
+        kind: PatternErrorKind::BadInterval,
+        rest: braces,
+    };
+    let (&byte, _) = text.split_first().ok_or(refused)?;
+    if Class::Digit.contains(byte) {
+        let ((least, most), rest) = interval_at(text).ok_or(refused)?;
+        Ok((Symbol::Interval(least, most), rest))
+    } else if Class::Alpha.contains(byte) || byte == b'_' {
+        let (letters, rest) = name_at(text).ok_or(refused)?;
+        Ok((Symbol::Name(letters), rest))
+    } else {
+        Err(refused)
+    }
 }

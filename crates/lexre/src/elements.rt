@@ -16,7 +16,11 @@ fn bracketed_at(text: &[u8]) -> Option<(Part<'_>, &[u8])>
         return Some((Part::Named(letters), rest));
     }
     let rest = skip_unsupported(text)?;
-    Some((Part::Refused(PatternErrorKind::UnsupportedBracket), rest))
+    let fault = Fault {
+        kind: PatternErrorKind::UnsupportedBracket,
+        rest: text,
+    };
+    Some((Part::Refused(fault), rest))
 }
 
 /// Whether a range goes on here: a `-` that is followed by anything but an unescaped `]`.
@@ -30,16 +34,33 @@ fn is_range(text: &[u8]) -> bool
     }
 }
 
-/// After the first end of a range and its `-`: the range, and what follows it.
+/// After the first end of a range and its `-`: the range, and what follows it. `range` is the text from the range on.
 #[tactic(auto, unfolding(crate::specs::Lexical::range_at))]
-fn range_at<'a>(class: &'a [u8], low: u8, text: &'a [u8]) -> Result<(Part<'a>, &'a [u8]), Fault<'a>>
+fn range_at<'a>(
+    class: &'a [u8],
+    range: &'a [u8],
+    low: u8,
+    text: &'a [u8],
+) -> Result<(Part<'a>, &'a [u8]), Fault<'a>>
     ensures { MatchResult result
         (λ x. ◌≡◌ {A = Option (Element × List ℕ)} (range_at low text.now) (Some (element_of x.0, x.1.now)))
         (λ _. ◌≡◌ {A = Option (Element × List ℕ)} (range_at low text.now) None) }
 {
     match bracketed_at(text) {
-        Some((Part::Named(_), rest)) => Ok((Part::Refused(PatternErrorKind::BadRange), rest)),
-        Some((_, rest)) => Ok((Part::Refused(PatternErrorKind::UnsupportedBracket), rest)),
+        Some((Part::Named(_), rest)) => {
+            let fault = Fault {
+                kind: PatternErrorKind::BadRange,
+                rest: range,
+            };
+            Ok((Part::Refused(fault), rest))
+        }
+        Some((_, rest)) => {
+            let fault = Fault {
+                kind: PatternErrorKind::UnsupportedBracket,
+                rest: text,
+            };
+            Ok((Part::Refused(fault), rest))
+        }
         None => {
             let (high, rest) = class_byte_at(class, text)?;
             Ok((Part::Span(low, high), rest))
@@ -63,7 +84,7 @@ pub(crate) fn element_at<'a>(
     }
     let (low, rest) = class_byte_at(class, text)?;
     match rest.split_first() {
-        Some((_, after)) if is_range(rest) => range_at(class, low, after),
+        Some((_, after)) if is_range(rest) => range_at(class, text, low, after),
         _ => Ok((Part::Span(low, low), rest)),
     }
 }

@@ -12,6 +12,7 @@ mod digits;
 mod elements;
 mod error;
 mod escapes;
+mod expressions;
 mod laws;
 mod measures;
 mod parts;
@@ -20,6 +21,7 @@ mod pattern;
 mod quotes;
 mod runs;
 mod sets;
+mod symbols;
 
 pub use bounds::Lengths;
 pub use counts::positions;

@@ -1,5 +1,5 @@
 //! What a class is made of.
-use crate::error::PatternErrorKind;
+use crate::error::Fault;
 
 /// An element of a class.
 #[derive(Clone, Copy)]
@@ -9,5 +9,5 @@ pub(crate) enum Part<'a> {
     /// `[:name:]`.
     Named(&'a [u8]),
     /// What may not stand in a class, and what is told of it.
-    Refused(PatternErrorKind),
+    Refused(Fault<'a>),
 }

@@ -1,5 +1,5 @@
 //! Runs of bytes at the front of a text.
-ghost use Rattle.std.specs.Prelude.{◌≡◌, ℕ, ◌<◌, Bool, List, option_map};
+ghost use Rattle.std.specs.Prelude.{◌≡◌, ℕ, ◌<◌, Bool, List, drop, option_map};
 ghost use Rattle.lexre.specs.Lexical.{after_word, take_up_to};
 
 /// The bytes at the front that pass the test, at most so many, and what follows them.
@@ -26,4 +26,11 @@ pub(crate) fn skip_word<'a>(word: &[u8], text: &'a [u8]) -> Option<&'a [u8]>
     } else {
         None
     }
+}
+
+/// What follows the first byte, if there is one.
+pub(crate) fn skip_first(text: &[u8]) -> &[u8]
+    ensures { result.now ≡ drop 1 text.now }
+{
+    text.get(1..).unwrap_or(text)
 }

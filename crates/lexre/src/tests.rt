@@ -4,6 +4,8 @@ ghost use Rattle.std.specs.Prelude.{◌≤◌, IfOk};
 ghost use Rattle.lexmeaning.specs.Shapes.{IsSoundTree};
 ghost use Rattle.lexre.specs.Views.{tree_of};
 
+use crate::braces::interval_at;
+use crate::expressions::class_at;
 use crate::{
     ByteSet, Cutting, Defs, DefsError, Lengths, Pattern, PatternError, PatternErrorKind,
     cut_pattern, lengths, one_cutting, one_tree, positions, readings_use_own_positions,
@@ -327,4 +329,125 @@ fn cuttings_of_long_texts(rt: HostRuntime) -> Result<(), Fail> {
         }
     }
     Ok(())
+}
+
+#[test]
+fn classes_as_sets(rt: HostRuntime) {
+    let minus = ByteSet::of(b'-');
+    let pair = ByteSet::of(b'a').union(&minus);
+    for (text, set) in [
+        (
+            b"[]a]".as_slice(),
+            ByteSet::of(b']').union(&ByteSet::of(b'a')),
+        ),
+        (b"[a-]".as_slice(), pair),
+        (b"[-a]".as_slice(), pair),
+        (
+            b"[a-c-e]".as_slice(),
+            ByteSet::range(b'a', b'c')
+                .union(&minus)
+                .union(&ByteSet::of(b'e')),
+        ),
+        (b"[^\\n]".as_slice(), ByteSet::of(10).complement()),
+        (
+            b"[[.]".as_slice(),
+            ByteSet::of(b'[').union(&ByteSet::of(b'.')),
+        ),
+    ] {
+        match class_at(text, false) {
+            Ok((found, rest)) => assert!(rt; found == set && rest.is_empty()),
+            Err(_) => assert!(rt; false),
+        }
+    }
+    match class_at(b"[^b]x", true) {
+        Ok((found, rest)) => {
+            assert!(rt; !found.contains(b'b') && !found.contains(b'B') && found.contains(b'x'));
+            assert_eq!(rt; rest, b"x".as_slice());
+        }
+        Err(_) => assert!(rt; false),
+    }
+}
+
+#[test]
+fn refused_classes(rt: HostRuntime) {
+    for (text, kind, rest) in [
+        (
+            b"[a".as_slice(),
+            PatternErrorKind::UnclosedClass,
+            b"[a".as_slice(),
+        ),
+        (
+            b"[]".as_slice(),
+            PatternErrorKind::UnclosedClass,
+            b"[]".as_slice(),
+        ),
+        (
+            b"[z-a]".as_slice(),
+            PatternErrorKind::BadRange,
+            b"z-a]".as_slice(),
+        ),
+        (
+            b"[z-a".as_slice(),
+            PatternErrorKind::BadRange,
+            b"z-a".as_slice(),
+        ),
+        (
+            b"[a-[:foo:]]".as_slice(),
+            PatternErrorKind::BadRange,
+            b"a-[:foo:]]".as_slice(),
+        ),
+        (
+            b"[^\\0-\\377]".as_slice(),
+            PatternErrorKind::EmptyClass,
+            b"[^\\0-\\377]".as_slice(),
+        ),
+        (
+            b"[[:foo:]]".as_slice(),
+            PatternErrorKind::UnknownClassName,
+            b"[:foo:]]".as_slice(),
+        ),
+        (
+            b"[[=a=]]".as_slice(),
+            PatternErrorKind::UnsupportedBracket,
+            b"[=a=]]".as_slice(),
+        ),
+        (
+            b"[b-[=a=]]".as_slice(),
+            PatternErrorKind::UnsupportedBracket,
+            b"[=a=]]".as_slice(),
+        ),
+        (
+            b"[\\400]".as_slice(),
+            PatternErrorKind::BadEscape,
+            b"\\400]".as_slice(),
+        ),
+    ] {
+        match class_at(text, false) {
+            Ok(_) => assert!(rt; false),
+            Err(fault) => assert!(rt; fault.kind == kind && fault.rest == rest),
+        }
+    }
+}
+
+#[test]
+fn intervals(rt: HostRuntime) {
+    for (text, least, most) in [
+        (b"2,3}b?".as_slice(), 2, Some(3)),
+        (b"255}b?".as_slice(), 255, Some(255)),
+        (b"0,}b?".as_slice(), 0, None),
+        (b"0000000000000000000002}b?".as_slice(), 2, Some(2)),
+    ] {
+        assert!(rt; interval_at(text) == Some(((least, most), b"b?".as_slice())));
+    }
+    for text in [
+        b"2,1}".as_slice(),
+        b"256}".as_slice(),
+        b"65538}".as_slice(),
+        b"256,}".as_slice(),
+        b"0}".as_slice(),
+        b"2".as_slice(),
+        b"2,x}".as_slice(),
+    ] {
+        assert!(rt; interval_at(text).is_none());
+    }
 }

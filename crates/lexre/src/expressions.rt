@@ -1,0 +1,96 @@
+//! The set of a class. (POSIX, Base Definitions, RE Bracket Expression.)
+ghost use Rattle.std.specs.Prelude.{◌≡◌, ℕ, Bool, List, Option, Some, None, true, suc, length, drop, MatchResult};
+ghost use Rattle.lexmeaning.specs.ByteSets.{ByteSet};
+ghost use Rattle.lexre.specs.ClassSets.{class_set_at, member_at, members_at};
+ghost use Rattle.lexre.specs.Lexical.{folded};
+
+use crate::elements::element_at;
+use crate::error::{Fault, PatternErrorKind};
+use crate::parts::Part;
+use crate::runs::{skip_first, skip_word};
+use crate::sets::ByteSet;
+
+/// The set of the element at the front of the text, and what follows it. `class` is the text from the class on.
+#[tactic(auto, unfolding(crate::specs::Lexical::element_set))]
+fn member_at<'a>(class: &'a [u8], text: &'a [u8]) -> Result<(ByteSet, &'a [u8]), Fault<'a>>
+    ensures { MatchResult result
+        (λ x. ◌≡◌ {A = Option (ByteSet × List ℕ)} (member_at text.now) (Some (x.0, x.1.now)))
+        (λ _. ◌≡◌ {A = Option (ByteSet × List ℕ)} (member_at text.now) None) }
+{
+    let (part, rest) = element_at(class, text)?;
+    match part {
+        Part::Span(low, high) => {
+            if low > high {
+                return Err(Fault {
+                    kind: PatternErrorKind::BadRange,
+                    rest: text,
+                });
+            }
+            Ok((ByteSet::range(low, high), rest))
+        }
+        Part::Named(name) => {
+            let set = ByteSet::named(name).ok_or(Fault {
+                kind: PatternErrorKind::UnknownClassName,
+                rest: text,
+            })?;
+            Ok((set, rest))
+        }
+        Part::Refused(fault) => Err(fault),
+    }
+}
+
+/// The bytes of the elements up to the closing bracket, and what follows it. A bracket that comes first is an element.
+fn members_at<'a>(class: &'a [u8], text: &'a [u8]) -> Result<(ByteSet, &'a [u8]), Fault<'a>>
+    ensures { MatchResult result
+        (λ x. ◌≡◌ {A = Option (ByteSet × List ℕ)} (members_at (suc (length text.now)) true text.now) (Some (x.0, x.1.now)))
+        (λ _. ◌≡◌ {A = Option (ByteSet × List ℕ)} (members_at (suc (length text.now)) true text.now) None) }
+{
+    let (mut set, mut rest) = match member_at(class, text) {
+        Ok(found) => found,
+        Err(fault) => return Err(fault),
+    };
+    while !rest.starts_with(b"]") {
+        let (more, after) = match member_at(class, rest) {
+            Ok(found) => found,
+            Err(fault) => return Err(fault),
+        };
+        set = set.union(&more);
+        rest = after;
+    }
+    Ok((set, skip_first(rest)))
+}
+
+/// The set, with each letter in both cases under `fold`. (flex, Scanner Options: case-insensitive.)
+pub(crate) fn folded(fold: bool, set: ByteSet) -> ByteSet
+    ensures { result ≡ folded fold set }
+{
+    if fold { set.fold_case() } else { set }
+}
+
+/// The set of a class, and what follows it. `class` is the text from its opening bracket on.
+pub(crate) fn class_at<'a>(class: &'a [u8], fold: bool) -> Result<(ByteSet, &'a [u8]), Fault<'a>>
+    ensures { MatchResult result
+        (λ x. ◌≡◌ {A = Option (ByteSet × List ℕ)} (class_set_at fold (drop 1 class.now)) (Some (x.0, x.1.now)))
+        (λ _. ◌≡◌ {A = Option (ByteSet × List ℕ)} (class_set_at fold (drop 1 class.now)) None) }
+{
+    let inside = skip_first(class);
+    if let Some(listed) = skip_word(b"^", inside) {
+        let (set, rest) = match members_at(class, listed) {
+            Ok(found) => found,
+            Err(fault) => return Err(fault),
+        };
+        let others = folded(fold, set).complement();
+        if others.is_empty() {
+            return Err(Fault {
+                kind: PatternErrorKind::EmptyClass,
+                rest: class,
+            });
+        }
+        return Ok((others, rest));
+    }
+    let (set, rest) = match members_at(class, inside) {
+        Ok(found) => found,
+        Err(fault) => return Err(fault),
+    };
+    Ok((folded(fold, set), rest))
+}
