@@ -1,0 +1,2 @@
+pub mod Halves
+pub mod Views

@@ -1,0 +1,19 @@
+//! Patterns as trees. (POSIX, lex, Regular Expressions in lex.)
+use crate::sets::ByteSet;
+
+/// A pattern: what a text of lex's regular expressions stands for.
+#[derive(Drop)]
+pub enum Pattern {
+    /// The empty text.
+    Empty,
+    /// One byte of the set.
+    Set(ByteSet),
+    /// Its parts, one after another.
+    Cat(Vec<Pattern>),
+    /// One of its parts.
+    Alt(Vec<Pattern>),
+    /// Any number of times.
+    Star(Box<Pattern>),
+    /// At least so many times, and at most so many where there is an upper bound.
+    Repeat(Box<Pattern>, u8, Option<u8>),
+}
