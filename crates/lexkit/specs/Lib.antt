@@ -4,3 +4,4 @@ pub mod Sink
 pub mod Memory
 pub mod Adapters
 pub mod MemoryEnds
+pub mod Places

@@ -2,6 +2,7 @@
 //! words and lines of its program.
 #![tactic(auto)]
 
+mod matching;
 mod memory;
 mod sink;
 mod source;
