@@ -5,3 +5,7 @@ pub mod Memory
 pub mod Adapters
 pub mod MemoryEnds
 pub mod Places
+pub mod Args
+pub mod Joined
+pub mod Faults
+pub mod ScanCounts

@@ -2,11 +2,23 @@
 //! words and lines of its program.
 #![tactic(auto)]
 
+mod args;
+mod errors;
+mod faults;
 mod matching;
 mod memory;
+mod options;
+mod scan;
 mod sink;
 mod source;
 
+pub use args::{ArgsError, Job, read_args};
+pub use errors::{
+    GenError, PatternError, PatternErrorKind, RunError, ScanError, SpecError, SpecErrorKind,
+};
+pub use faults::{Fault, write_fault};
 pub use memory::{MemorySink, MemorySource};
+pub use options::Options;
+pub use scan::scan_spec;
 pub use sink::{Sink, ToWrite, WriteFault};
 pub use source::{FromRead, ReadFault, Source};

@@ -1,0 +1,8 @@
+-- What a command line asks for.
+use Rattle.std.specs.Prelude.{◌≢◌, codes, string_bytes}
+use Rattle.lexkit.specs.declared.args.Job.{Job}
+use Rattle.lexkit.specs.declared.args.Job.TheVariants.{ScanSpec}
+
+-- the job has a file by name: `-` would be standard input, which is scanned
+abbrev pub IsNamed : Job → Type 0
+IsNamed (ScanSpec file) = string_bytes file ≢ codes "-"

@@ -1,0 +1,107 @@
+-- The line that tells what ended the program, and the status that it ends with.
+use Rattle.std.specs.Prelude.{◌≡◌, ℕ, Bool, true, false, if◌then◌else◌, List, [], ◌∷◌, ◌++◌, codes, decimal}
+use Rattle.std.specs.List.{concat}
+use Rattle.lexkit.specs.declared.args.ArgsError.{ArgsError}
+use Rattle.lexkit.specs.declared.args.ArgsError.TheVariants as args
+use Rattle.lexkit.specs.declared.errors.PatternErrorKind.{PatternErrorKind}
+use Rattle.lexkit.specs.declared.errors.PatternErrorKind.TheVariants as patterns
+use Rattle.lexkit.specs.declared.errors.SpecErrorKind.{SpecErrorKind}
+use Rattle.lexkit.specs.declared.errors.SpecErrorKind.TheVariants as kinds
+use Rattle.lexkit.specs.declared.errors.SpecError.{SpecError}
+use Rattle.lexkit.specs.declared.errors.GenError.{GenError}
+use Rattle.lexkit.specs.declared.errors.GenError.TheVariants as gens
+use Rattle.lexkit.specs.declared.errors.RunError.{RunError}
+use Rattle.lexkit.specs.declared.errors.RunError.TheVariants as runs
+use Rattle.lexkit.specs.declared.errors.ScanError.{ScanError}
+use Rattle.lexkit.specs.declared.errors.ScanError.TheVariants as scans
+use Rattle.lexkit.specs.declared.faults.Fault.{Fault}
+use Rattle.lexkit.specs.declared.faults.Fault.TheVariants as faults
+
+-- the refusal says that memory ran out, and nothing of the specification
+abbrev pub pattern_lacks_memory : PatternErrorKind → Bool
+pattern_lacks_memory patterns.OutOfMemory = true
+pattern_lacks_memory other = false
+
+abbrev pub lacks_memory : SpecErrorKind → Bool
+lacks_memory kinds.OutOfMemory = true
+lacks_memory (kinds.Pattern e) = pattern_lacks_memory e.kind
+lacks_memory other = false
+
+-- the name of a refusal
+abbrev pub pattern_name : PatternErrorKind → List ℕ
+pattern_name patterns.MissingOperand = codes "MissingOperand"
+pattern_name patterns.TooBig = codes "TooBig"
+pattern_name patterns.OutOfMemory = codes "OutOfMemory"
+
+abbrev pub kind_name : SpecErrorKind → List ℕ
+kind_name kinds.NoRulesSection = codes "NoRulesSection"
+kind_name kinds.BadDefinitionLine = codes "BadDefinitionLine"
+kind_name (kinds.Pattern e) = pattern_name e.kind
+kind_name kinds.UnknownStatement = codes "UnknownStatement"
+kind_name kinds.TooManyRules = codes "TooManyRules"
+kind_name kinds.TooLong = codes "TooLong"
+kind_name kinds.OutOfMemory = codes "OutOfMemory"
+
+-- where in a rule's pattern the refusal is
+abbrev pub place_words : SpecErrorKind → List ℕ
+place_words (kinds.Pattern e) = codes " at " ++ decimal e.at
+place_words other = []
+
+abbrev pub spec_words : SpecError → List ℕ
+spec_words e = if lacks_memory e.kind then codes "out of memory" else concat (codes "line " ∷ decimal e.line ∷ codes ": " ∷ kind_name e.kind ∷ place_words e.kind ∷ [])
+
+abbrev pub run_words : RunError → List ℕ
+run_words runs.Read = codes "read fault"
+run_words runs.TooManyReads = codes "too many reads"
+run_words runs.Write = codes "write fault"
+run_words runs.OutOfMemory = codes "out of memory"
+run_words runs.Failed = codes "failed"
+
+abbrev pub args_words : ArgsError → List ℕ
+args_words args.Usage = codes "usage"
+args_words args.OutOfMemory = codes "out of memory"
+
+abbrev pub gen_words : GenError → List ℕ
+gen_words (gens.Spec e) = spec_words e
+gen_words gens.OutOfMemory = codes "out of memory"
+
+abbrev pub scan_words : ScanError → List ℕ
+scan_words (scans.Generate e) = gen_words e
+scan_words (scans.Run e) = run_words e
+
+abbrev pub fault_words : Fault → List ℕ
+fault_words (faults.Args e) = args_words e
+fault_words (faults.Scan e) = scan_words e
+fault_words (faults.File name) = concat (codes "cannot read " ∷ name.now ∷ [])
+fault_words faults.Output = codes "write fault"
+
+-- the words as a line of the program
+abbrev pub line_of : List ℕ → List ℕ
+line_of words = codes "lex: " ++ words ++ (10 ∷ [])
+
+-- The statuses: 64 a command line, 65 a specification, 66 a file that cannot be read, 71 want of memory,
+-- 74 a read or a write.
+abbrev pub spec_status : SpecError → ℕ
+spec_status e = if lacks_memory e.kind then 71 else 65
+
+abbrev pub run_status : RunError → ℕ
+run_status runs.OutOfMemory = 71
+run_status other = 74
+
+abbrev pub gen_status : GenError → ℕ
+gen_status (gens.Spec e) = spec_status e
+gen_status gens.OutOfMemory = 71
+
+abbrev pub scan_status : ScanError → ℕ
+scan_status (scans.Generate e) = gen_status e
+scan_status (scans.Run e) = run_status e
+
+abbrev pub args_status : ArgsError → ℕ
+args_status args.Usage = 64
+args_status args.OutOfMemory = 71
+
+abbrev pub status_of : Fault → ℕ
+status_of (faults.Args e) = args_status e
+status_of (faults.Scan e) = scan_status e
+status_of (faults.File name) = 66
+status_of faults.Output = 74

@@ -1,0 +1,26 @@
+-- How often the ends of a scan failed, by its answer.
+use Rattle.std.specs.Prelude.{ℕ, Result, Ok, Err}
+use Rattle.lexkit.specs.declared.errors.RunError.{RunError}
+use Rattle.lexkit.specs.declared.errors.RunError.TheVariants as runs
+use Rattle.lexkit.specs.declared.errors.ScanError.{ScanError}
+use Rattle.lexkit.specs.declared.errors.ScanError.TheVariants.{Generate, Run}
+
+-- 1 where the scan stopped at a failure of its source
+abbrev pub read_fault_of : RunError → ℕ
+read_fault_of runs.Read = 1
+read_fault_of other = 0
+
+abbrev pub read_fault_count : {T : Type 0} → Result T ScanError → ℕ
+read_fault_count (Ok v) = 0
+read_fault_count (Err (Generate e)) = 0
+read_fault_count (Err (Run e)) = read_fault_of e
+
+-- 1 where the scan stopped at a failure of its sink
+abbrev pub write_fault_of : RunError → ℕ
+write_fault_of runs.Write = 1
+write_fault_of other = 0
+
+abbrev pub write_fault_count : {T : Type 0} → Result T ScanError → ℕ
+write_fault_count (Ok v) = 0
+write_fault_count (Err (Generate e)) = 0
+write_fault_count (Err (Run e)) = write_fault_of e

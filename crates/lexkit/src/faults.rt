@@ -1,0 +1,181 @@
+//! The line on standard error, and the exit status.
+ghost use Rattle.std.specs.Prelude.{◌≡◌, ℕ, ◌+◌, ◌-◌, ◌^◌, ◌<◌, ◌≤◌, List, ◌++◌};
+ghost use Rattle.lexkit.specs.Source.{fault_count};
+ghost use Rattle.lexkit.specs.Sink.{Appended};
+ghost use Rattle.lexkit.specs.Joined.{joined};
+ghost use Rattle.lexkit.specs.Faults.{line_of, fault_words, scan_words, gen_words, spec_words, lacks_memory, pattern_name, kind_name, run_words, args_words};
+
+use crate::args::ArgsError;
+use crate::errors::{
+    GenError, PatternError, PatternErrorKind, RunError, ScanError, SpecError, SpecErrorKind,
+};
+use crate::sink::{Sink, WriteFault};
+use itoa::Buffer;
+
+/// What ended the program before its work was done.
+#[derive(Clone, Copy, Debug)]
+pub enum Fault<'a> {
+    /// The command line was refused.
+    Args(ArgsError),
+    /// The scan was refused, or stopped.
+    Scan(ScanError),
+    /// This file can't be read.
+    File(&'a str),
+    /// The output can't be written.
+    Output,
+}
+
+impl Fault<'_> {
+    ghost use Rattle.lexkit.specs.Faults.{status_of};
+
+    /// The exit status: 64 for the command line, 65 for the specification, 66 for a file, 71 for want of
+    /// memory, and 74 for a read or a write.
+    pub fn status(&self) -> u8
+        ensures { result ≡ status_of self.now }
+    {
+        match self {
+            Fault::Args(ArgsError::Usage) => 64,
+            Fault::Scan(ScanError::Generate(GenError::Spec(error))) if !lacks_memory(error.kind) =>
+                { 65 }
+            Fault::File(_) => 66,
+            Fault::Args(ArgsError::OutOfMemory)
+            | Fault::Scan(ScanError::Generate(_))
+            | Fault::Scan(ScanError::Run(RunError::OutOfMemory)) => 71,
+            Fault::Scan(ScanError::Run(_)) | Fault::Output => 74,
+        }
+    }
+}
+
+/// Writes the line that tells a fault, as `lex: line 2: BadDefinitionLine`. It takes no memory.
+pub fn write_fault<K: Sink>(fault: Fault<'_>, sink: &mut K) -> Result<(), WriteFault>
+    requires { K.failures sink.old < 2 ^ 64 - 1 }
+    ensures bytes { Appended (λ xs. K.wrote sink.old xs sink.new) (line_of (fault_words fault.entry)) result }
+    ensures failures { K.failures sink.new ≡ K.failures sink.old + fault_count result }
+{
+    match fault {
+        Fault::Args(error) => put_line(sink, &[args_text(error)]),
+        Fault::Scan(error) => write_scan_error(error, sink),
+        Fault::File(name) => put_line(sink, &["cannot read ", name]),
+        Fault::Output => put_line(sink, &["write fault"]),
+    }
+}
+
+const OUT_OF_MEMORY: &str = "out of memory";
+
+fn write_scan_error<K: Sink>(error: ScanError, sink: &mut K) -> Result<(), WriteFault>
+    requires { K.failures sink.old < 2 ^ 64 - 1 }
+    ensures bytes { Appended (λ xs. K.wrote sink.old xs sink.new) (line_of (scan_words error)) result }
+    ensures failures { K.failures sink.new ≡ K.failures sink.old + fault_count result }
+{
+    match error {
+        ScanError::Generate(error) => write_gen_error(error, sink),
+        ScanError::Run(error) => put_line(sink, &[run_text(error)]),
+    }
+}
+
+fn write_gen_error<K: Sink>(error: GenError, sink: &mut K) -> Result<(), WriteFault>
+    requires { K.failures sink.old < 2 ^ 64 - 1 }
+    ensures bytes { Appended (λ xs. K.wrote sink.old xs sink.new) (line_of (gen_words error)) result }
+    ensures failures { K.failures sink.new ≡ K.failures sink.old + fault_count result }
+{
+    match error {
+        GenError::Spec(error) => write_spec_error(error, sink),
+        GenError::OutOfMemory => put_line(sink, &[OUT_OF_MEMORY]),
+    }
+}
+
+fn write_spec_error<K: Sink>(error: SpecError, sink: &mut K) -> Result<(), WriteFault>
+    requires { K.failures sink.old < 2 ^ 64 - 1 }
+    ensures bytes { Appended (λ xs. K.wrote sink.old xs sink.new) (line_of (spec_words error)) result }
+    ensures failures { K.failures sink.new ≡ K.failures sink.old + fault_count result }
+{
+    if lacks_memory(error.kind) {
+        return put_line(sink, &[OUT_OF_MEMORY]);
+    }
+    let name = kind_text(error.kind);
+    let mut line = Buffer::new();
+    let line = line.format(error.line);
+    match error.kind {
+        SpecErrorKind::Pattern(pattern) => {
+            let mut at = Buffer::new();
+            let at = at.format(pattern.at);
+            put_line(sink, &["line ", line, ": ", name, " at ", at])
+        }
+        _ => put_line(sink, &["line ", line, ": ", name]),
+    }
+}
+
+fn lacks_memory(kind: SpecErrorKind) -> bool
+    ensures { result ≡ lacks_memory kind }
+{
+    matches!(
+        kind,
+        SpecErrorKind::OutOfMemory
+            | SpecErrorKind::Pattern(PatternError {
+                kind: PatternErrorKind::OutOfMemory,
+                ..
+            })
+    )
+}
+
+fn pattern_text(kind: PatternErrorKind) -> &'static str
+    ensures { result.now ≡ pattern_name kind }
+{
+    match kind {
+        PatternErrorKind::MissingOperand => "MissingOperand",
+        PatternErrorKind::TooBig => "TooBig",
+        PatternErrorKind::OutOfMemory => "OutOfMemory",
+    }
+}
+
+fn kind_text(kind: SpecErrorKind) -> &'static str
+    ensures { result.now ≡ kind_name kind }
+{
+    match kind {
+        SpecErrorKind::NoRulesSection => "NoRulesSection",
+        SpecErrorKind::BadDefinitionLine => "BadDefinitionLine",
+        SpecErrorKind::Pattern(error) => pattern_text(error.kind),
+        SpecErrorKind::UnknownStatement => "UnknownStatement",
+        SpecErrorKind::TooManyRules => "TooManyRules",
+        SpecErrorKind::TooLong => "TooLong",
+        SpecErrorKind::OutOfMemory => "OutOfMemory",
+    }
+}
+
+fn run_text(error: RunError) -> &'static str
+    ensures { result.now ≡ run_words error }
+{
+    match error {
+        RunError::Read => "read fault",
+        RunError::TooManyReads => "too many reads",
+        RunError::Write => "write fault",
+        RunError::OutOfMemory => OUT_OF_MEMORY,
+        RunError::Failed => "failed",
+    }
+}
+
+fn args_text(error: ArgsError) -> &'static str
+    ensures { result.now ≡ args_words error }
+{
+    match error {
+        ArgsError::Usage => "usage",
+        ArgsError::OutOfMemory => OUT_OF_MEMORY,
+    }
+}
+
+/// Puts `lex: `, the parts and a newline.
+fn put_line<K: Sink>(sink: &mut K, parts: &[&str]) -> Result<(), WriteFault>
+    requires { K.failures sink.old < 2 ^ 64 - 1 }
+    ensures bytes { Appended (λ xs. K.wrote sink.old xs sink.new) (line_of (joined parts.now)) result }
+    ensures failures { K.failures sink.new ≡ K.failures sink.old + fault_count result }
+{
+    if let Err(fault) = sink.put(b"lex: ") {
+        return Err(fault);
+    }
+    for part in parts {
+        if let Err(fault) = sink.put(part.as_bytes()) {
+            return Err(fault);
+        }
+    }
+    sink.put(b"\n")
+}
