@@ -9,3 +9,6 @@ pub mod Args
 pub mod Joined
 pub mod Faults
 pub mod ScanCounts
+pub mod Simple
+pub mod Turns
+pub mod Matches

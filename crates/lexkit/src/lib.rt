@@ -11,6 +11,8 @@ mod options;
 mod scan;
 mod sink;
 mod source;
+mod spec;
+mod turns;
 
 pub use args::{ArgsError, Job, read_args};
 pub use errors::{

@@ -63,7 +63,7 @@ fn ends_of_set(
 
 /// Where words of the pattern end that begin at one of the starts.
 #[cycle(ends)]
-fn ends_of(
+pub(crate) fn ends_of(
     alloc: Global,
     pattern: &Pattern,
     text: &[u8],
