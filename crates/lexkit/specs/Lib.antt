@@ -12,3 +12,5 @@ pub mod ScanCounts
 pub mod Simple
 pub mod Turns
 pub mod Matches
+pub mod Reads
+pub mod InputViews

@@ -5,6 +5,7 @@
 mod args;
 mod errors;
 mod faults;
+mod input;
 mod matching;
 mod memory;
 mod options;
