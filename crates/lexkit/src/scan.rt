@@ -82,3 +82,116 @@ fn scan_rules<S: Source, K: Sink>(
         },
     }
 }
+
+#[cfg(test)]
+mod tests {
+    use super::*;
+    use crate::memory::{MemorySink, MemorySource};
+    use crate::spec::Statement;
+    use lexre::{ByteSet, Pattern};
+    use std::alloc::AllocError;
+    use std::test::Fail;
+
+    fn word(alloc: Global, text: &[u8]) -> Result<Pattern, AllocError> {
+        let mut parts = Vec::new(alloc);
+        for byte in text {
+            parts.push(Pattern::Set(ByteSet::of(*byte)))?;
+        }
+        Ok(Pattern::Cat(parts))
+    }
+
+    fn rule(alloc: Global, head: Pattern, literal: Option<&[u8]>) -> Result<Rule, AllocError> {
+        let statement = match literal {
+            None => Statement::Echo,
+            Some(bytes) => Statement::Print(Vec::from_slice(alloc, bytes)?),
+        };
+        Ok(Rule {
+            line: 2,
+            head,
+            statements: vec![in alloc; statement]?,
+        })
+    }
+
+    /// `if` and two digits.
+    fn keys(alloc: Global) -> Result<Vec<Rule>, AllocError> {
+        let digit = || Pattern::Set(ByteSet::range(b'0', b'9'));
+        let number = Pattern::Cat(vec![in alloc; digit(), digit()]?);
+        let key = rule(alloc, word(alloc, b"if")?, Some(b"K"))?;
+        Ok(vec![in alloc; key, rule(alloc, number, Some(b"N"))?]?)
+    }
+
+    #[test]
+    fn takes_the_longest_then_the_first(rt: HostRuntime) -> Result<(), Fail> {
+        let alloc = rt.alloc();
+        let key = rule(alloc, word(alloc, b"if")?, Some(b"K"))?;
+        let longer = rule(alloc, word(alloc, b"iffy")?, Some(b"L"))?;
+        let same = rule(alloc, word(alloc, b"if")?, Some(b"S"))?;
+        let rules = vec![in alloc; key, longer, same]?;
+        let mut source = MemorySource::new(b"iff iffy");
+        let mut sink = MemorySink::new(alloc);
+        assert!(rt;
+            scan_rules(alloc, &rules, &mut source, &mut sink) == Ok(0),
+            "status"
+        );
+        assert_eq!(rt; sink.written(), b"Kf L".as_slice());
+        Ok(())
+    }
+
+    #[test]
+    fn copies_what_no_rule_matches(rt: HostRuntime) -> Result<(), Fail> {
+        let alloc = rt.alloc();
+        let lines: [(&[u8], &[u8]); 3] = [(b"if 42 x", b"K N x"), (b"abc\n", b"abc\n"), (b"", b"")];
+        for (input, want) in lines {
+            let mut source = MemorySource::new(input);
+            let mut sink = MemorySink::new(alloc);
+            assert!(rt;
+                scan_rules(alloc, &keys(alloc)?, &mut source, &mut sink) == Ok(0),
+                "status"
+            );
+            assert_eq!(rt; sink.written(), want);
+        }
+        Ok(())
+    }
+
+    #[test]
+    fn repeats_and_chooses(rt: HostRuntime) -> Result<(), Fail> {
+        let alloc = rt.alloc();
+        let choice = Pattern::Alt(vec![in alloc; word(alloc, b"ab")?, word(alloc, b"a")?]?);
+        let many = Pattern::Star(Box::new(alloc, choice)?);
+        let some = Pattern::Repeat(Box::new(alloc, word(alloc, b"c")?)?, 2, Some(3));
+        let rules = vec![in alloc; rule(alloc, many, Some(b"M"))?, rule(alloc, some, None)?]?;
+        let mut source = MemorySource::new(b"aabab.cccc.b");
+        let mut sink = MemorySink::new(alloc);
+        assert!(rt;
+            scan_rules(alloc, &rules, &mut source, &mut sink) == Ok(0),
+            "status"
+        );
+        assert_eq!(rt; sink.written(), b"M.cccc.b".as_slice());
+        Ok(())
+    }
+
+    #[test]
+    fn stops_at_faults(rt: HostRuntime) -> Result<(), Fail> {
+        let alloc = rt.alloc();
+        for place in 0..7usize {
+            let mut source = MemorySource::failing_after(b"if 42 x", place);
+            let mut sink = MemorySink::new(alloc);
+            let got = scan_rules(alloc, &keys(alloc)?, &mut source, &mut sink);
+            assert!(rt; got == Err(RunError::Read), "read {place}");
+            assert_eq!(rt; sink.written(), b"".as_slice());
+        }
+        for place in 0..5usize {
+            let mut source = MemorySource::new(b"if 42 x");
+            let mut sink = MemorySink::failing_after(alloc, place);
+            let got = scan_rules(alloc, &keys(alloc)?, &mut source, &mut sink);
+            assert!(rt; got == Err(RunError::Write), "write {place}");
+            assert_eq!(rt; sink.written(), &b"K N x"[..place]);
+        }
+        let mut source = MemorySource::new(b"if");
+        let mut sink = MemorySink::failing_flush(alloc);
+        let got = scan_rules(alloc, &keys(alloc)?, &mut source, &mut sink);
+        assert!(rt; got == Err(RunError::Write), "flush");
+        assert_eq!(rt; sink.written(), b"K".as_slice());
+        Ok(())
+    }
+}

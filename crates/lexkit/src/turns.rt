@@ -137,7 +137,7 @@ pub(crate) fn scan_text<K: Sink>(
     let mut at = 0;
     while at < text.len() {
         match turn(alloc, rules, &text[at..], sink) {
-            Err(fault) => return Err(fault),
+            Err(stop) => return Err(stop),
             Ok(len) => at += len,
         }
     }
