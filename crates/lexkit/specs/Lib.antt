@@ -14,3 +14,4 @@ pub mod Turns
 pub mod Matches
 pub mod Reads
 pub mod InputViews
+pub mod Spelling
