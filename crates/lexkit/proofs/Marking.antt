@@ -16,7 +16,7 @@ no_both e = absurd (no e)
     no : false ≡ true → ⊥
     no p = cc
 
-true_or_false : (b : Bool) → (b ≡ true) ⊎ (b ≡ false)
+pub true_or_false : (b : Bool) → (b ≡ true) ⊎ (b ≡ false)
 true_or_false true = inl refl
 true_or_false false = inr refl
 

@@ -30,10 +30,10 @@ cut_once p x y (b ∷ u) (c ∷ v) r s h k px py e =
     let t : b ∷ u ≡ c ∷ v = (let q = both.0 in cc) in
     (t, both.1)
 
-head_is : {x y : ℕ} {u v : List ℕ} → x ∷ u ≡ y ∷ v → x ≡ y
+pub head_is : {x y : ℕ} {u v : List ℕ} → x ∷ u ≡ y ∷ v → x ≡ y
 head_is e = cc
 
-tail_is : {x y : ℕ} {u v : List ℕ} → x ∷ u ≡ y ∷ v → u ≡ v
+pub tail_is : {x y : ℕ} {u v : List ℕ} → x ∷ u ≡ y ∷ v → u ≡ v
 tail_is e = cc
 
 no_nil : {x : ℕ} {u : List ℕ} → [] ≡ x ∷ u → ⊥
@@ -57,7 +57,7 @@ one_quoted w t u r s (q, e, a, i) (v, f, b, j) =
 element_same : (d e : Element) → d.lo ≡ e.lo → d.hi ≡ e.hi → d ≡ e
 element_same d e p q = λ i. record { lo = p i; hi = q i }
 
-one_element : (w : List ℕ) (d e : Element) (r s : List ℕ) → IsElement w d r → IsElement w e s → (d ≡ e) × (r ≡ s)
+pub one_element : (w : List ℕ) (d e : Element) (r s : List ℕ) → IsElement w d r → IsElement w e s → (d ≡ e) × (r ≡ s)
 one_element w d e r s (inl h) (inl k) =
     let both : d.lo ∷ 45 ∷ d.hi ∷ r ≡ e.lo ∷ 45 ∷ e.hi ∷ s = sym h.0 ∙ k.0 in
     let more : d.hi ∷ r ≡ e.hi ∷ s = tail_is (tail_is both) in
@@ -72,7 +72,7 @@ one_element w d e r s (inr h) (inr k) =
     let both : d.lo ∷ r ≡ e.lo ∷ s = sym h.0 ∙ k.0 in
     (element_same d e (head_is both) (h.1 ∙ head_is both ∙ sym k.1), tail_is both)
 
-no_element : (e : Element) (r : List ℕ) → IsElement [] e r → ⊥
+pub no_element : (e : Element) (r : List ℕ) → IsElement [] e r → ⊥
 no_element e r (inl h) = no_nil h.0
 no_element e r (inr h) = no_nil h.0
 
@@ -86,7 +86,7 @@ one_elements w (d ∷ ds) (e ∷ es) (r, h, more) (s, k, more') =
     ap (λ z. z ∷ ds) one.0 ∙ ap (λ z. e ∷ z) rest
 
 -- the content of a class up to its closing sign
-content_cut : (c d r s : List ℕ) → is_content c ≡ true → is_content d ≡ true → c ++ (93 ∷ r) ≡ d ++ (93 ∷ s) → (c ≡ d) × (r ≡ s)
+pub content_cut : (c d r s : List ℕ) → is_content c ≡ true → is_content d ≡ true → c ++ (93 ∷ r) ≡ d ++ (93 ∷ s) → (c ≡ d) × (r ≡ s)
 content_cut [] d r s h k e = no_both h
 content_cut (b ∷ c) [] r s h k e = no_both k
 content_cut (b ∷ c) (f ∷ d) r s h k e =
@@ -95,11 +95,11 @@ content_cut (b ∷ c) (f ∷ d) r s h k e =
     let cut = cut_once (λ z. not (is_closing z)) 93 93 c d r s open_c open_d refl refl (tail_is e) in
     (ap (λ z. b ∷ z) cut.0 ∙ ap (λ z. z ∷ d) (head_is e), cut.1)
 
-caret_first : (c r s : List ℕ) → is_content c ≡ true → begins is_caret c ≡ false → c ++ r ≡ 94 ∷ s → ⊥
+pub caret_first : (c r s : List ℕ) → is_content c ≡ true → begins is_caret c ≡ false → c ++ r ≡ 94 ∷ s → ⊥
 caret_first [] r s h n e = no_both h
 caret_first (b ∷ c) r s h n e = no_both (sym n ∙ ap is_caret (head_is e))
 
-one_class_from : (n m : Bool) (c d r s : List ℕ) → is_content c ≡ true → is_content d ≡ true → (n ≡ false → begins is_caret c ≡ false) → (m ≡ false → begins is_caret d ≡ false) →
+pub one_class_from : (n m : Bool) (c d r s : List ℕ) → is_content c ≡ true → is_content d ≡ true → (n ≡ false → begins is_caret c ≡ false) → (m ≡ false → begins is_caret d ≡ false) →
     opened n (c ++ (93 ∷ r)) ≡ opened m (d ++ (93 ∷ s)) → (n ≡ m) × (c ≡ d) × (r ≡ s)
 one_class_from true true c d r s h k p q e = let cut = content_cut c d r s h k (tail_is e) in (refl, cut.0, cut.1)
 one_class_from true false c d r s h k p q e = absurd (caret_first d (93 ∷ s) (c ++ (93 ∷ r)) k (q refl) (sym e))
@@ -113,7 +113,7 @@ one_class w t u r s h k =
     let es : h.elements ≡ k.elements = one_elements k.content h.elements k.elements (subst (λ z. AreElements z h.elements) cut.1 h.are_elements) k.are_elements in
     (h.tree_is ∙ ap (λ n. Set (class_set n (with_elements empty_set h.elements))) cut.0 ∙ ap (λ z. Set (class_set k.negated (with_elements empty_set z))) es ∙ sym k.tree_is, cut.2)
 
-byte_is : (w : List ℕ) (t : Tree) (r v : List ℕ) (x : ℕ) → is_sign x ≡ true → IsByte w t r → w ≡ x ∷ v → ⊥
+pub byte_is : (w : List ℕ) (t : Tree) (r v : List ℕ) (x : ℕ) → is_sign x ≡ true → IsByte w t r → w ≡ x ∷ v → ⊥
 byte_is w t r v x sign (b, e, o, i) f =
     let same : b ≡ x = head_is (sym e ∙ f) in
     let plain = (and_parts (not (is_sign b)) (not (is_blank b)) (and_parts (not (is_sign b) && not (is_blank b)) (not (nat_eq b 36 && ends_here r)) o).0).0 in

@@ -15,3 +15,4 @@ pub mod Matches
 pub mod Reads
 pub mod InputViews
 pub mod Spelling
+pub mod ReaderViews

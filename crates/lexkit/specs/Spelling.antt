@@ -2,7 +2,7 @@
 -- flex, Format of the Input File and Patterns. Which parts of them are read so far, and the limits, are this project's.)
 use Rattle.std.specs.Prelude.{◌≡◌, ℕ, ◌+◌, ◌≤◌, Bool, true, false, not, ◌&&◌, ◌||◌, List, [], ◌∷◌, ◌++◌, length, drop, map, codes, nat_eq, nat_le, ◌⊎◌, if◌then◌else◌}
 use Rattle.bstr.specs.Text.{lines_of, without_terminator}
-use Rattle.lexmeaning.specs.ByteSets.{ByteSet, IsIn, empty_set, single, range_set, union, complement}
+use Rattle.lexmeaning.specs.ByteSets.{ByteSet, empty_set, single, range_set, union, complement}
 use Rattle.lexmeaning.specs.Tree.{Tree, Empty, Set, Cat, trees}
 use Rattle.lexmeaning.specs.Shapes.{nodes}
 use Rattle.lexmeaning.specs.Spec.{Spec, Rule, Statement, Echo, Print}
@@ -117,7 +117,7 @@ pub record IsClass (w : List ℕ) (t : Tree) (rest : List ℕ) : Type 0 where
   pub sign : negated ≡ false → begins is_caret content ≡ false
   pub is_good : is_content content ≡ true
   pub are_elements : AreElements content elements
-  pub some_byte : (b : ℕ) × IsIn (class_set negated (with_elements empty_set elements)) b
+  pub not_empty : class_set negated (with_elements empty_set elements) ≡ empty_set → ⊥
   pub tree_is : t ≡ Set (class_set negated (with_elements empty_set elements))
 
 -- the first item of a pattern

@@ -9,6 +9,7 @@ mod input;
 mod matching;
 mod memory;
 mod options;
+mod reader;
 mod scan;
 mod sink;
 mod source;
