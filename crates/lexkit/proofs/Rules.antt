@@ -1,10 +1,13 @@
 -- The rules that were read, by number.
-use Rattle.std.proofs.Common.{◌≡◌, ℕ, suc, ◌+◌, ◌≤◌, ◌<◌, Bool, true, false, List, [], ◌∷◌, length, map, get_or, Option, Some, None, IfSome, refl, sym, ◌∙◌, ap, subst, arith}
+use Rattle.std.proofs.Common.{◌≡◌, ℕ, zero, suc, ◌+◌, ◌≤◌, ◌<◌, Bool, true, false, List, [], ◌∷◌, length, map, get_or, Option, Some, None, IfSome, refl, sym, ◌∙◌, ap, subst, arith}
 use Rattle.std.specs.Prelude.{slice_get, option_map}
 use Rattle.std.specs.Option.{is_some}
-use Rattle.std.proofs.lemmas.Option.{slice_get-map, slice_get_read}
+use Rattle.std.proofs.lemmas.Option.{slice_get-map, slice_get_read, slice_get_within}
 use Rattle.lexkit.specs.declared.spec.Rule.{Rule}
-use Rattle.lexkit.specs.Simple.{rule_of, spec_of}
+use Rattle.lexkit.specs.Simple.{statement_of, rule_of, is_writing, IsSimpleRule, IsSimple, spec_of}
+use Rattle.lexkit.specs.declared.spec.Statement.{Statement}
+use Rattle.lexkit.specs.declared.spec.Statement.TheVariants as Statement
+use Rattle.lexmeaning.specs.Spec as Spec
 use Rattle.lexkit.specs.Matches.{number_of}
 
 pub rule_at : (rules : List Rule) (i : ℕ) (q : Rule) → i < length rules → q ≡ get_or rules i q → slice_get (spec_of rules).rules i ≡ Some (rule_of q)
@@ -32,3 +35,17 @@ number_below count i (Some k) e h = h
 pub below_more : (i : ℕ) (o : Option ℕ) → IfSome o (λ k. k < i) → IfSome o (λ k. k < i + 1)
 below_more i None h = tt
 below_more i (Some k) h = omega (arith, h)
+
+writes_all : (ss : List Statement) → is_writing (map statement_of ss) ≡ true
+writes_all [] = refl
+writes_all (Statement.Echo ∷ ss) = writes_all ss
+writes_all (Statement.Print s ∷ ss) = writes_all ss
+
+each_simple : (rules : List Rule) (i : ℕ) (r : Spec.Rule) → slice_get (map rule_of rules) i ≡ Some r → IsSimpleRule r
+each_simple [] i r h = absurd (omega (arith, slice_get_within [] i r h))
+each_simple (q ∷ rules) zero r h = let e : rule_of q ≡ r = cc in subst IsSimpleRule e (record { simple = refl; writes = writes_all q.statements.items })
+each_simple (q ∷ rules) (suc i) r h = each_simple rules i r h
+
+-- the rules that were read are simple
+pub simple_of : (rules : List Rule) → IsSimple (spec_of rules)
+simple_of rules = record { one_condition = refl; rules = each_simple rules }

@@ -33,7 +33,7 @@ act_writing (Echo ∷ ss) a h =
     act_writing ss (record a { written = a.written ++ a.text }) h
     ∙ ap (λ w. Done (record { text = a.text; written = w; condition = a.condition; more = a.more })) (append_assoc a.written a.text (output_of a.text ss))
 act_writing (Print s ∷ ss) a h =
-    act_writing ss (record a { written = a.written ++ s }) (and_parts (nat_le 1 (length s)) (is_writing ss) h).1
+    act_writing ss (record a { written = a.written ++ s }) h
     ∙ ap (λ w. Done (record { text = a.text; written = w; condition = a.condition; more = a.more })) (append_assoc a.written s (output_of a.text ss))
 act_writing (Begin d ∷ ss) a h = no_both h
 act_writing (More ∷ ss) a h = no_both h

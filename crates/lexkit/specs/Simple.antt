@@ -17,11 +17,11 @@ abbrev pub simple_rule : ℕ → Tree → List Statement → Rule
 simple_rule line head statements =
     record { line = line; conditions = None; anchored = false; head = head; trail = None; cut = Whole; statements = statements }
 
--- ECHO and literals that are not empty
+-- ECHO and literals
 abbrev pub is_writing : List Statement → Bool
 is_writing [] = true
 is_writing (Echo ∷ ss) = is_writing ss
-is_writing (Print s ∷ ss) = nat_le 1 (length s) && is_writing ss
+is_writing (Print s ∷ ss) = is_writing ss
 is_writing (s ∷ ss) = false
 
 pub record IsSimpleRule (r : Rule) : Type 0 where

@@ -1,6 +1,6 @@
 //! One scan, by a specification's text.
 ghost use Rattle.std.specs.Prelude.{◌≡◌, ℕ, ◌+◌, ◌-◌, ◌^◌, ◌<◌, ◌≤◌, List, nat_lt};
-ghost use Rattle.lexkit.specs.Simple.{IsSimple, spec_of};
+ghost use Rattle.lexkit.specs.Simple.{spec_of};
 ghost use Rattle.lexkit.specs.Turns.{run_write_faults};
 ghost use Rattle.lexkit.specs.Reads.{run_read_faults, Scans};
 ghost use Rattle.lexkit.specs.ScanCounts.{read_fault_count, write_fault_count};
@@ -60,7 +60,6 @@ fn scan_rules<S: Source, K: Sink>(
     source: &mut S,
     sink: &mut K,
 ) -> Result<u8, RunError>
-    requires simple { IsSimple (spec_of rules.now) }
     requires few_ends { S.ends source.old < 2 ^ 64 - 1 }
     requires few_read_faults { S.failures source.old < 2 ^ 64 - 1 }
     requires few_write_faults { K.failures sink.old < 2 ^ 64 - 1 }

@@ -5,7 +5,7 @@ ghost use Rattle.lexmeaning.specs.Rules.{rules_of};
 ghost use Rattle.lexre.specs.Views.{tree_of};
 ghost use Rattle.lexkit.specs.Source.{fault_count};
 ghost use Rattle.lexkit.specs.Sink.{Appended};
-ghost use Rattle.lexkit.specs.Simple.{IsSimple, statement_of, spec_of};
+ghost use Rattle.lexkit.specs.Simple.{statement_of, spec_of};
 ghost use Rattle.lexkit.specs.Turns.{IsLongest, NoWord, IsBest, piece_of, output_of, TurnTold, ScanTold, run_write_faults, IsScanFault};
 ghost use Rattle.lexkit.specs.Matches.{candidate_of, match_output};
 
@@ -38,7 +38,6 @@ struct Match {
 
 /// The match at the front of the text that is taken: the longest, and of these the first in the file.
 fn best_match(alloc: Global, rules: &[Rule], text: &[u8]) -> Result<Match, AllocError>
-    requires simple { IsSimple (spec_of rules.now) }
     requires some { 1 ≤ length text.now }
     ensures best { IfOk result (λ m. IsBest (rules_of (spec_of rules.now)) text.now (candidate_of rules.now m)) }
     ensures number { IfOk result (λ m. IfSome m.rule (λ i. i < length rules.now)) }
@@ -105,7 +104,6 @@ fn turn<K: Sink>(
     text: &[u8],
     sink: &mut K,
 ) -> Result<usize, RunError>
-    requires simple { IsSimple (spec_of rules.now) }
     requires some { 1 ≤ length text.now }
     requires few_faults { K.failures sink.old < 2 ^ 64 - 1 }
     ensures told { (out : List ℕ) × K.wrote sink.old out sink.new × TurnTold (spec_of rules.now) text.now out result }
@@ -128,7 +126,6 @@ pub(crate) fn scan_text<K: Sink>(
     text: &[u8],
     sink: &mut K,
 ) -> Result<(), RunError>
-    requires simple { IsSimple (spec_of rules.now) }
     requires few_faults { K.failures sink.old < 2 ^ 64 - 1 }
     ensures told { (out : List ℕ) × K.wrote sink.old out sink.new × ScanTold (spec_of rules.now) text.now out result }
     ensures failures { K.failures sink.new ≡ K.failures sink.old + run_write_faults result }

@@ -6,6 +6,7 @@ use Rattle.lexkit.specs.Simple.{IsSimple, rule_of, spec_of}
 use Rattle.lexkit.specs.Matches.{number_of, candidate_of}
 use Rattle.lexmeaning.specs.Candidates.{Candidate}
 use Rattle.lexkit.specs.declared.spec.Rule.{Rule}
+use Rattle.lexkit.proofs.Rules.{simple_of}
 use Rattle.lexkit.proofs.Best.{BestBefore, best_new, best_keep, best_all}
 use Rattle.lexkit.proofs.Rules.{rule_at, count_is, number_below, number_none, below_more}
 use Rattle.lexkit.proofs.turns.best_match.Goals as goal
@@ -53,4 +54,4 @@ loop-i-preserved c = elim c.match-branch-2.branch [
     inside lt = omega (arith, count_is rules, c.loop-i-test.true)
 
 pub returns-clause-best : goal.returns-clause-best
-returns-clause-best c = best_all (spec_of c.args.rules.now) c.requires.simple c.args.text.now c.loop-i.i (candidate_of c.args.rules.now c.loop-i.best) (omega (arith, count_is c.args.rules.now, c.loop-i-test.false)) (c.loop-i.invariant.best c.requires.simple)
+returns-clause-best c = best_all (spec_of c.args.rules.now) (simple_of c.args.rules.now) c.args.text.now c.loop-i.i (candidate_of c.args.rules.now c.loop-i.best) (omega (arith, count_is c.args.rules.now, c.loop-i-test.false)) (c.loop-i.invariant.best (simple_of c.args.rules.now))
