@@ -1,17 +1,17 @@
 -- The best match of the rules so far.
-use Rattle.std.proofs.Common.{◌≡◌, ℕ, zero, suc, ◌+◌, ◌≤◌, ◌<◌, Bool, true, false, List, [], ◌∷◌, ◌++◌, length, take, ◌⊎◌, inl, inr, Option, Some, None, refl, sym, ◌∙◌, ap, subst, arith}
+use Rattle.std.proofs.Common.{◌≡◌, ℕ, ◌+◌, ◌≤◌, ◌<◌, Bool, true, List, [], ◌++◌, length, take, ◌⊎◌, inl, inr, Some, refl, sym, ◌∙◌, ap, subst, arith}
 use Rattle.std.specs.Prelude.{slice_get, ◌&&◌}
 use Rattle.std.proofs.lemmas.List.{length-take-le, append-nil}
 use Rattle.std.proofs.lemmas.Bool.{cases_lt}
 use Rattle.std.proofs.lemmas.Option.{slice_get_within}
-use Rattle.lexmeaning.specs.Tree.{Tree, In}
+use Rattle.lexmeaning.specs.Tree.{In}
 use Rattle.lexmeaning.specs.Spec.{Spec, Rule, Condition}
 use Rattle.lexmeaning.specs.Active.{active, is_inclusive}
 use Rattle.lexmeaning.specs.Fits.{Fits, InTrail}
 use Rattle.lexmeaning.specs.Rules.{Full, rules_of}
 use Rattle.lexmeaning.specs.Candidates.{Candidate, Before, IsCandidate}
 use Rattle.lexmeaning.proofs.Ordered.{candidate_same}
-use Rattle.lexkit.specs.Simple.{initial, simple_rule, IsSimpleRule, IsSimple}
+use Rattle.lexkit.specs.Simple.{IsSimpleRule, IsSimple}
 use Rattle.lexkit.specs.Turns.{IsLongest, NoWord, IsBest}
 
 module _ (S : Spec) (simple : IsSimple S) (y : List ℕ) where

@@ -7,7 +7,7 @@ use Rattle.lexmeaning.specs.ByteSets.{ByteSet, empty_set, union, range_set}
 use Rattle.lexmeaning.specs.Tree.{Tree, Set}
 use Rattle.lexkit.specs.Spelling.{skip, IsDone, all_pass, is_closing, is_class_byte, is_content, is_literal_byte, Element, IsElement, AreElements, with_elements, begins, is_caret, opened, class_set, IsClass}
 use Rattle.lexkit.specs.ReaderViews.{IsFront, IsCall, IsContent, IsClassOf, IsElementsSet}
-use Rattle.lexkit.proofs.OneSpec.{head_is, tail_is, one_element, no_element, one_elements, content_cut, caret_first}
+use Rattle.lexkit.proofs.OneSpec.{tail_is, one_element, no_element, one_elements, content_cut, caret_first}
 use Rattle.lexkit.proofs.FrontsOfLines.{front_cut}
 
 -- what follows the literal, where a call is spelled

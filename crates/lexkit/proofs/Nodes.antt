@@ -1,6 +1,6 @@
 -- The tree of a pattern, by its outermost node.
-use Rattle.std.proofs.Common.{◌≡◌, ℕ, map, Vec, ◌∙◌, ap, sym}
-use Rattle.lexmeaning.specs.Tree.{Tree, Empty, Set, Cat, trees}
+use Rattle.std.proofs.Common.{◌≡◌, ℕ, ◌∙◌, ap, sym}
+use Rattle.lexmeaning.specs.Tree.{Tree, Empty, Set}
 use Rattle.lexre.specs.declared.pattern.Pattern.{Pattern}
 use Rattle.lexre.specs.declared.pattern.Pattern.TheVariants as Pattern
 use Rattle.lexre.specs.declared.pattern.Pattern.TheOpen.{Pattern-F}

@@ -1,12 +1,12 @@
 -- A text spells at most one specification.
-use Rattle.std.proofs.Common.{◌≡◌, ℕ, zero, suc, ◌+◌, ◌≤◌, ◌<◌, Bool, true, false, List, [], ◌∷◌, ◌++◌, length, drop, ◌⊎◌, inl, inr, refl, sym, ◌∙◌, ap, subst, arith}
-use Rattle.std.specs.Prelude.{not, ◌&&◌, ◌||◌, nat_eq, nat_le, codes}
+use Rattle.std.proofs.Common.{◌≡◌, ℕ, ◌+◌, ◌≤◌, Bool, true, false, List, [], ◌∷◌, ◌++◌, length, inl, inr, refl, sym, ◌∙◌, ap, subst, arith}
+use Rattle.std.specs.Prelude.{not, ◌&&◌, nat_eq, nat_le, codes}
 use Rattle.std.proofs.lemmas.Bool.{and_parts, eqb-true}
-use Rattle.lexmeaning.specs.ByteSets.{ByteSet, empty_set, single, range_set, union}
+use Rattle.lexmeaning.specs.ByteSets.{empty_set, single}
 use Rattle.lexmeaning.specs.Tree.{Tree, Set}
 use Rattle.lexmeaning.specs.Spec.{Spec, Rule, Statement}
 use Rattle.lexkit.specs.Simple.{simple_rule}
-use Rattle.lexkit.specs.Spelling.{is_blank, all_pass, begins, skip, ends_here, is_sign, is_ordinary, IsByte, is_quotable, quoted_tree, IsQuoted, Element, is_range_end, IsElement, AreElements, with_elements, is_class_byte, is_caret, is_closing, is_content, opened, class_set, IsClass, IsItem, AreItems, series, IsDone, is_literal_byte, print_of, IsPrint, IsAction, is_mark, IsRule, AreRules, IsFile, lines, SpellsSpec}
+use Rattle.lexkit.specs.Spelling.{is_blank, all_pass, begins, skip, ends_here, is_sign, IsByte, is_quotable, quoted_tree, IsQuoted, Element, is_range_end, IsElement, AreElements, with_elements, is_class_byte, is_caret, is_closing, is_content, opened, class_set, IsClass, IsItem, AreItems, series, IsDone, is_literal_byte, print_of, IsPrint, IsAction, is_mark, IsRule, AreRules, IsFile, lines, SpellsSpec}
 
 no_both : {A : Type 0} → false ≡ true → A
 no_both e = absurd (no e)

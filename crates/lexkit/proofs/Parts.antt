@@ -1,8 +1,8 @@
 -- One part of a series or a choice after another.
-use Rattle.std.proofs.Common.{◌≡◌, ℕ, suc, ◌+◌, ◌<◌, ◌≤◌, Bool, List, [], ◌∷◌, length, map, drop, get_or, ◌⊎◌, sym, ◌∙◌, ap, subst, arith}
+use Rattle.std.proofs.Common.{◌≡◌, ℕ, suc, ◌+◌, ◌<◌, ◌≤◌, Bool, List, [], ◌∷◌, length, map, drop, get_or, sym, ◌∙◌, ap, subst, arith}
 use Rattle.std.proofs.Math.Seq.{drop-cons}
 use Rattle.std.proofs.lemmas.List.{drop_all}
-use Rattle.lexmeaning.specs.Tree.{Tree, In, InEach, InSome, trees}
+use Rattle.lexmeaning.specs.Tree.{In, InEach, InSome, trees}
 use Rattle.lexre.specs.declared.pattern.Pattern.{Pattern}
 use Rattle.lexre.specs.Views.{tree_of}
 use Rattle.lexkit.specs.Places.{AreEnds}

@@ -1,12 +1,11 @@
 -- Places that words lead to, by cases on the tree.
-use Rattle.std.proofs.Common.{zero-add, ◌≡◌, ℕ, zero, suc, ◌+◌, ◌-◌, ◌≤◌, ◌<◌, Bool, true, false, List, [], ◌∷◌, ◌++◌, length, take, drop, get_or, ◌⊎◌, inl, inr, ◌↔◌, Option, Some, None, refl, sym, ◌∙◌, ap, subst, arith}
+use Rattle.std.proofs.Common.{zero-add, ◌≡◌, ℕ, zero, suc, ◌+◌, ◌-◌, ◌≤◌, ◌<◌, Bool, true, false, List, [], ◌++◌, length, take, drop, ◌⊎◌, inl, inr, Option, Some, None, refl, sym, ◌∙◌, ap, subst, arith}
 use Rattle.std.specs.Prelude.{◌||◌}
 use Rattle.std.proofs.Math.Nat.{sub_self}
 use Rattle.std.proofs.Math.Seq.{take-add, take-append_seam, drop-append_seam}
-use Rattle.std.proofs.lemmas.List.{append_assoc, length-append, length-drop, length-take-le, get_or_past, drop-take, take-take, drop-drop}
+use Rattle.std.proofs.lemmas.List.{append_assoc, length-append, length-drop, length-take-le, get_or_past, drop-drop}
 use Rattle.std.proofs.lemmas.Bool.{cases_lt, or_left, or_right}
 use Rattle.lexmeaning.specs.Text.{part}
-use Rattle.lexmeaning.specs.Shapes.{Language}
 use Rattle.lexmeaning.specs.Tree.{Joined, UpTo}
 use Rattle.lexkit.specs.Places.{marked, Reaches, AreEnds, AnyTimes, UpToTimes}
 

@@ -1,12 +1,11 @@
 -- The rules that were read, by number.
-use Rattle.std.proofs.Common.{◌≡◌, ℕ, zero, suc, ◌+◌, ◌≤◌, ◌<◌, Bool, true, false, List, [], ◌∷◌, length, map, get_or, Option, Some, None, IfSome, refl, sym, ◌∙◌, ap, subst, arith}
+use Rattle.std.proofs.Common.{◌≡◌, ℕ, zero, suc, ◌+◌, ◌≤◌, ◌<◌, true, false, List, [], ◌∷◌, length, map, get_or, Option, Some, None, IfSome, refl, ◌∙◌, ap, subst, arith}
 use Rattle.std.specs.Prelude.{slice_get, option_map}
 use Rattle.std.specs.Option.{is_some}
 use Rattle.std.proofs.lemmas.Option.{slice_get-map, slice_get_read, slice_get_within}
 use Rattle.lexkit.specs.declared.spec.Rule.{Rule}
 use Rattle.lexkit.specs.Simple.{statement_of, rule_of, is_writing, IsSimpleRule, IsSimple, spec_of}
 use Rattle.lexkit.specs.declared.spec.Statement.{Statement}
-use Rattle.lexkit.specs.declared.spec.Statement.TheVariants as Statement
 use Rattle.lexmeaning.specs.Spec as Spec
 use Rattle.lexkit.specs.Matches.{number_of}
 

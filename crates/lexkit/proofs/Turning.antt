@@ -1,21 +1,21 @@
 -- One match after another makes the run.
-use Rattle.std.proofs.Common.{◌≡◌, ℕ, zero, suc, ◌+◌, ◌-◌, ◌≤◌, ◌<◌, Bool, true, false, List, [], ◌∷◌, ◌++◌, length, take, drop, ◌⊎◌, inl, inr, Option, Some, None, refl, sym, ◌∙◌, ap, subst, arith}
-use Rattle.std.specs.Prelude.{slice_get, nat_lt, nat_le}
+use Rattle.std.proofs.Common.{◌≡◌, ℕ, suc, ◌+◌, ◌-◌, ◌≤◌, ◌<◌, Bool, true, false, List, [], ◌∷◌, ◌++◌, length, take, drop, ◌⊎◌, inl, inr, Some, None, refl, sym, ◌∙◌, ap, arith}
+use Rattle.std.specs.Prelude.{slice_get, nat_lt}
 use Rattle.std.proofs.lemmas.List.{append-nil, append_assoc, length-take-le, length-drop}
-use Rattle.std.proofs.lemmas.Bool.{cond-true, cond-false, lt-ltb, le-ltb, cases_lt, and_parts}
+use Rattle.std.proofs.lemmas.Bool.{cond-true, cond-false, lt-ltb, le-ltb, cases_lt}
 use Rattle.lexmeaning.specs.Text.{Among, part, at_line_start}
-use Rattle.lexmeaning.specs.Spec.{Spec, Rule, Condition, Statement, Echo, Print, Begin, More, Less, Reject, End, statements_at, end_at}
+use Rattle.lexmeaning.specs.Spec.{Spec, Condition, Statement, Echo, Print, Begin, More, Less, Reject, End, statements_at, end_at}
 use Rattle.lexmeaning.specs.Rules.{Rules, rules_of, statements_of}
-use Rattle.lexmeaning.specs.Candidates.{Candidate, Before, InOrder, IsCandidate, Candidates}
-use Rattle.lexmeaning.specs.Acting.{Ending, Status, Acting, Matched, Went, Done, act, settle, perform}
-use Rattle.lexmeaning.specs.Run.{Place, State, first_state, Turn, MatchTurn, EndTurn, NextFrom, Turns, Run, next_place}
+use Rattle.lexmeaning.specs.Candidates.{Candidate, Before, Candidates}
+use Rattle.lexmeaning.specs.Acting.{Ending, Status, Acting, Matched, Done, act, settle, perform}
+use Rattle.lexmeaning.specs.Run.{State, MatchTurn, Turns, Run}
 use Rattle.lexmeaning.specs.Plain.{matches_of_rules, default_match}
 use Rattle.lexmeaning.proofs.Exists.{Agree, ordered_exists}
 use Rattle.lexmeaning.proofs.PlainRun.{candidates_are, listed_are}
 use Rattle.lexmeaning.proofs.Table.{get_at}
 use Rattle.lexmeaning.proofs.Written.{BeginsWith, run_begins, part_begins}
 use Rattle.lexkit.specs.Sink.{IsPrefixOf}
-use Rattle.lexkit.specs.Simple.{initial, is_writing, IsSimple}
+use Rattle.lexkit.specs.Simple.{is_writing, IsSimple}
 use Rattle.lexkit.specs.Turns.{IsBest, output_of, MatchDone}
 use Rattle.lexkit.proofs.Reaching.{part_none}
 use Rattle.lexkit.proofs.Best.{keeps_all}

@@ -14,7 +14,6 @@ use Rattle.lexkit.specs.declared.reader.Range.{Range}
 use Rattle.lexkit.specs.declared.reader.Content.{Content}
 use Rattle.lexkit.specs.declared.reader.Items.{Items}
 use Rattle.lexkit.specs.declared.reader.Alphabet.{Alphabet}
-use Rattle.lexkit.specs.declared.reader.Alphabet.TheVariants as Alphabet
 use Rattle.lexkit.specs.Spelling.{Element, IsElement, AreElements, with_elements, class_set, skip, IsDone, all_pass, is_quotable, is_closing, is_class_byte, is_literal_byte, is_content, IsClass, AreItems, ends_here, IsAction}
 
 -- what was read is there, or nothing is

@@ -1,12 +1,11 @@
 -- Specifications of one condition whose rules have a pattern and an action alone, and what a rule that was read stands for.
 -- (POSIX, lex, Rules in lex and Actions in lex.)
-use Rattle.std.specs.Prelude.{◌≡◌, ℕ, ◌≤◌, Bool, true, false, ◌&&◌, List, [], ◌∷◌, ◌++◌, map, length, codes, nat_le, Option, Some, None, slice_get}
+use Rattle.std.specs.Prelude.{◌≡◌, ℕ, Bool, true, false, List, [], ◌∷◌, map, codes, Some, None, slice_get}
 use Rattle.lexmeaning.specs.Tree.{Tree}
 use Rattle.lexmeaning.specs.Spec.{Spec, Rule, Condition, Whole, Statement, Echo, Print}
 use Rattle.lexre.specs.Views.{tree_of}
 use Rattle.lexkit.specs.declared.spec.Rule.{Rule as ReadRule}
 use Rattle.lexkit.specs.declared.spec.Statement.{Statement as ReadStatement}
-use Rattle.lexkit.specs.declared.spec.Statement.TheVariants as ReadStatement
 
 -- the condition in which a scan begins; at the end of the input it writes nothing, and the status is 0
 abbrev pub initial : Condition

@@ -1,5 +1,5 @@
 -- What one match writes, and how far it goes.
-use Rattle.std.specs.Prelude.{◌≡◌, ℕ, ◌≤◌, ◌<◌, Bool, List, [], ◌∷◌, ◌++◌, length, take, ◌⊎◌, Option, Some, None, Result, Ok, Err}
+use Rattle.std.specs.Prelude.{◌≡◌, ℕ, ◌≤◌, ◌<◌, Bool, List, [], ◌∷◌, ◌++◌, length, take, ◌⊎◌, Result, Ok, Err}
 use Rattle.lexmeaning.specs.Shapes.{Language}
 use Rattle.lexmeaning.specs.Spec.{Spec, Statement, Echo, Print}
 use Rattle.lexmeaning.specs.Rules.{Rules, rules_of, statements_of}

@@ -1,4 +1,4 @@
-use Rattle.std.proofs.Common.{◌≡◌, ◌+◌, ◌-◌, ◌≤◌, Bool, List, length, map, drop}
+use Rattle.std.proofs.Common.{◌+◌, ◌-◌, ◌≤◌, Bool, List, length, map, drop}
 use Rattle.lexmeaning.specs.Tree.{In, InEach, InSome, Joined, trees}
 use Rattle.lexre.specs.Views.{tree_of}
 use Rattle.lexkit.specs.Places.{AreEnds, AnyTimes, UpToTimes}

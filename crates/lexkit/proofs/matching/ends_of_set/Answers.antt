@@ -1,5 +1,4 @@
-use Rattle.std.proofs.Common.{◌≡◌, true, false, sym, ◌∙◌, ap, inl, inr, min, length, arith}
-use Rattle.lexkit.specs.Places.{marked}
+use Rattle.std.proofs.Common.{◌≡◌, sym, ◌∙◌, inl, inr, min, length, arith}
 use Rattle.lexkit.proofs.Marking.{read_new, read_skip, read_all}
 use Rattle.lexkit.proofs.matching.ends_of_set.Goals as goal
 use Rattle.lexkit.proofs.matching.ends_of_set.Goals.{then-starts-i+then-contains+in_ok-mark, else-starts-i, else-starts-i-via-then-starts-i+else-contains, else-starts-i-via-else-starts-i}

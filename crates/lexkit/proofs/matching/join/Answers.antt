@@ -1,4 +1,4 @@
-use Rattle.std.proofs.Common.{◌≡◌, true, false, sym, ◌∙◌, ap, inl, inr}
+use Rattle.std.proofs.Common.{sym, ◌∙◌, ap, inl, inr}
 use Rattle.lexkit.specs.Places.{marked}
 use Rattle.lexkit.proofs.Marking.{joined_new, joined_skip, joined_told}
 use Rattle.lexkit.proofs.matching.join.Goals as goal

@@ -1,4 +1,4 @@
-use Rattle.std.proofs.Common.{◌≡◌, [], ◌∷◌, ◌++◌, map, sym, ◌∙◌, ap}
+use Rattle.std.proofs.Common.{[], ◌∷◌, ◌++◌, map, sym, ◌∙◌, ap}
 use Rattle.lexmeaning.specs.Spec.{Print}
 use Rattle.lexkit.specs.declared.spec.Statement.TheVariants as ReadStatement
 use Rattle.lexkit.specs.Simple.{statement_of}

@@ -1,4 +1,4 @@
-use Rattle.std.proofs.Common.{◌≡◌, ◌∷◌, [], ◌++◌, map, true, sym, ◌∙◌, ap, Some, None}
+use Rattle.std.proofs.Common.{◌∷◌, [], map, sym, ◌∙◌, ap}
 use Rattle.std.proofs.lemmas.List.{map-append}
 use Rattle.lexre.specs.Views.{tree_of}
 use Rattle.lexkit.proofs.ItemsRead.{left_more, left_none, left_all}

@@ -1,4 +1,4 @@
-use Rattle.std.proofs.Common.{◌≡◌, sym, ◌∙◌}
+use Rattle.std.proofs.Common.{sym, ◌∙◌}
 use Rattle.lexkit.proofs.FrontsOfLines.{no_both}
 use Rattle.lexkit.proofs.Calls.{no_class_elements, no_class_empty, is_class_of}
 use Rattle.lexkit.proofs.reader.class_of.Goals as goal

@@ -1,4 +1,4 @@
-use Rattle.std.proofs.Common.{◌≡◌, [], length, sym, ◌∙◌, ap, subst}
+use Rattle.std.proofs.Common.{◌≡◌, length, sym, ◌∙◌, ap, subst}
 use Rattle.std.specs.Prelude.{nat_eq}
 use Rattle.lexkit.proofs.FrontsOfLines.{no_both}
 use Rattle.lexmeaning.specs.ByteSets.{union, range_set}

@@ -1,4 +1,4 @@
-use Rattle.std.proofs.Common.{ℕ, length}
+use Rattle.std.proofs.Common.{length}
 use Rattle.lexmeaning.specs.ByteSets.{ByteSet, empty_set}
 use Rattle.lexkit.specs.ReaderViews.{IsElementsSet}
 use Rattle.lexkit.proofs.reader.elements.Given as goal

@@ -1,5 +1,4 @@
-use Rattle.std.proofs.Common.{◌≡◌, ◌∷◌, length, take, sym, ◌∙◌, ap, inl, inr, arith}
-use Rattle.lexkit.specs.Spelling.{skip, IsDone}
+use Rattle.std.proofs.Common.{length, take, sym, ◌∙◌, ap, inl, inr, arith}
 use Rattle.lexkit.proofs.FrontsOfLines.{no_both}
 use Rattle.lexkit.proofs.Calls.{call_cut, no_quote, no_closing, no_end}
 use Rattle.lexkit.proofs.reader.literal.Goals as goal

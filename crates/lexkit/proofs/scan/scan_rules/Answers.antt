@@ -1,5 +1,4 @@
-use Rattle.std.proofs.Common.{◌≡◌, ℕ, List, [], ◌++◌, append-nil, sym, ◌∙◌, subst, refl}
-use Rattle.std.specs.Prelude.{nat_lt}
+use Rattle.std.proofs.Common.{ℕ, List, [], ◌++◌, append-nil, sym, ◌∙◌, subst}
 use Rattle.lexmeaning.specs.Rules.{rules_of}
 use Rattle.lexmeaning.specs.Acting.{Ending, Status}
 use Rattle.lexmeaning.specs.Run.{Run}

@@ -1,13 +1,11 @@
-use Rattle.std.proofs.Common.{◌≡◌, ℕ, ◌<◌, ◌≤◌, List, length, Option, Some, None, inl, inr, refl, sym, ◌∙◌, ap, subst, arith, IfSome}
+use Rattle.std.proofs.Common.{◌≡◌, ℕ, ◌<◌, List, length, Some, inl, inr, ◌∙◌, ap, arith}
 use Rattle.std.specs.Prelude.{slice_get, not}
-use Rattle.lexmeaning.specs.Tree.{In}
-use Rattle.lexre.specs.Views.{tree_of}
-use Rattle.lexkit.specs.Simple.{IsSimple, rule_of, spec_of}
+use Rattle.lexkit.specs.Simple.{rule_of, spec_of}
 use Rattle.lexkit.specs.Matches.{number_of, candidate_of}
 use Rattle.lexmeaning.specs.Candidates.{Candidate}
 use Rattle.lexkit.specs.declared.spec.Rule.{Rule}
 use Rattle.lexkit.proofs.Rules.{simple_of}
-use Rattle.lexkit.proofs.Best.{BestBefore, best_new, best_keep, best_all}
+use Rattle.lexkit.proofs.Best.{best_new, best_keep, best_all}
 use Rattle.lexkit.proofs.Rules.{rule_at, count_is, number_below, number_none, below_more}
 use Rattle.lexkit.proofs.turns.best_match.Goals as goal
 use Rattle.lexkit.proofs.turns.best_match.Goals.{in-Some+then-best-len, then-best-len-via-then-best-len, then-best-len-via-else-best-len+then-is_none, in-Some+else-best-len+else-is_none, in_default}

@@ -1,4 +1,4 @@
-use Rattle.std.proofs.Common.{◌≤◌, ◌+◌, ◌-◌, ◌<◌, arith}
+use Rattle.std.proofs.Common.{◌-◌, arith}
 use Rattle.lexmeaning.specs.Tree.{In}
 use Rattle.lexre.specs.Views.{tree_of}
 use Rattle.lexkit.proofs.Words.{longest_is, no_word, marked_from}

@@ -1,4 +1,4 @@
-use Rattle.std.proofs.Common.{◌≡◌, ℕ, ◌+◌, ◌≤◌, true}
+use Rattle.std.proofs.Common.{◌≡◌, ℕ, ◌≤◌, true}
 use Rattle.lexkit.specs.Places.{marked}
 use Rattle.lexkit.proofs.turns.longest_word.Given as goal
 

@@ -1,4 +1,4 @@
-use Rattle.std.proofs.Common.{◌≡◌, ◌+◌, ◌++◌, sym, ap, ◌∙◌, append_assoc, arith, map, drop}
+use Rattle.std.proofs.Common.{◌+◌, ◌++◌, sym, ap, ◌∙◌, append_assoc, arith, map, drop}
 use Rattle.lexkit.specs.Simple.{statement_of}
 use Rattle.lexkit.specs.Turns.{output_of}
 use Rattle.lexkit.proofs.Lines.{longer}

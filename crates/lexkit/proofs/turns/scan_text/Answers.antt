@@ -1,4 +1,4 @@
-use Rattle.std.proofs.Common.{◌≡◌, ◌≤◌, ◌+◌, [], ◌++◌, refl, arith}
+use Rattle.std.proofs.Common.{[], ◌++◌, refl, arith}
 use Rattle.std.proofs.lemmas.List.{take_rest}
 use Rattle.lexkit.specs.Simple.{IsSimple, spec_of}
 use Rattle.lexkit.proofs.Rules.{simple_of}

@@ -1,4 +1,4 @@
-use Rattle.std.proofs.Common.{◌≤◌, [], true, inl, inr, refl}
+use Rattle.std.proofs.Common.{true, inr, refl}
 use Rattle.lexkit.specs.Matches.{candidate_of, match_output}
 use Rattle.lexkit.proofs.turns.turn.Goals as goal
 
