@@ -6,6 +6,7 @@ mod args;
 mod errors;
 mod faults;
 mod input;
+mod laws;
 mod matching;
 mod memory;
 mod options;
@@ -21,6 +22,7 @@ pub use errors::{
     GenError, PatternError, PatternErrorKind, RunError, ScanError, SpecError, SpecErrorKind,
 };
 pub use faults::{Fault, write_fault};
+pub use laws::one_spec;
 pub use memory::{MemorySink, MemorySource};
 pub use options::Options;
 pub use scan::scan_spec;
