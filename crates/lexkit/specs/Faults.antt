@@ -1,4 +1,5 @@
 -- The line that tells what ended the program, and the status that it ends with.
+-- (Own: POSIX leaves both to the implementation. The statuses are those of BSD's sysexits.)
 use Rattle.std.specs.Prelude.{ℕ, Bool, true, false, if◌then◌else◌, List, [], ◌∷◌, ◌++◌, codes, decimal}
 use Rattle.std.specs.List.{concat}
 use Rattle.lexkit.specs.declared.args.ArgsError.{ArgsError}

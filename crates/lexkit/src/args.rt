@@ -34,11 +34,15 @@ impl From<AllocError> for ArgsError {
 }
 
 impl From<clap::Error> for ArgsError {
+    ghost use Rattle.lexkit.specs.Refusal.{refusal_of};
+    ghost use Rattle.clap.specs.Values.{kind_of};
+
+    ghost from_gives = { λ e r. r ≡ refusal_of (kind_of e) };
+
     fn from(e: clap::Error) -> ArgsError {
-        if e.kind() == ErrorKind::OutOfMemory {
-            ArgsError::OutOfMemory
-        } else {
-            ArgsError::Usage
+        match e.kind() {
+            ErrorKind::OutOfMemory => ArgsError::OutOfMemory,
+            _ => ArgsError::Usage,
         }
     }
 }

@@ -179,3 +179,111 @@ fn put_line<K: Sink>(sink: &mut K, parts: &[&str]) -> Result<(), WriteFault>
     }
     sink.put(b"\n")
 }
+
+#[cfg(test)]
+mod tests {
+    use super::*;
+    use crate::memory::MemorySink;
+
+    fn refused(line: u32, kind: SpecErrorKind) -> Fault<'static> {
+        Fault::Scan(ScanError::Generate(GenError::Spec(SpecError { line, kind })))
+    }
+
+    fn in_pattern(kind: PatternErrorKind, at: usize) -> SpecErrorKind {
+        SpecErrorKind::Pattern(PatternError { kind, at })
+    }
+
+    fn stopped(error: RunError) -> Fault<'static> {
+        Fault::Scan(ScanError::Run(error))
+    }
+
+    #[test]
+    fn tells_each_fault(rt: HostRuntime) {
+        let rows: [(Fault<'_>, u8, &str); 20] = [
+            (Fault::Args(ArgsError::Usage), 64, "lex: usage\n"),
+            (
+                Fault::Args(ArgsError::OutOfMemory),
+                71,
+                "lex: out of memory\n",
+            ),
+            (
+                refused(1, SpecErrorKind::NoRulesSection),
+                65,
+                "lex: line 1: NoRulesSection\n",
+            ),
+            (
+                refused(12, SpecErrorKind::BadDefinitionLine),
+                65,
+                "lex: line 12: BadDefinitionLine\n",
+            ),
+            (
+                refused(2, in_pattern(PatternErrorKind::MissingOperand, 0)),
+                65,
+                "lex: line 2: MissingOperand at 0\n",
+            ),
+            (
+                refused(2, in_pattern(PatternErrorKind::TooBig, 65_535)),
+                65,
+                "lex: line 2: TooBig at 65535\n",
+            ),
+            (
+                refused(2, in_pattern(PatternErrorKind::OutOfMemory, 7)),
+                71,
+                "lex: out of memory\n",
+            ),
+            (
+                refused(3, SpecErrorKind::UnknownStatement),
+                65,
+                "lex: line 3: UnknownStatement\n",
+            ),
+            (
+                refused(4_098, SpecErrorKind::TooManyRules),
+                65,
+                "lex: line 4098: TooManyRules\n",
+            ),
+            (
+                refused(9, SpecErrorKind::TooLong),
+                65,
+                "lex: line 9: TooLong\n",
+            ),
+            (
+                refused(2, SpecErrorKind::OutOfMemory),
+                71,
+                "lex: out of memory\n",
+            ),
+            (
+                Fault::Scan(ScanError::Generate(GenError::OutOfMemory)),
+                71,
+                "lex: out of memory\n",
+            ),
+            (Fault::File("a.l"), 66, "lex: cannot read a.l\n"),
+            (Fault::File(""), 66, "lex: cannot read \n"),
+            (stopped(RunError::Read), 74, "lex: read fault\n"),
+            (stopped(RunError::TooManyReads), 74, "lex: too many reads\n"),
+            (stopped(RunError::Write), 74, "lex: write fault\n"),
+            (Fault::Output, 74, "lex: write fault\n"),
+            (stopped(RunError::OutOfMemory), 71, "lex: out of memory\n"),
+            (stopped(RunError::Failed), 74, "lex: failed\n"),
+        ];
+        for (fault, status, line) in rows {
+            let mut sink = MemorySink::new(rt.alloc());
+            assert!(rt; write_fault(fault, &mut sink) == Ok(()), "{line}");
+            assert_eq!(rt; sink.written(), line.as_bytes());
+            assert_eq!(rt; fault.status(), status, "{line}");
+        }
+    }
+
+    #[test]
+    fn stops_at_a_write_fault(rt: HostRuntime) {
+        for (room, written) in [
+            (0usize, ""),
+            (3, "lex"),
+            (9, "lex: cann"),
+            (17, "lex: cannot read "),
+        ] {
+            let mut sink = MemorySink::failing_after(rt.alloc(), room);
+            assert!(rt; write_fault(Fault::File("a.l"), &mut sink) == Err(WriteFault));
+            assert_eq!(rt; sink.written(), written.as_bytes());
+        }
+    }
+}

@@ -228,3 +228,41 @@ impl Sink for MemorySink {
 
     ghost wrote_more = { λ s t u xs ys p q. Grows-trans s.written.items t.written.items u.written.items xs ys p q };
 }
+
+#[cfg(test)]
+mod tests {
+    use super::*;
+
+    #[test]
+    fn a_source_pauses_once(rt: HostRuntime) {
+        let mut failing = MemorySource::failing_after(b"ab", 1);
+        assert!(rt; failing.next() == Ok(Some(97)));
+        assert!(rt; failing.next() == Err(ReadFault));
+        assert!(rt; failing.next() == Ok(Some(98)));
+        assert!(rt; failing.next() == Ok(None));
+        assert_eq!(rt; failing.calls(), 4);
+        let mut ending = MemorySource::ending_after(b"ab", 1);
+        assert!(rt; ending.next() == Ok(Some(97)));
+        assert!(rt; ending.next() == Ok(None));
+        assert!(rt; ending.next() == Ok(Some(98)));
+        let mut whole = MemorySource::new(b"a");
+        assert!(rt; whole.next() == Ok(Some(97)));
+        assert!(rt; whole.next() == Ok(None));
+    }
+
+    #[test]
+    fn a_sink_fails_once(rt: HostRuntime) {
+        let mut full = MemorySink::failing_after(rt.alloc(), 3);
+        assert!(rt; full.put(b"ab") == Ok(()));
+        assert!(rt; full.put(b"cd") == Err(WriteFault));
+        assert!(rt; full.put(b"e") == Ok(()));
+        assert_eq!(rt; full.written(), b"abce".as_slice());
+        let mut unflushed = MemorySink::failing_flush(rt.alloc());
+        assert!(rt; unflushed.flush() == Err(WriteFault));
+        assert!(rt; unflushed.flush() == Ok(()));
+        let mut whole = MemorySink::new(rt.alloc());
+        assert!(rt; whole.put(b"ab") == Ok(()));
+        assert!(rt; whole.flush() == Ok(()));
+        assert_eq!(rt; whole.written(), b"ab".as_slice());
+    }
+}

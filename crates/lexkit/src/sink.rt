@@ -1,5 +1,5 @@
 //! Where the bytes of a scan go.
-ghost use Rattle.std.specs.Prelude.{◌≡◌, ℕ, ◌+◌, ◌-◌, ◌^◌, ◌<◌, ◌≤◌, List, [], ◌++◌, length};
+ghost use Rattle.std.specs.Prelude.{◌≡◌, ℕ, ◌+◌, ◌-◌, ◌^◌, ◌<◌, ◌≤◌, List, [], ◌++◌, length, IfOk};
 ghost use Rattle.lexkit.specs.Source.{fault_count};
 ghost use Rattle.lexkit.specs.Sink.{Appended};
 ghost use Rattle.std.specs.Io.KnownBytes.{Appends};
@@ -99,4 +99,90 @@ impl<W: Write> Sink for ToWrite<W> {
     ghost wrote_none = { λ s. Appends-nil (W.contents s.writer) };
 
     ghost wrote_more = { λ s t u xs ys p q. Appends-trans (W.contents s.writer) (W.contents t.writer) (W.contents u.writer) xs ys p q };
+}
+
+#[cfg(test)]
+mod tests {
+    use super::*;
+    use std::alloc::Global;
+    use std::io;
+
+    /// What a writer answers once its room is used up.
+    #[derive(Clone, Copy)]
+    enum Full {
+        Nothing,
+        Fault,
+    }
+
+    /// Takes at most two bytes in one write, and no more than it has room for. It can't flush.
+    #[derive(Drop)]
+    struct Drip {
+        taken: Vec<u8>,
+        room: usize,
+        full: Full,
+    }
+
+    impl Write for Drip {
+        fn write(&mut self, buf: &[u8]) -> io::Result<usize> {
+            let count = buf.len().min(self.room).min(2);
+            if count == 0 {
+                return match self.full {
+                    Full::Nothing => Ok(0),
+                    Full::Fault => Err(io::Error::from(io::ErrorKind::Interrupted)),
+                };
+            }
+            self.taken.extend_from_slice(&buf[..count])?;
+            self.room -= count;
+            Ok(count)
+        }
+
+        fn flush(&mut self) -> io::Result<()> {
+            Err(io::Error::from(io::ErrorKind::Interrupted))
+        }
+    }
+
+    #[test]
+    fn writes_all_or_tells_a_fault(rt: HostRuntime) {
+        let rows: [(usize, Full, Result<(), WriteFault>, &[u8]); 4] = [
+            (9, Full::Fault, Ok(()), b"abcde"),
+            (5, Full::Nothing, Ok(()), b"abcde"),
+            (3, Full::Nothing, Err(WriteFault), b"abc"),
+            (4, Full::Fault, Err(WriteFault), b"abcd"),
+        ];
+        for (room, full, want, written) in rows {
+            let taken = Vec::new(rt.alloc());
+            let mut sink = ToWrite::new(Drip { taken, room, full });
+            let result = sink.put(b"abcde");
+            assert!(rt; result == want, "room {room}");
+            assert_eq!(rt; sink.into_inner().taken.as_slice(), written);
+        }
+    }
+
+    #[test]
+    fn tells_a_failed_flush(rt: HostRuntime) {
+        let taken = Vec::new(rt.alloc());
+        let mut sink = ToWrite::new(Drip {
+            taken,
+            room: 0,
+            full: Full::Nothing,
+        });
+        assert!(rt; sink.flush() == Err(WriteFault));
+    }
+
+    /// Over memory, whose bytes are known, what is held is what was put.
+    fn copied(alloc: Global, bytes: &[u8]) -> Result<Vec<u8>, WriteFault>
+        ensures { IfOk result (λ copy. copy.items ≡ bytes.now) }
+    {
+        let mut sink = ToWrite::new(Vec::new(alloc));
+        sink.put(bytes)?;
+        Ok(sink.into_inner())
+    }
+
+    #[test]
+    fn keeps_the_bytes_in_memory(rt: HostRuntime) {
+        match copied(rt.alloc(), b"abc") {
+            Ok(copy) => assert_eq!(rt; copy.as_slice(), b"abc".as_slice()),
+            Err(_) => assert!(rt; false),
+        }
+    }
 }

@@ -1,5 +1,5 @@
 //! Where the bytes of a scan come from.
-ghost use Rattle.std.specs.Prelude.{◌≡◌, ℕ, ◌+◌, ◌-◌, ◌^◌, ◌<◌, ◌≤◌, List, [], ◌++◌, length};
+ghost use Rattle.std.specs.Prelude.{◌≡◌, ℕ, ◌+◌, ◌-◌, ◌^◌, ◌<◌, ◌≤◌, List, [], ◌++◌, length, IfOk, slice_get};
 ghost use Rattle.lexkit.specs.Source.{given, end_count, fault_count, Gives};
 ghost use Rattle.lexkit.specs.SourceLaws.{Gives-nil, Gives-trans};
 
@@ -85,4 +85,71 @@ impl<R: Read> Source for FromRead<R> {
     ghost gave_none = { λ s. Gives-nil (R.remaining s.reader) s.ends };
 
     ghost gave_more = { λ s t u xs ys p q. Gives-trans (R.remaining s.reader) (R.remaining t.reader) (R.remaining u.reader) s.ends t.ends u.ends xs ys p q };
+}
+
+#[cfg(test)]
+mod tests {
+    use super::*;
+    use std::io;
+
+    /// What a reader answers to one read.
+    #[derive(Clone, Copy)]
+    enum Answer {
+        Byte(u8),
+        End,
+        Fault,
+    }
+
+    /// Gives these answers in turn, and then its end.
+    #[derive(Drop)]
+    struct Script<'a> {
+        answers: &'a [Answer],
+    }
+
+    impl Read for Script<'_> {
+        fn read(&mut self, buf: &mut [u8]) -> io::Result<usize> {
+            let Some((answer, rest)) = self.answers.split_first() else {
+                return Ok(0);
+            };
+            self.answers = rest;
+            match (*answer, buf.first_mut()) {
+                (Answer::Byte(byte), Some(place)) => {
+                    *place = byte;
+                    Ok(1)
+                }
+                (Answer::Fault, _) => Err(io::Error::from(io::ErrorKind::Interrupted)),
+                _ => Ok(0),
+            }
+        }
+    }
+
+    #[test]
+    fn asks_the_reader_once_a_call(rt: HostRuntime) {
+        let answers = [
+            Answer::Byte(97),
+            Answer::Fault,
+            Answer::Byte(98),
+            Answer::End,
+            Answer::Byte(99),
+        ];
+        let mut source = FromRead::new(Script { answers: &answers });
+        assert!(rt; source.next() == Ok(Some(97)));
+        assert!(rt; source.next() == Err(ReadFault));
+        assert!(rt; source.next() == Ok(Some(98)));
+        assert!(rt; source.next() == Ok(None));
+        assert!(rt; source.next() == Ok(Some(99)));
+    }
+
+    /// Over a slice, whose bytes are known, the byte that is given is the first.
+    fn first_of(bytes: &[u8]) -> Result<Option<u8>, ReadFault>
+        ensures { IfOk result (λ first. first ≡ slice_get bytes.now 0) }
+    {
+        FromRead::new(bytes).next()
+    }
+
+    #[test]
+    fn gives_the_bytes_of_a_slice(rt: HostRuntime) {
+        assert!(rt; first_of(b"ab") == Ok(Some(97)));
+        assert!(rt; first_of(b"") == Ok(None));
+    }
 }

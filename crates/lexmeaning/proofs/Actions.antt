@@ -1,6 +1,6 @@
 -- What legal actions keep to, one statement at a time.
-use Rattle.std.proofs.Common.{◌≡◌, ℕ, ◌≤◌, ◌<◌, Bool, true, false, List, [], ◌∷◌, ◌⊎◌, inl, inr, refl, sym, arith}
-use Rattle.std.specs.Prelude.{not, ◌&&◌, ◌||◌, nat_lt, nat_le, ⊤}
+use Rattle.std.proofs.Common.{◌≡◌, ℕ, ◌≤◌, ◌<◌, Bool, true, false, List, [], ◌∷◌, ◌⊎◌, inl, inr, refl}
+use Rattle.std.specs.Prelude.{not, ◌&&◌, ◌||◌, nat_le, ⊤}
 use Rattle.std.proofs.lemmas.Bool.{ltb-true, leb-true, and_parts}
 use Rattle.lexmeaning.specs.Spec.{Statement, Echo, Print, Begin, More, Less, Reject, End, has_reject}
 use Rattle.lexmeaning.specs.Legal.{in_range, all_in_range, has_less, has_more, count_less, IsLegal}

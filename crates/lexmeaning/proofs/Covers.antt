@@ -1,6 +1,5 @@
 -- The place never passes what the matches asked for, so what is held is a part of what was taken.
 use Rattle.std.proofs.Common.{◌≡◌, ℕ, zero, suc, ◌+◌, ◌-◌, ◌≤◌, ◌<◌, max, Bool, true, false, List, [], ◌∷◌, ◌++◌, length, take, drop, ◌⊎◌, inl, inr, Option, Some, None, refl, sym, subst, arith}
-use Rattle.std.specs.Prelude.{if◌then◌else◌}
 use Rattle.std.proofs.lemmas.List.{length-append, length-take-le, length-take, length-drop}
 use Rattle.lexmeaning.specs.Text.{IsText, Among, part, at_line_start}
 use Rattle.lexmeaning.specs.Rules.{Rules, Full, statements_of}
@@ -8,6 +7,7 @@ use Rattle.lexmeaning.specs.Laws.{Laws}
 use Rattle.lexmeaning.specs.Candidates.{Candidate, IsCandidate}
 use Rattle.lexmeaning.specs.Acting.{Ending, Acting, Matched, Went, Done, Again, Over, act, settle, perform}
 use Rattle.lexmeaning.specs.Run.{Place, State, MatchTurn, NextFrom, Turns, next_start}
+use Rattle.lexmeaning.specs.Scanned.{Covered}
 use Rattle.lexmeaning.specs.Demand.{Reach, FarFrom, Far}
 use Rattle.lexmeaning.proofs.Texts.{is_text_drop, take_longer}
 use Rattle.lexmeaning.proofs.Once.{one_state}
@@ -59,11 +59,6 @@ len_reached R l x p r m text lt reach h (inr more) = from h.fits
         (subst (λ w. R.full p.condition (at_line_start x p.at) w m.rule m.keep) longer.1 f.1) in
         let bad : r < r = (reach.asked r (omega (arith, h.inside, n))).1 (inr live) in
         omega arith
-
--- the place is in order, and not past f
-pub record Covered (p : Place) (f : ℕ) : Type 0 where
-  pub ordered : p.start ≤ p.at
-  pub covered : p.at ≤ f
 
 next_ordered : (p : Place) (a : Acting) (o : Option Ending) (b : Bool) → next_start o b p.start (p.start + length a.text) ≤ p.start + length a.text
 next_ordered p a (Some e) b = omega arith

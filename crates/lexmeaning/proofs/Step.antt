@@ -1,21 +1,17 @@
 -- One more turn of a scanner: what it saw of the input is enough for every input that goes on from there.
 use Rattle.std.proofs.Common.{◌≡◌, ℕ, suc, ◌+◌, ◌-◌, ◌≤◌, ◌<◌, max, Bool, true, false, List, [], ◌++◌, length, take, drop, ◌⊎◌, inl, inr, ◌↔◌, Some, None, refl, sym, ◌∙◌, ap, subst, arith}
 use Rattle.std.proofs.lemmas.List.{append-nil, append_assoc, length-append, length-take-le, length-drop, drop_all}
-use Rattle.lexmeaning.specs.Text.{part, at_line_start, IsText}
+use Rattle.lexmeaning.specs.Text.{at_line_start, IsText}
 use Rattle.lexmeaning.specs.Rules.{Rules}
 use Rattle.lexmeaning.specs.Laws.{Laws}
-use Rattle.lexmeaning.specs.Candidates.{Candidate, Candidates}
-use Rattle.lexmeaning.specs.Acting.{Ending, Matched, perform}
-use Rattle.lexmeaning.specs.Run.{Place, State, Turn, MatchTurn, EndTurn, NextFrom, first_state, next_place}
+use Rattle.lexmeaning.specs.Candidates.{Candidates}
+use Rattle.lexmeaning.specs.Acting.{Ending, perform}
+use Rattle.lexmeaning.specs.Run.{Place, State, Turn, MatchTurn, EndTurn, NextFrom, first_state}
 use Rattle.lexmeaning.specs.Demand.{AsksAt, Reach, AsksForEnd, FarFrom, EndAsked, GoesOnFrom}
-use Rattle.lexmeaning.specs.Scanned.{AfterTurns, Scanned}
+use Rattle.lexmeaning.specs.Scanned.{AfterTurns, Scanned, Seen, seen_turn, then_turn}
 use Rattle.lexmeaning.proofs.Texts.{is_text_drop, is_text_right, line_start_front, part_front}
 use Rattle.lexmeaning.proofs.Once.{one_state}
 use Rattle.lexmeaning.proofs.Prefix.{Suffices, match_turn, reach_here, end_not_asked, front_asks, asks_front, front_splits}
-
--- the scan after a turn that wrote and led so
-abbrev pub then_turn : State → State → State
-then_turn s t = record { written = s.written ++ t.written; place = t.place; ended = t.ended }
 
 -- One turn over an input, after n turns: how far they ask together, and whether for the end.
 pub one_more : (R : Rules) (x : List ℕ) (n : ℕ) (s t : State) (far far' : ℕ) (e e' : Bool) → AfterTurns R x n s far e → s.ended ≡ None → Turn R x s.place t →
@@ -48,19 +44,6 @@ one_more_ended R x n s far e ending h is = record {
     from : EndAsked R x (suc n) → e ≡ true
     from (inl asked) = h.end.1 asked
     from (inr asked) = absurd (no_both (subst (λ (z : State). z.ended ≡ None) (one_state R x n asked.0 s asked.1 h.turns) asked.2))
-
--- What a match has seen: the first r bytes from its place, all of them asked for, among those that the source gave.
-pub record Seen (R : Rules) (given : List ℕ) (p : Place) (r : ℕ) : Type 0 where
-  pub inside : p.at + r ≤ length given
-  pub some : 1 ≤ r
-  pub asked : (i : ℕ) → i < r → AsksAt R given p i
-  pub matches : List Candidate
-  pub all : Candidates R p.condition (at_line_start given p.at) (take r (drop p.at given)) matches
-  pub outcome : Matched
-  pub performed : perform R (part given p.start p.at) (take r (drop p.at given)) matches [] p.condition ≡ Some outcome
-
-abbrev pub seen_turn : (p : Place) → Matched → State
-seen_turn p o = record { written = o.after.written; place = next_place p o; ended = o.ended }
 
 -- A match that asks for nothing more is the turn of every input that goes on from the bytes given.
 pub seen_match : (R : Rules) (l : Laws R) (given rest : List ℕ) (p : Place) (r : ℕ) (h : Seen R given p r) → IsText (given ++ rest) → (drop r (drop p.at given) ++ rest ≡ []) ⊎ (AsksAt R given p r → ⊥) →

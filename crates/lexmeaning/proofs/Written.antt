@@ -1,13 +1,11 @@
 -- What is written only grows, so what was written before a refusal is a front of what the run writes.
 use Rattle.std.proofs.Common.{zero-add, ◌≡◌, ℕ, zero, suc, ◌+◌, ◌-◌, ◌≤◌, List, [], ◌++◌, ◌⊎◌, inl, inr, Option, Some, None, refl, sym, ◌∙◌, ap, subst, arith}
 use Rattle.std.proofs.lemmas.List.{append-nil, append_assoc}
+use Rattle.lexmeaning.specs.Text.{BeginsWith}
 use Rattle.lexmeaning.specs.Rules.{Rules}
 use Rattle.lexmeaning.specs.Acting.{Ending}
 use Rattle.lexmeaning.specs.Run.{State, Turn, NextFrom, Turns, Run}
 use Rattle.lexmeaning.proofs.Once.{one_state, stays}
-
-abbrev pub BeginsWith : List ℕ → List ℕ → Type 0
-BeginsWith w v = (rest : List ℕ) × (w ≡ v ++ rest)
 
 begins_trans : (u v w : List ℕ) → BeginsWith w v → BeginsWith v u → BeginsWith w u
 begins_trans u v w h k = (k.0 ++ h.0, h.1 ∙ ap (λ z. z ++ h.0) k.1 ∙ append_assoc u k.0 h.0)

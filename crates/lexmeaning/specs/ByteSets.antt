@@ -1,7 +1,7 @@
 -- Bytes, and sets of bytes. A set is a number below 2 ^ 256 whose bit b says whether the byte b is in it, so two sets
 -- with the same members are the same number.
 -- (POSIX, lex, Regular Expressions in lex: bracket expressions in the POSIX locale.)
-use Rattle.std.specs.Prelude.{◌≡◌, ℕ, zero, suc, ◌+◌, ◌-◌, ◌*◌, ◌^◌, ◌<◌, Bool, true, false, not, ◌&&◌, ◌||◌, ◌==◌, nat_eq, nat_le, if◌then◌else◌, List, [], ◌∷◌, Option, Some, None, codes}
+use Rattle.std.specs.Prelude.{◌≡◌, ℕ, zero, suc, ◌+◌, ◌-◌, ◌*◌, ◌^◌, ◌<◌, Bool, true, false, not, ◌&&◌, ◌||◌, ◌==◌, nat_eq, nat_le, if◌then◌else◌, List, Option, Some, None, codes}
 use Rattle.std.specs.Int.{bit_at}
 use lib.Pointwise.{pointwise}
 
@@ -52,7 +52,7 @@ other_case b =
     else if nat_le 97 b && nat_le b 122 then b - 32
     else b
 
--- closed under changing the case of ASCII letters (flex, Options: case-insensitive)
+-- closed under changing the case of ASCII letters (flex, Scanner Options: case-insensitive)
 unfoldable pub fold_case : ByteSet → ByteSet
 fold_case s = set_of (λ b. has s b || has s (other_case b))
 

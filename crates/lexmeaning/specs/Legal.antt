@@ -1,7 +1,7 @@
 -- What the actions of a specification or a machine keep to.
 -- (POSIX, lex, Actions in lex; what may not stand in one action is this project's.)
-use Rattle.std.specs.Prelude.{◌≡◌, ℕ, zero, suc, Bool, true, false, not, ◌&&◌, ◌||◌, List, [], ◌∷◌, length, nat_le, nat_lt}
-use Rattle.lexmeaning.specs.Spec.{Statement, Echo, Print, Begin, More, Less, Reject, End, has_reject}
+use Rattle.std.specs.Prelude.{◌≡◌, ℕ, suc, Bool, true, false, not, ◌&&◌, ◌||◌, List, [], ◌∷◌, length, nat_le, nat_lt, if◌then◌else◌}
+use Rattle.lexmeaning.specs.Spec.{Statement, Print, Begin, More, Less, Reject, End, has_reject}
 
 -- what a statement names: a condition, one of n; a count of bytes, from 1 to 65,535; a status, up to 63. A literal has
 -- a byte.
@@ -28,30 +28,35 @@ ends_last [] = true
 ends_last (s ∷ []) = true
 ends_last (s ∷ t ∷ ss) = not (ends_action s) && ends_last (t ∷ ss)
 
-abbrev pub is_print : Statement → Bool
-is_print (Print s) = true
-is_print _ = false
+abbrev pub is_literal : Statement → Bool
+is_literal (Print s) = true
+is_literal _ = false
 
 -- no two literals are neighbours
 abbrev pub are_joined : List Statement → Bool
 are_joined [] = true
 are_joined (s ∷ []) = true
-are_joined (s ∷ t ∷ ss) = not (is_print s && is_print t) && are_joined (t ∷ ss)
+are_joined (s ∷ t ∷ ss) = not (is_literal s && is_literal t) && are_joined (t ∷ ss)
+
+abbrev pub is_less : Statement → Bool
+is_less (Less n) = true
+is_less _ = false
+
+abbrev pub is_more : Statement → Bool
+is_more More = true
+is_more _ = false
 
 abbrev pub count_less : List Statement → ℕ
 count_less [] = 0
-count_less (Less n ∷ ss) = suc (count_less ss)
-count_less (s ∷ ss) = count_less ss
+count_less (s ∷ ss) = if is_less s then suc (count_less ss) else count_less ss
 
 abbrev pub has_less : List Statement → Bool
 has_less [] = false
-has_less (Less n ∷ ss) = true
-has_less (s ∷ ss) = has_less ss
+has_less (s ∷ ss) = is_less s || has_less ss
 
 abbrev pub has_more : List Statement → Bool
 has_more [] = false
-has_more (More ∷ ss) = true
-has_more (s ∷ ss) = has_more ss
+has_more (s ∷ ss) = is_more s || has_more ss
 
 -- no REJECT with yymore or yyless, no yyless with yymore, and at most one yyless
 abbrev pub are_compatible : List Statement → Bool

@@ -1,11 +1,9 @@
 -- A machine of states, the rules that it tells, and when it is one for a specification. (flex, How the Input Is Matched,
 -- says what a scanner does; that a machine does it is this project's.)
-use Rattle.std.specs.Prelude.{◌≡◌, ℕ, ◌+◌, ◌≤◌, ◌<◌, Bool, true, false, List, [], ◌∷◌, length, ◌↔◌, ⊤, Some, slice_get}
-use Rattle.lexmeaning.specs.Text.{IsText, Among}
-use Rattle.lexmeaning.specs.Spec.{Spec, Rule, Cut, Whole, Head, Trail, Statement, EndAction, rejects, statements_at, end_at}
-use Rattle.lexmeaning.specs.Rules.{Rules, Live}
-use Rattle.lexmeaning.specs.Reports.{HasFit}
-use Rattle.lexmeaning.specs.Fits.{Fits}
+use Rattle.std.specs.Prelude.{◌≡◌, ℕ, ◌+◌, ◌≤◌, Bool, true, List, [], ◌∷◌, length}
+use Rattle.lexmeaning.specs.Text.{Among}
+use Rattle.lexmeaning.specs.Spec.{Cut, Whole, Head, Trail, Statement, EndAction}
+use Rattle.lexmeaning.specs.Rules.{Rules}
 
 pub record Machine : Type 0 where
   pub conditions : ℕ

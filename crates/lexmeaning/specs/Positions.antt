@@ -35,6 +35,10 @@ Readings = List Cell → Type 0
 abbrev pub bytes_of : List Cell → List ℕ
 bytes_of rs = map (λ c. c.0) rs
 
+-- the word has a reading
+abbrev pub ReadsWord : Readings → List ℕ → Type 0
+ReadsWord R w = (rs : List Cell) × (bytes_of rs ≡ w) × R rs
+
 -- k passes one after another, counted from pass j on
 abbrev pub Passes : (ℕ → Readings) → ℕ → ℕ → Readings
 Passes R j zero rs = rs ≡ []

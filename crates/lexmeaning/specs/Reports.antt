@@ -1,4 +1,4 @@
--- What the reports say: rules that cannot be matched, and states that back up. (flex, Generating Scanners: -b.)
+-- What the reports say: rules that cannot be matched, and states that back up. (flex, Scanner Options: -b; flex, Performance Considerations.)
 use Rattle.std.specs.Prelude.{ℕ, ◌≤◌, ◌<◌, Bool, true, false, List, length}
 use Rattle.lexmeaning.specs.Text.{IsText}
 use Rattle.lexmeaning.specs.Spec.{Spec, rejects}

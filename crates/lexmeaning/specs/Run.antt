@@ -4,7 +4,7 @@ use Rattle.std.specs.Prelude.{◌≡◌, ℕ, zero, suc, ◌+◌, ◌<◌, Bool,
 use Rattle.lexmeaning.specs.Text.{part, at_line_start}
 use Rattle.lexmeaning.specs.Rules.{Rules}
 use Rattle.lexmeaning.specs.Candidates.{Candidate, Candidates}
-use Rattle.lexmeaning.specs.Acting.{Ending, Status, Acting, Matched, perform}
+use Rattle.lexmeaning.specs.Acting.{Ending, Status, Matched, perform}
 
 -- where the current text starts, how far the input is matched, and the condition
 pub record Place : Type 0 where

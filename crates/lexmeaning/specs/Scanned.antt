@@ -1,8 +1,11 @@
 -- What is known of a scanner that sees one byte at a time. (This project's.)
-use Rattle.std.specs.Prelude.{◌≡◌, ℕ, Bool, true, List, length, ◌↔◌}
+use Rattle.std.specs.Prelude.{◌≡◌, ℕ, ◌+◌, ◌≤◌, ◌<◌, Bool, true, List, [], ◌++◌, length, take, drop, ◌↔◌, Some}
+use Rattle.lexmeaning.specs.Text.{part, at_line_start}
 use Rattle.lexmeaning.specs.Rules.{Rules}
-use Rattle.lexmeaning.specs.Run.{State, Turns}
-use Rattle.lexmeaning.specs.Demand.{Far, EndAsked, Consistent}
+use Rattle.lexmeaning.specs.Candidates.{Candidate, Candidates}
+use Rattle.lexmeaning.specs.Acting.{Matched, perform}
+use Rattle.lexmeaning.specs.Run.{Place, State, Turns, next_place}
+use Rattle.lexmeaning.specs.Demand.{AsksAt, Far, EndAsked, Consistent}
 
 -- After n turns over x the scan stands so. They ask for just the first `far` bytes, and for the end or not.
 pub record AfterTurns (R : Rules) (x : List ℕ) (n : ℕ) (s : State) (far : ℕ) (end_asked : Bool) : Type 0 where
@@ -14,3 +17,25 @@ pub record AfterTurns (R : Rules) (x : List ℕ) (n : ℕ) (s : State) (far : �
 -- over it have written these bytes and led to this place, and they ask for just what the source has told.
 abbrev pub Scanned : Rules → (given : List ℕ) → (at_end : Bool) → (n : ℕ) → State → Type 0
 Scanned R given at_end n s = (x : List ℕ) → Consistent given at_end x → AfterTurns R x n s (length given) at_end
+
+-- the scan after a turn that wrote and led so
+abbrev pub then_turn : State → State → State
+then_turn s t = record { written = s.written ++ t.written; place = t.place; ended = t.ended }
+
+-- What a match has seen: the first r bytes from its place, all of them asked for, among those that the source gave.
+pub record Seen (R : Rules) (given : List ℕ) (p : Place) (r : ℕ) : Type 0 where
+  pub inside : p.at + r ≤ length given
+  pub some : 1 ≤ r
+  pub asked : (i : ℕ) → i < r → AsksAt R given p i
+  pub matches : List Candidate
+  pub all : Candidates R p.condition (at_line_start given p.at) (take r (drop p.at given)) matches
+  pub outcome : Matched
+  pub performed : perform R (part given p.start p.at) (take r (drop p.at given)) matches [] p.condition ≡ Some outcome
+
+abbrev pub seen_turn : (p : Place) → Matched → State
+seen_turn p o = record { written = o.after.written; place = next_place p o; ended = o.ended }
+
+-- the place is in order, and not past f
+pub record Covered (p : Place) (f : ℕ) : Type 0 where
+  pub ordered : p.start ≤ p.at
+  pub covered : p.at ≤ f

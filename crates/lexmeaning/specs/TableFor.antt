@@ -1,5 +1,5 @@
 -- When a machine is a table for a specification. (This project's; flex, How the Input Is Matched, says what it must do.)
-use Rattle.std.specs.Prelude.{◌≡◌, ℕ, ◌≤◌, ◌<◌, Bool, true, false, List, length, ◌↔◌, Some, slice_get}
+use Rattle.std.specs.Prelude.{◌≡◌, ℕ, ◌<◌, Bool, true, false, List, length, ◌↔◌, Some, slice_get}
 use Rattle.lexmeaning.specs.Text.{IsText, Among, Ascending}
 use Rattle.lexmeaning.specs.Spec.{Spec, Rule, rejects, statements_at, end_at}
 use Rattle.lexmeaning.specs.Rules.{Live}

@@ -1,13 +1,25 @@
-//! The meaning of a scan: the definitions, and the laws over them.
+//! The meaning of a scan: the definitions that a reader must believe (in `specs/`), and the laws over them.
+//! Each function here has a law as its contract, and does nothing.
 #![tactic(auto)]
 
-ghost use Rattle.std.specs.Prelude.{◌≡◌, ◌+◌, ◌<◌, ◌≤◌, ℕ, Bool, List, ◌++◌, length};
-ghost use Rattle.lexmeaning.specs.Spec.{Spec};
-ghost use Rattle.lexmeaning.specs.Rules.{rules_of};
-ghost use Rattle.lexmeaning.specs.Run.{Run};
-ghost use Rattle.lexmeaning.specs.Acting.{Ending};
+mod demand;
+mod examples;
+mod knowledge;
+mod plain;
+mod tables;
+mod turns;
+mod words;
 
-/// An input has at most one run.
-pub fn one_run()
-    ensures { (S : Spec) (x v w : List ℕ) (d e : Ending) → Run (rules_of S) x v d → Run (rules_of S) x w e → (v ≡ w) × (d ≡ e) }
-{}
+pub use demand::{no_gap, one_reach, same_whatever_follows, stays_covered};
+pub use examples::{
+    examples_of_actions, examples_of_demand, examples_of_ends, examples_of_matching,
+    examples_of_places,
+};
+pub use knowledge::{
+    begins_the_run, known_after_end, known_after_match, known_after_match_at_end, known_at_first,
+    known_once_ended, part_begins_the_run,
+};
+pub use plain::{plain_demand, plain_run};
+pub use tables::{same_rules_scan, table_scan};
+pub use turns::{one_list, one_run, one_state, one_turn, some_run};
+pub use words::word_readings;

@@ -1,1 +1,14 @@
+pub mod BraceLaws
+pub mod BracketLaws
+pub mod DefinitionLaws
+pub mod ElementLaws
+pub mod EscapeLaws
+pub mod GrammarLaws
+pub mod LengthLaws
+pub mod Narrowing
+pub mod OneTree
+pub mod QuoteLaws
+pub mod ReadingLaws
+pub mod Rows
+pub mod RunLaws
 pub mod SetLaws

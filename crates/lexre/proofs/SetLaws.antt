@@ -1,5 +1,5 @@
 -- Facts on sets of bytes.
-use Rattle.std.proofs.Common.{add-one, ◌||◌, max, bit_and, bit_or, add_comm, ⊎_elim, ◌≡◌, ℕ, zero, suc, ◌+◌, ◌-◌, ◌*◌, ◌/◌, ◌%◌, ◌^◌, ◌<◌, ◌≤◌, Bool, true, false, not, ◌==◌, refl, sym, ap, ◌∙◌, arith}
+use Rattle.std.proofs.Common.{eq-eqb, add-one, ◌||◌, max, bit_and, bit_or, add_comm, ⊎_elim, ◌≡◌, ℕ, zero, suc, ◌+◌, ◌-◌, ◌*◌, ◌/◌, ◌%◌, ◌^◌, ◌<◌, ◌≤◌, Bool, true, false, not, ◌==◌, refl, sym, ap, ◌∙◌, arith}
 use Rattle.std.proofs.Math.Nat.{two-pow-succ, one-mul, mod-eq_of_lt}
 use Rattle.std.proofs.Math.Pow.{pow-lt}
 use Rattle.std.specs.Int.{bit_at, w128}
@@ -8,7 +8,9 @@ use Rattle.std.proofs.lemmas.Bool.{cases_lt}
 use Rattle.std.proofs.lemmas.Nat.{or_lt}
 use lib.Bits.{or_disjoint}
 use Rattle.std.proofs.lemmas.Nat.Bits.{bit_at-lt, same_from_bits_below, bit_at_above, bit_at_cat_low, bit_at_cat_high, bit_at-zero, bit_at_lowest, bit_at_or, bit_at_not, shr_and_one, and_pow}
-use Rattle.lexmeaning.specs.ByteSets.{bit_of, has, set_below, set_of, empty_set, union, complement}
+use Rattle.lexmeaning.specs.ByteSets.{single, bit_of, has, set_below, set_of, empty_set, union, complement}
+use Rattle.lexmeaning.specs.Shapes.{IsSoundTree}
+use Rattle.lexmeaning.specs.Tree.{Set}
 
 pub bit_of-lt : (b : Bool) → bit_of b < 2
 bit_of-lt true = omega arith
@@ -198,3 +200,8 @@ after_out n p half new e h f = f ∙ rw (e, add-one) (one_more_out n p (sym h))
 -- the shift `1 << n` of a word
 pub one_shifted : (n : ℕ) → n < 128 → 1 * 2 ^ n % 2 ^ 128 ≡ 2 ^ n
 one_shifted n h = ap (λ x. x % 2 ^ 128) (one-mul (2 ^ n)) ∙ mod-eq_of_lt (pow-lt h)
+
+-- one byte is a sound tree
+pub sound_single : (s b : ℕ) → b < 256 → s ≡ single b → IsSoundTree (Set s)
+unfolding single
+sound_single s b h e = rw e (b, (h, has-set_of (λ c. c == b) b h ∙ eq-eqb b b refl))

@@ -1,2 +1,13 @@
+pub mod Classes
+pub mod Cutting
+pub mod Definitions
+pub mod Elements
+pub mod Grammar
 pub mod Halves
+pub mod Lengths
+pub mod Lexical
+pub mod Readings
+pub mod Running
+pub mod Spelling
+pub mod Symbols
 pub mod Views

@@ -1,8 +1,32 @@
 //! Patterns of lex: sets of bytes, trees, and the reader of patterns.
 #![tactic(auto)]
 
+mod bounds;
+mod braces;
+mod brackets;
+mod classes;
+mod counts;
+mod definitions;
+mod digits;
+mod elements;
+mod error;
+mod escapes;
+mod laws;
+mod measures;
+mod parts;
 mod pattern;
+mod quotes;
+mod runs;
 mod sets;
 
+pub use bounds::Lengths;
+pub use counts::positions;
+pub use definitions::{Defs, DefsError};
+pub use error::{PatternError, PatternErrorKind};
+pub use laws::{one_tree, readings_use_own_positions};
+pub use measures::lengths;
 pub use pattern::Pattern;
 pub use sets::ByteSet;
+
+#[cfg(test)]
+mod tests;

@@ -1,7 +1,8 @@
 //! Patterns as trees. (POSIX, lex, Regular Expressions in lex.)
 use crate::sets::ByteSet;
 
-/// A pattern: what a text of lex's regular expressions stands for.
+/// A pattern: what a text of lex's regular expressions stands for. Calls that go over a pattern, and its drop, take
+/// stack in proportion to its depth, at most 160 bytes a level: less than 700 kB for 64 parentheses with 64 signs each.
 #[derive(Drop)]
 pub enum Pattern {
     /// The empty text.

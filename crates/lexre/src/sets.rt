@@ -1,7 +1,8 @@
 //! Sets of bytes. (POSIX, lex, Regular Expressions in lex: bracket expressions in the POSIX locale.)
 ghost use Rattle.std.specs.Prelude.{◌≡◌, ℕ, ◌<◌, ◌≤◌, ◌↔◌, Bool, IsTrue};
-ghost use Rattle.lexmeaning.specs.ByteSets.{has, set_of, empty_set, single, range_set, union, complement, fold_case, named_set, other_case, is_upper, is_lower, is_alpha, is_digit, is_alnum, is_space, is_blank, is_cntrl, is_graph, is_print, is_punct, is_xdigit};
+ghost use Rattle.lexmeaning.specs.ByteSets.{has, set_of, empty_set, single, range_set, union, complement, fold_case, named_set};
 
+use crate::classes::{Class, other_case};
 use std::marker::Model;
 
 /// A set of bytes. Bit b of the two words says whether the byte b is in it.
@@ -120,134 +121,10 @@ impl ByteSet {
 
     /// The character class of this name in the POSIX locale, and None for a name that it does not have.
     /// (POSIX, Base Definitions, LC_CTYPE.)
-    #[tactic(auto, unfolding(lexmeaning::specs::ByteSets::named_set))]
     pub fn named(name: &[u8]) -> Option<ByteSet>
         ensures { result ≡ named_set name.now }
     {
-        if name == b"alpha".as_slice() {
-            Some(ByteSet::passing(|b| is_alpha(b)))
-        } else if name == b"digit".as_slice() {
-            Some(ByteSet::passing(|b| is_digit(b)))
-        } else if name == b"alnum".as_slice() {
-            Some(ByteSet::passing(|b| is_alnum(b)))
-        } else if name == b"upper".as_slice() {
-            Some(ByteSet::passing(|b| is_upper(b)))
-        } else if name == b"lower".as_slice() {
-            Some(ByteSet::passing(|b| is_lower(b)))
-        } else if name == b"space".as_slice() {
-            Some(ByteSet::passing(|b| is_space(b)))
-        } else if name == b"blank".as_slice() {
-            Some(ByteSet::passing(|b| is_blank(b)))
-        } else if name == b"cntrl".as_slice() {
-            Some(ByteSet::passing(|b| is_cntrl(b)))
-        } else if name == b"graph".as_slice() {
-            Some(ByteSet::passing(|b| is_graph(b)))
-        } else if name == b"print".as_slice() {
-            Some(ByteSet::passing(|b| is_print(b)))
-        } else if name == b"punct".as_slice() {
-            Some(ByteSet::passing(|b| is_punct(b)))
-        } else if name == b"xdigit".as_slice() {
-            Some(ByteSet::passing(|b| is_xdigit(b)))
-        } else {
-            None
-        }
+        let class = Class::named(name)?;
+        Some(ByteSet::passing(|byte| class.contains(byte)))
     }
-}
-
-/// The letter in the other case, and any other byte itself.
-#[tactic(auto, unfolding(lexmeaning::specs::ByteSets::other_case))]
-fn other_case(byte: u8) -> u8
-    ensures { result ≡ other_case byte }
-{
-    if 65 <= byte && byte <= 90 {
-        byte + 32
-    } else if 97 <= byte && byte <= 122 {
-        byte - 32
-    } else {
-        byte
-    }
-}
-
-#[tactic(auto, unfolding(lexmeaning::specs::ByteSets::is_upper))]
-fn is_upper(byte: u8) -> bool
-    ensures { result ≡ is_upper byte }
-{
-    65 <= byte && byte <= 90
-}
-
-#[tactic(auto, unfolding(lexmeaning::specs::ByteSets::is_lower))]
-fn is_lower(byte: u8) -> bool
-    ensures { result ≡ is_lower byte }
-{
-    97 <= byte && byte <= 122
-}
-
-#[tactic(auto, unfolding(lexmeaning::specs::ByteSets::is_alpha))]
-fn is_alpha(byte: u8) -> bool
-    ensures { result ≡ is_alpha byte }
-{
-    is_upper(byte) || is_lower(byte)
-}
-
-#[tactic(auto, unfolding(lexmeaning::specs::ByteSets::is_digit))]
-fn is_digit(byte: u8) -> bool
-    ensures { result ≡ is_digit byte }
-{
-    48 <= byte && byte <= 57
-}
-
-#[tactic(auto, unfolding(lexmeaning::specs::ByteSets::is_alnum))]
-fn is_alnum(byte: u8) -> bool
-    ensures { result ≡ is_alnum byte }
-{
-    is_alpha(byte) || is_digit(byte)
-}
-
-#[tactic(auto, unfolding(lexmeaning::specs::ByteSets::is_space))]
-fn is_space(byte: u8) -> bool
-    ensures { result ≡ is_space byte }
-{
-    9 <= byte && byte <= 13 || byte == 32
-}
-
-#[tactic(auto, unfolding(lexmeaning::specs::ByteSets::is_blank))]
-fn is_blank(byte: u8) -> bool
-    ensures { result ≡ is_blank byte }
-{
-    byte == 9 || byte == 32
-}
-
-#[tactic(auto, unfolding(lexmeaning::specs::ByteSets::is_cntrl))]
-fn is_cntrl(byte: u8) -> bool
-    ensures { result ≡ is_cntrl byte }
-{
-    byte <= 31 || byte == 127
-}
-
-#[tactic(auto, unfolding(lexmeaning::specs::ByteSets::is_graph))]
-fn is_graph(byte: u8) -> bool
-    ensures { result ≡ is_graph byte }
-{
-    33 <= byte && byte <= 126
-}
-
-#[tactic(auto, unfolding(lexmeaning::specs::ByteSets::is_print))]
-fn is_print(byte: u8) -> bool
-    ensures { result ≡ is_print byte }
-{
-    32 <= byte && byte <= 126
-}
-
-#[tactic(auto, unfolding(lexmeaning::specs::ByteSets::is_punct))]
-fn is_punct(byte: u8) -> bool
-    ensures { result ≡ is_punct byte }
-{
-    is_graph(byte) && !is_alnum(byte)
-}
-
-#[tactic(auto, unfolding(lexmeaning::specs::ByteSets::is_xdigit))]
-fn is_xdigit(byte: u8) -> bool
-    ensures { result ≡ is_xdigit byte }
-{
-    is_digit(byte) || 65 <= byte && byte <= 70 || 97 <= byte && byte <= 102
 }

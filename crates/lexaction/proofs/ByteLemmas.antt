@@ -1,0 +1,94 @@
+-- Runs of bytes, and numbers.
+use Rattle.std.proofs.Common.{◌≡◌, ℕ, zero, suc, ◌+◌, ◌-◌, ◌*◌, ◌<◌, ◌≤◌, ◌==◌, min, Bool, true, false, if◌then◌else◌, List, [], ◌∷◌, ◌++◌, length, get_or, take, drop, Option, Some, None, refl, sym, ap, ◌∙◌, arith, fold, append_assoc, append-nil}
+use Rattle.std.proofs.lemmas.Bool.{ne_eqb}
+use Rattle.lexaction.specs.Bytes.{take_up_to, digit_of, value, string_at, string_byte_at}
+use Rattle.lexaction.specs.Reading.{◌>>=◌}
+
+-- where the first i bytes pass, and the next one is past the bound, past the end, or does not pass
+pub run_is : (n : ℕ) (test : ℕ → Bool) (t : List ℕ) (i : ℕ) → i ≤ n → i ≤ length t → ((k : ℕ) → k < i → test (get_or t k 0) ≡ true)
+    → ((i < n) → (i < length t) → test (get_or t i 0) ≡ false) → take_up_to n test t ≡ (take i t, drop i t)
+run_is zero test t zero below within first last = refl
+run_is zero test t (suc i) below within first last = absurd (omega arith)
+run_is (suc n) test [] zero below within first last = refl
+run_is (suc n) test [] (suc i) below within first last = absurd (omega arith)
+run_is (suc n) test (c ∷ t) zero below within first last = rw (last (omega arith) (omega arith)) refl
+run_is (suc n) test (c ∷ t) (suc i) below within first last =
+    let here : test c ≡ true = first 0 (omega arith) in
+    let rest = run_is n test t i (omega arith) (omega arith) (λ k h. first (suc k) (omega arith)) (λ h k. last (omega arith) (omega arith)) in
+    rw (here, rest) refl
+
+pub cap : (v r d : ℕ) → 1 ≤ r → min 65536 (min 65536 v * r + d) ≡ min 65536 (v * r + d)
+cap v (suc r) d h = grind arith
+cap v zero d h = absurd (omega arith)
+
+-- the bytes come before those that are read
+abbrev pub with_front : List ℕ → Option (List ℕ × List ℕ) → Option (List ℕ × List ℕ)
+with_front front None = None
+with_front front (Some found) = Some (front ++ found.0, found.1)
+
+-- of the text, the bytes were read so far, and the rest is left
+pub record StringSo (text front rest : List ℕ) : Type 0 where
+  pub bound : ℕ
+  pub enough : length rest ≤ bound
+  pub same : with_front front (string_at (suc bound) rest) ≡ string_at (suc (length text)) text
+
+with_none : (o : Option (List ℕ × List ℕ)) → with_front [] o ≡ o
+with_none None = refl
+with_none (Some x) = refl
+
+pub string_first : (text : List ℕ) → StringSo text [] text
+string_first text = record { bound = length text; enough = omega arith; same = with_none _ }
+
+with_more : (front : List ℕ) (b : ℕ) (o : Option (List ℕ × List ℕ)) → with_front front (o >>= λ (bs, after). Some (b ∷ bs, after)) ≡ with_front (front ++ b ∷ []) o
+with_more front b None = refl
+with_more front b (Some x) = ap (λ bs. Some (bs, x.1)) (sym (append_assoc front (b ∷ []) x.0))
+
+string_goes : (n : ℕ) (front t rest : List ℕ) (c b : ℕ) (u : List ℕ) → t ≡ c ∷ u → (c ≡ 34 → ⊥) → string_byte_at t ≡ Some (b, rest)
+    → with_front front (string_at (suc n) t) ≡ with_front (front ++ b ∷ []) (string_at n rest)
+unfolding string_at
+string_goes n front t rest c b u e other byte =
+    let at : string_byte_at (c ∷ u) ≡ Some (b, rest) = ap string_byte_at (sym e) ∙ byte in
+    let off : (c == 34) ≡ false = ne_eqb c 34 other in
+    rw (e, off, at) (with_more front b (string_at n rest))
+
+pub string_next : (text front t rest : List ℕ) (c b : ℕ) (u : List ℕ) → StringSo text front t → t ≡ c ∷ u → (c ≡ 34 → ⊥) → string_byte_at t ≡ Some (b, rest) → length rest < length t
+    → StringSo text (front ++ b ∷ []) rest
+string_next text front t rest c b u so e other byte shorter = record {
+  bound = so.bound - 1;
+  enough = (let h = so.enough in omega arith);
+  same = (let h = so.enough in
+      let up : suc (so.bound - 1) ≡ so.bound = omega arith in
+      rw up (sym (string_goes so.bound front t rest c b u e other byte) ∙ so.same));
+}
+
+pub string_ends : (text front t : List ℕ) (c : ℕ) (u : List ℕ) → StringSo text front t → t ≡ c ∷ u → c ≡ 34 → string_at (suc (length text)) text ≡ Some (front, u)
+unfolding string_at
+string_ends text front t c u so e quote =
+    let last : with_front front (string_at (suc so.bound) (34 ∷ u)) ≡ Some (front, u) = ap (λ x. Some (x, u)) (append-nil front) in
+    let same : t ≡ 34 ∷ u = e ∙ ap (λ x. x ∷ u) quote in
+    sym so.same ∙ ap (λ x. with_front front (string_at (suc so.bound) x)) same ∙ last
+
+pub string_stops : (text front t : List ℕ) (c : ℕ) (u : List ℕ) → StringSo text front t → t ≡ c ∷ u → (c ≡ 34 → ⊥) → string_byte_at t ≡ None → string_at (suc (length text)) text ≡ None
+unfolding string_at
+string_stops text front t c u so e other byte =
+    let at : string_byte_at (c ∷ u) ≡ None = ap string_byte_at (sym e) ∙ byte in
+    let off : (c == 34) ≡ false = ne_eqb c 34 other in
+    let here : string_at (suc so.bound) (c ∷ u) ≡ None = rw (off, at) refl in
+    sym so.same ∙ ap (λ x. with_front front (string_at (suc so.bound) x)) e ∙ ap (with_front front) here
+
+pub string_open : (text front t : List ℕ) → StringSo text front t → length t ≡ 0 → string_at (suc (length text)) text ≡ None
+unfolding string_at
+string_open text front [] so e = sym so.same
+string_open text front (c ∷ t) so e = absurd (omega arith)
+
+-- where the first byte passes, a run has it
+pub run_moves : (n : ℕ) (test : ℕ → Bool) (t a b : List ℕ) (c : ℕ) (u : List ℕ) → take_up_to n test t ≡ (a, b) → t ≡ c ∷ u → test c ≡ true → 0 < n → 0 < length a
+run_moves zero test t a b c u run e pass some = absurd (omega arith)
+run_moves (suc n) test [] a b c u run e pass some = absurd (omega (arith, ap length e))
+run_moves (suc n) test (d ∷ t) a b c u run e pass some =
+    let same : d ≡ c = cc in
+    let here : test d ≡ true = ap test same ∙ pass in
+    let is : take_up_to (suc n) test (d ∷ t) ≡ (d ∷ (take_up_to n test t).0, (take_up_to n test t).1) = rw here refl in
+    let front : d ∷ (take_up_to n test t).0 ≡ a = ap (λ (x : List ℕ × List ℕ). x.0) (sym is ∙ run) in
+    let long : length a ≡ suc (length (take_up_to n test t).0) = sym (ap length front) in
+    omega arith

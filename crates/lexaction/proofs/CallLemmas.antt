@@ -1,0 +1,59 @@
+-- Statements, by their parts.
+use Rattle.std.proofs.Common.{sym, option_map, ◌≡◌, ℕ, List, Option, Some, None, refl, ap, ◌∙◌}
+use Rattle.lexaction.specs.Reading.{◌>>=◌}
+use Rattle.lexaction.specs.Bytes.{next, name_at}
+use Rattle.lexmeaning.specs.Spec.{Begin}
+use Rattle.lexaction.specs.Actions.{Said, does, begin_at, begin_from, begins, closed_condition, condition_at, after_word, after_statement, statement_at}
+use Rattle.lexaction.specs.Calls.{with_rest}
+use Rattle.lexaction.specs.Outcome.{UnlessMemory}
+use Rattle.lexaction.specs.declared.error.ActionError.{ActionError}
+use Rattle.lexaction.specs.declared.error.ActionError.TheVariants.{UnknownStatement, UnknownCondition, BadCount, BadStatus, LessAndMore, RejectCombination, NotLast, BadEofAction, Unclosed, TooLong, OutOfMemory}
+
+-- a weaker reason
+pub unless_memory : (kind : ActionError) (P Q : Type 0) → (P → Q) → UnlessMemory kind P → UnlessMemory kind Q
+unless_memory OutOfMemory P Q f h = tt
+unless_memory UnknownStatement P Q f h = f h
+unless_memory UnknownCondition P Q f h = f h
+unless_memory BadCount P Q f h = f h
+unless_memory BadStatus P Q f h = f h
+unless_memory LessAndMore P Q f h = f h
+unless_memory RejectCombination P Q f h = f h
+unless_memory NotLast P Q f h = f h
+unless_memory BadEofAction P Q f h = f h
+unless_memory Unclosed P Q f h = f h
+unless_memory TooLong P Q f h = f h
+
+module _ (condition : List ℕ → Option ℕ) where
+  mapped : (number : Option ℕ) (rest : List ℕ) → begins condition (option_map (with_rest rest) number) ≡ option_map (with_rest rest) (option_map (λ n. does (Begin n)) number)
+  mapped None rest = refl
+  mapped (Some n) rest = refl
+
+  pub begin_closed : (t inside rest : List ℕ) (number : Option ℕ) (said : Option Said) → next 40 t ≡ Some inside → closed_condition condition inside ≡ option_map (with_rest rest) number
+      → said ≡ option_map (λ n. does (Begin n)) number → begin_at condition t ≡ option_map (with_rest rest) said
+  unfolding begin_at
+  begin_closed t inside rest number said first here is =
+      ap (begin_from condition t) first ∙ ap (begins condition) here ∙ mapped number rest ∙ ap (option_map (with_rest rest)) (sym is)
+
+  pub begin_bare : (t rest : List ℕ) (number : Option ℕ) (said : Option Said) → next 40 t ≡ None → condition_at condition t ≡ option_map (with_rest rest) number
+      → said ≡ option_map (λ n. does (Begin n)) number → begin_at condition t ≡ option_map (with_rest rest) said
+  unfolding begin_at
+  begin_bare t rest number said none here is =
+      ap (begin_from condition t) none ∙ ap (begins condition) here ∙ mapped number rest ∙ ap (option_map (with_rest rest)) (sym is)
+
+  none_of : (t word rest : List ℕ) → ◌≡◌ {A = Option (List ℕ × List ℕ)} (name_at t) (Some (word, rest)) → after_word condition word rest ≡ None → statement_at condition t ≡ None
+  unfolding statement_at
+  none_of t word rest name h = rw (name, h) refl
+
+  pub statement_refused : (kind : ActionError) (t word rest : List ℕ) → ◌≡◌ {A = Option (List ℕ × List ℕ)} (name_at t) (Some (word, rest)) → UnlessMemory kind (after_word condition word rest ≡ None)
+      → UnlessMemory kind (statement_at condition t ≡ None)
+  statement_refused kind t word rest name h = unless_memory kind _ _ (none_of t word rest name) h
+
+  said_open : (t word rest after : List ℕ) (s : Said) → ◌≡◌ {A = Option (List ℕ × List ℕ)} (name_at t) (Some (word, rest)) → ◌≡◌ {A = Option (Said × List ℕ)} (after_word condition word rest) (Some (s, after))
+      → after_statement after ≡ None → statement_at condition t ≡ None
+  unfolding statement_at
+  said_open t word rest after s name said h = rw (name, said, h) refl
+
+  pub statement_open : (t word rest after : List ℕ) (s : Option Said) → ◌≡◌ {A = Option (List ℕ × List ℕ)} (name_at t) (Some (word, rest)) → after_word condition word rest ≡ option_map (with_rest after) s
+      → after_statement after ≡ None → statement_at condition t ≡ None
+  statement_open t word rest after None name said h = none_of t word rest name said
+  statement_open t word rest after (Some s) name said h = said_open t word rest after s name said h

@@ -1,0 +1,11 @@
+pub mod ByteLemmas
+pub mod PartLemmas
+pub mod CallLemmas
+pub mod StatementLemmas
+pub mod ActionLemmas
+pub mod OneAction
+pub mod LegalLemmas
+pub mod EndLemmas
+pub mod ReadLemmas
+pub mod RangeLemmas
+pub mod NormalLemmas

@@ -1,0 +1,9 @@
+use Rattle.std.proofs.Common.{◌≡◌, ◌≤◌, length}
+use Rattle.lexaction.specs.Bytes.{skip_in, block, in_block}
+use Rattle.lexaction.proofs.bytes.after_block.Given as goal
+
+abbrev pub invariant-loop-first : goal.invariant-loop-first
+invariant-loop-first l = (skip_in (in_block l.star) l.rest ≡ skip_in block l.text) × (length l.rest ≤ length l.text)
+
+abbrev pub decreases-loop-first : goal.decreases-loop-first
+decreases-loop-first l = length l.rest

@@ -1,0 +1,29 @@
+-- What the readers of calls answer.
+use Rattle.std.specs.Prelude.{◌≡◌, ℕ, List, Option, Some, None, Result, Ok, Err, option_map}
+use Rattle.lexaction.specs.Actions.{Said, does}
+use Rattle.lexmeaning.specs.Spec.{Begin}
+use Rattle.lexaction.specs.Views.{said_of}
+use Rattle.lexaction.specs.Outcome.{UnlessMemory}
+use Rattle.lexaction.specs.declared.error.ActionError.{ActionError}
+use Rattle.lexaction.specs.declared.statement.Called.{Called}
+use Rattle.lexaction.specs.declared.statement.Called.TheVariants as Called
+
+abbrev pub with_rest : {A : Type 0} → List ℕ → A → A × List ℕ
+with_rest rest x = (x, rest)
+
+-- a call is read if it says something; nothing is read where its argument is faulty
+abbrev pub said_by_call : Called → Option Said
+said_by_call (Called.Says s) = Some (said_of s)
+said_by_call (Called.Faulty e) = None
+
+abbrev pub CallReads : {X : Type 0} → (X → Called) → (X → List ℕ) → Result X ActionError → Option (Said × List ℕ) → Type 0
+CallReads called rest (Ok x) read = read ≡ option_map (with_rest (rest x)) (said_by_call (called x))
+CallReads called rest (Err e) read = UnlessMemory e (read ≡ None)
+
+-- a condition is read if it is declared
+abbrev pub ConditionReads : {X : Type 0} → (X → Option ℕ) → (X → List ℕ) → Option X → Option (ℕ × List ℕ) → Type 0
+ConditionReads number rest (Some x) read = read ≡ option_map (with_rest (rest x)) (number x)
+ConditionReads number rest None read = read ≡ None
+
+abbrev pub BeginReads : Option ℕ → Called → Type 0
+BeginReads number called = said_by_call called ≡ option_map (λ n. does (Begin n)) number

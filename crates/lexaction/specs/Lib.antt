@@ -1,0 +1,9 @@
+pub mod Reading
+pub mod Bytes
+pub mod Statements
+pub mod Actions
+pub mod Outcome
+pub mod Views
+pub mod Names
+pub mod Formats
+pub mod Calls

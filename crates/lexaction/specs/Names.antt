@@ -1,0 +1,12 @@
+-- Names and their numbers.
+use Rattle.std.specs.Prelude.{ℕ, zero, suc, if◌then◌else◌, List, [], ◌∷◌, map, Option, Some, None}
+use Rattle.lexaction.specs.Reading.{is_word}
+use Rattle.lexaction.specs.declared.condition.Condition.{Condition}
+
+-- the number of the first that has the name, counted from k
+abbrev pub number_from : ℕ → List (List ℕ) → List ℕ → Option ℕ
+number_from k [] name = None
+number_from k (n ∷ ns) name = if is_word n name then Some k else number_from (suc k) ns name
+
+abbrev pub names_of : List Condition → List (List ℕ)
+names_of cs = map (λ c. c.name.items) cs

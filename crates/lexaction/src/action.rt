@@ -1,0 +1,165 @@
+//! The action of a rule.
+ghost use Rattle.std.specs.Prelude.{◌≡◌, ◌≤◌, ◌<◌, List, [], ◌∷◌, ◌++◌, length, map, option_map, IfOk, IfErr};
+ghost use Rattle.lexmeaning.specs.Spec as S;
+ghost use Rattle.lexaction.specs.Actions.{piece_from, SpellsStatements, SpellsAction, SpellsEndAction, end_of, alone};
+ghost use Rattle.lexaction.specs.Names.{number_from, names_of};
+ghost use Rattle.lexaction.specs.Views.{statement_of, piece_of, end_action_of};
+ghost use Rattle.lexaction.specs.Outcome.{Reads, UnlessMemory};
+
+use crate::bytes::skip;
+use crate::calls::statement_at;
+use crate::condition::{Condition, EndAction};
+use crate::error::ActionError;
+use crate::legal::{are_few, check};
+use crate::statement::{Piece, Statement, say};
+use std::alloc::Global;
+
+/// What an action is made of, at the front of a text that has neither blanks nor comments there.
+#[tactic(auto, unfolding(crate::specs::Actions::piece_from))]
+fn piece_from<'a>(
+    alloc: Global,
+    conditions: &[Condition],
+    text: &'a [u8],
+) -> Result<(Piece, &'a [u8]), ActionError>
+    requires { length conditions.now ≤ 255 }
+    ensures spelled { Reads (λ x. (piece_of x.0, x.1.now)) result (piece_from (number_from 0 (names_of conditions.now)) text.now) }
+    ensures shorter { IfOk result (λ x. length x.1.now < length text.now) }
+{
+    let Some((first, after)) = text.split_first() else {
+        return Err(ActionError::UnknownStatement);
+    };
+    if *first == b';' {
+        return Ok((Piece::Semicolon, after));
+    }
+    if *first == b'{' {
+        return Ok((Piece::Opens, after));
+    }
+    if *first == b'}' {
+        return Ok((Piece::Closes, after));
+    }
+    let (said, rest) = statement_at(alloc, conditions, text)?;
+    Ok((Piece::Says(said), rest))
+}
+
+/// The statements of an action, in normal form.
+fn read_statements(
+    alloc: Global,
+    conditions: &[Condition],
+    text: &[u8],
+) -> Result<Vec<Statement>, ActionError>
+    requires { length conditions.now ≤ 255 }
+    // What is read is spelled by the text.
+    ensures found { IfOk result (λ ss. SpellsStatements (number_from 0 (names_of conditions.now)) text.now (map statement_of ss.items)) }
+    // What is refused spells no statements, unless memory ran out.
+    ensures none { IfErr result (λ e. UnlessMemory e ((ss : List S.Statement) → SpellsStatements (number_from 0 (names_of conditions.now)) text.now ss → ⊥)) }
+{
+    let mut statements = Vec::new(alloc);
+    let mut open: usize = 0;
+    let mut rest = text;
+    'pieces: loop {
+        let here = skip(rest);
+        if here.is_empty() {
+            if open > 0 {
+                return Err(ActionError::Unclosed);
+            }
+            return Ok(statements);
+        }
+        let (piece, after) = piece_from(alloc, conditions, here)?;
+        match piece {
+            Piece::Semicolon => {}
+            Piece::Opens => open += 1,
+            Piece::Closes => {
+                if open == 0 {
+                    return Err(ActionError::UnknownStatement);
+                }
+                open -= 1;
+            }
+            Piece::Says(said) => say(&mut statements, said)?,
+        }
+        rest = after;
+    }
+}
+
+/// The statements of a rule's action, in normal form. The first fault from the left is named: `UnknownStatement`,
+/// `BadCount`, `BadStatus` and `UnknownCondition` of a statement, `Unclosed` for a brace left open, and then `TooLong`
+/// (256 statements, 4,096 literal bytes), `LessAndMore`, `RejectCombination` and `NotLast`. (POSIX, lex, Actions in lex.)
+pub fn read_action(
+    alloc: Global,
+    conditions: &[Condition],
+    text: &[u8],
+) -> Result<Vec<Statement>, ActionError>
+    requires { length conditions.now ≤ 255 }
+    // What is read is spelled by the text.
+    ensures found { IfOk result (λ ss. SpellsAction (number_from 0 (names_of conditions.now)) text.now (map statement_of ss.items)) }
+    // What is refused is no action, unless memory ran out.
+    ensures none { IfErr result (λ e. UnlessMemory e ((ss : List S.Statement) → SpellsAction (number_from 0 (names_of conditions.now)) text.now ss → ⊥)) }
+{
+    let statements = read_statements(alloc, conditions, text)?;
+    check(&statements)?;
+    Ok(statements)
+}
+
+/// What the action of an `<<EOF>>` rule does. It may print and end the scan, the end last, and is else `BadEofAction`,
+/// after the faults of statements and `TooLong`. (flex, End-of-File Rules.)
+pub fn read_end_action(
+    alloc: Global,
+    conditions: &[Condition],
+    text: &[u8],
+) -> Result<EndAction, ActionError>
+    requires { length conditions.now ≤ 255 }
+    // What is read is spelled by the text.
+    ensures found { IfOk result (λ e. SpellsEndAction (number_from 0 (names_of conditions.now)) text.now (end_action_of e)) }
+    // What is refused is no end action, unless memory ran out.
+    ensures none { IfErr result (λ e. UnlessMemory e ((a : S.EndAction) → SpellsEndAction (number_from 0 (names_of conditions.now)) text.now a → ⊥)) }
+{
+    let statements = read_statements(alloc, conditions, text)?;
+    if !are_few(&statements) {
+        return Err(ActionError::TooLong);
+    }
+    match end_of(alloc, statements) {
+        Some(end) => Ok(end),
+        None => Err(ActionError::BadEofAction),
+    }
+}
+
+/// What these statements do at the end of the input, where they may stand there.
+fn end_of(alloc: Global, statements: Vec<Statement>) -> Option<EndAction>
+    ensures { option_map end_action_of result ≡ end_of (map statement_of statements.items) }
+{
+    let mut front = statements;
+    match front.pop() {
+        None => Some(EndAction {
+            print: Vec::new(alloc),
+            status: 0,
+        }),
+        Some(last) => match last {
+            Statement::Print(print) => alone(front, EndAction { print, status: 0 }),
+            Statement::End(status) => printed_before(alloc, front, status),
+            _ => None,
+        },
+    }
+}
+
+/// The end action, where no statements stand before it.
+fn alone(front: Vec<Statement>, end: EndAction) -> Option<EndAction>
+    ensures { option_map end_action_of result ≡ alone (map statement_of front.items) (end_action_of end) }
+{
+    if front.is_empty() { Some(end) } else { None }
+}
+
+/// What an end with this status does, with the statements before it.
+fn printed_before(alloc: Global, statements: Vec<Statement>, status: u8) -> Option<EndAction>
+    ensures { option_map end_action_of result ≡ end_of (map statement_of statements.items ++ S.End status ∷ []) }
+{
+    let mut front = statements;
+    match front.pop() {
+        None => Some(EndAction {
+            print: Vec::new(alloc),
+            status,
+        }),
+        Some(last) => match last {
+            Statement::Print(print) => alone(front, EndAction { print, status }),
+            _ => None,
+        },
+    }
+}

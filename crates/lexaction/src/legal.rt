@@ -1,0 +1,159 @@
+//! What may stand in one action.
+ghost use Rattle.std.specs.Prelude.{◌≡◌, ℕ, Bool, ◌&&◌, nat_le, List, length, map, sum_by, true, false, OnOk, OnErr};
+ghost use Rattle.lexmeaning.specs.Spec.{is_reject, has_reject};
+ghost use Rattle.lexmeaning.specs.Legal.{is_less, is_more, ends_action, count_less, has_less, has_more, ends_last};
+ghost use Rattle.lexaction.specs.Statements.{literal_bytes};
+ghost use Rattle.lexaction.specs.Actions.{are_few, may_stand};
+ghost use Rattle.lexaction.specs.Views.{statement_of};
+
+use crate::error::ActionError;
+use crate::statement::Statement;
+
+/// The greatest count of statements in an action.
+const MOST_STATEMENTS: usize = 256;
+/// The greatest count of literal bytes in an action.
+const MOST_LITERAL_BYTES: usize = 4096;
+
+impl Statement {
+    fn is_reject(&self) -> bool
+        ensures { result ≡ is_reject (statement_of self.now) }
+    {
+        matches!(self, Statement::Reject)
+    }
+
+    fn is_less(&self) -> bool
+        ensures { result ≡ is_less (statement_of self.now) }
+    {
+        matches!(self, Statement::Less(_))
+    }
+
+    fn is_more(&self) -> bool
+        ensures { result ≡ is_more (statement_of self.now) }
+    {
+        matches!(self, Statement::More)
+    }
+
+    /// Whether it is REJECT or ends the scan.
+    fn ends_action(&self) -> bool
+        ensures { result ≡ ends_action (statement_of self.now) }
+    {
+        matches!(self, Statement::Reject | Statement::End(_))
+    }
+
+    /// How many bytes it writes beside the text.
+    fn literal_bytes(&self) -> usize
+        ensures { result ≡ literal_bytes (statement_of self.now) }
+    {
+        match self {
+            Statement::Print(bytes) => bytes.len(),
+            _ => 0,
+        }
+    }
+}
+
+fn has_reject(statements: &[Statement]) -> bool
+    ensures { result ≡ has_reject (map statement_of statements.now) }
+{
+    for statement in statements {
+        if statement.is_reject() {
+            return true;
+        }
+    }
+    false
+}
+
+fn has_more(statements: &[Statement]) -> bool
+    ensures { result ≡ has_more (map statement_of statements.now) }
+{
+    for statement in statements {
+        if statement.is_more() {
+            return true;
+        }
+    }
+    false
+}
+
+fn has_less(statements: &[Statement]) -> bool
+    ensures { result ≡ has_less (map statement_of statements.now) }
+{
+    for statement in statements {
+        if statement.is_less() {
+            return true;
+        }
+    }
+    false
+}
+
+fn count_less(statements: &[Statement]) -> usize
+    ensures { result ≡ count_less (map statement_of statements.now) }
+{
+    let mut count = 0;
+    for i in 0..statements.len() {
+        if statements[i].is_less() {
+            count += 1;
+        }
+    }
+    count
+}
+
+/// Whether what ends an action stands last.
+#[tactic(auto, using(crate::proofs::LegalLemmas::ends_last_is))]
+fn ends_last(statements: &[Statement]) -> bool
+    ensures { result ≡ ends_last (map statement_of statements.now) }
+{
+    let mut ended = false;
+    for statement in statements {
+        if ended {
+            return false;
+        }
+        ended = statement.ends_action();
+    }
+    true
+}
+
+/// Whether the literals have no more bytes than an action may have.
+fn are_short(statements: &[Statement]) -> bool
+    ensures { result ≡ nat_le (sum_by literal_bytes (map statement_of statements.now)) 4096 }
+{
+    let mut total = 0;
+    for statement in statements {
+        total += statement.literal_bytes();
+        if total > MOST_LITERAL_BYTES {
+            return false;
+        }
+    }
+    true
+}
+
+/// Whether there are no more statements and literal bytes than an action may have.
+pub(crate) fn are_few(statements: &[Statement]) -> bool
+    ensures { result ≡ are_few (map statement_of statements.now) }
+{
+    statements.len() <= MOST_STATEMENTS && are_short(statements)
+}
+
+/// Whether these statements may be the action of a rule, and else the first fault.
+#[tactic(auto, using(crate::proofs::LegalLemmas::too_many, crate::proofs::LegalLemmas::less_and_more, crate::proofs::LegalLemmas::less_twice, crate::proofs::LegalLemmas::reject_with, crate::proofs::LegalLemmas::not_last, crate::proofs::LegalLemmas::may_stand_is))]
+pub(crate) fn check(statements: &[Statement]) -> Result<(), ActionError>
+    ensures ok { OnOk result (may_stand (map statement_of statements.now) ≡ true) }
+    ensures err { OnErr result (may_stand (map statement_of statements.now) ≡ false) }
+{
+    let more = has_more(statements);
+    let less = has_less(statements);
+    if !are_few(statements) {
+        return Err(ActionError::TooLong);
+    }
+    if less && more {
+        return Err(ActionError::LessAndMore);
+    }
+    if count_less(statements) > 1 {
+        return Err(ActionError::LessAndMore);
+    }
+    if has_reject(statements) && (more || less) {
+        return Err(ActionError::RejectCombination);
+    }
+    if !ends_last(statements) {
+        return Err(ActionError::NotLast);
+    }
+    Ok(())
+}

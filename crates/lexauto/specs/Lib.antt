@@ -1,0 +1,2 @@
+pub mod PositionAutomaton
+pub mod RuleAutomaton

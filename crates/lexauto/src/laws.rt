@@ -1,0 +1,40 @@
+//! Laws of position automata: what they read, and how the last positions of a specification move.
+ghost use Rattle.std.specs.Prelude.{◌≡◌, ◌≢◌, ◌↔◌, ℕ, Bool, List, [], ◌∷◌, ◌++◌};
+ghost use Rattle.lexmeaning.specs.Tree.{Tree};
+ghost use Rattle.lexmeaning.specs.Positions.{Cell, Reads, ReadsWord};
+ghost use Rattle.lexmeaning.specs.Spec.{Spec};
+ghost use Rattle.lexmeaning.specs.Rules.{Live};
+ghost use Rattle.lexmeaning.specs.Reports.{HasFit};
+ghost use Rattle.lexmeaning.specs.Sound.{IsSound};
+ghost use Rattle.lexmeaning.specs.Subsets.{IsLast, ReadsActive};
+ghost use Rattle.lexauto.specs.PositionAutomaton.{quad, Whole};
+ghost use Rattle.lexauto.specs.RuleAutomaton.{active_automaton, automaton};
+
+/// The position automaton of a tree reads just what the tree reads, by the same positions.
+pub fn position_automaton()
+    ensures { (t : Tree) (base : ℕ) (rs : List Cell) → Whole (quad t base) rs ↔ Reads t base rs }
+{}
+
+/// A word has a reading of an active rule exactly if it fits a rule.
+pub fn words_that_fit()
+    ensures { (S : Spec) (c : ℕ) (bol : Bool) (w : List ℕ) → ReadsWord (ReadsActive S c bol) w ↔ ((i : ℕ) × HasFit S c bol w i) }
+{}
+
+/// The positions that a byte leaves are the first ones of the active rules that read it.
+pub fn first_positions()
+    ensures { (S : Spec) → IsSound S → (c : ℕ) (bol : Bool) (b q : ℕ) →
+        IsLast (ReadsActive S c bol) (b ∷ []) q ↔ ((active_automaton S c bol).first q × (active_automaton S c bol).letter (b, q)) }
+{}
+
+/// The positions that one byte more leaves are those that follow, of all rules, and read it.
+pub fn next_positions()
+    ensures { (S : Spec) → IsSound S → (c : ℕ) (bol : Bool) (w : List ℕ) (b q : ℕ) → w ≢ [] →
+        IsLast (ReadsActive S c bol) (w ++ b ∷ []) q ↔ ((automaton S).letter (b, q) × ((p : ℕ) × IsLast (ReadsActive S c bol) w p × (automaton S).follow p q)) }
+{}
+
+/// A word is live just where some position follows one that it left; the empty word, where some rule has a first one.
+pub fn live_positions()
+    ensures after { (S : Spec) → IsSound S → (c : ℕ) (bol : Bool) (w : List ℕ) → w ≢ [] →
+        Live S c bol w ↔ ((p q : ℕ) × IsLast (ReadsActive S c bol) w p × (automaton S).follow p q) }
+    ensures first { (S : Spec) → IsSound S → (c : ℕ) (bol : Bool) → Live S c bol [] ↔ ((q : ℕ) × (active_automaton S c bol).first q) }
+{}

@@ -1,0 +1,8 @@
+//! Automata of lex. So far the theory of position automata, as laws.
+#![tactic(auto)]
+
+mod laws;
+
+pub use laws::{
+    first_positions, live_positions, next_positions, position_automaton, words_that_fit,
+};

@@ -1,0 +1,10 @@
+use Rattle.lexmeaning.proofs.Once as Once
+use Rattle.lexmeaning.specs.Rules.{rules_of}
+use Rattle.lexmeaning.specs.Machine.{rules_of_machine}
+use Rattle.lexmeaning.proofs.turns.one_state.Goals as goal
+
+pub returns-clause-specification : goal.returns-clause-specification
+returns-clause-specification c = λ S x n s t h k. Once.one_state (rules_of S) x n s t h k
+
+pub returns-clause-machine : goal.returns-clause-machine
+returns-clause-machine c = λ M x n s t h k. Once.one_state (rules_of_machine M) x n s t h k

@@ -1,0 +1,57 @@
+//! Worked examples.
+
+ghost use Rattle.std.specs.Prelude.{ℕ, Bool, true, false, List, [], ◌∷◌, ◌++◌, codes};
+ghost use Rattle.lexmeaning.specs.Examples as E;
+ghost use Rattle.lexmeaning.specs.MachineExamples as M;
+
+/// Which match is taken.
+pub fn examples_of_matching()
+    ensures nothing_echoes { E.Writes E.nothing (codes "abc" ++ 10 ∷ []) (codes "abc" ++ 10 ∷ []) 0 }
+    ensures nothing_of_nothing { E.Writes E.nothing [] [] 0 }
+    ensures keys_written { E.Writes E.keys (codes "if 42 x") (codes "K N x") 0 }
+    ensures keyword_first { E.Writes E.keyword_or_word (codes "if iff") (codes "K I") 0 }
+    ensures backs_up { E.Writes E.abc (codes "abab") (codes "abab") 0 }
+    ensures interval_on_item { E.Writes E.two_bs (codes "abbabab") (codes "Xabab") 0 }
+    ensures folded_before_negated { E.Writes E.not_a (codes "bAb") (codes "NAN") 0 }
+    ensures ordinary_dollar { E.Writes E.dollar_inside (codes "a$bA") (codes "XY") 0 }
+{}
+
+/// What actions do: yymore, yyless and REJECT.
+pub fn examples_of_actions()
+    ensures more_appends { E.Writes E.mega (codes "mega-kludge") (codes "mega-mega-kludge") 0 }
+    ensures less_returns { E.Writes E.foobar (codes "foobar") (codes "foobarbar") 0 }
+    ensures reject_goes_on { E.Writes E.all_fronts (codes "abcd") (codes "abcdabcaba") 0 }
+    ensures less_counts_the_kept { E.Writes E.less_of_more (codes "aab") (codes "aabab") 0 }
+    ensures default_echoes_all { E.Writes E.only_more (codes "ab") (codes "ab") 0 }
+    ensures kept_is_dropped { E.Writes E.only_more (codes "a") [] 0 }
+    ensures later_rule_as_long { E.Writes E.rejected (codes "ab") (codes "abW") 0 }
+    ensures one_by_one { E.Writes E.one_by_one (codes "aaaaa") [] 0 }
+{}
+
+/// Trailing context, line starts and start conditions.
+pub fn examples_of_places()
+    ensures lines_trimmed { E.Writes E.trim_lines (codes "a  " ++ 10 ∷ codes "b  ") (codes "a" ++ 10 ∷ codes "b  ") 0 }
+    ensures context_returned { E.Writes E.before_cd (codes "abcdab") (codes "[ab]cdab") 0 }
+    ensures line_starts { E.Writes E.first_a (codes "aa" ++ 10 ∷ codes "a") (codes "Aa" ++ 10 ∷ codes "A") 0 }
+    ensures open_comment { E.Writes E.comments (codes "a/*b*/c/*d") (codes "acopen") 3 }
+    ensures exclusive { E.Writes (E.switched true) (codes "abcb") (codes "bB") 0 }
+    ensures inclusive { E.Writes (E.switched false) (codes "abcb") (codes "BB") 0 }
+{}
+
+/// How scans end.
+pub fn examples_of_ends()
+    ensures exits { E.Writes E.exit_after_ab (codes "abXYZ") [] 7 }
+    ensures exits_after_more { E.Writes E.exit_after_bs (codes "abXYZ") [] 7 }
+    ensures end_rule { E.Writes E.says_end (codes "x") (codes "xend" ++ 10 ∷ []) 0 }
+    ensures end_rule_alone { E.Writes E.says_end [] (codes "end" ++ 10 ∷ []) 0 }
+{}
+
+/// How many bytes are taken, and where the held ones begin, after each turn of some machines.
+pub fn examples_of_demand()
+    ensures taken_by_exit { M.Tells M.exit_after_ab (codes "abXYZ") ((2, 2) ∷ []) }
+    ensures taken_after_more { M.Tells M.exit_after_bs (codes "abXYZ") ((3, 2) ∷ []) }
+    ensures taken_by_keys { M.Tells M.keys (codes "if 42 x") ((2, 2) ∷ (3, 3) ∷ (5, 5) ∷ (6, 6) ∷ (7, 7) ∷ (7, 7) ∷ []) }
+    ensures held_after_backing_up { M.Tells M.abc (codes "abab") ((3, 1) ∷ (3, 2) ∷ (4, 3) ∷ (4, 4) ∷ (4, 4) ∷ []) }
+    ensures held_context { M.Tells M.before_cd (codes "abcdab") ((4, 2) ∷ (4, 3) ∷ (4, 4) ∷ (6, 5) ∷ (6, 6) ∷ (6, 6) ∷ []) }
+    ensures held_one_by_one { M.Tells M.one_by_one (codes "aaaaa") ((5, 1) ∷ (5, 2) ∷ (5, 3) ∷ (5, 4) ∷ (5, 5) ∷ (5, 5) ∷ []) }
+{}

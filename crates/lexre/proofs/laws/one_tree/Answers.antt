@@ -1,0 +1,9 @@
+use Rattle.std.proofs.Common.{refl}
+use Rattle.std.specs.FinMap.{get}
+use Rattle.lexre.specs.Lexical.{symbol_at}
+use Rattle.lexre.proofs.OneTree.{one_tree}
+use Rattle.lexre.proofs.laws.one_tree.Goals as goal
+
+pub returns : goal.returns
+unfolding symbol_at
+returns c = λ fold defs text t u h k. one_tree (symbol_at fold) (get defs) refl 64 text t u h.0 k.0

@@ -1,0 +1,50 @@
+//! The positions of a pattern: the places of it that read a byte.
+ghost use Rattle.std.specs.Prelude.{◌≡◌, ◌<◌, ◌≤◌, ◌^◌, min, map, IfSome, IfNone};
+ghost use Rattle.lexmeaning.specs.Positions.{positions, positions_of};
+ghost use Rattle.lexmeaning.specs.Tree.{trees};
+ghost use Rattle.lexre.specs.Views.{tree_of};
+
+use crate::pattern::Pattern;
+
+/// A count above this is as good as this.
+const CAP: u64 = 1 << 32;
+
+/// How many positions the pattern has: one for each set, in each copy that a repetition counts. None exactly where there
+/// are more than 4,294,967,295.
+pub fn positions(pattern: &Pattern) -> Option<u32>
+    ensures found { IfSome result (λ n. n ≡ positions (tree_of pattern.now)) }
+    ensures none { IfNone result (2 ^ 32 ≤ positions (tree_of pattern.now)) }
+{
+    u32::try_from(capped_positions(pattern)).ok()
+}
+
+#[cycle(positions)]
+fn capped_positions(pattern: &Pattern) -> u64
+    ensures { result ≡ min (2 ^ 32) (positions (tree_of pattern.now)) }
+{
+    match pattern {
+        Pattern::Empty => 0,
+        Pattern::Set(_) => 1,
+        Pattern::Cat(parts) => capped_positions_of(parts),
+        Pattern::Alt(parts) => capped_positions_of(parts),
+        Pattern::Star(inner) => capped_positions(inner),
+        Pattern::Repeat(inner, least, most) => {
+            let copies = match most {
+                Some(most) => *most,
+                None => (*least).max(1),
+            };
+            (u64::from(copies) * capped_positions(inner)).min(CAP)
+        }
+    }
+}
+
+#[cycle(positions)]
+fn capped_positions_of(parts: &[Pattern]) -> u64
+    ensures { result ≡ min (2 ^ 32) (positions_of (trees (map tree_of parts.now))) }
+{
+    let mut total = 0;
+    for part in parts {
+        total = (total + capped_positions(part)).min(CAP);
+    }
+    total
+}

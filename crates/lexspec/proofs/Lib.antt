@@ -1,0 +1,5 @@
+pub mod TestLaws
+pub mod OneSection
+pub mod OneItems
+pub mod OneSpec
+pub mod ComputedLines

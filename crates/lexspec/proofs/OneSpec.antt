@@ -1,0 +1,111 @@
+-- A file spells at most one specification.
+use Rattle.std.proofs.Common.{◌≡◌, ℕ, zero, suc, ◌+◌, ◌-◌, ◌≤◌, ◌<◌, Bool, true, false, List, [], ◌∷◌, length, map, Option, Some, None, refl, sym, ◌∙◌, ap, subst, arith}
+use Rattle.std.specs.Prelude.{codes, ◌||◌}
+use Rattle.std.specs.FinMap.{from_entries}
+use Rattle.lexmeaning.specs.Tree.{Tree, In}
+use Rattle.lexmeaning.specs.Shapes.{Language, LongestIs, HasLengths}
+use Rattle.lexmeaning.specs.Spec.{Spec, Condition, EndAction, Statement, Cut, Whole, Head, Trail, Rule}
+use Rattle.lexre.specs.Definitions.{Definitions}
+use Rattle.lexre.specs.Spelling.{Spells}
+use Rattle.lexre.specs.Cutting.{IsCutting}
+use Rattle.lexaction.specs.Names.{number_from}
+use Rattle.lexaction.specs.Actions.{SpellsAction, SpellsEndAction, end_of}
+use Rattle.lexaction.proofs.OneAction.{one_statements}
+use Rattle.lexspec.specs.Lines.{without_returns, line_in, begins}
+use Rattle.lexspec.specs.DefinitionLines.{Definition, Declared, definition_at, all_conditions, names_of, has_name, substitutes_of, all_options}
+use Rattle.lexspec.specs.Items.{Conditions, Trailing, no_trail, line_end, pattern_after, Subject, at_end, matching, Action, bar, spelled, Item, skipped, skipped_line, skipped_block, rule, newlines, AreItems}
+use Rattle.lexspec.specs.RuleItems.{numbers_of, HasFixed, IsCutOf, IsTrail, EndRule, IsActionOf, IsRule, AreRules}
+use Rattle.lexspec.specs.Files.{conditions_with, SpellsSpec}
+use Rattle.lexspec.proofs.OneSection.{no_true, one_up_to, separator_ends}
+use Rattle.lexspec.proofs.OneItems.{one_items}
+
+-- lengths are determined
+
+one_least : (L : Language) (m n : ℕ) (g h : Option ℕ) → HasLengths L m g → HasLengths L n h → m ≡ n
+one_least L m n g h a b =
+    let low : n ≤ length a.shortest.0 = b.none_shorter a.shortest.0 a.shortest.1 in
+    let high : m ≤ length b.shortest.0 = a.none_shorter b.shortest.0 b.shortest.1 in
+    omega (arith, a.shortest.2, b.shortest.2)
+
+one_fixed : (t : Tree) (m n : ℕ) → HasFixed t m → HasFixed t n → m ≡ n
+one_fixed t m n h k = one_least (In t) m n (Some m) (Some n) h.0 k.0
+
+one_cut : (head : Tree) (trail : Option Tree) (a b : Cut) → IsCutOf head trail a → IsCutOf head trail b → a ≡ b
+one_cut head None a b h k = h ∙ sym k
+one_cut head (Some t) (Head m) (Head n) h k = ap Head (one_fixed head m n h k)
+one_cut head (Some t) (Trail m) (Trail n) h k = ap Trail (one_fixed t m n h.1 k.1)
+one_cut head (Some t) (Head m) (Trail n) h k = absurd (k.0 m h)
+one_cut head (Some t) (Trail m) (Head n) h k = absurd (h.0 n k)
+one_cut head (Some t) Whole b h k = absurd h
+one_cut head (Some t) a Whole h k = absurd k
+
+some_is : {A : Type 0} (x y : A) → Some x ≡ Some y → x ≡ y
+some_is x y e = cc
+
+module _ (tree_once : (fold : Bool) (defs : Definitions) (text : List ℕ) (t u : Tree) → Spells fold defs text t → Spells fold defs text u → t ≡ u) where
+  one_trail : (fold : Bool) (defs : Definitions) (after : Trailing) (t u : Option Tree) → IsTrail fold defs after t → IsTrail fold defs after u → t ≡ u
+  one_trail fold defs no_trail t u h k = h ∙ sym k
+  one_trail fold defs line_end t u h k = h ∙ sym k
+  one_trail fold defs (pattern_after text) None u h k = absurd h
+  one_trail fold defs (pattern_after text) (Some t) None h k = absurd k
+  one_trail fold defs (pattern_after text) (Some t) (Some u) h k = ap Some (tree_once fold defs text t u h k)
+
+  one_action : (number : List ℕ → Option ℕ) (action : Action) (rules : List Rule) (ss tt : List Statement) → IsActionOf number action rules ss → IsActionOf number action rules tt → ss ≡ tt
+  one_action number (spelled text) rules ss tt h k = one_statements number text ss tt h.0 k.0
+  one_action number bar [] ss tt h k = absurd h
+  one_action number bar (r ∷ rules) ss tt h k = h ∙ sym k
+
+  one_rule : (names : List (List ℕ)) (fold : Bool) (defs : Definitions) (n : ℕ) (asked : Conditions) (anchored : Bool) (head : List ℕ) (after : Trailing) (action : Action) (is : List (ℕ × Item)) (rules : List Rule) (q r : Rule) →
+      IsRule names fold defs n asked anchored head after action is rules q → IsRule names fold defs n asked anchored head after action is rules r → q ≡ r
+  one_rule names fold defs n asked anchored head after action is rules q r h k =
+      let line : q.line ≡ r.line = h.line_is ∙ sym k.line_is in
+      let conditions : q.conditions ≡ r.conditions = some_is q.conditions r.conditions (sym h.listed ∙ k.listed) in
+      let anchor : q.anchored ≡ r.anchored = h.anchor ∙ sym k.anchor in
+      let same_head : q.head ≡ r.head = tree_once fold defs head q.head r.head h.head_is k.head_is in
+      let same_trail : q.trail ≡ r.trail = one_trail fold defs after q.trail r.trail h.trail_is k.trail_is in
+      let cut : q.cut ≡ r.cut = one_cut r.head r.trail q.cut r.cut (subst (λ z. IsCutOf r.head z q.cut) same_trail (subst (λ z. IsCutOf z q.trail q.cut) same_head h.cut_is)) k.cut_is in
+      let statements : q.statements ≡ r.statements = one_action (number_from 0 names) action rules q.statements r.statements h.statements_are k.statements_are in
+      λ i. record { line = line i; conditions = conditions i; anchored = anchor i; head = same_head i; trail = same_trail i; cut = cut i; statements = statements i }
+
+  one_end : (number : List ℕ → Option ℕ) (text : List ℕ) (e f : EndAction) → SpellsEndAction number text e → SpellsEndAction number text f → e ≡ f
+  one_end number text e f (ss, h, few, is) (tt, k, few', is') =
+      let same : ss ≡ tt = one_statements number text ss tt h k in
+      some_is e f (sym is ∙ ap end_of same ∙ is')
+
+  -- the rules and the ends of items are determined
+  one_rules : (names : List (List ℕ)) (fold : Bool) (defs : Definitions) (is : List (ℕ × Item)) (qs rs : List Rule) (es fs : List EndRule) →
+      AreRules names fold defs is qs es → AreRules names fold defs is rs fs → (qs ≡ rs) × (es ≡ fs)
+  one_rules names fold defs [] qs rs es fs h k = (h.0 ∙ sym k.0, h.1 ∙ sym k.1)
+  one_rules names fold defs ((n, skipped) ∷ is) qs rs es fs h k = one_rules names fold defs is qs rs es fs h k
+  one_rules names fold defs ((n, skipped_line) ∷ is) qs rs es fs h k = one_rules names fold defs is qs rs es fs h k
+  one_rules names fold defs ((n, skipped_block) ∷ is) qs rs es fs h k = one_rules names fold defs is qs rs es fs h k
+  one_rules names fold defs ((n, rule asked at_end bar) ∷ is) qs rs es fs h k = absurd h
+  one_rules names fold defs ((n, rule asked at_end (spelled text)) ∷ is) qs rs es fs (numbers, e, others, listed, spells, all, more) (numbers', e', others', listed', spells', all', more') =
+      let same : numbers ≡ numbers' = some_is numbers numbers' (sym listed ∙ listed') in
+      let end : e ≡ e' = one_end (number_from 0 names) text e e' spells spells' in
+      let later = one_rules names fold defs is qs rs others others' more more' in
+      let pair : ◌≡◌ {A = EndRule} (numbers, e) (numbers', e') = ap (λ z. (z, e)) same ∙ ap (λ z. (numbers', z)) end in
+      (later.0, all ∙ ap (λ z. z ∷ others) pair ∙ ap (λ z. (numbers', e') ∷ z) later.1 ∙ sym all')
+  one_rules names fold defs ((n, rule asked (matching anchored head after) (spelled text)) ∷ is) qs rs es fs (q, others, all, one, more) (r, others', all', one', more') =
+      let later = one_rules names fold defs is others others' es fs more more' in
+      let same : q ≡ r = one_rule names fold defs n asked anchored head after (spelled text) is others' q r (subst (λ z. IsRule names fold defs n asked anchored head after (spelled text) is z q) later.0 one) one' in
+      (all ∙ ap (λ z. z ∷ others) same ∙ ap (λ z. r ∷ z) later.0 ∙ sym all', later.1)
+  one_rules names fold defs ((n, rule asked (matching anchored head after) bar) ∷ is) qs rs es fs (q, others, all, one, more) (r, others', all', one', more') =
+      let later = one_rules names fold defs is others others' es fs more more' in
+      let same : q ≡ r = one_rule names fold defs n asked anchored head after bar is others' q r (subst (λ z. IsRule names fold defs n asked anchored head after bar is z q) later.0 one) one' in
+      (all ∙ ap (λ z. z ∷ others) same ∙ ap (λ z. r ∷ z) later.0 ∙ sym all', later.1)
+
+  module _ (cut_once : (t : List ℕ) (stop stop' : ℕ) (at at' : Option ℕ) (two two' special special' : Bool) → IsCutting t stop at two special → IsCutting t stop' at' two' special' →
+      (stop ≡ stop') × (at ≡ at') × (special ≡ special')) where
+    pub one_specification : (fold : Bool) (file : List ℕ) (S T : Spec) → SpellsSpec fold file S → SpellsSpec fold file T → S ≡ T
+    one_specification fold file S T h k =
+        let first = one_up_to definition_at (without_returns file) h.definitions k.definitions h.after k.after h.first_section k.first_section (separator_ends h.after h.separator) (separator_ends k.after k.separator) in
+        let items : h.items ≡ k.items = one_items cut_once (2 + newlines file - newlines k.after) (line_in k.after).1 h.items k.items
+        (subst (λ z. AreItems (2 + newlines file - newlines z) (line_in z).1 h.items) first.1 h.second_section) k.second_section in
+        let all : AreRules (names_of (all_conditions k.definitions)) (fold || has_name (all_options k.definitions) (codes "case-insensitive")) (from_entries (substitutes_of k.definitions)) k.items S.rules h.ends =
+        subst (λ z. AreRules (names_of (all_conditions k.definitions)) (fold || has_name (all_options k.definitions) (codes "case-insensitive")) (from_entries (substitutes_of k.definitions)) z S.rules h.ends) items
+        (subst (λ z. AreRules (names_of (all_conditions z)) (fold || has_name (all_options z) (codes "case-insensitive")) (from_entries (substitutes_of z)) h.items S.rules h.ends) first.0 h.rules) in
+        let both = one_rules (names_of (all_conditions k.definitions)) (fold || has_name (all_options k.definitions) (codes "case-insensitive")) (from_entries (substitutes_of k.definitions)) k.items S.rules T.rules h.ends k.ends all k.rules in
+        let conditions : S.conditions ≡ T.conditions =
+        h.conditions ∙ ap (λ z. conditions_with 0 (all_conditions z) h.ends) first.0 ∙ ap (λ z. conditions_with 0 (all_conditions k.definitions) z) both.1 ∙ sym k.conditions in
+        λ i. record { conditions = conditions i; rules = both.0 i }

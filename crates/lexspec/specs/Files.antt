@@ -1,0 +1,57 @@
+-- Which specification a file spells. (POSIX, lex, Input Files; flex, Format of the Input File. The bounds are this
+-- project's.)
+use Rattle.std.specs.Prelude.{◌≡◌, ℕ, zero, suc, ◌+◌, ◌-◌, ◌≤◌, ◌<◌, Bool, true, false, ◌||◌, ◌==◌, if◌then◌else◌, List, [], ◌∷◌, map, length, count_by, Option, Some, None, codes}
+use Rattle.std.specs.List.{list_any}
+use Rattle.std.specs.FinMap.{from_entries}
+use Rattle.lexmeaning.specs.Spec.{Spec, Condition, EndAction}
+use Rattle.lexre.specs.Definitions.{Definitions}
+use Rattle.lexspec.specs.Lines.{without_returns, line_in, begins}
+use Rattle.lexspec.specs.DefinitionLines.{Definition, Declared, definition_at, IsUpTo, all_conditions, names_of, has_name, are_distinct, substitutes_of, all_options, are_known}
+use Rattle.lexspec.specs.Items.{Item, AreItems, newlines}
+use Rattle.lexspec.specs.RuleItems.{EndRule, AreRules}
+
+-- no condition has two ends, and without a list there is one at most
+abbrev pub lists_number : Option (List ℕ) → ℕ → Bool
+lists_number None c = false
+lists_number (Some cs) c = list_any (λ d. d == c) cs
+
+abbrev pub is_unlisted : EndRule → Bool
+is_unlisted (None, e) = true
+is_unlisted (Some cs, e) = false
+
+abbrev pub AreSingle : ℕ → List EndRule → Type 0
+AreSingle count ends =
+    ((c : ℕ) → c < count → count_by (λ (e : EndRule). lists_number e.0 c) ends ≤ 1) × (count_by is_unlisted ends ≤ 1)
+
+-- the end of condition c: the one that lists it, else the one without a list, else nothing, with status 0
+abbrev pub unlisted_end : List EndRule → EndAction
+unlisted_end [] = record { print = []; status = 0 }
+unlisted_end ((None, e) ∷ ends) = e
+unlisted_end ((Some cs, e) ∷ ends) = unlisted_end ends
+
+abbrev pub end_in : List EndRule → List EndRule → ℕ → EndAction
+end_in all [] c = unlisted_end all
+end_in all (e ∷ ends) c = if lists_number e.0 c then e.1 else end_in all ends c
+
+abbrev pub conditions_with : ℕ → List Declared → List EndRule → List Condition
+conditions_with k [] ends = []
+conditions_with k (c ∷ cs) ends = record { name = c.name; exclusive = c.exclusive; end = end_in ends ends k } ∷ conditions_with (suc k) cs ends
+
+-- The text is a file of this specification.
+pub record SpellsSpec (fold : Bool) (file : List ℕ) (S : Spec) : Type 0 where
+  pub short : length file ≤ 1048576
+  pub definitions : List Definition
+  pub after : List ℕ
+  pub first_section : IsUpTo definition_at (without_returns file) definitions after
+  pub separator : begins (codes "%%") after ≡ true
+  pub items : List (ℕ × Item)
+  pub second_section : AreItems (2 + newlines file - newlines after) (line_in after).1 items
+  pub names : are_distinct (names_of (all_conditions definitions)) ≡ true
+  pub defined_once : are_distinct (map (λ (d : List ℕ × List ℕ). d.0) (substitutes_of definitions)) ≡ true
+  pub options : are_known (all_options definitions) ≡ true
+  pub ends : List EndRule
+  pub rules : AreRules (names_of (all_conditions definitions)) (fold || has_name (all_options definitions) (codes "case-insensitive")) (from_entries (substitutes_of definitions)) items S.rules ends
+  pub one_end : AreSingle (length (all_conditions definitions)) ends
+  pub conditions : S.conditions ≡ conditions_with 0 (all_conditions definitions) ends
+  pub few_conditions : length S.conditions ≤ 255
+  pub few_rules : length S.rules ≤ 4096

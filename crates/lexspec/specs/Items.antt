@@ -1,0 +1,144 @@
+-- The lines of the rules section: which rules stand there, as texts.
+-- (POSIX, lex, Rules in lex; flex, Patterns, Start Conditions, End-of-File Rules.)
+use Rattle.std.specs.Prelude.{◌≡◌, ℕ, zero, suc, ◌+◌, ◌-◌, Bool, true, false, not, ◌&&◌, ◌||◌, ◌==◌, if◌then◌else◌, List, [], ◌∷◌, length, take, drop, count_by, Option, Some, None, codes, ◌⊎◌}
+use Rattle.std.specs.List.{list_any}
+use Rattle.lexre.specs.Cutting.{IsCutting}
+use Rattle.lexaction.specs.Reading.{◌>>=◌, Reader, is_word}
+use Rattle.lexspec.specs.Lines.{line_in, line_at, is_blank, after_blanks, begins, after_block}
+use Rattle.lexspec.specs.DefinitionLines.{is_all_blank}
+
+-- the condition list: none, `<*>`, or names
+pub data Conditions : Type 0 where
+  unlisted : Conditions
+  every : Conditions
+  only : List (List ℕ) → Conditions
+
+-- what follows the head: nothing, a newline (`$`), or a pattern
+pub data Trailing : Type 0 where
+  no_trail : Trailing
+  line_end : Trailing
+  pattern_after : List ℕ → Trailing
+
+-- a rule as it stands in the file: texts, and the number of its line
+pub data Subject : Type 0 where
+  -- `<<EOF>>`
+  at_end : Subject
+  -- a pattern with its `^`
+  matching : (anchored : Bool) (head : List ℕ) (trail : Trailing) → Subject
+
+-- the action of a rule: that of the next one, or a text
+pub data Action : Type 0 where
+  bar : Action
+  spelled : List ℕ → Action
+
+-- a line of the rules section, with what follows that belongs to it
+pub data Item : Type 0 where
+  skipped : Item
+  skipped_line : Item
+  skipped_block : Item
+  rule : Conditions → Subject → Action → Item
+
+-- the parts between commas
+abbrev pub parts_at : ℕ → List ℕ → List ℕ × List (List ℕ)
+parts_at sign [] = ([], [])
+parts_at sign (c ∷ t) = (let (part, parts) = parts_at sign t in if c == sign then ([], part ∷ parts) else (c ∷ part, parts))
+
+abbrev pub before_sign : ℕ → List ℕ → Option (List ℕ × List ℕ)
+before_sign sign [] = None
+before_sign sign (c ∷ t) = if c == sign then Some ([], t) else (before_sign sign t >>= λ (front, rest). Some (c ∷ front, rest))
+
+-- `<..>`; a `<` always opens a list, unless it opens `<<EOF>>`
+unfoldable pub conditions_at : Reader Conditions
+conditions_at t =
+    if begins (codes "<<EOF>>") t || not (begins (codes "<") t) then Some (unlisted, t)
+    else (before_sign 62 (line_in (drop 1 t)).0 >>= λ (inside, rest).
+    let after = drop (length inside + 2) t in
+    if is_word inside (codes "*") then Some (every, after)
+    else (let (first, others) = parts_at 44 inside in Some (only (first ∷ others), after)))
+
+-- where an action stands: outside all, after a slash there, in comments as `Bytes.Place` has it, in a string, after a backslash in one
+pub data Place : Type 0 where
+  outside : Place
+  slash : Place
+  block : Place
+  star : Place
+  line : Place
+  string : Place
+  escaped : Place
+
+abbrev pub with_byte : ℕ → Option (List ℕ × List ℕ) → Option (List ℕ × List ℕ)
+with_byte c None = None
+with_byte c (Some found) = Some (c ∷ found.0, found.1)
+
+-- outside all, at a byte that is no slash
+abbrev pub next_place : ℕ → Place
+next_place c = if c == 34 then string else if c == 47 then slash else outside
+
+abbrev pub depth_after : ℕ → ℕ → ℕ
+depth_after n c = if c == 123 then suc n else if c == 125 then n - 1 else n
+
+-- the action up to the first newline outside strings, comments and n open braces, or to the end, and what follows that newline
+abbrev pub action_in : Place → ℕ → List ℕ → Option (List ℕ × List ℕ)
+action_in outside zero [] = Some ([], [])
+action_in slash zero [] = Some ([], [])
+action_in line zero [] = Some ([], [])
+action_in p n [] = None
+action_in outside n (c ∷ t) = if c == 10 && n == 0 then Some ([], t) else with_byte c (action_in (next_place c) (depth_after n c) t)
+action_in slash n (c ∷ t) =
+    if c == 42 then with_byte c (action_in block n t)
+    else if c == 47 then with_byte c (action_in line n t)
+    else if c == 10 && n == 0 then Some ([], t)
+    else with_byte c (action_in (next_place c) (depth_after n c) t)
+action_in block n (c ∷ t) = with_byte c (action_in (if c == 42 then star else block) n t)
+action_in star n (c ∷ t) = with_byte c (action_in (if c == 47 then outside else if c == 42 then star else block) n t)
+action_in line n (c ∷ t) = if c == 10 && n == 0 then Some ([], t) else with_byte c (action_in (if c == 10 then outside else line) n t)
+action_in string n (c ∷ t) = if c == 10 then None else with_byte c (action_in (if c == 34 then outside else if c == 92 then escaped else string) n t)
+action_in escaped n (c ∷ t) = if c == 10 then None else with_byte c (action_in string n t)
+
+abbrev pub action_of : List ℕ → Action
+action_of text = if begins (codes "|") text && is_all_blank (drop 1 text) then bar else spelled text
+
+abbrev pub starts_blank : List ℕ → Bool
+starts_blank [] = true
+starts_blank (c ∷ t) = is_blank c || c == 10
+
+-- the head and the trailing context of a pattern's text, by its end, its first slash and whether it ends with `$`
+abbrev pub sides : List ℕ → ℕ → Option ℕ → Bool → Option (List ℕ × Trailing)
+sides t stop None false = Some (take stop t, no_trail)
+sides t stop None true = Some (take (stop - 1) t, line_end)
+sides t stop (Some at) false = Some (take at t, pattern_after (take (stop - suc at) (drop (suc at) t)))
+sides t stop (Some at) true = None
+
+-- a line that is not blank, not code, no `%%` and no `%{`
+abbrev pub starts_rule : List ℕ → Bool
+starts_rule t = let (text, after) = line_in t in
+    not (is_all_blank text || list_any is_blank (take 1 text) || begins (codes "%%") text || begins (codes "%{") text)
+
+-- the text begins with the subject of a rule, and this follows
+abbrev pub IsPattern : List ℕ → List ℕ → Trailing → List ℕ → Type 0
+IsPattern t head after rest =
+    (stop : ℕ) × (at : Option ℕ) × (special : Bool) × IsCutting t stop at false special × (sides t stop at special ≡ Some (head, after)) × (rest ≡ drop stop t)
+
+abbrev pub IsSubject : List ℕ → Subject → List ℕ → Type 0
+IsSubject t at_end rest = (begins (codes "<<EOF>>") t ≡ true) × (rest ≡ drop 7 t) × (starts_blank rest ≡ true)
+IsSubject t (matching true head after) rest =
+    (begins (codes "^") t ≡ true) × (begins (codes "<<EOF>>") (drop 1 t) ≡ false) × IsPattern (drop 1 t) head after rest
+IsSubject t (matching false head after) rest =
+    (begins (codes "^") t ≡ false) × (begins (codes "<<EOF>>") t ≡ false) × IsPattern t head after rest
+
+-- a line of the rules section, with what follows that belongs to it; one that begins with `%%` is none
+abbrev pub IsItem : List ℕ → Item → List ℕ → Type 0
+IsItem t skipped rest = (text : List ℕ) × (line_at t ≡ Some (text, rest)) × (is_all_blank text ≡ true)
+IsItem t skipped_line rest = (text : List ℕ) × (line_at t ≡ Some (text, rest)) × (is_all_blank text ≡ false) × (list_any is_blank (take 1 text) ≡ true)
+IsItem t skipped_block rest = (begins (codes "%{") t ≡ true) × (after_block (suc (length t)) (line_in t).1 ≡ Some rest)
+IsItem t (rule asked subject action) rest =
+    (starts_rule t ≡ true) × (u v text : List ℕ) × (conditions_at t ≡ Some (asked, u)) × IsSubject u subject v
+    × (action_in outside 0 (after_blanks v) ≡ Some (text, rest)) × (action ≡ action_of text)
+
+abbrev pub newlines : List ℕ → ℕ
+newlines t = count_by (λ c. c == 10) t
+
+-- these items, each with its line, up to the end or a line that begins with `%%`; the first line here is n
+abbrev pub AreItems : ℕ → List ℕ → List (ℕ × Item) → Type 0
+AreItems n t [] = (t ≡ []) ⊎ (begins (codes "%%") t ≡ true)
+AreItems n t (i ∷ is) = (rest : List ℕ) × (i.0 ≡ n) × IsItem t i.1 rest × AreItems (n + (newlines t - newlines rest)) rest is

@@ -1,0 +1,97 @@
+-- Which rules the items of the rules section spell.
+-- (POSIX, lex, Rules in lex and Actions in lex; flex, Patterns: trailing context, End-of-File Rules.)
+use Rattle.std.specs.Prelude.{◌≡◌, ℕ, zero, suc, ◌≤◌, Bool, true, false, ◌==◌, ◌&&◌, if◌then◌else◌, List, [], ◌∷◌, length, Option, Some, None, is_some}
+use Rattle.std.specs.List.{list_any}
+use Rattle.lexmeaning.specs.ByteSets.{single}
+use Rattle.lexmeaning.specs.Tree.{Tree, Set, In}
+use Rattle.lexmeaning.specs.Shapes.{HasLengths}
+use Rattle.lexmeaning.specs.Spec.{EndAction, Statement, Cut, Whole, Head, Trail, Rule}
+use Rattle.lexre.specs.Definitions.{Definitions}
+use Rattle.lexre.specs.Spelling.{Spells}
+use Rattle.lexaction.specs.Names.{number_from}
+use Rattle.lexaction.specs.Actions.{SpellsAction, SpellsEndAction}
+use Rattle.lexspec.specs.Items.{Conditions, unlisted, every, only, Trailing, no_trail, line_end, pattern_after, Subject, at_end, matching, Action, bar, spelled, Item, skipped, skipped_line, skipped_block, rule}
+
+-- the numbers below n that the test passes, ascending, from k on
+abbrev pub numbers_from : ℕ → ℕ → (ℕ → Bool) → List ℕ
+numbers_from k zero test = []
+numbers_from k (suc n) test = if test k then k ∷ numbers_from (suc k) n test else numbers_from (suc k) n test
+
+-- whether every name of a list has a number, and whether a name there has the number c
+abbrev pub all_numbered : (List ℕ → Option ℕ) → List (List ℕ) → Bool
+all_numbered number [] = true
+all_numbered number (n ∷ ns) = is_some (number n) && all_numbered number ns
+
+abbrev pub is_number : Option ℕ → ℕ → Bool
+is_number None c = false
+is_number (Some k) c = k == c
+
+-- the numbers of a condition list among n conditions: none without a list
+abbrev pub numbers_of : (List ℕ → Option ℕ) → ℕ → Conditions → Option (Option (List ℕ))
+numbers_of number n unlisted = Some None
+numbers_of number n every = Some (Some (numbers_from 0 n (λ c. true)))
+numbers_of number n (only names) =
+    if all_numbered number names then Some (Some (numbers_from 0 n (λ c. list_any (λ name. is_number (number name) c) names))) else None
+
+-- A side of fixed length, at most 65,535, gives the cut: the head if it is such a side, and else the trailing context.
+abbrev pub HasFixed : Tree → ℕ → Type 0
+HasFixed t n = HasLengths (In t) n (Some n) × (n ≤ 65535)
+
+abbrev pub IsCutOf : Tree → Option Tree → Cut → Type 0
+IsCutOf head None cut = cut ≡ Whole
+IsCutOf head (Some after) (Head m) = HasFixed head m
+IsCutOf head (Some after) (Trail k) = ((m : ℕ) → HasFixed head m → ⊥) × HasFixed after k
+IsCutOf head (Some after) Whole = ⊥
+
+-- the tree of a newline, which `$` stands for
+unfoldable pub newline : Tree
+newline = Set (single 10)
+
+abbrev pub IsTrail : Bool → Definitions → Trailing → Option Tree → Type 0
+IsTrail fold defined no_trail t = t ≡ None
+IsTrail fold defined line_end t = t ≡ Some newline
+IsTrail fold defined (pattern_after text) None = ⊥
+IsTrail fold defined (pattern_after text) (Some t) = Spells fold defined text t
+
+-- an `<<EOF>>` rule, by the numbers of its conditions and its action
+abbrev pub EndRule : Type 0
+EndRule = Option (List ℕ) × EndAction
+
+-- the statements of an action: those that its text spells, or those of the next rule
+abbrev pub IsActionOf : (List ℕ → Option ℕ) → Action → List Rule → List Statement → Type 0
+IsActionOf number (spelled text) rules ss = SpellsAction number text ss
+IsActionOf number bar [] ss = ⊥
+IsActionOf number bar (r ∷ rules) ss = ss ≡ r.statements
+
+-- after a `|` the next rule is there, and is no `<<EOF>>` rule
+abbrev pub goes_to_rule : Action → List (ℕ × Item) → Bool
+goes_to_rule (spelled text) is = true
+goes_to_rule bar [] = false
+goes_to_rule bar ((n, rule asked at_end action) ∷ is) = false
+goes_to_rule bar ((n, rule asked (matching anchored head after) action) ∷ is) = true
+goes_to_rule bar ((n, i) ∷ is) = goes_to_rule bar is
+
+-- `names` are those of the conditions, by number
+module _ (names : List (List ℕ)) (fold : Bool) (defined : Definitions) where
+  -- the rule of an item, where `rules` are those of the items after it
+  pub record IsRule (n : ℕ) (asked : Conditions) (anchored : Bool) (head : List ℕ) (after : Trailing) (action : Action) (is : List (ℕ × Item)) (rules : List Rule) (r : Rule) : Type 0 where
+    pub line_is : r.line ≡ n
+    pub listed : numbers_of (number_from 0 names) (length names) asked ≡ Some r.conditions
+    pub anchor : r.anchored ≡ anchored
+    pub head_is : Spells fold defined head r.head
+    pub trail_is : IsTrail fold defined after r.trail
+    pub cut_is : IsCutOf r.head r.trail r.cut
+    pub next : goes_to_rule action is ≡ true
+    pub statements_are : IsActionOf (number_from 0 names) action rules r.statements
+
+  -- the rules and the `<<EOF>>` rules of the items
+  abbrev pub AreRules : List (ℕ × Item) → List Rule → List EndRule → Type 0
+  AreRules [] rules ends = (rules ≡ []) × (ends ≡ [])
+  AreRules ((n, rule asked at_end (spelled text)) ∷ is) rules ends =
+      (numbers : Option (List ℕ)) × (e : EndAction) × (others : List EndRule)
+      × (numbers_of (number_from 0 names) (length names) asked ≡ Some numbers) × SpellsEndAction (number_from 0 names) text e
+      × (ends ≡ (numbers, e) ∷ others) × AreRules is rules others
+  AreRules ((n, rule asked at_end bar) ∷ is) rules ends = ⊥
+  AreRules ((n, rule asked (matching anchored head after) action) ∷ is) rules ends =
+      (r : Rule) × (others : List Rule) × (rules ≡ r ∷ others) × IsRule n asked anchored head after action is others r × AreRules is others ends
+  AreRules ((n, i) ∷ is) rules ends = AreRules is rules ends

@@ -1,0 +1,24 @@
+-- What the rules of the code stand for.
+use Rattle.std.specs.Prelude.{List, map, option_map}
+use Rattle.lexmeaning.specs.Spec as S
+use Rattle.lexre.specs.Views.{tree_of}
+use Rattle.lexaction.specs.Views.{statement_of}
+use Rattle.lexspec.specs.declared.rule.Cut.{Cut}
+use Rattle.lexspec.specs.declared.rule.Cut.TheVariants as Cut
+use Rattle.lexspec.specs.declared.rule.Rule.{Rule}
+
+abbrev pub cut_of : Cut → S.Cut
+cut_of Cut.Whole = S.Whole
+cut_of (Cut.Head m) = S.Head m
+cut_of (Cut.Trail n) = S.Trail n
+
+abbrev pub rule_of : Rule → S.Rule
+rule_of r = record {
+  line = r.line;
+  conditions = option_map (λ v. v.items) r.conditions;
+  anchored = r.anchored;
+  head = tree_of r.head;
+  trail = option_map tree_of r.trail;
+  cut = cut_of r.cut;
+  statements = map statement_of r.statements.items;
+}

@@ -1,0 +1,74 @@
+//! What callers read of a specification.
+ghost use Rattle.std.specs.Prelude.{◌≡◌, ◌↔◌, true, map, IsTrue};
+ghost use Rattle.lexmeaning.specs.Spec.{has_reject, rejects};
+ghost use Rattle.lexaction.specs.Views.{condition_of, statement_of};
+ghost use Rattle.lexspec.specs.RuleViews.{rule_of};
+ghost use Rattle.lexspec.specs.Views.{spec_of, skipped_in, conditions_in, rules_in};
+ghost use Rattle.lexspec.specs.Tests.{is_sound};
+
+use crate::rule::Rule;
+use crate::spec::Spec;
+use lexaction::{Condition, Statement};
+
+impl Rule {
+    /// Whether its action has REJECT.
+    fn has_reject(&self) -> bool
+        ensures { result ≡ has_reject (map statement_of self.now.statements.items) }
+    {
+        for i in 0..self.statements.len() {
+            if matches!(self.statements[i], Statement::Reject) {
+                return true;
+            }
+        }
+        false
+    }
+}
+
+impl Spec {
+    /// A specification of these conditions and rules. `skipped` has the lines of skipped code.
+    pub(crate) fn new(conditions: Vec<Condition>, rules: Vec<Rule>, skipped: Vec<u32>) -> Spec
+        requires { is_sound (record { conditions = map condition_of conditions.items; rules = map rule_of rules.items }) ≡ true }
+        ensures spec { spec_of result ≡ record { conditions = map condition_of conditions.items; rules = map rule_of rules.items } }
+    {
+        Spec {
+            conditions,
+            rules,
+            skipped,
+        }
+    }
+
+    /// The conditions, by number.
+    pub fn conditions(&self) -> &[Condition]
+        ensures conditions { map condition_of result.now ≡ conditions_in (spec_of self.now) }
+        ensures sound { is_sound (spec_of self.now) ≡ true }
+    {
+        &self.conditions
+    }
+
+    /// The rules, in the order of the file.
+    pub fn rules(&self) -> &[Rule]
+        ensures rules { map rule_of result.now ≡ rules_in (spec_of self.now) }
+        ensures sound { is_sound (spec_of self.now) ≡ true }
+    {
+        &self.rules
+    }
+
+    /// Whether some rule has REJECT.
+    pub fn rejects(&self) -> bool
+        ensures { result ≡ rejects (spec_of self.now) }
+    {
+        for i in 0..self.rules.len() {
+            if self.rules[i].has_reject() {
+                return true;
+            }
+        }
+        false
+    }
+
+    /// The lines where code was skipped, ascending.
+    pub fn skipped(&self) -> &[u32]
+        ensures { result.now ≡ skipped_in self.now }
+    {
+        &self.skipped
+    }
+}
