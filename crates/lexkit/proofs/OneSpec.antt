@@ -8,7 +8,7 @@ use Rattle.lexmeaning.specs.Spec.{Spec, Rule, Statement}
 use Rattle.lexkit.specs.Simple.{simple_rule}
 use Rattle.lexkit.specs.Spelling.{is_blank, all_pass, begins, skip, ends_here, is_sign, IsByte, is_quotable, quoted_tree, IsQuoted, Element, is_range_end, IsElement, AreElements, with_elements, is_class_byte, is_caret, is_closing, is_content, opened, class_set, IsClass, IsItem, AreItems, series, IsDone, is_literal_byte, print_of, IsPrint, IsAction, is_mark, IsRule, AreRules, IsFile, lines, SpellsSpec}
 
-no_both : {A : Type 0} → false ≡ true → A
+pub no_both : {A : Type 0} → false ≡ true → A
 no_both e = absurd (no e)
   where
     no : false ≡ true → ⊥
@@ -185,20 +185,20 @@ mark_is_percent [] h = no_both h
 mark_is_percent (b ∷ []) h = no_both h
 mark_is_percent (b ∷ c ∷ w) h = (c ∷ w, ap (λ z. z ∷ c ∷ w) (eqb-true b 37 (and_parts (nat_eq b 37) (nat_eq c 37) h).0))
 
-no_blank_mark : (l : List ℕ) → is_mark l ≡ true → ends_here l ≡ true → ⊥
+pub no_blank_mark : (l : List ℕ) → is_mark l ≡ true → ends_here l ≡ true → ⊥
 no_blank_mark l h k = let p = mark_is_percent l h in no_both (ap ends_here (sym p.1) ∙ k)
 
-no_blanks_mark : (l : List ℕ) → is_mark l ≡ true → all_pass is_blank l ≡ true → ⊥
+pub no_blanks_mark : (l : List ℕ) → is_mark l ≡ true → all_pass is_blank l ≡ true → ⊥
 no_blanks_mark l h k = let p = mark_is_percent l h in no_both (ap (all_pass is_blank) (sym p.1) ∙ k)
 
-rule_begins : (n : ℕ) (l : List ℕ) (r : Rule) → IsRule n l r → ends_here l ≡ true → ⊥
+pub rule_begins : (n : ℕ) (l : List ℕ) (r : Rule) → IsRule n l r → ends_here l ≡ true → ⊥
 rule_begins n l r h k = from h.items h.some h.are_items
   where
     from : (ts : List Tree) → 1 ≤ length ts → AreItems l ts h.rest → ⊥
     from [] some a = omega (arith, some)
     from (t ∷ ts) some (mid, i, more) = no_item l t mid k i
 
-one_rule : (n : ℕ) (l : List ℕ) (q r : Rule) → IsRule n l q → IsRule n l r → q ≡ r
+pub one_rule : (n : ℕ) (l : List ℕ) (q r : Rule) → IsRule n l q → IsRule n l r → q ≡ r
 one_rule n l q r h k =
     let cut = one_items l h.items k.items h.rest k.rest h.are_items k.are_items h.ends k.ends in
     let ss : q.statements ≡ r.statements = one_action k.rest q.statements r.statements (subst (λ z. IsAction z q.statements) cut.1 h.is_action) k.is_action in

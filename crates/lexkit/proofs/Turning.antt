@@ -13,7 +13,8 @@ use Rattle.lexmeaning.specs.Plain.{matches_of_rules, default_match}
 use Rattle.lexmeaning.proofs.Exists.{Agree, ordered_exists}
 use Rattle.lexmeaning.proofs.PlainRun.{candidates_are, listed_are}
 use Rattle.lexmeaning.proofs.Table.{get_at}
-use Rattle.lexmeaning.proofs.Written.{BeginsWith, run_begins, part_begins}
+use Rattle.lexmeaning.specs.Text.{BeginsWith}
+use Rattle.lexmeaning.proofs.Written.{run_begins, part_begins}
 use Rattle.lexkit.specs.Sink.{IsPrefixOf}
 use Rattle.lexkit.specs.Simple.{is_writing, IsSimple}
 use Rattle.lexkit.specs.Turns.{IsBest, output_of, MatchDone}

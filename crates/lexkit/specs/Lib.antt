@@ -17,3 +17,4 @@ pub mod Source
 pub mod SourceLaws
 pub mod Spelling
 pub mod Turns
+pub mod FileViews

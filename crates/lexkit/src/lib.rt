@@ -5,6 +5,7 @@
 mod args;
 mod errors;
 mod faults;
+mod file;
 mod input;
 mod laws;
 mod matching;

@@ -27,14 +27,14 @@ struct Class<'a> {
     rest: &'a [u8],
 }
 
-fn blank(byte: u8) -> bool
+pub(crate) fn blank(byte: u8) -> bool
     ensures { result ≡ is_blank byte }
 {
     byte == b' ' || byte == b'\t'
 }
 
 /// Whether the pattern ends at the front of the text.
-fn at_pattern_end(text: &[u8]) -> bool
+pub(crate) fn at_pattern_end(text: &[u8]) -> bool
     ensures { result ≡ ends_here text.now }
 {
     match text {
@@ -62,7 +62,7 @@ fn sign(byte: u8) -> bool
 }
 
 /// One item alone, or the items in order.
-fn joined(mut items: Vec<Pattern>) -> Pattern
+pub(crate) fn joined(mut items: Vec<Pattern>) -> Pattern
     ensures { tree_of result ≡ series (map tree_of items.items) }
 {
     if items.len() > 1 {
@@ -336,13 +336,13 @@ fn first_item<'a>(alloc: Global, text: &'a [u8]) -> Result<Option<Item<'a>>, All
 
 /// The items of a pattern, and what follows it.
 #[derive(Drop)]
-struct Items<'a> {
-    heads: Vec<Pattern>,
-    rest: &'a [u8],
+pub(crate) struct Items<'a> {
+    pub(crate) heads: Vec<Pattern>,
+    pub(crate) rest: &'a [u8],
 }
 
 /// The items of a pattern, up to its end.
-fn all_items<'a>(alloc: Global, text: &'a [u8]) -> Result<Option<Items<'a>>, AllocError>
+pub(crate) fn all_items<'a>(alloc: Global, text: &'a [u8]) -> Result<Option<Items<'a>>, AllocError>
     ensures { IfOk result (ItemsTold text.entry.now) }
 {
     let mut heads = Vec::new(alloc);
@@ -394,7 +394,7 @@ fn literal(text: &[u8]) -> Option<&[u8]>
 }
 
 /// The statements of an action: none, ECHO, or one literal.
-fn action(alloc: Global, text: &[u8]) -> Result<Option<Vec<Statement>>, AllocError>
+pub(crate) fn action(alloc: Global, text: &[u8]) -> Result<Option<Vec<Statement>>, AllocError>
     ensures { IfOk result (ActionTold text.now) }
 {
     let mut statements = Vec::new(alloc);
