@@ -1,6 +1,7 @@
 pub mod Adapters
 pub mod Args
 pub mod Faults
+pub mod FileViews
 pub mod InputViews
 pub mod Joined
 pub mod Matches
@@ -10,6 +11,7 @@ pub mod Places
 pub mod ReaderViews
 pub mod Reads
 pub mod Refusal
+pub mod ScanAnswers
 pub mod ScanCounts
 pub mod Simple
 pub mod Sink
@@ -17,4 +19,3 @@ pub mod Source
 pub mod SourceLaws
 pub mod Spelling
 pub mod Turns
-pub mod FileViews

@@ -1,11 +1,15 @@
 //! One scan, by a specification's text.
-ghost use Rattle.std.specs.Prelude.{◌≡◌, ℕ, ◌+◌, ◌-◌, ◌^◌, ◌<◌, ◌≤◌, List, nat_lt};
+ghost use Rattle.std.specs.Prelude.{◌≡◌, ℕ, ◌+◌, ◌-◌, ◌^◌, ◌<◌, ◌≤◌, List, nat_lt, MatchOption};
+ghost use Rattle.lexmeaning.specs.Spec.{Spec as SpecData};
 ghost use Rattle.lexkit.specs.Simple.{spec_of};
 ghost use Rattle.lexkit.specs.Turns.{run_write_faults};
 ghost use Rattle.lexkit.specs.Reads.{run_read_faults, Scans};
+ghost use Rattle.lexkit.specs.ScanAnswers.{run_of, RefusedRightly};
+ghost use Rattle.lexkit.specs.Spelling.{SpellsSpec};
 ghost use Rattle.lexkit.specs.ScanCounts.{read_fault_count, write_fault_count};
 
-use crate::errors::{RunError, ScanError};
+use crate::errors::{GenError, RunError, ScanError};
+use crate::file::read_rules;
 use crate::input::read_input;
 use crate::options::Options;
 use crate::sink::Sink;
@@ -14,14 +18,12 @@ use crate::spec::Rule;
 use crate::turns::scan_text;
 use std::alloc::Global;
 
-/// The most calls of `next` that a scan makes.
-const MAX_READS: u64 = 1_099_511_627_776;
-
-/// Scans the source by this specification, and writes to the sink. It answers the status that the
-/// specification ends with.
+/// Scans the whole source by this specification, and writes to the sink. It answers the status that the
+/// specification ends with. A text that is no specification is refused, and then neither the source nor the sink
+/// is touched.
 pub fn scan_spec<S: Source, K: Sink>(
-    _alloc: Global,
-    _text: &[u8],
+    alloc: Global,
+    text: &[u8],
     _options: Options,
     source: &mut S,
     sink: &mut K,
@@ -29,28 +31,22 @@ pub fn scan_spec<S: Source, K: Sink>(
     requires few_ends { S.ends source.old < 2 ^ 64 - 1 }
     requires few_read_faults { S.failures source.old < 2 ^ 64 - 1 }
     requires few_write_faults { K.failures sink.old < 2 ^ 64 - 1 }
+    ensures told { MatchOption (run_of result) ((source.new ≡ source.old) × (sink.new ≡ sink.old))
+        (λ answer. (spec : SpecData) × (given : List ℕ) × (out : List ℕ) × SpellsSpec text.now spec × S.gave source.old given source.new × K.wrote sink.old out sink.new
+        × Scans spec given (nat_lt (S.ends source.old) (S.ends source.new)) out answer) }
+    ensures refused { RefusedRightly text.now result }
     ensures read_faults { S.failures source.new ≡ S.failures source.old + read_fault_count result }
     ensures write_faults { K.failures sink.new ≡ K.failures sink.old + write_fault_count result }
     ensures ends_stay { S.ends source.old ≤ S.ends source.new }
     ensures one_end { S.ends source.new ≤ S.ends source.old + 1 }
 {
-    for _ in 0..MAX_READS {
-        match source.next() {
-            Err(_) => return Err(ScanError::Run(RunError::Read)),
-            Ok(None) => {
-                return match sink.flush() {
-                    Ok(()) => Ok(0),
-                    Err(_) => Err(ScanError::Run(RunError::Write)),
-                };
-            }
-            Ok(Some(byte)) => {
-                if let Err(_) = sink.put(&[byte]) {
-                    return Err(ScanError::Run(RunError::Write));
-                }
-            }
-        }
+    match read_rules(alloc, text) {
+        Err(error) => Err(ScanError::Generate(GenError::Spec(error))),
+        Ok(rules) => match scan_rules(alloc, &rules, source, sink) {
+            Err(fault) => Err(ScanError::Run(fault)),
+            Ok(status) => Ok(status),
+        },
     }
-    Err(ScanError::Run(RunError::TooManyReads))
 }
 
 /// Scans the whole source by these rules.
