@@ -179,7 +179,10 @@ fn rules_from(alloc: Global, lines: &[&[u8]], start: usize) -> Result<Vec<Rule>,
             Err(kind) => return Err(SpecError { line, kind }),
             Ok(rule) => match rules.push(rule) {
                 Ok(()) => {}
-                Err(_) => return Err(SpecError { line, kind: SpecErrorKind::OutOfMemory }),
+                Err(_) => return Err(SpecError {
+                    line,
+                    kind: SpecErrorKind::OutOfMemory,
+                }),
             },
         }
     }

@@ -81,6 +81,7 @@ fn scan_rules<S: Source, K: Sink>(
 #[cfg(test)]
 mod tests {
     use super::*;
+    use crate::errors::{PatternError, PatternErrorKind, SpecError, SpecErrorKind};
     use crate::memory::{MemorySink, MemorySource};
     use crate::spec::Statement;
     use lexre::{ByteSet, Pattern};
@@ -188,5 +189,74 @@ mod tests {
         assert!(rt; got == Err(RunError::Write), "flush");
         assert_eq!(rt; sink.written(), b"K".as_slice());
         Ok(())
+    }
+
+    // A specification, an input, and what is written.
+    const SCANS: [(&[u8], &[u8], &[u8]); 9] = [
+        (
+            b"%%\nif printf(\"K\");\n[0-9][0-9] printf(\"N\");\n",
+            b"if 42 x",
+            b"K N x",
+        ),
+        (
+            b"%%\nif printf(\"K\");\niffy printf(\"L\");\nif printf(\"S\");\n",
+            b"iff iffy",
+            b"Kf L",
+        ),
+        (b"%%\n", b"abc\n", b"abc\n"),
+        (b"%%", b"", b""),
+        (
+            b"\n  \n%%\r\n\n  a comment\n[a-c] ;\n%%\nd ;\n",
+            b"abcd",
+            b"d",
+        ),
+        (b"%%\n\"a b\" printf(\"1\");", b"a b a", b"1 a"),
+        (b"%%\n[^a] ;", b"bac", b"a"),
+        (b"%%\na$b printf(\"2\");", b"a$b", b"2"),
+        (b"%%\na ECHO;\nb printf(\"\");", b"abc", b"ac"),
+    ];
+
+    #[test]
+    fn scans_by_a_text(rt: HostRuntime) {
+        let alloc = rt.alloc();
+        for (text, input, want) in SCANS {
+            let mut source = MemorySource::new(input);
+            let mut sink = MemorySink::new(alloc);
+            let got = scan_spec(alloc, text, Options::new(), &mut source, &mut sink);
+            assert!(rt; got == Ok(0), "status");
+            assert_eq!(rt; sink.written(), want);
+        }
+    }
+
+    // A text that is no specification, the line, and what is told of it.
+    const REFUSALS: [(&[u8], u32, SpecErrorKind); 7] = [
+        (b"", 1, SpecErrorKind::NoRulesSection),
+        (b"\n\n", 3, SpecErrorKind::NoRulesSection),
+        (b"\nD [0-9]\n%%\n", 2, SpecErrorKind::BadDefinitionLine),
+        (b"%%\na* ;", 2, MISSING),
+        (b"%%\na ;\n^b ;", 3, MISSING),
+        (b"%%\n[] ;", 2, MISSING),
+        (b"%%\na REJECT;", 2, SpecErrorKind::UnknownStatement),
+    ];
+
+    const MISSING: SpecErrorKind = SpecErrorKind::Pattern(PatternError {
+        kind: PatternErrorKind::MissingOperand,
+        at: 0,
+    });
+
+    #[test]
+    fn refuses_by_line(rt: HostRuntime) {
+        let alloc = rt.alloc();
+        for (text, line, kind) in REFUSALS {
+            let mut source = MemorySource::new(b"a");
+            let mut sink = MemorySink::new(alloc);
+            let got = scan_spec(alloc, text, Options::new(), &mut source, &mut sink);
+            let error = SpecError { line, kind };
+            assert!(rt;
+                got == Err(ScanError::Generate(GenError::Spec(error))),
+                "refusal"
+            );
+            assert!(rt; source.next() == Ok(Some(b'a')), "untouched");
+        }
     }
 }

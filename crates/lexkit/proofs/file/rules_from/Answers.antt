@@ -13,7 +13,7 @@ returns-then-is_mark-clause-found c =
 pub loop-i-preserved-then-at_pattern_end : goal.loop-i-preserved-then-at_pattern_end
 loop-i-preserved-then-at_pattern_end c = record {
   left = rules_skip c.args.lines.now c.loop-i.i _ c.loop-i-test.true (c.args.start + 1) (c.loop-i.i + 1) (drop c.args.start (texts_of c.args.lines.now)) (map rule_of c.loop-i.rules.items) c.loop-i.invariant.left
-  (sym c.is_mark.ensures ∙ c.if-is_mark.false) (sym c.at_pattern_end.ensures ∙ c.if-at_pattern_end.true);
+      (sym c.is_mark.ensures ∙ c.if-is_mark.false) (sym c.at_pattern_end.ensures ∙ c.if-at_pattern_end.true);
   few = c.loop-i.invariant.few;
 }
 
@@ -32,8 +32,8 @@ returns-in-Err-clause-none c =
 pub loop-i-preserved : goal.loop-i-preserved
 loop-i-preserved c = record {
   left = rules_more c.args.lines.now c.loop-i.i _ c.loop-i-test.true (c.args.start + 1) (c.loop-i.i + 1) (drop c.args.start (texts_of c.args.lines.now)) (map rule_of c.loop-i.rules.items) c.loop-i.invariant.left
-  (rule_of c.in-Ok.rule) (map rule_of c.push.new.self.items) (ap (map rule_of) c.in-Ok-push.ensures.items ∙ map_push rule_of c.loop-i.rules.items c.in-Ok.rule)
-  (sym c.at_pattern_end.ensures ∙ c.if-at_pattern_end.false) c.in-Ok.ensures.found;
+      (rule_of c.in-Ok.rule) (map rule_of c.push.new.self.items) (ap (map rule_of) c.in-Ok-push.ensures.items ∙ map_push rule_of c.loop-i.rules.items c.in-Ok.rule)
+      (sym c.at_pattern_end.ensures ∙ c.if-at_pattern_end.false) c.in-Ok.ensures.found;
   few = (let more : length c.push.new.self.items ≡ length c.loop-i.rules.items + 1 = ap length c.in-Ok-push.ensures.items ∙ length_push c.loop-i.rules.items c.in-Ok.rule in
-  omega (arith, c.loop-i.invariant.few, c.len.ensures, c.if-len-eq-MAX_RULES.false));
+      omega (arith, c.loop-i.invariant.few, c.len.ensures, c.if-len-eq-MAX_RULES.false));
 }
