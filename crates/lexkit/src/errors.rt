@@ -1,5 +1,6 @@
 //! What a scan refuses, and why.
 
+use std::alloc::AllocError;
 use thiserror::Error;
 
 /// Why a specification is not scanned with, or why its scan stopped.
@@ -54,6 +55,17 @@ pub enum SpecErrorKind {
     TooLong,
     #[error("out of memory")]
     OutOfMemory,
+}
+
+impl From<AllocError> for SpecErrorKind {
+    ghost use Rattle.std.specs.Prelude.{◌≡◌};
+    ghost use Rattle.lexkit.specs.declared.errors.SpecErrorKind.TheVariants.{OutOfMemory};
+
+    ghost from_gives = { λ _ e. e ≡ OutOfMemory };
+
+    fn from(_error: AllocError) -> SpecErrorKind {
+        SpecErrorKind::OutOfMemory
+    }
 }
 
 /// Why a pattern is refused.

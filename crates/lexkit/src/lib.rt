@@ -5,17 +5,25 @@
 mod args;
 mod errors;
 mod faults;
+mod file;
+mod input;
+mod laws;
+mod matching;
 mod memory;
 mod options;
+mod reader;
 mod scan;
 mod sink;
 mod source;
+mod spec;
+mod turns;
 
 pub use args::{ArgsError, Job, read_args};
 pub use errors::{
     GenError, PatternError, PatternErrorKind, RunError, ScanError, SpecError, SpecErrorKind,
 };
 pub use faults::{Fault, write_fault};
+pub use laws::one_spec;
 pub use memory::{MemorySink, MemorySource};
 pub use options::Options;
 pub use scan::scan_spec;

@@ -1,0 +1,22 @@
+-- What the answer of a scan by a specification's text tells.
+use Rattle.std.specs.Prelude.{ℕ, List, Result, Ok, Err, Option, Some, None, ⊤}
+use Rattle.lexmeaning.specs.Spec.{Spec}
+use Rattle.lexkit.specs.FileViews.{UnlessMemory}
+use Rattle.lexkit.specs.Spelling.{SpellsSpec}
+use Rattle.lexkit.specs.declared.errors.GenError.TheVariants as generates
+use Rattle.lexkit.specs.declared.errors.RunError.{RunError}
+use Rattle.lexkit.specs.declared.errors.ScanError.{ScanError}
+use Rattle.lexkit.specs.declared.errors.ScanError.TheVariants.{Generate, Run}
+
+-- what the scan answered, if it began
+abbrev pub run_of : Result ℕ ScanError → Option (Result ℕ RunError)
+run_of (Ok status) = Some (Ok status)
+run_of (Err (Run e)) = Some (Err e)
+run_of (Err (Generate e)) = None
+
+-- A text is refused if it is no specification, or if memory runs out.
+abbrev pub RefusedRightly : List ℕ → Result ℕ ScanError → Type 0
+RefusedRightly text (Ok status) = ⊤
+RefusedRightly text (Err (Run e)) = ⊤
+RefusedRightly text (Err (Generate generates.OutOfMemory)) = ⊤
+RefusedRightly text (Err (Generate (generates.Spec e))) = UnlessMemory e.kind ((spec : Spec) → SpellsSpec text spec → ⊥)
