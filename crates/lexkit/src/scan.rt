@@ -192,7 +192,18 @@ mod tests {
     }
 
     // A specification, an input, and what is written.
-    const SCANS: [(&[u8], &[u8], &[u8]); 9] = [
+    const SCANS: [(&[u8], &[u8], &[u8]); 12] = [
+        (
+            b"%%\nif printf(\"K\");\niffy printf(\"L\");\n",
+            b"iff iffy",
+            b"Kf L",
+        ),
+        (
+            b"%%\nab printf(\"1\");\n[a][b] printf(\"2\");\n",
+            b"ab",
+            b"1",
+        ),
+        (b"%%\n\"a b\" ECHO;\n[^x] ;\n", b"a bx", b"a bx"),
         (
             b"%%\nif printf(\"K\");\n[0-9][0-9] printf(\"N\");\n",
             b"if 42 x",
