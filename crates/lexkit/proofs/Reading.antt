@@ -9,7 +9,7 @@ use Rattle.lexmeaning.specs.Acting.{Ending, Status}
 use Rattle.lexmeaning.specs.Run.{Run}
 use Rattle.lexmeaning.specs.Demand.{Consistent}
 use Rattle.lexmeaning.proofs.Once.{one_run}
-use Rattle.lexkit.specs.Sink.{IsPrefixOf}
+use Rattle.lextab.specs.Sink.{IsPrefixOf}
 use Rattle.lexkit.specs.ScanCounts.{read_fault_of, write_fault_of}
 use Rattle.lexkit.specs.Turns.{IsScanFault}
 use Rattle.lexkit.specs.Reads.{IsReadFault, MayStop, Scans}

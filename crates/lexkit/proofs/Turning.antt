@@ -15,7 +15,7 @@ use Rattle.lexmeaning.proofs.PlainRun.{candidates_are, listed_are}
 use Rattle.lexmeaning.proofs.Table.{get_at}
 use Rattle.lexmeaning.specs.Text.{BeginsWith}
 use Rattle.lexmeaning.proofs.Written.{run_begins, part_begins}
-use Rattle.lexkit.specs.Sink.{IsPrefixOf}
+use Rattle.lextab.specs.Sink.{IsPrefixOf}
 use Rattle.lexkit.specs.Simple.{is_writing, IsSimple}
 use Rattle.lexkit.specs.Turns.{IsBest, output_of, MatchDone}
 use Rattle.lexkit.proofs.Reaching.{part_none}

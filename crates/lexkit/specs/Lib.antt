@@ -1,12 +1,9 @@
-pub mod Adapters
 pub mod Args
 pub mod Faults
 pub mod FileViews
 pub mod InputViews
 pub mod Joined
 pub mod Matches
-pub mod Memory
-pub mod MemoryEnds
 pub mod Places
 pub mod ReaderViews
 pub mod Reads
@@ -14,8 +11,5 @@ pub mod Refusal
 pub mod ScanAnswers
 pub mod ScanCounts
 pub mod Simple
-pub mod Sink
-pub mod Source
-pub mod SourceLaws
 pub mod Spelling
 pub mod Turns

@@ -5,7 +5,7 @@ use Rattle.lexmeaning.specs.Rules.{rules_of}
 use Rattle.lexmeaning.specs.Acting.{Ending, Status}
 use Rattle.lexmeaning.specs.Run.{Run}
 use Rattle.lexmeaning.specs.Demand.{Consistent}
-use Rattle.lexkit.specs.Sink.{IsPrefixOf}
+use Rattle.lextab.specs.Sink.{IsPrefixOf}
 use Rattle.lexkit.specs.ScanCounts.{read_fault_of}
 use Rattle.lexkit.specs.declared.errors.RunError.{RunError}
 use Rattle.lexkit.specs.declared.errors.RunError.TheVariants.{Read, TooManyReads, OutOfMemory, Failed}

@@ -6,7 +6,7 @@ use Rattle.lexmeaning.specs.Rules.{Rules, rules_of, statements_of}
 use Rattle.lexmeaning.specs.Candidates.{Candidate, Before, IsCandidate}
 use Rattle.lexmeaning.specs.Acting.{Ending, Status}
 use Rattle.lexmeaning.specs.Run.{Run}
-use Rattle.lexkit.specs.Sink.{IsPrefixOf}
+use Rattle.lextab.specs.Sink.{IsPrefixOf}
 use Rattle.lexkit.specs.ScanCounts.{write_fault_of}
 use Rattle.lexkit.specs.declared.errors.RunError.{RunError}
 use Rattle.lexkit.specs.declared.errors.RunError.TheVariants.{Write, OutOfMemory}

@@ -1,7 +1,6 @@
 //! The line on standard error, and the exit status.
 ghost use Rattle.std.specs.Prelude.{◌≡◌, ℕ, ◌+◌, ◌-◌, ◌^◌, ◌<◌, ◌≤◌, List, ◌++◌};
-ghost use Rattle.lexkit.specs.Source.{fault_count};
-ghost use Rattle.lexkit.specs.Sink.{Appended};
+ghost use Rattle.lextab.specs.Sink.{Appended, fault_count};
 ghost use Rattle.lexkit.specs.Joined.{joined};
 ghost use Rattle.lexkit.specs.Faults.{line_of, fault_words, scan_words, gen_words, spec_words, lacks_memory, pattern_name, kind_name, run_words, args_words};
 
@@ -9,8 +8,8 @@ use crate::args::ArgsError;
 use crate::errors::{
     GenError, PatternError, PatternErrorKind, RunError, ScanError, SpecError, SpecErrorKind,
 };
-use crate::sink::{Sink, WriteFault};
 use itoa::Buffer;
+use lextab::{Sink, WriteFault};
 
 /// What ended the program before its work was done.
 #[derive(Clone, Copy, Debug)]
@@ -183,7 +182,7 @@ fn put_line<K: Sink>(sink: &mut K, parts: &[&str]) -> Result<(), WriteFault>
 #[cfg(test)]
 mod tests {
     use super::*;
-    use crate::memory::MemorySink;
+    use lextab::MemorySink;
 
     fn refused(line: u32, kind: SpecErrorKind) -> Fault<'static> {
         Fault::Scan(ScanError::Generate(GenError::Spec(SpecError { line, kind })))

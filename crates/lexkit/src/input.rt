@@ -4,7 +4,7 @@ ghost use Rattle.lexkit.specs.Reads.{run_read_faults, ok_count, ReadTold};
 ghost use Rattle.lexkit.specs.InputViews.{input_of};
 
 use crate::errors::RunError;
-use crate::source::Source;
+use lexscan::Source;
 use std::alloc::Global;
 
 /// The most bytes that are read.

@@ -9,12 +9,9 @@ mod file;
 mod input;
 mod laws;
 mod matching;
-mod memory;
 mod options;
 mod reader;
 mod scan;
-mod sink;
-mod source;
 mod spec;
 mod turns;
 
@@ -24,8 +21,5 @@ pub use errors::{
 };
 pub use faults::{Fault, write_fault};
 pub use laws::one_spec;
-pub use memory::{MemorySink, MemorySource};
 pub use options::Options;
 pub use scan::scan_spec;
-pub use sink::{Sink, ToWrite, WriteFault};
-pub use source::{FromRead, ReadFault, Source};

@@ -12,10 +12,10 @@ use crate::errors::{GenError, RunError, ScanError};
 use crate::file::read_rules;
 use crate::input::read_input;
 use crate::options::Options;
-use crate::sink::Sink;
-use crate::source::Source;
 use crate::spec::Rule;
 use crate::turns::scan_text;
+use lexscan::Source;
+use lextab::Sink;
 use std::alloc::Global;
 
 /// Scans the whole source by this specification, and writes to the sink. It answers the status that the
@@ -82,9 +82,10 @@ fn scan_rules<S: Source, K: Sink>(
 mod tests {
     use super::*;
     use crate::errors::{PatternError, PatternErrorKind, SpecError, SpecErrorKind};
-    use crate::memory::{MemorySink, MemorySource};
     use crate::spec::Statement;
     use lexre::{ByteSet, Pattern};
+    use lexscan::MemorySource;
+    use lextab::MemorySink;
     use std::alloc::AllocError;
     use std::test::Fail;
 

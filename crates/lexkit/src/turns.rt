@@ -3,17 +3,16 @@ ghost use Rattle.std.specs.Prelude.{◌≡◌, ℕ, ◌+◌, ◌-◌, ◌^◌, �
 ghost use Rattle.lexmeaning.specs.Tree.{In};
 ghost use Rattle.lexmeaning.specs.Rules.{rules_of};
 ghost use Rattle.lexre.specs.Views.{tree_of};
-ghost use Rattle.lexkit.specs.Source.{fault_count};
-ghost use Rattle.lexkit.specs.Sink.{Appended};
+ghost use Rattle.lextab.specs.Sink.{Appended, fault_count};
 ghost use Rattle.lexkit.specs.Simple.{statement_of, spec_of};
 ghost use Rattle.lexkit.specs.Turns.{IsLongest, NoWord, IsBest, piece_of, output_of, TurnTold, ScanTold, run_write_faults, IsScanFault};
 ghost use Rattle.lexkit.specs.Matches.{candidate_of, match_output};
 
 use crate::errors::RunError;
 use crate::matching::ends_of;
-use crate::sink::{Sink, WriteFault};
 use crate::spec::{Rule, Statement};
 use lexre::Pattern;
+use lextab::{Sink, WriteFault};
 use std::alloc::{AllocError, Global};
 
 /// The length of the longest word of the pattern at the front of the text, where there is one that is not empty.

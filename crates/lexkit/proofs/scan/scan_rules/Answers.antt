@@ -2,7 +2,7 @@ use Rattle.std.proofs.Common.{ℕ, List, [], ◌++◌, append-nil, sym, ◌∙�
 use Rattle.lexmeaning.specs.Rules.{rules_of}
 use Rattle.lexmeaning.specs.Acting.{Ending, Status}
 use Rattle.lexmeaning.specs.Run.{Run}
-use Rattle.lexkit.specs.Sink.{IsPrefixOf}
+use Rattle.lextab.specs.Sink.{IsPrefixOf}
 use Rattle.lexkit.specs.Simple.{spec_of}
 use Rattle.lexkit.proofs.Reading.{end_answered, end_not_answered, scans_ok, scans_err, scans_flush, scans_read}
 use Rattle.lexkit.proofs.scan.scan_rules.Goals as goal

@@ -1,7 +1,6 @@
 //! Where the bytes of a scan go.
 ghost use Rattle.std.specs.Prelude.{◌≡◌, ℕ, ◌+◌, ◌-◌, ◌^◌, ◌<◌, ◌≤◌, List, [], ◌++◌, length, IfOk};
-ghost use Rattle.lexkit.specs.Source.{fault_count};
-ghost use Rattle.lexkit.specs.Sink.{Appended};
+ghost use Rattle.lextab.specs.Sink.{Appended, fault_count};
 ghost use Rattle.std.specs.Io.KnownBytes.{Appends};
 ghost use Rattle.std.proofs.KnownBytes.{Appends-nil, Appends-trans};
 
@@ -46,7 +45,7 @@ pub struct ToWrite<W> {
 }
 
 impl<W: Write> ToWrite<W> {
-    ghost use Rattle.lexkit.specs.Adapters.{writer_of};
+    ghost use Rattle.lextab.specs.Adapters.{writer_of};
 
     /// A sink over this writer, with no failure counted yet.
     pub fn new(writer: W) -> ToWrite<W>

@@ -3,7 +3,7 @@ use Rattle.std.proofs.Common.{◌≡◌, ℕ, ◌<◌, ◌⊎◌, inl, inr, List
 use Rattle.std.proofs.lemmas.List.{nil_from_length}
 use Rattle.std.proofs.KnownBytes.{Consumes-nil, Consumes-trans}
 use Rattle.std.proofs.lemmas.Bool.{cases_lt}
-use Rattle.lexkit.specs.Source.{Gives}
+use Rattle.lexscan.specs.Source.{Gives}
 
 pub Gives-nil : (known : Option (List ℕ)) (ends : ℕ) → Gives known known ends ends []
 Gives-nil known ends = record {

@@ -14,11 +14,6 @@ end_count (Ok (Some byte)) = 0
 end_count (Ok None) = 1
 end_count (Err e) = 0
 
--- 1 where the answer is a fault
-abbrev pub fault_count : {T E : Type 0} → Result T E → ℕ
-fault_count (Ok v) = 0
-fault_count (Err e) = 1
-
 -- What calls over a reader did, by the bytes that are known to be left in it before and after:
 -- it lost these bytes and no others, and where an end was answered they are all that it had.
 pub record Gives (known known' : Option (List ℕ)) (ends ends' : ℕ) (bytes : List ℕ) : Type 0 where

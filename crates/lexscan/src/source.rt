@@ -1,7 +1,8 @@
 //! Where the bytes of a scan come from.
 ghost use Rattle.std.specs.Prelude.{◌≡◌, ℕ, ◌+◌, ◌-◌, ◌^◌, ◌<◌, ◌≤◌, List, [], ◌++◌, length, IfOk, slice_get};
-ghost use Rattle.lexkit.specs.Source.{given, end_count, fault_count, Gives};
-ghost use Rattle.lexkit.specs.SourceLaws.{Gives-nil, Gives-trans};
+ghost use Rattle.lexscan.specs.Source.{given, end_count, Gives};
+ghost use Rattle.lextab.specs.Sink.{fault_count};
+ghost use Rattle.lexscan.specs.SourceLaws.{Gives-nil, Gives-trans};
 
 use std::io::Read;
 use thiserror::Error;
@@ -44,7 +45,7 @@ pub struct FromRead<R> {
 }
 
 impl<R: Read> FromRead<R> {
-    ghost use Rattle.lexkit.specs.Adapters.{reader_of};
+    ghost use Rattle.lexscan.specs.Adapters.{reader_of};
 
     /// A source over this reader, with no end and no failure counted yet.
     pub fn new(reader: R) -> FromRead<R>

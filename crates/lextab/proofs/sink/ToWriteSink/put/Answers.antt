@@ -1,7 +1,7 @@
 use Rattle.std.proofs.Common.{◌++◌, take, refl}
 use Rattle.std.proofs.KnownBytes.{Appends-trans}
-use Rattle.lexkit.proofs.Rests.{moved}
-use Rattle.lexkit.proofs.sink.ToWriteSink.put.Goals as goal
+use Rattle.lextab.proofs.Rests.{moved}
+use Rattle.lextab.proofs.sink.ToWriteSink.put.Goals as goal
 
 pub loop-rest-preserved : goal.loop-rest-preserved
 loop-rest-preserved g c =

@@ -1,5 +1,5 @@
 use Rattle.std.proofs.Common.{take, drop, sym, rules, take-append-drop}
-use Rattle.lexkit.proofs.memory.MemorySinkSink.put.Goals as goal
+use Rattle.lextab.proofs.memory.MemorySinkSink.put.Goals as goal
 
 pub returns-then-count-bytes-clause-bytes : goal.returns-then-count-bytes-clause-bytes
 returns-then-count-bytes-clause-bytes c =

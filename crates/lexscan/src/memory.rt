@@ -1,10 +1,8 @@
-//! A source and a sink over memory that fail once, at a stated place, for tests.
-ghost use Rattle.std.specs.Prelude.{◌≡◌, refl, ℕ, ◌+◌, ◌-◌, ◌^◌, ◌<◌, ◌≤◌, List, [], ◌++◌, length};
-ghost use Rattle.lexkit.specs.Memory.{Takes, Takes-trans, Grows, Grows-nil, Grows-trans};
+//! A source over memory that pauses once, at a stated place, for tests.
+ghost use Rattle.std.specs.Prelude.{◌≡◌, refl, ℕ, ◌+◌, ◌^◌, ◌<◌, List, ◌++◌};
+ghost use Rattle.lexscan.specs.Taking.{Takes, Takes-trans};
 
-use crate::sink::{Sink, WriteFault};
 use crate::source::{ReadFault, Source};
-use std::alloc::Global;
 
 /// What a source over memory answers once in place of a byte, after this many bytes.
 #[derive(Clone, Copy, Debug, PartialEq, Eq)]
@@ -27,7 +25,7 @@ pub struct MemorySource<'a> {
 }
 
 impl<'a> MemorySource<'a> {
-    ghost use Rattle.lexkit.specs.MemoryEnds.{rest_of, call_count};
+    ghost use Rattle.lexscan.specs.Memory.{rest_of, call_count};
 
     /// Gives these bytes, and then its end.
     pub fn new(bytes: &'a [u8]) -> MemorySource<'a>
@@ -124,111 +122,6 @@ impl Source for MemorySource<'_> {
     ghost gave_more = { λ s t u xs ys p q. Takes-trans s.rest.now t.rest.now u.rest.now xs ys p q };
 }
 
-/// Keeps the bytes that it is given.
-///
-/// It may fail once, at a place among the bytes or in a flush. What a caller puts after that is kept.
-#[derive(Drop)]
-pub struct MemorySink {
-    written: Vec<u8>,
-    room: Option<usize>,
-    flush_fails: bool,
-    failures: u64,
-}
-
-impl MemorySink {
-    ghost use Rattle.lexkit.specs.MemoryEnds.{written_of};
-
-    /// Fails only where memory runs out.
-    pub fn new(alloc: Global) -> MemorySink
-        ensures empty { written_of result ≡ [] }
-        ensures failures { ⟦<MemorySink as Sink>⟧.failures result ≡ 0 }
-    {
-        MemorySink {
-            written: Vec::new(alloc),
-            room: None,
-            flush_fails: false,
-            failures: 0,
-        }
-    }
-
-    /// Takes this many bytes, and fails in the call that gives one more.
-    pub fn failing_after(alloc: Global, count: usize) -> MemorySink
-        ensures empty { written_of result ≡ [] }
-        ensures failures { ⟦<MemorySink as Sink>⟧.failures result ≡ 0 }
-    {
-        MemorySink {
-            written: Vec::new(alloc),
-            room: Some(count),
-            flush_fails: false,
-            failures: 0,
-        }
-    }
-
-    /// Fails in its first flush.
-    pub fn failing_flush(alloc: Global) -> MemorySink
-        ensures empty { written_of result ≡ [] }
-        ensures failures { ⟦<MemorySink as Sink>⟧.failures result ≡ 0 }
-    {
-        MemorySink {
-            written: Vec::new(alloc),
-            room: None,
-            flush_fails: true,
-            failures: 0,
-        }
-    }
-
-    /// How many of this many bytes the next `put` takes.
-    fn room_for(&self, count: usize) -> usize
-        ensures { result ≤ count }
-    {
-        match self.room {
-            None => count,
-            Some(room) => count.min(room),
-        }
-    }
-
-    /// All that was appended so far.
-    pub fn written(&self) -> &[u8]
-        ensures { result.now ≡ written_of self.now }
-    {
-        self.written.as_slice()
-    }
-}
-
-impl Sink for MemorySink {
-    ghost wrote = { λ s xs t. Grows s.written.items t.written.items xs };
-
-    ghost failures = { λ s. s.failures };
-
-    fn put(&mut self, bytes: &[u8]) -> Result<(), WriteFault> {
-        let count = self.room_for(bytes.len());
-        if self.written.extend_from_slice(&bytes[..count]).is_err() {
-            self.failures += 1;
-            return Err(WriteFault);
-        }
-        if count < bytes.len() {
-            self.room = None;
-            self.failures += 1;
-            return Err(WriteFault);
-        }
-        self.room = self.room.map(|room| room.saturating_sub(count));
-        Ok(())
-    }
-
-    fn flush(&mut self) -> Result<(), WriteFault> {
-        if !self.flush_fails {
-            return Ok(());
-        }
-        self.flush_fails = false;
-        self.failures += 1;
-        Err(WriteFault)
-    }
-
-    ghost wrote_none = { λ s. Grows-nil s.written.items };
-
-    ghost wrote_more = { λ s t u xs ys p q. Grows-trans s.written.items t.written.items u.written.items xs ys p q };
-}
-
 #[cfg(test)]
 mod tests {
     use super::*;
@@ -248,21 +141,5 @@ mod tests {
         let mut whole = MemorySource::new(b"a");
         assert!(rt; whole.next() == Ok(Some(97)));
         assert!(rt; whole.next() == Ok(None));
-    }
-
-    #[test]
-    fn a_sink_fails_once(rt: HostRuntime) {
-        let mut full = MemorySink::failing_after(rt.alloc(), 3);
-        assert!(rt; full.put(b"ab") == Ok(()));
-        assert!(rt; full.put(b"cd") == Err(WriteFault));
-        assert!(rt; full.put(b"e") == Ok(()));
-        assert_eq!(rt; full.written(), b"abce".as_slice());
-        let mut unflushed = MemorySink::failing_flush(rt.alloc());
-        assert!(rt; unflushed.flush() == Err(WriteFault));
-        assert!(rt; unflushed.flush() == Ok(()));
-        let mut whole = MemorySink::new(rt.alloc());
-        assert!(rt; whole.put(b"ab") == Ok(()));
-        assert!(rt; whole.flush() == Ok(()));
-        assert_eq!(rt; whole.written(), b"ab".as_slice());
     }
 }

@@ -1,6 +1,6 @@
 use Rattle.std.proofs.Common.{◌≡◌, ℕ, List, ◌++◌, length}
 use Rattle.std.specs.Io.KnownBytes.{Appends}
-use Rattle.lexkit.proofs.sink.ToWriteSink.put.Given as goal
+use Rattle.lextab.proofs.sink.ToWriteSink.put.Given as goal
 
 -- what was written so far, and the rest, are all of the bytes
 abbrev pub invariant-loop-rest : goal.invariant-loop-rest

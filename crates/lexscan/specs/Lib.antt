@@ -1,0 +1,5 @@
+pub mod Adapters
+pub mod Memory
+pub mod Source
+pub mod SourceLaws
+pub mod Taking

@@ -1,0 +1,4 @@
+pub mod Adapters
+pub mod Growing
+pub mod Memory
+pub mod Sink
