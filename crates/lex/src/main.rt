@@ -2,10 +2,9 @@
 #![tactic(auto)]
 
 use lexkit::{
-    ArgsError, Fault, GenError, Job, Options, ScanError, read_args, scan_spec, write_fault,
+    ArgsError, Fault, FromRead, GenError, Job, Options, ScanError, Sink, ToWrite, read_args,
+    scan_spec, write_fault,
 };
-use lexscan::FromRead;
-use lextab::{Sink, ToWrite};
 use std::alloc::AllocError;
 use std::fs::File;
 use std::io::{BufReader, BufWriter, ErrorKind, Read};

@@ -21,5 +21,7 @@ pub use errors::{
 };
 pub use faults::{Fault, write_fault};
 pub use laws::one_spec;
+pub use lexscan::{FromRead, MemorySource, ReadFault, Source};
+pub use lextab::{MemorySink, Sink, ToWrite, WriteFault};
 pub use options::Options;
 pub use scan::scan_spec;
