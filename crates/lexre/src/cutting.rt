@@ -50,6 +50,7 @@ struct Progress {
 /// backslash, and `MisplacedSlash` at a `/` inside parentheses. A `)` with none open counts for nothing.
 pub fn cut_pattern(text: &[u8]) -> Result<Cutting, PatternError>
     ensures found { IfOk result (λ c. IsCutting text.now c.end c.slash c.two c.dollar) }
+    ensures inside { IfOk result (λ c. c.end ≤ length text.now) }
     ensures none { IfErr result
         (λ _. (end : ℕ) (first : Option ℕ) (two special : Bool) → IsCutting text.now end first two special → ⊥) }
 {
