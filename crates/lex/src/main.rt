@@ -85,14 +85,14 @@ fn read_spec_file(rt: &HostRuntime, name: String) -> Result<Vec<u8>, Failure> {
 }
 
 /// Scans standard input to standard output.
-fn scan(rt: &HostRuntime, text: &[u8]) -> Result<u8, Failure> {
+fn scan(rt: &HostRuntime, text: &[u8], options: Options) -> Result<u8, Failure> {
     let mut source = FromRead::new(BufReader::new(rt.alloc(), rt.reader()).map_err(
         |_| AllocError,
     )?);
     let mut sink = ToWrite::new(BufWriter::new(rt.alloc(), io::writer(rt)).map_err(
         |_| AllocError,
     )?);
-    let result = scan_spec(rt.alloc(), text, Options::new(), &mut source, &mut sink);
+    let result = scan_spec(rt.alloc(), text, options, &mut source, &mut sink);
     if result.is_err() {
         // What was written before the fault is still to be seen, and the fault is told in any case.
         let _ = sink.flush();
@@ -101,9 +101,9 @@ fn scan(rt: &HostRuntime, text: &[u8]) -> Result<u8, Failure> {
 }
 
 fn run(rt: &HostRuntime) -> Result<u8, Failure> {
-    let Job::ScanSpec { file } = job_of(rt)?;
+    let Job::ScanSpec { file, fold } = job_of(rt)?;
     let text = read_spec_file(rt, file)?;
-    scan(rt, text.as_slice())
+    scan(rt, text.as_slice(), Options { fold })
 }
 
 fn main(rt: HostRuntime) -> ExitCode {

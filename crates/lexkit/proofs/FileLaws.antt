@@ -1,6 +1,6 @@
 -- The lines of a file, one after another.
 use Rattle.std.proofs.Common.{◌≡◌, ℕ, zero, suc, ◌+◌, ◌≤◌, ◌<◌, Bool, true, false, List, [], ◌∷◌, ◌++◌, length, map, drop, ◌⊎◌, inl, inr, ◌↔◌, refl, sym, ◌∙◌, ap, subst, arith}
-use Rattle.std.proofs.lemmas.List.{append_assoc, append-nil, length-append, length-map, drop_more, drop_all, drop-map, map_push}
+use Rattle.std.proofs.lemmas.List.{append_assoc, append-nil, length-append, length-map, drop_more, drop-map}
 use Rattle.std.specs.Prelude.{get_or}
 use Rattle.std.specs.Borrow.{Bor}
 use Rattle.bstr.specs.Text.{line_len, lines_from, lines_of, without_terminator}
@@ -9,75 +9,78 @@ use Rattle.lexkit.specs.Spelling.{ends_here, is_blank, all_pass, is_mark, IsRule
 use Rattle.lexkit.specs.FileViews.{texts_of, UnlessMemory}
 use Rattle.lexkit.specs.declared.errors.SpecErrorKind.{SpecErrorKind}
 use Rattle.lexkit.specs.declared.errors.SpecErrorKind.TheVariants.{NoRulesSection, BadDefinitionLine, Pattern, UnknownStatement, TooManyRules, TooLong, OutOfMemory}
-use Rattle.lexkit.proofs.OneSpec.{no_both, no_blank_mark, no_blanks_mark, rule_begins, one_rule}
+use Rattle.lexre.specs.declared.error.PatternErrorKind.{PatternErrorKind}
+use Rattle.lexre.specs.declared.error.PatternErrorKind.TheVariants as kinds
+use Rattle.lexre.specs.Outcome.{UnlessMemory as UnlessPatternMemory}
+use Rattle.lexkit.proofs.OneSpec.{no_both, no_blanks_mark, one_rule}
 
 -- the definitions section
 
-pub file_at_mark : (n : ℕ) (l : List ℕ) (ls : List (List ℕ)) → is_mark l ≡ true → (rs : List Rule) → IsFile n (l ∷ ls) rs ↔ AreRules (n + 1) ls rs
-file_at_mark n l ls mark rs = (λ h. to h, λ h. inl (mark, h))
+pub file_at_mark : (fold : Bool) (n : ℕ) (l : List ℕ) (ls : List (List ℕ)) → is_mark l ≡ true → (rs : List Rule) → IsFile fold n (l ∷ ls) rs ↔ AreRules fold (n + 1) ls rs
+file_at_mark fold n l ls mark rs = (λ h. to h, λ h. inl (mark, h))
   where
-    to : ((is_mark l ≡ true) × AreRules (n + 1) ls rs) ⊎ ((all_pass is_blank l ≡ true) × IsFile (n + 1) ls rs) → AreRules (n + 1) ls rs
+    to : ((is_mark l ≡ true) × AreRules fold (n + 1) ls rs) ⊎ ((all_pass is_blank l ≡ true) × IsFile fold (n + 1) ls rs) → AreRules fold (n + 1) ls rs
     to (inl h) = h.1
     to (inr h) = absurd (no_blanks_mark l mark h.0)
 
-pub file_at_blank : (n : ℕ) (l : List ℕ) (ls : List (List ℕ)) → is_mark l ≡ false → all_pass is_blank l ≡ true → (rs : List Rule) → IsFile n (l ∷ ls) rs ↔ IsFile (n + 1) ls rs
-file_at_blank n l ls mark blank rs = (λ h. to h, λ h. inr (blank, h))
+pub file_at_blank : (fold : Bool) (n : ℕ) (l : List ℕ) (ls : List (List ℕ)) → is_mark l ≡ false → all_pass is_blank l ≡ true → (rs : List Rule) → IsFile fold n (l ∷ ls) rs ↔ IsFile fold (n + 1) ls rs
+file_at_blank fold n l ls mark blank rs = (λ h. to h, λ h. inr (blank, h))
   where
-    to : ((is_mark l ≡ true) × AreRules (n + 1) ls rs) ⊎ ((all_pass is_blank l ≡ true) × IsFile (n + 1) ls rs) → IsFile (n + 1) ls rs
+    to : ((is_mark l ≡ true) × AreRules fold (n + 1) ls rs) ⊎ ((all_pass is_blank l ≡ true) × IsFile fold (n + 1) ls rs) → IsFile fold (n + 1) ls rs
     to (inl h) = no_both (sym mark ∙ h.0)
     to (inr h) = h.1
 
-pub no_file : (n : ℕ) (l : List ℕ) (ls : List (List ℕ)) → is_mark l ≡ false → all_pass is_blank l ≡ false → (rs : List Rule) → IsFile n (l ∷ ls) rs → ⊥
-no_file n l ls mark blank rs (inl h) = no_both (sym mark ∙ h.0)
-no_file n l ls mark blank rs (inr h) = no_both (sym blank ∙ h.0)
+pub no_file : (fold : Bool) (n : ℕ) (l : List ℕ) (ls : List (List ℕ)) → is_mark l ≡ false → all_pass is_blank l ≡ false → (rs : List Rule) → IsFile fold n (l ∷ ls) rs → ⊥
+no_file fold n l ls mark blank rs (inl h) = no_both (sym mark ∙ h.0)
+no_file fold n l ls mark blank rs (inr h) = no_both (sym blank ∙ h.0)
 
 -- the rules section: those that were read, and those of the lines that are left
-abbrev pub RulesLeft : ℕ → List (List ℕ) → List Rule → ℕ → List (List ℕ) → Type 0
-RulesLeft m all rules n ls = (rs : List Rule) → AreRules m all rs ↔ ((rest : List Rule) × (rs ≡ rules ++ rest) × AreRules n ls rest)
+abbrev pub RulesLeft : Bool → ℕ → List (List ℕ) → List Rule → ℕ → List (List ℕ) → Type 0
+RulesLeft fold m all rules n ls = (rs : List Rule) → AreRules fold m all rs ↔ ((rest : List Rule) × (rs ≡ rules ++ rest) × AreRules fold n ls rest)
 
-pub left_first : (m : ℕ) (all : List (List ℕ)) → RulesLeft m all [] m all
-left_first m all rs = (λ h. (rs, refl, h), λ (rest, e, h). subst (AreRules m all) (sym e) h)
+pub left_first : (fold : Bool) (m : ℕ) (all : List (List ℕ)) → RulesLeft fold m all [] m all
+left_first fold m all rs = (λ h. (rs, refl, h), λ (rest, e, h). subst (AreRules fold m all) (sym e) h)
 
-pub left_blank : (m : ℕ) (all : List (List ℕ)) (rules : List Rule) (n : ℕ) (l : List ℕ) (ls : List (List ℕ)) → is_mark l ≡ false → ends_here l ≡ true → RulesLeft m all rules n (l ∷ ls) → RulesLeft m all rules (n + 1) ls
-left_blank m all rules n l ls mark blank left rs = (
+pub left_blank : (fold : Bool) (m : ℕ) (all : List (List ℕ)) (rules : List Rule) (n : ℕ) (l : List ℕ) (ls : List (List ℕ)) → is_mark l ≡ false → ends_here l ≡ true → RulesLeft fold m all rules n (l ∷ ls) → RulesLeft fold m all rules (n + 1) ls
+left_blank fold m all rules n l ls mark blank left rs = (
   λ h. (let (rest, e, k) = (left rs).0 h in (rest, e, to rest k)),
   λ (rest, e, k). (left rs).1 (rest, e, inr (inl (blank, k))),
 )
   where
-    to : (rest : List Rule) → AreRules n (l ∷ ls) rest → AreRules (n + 1) ls rest
+    to : (rest : List Rule) → AreRules fold n (l ∷ ls) rest → AreRules fold (n + 1) ls rest
     to rest (inl h) = no_both (sym mark ∙ h.0)
     to rest (inr (inl h)) = h.1
-    to rest (inr (inr (r, more, e, i, h))) = absurd (rule_begins n l r i blank)
+    to rest (inr (inr (r, more, e, i, h))) = no_both (sym i.no_blank ∙ blank)
 
-pub left_rule : (m : ℕ) (all : List (List ℕ)) (rules : List Rule) (n : ℕ) (l : List ℕ) (ls : List (List ℕ)) (r : Rule) → ends_here l ≡ false → IsRule n l r → RulesLeft m all rules n (l ∷ ls) →
-    RulesLeft m all (rules ++ r ∷ []) (n + 1) ls
-left_rule m all rules n l ls r blank is left rs = (
+pub left_rule : (fold : Bool) (m : ℕ) (all : List (List ℕ)) (rules : List Rule) (n : ℕ) (l : List ℕ) (ls : List (List ℕ)) (r : Rule) → ends_here l ≡ false → IsRule fold n l r → RulesLeft fold m all rules n (l ∷ ls) →
+    RulesLeft fold m all (rules ++ r ∷ []) (n + 1) ls
+left_rule fold m all rules n l ls r blank is left rs = (
   λ h. (let (rest, e, k) = (left rs).0 h in to rest e k),
   λ (rest, e, k). (left rs).1 (r ∷ rest, e ∙ append_assoc rules (r ∷ []) rest, inr (inr (r, rest, refl, is, k))),
 )
   where
-    to : (rest : List Rule) → rs ≡ rules ++ rest → AreRules n (l ∷ ls) rest → (later : List Rule) × (rs ≡ (rules ++ r ∷ []) ++ later) × AreRules (n + 1) ls later
+    to : (rest : List Rule) → rs ≡ rules ++ rest → AreRules fold n (l ∷ ls) rest → (later : List Rule) × (rs ≡ (rules ++ r ∷ []) ++ later) × AreRules fold (n + 1) ls later
     to rest e (inl h) = no_both (sym is.no_mark ∙ h.0)
     to rest e (inr (inl h)) = no_both (sym blank ∙ h.0)
     to rest e (inr (inr (q, more, f, i, h))) =
-        let same : q ≡ r = one_rule n l q r i is in
+        let same : q ≡ r = one_rule fold n l q r i is in
         (more, e ∙ ap (λ z. rules ++ z) (f ∙ ap (λ z. z ∷ more) same) ∙ sym (append_assoc rules (r ∷ []) more), h)
 
-pub left_none : (m : ℕ) (all : List (List ℕ)) (rules : List Rule) (n : ℕ) (l : List ℕ) (ls : List (List ℕ)) → is_mark l ≡ false → ends_here l ≡ false → ((r : Rule) → IsRule n l r → ⊥) → RulesLeft m all rules n (l ∷ ls) →
-    (rs : List Rule) → AreRules m all rs → length rs ≤ 4096 → ⊥
-left_none m all rules n l ls mark blank none left rs h short = from ((left rs).0 h).0 ((left rs).0 h).2
+pub left_none : (fold : Bool) (m : ℕ) (all : List (List ℕ)) (rules : List Rule) (n : ℕ) (l : List ℕ) (ls : List (List ℕ)) → is_mark l ≡ false → ends_here l ≡ false → ((r : Rule) → IsRule fold n l r → ⊥) → RulesLeft fold m all rules n (l ∷ ls) →
+    (rs : List Rule) → AreRules fold m all rs → length rs ≤ 4096 → ⊥
+left_none fold m all rules n l ls mark blank none left rs h short = from ((left rs).0 h).0 ((left rs).0 h).2
   where
-    from : (rest : List Rule) → AreRules n (l ∷ ls) rest → ⊥
+    from : (rest : List Rule) → AreRules fold n (l ∷ ls) rest → ⊥
     from rest (inl k) = no_both (sym mark ∙ k.0)
     from rest (inr (inl k)) = no_both (sym blank ∙ k.0)
     from rest (inr (inr (r, more, e, i, k))) = none r i
 
 -- one rule more than there may be
-pub left_full : (m : ℕ) (all : List (List ℕ)) (rules : List Rule) (n : ℕ) (l : List ℕ) (ls : List (List ℕ)) → is_mark l ≡ false → ends_here l ≡ false → length rules ≡ 4096 → RulesLeft m all rules n (l ∷ ls) →
-    (rs : List Rule) → AreRules m all rs → length rs ≤ 4096 → ⊥
-left_full m all rules n l ls mark blank full left rs h short = from ((left rs).0 h).0 ((left rs).0 h).1 ((left rs).0 h).2
+pub left_full : (fold : Bool) (m : ℕ) (all : List (List ℕ)) (rules : List Rule) (n : ℕ) (l : List ℕ) (ls : List (List ℕ)) → is_mark l ≡ false → ends_here l ≡ false → length rules ≡ 4096 → RulesLeft fold m all rules n (l ∷ ls) →
+    (rs : List Rule) → AreRules fold m all rs → length rs ≤ 4096 → ⊥
+left_full fold m all rules n l ls mark blank full left rs h short = from ((left rs).0 h).0 ((left rs).0 h).1 ((left rs).0 h).2
   where
-    from : (rest : List Rule) → rs ≡ rules ++ rest → AreRules n (l ∷ ls) rest → ⊥
+    from : (rest : List Rule) → rs ≡ rules ++ rest → AreRules fold n (l ∷ ls) rest → ⊥
     from rest e (inl k) = no_both (sym mark ∙ k.0)
     from rest e (inr (inl k)) = no_both (sym blank ∙ k.0)
     from rest e (inr (inr (r, more, f, i, k))) =
@@ -85,11 +88,11 @@ left_full m all rules n l ls mark blank full left rs h short = from ((left rs).0
         let some : length rest ≡ suc (length more) = ap length f in
         omega arith
 
-pub left_mark : (m : ℕ) (all : List (List ℕ)) (rules : List Rule) (n : ℕ) (l : List ℕ) (ls : List (List ℕ)) → is_mark l ≡ true → RulesLeft m all rules n (l ∷ ls) → AreRules m all rules
-left_mark m all rules n l ls mark left = (left rules).1 ([], sym (append-nil rules), inl (mark, refl))
+pub left_mark : (fold : Bool) (m : ℕ) (all : List (List ℕ)) (rules : List Rule) (n : ℕ) (l : List ℕ) (ls : List (List ℕ)) → is_mark l ≡ true → RulesLeft fold m all rules n (l ∷ ls) → AreRules fold m all rules
+left_mark fold m all rules n l ls mark left = (left rules).1 ([], sym (append-nil rules), inl (mark, refl))
 
-pub left_end : (m : ℕ) (all : List (List ℕ)) (rules : List Rule) (n : ℕ) → RulesLeft m all rules n [] → AreRules m all rules
-left_end m all rules n left = (left rules).1 ([], sym (append-nil rules), refl)
+pub left_end : (fold : Bool) (m : ℕ) (all : List (List ℕ)) (rules : List Rule) (n : ℕ) → RulesLeft fold m all rules n [] → AreRules fold m all rules
+left_end fold m all rules n left = (left rules).1 ([], sym (append-nil rules), refl)
 
 -- there are no more lines than bytes
 
@@ -107,57 +110,66 @@ few_lines ls text e =
 
 -- at a place of the file
 
-abbrev pub FileLeft : ℕ → List (List ℕ) → ℕ → List (List ℕ) → Type 0
-FileLeft m all n ls = (rs : List Rule) → IsFile m all rs ↔ IsFile n ls rs
+abbrev pub FileLeft : Bool → ℕ → List (List ℕ) → ℕ → List (List ℕ) → Type 0
+FileLeft fold m all n ls = (rs : List Rule) → IsFile fold m all rs ↔ IsFile fold n ls rs
 
 pub line_at : (ls : List (Bor (List ℕ))) (i : ℕ) (d : Bor (List ℕ)) → i < length ls → drop i (texts_of ls) ≡ (get_or ls i d).now ∷ drop (i + 1) (texts_of ls)
 line_at ls i d lt = drop-map (λ l. l.now) i ls ∙ ap (map (λ l. l.now)) (drop_more ls i d lt) ∙ ap (λ z. (get_or ls i d).now ∷ z) (sym (drop-map (λ l. l.now) (i + 1) ls))
 
-module _ (ls : List (Bor (List ℕ))) (i : ℕ) (d : Bor (List ℕ)) (lt : i < length ls) (m n : ℕ) (all : List (List ℕ)) where
-  file_here : FileLeft m all n (drop i (texts_of ls)) → FileLeft m all n ((get_or ls i d).now ∷ drop (i + 1) (texts_of ls))
-  file_here left = subst (FileLeft m all n) (line_at ls i d lt) left
+module _ (fold : Bool) (ls : List (Bor (List ℕ))) (i : ℕ) (d : Bor (List ℕ)) (lt : i < length ls) (m n : ℕ) (all : List (List ℕ)) where
+  file_here : FileLeft fold m all n (drop i (texts_of ls)) → FileLeft fold m all n ((get_or ls i d).now ∷ drop (i + 1) (texts_of ls))
+  file_here left = subst (FileLeft fold m all n) (line_at ls i d lt) left
 
-  pub file_found : is_mark (get_or ls i d).now ≡ true → FileLeft m all n (drop i (texts_of ls)) → (rs : List Rule) → IsFile m all rs ↔ AreRules (n + 1) (drop (i + 1) (texts_of ls)) rs
+  pub file_found : is_mark (get_or ls i d).now ≡ true → FileLeft fold m all n (drop i (texts_of ls)) → (rs : List Rule) → IsFile fold m all rs ↔ AreRules fold (n + 1) (drop (i + 1) (texts_of ls)) rs
   file_found mark left rs =
       let here = file_here left rs in
-      let on = file_at_mark n (get_or ls i d).now (drop (i + 1) (texts_of ls)) mark rs in
+      let on = file_at_mark fold n (get_or ls i d).now (drop (i + 1) (texts_of ls)) mark rs in
       (λ h. on.0 (here.0 h), λ h. here.1 (on.1 h))
 
-  pub file_more : is_mark (get_or ls i d).now ≡ false → all_pass is_blank (get_or ls i d).now ≡ true → FileLeft m all n (drop i (texts_of ls)) → FileLeft m all (n + 1) (drop (i + 1) (texts_of ls))
+  pub file_more : is_mark (get_or ls i d).now ≡ false → all_pass is_blank (get_or ls i d).now ≡ true → FileLeft fold m all n (drop i (texts_of ls)) → FileLeft fold m all (n + 1) (drop (i + 1) (texts_of ls))
   file_more mark blank left rs =
       let here = file_here left rs in
-      let on = file_at_blank n (get_or ls i d).now (drop (i + 1) (texts_of ls)) mark blank rs in
+      let on = file_at_blank fold n (get_or ls i d).now (drop (i + 1) (texts_of ls)) mark blank rs in
       (λ h. on.0 (here.0 h), λ h. here.1 (on.1 h))
 
-  pub file_refused : is_mark (get_or ls i d).now ≡ false → all_pass is_blank (get_or ls i d).now ≡ false → FileLeft m all n (drop i (texts_of ls)) → (rs : List Rule) → IsFile m all rs → ⊥
-  file_refused mark blank left rs h = no_file n (get_or ls i d).now (drop (i + 1) (texts_of ls)) mark blank rs ((file_here left rs).0 h)
+  pub file_refused : is_mark (get_or ls i d).now ≡ false → all_pass is_blank (get_or ls i d).now ≡ false → FileLeft fold m all n (drop i (texts_of ls)) → (rs : List Rule) → IsFile fold m all rs → ⊥
+  file_refused mark blank left rs h = no_file fold n (get_or ls i d).now (drop (i + 1) (texts_of ls)) mark blank rs ((file_here left rs).0 h)
 
-  module _ (rules : List Rule) (left : RulesLeft m all rules n (drop i (texts_of ls))) where
-    rules_here : RulesLeft m all rules n ((get_or ls i d).now ∷ drop (i + 1) (texts_of ls))
-    rules_here = subst (RulesLeft m all rules n) (line_at ls i d lt) left
+  module _ (rules : List Rule) (left : RulesLeft fold m all rules n (drop i (texts_of ls))) where
+    rules_here : RulesLeft fold m all rules n ((get_or ls i d).now ∷ drop (i + 1) (texts_of ls))
+    rules_here = subst (RulesLeft fold m all rules n) (line_at ls i d lt) left
 
-    pub rules_marked : is_mark (get_or ls i d).now ≡ true → AreRules m all rules
-    rules_marked mark = left_mark m all rules n (get_or ls i d).now (drop (i + 1) (texts_of ls)) mark rules_here
+    pub rules_marked : is_mark (get_or ls i d).now ≡ true → AreRules fold m all rules
+    rules_marked mark = left_mark fold m all rules n (get_or ls i d).now (drop (i + 1) (texts_of ls)) mark rules_here
 
-    pub rules_skip : is_mark (get_or ls i d).now ≡ false → ends_here (get_or ls i d).now ≡ true → RulesLeft m all rules (n + 1) (drop (i + 1) (texts_of ls))
-    rules_skip mark blank = left_blank m all rules n (get_or ls i d).now (drop (i + 1) (texts_of ls)) mark blank rules_here
+    pub rules_skip : is_mark (get_or ls i d).now ≡ false → ends_here (get_or ls i d).now ≡ true → RulesLeft fold m all rules (n + 1) (drop (i + 1) (texts_of ls))
+    rules_skip mark blank = left_blank fold m all rules n (get_or ls i d).now (drop (i + 1) (texts_of ls)) mark blank rules_here
 
-    pub rules_more : (r : Rule) (more : List Rule) → more ≡ rules ++ r ∷ [] → ends_here (get_or ls i d).now ≡ false → IsRule n (get_or ls i d).now r → RulesLeft m all more (n + 1) (drop (i + 1) (texts_of ls))
+    pub rules_more : (r : Rule) (more : List Rule) → more ≡ rules ++ r ∷ [] → ends_here (get_or ls i d).now ≡ false → IsRule fold n (get_or ls i d).now r → RulesLeft fold m all more (n + 1) (drop (i + 1) (texts_of ls))
     rules_more r more e blank is =
-        subst (λ z. RulesLeft m all z (n + 1) (drop (i + 1) (texts_of ls))) (sym e) (left_rule m all rules n (get_or ls i d).now (drop (i + 1) (texts_of ls)) r blank is rules_here)
+        subst (λ z. RulesLeft fold m all z (n + 1) (drop (i + 1) (texts_of ls))) (sym e) (left_rule fold m all rules n (get_or ls i d).now (drop (i + 1) (texts_of ls)) r blank is rules_here)
 
-    pub rules_refused : is_mark (get_or ls i d).now ≡ false → ends_here (get_or ls i d).now ≡ false → ((r : Rule) → IsRule n (get_or ls i d).now r → ⊥) → (rs : List Rule) → AreRules m all rs → length rs ≤ 4096 → ⊥
-    rules_refused mark blank none = left_none m all rules n (get_or ls i d).now (drop (i + 1) (texts_of ls)) mark blank none rules_here
+    pub rules_refused : is_mark (get_or ls i d).now ≡ false → ends_here (get_or ls i d).now ≡ false → ((r : Rule) → IsRule fold n (get_or ls i d).now r → ⊥) → (rs : List Rule) → AreRules fold m all rs → length rs ≤ 4096 → ⊥
+    rules_refused mark blank none = left_none fold m all rules n (get_or ls i d).now (drop (i + 1) (texts_of ls)) mark blank none rules_here
 
-    pub rules_full : is_mark (get_or ls i d).now ≡ false → ends_here (get_or ls i d).now ≡ false → length rules ≡ 4096 → (rs : List Rule) → AreRules m all rs → length rs ≤ 4096 → ⊥
-    rules_full mark blank full = left_full m all rules n (get_or ls i d).now (drop (i + 1) (texts_of ls)) mark blank full rules_here
+    pub rules_full : is_mark (get_or ls i d).now ≡ false → ends_here (get_or ls i d).now ≡ false → length rules ≡ 4096 → (rs : List Rule) → AreRules fold m all rs → length rs ≤ 4096 → ⊥
+    rules_full mark blank full = left_full fold m all rules n (get_or ls i d).now (drop (i + 1) (texts_of ls)) mark blank full rules_here
+
+-- what the refusal of a pattern rules out
+pub refused_pattern : {P Q : Type 0} (kind : PatternErrorKind) → (P → Q) → UnlessPatternMemory kind P → UnlessPatternMemory kind Q
+refused_pattern kinds.OutOfMemory f h = h
+refused_pattern _ f h = f h
+
+pub unless_memory : {P : Type 0} (kind : PatternErrorKind) → P → UnlessPatternMemory kind P
+unless_memory kinds.OutOfMemory h = tt
+unless_memory _ h = h
 
 -- what a refusal rules out, the refusal of a part rules out, unless memory ran out
 pub refused_by : {P Q : Type 0} (e : SpecErrorKind) → (P → Q) → UnlessMemory e P → UnlessMemory e Q
 refused_by OutOfMemory f h = h
 refused_by NoRulesSection f h = f h
 refused_by BadDefinitionLine f h = f h
-refused_by (Pattern e) f h = f h
+refused_by (Pattern e) f h = refused_pattern e.kind f h
 refused_by UnknownStatement f h = f h
 refused_by TooManyRules f h = f h
 refused_by TooLong f h = f h

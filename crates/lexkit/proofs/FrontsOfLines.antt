@@ -1,13 +1,11 @@
 -- Fronts of bytes that pass a test.
-use Rattle.std.proofs.Common.{◌≡◌, ℕ, suc, ◌+◌, ◌≤◌, ◌<◌, Bool, true, false, List, [], ◌∷◌, ◌++◌, length, take, drop, get_or, map, ◌⊎◌, inl, inr, refl, sym, ◌∙◌, ap, subst, arith}
+use Rattle.std.proofs.Common.{◌≡◌, ℕ, suc, ◌+◌, ◌≤◌, ◌<◌, Bool, true, false, List, [], ◌∷◌, ◌++◌, length, take, drop, get_or, ◌⊎◌, inl, inr, sym, ◌∙◌, ap, subst, arith}
 use Rattle.std.specs.Prelude.{◌&&◌}
 use Rattle.std.proofs.Math.Seq.{split_at}
 use Rattle.std.proofs.lemmas.List.{take_more, take_all, take-append-drop}
 use Rattle.std.proofs.lemmas.Bool.{and_parts, and_from, cases_lt}
-use Rattle.lexmeaning.specs.ByteSets.{single}
-use Rattle.lexmeaning.specs.Tree.{Tree, Set}
-use Rattle.lexkit.specs.Spelling.{all_pass, is_quotable, quoted_tree, IsQuoted, series}
-use Rattle.lexkit.specs.ReaderViews.{IsFront}
+use Rattle.lexkit.specs.Spelling.{all_pass}
+use Rattle.lexkit.specs.ActionViews.{IsFront}
 use Rattle.lexkit.proofs.OneSpec.{cut_once}
 
 pub no_both : {A : Type 0} → false ≡ true → A
@@ -59,11 +57,6 @@ front_is p text n x q r h k px e = from (cases_lt n (length text))
 pub front_splits : (text : List ℕ) (n x : ℕ) → n < length text → get_or text n 0 ≡ x → text ≡ take n text ++ (x ∷ drop (n + 1) text)
 front_splits text n x lt e = let next : suc n ≡ n + 1 = omega arith in split_at text n 0 lt ∙ ap (λ z. take n text ++ (z ∷ drop (suc n) text)) e ∙ ap (λ m. take n text ++ (x ∷ drop m text)) next
 
-pub quoted_series : (q : List ℕ) → series (map (λ b. Set (single b)) q) ≡ quoted_tree q
-quoted_series [] = refl
-quoted_series (b ∷ []) = refl
-quoted_series (b ∷ c ∷ q) = refl
-
 cut_rest : (u r s : List ℕ) → u ++ r ≡ u ++ s → r ≡ s
 cut_rest [] r s e = e
 cut_rest (b ∷ u) r s e = cut_rest u r s (let t : u ++ r ≡ u ++ s = cc in t)
@@ -77,15 +70,3 @@ front_cut p text n x q r h k px e = from (cases_lt n (length text))
         let cut = cut_once p (get_or text n 0) x (take n text) q (drop (suc n) text) r h.pass k (h.stops lt) px (sym (split_at text n 0 lt) ∙ e) in
         (cut.0, cut_rest (take n text) (drop n text) (x ∷ r) (take-append-drop n text ∙ e ∙ ap (λ z. z ++ (x ∷ r)) (sym cut.0)))
     from (inr le) = absurd (not_all p x q r px (subst (λ z. all_pass p z ≡ true) (take_all n text le ∙ e) h.pass))
-
-pub is_quoted : (text inside after rest : List ℕ) (n : ℕ) (t : Tree) → IsFront is_quotable text n → inside ≡ take n text → after ≡ drop n text → after ≡ 34 ∷ rest →
-    t ≡ series (map (λ b. Set (single b)) inside) → IsQuoted (34 ∷ text) t rest
-is_quoted text inside after rest n t h i a s e =
-    let whole : text ≡ inside ++ (34 ∷ rest) = sym (take-append-drop n text) ∙ ap (λ z. z ++ drop n text) (sym i) ∙ ap (λ z. inside ++ z) (sym a ∙ s) in
-    (inside, ap (λ z. 34 ∷ z) whole, subst (λ z. all_pass is_quotable z ≡ true) (sym i) h.pass, e ∙ quoted_series inside)
-
-pub no_quoted : (text after : List ℕ) (n : ℕ) (t : Tree) (rest : List ℕ) → IsFront is_quotable text n → after ≡ drop n text → ((r : List ℕ) → after ≡ 34 ∷ r → ⊥) → IsQuoted (34 ∷ text) t rest → ⊥
-no_quoted text after n t rest h e other (q, w, a, i) =
-    let whole : text ≡ q ++ (34 ∷ rest) = cc in
-    let cut = front_cut is_quotable text n 34 q rest h a refl whole in
-    other rest (e ∙ cut.1)

@@ -1,45 +1,58 @@
 -- When a line has no rule.
-use Rattle.std.proofs.Common.{◌≡◌, ℕ, ◌+◌, ◌≤◌, ◌<◌, min, Bool, true, false, List, [], ◌∷◌, ◌++◌, length, map, ◌⊎◌, inl, inr, refl, sym, ◌∙◌, ap, subst, arith}
+use Rattle.std.proofs.Common.{◌≡◌, ℕ, Bool, true, false, List, [], ◌∷◌, take, drop, Option, Some, None, refl, sym, ◌∙◌, subst}
+use Rattle.std.specs.FinMap.{empty}
 use Rattle.lexmeaning.specs.Tree.{Tree}
-use Rattle.lexmeaning.specs.Shapes.{nodes}
 use Rattle.lexmeaning.specs.Spec.{Rule, Statement}
+use Rattle.lexre.specs.Cutting.{IsCutting, first_of, has_two}
+use Rattle.lexre.specs.Spelling.{Spells}
+use Rattle.lexre.proofs.CuttingLaws.{one_cutting}
 use Rattle.lexkit.specs.Simple.{simple_rule}
-use Rattle.lexkit.specs.Spelling.{begins, ends_here, is_start_sign, AreItems, series, IsAction, is_mark, IsRule}
-use Rattle.lexkit.proofs.OneSpec.{no_both, one_items}
+use Rattle.lexkit.specs.Spelling.{begins, ends_here, is_start_sign, IsAction, is_mark, IsRule}
+use Rattle.lexkit.proofs.OneSpec.{no_both}
 
-pub no_sign_rule : (n : ℕ) (l : List ℕ) → begins is_start_sign l ≡ true → (r : Rule) → IsRule n l r → ⊥
-no_sign_rule n l h r k = no_both (sym k.no_sign ∙ h)
+-- a pattern with a slash, or with a special `$`, is not cut without them
+pub no_slash : (l : List ℕ) (stop at : ℕ) (two special : Bool) → IsCutting l stop (Some at) two special → (end : ℕ) → IsCutting l end None false false → ⊥
+no_slash l stop at two special h end k = no (one_cutting l stop end (Some at) None two false special false h k).1
+  where
+    no : ◌≡◌ {A = Option ℕ} (Some at) None → ⊥
+    no e = cc
 
-pub no_items_rule : (n : ℕ) (l : List ℕ) → ((ts : List Tree) (rest : List ℕ) → AreItems l ts rest → ends_here rest ≡ true → ⊥) → (r : Rule) → IsRule n l r → ⊥
-no_items_rule n l h r k = h k.items k.rest k.are_items k.ends
+pub no_dollar : (l : List ℕ) (stop : ℕ) (first : Option ℕ) (two : Bool) → IsCutting l stop first two true → (end : ℕ) → IsCutting l end None false false → ⊥
+no_dollar l stop first two h end k = no_both (sym (one_cutting l stop end first None two false true false h k).3)
 
-module _ (n : ℕ) (l : List ℕ) (ts : List Tree) (rest : List ℕ) (items : AreItems l ts rest) (ends : ends_here rest ≡ true) where
-  same : (r : Rule) (k : IsRule n l r) → (k.items ≡ ts) × (k.rest ≡ rest)
-  same r k = one_items l k.items ts k.rest rest k.are_items items k.ends ends
+-- without a first slash there is no second
+pub no_second : (l : List ℕ) (stop : ℕ) (two special : Bool) → IsCutting l stop None two special → two ≡ false
+no_second l stop two special h = h.second ∙ none h.places h.first
+  where
+    none : (places : List ℕ) → ◌≡◌ {A = Option ℕ} None (first_of places) → has_two places ≡ false
+    none [] e = refl
+    none (at ∷ places) e = absurd (no e)
+      where
+        no : ◌≡◌ {A = Option ℕ} None (Some at) → ⊥
+        no e = cc
 
-  pub no_some_rule : length ts ≡ 0 → (r : Rule) → IsRule n l r → ⊥
-  no_some_rule h r k = let e : length k.items ≡ length ts = ap length (same r k).0 in let some : 1 ≤ length k.items = k.some in omega arith
+pub no_end_rule : (fold : Bool) (n : ℕ) (l : List ℕ) → ((end : ℕ) → begins is_start_sign l ≡ false → IsCutting l end None false false → ⊥) → (r : Rule) → IsRule fold n l r → ⊥
+no_end_rule fold n l h r k = h k.stop k.no_sign k.cut
 
-  pub no_small_rule : (head : Tree) (m : ℕ) → head ≡ series ts → m ≡ min 65537 (nodes head) → 65536 < m → (r : Rule) → IsRule n l r → ⊥
-  no_small_rule head m is count big r k =
-      let e : nodes (series k.items) ≡ nodes head = ap (λ z. nodes (series z)) (same r k).0 ∙ ap nodes (sym is) in
-      let small : nodes (series k.items) ≤ 65536 = k.small in
-      omega arith
+module _ (fold : Bool) (n : ℕ) (l : List ℕ) (stop : ℕ) (cut : IsCutting l stop None false false) where
+  same : (r : Rule) (k : IsRule fold n l r) → k.stop ≡ stop
+  same r k = (one_cutting l k.stop stop None None false false false false k.cut cut).0
 
-  pub no_action_rule : ((ss : List Statement) → IsAction rest ss → ⊥) → (r : Rule) → IsRule n l r → ⊥
-  no_action_rule h r k = h r.statements (subst (λ z. IsAction z r.statements) (same r k).1 k.is_action)
+  pub no_head_rule : ((t : Tree) → Spells fold empty (take stop l) t → ⊥) → (r : Rule) → IsRule fold n l r → ⊥
+  no_head_rule h r k = h r.head (subst (λ z. Spells fold empty (take z l) r.head) (same r k) k.spelled)
 
-  pub rule_found : (head : Tree) (m : ℕ) (ss : List Statement) → is_mark l ≡ false → begins is_start_sign l ≡ false → 1 ≤ length ts → head ≡ series ts → m ≡ min 65537 (nodes head) → m ≤ 65536 → IsAction rest ss →
-      IsRule n l (simple_rule n head ss)
-  rule_found head m ss mark sign some is count small act = record {
+  pub no_action_rule : ((ss : List Statement) → IsAction (drop stop l) ss → ⊥) → (r : Rule) → IsRule fold n l r → ⊥
+  no_action_rule h r k = h r.statements (subst (λ z. IsAction (drop z l) r.statements) (same r k) k.is_action)
+
+  pub rule_found : (head : Tree) (ss : List Statement) → is_mark l ≡ false → ends_here l ≡ false → begins is_start_sign l ≡ false → Spells fold empty (take stop l) head → IsAction (drop stop l) ss →
+      IsRule fold n l (simple_rule n head ss)
+  rule_found head ss mark blank sign spelled act = record {
     no_mark = mark;
+    no_blank = blank;
     no_sign = sign;
-    items = ts;
-    rest = rest;
-    are_items = items;
-    some = some;
-    ends = ends;
-    small = (let e : nodes (series ts) ≡ nodes head = ap nodes (sym is) in omega arith);
+    stop = stop;
+    cut = cut;
+    spelled = spelled;
     is_action = act;
-    is_simple = ap (λ z. simple_rule n z ss) is;
+    is_simple = refl;
   }

@@ -5,4 +5,4 @@ use Rattle.lexkit.specs.declared.args.Job.TheVariants.{ScanSpec}
 
 -- the job has a file by name: `-` would be standard input, which is scanned
 abbrev pub IsNamed : Job → Type 0
-IsNamed (ScanSpec file) = string_bytes file ≢ codes "-"
+IsNamed (ScanSpec file fold) = string_bytes file ≢ codes "-"

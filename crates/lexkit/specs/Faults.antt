@@ -4,8 +4,8 @@ use Rattle.std.specs.Prelude.{ℕ, Bool, true, false, if◌then◌else◌, List,
 use Rattle.std.specs.List.{concat}
 use Rattle.lexkit.specs.declared.args.ArgsError.{ArgsError}
 use Rattle.lexkit.specs.declared.args.ArgsError.TheVariants as args
-use Rattle.lexkit.specs.declared.errors.PatternErrorKind.{PatternErrorKind}
-use Rattle.lexkit.specs.declared.errors.PatternErrorKind.TheVariants as patterns
+use Rattle.lexre.specs.declared.error.PatternErrorKind.{PatternErrorKind}
+use Rattle.lexre.specs.declared.error.PatternErrorKind.TheVariants as patterns
 use Rattle.lexkit.specs.declared.errors.SpecErrorKind.{SpecErrorKind}
 use Rattle.lexkit.specs.declared.errors.SpecErrorKind.TheVariants as kinds
 use Rattle.lexkit.specs.declared.errors.SpecError.{SpecError}
@@ -30,8 +30,21 @@ lacks_memory other = false
 
 -- the name of a refusal
 abbrev pub pattern_name : PatternErrorKind → List ℕ
+pattern_name patterns.UnclosedQuote = codes "UnclosedQuote"
+pattern_name patterns.UnclosedClass = codes "UnclosedClass"
+pattern_name patterns.BadRange = codes "BadRange"
+pattern_name patterns.EmptyClass = codes "EmptyClass"
+pattern_name patterns.UnknownClassName = codes "UnknownClassName"
+pattern_name patterns.UnsupportedBracket = codes "UnsupportedBracket"
+pattern_name patterns.BadEscape = codes "BadEscape"
+pattern_name patterns.BadInterval = codes "BadInterval"
+pattern_name patterns.UnbalancedParen = codes "UnbalancedParen"
 pattern_name patterns.MissingOperand = codes "MissingOperand"
+pattern_name patterns.UndefinedName = codes "UndefinedName"
+pattern_name patterns.DefinitionCycle = codes "DefinitionCycle"
+pattern_name patterns.TooDeep = codes "TooDeep"
 pattern_name patterns.TooBig = codes "TooBig"
+pattern_name patterns.MisplacedSlash = codes "MisplacedSlash"
 pattern_name patterns.OutOfMemory = codes "OutOfMemory"
 
 abbrev pub kind_name : SpecErrorKind → List ℕ

@@ -1,6 +1,7 @@
 -- What the reader of a file tells.
 use Rattle.std.specs.Prelude.{ℕ, List, map, ⊤}
 use Rattle.std.specs.Borrow.{Bor}
+use Rattle.lexre.specs.Outcome.{UnlessMemory as UnlessPatternMemory}
 use Rattle.lexkit.specs.declared.errors.SpecErrorKind.{SpecErrorKind}
 use Rattle.lexkit.specs.declared.errors.SpecErrorKind.TheVariants.{NoRulesSection, BadDefinitionLine, Pattern, UnknownStatement, TooManyRules, TooLong, OutOfMemory}
 
@@ -9,7 +10,7 @@ abbrev pub UnlessMemory : SpecErrorKind → Type 0 → Type 0
 UnlessMemory OutOfMemory P = ⊤
 UnlessMemory NoRulesSection P = P
 UnlessMemory BadDefinitionLine P = P
-UnlessMemory (Pattern e) P = P
+UnlessMemory (Pattern e) P = UnlessPatternMemory e.kind P
 UnlessMemory UnknownStatement P = P
 UnlessMemory TooManyRules P = P
 UnlessMemory TooLong P = P

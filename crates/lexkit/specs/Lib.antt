@@ -1,3 +1,4 @@
+pub mod ActionViews
 pub mod Args
 pub mod Faults
 pub mod FileViews
@@ -5,7 +6,6 @@ pub mod InputViews
 pub mod Joined
 pub mod Matches
 pub mod Places
-pub mod ReaderViews
 pub mod Reads
 pub mod Refusal
 pub mod ScanAnswers

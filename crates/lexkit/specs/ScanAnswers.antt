@@ -1,5 +1,5 @@
 -- What the answer of a scan by a specification's text tells.
-use Rattle.std.specs.Prelude.{ℕ, List, Result, Ok, Err, Option, Some, None, ⊤}
+use Rattle.std.specs.Prelude.{ℕ, Bool, List, Result, Ok, Err, Option, Some, None, ⊤}
 use Rattle.lexmeaning.specs.Spec.{Spec}
 use Rattle.lexkit.specs.FileViews.{UnlessMemory}
 use Rattle.lexkit.specs.Spelling.{SpellsSpec}
@@ -15,8 +15,8 @@ run_of (Err (Run e)) = Some (Err e)
 run_of (Err (Generate e)) = None
 
 -- A text is refused if it is no specification, or if memory runs out.
-abbrev pub RefusedRightly : List ℕ → Result ℕ ScanError → Type 0
-RefusedRightly text (Ok status) = ⊤
-RefusedRightly text (Err (Run e)) = ⊤
-RefusedRightly text (Err (Generate generates.OutOfMemory)) = ⊤
-RefusedRightly text (Err (Generate (generates.Spec e))) = UnlessMemory e.kind ((spec : Spec) → SpellsSpec text spec → ⊥)
+abbrev pub RefusedRightly : Bool → List ℕ → Result ℕ ScanError → Type 0
+RefusedRightly fold text (Ok status) = ⊤
+RefusedRightly fold text (Err (Run e)) = ⊤
+RefusedRightly fold text (Err (Generate generates.OutOfMemory)) = ⊤
+RefusedRightly fold text (Err (Generate (generates.Spec e))) = UnlessMemory e.kind ((spec : Spec) → SpellsSpec fold text spec → ⊥)

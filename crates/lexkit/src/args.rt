@@ -10,8 +10,8 @@ use thiserror::Error;
 /// What the program is to do.
 #[derive(Debug, Drop)]
 pub enum Job {
-    /// Scan standard input by the specification in this file.
-    ScanSpec { file: String },
+    /// Scan standard input by the specification in this file; under `fold` letters of its patterns stand for both cases.
+    ScanSpec { file: String, fold: bool },
 }
 
 /// Why a command line is refused.
@@ -47,7 +47,7 @@ impl From<clap::Error> for ArgsError {
     }
 }
 
-/// Reads the words after the program's name: `--scan-spec FILE`, and nothing else.
+/// Reads the words after the program's name: `--scan-spec FILE`, and `-i` as often as it stands there.
 ///
 /// `-` is no FILE.
 pub fn read_args(alloc: Global, words: &[String]) -> Result<Job, ArgsError>
@@ -58,14 +58,17 @@ pub fn read_args(alloc: Global, words: &[String]) -> Result<Job, ArgsError>
         .value_name("FILE")
         .required(true)
         .action(ArgAction::Set);
+    let fold = Arg::new(alloc, "fold").short('i').action(ArgAction::Count);
     let command = Command::new(alloc, "lex")
         .no_binary_name(true)
-        .arg(scan_spec)?;
+        .arg(scan_spec)?
+        .arg(fold)?;
     let matches = command.try_get_matches_from(words)?;
     match matches.get_str("scan-spec") {
         None | Some("-") => Err(ArgsError::Usage),
         Some(file) => Ok(Job::ScanSpec {
             file: String::from_str(alloc, file)?,
+            fold: matches.get_count("fold") > 0,
         }),
     }
 }
@@ -85,15 +88,21 @@ mod tests {
 
     #[test]
     fn reads_a_scan(rt: HostRuntime) -> Result<(), Fail> {
-        let lines: [(&[&str], &str); 4] = [
-            (&["--scan-spec", "a.l"], "a.l"),
-            (&["--scan-spec=a.l"], "a.l"),
-            (&["--scan-spec", "b c"], "b c"),
-            (&["--scan-spec", ""], ""),
+        let lines: [(&[&str], &str, bool); 7] = [
+            (&["--scan-spec", "a.l"], "a.l", false),
+            (&["--scan-spec=a.l"], "a.l", false),
+            (&["--scan-spec", "b c"], "b c", false),
+            (&["--scan-spec", ""], "", false),
+            (&["--scan-spec", "a.l", "-i"], "a.l", true),
+            (&["-i", "--scan-spec", "a.l"], "a.l", true),
+            (&["-ii", "--scan-spec", "a.l", "-i"], "a.l", true),
         ];
-        for (line, want) in lines {
+        for (line, want, folded) in lines {
             match job_of(rt.alloc(), line)? {
-                Ok(Job::ScanSpec { file }) => assert_eq!(rt; file.as_str(), want),
+                Ok(Job::ScanSpec { file, fold }) => {
+                    assert_eq!(rt; file.as_str(), want);
+                    assert_eq!(rt; fold, folded);
+                }
                 Err(_) => assert!(rt; false, "refused {want}"),
             }
         }
@@ -102,7 +111,7 @@ mod tests {
 
     #[test]
     fn refuses_all_else(rt: HostRuntime) -> Result<(), Fail> {
-        let lines: [&[&str]; 11] = [
+        let lines: [&[&str]; 12] = [
             &[],
             &["--scan-spec"],
             &["a.l"],
@@ -110,7 +119,8 @@ mod tests {
             &["--scan-spec", "-i"],
             &["--scan-spec", "a.l", "b.l"],
             &["--scan-spec", "a.l", "--scan-spec", "b.l"],
-            &["--scan-spec", "a.l", "-i"],
+            &["-i"],
+            &["--scan-spec", "a.l", "-x"],
             &["-h"],
             &["--help"],
             &["--scan-spec", "a.l", "-h"],

@@ -1,5 +1,6 @@
 //! What a scan refuses, and why.
 
+use lexre::PatternError;
 use std::alloc::AllocError;
 use thiserror::Error;
 
@@ -57,6 +58,17 @@ pub enum SpecErrorKind {
     OutOfMemory,
 }
 
+impl From<PatternError> for SpecErrorKind {
+    ghost use Rattle.std.specs.Prelude.{◌≡◌};
+    ghost use Rattle.lexkit.specs.declared.errors.SpecErrorKind.TheVariants.{Pattern};
+
+    ghost from_gives = { λ error e. e ≡ Pattern error };
+
+    fn from(error: PatternError) -> SpecErrorKind {
+        SpecErrorKind::Pattern(error)
+    }
+}
+
 impl From<AllocError> for SpecErrorKind {
     ghost use Rattle.std.specs.Prelude.{◌≡◌};
     ghost use Rattle.lexkit.specs.declared.errors.SpecErrorKind.TheVariants.{OutOfMemory};
@@ -66,28 +78,6 @@ impl From<AllocError> for SpecErrorKind {
     fn from(_error: AllocError) -> SpecErrorKind {
         SpecErrorKind::OutOfMemory
     }
-}
-
-/// Why a pattern is refused.
-#[derive(Clone, Copy, Debug, PartialEq, Eq, Error)]
-#[error("{kind} at {at}")]
-pub struct PatternError {
-    pub kind: PatternErrorKind,
-    /// The place in the rule's text, counted in bytes from 0.
-    pub at: usize,
-}
-
-/// What is wrong in a pattern.
-#[derive(Clone, Copy, Debug, PartialEq, Eq, Error)]
-pub enum PatternErrorKind {
-    /// An operand was expected.
-    #[error("missing operand")]
-    MissingOperand,
-    /// More than 65,536 nodes.
-    #[error("too big")]
-    TooBig,
-    #[error("out of memory")]
-    OutOfMemory,
 }
 
 /// Why a scan stopped.

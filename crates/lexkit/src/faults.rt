@@ -5,10 +5,9 @@ ghost use Rattle.lexkit.specs.Joined.{joined};
 ghost use Rattle.lexkit.specs.Faults.{line_of, fault_words, scan_words, gen_words, spec_words, lacks_memory, pattern_name, kind_name, run_words, args_words};
 
 use crate::args::ArgsError;
-use crate::errors::{
-    GenError, PatternError, PatternErrorKind, RunError, ScanError, SpecError, SpecErrorKind,
-};
+use crate::errors::{GenError, RunError, ScanError, SpecError, SpecErrorKind};
 use itoa::Buffer;
+use lexre::{PatternError, PatternErrorKind};
 use lextab::{Sink, WriteFault};
 
 /// What ended the program before its work was done.
@@ -121,8 +120,21 @@ fn pattern_text(kind: PatternErrorKind) -> &'static str
     ensures { result.now ≡ pattern_name kind }
 {
     match kind {
+        PatternErrorKind::UnclosedQuote => "UnclosedQuote",
+        PatternErrorKind::UnclosedClass => "UnclosedClass",
+        PatternErrorKind::BadRange => "BadRange",
+        PatternErrorKind::EmptyClass => "EmptyClass",
+        PatternErrorKind::UnknownClassName => "UnknownClassName",
+        PatternErrorKind::UnsupportedBracket => "UnsupportedBracket",
+        PatternErrorKind::BadEscape => "BadEscape",
+        PatternErrorKind::BadInterval => "BadInterval",
+        PatternErrorKind::UnbalancedParen => "UnbalancedParen",
         PatternErrorKind::MissingOperand => "MissingOperand",
+        PatternErrorKind::UndefinedName => "UndefinedName",
+        PatternErrorKind::DefinitionCycle => "DefinitionCycle",
+        PatternErrorKind::TooDeep => "TooDeep",
         PatternErrorKind::TooBig => "TooBig",
+        PatternErrorKind::MisplacedSlash => "MisplacedSlash",
         PatternErrorKind::OutOfMemory => "OutOfMemory",
     }
 }

@@ -1,61 +1,22 @@
 //! A specification file, line by line.
-ghost use Rattle.std.specs.Prelude.{◌≡◌, ℕ, ◌+◌, ◌-◌, ◌^◌, ◌<◌, ◌≤◌, min, Bool, true, false, List, length, map, drop, IfOk, IfErr, ◌↔◌};
+ghost use Rattle.std.specs.Prelude.{◌≡◌, ℕ, ◌+◌, ◌-◌, ◌^◌, ◌<◌, ◌≤◌, Bool, true, false, List, length, map, drop, None, IfOk, IfErr, ◌↔◌};
 ghost use Rattle.lexmeaning.specs.Spec.{Rule as RuleData, Spec as SpecData};
-ghost use Rattle.lexmeaning.specs.Shapes.{nodes, nodes_of};
-ghost use Rattle.lexmeaning.specs.Tree.{trees};
-ghost use Rattle.lexre.specs.Views.{tree_of};
+ghost use Rattle.lexre.specs.Cutting.{IsCutting};
 ghost use Rattle.lexkit.specs.Simple.{rule_of, spec_of};
-ghost use Rattle.lexkit.specs.Spelling.{begins, is_start_sign, is_mark, is_blank, all_pass, IsRule, AreRules, IsFile, lines, SpellsSpec};
+ghost use Rattle.lexkit.specs.Spelling.{begins, ends_here, is_start_sign, is_mark, is_blank, all_pass, IsRule, AreRules, IsFile, lines, SpellsSpec};
 ghost use Rattle.lexkit.specs.FileViews.{texts_of, UnlessMemory};
 
-use crate::errors::{PatternError, PatternErrorKind, SpecError, SpecErrorKind};
-use crate::reader::{Items, action, all_items, at_pattern_end, blank, joined};
+use crate::actions::{action, at_pattern_end, blank};
+use crate::errors::{SpecError, SpecErrorKind};
 use crate::spec::Rule;
 use bstr::ByteSlice;
-use lexre::Pattern;
+use lexre::{Defs, PatternError, PatternErrorKind, ReadOptions, cut_pattern, read_pattern};
 use std::alloc::{AllocError, Global};
 
-/// The most nodes of a pattern's tree.
-const MAX_NODES: u32 = 65_536;
 /// The most rules.
 const MAX_RULES: usize = 4_096;
-/// A pattern that is not read.
-const MISSING_OPERAND: PatternError = PatternError {
-    kind: PatternErrorKind::MissingOperand,
-    at: 0,
-};
-/// A pattern whose tree passes the limit.
-const TOO_BIG: PatternError = PatternError {
-    kind: PatternErrorKind::TooBig,
-    at: 0,
-};
 /// The most bytes of a specification.
 const MAX_BYTES: usize = 1_048_576;
-
-#[cycle(nodes)]
-fn capped_nodes(pattern: &Pattern) -> u32
-    ensures { result ≡ min 65537 (nodes (tree_of pattern.now)) }
-{
-    match pattern {
-        Pattern::Empty => 1,
-        Pattern::Set(_) => 1,
-        Pattern::Cat(parts) => (1 + capped_nodes_of(parts)).min(MAX_NODES + 1),
-        Pattern::Alt(parts) => (1 + capped_nodes_of(parts)).min(MAX_NODES + 1),
-        Pattern::Star(inner) => (1 + capped_nodes(inner)).min(MAX_NODES + 1),
-        Pattern::Repeat(inner, _, _) => (1 + capped_nodes(inner)).min(MAX_NODES + 1),
-    }
-}
-
-#[cycle(nodes)]
-fn capped_nodes_of(parts: &[Pattern]) -> u32
-    ensures { result ≡ min 65537 (nodes_of (trees (map tree_of parts.now))) }
-{
-    let mut total = 0;
-    for part in parts {
-        total = (total + capped_nodes(part)).min(MAX_NODES + 1);
-    }
-    total
-}
 
 /// Whether the line begins with `%%`.
 fn is_mark(line: &[u8]) -> bool
@@ -92,26 +53,44 @@ fn is_blank_line(line: &[u8]) -> bool
     true
 }
 
-/// The rule of a line.
-fn read_rule(alloc: Global, number: u32, line: &[u8]) -> Result<Rule, SpecErrorKind>
-    requires { is_mark line.now ≡ false }
-    ensures found { IfOk result (λ r. IsRule number line.now (rule_of r)) }
-    ensures none { IfErr result (λ e. UnlessMemory e ((r : RuleData) → IsRule number line.now r → ⊥)) }
+/// A pattern that is not read yet: one with a special `^`, `$` or `<`.
+const MISSING_OPERAND: PatternError = PatternError {
+    kind: PatternErrorKind::MissingOperand,
+    at: 0,
+};
+
+/// Where the pattern of the line ends. A `/` is a `MisplacedSlash` at its place, and a special `^`, `$` or `<` is a
+/// `MissingOperand` at 0.
+fn pattern_end(line: &[u8]) -> Result<usize, PatternError>
+    ensures found { IfOk result (λ end. (begins is_start_sign line.now ≡ false) × IsCutting line.now end None false false) }
+    ensures inside { IfOk result (λ end. end ≤ length line.now) }
+    ensures none { IfErr result (λ _. (end : ℕ) → begins is_start_sign line.now ≡ false → IsCutting line.now end None false false → ⊥) }
 {
     if begins_with_sign(line) {
-        return Err(SpecErrorKind::Pattern(MISSING_OPERAND));
+        return Err(MISSING_OPERAND);
     }
-    let Some(items) = all_items(alloc, line)? else {
-        return Err(SpecErrorKind::Pattern(MISSING_OPERAND));
-    };
-    let Items { heads, rest } = items;
-    if heads.is_empty() {
-        return Err(SpecErrorKind::Pattern(MISSING_OPERAND));
+    let cutting = cut_pattern(line)?;
+    if let Some(at) = cutting.slash {
+        return Err(PatternError {
+            kind: PatternErrorKind::MisplacedSlash,
+            at,
+        });
     }
-    let head = joined(heads);
-    if capped_nodes(&head) > MAX_NODES {
-        return Err(SpecErrorKind::Pattern(TOO_BIG));
+    if cutting.dollar {
+        return Err(MISSING_OPERAND);
     }
+    Ok(cutting.end)
+}
+
+/// The rule of a line.
+fn read_rule(alloc: Global, fold: bool, number: u32, line: &[u8]) -> Result<Rule, SpecErrorKind>
+    requires mark { is_mark line.now ≡ false }
+    requires blank { ends_here line.now ≡ false }
+    ensures found { IfOk result (λ r. IsRule fold number line.now (rule_of r)) }
+    ensures none { IfErr result (λ e. UnlessMemory e ((r : RuleData) → IsRule fold number line.now r → ⊥)) }
+{
+    let (pattern, rest) = line.split_at(pattern_end(line)?);
+    let head = read_pattern(alloc, pattern, &Defs::new(alloc), ReadOptions { fold })?;
     let Some(statements) = action(alloc, rest)? else {
         return Err(SpecErrorKind::UnknownStatement);
     };
@@ -133,9 +112,9 @@ fn file_lines<'a>(alloc: Global, text: &'a [u8]) -> Result<Vec<&'a [u8]>, AllocE
 /// Where the rules begin: the place after the line that begins with `%%`, before which stand blank lines alone.
 fn rules_start(lines: &[&[u8]]) -> Result<usize, SpecError>
     requires { length lines.now < 2 ^ 32 - 1 }
-    ensures found { IfOk result (λ start. (rs : List RuleData) → IsFile 1 (texts_of lines.now) rs ↔ AreRules (start + 1) (drop start (texts_of lines.now)) rs) }
+    ensures found { IfOk result (λ start. (fold : Bool) (rs : List RuleData) → IsFile fold 1 (texts_of lines.now) rs ↔ AreRules fold (start + 1) (drop start (texts_of lines.now)) rs) }
     ensures within { IfOk result (λ start. start ≤ length lines.now) }
-    ensures none { IfErr result (λ e. UnlessMemory e.kind ((rs : List RuleData) → IsFile 1 (texts_of lines.now) rs → ⊥)) }
+    ensures none { IfErr result (λ e. UnlessMemory e.kind ((fold : Bool) (rs : List RuleData) → IsFile fold 1 (texts_of lines.now) rs → ⊥)) }
 {
     for i in 0..lines.len() {
         if is_mark(lines[i]) {
@@ -155,12 +134,17 @@ fn rules_start(lines: &[&[u8]]) -> Result<usize, SpecError>
 }
 
 /// The rules of the lines from this place on, up to a second line that begins with `%%`.
-fn rules_from(alloc: Global, lines: &[&[u8]], start: usize) -> Result<Vec<Rule>, SpecError>
+fn rules_from(
+    alloc: Global,
+    lines: &[&[u8]],
+    start: usize,
+    fold: bool,
+) -> Result<Vec<Rule>, SpecError>
     requires few { length lines.now < 2 ^ 32 - 1 }
     requires within { start ≤ length lines.now }
-    ensures found { IfOk result (λ rules. AreRules (start + 1) (drop start (texts_of lines.now)) (map rule_of rules.items)) }
+    ensures found { IfOk result (λ rules. AreRules fold (start + 1) (drop start (texts_of lines.now)) (map rule_of rules.items)) }
     ensures short { IfOk result (λ rules. length rules.items ≤ 4096) }
-    ensures none { IfErr result (λ e. UnlessMemory e.kind ((rs : List RuleData) → AreRules (start + 1) (drop start (texts_of lines.now)) rs → length rs ≤ 4096 → ⊥)) }
+    ensures none { IfErr result (λ e. UnlessMemory e.kind ((rs : List RuleData) → AreRules fold (start + 1) (drop start (texts_of lines.now)) rs → length rs ≤ 4096 → ⊥)) }
 {
     let mut rules = Vec::new(alloc);
     for i in start..lines.len() {
@@ -175,7 +159,7 @@ fn rules_from(alloc: Global, lines: &[&[u8]], start: usize) -> Result<Vec<Rule>,
             let kind = SpecErrorKind::TooManyRules;
             return Err(SpecError { line, kind });
         }
-        match read_rule(alloc, line, lines[i]) {
+        match read_rule(alloc, fold, line, lines[i]) {
             Err(kind) => return Err(SpecError { line, kind }),
             Ok(rule) => match rules.push(rule) {
                 Ok(()) => {}
@@ -189,11 +173,11 @@ fn rules_from(alloc: Global, lines: &[&[u8]], start: usize) -> Result<Vec<Rule>,
     Ok(rules)
 }
 
-/// The rules of a specification file. A file of more than 1,048,576 bytes is `TooLong` at line 0; else the first line
+/// The rules of a specification file; under `fold` letters of patterns stand for both cases. A file of more than 1,048,576 bytes is `TooLong` at line 0; else the first line
 /// that is refused is named.
-pub(crate) fn read_rules(alloc: Global, text: &[u8]) -> Result<Vec<Rule>, SpecError>
-    ensures found { IfOk result (λ rules. SpellsSpec text.now (spec_of rules.items)) }
-    ensures none { IfErr result (λ e. UnlessMemory e.kind ((S : SpecData) → SpellsSpec text.now S → ⊥)) }
+pub(crate) fn read_rules(alloc: Global, text: &[u8], fold: bool) -> Result<Vec<Rule>, SpecError>
+    ensures found { IfOk result (λ rules. SpellsSpec fold text.now (spec_of rules.items)) }
+    ensures none { IfErr result (λ e. UnlessMemory e.kind ((S : SpecData) → SpellsSpec fold text.now S → ⊥)) }
 {
     if text.len() > MAX_BYTES {
         return Err(SpecError {
@@ -208,7 +192,7 @@ pub(crate) fn read_rules(alloc: Global, text: &[u8]) -> Result<Vec<Rule>, SpecEr
         }),
         Ok(lines) => match rules_start(&lines) {
             Err(error) => Err(error),
-            Ok(start) => rules_from(alloc, &lines, start),
+            Ok(start) => rules_from(alloc, &lines, start, fold),
         },
     }
 }

@@ -24,7 +24,7 @@ use std::alloc::Global;
 pub fn scan_spec<S: Source, K: Sink>(
     alloc: Global,
     text: &[u8],
-    _options: Options,
+    options: Options,
     source: &mut S,
     sink: &mut K,
 ) -> Result<u8, ScanError>
@@ -32,15 +32,15 @@ pub fn scan_spec<S: Source, K: Sink>(
     requires few_read_faults { S.failures source.old < 2 ^ 64 - 1 }
     requires few_write_faults { K.failures sink.old < 2 ^ 64 - 1 }
     ensures told { MatchOption (run_of result) ((source.new ≡ source.old) × (sink.new ≡ sink.old))
-        (λ answer. (spec : SpecData) × (given : List ℕ) × (out : List ℕ) × SpellsSpec text.now spec × S.gave source.old given source.new × K.wrote sink.old out sink.new
+        (λ answer. (spec : SpecData) × (given : List ℕ) × (out : List ℕ) × SpellsSpec options.fold text.now spec × S.gave source.old given source.new × K.wrote sink.old out sink.new
         × Scans spec given (nat_lt (S.ends source.old) (S.ends source.new)) out answer) }
-    ensures refused { RefusedRightly text.now result }
+    ensures refused { RefusedRightly options.fold text.now result }
     ensures read_faults { S.failures source.new ≡ S.failures source.old + read_fault_count result }
     ensures write_faults { K.failures sink.new ≡ K.failures sink.old + write_fault_count result }
     ensures ends_stay { S.ends source.old ≤ S.ends source.new }
     ensures one_end { S.ends source.new ≤ S.ends source.old + 1 }
 {
-    match read_rules(alloc, text) {
+    match read_rules(alloc, text, options.fold) {
         Err(error) => Err(ScanError::Generate(GenError::Spec(error))),
         Ok(rules) => match scan_rules(alloc, &rules, source, sink) {
             Err(fault) => Err(ScanError::Run(fault)),
@@ -81,9 +81,9 @@ fn scan_rules<S: Source, K: Sink>(
 #[cfg(test)]
 mod tests {
     use super::*;
-    use crate::errors::{PatternError, PatternErrorKind, SpecError, SpecErrorKind};
+    use crate::errors::{SpecError, SpecErrorKind};
     use crate::spec::Statement;
-    use lexre::{ByteSet, Pattern};
+    use lexre::{ByteSet, Pattern, PatternError, PatternErrorKind};
     use lexscan::MemorySource;
     use lextab::MemorySink;
     use std::alloc::AllocError;
@@ -192,62 +192,75 @@ mod tests {
         Ok(())
     }
 
-    // A specification, an input, and what is written.
-    const SCANS: [(&[u8], &[u8], &[u8]); 12] = [
+    // Whether letters stand for both cases, a specification, an input, and what is written.
+    const SCANS: [(bool, &[u8], &[u8], &[u8]); 16] = [
         (
+            false,
             b"%%\nif printf(\"K\");\niffy printf(\"L\");\n",
             b"iff iffy",
             b"Kf L",
         ),
         (
+            false,
             b"%%\nab printf(\"1\");\n[a][b] printf(\"2\");\n",
             b"ab",
             b"1",
         ),
-        (b"%%\n\"a b\" ECHO;\n[^x] ;\n", b"a bx", b"a bx"),
+        (false, b"%%\n\"a b\" ECHO;\n[^x] ;\n", b"a bx", b"a bx"),
+        (false, b"%%\na* ;\n", b"aab", b"b"),
         (
+            false,
             b"%%\nif printf(\"K\");\n[0-9][0-9] printf(\"N\");\n",
             b"if 42 x",
             b"K N x",
         ),
         (
-            b"%%\nif printf(\"K\");\niffy printf(\"L\");\nif printf(\"S\");\n",
-            b"iff iffy",
-            b"Kf L",
+            false,
+            b"%%\nif printf(\"K\");\n[a-z]+ printf(\"I\");\n",
+            b"if iff",
+            b"K I",
         ),
-        (b"%%\n", b"abc\n", b"abc\n"),
-        (b"%%", b"", b""),
+        (false, b"%%\nabc printf(\"X\");\n", b"abab", b"abab"),
+        (false, b"%%\nab{2} printf(\"X\");\n", b"abbabab", b"Xabab"),
+        (true, b"%%\n[^a]+ printf(\"N\");\n", b"bAb", b"NAN"),
         (
+            false,
+            b"%%\na$b printf(\"X\");\n\\x41 printf(\"Y\");\n",
+            b"a$bA",
+            b"XY",
+        ),
+        (true, b"%%\nif printf(\"K\");\n", b"iF", b"K"),
+        (false, b"%%\n", b"abc\n", b"abc\n"),
+        (false, b"%%", b"", b""),
+        (
+            false,
             b"\n  \n%%\r\n\n  a comment\n[a-c] ;\n%%\nd ;\n",
             b"abcd",
             b"d",
         ),
-        (b"%%\n\"a b\" printf(\"1\");", b"a b a", b"1 a"),
-        (b"%%\n[^a] ;", b"bac", b"a"),
-        (b"%%\na$b printf(\"2\");", b"a$b", b"2"),
-        (b"%%\na ECHO;\nb printf(\"\");", b"abc", b"ac"),
+        (false, b"%%\n\"a b\" printf(\"1\");", b"a b a", b"1 a"),
+        (false, b"%%\na ECHO;\nb printf(\"\");", b"abc", b"ac"),
     ];
 
     #[test]
     fn scans_by_a_text(rt: HostRuntime) {
         let alloc = rt.alloc();
-        for (text, input, want) in SCANS {
+        for (fold, text, input, want) in SCANS {
             let mut source = MemorySource::new(input);
             let mut sink = MemorySink::new(alloc);
-            let got = scan_spec(alloc, text, Options::new(), &mut source, &mut sink);
-            assert!(rt; got == Ok(0), "status");
+            let got = scan_spec(alloc, text, Options { fold }, &mut source, &mut sink);
+            assert!(rt; got == Ok(0), "{got:?}");
             assert_eq!(rt; sink.written(), want);
         }
     }
 
     // A text that is no specification, the line, and what is told of it.
-    const REFUSALS: [(&[u8], u32, SpecErrorKind); 7] = [
+    const REFUSALS: [(&[u8], u32, SpecErrorKind); 6] = [
         (b"", 1, SpecErrorKind::NoRulesSection),
         (b"\n\n", 3, SpecErrorKind::NoRulesSection),
         (b"\nD [0-9]\n%%\n", 2, SpecErrorKind::BadDefinitionLine),
-        (b"%%\na* ;", 2, MISSING),
         (b"%%\na ;\n^b ;", 3, MISSING),
-        (b"%%\n[] ;", 2, MISSING),
+        (b"%%\na ;\n\n[z-a] ;", 4, BAD_RANGE),
         (b"%%\na REJECT;", 2, SpecErrorKind::UnknownStatement),
     ];
 
@@ -255,6 +268,47 @@ mod tests {
         kind: PatternErrorKind::MissingOperand,
         at: 0,
     });
+
+    const BAD_RANGE: SpecErrorKind = SpecErrorKind::Pattern(PatternError {
+        kind: PatternErrorKind::BadRange,
+        at: 1,
+    });
+
+    // A pattern that is refused, the reason, and its place.
+    const BAD_PATTERNS: [(&[u8], PatternErrorKind, usize); 9] = [
+        (b"<X>a", PatternErrorKind::MissingOperand, 0),
+        (b"a$", PatternErrorKind::MissingOperand, 0),
+        (b"a/b", PatternErrorKind::MisplacedSlash, 1),
+        (b"a/b/c", PatternErrorKind::MisplacedSlash, 1),
+        (b"(a/b)", PatternErrorKind::MisplacedSlash, 2),
+        (b"[]", PatternErrorKind::UnclosedClass, 0),
+        (b"{x}", PatternErrorKind::UndefinedName, 0),
+        (b"a{0}", PatternErrorKind::BadInterval, 1),
+        (b"ab)", PatternErrorKind::UnbalancedParen, 2),
+    ];
+
+    fn refusal_of(alloc: Global, pattern: &[u8]) -> Result<Result<u8, ScanError>, AllocError> {
+        let mut text = Vec::from_slice(alloc, b"%%\n".as_slice())?;
+        text.extend_from_slice(pattern)?;
+        text.extend_from_slice(b" ;\n")?;
+        let mut source = MemorySource::new(b"a");
+        let mut sink = MemorySink::new(alloc);
+        Ok(scan_spec(alloc, &text, Options::new(), &mut source, &mut sink))
+    }
+
+    #[test]
+    fn refuses_bad_patterns(rt: HostRuntime) -> Result<(), Fail> {
+        for (pattern, kind, at) in BAD_PATTERNS {
+            let kind = SpecErrorKind::Pattern(PatternError { kind, at });
+            let got = refusal_of(rt.alloc(), pattern)?;
+            let error = SpecError { line: 2, kind };
+            assert!(rt;
+                got == Err(ScanError::Generate(GenError::Spec(error))),
+                "{got:?}"
+            );
+        }
+        Ok(())
+    }
 
     #[test]
     fn refuses_by_line(rt: HostRuntime) {

@@ -6,7 +6,7 @@ use Rattle.std.proofs.lemmas.Bool.{and_from, eq-eqb, eqb-true}
 use lib.Pointwise.{pointwise}
 use Rattle.lexmeaning.specs.Spec.{Statement, Print}
 use Rattle.lexkit.specs.Spelling.{skip, IsDone, print_of, IsPrint, IsAction}
-use Rattle.lexkit.specs.ReaderViews.{IsCall}
+use Rattle.lexkit.specs.ActionViews.{IsCall}
 use Rattle.lexkit.proofs.OneSpec.{tail_is}
 
 pub print_action : (a call literal : List ℕ) (ss : List Statement) → skip a ≡ codes "printf" ++ call → IsCall call literal → ss ≡ print_of literal → IsAction a ss

@@ -3,9 +3,9 @@ use Rattle.lexmeaning.specs.Spec.{Print}
 use Rattle.lexkit.specs.declared.spec.Statement.TheVariants as ReadStatement
 use Rattle.lexkit.specs.Simple.{statement_of}
 use Rattle.lexkit.proofs.FrontsOfLines.{no_both}
-use Rattle.lexkit.proofs.Actions.{print_action, no_call_action, print_some, print_none}
-use Rattle.lexkit.proofs.reader.action.Goals as goal
-use Rattle.lexkit.proofs.reader.action.Goals.{then-not-is_empty+in_ok-from_slice+in_ok-push-2, else-not-is_empty}
+use Rattle.lexkit.proofs.ActionLaws.{print_action, no_call_action, print_some, print_none}
+use Rattle.lexkit.proofs.actions.action.Goals as goal
+use Rattle.lexkit.proofs.actions.action.Goals.{then-not-is_empty+in_ok-from_slice+in_ok-push-2, else-not-is_empty}
 
 pub returns-in_default-literal : goal.returns-in_default-literal
 returns-in_default-literal c = no_call_action c.args.text.now c.in-Some-strip_word.call.now (λ d. no_both (sym c.if-done.false ∙ c.done.ensures.1 d)) (λ r e. c.in_default.ensures r (c.skip_blanks.ensures ∙ e)) (sym c.skip_blanks-2.ensures ∙ c.in-Some-strip_word.ensures) c.in_default-literal.ensures
