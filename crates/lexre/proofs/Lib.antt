@@ -12,6 +12,7 @@ pub mod Narrowing
 pub mod OneTree
 pub mod PassingLaws
 pub mod QuoteLaws
+pub mod QuotedLaws
 pub mod ReadingLaws
 pub mod Rows
 pub mod RunLaws

@@ -7,8 +7,10 @@ pub mod Grammar
 pub mod Halves
 pub mod Lengths
 pub mod Lexical
+pub mod Outcome
 pub mod Passing
 pub mod Progress
+pub mod Quotes
 pub mod Readings
 pub mod Running
 pub mod Spelling

@@ -14,6 +14,7 @@ mod error;
 mod escapes;
 mod expressions;
 mod laws;
+mod lexer;
 mod measures;
 mod parts;
 mod passing;
