@@ -1,5 +1,6 @@
 pub mod ClassSets
 pub mod Classes
+pub mod Counting
 pub mod Cutting
 pub mod Definitions
 pub mod Elements
@@ -14,6 +15,7 @@ pub mod Quotes
 pub mod Readings
 pub mod Running
 pub mod Spelling
+pub mod StackViews
 pub mod SymbolViews
 pub mod Symbols
 pub mod Views

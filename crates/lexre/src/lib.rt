@@ -13,6 +13,7 @@ mod elements;
 mod error;
 mod escapes;
 mod expressions;
+mod frames;
 mod laws;
 mod lexer;
 mod measures;
@@ -22,6 +23,7 @@ mod pattern;
 mod quotes;
 mod runs;
 mod sets;
+mod stack;
 mod symbols;
 
 pub use bounds::Lengths;
