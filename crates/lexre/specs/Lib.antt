@@ -12,6 +12,7 @@ pub mod Outcome
 pub mod Passing
 pub mod Progress
 pub mod Quotes
+pub mod Reading
 pub mod Readings
 pub mod Running
 pub mod Spelling
