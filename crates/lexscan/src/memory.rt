@@ -1,5 +1,7 @@
 //! A source over memory that pauses once, at a stated place, for tests.
-ghost use Rattle.std.specs.Prelude.{◌≡◌, refl, ℕ, ◌+◌, ◌^◌, ◌<◌, List, ◌++◌};
+ghost use Rattle.std.specs.Prelude.{◌≡◌, refl, ℕ, ◌+◌, ◌-◌, ◌^◌, ◌<◌, min, List, [], ◌++◌, None, Some, ◌⊎◌, ◌↔◌};
+ghost use Rattle.lextab.specs.Sink.{fault_count};
+ghost use Rattle.lexscan.specs.Source.{given, end_count};
 ghost use Rattle.lexscan.specs.Taking.{Takes, Takes-trans};
 
 use crate::source::{ReadFault, Source};
@@ -25,11 +27,13 @@ pub struct MemorySource<'a> {
 }
 
 impl<'a> MemorySource<'a> {
-    ghost use Rattle.lexscan.specs.Memory.{rest_of, call_count};
+    ghost use Rattle.lexscan.specs.Memory.{rest_of, call_count, pause_of};
+    ghost use Rattle.lexscan.specs.declared.memory.Pause.TheVariants.{Fault, End};
 
     /// Gives these bytes, and then its end.
     pub fn new(bytes: &'a [u8]) -> MemorySource<'a>
         ensures bytes { rest_of result ≡ bytes.entry.now }
+        ensures pause { pause_of result ≡ None }
         ensures calls { call_count result ≡ 0 }
         ensures ends { ⟦<MemorySource<'a> as Source>⟧.ends result ≡ 0 }
         ensures failures { ⟦<MemorySource<'a> as Source>⟧.failures result ≡ 0 }
@@ -40,6 +44,7 @@ impl<'a> MemorySource<'a> {
     /// Gives this many of the bytes, then fails once, then gives the others.
     pub fn failing_after(bytes: &'a [u8], count: usize) -> MemorySource<'a>
         ensures bytes { rest_of result ≡ bytes.entry.now }
+        ensures pause { pause_of result ≡ Some (Fault count) }
         ensures calls { call_count result ≡ 0 }
         ensures ends { ⟦<MemorySource<'a> as Source>⟧.ends result ≡ 0 }
         ensures failures { ⟦<MemorySource<'a> as Source>⟧.failures result ≡ 0 }
@@ -50,6 +55,7 @@ impl<'a> MemorySource<'a> {
     /// Gives this many of the bytes, then answers its end once, then gives the others.
     pub fn ending_after(bytes: &'a [u8], count: usize) -> MemorySource<'a>
         ensures bytes { rest_of result ≡ bytes.entry.now }
+        ensures pause { pause_of result ≡ Some (End count) }
         ensures calls { call_count result ≡ 0 }
         ensures ends { ⟦<MemorySource<'a> as Source>⟧.ends result ≡ 0 }
         ensures failures { ⟦<MemorySource<'a> as Source>⟧.failures result ≡ 0 }
@@ -82,13 +88,28 @@ impl<'a> MemorySource<'a> {
 }
 
 impl Source for MemorySource<'_> {
+    ghost use Rattle.lexscan.specs.Memory.{rest_of, call_count, pause_of, nearer, IsFault, IsEnd};
+    ghost use Rattle.lexscan.specs.declared.memory.Pause.TheVariants.{Fault, End};
+
     ghost gave = { λ s xs t. Takes s.rest.now t.rest.now xs };
 
     ghost ends = { λ s. s.ends };
 
     ghost failures = { λ s. s.failures };
 
-    fn next(&mut self) -> Result<Option<u8>, ReadFault> {
+    /// The next byte. It fails exactly where it pauses with a fault, and answers the end where it pauses with one or has
+    /// no byte left.
+    fn next(&mut self) -> Result<Option<u8>, ReadFault>
+        requires few_ends { self.old.ends < 2 ^ 64 - 1 }
+        requires few_failures { self.old.failures < 2 ^ 64 - 1 }
+        ensures byte { Takes self.old.rest.now self.new.rest.now (given result) }
+        ensures ends { self.new.ends ≡ self.old.ends + end_count result }
+        ensures failures { self.new.failures ≡ self.old.failures + fault_count result }
+        ensures fault { IsFault result ↔ pause_of self.old ≡ Some (Fault 0) }
+        ensures end { IsEnd result ↔ ((pause_of self.old ≡ Some (End 0)) ⊎ ((rest_of self.old ≡ []) × (pause_of self.old ≡ Some (Fault 0) → ⊥))) }
+        ensures pause { pause_of self.new ≡ nearer (pause_of self.old) }
+        ensures calls { call_count self.new ≡ min (call_count self.old + 1) (2 ^ 64 - 1) }
+    {
         self.calls = self.calls.saturating_add(1);
         match self.pause {
             Some(Pause::Fault(0)) => {

@@ -1,5 +1,7 @@
 //! A sink over memory that fails once, at a stated place, for tests.
-ghost use Rattle.std.specs.Prelude.{◌≡◌, ℕ, ◌+◌, ◌-◌, ◌^◌, ◌<◌, ◌≤◌, List, [], ◌++◌, length};
+ghost use Rattle.std.specs.Prelude.{◌≡◌, ℕ, ◌+◌, ◌-◌, ◌^◌, ◌<◌, ◌≤◌, true, false, List, [], ◌++◌, length, None, Some, OnOk, ◌↔◌};
+ghost use Rattle.std.specs.Result.{IsErr};
+ghost use Rattle.lextab.specs.Sink.{Appended, fault_count};
 ghost use Rattle.lextab.specs.Growing.{Grows, Grows-nil, Grows-trans};
 
 use crate::sink::{Sink, WriteFault};
@@ -17,11 +19,13 @@ pub struct MemorySink {
 }
 
 impl MemorySink {
-    ghost use Rattle.lextab.specs.Memory.{written_of};
+    ghost use Rattle.lextab.specs.Memory.{written_of, room_of, flush_fails, fitting};
 
     /// Fails only where memory runs out.
     pub fn new(alloc: Global) -> MemorySink
         ensures empty { written_of result ≡ [] }
+        ensures room { room_of result ≡ None }
+        ensures flush { flush_fails result ≡ false }
         ensures failures { ⟦<MemorySink as Sink>⟧.failures result ≡ 0 }
     {
         MemorySink {
@@ -35,6 +39,8 @@ impl MemorySink {
     /// Takes this many bytes, and fails in the call that gives one more.
     pub fn failing_after(alloc: Global, count: usize) -> MemorySink
         ensures empty { written_of result ≡ [] }
+        ensures room { room_of result ≡ Some count }
+        ensures flush { flush_fails result ≡ false }
         ensures failures { ⟦<MemorySink as Sink>⟧.failures result ≡ 0 }
     {
         MemorySink {
@@ -48,6 +54,8 @@ impl MemorySink {
     /// Fails in its first flush.
     pub fn failing_flush(alloc: Global) -> MemorySink
         ensures empty { written_of result ≡ [] }
+        ensures room { room_of result ≡ None }
+        ensures flush { flush_fails result ≡ true }
         ensures failures { ⟦<MemorySink as Sink>⟧.failures result ≡ 0 }
     {
         MemorySink {
@@ -60,7 +68,7 @@ impl MemorySink {
 
     /// How many of this many bytes the next `put` takes.
     fn room_for(&self, count: usize) -> usize
-        ensures { result ≤ count }
+        ensures { result ≡ fitting (room_of self.now) count }
     {
         match self.room {
             None => count,
@@ -77,11 +85,20 @@ impl MemorySink {
 }
 
 impl Sink for MemorySink {
+    ghost use Rattle.lextab.specs.Memory.{room_of, flush_fails, left};
+
     ghost wrote = { λ s xs t. Grows s.written.items t.written.items xs };
 
     ghost failures = { λ s. s.failures };
 
-    fn put(&mut self, bytes: &[u8]) -> Result<(), WriteFault> {
+    /// Fails where the bytes pass the room that is left, or where memory runs out.
+    fn put(&mut self, bytes: &[u8]) -> Result<(), WriteFault>
+        requires { self.old.failures < 2 ^ 64 - 1 }
+        ensures bytes { Appended (λ xs. Grows self.old.written.items self.new.written.items xs) bytes.now result }
+        ensures failures { self.new.failures ≡ self.old.failures + fault_count result }
+        ensures full { OnOk result ((room : ℕ) → room_of self.old ≡ Some room → length bytes.now ≤ room) }
+        ensures room { OnOk result (room_of self.new ≡ left (room_of self.old) (length bytes.now)) }
+    {
         let count = self.room_for(bytes.len());
         if self.written.extend_from_slice(&bytes[..count]).is_err() {
             self.failures += 1;
@@ -96,7 +113,14 @@ impl Sink for MemorySink {
         Ok(())
     }
 
-    fn flush(&mut self) -> Result<(), WriteFault> {
+    /// Fails exactly in the first flush, where the sink was made so.
+    fn flush(&mut self) -> Result<(), WriteFault>
+        requires { self.old.failures < 2 ^ 64 - 1 }
+        ensures bytes { Grows self.old.written.items self.new.written.items [] }
+        ensures failures { self.new.failures ≡ self.old.failures + fault_count result }
+        ensures fails { IsErr result ↔ flush_fails self.old ≡ true }
+        ensures once { flush_fails self.new ≡ false }
+    {
         if !self.flush_fails {
             return Ok(());
         }
