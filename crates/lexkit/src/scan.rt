@@ -254,6 +254,18 @@ mod tests {
         }
     }
 
+    /// A pattern of nested stars is tried at each of a thousand places, in no more time than its size and the input ask for.
+    #[test]
+    fn answers_nested_stars(rt: HostRuntime) {
+        let letters = [b'a'; 1_000];
+        let mut source = MemorySource::new(&letters);
+        let mut sink = MemorySink::new(rt.alloc());
+        let text = b"%%\n(a*)*b printf(\"B\");\n";
+        let got = scan_spec(rt.alloc(), text, Options::new(), &mut source, &mut sink);
+        assert!(rt; got == Ok(0), "{got:?}");
+        assert_eq!(rt; sink.written(), letters.as_slice());
+    }
+
     // A text that is no specification, the line, and what is told of it.
     const REFUSALS: [(&[u8], u32, SpecErrorKind); 6] = [
         (b"", 1, SpecErrorKind::NoRulesSection),
