@@ -136,8 +136,9 @@ fn step(
 {
     let added = match symbol {
         Symbol::Name(name) => {
+            stack.here.start = at;
             let item = read_name(alloc, name, defs, fold, stack.left, room, open)?;
-            stack.push(item)?
+            stack.push(item, at)?
         }
         plain => stack.take(alloc, plain, at)?,
     };
@@ -185,7 +186,7 @@ fn read_within(
             open,
         ) {
             Ok(added) => nodes += added,
-            Err(kind) => return Err(PatternError { kind, at }),
+            Err(kind) => return Err(stack.fault(kind, at)),
         }
         rest = after;
     }

@@ -26,8 +26,8 @@ read_within-returns-in-Err-clause-none t c =
 
 pub read_within-returns-in-Err-step-clause-none : goal.read_within-returns-in-Err-step-clause-none
 read_within-returns-in-Err-step-clause-none t c =
-    refused_step (symbol_at c.args.fold) (get c.args.defs.now) (nothing_at c.args.fold) c.in-Err-step.kind c.args.room _ c.args.left (state_of c.loop-rest.stack) c.loop-rest.rest.now c.args.text.now _ _
-    c.loop-rest.invariant.agree c.in-Ok.ensures (let k = c.loop-rest.invariant.counted in omega arith) c.in-Err-step.ensures.none
+    rw c.fault.ensures (refused_step (symbol_at c.args.fold) (get c.args.defs.now) (nothing_at c.args.fold) c.in-Err-step.kind c.args.room _ c.args.left (state_of c.loop-rest.stack) c.loop-rest.rest.now c.args.text.now _ _
+    c.loop-rest.invariant.agree c.in-Ok.ensures (let k = c.loop-rest.invariant.counted in omega arith) c.in-Err-step.ensures.none)
 
 pub read_within-loop-rest-smaller : goal.read_within-loop-rest-smaller
 read_within-loop-rest-smaller t c = symbol_takes c.args.fold c.loop-rest.rest.now c.in-Ok.found.1.now _ c.in-Ok.ensures
