@@ -1,11 +1,11 @@
 -- Sets with a byte, and sound trees.
-use Rattle.std.proofs.Common.{◌≡◌, ℕ, zero, suc, ◌<◌, ◌≤◌, ◌^◌, Bool, true, false, not, ◌&&◌, ◌||◌, ◌==◌, nat_le, nat_lt, if◌then◌else◌, List, [], ◌∷◌, ◌++◌, Option, Some, None, ◌⊎◌, inl, inr, refl, ◌∙◌, subst, arith}
+use Rattle.std.proofs.Common.{◌≡◌, ℕ, zero, suc, ◌<◌, ◌≤◌, ◌^◌, Bool, true, false, not, ◌&&◌, ◌||◌, ◌==◌, nat_le, nat_lt, if◌then◌else◌, List, [], ◌∷◌, ◌++◌, get_or, map, Option, Some, None, ◌⊎◌, inl, inr, refl, ap, ◌∙◌, subst, arith}
 use Rattle.std.proofs.lemmas.Bool.Decides.{nat_tests}
 use Rattle.lexmeaning.specs.ByteSets.{ByteSet, has, set_of, empty_set, single, range_set, union, complement, fold_case, other_case, named_set, is_alpha, is_digit, is_alnum, is_upper, is_lower, is_space, is_blank, is_cntrl, is_graph, is_print, is_punct, is_xdigit}
 use Rattle.lexmeaning.specs.Shapes.{IsSoundTree, AreSoundTrees}
 use Rattle.lexmeaning.specs.Tree.{Tree, Set, Repeat, trees}
 use Rattle.lexre.specs.Grammar.{series_tree, choice_tree}
-use Rattle.lexre.specs.Lexical.{folded}
+use Rattle.lexre.specs.Lexical.{folded, quoted_tree}
 use Rattle.lexre.specs.Running.{Frame, frame, fresh, State, state, pushed, onto_last, finished, step_of}
 use Rattle.lexre.specs.Soundness.{HasByte, IsSoundSymbol, IsSoundFrame, IsSoundState}
 use Rattle.lexre.specs.Symbols.{Symbol, Sign, item, name, opening, closing, bar, sign, interval, any_times, once_or_more, at_most_once, signed}
@@ -86,6 +86,20 @@ complement_some s k e some = nonempty_some k (rw e (set_of-lt (λ b. not (has s 
 
 pub sound_byte : (fold : Bool) (b : ℕ) → b < 256 → IsSoundTree (Set (folded fold (single b)))
 sound_byte fold b h = folded_some fold (single b) (single_some b h)
+
+pub sound_any : IsSoundTree (Set (complement (single 10)))
+unfolding complement single
+sound_any = passing_byte (λ b. not (has (set_of (λ c. c == 10)) b)) 0 (omega arith) (ap not (has-set_of (λ c. c == 10) 0 (omega arith)))
+
+sound_bytes : (fold : Bool) (bs : List ℕ) → ((k : ℕ) → get_or bs k 0 < 256) → AreSoundTrees (trees (map (λ b. Set (folded fold (single b))) bs))
+sound_bytes fold [] h = tt
+sound_bytes fold (b ∷ bs) h = (sound_byte fold b (h 0), sound_bytes fold bs (λ k. h (suc k)))
+
+pub sound_quoted : (fold : Bool) (bs : List ℕ) → ((k : ℕ) → get_or bs k 0 < 256) → IsSoundTree (quoted_tree fold bs)
+unfolding quoted_tree
+sound_quoted fold [] h = tt
+sound_quoted fold (b ∷ []) h = sound_byte fold b (h 0)
+sound_quoted fold (b ∷ c ∷ bs) h = (sound_bytes fold (b ∷ c ∷ bs) h, tt)
 
 -- Series, choices and states.
 
