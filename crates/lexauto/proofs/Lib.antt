@@ -6,3 +6,4 @@ pub mod ActiveRules
 pub mod Flows
 pub mod Meaning
 pub mod Moves
+pub mod Copies

@@ -1,2 +1,3 @@
 pub mod PositionAutomaton
 pub mod RuleAutomaton
+pub mod Flow

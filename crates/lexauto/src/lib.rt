@@ -2,6 +2,7 @@
 #![tactic(auto)]
 
 mod laws;
+mod walk;
 
 pub use laws::{
     first_positions, live_positions, next_positions, position_automaton, words_that_fit,
