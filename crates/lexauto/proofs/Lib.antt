@@ -7,3 +7,4 @@ pub mod Flows
 pub mod Meaning
 pub mod Moves
 pub mod Copies
+pub mod FlowMeaning

@@ -1,3 +1,4 @@
 pub mod PositionAutomaton
 pub mod RuleAutomaton
 pub mod Flow
+pub mod Flows

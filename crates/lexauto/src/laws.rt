@@ -1,5 +1,5 @@
 //! Laws of position automata: what they read, and how the last positions of a specification move.
-ghost use Rattle.std.specs.Prelude.{◌≡◌, ◌≢◌, ◌↔◌, ℕ, Bool, List, [], ◌∷◌, ◌++◌};
+ghost use Rattle.std.specs.Prelude.{◌≡◌, ◌≢◌, ◌↔◌, ℕ, Bool, true, List, [], ◌∷◌, ◌++◌};
 ghost use Rattle.lexmeaning.specs.Tree.{Tree};
 ghost use Rattle.lexmeaning.specs.Positions.{Cell, Reads, ReadsWord};
 ghost use Rattle.lexmeaning.specs.Spec.{Spec};
@@ -8,6 +8,8 @@ ghost use Rattle.lexmeaning.specs.Reports.{HasFit};
 ghost use Rattle.lexmeaning.specs.Sound.{IsSound};
 ghost use Rattle.lexmeaning.specs.Subsets.{IsLast, ReadsActive};
 ghost use Rattle.lexauto.specs.PositionAutomaton.{quad, Whole};
+ghost use Rattle.lexauto.specs.Flow.{exits, enters};
+ghost use Rattle.lexauto.specs.Flows.{Exits, Enters};
 ghost use Rattle.lexauto.specs.RuleAutomaton.{active_automaton, automaton};
 
 /// The position automaton of a tree reads just what the tree reads, by the same positions.
@@ -37,4 +39,10 @@ pub fn live_positions()
     ensures after { (S : Spec) → IsSound S → (c : ℕ) (bol : Bool) (w : List ℕ) → w ≢ [] →
         Live S c bol w ↔ ((p q : ℕ) × IsLast (ReadsActive S c bol) w p × (automaton S).follow p q) }
     ensures first { (S : Spec) → IsSound S → (c : ℕ) (bol : Bool) → Live S c bol [] ↔ ((q : ℕ) × (active_automaton S c bol).first q) }
+{}
+
+/// The tests of a step say what leaves a pattern, and which positions come next.
+pub fn one_step()
+    ensures exits { (S : ℕ → Bool) (t : Tree) (base : ℕ) (i : Bool) → (exits t S base i ≡ true) ↔ Exits (quad t base) (i ≡ true) (λ p. S p ≡ true) }
+    ensures enters { (S : ℕ → Bool) (q : ℕ) (t : Tree) (base : ℕ) (i : Bool) → (enters t S q base i ≡ true) ↔ Enters (quad t base) (i ≡ true) (λ p. S p ≡ true) q }
 {}

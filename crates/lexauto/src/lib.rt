@@ -5,5 +5,5 @@ mod laws;
 mod walk;
 
 pub use laws::{
-    first_positions, live_positions, next_positions, position_automaton, words_that_fit,
+    first_positions, live_positions, next_positions, one_step, position_automaton, words_that_fit,
 };
