@@ -8,3 +8,5 @@ pub mod Meaning
 pub mod Moves
 pub mod Copies
 pub mod FlowMeaning
+pub mod Places
+pub mod Works

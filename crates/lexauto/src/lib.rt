@@ -1,6 +1,7 @@
 //! Automata of lex. So far the theory of position automata, as laws.
 #![tactic(auto)]
 
+mod explore;
 mod laws;
 mod walk;
 
