@@ -22,7 +22,7 @@ left_zero a b h = omega arith
 pub right_zero : (a b : ℕ) → a + b ≡ 0 → b ≡ 0
 right_zero a b h = omega arith
 
-factor_zero : (c p : ℕ) → 1 ≤ c → c * p ≡ 0 → p ≡ 0
+pub factor_zero : (c p : ℕ) → 1 ≤ c → c * p ≡ 0 → p ≡ 0
 factor_zero zero p h e = absurd (omega arith)
 factor_zero (suc c) p h e = left_zero p (c * p) (let q : suc c * p ≡ p + c * p = omega arith in sym q ∙ e)
 

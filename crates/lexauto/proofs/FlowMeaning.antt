@@ -41,29 +41,44 @@ and_is false b = (λ h. no_true h, λ h. no_true h.0)
 pub eq_is : (a b : ℕ) → ((a == b) ≡ true) ↔ (a ≡ b)
 eq_is a b = (λ h. eqb-true a b h, λ h. eq-eqb a b h)
 
+pub never : (false ≡ true) ↔ ⊥
+never = (λ h. no_true h, λ h. absurd h)
+
+pub gone : {A B : Type 0} → (A → ⊥) → (A ⊎ B) ↔ B
+gone out = (λ h. elim h [ inl a ↦ absurd (out a) | inr b ↦ b ], λ b. inr b)
+
+pub kept : {A B : Type 0} → (B → ⊥) → (A ⊎ B) ↔ A
+kept out = (λ h. elim h [ inl a ↦ a | inr b ↦ absurd (out b) ], λ a. inl a)
+
+pub grouped : {A B C : Type 0} → ((A ⊎ B) ⊎ C) ↔ (A ⊎ (B ⊎ C))
+grouped = (
+  λ h. elim h [ inl (inl a) ↦ inl a | inl (inr b) ↦ inr (inl b) | inr c ↦ inr (inr c) ],
+  λ h. elim h [ inl a ↦ inl (inl a) | inr (inl b) ↦ inl (inr b) | inr (inr c) ↦ inr c ],
+)
+
 module _ (S : ℕ → Bool) where
   abbrev In : ℕ → Type 0
   In p = S p ≡ true
 
-  exits_by : (x : Quad) {i j : Type 0} → i ↔ j → Exits x i In ↔ Exits x j In
+  pub exits_by : (x : Quad) {i j : Type 0} → i ↔ j → Exits x i In ↔ Exits x j In
   exits_by x f = (
     λ h. elim h [ inl a ↦ inl (f.0 a.0, a.1) | inr b ↦ inr b ],
     λ h. elim h [ inl a ↦ inl (f.1 a.0, a.1) | inr b ↦ inr b ],
   )
 
-  enters_by : (x : Quad) (q : ℕ) {i j : Type 0} → i ↔ j → Enters x i In q ↔ Enters x j In q
+  pub enters_by : (x : Quad) (q : ℕ) {i j : Type 0} → i ↔ j → Enters x i In q ↔ Enters x j In q
   enters_by x q f = (
     λ h. elim h [ inl a ↦ inl (f.0 a.0, a.1) | inr b ↦ inr b ],
     λ h. elim h [ inl a ↦ inl (f.1 a.0, a.1) | inr b ↦ inr b ],
   )
 
-  exits_fail : (i : Type 0) → Exits fail i In ↔ ⊥
+  pub exits_fail : (i : Type 0) → Exits fail i In ↔ ⊥
   exits_fail i = (λ h. elim h [ inl a ↦ a.1 | inr b ↦ b.2 ], λ h. absurd h)
 
   enters_fail : (i : Type 0) (q : ℕ) → Enters fail i In q ↔ ⊥
   enters_fail i q = (λ h. elim h [ inl a ↦ a.1 | inr b ↦ b.2 ], λ h. absurd h)
 
-  enters_skip : (i : Type 0) (q : ℕ) → Enters skip i In q ↔ ⊥
+  pub enters_skip : (i : Type 0) (q : ℕ) → Enters skip i In q ↔ ⊥
   enters_skip i q = (λ h. elim h [ inl a ↦ a.1 | inr b ↦ b.2 ], λ h. absurd h)
 
   -- a loop that may be left out is left where it is entered, or at its own end
@@ -77,21 +92,6 @@ module _ (S : ℕ → Bool) where
   exits_loop_once x i = (
     λ h. elim h [ inl a ↦ inl a.0 | inr b ↦ inr (inr b) ],
     λ h. elim h [ inl a ↦ inl (a, tt) | inr (inl e) ↦ inl (e.0, tt) | inr (inr e) ↦ inr e ],
-  )
-
-  never : (false ≡ true) ↔ ⊥
-  never = (λ h. no_true h, λ h. absurd h)
-
-  gone : {A B : Type 0} → (A → ⊥) → (A ⊎ B) ↔ B
-  gone out = (λ h. elim h [ inl a ↦ absurd (out a) | inr b ↦ b ], λ b. inr b)
-
-  kept : {A B : Type 0} → (B → ⊥) → (A ⊎ B) ↔ A
-  kept out = (λ h. elim h [ inl a ↦ a | inr b ↦ absurd (out b) ], λ a. inl a)
-
-  grouped : {A B C : Type 0} → ((A ⊎ B) ⊎ C) ↔ (A ⊎ (B ⊎ C))
-  grouped = (
-    λ h. elim h [ inl (inl a) ↦ inl a | inl (inr b) ↦ inr (inl b) | inr c ↦ inr (inr c) ],
-    λ h. elim h [ inl a ↦ inl (inl a) | inr (inl b) ↦ inl (inr b) | inr (inr c) ↦ inr c ],
   )
 
   module _ (leave : ℕ → Bool → Bool) (x : ℕ → Quad) (base s : ℕ) (each : (j : ℕ) (i : Bool) → (leave (base + j * s) i ≡ true) ↔ Exits (x j) (i ≡ true) In) where

@@ -10,3 +10,5 @@ pub mod Copies
 pub mod FlowMeaning
 pub mod Places
 pub mod Works
+pub mod LetterTests
+pub mod RuleMeaning

@@ -4,3 +4,4 @@ pub mod Flow
 pub mod Flows
 pub mod Keys
 pub mod Explored
+pub mod RuleFlow

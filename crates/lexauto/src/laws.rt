@@ -1,8 +1,8 @@
 //! Laws of position automata: what they read, and how the last positions of a specification move.
-ghost use Rattle.std.specs.Prelude.{◌≡◌, ◌≢◌, ◌↔◌, ℕ, Bool, true, List, [], ◌∷◌, ◌++◌};
+ghost use Rattle.std.specs.Prelude.{◌≡◌, ◌≢◌, ◌↔◌, ◌<◌, ◌⊎◌, ℕ, Bool, true, List, [], ◌∷◌, ◌++◌};
 ghost use Rattle.lexmeaning.specs.Tree.{Tree};
 ghost use Rattle.lexmeaning.specs.Positions.{Cell, Reads, ReadsWord};
-ghost use Rattle.lexmeaning.specs.Spec.{Spec};
+ghost use Rattle.lexmeaning.specs.Spec.{Spec, Rule};
 ghost use Rattle.lexmeaning.specs.Rules.{Live};
 ghost use Rattle.lexmeaning.specs.Reports.{HasFit};
 ghost use Rattle.lexmeaning.specs.Sound.{IsSound};
@@ -10,7 +10,8 @@ ghost use Rattle.lexmeaning.specs.Subsets.{IsLast, ReadsActive};
 ghost use Rattle.lexauto.specs.PositionAutomaton.{quad, Whole};
 ghost use Rattle.lexauto.specs.Flow.{exits, enters};
 ghost use Rattle.lexauto.specs.Flows.{Exits, Enters};
-ghost use Rattle.lexauto.specs.RuleAutomaton.{active_automaton, automaton};
+ghost use Rattle.lexauto.specs.RuleAutomaton.{active_automaton, automaton, active_quad, rule_quad, every};
+ghost use Rattle.lexauto.specs.RuleFlow.{rules_enter, rules_read, rule_exits};
 
 /// The position automaton of a tree reads just what the tree reads, by the same positions.
 pub fn position_automaton()
@@ -45,4 +46,13 @@ pub fn live_positions()
 pub fn one_step()
     ensures exits { (S : ℕ → Bool) (t : Tree) (base : ℕ) (i : Bool) → (exits t S base i ≡ true) ↔ Exits (quad t base) (i ≡ true) (λ p. S p ≡ true) }
     ensures enters { (S : ℕ → Bool) (q : ℕ) (t : Tree) (base : ℕ) (i : Bool) → (enters t S q base i ≡ true) ↔ Enters (quad t base) (i ≡ true) (λ p. S p ≡ true) q }
+{}
+
+/// The tests of a step through rules say how the positions of a specification move, which of them read a byte, and which
+/// are the last of a rule.
+pub fn one_step_of_rules()
+    ensures enters { (S : ℕ → Bool) (on : ℕ → Bool) (rules : List Rule) (q i base : ℕ) → (rules_enter rules on S q i base ≡ true)
+        ↔ ((active_quad on i base rules).first q ⊎ ((p : ℕ) × (S p ≡ true) × (active_quad every i base rules).follow p q)) }
+    ensures exits { (S : ℕ → Bool) (r : Rule) (base : ℕ) → (rule_exits r S base ≡ true) ↔ ((p : ℕ) × (S p ≡ true) × (rule_quad r base).last p) }
+    ensures reads { (b : ℕ) → b < 256 → (q : ℕ) (rules : List Rule) (i base : ℕ) → (rules_read rules b q base ≡ true) ↔ (active_quad every i base rules).letter (b, q) }
 {}

@@ -3,8 +3,11 @@
 
 mod explore;
 mod laws;
+mod letters;
+mod rules;
 mod walk;
 
 pub use laws::{
-    first_positions, live_positions, next_positions, one_step, position_automaton, words_that_fit,
+    first_positions, live_positions, next_positions, one_step, one_step_of_rules,
+    position_automaton, words_that_fit,
 };

@@ -19,15 +19,16 @@ pub(crate) struct Passed {
 
 /// The copies of its inner pattern that a repetition counts.
 #[derive(Clone, Copy)]
-struct Copies {
+pub(crate) struct Copies {
     /// So many of them are passed at least.
-    least: u8,
-    count: u8,
+    pub least: u8,
+    /// So many there are.
+    pub count: u8,
     /// Whether the last one may be repeated.
-    loops: bool,
+    pub loops: bool,
 }
 
-fn copies_of(least: u8, most: Option<u8>) -> Copies
+pub(crate) fn copies_of(least: u8, most: Option<u8>) -> Copies
     ensures least { result.least ≡ least }
     ensures count { result.count ≡ copies least most }
     ensures loops { result.loops ≡ is_none most }
