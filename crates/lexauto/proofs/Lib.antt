@@ -12,3 +12,5 @@ pub mod Places
 pub mod Works
 pub mod LetterTests
 pub mod RuleMeaning
+pub mod Numbers
+pub mod StepLemmas

@@ -5,3 +5,5 @@ pub mod Flows
 pub mod Keys
 pub mod Explored
 pub mod RuleFlow
+pub mod Sets
+pub mod Moving

@@ -5,6 +5,8 @@ mod explore;
 mod laws;
 mod letters;
 mod rules;
+mod sets;
+mod stepping;
 mod walk;
 
 pub use laws::{
