@@ -14,3 +14,5 @@ pub mod LetterTests
 pub mod RuleMeaning
 pub mod Numbers
 pub mod StepLemmas
+pub mod WordKeys
+pub mod Accepting

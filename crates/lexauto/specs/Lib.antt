@@ -7,3 +7,4 @@ pub mod Explored
 pub mod RuleFlow
 pub mod Sets
 pub mod Moving
+pub mod WordKeys

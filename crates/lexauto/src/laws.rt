@@ -6,12 +6,16 @@ ghost use Rattle.lexmeaning.specs.Spec.{Spec, Rule};
 ghost use Rattle.lexmeaning.specs.Rules.{Live};
 ghost use Rattle.lexmeaning.specs.Reports.{HasFit};
 ghost use Rattle.lexmeaning.specs.Sound.{IsSound};
-ghost use Rattle.lexmeaning.specs.Subsets.{IsLast, ReadsActive};
+ghost use Rattle.lexmeaning.specs.Text.{IsText, Among};
+ghost use Rattle.lexauto.specs.Sets.{marked, lasts_in};
+ghost use Rattle.lexauto.specs.Explored.{run};
+ghost use Rattle.lexauto.specs.WordKeys.{LastKey, start_key, step_in};
+ghost use Rattle.lexmeaning.specs.Subsets.{IsLast, ReadsActive, all_positions};
 ghost use Rattle.lexauto.specs.PositionAutomaton.{quad, Whole};
 ghost use Rattle.lexauto.specs.Flow.{exits, enters};
 ghost use Rattle.lexauto.specs.Flows.{Exits, Enters};
 ghost use Rattle.lexauto.specs.RuleAutomaton.{active_automaton, automaton, active_quad, rule_quad, every};
-ghost use Rattle.lexauto.specs.RuleFlow.{rules_enter, rules_read, rule_exits};
+ghost use Rattle.lexauto.specs.RuleFlow.{rules_enter, rules_read, rules_left, rule_exits};
 
 /// The position automaton of a tree reads just what the tree reads, by the same positions.
 pub fn position_automaton()
@@ -55,4 +59,15 @@ pub fn one_step_of_rules()
         ↔ ((active_quad on i base rules).first q ⊎ ((p : ℕ) × (S p ≡ true) × (active_quad every i base rules).follow p q)) }
     ensures exits { (S : ℕ → Bool) (r : Rule) (base : ℕ) → (rule_exits r S base ≡ true) ↔ ((p : ℕ) × (S p ≡ true) × (rule_quad r base).last p) }
     ensures reads { (b : ℕ) → b < 256 → (q : ℕ) (rules : List Rule) (i base : ℕ) → (rules_read rules b q base ≡ true) ↔ (active_quad every i base rules).letter (b, q) }
+{}
+
+/// The key that a word leads to lists its last positions.
+pub fn keys_of_words()
+    ensures { (S : Spec) → IsSound S → (c : ℕ) (bol : Bool) (b : ℕ) (w : List ℕ) → b < 256 → IsText w → LastKey S c bol (b ∷ w) (run (step_in S) (start_key S c bol) (b ∷ w)) }
+{}
+
+/// The rules that are left at their ends after a word are those that fit it.
+pub fn rules_that_fit()
+    ensures { (S : Spec) → IsSound S → (c : ℕ) (bol : Bool) (w : List ℕ) → w ≢ [] → (k : List ℕ) → LastKey S c bol w k →
+        (i : ℕ) → Among (rules_left S.rules (marked (all_positions S.rules) (lasts_in k)) 0 0) i ↔ HasFit S c bol w i }
 {}

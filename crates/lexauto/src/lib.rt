@@ -10,6 +10,6 @@ mod stepping;
 mod walk;
 
 pub use laws::{
-    first_positions, live_positions, next_positions, one_step, one_step_of_rules,
-    position_automaton, words_that_fit,
+    first_positions, keys_of_words, live_positions, next_positions, one_step, one_step_of_rules,
+    position_automaton, rules_that_fit, words_that_fit,
 };
