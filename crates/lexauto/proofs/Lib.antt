@@ -16,3 +16,7 @@ pub mod Numbers
 pub mod StepLemmas
 pub mod WordKeys
 pub mod Accepting
+pub mod Roots
+pub mod Tables
+pub mod Counting
+pub mod Surveying

@@ -1,6 +1,8 @@
 -- What the code of a step holds, against what a step is.
-use Rattle.std.specs.Prelude.{◌≡◌, ℕ, zero, suc, ◌<◌, Bool, true, false, List, [], ◌∷◌, length, map, slice_get, Option, Some, None, IfSome, Vec}
-use Rattle.std.proofs.Common.{refl, ap, sym, ◌∙◌, arith, Global, get_or, replicate}
+use Rattle.std.specs.Prelude.{◌≡◌, ℕ, zero, suc, ◌<◌, Bool, true, false, List, [], ◌∷◌, ◌++◌, ◌+◌, length, map, slice_get, Option, Some, None, IfSome, Vec}
+use Rattle.std.proofs.Common.{refl, ap, sym, ◌∙◌, arith, Global, get_or, replicate, inl, inr}
+use Rattle.std.proofs.lemmas.Bool.{cases_lt}
+use Rattle.std.proofs.lemmas.List.{get_or_push, get_or_append_left}
 use Rattle.std.proofs.Math.Path.{fun_ext}
 use Rattle.std.specs.List.{filter}
 use Rattle.lexmeaning.specs.Tree.{Tree}
@@ -57,3 +59,20 @@ pub flag_none : (n q : ℕ) → flag (replicate n false) q ≡ false
 flag_none zero q = refl
 flag_none (suc n) zero = refl
 flag_none (suc n) (suc q) = flag_none n q
+
+pub item_at : {A B : Type 0} (f : A → B) (xs : List A) (i : ℕ) (x : A) → i < length xs → x ≡ get_or xs i x → slice_get (map f xs) i ≡ Some (f x)
+item_at f [] i x h e = absurd (omega arith)
+item_at f (y ∷ xs) zero x h e = ap (λ z. Some (f z)) (sym e)
+item_at f (y ∷ xs) (suc i) x h e = item_at f xs i x (omega arith) e
+
+-- one more fact of a list of keys
+pub told_more : {A : Type 0} (none : A) (f : Key → A) (keys : List Key) (told : List A) (n : ℕ) (k : Key) (x : A) → length told ≡ n → slice_get keys n ≡ Some k → x ≡ f k
+    → ((i : ℕ) (q : Key) → i < n → slice_get keys i ≡ Some q → get_or told i none ≡ f q)
+    → (i : ℕ) (q : Key) → i < n + 1 → slice_get keys i ≡ Some q → get_or (told ++ x ∷ []) i none ≡ f q
+told_more none f keys told n k x len here is before i q lt at =
+    elim (cases_lt i n) [
+      | inl h ↦ (let low : i < length told = omega arith in rw (get_or_append_left told (x ∷ []) none i low) (before i q h at))
+      | inr h ↦ (let same : i ≡ n = omega arith in
+          let key : k ≡ q = (let e : Some k ≡ Some q = sym here ∙ ap (slice_get keys) (sym same) ∙ at in cc) in
+          rw (same, get_or_push told x none n len) (is ∙ ap f key))
+    ]

@@ -90,7 +90,7 @@ module _ (S : Spec) (c : ℕ) (bol : Bool) where
         λ h. (marked_is (length S.rules) A i).1 (active_below i h, (listed_is (is_active S c bol) (length S.rules) i).1 (active_below i h, h)),
       ))
 
-  start_lasts : (p : ℕ) → marked (all_positions S.rules) (lasts_in (start_key S c bol)) p ≡ true → ⊥
+  pub start_lasts : (p : ℕ) → marked (all_positions S.rules) (lasts_in (start_key S c bol)) p ≡ true → ⊥
   start_lasts p h =
       let none : lasts_in (start_key S c bol) ≡ [] = no_lasts_tagged (listed (is_active S c bol) 0 (length S.rules)) in
       no_marks (all_positions S.rules) p (subst (λ (ks : List ℕ). marked (all_positions S.rules) ks p ≡ true) none h)
@@ -208,3 +208,20 @@ module _ (S : Spec) (c : ℕ) (bol : Bool) where
       λ l. (let r = (live_after S sound c bol w some).0 l in (r.1, (last_followers w k h r.1).1 (r.0, r.2, r.3))),
       λ (q, a). (let r = (last_followers w k h q).0 a in (live_after S sound c bol w some).1 (r.0, q, r.1, r.2)),
     )
+
+-- nothing follows the dead state's key
+no_members : (l : List ℕ) → ((x : ℕ) → Among l x → ⊥) → l ≡ []
+no_members [] h = refl
+no_members (x ∷ l) h = absurd (h x (inl refl))
+
+pub dead_followers : (S : Spec) → followers_in S.rules (all_positions S.rules) [] ≡ []
+dead_followers S = no_members (followers_in S.rules (all_positions S.rules) []) (λ q a.
+    let on = marked (length S.rules) [] in
+    let last = marked (all_positions S.rules) [] in
+    elim ((rules_enter_is last on S.rules q 0 0).0 ((followers_among S.rules (all_positions S.rules) [] q).0 a).1) [
+      | inl f ↦ none_first on (no_marks (length S.rules)) 0 0 S.rules q f
+      | inr e ↦ no_marks (all_positions S.rules) e.0 e.1
+    ])
+
+pub dead_step : (S : Spec) (b : ℕ) → step_in S [] b ≡ []
+dead_step S b = ap (λ (k : Key). reading_in S.rules k b) (dead_followers S) ∙ reads_tagged S.rules [] b

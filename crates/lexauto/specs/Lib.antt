@@ -8,3 +8,7 @@ pub mod RuleFlow
 pub mod Sets
 pub mod Moving
 pub mod WordKeys
+pub mod Machines
+pub mod Automata
+pub mod Facts
+pub mod Errors

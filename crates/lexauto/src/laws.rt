@@ -1,5 +1,5 @@
 //! Laws of position automata: what they read, and how the last positions of a specification move.
-ghost use Rattle.std.specs.Prelude.{◌≡◌, ◌≢◌, ◌↔◌, ◌<◌, ◌⊎◌, ℕ, Bool, true, List, [], ◌∷◌, ◌++◌};
+ghost use Rattle.std.specs.Prelude.{◌≡◌, ◌≢◌, ◌↔◌, ◌<◌, ◌⊎◌, ◌+◌, ◌*◌, false, cond, slice_index, slice_index_or, ℕ, Bool, true, List, [], ◌∷◌, ◌++◌};
 ghost use Rattle.lexmeaning.specs.Tree.{Tree};
 ghost use Rattle.lexmeaning.specs.Positions.{Cell, Reads, ReadsWord};
 ghost use Rattle.lexmeaning.specs.Spec.{Spec, Rule};
@@ -9,7 +9,10 @@ ghost use Rattle.lexmeaning.specs.Sound.{IsSound};
 ghost use Rattle.lexmeaning.specs.Text.{IsText, Among};
 ghost use Rattle.lexauto.specs.Sets.{marked, lasts_in};
 ghost use Rattle.lexauto.specs.Explored.{run};
-ghost use Rattle.lexauto.specs.WordKeys.{LastKey, start_key, step_in};
+ghost use Rattle.lexauto.specs.WordKeys.{LastKey, start_key, step_in, Surveys};
+ghost use Rattle.lexauto.specs.Machines.{machine_with};
+ghost use Rattle.lexauto.specs.Facts.{AcceptedBy, GoOnBy};
+ghost use Rattle.lexmeaning.specs.TableFor.{TableFor};
 ghost use Rattle.lexmeaning.specs.Subsets.{IsLast, ReadsActive, all_positions};
 ghost use Rattle.lexauto.specs.PositionAutomaton.{quad, Whole};
 ghost use Rattle.lexauto.specs.Flow.{exits, enters};
@@ -70,4 +73,11 @@ pub fn keys_of_words()
 pub fn rules_that_fit()
     ensures { (S : Spec) → IsSound S → (c : ℕ) (bol : Bool) (w : List ℕ) → w ≢ [] → (k : List ℕ) → LastKey S c bol w k →
         (i : ℕ) → Among (rules_left S.rules (marked (all_positions S.rules) (lasts_in k)) 0 0) i ↔ HasFit S c bol w i }
+{}
+
+/// States whose keys are those of words, and which tell what their keys do, are a table for their specification.
+pub fn tables_of_keys()
+    ensures { (S : Spec) → IsSound S → (keys : List (List ℕ)) (next starts line_starts : List ℕ) → Surveys S keys next starts line_starts →
+        (accepts : List (List ℕ)) (goes : List Bool) → AcceptedBy S keys accepts → GoOnBy S keys goes →
+        TableFor (machine_with S (λ c bol. cond bol (slice_index line_starts c) (slice_index starts c)) (λ p b. slice_index next (p * 256 + b)) (λ p. slice_index_or accepts p []) (λ p. slice_index_or goes p false)) S }
 {}

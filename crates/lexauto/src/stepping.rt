@@ -18,8 +18,8 @@ use std::alloc::{AllocError, Global};
 /// A specification, the count of its positions, and for each byte the positions that read it.
 #[derive(Drop)]
 pub(crate) struct RuleMoves<'a> {
-    spec: &'a Spec,
-    count: usize,
+    pub spec: &'a Spec,
+    pub count: usize,
     masks: Vec<Vec<bool>>,
     ghost within: { all_positions (rules_in (spec_of spec.now)) ≡ count },
     ghost few: { count < 2 ^ 32 },
