@@ -5,6 +5,7 @@ pub mod CountLaws
 pub mod CuttingLaws
 pub mod DefinitionLaws
 pub mod ElementLaws
+pub mod EndLaws
 pub mod EscapeLaws
 pub mod FrontLaws
 pub mod GrammarLaws

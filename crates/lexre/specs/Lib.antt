@@ -18,6 +18,7 @@ pub mod Running
 pub mod Soundness
 pub mod Spelling
 pub mod StackViews
+pub mod Stops
 pub mod SymbolViews
 pub mod Symbols
 pub mod Views

@@ -4,7 +4,9 @@ ghost use Rattle.lexmeaning.specs.ByteSets.{ByteSet, range_set};
 ghost use Rattle.lexre.specs.ClassSets.{class_set_at, member_at, members_at};
 ghost use Rattle.lexre.specs.Lexical.{folded};
 ghost use Rattle.lexre.specs.Soundness.{HasByte};
+ghost use Rattle.lexre.specs.Stops.{stop_of};
 
+use crate::brackets::{find_stop, next_stop};
 use crate::elements::element_at;
 use crate::error::{Fault, PatternErrorKind};
 use crate::parts::Part;
@@ -20,15 +22,21 @@ fn span(low: u8, high: u8) -> ByteSet
     ByteSet::range(low, high)
 }
 
-/// The set of the element at the front of the text, and what follows it. `class` is the text from the class on.
+/// The set of the element at the front of the text, and what follows it. `class` is the text from the class on, and `stop`
+/// the text from its first `]` or newline on.
 #[tactic(auto, unfolding(crate::specs::Lexical::element_set))]
-fn member_at<'a>(class: &'a [u8], text: &'a [u8]) -> Result<(ByteSet, &'a [u8]), Fault<'a>>
+fn member_at<'a>(
+    class: &'a [u8],
+    text: &'a [u8],
+    stop: &'a [u8],
+) -> Result<(ByteSet, &'a [u8]), Fault<'a>>
+    requires { stop.now ≡ stop_of text.now }
     ensures set { MatchResult result
         (λ x. ◌≡◌ {A = Option (ByteSet × List ℕ)} (member_at text.now) (Some (x.0, x.1.now)))
         (λ _. ◌≡◌ {A = Option (ByteSet × List ℕ)} (member_at text.now) None) }
     ensures some { IfOk result (λ x. HasByte x.0) }
 {
-    let (part, rest) = element_at(class, text)?;
+    let (part, rest) = element_at(class, text, stop)?;
     match part {
         Part::Span(low, high) => {
             if low > high {
@@ -57,12 +65,14 @@ fn members_at<'a>(class: &'a [u8], text: &'a [u8]) -> Result<(ByteSet, &'a [u8])
         (λ _. ◌≡◌ {A = Option (ByteSet × List ℕ)} (members_at (suc (length text.now)) true text.now) None) }
     ensures some { IfOk result (λ x. HasByte x.0) }
 {
-    let (mut set, mut rest) = match member_at(class, text) {
+    let mut stop = find_stop(text);
+    let (mut set, mut rest) = match member_at(class, text, stop) {
         Ok(found) => found,
         Err(fault) => return Err(fault),
     };
     while !rest.starts_with(b"]") {
-        let (more, after) = match member_at(class, rest) {
+        stop = next_stop(stop, rest);
+        let (more, after) = match member_at(class, rest, stop) {
             Ok(found) => found,
             Err(fault) => return Err(fault),
         };

@@ -1,5 +1,5 @@
 //! Reads patterns. (POSIX, lex, Regular Expressions in lex; flex, Patterns. The bounds are this project's.)
-ghost use Rattle.std.specs.Prelude.{◌≡◌, ◌+◌, ◌≤◌, ℕ, IfOk, IfErr};
+ghost use Rattle.std.specs.Prelude.{◌≡◌, ◌+◌, ◌≤◌, ℕ, true, false, IfOk, IfErr};
 ghost use Rattle.lexmeaning.specs.Shapes.{IsSoundTree, nodes};
 ghost use Rattle.lexmeaning.specs.Tree.{Tree};
 ghost use Rattle.lexre.specs.Counting.{state_nodes};
@@ -11,7 +11,7 @@ ghost use Rattle.lexre.specs.Spelling.{Spells};
 ghost use Rattle.lexre.specs.StackViews.{state_of};
 ghost use Rattle.lexre.specs.SymbolViews.{symbol_of};
 ghost use Rattle.lexre.specs.Views.{tree_of};
-ghost use Rattle.lexre.specs.declared.error.PatternErrorKind.TheVariants.{OutOfMemory};
+ghost use Rattle.lexre.specs.declared.error.PatternErrorKind.TheVariants.{DefinitionCycle, OutOfMemory};
 
 use crate::classes::Class;
 use crate::definitions::Defs;
@@ -72,7 +72,9 @@ fn is_among(name: &[u8], names: &[Vec<u8>]) -> bool
 /// What is told of a name whose substitute has this fault. A name inside its own substitute is read on until no more may
 /// be opened, and is told as a cycle then.
 fn told_of_name(kind: PatternErrorKind, cyclic: bool) -> PatternErrorKind
-    ensures { kind ≡ OutOfMemory → result ≡ OutOfMemory }
+    ensures memory { kind ≡ OutOfMemory → result ≡ OutOfMemory }
+    ensures cycle { cyclic ≡ true → (kind ≡ OutOfMemory → ⊥) → result ≡ DefinitionCycle }
+    ensures other { cyclic ≡ false → result ≡ kind }
 {
     match kind {
         PatternErrorKind::OutOfMemory => PatternErrorKind::OutOfMemory,

@@ -775,7 +775,7 @@ type Long = (
 
 const CLOSED: &[u8] = b"a))))))))))))))))))))))))))))))))))))))))))))))))))))))))))))))))";
 
-const LONG: [Long; 24] = [
+const LONG: [Long; 26] = [
     (b"", b"a", 65535, b"", None),
     (
         b"",
@@ -883,6 +883,14 @@ const LONG: [Long; 24] = [
         524_288,
         b"",
         Some((PatternErrorKind::TooBig, 65534)),
+    ),
+    (b"[", b"[=[.", 250_000, b"-a]", None),
+    (
+        b"[",
+        b"[=[.",
+        250_000,
+        b"",
+        Some((PatternErrorKind::UnclosedClass, 0)),
     ),
 ];
 

@@ -16,7 +16,7 @@ use Rattle.lexre.proofs.reader.+read.Goals.{step-in-Name+in_ok-item-in-Name+in_o
 
 pub read_name-returns-in-Err-clause-none : goal.read_name-returns-in-Err-clause-none
 read_name-returns-in-Err-clause-none t c =
-    retold c.in-Err.error.kind _ _ c.told_of_name-in-Err.ensures
+    retold c.in-Err.error.kind _ _ c.told_of_name-in-Err.ensures.memory
     (unless_weaker c.in-Err.error.kind _ _ (no_substitute c.args.fold c.args.defs.now c.args.room c.args.left c.args.name.now _ (sym c.in-Some.ensures)) c.in-Err.ensures.none)
 
 pub read_within-returns-in-Err-clause-none : goal.read_within-returns-in-Err-clause-none
