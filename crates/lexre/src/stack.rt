@@ -19,6 +19,9 @@ use crate::symbols::{Sign, Symbol};
 use std::alloc::Global;
 use std::mem;
 
+/// So many signs may stand on one item.
+const MOST_SIGNS: u8 = 64;
+
 /// The pattern of a series: a part alone is itself.
 fn series(mut parts: Vec<Pattern>, last: Pattern) -> Result<Pattern, PatternErrorKind>
     ensures { MatchResult result (λ p. tree_of p ≡ series_tree (map tree_of parts.items) (tree_of last)) (λ e. e ≡ OutOfMemory) }
@@ -156,7 +159,7 @@ impl Stack {
     {
         if self.here.last.is_none() {
             Some(PatternErrorKind::MissingOperand)
-        } else if self.here.signs >= 64 {
+        } else if self.here.signs >= MOST_SIGNS {
             Some(PatternErrorKind::TooDeep)
         } else {
             None
@@ -170,7 +173,7 @@ impl Stack {
         let Some(last) = self.here.last.take() else {
             return Err(PatternErrorKind::MissingOperand);
         };
-        if self.here.signs >= 64 {
+        if self.here.signs >= MOST_SIGNS {
             return Err(PatternErrorKind::TooDeep);
         }
         let inner = Box::new(alloc, last)?;
@@ -196,7 +199,7 @@ impl Stack {
         let Some(last) = self.here.last.take() else {
             return Err(PatternErrorKind::MissingOperand);
         };
-        if self.here.signs >= 64 {
+        if self.here.signs >= MOST_SIGNS {
             return Err(PatternErrorKind::TooDeep);
         }
         let inner = Box::new(alloc, last)?;
