@@ -1,5 +1,5 @@
 //! A pattern as far as it was read. (POSIX, lex, Regular Expressions in lex; flex, Patterns.)
-ghost use Rattle.std.specs.Prelude.{◌≡◌, ◌+◌, ◌≤◌, ℕ, List, Option, [], Some, None, map, MatchResult, IfOk, IfErr, IfSome, OnOk};
+ghost use Rattle.std.specs.Prelude.{◌≡◌, ◌+◌, ◌≤◌, ℕ, List, Option, [], Some, None, map, MatchResult, IfOk, IfErr, IfSome, IfNone, IsSome};
 ghost use Rattle.lexmeaning.specs.Tree.{Repeat, Tree};
 ghost use Rattle.lexre.specs.Counting.{adds, closing_adds, extra, item_adds};
 ghost use Rattle.lexre.specs.Grammar.{choice_tree, series_tree};
@@ -156,6 +156,7 @@ impl Stack {
     pub(crate) fn repeat_fault(&self) -> Option<PatternErrorKind>
         ensures never { IfSome result (λ kind. (f : Tree → Tree) → onto_last f (state_of self.now) ≡ None) }
         ensures memory { IfSome result (λ kind. kind ≡ OutOfMemory → ⊥) }
+        ensures steps { IfNone result (IsSome (onto_last (λ t. t) (state_of self.now))) }
     {
         if self.here.last.is_none() {
             Some(PatternErrorKind::MissingOperand)
