@@ -15,6 +15,9 @@ use crate::pattern::Pattern;
 use crate::sets::ByteSet;
 use std::alloc::Global;
 
+/// A series of so many bytes has as many nodes as a pattern may have.
+const MOST_BYTES: usize = 65_535;
+
 /// What follows a text in quotes. The text handed in begins with the first quote, at which it is told that no other closes it.
 pub(crate) fn skip_quoted<'a>(text: &'a [u8]) -> Result<&'a [u8], Fault<'a>>
     ensures { MatchResult result (λ rest. after_quotes (drop 1 text.now) ≡ Some rest.now) (λ _. after_quotes (drop 1 text.now) ≡ None) }
@@ -121,7 +124,7 @@ pub(crate) fn quoted_pattern(
         [] => Ok(Pattern::Empty),
         [byte] => Ok(byte_pattern(*byte, fold)),
         _ => {
-            if bytes.len() > 65535 {
+            if bytes.len() > MOST_BYTES {
                 return Err(PatternErrorKind::TooBig);
             }
             let mut parts = Vec::new(alloc);

@@ -22,6 +22,12 @@ use crate::pattern::Pattern;
 use crate::symbols::Symbol;
 use std::alloc::Global;
 
+/// So many parentheses and names may be open at one place.
+const MOST_OPEN: u8 = 64;
+
+/// So many nodes a pattern may have.
+const MOST_NODES: u64 = 65_536;
+
 /// How a pattern is read.
 #[derive(Clone, Copy)]
 pub struct ReadOptions {
@@ -228,7 +234,15 @@ pub fn read_pattern(
     ensures none { IfErr result (λ e. UnlessMemory e.kind ((t : Tree) → Spells options.fold defs.now text.now t → ⊥)) }
 {
     let mut open = Vec::new(alloc);
-    match read_within(alloc, text, defs, options.fold, 64, 65536, &mut open) {
+    match read_within(
+        alloc,
+        text,
+        defs,
+        options.fold,
+        MOST_OPEN,
+        MOST_NODES,
+        &mut open,
+    ) {
         Ok(pattern) => Ok(pattern),
         Err(
             PatternError {

@@ -1,5 +1,5 @@
 //! A pattern as far as it was read. (POSIX, lex, Regular Expressions in lex; flex, Patterns.)
-ghost use Rattle.std.specs.Prelude.{◌≡◌, ◌+◌, ◌≤◌, ℕ, List, Option, [], Some, None, map, MatchResult, IfOk, IfErr, IfSome, OnOk};
+ghost use Rattle.std.specs.Prelude.{◌≡◌, ◌+◌, ◌≤◌, ℕ, List, Option, [], Some, None, map, MatchResult, IfOk, IfErr, IfSome, IfNone, IsSome};
 ghost use Rattle.lexmeaning.specs.Tree.{Repeat, Tree};
 ghost use Rattle.lexre.specs.Counting.{adds, closing_adds, extra, item_adds};
 ghost use Rattle.lexre.specs.Grammar.{choice_tree, series_tree};
@@ -18,6 +18,9 @@ use crate::pattern::Pattern;
 use crate::symbols::{Sign, Symbol};
 use std::alloc::Global;
 use std::mem;
+
+/// So many signs may stand on one item.
+const MOST_SIGNS: u8 = 64;
 
 /// The pattern of a series: a part alone is itself.
 fn series(mut parts: Vec<Pattern>, last: Pattern) -> Result<Pattern, PatternErrorKind>
@@ -153,10 +156,11 @@ impl Stack {
     pub(crate) fn repeat_fault(&self) -> Option<PatternErrorKind>
         ensures never { IfSome result (λ kind. (f : Tree → Tree) → onto_last f (state_of self.now) ≡ None) }
         ensures memory { IfSome result (λ kind. kind ≡ OutOfMemory → ⊥) }
+        ensures steps { IfNone result (IsSome (onto_last (λ t. t) (state_of self.now))) }
     {
         if self.here.last.is_none() {
             Some(PatternErrorKind::MissingOperand)
-        } else if self.here.signs >= 64 {
+        } else if self.here.signs >= MOST_SIGNS {
             Some(PatternErrorKind::TooDeep)
         } else {
             None
@@ -170,7 +174,7 @@ impl Stack {
         let Some(last) = self.here.last.take() else {
             return Err(PatternErrorKind::MissingOperand);
         };
-        if self.here.signs >= 64 {
+        if self.here.signs >= MOST_SIGNS {
             return Err(PatternErrorKind::TooDeep);
         }
         let inner = Box::new(alloc, last)?;
@@ -196,7 +200,7 @@ impl Stack {
         let Some(last) = self.here.last.take() else {
             return Err(PatternErrorKind::MissingOperand);
         };
-        if self.here.signs >= 64 {
+        if self.here.signs >= MOST_SIGNS {
             return Err(PatternErrorKind::TooDeep);
         }
         let inner = Box::new(alloc, last)?;

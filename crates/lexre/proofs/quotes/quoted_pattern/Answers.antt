@@ -8,8 +8,17 @@ use Rattle.lexre.proofs.QuotedLaws.{many_bytes, tree_of_many, byte_trees}
 use Rattle.lexre.proofs.SoundLaws.{sound_quoted}
 use Rattle.lexre.proofs.quotes.quoted_pattern.Goals as goal
 
-pub returns-then-bytes-gt65535-clause-tree : goal.returns-then-bytes-gt65535-clause-tree
-returns-then-bytes-gt65535-clause-tree c = many_bytes c.args.fold c.args.bytes.now c.if-bytes-gt65535.true
+pub returns-then-bytes-gt-MOST_BYTES-clause-tree : goal.returns-then-bytes-gt-MOST_BYTES-clause-tree
+returns-then-bytes-gt-MOST_BYTES-clause-tree c = many_bytes c.args.fold c.args.bytes.now c.if-bytes-gt-MOST_BYTES.true
+
+pub returns-after-loop-byte-clause-tree : goal.returns-after-loop-byte-clause-tree
+returns-after-loop-byte-clause-tree c =
+    let bytes = c.args.bytes.now in
+    let all : take c.loop-byte.byte-index bytes ≡ bytes = take_all _ _ (omega arith) in
+    let many : 2 ≤ length bytes = omega arith in
+    let tree : Cat (trees (map tree_of c.loop-byte.parts.items)) ≡ quoted_tree c.args.fold bytes =
+    ap (λ ts. Cat (trees ts)) (c.loop-byte.invariant ∙ ap (byte_trees c.args.fold) all) ∙ tree_of_many c.args.fold bytes many in
+    search (rules, the_lemmas, tree)
 
 pub returns-after-loop-byte-clause-sound : goal.returns-after-loop-byte-clause-sound
 returns-after-loop-byte-clause-sound c =
