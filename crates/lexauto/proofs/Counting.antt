@@ -61,7 +61,7 @@ module _ (S : Spec) where
       from [] h = inl refl
       from (x ∷ xs) h = inr (inr (x ∷ xs, refl, cons_one x xs, (c, bol, b ∷ w, lt, (byte, text), cons_one b w, h)))
 
-  dead_run : (w : List ℕ) → run (step_in S) [] w ≡ []
+  pub dead_run : (w : List ℕ) → run (step_in S) [] w ≡ []
   dead_run [] = refl
   dead_run (b ∷ w) = ap (λ (k : Key). run (step_in S) k w) (dead_step S b) ∙ dead_run w
 

@@ -1,6 +1,7 @@
 -- States with the keys of words are a table for their specification.
 use Rattle.std.specs.Prelude.{◌≡◌, ◌≢◌, ◌↔◌, ℕ, ◌+◌, ◌*◌, ◌<◌, ◌≤◌, Bool, true, false, cond, List, [], ◌∷◌, ◌++◌, length, slice_index, slice_index_or}
-use Rattle.std.proofs.Common.{inl, refl, ap, sym, subst, ◌∙◌, arith}
+use Rattle.std.proofs.Common.{inl, inr, refl, ap, sym, subst, ◌∙◌, arith}
+use Rattle.std.proofs.lemmas.Option.{slice_get-get_or}
 use Rattle.lexmeaning.specs.Text.{IsText, Among, Ascending}
 use Rattle.lexmeaning.specs.Spec.{Spec, rejects}
 use Rattle.lexmeaning.specs.Rules.{Live}
@@ -13,13 +14,14 @@ use Rattle.lexauto.specs.RuleFlow.{rules_left}
 use Rattle.lexauto.specs.Sets.{marked, lasts_in}
 use Rattle.lexauto.specs.Moving.{followers_in}
 use Rattle.lexauto.specs.Keys.{Key, At}
-use Rattle.lexauto.specs.Explored.{run}
+use Rattle.lexauto.specs.Explored.{run, Reached, key_at}
 use Rattle.lexauto.specs.WordKeys.{start_key, step_in, Surveys}
-use Rattle.lexauto.specs.Machines.{machine_with, cut_at, chosen, is_some}
+use Rattle.lexauto.specs.Machines.{machine_with, cut_at, chosen, is_some, IsReached, IsDead}
 use Rattle.lexauto.specs.Facts.{accepted_by, goes_on_by, AcceptedBy, GoOnBy}
 use Rattle.lexauto.proofs.FlowMeaning.{both, back, no_true}
 use Rattle.lexauto.proofs.RuleMeaning.{rule_exits_is}
-use Rattle.lexauto.proofs.WordKeys.{word_key, start_live, later_live, start_lasts}
+use Rattle.lexauto.proofs.Counting.{dead_run}
+use Rattle.lexauto.proofs.WordKeys.{no_marks, dead_step, dead_followers, word_key, start_live, later_live, start_lasts}
 use Rattle.lexauto.proofs.Accepting.{rules_fit, rules_left_is, left_ascend, first_is}
 
 is_some_is : (l : List ℕ) → (is_some l ≡ true) ↔ ((q : ℕ) × Among l q)
@@ -115,8 +117,54 @@ module _ (S : Spec) (sound : IsSound S) (keys : List Key) (next starts line_star
     ending = λ c lt. refl;
   }
 
+  -- each state but the dead one is reached
+  reached_state : (p : ℕ) → p < length keys → IsReached M S p
+  unfolding M
+  reached_state p lt = from (slice_get-get_or keys p [] lt) (s.automaton.only p (key_at keys p) (slice_get-get_or keys p [] lt))
+    where
+      same_place : (q : ℕ) (k : Key) → At keys p (key_at keys p) → k ≡ key_at keys p → At keys q k → q ≡ p
+      same_place q k here e there = s.automaton.apart q p (key_at keys p) (subst (λ (l : Key). At keys q l) e there) here
+
+      from : At keys p (key_at keys p) → Reached (step_in S) s.roots (key_at keys p) → IsReached M S p
+      from here (i, root, at, (w, text, e)) = elim (s.only i root at) [
+        | inl dead ↦ inl (sym (same_place 0 [] here (sym (dead_run S w) ∙ ap (λ (r : Key). run (step_in S) r w) (sym dead) ∙ e) (s.automaton.starts 0 [] s.dead)))
+        | inr (c, bol, lt, is) ↦ inr (c, bol, w, lt, text, same_place (state_after M c bol w) (run (step_in S) (start_key S c bol) w) here (ap (λ (r : Key). run (step_in S) r w) (sym is) ∙ e) (after_at c bol w lt text))
+      ]
+
+  none_of : (l : List ℕ) → ((x : ℕ) → Among l x → ⊥) → l ≡ []
+  none_of [] h = refl
+  none_of (x ∷ l) h = absurd (h x (inl refl))
+
+  chosen_none : (all : Bool) → chosen all [] ≡ []
+  chosen_none true = refl
+  chosen_none false = refl
+
+  dead_state : IsDead M 0
+  unfolding M
+  dead_state =
+      let there : At keys 0 [] = s.automaton.starts 0 [] s.dead in
+      let last = marked (all_positions S.rules) [] in
+      let none : rules_left S.rules last 0 0 ≡ [] = none_of (rules_left S.rules last 0 0) (λ x a.
+      (let (r, at, e) = (rules_left_is last S.rules x).0 a in let (p, is, l) = (rule_exits_is last r _).0 e in no_marks (all_positions S.rules) p is)) in (
+        (λ b lt. s.automaton.apart (slice_index next (0 * 256 + b)) 0 [] (subst (λ (k : Key). At keys (slice_index next (0 * 256 + b)) k) (dead_step S b) (s.automaton.moves 0 b [] lt there)) there),
+        accepted 0 [] there ∙ ap (chosen (rejects S)) none ∙ chosen_none (rejects S),
+        on 0 [] there ∙ ap is_some (dead_followers S),
+      )
+
 pub table_of : (S : Spec) → IsSound S → (keys : List Key) (next starts line_starts : List ℕ) → Surveys S keys next starts line_starts →
     (accepts : List (List ℕ)) (goes : List Bool) → AcceptedBy S keys accepts → GoOnBy S keys goes →
     TableFor (machine_with S (λ c bol. cond bol (slice_index line_starts c) (slice_index starts c)) (λ p b. slice_index next (p * 256 + b)) (λ p. slice_index_or accepts p []) (λ p. slice_index_or goes p false)) S
 unfolding M
 table_of S sound keys next starts line_starts s accepts goes accepted on = table S sound keys next starts line_starts s accepts goes accepted on
+
+pub reached_of : (S : Spec) → IsSound S → (keys : List Key) (next starts line_starts : List ℕ) → Surveys S keys next starts line_starts →
+    (accepts : List (List ℕ)) (goes : List Bool) → AcceptedBy S keys accepts → GoOnBy S keys goes → (p : ℕ) → p < length keys →
+    IsReached (machine_with S (λ c bol. cond bol (slice_index line_starts c) (slice_index starts c)) (λ p b. slice_index next (p * 256 + b)) (λ p. slice_index_or accepts p []) (λ p. slice_index_or goes p false)) S p
+unfolding M
+reached_of S sound keys next starts line_starts s accepts goes accepted on = reached_state S sound keys next starts line_starts s accepts goes accepted on
+
+pub dead_of : (S : Spec) → IsSound S → (keys : List Key) (next starts line_starts : List ℕ) → Surveys S keys next starts line_starts →
+    (accepts : List (List ℕ)) (goes : List Bool) → AcceptedBy S keys accepts → GoOnBy S keys goes →
+    IsDead (machine_with S (λ c bol. cond bol (slice_index line_starts c) (slice_index starts c)) (λ p b. slice_index next (p * 256 + b)) (λ p. slice_index_or accepts p []) (λ p. slice_index_or goes p false)) 0
+unfolding M
+dead_of S sound keys next starts line_starts s accepts goes accepted on = dead_state S sound keys next starts line_starts s accepts goes accepted on
