@@ -22,3 +22,6 @@ pub use laws::{
     position_automaton, rules_that_fit, tables_of_keys, words_that_fit,
 };
 pub use subsets::{Limits, build};
+
+#[cfg(test)]
+mod tests;
