@@ -1,5 +1,5 @@
 -- A machine of states with the actions of a specification.
-use Rattle.std.specs.Prelude.{◌≡◌, ◌<◌, ◌⊎◌, ℕ, Bool, true, false, List, [], ◌∷◌, length, take, Option, Some, None, slice_get}
+use Rattle.std.specs.Prelude.{◌≡◌, ◌<◌, ◌⊎◌, ℕ, Bool, true, false, List, [], ◌∷◌, cond, ◌+◌, ◌*◌, length, take, nat_lt, slice_index, Option, Some, None, slice_get}
 use Rattle.lexmeaning.specs.Spec.{Spec, Rule, Cut, Whole, statements_at, end_at}
 use Rattle.lexmeaning.specs.Text.{IsText}
 use Rattle.lexmeaning.specs.Machine.{Machine, state_after}
@@ -34,6 +34,6 @@ is_some (x ∷ xs) = true
 abbrev pub IsReached : Machine → Spec → ℕ → Type 0
 IsReached M S p = (p ≡ 0) ⊎ ((c : ℕ) × (bol : Bool) × (w : List ℕ) × (c < length S.conditions) × IsText w × (state_after M c bol w ≡ p))
 
--- nothing is accepted in the state, and it leads nowhere else
-abbrev pub IsDead : Machine → ℕ → Type 0
-IsDead M p = ((b : ℕ) → b < 256 → M.next p b ≡ p) × (M.accepts p ≡ []) × (M.goes_on p ≡ false)
+-- the state after one byte more; any other number leads to the dead state
+abbrev pub moving : List ℕ → ℕ → ℕ → ℕ
+moving next p b = cond (nat_lt b 256) (slice_index next (p * 256 + b)) 0

@@ -2,11 +2,12 @@
 ghost use Rattle.std.specs.Prelude.{◌≡◌, ◌<◌, ◌≤◌, ◌^◌, ℕ, length, IfOk, IsErrOf};
 ghost use Rattle.lexmeaning.specs.Subsets.{all_positions, Subsets};
 ghost use Rattle.lexmeaning.specs.TableFor.{TableFor};
+ghost use Rattle.lexmeaning.specs.MachineLaws.{MachineLaws};
 ghost use Rattle.lexspec.specs.Views.{spec_of, rules_in, conditions_in};
 ghost use Rattle.lexauto.specs.Keys.{Key, At, keys_in};
 ghost use Rattle.lexauto.specs.Explored.{MoreThan};
 ghost use Rattle.lexauto.specs.WordKeys.{Surveys};
-ghost use Rattle.lexauto.specs.Machines.{IsReached, IsDead};
+ghost use Rattle.lexauto.specs.Machines.{IsReached};
 ghost use Rattle.lexauto.specs.Automata.{machine_of, states_of, conditions_of};
 
 use crate::dfa::Dfa;
@@ -63,7 +64,7 @@ pub fn build(alloc: Global, spec: &Spec, limits: Limits) -> Result<Dfa, BuildErr
     ensures table { IfOk result (λ d. TableFor (machine_of d (spec_of spec.now)) (spec_of spec.now)) }
     ensures conditions { IfOk result (λ d. conditions_of d ≡ length (conditions_in (spec_of spec.now))) }
     ensures reached { IfOk result (λ d. (p : ℕ) → p < states_of d → IsReached (machine_of d (spec_of spec.now)) (spec_of spec.now) p) }
-    ensures dead { IfOk result (λ d. IsDead (machine_of d (spec_of spec.now)) 0) }
+    ensures laws { IfOk result (λ d. MachineLaws (machine_of d (spec_of spec.now))) }
     ensures states { IfOk result (λ d. Subsets (spec_of spec.now) (states_of d)) }
     ensures few_positions { IfOk result (λ d. all_positions (rules_in (spec_of spec.now)) ≤ limits.positions) }
     ensures few_states { IfOk result (λ d. states_of d ≤ limits.states) }
