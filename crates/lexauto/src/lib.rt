@@ -1,4 +1,4 @@
-//! Automata of lex. So far the theory of position automata, as laws.
+//! Automata of lex: the positions of a specification's rules, and the states that sets of them are.
 #![tactic(auto)]
 
 mod dfa;
