@@ -7,8 +7,8 @@ ghost use Rattle.lexre.specs.Views.{tree_of};
 use crate::sets::{START, key_of, lasts_in, marks_of, numbers_of, starts_in};
 use crate::walk::{enter, leave};
 use crate::{
-    first_positions, keys_of_words, live_positions, next_positions, one_step, one_step_of_rules,
-    position_automaton, rules_that_fit, tables_of_keys, words_that_fit,
+    first_positions, keys_of_words, live_positions, next_positions, one_count, one_step,
+    one_step_of_rules, position_automaton, rules_that_fit, tables_of_keys, words_that_fit,
 };
 use lexre::{ByteSet, Pattern, positions};
 use std::alloc::{AllocError, Global};
@@ -72,6 +72,7 @@ fn laws() {
     first_positions();
     next_positions();
     live_positions();
+    one_count();
     one_step();
     one_step_of_rules();
     keys_of_words();
