@@ -61,7 +61,7 @@ module _ (S : Spec) where
       from [] h = inl refl
       from (x ∷ xs) h = inr (inr (x ∷ xs, refl, cons_one x xs, (c, bol, b ∷ w, lt, (byte, text), cons_one b w, h)))
 
-  dead_run : (w : List ℕ) → run (step_in S) [] w ≡ []
+  pub dead_run : (w : List ℕ) → run (step_in S) [] w ≡ []
   dead_run [] = refl
   dead_run (b ∷ w) = ap (λ (k : Key). run (step_in S) k w) (dead_step S b) ∙ dead_run w
 
@@ -325,3 +325,41 @@ too_many_subsets S limit n (ks, many, apart, shapes) s =
     from k (inr (inr (l, e, some, (c, bol, w, lt, text, word, h)))) =
         inr (subst (λ (q : Key). Among (map (λ l. 0 ∷ l) s.starts ++ map (λ l. 1 ∷ l) s.lasts) q) (sym e)
         (among_right (map (λ l. 0 ∷ l) s.starts) (map (λ l. 1 ∷ l) s.lasts) (1 ∷ l) (among_map (λ l. 1 ∷ l) s.lasts l (s.are_lasts.listed c bol w l lt text word h some))))
+
+-- There is one count of subsets.
+
+at_among : (ks : List Key) (k : Key) → Among ks k → (i : ℕ) × At ks i k
+at_among [] k h = absurd h
+at_among (x ∷ ks) k (inl e) = (0, ap Some (sym e))
+at_among (x ∷ ks) k (inr h) = let (i, a) = at_among ks k h in (suc i, a)
+
+at_is_among : (ks : List Key) (i : ℕ) (k : Key) → At ks i k → Among ks k
+at_is_among [] i k h = absurd cc
+at_is_among (x ∷ ks) zero k h = inl (let e : x ≡ k = cc in sym e)
+at_is_among (x ∷ ks) (suc i) k h = inr (at_is_among ks i k h)
+
+distinct_apart : (ks : List Key) → Distinct ks → Apart ks
+distinct_apart [] d i j k a b = absurd cc
+distinct_apart (x ∷ ks) d zero zero k a b = refl
+distinct_apart (x ∷ ks) d zero (suc j) k a b = absurd (let e : x ≡ k = cc in d.0 (subst (λ (q : Key). Among ks q) (sym e) (at_is_among ks j k b)))
+distinct_apart (x ∷ ks) d (suc i) zero k a b = absurd (let e : x ≡ k = cc in d.0 (subst (λ (q : Key). Among ks q) (sym e) (at_is_among ks i k a)))
+distinct_apart (x ∷ ks) d (suc i) (suc j) k a b = ap suc (distinct_apart ks d.1 i j k a b)
+
+no_more_of : (ls ms : List (List ℕ)) → Distinct ls → ((l : List ℕ) → Among ls l → Among ms l) → length ls ≤ length ms
+no_more_of ls ms d inside = no_more ls ms (distinct_apart ls d) (λ i k a. inside k (at_is_among ls i k a))
+
+module _ (S : Spec) where
+  starts_inside : (ls ms : List (List ℕ)) → AreStarts S ls → AreStarts S ms → length ls ≤ length ms
+  starts_inside ls ms a b = no_more_of ls ms a.distinct (λ l h. let (c, bol, lt, some, lists) = a.only l h in b.listed c bol l lt lists some)
+
+  lasts_inside : (ls ms : List (List ℕ)) → AreLasts S ls → AreLasts S ms → length ls ≤ length ms
+  lasts_inside ls ms a b = no_more_of ls ms a.distinct (λ l h. let (c, bol, w, lt, text, word, some, lists) = a.only l h in b.listed c bol w l lt text word lists some)
+
+  pub counts_agree : (m n : ℕ) → Subsets S m → Subsets S n → m ≡ n
+  counts_agree m n s t =
+      let a = starts_inside s.starts t.starts s.are_starts t.are_starts in
+      let b = starts_inside t.starts s.starts t.are_starts s.are_starts in
+      let c = lasts_inside s.lasts t.lasts s.are_lasts t.are_lasts in
+      let d = lasts_inside t.lasts s.lasts t.are_lasts s.are_lasts in
+      let p = s.total in let q = t.total in
+      omega (arith, a, b, c, d, p, q)

@@ -69,7 +69,7 @@ reads_tagged : (rules : List Rule) (followers : List ℕ) (b : ℕ) → reading_
 unfolding reading_in
 reads_tagged rules followers b = refl
 
-no_marks : (n i : ℕ) → marked n [] i ≡ true → ⊥
+pub no_marks : (n i : ℕ) → marked n [] i ≡ true → ⊥
 no_marks n i h = ((marked_is n [] i).0 h).1
 
 module _ (S : Spec) (c : ℕ) (bol : Bool) where

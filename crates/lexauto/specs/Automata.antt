@@ -1,8 +1,8 @@
 -- What a `Dfa` tells, and the machine that it is with a specification's actions.
-use Rattle.std.specs.Prelude.{ℕ, ◌+◌, ◌*◌, Bool, false, cond, List, [], map, length, slice_index, slice_index_or}
+use Rattle.std.specs.Prelude.{ℕ, Bool, false, cond, List, [], map, length, slice_index, slice_index_or}
 use Rattle.lexmeaning.specs.Spec.{Spec}
 use Rattle.lexmeaning.specs.Machine.{Machine}
-use Rattle.lexauto.specs.Machines.{machine_with}
+use Rattle.lexauto.specs.Machines.{machine_with, moving}
 use Rattle.lexauto.specs.declared.dfa.Dfa.{Dfa}
 
 abbrev pub conditions_of : Dfa → ℕ
@@ -15,7 +15,7 @@ abbrev pub start_of : Dfa → ℕ → Bool → ℕ
 start_of d c bol = cond bol (slice_index d.line_starts.items c) (slice_index d.starts.items c)
 
 abbrev pub next_of : Dfa → ℕ → ℕ → ℕ
-next_of d s b = slice_index d.next.items (s * 256 + b)
+next_of d s b = moving d.next.items s b
 
 abbrev pub lists_in : Dfa → List (List ℕ)
 lists_in d = map (λ v. v.items) d.accepts.items

@@ -1,7 +1,8 @@
 -- A machine of states with the actions of a specification.
-use Rattle.std.specs.Prelude.{ℕ, Bool, true, false, List, [], ◌∷◌, length, take, Option, Some, None, slice_get}
+use Rattle.std.specs.Prelude.{◌≡◌, ◌<◌, ◌⊎◌, ℕ, Bool, true, false, List, [], ◌∷◌, cond, ◌+◌, ◌*◌, length, take, nat_lt, slice_index, Option, Some, None, slice_get}
 use Rattle.lexmeaning.specs.Spec.{Spec, Rule, Cut, Whole, statements_at, end_at}
-use Rattle.lexmeaning.specs.Machine.{Machine}
+use Rattle.lexmeaning.specs.Text.{IsText}
+use Rattle.lexmeaning.specs.Machine.{Machine, state_after}
 
 abbrev pub cut_at : Option Rule → Cut
 cut_at None = Whole
@@ -28,3 +29,11 @@ chosen false l = take 1 l
 abbrev pub is_some : List ℕ → Bool
 is_some [] = false
 is_some (x ∷ xs) = true
+
+-- the state is the dead one, or some word leads to it from some start
+abbrev pub IsReached : Machine → Spec → ℕ → Type 0
+IsReached M S p = (p ≡ 0) ⊎ ((c : ℕ) × (bol : Bool) × (w : List ℕ) × (c < length S.conditions) × IsText w × (state_after M c bol w ≡ p))
+
+-- the state after one byte more; any other number leads to the dead state
+abbrev pub moving : List ℕ → ℕ → ℕ → ℕ
+moving next p b = cond (nat_lt b 256) (slice_index next (p * 256 + b)) 0

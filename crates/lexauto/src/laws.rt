@@ -10,10 +10,10 @@ ghost use Rattle.lexmeaning.specs.Text.{IsText, Among};
 ghost use Rattle.lexauto.specs.Sets.{marked, lasts_in};
 ghost use Rattle.lexauto.specs.Explored.{run};
 ghost use Rattle.lexauto.specs.WordKeys.{LastKey, start_key, step_in, Surveys};
-ghost use Rattle.lexauto.specs.Machines.{machine_with};
+ghost use Rattle.lexauto.specs.Machines.{machine_with, moving};
 ghost use Rattle.lexauto.specs.Facts.{AcceptedBy, GoOnBy};
 ghost use Rattle.lexmeaning.specs.TableFor.{TableFor};
-ghost use Rattle.lexmeaning.specs.Subsets.{IsLast, ReadsActive, all_positions};
+ghost use Rattle.lexmeaning.specs.Subsets.{IsLast, ReadsActive, all_positions, Subsets};
 ghost use Rattle.lexauto.specs.PositionAutomaton.{quad, Whole};
 ghost use Rattle.lexauto.specs.Flow.{exits, enters};
 ghost use Rattle.lexauto.specs.Flows.{Exits, Enters};
@@ -79,5 +79,10 @@ pub fn rules_that_fit()
 pub fn tables_of_keys()
     ensures { (S : Spec) → IsSound S → (keys : List (List ℕ)) (next starts line_starts : List ℕ) → Surveys S keys next starts line_starts →
         (accepts : List (List ℕ)) (goes : List Bool) → AcceptedBy S keys accepts → GoOnBy S keys goes →
-        TableFor (machine_with S (λ c bol. cond bol (slice_index line_starts c) (slice_index starts c)) (λ p b. slice_index next (p * 256 + b)) (λ p. slice_index_or accepts p []) (λ p. slice_index_or goes p false)) S }
+        TableFor (machine_with S (λ c bol. cond bol (slice_index line_starts c) (slice_index starts c)) (moving next) (λ p. slice_index_or accepts p []) (λ p. slice_index_or goes p false)) S }
+{}
+
+/// There is at most one count of subsets.
+pub fn one_count()
+    ensures { (S : Spec) (m n : ℕ) → Subsets S m → Subsets S n → m ≡ n }
 {}

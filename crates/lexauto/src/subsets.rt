@@ -2,10 +2,12 @@
 ghost use Rattle.std.specs.Prelude.{◌≡◌, ◌<◌, ◌≤◌, ◌^◌, ℕ, length, IfOk, IsErrOf};
 ghost use Rattle.lexmeaning.specs.Subsets.{all_positions, Subsets};
 ghost use Rattle.lexmeaning.specs.TableFor.{TableFor};
+ghost use Rattle.lexmeaning.specs.MachineLaws.{MachineLaws};
 ghost use Rattle.lexspec.specs.Views.{spec_of, rules_in, conditions_in};
 ghost use Rattle.lexauto.specs.Keys.{Key, At, keys_in};
 ghost use Rattle.lexauto.specs.Explored.{MoreThan};
 ghost use Rattle.lexauto.specs.WordKeys.{Surveys};
+ghost use Rattle.lexauto.specs.Machines.{IsReached};
 ghost use Rattle.lexauto.specs.Automata.{machine_of, states_of, conditions_of};
 
 use crate::dfa::Dfa;
@@ -54,13 +56,15 @@ fn explore_spec(alloc: Global, moves: &RuleMoves, limit: u32) -> Result<Survey, 
 }
 
 /// The automaton of a specification: after each word from each start it accepts the rules that fit, or the first of them
-/// if no rule has REJECT, and goes on where a longer word may fit. TooManyPositions comes exactly where the heads and
+/// if no rule has REJECT, and goes on where a longer word may fit. Some word leads to each state but the dead one. TooManyPositions comes exactly where the heads and
 /// trails have more positions than their limit, TooManyStates only where there are more states.
 pub fn build(alloc: Global, spec: &Spec, limits: Limits) -> Result<Dfa, BuildError>
     requires positions { limits.positions ≤ 16384 }
     requires states { limits.states ≤ 8192 }
     ensures table { IfOk result (λ d. TableFor (machine_of d (spec_of spec.now)) (spec_of spec.now)) }
     ensures conditions { IfOk result (λ d. conditions_of d ≡ length (conditions_in (spec_of spec.now))) }
+    ensures reached { IfOk result (λ d. (p : ℕ) → p < states_of d → IsReached (machine_of d (spec_of spec.now)) (spec_of spec.now) p) }
+    ensures laws { IfOk result (λ d. MachineLaws (machine_of d (spec_of spec.now))) }
     ensures states { IfOk result (λ d. Subsets (spec_of spec.now) (states_of d)) }
     ensures few_positions { IfOk result (λ d. all_positions (rules_in (spec_of spec.now)) ≤ limits.positions) }
     ensures few_states { IfOk result (λ d. states_of d ≤ limits.states) }

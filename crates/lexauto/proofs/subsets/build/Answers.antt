@@ -1,4 +1,4 @@
-use Rattle.std.proofs.Common.{List, Vec, Global, ◌≡◌, ◌*◌, ℕ, length, arith, refl, sym, ap, subst, ◌∙◌, Err}
+use Rattle.std.proofs.Common.{◌<◌, List, Vec, Global, ◌≡◌, ◌*◌, ℕ, length, arith, refl, sym, ap, subst, ◌∙◌, Err}
 use Rattle.std.proofs.lemmas.Result.{err_from_is_err_and}
 use Rattle.lexmeaning.specs.Subsets.{Subsets}
 use Rattle.lexspec.specs.declared.spec.Spec.{Spec}
@@ -13,7 +13,7 @@ use Rattle.lexauto.specs.WordKeys.{Surveys}
 use Rattle.lexauto.specs.Facts.{AcceptedBy, GoOnBy}
 use Rattle.lexauto.proofs.Places.{keys_length}
 use Rattle.lexauto.proofs.Counting.{counted}
-use Rattle.lexauto.proofs.Tables.{table_of}
+use Rattle.lexauto.proofs.Tables.{table_of, reached_of, laws_of}
 use Rattle.lexauto.proofs.Surveying.{starts_range, lines_range, next_range}
 use Rattle.lexauto.proofs.subsets.build.Goals as goal
 
@@ -65,6 +65,41 @@ returns-clause-table c =
     subst (λ (p : Spec). GoOnBy (spec_of p) keys c.in_ok-goes_on.goes_on.items) same
     (subst (λ (ks : List (Vec ℕ Global)). GoOnBy (spec_of c.in_ok-moves.moves.spec.now) (keys_in ks) c.in_ok-goes_on.goes_on.items) c.deref-2.ensures.value c.in_ok-goes_on.ensures.goes_on) in
     table_of S (spec_is_sound S c.args.spec.now.sound) keys found.next.items found.starts.items found.line_starts.items s (keys_in c.in_ok-accepts.accepts.items) c.in_ok-goes_on.goes_on.items accepted on
+
+pub returns-clause-reached : goal.returns-clause-reached
+returns-clause-reached c = λ p lt.
+    let S = spec_of c.args.spec.now in
+    let found = c.in_ok-found.found in
+    let keys = keys_in found.keys.items in
+    let same : c.in_ok-moves.moves.spec.now ≡ c.args.spec.now = c.in_ok-moves.ensures.0 in
+    let s : Surveys S keys found.next.items found.starts.items found.line_starts.items =
+    subst (λ (p : Spec). Surveys (spec_of p) keys found.next.items found.starts.items found.line_starts.items) same c.in_ok-found.ensures.ok in
+    let accepted : AcceptedBy S keys (keys_in c.in_ok-accepts.accepts.items) =
+    subst (λ (ks : List (Vec ℕ Global)). AcceptedBy S (keys_in ks) (keys_in c.in_ok-accepts.accepts.items)) c.deref.ensures.value c.in_ok-accepts.ensures.accepted in
+    let on : GoOnBy S keys c.in_ok-goes_on.goes_on.items =
+    subst (λ (p : Spec). GoOnBy (spec_of p) keys c.in_ok-goes_on.goes_on.items) same
+    (subst (λ (ks : List (Vec ℕ Global)). GoOnBy (spec_of c.in_ok-moves.moves.spec.now) (keys_in ks) c.in_ok-goes_on.goes_on.items) c.deref-2.ensures.value c.in_ok-goes_on.ensures.goes_on) in
+    let goes : length c.in_ok-goes_on.goes_on.items ≡ length found.keys.items = c.in_ok-goes_on.ensures.len ∙ ap length c.deref-2.ensures.value in
+    let low : p < length keys = omega (arith, goes, lt, keys_length found.keys.items) in
+    reached_of S (spec_is_sound S c.args.spec.now.sound) keys found.next.items found.starts.items found.line_starts.items s (keys_in c.in_ok-accepts.accepts.items) c.in_ok-goes_on.goes_on.items accepted on p low
+
+pub returns-clause-laws : goal.returns-clause-laws
+returns-clause-laws c =
+    let S = spec_of c.args.spec.now in
+    let found = c.in_ok-found.found in
+    let keys = keys_in found.keys.items in
+    let same : c.in_ok-moves.moves.spec.now ≡ c.args.spec.now = c.in_ok-moves.ensures.0 in
+    let s : Surveys S keys found.next.items found.starts.items found.line_starts.items =
+    subst (λ (p : Spec). Surveys (spec_of p) keys found.next.items found.starts.items found.line_starts.items) same c.in_ok-found.ensures.ok in
+    let accepted : AcceptedBy S keys (keys_in c.in_ok-accepts.accepts.items) =
+    subst (λ (ks : List (Vec ℕ Global)). AcceptedBy S (keys_in ks) (keys_in c.in_ok-accepts.accepts.items)) c.deref.ensures.value c.in_ok-accepts.ensures.accepted in
+    let on : GoOnBy S keys c.in_ok-goes_on.goes_on.items =
+    subst (λ (p : Spec). GoOnBy (spec_of p) keys c.in_ok-goes_on.goes_on.items) same
+    (subst (λ (ks : List (Vec ℕ Global)). GoOnBy (spec_of c.in_ok-moves.moves.spec.now) (keys_in ks) c.in_ok-goes_on.goes_on.items) c.deref-2.ensures.value c.in_ok-goes_on.ensures.goes_on) in
+    let goes : length c.in_ok-goes_on.goes_on.items ≡ length keys = c.in_ok-goes_on.ensures.len ∙ ap length c.deref-2.ensures.value ∙ sym (keys_length found.keys.items) in
+    let lists : length (keys_in c.in_ok-accepts.accepts.items) ≡ length keys =
+    keys_length c.in_ok-accepts.accepts.items ∙ c.in_ok-accepts.ensures.len ∙ ap length c.deref.ensures.value ∙ sym (keys_length found.keys.items) in
+    laws_of S (spec_is_sound S c.args.spec.now.sound) keys found.next.items found.starts.items found.line_starts.items s (keys_in c.in_ok-accepts.accepts.items) c.in_ok-goes_on.goes_on.items accepted on lists goes
 
 pub returns-clause-states : goal.returns-clause-states
 returns-clause-states c =
