@@ -9,8 +9,8 @@ use Rattle.lexkit.specs.Spelling.{ends_here, is_blank, all_pass, is_mark, IsRule
 use Rattle.lexkit.specs.FileViews.{texts_of, UnlessMemory}
 use Rattle.lexkit.specs.declared.errors.SpecErrorKind.{SpecErrorKind}
 use Rattle.lexkit.specs.declared.errors.SpecErrorKind.TheVariants.{NoRulesSection, BadDefinitionLine, Pattern, UnknownStatement, TooManyRules, TooLong, OutOfMemory}
-use Rattle.lexre.specs.declared.error.PatternErrorKind.{PatternErrorKind}
-use Rattle.lexre.specs.declared.error.PatternErrorKind.TheVariants as kinds
+use Rattle.lexclass.specs.declared.error.PatternErrorKind.{PatternErrorKind}
+use Rattle.lexclass.specs.declared.error.PatternErrorKind.TheVariants as kinds
 use Rattle.lexre.specs.Outcome.{UnlessMemory as UnlessPatternMemory}
 use Rattle.lexkit.proofs.OneSpec.{no_both, no_blanks_mark, one_rule}
 

@@ -2,7 +2,7 @@
 use Rattle.std.proofs.Common.{◌≡◌, ℕ, ◌+◌, Bool, true, false, List, [], ◌∷◌, ◌++◌, inl, inr, refl, sym, ◌∙◌, ap, subst, arith}
 use Rattle.std.specs.Prelude.{nat_eq, codes, take, drop, None}
 use Rattle.std.specs.FinMap.{empty, get}
-use Rattle.lexre.specs.Lexical.{symbol_at}
+use Rattle.lexclass.specs.Lexical.{symbol_at}
 use Rattle.std.proofs.lemmas.Bool.{and_parts, eqb-true}
 use Rattle.lexmeaning.specs.Tree.{Tree}
 use Rattle.lexmeaning.specs.Spec.{Spec, Rule, Statement}

@@ -5,12 +5,12 @@ ghost use Rattle.lexmeaning.specs.Shapes.{IsSoundTree};
 ghost use Rattle.lexre.specs.Views.{tree_of};
 
 use crate::braces::interval_at;
-use crate::expressions::class_at;
 use crate::{
     ByteSet, Cutting, Defs, DefsError, Lengths, Pattern, PatternError, PatternErrorKind,
     ReadOptions, cut_pattern, lengths, one_cutting, one_tree, positions, read_pattern,
     readings_use_own_positions,
 };
+use lexclass::class_at;
 use std::alloc::{AllocError, Global};
 use std::test::Fail;
 
