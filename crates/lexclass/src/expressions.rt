@@ -1,6 +1,6 @@
 //! The set of a class. (POSIX, Base Definitions, RE Bracket Expression.)
 ghost use Rattle.std.specs.Prelude.{◌≡◌, ◌≤◌, ℕ, Bool, List, Option, Some, None, true, suc, length, drop, MatchResult, IfOk};
-ghost use Rattle.lexmeaning.specs.ByteSets.{ByteSet, range_set};
+ghost use Rattle.lexmeaning.specs.ByteSets.{ByteSet, complement, range_set};
 ghost use Rattle.lexclass.specs.ClassSets.{class_set_at, member_at, members_at};
 ghost use Rattle.lexclass.specs.Lexical.{folded};
 ghost use Rattle.lexclass.specs.Members.{HasByte};
@@ -89,6 +89,13 @@ pub fn folded(fold: bool, set: ByteSet) -> ByteSet
     if fold { set.fold_case() } else { set }
 }
 
+/// The bytes that are not in the set, which has each letter in both cases under `fold` before. (flex, Scanner Options.)
+fn negated(fold: bool, set: ByteSet) -> ByteSet
+    ensures { result ≡ complement (folded fold set) }
+{
+    folded(fold, set).complement()
+}
+
 /// The set of a class, and what follows it. `class` is the text from its opening bracket on.
 pub fn class_at<'a>(class: &'a [u8], fold: bool) -> Result<(ByteSet, &'a [u8]), Fault<'a>>
     ensures set { MatchResult result
@@ -102,7 +109,7 @@ pub fn class_at<'a>(class: &'a [u8], fold: bool) -> Result<(ByteSet, &'a [u8]), 
             Ok(found) => found,
             Err(fault) => return Err(fault),
         };
-        let others = folded(fold, set).complement();
+        let others = negated(fold, set);
         if others.is_empty() {
             return Err(Fault {
                 kind: PatternErrorKind::EmptyClass,
