@@ -1,3 +1,6 @@
+pub mod RunLaws
+pub mod SkipLaws
+pub mod TextLaws
 pub mod TestLaws
 pub mod OneSection
 pub mod OneItems

@@ -2,7 +2,9 @@ pub mod Tests
 pub mod RuleViews
 pub mod Views
 pub mod Lines
+pub mod Runs
 pub mod DefinitionLines
+pub mod DefinitionViews
 pub mod Items
 pub mod RuleItems
 pub mod Files

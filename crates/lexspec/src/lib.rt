@@ -1,11 +1,16 @@
 //! Specifications of lex as values.
 #![tactic(auto)]
 
+mod definition;
+mod error;
 mod laws;
+mod lines;
 mod readers;
 mod rule;
+mod skipping;
 mod spec;
 
+pub use error::{SpecError, SpecErrorKind};
 pub use laws::{examples_of_lines, one_specification, tested_specifications, tested_trees};
 pub use lexaction::{Condition, EndAction, Statement};
 pub use rule::{Cut, Rule};
