@@ -6,3 +6,6 @@ pub mod OneSection
 pub mod OneItems
 pub mod OneSpec
 pub mod ComputedLines
+pub mod DeclaringLaws
+pub mod TakingLaws
+pub mod OutcomeLaws

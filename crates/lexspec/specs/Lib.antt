@@ -9,3 +9,5 @@ pub mod Items
 pub mod RuleItems
 pub mod Files
 pub mod LineExamples
+pub mod Outcome
+pub mod Declaring

@@ -1,12 +1,14 @@
 //! Specifications of lex as values.
 #![tactic(auto)]
 
+mod declarations;
 mod definition;
 mod error;
 mod laws;
 mod lines;
 mod readers;
 mod rule;
+mod skipped;
 mod skipping;
 mod spec;
 
