@@ -9,3 +9,4 @@ pub mod ComputedLines
 pub mod DeclaringLaws
 pub mod TakingLaws
 pub mod OutcomeLaws
+pub mod SectionLaws

@@ -11,3 +11,4 @@ pub mod Files
 pub mod LineExamples
 pub mod Outcome
 pub mod Declaring
+pub mod Sections
