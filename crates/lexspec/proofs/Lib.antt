@@ -10,3 +10,5 @@ pub mod DeclaringLaws
 pub mod TakingLaws
 pub mod OutcomeLaws
 pub mod SectionLaws
+pub mod ActionLaws
+pub mod SubjectLaws

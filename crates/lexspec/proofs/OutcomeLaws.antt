@@ -1,5 +1,5 @@
 -- What follows from a refusal.
-use Rattle.std.specs.Prelude.{Result, Ok, Err, OnOk, IfErr}
+use Rattle.std.specs.Prelude.{Result, Ok, Err, OnOk, OnErr, IfErr}
 use Rattle.lexre.specs.declared.error.PatternErrorKind.{PatternErrorKind}
 use Rattle.lexre.specs.declared.error.PatternErrorKind.TheVariants as P
 use Rattle.lexspec.specs.declared.error.SpecErrorKind.{SpecErrorKind}
@@ -105,3 +105,7 @@ on_ok (Err e) A B C f a b = tt
 pub if_err : {T : Type 0} (r : Result T SpecErrorKind) (F G : Type 0) → (F → G) → IfErr r (λ e. UnlessMemory e F) → IfErr r (λ e. UnlessMemory e G)
 if_err (Ok x) F G f h = tt
 if_err (Err e) F G f h = unless_memory e F G f h
+
+pub on_err : {T E : Type 0} (r : Result T E) (F : Type 0) → F → OnErr r F
+on_err (Ok x) F h = tt
+on_err (Err e) F h = h

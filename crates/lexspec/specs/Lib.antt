@@ -12,3 +12,5 @@ pub mod LineExamples
 pub mod Outcome
 pub mod Declaring
 pub mod Sections
+pub mod ActionViews
+pub mod SubjectViews

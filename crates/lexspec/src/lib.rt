@@ -1,6 +1,7 @@
 //! Specifications of lex as values.
 #![tactic(auto)]
 
+mod action_text;
 mod declarations;
 mod definition;
 mod error;
@@ -13,6 +14,7 @@ mod section;
 mod skipped;
 mod skipping;
 mod spec;
+mod subject;
 
 pub use error::{SpecError, SpecErrorKind};
 pub use laws::{examples_of_lines, one_specification, tested_specifications, tested_trees};

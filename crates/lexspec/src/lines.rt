@@ -48,6 +48,7 @@ pub(crate) fn skip_first(text: &[u8]) -> &[u8]
 pub(crate) fn split_line(text: &[u8]) -> (&[u8], &[u8])
     ensures line { line_in text.now ≡ (result.0.now, result.1.now) }
     ensures shorter { 0 < length text.now → length result.1.now < length text.now }
+    ensures within { length result.0.now ≤ length text.now }
 {
     let (line, rest) = split_before(|byte| byte == b'\n', text);
     (line, skip_first(rest))
