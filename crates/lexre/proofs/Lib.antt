@@ -1,10 +1,12 @@
 pub mod BraceLaws
 pub mod BracketLaws
 pub mod ClassLaws
+pub mod CountLaws
 pub mod CuttingLaws
 pub mod DefinitionLaws
 pub mod ElementLaws
 pub mod EscapeLaws
+pub mod FrontLaws
 pub mod GrammarLaws
 pub mod IntervalLaws
 pub mod LengthLaws
@@ -12,6 +14,8 @@ pub mod Narrowing
 pub mod OneTree
 pub mod PassingLaws
 pub mod QuoteLaws
+pub mod QuotedLaws
+pub mod ReaderLaws
 pub mod ReadingLaws
 pub mod Rows
 pub mod RunLaws

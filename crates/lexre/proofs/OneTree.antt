@@ -89,3 +89,7 @@ module _ (symbol_at : Lexer) (defined : List ℕ → Option (List ℕ)) (none : 
 
   pub one_tree : (d : ℕ) (text : List ℕ) (t t' : Tree) → SpellsWithin symbol_at defined d text t → SpellsWithin symbol_at defined d text t' → t ≡ t'
   one_tree d = unique_below (suc d) d (omega arith)
+
+  -- a symbol leads to at most one state
+  pub one_step : (s : Symbol) (st a b : State) → Steps symbol_at defined st s a → Steps symbol_at defined st s b → a ≡ b
+  one_step s st a b e f = same_step (limit st) (λ d h. one_tree d) s st a b (omega arith) e f

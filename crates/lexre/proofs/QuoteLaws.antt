@@ -83,7 +83,7 @@ same_after n m k None h same = refl
 same_after n m k (Some x) h same = ap (with_byte x.0) (same x.1 h)
 
 -- the number that bounds the bytes tells nothing once there is room
-enough : (n m : ℕ) (t : List ℕ) → length t < n → length t < m → quoted_at n t ≡ quoted_at m t
+pub enough : (n m : ℕ) (t : List ℕ) → length t < n → length t < m → quoted_at n t ≡ quoted_at m t
 unfolding quoted_at
 enough zero m t h k = absurd (omega arith)
 enough (suc n) zero t h k = absurd (omega arith)

@@ -1,5 +1,6 @@
 pub mod ClassSets
 pub mod Classes
+pub mod Counting
 pub mod Cutting
 pub mod Definitions
 pub mod Elements
@@ -7,11 +8,15 @@ pub mod Grammar
 pub mod Halves
 pub mod Lengths
 pub mod Lexical
+pub mod Outcome
 pub mod Passing
 pub mod Progress
+pub mod Quotes
+pub mod Reading
 pub mod Readings
 pub mod Running
 pub mod Spelling
+pub mod StackViews
 pub mod SymbolViews
 pub mod Symbols
 pub mod Views

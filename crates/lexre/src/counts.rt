@@ -1,7 +1,9 @@
 //! The positions of a pattern: the places of it that read a byte.
 ghost use Rattle.std.specs.Prelude.{◌≡◌, ◌<◌, ◌≤◌, ◌^◌, min, map, IfSome, IfNone};
 ghost use Rattle.lexmeaning.specs.Positions.{positions, positions_of};
+ghost use Rattle.lexmeaning.specs.Shapes.{nodes_of};
 ghost use Rattle.lexmeaning.specs.Tree.{trees};
+ghost use Rattle.lexre.specs.Counting.{capped_nodes};
 ghost use Rattle.lexre.specs.Views.{tree_of};
 
 use crate::pattern::Pattern;
@@ -45,6 +47,31 @@ fn capped_positions_of(parts: &[Pattern]) -> u64
     let mut total = 0;
     for part in parts {
         total = (total + capped_positions(part)).min(CAP);
+    }
+    total
+}
+
+/// How many nodes the pattern has, up to 4,294,967,296.
+#[cycle(nodes)]
+pub(crate) fn capped_nodes(pattern: &Pattern) -> u64
+    ensures { result ≡ capped_nodes (tree_of pattern.now) }
+{
+    match pattern {
+        Pattern::Empty | Pattern::Set(_) => 1,
+        Pattern::Cat(parts) => (1 + capped_nodes_of(parts)).min(CAP),
+        Pattern::Alt(parts) => (1 + capped_nodes_of(parts)).min(CAP),
+        Pattern::Star(inner) => (1 + capped_nodes(inner)).min(CAP),
+        Pattern::Repeat(inner, _, _) => (1 + capped_nodes(inner)).min(CAP),
+    }
+}
+
+#[cycle(nodes)]
+fn capped_nodes_of(parts: &[Pattern]) -> u64
+    ensures { result ≡ min (2 ^ 32) (nodes_of (trees (map tree_of parts.now))) }
+{
+    let mut total = 0;
+    for part in parts {
+        total = (total + capped_nodes(part)).min(CAP);
     }
     total
 }

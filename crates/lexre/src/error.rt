@@ -1,4 +1,8 @@
 //! Why a text is no pattern.
+ghost use Rattle.std.specs.Prelude.{◌≡◌};
+ghost use Rattle.lexre.specs.declared.error.PatternErrorKind.TheVariants.{OutOfMemory};
+
+use std::alloc::{AllocError, AllocFailed};
 use thiserror::Error;
 
 /// The reason, by its name. A fault inside a name's substitute is told of the name.
@@ -51,6 +55,22 @@ pub enum PatternErrorKind {
     MisplacedSlash,
     #[error("OutOfMemory")]
     OutOfMemory,
+}
+
+impl From<AllocError> for PatternErrorKind {
+    ghost from_gives = { λ _ e. e ≡ OutOfMemory };
+
+    fn from(_error: AllocError) -> PatternErrorKind {
+        PatternErrorKind::OutOfMemory
+    }
+}
+
+impl<T: Drop> From<AllocFailed<T>> for PatternErrorKind {
+    ghost from_gives = { λ _ e. e ≡ OutOfMemory };
+
+    fn from(_error: AllocFailed<T>) -> PatternErrorKind {
+        PatternErrorKind::OutOfMemory
+    }
 }
 
 /// The first fault that was met, and its place in the text, counted from 0.

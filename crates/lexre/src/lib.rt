@@ -13,14 +13,18 @@ mod elements;
 mod error;
 mod escapes;
 mod expressions;
+mod frames;
 mod laws;
+mod lexer;
 mod measures;
 mod parts;
 mod passing;
 mod pattern;
 mod quotes;
+mod reader;
 mod runs;
 mod sets;
+mod stack;
 mod symbols;
 
 pub use bounds::Lengths;
@@ -31,6 +35,7 @@ pub use error::{PatternError, PatternErrorKind};
 pub use laws::{one_cutting, one_tree, readings_use_own_positions};
 pub use measures::lengths;
 pub use pattern::Pattern;
+pub use reader::{ReadOptions, read_pattern};
 pub use sets::ByteSet;
 
 #[cfg(test)]

@@ -1,9 +1,19 @@
 //! Texts in quotes. (POSIX, lex, Regular Expressions in lex.)
-ghost use Rattle.std.specs.Prelude.{◌≡◌, Some, None, MatchResult, drop};
-ghost use Rattle.lexre.specs.Lexical.{after_quotes};
+ghost use Rattle.std.specs.Prelude.{◌≡◌, ◌<◌, ℕ, List, Option, Some, None, MatchResult, drop, option_map};
+ghost use Rattle.lexmeaning.specs.ByteSets.{single};
+ghost use Rattle.lexmeaning.specs.Shapes.{nodes};
+ghost use Rattle.lexmeaning.specs.Tree.{Set};
+ghost use Rattle.lexre.specs.Lexical.{after_quotes, folded, quoted_tree};
+ghost use Rattle.lexre.specs.Outcome.{UnlessMemory};
+ghost use Rattle.lexre.specs.Quotes.{quoted_byte_at, quoted_bytes};
+ghost use Rattle.lexre.specs.Views.{tree_of};
 
 use crate::error::{Fault, PatternErrorKind};
 use crate::escapes::escape_at;
+use crate::expressions::folded;
+use crate::pattern::Pattern;
+use crate::sets::ByteSet;
+use std::alloc::Global;
 
 /// What follows a text in quotes. The text handed in begins with the first quote, at which it is told that no other closes it.
 pub(crate) fn skip_quoted<'a>(text: &'a [u8]) -> Result<&'a [u8], Fault<'a>>
@@ -31,4 +41,92 @@ pub(crate) fn skip_quoted<'a>(text: &'a [u8]) -> Result<&'a [u8], Fault<'a>>
         kind: PatternErrorKind::UnclosedQuote,
         rest: text,
     })
+}
+
+/// A byte between quotes, and what follows it: an escape, or the byte itself.
+fn quoted_byte_at(text: &[u8]) -> Option<(u8, &[u8])>
+    ensures { ◌≡◌ {A = Option (ℕ × List ℕ)} (quoted_byte_at text.now) (option_map (λ x. (x.0, x.1.now)) result) }
+{
+    let (&byte, after) = text.split_first()?;
+    if byte == b'\\' {
+        escape_at(after)
+    } else {
+        Some((byte, after))
+    }
+}
+
+/// The bytes after an opening quote, and what follows the closing one. `quote` is the text from the opening quote on, at
+/// which it is told that no other closes it.
+pub(crate) fn quoted_at<'a>(
+    alloc: Global,
+    quote: &'a [u8],
+    text: &'a [u8],
+) -> Result<(Vec<u8>, &'a [u8]), Fault<'a>>
+    ensures { MatchResult result
+        (λ x. ◌≡◌ {A = Option (List ℕ × List ℕ)} (quoted_bytes text.now) (Some (x.0.items, x.1.now)))
+        (λ e. UnlessMemory e.kind (◌≡◌ {A = Option (List ℕ × List ℕ)} (quoted_bytes text.now) None)) }
+{
+    let mut bytes = Vec::new(alloc);
+    let mut rest = text;
+    while let Some((&first, after)) = rest.split_first() {
+        if first == b'"' {
+            return Ok((bytes, after));
+        }
+        if first == b'\n' {
+            break;
+        }
+        let Some((byte, beyond)) = quoted_byte_at(rest) else {
+            return Err(Fault {
+                kind: PatternErrorKind::BadEscape,
+                rest,
+            });
+        };
+        match bytes.push(byte) {
+            Ok(()) => rest = beyond,
+            Err(_) => {
+                return Err(Fault {
+                    kind: PatternErrorKind::OutOfMemory,
+                    rest,
+                });
+            }
+        }
+    }
+    Err(Fault {
+        kind: PatternErrorKind::UnclosedQuote,
+        rest: quote,
+    })
+}
+
+/// The pattern of one byte, in both cases under `fold`.
+pub(crate) fn byte_pattern(byte: u8, fold: bool) -> Pattern
+    ensures { tree_of result ≡ Set (folded fold (single byte)) }
+{
+    Pattern::Set(folded(fold, ByteSet::of(byte)))
+}
+
+/// The pattern of the bytes of a text in quotes. More nodes than a pattern may have are `TooBig`.
+#[tactic(auto, unfolding(crate::specs::Lexical::quoted_tree))]
+pub(crate) fn quoted_pattern(
+    alloc: Global,
+    bytes: &[u8],
+    fold: bool,
+) -> Result<Pattern, PatternErrorKind>
+    ensures { MatchResult result
+        (λ p. tree_of p ≡ quoted_tree fold bytes.now)
+        (λ e. UnlessMemory e (65536 < nodes (quoted_tree fold bytes.now))) }
+{
+    match bytes {
+        [] => Ok(Pattern::Empty),
+        [byte] => Ok(byte_pattern(*byte, fold)),
+        _ => {
+            if bytes.len() > 65535 {
+                return Err(PatternErrorKind::TooBig);
+            }
+            let mut parts = Vec::new(alloc);
+            for byte in bytes {
+                parts.push(byte_pattern(*byte, fold))?;
+            }
+            Ok(Pattern::Cat(parts))
+        }
+    }
 }

@@ -1,0 +1,12 @@
+use Rattle.std.proofs.Common.{◌≡◌, ◌+◌, ◌≤◌, ◌^◌, min, map, drop}
+use Rattle.lexmeaning.specs.Shapes.{nodes_of}
+use Rattle.lexmeaning.specs.Tree.{trees}
+use Rattle.lexre.specs.Views.{tree_of}
+use Rattle.lexre.proofs.counts.+nodes.Given as goal
+
+-- the sum so far and that of what is left
+abbrev pub invariant-capped_nodes_of-loop-part : goal.invariant-capped_nodes_of-loop-part
+invariant-capped_nodes_of-loop-part l = record {
+  at_most : l.total ≤ 2 ^ 32;
+  sum : min (2 ^ 32) (l.total + nodes_of (trees (map tree_of (drop l.part-index l.parts)))) ≡ min (2 ^ 32) (nodes_of (trees (map tree_of l.parts)));
+}

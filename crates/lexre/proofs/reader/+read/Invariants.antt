@@ -1,0 +1,30 @@
+use Rattle.std.proofs.Common.{◌≡◌, ◌+◌, ◌*◌, ◌≤◌, length, []}
+use Rattle.std.specs.FinMap.{get}
+use Rattle.lexre.specs.Counting.{state_nodes}
+use Rattle.lexre.specs.Lexical.{symbol_at}
+use Rattle.lexre.specs.Running.{state, fresh}
+use Rattle.lexre.specs.StackViews.{state_of}
+use Rattle.lexre.proofs.OneTree.{limit}
+use Rattle.lexre.proofs.ReaderLaws.{Agree, nothing_at}
+use Rattle.lexre.proofs.reader.+read.Given as goal
+
+abbrev pub decreases-read_name : goal.decreases-read_name
+decreases-read_name l = 3 * l.left
+
+abbrev pub decreases-read_within : goal.decreases-read_within
+decreases-read_within l = 3 * l.left + 2
+
+abbrev pub decreases-step : goal.decreases-step
+decreases-step l = 3 * l.stack.now.left + 1
+
+-- what is left to read gives what the whole text gives, and the nodes so far are counted
+abbrev pub invariant-read_within-loop-rest : goal.invariant-read_within-loop-rest
+invariant-read_within-loop-rest l = record {
+  agree : Agree (symbol_at l.fold) (get l.defs) (nothing_at l.fold) (state_of l.stack) l.rest (state fresh [] l.left) l.text;
+  within : limit (state_of l.stack) ≡ l.left;
+  counted : state_nodes (state_of l.stack) ≡ l.nodes;
+  few : l.nodes ≤ l.room;
+}
+
+abbrev pub decreases-read_within-loop-rest : goal.decreases-read_within-loop-rest
+decreases-read_within-loop-rest l = length l.rest

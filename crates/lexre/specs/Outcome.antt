@@ -1,0 +1,20 @@
+-- What a refusal tells.
+use Rattle.std.specs.Prelude.{◌≡◌, ℕ, ◌<◌, List, Option, Some, ⊤}
+use Rattle.lexmeaning.specs.Shapes.{nodes}
+use Rattle.lexre.specs.Symbols.{Symbol, item}
+use Rattle.lexre.specs.declared.error.PatternErrorKind.{PatternErrorKind}
+use Rattle.lexre.specs.declared.error.PatternErrorKind.TheVariants.{OutOfMemory}
+
+-- the fact, unless memory ran out
+abbrev pub UnlessMemory : PatternErrorKind → Type 0 → Type 0
+UnlessMemory OutOfMemory P = ⊤
+UnlessMemory _ P = P
+
+-- how many nodes the tree of a symbol has
+abbrev pub size_of : Symbol → ℕ
+size_of (item t) = nodes t
+size_of _ = 0
+
+-- what begins a text is no symbol, or one that has too many nodes by itself
+abbrev pub IsRefused : Option (Symbol × List ℕ) → Type 0
+IsRefused front = (s : Symbol) (rest : List ℕ) → ◌≡◌ {A = Option (Symbol × List ℕ)} front (Some (s, rest)) → 65536 < size_of s

@@ -1,0 +1,39 @@
+-- What the reader of patterns reads, by how many parentheses and names may be open.
+use Rattle.std.specs.Prelude.{ℕ, zero, suc, ◌≤◌, Bool, false, ◌||◌, ◌&&◌, ◌==◌, nat_eq, List, [], ◌∷◌, Vec}
+use Rattle.std.specs.FinMap.{get}
+use lib.Pointwise.{pointwise}
+use Rattle.lexmeaning.specs.ByteSets.{is_digit}
+use Rattle.lexmeaning.specs.Tree.{Tree}
+use Rattle.lexmeaning.specs.Shapes.{nodes}
+use Rattle.lexre.specs.Definitions.{Definitions}
+use Rattle.lexre.specs.Grammar.{SpellsWithin}
+use Rattle.lexre.specs.Lexical.{symbol_at}
+use Rattle.lexre.specs.Running.{State, Stands, Steps}
+use Rattle.lexre.specs.Symbols.{Symbol}
+
+-- the text is a pattern, and this is its tree
+abbrev pub SpellsIn : Bool → Definitions → ℕ → List ℕ → Tree → Type 0
+SpellsIn fold defs d text t = SpellsWithin (symbol_at fold) (get defs) d text t
+
+-- the name may be opened, and this is its tree
+abbrev pub StandsIn : Bool → Definitions → ℕ → List ℕ → Tree → Type 0
+StandsIn fold defs zero n t = ⊥
+StandsIn fold defs (suc d) n t = Stands (symbol_at fold) (get defs) d n t
+
+-- the state after a symbol
+abbrev pub StepsIn : Bool → Definitions → State → Symbol → State → Type 0
+StepsIn fold defs st s after = Steps (symbol_at fold) (get defs) st s after
+
+-- no tree of so few nodes
+abbrev pub NoneWithin : ℕ → (Tree → Type 0) → Type 0
+NoneWithin most P = (t : Tree) → P t → nodes t ≤ most → ⊥
+
+-- an opening brace, and a digit
+abbrev pub begins_interval : List ℕ → Bool
+begins_interval (c ∷ d ∷ t) = c == 123 && is_digit d
+begins_interval _ = false
+
+-- the name is one of these
+abbrev pub is_among : {Y : Type 0} → List ℕ → List (Vec ℕ Y) → Bool
+is_among name [] = false
+is_among name (v ∷ vs) = pointwise nat_eq v.items name || is_among name vs

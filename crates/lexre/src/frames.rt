@@ -1,0 +1,28 @@
+//! A pattern as far as it was read. Its methods are in `stack`.
+ghost use Rattle.std.specs.Prelude.{◌+◌, ◌≤◌, vec_len};
+
+use crate::pattern::Pattern;
+
+/// A pattern inside its parentheses, as far as it was read.
+#[derive(Drop)]
+pub(crate) struct Frame {
+    /// Where its opening parenthesis stands.
+    pub(crate) opening: usize,
+    /// Its finished series.
+    pub(crate) done: Vec<Pattern>,
+    /// The parts of the series that is being read, before its last.
+    pub(crate) parts: Vec<Pattern>,
+    pub(crate) last: Option<Pattern>,
+    /// How many signs the last part has.
+    pub(crate) signs: u8,
+}
+
+#[derive(Drop)]
+pub(crate) struct Stack {
+    pub(crate) here: Frame,
+    /// The patterns round it, the outermost first.
+    pub(crate) outer: Vec<Frame>,
+    /// How many more may be opened.
+    pub(crate) left: u8,
+    ghost within_limit: { vec_len outer + left ≤ 64 },
+}

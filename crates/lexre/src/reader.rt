@@ -1,0 +1,234 @@
+//! Reads patterns. (POSIX, lex, Regular Expressions in lex; flex, Patterns. The bounds are this project's.)
+ghost use Rattle.std.specs.Prelude.{◌≡◌, ◌+◌, ◌≤◌, ℕ, IfOk, IfErr};
+ghost use Rattle.lexmeaning.specs.Shapes.{nodes};
+ghost use Rattle.lexmeaning.specs.Tree.{Tree};
+ghost use Rattle.lexre.specs.Counting.{state_nodes};
+ghost use Rattle.lexre.specs.Outcome.{UnlessMemory};
+ghost use Rattle.lexre.specs.Reading.{NoneWithin, SpellsIn, StandsIn, StepsIn, begins_interval, is_among};
+ghost use Rattle.lexre.specs.Running.{State};
+ghost use Rattle.lexre.specs.Spelling.{Spells};
+ghost use Rattle.lexre.specs.StackViews.{state_of};
+ghost use Rattle.lexre.specs.SymbolViews.{symbol_of};
+ghost use Rattle.lexre.specs.Views.{tree_of};
+ghost use Rattle.lexre.specs.declared.error.PatternErrorKind.TheVariants.{OutOfMemory};
+
+use crate::classes::Class;
+use crate::definitions::Defs;
+use crate::error::{Fault, PatternError, PatternErrorKind};
+use crate::frames::Stack;
+use crate::lexer::symbol_at;
+use crate::pattern::Pattern;
+use crate::symbols::Symbol;
+use std::alloc::Global;
+
+/// How a pattern is read.
+#[derive(Clone, Copy)]
+pub struct ReadOptions {
+    /// Whether letters stand for both cases. (flex, Scanner Options: case-insensitive.)
+    pub fold: bool,
+}
+
+/// Whether the text begins with an opening brace and a digit.
+fn begins_interval(text: &[u8]) -> bool
+    ensures { result ≡ begins_interval text.now }
+{
+    match text {
+        [first, second, ..] => *first == b'{' && Class::Digit.contains(*second),
+        _ => false,
+    }
+}
+
+/// What is told of a fault in the text that stands at this place: an interval that is bad in itself is told after what
+/// lacks to its left.
+fn told(stack: &Stack, fault: Fault, text: &[u8], at: usize) -> PatternError
+    ensures { fault.entry.kind ≡ OutOfMemory → result.kind ≡ OutOfMemory }
+{
+    let kind = match fault.kind {
+        PatternErrorKind::BadInterval if begins_interval(text) => {
+            stack.repeat_fault().unwrap_or(fault.kind)
+        }
+        other => other,
+    };
+    let inside = text.len().saturating_sub(fault.rest.len());
+    PatternError {
+        kind,
+        at: at.saturating_add(inside),
+    }
+}
+
+/// Whether the name is one of these.
+fn is_among(name: &[u8], names: &[Vec<u8>]) -> bool
+    ensures { result ≡ is_among name.now names.now }
+{
+    for known in names {
+        if known.as_slice() == name {
+            return true;
+        }
+    }
+    false
+}
+
+/// What is told of a name whose substitute has this fault. A name inside its own substitute is read on until no more may
+/// be opened, and is told as a cycle then.
+fn told_of_name(kind: PatternErrorKind, cyclic: bool) -> PatternErrorKind
+    ensures { kind ≡ OutOfMemory → result ≡ OutOfMemory }
+{
+    match kind {
+        PatternErrorKind::OutOfMemory => PatternErrorKind::OutOfMemory,
+        _ if cyclic => PatternErrorKind::DefinitionCycle,
+        other => other,
+    }
+}
+
+/// The pattern that a name stands for, where so many parentheses and names may be opened, of at most `room` nodes. `open`
+/// has the names that are being read.
+#[cycle(read)]
+fn read_name(
+    alloc: Global,
+    name: &[u8],
+    defs: &Defs,
+    fold: bool,
+    left: u8,
+    room: u64,
+    open: &mut Vec<Vec<u8>>,
+) -> Result<Pattern, PatternErrorKind>
+    requires left { left ≤ 64 }
+    requires room { room ≤ 65536 }
+    ensures found { IfOk result (λ p. StandsIn fold defs.now left name.now (tree_of p)) }
+    ensures few { IfOk result (λ p. nodes (tree_of p) ≤ room) }
+    ensures none { IfErr result (λ e. UnlessMemory e (NoneWithin room (StandsIn fold defs.now left name.now))) }
+{
+    let Some(substitute) = defs.find(name) else {
+        return Err(PatternErrorKind::UndefinedName);
+    };
+    let cyclic = is_among(name, open);
+    if left == 0 {
+        return Err(told_of_name(PatternErrorKind::TooDeep, cyclic));
+    }
+    open.push(Vec::from_slice(alloc, name)?)?;
+    match read_within(alloc, substitute, defs, fold, left - 1, room, open) {
+        Ok(pattern) => {
+            open.pop();
+            Ok(pattern)
+        }
+        Err(error) => Err(told_of_name(error.kind, cyclic)),
+    }
+}
+
+/// Takes a symbol that stands at this place, and answers how many nodes it brings: at most `room`.
+#[cycle(read)]
+fn step(
+    alloc: Global,
+    stack: &mut Stack,
+    symbol: Symbol,
+    at: usize,
+    defs: &Defs,
+    fold: bool,
+    room: u64,
+    open: &mut Vec<Vec<u8>>,
+) -> Result<u64, PatternErrorKind>
+    requires { room ≤ 65536 }
+    ensures found { IfOk result (λ n. StepsIn fold defs.now (state_of stack.old) (symbol_of symbol.entry) (state_of stack.new)) }
+    ensures few { IfOk result (λ n. n ≤ room) }
+    ensures counted { IfOk result (λ n. state_nodes (state_of stack.new) ≡ state_nodes (state_of stack.old) + n) }
+    ensures none { IfErr result (λ e. UnlessMemory e
+        ((after : State) → StepsIn fold defs.now (state_of stack.old) (symbol_of symbol.entry) after → state_nodes after ≤ state_nodes (state_of stack.old) + room → ⊥)) }
+{
+    let added = match symbol {
+        Symbol::Name(name) => {
+            let item = read_name(alloc, name, defs, fold, stack.left, room, open)?;
+            stack.push(item)?
+        }
+        plain => stack.take(alloc, plain, at)?,
+    };
+    if added > room {
+        return Err(PatternErrorKind::TooBig);
+    }
+    Ok(added)
+}
+
+/// The pattern of a text in which so many parentheses and names may be opened, of at most `room` nodes. `open` has the
+/// names that are being read.
+#[cycle(read)]
+fn read_within(
+    alloc: Global,
+    text: &[u8],
+    defs: &Defs,
+    fold: bool,
+    left: u8,
+    room: u64,
+    open: &mut Vec<Vec<u8>>,
+) -> Result<Pattern, PatternError>
+    requires left { left ≤ 64 }
+    requires room { room ≤ 65536 }
+    ensures found { IfOk result (λ p. SpellsIn fold defs.now left text.now (tree_of p)) }
+    ensures few { IfOk result (λ p. nodes (tree_of p) ≤ room) }
+    ensures none { IfErr result (λ e. UnlessMemory e.kind (NoneWithin room (SpellsIn fold defs.now left text.now))) }
+{
+    let mut stack = Stack::new(alloc, left);
+    let mut nodes = 0;
+    let mut rest = text;
+    while !rest.is_empty() {
+        let at = text.len().saturating_sub(rest.len());
+        let (symbol, after) = match symbol_at(alloc, rest, fold) {
+            Ok(found) => found,
+            Err(fault) => return Err(told(&stack, fault, rest, at)),
+        };
+        match step(
+            alloc,
+            &mut stack,
+            symbol,
+            at,
+            defs,
+            fold,
+            room - nodes,
+            open,
+        ) {
+            Ok(added) => nodes += added,
+            Err(kind) => return Err(PatternError { kind, at }),
+        }
+        rest = after;
+    }
+    let opening = stack.here.opening;
+    match stack.finish() {
+        Ok(pattern) => Ok(pattern),
+        Err(PatternErrorKind::UnbalancedParen) => Err(PatternError {
+            kind: PatternErrorKind::UnbalancedParen,
+            at: opening,
+        }),
+        Err(kind) => Err(PatternError {
+            kind,
+            at: text.len(),
+        }),
+    }
+}
+
+/// Reads a pattern. The whole text has to be one: what a rule has besides, as `^`, `$` and `/`, is taken off before.
+/// Offsets are from 0. (POSIX, lex, Regular Expressions in lex; flex, Patterns.)
+///
+/// The first fault from the left is told, at the place of its sign; where an operand was expected, at the byte there, or
+/// the end. A fault inside a substitute is told at the `{` of the text that was handed in, and want of memory at 0.
+pub fn read_pattern(
+    alloc: Global,
+    text: &[u8],
+    defs: &Defs,
+    options: ReadOptions,
+) -> Result<Pattern, PatternError>
+    ensures found { IfOk result (λ p. Spells options.fold defs.now text.now (tree_of p)) }
+    ensures none { IfErr result (λ e. UnlessMemory e.kind ((t : Tree) → Spells options.fold defs.now text.now t → ⊥)) }
+{
+    let mut open = Vec::new(alloc);
+    match read_within(alloc, text, defs, options.fold, 64, 65536, &mut open) {
+        Ok(pattern) => Ok(pattern),
+        Err(
+            PatternError {
+                kind: PatternErrorKind::OutOfMemory,
+                ..
+            },
+        ) => Err(PatternError {
+            kind: PatternErrorKind::OutOfMemory,
+            at: 0,
+        }),
+        Err(error) => Err(error),
+    }
+}

@@ -1,0 +1,246 @@
+//! A pattern as far as it was read. (POSIX, lex, Regular Expressions in lex; flex, Patterns.)
+ghost use Rattle.std.specs.Prelude.{◌≡◌, ◌+◌, ◌≤◌, ℕ, List, Option, [], Some, None, map, MatchResult, IfOk, IfErr, IfSome, OnOk};
+ghost use Rattle.lexmeaning.specs.Tree.{Repeat, Tree};
+ghost use Rattle.lexre.specs.Counting.{adds, closing_adds, extra, item_adds};
+ghost use Rattle.lexre.specs.Grammar.{choice_tree, series_tree};
+ghost use Rattle.lexre.specs.Outcome.{UnlessMemory};
+ghost use Rattle.lexre.specs.Running.{State, closed, finished, fresh, onto_last, opened, parted, push, pushed, state, step_of};
+ghost use Rattle.lexre.specs.StackViews.{StepsTo, frame_of, state_of};
+ghost use Rattle.lexre.specs.SymbolViews.{sign_of, symbol_of};
+ghost use Rattle.lexre.specs.Symbols.{signed};
+ghost use Rattle.lexre.specs.Views.{tree_of};
+ghost use Rattle.lexre.specs.declared.error.PatternErrorKind.TheVariants.{OutOfMemory};
+
+use crate::counts::capped_nodes;
+use crate::error::PatternErrorKind;
+use crate::frames::{Frame, Stack};
+use crate::pattern::Pattern;
+use crate::symbols::{Sign, Symbol};
+use std::alloc::Global;
+use std::mem;
+
+/// The pattern of a series: a part alone is itself.
+fn series(mut parts: Vec<Pattern>, last: Pattern) -> Result<Pattern, PatternErrorKind>
+    ensures { MatchResult result (λ p. tree_of p ≡ series_tree (map tree_of parts.items) (tree_of last)) (λ e. e ≡ OutOfMemory) }
+{
+    if parts.is_empty() {
+        return Ok(last);
+    }
+    parts.push(last)?;
+    Ok(Pattern::Cat(parts))
+}
+
+/// The pattern of a choice: a series alone is itself.
+fn choice(mut done: Vec<Pattern>, last: Pattern) -> Result<Pattern, PatternErrorKind>
+    ensures { MatchResult result (λ p. tree_of p ≡ choice_tree (map tree_of done.items) (tree_of last)) (λ e. e ≡ OutOfMemory) }
+{
+    if done.is_empty() {
+        return Ok(last);
+    }
+    done.push(last)?;
+    Ok(Pattern::Alt(done))
+}
+
+impl Frame {
+    fn new(alloc: Global, opening: usize) -> Frame
+        ensures { frame_of result ≡ fresh }
+    {
+        Frame {
+            opening,
+            done: Vec::new(alloc),
+            parts: Vec::new(alloc),
+            last: None,
+            signs: 0,
+        }
+    }
+
+    /// How many nodes the next item brings besides its own.
+    fn extra(&self) -> u64
+        ensures { result ≡ extra (frame_of self.now) }
+    {
+        let begins = match &self.last {
+            Some(_) => self.parts.is_empty(),
+            None => self.done.len() == 1,
+        };
+        u64::from(begins)
+    }
+
+    fn push(&mut self, item: Pattern) -> Result<(), PatternErrorKind>
+        ensures { MatchResult result (λ _. frame_of self.new ≡ pushed (tree_of item) (frame_of self.old)) (λ e. e ≡ OutOfMemory) }
+    {
+        if let Some(last) = self.last.take() {
+            self.parts.push(last)?;
+        }
+        self.last = Some(item);
+        self.signs = 0;
+        Ok(())
+    }
+}
+
+impl Stack {
+    /// Nothing read, and so many parentheses and names that may be opened.
+    pub(crate) fn new(alloc: Global, left: u8) -> Stack
+        requires { left ≤ 64 }
+        ensures { state_of result ≡ state fresh [] left }
+    {
+        Stack {
+            here: Frame::new(alloc, 0),
+            outer: Vec::new(alloc),
+            left,
+        }
+    }
+
+    /// Takes an item, and answers how many nodes it brings.
+    pub(crate) fn push(&mut self, item: Pattern) -> Result<u64, PatternErrorKind>
+        ensures { StepsTo result (Some (push (tree_of item) (state_of self.old))) (item_adds (tree_of item) (state_of self.old)) (state_of self.new) }
+    {
+        let added = capped_nodes(&item) + self.here.extra();
+        self.here.push(item)?;
+        Ok(added)
+    }
+
+    /// Opens a parenthesis, which stands at this place.
+    fn open(&mut self, alloc: Global, at: usize) -> Result<u64, PatternErrorKind>
+        ensures { StepsTo result (opened (state_of self.old)) 0 (state_of self.new) }
+    {
+        if self.left == 0 {
+            return Err(PatternErrorKind::TooDeep);
+        }
+        self.left -= 1;
+        let outside = mem::replace(&mut self.here, Frame::new(alloc, at));
+        self.outer.push(outside)?;
+        Ok(0)
+    }
+
+    /// Closes a parenthesis.
+    fn close(&mut self) -> Result<u64, PatternErrorKind>
+        ensures { StepsTo result (closed (state_of self.old)) (closing_adds (state_of self.old)) (state_of self.new) }
+    {
+        let Some(last) = self.here.last.take() else {
+            return Err(PatternErrorKind::MissingOperand);
+        };
+        let Some(outside) = self.outer.pop() else {
+            return Err(PatternErrorKind::UnbalancedParen);
+        };
+        let added = outside.extra();
+        let inside = mem::replace(&mut self.here, outside);
+        let last = series(inside.parts, last)?;
+        let item = choice(inside.done, last)?;
+        self.left += 1;
+        self.here.push(item)?;
+        Ok(added)
+    }
+
+    /// Ends a series at a bar.
+    fn part(&mut self, alloc: Global) -> Result<u64, PatternErrorKind>
+        ensures { StepsTo result (parted (state_of self.old)) 0 (state_of self.new) }
+    {
+        let Some(last) = self.here.last.take() else {
+            return Err(PatternErrorKind::MissingOperand);
+        };
+        let parts = mem::replace(&mut self.here.parts, Vec::new(alloc));
+        let whole = series(parts, last)?;
+        self.here.done.push(whole)?;
+        self.here.signs = 0;
+        Ok(0)
+    }
+
+    /// What the place lacks where a sign or an interval stands: an item to its left, or room for one more on it.
+    pub(crate) fn repeat_fault(&self) -> Option<PatternErrorKind>
+        ensures never { IfSome result (λ kind. (f : Tree → Tree) → onto_last f (state_of self.now) ≡ None) }
+        ensures memory { IfSome result (λ kind. kind ≡ OutOfMemory → ⊥) }
+    {
+        if self.here.last.is_none() {
+            Some(PatternErrorKind::MissingOperand)
+        } else if self.here.signs >= 64 {
+            Some(PatternErrorKind::TooDeep)
+        } else {
+            None
+        }
+    }
+
+    /// Repeats the last part, as the sign says.
+    fn sign(&mut self, alloc: Global, sign: Sign) -> Result<u64, PatternErrorKind>
+        ensures { StepsTo result (onto_last (signed (sign_of sign)) (state_of self.old)) 1 (state_of self.new) }
+    {
+        let Some(last) = self.here.last.take() else {
+            return Err(PatternErrorKind::MissingOperand);
+        };
+        if self.here.signs >= 64 {
+            return Err(PatternErrorKind::TooDeep);
+        }
+        let inner = Box::new(alloc, last)?;
+        let repeated = match sign {
+            Sign::AnyTimes => Pattern::Star(inner),
+            Sign::OnceOrMore => Pattern::Repeat(inner, 1, None),
+            Sign::AtMostOnce => Pattern::Repeat(inner, 0, Some(1)),
+        };
+        self.here.last = Some(repeated);
+        self.here.signs += 1;
+        Ok(1)
+    }
+
+    /// Repeats the last part, as the interval says.
+    fn interval(
+        &mut self,
+        alloc: Global,
+        least: u8,
+        most: Option<u8>,
+    ) -> Result<u64, PatternErrorKind>
+        ensures { StepsTo result (onto_last (λ t. Repeat t least most) (state_of self.old)) 1 (state_of self.new) }
+    {
+        let Some(last) = self.here.last.take() else {
+            return Err(PatternErrorKind::MissingOperand);
+        };
+        if self.here.signs >= 64 {
+            return Err(PatternErrorKind::TooDeep);
+        }
+        let inner = Box::new(alloc, last)?;
+        self.here.last = Some(Pattern::Repeat(inner, least, most));
+        self.here.signs += 1;
+        Ok(1)
+    }
+
+    /// Takes a symbol that stands at this place and is no name, and answers how many nodes it brings.
+    pub(crate) fn take(
+        &mut self,
+        alloc: Global,
+        symbol: Symbol,
+        at: usize,
+    ) -> Result<u64, PatternErrorKind>
+        ensures { StepsTo result (step_of (symbol_of symbol.entry) (state_of self.old)) (adds (symbol_of symbol.entry) (state_of self.old)) (state_of self.new) }
+    {
+        match symbol {
+            Symbol::Item(item) => self.push(item),
+            Symbol::Name(_) => Err(PatternErrorKind::UndefinedName),
+            Symbol::Opening => self.open(alloc, at),
+            Symbol::Closing => self.close(),
+            Symbol::Bar => self.part(alloc),
+            Symbol::Sign(sign) => self.sign(alloc, sign),
+            Symbol::Interval(least, most) => self.interval(alloc, least, most),
+        }
+    }
+
+    /// The whole pattern, at the end of the text.
+    pub(crate) fn finish(self) -> Result<Pattern, PatternErrorKind>
+        ensures { MatchResult result
+            (λ p. finished (state_of self) ≡ Some (tree_of p))
+            (λ e. UnlessMemory e (finished (state_of self) ≡ None)) }
+    {
+        let Stack { here, outer, .. } = self;
+        let Frame {
+            done,
+            parts,
+            last,
+            ..
+        } = here;
+        let Some(last) = last else {
+            return Err(PatternErrorKind::MissingOperand);
+        };
+        if !outer.is_empty() {
+            return Err(PatternErrorKind::UnbalancedParen);
+        }
+        let last = series(parts, last)?;
+        choice(done, last)
+    }
+}
