@@ -12,3 +12,4 @@ pub mod OutcomeLaws
 pub mod SectionLaws
 pub mod ActionLaws
 pub mod SubjectLaws
+pub mod ListedLaws

@@ -2,11 +2,12 @@
 use Rattle.std.specs.Prelude.{Result, Ok, Err, OnOk, OnErr, IfErr}
 use Rattle.lexre.specs.declared.error.PatternErrorKind.{PatternErrorKind}
 use Rattle.lexre.specs.declared.error.PatternErrorKind.TheVariants as P
+use Rattle.lexre.specs.Outcome as O
 use Rattle.lexspec.specs.declared.error.SpecErrorKind.{SpecErrorKind}
 use Rattle.lexspec.specs.declared.error.SpecErrorKind.TheVariants as K
-use Rattle.lexspec.specs.Outcome.{UnlessMemory, UnlessMemoryOfPattern}
+use Rattle.lexspec.specs.Outcome.{UnlessMemory}
 
-pub unless_of_pattern : (kind : PatternErrorKind) (F G : Type 0) → (F → G) → UnlessMemoryOfPattern kind F → UnlessMemoryOfPattern kind G
+pub unless_of_pattern : (kind : PatternErrorKind) (F G : Type 0) → (F → G) → O.UnlessMemory kind F → O.UnlessMemory kind G
 unless_of_pattern P.OutOfMemory F G f h = tt
 unless_of_pattern P.UnclosedQuote F G f h = f h
 unless_of_pattern P.UnclosedClass F G f h = f h
@@ -52,7 +53,7 @@ unless_memory K.TooManyRules F G f h = f h
 unless_memory K.TooManyConditions F G f h = f h
 unless_memory K.TooLong F G f h = f h
 
-pub always_of_pattern : (kind : PatternErrorKind) (F : Type 0) → F → UnlessMemoryOfPattern kind F
+pub always_of_pattern : (kind : PatternErrorKind) (F : Type 0) → F → O.UnlessMemory kind F
 always_of_pattern P.OutOfMemory F h = tt
 always_of_pattern P.UnclosedQuote F h = h
 always_of_pattern P.UnclosedClass F h = h

@@ -1,32 +1,12 @@
 -- What a refusal means.
-use Rattle.lexre.specs.declared.error.PatternErrorKind.{PatternErrorKind}
-use Rattle.lexre.specs.declared.error.PatternErrorKind.TheVariants as P
+use Rattle.lexre.specs.Outcome as P
 use Rattle.lexspec.specs.declared.error.SpecErrorKind.{SpecErrorKind}
 use Rattle.lexspec.specs.declared.error.SpecErrorKind.TheVariants as K
-
--- the fact, unless memory ran out
-abbrev pub UnlessMemoryOfPattern : PatternErrorKind → Type 0 → Type 0
-UnlessMemoryOfPattern P.OutOfMemory F = Unit {0}
-UnlessMemoryOfPattern P.UnclosedQuote F = F
-UnlessMemoryOfPattern P.UnclosedClass F = F
-UnlessMemoryOfPattern P.BadRange F = F
-UnlessMemoryOfPattern P.EmptyClass F = F
-UnlessMemoryOfPattern P.UnknownClassName F = F
-UnlessMemoryOfPattern P.UnsupportedBracket F = F
-UnlessMemoryOfPattern P.BadEscape F = F
-UnlessMemoryOfPattern P.BadInterval F = F
-UnlessMemoryOfPattern P.UnbalancedParen F = F
-UnlessMemoryOfPattern P.MissingOperand F = F
-UnlessMemoryOfPattern P.UndefinedName F = F
-UnlessMemoryOfPattern P.DefinitionCycle F = F
-UnlessMemoryOfPattern P.TooDeep F = F
-UnlessMemoryOfPattern P.TooBig F = F
-UnlessMemoryOfPattern P.MisplacedSlash F = F
 
 -- the fact, unless memory ran out, also inside a pattern
 abbrev pub UnlessMemory : SpecErrorKind → Type 0 → Type 0
 UnlessMemory K.OutOfMemory F = Unit {0}
-UnlessMemory (K.Pattern e) F = UnlessMemoryOfPattern e.kind F
+UnlessMemory (K.Pattern e) F = P.UnlessMemory e.kind F
 UnlessMemory K.NoRulesSection F = F
 UnlessMemory K.BadDefinitionLine F = F
 UnlessMemory K.DuplicateName F = F

@@ -35,7 +35,8 @@ pub(crate) struct Declarations {
 /// The number of the condition with the name.
 pub(crate) fn number_of(conditions: &[Condition], name: &[u8]) -> Option<u8>
     requires { length conditions.now ≤ 255 }
-    ensures { result ≡ number_from 0 (names_of conditions.now) name.now }
+    ensures number { result ≡ number_from 0 (names_of conditions.now) name.now }
+    ensures below { IfSome result (λ n. n < length conditions.now) }
 {
     for i in 0..conditions.len() {
         if conditions[i].name.as_slice() == name {

@@ -7,6 +7,7 @@ mod definition;
 mod error;
 mod laws;
 mod lines;
+mod listed;
 mod newlines;
 mod readers;
 mod rule;
