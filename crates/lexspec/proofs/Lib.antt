@@ -13,3 +13,4 @@ pub mod SectionLaws
 pub mod ActionLaws
 pub mod SubjectLaws
 pub mod ListedLaws
+pub mod CutLaws

@@ -2,6 +2,7 @@
 #![tactic(auto)]
 
 mod action_text;
+mod cuts;
 mod declarations;
 mod definition;
 mod error;
