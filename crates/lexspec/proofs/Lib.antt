@@ -14,3 +14,4 @@ pub mod ActionLaws
 pub mod SubjectLaws
 pub mod ListedLaws
 pub mod CutLaws
+pub mod RulesLaws

@@ -14,3 +14,4 @@ pub mod Declaring
 pub mod Sections
 pub mod ActionViews
 pub mod SubjectViews
+pub mod RuleReads

@@ -1,0 +1,284 @@
+-- The rules section, item by item.
+use Rattle.std.proofs.Common.{◌≡◌, ℕ, zero, suc, ◌+◌, ◌-◌, ◌<◌, ◌≤◌, Bool, true, false, List, [], ◌∷◌, ◌++◌, map, length, ◌⊎◌, inl, inr, Option, Some, None, refl, sym, ap, subst, ◌∙◌, arith, append-nil, append_assoc}
+use Rattle.std.specs.Prelude.{codes}
+use Rattle.std.specs.FinMap.{get}
+use Rattle.std.proofs.lemmas.List.{map-append}
+use Rattle.lexmeaning.specs.Tree.{Tree}
+use Rattle.lexmeaning.specs.Spec.{Statement, EndAction, Rule}
+use Rattle.lexre.specs.Definitions.{Definitions}
+use Rattle.lexre.specs.Lexical.{symbol_at}
+use Rattle.lexre.specs.Spelling.{Spells}
+use Rattle.lexre.specs.Cutting.{IsCutting}
+use Rattle.lexre.proofs.CuttingLaws.{one_cutting}
+use Rattle.lexre.proofs.OneTree.{one_tree}
+use Rattle.lexaction.specs.Names.{number_from}
+use Rattle.lexaction.specs.Actions.{SpellsAction, SpellsEndAction}
+use Rattle.lexspec.specs.Lines.{begins}
+use Rattle.lexspec.specs.Items.{Conditions, Trailing, Subject, at_end, matching, Action, bar, spelled, Item, skipped, skipped_line, skipped_block, rule, IsItem, newlines, AreItems}
+use Rattle.lexspec.specs.RuleItems.{numbers_of, EndRule, IsActionOf, goes_to_rule, IsRule, AreRules}
+use Rattle.lexspec.specs.RuleReads.{HasHead, acting, first_statements, filled, may_wait, Left}
+use Rattle.lexspec.proofs.OneSection.{no_true}
+use Rattle.lexspec.proofs.OneItems.{tests_of, no_item_at_end, one_item}
+use Rattle.lexspec.proofs.OneSpec.{one_rule, one_end, some_is}
+
+tree_once : (fold : Bool) (defs : Definitions) (text : List ℕ) (t u : Tree) → Spells fold defs text t → Spells fold defs text u → t ≡ u
+unfolding symbol_at
+tree_once fold defs text t u h k = one_tree (symbol_at fold) (get defs) refl 64 text t u h.0 k.0
+
+cut_once : (t : List ℕ) (stop stop' : ℕ) (at at' : Option ℕ) (two two' special special' : Bool) → IsCutting t stop at two special → IsCutting t stop' at' two' special' →
+    (stop ≡ stop') × (at ≡ at') × (special ≡ special')
+cut_once t stop stop' at at' two two' special special' h k = let same = one_cutting t stop stop' at at' two two' special special' h k in (same.0, same.1, same.3)
+
+-- what the items of a text are, where its first item is known
+pub record Behind (n : ℕ) (t : List ℕ) (i : Item) (rest : List ℕ) (items : List (ℕ × Item)) : Type 0 where
+  pub others : List (ℕ × Item)
+  pub all : items ≡ (n, i) ∷ others
+  pub here : AreItems (n + (newlines t - newlines rest)) rest others
+
+pub behind : (n : ℕ) (t : List ℕ) (i : Item) (rest : List ℕ) (items : List (ℕ × Item)) → IsItem t i rest → AreItems n t items → Behind n t i rest items
+behind n t i rest [] item are = absurd (no_item_at_end t i rest are item)
+behind n t i rest (j ∷ js) item (rest', line, item', more) =
+    let same = one_item cut_once t i j.1 rest rest' (tests_of t i rest item) (tests_of t j.1 rest' item') item item' in
+    let first : ◌≡◌ {A = ℕ × Item} (j.0, j.1) (n, i) = ap (λ z. (z, j.1)) line ∙ ap (λ z. (n, z)) (sym same.0) in
+    record {
+      others = js;
+      all = ap (λ z. z ∷ js) first;
+      here = subst (λ z. AreItems (n + (newlines t - newlines z)) z js) (sym same.1) more;
+    }
+
+module _ (names : List (List ℕ)) (fold : Bool) (defined : Definitions) where
+  -- lines that are skipped
+  abbrev pub is_plain : Item → Bool
+  is_plain skipped = true
+  is_plain skipped_line = true
+  is_plain skipped_block = true
+  is_plain (rule asked subject action) = false
+
+  wait_plain : (w : List Rule) (n : ℕ) (i : Item) (is : List (ℕ × Item)) → is_plain i ≡ true → may_wait w ((n, i) ∷ is) ≡ may_wait w is
+  wait_plain [] n i is h = refl
+  wait_plain (r ∷ w) n skipped is h = refl
+  wait_plain (r ∷ w) n skipped_line is h = refl
+  wait_plain (r ∷ w) n skipped_block is h = refl
+  wait_plain (r ∷ w) n (rule asked subject action) is h = no_true h
+
+  rules_plain : (n : ℕ) (i : Item) (is : List (ℕ × Item)) (rs : List Rule) (es : List EndRule) → is_plain i ≡ true → AreRules names fold defined ((n, i) ∷ is) rs es → AreRules names fold defined is rs es
+  rules_plain n skipped is rs es h are = are
+  rules_plain n skipped_line is rs es h are = are
+  rules_plain n skipped_block is rs es h are = are
+  rules_plain n (rule asked subject action) is rs es h are = no_true h
+
+  plain_rules : (n : ℕ) (i : Item) (is : List (ℕ × Item)) (rs : List Rule) (es : List EndRule) → is_plain i ≡ true → AreRules names fold defined is rs es → AreRules names fold defined ((n, i) ∷ is) rs es
+  plain_rules n skipped is rs es h are = are
+  plain_rules n skipped_line is rs es h are = are
+  plain_rules n skipped_block is rs es h are = are
+  plain_rules n (rule asked subject action) is rs es h are = no_true h
+
+  pub plain_on : (n : ℕ) (t : List ℕ) (i : Item) (rest : List ℕ) (w R : List Rule) (E : List EndRule) → is_plain i ≡ true → IsItem t i rest
+      → Left names fold defined n t w R E → Left names fold defined (n + (newlines t - newlines rest)) rest w R E
+  plain_on n t i rest w R E plain item left =
+      let b = behind n t i rest left.items item left.here in
+      record {
+        items = b.others;
+        here = b.here;
+        later = left.later;
+        are = rules_plain n i b.others left.later E plain (subst (λ z. AreRules names fold defined z left.later E) b.all left.are);
+        next = sym (wait_plain w n i b.others plain) ∙ ap (may_wait w) (sym b.all) ∙ left.next;
+        whole = left.whole;
+      }
+
+  pub plain_back : (n : ℕ) (t : List ℕ) (i : Item) (rest : List ℕ) (w R : List Rule) (E : List EndRule) → is_plain i ≡ true → IsItem t i rest
+      → Left names fold defined (n + (newlines t - newlines rest)) rest w R E → Left names fold defined n t w R E
+  plain_back n t i rest w R E plain item left = record {
+    items = (n, i) ∷ left.items;
+    here = (rest, refl, item, left.here);
+    later = left.later;
+    are = plain_rules n i left.items left.later E plain left.are;
+    next = wait_plain w n i left.items plain ∙ left.next;
+    whole = left.whole;
+  }
+
+  -- an `<<EOF>>` rule, for which no rule waits
+  pub end_on : (n : ℕ) (t : List ℕ) (asked : Conditions) (text rest : List ℕ) (numbers : Option (List ℕ)) (e : EndAction) (R : List Rule) (E : List EndRule)
+      → IsItem t (rule asked at_end (spelled text)) rest → numbers_of (number_from 0 names) (length names) asked ≡ Some numbers → SpellsEndAction (number_from 0 names) text e
+      → Left names fold defined n t [] R E
+      → (F : List EndRule) × (E ≡ (numbers, e) ∷ F) × Left names fold defined (n + (newlines t - newlines rest)) rest [] R F
+  end_on n t asked text rest numbers e R E item listed acts left =
+      let b = behind n t (rule asked at_end (spelled text)) rest left.items item left.here in
+      let (numbers', e', others, listed', acts', all, more) = subst (λ z. AreRules names fold defined z left.later E) b.all left.are in
+      let same : numbers' ≡ numbers = some_is numbers' numbers (sym listed' ∙ listed) in
+      let act : e' ≡ e = one_end tree_once (number_from 0 names) text e' e acts' acts in
+      (
+        others,
+        all ∙ ap (λ z. (z, e') ∷ others) same ∙ ap (λ z. (numbers, z) ∷ others) act,
+        record { items = b.others; here = b.here; later = left.later; are = more; next = refl; whole = left.whole },
+      )
+
+  pub end_back : (n : ℕ) (t : List ℕ) (asked : Conditions) (text rest : List ℕ) (numbers : Option (List ℕ)) (e : EndAction) (R : List Rule) (E : List EndRule)
+      → IsItem t (rule asked at_end (spelled text)) rest → numbers_of (number_from 0 names) (length names) asked ≡ Some numbers → SpellsEndAction (number_from 0 names) text e
+      → Left names fold defined (n + (newlines t - newlines rest)) rest [] R E → Left names fold defined n t [] R ((numbers, e) ∷ E)
+  end_back n t asked text rest numbers e R E item listed acts left = record {
+    items = (n, rule asked at_end (spelled text)) ∷ left.items;
+    here = (rest, refl, item, left.here);
+    later = left.later;
+    are = (numbers, e, E, listed, acts, refl, left.are);
+    next = refl;
+    whole = left.whole;
+  }
+
+  -- a rule with an action of its own, which the rules that wait take
+
+  head_rule : (n : ℕ) (asked : Conditions) (anchored : Bool) (head : List ℕ) (after : Trailing) (text : List ℕ) (is : List (ℕ × Item)) (rs : List Rule) (r : Rule) (ss : List Statement)
+      → HasHead names fold defined n asked anchored head after r → SpellsAction (number_from 0 names) text ss
+      → IsRule names fold defined n asked anchored head after (spelled text) is rs (acting ss r)
+  head_rule n asked anchored head after text is rs r ss h acts = record {
+    line_is = h.line_is; listed = h.listed; anchor = h.anchor; head_is = h.head_is; trail_is = h.trail_is; cut_is = h.cut_is; next = refl; statements_are = acts;
+  }
+
+  pub rule_on : (n : ℕ) (t : List ℕ) (asked : Conditions) (anchored : Bool) (head : List ℕ) (after : Trailing) (text rest : List ℕ) (r : Rule) (ss : List Statement) (w R : List Rule) (E : List EndRule)
+      → IsItem t (rule asked (matching anchored head after) (spelled text)) rest → HasHead names fold defined n asked anchored head after r → SpellsAction (number_from 0 names) text ss
+      → Left names fold defined n t w R E
+      → (S : List Rule) × (R ≡ (map (acting ss) w ++ acting ss r ∷ []) ++ S) × Left names fold defined (n + (newlines t - newlines rest)) rest [] S E
+  rule_on n t asked anchored head after text rest r ss w R E item h acts left =
+      let b = behind n t (rule asked (matching anchored head after) (spelled text)) rest left.items item left.here in
+      let (q, others, all, one, more) = subst (λ z. AreRules names fold defined z left.later E) b.all left.are in
+      let same : q ≡ acting ss r = one_rule tree_once names fold defined n asked anchored head after (spelled text) b.others others q (acting ss r) one
+      (head_rule n asked anchored head after text b.others others r ss h acts) in
+      let later : left.later ≡ acting ss r ∷ others = all ∙ ap (λ z. z ∷ others) same in
+      (
+        others,
+        left.whole ∙ ap (filled w) later ∙ sym (append_assoc (map (acting ss) w) (acting ss r ∷ []) others),
+        record { items = b.others; here = b.here; later = others; are = more; next = refl; whole = refl },
+      )
+
+  wait_rule : (w : List Rule) (n : ℕ) (asked : Conditions) (anchored : Bool) (head : List ℕ) (after : Trailing) (action : Action) (is : List (ℕ × Item))
+      → may_wait w ((n, rule asked (matching anchored head after) action) ∷ is) ≡ true
+  wait_rule [] n asked anchored head after action is = refl
+  wait_rule (r ∷ w) n asked anchored head after action is = refl
+
+  pub rule_back : (n : ℕ) (t : List ℕ) (asked : Conditions) (anchored : Bool) (head : List ℕ) (after : Trailing) (text rest : List ℕ) (r : Rule) (ss : List Statement) (w S : List Rule) (E : List EndRule)
+      → IsItem t (rule asked (matching anchored head after) (spelled text)) rest → HasHead names fold defined n asked anchored head after r → SpellsAction (number_from 0 names) text ss
+      → Left names fold defined (n + (newlines t - newlines rest)) rest [] S E → Left names fold defined n t w ((map (acting ss) w ++ acting ss r ∷ []) ++ S) E
+  rule_back n t asked anchored head after text rest r ss w S E item h acts left = record {
+    items = (n, rule asked (matching anchored head after) (spelled text)) ∷ left.items;
+    here = (rest, refl, item, left.here);
+    later = acting ss r ∷ left.later;
+    are = (acting ss r, left.later, refl, head_rule n asked anchored head after text left.items left.later r ss h acts, left.are);
+    next = wait_rule w n asked anchored head after (spelled text) left.items;
+    whole = append_assoc (map (acting ss) w) (acting ss r ∷ []) S ∙ ap (λ z. map (acting ss) w ++ acting ss r ∷ z) left.whole;
+  }
+
+  -- a rule that waits for the action of the next one
+
+  takes_first : (rs : List Rule) (ss : List Statement) → IsActionOf (number_from 0 names) bar rs ss → ss ≡ first_statements rs
+  takes_first [] ss h = absurd h
+  takes_first (r ∷ rs) ss h = h
+
+  has_first : (rs : List Rule) (ss : List Statement) → IsActionOf (number_from 0 names) bar rs ss → IsActionOf (number_from 0 names) bar rs (first_statements rs)
+  has_first [] ss h = absurd h
+  has_first (r ∷ rs) ss h = refl
+
+  bar_rule : (n : ℕ) (asked : Conditions) (anchored : Bool) (head : List ℕ) (after : Trailing) (is : List (ℕ × Item)) (rs : List Rule) (r : Rule)
+      → HasHead names fold defined n asked anchored head after r → goes_to_rule bar is ≡ true → IsActionOf (number_from 0 names) bar rs (first_statements rs)
+      → IsRule names fold defined n asked anchored head after bar is rs (acting (first_statements rs) r)
+  bar_rule n asked anchored head after is rs r h next takes = record {
+    line_is = h.line_is; listed = h.listed; anchor = h.anchor; head_is = h.head_is; trail_is = h.trail_is; cut_is = h.cut_is; next = next; statements_are = takes;
+  }
+
+  wait_more : (w : List Rule) (r : Rule) (is : List (ℕ × Item)) → may_wait (w ++ r ∷ []) is ≡ goes_to_rule bar is
+  wait_more [] r is = refl
+  wait_more (q ∷ w) r is = refl
+
+  fill_more : (ss : List Statement) (w : List Rule) (r : Rule) (rs : List Rule) → map (acting ss) w ++ acting ss r ∷ rs ≡ map (acting ss) (w ++ r ∷ []) ++ rs
+  fill_more ss w r rs = sym (append_assoc (map (acting ss) w) (acting ss r ∷ []) rs) ∙ ap (λ z. z ++ rs) (sym (map-append (acting ss) w (r ∷ [])))
+
+  pub bar_on : (n : ℕ) (t : List ℕ) (asked : Conditions) (anchored : Bool) (head : List ℕ) (after : Trailing) (rest : List ℕ) (r : Rule) (w R : List Rule) (E : List EndRule)
+      → IsItem t (rule asked (matching anchored head after) bar) rest → HasHead names fold defined n asked anchored head after r
+      → Left names fold defined n t w R E → Left names fold defined (n + (newlines t - newlines rest)) rest (w ++ r ∷ []) R E
+  bar_on n t asked anchored head after rest r w R E item h left =
+      let b = behind n t (rule asked (matching anchored head after) bar) rest left.items item left.here in
+      let (q, others, all, one, more) = subst (λ z. AreRules names fold defined z left.later E) b.all left.are in
+      let f = first_statements others in
+      let same : q ≡ acting f r = one_rule tree_once names fold defined n asked anchored head after bar b.others others q (acting f r) one
+      (bar_rule n asked anchored head after b.others others r h one.next (has_first others q.statements one.statements_are)) in
+      let later : left.later ≡ acting f r ∷ others = all ∙ ap (λ z. z ∷ others) same in
+      record {
+        items = b.others; here = b.here; later = others; are = more;
+        next = wait_more w r b.others ∙ one.next;
+        whole = left.whole ∙ ap (filled w) later ∙ fill_more f w r others;
+      }
+
+  goes_first : (is : List (ℕ × Item)) (rs : List Rule) (es : List EndRule) → goes_to_rule bar is ≡ true → AreRules names fold defined is rs es
+      → IsActionOf (number_from 0 names) bar rs (first_statements rs)
+  goes_first [] rs es h are = no_true h
+  goes_first ((n, rule asked at_end action) ∷ is) rs es h are = no_true h
+  goes_first ((n, rule asked (matching anchored head after) bar) ∷ is) rs es h (r, others, all, one, more) = subst (λ z. IsActionOf (number_from 0 names) bar z (first_statements z)) (sym all) refl
+  goes_first ((n, rule asked (matching anchored head after) (spelled text)) ∷ is) rs es h (r, others, all, one, more) =
+      subst (λ z. IsActionOf (number_from 0 names) bar z (first_statements z)) (sym all) refl
+  goes_first ((n, skipped) ∷ is) rs es h are = goes_first is rs es h are
+  goes_first ((n, skipped_line) ∷ is) rs es h are = goes_first is rs es h are
+  goes_first ((n, skipped_block) ∷ is) rs es h are = goes_first is rs es h are
+
+  pub bar_back : (n : ℕ) (t : List ℕ) (asked : Conditions) (anchored : Bool) (head : List ℕ) (after : Trailing) (rest : List ℕ) (r : Rule) (w R : List Rule) (E : List EndRule)
+      → IsItem t (rule asked (matching anchored head after) bar) rest → HasHead names fold defined n asked anchored head after r
+      → Left names fold defined (n + (newlines t - newlines rest)) rest (w ++ r ∷ []) R E → Left names fold defined n t w R E
+  bar_back n t asked anchored head after rest r w R E item h left =
+      let goes : goes_to_rule bar left.items ≡ true = sym (wait_more w r left.items) ∙ left.next in
+      let f = first_statements left.later in
+      record {
+        items = (n, rule asked (matching anchored head after) bar) ∷ left.items;
+        here = (rest, refl, item, left.here);
+        later = acting f r ∷ left.later;
+        are = (acting f r, left.later, refl, bar_rule n asked anchored head after left.items left.later r h goes (goes_first left.items left.later E goes left.are), left.are);
+        next = wait_rule w n asked anchored head after bar left.items;
+        whole = left.whole ∙ sym (fill_more f w r left.later);
+      }
+
+  -- What is read so far, and what is left.
+  pub record Agree (start : ℕ) (whole_text : List ℕ) (done : List Rule) (ends : List EndRule) (w : List Rule) (n : ℕ) (t : List ℕ) : Type 0 where
+    pub back : (R : List Rule) (E : List EndRule) → Left names fold defined n t w R E → Left names fold defined start whole_text [] (done ++ R) (ends ++ E)
+    pub on : (R : List Rule) (E : List EndRule) → Left names fold defined start whole_text [] R E
+        → (S : List Rule) × (F : List EndRule) × (R ≡ done ++ S) × (E ≡ ends ++ F) × Left names fold defined n t w S F
+
+  pub agree_first : (n : ℕ) (t : List ℕ) → Agree n t [] [] [] n t
+  agree_first n t = record { back = (λ R E left. left); on = (λ R E left. (R, E, refl, refl, left)) }
+
+  pub agree_plain : (start : ℕ) (whole_text : List ℕ) (done : List Rule) (ends : List EndRule) (w : List Rule) (n : ℕ) (t : List ℕ) (i : Item) (rest : List ℕ) → is_plain i ≡ true → IsItem t i rest
+      → Agree start whole_text done ends w n t → Agree start whole_text done ends w (n + (newlines t - newlines rest)) rest
+  agree_plain start whole_text done ends w n t i rest plain item a = record {
+    back = (λ R E left. a.back R E (plain_back n t i rest w R E plain item left));
+    on = (λ R E left. let (S, F, e, f, more) = a.on R E left in (S, F, e, f, plain_on n t i rest w S F plain item more));
+  }
+
+  pub agree_end : (start : ℕ) (whole_text : List ℕ) (done : List Rule) (ends : List EndRule) (n : ℕ) (t : List ℕ) (asked : Conditions) (text rest : List ℕ) (numbers : Option (List ℕ)) (e : EndAction)
+      → IsItem t (rule asked at_end (spelled text)) rest → numbers_of (number_from 0 names) (length names) asked ≡ Some numbers → SpellsEndAction (number_from 0 names) text e
+      → Agree start whole_text done ends [] n t → Agree start whole_text done (ends ++ (numbers, e) ∷ []) [] (n + (newlines t - newlines rest)) rest
+  agree_end start whole_text done ends n t asked text rest numbers e item listed acts a = record {
+    back = (λ R E left. subst (λ z. Left names fold defined start whole_text [] (done ++ R) z) (sym (append_assoc ends ((numbers, e) ∷ []) E))
+        (a.back R ((numbers, e) ∷ E) (end_back n t asked text rest numbers e R E item listed acts left)));
+    on = (λ R E left.
+        let (S, F, p, q, more) = a.on R E left in
+        let (G, g, last) = end_on n t asked text rest numbers e S F item listed acts more in
+        (S, G, p, q ∙ ap (λ z. ends ++ z) g ∙ sym (append_assoc ends ((numbers, e) ∷ []) G), last));
+  }
+
+  pub agree_rule : (start : ℕ) (whole_text : List ℕ) (done : List Rule) (ends : List EndRule) (w : List Rule) (n : ℕ) (t : List ℕ)
+      (asked : Conditions) (anchored : Bool) (head : List ℕ) (after : Trailing) (text rest : List ℕ) (r : Rule) (ss : List Statement)
+      → IsItem t (rule asked (matching anchored head after) (spelled text)) rest → HasHead names fold defined n asked anchored head after r → SpellsAction (number_from 0 names) text ss
+      → Agree start whole_text done ends w n t → Agree start whole_text (done ++ (map (acting ss) w ++ acting ss r ∷ [])) ends [] (n + (newlines t - newlines rest)) rest
+  agree_rule start whole_text done ends w n t asked anchored head after text rest r ss item h acts a = record {
+    back = (λ R E left. subst (λ z. Left names fold defined start whole_text [] z (ends ++ E)) (sym (append_assoc done (map (acting ss) w ++ acting ss r ∷ []) R))
+        (a.back ((map (acting ss) w ++ acting ss r ∷ []) ++ R) E (rule_back n t asked anchored head after text rest r ss w R E item h acts left)));
+    on = (λ R E left.
+        let (S, F, p, q, more) = a.on R E left in
+        let (T, g, last) = rule_on n t asked anchored head after text rest r ss w S F item h acts more in
+        (T, F, p ∙ ap (λ z. done ++ z) g ∙ sym (append_assoc done (map (acting ss) w ++ acting ss r ∷ []) T), q, last));
+  }
+
+  pub agree_bar : (start : ℕ) (whole_text : List ℕ) (done : List Rule) (ends : List EndRule) (w : List Rule) (n : ℕ) (t : List ℕ)
+      (asked : Conditions) (anchored : Bool) (head : List ℕ) (after : Trailing) (rest : List ℕ) (r : Rule)
+      → IsItem t (rule asked (matching anchored head after) bar) rest → HasHead names fold defined n asked anchored head after r
+      → Agree start whole_text done ends w n t → Agree start whole_text done ends (w ++ r ∷ []) (n + (newlines t - newlines rest)) rest
+  agree_bar start whole_text done ends w n t asked anchored head after rest r item h a = record {
+    back = (λ R E left. a.back R E (bar_back n t asked anchored head after rest r w R E item h left));
+    on = (λ R E left. let (S, F, p, q, more) = a.on R E left in (S, F, p, q, bar_on n t asked anchored head after rest r w S F item h more));
+  }
