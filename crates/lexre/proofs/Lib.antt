@@ -21,3 +21,4 @@ pub mod Rows
 pub mod RunLaws
 pub mod SetLaws
 pub mod ShorterLaws
+pub mod SoundLaws

@@ -15,6 +15,7 @@ pub mod Quotes
 pub mod Reading
 pub mod Readings
 pub mod Running
+pub mod Soundness
 pub mod Spelling
 pub mod StackViews
 pub mod SymbolViews

@@ -1,8 +1,9 @@
 //! The set of a class. (POSIX, Base Definitions, RE Bracket Expression.)
-ghost use Rattle.std.specs.Prelude.{◌≡◌, ℕ, Bool, List, Option, Some, None, true, suc, length, drop, MatchResult};
-ghost use Rattle.lexmeaning.specs.ByteSets.{ByteSet};
+ghost use Rattle.std.specs.Prelude.{◌≡◌, ◌≤◌, ℕ, Bool, List, Option, Some, None, true, suc, length, drop, MatchResult, IfOk};
+ghost use Rattle.lexmeaning.specs.ByteSets.{ByteSet, range_set};
 ghost use Rattle.lexre.specs.ClassSets.{class_set_at, member_at, members_at};
 ghost use Rattle.lexre.specs.Lexical.{folded};
+ghost use Rattle.lexre.specs.Soundness.{HasByte};
 
 use crate::elements::element_at;
 use crate::error::{Fault, PatternErrorKind};
@@ -10,12 +11,22 @@ use crate::parts::Part;
 use crate::runs::{skip_first, skip_word};
 use crate::sets::ByteSet;
 
+/// The bytes from `low` to `high`, of which there is one at least.
+fn span(low: u8, high: u8) -> ByteSet
+    requires { low ≤ high }
+    ensures set { result ≡ range_set low high }
+    ensures some { HasByte result }
+{
+    ByteSet::range(low, high)
+}
+
 /// The set of the element at the front of the text, and what follows it. `class` is the text from the class on.
 #[tactic(auto, unfolding(crate::specs::Lexical::element_set))]
 fn member_at<'a>(class: &'a [u8], text: &'a [u8]) -> Result<(ByteSet, &'a [u8]), Fault<'a>>
-    ensures { MatchResult result
+    ensures set { MatchResult result
         (λ x. ◌≡◌ {A = Option (ByteSet × List ℕ)} (member_at text.now) (Some (x.0, x.1.now)))
         (λ _. ◌≡◌ {A = Option (ByteSet × List ℕ)} (member_at text.now) None) }
+    ensures some { IfOk result (λ x. HasByte x.0) }
 {
     let (part, rest) = element_at(class, text)?;
     match part {
@@ -26,7 +37,7 @@ fn member_at<'a>(class: &'a [u8], text: &'a [u8]) -> Result<(ByteSet, &'a [u8]),
                     rest: text,
                 });
             }
-            Ok((ByteSet::range(low, high), rest))
+            Ok((span(low, high), rest))
         }
         Part::Named(name) => {
             let set = ByteSet::named(name).ok_or(Fault {
@@ -41,9 +52,10 @@ fn member_at<'a>(class: &'a [u8], text: &'a [u8]) -> Result<(ByteSet, &'a [u8]),
 
 /// The bytes of the elements up to the closing bracket, and what follows it. A bracket that comes first is an element.
 fn members_at<'a>(class: &'a [u8], text: &'a [u8]) -> Result<(ByteSet, &'a [u8]), Fault<'a>>
-    ensures { MatchResult result
+    ensures set { MatchResult result
         (λ x. ◌≡◌ {A = Option (ByteSet × List ℕ)} (members_at (suc (length text.now)) true text.now) (Some (x.0, x.1.now)))
         (λ _. ◌≡◌ {A = Option (ByteSet × List ℕ)} (members_at (suc (length text.now)) true text.now) None) }
+    ensures some { IfOk result (λ x. HasByte x.0) }
 {
     let (mut set, mut rest) = match member_at(class, text) {
         Ok(found) => found,
@@ -69,9 +81,10 @@ pub(crate) fn folded(fold: bool, set: ByteSet) -> ByteSet
 
 /// The set of a class, and what follows it. `class` is the text from its opening bracket on.
 pub(crate) fn class_at<'a>(class: &'a [u8], fold: bool) -> Result<(ByteSet, &'a [u8]), Fault<'a>>
-    ensures { MatchResult result
+    ensures set { MatchResult result
         (λ x. ◌≡◌ {A = Option (ByteSet × List ℕ)} (class_set_at fold (drop 1 class.now)) (Some (x.0, x.1.now)))
         (λ _. ◌≡◌ {A = Option (ByteSet × List ℕ)} (class_set_at fold (drop 1 class.now)) None) }
+    ensures some { IfOk result (λ x. HasByte x.0) }
 {
     let inside = skip_first(class);
     if let Some(listed) = skip_word(b"^", inside) {

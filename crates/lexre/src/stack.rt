@@ -12,7 +12,7 @@ ghost use Rattle.lexre.specs.Views.{tree_of};
 ghost use Rattle.lexre.specs.declared.error.PatternErrorKind.TheVariants.{OutOfMemory};
 
 use crate::counts::capped_nodes;
-use crate::error::PatternErrorKind;
+use crate::error::{PatternError, PatternErrorKind};
 use crate::frames::{Frame, Stack};
 use crate::pattern::Pattern;
 use crate::symbols::{Sign, Symbol};
@@ -47,6 +47,7 @@ impl Frame {
     {
         Frame {
             opening,
+            start: opening,
             done: Vec::new(alloc),
             parts: Vec::new(alloc),
             last: None,
@@ -65,13 +66,15 @@ impl Frame {
         u64::from(begins)
     }
 
-    fn push(&mut self, item: Pattern) -> Result<(), PatternErrorKind>
+    /// Takes an item that begins at this place.
+    fn push(&mut self, item: Pattern, start: usize) -> Result<(), PatternErrorKind>
         ensures { MatchResult result (λ _. frame_of self.new ≡ pushed (tree_of item) (frame_of self.old)) (λ e. e ≡ OutOfMemory) }
     {
         if let Some(last) = self.last.take() {
             self.parts.push(last)?;
         }
         self.last = Some(item);
+        self.start = start;
         self.signs = 0;
         Ok(())
     }
@@ -90,12 +93,12 @@ impl Stack {
         }
     }
 
-    /// Takes an item, and answers how many nodes it brings.
-    pub(crate) fn push(&mut self, item: Pattern) -> Result<u64, PatternErrorKind>
+    /// Takes an item that begins at this place, and answers how many nodes it brings.
+    pub(crate) fn push(&mut self, item: Pattern, start: usize) -> Result<u64, PatternErrorKind>
         ensures { StepsTo result (Some (push (tree_of item) (state_of self.old))) (item_adds (tree_of item) (state_of self.old)) (state_of self.new) }
     {
         let added = capped_nodes(&item) + self.here.extra();
-        self.here.push(item)?;
+        self.here.push(item, start)?;
         Ok(added)
     }
 
@@ -124,10 +127,11 @@ impl Stack {
         };
         let added = outside.extra();
         let inside = mem::replace(&mut self.here, outside);
+        let start = inside.opening;
         let last = series(inside.parts, last)?;
         let item = choice(inside.done, last)?;
         self.left += 1;
-        self.here.push(item)?;
+        self.here.push(item, start)?;
         Ok(added)
     }
 
@@ -201,6 +205,17 @@ impl Stack {
         Ok(1)
     }
 
+    /// What is told of a symbol that stands at this place: too many nodes at the item that brings them.
+    pub(crate) fn fault(&self, kind: PatternErrorKind, at: usize) -> PatternError
+        ensures { result.kind ≡ kind }
+    {
+        let at = match kind {
+            PatternErrorKind::TooBig => self.here.start,
+            _ => at,
+        };
+        PatternError { kind, at }
+    }
+
     /// Takes a symbol that stands at this place and is no name, and answers how many nodes it brings.
     pub(crate) fn take(
         &mut self,
@@ -211,7 +226,7 @@ impl Stack {
         ensures { StepsTo result (step_of (symbol_of symbol.entry) (state_of self.old)) (adds (symbol_of symbol.entry) (state_of self.old)) (state_of self.new) }
     {
         match symbol {
-            Symbol::Item(item) => self.push(item),
+            Symbol::Item(item) => self.push(item, at),
             Symbol::Name(_) => Err(PatternErrorKind::UndefinedName),
             Symbol::Opening => self.open(alloc, at),
             Symbol::Closing => self.close(),
