@@ -15,3 +15,4 @@ pub mod SubjectLaws
 pub mod ListedLaws
 pub mod CutLaws
 pub mod RulesLaws
+pub mod ItemLaws

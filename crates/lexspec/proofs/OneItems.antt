@@ -34,7 +34,7 @@ module _ (cut_once : (t : List ℕ) (stop stop' : ℕ) (at at' : Option ℕ) (tw
       let parts = some_pair head head' after after' (sym sides_are ∙ one ∙ sides_are') in
       (parts.0, parts.1, rest_is ∙ ap (λ z. drop z t) same.0 ∙ sym rest_is')
 
-  one_subject : (t : List ℕ) (s s' : Subject) (rest rest' : List ℕ) → IsSubject t s rest → IsSubject t s' rest' → (s ≡ s') × (rest ≡ rest')
+  pub one_subject : (t : List ℕ) (s s' : Subject) (rest rest' : List ℕ) → IsSubject t s rest → IsSubject t s' rest' → (s ≡ s') × (rest ≡ rest')
   one_subject t at_end at_end rest rest' (h, e, b) (k, e', b') = (refl, e ∙ sym e')
   one_subject t at_end (matching true head after) rest rest' (h, e, b) (k, not_end, p) = both_ways (begins (codes "^") t) k (not_caret t h)
   one_subject t at_end (matching false head after) rest rest' (h, e, b) (k, not_end, p) = both_ways (begins (codes "<<EOF>>") t) h not_end
@@ -94,7 +94,7 @@ turned true e = no_true e
 block_tests : (t : List ℕ) → begins (codes "%{") t ≡ true → Tests t skipped_block
 block_tests t h = let p = opens_block t h in subst (λ z. Tests z skipped_block) (sym p.1) (refl, refl, refl)
 
-rule_tests : (t : List ℕ) → starts_rule t ≡ true → (AllBlank t ≡ false) × (StartsBlank t ≡ false) × (begins (codes "%%") (line_in t).0 ≡ false) × (OpensBlock t ≡ false)
+pub rule_tests : (t : List ℕ) → starts_rule t ≡ true → (AllBlank t ≡ false) × (StartsBlank t ≡ false) × (begins (codes "%%") (line_in t).0 ≡ false) × (OpensBlock t ≡ false)
 rule_tests t h =
     let none = turned (AllBlank t || StartsBlank t || begins (codes "%%") (line_in t).0 || OpensBlock t) h in
     let three = or_parts (AllBlank t || StartsBlank t || begins (codes "%%") (line_in t).0) (OpensBlock t) none in

@@ -43,7 +43,7 @@ pub some_is : {A : Type 0} (x y : A) → Some x ≡ Some y → x ≡ y
 some_is x y e = cc
 
 module _ (tree_once : (fold : Bool) (defs : Definitions) (text : List ℕ) (t u : Tree) → Spells fold defs text t → Spells fold defs text u → t ≡ u) where
-  one_trail : (fold : Bool) (defs : Definitions) (after : Trailing) (t u : Option Tree) → IsTrail fold defs after t → IsTrail fold defs after u → t ≡ u
+  pub one_trail : (fold : Bool) (defs : Definitions) (after : Trailing) (t u : Option Tree) → IsTrail fold defs after t → IsTrail fold defs after u → t ≡ u
   one_trail fold defs no_trail t u h k = h ∙ sym k
   one_trail fold defs line_end t u h k = h ∙ sym k
   one_trail fold defs (pattern_after text) None u h k = absurd h

@@ -1,10 +1,9 @@
 -- The rules section, item by item.
-use Rattle.std.proofs.Common.{◌≡◌, ℕ, zero, suc, ◌+◌, ◌-◌, ◌<◌, ◌≤◌, Bool, true, false, List, [], ◌∷◌, ◌++◌, map, length, ◌⊎◌, inl, inr, Option, Some, None, refl, sym, ap, subst, ◌∙◌, arith, append-nil, append_assoc}
-use Rattle.std.specs.Prelude.{codes}
+use Rattle.std.proofs.Common.{◌≡◌, ℕ, ◌+◌, ◌-◌, Bool, true, false, List, [], ◌∷◌, ◌++◌, map, length, inl, inr, Option, Some, None, refl, sym, ap, subst, ◌∙◌, append_assoc}
 use Rattle.std.specs.FinMap.{get}
 use Rattle.std.proofs.lemmas.List.{map-append}
 use Rattle.lexmeaning.specs.Tree.{Tree}
-use Rattle.lexmeaning.specs.Spec.{Statement, EndAction, Rule}
+use Rattle.lexmeaning.specs.Spec.{Statement, EndAction, Cut, Rule}
 use Rattle.lexre.specs.Definitions.{Definitions}
 use Rattle.lexre.specs.Lexical.{symbol_at}
 use Rattle.lexre.specs.Spelling.{Spells}
@@ -13,15 +12,15 @@ use Rattle.lexre.proofs.CuttingLaws.{one_cutting}
 use Rattle.lexre.proofs.OneTree.{one_tree}
 use Rattle.lexaction.specs.Names.{number_from}
 use Rattle.lexaction.specs.Actions.{SpellsAction, SpellsEndAction}
-use Rattle.lexspec.specs.Lines.{begins}
-use Rattle.lexspec.specs.Items.{Conditions, Trailing, Subject, at_end, matching, Action, bar, spelled, Item, skipped, skipped_line, skipped_block, rule, IsItem, newlines, AreItems}
-use Rattle.lexspec.specs.RuleItems.{numbers_of, EndRule, IsActionOf, goes_to_rule, IsRule, AreRules}
+use Rattle.lexspec.specs.Lines.{after_blanks}
+use Rattle.lexspec.specs.Items.{Conditions, Trailing, Subject, at_end, matching, Action, bar, spelled, Item, skipped, skipped_line, skipped_block, rule, conditions_at, IsSubject, action_in, outside, action_of, starts_rule, IsItem, newlines, AreItems}
+use Rattle.lexspec.specs.RuleItems.{numbers_of, IsTrail, IsCutOf, EndRule, IsActionOf, goes_to_rule, IsRule, AreRules}
 use Rattle.lexspec.specs.RuleReads.{HasHead, acting, first_statements, filled, may_wait, Left}
-use Rattle.lexspec.proofs.OneSection.{no_true}
-use Rattle.lexspec.proofs.OneItems.{tests_of, no_item_at_end, one_item}
+use Rattle.lexspec.proofs.OneSection.{no_true, two_percents, some_pair}
+use Rattle.lexspec.proofs.OneItems.{both_ways, AllBlank, StartsBlank, OpensBlock, tests_of, rule_tests, no_item_at_end, one_item, one_subject}
 use Rattle.lexspec.proofs.OneSpec.{one_rule, one_end, some_is}
 
-tree_once : (fold : Bool) (defs : Definitions) (text : List ℕ) (t u : Tree) → Spells fold defs text t → Spells fold defs text u → t ≡ u
+pub tree_once : (fold : Bool) (defs : Definitions) (text : List ℕ) (t u : Tree) → Spells fold defs text t → Spells fold defs text u → t ≡ u
 unfolding symbol_at
 tree_once fold defs text t u h k = one_tree (symbol_at fold) (get defs) refl 64 text t u h.0 k.0
 
@@ -106,8 +105,7 @@ module _ (names : List (List ℕ)) (fold : Bool) (defined : Definitions) where
       let b = behind n t (rule asked at_end (spelled text)) rest left.items item left.here in
       let (numbers', e', others, listed', acts', all, more) = subst (λ z. AreRules names fold defined z left.later E) b.all left.are in
       let same : numbers' ≡ numbers = some_is numbers' numbers (sym listed' ∙ listed) in
-      let act : e' ≡ e = one_end tree_once (number_from 0 names) text e' e acts' acts in
-      (
+      let act : e' ≡ e = one_end tree_once (number_from 0 names) text e' e acts' acts in (
         others,
         all ∙ ap (λ z. (z, e') ∷ others) same ∙ ap (λ z. (numbers, z) ∷ others) act,
         record { items = b.others; here = b.here; later = left.later; are = more; next = refl; whole = left.whole },
@@ -131,7 +129,14 @@ module _ (names : List (List ℕ)) (fold : Bool) (defined : Definitions) where
       → HasHead names fold defined n asked anchored head after r → SpellsAction (number_from 0 names) text ss
       → IsRule names fold defined n asked anchored head after (spelled text) is rs (acting ss r)
   head_rule n asked anchored head after text is rs r ss h acts = record {
-    line_is = h.line_is; listed = h.listed; anchor = h.anchor; head_is = h.head_is; trail_is = h.trail_is; cut_is = h.cut_is; next = refl; statements_are = acts;
+    line_is = h.line_is;
+    listed = h.listed;
+    anchor = h.anchor;
+    head_is = h.head_is;
+    trail_is = h.trail_is;
+    cut_is = h.cut_is;
+    next = refl;
+    statements_are = acts;
   }
 
   pub rule_on : (n : ℕ) (t : List ℕ) (asked : Conditions) (anchored : Bool) (head : List ℕ) (after : Trailing) (text rest : List ℕ) (r : Rule) (ss : List Statement) (w R : List Rule) (E : List EndRule)
@@ -143,8 +148,7 @@ module _ (names : List (List ℕ)) (fold : Bool) (defined : Definitions) where
       let (q, others, all, one, more) = subst (λ z. AreRules names fold defined z left.later E) b.all left.are in
       let same : q ≡ acting ss r = one_rule tree_once names fold defined n asked anchored head after (spelled text) b.others others q (acting ss r) one
       (head_rule n asked anchored head after text b.others others r ss h acts) in
-      let later : left.later ≡ acting ss r ∷ others = all ∙ ap (λ z. z ∷ others) same in
-      (
+      let later : left.later ≡ acting ss r ∷ others = all ∙ ap (λ z. z ∷ others) same in (
         others,
         left.whole ∙ ap (filled w) later ∙ sym (append_assoc (map (acting ss) w) (acting ss r ∷ []) others),
         record { items = b.others; here = b.here; later = others; are = more; next = refl; whole = refl },
@@ -181,7 +185,14 @@ module _ (names : List (List ℕ)) (fold : Bool) (defined : Definitions) where
       → HasHead names fold defined n asked anchored head after r → goes_to_rule bar is ≡ true → IsActionOf (number_from 0 names) bar rs (first_statements rs)
       → IsRule names fold defined n asked anchored head after bar is rs (acting (first_statements rs) r)
   bar_rule n asked anchored head after is rs r h next takes = record {
-    line_is = h.line_is; listed = h.listed; anchor = h.anchor; head_is = h.head_is; trail_is = h.trail_is; cut_is = h.cut_is; next = next; statements_are = takes;
+    line_is = h.line_is;
+    listed = h.listed;
+    anchor = h.anchor;
+    head_is = h.head_is;
+    trail_is = h.trail_is;
+    cut_is = h.cut_is;
+    next = next;
+    statements_are = takes;
   }
 
   wait_more : (w : List Rule) (r : Rule) (is : List (ℕ × Item)) → may_wait (w ++ r ∷ []) is ≡ goes_to_rule bar is
@@ -202,7 +213,10 @@ module _ (names : List (List ℕ)) (fold : Bool) (defined : Definitions) where
       (bar_rule n asked anchored head after b.others others r h one.next (has_first others q.statements one.statements_are)) in
       let later : left.later ≡ acting f r ∷ others = all ∙ ap (λ z. z ∷ others) same in
       record {
-        items = b.others; here = b.here; later = others; are = more;
+        items = b.others;
+        here = b.here;
+        later = others;
+        are = more;
         next = wait_more w r b.others ∙ one.next;
         whole = left.whole ∙ ap (filled w) later ∙ fill_more f w r others;
       }
@@ -282,3 +296,124 @@ module _ (names : List (List ℕ)) (fold : Bool) (defined : Definitions) where
     back = (λ R E left. a.back R E (bar_back n t asked anchored head after rest r w R E item h left));
     on = (λ R E left. let (S, F, p, q, more) = a.on R E left in (S, F, p, q, bar_on n t asked anchored head after rest r w S F item h more));
   }
+
+  -- What the rule that begins a text is.
+
+  abbrev pub IsSpelled : Action → Type 0
+  IsSpelled bar = Unit {0}
+  IsSpelled (spelled text) = (ss : List Statement) × SpellsAction (number_from 0 names) text ss
+
+  abbrev pub ActsAs : List Rule → Subject → Action → Type 0
+  ActsAs w at_end bar = ⊥
+  ActsAs w at_end (spelled text) = (w ≡ []) × (e : EndAction) × SpellsEndAction (number_from 0 names) text e
+  ActsAs w (matching anchored head after) action =
+      (r : Rule) × Spells fold defined head r.head × IsTrail fold defined after r.trail × IsCutOf r.head r.trail r.cut × IsSpelled action
+
+  pub record RuleHere (t : List ℕ) (w : List Rule) : Type 0 where
+    pub asked : Conditions
+    pub subject : Subject
+    pub u : List ℕ
+    pub v : List ℕ
+    pub text : List ℕ
+    pub rest : List ℕ
+    pub list : conditions_at t ≡ Some (asked, u)
+    pub cut : IsSubject u subject v
+    pub ends : action_in outside 0 (after_blanks v) ≡ Some (text, rest)
+    pub numbers : Option (List ℕ)
+    pub numbered : numbers_of (number_from 0 names) (length names) asked ≡ Some numbers
+    pub acts : ActsAs w subject (action_of text)
+
+  acts_here : (w : List Rule) (n : ℕ) (asked : Conditions) (subject : Subject) (action : Action) (is : List (ℕ × Item)) (rs : List Rule) (es : List EndRule)
+      → AreRules names fold defined ((n, rule asked subject action) ∷ is) rs es → may_wait w ((n, rule asked subject action) ∷ is) ≡ true
+      → ((numbers : Option (List ℕ)) × (numbers_of (number_from 0 names) (length names) asked ≡ Some numbers)) × ActsAs w subject action
+  acts_here w n asked at_end bar is rs es are next = absurd are
+  acts_here [] n asked at_end (spelled text) is rs es (numbers, e, others, listed, acts, all, more) next = ((numbers, listed), (refl, e, acts))
+  acts_here (q ∷ w) n asked at_end (spelled text) is rs es are next = no_true next
+  acts_here w n asked (matching anchored head after) bar is rs es (r, others, all, one, more) next = ((r.conditions, one.listed), (r, one.head_is, one.trail_is, one.cut_is, tt))
+  acts_here w n asked (matching anchored head after) (spelled text) is rs es (r, others, all, one, more) next =
+      ((r.conditions, one.listed), (r, one.head_is, one.trail_is, one.cut_is, (r.statements, one.statements_are)))
+
+  rule_here : (t : List ℕ) (w : List Rule) (n : ℕ) (i : Item) (rest : List ℕ) (is : List (ℕ × Item)) (rs : List Rule) (es : List EndRule) → starts_rule t ≡ true → IsItem t i rest
+      → AreRules names fold defined ((n, i) ∷ is) rs es → may_wait w ((n, i) ∷ is) ≡ true → RuleHere t w
+  rule_here t w n skipped rest is rs es starts item are next = both_ways (AllBlank t) (tests_of t skipped rest item) (rule_tests t starts).0
+  rule_here t w n skipped_line rest is rs es starts item are next = both_ways (StartsBlank t) (tests_of t skipped_line rest item).1 (rule_tests t starts).1
+  rule_here t w n skipped_block rest is rs es starts item are next = both_ways (OpensBlock t) (tests_of t skipped_block rest item).2 (rule_tests t starts).3
+  rule_here t w n (rule asked subject action) rest is rs es starts (starts', u, v, text, list, cut, ends, is_action) are next =
+      let here = acts_here w n asked subject action is rs es are next in
+      record {
+        asked = asked;
+        subject = subject;
+        u = u;
+        v = v;
+        text = text;
+        rest = rest;
+        list = list;
+        cut = cut;
+        ends = ends;
+        numbers = here.0.0;
+        numbered = here.0.1;
+        acts = subst (ActsAs w subject) is_action here.1;
+      }
+
+  pub invert : (n : ℕ) (t : List ℕ) (w R : List Rule) (E : List EndRule) → starts_rule t ≡ true → Left names fold defined n t w R E → RuleHere t w
+  invert n t w R E starts left = from left.items left.here left.are left.next
+    where
+      from : (items : List (ℕ × Item)) → AreItems n t items → AreRules names fold defined items left.later E → may_wait w items ≡ true → RuleHere t w
+      from [] (inl e) are next = no_true (sym (ap starts_rule e) ∙ starts)
+      from [] (inr e) are next = let p = two_percents t e in no_true (sym (rule_tests (37 ∷ 37 ∷ p.0) (subst (λ z. starts_rule z ≡ true) p.1 starts)).2)
+      from ((m, i) ∷ is) (rest, line, item, more) are next = rule_here t w m i rest is left.later E starts item are next
+
+  -- nothing is spelled from there on
+  abbrev pub NoLeft : List ℕ → Type 0
+  NoLeft t = (n : ℕ) (w R : List Rule) (E : List EndRule) → Left names fold defined n t w R E → ⊥
+
+  no_some : {A B : Type 0} (x : A) (o : Option A) → o ≡ Some x → o ≡ None → B
+  no_some {A} x o e f = absurd (none (sym e ∙ f))
+    where
+      none : ◌≡◌ {A = Option A} (Some x) None → ⊥
+      none p = cc
+
+  pub no_list : (t : List ℕ) → starts_rule t ≡ true → conditions_at t ≡ None → NoLeft t
+  no_list t starts none n w R E left = let h = invert n t w R E starts left in no_some (h.asked, h.u) (conditions_at t) h.list none
+
+  pub no_numbers : (t u : List ℕ) (asked : Conditions) → starts_rule t ≡ true → conditions_at t ≡ Some (asked, u) → numbers_of (number_from 0 names) (length names) asked ≡ None → NoLeft t
+  no_numbers t u asked starts list none n w R E left =
+      let h = invert n t w R E starts left in
+      let same = (some_pair h.asked asked h.u u (sym h.list ∙ list)).0 in
+      no_some h.numbers (numbers_of (number_from 0 names) (length names) h.asked) h.numbered (ap (numbers_of (number_from 0 names) (length names)) same ∙ none)
+
+  pub no_subject : (t u : List ℕ) (asked : Conditions) → starts_rule t ≡ true → conditions_at t ≡ Some (asked, u) → ((s : Subject) (v : List ℕ) → IsSubject u s v → ⊥) → NoLeft t
+  no_subject t u asked starts list none n w R E left =
+      let h = invert n t w R E starts left in
+      let same = (some_pair h.asked asked h.u u (sym h.list ∙ list)).1 in
+      none h.subject h.v (subst (λ z. IsSubject z h.subject h.v) same h.cut)
+
+  -- what is known of the rule where its list and its subject are known
+  abbrev pub Known : List Rule → Subject → List ℕ → Type 0
+  Known w subject v = (text rest : List ℕ) × (action_in outside 0 (after_blanks v) ≡ Some (text, rest)) × ActsAs w subject (action_of text)
+
+  known : (n : ℕ) (t u v : List ℕ) (asked : Conditions) (subject : Subject) (w R : List Rule) (E : List EndRule) → starts_rule t ≡ true → conditions_at t ≡ Some (asked, u) → IsSubject u subject v
+      → Left names fold defined n t w R E → Known w subject v
+  known n t u v asked subject w R E starts list cut left =
+      let h = invert n t w R E starts left in
+      let same = (some_pair h.asked asked h.u u (sym h.list ∙ list)).1 in
+      let one = one_subject cut_once u h.subject subject h.v v (subst (λ z. IsSubject z h.subject h.v) same h.cut) cut in
+      (h.text, h.rest, ap (λ z. action_in outside 0 (after_blanks z)) (sym one.1) ∙ h.ends, subst (λ z. ActsAs w z (action_of h.text)) one.0 h.acts)
+
+  -- no head, trailing context and cut
+  abbrev pub NoHead : List ℕ → Trailing → Type 0
+  NoHead head after = (h : Tree) (t : Option Tree) (cut : Cut) → Spells fold defined head h → IsTrail fold defined after t → IsCutOf h t cut → ⊥
+
+  pub no_head : (t u v : List ℕ) (asked : Conditions) (anchored : Bool) (head : List ℕ) (after : Trailing) → starts_rule t ≡ true → conditions_at t ≡ Some (asked, u)
+      → IsSubject u (matching anchored head after) v → NoHead head after → NoLeft t
+  no_head t u v asked anchored head after starts list cut none n w R E left =
+      let (text, rest, ends, r, spells, trail, cuts, acts) = flat (known n t u v asked (matching anchored head after) w R E starts list cut left) in none r.head r.trail r.cut spells trail cuts
+    where
+      flat : Known w (matching anchored head after) v → (text rest : List ℕ) × (action_in outside 0 (after_blanks v) ≡ Some (text, rest)) × (r : Rule)
+          × Spells fold defined head r.head × IsTrail fold defined after r.trail × IsCutOf r.head r.trail r.cut × IsSpelled (action_of text)
+      flat (text, rest, ends, (r, spells, trail, cuts, acts)) = (text, rest, ends, r, spells, trail, cuts, acts)
+
+  pub no_action : (t u v : List ℕ) (asked : Conditions) (subject : Subject) → starts_rule t ≡ true → conditions_at t ≡ Some (asked, u)
+      → IsSubject u subject v → action_in outside 0 (after_blanks v) ≡ None → NoLeft t
+  no_action t u v asked subject starts list cut none n w R E left =
+      let k = known n t u v asked subject w R E starts list cut left in no_some (k.0, k.1) (action_in outside 0 (after_blanks v)) k.2 none

@@ -15,3 +15,4 @@ pub mod Sections
 pub mod ActionViews
 pub mod SubjectViews
 pub mod RuleReads
+pub mod ItemReads

@@ -6,6 +6,7 @@ mod cuts;
 mod declarations;
 mod definition;
 mod error;
+mod item;
 mod laws;
 mod lines;
 mod listed;
