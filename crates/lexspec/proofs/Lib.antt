@@ -16,3 +16,4 @@ pub mod ListedLaws
 pub mod CutLaws
 pub mod RulesLaws
 pub mod ItemLaws
+pub mod ProgressLaws

@@ -417,3 +417,11 @@ module _ (names : List (List ℕ)) (fold : Bool) (defined : Definitions) where
       → IsSubject u subject v → action_in outside 0 (after_blanks v) ≡ None → NoLeft t
   no_action t u v asked subject starts list cut none n w R E left =
       let k = known n t u v asked subject w R E starts list cut left in no_some (k.0, k.1) (action_in outside 0 (after_blanks v)) k.2 none
+
+  -- the action of the rule that begins a text
+  pub acts_of : (n : ℕ) (t : List ℕ) (asked : Conditions) (subject : Subject) (action : Action) (rest : List ℕ) (w R : List Rule) (E : List EndRule) → IsItem t (rule asked subject action) rest
+      → Left names fold defined n t w R E → ActsAs w subject action
+  acts_of n t asked subject action rest w R E (starts, u, v, text, list, cut, ends, is) left =
+      let k = known n t u v asked subject w R E starts list cut left in
+      let same = (some_pair k.0 text k.1 rest (sym k.2 ∙ ends)).0 in
+      subst (ActsAs w subject) (ap action_of same ∙ sym is) k.3

@@ -1,5 +1,5 @@
 -- What the reader of a rule answers.
-use Rattle.std.specs.Prelude.{◌≡◌, ℕ, Bool, List, length, Option, Some, option_map}
+use Rattle.std.specs.Prelude.{◌≡◌, ℕ, Bool, List, map, length, Option, Some, option_map}
 use Rattle.lexmeaning.specs.Spec.{Cut, Rule}
 use Rattle.lexmeaning.specs.Tree.{Tree}
 use Rattle.lexre.specs.Spelling.{Spells}
@@ -12,6 +12,9 @@ use Rattle.lexspec.specs.declared.declarations.Declarations.{Declarations}
 use Rattle.lexspec.specs.declared.item.Front.{Front}
 use Rattle.lexspec.specs.declared.item.Front.TheVariants as F
 use Rattle.lexspec.specs.declared.item.RuleText.{RuleText}
+use Rattle.lexspec.specs.declared.taking.EndRule.{EndRule as EndRuleKept}
+use Rattle.lexspec.specs.declared.taking.Progress.{Progress}
+use Rattle.lexaction.specs.Views.{end_action_of}
 
 -- the names that rules may list, as the code keeps them
 abbrev pub names_in : Declarations → List (List ℕ)
@@ -46,3 +49,11 @@ ReadsFront d n t action rest (F.AtEnd numbers) = ReadsEnd d t action rest (optio
 
 abbrev pub ReadsItem : Declarations → ℕ → List ℕ → RuleText → Type 0
 ReadsItem d n t x = ReadsFront d n t x.action.now x.rest.now x.front
+
+-- an `<<EOF>>` rule, by the numbers of its conditions and its action
+abbrev pub end_rule_of : EndRuleKept → EndRule
+end_rule_of e = (option_map (λ v. v.items) e.conditions, end_action_of e.action)
+
+-- nothing is spelled from a rule on, where these rules wait
+abbrev pub NoRulesAfter : Declarations → Progress → RuleText → Type 0
+NoRulesAfter d s x = (n : ℕ) (t : List ℕ) (R : List Rule) (E : List EndRule) → ReadsItem d n t x → Left (names_in d) d.fold d.defs n t (map rule_of s.waiting.items) R E → ⊥

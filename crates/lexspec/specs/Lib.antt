@@ -16,3 +16,5 @@ pub mod ActionViews
 pub mod SubjectViews
 pub mod RuleReads
 pub mod ItemReads
+pub mod ActionFaults
+pub mod Agreeing

@@ -1,6 +1,7 @@
 //! Specifications of lex as values.
 #![tactic(auto)]
 
+mod acting;
 mod action_text;
 mod cuts;
 mod declarations;
@@ -18,6 +19,7 @@ mod skipped;
 mod skipping;
 mod spec;
 mod subject;
+mod taking;
 
 pub use error::{SpecError, SpecErrorKind};
 pub use laws::{examples_of_lines, one_specification, tested_specifications, tested_trees};
