@@ -17,3 +17,4 @@ pub mod CutLaws
 pub mod RulesLaws
 pub mod ItemLaws
 pub mod ProgressLaws
+pub mod PlainLaws

@@ -91,7 +91,7 @@ turned : (b : Bool) → not b ≡ true → b ≡ false
 turned false e = refl
 turned true e = no_true e
 
-block_tests : (t : List ℕ) → begins (codes "%{") t ≡ true → Tests t skipped_block
+pub block_tests : (t : List ℕ) → begins (codes "%{") t ≡ true → Tests t skipped_block
 block_tests t h = let p = opens_block t h in subst (λ z. Tests z skipped_block) (sym p.1) (refl, refl, refl)
 
 pub rule_tests : (t : List ℕ) → starts_rule t ≡ true → (AllBlank t ≡ false) × (StartsBlank t ≡ false) × (begins (codes "%%") (line_in t).0 ≡ false) × (OpensBlock t ≡ false)

@@ -1,10 +1,10 @@
 -- One rule more.
-use Rattle.std.proofs.Common.{◌≡◌, ℕ, ◌+◌, ◌-◌, Bool, true, false, ◌&&◌, if◌then◌else◌, List, [], ◌∷◌, ◌++◌, map, length, drop, Option, Some, None, Global, refl, sym, ap, subst, ◌∙◌, arith}
+use Rattle.std.proofs.Common.{◌≡◌, ℕ, ◌+◌, ◌-◌, Bool, true, false, ◌&&◌, if◌then◌else◌, List, [], ◌∷◌, ◌++◌, map, length, drop, Option, Global, refl, sym, ap, subst, ◌∙◌, arith}
 use Rattle.std.specs.Prelude.{codes, option_map, Vec}
 use Rattle.std.proofs.lemmas.List.{map-append}
 use Rattle.lexmeaning.specs.Spec as S
 use Rattle.lexaction.specs.Names.{number_from, names_of}
-use Rattle.lexaction.specs.Views.{statement_of, end_action_of}
+use Rattle.lexaction.specs.Views.{end_action_of}
 use Rattle.lexaction.specs.Actions.{SpellsAction, SpellsEndAction}
 use Rattle.lexaction.specs.Outcome as A
 use Rattle.lexaction.specs.declared.error.ActionError.{ActionError}

@@ -18,3 +18,4 @@ pub mod RuleReads
 pub mod ItemReads
 pub mod ActionFaults
 pub mod Agreeing
+pub mod PlainViews

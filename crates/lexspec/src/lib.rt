@@ -12,6 +12,7 @@ mod laws;
 mod lines;
 mod listed;
 mod newlines;
+mod plain;
 mod readers;
 mod rule;
 mod section;

@@ -1,4 +1,4 @@
-use Rattle.std.proofs.Common.{refl, rules, ap, ◌≡◌, length}
+use Rattle.std.proofs.Common.{refl, rules, ◌≡◌, length}
 use Rattle.lexaction.specs.Views.{statement_of}
 use Rattle.std.specs.Prelude.{map}
 use Rattle.lexspec.proofs.ProgressLaws.{action_bar, action_spelled, bar_taken, rule_taken, rule_refused, end_taken, end_refused, end_bar_refused, end_awaited}
