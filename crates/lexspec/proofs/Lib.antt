@@ -18,3 +18,4 @@ pub mod RulesLaws
 pub mod ItemLaws
 pub mod ProgressLaws
 pub mod PlainLaws
+pub mod EndLaws

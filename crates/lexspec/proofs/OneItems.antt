@@ -50,7 +50,7 @@ module _ (cut_once : (t : List ℕ) (stop stop' : ℕ) (at at' : Option ℕ) (tw
       (ap (λ z. matching false z after) same.0 ∙ ap (matching false head') same.1, same.2)
 
 -- what kind of line begins an item
-line_text : (t text rest : List ℕ) → line_at t ≡ Some (text, rest) → ((line_in t).0 ≡ text) × ((line_in t).1 ≡ rest)
+pub line_text : (t text rest : List ℕ) → line_at t ≡ Some (text, rest) → ((line_in t).0 ≡ text) × ((line_in t).1 ≡ rest)
 line_text [] text rest e = absurd (no e)
   where
     no : ◌≡◌ {A = Option (List ℕ × List ℕ)} None (Some (text, rest)) → ⊥
