@@ -1,7 +1,12 @@
 use crate::action_text::split_action;
+use crate::declarations::Declarations;
+use crate::item::read_rule_text;
 use crate::lines::without_returns;
+use crate::plain::plain_at;
 use crate::section::{Section, read_section};
+use crate::taking::Progress;
 use crate::{Condition, EndAction, Rule, Spec, SpecError, SpecErrorKind};
+use lexre::{PatternError, PatternErrorKind};
 use std::alloc::{AllocError, Global};
 use std::test::Fail;
 
@@ -180,5 +185,81 @@ fn ends_of_actions(rt: HostRuntime) {
             }
             None => assert!(rt; action.is_none()),
         }
+    }
+}
+
+/// Why a rule is refused that stands alone after a line of `%%`.
+fn rule_fault(alloc: Global, text: &str) -> Result<Option<SpecErrorKind>, SpecErrorKind> {
+    let declarations = Declarations::new(alloc, false)?;
+    let text = text.as_bytes();
+    if text.is_empty() || text.starts_with(b"%%") || declarations.conditions.len() > 255 {
+        return Ok(None);
+    }
+    if plain_at(text)?.is_some() {
+        return Ok(None);
+    }
+    let progress = Progress {
+        rules: Vec::new(alloc),
+        waiting: Vec::new(alloc),
+        ends: Vec::new(alloc),
+    };
+    match read_rule_text(alloc, &declarations, text, 2) {
+        Err(kind) => Ok(Some(kind)),
+        Ok(found) => match progress.with_rule(alloc, &declarations, found) {
+            Ok(_) => Ok(None),
+            Err(kind) => Ok(Some(kind)),
+        },
+    }
+}
+
+/// Texts with the faults of their first rules. (POSIX, lex, Rules in lex and Actions in lex; flex, Patterns.)
+#[test]
+fn faults_of_rules(rt: HostRuntime) {
+    let alloc = rt.alloc();
+    let range = |at| {
+        SpecErrorKind::Pattern(PatternError {
+            kind: PatternErrorKind::BadRange,
+            at,
+        })
+    };
+    let rows = [
+        ("<Z>a ;", SpecErrorKind::UnknownCondition),
+        ("<INITIAL", SpecErrorKind::UnknownCondition),
+        ("a/b$ ;", SpecErrorKind::TwoTrailing),
+        ("a/(b$ ;", SpecErrorKind::TwoTrailing),
+        ("<<EOF>>x ;", SpecErrorKind::BadEofRule),
+        ("^<<EOF>> ;", SpecErrorKind::BadEofRule),
+        ("a*/b* ;", SpecErrorKind::VariableTrailing),
+        ("a return 1;", SpecErrorKind::UnknownStatement),
+        ("a yyless(1); yyless(2);", SpecErrorKind::LessAndMore),
+        ("a yymore(); REJECT;", SpecErrorKind::RejectCombination),
+        ("a REJECT; ECHO;", SpecErrorKind::NotLast),
+        ("<<EOF>> ECHO;", SpecErrorKind::BadEofAction),
+        ("<<EOF>> |", SpecErrorKind::BadEofAction),
+        ("a yyless(0);", SpecErrorKind::BadCount),
+        ("a exit(64);", SpecErrorKind::BadStatus),
+        ("a { ECHO;", SpecErrorKind::Unclosed),
+        ("[z-a] ;", range(1)),
+        ("^[z-a] ;", range(2)),
+        ("a/[z-a] ;", range(3)),
+        ("<INITIAL>[z-a] ;", range(10)),
+    ];
+    for (text, kind) in rows {
+        assert_eq!(rt; rule_fault(alloc, text), Ok(Some(kind)));
+    }
+}
+
+/// Rules that are accepted.
+#[test]
+fn accepted_rules(rt: HostRuntime) {
+    let alloc = rt.alloc();
+    for text in [
+        "a |",
+        "<INITIAL>a$ ECHO;\n",
+        "<*>^ab/c*",
+        "<<EOF>> exit(3);",
+        "\"\"/a ;",
+    ] {
+        assert_eq!(rt; rule_fault(alloc, text), Ok(None));
     }
 }
