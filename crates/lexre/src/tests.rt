@@ -775,7 +775,7 @@ type Long = (
 
 const CLOSED: &[u8] = b"a))))))))))))))))))))))))))))))))))))))))))))))))))))))))))))))))";
 
-const LONG: [Long; 26] = [
+const LONG: [Long; 27] = [
     (b"", b"a", 65535, b"", None),
     (
         b"",
@@ -876,6 +876,13 @@ const LONG: [Long; 26] = [
         1_048_576,
         b"",
         Some((PatternErrorKind::BadInterval, 0)),
+    ),
+    (
+        b"",
+        b"a|",
+        524_288,
+        b"",
+        Some((PatternErrorKind::TooBig, 131_070)),
     ),
     (
         b"",
