@@ -1,9 +1,8 @@
 use crate::action_text::split_action;
 use crate::declarations::Declarations;
-use crate::item::read_rule_text;
 use crate::lines::without_returns;
-use crate::plain::plain_at;
 use crate::section::{Section, read_section};
+use crate::skipped::Skipped;
 use crate::taking::Progress;
 use crate::{Condition, EndAction, Rule, Spec, SpecError, SpecErrorKind};
 use lexre::{PatternError, PatternErrorKind};
@@ -188,27 +187,17 @@ fn ends_of_actions(rt: HostRuntime) {
     }
 }
 
-/// Why a rule is refused that stands alone after a line of `%%`.
+/// Why the item is refused that stands first after a line of `%%`.
 fn rule_fault(alloc: Global, text: &str) -> Result<Option<SpecErrorKind>, SpecErrorKind> {
     let declarations = Declarations::new(alloc, false)?;
     let text = text.as_bytes();
     if text.is_empty() || text.starts_with(b"%%") || declarations.conditions.len() > 255 {
         return Ok(None);
     }
-    if plain_at(text)?.is_some() {
-        return Ok(None);
-    }
-    let progress = Progress {
-        rules: Vec::new(alloc),
-        waiting: Vec::new(alloc),
-        ends: Vec::new(alloc),
-    };
-    match read_rule_text(alloc, &declarations, text, 2) {
+    let mut skipped = Skipped::new(alloc);
+    match Progress::new(alloc).with_item(alloc, &declarations, &mut skipped, text, 2) {
+        Ok(_) => Ok(None),
         Err(kind) => Ok(Some(kind)),
-        Ok(found) => match progress.with_rule(alloc, &declarations, found) {
-            Ok(_) => Ok(None),
-            Err(kind) => Ok(Some(kind)),
-        },
     }
 }
 
@@ -239,6 +228,7 @@ fn faults_of_rules(rt: HostRuntime) {
         ("a yyless(0);", SpecErrorKind::BadCount),
         ("a exit(64);", SpecErrorKind::BadStatus),
         ("a { ECHO;", SpecErrorKind::Unclosed),
+        ("%{\na", SpecErrorKind::Unclosed),
         ("[z-a] ;", range(1)),
         ("^[z-a] ;", range(2)),
         ("a/[z-a] ;", range(3)),
@@ -259,6 +249,8 @@ fn accepted_rules(rt: HostRuntime) {
         "<*>^ab/c*",
         "<<EOF>> exit(3);",
         "\"\"/a ;",
+        " int i;\n",
+        "%{\na\n%}\n",
     ] {
         assert_eq!(rt; rule_fault(alloc, text), Ok(None));
     }

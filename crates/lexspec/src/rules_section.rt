@@ -1,0 +1,84 @@
+//! The rules section, item by item. (POSIX, lex, Rules in lex; flex, Format of the Input File.)
+ghost use Rattle.std.specs.Prelude.{◌≡◌, ℕ, ◌+◌, ◌-◌, ◌<◌, ◌≤◌, ◌^◌, List, [], false, length, take, codes, IfOk, IfErr, OnOk};
+ghost use Rattle.lexspec.specs.Lines.{begins};
+ghost use Rattle.lexspec.specs.Items.{newlines};
+ghost use Rattle.lexspec.specs.ItemReads.{NoneLeft};
+ghost use Rattle.lexspec.specs.Agreeing.{Agrees};
+ghost use Rattle.lexspec.specs.PlainViews.{lines_with};
+ghost use Rattle.lexspec.specs.Outcome.{UnlessMemory};
+
+use crate::declarations::Declarations;
+use crate::error::SpecErrorKind;
+use crate::item::read_rule_text;
+use crate::plain::{Plain, plain_at};
+use crate::skipped::Skipped;
+use crate::taking::Progress;
+use std::alloc::{AllocError, Global};
+
+impl Skipped {
+    /// Takes what is skipped at a line of the rules section.
+    fn add_plain(&mut self, plain: Plain, line: u32) -> Result<(), AllocError>
+        requires { line + 1 < 2 ^ 32 }
+        ensures { OnOk result (self.new.lines.items ≡ lines_with plain self.old.next line self.old.lines.items) }
+    {
+        match plain {
+            Plain::Blank => Ok(()),
+            Plain::Code => self.add_line(line),
+            Plain::Block => self.add_block(line),
+        }
+    }
+}
+
+impl Progress {
+    /// No rule so far.
+    pub(crate) fn new(alloc: Global) -> Progress
+        ensures rules { result.rules.items ≡ [] }
+        ensures waiting { result.waiting.items ≡ [] }
+        ensures ends { result.ends.items ≡ [] }
+    {
+        Progress {
+            rules: Vec::new(alloc),
+            waiting: Vec::new(alloc),
+            ends: Vec::new(alloc),
+        }
+    }
+
+    /// The rules with that of the item that begins a text, at the line with this number, and what follows the item.
+    /// `Unclosed` is told of a block that is left open; the other faults are those of a rule.
+    pub(crate) fn with_item<'a>(
+        self,
+        alloc: Global,
+        declarations: &Declarations,
+        skipped: &mut Skipped,
+        text: &'a [u8],
+        line: u32,
+    ) -> Result<(Progress, &'a [u8]), SpecErrorKind>
+        requires few { length declarations.now.conditions.items ≤ 255 }
+        requires some { 0 < length text.now }
+        requires no_end { begins (codes "%%") text.now ≡ false }
+        requires line { line + 1 < 2 ^ 32 }
+        ensures found { IfOk result (λ x. (start : ℕ) (whole : List ℕ) → Agrees declarations.now start whole self line text.now
+            → Agrees declarations.now start whole x.0 (line + (newlines text.now - newlines x.1.now)) x.1.now) }
+        ensures counts { IfOk result (λ x. newlines (take (length text.now - length x.1.now) text.now) + newlines x.1.now ≡ newlines text.now) }
+        ensures shorter { IfOk result (λ x. length x.1.now < length text.now) }
+        ensures none { IfErr result (λ e. UnlessMemory e (NoneLeft declarations.now self line text.now)) }
+    {
+        let plain = match plain_at(text) {
+            Ok(found) => found,
+            Err(kind) => return Err(kind),
+        };
+        if let Some((skip, rest)) = plain {
+            skipped.add_plain(skip, line)?;
+            return Ok((self, rest));
+        }
+        let found = match read_rule_text(alloc, declarations, text, line) {
+            Ok(found) => found,
+            Err(kind) => return Err(kind),
+        };
+        let rest = found.rest;
+        match self.with_rule(alloc, declarations, found) {
+            Ok(progress) => Ok((progress, rest)),
+            Err(kind) => Err(kind),
+        }
+    }
+}
