@@ -20,3 +20,4 @@ pub mod ProgressLaws
 pub mod PlainLaws
 pub mod EndLaws
 pub mod StepLaws
+pub mod RestLaws

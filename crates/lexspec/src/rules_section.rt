@@ -5,15 +5,30 @@ ghost use Rattle.lexspec.specs.Items.{newlines};
 ghost use Rattle.lexspec.specs.ItemReads.{NoneLeft};
 ghost use Rattle.lexspec.specs.Agreeing.{Agrees};
 ghost use Rattle.lexspec.specs.PlainViews.{lines_with};
+ghost use Rattle.lexspec.specs.RulesReads.{HasRules, NoSuchRules};
 ghost use Rattle.lexspec.specs.Outcome.{UnlessMemory};
+ghost use Rattle.lexspec.specs.declared.error.SpecErrorKind.TheVariants.{DanglingBar};
 
 use crate::declarations::Declarations;
-use crate::error::SpecErrorKind;
+use crate::error::{SpecError, SpecErrorKind};
 use crate::item::read_rule_text;
+use crate::newlines::newlines_before;
 use crate::plain::{Plain, plain_at};
+use crate::rule::Rule;
 use crate::skipped::Skipped;
-use crate::taking::Progress;
+use crate::taking::{EndRule, Progress};
 use std::alloc::{AllocError, Global};
+
+/// What the rules section has, and what follows it.
+#[derive(Drop)]
+pub(crate) struct RulesSection<'a> {
+    pub(crate) rules: Vec<Rule>,
+    pub(crate) ends: Vec<EndRule>,
+    /// The text from the line on that begins with `%%`, or nothing.
+    pub(crate) rest: &'a [u8],
+    /// The number of that line, from 1.
+    pub(crate) line: u32,
+}
 
 impl Skipped {
     /// Takes what is skipped at a line of the rules section.
@@ -81,4 +96,65 @@ impl Progress {
             Err(kind) => Err(kind),
         }
     }
+
+    /// The rules of a section that ends with this rest, at this line. `DanglingBar` is told of the last rule that waits.
+    fn ended(self, rest: &[u8], line: u32) -> Result<RulesSection<'_>, SpecError>
+        ensures waiting { IfOk result (λ s. length self.waiting.items ≡ 0) }
+        ensures rules { IfOk result (λ s. s.rules.items ≡ self.rules.items) }
+        ensures ends { IfOk result (λ s. s.ends.items ≡ self.ends.items) }
+        ensures rest { IfOk result (λ s. s.rest.now ≡ rest.now) }
+        ensures line { IfOk result (λ s. s.line ≡ line) }
+        ensures none { IfErr result (λ e. length self.waiting.items ≡ 0 → ⊥) }
+        ensures kind { IfErr result (λ e. e.kind ≡ DanglingBar) }
+    {
+        let Progress {
+            rules,
+            waiting,
+            ends,
+        } = self;
+        match waiting.last() {
+            Some(last) => Err(SpecError {
+                line: last.line,
+                kind: SpecErrorKind::DanglingBar,
+            }),
+            None => Ok(RulesSection {
+                rules,
+                ends,
+                rest,
+                line,
+            }),
+        }
+    }
+}
+
+/// The rules section, which begins at the line with this number, up to a line that begins with `%%` or the end. The lines
+/// of skipped code are added to the others. The first faulty item is refused, and after the last `DanglingBar` where rules
+/// wait for an action.
+pub(crate) fn read_rules<'a>(
+    alloc: Global,
+    declarations: &Declarations,
+    skipped: &mut Skipped,
+    text: &'a [u8],
+    first: u32,
+) -> Result<RulesSection<'a>, SpecError>
+    requires few { length declarations.now.conditions.items ≤ 255 }
+    requires short { length text.now ≤ 1048576 }
+    requires first { first ≤ 1048577 }
+    ensures found { IfOk result (λ s. HasRules declarations.now first text.now s) }
+    ensures line { IfOk result (λ s. s.line + newlines s.rest.now ≡ first + newlines text.now) }
+    ensures none { IfErr result (λ e. UnlessMemory e.kind (NoSuchRules declarations.now first text.now)) }
+{
+    let mut progress = Progress::new(alloc);
+    let mut rest = text;
+    let mut line = first;
+    'items: while !rest.is_empty() && !rest.starts_with(b"%%") {
+        let (next, after) = match progress.with_item(alloc, declarations, skipped, rest, line) {
+            Ok(found) => found,
+            Err(kind) => return Err(SpecError { line, kind }),
+        };
+        line += newlines_before(rest, after);
+        progress = next;
+        rest = after;
+    }
+    progress.ended(rest, line)
 }

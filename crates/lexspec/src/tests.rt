@@ -1,6 +1,7 @@
 use crate::action_text::split_action;
 use crate::declarations::Declarations;
 use crate::lines::without_returns;
+use crate::rules_section::read_rules;
 use crate::section::{Section, read_section};
 use crate::skipped::Skipped;
 use crate::taking::Progress;
@@ -253,5 +254,56 @@ fn accepted_rules(rt: HostRuntime) {
         "%{\na\n%}\n",
     ] {
         assert_eq!(rt; rule_fault(alloc, text), Ok(None));
+    }
+}
+
+/// The number of rules of a section that begins at line 2, with what follows it, or its first fault.
+fn rules_of(alloc: Global, text: &str) -> Result<(usize, &[u8], u32), SpecError> {
+    let memory = SpecError {
+        line: 0,
+        kind: SpecErrorKind::OutOfMemory,
+    };
+    let Ok(declarations) = Declarations::new(alloc, false) else {
+        return Err(memory);
+    };
+    let text = text.as_bytes();
+    if text.len() > 1_048_576 || declarations.conditions.len() > 255 {
+        return Err(memory);
+    }
+    let mut skipped = Skipped::new(alloc);
+    match read_rules(alloc, &declarations, &mut skipped, text, 2) {
+        Ok(section) => Ok((section.rules.len(), section.rest, section.line)),
+        Err(fault) => Err(fault),
+    }
+}
+
+/// Rules sections, with the line of what follows. (POSIX, lex, Rules in lex and User Subroutines in lex.)
+#[test]
+fn rules_sections(rt: HostRuntime) {
+    let alloc = rt.alloc();
+    let rows = [
+        ("", 0, "", 2),
+        ("\n int i;\na ;\n", 1, "", 5),
+        ("a |\n\nb ECHO;\n%%\nc", 2, "%%\nc", 5),
+        ("%{\na\n%}\na { ECHO;\n}\n%%", 1, "%%", 7),
+        ("<<EOF>> ;\na ;", 1, "", 3),
+    ];
+    for (text, count, rest, line) in rows {
+        assert_eq!(rt; rules_of(alloc, text), Ok((count, rest.as_bytes(), line)));
+    }
+}
+
+/// Rules sections with the lines of their faults.
+#[test]
+fn faults_of_rules_sections(rt: HostRuntime) {
+    let alloc = rt.alloc();
+    let rows = [
+        ("a |", 2, SpecErrorKind::DanglingBar),
+        ("a |\nb |\n\n", 3, SpecErrorKind::DanglingBar),
+        ("a |\n%{", 3, SpecErrorKind::Unclosed),
+        ("a ;\n<Z>a ;", 3, SpecErrorKind::UnknownCondition),
+    ];
+    for (text, line, kind) in rows {
+        assert_eq!(rt; rules_of(alloc, text), Err(SpecError { line, kind }));
     }
 }
