@@ -21,3 +21,4 @@ pub mod PlainLaws
 pub mod EndLaws
 pub mod StepLaws
 pub mod RestLaws
+pub mod AwaitingLaws

@@ -5,6 +5,7 @@ ghost use Rattle.lexspec.specs.Items.{newlines};
 ghost use Rattle.lexspec.specs.ItemReads.{NoneLeft};
 ghost use Rattle.lexspec.specs.Agreeing.{Agrees};
 ghost use Rattle.lexspec.specs.PlainViews.{lines_with};
+ghost use Rattle.lexspec.specs.EndOpenings.{begins_end};
 ghost use Rattle.lexspec.specs.RulesReads.{HasRules, NoSuchRules};
 ghost use Rattle.lexspec.specs.Outcome.{UnlessMemory};
 ghost use Rattle.lexspec.specs.declared.error.SpecErrorKind.TheVariants.{DanglingBar};
@@ -16,6 +17,7 @@ use crate::newlines::newlines_before;
 use crate::plain::{Plain, plain_at};
 use crate::rule::Rule;
 use crate::skipped::Skipped;
+use crate::subject::conditions_at;
 use crate::taking::{EndRule, Progress};
 use std::alloc::{AllocError, Global};
 
@@ -28,6 +30,16 @@ pub(crate) struct RulesSection<'a> {
     pub(crate) rest: &'a [u8],
     /// The number of that line, from 1.
     pub(crate) line: u32,
+}
+
+/// Whether a text begins with an `<<EOF>>` rule, with or without a condition list.
+fn begins_end(text: &[u8]) -> bool
+    ensures { result ≡ begins_end text.now }
+{
+    match conditions_at(text) {
+        Some((_, after)) => after.starts_with(b"<<EOF>>"),
+        None => false,
+    }
 }
 
 impl Skipped {
@@ -59,7 +71,8 @@ impl Progress {
     }
 
     /// The rules with that of the item that begins a text, at the line with this number, and what follows the item.
-    /// `Unclosed` is told of a block that is left open; the other faults are those of a rule.
+    /// `Unclosed` is told of a block that is left open, and `DanglingBar` of an `<<EOF>>` rule where others wait for its
+    /// action; the other faults are those of a rule.
     pub(crate) fn with_item<'a>(
         self,
         alloc: Global,
@@ -86,6 +99,9 @@ impl Progress {
             skipped.add_plain(skip, line)?;
             return Ok((self, rest));
         }
+        if !self.waiting.is_empty() && begins_end(text) {
+            return Err(SpecErrorKind::DanglingBar);
+        }
         let found = match read_rule_text(alloc, declarations, text, line) {
             Ok(found) => found,
             Err(kind) => return Err(kind),
@@ -94,6 +110,16 @@ impl Progress {
         match self.with_rule(alloc, declarations, found) {
             Ok(progress) => Ok((progress, rest)),
             Err(kind) => Err(kind),
+        }
+    }
+
+    /// The line of the last rule that waits for an action, or else this one.
+    fn line_waiting(&self, line: u32) -> u32
+        ensures { length self.now.waiting.items ≡ 0 → result ≡ line }
+    {
+        match self.waiting.last() {
+            Some(last) => last.line,
+            None => line,
         }
     }
 
@@ -148,9 +174,17 @@ pub(crate) fn read_rules<'a>(
     let mut rest = text;
     let mut line = first;
     'items: while !rest.is_empty() && !rest.starts_with(b"%%") {
+        let waiting = progress.line_waiting(line);
         let (next, after) = match progress.with_item(alloc, declarations, skipped, rest, line) {
             Ok(found) => found,
-            Err(kind) => return Err(SpecError { line, kind }),
+            Err(kind) => {
+                let line = if kind == SpecErrorKind::DanglingBar {
+                    waiting
+                } else {
+                    line
+                };
+                return Err(SpecError { line, kind });
+            }
         };
         line += newlines_before(rest, after);
         progress = next;

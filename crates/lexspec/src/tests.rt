@@ -301,6 +301,8 @@ fn faults_of_rules_sections(rt: HostRuntime) {
         ("a |", 2, SpecErrorKind::DanglingBar),
         ("a |\nb |\n\n", 3, SpecErrorKind::DanglingBar),
         ("a |\n%{", 3, SpecErrorKind::Unclosed),
+        ("a |\n<<EOF>> ;", 2, SpecErrorKind::DanglingBar),
+        ("a |\n<Z><<EOF>> ;", 2, SpecErrorKind::DanglingBar),
         ("a ;\n<Z>a ;", 3, SpecErrorKind::UnknownCondition),
     ];
     for (text, line, kind) in rows {

@@ -1,6 +1,8 @@
+use Rattle.std.proofs.Common.{rules, sym, ◌∙◌, ◌≡◌, length}
 use Rattle.lexspec.specs.PlainViews.{item_of}
 use Rattle.lexspec.proofs.SectionLaws.{newlines_front}
 use Rattle.lexspec.proofs.EndLaws.{item_ends}
+use Rattle.lexspec.proofs.AwaitingLaws.{end_refused}
 use Rattle.lexspec.proofs.StepLaws.{reads_shorter, reads_counts, plain_agrees, plain_refused, text_refused, rule_refused}
 use Rattle.lexspec.proofs.taking.Progress.with_item.Goals as goal
 
@@ -27,3 +29,12 @@ returns-in-Ok-with_rule-clause-shorter c = reads_shorter c.args.declarations.now
 pub returns-in-Err-with_rule-clause-none : goal.returns-in-Err-with_rule-clause-none
 returns-in-Err-with_rule-clause-none c =
     rule_refused c.args.declarations.now c.args.self c.args.line c.args.text.now c.in-Ok-read_rule_text.found c.in-Err-with_rule.kind c.in-Ok-read_rule_text.ensures.found c.in-Err-with_rule.ensures.none
+
+pub returns-then-begins_end-clause-none : goal.returns-then-begins_end-clause-none
+returns-then-begins_end-clause-none c =
+    let some : length c.args.self.waiting.items ≡ 0 → ⊥ = search rules in
+    end_refused c.args.declarations.now c.args.self c.args.line c.args.text.now (rw c.in_default.is at c.in-Ok.ensures.rule) (sym c.begins_end.ensures ∙ c.if-begins_end.true) some
+
+pub returns-in-Ok-with_rule-clause-found : goal.returns-in-Ok-with_rule-clause-found
+returns-in-Ok-with_rule-clause-found c = λ start whole a.
+    c.in-Ok-with_rule.ensures.found start c.args.line whole c.args.text.now c.in-Ok-read_rule_text.ensures.found a
