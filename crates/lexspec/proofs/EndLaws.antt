@@ -72,7 +72,7 @@ action_ends (c ∷ t) string (suc n) = either (c ∷ t) (c == 10) _ _ (nothing (
 action_ends (c ∷ t) escaped zero = either (c ∷ t) (c == 10) _ _ (nothing (c ∷ t)) (byte_ends c t _ (action_ends t string 0))
 action_ends (c ∷ t) escaped (suc n) = either (c ∷ t) (c == 10) _ _ (nothing (c ∷ t)) (byte_ends c t _ (action_ends t string (suc n)))
 
-conditions_end : (t : List ℕ) → Each (conditions_at t) (λ (x : Conditions × List ℕ). EndsWith t x.1)
+pub conditions_end : (t : List ℕ) → Each (conditions_at t) (λ (x : Conditions × List ℕ). EndsWith t x.1)
 unfolding conditions_at
 conditions_end t =
     let P : Conditions × List ℕ → Type 0 = λ x. EndsWith t x.1 in
@@ -84,7 +84,7 @@ conditions_end t =
 by_drop : (t rest : List ℕ) (n : ℕ) → rest ≡ drop n t → EndsWith t rest
 by_drop t rest n e = subst (EndsWith t) (sym e) (dropped n t)
 
-subject_ends : (t : List ℕ) (s : Subject) (rest : List ℕ) → IsSubject t s rest → EndsWith t rest
+pub subject_ends : (t : List ℕ) (s : Subject) (rest : List ℕ) → IsSubject t s rest → EndsWith t rest
 subject_ends t at_end rest (on, e, b) = by_drop t rest 7 e
 subject_ends t (matching true head after) rest (on, off, (stop, at, special, cut, parts, e)) = ends_on t (drop 1 t) rest (dropped 1 t) (by_drop (drop 1 t) rest stop e)
 subject_ends t (matching false head after) rest (on, off, (stop, at, special, cut, parts, e)) = by_drop t rest stop e

@@ -19,3 +19,6 @@ pub mod ItemLaws
 pub mod ProgressLaws
 pub mod PlainLaws
 pub mod EndLaws
+pub mod StepLaws
+pub mod RestLaws
+pub mod AwaitingLaws

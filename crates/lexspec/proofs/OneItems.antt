@@ -13,7 +13,7 @@ pub both_ways : {A : Type 0} (b : Bool) → b ≡ true → b ≡ false → A
 both_ways b h k = no_true (sym k ∙ h)
 
 -- `^` and `<` are not the same byte
-not_caret : (u : List ℕ) → begins (codes "<<EOF>>") u ≡ true → begins (codes "^") u ≡ false
+pub not_caret : (u : List ℕ) → begins (codes "<<EOF>>") u ≡ true → begins (codes "^") u ≡ false
 not_caret [] h = no_true h
 not_caret (c ∷ u) h = from u c (eqb-true 60 c (first c u h))
   where

@@ -57,3 +57,7 @@ end_rule_of e = (option_map (λ v. v.items) e.conditions, end_action_of e.action
 -- nothing is spelled from a rule on, where these rules wait
 abbrev pub NoRulesAfter : Declarations → Progress → RuleText → Type 0
 NoRulesAfter d s x = (n : ℕ) (t : List ℕ) (R : List Rule) (E : List EndRule) → ReadsItem d n t x → Left (names_in d) d.fold d.defs n t (map rule_of s.waiting.items) R E → ⊥
+
+-- the text spells no rules from the line n on, where these rules wait
+abbrev pub NoneLeft : Declarations → Progress → ℕ → List ℕ → Type 0
+NoneLeft d s n t = (R : List Rule) (E : List EndRule) → Left (names_in d) d.fold d.defs n t (map rule_of s.waiting.items) R E → ⊥

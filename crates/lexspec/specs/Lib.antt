@@ -19,3 +19,5 @@ pub mod ItemReads
 pub mod ActionFaults
 pub mod Agreeing
 pub mod PlainViews
+pub mod RulesReads
+pub mod EndOpenings

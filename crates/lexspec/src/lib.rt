@@ -15,6 +15,7 @@ mod newlines;
 mod plain;
 mod readers;
 mod rule;
+mod rules_section;
 mod section;
 mod skipped;
 mod skipping;

@@ -1,9 +1,9 @@
 use crate::action_text::split_action;
 use crate::declarations::Declarations;
-use crate::item::read_rule_text;
 use crate::lines::without_returns;
-use crate::plain::plain_at;
+use crate::rules_section::read_rules;
 use crate::section::{Section, read_section};
+use crate::skipped::Skipped;
 use crate::taking::Progress;
 use crate::{Condition, EndAction, Rule, Spec, SpecError, SpecErrorKind};
 use lexre::{PatternError, PatternErrorKind};
@@ -188,27 +188,17 @@ fn ends_of_actions(rt: HostRuntime) {
     }
 }
 
-/// Why a rule is refused that stands alone after a line of `%%`.
+/// Why the item is refused that stands first after a line of `%%`.
 fn rule_fault(alloc: Global, text: &str) -> Result<Option<SpecErrorKind>, SpecErrorKind> {
     let declarations = Declarations::new(alloc, false)?;
     let text = text.as_bytes();
     if text.is_empty() || text.starts_with(b"%%") || declarations.conditions.len() > 255 {
         return Ok(None);
     }
-    if plain_at(text)?.is_some() {
-        return Ok(None);
-    }
-    let progress = Progress {
-        rules: Vec::new(alloc),
-        waiting: Vec::new(alloc),
-        ends: Vec::new(alloc),
-    };
-    match read_rule_text(alloc, &declarations, text, 2) {
+    let mut skipped = Skipped::new(alloc);
+    match Progress::new(alloc).with_item(alloc, &declarations, &mut skipped, text, 2) {
+        Ok(_) => Ok(None),
         Err(kind) => Ok(Some(kind)),
-        Ok(found) => match progress.with_rule(alloc, &declarations, found) {
-            Ok(_) => Ok(None),
-            Err(kind) => Ok(Some(kind)),
-        },
     }
 }
 
@@ -239,6 +229,7 @@ fn faults_of_rules(rt: HostRuntime) {
         ("a yyless(0);", SpecErrorKind::BadCount),
         ("a exit(64);", SpecErrorKind::BadStatus),
         ("a { ECHO;", SpecErrorKind::Unclosed),
+        ("%{\na", SpecErrorKind::Unclosed),
         ("[z-a] ;", range(1)),
         ("^[z-a] ;", range(2)),
         ("a/[z-a] ;", range(3)),
@@ -259,7 +250,62 @@ fn accepted_rules(rt: HostRuntime) {
         "<*>^ab/c*",
         "<<EOF>> exit(3);",
         "\"\"/a ;",
+        " int i;\n",
+        "%{\na\n%}\n",
     ] {
         assert_eq!(rt; rule_fault(alloc, text), Ok(None));
+    }
+}
+
+/// The number of rules of a section that begins at line 2, with what follows it, or its first fault.
+fn rules_of(alloc: Global, text: &str) -> Result<(usize, &[u8], u32), SpecError> {
+    let memory = SpecError {
+        line: 0,
+        kind: SpecErrorKind::OutOfMemory,
+    };
+    let Ok(declarations) = Declarations::new(alloc, false) else {
+        return Err(memory);
+    };
+    let text = text.as_bytes();
+    if text.len() > 1_048_576 || declarations.conditions.len() > 255 {
+        return Err(memory);
+    }
+    let mut skipped = Skipped::new(alloc);
+    match read_rules(alloc, &declarations, &mut skipped, text, 2) {
+        Ok(section) => Ok((section.rules.len(), section.rest, section.line)),
+        Err(fault) => Err(fault),
+    }
+}
+
+/// Rules sections, with the line of what follows. (POSIX, lex, Rules in lex and User Subroutines in lex.)
+#[test]
+fn rules_sections(rt: HostRuntime) {
+    let alloc = rt.alloc();
+    let rows = [
+        ("", 0, "", 2),
+        ("\n int i;\na ;\n", 1, "", 5),
+        ("a |\n\nb ECHO;\n%%\nc", 2, "%%\nc", 5),
+        ("%{\na\n%}\na { ECHO;\n}\n%%", 1, "%%", 7),
+        ("<<EOF>> ;\na ;", 1, "", 3),
+    ];
+    for (text, count, rest, line) in rows {
+        assert_eq!(rt; rules_of(alloc, text), Ok((count, rest.as_bytes(), line)));
+    }
+}
+
+/// Rules sections with the lines of their faults.
+#[test]
+fn faults_of_rules_sections(rt: HostRuntime) {
+    let alloc = rt.alloc();
+    let rows = [
+        ("a |", 2, SpecErrorKind::DanglingBar),
+        ("a |\nb |\n\n", 3, SpecErrorKind::DanglingBar),
+        ("a |\n%{", 3, SpecErrorKind::Unclosed),
+        ("a |\n<<EOF>> ;", 2, SpecErrorKind::DanglingBar),
+        ("a |\n<Z><<EOF>> ;", 2, SpecErrorKind::DanglingBar),
+        ("a ;\n<Z>a ;", 3, SpecErrorKind::UnknownCondition),
+    ];
+    for (text, line, kind) in rows {
+        assert_eq!(rt; rules_of(alloc, text), Err(SpecError { line, kind }));
     }
 }
