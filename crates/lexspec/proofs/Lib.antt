@@ -19,3 +19,4 @@ pub mod ItemLaws
 pub mod ProgressLaws
 pub mod PlainLaws
 pub mod EndLaws
+pub mod EndingLaws

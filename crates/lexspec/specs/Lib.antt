@@ -19,3 +19,4 @@ pub mod ItemReads
 pub mod ActionFaults
 pub mod Agreeing
 pub mod PlainViews
+pub mod Endings

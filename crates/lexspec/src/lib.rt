@@ -6,6 +6,7 @@ mod action_text;
 mod cuts;
 mod declarations;
 mod definition;
+mod endings;
 mod error;
 mod item;
 mod laws;
