@@ -1,8 +1,10 @@
 //! The ends of conditions, by the `<<EOF>>` rules. (flex, End-of-File Rules.)
-ghost use Rattle.std.specs.Prelude.{◌≡◌, ◌==◌, ℕ, true, false, List, [], ◌∷◌, ◌++◌, map, OnOk, IfErr};
+ghost use Rattle.std.specs.Prelude.{◌≡◌, ◌==◌, ◌≤◌, ℕ, true, false, List, [], ◌∷◌, ◌++◌, map, length, OnOk, IfOk, IfErr};
 ghost use Rattle.std.specs.List.{list_any};
 ghost use Rattle.lexspec.specs.Endings.{numbers_kept, clashes, any_clashes, AreOrdered};
-ghost use Rattle.lexspec.specs.Files.{AreSingle};
+ghost use Rattle.lexaction.specs.Views.{condition_of, end_action_of};
+ghost use Rattle.lexspec.specs.Declaring.{declared_of};
+ghost use Rattle.lexspec.specs.Files.{lists_number, unlisted_end as unlisted_end_in, end_in, conditions_with, AreSingle};
 ghost use Rattle.lexspec.specs.ItemReads.{end_rule_of};
 ghost use Rattle.lexspec.specs.RuleItems.{EndRule as EndRuleMeant};
 ghost use Rattle.lexspec.specs.Tests.{sound_list};
@@ -10,6 +12,8 @@ ghost use Rattle.lexspec.specs.Outcome.{UnlessMemory};
 
 use crate::error::SpecErrorKind;
 use crate::taking::EndRule;
+use lexaction::{Condition, EndAction};
+use std::alloc::{AllocError, Global};
 
 /// Whether the number is in the list.
 fn is_listed(numbers: &[u8], number: u8) -> bool
@@ -62,4 +66,77 @@ pub(crate) fn check_single(ends: &[EndRule]) -> Result<(), SpecErrorKind>
         }
     }
     Ok(())
+}
+
+/// A copy of an end action.
+fn copy_end(alloc: Global, end: &EndAction) -> Result<EndAction, AllocError>
+    ensures { IfOk result (λ e. end_action_of e ≡ end_action_of end.now) }
+{
+    Ok(EndAction {
+        print: Vec::from_slice(alloc, &end.print)?,
+        status: end.status,
+    })
+}
+
+/// The end action of the conditions that no rule lists: that of the rule without a list, else nothing, with status 0.
+fn unlisted_end(alloc: Global, ends: &[EndRule]) -> Result<EndAction, AllocError>
+    ensures { IfOk result (λ e. end_action_of e ≡ unlisted_end_in (map end_rule_of ends.now)) }
+{
+    for end in ends {
+        if end.conditions.is_none() {
+            return copy_end(alloc, &end.action);
+        }
+    }
+    Ok(EndAction {
+        print: Vec::new(alloc),
+        status: 0,
+    })
+}
+
+/// Whether the rule lists the condition with the number.
+fn lists(end: &EndRule, number: u8) -> bool
+    ensures { result ≡ lists_number (numbers_kept end.now) number }
+{
+    match &end.conditions {
+        None => false,
+        Some(numbers) => is_listed(numbers, number),
+    }
+}
+
+/// The end action of the condition with the number: that of the first rule that lists it, else `unlisted_end`.
+fn end_of(alloc: Global, ends: &[EndRule], number: u8) -> Result<EndAction, AllocError>
+    ensures { IfOk result (λ e. end_action_of e ≡ end_in (map end_rule_of ends.now) (map end_rule_of ends.now) number) }
+{
+    for end in ends {
+        if lists(end, number) {
+            return copy_end(alloc, &end.action);
+        }
+    }
+    unlisted_end(alloc, ends)
+}
+
+/// The condition with this end action.
+fn with_end(condition: Condition, end: EndAction) -> Condition
+    ensures { condition_of result ≡ record { name = condition.name.items; exclusive = condition.exclusive; end = end_action_of end } }
+{
+    let mut ended = condition;
+    ended.end = end;
+    ended
+}
+
+/// The conditions, each with the end action that the `<<EOF>>` rules give it.
+pub(crate) fn with_ends(
+    alloc: Global,
+    conditions: Vec<Condition>,
+    ends: &[EndRule],
+) -> Result<Vec<Condition>, AllocError>
+    requires { length conditions.items ≤ 255 }
+    ensures { IfOk result (λ cs. map condition_of cs.items ≡ conditions_with 0 (map declared_of conditions.items) (map end_rule_of ends.now)) }
+{
+    let mut ended = Vec::new(alloc);
+    for condition in conditions {
+        let end = end_of(alloc, ends, ended.len() as u8)?;
+        ended.push(with_end(condition, end))?;
+    }
+    Ok(ended)
 }

@@ -1,6 +1,6 @@
 use crate::action_text::split_action;
 use crate::declarations::Declarations;
-use crate::endings::{check_single, may_join};
+use crate::endings::{check_single, may_join, with_ends};
 use crate::item::read_rule_text;
 use crate::lines::without_returns;
 use crate::plain::plain_at;
@@ -321,4 +321,48 @@ fn checked_ends(rt: HostRuntime) {
     let fourth = end_rule(alloc, Some([2].as_slice()), 0).expect(&rt, "memory");
     ends.push(fourth).expect(&rt, "memory");
     assert!(rt; check_single(&ends) == Err(SpecErrorKind::DuplicateEof));
+}
+
+/// The status at the end of each of four conditions, of which the rules list 1 and 3, and perhaps none.
+fn statuses(alloc: Global, unlisted: Option<u8>) -> Result<Vec<u8>, AllocError> {
+    let mut conditions: Vec<Condition> = Vec::new(alloc);
+    let mut ends: Vec<EndRule> = Vec::new(alloc);
+    if let Some(status) = unlisted {
+        ends.push(end_rule(alloc, None, status)?)?;
+    }
+    ends.push(end_rule(alloc, Some([1].as_slice()), 5)?)?;
+    ends.push(end_rule(alloc, Some([3].as_slice()), 6)?)?;
+    for name in [
+        b"INITIAL".as_slice(),
+        b"A".as_slice(),
+        b"B".as_slice(),
+        b"C".as_slice(),
+    ] {
+        let end = EndAction {
+            print: Vec::new(alloc),
+            status: 0,
+        };
+        conditions.push(Condition {
+            name: Vec::from_slice(alloc, name)?,
+            exclusive: false,
+            end,
+        })?;
+    }
+    let mut found = Vec::new(alloc);
+    if conditions.len() <= 255 {
+        for condition in with_ends(alloc, conditions, &ends)? {
+            found.push(condition.end.status)?;
+        }
+    }
+    Ok(found)
+}
+
+/// A rule without a list is the end of the conditions that have none. (flex, End-of-File Rules.)
+#[test]
+fn ends_of_conditions(rt: HostRuntime) {
+    let alloc = rt.alloc();
+    let all = statuses(alloc, Some(7)).expect(&rt, "memory");
+    assert_eq!(rt; all.as_slice(), [7, 5, 7, 6].as_slice());
+    let listed = statuses(alloc, None).expect(&rt, "memory");
+    assert_eq!(rt; listed.as_slice(), [0, 5, 0, 6].as_slice());
 }
