@@ -20,3 +20,5 @@ pub mod ProgressLaws
 pub mod PlainLaws
 pub mod EndLaws
 pub mod EndingLaws
+pub mod PassLaws
+pub mod SideLaws

@@ -20,3 +20,4 @@ pub mod ActionFaults
 pub mod Agreeing
 pub mod PlainViews
 pub mod Endings
+pub mod SoundSides
