@@ -1,12 +1,12 @@
 -- What the items of the rules section spell passes the test for soundness.
-use Rattle.std.proofs.Common.{◌≡◌, ℕ, suc, ◌≤◌, Bool, true, false, ◌&&◌, if◌then◌else◌, List, [], ◌∷◌, length, Option, Some, None, IfSome, refl, sym, ap, subst, ◌∙◌, arith}
+use Rattle.std.proofs.Common.{◌≡◌, ℕ, suc, ◌≤◌, Bool, true, false, ◌&&◌, if◌then◌else◌, List, [], ◌∷◌, length, Option, Some, None, IfSome, refl, sym, ap, subst, ◌∙◌, arith, map}
 use Rattle.std.specs.Prelude.{nat_le}
 use Rattle.std.proofs.lemmas.Bool.{and_parts, and_from, le-leb}
 use Rattle.std.proofs.lemmas.List.{length-map}
 use Rattle.lexmeaning.specs.Shapes.{IsSoundTree}
 use Rattle.lexmeaning.specs.Tree.{Tree}
 use Rattle.lexmeaning.specs.Legal.{all_in_range, ends_last, are_joined, are_compatible}
-use Rattle.lexmeaning.specs.Spec.{Rule, Statement}
+use Rattle.lexmeaning.specs.Spec.{Rule, Statement, Condition}
 use Rattle.lexre.specs.Definitions.{Definitions}
 use Rattle.lexaction.specs.Names.{number_from}
 use Rattle.lexaction.specs.Actions.{are_few, SpellsAction}
@@ -15,9 +15,13 @@ use Rattle.lexspec.specs.DefinitionLines.{Declared, names_of}
 use Rattle.lexspec.specs.Files.{lists_number, unlisted_end, end_in, conditions_with}
 use Rattle.lexspec.specs.Items.{Conditions, Trailing, at_end, matching, Action, bar, spelled, Item, skipped, skipped_line, skipped_block, rule}
 use Rattle.lexspec.specs.RuleItems.{EndRule, IsActionOf, IsRule, AreRules}
+use Rattle.lexspec.specs.Declaring.{declared_of}
+use Rattle.lexspec.specs.ItemReads.{names_in}
+use Rattle.lexspec.specs.declared.declarations.Declarations.{Declarations}
 use Rattle.lexspec.specs.SoundSides.{HasSoundSides, HaveSoundSides}
 use Rattle.lexspec.specs.Tests.{sound_tree, sound_trail, cut_fits, sound_list, legal_action as legal_test, sound_rule, sound_rules, sound_conditions, is_sound}
 use Rattle.lexspec.proofs.CutLaws.{cut_is_tested}
+use Rattle.lexspec.proofs.DeclaringLaws.{names_kept}
 use Rattle.lexspec.proofs.EndingLaws.{numbers_ordered}
 use Rattle.lexspec.proofs.TestLaws.{sound_is_tested}
 
@@ -135,3 +139,15 @@ spec_passes cs fold defined is rs ends some few few_rules h sides =
     (conditions_pass (names_of cs) fold defined some_name 0 cs ends small) in
     and_from (nat_le 1 (length conditions) && nat_le (length conditions) 255 && nat_le (length rs) 4096 && sound_conditions conditions) (sound_rules (length conditions) rs) three
     (ap (λ n. sound_rules n rs) (sym same) ∙ rules_pass (names_of cs) fold defined some_name is rs ends h sides)
+
+-- The same of what the code keeps: the declared conditions, with their ends.
+pub kept_passes : (d : Declarations) (fold : Bool) (defined : Definitions) (is : List (ℕ × Item)) (rs : List Rule) (ends : List EndRule) (cs : List Condition) → 1 ≤ length d.conditions.items
+    → length d.conditions.items ≤ 255 → length rs ≤ 4096 → AreRules (names_in d) fold defined is rs ends → HaveSoundSides rs → cs ≡ conditions_with 0 (map declared_of d.conditions.items) ends
+    → is_sound (record { conditions = cs; rules = rs }) ≡ true
+kept_passes d fold defined is rs ends cs some few few_rules h sides are =
+    let kept = map declared_of d.conditions.items in
+    let count : length kept ≡ length d.conditions.items = length-map d.conditions.items declared_of in
+    let some_kept : 1 ≤ length kept = omega arith in
+    let few_kept : length kept ≤ 255 = omega arith in
+    ap (λ z. is_sound (record { conditions = z; rules = rs })) are
+    ∙ spec_passes kept fold defined is rs ends some_kept few_kept few_rules (subst (λ ns. AreRules ns fold defined is rs ends) (sym (names_kept d.conditions.items)) h) sides
