@@ -22,3 +22,6 @@ pub mod EndLaws
 pub mod StepLaws
 pub mod RestLaws
 pub mod AwaitingLaws
+pub mod EndingLaws
+pub mod PassLaws
+pub mod SideLaws

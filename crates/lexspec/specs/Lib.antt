@@ -21,3 +21,5 @@ pub mod Agreeing
 pub mod PlainViews
 pub mod RulesReads
 pub mod EndOpenings
+pub mod Endings
+pub mod SoundSides

@@ -10,6 +10,7 @@ ghost use Rattle.lexspec.specs.RuleItems.{IsTrail, IsCutOf};
 ghost use Rattle.lexspec.specs.RuleViews.{rule_of, cut_of};
 ghost use Rattle.lexspec.specs.SubjectViews.{trailing_of};
 ghost use Rattle.lexspec.specs.ItemReads.{NoRules, NoSides, ReadsItem};
+ghost use Rattle.lexspec.specs.SoundSides.{AreSoundSides, HasSoundFront};
 ghost use Rattle.lexspec.specs.Outcome.{UnlessMemory};
 
 use crate::action_text::split_action;
@@ -102,6 +103,7 @@ fn read_sides(
     ensures head { IfOk result (λ s. Spells declarations.now.fold declarations.now.defs head.now (tree_of s.head)) }
     ensures trail { IfOk result (λ s. IsTrail declarations.now.fold declarations.now.defs (trailing_of trail.entry) (option_map tree_of s.trail)) }
     ensures cut { IfOk result (λ s. IsCutOf (tree_of s.head) (option_map tree_of s.trail) (cut_of s.cut)) }
+    ensures sound { IfOk result (λ s. AreSoundSides (tree_of s.head) (option_map tree_of s.trail)) }
     ensures none { IfErr result (λ e. UnlessMemory e (NoSides declarations.now head.now (trailing_of trail.entry))) }
 {
     let after = at.saturating_add(head.len()).saturating_add(1);
@@ -131,6 +133,7 @@ pub(crate) fn read_rule_text<'a>(
     requires starts { starts_rule text.now ≡ true }
     requires few { length declarations.now.conditions.items ≤ 255 }
     ensures found { IfOk result (λ x. ReadsItem declarations.now line text.now x) }
+    ensures sound { IfOk result (λ x. HasSoundFront x.front) }
     ensures none { IfErr result (λ e. UnlessMemory e (NoRules declarations.now text.now)) }
 {
     let Some((asked, after_list)) = conditions_at(text) else {

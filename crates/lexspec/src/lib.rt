@@ -6,6 +6,7 @@ mod action_text;
 mod cuts;
 mod declarations;
 mod definition;
+mod endings;
 mod error;
 mod item;
 mod laws;
@@ -24,7 +25,9 @@ mod subject;
 mod taking;
 
 pub use error::{SpecError, SpecErrorKind};
-pub use laws::{examples_of_lines, one_specification, tested_specifications, tested_trees};
+pub use laws::{
+    examples_of_lines, one_specification, sound_specifications, tested_specifications, tested_trees,
+};
 pub use lexaction::{Condition, EndAction, Statement};
 pub use rule::{Cut, Rule};
 pub use spec::Spec;

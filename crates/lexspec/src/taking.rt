@@ -4,6 +4,7 @@ ghost use Rattle.lexspec.specs.Items.{newlines};
 ghost use Rattle.lexspec.specs.ItemReads.{ReadsItem, NoRulesAfter};
 ghost use Rattle.lexspec.specs.Agreeing.{Agrees};
 ghost use Rattle.lexspec.specs.Outcome.{UnlessMemory};
+ghost use Rattle.lexspec.specs.SoundSides.{HasSoundFront, HasSoundRules};
 
 use crate::acting::{finished, told};
 use crate::action_text::is_bar;
@@ -42,6 +43,7 @@ impl Progress {
         requires { length declarations.now.conditions.items ≤ 255 }
         ensures found { IfOk result (λ s. (start n : ℕ) (whole t : List ℕ) → ReadsItem declarations.now n t text.entry → Agrees declarations.now start whole self n t
             → Agrees declarations.now start whole s (n + (newlines t - newlines text.entry.rest.now)) text.entry.rest.now) }
+        ensures sound { IfOk result (λ s. HasSoundFront text.entry.front → HasSoundRules self → HasSoundRules s) }
         ensures none { IfErr result (λ e. UnlessMemory e (NoRulesAfter declarations.now self text.entry)) }
     {
         let RuleText {

@@ -1,10 +1,12 @@
 use crate::action_text::split_action;
 use crate::declarations::Declarations;
+use crate::endings::{check_single, may_join, with_ends};
+use crate::item::read_rule_text;
 use crate::lines::without_returns;
 use crate::rules_section::read_rules;
 use crate::section::{Section, read_section};
 use crate::skipped::Skipped;
-use crate::taking::Progress;
+use crate::taking::{EndRule, Progress};
 use crate::{Condition, EndAction, Rule, Spec, SpecError, SpecErrorKind};
 use lexre::{PatternError, PatternErrorKind};
 use std::alloc::{AllocError, Global};
@@ -308,4 +310,106 @@ fn faults_of_rules_sections(rt: HostRuntime) {
     for (text, line, kind) in rows {
         assert_eq!(rt; rules_of(alloc, text), Err(SpecError { line, kind }));
     }
+}
+
+/// An `<<EOF>>` rule of the conditions with these numbers, with this status.
+fn end_rule(alloc: Global, numbers: Option<&[u8]>, status: u8) -> Result<EndRule, AllocError> {
+    let conditions = match numbers {
+        None => None,
+        Some(listed) => Some(Vec::from_slice(alloc, listed)?),
+    };
+    Ok(EndRule {
+        conditions,
+        action: EndAction {
+            print: Vec::new(alloc),
+            status,
+        },
+    })
+}
+
+/// Whether a rule with the second list may stand after one with the first.
+fn may_follow(
+    alloc: Global,
+    first: Option<&[u8]>,
+    second: Option<&[u8]>,
+) -> Result<bool, AllocError> {
+    let ends: Vec<EndRule> = vec![in alloc; end_rule(alloc, first, 0)?]?;
+    Ok(may_join(&ends, &end_rule(alloc, second, 0)?))
+}
+
+/// A condition has one `<<EOF>>` rule at most, and one such rule at most has no list. (flex, End-of-File Rules.)
+#[test]
+fn single_ends(rt: HostRuntime) {
+    let alloc = rt.alloc();
+    let some = Some([0, 2].as_slice());
+    let others = Some([1, 3].as_slice());
+    let common = Some([1, 2].as_slice());
+    assert!(rt; may_follow(alloc, some, others).expect(&rt, "memory"));
+    assert!(rt; !may_follow(alloc, some, common).expect(&rt, "memory"));
+    assert!(rt; !may_follow(alloc, others, common).expect(&rt, "memory"));
+    assert!(rt; may_follow(alloc, None, some).expect(&rt, "memory"));
+    assert!(rt; may_follow(alloc, some, None).expect(&rt, "memory"));
+    assert!(rt; !may_follow(alloc, None, None).expect(&rt, "memory"));
+}
+
+/// The same of all rules at once.
+#[test]
+fn checked_ends(rt: HostRuntime) {
+    let alloc = rt.alloc();
+    let first = end_rule(alloc, Some([0, 2].as_slice()), 0).expect(&rt, "memory");
+    let second = end_rule(alloc, None, 0).expect(&rt, "memory");
+    let third = end_rule(alloc, Some([1].as_slice()), 0).expect(&rt, "memory");
+    let mut ends: Vec<EndRule> = Vec::new(alloc);
+    assert!(rt; check_single(&ends).is_ok());
+    ends.push(first).expect(&rt, "memory");
+    ends.push(second).expect(&rt, "memory");
+    ends.push(third).expect(&rt, "memory");
+    assert!(rt; check_single(&ends).is_ok());
+    let fourth = end_rule(alloc, Some([2].as_slice()), 0).expect(&rt, "memory");
+    ends.push(fourth).expect(&rt, "memory");
+    assert!(rt; check_single(&ends) == Err(SpecErrorKind::DuplicateEof));
+}
+
+/// The status at the end of each of four conditions, of which the rules list 1 and 3, and perhaps none.
+fn statuses(alloc: Global, unlisted: Option<u8>) -> Result<Vec<u8>, AllocError> {
+    let mut conditions: Vec<Condition> = Vec::new(alloc);
+    let mut ends: Vec<EndRule> = Vec::new(alloc);
+    if let Some(status) = unlisted {
+        ends.push(end_rule(alloc, None, status)?)?;
+    }
+    ends.push(end_rule(alloc, Some([1].as_slice()), 5)?)?;
+    ends.push(end_rule(alloc, Some([3].as_slice()), 6)?)?;
+    for name in [
+        b"INITIAL".as_slice(),
+        b"A".as_slice(),
+        b"B".as_slice(),
+        b"C".as_slice(),
+    ] {
+        let end = EndAction {
+            print: Vec::new(alloc),
+            status: 0,
+        };
+        conditions.push(Condition {
+            name: Vec::from_slice(alloc, name)?,
+            exclusive: false,
+            end,
+        })?;
+    }
+    let mut found = Vec::new(alloc);
+    if conditions.len() <= 255 {
+        for condition in with_ends(alloc, conditions, &ends)? {
+            found.push(condition.end.status)?;
+        }
+    }
+    Ok(found)
+}
+
+/// A rule without a list is the end of the conditions that have none. (flex, End-of-File Rules.)
+#[test]
+fn ends_of_conditions(rt: HostRuntime) {
+    let alloc = rt.alloc();
+    let all = statuses(alloc, Some(7)).expect(&rt, "memory");
+    assert_eq!(rt; all.as_slice(), [7, 5, 7, 6].as_slice());
+    let listed = statuses(alloc, None).expect(&rt, "memory");
+    assert_eq!(rt; listed.as_slice(), [0, 5, 0, 6].as_slice());
 }

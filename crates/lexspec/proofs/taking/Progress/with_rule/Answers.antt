@@ -2,6 +2,7 @@ use Rattle.std.proofs.Common.{refl, rules, ◌≡◌, length}
 use Rattle.lexaction.specs.Views.{statement_of}
 use Rattle.std.specs.Prelude.{map}
 use Rattle.lexspec.proofs.ProgressLaws.{action_bar, action_spelled, bar_taken, rule_taken, rule_refused, end_taken, end_refused, end_bar_refused, end_awaited}
+use Rattle.lexspec.proofs.SideLaws.{bar_sound, rule_sound}
 use Rattle.lexspec.proofs.taking.Progress.with_rule.Goals as goal
 
 pub returns-then-is_bar-clause-found : goal.returns-then-is_bar-clause-found
@@ -39,3 +40,12 @@ pub returns-in-Err-read_end_action-clause-none : goal.returns-in-Err-read_end_ac
 returns-in-Err-read_end_action-clause-none c =
     end_refused c.args.declarations.now c.args.text c.in-AtEnd.conditions c.in-Err-read_end_action.fault c.told-in-Err-read_end_action.result c.deref-in-AtEnd.result.now c.args.self c.in-AtEnd.is
     (action_spelled c.args.text.action.now _ c.is_bar-in-AtEnd.ensures c.if-is_bar-2.false) c.deref-in-AtEnd.ensures.value c.told-in-Err-read_end_action.ensures c.in-Err-read_end_action.ensures.none
+
+pub returns-then-is_bar-clause-sound : goal.returns-then-is_bar-clause-sound
+returns-then-is_bar-clause-sound c = λ front sound.
+    bar_sound c.args.text.front c.in-Matching.rule c.args.self.rules.items c.args.self.waiting.items _ c.in-Matching.is c.in_ok-push-in-Matching.ensures.items front sound.0 sound.1
+
+pub returns-in_ok-rules-in-Ok-clause-sound : goal.returns-in_ok-rules-in-Ok-clause-sound
+returns-in_ok-rules-in-Ok-clause-sound c = λ front sound.
+    rule_sound c.args.text.front c.in-Matching.rule (map statement_of c.in-Ok.statements.items) c.args.self.rules.items c.args.self.waiting.items _ _ c.in-Matching.is
+    c.in_ok-rules-in-Ok.ensures c.new.ensures.items front sound.0 sound.1
