@@ -1,5 +1,15 @@
+pub mod RunLaws
+pub mod SkipLaws
+pub mod TextLaws
 pub mod TestLaws
 pub mod OneSection
 pub mod OneItems
 pub mod OneSpec
 pub mod ComputedLines
+pub mod DeclaringLaws
+pub mod TakingLaws
+pub mod OutcomeLaws
+pub mod SectionLaws
+pub mod ActionLaws
+pub mod SubjectLaws
+pub mod ListedLaws

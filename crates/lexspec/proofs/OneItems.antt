@@ -1,12 +1,12 @@
 -- The rules section of a file is cut into items in one way.
-use Rattle.std.proofs.Common.{◌≡◌, ℕ, zero, suc, ◌+◌, ◌-◌, Bool, true, false, List, [], ◌∷◌, length, take, drop, ◌⊎◌, inl, inr, Option, Some, None, refl, sym, ◌∙◌, ap, subst}
+use Rattle.std.proofs.Common.{◌≡◌, ℕ, ◌+◌, ◌-◌, Bool, true, false, List, [], ◌∷◌, take, drop, ◌⊎◌, inl, inr, Option, Some, None, refl, sym, ◌∙◌, ap, subst}
 use Rattle.std.specs.Prelude.{codes, nat_eq, not, ◌&&◌, ◌||◌}
 use Rattle.std.specs.List.{list_any}
 use Rattle.std.proofs.lemmas.Bool.{and_parts, or_parts, eqb-true}
 use Rattle.lexre.specs.Cutting.{IsCutting}
-use Rattle.lexspec.specs.Lines.{line_in, line_at, is_blank, after_blanks, begins, after_block}
+use Rattle.lexspec.specs.Lines.{line_in, line_at, is_blank, after_blanks, begins}
 use Rattle.lexspec.specs.DefinitionLines.{is_all_blank}
-use Rattle.lexspec.specs.Items.{Conditions, Trailing, Subject, at_end, matching, Action, Item, skipped, skipped_line, skipped_block, rule, conditions_at, action_in, outside, action_of, sides, starts_rule, starts_blank, IsPattern, IsSubject, IsItem, newlines, AreItems}
+use Rattle.lexspec.specs.Items.{Conditions, Trailing, Subject, at_end, matching, Action, Item, skipped, skipped_line, skipped_block, rule, action_in, outside, action_of, sides, starts_rule, IsPattern, IsSubject, IsItem, newlines, AreItems}
 use Rattle.lexspec.proofs.OneSection.{no_true, two_percents, some_pair}
 
 both_ways : {A : Type 0} (b : Bool) → b ≡ true → b ≡ false → A

@@ -1,10 +1,10 @@
 -- The definitions section of a file is cut into lines in one way.
-use Rattle.std.proofs.Common.{◌≡◌, ℕ, zero, suc, Bool, true, false, List, [], ◌∷◌, Option, Some, None, refl, sym, ◌∙◌, ap, subst}
+use Rattle.std.proofs.Common.{◌≡◌, ℕ, Bool, true, false, List, [], ◌∷◌, Option, Some, None, refl, sym, ◌∙◌, ap, subst}
 use Rattle.std.specs.Prelude.{codes, nat_eq, ◌&&◌}
 use Rattle.std.proofs.lemmas.Bool.{and_parts, eqb-true}
 use Rattle.lexaction.specs.Reading.{Reader}
 use Rattle.lexspec.specs.Lines.{begins}
-use Rattle.lexspec.specs.DefinitionLines.{Definition, definition_at, IsUpTo}
+use Rattle.lexspec.specs.DefinitionLines.{definition_at, IsUpTo}
 
 pub no_true : {A : Type 0} → false ≡ true → A
 no_true e = absurd (no e)

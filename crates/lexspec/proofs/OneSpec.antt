@@ -1,22 +1,22 @@
 -- A file spells at most one specification.
-use Rattle.std.proofs.Common.{◌≡◌, ℕ, zero, suc, ◌+◌, ◌-◌, ◌≤◌, ◌<◌, Bool, true, false, List, [], ◌∷◌, length, map, Option, Some, None, refl, sym, ◌∙◌, ap, subst, arith}
+use Rattle.std.proofs.Common.{◌≡◌, ℕ, ◌+◌, ◌-◌, ◌≤◌, Bool, List, [], ◌∷◌, length, Option, Some, None, sym, ◌∙◌, ap, subst, arith}
 use Rattle.std.specs.Prelude.{codes, ◌||◌}
 use Rattle.std.specs.FinMap.{from_entries}
 use Rattle.lexmeaning.specs.Tree.{Tree, In}
-use Rattle.lexmeaning.specs.Shapes.{Language, LongestIs, HasLengths}
-use Rattle.lexmeaning.specs.Spec.{Spec, Condition, EndAction, Statement, Cut, Whole, Head, Trail, Rule}
+use Rattle.lexmeaning.specs.Shapes.{Language, HasLengths}
+use Rattle.lexmeaning.specs.Spec.{Spec, EndAction, Statement, Cut, Whole, Head, Trail, Rule}
 use Rattle.lexre.specs.Definitions.{Definitions}
 use Rattle.lexre.specs.Spelling.{Spells}
 use Rattle.lexre.specs.Cutting.{IsCutting}
 use Rattle.lexaction.specs.Names.{number_from}
-use Rattle.lexaction.specs.Actions.{SpellsAction, SpellsEndAction, end_of}
+use Rattle.lexaction.specs.Actions.{SpellsEndAction, end_of}
 use Rattle.lexaction.proofs.OneAction.{one_statements}
-use Rattle.lexspec.specs.Lines.{without_returns, line_in, begins}
-use Rattle.lexspec.specs.DefinitionLines.{Definition, Declared, definition_at, all_conditions, names_of, has_name, substitutes_of, all_options}
-use Rattle.lexspec.specs.Items.{Conditions, Trailing, no_trail, line_end, pattern_after, Subject, at_end, matching, Action, bar, spelled, Item, skipped, skipped_line, skipped_block, rule, newlines, AreItems}
-use Rattle.lexspec.specs.RuleItems.{numbers_of, HasFixed, IsCutOf, IsTrail, EndRule, IsActionOf, IsRule, AreRules}
+use Rattle.lexspec.specs.Lines.{without_returns, line_in}
+use Rattle.lexspec.specs.DefinitionLines.{definition_at, all_conditions, names_of, has_name, substitutes_of, all_options}
+use Rattle.lexspec.specs.Items.{Conditions, Trailing, no_trail, line_end, pattern_after, at_end, matching, Action, bar, spelled, Item, skipped, skipped_line, skipped_block, rule, newlines, AreItems}
+use Rattle.lexspec.specs.RuleItems.{HasFixed, IsCutOf, IsTrail, EndRule, IsActionOf, IsRule, AreRules}
 use Rattle.lexspec.specs.Files.{conditions_with, SpellsSpec}
-use Rattle.lexspec.proofs.OneSection.{no_true, one_up_to, separator_ends}
+use Rattle.lexspec.proofs.OneSection.{one_up_to, separator_ends}
 use Rattle.lexspec.proofs.OneItems.{one_items}
 
 -- lengths are determined

@@ -1,10 +1,10 @@
 -- The lines of the definitions section. (POSIX, lex, Definitions in lex; flex, Format of the Input File.)
-use Rattle.std.specs.Prelude.{◌≡◌, ℕ, zero, suc, ◌+◌, Bool, true, false, not, ◌&&◌, ◌||◌, ◌==◌, if◌then◌else◌, List, [], ◌∷◌, ◌++◌, map, length, take, drop, Option, Some, None, codes}
+use Rattle.std.specs.Prelude.{◌≡◌, ℕ, suc, Bool, true, false, not, ◌&&◌, ◌||◌, ◌==◌, if◌then◌else◌, List, [], ◌∷◌, ◌++◌, map, length, take, drop, Option, Some, None, codes}
 use Rattle.std.specs.List.{list_any}
 use Rattle.lexaction.specs.Reading.{◌>>=◌, Reader, is_word}
 use Rattle.lexmeaning.specs.ByteSets.{is_alpha, is_alnum, is_digit}
 use Rattle.lexre.specs.Lexical.{take_run}
-use Rattle.lexspec.specs.Lines.{line_in, line_at, is_blank, blanks, after_blanks, is_empty, begins, before_blank, words, after_block, after_comment}
+use Rattle.lexspec.specs.Lines.{line_at, is_blank, blanks, after_blanks, is_empty, begins, before_blank, words, after_block, after_comment}
 
 -- A name is a letter or `_`, and then letters, digits, `_` and `-`.
 abbrev pub starts_name : ℕ → Bool
@@ -53,13 +53,13 @@ ends_anchored (c ∷ d ∷ e ∷ t) = ends_anchored (d ∷ e ∷ t)
 abbrev pub is_anchored : List ℕ → Bool
 is_anchored t = begins (codes "^") t || ends_anchored t
 
+abbrev pub is_name : List ℕ → Bool
+is_name [] = false
+is_name (c ∷ t) = starts_name c && is_empty (after_run goes_on_name (c ∷ t))
+
 abbrev pub are_names : List (List ℕ) → Bool
 are_names [] = true
 are_names (w ∷ ws) = is_name w && are_names ws
-  where
-    is_name : List ℕ → Bool
-    is_name [] = false
-    is_name (c ∷ t) = starts_name c && is_empty (after_run goes_on_name (c ∷ t))
 
 -- a definition: the name, blanks, and a substitute, which is not anchored
 unfoldable pub definition_in : List ℕ → Option Definition
@@ -69,6 +69,17 @@ definition_in (c ∷ t) =
     else (let (name, rest) = take_run goes_on_name (c ∷ t) in
     let text = trimmed (after_blanks rest) in
     if is_empty (blanks rest).0 || is_empty text || is_anchored text then None else Some (defines name text))
+
+-- `%s` and `%x` have at least one name
+abbrev pub declaration : Bool → List (List ℕ) → Option Definition
+declaration exclusive [] = None
+declaration exclusive (n ∷ ns) = if are_names (n ∷ ns) then Some (declares exclusive (n ∷ ns)) else None
+
+-- `%p 3`
+abbrev pub number : List (List ℕ) → Option Definition
+number [] = None
+number (digits ∷ []) = if is_empty (after_run is_digit digits) then Some ignored else None
+number (digits ∷ more ∷ ns) = None
 
 -- a line that begins with `%`, by its first word
 unfoldable pub percent_line : List ℕ → Option Definition
@@ -81,15 +92,6 @@ percent_line line =
     else if list_any (λ w. is_word word w) (codes "%array" ∷ codes "%pointer" ∷ []) then (if length names == 0 then Some ignored else None)
     else if list_any (λ w. is_word word w) (codes "%p" ∷ codes "%n" ∷ codes "%a" ∷ codes "%e" ∷ codes "%k" ∷ codes "%o" ∷ []) then number names
     else None
-  where
-    declaration : Bool → List (List ℕ) → Option Definition
-    declaration exclusive [] = None
-    declaration exclusive (n ∷ ns) = if are_names (n ∷ ns) then Some (declares exclusive (n ∷ ns)) else None
-
-    number : List (List ℕ) → Option Definition
-    number [] = None
-    number (digits ∷ []) = if is_empty (after_run is_digit digits) then Some ignored else None
-    number (digits ∷ more ∷ ns) = None
 
 -- a line of the definitions section, with what follows that belongs to it; a line that begins with `%%` is none
 unfoldable pub definition_at : Reader Definition

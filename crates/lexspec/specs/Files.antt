@@ -1,10 +1,9 @@
 -- Which specification a file spells. (POSIX, lex, Input Files; flex, Format of the Input File. The bounds are this
 -- project's.)
-use Rattle.std.specs.Prelude.{◌≡◌, ℕ, zero, suc, ◌+◌, ◌-◌, ◌≤◌, ◌<◌, Bool, true, false, ◌||◌, ◌==◌, if◌then◌else◌, List, [], ◌∷◌, map, length, count_by, Option, Some, None, codes}
+use Rattle.std.specs.Prelude.{◌≡◌, ℕ, suc, ◌+◌, ◌-◌, ◌≤◌, ◌<◌, Bool, true, false, ◌||◌, ◌==◌, if◌then◌else◌, List, [], ◌∷◌, map, length, count_by, Option, Some, None, codes}
 use Rattle.std.specs.List.{list_any}
 use Rattle.std.specs.FinMap.{from_entries}
 use Rattle.lexmeaning.specs.Spec.{Spec, Condition, EndAction}
-use Rattle.lexre.specs.Definitions.{Definitions}
 use Rattle.lexspec.specs.Lines.{without_returns, line_in, begins}
 use Rattle.lexspec.specs.DefinitionLines.{Definition, Declared, definition_at, IsUpTo, all_conditions, names_of, has_name, are_distinct, substitutes_of, all_options, are_known}
 use Rattle.lexspec.specs.Items.{Item, AreItems, newlines}

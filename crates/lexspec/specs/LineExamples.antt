@@ -1,8 +1,8 @@
 -- Worked examples of lines, each with what it spells.
-use Rattle.std.specs.Prelude.{◌≡◌, ℕ, Bool, true, false, List, [], ◌∷◌, Option, Some, None, codes}
+use Rattle.std.specs.Prelude.{◌≡◌, ℕ, true, false, List, [], ◌∷◌, Option, Some, None, codes}
 use Rattle.lexspec.specs.Lines.{without_returns}
 use Rattle.lexspec.specs.DefinitionLines.{Definition, code_block, declares, defines, definition_at, trimmed, is_anchored}
-use Rattle.lexspec.specs.Items.{Conditions, every, only, Action, bar, outside, conditions_at, action_in, action_of}
+use Rattle.lexspec.specs.Items.{Conditions, every, only, bar, outside, conditions_at, action_in, action_of}
 
 -- a carriage return is dropped before a newline, and nowhere else
 abbrev pub ReturnsDropped : Type 0

@@ -10,7 +10,7 @@ use Rattle.lexre.specs.Definitions.{Definitions}
 use Rattle.lexre.specs.Spelling.{Spells}
 use Rattle.lexaction.specs.Names.{number_from}
 use Rattle.lexaction.specs.Actions.{SpellsAction, SpellsEndAction}
-use Rattle.lexspec.specs.Items.{Conditions, unlisted, every, only, Trailing, no_trail, line_end, pattern_after, Subject, at_end, matching, Action, bar, spelled, Item, skipped, skipped_line, skipped_block, rule}
+use Rattle.lexspec.specs.Items.{Conditions, unlisted, every, only, Trailing, no_trail, line_end, pattern_after, at_end, matching, Action, bar, spelled, Item, rule}
 
 -- the numbers below n that the test passes, ascending, from k on
 abbrev pub numbers_from : ℕ → ℕ → (ℕ → Bool) → List ℕ

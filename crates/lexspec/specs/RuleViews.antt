@@ -1,10 +1,9 @@
 -- What the rules of the code stand for.
-use Rattle.std.specs.Prelude.{List, map, option_map}
+use Rattle.std.specs.Prelude.{map, option_map}
 use Rattle.lexmeaning.specs.Spec as S
 use Rattle.lexre.specs.Views.{tree_of}
 use Rattle.lexaction.specs.Views.{statement_of}
 use Rattle.lexspec.specs.declared.rule.Cut.{Cut}
-use Rattle.lexspec.specs.declared.rule.Cut.TheVariants as Cut
 use Rattle.lexspec.specs.declared.rule.Rule.{Rule}
 
 abbrev pub cut_of : Cut → S.Cut

@@ -1,0 +1,157 @@
+-- Runs of bytes: lines, blanks and words.
+use Rattle.std.proofs.Common.{◌≡◌, ℕ, zero, suc, ◌-◌, ◌<◌, ◌≤◌, ◌==◌, Bool, true, false, not, if◌then◌else◌, List, [], ◌∷◌, length, get_or, take, drop, refl, sym, ap, ◌∙◌, arith}
+use Rattle.lexre.specs.Lexical.{take_up_to, take_run}
+use Rattle.lexspec.specs.Lines.{line_in, is_blank, blanks, after_blanks, before_blank, words_in, words}
+use Rattle.lexspec.specs.Runs.{split_before}
+
+abbrev Split : Type 0
+Split = List ℕ × List ℕ
+
+abbrev with_first : ℕ → Split → Split
+with_first c s = (c ∷ s.0, s.1)
+
+-- the first i bytes do not pass, and the next one, if there is one, does
+pub splits_at : (p : ℕ → Bool) (t : List ℕ) (i : ℕ) → i ≤ length t → ((k : ℕ) → k < i → p (get_or t k 0) ≡ false)
+    → (i < length t → p (get_or t i 0) ≡ true) → ◌≡◌ {A = Split} (split_before p t) (take i t, drop i t)
+splits_at p [] zero within none last = refl
+splits_at p [] (suc i) within none last = absurd (omega arith)
+splits_at p (c ∷ t) zero within none last = rw (last (omega arith)) refl
+splits_at p (c ∷ t) (suc i) within none last =
+    let here : p c ≡ false = none 0 (omega arith) in
+    let rest = splits_at p t i (omega arith) (λ k h. none (suc k) (omega arith)) (λ h. last (omega arith)) in
+    rw (here, rest) refl
+
+-- a line ends before the first newline
+abbrev line_of : Split → Split
+line_of s = (s.0, drop 1 s.1)
+
+abbrev choose : Bool → Split → Split → Split
+choose b x y = if b then x else y
+
+lines_split : (t : List ℕ) → ◌≡◌ {A = Split} (line_in t) (line_of (split_before (λ c. c == 10) t))
+lines_split [] = refl
+lines_split (c ∷ t) =
+    elim (c == 10) as (λ b. choose b ([], t) (with_first c (line_in t)) ≡ line_of (choose b ([], c ∷ t) (with_first c (split_before (λ c. c == 10) t)))) [
+      | true ↦ refl
+      | false ↦ ap (with_first c) (lines_split t)
+    ]
+
+pub line_split : (t a b : List ℕ) → ◌≡◌ {A = Split} (split_before (λ c. c == 10) t) (a, b) → ◌≡◌ {A = Split} (line_in t) (a, drop 1 b)
+line_split t a b e = lines_split t ∙ ap line_of e
+
+all_blanks_split : (t : List ℕ) → ◌≡◌ {A = Split} (blanks t) (split_before (λ c. not (is_blank c)) t)
+all_blanks_split [] = refl
+all_blanks_split (c ∷ t) =
+    elim (is_blank c) as (λ b. choose b (with_first c (blanks t)) ([], c ∷ t) ≡ choose (not b) ([], c ∷ t) (with_first c (split_before (λ c. not (is_blank c)) t))) [
+      | true ↦ ap (with_first c) (all_blanks_split t)
+      | false ↦ refl
+    ]
+
+-- blanks end before the first byte that is none
+pub blanks_split : (t a b : List ℕ) → ◌≡◌ {A = Split} (split_before (λ c. not (is_blank c)) t) (a, b) → ◌≡◌ {A = Split} (blanks t) (a, b)
+blanks_split t a b e = all_blanks_split t ∙ e
+
+words_split : (t : List ℕ) → ◌≡◌ {A = Split} (before_blank t) (split_before is_blank t)
+words_split [] = refl
+words_split (c ∷ t) =
+    elim (is_blank c) as (λ b. choose b ([], c ∷ t) (with_first c (before_blank t)) ≡ choose b ([], c ∷ t) (with_first c (split_before is_blank t))) [
+      | true ↦ refl
+      | false ↦ ap (with_first c) (words_split t)
+    ]
+
+-- a word ends before the first blank
+pub word_split : (t a b : List ℕ) → ◌≡◌ {A = Split} (split_before is_blank t) (a, b) → ◌≡◌ {A = Split} (before_blank t) (a, b)
+word_split t a b e = words_split t ∙ e
+
+-- Words.
+
+blanks_shorter : (t : List ℕ) → length (after_blanks t) ≤ length t
+blanks_shorter [] = omega arith
+blanks_shorter (c ∷ t) =
+    elim (is_blank c) as (λ b. length (choose b (with_first c (blanks t)) ([], c ∷ t)).1 ≤ length (c ∷ t)) [
+      | true ↦ omega (arith, blanks_shorter t)
+      | false ↦ omega arith
+    ]
+
+-- what follows blanks begins with none
+no_blank_first : (t u : List ℕ) (c : ℕ) → after_blanks t ≡ c ∷ u → is_blank c ≡ false
+no_blank_first [] u c e = absurd (none u c e)
+  where
+    none : (u : List ℕ) (c : ℕ) → ◌≡◌ {A = List ℕ} [] (c ∷ u) → ⊥
+    none u c e = cc
+no_blank_first (d ∷ t) u c e = from (is_blank d) refl (λ k. no_blank_first t u c k) e
+  where
+    first : (x y : ℕ) (xs ys : List ℕ) → x ∷ xs ≡ y ∷ ys → x ≡ y
+    first x y xs ys e = cc
+
+    from : (b : Bool) → is_blank d ≡ b → (after_blanks t ≡ c ∷ u → is_blank c ≡ false) → (choose b (with_first d (blanks t)) ([], d ∷ t)).1 ≡ c ∷ u → is_blank c ≡ false
+    from true h later k = later k
+    from false h later k = ap is_blank (sym (first d c t u k)) ∙ h
+
+word_shorter : (c : ℕ) (u : List ℕ) → is_blank c ≡ false → length (before_blank (c ∷ u)).1 ≤ length u
+word_shorter c u h = rw h (rest u)
+  where
+    rest : (u : List ℕ) → length (before_blank u).1 ≤ length u
+    rest [] = omega arith
+    rest (d ∷ u) =
+        elim (is_blank d) as (λ b. length (choose b ([], d ∷ u) (with_first d (before_blank u))).1 ≤ length (d ∷ u)) [
+          | true ↦ omega arith
+          | false ↦ omega (arith, rest u)
+        ]
+
+words_step : (n : ℕ) (t u : List ℕ) (c : ℕ) → after_blanks t ≡ c ∷ u → words_in (suc n) t ≡ (before_blank (c ∷ u)).0 ∷ words_in n (before_blank (c ∷ u)).1
+unfolding words_in
+words_step n t u c e = rw (e, words_in) refl
+
+words_stop : (n : ℕ) (t : List ℕ) → after_blanks t ≡ [] → words_in n t ≡ []
+unfolding words_in
+words_stop zero t e = refl
+words_stop (suc n) t e = rw (e, words_in) refl
+
+-- the bound says nothing of the words
+words_same : (m n : ℕ) (t after : List ℕ) → after_blanks t ≡ after → length t ≤ m → length t ≤ n → words_in m t ≡ words_in n t
+words_same m n t [] e h k = words_stop m t e ∙ sym (words_stop n t e)
+words_same zero n t (c ∷ u) e h k = absurd (omega (arith, blanks_shorter t, ap length e))
+words_same (suc m) zero t (c ∷ u) e h k = absurd (omega (arith, blanks_shorter t, ap length e))
+words_same (suc m) (suc n) t (c ∷ u) e h k =
+    let short : length (before_blank (c ∷ u)).1 ≤ length u = word_shorter c u (no_blank_first t u c e) in
+    let long : suc (length u) ≤ length t = omega (arith, blanks_shorter t, ap length e) in
+    words_step m t u c e
+    ∙ ap (λ ws. (before_blank (c ∷ u)).0 ∷ ws) (words_same m n (before_blank (c ∷ u)).1 (after_blanks (before_blank (c ∷ u)).1) refl (omega arith) (omega arith))
+    ∙ sym (words_step n t u c e)
+
+pub no_word : (t after : List ℕ) → after ≡ after_blanks t → length after ≡ 0 → words t ≡ []
+no_word t [] e h = words_stop (length t) t (sym e)
+no_word t (c ∷ u) e h = absurd (omega arith)
+
+pub one_word : (t after a b : List ℕ) → after ≡ after_blanks t → (length after ≡ 0 → ⊥) → ◌≡◌ {A = Split} (before_blank after) (a, b) → words t ≡ a ∷ words b
+one_word t [] a b e h k = absurd (h refl)
+one_word t (c ∷ u) a b e h k =
+    let short : length (before_blank (c ∷ u)).1 ≤ length u = word_shorter c u (no_blank_first t u c (sym e)) in
+    let long : suc (length u) ≤ length t = omega (arith, blanks_shorter t, ap length (sym e)) in
+    let one : suc (length t - 1) ≡ length t = omega arith in
+    ap (λ n. words_in n t) (sym one) ∙ words_step (length t - 1) t u c (sym e)
+    ∙ ap (λ ws. (before_blank (c ∷ u)).0 ∷ ws) (words_same (length t - 1) (length (before_blank (c ∷ u)).1) (before_blank (c ∷ u)).1 (after_blanks (before_blank (c ∷ u)).1) refl (omega arith) (omega arith))
+    ∙ ap (λ (s : Split). s.0 ∷ words s.1) k
+
+pub word_goes : (t after a b : List ℕ) → after ≡ after_blanks t → (length after ≡ 0 → ⊥) → ◌≡◌ {A = Split} (before_blank after) (a, b) → length b < length t
+word_goes t [] a b e h k = absurd (h refl)
+word_goes t (c ∷ u) a b e h k =
+    let short : length (before_blank (c ∷ u)).1 ≤ length u = word_shorter c u (no_blank_first t u c (sym e)) in
+    let same : length (before_blank (c ∷ u)).1 ≡ length b = ap (λ (s : Split). length s.1) k in
+    omega (arith, blanks_shorter t, ap length (sym e))
+
+run_same : (test : ℕ → Bool) (n : ℕ) (t : List ℕ) → length t ≤ n → ◌≡◌ {A = Split} (take_up_to n test t) (split_before (λ c. not (test c)) t)
+unfolding take_up_to
+run_same test zero [] h = refl
+run_same test zero (c ∷ t) h = absurd (omega arith)
+run_same test (suc n) [] h = refl
+run_same test (suc n) (c ∷ t) h =
+    elim (test c) as (λ b. choose b (with_first c (take_up_to n test t)) ([], c ∷ t) ≡ choose (not b) ([], c ∷ t) (with_first c (split_before (λ c. not (test c)) t))) [
+      | true ↦ ap (with_first c) (run_same test n t (omega arith))
+      | false ↦ refl
+    ]
+
+-- a run of bytes that pass ends before the first that does not
+pub run_split : (test : ℕ → Bool) (t a b : List ℕ) → ◌≡◌ {A = Split} (split_before (λ c. not (test c)) t) (a, b) → ◌≡◌ {A = Split} (take_run test t) (a, b)
+run_split test t a b e = run_same test (length t) t (omega arith) ∙ e

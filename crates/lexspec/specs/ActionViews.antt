@@ -1,0 +1,29 @@
+-- What the reader of an action's text says of a byte.
+use Rattle.std.specs.Prelude.{◌≡◌, ℕ, ◌≤◌, List, [], ◌∷◌, Some, None}
+use Rattle.lexspec.specs.Items as I
+use Rattle.lexspec.specs.Items.{action_in, with_byte}
+use Rattle.lexspec.specs.declared.action_text.Place.{Place}
+use Rattle.lexspec.specs.declared.action_text.Place.TheVariants as P
+use Rattle.lexspec.specs.declared.action_text.Step.{Step}
+use Rattle.lexspec.specs.declared.action_text.Step.TheVariants.{Goes, Ends, Refused}
+
+abbrev pub place_of : Place → I.Place
+place_of P.Outside = I.outside
+place_of P.Slash = I.slash
+place_of P.Block = I.block
+place_of P.Star = I.star
+place_of P.Line = I.line
+place_of P.String = I.string
+place_of P.Escaped = I.escaped
+
+-- what the byte c does at the place p with n braces open, whatever follows it
+abbrev pub IsStep : Step → I.Place → ℕ → ℕ → List ℕ → Type 0
+IsStep (Goes q) p n c t = action_in p n (c ∷ t) ≡ with_byte c (action_in (place_of q.place) q.depth t)
+IsStep Ends p n c t = action_in p n (c ∷ t) ≡ Some ([], t)
+IsStep Refused p n c t = action_in p n (c ∷ t) ≡ None
+
+-- at most n braces are open after the step
+abbrev pub MostOpen : ℕ → Step → Type 0
+MostOpen n (Goes q) = q.depth ≤ n
+MostOpen n Ends = Unit {0}
+MostOpen n Refused = Unit {0}

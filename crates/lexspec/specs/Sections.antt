@@ -1,0 +1,16 @@
+-- What the reader of the definitions section answers.
+use Rattle.std.specs.Prelude.{◌≡◌, ℕ, ◌+◌, Bool, true, List, codes}
+use Rattle.lexspec.specs.Lines.{begins}
+use Rattle.lexspec.specs.DefinitionLines.{Definition, definition_at, IsUpTo}
+use Rattle.lexspec.specs.Items.{newlines}
+use Rattle.lexspec.specs.Declaring.{AreAllowed, Declares}
+use Rattle.lexspec.specs.declared.section.Section.{Section}
+
+-- the lines before the one that begins with `%%`, what they declare, and the number of that line
+pub record HasSection (fold : Bool) (text : List ℕ) (s : Section) : Type 0 where
+  pub definitions : List Definition
+  pub lines : IsUpTo definition_at text definitions s.rest.now
+  pub separator : begins (codes "%%") s.rest.now ≡ true
+  pub declares : Declares fold definitions s.declarations
+  pub allowed : AreAllowed definitions
+  pub line : s.line + newlines s.rest.now ≡ 1 + newlines text

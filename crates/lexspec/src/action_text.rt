@@ -1,0 +1,168 @@
+//! Where the action of a rule ends. (POSIX, lex, Rules in lex.)
+ghost use Rattle.std.specs.Prelude.{◌≡◌, ◌+◌, ◌<◌, ◌≤◌, ◌^◌, ◌&&◌, ◌==◌, if◌then◌else◌, ℕ, List, [], ◌∷◌, Option, Some, None, option_map, length, drop, codes, IfSome};
+ghost use Rattle.lexspec.specs.Lines.{begins};
+ghost use Rattle.lexspec.specs.DefinitionLines.{is_all_blank};
+ghost use Rattle.lexspec.specs.Items.{action_in, outside, slash};
+ghost use Rattle.lexspec.specs.ActionViews.{place_of, IsStep, MostOpen};
+
+use crate::lines::{is_all_blank, skip_first};
+
+/// Where the text of an action stands.
+#[derive(Clone, Copy)]
+enum Place {
+    /// Outside strings and comments.
+    Outside,
+    /// After a slash there.
+    Slash,
+    /// In a comment `/* .. */`.
+    Block,
+    /// After a star in one.
+    Star,
+    /// In a comment to the end of the line.
+    Line,
+    /// In a string.
+    String,
+    /// After a backslash in one.
+    Escaped,
+}
+
+/// Where the text of an action stands, and how many braces are open there.
+#[derive(Clone, Copy)]
+struct Progress {
+    place: Place,
+    depth: usize,
+}
+
+/// What a byte does.
+#[derive(Clone, Copy)]
+enum Step {
+    /// The action goes on from there.
+    Goes(Progress),
+    /// The action ended before it.
+    Ends,
+    /// A string is not closed.
+    Refused,
+}
+
+impl Progress {
+    /// What the byte does outside strings and comments, where it is not the second byte of a comment's opening.
+    fn past_outside(self, byte: u8) -> Step
+        requires { self.depth + 1 < 2 ^ 64 }
+        ensures step { (t : List ℕ) → IsStep result outside self.depth byte t }
+        ensures few { MostOpen (self.depth + 1) result }
+    {
+        let depth = match byte {
+            b'\n' if self.depth == 0 => return Step::Ends,
+            b'{' => self.depth + 1,
+            b'}' => self.depth.saturating_sub(1),
+            _ => self.depth,
+        };
+        let place = match byte {
+            b'"' => Place::String,
+            b'/' => Place::Slash,
+            _ => Place::Outside,
+        };
+        Step::Goes(Progress { place, depth })
+    }
+
+    /// What the byte does after a slash outside strings and comments.
+    fn past_slash(self, byte: u8) -> Step
+        requires { self.depth + 1 < 2 ^ 64 }
+        ensures step { (t : List ℕ) → IsStep result slash self.depth byte t }
+        ensures few { MostOpen (self.depth + 1) result }
+    {
+        if byte == b'*' {
+            self.at(Place::Block)
+        } else if byte == b'/' {
+            self.at(Place::Line)
+        } else {
+            self.past_outside(byte)
+        }
+    }
+
+    /// What the byte does.
+    fn past(self, byte: u8) -> Step
+        requires { self.depth + 1 < 2 ^ 64 }
+        ensures step { (t : List ℕ) → IsStep result (place_of self.place) self.depth byte t }
+        ensures few { MostOpen (self.depth + 1) result }
+    {
+        match self.place {
+            Place::Outside => self.past_outside(byte),
+            Place::Slash => self.past_slash(byte),
+            Place::Block => match byte {
+                b'*' => self.at(Place::Star),
+                _ => self.at(Place::Block),
+            },
+            Place::Star => match byte {
+                b'/' => self.at(Place::Outside),
+                b'*' => self.at(Place::Star),
+                _ => self.at(Place::Block),
+            },
+            Place::Line => match byte {
+                b'\n' if self.depth == 0 => Step::Ends,
+                b'\n' => self.at(Place::Outside),
+                _ => self.at(Place::Line),
+            },
+            Place::String => match byte {
+                b'\n' => Step::Refused,
+                b'"' => self.at(Place::Outside),
+                b'\\' => self.at(Place::Escaped),
+                _ => self.at(Place::String),
+            },
+            Place::Escaped => match byte {
+                b'\n' => Step::Refused,
+                _ => self.at(Place::String),
+            },
+        }
+    }
+
+    /// The step to a place, where as many braces are open.
+    fn at(self, place: Place) -> Step
+        ensures { result ≡ Step.Goes (record { place = place; depth = self.depth }) }
+    {
+        Step::Goes(Progress {
+            place,
+            depth: self.depth,
+        })
+    }
+
+    /// Whether an action may end here with the text.
+    fn is_closed(self) -> bool
+        ensures { action_in (place_of self.place) self.depth [] ≡ (if result then Some ([], []) else None) }
+    {
+        self.depth == 0 && matches!(self.place, Place::Outside | Place::Slash | Place::Line)
+    }
+}
+
+/// The text of an action, up to the first newline outside strings, comments and braces or to the end of the text, and
+/// what follows that newline. None where a string, a comment or a brace is left open.
+pub(crate) fn split_action(text: &[u8]) -> Option<(&[u8], &[u8])>
+    ensures { option_map (λ x. (x.0.now, x.1.now)) result ≡ action_in outside 0 text.now }
+{
+    let mut progress = Progress {
+        place: Place::Outside,
+        depth: 0,
+    };
+    for (i, byte) in text.iter().enumerate() {
+        match progress.past(*byte) {
+            Step::Goes(next) => progress = next,
+            Step::Ends => {
+                let (front, rest) = text.split_at(i);
+                return Some((front, skip_first(rest)));
+            }
+            Step::Refused => return None,
+        }
+    }
+    if progress.is_closed() {
+        Some(text.split_at(text.len()))
+    } else {
+        None
+    }
+}
+
+/// Whether the action is `|` and blanks alone, which stands for the action of the next rule.
+pub(crate) fn is_bar(action: &[u8]) -> bool
+    ensures { result ≡ (begins (codes "|") action.now && is_all_blank (drop 1 action.now)) }
+{
+    action.starts_with(b"|") && is_all_blank(skip_first(action))
+}
