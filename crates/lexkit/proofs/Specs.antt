@@ -1,0 +1,15 @@
+-- A text spells at most one specification.
+use Rattle.std.proofs.Common.{◌≡◌, ℕ, Bool, List, refl}
+use Rattle.std.specs.FinMap.{get}
+use Rattle.lexmeaning.specs.Spec.{Spec}
+use Rattle.lexre.specs.Lexical.{symbol_at}
+use Rattle.lexre.proofs.CuttingLaws.{one_cutting}
+use Rattle.lexre.proofs.OneTree.{one_tree}
+use Rattle.lexspec.specs.Files.{SpellsSpec}
+use Rattle.lexspec.proofs.OneSpec.{one_specification}
+
+pub one_spec : (fold : Bool) (text : List ℕ) (S T : Spec) → SpellsSpec fold text S → SpellsSpec fold text T → S ≡ T
+unfolding symbol_at
+one_spec = one_specification
+    (λ fold defs text t u h k. one_tree (symbol_at fold) (get defs) refl 64 text t u h.0 k.0)
+    (λ t stop stop' at at' two two' special special' h k. let same = one_cutting t stop stop' at at' two two' special special' h k in (same.0, same.1, same.3))
