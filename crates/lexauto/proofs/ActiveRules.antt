@@ -111,7 +111,7 @@ active_finishes on i base (r ∷ rules) h p o =
       | inr b ↦ right_more x y p (active_finishes on (suc i) (base + positions_of_rule r) rules h.1 p b)
     ]
 
-occurs_range : (x : Quad) (a b : ℕ) → Within x a b → (p : ℕ) → Occurs x p → (a ≤ p) × (p < b)
+pub occurs_range : (x : Quad) (a b : ℕ) → Within x a b → (p : ℕ) → Occurs x p → (a ≤ p) × (p < b)
 occurs_range x a b w p o = elim o [ inl f ↦ w.first p f | inr g ↦ (let v = w.follow g.0 p g.1 in (v.2, v.3)) ]
 
 gated_follow : (on : Bool) (x : Quad) (p q : ℕ) → Occurs (gated on x) p → x.follow p q → (gated on x).follow p q

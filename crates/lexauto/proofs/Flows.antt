@@ -2,16 +2,8 @@
 use Rattle.std.specs.Prelude.{◌≡◌, ◌↔◌, ℕ, ◌⊎◌}
 use Rattle.std.proofs.Common.{inl, inr, refl, subst}
 use Rattle.lexmeaning.specs.ByteSets.{ByteSet}
+use Rattle.lexauto.specs.Flows.{Exits, Enters}
 use Rattle.lexauto.specs.PositionAutomaton.{Quad, skip, leaf, cat, alt, plus, opt}
-
--- i: the part is entered from outside. S: the positions left by the word so far.
--- the part is left at its end
-abbrev pub Exits : Quad → Type 0 → (ℕ → Type 0) → Type 0
-Exits x i S = (i × x.null) ⊎ ((p : ℕ) × S p × x.last p)
-
--- the position q is next
-abbrev pub Enters : Quad → Type 0 → (ℕ → Type 0) → ℕ → Type 0
-Enters x i S q = (i × x.first q) ⊎ ((p : ℕ) × S p × x.follow p q)
 
 module _ (S : ℕ → Type 0) where
   pub exits_skip : (i : Type 0) → Exits skip i S ↔ i

@@ -6,3 +6,17 @@ pub mod ActiveRules
 pub mod Flows
 pub mod Meaning
 pub mod Moves
+pub mod Copies
+pub mod FlowMeaning
+pub mod Places
+pub mod Works
+pub mod LetterTests
+pub mod RuleMeaning
+pub mod Numbers
+pub mod StepLemmas
+pub mod WordKeys
+pub mod Accepting
+pub mod Roots
+pub mod Tables
+pub mod Counting
+pub mod Surveying

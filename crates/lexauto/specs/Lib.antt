@@ -1,2 +1,14 @@
 pub mod PositionAutomaton
 pub mod RuleAutomaton
+pub mod Flow
+pub mod Flows
+pub mod Keys
+pub mod Explored
+pub mod RuleFlow
+pub mod Sets
+pub mod Moving
+pub mod WordKeys
+pub mod Machines
+pub mod Automata
+pub mod Facts
+pub mod Errors

@@ -1,14 +1,24 @@
 //! Laws of position automata: what they read, and how the last positions of a specification move.
-ghost use Rattle.std.specs.Prelude.{◌≡◌, ◌≢◌, ◌↔◌, ℕ, Bool, List, [], ◌∷◌, ◌++◌};
+ghost use Rattle.std.specs.Prelude.{◌≡◌, ◌≢◌, ◌↔◌, ◌<◌, ◌⊎◌, ◌+◌, ◌*◌, false, cond, slice_index, slice_index_or, ℕ, Bool, true, List, [], ◌∷◌, ◌++◌};
 ghost use Rattle.lexmeaning.specs.Tree.{Tree};
 ghost use Rattle.lexmeaning.specs.Positions.{Cell, Reads, ReadsWord};
-ghost use Rattle.lexmeaning.specs.Spec.{Spec};
+ghost use Rattle.lexmeaning.specs.Spec.{Spec, Rule};
 ghost use Rattle.lexmeaning.specs.Rules.{Live};
 ghost use Rattle.lexmeaning.specs.Reports.{HasFit};
 ghost use Rattle.lexmeaning.specs.Sound.{IsSound};
-ghost use Rattle.lexmeaning.specs.Subsets.{IsLast, ReadsActive};
+ghost use Rattle.lexmeaning.specs.Text.{IsText, Among};
+ghost use Rattle.lexauto.specs.Sets.{marked, lasts_in};
+ghost use Rattle.lexauto.specs.Explored.{run};
+ghost use Rattle.lexauto.specs.WordKeys.{LastKey, start_key, step_in, Surveys};
+ghost use Rattle.lexauto.specs.Machines.{machine_with, moving};
+ghost use Rattle.lexauto.specs.Facts.{AcceptedBy, GoOnBy};
+ghost use Rattle.lexmeaning.specs.TableFor.{TableFor};
+ghost use Rattle.lexmeaning.specs.Subsets.{IsLast, ReadsActive, all_positions, Subsets};
 ghost use Rattle.lexauto.specs.PositionAutomaton.{quad, Whole};
-ghost use Rattle.lexauto.specs.RuleAutomaton.{active_automaton, automaton};
+ghost use Rattle.lexauto.specs.Flow.{exits, enters};
+ghost use Rattle.lexauto.specs.Flows.{Exits, Enters};
+ghost use Rattle.lexauto.specs.RuleAutomaton.{active_automaton, automaton, active_quad, rule_quad, every};
+ghost use Rattle.lexauto.specs.RuleFlow.{rules_enter, rules_read, rules_left, rule_exits};
 
 /// The position automaton of a tree reads just what the tree reads, by the same positions.
 pub fn position_automaton()
@@ -37,4 +47,42 @@ pub fn live_positions()
     ensures after { (S : Spec) → IsSound S → (c : ℕ) (bol : Bool) (w : List ℕ) → w ≢ [] →
         Live S c bol w ↔ ((p q : ℕ) × IsLast (ReadsActive S c bol) w p × (automaton S).follow p q) }
     ensures first { (S : Spec) → IsSound S → (c : ℕ) (bol : Bool) → Live S c bol [] ↔ ((q : ℕ) × (active_automaton S c bol).first q) }
+{}
+
+/// The tests of a step say what leaves a pattern, and which positions come next.
+pub fn one_step()
+    ensures exits { (S : ℕ → Bool) (t : Tree) (base : ℕ) (i : Bool) → (exits t S base i ≡ true) ↔ Exits (quad t base) (i ≡ true) (λ p. S p ≡ true) }
+    ensures enters { (S : ℕ → Bool) (q : ℕ) (t : Tree) (base : ℕ) (i : Bool) → (enters t S q base i ≡ true) ↔ Enters (quad t base) (i ≡ true) (λ p. S p ≡ true) q }
+{}
+
+/// The tests of a step through rules say how the positions of a specification move, which of them read a byte, and which
+/// are the last of a rule.
+pub fn one_step_of_rules()
+    ensures enters { (S : ℕ → Bool) (on : ℕ → Bool) (rules : List Rule) (q i base : ℕ) → (rules_enter rules on S q i base ≡ true)
+        ↔ ((active_quad on i base rules).first q ⊎ ((p : ℕ) × (S p ≡ true) × (active_quad every i base rules).follow p q)) }
+    ensures exits { (S : ℕ → Bool) (r : Rule) (base : ℕ) → (rule_exits r S base ≡ true) ↔ ((p : ℕ) × (S p ≡ true) × (rule_quad r base).last p) }
+    ensures reads { (b : ℕ) → b < 256 → (q : ℕ) (rules : List Rule) (i base : ℕ) → (rules_read rules b q base ≡ true) ↔ (active_quad every i base rules).letter (b, q) }
+{}
+
+/// The key that a word leads to lists its last positions.
+pub fn keys_of_words()
+    ensures { (S : Spec) → IsSound S → (c : ℕ) (bol : Bool) (b : ℕ) (w : List ℕ) → b < 256 → IsText w → LastKey S c bol (b ∷ w) (run (step_in S) (start_key S c bol) (b ∷ w)) }
+{}
+
+/// The rules that are left at their ends after a word are those that fit it.
+pub fn rules_that_fit()
+    ensures { (S : Spec) → IsSound S → (c : ℕ) (bol : Bool) (w : List ℕ) → w ≢ [] → (k : List ℕ) → LastKey S c bol w k →
+        (i : ℕ) → Among (rules_left S.rules (marked (all_positions S.rules) (lasts_in k)) 0 0) i ↔ HasFit S c bol w i }
+{}
+
+/// States whose keys are those of words, and which tell what their keys do, are a table for their specification.
+pub fn tables_of_keys()
+    ensures { (S : Spec) → IsSound S → (keys : List (List ℕ)) (next starts line_starts : List ℕ) → Surveys S keys next starts line_starts →
+        (accepts : List (List ℕ)) (goes : List Bool) → AcceptedBy S keys accepts → GoOnBy S keys goes →
+        TableFor (machine_with S (λ c bol. cond bol (slice_index line_starts c) (slice_index starts c)) (moving next) (λ p. slice_index_or accepts p []) (λ p. slice_index_or goes p false)) S }
+{}
+
+/// There is at most one count of subsets.
+pub fn one_count()
+    ensures { (S : Spec) (m n : ℕ) → Subsets S m → Subsets S n → m ≡ n }
 {}

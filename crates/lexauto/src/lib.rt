@@ -1,8 +1,27 @@
-//! Automata of lex. So far the theory of position automata, as laws.
+//! Automata of lex: the positions of a specification's rules, and the states that sets of them are.
 #![tactic(auto)]
 
+mod dfa;
+mod error;
+mod explore;
+mod facts;
 mod laws;
+mod letters;
+mod readers;
+mod rules;
+mod sets;
+mod starts;
+mod stepping;
+mod subsets;
+mod walk;
 
+pub use dfa::Dfa;
+pub use error::BuildError;
 pub use laws::{
-    first_positions, live_positions, next_positions, position_automaton, words_that_fit,
+    first_positions, keys_of_words, live_positions, next_positions, one_count, one_step,
+    one_step_of_rules, position_automaton, rules_that_fit, tables_of_keys, words_that_fit,
 };
+pub use subsets::{Limits, build};
+
+#[cfg(test)]
+mod tests;

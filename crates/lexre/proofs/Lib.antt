@@ -5,6 +5,7 @@ pub mod CountLaws
 pub mod CuttingLaws
 pub mod DefinitionLaws
 pub mod ElementLaws
+pub mod EndLaws
 pub mod EscapeLaws
 pub mod FrontLaws
 pub mod GrammarLaws
@@ -21,3 +22,4 @@ pub mod Rows
 pub mod RunLaws
 pub mod SetLaws
 pub mod ShorterLaws
+pub mod SoundLaws

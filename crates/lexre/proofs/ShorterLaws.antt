@@ -100,15 +100,15 @@ Byte = Option (ℕ × List ℕ)
 abbrev Letters : Type 0
 Letters = Option (List ℕ × List ℕ)
 
-named_is : (t : List ℕ) (x : List ℕ × List ℕ) → ◌≡◌ {A = Letters} (named_at t) (Some x) → ◌≡◌ {A = Found} (bracketed_at t) (Some (named x.0, x.1))
+pub named_is : (t : List ℕ) (x : List ℕ × List ℕ) → ◌≡◌ {A = Letters} (named_at t) (Some x) → ◌≡◌ {A = Found} (bracketed_at t) (Some (named x.0, x.1))
 unfolding bracketed_at
 named_is t x e = rw (e, bracketed_at) refl
 
-unsupported_is : (t u : List ℕ) → ◌≡◌ {A = Letters} (named_at t) None → unsupported_at t ≡ Some u → ◌≡◌ {A = Found} (bracketed_at t) (Some (unsupported, u))
+pub unsupported_is : (t u : List ℕ) → ◌≡◌ {A = Letters} (named_at t) None → unsupported_at t ≡ Some u → ◌≡◌ {A = Found} (bracketed_at t) (Some (unsupported, u))
 unfolding bracketed_at
 unsupported_is t u e f = rw (e, f, bracketed_at) refl
 
-no_bracket : (t : List ℕ) → ◌≡◌ {A = Letters} (named_at t) None → unsupported_at t ≡ None → ◌≡◌ {A = Found} (bracketed_at t) None
+pub no_bracket : (t : List ℕ) → ◌≡◌ {A = Letters} (named_at t) None → unsupported_at t ≡ None → ◌≡◌ {A = Found} (bracketed_at t) None
 unfolding bracketed_at
 no_bracket t e f = rw (e, f, bracketed_at) refl
 
@@ -137,11 +137,11 @@ byte_shorter (c ∷ t) = go (c == 10) (c == 92) (escape_at t) refl
 abbrev byte_end : ℕ → Byte → Found
 byte_end lo o = o >>= λ (hi, rest). Some (span lo hi, rest)
 
-range_of_bytes : (lo : ℕ) (t : List ℕ) → ◌≡◌ {A = Found} (bracketed_at t) None → ◌≡◌ {A = Found} (range_at lo t) (byte_end lo (class_byte_at t))
+pub range_of_bytes : (lo : ℕ) (t : List ℕ) → ◌≡◌ {A = Found} (bracketed_at t) None → ◌≡◌ {A = Found} (range_at lo t) (byte_end lo (class_byte_at t))
 unfolding range_at
 range_of_bytes lo t e = rw (e, range_at) refl
 
-range_of_bracket : (lo : ℕ) (t : List ℕ) (x : Element × List ℕ) → ◌≡◌ {A = Found} (bracketed_at t) (Some x) → ◌≡◌ {A = Found} (range_at lo t) (Some (unsupported, x.1))
+pub range_of_bracket : (lo : ℕ) (t : List ℕ) (x : Element × List ℕ) → ◌≡◌ {A = Found} (bracketed_at t) (Some x) → ◌≡◌ {A = Found} (range_at lo t) (Some (unsupported, x.1))
 unfolding range_at
 range_of_bracket lo t x e = rw (e, range_at) refl
 
@@ -162,11 +162,11 @@ after_low n lo rest h = go (is_range rest)
 abbrev after_byte : Byte → Found
 after_byte o = o >>= λ (lo, rest). if is_range rest then range_at lo (drop 1 rest) else Some (span lo lo, rest)
 
-element_of_byte : (t : List ℕ) → ◌≡◌ {A = Found} (bracketed_at t) None → ◌≡◌ {A = Found} (element_at t) (after_byte (class_byte_at t))
+pub element_of_byte : (t : List ℕ) → ◌≡◌ {A = Found} (bracketed_at t) None → ◌≡◌ {A = Found} (element_at t) (after_byte (class_byte_at t))
 unfolding element_at
 element_of_byte t e = rw (e, element_at) refl
 
-element_of_bracket : (t : List ℕ) (x : Element × List ℕ) → ◌≡◌ {A = Found} (bracketed_at t) (Some x) → ◌≡◌ {A = Found} (element_at t) (Some x)
+pub element_of_bracket : (t : List ℕ) (x : Element × List ℕ) → ◌≡◌ {A = Found} (bracketed_at t) (Some x) → ◌≡◌ {A = Found} (element_at t) (Some x)
 unfolding element_at
 element_of_bracket t x e = rw (e, element_at) refl
 

@@ -15,8 +15,10 @@ pub mod Quotes
 pub mod Reading
 pub mod Readings
 pub mod Running
+pub mod Soundness
 pub mod Spelling
 pub mod StackViews
+pub mod Stops
 pub mod SymbolViews
 pub mod Symbols
 pub mod Views

@@ -1,6 +1,7 @@
 //! What stands between braces. (POSIX, lex, Definitions in lex; flex, Patterns.)
-ghost use Rattle.std.specs.Prelude.{◌≡◌, ◌||◌, ◌==◌, List, ℕ, Option, Some, None, MatchResult, length, option_map};
+ghost use Rattle.std.specs.Prelude.{◌≡◌, ◌||◌, ◌==◌, List, ℕ, Option, Some, None, MatchResult, IfOk, IfSome, ◌≤◌, length, option_map};
 ghost use Rattle.lexmeaning.specs.ByteSets.{is_alnum, is_digit};
+ghost use Rattle.lexre.specs.Soundness.{IsSoundSymbol};
 ghost use Rattle.lexre.specs.SymbolViews.{Front, symbol_of};
 ghost use Rattle.lexre.specs.Lexical.{bounded, braces_at, interval_at, name_at, take_up_to};
 ghost use Rattle.lexre.specs.Symbols.{interval, name};
@@ -29,7 +30,8 @@ fn is_in_name(byte: u8) -> bool
 
 /// The least and the greatest count of an interval, after the opening brace, and what follows the closing one.
 pub(crate) fn interval_at(text: &[u8]) -> Option<((u8, Option<u8>), &[u8])>
-    ensures { ◌≡◌ {A = Front} (interval_at text.now) (option_map (λ x. (interval x.0.0 x.0.1, x.1.now)) result) }
+    ensures front { ◌≡◌ {A = Front} (interval_at text.now) (option_map (λ x. (interval x.0.0 x.0.1, x.1.now)) result) }
+    ensures sound { IfSome result (λ x. IfSome x.0.1 (λ n. (x.0.0 ≤ n) × (1 ≤ n))) }
 {
     let (digits, rest) = digits_at(text);
     let least = capped_value(10, digits);
@@ -56,7 +58,8 @@ fn digits_at(text: &[u8]) -> (&[u8], &[u8])
 /// The two counts, where they are in order and the greatest is from 1 to 255.
 #[tactic(auto, unfolding(crate::specs::Lexical::bounded))]
 fn counts(least: u32, most: u32) -> Option<(u8, Option<u8>)>
-    ensures { (rest : List ℕ) → ◌≡◌ {A = Front} (bounded least most rest) (option_map (λ x. (interval x.0 x.1, rest)) result) }
+    ensures front { (rest : List ℕ) → ◌≡◌ {A = Front} (bounded least most rest) (option_map (λ x. (interval x.0 x.1, rest)) result) }
+    ensures sound { IfSome result (λ x. IfSome x.1 (λ n. (x.0 ≤ n) × (1 ≤ n))) }
 {
     if least > most || most == 0 {
         return None;
@@ -72,9 +75,10 @@ pub(crate) fn braces_at<'a>(
     braces: &'a [u8],
     text: &'a [u8],
 ) -> Result<(Symbol<'a>, &'a [u8]), Fault<'a>>
-    ensures { MatchResult result
+    ensures front { MatchResult result
         (λ x. ◌≡◌ {A = Front} (braces_at text.now) (Some (symbol_of x.0, x.1.now)))
         (λ _. ◌≡◌ {A = Front} (braces_at text.now) None) }
+    ensures sound { IfOk result (λ x. IsSoundSymbol (symbol_of x.0)) }
 {
     let refused = Fault {
         kind: PatternErrorKind::BadInterval,

@@ -1,6 +1,7 @@
 //! What stands between brackets inside a class. (POSIX, Base Definitions, RE Bracket Expression.)
-ghost use Rattle.std.specs.Prelude.{◌≡◌, ℕ, List, Option, Some, None, MatchResult, option_map};
+ghost use Rattle.std.specs.Prelude.{◌≡◌, ◌≤◌, ℕ, List, length, Option, Some, None, MatchResult, option_map};
 ghost use Rattle.lexre.specs.Lexical.{class_byte_at, enclosed_at, letters_at, named_at, unsupported_at};
+ghost use Rattle.lexre.specs.Stops.{stop_of};
 
 use crate::classes::Class;
 use crate::error::{Fault, PatternErrorKind};
@@ -26,11 +27,33 @@ pub(crate) fn named_at(text: &[u8]) -> Option<(&[u8], &[u8])>
     letters_at(skip_word(b"[:", text)?)
 }
 
-/// At least one byte that is no `]` and no newline, then this sign and `]`: what follows.
-fn skip_enclosed(sign: u8, text: &[u8]) -> Option<&[u8]>
+/// The text from its first `]` or newline on, or its end.
+pub(crate) fn find_stop(text: &[u8]) -> &[u8]
+    ensures { result.now ≡ stop_of text.now }
+{
+    let (_, stop) = take_up_to(text.len(), |byte| !matches!(byte, b']' | b'\n'), text);
+    stop
+}
+
+/// The text from its first `]` or newline on, or its end. `known` is that of a text before, and is kept where it is not passed.
+pub(crate) fn next_stop<'a>(known: &'a [u8], text: &'a [u8]) -> &'a [u8]
+    requires { length known.now ≤ length text.now → known.now ≡ stop_of text.now }
+    ensures { result.now ≡ stop_of text.now }
+{
+    if known.len() <= text.len() {
+        known
+    } else {
+        find_stop(text)
+    }
+}
+
+/// At least one byte that is no `]` and no newline, then this sign and `]`: what follows. `stop` is the text from its first
+/// `]` or newline on.
+fn skip_enclosed<'a>(sign: u8, text: &'a [u8], stop: &[u8]) -> Option<&'a [u8]>
+    requires { stop.now ≡ stop_of text.now }
     ensures { enclosed_at sign text.now ≡ option_map (λ x. x.now) result }
 {
-    let (bytes, rest) = take_up_to(text.len(), |byte| !matches!(byte, b']' | b'\n'), text);
+    let (bytes, rest) = text.split_at(text.len() - stop.len());
     if bytes.len() > 1 && bytes.ends_with(&[sign]) {
         skip_word(b"]", rest)
     } else {
@@ -38,17 +61,19 @@ fn skip_enclosed(sign: u8, text: &[u8]) -> Option<&[u8]>
     }
 }
 
-/// What follows `[:^`, at least one letter and `:]`; or `[=`, at least one byte and `=]`; or the same with dots.
-pub(crate) fn skip_unsupported(text: &[u8]) -> Option<&[u8]>
+/// What follows `[:^`, at least one letter and `:]`; or `[=`, at least one byte and `=]`; or the same with dots. `stop` is
+/// the text from its first `]` or newline on.
+pub(crate) fn skip_unsupported<'a>(text: &'a [u8], stop: &[u8]) -> Option<&'a [u8]>
+    requires { stop.now ≡ stop_of text.now }
     ensures { unsupported_at text.now ≡ option_map (λ x. x.now) result }
 {
     if let Some(rest) = skip_word(b"[:^", text) {
         let (_, after) = letters_at(rest)?;
         Some(after)
     } else if let Some(rest) = skip_word(b"[=", text) {
-        skip_enclosed(b'=', rest)
+        skip_enclosed(b'=', rest, stop)
     } else {
-        skip_enclosed(b'.', skip_word(b"[.", text)?)
+        skip_enclosed(b'.', skip_word(b"[.", text)?, stop)
     }
 }
 

@@ -8,6 +8,8 @@ use crate::pattern::Pattern;
 pub(crate) struct Frame {
     /// Where its opening parenthesis stands.
     pub(crate) opening: usize,
+    /// Where the item begins that was read last, or that is being read.
+    pub(crate) start: usize,
     /// Its finished series.
     pub(crate) done: Vec<Pattern>,
     /// The parts of the series that is being read, before its last.

@@ -1,8 +1,9 @@
 //! The symbol at the front of a text. (POSIX, lex, Regular Expressions in lex; flex, Patterns.)
-ghost use Rattle.std.specs.Prelude.{◌≡◌, ℕ, List, Option, Some, None, MatchResult, drop};
+ghost use Rattle.std.specs.Prelude.{◌≡◌, ℕ, List, Option, Some, None, MatchResult, IfOk, drop};
 ghost use Rattle.lexre.specs.Lexical.{symbol_at};
 ghost use Rattle.lexre.specs.Outcome.{IsRefused, UnlessMemory};
 ghost use Rattle.lexre.specs.Quotes.{class_front, escape_front, quoted_front};
+ghost use Rattle.lexre.specs.Soundness.{IsSoundSymbol};
 ghost use Rattle.lexre.specs.SymbolViews.{Front, symbol_of};
 
 use crate::braces::braces_at;
@@ -23,9 +24,10 @@ fn quoted_item<'a>(
     text: &'a [u8],
     fold: bool,
 ) -> Result<(Symbol<'a>, &'a [u8]), Fault<'a>>
-    ensures { MatchResult result
+    ensures front { MatchResult result
         (λ x. ◌≡◌ {A = Front} (quoted_front fold text.now) (Some (symbol_of x.0, x.1.now)))
         (λ e. UnlessMemory e.kind (IsRefused (quoted_front fold text.now))) }
+    ensures sound { IfOk result (λ x. IsSoundSymbol (symbol_of x.0)) }
 {
     let (bytes, rest) = match quoted_at(alloc, quote, text) {
         Ok(found) => found,
@@ -39,9 +41,10 @@ fn quoted_item<'a>(
 
 /// The item of a class, and what follows it. `class` is the text from its opening bracket on.
 fn class_item<'a>(class: &'a [u8], fold: bool) -> Result<(Symbol<'a>, &'a [u8]), Fault<'a>>
-    ensures { MatchResult result
+    ensures front { MatchResult result
         (λ x. ◌≡◌ {A = Front} (class_front fold (drop 1 class.now)) (Some (symbol_of x.0, x.1.now)))
         (λ _. ◌≡◌ {A = Front} (class_front fold (drop 1 class.now)) None) }
+    ensures sound { IfOk result (λ x. IsSoundSymbol (symbol_of x.0)) }
 {
     match class_at(class, fold) {
         Ok((set, rest)) => Ok((Symbol::Item(Pattern::Set(set)), rest)),
@@ -55,9 +58,10 @@ fn escape_item<'a>(
     text: &'a [u8],
     fold: bool,
 ) -> Result<(Symbol<'a>, &'a [u8]), Fault<'a>>
-    ensures { MatchResult result
+    ensures front { MatchResult result
         (λ x. ◌≡◌ {A = Front} (escape_front fold text.now) (Some (symbol_of x.0, x.1.now)))
         (λ _. ◌≡◌ {A = Front} (escape_front fold text.now) None) }
+    ensures sound { IfOk result (λ x. IsSoundSymbol (symbol_of x.0)) }
 {
     match escape_at(text) {
         Some((byte, rest)) => Ok((Symbol::Item(byte_pattern(byte, fold)), rest)),
@@ -77,9 +81,10 @@ pub(crate) fn symbol_at<'a>(
     text: &'a [u8],
     fold: bool,
 ) -> Result<(Symbol<'a>, &'a [u8]), Fault<'a>>
-    ensures { MatchResult result
+    ensures front { MatchResult result
         (λ x. ◌≡◌ {A = Front} (symbol_at fold text.now) (Some (symbol_of x.0, x.1.now)))
         (λ e. UnlessMemory e.kind (IsRefused (symbol_at fold text.now))) }
+    ensures sound { IfOk result (λ x. IsSoundSymbol (symbol_of x.0)) }
 {
     let missing = Fault {
         kind: PatternErrorKind::MissingOperand,

@@ -3,6 +3,7 @@ ghost use Rattle.std.specs.Prelude.{◌≡◌, ◌<◌, ◌≤◌, length, drop,
 ghost use Rattle.lexre.specs.Lexical.{begins, class_at};
 ghost use Rattle.lexre.specs.Passing.{rest_of_class};
 
+use crate::brackets::{find_stop, next_stop};
 use crate::elements::element_at;
 use crate::error::{Fault, PatternErrorKind};
 
@@ -14,12 +15,15 @@ pub(crate) fn skip_class<'a>(class: &'a [u8], text: &'a [u8]) -> Result<&'a [u8]
         (λ _. rest_of_class (class_at text.now) ≡ None) }
     ensures shorter { IfOk result (λ rest. length rest.now < length text.now) }
 {
-    let (_, mut rest) = element_at(class, skip_negation(text))?;
+    let inside = skip_negation(text);
+    let mut stop = find_stop(inside);
+    let (_, mut rest) = element_at(class, inside, stop)?;
     while let Some((&first, after)) = rest.split_first() {
         if first == b']' {
             return Ok(after);
         }
-        let (_, next) = element_at(class, rest)?;
+        stop = next_stop(stop, rest);
+        let (_, next) = element_at(class, rest, stop)?;
         rest = next;
     }
     Err(Fault {

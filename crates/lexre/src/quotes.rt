@@ -1,7 +1,7 @@
 //! Texts in quotes. (POSIX, lex, Regular Expressions in lex.)
-ghost use Rattle.std.specs.Prelude.{◌≡◌, ◌<◌, ℕ, List, Option, Some, None, MatchResult, drop, option_map};
+ghost use Rattle.std.specs.Prelude.{◌≡◌, ◌<◌, ℕ, List, Option, Some, None, MatchResult, IfOk, drop, option_map};
 ghost use Rattle.lexmeaning.specs.ByteSets.{single};
-ghost use Rattle.lexmeaning.specs.Shapes.{nodes};
+ghost use Rattle.lexmeaning.specs.Shapes.{IsSoundTree, nodes};
 ghost use Rattle.lexmeaning.specs.Tree.{Set};
 ghost use Rattle.lexre.specs.Lexical.{after_quotes, folded, quoted_tree};
 ghost use Rattle.lexre.specs.Outcome.{UnlessMemory};
@@ -14,6 +14,9 @@ use crate::expressions::folded;
 use crate::pattern::Pattern;
 use crate::sets::ByteSet;
 use std::alloc::Global;
+
+/// A series of so many bytes has as many nodes as a pattern may have.
+const MOST_BYTES: usize = 65_535;
 
 /// What follows a text in quotes. The text handed in begins with the first quote, at which it is told that no other closes it.
 pub(crate) fn skip_quoted<'a>(text: &'a [u8]) -> Result<&'a [u8], Fault<'a>>
@@ -99,7 +102,8 @@ pub(crate) fn quoted_at<'a>(
 
 /// The pattern of one byte, in both cases under `fold`.
 pub(crate) fn byte_pattern(byte: u8, fold: bool) -> Pattern
-    ensures { tree_of result ≡ Set (folded fold (single byte)) }
+    ensures tree { tree_of result ≡ Set (folded fold (single byte)) }
+    ensures sound { IsSoundTree (tree_of result) }
 {
     Pattern::Set(folded(fold, ByteSet::of(byte)))
 }
@@ -111,15 +115,16 @@ pub(crate) fn quoted_pattern(
     bytes: &[u8],
     fold: bool,
 ) -> Result<Pattern, PatternErrorKind>
-    ensures { MatchResult result
+    ensures tree { MatchResult result
         (λ p. tree_of p ≡ quoted_tree fold bytes.now)
         (λ e. UnlessMemory e (65536 < nodes (quoted_tree fold bytes.now))) }
+    ensures sound { IfOk result (λ p. IsSoundTree (tree_of p)) }
 {
     match bytes {
         [] => Ok(Pattern::Empty),
         [byte] => Ok(byte_pattern(*byte, fold)),
         _ => {
-            if bytes.len() > 65535 {
+            if bytes.len() > MOST_BYTES {
                 return Err(PatternErrorKind::TooBig);
             }
             let mut parts = Vec::new(alloc);

@@ -1,16 +1,17 @@
 //! Reads patterns. (POSIX, lex, Regular Expressions in lex; flex, Patterns. The bounds are this project's.)
-ghost use Rattle.std.specs.Prelude.{◌≡◌, ◌+◌, ◌≤◌, ℕ, IfOk, IfErr};
-ghost use Rattle.lexmeaning.specs.Shapes.{nodes};
+ghost use Rattle.std.specs.Prelude.{◌≡◌, ◌+◌, ◌≤◌, ℕ, true, false, IfOk, IfErr};
+ghost use Rattle.lexmeaning.specs.Shapes.{IsSoundTree, nodes};
 ghost use Rattle.lexmeaning.specs.Tree.{Tree};
 ghost use Rattle.lexre.specs.Counting.{state_nodes};
 ghost use Rattle.lexre.specs.Outcome.{UnlessMemory};
 ghost use Rattle.lexre.specs.Reading.{NoneWithin, SpellsIn, StandsIn, StepsIn, begins_interval, is_among};
 ghost use Rattle.lexre.specs.Running.{State};
+ghost use Rattle.lexre.specs.Soundness.{IsSoundState, IsSoundSymbol};
 ghost use Rattle.lexre.specs.Spelling.{Spells};
 ghost use Rattle.lexre.specs.StackViews.{state_of};
 ghost use Rattle.lexre.specs.SymbolViews.{symbol_of};
 ghost use Rattle.lexre.specs.Views.{tree_of};
-ghost use Rattle.lexre.specs.declared.error.PatternErrorKind.TheVariants.{OutOfMemory};
+ghost use Rattle.lexre.specs.declared.error.PatternErrorKind.TheVariants.{DefinitionCycle, OutOfMemory};
 
 use crate::classes::Class;
 use crate::definitions::Defs;
@@ -20,6 +21,12 @@ use crate::lexer::symbol_at;
 use crate::pattern::Pattern;
 use crate::symbols::Symbol;
 use std::alloc::Global;
+
+/// So many parentheses and names may be open at one place.
+const MOST_OPEN: u8 = 64;
+
+/// So many nodes a pattern may have.
+const MOST_NODES: u64 = 65_536;
 
 /// How a pattern is read.
 #[derive(Clone, Copy)]
@@ -71,7 +78,9 @@ fn is_among(name: &[u8], names: &[Vec<u8>]) -> bool
 /// What is told of a name whose substitute has this fault. A name inside its own substitute is read on until no more may
 /// be opened, and is told as a cycle then.
 fn told_of_name(kind: PatternErrorKind, cyclic: bool) -> PatternErrorKind
-    ensures { kind ≡ OutOfMemory → result ≡ OutOfMemory }
+    ensures memory { kind ≡ OutOfMemory → result ≡ OutOfMemory }
+    ensures cycle { cyclic ≡ true → (kind ≡ OutOfMemory → ⊥) → result ≡ DefinitionCycle }
+    ensures other { cyclic ≡ false → result ≡ kind }
 {
     match kind {
         PatternErrorKind::OutOfMemory => PatternErrorKind::OutOfMemory,
@@ -96,6 +105,7 @@ fn read_name(
     requires room { room ≤ 65536 }
     ensures found { IfOk result (λ p. StandsIn fold defs.now left name.now (tree_of p)) }
     ensures few { IfOk result (λ p. nodes (tree_of p) ≤ room) }
+    ensures sound { IfOk result (λ p. IsSoundTree (tree_of p)) }
     ensures none { IfErr result (λ e. UnlessMemory e (NoneWithin room (StandsIn fold defs.now left name.now))) }
 {
     let Some(substitute) = defs.find(name) else {
@@ -127,17 +137,21 @@ fn step(
     room: u64,
     open: &mut Vec<Vec<u8>>,
 ) -> Result<u64, PatternErrorKind>
-    requires { room ≤ 65536 }
+    requires room { room ≤ 65536 }
+    requires sound { IsSoundSymbol (symbol_of symbol) }
+    requires sound_so_far { IsSoundState (state_of stack.old) }
     ensures found { IfOk result (λ n. StepsIn fold defs.now (state_of stack.old) (symbol_of symbol.entry) (state_of stack.new)) }
     ensures few { IfOk result (λ n. n ≤ room) }
+    ensures sound { IfOk result (λ n. IsSoundState (state_of stack.new)) }
     ensures counted { IfOk result (λ n. state_nodes (state_of stack.new) ≡ state_nodes (state_of stack.old) + n) }
     ensures none { IfErr result (λ e. UnlessMemory e
         ((after : State) → StepsIn fold defs.now (state_of stack.old) (symbol_of symbol.entry) after → state_nodes after ≤ state_nodes (state_of stack.old) + room → ⊥)) }
 {
     let added = match symbol {
         Symbol::Name(name) => {
+            stack.here.start = at;
             let item = read_name(alloc, name, defs, fold, stack.left, room, open)?;
-            stack.push(item)?
+            stack.push(item, at)?
         }
         plain => stack.take(alloc, plain, at)?,
     };
@@ -163,6 +177,7 @@ fn read_within(
     requires room { room ≤ 65536 }
     ensures found { IfOk result (λ p. SpellsIn fold defs.now left text.now (tree_of p)) }
     ensures few { IfOk result (λ p. nodes (tree_of p) ≤ room) }
+    ensures sound { IfOk result (λ p. IsSoundTree (tree_of p)) }
     ensures none { IfErr result (λ e. UnlessMemory e.kind (NoneWithin room (SpellsIn fold defs.now left text.now))) }
 {
     let mut stack = Stack::new(alloc, left);
@@ -185,7 +200,7 @@ fn read_within(
             open,
         ) {
             Ok(added) => nodes += added,
-            Err(kind) => return Err(PatternError { kind, at }),
+            Err(kind) => return Err(stack.fault(kind, at)),
         }
         rest = after;
     }
@@ -215,10 +230,19 @@ pub fn read_pattern(
     options: ReadOptions,
 ) -> Result<Pattern, PatternError>
     ensures found { IfOk result (λ p. Spells options.fold defs.now text.now (tree_of p)) }
+    ensures sound { IfOk result (λ p. IsSoundTree (tree_of p)) }
     ensures none { IfErr result (λ e. UnlessMemory e.kind ((t : Tree) → Spells options.fold defs.now text.now t → ⊥)) }
 {
     let mut open = Vec::new(alloc);
-    match read_within(alloc, text, defs, options.fold, 64, 65536, &mut open) {
+    match read_within(
+        alloc,
+        text,
+        defs,
+        options.fold,
+        MOST_OPEN,
+        MOST_NODES,
+        &mut open,
+    ) {
         Ok(pattern) => Ok(pattern),
         Err(
             PatternError {

@@ -1,5 +1,5 @@
 //! A pattern as far as it was read. (POSIX, lex, Regular Expressions in lex; flex, Patterns.)
-ghost use Rattle.std.specs.Prelude.{◌≡◌, ◌+◌, ◌≤◌, ℕ, List, Option, [], Some, None, map, MatchResult, IfOk, IfErr, IfSome, OnOk};
+ghost use Rattle.std.specs.Prelude.{◌≡◌, ◌+◌, ◌≤◌, ℕ, List, Option, [], Some, None, map, MatchResult, IfOk, IfErr, IfSome, IfNone, IsSome};
 ghost use Rattle.lexmeaning.specs.Tree.{Repeat, Tree};
 ghost use Rattle.lexre.specs.Counting.{adds, closing_adds, extra, item_adds};
 ghost use Rattle.lexre.specs.Grammar.{choice_tree, series_tree};
@@ -12,12 +12,15 @@ ghost use Rattle.lexre.specs.Views.{tree_of};
 ghost use Rattle.lexre.specs.declared.error.PatternErrorKind.TheVariants.{OutOfMemory};
 
 use crate::counts::capped_nodes;
-use crate::error::PatternErrorKind;
+use crate::error::{PatternError, PatternErrorKind};
 use crate::frames::{Frame, Stack};
 use crate::pattern::Pattern;
 use crate::symbols::{Sign, Symbol};
 use std::alloc::Global;
 use std::mem;
+
+/// So many signs may stand on one item.
+const MOST_SIGNS: u8 = 64;
 
 /// The pattern of a series: a part alone is itself.
 fn series(mut parts: Vec<Pattern>, last: Pattern) -> Result<Pattern, PatternErrorKind>
@@ -47,6 +50,7 @@ impl Frame {
     {
         Frame {
             opening,
+            start: opening,
             done: Vec::new(alloc),
             parts: Vec::new(alloc),
             last: None,
@@ -65,13 +69,15 @@ impl Frame {
         u64::from(begins)
     }
 
-    fn push(&mut self, item: Pattern) -> Result<(), PatternErrorKind>
+    /// Takes an item that begins at this place.
+    fn push(&mut self, item: Pattern, start: usize) -> Result<(), PatternErrorKind>
         ensures { MatchResult result (λ _. frame_of self.new ≡ pushed (tree_of item) (frame_of self.old)) (λ e. e ≡ OutOfMemory) }
     {
         if let Some(last) = self.last.take() {
             self.parts.push(last)?;
         }
         self.last = Some(item);
+        self.start = start;
         self.signs = 0;
         Ok(())
     }
@@ -90,12 +96,12 @@ impl Stack {
         }
     }
 
-    /// Takes an item, and answers how many nodes it brings.
-    pub(crate) fn push(&mut self, item: Pattern) -> Result<u64, PatternErrorKind>
+    /// Takes an item that begins at this place, and answers how many nodes it brings.
+    pub(crate) fn push(&mut self, item: Pattern, start: usize) -> Result<u64, PatternErrorKind>
         ensures { StepsTo result (Some (push (tree_of item) (state_of self.old))) (item_adds (tree_of item) (state_of self.old)) (state_of self.new) }
     {
         let added = capped_nodes(&item) + self.here.extra();
-        self.here.push(item)?;
+        self.here.push(item, start)?;
         Ok(added)
     }
 
@@ -124,10 +130,11 @@ impl Stack {
         };
         let added = outside.extra();
         let inside = mem::replace(&mut self.here, outside);
+        let start = inside.opening;
         let last = series(inside.parts, last)?;
         let item = choice(inside.done, last)?;
         self.left += 1;
-        self.here.push(item)?;
+        self.here.push(item, start)?;
         Ok(added)
     }
 
@@ -149,10 +156,11 @@ impl Stack {
     pub(crate) fn repeat_fault(&self) -> Option<PatternErrorKind>
         ensures never { IfSome result (λ kind. (f : Tree → Tree) → onto_last f (state_of self.now) ≡ None) }
         ensures memory { IfSome result (λ kind. kind ≡ OutOfMemory → ⊥) }
+        ensures steps { IfNone result (IsSome (onto_last (λ t. t) (state_of self.now))) }
     {
         if self.here.last.is_none() {
             Some(PatternErrorKind::MissingOperand)
-        } else if self.here.signs >= 64 {
+        } else if self.here.signs >= MOST_SIGNS {
             Some(PatternErrorKind::TooDeep)
         } else {
             None
@@ -166,7 +174,7 @@ impl Stack {
         let Some(last) = self.here.last.take() else {
             return Err(PatternErrorKind::MissingOperand);
         };
-        if self.here.signs >= 64 {
+        if self.here.signs >= MOST_SIGNS {
             return Err(PatternErrorKind::TooDeep);
         }
         let inner = Box::new(alloc, last)?;
@@ -192,13 +200,24 @@ impl Stack {
         let Some(last) = self.here.last.take() else {
             return Err(PatternErrorKind::MissingOperand);
         };
-        if self.here.signs >= 64 {
+        if self.here.signs >= MOST_SIGNS {
             return Err(PatternErrorKind::TooDeep);
         }
         let inner = Box::new(alloc, last)?;
         self.here.last = Some(Pattern::Repeat(inner, least, most));
         self.here.signs += 1;
         Ok(1)
+    }
+
+    /// What is told of a symbol that stands at this place: too many nodes at the item that brings them.
+    pub(crate) fn fault(&self, kind: PatternErrorKind, at: usize) -> PatternError
+        ensures { result.kind ≡ kind }
+    {
+        let at = match kind {
+            PatternErrorKind::TooBig => self.here.start,
+            _ => at,
+        };
+        PatternError { kind, at }
     }
 
     /// Takes a symbol that stands at this place and is no name, and answers how many nodes it brings.
@@ -211,7 +230,7 @@ impl Stack {
         ensures { StepsTo result (step_of (symbol_of symbol.entry) (state_of self.old)) (adds (symbol_of symbol.entry) (state_of self.old)) (state_of self.new) }
     {
         match symbol {
-            Symbol::Item(item) => self.push(item),
+            Symbol::Item(item) => self.push(item, at),
             Symbol::Name(_) => Err(PatternErrorKind::UndefinedName),
             Symbol::Opening => self.open(alloc, at),
             Symbol::Closing => self.close(),

@@ -8,7 +8,8 @@ use crate::braces::interval_at;
 use crate::expressions::class_at;
 use crate::{
     ByteSet, Cutting, Defs, DefsError, Lengths, Pattern, PatternError, PatternErrorKind,
-    cut_pattern, lengths, one_cutting, one_tree, positions, readings_use_own_positions,
+    ReadOptions, cut_pattern, lengths, one_cutting, one_tree, positions, read_pattern,
+    readings_use_own_positions,
 };
 use std::alloc::{AllocError, Global};
 use std::test::Fail;
@@ -450,4 +451,464 @@ fn intervals(rt: HostRuntime) {
     ] {
         assert!(rt; interval_at(text).is_none());
     }
+}
+
+/// A node of a tree, before its parts.
+#[derive(Clone, Copy)]
+enum Node {
+    Empty,
+    /// A set of these bytes.
+    Bytes(&'static [u8]),
+    /// The set of all bytes but these.
+    AllBut(&'static [u8]),
+    Cat(usize),
+    Alt(usize),
+    Star,
+    Repeat(u8, Option<u8>),
+}
+
+fn is_set_of(set: ByteSet, members: &[u8], inside: bool) -> bool {
+    for byte in 0..=255u8 {
+        let listed = members.iter().any(|member| *member == byte);
+        if set.contains(byte) != (listed == inside) {
+            return false;
+        }
+    }
+    true
+}
+
+// The nodes that follow those of the tree, where these begin with its own
+#[cycle(nodes)]
+fn after_tree<'a>(pattern: &Pattern, nodes: &'a [Node]) -> Option<&'a [Node]> {
+    let (first, rest) = nodes.split_first()?;
+    match (pattern, *first) {
+        (Pattern::Empty, Node::Empty) => Some(rest),
+        (Pattern::Set(set), Node::Bytes(members)) if is_set_of(*set, members, true) => Some(rest),
+        (Pattern::Set(set), Node::AllBut(others)) if is_set_of(*set, others, false) => Some(rest),
+        (Pattern::Cat(parts), Node::Cat(count)) if parts.len() == count => after_trees(parts, rest),
+        (Pattern::Alt(parts), Node::Alt(count)) if parts.len() == count => after_trees(parts, rest),
+        (Pattern::Star(inner), Node::Star) => after_tree(inner, rest),
+        (Pattern::Repeat(inner, m, n), Node::Repeat(least, most)) if *m == least && *n == most => {
+            after_tree(inner, rest)
+        }
+        _ => None,
+    }
+}
+
+#[cycle(nodes)]
+fn after_trees<'a>(patterns: &[Pattern], nodes: &'a [Node]) -> Option<&'a [Node]> {
+    let mut rest = nodes;
+    for pattern in patterns {
+        rest = after_tree(pattern, rest)?;
+    }
+    Some(rest)
+}
+
+fn worked_definitions(alloc: Global) -> Result<Defs, DefsError> {
+    let mut defs = Defs::new(alloc);
+    for (name, text) in [
+        (b"D".as_slice(), b"[0-9]".as_slice()),
+        (b"N", b"{D}+"),
+        (b"Or", b"a|b"),
+        (b"x", b"a{x}"),
+        (b"y", b"{z}"),
+        (b"z", b"({y})"),
+        (b"quote", b"\"a"),
+        (b"class", b"[a"),
+        (b"range", b"[z-a]"),
+        (b"empty", b"[^\\0-\\377]"),
+        (b"name", b"[[:foo:]]"),
+        (b"bracket", b"[[=a=]]"),
+        (b"escape", b"\\400"),
+        (b"interval", b"a{2,1}"),
+        (b"paren", b"(a"),
+        (b"operand", b"a||b"),
+        (b"undefined", b"{nothing}"),
+        (b"slash", b"a/b"),
+        (b"eight", b"aaaaaaaa"),
+        (
+            b"few",
+            b"{eight}{eight}{eight}{eight}{eight}{eight}{eight}{eight}",
+        ),
+        (b"some", b"{few}{few}{few}{few}{few}{few}{few}{few}"),
+        (b"many", b"{some}{some}{some}{some}{some}{some}{some}{some}"),
+        (b"more", b"{many}{many}{many}{many}{many}{many}{many}{many}"),
+        (b"big", b"{more}{more}{more}{more}{more}{more}{more}{more}"),
+    ] {
+        defs.add(name, text)?;
+    }
+    Ok(defs)
+}
+
+// A text, whether it is read with fold, and its tree.
+const TREES: [(&[u8], bool, &[Node]); 30] = [
+    (b"[]a]", false, &[Node::Bytes(b"]a")]),
+    (b"[a-]", false, &[Node::Bytes(b"a-")]),
+    (b"[-a]", false, &[Node::Bytes(b"a-")]),
+    (b"[a-c-e]", false, &[Node::Bytes(b"abc-e")]),
+    (b"[0-9]", false, &[Node::Bytes(b"0123456789")]),
+    (b"[^\\n]", false, &[Node::AllBut(b"\n")]),
+    (b".", true, &[Node::AllBut(b"\n")]),
+    (b"[[.]", false, &[Node::Bytes(b"[.")]),
+    (b"\\x41", false, &[Node::Bytes(b"A")]),
+    (b"\\101", false, &[Node::Bytes(b"A")]),
+    (b"\\x", false, &[Node::Bytes(b"x")]),
+    (
+        b"\"a\\\"b\"",
+        false,
+        &[
+            Node::Cat(3),
+            Node::Bytes(b"a"),
+            Node::Bytes(b"\""),
+            Node::Bytes(b"b"),
+        ],
+    ),
+    (b"\"\"", false, &[Node::Empty]),
+    (b"\"a\"", false, &[Node::Bytes(b"a")]),
+    (
+        b"a{2,3}b?",
+        false,
+        &[
+            Node::Cat(2),
+            Node::Repeat(2, Some(3)),
+            Node::Bytes(b"a"),
+            Node::Repeat(0, Some(1)),
+            Node::Bytes(b"b"),
+        ],
+    ),
+    (
+        b"(ab)*",
+        false,
+        &[
+            Node::Star,
+            Node::Cat(2),
+            Node::Bytes(b"a"),
+            Node::Bytes(b"b"),
+        ],
+    ),
+    (
+        b"a{255}",
+        false,
+        &[Node::Repeat(255, Some(255)), Node::Bytes(b"a")],
+    ),
+    (b"a{0,}", false, &[Node::Repeat(0, None), Node::Bytes(b"a")]),
+    (
+        b"a+*",
+        false,
+        &[Node::Star, Node::Repeat(1, None), Node::Bytes(b"a")],
+    ),
+    (
+        b"abc{1,3}",
+        false,
+        &[
+            Node::Cat(3),
+            Node::Bytes(b"a"),
+            Node::Bytes(b"b"),
+            Node::Repeat(1, Some(3)),
+            Node::Bytes(b"c"),
+        ],
+    ),
+    (
+        b"ab|cd*|e",
+        false,
+        &[
+            Node::Alt(3),
+            Node::Cat(2),
+            Node::Bytes(b"a"),
+            Node::Bytes(b"b"),
+            Node::Cat(2),
+            Node::Bytes(b"c"),
+            Node::Star,
+            Node::Bytes(b"d"),
+            Node::Bytes(b"e"),
+        ],
+    ),
+    (
+        b"^]}<>-$",
+        false,
+        &[
+            Node::Cat(7),
+            Node::Bytes(b"^"),
+            Node::Bytes(b"]"),
+            Node::Bytes(b"}"),
+            Node::Bytes(b"<"),
+            Node::Bytes(b">"),
+            Node::Bytes(b"-"),
+            Node::Bytes(b"$"),
+        ],
+    ),
+    (
+        b"[[::]]",
+        false,
+        &[Node::Cat(2), Node::Bytes(b"[:"), Node::Bytes(b"]")],
+    ),
+    (b"((a))", false, &[Node::Bytes(b"a")]),
+    (
+        b"{N}x",
+        false,
+        &[
+            Node::Cat(2),
+            Node::Repeat(1, None),
+            Node::Bytes(b"0123456789"),
+            Node::Bytes(b"x"),
+        ],
+    ),
+    (
+        b"{Or}c",
+        false,
+        &[
+            Node::Cat(2),
+            Node::Alt(2),
+            Node::Bytes(b"a"),
+            Node::Bytes(b"b"),
+            Node::Bytes(b"c"),
+        ],
+    ),
+    (
+        b"a[b-c]\"d\"",
+        true,
+        &[
+            Node::Cat(3),
+            Node::Bytes(b"aA"),
+            Node::Bytes(b"bBcC"),
+            Node::Bytes(b"dD"),
+        ],
+    ),
+    (b"[^b]", true, &[Node::AllBut(b"bB")]),
+    (b"[[:digit:]-]", true, &[Node::Bytes(b"0123456789-")]),
+    (b"\\x4A", true, &[Node::Bytes(b"jJ")]),
+];
+
+#[test]
+fn patterns(rt: HostRuntime) -> Result<(), Fail> {
+    let alloc = rt.alloc();
+    let defs = worked_definitions(alloc)?;
+    for (text, fold, nodes) in TREES {
+        let pattern = read_pattern(alloc, text, &defs, ReadOptions { fold }).expect(&rt, "a tree");
+        assert!(rt; after_tree(&pattern, nodes).is_some_and(|rest| rest.is_empty()));
+    }
+    Ok(())
+}
+
+// A text that is no pattern, what is told of it, and where.
+const REFUSALS: [(&[u8], PatternErrorKind, usize); 57] = [
+    (b"\"a", PatternErrorKind::UnclosedQuote, 0),
+    (b"b\"a\n\"", PatternErrorKind::UnclosedQuote, 1),
+    (b"b{quote}", PatternErrorKind::UnclosedQuote, 1),
+    (b"[a", PatternErrorKind::UnclosedClass, 0),
+    (b"[]", PatternErrorKind::UnclosedClass, 0),
+    (b"b{class}", PatternErrorKind::UnclosedClass, 1),
+    (b"[z-a]", PatternErrorKind::BadRange, 1),
+    (b"[z-a", PatternErrorKind::BadRange, 1),
+    (b"[a-[:foo:]]", PatternErrorKind::BadRange, 1),
+    (b"b{range}", PatternErrorKind::BadRange, 1),
+    (b"[^\\0-\\377]", PatternErrorKind::EmptyClass, 0),
+    (b"a[^\\0-\\377]", PatternErrorKind::EmptyClass, 1),
+    (b"b{empty}", PatternErrorKind::EmptyClass, 1),
+    (b"[[:foo:]]", PatternErrorKind::UnknownClassName, 1),
+    (b"[a[:Alpha:]]", PatternErrorKind::UnknownClassName, 2),
+    (b"b{name}", PatternErrorKind::UnknownClassName, 1),
+    (b"[[=a=]]", PatternErrorKind::UnsupportedBracket, 1),
+    (b"[a-[.b.]]", PatternErrorKind::UnsupportedBracket, 3),
+    (b"[[:^alpha:]]", PatternErrorKind::UnsupportedBracket, 1),
+    (b"b{bracket}", PatternErrorKind::UnsupportedBracket, 1),
+    (b"\\400", PatternErrorKind::BadEscape, 0),
+    (b"\"a\\400", PatternErrorKind::BadEscape, 2),
+    (b"a\\", PatternErrorKind::BadEscape, 1),
+    (b"[b\\\n]", PatternErrorKind::BadEscape, 2),
+    (b"b{escape}", PatternErrorKind::BadEscape, 1),
+    (b"a{2,1}", PatternErrorKind::BadInterval, 1),
+    (b"a{256}", PatternErrorKind::BadInterval, 1),
+    (b"a{,2}", PatternErrorKind::BadInterval, 1),
+    (b"{,2}", PatternErrorKind::BadInterval, 0),
+    (b"a{", PatternErrorKind::BadInterval, 1),
+    (b"a{D", PatternErrorKind::BadInterval, 1),
+    (b"b{interval}", PatternErrorKind::BadInterval, 1),
+    (b"(a", PatternErrorKind::UnbalancedParen, 0),
+    (b"a)", PatternErrorKind::UnbalancedParen, 1),
+    (b"(a)(b|(c)", PatternErrorKind::UnbalancedParen, 3),
+    (b"b{paren}", PatternErrorKind::UnbalancedParen, 1),
+    (b"()", PatternErrorKind::MissingOperand, 1),
+    (b"*a", PatternErrorKind::MissingOperand, 0),
+    (b"a||b", PatternErrorKind::MissingOperand, 2),
+    (b"", PatternErrorKind::MissingOperand, 0),
+    (b"(", PatternErrorKind::MissingOperand, 1),
+    (b"(a|", PatternErrorKind::MissingOperand, 3),
+    (b"a|)", PatternErrorKind::MissingOperand, 2),
+    (b"a b", PatternErrorKind::MissingOperand, 1),
+    (b"a\n", PatternErrorKind::MissingOperand, 1),
+    (b"{2}", PatternErrorKind::MissingOperand, 0),
+    (b"a|{2,1}", PatternErrorKind::MissingOperand, 2),
+    (b"b{operand}", PatternErrorKind::MissingOperand, 1),
+    (b"{nothing}", PatternErrorKind::UndefinedName, 0),
+    (b"b{undefined}", PatternErrorKind::UndefinedName, 1),
+    (b"{x}", PatternErrorKind::DefinitionCycle, 0),
+    (b"a{y}", PatternErrorKind::DefinitionCycle, 1),
+    (b"a({z})", PatternErrorKind::DefinitionCycle, 2),
+    (b"a/b", PatternErrorKind::MisplacedSlash, 1),
+    (b"a|/b", PatternErrorKind::MisplacedSlash, 2),
+    (b"b{slash}", PatternErrorKind::MisplacedSlash, 1),
+    (b"b({D})/a", PatternErrorKind::MisplacedSlash, 6),
+];
+
+#[test]
+fn refused_patterns(rt: HostRuntime) -> Result<(), Fail> {
+    let alloc = rt.alloc();
+    let defs = worked_definitions(alloc)?;
+    for (text, kind, at) in REFUSALS {
+        match read_pattern(alloc, text, &defs, ReadOptions { fold: false }) {
+            Ok(_) => assert!(rt; false),
+            Err(error) => assert_eq!(rt; error, PatternError { kind, at }),
+        }
+    }
+    Ok(())
+}
+
+// What a text begins with, a part, how often that stands, what follows, and what is told of the text, where it is refused.
+type Long = (
+    &'static [u8],
+    &'static [u8],
+    usize,
+    &'static [u8],
+    Option<(PatternErrorKind, usize)>,
+);
+
+const CLOSED: &[u8] = b"a))))))))))))))))))))))))))))))))))))))))))))))))))))))))))))))))";
+
+const LONG: [Long; 26] = [
+    (b"", b"a", 65535, b"", None),
+    (
+        b"",
+        b"a",
+        65536,
+        b"",
+        Some((PatternErrorKind::TooBig, 65535)),
+    ),
+    (b"", b"a|", 65534, b"a", None),
+    (
+        b"",
+        b"a|",
+        65535,
+        b"a",
+        Some((PatternErrorKind::TooBig, 131_070)),
+    ),
+    (b"", b"{D}", 65535, b"", None),
+    (
+        b"",
+        b"{D}",
+        65536,
+        b"",
+        Some((PatternErrorKind::TooBig, 196_605)),
+    ),
+    (b"", b"a?", 32767, b"b", None),
+    (
+        b"",
+        b"a?",
+        32768,
+        b"",
+        Some((PatternErrorKind::TooBig, 65534)),
+    ),
+    (b"\"", b"a", 65535, b"\"", None),
+    (
+        b"b\"",
+        b"a",
+        65536,
+        b"\"",
+        Some((PatternErrorKind::TooBig, 1)),
+    ),
+    (b"b{big}", b"a", 0, b"", Some((PatternErrorKind::TooBig, 1))),
+    (b"", b"(", 64, CLOSED, None),
+    (b"", b"(", 65, CLOSED, Some((PatternErrorKind::TooDeep, 64))),
+    (
+        b"",
+        b"((a){2}|",
+        63,
+        b"{N}",
+        Some((PatternErrorKind::TooDeep, 504)),
+    ),
+    (b"a", b"?", 64, b"", None),
+    (b"a", b"?", 65, b"", Some((PatternErrorKind::TooDeep, 65))),
+    (
+        b"a",
+        b"?",
+        64,
+        b"{2,1}",
+        Some((PatternErrorKind::TooDeep, 65)),
+    ),
+    (
+        b"",
+        b"a",
+        1_048_576,
+        b"",
+        Some((PatternErrorKind::TooBig, 65535)),
+    ),
+    (
+        b"",
+        b"(",
+        1_048_576,
+        b"",
+        Some((PatternErrorKind::TooDeep, 64)),
+    ),
+    (
+        b"",
+        b"[",
+        1_048_576,
+        b"",
+        Some((PatternErrorKind::UnclosedClass, 0)),
+    ),
+    (
+        b"",
+        b"\"",
+        1_048_576,
+        b"",
+        Some((PatternErrorKind::TooBig, 131_070)),
+    ),
+    (
+        b"",
+        b"\\",
+        1_048_576,
+        b"",
+        Some((PatternErrorKind::TooBig, 131_070)),
+    ),
+    (
+        b"",
+        b"{",
+        1_048_576,
+        b"",
+        Some((PatternErrorKind::BadInterval, 0)),
+    ),
+    (
+        b"",
+        b"a*",
+        524_288,
+        b"",
+        Some((PatternErrorKind::TooBig, 65534)),
+    ),
+    (b"[", b"[=[.", 250_000, b"-a]", None),
+    (
+        b"[",
+        b"[=[.",
+        250_000,
+        b"",
+        Some((PatternErrorKind::UnclosedClass, 0)),
+    ),
+];
+
+#[test]
+fn long_patterns(rt: HostRuntime) -> Result<(), Fail> {
+    let alloc = rt.alloc();
+    let defs = worked_definitions(alloc)?;
+    for (start, part, count, end, refused) in LONG {
+        let mut text = Vec::from_slice(alloc, start)?;
+        for _ in 0..count {
+            text.extend_from_slice(part)?;
+        }
+        text.extend_from_slice(end)?;
+        let told = match read_pattern(alloc, &text, &defs, ReadOptions { fold: false }) {
+            Ok(_) => None,
+            Err(error) => Some((error.kind, error.at)),
+        };
+        assert!(rt; told == refused);
+    }
+    Ok(())
 }

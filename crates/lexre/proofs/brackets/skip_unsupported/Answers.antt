@@ -1,5 +1,6 @@
-use Rattle.std.proofs.Common.{◌∙◌, Some, None}
+use Rattle.std.proofs.Common.{◌∙◌, Some, None, refl, sym}
 use Rattle.lexre.proofs.BracketLaws.{negated_then, equivalence_then, collating_then}
+use Rattle.lexre.proofs.EndLaws.{word_stop}
 use Rattle.lexre.proofs.brackets.skip_unsupported.Goals as goal
 
 pub returns-in_err-after : goal.returns-in_err-after
@@ -20,3 +21,9 @@ pub returns-in_ok-skip_word : goal.returns-in_ok-skip_word
 returns-in_ok-skip_word c =
     collating_then c.args.text.now (Some c.in_ok-skip_word.field-0.now) c.in_default.ensures c.in_default-skip_word.ensures c.in_ok-skip_word.ensures
     ∙ c.skip_enclosed-in_default-skip_word.ensures
+
+pub skip_enclosed-requires : goal.skip_enclosed-requires
+skip_enclosed-requires c = c.requires ∙ sym (word_stop 91 61 c.args.text.now c.in-Some-skip_word.rest.now refl refl c.in-Some-skip_word.ensures)
+
+pub skip_enclosed-requires-in_default-skip_word : goal.skip_enclosed-requires-in_default-skip_word
+skip_enclosed-requires-in_default-skip_word c = c.requires ∙ sym (word_stop 91 46 c.args.text.now c.in_ok-skip_word.field-0.now refl refl c.in_ok-skip_word.ensures)

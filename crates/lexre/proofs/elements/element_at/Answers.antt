@@ -1,5 +1,6 @@
 use Rattle.std.proofs.Common.{◌∙◌, sym}
 use Rattle.lexre.proofs.ElementLaws.{lone_byte, no_range}
+use Rattle.lexre.proofs.EndLaws.{range_known}
 use Rattle.lexre.proofs.elements.element_at.Goals as goal
 use Rattle.lexre.proofs.elements.element_at.Goals.{in_default-split_first-via-in-Some-split_first+else-is_range, in_default-split_first-via-in_default-split_first}
 
@@ -10,3 +11,6 @@ returns-in_default-split_first c = elim c.in_default-split_first.branch [
   | in_default-split_first-via-in_default-split_first w ↦
       lone_byte c.args.text.now c.in_ok-low.rest.now c.in_ok-low.low c.in_default.ensures c.in_ok-low.ensures (no_range c.in_ok-low.rest.now w.in_default-split_first.ensures.cases)
 ]
+
+pub range_at-requires : goal.range_at-requires
+range_at-requires c = range_known c.args.text.now c.in_ok-low.rest.now c.in-Some-split_first.after.now c.args.stop.now c.in_ok-low.low _ c.requires c.in_ok-low.ensures c.in-Some-split_first.ensures.cases.0

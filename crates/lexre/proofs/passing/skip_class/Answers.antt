@@ -2,22 +2,24 @@ use Rattle.std.proofs.Common.{◌≡◌, ◌<◌, length, Some, ap, arith}
 use Rattle.std.proofs.lemmas.Result.{err_from_is_err_and}
 use Rattle.lexre.specs.Lexical.{element_at}
 use Rattle.lexre.proofs.PassingLaws.{rest_of, element_shorter, class_first, class_none, class_next, class_end, class_stuck, class_open}
+use Rattle.lexre.proofs.EndLaws.{element_known}
 use Rattle.lexre.proofs.passing.skip_class.Goals as goal
 
 pub returns-in_err-rest-clause-rest : goal.returns-in_err-rest-clause-rest
 returns-in_err-rest-clause-rest c =
     let p = err_from_is_err_and c.from_residual.result c.from_residual.ensures.1 in
-    rw p.1 (class_none c.args.text.now _ c.skip_negation.ensures.rest (ap rest_of c.in_err-rest.ensures))
+    rw p.1 (class_none c.args.text.now _ c.skip_negation-inside.ensures.rest (ap rest_of c.in_err-rest.ensures))
 
 pub loop-first-init : goal.loop-first-init
 loop-first-init c =
-    let inside = c.skip_negation.result.now in
+    let inside = c.skip_negation-inside.result.now in
     let rest = c.in_ok-rest.rest.now in
     let found : rest_of (element_at inside) ≡ Some rest = ap rest_of c.in_ok-rest.ensures in
     let shorter : length rest < length inside = element_shorter inside rest found in
     record {
-      so = class_first c.args.text.now inside rest c.skip_negation.ensures.rest c.skip_negation.ensures.shorter found shorter;
-      shorter = omega (arith, c.skip_negation.ensures.shorter);
+      so = class_first c.args.text.now inside rest c.skip_negation-inside.ensures.rest c.skip_negation-inside.ensures.shorter found shorter;
+      shorter = omega (arith, c.skip_negation-inside.ensures.shorter);
+      known = element_known inside rest _ _ c.find_stop-stop.ensures c.in_ok-rest.ensures;
     }
 
 pub returns-then-first-eq93-clause-rest : goal.returns-then-first-eq93-clause-rest
@@ -40,6 +42,7 @@ loop-first-preserved c =
     record {
       so = class_next _ rest next _ _ c.loop-first.invariant.so c.in-Some.ensures.cases.0 c.if-first-eq93.false found shorter;
       shorter = omega arith;
+      known = element_known rest next _ _ c.next_stop-stop.ensures c.in_ok-next.ensures;
     }
 
 pub returns-clause-rest : goal.returns-clause-rest

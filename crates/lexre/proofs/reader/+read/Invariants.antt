@@ -3,6 +3,7 @@ use Rattle.std.specs.FinMap.{get}
 use Rattle.lexre.specs.Counting.{state_nodes}
 use Rattle.lexre.specs.Lexical.{symbol_at}
 use Rattle.lexre.specs.Running.{state, fresh}
+use Rattle.lexre.specs.Soundness.{IsSoundState}
 use Rattle.lexre.specs.StackViews.{state_of}
 use Rattle.lexre.proofs.OneTree.{limit}
 use Rattle.lexre.proofs.ReaderLaws.{Agree, nothing_at}
@@ -24,6 +25,7 @@ invariant-read_within-loop-rest l = record {
   within : limit (state_of l.stack) ≡ l.left;
   counted : state_nodes (state_of l.stack) ≡ l.nodes;
   few : l.nodes ≤ l.room;
+  sound : IsSoundState (state_of l.stack);
 }
 
 abbrev pub decreases-read_within-loop-rest : goal.decreases-read_within-loop-rest

@@ -1,0 +1,78 @@
+-- What the code of a step holds, against what a step is.
+use Rattle.std.specs.Prelude.{◌≡◌, ℕ, zero, suc, ◌<◌, Bool, true, false, List, [], ◌∷◌, ◌++◌, ◌+◌, length, map, slice_get, Option, Some, None, IfSome, Vec}
+use Rattle.std.proofs.Common.{refl, ap, sym, ◌∙◌, arith, Global, get_or, replicate, inl, inr}
+use Rattle.std.proofs.lemmas.Bool.{cases_lt}
+use Rattle.std.proofs.lemmas.List.{get_or_push, get_or_append_left}
+use Rattle.std.proofs.Math.Path.{fun_ext}
+use Rattle.std.specs.List.{filter}
+use Rattle.lexmeaning.specs.Tree.{Tree}
+use Rattle.lexmeaning.specs.Shapes.{IsSoundTree}
+use Rattle.lexmeaning.specs.Spec.{Spec, Rule}
+use Rattle.lexmeaning.specs.Sound.{IsSoundRule}
+use Rattle.lexspec.specs.Tests.{is_sound}
+use Rattle.lexspec.proofs.TestLaws.{spec_is_sound}
+use Rattle.lexauto.specs.Keys.{Key}
+use Rattle.lexauto.specs.Flow.{flag}
+use Rattle.lexauto.specs.RuleFlow.{TrailIsSound, RulesAreSound, rules_enter, rules_read}
+use Rattle.lexauto.specs.Sets.{listed, marked, tagged, starts_in, lasts_in}
+use Rattle.lexauto.specs.Moving.{mask_at, followers_in, reading_in}
+
+rules_sound : (rules : List Rule) (n : ℕ) → ((i : ℕ) (r : Rule) → slice_get rules i ≡ Some r → IsSoundRule n r) → RulesAreSound rules
+rules_sound [] n h = tt
+rules_sound (r ∷ rules) n h = (((h 0 r refl).head, trail_of r.trail (h 0 r refl).trail), rules_sound rules n (λ i q e. h (suc i) q e))
+  where
+    trail_of : (t : Option Tree) → IfSome t IsSoundTree → TrailIsSound t
+    trail_of None g = tt
+    trail_of (Some t) g = g
+
+pub tested_rules : (S : Spec) → is_sound S ≡ true → RulesAreSound S.rules
+tested_rules S h = let s = spec_is_sound S h in rules_sound S.rules (length S.conditions) s.rules
+
+pub mask_from : (vs : List (Vec Bool Global)) (i : ℕ) (v : Vec Bool Global) → i < length vs → v ≡ get_or vs i v → mask_at (map (λ v. v.items) vs) i ≡ v.items
+mask_from [] i v h e = absurd (omega arith)
+mask_from (x ∷ vs) zero v h e = ap (λ (u : Vec Bool Global). u.items) (sym e)
+mask_from (x ∷ vs) (suc i) v h e = mask_from vs i v (omega arith) e
+
+pub length_map : {A B : Type 0} (f : A → B) (xs : List A) → length (map f xs) ≡ length xs
+length_map f [] = refl
+length_map f (x ∷ xs) = ap suc (length_map f xs)
+
+pub reading_is : (rules : List Rule) (followers : List ℕ) (b : ℕ) (mask : List Bool) → ((q : ℕ) → flag mask q ≡ rules_read rules b q 0) → tagged 1 (filter (flag mask) followers) ≡ reading_in rules followers b
+unfolding reading_in
+reading_is rules followers b mask h = ap (λ (f : ℕ → Bool). tagged 1 (filter f followers)) (fun_ext h)
+
+module _ (rules : List Rule) (count n : ℕ) (k : Key) (on last : List Bool) where
+  pub followers_is : length rules ≡ n → ((i : ℕ) → flag on i ≡ marked n (starts_in k) i) → ((p : ℕ) → flag last p ≡ marked count (lasts_in k) p)
+      → listed (λ q. rules_enter rules (flag on) (flag last) q 0 0) 0 count ≡ followers_in rules count k
+  unfolding followers_in
+  followers_is same o l =
+      let on_is : flag on ≡ marked (length rules) (starts_in k) = fun_ext (λ i. o i ∙ ap (λ (m : ℕ). marked m (starts_in k) i) (sym same)) in
+      let last_is : flag last ≡ marked count (lasts_in k) = fun_ext l in
+      let by_on : (ℕ → Bool) → ℕ → Bool = λ f q. rules_enter rules f (flag last) q 0 0 in
+      let by_last : (ℕ → Bool) → ℕ → Bool = λ f q. rules_enter rules (marked (length rules) (starts_in k)) f q 0 0 in
+      ap (λ (f : ℕ → Bool). listed f 0 count) (ap by_on on_is ∙ ap by_last last_is)
+
+pub listed_same : (f g : ℕ → Bool) (m n : ℕ) → ((q : ℕ) → f q ≡ g q) → m ≡ n → listed f 0 m ≡ listed g 0 n
+listed_same f g m n h e = ap (λ (k : ℕ → Bool). listed k 0 m) (fun_ext h) ∙ ap (listed g 0) e
+
+pub flag_none : (n q : ℕ) → flag (replicate n false) q ≡ false
+flag_none zero q = refl
+flag_none (suc n) zero = refl
+flag_none (suc n) (suc q) = flag_none n q
+
+pub item_at : {A B : Type 0} (f : A → B) (xs : List A) (i : ℕ) (x : A) → i < length xs → x ≡ get_or xs i x → slice_get (map f xs) i ≡ Some (f x)
+item_at f [] i x h e = absurd (omega arith)
+item_at f (y ∷ xs) zero x h e = ap (λ z. Some (f z)) (sym e)
+item_at f (y ∷ xs) (suc i) x h e = item_at f xs i x (omega arith) e
+
+-- one more fact of a list of keys
+pub told_more : {A : Type 0} (none : A) (f : Key → A) (keys : List Key) (told : List A) (n : ℕ) (k : Key) (x : A) → length told ≡ n → slice_get keys n ≡ Some k → x ≡ f k
+    → ((i : ℕ) (q : Key) → i < n → slice_get keys i ≡ Some q → get_or told i none ≡ f q)
+    → (i : ℕ) (q : Key) → i < n + 1 → slice_get keys i ≡ Some q → get_or (told ++ x ∷ []) i none ≡ f q
+told_more none f keys told n k x len here is before i q lt at =
+    elim (cases_lt i n) [
+      | inl h ↦ (let low : i < length told = omega arith in rw (get_or_append_left told (x ∷ []) none i low) (before i q h at))
+      | inr h ↦ (let same : i ≡ n = omega arith in
+          let key : k ≡ q = (let e : Some k ≡ Some q = sym here ∙ ap (slice_get keys) (sym same) ∙ at in cc) in
+          rw (same, get_or_push told x none n len) (is ∙ ap f key))
+    ]

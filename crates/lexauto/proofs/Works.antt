@@ -1,0 +1,135 @@
+-- The steps of a work list.
+use Rattle.std.proofs.Common.{◌≡◌, ℕ, zero, suc, ◌+◌, ◌*◌, ◌/◌, ◌%◌, ◌<◌, ◌≤◌, ◌⊎◌, List, [], ◌∷◌, ◌++◌, length, Option, refl, ap, sym, subst, ◌∙◌, inl, inr, arith, get_or, length-append, map, Vec, Global}
+use Rattle.std.proofs.lemmas.Bool.{cases_lt}
+use Rattle.std.specs.Prelude.{slice_index}
+use Rattle.std.proofs.lemmas.Option.{slice_get_within, slice_get-get_or, get_or_from_slice_get}
+use Rattle.std.proofs.lemmas.List.{get_or_push, get_or_append_left}
+use Rattle.lexauto.specs.Keys.{Key, At, Absent, Apart, Finds, Found}
+use Rattle.lexmeaning.specs.Text.{IsText}
+use Rattle.lexauto.specs.Explored.{run, Reached, IsAutomaton, MoreThan, key_at, Exploring, Held}
+use Rattle.lexauto.proofs.Places.{at_longer, at_shorter}
+
+module _ (step : Key → ℕ → Key) where
+  run-snoc : (k : Key) (w : List ℕ) (b : ℕ) → run step k (w ++ b ∷ []) ≡ step (run step k w) b
+  run-snoc k [] b = refl
+  run-snoc k (c ∷ w) b = run-snoc (step k c) w b
+
+  bytes-snoc : (w : List ℕ) (b : ℕ) → IsText w → b < 256 → IsText (w ++ b ∷ [])
+  bytes-snoc [] b h g = (g, tt)
+  bytes-snoc (c ∷ w) b h g = (h.0, bytes-snoc w b h.1 g)
+
+  -- one step from what is reached
+  reached_more : (roots : List Key) (k : Key) (b : ℕ) → Reached step roots k → b < 256 → Reached step roots (step k b)
+  reached_more roots k b (i, root, at, (w, text, e)) h = (i, root, at, (w ++ b ∷ [], bytes-snoc w b text h, run-snoc root w b ∙ ap (λ q. step q b) e))
+
+  module _ (root : List Key) where
+    key_is : (keys : List Key) (i : ℕ) (k : Key) → At keys i k → key_at keys i ≡ k
+    key_is keys i k h = get_or_from_slice_get keys i k [] h
+
+    is_key : (keys : List Key) (i : ℕ) → i < length keys → At keys i (key_at keys i)
+    is_key keys i h = slice_get-get_or keys i [] h
+
+    pub nothing_yet : (find : Key → Option ℕ) (limit : ℕ) → Finds find root → length root ≤ limit → Exploring step root find root [] limit
+    nothing_yet find limit f r = record {
+      finds = f;
+      starts = λ i k a. a;
+      only = λ i k a. (i, k, a, ([], tt, refl));
+      moves = λ j g. absurd (omega arith);
+      behind = omega arith;
+      room = r;
+    }
+
+    grown : (keys new : List Key) (k : Key) → Found keys k new → (i : ℕ) (q : Key) → At keys i q → At new i q
+    grown keys new k (inl h) i q a = rw h.2 a
+    grown keys new k (inr h) i q a = rw h.1 (at_longer keys k i q a)
+
+    grown_only : (keys new : List Key) (k : Key) → Found keys k new → (i : ℕ) (q : Key) → At new i q → At keys i q ⊎ (q ≡ k)
+    grown_only keys new k (inl h) i q a = inl (rw h.2 at a)
+    grown_only keys new k (inr h) i q a = elim (at_shorter keys k i q (rw h.1 at a)) [ inl o ↦ inl o | inr o ↦ inr o.1 ]
+
+    grown_length : (keys new : List Key) (k : Key) → Found keys k new → length keys ≤ length new
+    grown_length keys new k (inl h) = rw h.2 (omega arith)
+    grown_length keys new k (inr h) = rw h.1 (omega (arith, length-append keys (k ∷ [])))
+
+    module _ (find : Key → Option ℕ) (keys : List Key) (next : List ℕ) (limit : ℕ) (e : Exploring step root find keys next limit) where
+      pub advance : (find' : Key → Option ℕ) (new : List Key) (target n : ℕ) → n ≡ length next → n / 256 < length keys
+          → Finds find' new → Found keys (step (key_at keys (n / 256)) (n % 256)) new → At new target (step (key_at keys (n / 256)) (n % 256)) → length new ≤ limit
+          → Exploring step root find' new (next ++ target ∷ []) limit
+      advance find' new target n count low f found here room =
+          let k = step (key_at keys (n / 256)) (n % 256) in
+          let longer : length keys ≤ length new = grown_length keys new k found in
+          let more : length (next ++ target ∷ []) ≡ length next + 1 = length-append next (target ∷ []) in
+          let same : (i : ℕ) → i < length keys → key_at new i ≡ key_at keys i = λ i h. key_is new i (key_at keys i) (grown keys new k found i (key_at keys i) (is_key keys i h)) in
+          record {
+            finds = f;
+            starts = λ i q a. grown keys new k found i q (e.starts i q a);
+            only = λ i q a. elim (grown_only keys new k found i q a) [
+              | inl o ↦ e.only i q o
+              | inr o ↦ rw o (reached_more root (key_at keys (n / 256)) (n % 256) (e.only (n / 256) (key_at keys (n / 256)) (is_key keys (n / 256) low)) (omega arith))
+            ];
+            moves = λ j h. elim (cases_lt j (length next)) [
+              | inl g ↦ (let lower : j / 256 < length keys = omega arith in
+                  rw (get_or_append_left next (target ∷ []) 0 j g, same (j / 256) lower) (grown keys new k found (slice_index next j) (step (key_at keys (j / 256)) (j % 256)) (e.moves j g)))
+              | inr g ↦ (let at : j ≡ n = omega arith in
+                  rw (at, get_or_push next target 0 n (sym count), same (n / 256) low) here)
+            ];
+            behind = let b = e.behind in omega (arith, more, longer);
+            room = room;
+          }
+
+      -- what follows the key stays held until its last move
+      pub held_on : (follow : Key → Key) (new : List Key) (target n : ℕ) (held k : Key) → n ≡ length next → n / 256 < length keys → Found keys k new
+          → held ≡ follow (key_at keys (n / 256)) → Held follow new (next ++ target ∷ []) held
+      held_on follow new target n held k count low found is = λ some.
+          let more : length (next ++ target ∷ []) ≡ length next + 1 = length-append next (target ∷ []) in
+          let place : length (next ++ target ∷ []) / 256 ≡ n / 256 = omega arith in
+          let same : key_at new (n / 256) ≡ key_at keys (n / 256) = key_is new (n / 256) (key_at keys (n / 256)) (grown keys new k found (n / 256) (key_at keys (n / 256)) (is_key keys (n / 256) low)) in
+          rw (place, same) is
+
+      pub apart : Apart keys
+      apart i j k a b = let f = e.finds.all k i a in let g = e.finds.all k j b in cc
+
+      pub all_moves : length keys ≤ length next / 256 → (i b : ℕ) (k : Key) → b < 256 → At keys i k → At keys (slice_index next (i * 256 + b)) (step k b)
+      all_moves done i b k h a =
+          let low : i < length keys = slice_get_within keys i k a in
+          let j : i * 256 + b < length next = omega arith in
+          let q : (i * 256 + b) / 256 ≡ i = omega arith in
+          let r : (i * 256 + b) % 256 ≡ b = omega arith in
+          rw (q, r, key_is keys i k a) at (e.moves (i * 256 + b) j)
+
+      closed : length keys ≤ length next / 256 → (i : ℕ) (k : Key) (w : List ℕ) → At keys i k → IsText w → (j : ℕ) × At keys j (run step k w)
+      closed done i k [] a h = (i, a)
+      closed done i k (b ∷ w) a h = closed done (slice_index next (i * 256 + b)) (step k b) w (all_moves done i b k h.0 a) h.1
+
+      pub finished : length keys ≤ length next / 256 → IsAutomaton step root keys next
+      finished done = record {
+        starts = e.starts;
+        apart = apart;
+        only = e.only;
+        all = λ k (i, r, at, (w, text, same)). (let c = closed done i r w (e.starts i r at) text in (c.0, subst (λ (q : Key). At keys c.0 q) same c.1));
+        moves = all_moves done;
+        len = let b = e.behind in omega arith;
+      }
+
+      pub too_many : (n : ℕ) → n ≡ length next → n / 256 < length keys → Absent keys (step (key_at keys (n / 256)) (n % 256)) → limit ≤ length keys → MoreThan limit (Reached step root)
+      too_many n count low none full =
+          let k = step (key_at keys (n / 256)) (n % 256) in (
+            keys ++ k ∷ [],
+            omega (arith, length-append keys (k ∷ [])),
+            (λ i j q a b. both i j q (at_shorter keys k i q a) (at_shorter keys k j q b)),
+            (λ i q a. elim (at_shorter keys k i q a) [
+              | inl o ↦ e.only i q o
+              | inr o ↦ rw o.1 (reached_more root (key_at keys (n / 256)) (n % 256) (e.only (n / 256) (key_at keys (n / 256)) (is_key keys (n / 256) low)) (omega arith))
+            ]),
+          )
+        where
+          both : (i j : ℕ) (q : Key) → At keys i q ⊎ ((i ≡ length keys) × (q ≡ step (key_at keys (n / 256)) (n % 256))) → At keys j q ⊎ ((j ≡ length keys) × (q ≡ step (key_at keys (n / 256)) (n % 256))) → i ≡ j
+          both i j q (inl a) (inl b) = apart i j q a b
+          both i j q (inl a) (inr b) = absurd (none i (subst (λ (l : Key). At keys i l) b.1 a))
+          both i j q (inr a) (inl b) = absurd (none j (subst (λ (l : Key). At keys j l) a.1 b))
+          both i j q (inr a) (inr b) = a.0 ∙ sym b.0
+
+pub key_from : (vs : List (Vec ℕ Global)) (i : ℕ) (v : Vec ℕ Global) → i < length vs → v ≡ get_or vs i v → key_at (map (λ v. v.items) vs) i ≡ v.items
+key_from [] i v h e = absurd (omega arith)
+key_from (x ∷ vs) zero v h e = ap (λ (u : Vec ℕ Global). u.items) (sym e)
+key_from (x ∷ vs) (suc i) v h e = key_from vs i v (omega arith) e

@@ -1,0 +1,32 @@
+use Rattle.std.proofs.Common.{rules, ◌≡◌, ◌+◌, ◌-◌, ◌<◌, ◌||◌, Bool, sym, ◌∙◌, ap}
+use Rattle.lexmeaning.specs.Positions.{positions}
+use Rattle.lexre.specs.Views.{tree_of}
+use Rattle.lexauto.specs.Flow.{flag}
+use Rattle.lexauto.specs.RuleFlow.{copies_read, reads}
+use Rattle.lexauto.proofs.Copies.{copy_place, or_false, or_assoc}
+use Rattle.lexauto.proofs.LetterTests.{copies_nothing, read_step}
+use Rattle.lexauto.proofs.letters.+mark.Goals as goal
+
+pub mark_copies-returns-in-Some-eq0-clause-mask : goal.mark_copies-returns-in-Some-eq0-clause-mask
+mark_copies-returns-in-Some-eq0-clause-mask t c = λ q.
+    let none : positions (tree_of c.args.inner.now) ≡ 0 = sym c.in-Some-eq0.ensures.found ∙ c.in-Some-eq0.field-0-test in
+    sym (ap (λ (j : Bool). flag c.args.mask.now q || j) (copies_nothing c.args.byte q (tree_of c.args.inner.now) none c.args.base c.args.count) ∙ or_false (flag c.args.mask.now q))
+
+pub mark_copies-loop-k-preserved : goal.mark_copies-loop-k-preserved
+mark_copies-loop-k-preserved t c =
+    let tree = tree_of c.args.inner.now in
+    let count = c.args.count in
+    let k = c.loop-k.k in
+    let lt : k < count = c.loop-k-test.true in
+    record {
+      place = rw c.mark-after.ensures.after (sym (copy_place c.loop-k.after count k (positions tree) lt) ∙ c.loop-k.invariant.place);
+      room = search rules;
+      told = λ q.
+          let one = reads tree c.args.byte q in
+          let rest = copies_read one (c.loop-k.after + positions tree) (positions tree) (count - (k + 1)) in
+          rw c.mark-after.ensures.after
+          (ap (λ (j : Bool). j || rest) (c.mark-after.ensures.mask q)
+          ∙ or_assoc (flag c.loop-k.mask q) (one c.loop-k.after) rest
+          ∙ ap (λ (j : Bool). flag c.loop-k.mask q || j) (sym (read_step one c.loop-k.after (positions tree) count k lt))
+          ∙ c.loop-k.invariant.told q);
+    }

@@ -1,0 +1,29 @@
+-- How keys lead to one another by the positions of rules. (This project's.)
+use Rattle.std.specs.Prelude.{◌≡◌, ℕ, ◌<◌, Bool, List, [], length, map, slice_index_or, Vec}
+use Rattle.std.proofs.Common.{Global}
+use Rattle.std.specs.List.{filter}
+use Rattle.lexmeaning.specs.Spec.{Rule}
+use Rattle.lexauto.specs.Keys.{Key}
+use Rattle.lexauto.specs.Flow.{flag}
+use Rattle.lexauto.specs.RuleFlow.{rules_enter, rules_read}
+use Rattle.lexauto.specs.Sets.{listed, marked, tagged, starts_in, lasts_in}
+
+-- the positions that come next after a key, of `count` positions
+unfoldable pub followers_in : List Rule → ℕ → Key → Key
+followers_in rules count k =
+    listed (λ q. rules_enter rules (marked (length rules) (starts_in k)) (marked count (lasts_in k)) q 0 0) 0 count
+
+-- those of them that read the byte, as a key
+unfoldable pub reading_in : List Rule → Key → ℕ → Key
+reading_in rules followers b = tagged 1 (filter (λ q. rules_read rules b q 0) followers)
+
+abbrev pub masks_in : List (Vec Bool Global) → List (List Bool)
+masks_in vs = map (λ v. v.items) vs
+
+abbrev pub mask_at : List (List Bool) → ℕ → List Bool
+mask_at masks b = slice_index_or masks b []
+
+-- for each byte, a mask says which positions read it
+pub record AreMasks (rules : List Rule) (masks : List (List Bool)) : Type 0 where
+  pub all : length masks ≡ 256
+  pub each : (b q : ℕ) → b < 256 → flag (mask_at masks b) q ≡ rules_read rules b q 0

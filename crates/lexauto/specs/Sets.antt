@@ -1,0 +1,31 @@
+-- Sets of rules and positions as lists, and the keys of states. A key's first number says what kind of state it is for.
+-- (This project's.)
+use Rattle.std.specs.Prelude.{ℕ, zero, suc, ◌&&◌, Bool, cond, List, [], ◌∷◌, nat_lt}
+use Rattle.lexmeaning.specs.Active.{lists}
+use Rattle.lexauto.specs.Keys.{Key}
+
+-- the numbers from i on, n of them, that pass the test
+abbrev pub listed : (ℕ → Bool) → ℕ → ℕ → List ℕ
+listed test i zero = []
+listed test i (suc n) = cond (test i) (i ∷ listed test (suc i) n) (listed test (suc i) n)
+
+-- the number is in the list, and below n
+abbrev pub marked : ℕ → List ℕ → ℕ → Bool
+marked n xs i = nat_lt i n && lists xs i
+
+-- a set with its kind; the empty set has none
+abbrev pub tagged : ℕ → List ℕ → Key
+tagged kind [] = []
+tagged kind (x ∷ xs) = kind ∷ x ∷ xs
+
+-- the active rules of a start state
+abbrev pub starts_in : Key → List ℕ
+starts_in [] = []
+starts_in (zero ∷ xs) = xs
+starts_in (suc kind ∷ xs) = []
+
+-- the last positions of another state
+abbrev pub lasts_in : Key → List ℕ
+lasts_in [] = []
+lasts_in (zero ∷ xs) = []
+lasts_in (suc kind ∷ xs) = xs

@@ -1,0 +1,119 @@
+//! A work list over keys: all that are reached from some roots, each once, with their moves.
+ghost use Rattle.std.specs.Prelude.{◌≡◌, ℕ, ◌≤◌, List, length, IfOk, OnOk, IsErrOf};
+ghost use Rattle.lexauto.specs.declared.explore.ExploreError.TheVariants.{Memory};
+ghost use Rattle.lexauto.specs.Explored.{IsAutomaton, MoreThan, Reached, step_by};
+ghost use Rattle.lexauto.specs.Keys.{At, Absent, Found, Finds, look, keys_in};
+
+use std::alloc::{AllocError, AllocFailed, Global};
+use std::collections::BTreeMap;
+
+#[derive(Debug, Drop)]
+pub(crate) enum ExploreError {
+    TooMany,
+    Memory,
+}
+
+impl From<AllocError> for ExploreError {
+    ghost from_gives = { λ _ e. e ≡ Memory };
+
+    fn from(_e: AllocError) -> Self {
+        ExploreError::Memory
+    }
+}
+
+impl<T: Drop> From<AllocFailed<T>> for ExploreError {
+    ghost from_gives = { λ _ e. e ≡ Memory };
+
+    fn from(_e: AllocFailed<T>) -> Self {
+        ExploreError::Memory
+    }
+}
+
+/// Keys, each once, in order of their first finding.
+#[derive(Drop)]
+pub(crate) struct Interner {
+    pub keys: Vec<Vec<u32>>,
+    pub places: BTreeMap<Vec<u32>, u32>,
+}
+
+/// The place of a key, which is added if it is new and there is room.
+pub(crate) fn intern(
+    alloc: Global,
+    table: &mut Interner,
+    key: Vec<u32>,
+    limit: u32,
+) -> Result<u32, ExploreError>
+    requires { Finds (look table.old.places) (keys_in table.old.keys.items) }
+    ensures finds { OnOk result (Finds (look table.new.places) (keys_in table.new.keys.items)) }
+    ensures place { IfOk result (λ i. At (keys_in table.new.keys.items) i key.items) }
+    ensures found { OnOk result (Found (keys_in table.old.keys.items) key.items (keys_in table.new.keys.items)) }
+    ensures room { OnOk result (length table.old.keys.items ≤ limit → length table.new.keys.items ≤ limit) }
+    ensures full { IsErrOf result ExploreError.TooMany → Absent (keys_in table.old.keys.items) key.items × (limit ≤ length table.old.keys.items) }
+{
+    if let Some(place) = table.places.get(&key) {
+        return Ok(*place);
+    }
+    let place = table.keys.len();
+    if place >= limit as usize {
+        return Err(ExploreError::TooMany);
+    }
+    let copy = Vec::from_slice(alloc, &key)?;
+    table.places.insert(copy, place as u32)?;
+    table.keys.push(key)?;
+    Ok(place as u32)
+}
+
+/// How keys lead to one another.
+pub(crate) trait Moves {
+    ghost follow: { Self → List ℕ → List ℕ };
+
+    ghost read: { Self → List ℕ → ℕ → List ℕ };
+
+    /// What follows a key, by whatever byte.
+    fn followers(&self, alloc: Global, key: &[u32]) -> Result<Vec<u32>, AllocError>
+        ensures { IfOk result (λ k. k.items ≡ follow self.now key.now) };
+
+    /// The key that one byte makes of what follows.
+    fn reading(&self, alloc: Global, followers: &[u32], byte: u8) -> Result<Vec<u32>, AllocError>
+        ensures { IfOk result (λ k. k.items ≡ read self.now followers.now byte) };
+}
+
+/// The keys that are reached, and 256 moves for each.
+#[derive(Drop)]
+pub(crate) struct Explored {
+    pub keys: Vec<Vec<u32>>,
+    pub next: Vec<u32>,
+}
+
+/// All that is reached from the roots, which stand in the table. It is refused only where there are more keys than the
+/// limit.
+pub(crate) fn explore<M: Moves>(
+    alloc: Global,
+    moves: &M,
+    roots: Interner,
+    limit: u32,
+) -> Result<Explored, ExploreError>
+    requires finds { Finds (look roots.places) (keys_in roots.keys.items) }
+    requires room { length roots.keys.items ≤ limit }
+    ensures ok { IfOk result (λ t. IsAutomaton (step_by (M.follow moves.now) (M.read moves.now)) (keys_in roots.keys.items) (keys_in t.keys.items) t.next.items) }
+    ensures room { IfOk result (λ t. length t.keys.items ≤ limit) }
+    ensures too_many { IsErrOf result ExploreError.TooMany → MoreThan limit (Reached (step_by (M.follow moves.now) (M.read moves.now)) (keys_in roots.keys.items)) }
+{
+    let mut table = roots;
+    let mut next: Vec<u32> = Vec::new(alloc);
+    let mut followers: Vec<u32> = Vec::new(alloc);
+    'work: while next.len() / 256 < table.keys.len() {
+        let at = next.len() / 256;
+        let byte = (next.len() % 256) as u8;
+        if byte == 0 {
+            followers = moves.followers(alloc, &table.keys[at])?;
+        }
+        let key = moves.reading(alloc, &followers, byte)?;
+        let target = intern(alloc, &mut table, key, limit)?;
+        next.push(target)?;
+    }
+    Ok(Explored {
+        keys: table.keys,
+        next,
+    })
+}

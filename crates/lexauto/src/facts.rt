@@ -1,0 +1,74 @@
+//! What the keys of states tell: the rules that they accept, and whether they go on.
+ghost use Rattle.std.specs.Prelude.{◌≡◌, ◌<◌, ◌≤◌, ◌^◌, length, map, IfOk, slice_get};
+ghost use Rattle.lexmeaning.specs.Spec.{rejects};
+ghost use Rattle.lexmeaning.specs.Subsets.{all_positions};
+ghost use Rattle.lexspec.specs.RuleViews.{rule_of};
+ghost use Rattle.lexspec.specs.Views.{spec_of, rules_in};
+ghost use Rattle.lexauto.specs.Keys.{keys_in};
+ghost use Rattle.lexauto.specs.RuleFlow.{rules_left};
+ghost use Rattle.lexauto.specs.Sets.{marked, lasts_in};
+ghost use Rattle.lexauto.specs.Machines.{chosen};
+ghost use Rattle.lexauto.specs.Facts.{accepted_by, goes_on_by, AcceptedBy, GoOnBy};
+
+use crate::explore::Moves;
+use crate::rules::left_rules;
+use crate::sets::{lasts_in, marks_of};
+use crate::stepping::RuleMoves;
+use lexspec::Spec;
+use std::alloc::{AllocError, Global};
+
+/// The rules that a state accepts: those that are left at their ends, or the first of them if no rule has REJECT.
+fn accepted_by(
+    alloc: Global,
+    spec: &Spec,
+    count: usize,
+    key: &[u32],
+) -> Result<Vec<u32>, AllocError>
+    requires count { count ≡ all_positions (rules_in (spec_of spec.now)) }
+    requires few { count < 2 ^ 32 }
+    ensures { IfOk result (λ v. v.items ≡ accepted_by (spec_of spec.now) key.now) }
+{
+    let last = marks_of(alloc, count, lasts_in(key))?;
+    let mut left = left_rules(alloc, spec.rules(), &last)?;
+    if !spec.rejects() {
+        left.truncate(1);
+    }
+    Ok(left)
+}
+
+/// The rules that each state accepts.
+pub(crate) fn all_accepted(
+    alloc: Global,
+    spec: &Spec,
+    count: usize,
+    keys: &[Vec<u32>],
+) -> Result<Vec<Vec<u32>>, AllocError>
+    requires count { count ≡ all_positions (rules_in (spec_of spec.now)) }
+    requires few { count < 2 ^ 32 }
+    ensures len { IfOk result (λ v. length v.items ≡ length keys.now) }
+    ensures accepted { IfOk result (λ v. AcceptedBy (spec_of spec.now) (keys_in keys.now) (keys_in v.items)) }
+{
+    let mut all = Vec::new(alloc);
+    for key in keys {
+        let accepted = accepted_by(alloc, spec, count, key)?;
+        all.push(accepted)?;
+    }
+    Ok(all)
+}
+
+/// Whether each state goes on.
+pub(crate) fn all_going_on(
+    alloc: Global,
+    moves: &RuleMoves,
+    keys: &[Vec<u32>],
+) -> Result<Vec<bool>, AllocError>
+    ensures len { IfOk result (λ v. length v.items ≡ length keys.now) }
+    ensures goes_on { IfOk result (λ v. GoOnBy (spec_of moves.now.spec.now) (keys_in keys.now) v.items) }
+{
+    let mut all = Vec::new(alloc);
+    for key in keys {
+        let followers = moves.followers(alloc, key)?;
+        all.push(!followers.is_empty())?;
+    }
+    Ok(all)
+}

@@ -1,0 +1,108 @@
+//! Sets of numbers, as lists and as flags.
+ghost use Rattle.std.specs.Prelude.{◌≡◌, ◌<◌, ◌≤◌, ◌^◌, ◌∷◌, ℕ, length, IfOk};
+ghost use Rattle.std.specs.List.{filter};
+ghost use Rattle.lexauto.specs.Flow.{flag};
+ghost use Rattle.lexauto.specs.Sets.{listed, marked, tagged, starts_in, lasts_in};
+
+use std::alloc::{AllocError, Global};
+
+/// The kind of a start state's key: the numbers of its active rules follow.
+pub(crate) const START: u32 = 0;
+
+/// The kind of another state's key: its last positions follow. The dead state's key is empty.
+const LAST: u32 = 1;
+
+/// Whether a number is marked.
+fn is_marked(marks: &[bool], number: usize) -> bool
+    ensures { result ≡ flag marks.now number }
+{
+    marks.get(number).copied().unwrap_or(false)
+}
+
+/// Flags for the numbers below `count`: those of the list are marked.
+pub(crate) fn marks_of(
+    alloc: Global,
+    count: usize,
+    numbers: &[u32],
+) -> Result<Vec<bool>, AllocError>
+    ensures length { IfOk result (λ v. length v.items ≡ count) }
+    ensures marks { IfOk result (λ v. (i : ℕ) → flag v.items i ≡ marked count numbers.now i) }
+{
+    let mut marks = vec![in alloc; false; count]?;
+    for number in numbers {
+        let i = *number as usize;
+        if i < count {
+            marks[i] = true;
+        }
+    }
+    Ok(marks)
+}
+
+/// The marked numbers, ascending.
+pub(crate) fn numbers_of(alloc: Global, marks: &[bool]) -> Result<Vec<u32>, AllocError>
+    requires { length marks.now < 2 ^ 32 }
+    ensures { IfOk result (λ v. v.items ≡ listed (flag marks.now) 0 (length marks.now)) }
+{
+    let mut numbers = Vec::new(alloc);
+    for (i, is_in) in marks.iter().enumerate() {
+        if *is_in {
+            numbers.push(i as u32)?;
+        }
+    }
+    Ok(numbers)
+}
+
+/// The numbers of the list that are marked.
+fn kept(alloc: Global, numbers: &[u32], marks: &[bool]) -> Result<Vec<u32>, AllocError>
+    ensures { IfOk result (λ v. v.items ≡ filter (flag marks.now) numbers.now) }
+{
+    numbers
+        .iter()
+        .copied()
+        .filter(|number| is_marked(marks, *number as usize))
+        .collect(alloc)
+}
+
+/// A set as a key of this kind. The empty set is the dead state's.
+pub(crate) fn key_of(alloc: Global, kind: u32, numbers: &[u32]) -> Result<Vec<u32>, AllocError>
+    ensures { IfOk result (λ v. v.items ≡ tagged kind numbers.now) }
+{
+    let mut key = Vec::new(alloc);
+    if !numbers.is_empty() {
+        key.push(kind)?;
+        key.extend_from_slice(numbers)?;
+    }
+    Ok(key)
+}
+
+/// The key of those last positions of the list that are marked.
+pub(crate) fn last_key(
+    alloc: Global,
+    numbers: &[u32],
+    marks: &[bool],
+) -> Result<Vec<u32>, AllocError>
+    ensures { IfOk result (λ v. v.items ≡ tagged 1 (filter (flag marks.now) numbers.now)) }
+{
+    let numbers = kept(alloc, numbers, marks)?;
+    key_of(alloc, LAST, &numbers)
+}
+
+/// The active rules in a start state's key; none in another.
+pub(crate) fn starts_in(key: &[u32]) -> &[u32]
+    ensures { result.now ≡ starts_in key.now }
+{
+    match key.split_first() {
+        Some((kind, numbers)) if *kind == START => numbers,
+        _ => &[],
+    }
+}
+
+/// The last positions in a key; none in that of a start state.
+pub(crate) fn lasts_in(key: &[u32]) -> &[u32]
+    ensures { result.now ≡ lasts_in key.now }
+{
+    match key.split_first() {
+        Some((kind, numbers)) if *kind != START => numbers,
+        _ => &[],
+    }
+}

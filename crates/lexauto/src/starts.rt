@@ -1,0 +1,125 @@
+//! Where matches start: the active rules of each condition, at the start of a line or not.
+ghost use Rattle.std.specs.Prelude.{◌≡◌, ◌<◌, ◌≤◌, ◌^◌, ◌&&◌, ◌||◌, [], ◌∷◌, not, ℕ, false, true, length, map, slice_get, slice_index, option_map, List, IfOk, OnOk, IfSome, IfNone, IsErrOf};
+ghost use Rattle.lexmeaning.specs.Active.{lists, serves, active};
+ghost use Rattle.lexmeaning.specs.Subsets.{positions_of_rule, all_positions};
+ghost use Rattle.lexaction.specs.Views.{condition_of};
+ghost use Rattle.lexspec.specs.RuleViews.{rule_of};
+ghost use Rattle.lexspec.specs.Views.{spec_of, conditions_in};
+ghost use Rattle.lexauto.specs.Keys.{Key, At, Finds, look, keys_in};
+ghost use Rattle.lexauto.specs.Explored.{MoreThan};
+ghost use Rattle.lexauto.specs.WordKeys.{start_key, IsRoot, AreRoots, AreStartPlaces, Grows};
+
+use crate::explore::{ExploreError, Interner, intern};
+use crate::sets::{START, key_of};
+use lexre::positions;
+use lexspec::{Condition, Rule, Spec};
+use std::alloc::{AllocError, Global};
+use std::collections::BTreeMap;
+
+/// How many positions a rule has. None where its head or its trail alone has more than 4,294,967,295.
+fn positions_of_rule(rule: &Rule) -> Option<u64>
+    ensures found { IfSome result (λ n. n ≡ positions_of_rule (rule_of rule.now)) }
+    ensures none { IfNone result (2 ^ 32 ≤ positions_of_rule (rule_of rule.now)) }
+{
+    let head = positions(&rule.head)?;
+    match &rule.trail {
+        None => Some(u64::from(head)),
+        Some(trail) => Some(u64::from(head) + u64::from(positions(trail)?)),
+    }
+}
+
+/// How many positions the rules have together. None exactly where there are more than the limit.
+pub(crate) fn count_positions(rules: &[Rule], limit: u32) -> Option<u32>
+    ensures found { IfSome result (λ n. n ≡ all_positions (map rule_of rules.now)) }
+    ensures within { IfSome result (λ n. n ≤ limit) }
+    ensures none { IfNone result (limit < all_positions (map rule_of rules.now)) }
+{
+    let mut sum: u32 = 0;
+    for rule in rules {
+        let more = positions_of_rule(rule)?;
+        if more > u64::from(limit - sum) {
+            return None;
+        }
+        sum += more as u32;
+    }
+    Some(sum)
+}
+
+/// Whether a number is in the list.
+fn lists(numbers: &[u8], number: usize) -> bool
+    ensures { result ≡ lists numbers.now number }
+{
+    for other in numbers {
+        if usize::from(*other) == number {
+            return true;
+        }
+    }
+    false
+}
+
+/// Whether a rule is active in the condition of this number, at the start of a line or not.
+/// (POSIX, lex, Definitions in lex and Regular Expressions in lex; flex, Start Conditions.)
+fn is_active(condition: &Condition, number: usize, bol: bool, rule: &Rule) -> bool
+    ensures { result ≡ (serves (option_map (λ v. v.items) rule.now.conditions) number (Some (condition_of condition.now)) && (not rule.now.anchored || bol)) }
+{
+    let serves = match &rule.conditions {
+        None => !condition.exclusive,
+        Some(numbers) => lists(numbers, number),
+    };
+    serves && (!rule.anchored || bol)
+}
+
+/// The key of the state where a match starts.
+fn start_key(alloc: Global, spec: &Spec, number: usize, bol: bool) -> Result<Vec<u32>, AllocError>
+    requires { number < length (conditions_in (spec_of spec.now)) }
+    ensures { IfOk result (λ v. v.items ≡ start_key (spec_of spec.now) number bol) }
+{
+    let condition = &spec.conditions()[number];
+    let mut numbers = Vec::new(alloc);
+    for (i, rule) in spec.rules().iter().enumerate() {
+        if is_active(condition, number, bol, rule) {
+            numbers.push(i as u32)?;
+        }
+    }
+    key_of(alloc, START, &numbers)
+}
+
+/// A table that has only the dead state's key.
+pub(crate) fn dead_root(alloc: Global, limit: u32) -> Result<Interner, ExploreError>
+    ensures finds { IfOk result (λ t. Finds (look t.places) (keys_in t.keys.items)) }
+    ensures keys { IfOk result (λ t. keys_in t.keys.items ≡ [] ∷ []) }
+    ensures room { IfOk result (λ t. length t.keys.items ≤ limit) }
+    ensures too_many { IsErrOf result ExploreError.TooMany → limit ≡ 0 }
+{
+    let mut table = Interner {
+        keys: Vec::new(alloc),
+        places: BTreeMap::new(alloc),
+    };
+    intern(alloc, &mut table, Vec::new(alloc), limit)?;
+    Ok(table)
+}
+
+/// Adds the keys of the states where matches start, and answers their places, by condition.
+pub(crate) fn add_starts(
+    alloc: Global,
+    spec: &Spec,
+    bol: bool,
+    table: &mut Interner,
+    limit: u32,
+) -> Result<Vec<u32>, ExploreError>
+    requires { AreRoots (spec_of spec.now) (look table.old.places) (keys_in table.old.keys.items) }
+    ensures roots { OnOk result (AreRoots (spec_of spec.now) (look table.new.places) (keys_in table.new.keys.items)) }
+    ensures grows { OnOk result (Grows (keys_in table.old.keys.items) (keys_in table.new.keys.items)) }
+    ensures places { IfOk result (λ v. AreStartPlaces (spec_of spec.now) bol (keys_in table.new.keys.items) v.items) }
+    ensures len { IfOk result (λ v. length v.items ≡ length (conditions_in (spec_of spec.now))) }
+    ensures room { OnOk result (length table.old.keys.items ≤ limit → length table.new.keys.items ≤ limit) }
+    ensures too_many { IsErrOf result ExploreError.TooMany → MoreThan limit (IsRoot (spec_of spec.now)) }
+{
+    let mut places = Vec::new(alloc);
+    for number in 0..spec.conditions().len() {
+        let key = start_key(alloc, spec, number, bol)?;
+        let place = intern(alloc, table, key, limit)?;
+        places.push(place)?;
+    }
+    Ok(places)
+}

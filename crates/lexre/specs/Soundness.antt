@@ -1,0 +1,32 @@
+-- Which symbols and states lead to sound trees.
+use Rattle.std.specs.Prelude.{ℕ, ◌≤◌, List, [], ◌∷◌, IfSome, ⊤}
+use Rattle.lexmeaning.specs.ByteSets.{ByteSet, IsIn}
+use Rattle.lexmeaning.specs.Shapes.{IsSoundTree, AreSoundTrees}
+use Rattle.lexmeaning.specs.Tree.{trees}
+use Rattle.lexre.specs.Running.{Frame, frame, State, state}
+use Rattle.lexre.specs.Symbols.{Symbol, item, name, opening, closing, bar, sign, interval}
+
+-- some byte is in the set
+abbrev pub HasByte : ByteSet → Type 0
+HasByte s = (b : ℕ) × IsIn s b
+
+-- its tree is sound, or its bounds are in order, the greater at least 1
+abbrev pub IsSoundSymbol : Symbol → Type 0
+IsSoundSymbol (item t) = IsSoundTree t
+IsSoundSymbol (name n) = ⊤
+IsSoundSymbol opening = ⊤
+IsSoundSymbol closing = ⊤
+IsSoundSymbol bar = ⊤
+IsSoundSymbol (sign s) = ⊤
+IsSoundSymbol (interval m n) = IfSome n (λ n. (m ≤ n) × (1 ≤ n))
+
+-- all its trees are sound
+abbrev pub IsSoundFrame : Frame → Type 0
+IsSoundFrame (frame done parts last k) = AreSoundTrees (trees done) × AreSoundTrees (trees parts) × IfSome last IsSoundTree
+
+abbrev pub AreSoundFrames : List Frame → Type 0
+AreSoundFrames [] = ⊤
+AreSoundFrames (f ∷ fs) = IsSoundFrame f × AreSoundFrames fs
+
+abbrev pub IsSoundState : State → Type 0
+IsSoundState (state here outer d) = IsSoundFrame here × AreSoundFrames outer
