@@ -2,6 +2,7 @@
 ghost use Rattle.std.specs.Prelude.{◌+◌, ◌≤◌, vec_len};
 
 use crate::pattern::Pattern;
+use std::alloc::Global;
 
 /// A pattern inside its parentheses, as far as it was read.
 #[derive(Drop)]
@@ -21,6 +22,7 @@ pub(crate) struct Frame {
 
 #[derive(Drop)]
 pub(crate) struct Stack {
+    pub(crate) alloc: Global,
     pub(crate) here: Frame,
     /// The patterns round it, the outermost first.
     pub(crate) outer: Vec<Frame>,

@@ -128,7 +128,6 @@ fn read_name(
 /// Takes a symbol that stands at this place, and answers how many nodes it brings: at most `room`.
 #[cycle(read)]
 fn step(
-    alloc: Global,
     stack: &mut Stack,
     symbol: Symbol,
     at: usize,
@@ -150,10 +149,10 @@ fn step(
     let added = match symbol {
         Symbol::Name(name) => {
             stack.here.start = at;
-            let item = read_name(alloc, name, defs, fold, stack.left, room, open)?;
+            let item = read_name(stack.alloc, name, defs, fold, stack.left, room, open)?;
             stack.push(item, at)?
         }
-        plain => stack.take(alloc, plain, at)?,
+        plain => stack.take(plain, at)?,
     };
     if added > room {
         return Err(PatternErrorKind::TooBig);
@@ -189,16 +188,7 @@ fn read_within(
             Ok(found) => found,
             Err(fault) => return Err(told(&stack, fault, rest, at)),
         };
-        match step(
-            alloc,
-            &mut stack,
-            symbol,
-            at,
-            defs,
-            fold,
-            room - nodes,
-            open,
-        ) {
+        match step(&mut stack, symbol, at, defs, fold, room - nodes, open) {
             Ok(added) => nodes += added,
             Err(kind) => return Err(stack.fault(kind, at)),
         }

@@ -90,6 +90,7 @@ impl Stack {
         ensures { state_of result ≡ state fresh [] left }
     {
         Stack {
+            alloc,
             here: Frame::new(alloc, 0),
             outer: Vec::new(alloc),
             left,
@@ -106,14 +107,14 @@ impl Stack {
     }
 
     /// Opens a parenthesis, which stands at this place.
-    fn open(&mut self, alloc: Global, at: usize) -> Result<u64, PatternErrorKind>
+    fn open(&mut self, at: usize) -> Result<u64, PatternErrorKind>
         ensures { StepsTo result (opened (state_of self.old)) 0 (state_of self.new) }
     {
         if self.left == 0 {
             return Err(PatternErrorKind::TooDeep);
         }
         self.left -= 1;
-        let outside = mem::replace(&mut self.here, Frame::new(alloc, at));
+        let outside = mem::replace(&mut self.here, Frame::new(self.alloc, at));
         self.outer.push(outside)?;
         Ok(0)
     }
@@ -139,13 +140,13 @@ impl Stack {
     }
 
     /// Ends a series at a bar.
-    fn part(&mut self, alloc: Global) -> Result<u64, PatternErrorKind>
+    fn part(&mut self) -> Result<u64, PatternErrorKind>
         ensures { StepsTo result (parted (state_of self.old)) 0 (state_of self.new) }
     {
         let Some(last) = self.here.last.take() else {
             return Err(PatternErrorKind::MissingOperand);
         };
-        let parts = mem::replace(&mut self.here.parts, Vec::new(alloc));
+        let parts = mem::replace(&mut self.here.parts, Vec::new(self.alloc));
         let whole = series(parts, last)?;
         self.here.done.push(whole)?;
         self.here.signs = 0;
@@ -168,7 +169,7 @@ impl Stack {
     }
 
     /// Repeats the last part, as the sign says.
-    fn sign(&mut self, alloc: Global, sign: Sign) -> Result<u64, PatternErrorKind>
+    fn sign(&mut self, sign: Sign) -> Result<u64, PatternErrorKind>
         ensures { StepsTo result (onto_last (signed (sign_of sign)) (state_of self.old)) 1 (state_of self.new) }
     {
         let Some(last) = self.here.last.take() else {
@@ -177,7 +178,7 @@ impl Stack {
         if self.here.signs >= MOST_SIGNS {
             return Err(PatternErrorKind::TooDeep);
         }
-        let inner = Box::new(alloc, last)?;
+        let inner = Box::new(self.alloc, last)?;
         let repeated = match sign {
             Sign::AnyTimes => Pattern::Star(inner),
             Sign::OnceOrMore => Pattern::Repeat(inner, 1, None),
@@ -189,12 +190,7 @@ impl Stack {
     }
 
     /// Repeats the last part, as the interval says.
-    fn interval(
-        &mut self,
-        alloc: Global,
-        least: u8,
-        most: Option<u8>,
-    ) -> Result<u64, PatternErrorKind>
+    fn interval(&mut self, least: u8, most: Option<u8>) -> Result<u64, PatternErrorKind>
         ensures { StepsTo result (onto_last (λ t. Repeat t least most) (state_of self.old)) 1 (state_of self.new) }
     {
         let Some(last) = self.here.last.take() else {
@@ -203,7 +199,7 @@ impl Stack {
         if self.here.signs >= MOST_SIGNS {
             return Err(PatternErrorKind::TooDeep);
         }
-        let inner = Box::new(alloc, last)?;
+        let inner = Box::new(self.alloc, last)?;
         self.here.last = Some(Pattern::Repeat(inner, least, most));
         self.here.signs += 1;
         Ok(1)
@@ -221,22 +217,17 @@ impl Stack {
     }
 
     /// Takes a symbol that stands at this place and is no name, and answers how many nodes it brings.
-    pub(crate) fn take(
-        &mut self,
-        alloc: Global,
-        symbol: Symbol,
-        at: usize,
-    ) -> Result<u64, PatternErrorKind>
+    pub(crate) fn take(&mut self, symbol: Symbol, at: usize) -> Result<u64, PatternErrorKind>
         ensures { StepsTo result (step_of (symbol_of symbol.entry) (state_of self.old)) (adds (symbol_of symbol.entry) (state_of self.old)) (state_of self.new) }
     {
         match symbol {
             Symbol::Item(item) => self.push(item, at),
             Symbol::Name(_) => Err(PatternErrorKind::UndefinedName),
-            Symbol::Opening => self.open(alloc, at),
+            Symbol::Opening => self.open(at),
             Symbol::Closing => self.close(),
-            Symbol::Bar => self.part(alloc),
-            Symbol::Sign(sign) => self.sign(alloc, sign),
-            Symbol::Interval(least, most) => self.interval(alloc, least, most),
+            Symbol::Bar => self.part(),
+            Symbol::Sign(sign) => self.sign(sign),
+            Symbol::Interval(least, most) => self.interval(least, most),
         }
     }
 
