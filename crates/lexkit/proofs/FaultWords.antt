@@ -2,7 +2,7 @@
 use Rattle.std.proofs.Common.{◌≡◌, refl, []}
 use Rattle.lexspec.specs.declared.error.SpecErrorKind.{SpecErrorKind}
 use Rattle.lexspec.specs.declared.error.SpecErrorKind.TheVariants as kinds
-use Rattle.lexre.specs.declared.error.PatternError.{PatternError}
+use Rattle.lexclass.specs.declared.error.PatternError.{PatternError}
 use Rattle.lexkit.specs.Faults.{place_words}
 
 -- only the refusal of a pattern has a place

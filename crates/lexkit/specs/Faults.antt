@@ -4,8 +4,8 @@ use Rattle.std.specs.Prelude.{ℕ, Bool, true, false, if◌then◌else◌, List,
 use Rattle.std.specs.List.{concat}
 use Rattle.lexkit.specs.declared.args.ArgsError.{ArgsError}
 use Rattle.lexkit.specs.declared.args.ArgsError.TheVariants as args
-use Rattle.lexre.specs.declared.error.PatternErrorKind.{PatternErrorKind}
-use Rattle.lexre.specs.declared.error.PatternErrorKind.TheVariants as patterns
+use Rattle.lexclass.specs.declared.error.PatternErrorKind.{PatternErrorKind}
+use Rattle.lexclass.specs.declared.error.PatternErrorKind.TheVariants as patterns
 use Rattle.lexspec.specs.declared.error.SpecErrorKind.{SpecErrorKind}
 use Rattle.lexspec.specs.declared.error.SpecErrorKind.TheVariants as kinds
 use Rattle.lexspec.specs.declared.error.SpecError.{SpecError}

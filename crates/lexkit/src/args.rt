@@ -103,7 +103,7 @@ mod tests {
                     assert_eq!(rt; file.as_str(), want);
                     assert_eq!(rt; fold, folded);
                 }
-                Err(_) => assert!(rt; false, "refused {want}"),
+                Err(error) => assert!(rt; false, "{want}: {error:?}"),
             }
         }
         Ok(())
@@ -128,7 +128,7 @@ mod tests {
         for (number, line) in lines.iter().enumerate() {
             match job_of(rt.alloc(), *line)? {
                 Err(ArgsError::Usage) => {}
-                _ => assert!(rt; false, "line {number}"),
+                other => assert!(rt; false, "line {number}: {other:?}"),
             }
         }
         Ok(())

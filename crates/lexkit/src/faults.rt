@@ -297,7 +297,8 @@ mod tests {
         ];
         for (fault, status, line) in rows {
             let mut sink = MemorySink::new(rt.alloc());
-            assert!(rt; write_fault(fault, &mut sink) == Ok(()), "{line}");
+            let got = write_fault(fault, &mut sink);
+            assert!(rt; got == Ok(()), "{line}: {got:?}");
             assert_eq!(rt; sink.written(), line.as_bytes());
             assert_eq!(rt; fault.status(), status, "{line}");
         }
@@ -312,8 +313,9 @@ mod tests {
             (17, "lex: cannot read "),
         ] {
             let mut sink = MemorySink::failing_after(rt.alloc(), room);
-            assert!(rt; write_fault(Fault::File("a.l"), &mut sink) == Err(WriteFault));
-            assert_eq!(rt; sink.written(), written.as_bytes());
+            let got = write_fault(Fault::File("a.l"), &mut sink);
+            assert!(rt; got == Err(WriteFault), "{got:?}");
+            assert_eq!(rt; sink.written(), written.as_bytes(), "room {room}");
         }
     }
 }

@@ -6,7 +6,7 @@ use Rattle.lexre.specs.Counting.{series_nodes, frame_nodes, frames_nodes, state_
 use Rattle.lexre.specs.Grammar.{series_tree, choice_tree}
 use Rattle.lexre.specs.Outcome.{size_of}
 use Rattle.lexre.specs.Running.{Frame, frame, State, state, pushed, onto_last, finished, step_of, Steps, Runs}
-use Rattle.lexre.specs.Symbols.{Symbol, Sign, item, name, opening, closing, bar, sign, interval, any_times, once_or_more, at_most_once, signed, Lexer}
+use Rattle.lexclass.specs.Symbols.{Symbol, Sign, item, name, opening, closing, bar, sign, interval, any_times, once_or_more, at_most_once, signed, Lexer}
 use Rattle.lexre.proofs.GrammarLaws.{chosen}
 use Rattle.lexre.proofs.OneTree.{some_is}
 

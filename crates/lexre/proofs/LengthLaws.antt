@@ -5,7 +5,7 @@ use Rattle.std.specs.Prelude.{IsSomeAnd}
 use Rattle.std.specs.Result.{OkIff, result_ok}
 use Rattle.lexmeaning.specs.Tree.{Tree, Trees, Empty, Set, Cat, Alt, Star, Repeat, no_trees, tree, Joined, UpTo, In, InEach, InSome}
 use Rattle.lexmeaning.specs.Shapes.{Language, LongestIs, HasLengths, IsSoundTree, AreSoundTrees, HasPart}
-use Rattle.lexre.proofs.Narrowing.{fits, too_large}
+use Rattle.lexclass.proofs.Narrowing.{fits, too_large}
 use Rattle.lexre.specs.Lengths.{plus, larger, lesser, unbounded, repeated, least, least_of_each, least_of_some, greatest, greatest_of_each, greatest_of_some, capped, PassesLimit}
 
 -- ---- caps

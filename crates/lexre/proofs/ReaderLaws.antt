@@ -6,13 +6,13 @@ use Rattle.lexmeaning.specs.Tree.{Tree}
 use Rattle.lexre.specs.Counting.{state_nodes, adds, item_adds}
 use Rattle.lexre.specs.Definitions.{Definitions}
 use Rattle.lexre.specs.Grammar.{SpellsWithin}
-use Rattle.lexre.specs.Lexical.{symbol_at}
+use Rattle.lexclass.specs.Lexical.{symbol_at}
 use Rattle.lexre.specs.Outcome.{UnlessMemory, IsRefused}
 use Rattle.lexre.specs.Reading.{SpellsIn, StandsIn, StepsIn, NoneWithin}
 use Rattle.lexre.specs.Running.{State, state, fresh, push, pushed, finished, step_of, IsPlain, Stands, Steps, RunsText}
-use Rattle.lexre.specs.Symbols.{Symbol, item, name, opening, closing, bar, sign, interval, Lexer, IsCut}
-use Rattle.lexre.specs.declared.error.PatternErrorKind.{PatternErrorKind}
-use Rattle.lexre.specs.declared.error.PatternErrorKind.TheVariants.{OutOfMemory}
+use Rattle.lexclass.specs.Symbols.{Symbol, item, name, opening, closing, bar, sign, interval, Lexer, IsCut}
+use Rattle.lexclass.specs.declared.error.PatternErrorKind.{PatternErrorKind}
+use Rattle.lexclass.specs.declared.error.PatternErrorKind.TheVariants.{OutOfMemory}
 use Rattle.lexre.proofs.CountLaws.{step_grows, step_nodes, steps_grow, runs_grow, finished_nodes, push_grows}
 use Rattle.lexre.proofs.GrammarLaws.{spelled_runs, runs_spelled}
 use Rattle.lexre.proofs.OneTree.{one_step, one_tree, pair_is, some_is}

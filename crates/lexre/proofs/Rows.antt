@@ -3,8 +3,8 @@ use Rattle.std.proofs.Common.{◌≡◌, false, [], ◌∷◌, Some, None, refl}
 use Rattle.std.specs.Prelude.{codes}
 use Rattle.lexmeaning.specs.ByteSets.{single, is_digit, is_xdigit, is_alpha, is_alnum, is_upper, is_lower}
 use Rattle.lexmeaning.specs.Tree.{Empty, Set, Cat, trees}
-use Rattle.lexre.specs.Symbols.{item, name, interval}
-use Rattle.lexre.specs.Lexical.{take_up_to, control, escape_at, octal_at, hexadecimal_at, quoted_at, quoted_tree, span, named, unsupported, named_at, unsupported_at, class_byte_at, is_range, element_at, elements_at, class_at, interval_at, name_at, symbol_at, bracketed_at, after_word, letters_at, enclosed_at, range_at, bounded, braces_at}
+use Rattle.lexclass.specs.Symbols.{item, name, interval}
+use Rattle.lexclass.specs.Lexical.{take_up_to, control, escape_at, octal_at, hexadecimal_at, quoted_at, quoted_tree, span, named, unsupported, named_at, unsupported_at, class_byte_at, is_range, element_at, elements_at, class_at, interval_at, name_at, symbol_at, bracketed_at, after_word, letters_at, enclosed_at, range_at, bounded, braces_at}
 
 hex : symbol_at false (codes "\\x41") ≡ Some (item (Set (single 65)), [])
 unfolding symbol_at escape_at octal_at hexadecimal_at take_up_to is_digit is_xdigit is_alpha is_alnum is_upper is_lower bracketed_at after_word letters_at enclosed_at range_at bounded braces_at

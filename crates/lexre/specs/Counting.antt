@@ -2,7 +2,7 @@
 use Rattle.std.specs.Prelude.{ℕ, ◌+◌, ◌^◌, min, List, [], ◌∷◌, Option, Some, None}
 use Rattle.lexmeaning.specs.Shapes.{nodes, nodes_of}
 use Rattle.lexmeaning.specs.Tree.{Tree, trees}
-use Rattle.lexre.specs.Symbols.{Symbol, item, name, opening, closing, bar, sign, interval}
+use Rattle.lexclass.specs.Symbols.{Symbol, item, name, opening, closing, bar, sign, interval}
 use Rattle.lexre.specs.Running.{Frame, frame, State, state}
 
 abbrev pub last_nodes : Option Tree → ℕ

@@ -1,6 +1,6 @@
 -- Where the pattern of a rule ends, and what stands at its end. (POSIX, lex, Rules in lex; flex, Patterns: `r/s`, `r$`.)
 use Rattle.std.specs.Prelude.{◌≡◌, ℕ, zero, suc, ◌+◌, ◌-◌, Bool, true, false, ◌||◌, ◌==◌, if◌then◌else◌, List, [], ◌∷◌, length, Option, Some, None}
-use Rattle.lexre.specs.Lexical.{◌>>=◌, escape_at, after_quotes, class_at}
+use Rattle.lexclass.specs.Lexical.{◌>>=◌, escape_at, after_quotes, class_at}
 
 -- what the text of a pattern is made of, as far as cutting it goes
 pub data Piece : Type 0 where

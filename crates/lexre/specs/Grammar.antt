@@ -3,7 +3,7 @@
 -- (POSIX, lex, Regular Expressions in lex; flex, Patterns. The bounds, and the reading of intervals, are this project's.)
 use Rattle.std.specs.Prelude.{◌≡◌, ℕ, suc, ◌<◌, List, [], ◌∷◌, ◌++◌, Option, Some}
 use Rattle.lexmeaning.specs.Tree.{Tree, trees, Cat, Alt, Repeat}
-use Rattle.lexre.specs.Symbols.{Symbol, Sign, item, name, opening, closing, bar, sign, interval, signed, Lexer, IsCut}
+use Rattle.lexclass.specs.Symbols.{Symbol, Sign, item, name, opening, closing, bar, sign, interval, signed, Lexer, IsCut}
 
 -- the tree of a series, by its parts, of which the last stands apart: a part alone is itself
 abbrev pub series_tree : List Tree → Tree → Tree

@@ -1,15 +1,9 @@
-pub mod ClassSets
-pub mod Classes
 pub mod Counting
 pub mod Cutting
 pub mod Definitions
-pub mod Elements
 pub mod Grammar
-pub mod Halves
 pub mod Lengths
-pub mod Lexical
 pub mod Outcome
-pub mod Passing
 pub mod Progress
 pub mod Quotes
 pub mod Reading
@@ -18,7 +12,5 @@ pub mod Running
 pub mod Soundness
 pub mod Spelling
 pub mod StackViews
-pub mod Stops
 pub mod SymbolViews
-pub mod Symbols
 pub mod Views

@@ -1,9 +1,9 @@
 -- What a refusal tells.
 use Rattle.std.specs.Prelude.{◌≡◌, ℕ, ◌<◌, List, Option, Some, ⊤}
 use Rattle.lexmeaning.specs.Shapes.{nodes}
-use Rattle.lexre.specs.Symbols.{Symbol, item}
-use Rattle.lexre.specs.declared.error.PatternErrorKind.{PatternErrorKind}
-use Rattle.lexre.specs.declared.error.PatternErrorKind.TheVariants.{OutOfMemory}
+use Rattle.lexclass.specs.Symbols.{Symbol, item}
+use Rattle.lexclass.specs.declared.error.PatternErrorKind.{PatternErrorKind}
+use Rattle.lexclass.specs.declared.error.PatternErrorKind.TheVariants.{OutOfMemory}
 
 -- the fact, unless memory ran out
 abbrev pub UnlessMemory : PatternErrorKind → Type 0 → Type 0

@@ -2,8 +2,8 @@
 use Rattle.std.specs.Prelude.{ℕ, suc, Bool, ◌==◌, if◌then◌else◌, List, [], ◌∷◌, length, Option, Some, None}
 use Rattle.lexmeaning.specs.ByteSets.{single}
 use Rattle.lexmeaning.specs.Tree.{Set}
-use Rattle.lexre.specs.Lexical.{◌>>=◌, class_at, class_set, escape_at, folded, quoted_at, quoted_tree}
-use Rattle.lexre.specs.Symbols.{Symbol, item}
+use Rattle.lexclass.specs.Lexical.{◌>>=◌, class_at, class_set, escape_at, folded, quoted_at, quoted_tree}
+use Rattle.lexclass.specs.Symbols.{Symbol, item}
 
 -- a byte between quotes: an escape, or itself
 abbrev pub quoted_byte_at : List ℕ → Option (ℕ × List ℕ)

@@ -7,9 +7,9 @@ use Rattle.lexmeaning.specs.Tree.{Tree}
 use Rattle.lexmeaning.specs.Shapes.{nodes}
 use Rattle.lexre.specs.Definitions.{Definitions}
 use Rattle.lexre.specs.Grammar.{SpellsWithin}
-use Rattle.lexre.specs.Lexical.{symbol_at}
+use Rattle.lexclass.specs.Lexical.{symbol_at}
 use Rattle.lexre.specs.Running.{State, Stands, Steps}
-use Rattle.lexre.specs.Symbols.{Symbol}
+use Rattle.lexclass.specs.Symbols.{Symbol}
 
 -- the text is a pattern, and this is its tree
 abbrev pub SpellsIn : Bool → Definitions → ℕ → List ℕ → Tree → Type 0

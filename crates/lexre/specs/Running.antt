@@ -2,7 +2,7 @@
 -- answers as the grammar says is proved.
 use Rattle.std.specs.Prelude.{◌≡◌, ℕ, zero, suc, nat_lt, if◌then◌else◌, List, [], ◌∷◌, ◌++◌, Option, Some, None}
 use Rattle.lexmeaning.specs.Tree.{Tree, Repeat}
-use Rattle.lexre.specs.Symbols.{Symbol, item, name, opening, closing, bar, sign, interval, signed, Lexer, IsCut}
+use Rattle.lexclass.specs.Symbols.{Symbol, item, name, opening, closing, bar, sign, interval, signed, Lexer, IsCut}
 use Rattle.lexre.specs.Grammar.{series_tree, choice_tree, SpellsWithin}
 
 -- A pattern as far as it was read: its finished series, and of the series that is being read the parts before the last, the

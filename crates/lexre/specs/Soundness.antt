@@ -1,14 +1,9 @@
 -- Which symbols and states lead to sound trees.
-use Rattle.std.specs.Prelude.{ℕ, ◌≤◌, List, [], ◌∷◌, IfSome, ⊤}
-use Rattle.lexmeaning.specs.ByteSets.{ByteSet, IsIn}
+use Rattle.std.specs.Prelude.{◌≤◌, List, [], ◌∷◌, IfSome, ⊤}
 use Rattle.lexmeaning.specs.Shapes.{IsSoundTree, AreSoundTrees}
 use Rattle.lexmeaning.specs.Tree.{trees}
 use Rattle.lexre.specs.Running.{Frame, frame, State, state}
-use Rattle.lexre.specs.Symbols.{Symbol, item, name, opening, closing, bar, sign, interval}
-
--- some byte is in the set
-abbrev pub HasByte : ByteSet → Type 0
-HasByte s = (b : ℕ) × IsIn s b
+use Rattle.lexclass.specs.Symbols.{Symbol, item, name, opening, closing, bar, sign, interval}
 
 -- its tree is sound, or its bounds are in order, the greater at least 1
 abbrev pub IsSoundSymbol : Symbol → Type 0

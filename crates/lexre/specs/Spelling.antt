@@ -5,7 +5,7 @@ use Rattle.lexmeaning.specs.Tree.{Tree}
 use Rattle.lexmeaning.specs.Shapes.{nodes}
 use Rattle.lexre.specs.Definitions.{Definitions}
 use Rattle.lexre.specs.Grammar.{SpellsWithin}
-use Rattle.lexre.specs.Lexical.{symbol_at}
+use Rattle.lexclass.specs.Lexical.{symbol_at}
 
 -- The text is a pattern, and this is its tree: at most 64 parentheses and names are open at one place, and it has at most
 -- 65,536 nodes. Under `fold` letters stand for both cases.

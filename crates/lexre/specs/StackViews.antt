@@ -4,7 +4,7 @@ use Rattle.lexre.specs.Outcome.{UnlessMemory}
 use Rattle.lexre.specs.Running.{State, frame, state}
 use Rattle.lexre.specs.Running as run
 use Rattle.lexre.specs.Views.{tree_of}
-use Rattle.lexre.specs.declared.error.PatternErrorKind.{PatternErrorKind}
+use Rattle.lexclass.specs.declared.error.PatternErrorKind.{PatternErrorKind}
 use Rattle.lexre.specs.declared.frames.Frame.{Frame}
 use Rattle.lexre.specs.declared.frames.Stack.{Stack}
 

@@ -3,14 +3,11 @@ ghost use Rattle.std.specs.Prelude.{◌≡◌, ◌||◌, ◌==◌, List, ℕ, Op
 ghost use Rattle.lexmeaning.specs.ByteSets.{is_alnum, is_digit};
 ghost use Rattle.lexre.specs.Soundness.{IsSoundSymbol};
 ghost use Rattle.lexre.specs.SymbolViews.{Front, symbol_of};
-ghost use Rattle.lexre.specs.Lexical.{bounded, braces_at, interval_at, name_at, take_up_to};
-ghost use Rattle.lexre.specs.Symbols.{interval, name};
+ghost use Rattle.lexclass.specs.Lexical.{bounded, braces_at, interval_at, name_at, take_up_to};
+ghost use Rattle.lexclass.specs.Symbols.{interval, name};
 
-use crate::classes::Class;
-use crate::digits::capped_value;
-use crate::error::{Fault, PatternErrorKind};
-use crate::runs::{skip_word, take_up_to};
 use crate::symbols::Symbol;
+use lexclass::{Class, Fault, PatternErrorKind, capped_value, skip_word, take_up_to};
 
 /// The letters of a name, after the opening brace, and what follows the closing one.
 pub(crate) fn name_at(text: &[u8]) -> Option<(&[u8], &[u8])>
@@ -56,7 +53,7 @@ fn digits_at(text: &[u8]) -> (&[u8], &[u8])
 }
 
 /// The two counts, where they are in order and the greatest is from 1 to 255.
-#[tactic(auto, unfolding(crate::specs::Lexical::bounded))]
+#[tactic(auto, unfolding(lexclass::specs::Lexical::bounded))]
 fn counts(least: u32, most: u32) -> Option<(u8, Option<u8>)>
     ensures front { (rest : List ℕ) → ◌≡◌ {A = Front} (bounded least most rest) (option_map (λ x. (interval x.0 x.1, rest)) result) }
     ensures sound { IfSome result (λ x. IfSome x.1 (λ n. (x.0 ≤ n) × (1 ≤ n))) }
@@ -70,7 +67,7 @@ fn counts(least: u32, most: u32) -> Option<(u8, Option<u8>)>
 }
 
 /// What stands after an opening brace, and what follows the closing one. `braces` is the text from the opening brace on.
-#[tactic(auto, unfolding(crate::specs::Lexical::braces_at))]
+#[tactic(auto, unfolding(lexclass::specs::Lexical::braces_at))]
 pub(crate) fn braces_at<'a>(
     braces: &'a [u8],
     text: &'a [u8],

@@ -3,10 +3,8 @@ ghost use Rattle.std.specs.Prelude.{◌≡◌, ◌+◌, ◌^◌, ◌<◌, ◌≤
 ghost use Rattle.lexre.specs.Cutting.{piece_at, slash, IsCutting, IsEnd, Piece};
 ghost use Rattle.lexre.specs.Progress.{ending, piece_of, Ending};
 
-use crate::error::{Fault, PatternError, PatternErrorKind};
-use crate::escapes::escape_at;
-use crate::passing::skip_class;
 use crate::quotes::skip_quoted;
+use lexclass::{Fault, PatternError, PatternErrorKind, escape_at, skip_class};
 
 /// Where the pattern of a rule ends, and what stands at its end.
 #[derive(Clone, Copy, PartialEq, Eq, Debug)]

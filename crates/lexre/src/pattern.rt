@@ -1,5 +1,5 @@
 //! Patterns as trees. (POSIX, lex, Regular Expressions in lex.)
-use crate::sets::ByteSet;
+use lexclass::ByteSet;
 
 /// A pattern: what a text of lex's regular expressions stands for. Calls that go over a pattern, and its drop, take
 /// stack in proportion to its depth, at most 160 bytes a level: less than 700 kB for 64 parentheses with 64 signs each.

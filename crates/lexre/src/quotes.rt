@@ -3,16 +3,13 @@ ghost use Rattle.std.specs.Prelude.{◌≡◌, ◌<◌, ℕ, List, Option, Some,
 ghost use Rattle.lexmeaning.specs.ByteSets.{single};
 ghost use Rattle.lexmeaning.specs.Shapes.{IsSoundTree, nodes};
 ghost use Rattle.lexmeaning.specs.Tree.{Set};
-ghost use Rattle.lexre.specs.Lexical.{after_quotes, folded, quoted_tree};
+ghost use Rattle.lexclass.specs.Lexical.{after_quotes, folded, quoted_tree};
 ghost use Rattle.lexre.specs.Outcome.{UnlessMemory};
 ghost use Rattle.lexre.specs.Quotes.{quoted_byte_at, quoted_bytes};
 ghost use Rattle.lexre.specs.Views.{tree_of};
 
-use crate::error::{Fault, PatternErrorKind};
-use crate::escapes::escape_at;
-use crate::expressions::folded;
 use crate::pattern::Pattern;
-use crate::sets::ByteSet;
+use lexclass::{ByteSet, Fault, PatternErrorKind, escape_at, folded};
 use std::alloc::Global;
 
 /// A series of so many bytes has as many nodes as a pattern may have.
@@ -109,7 +106,7 @@ pub(crate) fn byte_pattern(byte: u8, fold: bool) -> Pattern
 }
 
 /// The pattern of the bytes of a text in quotes. More nodes than a pattern may have are `TooBig`.
-#[tactic(auto, unfolding(crate::specs::Lexical::quoted_tree))]
+#[tactic(auto, unfolding(lexclass::specs::Lexical::quoted_tree))]
 pub(crate) fn quoted_pattern(
     alloc: Global,
     bytes: &[u8],

@@ -11,15 +11,14 @@ ghost use Rattle.lexre.specs.Spelling.{Spells};
 ghost use Rattle.lexre.specs.StackViews.{state_of};
 ghost use Rattle.lexre.specs.SymbolViews.{symbol_of};
 ghost use Rattle.lexre.specs.Views.{tree_of};
-ghost use Rattle.lexre.specs.declared.error.PatternErrorKind.TheVariants.{DefinitionCycle, OutOfMemory};
+ghost use Rattle.lexclass.specs.declared.error.PatternErrorKind.TheVariants.{DefinitionCycle, OutOfMemory};
 
-use crate::classes::Class;
 use crate::definitions::Defs;
-use crate::error::{Fault, PatternError, PatternErrorKind};
 use crate::frames::Stack;
 use crate::lexer::symbol_at;
 use crate::pattern::Pattern;
 use crate::symbols::Symbol;
+use lexclass::{Class, Fault, PatternError, PatternErrorKind};
 use std::alloc::Global;
 
 /// So many parentheses and names may be open at one place.

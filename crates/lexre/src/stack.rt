@@ -7,15 +7,15 @@ ghost use Rattle.lexre.specs.Outcome.{UnlessMemory};
 ghost use Rattle.lexre.specs.Running.{State, closed, finished, fresh, onto_last, opened, parted, push, pushed, state, step_of};
 ghost use Rattle.lexre.specs.StackViews.{StepsTo, frame_of, state_of};
 ghost use Rattle.lexre.specs.SymbolViews.{sign_of, symbol_of};
-ghost use Rattle.lexre.specs.Symbols.{signed};
+ghost use Rattle.lexclass.specs.Symbols.{signed};
 ghost use Rattle.lexre.specs.Views.{tree_of};
-ghost use Rattle.lexre.specs.declared.error.PatternErrorKind.TheVariants.{OutOfMemory};
+ghost use Rattle.lexclass.specs.declared.error.PatternErrorKind.TheVariants.{OutOfMemory};
 
 use crate::counts::capped_nodes;
-use crate::error::{PatternError, PatternErrorKind};
 use crate::frames::{Frame, Stack};
 use crate::pattern::Pattern;
 use crate::symbols::{Sign, Symbol};
+use lexclass::{PatternError, PatternErrorKind};
 use std::alloc::Global;
 use std::mem;
 

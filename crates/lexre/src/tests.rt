@@ -5,12 +5,12 @@ ghost use Rattle.lexmeaning.specs.Shapes.{IsSoundTree};
 ghost use Rattle.lexre.specs.Views.{tree_of};
 
 use crate::braces::interval_at;
-use crate::expressions::class_at;
 use crate::{
     ByteSet, Cutting, Defs, DefsError, Lengths, Pattern, PatternError, PatternErrorKind,
     ReadOptions, cut_pattern, lengths, one_cutting, one_tree, positions, read_pattern,
     readings_use_own_positions,
 };
+use lexclass::class_at;
 use std::alloc::{AllocError, Global};
 use std::test::Fail;
 
@@ -775,7 +775,7 @@ type Long = (
 
 const CLOSED: &[u8] = b"a))))))))))))))))))))))))))))))))))))))))))))))))))))))))))))))))";
 
-const LONG: [Long; 26] = [
+const LONG: [Long; 27] = [
     (b"", b"a", 65535, b"", None),
     (
         b"",
@@ -876,6 +876,13 @@ const LONG: [Long; 26] = [
         1_048_576,
         b"",
         Some((PatternErrorKind::BadInterval, 0)),
+    ),
+    (
+        b"",
+        b"a|",
+        524_288,
+        b"",
+        Some((PatternErrorKind::TooBig, 131_070)),
     ),
     (
         b"",

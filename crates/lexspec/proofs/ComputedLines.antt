@@ -1,7 +1,7 @@
 -- The worked examples of lines, computed.
 use Rattle.std.proofs.Common.{refl}
 use Rattle.lexmeaning.specs.ByteSets.{is_alpha, is_upper, is_lower, is_alnum, is_digit}
-use Rattle.lexre.specs.Lexical.{take_up_to}
+use Rattle.lexclass.specs.Lexical.{take_up_to}
 use Rattle.lexspec.specs.Lines.{words_in, after_block}
 use Rattle.lexspec.specs.DefinitionLines.{definition_at, definition_in, percent_line}
 use Rattle.lexspec.specs.Items.{conditions_at}

@@ -13,3 +13,15 @@ pub mod SectionLaws
 pub mod ActionLaws
 pub mod SubjectLaws
 pub mod ListedLaws
+pub mod CutLaws
+pub mod RulesLaws
+pub mod ItemLaws
+pub mod ProgressLaws
+pub mod PlainLaws
+pub mod EndLaws
+pub mod StepLaws
+pub mod RestLaws
+pub mod AwaitingLaws
+pub mod EndingLaws
+pub mod PassLaws
+pub mod SideLaws

@@ -9,11 +9,11 @@ use Rattle.lexspec.specs.DefinitionLines.{is_all_blank}
 use Rattle.lexspec.specs.Items.{Conditions, Trailing, Subject, at_end, matching, Action, Item, skipped, skipped_line, skipped_block, rule, action_in, outside, action_of, sides, starts_rule, IsPattern, IsSubject, IsItem, newlines, AreItems}
 use Rattle.lexspec.proofs.OneSection.{no_true, two_percents, some_pair}
 
-both_ways : {A : Type 0} (b : Bool) → b ≡ true → b ≡ false → A
+pub both_ways : {A : Type 0} (b : Bool) → b ≡ true → b ≡ false → A
 both_ways b h k = no_true (sym k ∙ h)
 
 -- `^` and `<` are not the same byte
-not_caret : (u : List ℕ) → begins (codes "<<EOF>>") u ≡ true → begins (codes "^") u ≡ false
+pub not_caret : (u : List ℕ) → begins (codes "<<EOF>>") u ≡ true → begins (codes "^") u ≡ false
 not_caret [] h = no_true h
 not_caret (c ∷ u) h = from u c (eqb-true 60 c (first c u h))
   where
@@ -34,7 +34,7 @@ module _ (cut_once : (t : List ℕ) (stop stop' : ℕ) (at at' : Option ℕ) (tw
       let parts = some_pair head head' after after' (sym sides_are ∙ one ∙ sides_are') in
       (parts.0, parts.1, rest_is ∙ ap (λ z. drop z t) same.0 ∙ sym rest_is')
 
-  one_subject : (t : List ℕ) (s s' : Subject) (rest rest' : List ℕ) → IsSubject t s rest → IsSubject t s' rest' → (s ≡ s') × (rest ≡ rest')
+  pub one_subject : (t : List ℕ) (s s' : Subject) (rest rest' : List ℕ) → IsSubject t s rest → IsSubject t s' rest' → (s ≡ s') × (rest ≡ rest')
   one_subject t at_end at_end rest rest' (h, e, b) (k, e', b') = (refl, e ∙ sym e')
   one_subject t at_end (matching true head after) rest rest' (h, e, b) (k, not_end, p) = both_ways (begins (codes "^") t) k (not_caret t h)
   one_subject t at_end (matching false head after) rest rest' (h, e, b) (k, not_end, p) = both_ways (begins (codes "<<EOF>>") t) h not_end
@@ -50,7 +50,7 @@ module _ (cut_once : (t : List ℕ) (stop stop' : ℕ) (at at' : Option ℕ) (tw
       (ap (λ z. matching false z after) same.0 ∙ ap (matching false head') same.1, same.2)
 
 -- what kind of line begins an item
-line_text : (t text rest : List ℕ) → line_at t ≡ Some (text, rest) → ((line_in t).0 ≡ text) × ((line_in t).1 ≡ rest)
+pub line_text : (t text rest : List ℕ) → line_at t ≡ Some (text, rest) → ((line_in t).0 ≡ text) × ((line_in t).1 ≡ rest)
 line_text [] text rest e = absurd (no e)
   where
     no : ◌≡◌ {A = Option (List ℕ × List ℕ)} None (Some (text, rest)) → ⊥
@@ -58,16 +58,16 @@ line_text [] text rest e = absurd (no e)
 line_text (c ∷ t) text rest e = some_pair (line_in (c ∷ t)).0 text (line_in (c ∷ t)).1 rest e
 
 -- the tests of a line that tell which item it begins
-abbrev AllBlank : List ℕ → Bool
+abbrev pub AllBlank : List ℕ → Bool
 AllBlank t = is_all_blank (line_in t).0
 
-abbrev StartsBlank : List ℕ → Bool
+abbrev pub StartsBlank : List ℕ → Bool
 StartsBlank t = list_any is_blank (take 1 (line_in t).0)
 
-abbrev OpensBlock : List ℕ → Bool
+abbrev pub OpensBlock : List ℕ → Bool
 OpensBlock t = begins (codes "%{") (line_in t).0
 
-abbrev Tests : List ℕ → Item → Type 0
+abbrev pub Tests : List ℕ → Item → Type 0
 Tests t skipped = AllBlank t ≡ true
 Tests t skipped_line = (AllBlank t ≡ false) × (StartsBlank t ≡ true)
 Tests t skipped_block = (AllBlank t ≡ false) × (StartsBlank t ≡ false) × (OpensBlock t ≡ true)
@@ -91,10 +91,10 @@ turned : (b : Bool) → not b ≡ true → b ≡ false
 turned false e = refl
 turned true e = no_true e
 
-block_tests : (t : List ℕ) → begins (codes "%{") t ≡ true → Tests t skipped_block
+pub block_tests : (t : List ℕ) → begins (codes "%{") t ≡ true → Tests t skipped_block
 block_tests t h = let p = opens_block t h in subst (λ z. Tests z skipped_block) (sym p.1) (refl, refl, refl)
 
-rule_tests : (t : List ℕ) → starts_rule t ≡ true → (AllBlank t ≡ false) × (StartsBlank t ≡ false) × (begins (codes "%%") (line_in t).0 ≡ false) × (OpensBlock t ≡ false)
+pub rule_tests : (t : List ℕ) → starts_rule t ≡ true → (AllBlank t ≡ false) × (StartsBlank t ≡ false) × (begins (codes "%%") (line_in t).0 ≡ false) × (OpensBlock t ≡ false)
 rule_tests t h =
     let none = turned (AllBlank t || StartsBlank t || begins (codes "%%") (line_in t).0 || OpensBlock t) h in
     let three = or_parts (AllBlank t || StartsBlank t || begins (codes "%%") (line_in t).0) (OpensBlock t) none in
@@ -102,7 +102,7 @@ rule_tests t h =
     let one = or_parts (AllBlank t) (StartsBlank t) two.0 in
     (one.0, one.1, two.1, three.1)
 
-tests_of : (t : List ℕ) (i : Item) (rest : List ℕ) → IsItem t i rest → Tests t i
+pub tests_of : (t : List ℕ) (i : Item) (rest : List ℕ) → IsItem t i rest → Tests t i
 tests_of t skipped rest (text, here, blank) = ap is_all_blank (line_text t text rest here).0 ∙ blank
 tests_of t skipped_line rest (text, here, some, blank) =
     let e = (line_text t text rest here).0 in (ap is_all_blank e ∙ some, ap (λ z. list_any is_blank (take 1 z)) e ∙ blank)
@@ -110,7 +110,7 @@ tests_of t skipped_block rest (opens, after) = block_tests t opens
 tests_of t (rule asked subject action) rest h = let r = rule_tests t h.0 in (r.0, r.1, r.3)
 
 -- at the end, and at a line that begins with `%%`, there is no item
-no_item_at_end : (t : List ℕ) (i : Item) (rest : List ℕ) → (t ≡ []) ⊎ (begins (codes "%%") t ≡ true) → IsItem t i rest → ⊥
+pub no_item_at_end : (t : List ℕ) (i : Item) (rest : List ℕ) → (t ≡ []) ⊎ (begins (codes "%%") t ≡ true) → IsItem t i rest → ⊥
 no_item_at_end t i rest (inl e) h = empty i (subst (λ z. IsItem z i rest) e h)
   where
     empty : (i : Item) → IsItem [] i rest → ⊥
@@ -143,7 +143,7 @@ module _ (cut_once : (t : List ℕ) (stop stop' : ℕ) (at at' : Option ℕ) (tw
       let same : action ≡ action' = act ∙ ap action_of third.0 ∙ sym act' in
       (ap (λ z. rule z subject action) first.0 ∙ ap (λ z. rule asked' z action) second.0 ∙ ap (rule asked' subject') same, third.1)
 
-  one_item : (t : List ℕ) (i i' : Item) (rest rest' : List ℕ) → Tests t i → Tests t i' → IsItem t i rest → IsItem t i' rest' → (i ≡ i') × (rest ≡ rest')
+  pub one_item : (t : List ℕ) (i i' : Item) (rest rest' : List ℕ) → Tests t i → Tests t i' → IsItem t i rest → IsItem t i' rest' → (i ≡ i') × (rest ≡ rest')
   one_item t skipped skipped rest rest' a b (text, here, blank) (text', here', blank') = (refl, (some_pair text text' rest rest' (sym here ∙ here')).1)
   one_item t skipped_line skipped_line rest rest' a b (text, here, some, blank) (text', here', some', blank') = (refl, (some_pair text text' rest rest' (sym here ∙ here')).1)
   one_item t skipped_block skipped_block rest rest' a b (opens, after) (opens', after') = (refl, one_some rest rest' (sym after ∙ after'))

@@ -39,11 +39,11 @@ one_cut head (Some t) (Trail m) (Head n) h k = absurd (h.0 n k)
 one_cut head (Some t) Whole b h k = absurd h
 one_cut head (Some t) a Whole h k = absurd k
 
-some_is : {A : Type 0} (x y : A) → Some x ≡ Some y → x ≡ y
+pub some_is : {A : Type 0} (x y : A) → Some x ≡ Some y → x ≡ y
 some_is x y e = cc
 
 module _ (tree_once : (fold : Bool) (defs : Definitions) (text : List ℕ) (t u : Tree) → Spells fold defs text t → Spells fold defs text u → t ≡ u) where
-  one_trail : (fold : Bool) (defs : Definitions) (after : Trailing) (t u : Option Tree) → IsTrail fold defs after t → IsTrail fold defs after u → t ≡ u
+  pub one_trail : (fold : Bool) (defs : Definitions) (after : Trailing) (t u : Option Tree) → IsTrail fold defs after t → IsTrail fold defs after u → t ≡ u
   one_trail fold defs no_trail t u h k = h ∙ sym k
   one_trail fold defs line_end t u h k = h ∙ sym k
   one_trail fold defs (pattern_after text) None u h k = absurd h
@@ -55,7 +55,7 @@ module _ (tree_once : (fold : Bool) (defs : Definitions) (text : List ℕ) (t u 
   one_action number bar [] ss tt h k = absurd h
   one_action number bar (r ∷ rules) ss tt h k = h ∙ sym k
 
-  one_rule : (names : List (List ℕ)) (fold : Bool) (defs : Definitions) (n : ℕ) (asked : Conditions) (anchored : Bool) (head : List ℕ) (after : Trailing) (action : Action) (is : List (ℕ × Item)) (rules : List Rule) (q r : Rule) →
+  pub one_rule : (names : List (List ℕ)) (fold : Bool) (defs : Definitions) (n : ℕ) (asked : Conditions) (anchored : Bool) (head : List ℕ) (after : Trailing) (action : Action) (is : List (ℕ × Item)) (rules : List Rule) (q r : Rule) →
       IsRule names fold defs n asked anchored head after action is rules q → IsRule names fold defs n asked anchored head after action is rules r → q ≡ r
   one_rule names fold defs n asked anchored head after action is rules q r h k =
       let line : q.line ≡ r.line = h.line_is ∙ sym k.line_is in
@@ -67,7 +67,7 @@ module _ (tree_once : (fold : Bool) (defs : Definitions) (text : List ℕ) (t u 
       let statements : q.statements ≡ r.statements = one_action (number_from 0 names) action rules q.statements r.statements h.statements_are k.statements_are in
       λ i. record { line = line i; conditions = conditions i; anchored = anchor i; head = same_head i; trail = same_trail i; cut = cut i; statements = statements i }
 
-  one_end : (number : List ℕ → Option ℕ) (text : List ℕ) (e f : EndAction) → SpellsEndAction number text e → SpellsEndAction number text f → e ≡ f
+  pub one_end : (number : List ℕ → Option ℕ) (text : List ℕ) (e f : EndAction) → SpellsEndAction number text e → SpellsEndAction number text f → e ≡ f
   one_end number text e f (ss, h, few, is) (tt, k, few', is') =
       let same : ss ≡ tt = one_statements number text ss tt h k in
       some_is e f (sym is ∙ ap end_of same ∙ is')

@@ -1,7 +1,7 @@
 -- What follows from a refusal.
 use Rattle.std.specs.Prelude.{Result, Ok, Err, OnOk, OnErr, IfErr}
-use Rattle.lexre.specs.declared.error.PatternErrorKind.{PatternErrorKind}
-use Rattle.lexre.specs.declared.error.PatternErrorKind.TheVariants as P
+use Rattle.lexclass.specs.declared.error.PatternErrorKind.{PatternErrorKind}
+use Rattle.lexclass.specs.declared.error.PatternErrorKind.TheVariants as P
 use Rattle.lexre.specs.Outcome as O
 use Rattle.lexspec.specs.declared.error.SpecErrorKind.{SpecErrorKind}
 use Rattle.lexspec.specs.declared.error.SpecErrorKind.TheVariants as K

@@ -1,6 +1,6 @@
 -- Runs of bytes: lines, blanks and words.
 use Rattle.std.proofs.Common.{◌≡◌, ℕ, zero, suc, ◌-◌, ◌<◌, ◌≤◌, ◌==◌, Bool, true, false, not, if◌then◌else◌, List, [], ◌∷◌, length, get_or, take, drop, refl, sym, ap, ◌∙◌, arith}
-use Rattle.lexre.specs.Lexical.{take_up_to, take_run}
+use Rattle.lexclass.specs.Lexical.{take_up_to, take_run}
 use Rattle.lexspec.specs.Lines.{line_in, is_blank, blanks, after_blanks, before_blank, words_in, words}
 use Rattle.lexspec.specs.Runs.{split_before}
 

@@ -118,7 +118,7 @@ pub each_bind : {A B : Type 0} (Q : A → Type 0) (P : B → Type 0) (o : Option
 each_bind Q P None f h k = each_none P
 each_bind Q P (Some x) f h k = k x (h x refl)
 
-after_block_ends : (n : ℕ) (t : List ℕ) → Each (after_block n t) (EndsWith t)
+pub after_block_ends : (n : ℕ) (t : List ℕ) → Each (after_block n t) (EndsWith t)
 unfolding after_block
 after_block_ends zero t = each_none (EndsWith t)
 after_block_ends (suc n) [] = each_none (EndsWith [])
@@ -137,7 +137,7 @@ after_comment_ends (c ∷ d ∷ t) =
     each_if (EndsWith (c ∷ d ∷ t)) (c == 42 && d == 47) (Some (line_in t).1) (after_comment (d ∷ t)) (each_some (EndsWith (c ∷ d ∷ t)) (line_in t).1 (longer c (d ∷ t) (line_in t).1 (longer d t (line_in t).1 (after_line t))))
     (λ rest e. longer c (d ∷ t) rest (after_comment_ends (d ∷ t) rest e))
 
-dropped : (n : ℕ) (t : List ℕ) → EndsWith t (drop n t)
+pub dropped : (n : ℕ) (t : List ℕ) → EndsWith t (drop n t)
 dropped zero t = ([], refl)
 dropped (suc n) [] = ([], refl)
 dropped (suc n) (c ∷ t) = longer c t (drop n t) (dropped n t)

@@ -32,7 +32,7 @@ block_step : (n c : ℕ) (t : List ℕ) → after_block (suc n) (c ∷ t) ≡ pa
 unfolding after_block
 block_step n c t = refl
 
-block_same : (m n : ℕ) (t : List ℕ) → length t < m → length t < n → after_block m t ≡ after_block n t
+pub block_same : (m n : ℕ) (t : List ℕ) → length t < m → length t < n → after_block m t ≡ after_block n t
 unfolding after_block
 block_same zero n t h k = absurd (omega arith)
 block_same (suc m) zero t h k = absurd (omega arith)

@@ -3,7 +3,7 @@ use Rattle.std.specs.Prelude.{◌≡◌, ℕ, suc, Bool, true, false, not, ◌&&
 use Rattle.std.specs.List.{list_any}
 use Rattle.lexaction.specs.Reading.{◌>>=◌, Reader, is_word}
 use Rattle.lexmeaning.specs.ByteSets.{is_alpha, is_alnum, is_digit}
-use Rattle.lexre.specs.Lexical.{take_run}
+use Rattle.lexclass.specs.Lexical.{take_run}
 use Rattle.lexspec.specs.Lines.{line_at, is_blank, blanks, after_blanks, is_empty, begins, before_blank, words, after_block, after_comment}
 
 -- A name is a letter or `_`, and then letters, digits, `_` and `-`.

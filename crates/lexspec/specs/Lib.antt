@@ -14,3 +14,12 @@ pub mod Declaring
 pub mod Sections
 pub mod ActionViews
 pub mod SubjectViews
+pub mod RuleReads
+pub mod ItemReads
+pub mod ActionFaults
+pub mod Agreeing
+pub mod PlainViews
+pub mod RulesReads
+pub mod EndOpenings
+pub mod Endings
+pub mod SoundSides

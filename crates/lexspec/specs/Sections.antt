@@ -1,5 +1,11 @@
 -- What the reader of the definitions section answers.
-use Rattle.std.specs.Prelude.{◌≡◌, ℕ, ◌+◌, Bool, true, List, codes}
+use Rattle.std.specs.Prelude.{◌≡◌, ℕ, ◌+◌, Bool, true, List, codes, is_some, if◌then◌else◌}
+use Rattle.std.specs.FinMap.{get}
+use Rattle.lexre.specs.Definitions.{Definitions}
+use Rattle.lexspec.specs.declared.definition.DefinitionFault.{DefinitionFault}
+use Rattle.lexspec.specs.declared.definition.DefinitionFault.TheVariants.{BadLine, Unclosed, Anchored}
+use Rattle.lexspec.specs.declared.error.SpecErrorKind.{SpecErrorKind}
+use Rattle.lexspec.specs.declared.error.SpecErrorKind.TheVariants as K
 use Rattle.lexspec.specs.Lines.{begins}
 use Rattle.lexspec.specs.DefinitionLines.{Definition, definition_at, IsUpTo}
 use Rattle.lexspec.specs.Items.{newlines}
@@ -14,3 +20,9 @@ pub record HasSection (fold : Bool) (text : List ℕ) (s : Section) : Type 0 whe
   pub declares : Declares fold definitions s.declarations
   pub allowed : AreAllowed definitions
   pub line : s.line + newlines s.rest.now ≡ 1 + newlines text
+
+-- how a fault of a line is told, where these names are defined before it
+abbrev pub kind_told : Definitions → DefinitionFault → SpecErrorKind
+kind_told defined BadLine = K.BadDefinitionLine
+kind_told defined Unclosed = K.Unclosed
+kind_told defined (Anchored name) = if is_some (get defined name.now) then K.DuplicateName else K.AnchoredDefinition

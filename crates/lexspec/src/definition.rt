@@ -5,7 +5,7 @@ ghost use Rattle.lexaction.specs.Reading.{is_word};
 ghost use Rattle.lexspec.specs.Lines.{words, is_empty, begins};
 ghost use Rattle.lexspec.specs.DefinitionLines.{Definition as Meant, options, ignored, starts_name, goes_on_name, is_name, are_names, trimmed, ends_anchored, after_run, declaration, number, definition_in, percent_line, definition_at};
 ghost use Rattle.lexspec.specs.DefinitionViews.{definition_of};
-ghost use Rattle.lexre.specs.Lexical.{take_run};
+ghost use Rattle.lexclass.specs.Lexical.{take_run};
 ghost use Rattle.lexmeaning.specs.ByteSets.{is_digit};
 
 use crate::lines::{

@@ -1,10 +1,15 @@
 //! Laws over the definitions.
-ghost use Rattle.std.specs.Prelude.{◌≡◌, ℕ, ◌↔◌, Bool, true, List};
+ghost use Rattle.std.specs.Prelude.{◌≡◌, ◌≤◌, ℕ, ◌↔◌, Bool, true, List, length};
 ghost use Rattle.lexmeaning.specs.Tree.{Tree};
 ghost use Rattle.lexmeaning.specs.Shapes.{IsSoundTree};
-ghost use Rattle.lexmeaning.specs.Spec.{Spec};
+ghost use Rattle.lexmeaning.specs.Spec.{Rule, Spec};
+ghost use Rattle.lexre.specs.Definitions.{Definitions};
+ghost use Rattle.lexspec.specs.DefinitionLines.{Declared, names_of};
+ghost use Rattle.lexspec.specs.Items.{Item};
+ghost use Rattle.lexspec.specs.RuleItems.{EndRule, AreRules};
+ghost use Rattle.lexspec.specs.SoundSides.{HaveSoundSides};
 ghost use Rattle.lexmeaning.specs.Sound.{IsSound};
-ghost use Rattle.lexspec.specs.Files.{SpellsSpec};
+ghost use Rattle.lexspec.specs.Files.{conditions_with, SpellsSpec};
 ghost use Rattle.lexspec.specs.Tests.{is_sound, sound_tree};
 ghost use Rattle.lexspec.specs.LineExamples.{ReturnsDropped, BlanksTrimmed, DollarAnchors, Declares, Defines, NoDefinitions, Block, ConditionLists, Actions};
 
@@ -21,6 +26,14 @@ pub fn tested_specifications()
 /// A file spells at most one specification.
 pub fn one_specification()
     ensures { (fold : Bool) (file : List ℕ) (S T : Spec) → SpellsSpec fold file S → SpellsSpec fold file T → S ≡ T }
+{}
+
+/// The rules that items spell, with the conditions and their ends, pass the test where each rule has sound sides, there
+/// are 1 to 255 conditions, and there are at most 4,096 rules.
+pub fn sound_specifications()
+    ensures { (cs : List Declared) (fold : Bool) (defined : Definitions) (items : List (ℕ × Item)) (rules : List Rule) (ends : List EndRule)
+        → 1 ≤ length cs → length cs ≤ 255 → length rules ≤ 4096 → AreRules (names_of cs) fold defined items rules ends → HaveSoundSides rules
+        → is_sound (record { conditions = conditions_with 0 cs ends; rules = rules }) ≡ true }
 {}
 
 /// Worked examples of lines.

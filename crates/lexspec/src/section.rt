@@ -4,7 +4,7 @@ ghost use Rattle.lexspec.specs.Lines.{begins};
 ghost use Rattle.lexspec.specs.DefinitionLines.{Definition as Meant, definition_at, IsUpTo};
 ghost use Rattle.lexspec.specs.Items.{newlines};
 ghost use Rattle.lexspec.specs.Declaring.{AreAllowed, Declares};
-ghost use Rattle.lexspec.specs.Sections.{HasSection};
+ghost use Rattle.lexspec.specs.Sections.{HasSection, kind_told};
 ghost use Rattle.lexspec.specs.Outcome.{UnlessMemory};
 
 use crate::declarations::Declarations;
@@ -79,7 +79,9 @@ pub(crate) fn read_section(alloc: Global, text: &[u8], fold: bool) -> Result<Sec
 
 impl Declarations {
     /// How a fault of a line is told. A name that is defined already is a `DuplicateName` first.
-    fn kind_of(&self, fault: DefinitionFault<'_>) -> SpecErrorKind {
+    fn kind_of(&self, fault: DefinitionFault<'_>) -> SpecErrorKind
+        ensures { result ≡ kind_told self.now.defs fault.entry }
+    {
         match fault {
             DefinitionFault::BadLine => SpecErrorKind::BadDefinitionLine,
             DefinitionFault::Unclosed => SpecErrorKind::Unclosed,

@@ -1,12 +1,12 @@
 use Rattle.std.proofs.Common.{rules, ◌∙◌, sym, arith}
 use Rattle.std.proofs.lemmas.Result.{err_from_is_err_and}
 use Rattle.std.specs.FinMap.{get}
-use Rattle.lexre.specs.Lexical.{symbol_at}
+use Rattle.lexclass.specs.Lexical.{symbol_at}
 use Rattle.lexre.specs.StackViews.{state_of}
 use Rattle.lexre.specs.SymbolViews.{symbol_of}
-use Rattle.lexre.specs.Symbols.{item}
+use Rattle.lexclass.specs.Symbols.{item}
 use Rattle.lexre.specs.Views.{tree_of}
-use Rattle.lexre.specs.declared.error.PatternErrorKind.TheVariants.{UnbalancedParen}
+use Rattle.lexclass.specs.declared.error.PatternErrorKind.TheVariants.{UnbalancedParen}
 use Rattle.lexre.proofs.FrontLaws.{symbol_takes}
 use Rattle.lexre.proofs.OneTree.{step_limit}
 use Rattle.lexre.proofs.ReaderLaws.{nothing_at, nothing_left, something_left, unless_weaker, retold, agree_step, refused_front, refused_step, refused_end, found_at_end, few_at_end, no_substitute, no_name_step, too_many_named, too_many_plain, counted_plain}

@@ -1,7 +1,7 @@
 use Rattle.std.proofs.Common.{◌≡◌, ◌+◌, ◌*◌, ◌≤◌, length, []}
 use Rattle.std.specs.FinMap.{get}
 use Rattle.lexre.specs.Counting.{state_nodes}
-use Rattle.lexre.specs.Lexical.{symbol_at}
+use Rattle.lexclass.specs.Lexical.{symbol_at}
 use Rattle.lexre.specs.Running.{state, fresh}
 use Rattle.lexre.specs.Soundness.{IsSoundState}
 use Rattle.lexre.specs.StackViews.{state_of}

@@ -1,6 +1,6 @@
 use Rattle.std.proofs.Common.{rules, arith}
 use Rattle.lexre.specs.declared.pattern.Pattern.TheFolds.{the_lemmas}
-use Rattle.lexre.proofs.SetLaws.{sound_single}
+use Rattle.lexclass.proofs.SetLaws.{sound_single}
 use Rattle.lexre.proofs.tests.byte.Goals as goal
 
 pub returns : goal.returns

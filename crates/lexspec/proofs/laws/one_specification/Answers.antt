@@ -1,6 +1,6 @@
 use Rattle.std.proofs.Common.{refl}
 use Rattle.std.specs.FinMap.{get}
-use Rattle.lexre.specs.Lexical.{symbol_at}
+use Rattle.lexclass.specs.Lexical.{symbol_at}
 use Rattle.lexre.proofs.CuttingLaws.{one_cutting}
 use Rattle.lexre.proofs.OneTree.{one_tree}
 use Rattle.lexspec.proofs.OneSpec.{one_specification}

@@ -1,4 +1,4 @@
-use Rattle.std.proofs.Common.{rules, arith, ◌++◌, ◌∷◌, [], ◌+◌, ◌-◌, ◌≡◌, true, false, sym, ap, ◌∙◌, append_assoc}
+use Rattle.std.proofs.Common.{arith, ◌++◌, ◌∷◌, [], ◌+◌, ◌-◌, ◌≡◌, true, false, sym, ap, ◌∙◌, append_assoc}
 use Rattle.lexspec.specs.RuleItems.{numbers_from}
 use Rattle.lexspec.proofs.ListedLaws.{number_here, number_not}
 use Rattle.lexspec.proofs.listed.numbers_where.Goals as goal

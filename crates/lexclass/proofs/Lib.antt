@@ -1,0 +1,13 @@
+pub mod Narrowing
+pub mod RunLaws
+pub mod EscapeLaws
+pub mod BracketLaws
+pub mod ElementLaws
+pub mod ShorterLaws
+pub mod QuoteLaws
+pub mod IntervalLaws
+pub mod ClassLaws
+pub mod SetLaws
+pub mod PassingLaws
+pub mod EndLaws
+pub mod MemberLaws

@@ -1,0 +1,81 @@
+//! The character classes of the POSIX locale, on bytes. (POSIX, Base Definitions, LC_CTYPE.)
+ghost use Rattle.std.specs.Prelude.{◌≡◌, option_map};
+ghost use Rattle.lexmeaning.specs.ByteSets.{named_set, other_case, set_of};
+ghost use Rattle.lexclass.specs.Classes.{test_of};
+
+/// A character class.
+#[derive(Clone, Copy)]
+pub enum Class {
+    Alpha,
+    Digit,
+    Alnum,
+    Upper,
+    Lower,
+    Space,
+    Blank,
+    Cntrl,
+    Graph,
+    Print,
+    Punct,
+    Xdigit,
+}
+
+impl Class {
+    /// The class of this name, where there is one.
+    #[tactic(auto, unfolding(lexmeaning::specs::ByteSets::named_set))]
+    pub fn named(name: &[u8]) -> Option<Class>
+        ensures { named_set name.now ≡ option_map (λ c. set_of (test_of c)) result }
+    {
+        match name {
+            b"alpha" => Some(Class::Alpha),
+            b"digit" => Some(Class::Digit),
+            b"alnum" => Some(Class::Alnum),
+            b"upper" => Some(Class::Upper),
+            b"lower" => Some(Class::Lower),
+            b"space" => Some(Class::Space),
+            b"blank" => Some(Class::Blank),
+            b"cntrl" => Some(Class::Cntrl),
+            b"graph" => Some(Class::Graph),
+            b"print" => Some(Class::Print),
+            b"punct" => Some(Class::Punct),
+            b"xdigit" => Some(Class::Xdigit),
+            _ => None,
+        }
+    }
+
+    /// Whether the byte is in the class.
+    #[tactic(auto, unfolding(lexmeaning::specs::ByteSets::is_upper, lexmeaning::specs::ByteSets::is_lower, lexmeaning::specs::ByteSets::is_alpha, lexmeaning::specs::ByteSets::is_digit, lexmeaning::specs::ByteSets::is_alnum, lexmeaning::specs::ByteSets::is_space, lexmeaning::specs::ByteSets::is_blank, lexmeaning::specs::ByteSets::is_cntrl, lexmeaning::specs::ByteSets::is_graph, lexmeaning::specs::ByteSets::is_print, lexmeaning::specs::ByteSets::is_punct, lexmeaning::specs::ByteSets::is_xdigit))]
+    pub fn contains(self, byte: u8) -> bool
+        ensures { result ≡ test_of self byte }
+    {
+        match self {
+            Class::Alpha => matches!(byte, b'A'..=b'Z' | b'a'..=b'z'),
+            Class::Digit => matches!(byte, b'0'..=b'9'),
+            Class::Alnum => matches!(byte, b'A'..=b'Z' | b'a'..=b'z' | b'0'..=b'9'),
+            Class::Upper => matches!(byte, b'A'..=b'Z'),
+            Class::Lower => matches!(byte, b'a'..=b'z'),
+            Class::Space => matches!(byte, b'\t'..=b'\r' | b' '),
+            Class::Blank => matches!(byte, b'\t' | b' '),
+            Class::Cntrl => matches!(byte, 0..=31 | 127),
+            Class::Graph => matches!(byte, b'!'..=b'~'),
+            Class::Print => matches!(byte, b' '..=b'~'),
+            Class::Punct => {
+                matches!(byte, b'!'..=b'~')
+                    && !matches!(byte, b'A'..=b'Z' | b'a'..=b'z' | b'0'..=b'9')
+            }
+            Class::Xdigit => matches!(byte, b'0'..=b'9' | b'A'..=b'F' | b'a'..=b'f'),
+        }
+    }
+}
+
+/// The letter in the other case, and any other byte itself.
+#[tactic(auto, unfolding(lexmeaning::specs::ByteSets::other_case))]
+pub fn other_case(byte: u8) -> u8
+    ensures { result ≡ other_case byte }
+{
+    match byte {
+        b'A'..=b'Z' => byte + 32,
+        b'a'..=b'z' => byte - 32,
+        _ => byte,
+    }
+}

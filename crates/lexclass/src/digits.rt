@@ -1,0 +1,32 @@
+//! Numbers in digits.
+ghost use Rattle.std.specs.Prelude.{◌≡◌, ◌≤◌, min};
+ghost use Rattle.lexclass.specs.Lexical.{digit_of, value};
+
+/// A number above this is as good as this.
+const CAP: u32 = 65536;
+
+/// The number that the digits write.
+pub fn capped_value(radix: u32, digits: &[u8]) -> u32
+    requires from_one { 1 ≤ radix }
+    requires at_most { radix ≤ 16 }
+    ensures { result ≡ min 65536 (value radix digits.now) }
+{
+    let mut number = 0;
+    for digit in digits {
+        number = (number * radix + digit_of(*digit)).min(CAP);
+    }
+    number
+}
+
+#[tactic(auto, unfolding(lexmeaning::specs::ByteSets::is_digit))]
+fn digit_of(digit: u8) -> u32
+    ensures value { result ≡ digit_of digit }
+    ensures at_most { result ≤ 24 }
+{
+    let low = u32::from(digit % 16);
+    if matches!(digit, b'0'..=b'9') {
+        low
+    } else {
+        low + 9
+    }
+}

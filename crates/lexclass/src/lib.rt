@@ -1,0 +1,27 @@
+//! How bytes are written in patterns: sets of bytes, escapes and classes. (POSIX, lex, Regular Expressions in lex; Base
+//! Definitions, RE Bracket Expression.)
+#![tactic(auto)]
+
+mod brackets;
+mod classes;
+mod digits;
+mod elements;
+mod error;
+mod escapes;
+mod expressions;
+mod parts;
+mod passing;
+mod runs;
+mod sets;
+
+pub use brackets::{class_byte_at, find_stop, named_at, next_stop, skip_unsupported};
+pub use classes::{Class, other_case};
+pub use digits::capped_value;
+pub use elements::element_at;
+pub use error::{Fault, PatternError, PatternErrorKind};
+pub use escapes::escape_at;
+pub use expressions::{class_at, folded};
+pub use parts::Part;
+pub use passing::skip_class;
+pub use runs::{skip_first, skip_word, take_up_to};
+pub use sets::ByteSet;

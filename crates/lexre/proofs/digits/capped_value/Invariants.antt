@@ -1,6 +1,0 @@
-use Rattle.std.proofs.Common.{◌≡◌, min, take}
-use Rattle.lexre.specs.Lexical.{value}
-use Rattle.lexre.proofs.digits.capped_value.Given as goal
-
-abbrev pub invariant-loop-digit : goal.invariant-loop-digit
-invariant-loop-digit l = l.number ≡ min 65536 (value l.radix (take l.digit-index l.digits))

@@ -1,0 +1,75 @@
+-- Sides of fixed length.
+use Rattle.std.proofs.Common.{◌≡◌, ℕ, ◌<◌, ◌≤◌, ◌==◌, ◌&&◌, ◌^◌, Bool, true, length, Option, Some, None, refl, sym, ap, ◌∙◌, inl, inr, arith, rules}
+use Rattle.std.specs.Prelude.{IfSome, IfNone, nat_le}
+use Rattle.std.proofs.lemmas.Bool.{and_from, eq-eqb}
+use Rattle.lexmeaning.specs.Shapes.{Language, LongestIs, HasLengths, IsSoundTree}
+use Rattle.lexmeaning.specs.Tree.{Tree, In}
+use Rattle.lexmeaning.specs.Spec.{Cut, Whole, Head, Trail}
+use Rattle.lexre.specs.Lengths.{least, greatest, PassesLimit}
+use Rattle.lexre.proofs.LengthLaws.{has_lengths}
+use Rattle.lexspec.specs.RuleItems.{HasFixed, IsCutOf}
+use Rattle.lexspec.specs.Tests.{is_number, has_length, cut_fits}
+
+one_least : (L : Language) (m n : ℕ) (g h : Option ℕ) → HasLengths L m g → HasLengths L n h → m ≡ n
+one_least L m n g h a b =
+    let low : n ≤ length a.shortest.0 = b.none_shorter a.shortest.0 a.shortest.1 in
+    let high : m ≤ length b.shortest.0 = a.none_shorter b.shortest.0 b.shortest.1 in
+    omega (arith, a.shortest.2, b.shortest.2)
+
+one_longest : (L : Language) (g h : Option ℕ) → LongestIs L g → LongestIs L h → g ≡ h
+one_longest L None None a b = refl
+one_longest L None (Some n) a b = let more = a n in absurd (let less : length more.0 ≤ n = b.1 more.0 more.1 in omega (arith, more.2))
+one_longest L (Some m) None a b = let more = b m in absurd (let less : length more.0 ≤ m = a.1 more.0 more.1 in omega (arith, more.2))
+one_longest L (Some m) (Some n) a b =
+    let low : length a.0.0 ≤ n = b.1 a.0.0 a.0.1 in
+    let high : length b.0.0 ≤ m = a.1 b.0.0 b.0.1 in
+    let same : m ≡ n = omega (arith, a.0.2, b.0.2) in
+    ap Some same
+
+-- lengths that pass the limit are not fixed
+pub too_long : (t : Tree) → PassesLimit t → (n : ℕ) → HasFixed t n → ⊥
+too_long t (m, g, has, inl big) n (fixed, few) = let same : m ≡ n = one_least (In t) m n g (Some n) has fixed in omega arith
+too_long t (m, None, has, inr big) n (fixed, few) = absurd big
+too_long t (m, Some k, has, inr big) n (fixed, few) = from k n (one_longest (In t) (Some k) (Some n) has.longest fixed.longest) big few
+  where
+    from : (k n : ℕ) → Some k ≡ Some n → 2 ^ 32 ≤ k → n ≤ 65535 → ⊥
+    from k n e big few = let same : k ≡ n = cc in omega arith
+
+-- lengths that differ are not fixed
+pub not_fixed : (t : Tree) (m : ℕ) (g : Option ℕ) → HasLengths (In t) m g → (g ≡ Some m → ⊥) → (n : ℕ) → HasFixed t n → ⊥
+not_fixed t m g has differ n (fixed, few) =
+    let same : m ≡ n = one_least (In t) m n g (Some n) has fixed in
+    differ (one_longest (In t) g (Some n) has.longest fixed.longest ∙ ap Some (sym same))
+
+pub too_many : (t : Tree) (m : ℕ) (g : Option ℕ) → HasLengths (In t) m g → 65535 < m → (n : ℕ) → HasFixed t n → ⊥
+too_many t m g has big n (fixed, few) = let same : m ≡ n = one_least (In t) m n g (Some n) has fixed in omega arith
+
+-- a fixed length passes the test
+fixed_is_tested : (t : Tree) (n : ℕ) → IsSoundTree t → HasFixed t n → (has_length t n && nat_le n 65535) ≡ true
+fixed_is_tested t n sound (fixed, few) =
+    let all = has_lengths t sound in
+    let low : least t ≡ n = one_least (In t) (least t) n (greatest t) (Some n) all fixed in
+    let high : greatest t ≡ Some n = one_longest (In t) (greatest t) (Some n) all.longest fixed.longest in
+    and_from (has_length t n) (nat_le n 65535) (and_from (least t == n) (is_number (greatest t) n) (eq-eqb (least t) n low) (ap (λ g. is_number g n) high ∙ eq-eqb n n refl)) (le_true n 65535 few)
+  where
+    le_true : (a b : ℕ) → a ≤ b → nat_le a b ≡ true
+    le_true a b h = search rules
+
+pub cut_is_tested : (cut : Cut) (head : Tree) (trail : Option Tree) → IsSoundTree head → IfSome trail IsSoundTree → IsCutOf head trail cut → cut_fits cut head trail ≡ true
+cut_is_tested cut head None h k is = ap whole is
+  where
+    whole : Cut → Bool
+    whole c = cut_fits c head None
+cut_is_tested Whole head (Some t) h k is = absurd is
+cut_is_tested (Head m) head (Some t) h k is = fixed_is_tested head m h is
+cut_is_tested (Trail n) head (Some t) h k is = fixed_is_tested t n k is.1
+
+-- where neither side is fixed there is no cut
+pub no_cut : (head after : Tree) → ((n : ℕ) → HasFixed head n → ⊥) → ((n : ℕ) → HasFixed after n → ⊥) → (cut : Cut) → IsCutOf head (Some after) cut → ⊥
+no_cut head after a b Whole h = h
+no_cut head after a b (Head m) h = a m h
+no_cut head after a b (Trail n) h = b n h.1
+
+pub if_none : {A : Type 0} (o : Option A) (F : Type 0) → F → IfNone o F
+if_none None F h = h
+if_none (Some x) F h = tt

@@ -1,0 +1,99 @@
+-- What follows an item of the rules section is the end of its text.
+use Rattle.std.proofs.Common.{◌≡◌, ℕ, zero, suc, ◌+◌, ◌==◌, ◌&&◌, ◌||◌, Bool, true, false, not, if◌then◌else◌, List, [], ◌∷◌, length, drop, Option, Some, None, refl, ap, subst, sym}
+use Rattle.std.specs.Prelude.{codes}
+use Rattle.lexaction.specs.Reading.{is_word}
+use Rattle.lexspec.specs.Lines.{line_in, is_blank, blanks, after_blanks, begins}
+use Rattle.lexspec.specs.Items.{Place, outside, slash, block, star, line, string, escaped, action_in, with_byte, next_place, depth_after, Conditions, unlisted, every, only, parts_at, before_sign, conditions_at, Subject, at_end, matching, IsSubject, Item, skipped, skipped_line, skipped_block, rule, IsItem}
+use Rattle.lexspec.proofs.SectionLaws.{EndsWith, ends_on, after_line, after_block_ends, dropped, Each, each_some, each_none, each_if, each_bind}
+use Rattle.lexspec.proofs.OneItems.{line_text}
+
+abbrev Split : Type 0
+Split = List ℕ × List ℕ
+
+longer : (c : ℕ) (t rest : List ℕ) → EndsWith t rest → EndsWith (c ∷ t) rest
+longer c t rest h = (c ∷ h.0, ap (λ z. c ∷ z) h.1)
+
+pub blanks_end : (t : List ℕ) → EndsWith t (after_blanks t)
+blanks_end [] = ([], refl)
+blanks_end (c ∷ t) = from (is_blank c) (blanks_end t)
+  where
+    from : (b : Bool) → EndsWith t (after_blanks t) → EndsWith (c ∷ t) (if b then (let s : Split = (c ∷ (blanks t).0, (blanks t).1) in s) else ([], c ∷ t)).1
+    from true h = longer c t (after_blanks t) h
+    from false h = ([], refl)
+
+abbrev pub Ends : List ℕ → Option Split → Type 0
+Ends t o = Each o (λ (x : Split). EndsWith t x.1)
+
+byte_ends : (c : ℕ) (t : List ℕ) (o : Option Split) → Ends t o → Ends (c ∷ t) (with_byte c o)
+byte_ends c t None h = each_none (λ (x : Split). EndsWith (c ∷ t) x.1)
+byte_ends c t (Some x) h = each_some (λ (y : Split). EndsWith (c ∷ t) y.1) (c ∷ x.0, x.1) (longer c t x.1 (h x refl))
+
+closed : (t : List ℕ) (front : List ℕ) → Ends t (Some (front, t))
+closed t front = each_some (λ (x : Split). EndsWith t x.1) (front, t) ([], refl)
+
+ended : (c : ℕ) (t : List ℕ) → Ends (c ∷ t) (Some ([], t))
+ended c t = each_some (λ (x : Split). EndsWith (c ∷ t) x.1) ([], t) (c ∷ [], refl)
+
+nothing : (t : List ℕ) → Ends t None
+nothing t = each_none (λ (x : Split). EndsWith t x.1)
+
+either : (t : List ℕ) (b : Bool) (x y : Option Split) → Ends t x → Ends t y → Ends t (if b then x else y)
+either t b x y h k = each_if (λ (z : Split). EndsWith t z.1) b x y h k
+
+pub action_ends : (t : List ℕ) (p : Place) (n : ℕ) → Ends t (action_in p n t)
+action_ends [] outside zero = closed [] []
+action_ends [] slash zero = closed [] []
+action_ends [] line zero = closed [] []
+action_ends [] block zero = nothing []
+action_ends [] star zero = nothing []
+action_ends [] string zero = nothing []
+action_ends [] escaped zero = nothing []
+action_ends [] outside (suc n) = nothing []
+action_ends [] slash (suc n) = nothing []
+action_ends [] line (suc n) = nothing []
+action_ends [] block (suc n) = nothing []
+action_ends [] star (suc n) = nothing []
+action_ends [] string (suc n) = nothing []
+action_ends [] escaped (suc n) = nothing []
+action_ends (c ∷ t) outside zero = either (c ∷ t) (c == 10 && 0 == 0) _ _ (ended c t) (byte_ends c t _ (action_ends t (next_place c) (depth_after 0 c)))
+action_ends (c ∷ t) outside (suc n) = either (c ∷ t) (c == 10 && suc n == 0) _ _ (ended c t) (byte_ends c t _ (action_ends t (next_place c) (depth_after (suc n) c)))
+action_ends (c ∷ t) slash zero = either (c ∷ t) (c == 42) _ _ (byte_ends c t _ (action_ends t block 0)) (either (c ∷ t) (c == 47) _ _ (byte_ends c t _ (action_ends t line 0))
+    (either (c ∷ t) (c == 10 && 0 == 0) _ _ (ended c t) (byte_ends c t _ (action_ends t (next_place c) (depth_after 0 c)))))
+action_ends (c ∷ t) slash (suc n) = either (c ∷ t) (c == 42) _ _ (byte_ends c t _ (action_ends t block (suc n))) (either (c ∷ t) (c == 47) _ _ (byte_ends c t _ (action_ends t line (suc n)))
+    (either (c ∷ t) (c == 10 && suc n == 0) _ _ (ended c t) (byte_ends c t _ (action_ends t (next_place c) (depth_after (suc n) c)))))
+action_ends (c ∷ t) block zero = byte_ends c t _ (action_ends t (if c == 42 then star else block) 0)
+action_ends (c ∷ t) block (suc n) = byte_ends c t _ (action_ends t (if c == 42 then star else block) (suc n))
+action_ends (c ∷ t) star zero = byte_ends c t _ (action_ends t (if c == 47 then outside else if c == 42 then star else block) 0)
+action_ends (c ∷ t) star (suc n) = byte_ends c t _ (action_ends t (if c == 47 then outside else if c == 42 then star else block) (suc n))
+action_ends (c ∷ t) line zero = either (c ∷ t) (c == 10 && 0 == 0) _ _ (ended c t) (byte_ends c t _ (action_ends t (if c == 10 then outside else line) 0))
+action_ends (c ∷ t) line (suc n) = either (c ∷ t) (c == 10 && suc n == 0) _ _ (ended c t) (byte_ends c t _ (action_ends t (if c == 10 then outside else line) (suc n)))
+action_ends (c ∷ t) string zero = either (c ∷ t) (c == 10) _ _ (nothing (c ∷ t)) (byte_ends c t _ (action_ends t (if c == 34 then outside else if c == 92 then escaped else string) 0))
+action_ends (c ∷ t) string (suc n) = either (c ∷ t) (c == 10) _ _ (nothing (c ∷ t)) (byte_ends c t _ (action_ends t (if c == 34 then outside else if c == 92 then escaped else string) (suc n)))
+action_ends (c ∷ t) escaped zero = either (c ∷ t) (c == 10) _ _ (nothing (c ∷ t)) (byte_ends c t _ (action_ends t string 0))
+action_ends (c ∷ t) escaped (suc n) = either (c ∷ t) (c == 10) _ _ (nothing (c ∷ t)) (byte_ends c t _ (action_ends t string (suc n)))
+
+pub conditions_end : (t : List ℕ) → Each (conditions_at t) (λ (x : Conditions × List ℕ). EndsWith t x.1)
+unfolding conditions_at
+conditions_end t =
+    let P : Conditions × List ℕ → Type 0 = λ x. EndsWith t x.1 in
+    each_if P (begins (codes "<<EOF>>") t || not (begins (codes "<") t)) _ _ (each_some P (unlisted, t) ([], refl))
+    (each_bind (λ (x : Split). Unit {0}) P (before_sign 62 (line_in (drop 1 t)).0) _ (λ x e. tt) (λ x h.
+    each_if P (is_word x.0 (codes "*")) _ _ (each_some P (every, drop (length x.0 + 2) t) (dropped (length x.0 + 2) t))
+    (each_some P (only ((parts_at 44 x.0).0 ∷ (parts_at 44 x.0).1), drop (length x.0 + 2) t) (dropped (length x.0 + 2) t))))
+
+by_drop : (t rest : List ℕ) (n : ℕ) → rest ≡ drop n t → EndsWith t rest
+by_drop t rest n e = subst (EndsWith t) (sym e) (dropped n t)
+
+pub subject_ends : (t : List ℕ) (s : Subject) (rest : List ℕ) → IsSubject t s rest → EndsWith t rest
+subject_ends t at_end rest (on, e, b) = by_drop t rest 7 e
+subject_ends t (matching true head after) rest (on, off, (stop, at, special, cut, parts, e)) = ends_on t (drop 1 t) rest (dropped 1 t) (by_drop (drop 1 t) rest stop e)
+subject_ends t (matching false head after) rest (on, off, (stop, at, special, cut, parts, e)) = by_drop t rest stop e
+
+-- an item is the front of the text
+pub item_ends : (t : List ℕ) (i : Item) (rest : List ℕ) → IsItem t i rest → EndsWith t rest
+item_ends t skipped rest (text, here, blank) = subst (EndsWith t) (line_text t text rest here).1 (after_line t)
+item_ends t skipped_line rest (text, here, some, blank) = subst (EndsWith t) (line_text t text rest here).1 (after_line t)
+item_ends t skipped_block rest (opens, after) = ends_on t (line_in t).1 rest (after_line t) (after_block_ends (suc (length t)) (line_in t).1 rest after)
+item_ends t (rule asked subject action) rest (starts, u, v, text, list, cut, ends, is) =
+    ends_on t u rest (conditions_end t (asked, u) list)
+    (ends_on u v rest (subject_ends u subject v cut) (ends_on v (after_blanks v) rest (blanks_end v) (action_ends (after_blanks v) outside 0 (text, rest) ends)))

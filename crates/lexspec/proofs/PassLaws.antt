@@ -1,0 +1,153 @@
+-- What the items of the rules section spell passes the test for soundness.
+use Rattle.std.proofs.Common.{◌≡◌, ℕ, suc, ◌≤◌, Bool, true, false, ◌&&◌, if◌then◌else◌, List, [], ◌∷◌, length, Option, Some, None, IfSome, refl, sym, ap, subst, ◌∙◌, arith, map}
+use Rattle.std.specs.Prelude.{nat_le}
+use Rattle.std.proofs.lemmas.Bool.{and_parts, and_from, le-leb}
+use Rattle.std.proofs.lemmas.List.{length-map}
+use Rattle.lexmeaning.specs.Shapes.{IsSoundTree}
+use Rattle.lexmeaning.specs.Tree.{Tree}
+use Rattle.lexmeaning.specs.Legal.{all_in_range, ends_last, are_joined, are_compatible}
+use Rattle.lexmeaning.specs.Spec.{Rule, Statement, Condition}
+use Rattle.lexre.specs.Definitions.{Definitions}
+use Rattle.lexaction.specs.Names.{number_from}
+use Rattle.lexaction.specs.Actions.{are_few, SpellsAction}
+use Rattle.lexaction.proofs.NormalLemmas.{legal_action, end_status}
+use Rattle.lexspec.specs.DefinitionLines.{Declared, names_of}
+use Rattle.lexspec.specs.Files.{lists_number, unlisted_end, end_in, conditions_with}
+use Rattle.lexspec.specs.Items.{Conditions, Trailing, at_end, matching, Action, bar, spelled, Item, skipped, skipped_line, skipped_block, rule}
+use Rattle.lexspec.specs.RuleItems.{EndRule, IsActionOf, IsRule, AreRules}
+use Rattle.lexspec.specs.Declaring.{declared_of}
+use Rattle.lexspec.specs.ItemReads.{names_in}
+use Rattle.lexspec.specs.declared.declarations.Declarations.{Declarations}
+use Rattle.lexspec.specs.SoundSides.{HasSoundSides, HaveSoundSides}
+use Rattle.lexspec.specs.Tests.{sound_tree, sound_trail, cut_fits, sound_list, legal_action as legal_test, sound_rule, sound_rules, sound_conditions, is_sound}
+use Rattle.lexspec.proofs.CutLaws.{cut_is_tested}
+use Rattle.lexspec.proofs.DeclaringLaws.{names_kept}
+use Rattle.lexspec.proofs.EndingLaws.{numbers_ordered}
+use Rattle.lexspec.proofs.TestLaws.{sound_is_tested}
+
+-- rules
+
+trail_passes : (t : Option Tree) → IfSome t IsSoundTree → sound_trail t ≡ true
+trail_passes None h = refl
+trail_passes (Some t) h = sound_is_tested t h
+
+-- statements that may stand
+abbrev MayAct : ℕ → List Statement → Type 0
+MayAct n ss = (legal_test n ss ≡ true) × (are_few ss ≡ true)
+
+rule_passes : (n : ℕ) (r : Rule) → sound_list n r.conditions ≡ true → HasSoundSides r → cut_fits r.cut r.head r.trail ≡ true → MayAct n r.statements → sound_rule n r ≡ true
+rule_passes n r list sides cut act =
+    let one = and_from (sound_list n r.conditions) (sound_tree r.head) list (sound_is_tested r.head sides.0) in
+    let two = and_from (sound_list n r.conditions && sound_tree r.head) (sound_trail r.trail) one (trail_passes r.trail sides.1) in
+    let three = and_from (sound_list n r.conditions && sound_tree r.head && sound_trail r.trail) (cut_fits r.cut r.head r.trail) two cut in
+    let four = and_from (sound_list n r.conditions && sound_tree r.head && sound_trail r.trail && cut_fits r.cut r.head r.trail) (legal_test n r.statements) three act.0 in
+    and_from (sound_list n r.conditions && sound_tree r.head && sound_trail r.trail && cut_fits r.cut r.head r.trail && legal_test n r.statements) (are_few r.statements) four act.1
+
+rule_acts : (n : ℕ) (r : Rule) → sound_rule n r ≡ true → MayAct n r.statements
+rule_acts n r h =
+    let five = and_parts (sound_list n r.conditions && sound_tree r.head && sound_trail r.trail && cut_fits r.cut r.head r.trail && legal_test n r.statements) (are_few r.statements) h in
+    ((and_parts (sound_list n r.conditions && sound_tree r.head && sound_trail r.trail && cut_fits r.cut r.head r.trail) (legal_test n r.statements) five.0).1, five.1)
+
+spelled_acts : (names : List (List ℕ)) (text : List ℕ) (ss : List Statement) → 1 ≤ length names → SpellsAction (number_from 0 names) text ss → MayAct (length names) ss
+spelled_acts names text ss some h =
+    let n = length names in
+    let legal = legal_action names text ss some h in
+    let few = and_parts (are_few ss && ends_last ss) (are_compatible ss) h.1 in (
+      and_from (all_in_range n ss && ends_last ss && are_joined ss) (are_compatible ss)
+          (and_from (all_in_range n ss && ends_last ss) (are_joined ss) (and_from (all_in_range n ss) (ends_last ss) legal.ranges legal.last) legal.joined) legal.compatible,
+      (and_parts (are_few ss) (ends_last ss) few.0).0,
+    )
+
+action_acts : (names : List (List ℕ)) (action : Action) (rs : List Rule) (ss : List Statement) → 1 ≤ length names → IsActionOf (number_from 0 names) action rs ss → sound_rules (length names) rs ≡ true
+    → MayAct (length names) ss
+action_acts names (spelled text) rs ss some h pass = spelled_acts names text ss some h
+action_acts names bar [] ss some h pass = absurd h
+action_acts names bar (r ∷ rs) ss some h pass =
+    subst (MayAct (length names)) (sym h) (rule_acts (length names) r (and_parts (sound_rule (length names) r) (sound_rules (length names) rs) pass).0)
+
+module _ (names : List (List ℕ)) (fold : Bool) (defined : Definitions) (some : 1 ≤ length names) where
+  item_passes : (n : ℕ) (asked : Conditions) (anchored : Bool) (head : List ℕ) (after : Trailing) (action : Action) (is : List (ℕ × Item)) (rs : List Rule) (r : Rule)
+      → IsRule names fold defined n asked anchored head after action is rs r → HasSoundSides r → sound_rules (length names) rs ≡ true → sound_rule (length names) r ≡ true
+  item_passes n asked anchored head after action is rs r h sides pass =
+      rule_passes (length names) r (numbers_ordered (number_from 0 names) (length names) asked r.conditions h.listed) sides
+      (cut_is_tested r.cut r.head r.trail sides.0 sides.1 h.cut_is) (action_acts names action rs r.statements some h.statements_are pass)
+
+  pub rules_pass : (is : List (ℕ × Item)) (rs : List Rule) (ends : List EndRule) → AreRules names fold defined is rs ends → HaveSoundSides rs → sound_rules (length names) rs ≡ true
+  rules_pass [] rs ends h sides = ap (sound_rules (length names)) h.0
+  rules_pass ((n, skipped) ∷ is) rs ends h sides = rules_pass is rs ends h sides
+  rules_pass ((n, skipped_line) ∷ is) rs ends h sides = rules_pass is rs ends h sides
+  rules_pass ((n, skipped_block) ∷ is) rs ends h sides = rules_pass is rs ends h sides
+  rules_pass ((n, rule asked at_end (spelled text)) ∷ is) rs ends h sides = rules_pass is rs h.2 h.6 sides
+  rules_pass ((n, rule asked at_end bar) ∷ is) rs ends h sides = absurd h
+  rules_pass ((n, rule asked (matching anchored head after) action) ∷ is) rs ends h sides =
+      let both = subst HaveSoundSides h.2 sides in
+      let later = rules_pass is h.1 ends h.4 both.1 in
+      ap (sound_rules (length names)) h.2
+      ∙ and_from (sound_rule (length names) h.0) (sound_rules (length names) h.1) (item_passes n asked anchored head after action is h.1 h.0 h.3 both.0 later) later
+
+  -- the statuses of end actions
+  abbrev pub AreSmall : List EndRule → Type 0
+  AreSmall [] = Unit {0}
+  AreSmall (e ∷ ends) = (e.1.status ≤ 63) × AreSmall ends
+
+  pub ends_small : (is : List (ℕ × Item)) (rs : List Rule) (ends : List EndRule) → AreRules names fold defined is rs ends → AreSmall ends
+  ends_small [] rs ends h = subst AreSmall (sym h.1) tt
+  ends_small ((n, skipped) ∷ is) rs ends h = ends_small is rs ends h
+  ends_small ((n, skipped_line) ∷ is) rs ends h = ends_small is rs ends h
+  ends_small ((n, skipped_block) ∷ is) rs ends h = ends_small is rs ends h
+  ends_small ((n, rule asked at_end (spelled text)) ∷ is) rs ends h =
+      subst AreSmall (sym h.5) (end_status names text h.1 some h.4, ends_small is rs h.2 h.6)
+  ends_small ((n, rule asked at_end bar) ∷ is) rs ends h = absurd h
+  ends_small ((n, rule asked (matching anchored head after) action) ∷ is) rs ends h = ends_small is h.1 ends h.4
+
+  small_unlisted : (ends : List EndRule) → AreSmall ends → (unlisted_end ends).status ≤ 63
+  small_unlisted [] h = omega arith
+  small_unlisted ((None, e) ∷ ends) h = h.0
+  small_unlisted ((Some cs, e) ∷ ends) h = small_unlisted ends h.1
+
+  small_end : (all ends : List EndRule) (c : ℕ) → AreSmall all → AreSmall ends → (end_in all ends c).status ≤ 63
+  small_end all [] c h k = small_unlisted all h
+  small_end all (e ∷ ends) c h k = from (lists_number e.0 c) (small_end all ends c h k.1)
+    where
+      from : (b : Bool) → (end_in all ends c).status ≤ 63 → (if b then e.1 else end_in all ends c).status ≤ 63
+      from true later = k.0
+      from false later = later
+
+  pub conditions_pass : (k : ℕ) (cs : List Declared) (ends : List EndRule) → AreSmall ends → sound_conditions (conditions_with k cs ends) ≡ true
+  conditions_pass k [] ends h = refl
+  conditions_pass k (c ∷ cs) ends h =
+      and_from (nat_le (end_in ends ends k).status 63) (sound_conditions (conditions_with (suc k) cs ends)) (le-leb (end_in ends ends k).status 63 (small_end ends ends k h h))
+      (conditions_pass (suc k) cs ends h)
+
+length_with : (k : ℕ) (cs : List Declared) (ends : List EndRule) → length (conditions_with k cs ends) ≡ length cs
+length_with k [] ends = refl
+length_with k (c ∷ cs) ends = ap suc (length_with (suc k) cs ends)
+
+-- The specification passes: its conditions are few, its rules are few, and their sides are sound.
+pub spec_passes : (cs : List Declared) (fold : Bool) (defined : Definitions) (is : List (ℕ × Item)) (rs : List Rule) (ends : List EndRule) → 1 ≤ length cs → length cs ≤ 255 → length rs ≤ 4096
+    → AreRules (names_of cs) fold defined is rs ends → HaveSoundSides rs → is_sound (record { conditions = conditions_with 0 cs ends; rules = rs }) ≡ true
+spec_passes cs fold defined is rs ends some few few_rules h sides =
+    let conditions = conditions_with 0 cs ends in
+    let named : length (names_of cs) ≡ length cs = length-map cs (λ (c : Declared). c.name) in
+    let count : length conditions ≡ length cs = length_with 0 cs ends in
+    let some_name : 1 ≤ length (names_of cs) = omega arith in
+    let same : length (names_of cs) ≡ length conditions = named ∙ sym count in
+    let small = ends_small (names_of cs) fold defined some_name is rs ends h in
+    let one = and_from (nat_le 1 (length conditions)) (nat_le (length conditions) 255) (le-leb 1 (length conditions) (omega arith)) (le-leb (length conditions) 255 (omega arith)) in
+    let two = and_from (nat_le 1 (length conditions) && nat_le (length conditions) 255) (nat_le (length rs) 4096) one (le-leb (length rs) 4096 few_rules) in
+    let three = and_from (nat_le 1 (length conditions) && nat_le (length conditions) 255 && nat_le (length rs) 4096) (sound_conditions conditions) two
+    (conditions_pass (names_of cs) fold defined some_name 0 cs ends small) in
+    and_from (nat_le 1 (length conditions) && nat_le (length conditions) 255 && nat_le (length rs) 4096 && sound_conditions conditions) (sound_rules (length conditions) rs) three
+    (ap (λ n. sound_rules n rs) (sym same) ∙ rules_pass (names_of cs) fold defined some_name is rs ends h sides)
+
+-- The same of what the code keeps: the declared conditions, with their ends.
+pub kept_passes : (d : Declarations) (fold : Bool) (defined : Definitions) (is : List (ℕ × Item)) (rs : List Rule) (ends : List EndRule) (cs : List Condition) → 1 ≤ length d.conditions.items
+    → length d.conditions.items ≤ 255 → length rs ≤ 4096 → AreRules (names_in d) fold defined is rs ends → HaveSoundSides rs → cs ≡ conditions_with 0 (map declared_of d.conditions.items) ends
+    → is_sound (record { conditions = cs; rules = rs }) ≡ true
+kept_passes d fold defined is rs ends cs some few few_rules h sides are =
+    let kept = map declared_of d.conditions.items in
+    let count : length kept ≡ length d.conditions.items = length-map d.conditions.items declared_of in
+    let some_kept : 1 ≤ length kept = omega arith in
+    let few_kept : length kept ≤ 255 = omega arith in
+    ap (λ z. is_sound (record { conditions = z; rules = rs })) are
+    ∙ spec_passes kept fold defined is rs ends some_kept few_kept few_rules (subst (λ ns. AreRules ns fold defined is rs ends) (sym (names_kept d.conditions.items)) h) sides

@@ -1,0 +1,107 @@
+-- The rules section, from its first line to its last.
+use Rattle.std.proofs.Common.{◌≡◌, ℕ, ◌+◌, ◌-◌, ◌≤◌, ◌==◌, true, List, [], ◌∷◌, map, length, take, inl, refl, sym, ap, subst, ◌∙◌, arith}
+use Rattle.std.specs.Prelude.{codes, ◌⊎◌, Result, Ok, Err, IfOk, IfErr}
+use Rattle.std.proofs.lemmas.List.{append-nil}
+use Rattle.std.proofs.lemmas.List.Sums.{count_by-le-length}
+use Rattle.lexmeaning.specs.Spec as S
+use Rattle.lexspec.specs.Lines.{begins}
+use Rattle.lexspec.specs.Items.{Item, AreItems, newlines}
+use Rattle.lexspec.specs.RuleItems.{EndRule, AreRules}
+use Rattle.lexspec.specs.RuleReads.{Left, may_wait}
+use Rattle.lexspec.specs.RuleViews.{rule_of}
+use Rattle.lexspec.specs.ItemReads.{names_in, end_rule_of, NoneLeft}
+use Rattle.lexspec.specs.Agreeing.{Agrees}
+use Rattle.lexspec.specs.RulesReads.{HasRules, NoSuchRules}
+use Rattle.lexspec.specs.Outcome.{UnlessMemory}
+use Rattle.lexspec.specs.declared.declarations.Declarations.{Declarations}
+use Rattle.lexspec.specs.declared.error.SpecError.{SpecError}
+use Rattle.lexspec.specs.declared.error.SpecErrorKind.{SpecErrorKind}
+use Rattle.lexspec.specs.declared.rule.Rule.{Rule}
+use Rattle.lexspec.specs.declared.rules_section.RulesSection.{RulesSection}
+use Rattle.lexspec.specs.declared.taking.Progress.{Progress}
+use Rattle.lexspec.proofs.OneSection.{no_true}
+use Rattle.lexspec.proofs.OneItems.{no_item_at_end}
+use Rattle.lexspec.proofs.OutcomeLaws.{unless_memory, always}
+use Rattle.lexspec.proofs.RulesLaws.{agree_first}
+
+-- where the section ends
+abbrev pub IsOver : List ℕ → Type 0
+IsOver t = (t ≡ []) ⊎ (begins (codes "%%") t ≡ true)
+
+pub over_empty : (t : List ℕ) → length t ≡ 0 → IsOver t
+over_empty [] h = inl refl
+over_empty (c ∷ t) h = absurd (omega arith)
+
+no_elements : {A : Type 0} (xs : List A) → length xs ≡ 0 → xs ≡ []
+no_elements [] h = refl
+no_elements (x ∷ xs) h = absurd (omega arith)
+
+module _ (d : Declarations) where
+  pub agrees_first : (s : Progress) (n : ℕ) (t : List ℕ) → s.rules.items ≡ [] → s.waiting.items ≡ [] → s.ends.items ≡ [] → Agrees d n t s n t
+  agrees_first s n t e f g =
+      let a = agree_first (names_in d) d.fold d.defs n t in
+      record {
+        back = (λ R E left. rw (e, g) (a.back R E (rw f at left)));
+        on = (λ R E left. rw (e, f, g) (a.on R E left));
+      }
+
+  left_of : (n : ℕ) (t : List ℕ) (items : List (ℕ × Item)) (R : List S.Rule) (E : List EndRule) → AreItems n t items → AreRules (names_in d) d.fold d.defs items R E
+      → Left (names_in d) d.fold d.defs n t [] R E
+  left_of n t items R E here are = record { items = items; here = here; later = R; are = are; next = refl; whole = refl }
+
+  -- what is not spelled from a place on is not spelled from the first line on
+  pub section_refused : (start n : ℕ) (whole t : List ℕ) (s : Progress) (e : SpecErrorKind) → Agrees d start whole s n t → UnlessMemory e (NoneLeft d s n t) → UnlessMemory e (NoSuchRules d start whole)
+  section_refused start n whole t s e a h = unless_memory e (NoneLeft d s n t) (NoSuchRules d start whole) (λ none items R E here are.
+      let (T, F, p, q, left) = a.on R E (left_of start whole items R E here are) in none T F left) h
+
+  -- no rule waits at the end
+  pub end_waits : (n : ℕ) (t : List ℕ) (s : Progress) (e : SpecErrorKind) → IsOver t → (length s.waiting.items ≡ 0 → ⊥) → UnlessMemory e (NoneLeft d s n t)
+  end_waits n t s e over some = always e (NoneLeft d s n t) (λ R E left. from s.waiting.items some left.items left.here left.next)
+    where
+      from : (ws : List Rule) → (length ws ≡ 0 → ⊥) → (is : List (ℕ × Item)) → AreItems n t is → may_wait (map rule_of ws) is ≡ true → ⊥
+      from [] h is here next = h refl
+      from (w ∷ ws) h [] here next = no_true next
+      from (w ∷ ws) h (i ∷ is) (rest, first, item, more) next = no_item_at_end t i.1 rest over item
+
+  pub all_read : (start n : ℕ) (whole t : List ℕ) (s : Progress) (x : RulesSection) → Agrees d start whole s n t → IsOver t → length s.waiting.items ≡ 0
+      → x.rules.items ≡ s.rules.items → x.ends.items ≡ s.ends.items → x.rest.now ≡ t → HasRules d start whole x
+  all_read start n whole t s x a over none rules ends rest =
+      let nobody : s.waiting.items ≡ [] = no_elements s.waiting.items none in
+      let last : Left (names_in d) d.fold d.defs n t (map rule_of s.waiting.items) [] [] = rw nobody (left_of n t [] [] [] over (refl, refl)) in
+      let all = a.back [] [] last in
+      let R : all.later ≡ map rule_of s.rules.items = sym all.whole ∙ append-nil (map rule_of s.rules.items) in
+      record {
+        items = all.items;
+        here = all.here;
+        are = rw (rules, ends) (subst (λ z. AreRules (names_in d) d.fold d.defs all.items z (map end_rule_of s.ends.items)) R
+            (subst (λ z. AreRules (names_in d) d.fold d.defs all.items all.later z) (append-nil (map end_rule_of s.ends.items)) all.are));
+        stops = subst IsOver (sym rest) over;
+      }
+
+  -- one item more
+  pub item_read : (s s' : Progress) (start line more : ℕ) (whole t rest : List ℕ)
+      → ((start : ℕ) (whole : List ℕ) → Agrees d start whole s line t → Agrees d start whole s' (line + (newlines t - newlines rest)) rest)
+      → newlines (take (length t - length rest) t) + newlines rest ≡ newlines t → more ≡ newlines (take (length t - length rest) t) → Agrees d start whole s line t
+      → Agrees d start whole s' (line + more) rest
+  item_read s s' start line more whole t rest on counts e a =
+      let same : newlines t - newlines rest ≡ more = omega (arith, counts, e) in
+      subst (λ z. Agrees d start whole s' (line + z) rest) same (on start whole a)
+
+  pub ended_found : (r : Result RulesSection SpecError) (start n : ℕ) (whole t : List ℕ) (s : Progress) → Agrees d start whole s n t → IsOver t → IfOk r (λ x. length s.waiting.items ≡ 0)
+      → IfOk r (λ x. x.rules.items ≡ s.rules.items) → IfOk r (λ x. x.ends.items ≡ s.ends.items) → IfOk r (λ x. x.rest.now ≡ t) → IfOk r (λ x. HasRules d start whole x)
+  ended_found (Err e) start n whole t s a over none rules ends rest = tt
+  ended_found (Ok x) start n whole t s a over none rules ends rest = all_read start n whole t s x a over none rules ends rest
+
+  pub ended_none : (r : Result RulesSection SpecError) (start n : ℕ) (whole t : List ℕ) (s : Progress) → Agrees d start whole s n t → IsOver t → IfErr r (λ e. length s.waiting.items ≡ 0 → ⊥)
+      → IfErr r (λ e. UnlessMemory e.kind (NoSuchRules d start whole))
+  ended_none (Ok x) start n whole t s a over some = tt
+  ended_none (Err e) start n whole t s a over some = section_refused start n whole t s e.kind a (end_waits n t s e.kind over some)
+
+pub ended_line : (r : Result RulesSection SpecError) (line all : ℕ) (t : List ℕ) → IfOk r (λ x. x.line ≡ line) → IfOk r (λ x. x.rest.now ≡ t) → line + newlines t ≡ all
+    → IfOk r (λ x. x.line + newlines x.rest.now ≡ all)
+ended_line (Err e) line all t here rest h = tt
+ended_line (Ok x) line all t here rest h = ap (λ z. z + newlines x.rest.now) here ∙ ap (λ z. line + newlines z) rest ∙ h
+
+-- there are no more newlines than bytes
+pub newlines_few : (t : List ℕ) → newlines t ≤ length t
+newlines_few t = count_by-le-length (λ c. c == 10) t

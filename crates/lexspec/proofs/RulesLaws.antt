@@ -1,0 +1,427 @@
+-- The rules section, item by item.
+use Rattle.std.proofs.Common.{◌≡◌, ℕ, ◌+◌, ◌-◌, Bool, true, false, List, [], ◌∷◌, ◌++◌, map, length, inl, inr, Option, Some, None, refl, sym, ap, subst, ◌∙◌, append_assoc}
+use Rattle.std.specs.FinMap.{get}
+use Rattle.std.proofs.lemmas.List.{map-append}
+use Rattle.lexmeaning.specs.Tree.{Tree}
+use Rattle.lexmeaning.specs.Spec.{Statement, EndAction, Cut, Rule}
+use Rattle.lexre.specs.Definitions.{Definitions}
+use Rattle.lexclass.specs.Lexical.{symbol_at}
+use Rattle.lexre.specs.Spelling.{Spells}
+use Rattle.lexre.specs.Cutting.{IsCutting}
+use Rattle.lexre.proofs.CuttingLaws.{one_cutting}
+use Rattle.lexre.proofs.OneTree.{one_tree}
+use Rattle.lexaction.specs.Names.{number_from}
+use Rattle.lexaction.specs.Actions.{SpellsAction, SpellsEndAction}
+use Rattle.lexspec.specs.Lines.{after_blanks}
+use Rattle.lexspec.specs.Items.{Conditions, Trailing, Subject, at_end, matching, Action, bar, spelled, Item, skipped, skipped_line, skipped_block, rule, conditions_at, IsSubject, action_in, outside, action_of, starts_rule, IsItem, newlines, AreItems}
+use Rattle.lexspec.specs.RuleItems.{numbers_of, IsTrail, IsCutOf, EndRule, IsActionOf, goes_to_rule, IsRule, AreRules}
+use Rattle.lexspec.specs.RuleReads.{HasHead, acting, first_statements, filled, may_wait, Left}
+use Rattle.lexspec.proofs.OneSection.{no_true, two_percents, some_pair}
+use Rattle.lexspec.proofs.OneItems.{both_ways, AllBlank, StartsBlank, OpensBlock, tests_of, rule_tests, no_item_at_end, one_item, one_subject}
+use Rattle.lexspec.proofs.OneSpec.{one_rule, one_end, some_is}
+
+pub tree_once : (fold : Bool) (defs : Definitions) (text : List ℕ) (t u : Tree) → Spells fold defs text t → Spells fold defs text u → t ≡ u
+unfolding symbol_at
+tree_once fold defs text t u h k = one_tree (symbol_at fold) (get defs) refl 64 text t u h.0 k.0
+
+cut_once : (t : List ℕ) (stop stop' : ℕ) (at at' : Option ℕ) (two two' special special' : Bool) → IsCutting t stop at two special → IsCutting t stop' at' two' special' →
+    (stop ≡ stop') × (at ≡ at') × (special ≡ special')
+cut_once t stop stop' at at' two two' special special' h k = let same = one_cutting t stop stop' at at' two two' special special' h k in (same.0, same.1, same.3)
+
+-- what the items of a text are, where its first item is known
+pub record Behind (n : ℕ) (t : List ℕ) (i : Item) (rest : List ℕ) (items : List (ℕ × Item)) : Type 0 where
+  pub others : List (ℕ × Item)
+  pub all : items ≡ (n, i) ∷ others
+  pub here : AreItems (n + (newlines t - newlines rest)) rest others
+
+pub behind : (n : ℕ) (t : List ℕ) (i : Item) (rest : List ℕ) (items : List (ℕ × Item)) → IsItem t i rest → AreItems n t items → Behind n t i rest items
+behind n t i rest [] item are = absurd (no_item_at_end t i rest are item)
+behind n t i rest (j ∷ js) item (rest', line, item', more) =
+    let same = one_item cut_once t i j.1 rest rest' (tests_of t i rest item) (tests_of t j.1 rest' item') item item' in
+    let first : ◌≡◌ {A = ℕ × Item} (j.0, j.1) (n, i) = ap (λ z. (z, j.1)) line ∙ ap (λ z. (n, z)) (sym same.0) in
+    record {
+      others = js;
+      all = ap (λ z. z ∷ js) first;
+      here = subst (λ z. AreItems (n + (newlines t - newlines z)) z js) (sym same.1) more;
+    }
+
+module _ (names : List (List ℕ)) (fold : Bool) (defined : Definitions) where
+  -- lines that are skipped
+  abbrev pub is_plain : Item → Bool
+  is_plain skipped = true
+  is_plain skipped_line = true
+  is_plain skipped_block = true
+  is_plain (rule asked subject action) = false
+
+  wait_plain : (w : List Rule) (n : ℕ) (i : Item) (is : List (ℕ × Item)) → is_plain i ≡ true → may_wait w ((n, i) ∷ is) ≡ may_wait w is
+  wait_plain [] n i is h = refl
+  wait_plain (r ∷ w) n skipped is h = refl
+  wait_plain (r ∷ w) n skipped_line is h = refl
+  wait_plain (r ∷ w) n skipped_block is h = refl
+  wait_plain (r ∷ w) n (rule asked subject action) is h = no_true h
+
+  rules_plain : (n : ℕ) (i : Item) (is : List (ℕ × Item)) (rs : List Rule) (es : List EndRule) → is_plain i ≡ true → AreRules names fold defined ((n, i) ∷ is) rs es → AreRules names fold defined is rs es
+  rules_plain n skipped is rs es h are = are
+  rules_plain n skipped_line is rs es h are = are
+  rules_plain n skipped_block is rs es h are = are
+  rules_plain n (rule asked subject action) is rs es h are = no_true h
+
+  plain_rules : (n : ℕ) (i : Item) (is : List (ℕ × Item)) (rs : List Rule) (es : List EndRule) → is_plain i ≡ true → AreRules names fold defined is rs es → AreRules names fold defined ((n, i) ∷ is) rs es
+  plain_rules n skipped is rs es h are = are
+  plain_rules n skipped_line is rs es h are = are
+  plain_rules n skipped_block is rs es h are = are
+  plain_rules n (rule asked subject action) is rs es h are = no_true h
+
+  pub plain_on : (n : ℕ) (t : List ℕ) (i : Item) (rest : List ℕ) (w R : List Rule) (E : List EndRule) → is_plain i ≡ true → IsItem t i rest
+      → Left names fold defined n t w R E → Left names fold defined (n + (newlines t - newlines rest)) rest w R E
+  plain_on n t i rest w R E plain item left =
+      let b = behind n t i rest left.items item left.here in
+      record {
+        items = b.others;
+        here = b.here;
+        later = left.later;
+        are = rules_plain n i b.others left.later E plain (subst (λ z. AreRules names fold defined z left.later E) b.all left.are);
+        next = sym (wait_plain w n i b.others plain) ∙ ap (may_wait w) (sym b.all) ∙ left.next;
+        whole = left.whole;
+      }
+
+  pub plain_back : (n : ℕ) (t : List ℕ) (i : Item) (rest : List ℕ) (w R : List Rule) (E : List EndRule) → is_plain i ≡ true → IsItem t i rest
+      → Left names fold defined (n + (newlines t - newlines rest)) rest w R E → Left names fold defined n t w R E
+  plain_back n t i rest w R E plain item left = record {
+    items = (n, i) ∷ left.items;
+    here = (rest, refl, item, left.here);
+    later = left.later;
+    are = plain_rules n i left.items left.later E plain left.are;
+    next = wait_plain w n i left.items plain ∙ left.next;
+    whole = left.whole;
+  }
+
+  -- an `<<EOF>>` rule, for which no rule waits
+  pub end_on : (n : ℕ) (t : List ℕ) (asked : Conditions) (text rest : List ℕ) (numbers : Option (List ℕ)) (e : EndAction) (R : List Rule) (E : List EndRule)
+      → IsItem t (rule asked at_end (spelled text)) rest → numbers_of (number_from 0 names) (length names) asked ≡ Some numbers → SpellsEndAction (number_from 0 names) text e
+      → Left names fold defined n t [] R E
+      → (F : List EndRule) × (E ≡ (numbers, e) ∷ F) × Left names fold defined (n + (newlines t - newlines rest)) rest [] R F
+  end_on n t asked text rest numbers e R E item listed acts left =
+      let b = behind n t (rule asked at_end (spelled text)) rest left.items item left.here in
+      let (numbers', e', others, listed', acts', all, more) = subst (λ z. AreRules names fold defined z left.later E) b.all left.are in
+      let same : numbers' ≡ numbers = some_is numbers' numbers (sym listed' ∙ listed) in
+      let act : e' ≡ e = one_end tree_once (number_from 0 names) text e' e acts' acts in (
+        others,
+        all ∙ ap (λ z. (z, e') ∷ others) same ∙ ap (λ z. (numbers, z) ∷ others) act,
+        record { items = b.others; here = b.here; later = left.later; are = more; next = refl; whole = left.whole },
+      )
+
+  pub end_back : (n : ℕ) (t : List ℕ) (asked : Conditions) (text rest : List ℕ) (numbers : Option (List ℕ)) (e : EndAction) (R : List Rule) (E : List EndRule)
+      → IsItem t (rule asked at_end (spelled text)) rest → numbers_of (number_from 0 names) (length names) asked ≡ Some numbers → SpellsEndAction (number_from 0 names) text e
+      → Left names fold defined (n + (newlines t - newlines rest)) rest [] R E → Left names fold defined n t [] R ((numbers, e) ∷ E)
+  end_back n t asked text rest numbers e R E item listed acts left = record {
+    items = (n, rule asked at_end (spelled text)) ∷ left.items;
+    here = (rest, refl, item, left.here);
+    later = left.later;
+    are = (numbers, e, E, listed, acts, refl, left.are);
+    next = refl;
+    whole = left.whole;
+  }
+
+  -- a rule with an action of its own, which the rules that wait take
+
+  head_rule : (n : ℕ) (asked : Conditions) (anchored : Bool) (head : List ℕ) (after : Trailing) (text : List ℕ) (is : List (ℕ × Item)) (rs : List Rule) (r : Rule) (ss : List Statement)
+      → HasHead names fold defined n asked anchored head after r → SpellsAction (number_from 0 names) text ss
+      → IsRule names fold defined n asked anchored head after (spelled text) is rs (acting ss r)
+  head_rule n asked anchored head after text is rs r ss h acts = record {
+    line_is = h.line_is;
+    listed = h.listed;
+    anchor = h.anchor;
+    head_is = h.head_is;
+    trail_is = h.trail_is;
+    cut_is = h.cut_is;
+    next = refl;
+    statements_are = acts;
+  }
+
+  pub rule_on : (n : ℕ) (t : List ℕ) (asked : Conditions) (anchored : Bool) (head : List ℕ) (after : Trailing) (text rest : List ℕ) (r : Rule) (ss : List Statement) (w R : List Rule) (E : List EndRule)
+      → IsItem t (rule asked (matching anchored head after) (spelled text)) rest → HasHead names fold defined n asked anchored head after r → SpellsAction (number_from 0 names) text ss
+      → Left names fold defined n t w R E
+      → (S : List Rule) × (R ≡ (map (acting ss) w ++ acting ss r ∷ []) ++ S) × Left names fold defined (n + (newlines t - newlines rest)) rest [] S E
+  rule_on n t asked anchored head after text rest r ss w R E item h acts left =
+      let b = behind n t (rule asked (matching anchored head after) (spelled text)) rest left.items item left.here in
+      let (q, others, all, one, more) = subst (λ z. AreRules names fold defined z left.later E) b.all left.are in
+      let same : q ≡ acting ss r = one_rule tree_once names fold defined n asked anchored head after (spelled text) b.others others q (acting ss r) one
+      (head_rule n asked anchored head after text b.others others r ss h acts) in
+      let later : left.later ≡ acting ss r ∷ others = all ∙ ap (λ z. z ∷ others) same in (
+        others,
+        left.whole ∙ ap (filled w) later ∙ sym (append_assoc (map (acting ss) w) (acting ss r ∷ []) others),
+        record { items = b.others; here = b.here; later = others; are = more; next = refl; whole = refl },
+      )
+
+  wait_rule : (w : List Rule) (n : ℕ) (asked : Conditions) (anchored : Bool) (head : List ℕ) (after : Trailing) (action : Action) (is : List (ℕ × Item))
+      → may_wait w ((n, rule asked (matching anchored head after) action) ∷ is) ≡ true
+  wait_rule [] n asked anchored head after action is = refl
+  wait_rule (r ∷ w) n asked anchored head after action is = refl
+
+  pub rule_back : (n : ℕ) (t : List ℕ) (asked : Conditions) (anchored : Bool) (head : List ℕ) (after : Trailing) (text rest : List ℕ) (r : Rule) (ss : List Statement) (w S : List Rule) (E : List EndRule)
+      → IsItem t (rule asked (matching anchored head after) (spelled text)) rest → HasHead names fold defined n asked anchored head after r → SpellsAction (number_from 0 names) text ss
+      → Left names fold defined (n + (newlines t - newlines rest)) rest [] S E → Left names fold defined n t w ((map (acting ss) w ++ acting ss r ∷ []) ++ S) E
+  rule_back n t asked anchored head after text rest r ss w S E item h acts left = record {
+    items = (n, rule asked (matching anchored head after) (spelled text)) ∷ left.items;
+    here = (rest, refl, item, left.here);
+    later = acting ss r ∷ left.later;
+    are = (acting ss r, left.later, refl, head_rule n asked anchored head after text left.items left.later r ss h acts, left.are);
+    next = wait_rule w n asked anchored head after (spelled text) left.items;
+    whole = append_assoc (map (acting ss) w) (acting ss r ∷ []) S ∙ ap (λ z. map (acting ss) w ++ acting ss r ∷ z) left.whole;
+  }
+
+  -- a rule that waits for the action of the next one
+
+  takes_first : (rs : List Rule) (ss : List Statement) → IsActionOf (number_from 0 names) bar rs ss → ss ≡ first_statements rs
+  takes_first [] ss h = absurd h
+  takes_first (r ∷ rs) ss h = h
+
+  has_first : (rs : List Rule) (ss : List Statement) → IsActionOf (number_from 0 names) bar rs ss → IsActionOf (number_from 0 names) bar rs (first_statements rs)
+  has_first [] ss h = absurd h
+  has_first (r ∷ rs) ss h = refl
+
+  bar_rule : (n : ℕ) (asked : Conditions) (anchored : Bool) (head : List ℕ) (after : Trailing) (is : List (ℕ × Item)) (rs : List Rule) (r : Rule)
+      → HasHead names fold defined n asked anchored head after r → goes_to_rule bar is ≡ true → IsActionOf (number_from 0 names) bar rs (first_statements rs)
+      → IsRule names fold defined n asked anchored head after bar is rs (acting (first_statements rs) r)
+  bar_rule n asked anchored head after is rs r h next takes = record {
+    line_is = h.line_is;
+    listed = h.listed;
+    anchor = h.anchor;
+    head_is = h.head_is;
+    trail_is = h.trail_is;
+    cut_is = h.cut_is;
+    next = next;
+    statements_are = takes;
+  }
+
+  wait_more : (w : List Rule) (r : Rule) (is : List (ℕ × Item)) → may_wait (w ++ r ∷ []) is ≡ goes_to_rule bar is
+  wait_more [] r is = refl
+  wait_more (q ∷ w) r is = refl
+
+  fill_more : (ss : List Statement) (w : List Rule) (r : Rule) (rs : List Rule) → map (acting ss) w ++ acting ss r ∷ rs ≡ map (acting ss) (w ++ r ∷ []) ++ rs
+  fill_more ss w r rs = sym (append_assoc (map (acting ss) w) (acting ss r ∷ []) rs) ∙ ap (λ z. z ++ rs) (sym (map-append (acting ss) w (r ∷ [])))
+
+  pub bar_on : (n : ℕ) (t : List ℕ) (asked : Conditions) (anchored : Bool) (head : List ℕ) (after : Trailing) (rest : List ℕ) (r : Rule) (w R : List Rule) (E : List EndRule)
+      → IsItem t (rule asked (matching anchored head after) bar) rest → HasHead names fold defined n asked anchored head after r
+      → Left names fold defined n t w R E → Left names fold defined (n + (newlines t - newlines rest)) rest (w ++ r ∷ []) R E
+  bar_on n t asked anchored head after rest r w R E item h left =
+      let b = behind n t (rule asked (matching anchored head after) bar) rest left.items item left.here in
+      let (q, others, all, one, more) = subst (λ z. AreRules names fold defined z left.later E) b.all left.are in
+      let f = first_statements others in
+      let same : q ≡ acting f r = one_rule tree_once names fold defined n asked anchored head after bar b.others others q (acting f r) one
+      (bar_rule n asked anchored head after b.others others r h one.next (has_first others q.statements one.statements_are)) in
+      let later : left.later ≡ acting f r ∷ others = all ∙ ap (λ z. z ∷ others) same in
+      record {
+        items = b.others;
+        here = b.here;
+        later = others;
+        are = more;
+        next = wait_more w r b.others ∙ one.next;
+        whole = left.whole ∙ ap (filled w) later ∙ fill_more f w r others;
+      }
+
+  goes_first : (is : List (ℕ × Item)) (rs : List Rule) (es : List EndRule) → goes_to_rule bar is ≡ true → AreRules names fold defined is rs es
+      → IsActionOf (number_from 0 names) bar rs (first_statements rs)
+  goes_first [] rs es h are = no_true h
+  goes_first ((n, rule asked at_end action) ∷ is) rs es h are = no_true h
+  goes_first ((n, rule asked (matching anchored head after) bar) ∷ is) rs es h (r, others, all, one, more) = subst (λ z. IsActionOf (number_from 0 names) bar z (first_statements z)) (sym all) refl
+  goes_first ((n, rule asked (matching anchored head after) (spelled text)) ∷ is) rs es h (r, others, all, one, more) =
+      subst (λ z. IsActionOf (number_from 0 names) bar z (first_statements z)) (sym all) refl
+  goes_first ((n, skipped) ∷ is) rs es h are = goes_first is rs es h are
+  goes_first ((n, skipped_line) ∷ is) rs es h are = goes_first is rs es h are
+  goes_first ((n, skipped_block) ∷ is) rs es h are = goes_first is rs es h are
+
+  pub bar_back : (n : ℕ) (t : List ℕ) (asked : Conditions) (anchored : Bool) (head : List ℕ) (after : Trailing) (rest : List ℕ) (r : Rule) (w R : List Rule) (E : List EndRule)
+      → IsItem t (rule asked (matching anchored head after) bar) rest → HasHead names fold defined n asked anchored head after r
+      → Left names fold defined (n + (newlines t - newlines rest)) rest (w ++ r ∷ []) R E → Left names fold defined n t w R E
+  bar_back n t asked anchored head after rest r w R E item h left =
+      let goes : goes_to_rule bar left.items ≡ true = sym (wait_more w r left.items) ∙ left.next in
+      let f = first_statements left.later in
+      record {
+        items = (n, rule asked (matching anchored head after) bar) ∷ left.items;
+        here = (rest, refl, item, left.here);
+        later = acting f r ∷ left.later;
+        are = (acting f r, left.later, refl, bar_rule n asked anchored head after left.items left.later r h goes (goes_first left.items left.later E goes left.are), left.are);
+        next = wait_rule w n asked anchored head after bar left.items;
+        whole = left.whole ∙ sym (fill_more f w r left.later);
+      }
+
+  -- What is read so far, and what is left.
+  pub record Agree (start : ℕ) (whole_text : List ℕ) (done : List Rule) (ends : List EndRule) (w : List Rule) (n : ℕ) (t : List ℕ) : Type 0 where
+    pub back : (R : List Rule) (E : List EndRule) → Left names fold defined n t w R E → Left names fold defined start whole_text [] (done ++ R) (ends ++ E)
+    pub on : (R : List Rule) (E : List EndRule) → Left names fold defined start whole_text [] R E
+        → (S : List Rule) × (F : List EndRule) × (R ≡ done ++ S) × (E ≡ ends ++ F) × Left names fold defined n t w S F
+
+  pub agree_first : (n : ℕ) (t : List ℕ) → Agree n t [] [] [] n t
+  agree_first n t = record { back = (λ R E left. left); on = (λ R E left. (R, E, refl, refl, left)) }
+
+  pub agree_plain : (start : ℕ) (whole_text : List ℕ) (done : List Rule) (ends : List EndRule) (w : List Rule) (n : ℕ) (t : List ℕ) (i : Item) (rest : List ℕ) → is_plain i ≡ true → IsItem t i rest
+      → Agree start whole_text done ends w n t → Agree start whole_text done ends w (n + (newlines t - newlines rest)) rest
+  agree_plain start whole_text done ends w n t i rest plain item a = record {
+    back = (λ R E left. a.back R E (plain_back n t i rest w R E plain item left));
+    on = (λ R E left. let (S, F, e, f, more) = a.on R E left in (S, F, e, f, plain_on n t i rest w S F plain item more));
+  }
+
+  pub agree_end : (start : ℕ) (whole_text : List ℕ) (done : List Rule) (ends : List EndRule) (n : ℕ) (t : List ℕ) (asked : Conditions) (text rest : List ℕ) (numbers : Option (List ℕ)) (e : EndAction)
+      → IsItem t (rule asked at_end (spelled text)) rest → numbers_of (number_from 0 names) (length names) asked ≡ Some numbers → SpellsEndAction (number_from 0 names) text e
+      → Agree start whole_text done ends [] n t → Agree start whole_text done (ends ++ (numbers, e) ∷ []) [] (n + (newlines t - newlines rest)) rest
+  agree_end start whole_text done ends n t asked text rest numbers e item listed acts a = record {
+    back = (λ R E left. subst (λ z. Left names fold defined start whole_text [] (done ++ R) z) (sym (append_assoc ends ((numbers, e) ∷ []) E))
+        (a.back R ((numbers, e) ∷ E) (end_back n t asked text rest numbers e R E item listed acts left)));
+    on = (λ R E left.
+        let (S, F, p, q, more) = a.on R E left in
+        let (G, g, last) = end_on n t asked text rest numbers e S F item listed acts more in
+        (S, G, p, q ∙ ap (λ z. ends ++ z) g ∙ sym (append_assoc ends ((numbers, e) ∷ []) G), last));
+  }
+
+  pub agree_rule : (start : ℕ) (whole_text : List ℕ) (done : List Rule) (ends : List EndRule) (w : List Rule) (n : ℕ) (t : List ℕ)
+      (asked : Conditions) (anchored : Bool) (head : List ℕ) (after : Trailing) (text rest : List ℕ) (r : Rule) (ss : List Statement)
+      → IsItem t (rule asked (matching anchored head after) (spelled text)) rest → HasHead names fold defined n asked anchored head after r → SpellsAction (number_from 0 names) text ss
+      → Agree start whole_text done ends w n t → Agree start whole_text (done ++ (map (acting ss) w ++ acting ss r ∷ [])) ends [] (n + (newlines t - newlines rest)) rest
+  agree_rule start whole_text done ends w n t asked anchored head after text rest r ss item h acts a = record {
+    back = (λ R E left. subst (λ z. Left names fold defined start whole_text [] z (ends ++ E)) (sym (append_assoc done (map (acting ss) w ++ acting ss r ∷ []) R))
+        (a.back ((map (acting ss) w ++ acting ss r ∷ []) ++ R) E (rule_back n t asked anchored head after text rest r ss w R E item h acts left)));
+    on = (λ R E left.
+        let (S, F, p, q, more) = a.on R E left in
+        let (T, g, last) = rule_on n t asked anchored head after text rest r ss w S F item h acts more in
+        (T, F, p ∙ ap (λ z. done ++ z) g ∙ sym (append_assoc done (map (acting ss) w ++ acting ss r ∷ []) T), q, last));
+  }
+
+  pub agree_bar : (start : ℕ) (whole_text : List ℕ) (done : List Rule) (ends : List EndRule) (w : List Rule) (n : ℕ) (t : List ℕ)
+      (asked : Conditions) (anchored : Bool) (head : List ℕ) (after : Trailing) (rest : List ℕ) (r : Rule)
+      → IsItem t (rule asked (matching anchored head after) bar) rest → HasHead names fold defined n asked anchored head after r
+      → Agree start whole_text done ends w n t → Agree start whole_text done ends (w ++ r ∷ []) (n + (newlines t - newlines rest)) rest
+  agree_bar start whole_text done ends w n t asked anchored head after rest r item h a = record {
+    back = (λ R E left. a.back R E (bar_back n t asked anchored head after rest r w R E item h left));
+    on = (λ R E left. let (S, F, p, q, more) = a.on R E left in (S, F, p, q, bar_on n t asked anchored head after rest r w S F item h more));
+  }
+
+  -- What the rule that begins a text is.
+
+  abbrev pub IsSpelled : Action → Type 0
+  IsSpelled bar = Unit {0}
+  IsSpelled (spelled text) = (ss : List Statement) × SpellsAction (number_from 0 names) text ss
+
+  abbrev pub ActsAs : List Rule → Subject → Action → Type 0
+  ActsAs w at_end bar = ⊥
+  ActsAs w at_end (spelled text) = (w ≡ []) × (e : EndAction) × SpellsEndAction (number_from 0 names) text e
+  ActsAs w (matching anchored head after) action =
+      (r : Rule) × Spells fold defined head r.head × IsTrail fold defined after r.trail × IsCutOf r.head r.trail r.cut × IsSpelled action
+
+  pub record RuleHere (t : List ℕ) (w : List Rule) : Type 0 where
+    pub asked : Conditions
+    pub subject : Subject
+    pub u : List ℕ
+    pub v : List ℕ
+    pub text : List ℕ
+    pub rest : List ℕ
+    pub list : conditions_at t ≡ Some (asked, u)
+    pub cut : IsSubject u subject v
+    pub ends : action_in outside 0 (after_blanks v) ≡ Some (text, rest)
+    pub numbers : Option (List ℕ)
+    pub numbered : numbers_of (number_from 0 names) (length names) asked ≡ Some numbers
+    pub acts : ActsAs w subject (action_of text)
+
+  acts_here : (w : List Rule) (n : ℕ) (asked : Conditions) (subject : Subject) (action : Action) (is : List (ℕ × Item)) (rs : List Rule) (es : List EndRule)
+      → AreRules names fold defined ((n, rule asked subject action) ∷ is) rs es → may_wait w ((n, rule asked subject action) ∷ is) ≡ true
+      → ((numbers : Option (List ℕ)) × (numbers_of (number_from 0 names) (length names) asked ≡ Some numbers)) × ActsAs w subject action
+  acts_here w n asked at_end bar is rs es are next = absurd are
+  acts_here [] n asked at_end (spelled text) is rs es (numbers, e, others, listed, acts, all, more) next = ((numbers, listed), (refl, e, acts))
+  acts_here (q ∷ w) n asked at_end (spelled text) is rs es are next = no_true next
+  acts_here w n asked (matching anchored head after) bar is rs es (r, others, all, one, more) next = ((r.conditions, one.listed), (r, one.head_is, one.trail_is, one.cut_is, tt))
+  acts_here w n asked (matching anchored head after) (spelled text) is rs es (r, others, all, one, more) next =
+      ((r.conditions, one.listed), (r, one.head_is, one.trail_is, one.cut_is, (r.statements, one.statements_are)))
+
+  rule_here : (t : List ℕ) (w : List Rule) (n : ℕ) (i : Item) (rest : List ℕ) (is : List (ℕ × Item)) (rs : List Rule) (es : List EndRule) → starts_rule t ≡ true → IsItem t i rest
+      → AreRules names fold defined ((n, i) ∷ is) rs es → may_wait w ((n, i) ∷ is) ≡ true → RuleHere t w
+  rule_here t w n skipped rest is rs es starts item are next = both_ways (AllBlank t) (tests_of t skipped rest item) (rule_tests t starts).0
+  rule_here t w n skipped_line rest is rs es starts item are next = both_ways (StartsBlank t) (tests_of t skipped_line rest item).1 (rule_tests t starts).1
+  rule_here t w n skipped_block rest is rs es starts item are next = both_ways (OpensBlock t) (tests_of t skipped_block rest item).2 (rule_tests t starts).3
+  rule_here t w n (rule asked subject action) rest is rs es starts (starts', u, v, text, list, cut, ends, is_action) are next =
+      let here = acts_here w n asked subject action is rs es are next in
+      record {
+        asked = asked;
+        subject = subject;
+        u = u;
+        v = v;
+        text = text;
+        rest = rest;
+        list = list;
+        cut = cut;
+        ends = ends;
+        numbers = here.0.0;
+        numbered = here.0.1;
+        acts = subst (ActsAs w subject) is_action here.1;
+      }
+
+  pub invert : (n : ℕ) (t : List ℕ) (w R : List Rule) (E : List EndRule) → starts_rule t ≡ true → Left names fold defined n t w R E → RuleHere t w
+  invert n t w R E starts left = from left.items left.here left.are left.next
+    where
+      from : (items : List (ℕ × Item)) → AreItems n t items → AreRules names fold defined items left.later E → may_wait w items ≡ true → RuleHere t w
+      from [] (inl e) are next = no_true (sym (ap starts_rule e) ∙ starts)
+      from [] (inr e) are next = let p = two_percents t e in no_true (sym (rule_tests (37 ∷ 37 ∷ p.0) (subst (λ z. starts_rule z ≡ true) p.1 starts)).2)
+      from ((m, i) ∷ is) (rest, line, item, more) are next = rule_here t w m i rest is left.later E starts item are next
+
+  -- nothing is spelled from there on
+  abbrev pub NoLeft : List ℕ → Type 0
+  NoLeft t = (n : ℕ) (w R : List Rule) (E : List EndRule) → Left names fold defined n t w R E → ⊥
+
+  no_some : {A B : Type 0} (x : A) (o : Option A) → o ≡ Some x → o ≡ None → B
+  no_some {A} x o e f = absurd (none (sym e ∙ f))
+    where
+      none : ◌≡◌ {A = Option A} (Some x) None → ⊥
+      none p = cc
+
+  pub no_list : (t : List ℕ) → starts_rule t ≡ true → conditions_at t ≡ None → NoLeft t
+  no_list t starts none n w R E left = let h = invert n t w R E starts left in no_some (h.asked, h.u) (conditions_at t) h.list none
+
+  pub no_numbers : (t u : List ℕ) (asked : Conditions) → starts_rule t ≡ true → conditions_at t ≡ Some (asked, u) → numbers_of (number_from 0 names) (length names) asked ≡ None → NoLeft t
+  no_numbers t u asked starts list none n w R E left =
+      let h = invert n t w R E starts left in
+      let same = (some_pair h.asked asked h.u u (sym h.list ∙ list)).0 in
+      no_some h.numbers (numbers_of (number_from 0 names) (length names) h.asked) h.numbered (ap (numbers_of (number_from 0 names) (length names)) same ∙ none)
+
+  pub no_subject : (t u : List ℕ) (asked : Conditions) → starts_rule t ≡ true → conditions_at t ≡ Some (asked, u) → ((s : Subject) (v : List ℕ) → IsSubject u s v → ⊥) → NoLeft t
+  no_subject t u asked starts list none n w R E left =
+      let h = invert n t w R E starts left in
+      let same = (some_pair h.asked asked h.u u (sym h.list ∙ list)).1 in
+      none h.subject h.v (subst (λ z. IsSubject z h.subject h.v) same h.cut)
+
+  -- what is known of the rule where its list and its subject are known
+  abbrev pub Known : List Rule → Subject → List ℕ → Type 0
+  Known w subject v = (text rest : List ℕ) × (action_in outside 0 (after_blanks v) ≡ Some (text, rest)) × ActsAs w subject (action_of text)
+
+  known : (n : ℕ) (t u v : List ℕ) (asked : Conditions) (subject : Subject) (w R : List Rule) (E : List EndRule) → starts_rule t ≡ true → conditions_at t ≡ Some (asked, u) → IsSubject u subject v
+      → Left names fold defined n t w R E → Known w subject v
+  known n t u v asked subject w R E starts list cut left =
+      let h = invert n t w R E starts left in
+      let same = (some_pair h.asked asked h.u u (sym h.list ∙ list)).1 in
+      let one = one_subject cut_once u h.subject subject h.v v (subst (λ z. IsSubject z h.subject h.v) same h.cut) cut in
+      (h.text, h.rest, ap (λ z. action_in outside 0 (after_blanks z)) (sym one.1) ∙ h.ends, subst (λ z. ActsAs w z (action_of h.text)) one.0 h.acts)
+
+  -- no head, trailing context and cut
+  abbrev pub NoHead : List ℕ → Trailing → Type 0
+  NoHead head after = (h : Tree) (t : Option Tree) (cut : Cut) → Spells fold defined head h → IsTrail fold defined after t → IsCutOf h t cut → ⊥
+
+  pub no_head : (t u v : List ℕ) (asked : Conditions) (anchored : Bool) (head : List ℕ) (after : Trailing) → starts_rule t ≡ true → conditions_at t ≡ Some (asked, u)
+      → IsSubject u (matching anchored head after) v → NoHead head after → NoLeft t
+  no_head t u v asked anchored head after starts list cut none n w R E left =
+      let (text, rest, ends, r, spells, trail, cuts, acts) = flat (known n t u v asked (matching anchored head after) w R E starts list cut left) in none r.head r.trail r.cut spells trail cuts
+    where
+      flat : Known w (matching anchored head after) v → (text rest : List ℕ) × (action_in outside 0 (after_blanks v) ≡ Some (text, rest)) × (r : Rule)
+          × Spells fold defined head r.head × IsTrail fold defined after r.trail × IsCutOf r.head r.trail r.cut × IsSpelled (action_of text)
+      flat (text, rest, ends, (r, spells, trail, cuts, acts)) = (text, rest, ends, r, spells, trail, cuts, acts)
+
+  pub no_action : (t u v : List ℕ) (asked : Conditions) (subject : Subject) → starts_rule t ≡ true → conditions_at t ≡ Some (asked, u)
+      → IsSubject u subject v → action_in outside 0 (after_blanks v) ≡ None → NoLeft t
+  no_action t u v asked subject starts list cut none n w R E left =
+      let k = known n t u v asked subject w R E starts list cut left in no_some (k.0, k.1) (action_in outside 0 (after_blanks v)) k.2 none
+
+  -- the action of the rule that begins a text
+  pub acts_of : (n : ℕ) (t : List ℕ) (asked : Conditions) (subject : Subject) (action : Action) (rest : List ℕ) (w R : List Rule) (E : List EndRule) → IsItem t (rule asked subject action) rest
+      → Left names fold defined n t w R E → ActsAs w subject action
+  acts_of n t asked subject action rest w R E (starts, u, v, text, list, cut, ends, is) left =
+      let k = known n t u v asked subject w R E starts list cut left in
+      let same = (some_pair k.0 text k.1 rest (sym k.2 ∙ ends)).0 in
+      subst (ActsAs w subject) (ap action_of same ∙ sym is) k.3

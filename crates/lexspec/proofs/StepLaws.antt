@@ -1,0 +1,103 @@
+-- One item of the rules section more.
+use Rattle.std.proofs.Common.{◌≡◌, ℕ, suc, ◌+◌, ◌-◌, ◌<◌, ◌==◌, ◌&&◌, Bool, true, false, if◌then◌else◌, List, [], ◌∷◌, map, length, take, Option, Some, None, inl, inr, refl, sym, ap, arith, length-append}
+use Rattle.std.specs.Prelude.{codes}
+use Rattle.lexspec.specs.Lines.{after_blanks, begins}
+use Rattle.lexspec.specs.Items.{outside, action_in, with_byte, next_place, depth_after, action_of, at_end, matching, Item, skipped, skipped_line, skipped_block, rule, starts_rule, IsItem, AreItems, newlines}
+use Rattle.lexspec.specs.RuleViews.{rule_of}
+use Rattle.lexspec.specs.ItemReads.{names_in, ReadsFront, ReadsItem, NoRules, NoRulesAfter, NoneLeft}
+use Rattle.lexspec.specs.Agreeing.{Agrees}
+use Rattle.lexspec.specs.PlainViews.{item_of}
+use Rattle.lexspec.specs.Outcome.{UnlessMemory}
+use Rattle.lexspec.specs.declared.declarations.Declarations.{Declarations}
+use Rattle.lexspec.specs.declared.error.SpecErrorKind.{SpecErrorKind}
+use Rattle.lexspec.specs.declared.item.Front.{Front}
+use Rattle.lexspec.specs.declared.item.Front.TheVariants as F
+use Rattle.lexspec.specs.declared.item.RuleText.{RuleText}
+use Rattle.lexspec.specs.declared.plain.Plain.{Plain}
+use Rattle.lexspec.specs.declared.plain.Plain.TheVariants.{Blank, Code, Block}
+use Rattle.lexspec.specs.declared.taking.Progress.{Progress}
+use Rattle.lexspec.proofs.OneSection.{no_true, some_pair}
+use Rattle.lexspec.proofs.OneItems.{both_ways}
+use Rattle.lexspec.proofs.OutcomeLaws.{unless_memory, always}
+use Rattle.lexspec.proofs.SectionLaws.{EndsWith, ends_on, each_some, each_none, each_if, newlines_front}
+use Rattle.lexspec.proofs.EndLaws.{Ends, action_ends, blanks_end, conditions_end, subject_ends, item_ends}
+use Rattle.lexspec.proofs.RulesLaws.{agree_plain, is_plain}
+
+abbrev Split : Type 0
+Split = List ℕ × List ℕ
+
+-- an action takes a byte where there is one
+
+kept : (c : ℕ) (t : List ℕ) (o : Option Split) → Ends t o → Ends t (with_byte c o)
+kept c t None h = each_none (λ (x : Split). EndsWith t x.1)
+kept c t (Some x) h = each_some (λ (y : Split). EndsWith t y.1) (c ∷ x.0, x.1) (h x refl)
+
+stopped : (t : List ℕ) → Ends t (Some ([], t))
+stopped t = each_some (λ (x : Split). EndsWith t x.1) ([], t) ([], refl)
+
+nothing : (t : List ℕ) → Ends t None
+nothing t = each_none (λ (x : Split). EndsWith t x.1)
+
+either : (t : List ℕ) (b : Bool) (x y : Option Split) → Ends t x → Ends t y → Ends t (if b then x else y)
+either t b x y h k = each_if (λ (z : Split). EndsWith t z.1) b x y h k
+
+-- from the place outside all, where no brace is open
+action_takes : (c : ℕ) (t : List ℕ) → Ends t (action_in outside 0 (c ∷ t))
+action_takes c t = either t (c == 10 && 0 == 0) _ _ (stopped t) (kept c t _ (action_ends t (next_place c) (depth_after 0 c)))
+
+not_longer : (t rest : List ℕ) → EndsWith t rest → length rest < suc (length t)
+not_longer t rest (front, e) = omega (arith, ap length e, length-append front rest)
+
+action_shorter : (t text rest : List ℕ) (n : ℕ) → action_in outside 0 t ≡ Some (text, rest) → length t < suc n → 0 < n → length rest < n
+action_shorter [] text rest n e h k = omega (arith, ap length (some_pair [] text [] rest e).1)
+action_shorter (c ∷ t) text rest n e h k = omega (arith, not_longer t rest (action_takes c t (text, rest) e))
+
+starts_some : (t : List ℕ) → starts_rule t ≡ true → 0 < length t
+starts_some [] h = no_true h
+starts_some (c ∷ t) h = omega arith
+
+-- the rest of a rule is shorter than its text
+rule_shorter : (d : Declarations) (n : ℕ) (t : List ℕ) (i : Item) (rest : List ℕ) → is_plain (names_in d) d.fold d.defs i ≡ false → IsItem t i rest → length rest < length t
+rule_shorter d n t skipped rest h item = no_true (sym h)
+rule_shorter d n t skipped_line rest h item = no_true (sym h)
+rule_shorter d n t skipped_block rest h item = no_true (sym h)
+rule_shorter d n t (rule asked subject action) rest h (starts, u, v, text, list, cut, ends, is) =
+    let front = ends_on t u (after_blanks v) (conditions_end t (asked, u) list) (ends_on u v (after_blanks v) (subject_ends u subject v cut) (blanks_end v)) in
+    action_shorter (after_blanks v) text rest (length t) ends (not_longer t (after_blanks v) front) (starts_some t starts)
+
+module _ (d : Declarations) where
+  reads_item : (n : ℕ) (t action rest : List ℕ) (f : Front) → ReadsFront d n t action rest f → (i : Item) × (is_plain (names_in d) d.fold d.defs i ≡ false) × IsItem t i rest
+  reads_item n t action rest (F.Matching r) h = (rule h.asked (matching h.anchored h.head h.after) (action_of action), refl, h.item)
+  reads_item n t action rest (F.AtEnd numbers) h = (rule h.asked at_end (action_of action), refl, h.item)
+
+  pub reads_shorter : (n : ℕ) (t : List ℕ) (x : RuleText) → ReadsItem d n t x → length x.rest.now < length t
+  reads_shorter n t x h = let (i, plain, item) = reads_item n t x.action.now x.rest.now x.front h in rule_shorter d n t i x.rest.now plain item
+
+  pub reads_counts : (n : ℕ) (t : List ℕ) (x : RuleText) → ReadsItem d n t x → newlines (take (length t - length x.rest.now) t) + newlines x.rest.now ≡ newlines t
+  reads_counts n t x h = let (i, plain, item) = reads_item n t x.action.now x.rest.now x.front h in newlines_front t x.rest.now (item_ends t i x.rest.now item)
+
+  plain_is : (k : Plain) → is_plain (names_in d) d.fold d.defs (item_of k) ≡ true
+  plain_is Blank = refl
+  plain_is Code = refl
+  plain_is Block = refl
+
+  pub plain_agrees : (s : Progress) (start n : ℕ) (whole t : List ℕ) (k : Plain) (rest : List ℕ) → IsItem t (item_of k) rest → Agrees d start whole s n t
+      → Agrees d start whole s (n + (newlines t - newlines rest)) rest
+  plain_agrees s start n whole t k rest item a =
+      let b = agree_plain (names_in d) d.fold d.defs start whole (map rule_of s.rules.items) _ (map rule_of s.waiting.items) n t (item_of k) rest (plain_is k) item (record { back = a.back; on = a.on }) in
+      record { back = b.back; on = b.on }
+
+  -- where there is no item, and the section does not end, nothing is spelled
+  pub plain_refused : (s : Progress) (n : ℕ) (t : List ℕ) (e : SpecErrorKind) → 0 < length t → begins (codes "%%") t ≡ false → ((i : Item) (rest : List ℕ) → IsItem t i rest → ⊥) → UnlessMemory e (NoneLeft d s n t)
+  plain_refused s n t e some off none = always e (NoneLeft d s n t) (λ R E left. from left.items left.here)
+    where
+      from : (is : List (ℕ × Item)) → AreItems n t is → ⊥
+      from [] (inl e) = let z : length t ≡ 0 = ap length e in absurd (omega arith)
+      from [] (inr e) = both_ways (begins (codes "%%") t) e off
+      from (i ∷ is) (rest, first, item, more) = none i.1 rest item
+
+  pub text_refused : (s : Progress) (n : ℕ) (t : List ℕ) (e : SpecErrorKind) → UnlessMemory e (NoRules d t) → UnlessMemory e (NoneLeft d s n t)
+  text_refused s n t e h = unless_memory e (NoRules d t) (NoneLeft d s n t) (λ none R E left. none n (map rule_of s.waiting.items) R E left) h
+
+  pub rule_refused : (s : Progress) (n : ℕ) (t : List ℕ) (x : RuleText) (e : SpecErrorKind) → ReadsItem d n t x → UnlessMemory e (NoRulesAfter d s x) → UnlessMemory e (NoneLeft d s n t)
+  rule_refused s n t x e reads h = unless_memory e (NoRulesAfter d s x) (NoneLeft d s n t) (λ none R E left. none n t R E reads left) h

@@ -1,0 +1,7 @@
+use Rattle.std.proofs.Common.{◌≡◌, drop, map}
+use Rattle.lexspec.specs.Files.{end_in}
+use Rattle.lexspec.specs.ItemReads.{end_rule_of}
+use Rattle.lexspec.proofs.endings.end_of.Given as goal
+
+abbrev pub invariant-loop-end : goal.invariant-loop-end
+invariant-loop-end l = end_in (map end_rule_of l.ends) (map end_rule_of (drop l.end-index l.ends)) l.number ≡ end_in (map end_rule_of l.ends) (map end_rule_of l.ends) l.number

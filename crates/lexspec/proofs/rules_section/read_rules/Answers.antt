@@ -1,0 +1,55 @@
+use Rattle.std.proofs.Common.{sym, ◌∙◌, length, arith, refl, inr}
+use Rattle.std.proofs.lemmas.Bool.{eqb-true}
+use Rattle.lexspec.proofs.RestLaws.{IsOver, over_empty, agrees_first, section_refused, item_read, ended_found, ended_line, ended_none, newlines_few}
+use Rattle.lexspec.proofs.rules_section.read_rules.Goals.{then-items-test+else-not-starts_with, else-items-test}
+use Rattle.lexspec.proofs.rules_section.read_rules.Goals as goal
+
+pub items-init : goal.items-init
+items-init c = record {
+  agrees = agrees_first c.args.declarations.now c.new-progress.result c.args.first c.args.text.now c.new-progress.ensures.rules c.new-progress.ensures.waiting c.new-progress.ensures.ends;
+  line = refl;
+  shorter = omega arith;
+}
+
+pub with_item-requires-clause-line : goal.with_item-requires-clause-line
+with_item-requires-clause-line c = omega (arith, c.items.invariant.line, newlines_few c.args.text.now, c.requires.short, c.requires.first)
+
+pub returns-in-Err-clause-none : goal.returns-in-Err-clause-none
+returns-in-Err-clause-none c =
+    section_refused c.args.declarations.now c.args.first c.items.line c.args.text.now c.items.rest.now c.items.progress c.in-Err.kind c.items.invariant.agrees c.in-Err.ensures.none
+
+pub newlines_before-line-requires : goal.newlines_before-line-requires
+newlines_before-line-requires c = omega (arith, c.items.invariant.shorter, c.requires.short)
+
+pub overflow_add-line : goal.overflow_add-line
+overflow_add-line c =
+    omega (arith, c.items.invariant.line, newlines_few c.args.text.now, c.requires.short, c.requires.first, c.in-Ok.ensures.counts, c.newlines_before-line.ensures)
+
+pub items-smaller : goal.items-smaller
+items-smaller c = c.in-Ok.ensures.shorter
+
+pub items-preserved : goal.items-preserved
+items-preserved c = record {
+  agrees = item_read c.args.declarations.now c.items.progress c.in-Ok.found.0 c.args.first c.items.line c.newlines_before-line.result c.args.text.now c.items.rest.now c.in-Ok.found.1.now
+      c.in-Ok.ensures.found c.in-Ok.ensures.counts c.newlines_before-line.ensures c.items.invariant.agrees;
+  line = omega (arith, c.items.invariant.line, c.in-Ok.ensures.counts, c.newlines_before-line.ensures);
+  shorter = omega (arith, c.items.invariant.shorter, c.in-Ok.ensures.shorter);
+}
+
+is_over : (c : goal.After-ended) → IsOver c.items.rest.now
+is_over c = elim c.items-test.branch [
+  | then-items-test+else-not-starts_with w ↦ inr (sym w.starts_with.ensures.value ∙ w.if-not-starts_with.false)
+  | else-items-test w ↦ over_empty c.items.rest.now (eqb-true (length c.items.rest.now) 0 (sym c.is_empty.ensures ∙ w.items-test.false))
+]
+
+pub returns-clause-found : goal.returns-clause-found
+returns-clause-found c =
+    ended_found c.args.declarations.now c.ended.result c.args.first c.items.line c.args.text.now c.items.rest.now c.items.progress c.items.invariant.agrees (is_over c)
+    c.ended.ensures.waiting c.ended.ensures.rules c.ended.ensures.ends c.ended.ensures.rest
+
+pub returns-clause-line : goal.returns-clause-line
+returns-clause-line c = ended_line c.ended.result c.items.line _ c.items.rest.now c.ended.ensures.line c.ended.ensures.rest c.items.invariant.line
+
+pub returns-clause-none : goal.returns-clause-none
+returns-clause-none c =
+    ended_none c.args.declarations.now c.ended.result c.args.first c.items.line c.args.text.now c.items.rest.now c.items.progress c.items.invariant.agrees (is_over c) c.ended.ensures.none

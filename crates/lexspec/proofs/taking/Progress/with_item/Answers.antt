@@ -1,0 +1,40 @@
+use Rattle.std.proofs.Common.{rules, sym, ◌∙◌, ◌≡◌, length}
+use Rattle.lexspec.specs.PlainViews.{item_of}
+use Rattle.lexspec.proofs.SectionLaws.{newlines_front}
+use Rattle.lexspec.proofs.EndLaws.{item_ends}
+use Rattle.lexspec.proofs.AwaitingLaws.{end_refused}
+use Rattle.lexspec.proofs.StepLaws.{reads_shorter, reads_counts, plain_agrees, plain_refused, text_refused, rule_refused}
+use Rattle.lexspec.proofs.taking.Progress.with_item.Goals as goal
+
+pub returns-in-Err-clause-none : goal.returns-in-Err-clause-none
+returns-in-Err-clause-none c = plain_refused c.args.declarations.now c.args.self c.args.line c.args.text.now c.in-Err.kind c.requires.some c.requires.no_end c.in-Err.ensures.none
+
+pub returns-in-Some-clause-found : goal.returns-in-Some-clause-found
+returns-in-Some-clause-found c = λ start whole a.
+    plain_agrees c.args.declarations.now c.args.self start c.args.line whole c.args.text.now c.in-Some.skip c.in-Some.rest.now (rw c.in-Some.is at c.in-Ok.ensures.found) a
+
+pub returns-in-Some-clause-counts : goal.returns-in-Some-clause-counts
+returns-in-Some-clause-counts c = newlines_front c.args.text.now c.in-Some.rest.now (item_ends c.args.text.now (item_of c.in-Some.skip) c.in-Some.rest.now (rw c.in-Some.is at c.in-Ok.ensures.found))
+
+pub returns-in-Err-read_rule_text-clause-none : goal.returns-in-Err-read_rule_text-clause-none
+returns-in-Err-read_rule_text-clause-none c =
+    text_refused c.args.declarations.now c.args.self c.args.line c.args.text.now c.in-Err-read_rule_text.kind c.in-Err-read_rule_text.ensures.none
+
+pub returns-in-Ok-with_rule-clause-counts : goal.returns-in-Ok-with_rule-clause-counts
+returns-in-Ok-with_rule-clause-counts c = reads_counts c.args.declarations.now c.args.line c.args.text.now c.in-Ok-read_rule_text.found c.in-Ok-read_rule_text.ensures.found
+
+pub returns-in-Ok-with_rule-clause-shorter : goal.returns-in-Ok-with_rule-clause-shorter
+returns-in-Ok-with_rule-clause-shorter c = reads_shorter c.args.declarations.now c.args.line c.args.text.now c.in-Ok-read_rule_text.found c.in-Ok-read_rule_text.ensures.found
+
+pub returns-in-Err-with_rule-clause-none : goal.returns-in-Err-with_rule-clause-none
+returns-in-Err-with_rule-clause-none c =
+    rule_refused c.args.declarations.now c.args.self c.args.line c.args.text.now c.in-Ok-read_rule_text.found c.in-Err-with_rule.kind c.in-Ok-read_rule_text.ensures.found c.in-Err-with_rule.ensures.none
+
+pub returns-then-begins_end-clause-none : goal.returns-then-begins_end-clause-none
+returns-then-begins_end-clause-none c =
+    let some : length c.args.self.waiting.items ≡ 0 → ⊥ = search rules in
+    end_refused c.args.declarations.now c.args.self c.args.line c.args.text.now (rw c.in_default.is at c.in-Ok.ensures.rule) (sym c.begins_end.ensures ∙ c.if-begins_end.true) some
+
+pub returns-in-Ok-with_rule-clause-found : goal.returns-in-Ok-with_rule-clause-found
+returns-in-Ok-with_rule-clause-found c = λ start whole a.
+    c.in-Ok-with_rule.ensures.found start c.args.line whole c.args.text.now c.in-Ok-read_rule_text.ensures.found a

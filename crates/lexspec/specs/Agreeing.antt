@@ -1,0 +1,17 @@
+-- What is read so far, and what is left.
+use Rattle.std.specs.Prelude.{◌≡◌, ℕ, List, [], ◌++◌, map}
+use Rattle.lexmeaning.specs.Spec.{Rule}
+use Rattle.lexspec.specs.RuleItems.{EndRule}
+use Rattle.lexspec.specs.RuleReads.{Left}
+use Rattle.lexspec.specs.RuleViews.{rule_of}
+use Rattle.lexspec.specs.ItemReads.{names_in, end_rule_of}
+use Rattle.lexspec.specs.declared.declarations.Declarations.{Declarations}
+use Rattle.lexspec.specs.declared.taking.Progress.{Progress}
+
+-- The text `whole` spells, from the line `start` on, just the rules that were read with those that t spells from the line n
+-- on, where some of those that were read wait.
+pub record Agrees (d : Declarations) (start : ℕ) (whole : List ℕ) (s : Progress) (n : ℕ) (t : List ℕ) : Type 0 where
+  pub back : (R : List Rule) (E : List EndRule) → Left (names_in d) d.fold d.defs n t (map rule_of s.waiting.items) R E
+      → Left (names_in d) d.fold d.defs start whole [] (map rule_of s.rules.items ++ R) (map end_rule_of s.ends.items ++ E)
+  pub on : (R : List Rule) (E : List EndRule) → Left (names_in d) d.fold d.defs start whole [] R E
+      → (S : List Rule) × (F : List EndRule) × (R ≡ map rule_of s.rules.items ++ S) × (E ≡ map end_rule_of s.ends.items ++ F) × Left (names_in d) d.fold d.defs n t (map rule_of s.waiting.items) S F

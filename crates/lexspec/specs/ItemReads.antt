@@ -1,0 +1,63 @@
+-- What the reader of a rule answers.
+use Rattle.std.specs.Prelude.{◌≡◌, ℕ, Bool, List, map, length, Option, Some, option_map}
+use Rattle.lexmeaning.specs.Spec.{Cut, Rule}
+use Rattle.lexmeaning.specs.Tree.{Tree}
+use Rattle.lexre.specs.Spelling.{Spells}
+use Rattle.lexaction.specs.Names.{number_from, names_of}
+use Rattle.lexspec.specs.Items.{Conditions, Trailing, at_end, matching, rule, action_of, IsItem}
+use Rattle.lexspec.specs.RuleItems.{numbers_of, IsTrail, IsCutOf, EndRule}
+use Rattle.lexspec.specs.RuleReads.{HasHead, Left}
+use Rattle.lexspec.specs.RuleViews.{rule_of}
+use Rattle.lexspec.specs.declared.declarations.Declarations.{Declarations}
+use Rattle.lexspec.specs.declared.item.Front.{Front}
+use Rattle.lexspec.specs.declared.item.Front.TheVariants as F
+use Rattle.lexspec.specs.declared.item.RuleText.{RuleText}
+use Rattle.lexspec.specs.declared.taking.EndRule.{EndRule as EndRuleKept}
+use Rattle.lexspec.specs.declared.taking.Progress.{Progress}
+use Rattle.lexaction.specs.Views.{end_action_of}
+
+-- the names that rules may list, as the code keeps them
+abbrev pub names_in : Declarations → List (List ℕ)
+names_in d = names_of d.conditions.items
+
+-- the text spells no rules from there on
+abbrev pub NoRules : Declarations → List ℕ → Type 0
+NoRules d t = (n : ℕ) (w R : List Rule) (E : List EndRule) → Left (names_in d) d.fold d.defs n t w R E → ⊥
+
+-- the sides of a pattern have no trees, or neither gives a cut
+abbrev pub NoSides : Declarations → List ℕ → Trailing → Type 0
+NoSides d head after = (h : Tree) (t : Option Tree) (cut : Cut) → Spells d.fold d.defs head h → IsTrail d.fold d.defs after t → IsCutOf h t cut → ⊥
+
+-- a rule with a pattern begins the text t, at the line n
+pub record ReadsRule (d : Declarations) (n : ℕ) (t action rest : List ℕ) (r : Rule) : Type 0 where
+  pub asked : Conditions
+  pub anchored : Bool
+  pub head : List ℕ
+  pub after : Trailing
+  pub item : IsItem t (rule asked (matching anchored head after) (action_of action)) rest
+  pub has_head : HasHead (names_in d) d.fold d.defs n asked anchored head after r
+
+-- an `<<EOF>>` rule begins it
+pub record ReadsEnd (d : Declarations) (t action rest : List ℕ) (numbers : Option (List ℕ)) : Type 0 where
+  pub asked : Conditions
+  pub item : IsItem t (rule asked at_end (action_of action)) rest
+  pub numbered : numbers_of (number_from 0 (names_in d)) (length (names_in d)) asked ≡ Some numbers
+
+abbrev pub ReadsFront : Declarations → ℕ → List ℕ → List ℕ → List ℕ → Front → Type 0
+ReadsFront d n t action rest (F.Matching r) = ReadsRule d n t action rest (rule_of r)
+ReadsFront d n t action rest (F.AtEnd numbers) = ReadsEnd d t action rest (option_map (λ v. v.items) numbers)
+
+abbrev pub ReadsItem : Declarations → ℕ → List ℕ → RuleText → Type 0
+ReadsItem d n t x = ReadsFront d n t x.action.now x.rest.now x.front
+
+-- an `<<EOF>>` rule, by the numbers of its conditions and its action
+abbrev pub end_rule_of : EndRuleKept → EndRule
+end_rule_of e = (option_map (λ v. v.items) e.conditions, end_action_of e.action)
+
+-- nothing is spelled from a rule on, where these rules wait
+abbrev pub NoRulesAfter : Declarations → Progress → RuleText → Type 0
+NoRulesAfter d s x = (n : ℕ) (t : List ℕ) (R : List Rule) (E : List EndRule) → ReadsItem d n t x → Left (names_in d) d.fold d.defs n t (map rule_of s.waiting.items) R E → ⊥
+
+-- the text spells no rules from the line n on, where these rules wait
+abbrev pub NoneLeft : Declarations → Progress → ℕ → List ℕ → Type 0
+NoneLeft d s n t = (R : List Rule) (E : List EndRule) → Left (names_in d) d.fold d.defs n t (map rule_of s.waiting.items) R E → ⊥

@@ -1,0 +1,43 @@
+-- Rules that are read one after another, some of which wait for the action of the next one.
+use Rattle.std.specs.Prelude.{◌≡◌, ℕ, Bool, true, List, [], ◌∷◌, ◌++◌, map, length, Some}
+use Rattle.lexmeaning.specs.Spec.{Statement, Rule}
+use Rattle.lexre.specs.Definitions.{Definitions}
+use Rattle.lexre.specs.Spelling.{Spells}
+use Rattle.lexaction.specs.Names.{number_from}
+use Rattle.lexspec.specs.Items.{Conditions, Trailing, bar, Item, AreItems}
+use Rattle.lexspec.specs.RuleItems.{numbers_of, IsCutOf, IsTrail, EndRule, goes_to_rule, AreRules}
+
+-- a rule but for its statements
+pub record HasHead (names : List (List ℕ)) (fold : Bool) (defined : Definitions) (n : ℕ) (asked : Conditions) (anchored : Bool) (head : List ℕ) (after : Trailing) (r : Rule) : Type 0 where
+  pub line_is : r.line ≡ n
+  pub listed : numbers_of (number_from 0 names) (length names) asked ≡ Some r.conditions
+  pub anchor : r.anchored ≡ anchored
+  pub head_is : Spells fold defined head r.head
+  pub trail_is : IsTrail fold defined after r.trail
+  pub cut_is : IsCutOf r.head r.trail r.cut
+
+-- the rule with these statements
+abbrev pub acting : List Statement → Rule → Rule
+acting ss r = record { line = r.line; conditions = r.conditions; anchored = r.anchored; head = r.head; trail = r.trail; cut = r.cut; statements = ss }
+
+abbrev pub first_statements : List Rule → List Statement
+first_statements [] = []
+first_statements (r ∷ rs) = r.statements
+
+-- the rules, with those before them that take the action of the first
+abbrev pub filled : List Rule → List Rule → List Rule
+filled waiting rs = map (acting (first_statements rs)) waiting ++ rs
+
+-- where some rule waits, the next rule is there, and is no `<<EOF>>` rule
+abbrev pub may_wait : List Rule → List (ℕ × Item) → Bool
+may_wait [] is = true
+may_wait (w ∷ ws) is = goes_to_rule bar is
+
+-- the rules and `<<EOF>>` rules that a text spells from the line n on, after rules that wait for the next action
+pub record Left (names : List (List ℕ)) (fold : Bool) (defined : Definitions) (n : ℕ) (t : List ℕ) (waiting rules : List Rule) (ends : List EndRule) : Type 0 where
+  pub items : List (ℕ × Item)
+  pub here : AreItems n t items
+  pub later : List Rule
+  pub are : AreRules names fold defined items later ends
+  pub next : may_wait waiting items ≡ true
+  pub whole : rules ≡ filled waiting later

@@ -1,0 +1,21 @@
+-- What the reader of the rules section answers.
+use Rattle.std.specs.Prelude.{◌≡◌, ℕ, true, List, [], map, codes, ◌⊎◌}
+use Rattle.lexmeaning.specs.Spec.{Rule}
+use Rattle.lexspec.specs.Lines.{begins}
+use Rattle.lexspec.specs.Items.{Item, AreItems}
+use Rattle.lexspec.specs.RuleItems.{EndRule, AreRules}
+use Rattle.lexspec.specs.RuleViews.{rule_of}
+use Rattle.lexspec.specs.ItemReads.{names_in, end_rule_of}
+use Rattle.lexspec.specs.declared.declarations.Declarations.{Declarations}
+use Rattle.lexspec.specs.declared.rules_section.RulesSection.{RulesSection}
+
+-- the items of the text, which begins at the line n, and the rules that they spell; after them nothing is left, or a line of `%%`
+pub record HasRules (d : Declarations) (n : ℕ) (text : List ℕ) (s : RulesSection) : Type 0 where
+  pub items : List (ℕ × Item)
+  pub here : AreItems n text items
+  pub are : AreRules (names_in d) d.fold d.defs items (map rule_of s.rules.items) (map end_rule_of s.ends.items)
+  pub stops : (s.rest.now ≡ []) ⊎ (begins (codes "%%") s.rest.now ≡ true)
+
+-- the items of the text spell no rules
+abbrev pub NoSuchRules : Declarations → ℕ → List ℕ → Type 0
+NoSuchRules d n text = (items : List (ℕ × Item)) (rules : List Rule) (ends : List EndRule) → AreItems n text items → AreRules (names_in d) d.fold d.defs items rules ends → ⊥

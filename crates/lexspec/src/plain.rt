@@ -1,0 +1,46 @@
+//! Lines of the rules section that are no rules. (POSIX, lex, Rules in lex; flex, Format of the Input File.)
+ghost use Rattle.std.specs.Prelude.{◌≡◌, ℕ, ◌<◌, List, true, false, length, codes, IfOk, IfSome, IfNone, OnErr};
+ghost use Rattle.lexspec.specs.Lines.{begins};
+ghost use Rattle.lexspec.specs.Items.{Item, IsItem, starts_rule};
+ghost use Rattle.lexspec.specs.PlainViews.{item_of};
+
+use crate::error::SpecErrorKind;
+use crate::lines::{is_all_blank, split_line, starts_blank};
+use crate::skipping::skip_block;
+
+/// What is skipped.
+#[derive(Clone, Copy)]
+pub(crate) enum Plain {
+    /// A line of blanks or nothing.
+    Blank,
+    /// A line of code.
+    Code,
+    /// A block `%{ .. %}`.
+    Block,
+}
+
+/// What is skipped at the front of a text, and what follows it; None where a rule begins. `Unclosed` is told of a block
+/// that is left open.
+pub(crate) fn plain_at(text: &[u8]) -> Result<Option<(Plain, &[u8])>, SpecErrorKind>
+    requires some { 0 < length text.now }
+    requires no_end { begins (codes "%%") text.now ≡ false }
+    ensures found { IfOk result (λ o. IfSome o (λ x. IsItem text.now (item_of x.0) x.1.now)) }
+    ensures rule { IfOk result (λ o. IfNone o (starts_rule text.now ≡ true)) }
+    ensures shorter { IfOk result (λ o. IfSome o (λ x. length x.1.now < length text.now)) }
+    ensures none { OnErr result ((i : Item) (rest : List ℕ) → IsItem text.now i rest → ⊥) }
+{
+    let (line, after) = split_line(text);
+    if is_all_blank(line) {
+        return Ok(Some((Plain::Blank, after)));
+    }
+    if starts_blank(line) {
+        return Ok(Some((Plain::Code, after)));
+    }
+    if !text.starts_with(b"%{") {
+        return Ok(None);
+    }
+    match skip_block(after) {
+        Some(rest) => Ok(Some((Plain::Block, rest))),
+        None => Err(SpecErrorKind::Unclosed),
+    }
+}

@@ -1,0 +1,194 @@
+//! The rules section, item by item. (POSIX, lex, Rules in lex; flex, Format of the Input File.)
+ghost use Rattle.std.specs.Prelude.{◌≡◌, ℕ, ◌+◌, ◌-◌, ◌<◌, ◌≤◌, ◌^◌, List, [], false, length, take, codes, IfOk, IfErr, OnOk};
+ghost use Rattle.lexspec.specs.Lines.{begins};
+ghost use Rattle.lexspec.specs.Items.{newlines};
+ghost use Rattle.lexspec.specs.ItemReads.{NoneLeft};
+ghost use Rattle.lexspec.specs.Agreeing.{Agrees};
+ghost use Rattle.lexspec.specs.PlainViews.{lines_with};
+ghost use Rattle.lexspec.specs.EndOpenings.{begins_end};
+ghost use Rattle.lexspec.specs.RulesReads.{HasRules, NoSuchRules};
+ghost use Rattle.lexspec.specs.Outcome.{UnlessMemory};
+ghost use Rattle.lexspec.specs.declared.error.SpecErrorKind.TheVariants.{DanglingBar};
+
+use crate::declarations::Declarations;
+use crate::error::{SpecError, SpecErrorKind};
+use crate::item::read_rule_text;
+use crate::newlines::newlines_before;
+use crate::plain::{Plain, plain_at};
+use crate::rule::Rule;
+use crate::skipped::Skipped;
+use crate::subject::conditions_at;
+use crate::taking::{EndRule, Progress};
+use std::alloc::{AllocError, Global};
+
+/// What the rules section has, and what follows it.
+#[derive(Drop)]
+pub(crate) struct RulesSection<'a> {
+    pub(crate) rules: Vec<Rule>,
+    pub(crate) ends: Vec<EndRule>,
+    /// The text from the line on that begins with `%%`, or nothing.
+    pub(crate) rest: &'a [u8],
+    /// The number of that line, from 1.
+    pub(crate) line: u32,
+}
+
+/// Whether a text begins with an `<<EOF>>` rule, with or without a condition list.
+fn begins_end(text: &[u8]) -> bool
+    ensures { result ≡ begins_end text.now }
+{
+    match conditions_at(text) {
+        Some((_, after)) => after.starts_with(b"<<EOF>>"),
+        None => false,
+    }
+}
+
+impl Skipped {
+    /// Takes what is skipped at a line of the rules section.
+    fn add_plain(&mut self, plain: Plain, line: u32) -> Result<(), AllocError>
+        requires { line + 1 < 2 ^ 32 }
+        ensures { OnOk result (self.new.lines.items ≡ lines_with plain self.old.next line self.old.lines.items) }
+    {
+        match plain {
+            Plain::Blank => Ok(()),
+            Plain::Code => self.add_line(line),
+            Plain::Block => self.add_block(line),
+        }
+    }
+}
+
+impl Progress {
+    /// No rule so far.
+    pub(crate) fn new(alloc: Global) -> Progress
+        ensures rules { result.rules.items ≡ [] }
+        ensures waiting { result.waiting.items ≡ [] }
+        ensures ends { result.ends.items ≡ [] }
+    {
+        Progress {
+            rules: Vec::new(alloc),
+            waiting: Vec::new(alloc),
+            ends: Vec::new(alloc),
+        }
+    }
+
+    /// The rules with that of the item that begins a text, at the line with this number, and what follows the item.
+    /// `Unclosed` is told of a block that is left open, and `DanglingBar` of an `<<EOF>>` rule where others wait for its
+    /// action; the other faults are those of a rule.
+    pub(crate) fn with_item<'a>(
+        self,
+        alloc: Global,
+        declarations: &Declarations,
+        skipped: &mut Skipped,
+        text: &'a [u8],
+        line: u32,
+    ) -> Result<(Progress, &'a [u8]), SpecErrorKind>
+        requires few { length declarations.now.conditions.items ≤ 255 }
+        requires some { 0 < length text.now }
+        requires no_end { begins (codes "%%") text.now ≡ false }
+        requires line { line + 1 < 2 ^ 32 }
+        ensures found { IfOk result (λ x. (start : ℕ) (whole : List ℕ) → Agrees declarations.now start whole self line text.now
+            → Agrees declarations.now start whole x.0 (line + (newlines text.now - newlines x.1.now)) x.1.now) }
+        ensures counts { IfOk result (λ x. newlines (take (length text.now - length x.1.now) text.now) + newlines x.1.now ≡ newlines text.now) }
+        ensures shorter { IfOk result (λ x. length x.1.now < length text.now) }
+        ensures none { IfErr result (λ e. UnlessMemory e (NoneLeft declarations.now self line text.now)) }
+    {
+        let plain = match plain_at(text) {
+            Ok(found) => found,
+            Err(kind) => return Err(kind),
+        };
+        if let Some((skip, rest)) = plain {
+            skipped.add_plain(skip, line)?;
+            return Ok((self, rest));
+        }
+        if !self.waiting.is_empty() && begins_end(text) {
+            return Err(SpecErrorKind::DanglingBar);
+        }
+        let found = match read_rule_text(alloc, declarations, text, line) {
+            Ok(found) => found,
+            Err(kind) => return Err(kind),
+        };
+        let rest = found.rest;
+        match self.with_rule(alloc, declarations, found) {
+            Ok(progress) => Ok((progress, rest)),
+            Err(kind) => Err(kind),
+        }
+    }
+
+    /// The line of the last rule that waits for an action, or else this one.
+    fn line_waiting(&self, line: u32) -> u32
+        ensures { length self.now.waiting.items ≡ 0 → result ≡ line }
+    {
+        match self.waiting.last() {
+            Some(last) => last.line,
+            None => line,
+        }
+    }
+
+    /// The rules of a section that ends with this rest, at this line. `DanglingBar` is told of the last rule that waits.
+    fn ended(self, rest: &[u8], line: u32) -> Result<RulesSection<'_>, SpecError>
+        ensures waiting { IfOk result (λ s. length self.waiting.items ≡ 0) }
+        ensures rules { IfOk result (λ s. s.rules.items ≡ self.rules.items) }
+        ensures ends { IfOk result (λ s. s.ends.items ≡ self.ends.items) }
+        ensures rest { IfOk result (λ s. s.rest.now ≡ rest.now) }
+        ensures line { IfOk result (λ s. s.line ≡ line) }
+        ensures none { IfErr result (λ e. length self.waiting.items ≡ 0 → ⊥) }
+        ensures kind { IfErr result (λ e. e.kind ≡ DanglingBar) }
+    {
+        let Progress {
+            rules,
+            waiting,
+            ends,
+        } = self;
+        match waiting.last() {
+            Some(last) => Err(SpecError {
+                line: last.line,
+                kind: SpecErrorKind::DanglingBar,
+            }),
+            None => Ok(RulesSection {
+                rules,
+                ends,
+                rest,
+                line,
+            }),
+        }
+    }
+}
+
+/// The rules section, which begins at the line with this number, up to a line that begins with `%%` or the end. The lines
+/// of skipped code are added to the others. The first faulty item is refused, and after the last `DanglingBar` where rules
+/// wait for an action.
+pub(crate) fn read_rules<'a>(
+    alloc: Global,
+    declarations: &Declarations,
+    skipped: &mut Skipped,
+    text: &'a [u8],
+    first: u32,
+) -> Result<RulesSection<'a>, SpecError>
+    requires few { length declarations.now.conditions.items ≤ 255 }
+    requires short { length text.now ≤ 1048576 }
+    requires first { first ≤ 1048577 }
+    ensures found { IfOk result (λ s. HasRules declarations.now first text.now s) }
+    ensures line { IfOk result (λ s. s.line + newlines s.rest.now ≡ first + newlines text.now) }
+    ensures none { IfErr result (λ e. UnlessMemory e.kind (NoSuchRules declarations.now first text.now)) }
+{
+    let mut progress = Progress::new(alloc);
+    let mut rest = text;
+    let mut line = first;
+    'items: while !rest.is_empty() && !rest.starts_with(b"%%") {
+        let waiting = progress.line_waiting(line);
+        let (next, after) = match progress.with_item(alloc, declarations, skipped, rest, line) {
+            Ok(found) => found,
+            Err(kind) => {
+                let line = if kind == SpecErrorKind::DanglingBar {
+                    waiting
+                } else {
+                    line
+                };
+                return Err(SpecError { line, kind });
+            }
+        };
+        line += newlines_before(rest, after);
+        progress = next;
+        rest = after;
+    }
+    progress.ended(rest, line)
+}
