@@ -8,8 +8,8 @@ use Rattle.std.proofs.lemmas.List.Sums.{sum_by-cons, sum_by-append}
 use Rattle.lexspec.specs.Files.{lists_number, is_unlisted, AreSingle}
 use Rattle.lexspec.specs.Items.{Conditions, unlisted, every, only}
 use Rattle.lexspec.specs.RuleItems.{EndRule, numbers_from, all_numbered, is_number, numbers_of}
-use Rattle.lexspec.specs.ItemReads.{end_rule_of}
-use Rattle.lexspec.specs.declared.taking.EndRule.{EndRule as EndRuleKept}
+use Rattle.lexspec.specs.EndRules.{end_rule_of}
+use Rattle.lexspec.specs.declared.endings.EndRule.{EndRule as EndRuleKept}
 use Rattle.lexspec.specs.Tests.{ascend_from, sound_list}
 use Rattle.lexspec.specs.Endings.{numbers_kept, clashes, any_clashes, AreOrdered}
 use Rattle.lexspec.proofs.OneSection.{no_true}

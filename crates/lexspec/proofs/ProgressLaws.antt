@@ -17,7 +17,8 @@ use Rattle.lexspec.specs.Items.{Action, bar, spelled, at_end, matching, rule, ac
 use Rattle.lexspec.specs.RuleItems.{EndRule}
 use Rattle.lexspec.specs.RuleReads.{acting, Left}
 use Rattle.lexspec.specs.RuleViews.{rule_of}
-use Rattle.lexspec.specs.ItemReads.{names_in, ReadsRule, ReadsEnd, ReadsFront, ReadsItem, NoRulesAfter, end_rule_of}
+use Rattle.lexspec.specs.EndRules.{end_rule_of}
+use Rattle.lexspec.specs.ItemReads.{names_in, ReadsRule, ReadsEnd, ReadsFront, ReadsItem, NoRulesAfter}
 use Rattle.lexspec.specs.Agreeing.{Agrees}
 use Rattle.lexspec.specs.ActionFaults.{told_of}
 use Rattle.lexspec.specs.Outcome.{UnlessMemory}

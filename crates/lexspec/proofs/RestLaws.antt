@@ -9,7 +9,8 @@ use Rattle.lexspec.specs.Items.{Item, AreItems, newlines}
 use Rattle.lexspec.specs.RuleItems.{EndRule, AreRules}
 use Rattle.lexspec.specs.RuleReads.{Left, may_wait}
 use Rattle.lexspec.specs.RuleViews.{rule_of}
-use Rattle.lexspec.specs.ItemReads.{names_in, end_rule_of, NoneLeft}
+use Rattle.lexspec.specs.EndRules.{end_rule_of}
+use Rattle.lexspec.specs.ItemReads.{names_in, NoneLeft}
 use Rattle.lexspec.specs.Agreeing.{Agrees}
 use Rattle.lexspec.specs.RulesReads.{HasRules, NoSuchRules}
 use Rattle.lexspec.specs.Outcome.{UnlessMemory}

@@ -1,10 +1,13 @@
 -- What is read so far, and what is left.
-use Rattle.std.specs.Prelude.{◌≡◌, ℕ, List, [], ◌++◌, map}
+use Rattle.std.specs.Prelude.{◌≡◌, ℕ, ◌+◌, ◌-◌, List, [], ◌++◌, map}
 use Rattle.lexmeaning.specs.Spec.{Rule}
 use Rattle.lexspec.specs.RuleItems.{EndRule}
 use Rattle.lexspec.specs.RuleReads.{Left}
 use Rattle.lexspec.specs.RuleViews.{rule_of}
-use Rattle.lexspec.specs.ItemReads.{names_in, end_rule_of}
+use Rattle.lexspec.specs.EndRules.{end_rule_of}
+use Rattle.lexspec.specs.Items.{newlines}
+use Rattle.lexspec.specs.ItemReads.{names_in, ReadsFront}
+use Rattle.lexspec.specs.declared.item.Front.{Front}
 use Rattle.lexspec.specs.declared.declarations.Declarations.{Declarations}
 use Rattle.lexspec.specs.declared.taking.Progress.{Progress}
 
@@ -15,3 +18,8 @@ pub record Agrees (d : Declarations) (start : ℕ) (whole : List ℕ) (s : Progr
       → Left (names_in d) d.fold d.defs start whole [] (map rule_of s.rules.items ++ R) (map end_rule_of s.ends.items ++ E)
   pub on : (R : List Rule) (E : List EndRule) → Left (names_in d) d.fold d.defs start whole [] R E
       → (S : List Rule) × (F : List EndRule) × (R ≡ map rule_of s.rules.items ++ S) × (E ≡ map end_rule_of s.ends.items ++ F) × Left (names_in d) d.fold d.defs n t (map rule_of s.waiting.items) S F
+
+-- what agrees before a rule that begins a text, agrees after it
+abbrev pub GoesOn : Declarations → Front → List ℕ → Progress → Progress → Type 0
+GoesOn d front action s later = (start n : ℕ) (whole t rest : List ℕ) → ReadsFront d n t action rest front → Agrees d start whole s n t
+    → Agrees d start whole later (n + (newlines t - newlines rest)) rest

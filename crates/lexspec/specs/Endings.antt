@@ -1,10 +1,9 @@
 -- `<<EOF>>` rules that name a condition in common. (flex, End-of-File Rules.)
-use Rattle.std.specs.Prelude.{◌≡◌, ℕ, Bool, true, false, List, [], ◌∷◌, Option, Some, None, option_map}
+use Rattle.std.specs.Prelude.{◌≡◌, ℕ, Bool, true, false, List, Option, Some, None, option_map}
 use Rattle.std.specs.List.{list_any}
 use Rattle.lexspec.specs.Files.{lists_number}
 use Rattle.lexspec.specs.RuleItems.{EndRule}
-use Rattle.lexspec.specs.Tests.{sound_list}
-use Rattle.lexspec.specs.declared.taking.EndRule.{EndRule as EndRuleKept}
+use Rattle.lexspec.specs.declared.endings.EndRule.{EndRule as EndRuleKept}
 
 -- the numbers of an `<<EOF>>` rule that the code keeps
 abbrev pub numbers_kept : EndRuleKept → Option (List ℕ)
@@ -19,8 +18,3 @@ clashes (Some cs) (Some ds) = list_any (λ d. lists_number (Some cs) d) ds
 
 abbrev pub any_clashes : List EndRule → Option (List ℕ) → Bool
 any_clashes ends numbers = list_any (λ (e : EndRule). clashes e.0 numbers) ends
-
--- each list is in order, of numbers below the count
-abbrev pub AreOrdered : ℕ → List EndRule → Type 0
-AreOrdered count [] = Unit {0}
-AreOrdered count (e ∷ ends) = (sound_list count e.0 ≡ true) × AreOrdered count ends

@@ -8,13 +8,12 @@ use Rattle.lexspec.specs.Items.{Conditions, Trailing, at_end, matching, rule, ac
 use Rattle.lexspec.specs.RuleItems.{numbers_of, IsTrail, IsCutOf, EndRule}
 use Rattle.lexspec.specs.RuleReads.{HasHead, Left}
 use Rattle.lexspec.specs.RuleViews.{rule_of}
+use Rattle.lexspec.specs.Keeping.{MayFollow}
 use Rattle.lexspec.specs.declared.declarations.Declarations.{Declarations}
 use Rattle.lexspec.specs.declared.item.Front.{Front}
 use Rattle.lexspec.specs.declared.item.Front.TheVariants as F
 use Rattle.lexspec.specs.declared.item.RuleText.{RuleText}
-use Rattle.lexspec.specs.declared.taking.EndRule.{EndRule as EndRuleKept}
 use Rattle.lexspec.specs.declared.taking.Progress.{Progress}
-use Rattle.lexaction.specs.Views.{end_action_of}
 
 -- the names that rules may list, as the code keeps them
 abbrev pub names_in : Declarations → List (List ℕ)
@@ -50,14 +49,11 @@ ReadsFront d n t action rest (F.AtEnd numbers) = ReadsEnd d t action rest (optio
 abbrev pub ReadsItem : Declarations → ℕ → List ℕ → RuleText → Type 0
 ReadsItem d n t x = ReadsFront d n t x.action.now x.rest.now x.front
 
--- an `<<EOF>>` rule, by the numbers of its conditions and its action
-abbrev pub end_rule_of : EndRuleKept → EndRule
-end_rule_of e = (option_map (λ v. v.items) e.conditions, end_action_of e.action)
+-- nothing that may follow is spelled from a rule on, where these rules wait
+abbrev pub NoRulesAfter : Declarations → Progress → Front → List ℕ → Type 0
+NoRulesAfter d s front action = (n : ℕ) (t rest : List ℕ) (R : List Rule) (E : List EndRule) → ReadsFront d n t action rest front
+    → Left (names_in d) d.fold d.defs n t (map rule_of s.waiting.items) R E → MayFollow d s R E → ⊥
 
--- nothing is spelled from a rule on, where these rules wait
-abbrev pub NoRulesAfter : Declarations → Progress → RuleText → Type 0
-NoRulesAfter d s x = (n : ℕ) (t : List ℕ) (R : List Rule) (E : List EndRule) → ReadsItem d n t x → Left (names_in d) d.fold d.defs n t (map rule_of s.waiting.items) R E → ⊥
-
--- the text spells no rules from the line n on, where these rules wait
+-- the text spells nothing that may follow from the line n on, where these rules wait
 abbrev pub NoneLeft : Declarations → Progress → ℕ → List ℕ → Type 0
-NoneLeft d s n t = (R : List Rule) (E : List EndRule) → Left (names_in d) d.fold d.defs n t (map rule_of s.waiting.items) R E → ⊥
+NoneLeft d s n t = (R : List Rule) (E : List EndRule) → Left (names_in d) d.fold d.defs n t (map rule_of s.waiting.items) R E → MayFollow d s R E → ⊥

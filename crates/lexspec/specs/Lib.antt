@@ -23,3 +23,6 @@ pub mod RulesReads
 pub mod EndOpenings
 pub mod Endings
 pub mod SoundSides
+pub mod EndRules
+pub mod Keeping
+pub mod Readings

@@ -1,11 +1,14 @@
 -- What the reader of the rules section answers.
-use Rattle.std.specs.Prelude.{◌≡◌, ℕ, true, List, [], map, codes, ◌⊎◌}
+use Rattle.std.specs.Prelude.{◌≡◌, ℕ, ◌≤◌, true, List, [], map, length, codes, ◌⊎◌}
 use Rattle.lexmeaning.specs.Spec.{Rule}
 use Rattle.lexspec.specs.Lines.{begins}
 use Rattle.lexspec.specs.Items.{Item, AreItems}
 use Rattle.lexspec.specs.RuleItems.{EndRule, AreRules}
 use Rattle.lexspec.specs.RuleViews.{rule_of}
-use Rattle.lexspec.specs.ItemReads.{names_in, end_rule_of}
+use Rattle.lexspec.specs.EndRules.{end_rule_of}
+use Rattle.lexspec.specs.Files.{AreSingle}
+use Rattle.lexspec.specs.ItemReads.{names_in}
+use Rattle.lexspec.specs.SoundSides.{HaveSoundSides}
 use Rattle.lexspec.specs.declared.declarations.Declarations.{Declarations}
 use Rattle.lexspec.specs.declared.rules_section.RulesSection.{RulesSection}
 
@@ -15,7 +18,11 @@ pub record HasRules (d : Declarations) (n : ℕ) (text : List ℕ) (s : RulesSec
   pub here : AreItems n text items
   pub are : AreRules (names_in d) d.fold d.defs items (map rule_of s.rules.items) (map end_rule_of s.ends.items)
   pub stops : (s.rest.now ≡ []) ⊎ (begins (codes "%%") s.rest.now ≡ true)
+  pub sound : HaveSoundSides (map rule_of s.rules.items)
+  pub single : AreSingle (length d.conditions.items) (map end_rule_of s.ends.items)
+  pub few : length s.rules.items ≤ 4096
 
--- the items of the text spell no rules
+-- the items of the text spell no rules, or too many, or two ends of a condition
 abbrev pub NoSuchRules : Declarations → ℕ → List ℕ → Type 0
-NoSuchRules d n text = (items : List (ℕ × Item)) (rules : List Rule) (ends : List EndRule) → AreItems n text items → AreRules (names_in d) d.fold d.defs items rules ends → ⊥
+NoSuchRules d n text = (items : List (ℕ × Item)) (rules : List Rule) (ends : List EndRule) → AreItems n text items → AreRules (names_in d) d.fold d.defs items rules ends
+    → length rules ≤ 4096 → AreSingle (length d.conditions.items) ends → ⊥

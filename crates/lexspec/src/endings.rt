@@ -1,19 +1,23 @@
 //! The ends of conditions, by the `<<EOF>>` rules. (flex, End-of-File Rules.)
-ghost use Rattle.std.specs.Prelude.{◌≡◌, ◌==◌, ◌≤◌, ℕ, true, false, List, [], ◌∷◌, ◌++◌, map, length, OnOk, IfOk, IfErr};
+ghost use Rattle.std.specs.Prelude.{◌≡◌, ◌==◌, ◌≤◌, ℕ, true, false, List, [], ◌∷◌, ◌++◌, map, length, IfOk};
 ghost use Rattle.std.specs.List.{list_any};
-ghost use Rattle.lexspec.specs.Endings.{numbers_kept, clashes, any_clashes, AreOrdered};
+ghost use Rattle.lexspec.specs.Endings.{numbers_kept, clashes, any_clashes};
 ghost use Rattle.lexaction.specs.Views.{condition_of, end_action_of};
 ghost use Rattle.lexspec.specs.Declaring.{declared_of};
 ghost use Rattle.lexspec.specs.Files.{lists_number, unlisted_end as unlisted_end_in, end_in, conditions_with, AreSingle};
-ghost use Rattle.lexspec.specs.ItemReads.{end_rule_of};
+ghost use Rattle.lexspec.specs.EndRules.{end_rule_of};
 ghost use Rattle.lexspec.specs.RuleItems.{EndRule as EndRuleMeant};
 ghost use Rattle.lexspec.specs.Tests.{sound_list};
-ghost use Rattle.lexspec.specs.Outcome.{UnlessMemory};
 
-use crate::error::SpecErrorKind;
-use crate::taking::EndRule;
 use lexaction::{Condition, EndAction};
 use std::alloc::{AllocError, Global};
+
+/// An `<<EOF>>` rule, by the numbers of its conditions: None without a list.
+#[derive(Drop)]
+pub(crate) struct EndRule {
+    pub(crate) conditions: Option<Vec<u8>>,
+    pub(crate) action: EndAction,
+}
 
 /// Whether the number is in the list.
 fn is_listed(numbers: &[u8], number: u8) -> bool
@@ -53,19 +57,6 @@ pub(crate) fn may_join(ends: &[EndRule], end: &EndRule) -> bool
         }
     }
     true
-}
-
-/// Whether no condition has two ends, and at most one rule has no list; else a `DuplicateEof`.
-pub(crate) fn check_single(ends: &[EndRule]) -> Result<(), SpecErrorKind>
-    ensures found { OnOk result ((count : ℕ) → AreSingle count (map end_rule_of ends.now)) }
-    ensures none { IfErr result (λ e. UnlessMemory e ((count : ℕ) → AreOrdered count (map end_rule_of ends.now) → AreSingle count (map end_rule_of ends.now) → ⊥)) }
-{
-    for i in 0..ends.len() {
-        if !may_join(&ends[..i], &ends[i]) {
-            return Err(SpecErrorKind::DuplicateEof);
-        }
-    }
-    Ok(())
 }
 
 /// A copy of an end action.

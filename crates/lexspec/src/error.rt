@@ -109,3 +109,25 @@ impl<T: Drop> From<AllocFailed<T>> for SpecErrorKind {
         SpecErrorKind::OutOfMemory
     }
 }
+
+impl From<AllocError> for SpecError {
+    ghost from_gives = { λ _ e. e ≡ record { line = 0; kind = OutOfMemory } };
+
+    fn from(_error: AllocError) -> SpecError {
+        SpecError {
+            line: 0,
+            kind: SpecErrorKind::OutOfMemory,
+        }
+    }
+}
+
+impl<T: Drop> From<AllocFailed<T>> for SpecError {
+    ghost from_gives = { λ _ e. e ≡ record { line = 0; kind = OutOfMemory } };
+
+    fn from(_error: AllocFailed<T>) -> SpecError {
+        SpecError {
+            line: 0,
+            kind: SpecErrorKind::OutOfMemory,
+        }
+    }
+}

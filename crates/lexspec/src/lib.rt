@@ -14,6 +14,7 @@ mod lines;
 mod listed;
 mod newlines;
 mod plain;
+mod reading;
 mod readers;
 mod rule;
 mod rules_section;
@@ -29,6 +30,7 @@ pub use laws::{
     examples_of_lines, one_specification, sound_specifications, tested_specifications, tested_trees,
 };
 pub use lexaction::{Condition, EndAction, Statement};
+pub use reading::read_spec;
 pub use rule::{Cut, Rule};
 pub use spec::Spec;
 

@@ -4,6 +4,7 @@ ghost use Rattle.lexspec.specs.Lines.{begins};
 ghost use Rattle.lexspec.specs.Items.{newlines};
 ghost use Rattle.lexspec.specs.ItemReads.{NoneLeft};
 ghost use Rattle.lexspec.specs.Agreeing.{Agrees};
+ghost use Rattle.lexspec.specs.Keeping.{Keeps};
 ghost use Rattle.lexspec.specs.PlainViews.{lines_with};
 ghost use Rattle.lexspec.specs.EndOpenings.{begins_end};
 ghost use Rattle.lexspec.specs.RulesReads.{HasRules, NoSuchRules};
@@ -11,6 +12,7 @@ ghost use Rattle.lexspec.specs.Outcome.{UnlessMemory};
 ghost use Rattle.lexspec.specs.declared.error.SpecErrorKind.TheVariants.{DanglingBar};
 
 use crate::declarations::Declarations;
+use crate::endings::EndRule;
 use crate::error::{SpecError, SpecErrorKind};
 use crate::item::read_rule_text;
 use crate::newlines::newlines_before;
@@ -18,8 +20,11 @@ use crate::plain::{Plain, plain_at};
 use crate::rule::Rule;
 use crate::skipped::Skipped;
 use crate::subject::conditions_at;
-use crate::taking::{EndRule, Progress};
+use crate::taking::Progress;
 use std::alloc::{AllocError, Global};
+
+/// The most rules.
+const MAX_RULES: usize = 4_096;
 
 /// What the rules section has, and what follows it.
 #[derive(Drop)]
@@ -71,8 +76,8 @@ impl Progress {
     }
 
     /// The rules with that of the item that begins a text, at the line with this number, and what follows the item.
-    /// `Unclosed` is told of a block that is left open, and `DanglingBar` of an `<<EOF>>` rule where others wait for its
-    /// action; the other faults are those of a rule.
+    /// `Unclosed` is told of a block that is left open, `DanglingBar` of an `<<EOF>>` rule where others wait for its
+    /// action, and `TooManyRules` of another where there are 4,096; the other faults are those of a rule.
     pub(crate) fn with_item<'a>(
         self,
         alloc: Global,
@@ -85,8 +90,10 @@ impl Progress {
         requires some { 0 < length text.now }
         requires no_end { begins (codes "%%") text.now ≡ false }
         requires line { line + 1 < 2 ^ 32 }
+        requires room { length self.rules.items + length self.waiting.items ≤ 4096 }
         ensures found { IfOk result (λ x. (start : ℕ) (whole : List ℕ) → Agrees declarations.now start whole self line text.now
             → Agrees declarations.now start whole x.0 (line + (newlines text.now - newlines x.1.now)) x.1.now) }
+        ensures keeps { IfOk result (λ x. Keeps declarations.now self → Keeps declarations.now x.0) }
         ensures counts { IfOk result (λ x. newlines (take (length text.now - length x.1.now) text.now) + newlines x.1.now ≡ newlines text.now) }
         ensures shorter { IfOk result (λ x. length x.1.now < length text.now) }
         ensures none { IfErr result (λ e. UnlessMemory e (NoneLeft declarations.now self line text.now)) }
@@ -99,8 +106,12 @@ impl Progress {
             skipped.add_plain(skip, line)?;
             return Ok((self, rest));
         }
-        if !self.waiting.is_empty() && begins_end(text) {
-            return Err(SpecErrorKind::DanglingBar);
+        if begins_end(text) {
+            if !self.waiting.is_empty() {
+                return Err(SpecErrorKind::DanglingBar);
+            }
+        } else if self.rules.len() + self.waiting.len() >= MAX_RULES {
+            return Err(SpecErrorKind::TooManyRules);
         }
         let found = match read_rule_text(alloc, declarations, text, line) {
             Ok(found) => found,
@@ -165,7 +176,7 @@ pub(crate) fn read_rules<'a>(
 ) -> Result<RulesSection<'a>, SpecError>
     requires few { length declarations.now.conditions.items ≤ 255 }
     requires short { length text.now ≤ 1048576 }
-    requires first { first ≤ 1048577 }
+    requires first { first ≤ 1048578 }
     ensures found { IfOk result (λ s. HasRules declarations.now first text.now s) }
     ensures line { IfOk result (λ s. s.line + newlines s.rest.now ≡ first + newlines text.now) }
     ensures none { IfErr result (λ e. UnlessMemory e.kind (NoSuchRules declarations.now first text.now)) }

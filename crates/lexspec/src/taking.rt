@@ -1,26 +1,21 @@
 //! Rules one after another, with their actions. (POSIX, lex, Actions in lex; flex, End-of-File Rules.)
-ghost use Rattle.std.specs.Prelude.{◌≡◌, ℕ, ◌+◌, ◌-◌, ◌≤◌, [], List, length, IfOk, IfErr};
-ghost use Rattle.lexspec.specs.Items.{newlines};
-ghost use Rattle.lexspec.specs.ItemReads.{ReadsItem, NoRulesAfter};
-ghost use Rattle.lexspec.specs.Agreeing.{Agrees};
+ghost use Rattle.std.specs.Prelude.{◌≤◌, length, IfOk, IfErr};
+ghost use Rattle.lexspec.specs.ItemReads.{NoRulesAfter};
+ghost use Rattle.lexspec.specs.Agreeing.{GoesOn};
+ghost use Rattle.lexspec.specs.Keeping.{HasRoom, Keeps};
 ghost use Rattle.lexspec.specs.Outcome.{UnlessMemory};
-ghost use Rattle.lexspec.specs.SoundSides.{HasSoundFront, HasSoundRules};
+ghost use Rattle.lexspec.specs.SoundSides.{HasSoundFront};
+ghost use Rattle.lexspec.specs.declared.item.Front.TheVariants.{Matching, AtEnd};
 
 use crate::acting::{finished, told};
 use crate::action_text::is_bar;
 use crate::declarations::Declarations;
+use crate::endings::{EndRule, may_join};
 use crate::error::SpecErrorKind;
 use crate::item::{Front, RuleText};
 use crate::rule::Rule;
-use lexaction::{EndAction, read_action, read_end_action};
+use lexaction::{read_action, read_end_action};
 use std::alloc::Global;
-
-/// An `<<EOF>>` rule, by the numbers of its conditions: None without a list.
-#[derive(Drop)]
-pub(crate) struct EndRule {
-    pub(crate) conditions: Option<Vec<u8>>,
-    pub(crate) action: EndAction,
-}
 
 /// The rules that are read so far.
 #[derive(Drop)]
@@ -32,8 +27,81 @@ pub(crate) struct Progress {
 }
 
 impl Progress {
-    /// The rules with one more. Its faults are those of the statements of its action, `BadEofAction` of `|` in an
-    /// `<<EOF>>` rule, and `DanglingBar` of such a rule where others wait for its action.
+    /// The rules with one more, which matches a pattern. Its faults are those of the statements of its action.
+    fn with_matching(
+        self,
+        alloc: Global,
+        declarations: &Declarations,
+        rule: Rule,
+        action: &[u8],
+    ) -> Result<Progress, SpecErrorKind>
+        requires { length declarations.now.conditions.items ≤ 255 }
+        ensures found { IfOk result (λ s. GoesOn declarations.now (Matching rule) action.now self s) }
+        ensures keeps { IfOk result (λ s. HasSoundFront (Matching rule) → HasRoom (Matching rule) self → Keeps declarations.now self → Keeps declarations.now s) }
+        ensures none { IfErr result (λ e. UnlessMemory e (NoRulesAfter declarations.now self (Matching rule) action.now)) }
+    {
+        let Progress {
+            rules,
+            waiting,
+            ends,
+        } = self;
+        if is_bar(action) {
+            let mut waiting = waiting;
+            waiting.push(rule)?;
+            return Ok(Progress {
+                rules,
+                waiting,
+                ends,
+            });
+        }
+        match read_action(alloc, &declarations.conditions, action) {
+            Ok(statements) => {
+                let rules = finished(alloc, rules, waiting, rule, statements)?;
+                Ok(Progress {
+                    rules,
+                    waiting: Vec::new(alloc),
+                    ends,
+                })
+            }
+            Err(fault) => Err(told(fault)),
+        }
+    }
+
+    /// The rules with an `<<EOF>>` rule more. Its faults are `DanglingBar` where others wait for its action,
+    /// `BadEofAction` of `|`, those of its statements, and `DuplicateEof`.
+    fn with_end(
+        self,
+        alloc: Global,
+        declarations: &Declarations,
+        conditions: Option<Vec<u8>>,
+        action: &[u8],
+    ) -> Result<Progress, SpecErrorKind>
+        requires { length declarations.now.conditions.items ≤ 255 }
+        ensures found { IfOk result (λ s. GoesOn declarations.now (AtEnd conditions) action.now self s) }
+        ensures keeps { IfOk result (λ s. Keeps declarations.now self → Keeps declarations.now s) }
+        ensures none { IfErr result (λ e. UnlessMemory e (NoRulesAfter declarations.now self (AtEnd conditions) action.now)) }
+    {
+        if !self.waiting.is_empty() {
+            return Err(SpecErrorKind::DanglingBar);
+        }
+        if is_bar(action) {
+            return Err(SpecErrorKind::BadEofAction);
+        }
+        match read_end_action(alloc, &declarations.conditions, action) {
+            Ok(action) => {
+                let end = EndRule { conditions, action };
+                if !may_join(&self.ends, &end) {
+                    return Err(SpecErrorKind::DuplicateEof);
+                }
+                let mut progress = self;
+                progress.ends.push(end)?;
+                Ok(progress)
+            }
+            Err(fault) => Err(told(fault)),
+        }
+    }
+
+    /// The rules with one more: `with_matching`, `with_end`.
     pub(crate) fn with_rule(
         self,
         alloc: Global,
@@ -41,67 +109,18 @@ impl Progress {
         text: RuleText<'_>,
     ) -> Result<Progress, SpecErrorKind>
         requires { length declarations.now.conditions.items ≤ 255 }
-        ensures found { IfOk result (λ s. (start n : ℕ) (whole t : List ℕ) → ReadsItem declarations.now n t text.entry → Agrees declarations.now start whole self n t
-            → Agrees declarations.now start whole s (n + (newlines t - newlines text.entry.rest.now)) text.entry.rest.now) }
-        ensures sound { IfOk result (λ s. HasSoundFront text.entry.front → HasSoundRules self → HasSoundRules s) }
-        ensures none { IfErr result (λ e. UnlessMemory e (NoRulesAfter declarations.now self text.entry)) }
+        ensures found { IfOk result (λ s. GoesOn declarations.now text.entry.front text.entry.action.now self s) }
+        ensures keeps { IfOk result (λ s. HasSoundFront text.entry.front → HasRoom text.entry.front self → Keeps declarations.now self → Keeps declarations.now s) }
+        ensures none { IfErr result (λ e. UnlessMemory e (NoRulesAfter declarations.now self text.entry.front text.entry.action.now)) }
     {
         let RuleText {
             front,
             action,
             rest: _rest,
         } = text;
-        let Progress {
-            rules,
-            waiting,
-            ends,
-        } = self;
         match front {
-            Front::Matching(rule) => {
-                if is_bar(action) {
-                    let mut waiting = waiting;
-                    waiting.push(rule)?;
-                    return Ok(Progress {
-                        rules,
-                        waiting,
-                        ends,
-                    });
-                }
-                match read_action(alloc, &declarations.conditions, action) {
-                    Ok(statements) => {
-                        let rules = finished(alloc, rules, waiting, rule, statements)?;
-                        Ok(Progress {
-                            rules,
-                            waiting: Vec::new(alloc),
-                            ends,
-                        })
-                    }
-                    Err(fault) => Err(told(fault)),
-                }
-            }
-            Front::AtEnd(conditions) => {
-                if !waiting.is_empty() {
-                    return Err(SpecErrorKind::DanglingBar);
-                }
-                if is_bar(action) {
-                    return Err(SpecErrorKind::BadEofAction);
-                }
-                match read_end_action(alloc, &declarations.conditions, action) {
-                    Ok(end) => {
-                        let mut ends = ends;
-                        ends.push(EndRule {
-                            conditions,
-                            action: end,
-                        })?;
-                        Ok(Progress {
-                            rules,
-                            waiting,
-                            ends,
-                        })
-                    }
-                    Err(fault) => Err(told(fault)),
-                }
-            }
+            Front::Matching(rule) => self.with_matching(alloc, declarations, rule, action),
+            Front::AtEnd(conditions) => self.with_end(alloc, declarations, conditions, action),
         }
     }
 }

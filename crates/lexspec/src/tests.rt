@@ -1,12 +1,12 @@
 use crate::action_text::split_action;
 use crate::declarations::Declarations;
-use crate::endings::{check_single, may_join, with_ends};
+use crate::endings::{EndRule, may_join, with_ends};
 use crate::item::read_rule_text;
 use crate::lines::without_returns;
 use crate::rules_section::read_rules;
 use crate::section::{Section, read_section};
 use crate::skipped::Skipped;
-use crate::taking::{EndRule, Progress};
+use crate::taking::Progress;
 use crate::{Condition, EndAction, Rule, Spec, SpecError, SpecErrorKind};
 use lexre::{PatternError, PatternErrorKind};
 use std::alloc::{AllocError, Global};
@@ -350,24 +350,6 @@ fn single_ends(rt: HostRuntime) {
     assert!(rt; may_follow(alloc, None, some).expect(&rt, "memory"));
     assert!(rt; may_follow(alloc, some, None).expect(&rt, "memory"));
     assert!(rt; !may_follow(alloc, None, None).expect(&rt, "memory"));
-}
-
-/// The same of all rules at once.
-#[test]
-fn checked_ends(rt: HostRuntime) {
-    let alloc = rt.alloc();
-    let first = end_rule(alloc, Some([0, 2].as_slice()), 0).expect(&rt, "memory");
-    let second = end_rule(alloc, None, 0).expect(&rt, "memory");
-    let third = end_rule(alloc, Some([1].as_slice()), 0).expect(&rt, "memory");
-    let mut ends: Vec<EndRule> = Vec::new(alloc);
-    assert!(rt; check_single(&ends).is_ok());
-    ends.push(first).expect(&rt, "memory");
-    ends.push(second).expect(&rt, "memory");
-    ends.push(third).expect(&rt, "memory");
-    assert!(rt; check_single(&ends).is_ok());
-    let fourth = end_rule(alloc, Some([2].as_slice()), 0).expect(&rt, "memory");
-    ends.push(fourth).expect(&rt, "memory");
-    assert!(rt; check_single(&ends) == Err(SpecErrorKind::DuplicateEof));
 }
 
 /// The status at the end of each of four conditions, of which the rules list 1 and 3, and perhaps none.

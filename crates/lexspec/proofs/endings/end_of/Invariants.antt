@@ -1,6 +1,6 @@
 use Rattle.std.proofs.Common.{◌≡◌, drop, map}
 use Rattle.lexspec.specs.Files.{end_in}
-use Rattle.lexspec.specs.ItemReads.{end_rule_of}
+use Rattle.lexspec.specs.EndRules.{end_rule_of}
 use Rattle.lexspec.proofs.endings.end_of.Given as goal
 
 abbrev pub invariant-loop-end : goal.invariant-loop-end

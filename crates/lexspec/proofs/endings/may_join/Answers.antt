@@ -1,6 +1,6 @@
 use Rattle.std.proofs.Common.{map, sym, ◌∙◌}
 use Rattle.lexspec.specs.Endings.{numbers_kept}
-use Rattle.lexspec.specs.ItemReads.{end_rule_of}
+use Rattle.lexspec.specs.EndRules.{end_rule_of}
 use Rattle.lexspec.proofs.EndingLaws.{single_joined, twice_ended, clash_found, clash_past}
 use Rattle.lexspec.proofs.endings.may_join.Goals as goal
 

@@ -1,6 +1,6 @@
 use Rattle.std.proofs.Common.{◌≡◌, drop, map}
 use Rattle.lexspec.specs.Endings.{numbers_kept, any_clashes}
-use Rattle.lexspec.specs.ItemReads.{end_rule_of}
+use Rattle.lexspec.specs.EndRules.{end_rule_of}
 use Rattle.lexspec.proofs.endings.may_join.Given as goal
 
 abbrev pub invariant-loop-other : goal.invariant-loop-other

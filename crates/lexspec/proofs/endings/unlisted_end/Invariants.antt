@@ -1,6 +1,6 @@
 use Rattle.std.proofs.Common.{◌≡◌, drop, map}
 use Rattle.lexspec.specs.Files.{unlisted_end}
-use Rattle.lexspec.specs.ItemReads.{end_rule_of}
+use Rattle.lexspec.specs.EndRules.{end_rule_of}
 use Rattle.lexspec.proofs.endings.unlisted_end.Given as goal
 
 abbrev pub invariant-loop-end : goal.invariant-loop-end

@@ -1,0 +1,33 @@
+-- What the reader of files makes of the parts of a file.
+use Rattle.std.specs.Prelude.{◌≡◌, ℕ, ◌+◌, ◌≤◌, ◌==◌, ◌||◌, Bool, not, List, map, length}
+use Rattle.std.specs.List.{list_any}
+use Rattle.lexmeaning.specs.Spec.{Spec}
+use Rattle.lexspec.specs.Lines.{line_in, is_blank}
+use Rattle.lexspec.specs.Items.{Item, AreItems}
+use Rattle.lexspec.specs.RuleItems.{EndRule, AreRules}
+use Rattle.lexspec.specs.RuleViews.{rule_of}
+use Rattle.lexspec.specs.EndRules.{end_rule_of}
+use Rattle.lexspec.specs.Files.{AreSingle, conditions_with}
+use Rattle.lexspec.specs.Declaring.{declared_of}
+use Rattle.lexspec.specs.ItemReads.{names_in}
+use Rattle.lexspec.specs.declared.declarations.Declarations.{Declarations}
+use Rattle.lexspec.specs.declared.rules_section.RulesSection.{RulesSection}
+use Rattle.lexspec.specs.declared.section.Section.{Section}
+
+-- a byte that is neither a blank nor a newline
+abbrev pub has_text : List ℕ → Bool
+has_text t = list_any (λ c. not (is_blank c || c == 10)) t
+
+-- the specification of what the two sections declare and spell
+abbrev pub of_sections : Declarations → RulesSection → Spec
+of_sections d x = record { conditions = conditions_with 0 (map declared_of d.conditions.items) (map end_rule_of x.ends.items); rules = map rule_of x.rules.items }
+
+-- what follows the first section spells this specification, by what that declares
+pub record SpellsRest (s : Section) (S : Spec) : Type 0 where
+  pub items : List (ℕ × Item)
+  pub here : AreItems (s.line + 1) (line_in s.rest.now).1 items
+  pub ends : List EndRule
+  pub are : AreRules (names_in s.declarations) s.declarations.fold s.declarations.defs items S.rules ends
+  pub one_end : AreSingle (length s.declarations.conditions.items) ends
+  pub conditions : S.conditions ≡ conditions_with 0 (map declared_of s.declarations.conditions.items) ends
+  pub few_rules : length S.rules ≤ 4096

@@ -1,0 +1,99 @@
+//! Specification files. (POSIX, lex, Input Files; flex, Format of the Input File.)
+ghost use Rattle.std.specs.Prelude.{◌≡◌, ◌≤◌, true, length, IfOk, IfErr};
+ghost use Rattle.lexmeaning.specs.Spec.{Spec as Meant};
+ghost use Rattle.lexspec.specs.Files.{SpellsSpec};
+ghost use Rattle.lexspec.specs.Outcome.{UnlessMemory};
+ghost use Rattle.lexspec.specs.Readings.{has_text, of_sections, SpellsRest};
+ghost use Rattle.lexspec.specs.Tests.{is_sound};
+ghost use Rattle.lexspec.specs.Views.{spec_of};
+ghost use Rattle.lexspec.specs.declared.error.SpecErrorKind.TheVariants.{OutOfMemory};
+
+use crate::declarations::Declarations;
+use crate::endings::with_ends;
+use crate::error::{SpecError, SpecErrorKind};
+use crate::lines::{is_blank, split_line, without_returns};
+use crate::rules_section::{RulesSection, read_rules};
+use crate::section::{Section, read_section};
+use crate::skipped::Skipped;
+use crate::spec::Spec;
+use lexre::ReadOptions;
+use std::alloc::Global;
+
+/// The most bytes of a file.
+const MAX_BYTES: usize = 1_048_576;
+
+/// Whether a text has a byte other than blanks and newlines.
+fn has_text(text: &[u8]) -> bool
+    ensures { result ≡ has_text text.now }
+{
+    text.iter().any(|byte| !is_blank(*byte) && *byte != b'\n')
+}
+
+/// The specification of what the two sections declare and spell. `skipped` has the lines of skipped code in the second.
+fn joined(
+    alloc: Global,
+    declarations: Declarations,
+    found: RulesSection<'_>,
+    skipped: Skipped,
+) -> Result<Spec, SpecError>
+    requires few { length declarations.conditions.items ≤ 255 }
+    requires sound { is_sound (of_sections declarations found) ≡ true }
+    ensures found { IfOk result (λ s. spec_of s ≡ of_sections declarations found) }
+    ensures none { IfErr result (λ e. e.kind ≡ OutOfMemory) }
+{
+    let RulesSection {
+        rules,
+        ends,
+        rest,
+        line,
+    } = found;
+    let mut lines = declarations.skipped.lines;
+    lines.extend_from_slice(&skipped.lines)?;
+    let (_, code) = split_line(rest);
+    if has_text(code) {
+        lines.push(line)?;
+    }
+    let conditions = with_ends(alloc, declarations.conditions, &ends)?;
+    Ok(Spec::new(conditions, rules, lines))
+}
+
+/// The specification of a file whose definitions section is this.
+fn read_on(alloc: Global, section: Section<'_>) -> Result<Spec, SpecError>
+    requires some { 1 ≤ length section.declarations.conditions.items }
+    requires few { length section.declarations.conditions.items ≤ 255 }
+    requires short { length section.rest.now ≤ 1048576 }
+    requires line { section.line ≤ 1048577 }
+    ensures found { IfOk result (λ s. SpellsRest section (spec_of s)) }
+    ensures none { IfErr result (λ e. UnlessMemory e.kind ((S : Meant) → SpellsRest section S → ⊥)) }
+{
+    let Section {
+        declarations,
+        rest,
+        line,
+    } = section;
+    let (_, text) = split_line(rest);
+    let mut skipped = Skipped::new(alloc);
+    match read_rules(alloc, &declarations, &mut skipped, text, line + 1) {
+        Ok(found) => joined(alloc, declarations, found, skipped),
+        Err(fault) => Err(fault),
+    }
+}
+
+/// The specification that a file spells. `fold` says whether letters of patterns stand for both cases without an option.
+/// The first faulty line is refused, and a rule by the line of its pattern; `TooLong` of the whole file is told of line 0.
+pub fn read_spec(alloc: Global, text: &[u8], options: ReadOptions) -> Result<Spec, SpecError>
+    ensures found { IfOk result (λ s. SpellsSpec options.fold text.now (spec_of s)) }
+    ensures none { IfErr result (λ e. UnlessMemory e.kind ((S : Meant) → SpellsSpec options.fold text.now S → ⊥)) }
+{
+    if text.len() > MAX_BYTES {
+        return Err(SpecError {
+            line: 0,
+            kind: SpecErrorKind::TooLong,
+        });
+    }
+    let kept = without_returns(alloc, text)?;
+    match read_section(alloc, &kept, options.fold) {
+        Ok(section) => read_on(alloc, section),
+        Err(fault) => Err(fault),
+    }
+}
