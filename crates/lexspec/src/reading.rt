@@ -38,7 +38,7 @@ fn joined(
 ) -> Result<Spec, SpecError>
     requires few { length declarations.conditions.items ≤ 255 }
     requires sound { is_sound (of_sections declarations found) ≡ true }
-    ensures found { IfOk result (λ s. spec_of s ≡ of_sections declarations found) }
+    ensures found { IfOk result (λ s. spec_of s ≡ of_sections declarations found.entry) }
     ensures none { IfErr result (λ e. e.kind ≡ OutOfMemory) }
 {
     let RulesSection {
@@ -63,8 +63,8 @@ fn read_on(alloc: Global, section: Section<'_>) -> Result<Spec, SpecError>
     requires few { length section.declarations.conditions.items ≤ 255 }
     requires short { length section.rest.now ≤ 1048576 }
     requires line { section.line ≤ 1048577 }
-    ensures found { IfOk result (λ s. SpellsRest section (spec_of s)) }
-    ensures none { IfErr result (λ e. UnlessMemory e.kind ((S : Meant) → SpellsRest section S → ⊥)) }
+    ensures found { IfOk result (λ s. SpellsRest section.entry (spec_of s)) }
+    ensures none { IfErr result (λ e. UnlessMemory e.kind ((S : Meant) → SpellsRest section.entry S → ⊥)) }
 {
     let Section {
         declarations,
