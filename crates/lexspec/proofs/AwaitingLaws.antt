@@ -1,16 +1,22 @@
--- An `<<EOF>>` rule where rules wait for an action.
-use Rattle.std.proofs.Common.{◌≡◌, ℕ, true, false, List, [], map, length, sym, ap, ◌∙◌}
+-- An `<<EOF>>` rule where rules wait for an action, and another rule where there are enough.
+use Rattle.std.proofs.Common.{◌≡◌, ℕ, ◌+◌, ◌≤◌, ◌<◌, Bool, true, false, List, [], ◌∷◌, map, length, inl, inr, refl, sym, ap, subst, ◌∙◌, arith, length-append}
 use Rattle.std.specs.Prelude.{codes}
 use Rattle.std.proofs.lemmas.List.{length-map}
 use Rattle.lexmeaning.specs.Spec as S
 use Rattle.lexspec.specs.Lines.{begins}
-use Rattle.lexspec.specs.Items.{Subject, at_end, matching, Action, bar, spelled, IsSubject, starts_rule, action_of}
+use Rattle.lexspec.specs.Items.{Trailing, Subject, at_end, matching, Action, bar, spelled, Item, skipped, skipped_line, skipped_block, rule, IsSubject, IsItem, AreItems, starts_rule, action_of}
+use Rattle.lexspec.specs.RuleItems.{EndRule, AreRules}
+use Rattle.lexspec.specs.RuleReads.{acting, first_statements}
+use Rattle.lexspec.specs.Keeping.{HasRoom}
 use Rattle.lexspec.specs.EndOpenings.{opens_end, begins_end}
 use Rattle.lexspec.specs.RuleViews.{rule_of}
-use Rattle.lexspec.specs.ItemReads.{names_in, NoneLeft}
+use Rattle.lexspec.specs.ItemReads.{names_in, ReadsFront, NoneLeft}
 use Rattle.lexspec.specs.declared.declarations.Declarations.{Declarations}
+use Rattle.lexspec.specs.declared.item.Front.{Front}
+use Rattle.lexspec.specs.declared.item.Front.TheVariants as F
 use Rattle.lexspec.specs.declared.taking.Progress.{Progress}
-use Rattle.lexspec.proofs.OneItems.{both_ways, not_caret}
+use Rattle.lexspec.proofs.OneSection.{no_true, two_percents}
+use Rattle.lexspec.proofs.OneItems.{both_ways, AllBlank, StartsBlank, OpensBlock, tests_of, rule_tests, not_caret}
 use Rattle.lexspec.proofs.RulesLaws.{ActsAs, invert}
 
 module _ (d : Declarations) where
@@ -21,6 +27,44 @@ module _ (d : Declarations) where
   no_action w (matching false head after) u v action some (caret, not_end, p) on acts = both_ways (begins (codes "<<EOF>>") u) on not_end
 
   pub end_refused : (s : Progress) (n : ℕ) (t : List ℕ) → starts_rule t ≡ true → begins_end t ≡ true → (length s.waiting.items ≡ 0 → ⊥) → NoneLeft d s n t
-  end_refused s n t starts on some R E left =
+  end_refused s n t starts on some R E left may =
       let h = invert (names_in d) d.fold d.defs n t (map rule_of s.waiting.items) R E starts left in
       no_action (map rule_of s.waiting.items) h.subject h.u h.v (action_of h.text) (λ empty. some (sym (length-map s.waiting.items rule_of) ∙ ap length empty)) h.cut (sym (ap opens_end h.list) ∙ on) h.acts
+
+  -- a text that begins with another rule spells one rule at least
+  some_later : (n : ℕ) (t : List ℕ) (later : List S.Rule) (E : List EndRule) (items : List (ℕ × Item)) → starts_rule t ≡ true → begins_end t ≡ false → AreItems n t items
+      → AreRules (names_in d) d.fold d.defs items later E → 1 ≤ length later
+  some_later n t later E [] starts off (inl e) are = no_true (sym (ap starts_rule e) ∙ starts)
+  some_later n t later E [] starts off (inr e) are = let p = two_percents t e in no_true (sym (rule_tests (37 ∷ 37 ∷ p.0) (subst (λ z. starts_rule z ≡ true) p.1 starts)).2)
+  some_later n t later E ((m, skipped) ∷ is) starts off (rest, line, item, more) are = both_ways (AllBlank t) (tests_of t skipped rest item) (rule_tests t starts).0
+  some_later n t later E ((m, skipped_line) ∷ is) starts off (rest, line, item, more) are = both_ways (StartsBlank t) (tests_of t skipped_line rest item).1 (rule_tests t starts).1
+  some_later n t later E ((m, skipped_block) ∷ is) starts off (rest, line, item, more) are = both_ways (OpensBlock t) (tests_of t skipped_block rest item).2 (rule_tests t starts).3
+  some_later n t later E ((m, rule asked at_end action) ∷ is) starts off (rest, line, (starts', u, v, text, list, cut, ends, is_action), more) are = no_true (sym off ∙ ap opens_end list ∙ cut.0)
+  some_later n t later E ((m, rule asked (matching anchored head after) action) ∷ is) starts off (rest, line, item, more) (r, others, all, one, later_ones) = omega (arith, ap length all)
+
+  pub full_refused : (s : Progress) (n : ℕ) (t : List ℕ) → starts_rule t ≡ true → begins_end t ≡ false → 4096 ≤ length s.rules.items + length s.waiting.items → NoneLeft d s n t
+  full_refused s n t starts off full R E left may =
+      let waiting = map rule_of s.waiting.items in
+      let more : 1 ≤ length left.later = some_later n t left.later E left.items starts off left.here left.are in
+      let waiters = map (acting (first_statements left.later)) waiting in
+      let all : length R ≡ length waiters + length left.later = ap length left.whole ∙ length-append waiters left.later in
+      let named : length waiters ≡ length waiting = length-map waiting (acting (first_statements left.later)) in
+      let kept : length waiting ≡ length s.waiting.items = length-map s.waiting.items rule_of in
+      let few = may.0 in
+      omega arith
+
+  not_end : (u v head : List ℕ) (anchored : Bool) (after : Trailing) → IsSubject u (matching anchored head after) v → begins (codes "<<EOF>>") u ≡ false
+  not_end u v head true after (caret, off, p) = from (begins (codes "<<EOF>>") u) refl
+    where
+      from : (b : Bool) → begins (codes "<<EOF>>") u ≡ b → b ≡ false
+      from true e = both_ways (begins (codes "^") u) caret (not_caret u e)
+      from false e = refl
+  not_end u v head false after (caret, off, p) = off
+
+  -- a rule has room where there is room for any rule but an `<<EOF>>` rule
+  pub has_room : (s : Progress) (n : ℕ) (t action rest : List ℕ) (front : Front) → ReadsFront d n t action rest front → (begins_end t ≡ false → length s.rules.items + length s.waiting.items < 4096) → HasRoom front s
+  has_room s n t action rest (F.Matching r) h room = from h.item
+    where
+      from : IsItem t (rule h.asked (matching h.anchored h.head h.after) (action_of action)) rest → length s.rules.items + length s.waiting.items < 4096
+      from (starts, u, v, text, list, cut, ends, is_action) = room (ap opens_end list ∙ not_end u v h.head h.anchored h.after cut)
+  has_room s n t action rest (F.AtEnd numbers) h room = tt

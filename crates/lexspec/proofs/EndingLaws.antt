@@ -11,7 +11,7 @@ use Rattle.lexspec.specs.RuleItems.{EndRule, numbers_from, all_numbered, is_numb
 use Rattle.lexspec.specs.EndRules.{end_rule_of}
 use Rattle.lexspec.specs.declared.endings.EndRule.{EndRule as EndRuleKept}
 use Rattle.lexspec.specs.Tests.{ascend_from, sound_list}
-use Rattle.lexspec.specs.Endings.{numbers_kept, clashes, any_clashes, AreOrdered}
+use Rattle.lexspec.specs.Endings.{numbers_kept, clashes, any_clashes}
 use Rattle.lexspec.proofs.OneSection.{no_true}
 
 -- counts
@@ -182,20 +182,6 @@ clash_past xs i ns le = ap (λ z. any_clashes (map end_rule_of z) ns) (drop_all 
 
 pub taken_next : (xs : List EndRuleKept) (i : ℕ) (x : EndRuleKept) → i < length xs → x ≡ get_or xs i x → map end_rule_of (take (i + 1) xs) ≡ map end_rule_of (take i xs) ++ end_rule_of x ∷ []
 taken_next xs i x lt is = ap (map end_rule_of) (take_more xs i x lt) ∙ map-append end_rule_of (take i xs) (get_or xs i x ∷ []) ∙ ap (λ y. map end_rule_of (take i xs) ++ end_rule_of y ∷ []) (sym is)
-
-pub taken_split : (xs : List EndRuleKept) (i : ℕ) (x : EndRuleKept) → i < length xs → x ≡ get_or xs i x
-    → map end_rule_of xs ≡ map end_rule_of (take i xs) ++ end_rule_of x ∷ map end_rule_of (drop (i + 1) xs)
-taken_split xs i x lt is =
-    ap (map end_rule_of) (sym (take-append-drop i xs)) ∙ map-append end_rule_of (take i xs) (drop i xs) ∙ ap (λ z. map end_rule_of (take i xs) ++ map end_rule_of z) (drop_more xs i x lt)
-    ∙ ap (λ y. map end_rule_of (take i xs) ++ end_rule_of y ∷ map end_rule_of (drop (i + 1) xs)) (sym is)
-
-ordered_get : (count : ℕ) (xs : List EndRuleKept) (i : ℕ) (d : EndRuleKept) → i < length xs → AreOrdered count (map end_rule_of xs) → sound_list count (numbers_kept (get_or xs i d)) ≡ true
-ordered_get count [] i d lt h = absurd (omega arith)
-ordered_get count (x ∷ xs) zero d lt h = h.0
-ordered_get count (x ∷ xs) (suc i) d lt h = ordered_get count xs i d (omega arith) h.1
-
-pub ordered_at : (count : ℕ) (xs : List EndRuleKept) (i : ℕ) (x : EndRuleKept) → i < length xs → x ≡ get_or xs i x → AreOrdered count (map end_rule_of xs) → sound_list count (numbers_kept x) ≡ true
-ordered_at count xs i x lt is h = ap (λ y. sound_list count (numbers_kept y)) is ∙ ordered_get count xs i x lt h
 
 -- a list of numbers that was read is in order
 numbers_ascend : (k n : ℕ) (test : ℕ → Bool) → ascend_from k (k + n) (numbers_from k n test) ≡ true

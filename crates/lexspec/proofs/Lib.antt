@@ -25,3 +25,4 @@ pub mod AwaitingLaws
 pub mod EndingLaws
 pub mod PassLaws
 pub mod SideLaws
+pub mod KeepLaws

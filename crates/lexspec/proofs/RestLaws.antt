@@ -1,7 +1,7 @@
 -- The rules section, from its first line to its last.
-use Rattle.std.proofs.Common.{◌≡◌, ℕ, ◌+◌, ◌-◌, ◌≤◌, ◌==◌, true, List, [], ◌∷◌, map, length, take, inl, refl, sym, ap, subst, ◌∙◌, arith}
+use Rattle.std.proofs.Common.{◌≡◌, ℕ, ◌+◌, ◌-◌, ◌≤◌, ◌==◌, true, List, [], ◌∷◌, map, length, take, inl, refl, sym, ap, subst, ◌∙◌, arith, length-append}
 use Rattle.std.specs.Prelude.{codes, ◌⊎◌, Result, Ok, Err, IfOk, IfErr}
-use Rattle.std.proofs.lemmas.List.{append-nil}
+use Rattle.std.proofs.lemmas.List.{append-nil, length-map}
 use Rattle.std.proofs.lemmas.List.Sums.{count_by-le-length}
 use Rattle.lexmeaning.specs.Spec as S
 use Rattle.lexspec.specs.Lines.{begins}
@@ -12,6 +12,9 @@ use Rattle.lexspec.specs.RuleViews.{rule_of}
 use Rattle.lexspec.specs.EndRules.{end_rule_of}
 use Rattle.lexspec.specs.ItemReads.{names_in, NoneLeft}
 use Rattle.lexspec.specs.Agreeing.{Agrees}
+use Rattle.lexspec.specs.Files.{AreSingle}
+use Rattle.lexspec.specs.Keeping.{Keeps}
+use Rattle.lexspec.specs.SoundSides.{HaveSoundSides}
 use Rattle.lexspec.specs.RulesReads.{HasRules, NoSuchRules}
 use Rattle.lexspec.specs.Outcome.{UnlessMemory}
 use Rattle.lexspec.specs.declared.declarations.Declarations.{Declarations}
@@ -52,21 +55,25 @@ module _ (d : Declarations) where
 
   -- what is not spelled from a place on is not spelled from the first line on
   pub section_refused : (start n : ℕ) (whole t : List ℕ) (s : Progress) (e : SpecErrorKind) → Agrees d start whole s n t → UnlessMemory e (NoneLeft d s n t) → UnlessMemory e (NoSuchRules d start whole)
-  section_refused start n whole t s e a h = unless_memory e (NoneLeft d s n t) (NoSuchRules d start whole) (λ none items R E here are.
-      let (T, F, p, q, left) = a.on R E (left_of start whole items R E here are) in none T F left) h
+  section_refused start n whole t s e a h = unless_memory e (NoneLeft d s n t) (NoSuchRules d start whole) (λ none items R E here are few single.
+      let (T, F, p, q, left) = a.on R E (left_of start whole items R E here are) in
+      let all : length R ≡ length (map rule_of s.rules.items) + length T = ap length p ∙ length-append (map rule_of s.rules.items) T in
+      let done : length (map rule_of s.rules.items) ≡ length s.rules.items = length-map s.rules.items rule_of in
+      let room : length s.rules.items + length T ≤ 4096 = omega arith in
+      none T F left (room, subst (AreSingle (length d.conditions.items)) q single)) h
 
   -- no rule waits at the end
   pub end_waits : (n : ℕ) (t : List ℕ) (s : Progress) (e : SpecErrorKind) → IsOver t → (length s.waiting.items ≡ 0 → ⊥) → UnlessMemory e (NoneLeft d s n t)
-  end_waits n t s e over some = always e (NoneLeft d s n t) (λ R E left. from s.waiting.items some left.items left.here left.next)
+  end_waits n t s e over some = always e (NoneLeft d s n t) (λ R E left may. from s.waiting.items some left.items left.here left.next)
     where
       from : (ws : List Rule) → (length ws ≡ 0 → ⊥) → (is : List (ℕ × Item)) → AreItems n t is → may_wait (map rule_of ws) is ≡ true → ⊥
       from [] h is here next = h refl
       from (w ∷ ws) h [] here next = no_true next
       from (w ∷ ws) h (i ∷ is) (rest, first, item, more) next = no_item_at_end t i.1 rest over item
 
-  pub all_read : (start n : ℕ) (whole t : List ℕ) (s : Progress) (x : RulesSection) → Agrees d start whole s n t → IsOver t → length s.waiting.items ≡ 0
+  pub all_read : (start n : ℕ) (whole t : List ℕ) (s : Progress) (x : RulesSection) → Agrees d start whole s n t → Keeps d s → IsOver t → length s.waiting.items ≡ 0
       → x.rules.items ≡ s.rules.items → x.ends.items ≡ s.ends.items → x.rest.now ≡ t → HasRules d start whole x
-  all_read start n whole t s x a over none rules ends rest =
+  all_read start n whole t s x a keeps over none rules ends rest =
       let nobody : s.waiting.items ≡ [] = no_elements s.waiting.items none in
       let last : Left (names_in d) d.fold d.defs n t (map rule_of s.waiting.items) [] [] = rw nobody (left_of n t [] [] [] over (refl, refl)) in
       let all = a.back [] [] last in
@@ -77,6 +84,9 @@ module _ (d : Declarations) where
         are = rw (rules, ends) (subst (λ z. AreRules (names_in d) d.fold d.defs all.items z (map end_rule_of s.ends.items)) R
             (subst (λ z. AreRules (names_in d) d.fold d.defs all.items all.later z) (append-nil (map end_rule_of s.ends.items)) all.are));
         stops = subst IsOver (sym rest) over;
+        sound = subst (λ z. HaveSoundSides (map rule_of z)) (sym rules) keeps.sound.0;
+        single = subst (λ z. AreSingle (length d.conditions.items) (map end_rule_of z)) (sym ends) keeps.single;
+        few = omega (arith, keeps.few, ap length rules);
       }
 
   -- one item more
@@ -88,10 +98,10 @@ module _ (d : Declarations) where
       let same : newlines t - newlines rest ≡ more = omega (arith, counts, e) in
       subst (λ z. Agrees d start whole s' (line + z) rest) same (on start whole a)
 
-  pub ended_found : (r : Result RulesSection SpecError) (start n : ℕ) (whole t : List ℕ) (s : Progress) → Agrees d start whole s n t → IsOver t → IfOk r (λ x. length s.waiting.items ≡ 0)
+  pub ended_found : (r : Result RulesSection SpecError) (start n : ℕ) (whole t : List ℕ) (s : Progress) → Agrees d start whole s n t → Keeps d s → IsOver t → IfOk r (λ x. length s.waiting.items ≡ 0)
       → IfOk r (λ x. x.rules.items ≡ s.rules.items) → IfOk r (λ x. x.ends.items ≡ s.ends.items) → IfOk r (λ x. x.rest.now ≡ t) → IfOk r (λ x. HasRules d start whole x)
-  ended_found (Err e) start n whole t s a over none rules ends rest = tt
-  ended_found (Ok x) start n whole t s a over none rules ends rest = all_read start n whole t s x a over none rules ends rest
+  ended_found (Err e) start n whole t s a keeps over none rules ends rest = tt
+  ended_found (Ok x) start n whole t s a keeps over none rules ends rest = all_read start n whole t s x a keeps over none rules ends rest
 
   pub ended_none : (r : Result RulesSection SpecError) (start n : ℕ) (whole t : List ℕ) (s : Progress) → Agrees d start whole s n t → IsOver t → IfErr r (λ e. length s.waiting.items ≡ 0 → ⊥)
       → IfErr r (λ e. UnlessMemory e.kind (NoSuchRules d start whole))

@@ -89,7 +89,7 @@ module _ (d : Declarations) where
 
   -- where there is no item, and the section does not end, nothing is spelled
   pub plain_refused : (s : Progress) (n : ℕ) (t : List ℕ) (e : SpecErrorKind) → 0 < length t → begins (codes "%%") t ≡ false → ((i : Item) (rest : List ℕ) → IsItem t i rest → ⊥) → UnlessMemory e (NoneLeft d s n t)
-  plain_refused s n t e some off none = always e (NoneLeft d s n t) (λ R E left. from left.items left.here)
+  plain_refused s n t e some off none = always e (NoneLeft d s n t) (λ R E left may. from left.items left.here)
     where
       from : (is : List (ℕ × Item)) → AreItems n t is → ⊥
       from [] (inl e) = let z : length t ≡ 0 = ap length e in absurd (omega arith)
@@ -97,7 +97,8 @@ module _ (d : Declarations) where
       from (i ∷ is) (rest, first, item, more) = none i.1 rest item
 
   pub text_refused : (s : Progress) (n : ℕ) (t : List ℕ) (e : SpecErrorKind) → UnlessMemory e (NoRules d t) → UnlessMemory e (NoneLeft d s n t)
-  text_refused s n t e h = unless_memory e (NoRules d t) (NoneLeft d s n t) (λ none R E left. none n (map rule_of s.waiting.items) R E left) h
+  text_refused s n t e h = unless_memory e (NoRules d t) (NoneLeft d s n t) (λ none R E left may. none n (map rule_of s.waiting.items) R E left) h
 
-  pub rule_refused : (s : Progress) (n : ℕ) (t : List ℕ) (x : RuleText) (e : SpecErrorKind) → ReadsItem d n t x → UnlessMemory e (NoRulesAfter d s x) → UnlessMemory e (NoneLeft d s n t)
-  rule_refused s n t x e reads h = unless_memory e (NoRulesAfter d s x) (NoneLeft d s n t) (λ none R E left. none n t R E reads left) h
+  pub rule_refused : (s : Progress) (n : ℕ) (t : List ℕ) (x : RuleText) (e : SpecErrorKind) → ReadsItem d n t x → UnlessMemory e (NoRulesAfter d s x.front x.action.now) → UnlessMemory e (NoneLeft d s n t)
+  rule_refused s n t x e reads h =
+      unless_memory e (NoRulesAfter d s x.front x.action.now) (NoneLeft d s n t) (λ none R E left may. none n t x.rest.now R E reads left may) h

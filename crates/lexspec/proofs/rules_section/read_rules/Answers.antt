@@ -1,5 +1,6 @@
 use Rattle.std.proofs.Common.{sym, ◌∙◌, length, arith, refl, inr}
 use Rattle.std.proofs.lemmas.Bool.{eqb-true}
+use Rattle.lexspec.proofs.KeepLaws.{keeps_first}
 use Rattle.lexspec.proofs.RestLaws.{IsOver, over_empty, agrees_first, section_refused, item_read, ended_found, ended_line, ended_none, newlines_few}
 use Rattle.lexspec.proofs.rules_section.read_rules.Goals.{then-items-test+else-not-starts_with, else-items-test}
 use Rattle.lexspec.proofs.rules_section.read_rules.Goals as goal
@@ -7,12 +8,16 @@ use Rattle.lexspec.proofs.rules_section.read_rules.Goals as goal
 pub items-init : goal.items-init
 items-init c = record {
   agrees = agrees_first c.args.declarations.now c.new-progress.result c.args.first c.args.text.now c.new-progress.ensures.rules c.new-progress.ensures.waiting c.new-progress.ensures.ends;
+  keeps = keeps_first c.args.declarations.now c.new-progress.result c.new-progress.ensures.rules c.new-progress.ensures.waiting c.new-progress.ensures.ends;
   line = refl;
   shorter = omega arith;
 }
 
 pub with_item-requires-clause-line : goal.with_item-requires-clause-line
 with_item-requires-clause-line c = omega (arith, c.items.invariant.line, newlines_few c.args.text.now, c.requires.short, c.requires.first)
+
+pub with_item-requires-clause-room : goal.with_item-requires-clause-room
+with_item-requires-clause-room c = c.items.invariant.keeps.few
 
 pub returns-in-Err-clause-none : goal.returns-in-Err-clause-none
 returns-in-Err-clause-none c =
@@ -32,6 +37,7 @@ pub items-preserved : goal.items-preserved
 items-preserved c = record {
   agrees = item_read c.args.declarations.now c.items.progress c.in-Ok.found.0 c.args.first c.items.line c.newlines_before-line.result c.args.text.now c.items.rest.now c.in-Ok.found.1.now
       c.in-Ok.ensures.found c.in-Ok.ensures.counts c.newlines_before-line.ensures c.items.invariant.agrees;
+  keeps = c.in-Ok.ensures.keeps c.items.invariant.keeps;
   line = omega (arith, c.items.invariant.line, c.in-Ok.ensures.counts, c.newlines_before-line.ensures);
   shorter = omega (arith, c.items.invariant.shorter, c.in-Ok.ensures.shorter);
 }
@@ -44,7 +50,7 @@ is_over c = elim c.items-test.branch [
 
 pub returns-clause-found : goal.returns-clause-found
 returns-clause-found c =
-    ended_found c.args.declarations.now c.ended.result c.args.first c.items.line c.args.text.now c.items.rest.now c.items.progress c.items.invariant.agrees (is_over c)
+    ended_found c.args.declarations.now c.ended.result c.args.first c.items.line c.args.text.now c.items.rest.now c.items.progress c.items.invariant.agrees c.items.invariant.keeps (is_over c)
     c.ended.ensures.waiting c.ended.ensures.rules c.ended.ensures.ends c.ended.ensures.rest
 
 pub returns-clause-line : goal.returns-clause-line

@@ -1,9 +1,12 @@
-use Rattle.std.proofs.Common.{rules, sym, ◌∙◌, ◌≡◌, length}
+use Rattle.std.proofs.Common.{rules, sym, ◌∙◌, ◌≡◌, ◌+◌, ◌<◌, false, length}
+use Rattle.lexspec.specs.EndOpenings.{begins_end}
+use Rattle.lexspec.proofs.OneSection.{no_true}
 use Rattle.lexspec.specs.PlainViews.{item_of}
 use Rattle.lexspec.proofs.SectionLaws.{newlines_front}
 use Rattle.lexspec.proofs.EndLaws.{item_ends}
-use Rattle.lexspec.proofs.AwaitingLaws.{end_refused}
+use Rattle.lexspec.proofs.AwaitingLaws.{end_refused, full_refused, has_room}
 use Rattle.lexspec.proofs.StepLaws.{reads_shorter, reads_counts, plain_agrees, plain_refused, text_refused, rule_refused}
+use Rattle.lexspec.proofs.taking.Progress.with_item.Goals.{then-begins_end+else-not-is_empty, else-begins_end+else-len-ge-MAX_RULES}
 use Rattle.lexspec.proofs.taking.Progress.with_item.Goals as goal
 
 pub returns-in-Err-clause-none : goal.returns-in-Err-clause-none
@@ -30,11 +33,28 @@ pub returns-in-Err-with_rule-clause-none : goal.returns-in-Err-with_rule-clause-
 returns-in-Err-with_rule-clause-none c =
     rule_refused c.args.declarations.now c.args.self c.args.line c.args.text.now c.in-Ok-read_rule_text.found c.in-Err-with_rule.kind c.in-Ok-read_rule_text.ensures.found c.in-Err-with_rule.ensures.none
 
-pub returns-then-begins_end-clause-none : goal.returns-then-begins_end-clause-none
-returns-then-begins_end-clause-none c =
+pub returns-then-not-is_empty-clause-none : goal.returns-then-not-is_empty-clause-none
+returns-then-not-is_empty-clause-none c =
     let some : length c.args.self.waiting.items ≡ 0 → ⊥ = search rules in
     end_refused c.args.declarations.now c.args.self c.args.line c.args.text.now (rw c.in_default.is at c.in-Ok.ensures.rule) (sym c.begins_end.ensures ∙ c.if-begins_end.true) some
 
+pub returns-then-len-ge-MAX_RULES-clause-none : goal.returns-then-len-ge-MAX_RULES-clause-none
+returns-then-len-ge-MAX_RULES-clause-none c =
+    full_refused c.args.declarations.now c.args.self c.args.line c.args.text.now (rw c.in_default.is at c.in-Ok.ensures.rule) (sym c.begins_end.ensures ∙ c.if-begins_end.false)
+    (search rules)
+
 pub returns-in-Ok-with_rule-clause-found : goal.returns-in-Ok-with_rule-clause-found
 returns-in-Ok-with_rule-clause-found c = λ start whole a.
-    c.in-Ok-with_rule.ensures.found start c.args.line whole c.args.text.now c.in-Ok-read_rule_text.ensures.found a
+    c.in-Ok-with_rule.ensures.found start c.args.line whole c.args.text.now c.in-Ok-read_rule_text.found.rest.now c.in-Ok-read_rule_text.ensures.found a
+
+has_place : (c : goal.In-Ok-with_rule) → begins_end c.args.text.now ≡ false → length c.args.self.rules.items + length c.args.self.waiting.items < 4096
+has_place c = elim c.if-begins_end.branch [
+  | then-begins_end+else-not-is_empty w ↦ λ off. no_true (sym off ∙ sym c.begins_end.ensures ∙ w.if-begins_end.true)
+  | else-begins_end+else-len-ge-MAX_RULES w ↦ λ off. search rules
+]
+
+pub returns-in-Ok-with_rule-clause-keeps : goal.returns-in-Ok-with_rule-clause-keeps
+returns-in-Ok-with_rule-clause-keeps c = λ k.
+    c.in-Ok-with_rule.ensures.keeps c.in-Ok-read_rule_text.ensures.sound
+    (has_room c.args.declarations.now c.args.self c.args.line c.args.text.now c.in-Ok-read_rule_text.found.action.now c.in-Ok-read_rule_text.found.rest.now c.in-Ok-read_rule_text.found.front
+    c.in-Ok-read_rule_text.ensures.found (has_place c)) k
