@@ -1,5 +1,5 @@
 -- What the rules that are read so far keep to, after one rule more.
-use Rattle.std.proofs.Common.{◌≡◌, ℕ, ◌+◌, ◌<◌, ◌≤◌, List, [], ◌∷◌, ◌++◌, map, length, refl, sym, ap, subst, ◌∙◌, arith, length-append}
+use Rattle.std.proofs.Common.{◌≡◌, ℕ, ◌+◌, List, [], ◌∷◌, ◌++◌, map, length, refl, sym, ap, subst, ◌∙◌, arith, length-append}
 use Rattle.std.proofs.lemmas.List.{map-append, length-map}
 use Rattle.lexmeaning.specs.Spec as S
 use Rattle.lexspec.specs.Files.{AreSingle}
@@ -62,7 +62,7 @@ module _ (d : Declarations) where
       → ((count : ℕ) → AreSingle count (map end_rule_of old) → AreSingle count (map end_rule_of old ++ end_rule_of e ∷ [])) → Keeps d s → Keeps d s'
   keeps_end e old s s' same rules ends waiting joins k = record {
     sound = (subst (λ z. HaveSoundSides (map rule_of z)) (sym rules) k.sound.0, subst (λ z. HaveSoundSides (map rule_of z)) (sym waiting) k.sound.1);
-    single = subst (AreSingle (length d.conditions.items)) (sym (ap (map end_rule_of) ends ∙ map-append end_rule_of s.ends.items (e ∷ []))) 
+    single = subst (AreSingle (length d.conditions.items)) (sym (ap (map end_rule_of) ends ∙ map-append end_rule_of s.ends.items (e ∷ [])))
         (subst (λ z. AreSingle (length d.conditions.items) (map end_rule_of z) → AreSingle (length d.conditions.items) (map end_rule_of z ++ end_rule_of e ∷ [])) same (joins (length d.conditions.items)) k.single);
     few = omega (arith, k.few, ap length rules, ap length waiting);
   }

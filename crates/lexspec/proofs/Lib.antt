@@ -26,3 +26,4 @@ pub mod EndingLaws
 pub mod PassLaws
 pub mod SideLaws
 pub mod KeepLaws
+pub mod ReadingLaws

@@ -119,7 +119,7 @@ module _ (names : List (List ℕ)) (fold : Bool) (defined : Definitions) (some :
       and_from (nat_le (end_in ends ends k).status 63) (sound_conditions (conditions_with (suc k) cs ends)) (le-leb (end_in ends ends k).status 63 (small_end ends ends k h h))
       (conditions_pass (suc k) cs ends h)
 
-length_with : (k : ℕ) (cs : List Declared) (ends : List EndRule) → length (conditions_with k cs ends) ≡ length cs
+pub length_with : (k : ℕ) (cs : List Declared) (ends : List EndRule) → length (conditions_with k cs ends) ≡ length cs
 length_with k [] ends = refl
 length_with k (c ∷ cs) ends = ap suc (length_with (suc k) cs ends)
 

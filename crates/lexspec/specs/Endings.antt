@@ -1,5 +1,5 @@
 -- `<<EOF>>` rules that name a condition in common. (flex, End-of-File Rules.)
-use Rattle.std.specs.Prelude.{◌≡◌, ℕ, Bool, true, false, List, Option, Some, None, option_map}
+use Rattle.std.specs.Prelude.{ℕ, Bool, true, false, List, Option, Some, None, option_map}
 use Rattle.std.specs.List.{list_any}
 use Rattle.lexspec.specs.Files.{lists_number}
 use Rattle.lexspec.specs.RuleItems.{EndRule}

@@ -1,5 +1,5 @@
 -- What the rules that are read so far keep to.
-use Rattle.std.specs.Prelude.{ℕ, ◌+◌, ◌<◌, ◌≤◌, List, ◌++◌, map, length}
+use Rattle.std.specs.Prelude.{◌+◌, ◌<◌, ◌≤◌, List, ◌++◌, map, length}
 use Rattle.lexmeaning.specs.Spec.{Rule}
 use Rattle.lexspec.specs.Files.{AreSingle}
 use Rattle.lexspec.specs.RuleItems.{EndRule}

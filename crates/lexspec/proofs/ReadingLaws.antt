@@ -1,0 +1,188 @@
+-- Whole files, from their sections.
+use Rattle.std.proofs.Common.{◌≡◌, ℕ, ◌+◌, ◌-◌, ◌≤◌, ◌==◌, ◌&&◌, ◌||◌, Bool, true, false, if◌then◌else◌, List, [], ◌∷◌, map, length, refl, sym, ap, subst, ◌∙◌, arith, length-append}
+use Rattle.std.specs.Prelude.{cond, codes, Result, Ok, Err, IfOk, IfErr}
+use Rattle.std.specs.FinMap.{from_entries}
+use Rattle.std.proofs.lemmas.List.{length-map}
+use Rattle.std.proofs.lemmas.List.Sums.{sum_by-cons}
+use Rattle.std.proofs.lemmas.Bool.{and_parts, eqb-true}
+use Rattle.lexmeaning.specs.Spec.{Spec}
+use Rattle.lexspec.specs.Lines.{without_returns, line_in, begins}
+use Rattle.lexspec.specs.DefinitionLines.{Definition, definition_at, IsUpTo, all_conditions, names_of, has_name, substitutes_of, all_options}
+use Rattle.lexspec.specs.Declaring.{declared_of, AreAllowed}
+use Rattle.lexspec.specs.Items.{AreItems, newlines}
+use Rattle.lexspec.specs.RuleItems.{AreRules}
+use Rattle.lexspec.specs.Files.{AreSingle, conditions_with, SpellsSpec}
+use Rattle.lexspec.specs.ItemReads.{names_in}
+use Rattle.lexspec.specs.RulesReads.{HasRules}
+use Rattle.lexspec.specs.Sections.{HasSection}
+use Rattle.lexspec.specs.Readings.{of_sections, SpellsRest}
+use Rattle.lexspec.specs.EndRules.{end_rule_of}
+use Rattle.lexspec.specs.RuleViews.{rule_of}
+use Rattle.lexspec.specs.Outcome.{UnlessMemory}
+use Rattle.lexspec.specs.Tests.{is_sound}
+use Rattle.lexspec.specs.Views.{spec_of}
+use Rattle.lexspec.specs.declared.error.SpecError.{SpecError}
+use Rattle.lexspec.specs.declared.error.SpecErrorKind.{SpecErrorKind}
+use Rattle.lexspec.specs.declared.spec.Spec.{Spec as SpecOfCode}
+use Rattle.lexspec.specs.declared.declarations.Declarations.{Declarations}
+use Rattle.lexspec.specs.declared.rules_section.RulesSection.{RulesSection}
+use Rattle.lexspec.specs.declared.section.Section.{Section}
+use Rattle.lexspec.proofs.DeclaringLaws.{names_kept}
+use Rattle.lexspec.proofs.OneSection.{separator_ends, one_up_to}
+use Rattle.lexspec.proofs.OutcomeLaws.{unless_memory}
+use Rattle.lexspec.proofs.PassLaws.{kept_passes, length_with}
+use Rattle.lexspec.proofs.RestLaws.{newlines_few}
+use Rattle.lexspec.proofs.SectionLaws.{EndsWith, ends_on, definition_ends}
+
+-- without carriage returns
+
+one_newline : (c : ℕ) (t : List ℕ) → newlines (c ∷ t) ≡ cond (c == 10) 1 0 + newlines t
+one_newline c t = sum_by-cons (λ y. cond (y == 10) 1 0) c t
+
+no_newline : (c : ℕ) (t : List ℕ) → c ≡ 13 → newlines (c ∷ t) ≡ newlines t
+no_newline c t e = let is : newlines (c ∷ t) ≡ 0 + newlines t = one_newline c t ∙ ap (λ z. cond (z == 10) 1 0 + newlines t) e in omega arith
+
+more_newlines : (c : ℕ) (s t : List ℕ) → newlines s ≡ newlines t → newlines (c ∷ s) ≡ newlines (c ∷ t)
+more_newlines c s t e = one_newline c s ∙ ap (λ z. cond (c == 10) 1 0 + z) e ∙ sym (one_newline c t)
+
+pub newlines_kept : (t : List ℕ) → newlines (without_returns t) ≡ newlines t
+newlines_kept [] = refl
+newlines_kept (c ∷ []) = refl
+newlines_kept (c ∷ d ∷ t) = from (c == 13 && d == 10) refl (newlines_kept (d ∷ t))
+  where
+    from : (b : Bool) → (c == 13 && d == 10) ≡ b → newlines (without_returns (d ∷ t)) ≡ newlines (d ∷ t)
+        → newlines (if b then without_returns (d ∷ t) else c ∷ without_returns (d ∷ t)) ≡ newlines (c ∷ d ∷ t)
+    from true e later = later ∙ sym (no_newline c (d ∷ t) (eqb-true c 13 (and_parts (c == 13) (d == 10) e).0))
+    from false e later = more_newlines c (without_returns (d ∷ t)) (d ∷ t) later
+
+not_longer : (t : List ℕ) → length (without_returns t) ≤ length t
+not_longer [] = omega arith
+not_longer (c ∷ []) = omega arith
+not_longer (c ∷ d ∷ t) = from (c == 13 && d == 10) (not_longer (d ∷ t))
+  where
+    from : (b : Bool) → length (without_returns (d ∷ t)) ≤ length (d ∷ t) → length (if b then without_returns (d ∷ t) else c ∷ without_returns (d ∷ t)) ≤ length (c ∷ d ∷ t)
+    from true h = omega arith
+    from false h = omega arith
+
+pub kept_short : (file kept : List ℕ) → length file ≤ 1048576 → kept ≡ without_returns file → length kept ≤ 1048576
+kept_short file kept few is = omega (arith, few, ap length is, not_longer file)
+
+-- the first section
+
+up_to_ends : (t : List ℕ) (ds : List Definition) (rest : List ℕ) → IsUpTo definition_at t ds rest → EndsWith t rest
+up_to_ends t [] rest h = ([], h)
+up_to_ends t (d ∷ ds) rest (next, here, later) = ends_on t next rest (definition_ends t (d, next) here) (up_to_ends next ds rest later)
+
+pub rest_short : (fold : Bool) (t : List ℕ) (s : Section) → HasSection fold t s → length s.rest.now ≤ length t
+rest_short fold t s h = let (front, e) = up_to_ends t h.definitions s.rest.now h.lines in omega (arith, ap length e, length-append front s.rest.now)
+
+count_is : (fold : Bool) (t : List ℕ) (s : Section) (h : HasSection fold t s) → length s.declarations.conditions.items ≡ length (all_conditions h.definitions)
+count_is fold t s h = sym (length-map s.declarations.conditions.items declared_of) ∙ ap length h.declares.conditions
+
+pub conditions_some : (fold : Bool) (t : List ℕ) (s : Section) → HasSection fold t s → 1 ≤ length s.declarations.conditions.items
+conditions_some fold t s h = omega (arith, count_is fold t s h)
+
+pub conditions_few : (fold : Bool) (t : List ℕ) (s : Section) → HasSection fold t s → length s.declarations.conditions.items ≤ 255
+conditions_few fold t s h = let few = h.allowed.0.1 in omega (arith, count_is fold t s h)
+
+pub line_few : (fold : Bool) (t : List ℕ) (s : Section) → HasSection fold t s → s.line ≤ 1 + length t
+line_few fold t s h = omega (arith, h.line, newlines_few t)
+
+-- the second one
+
+pub sections_pass : (d : Declarations) (n : ℕ) (t : List ℕ) (x : RulesSection) → 1 ≤ length d.conditions.items → length d.conditions.items ≤ 255 → HasRules d n t x → is_sound (of_sections d x) ≡ true
+sections_pass d n t x some few h =
+    kept_passes d d.fold d.defs h.items (map rule_of x.rules.items) (map end_rule_of x.ends.items) _ some few (subst (λ z. z ≤ 4096) (sym (length-map x.rules.items rule_of)) h.few) h.are h.sound refl
+
+pub rest_spelled : (s : Section) (x : RulesSection) (S : Spec) → HasRules s.declarations (s.line + 1) (line_in s.rest.now).1 x → S ≡ of_sections s.declarations x → SpellsRest s S
+rest_spelled s x S h e = subst (SpellsRest s) (sym e) (record {
+  items = h.items;
+  here = h.here;
+  ends = map end_rule_of x.ends.items;
+  are = h.are;
+  one_end = h.single;
+  conditions = refl;
+  few_rules = subst (λ z. z ≤ 4096) (sym (length-map x.rules.items rule_of)) h.few;
+})
+
+-- both
+
+-- the specification of the declarations, in the words of the file's definition
+pub spelled : (fold : Bool) (file : List ℕ) (s : Section) (S : Spec) → length file ≤ 1048576 → HasSection fold (without_returns file) s → SpellsRest s S → SpellsSpec fold file S
+spelled fold file s S short h r =
+    let d = s.declarations in
+    let names : names_in d ≡ names_of (all_conditions h.definitions) = sym (names_kept d.conditions.items) ∙ ap names_of h.declares.conditions in
+    let line : s.line + 1 ≡ 2 + newlines file - newlines s.rest.now = omega (arith, h.line, newlines_kept file) in
+    let count = count_is fold (without_returns file) s h in
+    let conditions : S.conditions ≡ conditions_with 0 (all_conditions h.definitions) r.ends = r.conditions ∙ ap (λ z. conditions_with 0 z r.ends) h.declares.conditions in
+    let few = h.allowed.0.1 in
+    record {
+      short = short;
+      definitions = h.definitions;
+      after = s.rest.now;
+      first_section = h.lines;
+      separator = h.separator;
+      items = r.items;
+      second_section = subst (λ z. AreItems z (line_in s.rest.now).1 r.items) line r.here;
+      names = h.allowed.0.0;
+      defined_once = h.allowed.1;
+      options = h.allowed.2;
+      ends = r.ends;
+      rules = subst (λ z. AreRules z (fold || has_name (all_options h.definitions) (codes "case-insensitive")) (from_entries (substitutes_of h.definitions)) r.items S.rules r.ends) names
+          (subst (λ z. AreRules (names_in d) z (from_entries (substitutes_of h.definitions)) r.items S.rules r.ends) h.declares.folds
+          (subst (λ z. AreRules (names_in d) d.fold z r.items S.rules r.ends) h.declares.defs r.are));
+      one_end = subst (λ z. AreSingle z r.ends) count r.one_end;
+      conditions = conditions;
+      few_conditions = omega (arith, ap length conditions, length_with 0 (all_conditions h.definitions) r.ends);
+      few_rules = r.few_rules;
+    }
+
+pub rest_of : (fold : Bool) (file : List ℕ) (s : Section) (S : Spec) → HasSection fold (without_returns file) s → SpellsSpec fold file S → SpellsRest s S
+rest_of fold file s S h k =
+    let d = s.declarations in
+    let same = one_up_to definition_at (without_returns file) k.definitions h.definitions k.after s.rest.now k.first_section h.lines (separator_ends k.after k.separator) (separator_ends s.rest.now h.separator) in
+    let names : names_of (all_conditions h.definitions) ≡ names_in d = ap names_of (sym h.declares.conditions) ∙ names_kept d.conditions.items in
+    let line : 2 + newlines file - newlines s.rest.now ≡ s.line + 1 = omega (arith, h.line, newlines_kept file) in
+    let are : AreRules (names_of (all_conditions h.definitions)) (fold || has_name (all_options h.definitions) (codes "case-insensitive")) (from_entries (substitutes_of h.definitions)) k.items S.rules k.ends =
+    subst (λ z. AreRules (names_of (all_conditions z)) (fold || has_name (all_options z) (codes "case-insensitive")) (from_entries (substitutes_of z)) k.items S.rules k.ends) same.0 k.rules in
+    record {
+      items = k.items;
+      here = subst (λ z. AreItems z (line_in s.rest.now).1 k.items) line (subst (λ z. AreItems (2 + newlines file - newlines z) (line_in z).1 k.items) same.1 k.second_section);
+      ends = k.ends;
+      are = subst (λ z. AreRules (names_in d) d.fold z k.items S.rules k.ends) (sym h.declares.defs)
+          (subst (λ z. AreRules (names_in d) z (from_entries (substitutes_of h.definitions)) k.items S.rules k.ends) (sym h.declares.folds)
+          (subst (λ z. AreRules z (fold || has_name (all_options h.definitions) (codes "case-insensitive")) (from_entries (substitutes_of h.definitions)) k.items S.rules k.ends) names are));
+      one_end = subst (λ z. AreSingle z k.ends) (sym (count_is fold (without_returns file) s h)) (subst (λ z. AreSingle (length (all_conditions z)) k.ends) same.0 k.one_end);
+      conditions = k.conditions ∙ ap (λ z. conditions_with 0 (all_conditions z) k.ends) same.0 ∙ ap (λ z. conditions_with 0 z k.ends) (sym h.declares.conditions);
+      few_rules = k.few_rules;
+    }
+
+-- where the first section is not spelled, the file is not
+pub no_section : (fold : Bool) (file : List ℕ) → ((ds : List Definition) (after : List ℕ) → IsUpTo definition_at (without_returns file) ds after → begins (codes "%%") after ≡ true → AreAllowed ds → ⊥)
+    → (S : Spec) → SpellsSpec fold file S → ⊥
+no_section fold file none S k =
+    let few : length (all_conditions k.definitions) ≤ 255 = omega (arith, k.few_conditions, ap length k.conditions, length_with 0 (all_conditions k.definitions) k.ends) in
+    none k.definitions k.after k.first_section k.separator ((k.names, few), k.defined_once, k.options)
+
+-- the answers of the reader
+
+abbrev File : Type 0
+File = List ℕ
+
+pub read_found : (r : Result SpecOfCode SpecError) (fold : Bool) (file kept : File) (s : Section) → length file ≤ 1048576 → kept ≡ without_returns file → HasSection fold kept s
+    → IfOk r (λ x. SpellsRest s (spec_of x)) → IfOk r (λ x. SpellsSpec fold file (spec_of x))
+read_found (Err e) fold file kept s short is h rest = tt
+read_found (Ok x) fold file kept s short is h rest = spelled fold file s (spec_of x) short (subst (λ z. HasSection fold z s) is h) rest
+
+pub read_none : (r : Result SpecOfCode SpecError) (fold : Bool) (file kept : File) (s : Section) → kept ≡ without_returns file → HasSection fold kept s
+    → IfErr r (λ e. UnlessMemory e.kind ((S : Spec) → SpellsRest s S → ⊥)) → IfErr r (λ e. UnlessMemory e.kind ((S : Spec) → SpellsSpec fold file S → ⊥))
+read_none (Ok x) fold file kept s is h rest = tt
+read_none (Err e) fold file kept s is h rest =
+    unless_memory e.kind ((S : Spec) → SpellsRest s S → ⊥) ((S : Spec) → SpellsSpec fold file S → ⊥) (λ none S k. none S (rest_of fold file s S (subst (λ z. HasSection fold z s) is h) k)) rest
+
+pub section_none : (fold : Bool) (file kept : File) (kind : SpecErrorKind) → kept ≡ without_returns file
+    → UnlessMemory kind ((ds : List Definition) (after : List ℕ) → IsUpTo definition_at kept ds after → begins (codes "%%") after ≡ true → AreAllowed ds → ⊥)
+    → UnlessMemory kind ((S : Spec) → SpellsSpec fold file S → ⊥)
+section_none fold file kept kind is h =
+    unless_memory kind ((ds : List Definition) (after : List ℕ) → IsUpTo definition_at kept ds after → begins (codes "%%") after ≡ true → AreAllowed ds → ⊥) ((S : Spec) → SpellsSpec fold file S → ⊥)
+    (λ none. no_section fold file (λ ds after up. none ds after (subst (λ z. IsUpTo definition_at z ds after) (sym is) up))) h

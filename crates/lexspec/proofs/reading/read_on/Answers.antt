@@ -1,0 +1,5 @@
+use Rattle.lexspec.proofs.ReadingLaws.{sections_pass}
+use Rattle.lexspec.proofs.reading.read_on.Goals as goal
+
+pub joined-requires-clause-sound : goal.joined-requires-clause-sound
+joined-requires-clause-sound c = sections_pass c.args.section.declarations _ _ c.in-Ok.found c.requires.some c.requires.few c.in-Ok.ensures.found
