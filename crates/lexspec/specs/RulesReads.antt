@@ -1,5 +1,5 @@
 -- What the reader of the rules section answers.
-use Rattle.std.specs.Prelude.{◌≡◌, ℕ, ◌≤◌, true, List, [], map, length, codes, ◌⊎◌}
+use Rattle.std.specs.Prelude.{◌≡◌, ℕ, ◌≤◌, ◌-◌, true, Some, None, slice_get, List, [], map, length, codes, ◌⊎◌}
 use Rattle.lexmeaning.specs.Spec.{Rule}
 use Rattle.lexspec.specs.Lines.{begins}
 use Rattle.lexspec.specs.Items.{Item, AreItems}
@@ -10,6 +10,7 @@ use Rattle.lexspec.specs.Files.{AreSingle}
 use Rattle.lexspec.specs.ItemReads.{names_in}
 use Rattle.lexspec.specs.SoundSides.{HaveSoundSides}
 use Rattle.lexspec.specs.declared.declarations.Declarations.{Declarations}
+use Rattle.lexspec.specs.declared.rule.Rule.{Rule as RuleKept}
 use Rattle.lexspec.specs.declared.rules_section.RulesSection.{RulesSection}
 
 -- the items of the text, which begins at the line n, and the rules that they spell; after them nothing is left, or a line of `%%`
@@ -26,3 +27,7 @@ pub record HasRules (d : Declarations) (n : ℕ) (text : List ℕ) (s : RulesSec
 abbrev pub NoSuchRules : Declarations → ℕ → List ℕ → Type 0
 NoSuchRules d n text = (items : List (ℕ × Item)) (rules : List Rule) (ends : List EndRule) → AreItems n text items → AreRules (names_in d) d.fold d.defs items rules ends
     → length rules ≤ 4096 → AreSingle (length d.conditions.items) ends → ⊥
+
+-- the line of the last rule that waits for an action, or else n
+abbrev pub line_of_last : ℕ → List RuleKept → ℕ
+line_of_last n waiting = elim (slice_get waiting (length waiting - 1)) [ | None ↦ n | Some r ↦ r.line ]

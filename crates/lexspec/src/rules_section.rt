@@ -7,7 +7,7 @@ ghost use Rattle.lexspec.specs.Agreeing.{Agrees};
 ghost use Rattle.lexspec.specs.Keeping.{Keeps};
 ghost use Rattle.lexspec.specs.PlainViews.{lines_with};
 ghost use Rattle.lexspec.specs.EndOpenings.{begins_end};
-ghost use Rattle.lexspec.specs.RulesReads.{HasRules, NoSuchRules};
+ghost use Rattle.lexspec.specs.RulesReads.{HasRules, NoSuchRules, line_of_last};
 ghost use Rattle.lexspec.specs.Outcome.{UnlessMemory};
 ghost use Rattle.lexspec.specs.declared.error.SpecErrorKind.TheVariants.{DanglingBar};
 
@@ -126,7 +126,7 @@ impl Progress {
 
     /// The line of the last rule that waits for an action, or else this one.
     fn line_waiting(&self, line: u32) -> u32
-        ensures { length self.now.waiting.items ≡ 0 → result ≡ line }
+        ensures { result ≡ line_of_last line self.now.waiting.items }
     {
         match self.waiting.last() {
             Some(last) => last.line,
@@ -142,7 +142,7 @@ impl Progress {
         ensures rest { IfOk result (λ s. s.rest.now ≡ rest.now) }
         ensures line { IfOk result (λ s. s.line ≡ line) }
         ensures none { IfErr result (λ e. length self.waiting.items ≡ 0 → ⊥) }
-        ensures kind { IfErr result (λ e. e.kind ≡ DanglingBar) }
+        ensures fault { IfErr result (λ e. e ≡ record { line = line_of_last line self.waiting.items; kind = DanglingBar }) }
     {
         let Progress {
             rules,

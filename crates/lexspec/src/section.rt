@@ -31,13 +31,7 @@ pub(crate) fn read_section(alloc: Global, text: &[u8], fold: bool) -> Result<Sec
     ensures none { IfErr result (λ e. UnlessMemory e.kind ((ds : List Meant) (after : List ℕ) → IsUpTo definition_at text.now ds after
         → begins (codes "%%") after ≡ true → AreAllowed ds → ⊥)) }
 {
-    let mut declarations = match Declarations::new(alloc, fold) {
-        Ok(initial) => initial,
-        Err(_) => return Err(SpecError {
-            line: 1,
-            kind: SpecErrorKind::OutOfMemory,
-        }),
-    };
+    let mut declarations = Declarations::new(alloc, fold)?;
     let mut rest = text;
     let mut line: u32 = 1;
     'lines: loop {

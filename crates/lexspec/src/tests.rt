@@ -1,77 +1,59 @@
 use crate::action_text::split_action;
-use crate::declarations::Declarations;
-use crate::endings::{EndRule, may_join, with_ends};
-use crate::item::read_rule_text;
-use crate::lines::without_returns;
-use crate::rules_section::read_rules;
-use crate::section::{Section, read_section};
-use crate::skipped::Skipped;
-use crate::taking::Progress;
-use crate::{Condition, EndAction, Rule, Spec, SpecError, SpecErrorKind};
-use lexre::{PatternError, PatternErrorKind};
+use crate::{Cut, Rule, Spec, SpecError, SpecErrorKind, Statement, read_spec};
+use lexre::{PatternError, PatternErrorKind, ReadOptions};
 use std::alloc::{AllocError, Global};
 use std::test::Fail;
 
-/// A specification without rules.
-fn nothing(alloc: Global) -> Result<Spec, AllocError> {
-    let initial = Condition {
-        name: Vec::from_slice(alloc, b"INITIAL".as_slice())?,
-        exclusive: false,
-        end: EndAction {
-            print: Vec::new(alloc),
-            status: 0,
-        },
-    };
-    let conditions: Vec<Condition> = vec![in alloc; initial]?;
-    let rules: Vec<Rule> = Vec::new(alloc);
-    Ok(Spec::new(conditions, rules, Vec::new(alloc)))
+/// The specification of a file, where letters stand for themselves.
+fn read(alloc: Global, text: &str) -> Result<Spec, SpecError> {
+    read_spec(alloc, text.as_bytes(), ReadOptions { fold: false })
 }
 
-#[test]
-fn readers(rt: HostRuntime) {
-    let spec = nothing(rt.alloc()).expect(&rt, "memory");
-    assert_eq!(rt; spec.conditions().len(), 1);
-    assert_eq!(rt; spec.conditions()[0].name.as_slice(), b"INITIAL".as_slice());
-    assert_eq!(rt; spec.rules().len(), 0);
-    assert!(rt; !spec.rejects());
-    assert_eq!(rt; spec.skipped().len(), 0);
-}
-
-/// The definitions section of a text, or why it is refused.
-fn section(alloc: Global, text: &[u8]) -> Result<Section<'_>, SpecError> {
-    if text.len() > 1_048_576 {
-        return Err(SpecError {
-            line: 0,
-            kind: SpecErrorKind::TooLong,
-        });
-    }
-    read_section(alloc, text, false)
-}
-
-/// Why the definitions section is refused, and at which line.
-fn fault(alloc: Global, text: &str) -> Option<(u32, SpecErrorKind)> {
-    match section(alloc, text.as_bytes()) {
-        Ok(_) => None,
-        Err(error) => Some((error.line, error.kind)),
+/// The number of rules of a file, or why it is refused and at which line.
+fn rules_or_fault(alloc: Global, text: &str) -> Result<usize, (u32, SpecErrorKind)> {
+    match read(alloc, text) {
+        Ok(spec) => Ok(spec.rules().len()),
+        Err(error) => Err((error.line, error.kind)),
     }
 }
 
-/// Texts with the faults of their definitions sections. (POSIX, lex, Definitions in lex.)
+/// A fault of a pattern, at an offset in the rule's line.
+fn pattern(kind: PatternErrorKind, at: usize) -> SpecErrorKind {
+    SpecErrorKind::Pattern(PatternError { kind, at })
+}
+
+/// A file of one rule.
+fn of_rule(alloc: Global, rule: &str) -> Result<String, AllocError> {
+    format!(in alloc; "%%\n{rule}")
+}
+
+/// Files with the faults of their definitions sections. (POSIX, lex, Definitions in lex.)
 #[test]
-fn faults_of_sections(rt: HostRuntime) {
+fn faults_of_definitions(rt: HostRuntime) {
     let alloc = rt.alloc();
     let rows = [
         ("", 1, SpecErrorKind::NoRulesSection),
+        ("\n", 2, SpecErrorKind::NoRulesSection),
         ("D [0-9]", 2, SpecErrorKind::NoRulesSection),
         ("D [0-9]\n", 2, SpecErrorKind::NoRulesSection),
+        ("D [0-9]\r\n", 2, SpecErrorKind::NoRulesSection),
+        (" %%\n", 2, SpecErrorKind::NoRulesSection),
         ("foo\n%%\n", 1, SpecErrorKind::BadDefinitionLine),
+        ("\0\n%%\n", 1, SpecErrorKind::BadDefinitionLine),
+        ("foo\r\n%%\r\n", 1, SpecErrorKind::BadDefinitionLine),
         ("D,x y\n%%\n", 1, SpecErrorKind::BadDefinitionLine),
         ("%array x\n%%\n", 1, SpecErrorKind::BadDefinitionLine),
         ("%p 3 4\n%%\n", 1, SpecErrorKind::BadDefinitionLine),
         ("%option\n%%\n", 1, SpecErrorKind::BadDefinitionLine),
         ("%s\n%%\n", 1, SpecErrorKind::BadDefinitionLine),
+        ("%x A A 1\n%%\n", 1, SpecErrorKind::BadDefinitionLine),
         ("D a\n\nD b\n%%\n", 3, SpecErrorKind::DuplicateName),
         ("D a\nD ^b\n%%\n", 2, SpecErrorKind::DuplicateName),
+        (
+            "N {D}+\nD [0-9]\nD [0-9]\n%%\n",
+            3,
+            SpecErrorKind::DuplicateName,
+        ),
         ("%x INITIAL\n%%\n", 1, SpecErrorKind::DuplicateCondition),
         ("%s A B A\n%%\n", 1, SpecErrorKind::DuplicateCondition),
         ("A ^a\n%%\n", 1, SpecErrorKind::AnchoredDefinition),
@@ -81,85 +63,181 @@ fn faults_of_sections(rt: HostRuntime) {
             1,
             SpecErrorKind::UnsupportedOption,
         ),
+        (
+            "%option stack\n%x C\n%%\n",
+            1,
+            SpecErrorKind::UnsupportedOption,
+        ),
         ("D a\n%{\nint n;\n", 2, SpecErrorKind::Unclosed),
         ("/* a\n%%\n", 1, SpecErrorKind::Unclosed),
+        ("D a$\nfoo\n%%\n", 1, SpecErrorKind::AnchoredDefinition),
     ];
     for (text, line, kind) in rows {
-        assert_eq!(rt; fault(alloc, text), Some((line, kind)));
+        assert_eq!(rt; rules_or_fault(alloc, text), Err((line, kind)));
     }
 }
 
-/// Texts whose definitions sections are accepted.
+/// Rules with their faults, each at the first line of its section, line 2 of the file. (POSIX, lex, Rules in lex and
+/// Actions in lex; flex, Patterns.)
 #[test]
-fn accepted_sections(rt: HostRuntime) {
+fn faults_of_rules(rt: HostRuntime) -> Result<(), Fail> {
     let alloc = rt.alloc();
     let rows = [
-        "%%\n",
-        "%%",
-        "D a\\\\$\n%%\n",
-        "/* a\n b */ c\n%%\n",
-        "%array\n%pointer \n%p 3\n%o 3 \n%%\n",
-        "%{\nint n;\n%}\n%%\n",
-        "%option 8bit case-insensitive\n%%\n",
+        ("<Z>a ;", SpecErrorKind::UnknownCondition),
+        ("<INITIAL", SpecErrorKind::UnknownCondition),
+        ("a/b$ ;", SpecErrorKind::TwoTrailing),
+        ("a/(b$ ;", SpecErrorKind::TwoTrailing),
+        ("<<EOF>>x ;", SpecErrorKind::BadEofRule),
+        ("^<<EOF>> ;", SpecErrorKind::BadEofRule),
+        ("a*/b* ;", SpecErrorKind::VariableTrailing),
+        ("a return 1;", SpecErrorKind::UnknownStatement),
+        ("a yyless(1); yyless(2);", SpecErrorKind::LessAndMore),
+        ("a yyless(1); yymore();", SpecErrorKind::LessAndMore),
+        ("a yymore(); REJECT;", SpecErrorKind::RejectCombination),
+        ("a REJECT; ECHO;", SpecErrorKind::NotLast),
+        ("<<EOF>> ECHO;", SpecErrorKind::BadEofAction),
+        ("<<EOF>> |", SpecErrorKind::BadEofAction),
+        ("a yyless(0);", SpecErrorKind::BadCount),
+        ("a exit(64);", SpecErrorKind::BadStatus),
+        ("a { ECHO;", SpecErrorKind::Unclosed),
+        ("a { ECHO;\n\nb ;", SpecErrorKind::Unclosed),
+        ("%{\na", SpecErrorKind::Unclosed),
+        ("a |", SpecErrorKind::DanglingBar),
+        ("a |\r\n", SpecErrorKind::DanglingBar),
+        ("a yy_push_state(C);", SpecErrorKind::UnknownStatement),
+        ("[z-a] ;", pattern(PatternErrorKind::BadRange, 1)),
+        ("^[z-a] ;", pattern(PatternErrorKind::BadRange, 2)),
+        ("a/[z-a] ;", pattern(PatternErrorKind::BadRange, 3)),
+        ("<INITIAL>[z-a] ;", pattern(PatternErrorKind::BadRange, 10)),
+        ("a{0} ;", pattern(PatternErrorKind::BadInterval, 1)),
     ];
-    for text in rows {
-        assert_eq!(rt; fault(alloc, text), None);
+    for (rule, kind) in rows {
+        assert_eq!(rt;
+            rules_or_fault(alloc, &of_rule(alloc, rule)?),
+            Err((2, kind))
+        );
+    }
+    Ok(())
+}
+
+/// Of two faults of a rule the one that is told.
+#[test]
+fn first_of_two_faults(rt: HostRuntime) -> Result<(), Fail> {
+    let alloc = rt.alloc();
+    let quote = PatternErrorKind::UnclosedQuote;
+    let rows = [
+        ("<Z><<EOF>>x ;", SpecErrorKind::UnknownCondition),
+        ("<Z>\"a", SpecErrorKind::UnknownCondition),
+        ("^<<EOF>>\"a", SpecErrorKind::BadEofRule),
+        ("a/b/\"c", pattern(quote, 4)),
+        ("[z-a]/b$ ;", SpecErrorKind::TwoTrailing),
+        ("[z-a]/[y-b] ;", pattern(PatternErrorKind::BadRange, 1)),
+        ("[z-a]*/b* ;", pattern(PatternErrorKind::BadRange, 1)),
+        ("a*/b* {", SpecErrorKind::VariableTrailing),
+        ("a { return 1;", SpecErrorKind::Unclosed),
+        ("a yyless(0); return 1;", SpecErrorKind::BadCount),
+        ("a return 1; yyless(0);", SpecErrorKind::UnknownStatement),
+        ("a BEGIN(Z); exit(64);", SpecErrorKind::UnknownCondition),
+        (
+            "a yyless(1); yymore(); REJECT; ECHO;",
+            SpecErrorKind::LessAndMore,
+        ),
+        (
+            "a yymore(); REJECT; ECHO;",
+            SpecErrorKind::RejectCombination,
+        ),
+        ("<<EOF>> return 1; ECHO;", SpecErrorKind::UnknownStatement),
+        ("a |\n<Z><<EOF>> ;", SpecErrorKind::DanglingBar),
+        ("a return 1;\n<Z>a ;", SpecErrorKind::UnknownStatement),
+    ];
+    for (rule, kind) in rows {
+        assert_eq!(rt;
+            rules_or_fault(alloc, &of_rule(alloc, rule)?),
+            Err((2, kind))
+        );
+    }
+    Ok(())
+}
+
+/// Files whose faults stand at later lines.
+#[test]
+fn lines_of_faults(rt: HostRuntime) {
+    let alloc = rt.alloc();
+    let rows = [
+        ("%%\n<<EOF>> ;\n<<EOF>> ;", 3, SpecErrorKind::DuplicateEof),
+        (
+            "%%\n<<EOF>> ;\n<<EOF>> ;\na return 1;",
+            3,
+            SpecErrorKind::DuplicateEof,
+        ),
+        (
+            "%%\n<<EOF>> ;\n<<EOF>> ECHO;",
+            3,
+            SpecErrorKind::BadEofAction,
+        ),
+        (
+            "%x A\n%%\n<A><<EOF>> ;\n<INITIAL,A><<EOF>> ;",
+            4,
+            SpecErrorKind::DuplicateEof,
+        ),
+        ("%%\na |\nb |\n\n", 3, SpecErrorKind::DanglingBar),
+        ("%%\na |\nb |\n%%\n", 3, SpecErrorKind::DanglingBar),
+        ("%%\na |\nb |\n<<EOF>> ;", 3, SpecErrorKind::DanglingBar),
+        ("%%\na |\n%{", 3, SpecErrorKind::Unclosed),
+        ("%%\na ;\n<Z>a ;", 3, SpecErrorKind::UnknownCondition),
+        (
+            "%%\r\na ;\r\n\r\nb return 1;\r\n",
+            4,
+            SpecErrorKind::UnknownStatement,
+        ),
+        (
+            "%%\na {\n\n}\nb return 1;",
+            5,
+            SpecErrorKind::UnknownStatement,
+        ),
+        (
+            "%%\na\0b ;\nc return 1;",
+            3,
+            SpecErrorKind::UnknownStatement,
+        ),
+        (
+            "/* a\n b */ c\nD a\n%%\n%{\n%}\na*/b* ;",
+            7,
+            SpecErrorKind::VariableTrailing,
+        ),
+    ];
+    for (text, line, kind) in rows {
+        assert_eq!(rt; rules_or_fault(alloc, text), Err((line, kind)));
     }
 }
 
-/// What a definitions section declares, and which lines are told as skipped.
+/// Files that are read, with the number of their rules.
 #[test]
-fn declarations(rt: HostRuntime) -> Result<(), Fail> {
+fn accepted_files(rt: HostRuntime) {
     let alloc = rt.alloc();
-    let text =
-        b"%{\nint n;\n%}\n a;\n b;\n\n c;\nD [0-9]  \n%s A\n%x B\n%option case-insensitive\n%% x\n";
-    let found = section(alloc, text.as_slice())?;
-    let Section {
-        declarations,
-        rest,
-        line,
-    } = found;
-    assert_eq!(rt; line, 12);
-    assert_eq!(rt; rest, b"%% x\n".as_slice());
-    assert_eq!(rt; declarations.skipped.lines.as_slice(), [1, 4, 7].as_slice());
-    assert!(rt; declarations.fold);
-    assert_eq!(rt; declarations.defs.find(b"D"), Some(b"[0-9]".as_slice()));
-    assert_eq!(rt; declarations.conditions.len(), 3);
-    assert!(rt; !declarations.conditions[1].exclusive);
-    assert!(rt; declarations.conditions[2].exclusive);
-    assert_eq!(rt; declarations.conditions[2].name.as_slice(), b"B".as_slice());
-    Ok(())
-}
-
-/// A line that declares so many conditions.
-fn many_conditions(alloc: Global, count: u32) -> Result<String, AllocError> {
-    let mut text = String::new(alloc);
-    text.push_str("%x")?;
-    for i in 0..count {
-        text.push_str(&format!(in alloc; " c{i}")?)?;
+    let rows = [
+        ("%%", 0),
+        ("%%\n", 0),
+        ("%% x\r\n", 0),
+        ("D a\\\\$\n%%\n{D} ;", 1),
+        ("/* a\n b */ c\n%%\n", 0),
+        ("%array\n%pointer \n%p 3\n%o 3 \n%%\n", 0),
+        ("%{\nint n;\n%}\n%%\n", 0),
+        ("%option 8bit case-insensitive\n%%\n", 0),
+        ("N {D}+\nD [0-9]\n%%\n{N}\".\"{N} printf(\"F\");", 1),
+        ("%%\na ;\r\nb\r\n\"c\" ;", 3),
+        ("%%\na |\n\n int i;\nb ECHO;\n%%\nc d e\n", 2),
+        (
+            "%%\n<INITIAL>a$ ECHO;\n<*>^ab/c*\n<<EOF>> exit(3);\n\"\"/a ;",
+            3,
+        ),
+        ("%%\na\0b ;\n", 1),
+        ("%%\n<INITIAL,INITIAL>a ;", 1),
+        ("%x A\n%%\n<A><<EOF>> ;\n<<EOF>> exit(1);\n", 0),
+    ];
+    for (text, count) in rows {
+        assert_eq!(rt; rules_or_fault(alloc, text), Ok(count));
     }
-    text.push_str("\n%%\n")?;
-    Ok(text)
-}
-
-/// With INITIAL there may be 255 conditions.
-#[test]
-fn counts_of_conditions(rt: HostRuntime) -> Result<(), Fail> {
-    let alloc = rt.alloc();
-    assert_eq!(rt; fault(alloc, &many_conditions(alloc, 254)?), None);
-    assert_eq!(rt;
-        fault(alloc, &many_conditions(alloc, 255)?),
-        Some((1, SpecErrorKind::TooManyConditions))
-    );
-    Ok(())
-}
-
-/// A carriage return directly before a newline is dropped, and no other.
-#[test]
-fn carriage_returns(rt: HostRuntime) -> Result<(), Fail> {
-    let kept = without_returns(rt.alloc(), b"a\r\nb\rc\r\r\n\r".as_slice())?;
-    assert_eq!(rt; kept.as_slice(), b"a\nb\rc\r\n\r".as_slice());
-    Ok(())
 }
 
 /// The text of an action ends at the first newline outside strings, comments and braces.
@@ -190,208 +268,227 @@ fn ends_of_actions(rt: HostRuntime) {
     }
 }
 
-/// Why the item is refused that stands first after a line of `%%`.
-fn rule_fault(alloc: Global, text: &str) -> Result<Option<SpecErrorKind>, SpecErrorKind> {
-    let declarations = Declarations::new(alloc, false)?;
-    let text = text.as_bytes();
-    if text.is_empty() || text.starts_with(b"%%") || declarations.conditions.len() > 255 {
-        return Ok(None);
-    }
-    let mut skipped = Skipped::new(alloc);
-    match Progress::new(alloc).with_item(alloc, &declarations, &mut skipped, text, 2) {
-        Ok(_) => Ok(None),
-        Err(kind) => Ok(Some(kind)),
-    }
-}
-
-/// Texts with the faults of their first rules. (POSIX, lex, Rules in lex and Actions in lex; flex, Patterns.)
+/// The lines where code is skipped: blocks, runs of lines, and a user section that has text.
 #[test]
-fn faults_of_rules(rt: HostRuntime) {
-    let alloc = rt.alloc();
-    let range = |at| {
-        SpecErrorKind::Pattern(PatternError {
-            kind: PatternErrorKind::BadRange,
-            at,
-        })
-    };
-    let rows = [
-        ("<Z>a ;", SpecErrorKind::UnknownCondition),
-        ("<INITIAL", SpecErrorKind::UnknownCondition),
-        ("a/b$ ;", SpecErrorKind::TwoTrailing),
-        ("a/(b$ ;", SpecErrorKind::TwoTrailing),
-        ("<<EOF>>x ;", SpecErrorKind::BadEofRule),
-        ("^<<EOF>> ;", SpecErrorKind::BadEofRule),
-        ("a*/b* ;", SpecErrorKind::VariableTrailing),
-        ("a return 1;", SpecErrorKind::UnknownStatement),
-        ("a yyless(1); yyless(2);", SpecErrorKind::LessAndMore),
-        ("a yymore(); REJECT;", SpecErrorKind::RejectCombination),
-        ("a REJECT; ECHO;", SpecErrorKind::NotLast),
-        ("<<EOF>> ECHO;", SpecErrorKind::BadEofAction),
-        ("<<EOF>> |", SpecErrorKind::BadEofAction),
-        ("a yyless(0);", SpecErrorKind::BadCount),
-        ("a exit(64);", SpecErrorKind::BadStatus),
-        ("a { ECHO;", SpecErrorKind::Unclosed),
-        ("%{\na", SpecErrorKind::Unclosed),
-        ("[z-a] ;", range(1)),
-        ("^[z-a] ;", range(2)),
-        ("a/[z-a] ;", range(3)),
-        ("<INITIAL>[z-a] ;", range(10)),
-    ];
-    for (text, kind) in rows {
-        assert_eq!(rt; rule_fault(alloc, text), Ok(Some(kind)));
-    }
-}
-
-/// Rules that are accepted.
-#[test]
-fn accepted_rules(rt: HostRuntime) {
-    let alloc = rt.alloc();
-    for text in [
-        "a |",
-        "<INITIAL>a$ ECHO;\n",
-        "<*>^ab/c*",
-        "<<EOF>> exit(3);",
-        "\"\"/a ;",
-        " int i;\n",
-        "%{\na\n%}\n",
-    ] {
-        assert_eq!(rt; rule_fault(alloc, text), Ok(None));
-    }
-}
-
-/// The number of rules of a section that begins at line 2, with what follows it, or its first fault.
-fn rules_of(alloc: Global, text: &str) -> Result<(usize, &[u8], u32), SpecError> {
-    let memory = SpecError {
-        line: 0,
-        kind: SpecErrorKind::OutOfMemory,
-    };
-    let Ok(declarations) = Declarations::new(alloc, false) else {
-        return Err(memory);
-    };
-    let text = text.as_bytes();
-    if text.len() > 1_048_576 || declarations.conditions.len() > 255 {
-        return Err(memory);
-    }
-    let mut skipped = Skipped::new(alloc);
-    match read_rules(alloc, &declarations, &mut skipped, text, 2) {
-        Ok(section) => Ok((section.rules.len(), section.rest, section.line)),
-        Err(fault) => Err(fault),
-    }
-}
-
-/// Rules sections, with the line of what follows. (POSIX, lex, Rules in lex and User Subroutines in lex.)
-#[test]
-fn rules_sections(rt: HostRuntime) {
+fn skipped_lines(rt: HostRuntime) -> Result<(), Fail> {
     let alloc = rt.alloc();
     let rows = [
-        ("", 0, "", 2),
-        ("\n int i;\na ;\n", 1, "", 5),
-        ("a |\n\nb ECHO;\n%%\nc", 2, "%%\nc", 5),
-        ("%{\na\n%}\na { ECHO;\n}\n%%", 1, "%%", 7),
-        ("<<EOF>> ;\na ;", 1, "", 3),
+        ("%%\n", [0].as_slice()),
+        (
+            "%{\nint n;\n%}\n%%\na+ ;\naa ;\n%%\nint main(){}",
+            [1, 7].as_slice(),
+        ),
+        (
+            "%{\n%}\n a;\n b;\n\n c;\n%% x\n d;\n e;\na ;\n f;\n",
+            [1, 3, 6, 8, 11].as_slice(),
+        ),
+        ("%%\na ;\n%% x", [0].as_slice()),
+        ("%%\na ;\n%%\n \n\t\n", [0].as_slice()),
+        ("%%\na ;\n%%\n\nx\n", [3].as_slice()),
+        ("/* a */\n%%\na { \n ;\n}\n", [0].as_slice()),
     ];
-    for (text, count, rest, line) in rows {
-        assert_eq!(rt; rules_of(alloc, text), Ok((count, rest.as_bytes(), line)));
-    }
-}
-
-/// Rules sections with the lines of their faults.
-#[test]
-fn faults_of_rules_sections(rt: HostRuntime) {
-    let alloc = rt.alloc();
-    let rows = [
-        ("a |", 2, SpecErrorKind::DanglingBar),
-        ("a |\nb |\n\n", 3, SpecErrorKind::DanglingBar),
-        ("a |\n%{", 3, SpecErrorKind::Unclosed),
-        ("a |\n<<EOF>> ;", 2, SpecErrorKind::DanglingBar),
-        ("a |\n<Z><<EOF>> ;", 2, SpecErrorKind::DanglingBar),
-        ("a ;\n<Z>a ;", 3, SpecErrorKind::UnknownCondition),
-    ];
-    for (text, line, kind) in rows {
-        assert_eq!(rt; rules_of(alloc, text), Err(SpecError { line, kind }));
-    }
-}
-
-/// An `<<EOF>>` rule of the conditions with these numbers, with this status.
-fn end_rule(alloc: Global, numbers: Option<&[u8]>, status: u8) -> Result<EndRule, AllocError> {
-    let conditions = match numbers {
-        None => None,
-        Some(listed) => Some(Vec::from_slice(alloc, listed)?),
-    };
-    Ok(EndRule {
-        conditions,
-        action: EndAction {
-            print: Vec::new(alloc),
-            status,
-        },
-    })
-}
-
-/// Whether a rule with the second list may stand after one with the first.
-fn may_follow(
-    alloc: Global,
-    first: Option<&[u8]>,
-    second: Option<&[u8]>,
-) -> Result<bool, AllocError> {
-    let ends: Vec<EndRule> = vec![in alloc; end_rule(alloc, first, 0)?]?;
-    Ok(may_join(&ends, &end_rule(alloc, second, 0)?))
-}
-
-/// A condition has one `<<EOF>>` rule at most, and one such rule at most has no list. (flex, End-of-File Rules.)
-#[test]
-fn single_ends(rt: HostRuntime) {
-    let alloc = rt.alloc();
-    let some = Some([0, 2].as_slice());
-    let others = Some([1, 3].as_slice());
-    let common = Some([1, 2].as_slice());
-    assert!(rt; may_follow(alloc, some, others).expect(&rt, "memory"));
-    assert!(rt; !may_follow(alloc, some, common).expect(&rt, "memory"));
-    assert!(rt; !may_follow(alloc, others, common).expect(&rt, "memory"));
-    assert!(rt; may_follow(alloc, None, some).expect(&rt, "memory"));
-    assert!(rt; may_follow(alloc, some, None).expect(&rt, "memory"));
-    assert!(rt; !may_follow(alloc, None, None).expect(&rt, "memory"));
-}
-
-/// The status at the end of each of four conditions, of which the rules list 1 and 3, and perhaps none.
-fn statuses(alloc: Global, unlisted: Option<u8>) -> Result<Vec<u8>, AllocError> {
-    let mut conditions: Vec<Condition> = Vec::new(alloc);
-    let mut ends: Vec<EndRule> = Vec::new(alloc);
-    if let Some(status) = unlisted {
-        ends.push(end_rule(alloc, None, status)?)?;
-    }
-    ends.push(end_rule(alloc, Some([1].as_slice()), 5)?)?;
-    ends.push(end_rule(alloc, Some([3].as_slice()), 6)?)?;
-    for name in [
-        b"INITIAL".as_slice(),
-        b"A".as_slice(),
-        b"B".as_slice(),
-        b"C".as_slice(),
-    ] {
-        let end = EndAction {
-            print: Vec::new(alloc),
-            status: 0,
+    for (text, lines) in rows {
+        let spec = read(alloc, text)?;
+        let found = if spec.skipped().is_empty() {
+            [0].as_slice()
+        } else {
+            spec.skipped()
         };
-        conditions.push(Condition {
-            name: Vec::from_slice(alloc, name)?,
-            exclusive: false,
-            end,
-        })?;
+        assert_eq!(rt; found, lines);
     }
-    let mut found = Vec::new(alloc);
-    if conditions.len() <= 255 {
-        for condition in with_ends(alloc, conditions, &ends)? {
-            found.push(condition.end.status)?;
-        }
-    }
-    Ok(found)
+    Ok(())
 }
 
-/// A rule without a list is the end of the conditions that have none. (flex, End-of-File Rules.)
+const WHOLE: &str =
+    "%s A\n%x B\nD [0-9]\n%%\n<B,A>^a{D}/b BEGIN(B);\n<*>c$ |\n\"d\" printf(\"x%s\", yytext); exit(3);\n\
+    a*/bc REJECT;\n<<EOF>> fputs(\"z\", yyout);\n<A><<EOF>> exit(5);\n";
+
+/// The conditions of a file, with their ends. (flex, Start Conditions and End-of-File Rules.)
 #[test]
-fn ends_of_conditions(rt: HostRuntime) {
+fn conditions_of_a_file(rt: HostRuntime) -> Result<(), Fail> {
+    let spec = read(rt.alloc(), WHOLE)?;
+    let rows = [
+        ("INITIAL", false, "z", 0),
+        ("A", false, "", 5),
+        ("B", true, "z", 0),
+    ];
+    assert_eq!(rt; spec.conditions().len(), 3);
+    for (condition, (name, exclusive, print, status)) in spec.conditions().iter().zip(rows) {
+        assert_eq!(rt; condition.name.as_slice(), name.as_bytes());
+        assert_eq!(rt; condition.exclusive, exclusive);
+        assert_eq!(rt; condition.end.print.as_slice(), print.as_bytes());
+        assert_eq!(rt; condition.end.status, status);
+    }
+    Ok(())
+}
+
+/// Which of three actions a rule has.
+fn action_of(rule: &Rule) -> &'static str {
+    match rule.statements.as_slice() {
+        [Statement::Begin(2)] => "BEGIN(B);",
+        [Statement::Print(text), Statement::Echo, Statement::End(3)]
+            if text.as_slice() == b"x".as_slice() => { "printf(x) ECHO; exit(3);" }
+        [Statement::Reject] => "REJECT;",
+        _ => "another",
+    }
+}
+
+/// The rules of a file. (POSIX, lex, Rules in lex; flex, Patterns.)
+#[test]
+fn rules_of_a_file(rt: HostRuntime) -> Result<(), Fail> {
+    let spec = read(rt.alloc(), WHOLE)?;
+    assert!(rt; spec.rejects());
+    let rows = [
+        (5, Some([1, 2].as_slice()), true, Cut::Head(2), "BEGIN(B);"),
+        (
+            6,
+            Some([0, 1, 2].as_slice()),
+            false,
+            Cut::Head(1),
+            "printf(x) ECHO; exit(3);",
+        ),
+        (7, None, false, Cut::Whole, "printf(x) ECHO; exit(3);"),
+        (8, None, false, Cut::Trail(2), "REJECT;"),
+    ];
+    assert_eq!(rt; spec.rules().len(), 4);
+    for (rule, (line, conditions, anchored, cut, action)) in spec.rules().iter().zip(rows) {
+        assert_eq!(rt; rule.line, line);
+        assert_eq!(rt;
+            rule.conditions.as_ref().map(|list| list.as_slice()),
+            conditions
+        );
+        assert_eq!(rt; rule.anchored, anchored);
+        assert_eq!(rt; rule.trail.is_some(), cut != Cut::Whole);
+        assert_eq!(rt; rule.cut, cut);
+        assert_eq!(rt; action_of(rule), action);
+    }
+    Ok(())
+}
+
+/// Letters stand for both cases by the option of the call or of the file. (flex, Scanner Options: case-insensitive.)
+#[test]
+fn folded_letters(rt: HostRuntime) -> Result<(), Fail> {
     let alloc = rt.alloc();
-    let all = statuses(alloc, Some(7)).expect(&rt, "memory");
-    assert_eq!(rt; all.as_slice(), [7, 5, 7, 6].as_slice());
-    let listed = statuses(alloc, None).expect(&rt, "memory");
-    assert_eq!(rt; listed.as_slice(), [0, 5, 0, 6].as_slice());
+    let rows = [
+        ("%%\na ;", false, false),
+        ("%%\na ;", true, true),
+        ("%option case-insensitive\n%%\na ;", false, true),
+    ];
+    for (text, fold, both) in rows {
+        let spec = read_spec(alloc, text.as_bytes(), ReadOptions { fold })?;
+        assert_eq!(rt; has_capital(&spec), Some(both));
+    }
+    Ok(())
+}
+
+/// Whether the first pattern, a set, has the letter A.
+fn has_capital(spec: &Spec) -> Option<bool> {
+    match spec.rules().first()?.head {
+        lexre::Pattern::Set(set) => Some(set.contains(b'A')),
+        _ => None,
+    }
+}
+
+/// A file of a line of definitions, with one word repeated.
+fn repeated(
+    alloc: Global,
+    before: &str,
+    word: &str,
+    count: u32,
+    after: &str,
+) -> Result<String, AllocError> {
+    let mut text = String::new(alloc);
+    text.push_str(before)?;
+    for _i in 0..count {
+        text.push_str(word)?;
+    }
+    text.push_str(after)?;
+    Ok(text)
+}
+
+/// A line that declares so many conditions.
+fn many_conditions(alloc: Global, count: u32) -> Result<String, AllocError> {
+    let mut text = String::new(alloc);
+    text.push_str("%x")?;
+    for i in 0..count {
+        text.push_str(&format!(in alloc; " c{i}")?)?;
+    }
+    text.push_str("\n%%\n")?;
+    Ok(text)
+}
+
+/// With INITIAL there may be 255 conditions.
+#[test]
+fn counts_of_conditions(rt: HostRuntime) -> Result<(), Fail> {
+    let alloc = rt.alloc();
+    assert_eq!(rt; rules_or_fault(alloc, &many_conditions(alloc, 254)?), Ok(0));
+    assert_eq!(rt;
+        rules_or_fault(alloc, &many_conditions(alloc, 255)?),
+        Err((1, SpecErrorKind::TooManyConditions))
+    );
+    Ok(())
+}
+
+/// Limits on the parts of a file, passed by one: texts repeated, and what follows.
+#[test]
+fn limits(rt: HostRuntime) -> Result<(), Fail> {
+    let alloc = rt.alloc();
+    let deep = pattern(PatternErrorKind::TooDeep, 65);
+    let long = SpecErrorKind::TooLong;
+    let rows = [
+        ("%%\na ", "ECHO;", 256, "", Ok(1)),
+        ("%%\na ", "ECHO;", 257, "", Err((2, long))),
+        (
+            "%%\na ",
+            "ECHO;",
+            257,
+            "yyless(1); yymore();",
+            Err((2, long)),
+        ),
+        ("%%\na", "?", 64, " ;", Ok(1)),
+        ("%%\na", "?", 65, " ;", Err((2, deep))),
+    ];
+    for (before, word, count, after, answer) in rows {
+        let text = repeated(alloc, before, word, count, after)?;
+        assert_eq!(rt; rules_or_fault(alloc, &text), answer);
+    }
+    Ok(())
+}
+
+/// Limits on literals, lengths, rules and bytes, passed by one: texts repeated, and what follows.
+#[test]
+fn large_limits(rt: HostRuntime) -> Result<(), Fail> {
+    let alloc = rt.alloc();
+    let long = SpecErrorKind::TooLong;
+    let many = SpecErrorKind::TooManyRules;
+    let rows = [
+        ("%%\na printf(\"", "x", 4_096, "\");", Ok(1)),
+        ("%%\na printf(\"", "x", 4_097, "\");", Err((2, long))),
+        ("%%\n", "a\n", 4_096, "<<EOF>> ;", Ok(4_096)),
+        ("%%\n", "a\n", 4_096, "<Z>a", Err((4_098, many))),
+        ("%%\n", "a\n", 4_095, "a |\na ;", Err((4_098, many))),
+        ("%%\n", "a", 65_535, "", Ok(1)),
+        (
+            "%%\n",
+            "a",
+            65_536,
+            "",
+            Err((2, pattern(PatternErrorKind::TooBig, 65_535))),
+        ),
+        ("%%\nb*/(a{255}){255}", "a{255}", 2, " ;", Ok(1)),
+        (
+            "%%\nb*/(a{255}){255}",
+            "a{255}",
+            2,
+            "a ;",
+            Err((2, SpecErrorKind::VariableTrailing)),
+        ),
+        ("%%\n", "\n", 1_048_573, "", Ok(0)),
+        ("%%\n", "\n", 1_048_574, "", Err((0, long))),
+    ];
+    for (before, word, count, after, answer) in rows {
+        let text = repeated(alloc, before, word, count, after)?;
+        assert_eq!(rt; rules_or_fault(alloc, &text), answer);
+    }
+    Ok(())
 }
