@@ -1,5 +1,7 @@
 -- Runs of bytes: lines, blanks and words.
 use Rattle.std.proofs.Common.{◌≡◌, ℕ, zero, suc, ◌-◌, ◌<◌, ◌≤◌, ◌==◌, Bool, true, false, not, if◌then◌else◌, List, [], ◌∷◌, length, get_or, take, drop, refl, sym, ap, ◌∙◌, arith}
+use Rattle.std.specs.Prelude.{Option, Some, None, unwrap_or}
+use Rattle.bstr.specs.Find.{IsFirstByte, is_byte}
 use Rattle.lexclass.specs.Lexical.{take_up_to, take_run}
 use Rattle.lexspec.specs.Lines.{line_in, is_blank, blanks, after_blanks, before_blank, words_in, words}
 use Rattle.lexspec.specs.Runs.{split_before}
@@ -36,8 +38,21 @@ lines_split (c ∷ t) =
       | false ↦ ap (with_first c) (lines_split t)
     ]
 
-pub line_split : (t a b : List ℕ) → ◌≡◌ {A = Split} (split_before (λ c. c == 10) t) (a, b) → ◌≡◌ {A = Split} (line_in t) (a, drop 1 b)
-line_split t a b e = lines_split t ∙ ap line_of e
+-- where the first newline was looked for
+not_so : (b : Bool) → (b ≡ true → ⊥) → b ≡ false
+not_so true h = absurd (h refl)
+not_so false h = refl
+
+found_split : (t : List ℕ) (r : Option ℕ) → IsFirstByte (is_byte 10) t r → ◌≡◌ {A = Split} (split_before (λ c. c == 10) t) (take (unwrap_or r (length t)) t, drop (unwrap_or r (length t)) t)
+found_split t None h = splits_at (λ c. c == 10) t (length t) (omega arith) (λ k lt. not_so (get_or t k 0 == 10) (h k (omega arith) lt)) (λ lt. absurd (omega arith))
+found_split t (Some i) h =
+    let below = h.0.high in
+    splits_at (λ c. c == 10) t i (omega arith) (λ k lt. not_so (get_or t k 0 == 10) (h.0.before k (omega arith) lt)) (λ lt. h.1)
+
+pub line_found : (t a b : List ℕ) (r : Option ℕ) (i : ℕ) → IsFirstByte (is_byte 10) t r → i ≡ unwrap_or r (length t) → a ≡ take i t → b ≡ drop i t → ◌≡◌ {A = Split} (line_in t) (a, drop 1 b)
+line_found t a b r i h is front back =
+    lines_split t ∙ ap line_of (found_split t r h) ∙ ap (λ (z : ℕ). (let s : Split = (take z t, drop 1 (drop z t)) in s)) (sym is) ∙ ap (λ z. (let s : Split = (z, drop 1 (drop i t)) in s)) (sym front)
+    ∙ ap (λ z. (let s : Split = (a, drop 1 z) in s)) (sym back)
 
 all_blanks_split : (t : List ℕ) → ◌≡◌ {A = Split} (blanks t) (split_before (λ c. not (is_blank c)) t)
 all_blanks_split [] = refl

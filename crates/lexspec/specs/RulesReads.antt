@@ -30,4 +30,4 @@ NoSuchRules d n text = (items : List (ℕ × Item)) (rules : List Rule) (ends : 
 
 -- the line of the last rule that waits for an action, or else n
 abbrev pub line_of_last : ℕ → List RuleKept → ℕ
-line_of_last n waiting = elim (slice_get waiting (length waiting - 1)) [ | None ↦ n | Some r ↦ r.line ]
+line_of_last n waiting = elim (slice_get waiting (length waiting - 1)) [ None ↦ n | Some r ↦ r.line ]

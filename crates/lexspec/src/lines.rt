@@ -5,6 +5,7 @@ ghost use Rattle.lexspec.specs.Lines.{without_returns, line_in, is_blank, after_
 ghost use Rattle.lexspec.specs.Runs.{split_before};
 ghost use Rattle.lexspec.specs.DefinitionLines.{is_all_blank};
 
+use bstr::ByteSlice;
 use std::alloc::{AllocError, Global};
 
 /// The text without each carriage return that stands directly before a newline.
@@ -50,7 +51,8 @@ pub(crate) fn split_line(text: &[u8]) -> (&[u8], &[u8])
     ensures shorter { 0 < length text.now → length result.1.now < length text.now }
     ensures within { length result.0.now ≤ length text.now }
 {
-    let (line, rest) = split_before(|byte| byte == b'\n', text);
+    let at = text.find_byte(b'\n').unwrap_or(text.len());
+    let (line, rest) = text.split_at(at);
     (line, skip_first(rest))
 }
 
