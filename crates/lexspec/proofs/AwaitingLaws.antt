@@ -3,7 +3,7 @@ use Rattle.std.proofs.Common.{◌≡◌, ℕ, true, false, List, [], map, length
 use Rattle.std.specs.Prelude.{codes}
 use Rattle.std.proofs.lemmas.List.{length-map}
 use Rattle.lexmeaning.specs.Spec as S
-use Rattle.lexspec.specs.Lines.{begins}
+use Rattle.lexmeaning.specs.Reading.{begins}
 use Rattle.lexspec.specs.Items.{Subject, at_end, matching, Action, bar, spelled, IsSubject, starts_rule, action_of}
 use Rattle.lexspec.specs.EndOpenings.{opens_end, begins_end}
 use Rattle.lexspec.specs.RuleViews.{rule_of}
