@@ -1,6 +1,6 @@
 -- Steps of the reader of statements, against whole texts.
-use Rattle.std.proofs.Common.{◌≡◌, ℕ, zero, suc, ◌+◌, ◌-◌, ◌≤◌, ◌<◌, ◌==◌, length, Bool, true, false, List, [], ◌∷◌, ◌++◌, Option, Some, None, refl, sym, ap, ◌∙◌, subst, arith}
-use Rattle.lexaction.specs.Reading.{Reader, IsCut}
+use Rattle.std.proofs.Common.{◌≡◌, ℕ, zero, suc, ◌+◌, ◌-◌, ◌<◌, length, true, false, List, [], ◌∷◌, ◌++◌, Option, Some, None, refl, sym, ap, ◌∙◌, subst, arith}
+use Rattle.lexmeaning.specs.Reading.{IsCut}
 use Rattle.lexaction.specs.Bytes.{skip}
 use Rattle.lexmeaning.specs.Spec.{Statement}
 use Rattle.lexaction.specs.Statements.{then_all}

@@ -1,12 +1,16 @@
 -- Runs of bytes, and numbers.
-use Rattle.std.proofs.Common.{◌≡◌, ℕ, zero, suc, ◌+◌, ◌-◌, ◌*◌, ◌<◌, ◌≤◌, ◌==◌, min, Bool, true, false, if◌then◌else◌, List, [], ◌∷◌, ◌++◌, length, get_or, take, drop, Option, Some, None, refl, sym, ap, ◌∙◌, arith, fold, append_assoc, append-nil}
-use Rattle.std.proofs.lemmas.Bool.{ne_eqb}
-use Rattle.lexaction.specs.Bytes.{take_up_to, digit_of, value, string_at, string_byte_at}
-use Rattle.lexaction.specs.Reading.{◌>>=◌}
+use Rattle.std.proofs.Common.{◌≡◌, ℕ, zero, suc, ◌+◌, ◌-◌, ◌*◌, ◌<◌, ◌≤◌, ◌==◌, min, Bool, true, false, if◌then◌else◌, List, [], ◌∷◌, ◌++◌, length, get_or, take, drop, Option, Some, None, refl, sym, ap, ◌∙◌, arith, append_assoc, append-nil}
+use Rattle.lexmeaning.specs.ByteSets.{is_alpha, is_digit, is_alnum, is_xdigit}
+use Rattle.lexmeaning.specs.Reading.{◌>>=◌, take_up_to, starts_name, goes_on_name, value}
+use Rattle.lexmeaning.specs.Escapes.{is_octal, octal_at, hexadecimal_at}
+use Rattle.lexaction.specs.Bytes.{as_byte, escape_at, string_at, string_byte_at}
+use Rattle.std.proofs.lemmas.Bool.{ne_eqb, eq-eqb, ltb-true, ltb-false, le-leb, lt-leb}
+use Rattle.std.specs.Prelude.{◌||◌, nat_lt}
 
 -- where the first i bytes pass, and the next one is past the bound, past the end, or does not pass
 pub run_is : (n : ℕ) (test : ℕ → Bool) (t : List ℕ) (i : ℕ) → i ≤ n → i ≤ length t → ((k : ℕ) → k < i → test (get_or t k 0) ≡ true)
     → ((i < n) → (i < length t) → test (get_or t i 0) ≡ false) → take_up_to n test t ≡ (take i t, drop i t)
+unfolding take_up_to
 run_is zero test t zero below within first last = refl
 run_is zero test t (suc i) below within first last = absurd (omega arith)
 run_is (suc n) test [] zero below within first last = refl
@@ -82,7 +86,8 @@ string_open text front [] so e = sym so.same
 string_open text front (c ∷ t) so e = absurd (omega arith)
 
 -- where the first byte passes, a run has it
-pub run_moves : (n : ℕ) (test : ℕ → Bool) (t a b : List ℕ) (c : ℕ) (u : List ℕ) → take_up_to n test t ≡ (a, b) → t ≡ c ∷ u → test c ≡ true → 0 < n → 0 < length a
+run_moves : (n : ℕ) (test : ℕ → Bool) (t a b : List ℕ) (c : ℕ) (u : List ℕ) → take_up_to n test t ≡ (a, b) → t ≡ c ∷ u → test c ≡ true → 0 < n → 0 < length a
+unfolding take_up_to
 run_moves zero test t a b c u run e pass some = absurd (omega arith)
 run_moves (suc n) test [] a b c u run e pass some = absurd (omega (arith, ap length e))
 run_moves (suc n) test (d ∷ t) a b c u run e pass some =
@@ -92,3 +97,70 @@ run_moves (suc n) test (d ∷ t) a b c u run e pass some =
     let front : d ∷ (take_up_to n test t).0 ≡ a = ap (λ (x : List ℕ × List ℕ). x.0) (sym is ∙ run) in
     let long : length a ≡ suc (length (take_up_to n test t).0) = sym (ap length front) in
     omega arith
+
+-- what may start a name goes on in one
+starts_goes : (c : ℕ) → starts_name c ≡ true → goes_on_name c ≡ true
+unfolding is_alnum
+starts_goes c h = either (is_alpha c) (is_digit c) (c == 95) (c == 45) h
+  where
+    either : (a b d e : Bool) → (a || d) ≡ true → ((a || b) || d || e) ≡ true
+    either true b d e h = refl
+    either false true d e h = refl
+    either false false true e h = refl
+    either false false false e h = cc
+
+-- a name that starts has a byte
+pub name_moves : (n : ℕ) (t a b : List ℕ) (c : ℕ) (u : List ℕ) → ◌≡◌ {A = List ℕ × List ℕ} (take_up_to n goes_on_name t) (a, b) → t ≡ c ∷ u → starts_name c ≡ true → 0 < n → 0 < length a
+name_moves n t a b c u run e first some = run_moves n goes_on_name t a b c u run e (starts_goes c first) some
+
+-- Escapes.
+
+abbrev Found : Type 0
+Found = Option (ℕ × List ℕ)
+
+abbrev no_zero : Found → Found
+no_zero o = o >>= λ (n, rest). as_byte n rest
+
+large_none : (n : ℕ) (rest : List ℕ) → 256 ≤ n → ◌≡◌ {A = Found} (as_byte n rest) None
+large_none n rest h = rw (le-leb 1 n (omega arith), lt-leb n 255 (omega arith)) refl
+
+-- a number that is cut at 65,536 is as good
+capped_same : (v n : ℕ) (rest : List ℕ) → n ≡ min 65536 v → ◌≡◌ {A = Found} (if nat_lt v 256 then as_byte v rest else None) (as_byte n rest)
+capped_same v n rest e = from (nat_lt v 256) refl
+  where
+    from : (b : Bool) → nat_lt v 256 ≡ b → ◌≡◌ {A = Found} (if b then as_byte v rest else None) (as_byte n rest)
+    from true h = let below : v < 256 = ltb-true v 256 h in let same : v ≡ n = omega arith in ap (λ m. as_byte m rest) same
+    from false h = let over : 256 ≤ v = ltb-false v 256 h in sym (large_none n rest (omega arith))
+
+whole_same : (v : ℕ) (rest : List ℕ) → ◌≡◌ {A = Found} (as_byte v rest) (if nat_lt v 256 then as_byte v rest else None)
+whole_same v rest = from (nat_lt v 256) refl
+  where
+    from : (b : Bool) → nat_lt v 256 ≡ b → ◌≡◌ {A = Found} (as_byte v rest) (if b then as_byte v rest else None)
+    from true h = refl
+    from false h = large_none v rest (ltb-false v 256 h)
+
+octal_byte : (t digits rest : List ℕ) (n : ℕ) → ◌≡◌ {A = List ℕ × List ℕ} (take_up_to 3 is_octal t) (digits, rest) → n ≡ min 65536 (value 8 digits)
+    → ◌≡◌ {A = Found} (no_zero (octal_at t)) (as_byte n rest)
+unfolding octal_at
+octal_byte t digits rest n e f = rw e (from (nat_lt (value 8 digits) 256) ∙ capped_same (value 8 digits) n rest f)
+  where
+    from : (b : Bool) → ◌≡◌ {A = Found} (no_zero (if b then Some (value 8 digits, rest) else None)) (if b then as_byte (value 8 digits) rest else None)
+    from true = refl
+    from false = refl
+
+hexadecimal_byte : (t digits rest : List ℕ) (n : ℕ) → ◌≡◌ {A = List ℕ × List ℕ} (take_up_to 2 is_xdigit t) (digits, rest) → n ≡ min 65536 (value 16 digits)
+    → ◌≡◌ {A = Found} (no_zero (hexadecimal_at t)) (as_byte n rest)
+unfolding hexadecimal_at
+hexadecimal_byte t [] rest n e f = rw (e, f) refl
+hexadecimal_byte t (d ∷ digits) rest n e f =
+    rw e (whole_same (value 16 (d ∷ digits)) rest ∙ capped_same (value 16 (d ∷ digits)) n rest f)
+
+pub octal_escape : (t u digits rest : List ℕ) (c n : ℕ) → t ≡ c ∷ u → is_octal c ≡ true → ◌≡◌ {A = List ℕ × List ℕ} (take_up_to 3 is_octal t) (digits, rest)
+    → n ≡ min 65536 (value 8 digits) → ◌≡◌ {A = Found} (as_byte n rest) (escape_at t)
+unfolding escape_at
+octal_escape t u digits rest c n e pass run f = sym (ap escape_at e ∙ rw pass (ap (λ x. no_zero (octal_at x)) (sym e) ∙ octal_byte t digits rest n run f))
+
+pub hexadecimal_escape : (t u digits rest : List ℕ) (c n : ℕ) → t ≡ c ∷ u → is_octal c ≡ false → c ≡ 120 → ◌≡◌ {A = List ℕ × List ℕ} (take_up_to 2 is_xdigit u) (digits, rest)
+    → n ≡ min 65536 (value 16 digits) → ◌≡◌ {A = Found} (as_byte n rest) (escape_at t)
+unfolding escape_at
+hexadecimal_escape t u digits rest c n e pass x run f = sym (ap escape_at e ∙ rw (pass, eq-eqb c 120 x) (hexadecimal_byte u digits rest n run f))

@@ -1,6 +1,5 @@
 -- Statements, by their parts.
 use Rattle.std.proofs.Common.{sym, option_map, ◌≡◌, ℕ, List, Option, Some, None, refl, ap, ◌∙◌}
-use Rattle.lexaction.specs.Reading.{◌>>=◌}
 use Rattle.lexaction.specs.Bytes.{next, name_at}
 use Rattle.lexmeaning.specs.Spec.{Begin}
 use Rattle.lexaction.specs.Actions.{Said, does, begin_at, begin_from, begins, closed_condition, condition_at, after_word, after_statement, statement_at}

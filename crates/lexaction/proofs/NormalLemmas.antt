@@ -1,12 +1,12 @@
 -- The normal form of an action is legal.
-use Rattle.std.proofs.Common.{◌≡◌, ℕ, zero, suc, ◌+◌, ◌≤◌, ◌<◌, Bool, true, false, List, [], ◌∷◌, ◌++◌, length, Option, Some, None, IfSome, refl, sym, ap, ◌∙◌, subst, arith}
-use Rattle.std.specs.Prelude.{not, ◌&&◌, ◌||◌, nat_le}
+use Rattle.std.proofs.Common.{◌≡◌, ℕ, suc, ◌+◌, ◌≤◌, ◌<◌, Bool, true, false, List, [], ◌∷◌, ◌++◌, length, Some, None, IfSome, refl, sym, ap, ◌∙◌, subst, arith}
+use Rattle.std.specs.Prelude.{not, ◌&&◌, nat_le}
 use Rattle.std.proofs.lemmas.Bool.{and_parts, and_from, le-leb, leb-true}
 use Rattle.lexmeaning.specs.Spec.{EndAction, Statement, Echo, Print, Begin, More, Less, Reject, End}
 use Rattle.lexmeaning.specs.Legal.{in_range, all_in_range, is_literal, are_joined, ends_last, are_compatible, IsLegal}
 use Rattle.lexaction.specs.Names.{number_from}
 use Rattle.lexaction.specs.Statements.{then_print, then_one, then_all}
-use Rattle.lexaction.specs.Actions.{are_few, may_stand, statements_of, SpellsStatements, SpellsAction, SpellsEndAction, end_of}
+use Rattle.lexaction.specs.Actions.{are_few, statements_of, SpellsStatements, SpellsAction, SpellsEndAction, end_of}
 use Rattle.lexaction.proofs.RangeLemmas.{raw, all_raw, cut_good, number_below}
 
 -- ranges

@@ -1,9 +1,9 @@
 -- A text spells at most one list of statements.
-use Rattle.std.proofs.Common.{◌≡◌, ℕ, List, [], ◌∷◌, Option, Some, None, refl, sym, ap, ◌∙◌, subst}
-use Rattle.lexaction.specs.Reading.{Reader, IsCut}
+use Rattle.std.proofs.Common.{◌≡◌, ℕ, List, [], ◌∷◌, Option, Some, refl, sym, ap, ◌∙◌, subst}
+use Rattle.lexmeaning.specs.Reading.{Reader, IsCut}
 use Rattle.lexmeaning.specs.Spec.{Statement}
 use Rattle.lexaction.specs.Statements.{normal}
-use Rattle.lexaction.specs.Actions.{Piece, piece_at, statements_of, NoPiece, SpellsStatements}
+use Rattle.lexaction.specs.Actions.{piece_at, statements_of, NoPiece, SpellsStatements}
 use Rattle.lexaction.proofs.ActionLemmas.{no_piece}
 
 some_is : {A : Type 0} (x y : A) → Some x ≡ Some y → x ≡ y

@@ -1,12 +1,13 @@
 -- What the statements of a text name is in range.
-use Rattle.std.proofs.Common.{◌≡◌, ℕ, zero, suc, ◌+◌, ◌≤◌, ◌<◌, ◌==◌, Bool, true, false, List, [], ◌∷◌, ◌++◌, length, Option, Some, None, IfSome, if◌then◌else◌, refl, sym, ap, ◌∙◌, subst, arith}
+use Rattle.std.proofs.Common.{◌≡◌, ℕ, suc, ◌+◌, ◌≤◌, ◌<◌, ◌==◌, Bool, true, false, List, [], ◌∷◌, ◌++◌, length, Option, Some, None, IfSome, if◌then◌else◌, refl, subst, arith}
 use Rattle.std.specs.Prelude.{codes, ◌&&◌, nat_le, nat_lt}
 use Rattle.std.proofs.lemmas.Bool.{and_parts, and_from, lt-ltb}
-use Rattle.lexmeaning.specs.Spec.{Statement, Echo, Print, Begin, More, Less, Reject, End}
+use Rattle.lexmeaning.specs.Spec.{Statement, Print}
 use Rattle.lexmeaning.specs.Legal.{in_range}
-use Rattle.lexaction.specs.Reading.{◌>>=◌, IsCut, is_word}
+use Rattle.lexmeaning.specs.ByteSets.{is_word, within}
+use Rattle.lexmeaning.specs.Reading.{◌>>=◌, IsCut}
 use Rattle.lexaction.specs.Names.{number_from}
-use Rattle.lexaction.specs.Bytes.{next, name_at, digits_at, literal_at, skip, within}
+use Rattle.lexaction.specs.Bytes.{next, name_at, digits_at, literal_at, skip}
 use Rattle.lexaction.specs.Actions.{Said, does, prints, prints_text, said_by, Piece, semicolon, opens, closes, says, statements_of, NoPiece, no_argument, number_argument, second_word, parts_of, without_text, with_text, formatted_at, printf_at, fputs_at, puts_at, yymore_at, yyless_at, yyterminate_at, exit_at, condition_at, closed_condition, begins, begin_from, begin_at, after_word, after_statement, statement_at, piece_from, piece_at}
 
 -- as `in_range`, but that a literal may be empty

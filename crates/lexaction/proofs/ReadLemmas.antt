@@ -1,5 +1,5 @@
 -- What is refused after its statements were read is no action.
-use Rattle.std.proofs.Common.{◌≡◌, ℕ, Bool, true, false, List, Option, Some, None, refl, sym, ap, ◌∙◌, subst}
+use Rattle.std.proofs.Common.{◌≡◌, ℕ, true, false, List, Option, Some, None, sym, ap, ◌∙◌}
 use Rattle.lexmeaning.specs.Spec.{EndAction, Statement}
 use Rattle.lexaction.specs.Actions.{SpellsStatements, SpellsAction, SpellsEndAction, may_stand, are_few, end_of}
 use Rattle.lexaction.specs.Outcome.{UnlessMemory}

@@ -1,8 +1,8 @@
 -- The action of a rule: which statements a text spells.
-use Rattle.std.specs.Prelude.{◌≡◌, ℕ, zero, suc, ◌+◌, ◌≤◌, Bool, true, false, not, ◌&&◌, ◌||◌, ◌==◌, nat_le, nat_lt, if◌then◌else◌, List, [], ◌∷◌, ◌++◌, length, sum_by, count_by, Option, Some, None, codes, min}
-use Rattle.std.specs.List.{flat_map, list_any}
-use Rattle.lexaction.specs.Reading.{◌>>=◌, Reader, IsCut, is_word}
-use Rattle.lexaction.specs.Bytes.{skip, next, name_at, digits_at, literal_at, value, within}
+use Rattle.std.specs.Prelude.{◌≡◌, ℕ, zero, suc, Bool, true, false, ◌&&◌, ◌==◌, nat_le, if◌then◌else◌, List, [], ◌∷◌, ◌++◌, length, sum_by, Option, Some, None, codes, min}
+use Rattle.lexmeaning.specs.ByteSets.{is_word, within}
+use Rattle.lexmeaning.specs.Reading.{◌>>=◌, Reader, IsCut, value}
+use Rattle.lexaction.specs.Bytes.{skip, next, name_at, digits_at, literal_at}
 use Rattle.lexmeaning.specs.Spec.{EndAction, Statement, Echo, Print, Begin, More, Less, Reject, End}
 use Rattle.lexmeaning.specs.Legal.{ends_last, are_compatible}
 use Rattle.lexaction.specs.Statements.{normal, literal_bytes}

@@ -6,7 +6,6 @@ use Rattle.lexaction.specs.Views.{said_of}
 use Rattle.lexaction.specs.Outcome.{UnlessMemory}
 use Rattle.lexaction.specs.declared.error.ActionError.{ActionError}
 use Rattle.lexaction.specs.declared.statement.Called.{Called}
-use Rattle.lexaction.specs.declared.statement.Called.TheVariants as Called
 
 abbrev pub with_rest : {A : Type 0} → List ℕ → A → A × List ℕ
 with_rest rest x = (x, rest)

@@ -1,4 +1,3 @@
-pub mod Reading
 pub mod Bytes
 pub mod Statements
 pub mod Actions

@@ -1,6 +1,6 @@
 -- Names and their numbers.
-use Rattle.std.specs.Prelude.{ℕ, zero, suc, if◌then◌else◌, List, [], ◌∷◌, map, Option, Some, None}
-use Rattle.lexaction.specs.Reading.{is_word}
+use Rattle.std.specs.Prelude.{ℕ, suc, if◌then◌else◌, List, [], ◌∷◌, map, Option, Some, None}
+use Rattle.lexmeaning.specs.ByteSets.{is_word}
 use Rattle.lexaction.specs.declared.condition.Condition.{Condition}
 
 -- the number of the first that has the name, counted from k

@@ -1,6 +1,6 @@
 -- Actions in normal form: no literal is empty, and no two are neighbours. (This project's.)
-use Rattle.std.specs.Prelude.{ℕ, ◌+◌, List, [], ◌∷◌, ◌++◌, length}
-use Rattle.lexmeaning.specs.Spec.{Statement, Echo, Print, Begin, More, Less, Reject, End}
+use Rattle.std.specs.Prelude.{ℕ, List, [], ◌∷◌, ◌++◌, length}
+use Rattle.lexmeaning.specs.Spec.{Statement, Print}
 
 -- a literal after the statements: dropped where it is empty, and joined with one that stands last
 abbrev pub then_print : List Statement → List ℕ → List Statement

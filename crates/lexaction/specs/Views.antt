@@ -1,10 +1,9 @@
 -- What the values of the code stand for.
-use Rattle.std.specs.Prelude.{ℕ, List, map, Option, option_map}
+use Rattle.std.specs.Prelude.{ℕ, List, Option, option_map}
 use Rattle.lexaction.specs.declared.condition.Condition.{Condition}
 use Rattle.lexaction.specs.declared.condition.EndAction.{EndAction}
 use Rattle.lexaction.specs.declared.statement.Parts.{Parts}
 use Rattle.lexaction.specs.declared.statement.Piece.{Piece}
-use Rattle.lexaction.specs.declared.statement.Piece.TheVariants as Piece
 use Rattle.lexaction.specs.declared.format.Format.{Format}
 use Rattle.lexaction.specs.Formats.{State, state}
 use Rattle.lexmeaning.specs.Spec as S
@@ -12,7 +11,6 @@ use Rattle.lexaction.specs.Actions as A
 use Rattle.lexaction.specs.declared.statement.Statement.{Statement}
 use Rattle.lexaction.specs.declared.statement.Statement.TheVariants.{Echo, Print, Begin, More, Less, Reject, End}
 use Rattle.lexaction.specs.declared.statement.Said.{Said}
-use Rattle.lexaction.specs.declared.statement.Said.TheVariants as Said
 
 abbrev pub statement_of : Statement → S.Statement
 statement_of Echo = S.Echo

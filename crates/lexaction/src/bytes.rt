@@ -1,6 +1,7 @@
 //! Bytes, names, numbers and strings of an action.
 ghost use Rattle.std.specs.Prelude.{◌≡◌, ◌≤◌, ◌<◌, ◌+◌, suc, length, min, option_map, ◌∷◌, MatchOption, IfSome, IfOk};
-ghost use Rattle.lexaction.specs.Bytes.{passes, take_up_to, run, is_white, starts_name, name_at, digit_of, value, digits_at, skip, skip_in, outside, slash, block, line, next, as_byte, plain_escape, escape_at, string_byte_at, string_at, literal_at};
+ghost use Rattle.lexmeaning.specs.Reading.{take_up_to, is_white, starts_name, digit_of, value};
+ghost use Rattle.lexaction.specs.Bytes.{passes, name_at, digits_at, skip, skip_in, outside, slash, block, line, next, as_byte, plain_escape, escape_at, string_byte_at, string_at, literal_at};
 ghost use Rattle.lexaction.specs.Outcome.{Reads};
 
 use crate::error::ActionError;
@@ -14,23 +15,26 @@ pub(crate) enum Kind {
     Hexadecimal,
 }
 
+#[tactic(auto, unfolding(lexmeaning::specs::ByteSets::is_alpha, lexmeaning::specs::ByteSets::is_upper, lexmeaning::specs::ByteSets::is_lower))]
 fn starts_name(byte: u8) -> bool
     ensures { result ≡ starts_name byte }
 {
     byte.is_ascii_alphabetic() || byte == b'_'
 }
 
+#[tactic(auto, unfolding(lexmeaning::specs::ByteSets::is_blank))]
 fn is_white(byte: u8) -> bool
     ensures { result ≡ is_white byte }
 {
-    byte == b' ' || byte == b'\t' || byte == b'\n'
+    byte == b'\t' || byte == b' ' || byte == b'\n'
 }
 
+#[tactic(auto, unfolding(lexmeaning::specs::ByteSets::is_alnum, lexmeaning::specs::ByteSets::is_alpha, lexmeaning::specs::ByteSets::is_upper, lexmeaning::specs::ByteSets::is_lower, lexmeaning::specs::ByteSets::is_digit, lexmeaning::specs::ByteSets::is_xdigit))]
 fn passes(kind: Kind, byte: u8) -> bool
     ensures { result ≡ passes kind byte }
 {
     match kind {
-        Kind::Name => starts_name(byte) || byte.is_ascii_digit() || byte == b'-',
+        Kind::Name => byte.is_ascii_alphanumeric() || byte == b'_' || byte == b'-',
         Kind::Decimal => byte.is_ascii_digit(),
         Kind::Octal => byte >= b'0' && byte <= b'7',
         Kind::Hexadecimal => {
@@ -53,7 +57,7 @@ fn split_run(text: &[u8], most: usize, kind: Kind) -> (&[u8], &[u8])
     text.split_at(end)
 }
 
-#[tactic(auto, unfolding(crate::specs::Bytes::name_at), using(crate::proofs::ByteLemmas::run_moves))]
+#[tactic(auto, unfolding(crate::specs::Bytes::name_at))]
 pub(crate) fn name_at(text: &[u8]) -> Option<(&[u8], &[u8])>
     ensures name { option_map (λ x. (x.0.now, x.1.now)) result ≡ name_at text.now }
     ensures shorter { IfSome result (λ x. length x.1.now < length text.now) }
@@ -65,7 +69,7 @@ pub(crate) fn name_at(text: &[u8]) -> Option<(&[u8], &[u8])>
     Some(split_run(text, text.len(), Kind::Name))
 }
 
-#[tactic(auto, unfolding(crate::specs::Bytes::digits_at))]
+#[tactic(auto, unfolding(crate::specs::Bytes::digits_at), using(lexmeaning::proofs::ReadingLaws::empty_test))]
 pub(crate) fn digits_at(text: &[u8]) -> Option<(&[u8], &[u8])>
     ensures digits { option_map (λ x. (x.0.now, x.1.now)) result ≡ digits_at text.now }
     ensures shorter { IfSome result (λ x. length x.1.now ≤ length text.now) }
@@ -77,6 +81,7 @@ pub(crate) fn digits_at(text: &[u8]) -> Option<(&[u8], &[u8])>
     Some((digits, rest))
 }
 
+#[tactic(auto, unfolding(lexmeaning::specs::ByteSets::is_digit))]
 fn digit_of(byte: u8) -> u32
     ensures digit { result ≡ digit_of byte }
     ensures small { result ≤ 24 }
@@ -180,7 +185,7 @@ pub(crate) fn next(byte: u8, text: &[u8]) -> Option<&[u8]>
     }
 }
 
-#[tactic(auto, unfolding(crate::specs::Bytes::plain_escape))]
+#[tactic(auto, unfolding(crate::specs::Bytes::plain_escape, lexmeaning::specs::Escapes::control))]
 fn plain_escape(byte: u8) -> Option<u8>
     ensures { result ≡ plain_escape byte }
 {

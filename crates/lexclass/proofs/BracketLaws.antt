@@ -4,7 +4,8 @@ use Rattle.std.proofs.lemmas.Bool.{lt-ltb, le-ltb}
 use Rattle.std.specs.List.{ends_with}
 use Rattle.std.specs.Prelude.{codes}
 use Rattle.lexmeaning.specs.ByteSets.{is_alpha}
-use Rattle.lexclass.specs.Lexical.{take_up_to, is_empty, after_word, letters_at, named_at, enclosed_at, unsupported_at, ◌>>=◌}
+use Rattle.lexmeaning.specs.Reading.{take_up_to, is_empty, ◌>>=◌}
+use Rattle.lexclass.specs.Lexical.{after_word, letters_at, named_at, enclosed_at, unsupported_at}
 
 abbrev Cut : Type 0
 Cut = Option (List ℕ × List ℕ)

@@ -3,9 +3,11 @@ use Rattle.std.proofs.Common.{◌≡◌, ℕ, zero, suc, ◌≤◌, ◌-◌, Boo
 use Rattle.std.specs.List.{ends_with}
 use Rattle.std.specs.Prelude.{codes}
 use Rattle.lexmeaning.specs.ByteSets.{ByteSet, is_alpha, is_xdigit, within}
-use Rattle.lexclass.specs.Lexical.{◌>>=◌, Element, element_set, span, take_up_to, value, is_empty, begins, after_word, control, octal_at, hexadecimal_at, escape_at, letters_at, named_at, enclosed_at, unsupported_at, class_byte_at, bracketed_at, is_range, range_at, element_at}
+use Rattle.lexmeaning.specs.Escapes.{control, octal_at, hexadecimal_at}
+use Rattle.lexmeaning.specs.Reading.{◌>>=◌, take_up_to, value, is_empty, begins}
+use Rattle.lexclass.specs.Lexical.{Element, element_set, span, after_word, escape_at, letters_at, named_at, enclosed_at, unsupported_at, class_byte_at, bracketed_at, is_range, range_at, element_at, inside}
 use Rattle.lexclass.specs.ClassSets.{member_at}
-use Rattle.lexclass.specs.Stops.{inside, stop_of}
+use Rattle.lexclass.specs.Stops.{stop_of}
 use Rattle.std.proofs.lemmas.Slice.Eq.{starts_is}
 use Rattle.std.proofs.lemmas.Bool.Decides.{Decides-eqb}
 use Rattle.lexclass.proofs.IntervalLaws.{begun}

@@ -4,7 +4,8 @@ use Rattle.std.proofs.lemmas.Bool.{lt-ltb, le-ltb}
 use Rattle.std.proofs.lemmas.Bool.Decides.{nat_tests}
 use Rattle.std.specs.Result.{OkIff, result_ok}
 use Rattle.lexmeaning.specs.ByteSets.{within, is_xdigit, is_digit}
-use Rattle.lexclass.specs.Lexical.{take_up_to, value, is_empty, digit_of, octal_at, hexadecimal_at}
+use Rattle.lexmeaning.specs.Escapes.{octal_at, hexadecimal_at}
+use Rattle.lexmeaning.specs.Reading.{take_up_to, value, is_empty, digit_of}
 use Rattle.lexclass.proofs.Narrowing.{fits, too_large}
 
 abbrev Found : Type 0

@@ -5,7 +5,8 @@ use Rattle.std.proofs.lemmas.Bool.Decides.{nat_tests}
 use Rattle.std.specs.Prelude.{codes}
 use Rattle.std.specs.Result.{OkIff, result_ok}
 use Rattle.lexmeaning.specs.ByteSets.{is_digit}
-use Rattle.lexclass.specs.Lexical.{take_up_to, value, is_empty, begins, after_word, bounded, interval_at}
+use Rattle.lexmeaning.specs.Reading.{take_up_to, value, is_empty, begins}
+use Rattle.lexclass.specs.Lexical.{after_word, bounded, interval_at}
 use Rattle.lexclass.specs.Symbols.{Symbol, interval}
 use Rattle.lexclass.proofs.Narrowing.{fits, too_large}
 

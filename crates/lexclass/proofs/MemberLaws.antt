@@ -1,10 +1,9 @@
 -- Sets that have a byte.
 use Rattle.std.proofs.Common.{◌≡◌, ℕ, zero, suc, ◌<◌, ◌≤◌, ◌^◌, Bool, true, false, not, ◌&&◌, ◌||◌, ◌==◌, nat_le, nat_lt, if◌then◌else◌, List, Option, Some, None, ◌⊎◌, inl, inr, refl, ◌∙◌, subst, arith}
 use Rattle.std.proofs.lemmas.Bool.Decides.{nat_tests}
-use Rattle.lexmeaning.specs.ByteSets.{ByteSet, has, set_of, empty_set, single, range_set, union, complement, fold_case, other_case, named_set, is_alpha, is_digit, is_alnum, is_upper, is_lower, is_space, is_blank, is_cntrl, is_graph, is_print, is_punct, is_xdigit}
+use Rattle.lexmeaning.specs.ByteSets.{ByteSet, has, set_of, empty_set, single, range_set, union, complement, fold_case, other_case, named_set, is_alpha, is_digit, is_alnum, is_upper, is_lower, is_space, is_blank, is_cntrl, is_graph, is_print, is_punct, is_xdigit, HasByte}
 use Rattle.lexclass.specs.Lexical.{folded}
 use Rattle.lexclass.proofs.SetLaws.{has-set_of, set_of-lt, is_set_of}
-use Rattle.lexclass.specs.Members.{HasByte}
 
 some_is : {A : Type 0} (x y : A) → Some x ≡ Some y → x ≡ y
 some_is x y e = cc

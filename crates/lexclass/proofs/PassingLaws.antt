@@ -4,7 +4,8 @@ use Rattle.std.proofs.lemmas.Bool.{ne_eqb}
 use Rattle.std.specs.Prelude.{codes, option_map}
 use Rattle.std.specs.List.{ends_with}
 use Rattle.lexmeaning.specs.ByteSets.{is_alpha}
-use Rattle.lexclass.specs.Lexical.{◌>>=◌, take_up_to, take_run, is_empty, begins, after_word, escape_at, quoted_at, after_quotes, Element, named, span, unsupported, letters_at, named_at, enclosed_at, unsupported_at, class_byte_at, bracketed_at, is_range, range_at, element_at, elements_at, class_at}
+use Rattle.lexmeaning.specs.Reading.{◌>>=◌, take_up_to, take_run, is_empty, begins}
+use Rattle.lexclass.specs.Lexical.{after_word, escape_at, quoted_at, after_quotes, Element, named, span, unsupported, letters_at, named_at, enclosed_at, unsupported_at, class_byte_at, bracketed_at, is_range, range_at, element_at, elements_at, class_at}
 use Rattle.lexclass.specs.Passing.{rest_of_class}
 use Rattle.lexclass.proofs.QuoteLaws.{escape_shorter}
 

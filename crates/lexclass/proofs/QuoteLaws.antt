@@ -2,7 +2,9 @@
 use Rattle.std.proofs.Common.{◌≡◌, ℕ, zero, suc, ◌<◌, ◌≤◌, Bool, true, false, nat_lt, ◌==◌, if◌then◌else◌, List, [], ◌∷◌, length, Option, Some, None, unwrap_or, refl, sym, ap, ◌∙◌, subst, arith}
 use Rattle.std.proofs.lemmas.Bool.Decides.{nat_tests}
 use Rattle.lexmeaning.specs.ByteSets.{within, is_xdigit}
-use Rattle.lexclass.specs.Lexical.{take_up_to, value, is_empty, octal_at, hexadecimal_at, control, escape_at, quoted_at, after_quotes, ◌>>=◌}
+use Rattle.lexmeaning.specs.Escapes.{octal_at, hexadecimal_at, control}
+use Rattle.lexmeaning.specs.Reading.{take_up_to, value, is_empty, ◌>>=◌}
+use Rattle.lexclass.specs.Lexical.{escape_at, quoted_at, after_quotes}
 
 abbrev Found : Type 0
 Found = Option (ℕ × List ℕ)

@@ -1,6 +1,6 @@
 -- Runs of bytes at the front of a text.
 use Rattle.std.proofs.Common.{◌≡◌, ℕ, zero, suc, ◌<◌, ◌≤◌, Bool, true, false, List, [], ◌∷◌, length, get_or, take, drop, refl, ap, ◌∙◌, arith}
-use Rattle.lexclass.specs.Lexical.{take_up_to}
+use Rattle.lexmeaning.specs.Reading.{take_up_to}
 
 abbrev Cut : Type 0
 Cut = List ℕ × List ℕ

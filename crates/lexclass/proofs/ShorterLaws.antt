@@ -3,7 +3,8 @@ use Rattle.std.proofs.Common.{◌≡◌, ℕ, suc, ◌<◌, ◌≤◌, Bool, tru
 use Rattle.std.specs.List.{ends_with}
 use Rattle.std.specs.Prelude.{codes}
 use Rattle.lexmeaning.specs.ByteSets.{is_alpha}
-use Rattle.lexclass.specs.Lexical.{◌>>=◌, Element, span, named, unsupported, take_up_to, is_empty, begins, after_word, escape_at, letters_at, named_at, enclosed_at, unsupported_at, class_byte_at, bracketed_at, is_range, range_at, element_at}
+use Rattle.lexmeaning.specs.Reading.{◌>>=◌, take_up_to, is_empty, begins}
+use Rattle.lexclass.specs.Lexical.{Element, span, named, unsupported, after_word, escape_at, letters_at, named_at, enclosed_at, unsupported_at, class_byte_at, bracketed_at, is_range, range_at, element_at}
 use Rattle.lexclass.proofs.BracketLaws.{negated_then, equivalence_then, collating_then}
 use Rattle.lexclass.proofs.QuoteLaws.{escape_shorter, take_up_to_within}
 

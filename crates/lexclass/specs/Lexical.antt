@@ -1,39 +1,12 @@
 -- The symbols of a pattern, by their bytes. None means that the text begins with no symbol.
 -- (POSIX, lex, Regular Expressions in lex: quotes, escapes, bracket expressions, definitions; flex, Patterns.)
-use Rattle.std.specs.Prelude.{ℕ, zero, suc, ◌+◌, ◌*◌, ◌%◌, Bool, true, false, not, ◌&&◌, ◌||◌, ◌==◌, nat_le, nat_lt, nat_eq, if◌then◌else◌, List, [], ◌∷◌, map, fold, length, drop, Option, Some, None, option_and_then, unwrap_or, codes}
-use Rattle.std.specs.List.{starts_with, ends_with}
-use Rattle.lexmeaning.specs.ByteSets.{ByteSet, empty_set, single, range_set, union, complement, fold_case, named_set, within, is_alpha, is_alnum, is_digit, is_xdigit}
+use Rattle.std.specs.Prelude.{ℕ, zero, suc, Bool, true, false, not, ◌&&◌, ◌||◌, ◌==◌, nat_le, nat_lt, nat_eq, if◌then◌else◌, List, [], ◌∷◌, map, fold, length, drop, Option, Some, None, unwrap_or, codes}
+use Rattle.std.specs.List.{ends_with}
+use Rattle.lexmeaning.specs.ByteSets.{ByteSet, empty_set, single, range_set, union, complement, fold_case, named_set, is_alpha, is_digit}
+use Rattle.lexmeaning.specs.Reading.{◌>>=◌, Reader, is_empty, begins, take_run, starts_name, goes_on_name, value}
+use Rattle.lexmeaning.specs.Escapes.{control, is_octal, octal_at, hexadecimal_at, byte_with}
 use Rattle.lexmeaning.specs.Tree.{Tree, Empty, Set, Cat, trees}
 use Rattle.lexclass.specs.Symbols.{Symbol, item, name, opening, closing, bar, sign, interval, any_times, once_or_more, at_most_once, Lexer}
-
--- one step after another, where each may refuse
-infixl 10 ◌>>=◌
-abbrev pub ◌>>=◌ : {A B : Type 0} → Option A → (A → Option B) → Option B
-o >>= f = option_and_then f o
-
--- at most n bytes at the front that pass the test, and what follows them
-unfoldable pub take_up_to : ℕ → (ℕ → Bool) → List ℕ → List ℕ × List ℕ
-take_up_to zero test t = ([], t)
-take_up_to (suc n) test [] = ([], [])
-take_up_to (suc n) test (c ∷ t) =
-    if test c then (let (cs, rest) = take_up_to n test t in (c ∷ cs, rest)) else ([], c ∷ t)
-
--- all the bytes at the front that pass the test, and what follows them
-abbrev pub take_run : (ℕ → Bool) → List ℕ → List ℕ × List ℕ
-take_run test t = take_up_to (length t) test t
-
-abbrev pub digit_of : ℕ → ℕ
-digit_of c = if is_digit c then c % 16 else c % 16 + 9
-
--- the number that the digits write
-abbrev pub value : ℕ → List ℕ → ℕ
-value radix digits = fold (λ n d. n * radix + digit_of d) 0 digits
-
-abbrev pub is_empty : List ℕ → Bool
-is_empty t = length t == 0
-
-abbrev pub begins : List ℕ → List ℕ → Bool
-begins word t = starts_with nat_eq t word
 
 -- what follows the word, where the text begins with it
 unfoldable pub after_word : List ℕ → List ℕ → Option (List ℕ)
@@ -45,47 +18,37 @@ folded fold s = if fold then fold_case s else s
 
 -- Escapes.
 
--- `\a \b \f \n \r \t \v` are C's; another byte is itself
-unfoldable pub control : ℕ → ℕ
-control c =
-    if c == 97 then 7 else if c == 98 then 8 else if c == 102 then 12 else if c == 110 then 10
-    else if c == 114 then 13 else if c == 116 then 9 else if c == 118 then 11 else c
-
--- one to three octal digits, as many as stand there, which write a byte
-unfoldable pub octal_at : List ℕ → Option (ℕ × List ℕ)
-octal_at t =
-    let (digits, rest) = take_up_to 3 (within 48 55) t in
-    if nat_lt (value 8 digits) 256 then Some (value 8 digits, rest) else None
-
--- one or two hexadecimal digits, as many as stand there
-unfoldable pub hexadecimal_at : List ℕ → Option (ℕ × List ℕ)
-hexadecimal_at t =
-    let (digits, rest) = take_up_to 2 is_xdigit t in
-    if is_empty digits then None else Some (value 16 digits, rest)
-
 -- After a backslash: the byte, and what follows it. A newline cannot be escaped, and `x` without a digit is itself.
-unfoldable pub escape_at : List ℕ → Option (ℕ × List ℕ)
+unfoldable pub escape_at : Reader ℕ
 escape_at [] = None
 escape_at (c ∷ t) =
     if c == 10 then None
-    else if within 48 55 c then octal_at (c ∷ t)
+    else if is_octal c then octal_at (c ∷ t)
     else if c == 120 then Some (unwrap_or (hexadecimal_at t) (c, t))
     else Some (control c, t)
 
 -- Texts in quotes.
 
+-- a byte between quotes: an escape, or itself
+abbrev pub quoted_byte_at : Reader ℕ
+quoted_byte_at [] = None
+quoted_byte_at (c ∷ t) = if c == 92 then escape_at t else Some (c, t)
+
 -- After the opening quote: the bytes, and what follows the closing one. The number bounds how many there are.
-unfoldable pub quoted_at : ℕ → List ℕ → Option (List ℕ × List ℕ)
+unfoldable pub quoted_at : ℕ → Reader (List ℕ)
 quoted_at zero t = None
 quoted_at (suc n) [] = None
 quoted_at (suc n) (c ∷ t) =
     if c == 34 then Some ([], t)
     else if c == 10 then None
-    else (if c == 92 then escape_at t else Some (c, t)) >>= λ (b, rest). quoted_at n rest >>= λ (bs, after). Some (b ∷ bs, after)
+    else quoted_byte_at (c ∷ t) >>= λ (b, rest). quoted_at n rest >>= λ (bs, after). Some (b ∷ bs, after)
+
+abbrev pub quoted_bytes : Reader (List ℕ)
+quoted_bytes t = quoted_at (suc (length t)) t
 
 -- what follows a text in quotes, after its first quote
 unfoldable pub after_quotes : List ℕ → Option (List ℕ)
-after_quotes t = quoted_at (suc (length t)) t >>= λ (bs, rest). Some rest
+after_quotes t = quoted_bytes t >>= λ (bs, rest). Some rest
 
 unfoldable pub quoted_tree : Bool → List ℕ → Tree
 quoted_tree fold [] = Empty
@@ -104,19 +67,23 @@ pub data Element : Type 0 where
   unsupported : Element
 
 -- at least one letter, and `:]`: the letters, and what follows
-unfoldable pub letters_at : List ℕ → Option (List ℕ × List ℕ)
+unfoldable pub letters_at : Reader (List ℕ)
 letters_at t =
     let (letters, rest) = take_run is_alpha t in
     if is_empty letters then None else after_word (codes ":]") rest >>= λ after. Some (letters, after)
 
 -- `[:`, letters and `:]`
-unfoldable pub named_at : List ℕ → Option (List ℕ × List ℕ)
+unfoldable pub named_at : Reader (List ℕ)
 named_at t = after_word (codes "[:") t >>= letters_at
+
+-- no `]`, and no newline
+abbrev pub inside : ℕ → Bool
+inside b = not (b == 93 || b == 10)
 
 -- at least one byte that is no `]` and no newline, then the sign c and `]`: what follows
 unfoldable pub enclosed_at : ℕ → List ℕ → Option (List ℕ)
 enclosed_at c t =
-    let (bytes, rest) = take_run (λ b. not (b == 93 || b == 10)) t in
+    let (bytes, rest) = take_run inside t in
     if nat_lt 1 (length bytes) && ends_with nat_eq bytes (c ∷ []) then after_word (codes "]") rest else None
 
 -- what follows `[:^`, letters and `:]`; or `[=`, at least one byte and `=]`; or the same with dots
@@ -130,12 +97,11 @@ unsupported_at t = elim (after_word (codes "[:^") t) [
 ]
 
 -- an escape, or any byte but a newline
-unfoldable pub class_byte_at : List ℕ → Option (ℕ × List ℕ)
-class_byte_at [] = None
-class_byte_at (c ∷ t) = if c == 10 then None else if c == 92 then escape_at t else Some (c, t)
+unfoldable pub class_byte_at : Reader ℕ
+class_byte_at t = byte_with escape_at t
 
 -- what follows an element between brackets that stands at the front of the text, and the element
-unfoldable pub bracketed_at : List ℕ → Option (Element × List ℕ)
+unfoldable pub bracketed_at : Reader Element
 bracketed_at t = elim (named_at t) [
   | Some found ↦ Some (named found.0, found.1)
   | None ↦ elim (unsupported_at t) [
@@ -150,20 +116,20 @@ is_range (c ∷ d ∷ t) = c == 45 && not (d == 93)
 is_range _ = false
 
 -- after the first end of a range and its `-`: the element, and what follows it
-unfoldable pub range_at : ℕ → List ℕ → Option (Element × List ℕ)
+unfoldable pub range_at : ℕ → Reader Element
 range_at lo t = elim (bracketed_at t) [
   | Some found ↦ Some (unsupported, found.1)
   | None ↦ class_byte_at t >>= λ (hi, rest). Some (span lo hi, rest)
 ]
 
-unfoldable pub element_at : List ℕ → Option (Element × List ℕ)
+unfoldable pub element_at : Reader Element
 element_at t = elim (bracketed_at t) [
   | Some found ↦ Some found
   | None ↦ class_byte_at t >>= λ (lo, rest). if is_range rest then range_at lo (drop 1 rest) else Some (span lo lo, rest)
 ]
 
 -- The elements up to the closing bracket, and what follows it. A `]` that comes first is an element. The number bounds them.
-unfoldable pub elements_at : ℕ → Bool → List ℕ → Option (List Element × List ℕ)
+unfoldable pub elements_at : ℕ → Bool → Reader (List Element)
 elements_at zero first t = None
 elements_at (suc n) first t =
     if begins (codes "]") t && not first then Some ([], drop 1 t)
@@ -195,11 +161,11 @@ class_set fold negated es = union_set es >>= λ s.
 -- Intervals and names, after `{`.
 
 -- from m to n times, n from 1 to 255
-unfoldable pub bounded : ℕ → ℕ → List ℕ → Option (Symbol × List ℕ)
+unfoldable pub bounded : ℕ → ℕ → Reader Symbol
 bounded m n rest = if nat_le m n && nat_le 1 n && nat_le n 255 then Some (interval m (Some n), rest) else None
 
 -- at a digit: `m}`, `m,}` or `m,n}`
-unfoldable pub interval_at : List ℕ → Option (Symbol × List ℕ)
+unfoldable pub interval_at : Reader Symbol
 interval_at t =
     let (least, rest) = take_run is_digit t in
     let m = value 10 least in
@@ -211,16 +177,16 @@ interval_at t =
     else None
 
 -- at a letter or `_`: letters, digits, `_` and `-`, and `}`
-unfoldable pub name_at : List ℕ → Option (Symbol × List ℕ)
+unfoldable pub name_at : Reader Symbol
 name_at t =
-    let (letters, rest) = take_run (λ c. is_alnum c || c == 95 || c == 45) t in
+    let (letters, rest) = take_run goes_on_name t in
     after_word (codes "}") rest >>= λ after. Some (name letters, after)
 
-unfoldable pub braces_at : List ℕ → Option (Symbol × List ℕ)
+unfoldable pub braces_at : Reader Symbol
 braces_at [] = None
 braces_at (c ∷ t) =
     if is_digit c then interval_at (c ∷ t)
-    else if is_alpha c || c == 95 then name_at (c ∷ t)
+    else if starts_name c then name_at (c ∷ t)
     else None
 
 -- Symbols.
@@ -230,6 +196,16 @@ unfoldable pub is_ordinary : ℕ → Bool
 is_ordinary c =
     not (c == 92 || c == 34 || c == 91 || c == 46 || c == 42 || c == 43 || c == 63 || c == 123
     || c == 40 || c == 41 || c == 124 || c == 47 || c == 32 || c == 9 || c == 10)
+
+-- after an opening quote, an opening bracket and a backslash: the item, and what follows it
+abbrev pub quoted_front : Bool → Lexer
+quoted_front fold t = quoted_bytes t >>= λ (bs, rest). Some (item (quoted_tree fold bs), rest)
+
+abbrev pub class_front : Bool → Lexer
+class_front fold t = class_at t >>= λ (negated, es, rest). class_set fold negated es >>= λ s. Some (item (Set s), rest)
+
+abbrev pub escape_front : Bool → Lexer
+escape_front fold t = escape_at t >>= λ (b, rest). Some (item (Set (folded fold (single b))), rest)
 
 -- the symbol at the front of the text, and what follows it
 unfoldable pub symbol_at : Bool → Lexer
@@ -242,9 +218,9 @@ symbol_at fold (c ∷ t) =
     else if c == 43 then Some (sign once_or_more, t)
     else if c == 63 then Some (sign at_most_once, t)
     else if c == 46 then Some (item (Set (complement (single 10))), t)
-    else if c == 34 then (quoted_at (suc (length t)) t >>= λ (bs, rest). Some (item (quoted_tree fold bs), rest))
-    else if c == 91 then (class_at t >>= λ (negated, es, rest). class_set fold negated es >>= λ s. Some (item (Set s), rest))
-    else if c == 92 then (escape_at t >>= λ (b, rest). Some (item (Set (folded fold (single b))), rest))
+    else if c == 34 then quoted_front fold t
+    else if c == 91 then class_front fold t
+    else if c == 92 then escape_front fold t
     else if c == 123 then braces_at t
     else if is_ordinary c then Some (item (Set (folded fold (single c))), t)
     else None

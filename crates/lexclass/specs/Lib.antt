@@ -6,4 +6,3 @@ pub mod Lexical
 pub mod Passing
 pub mod Stops
 pub mod Symbols
-pub mod Members

@@ -1,10 +1,8 @@
 -- Where the next closing bracket or newline stands.
-use Rattle.std.specs.Prelude.{ℕ, Bool, not, ◌||◌, ◌==◌, List, length}
-use Rattle.lexclass.specs.Lexical.{take_up_to}
-
-abbrev pub inside : ℕ → Bool
-inside b = not (b == 93 || b == 10)
+use Rattle.std.specs.Prelude.{ℕ, List}
+use Rattle.lexmeaning.specs.Reading.{after_run}
+use Rattle.lexclass.specs.Lexical.{inside}
 
 -- the text from its first closing bracket or newline on, or its end
 abbrev pub stop_of : List ℕ → List ℕ
-stop_of t = (take_up_to (length t) inside t).1
+stop_of t = after_run inside t

@@ -1,5 +1,7 @@
 -- The symbols of a pattern. (POSIX, lex, Regular Expressions in lex; intervals as in flex, Patterns.)
-use Rattle.std.specs.Prelude.{◌≡◌, ℕ, List, [], ◌∷◌, Option, Some, None}
+use Rattle.std.specs.Prelude.{◌≡◌, ℕ, List, [], Option, Some, None}
+use Rattle.lexmeaning.specs.Reading.{Reader}
+use Rattle.lexmeaning.specs.Reading as reading
 use Rattle.lexmeaning.specs.Tree.{Tree, Star, Repeat}
 
 -- `*`, `+` or `?`
@@ -27,9 +29,8 @@ signed at_most_once t = Repeat t 0 (Some 1)
 
 -- where a text begins with a symbol: the symbol, and what follows it
 abbrev pub Lexer : Type 0
-Lexer = List ℕ → Option (Symbol × List ℕ)
+Lexer = Reader Symbol
 
 -- the text is these symbols, one after another
 abbrev pub IsCut : Lexer → List ℕ → List Symbol → Type 0
-IsCut symbol_at text [] = text ≡ []
-IsCut symbol_at text (s ∷ ss) = (rest : List ℕ) × (symbol_at text ≡ Some (s, rest)) × IsCut symbol_at rest ss
+IsCut symbol_at text ss = reading.IsCut symbol_at (λ t. t ≡ []) text ss

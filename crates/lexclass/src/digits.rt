@@ -1,6 +1,6 @@
 //! Numbers in digits.
 ghost use Rattle.std.specs.Prelude.{◌≡◌, ◌≤◌, min};
-ghost use Rattle.lexclass.specs.Lexical.{digit_of, value};
+ghost use Rattle.lexmeaning.specs.Reading.{digit_of, value};
 
 /// A number above this is as good as this.
 const CAP: u32 = 65536;

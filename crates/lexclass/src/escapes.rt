@@ -1,6 +1,7 @@
 //! Escapes. (POSIX, lex, Regular Expressions in lex; flex, Patterns.)
 ghost use Rattle.std.specs.Prelude.{◌≡◌, ℕ, List, Option, option_map};
-ghost use Rattle.lexclass.specs.Lexical.{control, escape_at, hexadecimal_at, octal_at};
+ghost use Rattle.lexmeaning.specs.Escapes.{control, hexadecimal_at, octal_at};
+ghost use Rattle.lexclass.specs.Lexical.{escape_at};
 
 use crate::classes::Class;
 use crate::digits::capped_value;
@@ -40,7 +41,7 @@ fn hexadecimal_at(text: &[u8]) -> Option<(u8, &[u8])>
 }
 
 /// The byte that a backslash and this one stand for: C's, or itself.
-#[tactic(auto, unfolding(crate::specs::Lexical::control))]
+#[tactic(auto, unfolding(lexmeaning::specs::Escapes::control))]
 fn control(byte: u8) -> u8
     ensures { result ≡ control byte }
 {

@@ -1,9 +1,8 @@
 //! The set of a class. (POSIX, Base Definitions, RE Bracket Expression.)
 ghost use Rattle.std.specs.Prelude.{◌≡◌, ◌≤◌, ℕ, Bool, List, Option, Some, None, true, suc, length, drop, MatchResult, IfOk};
-ghost use Rattle.lexmeaning.specs.ByteSets.{ByteSet, complement, range_set};
+ghost use Rattle.lexmeaning.specs.ByteSets.{ByteSet, complement, range_set, HasByte};
 ghost use Rattle.lexclass.specs.ClassSets.{class_set_at, member_at, members_at};
 ghost use Rattle.lexclass.specs.Lexical.{folded};
-ghost use Rattle.lexclass.specs.Members.{HasByte};
 ghost use Rattle.lexclass.specs.Stops.{stop_of};
 
 use crate::brackets::{find_stop, next_stop};

@@ -1,6 +1,7 @@
 //! Classes, passed over. (POSIX, lex, Regular Expressions in lex; flex, Patterns.)
 ghost use Rattle.std.specs.Prelude.{◌≡◌, ◌<◌, ◌≤◌, length, drop, codes, if◌then◌else◌, Some, None, IfOk, MatchResult};
-ghost use Rattle.lexclass.specs.Lexical.{begins, class_at};
+ghost use Rattle.lexmeaning.specs.Reading.{begins};
+ghost use Rattle.lexclass.specs.Lexical.{class_at};
 ghost use Rattle.lexclass.specs.Passing.{rest_of_class};
 
 use crate::brackets::{find_stop, next_stop};

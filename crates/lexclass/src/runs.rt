@@ -1,6 +1,7 @@
 //! Runs of bytes at the front of a text.
 ghost use Rattle.std.specs.Prelude.{◌≡◌, ℕ, ◌<◌, Bool, List, drop, option_map};
-ghost use Rattle.lexclass.specs.Lexical.{after_word, take_up_to};
+ghost use Rattle.lexmeaning.specs.Reading.{take_up_to};
+ghost use Rattle.lexclass.specs.Lexical.{after_word};
 
 /// The bytes at the front that pass the test, at most so many, and what follows them.
 pub fn take_up_to<F: Fn(u8) -> bool>(limit: usize, test: F, text: &[u8]) -> (&[u8], &[u8])

@@ -16,6 +16,10 @@ has set byte = bit_at set byte == 1
 abbrev pub IsIn : ByteSet → ℕ → Type 0
 IsIn set byte = (byte < 256) × (has set byte ≡ true)
 
+-- some byte is in the set
+abbrev pub HasByte : ByteSet → Type 0
+HasByte set = (byte : ℕ) × IsIn set byte
+
 abbrev pub bit_of : Bool → ℕ
 bit_of true = 1
 bit_of false = 0
@@ -36,8 +40,11 @@ unfoldable pub single : ℕ → ByteSet
 single byte = set_of (λ b. b == byte)
 
 -- from lo to hi, both in it
+abbrev pub within : ℕ → ℕ → ℕ → Bool
+within lo hi b = nat_le lo b && nat_le b hi
+
 unfoldable pub range_set : ℕ → ℕ → ByteSet
-range_set lo hi = set_of (λ b. nat_le lo b && nat_le b hi)
+range_set lo hi = set_of (within lo hi)
 
 unfoldable pub union : ByteSet → ByteSet → ByteSet
 union s t = set_of (λ b. has s b || has t b)
@@ -48,8 +55,8 @@ complement s = set_of (λ b. not (has s b))
 -- the letter in the other case, and any other byte itself
 unfoldable pub other_case : ℕ → ℕ
 other_case b =
-    if nat_le 65 b && nat_le b 90 then b + 32
-    else if nat_le 97 b && nat_le b 122 then b - 32
+    if within 65 90 b then b + 32
+    else if within 97 122 b then b - 32
     else b
 
 -- closed under changing the case of ASCII letters (flex, Scanner Options: case-insensitive)
@@ -57,9 +64,6 @@ unfoldable pub fold_case : ByteSet → ByteSet
 fold_case s = set_of (λ b. has s b || has s (other_case b))
 
 -- The character classes of the POSIX locale. (POSIX, Base Definitions, LC_CTYPE.)
-
-abbrev pub within : ℕ → ℕ → ℕ → Bool
-within lo hi b = nat_le lo b && nat_le b hi
 
 unfoldable pub is_upper : ℕ → Bool
 is_upper b = within 65 90 b

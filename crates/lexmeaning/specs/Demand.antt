@@ -1,7 +1,7 @@
 -- How much of the input the matches ask for, when a scanner sees one byte at a time. (This project's; POSIX, lex, says only
 -- which match is taken.)
-use Rattle.std.specs.Prelude.{◌≡◌, ℕ, zero, suc, ◌+◌, ◌-◌, ◌≤◌, ◌<◌, Bool, true, false, List, ◌++◌, length, take, drop, max, ◌⊎◌, ◌↔◌, Option, Some, None}
-use Rattle.lexmeaning.specs.Text.{IsText, at_line_start}
+use Rattle.std.specs.Prelude.{◌≡◌, ℕ, zero, suc, ◌+◌, ◌-◌, ◌≤◌, ◌<◌, Bool, true, false, List, length, take, drop, max, ◌⊎◌, ◌↔◌, Option, Some, None}
+use Rattle.lexmeaning.specs.Text.{IsText, BeginsWith, at_line_start}
 use Rattle.lexmeaning.specs.Rules.{Rules}
 use Rattle.lexmeaning.specs.Acting.{Ending}
 use Rattle.lexmeaning.specs.Run.{Place, State, Turns}
@@ -42,7 +42,7 @@ EndAsked R x (suc n) = EndAsked R x n ⊎ ((s : State) × Turns R x n s × (s.en
 -- end, and else begins with them.
 abbrev pub GoesOnFrom : (given : List ℕ) → (at_end : Bool) → List ℕ → Type 0
 GoesOnFrom given true x = x ≡ given
-GoesOnFrom given false x = (rest : List ℕ) × (x ≡ given ++ rest)
+GoesOnFrom given false x = BeginsWith x given
 
 abbrev pub Consistent : (given : List ℕ) → (at_end : Bool) → List ℕ → Type 0
 Consistent given at_end x = IsText x × GoesOnFrom given at_end x

@@ -1,7 +1,7 @@
 -- Which trees are sound, how many nodes they have, and how long their words are.
 -- (This project's; the words are POSIX's, lex, Regular Expressions in lex.)
 use Rattle.std.specs.Prelude.{◌≡◌, ℕ, ◌+◌, ◌≤◌, ◌<◌, List, length, Option, Some, None, IfSome, ⊤}
-use Rattle.lexmeaning.specs.ByteSets.{IsIn}
+use Rattle.lexmeaning.specs.ByteSets.{HasByte}
 use Rattle.lexmeaning.specs.Tree.{Tree, Trees, Empty, Set, Cat, Alt, Star, Repeat, no_trees, tree}
 
 abbrev pub HasPart : Trees → Type 0
@@ -13,7 +13,7 @@ HasPart (tree t ts) = ⊤
 abbrev mutual
   pub IsSoundTree : Tree → Type 0
   IsSoundTree Empty = ⊤
-  IsSoundTree (Set s) = (b : ℕ) × IsIn s b
+  IsSoundTree (Set s) = HasByte s
   IsSoundTree (Cat ts) = AreSoundTrees ts × HasPart ts
   IsSoundTree (Alt ts) = AreSoundTrees ts × HasPart ts
   IsSoundTree (Star t) = IsSoundTree t

@@ -3,8 +3,8 @@ use Rattle.std.proofs.Common.{◌≡◌, ℕ, zero, suc, ◌<◌, ◌≤◌, Boo
 use Rattle.std.specs.Prelude.{codes}
 use Rattle.lexmeaning.specs.ByteSets.{single, complement, is_alpha, is_alnum, is_digit}
 use Rattle.lexmeaning.specs.Tree.{Set}
-use Rattle.lexclass.specs.Lexical.{◌>>=◌, Element, after_quotes, after_word, begins, bounded, braces_at, class_at, class_set, elements_at, element_at, escape_at, folded, interval_at, is_empty, is_ordinary, name_at, symbol_at, take_up_to, value}
-use Rattle.lexre.specs.Quotes.{class_front, escape_front, quoted_bytes, quoted_front}
+use Rattle.lexmeaning.specs.Reading.{◌>>=◌, begins, is_empty, take_up_to, value}
+use Rattle.lexclass.specs.Lexical.{Element, after_quotes, after_word, bounded, braces_at, class_at, class_set, elements_at, element_at, escape_at, folded, interval_at, is_ordinary, name_at, symbol_at, class_front, escape_front, quoted_bytes, quoted_front}
 use Rattle.lexclass.specs.Symbols.{Symbol, item, name, opening, closing, bar, sign, interval, any_times, once_or_more, at_most_once}
 use Rattle.lexclass.proofs.PassingLaws.{quotes_shorter}
 use Rattle.lexclass.proofs.QuoteLaws.{take_up_to_within, escape_shorter}

@@ -9,5 +9,4 @@ pub mod OneTree
 pub mod QuotedLaws
 pub mod ReaderLaws
 pub mod ReadingLaws
-pub mod Rows
 pub mod SoundLaws

@@ -3,8 +3,8 @@ use Rattle.std.proofs.Common.{◌≡◌, ℕ, suc, ◌<◌, ◌≤◌, ◌==◌,
 use Rattle.lexmeaning.specs.ByteSets.{single}
 use Rattle.lexmeaning.specs.Shapes.{nodes, nodes_of}
 use Rattle.lexmeaning.specs.Tree.{Tree, Set, Cat, trees}
-use Rattle.lexclass.specs.Lexical.{◌>>=◌, escape_at, folded, quoted_at, quoted_tree}
-use Rattle.lexre.specs.Quotes.{quoted_byte_at, quoted_bytes}
+use Rattle.lexmeaning.specs.Reading.{◌>>=◌}
+use Rattle.lexclass.specs.Lexical.{escape_at, folded, quoted_at, quoted_tree, quoted_byte_at, quoted_bytes}
 use Rattle.lexclass.proofs.QuoteLaws.{differs, enough, escape_shorter}
 
 abbrev Found : Type 0

@@ -1,8 +1,9 @@
 -- How many nodes the tree of a pattern will have at least, by what was read of it.
-use Rattle.std.specs.Prelude.{ℕ, ◌+◌, ◌^◌, min, List, [], ◌∷◌, Option, Some, None}
+use Rattle.std.specs.Prelude.{ℕ, ◌+◌, List, [], ◌∷◌, Option, Some, None}
 use Rattle.lexmeaning.specs.Shapes.{nodes, nodes_of}
 use Rattle.lexmeaning.specs.Tree.{Tree, trees}
 use Rattle.lexclass.specs.Symbols.{Symbol, item, name, opening, closing, bar, sign, interval}
+use Rattle.lexre.specs.Lengths.{capped}
 use Rattle.lexre.specs.Running.{Frame, frame, State, state}
 
 abbrev pub last_nodes : Option Tree → ℕ
@@ -38,7 +39,7 @@ extra (frame (t ∷ u ∷ ts) parts None k) = 0
 
 -- a count of nodes, up to a number that is above each limit
 abbrev pub capped_nodes : Tree → ℕ
-capped_nodes t = min (2 ^ 32) (nodes t)
+capped_nodes t = capped (nodes t)
 
 -- how many nodes an item brings
 abbrev pub item_adds : Tree → State → ℕ

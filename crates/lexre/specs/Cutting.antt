@@ -1,6 +1,7 @@
 -- Where the pattern of a rule ends, and what stands at its end. (POSIX, lex, Rules in lex; flex, Patterns: `r/s`, `r$`.)
-use Rattle.std.specs.Prelude.{◌≡◌, ℕ, zero, suc, ◌+◌, ◌-◌, Bool, true, false, ◌||◌, ◌==◌, if◌then◌else◌, List, [], ◌∷◌, length, Option, Some, None}
-use Rattle.lexclass.specs.Lexical.{◌>>=◌, escape_at, after_quotes, class_at}
+use Rattle.std.specs.Prelude.{◌≡◌, ℕ, zero, suc, ◌+◌, ◌-◌, Bool, true, false, ◌==◌, if◌then◌else◌, List, [], ◌∷◌, length, Option, Some, None}
+use Rattle.lexmeaning.specs.Reading.{◌>>=◌, Reader, is_white}
+use Rattle.lexclass.specs.Lexical.{escape_at, after_quotes, class_at}
 
 -- what the text of a pattern is made of, as far as cutting it goes
 pub data Piece : Type 0 where
@@ -11,14 +12,10 @@ pub data Piece : Type 0 where
   -- any other byte, an escape, a text in quotes, or a class
   other : Piece
 
--- a space, a tab or a newline
-abbrev pub is_blank_or_newline : ℕ → Bool
-is_blank_or_newline c = c == 32 || c == 9 || c == 10
-
-unfoldable pub piece_at : List ℕ → Option (Piece × List ℕ)
+unfoldable pub piece_at : Reader Piece
 piece_at [] = None
 piece_at (c ∷ t) =
-    if is_blank_or_newline c then None
+    if is_white c then None
     else if c == 40 then Some (opens, t)
     else if c == 41 then Some (closes, t)
     else if c == 47 then Some (slash, t)
@@ -31,7 +28,7 @@ piece_at (c ∷ t) =
 -- the text ends there, or goes on with a blank or a newline
 abbrev pub IsEnd : List ℕ → Type 0
 IsEnd [] = Unit {0}
-IsEnd (c ∷ t) = is_blank_or_newline c ≡ true
+IsEnd (c ∷ t) = is_white c ≡ true
 
 -- The text, which stands at the place `at`, begins with these pieces, each with its place, up to the end of the pattern.
 abbrev pub IsPieces : ℕ → List ℕ → List (Piece × ℕ) → ℕ → Type 0

@@ -66,7 +66,7 @@ abbrev mutual
   greatest_of_some no_trees = Some 0
   greatest_of_some (tree t ts) = larger (greatest t) (greatest_of_some ts)
 
--- a length above 2 ^ 32 counts as 2 ^ 32
+-- a number above 2 ^ 32 counts as 2 ^ 32
 abbrev pub capped : ℕ → ℕ
 capped n = min (2 ^ 32) n
 

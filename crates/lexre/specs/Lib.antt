@@ -5,7 +5,6 @@ pub mod Grammar
 pub mod Lengths
 pub mod Outcome
 pub mod Progress
-pub mod Quotes
 pub mod Reading
 pub mod Readings
 pub mod Running

@@ -1,8 +1,7 @@
 -- What the reader of patterns reads, by how many parentheses and names may be open.
-use Rattle.std.specs.Prelude.{ℕ, zero, suc, ◌≤◌, Bool, false, ◌||◌, ◌&&◌, ◌==◌, nat_eq, List, [], ◌∷◌, Vec}
+use Rattle.std.specs.Prelude.{ℕ, zero, suc, ◌≤◌, Bool, false, ◌||◌, ◌&&◌, ◌==◌, List, [], ◌∷◌, Vec}
 use Rattle.std.specs.FinMap.{get}
-use lib.Pointwise.{pointwise}
-use Rattle.lexmeaning.specs.ByteSets.{is_digit}
+use Rattle.lexmeaning.specs.ByteSets.{is_digit, is_word}
 use Rattle.lexmeaning.specs.Tree.{Tree}
 use Rattle.lexmeaning.specs.Shapes.{nodes}
 use Rattle.lexre.specs.Definitions.{Definitions}
@@ -36,4 +35,4 @@ begins_interval _ = false
 -- the name is one of these
 abbrev pub is_among : {Y : Type 0} → List ℕ → List (Vec ℕ Y) → Bool
 is_among name [] = false
-is_among name (v ∷ vs) = pointwise nat_eq v.items name || is_among name vs
+is_among name (v ∷ vs) = is_word v.items name || is_among name vs

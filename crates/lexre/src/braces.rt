@@ -1,9 +1,10 @@
 //! What stands between braces. (POSIX, lex, Definitions in lex; flex, Patterns.)
-ghost use Rattle.std.specs.Prelude.{◌≡◌, ◌||◌, ◌==◌, List, ℕ, Option, Some, None, MatchResult, IfOk, IfSome, ◌≤◌, length, option_map};
-ghost use Rattle.lexmeaning.specs.ByteSets.{is_alnum, is_digit};
+ghost use Rattle.std.specs.Prelude.{◌≡◌, List, ℕ, Option, Some, None, MatchResult, IfOk, IfSome, ◌≤◌, length, option_map};
+ghost use Rattle.lexmeaning.specs.ByteSets.{is_digit};
 ghost use Rattle.lexre.specs.Soundness.{IsSoundSymbol};
 ghost use Rattle.lexre.specs.SymbolViews.{Front, symbol_of};
-ghost use Rattle.lexclass.specs.Lexical.{bounded, braces_at, interval_at, name_at, take_up_to};
+ghost use Rattle.lexmeaning.specs.Reading.{goes_on_name, take_up_to};
+ghost use Rattle.lexclass.specs.Lexical.{bounded, braces_at, interval_at, name_at};
 ghost use Rattle.lexclass.specs.Symbols.{interval, name};
 
 use crate::symbols::Symbol;
@@ -20,7 +21,7 @@ pub(crate) fn name_at(text: &[u8]) -> Option<(&[u8], &[u8])>
 
 #[tactic(auto, unfolding(lexmeaning::specs::ByteSets::is_alnum))]
 fn is_in_name(byte: u8) -> bool
-    ensures { result ≡ (is_alnum byte || byte == 95 || byte == 45) }
+    ensures { result ≡ goes_on_name byte }
 {
     Class::Alnum.contains(byte) || matches!(byte, b'_' | b'-')
 }

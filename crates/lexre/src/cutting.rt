@@ -137,7 +137,7 @@ impl Progress {
 }
 
 /// The piece at the front of the text, which stands at this place, and what follows it. None at the end of the pattern.
-#[tactic(auto, unfolding(crate::specs::Cutting::piece_at))]
+#[tactic(auto, unfolding(crate::specs::Cutting::piece_at, lexmeaning::specs::ByteSets::is_blank))]
 fn piece_at(text: &[u8], at: usize) -> Result<Option<(Kind, &[u8])>, PatternError>
     requires { at + length text.now < 2 ^ 64 }
     ensures found { IfOk result (λ found. MatchOption found

@@ -1,8 +1,7 @@
 //! The symbol at the front of a text. (POSIX, lex, Regular Expressions in lex; flex, Patterns.)
 ghost use Rattle.std.specs.Prelude.{◌≡◌, ℕ, List, Option, Some, None, MatchResult, IfOk, drop};
-ghost use Rattle.lexclass.specs.Lexical.{symbol_at};
+ghost use Rattle.lexclass.specs.Lexical.{symbol_at, class_front, escape_front, quoted_front};
 ghost use Rattle.lexre.specs.Outcome.{IsRefused, UnlessMemory};
-ghost use Rattle.lexre.specs.Quotes.{class_front, escape_front, quoted_front};
 ghost use Rattle.lexre.specs.Soundness.{IsSoundSymbol};
 ghost use Rattle.lexre.specs.SymbolViews.{Front, symbol_of};
 

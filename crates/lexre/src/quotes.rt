@@ -3,9 +3,8 @@ ghost use Rattle.std.specs.Prelude.{◌≡◌, ◌<◌, ℕ, List, Option, Some,
 ghost use Rattle.lexmeaning.specs.ByteSets.{single};
 ghost use Rattle.lexmeaning.specs.Shapes.{IsSoundTree, nodes};
 ghost use Rattle.lexmeaning.specs.Tree.{Set};
-ghost use Rattle.lexclass.specs.Lexical.{after_quotes, folded, quoted_tree};
+ghost use Rattle.lexclass.specs.Lexical.{after_quotes, folded, quoted_tree, quoted_byte_at, quoted_bytes};
 ghost use Rattle.lexre.specs.Outcome.{UnlessMemory};
-ghost use Rattle.lexre.specs.Quotes.{quoted_byte_at, quoted_bytes};
 ghost use Rattle.lexre.specs.Views.{tree_of};
 
 use crate::pattern::Pattern;

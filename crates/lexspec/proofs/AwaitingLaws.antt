@@ -3,7 +3,7 @@ use Rattle.std.proofs.Common.{◌≡◌, ℕ, ◌+◌, ◌≤◌, ◌<◌, Bool,
 use Rattle.std.specs.Prelude.{codes}
 use Rattle.std.proofs.lemmas.List.{length-map}
 use Rattle.lexmeaning.specs.Spec as S
-use Rattle.lexspec.specs.Lines.{begins}
+use Rattle.lexmeaning.specs.Reading.{take_up_to, begins}
 use Rattle.lexspec.specs.Items.{Trailing, Subject, at_end, matching, Action, bar, spelled, Item, skipped, skipped_line, skipped_block, rule, IsSubject, IsItem, AreItems, starts_rule, action_of}
 use Rattle.lexspec.specs.RuleItems.{EndRule, AreRules}
 use Rattle.lexspec.specs.RuleReads.{acting, first_statements}
@@ -34,6 +34,7 @@ module _ (d : Declarations) where
   -- a text that begins with another rule spells one rule at least
   some_later : (n : ℕ) (t : List ℕ) (later : List S.Rule) (E : List EndRule) (items : List (ℕ × Item)) → starts_rule t ≡ true → begins_end t ≡ false → AreItems n t items
       → AreRules (names_in d) d.fold d.defs items later E → 1 ≤ length later
+  unfolding take_up_to
   some_later n t later E [] starts off (inl e) are = no_true (sym (ap starts_rule e) ∙ starts)
   some_later n t later E [] starts off (inr e) are = let p = two_percents t e in no_true (sym (rule_tests (37 ∷ 37 ∷ p.0) (subst (λ z. starts_rule z ≡ true) p.1 starts)).2)
   some_later n t later E ((m, skipped) ∷ is) starts off (rest, line, item, more) are = both_ways (AllBlank t) (tests_of t skipped rest item) (rule_tests t starts).0

@@ -7,8 +7,8 @@ use Rattle.lexmeaning.specs.Tree.{Tree, In}
 use Rattle.lexmeaning.specs.Spec.{Cut, Whole, Head, Trail}
 use Rattle.lexre.specs.Lengths.{least, greatest, PassesLimit}
 use Rattle.lexre.proofs.LengthLaws.{has_lengths}
-use Rattle.lexspec.specs.RuleItems.{HasFixed, IsCutOf}
-use Rattle.lexspec.specs.Tests.{is_number, has_length, cut_fits}
+use Rattle.lexspec.specs.RuleItems.{HasFixed, IsCutOf, is_number}
+use Rattle.lexspec.specs.Tests.{has_length, cut_fits}
 
 one_least : (L : Language) (m n : ℕ) (g h : Option ℕ) → HasLengths L m g → HasLengths L n h → m ≡ n
 one_least L m n g h a b =

@@ -4,7 +4,7 @@ use Rattle.std.specs.Prelude.{nat_eq, if◌then◌else◌}
 use Rattle.std.proofs.lemmas.Bool.{and_parts, and_from, or_parts, eq-eqb, eqb-true}
 use Rattle.std.proofs.lemmas.List.{map-append, length-map, append_assoc}
 use Rattle.std.proofs.lemmas.List.Folds.{list_any-append}
-use Rattle.lexaction.specs.Reading.{is_word}
+use Rattle.lexmeaning.specs.ByteSets.{is_word}
 use Rattle.lexaction.specs.Names.{number_from}
 use Rattle.lexaction.specs.Names as A
 use Rattle.lexaction.specs.declared.condition.Condition.{Condition}

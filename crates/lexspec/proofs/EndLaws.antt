@@ -1,8 +1,9 @@
 -- What follows an item of the rules section is the end of its text.
 use Rattle.std.proofs.Common.{◌≡◌, ℕ, zero, suc, ◌+◌, ◌==◌, ◌&&◌, ◌||◌, Bool, true, false, not, if◌then◌else◌, List, [], ◌∷◌, length, drop, Option, Some, None, refl, ap, subst, sym}
 use Rattle.std.specs.Prelude.{codes}
-use Rattle.lexaction.specs.Reading.{is_word}
-use Rattle.lexspec.specs.Lines.{line_in, is_blank, blanks, after_blanks, begins}
+use Rattle.lexmeaning.specs.ByteSets.{is_word, is_blank}
+use Rattle.lexmeaning.specs.Reading.{after_blanks, begins, take_up_to}
+use Rattle.lexspec.specs.Lines.{line_in, blanks}
 use Rattle.lexspec.specs.Items.{Place, outside, slash, block, star, line, string, escaped, action_in, with_byte, next_place, depth_after, Conditions, unlisted, every, only, parts_at, before_sign, conditions_at, Subject, at_end, matching, IsSubject, Item, skipped, skipped_line, skipped_block, rule, IsItem}
 use Rattle.lexspec.proofs.SectionLaws.{EndsWith, ends_on, after_line, after_block_ends, dropped, Each, each_some, each_none, each_if, each_bind}
 use Rattle.lexspec.proofs.OneItems.{line_text}
@@ -14,6 +15,7 @@ longer : (c : ℕ) (t rest : List ℕ) → EndsWith t rest → EndsWith (c ∷ t
 longer c t rest h = (c ∷ h.0, ap (λ z. c ∷ z) h.1)
 
 pub blanks_end : (t : List ℕ) → EndsWith t (after_blanks t)
+unfolding take_up_to
 blanks_end [] = ([], refl)
 blanks_end (c ∷ t) = from (is_blank c) (blanks_end t)
   where

@@ -11,7 +11,7 @@ use Rattle.lexspec.specs.declared.item.Front.TheVariants as F
 use Rattle.lexre.specs.Spelling.{Spells}
 use Rattle.lexaction.specs.Names.{number_from, names_of}
 use Rattle.lexaction.specs.declared.condition.Condition.{Condition}
-use Rattle.lexspec.specs.Lines.{after_blanks}
+use Rattle.lexmeaning.specs.Reading.{after_blanks}
 use Rattle.lexspec.specs.Items.{Conditions, Trailing, Subject, at_end, matching, starts_rule, conditions_at, IsSubject, action_in, outside}
 use Rattle.lexspec.specs.RuleItems.{numbers_of, IsTrail, IsCutOf}
 use Rattle.lexspec.specs.ItemReads.{names_in, NoRules, NoSides, ReadsFront, ReadsItem}

@@ -1,8 +1,9 @@
 -- The conditions of a rule, by number.
-use Rattle.std.proofs.Common.{◌≡◌, ℕ, zero, suc, ◌+◌, ◌-◌, ◌<◌, ◌==◌, ◌||◌, ◌&&◌, Bool, true, false, if◌then◌else◌, List, [], ◌∷◌, length, get_or, drop, Option, Some, None, is_some, refl, sym, ap, ◌∙◌, arith}
+use Rattle.std.proofs.Common.{◌≡◌, ℕ, zero, suc, ◌+◌, ◌-◌, ◌<◌, ◌==◌, ◌||◌, ◌&&◌, Bool, true, false, not, if◌then◌else◌, List, [], ◌∷◌, length, get_or, drop, Option, Some, None, is_some, refl, sym, ap, ◌∙◌, arith}
 use Rattle.std.specs.Prelude.{replicate, slice_set, IfNone}
 use Rattle.std.proofs.lemmas.Bool.{eqb-true, eqb-false}
 use Rattle.std.specs.List.{list_any}
+use Rattle.lexmeaning.specs.Reading.{take_up_to}
 use Rattle.lexspec.specs.Runs.{split_before}
 use Rattle.lexspec.specs.Items.{parts_at}
 use Rattle.lexspec.specs.RuleItems.{numbers_from, all_numbered, is_number}
@@ -26,12 +27,13 @@ abbrev both : List ℕ × List (List ℕ) → List (List ℕ)
 both p = p.0 ∷ p.1
 
 parts_split : (t : List ℕ) → ◌≡◌ {A = List ℕ × List (List ℕ)} (parts_at 44 t) ((split_before (λ c. c == 44) t).0, after_part (split_before (λ c. c == 44) t).1)
+unfolding take_up_to
 parts_split [] = refl
 parts_split (c ∷ t) = from (c == 44) (parts_split t)
   where
     from : (b : Bool) → ◌≡◌ {A = List ℕ × List (List ℕ)} (parts_at 44 t) ((split_before (λ c. c == 44) t).0, after_part (split_before (λ c. c == 44) t).1)
         → ◌≡◌ {A = List ℕ × List (List ℕ)} (if b then ([], (parts_at 44 t).0 ∷ (parts_at 44 t).1) else (c ∷ (parts_at 44 t).0, (parts_at 44 t).1))
-        ((choose b ([], c ∷ t) (with_first c (split_before (λ c. c == 44) t))).0, after_part (choose b ([], c ∷ t) (with_first c (split_before (λ c. c == 44) t))).1)
+        ((choose (not b) (with_first c (split_before (λ c. c == 44) t)) ([], c ∷ t)).0, after_part (choose (not b) (with_first c (split_before (λ c. c == 44) t)) ([], c ∷ t)).1)
     from true h = refl
     from false h = ap (λ (p : List ℕ × List (List ℕ)). (c ∷ p.0, p.1)) h
 

@@ -4,7 +4,9 @@ use Rattle.std.specs.Prelude.{codes, nat_eq, not, ◌&&◌, ◌||◌}
 use Rattle.std.specs.List.{list_any}
 use Rattle.std.proofs.lemmas.Bool.{and_parts, or_parts, eqb-true}
 use Rattle.lexre.specs.Cutting.{IsCutting}
-use Rattle.lexspec.specs.Lines.{line_in, line_at, is_blank, after_blanks, begins}
+use Rattle.lexmeaning.specs.Reading.{after_blanks, begins, take_up_to}
+use Rattle.lexmeaning.specs.ByteSets.{is_blank}
+use Rattle.lexspec.specs.Lines.{line_in, line_at}
 use Rattle.lexspec.specs.DefinitionLines.{is_all_blank}
 use Rattle.lexspec.specs.Items.{Conditions, Trailing, Subject, at_end, matching, Action, Item, skipped, skipped_line, skipped_block, rule, action_in, outside, action_of, sides, starts_rule, IsPattern, IsSubject, IsItem, newlines, AreItems}
 use Rattle.lexspec.proofs.OneSection.{no_true, two_percents, some_pair}
@@ -92,6 +94,7 @@ turned false e = refl
 turned true e = no_true e
 
 pub block_tests : (t : List ℕ) → begins (codes "%{") t ≡ true → Tests t skipped_block
+unfolding take_up_to is_blank
 block_tests t h = let p = opens_block t h in subst (λ z. Tests z skipped_block) (sym p.1) (refl, refl, refl)
 
 pub rule_tests : (t : List ℕ) → starts_rule t ≡ true → (AllBlank t ≡ false) × (StartsBlank t ≡ false) × (begins (codes "%%") (line_in t).0 ≡ false) × (OpensBlock t ≡ false)
@@ -111,6 +114,7 @@ tests_of t (rule asked subject action) rest h = let r = rule_tests t h.0 in (r.0
 
 -- at the end, and at a line that begins with `%%`, there is no item
 pub no_item_at_end : (t : List ℕ) (i : Item) (rest : List ℕ) → (t ≡ []) ⊎ (begins (codes "%%") t ≡ true) → IsItem t i rest → ⊥
+unfolding take_up_to is_blank
 no_item_at_end t i rest (inl e) h = empty i (subst (λ z. IsItem z i rest) e h)
   where
     empty : (i : Item) → IsItem [] i rest → ⊥

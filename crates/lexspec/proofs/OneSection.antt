@@ -2,8 +2,8 @@
 use Rattle.std.proofs.Common.{◌≡◌, ℕ, Bool, true, false, List, [], ◌∷◌, Option, Some, None, refl, sym, ◌∙◌, ap, subst}
 use Rattle.std.specs.Prelude.{codes, nat_eq, ◌&&◌}
 use Rattle.std.proofs.lemmas.Bool.{and_parts, eqb-true}
-use Rattle.lexaction.specs.Reading.{Reader}
-use Rattle.lexspec.specs.Lines.{begins}
+use Rattle.lexmeaning.specs.Reading.{Reader, begins, take_up_to}
+use Rattle.lexmeaning.specs.ByteSets.{is_blank}
 use Rattle.lexspec.specs.DefinitionLines.{definition_at, IsUpTo}
 
 pub no_true : {A : Type 0} → false ≡ true → A
@@ -28,7 +28,7 @@ two_percents (c ∷ d ∷ u) h =
 
 -- a line that begins with `%%` is no definition
 percents_end : (u : List ℕ) → definition_at (37 ∷ 37 ∷ u) ≡ None
-unfolding definition_at
+unfolding definition_at take_up_to is_blank
 percents_end u = refl
 
 pub separator_ends : (t : List ℕ) → begins (codes "%%") t ≡ true → definition_at t ≡ None

@@ -10,7 +10,7 @@ use Rattle.lexaction.specs.Outcome as A
 use Rattle.lexaction.specs.declared.error.ActionError.{ActionError}
 use Rattle.lexaction.specs.declared.error.ActionError.TheVariants as AK
 use Rattle.lexaction.specs.declared.condition.Condition.{Condition}
-use Rattle.lexspec.specs.Lines.{begins}
+use Rattle.lexmeaning.specs.Reading.{begins}
 use Rattle.lexspec.specs.DefinitionLines.{is_all_blank}
 use Rattle.lexspec.specs.Items.{Action, bar, spelled, at_end, matching, rule, action_of, IsItem, newlines}
 use Rattle.lexspec.specs.RuleItems.{numbers_of, EndRule}

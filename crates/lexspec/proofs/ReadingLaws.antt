@@ -6,7 +6,8 @@ use Rattle.std.proofs.lemmas.List.{length-map}
 use Rattle.std.proofs.lemmas.List.Sums.{sum_by-cons}
 use Rattle.std.proofs.lemmas.Bool.{and_parts, eqb-true}
 use Rattle.lexmeaning.specs.Spec.{Spec}
-use Rattle.lexspec.specs.Lines.{without_returns, line_in, begins}
+use Rattle.lexmeaning.specs.Reading.{begins}
+use Rattle.lexspec.specs.Lines.{without_returns, line_in}
 use Rattle.lexspec.specs.DefinitionLines.{Definition, definition_at, IsUpTo, all_conditions, names_of, has_name, substitutes_of, all_options}
 use Rattle.lexspec.specs.Declaring.{declared_of, AreAllowed}
 use Rattle.lexspec.specs.Items.{AreItems, newlines}

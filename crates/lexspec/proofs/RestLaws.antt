@@ -4,7 +4,7 @@ use Rattle.std.specs.Prelude.{codes, ◌⊎◌, Result, Ok, Err, IfOk, IfErr}
 use Rattle.std.proofs.lemmas.List.{append-nil, length-map}
 use Rattle.std.proofs.lemmas.List.Sums.{count_by-le-length}
 use Rattle.lexmeaning.specs.Spec as S
-use Rattle.lexspec.specs.Lines.{begins}
+use Rattle.lexmeaning.specs.Reading.{begins}
 use Rattle.lexspec.specs.Items.{Item, AreItems, newlines}
 use Rattle.lexspec.specs.RuleItems.{EndRule, AreRules}
 use Rattle.lexspec.specs.RuleReads.{Left, may_wait}

@@ -12,7 +12,7 @@ use Rattle.lexre.proofs.CuttingLaws.{one_cutting}
 use Rattle.lexre.proofs.OneTree.{one_tree}
 use Rattle.lexaction.specs.Names.{number_from}
 use Rattle.lexaction.specs.Actions.{SpellsAction, SpellsEndAction}
-use Rattle.lexspec.specs.Lines.{after_blanks}
+use Rattle.lexmeaning.specs.Reading.{after_blanks, take_up_to}
 use Rattle.lexspec.specs.Items.{Conditions, Trailing, Subject, at_end, matching, Action, bar, spelled, Item, skipped, skipped_line, skipped_block, rule, conditions_at, IsSubject, action_in, outside, action_of, starts_rule, IsItem, newlines, AreItems}
 use Rattle.lexspec.specs.RuleItems.{numbers_of, IsTrail, IsCutOf, EndRule, IsActionOf, goes_to_rule, IsRule, AreRules}
 use Rattle.lexspec.specs.RuleReads.{HasHead, acting, first_statements, filled, may_wait, Left}
@@ -356,6 +356,7 @@ module _ (names : List (List ℕ)) (fold : Bool) (defined : Definitions) where
       }
 
   pub invert : (n : ℕ) (t : List ℕ) (w R : List Rule) (E : List EndRule) → starts_rule t ≡ true → Left names fold defined n t w R E → RuleHere t w
+  unfolding take_up_to
   invert n t w R E starts left = from left.items left.here left.are left.next
     where
       from : (items : List (ℕ × Item)) → AreItems n t items → AreRules names fold defined items left.later E → may_wait w items ≡ true → RuleHere t w

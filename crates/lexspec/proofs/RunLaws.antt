@@ -1,9 +1,11 @@
 -- Runs of bytes: lines, blanks and words.
-use Rattle.std.proofs.Common.{◌≡◌, ℕ, zero, suc, ◌-◌, ◌<◌, ◌≤◌, ◌==◌, Bool, true, false, not, if◌then◌else◌, List, [], ◌∷◌, length, get_or, take, drop, refl, sym, ap, ◌∙◌, arith}
+use Rattle.std.proofs.Common.{◌≡◌, ℕ, zero, suc, ◌-◌, ◌<◌, ◌≤◌, ◌==◌, Bool, true, false, not, if◌then◌else◌, List, [], ◌∷◌, length, get_or, take, drop, refl, sym, ap, subst, ◌∙◌, arith}
 use Rattle.std.specs.Prelude.{Option, Some, None, unwrap_or}
 use Rattle.bstr.specs.Find.{IsFirstByte, is_byte}
-use Rattle.lexclass.specs.Lexical.{take_up_to, take_run}
-use Rattle.lexspec.specs.Lines.{line_in, is_blank, blanks, after_blanks, before_blank, words_in, words}
+use Rattle.lexmeaning.specs.Reading.{take_up_to, take_run, after_blanks}
+use Rattle.lexmeaning.specs.ByteSets.{is_blank}
+use Rattle.lexclass.proofs.QuoteLaws.{take_up_to_within}
+use Rattle.lexspec.specs.Lines.{line_in, blanks, before_blank, words_in, words}
 use Rattle.lexspec.specs.Runs.{split_before}
 
 abbrev Split : Type 0
@@ -14,7 +16,8 @@ with_first c s = (c ∷ s.0, s.1)
 
 -- the first i bytes do not pass, and the next one, if there is one, does
 pub splits_at : (p : ℕ → Bool) (t : List ℕ) (i : ℕ) → i ≤ length t → ((k : ℕ) → k < i → p (get_or t k 0) ≡ false)
-    → (i < length t → p (get_or t i 0) ≡ true) → ◌≡◌ {A = Split} (split_before p t) (take i t, drop i t)
+    → (i < length t → p (get_or t i 0) ≡ true) → ◌≡◌ {A = Split} (take_up_to (length t) (λ c. not (p c)) t) (take i t, drop i t)
+unfolding take_up_to
 splits_at p [] zero within none last = refl
 splits_at p [] (suc i) within none last = absurd (omega arith)
 splits_at p (c ∷ t) zero within none last = rw (last (omega arith)) refl
@@ -31,9 +34,10 @@ abbrev choose : Bool → Split → Split → Split
 choose b x y = if b then x else y
 
 lines_split : (t : List ℕ) → ◌≡◌ {A = Split} (line_in t) (line_of (split_before (λ c. c == 10) t))
+unfolding take_up_to
 lines_split [] = refl
 lines_split (c ∷ t) =
-    elim (c == 10) as (λ b. choose b ([], t) (with_first c (line_in t)) ≡ line_of (choose b ([], c ∷ t) (with_first c (split_before (λ c. c == 10) t)))) [
+    elim (c == 10) as (λ b. choose b ([], t) (with_first c (line_in t)) ≡ line_of (choose (not b) (with_first c (split_before (λ c. c == 10) t)) ([], c ∷ t))) [
       | true ↦ refl
       | false ↦ ap (with_first c) (lines_split t)
     ]
@@ -54,42 +58,37 @@ line_found t a b r i h is front back =
     lines_split t ∙ ap line_of (found_split t r h) ∙ ap (λ (z : ℕ). (let s : Split = (take z t, drop 1 (drop z t)) in s)) (sym is) ∙ ap (λ z. (let s : Split = (z, drop 1 (drop i t)) in s)) (sym front)
     ∙ ap (λ z. (let s : Split = (a, drop 1 z) in s)) (sym back)
 
-all_blanks_split : (t : List ℕ) → ◌≡◌ {A = Split} (blanks t) (split_before (λ c. not (is_blank c)) t)
-all_blanks_split [] = refl
-all_blanks_split (c ∷ t) =
-    elim (is_blank c) as (λ b. choose b (with_first c (blanks t)) ([], c ∷ t) ≡ choose (not b) ([], c ∷ t) (with_first c (split_before (λ c. not (is_blank c)) t))) [
-      | true ↦ ap (with_first c) (all_blanks_split t)
-      | false ↦ refl
-    ]
+-- tests that answer alike take the same run
+same_tests : (n : ℕ) (p q : ℕ → Bool) → ((c : ℕ) → p c ≡ q c) → (t : List ℕ) → ◌≡◌ {A = Split} (take_up_to n p t) (take_up_to n q t)
+unfolding take_up_to
+same_tests zero p q h t = refl
+same_tests (suc n) p q h [] = refl
+same_tests (suc n) p q h (c ∷ t) = rw (h c, same_tests n p q h t) refl
+
+not_not : (b : Bool) → b ≡ not (not b)
+not_not true = refl
+not_not false = refl
+
+-- a run of bytes that pass ends before the first that does not
+pub run_split : (test : ℕ → Bool) (t a b : List ℕ) → ◌≡◌ {A = Split} (split_before (λ c. not (test c)) t) (a, b) → ◌≡◌ {A = Split} (take_run test t) (a, b)
+run_split test t a b e = same_tests (length t) test (λ c. not (not (test c))) (λ c. not_not (test c)) t ∙ e
 
 -- blanks end before the first byte that is none
 pub blanks_split : (t a b : List ℕ) → ◌≡◌ {A = Split} (split_before (λ c. not (is_blank c)) t) (a, b) → ◌≡◌ {A = Split} (blanks t) (a, b)
-blanks_split t a b e = all_blanks_split t ∙ e
-
-words_split : (t : List ℕ) → ◌≡◌ {A = Split} (before_blank t) (split_before is_blank t)
-words_split [] = refl
-words_split (c ∷ t) =
-    elim (is_blank c) as (λ b. choose b ([], c ∷ t) (with_first c (before_blank t)) ≡ choose b ([], c ∷ t) (with_first c (split_before is_blank t))) [
-      | true ↦ refl
-      | false ↦ ap (with_first c) (words_split t)
-    ]
+blanks_split t a b e = run_split is_blank t a b e
 
 -- a word ends before the first blank
 pub word_split : (t a b : List ℕ) → ◌≡◌ {A = Split} (split_before is_blank t) (a, b) → ◌≡◌ {A = Split} (before_blank t) (a, b)
-word_split t a b e = words_split t ∙ e
+word_split t a b e = e
 
 -- Words.
 
 blanks_shorter : (t : List ℕ) → length (after_blanks t) ≤ length t
-blanks_shorter [] = omega arith
-blanks_shorter (c ∷ t) =
-    elim (is_blank c) as (λ b. length (choose b (with_first c (blanks t)) ([], c ∷ t)).1 ≤ length (c ∷ t)) [
-      | true ↦ omega (arith, blanks_shorter t)
-      | false ↦ omega arith
-    ]
+blanks_shorter t = take_up_to_within (length t) is_blank t
 
 -- what follows blanks begins with none
 no_blank_first : (t u : List ℕ) (c : ℕ) → after_blanks t ≡ c ∷ u → is_blank c ≡ false
+unfolding take_up_to
 no_blank_first [] u c e = absurd (none u c e)
   where
     none : (u : List ℕ) (c : ℕ) → ◌≡◌ {A = List ℕ} [] (c ∷ u) → ⊥
@@ -104,15 +103,9 @@ no_blank_first (d ∷ t) u c e = from (is_blank d) refl (λ k. no_blank_first t 
     from false h later k = ap is_blank (sym (first d c t u k)) ∙ h
 
 word_shorter : (c : ℕ) (u : List ℕ) → is_blank c ≡ false → length (before_blank (c ∷ u)).1 ≤ length u
-word_shorter c u h = rw h (rest u)
-  where
-    rest : (u : List ℕ) → length (before_blank u).1 ≤ length u
-    rest [] = omega arith
-    rest (d ∷ u) =
-        elim (is_blank d) as (λ b. length (choose b ([], d ∷ u) (with_first d (before_blank u))).1 ≤ length (d ∷ u)) [
-          | true ↦ omega arith
-          | false ↦ omega (arith, rest u)
-        ]
+unfolding take_up_to
+word_shorter c u h =
+    subst (λ b. length (choose (not b) (with_first c (before_blank u)) ([], c ∷ u)).1 ≤ length u) (sym h) (take_up_to_within (length u) (λ d. not (is_blank d)) u)
 
 words_step : (n : ℕ) (t u : List ℕ) (c : ℕ) → after_blanks t ≡ c ∷ u → words_in (suc n) t ≡ (before_blank (c ∷ u)).0 ∷ words_in n (before_blank (c ∷ u)).1
 unfolding words_in
@@ -155,18 +148,3 @@ word_goes t (c ∷ u) a b e h k =
     let short : length (before_blank (c ∷ u)).1 ≤ length u = word_shorter c u (no_blank_first t u c (sym e)) in
     let same : length (before_blank (c ∷ u)).1 ≡ length b = ap (λ (s : Split). length s.1) k in
     omega (arith, blanks_shorter t, ap length (sym e))
-
-run_same : (test : ℕ → Bool) (n : ℕ) (t : List ℕ) → length t ≤ n → ◌≡◌ {A = Split} (take_up_to n test t) (split_before (λ c. not (test c)) t)
-unfolding take_up_to
-run_same test zero [] h = refl
-run_same test zero (c ∷ t) h = absurd (omega arith)
-run_same test (suc n) [] h = refl
-run_same test (suc n) (c ∷ t) h =
-    elim (test c) as (λ b. choose b (with_first c (take_up_to n test t)) ([], c ∷ t) ≡ choose (not b) ([], c ∷ t) (with_first c (split_before (λ c. not (test c)) t))) [
-      | true ↦ ap (with_first c) (run_same test n t (omega arith))
-      | false ↦ refl
-    ]
-
--- a run of bytes that pass ends before the first that does not
-pub run_split : (test : ℕ → Bool) (t a b : List ℕ) → ◌≡◌ {A = Split} (split_before (λ c. not (test c)) t) (a, b) → ◌≡◌ {A = Split} (take_run test t) (a, b)
-run_split test t a b e = run_same test (length t) t (omega arith) ∙ e

@@ -4,8 +4,9 @@ use Rattle.std.specs.Prelude.{codes}
 use Rattle.std.specs.List.{list_any}
 use Rattle.std.proofs.Math.Seq.{take-append_seam}
 use Rattle.std.proofs.lemmas.List.Sums.{sum_by-append}
-use Rattle.lexaction.specs.Reading.{◌>>=◌, Reader}
-use Rattle.lexspec.specs.Lines.{line_in, is_blank, begins, after_block, after_comment}
+use Rattle.lexmeaning.specs.Reading.{◌>>=◌, Reader, begins}
+use Rattle.lexmeaning.specs.ByteSets.{is_blank}
+use Rattle.lexspec.specs.Lines.{line_in, after_block, after_comment}
 use Rattle.lexspec.specs.DefinitionLines.{Definition, nothing, code_line, code_block, is_all_blank, definition_in, percent_line, definition_at, IsUpTo}
 use Rattle.lexspec.specs.Items.{newlines}
 use Rattle.lexspec.specs.Declaring.{declared_of, AreGood, AreAllowed, Declares}

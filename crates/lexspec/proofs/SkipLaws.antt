@@ -1,7 +1,8 @@
 -- Blocks, which are skipped.
 use Rattle.std.proofs.Common.{◌≡◌, ℕ, zero, suc, ◌<◌, ◌≤◌, ◌==◌, Bool, true, false, if◌then◌else◌, List, [], ◌∷◌, length, Option, Some, None, refl, ap, ◌∙◌, arith}
 use Rattle.std.specs.Prelude.{codes}
-use Rattle.lexspec.specs.Lines.{line_in, begins, after_block}
+use Rattle.lexmeaning.specs.Reading.{begins}
+use Rattle.lexspec.specs.Lines.{line_in, after_block}
 
 abbrev Split : Type 0
 Split = List ℕ × List ℕ

@@ -1,7 +1,7 @@
 -- One item of the rules section more.
 use Rattle.std.proofs.Common.{◌≡◌, ℕ, suc, ◌+◌, ◌-◌, ◌<◌, ◌==◌, ◌&&◌, Bool, true, false, if◌then◌else◌, List, [], ◌∷◌, map, length, take, Option, Some, None, inl, inr, refl, sym, ap, arith, length-append}
 use Rattle.std.specs.Prelude.{codes}
-use Rattle.lexspec.specs.Lines.{after_blanks, begins}
+use Rattle.lexmeaning.specs.Reading.{after_blanks, begins, take_up_to}
 use Rattle.lexspec.specs.Items.{outside, action_in, with_byte, next_place, depth_after, action_of, at_end, matching, Item, skipped, skipped_line, skipped_block, rule, starts_rule, IsItem, AreItems, newlines}
 use Rattle.lexspec.specs.RuleViews.{rule_of}
 use Rattle.lexspec.specs.ItemReads.{names_in, ReadsFront, ReadsItem, NoRules, NoRulesAfter, NoneLeft}
@@ -53,6 +53,7 @@ action_shorter [] text rest n e h k = omega (arith, ap length (some_pair [] text
 action_shorter (c ∷ t) text rest n e h k = omega (arith, not_longer t rest (action_takes c t (text, rest) e))
 
 starts_some : (t : List ℕ) → starts_rule t ≡ true → 0 < length t
+unfolding take_up_to
 starts_some [] h = no_true h
 starts_some (c ∷ t) h = omega arith
 

@@ -1,8 +1,9 @@
 -- What stands before the action of a rule.
 use Rattle.std.proofs.Common.{◌≡◌, ℕ, zero, suc, ◌+◌, ◌-◌, ◌==◌, ◌||◌, Bool, true, false, not, if◌then◌else◌, List, [], ◌∷◌, length, take, drop, Option, Some, None, refl, sym, ap, subst, ◌∙◌, arith}
 use Rattle.std.specs.Prelude.{codes}
-use Rattle.lexaction.specs.Reading.{◌>>=◌, is_word}
-use Rattle.lexspec.specs.Lines.{line_in, begins}
+use Rattle.lexmeaning.specs.ByteSets.{is_word}
+use Rattle.lexmeaning.specs.Reading.{◌>>=◌, begins, take_up_to}
+use Rattle.lexspec.specs.Lines.{line_in}
 use Rattle.lexspec.specs.Runs.{split_before}
 use Rattle.lexre.specs.Cutting.{IsCutting}
 use Rattle.lexre.proofs.CuttingLaws.{one_cutting}
@@ -44,11 +45,12 @@ signed_more c (front, []) = refl
 signed_more c (front, d ∷ back) = refl
 
 signs_split : (sign : ℕ) (t : List ℕ) → before_sign sign t ≡ signed (split_before (λ c. c == sign) t)
+unfolding take_up_to
 signs_split sign [] = refl
 signs_split sign (c ∷ t) = from (c == sign) (signs_split sign t)
   where
     from : (b : Bool) → before_sign sign t ≡ signed (split_before (λ c. c == sign) t)
-        → (if b then Some ([], t) else with_byte c (before_sign sign t)) ≡ signed (choose b ([], c ∷ t) (with_first c (split_before (λ c. c == sign) t)))
+        → (if b then Some ([], t) else with_byte c (before_sign sign t)) ≡ signed (choose (not b) (with_first c (split_before (λ c. c == sign) t)) ([], c ∷ t))
     from true h = refl
     from false h = ap (with_byte c) h ∙ signed_more c (split_before (λ c. c == sign) t)
 

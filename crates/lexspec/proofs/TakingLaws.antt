@@ -8,7 +8,7 @@ use Rattle.std.specs.FinMap.Entries.{find}
 use Rattle.std.specs.Ordering.{nat_cmp, eq_by_cmp}
 use Rattle.std.proofs.lemmas.Bool.{and_parts, and_from}
 use Rattle.std.proofs.lemmas.List.{map-append, append_assoc}
-use Rattle.lexaction.specs.Reading.{is_word}
+use Rattle.lexmeaning.specs.ByteSets.{is_word}
 use Rattle.lexre.specs.Definitions.{Definitions}
 use Rattle.lexspec.specs.DefinitionLines.{Definition, nothing, code_line, code_block, declares, options, ignored, defines, Declared, declared, all_conditions, has_name, are_distinct, substitutes_of, all_options, known_options, are_known}
 use Rattle.lexspec.specs.Declaring.{declared_of, with_kind, AreGood, AreAllowed, Declares}

@@ -12,7 +12,8 @@ use Rattle.lexmeaning.specs.Sound.{HasLength, CutFits, IsConditionList, IsSoundR
 use Rattle.lexre.specs.Lengths.{least, greatest}
 use Rattle.lexaction.specs.Actions.{are_few}
 use Rattle.lexre.proofs.LengthLaws.{has_lengths}
-use Rattle.lexspec.specs.Tests.{any_below, are_bounds, has_part, sound_tree, sound_trees, sound_trail, is_number, has_length, is_whole, cut_fits, ascend_from, sound_list, legal_action, sound_rule, sound_rules, sound_conditions, is_sound}
+use Rattle.lexspec.specs.RuleItems.{is_number}
+use Rattle.lexspec.specs.Tests.{any_below, are_bounds, has_part, sound_tree, sound_trees, sound_trail, has_length, is_whole, cut_fits, ascend_from, sound_list, legal_action, sound_rule, sound_rules, sound_conditions, is_sound}
 
 no_true : {A : Type 0} → false ≡ true → A
 no_true e = absurd (no e)

@@ -1,7 +1,10 @@
 -- The ends of substitutes.
-use Rattle.std.proofs.Common.{◌≡◌, ℕ, zero, suc, ◌-◌, ◌<◌, ◌≤◌, ◌==◌, ◌&&◌, Bool, true, false, not, if◌then◌else◌, List, [], ◌∷◌, length, get_or, take, refl, ap, subst, ◌∙◌, arith}
+use Rattle.std.proofs.Common.{◌≡◌, ℕ, zero, suc, ◌-◌, ◌<◌, ◌≤◌, ◌==◌, ◌&&◌, ◌||◌, Bool, true, false, not, if◌then◌else◌, List, [], ◌∷◌, length, get_or, take, refl, ap, subst, ◌∙◌, arith}
 use Rattle.std.proofs.lemmas.Bool.{ne_eqb, eq-eqb}
-use Rattle.lexspec.specs.Lines.{is_blank, blanks, is_empty}
+use Rattle.lexmeaning.specs.Reading.{is_empty, take_up_to}
+use Rattle.lexmeaning.specs.ByteSets.{is_blank}
+use Rattle.std.specs.List.{list_any}
+use Rattle.lexspec.specs.Lines.{blanks}
 use Rattle.lexspec.specs.DefinitionLines.{is_all_blank, trimmed, ends_anchored}
 
 abbrev Split : Type 0
@@ -11,12 +14,24 @@ abbrev choose : Bool → Split → Split → Split
 choose b x y = if b then x else y
 
 blank_step : (c : ℕ) (t : List ℕ) (b : Bool) → is_blank c ≡ b → is_all_blank (c ∷ t) ≡ is_empty (choose b (c ∷ (blanks t).0, (blanks t).1) ([], c ∷ t)).1
+unfolding take_up_to
 blank_step c t b h = ap (λ z. is_empty (choose z (c ∷ (blanks t).0, (blanks t).1) ([], c ∷ t)).1) h
 
 -- where each byte is blank, all is
 pub all_blank : (t : List ℕ) → ((k : ℕ) → k < length t → is_blank (get_or t k 0) ≡ true) → is_all_blank t ≡ true
+unfolding take_up_to
 all_blank [] h = refl
 all_blank (c ∷ t) h = blank_step c t true (h 0 (omega arith)) ∙ all_blank t (λ k i. h (suc k) (omega arith))
+
+-- no blank stands at the front
+pub blank_front : (t : List ℕ) → is_empty (blanks t).0 ≡ not (list_any is_blank (take 1 t))
+unfolding take_up_to
+blank_front [] = refl
+blank_front (c ∷ t) = from (is_blank c)
+  where
+    from : (b : Bool) → is_empty (choose b (c ∷ (blanks t).0, (blanks t).1) ([], c ∷ t)).0 ≡ not (b || false)
+    from true = refl
+    from false = refl
 
 -- where some byte is none, not all is
 not_blank : (t : List ℕ) (k : ℕ) → k < length t → is_blank (get_or t k 0) ≡ false → is_all_blank t ≡ false
@@ -113,7 +128,3 @@ pub ends_by_last : (t : List ℕ) → (length t ≡ 0 → ⊥) → (length t ≡
 ends_by_last t h k =
     let one : suc (length t - 2) ≡ length t - 1 = omega arith in
     ends_by_two t (length t - 2) (omega arith) ∙ ap (λ n. get_or t n 0 == 36 && not (get_or t (length t - 2) 0 == 92)) one
-
-pub empty_test : (t : List ℕ) → (length t == 0) ≡ is_empty t
-empty_test [] = refl
-empty_test (c ∷ t) = ne_eqb (suc (length t)) 0 (λ h. absurd (omega arith))

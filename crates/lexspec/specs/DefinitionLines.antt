@@ -1,21 +1,9 @@
 -- The lines of the definitions section. (POSIX, lex, Definitions in lex; flex, Format of the Input File.)
 use Rattle.std.specs.Prelude.{◌≡◌, ℕ, suc, Bool, true, false, not, ◌&&◌, ◌||◌, ◌==◌, if◌then◌else◌, List, [], ◌∷◌, ◌++◌, map, length, take, drop, Option, Some, None, codes}
 use Rattle.std.specs.List.{list_any}
-use Rattle.lexaction.specs.Reading.{◌>>=◌, Reader, is_word}
-use Rattle.lexmeaning.specs.ByteSets.{is_alpha, is_alnum, is_digit}
-use Rattle.lexclass.specs.Lexical.{take_run}
-use Rattle.lexspec.specs.Lines.{line_at, is_blank, blanks, after_blanks, is_empty, begins, before_blank, words, after_block, after_comment}
-
--- A name is a letter or `_`, and then letters, digits, `_` and `-`.
-abbrev pub starts_name : ℕ → Bool
-starts_name c = is_alpha c || c == 95
-
-abbrev pub goes_on_name : ℕ → Bool
-goes_on_name c = is_alnum c || c == 95 || c == 45
-
--- what follows the bytes at the front that pass
-abbrev pub after_run : (ℕ → Bool) → List ℕ → List ℕ
-after_run test t = (take_run test t).1
+use Rattle.lexmeaning.specs.Reading.{◌>>=◌, Reader, IsCut, take_run, after_run, after_blanks, is_empty, begins, starts_name, goes_on_name}
+use Rattle.lexmeaning.specs.ByteSets.{is_digit, is_word, is_blank}
+use Rattle.lexspec.specs.Lines.{line_at, blanks, before_blank, words, after_block, after_comment}
 
 pub data Definition : Type 0 where
   -- a line of blanks or nothing, or a comment
@@ -106,8 +94,7 @@ definition_at t = line_at t >>= λ (line, rest).
 
 -- items up to a rest
 abbrev pub IsUpTo : {A : Type 0} → Reader A → List ℕ → List A → List ℕ → Type 0
-IsUpTo item_at text [] rest = text ≡ rest
-IsUpTo item_at text (x ∷ xs) rest = (next : List ℕ) × (item_at text ≡ Some (x, next)) × IsUpTo item_at next xs rest
+IsUpTo item_at text xs rest = IsCut item_at (λ t. t ≡ rest) text xs
 
 -- What the lines declare.
 

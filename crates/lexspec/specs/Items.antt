@@ -3,8 +3,9 @@
 use Rattle.std.specs.Prelude.{◌≡◌, ℕ, zero, suc, ◌+◌, ◌-◌, Bool, true, false, not, ◌&&◌, ◌||◌, ◌==◌, if◌then◌else◌, List, [], ◌∷◌, length, take, drop, count_by, Option, Some, None, codes, ◌⊎◌}
 use Rattle.std.specs.List.{list_any}
 use Rattle.lexre.specs.Cutting.{IsCutting}
-use Rattle.lexaction.specs.Reading.{◌>>=◌, Reader, is_word}
-use Rattle.lexspec.specs.Lines.{line_in, line_at, is_blank, after_blanks, begins, after_block}
+use Rattle.lexmeaning.specs.ByteSets.{is_word, is_blank}
+use Rattle.lexmeaning.specs.Reading.{◌>>=◌, Reader, after_blanks, begins, is_white}
+use Rattle.lexspec.specs.Lines.{line_in, line_at, after_block}
 use Rattle.lexspec.specs.DefinitionLines.{is_all_blank}
 
 -- the condition list: none, `<*>`, or names
@@ -100,7 +101,7 @@ action_of text = if begins (codes "|") text && is_all_blank (drop 1 text) then b
 
 abbrev pub starts_blank : List ℕ → Bool
 starts_blank [] = true
-starts_blank (c ∷ t) = is_blank c || c == 10
+starts_blank (c ∷ t) = is_white c
 
 -- the head and the trailing context of a pattern's text, by its end, its first slash and whether it ends with `$`
 abbrev pub sides : List ℕ → ℕ → Option ℕ → Bool → Option (List ℕ × Trailing)

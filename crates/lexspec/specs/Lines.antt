@@ -1,7 +1,8 @@
 -- Lines, blanks and words of a specification file. (POSIX, lex, Definitions in lex.)
-use Rattle.std.specs.Prelude.{ℕ, zero, suc, Bool, true, false, ◌&&◌, ◌||◌, ◌==◌, nat_eq, if◌then◌else◌, List, [], ◌∷◌, length, Option, Some, None, codes}
-use Rattle.std.specs.List.{starts_with}
-use Rattle.lexaction.specs.Reading.{◌>>=◌, Reader}
+use Rattle.std.specs.Prelude.{ℕ, zero, suc, ◌&&◌, ◌==◌, if◌then◌else◌, List, [], ◌∷◌, length, Option, Some, None, codes}
+use Rattle.lexmeaning.specs.ByteSets.{is_blank}
+use Rattle.lexmeaning.specs.Reading.{◌>>=◌, Reader, take_run, after_blanks, begins}
+use Rattle.lexspec.specs.Runs.{split_before}
 
 -- a carriage return directly before a newline is dropped
 abbrev pub without_returns : List ℕ → List ℕ
@@ -18,29 +19,13 @@ abbrev pub line_at : Reader (List ℕ)
 line_at [] = None
 line_at (c ∷ t) = Some (line_in (c ∷ t))
 
-abbrev pub is_blank : ℕ → Bool
-is_blank c = c == 32 || c == 9
-
 abbrev pub blanks : List ℕ → List ℕ × List ℕ
-blanks [] = ([], [])
-blanks (c ∷ t) = if is_blank c then (let (bs, rest) = blanks t in (c ∷ bs, rest)) else ([], c ∷ t)
+blanks t = take_run is_blank t
 
--- what follows the blanks at the front
-abbrev pub after_blanks : List ℕ → List ℕ
-after_blanks t = (blanks t).1
-
-abbrev pub is_empty : List ℕ → Bool
-is_empty [] = true
-is_empty (c ∷ t) = false
-
-abbrev pub begins : List ℕ → List ℕ → Bool
-begins word t = starts_with nat_eq t word
+abbrev pub before_blank : List ℕ → List ℕ × List ℕ
+before_blank t = split_before is_blank t
 
 -- words separated by blanks, at most n of them
-abbrev pub before_blank : List ℕ → List ℕ × List ℕ
-before_blank [] = ([], [])
-before_blank (c ∷ t) = if is_blank c then ([], c ∷ t) else (let (word, rest) = before_blank t in (c ∷ word, rest))
-
 unfoldable pub words_in : ℕ → List ℕ → List (List ℕ)
 words_in zero t = []
 words_in (suc n) t = elim (after_blanks t) [

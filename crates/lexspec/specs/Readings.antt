@@ -1,8 +1,9 @@
 -- What the reader of files makes of the parts of a file.
-use Rattle.std.specs.Prelude.{◌≡◌, ℕ, ◌+◌, ◌≤◌, ◌==◌, ◌||◌, Bool, not, List, map, length}
+use Rattle.std.specs.Prelude.{◌≡◌, ℕ, ◌+◌, ◌≤◌, Bool, not, List, map, length}
 use Rattle.std.specs.List.{list_any}
 use Rattle.lexmeaning.specs.Spec.{Spec}
-use Rattle.lexspec.specs.Lines.{line_in, is_blank}
+use Rattle.lexmeaning.specs.Reading.{is_white}
+use Rattle.lexspec.specs.Lines.{line_in}
 use Rattle.lexspec.specs.Items.{Item, AreItems}
 use Rattle.lexspec.specs.RuleItems.{EndRule, AreRules}
 use Rattle.lexspec.specs.RuleViews.{rule_of}
@@ -16,7 +17,7 @@ use Rattle.lexspec.specs.declared.section.Section.{Section}
 
 -- a byte that is neither a blank nor a newline
 abbrev pub has_text : List ℕ → Bool
-has_text t = list_any (λ c. not (is_blank c || c == 10)) t
+has_text t = list_any (λ c. not (is_white c)) t
 
 -- the specification of what the two sections declare and spell
 abbrev pub of_sections : Declarations → RulesSection → Spec

@@ -1,7 +1,7 @@
 -- What the reader of the rules section answers.
 use Rattle.std.specs.Prelude.{◌≡◌, ℕ, ◌≤◌, ◌-◌, true, Some, None, slice_get, List, [], map, length, codes, ◌⊎◌}
 use Rattle.lexmeaning.specs.Spec.{Rule}
-use Rattle.lexspec.specs.Lines.{begins}
+use Rattle.lexmeaning.specs.Reading.{begins}
 use Rattle.lexspec.specs.Items.{Item, AreItems}
 use Rattle.lexspec.specs.RuleItems.{EndRule, AreRules}
 use Rattle.lexspec.specs.RuleViews.{rule_of}

@@ -6,7 +6,7 @@ use Rattle.lexspec.specs.declared.definition.DefinitionFault.{DefinitionFault}
 use Rattle.lexspec.specs.declared.definition.DefinitionFault.TheVariants.{BadLine, Unclosed, Anchored}
 use Rattle.lexspec.specs.declared.error.SpecErrorKind.{SpecErrorKind}
 use Rattle.lexspec.specs.declared.error.SpecErrorKind.TheVariants as K
-use Rattle.lexspec.specs.Lines.{begins}
+use Rattle.lexmeaning.specs.Reading.{begins}
 use Rattle.lexspec.specs.DefinitionLines.{Definition, definition_at, IsUpTo}
 use Rattle.lexspec.specs.Items.{newlines}
 use Rattle.lexspec.specs.Declaring.{AreAllowed, Declares}

@@ -7,6 +7,7 @@ use Rattle.lexmeaning.specs.Spec.{Spec, Rule, Condition, Cut, Whole, Head, Trail
 use Rattle.lexmeaning.specs.Legal.{all_in_range, ends_last, are_joined, are_compatible}
 use Rattle.lexre.specs.Lengths.{least, greatest}
 use Rattle.lexaction.specs.Actions.{are_few}
+use Rattle.lexspec.specs.RuleItems.{is_number}
 
 -- some number below n passes
 unfoldable pub any_below : ℕ → (ℕ → Bool) → Bool
@@ -37,10 +38,6 @@ abbrev mutual
 abbrev pub sound_trail : Option Tree → Bool
 sound_trail None = true
 sound_trail (Some t) = sound_tree t
-
-abbrev pub is_number : Option ℕ → ℕ → Bool
-is_number None n = false
-is_number (Some m) n = m == n
 
 -- each word has n bytes
 abbrev pub has_length : Tree → ℕ → Bool

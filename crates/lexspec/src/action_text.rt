@@ -1,6 +1,6 @@
 //! Where the action of a rule ends. (POSIX, lex, Rules in lex.)
 ghost use Rattle.std.specs.Prelude.{◌≡◌, ◌+◌, ◌<◌, ◌≤◌, ◌^◌, ◌&&◌, ◌==◌, if◌then◌else◌, ℕ, List, [], ◌∷◌, Option, Some, None, option_map, length, drop, codes, IfSome};
-ghost use Rattle.lexspec.specs.Lines.{begins};
+ghost use Rattle.lexmeaning.specs.Reading.{begins};
 ghost use Rattle.lexspec.specs.DefinitionLines.{is_all_blank};
 ghost use Rattle.lexspec.specs.Items.{action_in, outside, slash};
 ghost use Rattle.lexspec.specs.ActionViews.{place_of, IsStep, MostOpen};

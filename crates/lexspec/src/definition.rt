@@ -1,12 +1,11 @@
 //! The lines of the definitions section. (POSIX, lex, Definitions in lex; flex, Format of the Input File.)
 ghost use Rattle.std.specs.Prelude.{◌≡◌, ◌<◌, ◌≤◌, ◌&&◌, ◌==◌, if◌then◌else◌, Bool, List, [], ◌∷◌, ℕ, Option, Some, None, length, option_map, IfOk, IfSome, OnErr, MatchOption, codes};
 ghost use Rattle.std.specs.List.{list_any};
-ghost use Rattle.lexaction.specs.Reading.{is_word};
-ghost use Rattle.lexspec.specs.Lines.{words, is_empty, begins};
-ghost use Rattle.lexspec.specs.DefinitionLines.{Definition as Meant, options, ignored, starts_name, goes_on_name, is_name, are_names, trimmed, ends_anchored, after_run, declaration, number, definition_in, percent_line, definition_at};
+ghost use Rattle.lexspec.specs.Lines.{words};
+ghost use Rattle.lexspec.specs.DefinitionLines.{Definition as Meant, options, ignored, is_name, are_names, trimmed, ends_anchored, declaration, number, definition_in, percent_line, definition_at};
 ghost use Rattle.lexspec.specs.DefinitionViews.{definition_of};
-ghost use Rattle.lexclass.specs.Lexical.{take_run};
-ghost use Rattle.lexmeaning.specs.ByteSets.{is_digit};
+ghost use Rattle.lexmeaning.specs.Reading.{take_run, is_empty, begins, starts_name, goes_on_name, after_run};
+ghost use Rattle.lexmeaning.specs.ByteSets.{is_digit, is_word};
 
 use crate::lines::{
     is_all_blank, is_blank, next_word, skip_blanks, skip_first, split_before, split_line,
@@ -120,7 +119,7 @@ fn ends_anchored(text: &[u8]) -> bool
 }
 
 /// The definition of a name, in a line.
-#[tactic(auto, unfolding(crate::specs::DefinitionLines::definition_in))]
+#[tactic(auto, unfolding(crate::specs::DefinitionLines::definition_in), using(crate::proofs::TextLaws::blank_front))]
 fn definition_in(line: &[u8]) -> Result<Definition<'_>, DefinitionFault<'_>>
     ensures found { IfOk result (λ d. ◌≡◌ {A = Option Meant} (definition_in line.now) (Some (definition_of d))) }
     ensures none { OnErr result (◌≡◌ {A = Option Meant} (definition_in line.now) None) }

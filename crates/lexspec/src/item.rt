@@ -4,7 +4,7 @@ ghost use Rattle.lexmeaning.specs.Tree.{Tree};
 ghost use Rattle.lexmeaning.specs.Shapes.{IsSoundTree};
 ghost use Rattle.lexre.specs.Views.{tree_of};
 ghost use Rattle.lexre.specs.Spelling.{Spells};
-ghost use Rattle.lexspec.specs.Lines.{after_blanks};
+ghost use Rattle.lexmeaning.specs.Reading.{after_blanks};
 ghost use Rattle.lexspec.specs.Items.{starts_rule, action_in, outside};
 ghost use Rattle.lexspec.specs.RuleItems.{IsTrail, IsCutOf};
 ghost use Rattle.lexspec.specs.RuleViews.{rule_of, cut_of};

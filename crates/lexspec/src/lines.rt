@@ -1,7 +1,9 @@
 //! Lines, blanks and words of a specification file. (POSIX, lex, Definitions in lex.)
 ghost use Rattle.std.specs.Prelude.{◌≡◌, ℕ, ◌<◌, ◌≤◌, ◌∷◌, [], ◌++◌, Bool, not, length, drop, take, map, IfOk, IfSome, MatchOption};
 ghost use Rattle.std.specs.List.{list_any};
-ghost use Rattle.lexspec.specs.Lines.{without_returns, line_in, is_blank, after_blanks, before_blank, words, after_block, after_comment};
+ghost use Rattle.lexmeaning.specs.Reading.{after_blanks};
+ghost use Rattle.lexmeaning.specs.ByteSets.{is_blank};
+ghost use Rattle.lexspec.specs.Lines.{without_returns, line_in, before_blank, words, after_block, after_comment};
 ghost use Rattle.lexspec.specs.Runs.{split_before};
 ghost use Rattle.lexspec.specs.DefinitionLines.{is_all_blank};
 
@@ -57,10 +59,11 @@ pub(crate) fn split_line(text: &[u8]) -> (&[u8], &[u8])
 }
 
 /// Whether the byte is a space or a tab.
+#[tactic(auto, unfolding(lexmeaning::specs::ByteSets::is_blank))]
 pub(crate) fn is_blank(byte: u8) -> bool
     ensures { result ≡ is_blank byte }
 {
-    byte == b' ' || byte == b'\t'
+    byte == b'\t' || byte == b' '
 }
 
 /// What follows the blanks at the front.

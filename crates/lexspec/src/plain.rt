@@ -1,6 +1,6 @@
 //! Lines of the rules section that are no rules. (POSIX, lex, Rules in lex; flex, Format of the Input File.)
 ghost use Rattle.std.specs.Prelude.{◌≡◌, ℕ, ◌<◌, List, true, false, length, codes, IfOk, IfSome, IfNone, OnErr};
-ghost use Rattle.lexspec.specs.Lines.{begins};
+ghost use Rattle.lexmeaning.specs.Reading.{begins};
 ghost use Rattle.lexspec.specs.Items.{Item, IsItem, starts_rule};
 ghost use Rattle.lexspec.specs.PlainViews.{item_of};
 

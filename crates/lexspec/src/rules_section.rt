@@ -1,6 +1,6 @@
 //! The rules section, item by item. (POSIX, lex, Rules in lex; flex, Format of the Input File.)
 ghost use Rattle.std.specs.Prelude.{◌≡◌, ℕ, ◌+◌, ◌-◌, ◌<◌, ◌≤◌, ◌^◌, List, [], false, length, take, codes, IfOk, IfErr, OnOk};
-ghost use Rattle.lexspec.specs.Lines.{begins};
+ghost use Rattle.lexmeaning.specs.Reading.{begins};
 ghost use Rattle.lexspec.specs.Items.{newlines};
 ghost use Rattle.lexspec.specs.ItemReads.{NoneLeft};
 ghost use Rattle.lexspec.specs.Agreeing.{Agrees};

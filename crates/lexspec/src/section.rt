@@ -1,6 +1,6 @@
 //! The definitions section. (POSIX, lex, Definitions in lex; flex, Format of the Input File.)
 ghost use Rattle.std.specs.Prelude.{◌≡◌, ℕ, ◌≤◌, ◌+◌, true, List, length, codes, IfOk, IfErr};
-ghost use Rattle.lexspec.specs.Lines.{begins};
+ghost use Rattle.lexmeaning.specs.Reading.{begins};
 ghost use Rattle.lexspec.specs.DefinitionLines.{Definition as Meant, definition_at, IsUpTo};
 ghost use Rattle.lexspec.specs.Items.{newlines};
 ghost use Rattle.lexspec.specs.Declaring.{AreAllowed, Declares};

@@ -1,10 +1,8 @@
-use Rattle.std.proofs.Common.{rules, arith, map, ◌≡◌, ◌≤◌, ◌+◌, ℕ, List, Option, length, ap, sym, ◌∙◌, refl}
+use Rattle.std.proofs.Common.{rules, arith, ◌≡◌, length, ap, sym, ◌∙◌}
 use Rattle.std.proofs.lemmas.Result.{err_from_is_err_and}
 use Rattle.lexaction.specs.Names.{number_from, names_of}
-use Rattle.lexaction.specs.Bytes.{skip}
-use Rattle.lexaction.specs.Views.{statement_of, said_of, piece_of}
-use Rattle.lexaction.proofs.ActionLemmas.{agree_first, agree_step, step_semicolon, step_opens, step_closes, step_says, refused_piece, refused_close, refused_open, found_at, piece_here}
-use Rattle.lexaction.proofs.CallLemmas.{unless_memory}
+use Rattle.lexaction.specs.Views.{said_of, piece_of}
+use Rattle.lexaction.proofs.ActionLemmas.{agree_first, agree_step, step_semicolon, step_opens, step_closes, step_says, refused_piece, refused_close, refused_open, piece_here}
 use Rattle.lexaction.proofs.action.read_statements.Goals as goal
 
 pub pieces-init : goal.pieces-init

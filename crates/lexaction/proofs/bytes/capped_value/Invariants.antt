@@ -1,5 +1,5 @@
 use Rattle.std.proofs.Common.{◌≡◌, min, take}
-use Rattle.lexaction.specs.Bytes.{value}
+use Rattle.lexmeaning.specs.Reading.{value}
 use Rattle.lexaction.proofs.bytes.capped_value.Given as goal
 
 abbrev pub invariant-loop-digit : goal.invariant-loop-digit

@@ -1,4 +1,4 @@
-use Rattle.std.proofs.Common.{rules, sym, arith}
+use Rattle.std.proofs.Common.{sym, arith}
 use Rattle.lexaction.proofs.ByteLemmas.{string_first, string_next, string_ends, string_stops, string_open}
 use Rattle.lexaction.proofs.bytes.string_at.Goals as goal
 

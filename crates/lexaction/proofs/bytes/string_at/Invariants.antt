@@ -1,5 +1,4 @@
-use Rattle.std.proofs.Common.{◌≡◌, ◌≤◌, ℕ, suc, length}
-use Rattle.lexaction.specs.Bytes.{string_at}
+use Rattle.std.proofs.Common.{◌≤◌, length}
 use Rattle.lexaction.proofs.ByteLemmas.{StringSo}
 use Rattle.lexaction.proofs.bytes.string_at.Given as goal
 

@@ -1,4 +1,4 @@
-use Rattle.std.proofs.Common.{◌≡◌, Option, Some, sym, ap, ◌∙◌}
+use Rattle.std.proofs.Common.{◌≡◌, Some, sym, ap, ◌∙◌}
 use Rattle.lexmeaning.specs.Spec.{EndAction}
 use Rattle.lexaction.specs.Actions.{end_of}
 use Rattle.lexaction.proofs.OneAction.{one_statements}

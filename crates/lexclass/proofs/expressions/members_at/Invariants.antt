@@ -1,7 +1,6 @@
 use Rattle.std.proofs.Common.{◌≡◌, ◌<◌, ◌≤◌, ◌^◌, suc, true, false, ℕ, List, Option, length}
-use Rattle.lexmeaning.specs.ByteSets.{ByteSet}
+use Rattle.lexmeaning.specs.ByteSets.{ByteSet, HasByte}
 use Rattle.lexclass.specs.ClassSets.{members_at}
-use Rattle.lexclass.specs.Members.{HasByte}
 use Rattle.lexclass.specs.Stops.{stop_of}
 use Rattle.lexclass.proofs.ClassLaws.{onto}
 use Rattle.lexclass.proofs.expressions.members_at.Given as goal

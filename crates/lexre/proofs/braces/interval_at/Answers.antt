@@ -1,4 +1,5 @@
 use Rattle.std.proofs.Common.{◌∙◌, sym, None}
+use Rattle.lexmeaning.proofs.ReadingLaws.{empty_test}
 use Rattle.lexclass.proofs.IntervalLaws.{exactly, at_least, at_least_too_many, no_comma, comma_unclosed, comma_no_digit, between}
 use Rattle.lexre.proofs.braces.interval_at.Goals as goal
 
@@ -43,7 +44,7 @@ returns-then-is_empty-clause-front c =
       new = c.in_ok-skip_word.field-0.now;
       comma = c.in_ok-skip_word.ensures;
       second = c.digits_at-2.ensures;
-    }) (sym c.is_empty.ensures ∙ c.if-is_empty.true)
+    }) (sym (empty_test _) ∙ sym c.is_empty.ensures ∙ c.if-is_empty.true)
 
 pub returns-in_err-counts-2-clause-front : goal.returns-in_err-counts-2-clause-front
 returns-in_err-counts-2-clause-front c =
@@ -55,7 +56,7 @@ returns-in_err-counts-2-clause-front c =
       comma = c.in_ok-skip_word.ensures;
       second = c.digits_at-2.ensures;
     })
-    c.capped_value-least.ensures c.capped_value.ensures (sym c.is_empty.ensures ∙ c.if-is_empty.false) c.in_ok-after.ensures (c.in_err-counts-2.ensures.front c.in_ok-after.after.now))
+    c.capped_value-least.ensures c.capped_value.ensures (sym (empty_test _) ∙ sym c.is_empty.ensures ∙ c.if-is_empty.false) c.in_ok-after.ensures (c.in_err-counts-2.ensures.front c.in_ok-after.after.now))
 
 pub returns-clause-front : goal.returns-clause-front
 returns-clause-front c =
@@ -67,4 +68,4 @@ returns-clause-front c =
       comma = c.in_ok-skip_word.ensures;
       second = c.digits_at-2.ensures;
     })
-    c.capped_value-least.ensures c.capped_value.ensures (sym c.is_empty.ensures ∙ c.if-is_empty.false) c.in_ok-after.ensures (c.in_ok-counts-2.ensures.front c.in_ok-after.after.now)
+    c.capped_value-least.ensures c.capped_value.ensures (sym (empty_test _) ∙ sym c.is_empty.ensures ∙ c.if-is_empty.false) c.in_ok-after.ensures (c.in_ok-counts-2.ensures.front c.in_ok-after.after.now)

@@ -1,8 +1,8 @@
 use Rattle.std.proofs.Common.{rules, not, ℕ, List, ap, sym, ◌∙◌}
 use Rattle.lexmeaning.specs.ByteSets.{is_digit}
-use Rattle.lexspec.specs.Lines.{is_empty}
+use Rattle.lexmeaning.specs.Reading.{is_empty}
+use Rattle.lexmeaning.proofs.ReadingLaws.{empty_test}
 use Rattle.lexspec.proofs.RunLaws.{run_split}
-use Rattle.lexspec.proofs.TextLaws.{empty_test}
 use Rattle.lexspec.proofs.definition.is_number.Goals as goal
 
 pub returns : goal.returns

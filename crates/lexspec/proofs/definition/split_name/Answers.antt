@@ -1,5 +1,5 @@
 use Rattle.std.proofs.Common.{rules, not}
-use Rattle.lexspec.specs.DefinitionLines.{goes_on_name}
+use Rattle.lexmeaning.specs.Reading.{goes_on_name}
 use Rattle.lexspec.proofs.RunLaws.{run_split}
 use Rattle.lexspec.proofs.definition.split_name.Goals as goal
 

@@ -1,5 +1,5 @@
 use Rattle.std.proofs.Common.{◌≡◌, ◌∙◌, suc, ◌+◌, ◌-◌, ◌<◌, false, take, get_or, sym, ap, rules, arith}
-use Rattle.lexspec.specs.Lines.{is_blank}
+use Rattle.lexmeaning.specs.ByteSets.{is_blank}
 use Rattle.lexspec.proofs.TextLaws.{IsTrimmedAt, trim_plain, trim_escaped, before}
 use Rattle.lexspec.proofs.definition.trimmed.Goals as goal
 use Rattle.lexspec.proofs.definition.trimmed.Goals.{then-loop-end-test+else-is_blank, else-loop-end-test, then-end-gt0+then-end-text+then-text-end-eq92, else-end-gt0, else-end-gt0-via-then-end-gt0+then-end-text+else-text-end-eq92, else-end-gt0-via-then-end-gt0+else-end-text, else-end-gt0-via-else-end-gt0}

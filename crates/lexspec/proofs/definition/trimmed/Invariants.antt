@@ -1,5 +1,5 @@
 use Rattle.std.proofs.Common.{◌≡◌, ℕ, ◌≤◌, ◌<◌, true, length, get_or}
-use Rattle.lexspec.specs.Lines.{is_blank}
+use Rattle.lexmeaning.specs.ByteSets.{is_blank}
 use Rattle.lexspec.proofs.definition.trimmed.Given as goal
 
 abbrev pub invariant-loop-end : goal.invariant-loop-end

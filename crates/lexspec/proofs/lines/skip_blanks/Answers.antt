@@ -1,5 +1,5 @@
 use Rattle.std.proofs.Common.{rules, List, ℕ, ap, sym, not}
-use Rattle.lexspec.specs.Lines.{is_blank}
+use Rattle.lexmeaning.specs.ByteSets.{is_blank}
 use Rattle.lexspec.proofs.RunLaws.{blanks_split}
 use Rattle.lexspec.proofs.lines.skip_blanks.Goals as goal
 

@@ -1,5 +1,5 @@
 use Rattle.std.proofs.Common.{rules}
-use Rattle.lexspec.specs.Lines.{is_blank}
+use Rattle.lexmeaning.specs.ByteSets.{is_blank}
 use Rattle.lexspec.proofs.RunLaws.{word_split}
 use Rattle.lexspec.proofs.lines.split_word.Goals as goal
 

@@ -1,0 +1,31 @@
+-- The escapes that patterns and the strings of actions have in common.
+-- (POSIX, lex, Regular Expressions in lex: Escape Sequences in lex; C's strings have them too.)
+use Rattle.std.specs.Prelude.{ℕ, Bool, ◌==◌, nat_lt, if◌then◌else◌, [], ◌∷◌, Some, None}
+use Rattle.lexmeaning.specs.ByteSets.{within, is_xdigit}
+use Rattle.lexmeaning.specs.Reading.{Reader, is_empty, take_up_to, value}
+
+-- `\a \b \f \n \r \t \v` are C's; another byte is itself
+unfoldable pub control : ℕ → ℕ
+control c =
+    if c == 97 then 7 else if c == 98 then 8 else if c == 102 then 12 else if c == 110 then 10
+    else if c == 114 then 13 else if c == 116 then 9 else if c == 118 then 11 else c
+
+abbrev pub is_octal : ℕ → Bool
+is_octal c = within 48 55 c
+
+-- one to three octal digits, as many as stand there, which write a byte
+unfoldable pub octal_at : Reader ℕ
+octal_at t =
+    let (digits, rest) = take_up_to 3 is_octal t in
+    if nat_lt (value 8 digits) 256 then Some (value 8 digits, rest) else None
+
+-- one or two hexadecimal digits, as many as stand there
+unfoldable pub hexadecimal_at : Reader ℕ
+hexadecimal_at t =
+    let (digits, rest) = take_up_to 2 is_xdigit t in
+    if is_empty digits then None else Some (value 16 digits, rest)
+
+-- an escape, by what follows its backslash, or any byte but a newline
+abbrev pub byte_with : Reader ℕ → Reader ℕ
+byte_with escape_at [] = None
+byte_with escape_at (c ∷ t) = if c == 10 then None else if c == 92 then escape_at t else Some (c, t)
