@@ -1,22 +1,23 @@
 -- The best match of the rules so far.
 use Rattle.std.proofs.Common.{◌≡◌, ℕ, ◌+◌, ◌≤◌, ◌<◌, Bool, true, List, [], ◌++◌, length, take, ◌⊎◌, inl, inr, Some, refl, sym, ◌∙◌, ap, subst, arith}
-use Rattle.std.specs.Prelude.{slice_get, ◌&&◌}
+use Rattle.std.specs.Prelude.{slice_get, ◌&&◌, ◌||◌, not}
 use Rattle.std.proofs.lemmas.List.{length-take-le, append-nil}
 use Rattle.std.proofs.lemmas.Bool.{cases_lt}
 use Rattle.std.proofs.lemmas.Option.{slice_get_within}
 use Rattle.lexmeaning.specs.Tree.{In}
-use Rattle.lexmeaning.specs.Spec.{Spec, Rule, Condition}
-use Rattle.lexmeaning.specs.Active.{active, is_inclusive}
+use Rattle.lexmeaning.specs.Spec.{Spec, Rule}
+use Rattle.lexmeaning.specs.Active.{active, is_inclusive, serves}
 use Rattle.lexmeaning.specs.Fits.{Fits, InTrail}
 use Rattle.lexmeaning.specs.Rules.{Full, rules_of}
 use Rattle.lexmeaning.specs.Candidates.{Candidate, Before, IsCandidate}
 use Rattle.lexmeaning.proofs.Ordered.{candidate_same}
-use Rattle.lexkit.specs.Simple.{IsSimpleRule, IsSimple}
+use Rattle.lexkit.specs.Simple.{IsScanned}
+use Rattle.lexkit.proofs.Rules.{IsBare, bare_at}
 use Rattle.lexkit.specs.Turns.{IsLongest, NoWord, IsBest}
 
-module _ (S : Spec) (simple : IsSimple S) (y : List ℕ) where
-  no_trail : (r : Rule) → IsSimpleRule r → (v : List ℕ) → InTrail r.trail v → v ≡ []
-  no_trail r is v h = subst (λ o. InTrail o v) (ap (λ (q : Rule). q.trail) is.simple) h
+module _ (S : Spec) (scanned : IsScanned S) (y : List ℕ) where
+  no_trail : (r : Rule) → IsBare r → (v : List ℕ) → InTrail r.trail v → v ≡ []
+  no_trail r is v h = subst (λ o. InTrail o v) is.alone h
 
   -- a match of a rule is all its text, and a word of the pattern
   pub of_rule : (bol : Bool) (m : Candidate) → IsCandidate (rules_of S) 0 bol y m → m.rule < length S.rules →
@@ -30,7 +31,7 @@ module _ (S : Spec) (simple : IsSimple S) (y : List ℕ) where
       from (inr f) = absurd (omega (arith, f.0))
       from (inl f) =
           let fit : Fits S 0 bol (take m.len y) m.rule m.keep = f.1 in
-          let none : fit.trail ≡ [] = no_trail fit.rule (simple.rules m.rule fit.rule fit.at) fit.trail fit.in_trail in
+          let none : fit.trail ≡ [] = no_trail fit.rule (bare_at S scanned m.rule fit.rule fit.at) fit.trail fit.in_trail in
           let whole : take m.len y ≡ fit.text = fit.splits ∙ ap (λ z. fit.text ++ z) none ∙ append-nil fit.text in
           let same : m.keep ≡ m.len = fit.length_is ∙ sym (ap length whole) ∙ size in
           let some : 1 ≤ m.keep = fit.not_empty in
@@ -62,26 +63,27 @@ module _ (S : Spec) (simple : IsSimple S) (y : List ℕ) where
       record {
         rule = r;
         at = at;
-        is_active = serves;
+        is_active = served;
         text = take n y;
         trail = [];
         splits = sym (append-nil (take n y));
         length_is = sym (length-take-le n y h.inside);
         not_empty = h.some;
         in_head = h.word;
-        in_trail = subst (λ o. InTrail o []) (sym (ap (λ (q : Rule). q.trail) (simple.rules i r at).simple)) refl;
+        in_trail = subst (λ o. InTrail o []) (sym (bare_at S scanned i r at).alone) refl;
       },
     );
   }
     where
       inclusive : is_inclusive (slice_get S.conditions 0) ≡ true
-      inclusive = ap (λ (cs : List Condition). is_inclusive (slice_get cs 0)) simple.one_condition
+      inclusive = scanned.inclusive
 
       both : (a : Bool) → a ≡ true → (a && true) ≡ true
       both a e = ap (λ z. z && true) e
 
-      serves : active S 0 bol r ≡ true
-      serves = subst (λ (q : Rule). active S 0 bol q ≡ true) (sym (simple.rules i r at).simple) (both (is_inclusive (slice_get S.conditions 0)) inclusive)
+      served : active S 0 bol r ≡ true
+      served = ap (λ o. serves o 0 (slice_get S.conditions 0) && (not r.anchored || bol)) (bare_at S scanned i r at).unlisted
+          ∙ ap (λ b. is_inclusive (slice_get S.conditions 0) && (not b || bol)) (bare_at S scanned i r at).anywhere ∙ both (is_inclusive (slice_get S.conditions 0)) inclusive
 
   -- a match that comes before each other one of the first i rules and the default rule
   pub record BestBefore (i : ℕ) (m : Candidate) : Type 0 where

@@ -1,8 +1,8 @@
 -- What an action writes, statement by statement.
 use Rattle.std.proofs.Common.{◌≡◌, ℕ, ◌+◌, ◌<◌, List, ◌∷◌, ◌++◌, length, map, drop, get_or, sym, ◌∙◌, ap}
 use Rattle.std.proofs.lemmas.List.{drop_more}
-use Rattle.lexkit.specs.declared.spec.Statement.{Statement as ReadStatement}
-use Rattle.lexkit.specs.Simple.{statement_of}
+use Rattle.lexaction.specs.declared.statement.Statement.{Statement as ReadStatement}
+use Rattle.lexaction.specs.Views.{statement_of}
 use Rattle.lexkit.specs.Turns.{piece_of, output_of}
 
 -- what is left to write begins with the next piece

@@ -1,20 +1,23 @@
--- The rules that were read, by number.
-use Rattle.std.proofs.Common.{◌≡◌, ℕ, zero, suc, ◌+◌, ◌≤◌, ◌<◌, true, false, List, [], ◌∷◌, length, map, get_or, Option, Some, None, IfSome, refl, ◌∙◌, ap, subst, arith}
-use Rattle.std.specs.Prelude.{slice_get, option_map}
+-- The rules of a specification, by number.
+use Rattle.std.proofs.Common.{◌≡◌, ℕ, zero, suc, ◌+◌, ◌≤◌, ◌<◌, Bool, true, false, List, [], ◌∷◌, length, map, get_or, Option, Some, None, IfSome, refl, sym, ◌∙◌, ap, subst, arith}
+use Rattle.std.specs.Prelude.{not, ◌&&◌, slice_get, option_map}
 use Rattle.std.specs.Option.{is_some}
-use Rattle.std.proofs.lemmas.Option.{slice_get-map, slice_get_read, slice_get_within}
-use Rattle.lexkit.specs.declared.spec.Rule.{Rule}
-use Rattle.lexkit.specs.Simple.{statement_of, rule_of, is_writing, IsSimpleRule, IsSimple, spec_of}
-use Rattle.lexkit.specs.declared.spec.Statement.{Statement}
-use Rattle.lexmeaning.specs.Spec as Spec
+use Rattle.std.specs.List.{list_all}
+use Rattle.std.proofs.lemmas.Bool.{and_parts}
+use Rattle.std.proofs.lemmas.List.{length-map}
+use Rattle.std.proofs.lemmas.Option.{slice_get-map, slice_get_read}
+use Rattle.lexmeaning.specs.Spec.{Spec, Statement, Whole}
+use Rattle.lexmeaning.specs.Spec as meaning
+use Rattle.lexspec.specs.declared.rule.Rule.{Rule}
+use Rattle.lexspec.specs.RuleViews.{rule_of}
+use Rattle.lexkit.specs.Simple.{is_writing, is_whole, is_simple_rule, unrun_line, IsScanned}
 use Rattle.lexkit.specs.Matches.{number_of}
 
-pub rule_at : (rules : List Rule) (i : ℕ) (q : Rule) → i < length rules → q ≡ get_or rules i q → slice_get (spec_of rules).rules i ≡ Some (rule_of q)
-rule_at rules i q lt is = slice_get-map rule_of rules i ∙ ap (option_map rule_of) (slice_get_read rules (length rules) i q refl lt is)
+pub rule_at : (S : Spec) (rules : List Rule) (i : ℕ) (q : Rule) → map rule_of rules ≡ S.rules → i < length rules → q ≡ get_or rules i q → slice_get S.rules i ≡ Some (rule_of q)
+rule_at S rules i q e lt is = ap (λ rs. slice_get rs i) (sym e) ∙ slice_get-map rule_of rules i ∙ ap (option_map rule_of) (slice_get_read rules (length rules) i q refl lt is)
 
-pub count_is : (rules : List Rule) → length (spec_of rules).rules ≡ length rules
-count_is [] = refl
-count_is (r ∷ rules) = ap suc (count_is rules)
+pub count_is : (S : Spec) (rules : List Rule) → map rule_of rules ≡ S.rules → length S.rules ≡ length rules
+count_is S rules e = ap length (sym e) ∙ length-map rules rule_of
 
 -- the number of a rule that was found, or of the default rule
 pub number_none : (count : ℕ) (o : Option ℕ) → is_some o ≡ false → count ≤ number_of count o
@@ -35,16 +38,57 @@ pub below_more : (i : ℕ) (o : Option ℕ) → IfSome o (λ k. k < i) → IfSom
 below_more i None h = tt
 below_more i (Some k) h = omega (arith, h)
 
-writes_all : (ss : List Statement) → is_writing (map statement_of ss) ≡ true
-writes_all [] = refl
-writes_all (Statement.Echo ∷ ss) = writes_all ss
-writes_all (Statement.Print s ∷ ss) = writes_all ss
+pub no_true : {A : Type 0} → false ≡ true → A
+no_true e = absurd (no e)
+  where
+    no : false ≡ true → ⊥
+    no p = cc
 
-each_simple : (rules : List Rule) (i : ℕ) (r : Spec.Rule) → slice_get (map rule_of rules) i ≡ Some r → IsSimpleRule r
-each_simple [] i r h = absurd (omega (arith, slice_get_within [] i r h))
-each_simple (q ∷ rules) zero r h = let e : rule_of q ≡ r = cc in subst IsSimpleRule e (record { simple = refl; writes = writes_all q.statements.items })
-each_simple (q ∷ rules) (suc i) r h = each_simple rules i r h
+-- a member of a list whose members all pass
+all_at : {A : Type 0} (test : A → Bool) (xs : List A) (i : ℕ) (x : A) → list_all test xs ≡ true → slice_get xs i ≡ Some x → test x ≡ true
+all_at {A = A} test [] i x h e = absurd (no e)
+  where
+    no : ◌≡◌ {A = Option A} None (Some x) → ⊥
+    no p = cc
+all_at test (y ∷ xs) zero x h e = let same : y ≡ x = cc in subst (λ z. test z ≡ true) same (and_parts (test y) (list_all test xs) h).0
+all_at test (y ∷ xs) (suc i) x h e = all_at test xs i x (and_parts (test y) (list_all test xs) h).1 e
 
--- the rules that were read are simple
-pub simple_of : (rules : List Rule) → IsSimple (spec_of rules)
-simple_of rules = record { one_condition = refl; rules = each_simple rules }
+none_is : {A : Type 0} (o : Option A) → not (is_some o) ≡ true → o ≡ None
+none_is None h = refl
+none_is (Some x) h = no_true h
+
+false_is : (b : Bool) → not b ≡ true → b ≡ false
+false_is false h = refl
+false_is true h = no_true h
+
+pub true_is : (b : Bool) → false ≡ not b → b ≡ true
+true_is true h = refl
+true_is false h = no_true h
+
+-- where all rules are simple, none has the line of a refusal
+pub none_unrun : (rs : List meaning.Rule) → list_all is_simple_rule rs ≡ true → unrun_line rs ≡ 0
+none_unrun [] h = refl
+none_unrun (r ∷ rs) h = let both = and_parts (is_simple_rule r) (list_all is_simple_rule rs) h in rw both.0 (none_unrun rs both.1)
+
+-- what a simple rule has not
+pub record IsBare (r : meaning.Rule) : Type 0 where
+  pub unlisted : r.conditions ≡ None
+  pub anywhere : r.anchored ≡ false
+  pub alone : r.trail ≡ None
+  pub writes : is_writing r.statements ≡ true
+
+pub bare : (r : meaning.Rule) → is_simple_rule r ≡ true → IsBare r
+bare r h =
+    let a = not (is_some r.conditions) in
+    let b = not r.anchored in
+    let c = not (is_some r.trail) in
+    let d = is_whole r.cut in
+    let e = is_writing r.statements in
+    let last = and_parts (a && b && c && d) e h in
+    let cut = and_parts (a && b && c) d last.0 in
+    let trail = and_parts (a && b) c cut.0 in
+    let both = and_parts a b trail.0 in
+    record { unlisted = none_is r.conditions both.0; anywhere = false_is r.anchored both.1; alone = none_is r.trail trail.1; writes = last.1 }
+
+pub bare_at : (S : Spec) → IsScanned S → (i : ℕ) (r : meaning.Rule) → slice_get S.rules i ≡ Some r → IsBare r
+bare_at S h i r at = bare r (all_at is_simple_rule S.rules i r h.simple.rules at)

@@ -16,7 +16,12 @@ use Rattle.lexmeaning.proofs.Table.{get_at}
 use Rattle.lexmeaning.specs.Text.{BeginsWith}
 use Rattle.lexmeaning.proofs.Written.{run_begins, part_begins}
 use Rattle.lextab.specs.Sink.{IsPrefixOf}
-use Rattle.lexkit.specs.Simple.{is_writing, IsSimple}
+use Rattle.std.specs.List.{list_all}
+use Rattle.std.specs.Prelude.{nat_eq}
+use Rattle.std.proofs.lemmas.Bool.{and_parts, eqb-true}
+use Rattle.std.proofs.lemmas.List.{nil_from_length}
+use Rattle.lexkit.specs.Simple.{is_writing, ends_plainly, IsScanned}
+use Rattle.lexkit.proofs.Rules.{bare_at}
 use Rattle.lexkit.specs.Turns.{IsBest, output_of, MatchDone}
 use Rattle.lexkit.proofs.Reaching.{part_none}
 use Rattle.lexkit.proofs.Best.{keeps_all}
@@ -48,14 +53,22 @@ unfolding perform
 performed_first R kept y m ms c h =
     ap (λ w. settle w (λ a. perform R kept y ms a.written a.condition)) (act_writing (statements_of R m.rule) (record { text = kept ++ take m.keep y; written = []; condition = c; more = false }) h)
 
-module _ (S : Spec) (simple : IsSimple S) where
+-- the first condition ends plainly, if each does
+end_plain : (cs : List Condition) → list_all ends_plainly cs ≡ true → ((end_at (slice_get cs 0)).print ≡ []) × ((end_at (slice_get cs 0)).status ≡ 0)
+end_plain [] h = (refl, refl)
+end_plain (c ∷ cs) h =
+    let here = (and_parts (ends_plainly c) (list_all ends_plainly cs) h).0 in
+    let both = and_parts (nat_eq (length c.end.print) 0) (nat_eq c.end.status 0) here in
+    (nil_from_length c.end.print (eqb-true (length c.end.print) 0 both.0), eqb-true c.end.status 0 both.1)
+
+module _ (S : Spec) (scanned : IsScanned S) where
   all_writing : (i : ℕ) → is_writing (statements_of (rules_of S) i) ≡ true
   all_writing i = from (cases_lt i (length S.rules))
     where
       from : (i < length S.rules) ⊎ (length S.rules ≤ i) → is_writing (statements_of (rules_of S) i) ≡ true
       from (inl lt) =
           let r = get_at S.rules i lt in
-          ap is_writing (cond-true (nat_lt i (length S.rules)) (statements_at (slice_get S.rules i)) (Echo ∷ []) (lt-ltb i (length S.rules) lt) ∙ ap statements_at r.1) ∙ (simple.rules i r.0 r.1).writes
+          ap is_writing (cond-true (nat_lt i (length S.rules)) (statements_at (slice_get S.rules i)) (Echo ∷ []) (lt-ltb i (length S.rules) lt) ∙ ap statements_at r.1) ∙ (bare_at S scanned i r.0 r.1).writes
       from (inr le) = ap is_writing (cond-false (nat_lt i (length S.rules)) (statements_at (slice_get S.rules i)) (Echo ∷ []) (le-ltb i (length S.rules) le))
 
   -- the matches at a place
@@ -63,7 +76,7 @@ module _ (S : Spec) (simple : IsSimple S) where
   listed bol y = let given = ordered_exists (matches_of_rules S 0 bol S.rules 0 y ++ default_match (length S.rules) y) agree in (given.0, candidates_are S 0 bol y given.0 given.1)
     where
       agree : (m n : Candidate) → Among (matches_of_rules S 0 bol S.rules 0 y ++ default_match (length S.rules) y) m → Among (matches_of_rules S 0 bol S.rules 0 y ++ default_match (length S.rules) y) n → Agree m n
-      agree m n a b len rule = (keeps_all S simple y bol m ((listed_are S 0 bol y m).0 a)).0 ∙ len ∙ sym (keeps_all S simple y bol n ((listed_are S 0 bol y n).0 b)).0
+      agree m n a b len rule = (keeps_all S scanned y bol m ((listed_are S 0 bol y m).0 a)).0 ∙ len ∙ sym (keeps_all S scanned y bol n ((listed_are S 0 bol y n).0 b)).0
 
   not_both : (m n : Candidate) → Before m n → Before n m → ⊥
   not_both m n h k = omega arith
@@ -81,7 +94,7 @@ module _ (S : Spec) (simple : IsSimple S) where
   done_bounds : (y : List ℕ) (n : ℕ) (out : List ℕ) → MatchDone (rules_of S) y n out → (1 ≤ n) × (n ≤ length y)
   done_bounds y n out h =
       let c = h.best.candidate true in
-      let k = keeps_all S simple y true h.taken c in
+      let k = keeps_all S scanned y true h.taken c in
       (omega (arith, h.length_is, k.0, k.1), omega (arith, h.length_is, k.0, c.inside))
 
   match_turn : (x : List ℕ) (at n : ℕ) (out : List ℕ) → at < length x → MatchDone (rules_of S) (drop at x) n out →
@@ -147,8 +160,8 @@ module _ (S : Spec) (simple : IsSimple S) where
       turns,
       (record { written = (end_at (slice_get S.conditions 0)).print; place = record { start = at; at = at; condition = 0 }; ended = Some (Status (end_at (slice_get S.conditions 0)).status) }, inr (record { at_end = end; leaves = refl }), refl),
     );
-    writes = ap (λ (cs : List Condition). out ++ (end_at (slice_get cs 0)).print) simple.one_condition ∙ append-nil out;
-    ends = ap (λ (cs : List Condition). Some (Status (end_at (slice_get cs 0)).status)) simple.one_condition;
+    writes = ap (λ z. out ++ z) (end_plain S.conditions scanned.simple.ends).0 ∙ append-nil out;
+    ends = ap (λ z. Some (Status z)) (end_plain S.conditions scanned.simple.ends).1;
   }
 
   -- what was written before a fault is a front of what the run writes

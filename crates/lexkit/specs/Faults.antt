@@ -6,9 +6,9 @@ use Rattle.lexkit.specs.declared.args.ArgsError.{ArgsError}
 use Rattle.lexkit.specs.declared.args.ArgsError.TheVariants as args
 use Rattle.lexclass.specs.declared.error.PatternErrorKind.{PatternErrorKind}
 use Rattle.lexclass.specs.declared.error.PatternErrorKind.TheVariants as patterns
-use Rattle.lexkit.specs.declared.errors.SpecErrorKind.{SpecErrorKind}
-use Rattle.lexkit.specs.declared.errors.SpecErrorKind.TheVariants as kinds
-use Rattle.lexkit.specs.declared.errors.SpecError.{SpecError}
+use Rattle.lexspec.specs.declared.error.SpecErrorKind.{SpecErrorKind}
+use Rattle.lexspec.specs.declared.error.SpecErrorKind.TheVariants as kinds
+use Rattle.lexspec.specs.declared.error.SpecError.{SpecError}
 use Rattle.lexkit.specs.declared.errors.GenError.{GenError}
 use Rattle.lexkit.specs.declared.errors.GenError.TheVariants as gens
 use Rattle.lexkit.specs.declared.errors.RunError.{RunError}
@@ -50,9 +50,27 @@ pattern_name patterns.OutOfMemory = codes "OutOfMemory"
 abbrev pub kind_name : SpecErrorKind → List ℕ
 kind_name kinds.NoRulesSection = codes "NoRulesSection"
 kind_name kinds.BadDefinitionLine = codes "BadDefinitionLine"
+kind_name kinds.DuplicateName = codes "DuplicateName"
+kind_name kinds.DuplicateCondition = codes "DuplicateCondition"
+kind_name kinds.UnknownCondition = codes "UnknownCondition"
 kind_name (kinds.Pattern e) = pattern_name e.kind
+kind_name kinds.VariableTrailing = codes "VariableTrailing"
+kind_name kinds.TwoTrailing = codes "TwoTrailing"
+kind_name kinds.AnchoredDefinition = codes "AnchoredDefinition"
+kind_name kinds.BadEofRule = codes "BadEofRule"
+kind_name kinds.DuplicateEof = codes "DuplicateEof"
 kind_name kinds.UnknownStatement = codes "UnknownStatement"
+kind_name kinds.LessAndMore = codes "LessAndMore"
+kind_name kinds.RejectCombination = codes "RejectCombination"
+kind_name kinds.NotLast = codes "NotLast"
+kind_name kinds.BadEofAction = codes "BadEofAction"
+kind_name kinds.BadCount = codes "BadCount"
+kind_name kinds.BadStatus = codes "BadStatus"
+kind_name kinds.Unclosed = codes "Unclosed"
+kind_name kinds.DanglingBar = codes "DanglingBar"
+kind_name kinds.UnsupportedOption = codes "UnsupportedOption"
 kind_name kinds.TooManyRules = codes "TooManyRules"
+kind_name kinds.TooManyConditions = codes "TooManyConditions"
 kind_name kinds.TooLong = codes "TooLong"
 kind_name kinds.OutOfMemory = codes "OutOfMemory"
 

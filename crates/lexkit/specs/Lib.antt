@@ -1,7 +1,5 @@
-pub mod ActionViews
 pub mod Args
 pub mod Faults
-pub mod FileViews
 pub mod InputViews
 pub mod Joined
 pub mod Matches
@@ -11,5 +9,4 @@ pub mod Refusal
 pub mod ScanAnswers
 pub mod ScanCounts
 pub mod Simple
-pub mod Spelling
 pub mod Turns

@@ -1,20 +1,12 @@
--- Specifications of one condition whose rules have a pattern and an action alone, and what a rule that was read stands for.
--- (POSIX, lex, Rules in lex and Actions in lex.)
-use Rattle.std.specs.Prelude.{◌≡◌, ℕ, Bool, true, false, List, [], ◌∷◌, map, codes, Some, None, slice_get}
-use Rattle.lexmeaning.specs.Tree.{Tree}
-use Rattle.lexmeaning.specs.Spec.{Spec, Rule, Condition, Whole, Statement, Echo, Print}
-use Rattle.lexre.specs.Views.{tree_of}
-use Rattle.lexkit.specs.declared.spec.Rule.{Rule as ReadRule}
-use Rattle.lexkit.specs.declared.spec.Statement.{Statement as ReadStatement}
-
--- the condition in which a scan begins; at the end of the input it writes nothing, and the status is 0
-abbrev pub initial : Condition
-initial = record { name = codes "INITIAL"; exclusive = false; end = record { print = []; status = 0 } }
-
--- a rule without a condition list, an anchor or trailing context
-abbrev pub simple_rule : ℕ → Tree → List Statement → Rule
-simple_rule line head statements =
-    record { line = line; conditions = None; anchored = false; head = head; trail = None; cut = Whole; statements = statements }
+-- The specifications that are run so far: a scan of one stays in its first condition. (POSIX, lex, Rules in lex and Actions
+-- in lex. That no others are run yet is this project's.)
+use Rattle.std.specs.Prelude.{◌≡◌, ℕ, Bool, true, false, not, ◌&&◌, ◌==◌, if◌then◌else◌, List, [], ◌∷◌, length, slice_get}
+use Rattle.std.specs.Option.{is_some}
+use Rattle.std.specs.List.{list_all}
+use Rattle.lexspec.specs.declared.error.SpecError.{SpecError}
+use Rattle.lexspec.specs.declared.error.SpecErrorKind.TheVariants.{UnsupportedOption}
+use Rattle.lexmeaning.specs.Active.{is_inclusive}
+use Rattle.lexmeaning.specs.Spec.{Spec, Rule, Condition, Cut, Whole, Head, Trail, Statement, Echo, Print}
 
 -- ECHO and literals
 abbrev pub is_writing : List Statement → Bool
@@ -23,22 +15,35 @@ is_writing (Echo ∷ ss) = is_writing ss
 is_writing (Print s ∷ ss) = is_writing ss
 is_writing (s ∷ ss) = false
 
-pub record IsSimpleRule (r : Rule) : Type 0 where
-  pub simple : r ≡ simple_rule r.line r.head r.statements
-  pub writes : is_writing r.statements ≡ true
+abbrev pub is_whole : Cut → Bool
+is_whole Whole = true
+is_whole (Head m) = false
+is_whole (Trail n) = false
+
+-- a rule without a condition list, `^` or trailing context, whose action is of ECHO and literals
+abbrev pub is_simple_rule : Rule → Bool
+is_simple_rule r = not (is_some r.conditions) && not r.anchored && not (is_some r.trail) && is_whole r.cut && is_writing r.statements
+
+-- the line of the first rule that is not simple, or 0 where all are
+abbrev pub unrun_line : List Rule → ℕ
+unrun_line [] = 0
+unrun_line (r ∷ rs) = if is_simple_rule r then unrun_line rs else r.line
+
+-- at the end of the input nothing is written, and the status is 0
+abbrev pub ends_plainly : Condition → Bool
+ends_plainly c = (length c.end.print == 0) && (c.end.status == 0)
 
 pub record IsSimple (S : Spec) : Type 0 where
-  pub one_condition : S.conditions ≡ initial ∷ []
-  pub rules : (i : ℕ) (r : Rule) → slice_get S.rules i ≡ Some r → IsSimpleRule r
+  pub rules : list_all is_simple_rule S.rules ≡ true
+  pub ends : list_all ends_plainly S.conditions ≡ true
 
--- what was read, as data
+-- what is told of a specification that is not run yet
+pub record IsUnrun (S : Spec) (e : SpecError) : Type 0 where
+  pub unrun : IsSimple S → ⊥
+  pub kind : e.kind ≡ UnsupportedOption
+  pub line : e.line ≡ unrun_line S.rules
 
-abbrev pub statement_of : ReadStatement → Statement
-statement_of ReadStatement.Echo = Echo
-statement_of (ReadStatement.Print s) = Print s.items
-
-abbrev pub rule_of : ReadRule → Rule
-rule_of r = simple_rule r.line (tree_of r.head) (map statement_of r.statements.items)
-
-abbrev pub spec_of : List ReadRule → Spec
-spec_of rules = record { conditions = initial ∷ []; rules = map rule_of rules }
+-- such a specification, of which the first condition is inclusive, as INITIAL is
+pub record IsScanned (S : Spec) : Type 0 where
+  pub simple : IsSimple S
+  pub inclusive : is_inclusive (slice_get S.conditions 0) ≡ true

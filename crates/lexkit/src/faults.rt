@@ -5,9 +5,10 @@ ghost use Rattle.lexkit.specs.Joined.{joined};
 ghost use Rattle.lexkit.specs.Faults.{line_of, fault_words, scan_words, gen_words, spec_words, lacks_memory, pattern_name, kind_name, run_words, args_words};
 
 use crate::args::ArgsError;
-use crate::errors::{GenError, RunError, ScanError, SpecError, SpecErrorKind};
+use crate::errors::{GenError, RunError, ScanError};
 use itoa::Buffer;
 use lexre::{PatternError, PatternErrorKind};
+use lexspec::{SpecError, SpecErrorKind};
 use lextab::{Sink, WriteFault};
 
 /// What ended the program before its work was done.
@@ -145,9 +146,27 @@ fn kind_text(kind: SpecErrorKind) -> &'static str
     match kind {
         SpecErrorKind::NoRulesSection => "NoRulesSection",
         SpecErrorKind::BadDefinitionLine => "BadDefinitionLine",
+        SpecErrorKind::DuplicateName => "DuplicateName",
+        SpecErrorKind::DuplicateCondition => "DuplicateCondition",
+        SpecErrorKind::UnknownCondition => "UnknownCondition",
         SpecErrorKind::Pattern(error) => pattern_text(error.kind),
+        SpecErrorKind::VariableTrailing => "VariableTrailing",
+        SpecErrorKind::TwoTrailing => "TwoTrailing",
+        SpecErrorKind::AnchoredDefinition => "AnchoredDefinition",
+        SpecErrorKind::BadEofRule => "BadEofRule",
+        SpecErrorKind::DuplicateEof => "DuplicateEof",
         SpecErrorKind::UnknownStatement => "UnknownStatement",
+        SpecErrorKind::LessAndMore => "LessAndMore",
+        SpecErrorKind::RejectCombination => "RejectCombination",
+        SpecErrorKind::NotLast => "NotLast",
+        SpecErrorKind::BadEofAction => "BadEofAction",
+        SpecErrorKind::BadCount => "BadCount",
+        SpecErrorKind::BadStatus => "BadStatus",
+        SpecErrorKind::Unclosed => "Unclosed",
+        SpecErrorKind::DanglingBar => "DanglingBar",
+        SpecErrorKind::UnsupportedOption => "UnsupportedOption",
         SpecErrorKind::TooManyRules => "TooManyRules",
+        SpecErrorKind::TooManyConditions => "TooManyConditions",
         SpecErrorKind::TooLong => "TooLong",
         SpecErrorKind::OutOfMemory => "OutOfMemory",
     }

@@ -4,14 +4,16 @@ ghost use Rattle.lexmeaning.specs.Tree.{In};
 ghost use Rattle.lexmeaning.specs.Rules.{rules_of};
 ghost use Rattle.lexre.specs.Views.{tree_of};
 ghost use Rattle.lextab.specs.Sink.{Appended, fault_count};
-ghost use Rattle.lexkit.specs.Simple.{statement_of, spec_of};
+ghost use Rattle.lexaction.specs.Views.{statement_of};
+ghost use Rattle.lexspec.specs.Views.{spec_of};
+ghost use Rattle.lexkit.specs.Simple.{IsScanned};
 ghost use Rattle.lexkit.specs.Turns.{IsLongest, NoWord, IsBest, piece_of, output_of, TurnTold, ScanTold, run_write_faults, IsScanFault};
 ghost use Rattle.lexkit.specs.Matches.{candidate_of, match_output};
 
 use crate::errors::RunError;
 use crate::matching::ends_of;
-use crate::spec::{Rule, Statement};
 use lexre::Pattern;
+use lexspec::{Spec, Statement};
 use lextab::{Sink, WriteFault};
 use std::alloc::{AllocError, Global};
 
@@ -36,13 +38,14 @@ struct Match {
 }
 
 /// The match at the front of the text that is taken: the longest, and of these the first in the file.
-fn best_match(alloc: Global, rules: &[Rule], text: &[u8]) -> Result<Match, AllocError>
+fn best_match(alloc: Global, spec: &Spec, text: &[u8]) -> Result<Match, AllocError>
+    requires scanned { IsScanned (spec_of spec.now) }
     requires some { 1 ≤ length text.now }
-    ensures best { IfOk result (λ m. IsBest (rules_of (spec_of rules.now)) text.now (candidate_of rules.now m)) }
-    ensures number { IfOk result (λ m. IfSome m.rule (λ i. i < length rules.now)) }
+    ensures best { IfOk result (λ m. IsBest (rules_of (spec_of spec.now)) text.now (candidate_of (spec_of spec.now) m)) }
+    ensures number { IfOk result (λ m. IfSome m.rule (λ i. i < length (spec_of spec.now).rules)) }
 {
     let mut best = Match { len: 1, rule: None };
-    for (i, rule) in rules.iter().enumerate() {
+    for (i, rule) in spec.rules().iter().enumerate() {
         if let Some(len) = longest_word(alloc, &rule.head, text)? {
             if best.len < len || best.rule.is_none() {
                 best = Match { len, rule: Some(i) };
@@ -52,13 +55,14 @@ fn best_match(alloc: Global, rules: &[Rule], text: &[u8]) -> Result<Match, Alloc
     Ok(best)
 }
 
-/// What a statement writes.
+/// What a statement writes: ECHO the text, a literal itself, and others nothing.
 fn piece<'a>(statement: &'a Statement, text: &'a [u8]) -> &'a [u8]
     ensures { result.now ≡ piece_of text.now (statement_of statement.now) }
 {
     match statement {
         Statement::Echo => text,
         Statement::Print(literal) => literal,
+        _ => b"",
     }
 }
 
@@ -78,40 +82,36 @@ fn perform<K: Sink>(statements: &[Statement], text: &[u8], sink: &mut K) -> Resu
 
 /// Writes what the action of a match writes.
 fn write_match<K: Sink>(
-    rules: &[Rule],
+    spec: &Spec,
     found: Match,
     text: &[u8],
     sink: &mut K,
 ) -> Result<(), WriteFault>
     requires inside { found.len ≤ length text.now }
-    requires number { IfSome found.rule (λ i. i < length rules.now) }
+    requires number { IfSome found.rule (λ i. i < length (spec_of spec.now).rules) }
     requires few_faults { K.failures sink.old < 2 ^ 64 - 1 }
-    ensures bytes { Appended (λ xs. K.wrote sink.old xs sink.new) (match_output rules.now found text.now) result }
+    ensures bytes { Appended (λ xs. K.wrote sink.old xs sink.new) (match_output (spec_of spec.now) found text.now) result }
     ensures failures { K.failures sink.new ≡ K.failures sink.old + fault_count result }
 {
     let word = &text[..found.len];
     match found.rule {
         None => sink.put(word),
-        Some(i) => perform(&rules[i].statements, word, sink),
+        Some(i) => perform(&spec.rules()[i].statements, word, sink),
     }
 }
 
 /// Carries out the match at the front of the text, and answers its length.
-fn turn<K: Sink>(
-    alloc: Global,
-    rules: &[Rule],
-    text: &[u8],
-    sink: &mut K,
-) -> Result<usize, RunError>
+fn turn<K: Sink>(alloc: Global, spec: &Spec, text: &[u8], sink: &mut K) -> Result<usize, RunError>
+    requires scanned { IsScanned (spec_of spec.now) }
     requires some { 1 ≤ length text.now }
     requires few_faults { K.failures sink.old < 2 ^ 64 - 1 }
-    ensures told { (out : List ℕ) × K.wrote sink.old out sink.new × TurnTold (spec_of rules.now) text.now out result }
+    ensures told { (out : List ℕ) × K.wrote sink.old out sink.new × TurnTold (spec_of spec.now) text.now out result }
     ensures failures { K.failures sink.new ≡ K.failures sink.old + run_write_faults result }
     ensures kind { IfErr result IsScanFault }
 {
-    match best_match(alloc, rules, text) {
+    match best_match(alloc, spec, text) {
         Err(_) => Err(RunError::OutOfMemory),
-        Ok(found) => match write_match(rules, found, text, sink) {
+        Ok(found) => match write_match(spec, found, text, sink) {
             Err(_) => Err(RunError::Write),
             Ok(()) => Ok(found.len),
         },
@@ -121,18 +121,19 @@ fn turn<K: Sink>(
 /// Scans the whole input: one match after another, to its end.
 pub(crate) fn scan_text<K: Sink>(
     alloc: Global,
-    rules: &[Rule],
+    spec: &Spec,
     text: &[u8],
     sink: &mut K,
 ) -> Result<(), RunError>
+    requires scanned { IsScanned (spec_of spec.now) }
     requires few_faults { K.failures sink.old < 2 ^ 64 - 1 }
-    ensures told { (out : List ℕ) × K.wrote sink.old out sink.new × ScanTold (spec_of rules.now) text.now out result }
+    ensures told { (out : List ℕ) × K.wrote sink.old out sink.new × ScanTold (spec_of spec.now) text.now out result }
     ensures failures { K.failures sink.new ≡ K.failures sink.old + run_write_faults result }
     ensures kind { IfErr result IsScanFault }
 {
     let mut at = 0;
     while at < text.len() {
-        match turn(alloc, rules, &text[at..], sink) {
+        match turn(alloc, spec, &text[at..], sink) {
             Err(stop) => return Err(stop),
             Ok(len) => at += len,
         }

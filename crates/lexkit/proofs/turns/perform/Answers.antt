@@ -1,5 +1,5 @@
 use Rattle.std.proofs.Common.{◌+◌, ◌++◌, sym, ap, ◌∙◌, append_assoc, arith, map, drop}
-use Rattle.lexkit.specs.Simple.{statement_of}
+use Rattle.lexaction.specs.Views.{statement_of}
 use Rattle.lexkit.specs.Turns.{output_of}
 use Rattle.lexkit.proofs.Lines.{longer}
 use Rattle.lexkit.proofs.Pieces.{next_piece}

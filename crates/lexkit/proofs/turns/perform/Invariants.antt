@@ -1,5 +1,5 @@
 use Rattle.std.proofs.Common.{◌≡◌, ℕ, List, ◌++◌, map, drop}
-use Rattle.lexkit.specs.Simple.{statement_of}
+use Rattle.lexaction.specs.Views.{statement_of}
 use Rattle.lexkit.specs.Turns.{output_of}
 use Rattle.lexkit.proofs.turns.perform.Given as goal
 

@@ -1,4 +1,5 @@
 use Rattle.std.proofs.Common.{true, inr, refl}
+use Rattle.lexspec.specs.Views.{spec_of}
 use Rattle.lexkit.specs.Matches.{candidate_of, match_output}
 use Rattle.lexkit.proofs.turns.turn.Goals as goal
 
@@ -8,4 +9,4 @@ write_match-requires-clause-inside g c = (c.in-Ok.ensures.best.candidate true).i
 pub returns-in-Err-write_match-clause-told : goal.returns-in-Err-write_match-clause-told
 returns-in-Err-write_match-clause-told g c =
     let some = c.in-Err-write_match.ensures.bytes in
-    (some.0, some.2, inr (c.in-Ok.found.len, match_output c.args.rules.now c.in-Ok.found c.args.text.now, record { taken = candidate_of c.args.rules.now c.in-Ok.found; best = c.in-Ok.ensures.best; length_is = refl; writes = refl }, some.1))
+    (some.0, some.2, inr (c.in-Ok.found.len, match_output (spec_of c.args.spec.now) c.in-Ok.found c.args.text.now, record { taken = candidate_of (spec_of c.args.spec.now) c.in-Ok.found; best = c.in-Ok.ensures.best; length_is = refl; writes = refl }, some.1))
