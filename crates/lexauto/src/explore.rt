@@ -1,7 +1,7 @@
 //! A work list over keys: all that are reached from some roots, each once, with their moves.
-ghost use Rattle.std.specs.Prelude.{◌≡◌, ℕ, ◌≤◌, List, length, IfOk, OnOk, IsErrOf};
+ghost use Rattle.std.specs.Prelude.{◌≡◌, ℕ, ◌<◌, ◌≤◌, List, length, slice_index, IfOk, OnOk, IsErrOf};
 ghost use Rattle.lexauto.specs.declared.explore.ExploreError.TheVariants.{Memory};
-ghost use Rattle.lexauto.specs.Explored.{IsAutomaton, MoreThan, Reached, step_by};
+ghost use Rattle.lexauto.specs.Explored.{GoOn, IsAutomaton, MoreThan, Reached, step_by};
 ghost use Rattle.lexauto.specs.Keys.{At, Absent, Found, Finds, look, keys_in};
 
 use std::alloc::{AllocError, AllocFailed, Global};
@@ -76,13 +76,46 @@ pub(crate) trait Moves {
     /// The key that one byte makes of what follows.
     fn reading(&self, alloc: Global, followers: &[u32], byte: u8) -> Result<Vec<u32>, AllocError>
         ensures { IfOk result (λ k. k.items ≡ read self.now followers.now byte) };
+
+    /// The first byte that is read as this one is, whatever follows.
+    fn twin(&self, byte: u8) -> u8
+        ensures first { result ≤ byte }
+        ensures same { (k : List ℕ) → read self.now k result ≡ read self.now k byte };
 }
 
-/// The keys that are reached, and 256 moves for each.
+/// The place of the key that a byte makes of what follows; of a byte that is read as an earlier one, from the row so far.
+fn target<M: Moves>(
+    alloc: Global,
+    moves: &M,
+    table: &mut Interner,
+    followers: &[u32],
+    row: &[u32],
+    byte: u8,
+    limit: u32,
+) -> Result<u32, ExploreError>
+    requires finds { Finds (look table.old.places) (keys_in table.old.keys.items) }
+    requires len { length row.now ≡ byte }
+    requires row { (b : ℕ) → b < byte → At (keys_in table.old.keys.items) (slice_index row.now b) (M.read moves.now followers.now b) }
+    ensures finds { OnOk result (Finds (look table.new.places) (keys_in table.new.keys.items)) }
+    ensures place { IfOk result (λ i. At (keys_in table.new.keys.items) i (M.read moves.now followers.now byte)) }
+    ensures found { OnOk result (Found (keys_in table.old.keys.items) (M.read moves.now followers.now byte) (keys_in table.new.keys.items)) }
+    ensures room { OnOk result (length table.old.keys.items ≤ limit → length table.new.keys.items ≤ limit) }
+    ensures full { IsErrOf result ExploreError.TooMany → Absent (keys_in table.old.keys.items) (M.read moves.now followers.now byte) × (limit ≤ length table.old.keys.items) }
+{
+    let twin = moves.twin(byte);
+    if twin < byte {
+        return Ok(row[twin as usize]);
+    }
+    let key = moves.reading(alloc, followers, byte)?;
+    intern(alloc, table, key, limit)
+}
+
+/// The keys that are reached, 256 moves for each, and whether something follows it.
 #[derive(Drop)]
 pub(crate) struct Explored {
     pub keys: Vec<Vec<u32>>,
     pub next: Vec<u32>,
+    pub goes_on: Vec<bool>,
 }
 
 /// All that is reached from the roots, which stand in the table. It is refused only where there are more keys than the
@@ -97,23 +130,27 @@ pub(crate) fn explore<M: Moves>(
     requires room { length roots.keys.items ≤ limit }
     ensures ok { IfOk result (λ t. IsAutomaton (step_by (M.follow moves.now) (M.read moves.now)) (keys_in roots.keys.items) (keys_in t.keys.items) t.next.items) }
     ensures room { IfOk result (λ t. length t.keys.items ≤ limit) }
+    ensures goes_on { IfOk result (λ t. GoOn (M.follow moves.now) (keys_in t.keys.items) t.goes_on.items) }
     ensures too_many { IsErrOf result ExploreError.TooMany → MoreThan limit (Reached (step_by (M.follow moves.now) (M.read moves.now)) (keys_in roots.keys.items)) }
 {
     let mut table = roots;
     let mut next: Vec<u32> = Vec::new(alloc);
+    let mut goes_on: Vec<bool> = Vec::new(alloc);
     let mut followers: Vec<u32> = Vec::new(alloc);
     'work: while next.len() / 256 < table.keys.len() {
         let at = next.len() / 256;
         let byte = (next.len() % 256) as u8;
         if byte == 0 {
             followers = moves.followers(alloc, &table.keys[at])?;
+            goes_on.push(!followers.is_empty())?;
         }
-        let key = moves.reading(alloc, &followers, byte)?;
-        let target = intern(alloc, &mut table, key, limit)?;
-        next.push(target)?;
+        let row = &next[at * 256..];
+        let place = target(alloc, moves, &mut table, &followers, row, byte, limit)?;
+        next.push(place)?;
     }
     Ok(Explored {
         keys: table.keys,
         next,
+        goes_on,
     })
 }

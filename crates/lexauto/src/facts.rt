@@ -1,4 +1,4 @@
-//! What the keys of states tell: the rules that they accept, and whether they go on.
+//! What the keys of states tell: the rules that they accept.
 ghost use Rattle.std.specs.Prelude.{◌≡◌, ◌<◌, ◌≤◌, ◌^◌, length, map, IfOk, slice_get};
 ghost use Rattle.lexmeaning.specs.Spec.{rejects};
 ghost use Rattle.lexmeaning.specs.Subsets.{all_positions};
@@ -8,12 +8,10 @@ ghost use Rattle.lexauto.specs.Keys.{keys_in};
 ghost use Rattle.lexauto.specs.RuleFlow.{rules_left};
 ghost use Rattle.lexauto.specs.Sets.{marked, lasts_in};
 ghost use Rattle.lexauto.specs.Machines.{chosen};
-ghost use Rattle.lexauto.specs.Facts.{accepted_by, goes_on_by, AcceptedBy, GoOnBy};
+ghost use Rattle.lexauto.specs.Facts.{accepted_by, AcceptedBy};
 
-use crate::explore::Moves;
 use crate::rules::left_rules;
 use crate::sets::{lasts_in, marks_of};
-use crate::stepping::RuleMoves;
 use lexspec::Spec;
 use std::alloc::{AllocError, Global};
 
@@ -52,23 +50,6 @@ pub(crate) fn all_accepted(
     for key in keys {
         let accepted = accepted_by(alloc, spec, count, key)?;
         all.push(accepted)?;
-    }
-    Ok(all)
-}
-
-/// Whether each state goes on.
-pub(crate) fn all_going_on(
-    alloc: Global,
-    moves: &RuleMoves,
-    keys: &[Vec<u32>],
-) -> Result<Vec<bool>, AllocError>
-    ensures len { IfOk result (λ v. length v.items ≡ length keys.now) }
-    ensures goes_on { IfOk result (λ v. GoOnBy (spec_of moves.now.spec.now) (keys_in keys.now) v.items) }
-{
-    let mut all = Vec::new(alloc);
-    for key in keys {
-        let followers = moves.followers(alloc, key)?;
-        all.push(!followers.is_empty())?;
     }
     Ok(all)
 }

@@ -1,6 +1,8 @@
-use Rattle.std.proofs.Common.{◌≡◌, ap, Err}
+use Rattle.std.proofs.Common.{◌≡◌, ℕ, ap, sym, ◌∙◌, Err}
 use Rattle.std.proofs.lemmas.Result.{err_from_is_err_and}
-use Rattle.lexspec.specs.Views.{spec_of}
+use Rattle.lexspec.specs.Views.{spec_of, rules_in}
+use Rattle.lexauto.specs.Machines.{is_some}
+use Rattle.lexauto.specs.Moving.{followers_in}
 use Rattle.lexspec.proofs.TestLaws.{spec_is_sound}
 use Rattle.lexauto.specs.declared.explore.ExploreError.TheVariants.{TooMany}
 use Rattle.lexauto.specs.Keys.{look, keys_in}
@@ -37,3 +39,7 @@ returns-clause-ok c =
     c.in_ok-explored.explored.next.items c.in_ok-starts.starts.items c.in_ok-line_starts.line_starts.items
     c.in_ok-line_starts.ensures.roots c.in_ok-explored.ensures.ok c.in_ok-starts.ensures.places c.in_ok-line_starts.ensures.grows c.in_ok-starts.ensures.len
     c.in_ok-line_starts.ensures.places c.in_ok-line_starts.ensures.len
+
+pub returns-clause-goes_on : goal.returns-clause-goes_on
+returns-clause-goes_on c = λ i k a.
+    c.in_ok-explored.ensures.goes_on.each i k a ∙ ap (λ (n : ℕ). is_some (followers_in (rules_in (spec_of c.args.moves.now.spec.now)) n k)) (sym c.args.moves.now.within)
