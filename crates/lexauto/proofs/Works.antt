@@ -1,5 +1,5 @@
 -- The steps of a work list.
-use Rattle.std.proofs.Common.{◌≡◌, ◌==◌, Bool, false, not, ℕ, zero, suc, ◌+◌, ◌*◌, ◌/◌, ◌%◌, ◌<◌, ◌≤◌, ◌⊎◌, List, [], ◌∷◌, ◌++◌, length, Option, refl, ap, sym, subst, ◌∙◌, inl, inr, arith, get_or, length-append, map, Vec, Global}
+use Rattle.std.proofs.Common.{◌≡◌, ◌==◌, Bool, false, not, ℕ, zero, suc, ◌+◌, ◌*◌, ◌/◌, ◌%◌, ◌<◌, ◌≤◌, ◌⊎◌, List, [], ◌∷◌, ◌++◌, length, Option, refl, ap, sym, subst, ◌∙◌, inl, inr, arith, get_or, length-append}
 use Rattle.std.proofs.lemmas.Bool.{cases_lt, ne_eqb}
 use Rattle.std.specs.Prelude.{slice_index}
 use Rattle.std.proofs.lemmas.Option.{slice_get_within, slice_get-get_or, get_or_from_slice_get}
@@ -176,8 +176,3 @@ module _ (step : Key → ℕ → Key) where
           both i j q (inl a) (inr b) = absurd (none i (subst (λ (l : Key). At keys i l) b.1 a))
           both i j q (inr a) (inl b) = absurd (none j (subst (λ (l : Key). At keys j l) a.1 b))
           both i j q (inr a) (inr b) = a.0 ∙ sym b.0
-
-pub key_from : (vs : List (Vec ℕ Global)) (i : ℕ) (v : Vec ℕ Global) → i < length vs → v ≡ get_or vs i v → key_at (map (λ v. v.items) vs) i ≡ v.items
-key_from [] i v h e = absurd (omega arith)
-key_from (x ∷ vs) zero v h e = ap (λ (u : Vec ℕ Global). u.items) (sym e)
-key_from (x ∷ vs) (suc i) v h e = key_from vs i v (omega arith) e

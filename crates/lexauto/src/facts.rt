@@ -5,11 +5,13 @@ ghost use Rattle.lexmeaning.specs.Subsets.{all_positions};
 ghost use Rattle.lexspec.specs.RuleViews.{rule_of};
 ghost use Rattle.lexspec.specs.Views.{spec_of, rules_in};
 ghost use Rattle.lexauto.specs.Keys.{keys_in};
+ghost use Rattle.lexauto.specs.Packing.{kept_in};
 ghost use Rattle.lexauto.specs.RuleFlow.{rules_left};
 ghost use Rattle.lexauto.specs.Sets.{marked, lasts_in};
 ghost use Rattle.lexauto.specs.Machines.{chosen};
 ghost use Rattle.lexauto.specs.Facts.{accepted_by, AcceptedBy};
 
+use crate::packing::unpacked;
 use crate::rules::left_rules;
 use crate::sets::{lasts_in, marks_of};
 use lexspec::Spec;
@@ -44,11 +46,12 @@ pub(crate) fn all_accepted(
     requires count { count ≡ all_positions (rules_in (spec_of spec.now)) }
     requires few { count < 2 ^ 32 }
     ensures len { IfOk result (λ v. length v.items ≡ length keys.now) }
-    ensures accepted { IfOk result (λ v. AcceptedBy (spec_of spec.now) (keys_in keys.now) (keys_in v.items)) }
+    ensures accepted { IfOk result (λ v. AcceptedBy (spec_of spec.now) (kept_in keys.now) (keys_in v.items)) }
 {
     let mut all = Vec::new(alloc);
-    for key in keys {
-        let accepted = accepted_by(alloc, spec, count, key)?;
+    for kept in keys {
+        let key = unpacked(alloc, kept)?;
+        let accepted = accepted_by(alloc, spec, count, &key)?;
         all.push(accepted)?;
     }
     Ok(all)

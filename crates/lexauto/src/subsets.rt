@@ -4,7 +4,8 @@ ghost use Rattle.lexmeaning.specs.Subsets.{all_positions, Subsets};
 ghost use Rattle.lexmeaning.specs.TableFor.{TableFor};
 ghost use Rattle.lexmeaning.specs.MachineLaws.{MachineLaws};
 ghost use Rattle.lexspec.specs.Views.{spec_of, rules_in, conditions_in};
-ghost use Rattle.lexauto.specs.Keys.{Key, At, keys_in};
+ghost use Rattle.lexauto.specs.Keys.{Key, At};
+ghost use Rattle.lexauto.specs.Packing.{kept_in};
 ghost use Rattle.lexauto.specs.Explored.{MoreThan};
 ghost use Rattle.lexauto.specs.Facts.{GoOnBy};
 ghost use Rattle.lexauto.specs.WordKeys.{Surveys};
@@ -41,10 +42,10 @@ struct Survey {
 
 /// All keys that are reached from the starts of a specification.
 fn explore_spec(alloc: Global, moves: &RuleMoves, limit: u32) -> Result<Survey, ExploreError>
-    ensures ok { IfOk result (λ s. Surveys (spec_of moves.now.spec.now) (keys_in s.keys.items) s.next.items s.starts.items s.line_starts.items) }
+    ensures ok { IfOk result (λ s. Surveys (spec_of moves.now.spec.now) (kept_in s.keys.items) s.next.items s.starts.items s.line_starts.items) }
     ensures room { IfOk result (λ s. length s.keys.items ≤ limit) }
     ensures len { IfOk result (λ s. length s.goes_on.items ≡ length s.keys.items) }
-    ensures goes_on { IfOk result (λ s. GoOnBy (spec_of moves.now.spec.now) (keys_in s.keys.items) s.goes_on.items) }
+    ensures goes_on { IfOk result (λ s. GoOnBy (spec_of moves.now.spec.now) (kept_in s.keys.items) s.goes_on.items) }
     ensures too_many { IsErrOf result ExploreError.TooMany → (n : ℕ) → Subsets (spec_of moves.now.spec.now) n → limit < n }
 {
     let mut table = dead_root(alloc, limit)?;
