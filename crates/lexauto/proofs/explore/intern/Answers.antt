@@ -1,4 +1,4 @@
-use Rattle.std.proofs.Common.{rules, ◌≡◌, ℕ, List, Option, Some, None, length, cond, Bool, refl, sym, ap, subst, ◌∙◌, inl, inr, arith, [], ◌∷◌, ◌++◌}
+use Rattle.std.proofs.Common.{rules, ◌≡◌, ℕ, List, Some, None, length, cond, Bool, refl, sym, ap, subst, ◌∙◌, inl, inr, arith, [], ◌∷◌, ◌++◌}
 use Rattle.std.specs.BTreeMap.{UpdatesBy}
 use Rattle.std.specs.Cmp.Lexicographic.{slice_cmp}
 use Rattle.std.specs.Ordering.{nat_cmp}

@@ -1,7 +1,7 @@
-use Rattle.std.proofs.Common.{rules, ◌≡◌, ℕ, ◌<◌, ◌∷◌, List, true, false, length, IfOk, replicate, sym, ap, subst, ◌∙◌}
+use Rattle.std.proofs.Common.{rules, ◌≡◌, ℕ, ◌∷◌, List, true, false, length, IfOk, sym, ap, subst, ◌∙◌}
 use Rattle.std.specs.Prelude.{nat_lt}
 use Rattle.std.specs.Str.{bytes_eq}
-use Rattle.lexauto.specs.Packing.{unpacked, bits_of, packed, word_count, with_bits}
+use Rattle.lexauto.specs.Packing.{unpacked, bits_of, packed, word_count}
 use Rattle.lexauto.proofs.Kept.{kept_as_bits, kept_as_it_is, kept_if_other}
 use Rattle.lexauto.proofs.packing.packed.Goals.{then-count-key+in_ok-words+in_ok-bits+in_ok-again+else-eq, else-count-key}
 use Rattle.lexauto.proofs.packing.packed.Goals as goal

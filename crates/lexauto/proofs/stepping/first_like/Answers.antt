@@ -1,5 +1,4 @@
-use Rattle.std.proofs.Common.{rules, ◌≡◌, ◌<◌, List, Bool, length, sym, ◌∙◌}
-use Rattle.lexauto.specs.Moving.{masks_in, mask_at}
+use Rattle.std.proofs.Common.{rules, ◌≡◌, ◌<◌, length, sym, ◌∙◌}
 use Rattle.lexauto.proofs.StepLemmas.{mask_from, same_flags}
 use Rattle.lexauto.proofs.stepping.first_like.Goals as goal
 
