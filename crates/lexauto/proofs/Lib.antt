@@ -9,6 +9,7 @@ pub mod Moves
 pub mod Copies
 pub mod FlowMeaning
 pub mod Places
+pub mod Kept
 pub mod Works
 pub mod LetterTests
 pub mod RuleMeaning

@@ -4,6 +4,10 @@ use Rattle.std.proofs.Common.{refl, ap, sym, ◌∙◌, arith, Global, get_or, r
 use Rattle.std.proofs.lemmas.Bool.{cases_lt}
 use Rattle.std.proofs.lemmas.List.{get_or_push, get_or_append_left}
 use Rattle.std.proofs.Math.Path.{fun_ext}
+use Rattle.std.proofs.Math.Bool.{beq}
+use Rattle.std.specs.Bool.{Decides}
+use Rattle.std.specs.Cmp.Lexicographic.{pointwise}
+use Rattle.std.proofs.lemmas.Slice.Eq.{slice_eq-Decides}
 use Rattle.std.specs.List.{filter}
 use Rattle.lexmeaning.specs.Tree.{Tree}
 use Rattle.lexmeaning.specs.Shapes.{IsSoundTree}
@@ -40,6 +44,19 @@ length_map f (x ∷ xs) = ap suc (length_map f xs)
 pub reading_is : (rules : List Rule) (followers : List ℕ) (b : ℕ) (mask : List Bool) → ((q : ℕ) → flag mask q ≡ rules_read rules b q 0) → tagged 1 (filter (flag mask) followers) ≡ reading_in rules followers b
 unfolding reading_in
 reading_is rules followers b mask h = ap (λ (f : ℕ → Bool). tagged 1 (filter f followers)) (fun_ext h)
+
+beq_decides : (a b : Bool) → Decides (beq a b) (a ≡ b)
+beq_decides true true = (λ h. refl, λ h. refl)
+beq_decides true false = (λ h. sym h, λ h. sym h)
+beq_decides false true = (λ h. h, λ h. h)
+beq_decides false false = (λ h. refl, λ h. refl)
+
+pub same_flags : (xs ys : List Bool) (r : Bool) → r ≡ pointwise beq xs ys → r ≡ true → xs ≡ ys
+same_flags xs ys r e h = (slice_eq-Decides beq_decides xs ys r e).0 h
+
+pub reading_alike : (rules : List Rule) (followers : List ℕ) (b c : ℕ) → ((q : ℕ) → rules_read rules b q 0 ≡ rules_read rules c q 0) → reading_in rules followers b ≡ reading_in rules followers c
+unfolding reading_in
+reading_alike rules followers b c h = ap (λ (f : ℕ → Bool). tagged 1 (filter f followers)) (fun_ext h)
 
 module _ (rules : List Rule) (count n : ℕ) (k : Key) (on last : List Bool) where
   pub followers_is : length rules ≡ n → ((i : ℕ) → flag on i ≡ marked n (starts_in k) i) → ((p : ℕ) → flag last p ≡ marked count (lasts_in k) p)

@@ -1,13 +1,22 @@
 -- The steps of a work list.
-use Rattle.std.proofs.Common.{◌≡◌, ℕ, zero, suc, ◌+◌, ◌*◌, ◌/◌, ◌%◌, ◌<◌, ◌≤◌, ◌⊎◌, List, [], ◌∷◌, ◌++◌, length, Option, refl, ap, sym, subst, ◌∙◌, inl, inr, arith, get_or, length-append, map, Vec, Global}
-use Rattle.std.proofs.lemmas.Bool.{cases_lt}
+use Rattle.std.proofs.Common.{◌≡◌, ◌==◌, Bool, false, not, ℕ, suc, ◌+◌, ◌*◌, ◌/◌, ◌%◌, ◌<◌, ◌≤◌, ◌⊎◌, List, [], ◌∷◌, ◌++◌, length, Option, refl, ap, sym, subst, ◌∙◌, inl, inr, arith, get_or, length-append}
+use Rattle.std.proofs.lemmas.Bool.{cases_lt, ne_eqb}
 use Rattle.std.specs.Prelude.{slice_index}
 use Rattle.std.proofs.lemmas.Option.{slice_get_within, slice_get-get_or, get_or_from_slice_get}
 use Rattle.std.proofs.lemmas.List.{get_or_push, get_or_append_left}
 use Rattle.lexauto.specs.Keys.{Key, At, Absent, Apart, Finds, Found}
 use Rattle.lexmeaning.specs.Text.{IsText}
-use Rattle.lexauto.specs.Explored.{run, Reached, IsAutomaton, MoreThan, key_at, Exploring, Held}
+use Rattle.lexauto.specs.Explored.{run, Reached, IsAutomaton, MoreThan, key_at, Exploring, Held, GoOn, GoOnSoFar}
+use Rattle.lexauto.specs.Machines.{is_some}
 use Rattle.lexauto.proofs.Places.{at_longer, at_shorter}
+
+-- for each key up to this place, whether something follows it
+abbrev pub OnAt : (Key → Key) → List Key → ℕ → List Bool → Type 0
+OnAt follow keys at goes = (length goes ≡ at + 1) × ((i : ℕ) → i < length goes → get_or goes i false ≡ is_some (follow (key_at keys i)))
+
+pub some_is : (l : List ℕ) → not (length l == 0) ≡ is_some l
+some_is [] = refl
+some_is (x ∷ l) = ap not (ne_eqb (suc (length l)) 0 (λ e. omega (arith, e)))
 
 module _ (step : Key → ℕ → Key) where
   run-snoc : (k : Key) (w : List ℕ) (b : ℕ) → run step k (w ++ b ∷ []) ≡ step (run step k w) b
@@ -86,6 +95,45 @@ module _ (step : Key → ℕ → Key) where
           let same : key_at new (n / 256) ≡ key_at keys (n / 256) = key_is new (n / 256) (key_at keys (n / 256)) (grown keys new k found (n / 256) (key_at keys (n / 256)) (is_key keys (n / 256) low)) in
           rw (place, same) is
 
+      module _ (follow : Key → Key) where
+        pub on_first : (n : ℕ) (goes : List Bool) (x : Bool) → n ≡ length next → n % 256 ≡ 0 → GoOnSoFar follow keys next goes → x ≡ is_some (follow (key_at keys (n / 256)))
+            → OnAt follow keys (n / 256) (goes ++ x ∷ [])
+        on_first n goes x count whole on is =
+            let len = on.len in
+            let more : length (goes ++ x ∷ []) ≡ length goes + 1 = length-append goes (x ∷ []) in
+            let size : length goes ≡ n / 256 = omega (arith, len, count, whole) in (
+              omega (arith, more, size),
+              λ i h. elim (cases_lt i (length goes)) [
+                | inl g ↦ rw (get_or_append_left goes (x ∷ []) false i g) (on.each i g)
+                | inr g ↦ (let at : i ≡ n / 256 = omega (arith, more, size, g, h) in
+                    rw (at, get_or_push goes x false (n / 256) size) is)
+              ],
+            )
+
+        pub on_further : (n : ℕ) (goes : List Bool) → n ≡ length next → 0 < n % 256 → GoOnSoFar follow keys next goes → OnAt follow keys (n / 256) goes
+        on_further n goes count some on = (let len = on.len in omega (arith, len, count, some), on.each)
+
+        pub on_longer : (new : List Key) (target n : ℕ) (k : Key) (goes : List Bool) → n ≡ length next → n / 256 < length keys → Found keys k new → OnAt follow keys (n / 256) goes
+            → GoOnSoFar follow new (next ++ target ∷ []) goes
+        on_longer new target n k goes count low found on =
+            let size = on.0 in
+            record {
+              len = let more : length (next ++ target ∷ []) ≡ length next + 1 = length-append next (target ∷ []) in omega (arith, more, size, count);
+              each = λ i h. (let lower : i < length keys = omega (arith, size, h, low) in
+                  on.1 i h ∙ ap (λ (q : Key). is_some (follow q)) (sym (key_is new i (key_at keys i) (grown keys new k found i (key_at keys i) (is_key keys i lower)))));
+            }
+
+        pub on_done : (goes : List Bool) → length keys ≤ length next / 256 → GoOnSoFar follow keys next goes → GoOn follow keys goes
+        on_done goes done on =
+            let len = on.len in
+            let b = e.behind in
+            let size : length goes ≡ length keys = omega (arith, len, b, done) in
+            record {
+              len = size;
+              each = λ i k a. (let low : i < length goes = (let w = slice_get_within keys i k a in omega (arith, w, size)) in
+                  on.each i low ∙ ap (λ (q : Key). is_some (follow q)) (key_is keys i k a));
+            }
+
       pub apart : Apart keys
       apart i j k a b = let f = e.finds.all k i a in let g = e.finds.all k j b in cc
 
@@ -128,8 +176,3 @@ module _ (step : Key → ℕ → Key) where
           both i j q (inl a) (inr b) = absurd (none i (subst (λ (l : Key). At keys i l) b.1 a))
           both i j q (inr a) (inl b) = absurd (none j (subst (λ (l : Key). At keys j l) a.1 b))
           both i j q (inr a) (inr b) = a.0 ∙ sym b.0
-
-pub key_from : (vs : List (Vec ℕ Global)) (i : ℕ) (v : Vec ℕ Global) → i < length vs → v ≡ get_or vs i v → key_at (map (λ v. v.items) vs) i ≡ v.items
-key_from [] i v h e = absurd (omega arith)
-key_from (x ∷ vs) zero v h e = ap (λ (u : Vec ℕ Global). u.items) (sym e)
-key_from (x ∷ vs) (suc i) v h e = key_from vs i v (omega arith) e

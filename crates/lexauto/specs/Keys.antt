@@ -26,7 +26,7 @@ Found old k new = ((i : ℕ) × At old i k × (new ≡ old)) ⊎ (Absent old k �
 abbrev pub keys_in : List (Vec ℕ Global) → List Key
 keys_in vs = map (λ v. v.items) vs
 
--- what the map has at a key
+-- what the map has at a list
 abbrev pub look : BTreeMap (Vec ℕ Global) ℕ → Key → Option ℕ
 look m k = get_by (λ v. slice_cmp nat_cmp k v.items) m
 

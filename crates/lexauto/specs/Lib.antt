@@ -6,6 +6,7 @@ pub mod Keys
 pub mod Explored
 pub mod RuleFlow
 pub mod Sets
+pub mod Packing
 pub mod Moving
 pub mod WordKeys
 pub mod Machines

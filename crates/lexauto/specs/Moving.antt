@@ -1,5 +1,5 @@
 -- How keys lead to one another by the positions of rules. (This project's.)
-use Rattle.std.specs.Prelude.{◌≡◌, ℕ, ◌<◌, Bool, List, [], length, map, slice_index_or, Vec}
+use Rattle.std.specs.Prelude.{◌≡◌, ℕ, ◌<◌, ◌≤◌, Bool, List, [], length, map, slice_index, slice_index_or, Vec}
 use Rattle.std.proofs.Common.{Global}
 use Rattle.std.specs.List.{filter}
 use Rattle.lexmeaning.specs.Spec.{Rule}
@@ -27,3 +27,9 @@ mask_at masks b = slice_index_or masks b []
 pub record AreMasks (rules : List Rule) (masks : List (List Bool)) : Type 0 where
   pub all : length masks ≡ 256
   pub each : (b q : ℕ) → b < 256 → flag (mask_at masks b) q ≡ rules_read rules b q 0
+
+-- for each byte, an earlier one or itself with the same mask
+pub record AreTwins (masks : List (List Bool)) (twins : List ℕ) : Type 0 where
+  pub len : length twins ≡ 256
+  pub first : (b : ℕ) → b < 256 → slice_index twins b ≤ b
+  pub same : (b : ℕ) → b < 256 → mask_at masks (slice_index twins b) ≡ mask_at masks b

@@ -1,9 +1,11 @@
 //! A work list over keys: all that are reached from some roots, each once, with their moves.
-ghost use Rattle.std.specs.Prelude.{◌≡◌, ℕ, ◌≤◌, List, length, IfOk, OnOk, IsErrOf};
+ghost use Rattle.std.specs.Prelude.{◌≡◌, ℕ, ◌<◌, ◌≤◌, List, length, slice_index, IfOk, OnOk, IsErrOf};
 ghost use Rattle.lexauto.specs.declared.explore.ExploreError.TheVariants.{Memory};
-ghost use Rattle.lexauto.specs.Explored.{IsAutomaton, MoreThan, Reached, step_by};
-ghost use Rattle.lexauto.specs.Keys.{At, Absent, Found, Finds, look, keys_in};
+ghost use Rattle.lexauto.specs.Explored.{GoOn, IsAutomaton, MoreThan, Reached, step_by};
+ghost use Rattle.lexauto.specs.Keys.{At, Absent, Found, Finds};
+ghost use Rattle.lexauto.specs.Packing.{look_kept, kept_in};
 
+use crate::packing::{packed, unpacked};
 use std::alloc::{AllocError, AllocFailed, Global};
 use std::collections::BTreeMap;
 
@@ -29,7 +31,7 @@ impl<T: Drop> From<AllocFailed<T>> for ExploreError {
     }
 }
 
-/// Keys, each once, in order of their first finding.
+/// Keys as they are kept, each once, in order of their first finding.
 #[derive(Drop)]
 pub(crate) struct Interner {
     pub keys: Vec<Vec<u32>>,
@@ -43,23 +45,24 @@ pub(crate) fn intern(
     key: Vec<u32>,
     limit: u32,
 ) -> Result<u32, ExploreError>
-    requires { Finds (look table.old.places) (keys_in table.old.keys.items) }
-    ensures finds { OnOk result (Finds (look table.new.places) (keys_in table.new.keys.items)) }
-    ensures place { IfOk result (λ i. At (keys_in table.new.keys.items) i key.items) }
-    ensures found { OnOk result (Found (keys_in table.old.keys.items) key.items (keys_in table.new.keys.items)) }
+    requires { Finds (look_kept table.old.places) (kept_in table.old.keys.items) }
+    ensures finds { OnOk result (Finds (look_kept table.new.places) (kept_in table.new.keys.items)) }
+    ensures place { IfOk result (λ i. At (kept_in table.new.keys.items) i key.items) }
+    ensures found { OnOk result (Found (kept_in table.old.keys.items) key.items (kept_in table.new.keys.items)) }
     ensures room { OnOk result (length table.old.keys.items ≤ limit → length table.new.keys.items ≤ limit) }
-    ensures full { IsErrOf result ExploreError.TooMany → Absent (keys_in table.old.keys.items) key.items × (limit ≤ length table.old.keys.items) }
+    ensures full { IsErrOf result ExploreError.TooMany → Absent (kept_in table.old.keys.items) key.items × (limit ≤ length table.old.keys.items) }
 {
-    if let Some(place) = table.places.get(&key) {
+    let kept = packed(alloc, &key)?;
+    if let Some(place) = table.places.get(&kept) {
         return Ok(*place);
     }
     let place = table.keys.len();
     if place >= limit as usize {
         return Err(ExploreError::TooMany);
     }
-    let copy = Vec::from_slice(alloc, &key)?;
+    let copy = Vec::from_slice(alloc, &kept)?;
     table.places.insert(copy, place as u32)?;
-    table.keys.push(key)?;
+    table.keys.push(kept)?;
     Ok(place as u32)
 }
 
@@ -76,13 +79,46 @@ pub(crate) trait Moves {
     /// The key that one byte makes of what follows.
     fn reading(&self, alloc: Global, followers: &[u32], byte: u8) -> Result<Vec<u32>, AllocError>
         ensures { IfOk result (λ k. k.items ≡ read self.now followers.now byte) };
+
+    /// The first byte that is read as this one is, whatever follows.
+    fn twin(&self, byte: u8) -> u8
+        ensures first { result ≤ byte }
+        ensures same { (k : List ℕ) → read self.now k result ≡ read self.now k byte };
 }
 
-/// The keys that are reached, and 256 moves for each.
+/// The place of the key that a byte makes of what follows; of a byte that is read as an earlier one, from the row so far.
+fn target<M: Moves>(
+    alloc: Global,
+    moves: &M,
+    table: &mut Interner,
+    followers: &[u32],
+    row: &[u32],
+    byte: u8,
+    limit: u32,
+) -> Result<u32, ExploreError>
+    requires finds { Finds (look_kept table.old.places) (kept_in table.old.keys.items) }
+    requires len { length row.now ≡ byte }
+    requires row { (b : ℕ) → b < byte → At (kept_in table.old.keys.items) (slice_index row.now b) (M.read moves.now followers.now b) }
+    ensures finds { OnOk result (Finds (look_kept table.new.places) (kept_in table.new.keys.items)) }
+    ensures place { IfOk result (λ i. At (kept_in table.new.keys.items) i (M.read moves.now followers.now byte)) }
+    ensures found { OnOk result (Found (kept_in table.old.keys.items) (M.read moves.now followers.now byte) (kept_in table.new.keys.items)) }
+    ensures room { OnOk result (length table.old.keys.items ≤ limit → length table.new.keys.items ≤ limit) }
+    ensures full { IsErrOf result ExploreError.TooMany → Absent (kept_in table.old.keys.items) (M.read moves.now followers.now byte) × (limit ≤ length table.old.keys.items) }
+{
+    let twin = moves.twin(byte);
+    if twin < byte {
+        return Ok(row[twin as usize]);
+    }
+    let key = moves.reading(alloc, followers, byte)?;
+    intern(alloc, table, key, limit)
+}
+
+/// The keys that are reached, as they are kept, 256 moves for each, and whether something follows it.
 #[derive(Drop)]
 pub(crate) struct Explored {
     pub keys: Vec<Vec<u32>>,
     pub next: Vec<u32>,
+    pub goes_on: Vec<bool>,
 }
 
 /// All that is reached from the roots, which stand in the table. It is refused only where there are more keys than the
@@ -93,27 +129,32 @@ pub(crate) fn explore<M: Moves>(
     roots: Interner,
     limit: u32,
 ) -> Result<Explored, ExploreError>
-    requires finds { Finds (look roots.places) (keys_in roots.keys.items) }
+    requires finds { Finds (look_kept roots.places) (kept_in roots.keys.items) }
     requires room { length roots.keys.items ≤ limit }
-    ensures ok { IfOk result (λ t. IsAutomaton (step_by (M.follow moves.now) (M.read moves.now)) (keys_in roots.keys.items) (keys_in t.keys.items) t.next.items) }
+    ensures ok { IfOk result (λ t. IsAutomaton (step_by (M.follow moves.now) (M.read moves.now)) (kept_in roots.keys.items) (kept_in t.keys.items) t.next.items) }
     ensures room { IfOk result (λ t. length t.keys.items ≤ limit) }
-    ensures too_many { IsErrOf result ExploreError.TooMany → MoreThan limit (Reached (step_by (M.follow moves.now) (M.read moves.now)) (keys_in roots.keys.items)) }
+    ensures goes_on { IfOk result (λ t. GoOn (M.follow moves.now) (kept_in t.keys.items) t.goes_on.items) }
+    ensures too_many { IsErrOf result ExploreError.TooMany → MoreThan limit (Reached (step_by (M.follow moves.now) (M.read moves.now)) (kept_in roots.keys.items)) }
 {
     let mut table = roots;
     let mut next: Vec<u32> = Vec::new(alloc);
+    let mut goes_on: Vec<bool> = Vec::new(alloc);
     let mut followers: Vec<u32> = Vec::new(alloc);
     'work: while next.len() / 256 < table.keys.len() {
         let at = next.len() / 256;
         let byte = (next.len() % 256) as u8;
         if byte == 0 {
-            followers = moves.followers(alloc, &table.keys[at])?;
+            let key = unpacked(alloc, &table.keys[at])?;
+            followers = moves.followers(alloc, &key)?;
+            goes_on.push(!followers.is_empty())?;
         }
-        let key = moves.reading(alloc, &followers, byte)?;
-        let target = intern(alloc, &mut table, key, limit)?;
-        next.push(target)?;
+        let row = &next[at * 256..];
+        let place = target(alloc, moves, &mut table, &followers, row, byte, limit)?;
+        next.push(place)?;
     }
     Ok(Explored {
         keys: table.keys,
         next,
+        goes_on,
     })
 }

@@ -1,19 +1,19 @@
-//! What the keys of states tell: the rules that they accept, and whether they go on.
+//! What the keys of states tell: the rules that they accept.
 ghost use Rattle.std.specs.Prelude.{◌≡◌, ◌<◌, ◌≤◌, ◌^◌, length, map, IfOk, slice_get};
 ghost use Rattle.lexmeaning.specs.Spec.{rejects};
 ghost use Rattle.lexmeaning.specs.Subsets.{all_positions};
 ghost use Rattle.lexspec.specs.RuleViews.{rule_of};
 ghost use Rattle.lexspec.specs.Views.{spec_of, rules_in};
 ghost use Rattle.lexauto.specs.Keys.{keys_in};
+ghost use Rattle.lexauto.specs.Packing.{kept_in};
 ghost use Rattle.lexauto.specs.RuleFlow.{rules_left};
 ghost use Rattle.lexauto.specs.Sets.{marked, lasts_in};
 ghost use Rattle.lexauto.specs.Machines.{chosen};
-ghost use Rattle.lexauto.specs.Facts.{accepted_by, goes_on_by, AcceptedBy, GoOnBy};
+ghost use Rattle.lexauto.specs.Facts.{accepted_by, AcceptedBy};
 
-use crate::explore::Moves;
+use crate::packing::unpacked;
 use crate::rules::left_rules;
 use crate::sets::{lasts_in, marks_of};
-use crate::stepping::RuleMoves;
 use lexspec::Spec;
 use std::alloc::{AllocError, Global};
 
@@ -46,29 +46,13 @@ pub(crate) fn all_accepted(
     requires count { count ≡ all_positions (rules_in (spec_of spec.now)) }
     requires few { count < 2 ^ 32 }
     ensures len { IfOk result (λ v. length v.items ≡ length keys.now) }
-    ensures accepted { IfOk result (λ v. AcceptedBy (spec_of spec.now) (keys_in keys.now) (keys_in v.items)) }
+    ensures accepted { IfOk result (λ v. AcceptedBy (spec_of spec.now) (kept_in keys.now) (keys_in v.items)) }
 {
     let mut all = Vec::new(alloc);
-    for key in keys {
-        let accepted = accepted_by(alloc, spec, count, key)?;
+    for kept in keys {
+        let key = unpacked(alloc, kept)?;
+        let accepted = accepted_by(alloc, spec, count, &key)?;
         all.push(accepted)?;
-    }
-    Ok(all)
-}
-
-/// Whether each state goes on.
-pub(crate) fn all_going_on(
-    alloc: Global,
-    moves: &RuleMoves,
-    keys: &[Vec<u32>],
-) -> Result<Vec<bool>, AllocError>
-    ensures len { IfOk result (λ v. length v.items ≡ length keys.now) }
-    ensures goes_on { IfOk result (λ v. GoOnBy (spec_of moves.now.spec.now) (keys_in keys.now) v.items) }
-{
-    let mut all = Vec::new(alloc);
-    for key in keys {
-        let followers = moves.followers(alloc, key)?;
-        all.push(!followers.is_empty())?;
     }
     Ok(all)
 }

@@ -7,6 +7,7 @@ mod explore;
 mod facts;
 mod laws;
 mod letters;
+mod packing;
 mod readers;
 mod rules;
 mod sets;

@@ -34,10 +34,12 @@ fn enter_rule(rule: &Rule, last: &[bool], base: usize, entered: bool, next: &mut
     ensures after { result ≡ base + positions_of_rule (rule_of rule.now) }
     ensures next { (q : ℕ) → flag next.new q ≡ (flag next.old q || rule_enters (rule_of rule.now) (flag last.now) q base entered) }
 {
-    let begun = leave(&rule.head, last, base, false);
     let head = enter(&rule.head, last, base, entered, next);
     match &rule.trail {
-        Some(trail) => enter(trail, last, head.after, begun.left, next).after,
+        Some(trail) => {
+            let begun = leave(&rule.head, last, base, false);
+            enter(trail, last, head.after, begun.left, next).after
+        }
         None => head.after,
     }
 }

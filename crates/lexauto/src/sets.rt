@@ -10,7 +10,7 @@ use std::alloc::{AllocError, Global};
 pub(crate) const START: u32 = 0;
 
 /// The kind of another state's key: its last positions follow. The dead state's key is empty.
-const LAST: u32 = 1;
+pub(crate) const LAST: u32 = 1;
 
 /// Whether a number is marked.
 fn is_marked(marks: &[bool], number: usize) -> bool

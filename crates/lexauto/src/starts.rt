@@ -5,7 +5,8 @@ ghost use Rattle.lexmeaning.specs.Subsets.{positions_of_rule, all_positions};
 ghost use Rattle.lexaction.specs.Views.{condition_of};
 ghost use Rattle.lexspec.specs.RuleViews.{rule_of};
 ghost use Rattle.lexspec.specs.Views.{spec_of, conditions_in};
-ghost use Rattle.lexauto.specs.Keys.{Key, At, Finds, look, keys_in};
+ghost use Rattle.lexauto.specs.Keys.{Key, At, Finds};
+ghost use Rattle.lexauto.specs.Packing.{look_kept, kept_in};
 ghost use Rattle.lexauto.specs.Explored.{MoreThan};
 ghost use Rattle.lexauto.specs.WordKeys.{start_key, IsRoot, AreRoots, AreStartPlaces, Grows};
 
@@ -86,8 +87,8 @@ fn start_key(alloc: Global, spec: &Spec, number: usize, bol: bool) -> Result<Vec
 
 /// A table that has only the dead state's key.
 pub(crate) fn dead_root(alloc: Global, limit: u32) -> Result<Interner, ExploreError>
-    ensures finds { IfOk result (λ t. Finds (look t.places) (keys_in t.keys.items)) }
-    ensures keys { IfOk result (λ t. keys_in t.keys.items ≡ [] ∷ []) }
+    ensures finds { IfOk result (λ t. Finds (look_kept t.places) (kept_in t.keys.items)) }
+    ensures keys { IfOk result (λ t. kept_in t.keys.items ≡ [] ∷ []) }
     ensures room { IfOk result (λ t. length t.keys.items ≤ limit) }
     ensures too_many { IsErrOf result ExploreError.TooMany → limit ≡ 0 }
 {
@@ -107,10 +108,10 @@ pub(crate) fn add_starts(
     table: &mut Interner,
     limit: u32,
 ) -> Result<Vec<u32>, ExploreError>
-    requires { AreRoots (spec_of spec.now) (look table.old.places) (keys_in table.old.keys.items) }
-    ensures roots { OnOk result (AreRoots (spec_of spec.now) (look table.new.places) (keys_in table.new.keys.items)) }
-    ensures grows { OnOk result (Grows (keys_in table.old.keys.items) (keys_in table.new.keys.items)) }
-    ensures places { IfOk result (λ v. AreStartPlaces (spec_of spec.now) bol (keys_in table.new.keys.items) v.items) }
+    requires { AreRoots (spec_of spec.now) (look_kept table.old.places) (kept_in table.old.keys.items) }
+    ensures roots { OnOk result (AreRoots (spec_of spec.now) (look_kept table.new.places) (kept_in table.new.keys.items)) }
+    ensures grows { OnOk result (Grows (kept_in table.old.keys.items) (kept_in table.new.keys.items)) }
+    ensures places { IfOk result (λ v. AreStartPlaces (spec_of spec.now) bol (kept_in table.new.keys.items) v.items) }
     ensures len { IfOk result (λ v. length v.items ≡ length (conditions_in (spec_of spec.now))) }
     ensures room { OnOk result (length table.old.keys.items ≤ limit → length table.new.keys.items ≤ limit) }
     ensures too_many { IsErrOf result ExploreError.TooMany → MoreThan limit (IsRoot (spec_of spec.now)) }

@@ -6,7 +6,7 @@ ghost use Rattle.lexspec.specs.Views.{spec_of, rules_in};
 ghost use Rattle.lexauto.specs.Flow.{flag};
 ghost use Rattle.lexauto.specs.RuleFlow.{RulesAreSound, rules_enter, rules_read};
 ghost use Rattle.lexauto.specs.Sets.{listed};
-ghost use Rattle.lexauto.specs.Moving.{AreMasks, masks_in, mask_at, followers_in, reading_in};
+ghost use Rattle.lexauto.specs.Moving.{AreMasks, AreTwins, masks_in, mask_at, followers_in, reading_in};
 
 use crate::explore::Moves;
 use crate::letters::mark_rules;
@@ -21,10 +21,12 @@ pub(crate) struct RuleMoves<'a> {
     pub spec: &'a Spec,
     pub count: usize,
     masks: Vec<Vec<bool>>,
+    twins: Vec<u8>,
     ghost within: { all_positions (rules_in (spec_of spec.now)) ≡ count },
     ghost few: { count < 2 ^ 32 },
     ghost all: { length (masks_in masks.items) ≡ 256 },
     ghost each: { (b q : ℕ) → b < 256 → flag (mask_at (masks_in masks.items) b) q ≡ rules_read (rules_in (spec_of spec.now)) b q 0 },
+    ghost alike: { AreTwins (masks_in masks.items) twins.items },
 }
 
 /// For each byte the positions that read it.
@@ -40,6 +42,32 @@ fn masks_of(alloc: Global, rules: &[Rule], count: usize) -> Result<Vec<Vec<bool>
         masks.push(mask)?;
     }
     Ok(masks)
+}
+
+/// The first of the masks that is the one of this byte.
+fn first_like(masks: &[Vec<bool>], byte: usize) -> usize
+    requires { byte < length masks.now }
+    ensures first { result ≤ byte }
+    ensures same { mask_at (masks_in masks.now) result ≡ mask_at (masks_in masks.now) byte }
+{
+    for other in 0..byte {
+        if masks[other] == masks[byte] {
+            return other;
+        }
+    }
+    byte
+}
+
+/// For each byte the first one that the same positions read.
+fn twins_of(alloc: Global, masks: &[Vec<bool>]) -> Result<Vec<u8>, AllocError>
+    requires { length (masks_in masks.now) ≡ 256 }
+    ensures { IfOk result (λ v. AreTwins (masks_in masks.now) v.items) }
+{
+    let mut twins = Vec::new(alloc);
+    for byte in 0..256usize {
+        twins.push(first_like(masks, byte) as u8)?;
+    }
+    Ok(twins)
 }
 
 /// The positions that come next, where the rules of `on` are entered, and these are the last positions. No flag of
@@ -75,7 +103,13 @@ impl<'a> RuleMoves<'a> {
         ensures { IfOk result (λ m. (m.spec.now ≡ spec.now) × (m.count ≡ count)) }
     {
         let masks = masks_of(alloc, spec.rules(), count)?;
-        Ok(RuleMoves { spec, count, masks })
+        let twins = twins_of(alloc, &masks)?;
+        Ok(RuleMoves {
+            spec,
+            count,
+            masks,
+            twins,
+        })
     }
 }
 
@@ -94,5 +128,9 @@ impl Moves for RuleMoves<'_> {
 
     fn reading(&self, alloc: Global, followers: &[u32], byte: u8) -> Result<Vec<u32>, AllocError> {
         last_key(alloc, followers, &self.masks[byte as usize])
+    }
+
+    fn twin(&self, byte: u8) -> u8 {
+        self.twins[byte as usize]
     }
 }

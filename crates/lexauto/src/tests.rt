@@ -7,10 +7,12 @@ ghost use Rattle.lexre.specs.Views.{tree_of};
 use crate::sets::{START, key_of, lasts_in, marks_of, numbers_of, starts_in};
 use crate::walk::{enter, leave};
 use crate::{
-    first_positions, keys_of_words, live_positions, next_positions, one_count, one_step,
-    one_step_of_rules, position_automaton, rules_that_fit, tables_of_keys, words_that_fit,
+    BuildError, Dfa, Limits, build, first_positions, keys_of_words, live_positions, next_positions,
+    one_count, one_step, one_step_of_rules, position_automaton, rules_that_fit, tables_of_keys,
+    words_that_fit,
 };
-use lexre::{ByteSet, Pattern, positions};
+use lexre::{ByteSet, Pattern, ReadOptions, positions};
+use lexspec::{SpecError, read_spec};
 use std::alloc::{AllocError, Global};
 use std::test::Fail;
 
@@ -163,5 +165,192 @@ fn nothing_many_times(rt: HostRuntime) -> Result<(), Fail> {
         step(alloc, &pattern, true, &[])?.as_slice(),
         [4].as_slice()
     );
+    Ok(())
+}
+
+/// The automaton of a file within these limits.
+fn built(alloc: Global, text: &str, limits: Limits) -> Result<Result<Dfa, BuildError>, SpecError>
+    requires positions { limits.positions ≤ 16384 }
+    requires states { limits.states ≤ 8192 }
+{
+    let spec = read_spec(alloc, text.as_bytes(), ReadOptions { fold: false })?;
+    Ok(build(alloc, &spec, limits))
+}
+
+/// How many states the automaton of a file has, within limits of positions and states.
+fn states(
+    alloc: Global,
+    text: &str,
+    most: (u32, u32),
+) -> Result<Result<u32, BuildError>, SpecError> {
+    let limits = Limits {
+        positions: most.0.min(16_384),
+        states: most.1.min(8_192),
+    };
+    Ok(match built(alloc, text, limits)? {
+        Ok(automaton) => Ok(automaton.len()),
+        Err(error) => Err(error),
+    })
+}
+
+/// The greatest limits.
+const MOST: (u32, u32) = (16_384, 8_192);
+
+// The counts follow from what a position and a subset are, and are not what the program printed.
+#[test]
+fn counts(rt: HostRuntime) -> Result<(), Fail> {
+    let alloc = rt.alloc();
+    let choice = "%%\nab|cb printf(\"X\");\n";
+    let doubling = "%%\n(a|b)*a(a|b){11} ;\n";
+    let conditions = "%x C\n%%\na BEGIN(C);\nb printf(\"B\");\n<C>c BEGIN(0);\n";
+    let rows = [
+        (choice, (4, 6), Ok(6)),
+        (choice, (3, 8_192), Err(BuildError::TooManyPositions)),
+        (choice, (16_384, 5), Err(BuildError::TooManyStates)),
+        (conditions, (3, 6), Ok(6)),
+        (doubling, (25, 4_098), Ok(4_098)),
+        (doubling, (24, 8_192), Err(BuildError::TooManyPositions)),
+        (doubling, (25, 4_097), Err(BuildError::TooManyStates)),
+        (
+            "%%\n(a|b)*a(a|b){14} ;\n",
+            MOST,
+            Err(BuildError::TooManyStates),
+        ),
+        ("%%\n((((\"\"){255}){255}){255}){255} ;\n", (0, 2), Ok(2)),
+        (
+            "%%\n(a{255}){65} ;\n",
+            MOST,
+            Err(BuildError::TooManyPositions),
+        ),
+        (
+            "%%\n((((a{255}){255}){255}){255}){255} ;\n",
+            MOST,
+            Err(BuildError::TooManyPositions),
+        ),
+        (
+            "%%\nb*/(a{255}){255}a{255}a{255} ;\n",
+            MOST,
+            Err(BuildError::TooManyPositions),
+        ),
+    ];
+    for (text, most, wanted) in rows {
+        assert_eq!(rt; states(alloc, text, most)?, wanted);
+    }
+    Ok(())
+}
+
+// A state for each of so many letters in a row, the start and the dead state.
+#[test]
+fn rows_of_letters(rt: HostRuntime) -> Result<(), Fail> {
+    let alloc = rt.alloc();
+    let row = "%%\n(a{15}){4} ;\n";
+    assert_eq!(rt; states(alloc, row, (60, 62))?, Ok(62));
+    assert_eq!(rt;
+        states(alloc, row, (60, 61))?,
+        Err(BuildError::TooManyStates)
+    );
+    assert_eq!(rt;
+        states(alloc, row, (59, 62))?,
+        Err(BuildError::TooManyPositions)
+    );
+    Ok(())
+}
+
+/// What the state after a word tells: the rules that it accepts, each behind a blank, and a `+` if it goes on.
+fn told(
+    alloc: Global,
+    automaton: &Dfa,
+    start: (usize, bool),
+    word: &str,
+) -> Result<String, AllocError> {
+    let mut text = String::new(alloc);
+    if start.0 < automaton.starts.len() {
+        let mut state = automaton.start(start.0, start.1);
+        for byte in word.as_bytes() {
+            state = automaton.next(state, *byte);
+        }
+        for rule in automaton.accepts(state) {
+            text.push_str(&format!(in alloc; " {rule}")?)?;
+        }
+        if automaton.goes_on(state) {
+            text.push_str("+")?;
+        }
+    }
+    Ok(text)
+}
+
+/// The automaton of a file within the greatest limits.
+fn whole(alloc: Global, text: &str) -> Result<Dfa, Fail> {
+    let limits = Limits {
+        positions: 16_384,
+        states: 8_192,
+    };
+    Ok(built(alloc, text, limits)??)
+}
+
+#[test]
+fn words(rt: HostRuntime) -> Result<(), Fail> {
+    let alloc = rt.alloc();
+    let inside = (0, false);
+    let line = (0, true);
+    let rows = [
+        (
+            "abc printf(\"X\");\n",
+            inside,
+            [("", "+"), ("ab", "+"), ("abc", " 0"), ("abca", "")],
+        ),
+        (
+            "a+ ;\naa ;\n",
+            inside,
+            [("a", " 0+"), ("aa", " 0+"), ("aaa", " 0+"), ("b", "")],
+        ),
+        (
+            "a+ ECHO; REJECT;\naa ;\n",
+            inside,
+            [("a", " 0+"), ("aa", " 0 1+"), ("aaa", " 0+"), ("b", "")],
+        ),
+        (
+            "^a printf(\"A\");\n",
+            inside,
+            [("", ""), ("a", ""), ("aa", ""), ("b", "")],
+        ),
+        (
+            "^a printf(\"A\");\n",
+            line,
+            [("", "+"), ("a", " 0"), ("aa", ""), ("b", "")],
+        ),
+        (
+            "ab/cd printf(\"[%s]\", yytext);\n",
+            inside,
+            [("ab", "+"), ("abc", "+"), ("abcd", " 0"), ("cd", "")],
+        ),
+    ];
+    for (rules, start, tests) in rows {
+        let automaton = whole(alloc, format!(in alloc; "%%\n{rules}")?.as_str())?;
+        for (word, wanted) in tests {
+            assert_eq!(rt; told(alloc, &automaton, start, word)?.as_str(), wanted);
+        }
+    }
+    Ok(())
+}
+
+#[test]
+fn conditions(rt: HostRuntime) -> Result<(), Fail> {
+    let alloc = rt.alloc();
+    let text = "%x C\n%%\na BEGIN(C);\nb printf(\"B\");\n<C>c BEGIN(0);\n";
+    let automaton = whole(alloc, text)?;
+    let rows = [
+        (0, "a", " 0"),
+        (0, "b", " 1"),
+        (0, "c", ""),
+        (1, "a", ""),
+        (1, "c", " 2"),
+    ];
+    for (condition, word, wanted) in rows {
+        assert_eq!(rt;
+            told(alloc, &automaton, (condition, false), word)?.as_str(),
+            wanted
+        );
+    }
     Ok(())
 }

@@ -290,14 +290,44 @@ fn enter_copies(
         };
     }
     let mut left = entered;
+    let mut out = false;
     let mut after = base;
+    let mut needed = copies.least;
     for k in 0..copies.count {
-        let passed = leave(inner, last, after, left);
-        let again = is_loop(copies, k) && leave(inner, last, after, false).left;
-        let here = left || again;
-        enter(inner, last, after, here, next);
+        out = out || (needed == 0 && left);
+        let passed = enter_copy(inner, last, after, left, is_loop(copies, k), next);
         left = passed.left;
         after = passed.after;
+        needed = needed.saturating_sub(1);
     }
-    leave_copies(inner, last, base, copies, entered)
+    Passed {
+        left: out || (needed == 0 && left),
+        after,
+    }
+}
+
+/// One copy. Where it loops it is entered from its own end too.
+#[cycle(enter)]
+fn enter_copy(
+    inner: &Pattern,
+    last: &[bool],
+    base: usize,
+    entered: bool,
+    loops: bool,
+    next: &mut [bool],
+) -> Passed
+    requires sound { IsSoundTree (tree_of inner.now) }
+    requires within { base + positions (tree_of inner.now) ≤ length last.now }
+    requires few { length last.now < 2 ^ 32 }
+    requires room { length next.old ≡ length last.now }
+    ensures left { result.left ≡ exits (tree_of inner.now) (flag last.now) base entered }
+    ensures after { result.after ≡ base + positions (tree_of inner.now) }
+    ensures next { (q : ℕ) → flag next.new q ≡ (flag next.old q || enters (tree_of inner.now) (flag last.now) q base (entered || (loops && exits (tree_of inner.now) (flag last.now) base false))) }
+{
+    if !loops || entered {
+        return enter(inner, last, base, entered, next);
+    }
+    let again = leave(inner, last, base, false);
+    enter(inner, last, base, again.left, next);
+    again
 }

@@ -1,12 +1,13 @@
 use Rattle.std.proofs.Common.{◌-◌, ◌*◌, length}
-use Rattle.lexauto.specs.Explored.{Exploring, Held, step_by}
-use Rattle.lexauto.specs.Keys.{look, keys_in}
+use Rattle.lexauto.specs.Explored.{Exploring, GoOnSoFar, Held, step_by}
+use Rattle.lexauto.specs.Packing.{look_kept, kept_in}
 use Rattle.lexauto.proofs.explore.explore.Given as goal
 
 abbrev pub invariant-work : goal.invariant-work
 invariant-work g l = record {
-  exploring : Exploring (step_by (g.M.Moves.follow l.moves) (g.M.Moves.read l.moves)) (keys_in l.fn.roots.keys.items) (look l.table.places) (keys_in l.table.keys.items) l.next.items l.limit;
-  held : Held (g.M.Moves.follow l.moves) (keys_in l.table.keys.items) l.next.items l.followers.items;
+  exploring : Exploring (step_by (g.M.Moves.follow l.moves) (g.M.Moves.read l.moves)) (kept_in l.fn.roots.keys.items) (look_kept l.table.places) (kept_in l.table.keys.items) l.next.items l.limit;
+  held : Held (g.M.Moves.follow l.moves) (kept_in l.table.keys.items) l.next.items l.followers.items;
+  on : GoOnSoFar (g.M.Moves.follow l.moves) (kept_in l.table.keys.items) l.next.items l.goes_on.items;
 }
 
 abbrev pub decreases-work : goal.decreases-work

@@ -9,9 +9,11 @@ use Rattle.lexauto.specs.declared.explore.ExploreError.TheVariants.{TooMany, Mem
 use Rattle.lexauto.specs.declared.error.BuildError.TheVariants.{TooManyStates}
 use Rattle.lexauto.specs.Errors.{build_error}
 use Rattle.lexauto.specs.Keys.{keys_in}
+use Rattle.lexauto.specs.Packing.{kept_in}
 use Rattle.lexauto.specs.WordKeys.{Surveys}
 use Rattle.lexauto.specs.Facts.{AcceptedBy, GoOnBy}
 use Rattle.lexauto.proofs.Places.{keys_length}
+use Rattle.lexauto.proofs.Kept.{kept_length}
 use Rattle.lexauto.proofs.Counting.{counted}
 use Rattle.lexauto.proofs.Tables.{table_of, reached_of, laws_of}
 use Rattle.lexauto.proofs.Surveying.{starts_range, lines_range, next_range}
@@ -33,11 +35,11 @@ pub invariant_of-result : goal.invariant_of-result
 invariant_of-result c =
     let S = spec_of c.in_ok-moves.moves.spec.now in
     let found = c.in_ok-found.found in
-    let keys = keys_in found.keys.items in
+    let keys = kept_in found.keys.items in
     let s : Surveys S keys found.next.items found.starts.items found.line_starts.items = c.in_ok-found.ensures.ok in
-    let goes : length c.in_ok-goes_on.goes_on.items ≡ length found.keys.items = c.in_ok-goes_on.ensures.len ∙ ap length c.deref-2.ensures.value in
-    let size : length keys ≡ length c.in_ok-goes_on.goes_on.items = keys_length found.keys.items ∙ sym goes in
-    let lists : length c.in_ok-accepts.accepts.items ≡ length c.in_ok-goes_on.goes_on.items = c.in_ok-accepts.ensures.len ∙ ap length c.deref.ensures.value ∙ sym goes in
+    let goes : length found.goes_on.items ≡ length found.keys.items = c.in_ok-found.ensures.len in
+    let size : length keys ≡ length found.goes_on.items = kept_length found.keys.items ∙ sym goes in
+    let lists : length c.in_ok-accepts.accepts.items ≡ length found.goes_on.items = c.in_ok-accepts.ensures.len ∙ ap length c.deref.ensures.value ∙ sym goes in
     let len = s.automaton.len in
     let room = c.in_ok-found.ensures.room in
     let most = c.requires.states in
@@ -55,60 +57,57 @@ pub returns-clause-table : goal.returns-clause-table
 returns-clause-table c =
     let S = spec_of c.args.spec.now in
     let found = c.in_ok-found.found in
-    let keys = keys_in found.keys.items in
+    let keys = kept_in found.keys.items in
     let same : c.in_ok-moves.moves.spec.now ≡ c.args.spec.now = c.in_ok-moves.ensures.0 in
     let s : Surveys S keys found.next.items found.starts.items found.line_starts.items =
     subst (λ (p : Spec). Surveys (spec_of p) keys found.next.items found.starts.items found.line_starts.items) same c.in_ok-found.ensures.ok in
     let accepted : AcceptedBy S keys (keys_in c.in_ok-accepts.accepts.items) =
-    subst (λ (ks : List (Vec ℕ Global)). AcceptedBy S (keys_in ks) (keys_in c.in_ok-accepts.accepts.items)) c.deref.ensures.value c.in_ok-accepts.ensures.accepted in
-    let on : GoOnBy S keys c.in_ok-goes_on.goes_on.items =
-    subst (λ (p : Spec). GoOnBy (spec_of p) keys c.in_ok-goes_on.goes_on.items) same
-    (subst (λ (ks : List (Vec ℕ Global)). GoOnBy (spec_of c.in_ok-moves.moves.spec.now) (keys_in ks) c.in_ok-goes_on.goes_on.items) c.deref-2.ensures.value c.in_ok-goes_on.ensures.goes_on) in
-    table_of S (spec_is_sound S c.args.spec.now.sound) keys found.next.items found.starts.items found.line_starts.items s (keys_in c.in_ok-accepts.accepts.items) c.in_ok-goes_on.goes_on.items accepted on
+    subst (λ (ks : List (Vec ℕ Global)). AcceptedBy S (kept_in ks) (keys_in c.in_ok-accepts.accepts.items)) c.deref.ensures.value c.in_ok-accepts.ensures.accepted in
+    let on : GoOnBy S keys found.goes_on.items =
+    subst (λ (p : Spec). GoOnBy (spec_of p) keys found.goes_on.items) same c.in_ok-found.ensures.goes_on in
+    table_of S (spec_is_sound S c.args.spec.now.sound) keys found.next.items found.starts.items found.line_starts.items s (keys_in c.in_ok-accepts.accepts.items) found.goes_on.items accepted on
 
 pub returns-clause-reached : goal.returns-clause-reached
 returns-clause-reached c = λ p lt.
     let S = spec_of c.args.spec.now in
     let found = c.in_ok-found.found in
-    let keys = keys_in found.keys.items in
+    let keys = kept_in found.keys.items in
     let same : c.in_ok-moves.moves.spec.now ≡ c.args.spec.now = c.in_ok-moves.ensures.0 in
     let s : Surveys S keys found.next.items found.starts.items found.line_starts.items =
     subst (λ (p : Spec). Surveys (spec_of p) keys found.next.items found.starts.items found.line_starts.items) same c.in_ok-found.ensures.ok in
     let accepted : AcceptedBy S keys (keys_in c.in_ok-accepts.accepts.items) =
-    subst (λ (ks : List (Vec ℕ Global)). AcceptedBy S (keys_in ks) (keys_in c.in_ok-accepts.accepts.items)) c.deref.ensures.value c.in_ok-accepts.ensures.accepted in
-    let on : GoOnBy S keys c.in_ok-goes_on.goes_on.items =
-    subst (λ (p : Spec). GoOnBy (spec_of p) keys c.in_ok-goes_on.goes_on.items) same
-    (subst (λ (ks : List (Vec ℕ Global)). GoOnBy (spec_of c.in_ok-moves.moves.spec.now) (keys_in ks) c.in_ok-goes_on.goes_on.items) c.deref-2.ensures.value c.in_ok-goes_on.ensures.goes_on) in
-    let goes : length c.in_ok-goes_on.goes_on.items ≡ length found.keys.items = c.in_ok-goes_on.ensures.len ∙ ap length c.deref-2.ensures.value in
-    let low : p < length keys = omega (arith, goes, lt, keys_length found.keys.items) in
-    reached_of S (spec_is_sound S c.args.spec.now.sound) keys found.next.items found.starts.items found.line_starts.items s (keys_in c.in_ok-accepts.accepts.items) c.in_ok-goes_on.goes_on.items accepted on p low
+    subst (λ (ks : List (Vec ℕ Global)). AcceptedBy S (kept_in ks) (keys_in c.in_ok-accepts.accepts.items)) c.deref.ensures.value c.in_ok-accepts.ensures.accepted in
+    let on : GoOnBy S keys found.goes_on.items =
+    subst (λ (p : Spec). GoOnBy (spec_of p) keys found.goes_on.items) same c.in_ok-found.ensures.goes_on in
+    let goes : length found.goes_on.items ≡ length found.keys.items = c.in_ok-found.ensures.len in
+    let low : p < length keys = omega (arith, goes, lt, kept_length found.keys.items) in
+    reached_of S (spec_is_sound S c.args.spec.now.sound) keys found.next.items found.starts.items found.line_starts.items s (keys_in c.in_ok-accepts.accepts.items) found.goes_on.items accepted on p low
 
 pub returns-clause-laws : goal.returns-clause-laws
 returns-clause-laws c =
     let S = spec_of c.args.spec.now in
     let found = c.in_ok-found.found in
-    let keys = keys_in found.keys.items in
+    let keys = kept_in found.keys.items in
     let same : c.in_ok-moves.moves.spec.now ≡ c.args.spec.now = c.in_ok-moves.ensures.0 in
     let s : Surveys S keys found.next.items found.starts.items found.line_starts.items =
     subst (λ (p : Spec). Surveys (spec_of p) keys found.next.items found.starts.items found.line_starts.items) same c.in_ok-found.ensures.ok in
     let accepted : AcceptedBy S keys (keys_in c.in_ok-accepts.accepts.items) =
-    subst (λ (ks : List (Vec ℕ Global)). AcceptedBy S (keys_in ks) (keys_in c.in_ok-accepts.accepts.items)) c.deref.ensures.value c.in_ok-accepts.ensures.accepted in
-    let on : GoOnBy S keys c.in_ok-goes_on.goes_on.items =
-    subst (λ (p : Spec). GoOnBy (spec_of p) keys c.in_ok-goes_on.goes_on.items) same
-    (subst (λ (ks : List (Vec ℕ Global)). GoOnBy (spec_of c.in_ok-moves.moves.spec.now) (keys_in ks) c.in_ok-goes_on.goes_on.items) c.deref-2.ensures.value c.in_ok-goes_on.ensures.goes_on) in
-    let goes : length c.in_ok-goes_on.goes_on.items ≡ length keys = c.in_ok-goes_on.ensures.len ∙ ap length c.deref-2.ensures.value ∙ sym (keys_length found.keys.items) in
+    subst (λ (ks : List (Vec ℕ Global)). AcceptedBy S (kept_in ks) (keys_in c.in_ok-accepts.accepts.items)) c.deref.ensures.value c.in_ok-accepts.ensures.accepted in
+    let on : GoOnBy S keys found.goes_on.items =
+    subst (λ (p : Spec). GoOnBy (spec_of p) keys found.goes_on.items) same c.in_ok-found.ensures.goes_on in
+    let goes : length found.goes_on.items ≡ length keys = c.in_ok-found.ensures.len ∙ sym (kept_length found.keys.items) in
     let lists : length (keys_in c.in_ok-accepts.accepts.items) ≡ length keys =
-    keys_length c.in_ok-accepts.accepts.items ∙ c.in_ok-accepts.ensures.len ∙ ap length c.deref.ensures.value ∙ sym (keys_length found.keys.items) in
-    laws_of S (spec_is_sound S c.args.spec.now.sound) keys found.next.items found.starts.items found.line_starts.items s (keys_in c.in_ok-accepts.accepts.items) c.in_ok-goes_on.goes_on.items accepted on lists goes
+    keys_length c.in_ok-accepts.accepts.items ∙ c.in_ok-accepts.ensures.len ∙ ap length c.deref.ensures.value ∙ sym (kept_length found.keys.items) in
+    laws_of S (spec_is_sound S c.args.spec.now.sound) keys found.next.items found.starts.items found.line_starts.items s (keys_in c.in_ok-accepts.accepts.items) found.goes_on.items accepted on lists goes
 
 pub returns-clause-states : goal.returns-clause-states
 returns-clause-states c =
     let S = spec_of c.args.spec.now in
     let found = c.in_ok-found.found in
-    let keys = keys_in found.keys.items in
+    let keys = kept_in found.keys.items in
     let same : c.in_ok-moves.moves.spec.now ≡ c.args.spec.now = c.in_ok-moves.ensures.0 in
     let s : Surveys S keys found.next.items found.starts.items found.line_starts.items =
     subst (λ (p : Spec). Surveys (spec_of p) keys found.next.items found.starts.items found.line_starts.items) same c.in_ok-found.ensures.ok in
-    let goes : length c.in_ok-goes_on.goes_on.items ≡ length found.keys.items = c.in_ok-goes_on.ensures.len ∙ ap length c.deref-2.ensures.value in
-    subst (λ (n : ℕ). Subsets S n) (keys_length found.keys.items ∙ sym goes)
+    let goes : length found.goes_on.items ≡ length found.keys.items = c.in_ok-found.ensures.len in
+    subst (λ (n : ℕ). Subsets S n) (kept_length found.keys.items ∙ sym goes)
     (counted S (spec_is_sound S c.args.spec.now.sound) keys found.next.items found.starts.items found.line_starts.items s)

@@ -1,9 +1,11 @@
-use Rattle.std.proofs.Common.{◌≡◌, ap, Err}
+use Rattle.std.proofs.Common.{◌≡◌, ℕ, ap, sym, ◌∙◌, Err}
 use Rattle.std.proofs.lemmas.Result.{err_from_is_err_and}
-use Rattle.lexspec.specs.Views.{spec_of}
+use Rattle.lexspec.specs.Views.{spec_of, rules_in}
+use Rattle.lexauto.specs.Machines.{is_some}
+use Rattle.lexauto.specs.Moving.{followers_in}
 use Rattle.lexspec.proofs.TestLaws.{spec_is_sound}
 use Rattle.lexauto.specs.declared.explore.ExploreError.TheVariants.{TooMany}
-use Rattle.lexauto.specs.Keys.{look, keys_in}
+use Rattle.lexauto.specs.Packing.{look_kept, kept_in}
 use Rattle.lexauto.proofs.Surveying.{more_roots_than, more_keys_than, surveyed}
 use Rattle.lexauto.proofs.subsets.explore_spec.Goals as goal
 
@@ -28,12 +30,16 @@ returns-in_err-explored-clause-too_many c = λ e n s.
     let told = rw (p.1, p.2) at e in
     let same : c.in_err-explored.field-0.0 ≡ TooMany = cc in
     more_keys_than S c.args.limit n (spec_is_sound S c.args.moves.now.spec.now.sound) c.args.moves.now.count c.args.moves.now.within
-    (keys_in c.add_starts-2.new.table.keys.items) c.in_ok-line_starts.ensures.roots.only (c.in_err-explored.ensures.too_many (ap Err same)) s
+    (kept_in c.add_starts-2.new.table.keys.items) c.in_ok-line_starts.ensures.roots.only (c.in_err-explored.ensures.too_many (ap Err same)) s
 
 pub returns-clause-ok : goal.returns-clause-ok
 returns-clause-ok c =
-    surveyed (spec_of c.args.moves.now.spec.now) c.args.moves.now.count c.args.moves.now.within (look c.add_starts-2.new.table.places)
-    (keys_in c.add_starts.new.table.keys.items) (keys_in c.add_starts-2.new.table.keys.items) (keys_in c.in_ok-explored.explored.keys.items)
+    surveyed (spec_of c.args.moves.now.spec.now) c.args.moves.now.count c.args.moves.now.within (look_kept c.add_starts-2.new.table.places)
+    (kept_in c.add_starts.new.table.keys.items) (kept_in c.add_starts-2.new.table.keys.items) (kept_in c.in_ok-explored.explored.keys.items)
     c.in_ok-explored.explored.next.items c.in_ok-starts.starts.items c.in_ok-line_starts.line_starts.items
     c.in_ok-line_starts.ensures.roots c.in_ok-explored.ensures.ok c.in_ok-starts.ensures.places c.in_ok-line_starts.ensures.grows c.in_ok-starts.ensures.len
     c.in_ok-line_starts.ensures.places c.in_ok-line_starts.ensures.len
+
+pub returns-clause-goes_on : goal.returns-clause-goes_on
+returns-clause-goes_on c = λ i k a.
+    c.in_ok-explored.ensures.goes_on.each i k a ∙ ap (λ (n : ℕ). is_some (followers_in (rules_in (spec_of c.args.moves.now.spec.now)) n k)) (sym c.args.moves.now.within)

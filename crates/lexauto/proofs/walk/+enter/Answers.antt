@@ -2,8 +2,8 @@ use Rattle.std.proofs.Common.{rules, ◌≡◌, ◌+◌, ◌<◌, ◌||◌, ◌&
 use Rattle.lexmeaning.specs.Positions.{positions}
 use Rattle.lexre.specs.Views.{tree_of}
 use Rattle.lexauto.specs.Flow.{flag, is_zero, comes, exits, enters}
-use Rattle.lexauto.proofs.Copies.{passes_nothing, nothing_left, comes_nothing, nothing_comes, comes_step, copy_place, or_false, or_left, or_right, and_left, and_right, or_assoc, and_assoc}
-use Rattle.lexauto.proofs.walk.+enter.Goals.{enter_copies-then-is_loop, enter_copies-else-is_loop, enter_copies-then-left, enter_copies-else-left}
+use Rattle.lexauto.proofs.Copies.{passes_nothing, nothing_left, passes_step, comes_nothing, nothing_comes, comes_step, copy_place, or_false, or_assoc, and_assoc, left_before, left_here, not_left}
+use Rattle.lexauto.proofs.walk.+enter.Goals.{enter_copies-then-out, enter_copies-else-out+then-needed-eq0, enter_copies-else-out+else-needed-eq0}
 use Rattle.lexauto.proofs.walk.+enter.Goals as goal
 
 pub enter_copies-returns-in-Some-eq0-clause-left : goal.enter_copies-returns-in-Some-eq0-clause-left
@@ -27,24 +27,23 @@ enter_copies-loop-k-preserved t c =
     let k = c.loop-k.k in
     let lt : k < count = c.loop-k-test.true in
     let own : Bool = exits tree S c.loop-k.after false in
-    let again : c.if-is_loop.again ≡ (c.is_loop.result && own) = elim c.if-is_loop.branch [
-      | enter_copies-then-is_loop w ↦ and_right c.is_loop.result own c.if-is_loop.again w.if-is_loop.true (w.again-is ∙ w.leave.ensures.left)
-      | enter_copies-else-is_loop w ↦ and_left c.is_loop.result own c.if-is_loop.again w.if-is_loop.false w.again-is
+    let out : c.if-out.out ≡ (c.loop-k.out || (is_zero c.loop-k.needed && c.loop-k.left)) = elim c.if-out.branch [
+      | enter_copies-then-out w ↦ left_before c.loop-k.out c.loop-k.left c.if-out.out c.loop-k.needed w.if-out.true (w.out-is ∙ w.if-out.true)
+      | enter_copies-else-out+then-needed-eq0 w ↦ left_here c.loop-k.out c.loop-k.left c.if-out.out c.loop-k.needed w.if-out.false w.if-needed-eq0.true w.out-is
+      | enter_copies-else-out+else-needed-eq0 w ↦ not_left c.loop-k.out c.loop-k.left c.if-out.out c.loop-k.needed w.if-out.false w.out-is w.if-needed-eq0.false
     ] in
-    let here : c.if-left.here ≡ (c.loop-k.left || c.if-is_loop.again) = elim c.if-left.branch [
-      | enter_copies-then-left w ↦ or_left c.loop-k.left c.if-is_loop.again c.if-left.here w.if-left.true w.here-is
-      | enter_copies-else-left w ↦ or_right c.loop-k.left c.if-is_loop.again c.if-left.here w.if-left.false w.here-is
-    ] in
-    let whole : c.if-left.here ≡ (c.loop-k.left || (c.args.copies.loops && (is_zero (count - (k + 1)) && own))) =
-    here ∙ ap (λ (j : Bool). c.loop-k.left || j) (again ∙ ap (λ (j : Bool). j && own) c.is_loop.ensures ∙ and_assoc c.args.copies.loops (is_zero (count - (k + 1))) own) in
+    let whole : (c.loop-k.left || (c.is_loop.result && own)) ≡ (c.loop-k.left || (c.args.copies.loops && (is_zero (count - (k + 1)) && own))) =
+    ap (λ (j : Bool). c.loop-k.left || j) (ap (λ (j : Bool). j && own) c.is_loop.ensures ∙ and_assoc c.args.copies.loops (is_zero (count - (k + 1))) own) in
     record {
-      place = rw c.leave-passed.ensures.after (sym (copy_place c.loop-k.after count k (positions tree) lt) ∙ c.loop-k.invariant.place);
+      place = rw c.enter_copy-passed.ensures.after (sym (copy_place c.loop-k.after count k (positions tree) lt) ∙ c.loop-k.invariant.place);
+      flow = rw (c.enter_copy-passed.ensures.after, c.enter_copy-passed.ensures.left, c.saturating_sub-needed.ensures, out)
+          (sym (passes_step (exits tree S) c.loop-k.after (positions tree) c.loop-k.needed c.loop-k.out c.loop-k.left count k lt) ∙ c.loop-k.invariant.flow);
       room = search rules;
       told = λ q.
           let rest = comes (enters tree S q) (exits tree S) c.args.copies.loops (c.loop-k.after + positions tree) (positions tree) (exits tree S c.loop-k.after c.loop-k.left) (count - (k + 1)) in
           let step = comes_step (enters tree S q) (exits tree S) c.args.copies.loops c.loop-k.after (positions tree) c.loop-k.left count k lt in
-          rw (c.leave-passed.ensures.after, c.leave-passed.ensures.left)
-          (ap (λ (j : Bool). j || rest) (c.enter.ensures.next q ∙ ap (λ (h : Bool). flag c.loop-k.next q || enters tree S q c.loop-k.after h) whole)
+          rw (c.enter_copy-passed.ensures.after, c.enter_copy-passed.ensures.left)
+          (ap (λ (j : Bool). j || rest) (c.enter_copy-passed.ensures.next q ∙ ap (λ (h : Bool). flag c.loop-k.next q || enters tree S q c.loop-k.after h) whole)
           ∙ or_assoc (flag c.loop-k.next q) (enters tree S q c.loop-k.after (c.loop-k.left || (c.args.copies.loops && (is_zero (count - (k + 1)) && own)))) rest
           ∙ ap (λ (j : Bool). flag c.loop-k.next q || j) (sym step)
           ∙ c.loop-k.invariant.told q);

@@ -1,9 +1,9 @@
-use Rattle.std.proofs.Common.{◌≡◌, ℕ, ◌+◌, ◌-◌, ◌*◌, ◌||◌, drop, map, length}
+use Rattle.std.proofs.Common.{◌≡◌, ℕ, ◌+◌, ◌-◌, ◌*◌, ◌||◌, false, drop, map, length}
 use Rattle.lexmeaning.specs.Tree.{trees}
 use Rattle.lexmeaning.specs.Shapes.{AreSoundTrees}
 use Rattle.lexmeaning.specs.Positions.{positions, positions_of}
 use Rattle.lexre.specs.Views.{tree_of}
-use Rattle.lexauto.specs.Flow.{flag, comes, exits, exits_each, exits_some, enters, enters_each, enters_some}
+use Rattle.lexauto.specs.Flow.{flag, passes, comes, exits, exits_each, exits_some, enters, enters_each, enters_some}
 use Rattle.lexauto.proofs.walk.+enter.Given as goal
 
 abbrev pub invariant-enter_each-loop-part : goal.invariant-enter_each-loop-part
@@ -29,6 +29,8 @@ invariant-enter_some-loop-part l = record {
 abbrev pub invariant-enter_copies-loop-k : goal.invariant-enter_copies-loop-k
 invariant-enter_copies-loop-k l = record {
   place : l.after + (l.fn.copies.count - l.k) * positions (tree_of l.inner) ≡ l.base + l.fn.copies.count * positions (tree_of l.inner);
+  flow : passes (exits (tree_of l.inner) (flag l.last)) l.after (positions (tree_of l.inner)) l.needed l.out l.left (l.fn.copies.count - l.k)
+      ≡ passes (exits (tree_of l.inner) (flag l.last)) l.base (positions (tree_of l.inner)) l.fn.copies.least false l.entered l.fn.copies.count;
   room : length l.next ≡ length l.last;
   told : (q : ℕ) → (flag l.next q || comes (enters (tree_of l.inner) (flag l.last) q) (exits (tree_of l.inner) (flag l.last)) l.fn.copies.loops l.after (positions (tree_of l.inner)) l.left (l.fn.copies.count - l.k))
       ≡ (flag l.fn.next q || comes (enters (tree_of l.inner) (flag l.last) q) (exits (tree_of l.inner) (flag l.last)) l.fn.copies.loops l.base (positions (tree_of l.inner)) l.entered l.fn.copies.count);

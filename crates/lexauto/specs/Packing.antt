@@ -1,0 +1,47 @@
+-- Keys as they are kept: as they are, or the bits of the last positions, 32 in a number. The first number says which.
+-- (This project's.)
+use Rattle.std.specs.Prelude.{ℕ, zero, suc, ◌+◌, ◌-◌, ◌*◌, ◌/◌, ◌%◌, ◌^◌, ◌==◌, ◌&&◌, Bool, cond, List, [], ◌∷◌, length, map, min, nat_lt, bit_or, slice_index, slice_set, Option, Vec}
+use Rattle.std.proofs.Common.{Global, replicate}
+use Rattle.std.specs.Str.{bytes_eq}
+use Rattle.std.specs.BTreeMap.{BTreeMap}
+use Rattle.lexauto.specs.Keys.{Key, look}
+use Rattle.lexauto.specs.Sets.{listed, lasts_in}
+
+-- whether the position's bit is set
+abbrev pub bit_at : List ℕ → ℕ → Bool
+bit_at words p = slice_index words (p / 32) / 2 ^ (p % 32) % 2 == 1
+
+abbrev pub with_bit : List ℕ → ℕ → List ℕ
+with_bit words p = slice_set words (p / 32) (bit_or (slice_index words (p / 32)) (2 ^ (p % 32)))
+
+abbrev pub with_bits : List ℕ → List ℕ → List ℕ
+with_bits words [] = words
+with_bits words (p ∷ ps) = with_bits (with_bit words p) ps
+
+-- how many of the bits are read: those of 16,384 positions at most
+abbrev pub bit_count : List ℕ → ℕ
+bit_count words = min (length words) 512 * 32
+
+-- the key that is kept so
+abbrev pub unpacked : List ℕ → Key
+unpacked [] = []
+unpacked (zero ∷ words) = 1 ∷ listed (bit_at words) 0 (bit_count words)
+unpacked (suc plain ∷ k) = k
+
+-- as many words as the last position of the key needs
+abbrev pub word_count : Key → ℕ
+word_count k = slice_index k (length k - 1) / 32 + 1
+
+abbrev pub bits_of : Key → List ℕ
+bits_of k = 0 ∷ with_bits (replicate (word_count k) 0) (lasts_in k)
+
+-- how the key is kept: as bits where they are fewer and say the same
+unfoldable pub packed : Key → List ℕ
+packed k = cond (nat_lt (word_count k) (length k) && bytes_eq (unpacked (bits_of k)) k) (bits_of k) (1 ∷ k)
+
+abbrev pub kept_in : List (Vec ℕ Global) → List Key
+kept_in vs = map (λ v. unpacked v.items) vs
+
+-- what the map has at a key
+abbrev pub look_kept : BTreeMap (Vec ℕ Global) ℕ → Key → Option ℕ
+look_kept m k = look m (packed k)
