@@ -5,7 +5,8 @@ use Rattle.std.specs.Prelude.{get_or}
 use Rattle.std.specs.Borrow.{Bor}
 use Rattle.bstr.specs.Text.{line_len, lines_from, lines_of, without_terminator}
 use Rattle.lexmeaning.specs.Spec.{Rule}
-use Rattle.lexkit.specs.Spelling.{ends_here, is_blank, all_pass, is_mark, IsRule, AreRules, IsFile, lines}
+use Rattle.lexmeaning.specs.ByteSets.{is_blank}
+use Rattle.lexkit.specs.Spelling.{ends_here, all_pass, is_mark, IsRule, AreRules, IsFile, lines}
 use Rattle.lexkit.specs.FileViews.{texts_of, UnlessMemory}
 use Rattle.lexkit.specs.declared.errors.SpecErrorKind.{SpecErrorKind}
 use Rattle.lexkit.specs.declared.errors.SpecErrorKind.TheVariants.{NoRulesSection, BadDefinitionLine, Pattern, UnknownStatement, TooManyRules, TooLong, OutOfMemory}

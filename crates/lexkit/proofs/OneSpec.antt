@@ -10,7 +10,9 @@ use Rattle.lexkit.specs.Simple.{simple_rule}
 use Rattle.lexre.specs.Spelling.{Spells}
 use Rattle.lexre.proofs.CuttingLaws.{one_cutting}
 use Rattle.lexre.proofs.OneTree.{one_tree}
-use Rattle.lexkit.specs.Spelling.{is_blank, all_pass, skip, ends_here, IsDone, is_literal_byte, print_of, IsPrint, IsAction, is_mark, IsRule, AreRules, IsFile, lines, SpellsSpec}
+use Rattle.lexmeaning.specs.Reading.{after_blanks}
+use Rattle.lexmeaning.specs.ByteSets.{is_blank}
+use Rattle.lexkit.specs.Spelling.{all_pass, ends_here, IsDone, is_literal_byte, print_of, IsPrint, IsAction, is_mark, IsRule, AreRules, IsFile, lines, SpellsSpec}
 
 pub no_both : {A : Type 0} → false ≡ true → A
 no_both e = absurd (no e)
@@ -45,7 +47,7 @@ no_nil e = cc
 
 -- actions
 
-done_first : (a v : List ℕ) (x : ℕ) → IsDone a → skip a ≡ x ∷ v → (x ≡ 59 → ⊥) → ⊥
+done_first : (a v : List ℕ) (x : ℕ) → IsDone a → after_blanks a ≡ x ∷ v → (x ≡ 59 → ⊥) → ⊥
 done_first a v x (inl e) f other = no_nil (sym e ∙ f)
 done_first a v x (inr (r, e, d)) f other = other (head_is (sym f ∙ e))
 
@@ -53,8 +55,8 @@ one_print : (a : List ℕ) (ss us : List Statement) → IsPrint a ss → IsPrint
 one_print a ss us h k =
     let name : codes "printf" ++ h.after_name ≡ codes "printf" ++ k.after_name = sym h.name ∙ k.name in
     let after : h.after_name ≡ k.after_name = tail_is (tail_is (tail_is (tail_is (tail_is (tail_is name))))) in
-    let inside : h.inside ≡ k.inside = tail_is (sym h.opens ∙ ap skip after ∙ k.opens) in
-    let quotes = tail_is (sym h.quotes ∙ ap skip inside ∙ k.quotes) in
+    let inside : h.inside ≡ k.inside = tail_is (sym h.opens ∙ ap after_blanks after ∙ k.opens) in
+    let quotes = tail_is (sym h.quotes ∙ ap after_blanks inside ∙ k.quotes) in
     let cut = cut_once is_literal_byte 34 34 h.literal k.literal h.after_literal k.after_literal h.is_good k.is_good refl refl quotes in
     h.prints ∙ ap print_of cut.0 ∙ sym k.prints
 
@@ -77,9 +79,11 @@ mark_is_percent (b ∷ []) h = no_both h
 mark_is_percent (b ∷ c ∷ w) h = (c ∷ w, ap (λ z. z ∷ c ∷ w) (eqb-true b 37 (and_parts (nat_eq b 37) (nat_eq c 37) h).0))
 
 pub no_blank_mark : (l : List ℕ) → is_mark l ≡ true → ends_here l ≡ true → ⊥
+unfolding is_blank
 no_blank_mark l h k = let p = mark_is_percent l h in no_both (ap ends_here (sym p.1) ∙ k)
 
 pub no_blanks_mark : (l : List ℕ) → is_mark l ≡ true → all_pass is_blank l ≡ true → ⊥
+unfolding is_blank
 no_blanks_mark l h k = let p = mark_is_percent l h in no_both (ap (all_pass is_blank) (sym p.1) ∙ k)
 
 one_spelled : (fold : Bool) (text : List ℕ) (t u : Tree) → Spells fold empty text t → Spells fold empty text u → t ≡ u

@@ -3,7 +3,7 @@ use Rattle.std.proofs.Common.{◌≡◌, ℕ, suc, ◌+◌, ◌-◌, ◌≤◌, 
 use Rattle.std.specs.Prelude.{slice_get, nat_lt}
 use Rattle.std.proofs.lemmas.List.{append-nil, append_assoc, length-take-le, length-drop}
 use Rattle.std.proofs.lemmas.Bool.{cond-true, cond-false, lt-ltb, le-ltb, cases_lt}
-use Rattle.lexmeaning.specs.Text.{Among, part, at_line_start}
+use Rattle.lexmeaning.specs.Text.{Among, part, at_line_start, BeginsWith}
 use Rattle.lexmeaning.specs.Spec.{Spec, Condition, Statement, Echo, Print, Begin, More, Less, Reject, End, statements_at, end_at}
 use Rattle.lexmeaning.specs.Rules.{Rules, rules_of, statements_of}
 use Rattle.lexmeaning.specs.Candidates.{Candidate, Before, Candidates}
@@ -13,9 +13,7 @@ use Rattle.lexmeaning.specs.Plain.{matches_of_rules, default_match}
 use Rattle.lexmeaning.proofs.Exists.{Agree, ordered_exists}
 use Rattle.lexmeaning.proofs.PlainRun.{candidates_are, listed_are}
 use Rattle.lexmeaning.proofs.Table.{get_at}
-use Rattle.lexmeaning.specs.Text.{BeginsWith}
 use Rattle.lexmeaning.proofs.Written.{run_begins, part_begins}
-use Rattle.lextab.specs.Sink.{IsPrefixOf}
 use Rattle.lexkit.specs.Simple.{is_writing, IsSimple}
 use Rattle.lexkit.specs.Turns.{IsBest, output_of, MatchDone}
 use Rattle.lexkit.proofs.Reaching.{part_none}
@@ -152,8 +150,8 @@ module _ (S : Spec) (simple : IsSimple S) where
   }
 
   -- what was written before a fault is a front of what the run writes
-  pub far_fault : (x : List ℕ) (at : ℕ) (out one : List ℕ) → at < length x → SoFar x at out → (one ≡ []) ⊎ ((n : ℕ) × (all : List ℕ) × MatchDone (rules_of S) (drop at x) n all × IsPrefixOf one all) →
-      (w : List ℕ) (d : Ending) → Run (rules_of S) x w d → IsPrefixOf (out ++ one) w
+  pub far_fault : (x : List ℕ) (at : ℕ) (out one : List ℕ) → at < length x → SoFar x at out → (one ≡ []) ⊎ ((n : ℕ) × (all : List ℕ) × MatchDone (rules_of S) (drop at x) n all × BeginsWith all one) →
+      (w : List ℕ) (d : Ending) → Run (rules_of S) x w d → BeginsWith w (out ++ one)
   unfolding SoFar
   far_fault x at out one lt (k, turns) (inl e) w d run =
       let s : State = record { written = out; place = record { start = at; at = at; condition = 0 }; ended = None } in
@@ -165,6 +163,6 @@ module _ (S : Spec) (simple : IsSimple S) where
       part_begins (rules_of S) x k s t one w d turns refl (inl (match_turn x at n all lt h)) p run
 
   -- what is written before the end is a front of it
-  pub far_begins : (x : List ℕ) (at : ℕ) (out : List ℕ) → SoFar x at out → (w : List ℕ) (d : Ending) → Run (rules_of S) x w d → IsPrefixOf out w
+  pub far_begins : (x : List ℕ) (at : ℕ) (out : List ℕ) → SoFar x at out → (w : List ℕ) (d : Ending) → Run (rules_of S) x w d → BeginsWith w out
   unfolding SoFar
   far_begins x at out (k, turns) w d run = run_begins (rules_of S) x k (record { written = out; place = record { start = at; at = at; condition = 0 }; ended = None }) w d turns run

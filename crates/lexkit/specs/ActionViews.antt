@@ -5,7 +5,8 @@ use Rattle.std.specs.Global.{Vec}
 use Rattle.lexmeaning.specs.Spec.{Statement}
 use Rattle.lexkit.specs.declared.spec.Statement.{Statement as ReadStatement}
 use Rattle.lexkit.specs.Simple.{statement_of}
-use Rattle.lexkit.specs.Spelling.{skip, IsDone, all_pass, is_literal_byte, IsAction}
+use Rattle.lexmeaning.specs.Reading.{after_blanks}
+use Rattle.lexkit.specs.Spelling.{IsDone, all_pass, is_literal_byte, IsAction}
 
 -- the first n bytes pass, and the next does not, if there is one
 pub record IsFront (p : ℕ → Bool) (text : List ℕ) (n : ℕ) : Type 0 where
@@ -23,9 +24,9 @@ pub record IsCall (w literal : List ℕ) : Type 0 where
   pub inside : List ℕ
   pub after_literal : List ℕ
   pub after_call : List ℕ
-  pub opens : skip w ≡ 40 ∷ inside
-  pub quotes : skip inside ≡ 34 ∷ (literal ++ (34 ∷ after_literal))
-  pub closes : skip after_literal ≡ 41 ∷ after_call
+  pub opens : after_blanks w ≡ 40 ∷ inside
+  pub quotes : after_blanks inside ≡ 34 ∷ (literal ++ (34 ∷ after_literal))
+  pub closes : after_blanks after_literal ≡ 41 ∷ after_call
   pub ends : IsDone after_call
   pub is_good : all_pass is_literal_byte literal ≡ true
   pub short : length literal ≤ 4096

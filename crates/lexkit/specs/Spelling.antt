@@ -1,17 +1,16 @@
 -- Files of simple rules, as they are written. (POSIX, lex, Definitions in lex, Rules in lex, Regular Expressions in lex and Actions in lex;
 -- flex, Format of the Input File and Patterns. Which parts of them are read so far, and the limits, are this project's.)
-use Rattle.std.specs.Prelude.{◌≡◌, ℕ, ◌+◌, ◌≤◌, Bool, true, false, not, ◌&&◌, ◌||◌, List, [], ◌∷◌, ◌++◌, length, take, drop, map, codes, nat_eq, nat_le, ◌⊎◌, if◌then◌else◌, None}
+use Rattle.std.specs.Prelude.{◌≡◌, ℕ, ◌+◌, ◌≤◌, Bool, true, false, not, ◌&&◌, ◌||◌, List, [], ◌∷◌, ◌++◌, length, take, drop, map, codes, nat_eq, nat_le, ◌⊎◌, None}
 use Rattle.std.specs.FinMap.{empty}
 use Rattle.bstr.specs.Text.{lines_of, without_terminator}
 use Rattle.lexre.specs.Cutting.{IsCutting}
 use Rattle.lexre.specs.Spelling.{Spells}
+use Rattle.lexmeaning.specs.ByteSets.{is_blank}
+use Rattle.lexmeaning.specs.Reading.{after_blanks}
 use Rattle.lexmeaning.specs.Spec.{Spec, Rule, Statement, Echo, Print}
 use Rattle.lexkit.specs.Simple.{initial, simple_rule}
 
 -- bytes
-
-abbrev pub is_blank : ℕ → Bool
-is_blank b = nat_eq b 32 || nat_eq b 9
 
 -- each byte passes
 abbrev pub all_pass : (ℕ → Bool) → List ℕ → Bool
@@ -22,11 +21,6 @@ all_pass p (b ∷ w) = p b && all_pass p w
 abbrev pub begins : (ℕ → Bool) → List ℕ → Bool
 begins p [] = false
 begins p (b ∷ w) = p b
-
--- what follows the blanks at the front
-abbrev pub skip : List ℕ → List ℕ
-skip [] = []
-skip (b ∷ w) = if is_blank b then skip w else b ∷ w
 
 -- patterns
 
@@ -43,7 +37,7 @@ is_start_sign b = nat_eq b 94 || nat_eq b 60
 
 -- no more, or `;`
 abbrev pub IsDone : List ℕ → Type 0
-IsDone a = (skip a ≡ []) ⊎ ((rest : List ℕ) × (skip a ≡ 59 ∷ rest) × (skip rest ≡ []))
+IsDone a = (after_blanks a ≡ []) ⊎ ((rest : List ℕ) × (after_blanks a ≡ 59 ∷ rest) × (after_blanks rest ≡ []))
 
 -- a byte of a literal: printable, and no `"`, backslash or `%`
 abbrev pub is_literal_byte : ℕ → Bool
@@ -61,10 +55,10 @@ pub record IsPrint (a : List ℕ) (ss : List Statement) : Type 0 where
   pub literal : List ℕ
   pub after_literal : List ℕ
   pub after_call : List ℕ
-  pub name : skip a ≡ codes "printf" ++ after_name
-  pub opens : skip after_name ≡ 40 ∷ inside
-  pub quotes : skip inside ≡ 34 ∷ (literal ++ (34 ∷ after_literal))
-  pub closes : skip after_literal ≡ 41 ∷ after_call
+  pub name : after_blanks a ≡ codes "printf" ++ after_name
+  pub opens : after_blanks after_name ≡ 40 ∷ inside
+  pub quotes : after_blanks inside ≡ 34 ∷ (literal ++ (34 ∷ after_literal))
+  pub closes : after_blanks after_literal ≡ 41 ∷ after_call
   pub ends : IsDone after_call
   pub is_good : all_pass is_literal_byte literal ≡ true
   pub short : length literal ≤ 4096
@@ -73,7 +67,7 @@ pub record IsPrint (a : List ℕ) (ss : List Statement) : Type 0 where
 abbrev pub IsAction : List ℕ → List Statement → Type 0
 IsAction a ss =
     (IsDone a × (ss ≡ []))
-    ⊎ (((rest : List ℕ) × (skip a ≡ codes "ECHO" ++ rest) × IsDone rest × (ss ≡ Echo ∷ []))
+    ⊎ (((rest : List ℕ) × (after_blanks a ≡ codes "ECHO" ++ rest) × IsDone rest × (ss ≡ Echo ∷ []))
     ⊎ IsPrint a ss)
 
 -- lines

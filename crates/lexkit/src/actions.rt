@@ -1,6 +1,8 @@
 //! The action of a rule. (POSIX, lex, Actions in lex.)
 ghost use Rattle.std.specs.Prelude.{◌≡◌, ℕ, ◌+◌, ◌≤◌, Bool, true, false, List, [], ◌∷◌, ◌++◌, length, map, IfOk, IfSome, MatchOption, IsTrue, ◌↔◌};
-ghost use Rattle.lexkit.specs.Spelling.{skip, IsDone, is_blank, ends_here, is_literal_byte};
+ghost use Rattle.lexmeaning.specs.ByteSets.{is_blank};
+ghost use Rattle.lexmeaning.specs.Reading.{after_blanks};
+ghost use Rattle.lexkit.specs.Spelling.{IsDone, ends_here, is_literal_byte};
 ghost use Rattle.lexkit.specs.ActionViews.{StripTold, LiteralTold, WordTold, ActionTold, IsFront};
 
 use crate::spec::Statement;
@@ -9,10 +11,11 @@ use std::alloc::{AllocError, Global};
 /// The most bytes of a literal.
 const MAX_LITERAL: usize = 4_096;
 
+#[tactic(auto, unfolding(lexmeaning::specs::ByteSets::is_blank))]
 pub(crate) fn blank(byte: u8) -> bool
     ensures { result ≡ is_blank byte }
 {
-    byte == b' ' || byte == b'\t'
+    byte == b'\t' || byte == b' '
 }
 
 /// Whether the pattern ends at the front of the text.
@@ -66,8 +69,9 @@ fn strip_word<'a>(text: &'a [u8], word: &[u8]) -> Option<&'a [u8]>
 }
 
 /// What follows the blanks at the front of the text.
+#[tactic(auto, using(lexmeaning::proofs::ReadingLaws::no_blank_first, crate::proofs::ActionLaws::no_byte_left))]
 fn skip_blanks(mut text: &[u8]) -> &[u8]
-    ensures { result.now ≡ skip text.entry.now }
+    ensures { result.now ≡ after_blanks text.entry.now }
 {
     while let [byte, rest @ ..] = text {
         if !blank(*byte) {

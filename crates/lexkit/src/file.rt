@@ -3,7 +3,8 @@ ghost use Rattle.std.specs.Prelude.{◌≡◌, ℕ, ◌+◌, ◌-◌, ◌^◌, �
 ghost use Rattle.lexmeaning.specs.Spec.{Rule as RuleData, Spec as SpecData};
 ghost use Rattle.lexre.specs.Cutting.{IsCutting};
 ghost use Rattle.lexkit.specs.Simple.{rule_of, spec_of};
-ghost use Rattle.lexkit.specs.Spelling.{begins, ends_here, is_start_sign, is_mark, is_blank, all_pass, IsRule, AreRules, IsFile, lines, SpellsSpec};
+ghost use Rattle.lexmeaning.specs.ByteSets.{is_blank};
+ghost use Rattle.lexkit.specs.Spelling.{begins, ends_here, is_start_sign, is_mark, all_pass, IsRule, AreRules, IsFile, lines, SpellsSpec};
 ghost use Rattle.lexkit.specs.FileViews.{texts_of, UnlessMemory};
 
 use crate::actions::{action, at_pattern_end, blank};

@@ -1,5 +1,6 @@
 use Rattle.std.proofs.Common.{◌≡◌, drop}
-use Rattle.lexkit.specs.Spelling.{is_blank, all_pass}
+use Rattle.lexmeaning.specs.ByteSets.{is_blank}
+use Rattle.lexkit.specs.Spelling.{all_pass}
 use Rattle.lexkit.proofs.file.is_blank_line.Given as goal
 
 abbrev pub invariant-loop-byte : goal.invariant-loop-byte
