@@ -9,7 +9,7 @@ use Rattle.lexmeaning.specs.Acting.{Ending, Status}
 use Rattle.lexmeaning.specs.Run.{Run}
 use Rattle.lexmeaning.specs.Demand.{Consistent}
 use Rattle.lexmeaning.proofs.Once.{one_run}
-use Rattle.lextab.specs.Sink.{IsPrefixOf}
+use Rattle.lexmeaning.specs.Text.{BeginsWith}
 use Rattle.lexkit.specs.ScanCounts.{read_fault_of, write_fault_of}
 use Rattle.lexkit.specs.Turns.{IsScanFault}
 use Rattle.lexkit.specs.Reads.{IsReadFault, MayStop, Scans}
@@ -33,7 +33,7 @@ scan_fault : (given : List ℕ) (at_end : Bool) (e : RunError) → IsScanFault e
 scan_fault given at_end e (inl h) = subst (MayStop given at_end) (sym h) tt
 scan_fault given at_end e (inr h) = subst (MayStop given at_end) (sym h) tt
 
-pub scans_err : (S : Spec) (given out : List ℕ) (at_end : Bool) (e : RunError) → at_end ≡ true → IsScanFault e → ((w : List ℕ) (d : Ending) → Run (rules_of S) given w d → IsPrefixOf out w) → Scans S given at_end out (Err e)
+pub scans_err : (S : Spec) (given out : List ℕ) (at_end : Bool) (e : RunError) → at_end ≡ true → IsScanFault e → ((w : List ℕ) (d : Ending) → Run (rules_of S) given w d → BeginsWith w out) → Scans S given at_end out (Err e)
 scans_err S given out at_end e is fault begins =
     (scan_fault given at_end e fault, λ x w d h run. begins w d (subst (λ z. Run (rules_of S) z w d) (same_input given x at_end is h) run))
 

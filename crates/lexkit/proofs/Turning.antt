@@ -1,9 +1,9 @@
 -- One match after another makes the run.
 use Rattle.std.proofs.Common.{◌≡◌, ℕ, suc, ◌+◌, ◌-◌, ◌≤◌, ◌<◌, Bool, true, false, List, [], ◌∷◌, ◌++◌, length, take, drop, ◌⊎◌, inl, inr, Some, None, refl, sym, ◌∙◌, ap, arith}
-use Rattle.std.specs.Prelude.{slice_get, nat_lt}
-use Rattle.std.proofs.lemmas.List.{append-nil, append_assoc, length-take-le, length-drop}
-use Rattle.std.proofs.lemmas.Bool.{cond-true, cond-false, lt-ltb, le-ltb, cases_lt}
-use Rattle.lexmeaning.specs.Text.{Among, part, at_line_start}
+use Rattle.std.specs.Prelude.{slice_get, nat_lt, nat_eq}
+use Rattle.std.proofs.lemmas.List.{append-nil, append_assoc, length-take-le, length-drop, nil_from_length}
+use Rattle.std.proofs.lemmas.Bool.{cond-true, cond-false, lt-ltb, le-ltb, cases_lt, and_parts, eqb-true}
+use Rattle.lexmeaning.specs.Text.{Among, part, at_line_start, BeginsWith}
 use Rattle.lexmeaning.specs.Spec.{Spec, Condition, Statement, Echo, Print, Begin, More, Less, Reject, End, statements_at, end_at}
 use Rattle.lexmeaning.specs.Rules.{Rules, rules_of, statements_of}
 use Rattle.lexmeaning.specs.Candidates.{Candidate, Before, Candidates}
@@ -13,13 +13,8 @@ use Rattle.lexmeaning.specs.Plain.{matches_of_rules, default_match}
 use Rattle.lexmeaning.proofs.Exists.{Agree, ordered_exists}
 use Rattle.lexmeaning.proofs.PlainRun.{candidates_are, listed_are}
 use Rattle.lexmeaning.proofs.Table.{get_at}
-use Rattle.lexmeaning.specs.Text.{BeginsWith}
 use Rattle.lexmeaning.proofs.Written.{run_begins, part_begins}
-use Rattle.lextab.specs.Sink.{IsPrefixOf}
 use Rattle.std.specs.List.{list_all}
-use Rattle.std.specs.Prelude.{nat_eq}
-use Rattle.std.proofs.lemmas.Bool.{and_parts, eqb-true}
-use Rattle.std.proofs.lemmas.List.{nil_from_length}
 use Rattle.lexkit.specs.Simple.{is_writing, ends_plainly, IsScanned}
 use Rattle.lexkit.proofs.Rules.{bare_at}
 use Rattle.lexkit.specs.Turns.{IsBest, output_of, MatchDone}
@@ -166,7 +161,7 @@ module _ (S : Spec) (scanned : IsScanned S) where
 
   -- what was written before a fault is a front of what the run writes
   pub far_fault : (x : List ℕ) (at : ℕ) (out one : List ℕ) → at < length x → SoFar x at out → (one ≡ []) ⊎ ((n : ℕ) × (all : List ℕ) × MatchDone (rules_of S) (drop at x) n all × IsPrefixOf one all) →
-      (w : List ℕ) (d : Ending) → Run (rules_of S) x w d → IsPrefixOf (out ++ one) w
+      (w : List ℕ) (d : Ending) → Run (rules_of S) x w d → BeginsWith w (out ++ one)
   unfolding SoFar
   far_fault x at out one lt (k, turns) (inl e) w d run =
       let s : State = record { written = out; place = record { start = at; at = at; condition = 0 }; ended = None } in
@@ -178,6 +173,6 @@ module _ (S : Spec) (scanned : IsScanned S) where
       part_begins (rules_of S) x k s t one w d turns refl (inl (match_turn x at n all lt h)) p run
 
   -- what is written before the end is a front of it
-  pub far_begins : (x : List ℕ) (at : ℕ) (out : List ℕ) → SoFar x at out → (w : List ℕ) (d : Ending) → Run (rules_of S) x w d → IsPrefixOf out w
+  pub far_begins : (x : List ℕ) (at : ℕ) (out : List ℕ) → SoFar x at out → (w : List ℕ) (d : Ending) → Run (rules_of S) x w d → BeginsWith w out
   unfolding SoFar
   far_begins x at out (k, turns) w d run = run_begins (rules_of S) x k (record { written = out; place = record { start = at; at = at; condition = 0 }; ended = None }) w d turns run

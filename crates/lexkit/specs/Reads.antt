@@ -5,7 +5,7 @@ use Rattle.lexmeaning.specs.Rules.{rules_of}
 use Rattle.lexmeaning.specs.Acting.{Ending, Status}
 use Rattle.lexmeaning.specs.Run.{Run}
 use Rattle.lexmeaning.specs.Demand.{Consistent}
-use Rattle.lextab.specs.Sink.{IsPrefixOf}
+use Rattle.lexmeaning.specs.Text.{BeginsWith}
 use Rattle.lexkit.specs.ScanCounts.{read_fault_of}
 use Rattle.lexkit.specs.declared.errors.RunError.{RunError}
 use Rattle.lexkit.specs.declared.errors.RunError.TheVariants.{Read, TooManyReads, OutOfMemory, Failed}
@@ -42,4 +42,4 @@ MayStop given at_end other = ⊤
 -- that is consistent with them writes, or a front of it where the scan stopped.
 abbrev pub Scans : Spec → List ℕ → Bool → List ℕ → Result ℕ RunError → Type 0
 Scans S given at_end out (Ok status) = (x : List ℕ) → Consistent given at_end x → Run (rules_of S) x out (Status status)
-Scans S given at_end out (Err e) = MayStop given at_end e × ((x w : List ℕ) (d : Ending) → Consistent given at_end x → Run (rules_of S) x w d → IsPrefixOf out w)
+Scans S given at_end out (Err e) = MayStop given at_end e × ((x w : List ℕ) (d : Ending) → Consistent given at_end x → Run (rules_of S) x w d → BeginsWith w out)

@@ -6,7 +6,7 @@ use Rattle.lexmeaning.specs.Rules.{Rules, rules_of, statements_of}
 use Rattle.lexmeaning.specs.Candidates.{Candidate, Before, IsCandidate}
 use Rattle.lexmeaning.specs.Acting.{Ending, Status}
 use Rattle.lexmeaning.specs.Run.{Run}
-use Rattle.lextab.specs.Sink.{IsPrefixOf}
+use Rattle.lexmeaning.specs.Text.{BeginsWith}
 use Rattle.lexkit.specs.ScanCounts.{write_fault_of}
 use Rattle.lexkit.specs.declared.errors.RunError.{RunError}
 use Rattle.lexkit.specs.declared.errors.RunError.TheVariants.{Write, OutOfMemory}
@@ -49,12 +49,12 @@ pub record MatchDone (R : Rules) (text : List ℕ) (n : ℕ) (out : List ℕ) : 
 -- memory ran out.
 abbrev pub TurnTold : Spec → List ℕ → List ℕ → Result ℕ RunError → Type 0
 TurnTold S text out (Ok n) = MatchDone (rules_of S) text n out
-TurnTold S text out (Err e) = (out ≡ []) ⊎ ((n : ℕ) × (all : List ℕ) × MatchDone (rules_of S) text n all × IsPrefixOf out all)
+TurnTold S text out (Err e) = (out ≡ []) ⊎ ((n : ℕ) × (all : List ℕ) × MatchDone (rules_of S) text n all × BeginsWith all out)
 
 -- What was written when the whole input was scanned, or the scan stopped: all that its run writes, or a front of it.
 abbrev pub ScanTold : {T : Type 0} → Spec → List ℕ → List ℕ → Result T RunError → Type 0
 ScanTold S x out (Ok v) = Run (rules_of S) x out (Status 0)
-ScanTold S x out (Err e) = (w : List ℕ) (d : Ending) → Run (rules_of S) x w d → IsPrefixOf out w
+ScanTold S x out (Err e) = (w : List ℕ) (d : Ending) → Run (rules_of S) x w d → BeginsWith w out
 
 -- 1 where it stopped at a failure of the sink
 abbrev pub run_write_faults : {T : Type 0} → Result T RunError → ℕ

@@ -1,7 +1,6 @@
-use Rattle.std.proofs.Common.{rules, ◌≡◌, ◌==◌, not, ℕ, Bool, ◌/◌, ◌%◌, ◌<◌, ◌≤◌, List, length, Vec, Global, refl, sym, subst, ap, ◌∙◌}
+use Rattle.std.proofs.Common.{rules, ◌≡◌, ◌==◌, not, ℕ, Bool, ◌/◌, ◌%◌, ◌<◌, ◌≤◌, List, length, Vec, Global, refl, sym, subst, ap, ◌∙◌, get_or, Err}
 use Rattle.lexauto.specs.Explored.{key_at, Exploring, GoOnSoFar, Held, step_by}
 use Rattle.lexauto.specs.Machines.{is_some}
-use Rattle.std.proofs.Common.{get_or, Err}
 use Rattle.lexauto.specs.declared.explore.ExploreError.TheVariants.{TooMany}
 use Rattle.std.proofs.lemmas.Result.{err_from_is_err_and}
 use Rattle.lexauto.specs.Keys.{Key, At, Absent, Found}

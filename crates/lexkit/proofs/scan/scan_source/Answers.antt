@@ -2,7 +2,7 @@ use Rattle.std.proofs.Common.{ℕ, List, [], ◌++◌, append-nil, sym, ◌∙�
 use Rattle.lexmeaning.specs.Rules.{rules_of}
 use Rattle.lexmeaning.specs.Acting.{Ending, Status}
 use Rattle.lexmeaning.specs.Run.{Run}
-use Rattle.lextab.specs.Sink.{IsPrefixOf}
+use Rattle.lexmeaning.specs.Text.{BeginsWith}
 use Rattle.lexspec.specs.Views.{spec_of}
 use Rattle.lexkit.proofs.Reading.{end_answered, end_not_answered, scans_ok, scans_err, scans_flush, scans_read}
 use Rattle.lexkit.proofs.scan.scan_source.Goals as goal
@@ -21,7 +21,7 @@ pub returns-in-Err-scan_text-clause-told : goal.returns-in-Err-scan_text-clause-
 returns-in-Err-scan_text-clause-told g c =
     let read = c.in-Ok.ensures.told in
     let scan = c.in-Err-scan_text.ensures.told in
-    let begins = subst (λ z. (w : List ℕ) (d : Ending) → Run (rules_of (spec_of c.args.spec.now)) z w d → IsPrefixOf scan.0 w) (c.deref.ensures.value ∙ read.2) scan.2 in (
+    let begins = subst (λ z. (w : List ℕ) (d : Ending) → Run (rules_of (spec_of c.args.spec.now)) z w d → BeginsWith w scan.0) (c.deref.ensures.value ∙ read.2) scan.2 in (
       read.0,
       scan.0,
       read.1,
