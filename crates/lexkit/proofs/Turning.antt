@@ -160,7 +160,7 @@ module _ (S : Spec) (scanned : IsScanned S) where
   }
 
   -- what was written before a fault is a front of what the run writes
-  pub far_fault : (x : List ℕ) (at : ℕ) (out one : List ℕ) → at < length x → SoFar x at out → (one ≡ []) ⊎ ((n : ℕ) × (all : List ℕ) × MatchDone (rules_of S) (drop at x) n all × IsPrefixOf one all) →
+  pub far_fault : (x : List ℕ) (at : ℕ) (out one : List ℕ) → at < length x → SoFar x at out → (one ≡ []) ⊎ ((n : ℕ) × (all : List ℕ) × MatchDone (rules_of S) (drop at x) n all × BeginsWith all one) →
       (w : List ℕ) (d : Ending) → Run (rules_of S) x w d → BeginsWith w (out ++ one)
   unfolding SoFar
   far_fault x at out one lt (k, turns) (inl e) w d run =
