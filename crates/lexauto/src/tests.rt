@@ -253,6 +253,16 @@ fn rows_of_letters(rt: HostRuntime) -> Result<(), Fail> {
         states(alloc, row, (59, 62))?,
         Err(BuildError::TooManyPositions)
     );
+    let long = "%%\n(a{255}){32} ;\n";
+    assert_eq!(rt; states(alloc, long, (8_160, 8_162))?, Ok(8_162));
+    assert_eq!(rt;
+        states(alloc, long, (8_160, 8_161))?,
+        Err(BuildError::TooManyStates)
+    );
+    assert_eq!(rt;
+        states(alloc, "%%\n(a{255}){64} ;\n", MOST)?,
+        Err(BuildError::TooManyStates)
+    );
     Ok(())
 }
 
