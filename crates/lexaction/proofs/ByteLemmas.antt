@@ -2,7 +2,7 @@
 use Rattle.std.proofs.Common.{◌≡◌, ℕ, zero, suc, ◌+◌, ◌-◌, ◌*◌, ◌<◌, ◌≤◌, ◌==◌, min, Bool, true, false, if◌then◌else◌, List, [], ◌∷◌, ◌++◌, length, get_or, take, drop, Option, Some, None, refl, sym, ap, ◌∙◌, arith, append_assoc, append-nil}
 use Rattle.lexmeaning.specs.ByteSets.{is_alpha, is_digit, is_alnum, is_xdigit}
 use Rattle.lexmeaning.specs.Reading.{◌>>=◌, take_up_to, starts_name, goes_on_name, value}
-use Rattle.lexmeaning.specs.Escapes.{is_octal, octal_at, hexadecimal_at}
+use Rattle.lexmeaning.specs.Escapes.{is_octal, octal_at, hexadecimal_at, until_quote}
 use Rattle.lexaction.specs.Bytes.{as_byte, escape_at, string_at, string_byte_at}
 use Rattle.std.proofs.lemmas.Bool.{ne_eqb, eq-eqb, ltb-true, ltb-false, le-leb, lt-leb}
 use Rattle.std.specs.Prelude.{◌||◌, nat_lt}
@@ -49,7 +49,7 @@ with_more front b (Some x) = ap (λ bs. Some (bs, x.1)) (sym (append_assoc front
 
 string_goes : (n : ℕ) (front t rest : List ℕ) (c b : ℕ) (u : List ℕ) → t ≡ c ∷ u → (c ≡ 34 → ⊥) → string_byte_at t ≡ Some (b, rest)
     → with_front front (string_at (suc n) t) ≡ with_front (front ++ b ∷ []) (string_at n rest)
-unfolding string_at
+unfolding until_quote
 string_goes n front t rest c b u e other byte =
     let at : string_byte_at (c ∷ u) ≡ Some (b, rest) = ap string_byte_at (sym e) ∙ byte in
     let off : (c == 34) ≡ false = ne_eqb c 34 other in
@@ -66,14 +66,14 @@ string_next text front t rest c b u so e other byte shorter = record {
 }
 
 pub string_ends : (text front t : List ℕ) (c : ℕ) (u : List ℕ) → StringSo text front t → t ≡ c ∷ u → c ≡ 34 → string_at (suc (length text)) text ≡ Some (front, u)
-unfolding string_at
+unfolding until_quote
 string_ends text front t c u so e quote =
     let last : with_front front (string_at (suc so.bound) (34 ∷ u)) ≡ Some (front, u) = ap (λ x. Some (x, u)) (append-nil front) in
     let same : t ≡ 34 ∷ u = e ∙ ap (λ x. x ∷ u) quote in
     sym so.same ∙ ap (λ x. with_front front (string_at (suc so.bound) x)) same ∙ last
 
 pub string_stops : (text front t : List ℕ) (c : ℕ) (u : List ℕ) → StringSo text front t → t ≡ c ∷ u → (c ≡ 34 → ⊥) → string_byte_at t ≡ None → string_at (suc (length text)) text ≡ None
-unfolding string_at
+unfolding until_quote
 string_stops text front t c u so e other byte =
     let at : string_byte_at (c ∷ u) ≡ None = ap string_byte_at (sym e) ∙ byte in
     let off : (c == 34) ≡ false = ne_eqb c 34 other in
@@ -81,7 +81,7 @@ string_stops text front t c u so e other byte =
     sym so.same ∙ ap (λ x. with_front front (string_at (suc so.bound) x)) e ∙ ap (with_front front) here
 
 pub string_open : (text front t : List ℕ) → StringSo text front t → length t ≡ 0 → string_at (suc (length text)) text ≡ None
-unfolding string_at
+unfolding until_quote
 string_open text front [] so e = sym so.same
 string_open text front (c ∷ t) so e = absurd (omega arith)
 

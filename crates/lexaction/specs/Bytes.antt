@@ -1,9 +1,10 @@
 -- Bytes, names, numbers and strings of an action.
-use Rattle.std.specs.Prelude.{ℕ, zero, suc, Bool, true, false, ◌==◌, if◌then◌else◌, List, [], ◌∷◌, length, Option, Some, None, codes}
+use Rattle.std.specs.Prelude.{ℕ, suc, Bool, true, false, ◌||◌, ◌==◌, if◌then◌else◌, List, [], ◌∷◌, length, Option, Some, None, codes}
 use Rattle.std.specs.List.{list_any}
 use Rattle.lexmeaning.specs.ByteSets.{within, is_digit, is_xdigit}
 use Rattle.lexmeaning.specs.Reading.{◌>>=◌, Reader, is_empty, take_run, is_white, starts_name, goes_on_name}
-use Rattle.lexmeaning.specs.Escapes.{control, is_octal, octal_at, hexadecimal_at, byte_with}
+use Rattle.lexmeaning.specs.Escapes.{control, is_octal, octal_at, hexadecimal_at, byte_with, until_quote}
+use Rattle.lexaction.specs.Comments.{Place, outside, slash, block, star, line, after_byte}
 use Rattle.lexaction.specs.declared.bytes.Kind.{Kind}
 use Rattle.lexaction.specs.declared.bytes.Kind.TheVariants.{Name, Decimal, Octal, Hexadecimal}
 
@@ -22,23 +23,13 @@ name_at (c ∷ t) = if starts_name c then Some (take_run goes_on_name (c ∷ t))
 unfoldable pub digits_at : Reader (List ℕ)
 digits_at t = let (digits, rest) = take_run is_digit t in if is_empty digits then None else Some (digits, rest)
 
--- where the text stands: between tokens, after a slash there, in a `/* .. */` comment, after a star there, or in a `//` comment
-pub data Place : Type 0 where
-  outside : Place
-  slash : Place
-  block : Place
-  star : Place
-  line : Place
-
 -- what follows blanks, newlines and comments
 abbrev pub skip_in : Place → List ℕ → List ℕ
 skip_in slash [] = 47 ∷ []
 skip_in p [] = []
 skip_in outside (c ∷ t) = if is_white c then skip_in outside t else if c == 47 then skip_in slash t else c ∷ t
-skip_in slash (c ∷ t) = if c == 42 then skip_in block t else if c == 47 then skip_in line t else 47 ∷ c ∷ t
-skip_in block (c ∷ t) = if c == 42 then skip_in star t else skip_in block t
-skip_in star (c ∷ t) = if c == 47 then skip_in outside t else if c == 42 then skip_in star t else skip_in block t
-skip_in line (c ∷ t) = if c == 10 then skip_in outside t else skip_in line t
+skip_in slash (c ∷ t) = if c == 42 || c == 47 then skip_in (after_byte slash c) t else 47 ∷ c ∷ t
+skip_in p (c ∷ t) = skip_in (after_byte p c) t
 
 unfoldable pub skip : List ℕ → List ℕ
 skip t = skip_in outside t
@@ -71,13 +62,9 @@ escape_at (c ∷ t) =
 unfoldable pub string_byte_at : Reader ℕ
 string_byte_at t = byte_with escape_at t
 
--- After the opening quote: the bytes, and what follows the closing one. The number bounds how many there are.
-unfoldable pub string_at : ℕ → Reader (List ℕ)
-string_at zero t = None
-string_at (suc n) [] = None
-string_at (suc n) (c ∷ t) =
-    if c == 34 then Some ([], t)
-    else string_byte_at (c ∷ t) >>= λ (b, rest). string_at n rest >>= λ (bs, after). Some (b ∷ bs, after)
+-- the bytes of a string, after its opening quote
+abbrev pub string_at : ℕ → Reader (List ℕ)
+string_at n t = until_quote string_byte_at n t
 
 unfoldable pub literal_at : Reader (List ℕ)
 literal_at t = next 34 t >>= λ inside. string_at (suc (length inside)) inside

@@ -1,8 +1,9 @@
-pub mod Bytes
-pub mod Statements
 pub mod Actions
-pub mod Outcome
-pub mod Views
-pub mod Names
-pub mod Formats
+pub mod Bytes
 pub mod Calls
+pub mod Comments
+pub mod Formats
+pub mod Names
+pub mod Outcome
+pub mod Statements
+pub mod Views

@@ -1,7 +1,8 @@
 //! Bytes, names, numbers and strings of an action.
 ghost use Rattle.std.specs.Prelude.{◌≡◌, ◌≤◌, ◌<◌, ◌+◌, suc, length, min, option_map, ◌∷◌, MatchOption, IfSome, IfOk};
 ghost use Rattle.lexmeaning.specs.Reading.{take_up_to, is_white, starts_name, digit_of, value};
-ghost use Rattle.lexaction.specs.Bytes.{passes, name_at, digits_at, skip, skip_in, outside, slash, block, line, next, as_byte, plain_escape, escape_at, string_byte_at, string_at, literal_at};
+ghost use Rattle.lexaction.specs.Bytes.{passes, name_at, digits_at, skip, skip_in, next, as_byte, plain_escape, escape_at, string_byte_at, string_at, literal_at};
+ghost use Rattle.lexaction.specs.Comments.{outside, slash, block, line};
 ghost use Rattle.lexaction.specs.Outcome.{Reads};
 
 use crate::error::ActionError;

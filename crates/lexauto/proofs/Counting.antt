@@ -3,13 +3,13 @@ use Rattle.std.specs.Prelude.{◌≡◌, ◌≢◌, ℕ, zero, suc, ◌+◌, ◌
 use Rattle.std.proofs.Common.{inl, inr, refl, ap, sym, subst, ◌∙◌, arith}
 use Rattle.std.proofs.lemmas.List.{length-append}
 use Rattle.std.proofs.lemmas.Option.{slice_get_within}
-use Rattle.lexmeaning.specs.Text.{IsText, Among}
+use Rattle.lexmeaning.specs.Text.{IsText, Among, listed}
 use Rattle.lexmeaning.specs.Spec.{Spec, Rule}
 use Rattle.lexmeaning.specs.Sound.{IsSound}
 use Rattle.lexmeaning.specs.Subsets.{IsLast, ReadsActive, IsActive, ListsSet, Distinct, AreStarts, AreLasts, Subsets}
 use Rattle.lexmeaning.proofs.Fronts.{among_left, among_right}
 use Rattle.lexauto.specs.RuleAutomaton.{is_on, is_active}
-use Rattle.lexauto.specs.Sets.{listed, tagged}
+use Rattle.lexauto.specs.Sets.{tagged}
 use Rattle.lexauto.specs.Keys.{Key, At, Apart}
 use Rattle.lexauto.specs.Explored.{run, Reached, MoreThan}
 use Rattle.lexauto.specs.WordKeys.{start_key, step_in, LastKey, IsRoot, Surveys}

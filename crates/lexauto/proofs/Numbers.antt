@@ -4,9 +4,9 @@ use Rattle.std.proofs.Common.{rules, inl, inr, refl, ap, sym, ◌∙◌, arith}
 use Rattle.std.proofs.lemmas.List.{append_assoc}
 use Rattle.std.proofs.lemmas.Bool.{ltb-true, eqb-true, eq-eqb}
 use Rattle.std.specs.List.{filter}
-use Rattle.lexmeaning.specs.Text.{Among, Ascending}
+use Rattle.lexmeaning.specs.Text.{Among, Ascending, listed}
 use Rattle.lexmeaning.specs.Active.{lists}
-use Rattle.lexauto.specs.Sets.{listed, marked, tagged, starts_in, lasts_in}
+use Rattle.lexauto.specs.Sets.{marked, tagged, starts_in, lasts_in}
 use Rattle.lexauto.proofs.FlowMeaning.{both, either, or_is, and_is, no_true}
 
 next_number : (test : ℕ → Bool) (i n : ℕ) → i < n → listed test i (n - i) ≡ cond (test i) (i ∷ listed test (i + 1) (n - (i + 1))) (listed test (i + 1) (n - (i + 1)))

@@ -12,24 +12,20 @@ use Rattle.std.specs.List.{filter}
 use Rattle.lexmeaning.specs.Tree.{Tree}
 use Rattle.lexmeaning.specs.Shapes.{IsSoundTree}
 use Rattle.lexmeaning.specs.Spec.{Spec, Rule}
-use Rattle.lexmeaning.specs.Sound.{IsSoundRule}
+use Rattle.lexmeaning.specs.Sound.{IsSoundRule, HaveSoundSides}
 use Rattle.lexspec.specs.Tests.{is_sound}
 use Rattle.lexspec.proofs.TestLaws.{spec_is_sound}
 use Rattle.lexauto.specs.Keys.{Key}
-use Rattle.lexauto.specs.Flow.{flag}
-use Rattle.lexauto.specs.RuleFlow.{TrailIsSound, RulesAreSound, rules_enter, rules_read}
-use Rattle.lexauto.specs.Sets.{listed, marked, tagged, starts_in, lasts_in}
+use Rattle.lexmeaning.specs.Text.{flag, listed}
+use Rattle.lexauto.specs.RuleFlow.{rules_enter, rules_read}
+use Rattle.lexauto.specs.Sets.{marked, tagged, starts_in, lasts_in}
 use Rattle.lexauto.specs.Moving.{mask_at, followers_in, reading_in}
 
-rules_sound : (rules : List Rule) (n : ℕ) → ((i : ℕ) (r : Rule) → slice_get rules i ≡ Some r → IsSoundRule n r) → RulesAreSound rules
+rules_sound : (rules : List Rule) (n : ℕ) → ((i : ℕ) (r : Rule) → slice_get rules i ≡ Some r → IsSoundRule n r) → HaveSoundSides rules
 rules_sound [] n h = tt
-rules_sound (r ∷ rules) n h = (((h 0 r refl).head, trail_of r.trail (h 0 r refl).trail), rules_sound rules n (λ i q e. h (suc i) q e))
-  where
-    trail_of : (t : Option Tree) → IfSome t IsSoundTree → TrailIsSound t
-    trail_of None g = tt
-    trail_of (Some t) g = g
+rules_sound (r ∷ rules) n h = (((h 0 r refl).head, (h 0 r refl).trail), rules_sound rules n (λ i q e. h (suc i) q e))
 
-pub tested_rules : (S : Spec) → is_sound S ≡ true → RulesAreSound S.rules
+pub tested_rules : (S : Spec) → is_sound S ≡ true → HaveSoundSides S.rules
 tested_rules S h = let s = spec_is_sound S h in rules_sound S.rules (length S.conditions) s.rules
 
 pub mask_from : (vs : List (Vec Bool Global)) (i : ℕ) (v : Vec Bool Global) → i < length vs → v ≡ get_or vs i v → mask_at (map (λ v. v.items) vs) i ≡ v.items

@@ -1,5 +1,5 @@
 -- States with the keys of words are a table for their specification.
-use Rattle.std.specs.Prelude.{◌≡◌, ◌≢◌, ◌↔◌, ℕ, zero, suc, ◌+◌, ◌*◌, ◌<◌, ◌≤◌, Bool, true, false, cond, List, [], ◌∷◌, ◌++◌, length, nat_lt, Option, Some, None, slice_get, slice_index, slice_index_or}
+use Rattle.std.specs.Prelude.{◌≡◌, ◌≢◌, ◌↔◌, ℕ, zero, suc, ◌+◌, ◌*◌, ◌<◌, ◌≤◌, Bool, true, false, cond, List, [], ◌∷◌, ◌++◌, length, nat_lt, Option, Some, None, slice_get, slice_index, slice_index_or, not}
 use Rattle.std.proofs.Common.{rules, inl, inr, refl, ap, sym, subst, ◌∙◌, arith}
 use Rattle.std.proofs.lemmas.Option.{slice_get-get_or, slice_get_within}
 use Rattle.std.proofs.lemmas.Bool.{cases_Bool, cases_lt, cond-true, cond-false, ltb-true}
@@ -21,7 +21,8 @@ use Rattle.lexauto.specs.Moving.{followers_in}
 use Rattle.lexauto.specs.Keys.{Key, At}
 use Rattle.lexauto.specs.Explored.{run, Reached, key_at}
 use Rattle.lexauto.specs.WordKeys.{start_key, step_in, Surveys}
-use Rattle.lexauto.specs.Machines.{machine_with, cut_at, chosen, is_some, moving, IsReached}
+use Rattle.lexmeaning.specs.Reading.{is_empty}
+use Rattle.lexauto.specs.Machines.{machine_with, cut_at, chosen, moving, IsReached}
 use Rattle.lexauto.specs.Facts.{accepted_by, goes_on_by, AcceptedBy, GoOnBy}
 use Rattle.lexauto.proofs.FlowMeaning.{both, back, no_true}
 use Rattle.lexauto.proofs.RuleMeaning.{rule_exits_is}
@@ -29,9 +30,9 @@ use Rattle.lexauto.proofs.Counting.{dead_run}
 use Rattle.lexauto.proofs.WordKeys.{no_marks, dead_step, dead_followers, word_key, start_live, later_live, start_lasts}
 use Rattle.lexauto.proofs.Accepting.{rules_fit, rules_left_is, left_ascend, first_is}
 
-is_some_is : (l : List ℕ) → (is_some l ≡ true) ↔ ((q : ℕ) × Among l q)
-is_some_is [] = (λ h. no_true h, λ (q, a). absurd a)
-is_some_is (x ∷ l) = (λ h. (x, inl refl), λ h. refl)
+some_is : (l : List ℕ) → (not (is_empty l) ≡ true) ↔ ((q : ℕ) × Among l q)
+some_is [] = (λ h. no_true h, λ (q, a). absurd a)
+some_is (x ∷ l) = (λ h. (x, inl refl), λ h. refl)
 
 chosen_ascends : (all : Bool) (l : List ℕ) → Ascending l → Ascending (chosen all l)
 chosen_ascends true l h = h
@@ -119,10 +120,10 @@ module _ (S : Spec) (sound : IsSound S) (keys : List Key) (next starts line_star
   left_fit c bol (b ∷ w) text i = rules_fit S sound c bol (b ∷ w) (no_cons b w) (run (step_in S) (start_key S c bol) (b ∷ w)) (word_key S c bol sound b w text.0 text.1) i
 
   some_live : (c : ℕ) (bol : Bool) (w : List ℕ) → IsText w → (goes_on_by S (run (step_in S) (start_key S c bol) w) ≡ true) ↔ Live S c bol w
-  some_live c bol [] text = both (is_some_is (followers_in S.rules (all_positions S.rules) (start_key S c bol))) (back (start_live S c bol sound))
+  some_live c bol [] text = both (some_is (followers_in S.rules (all_positions S.rules) (start_key S c bol))) (back (start_live S c bol sound))
   some_live c bol (b ∷ w) text =
       let k = run (step_in S) (start_key S c bol) (b ∷ w) in
-      both (is_some_is (followers_in S.rules (all_positions S.rules) k)) (back (later_live S c bol sound (b ∷ w) k (no_cons b w) (word_key S c bol sound b w text.0 text.1)))
+      both (some_is (followers_in S.rules (all_positions S.rules) k)) (back (later_live S c bol sound (b ∷ w) k (no_cons b w) (word_key S c bol sound b w text.0 text.1)))
 
   table : TableFor M S
   unfolding M
@@ -192,7 +193,7 @@ module _ (S : Spec) (sound : IsSound S) (keys : List Key) (next starts line_star
 
   dead_goes_on : M.goes_on 0 ≡ false
   unfolding M
-  dead_goes_on = on 0 [] dead_place ∙ ap is_some (dead_followers S)
+  dead_goes_on = on 0 [] dead_place ∙ ap (λ l. not (is_empty l)) (dead_followers S)
 
   dead_walk : (u : List ℕ) → walk M 0 u ≡ 0
   dead_walk [] = refl

@@ -5,7 +5,7 @@ use Rattle.std.proofs.Common.{inl, inr, refl, ap, sym, subst, ◌∙◌, arith}
 use Rattle.std.proofs.Math.Path.{fun_ext}
 use Rattle.std.proofs.lemmas.List.{append_assoc}
 use Rattle.std.proofs.lemmas.Option.{slice_get_within}
-use Rattle.lexmeaning.specs.Text.{IsText, Among, Ascending}
+use Rattle.lexmeaning.specs.Text.{IsText, Among, Ascending, listed}
 use Rattle.lexmeaning.specs.Positions.{Cell}
 use Rattle.lexmeaning.specs.Spec.{Spec, Rule}
 use Rattle.lexmeaning.specs.Rules.{Live}
@@ -14,7 +14,7 @@ use Rattle.lexmeaning.specs.Subsets.{IsLast, ReadsActive, all_positions, positio
 use Rattle.lexauto.specs.PositionAutomaton.{Quad}
 use Rattle.lexauto.specs.RuleAutomaton.{rule_quad, gated, active_quad, every, is_on, is_active, active_automaton, automaton}
 use Rattle.lexauto.specs.RuleFlow.{rules_enter, rules_read}
-use Rattle.lexauto.specs.Sets.{listed, marked, tagged, starts_in, lasts_in}
+use Rattle.lexauto.specs.Sets.{marked, tagged, starts_in, lasts_in}
 use Rattle.lexauto.specs.Moving.{followers_in, reading_in}
 use Rattle.lexauto.specs.Keys.{Key}
 use Rattle.lexauto.specs.Explored.{run}

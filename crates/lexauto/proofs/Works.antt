@@ -7,14 +7,14 @@ use Rattle.std.proofs.lemmas.List.{get_or_push, get_or_append_left}
 use Rattle.lexauto.specs.Keys.{Key, At, Absent, Apart, Finds, Found}
 use Rattle.lexmeaning.specs.Text.{IsText}
 use Rattle.lexauto.specs.Explored.{run, Reached, IsAutomaton, MoreThan, key_at, Exploring, Held, GoOn, GoOnSoFar}
-use Rattle.lexauto.specs.Machines.{is_some}
+use Rattle.lexmeaning.specs.Reading.{is_empty}
 use Rattle.lexauto.proofs.Places.{at_longer, at_shorter}
 
 -- for each key up to this place, whether something follows it
 abbrev pub OnAt : (Key → Key) → List Key → ℕ → List Bool → Type 0
-OnAt follow keys at goes = (length goes ≡ at + 1) × ((i : ℕ) → i < length goes → get_or goes i false ≡ is_some (follow (key_at keys i)))
+OnAt follow keys at goes = (length goes ≡ at + 1) × ((i : ℕ) → i < length goes → get_or goes i false ≡ not (is_empty (follow (key_at keys i))))
 
-pub some_is : (l : List ℕ) → not (length l == 0) ≡ is_some l
+pub some_is : (l : List ℕ) → not (length l == 0) ≡ not (is_empty l)
 some_is [] = refl
 some_is (x ∷ l) = ap not (ne_eqb (suc (length l)) 0 (λ e. omega (arith, e)))
 
@@ -96,7 +96,7 @@ module _ (step : Key → ℕ → Key) where
           rw (place, same) is
 
       module _ (follow : Key → Key) where
-        pub on_first : (n : ℕ) (goes : List Bool) (x : Bool) → n ≡ length next → n % 256 ≡ 0 → GoOnSoFar follow keys next goes → x ≡ is_some (follow (key_at keys (n / 256)))
+        pub on_first : (n : ℕ) (goes : List Bool) (x : Bool) → n ≡ length next → n % 256 ≡ 0 → GoOnSoFar follow keys next goes → x ≡ not (is_empty (follow (key_at keys (n / 256))))
             → OnAt follow keys (n / 256) (goes ++ x ∷ [])
         on_first n goes x count whole on is =
             let len = on.len in
@@ -120,7 +120,7 @@ module _ (step : Key → ℕ → Key) where
             record {
               len = let more : length (next ++ target ∷ []) ≡ length next + 1 = length-append next (target ∷ []) in omega (arith, more, size, count);
               each = λ i h. (let lower : i < length keys = omega (arith, size, h, low) in
-                  on.1 i h ∙ ap (λ (q : Key). is_some (follow q)) (sym (key_is new i (key_at keys i) (grown keys new k found i (key_at keys i) (is_key keys i lower)))));
+                  on.1 i h ∙ ap (λ (q : Key). not (is_empty (follow q))) (sym (key_is new i (key_at keys i) (grown keys new k found i (key_at keys i) (is_key keys i lower)))));
             }
 
         pub on_done : (goes : List Bool) → length keys ≤ length next / 256 → GoOnSoFar follow keys next goes → GoOn follow keys goes
@@ -131,7 +131,7 @@ module _ (step : Key → ℕ → Key) where
             record {
               len = size;
               each = λ i k a. (let low : i < length goes = (let w = slice_get_within keys i k a in omega (arith, w, size)) in
-                  on.each i low ∙ ap (λ (q : Key). is_some (follow q)) (key_is keys i k a));
+                  on.each i low ∙ ap (λ (q : Key). not (is_empty (follow q))) (key_is keys i k a));
             }
 
       pub apart : Apart keys

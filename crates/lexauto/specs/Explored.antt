@@ -1,8 +1,8 @@
 -- What a work list finds. (This project's.)
-use Rattle.std.specs.Prelude.{◌≡◌, ℕ, ◌+◌, ◌*◌, ◌/◌, ◌%◌, ◌<◌, ◌≤◌, Bool, false, List, [], ◌∷◌, length, Option, slice_index, slice_index_or}
+use Rattle.std.specs.Prelude.{◌≡◌, ℕ, ◌+◌, ◌*◌, ◌/◌, ◌%◌, ◌<◌, ◌≤◌, Bool, false, List, [], ◌∷◌, length, Option, slice_index, slice_index_or, not}
 use Rattle.lexmeaning.specs.Text.{IsText}
 use Rattle.lexauto.specs.Keys.{Key, At, Apart, Finds}
-use Rattle.lexauto.specs.Machines.{is_some}
+use Rattle.lexmeaning.specs.Reading.{is_empty}
 
 -- the step of a key by a byte: what follows it, and reads the byte
 abbrev pub step_by : (Key → Key) → (Key → ℕ → Key) → Key → ℕ → Key
@@ -45,7 +45,7 @@ pub record Exploring (step : Key → ℕ → Key) (roots : List Key) (find : Key
 -- for each key, whether something follows it
 pub record GoOn (follow : Key → Key) (keys : List Key) (goes_on : List Bool) : Type 0 where
   pub len : length goes_on ≡ length keys
-  pub each : (i : ℕ) (k : Key) → At keys i k → slice_index_or goes_on i false ≡ is_some (follow k)
+  pub each : (i : ℕ) (k : Key) → At keys i k → slice_index_or goes_on i false ≡ not (is_empty (follow k))
 
 -- what follows a key that has some of its moves, but not all
 abbrev pub Held : (Key → Key) → List Key → List ℕ → Key → Type 0
@@ -54,4 +54,4 @@ Held follow keys next held = 0 < length next % 256 → held ≡ follow (key_at k
 -- for each key that has some of its moves, whether something follows it
 pub record GoOnSoFar (follow : Key → Key) (keys : List Key) (next : List ℕ) (goes_on : List Bool) : Type 0 where
   pub len : length goes_on ≡ (length next + 255) / 256
-  pub each : (i : ℕ) → i < length goes_on → slice_index_or goes_on i false ≡ is_some (follow (key_at keys i))
+  pub each : (i : ℕ) → i < length goes_on → slice_index_or goes_on i false ≡ not (is_empty (follow (key_at keys i)))

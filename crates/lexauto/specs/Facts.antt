@@ -1,12 +1,13 @@
 -- What a state's key tells of it. (This project's.)
-use Rattle.std.specs.Prelude.{◌≡◌, ℕ, Bool, false, List, [], slice_index_or}
+use Rattle.std.specs.Prelude.{◌≡◌, ℕ, Bool, false, not, List, [], slice_index_or}
 use Rattle.lexmeaning.specs.Spec.{Spec, rejects}
 use Rattle.lexmeaning.specs.Subsets.{all_positions}
 use Rattle.lexauto.specs.RuleFlow.{rules_left}
 use Rattle.lexauto.specs.Sets.{marked, lasts_in}
 use Rattle.lexauto.specs.Moving.{followers_in}
 use Rattle.lexauto.specs.Keys.{Key, At}
-use Rattle.lexauto.specs.Machines.{chosen, is_some}
+use Rattle.lexauto.specs.Machines.{chosen}
+use Rattle.lexmeaning.specs.Reading.{is_empty}
 
 -- the rules that a state accepts
 abbrev pub accepted_by : Spec → Key → List ℕ
@@ -14,7 +15,7 @@ accepted_by S k = chosen (rejects S) (rules_left S.rules (marked (all_positions 
 
 -- whether some byte leads on from a state
 abbrev pub goes_on_by : Spec → Key → Bool
-goes_on_by S k = is_some (followers_in S.rules (all_positions S.rules) k)
+goes_on_by S k = not (is_empty (followers_in S.rules (all_positions S.rules) k))
 
 abbrev pub AcceptedBy : Spec → List Key → List (List ℕ) → Type 0
 AcceptedBy S keys accepts = (i : ℕ) (k : Key) → At keys i k → slice_index_or accepts i [] ≡ accepted_by S k

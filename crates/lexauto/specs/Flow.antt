@@ -1,10 +1,7 @@
 -- One step through a tree, as tests that compute: what enters each part, and what leaves it. (This project's.)
-use Rattle.std.specs.Prelude.{ℕ, zero, suc, ◌+◌, ◌-◌, ◌||◌, ◌&&◌, ◌==◌, Bool, true, false, List, Option, Some, None, slice_index_or}
+use Rattle.std.specs.Prelude.{ℕ, zero, suc, ◌+◌, ◌-◌, ◌||◌, ◌&&◌, ◌==◌, Bool, true, false, List, Option, Some, None}
 use Rattle.lexmeaning.specs.Tree.{Tree, Trees, Empty, Set, Cat, Alt, Star, Repeat, no_trees, tree}
 use Rattle.lexmeaning.specs.Positions.{copies, positions}
-
-abbrev pub flag : List Bool → ℕ → Bool
-flag fs i = slice_index_or fs i false
 
 abbrev pub is_zero : ℕ → Bool
 is_zero zero = true

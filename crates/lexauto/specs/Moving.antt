@@ -4,9 +4,9 @@ use Rattle.std.proofs.Common.{Global}
 use Rattle.std.specs.List.{filter}
 use Rattle.lexmeaning.specs.Spec.{Rule}
 use Rattle.lexauto.specs.Keys.{Key}
-use Rattle.lexauto.specs.Flow.{flag}
+use Rattle.lexmeaning.specs.Text.{flag, listed}
 use Rattle.lexauto.specs.RuleFlow.{rules_enter, rules_read}
-use Rattle.lexauto.specs.Sets.{listed, marked, tagged, starts_in, lasts_in}
+use Rattle.lexauto.specs.Sets.{marked, tagged, starts_in, lasts_in}
 
 -- the positions that come next after a key, of `count` positions
 unfoldable pub followers_in : List Rule → ℕ → Key → Key

@@ -5,7 +5,8 @@ use Rattle.std.proofs.Common.{Global, replicate}
 use Rattle.std.specs.Str.{bytes_eq}
 use Rattle.std.specs.BTreeMap.{BTreeMap}
 use Rattle.lexauto.specs.Keys.{Key, look}
-use Rattle.lexauto.specs.Sets.{listed, lasts_in}
+use Rattle.lexauto.specs.Sets.{lasts_in}
+use Rattle.lexmeaning.specs.Text.{listed}
 
 -- whether the position's bit is set
 abbrev pub bit_at : List ℕ → ℕ → Bool

@@ -2,22 +2,10 @@
 use Rattle.std.specs.Prelude.{ℕ, zero, suc, ◌+◌, ◌||◌, ◌&&◌, ◌==◌, Bool, false, cond, List, [], ◌∷◌, Option, Some, None}
 use Rattle.lexmeaning.specs.ByteSets.{has}
 use Rattle.lexmeaning.specs.Tree.{Tree, Trees, Empty, Set, Cat, Alt, Star, Repeat, no_trees, tree}
-use Rattle.lexmeaning.specs.Shapes.{IsSoundTree}
 use Rattle.lexmeaning.specs.Positions.{copies, positions}
 use Rattle.lexmeaning.specs.Spec.{Rule}
 use Rattle.lexmeaning.specs.Subsets.{positions_of_rule}
 use Rattle.lexauto.specs.Flow.{exits, enters}
-
-abbrev pub TrailIsSound : Option Tree → Type 0
-TrailIsSound None = Unit {0}
-TrailIsSound (Some t) = IsSoundTree t
-
-abbrev pub RuleIsSound : Rule → Type 0
-RuleIsSound r = IsSoundTree r.head × TrailIsSound r.trail
-
-abbrev pub RulesAreSound : List Rule → Type 0
-RulesAreSound [] = Unit {0}
-RulesAreSound (r ∷ rs) = RuleIsSound r × RulesAreSound rs
 
 abbrev pub trail_exits : Option Tree → (ℕ → Bool) → ℕ → Bool → Bool
 trail_exits None S base i = i

@@ -1,13 +1,8 @@
 -- Sets of rules and positions as lists, and the keys of states. A key's first number says what kind of state it is for.
 -- (This project's.)
-use Rattle.std.specs.Prelude.{ℕ, zero, suc, ◌&&◌, Bool, cond, List, [], ◌∷◌, nat_lt}
+use Rattle.std.specs.Prelude.{ℕ, zero, suc, ◌&&◌, Bool, List, [], ◌∷◌, nat_lt}
 use Rattle.lexmeaning.specs.Active.{lists}
 use Rattle.lexauto.specs.Keys.{Key}
-
--- the numbers from i on, n of them, that pass the test
-abbrev pub listed : (ℕ → Bool) → ℕ → ℕ → List ℕ
-listed test i zero = []
-listed test i (suc n) = cond (test i) (i ∷ listed test (suc i) n) (listed test (suc i) n)
 
 -- the number is in the list, and below n
 abbrev pub marked : ℕ → List ℕ → ℕ → Bool

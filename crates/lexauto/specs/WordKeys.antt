@@ -1,10 +1,10 @@
 -- The keys that words lead to. (This project's.)
 use Rattle.std.specs.Prelude.{◌≡◌, ℕ, ◌<◌, ◌⊎◌, Bool, true, false, List, [], length, Option, slice_index}
-use Rattle.lexmeaning.specs.Text.{Among}
+use Rattle.lexmeaning.specs.Text.{Among, listed}
 use Rattle.lexmeaning.specs.Spec.{Spec}
 use Rattle.lexmeaning.specs.Subsets.{IsLast, ReadsActive, all_positions, ListsSet}
 use Rattle.lexauto.specs.RuleAutomaton.{is_active}
-use Rattle.lexauto.specs.Sets.{listed, tagged}
+use Rattle.lexauto.specs.Sets.{tagged}
 use Rattle.lexauto.specs.Moving.{followers_in, reading_in}
 use Rattle.lexauto.specs.Keys.{Key, At, Finds}
 use Rattle.lexauto.specs.Explored.{step_by, IsAutomaton}

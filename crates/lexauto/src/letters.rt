@@ -5,7 +5,7 @@ ghost use Rattle.lexmeaning.specs.Subsets.{all_positions};
 ghost use Rattle.lexmeaning.specs.Tree.{trees};
 ghost use Rattle.lexre.specs.Views.{tree_of};
 ghost use Rattle.lexspec.specs.RuleViews.{rule_of};
-ghost use Rattle.lexauto.specs.Flow.{flag};
+ghost use Rattle.lexmeaning.specs.Text.{flag};
 ghost use Rattle.lexauto.specs.RuleFlow.{copies_read, reads, each_read, rules_read};
 
 use crate::walk::copies_of;

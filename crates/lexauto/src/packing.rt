@@ -1,7 +1,8 @@
 //! Keys as they are kept: a key of many positions as bits.
 ghost use Rattle.std.specs.Prelude.{◌≡◌, ℕ, ◌<◌, ◌*◌, ◌/◌, ◌%◌, ◌^◌, ◌∷◌, length, bit_or, IfOk};
 ghost use Rattle.std.proofs.Common.{replicate};
-ghost use Rattle.lexauto.specs.Sets.{listed, lasts_in};
+ghost use Rattle.lexauto.specs.Sets.{lasts_in};
+ghost use Rattle.lexmeaning.specs.Text.{listed};
 ghost use Rattle.lexauto.specs.Packing.{bit_at, with_bits, bit_count, unpacked, word_count, packed};
 
 use crate::sets::{LAST, lasts_in};

@@ -2,8 +2,9 @@
 ghost use Rattle.std.specs.Prelude.{◌≡◌, ℕ, ◌+◌, ◌<◌, ◌≤◌, ◌^◌, ◌||◌, length, map, IfOk};
 ghost use Rattle.lexmeaning.specs.Subsets.{positions_of_rule, all_positions};
 ghost use Rattle.lexspec.specs.RuleViews.{rule_of};
-ghost use Rattle.lexauto.specs.Flow.{flag};
-ghost use Rattle.lexauto.specs.RuleFlow.{RuleIsSound, RulesAreSound, rule_exits, rule_enters, rules_enter, rules_left};
+ghost use Rattle.lexmeaning.specs.Text.{flag};
+ghost use Rattle.lexauto.specs.RuleFlow.{rule_exits, rule_enters, rules_enter, rules_left};
+ghost use Rattle.lexmeaning.specs.Sound.{HasSoundSides, HaveSoundSides};
 
 use crate::walk::{Passed, enter, leave};
 use lexspec::Rule;
@@ -11,7 +12,7 @@ use std::alloc::{AllocError, Global};
 
 /// Whether a rule is left at its end, where these are the last positions.
 fn leave_rule(rule: &Rule, last: &[bool], base: usize) -> Passed
-    requires sound { RuleIsSound (rule_of rule.now) }
+    requires sound { HasSoundSides (rule_of rule.now) }
     requires within { base + positions_of_rule (rule_of rule.now) ≤ length last.now }
     requires few { length last.now < 2 ^ 32 }
     ensures left { result.left ≡ rule_exits (rule_of rule.now) (flag last.now) base }
@@ -27,7 +28,7 @@ fn leave_rule(rule: &Rule, last: &[bool], base: usize) -> Passed
 /// Marks the positions of a rule that come next, where it is entered or not, and these are the last ones. Answers the
 /// position behind its last one.
 fn enter_rule(rule: &Rule, last: &[bool], base: usize, entered: bool, next: &mut [bool]) -> usize
-    requires sound { RuleIsSound (rule_of rule.now) }
+    requires sound { HasSoundSides (rule_of rule.now) }
     requires within { base + positions_of_rule (rule_of rule.now) ≤ length last.now }
     requires few { length last.now < 2 ^ 32 }
     requires room { length next.old ≡ length last.now }
@@ -46,7 +47,7 @@ fn enter_rule(rule: &Rule, last: &[bool], base: usize, entered: bool, next: &mut
 
 /// Marks the positions that come next, where the rules of `on` are entered, and these are the last ones.
 pub(crate) fn enter_rules(rules: &[Rule], on: &[bool], last: &[bool], next: &mut [bool])
-    requires sound { RulesAreSound (map rule_of rules.now) }
+    requires sound { HaveSoundSides (map rule_of rules.now) }
     requires within { all_positions (map rule_of rules.now) ≤ length last.now }
     requires few { length last.now < 2 ^ 32 }
     requires on { length on.now ≡ length rules.now }
@@ -65,7 +66,7 @@ pub(crate) fn left_rules(
     rules: &[Rule],
     last: &[bool],
 ) -> Result<Vec<u32>, AllocError>
-    requires sound { RulesAreSound (map rule_of rules.now) }
+    requires sound { HaveSoundSides (map rule_of rules.now) }
     requires within { all_positions (map rule_of rules.now) ≤ length last.now }
     requires few { length last.now < 2 ^ 32 }
     requires rules { length rules.now < 2 ^ 32 }

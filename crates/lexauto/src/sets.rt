@@ -1,8 +1,8 @@
 //! Sets of numbers, as lists and as flags.
 ghost use Rattle.std.specs.Prelude.{◌≡◌, ◌<◌, ◌≤◌, ◌^◌, ◌∷◌, ℕ, length, IfOk};
 ghost use Rattle.std.specs.List.{filter};
-ghost use Rattle.lexauto.specs.Flow.{flag};
-ghost use Rattle.lexauto.specs.Sets.{listed, marked, tagged, starts_in, lasts_in};
+ghost use Rattle.lexmeaning.specs.Text.{flag, listed};
+ghost use Rattle.lexauto.specs.Sets.{marked, tagged, starts_in, lasts_in};
 
 use std::alloc::{AllocError, Global};
 

@@ -3,9 +3,9 @@ ghost use Rattle.std.specs.Prelude.{◌≡◌, ◌<◌, ◌≤◌, ◌^◌, ℕ,
 ghost use Rattle.lexmeaning.specs.Subsets.{all_positions};
 ghost use Rattle.lexspec.specs.RuleViews.{rule_of};
 ghost use Rattle.lexspec.specs.Views.{spec_of, rules_in};
-ghost use Rattle.lexauto.specs.Flow.{flag};
-ghost use Rattle.lexauto.specs.RuleFlow.{RulesAreSound, rules_enter, rules_read};
-ghost use Rattle.lexauto.specs.Sets.{listed};
+ghost use Rattle.lexmeaning.specs.Text.{flag, listed};
+ghost use Rattle.lexauto.specs.RuleFlow.{rules_enter, rules_read};
+ghost use Rattle.lexmeaning.specs.Sound.{HaveSoundSides};
 ghost use Rattle.lexauto.specs.Moving.{AreMasks, AreTwins, masks_in, mask_at, followers_in, reading_in};
 
 use crate::explore::Moves;
@@ -79,7 +79,7 @@ fn next_numbers(
     last: &[bool],
     next: &mut [bool],
 ) -> Result<Vec<u32>, AllocError>
-    requires sound { RulesAreSound (map rule_of rules.now) }
+    requires sound { HaveSoundSides (map rule_of rules.now) }
     requires within { all_positions (map rule_of rules.now) ≤ length last.now }
     requires few { length last.now < 2 ^ 32 }
     requires on { length on.now ≡ length rules.now }

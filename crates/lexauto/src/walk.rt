@@ -4,7 +4,8 @@ ghost use Rattle.lexmeaning.specs.Positions.{positions, positions_of, copies};
 ghost use Rattle.lexmeaning.specs.Shapes.{IsSoundTree, AreSoundTrees};
 ghost use Rattle.lexmeaning.specs.Tree.{trees};
 ghost use Rattle.lexre.specs.Views.{tree_of};
-ghost use Rattle.lexauto.specs.Flow.{flag, is_zero, is_none, passes, comes, exits, exits_each, exits_some, enters, enters_each, enters_some};
+ghost use Rattle.lexauto.specs.Flow.{is_zero, is_none, passes, comes, exits, exits_each, exits_some, enters, enters_each, enters_some};
+ghost use Rattle.lexmeaning.specs.Text.{flag};
 
 use lexre::{Pattern, positions};
 

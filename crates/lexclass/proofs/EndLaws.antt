@@ -5,7 +5,7 @@ use Rattle.std.specs.Prelude.{codes}
 use Rattle.lexmeaning.specs.ByteSets.{ByteSet, is_alpha, is_xdigit, within}
 use Rattle.lexmeaning.specs.Escapes.{control, octal_at, hexadecimal_at}
 use Rattle.lexmeaning.specs.Reading.{◌>>=◌, take_up_to, value, is_empty, begins}
-use Rattle.lexclass.specs.Lexical.{Element, element_set, span, after_word, escape_at, letters_at, named_at, enclosed_at, unsupported_at, class_byte_at, bracketed_at, is_range, range_at, element_at, inside}
+use Rattle.lexclass.specs.Lexical.{Element, element_set, span, after_word, escape_at, letters_at, named_at, enclosed_at, unsupported_at, literal_byte_at, bracketed_at, is_range, range_at, element_at, inside}
 use Rattle.lexclass.specs.ClassSets.{member_at}
 use Rattle.lexclass.specs.Stops.{stop_of}
 use Rattle.std.proofs.lemmas.Slice.Eq.{starts_is}
@@ -174,8 +174,8 @@ escape_ends (c ∷ t) = go (c == 10) (within 48 55 c) (c == 120)
     go false false true = end_next c t _ (or_itself c t (hexadecimal_at t) (hexadecimal_ends t))
     go false false false = end_next c t t (end_itself t)
 
-byte_ends : (t : List ℕ) → Ends t (class_byte_at t)
-unfolding class_byte_at
+byte_ends : (t : List ℕ) → Ends t (literal_byte_at t)
+unfolding literal_byte_at
 byte_ends [] = tt
 byte_ends (c ∷ t) = go (c == 10) (c == 92)
   where
@@ -188,7 +188,7 @@ range_ends : (lo : ℕ) (t : List ℕ) → Ends t (range_at lo t)
 range_ends lo t = first (bracketed_at t) refl (bracketed_ends t)
   where
     first : (o : Found) → ◌≡◌ {A = Found} (bracketed_at t) o → Ends t o → Ends t (range_at lo t)
-    first None e h = rw (range_of_bytes lo t e) (follows t (class_byte_at t) _ (byte_ends t) (λ x k. k))
+    first None e h = rw (range_of_bytes lo t e) (follows t (literal_byte_at t) _ (byte_ends t) (λ x k. k))
     first (Some x) e h = rw (range_of_bracket lo t x e) h
 
 after_low : (t : List ℕ) (lo : ℕ) (rest : List ℕ) → IsEnd t rest → Ends t (if is_range rest then range_at lo (drop 1 rest) else Some (span lo lo, rest))
@@ -202,13 +202,13 @@ element_ends : (t : List ℕ) → Ends t (element_at t)
 element_ends t = first (bracketed_at t) refl (bracketed_ends t)
   where
     first : (o : Found) → ◌≡◌ {A = Found} (bracketed_at t) o → Ends t o → Ends t (element_at t)
-    first None e h = rw (element_of_byte t e) (follows t (class_byte_at t) _ (byte_ends t) (λ x k. after_low t x.0 x.1 k))
+    first None e h = rw (element_of_byte t e) (follows t (literal_byte_at t) _ (byte_ends t) (λ x k. after_low t x.0 x.1 k))
     first (Some x) e h = rw (element_of_bracket t x e) h
 
 pub element_rest : (t rest : List ℕ) (e : Element) → ◌≡◌ {A = Found} (element_at t) (Some (e, rest)) → IsEnd t rest
 element_rest t rest e h = let P : Found → Type 0 = λ f. Ends t f in subst P h (element_ends t)
 
-pub byte_rest : (t rest : List ℕ) (b : ℕ) → ◌≡◌ {A = Byte} (class_byte_at t) (Some (b, rest)) → IsEnd t rest
+pub byte_rest : (t rest : List ℕ) (b : ℕ) → ◌≡◌ {A = Byte} (literal_byte_at t) (Some (b, rest)) → IsEnd t rest
 byte_rest t rest b h = let P : Byte → Type 0 = λ f. Ends t f in subst P h (byte_ends t)
 
 pub word_rest : (w t rest : List ℕ) → after_word w t ≡ Some rest → IsEnd t rest
@@ -298,6 +298,6 @@ member_known t rest s x e f h = known_on t rest s e (go (element_at t) (element_
     go None k g = cc
     go (Some y) k g = inner y (element_set y.0) k g
 
-pub range_known : (t rest after s : List ℕ) (low c : ℕ) → s ≡ stop_of t → ◌≡◌ {A = Byte} (class_byte_at t) (Some (low, rest)) → rest ≡ c ∷ after → length s ≤ length after → s ≡ stop_of after
+pub range_known : (t rest after s : List ℕ) (low c : ℕ) → s ≡ stop_of t → ◌≡◌ {A = Byte} (literal_byte_at t) (Some (low, rest)) → rest ≡ c ∷ after → length s ≤ length after → s ≡ stop_of after
 range_known t rest after s low c e f g h =
     known_on t after s e (end_then t rest after (byte_rest t rest low f) (c ∷ [], g)) h

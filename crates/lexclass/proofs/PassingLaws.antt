@@ -3,9 +3,10 @@ use Rattle.std.proofs.Common.{◌≡◌, ℕ, zero, suc, ◌<◌, ◌≤◌, ◌
 use Rattle.std.proofs.lemmas.Bool.{ne_eqb}
 use Rattle.std.specs.Prelude.{codes, option_map}
 use Rattle.std.specs.List.{ends_with}
+use Rattle.lexmeaning.specs.Escapes.{until_quote}
 use Rattle.lexmeaning.specs.ByteSets.{is_alpha}
 use Rattle.lexmeaning.specs.Reading.{◌>>=◌, take_up_to, take_run, is_empty, begins}
-use Rattle.lexclass.specs.Lexical.{after_word, escape_at, quoted_at, after_quotes, Element, named, span, unsupported, letters_at, named_at, enclosed_at, unsupported_at, class_byte_at, bracketed_at, is_range, range_at, element_at, elements_at, class_at}
+use Rattle.lexclass.specs.Lexical.{after_word, escape_at, quoted_at, after_quotes, Element, named, span, unsupported, letters_at, named_at, enclosed_at, unsupported_at, literal_byte_at, bracketed_at, is_range, range_at, element_at, elements_at, class_at}
 use Rattle.lexclass.specs.Passing.{rest_of_class}
 use Rattle.lexclass.proofs.QuoteLaws.{escape_shorter}
 
@@ -119,8 +120,8 @@ escape_below : (n : ℕ) (t : List ℕ) → length t ≤ n → (o : Option (ℕ 
 escape_below n t within None e = tt
 escape_below n t within (Some x) e = let h : length x.1 < length t = escape_shorter t x.1 x.0 e in omega arith
 
-byte_below : (t : List ℕ) → IsBelow (length t) (rest_of (class_byte_at t))
-unfolding class_byte_at
+byte_below : (t : List ℕ) → IsBelow (length t) (rest_of (literal_byte_at t))
+unfolding literal_byte_at
 byte_below [] = tt
 byte_below (c ∷ t) = go (c == 10) (c == 92) (escape_below (suc (length t)) t (omega arith) (escape_at t) refl)
   where
@@ -135,7 +136,7 @@ weaker n m (Some r) h le = omega arith
 
 range_below : (lo : ℕ) (t : List ℕ) → IsBelow (length t) (rest_of (range_at lo t))
 unfolding range_at
-range_below lo t = go (bracketed_at t) (class_byte_at t) (bracketed_below t) (byte_below t)
+range_below lo t = go (bracketed_at t) (literal_byte_at t) (bracketed_below t) (byte_below t)
   where
     go : (a : Option (Element × List ℕ)) (b : Option (ℕ × List ℕ)) → IsBelow (length t) (rest_of a) → IsBelow (length t) (rest_of b)
         → IsBelow (length t) (rest_of {A = Element} (elim a [
@@ -148,7 +149,7 @@ range_below lo t = go (bracketed_at t) (class_byte_at t) (bracketed_below t) (by
 
 element_below : (t : List ℕ) → IsBelow (length t) (rest_of (element_at t))
 unfolding element_at
-element_below t = go (bracketed_at t) (class_byte_at t) (bracketed_below t) (byte_below t)
+element_below t = go (bracketed_at t) (literal_byte_at t) (bracketed_below t) (byte_below t)
   where
     ranged : (b : Bool) (lo : ℕ) (r : List ℕ) → length r < length t → IsBelow (length r) (rest_of (range_at lo (drop 1 r)))
         → IsBelow (length t) (rest_of {A = Element} (if b then range_at lo (drop 1 r) else Some (span lo lo, r)))
@@ -170,7 +171,7 @@ pub element_shorter : (t rest : List ℕ) → rest_of (element_at t) ≡ Some re
 element_shorter t rest e = below (length t) (rest_of (element_at t)) rest (element_below t) e
 
 quoted_below : (n : ℕ) (t : List ℕ) → IsBelow (length t) (rest_of (quoted_at n t))
-unfolding quoted_at
+unfolding until_quote literal_byte_at
 quoted_below zero t = tt
 quoted_below (suc n) [] = tt
 quoted_below (suc n) (c ∷ t) = go (c == 34) (c == 10) (c == 92) (escape_below (suc (length t)) t (omega arith) (escape_at t) refl) (λ r. quoted_below n r)
@@ -185,8 +186,8 @@ quoted_below (suc n) (c ∷ t) = go (c == 34) (c == 10) (c == 92) (escape_below 
         joined (Some y) l = omega arith
 
     go : (p q r : Bool) → IsBelow (suc (length t)) (rest_of (escape_at t)) → ((u : List ℕ) → IsBelow (length u) (rest_of (quoted_at n u)))
-        → IsBelow (suc (length t)) (rest_of {A = List ℕ} (if p then Some ([], t) else if q then None
-        else (if r then escape_at t else Some (c, t)) >>= λ (b, rest). quoted_at n rest >>= λ (bs, after). Some (b ∷ bs, after)))
+        → IsBelow (suc (length t)) (rest_of {A = List ℕ} (if p then Some ([], t)
+        else (if q then None else if r then escape_at t else Some (c, t)) >>= λ (b, rest). quoted_at n rest >>= λ (bs, after). Some (b ∷ bs, after)))
     go true q r h k = omega arith
     go false true r h k = tt
     go false false true h k = more (escape_at t) h k
@@ -241,7 +242,7 @@ unfolding elements_at
 elements_end n t = refl
 
 no_element : element_at [] ≡ None
-unfolding element_at bracketed_at named_at unsupported_at class_byte_at after_word
+unfolding element_at bracketed_at named_at unsupported_at literal_byte_at after_word
 no_element = refl
 
 no_elements : (n : ℕ) → rest_of (elements_at n false []) ≡ None

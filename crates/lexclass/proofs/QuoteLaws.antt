@@ -2,9 +2,9 @@
 use Rattle.std.proofs.Common.{◌≡◌, ℕ, zero, suc, ◌<◌, ◌≤◌, Bool, true, false, nat_lt, ◌==◌, if◌then◌else◌, List, [], ◌∷◌, length, Option, Some, None, unwrap_or, refl, sym, ap, ◌∙◌, subst, arith}
 use Rattle.std.proofs.lemmas.Bool.Decides.{nat_tests}
 use Rattle.lexmeaning.specs.ByteSets.{within, is_xdigit}
-use Rattle.lexmeaning.specs.Escapes.{octal_at, hexadecimal_at, control}
+use Rattle.lexmeaning.specs.Escapes.{octal_at, hexadecimal_at, control, until_quote}
 use Rattle.lexmeaning.specs.Reading.{take_up_to, value, is_empty, ◌>>=◌}
-use Rattle.lexclass.specs.Lexical.{escape_at, quoted_at, after_quotes}
+use Rattle.lexclass.specs.Lexical.{escape_at, quoted_at, after_quotes, literal_byte_at}
 
 abbrev Found : Type 0
 Found = Option (ℕ × List ℕ)
@@ -86,15 +86,15 @@ same_after n m k (Some x) h same = ap (with_byte x.0) (same x.1 h)
 
 -- the number that bounds the bytes tells nothing once there is room
 pub enough : (n m : ℕ) (t : List ℕ) → length t < n → length t < m → quoted_at n t ≡ quoted_at m t
-unfolding quoted_at
+unfolding until_quote literal_byte_at
 enough zero m t h k = absurd (omega arith)
 enough (suc n) zero t h k = absurd (omega arith)
 enough (suc n) (suc m) [] h k = refl
 enough (suc n) (suc m) (c ∷ t) h k = go (λ u i. enough n m u (omega arith) (omega arith)) (c == 34) (c == 10) (c == 92)
   where
     go : Agree n m (suc (length t)) → (x y z : Bool)
-        → ◌≡◌ {A = Quoted} (if x then Some ([], t) else if y then None else after_byte n (if z then escape_at t else Some (c, t)))
-        (if x then Some ([], t) else if y then None else after_byte m (if z then escape_at t else Some (c, t)))
+        → ◌≡◌ {A = Quoted} (if x then Some ([], t) else after_byte n (if y then None else if z then escape_at t else Some (c, t)))
+        (if x then Some ([], t) else after_byte m (if y then None else if z then escape_at t else Some (c, t)))
     go same true y z = refl
     go same false true z = refl
     go same false false true = same_after n m (length t) (escape_at t) (shorter t) (λ u i. same u (omega arith))
@@ -105,19 +105,19 @@ unfolding after_quotes
 with_room n t h = ap rest_of (enough n (suc (length t)) t h (omega arith))
 
 pub after_nothing : after_quotes [] ≡ None
-unfolding after_quotes quoted_at
+unfolding after_quotes until_quote literal_byte_at
 after_nothing = refl
 
 pub after_closing : (t : List ℕ) → after_quotes (34 ∷ t) ≡ Some t
-unfolding after_quotes quoted_at
+unfolding after_quotes until_quote literal_byte_at
 after_closing t = refl
 
 pub after_newline : (t : List ℕ) → after_quotes (10 ∷ t) ≡ None
-unfolding after_quotes quoted_at
+unfolding after_quotes until_quote literal_byte_at
 after_newline t = refl
 
 at_backslash : (t : List ℕ) → after_quotes (92 ∷ t) ≡ rest_of (after_byte (suc (length t)) (escape_at t))
-unfolding after_quotes quoted_at
+unfolding after_quotes until_quote literal_byte_at
 at_backslash t = refl
 
 pub after_escape : (t rest : List ℕ) (b : ℕ) → ◌≡◌ {A = Found} (escape_at t) (Some (b, rest)) → after_quotes (92 ∷ t) ≡ after_quotes rest
@@ -129,7 +129,7 @@ pub after_bad_escape : (t : List ℕ) → ◌≡◌ {A = Found} (escape_at t) No
 after_bad_escape t e = at_backslash t ∙ ap (λ f. rest_of (after_byte (suc (length t)) f)) e
 
 at_other : (c : ℕ) (t : List ℕ) → (c == 34) ≡ false → (c == 10) ≡ false → (c == 92) ≡ false → after_quotes (c ∷ t) ≡ rest_of (after_byte (suc (length t)) (Some (c, t)))
-unfolding after_quotes quoted_at
+unfolding after_quotes until_quote literal_byte_at
 at_other c t h k l = rw (h, k, l) refl
 
 pub after_other : (c : ℕ) (t : List ℕ) → (c == 34) ≡ false → (c == 10) ≡ false → (c == 92) ≡ false → after_quotes (c ∷ t) ≡ after_quotes t

@@ -4,7 +4,7 @@ use Rattle.std.specs.Prelude.{ℕ, zero, suc, Bool, true, false, not, ◌&&◌, 
 use Rattle.std.specs.List.{ends_with}
 use Rattle.lexmeaning.specs.ByteSets.{ByteSet, empty_set, single, range_set, union, complement, fold_case, named_set, is_alpha, is_digit}
 use Rattle.lexmeaning.specs.Reading.{◌>>=◌, Reader, is_empty, begins, take_run, starts_name, goes_on_name, value}
-use Rattle.lexmeaning.specs.Escapes.{control, is_octal, octal_at, hexadecimal_at, byte_with}
+use Rattle.lexmeaning.specs.Escapes.{control, is_octal, octal_at, hexadecimal_at, byte_with, until_quote}
 use Rattle.lexmeaning.specs.Tree.{Tree, Empty, Set, Cat, trees}
 use Rattle.lexclass.specs.Symbols.{Symbol, item, name, opening, closing, bar, sign, interval, any_times, once_or_more, at_most_once, Lexer}
 
@@ -27,22 +27,16 @@ escape_at (c ∷ t) =
     else if c == 120 then Some (unwrap_or (hexadecimal_at t) (c, t))
     else Some (control c, t)
 
+-- a byte between quotes or brackets: an escape, or any byte but a newline
+unfoldable pub literal_byte_at : Reader ℕ
+literal_byte_at t = byte_with escape_at t
+
 -- Texts in quotes.
 
--- a byte between quotes: an escape, or itself
-abbrev pub quoted_byte_at : Reader ℕ
-quoted_byte_at [] = None
-quoted_byte_at (c ∷ t) = if c == 92 then escape_at t else Some (c, t)
+abbrev pub quoted_at : ℕ → Reader (List ℕ)
+quoted_at n t = until_quote literal_byte_at n t
 
--- After the opening quote: the bytes, and what follows the closing one. The number bounds how many there are.
-unfoldable pub quoted_at : ℕ → Reader (List ℕ)
-quoted_at zero t = None
-quoted_at (suc n) [] = None
-quoted_at (suc n) (c ∷ t) =
-    if c == 34 then Some ([], t)
-    else if c == 10 then None
-    else quoted_byte_at (c ∷ t) >>= λ (b, rest). quoted_at n rest >>= λ (bs, after). Some (b ∷ bs, after)
-
+-- the bytes of a text in quotes, after its first quote
 abbrev pub quoted_bytes : Reader (List ℕ)
 quoted_bytes t = quoted_at (suc (length t)) t
 
@@ -96,10 +90,6 @@ unsupported_at t = elim (after_word (codes "[:^") t) [
   ]
 ]
 
--- an escape, or any byte but a newline
-unfoldable pub class_byte_at : Reader ℕ
-class_byte_at t = byte_with escape_at t
-
 -- what follows an element between brackets that stands at the front of the text, and the element
 unfoldable pub bracketed_at : Reader Element
 bracketed_at t = elim (named_at t) [
@@ -119,13 +109,13 @@ is_range _ = false
 unfoldable pub range_at : ℕ → Reader Element
 range_at lo t = elim (bracketed_at t) [
   | Some found ↦ Some (unsupported, found.1)
-  | None ↦ class_byte_at t >>= λ (hi, rest). Some (span lo hi, rest)
+  | None ↦ literal_byte_at t >>= λ (hi, rest). Some (span lo hi, rest)
 ]
 
 unfoldable pub element_at : Reader Element
 element_at t = elim (bracketed_at t) [
   | Some found ↦ Some found
-  | None ↦ class_byte_at t >>= λ (lo, rest). if is_range rest then range_at lo (drop 1 rest) else Some (span lo lo, rest)
+  | None ↦ literal_byte_at t >>= λ (lo, rest). if is_range rest then range_at lo (drop 1 rest) else Some (span lo lo, rest)
 ]
 
 -- The elements up to the closing bracket, and what follows it. A `]` that comes first is an element. The number bounds them.

@@ -1,6 +1,6 @@
 //! What stands between brackets inside a class. (POSIX, Base Definitions, RE Bracket Expression.)
 ghost use Rattle.std.specs.Prelude.{◌≡◌, ◌≤◌, ℕ, List, length, Option, Some, None, MatchResult, option_map};
-ghost use Rattle.lexclass.specs.Lexical.{class_byte_at, enclosed_at, letters_at, named_at, unsupported_at};
+ghost use Rattle.lexclass.specs.Lexical.{literal_byte_at, enclosed_at, letters_at, named_at, unsupported_at};
 ghost use Rattle.lexclass.specs.Stops.{stop_of};
 
 use crate::classes::Class;
@@ -79,11 +79,11 @@ pub fn skip_unsupported<'a>(text: &'a [u8], stop: &[u8]) -> Option<&'a [u8]>
 
 /// A byte of a class, and what follows it: an escape, or any byte but a newline. `class` is the text from the class on, at
 /// which it is told that the class is not closed.
-#[tactic(auto, unfolding(crate::specs::Lexical::class_byte_at))]
+#[tactic(auto, unfolding(crate::specs::Lexical::literal_byte_at))]
 pub fn class_byte_at<'a>(class: &'a [u8], text: &'a [u8]) -> Result<(u8, &'a [u8]), Fault<'a>>
     ensures { MatchResult result
-        (λ x. ◌≡◌ {A = Option (ℕ × List ℕ)} (class_byte_at text.now) (Some (x.0, x.1.now)))
-        (λ _. ◌≡◌ {A = Option (ℕ × List ℕ)} (class_byte_at text.now) None) }
+        (λ x. ◌≡◌ {A = Option (ℕ × List ℕ)} (literal_byte_at text.now) (Some (x.0, x.1.now)))
+        (λ _. ◌≡◌ {A = Option (ℕ × List ℕ)} (literal_byte_at text.now) None) }
 {
     let unclosed = Fault {
         kind: PatternErrorKind::UnclosedClass,

@@ -5,9 +5,9 @@ use Rattle.std.proofs.Math.Nat.{sub_self}
 use Rattle.std.proofs.Math.Seq.{take-add, take-append_seam, drop-append_seam}
 use Rattle.std.proofs.lemmas.List.{append_assoc, length-append, length-drop, length-take-le, get_or_past, drop-drop}
 use Rattle.std.proofs.lemmas.Bool.{cases_lt, or_left, or_right}
-use Rattle.lexmeaning.specs.Text.{part}
+use Rattle.lexmeaning.specs.Text.{part, flag}
 use Rattle.lexmeaning.specs.Tree.{Joined, UpTo}
-use Rattle.lexkit.specs.Places.{marked, Reaches, AreEnds, AnyTimes, UpToTimes}
+use Rattle.lexkit.specs.Places.{Reaches, AreEnds, AnyTimes, UpToTimes}
 
 no_both : {A : Type 0} → false ≡ true → A
 no_both e = absurd (no e)
@@ -16,7 +16,7 @@ no_both e = absurd (no e)
     no p = cc
 
 -- a marked place is inside the list
-pub marked_inside : (places : List Bool) (j : ℕ) → marked places j ≡ true → j < length places
+pub marked_inside : (places : List Bool) (j : ℕ) → flag places j ≡ true → j < length places
 marked_inside places j h = from (cases_lt j (length places))
   where
     from : (j < length places) ⊎ (length places ≤ j) → j < length places
@@ -70,7 +70,7 @@ ends_empty text starts size = record {
   inside = size;
   reached = λ j. (
     λ e. (j, omega arith, (let lt = marked_inside starts j e in omega arith), e, part_none text j),
-    λ (i, le, fits, e, w). (let n : j - i ≡ 0 = sym (length_part text i j le fits) ∙ ap length w in let same : i ≡ j = omega arith in subst (λ k. marked starts k ≡ true) same e),
+    λ (i, le, fits, e, w). (let n : j - i ≡ 0 = sym (length_part text i j le fits) ∙ ap length w in let same : i ≡ j = omega arith in subst (λ k. flag starts k ≡ true) same e),
   );
 }
 
@@ -93,34 +93,34 @@ ends_then L M text starts mid ends h k = record {
 
 -- the places of both lists
 abbrev pub AreJoined : List Bool → List Bool → List Bool → Type 0
-AreJoined xs ys all = (j : ℕ) → marked all j ≡ (marked xs j || marked ys j)
+AreJoined xs ys all = (j : ℕ) → flag all j ≡ (flag xs j || flag ys j)
 
-pub joined_left : (xs ys all : List Bool) → AreJoined xs ys all → (j : ℕ) → marked xs j ≡ true → marked all j ≡ true
-joined_left xs ys all h j e = h j ∙ or_left (marked xs j) (marked ys j) e
+pub joined_left : (xs ys all : List Bool) → AreJoined xs ys all → (j : ℕ) → flag xs j ≡ true → flag all j ≡ true
+joined_left xs ys all h j e = h j ∙ or_left (flag xs j) (flag ys j) e
 
-pub joined_right : (xs ys all : List Bool) → AreJoined xs ys all → (j : ℕ) → marked ys j ≡ true → marked all j ≡ true
-joined_right xs ys all h j e = h j ∙ or_right (marked xs j) (marked ys j) e
+pub joined_right : (xs ys all : List Bool) → AreJoined xs ys all → (j : ℕ) → flag ys j ≡ true → flag all j ≡ true
+joined_right xs ys all h j e = h j ∙ or_right (flag xs j) (flag ys j) e
 
 one_of : (a b : Bool) → (a || b) ≡ true → (a ≡ true) ⊎ (b ≡ true)
 one_of true b h = inl refl
 one_of false b h = inr h
 
-joined_parts : (xs ys all : List Bool) → AreJoined xs ys all → (j : ℕ) → marked all j ≡ true → (marked xs j ≡ true) ⊎ (marked ys j ≡ true)
-joined_parts xs ys all h j e = one_of (marked xs j) (marked ys j) (sym (h j) ∙ e)
+joined_parts : (xs ys all : List Bool) → AreJoined xs ys all → (j : ℕ) → flag all j ≡ true → (flag xs j ≡ true) ⊎ (flag ys j ≡ true)
+joined_parts xs ys all h j e = one_of (flag xs j) (flag ys j) (sym (h j) ∙ e)
 
 -- choices
 
 -- the places of a choice, of which those of M are still to come
 pub record AreSome (L M : List ℕ → Type 0) (text : List ℕ) (starts all : List Bool) : Type 0 where
   pub inside : length all ≤ length text + 1
-  pub sound : (j : ℕ) → marked all j ≡ true → Reaches L text starts j
+  pub sound : (j : ℕ) → flag all j ≡ true → Reaches L text starts j
   pub later : (w : List ℕ) → M w → L w
-  pub complete : (j : ℕ) → Reaches L text starts j → (marked all j ≡ true) ⊎ Reaches M text starts j
+  pub complete : (j : ℕ) → Reaches L text starts j → (flag all j ≡ true) ⊎ Reaches M text starts j
 
 pub some_first : (L : List ℕ → Type 0) (text : List ℕ) (starts all : List Bool) → all ≡ [] → AreSome L L text starts all
 some_first L text starts all e = record {
   inside = (let z : length all ≡ 0 = ap length e in omega arith);
-  sound = λ j h. no_both (sym (ap (λ p. marked p j) e) ∙ h);
+  sound = λ j h. no_both (sym (ap (λ p. flag p j) e) ∙ h);
   later = λ w h. h;
   complete = λ j h. inr h;
 }
@@ -134,11 +134,11 @@ some_more L P M N text starts ends all next apart together h k size both = recor
   complete = λ j r. complete j (h.complete j r);
 }
   where
-    sound : (j : ℕ) → (marked all j ≡ true) ⊎ (marked ends j ≡ true) → Reaches L text starts j
+    sound : (j : ℕ) → (flag all j ≡ true) ⊎ (flag ends j ≡ true) → Reaches L text starts j
     sound j (inl e) = h.sound j e
     sound j (inr e) = let r = (k.reached j).0 e in (r.0, r.1, r.2, r.3, h.later (part text r.0 j) (together (part text r.0 j) (inl r.4)))
 
-    complete : (j : ℕ) → (marked all j ≡ true) ⊎ Reaches N text starts j → (marked next j ≡ true) ⊎ Reaches M text starts j
+    complete : (j : ℕ) → (flag all j ≡ true) ⊎ Reaches N text starts j → (flag next j ≡ true) ⊎ Reaches M text starts j
     complete j (inl e) = inl (joined_left all ends next both j e)
     complete j (inr (i, le, fits, e, w)) = elim (apart (part text i j) w) [
       | inl p ↦ inl (joined_right all ends next both j ((k.reached j).1 (i, le, fits, e, p)))
@@ -155,7 +155,7 @@ some_all L M text starts all none h = record {
 
 -- where one more word leads nowhere new, any number of words leads nowhere new
 pub any_closed : (P : List ℕ → Type 0) (text : List ℕ) (places next : List Bool) → length places ≤ length text + 1 → AreEnds P text places next →
-    ((j : ℕ) → marked next j ≡ true → marked places j ≡ true) → AreEnds (AnyTimes P) text places places
+    ((j : ℕ) → flag next j ≡ true → flag places j ≡ true) → AreEnds (AnyTimes P) text places places
 any_closed P text places next size h none_new = record {
   inside = size;
   reached = λ j. (
@@ -164,10 +164,10 @@ any_closed P text places next size h none_new = record {
   );
 }
   where
-    none : (j : ℕ) → Reaches (Joined P 0) text places j → marked places j ≡ true
+    none : (j : ℕ) → Reaches (Joined P 0) text places j → flag places j ≡ true
     none j r = ((ends_empty text places size).reached j).1 r
 
-    stays : (k j : ℕ) → Reaches (Joined P k) text places j → marked places j ≡ true
+    stays : (k j : ℕ) → Reaches (Joined P k) text places j → flag places j ≡ true
     stays zero j r = none j r
     stays (suc k) j r = stays k j (back (reach_from P (Joined P k) text places next j h r))
       where
@@ -176,7 +176,7 @@ any_closed P text places next size h none_new = record {
 
 -- where one more word leads nowhere new, the places joined with it are the ends of any number of words
 pub closed_too : (P : List ℕ → Type 0) (text : List ℕ) (places next both : List Bool) → length places ≤ length text + 1 → AreEnds P text places next → AreJoined places next both →
-    ((j : ℕ) → marked next j ≡ true → marked places j ≡ true) → length both ≤ length text + 1 → AreEnds (AnyTimes P) text places both
+    ((j : ℕ) → flag next j ≡ true → flag places j ≡ true) → length both ≤ length text + 1 → AreEnds (AnyTimes P) text places both
 closed_too P text places next both size h joined none_new fits = record {
   inside = fits;
   reached = λ j. (λ e. (closed.reached j).0 (back j e), λ r. joined_left places next both joined j ((closed.reached j).1 r));
@@ -185,7 +185,7 @@ closed_too P text places next both size h joined none_new fits = record {
     closed : AreEnds (AnyTimes P) text places places
     closed = any_closed P text places next size h none_new
 
-    back : (i : ℕ) → marked both i ≡ true → marked places i ≡ true
+    back : (i : ℕ) → flag both i ≡ true → flag places i ≡ true
     back i e = elim (joined_parts places next both joined i e) [ inl a ↦ a | inr b ↦ none_new i b ]
 
 from_joined : (M : List ℕ → Type 0) (text : List ℕ) (xs ys all : List Bool) (j : ℕ) → AreJoined xs ys all → Reaches M text all j → Reaches M text xs j ⊎ Reaches M text ys j
@@ -304,5 +304,5 @@ repeat_up_to P m n k text starts mid ends is h g =
 pub repeat_never : (P : List ℕ → Type 0) (m n : ℕ) (text : List ℕ) (starts ends : List Bool) → n < m → ends ≡ [] → AreEnds (Repeated P m (Some n)) text starts ends
 repeat_never P m n text starts ends lt e = record {
   inside = (let z : length ends ≡ 0 = ap length e in omega arith);
-  reached = λ j. (λ h. no_both (sym (ap (λ p. marked p j) e) ∙ h), λ (i, le, fits, s, (k, low, high, w)). absurd (omega (arith, low, high)));
+  reached = λ j. (λ h. no_both (sym (ap (λ p. flag p j) e) ∙ h), λ (i, le, fits, s, (k, low, high, w)). absurd (omega (arith, low, high)));
 }

@@ -10,7 +10,8 @@ use Rattle.lexmeaning.specs.Spec.{Spec, Statement, Whole}
 use Rattle.lexmeaning.specs.Spec as meaning
 use Rattle.lexspec.specs.declared.rule.Rule.{Rule}
 use Rattle.lexspec.specs.RuleViews.{rule_of}
-use Rattle.lexkit.specs.Simple.{is_writing, is_whole, is_simple_rule, unrun_line, IsScanned}
+use Rattle.lexspec.specs.Tests.{is_whole}
+use Rattle.lexkit.specs.Simple.{is_writing, is_simple_rule, unrun_line, IsScanned}
 use Rattle.lexkit.specs.Matches.{number_of}
 
 pub rule_at : (S : Spec) (rules : List Rule) (i : ℕ) (q : Rule) → map rule_of rules ≡ S.rules → i < length rules → q ≡ get_or rules i q → slice_get S.rules i ≡ Some (rule_of q)

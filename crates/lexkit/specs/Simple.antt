@@ -5,8 +5,9 @@ use Rattle.std.specs.Option.{is_some}
 use Rattle.std.specs.List.{list_all}
 use Rattle.lexspec.specs.declared.error.SpecError.{SpecError}
 use Rattle.lexspec.specs.declared.error.SpecErrorKind.TheVariants.{UnsupportedOption}
+use Rattle.lexspec.specs.Tests.{is_whole}
 use Rattle.lexmeaning.specs.Active.{is_inclusive}
-use Rattle.lexmeaning.specs.Spec.{Spec, Rule, Condition, Cut, Whole, Head, Trail, Statement, Echo, Print}
+use Rattle.lexmeaning.specs.Spec.{Spec, Rule, Condition, Statement, Echo, Print}
 
 -- ECHO and literals
 abbrev pub is_writing : List Statement → Bool
@@ -14,11 +15,6 @@ is_writing [] = true
 is_writing (Echo ∷ ss) = is_writing ss
 is_writing (Print s ∷ ss) = is_writing ss
 is_writing (s ∷ ss) = false
-
-abbrev pub is_whole : Cut → Bool
-is_whole Whole = true
-is_whole (Head m) = false
-is_whole (Trail n) = false
 
 -- a rule without a condition list, `^` or trailing context, whose action is of ECHO and literals
 abbrev pub is_simple_rule : Rule → Bool

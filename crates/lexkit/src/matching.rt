@@ -2,21 +2,22 @@
 ghost use Rattle.std.specs.Prelude.{◌≡◌, ℕ, ◌+◌, ◌≤◌, ◌<◌, ◌||◌, ◌==◌, Bool, true, false, length, max, map, IfOk, IsTrue, ◌↔◌};
 ghost use Rattle.lexmeaning.specs.Tree.{Set, Star, Repeat, In, InEach, InSome, Joined, trees};
 ghost use Rattle.lexre.specs.Views.{tree_of};
-ghost use Rattle.lexkit.specs.Places.{marked, AreEnds, AnyTimes, UpToTimes};
+ghost use Rattle.lexkit.specs.Places.{AreEnds, AnyTimes, UpToTimes};
+ghost use Rattle.lexmeaning.specs.Text.{flag};
 
 use lexre::{ByteSet, Pattern};
 use std::alloc::{AllocError, Global};
 
 /// Whether the place is marked.
 fn is_marked(places: &[bool], place: usize) -> bool
-    ensures { result ≡ marked places.now place }
+    ensures { result ≡ flag places.now place }
 {
     places.get(place).copied().unwrap_or(false)
 }
 
 /// Marks a place, and no other.
 fn mark(places: &mut Vec<bool>, place: usize) -> Result<(), AllocError>
-    ensures marked { IfOk result (λ _. (j : ℕ) → marked places.new.items j ≡ (marked places.old.items j || j == place)) }
+    ensures marked { IfOk result (λ _. (j : ℕ) → flag places.new.items j ≡ (flag places.old.items j || j == place)) }
     ensures inside { IfOk result (λ _. length places.new.items ≤ max (length places.old.items) (place + 1)) }
 {
     while places.len() <= place {
@@ -28,9 +29,9 @@ fn mark(places: &mut Vec<bool>, place: usize) -> Result<(), AllocError>
 
 /// Marks the places of both, and says whether one of them is new.
 fn join(places: &mut Vec<bool>, more: &[bool]) -> Result<bool, AllocError>
-    ensures joined { IfOk result (λ _. (j : ℕ) → marked places.new.items j ≡ (marked places.old.items j || marked more.now j)) }
+    ensures joined { IfOk result (λ _. (j : ℕ) → flag places.new.items j ≡ (flag places.old.items j || flag more.now j)) }
     ensures inside { IfOk result (λ _. length places.new.items ≤ max (length places.old.items) (length more.now)) }
-    ensures found { IfOk result (λ found. IsTrue found ↔ ((j : ℕ) × (marked more.now j ≡ true) × (marked places.old.items j ≡ false))) }
+    ensures found { IfOk result (λ found. IsTrue found ↔ ((j : ℕ) × (flag more.now j ≡ true) × (flag places.old.items j ≡ false))) }
 {
     let mut found = false;
     for (i, place) in more.iter().enumerate() {

@@ -1,12 +1,12 @@
 -- Which rules are active. (POSIX, lex, Definitions in lex and Regular Expressions in lex: start conditions and `^`;
 -- flex, Start Conditions: `<*>`.)
-use Rattle.std.specs.Prelude.{ℕ, Bool, false, not, ◌&&◌, ◌||◌, List, [], ◌∷◌, Option, Some, None, nat_eq, slice_get}
+use Rattle.std.specs.Prelude.{ℕ, Bool, false, not, ◌&&◌, ◌||◌, ◌==◌, List, Option, Some, None, slice_get}
+use Rattle.std.specs.List.{list_any}
 use Rattle.lexmeaning.specs.Spec.{Spec, Rule, Condition}
 
 -- whether a number is in the list
 abbrev pub lists : List ℕ → ℕ → Bool
-lists [] c = false
-lists (d ∷ ds) c = nat_eq d c || lists ds c
+lists cs c = list_any (λ d. d == c) cs
 
 abbrev pub is_inclusive : Option Condition → Bool
 is_inclusive None = false

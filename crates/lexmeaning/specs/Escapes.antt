@@ -1,8 +1,8 @@
 -- The escapes that patterns and the strings of actions have in common.
 -- (POSIX, lex, Regular Expressions in lex: Escape Sequences in lex; C's strings have them too.)
-use Rattle.std.specs.Prelude.{ℕ, Bool, ◌==◌, nat_lt, if◌then◌else◌, [], ◌∷◌, Some, None}
+use Rattle.std.specs.Prelude.{ℕ, zero, suc, Bool, ◌==◌, nat_lt, if◌then◌else◌, List, [], ◌∷◌, Some, None}
 use Rattle.lexmeaning.specs.ByteSets.{within, is_xdigit}
-use Rattle.lexmeaning.specs.Reading.{Reader, is_empty, take_up_to, value}
+use Rattle.lexmeaning.specs.Reading.{◌>>=◌, Reader, is_empty, take_up_to, value}
 
 -- `\a \b \f \n \r \t \v` are C's; another byte is itself
 unfoldable pub control : ℕ → ℕ
@@ -29,3 +29,11 @@ hexadecimal_at t =
 abbrev pub byte_with : Reader ℕ → Reader ℕ
 byte_with escape_at [] = None
 byte_with escape_at (c ∷ t) = if c == 10 then None else if c == 92 then escape_at t else Some (c, t)
+
+-- After an opening quote: the bytes, and what follows the closing one. The number bounds how many there are.
+unfoldable pub until_quote : Reader ℕ → ℕ → Reader (List ℕ)
+until_quote byte_at zero t = None
+until_quote byte_at (suc n) [] = None
+until_quote byte_at (suc n) (c ∷ t) =
+    if c == 34 then Some ([], t)
+    else byte_at (c ∷ t) >>= λ (b, rest). until_quote byte_at n rest >>= λ (bs, after). Some (b ∷ bs, after)

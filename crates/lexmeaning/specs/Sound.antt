@@ -1,6 +1,6 @@
 -- What a specification that was read keeps to.
 -- (POSIX, lex, Definitions in lex and Actions in lex; flex, Patterns: trailing context.)
-use Rattle.std.specs.Prelude.{◌≡◌, ℕ, ◌≤◌, ◌<◌, List, length, Option, Some, None, IfSome, slice_get}
+use Rattle.std.specs.Prelude.{◌≡◌, ℕ, ◌≤◌, ◌<◌, List, [], ◌∷◌, length, Option, Some, None, IfSome, slice_get, ⊤}
 use Rattle.lexmeaning.specs.Text.{Among, Ascending}
 use Rattle.lexmeaning.specs.Tree.{Tree, In}
 use Rattle.lexmeaning.specs.Shapes.{IsSoundTree}
@@ -21,6 +21,17 @@ CutFits (Trail n) head (Some t) = HasLength t n
 -- a list of condition numbers: in order, each that of one of n conditions
 abbrev pub IsConditionList : ℕ → List ℕ → Type 0
 IsConditionList n cs = Ascending cs × ((c : ℕ) → Among cs c → c < n)
+
+-- the sides of a rule are sound trees
+abbrev pub AreSoundSides : Tree → Option Tree → Type 0
+AreSoundSides head trail = IsSoundTree head × IfSome trail IsSoundTree
+
+abbrev pub HasSoundSides : Rule → Type 0
+HasSoundSides r = AreSoundSides r.head r.trail
+
+abbrev pub HaveSoundSides : List Rule → Type 0
+HaveSoundSides [] = ⊤
+HaveSoundSides (r ∷ rs) = HasSoundSides r × HaveSoundSides rs
 
 -- a rule, where there are n conditions
 pub record IsSoundRule (n : ℕ) (r : Rule) : Type 0 where

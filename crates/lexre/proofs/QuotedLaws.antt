@@ -1,10 +1,11 @@
 -- Texts in quotes, read byte by byte.
 use Rattle.std.proofs.Common.{◌≡◌, ℕ, suc, ◌<◌, ◌≤◌, ◌==◌, Bool, true, false, if◌then◌else◌, List, [], ◌∷◌, ◌++◌, length, map, Option, Some, None, refl, sym, ap, ◌∙◌, append_assoc, append-nil, arith}
+use Rattle.lexmeaning.specs.Escapes.{until_quote}
 use Rattle.lexmeaning.specs.ByteSets.{single}
 use Rattle.lexmeaning.specs.Shapes.{nodes, nodes_of}
 use Rattle.lexmeaning.specs.Tree.{Tree, Set, Cat, trees}
 use Rattle.lexmeaning.specs.Reading.{◌>>=◌}
-use Rattle.lexclass.specs.Lexical.{escape_at, folded, quoted_at, quoted_tree, quoted_byte_at, quoted_bytes}
+use Rattle.lexclass.specs.Lexical.{escape_at, folded, quoted_at, quoted_tree, literal_byte_at, quoted_bytes}
 use Rattle.lexclass.proofs.QuoteLaws.{differs, enough, escape_shorter}
 
 abbrev Found : Type 0
@@ -32,58 +33,54 @@ with_more : (front : List ℕ) (b : ℕ) (o : Quoted) → with_front front (o >>
 with_more front b None = refl
 with_more front b (Some x) = ap (λ bs. Some (bs, x.1)) (sym (append_assoc front (b ∷ []) x.0))
 
-byte_step : (n : ℕ) (front rest : List ℕ) (b c : ℕ) (u : List ℕ) → (c ≡ 34 → ⊥) → (c ≡ 10 → ⊥) → ◌≡◌ {A = Found} (quoted_byte_at (c ∷ u)) (Some (b, rest))
+byte_step : (n : ℕ) (front rest : List ℕ) (b c : ℕ) (u : List ℕ) → (c ≡ 34 → ⊥) → ◌≡◌ {A = Found} (literal_byte_at (c ∷ u)) (Some (b, rest))
     → with_front front (quoted_at (suc n) (c ∷ u)) ≡ with_front (front ++ b ∷ []) (quoted_at n rest)
-unfolding quoted_at
-byte_step n front rest b c u quote newline byte = rw (differs c 34 quote, differs c 10 newline, byte) (with_more front b (quoted_at n rest))
+unfolding until_quote literal_byte_at
+byte_step n front rest b c u quote byte = rw (differs c 34 quote, byte) (with_more front b (quoted_at n rest))
 
-byte_shorter : (t rest : List ℕ) (b : ℕ) → ◌≡◌ {A = Found} (quoted_byte_at t) (Some (b, rest)) → length rest < length t
+byte_shorter : (t rest : List ℕ) (b : ℕ) → ◌≡◌ {A = Found} (literal_byte_at t) (Some (b, rest)) → length rest < length t
+unfolding literal_byte_at
 byte_shorter [] rest b e = cc
-byte_shorter (c ∷ u) rest b e = go (c == 92) e
+byte_shorter (c ∷ u) rest b e = go (c == 10) (c == 92) e
   where
-    go : (z : Bool) → ◌≡◌ {A = Found} (if z then escape_at u else Some (c, u)) (Some (b, rest)) → length rest < length (c ∷ u)
-    go true e = omega (arith, escape_shorter u rest b e)
-    go false e = let same : u ≡ rest = ap (λ (f : Found). elim f [ Some y ↦ y.1 | None ↦ u ]) e in omega (arith, ap length same)
+    go : (y z : Bool) → ◌≡◌ {A = Found} (if y then None else if z then escape_at u else Some (c, u)) (Some (b, rest)) → length rest < length (c ∷ u)
+    go true z e = cc
+    go false true e = omega (arith, escape_shorter u rest b e)
+    go false false e = let same : u ≡ rest = ap (λ (f : Found). elim f [ Some y ↦ y.1 | None ↦ u ]) e in omega (arith, ap length same)
 
-pub quoted_shorter : (t rest : List ℕ) (b : ℕ) → ◌≡◌ {A = Found} (quoted_byte_at t) (Some (b, rest)) → length rest < length t
+pub quoted_shorter : (t rest : List ℕ) (b : ℕ) → ◌≡◌ {A = Found} (literal_byte_at t) (Some (b, rest)) → length rest < length t
 quoted_shorter t rest b e = byte_shorter t rest b e
 
-pub quoted_next : (text front t rest : List ℕ) (b c : ℕ) (u : List ℕ) → QuotedSo text front t → t ≡ c ∷ u → (c ≡ 34 → ⊥) → (c ≡ 10 → ⊥)
-    → ◌≡◌ {A = Found} (quoted_byte_at t) (Some (b, rest)) → QuotedSo text (front ++ b ∷ []) rest
-quoted_next text front t rest b c u so e quote newline byte =
-    let there : ◌≡◌ {A = Found} (quoted_byte_at (c ∷ u)) (Some (b, rest)) = ap quoted_byte_at (sym e) ∙ byte in
+pub quoted_next : (text front t rest : List ℕ) (b c : ℕ) (u : List ℕ) → QuotedSo text front t → t ≡ c ∷ u → (c ≡ 34 → ⊥)
+    → ◌≡◌ {A = Found} (literal_byte_at t) (Some (b, rest)) → QuotedSo text (front ++ b ∷ []) rest
+quoted_next text front t rest b c u so e quote byte =
+    let there : ◌≡◌ {A = Found} (literal_byte_at (c ∷ u)) (Some (b, rest)) = ap literal_byte_at (sym e) ∙ byte in
     let less : length rest < length (c ∷ u) = byte_shorter (c ∷ u) rest b there in
     record {
       same = ap (with_front (front ++ b ∷ [])) (enough (suc (length rest)) (length (c ∷ u)) rest (omega arith) less)
-          ∙ sym (byte_step (length (c ∷ u)) front rest b c u quote newline there) ∙ ap (λ x. with_front front (quoted_bytes x)) (sym e) ∙ so.same;
+          ∙ sym (byte_step (length (c ∷ u)) front rest b c u quote there) ∙ ap (λ x. with_front front (quoted_bytes x)) (sym e) ∙ so.same;
     }
 
 pub quoted_ends : (text front t : List ℕ) (c : ℕ) (u : List ℕ) → QuotedSo text front t → t ≡ c ∷ u → c ≡ 34 → ◌≡◌ {A = Quoted} (quoted_bytes text) (Some (front, u))
-unfolding quoted_at
+unfolding until_quote literal_byte_at
 quoted_ends text front t c u so e quote =
     let last : with_front front (quoted_bytes (34 ∷ u)) ≡ Some (front, u) = ap (λ x. Some (x, u)) (append-nil front) in
     sym so.same ∙ ap (λ x. with_front front (quoted_bytes x)) (e ∙ ap (λ x. x ∷ u) quote) ∙ last
 
-pub quoted_newline : (text front t : List ℕ) (c : ℕ) (u : List ℕ) → QuotedSo text front t → t ≡ c ∷ u → c ≡ 10 → ◌≡◌ {A = Quoted} (quoted_bytes text) None
-unfolding quoted_at
-quoted_newline text front t c u so e newline =
-    let last : with_front front (quoted_bytes (10 ∷ u)) ≡ None = refl in
-    sym so.same ∙ ap (λ x. with_front front (quoted_bytes x)) (e ∙ ap (λ x. x ∷ u) newline) ∙ last
-
 pub quoted_open : (text front t : List ℕ) → QuotedSo text front t → length t ≡ 0 → ◌≡◌ {A = Quoted} (quoted_bytes text) None
-unfolding quoted_at
+unfolding until_quote literal_byte_at
 quoted_open text front [] so e = sym so.same
 quoted_open text front (c ∷ t) so e = absurd (omega arith)
 
-stuck_here : (front : List ℕ) (n c : ℕ) (u : List ℕ) → (c ≡ 34 → ⊥) → (c ≡ 10 → ⊥) → ◌≡◌ {A = Found} (quoted_byte_at (c ∷ u)) None
+stuck_here : (front : List ℕ) (n c : ℕ) (u : List ℕ) → (c ≡ 34 → ⊥) → ◌≡◌ {A = Found} (literal_byte_at (c ∷ u)) None
     → with_front front (quoted_at (suc n) (c ∷ u)) ≡ None
-unfolding quoted_at
-stuck_here front n c u quote newline none = rw (differs c 34 quote, differs c 10 newline, none) refl
+unfolding until_quote literal_byte_at
+stuck_here front n c u quote none = rw (differs c 34 quote, none) refl
 
-pub quoted_stuck : (text front t : List ℕ) (c : ℕ) (u : List ℕ) → QuotedSo text front t → t ≡ c ∷ u → (c ≡ 34 → ⊥) → (c ≡ 10 → ⊥)
-    → ◌≡◌ {A = Found} (quoted_byte_at t) None → ◌≡◌ {A = Quoted} (quoted_bytes text) None
-quoted_stuck text front t c u so e quote newline none =
-    sym so.same ∙ ap (λ x. with_front front (quoted_bytes x)) e ∙ stuck_here front (length (c ∷ u)) c u quote newline (ap quoted_byte_at (sym e) ∙ none)
+pub quoted_stuck : (text front t : List ℕ) (c : ℕ) (u : List ℕ) → QuotedSo text front t → t ≡ c ∷ u → (c ≡ 34 → ⊥)
+    → ◌≡◌ {A = Found} (literal_byte_at t) None → ◌≡◌ {A = Quoted} (quoted_bytes text) None
+quoted_stuck text front t c u so e quote none =
+    sym so.same ∙ ap (λ x. with_front front (quoted_bytes x)) e ∙ stuck_here front (length (c ∷ u)) c u quote (ap literal_byte_at (sym e) ∙ none)
 
 -- The tree of the bytes.
 

@@ -3,7 +3,7 @@ ghost use Rattle.std.specs.Prelude.{◌≡◌, ◌<◌, ℕ, List, Option, Some,
 ghost use Rattle.lexmeaning.specs.ByteSets.{single};
 ghost use Rattle.lexmeaning.specs.Shapes.{IsSoundTree, nodes};
 ghost use Rattle.lexmeaning.specs.Tree.{Set};
-ghost use Rattle.lexclass.specs.Lexical.{after_quotes, folded, quoted_tree, quoted_byte_at, quoted_bytes};
+ghost use Rattle.lexclass.specs.Lexical.{after_quotes, folded, quoted_tree, literal_byte_at, quoted_bytes};
 ghost use Rattle.lexre.specs.Outcome.{UnlessMemory};
 ghost use Rattle.lexre.specs.Views.{tree_of};
 
@@ -42,15 +42,16 @@ pub(crate) fn skip_quoted<'a>(text: &'a [u8]) -> Result<&'a [u8], Fault<'a>>
     })
 }
 
-/// A byte between quotes, and what follows it: an escape, or the byte itself.
+/// A byte between quotes, and what follows it: an escape, or any byte but a newline.
+#[tactic(auto, unfolding(lexclass::specs::Lexical::literal_byte_at))]
 fn quoted_byte_at(text: &[u8]) -> Option<(u8, &[u8])>
-    ensures { ◌≡◌ {A = Option (ℕ × List ℕ)} (quoted_byte_at text.now) (option_map (λ x. (x.0, x.1.now)) result) }
+    ensures { ◌≡◌ {A = Option (ℕ × List ℕ)} (literal_byte_at text.now) (option_map (λ x. (x.0, x.1.now)) result) }
 {
     let (&byte, after) = text.split_first()?;
-    if byte == b'\\' {
-        escape_at(after)
-    } else {
-        Some((byte, after))
+    match byte {
+        b'\n' => None,
+        b'\\' => escape_at(after),
+        _ => Some((byte, after)),
     }
 }
 
@@ -71,13 +72,16 @@ pub(crate) fn quoted_at<'a>(
         if first == b'"' {
             return Ok((bytes, after));
         }
-        if first == b'\n' {
-            break;
-        }
         let Some((byte, beyond)) = quoted_byte_at(rest) else {
-            return Err(Fault {
-                kind: PatternErrorKind::BadEscape,
-                rest,
+            return Err(match first {
+                b'\n' => Fault {
+                    kind: PatternErrorKind::UnclosedQuote,
+                    rest: quote,
+                },
+                _ => Fault {
+                    kind: PatternErrorKind::BadEscape,
+                    rest,
+                },
             });
         };
         match bytes.push(byte) {

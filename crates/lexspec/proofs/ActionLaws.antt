@@ -1,22 +1,23 @@
 -- The text of an action, byte by byte.
-use Rattle.std.proofs.Common.{◌≡◌, ℕ, zero, suc, ◌+◌, ◌<◌, ◌==◌, ◌&&◌, if◌then◌else◌, List, [], ◌∷◌, ◌++◌, length, get_or, take, drop, Option, Some, None, refl, sym, ap, ◌∙◌, arith, append-nil, append_assoc}
+use Rattle.std.proofs.Common.{◌≡◌, ℕ, zero, suc, ◌+◌, ◌<◌, ◌==◌, ◌&&◌, ◌||◌, if◌then◌else◌, List, [], ◌∷◌, ◌++◌, length, get_or, take, drop, Option, Some, None, refl, sym, ap, ◌∙◌, arith, append-nil, append_assoc}
 use Rattle.std.proofs.lemmas.Bool.{ne_eqb}
 use Rattle.lexspec.specs.ActionViews.{IsStep}
 use Rattle.lexspec.specs.declared.action_text.Step.{Step}
 use Rattle.lexspec.specs.declared.action_text.Step.TheVariants.{Goes, Ends, Refused}
-use Rattle.lexspec.specs.Items.{Place, outside, slash, block, line, action_in, with_byte, next_place, depth_after}
+use Rattle.lexaction.specs.Comments.{slash, line, after_byte}
+use Rattle.lexspec.specs.Items.{Place, code, outside, action_in, with_byte, next_place, depth_after}
 
 -- one step at each place
 pub at_outside : (n c : ℕ) (t : List ℕ) → action_in outside n (c ∷ t) ≡ (if c == 10 && n == 0 then Some ([], t) else with_byte c (action_in (next_place c) (depth_after n c) t))
 at_outside zero c t = refl
 at_outside (suc n) c t = refl
 
-pub at_slash : (n c : ℕ) (t : List ℕ) → action_in slash n (c ∷ t) ≡ (if c == 42 then with_byte c (action_in block n t) else if c == 47 then with_byte c (action_in line n t)
+pub at_slash : (n c : ℕ) (t : List ℕ) → action_in (code slash) n (c ∷ t) ≡ (if c == 42 || c == 47 then with_byte c (action_in (code (after_byte slash c)) n t)
     else if c == 10 && n == 0 then Some ([], t) else with_byte c (action_in (next_place c) (depth_after n c) t))
 at_slash zero c t = refl
 at_slash (suc n) c t = refl
 
-pub at_line : (n c : ℕ) (t : List ℕ) → action_in line n (c ∷ t) ≡ (if c == 10 && n == 0 then Some ([], t) else with_byte c (action_in (if c == 10 then outside else line) n t))
+pub at_line : (n c : ℕ) (t : List ℕ) → action_in (code line) n (c ∷ t) ≡ (if c == 10 && n == 0 then Some ([], t) else with_byte c (action_in (code (after_byte line c)) n t))
 at_line zero c t = refl
 at_line (suc n) c t = refl
 
@@ -81,17 +82,17 @@ pub read_open : (t : List ℕ) (i : ℕ) (p : Place) (n : ℕ) → i ≡ length 
 read_open t i p n e so closed = ap (with_front (take i t)) (sym closed ∙ ap (action_in p n) (sym (ap (λ k. drop k t) e ∙ none_left t))) ∙ so
 
 -- after a slash that opens no comment
-pub slash_like : (s : Step) (n c : ℕ) (t : List ℕ) → (c ≡ 42 → ⊥) → (c ≡ 47 → ⊥) → IsStep s outside n c t → IsStep s slash n c t
+pub slash_like : (s : Step) (n c : ℕ) (t : List ℕ) → (c ≡ 42 → ⊥) → (c ≡ 47 → ⊥) → IsStep s outside n c t → IsStep s (code slash) n c t
 slash_like s n c t star_off slash_off h = from s h
   where
-    same : action_in slash n (c ∷ t) ≡ action_in outside n (c ∷ t)
+    same : action_in (code slash) n (c ∷ t) ≡ action_in outside n (c ∷ t)
     same = at_slash n c t
-        ∙ ap (λ b. if b then with_byte c (action_in block n t) else if c == 47 then with_byte c (action_in line n t)
+        ∙ ap (λ b. if b || c == 47 then with_byte c (action_in (code (after_byte slash c)) n t)
         else if c == 10 && n == 0 then Some ([], t) else with_byte c (action_in (next_place c) (depth_after n c) t)) (ne_eqb c 42 star_off)
-        ∙ ap (λ b. if b then with_byte c (action_in line n t) else if c == 10 && n == 0 then Some ([], t) else with_byte c (action_in (next_place c) (depth_after n c) t)) (ne_eqb c 47 slash_off)
+        ∙ ap (λ b. if b then with_byte c (action_in (code (after_byte slash c)) n t) else if c == 10 && n == 0 then Some ([], t) else with_byte c (action_in (next_place c) (depth_after n c) t)) (ne_eqb c 47 slash_off)
         ∙ sym (at_outside n c t)
 
-    from : (s : Step) → IsStep s outside n c t → IsStep s slash n c t
+    from : (s : Step) → IsStep s outside n c t → IsStep s (code slash) n c t
     from (Goes q) k = same ∙ k
     from Ends k = same ∙ k
     from Refused k = same ∙ k

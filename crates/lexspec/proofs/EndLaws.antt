@@ -3,8 +3,10 @@ use Rattle.std.proofs.Common.{◌≡◌, ℕ, zero, suc, ◌+◌, ◌==◌, ◌&
 use Rattle.std.specs.Prelude.{codes}
 use Rattle.lexmeaning.specs.ByteSets.{is_word, is_blank}
 use Rattle.lexmeaning.specs.Reading.{after_blanks, begins, take_up_to}
+use Rattle.lexaction.specs.Comments as C
+use Rattle.lexaction.specs.Comments.{slash, block, star, line, after_byte}
 use Rattle.lexspec.specs.Lines.{line_in, blanks}
-use Rattle.lexspec.specs.Items.{Place, outside, slash, block, star, line, string, escaped, action_in, with_byte, next_place, depth_after, Conditions, unlisted, every, only, parts_at, before_sign, conditions_at, Subject, at_end, matching, IsSubject, Item, skipped, skipped_line, skipped_block, rule, IsItem}
+use Rattle.lexspec.specs.Items.{Place, code, outside, string, escaped, action_in, with_byte, next_place, depth_after, Conditions, unlisted, every, only, parts_at, before_sign, conditions_at, Subject, at_end, matching, IsSubject, Item, skipped, skipped_line, skipped_block, rule, IsItem}
 use Rattle.lexspec.proofs.SectionLaws.{EndsWith, ends_on, after_line, after_block_ends, dropped, Each, each_some, each_none, each_if, each_bind}
 use Rattle.lexspec.proofs.OneItems.{line_text}
 
@@ -43,35 +45,37 @@ either : (t : List ℕ) (b : Bool) (x y : Option Split) → Ends t x → Ends t 
 either t b x y h k = each_if (λ (z : Split). EndsWith t z.1) b x y h k
 
 pub action_ends : (t : List ℕ) (p : Place) (n : ℕ) → Ends t (action_in p n t)
-action_ends [] outside zero = closed [] []
-action_ends [] slash zero = closed [] []
-action_ends [] line zero = closed [] []
-action_ends [] block zero = nothing []
-action_ends [] star zero = nothing []
+action_ends [] (code C.outside) zero = closed [] []
+action_ends [] (code slash) zero = closed [] []
+action_ends [] (code line) zero = closed [] []
+action_ends [] (code block) zero = nothing []
+action_ends [] (code star) zero = nothing []
 action_ends [] string zero = nothing []
 action_ends [] escaped zero = nothing []
-action_ends [] outside (suc n) = nothing []
-action_ends [] slash (suc n) = nothing []
-action_ends [] line (suc n) = nothing []
-action_ends [] block (suc n) = nothing []
-action_ends [] star (suc n) = nothing []
+action_ends [] (code C.outside) (suc n) = nothing []
+action_ends [] (code slash) (suc n) = nothing []
+action_ends [] (code line) (suc n) = nothing []
+action_ends [] (code block) (suc n) = nothing []
+action_ends [] (code star) (suc n) = nothing []
 action_ends [] string (suc n) = nothing []
 action_ends [] escaped (suc n) = nothing []
-action_ends (c ∷ t) outside zero = either (c ∷ t) (c == 10 && 0 == 0) _ _ (ended c t) (byte_ends c t _ (action_ends t (next_place c) (depth_after 0 c)))
-action_ends (c ∷ t) outside (suc n) = either (c ∷ t) (c == 10 && suc n == 0) _ _ (ended c t) (byte_ends c t _ (action_ends t (next_place c) (depth_after (suc n) c)))
-action_ends (c ∷ t) slash zero = either (c ∷ t) (c == 42) _ _ (byte_ends c t _ (action_ends t block 0)) (either (c ∷ t) (c == 47) _ _ (byte_ends c t _ (action_ends t line 0))
-    (either (c ∷ t) (c == 10 && 0 == 0) _ _ (ended c t) (byte_ends c t _ (action_ends t (next_place c) (depth_after 0 c)))))
-action_ends (c ∷ t) slash (suc n) = either (c ∷ t) (c == 42) _ _ (byte_ends c t _ (action_ends t block (suc n))) (either (c ∷ t) (c == 47) _ _ (byte_ends c t _ (action_ends t line (suc n)))
-    (either (c ∷ t) (c == 10 && suc n == 0) _ _ (ended c t) (byte_ends c t _ (action_ends t (next_place c) (depth_after (suc n) c)))))
-action_ends (c ∷ t) block zero = byte_ends c t _ (action_ends t (if c == 42 then star else block) 0)
-action_ends (c ∷ t) block (suc n) = byte_ends c t _ (action_ends t (if c == 42 then star else block) (suc n))
-action_ends (c ∷ t) star zero = byte_ends c t _ (action_ends t (if c == 47 then outside else if c == 42 then star else block) 0)
-action_ends (c ∷ t) star (suc n) = byte_ends c t _ (action_ends t (if c == 47 then outside else if c == 42 then star else block) (suc n))
-action_ends (c ∷ t) line zero = either (c ∷ t) (c == 10 && 0 == 0) _ _ (ended c t) (byte_ends c t _ (action_ends t (if c == 10 then outside else line) 0))
-action_ends (c ∷ t) line (suc n) = either (c ∷ t) (c == 10 && suc n == 0) _ _ (ended c t) (byte_ends c t _ (action_ends t (if c == 10 then outside else line) (suc n)))
+action_ends (c ∷ t) (code C.outside) zero = either (c ∷ t) (c == 10 && 0 == 0) _ _ (ended c t) (byte_ends c t _ (action_ends t (next_place c) (depth_after 0 c)))
+action_ends (c ∷ t) (code slash) zero =
+    either (c ∷ t) (c == 42 || c == 47) _ _ (byte_ends c t _ (action_ends t (code (after_byte slash c)) 0))
+    (either (c ∷ t) (c == 10 && 0 == 0) _ _ (ended c t) (byte_ends c t _ (action_ends t (next_place c) (depth_after 0 c))))
+action_ends (c ∷ t) (code block) zero = byte_ends c t _ (action_ends t (code (after_byte block c)) 0)
+action_ends (c ∷ t) (code star) zero = byte_ends c t _ (action_ends t (code (after_byte star c)) 0)
+action_ends (c ∷ t) (code line) zero = either (c ∷ t) (c == 10 && 0 == 0) _ _ (ended c t) (byte_ends c t _ (action_ends t (code (after_byte line c)) 0))
 action_ends (c ∷ t) string zero = either (c ∷ t) (c == 10) _ _ (nothing (c ∷ t)) (byte_ends c t _ (action_ends t (if c == 34 then outside else if c == 92 then escaped else string) 0))
-action_ends (c ∷ t) string (suc n) = either (c ∷ t) (c == 10) _ _ (nothing (c ∷ t)) (byte_ends c t _ (action_ends t (if c == 34 then outside else if c == 92 then escaped else string) (suc n)))
 action_ends (c ∷ t) escaped zero = either (c ∷ t) (c == 10) _ _ (nothing (c ∷ t)) (byte_ends c t _ (action_ends t string 0))
+action_ends (c ∷ t) (code C.outside) (suc n) = either (c ∷ t) (c == 10 && suc n == 0) _ _ (ended c t) (byte_ends c t _ (action_ends t (next_place c) (depth_after (suc n) c)))
+action_ends (c ∷ t) (code slash) (suc n) =
+    either (c ∷ t) (c == 42 || c == 47) _ _ (byte_ends c t _ (action_ends t (code (after_byte slash c)) (suc n)))
+    (either (c ∷ t) (c == 10 && suc n == 0) _ _ (ended c t) (byte_ends c t _ (action_ends t (next_place c) (depth_after (suc n) c))))
+action_ends (c ∷ t) (code block) (suc n) = byte_ends c t _ (action_ends t (code (after_byte block c)) (suc n))
+action_ends (c ∷ t) (code star) (suc n) = byte_ends c t _ (action_ends t (code (after_byte star c)) (suc n))
+action_ends (c ∷ t) (code line) (suc n) = either (c ∷ t) (c == 10 && suc n == 0) _ _ (ended c t) (byte_ends c t _ (action_ends t (code (after_byte line c)) (suc n)))
+action_ends (c ∷ t) string (suc n) = either (c ∷ t) (c == 10) _ _ (nothing (c ∷ t)) (byte_ends c t _ (action_ends t (if c == 34 then outside else if c == 92 then escaped else string) (suc n)))
 action_ends (c ∷ t) escaped (suc n) = either (c ∷ t) (c == 10) _ _ (nothing (c ∷ t)) (byte_ends c t _ (action_ends t string (suc n)))
 
 pub conditions_end : (t : List ℕ) → Each (conditions_at t) (λ (x : Conditions × List ℕ). EndsWith t x.1)

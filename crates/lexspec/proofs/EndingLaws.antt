@@ -7,7 +7,8 @@ use Rattle.std.proofs.lemmas.List.{drop_more, drop_all, take_more, map-append}
 use Rattle.std.proofs.lemmas.List.Sums.{sum_by-cons, sum_by-append}
 use Rattle.lexspec.specs.Files.{lists_number, is_unlisted, AreSingle}
 use Rattle.lexspec.specs.Items.{Conditions, unlisted, every, only}
-use Rattle.lexspec.specs.RuleItems.{EndRule, numbers_from, all_numbered, is_number, numbers_of}
+use Rattle.lexspec.specs.RuleItems.{EndRule, all_numbered, is_number, numbers_of}
+use Rattle.lexmeaning.specs.Text.{listed}
 use Rattle.lexspec.specs.EndRules.{end_rule_of}
 use Rattle.lexspec.specs.declared.endings.EndRule.{EndRule as EndRuleKept}
 use Rattle.lexspec.specs.Tests.{ascend_from, sound_list}
@@ -184,19 +185,19 @@ pub taken_next : (xs : List EndRuleKept) (i : ℕ) (x : EndRuleKept) → i < len
 taken_next xs i x lt is = ap (map end_rule_of) (take_more xs i x lt) ∙ map-append end_rule_of (take i xs) (get_or xs i x ∷ []) ∙ ap (λ y. map end_rule_of (take i xs) ++ end_rule_of y ∷ []) (sym is)
 
 -- a list of numbers that was read is in order
-numbers_ascend : (k n : ℕ) (test : ℕ → Bool) → ascend_from k (k + n) (numbers_from k n test) ≡ true
+numbers_ascend : (k n : ℕ) (test : ℕ → Bool) → ascend_from k (k + n) (listed test k n) ≡ true
 numbers_ascend k zero test = refl
-numbers_ascend k (suc n) test = from (test k) (ap (λ z. ascend_from (suc k) z (numbers_from (suc k) n test)) ends ∙ numbers_ascend (suc k) n test)
+numbers_ascend k (suc n) test = from (test k) (ap (λ z. ascend_from (suc k) z (listed test (suc k) n)) ends ∙ numbers_ascend (suc k) n test)
   where
     ends : k + suc n ≡ suc k + n
     ends = omega arith
 
-    from : (b : Bool) → ascend_from (suc k) (k + suc n) (numbers_from (suc k) n test) ≡ true
-        → ascend_from k (k + suc n) (if b then k ∷ numbers_from (suc k) n test else numbers_from (suc k) n test) ≡ true
+    from : (b : Bool) → ascend_from (suc k) (k + suc n) (listed test (suc k) n) ≡ true
+        → ascend_from k (k + suc n) (cond b (k ∷ listed test (suc k) n) (listed test (suc k) n)) ≡ true
     from true h =
-        and_from (nat_le k k && nat_lt k (k + suc n)) (ascend_from (suc k) (k + suc n) (numbers_from (suc k) n test))
+        and_from (nat_le k k && nat_lt k (k + suc n)) (ascend_from (suc k) (k + suc n) (listed test (suc k) n))
         (and_from (nat_le k k) (nat_lt k (k + suc n)) (le-leb k k (omega arith)) (lt-ltb k (k + suc n) (omega arith))) h
-    from false h = lower (k + suc n) (numbers_from (suc k) n test) h
+    from false h = lower (k + suc n) (listed test (suc k) n) h
       where
         lower : (n : ℕ) (cs : List ℕ) → ascend_from (suc k) n cs ≡ true → ascend_from k n cs ≡ true
         lower n [] h = refl
@@ -209,15 +210,15 @@ numbers_ascend k (suc n) test = from (test k) (ap (λ z. ascend_from (suc k) z (
 inner : {a b : Option (List ℕ)} → Some a ≡ Some b → a ≡ b
 inner e = cc
 
-from_zero : (n : ℕ) (test : ℕ → Bool) → sound_list n (Some (numbers_from 0 n test)) ≡ true
-from_zero n test = let same : 0 + n ≡ n = omega arith in ap (λ z. ascend_from 0 z (numbers_from 0 n test)) (sym same) ∙ numbers_ascend 0 n test
+from_zero : (n : ℕ) (test : ℕ → Bool) → sound_list n (Some (listed test 0 n)) ≡ true
+from_zero n test = let same : 0 + n ≡ n = omega arith in ap (λ z. ascend_from 0 z (listed test 0 n)) (sym same) ∙ numbers_ascend 0 n test
 
 pub numbers_ordered : (number : List ℕ → Option ℕ) (n : ℕ) (asked : Conditions) (numbers : Option (List ℕ)) → numbers_of number n asked ≡ Some numbers → sound_list n numbers ≡ true
 numbers_ordered number n unlisted numbers h = ap (sound_list n) (sym (inner h))
 numbers_ordered number n every numbers h = ap (sound_list n) (sym (inner h)) ∙ from_zero n (λ c. true)
 numbers_ordered number n (only names) numbers h = from (all_numbered number names) h
   where
-    from : (b : Bool) → (if b then Some (Some (numbers_from 0 n (λ c. list_any (λ name. is_number (number name) c) names))) else None) ≡ Some numbers → sound_list n numbers ≡ true
+    from : (b : Bool) → (if b then Some (Some (listed (λ c. list_any (λ name. is_number (number name) c) names) 0 n)) else None) ≡ Some numbers → sound_list n numbers ≡ true
     from true e = ap (sound_list n) (sym (inner e)) ∙ from_zero n (λ c. list_any (λ name. is_number (number name) c) names)
     from false e = absurd (no e)
       where

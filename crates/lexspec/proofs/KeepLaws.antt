@@ -7,7 +7,8 @@ use Rattle.lexspec.specs.EndRules.{end_rule_of}
 use Rattle.lexspec.specs.RuleReads.{acting}
 use Rattle.lexspec.specs.RuleViews.{rule_of}
 use Rattle.lexspec.specs.Keeping.{HasRoom, Keeps}
-use Rattle.lexspec.specs.SoundSides.{HaveSoundSides, HasSoundFront}
+use Rattle.lexspec.specs.SoundSides.{HasSoundFront}
+use Rattle.lexmeaning.specs.Sound.{HaveSoundSides}
 use Rattle.lexspec.specs.declared.declarations.Declarations.{Declarations}
 use Rattle.lexspec.specs.declared.endings.EndRule.{EndRule}
 use Rattle.lexspec.specs.declared.item.Front.TheVariants as F

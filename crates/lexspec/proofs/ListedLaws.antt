@@ -1,12 +1,13 @@
 -- The conditions of a rule, by number.
-use Rattle.std.proofs.Common.{◌≡◌, ℕ, zero, suc, ◌+◌, ◌-◌, ◌<◌, ◌==◌, ◌||◌, ◌&&◌, Bool, true, false, not, if◌then◌else◌, List, [], ◌∷◌, length, get_or, drop, Option, Some, None, is_some, refl, sym, ap, ◌∙◌, arith}
+use Rattle.std.proofs.Common.{◌≡◌, ℕ, zero, suc, ◌+◌, ◌-◌, ◌<◌, ◌==◌, ◌||◌, ◌&&◌, Bool, true, false, not, cond, if◌then◌else◌, List, [], ◌∷◌, length, get_or, drop, Option, Some, None, is_some, refl, sym, ap, ◌∙◌, arith}
 use Rattle.std.specs.Prelude.{replicate, slice_set, IfNone}
 use Rattle.std.proofs.lemmas.Bool.{eqb-true, eqb-false}
 use Rattle.std.specs.List.{list_any}
 use Rattle.lexmeaning.specs.Reading.{take_up_to}
 use Rattle.lexspec.specs.Runs.{split_before}
 use Rattle.lexspec.specs.Items.{parts_at}
-use Rattle.lexspec.specs.RuleItems.{numbers_from, all_numbered, is_number}
+use Rattle.lexspec.specs.RuleItems.{all_numbered, is_number}
+use Rattle.lexmeaning.specs.Text.{listed}
 use Rattle.lexspec.specs.SubjectViews.{parts}
 
 abbrev Split : Type 0
@@ -129,19 +130,19 @@ if_none_any None F h = h
 if_none_any (Some x) F h = tt
 
 -- numbers from a place on
-pub number_here : (k count : ℕ) (test : ℕ → Bool) → k < count → test k ≡ true → numbers_from k (count - k) test ≡ k ∷ numbers_from (k + 1) (count - (k + 1)) test
+pub number_here : (k count : ℕ) (test : ℕ → Bool) → k < count → test k ≡ true → listed test k (count - k) ≡ k ∷ listed test (k + 1) (count - (k + 1))
 number_here k count test h pass =
     let one : count - k ≡ suc (count - (k + 1)) = omega arith in
     let next : suc k ≡ k + 1 = omega arith in
-    ap (λ n. numbers_from k n test) one ∙ ap (λ b. if b then k ∷ numbers_from (suc k) (count - (k + 1)) test else numbers_from (suc k) (count - (k + 1)) test) pass
-    ∙ ap (λ z. k ∷ numbers_from z (count - (k + 1)) test) next
+    ap (λ n. listed test k n) one ∙ ap (λ b. cond b (k ∷ listed test (suc k) (count - (k + 1))) (listed test (suc k) (count - (k + 1)))) pass
+    ∙ ap (λ z. k ∷ listed test z (count - (k + 1))) next
 
-pub number_not : (k count : ℕ) (test : ℕ → Bool) → k < count → test k ≡ false → numbers_from k (count - k) test ≡ numbers_from (k + 1) (count - (k + 1)) test
+pub number_not : (k count : ℕ) (test : ℕ → Bool) → k < count → test k ≡ false → listed test k (count - k) ≡ listed test (k + 1) (count - (k + 1))
 number_not k count test h pass =
     let one : count - k ≡ suc (count - (k + 1)) = omega arith in
     let next : suc k ≡ k + 1 = omega arith in
-    ap (λ n. numbers_from k n test) one ∙ ap (λ b. if b then k ∷ numbers_from (suc k) (count - (k + 1)) test else numbers_from (suc k) (count - (k + 1)) test) pass
-    ∙ ap (λ z. numbers_from z (count - (k + 1)) test) next
+    ap (λ n. listed test k n) one ∙ ap (λ b. cond b (k ∷ listed test (suc k) (count - (k + 1))) (listed test (suc k) (count - (k + 1)))) pass
+    ∙ ap (λ z. listed test z (count - (k + 1))) next
 
 all_flags : (n c : ℕ) → c < n → get_or (replicate n true) c false ≡ true
 all_flags zero c h = absurd (omega arith)

@@ -58,12 +58,12 @@ module _ (tree_once : (fold : Bool) (defs : Definitions) (text : List ℕ) (t u 
   pub one_rule : (names : List (List ℕ)) (fold : Bool) (defs : Definitions) (n : ℕ) (asked : Conditions) (anchored : Bool) (head : List ℕ) (after : Trailing) (action : Action) (is : List (ℕ × Item)) (rules : List Rule) (q r : Rule) →
       IsRule names fold defs n asked anchored head after action is rules q → IsRule names fold defs n asked anchored head after action is rules r → q ≡ r
   one_rule names fold defs n asked anchored head after action is rules q r h k =
-      let line : q.line ≡ r.line = h.line_is ∙ sym k.line_is in
-      let conditions : q.conditions ≡ r.conditions = some_is q.conditions r.conditions (sym h.listed ∙ k.listed) in
-      let anchor : q.anchored ≡ r.anchored = h.anchor ∙ sym k.anchor in
-      let same_head : q.head ≡ r.head = tree_once fold defs head q.head r.head h.head_is k.head_is in
-      let same_trail : q.trail ≡ r.trail = one_trail fold defs after q.trail r.trail h.trail_is k.trail_is in
-      let cut : q.cut ≡ r.cut = one_cut r.head r.trail q.cut r.cut (subst (λ z. IsCutOf r.head z q.cut) same_trail (subst (λ z. IsCutOf z q.trail q.cut) same_head h.cut_is)) k.cut_is in
+      let line : q.line ≡ r.line = h.front.line_is ∙ sym k.front.line_is in
+      let conditions : q.conditions ≡ r.conditions = some_is q.conditions r.conditions (sym h.front.listed ∙ k.front.listed) in
+      let anchor : q.anchored ≡ r.anchored = h.front.anchor ∙ sym k.front.anchor in
+      let same_head : q.head ≡ r.head = tree_once fold defs head q.head r.head h.front.head_is k.front.head_is in
+      let same_trail : q.trail ≡ r.trail = one_trail fold defs after q.trail r.trail h.front.trail_is k.front.trail_is in
+      let cut : q.cut ≡ r.cut = one_cut r.head r.trail q.cut r.cut (subst (λ z. IsCutOf r.head z q.cut) same_trail (subst (λ z. IsCutOf z q.trail q.cut) same_head h.front.cut_is)) k.front.cut_is in
       let statements : q.statements ≡ r.statements = one_action (number_from 0 names) action rules q.statements r.statements h.statements_are k.statements_are in
       λ i. record { line = line i; conditions = conditions i; anchored = anchor i; head = same_head i; trail = same_trail i; cut = cut i; statements = statements i }
 

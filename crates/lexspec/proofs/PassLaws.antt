@@ -18,7 +18,7 @@ use Rattle.lexspec.specs.RuleItems.{EndRule, IsActionOf, IsRule, AreRules}
 use Rattle.lexspec.specs.Declaring.{declared_of}
 use Rattle.lexspec.specs.ItemReads.{names_in}
 use Rattle.lexspec.specs.declared.declarations.Declarations.{Declarations}
-use Rattle.lexspec.specs.SoundSides.{HasSoundSides, HaveSoundSides}
+use Rattle.lexmeaning.specs.Sound.{HaveSoundSides, HasSoundSides}
 use Rattle.lexspec.specs.Tests.{sound_tree, sound_trail, cut_fits, sound_list, legal_action as legal_test, sound_rule, sound_rules, sound_conditions, is_sound}
 use Rattle.lexspec.proofs.CutLaws.{cut_is_tested}
 use Rattle.lexspec.proofs.DeclaringLaws.{names_kept}
@@ -69,8 +69,8 @@ module _ (names : List (List ℕ)) (fold : Bool) (defined : Definitions) (some :
   item_passes : (n : ℕ) (asked : Conditions) (anchored : Bool) (head : List ℕ) (after : Trailing) (action : Action) (is : List (ℕ × Item)) (rs : List Rule) (r : Rule)
       → IsRule names fold defined n asked anchored head after action is rs r → HasSoundSides r → sound_rules (length names) rs ≡ true → sound_rule (length names) r ≡ true
   item_passes n asked anchored head after action is rs r h sides pass =
-      rule_passes (length names) r (numbers_ordered (number_from 0 names) (length names) asked r.conditions h.listed) sides
-      (cut_is_tested r.cut r.head r.trail sides.0 sides.1 h.cut_is) (action_acts names action rs r.statements some h.statements_are pass)
+      rule_passes (length names) r (numbers_ordered (number_from 0 names) (length names) asked r.conditions h.front.listed) sides
+      (cut_is_tested r.cut r.head r.trail sides.0 sides.1 h.front.cut_is) (action_acts names action rs r.statements some h.statements_are pass)
 
   pub rules_pass : (is : List (ℕ × Item)) (rs : List Rule) (ends : List EndRule) → AreRules names fold defined is rs ends → HaveSoundSides rs → sound_rules (length names) rs ≡ true
   rules_pass [] rs ends h sides = ap (sound_rules (length names)) h.0

@@ -14,7 +14,7 @@ use Rattle.lexspec.specs.ItemReads.{names_in, NoneLeft}
 use Rattle.lexspec.specs.Agreeing.{Agrees}
 use Rattle.lexspec.specs.Files.{AreSingle}
 use Rattle.lexspec.specs.Keeping.{Keeps}
-use Rattle.lexspec.specs.SoundSides.{HaveSoundSides}
+use Rattle.lexmeaning.specs.Sound.{HaveSoundSides}
 use Rattle.lexspec.specs.RulesReads.{HasRules, NoSuchRules}
 use Rattle.lexspec.specs.Outcome.{UnlessMemory}
 use Rattle.lexspec.specs.declared.declarations.Declarations.{Declarations}

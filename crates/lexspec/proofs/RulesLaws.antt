@@ -14,8 +14,8 @@ use Rattle.lexaction.specs.Names.{number_from}
 use Rattle.lexaction.specs.Actions.{SpellsAction, SpellsEndAction}
 use Rattle.lexmeaning.specs.Reading.{after_blanks, take_up_to}
 use Rattle.lexspec.specs.Items.{Conditions, Trailing, Subject, at_end, matching, Action, bar, spelled, Item, skipped, skipped_line, skipped_block, rule, conditions_at, IsSubject, action_in, outside, action_of, starts_rule, IsItem, newlines, AreItems}
-use Rattle.lexspec.specs.RuleItems.{numbers_of, IsTrail, IsCutOf, EndRule, IsActionOf, goes_to_rule, IsRule, AreRules}
-use Rattle.lexspec.specs.RuleReads.{HasHead, acting, first_statements, filled, may_wait, Left}
+use Rattle.lexspec.specs.RuleItems.{numbers_of, IsTrail, IsCutOf, EndRule, IsActionOf, goes_to_rule, IsRule, AreRules, HasHead}
+use Rattle.lexspec.specs.RuleReads.{acting, first_statements, filled, may_wait, Left}
 use Rattle.lexspec.proofs.OneSection.{no_true, two_percents, some_pair}
 use Rattle.lexspec.proofs.OneItems.{both_ways, AllBlank, StartsBlank, OpensBlock, tests_of, rule_tests, no_item_at_end, one_item, one_subject}
 use Rattle.lexspec.proofs.OneSpec.{one_rule, one_end, some_is}
@@ -125,16 +125,22 @@ module _ (names : List (List ℕ)) (fold : Bool) (defined : Definitions) where
 
   -- a rule with an action of its own, which the rules that wait take
 
-  head_rule : (n : ℕ) (asked : Conditions) (anchored : Bool) (head : List ℕ) (after : Trailing) (text : List ℕ) (is : List (ℕ × Item)) (rs : List Rule) (r : Rule) (ss : List Statement)
-      → HasHead names fold defined n asked anchored head after r → SpellsAction (number_from 0 names) text ss
-      → IsRule names fold defined n asked anchored head after (spelled text) is rs (acting ss r)
-  head_rule n asked anchored head after text is rs r ss h acts = record {
+  with_statements : (n : ℕ) (asked : Conditions) (anchored : Bool) (head : List ℕ) (after : Trailing) (r : Rule) (ss : List Statement)
+      → HasHead names fold defined n asked anchored head after r → HasHead names fold defined n asked anchored head after (acting ss r)
+  with_statements n asked anchored head after r ss h = record {
     line_is = h.line_is;
     listed = h.listed;
     anchor = h.anchor;
     head_is = h.head_is;
     trail_is = h.trail_is;
     cut_is = h.cut_is;
+  }
+
+  head_rule : (n : ℕ) (asked : Conditions) (anchored : Bool) (head : List ℕ) (after : Trailing) (text : List ℕ) (is : List (ℕ × Item)) (rs : List Rule) (r : Rule) (ss : List Statement)
+      → HasHead names fold defined n asked anchored head after r → SpellsAction (number_from 0 names) text ss
+      → IsRule names fold defined n asked anchored head after (spelled text) is rs (acting ss r)
+  head_rule n asked anchored head after text is rs r ss h acts = record {
+    front = with_statements n asked anchored head after r _ h;
     next = refl;
     statements_are = acts;
   }
@@ -185,12 +191,7 @@ module _ (names : List (List ℕ)) (fold : Bool) (defined : Definitions) where
       → HasHead names fold defined n asked anchored head after r → goes_to_rule bar is ≡ true → IsActionOf (number_from 0 names) bar rs (first_statements rs)
       → IsRule names fold defined n asked anchored head after bar is rs (acting (first_statements rs) r)
   bar_rule n asked anchored head after is rs r h next takes = record {
-    line_is = h.line_is;
-    listed = h.listed;
-    anchor = h.anchor;
-    head_is = h.head_is;
-    trail_is = h.trail_is;
-    cut_is = h.cut_is;
+    front = with_statements n asked anchored head after r _ h;
     next = next;
     statements_are = takes;
   }
@@ -329,9 +330,9 @@ module _ (names : List (List ℕ)) (fold : Bool) (defined : Definitions) where
   acts_here w n asked at_end bar is rs es are next = absurd are
   acts_here [] n asked at_end (spelled text) is rs es (numbers, e, others, listed, acts, all, more) next = ((numbers, listed), (refl, e, acts))
   acts_here (q ∷ w) n asked at_end (spelled text) is rs es are next = no_true next
-  acts_here w n asked (matching anchored head after) bar is rs es (r, others, all, one, more) next = ((r.conditions, one.listed), (r, one.head_is, one.trail_is, one.cut_is, tt))
+  acts_here w n asked (matching anchored head after) bar is rs es (r, others, all, one, more) next = ((r.conditions, one.front.listed), (r, one.front.head_is, one.front.trail_is, one.front.cut_is, tt))
   acts_here w n asked (matching anchored head after) (spelled text) is rs es (r, others, all, one, more) next =
-      ((r.conditions, one.listed), (r, one.head_is, one.trail_is, one.cut_is, (r.statements, one.statements_are)))
+      ((r.conditions, one.front.listed), (r, one.front.head_is, one.front.trail_is, one.front.cut_is, (r.statements, one.statements_are)))
 
   rule_here : (t : List ℕ) (w : List Rule) (n : ℕ) (i : Item) (rest : List ℕ) (is : List (ℕ × Item)) (rs : List Rule) (es : List EndRule) → starts_rule t ≡ true → IsItem t i rest
       → AreRules names fold defined ((n, i) ∷ is) rs es → may_wait w ((n, i) ∷ is) ≡ true → RuleHere t w

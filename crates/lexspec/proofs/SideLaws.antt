@@ -4,7 +4,8 @@ use Rattle.std.proofs.lemmas.List.{map-append}
 use Rattle.lexmeaning.specs.Spec as S
 use Rattle.lexspec.specs.RuleReads.{acting}
 use Rattle.lexspec.specs.RuleViews.{rule_of}
-use Rattle.lexspec.specs.SoundSides.{HaveSoundSides, HasSoundFront}
+use Rattle.lexspec.specs.SoundSides.{HasSoundFront}
+use Rattle.lexmeaning.specs.Sound.{HaveSoundSides}
 use Rattle.lexspec.specs.declared.item.Front.{Front}
 use Rattle.lexspec.specs.declared.item.Front.TheVariants as F
 use Rattle.lexspec.specs.declared.rule.Rule.{Rule}

@@ -1,5 +1,6 @@
 -- What the reader of an action's text says of a byte.
 use Rattle.std.specs.Prelude.{◌≡◌, ℕ, ◌≤◌, List, [], ◌∷◌, Some, None}
+use Rattle.lexaction.specs.Comments as C
 use Rattle.lexspec.specs.Items as I
 use Rattle.lexspec.specs.Items.{action_in, with_byte}
 use Rattle.lexspec.specs.declared.action_text.Place.{Place}
@@ -8,11 +9,11 @@ use Rattle.lexspec.specs.declared.action_text.Step.{Step}
 use Rattle.lexspec.specs.declared.action_text.Step.TheVariants.{Goes, Ends, Refused}
 
 abbrev pub place_of : Place → I.Place
-place_of P.Outside = I.outside
-place_of P.Slash = I.slash
-place_of P.Block = I.block
-place_of P.Star = I.star
-place_of P.Line = I.line
+place_of P.Outside = I.code C.outside
+place_of P.Slash = I.code C.slash
+place_of P.Block = I.code C.block
+place_of P.Star = I.code C.star
+place_of P.Line = I.code C.line
 place_of P.String = I.string
 place_of P.Escaped = I.escaped
 

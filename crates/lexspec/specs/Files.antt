@@ -1,9 +1,9 @@
 -- Which specification a file spells. (POSIX, lex, Input Files; flex, Format of the Input File. The bounds are this
 -- project's.)
-use Rattle.std.specs.Prelude.{◌≡◌, ℕ, suc, ◌+◌, ◌-◌, ◌≤◌, ◌<◌, Bool, true, false, ◌||◌, ◌==◌, if◌then◌else◌, List, [], ◌∷◌, map, length, count_by, Option, Some, None, codes}
-use Rattle.std.specs.List.{list_any}
+use Rattle.std.specs.Prelude.{◌≡◌, ℕ, suc, ◌+◌, ◌-◌, ◌≤◌, ◌<◌, Bool, true, false, ◌||◌, if◌then◌else◌, List, [], ◌∷◌, map, length, count_by, Option, Some, None, codes}
 use Rattle.std.specs.FinMap.{from_entries}
 use Rattle.lexmeaning.specs.Spec.{Spec, Condition, EndAction}
+use Rattle.lexmeaning.specs.Active.{lists}
 use Rattle.lexmeaning.specs.Reading.{begins}
 use Rattle.lexspec.specs.Lines.{without_returns, line_in}
 use Rattle.lexspec.specs.DefinitionLines.{Definition, Declared, definition_at, IsUpTo, all_conditions, names_of, has_name, are_distinct, substitutes_of, all_options, are_known}
@@ -13,7 +13,7 @@ use Rattle.lexspec.specs.RuleItems.{EndRule, AreRules}
 -- no condition has two ends, and without a list there is one at most
 abbrev pub lists_number : Option (List ℕ) → ℕ → Bool
 lists_number None c = false
-lists_number (Some cs) c = list_any (λ d. d == c) cs
+lists_number (Some cs) c = lists cs c
 
 abbrev pub is_unlisted : EndRule → Bool
 is_unlisted (None, e) = true

@@ -2,6 +2,8 @@
 -- (POSIX, lex, Rules in lex; flex, Patterns, Start Conditions, End-of-File Rules.)
 use Rattle.std.specs.Prelude.{◌≡◌, ℕ, zero, suc, ◌+◌, ◌-◌, Bool, true, false, not, ◌&&◌, ◌||◌, ◌==◌, if◌then◌else◌, List, [], ◌∷◌, length, take, drop, count_by, Option, Some, None, codes, ◌⊎◌}
 use Rattle.std.specs.List.{list_any}
+use Rattle.lexaction.specs.Comments as Comments
+use Rattle.lexaction.specs.Comments.{slash, line, after_byte}
 use Rattle.lexre.specs.Cutting.{IsCutting}
 use Rattle.lexmeaning.specs.ByteSets.{is_word, is_blank}
 use Rattle.lexmeaning.specs.Reading.{◌>>=◌, Reader, after_blanks, begins, is_white}
@@ -57,42 +59,39 @@ conditions_at t =
     if is_word inside (codes "*") then Some (every, after)
     else (let (first, others) = parts_at 44 inside in Some (only (first ∷ others), after)))
 
--- where an action stands: outside all, after a slash there, in comments as `Bytes.Place` has it, in a string, after a backslash in one
+-- where an action stands: in or outside comments of C, in a string, or after a backslash in one
 pub data Place : Type 0 where
-  outside : Place
-  slash : Place
-  block : Place
-  star : Place
-  line : Place
+  code : Comments.Place → Place
   string : Place
   escaped : Place
+
+abbrev pub outside : Place
+outside = code Comments.outside
 
 abbrev pub with_byte : ℕ → Option (List ℕ × List ℕ) → Option (List ℕ × List ℕ)
 with_byte c None = None
 with_byte c (Some found) = Some (c ∷ found.0, found.1)
 
--- outside all, at a byte that is no slash
+-- outside all, at a byte that opens no comment
 abbrev pub next_place : ℕ → Place
-next_place c = if c == 34 then string else if c == 47 then slash else outside
+next_place c = if c == 34 then string else code (after_byte Comments.outside c)
 
 abbrev pub depth_after : ℕ → ℕ → ℕ
 depth_after n c = if c == 123 then suc n else if c == 125 then n - 1 else n
 
 -- the action up to the first newline outside strings, comments and n open braces, or to the end, and what follows that newline
 abbrev pub action_in : Place → ℕ → List ℕ → Option (List ℕ × List ℕ)
-action_in outside zero [] = Some ([], [])
-action_in slash zero [] = Some ([], [])
-action_in line zero [] = Some ([], [])
+action_in (code Comments.outside) zero [] = Some ([], [])
+action_in (code slash) zero [] = Some ([], [])
+action_in (code line) zero [] = Some ([], [])
 action_in p n [] = None
-action_in outside n (c ∷ t) = if c == 10 && n == 0 then Some ([], t) else with_byte c (action_in (next_place c) (depth_after n c) t)
-action_in slash n (c ∷ t) =
-    if c == 42 then with_byte c (action_in block n t)
-    else if c == 47 then with_byte c (action_in line n t)
+action_in (code Comments.outside) n (c ∷ t) = if c == 10 && n == 0 then Some ([], t) else with_byte c (action_in (next_place c) (depth_after n c) t)
+action_in (code slash) n (c ∷ t) =
+    if c == 42 || c == 47 then with_byte c (action_in (code (after_byte slash c)) n t)
     else if c == 10 && n == 0 then Some ([], t)
     else with_byte c (action_in (next_place c) (depth_after n c) t)
-action_in block n (c ∷ t) = with_byte c (action_in (if c == 42 then star else block) n t)
-action_in star n (c ∷ t) = with_byte c (action_in (if c == 47 then outside else if c == 42 then star else block) n t)
-action_in line n (c ∷ t) = if c == 10 && n == 0 then Some ([], t) else with_byte c (action_in (if c == 10 then outside else line) n t)
+action_in (code line) n (c ∷ t) = if c == 10 && n == 0 then Some ([], t) else with_byte c (action_in (code (after_byte line c)) n t)
+action_in (code p) n (c ∷ t) = with_byte c (action_in (code (after_byte p c)) n t)
 action_in string n (c ∷ t) = if c == 10 then None else with_byte c (action_in (if c == 34 then outside else if c == 92 then escaped else string) n t)
 action_in escaped n (c ∷ t) = if c == 10 then None else with_byte c (action_in string n t)
 

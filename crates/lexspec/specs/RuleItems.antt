@@ -1,7 +1,8 @@
 -- Which rules the items of the rules section spell.
 -- (POSIX, lex, Rules in lex and Actions in lex; flex, Patterns: trailing context, End-of-File Rules.)
-use Rattle.std.specs.Prelude.{◌≡◌, ℕ, zero, suc, ◌≤◌, Bool, true, false, ◌==◌, ◌&&◌, if◌then◌else◌, List, [], ◌∷◌, length, Option, Some, None, is_some}
+use Rattle.std.specs.Prelude.{◌≡◌, ℕ, ◌≤◌, Bool, true, false, ◌==◌, ◌&&◌, if◌then◌else◌, List, [], ◌∷◌, length, Option, Some, None, is_some}
 use Rattle.std.specs.List.{list_any}
+use Rattle.lexmeaning.specs.Text.{listed}
 use Rattle.lexmeaning.specs.ByteSets.{single}
 use Rattle.lexmeaning.specs.Tree.{Tree, Set, In}
 use Rattle.lexmeaning.specs.Shapes.{HasLengths}
@@ -11,11 +12,6 @@ use Rattle.lexre.specs.Spelling.{Spells}
 use Rattle.lexaction.specs.Names.{number_from}
 use Rattle.lexaction.specs.Actions.{SpellsAction, SpellsEndAction}
 use Rattle.lexspec.specs.Items.{Conditions, unlisted, every, only, Trailing, no_trail, line_end, pattern_after, at_end, matching, Action, bar, spelled, Item, rule}
-
--- the numbers below n that the test passes, ascending, from k on
-abbrev pub numbers_from : ℕ → ℕ → (ℕ → Bool) → List ℕ
-numbers_from k zero test = []
-numbers_from k (suc n) test = if test k then k ∷ numbers_from (suc k) n test else numbers_from (suc k) n test
 
 -- whether every name of a list has a number, and whether a name there has the number c
 abbrev pub all_numbered : (List ℕ → Option ℕ) → List (List ℕ) → Bool
@@ -29,9 +25,9 @@ is_number (Some k) c = k == c
 -- the numbers of a condition list among n conditions: none without a list
 abbrev pub numbers_of : (List ℕ → Option ℕ) → ℕ → Conditions → Option (Option (List ℕ))
 numbers_of number n unlisted = Some None
-numbers_of number n every = Some (Some (numbers_from 0 n (λ c. true)))
+numbers_of number n every = Some (Some (listed (λ c. true) 0 n))
 numbers_of number n (only names) =
-    if all_numbered number names then Some (Some (numbers_from 0 n (λ c. list_any (λ name. is_number (number name) c) names))) else None
+    if all_numbered number names then Some (Some (listed (λ c. list_any (λ name. is_number (number name) c) names) 0 n)) else None
 
 -- A side of fixed length, at most 65,535, gives the cut: the head if it is such a side, and else the trailing context.
 abbrev pub HasFixed : Tree → ℕ → Type 0
@@ -73,14 +69,18 @@ goes_to_rule bar ((n, i) ∷ is) = goes_to_rule bar is
 
 -- `names` are those of the conditions, by number
 module _ (names : List (List ℕ)) (fold : Bool) (defined : Definitions) where
-  -- the rule of an item, where `rules` are those of the items after it
-  pub record IsRule (n : ℕ) (asked : Conditions) (anchored : Bool) (head : List ℕ) (after : Trailing) (action : Action) (is : List (ℕ × Item)) (rules : List Rule) (r : Rule) : Type 0 where
+  -- a rule but for its statements
+  pub record HasHead (n : ℕ) (asked : Conditions) (anchored : Bool) (head : List ℕ) (after : Trailing) (r : Rule) : Type 0 where
     pub line_is : r.line ≡ n
     pub listed : numbers_of (number_from 0 names) (length names) asked ≡ Some r.conditions
     pub anchor : r.anchored ≡ anchored
     pub head_is : Spells fold defined head r.head
     pub trail_is : IsTrail fold defined after r.trail
     pub cut_is : IsCutOf r.head r.trail r.cut
+
+  -- the rule of an item, where `rules` are those of the items after it
+  pub record IsRule (n : ℕ) (asked : Conditions) (anchored : Bool) (head : List ℕ) (after : Trailing) (action : Action) (is : List (ℕ × Item)) (rules : List Rule) (r : Rule) : Type 0 where
+    pub front : HasHead n asked anchored head after r
     pub next : goes_to_rule action is ≡ true
     pub statements_are : IsActionOf (number_from 0 names) action rules r.statements
 

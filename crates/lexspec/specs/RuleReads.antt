@@ -1,20 +1,9 @@
 -- Rules that are read one after another, some of which wait for the action of the next one.
-use Rattle.std.specs.Prelude.{◌≡◌, ℕ, Bool, true, List, [], ◌∷◌, ◌++◌, map, length, Some}
+use Rattle.std.specs.Prelude.{◌≡◌, ℕ, Bool, true, List, [], ◌∷◌, ◌++◌, map}
 use Rattle.lexmeaning.specs.Spec.{Statement, Rule}
 use Rattle.lexre.specs.Definitions.{Definitions}
-use Rattle.lexre.specs.Spelling.{Spells}
-use Rattle.lexaction.specs.Names.{number_from}
-use Rattle.lexspec.specs.Items.{Conditions, Trailing, bar, Item, AreItems}
-use Rattle.lexspec.specs.RuleItems.{numbers_of, IsCutOf, IsTrail, EndRule, goes_to_rule, AreRules}
-
--- a rule but for its statements
-pub record HasHead (names : List (List ℕ)) (fold : Bool) (defined : Definitions) (n : ℕ) (asked : Conditions) (anchored : Bool) (head : List ℕ) (after : Trailing) (r : Rule) : Type 0 where
-  pub line_is : r.line ≡ n
-  pub listed : numbers_of (number_from 0 names) (length names) asked ≡ Some r.conditions
-  pub anchor : r.anchored ≡ anchored
-  pub head_is : Spells fold defined head r.head
-  pub trail_is : IsTrail fold defined after r.trail
-  pub cut_is : IsCutOf r.head r.trail r.cut
+use Rattle.lexspec.specs.Items.{bar, Item, AreItems}
+use Rattle.lexspec.specs.RuleItems.{EndRule, goes_to_rule, AreRules}
 
 -- the rule with these statements
 abbrev pub acting : List Statement → Rule → Rule

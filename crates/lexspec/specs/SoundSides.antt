@@ -1,22 +1,10 @@
--- Rules with sound trees on their sides.
-use Rattle.std.specs.Prelude.{List, [], ◌∷◌, map, Option, IfSome}
-use Rattle.lexmeaning.specs.Shapes.{IsSoundTree}
-use Rattle.lexmeaning.specs.Spec.{Rule}
-use Rattle.lexmeaning.specs.Tree.{Tree}
+-- Rules that are read so far, with sound trees on their sides.
+use Rattle.std.specs.Prelude.{map}
+use Rattle.lexmeaning.specs.Sound.{HasSoundSides, HaveSoundSides}
 use Rattle.lexspec.specs.RuleViews.{rule_of}
 use Rattle.lexspec.specs.declared.taking.Progress.{Progress}
 use Rattle.lexspec.specs.declared.item.Front.{Front}
 use Rattle.lexspec.specs.declared.item.Front.TheVariants as F
-
-abbrev pub AreSoundSides : Tree → Option Tree → Type 0
-AreSoundSides head trail = IsSoundTree head × IfSome trail IsSoundTree
-
-abbrev pub HasSoundSides : Rule → Type 0
-HasSoundSides r = AreSoundSides r.head r.trail
-
-abbrev pub HaveSoundSides : List Rule → Type 0
-HaveSoundSides [] = Unit {0}
-HaveSoundSides (r ∷ rs) = HasSoundSides r × HaveSoundSides rs
 
 abbrev pub HasSoundFront : Front → Type 0
 HasSoundFront (F.Matching r) = HasSoundSides (rule_of r)

@@ -2,7 +2,8 @@
 ghost use Rattle.std.specs.Prelude.{◌≡◌, ◌+◌, ◌<◌, ◌≤◌, ◌^◌, ◌&&◌, ◌==◌, if◌then◌else◌, ℕ, List, [], ◌∷◌, Option, Some, None, option_map, length, drop, codes, IfSome};
 ghost use Rattle.lexmeaning.specs.Reading.{begins};
 ghost use Rattle.lexspec.specs.DefinitionLines.{is_all_blank};
-ghost use Rattle.lexspec.specs.Items.{action_in, outside, slash};
+ghost use Rattle.lexaction.specs.Comments.{slash};
+ghost use Rattle.lexspec.specs.Items.{action_in, code, outside};
 ghost use Rattle.lexspec.specs.ActionViews.{place_of, IsStep, MostOpen};
 
 use crate::lines::{is_all_blank, skip_first};
@@ -68,7 +69,7 @@ impl Progress {
     /// What the byte does after a slash outside strings and comments.
     fn past_slash(self, byte: u8) -> Step
         requires { self.depth + 1 < 2 ^ 64 }
-        ensures step { (t : List ℕ) → IsStep result slash self.depth byte t }
+        ensures step { (t : List ℕ) → IsStep result (code slash) self.depth byte t }
         ensures few { MostOpen (self.depth + 1) result }
     {
         if byte == b'*' {

@@ -10,7 +10,8 @@ ghost use Rattle.lexspec.specs.RuleItems.{IsTrail, IsCutOf};
 ghost use Rattle.lexspec.specs.RuleViews.{rule_of, cut_of};
 ghost use Rattle.lexspec.specs.SubjectViews.{trailing_of};
 ghost use Rattle.lexspec.specs.ItemReads.{NoRules, NoSides, ReadsItem};
-ghost use Rattle.lexspec.specs.SoundSides.{AreSoundSides, HasSoundFront};
+ghost use Rattle.lexspec.specs.SoundSides.{HasSoundFront};
+ghost use Rattle.lexmeaning.specs.Sound.{AreSoundSides};
 ghost use Rattle.lexspec.specs.Outcome.{UnlessMemory};
 
 use crate::action_text::split_action;

@@ -2,7 +2,8 @@
 ghost use Rattle.std.specs.Prelude.{◌≡◌, ◌≤◌, ◌<◌, ℕ, List, Bool, true, false, Option, Some, None, option_map, length, slice_index_or, IfOk, IfErr, IfSome, IfNone};
 ghost use Rattle.std.specs.List.{list_any};
 ghost use Rattle.lexaction.specs.Names.{number_from, names_of};
-ghost use Rattle.lexspec.specs.RuleItems.{numbers_from, all_numbered, is_number, numbers_of};
+ghost use Rattle.lexspec.specs.RuleItems.{all_numbered, is_number, numbers_of};
+ghost use Rattle.lexmeaning.specs.Text.{listed};
 ghost use Rattle.lexspec.specs.SubjectViews.{conditions_of, parts};
 ghost use Rattle.lexspec.specs.Outcome.{UnlessMemory};
 
@@ -36,7 +37,7 @@ fn listed(conditions: &[Condition], names: &[u8]) -> Option<[bool; 255]>
 /// The numbers below the count at which a flag is set, ascending.
 fn numbers_where(alloc: Global, flags: &[bool], count: u8) -> Result<Vec<u8>, AllocError>
     requires { length flags.now ≡ 255 }
-    ensures { IfOk result (λ v. (test : ℕ → Bool) → ((c : ℕ) → c < 255 → slice_index_or flags.now c false ≡ test c) → v.items ≡ numbers_from 0 count test) }
+    ensures { IfOk result (λ v. (test : ℕ → Bool) → ((c : ℕ) → c < 255 → slice_index_or flags.now c false ≡ test c) → v.items ≡ listed test 0 count) }
 {
     let mut numbers = Vec::new(alloc);
     for number in 0..count {

@@ -1,5 +1,6 @@
 use Rattle.std.proofs.Common.{◌≡◌, ◌≤◌, length}
-use Rattle.lexaction.specs.Bytes.{skip_in, block, in_block}
+use Rattle.lexaction.specs.Bytes.{skip_in, in_block}
+use Rattle.lexaction.specs.Comments.{block}
 use Rattle.lexaction.proofs.bytes.after_block.Given as goal
 
 abbrev pub invariant-loop-first : goal.invariant-loop-first

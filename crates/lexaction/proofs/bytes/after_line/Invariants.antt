@@ -1,5 +1,6 @@
 use Rattle.std.proofs.Common.{◌≡◌, ◌≤◌, length}
-use Rattle.lexaction.specs.Bytes.{skip_in, line}
+use Rattle.lexaction.specs.Bytes.{skip_in}
+use Rattle.lexaction.specs.Comments.{line}
 use Rattle.lexaction.proofs.bytes.after_line.Given as goal
 
 abbrev pub invariant-loop-first : goal.invariant-loop-first

@@ -1,5 +1,6 @@
 use Rattle.std.proofs.Common.{◌≡◌, ◌≤◌, length}
-use Rattle.lexaction.specs.Bytes.{skip_in, outside}
+use Rattle.lexaction.specs.Bytes.{skip_in}
+use Rattle.lexaction.specs.Comments.{outside}
 use Rattle.lexaction.proofs.bytes.skip.Given as goal
 
 abbrev pub invariant-loop-first : goal.invariant-loop-first

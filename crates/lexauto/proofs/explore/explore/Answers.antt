@@ -1,6 +1,6 @@
 use Rattle.std.proofs.Common.{rules, ◌≡◌, ◌==◌, not, ℕ, Bool, ◌/◌, ◌%◌, ◌<◌, ◌≤◌, List, length, Vec, Global, refl, sym, subst, ap, ◌∙◌, get_or, Err}
 use Rattle.lexauto.specs.Explored.{key_at, Exploring, GoOnSoFar, Held, step_by}
-use Rattle.lexauto.specs.Machines.{is_some}
+use Rattle.lexmeaning.specs.Reading.{is_empty}
 use Rattle.lexauto.specs.declared.explore.ExploreError.TheVariants.{TooMany}
 use Rattle.std.proofs.lemmas.Result.{err_from_is_err_and}
 use Rattle.lexauto.specs.Keys.{Key, At, Absent, Found}
@@ -51,7 +51,7 @@ work-preserved g c =
           let zero : n % 256 ≡ 0 = (let f = w.if-byte-eq0.true in search (rules, f)) in
           let next : w.in_ok-followers.followers.items ≡ follow (key_at keys (n / 256)) = w.in_ok-followers.ensures ∙ ap follow (w.deref-then-byte-eq0.ensures.value ∙ w.in_ok-key.ensures ∙ ap unpacked w.deref.ensures.value ∙ sym (kept_at c.work.table.keys.items (n / 256) w.index.result.now low here)) in
           let empty : w.is_empty.result ≡ (length w.in_ok-followers.followers.items == 0) = search rules in
-          let some : not w.is_empty.result ≡ is_some (follow (key_at keys (n / 256))) = ap not empty ∙ some_is w.in_ok-followers.followers.items ∙ ap is_some next in
+          let some : not w.is_empty.result ≡ not (is_empty (follow (key_at keys (n / 256)))) = ap not empty ∙ some_is w.in_ok-followers.followers.items ∙ ap (λ l. not (is_empty l)) next in
           subst (λ (gs : List Bool). OnAt follow keys (n / 256) gs) (sym (ap (λ (v : Vec Bool Global). v.items) w.goes_on-is ∙ w.in_ok-push.ensures.items))
           (on_first step roots (look_kept c.work.table.places) keys c.work.next.items c.args.limit c.work.invariant.exploring follow n c.work.goes_on.items (not w.is_empty.result) refl zero c.work.invariant.on some))
       | else-byte-eq0 w ↦

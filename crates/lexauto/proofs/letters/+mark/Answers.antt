@@ -1,7 +1,7 @@
 use Rattle.std.proofs.Common.{rules, ◌≡◌, ◌+◌, ◌-◌, ◌<◌, ◌||◌, Bool, sym, ◌∙◌, ap}
 use Rattle.lexmeaning.specs.Positions.{positions}
 use Rattle.lexre.specs.Views.{tree_of}
-use Rattle.lexauto.specs.Flow.{flag}
+use Rattle.lexmeaning.specs.Text.{flag}
 use Rattle.lexauto.specs.RuleFlow.{copies_read, reads}
 use Rattle.lexauto.proofs.Copies.{copy_place, or_false, or_assoc}
 use Rattle.lexauto.proofs.LetterTests.{copies_nothing, read_step}

@@ -2,7 +2,7 @@ use Rattle.std.proofs.Common.{◌≡◌, ℕ, ◌+◌, ◌-◌, ◌*◌, ◌||�
 use Rattle.lexmeaning.specs.Tree.{trees}
 use Rattle.lexmeaning.specs.Positions.{positions, positions_of}
 use Rattle.lexre.specs.Views.{tree_of}
-use Rattle.lexauto.specs.Flow.{flag}
+use Rattle.lexmeaning.specs.Text.{flag}
 use Rattle.lexauto.specs.RuleFlow.{copies_read, reads, each_read}
 use Rattle.lexauto.proofs.letters.+mark.Given as goal
 

@@ -1,7 +1,7 @@
 use Rattle.std.proofs.Common.{◌≡◌, ℕ, ◌+◌, ◌||◌, drop, map, length}
 use Rattle.lexmeaning.specs.Subsets.{all_positions}
 use Rattle.lexspec.specs.RuleViews.{rule_of}
-use Rattle.lexauto.specs.Flow.{flag}
+use Rattle.lexmeaning.specs.Text.{flag}
 use Rattle.lexauto.specs.RuleFlow.{rules_read}
 use Rattle.lexauto.proofs.letters.mark_rules.Given as goal
 

@@ -1,6 +1,5 @@
 use Rattle.std.proofs.Common.{◌≡◌, ◌++◌, ◌-◌, length}
-use Rattle.lexauto.specs.Flow.{flag}
-use Rattle.lexauto.specs.Sets.{listed}
+use Rattle.lexmeaning.specs.Text.{flag, listed}
 use Rattle.lexauto.proofs.sets.numbers_of.Given as goal
 
 abbrev pub invariant-loop-i : goal.invariant-loop-i

@@ -5,7 +5,8 @@ use Rattle.lexaction.specs.Views.{condition_of}
 use Rattle.lexspec.specs.RuleViews.{rule_of}
 use Rattle.lexspec.specs.Views.{spec_of, conditions_in, rules_in}
 use Rattle.lexauto.specs.RuleAutomaton.{is_on, is_active}
-use Rattle.lexauto.specs.Sets.{listed, tagged}
+use Rattle.lexauto.specs.Sets.{tagged}
+use Rattle.lexmeaning.specs.Text.{listed}
 use Rattle.lexauto.proofs.Numbers.{number_in, number_out}
 use Rattle.lexauto.proofs.StepLemmas.{item_at, length_map}
 use Rattle.lexauto.proofs.starts.start_key.Goals.{then-is_active+in_ok-push, else-is_active}

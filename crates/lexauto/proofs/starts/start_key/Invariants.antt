@@ -1,7 +1,7 @@
 use Rattle.std.proofs.Common.{◌≡◌, ◌++◌, ◌-◌, length}
 use Rattle.lexspec.specs.Views.{spec_of, rules_in}
 use Rattle.lexauto.specs.RuleAutomaton.{is_active}
-use Rattle.lexauto.specs.Sets.{listed}
+use Rattle.lexmeaning.specs.Text.{listed}
 use Rattle.lexauto.proofs.starts.start_key.Given as goal
 
 abbrev pub invariant-loop-i : goal.invariant-loop-i

@@ -1,6 +1,6 @@
 use Rattle.std.proofs.Common.{rules, ◌≡◌, ◌||◌, ℕ, Bool, List, length, map, IfOk, ap, subst, ◌∙◌}
 use Rattle.lexspec.specs.RuleViews.{rule_of}
-use Rattle.lexauto.specs.Flow.{flag}
+use Rattle.lexmeaning.specs.Text.{flag}
 use Rattle.lexauto.specs.RuleFlow.{rules_enter}
 use Rattle.lexauto.proofs.StepLemmas.{listed_same}
 use Rattle.lexauto.proofs.stepping.next_numbers.Goals as goal

@@ -1,7 +1,7 @@
-use Rattle.std.proofs.Common.{◌≡◌, ℕ, ap, sym, ◌∙◌, Err}
+use Rattle.std.proofs.Common.{◌≡◌, ℕ, ap, sym, ◌∙◌, Err, not}
 use Rattle.std.proofs.lemmas.Result.{err_from_is_err_and}
 use Rattle.lexspec.specs.Views.{spec_of, rules_in}
-use Rattle.lexauto.specs.Machines.{is_some}
+use Rattle.lexmeaning.specs.Reading.{is_empty}
 use Rattle.lexauto.specs.Moving.{followers_in}
 use Rattle.lexspec.proofs.TestLaws.{spec_is_sound}
 use Rattle.lexauto.specs.declared.explore.ExploreError.TheVariants.{TooMany}
@@ -42,4 +42,4 @@ returns-clause-ok c =
 
 pub returns-clause-goes_on : goal.returns-clause-goes_on
 returns-clause-goes_on c = λ i k a.
-    c.in_ok-explored.ensures.goes_on.each i k a ∙ ap (λ (n : ℕ). is_some (followers_in (rules_in (spec_of c.args.moves.now.spec.now)) n k)) (sym c.args.moves.now.within)
+    c.in_ok-explored.ensures.goes_on.each i k a ∙ ap (λ (n : ℕ). not (is_empty (followers_in (rules_in (spec_of c.args.moves.now.spec.now)) n k))) (sym c.args.moves.now.within)

@@ -1,7 +1,8 @@
 use Rattle.std.proofs.Common.{rules, ◌≡◌, ◌+◌, ◌<◌, ◌||◌, ◌&&◌, false, ◌-◌, Bool, sym, ◌∙◌, ap}
 use Rattle.lexmeaning.specs.Positions.{positions}
 use Rattle.lexre.specs.Views.{tree_of}
-use Rattle.lexauto.specs.Flow.{flag, is_zero, comes, exits, enters}
+use Rattle.lexauto.specs.Flow.{is_zero, comes, exits, enters}
+use Rattle.lexmeaning.specs.Text.{flag}
 use Rattle.lexauto.proofs.Copies.{passes_nothing, nothing_left, passes_step, comes_nothing, nothing_comes, comes_step, copy_place, or_false, or_assoc, and_assoc, left_before, left_here, not_left}
 use Rattle.lexauto.proofs.walk.+enter.Goals.{enter_copies-then-out, enter_copies-else-out+then-needed-eq0, enter_copies-else-out+else-needed-eq0}
 use Rattle.lexauto.proofs.walk.+enter.Goals as goal

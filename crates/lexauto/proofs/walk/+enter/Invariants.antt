@@ -3,7 +3,8 @@ use Rattle.lexmeaning.specs.Tree.{trees}
 use Rattle.lexmeaning.specs.Shapes.{AreSoundTrees}
 use Rattle.lexmeaning.specs.Positions.{positions, positions_of}
 use Rattle.lexre.specs.Views.{tree_of}
-use Rattle.lexauto.specs.Flow.{flag, passes, comes, exits, exits_each, exits_some, enters, enters_each, enters_some}
+use Rattle.lexauto.specs.Flow.{passes, comes, exits, exits_each, exits_some, enters, enters_each, enters_some}
+use Rattle.lexmeaning.specs.Text.{flag}
 use Rattle.lexauto.proofs.walk.+enter.Given as goal
 
 abbrev pub invariant-enter_each-loop-part : goal.invariant-enter_each-loop-part

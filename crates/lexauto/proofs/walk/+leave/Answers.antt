@@ -1,7 +1,8 @@
 use Rattle.std.proofs.Common.{◌≡◌, ◌<◌, ◌||◌, ◌&&◌, false, sym, ◌∙◌}
 use Rattle.lexmeaning.specs.Positions.{positions}
 use Rattle.lexre.specs.Views.{tree_of}
-use Rattle.lexauto.specs.Flow.{flag, is_zero, exits}
+use Rattle.lexauto.specs.Flow.{is_zero, exits}
+use Rattle.lexmeaning.specs.Text.{flag}
 use Rattle.lexauto.proofs.Copies.{passes_nothing, nothing_left, passes_step, copy_place, left_before, left_here, not_left}
 use Rattle.lexauto.proofs.walk.+leave.Goals.{leave_copies-then-out, leave_copies-else-out+then-needed-eq0, leave_copies-else-out+else-needed-eq0}
 use Rattle.lexauto.proofs.walk.+leave.Goals as goal

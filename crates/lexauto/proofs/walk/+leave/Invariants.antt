@@ -3,7 +3,8 @@ use Rattle.lexmeaning.specs.Tree.{trees}
 use Rattle.lexmeaning.specs.Shapes.{AreSoundTrees}
 use Rattle.lexmeaning.specs.Positions.{positions, positions_of}
 use Rattle.lexre.specs.Views.{tree_of}
-use Rattle.lexauto.specs.Flow.{flag, passes, exits, exits_each, exits_some}
+use Rattle.lexauto.specs.Flow.{passes, exits, exits_each, exits_some}
+use Rattle.lexmeaning.specs.Text.{flag}
 use Rattle.lexauto.proofs.walk.+leave.Given as goal
 
 abbrev pub invariant-leave_each-loop-part : goal.invariant-leave_each-loop-part

@@ -3,7 +3,8 @@ use Rattle.std.specs.Prelude.{◌||◌}
 use Rattle.lexmeaning.specs.Tree.{Empty, In, Repeat, Joined}
 use Rattle.lexre.specs.Views.{tree_of}
 use Rattle.lexkit.proofs.Nodes.{empty_tree}
-use Rattle.lexkit.specs.Places.{marked, AreEnds, AnyTimes, UpToTimes}
+use Rattle.lexkit.specs.Places.{AreEnds, AnyTimes, UpToTimes}
+use Rattle.lexmeaning.specs.Text.{flag}
 use Rattle.lexkit.proofs.Outcomes.{ok_to}
 use Rattle.lexkit.proofs.Parts.{series_step, series_all, choice_step}
 use Rattle.lexkit.proofs.Reaching.{ends_empty, any_more, closed_too, marked_inside, up_to_none, up_to_more, times_none, times_more, repeat_any, repeat_up_to, repeat_never, joined_left, joined_right}
@@ -31,7 +32,7 @@ ends_of_series-returns t c =
 
 pub ends_of_choice-loop-part-preserved : goal.ends_of_choice-loop-part-preserved
 ends_of_choice-loop-part-preserved t c =
-    let joined = subst (λ z. (j : ℕ) → marked c.join.new.places.items j ≡ (marked c.loop-part.all.items j || marked z j)) c.deref.ensures.value c.in_ok-join.ensures.joined in
+    let joined = subst (λ z. (j : ℕ) → flag c.join.new.places.items j ≡ (flag c.loop-part.all.items j || flag z j)) c.deref.ensures.value c.in_ok-join.ensures.joined in
     let size = c.in_ok-join.ensures.inside in
     let fits = c.in_ok-ends.ensures.inside in
     let so_far = c.loop-part.invariant.inside in
@@ -58,7 +59,7 @@ pub ends_of_up_to-loop-round-preserved : goal.ends_of_up_to-loop-round-preserved
 ends_of_up_to-loop-round-preserved t c =
     let P : List ℕ → Type 0 = In (tree_of c.args.inner.now) in
     let ends = subst (λ z. AreEnds P c.args.text.now z c.in_ok-next.next.items) c.deref.ensures.value c.in_ok-next.ensures in
-    let joined = subst (λ z. (j : ℕ) → marked c.join.new.places.items j ≡ (marked c.loop-round.reached.items j || marked z j)) c.deref-in-loop-round.ensures.value c.in_ok-join.ensures.joined in
+    let joined = subst (λ z. (j : ℕ) → flag c.join.new.places.items j ≡ (flag c.loop-round.reached.items j || flag z j)) c.deref-in-loop-round.ensures.value c.in_ok-join.ensures.joined in
     let size = c.in_ok-join.ensures.inside in
     let fits = c.in_ok-next.ensures.inside in
     let so_far = c.loop-round.invariant.inside in
@@ -101,16 +102,16 @@ pub ends_of_rounds-returns-then-not-branch : goal.ends_of_rounds-returns-then-no
 ends_of_rounds-returns-then-not-branch t c =
     let P : List ℕ → Type 0 = In (tree_of c.args.inner.now) in
     let ends = subst (λ z. AreEnds P c.args.text.now z c.in_ok-next.next.items) c.deref.ensures.value c.in_ok-next.ensures in
-    let joined : (j : ℕ) → marked c.join.new.places.items j ≡ (marked c.rounds.reached.items j || marked c.in_ok-next.next.items j) = subst (λ z. (j : ℕ) → marked c.join.new.places.items j ≡ (marked c.rounds.reached.items j || marked z j)) c.deref-in-rounds.ensures.value c.in_ok-join.ensures.joined in
-    let told = subst (λ z. (c.in_ok-join.field-0 ≡ true) ↔ ((j : ℕ) × (marked z j ≡ true) × (marked c.rounds.reached.items j ≡ false))) c.deref-in-rounds.ensures.value c.in_ok-join.ensures.found in
+    let joined : (j : ℕ) → flag c.join.new.places.items j ≡ (flag c.rounds.reached.items j || flag c.in_ok-next.next.items j) = subst (λ z. (j : ℕ) → flag c.join.new.places.items j ≡ (flag c.rounds.reached.items j || flag z j)) c.deref-in-rounds.ensures.value c.in_ok-join.ensures.joined in
+    let told = subst (λ z. (c.in_ok-join.field-0 ≡ true) ↔ ((j : ℕ) × (flag z j ≡ true) × (flag c.rounds.reached.items j ≡ false))) c.deref-in-rounds.ensures.value c.in_ok-join.ensures.found in
     let old = no_found c.rounds.reached.items c.in_ok-next.next.items c.in_ok-join.field-0 c.if-not-branch.true told in
     c.rounds.invariant.later c.join.new.places.items
     (closed_too P c.args.text.now c.rounds.reached.items c.in_ok-next.next.items c.join.new.places.items c.rounds.invariant.inside ends joined old (omega (arith, ap length c.deref-in-rounds.ensures.value, c.in_ok-join.ensures.inside, ends.inside, c.rounds.invariant.inside)))
 
 pub ends_of_rounds-rounds-smaller : goal.ends_of_rounds-rounds-smaller
 ends_of_rounds-rounds-smaller t c =
-    let joined : (j : ℕ) → marked c.join.new.places.items j ≡ (marked c.rounds.reached.items j || marked c.in_ok-next.next.items j) = subst (λ z. (j : ℕ) → marked c.join.new.places.items j ≡ (marked c.rounds.reached.items j || marked z j)) c.deref-in-rounds.ensures.value c.in_ok-join.ensures.joined in
-    let told = subst (λ z. (c.in_ok-join.field-0 ≡ true) ↔ ((j : ℕ) × (marked z j ≡ true) × (marked c.rounds.reached.items j ≡ false))) c.deref-in-rounds.ensures.value c.in_ok-join.ensures.found in
+    let joined : (j : ℕ) → flag c.join.new.places.items j ≡ (flag c.rounds.reached.items j || flag c.in_ok-next.next.items j) = subst (λ z. (j : ℕ) → flag c.join.new.places.items j ≡ (flag c.rounds.reached.items j || flag z j)) c.deref-in-rounds.ensures.value c.in_ok-join.ensures.joined in
+    let told = subst (λ z. (c.in_ok-join.field-0 ≡ true) ↔ ((j : ℕ) × (flag z j ≡ true) × (flag c.rounds.reached.items j ≡ false))) c.deref-in-rounds.ensures.value c.in_ok-join.ensures.found in
     let new = told.0 c.if-not-branch.false in
     let inside : new.0 < length c.args.text.now + 1 = omega (arith, marked_inside c.in_ok-next.next.items new.0 new.1, c.in_ok-next.ensures.inside) in
     unmarked_lt (length c.args.text.now + 1) c.rounds.reached.items c.join.new.places.items
@@ -120,7 +121,7 @@ pub ends_of_rounds-rounds-preserved : goal.ends_of_rounds-rounds-preserved
 ends_of_rounds-rounds-preserved t c =
     let P : List ℕ → Type 0 = In (tree_of c.args.inner.now) in
     let ends = subst (λ z. AreEnds P c.args.text.now z c.in_ok-next.next.items) c.deref.ensures.value c.in_ok-next.ensures in
-    let joined : (j : ℕ) → marked c.join.new.places.items j ≡ (marked c.rounds.reached.items j || marked c.in_ok-next.next.items j) = subst (λ z. (j : ℕ) → marked c.join.new.places.items j ≡ (marked c.rounds.reached.items j || marked z j)) c.deref-in-rounds.ensures.value c.in_ok-join.ensures.joined in
+    let joined : (j : ℕ) → flag c.join.new.places.items j ≡ (flag c.rounds.reached.items j || flag c.in_ok-next.next.items j) = subst (λ z. (j : ℕ) → flag c.join.new.places.items j ≡ (flag c.rounds.reached.items j || flag z j)) c.deref-in-rounds.ensures.value c.in_ok-join.ensures.joined in
     record {
       inside = omega (arith, ap length c.deref-in-rounds.ensures.value, c.in_ok-join.ensures.inside, ends.inside, c.rounds.invariant.inside);
       later = λ last h. c.rounds.invariant.later last (any_more P c.args.text.now c.rounds.reached.items c.in_ok-next.next.items c.join.new.places.items last ends joined h);

@@ -1,10 +1,10 @@
 use Rattle.std.proofs.Common.{◌≡◌, ℕ, ◌+◌, ◌-◌, ◌≤◌, length, max}
-use Rattle.lexkit.specs.Places.{marked}
+use Rattle.lexmeaning.specs.Text.{flag}
 use Rattle.lexkit.proofs.matching.mark.Given as goal
 
 abbrev pub invariant-loop-places : goal.invariant-loop-places
 invariant-loop-places l = record {
-  same : (j : ℕ) → marked l.places.items j ≡ marked l.initial.places.items j;
+  same : (j : ℕ) → flag l.places.items j ≡ flag l.initial.places.items j;
   inside : length l.places.items ≤ max (length l.initial.places.items) (l.place + 1);
 }
 

@@ -1,6 +1,6 @@
-use Rattle.lexre.proofs.QuotedLaws.{quoted_first, quoted_ends, quoted_stuck, quoted_next, quoted_newline, quoted_open, quoted_shorter}
+use Rattle.lexre.proofs.ReaderLaws.{unless_of}
+use Rattle.lexre.proofs.QuotedLaws.{quoted_first, quoted_ends, quoted_stuck, quoted_next, quoted_open, quoted_shorter}
 use Rattle.lexre.proofs.quotes.quoted_at.Goals as goal
-use Rattle.lexre.proofs.quotes.quoted_at.Goals.{in-Some+else-first-eq34+then-first-eq10, in_default}
 
 pub loop-first-init : goal.loop-first-init
 loop-first-init c = rw c.new-bytes.ensures.items (quoted_first _)
@@ -9,7 +9,8 @@ pub returns-then-first-eq34 : goal.returns-then-first-eq34
 returns-then-first-eq34 c = quoted_ends _ _ _ _ _ c.loop-first.invariant c.in-Some.ensures.cases.0 c.if-first-eq34.true
 
 pub returns-in_default-quoted_byte_at : goal.returns-in_default-quoted_byte_at
-returns-in_default-quoted_byte_at c = quoted_stuck _ _ _ _ _ c.loop-first.invariant c.in-Some.ensures.cases.0 c.if-first-eq34.false c.if-first-eq10.false c.in_default-quoted_byte_at.ensures
+returns-in_default-quoted_byte_at c =
+    unless_of c.match-first.result.kind _ (quoted_stuck _ _ _ _ _ c.loop-first.invariant c.in-Some.ensures.cases.0 c.if-first-eq34.false c.in_default-quoted_byte_at.ensures)
 
 pub loop-first-smaller : goal.loop-first-smaller
 loop-first-smaller c = quoted_shorter c.loop-first.rest.now c.in-Some-quoted_byte_at.beyond.now c.in-Some-quoted_byte_at.byte c.in-Some-quoted_byte_at.ensures
@@ -17,10 +18,7 @@ loop-first-smaller c = quoted_shorter c.loop-first.rest.now c.in-Some-quoted_byt
 pub loop-first-preserved : goal.loop-first-preserved
 loop-first-preserved c =
     rw c.in-Ok.ensures.items
-    (quoted_next _ _ _ _ _ _ _ c.loop-first.invariant c.in-Some.ensures.cases.0 c.if-first-eq34.false c.if-first-eq10.false c.in-Some-quoted_byte_at.ensures)
+    (quoted_next _ _ _ _ _ _ _ c.loop-first.invariant c.in-Some.ensures.cases.0 c.if-first-eq34.false c.in-Some-quoted_byte_at.ensures)
 
 pub returns : goal.returns
-returns c = elim c.match-split_first.branch [
-  | in-Some+else-first-eq34+then-first-eq10 w ↦ quoted_newline _ _ _ _ _ c.loop-first.invariant w.in-Some.ensures.cases.0 w.if-first-eq10.true
-  | in_default w ↦ quoted_open _ _ _ c.loop-first.invariant w.in_default.ensures.cases
-]
+returns c = quoted_open _ _ _ c.loop-first.invariant c.in_default.ensures.cases

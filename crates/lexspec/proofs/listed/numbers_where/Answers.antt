@@ -1,5 +1,5 @@
 use Rattle.std.proofs.Common.{arith, ◌++◌, ◌∷◌, [], ◌+◌, ◌-◌, ◌≡◌, true, false, sym, ap, ◌∙◌, append_assoc}
-use Rattle.lexspec.specs.RuleItems.{numbers_from}
+use Rattle.lexmeaning.specs.Text.{listed}
 use Rattle.lexspec.proofs.ListedLaws.{number_here, number_not}
 use Rattle.lexspec.proofs.listed.numbers_where.Goals as goal
 use Rattle.lexspec.proofs.listed.numbers_where.Goals.{then-flags-number+in_ok-push, else-flags-number}
@@ -7,7 +7,7 @@ use Rattle.lexspec.proofs.listed.numbers_where.Goals.{then-flags-number+in_ok-pu
 pub loop-number-preserved : goal.loop-number-preserved
 loop-number-preserved c = λ test is.
     let k = c.loop-number.number in
-    let later = numbers_from (k + 1) (c.args.count - (k + 1)) test in
+    let later = listed test (k + 1) (c.args.count - (k + 1)) in
     elim c.if-flags-number.branch [
       | then-flags-number+in_ok-push w ↦
           let pass : test k ≡ true = sym (is k (omega arith)) ∙ w.if-flags-number.true in

@@ -1,9 +1,9 @@
 use Rattle.std.proofs.Common.{◌≡◌, ℕ, Bool, List, length, map, IfOk, false, replicate, sym, ap, subst, ◌∙◌}
 use Rattle.lexmeaning.specs.Spec.{Rule}
-use Rattle.lexauto.specs.Sets.{listed, marked, starts_in, lasts_in}
+use Rattle.lexauto.specs.Sets.{marked, starts_in, lasts_in}
+use Rattle.lexmeaning.specs.Text.{listed, flag}
 use Rattle.lexspec.specs.RuleViews.{rule_of}
 use Rattle.lexspec.specs.Views.{spec_of, rules_in}
-use Rattle.lexauto.specs.Flow.{flag}
 use Rattle.lexauto.specs.RuleFlow.{rules_enter}
 use Rattle.lexauto.proofs.StepLemmas.{tested_rules, followers_is, flag_none, length_map}
 use Rattle.lexauto.proofs.stepping.RuleMovesMoves.followers.Goals as goal

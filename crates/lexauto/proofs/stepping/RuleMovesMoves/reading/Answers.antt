@@ -1,7 +1,7 @@
 use Rattle.std.proofs.Common.{◌≡◌, ◌<◌, ℕ, Bool, List, length, map, IfOk, Vec, Global, sym, ap, subst, ◌∙◌, arith}
 use Rattle.lexauto.specs.RuleFlow.{rules_read}
 use Rattle.lexspec.specs.RuleViews.{rule_of}
-use Rattle.lexauto.specs.Flow.{flag}
+use Rattle.lexmeaning.specs.Text.{flag}
 use Rattle.lexauto.proofs.StepLemmas.{reading_is, mask_from, length_map}
 use Rattle.lexauto.proofs.stepping.RuleMovesMoves.reading.Goals as goal
 
