@@ -1,6 +1,9 @@
 //! The program: it scans standard input by a specification, to standard output.
 #![tactic(auto)]
 
+ghost use Rattle.std.specs.Prelude.{◌≡◌, ◌⊎◌, IfErr};
+ghost use Rattle.lex.specs.Faults.{Tells, out_of_memory};
+
 use lexkit::{
     ArgsError, Fault, FromRead, GenError, Job, Options, ScanError, Sink, ToWrite, read_args,
     scan_spec, write_fault,
@@ -23,7 +26,10 @@ enum Failure {
 }
 
 impl Failure {
-    fn fault(&self) -> Fault<'_> {
+    /// What is told of it.
+    fn fault(&self) -> Fault<'_>
+        ensures { Tells self.now result }
+    {
         match self {
             Failure::Args(error) => Fault::Args(*error),
             Failure::Scan(error) => Fault::Scan(*error),
@@ -33,18 +39,28 @@ impl Failure {
 }
 
 impl From<ArgsError> for Failure {
+    ghost use Rattle.lex.specs.declared.Failure.{Failure};
+
+    ghost from_gives = { λ error failure. failure ≡ Failure.Args error };
+
     fn from(error: ArgsError) -> Failure {
         Failure::Args(error)
     }
 }
 
 impl From<ScanError> for Failure {
+    ghost use Rattle.lex.specs.declared.Failure.{Failure};
+
+    ghost from_gives = { λ error failure. failure ≡ Failure.Scan error };
+
     fn from(error: ScanError) -> Failure {
         Failure::Scan(error)
     }
 }
 
 impl From<AllocError> for Failure {
+    ghost from_gives = { λ _ failure. failure ≡ out_of_memory };
+
     fn from(_error: AllocError) -> Failure {
         Failure::Scan(ScanError::Generate(GenError::OutOfMemory))
     }
@@ -74,7 +90,10 @@ fn read_start(rt: &HostRuntime, name: &str) -> io::Result<Vec<u8>> {
     Ok(text)
 }
 
-fn read_spec_file(rt: &HostRuntime, name: String) -> Result<Vec<u8>, Failure> {
+/// The text of a specification file. What cannot be read is told by its name, unless memory ran out.
+fn read_spec_file(rt: &HostRuntime, name: String) -> Result<Vec<u8>, Failure>
+    ensures { IfErr result (λ failure. (failure ≡ out_of_memory) ⊎ (failure ≡ Failure.File name)) }
+{
     match read_start(rt, name.as_str()) {
         Ok(text) => Ok(text),
         Err(error) => Err(match error.kind() {

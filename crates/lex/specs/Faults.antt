@@ -1,0 +1,18 @@
+-- What is told of a failure of the program. (Own: POSIX leaves it to the implementation.)
+use Rattle.std.specs.Prelude.{◌≡◌, string_bytes}
+use Rattle.lex.specs.declared.Failure.{Failure}
+use Rattle.lex.specs.declared.Failure.TheVariants.{Args, Scan, File}
+use Rattle.lexkit.specs.declared.errors.GenError.TheVariants as gens
+use Rattle.lexkit.specs.declared.errors.ScanError.TheVariants as scans
+use Rattle.lexkit.specs.declared.faults.Fault.{Fault}
+use Rattle.lexkit.specs.declared.faults.Fault.TheVariants as faults
+
+abbrev pub out_of_memory : Failure
+out_of_memory = Scan (scans.Generate gens.OutOfMemory)
+
+-- the failure is told so
+abbrev pub Tells : Failure → Fault → Type 0
+Tells (Args e) fault = fault ≡ faults.Args e
+Tells (Scan e) fault = fault ≡ faults.Scan e
+Tells (File name) (faults.File told) = told.now ≡ string_bytes name
+Tells (File name) other = ⊥
