@@ -1,29 +1,12 @@
 -- Runs of bytes, and numbers.
-use Rattle.std.proofs.Common.{◌≡◌, ℕ, zero, suc, ◌+◌, ◌-◌, ◌*◌, ◌<◌, ◌≤◌, ◌==◌, min, Bool, true, false, if◌then◌else◌, List, [], ◌∷◌, ◌++◌, length, get_or, take, drop, Option, Some, None, refl, sym, ap, ◌∙◌, arith, append_assoc, append-nil}
-use Rattle.lexmeaning.specs.ByteSets.{is_alpha, is_digit, is_alnum, is_xdigit}
-use Rattle.lexmeaning.specs.Reading.{◌>>=◌, take_up_to, starts_name, goes_on_name, value}
-use Rattle.lexmeaning.specs.Escapes.{is_octal, octal_at, hexadecimal_at, until_quote}
-use Rattle.lexaction.specs.Bytes.{as_byte, escape_at, string_at, string_byte_at}
-use Rattle.std.proofs.lemmas.Bool.{ne_eqb, eq-eqb, ltb-true, ltb-false, le-leb, lt-leb}
-use Rattle.std.specs.Prelude.{◌||◌, nat_lt}
-
--- where the first i bytes pass, and the next one is past the bound, past the end, or does not pass
-pub run_is : (n : ℕ) (test : ℕ → Bool) (t : List ℕ) (i : ℕ) → i ≤ n → i ≤ length t → ((k : ℕ) → k < i → test (get_or t k 0) ≡ true)
-    → ((i < n) → (i < length t) → test (get_or t i 0) ≡ false) → take_up_to n test t ≡ (take i t, drop i t)
-unfolding take_up_to
-run_is zero test t zero below within first last = refl
-run_is zero test t (suc i) below within first last = absurd (omega arith)
-run_is (suc n) test [] zero below within first last = refl
-run_is (suc n) test [] (suc i) below within first last = absurd (omega arith)
-run_is (suc n) test (c ∷ t) zero below within first last = rw (last (omega arith) (omega arith)) refl
-run_is (suc n) test (c ∷ t) (suc i) below within first last =
-    let here : test c ≡ true = first 0 (omega arith) in
-    let rest = run_is n test t i (omega arith) (omega arith) (λ k h. first (suc k) (omega arith)) (λ h k. last (omega arith) (omega arith)) in
-    rw (here, rest) refl
-
-pub cap : (v r d : ℕ) → 1 ≤ r → min 65536 (min 65536 v * r + d) ≡ min 65536 (v * r + d)
-cap v (suc r) d h = grind arith
-cap v zero d h = absurd (omega arith)
+use Rattle.std.proofs.Common.{◌≡◌, ℕ, suc, ◌-◌, ◌<◌, ◌≤◌, ◌==◌, Bool, true, false, List, [], ◌∷◌, ◌++◌, length, Option, Some, None, refl, sym, ap, ◌∙◌, arith, append_assoc, append-nil}
+use Rattle.lexmeaning.specs.ByteSets.{is_alpha, is_digit, is_alnum}
+use Rattle.lexmeaning.specs.Reading.{◌>>=◌, take_up_to, take_run, starts_name, goes_on_name}
+use Rattle.lexmeaning.specs.Escapes.{until_quote}
+use Rattle.lexclass.proofs.QuoteLaws.{take_up_to_within}
+use Rattle.lexaction.specs.Bytes.{string_at, string_byte_at}
+use Rattle.std.proofs.lemmas.Bool.{ne_eqb}
+use Rattle.std.specs.Prelude.{◌||◌}
 
 -- the bytes come before those that are read
 abbrev pub with_front : List ℕ → Option (List ℕ × List ℕ) → Option (List ℕ × List ℕ)
@@ -85,19 +68,6 @@ unfolding until_quote
 string_open text front [] so e = sym so.same
 string_open text front (c ∷ t) so e = absurd (omega arith)
 
--- where the first byte passes, a run has it
-run_moves : (n : ℕ) (test : ℕ → Bool) (t a b : List ℕ) (c : ℕ) (u : List ℕ) → take_up_to n test t ≡ (a, b) → t ≡ c ∷ u → test c ≡ true → 0 < n → 0 < length a
-unfolding take_up_to
-run_moves zero test t a b c u run e pass some = absurd (omega arith)
-run_moves (suc n) test [] a b c u run e pass some = absurd (omega (arith, ap length e))
-run_moves (suc n) test (d ∷ t) a b c u run e pass some =
-    let same : d ≡ c = cc in
-    let here : test d ≡ true = ap test same ∙ pass in
-    let is : take_up_to (suc n) test (d ∷ t) ≡ (d ∷ (take_up_to n test t).0, (take_up_to n test t).1) = rw here refl in
-    let front : d ∷ (take_up_to n test t).0 ≡ a = ap (λ (x : List ℕ × List ℕ). x.0) (sym is ∙ run) in
-    let long : length a ≡ suc (length (take_up_to n test t).0) = sym (ap length front) in
-    omega arith
-
 -- what may start a name goes on in one
 starts_goes : (c : ℕ) → starts_name c ≡ true → goes_on_name c ≡ true
 unfolding is_alnum
@@ -109,58 +79,17 @@ starts_goes c h = either (is_alpha c) (is_digit c) (c == 95) (c == 45) h
     either false false true e h = refl
     either false false false e h = cc
 
--- a name that starts has a byte
-pub name_moves : (n : ℕ) (t a b : List ℕ) (c : ℕ) (u : List ℕ) → ◌≡◌ {A = List ℕ × List ℕ} (take_up_to n goes_on_name t) (a, b) → t ≡ c ∷ u → starts_name c ≡ true → 0 < n → 0 < length a
-name_moves n t a b c u run e first some = run_moves n goes_on_name t a b c u run e (starts_goes c first) some
+-- what follows a name is shorter
+pub name_shorter : (t a b : List ℕ) (c : ℕ) (u : List ℕ) → ◌≡◌ {A = List ℕ × List ℕ} (take_run goes_on_name t) (a, b) → t ≡ c ∷ u → starts_name c ≡ true → length b < length t
+unfolding take_up_to
+name_shorter [] a b c u run e first = absurd (omega (arith, ap length e))
+name_shorter (d ∷ t) a b c u run e first =
+    let same : d ≡ c = cc in
+    let here : goes_on_name d ≡ true = ap goes_on_name same ∙ starts_goes c first in
+    let is : take_run goes_on_name (d ∷ t) ≡ (d ∷ (take_run goes_on_name t).0, (take_run goes_on_name t).1) = rw here refl in
+    let rest : (take_run goes_on_name t).1 ≡ b = ap (λ (x : List ℕ × List ℕ). x.1) (sym is ∙ run) in
+    omega (arith, ap length rest, take_up_to_within (length t) goes_on_name t)
 
--- Escapes.
-
-abbrev Found : Type 0
-Found = Option (ℕ × List ℕ)
-
-abbrev no_zero : Found → Found
-no_zero o = o >>= λ (n, rest). as_byte n rest
-
-large_none : (n : ℕ) (rest : List ℕ) → 256 ≤ n → ◌≡◌ {A = Found} (as_byte n rest) None
-large_none n rest h = rw (le-leb 1 n (omega arith), lt-leb n 255 (omega arith)) refl
-
--- a number that is cut at 65,536 is as good
-capped_same : (v n : ℕ) (rest : List ℕ) → n ≡ min 65536 v → ◌≡◌ {A = Found} (if nat_lt v 256 then as_byte v rest else None) (as_byte n rest)
-capped_same v n rest e = from (nat_lt v 256) refl
-  where
-    from : (b : Bool) → nat_lt v 256 ≡ b → ◌≡◌ {A = Found} (if b then as_byte v rest else None) (as_byte n rest)
-    from true h = let below : v < 256 = ltb-true v 256 h in let same : v ≡ n = omega arith in ap (λ m. as_byte m rest) same
-    from false h = let over : 256 ≤ v = ltb-false v 256 h in sym (large_none n rest (omega arith))
-
-whole_same : (v : ℕ) (rest : List ℕ) → ◌≡◌ {A = Found} (as_byte v rest) (if nat_lt v 256 then as_byte v rest else None)
-whole_same v rest = from (nat_lt v 256) refl
-  where
-    from : (b : Bool) → nat_lt v 256 ≡ b → ◌≡◌ {A = Found} (as_byte v rest) (if b then as_byte v rest else None)
-    from true h = refl
-    from false h = large_none v rest (ltb-false v 256 h)
-
-octal_byte : (t digits rest : List ℕ) (n : ℕ) → ◌≡◌ {A = List ℕ × List ℕ} (take_up_to 3 is_octal t) (digits, rest) → n ≡ min 65536 (value 8 digits)
-    → ◌≡◌ {A = Found} (no_zero (octal_at t)) (as_byte n rest)
-unfolding octal_at
-octal_byte t digits rest n e f = rw e (from (nat_lt (value 8 digits) 256) ∙ capped_same (value 8 digits) n rest f)
-  where
-    from : (b : Bool) → ◌≡◌ {A = Found} (no_zero (if b then Some (value 8 digits, rest) else None)) (if b then as_byte (value 8 digits) rest else None)
-    from true = refl
-    from false = refl
-
-hexadecimal_byte : (t digits rest : List ℕ) (n : ℕ) → ◌≡◌ {A = List ℕ × List ℕ} (take_up_to 2 is_xdigit t) (digits, rest) → n ≡ min 65536 (value 16 digits)
-    → ◌≡◌ {A = Found} (no_zero (hexadecimal_at t)) (as_byte n rest)
-unfolding hexadecimal_at
-hexadecimal_byte t [] rest n e f = rw (e, f) refl
-hexadecimal_byte t (d ∷ digits) rest n e f =
-    rw e (whole_same (value 16 (d ∷ digits)) rest ∙ capped_same (value 16 (d ∷ digits)) n rest f)
-
-pub octal_escape : (t u digits rest : List ℕ) (c n : ℕ) → t ≡ c ∷ u → is_octal c ≡ true → ◌≡◌ {A = List ℕ × List ℕ} (take_up_to 3 is_octal t) (digits, rest)
-    → n ≡ min 65536 (value 8 digits) → ◌≡◌ {A = Found} (as_byte n rest) (escape_at t)
-unfolding escape_at
-octal_escape t u digits rest c n e pass run f = sym (ap escape_at e ∙ rw pass (ap (λ x. no_zero (octal_at x)) (sym e) ∙ octal_byte t digits rest n run f))
-
-pub hexadecimal_escape : (t u digits rest : List ℕ) (c n : ℕ) → t ≡ c ∷ u → is_octal c ≡ false → c ≡ 120 → ◌≡◌ {A = List ℕ × List ℕ} (take_up_to 2 is_xdigit u) (digits, rest)
-    → n ≡ min 65536 (value 16 digits) → ◌≡◌ {A = Found} (as_byte n rest) (escape_at t)
-unfolding escape_at
-hexadecimal_escape t u digits rest c n e pass x run f = sym (ap escape_at e ∙ rw (pass, eq-eqb c 120 x) (hexadecimal_byte u digits rest n run f))
+-- what follows digits is no longer than the text
+pub digits_within : (t a b : List ℕ) → ◌≡◌ {A = List ℕ × List ℕ} (take_run is_digit t) (a, b) → length b ≤ length t
+digits_within t a b run = omega (arith, ap (λ (x : List ℕ × List ℕ). length x.1) run, take_up_to_within (length t) is_digit t)

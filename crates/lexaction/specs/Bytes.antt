@@ -1,18 +1,10 @@
 -- Bytes, names, numbers and strings of an action.
 use Rattle.std.specs.Prelude.{ℕ, suc, Bool, true, false, ◌||◌, ◌==◌, if◌then◌else◌, List, [], ◌∷◌, length, Option, Some, None, codes}
 use Rattle.std.specs.List.{list_any}
-use Rattle.lexmeaning.specs.ByteSets.{within, is_digit, is_xdigit}
+use Rattle.lexmeaning.specs.ByteSets.{within, is_digit}
 use Rattle.lexmeaning.specs.Reading.{◌>>=◌, Reader, is_empty, take_run, is_white, starts_name, goes_on_name}
 use Rattle.lexmeaning.specs.Escapes.{control, is_octal, octal_at, hexadecimal_at, byte_with, until_quote}
-use Rattle.lexaction.specs.Comments.{Place, outside, slash, block, star, line, after_byte}
-use Rattle.lexaction.specs.declared.bytes.Kind.{Kind}
-use Rattle.lexaction.specs.declared.bytes.Kind.TheVariants.{Name, Decimal, Octal, Hexadecimal}
-
-abbrev pub passes : Kind → ℕ → Bool
-passes Name c = goes_on_name c
-passes Decimal c = is_digit c
-passes Octal c = is_octal c
-passes Hexadecimal c = is_xdigit c
+use Rattle.lexaction.specs.Comments.{Place, outside, slash, block, star, after_byte}
 
 -- a letter or `_`, and letters, digits, `_` and `-`
 unfoldable pub name_at : Reader (List ℕ)

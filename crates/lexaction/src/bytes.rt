@@ -1,27 +1,14 @@
 //! Bytes, names, numbers and strings of an action.
 ghost use Rattle.std.specs.Prelude.{◌≡◌, ◌≤◌, ◌<◌, ◌+◌, suc, length, min, option_map, ◌∷◌, MatchOption, IfSome, IfOk};
-ghost use Rattle.lexmeaning.specs.Reading.{take_up_to, is_white, starts_name, digit_of, value};
-ghost use Rattle.lexaction.specs.Bytes.{passes, name_at, digits_at, skip, skip_in, next, as_byte, plain_escape, escape_at, string_byte_at, string_at, literal_at};
+ghost use Rattle.lexmeaning.specs.Reading.{take_run, is_white, starts_name, goes_on_name};
+ghost use Rattle.lexmeaning.specs.ByteSets.{is_digit};
+ghost use Rattle.lexaction.specs.Bytes.{name_at, digits_at, skip, skip_in, next, as_byte, plain_escape, escape_at, string_byte_at, string_at, literal_at};
 ghost use Rattle.lexaction.specs.Comments.{outside, slash, block, line};
 ghost use Rattle.lexaction.specs.Outcome.{Reads};
 
 use crate::error::ActionError;
+use lexclass::{Class, goes_on_name, hexadecimal_at, octal_at, starts_name, take_up_to};
 use std::alloc::Global;
-
-#[derive(Clone, Copy)]
-pub(crate) enum Kind {
-    Name,
-    Decimal,
-    Octal,
-    Hexadecimal,
-}
-
-#[tactic(auto, unfolding(lexmeaning::specs::ByteSets::is_alpha, lexmeaning::specs::ByteSets::is_upper, lexmeaning::specs::ByteSets::is_lower))]
-fn starts_name(byte: u8) -> bool
-    ensures { result ≡ starts_name byte }
-{
-    byte.is_ascii_alphabetic() || byte == b'_'
-}
 
 #[tactic(auto, unfolding(lexmeaning::specs::ByteSets::is_blank))]
 fn is_white(byte: u8) -> bool
@@ -30,32 +17,18 @@ fn is_white(byte: u8) -> bool
     byte == b'\t' || byte == b' ' || byte == b'\n'
 }
 
-#[tactic(auto, unfolding(lexmeaning::specs::ByteSets::is_alnum, lexmeaning::specs::ByteSets::is_alpha, lexmeaning::specs::ByteSets::is_upper, lexmeaning::specs::ByteSets::is_lower, lexmeaning::specs::ByteSets::is_digit, lexmeaning::specs::ByteSets::is_xdigit))]
-fn passes(kind: Kind, byte: u8) -> bool
-    ensures { result ≡ passes kind byte }
+/// The bytes of a name at the front, and what follows them.
+fn split_name(text: &[u8]) -> (&[u8], &[u8])
+    ensures { take_run goes_on_name text.now ≡ (result.0.now, result.1.now) }
 {
-    match kind {
-        Kind::Name => byte.is_ascii_alphanumeric() || byte == b'_' || byte == b'-',
-        Kind::Decimal => byte.is_ascii_digit(),
-        Kind::Octal => byte >= b'0' && byte <= b'7',
-        Kind::Hexadecimal => {
-            byte.is_ascii_digit()
-                || (byte >= b'A' && byte <= b'F')
-                || (byte >= b'a' && byte <= b'f')
-        }
-    }
+    take_up_to(text.len(), |byte| goes_on_name(byte), text)
 }
 
-/// At most so many bytes at the front that are of the kind, and what follows them.
-fn split_run(text: &[u8], most: usize, kind: Kind) -> (&[u8], &[u8])
-    ensures run { take_up_to most (passes kind) text.now ≡ (result.0.now, result.1.now) }
-    ensures whole { length result.0.now + length result.1.now ≡ length text.now }
+/// The digits at the front, and what follows them.
+fn split_digits(text: &[u8]) -> (&[u8], &[u8])
+    ensures { take_run is_digit text.now ≡ (result.0.now, result.1.now) }
 {
-    let mut end: usize = 0;
-    while end < most && end < text.len() && passes(kind, text[end]) {
-        end += 1;
-    }
-    text.split_at(end)
+    take_up_to(text.len(), |byte| Class::Digit.contains(byte), text)
 }
 
 #[tactic(auto, unfolding(crate::specs::Bytes::name_at))]
@@ -67,7 +40,7 @@ pub(crate) fn name_at(text: &[u8]) -> Option<(&[u8], &[u8])>
     if !starts_name(*first) {
         return None;
     }
-    Some(split_run(text, text.len(), Kind::Name))
+    Some(split_name(text))
 }
 
 #[tactic(auto, unfolding(crate::specs::Bytes::digits_at), using(lexmeaning::proofs::ReadingLaws::empty_test))]
@@ -75,36 +48,11 @@ pub(crate) fn digits_at(text: &[u8]) -> Option<(&[u8], &[u8])>
     ensures digits { option_map (λ x. (x.0.now, x.1.now)) result ≡ digits_at text.now }
     ensures shorter { IfSome result (λ x. length x.1.now ≤ length text.now) }
 {
-    let (digits, rest) = split_run(text, text.len(), Kind::Decimal);
+    let (digits, rest) = split_digits(text);
     if digits.is_empty() {
         return None;
     }
     Some((digits, rest))
-}
-
-#[tactic(auto, unfolding(lexmeaning::specs::ByteSets::is_digit))]
-fn digit_of(byte: u8) -> u32
-    ensures digit { result ≡ digit_of byte }
-    ensures small { result ≤ 24 }
-{
-    if byte.is_ascii_digit() {
-        (byte % 16) as u32
-    } else {
-        (byte % 16) as u32 + 9
-    }
-}
-
-/// The number that the digits write, or 65,536 where that is less.
-pub(crate) fn capped_value(digits: &[u8], radix: u32) -> u32
-    requires least { 1 ≤ radix }
-    requires greatest { radix ≤ 16 }
-    ensures { result ≡ min 65536 (value radix digits.now) }
-{
-    let mut total: u32 = 0;
-    for digit in digits {
-        total = (total * radix + digit_of(*digit)).min(65536);
-    }
-    total
 }
 
 /// What follows the end of a comment between `/*` and `*/`.
@@ -203,15 +151,15 @@ fn plain_escape(byte: u8) -> Option<u8>
     }
 }
 
-/// The byte of a number from 1 to 255, and the rest.
-fn as_byte(value: u32, rest: &[u8]) -> Option<(u8, &[u8])>
-    ensures byte { option_map (λ x. (x.0, x.1.now)) result ≡ as_byte value rest.now }
+/// A byte other than 0, and the rest.
+fn as_byte(byte: u8, rest: &[u8]) -> Option<(u8, &[u8])>
+    ensures byte { option_map (λ x. (x.0, x.1.now)) result ≡ as_byte byte rest.now }
     ensures same { IfSome result (λ x. x.1.now ≡ rest.now) }
 {
-    if value >= 1 && value <= 255 {
-        return Some((value as u8, rest));
+    if byte == 0 {
+        return None;
     }
-    None
+    Some((byte, rest))
 }
 
 /// After a backslash.
@@ -221,16 +169,17 @@ fn escape_at(text: &[u8]) -> Option<(u8, &[u8])>
     ensures shorter { IfSome result (λ x. length x.1.now ≤ length text.now) }
 {
     let (first, after) = text.split_first()?;
-    if passes(Kind::Octal, *first) {
-        let (digits, rest) = split_run(text, 3, Kind::Octal);
-        return as_byte(capped_value(digits, 8), rest);
+    match *first {
+        b'0'..=b'7' => {
+            let (byte, rest) = octal_at(text)?;
+            as_byte(byte, rest)
+        }
+        b'x' => {
+            let (byte, rest) = hexadecimal_at(after)?;
+            as_byte(byte, rest)
+        }
+        other => Some((plain_escape(other)?, after)),
     }
-    if *first == b'x' {
-        let (digits, rest) = split_run(after, 2, Kind::Hexadecimal);
-        return as_byte(capped_value(digits, 16), rest);
-    }
-    let byte = plain_escape(*first)?;
-    Some((byte, after))
 }
 
 /// A byte of a string.

@@ -6,11 +6,12 @@ ghost use Rattle.lexaction.specs.Views.{said_of};
 ghost use Rattle.lexaction.specs.Outcome.{Reads, UnlessMemory};
 ghost use Rattle.lexaction.specs.Calls.{CallReads, ConditionReads, BeginReads};
 
-use crate::bytes::{capped_value, digits_at, literal_at, name_at, next, skip};
+use crate::bytes::{digits_at, literal_at, name_at, next, skip};
 use crate::condition::Condition;
 use crate::error::ActionError;
 use crate::format::parts_of;
 use crate::statement::{Called, Parts, Said, Statement};
+use lexclass::capped_value;
 use std::alloc::Global;
 
 #[tactic(auto, unfolding(crate::specs::Actions::this_word))]
@@ -40,7 +41,7 @@ fn number_argument(text: &[u8]) -> Option<(u32, &[u8])>
     let inside = next(b'(', text)?;
     let (digits, rest) = digits_at(skip(inside))?;
     let after = next(b')', rest)?;
-    Some((capped_value(digits, 10), after))
+    Some((capped_value(10, digits), after))
 }
 
 #[tactic(auto, unfolding(crate::specs::Actions::second_word))]

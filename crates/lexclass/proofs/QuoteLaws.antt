@@ -40,6 +40,18 @@ hexadecimal_within t = go (is_empty (take_up_to 2 is_xdigit t).0)
     go true = tt
     go false = omega (arith, take_up_to_within 2 is_xdigit t)
 
+-- what follows the digits of an escape is no longer than the text
+pub after_octal : (t rest : List ℕ) (b : ℕ) → ◌≡◌ {A = Found} (octal_at t) (Some (b, rest)) → length rest < suc (length t)
+unfolding octal_at
+after_octal t rest b e = let P : Found → Type 0 = λ f. IsShorter (suc (length t)) f in subst P e (go (nat_lt (value 8 (take_up_to 3 (within 48 55) t).0) 256))
+  where
+    go : (b : Bool) → IsShorter (suc (length t)) (if b then Some (value 8 (take_up_to 3 (within 48 55) t).0, (take_up_to 3 (within 48 55) t).1) else None)
+    go true = omega (arith, take_up_to_within 3 (within 48 55) t)
+    go false = tt
+
+pub after_hexadecimal : (t rest : List ℕ) (b : ℕ) → ◌≡◌ {A = Found} (hexadecimal_at t) (Some (b, rest)) → length rest < suc (length t)
+after_hexadecimal t rest b e = let P : Found → Type 0 = λ f. IsShorter (suc (length t)) f in subst P e (hexadecimal_within t)
+
 or_itself : (c : ℕ) (t : List ℕ) (f : Found) → IsShorter (suc (length t)) f → length (unwrap_or f (c, t)).1 < length (c ∷ t)
 or_itself c t None h = omega arith
 or_itself c t (Some x) h = omega (arith, h)

@@ -21,7 +21,8 @@ pub fn escape_at(text: &[u8]) -> Option<(u8, &[u8])>
     }
 }
 
-fn octal_at(text: &[u8]) -> Option<(u8, &[u8])>
+/// The byte of one to three octal digits, as many as stand there, and what follows them. None above 255.
+pub fn octal_at(text: &[u8]) -> Option<(u8, &[u8])>
     ensures { ◌≡◌ {A = Option (ℕ × List ℕ)} (octal_at text.now) (option_map (λ x. (x.0, x.1.now)) result) }
 {
     let (digits, rest) = take_up_to(3, |byte| matches!(byte, b'0'..=b'7'), text);
@@ -29,7 +30,8 @@ fn octal_at(text: &[u8]) -> Option<(u8, &[u8])>
     Some((byte, rest))
 }
 
-fn hexadecimal_at(text: &[u8]) -> Option<(u8, &[u8])>
+/// The byte of one or two hexadecimal digits, as many as stand there, and what follows them. None without one.
+pub fn hexadecimal_at(text: &[u8]) -> Option<(u8, &[u8])>
     ensures { ◌≡◌ {A = Option (ℕ × List ℕ)} (hexadecimal_at text.now) (option_map (λ x. (x.0, x.1.now)) result) }
 {
     let (digits, rest) = take_up_to(2, |byte| Class::Xdigit.contains(byte), text);

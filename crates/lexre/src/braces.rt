@@ -8,22 +8,17 @@ ghost use Rattle.lexclass.specs.Lexical.{bounded, braces_at, interval_at, name_a
 ghost use Rattle.lexclass.specs.Symbols.{interval, name};
 
 use crate::symbols::Symbol;
-use lexclass::{Class, Fault, PatternErrorKind, capped_value, skip_word, take_up_to};
+use lexclass::{
+    Class, Fault, PatternErrorKind, capped_value, goes_on_name, skip_word, starts_name, take_up_to,
+};
 
 /// The letters of a name, after the opening brace, and what follows the closing one.
 pub(crate) fn name_at(text: &[u8]) -> Option<(&[u8], &[u8])>
     ensures { ◌≡◌ {A = Front} (name_at text.now) (option_map (λ x. (name x.0.now, x.1.now)) result) }
 {
-    let (letters, rest) = take_up_to(text.len(), |byte| is_in_name(byte), text);
+    let (letters, rest) = take_up_to(text.len(), |byte| goes_on_name(byte), text);
     let after = skip_word(b"}", rest)?;
     Some((letters, after))
-}
-
-#[tactic(auto, unfolding(lexmeaning::specs::ByteSets::is_alnum))]
-fn is_in_name(byte: u8) -> bool
-    ensures { result ≡ goes_on_name byte }
-{
-    Class::Alnum.contains(byte) || matches!(byte, b'_' | b'-')
 }
 
 /// The least and the greatest count of an interval, after the opening brace, and what follows the closing one.
@@ -86,7 +81,7 @@ pub(crate) fn braces_at<'a>(
     if Class::Digit.contains(byte) {
         let ((least, most), rest) = interval_at(text).ok_or(refused)?;
         Ok((Symbol::Interval(least, most), rest))
-    } else if Class::Alpha.contains(byte) || byte == b'_' {
+    } else if starts_name(byte) {
         let (letters, rest) = name_at(text).ok_or(refused)?;
         Ok((Symbol::Name(letters), rest))
     } else {

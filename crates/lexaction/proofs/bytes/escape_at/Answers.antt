@@ -1,13 +1,16 @@
-use Rattle.std.proofs.Common.{sym, ◌∙◌}
-use Rattle.lexaction.proofs.ByteLemmas.{octal_escape, hexadecimal_escape}
+use Rattle.std.proofs.Common.{◌≡◌, ◌≤◌, suc, length, ap, rules, arith}
+use Rattle.lexclass.proofs.QuoteLaws.{after_octal, after_hexadecimal}
 use Rattle.lexaction.proofs.bytes.escape_at.Goals as goal
 
-pub returns-then-passes-clause-escape : goal.returns-then-passes-clause-escape
-returns-then-passes-clause-escape c =
-    c.as_byte.ensures.byte
-    ∙ octal_escape _ _ _ _ _ _ c.in_ok-first.ensures.cases.0 (sym c.passes.ensures ∙ c.if-passes.true) c.split_run.ensures.run c.capped_value.ensures
+pub returns-in_ok-byte-in-120-clause-shorter : goal.returns-in_ok-byte-in-120-clause-shorter
+returns-in_ok-byte-in-120-clause-shorter c =
+    let less = after_hexadecimal _ _ _ c.in_ok-byte-in-120.ensures in
+    let text : length c.args.text.now ≡ suc (length c.in_ok-first.after.now) = ap length c.in_ok-first.ensures.cases.0 in
+    let within : length c.in_ok-byte-in-120.rest.now ≤ length c.args.text.now = omega (arith, less, text) in
+    search rules
 
-pub returns-then-first-eq120-clause-escape : goal.returns-then-first-eq120-clause-escape
-returns-then-first-eq120-clause-escape c =
-    c.as_byte-then-first-eq120.ensures.byte
-    ∙ hexadecimal_escape _ _ _ _ _ _ c.in_ok-first.ensures.cases.0 (sym c.passes.ensures ∙ c.if-passes.false) c.if-first-eq120.true c.split_run-then-first-eq120.ensures.run c.capped_value-then-first-eq120.ensures
+pub returns-in_ok-byte-in-48-to-55-clause-shorter : goal.returns-in_ok-byte-in-48-to-55-clause-shorter
+returns-in_ok-byte-in-48-to-55-clause-shorter c =
+    let less = after_octal _ _ _ c.in_ok-byte-in-48-to-55.ensures in
+    let within : length c.in_ok-byte-in-48-to-55.rest.now ≤ length c.args.text.now = omega (arith, less) in
+    search rules

@@ -1,6 +1,0 @@
-use Rattle.std.proofs.Common.{◌≡◌, min, take}
-use Rattle.lexmeaning.specs.Reading.{value}
-use Rattle.lexaction.proofs.bytes.capped_value.Given as goal
-
-abbrev pub invariant-loop-digit : goal.invariant-loop-digit
-invariant-loop-digit l = l.total ≡ min 65536 (value l.radix (take l.digit-index l.digits))

@@ -1,0 +1,19 @@
+//! The bytes of names. (flex, Format of the Input File.)
+ghost use Rattle.std.specs.Prelude.{◌≡◌};
+ghost use Rattle.lexmeaning.specs.Reading.{goes_on_name, starts_name};
+
+/// Whether a name may begin with the byte: a letter or `_`.
+#[tactic(auto, unfolding(lexmeaning::specs::ByteSets::is_alpha, lexmeaning::specs::ByteSets::is_upper, lexmeaning::specs::ByteSets::is_lower))]
+pub fn starts_name(byte: u8) -> bool
+    ensures { result ≡ starts_name byte }
+{
+    byte.is_ascii_alphabetic() || byte == b'_'
+}
+
+/// Whether a name may go on with the byte: a letter, a digit, `_` or `-`.
+#[tactic(auto, unfolding(lexmeaning::specs::ByteSets::is_alnum, lexmeaning::specs::ByteSets::is_alpha, lexmeaning::specs::ByteSets::is_upper, lexmeaning::specs::ByteSets::is_lower, lexmeaning::specs::ByteSets::is_digit))]
+pub fn goes_on_name(byte: u8) -> bool
+    ensures { result ≡ goes_on_name byte }
+{
+    byte.is_ascii_alphanumeric() || byte == b'_' || byte == b'-'
+}
