@@ -12,7 +12,7 @@ use Rattle.lexspec.specs.EndRules.{end_rule_of}
 use Rattle.lexspec.specs.declared.endings.EndRule.{EndRule as EndRuleKept}
 use Rattle.lexspec.specs.Tests.{ascend_from, sound_list}
 use Rattle.lexspec.specs.Endings.{numbers_kept, clashes, any_clashes}
-use Rattle.lexspec.proofs.OneSection.{no_true}
+use Rattle.lexlines.proofs.OneSection.{no_true}
 
 -- counts
 

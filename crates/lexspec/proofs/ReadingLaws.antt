@@ -7,33 +7,33 @@ use Rattle.std.proofs.lemmas.List.Sums.{sum_by-cons}
 use Rattle.std.proofs.lemmas.Bool.{and_parts, eqb-true}
 use Rattle.lexmeaning.specs.Spec.{Spec}
 use Rattle.lexmeaning.specs.Reading.{begins}
-use Rattle.lexspec.specs.Lines.{without_returns, line_in}
-use Rattle.lexspec.specs.DefinitionLines.{Definition, definition_at, IsUpTo, all_conditions, names_of, has_name, substitutes_of, all_options}
-use Rattle.lexspec.specs.Declaring.{declared_of, AreAllowed}
-use Rattle.lexspec.specs.Items.{AreItems, newlines}
+use Rattle.lexlines.specs.Lines.{without_returns, line_in, newlines}
+use Rattle.lexlines.specs.DefinitionLines.{Definition, definition_at, IsUpTo, all_conditions, names_of, has_name, substitutes_of, all_options}
+use Rattle.lexlines.specs.Declaring.{declared_of, AreAllowed}
+use Rattle.lexspec.specs.Items.{AreItems}
 use Rattle.lexspec.specs.RuleItems.{AreRules}
 use Rattle.lexspec.specs.Files.{AreSingle, conditions_with, SpellsSpec}
 use Rattle.lexspec.specs.ItemReads.{names_in}
 use Rattle.lexspec.specs.RulesReads.{HasRules}
-use Rattle.lexspec.specs.Sections.{HasSection}
+use Rattle.lexlines.specs.Sections.{HasSection}
 use Rattle.lexspec.specs.Readings.{of_sections, SpellsRest}
 use Rattle.lexspec.specs.EndRules.{end_rule_of}
 use Rattle.lexspec.specs.RuleViews.{rule_of}
-use Rattle.lexspec.specs.Outcome.{UnlessMemory}
+use Rattle.lexlines.specs.Outcome.{UnlessMemory}
 use Rattle.lexspec.specs.Tests.{is_sound}
 use Rattle.lexspec.specs.Views.{spec_of}
-use Rattle.lexspec.specs.declared.error.SpecError.{SpecError}
-use Rattle.lexspec.specs.declared.error.SpecErrorKind.{SpecErrorKind}
+use Rattle.lexlines.specs.declared.error.SpecError.{SpecError}
+use Rattle.lexlines.specs.declared.error.SpecErrorKind.{SpecErrorKind}
 use Rattle.lexspec.specs.declared.spec.Spec.{Spec as SpecOfCode}
-use Rattle.lexspec.specs.declared.declarations.Declarations.{Declarations}
+use Rattle.lexlines.specs.declared.declarations.Declarations.{Declarations}
 use Rattle.lexspec.specs.declared.rules_section.RulesSection.{RulesSection}
-use Rattle.lexspec.specs.declared.section.Section.{Section}
-use Rattle.lexspec.proofs.DeclaringLaws.{names_kept}
-use Rattle.lexspec.proofs.OneSection.{separator_ends, one_up_to}
-use Rattle.lexspec.proofs.OutcomeLaws.{unless_memory}
+use Rattle.lexlines.specs.declared.section.Section.{Section}
+use Rattle.lexlines.proofs.DeclaringLaws.{names_kept}
+use Rattle.lexlines.proofs.OneSection.{separator_ends, one_up_to}
+use Rattle.lexlines.proofs.OutcomeLaws.{unless_memory}
 use Rattle.lexspec.proofs.PassLaws.{kept_passes, length_with}
 use Rattle.lexspec.proofs.RestLaws.{newlines_few}
-use Rattle.lexspec.proofs.SectionLaws.{EndsWith, ends_on, definition_ends}
+use Rattle.lexlines.proofs.SectionLaws.{EndsWith, ends_on, definition_ends}
 
 -- without carriage returns
 

@@ -3,7 +3,7 @@ ghost use Rattle.std.specs.Prelude.{◌≡◌, ◌==◌, ◌≤◌, ℕ, true, f
 ghost use Rattle.std.specs.List.{list_any};
 ghost use Rattle.lexspec.specs.Endings.{numbers_kept, clashes, any_clashes};
 ghost use Rattle.lexaction.specs.Views.{condition_of, end_action_of};
-ghost use Rattle.lexspec.specs.Declaring.{declared_of};
+ghost use Rattle.lexlines.specs.Declaring.{declared_of};
 ghost use Rattle.lexspec.specs.Files.{lists_number, unlisted_end as unlisted_end_in, end_in, conditions_with, AreSingle};
 ghost use Rattle.lexspec.specs.EndRules.{end_rule_of};
 ghost use Rattle.lexspec.specs.RuleItems.{EndRule as EndRuleMeant};

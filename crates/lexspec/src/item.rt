@@ -11,16 +11,14 @@ ghost use Rattle.lexspec.specs.RuleViews.{rule_of, cut_of};
 ghost use Rattle.lexspec.specs.SubjectViews.{trailing_of};
 ghost use Rattle.lexspec.specs.ItemReads.{NoRules, NoSides, ReadsItem};
 ghost use Rattle.lexspec.specs.SoundSides.{AreSoundSides, HasSoundFront};
-ghost use Rattle.lexspec.specs.Outcome.{UnlessMemory};
+ghost use Rattle.lexlines.specs.Outcome.{UnlessMemory};
 
 use crate::action_text::split_action;
 use crate::cuts::cut_by;
-use crate::declarations::Declarations;
-use crate::error::SpecErrorKind;
-use crate::lines::skip_blanks;
 use crate::listed::condition_numbers;
 use crate::rule::{Cut, Rule};
 use crate::subject::{Subject, Trailing, conditions_at, subject_at};
+use lexlines::{Declarations, SpecErrorKind, skip_blanks};
 use lexre::{ByteSet, Pattern, PatternError, ReadOptions, read_pattern};
 use std::alloc::Global;
 

@@ -4,8 +4,8 @@ ghost use Rattle.std.specs.Prelude.{◌≡◌, ◌+◌, ◌<◌, ◌^◌, ℕ, L
 ghost use Rattle.lexspec.specs.Items.{Conditions as AskedFor, Subject as SubjectMeant, Trailing as TrailMeant, conditions_at, sides, starts_blank, IsPattern, IsSubject};
 ghost use Rattle.lexspec.specs.SubjectViews.{conditions_of, trailing_of, subject_of};
 
-use crate::error::SpecErrorKind;
-use crate::lines::{is_blank, skip_first, split_before, split_line};
+use lexclass::skip_first;
+use lexlines::{SpecErrorKind, is_blank, split_before, split_line};
 use lexre::{Cutting, PatternError, cut_pattern};
 
 /// The condition list of a rule.
