@@ -5,7 +5,7 @@ use Rattle.std.specs.List.{list_any}
 use Rattle.lexre.specs.Cutting.{IsCutting}
 use Rattle.lexmeaning.specs.ByteSets.{is_word, is_blank}
 use Rattle.lexmeaning.specs.Reading.{◌>>=◌, Reader, after_blanks, begins, is_white}
-use Rattle.lexlines.specs.Lines.{line_in, line_at, after_block, is_all_blank}
+use Rattle.lexlines.specs.Lines.{line_in, line_at, is_all_blank, newlines, after_block}
 
 -- the condition list: none, `<*>`, or names
 pub data Conditions : Type 0 where
