@@ -1,5 +1,5 @@
 //! What the definitions section declares. (POSIX, lex, Definitions in lex; flex, Start Conditions and Options.)
-ghost use Rattle.std.specs.Prelude.{◌≡◌, ℕ, ◌≤◌, ◌<◌, ◌+◌, ◌^◌, ◌||◌, Bool, List, [], ◌∷◌, ◌++◌, map, length, codes, is_some, IfOk, IfErr, IfSome, OnOk};
+ghost use Rattle.std.specs.Prelude.{◌≡◌, ◌≤◌, ◌<◌, ◌+◌, ◌^◌, ◌||◌, Bool, List, [], ◌∷◌, ◌++◌, map, length, codes, is_some, IfOk, IfErr, IfSome, OnOk};
 ghost use Rattle.lexaction.specs.Names.{number_from, names_of};
 ghost use Rattle.lexlines.specs.Lines.{words};
 ghost use Rattle.lexlines.specs.DefinitionLines.{Definition as Meant, has_name, known_options, are_known, Declared};

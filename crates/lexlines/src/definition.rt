@@ -1,5 +1,5 @@
 //! The lines of the definitions section. (POSIX, lex, Definitions in lex; flex, Format of the Input File.)
-ghost use Rattle.std.specs.Prelude.{◌≡◌, ◌<◌, ◌≤◌, ◌&&◌, ◌==◌, if◌then◌else◌, Bool, List, [], ◌∷◌, ℕ, Option, Some, None, length, option_map, IfOk, IfSome, OnErr, MatchOption, codes};
+ghost use Rattle.std.specs.Prelude.{◌≡◌, ◌<◌, ◌&&◌, ◌==◌, if◌then◌else◌, List, [], ◌∷◌, ℕ, Option, Some, None, length, option_map, IfOk, OnErr, codes};
 ghost use Rattle.std.specs.List.{list_any};
 ghost use Rattle.lexlines.specs.Lines.{words};
 ghost use Rattle.lexlines.specs.DefinitionLines.{Definition as Meant, options, ignored, is_name, are_names, trimmed, ends_anchored, declaration, number, definition_in, percent_line, definition_at};

@@ -94,6 +94,12 @@ pub struct SpecError {
     pub kind: SpecErrorKind,
 }
 
+/// Want of memory, told of the whole file.
+const OUT_OF_MEMORY: SpecError = SpecError {
+    line: 0,
+    kind: SpecErrorKind::OutOfMemory,
+};
+
 impl From<AllocError> for SpecErrorKind {
     ghost from_gives = { λ _ e. e ≡ OutOfMemory };
 
@@ -114,10 +120,7 @@ impl From<AllocError> for SpecError {
     ghost from_gives = { λ _ e. e ≡ record { line = 0; kind = OutOfMemory } };
 
     fn from(_error: AllocError) -> SpecError {
-        SpecError {
-            line: 0,
-            kind: SpecErrorKind::OutOfMemory,
-        }
+        OUT_OF_MEMORY
     }
 }
 
@@ -125,9 +128,6 @@ impl<T: Drop> From<AllocFailed<T>> for SpecError {
     ghost from_gives = { λ _ e. e ≡ record { line = 0; kind = OutOfMemory } };
 
     fn from(_error: AllocFailed<T>) -> SpecError {
-        SpecError {
-            line: 0,
-            kind: SpecErrorKind::OutOfMemory,
-        }
+        OUT_OF_MEMORY
     }
 }

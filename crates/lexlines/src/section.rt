@@ -2,8 +2,7 @@
 ghost use Rattle.std.specs.Prelude.{◌≡◌, ℕ, ◌≤◌, ◌+◌, true, List, length, codes, IfOk, IfErr};
 ghost use Rattle.lexmeaning.specs.Reading.{begins};
 ghost use Rattle.lexlines.specs.DefinitionLines.{Definition as Meant, definition_at, IsUpTo};
-ghost use Rattle.lexlines.specs.Lines.{newlines};
-ghost use Rattle.lexlines.specs.Declaring.{AreAllowed, Declares};
+ghost use Rattle.lexlines.specs.Declaring.{AreAllowed};
 ghost use Rattle.lexlines.specs.Sections.{HasSection, kind_told};
 ghost use Rattle.lexlines.specs.Outcome.{UnlessMemory};
 

@@ -1,5 +1,5 @@
 //! Blocks and comments, which are skipped. (flex, Format of the Input File.)
-ghost use Rattle.std.specs.Prelude.{◌≡◌, ℕ, suc, ◌≤◌, length, option_map, IfSome};
+ghost use Rattle.std.specs.Prelude.{◌≡◌, suc, ◌≤◌, length, option_map, IfSome};
 ghost use Rattle.lexlines.specs.Lines.{after_block, after_comment};
 
 use crate::lines::split_line;

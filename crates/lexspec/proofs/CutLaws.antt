@@ -26,23 +26,11 @@ one_longest L (Some m) (Some n) a b =
     let same : m ≡ n = omega (arith, a.0.2, b.0.2) in
     ap Some same
 
--- lengths that pass the limit are not fixed
-pub too_long : (t : Tree) → PassesLimit t → (n : ℕ) → HasFixed t n → ⊥
-too_long t (m, g, has, inl big) n (fixed, few) = let same : m ≡ n = one_least (In t) m n g (Some n) has fixed in omega arith
-too_long t (m, None, has, inr big) n (fixed, few) = absurd big
-too_long t (m, Some k, has, inr big) n (fixed, few) = from k n (one_longest (In t) (Some k) (Some n) has.longest fixed.longest) big few
-  where
-    from : (k n : ℕ) → Some k ≡ Some n → 2 ^ 32 ≤ k → n ≤ 65535 → ⊥
-    from k n e big few = let same : k ≡ n = cc in omega arith
-
 -- lengths that differ are not fixed
 pub not_fixed : (t : Tree) (m : ℕ) (g : Option ℕ) → HasLengths (In t) m g → (g ≡ Some m → ⊥) → (n : ℕ) → HasFixed t n → ⊥
 not_fixed t m g has differ n (fixed, few) =
     let same : m ≡ n = one_least (In t) m n g (Some n) has fixed in
     differ (one_longest (In t) g (Some n) has.longest fixed.longest ∙ ap Some (sym same))
-
-pub too_many : (t : Tree) (m : ℕ) (g : Option ℕ) → HasLengths (In t) m g → 65535 < m → (n : ℕ) → HasFixed t n → ⊥
-too_many t m g has big n (fixed, few) = let same : m ≡ n = one_least (In t) m n g (Some n) has fixed in omega arith
 
 -- a fixed length passes the test
 fixed_is_tested : (t : Tree) (n : ℕ) → IsSoundTree t → HasFixed t n → (has_length t n && nat_le n 65535) ≡ true

@@ -180,9 +180,6 @@ clash_found xs i x ns lt is h =
 pub clash_past : (xs : List EndRuleKept) (i : ℕ) (ns : Option (List ℕ)) → length xs ≤ i → any_clashes (map end_rule_of (drop i xs)) ns ≡ false
 clash_past xs i ns le = ap (λ z. any_clashes (map end_rule_of z) ns) (drop_all i xs le)
 
-pub taken_next : (xs : List EndRuleKept) (i : ℕ) (x : EndRuleKept) → i < length xs → x ≡ get_or xs i x → map end_rule_of (take (i + 1) xs) ≡ map end_rule_of (take i xs) ++ end_rule_of x ∷ []
-taken_next xs i x lt is = ap (map end_rule_of) (take_more xs i x lt) ∙ map-append end_rule_of (take i xs) (get_or xs i x ∷ []) ∙ ap (λ y. map end_rule_of (take i xs) ++ end_rule_of y ∷ []) (sym is)
-
 -- a list of numbers that was read is in order
 numbers_ascend : (k n : ℕ) (test : ℕ → Bool) → ascend_from k (k + n) (numbers_from k n test) ≡ true
 numbers_ascend k zero test = refl

@@ -50,9 +50,6 @@ told_unless AK.TooLong P Q f h = f h
 
 -- an action is a bar, or its text
 
-is_bar : List ℕ → Bool
-is_bar a = begins (codes "|") a && is_all_blank (drop 1 a)
-
 pub action_bar : (a : List ℕ) (b : Bool) → b ≡ (begins (codes "|") a && is_all_blank (drop 1 a)) → b ≡ true → action_of a ≡ bar
 action_bar a b e h = ap (λ z. if z then bar else spelled a) (sym e ∙ h)
 

@@ -80,12 +80,6 @@ rest_short fold t s h = let (front, e) = up_to_ends t h.definitions s.rest.now h
 count_is : (fold : Bool) (t : List ℕ) (s : Section) (h : HasSection fold t s) → length s.declarations.conditions.items ≡ length (all_conditions h.definitions)
 count_is fold t s h = sym (length-map s.declarations.conditions.items declared_of) ∙ ap length h.declares.conditions
 
-pub conditions_some : (fold : Bool) (t : List ℕ) (s : Section) → HasSection fold t s → 1 ≤ length s.declarations.conditions.items
-conditions_some fold t s h = omega (arith, count_is fold t s h)
-
-pub conditions_few : (fold : Bool) (t : List ℕ) (s : Section) → HasSection fold t s → length s.declarations.conditions.items ≤ 255
-conditions_few fold t s h = let few = h.allowed.0.1 in omega (arith, count_is fold t s h)
-
 pub line_few : (fold : Bool) (t : List ℕ) (s : Section) → HasSection fold t s → s.line ≤ 1 + length t
 line_few fold t s h = omega (arith, h.line, newlines_few t)
 
@@ -94,17 +88,6 @@ line_few fold t s h = omega (arith, h.line, newlines_few t)
 pub sections_pass : (d : Declarations) (n : ℕ) (t : List ℕ) (x : RulesSection) → 1 ≤ length d.conditions.items → length d.conditions.items ≤ 255 → HasRules d n t x → is_sound (of_sections d x) ≡ true
 sections_pass d n t x some few h =
     kept_passes d d.fold d.defs h.items (map rule_of x.rules.items) (map end_rule_of x.ends.items) _ some few (subst (λ z. z ≤ 4096) (sym (length-map x.rules.items rule_of)) h.few) h.are h.sound refl
-
-pub rest_spelled : (s : Section) (x : RulesSection) (S : Spec) → HasRules s.declarations (s.line + 1) (line_in s.rest.now).1 x → S ≡ of_sections s.declarations x → SpellsRest s S
-rest_spelled s x S h e = subst (SpellsRest s) (sym e) (record {
-  items = h.items;
-  here = h.here;
-  ends = map end_rule_of x.ends.items;
-  are = h.are;
-  one_end = h.single;
-  conditions = refl;
-  few_rules = subst (λ z. z ≤ 4096) (sym (length-map x.rules.items rule_of)) h.few;
-})
 
 -- both
 

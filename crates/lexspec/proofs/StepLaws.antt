@@ -36,9 +36,6 @@ kept c t (Some x) h = each_some (λ (y : Split). EndsWith t y.1) (c ∷ x.0, x.1
 stopped : (t : List ℕ) → Ends t (Some ([], t))
 stopped t = each_some (λ (x : Split). EndsWith t x.1) ([], t) ([], refl)
 
-nothing : (t : List ℕ) → Ends t None
-nothing t = each_none (λ (x : Split). EndsWith t x.1)
-
 either : (t : List ℕ) (b : Bool) (x y : Option Split) → Ends t x → Ends t y → Ends t (if b then x else y)
 either t b x y h k = each_if (λ (z : Split). EndsWith t z.1) b x y h k
 

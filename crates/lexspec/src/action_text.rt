@@ -1,5 +1,5 @@
 //! Where the action of a rule ends. (POSIX, lex, Rules in lex.)
-ghost use Rattle.std.specs.Prelude.{◌≡◌, ◌+◌, ◌<◌, ◌≤◌, ◌^◌, ◌&&◌, ◌==◌, if◌then◌else◌, ℕ, List, [], ◌∷◌, Option, Some, None, option_map, length, drop, codes, IfSome};
+ghost use Rattle.std.specs.Prelude.{◌≡◌, ◌+◌, ◌<◌, ◌^◌, ◌&&◌, ◌==◌, if◌then◌else◌, ℕ, List, [], Option, Some, None, option_map, drop, codes};
 ghost use Rattle.lexmeaning.specs.Reading.{begins};
 ghost use Rattle.lexlines.specs.Lines.{is_all_blank};
 ghost use Rattle.lexspec.specs.Items.{action_in, outside, slash};

@@ -1,5 +1,5 @@
 //! The rules of a file, but for their actions. (POSIX, lex, Rules in lex; flex, Patterns, End-of-File Rules.)
-ghost use Rattle.std.specs.Prelude.{◌≡◌, ℕ, ◌≤◌, true, List, [], length, Option, Some, None, option_map, IfOk, IfErr, IfSome, OnErr};
+ghost use Rattle.std.specs.Prelude.{◌≡◌, ℕ, ◌≤◌, true, List, length, Option, Some, None, option_map, IfOk, IfErr, IfSome, OnErr};
 ghost use Rattle.lexmeaning.specs.Tree.{Tree};
 ghost use Rattle.lexmeaning.specs.Shapes.{IsSoundTree};
 ghost use Rattle.lexre.specs.Views.{tree_of};
@@ -7,7 +7,7 @@ ghost use Rattle.lexre.specs.Spelling.{Spells};
 ghost use Rattle.lexmeaning.specs.Reading.{after_blanks};
 ghost use Rattle.lexspec.specs.Items.{starts_rule, action_in, outside};
 ghost use Rattle.lexspec.specs.RuleItems.{IsTrail, IsCutOf};
-ghost use Rattle.lexspec.specs.RuleViews.{rule_of, cut_of};
+ghost use Rattle.lexspec.specs.RuleViews.{cut_of};
 ghost use Rattle.lexspec.specs.SubjectViews.{trailing_of};
 ghost use Rattle.lexspec.specs.ItemReads.{NoRules, NoSides, ReadsItem};
 ghost use Rattle.lexspec.specs.SoundSides.{AreSoundSides, HasSoundFront};

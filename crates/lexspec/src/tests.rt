@@ -155,7 +155,11 @@ fn lines_of_faults(rt: HostRuntime) {
             7,
             SpecErrorKind::VariableTrailing,
         ),
-        ("\r\n\nD a\r\nfoo\r\n%%\n", 4, SpecErrorKind::BadDefinitionLine),
+        (
+            "\r\n\nD a\r\nfoo\r\n%%\n",
+            4,
+            SpecErrorKind::BadDefinitionLine,
+        ),
     ];
     for (text, line, kind) in rows {
         assert_eq!(rt; rules_or_fault(alloc, text), Err((line, kind)));
