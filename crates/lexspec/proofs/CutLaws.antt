@@ -1,11 +1,11 @@
 -- Sides of fixed length.
-use Rattle.std.proofs.Common.{◌≡◌, ℕ, ◌<◌, ◌≤◌, ◌==◌, ◌&&◌, ◌^◌, Bool, true, length, Option, Some, None, refl, sym, ap, ◌∙◌, inl, inr, arith, rules}
+use Rattle.std.proofs.Common.{◌≡◌, ℕ, ◌≤◌, ◌==◌, ◌&&◌, Bool, true, length, Option, Some, None, refl, sym, ap, ◌∙◌, arith, rules}
 use Rattle.std.specs.Prelude.{IfSome, IfNone, nat_le}
 use Rattle.std.proofs.lemmas.Bool.{and_from, eq-eqb}
 use Rattle.lexmeaning.specs.Shapes.{Language, LongestIs, HasLengths, IsSoundTree}
 use Rattle.lexmeaning.specs.Tree.{Tree, In}
 use Rattle.lexmeaning.specs.Spec.{Cut, Whole, Head, Trail}
-use Rattle.lexre.specs.Lengths.{least, greatest, PassesLimit}
+use Rattle.lexre.specs.Lengths.{least, greatest}
 use Rattle.lexre.proofs.LengthLaws.{has_lengths}
 use Rattle.lexspec.specs.RuleItems.{HasFixed, IsCutOf, is_number}
 use Rattle.lexspec.specs.Tests.{has_length, cut_fits}
