@@ -1,7 +1,7 @@
 -- The words of a refusal.
 use Rattle.std.proofs.Common.{◌≡◌, refl, []}
-use Rattle.lexspec.specs.declared.error.SpecErrorKind.{SpecErrorKind}
-use Rattle.lexspec.specs.declared.error.SpecErrorKind.TheVariants as kinds
+use Rattle.lexlines.specs.declared.error.SpecErrorKind.{SpecErrorKind}
+use Rattle.lexlines.specs.declared.error.SpecErrorKind.TheVariants as kinds
 use Rattle.lexclass.specs.declared.error.PatternError.{PatternError}
 use Rattle.lexkit.specs.Faults.{place_words}
 

@@ -6,9 +6,9 @@ use Rattle.lexclass.specs.Lexical.{symbol_at}
 use Rattle.lexre.proofs.CuttingLaws.{one_cutting}
 use Rattle.lexre.proofs.OneTree.{one_tree}
 use Rattle.lexspec.specs.Files.{SpellsSpec}
-use Rattle.lexspec.specs.Outcome.{UnlessMemory}
-use Rattle.lexspec.specs.declared.error.SpecErrorKind.{SpecErrorKind}
-use Rattle.lexspec.specs.declared.error.SpecErrorKind.TheVariants.{UnsupportedOption}
+use Rattle.lexlines.specs.Outcome.{UnlessMemory}
+use Rattle.lexlines.specs.declared.error.SpecErrorKind.{SpecErrorKind}
+use Rattle.lexlines.specs.declared.error.SpecErrorKind.TheVariants.{UnsupportedOption}
 use Rattle.lexspec.proofs.OneSpec.{one_specification}
 
 pub one_spec : (fold : Bool) (text : List ℕ) (S T : Spec) → SpellsSpec fold text S → SpellsSpec fold text T → S ≡ T

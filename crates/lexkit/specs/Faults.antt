@@ -6,9 +6,9 @@ use Rattle.lexkit.specs.declared.args.ArgsError.{ArgsError}
 use Rattle.lexkit.specs.declared.args.ArgsError.TheVariants as args
 use Rattle.lexclass.specs.declared.error.PatternErrorKind.{PatternErrorKind}
 use Rattle.lexclass.specs.declared.error.PatternErrorKind.TheVariants as patterns
-use Rattle.lexspec.specs.declared.error.SpecErrorKind.{SpecErrorKind}
-use Rattle.lexspec.specs.declared.error.SpecErrorKind.TheVariants as kinds
-use Rattle.lexspec.specs.declared.error.SpecError.{SpecError}
+use Rattle.lexlines.specs.declared.error.SpecErrorKind.{SpecErrorKind}
+use Rattle.lexlines.specs.declared.error.SpecErrorKind.TheVariants as kinds
+use Rattle.lexlines.specs.declared.error.SpecError.{SpecError}
 use Rattle.lexkit.specs.declared.errors.GenError.{GenError}
 use Rattle.lexkit.specs.declared.errors.GenError.TheVariants as gens
 use Rattle.lexkit.specs.declared.errors.RunError.{RunError}

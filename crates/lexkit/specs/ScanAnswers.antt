@@ -1,7 +1,7 @@
 -- What the answer of a scan by a specification's text tells.
 use Rattle.std.specs.Prelude.{ℕ, Bool, List, Result, Ok, Err, Option, Some, None, ⊤}
 use Rattle.lexmeaning.specs.Spec.{Spec}
-use Rattle.lexspec.specs.Outcome.{UnlessMemory}
+use Rattle.lexlines.specs.Outcome.{UnlessMemory}
 use Rattle.lexspec.specs.Files.{SpellsSpec}
 use Rattle.lexkit.specs.Simple.{IsUnrun}
 use Rattle.lexkit.specs.declared.errors.GenError.TheVariants as generates

@@ -3,8 +3,8 @@
 use Rattle.std.specs.Prelude.{◌≡◌, ℕ, Bool, true, false, not, ◌&&◌, ◌==◌, if◌then◌else◌, List, [], ◌∷◌, length, slice_get}
 use Rattle.std.specs.Option.{is_some}
 use Rattle.std.specs.List.{list_all}
-use Rattle.lexspec.specs.declared.error.SpecError.{SpecError}
-use Rattle.lexspec.specs.declared.error.SpecErrorKind.TheVariants.{UnsupportedOption}
+use Rattle.lexlines.specs.declared.error.SpecError.{SpecError}
+use Rattle.lexlines.specs.declared.error.SpecErrorKind.TheVariants.{UnsupportedOption}
 use Rattle.lexspec.specs.Tests.{is_whole}
 use Rattle.lexmeaning.specs.Active.{is_inclusive}
 use Rattle.lexmeaning.specs.Spec.{Spec, Rule, Condition, Statement, Echo, Print}

@@ -7,7 +7,7 @@ ghost use Rattle.lexkit.specs.Turns.{run_write_faults};
 ghost use Rattle.lexkit.specs.Reads.{run_read_faults, Scans};
 ghost use Rattle.lexkit.specs.ScanAnswers.{run_of, RefusedRightly};
 ghost use Rattle.lexspec.specs.Files.{SpellsSpec};
-ghost use Rattle.lexspec.specs.Outcome.{UnlessMemory};
+ghost use Rattle.lexlines.specs.Outcome.{UnlessMemory};
 ghost use Rattle.lexkit.specs.ScanCounts.{read_fault_count, write_fault_count};
 
 use crate::errors::{GenError, RunError, ScanError};

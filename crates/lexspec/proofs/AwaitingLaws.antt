@@ -11,11 +11,11 @@ use Rattle.lexspec.specs.Keeping.{HasRoom}
 use Rattle.lexspec.specs.EndOpenings.{opens_end, begins_end}
 use Rattle.lexspec.specs.RuleViews.{rule_of}
 use Rattle.lexspec.specs.ItemReads.{names_in, ReadsFront, NoneLeft}
-use Rattle.lexspec.specs.declared.declarations.Declarations.{Declarations}
+use Rattle.lexlines.specs.declared.declarations.Declarations.{Declarations}
 use Rattle.lexspec.specs.declared.item.Front.{Front}
 use Rattle.lexspec.specs.declared.item.Front.TheVariants as F
 use Rattle.lexspec.specs.declared.taking.Progress.{Progress}
-use Rattle.lexspec.proofs.OneSection.{no_true, two_percents}
+use Rattle.lexlines.proofs.OneSection.{no_true, two_percents}
 use Rattle.lexspec.proofs.OneItems.{both_ways, AllBlank, StartsBlank, OpensBlock, tests_of, rule_tests, not_caret}
 use Rattle.lexspec.proofs.RulesLaws.{ActsAs, invert}
 

@@ -1,11 +1,11 @@
 -- Sides of fixed length.
-use Rattle.std.proofs.Common.{◌≡◌, ℕ, ◌<◌, ◌≤◌, ◌==◌, ◌&&◌, ◌^◌, Bool, true, length, Option, Some, None, refl, sym, ap, ◌∙◌, inl, inr, arith, rules}
+use Rattle.std.proofs.Common.{◌≡◌, ℕ, ◌≤◌, ◌==◌, ◌&&◌, Bool, true, length, Option, Some, None, refl, sym, ap, ◌∙◌, arith, rules}
 use Rattle.std.specs.Prelude.{IfSome, IfNone, nat_le}
 use Rattle.std.proofs.lemmas.Bool.{and_from, eq-eqb}
 use Rattle.lexmeaning.specs.Shapes.{Language, LongestIs, HasLengths, IsSoundTree}
 use Rattle.lexmeaning.specs.Tree.{Tree, In}
 use Rattle.lexmeaning.specs.Spec.{Cut, Whole, Head, Trail}
-use Rattle.lexre.specs.Lengths.{least, greatest, PassesLimit}
+use Rattle.lexre.specs.Lengths.{least, greatest}
 use Rattle.lexre.proofs.LengthLaws.{has_lengths}
 use Rattle.lexspec.specs.RuleItems.{HasFixed, IsCutOf, is_number}
 use Rattle.lexspec.specs.Tests.{has_length, cut_fits}
@@ -26,23 +26,11 @@ one_longest L (Some m) (Some n) a b =
     let same : m ≡ n = omega (arith, a.0.2, b.0.2) in
     ap Some same
 
--- lengths that pass the limit are not fixed
-pub too_long : (t : Tree) → PassesLimit t → (n : ℕ) → HasFixed t n → ⊥
-too_long t (m, g, has, inl big) n (fixed, few) = let same : m ≡ n = one_least (In t) m n g (Some n) has fixed in omega arith
-too_long t (m, None, has, inr big) n (fixed, few) = absurd big
-too_long t (m, Some k, has, inr big) n (fixed, few) = from k n (one_longest (In t) (Some k) (Some n) has.longest fixed.longest) big few
-  where
-    from : (k n : ℕ) → Some k ≡ Some n → 2 ^ 32 ≤ k → n ≤ 65535 → ⊥
-    from k n e big few = let same : k ≡ n = cc in omega arith
-
 -- lengths that differ are not fixed
 pub not_fixed : (t : Tree) (m : ℕ) (g : Option ℕ) → HasLengths (In t) m g → (g ≡ Some m → ⊥) → (n : ℕ) → HasFixed t n → ⊥
 not_fixed t m g has differ n (fixed, few) =
     let same : m ≡ n = one_least (In t) m n g (Some n) has fixed in
     differ (one_longest (In t) g (Some n) has.longest fixed.longest ∙ ap Some (sym same))
-
-pub too_many : (t : Tree) (m : ℕ) (g : Option ℕ) → HasLengths (In t) m g → 65535 < m → (n : ℕ) → HasFixed t n → ⊥
-too_many t m g has big n (fixed, few) = let same : m ≡ n = one_least (In t) m n g (Some n) has fixed in omega arith
 
 -- a fixed length passes the test
 fixed_is_tested : (t : Tree) (n : ℕ) → IsSoundTree t → HasFixed t n → (has_length t n && nat_le n 65535) ≡ true

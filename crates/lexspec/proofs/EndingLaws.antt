@@ -1,9 +1,9 @@
 -- `<<EOF>>` rules of which no two name a condition in common.
-use Rattle.std.proofs.Common.{◌≡◌, ℕ, zero, suc, ◌+◌, ◌≤◌, ◌<◌, ◌==◌, ◌||◌, ◌&&◌, Bool, true, false, cond, List, [], ◌∷◌, ◌++◌, map, length, get_or, take, drop, count_by, Option, Some, None, ◌⊎◌, inl, inr, refl, sym, ap, ◌∙◌, arith}
+use Rattle.std.proofs.Common.{◌≡◌, ℕ, zero, suc, ◌+◌, ◌≤◌, ◌<◌, ◌==◌, ◌||◌, ◌&&◌, Bool, true, false, cond, List, [], ◌∷◌, ◌++◌, map, length, get_or, drop, count_by, Option, Some, None, ◌⊎◌, inl, inr, refl, sym, ap, ◌∙◌, arith}
 use Rattle.std.specs.Prelude.{nat_le, nat_lt, if◌then◌else◌}
 use Rattle.std.specs.List.{list_any}
 use Rattle.std.proofs.lemmas.Bool.{and_parts, and_from, or_parts, eqb-true, eq-eqb, leb-true, ltb-true, le-leb, lt-ltb}
-use Rattle.std.proofs.lemmas.List.{drop_more, drop_all, take_more, map-append}
+use Rattle.std.proofs.lemmas.List.{drop_more, drop_all}
 use Rattle.std.proofs.lemmas.List.Sums.{sum_by-cons, sum_by-append}
 use Rattle.lexspec.specs.Files.{lists_number, is_unlisted, AreSingle}
 use Rattle.lexspec.specs.Items.{Conditions, unlisted, every, only}
@@ -13,7 +13,7 @@ use Rattle.lexspec.specs.EndRules.{end_rule_of}
 use Rattle.lexspec.specs.declared.endings.EndRule.{EndRule as EndRuleKept}
 use Rattle.lexspec.specs.Tests.{ascend_from, sound_list}
 use Rattle.lexspec.specs.Endings.{numbers_kept, clashes, any_clashes}
-use Rattle.lexspec.proofs.OneSection.{no_true}
+use Rattle.lexlines.proofs.OneSection.{no_true}
 
 -- counts
 
@@ -180,9 +180,6 @@ clash_found xs i x ns lt is h =
 
 pub clash_past : (xs : List EndRuleKept) (i : ℕ) (ns : Option (List ℕ)) → length xs ≤ i → any_clashes (map end_rule_of (drop i xs)) ns ≡ false
 clash_past xs i ns le = ap (λ z. any_clashes (map end_rule_of z) ns) (drop_all i xs le)
-
-pub taken_next : (xs : List EndRuleKept) (i : ℕ) (x : EndRuleKept) → i < length xs → x ≡ get_or xs i x → map end_rule_of (take (i + 1) xs) ≡ map end_rule_of (take i xs) ++ end_rule_of x ∷ []
-taken_next xs i x lt is = ap (map end_rule_of) (take_more xs i x lt) ∙ map-append end_rule_of (take i xs) (get_or xs i x ∷ []) ∙ ap (λ y. map end_rule_of (take i xs) ++ end_rule_of y ∷ []) (sym is)
 
 -- a list of numbers that was read is in order
 numbers_ascend : (k n : ℕ) (test : ℕ → Bool) → ascend_from k (k + n) (listed test k n) ≡ true

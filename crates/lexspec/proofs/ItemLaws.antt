@@ -15,10 +15,10 @@ use Rattle.lexmeaning.specs.Reading.{after_blanks}
 use Rattle.lexspec.specs.Items.{Conditions, Trailing, Subject, at_end, matching, starts_rule, conditions_at, IsSubject, action_in, outside}
 use Rattle.lexspec.specs.RuleItems.{numbers_of, IsTrail, IsCutOf}
 use Rattle.lexspec.specs.ItemReads.{names_in, NoRules, NoSides, ReadsFront, ReadsItem}
-use Rattle.lexspec.specs.declared.declarations.Declarations.{Declarations}
-use Rattle.lexspec.specs.declared.error.SpecErrorKind.{SpecErrorKind}
-use Rattle.lexspec.specs.Outcome.{UnlessMemory}
-use Rattle.lexspec.proofs.OutcomeLaws.{unless_memory, always}
+use Rattle.lexlines.specs.declared.declarations.Declarations.{Declarations}
+use Rattle.lexlines.specs.declared.error.SpecErrorKind.{SpecErrorKind}
+use Rattle.lexlines.specs.Outcome.{UnlessMemory}
+use Rattle.lexlines.proofs.OutcomeLaws.{unless_memory, always}
 use Rattle.lexspec.proofs.RulesLaws.{no_list, no_numbers, no_subject, no_head, no_action, tree_once}
 use Rattle.lexspec.proofs.OneSpec.{one_trail}
 use Rattle.lexmeaning.specs.Spec.{Cut}

@@ -9,7 +9,7 @@ use Rattle.lexspec.specs.RuleViews.{rule_of}
 use Rattle.lexspec.specs.Keeping.{HasRoom, Keeps}
 use Rattle.lexspec.specs.SoundSides.{HasSoundFront}
 use Rattle.lexmeaning.specs.Sound.{HaveSoundSides}
-use Rattle.lexspec.specs.declared.declarations.Declarations.{Declarations}
+use Rattle.lexlines.specs.declared.declarations.Declarations.{Declarations}
 use Rattle.lexspec.specs.declared.endings.EndRule.{EndRule}
 use Rattle.lexspec.specs.declared.item.Front.TheVariants as F
 use Rattle.lexspec.specs.declared.rule.Rule.{Rule}

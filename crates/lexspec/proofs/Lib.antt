@@ -1,15 +1,6 @@
-pub mod RunLaws
-pub mod SkipLaws
-pub mod TextLaws
 pub mod TestLaws
-pub mod OneSection
 pub mod OneItems
 pub mod OneSpec
-pub mod ComputedLines
-pub mod DeclaringLaws
-pub mod TakingLaws
-pub mod OutcomeLaws
-pub mod SectionLaws
 pub mod ActionLaws
 pub mod SubjectLaws
 pub mod ListedLaws
@@ -27,3 +18,4 @@ pub mod PassLaws
 pub mod SideLaws
 pub mod KeepLaws
 pub mod ReadingLaws
+pub mod ComputedRules

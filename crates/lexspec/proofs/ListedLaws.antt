@@ -4,7 +4,7 @@ use Rattle.std.specs.Prelude.{replicate, slice_set, IfNone}
 use Rattle.std.proofs.lemmas.Bool.{eqb-true, eqb-false}
 use Rattle.std.specs.List.{list_any}
 use Rattle.lexmeaning.specs.Reading.{take_up_to}
-use Rattle.lexspec.specs.Runs.{split_before}
+use Rattle.lexlines.specs.Runs.{split_before}
 use Rattle.lexspec.specs.Items.{parts_at}
 use Rattle.lexspec.specs.RuleItems.{all_numbered, is_number}
 use Rattle.lexmeaning.specs.Text.{listed}

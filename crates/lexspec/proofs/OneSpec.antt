@@ -11,12 +11,12 @@ use Rattle.lexre.specs.Cutting.{IsCutting}
 use Rattle.lexaction.specs.Names.{number_from}
 use Rattle.lexaction.specs.Actions.{SpellsEndAction, end_of}
 use Rattle.lexaction.proofs.OneAction.{one_statements}
-use Rattle.lexspec.specs.Lines.{without_returns, line_in}
-use Rattle.lexspec.specs.DefinitionLines.{definition_at, all_conditions, names_of, has_name, substitutes_of, all_options}
-use Rattle.lexspec.specs.Items.{Conditions, Trailing, no_trail, line_end, pattern_after, at_end, matching, Action, bar, spelled, Item, skipped, skipped_line, skipped_block, rule, newlines, AreItems}
+use Rattle.lexlines.specs.Lines.{without_returns, line_in, newlines}
+use Rattle.lexlines.specs.DefinitionLines.{definition_at, all_conditions, names_of, has_name, substitutes_of, all_options}
+use Rattle.lexspec.specs.Items.{Conditions, Trailing, no_trail, line_end, pattern_after, at_end, matching, Action, bar, spelled, Item, skipped, skipped_line, skipped_block, rule, AreItems}
 use Rattle.lexspec.specs.RuleItems.{HasFixed, IsCutOf, IsTrail, EndRule, IsActionOf, IsRule, AreRules}
 use Rattle.lexspec.specs.Files.{conditions_with, SpellsSpec}
-use Rattle.lexspec.proofs.OneSection.{one_up_to, separator_ends}
+use Rattle.lexlines.proofs.OneSection.{one_up_to, separator_ends}
 use Rattle.lexspec.proofs.OneItems.{one_items}
 
 -- lengths are determined

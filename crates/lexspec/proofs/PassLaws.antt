@@ -11,17 +11,17 @@ use Rattle.lexre.specs.Definitions.{Definitions}
 use Rattle.lexaction.specs.Names.{number_from}
 use Rattle.lexaction.specs.Actions.{are_few, SpellsAction}
 use Rattle.lexaction.proofs.NormalLemmas.{legal_action, end_status}
-use Rattle.lexspec.specs.DefinitionLines.{Declared, names_of}
+use Rattle.lexlines.specs.DefinitionLines.{Declared, names_of}
 use Rattle.lexspec.specs.Files.{lists_number, unlisted_end, end_in, conditions_with}
 use Rattle.lexspec.specs.Items.{Conditions, Trailing, at_end, matching, Action, bar, spelled, Item, skipped, skipped_line, skipped_block, rule}
 use Rattle.lexspec.specs.RuleItems.{EndRule, IsActionOf, IsRule, AreRules}
-use Rattle.lexspec.specs.Declaring.{declared_of}
+use Rattle.lexlines.specs.Declaring.{declared_of}
 use Rattle.lexspec.specs.ItemReads.{names_in}
-use Rattle.lexspec.specs.declared.declarations.Declarations.{Declarations}
+use Rattle.lexlines.specs.declared.declarations.Declarations.{Declarations}
 use Rattle.lexmeaning.specs.Sound.{HaveSoundSides, HasSoundSides}
 use Rattle.lexspec.specs.Tests.{sound_tree, sound_trail, cut_fits, sound_list, legal_action as legal_test, sound_rule, sound_rules, sound_conditions, is_sound}
 use Rattle.lexspec.proofs.CutLaws.{cut_is_tested}
-use Rattle.lexspec.proofs.DeclaringLaws.{names_kept}
+use Rattle.lexlines.proofs.DeclaringLaws.{names_kept}
 use Rattle.lexspec.proofs.EndingLaws.{numbers_ordered}
 use Rattle.lexspec.proofs.TestLaws.{sound_is_tested}
 

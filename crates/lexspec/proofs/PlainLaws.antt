@@ -2,10 +2,10 @@
 use Rattle.std.proofs.Common.{◌≡◌, ℕ, suc, ◌<◌, Bool, true, List, [], ◌∷◌, length, Option, Some, None, sym, ap, ◌∙◌, arith}
 use Rattle.std.specs.Prelude.{codes}
 use Rattle.lexmeaning.specs.Reading.{begins}
-use Rattle.lexspec.specs.Lines.{line_in, after_block}
+use Rattle.lexlines.specs.Lines.{line_in, after_block}
 use Rattle.lexspec.specs.Items.{Item, skipped, skipped_line, skipped_block, rule, IsItem}
 use Rattle.lexspec.proofs.OneItems.{both_ways, AllBlank, StartsBlank, OpensBlock, tests_of, block_tests}
-use Rattle.lexspec.proofs.SkipLaws.{line_shorter, block_same}
+use Rattle.lexlines.proofs.SkipLaws.{line_shorter, block_same}
 
 abbrev Split : Type 0
 Split = List ℕ × List ℕ

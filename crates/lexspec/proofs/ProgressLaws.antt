@@ -11,8 +11,8 @@ use Rattle.lexaction.specs.declared.error.ActionError.{ActionError}
 use Rattle.lexaction.specs.declared.error.ActionError.TheVariants as AK
 use Rattle.lexaction.specs.declared.condition.Condition.{Condition}
 use Rattle.lexmeaning.specs.Reading.{begins}
-use Rattle.lexspec.specs.DefinitionLines.{is_all_blank}
-use Rattle.lexspec.specs.Items.{Action, bar, spelled, at_end, matching, rule, action_of, IsItem, newlines}
+use Rattle.lexspec.specs.Items.{Action, bar, spelled, at_end, matching, rule, action_of, IsItem}
+use Rattle.lexlines.specs.Lines.{newlines, is_all_blank}
 use Rattle.lexspec.specs.RuleItems.{numbers_of, EndRule}
 use Rattle.lexspec.specs.RuleReads.{acting, Left}
 use Rattle.lexspec.specs.RuleViews.{rule_of}
@@ -23,13 +23,13 @@ use Rattle.lexspec.specs.Endings.{numbers_kept}
 use Rattle.lexspec.specs.Files.{AreSingle}
 use Rattle.lexspec.specs.Tests.{sound_list}
 use Rattle.lexspec.specs.ActionFaults.{told_of}
-use Rattle.lexspec.specs.Outcome.{UnlessMemory}
-use Rattle.lexspec.specs.declared.declarations.Declarations.{Declarations}
+use Rattle.lexlines.specs.Outcome.{UnlessMemory}
+use Rattle.lexlines.specs.declared.declarations.Declarations.{Declarations}
 use Rattle.lexspec.specs.declared.item.Front.TheVariants as F
 use Rattle.lexspec.specs.declared.endings.EndRule.{EndRule as EndRuleKept}
 use Rattle.lexspec.specs.declared.rule.Rule.{Rule}
 use Rattle.lexspec.specs.declared.taking.Progress.{Progress}
-use Rattle.lexspec.specs.declared.error.SpecErrorKind.{SpecErrorKind}
+use Rattle.lexlines.specs.declared.error.SpecErrorKind.{SpecErrorKind}
 use Rattle.lexspec.proofs.EndingLaws.{numbers_ordered}
 use Rattle.lexspec.proofs.RulesLaws.{Agree, end_on, agree_end, agree_rule, agree_bar, ActsAs, IsSpelled, acts_of}
 
@@ -49,9 +49,6 @@ told_unless AK.Unclosed P Q f h = f h
 told_unless AK.TooLong P Q f h = f h
 
 -- an action is a bar, or its text
-
-is_bar : List ℕ → Bool
-is_bar a = begins (codes "|") a && is_all_blank (drop 1 a)
 
 pub action_bar : (a : List ℕ) (b : Bool) → b ≡ (begins (codes "|") a && is_all_blank (drop 1 a)) → b ≡ true → action_of a ≡ bar
 action_bar a b e h = ap (λ z. if z then bar else spelled a) (sym e ∙ h)

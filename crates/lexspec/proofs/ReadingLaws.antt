@@ -7,33 +7,33 @@ use Rattle.std.proofs.lemmas.List.Sums.{sum_by-cons}
 use Rattle.std.proofs.lemmas.Bool.{and_parts, eqb-true}
 use Rattle.lexmeaning.specs.Spec.{Spec}
 use Rattle.lexmeaning.specs.Reading.{begins}
-use Rattle.lexspec.specs.Lines.{without_returns, line_in}
-use Rattle.lexspec.specs.DefinitionLines.{Definition, definition_at, IsUpTo, all_conditions, names_of, has_name, substitutes_of, all_options}
-use Rattle.lexspec.specs.Declaring.{declared_of, AreAllowed}
-use Rattle.lexspec.specs.Items.{AreItems, newlines}
+use Rattle.lexlines.specs.Lines.{without_returns, line_in, newlines}
+use Rattle.lexlines.specs.DefinitionLines.{Definition, definition_at, IsUpTo, all_conditions, names_of, has_name, substitutes_of, all_options}
+use Rattle.lexlines.specs.Declaring.{declared_of, AreAllowed}
+use Rattle.lexspec.specs.Items.{AreItems}
 use Rattle.lexspec.specs.RuleItems.{AreRules}
 use Rattle.lexspec.specs.Files.{AreSingle, conditions_with, SpellsSpec}
 use Rattle.lexspec.specs.ItemReads.{names_in}
 use Rattle.lexspec.specs.RulesReads.{HasRules}
-use Rattle.lexspec.specs.Sections.{HasSection}
+use Rattle.lexlines.specs.Sections.{HasSection}
 use Rattle.lexspec.specs.Readings.{of_sections, SpellsRest}
 use Rattle.lexspec.specs.EndRules.{end_rule_of}
 use Rattle.lexspec.specs.RuleViews.{rule_of}
-use Rattle.lexspec.specs.Outcome.{UnlessMemory}
+use Rattle.lexlines.specs.Outcome.{UnlessMemory}
 use Rattle.lexspec.specs.Tests.{is_sound}
 use Rattle.lexspec.specs.Views.{spec_of}
-use Rattle.lexspec.specs.declared.error.SpecError.{SpecError}
-use Rattle.lexspec.specs.declared.error.SpecErrorKind.{SpecErrorKind}
+use Rattle.lexlines.specs.declared.error.SpecError.{SpecError}
+use Rattle.lexlines.specs.declared.error.SpecErrorKind.{SpecErrorKind}
 use Rattle.lexspec.specs.declared.spec.Spec.{Spec as SpecOfCode}
-use Rattle.lexspec.specs.declared.declarations.Declarations.{Declarations}
+use Rattle.lexlines.specs.declared.declarations.Declarations.{Declarations}
 use Rattle.lexspec.specs.declared.rules_section.RulesSection.{RulesSection}
-use Rattle.lexspec.specs.declared.section.Section.{Section}
-use Rattle.lexspec.proofs.DeclaringLaws.{names_kept}
-use Rattle.lexspec.proofs.OneSection.{separator_ends, one_up_to}
-use Rattle.lexspec.proofs.OutcomeLaws.{unless_memory}
+use Rattle.lexlines.specs.declared.section.Section.{Section}
+use Rattle.lexlines.proofs.DeclaringLaws.{names_kept}
+use Rattle.lexlines.proofs.OneSection.{separator_ends, one_up_to}
+use Rattle.lexlines.proofs.OutcomeLaws.{unless_memory}
 use Rattle.lexspec.proofs.PassLaws.{kept_passes, length_with}
 use Rattle.lexspec.proofs.RestLaws.{newlines_few}
-use Rattle.lexspec.proofs.SectionLaws.{EndsWith, ends_on, definition_ends}
+use Rattle.lexlines.proofs.SectionLaws.{EndsWith, ends_on, definition_ends}
 
 -- without carriage returns
 
@@ -80,12 +80,6 @@ rest_short fold t s h = let (front, e) = up_to_ends t h.definitions s.rest.now h
 count_is : (fold : Bool) (t : List ℕ) (s : Section) (h : HasSection fold t s) → length s.declarations.conditions.items ≡ length (all_conditions h.definitions)
 count_is fold t s h = sym (length-map s.declarations.conditions.items declared_of) ∙ ap length h.declares.conditions
 
-pub conditions_some : (fold : Bool) (t : List ℕ) (s : Section) → HasSection fold t s → 1 ≤ length s.declarations.conditions.items
-conditions_some fold t s h = omega (arith, count_is fold t s h)
-
-pub conditions_few : (fold : Bool) (t : List ℕ) (s : Section) → HasSection fold t s → length s.declarations.conditions.items ≤ 255
-conditions_few fold t s h = let few = h.allowed.0.1 in omega (arith, count_is fold t s h)
-
 pub line_few : (fold : Bool) (t : List ℕ) (s : Section) → HasSection fold t s → s.line ≤ 1 + length t
 line_few fold t s h = omega (arith, h.line, newlines_few t)
 
@@ -94,17 +88,6 @@ line_few fold t s h = omega (arith, h.line, newlines_few t)
 pub sections_pass : (d : Declarations) (n : ℕ) (t : List ℕ) (x : RulesSection) → 1 ≤ length d.conditions.items → length d.conditions.items ≤ 255 → HasRules d n t x → is_sound (of_sections d x) ≡ true
 sections_pass d n t x some few h =
     kept_passes d d.fold d.defs h.items (map rule_of x.rules.items) (map end_rule_of x.ends.items) _ some few (subst (λ z. z ≤ 4096) (sym (length-map x.rules.items rule_of)) h.few) h.are h.sound refl
-
-pub rest_spelled : (s : Section) (x : RulesSection) (S : Spec) → HasRules s.declarations (s.line + 1) (line_in s.rest.now).1 x → S ≡ of_sections s.declarations x → SpellsRest s S
-rest_spelled s x S h e = subst (SpellsRest s) (sym e) (record {
-  items = h.items;
-  here = h.here;
-  ends = map end_rule_of x.ends.items;
-  are = h.are;
-  one_end = h.single;
-  conditions = refl;
-  few_rules = subst (λ z. z ≤ 4096) (sym (length-map x.rules.items rule_of)) h.few;
-})
 
 -- both
 

@@ -5,7 +5,8 @@ use Rattle.std.proofs.lemmas.List.{append-nil, length-map}
 use Rattle.std.proofs.lemmas.List.Sums.{count_by-le-length}
 use Rattle.lexmeaning.specs.Spec as S
 use Rattle.lexmeaning.specs.Reading.{begins}
-use Rattle.lexspec.specs.Items.{Item, AreItems, newlines}
+use Rattle.lexspec.specs.Items.{Item, AreItems}
+use Rattle.lexlines.specs.Lines.{newlines}
 use Rattle.lexspec.specs.RuleItems.{EndRule, AreRules}
 use Rattle.lexspec.specs.RuleReads.{Left, may_wait}
 use Rattle.lexspec.specs.RuleViews.{rule_of}
@@ -16,16 +17,16 @@ use Rattle.lexspec.specs.Files.{AreSingle}
 use Rattle.lexspec.specs.Keeping.{Keeps}
 use Rattle.lexmeaning.specs.Sound.{HaveSoundSides}
 use Rattle.lexspec.specs.RulesReads.{HasRules, NoSuchRules}
-use Rattle.lexspec.specs.Outcome.{UnlessMemory}
-use Rattle.lexspec.specs.declared.declarations.Declarations.{Declarations}
-use Rattle.lexspec.specs.declared.error.SpecError.{SpecError}
-use Rattle.lexspec.specs.declared.error.SpecErrorKind.{SpecErrorKind}
+use Rattle.lexlines.specs.Outcome.{UnlessMemory}
+use Rattle.lexlines.specs.declared.declarations.Declarations.{Declarations}
+use Rattle.lexlines.specs.declared.error.SpecError.{SpecError}
+use Rattle.lexlines.specs.declared.error.SpecErrorKind.{SpecErrorKind}
 use Rattle.lexspec.specs.declared.rule.Rule.{Rule}
 use Rattle.lexspec.specs.declared.rules_section.RulesSection.{RulesSection}
 use Rattle.lexspec.specs.declared.taking.Progress.{Progress}
-use Rattle.lexspec.proofs.OneSection.{no_true}
+use Rattle.lexlines.proofs.OneSection.{no_true}
 use Rattle.lexspec.proofs.OneItems.{no_item_at_end}
-use Rattle.lexspec.proofs.OutcomeLaws.{unless_memory, always}
+use Rattle.lexlines.proofs.OutcomeLaws.{unless_memory, always}
 use Rattle.lexspec.proofs.RulesLaws.{agree_first}
 
 -- where the section ends

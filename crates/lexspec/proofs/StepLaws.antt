@@ -2,24 +2,25 @@
 use Rattle.std.proofs.Common.{◌≡◌, ℕ, suc, ◌+◌, ◌-◌, ◌<◌, ◌==◌, ◌&&◌, Bool, true, false, if◌then◌else◌, List, [], ◌∷◌, map, length, take, Option, Some, None, inl, inr, refl, sym, ap, arith, length-append}
 use Rattle.std.specs.Prelude.{codes}
 use Rattle.lexmeaning.specs.Reading.{after_blanks, begins, take_up_to}
-use Rattle.lexspec.specs.Items.{outside, action_in, with_byte, next_place, depth_after, action_of, at_end, matching, Item, skipped, skipped_line, skipped_block, rule, starts_rule, IsItem, AreItems, newlines}
+use Rattle.lexspec.specs.Items.{outside, action_in, with_byte, next_place, depth_after, action_of, at_end, matching, Item, skipped, skipped_line, skipped_block, rule, starts_rule, IsItem, AreItems}
+use Rattle.lexlines.specs.Lines.{newlines}
 use Rattle.lexspec.specs.RuleViews.{rule_of}
 use Rattle.lexspec.specs.ItemReads.{names_in, ReadsFront, ReadsItem, NoRules, NoRulesAfter, NoneLeft}
 use Rattle.lexspec.specs.Agreeing.{Agrees}
 use Rattle.lexspec.specs.PlainViews.{item_of}
-use Rattle.lexspec.specs.Outcome.{UnlessMemory}
-use Rattle.lexspec.specs.declared.declarations.Declarations.{Declarations}
-use Rattle.lexspec.specs.declared.error.SpecErrorKind.{SpecErrorKind}
+use Rattle.lexlines.specs.Outcome.{UnlessMemory}
+use Rattle.lexlines.specs.declared.declarations.Declarations.{Declarations}
+use Rattle.lexlines.specs.declared.error.SpecErrorKind.{SpecErrorKind}
 use Rattle.lexspec.specs.declared.item.Front.{Front}
 use Rattle.lexspec.specs.declared.item.Front.TheVariants as F
 use Rattle.lexspec.specs.declared.item.RuleText.{RuleText}
 use Rattle.lexspec.specs.declared.plain.Plain.{Plain}
 use Rattle.lexspec.specs.declared.plain.Plain.TheVariants.{Blank, Code, Block}
 use Rattle.lexspec.specs.declared.taking.Progress.{Progress}
-use Rattle.lexspec.proofs.OneSection.{no_true, some_pair}
+use Rattle.lexlines.proofs.OneSection.{no_true, some_pair}
 use Rattle.lexspec.proofs.OneItems.{both_ways}
-use Rattle.lexspec.proofs.OutcomeLaws.{unless_memory, always}
-use Rattle.lexspec.proofs.SectionLaws.{EndsWith, ends_on, each_some, each_none, each_if, newlines_front}
+use Rattle.lexlines.proofs.OutcomeLaws.{unless_memory, always}
+use Rattle.lexlines.proofs.SectionLaws.{EndsWith, ends_on, each_some, each_none, each_if, newlines_front}
 use Rattle.lexspec.proofs.EndLaws.{Ends, action_ends, blanks_end, conditions_end, subject_ends, item_ends}
 use Rattle.lexspec.proofs.RulesLaws.{agree_plain, is_plain}
 
@@ -34,9 +35,6 @@ kept c t (Some x) h = each_some (λ (y : Split). EndsWith t y.1) (c ∷ x.0, x.1
 
 stopped : (t : List ℕ) → Ends t (Some ([], t))
 stopped t = each_some (λ (x : Split). EndsWith t x.1) ([], t) ([], refl)
-
-nothing : (t : List ℕ) → Ends t None
-nothing t = each_none (λ (x : Split). EndsWith t x.1)
 
 either : (t : List ℕ) (b : Bool) (x y : Option Split) → Ends t x → Ends t y → Ends t (if b then x else y)
 either t b x y h k = each_if (λ (z : Split). EndsWith t z.1) b x y h k

@@ -3,12 +3,12 @@ use Rattle.std.proofs.Common.{◌≡◌, ℕ, zero, suc, ◌+◌, ◌-◌, ◌==
 use Rattle.std.specs.Prelude.{codes}
 use Rattle.lexmeaning.specs.ByteSets.{is_word}
 use Rattle.lexmeaning.specs.Reading.{◌>>=◌, begins, take_up_to}
-use Rattle.lexspec.specs.Lines.{line_in}
-use Rattle.lexspec.specs.Runs.{split_before}
+use Rattle.lexlines.specs.Lines.{line_in}
+use Rattle.lexlines.specs.Runs.{split_before}
 use Rattle.lexre.specs.Cutting.{IsCutting}
 use Rattle.lexre.proofs.CuttingLaws.{one_cutting}
 use Rattle.lexspec.specs.Items.{Conditions, unlisted, every, only, parts_at, before_sign, conditions_at, Trailing, pattern_after, sides, Subject, at_end, matching, IsPattern, IsSubject}
-use Rattle.lexspec.proofs.OneSection.{no_true}
+use Rattle.lexlines.proofs.OneSection.{no_true}
 use Rattle.lexspec.specs.SubjectViews.{parts}
 
 abbrev Split : Type 0

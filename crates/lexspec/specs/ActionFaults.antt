@@ -1,8 +1,8 @@
 -- How faults of actions are told.
 use Rattle.lexaction.specs.declared.error.ActionError.{ActionError}
 use Rattle.lexaction.specs.declared.error.ActionError.TheVariants as A
-use Rattle.lexspec.specs.declared.error.SpecErrorKind.{SpecErrorKind}
-use Rattle.lexspec.specs.declared.error.SpecErrorKind.TheVariants as K
+use Rattle.lexlines.specs.declared.error.SpecErrorKind.{SpecErrorKind}
+use Rattle.lexlines.specs.declared.error.SpecErrorKind.TheVariants as K
 
 -- by the same name
 abbrev pub told_of : ActionError → SpecErrorKind

@@ -5,10 +5,10 @@ use Rattle.lexspec.specs.RuleItems.{EndRule}
 use Rattle.lexspec.specs.RuleReads.{Left}
 use Rattle.lexspec.specs.RuleViews.{rule_of}
 use Rattle.lexspec.specs.EndRules.{end_rule_of}
-use Rattle.lexspec.specs.Items.{newlines}
+use Rattle.lexlines.specs.Lines.{newlines}
 use Rattle.lexspec.specs.ItemReads.{names_in, ReadsFront}
 use Rattle.lexspec.specs.declared.item.Front.{Front}
-use Rattle.lexspec.specs.declared.declarations.Declarations.{Declarations}
+use Rattle.lexlines.specs.declared.declarations.Declarations.{Declarations}
 use Rattle.lexspec.specs.declared.taking.Progress.{Progress}
 
 -- The text `whole` spells, from the line `start` on, just the rules that were read with those that t spells from the line n

@@ -5,9 +5,9 @@ use Rattle.std.specs.FinMap.{from_entries}
 use Rattle.lexmeaning.specs.Spec.{Spec, Condition, EndAction}
 use Rattle.lexmeaning.specs.Active.{lists}
 use Rattle.lexmeaning.specs.Reading.{begins}
-use Rattle.lexspec.specs.Lines.{without_returns, line_in}
-use Rattle.lexspec.specs.DefinitionLines.{Definition, Declared, definition_at, IsUpTo, all_conditions, names_of, has_name, are_distinct, substitutes_of, all_options, are_known}
-use Rattle.lexspec.specs.Items.{Item, AreItems, newlines}
+use Rattle.lexlines.specs.Lines.{without_returns, line_in, newlines}
+use Rattle.lexlines.specs.DefinitionLines.{Definition, Declared, definition_at, IsUpTo, all_conditions, names_of, has_name, are_distinct, substitutes_of, all_options, are_known}
+use Rattle.lexspec.specs.Items.{Item, AreItems}
 use Rattle.lexspec.specs.RuleItems.{EndRule, AreRules}
 
 -- no condition has two ends, and without a list there is one at most

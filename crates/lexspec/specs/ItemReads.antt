@@ -9,7 +9,7 @@ use Rattle.lexspec.specs.RuleItems.{numbers_of, IsTrail, IsCutOf, EndRule, HasHe
 use Rattle.lexspec.specs.RuleReads.{Left}
 use Rattle.lexspec.specs.RuleViews.{rule_of}
 use Rattle.lexspec.specs.Keeping.{MayFollow}
-use Rattle.lexspec.specs.declared.declarations.Declarations.{Declarations}
+use Rattle.lexlines.specs.declared.declarations.Declarations.{Declarations}
 use Rattle.lexspec.specs.declared.item.Front.{Front}
 use Rattle.lexspec.specs.declared.item.Front.TheVariants as F
 use Rattle.lexspec.specs.declared.item.RuleText.{RuleText}

@@ -1,14 +1,13 @@
 -- The lines of the rules section: which rules stand there, as texts.
 -- (POSIX, lex, Rules in lex; flex, Patterns, Start Conditions, End-of-File Rules.)
-use Rattle.std.specs.Prelude.{◌≡◌, ℕ, zero, suc, ◌+◌, ◌-◌, Bool, true, false, not, ◌&&◌, ◌||◌, ◌==◌, if◌then◌else◌, List, [], ◌∷◌, length, take, drop, count_by, Option, Some, None, codes, ◌⊎◌}
+use Rattle.std.specs.Prelude.{◌≡◌, ℕ, zero, suc, ◌+◌, ◌-◌, Bool, true, false, not, ◌&&◌, ◌||◌, ◌==◌, if◌then◌else◌, List, [], ◌∷◌, length, take, drop, Option, Some, None, codes, ◌⊎◌}
 use Rattle.std.specs.List.{list_any}
 use Rattle.lexaction.specs.Comments as Comments
 use Rattle.lexaction.specs.Comments.{slash, line, after_byte}
 use Rattle.lexre.specs.Cutting.{IsCutting}
 use Rattle.lexmeaning.specs.ByteSets.{is_word, is_blank}
 use Rattle.lexmeaning.specs.Reading.{◌>>=◌, Reader, after_blanks, begins, is_white}
-use Rattle.lexspec.specs.Lines.{line_in, line_at, after_block}
-use Rattle.lexspec.specs.DefinitionLines.{is_all_blank}
+use Rattle.lexlines.specs.Lines.{line_in, line_at, is_all_blank, newlines, after_block}
 
 -- the condition list: none, `<*>`, or names
 pub data Conditions : Type 0 where
@@ -134,9 +133,6 @@ IsItem t skipped_block rest = (begins (codes "%{") t ≡ true) × (after_block (
 IsItem t (rule asked subject action) rest =
     (starts_rule t ≡ true) × (u v text : List ℕ) × (conditions_at t ≡ Some (asked, u)) × IsSubject u subject v
     × (action_in outside 0 (after_blanks v) ≡ Some (text, rest)) × (action ≡ action_of text)
-
-abbrev pub newlines : List ℕ → ℕ
-newlines t = count_by (λ c. c == 10) t
 
 -- these items, each with its line, up to the end or a line that begins with `%%`; the first line here is n
 abbrev pub AreItems : ℕ → List ℕ → List (ℕ × Item) → Type 0

@@ -5,7 +5,7 @@ use Rattle.lexspec.specs.Files.{AreSingle}
 use Rattle.lexspec.specs.RuleItems.{EndRule}
 use Rattle.lexspec.specs.SoundSides.{HasSoundRules}
 use Rattle.lexspec.specs.EndRules.{end_rule_of}
-use Rattle.lexspec.specs.declared.declarations.Declarations.{Declarations}
+use Rattle.lexlines.specs.declared.declarations.Declarations.{Declarations}
 use Rattle.lexspec.specs.declared.item.Front.{Front}
 use Rattle.lexspec.specs.declared.item.Front.TheVariants as F
 use Rattle.lexspec.specs.declared.taking.Progress.{Progress}

@@ -1,17 +1,9 @@
 pub mod Tests
 pub mod RuleViews
 pub mod Views
-pub mod Lines
-pub mod Runs
-pub mod DefinitionLines
-pub mod DefinitionViews
 pub mod Items
 pub mod RuleItems
 pub mod Files
-pub mod LineExamples
-pub mod Outcome
-pub mod Declaring
-pub mod Sections
 pub mod ActionViews
 pub mod SubjectViews
 pub mod RuleReads
@@ -26,3 +18,4 @@ pub mod SoundSides
 pub mod EndRules
 pub mod Keeping
 pub mod Readings
+pub mod RuleExamples

@@ -3,17 +3,17 @@ use Rattle.std.specs.Prelude.{◌≡◌, ℕ, ◌+◌, ◌≤◌, Bool, not, Lis
 use Rattle.std.specs.List.{list_any}
 use Rattle.lexmeaning.specs.Spec.{Spec}
 use Rattle.lexmeaning.specs.Reading.{is_white}
-use Rattle.lexspec.specs.Lines.{line_in}
+use Rattle.lexlines.specs.Lines.{line_in}
 use Rattle.lexspec.specs.Items.{Item, AreItems}
 use Rattle.lexspec.specs.RuleItems.{EndRule, AreRules}
 use Rattle.lexspec.specs.RuleViews.{rule_of}
 use Rattle.lexspec.specs.EndRules.{end_rule_of}
 use Rattle.lexspec.specs.Files.{AreSingle, conditions_with}
-use Rattle.lexspec.specs.Declaring.{declared_of}
+use Rattle.lexlines.specs.Declaring.{declared_of}
 use Rattle.lexspec.specs.ItemReads.{names_in}
-use Rattle.lexspec.specs.declared.declarations.Declarations.{Declarations}
+use Rattle.lexlines.specs.declared.declarations.Declarations.{Declarations}
 use Rattle.lexspec.specs.declared.rules_section.RulesSection.{RulesSection}
-use Rattle.lexspec.specs.declared.section.Section.{Section}
+use Rattle.lexlines.specs.declared.section.Section.{Section}
 
 -- a byte that is neither a blank nor a newline
 abbrev pub has_text : List ℕ → Bool

@@ -9,7 +9,7 @@ use Rattle.lexspec.specs.EndRules.{end_rule_of}
 use Rattle.lexspec.specs.Files.{AreSingle}
 use Rattle.lexspec.specs.ItemReads.{names_in}
 use Rattle.lexmeaning.specs.Sound.{HaveSoundSides}
-use Rattle.lexspec.specs.declared.declarations.Declarations.{Declarations}
+use Rattle.lexlines.specs.declared.declarations.Declarations.{Declarations}
 use Rattle.lexspec.specs.declared.rule.Rule.{Rule as RuleKept}
 use Rattle.lexspec.specs.declared.rules_section.RulesSection.{RulesSection}
 

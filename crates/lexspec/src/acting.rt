@@ -5,9 +5,9 @@ ghost use Rattle.lexspec.specs.ActionFaults.{told_of};
 ghost use Rattle.lexspec.specs.RuleReads.{acting};
 ghost use Rattle.lexspec.specs.RuleViews.{rule_of};
 
-use crate::error::SpecErrorKind;
 use crate::rule::Rule;
 use lexaction::{ActionError, Statement};
+use lexlines::SpecErrorKind;
 use std::alloc::{AllocError, Global};
 
 /// How a fault of an action is told.

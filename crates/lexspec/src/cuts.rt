@@ -1,10 +1,9 @@
 //! How much of a match is the text. (flex, Patterns: `r/s`. The bound is this project's.)
-ghost use Rattle.std.specs.Prelude.{◌≡◌, ℕ, true, Option, Some, None, option_map, IfSome, IfNone};
+ghost use Rattle.std.specs.Prelude.{ℕ, Option, Some, None, option_map, IfSome, IfNone};
 ghost use Rattle.lexmeaning.specs.Shapes.{IsSoundTree};
 ghost use Rattle.lexre.specs.Views.{tree_of};
 ghost use Rattle.lexspec.specs.RuleItems.{HasFixed, IsCutOf};
 ghost use Rattle.lexspec.specs.RuleViews.{cut_of};
-ghost use Rattle.lexspec.specs.Tests.{cut_fits};
 ghost use Rattle.lexmeaning.specs.Spec.{Cut as Meant};
 
 use crate::rule::Cut;

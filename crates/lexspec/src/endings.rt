@@ -1,9 +1,9 @@
 //! The ends of conditions, by the `<<EOF>>` rules. (flex, End-of-File Rules.)
 ghost use Rattle.std.specs.Prelude.{◌≡◌, ◌==◌, ◌≤◌, ℕ, true, false, List, [], ◌∷◌, ◌++◌, map, length, IfOk};
 ghost use Rattle.std.specs.List.{list_any};
-ghost use Rattle.lexspec.specs.Endings.{numbers_kept, clashes, any_clashes};
+ghost use Rattle.lexspec.specs.Endings.{numbers_kept, clashes};
 ghost use Rattle.lexaction.specs.Views.{condition_of, end_action_of};
-ghost use Rattle.lexspec.specs.Declaring.{declared_of};
+ghost use Rattle.lexlines.specs.Declaring.{declared_of};
 ghost use Rattle.lexspec.specs.Files.{lists_number, unlisted_end as unlisted_end_in, end_in, conditions_with, AreSingle};
 ghost use Rattle.lexspec.specs.EndRules.{end_rule_of};
 ghost use Rattle.lexspec.specs.RuleItems.{EndRule as EndRuleMeant};

@@ -1,5 +1,5 @@
 //! The rules of a file, but for their actions. (POSIX, lex, Rules in lex; flex, Patterns, End-of-File Rules.)
-ghost use Rattle.std.specs.Prelude.{◌≡◌, ℕ, ◌≤◌, true, List, [], length, Option, Some, None, option_map, IfOk, IfErr, IfSome, OnErr};
+ghost use Rattle.std.specs.Prelude.{◌≡◌, ℕ, ◌≤◌, true, List, length, Option, Some, None, option_map, IfOk, IfErr, IfSome, OnErr};
 ghost use Rattle.lexmeaning.specs.Tree.{Tree};
 ghost use Rattle.lexmeaning.specs.Shapes.{IsSoundTree};
 ghost use Rattle.lexre.specs.Views.{tree_of};
@@ -7,21 +7,19 @@ ghost use Rattle.lexre.specs.Spelling.{Spells};
 ghost use Rattle.lexmeaning.specs.Reading.{after_blanks};
 ghost use Rattle.lexspec.specs.Items.{starts_rule, action_in, outside};
 ghost use Rattle.lexspec.specs.RuleItems.{IsTrail, IsCutOf};
-ghost use Rattle.lexspec.specs.RuleViews.{rule_of, cut_of};
+ghost use Rattle.lexspec.specs.RuleViews.{cut_of};
 ghost use Rattle.lexspec.specs.SubjectViews.{trailing_of};
 ghost use Rattle.lexspec.specs.ItemReads.{NoRules, NoSides, ReadsItem};
 ghost use Rattle.lexspec.specs.SoundSides.{HasSoundFront};
 ghost use Rattle.lexmeaning.specs.Sound.{AreSoundSides};
-ghost use Rattle.lexspec.specs.Outcome.{UnlessMemory};
+ghost use Rattle.lexlines.specs.Outcome.{UnlessMemory};
 
 use crate::action_text::split_action;
 use crate::cuts::cut_by;
-use crate::declarations::Declarations;
-use crate::error::SpecErrorKind;
-use crate::lines::skip_blanks;
 use crate::listed::condition_numbers;
 use crate::rule::{Cut, Rule};
 use crate::subject::{Subject, Trailing, conditions_at, subject_at};
+use lexlines::{Declarations, SpecErrorKind, skip_blanks};
 use lexre::{ByteSet, Pattern, PatternError, ReadOptions, read_pattern};
 use std::alloc::Global;
 

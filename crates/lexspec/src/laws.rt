@@ -4,13 +4,13 @@ ghost use Rattle.lexmeaning.specs.Tree.{Tree};
 ghost use Rattle.lexmeaning.specs.Shapes.{IsSoundTree};
 ghost use Rattle.lexmeaning.specs.Spec.{Rule, Spec};
 ghost use Rattle.lexre.specs.Definitions.{Definitions};
-ghost use Rattle.lexspec.specs.DefinitionLines.{Declared, names_of};
+ghost use Rattle.lexlines.specs.DefinitionLines.{Declared, names_of};
 ghost use Rattle.lexspec.specs.Items.{Item};
 ghost use Rattle.lexspec.specs.RuleItems.{EndRule, AreRules};
 ghost use Rattle.lexmeaning.specs.Sound.{HaveSoundSides, IsSound};
 ghost use Rattle.lexspec.specs.Files.{conditions_with, SpellsSpec};
 ghost use Rattle.lexspec.specs.Tests.{is_sound, sound_tree};
-ghost use Rattle.lexspec.specs.LineExamples.{ReturnsDropped, BlanksTrimmed, DollarAnchors, Declares, Defines, NoDefinitions, Block, ConditionLists, Actions};
+ghost use Rattle.lexspec.specs.RuleExamples.{ConditionLists, Actions};
 
 /// A tree passes the test exactly if it is sound.
 pub fn tested_trees()
@@ -35,15 +35,8 @@ pub fn sound_specifications()
         → is_sound (record { conditions = conditions_with 0 cs ends; rules = rules }) ≡ true }
 {}
 
-/// Worked examples of lines.
-pub fn examples_of_lines()
-    ensures returns { ReturnsDropped }
-    ensures blanks { BlanksTrimmed }
-    ensures dollars { DollarAnchors }
-    ensures declared { Declares }
-    ensures defined { Defines }
-    ensures refused { NoDefinitions }
-    ensures block { Block }
+/// Worked examples of condition lists and actions.
+pub fn examples_of_rules()
     ensures lists { ConditionLists }
     ensures actions { Actions }
 {}

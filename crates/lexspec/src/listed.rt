@@ -5,13 +5,12 @@ ghost use Rattle.lexaction.specs.Names.{number_from, names_of};
 ghost use Rattle.lexspec.specs.RuleItems.{all_numbered, is_number, numbers_of};
 ghost use Rattle.lexmeaning.specs.Text.{listed};
 ghost use Rattle.lexspec.specs.SubjectViews.{conditions_of, parts};
-ghost use Rattle.lexspec.specs.Outcome.{UnlessMemory};
+ghost use Rattle.lexlines.specs.Outcome.{UnlessMemory};
 
-use crate::declarations::number_of;
-use crate::error::SpecErrorKind;
-use crate::lines::{skip_first, split_before};
 use crate::subject::Conditions;
 use lexaction::Condition;
+use lexclass::skip_first;
+use lexlines::{SpecErrorKind, number_of, split_before};
 use std::alloc::{AllocError, Global};
 
 /// The conditions that the names between commas list, each as a flag at its number. None where a name is not declared.

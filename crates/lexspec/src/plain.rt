@@ -4,9 +4,7 @@ ghost use Rattle.lexmeaning.specs.Reading.{begins};
 ghost use Rattle.lexspec.specs.Items.{Item, IsItem, starts_rule};
 ghost use Rattle.lexspec.specs.PlainViews.{item_of};
 
-use crate::error::SpecErrorKind;
-use crate::lines::{is_all_blank, split_line, starts_blank};
-use crate::skipping::skip_block;
+use lexlines::{SpecErrorKind, is_all_blank, skip_block, split_line, starts_blank};
 
 /// What is skipped.
 #[derive(Clone, Copy)]

@@ -1,5 +1,5 @@
 //! What callers read of a specification.
-ghost use Rattle.std.specs.Prelude.{◌≡◌, ◌↔◌, true, map, IsTrue};
+ghost use Rattle.std.specs.Prelude.{◌≡◌, true, map};
 ghost use Rattle.lexmeaning.specs.Spec.{has_reject, rejects};
 ghost use Rattle.lexaction.specs.Views.{condition_of, statement_of};
 ghost use Rattle.lexspec.specs.RuleViews.{rule_of};

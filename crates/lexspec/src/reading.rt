@@ -2,20 +2,19 @@
 ghost use Rattle.std.specs.Prelude.{◌≡◌, ◌≤◌, true, length, IfOk, IfErr};
 ghost use Rattle.lexmeaning.specs.Spec.{Spec as Meant};
 ghost use Rattle.lexspec.specs.Files.{SpellsSpec};
-ghost use Rattle.lexspec.specs.Outcome.{UnlessMemory};
+ghost use Rattle.lexlines.specs.Outcome.{UnlessMemory};
 ghost use Rattle.lexspec.specs.Readings.{has_text, of_sections, SpellsRest};
 ghost use Rattle.lexspec.specs.Tests.{is_sound};
 ghost use Rattle.lexspec.specs.Views.{spec_of};
-ghost use Rattle.lexspec.specs.declared.error.SpecErrorKind.TheVariants.{OutOfMemory};
+ghost use Rattle.lexlines.specs.declared.error.SpecErrorKind.TheVariants.{OutOfMemory};
 
-use crate::declarations::Declarations;
 use crate::endings::with_ends;
-use crate::error::{SpecError, SpecErrorKind};
-use crate::lines::{is_blank, split_line, without_returns};
 use crate::rules_section::{RulesSection, read_rules};
-use crate::section::{Section, read_section};
-use crate::skipped::Skipped;
 use crate::spec::Spec;
+use lexlines::{
+    Declarations, Section, Skipped, SpecError, SpecErrorKind, is_blank, read_section, split_line,
+    without_returns,
+};
 use lexre::ReadOptions;
 use std::alloc::Global;
 

@@ -1,26 +1,24 @@
 //! The rules section, item by item. (POSIX, lex, Rules in lex; flex, Format of the Input File.)
 ghost use Rattle.std.specs.Prelude.{◌≡◌, ℕ, ◌+◌, ◌-◌, ◌<◌, ◌≤◌, ◌^◌, List, [], false, length, take, codes, IfOk, IfErr, OnOk};
 ghost use Rattle.lexmeaning.specs.Reading.{begins};
-ghost use Rattle.lexspec.specs.Items.{newlines};
+ghost use Rattle.lexlines.specs.Lines.{newlines};
 ghost use Rattle.lexspec.specs.ItemReads.{NoneLeft};
 ghost use Rattle.lexspec.specs.Agreeing.{Agrees};
 ghost use Rattle.lexspec.specs.Keeping.{Keeps};
 ghost use Rattle.lexspec.specs.PlainViews.{lines_with};
 ghost use Rattle.lexspec.specs.EndOpenings.{begins_end};
 ghost use Rattle.lexspec.specs.RulesReads.{HasRules, NoSuchRules, line_of_last};
-ghost use Rattle.lexspec.specs.Outcome.{UnlessMemory};
-ghost use Rattle.lexspec.specs.declared.error.SpecErrorKind.TheVariants.{DanglingBar};
+ghost use Rattle.lexlines.specs.Outcome.{UnlessMemory};
+ghost use Rattle.lexlines.specs.Skips.{next_in};
+ghost use Rattle.lexlines.specs.declared.error.SpecErrorKind.TheVariants.{DanglingBar};
 
-use crate::declarations::Declarations;
 use crate::endings::EndRule;
-use crate::error::{SpecError, SpecErrorKind};
 use crate::item::read_rule_text;
-use crate::newlines::newlines_before;
 use crate::plain::{Plain, plain_at};
 use crate::rule::Rule;
-use crate::skipped::Skipped;
 use crate::subject::conditions_at;
 use crate::taking::Progress;
+use lexlines::{Declarations, Skipped, SpecError, SpecErrorKind, newlines_before};
 use std::alloc::{AllocError, Global};
 
 /// The most rules.
@@ -47,17 +45,15 @@ fn begins_end(text: &[u8]) -> bool
     }
 }
 
-impl Skipped {
-    /// Takes what is skipped at a line of the rules section.
-    fn add_plain(&mut self, plain: Plain, line: u32) -> Result<(), AllocError>
-        requires { line + 1 < 2 ^ 32 }
-        ensures { OnOk result (self.new.lines.items ≡ lines_with plain self.old.next line self.old.lines.items) }
-    {
-        match plain {
-            Plain::Blank => Ok(()),
-            Plain::Code => self.add_line(line),
-            Plain::Block => self.add_block(line),
-        }
+/// Takes what is skipped at a line of the rules section.
+fn add_plain(skipped: &mut Skipped, plain: Plain, line: u32) -> Result<(), AllocError>
+    requires { line + 1 < 2 ^ 32 }
+    ensures { OnOk result (skipped.new.lines.items ≡ lines_with plain (next_in skipped.old) line skipped.old.lines.items) }
+{
+    match plain {
+        Plain::Blank => Ok(()),
+        Plain::Code => skipped.add_line(line),
+        Plain::Block => skipped.add_block(line),
     }
 }
 
@@ -103,7 +99,7 @@ impl Progress {
             Err(kind) => return Err(kind),
         };
         if let Some((skip, rest)) = plain {
-            skipped.add_plain(skip, line)?;
+            add_plain(skipped, skip, line)?;
             return Ok((self, rest));
         }
         if begins_end(text) {

@@ -1,11 +1,11 @@
 //! What stands before the action of a rule: its condition list and its pattern. (POSIX, lex, Rules in lex; flex,
 //! Patterns, Start Conditions, End-of-File Rules.)
-ghost use Rattle.std.specs.Prelude.{◌≡◌, ◌+◌, ◌<◌, ◌^◌, ℕ, List, Bool, false, Option, Some, None, option_map, length, take, drop, codes, IfOk, OnErr};
+ghost use Rattle.std.specs.Prelude.{◌≡◌, ◌+◌, ◌<◌, ◌^◌, ℕ, List, false, Option, Some, None, option_map, take, drop, IfOk, OnErr};
 ghost use Rattle.lexspec.specs.Items.{Conditions as AskedFor, Subject as SubjectMeant, Trailing as TrailMeant, conditions_at, sides, starts_blank, IsPattern, IsSubject};
 ghost use Rattle.lexspec.specs.SubjectViews.{conditions_of, trailing_of, subject_of};
 
-use crate::error::SpecErrorKind;
-use crate::lines::{is_blank, skip_first, split_before, split_line};
+use lexclass::skip_first;
+use lexlines::{SpecErrorKind, is_blank, split_before, split_line};
 use lexre::{Cutting, PatternError, cut_pattern};
 
 /// The condition list of a rule.

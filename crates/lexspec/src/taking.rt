@@ -3,18 +3,17 @@ ghost use Rattle.std.specs.Prelude.{◌≤◌, length, IfOk, IfErr};
 ghost use Rattle.lexspec.specs.ItemReads.{NoRulesAfter};
 ghost use Rattle.lexspec.specs.Agreeing.{GoesOn};
 ghost use Rattle.lexspec.specs.Keeping.{HasRoom, Keeps};
-ghost use Rattle.lexspec.specs.Outcome.{UnlessMemory};
+ghost use Rattle.lexlines.specs.Outcome.{UnlessMemory};
 ghost use Rattle.lexspec.specs.SoundSides.{HasSoundFront};
 ghost use Rattle.lexspec.specs.declared.item.Front.TheVariants.{Matching, AtEnd};
 
 use crate::acting::{finished, told};
 use crate::action_text::is_bar;
-use crate::declarations::Declarations;
 use crate::endings::{EndRule, may_join};
-use crate::error::SpecErrorKind;
 use crate::item::{Front, RuleText};
 use crate::rule::Rule;
 use lexaction::{read_action, read_end_action};
+use lexlines::{Declarations, SpecErrorKind};
 use std::alloc::Global;
 
 /// The rules that are read so far.

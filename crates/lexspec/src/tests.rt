@@ -27,56 +27,6 @@ fn of_rule(alloc: Global, rule: &str) -> Result<String, AllocError> {
     format!(in alloc; "%%\n{rule}")
 }
 
-/// Files with the faults of their definitions sections. (POSIX, lex, Definitions in lex.)
-#[test]
-fn faults_of_definitions(rt: HostRuntime) {
-    let alloc = rt.alloc();
-    let rows = [
-        ("", 1, SpecErrorKind::NoRulesSection),
-        ("\n", 2, SpecErrorKind::NoRulesSection),
-        ("D [0-9]", 2, SpecErrorKind::NoRulesSection),
-        ("D [0-9]\n", 2, SpecErrorKind::NoRulesSection),
-        ("D [0-9]\r\n", 2, SpecErrorKind::NoRulesSection),
-        (" %%\n", 2, SpecErrorKind::NoRulesSection),
-        ("foo\n%%\n", 1, SpecErrorKind::BadDefinitionLine),
-        ("\0\n%%\n", 1, SpecErrorKind::BadDefinitionLine),
-        ("foo\r\n%%\r\n", 1, SpecErrorKind::BadDefinitionLine),
-        ("D,x y\n%%\n", 1, SpecErrorKind::BadDefinitionLine),
-        ("%array x\n%%\n", 1, SpecErrorKind::BadDefinitionLine),
-        ("%p 3 4\n%%\n", 1, SpecErrorKind::BadDefinitionLine),
-        ("%option\n%%\n", 1, SpecErrorKind::BadDefinitionLine),
-        ("%s\n%%\n", 1, SpecErrorKind::BadDefinitionLine),
-        ("%x A A 1\n%%\n", 1, SpecErrorKind::BadDefinitionLine),
-        ("D a\n\nD b\n%%\n", 3, SpecErrorKind::DuplicateName),
-        ("D a\nD ^b\n%%\n", 2, SpecErrorKind::DuplicateName),
-        (
-            "N {D}+\nD [0-9]\nD [0-9]\n%%\n",
-            3,
-            SpecErrorKind::DuplicateName,
-        ),
-        ("%x INITIAL\n%%\n", 1, SpecErrorKind::DuplicateCondition),
-        ("%s A B A\n%%\n", 1, SpecErrorKind::DuplicateCondition),
-        ("A ^a\n%%\n", 1, SpecErrorKind::AnchoredDefinition),
-        ("A a$\n%%\n", 1, SpecErrorKind::AnchoredDefinition),
-        (
-            "%option reentrant\n%%\n",
-            1,
-            SpecErrorKind::UnsupportedOption,
-        ),
-        (
-            "%option stack\n%x C\n%%\n",
-            1,
-            SpecErrorKind::UnsupportedOption,
-        ),
-        ("D a\n%{\nint n;\n", 2, SpecErrorKind::Unclosed),
-        ("/* a\n%%\n", 1, SpecErrorKind::Unclosed),
-        ("D a$\nfoo\n%%\n", 1, SpecErrorKind::AnchoredDefinition),
-    ];
-    for (text, line, kind) in rows {
-        assert_eq!(rt; rules_or_fault(alloc, text), Err((line, kind)));
-    }
-}
-
 /// Rules with their faults, each at the first line of its section, line 2 of the file. (POSIX, lex, Rules in lex and
 /// Actions in lex; flex, Patterns.)
 #[test]
@@ -204,6 +154,11 @@ fn lines_of_faults(rt: HostRuntime) {
             "/* a\n b */ c\nD a\n%%\n%{\n%}\na*/b* ;",
             7,
             SpecErrorKind::VariableTrailing,
+        ),
+        (
+            "\r\n\nD a\r\nfoo\r\n%%\n",
+            4,
+            SpecErrorKind::BadDefinitionLine,
         ),
     ];
     for (text, line, kind) in rows {

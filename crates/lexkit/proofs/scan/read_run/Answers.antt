@@ -1,7 +1,7 @@
 use Rattle.std.proofs.Common.{sym, subst}
 use Rattle.lexmeaning.specs.Spec.{Spec}
 use Rattle.lexspec.specs.Views.{spec_of}
-use Rattle.lexspec.proofs.OutcomeLaws.{unless_memory}
+use Rattle.lexlines.proofs.OutcomeLaws.{unless_memory}
 use Rattle.lexkit.specs.Simple.{IsUnrun}
 use Rattle.lexkit.proofs.Specs.{one_spec, unsupported}
 use Rattle.lexkit.proofs.scan.read_run.Goals as goal

@@ -1,5 +1,5 @@
 use Rattle.std.proofs.Common.{◌≡◌, ◌+◌, ◌≤◌, length}
-use Rattle.lexspec.specs.Items.{newlines}
+use Rattle.lexlines.specs.Lines.{newlines}
 use Rattle.lexspec.specs.Agreeing.{Agrees}
 use Rattle.lexspec.specs.Keeping.{Keeps}
 use Rattle.lexspec.proofs.rules_section.read_rules.Given as goal

@@ -1,5 +1,5 @@
 use Rattle.std.proofs.Common.{sym, ◌∙◌}
-use Rattle.lexspec.proofs.OutcomeLaws.{on_err}
+use Rattle.lexlines.proofs.OutcomeLaws.{on_err}
 use Rattle.lexspec.proofs.SubjectLaws.{bare_refused, anchored_refused}
 use Rattle.lexspec.proofs.subject.subject_at.Goals as goal
 

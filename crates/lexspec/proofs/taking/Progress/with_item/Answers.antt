@@ -1,8 +1,8 @@
 use Rattle.std.proofs.Common.{rules, sym, ◌∙◌, ◌≡◌, ◌+◌, ◌<◌, false, length}
 use Rattle.lexspec.specs.EndOpenings.{begins_end}
-use Rattle.lexspec.proofs.OneSection.{no_true}
+use Rattle.lexlines.proofs.OneSection.{no_true}
 use Rattle.lexspec.specs.PlainViews.{item_of}
-use Rattle.lexspec.proofs.SectionLaws.{newlines_front}
+use Rattle.lexlines.proofs.SectionLaws.{newlines_front}
 use Rattle.lexspec.proofs.EndLaws.{item_ends}
 use Rattle.lexspec.proofs.AwaitingLaws.{end_refused, full_refused, has_room}
 use Rattle.lexspec.proofs.StepLaws.{reads_shorter, reads_counts, plain_agrees, plain_refused, text_refused, rule_refused}

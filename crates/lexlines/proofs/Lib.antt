@@ -1,0 +1,9 @@
+pub mod RunLaws
+pub mod SkipLaws
+pub mod TextLaws
+pub mod OneSection
+pub mod ComputedLines
+pub mod DeclaringLaws
+pub mod TakingLaws
+pub mod OutcomeLaws
+pub mod SectionLaws

@@ -1,0 +1,9 @@
+pub mod Lines
+pub mod Runs
+pub mod DefinitionLines
+pub mod DefinitionViews
+pub mod LineExamples
+pub mod Outcome
+pub mod Declaring
+pub mod Sections
+pub mod Skips

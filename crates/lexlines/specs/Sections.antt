@@ -1,0 +1,28 @@
+-- What the reader of the definitions section answers.
+use Rattle.std.specs.Prelude.{◌≡◌, ℕ, ◌+◌, Bool, true, List, codes, is_some, if◌then◌else◌}
+use Rattle.std.specs.FinMap.{get}
+use Rattle.lexre.specs.Definitions.{Definitions}
+use Rattle.lexlines.specs.declared.definition.DefinitionFault.{DefinitionFault}
+use Rattle.lexlines.specs.declared.definition.DefinitionFault.TheVariants.{BadLine, Unclosed, Anchored}
+use Rattle.lexlines.specs.declared.error.SpecErrorKind.{SpecErrorKind}
+use Rattle.lexlines.specs.declared.error.SpecErrorKind.TheVariants as K
+use Rattle.lexmeaning.specs.Reading.{begins}
+use Rattle.lexlines.specs.DefinitionLines.{Definition, definition_at, IsUpTo}
+use Rattle.lexlines.specs.Lines.{newlines}
+use Rattle.lexlines.specs.Declaring.{AreAllowed, Declares}
+use Rattle.lexlines.specs.declared.section.Section.{Section}
+
+-- the lines before the one that begins with `%%`, what they declare, and the number of that line
+pub record HasSection (fold : Bool) (text : List ℕ) (s : Section) : Type 0 where
+  pub definitions : List Definition
+  pub lines : IsUpTo definition_at text definitions s.rest.now
+  pub separator : begins (codes "%%") s.rest.now ≡ true
+  pub declares : Declares fold definitions s.declarations
+  pub allowed : AreAllowed definitions
+  pub line : s.line + newlines s.rest.now ≡ 1 + newlines text
+
+-- how a fault of a line is told, where these names are defined before it
+abbrev pub kind_told : Definitions → DefinitionFault → SpecErrorKind
+kind_told defined BadLine = K.BadDefinitionLine
+kind_told defined Unclosed = K.Unclosed
+kind_told defined (Anchored name) = if is_some (get defined name.now) then K.DuplicateName else K.AnchoredDefinition

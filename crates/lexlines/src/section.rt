@@ -1,0 +1,91 @@
+//! The definitions section. (POSIX, lex, Definitions in lex; flex, Format of the Input File.)
+ghost use Rattle.std.specs.Prelude.{◌≡◌, ℕ, ◌≤◌, ◌+◌, true, List, length, codes, IfOk, IfErr};
+ghost use Rattle.lexmeaning.specs.Reading.{begins};
+ghost use Rattle.lexlines.specs.DefinitionLines.{Definition as Meant, definition_at, IsUpTo};
+ghost use Rattle.lexlines.specs.Declaring.{AreAllowed};
+ghost use Rattle.lexlines.specs.Sections.{HasSection, kind_told};
+ghost use Rattle.lexlines.specs.Outcome.{UnlessMemory};
+
+use crate::declarations::Declarations;
+use crate::definition::{DefinitionFault, definition_at};
+use crate::error::{SpecError, SpecErrorKind};
+use crate::newlines::newlines_before;
+use std::alloc::Global;
+
+/// What the definitions section declares, and where the next section begins.
+#[derive(Drop)]
+pub struct Section<'a> {
+    /// What the lines before it declare.
+    pub declarations: Declarations,
+    /// The text from the line on that begins with `%%`.
+    pub rest: &'a [u8],
+    /// The number of that line, from 1.
+    pub line: u32,
+}
+
+/// The definitions section, up to a line that begins with `%%`. `fold` says whether patterns ignore case without an
+/// option. The first faulty line is refused; without a `%%` it is the line after the last, as `NoRulesSection`.
+pub fn read_section(alloc: Global, text: &[u8], fold: bool) -> Result<Section<'_>, SpecError>
+    requires { length text.now ≤ 1048576 }
+    ensures found { IfOk result (λ s. HasSection fold text.now s) }
+    ensures none { IfErr result (λ e. UnlessMemory e.kind ((ds : List Meant) (after : List ℕ) → IsUpTo definition_at text.now ds after
+        → begins (codes "%%") after ≡ true → AreAllowed ds → ⊥)) }
+{
+    let mut declarations = Declarations::new(alloc, fold)?;
+    let mut rest = text;
+    let mut line: u32 = 1;
+    'lines: loop {
+        if rest.is_empty() {
+            let line = if text.is_empty() || text.ends_with(b"\n") {
+                line
+            } else {
+                line + 1
+            };
+            return Err(SpecError {
+                line,
+                kind: SpecErrorKind::NoRulesSection,
+            });
+        }
+        if rest.starts_with(b"%%") {
+            return Ok(Section {
+                declarations,
+                rest,
+                line,
+            });
+        }
+        let (definition, after) = match definition_at(rest) {
+            Ok(found) => found,
+            Err(fault) => {
+                return Err(SpecError {
+                    line,
+                    kind: declarations.kind_of(fault),
+                });
+            }
+        };
+        match declarations.take(definition, line) {
+            Ok(()) => {}
+            Err(kind) => return Err(SpecError { line, kind }),
+        }
+        line += newlines_before(rest, after);
+        rest = after;
+    }
+}
+
+impl Declarations {
+    /// How a fault of a line is told. A name that is defined already is a `DuplicateName` first.
+    fn kind_of(&self, fault: DefinitionFault<'_>) -> SpecErrorKind
+        ensures { result ≡ kind_told self.now.defs fault.entry }
+    {
+        match fault {
+            DefinitionFault::BadLine => SpecErrorKind::BadDefinitionLine,
+            DefinitionFault::Unclosed => SpecErrorKind::Unclosed,
+            DefinitionFault::Anchored { name } => {
+                if self.defs.find(name).is_some() {
+                    SpecErrorKind::DuplicateName
+                } else {
+                    SpecErrorKind::AnchoredDefinition
+                }
+            }
+        }
+    }
+}

@@ -1,0 +1,16 @@
+-- Worked examples of condition lists and actions, each with what it spells.
+use Rattle.std.specs.Prelude.{◌≡◌, ℕ, List, [], ◌∷◌, Option, Some, None, codes}
+use Rattle.lexspec.specs.Items.{Conditions, every, only, bar, outside, conditions_at, action_in, action_of}
+
+-- `<a,b>x` and `<*>x`
+abbrev pub ConditionLists : Type 0
+ConditionLists =
+    ◌≡◌ {A = Option (Conditions × List ℕ)} (conditions_at (codes "<a,b>x")) (Some (only (codes "a" ∷ codes "b" ∷ []), codes "x"))
+    × ◌≡◌ {A = Option (Conditions × List ℕ)} (conditions_at (codes "<*>x")) (Some (every, codes "x"))
+
+-- a brace in a comment counts for nothing; one that stays open has no action; a bar alone takes the next action
+abbrev pub Actions : Type 0
+Actions =
+    ◌≡◌ {A = Option (List ℕ × List ℕ)} (action_in outside 0 (codes "{ /* } */ ECHO; }")) (Some (codes "{ /* } */ ECHO; }", []))
+    × (action_in outside 0 (codes "{ ECHO;") ≡ None)
+    × (action_of (codes "|  ") ≡ bar)
