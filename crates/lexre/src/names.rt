@@ -1,0 +1,94 @@
+//! The names of a pattern that is being read, and what is known of them.
+ghost use Rattle.std.specs.Prelude.{◌≡◌, OnOk, option_map};
+ghost use Rattle.std.specs.FinMap.{empty, get, insert};
+ghost use Rattle.lexre.specs.Names.{trees_of, usable};
+ghost use Rattle.lexre.specs.Reading.{is_among};
+ghost use Rattle.lexre.specs.Views.{tree_of};
+
+use crate::pattern::Pattern;
+use std::alloc::{AllocError, Global};
+use std::collections::BTreeMap;
+
+/// The tree of a name that was read whole.
+#[derive(Drop)]
+pub(crate) struct Kept {
+    pub(crate) pattern: Pattern,
+    /// How many parentheses and names could be opened where it was read.
+    pub(crate) left: u8,
+}
+
+#[derive(Drop)]
+pub(crate) struct Names {
+    alloc: Global,
+    /// The names that are being read.
+    pub(crate) open: Vec<Vec<u8>>,
+    pub(crate) kept: BTreeMap<Vec<u8>, Kept>,
+}
+
+/// Whether the name is one of these.
+fn is_among(name: &[u8], names: &[Vec<u8>]) -> bool
+    ensures { result ≡ is_among name.now names.now }
+{
+    for known in names {
+        if known.as_slice() == name {
+            return true;
+        }
+    }
+    false
+}
+
+impl Names {
+    pub(crate) fn new(alloc: Global) -> Names
+        ensures { trees_of result ≡ empty }
+    {
+        Names {
+            alloc,
+            open: Vec::new(alloc),
+            kept: BTreeMap::new(alloc),
+        }
+    }
+
+    /// Whether the name is being read.
+    pub(crate) fn is_open(&self, name: &[u8]) -> bool
+        ensures { result ≡ is_among name.now self.now.open.items }
+    {
+        is_among(name, &self.open)
+    }
+
+    /// Begins to read the name.
+    pub(crate) fn open(&mut self, name: &[u8]) -> Result<(), AllocError>
+        ensures { trees_of self.new ≡ trees_of self.old }
+    {
+        self.open.push(Vec::from_slice(self.alloc, name)?)?;
+        Ok(())
+    }
+
+    /// Ends to read the name that was begun last.
+    pub(crate) fn close(&mut self)
+        ensures { trees_of self.new ≡ trees_of self.old }
+    {
+        self.open.pop();
+    }
+
+    /// The tree that is kept of a name, unless fewer may be opened than where it was read.
+    pub(crate) fn find(&self, name: &[u8], left: u8) -> Option<&Pattern>
+        ensures { option_map (λ p. tree_of p.now) result ≡ usable left (get (trees_of self.now) name.now) }
+    {
+        let kept = self.kept.get(name)?;
+        if kept.left <= left {
+            Some(&kept.pattern)
+        } else {
+            None
+        }
+    }
+
+    /// Keeps a copy of the tree of a name that was read where so many could be opened.
+    pub(crate) fn keep(&mut self, name: &[u8], left: u8, pattern: &Pattern) -> Result<(), AllocError>
+        ensures { OnOk result (trees_of self.new ≡ insert (trees_of self.old) name.now (tree_of pattern.now, left)) }
+    {
+        let name = Vec::from_slice(self.alloc, name)?;
+        let pattern = pattern.copy(self.alloc)?;
+        self.kept.insert(name, Kept { pattern, left })?;
+        Ok(())
+    }
+}
