@@ -83,7 +83,12 @@ impl Names {
     }
 
     /// Keeps a copy of the tree of a name that was read where so many could be opened.
-    pub(crate) fn keep(&mut self, name: &[u8], left: u8, pattern: &Pattern) -> Result<(), AllocError>
+    pub(crate) fn keep(
+        &mut self,
+        name: &[u8],
+        left: u8,
+        pattern: &Pattern,
+    ) -> Result<(), AllocError>
         ensures { OnOk result (trees_of self.new ≡ insert (trees_of self.old) name.now (tree_of pattern.now, left)) }
     {
         let name = Vec::from_slice(self.alloc, name)?;
