@@ -6,6 +6,7 @@ pub mod EntryLaws
 pub mod FrontLaws
 pub mod GrammarLaws
 pub mod LengthLaws
+pub mod LowerLaws
 pub mod NameLaws
 pub mod OneTree
 pub mod QuotedLaws

@@ -224,7 +224,7 @@ no_name_step fold defs kind room st n h = unless_weaker kind _ (NoStepIn fold de
         h t stands (omega (arith, push_grows here outer (suc d) t))
 
 -- only a symbol that is no name steps so
-plain_of : (s : Symbol) (st after : State) → step_of s st ≡ Some after → IsPlain s
+pub plain_of : (s : Symbol) (st after : State) → step_of s st ≡ Some after → IsPlain s
 plain_of (item t) st after e = tt
 plain_of (name n) st after e = cc
 plain_of opening st after e = tt

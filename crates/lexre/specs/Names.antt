@@ -12,21 +12,21 @@ use Rattle.lexre.specs.Views.{tree_of}
 use Rattle.lexre.specs.declared.names.Kept.{Kept}
 use Rattle.lexre.specs.declared.names.Names.{Names}
 
--- names to trees, each with how many could be opened where the name was read
+-- names to trees, each with how many parentheses and names have to be opened for it
 abbrev pub Trees : Type 0
 Trees = FinMap (slice_cmp nat_cmp) (Tree × ℕ)
 
 abbrev pub tree_kept : Kept → Tree × ℕ
-tree_kept k = (tree_of k.pattern, k.left)
+tree_kept k = (tree_of k.pattern, k.needed)
 
 abbrev pub trees_of : Names → Trees
 trees_of names = map_of tree_kept names.kept.entries
 
--- the tree that is kept of a name, unless fewer may be opened than where the name was read
-abbrev pub usable : ℕ → Option (Tree × ℕ) → Option Tree
+-- what is kept of a name, unless it needs more than may be opened
+abbrev pub usable : ℕ → Option (Tree × ℕ) → Option (Tree × ℕ)
 usable left None = None
-usable left (Some k) = if nat_le k.1 left then Some k.0 else None
+usable left (Some k) = if nat_le k.1 left then Some k else None
 
 -- each name stands for the tree that is kept of it, which is sound
 abbrev pub AreKnown : Bool → Definitions → Trees → Type 0
-AreKnown fold defs trees = (n : List ℕ) (t : Tree) (left : ℕ) → get trees n ≡ Some (t, left) → StandsIn fold defs left n t × IsSoundTree t
+AreKnown fold defs trees = (n : List ℕ) (t : Tree) (needed : ℕ) → get trees n ≡ Some (t, needed) → StandsIn fold defs needed n t × IsSoundTree t

@@ -1,7 +1,7 @@
 //! The names of a pattern that is being read, and what is known of them.
 ghost use Rattle.std.specs.Prelude.{◌≡◌, OnOk, option_map};
 ghost use Rattle.std.specs.FinMap.{empty, get, insert};
-ghost use Rattle.lexre.specs.Names.{trees_of, usable};
+ghost use Rattle.lexre.specs.Names.{tree_kept, trees_of, usable};
 ghost use Rattle.lexre.specs.Reading.{is_among};
 ghost use Rattle.lexre.specs.Views.{tree_of};
 
@@ -13,8 +13,8 @@ use std::collections::BTreeMap;
 #[derive(Drop)]
 pub(crate) struct Kept {
     pub(crate) pattern: Pattern,
-    /// How many parentheses and names could be opened where it was read.
-    pub(crate) left: u8,
+    /// How many parentheses and names have to be opened for it, the name itself among them.
+    pub(crate) needed: u8,
 }
 
 #[derive(Drop)]
@@ -70,30 +70,30 @@ impl Names {
         self.open.pop();
     }
 
-    /// The tree that is kept of a name, unless fewer may be opened than where it was read.
-    pub(crate) fn find(&self, name: &[u8], left: u8) -> Option<&Pattern>
-        ensures { option_map (λ p. tree_of p.now) result ≡ usable left (get (trees_of self.now) name.now) }
+    /// What is kept of a name, unless it needs more than may be opened.
+    pub(crate) fn find(&self, name: &[u8], left: u8) -> Option<&Kept>
+        ensures { option_map (λ k. tree_kept k.now) result ≡ usable left (get (trees_of self.now) name.now) }
     {
         let kept = self.kept.get(name)?;
-        if kept.left <= left {
-            Some(&kept.pattern)
+        if kept.needed <= left {
+            Some(kept)
         } else {
             None
         }
     }
 
-    /// Keeps a copy of the tree of a name that was read where so many could be opened.
+    /// Keeps a copy of the tree of a name, for which so many have to be opened.
     pub(crate) fn keep(
         &mut self,
         name: &[u8],
-        left: u8,
+        needed: u8,
         pattern: &Pattern,
     ) -> Result<(), AllocError>
-        ensures { OnOk result (trees_of self.new ≡ insert (trees_of self.old) name.now (tree_of pattern.now, left)) }
+        ensures { OnOk result (trees_of self.new ≡ insert (trees_of self.old) name.now (tree_of pattern.now, needed)) }
     {
         let name = Vec::from_slice(self.alloc, name)?;
         let pattern = pattern.copy(self.alloc)?;
-        self.kept.insert(name, Kept { pattern, left })?;
+        self.kept.insert(name, Kept { pattern, needed })?;
         Ok(())
     }
 }

@@ -1,11 +1,11 @@
 //! Reads patterns. (POSIX, lex, Regular Expressions in lex; flex, Patterns. The bounds are this project's.)
-ghost use Rattle.std.specs.Prelude.{◌≡◌, ◌+◌, ◌≤◌, ℕ, true, false, IfOk, IfErr, OnOk};
+ghost use Rattle.std.specs.Prelude.{◌≡◌, ◌+◌, ◌-◌, ◌≤◌, ℕ, true, false, IfOk, IfErr, OnOk};
 ghost use Rattle.lexmeaning.specs.Shapes.{IsSoundTree, nodes};
 ghost use Rattle.lexmeaning.specs.Tree.{Tree};
 ghost use Rattle.lexre.specs.Counting.{state_nodes};
 ghost use Rattle.lexre.specs.Names.{AreKnown, trees_of};
 ghost use Rattle.lexre.specs.Outcome.{UnlessMemory};
-ghost use Rattle.lexre.specs.Reading.{NoneWithin, SpellsIn, StandsIn, StepsIn, begins_interval};
+ghost use Rattle.lexre.specs.Reading.{NoneWithin, SpellsIn, StandsIn, StepsIn, begins_interval, lowered};
 ghost use Rattle.lexre.specs.Running.{State};
 ghost use Rattle.lexre.specs.Soundness.{IsSoundState, IsSoundSymbol};
 ghost use Rattle.lexre.specs.Spelling.{Spells};
@@ -87,6 +87,22 @@ struct Scope<'a> {
     fold: bool,
 }
 
+/// A pattern that was read.
+#[derive(Drop)]
+struct Read {
+    pattern: Pattern,
+    /// So many of the parentheses and names that might be opened never were.
+    spare: u8,
+}
+
+/// What a symbol brought.
+#[derive(Clone, Copy)]
+struct Taken {
+    nodes: u64,
+    /// So many parentheses and names might still be opened at each place of it.
+    spare: u8,
+}
+
 /// The pattern that a name stands for, where so many parentheses and names may be opened, of at most `room` nodes. A tree
 /// is kept of the name where that takes less than its text.
 #[cycle(read)]
@@ -97,21 +113,25 @@ fn read_name(
     left: u8,
     room: u64,
     names: &mut Names,
-) -> Result<Pattern, PatternErrorKind>
+) -> Result<Read, PatternErrorKind>
     requires left { left ≤ 64 }
     requires room { room ≤ 65536 }
     requires known_so_far { AreKnown scope.fold scope.defs.now (trees_of names.old) }
-    ensures found { IfOk result (λ p. StandsIn scope.entry.fold scope.entry.defs.now left name.now (tree_of p)) }
-    ensures few { IfOk result (λ p. nodes (tree_of p) ≤ room) }
-    ensures sound { IfOk result (λ p. IsSoundTree (tree_of p)) }
+    ensures found { IfOk result (λ r. StandsIn scope.entry.fold scope.entry.defs.now (left - r.spare) name.now (tree_of r.pattern)) }
+    ensures spare { IfOk result (λ r. r.spare ≤ left) }
+    ensures few { IfOk result (λ r. nodes (tree_of r.pattern) ≤ room) }
+    ensures sound { IfOk result (λ r. IsSoundTree (tree_of r.pattern)) }
     ensures known { OnOk result (AreKnown scope.entry.fold scope.entry.defs.now (trees_of names.new)) }
     ensures none { IfErr result (λ e. UnlessMemory e (NoneWithin room (StandsIn scope.entry.fold scope.entry.defs.now left name.now))) }
 {
-    if let Some(pattern) = names.find(name, left) {
-        if capped_nodes(pattern) > room {
+    if let Some(kept) = names.find(name, left) {
+        if capped_nodes(&kept.pattern) > room {
             return Err(PatternErrorKind::TooBig);
         }
-        return Ok(pattern.copy(alloc)?);
+        return Ok(Read {
+            pattern: kept.pattern.copy(alloc)?,
+            spare: left - kept.needed,
+        });
     }
     let Some(substitute) = scope.defs.find(name) else {
         return Err(PatternErrorKind::UndefinedName);
@@ -122,18 +142,18 @@ fn read_name(
     }
     names.open(name)?;
     match read_within(alloc, substitute, scope, left - 1, room, names) {
-        Ok(pattern) => {
+        Ok(Read { pattern, spare }) => {
             names.close();
             if substitute.len() as u64 > capped_nodes(&pattern) {
-                names.keep(name, left, &pattern)?;
+                names.keep(name, left - spare, &pattern)?;
             }
-            Ok(pattern)
+            Ok(Read { pattern, spare })
         }
         Err(error) => Err(told_of_name(error.kind, cyclic)),
     }
 }
 
-/// Takes a symbol that stands at this place, and answers how many nodes it brings: at most `room`.
+/// Takes a symbol that stands at this place and brings at most `room` nodes.
 #[cycle(read)]
 fn step(
     stack: &mut Stack,
@@ -142,31 +162,48 @@ fn step(
     scope: Scope<'_>,
     room: u64,
     names: &mut Names,
-) -> Result<u64, PatternErrorKind>
+) -> Result<Taken, PatternErrorKind>
     requires room { room ≤ 65536 }
     requires sound { IsSoundSymbol (symbol_of symbol) }
     requires sound_so_far { IsSoundState (state_of stack.old) }
     requires known_so_far { AreKnown scope.fold scope.defs.now (trees_of names.old) }
-    ensures found { IfOk result (λ n. StepsIn scope.entry.fold scope.entry.defs.now (state_of stack.old) (symbol_of symbol.entry) (state_of stack.new)) }
-    ensures few { IfOk result (λ n. n ≤ room) }
-    ensures sound { IfOk result (λ n. IsSoundState (state_of stack.new)) }
+    ensures found { IfOk result (λ a. StepsIn scope.entry.fold scope.entry.defs.now (state_of stack.old) (symbol_of symbol.entry) (state_of stack.new)) }
+    ensures spare { IfOk result (λ a. a.spare ≤ stack.new.left) }
+    ensures lowered { IfOk result (λ a. (e : ℕ) → e ≤ stack.old.left → e ≤ a.spare
+        → StepsIn scope.entry.fold scope.entry.defs.now (lowered e (state_of stack.old)) (symbol_of symbol.entry) (lowered e (state_of stack.new))) }
+    ensures few { IfOk result (λ a. a.nodes ≤ room) }
+    ensures sound { IfOk result (λ a. IsSoundState (state_of stack.new)) }
     ensures known { OnOk result (AreKnown scope.entry.fold scope.entry.defs.now (trees_of names.new)) }
-    ensures counted { IfOk result (λ n. state_nodes (state_of stack.new) ≡ state_nodes (state_of stack.old) + n) }
+    ensures counted { IfOk result (λ a. state_nodes (state_of stack.new) ≡ state_nodes (state_of stack.old) + a.nodes) }
     ensures none { IfErr result (λ e. UnlessMemory e
         ((after : State) → StepsIn scope.entry.fold scope.entry.defs.now (state_of stack.old) (symbol_of symbol.entry) after → state_nodes after ≤ state_nodes (state_of stack.old) + room → ⊥)) }
 {
-    let added = match symbol {
+    let taken = match symbol {
         Symbol::Name(name) => {
             stack.here.start = at;
-            let item = read_name(stack.alloc, name, scope, stack.left, room, names)?;
-            stack.push(item, at)?
+            let Read { pattern, spare } = read_name(
+                stack.alloc,
+                name,
+                scope,
+                stack.left,
+                room,
+                names,
+            )?;
+            let nodes = stack.push(pattern, at)?;
+            Taken { nodes, spare }
         }
-        plain => stack.take(plain, at)?,
+        plain => {
+            let nodes = stack.take(plain, at)?;
+            Taken {
+                nodes,
+                spare: stack.left,
+            }
+        }
     };
-    if added > room {
+    if taken.nodes > room {
         return Err(PatternErrorKind::TooBig);
     }
-    Ok(added)
+    Ok(taken)
 }
 
 /// The pattern of a text in which so many parentheses and names may be opened, of at most `room` nodes.
@@ -178,18 +215,20 @@ fn read_within(
     left: u8,
     room: u64,
     names: &mut Names,
-) -> Result<Pattern, PatternError>
+) -> Result<Read, PatternError>
     requires left { left ≤ 64 }
     requires room { room ≤ 65536 }
     requires known_so_far { AreKnown scope.fold scope.defs.now (trees_of names.old) }
-    ensures found { IfOk result (λ p. SpellsIn scope.entry.fold scope.entry.defs.now left text.now (tree_of p)) }
-    ensures few { IfOk result (λ p. nodes (tree_of p) ≤ room) }
-    ensures sound { IfOk result (λ p. IsSoundTree (tree_of p)) }
+    ensures found { IfOk result (λ r. SpellsIn scope.entry.fold scope.entry.defs.now (left - r.spare) text.now (tree_of r.pattern)) }
+    ensures spare { IfOk result (λ r. r.spare ≤ left) }
+    ensures few { IfOk result (λ r. nodes (tree_of r.pattern) ≤ room) }
+    ensures sound { IfOk result (λ r. IsSoundTree (tree_of r.pattern)) }
     ensures known { OnOk result (AreKnown scope.entry.fold scope.entry.defs.now (trees_of names.new)) }
     ensures none { IfErr result (λ e. UnlessMemory e.kind (NoneWithin room (SpellsIn scope.entry.fold scope.entry.defs.now left text.now))) }
 {
     let mut stack = Stack::new(alloc, left);
     let mut nodes = 0;
+    let mut spare = left;
     let mut rest = text;
     while !rest.is_empty() {
         let at = text.len().saturating_sub(rest.len());
@@ -198,14 +237,17 @@ fn read_within(
             Err(fault) => return Err(told(&stack, fault, rest, at)),
         };
         match step(&mut stack, symbol, at, scope, room - nodes, names) {
-            Ok(added) => nodes += added,
+            Ok(taken) => {
+                nodes += taken.nodes;
+                spare = spare.min(taken.spare);
+            }
             Err(kind) => return Err(stack.fault(kind, at)),
         }
         rest = after;
     }
     let opening = stack.here.opening;
     match stack.finish() {
-        Ok(pattern) => Ok(pattern),
+        Ok(pattern) => Ok(Read { pattern, spare }),
         Err(PatternErrorKind::UnbalancedParen) => Err(PatternError {
             kind: PatternErrorKind::UnbalancedParen,
             at: opening,
@@ -238,7 +280,7 @@ pub fn read_pattern(
     };
     let mut names = Names::new(alloc);
     match read_within(alloc, text, scope, MOST_OPEN, MOST_NODES, &mut names) {
-        Ok(pattern) => Ok(pattern),
+        Ok(Read { pattern, .. }) => Ok(pattern),
         Err(
             PatternError {
                 kind: PatternErrorKind::OutOfMemory,

@@ -6,4 +6,4 @@ pub returns : goal.returns
 returns c =
     rw (← c.in_ok-name.ensures.items, ← c.in_ok-pattern.ensures)
     (one_more tree_kept c.args.self.now.kept.entries c.insert.new.self.entries c.in_ok-name.name
-    (record { pattern = c.in_ok-pattern.pattern; left = c.args.left }) c.in_ok-insert.ensures.entries)
+    (record { pattern = c.in_ok-pattern.pattern; needed = c.args.needed }) c.in_ok-insert.ensures.entries)
