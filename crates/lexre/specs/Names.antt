@@ -1,5 +1,5 @@
 -- The trees that are kept of the names that were read.
-use Rattle.std.specs.Prelude.{◌≡◌, ℕ, nat_le, Bool, if◌then◌else◌, List, Option, Some, None}
+use Rattle.std.specs.Prelude.{◌≡◌, ℕ, nat_le, Bool, if◌then◌else◌, List, map, Option, Some, None}
 use Rattle.std.specs.Cmp.Lexicographic.{slice_cmp}
 use Rattle.std.specs.FinMap.{FinMap, get}
 use Rattle.std.specs.Ordering.{nat_cmp}
@@ -11,6 +11,10 @@ use Rattle.lexre.specs.Reading.{StandsIn}
 use Rattle.lexre.specs.Views.{tree_of}
 use Rattle.lexre.specs.declared.names.Kept.{Kept}
 use Rattle.lexre.specs.declared.names.Names.{Names}
+
+-- the names that are being read, the outermost first
+abbrev pub open_of : Names → List (List ℕ)
+open_of names = map (λ v. v.items) names.open.items
 
 -- names to trees, each with how many parentheses and names have to be opened for it
 abbrev pub Trees : Type 0

@@ -1,7 +1,7 @@
-//! The names of a pattern that is being read, and what is known of them.
-ghost use Rattle.std.specs.Prelude.{◌≡◌, OnOk, option_map};
+//! The names that are met while a pattern is read.
+ghost use Rattle.std.specs.Prelude.{◌≡◌, ◌-◌, OnOk, option_map, [], ◌∷◌, ◌++◌, length, take};
 ghost use Rattle.std.specs.FinMap.{empty, get, insert};
-ghost use Rattle.lexre.specs.Names.{tree_kept, trees_of, usable};
+ghost use Rattle.lexre.specs.Names.{open_of, tree_kept, trees_of, usable};
 ghost use Rattle.lexre.specs.Reading.{is_among};
 ghost use Rattle.lexre.specs.Views.{tree_of};
 
@@ -17,10 +17,10 @@ pub(crate) struct Kept {
     pub(crate) needed: u8,
 }
 
+/// The names that are being read, and what is kept of those that were.
 #[derive(Drop)]
 pub(crate) struct Names {
     alloc: Global,
-    /// The names that are being read.
     pub(crate) open: Vec<Vec<u8>>,
     pub(crate) kept: BTreeMap<Vec<u8>, Kept>,
 }
@@ -38,8 +38,10 @@ fn is_among(name: &[u8], names: &[Vec<u8>]) -> bool
 }
 
 impl Names {
+    /// No names.
     pub(crate) fn new(alloc: Global) -> Names
-        ensures { trees_of result ≡ empty }
+        ensures open { open_of result ≡ [] }
+        ensures trees { trees_of result ≡ empty }
     {
         Names {
             alloc,
@@ -55,17 +57,19 @@ impl Names {
         is_among(name, &self.open)
     }
 
-    /// Begins to read the name.
+    /// Notes that the name is being read.
     pub(crate) fn open(&mut self, name: &[u8]) -> Result<(), AllocError>
-        ensures { trees_of self.new ≡ trees_of self.old }
+        ensures opened { OnOk result (open_of self.new ≡ open_of self.old ++ name.now ∷ []) }
+        ensures trees { trees_of self.new ≡ trees_of self.old }
     {
         self.open.push(Vec::from_slice(self.alloc, name)?)?;
         Ok(())
     }
 
-    /// Ends to read the name that was begun last.
+    /// Notes that the name that was opened last was read.
     pub(crate) fn close(&mut self)
-        ensures { trees_of self.new ≡ trees_of self.old }
+        ensures closed { open_of self.new ≡ take (length (open_of self.old) - 1) (open_of self.old) }
+        ensures trees { trees_of self.new ≡ trees_of self.old }
     {
         self.open.pop();
     }

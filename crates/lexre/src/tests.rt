@@ -1028,6 +1028,19 @@ fn names_in_parentheses(rt: HostRuntime) -> Result<(), Fail> {
     Ok(())
 }
 
+#[test]
+fn names_inside_more_and_more(rt: HostRuntime) -> Result<(), Fail> {
+    let alloc = rt.alloc();
+    let defs = long_definitions(alloc)?;
+    for (depth, fault) in [(63, None), (64, Some((PatternErrorKind::TooDeep, 256)))] {
+        let mut text = repeated(alloc, b"{c}(", depth)?;
+        text.extend_from_slice(b"{c}")?;
+        text.extend_from_slice(&repeated(alloc, b")", depth)?)?;
+        assert!(rt; told(alloc, &text, &defs) == fault);
+    }
+    Ok(())
+}
+
 // A text with names that stand more than once, and what is told of it, where it is refused.
 const TWICE: [(&[u8], Option<(PatternErrorKind, usize)>); 7] = [
     (b"{c}{wide}{c}", None),

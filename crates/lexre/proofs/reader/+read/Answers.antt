@@ -96,19 +96,19 @@ read_within-returns-in-Ok-finish-clause-sound t c = sound_finished (state_of c.l
 pub read_name-returns-then-capped_nodes-room-clause-none : goal.read_name-returns-then-capped_nodes-room-clause-none
 read_name-returns-then-capped_nodes-room-clause-none t c =
     let (below, stands, sound) = known_usable c.args.scope.fold c.args.scope.defs.now (trees_of c.args.names.now) c.args.left c.args.name.now (tree_of c.in-Some.kept.now.pattern) c.in-Some.kept.now.needed
-        c.requires.known_so_far (sym c.in-Some.ensures) in
+    c.requires.known_so_far (sym c.in-Some.ensures) in
     too_many_known c.args.scope.fold c.args.scope.defs.now c.args.room c.args.left c.args.name.now (tree_of c.in-Some.kept.now.pattern)
     (stands_rises c.args.scope.fold c.args.scope.defs.now c.in-Some.kept.now.needed c.args.left c.args.name.now (tree_of c.in-Some.kept.now.pattern) stands below) (omega arith)
 
 pub read_name-read_within-requires : goal.read_name-read_within-requires
 read_name-read_within-requires t c =
     let P : Trees → Type 0 = λ x. AreKnown c.args.scope.fold c.args.scope.defs.now x in
-    (search rules, (search rules, (c.requires.room, subst P (sym c.open.ensures) c.requires.known_so_far)))
+    (search rules, (search rules, (c.requires.room, subst P (sym c.open.ensures.trees) c.requires.known_so_far)))
 
 pub read_name-returns-after-substitute-capped_nodes-clause-known : goal.read_name-returns-after-substitute-capped_nodes-clause-known
 read_name-returns-after-substitute-capped_nodes-clause-known t c =
     let P : Trees → Type 0 = λ x. AreKnown c.args.scope.fold c.args.scope.defs.now x in
-    let closed : P (trees_of c.close.new.self) = subst P (sym c.close.ensures) c.in-Ok.ensures.known in
+    let closed : P (trees_of c.close.new.self) = subst P (sym c.close.ensures.trees) c.in-Ok.ensures.known in
     elim c.if-substitute-capped_nodes.branch [
       | read_name-then-substitute-capped_nodes+in_ok-keep-in-Ok w ↦
           rw w.names-is (subst P (sym w.in_ok-keep-in-Ok.ensures)
