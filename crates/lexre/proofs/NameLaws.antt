@@ -1,5 +1,5 @@
 -- What is known of names.
-use Rattle.std.proofs.Common.{◌≡◌, ℕ, zero, suc, ◌≤◌, ◌<◌, Bool, true, false, nat_le, cond, if◌then◌else◌, List, Option, Some, None, refl, sym, ap, ◌∙◌, subst, arith}
+use Rattle.std.proofs.Common.{◌≡◌, ℕ, zero, suc, ◌≤◌, ◌<◌, Bool, nat_le, cond, List, Option, Some, None, refl, sym, ap, ◌∙◌, subst, arith}
 use Rattle.std.proofs.lemmas.Bool.{le-leb, lt-leb, leb-true}
 use Rattle.std.specs.Cmp.Lexicographic.{slice_cmp, nat_list_cmp_total}
 use Rattle.std.specs.FinMap as map
@@ -8,11 +8,8 @@ use Rattle.std.specs.declared.cmp.Ordering.{Ordering}
 use Rattle.std.specs.declared.cmp.Ordering.TheVariants.{Less, Equal, Greater}
 use Rattle.lexmeaning.specs.Shapes.{IsSoundTree, nodes}
 use Rattle.lexmeaning.specs.Tree.{Tree}
-use Rattle.lexclass.specs.Lexical.{symbol_at}
-use Rattle.lexclass.specs.Symbols.{Symbol, Lexer}
 use Rattle.lexre.specs.Definitions.{Definitions}
 use Rattle.lexre.specs.Counting.{capped_nodes}
-use Rattle.lexre.specs.Grammar.{IsItem, IsSeries, IsPattern, alone, group, defines, first, next, repeated, counted, only, choice, SpellsWithin}
 use Rattle.lexre.specs.Names.{Trees, usable, AreKnown}
 use Rattle.lexre.specs.Reading.{StandsIn, NoneWithin}
 use Rattle.lexre.proofs.GrammarLaws.{chosen}
