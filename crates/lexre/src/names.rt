@@ -40,7 +40,7 @@ fn is_among(name: &[u8], names: &[Vec<u8>]) -> bool
 impl Names {
     /// No names.
     pub(crate) fn new(alloc: Global) -> Names
-        ensures open { open_of result ≡ [] }
+        ensures none_open { open_of result ≡ [] }
         ensures trees { trees_of result ≡ empty }
     {
         Names {
