@@ -1,51 +1,26 @@
 -- What the entries of a map from names to texts stand for.
-use Rattle.std.proofs.Common.{◌≡◌, ℕ, List, [], ◌∷◌, true, false, cond, Option, Some, None, option_map, is_some, IsSome, IsErrOf, Ok, Err, ◌↔◌, Vec, refl, sym, ap, ◌∙◌}
-use Rattle.std.specs.BTreeMap.{insert_entry, is_at}
-use Rattle.std.specs.Cmp.Lexicographic.{slice_cmp, nat_list_cmp_total}
+use Rattle.std.proofs.Common.{◌≡◌, ℕ, List, true, false, Option, Some, None, option_map, is_some, IsSome, IsErrOf, Ok, Err, ◌↔◌, Vec, refl, sym, ap, ◌∙◌}
+use Rattle.std.specs.BTreeMap.{insert_entry}
+use Rattle.std.specs.Cmp.Lexicographic.{slice_cmp}
 use Rattle.std.specs.FinMap as map
-use Rattle.std.specs.FinMap.Entries.{by_order, put, find-put}
-use Rattle.std.specs.Map.{lookup}
-use Rattle.std.specs.Ordering.{nat_cmp, eq_by_cmp, is_eq, match_ordering}
-use Rattle.std.specs.declared.cmp.Ordering.TheVariants.{Less, Equal, Greater}
-use Rattle.lexre.specs.Definitions.{Definitions, texts_of, definitions_of}
+use Rattle.std.specs.Ordering.{nat_cmp}
+use Rattle.lexre.specs.Definitions.{Definitions, definitions_of}
 use Rattle.lexre.specs.declared.definitions.DefsError.{DefsError}
 use Rattle.lexre.specs.declared.definitions.DefsError.TheVariants.{Duplicate, OutOfMemory}
+use Rattle.lexre.proofs.EntryLaws.{value_at, get_shown}
+use Rattle.lexre.proofs.EntryLaws as entries
 
 -- the text of a name, as a map of lists finds it
 abbrev pub text_at : {Y Z : Type 0} → List (Vec ℕ Y × Vec ℕ Z) → List ℕ → Option (Vec ℕ Z)
-text_at es name = lookup (is_at (λ k. slice_cmp nat_cmp name k.items)) es
-
-find_text : {Y Z : Type 0} (es : List (Vec ℕ Y × Vec ℕ Z)) (name : List ℕ) → map.find (slice_cmp nat_cmp) name (texts_of es) ≡ option_map (λ t. t.items) (text_at es name)
-find_text [] name = refl
-find_text (e ∷ es) name =
-    elim (is_eq (slice_cmp nat_cmp name e.0.items)) as (λ b. cond b (Some e.1.items) (map.find (slice_cmp nat_cmp) name (texts_of es)) ≡ option_map (λ t. t.items) (cond b (Some e.1) (text_at es name))) [
-      | true ↦ refl
-      | false ↦ find_text es name
-    ]
+text_at es name = value_at es name
 
 pub get_text : {Y Z : Type 0} (es : List (Vec ℕ Y × Vec ℕ Z)) (name : List ℕ) → map.get (definitions_of es) name ≡ option_map (λ t. t.items) (text_at es name)
-get_text es name = map.get-from_entries nat_list_cmp_total (texts_of es) name ∙ find_text es name
-
-texts_of_insert : {Y Z : Type 0} (es : List (Vec ℕ Y × Vec ℕ Z)) (k : Vec ℕ Y) (v : Vec ℕ Z)
-    → texts_of (insert_entry (λ x y. slice_cmp nat_cmp x.items y.items) es k v) ≡ put (slice_cmp nat_cmp) k.items v.items (texts_of es)
-texts_of_insert [] k v = refl
-texts_of_insert (e ∷ es) k v =
-    elim (slice_cmp nat_cmp k.items e.0.items) as (λ r. texts_of (match_ordering r ((k, v) ∷ e ∷ es) ((e.0, v) ∷ es) (e ∷ insert_entry (λ x y. slice_cmp nat_cmp x.items y.items) es k v)) ≡ by_order r ((k.items, v.items) ∷ texts_of (e ∷ es)) ((e.0.items, v.items) ∷ texts_of es) ((e.0.items, e.1.items) ∷ put (slice_cmp nat_cmp) k.items v.items (texts_of es))) [
-      | Less ↦ refl
-      | Equal ↦ refl
-      | Greater ↦ ap (λ ts. (e.0.items, e.1.items) ∷ ts) (texts_of_insert es k v)
-    ]
+get_text es name = get_shown (λ t. t.items) es name
 
 -- an entry more is a definition more
 pub one_more : {Y Z : Type 0} (es fs : List (Vec ℕ Y × Vec ℕ Z)) (k : Vec ℕ Y) (v : Vec ℕ Z)
     → fs ≡ insert_entry (λ x y. slice_cmp nat_cmp x.items y.items) es k v → definitions_of fs ≡ map.insert (definitions_of es) k.items v.items
-one_more es fs k v e =
-    map.same_map nat_list_cmp_total (map.slice_cmp-IsAntisymmetric map.nat_cmp-IsAntisymmetric) (definitions_of fs) (map.insert (definitions_of es) k.items v.items) (λ q.
-    map.get-from_entries nat_list_cmp_total (texts_of fs) q
-    ∙ ap (map.find (slice_cmp nat_cmp) q) (ap texts_of e ∙ texts_of_insert es k v)
-    ∙ find-put (slice_cmp nat_cmp) nat_list_cmp_total q k.items v.items (texts_of es)
-    ∙ ap (cond (eq_by_cmp (slice_cmp nat_cmp) q k.items) (Some v.items)) (sym (map.get-from_entries nat_list_cmp_total (texts_of es) q))
-    ∙ sym (map.get-insert nat_list_cmp_total (definitions_of es) k.items v.items q))
+one_more es fs k v e = entries.one_more (λ t. t.items) es fs k v e
 
 is_some-option_map : {A B : Type 0} (f : A → B) (o : Option A) → is_some (option_map f o) ≡ is_some o
 is_some-option_map f None = refl

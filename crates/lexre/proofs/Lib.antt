@@ -2,9 +2,12 @@ pub mod BraceLaws
 pub mod CountLaws
 pub mod CuttingLaws
 pub mod DefinitionLaws
+pub mod EntryLaws
 pub mod FrontLaws
 pub mod GrammarLaws
 pub mod LengthLaws
+pub mod LowerLaws
+pub mod NameLaws
 pub mod OneTree
 pub mod QuotedLaws
 pub mod ReaderLaws

@@ -224,7 +224,7 @@ no_name_step fold defs kind room st n h = unless_weaker kind _ (NoStepIn fold de
         h t stands (omega (arith, push_grows here outer (suc d) t))
 
 -- only a symbol that is no name steps so
-plain_of : (s : Symbol) (st after : State) → step_of s st ≡ Some after → IsPlain s
+pub plain_of : (s : Symbol) (st after : State) → step_of s st ≡ Some after → IsPlain s
 plain_of (item t) st after e = tt
 plain_of (name n) st after e = cc
 plain_of opening st after e = tt
@@ -240,7 +240,7 @@ too_many_plain fold defs room n st there s is e big after step few = omega (arit
 pub counted_plain : (room n : ℕ) (st there : State) (s : Symbol) → step_of s st ≡ Some there → n ≡ adds s st → n ≤ room → room ≤ 65536 → state_nodes there ≡ state_nodes st + n
 counted_plain room n st there s is e few small = step_nodes s st there is (omega arith) ∙ ap (λ k. state_nodes st + k) (sym e)
 
-one_stands : (fold : Bool) (defs : Definitions) (d : ℕ) (n : List ℕ) (t u : Tree) → Stands (symbol_at fold) (get defs) d n t → Stands (symbol_at fold) (get defs) d n u → t ≡ u
+pub one_stands : (fold : Bool) (defs : Definitions) (d : ℕ) (n : List ℕ) (t u : Tree) → Stands (symbol_at fold) (get defs) d n t → Stands (symbol_at fold) (get defs) d n u → t ≡ u
 one_stands fold defs d n t u (sub, found, spells) (sub', found', spells') =
     let same : sub' ≡ sub = cc in
     let P : List ℕ → Type 0 = λ x. SpellsIn fold defs d x u in

@@ -1,8 +1,10 @@
 pub mod Counting
 pub mod Cutting
 pub mod Definitions
+pub mod Entries
 pub mod Grammar
 pub mod Lengths
+pub mod Names
 pub mod Outcome
 pub mod Progress
 pub mod Reading

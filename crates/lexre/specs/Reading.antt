@@ -1,5 +1,5 @@
 -- What the reader of patterns reads, by how many parentheses and names may be open.
-use Rattle.std.specs.Prelude.{ℕ, zero, suc, ◌≤◌, Bool, false, ◌||◌, ◌&&◌, ◌==◌, List, [], ◌∷◌, Vec}
+use Rattle.std.specs.Prelude.{ℕ, zero, suc, ◌-◌, ◌≤◌, Bool, false, ◌||◌, ◌&&◌, ◌==◌, List, [], ◌∷◌, Vec}
 use Rattle.std.specs.FinMap.{get}
 use Rattle.lexmeaning.specs.ByteSets.{is_digit, is_word}
 use Rattle.lexmeaning.specs.Tree.{Tree}
@@ -7,7 +7,7 @@ use Rattle.lexmeaning.specs.Shapes.{nodes}
 use Rattle.lexre.specs.Definitions.{Definitions}
 use Rattle.lexre.specs.Grammar.{SpellsWithin}
 use Rattle.lexclass.specs.Lexical.{symbol_at}
-use Rattle.lexre.specs.Running.{State, Stands, Steps}
+use Rattle.lexre.specs.Running.{State, state, Stands, Steps}
 use Rattle.lexclass.specs.Symbols.{Symbol}
 
 -- the text is a pattern, and this is its tree
@@ -22,6 +22,10 @@ StandsIn fold defs (suc d) n t = Stands (symbol_at fold) (get defs) d n t
 -- the state after a symbol
 abbrev pub StepsIn : Bool → Definitions → State → Symbol → State → Type 0
 StepsIn fold defs st s after = Steps (symbol_at fold) (get defs) st s after
+
+-- the state where so many fewer may be opened
+abbrev pub lowered : ℕ → State → State
+lowered e (state here outer d) = state here outer (d - e)
 
 -- no tree of so few nodes
 abbrev pub NoneWithin : ℕ → (Tree → Type 0) → Type 0

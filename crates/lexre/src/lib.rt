@@ -3,6 +3,7 @@
 
 mod bounds;
 mod braces;
+mod copies;
 mod counts;
 mod cutting;
 mod definitions;
@@ -10,6 +11,7 @@ mod frames;
 mod laws;
 mod lexer;
 mod measures;
+mod names;
 mod pattern;
 mod quotes;
 mod reader;

@@ -1,10 +1,11 @@
 //! Reads patterns. (POSIX, lex, Regular Expressions in lex; flex, Patterns. The bounds are this project's.)
-ghost use Rattle.std.specs.Prelude.{◌≡◌, ◌+◌, ◌≤◌, ℕ, true, false, IfOk, IfErr};
+ghost use Rattle.std.specs.Prelude.{◌≡◌, ◌+◌, ◌-◌, ◌≤◌, ℕ, true, false, IfOk, IfErr, OnOk};
 ghost use Rattle.lexmeaning.specs.Shapes.{IsSoundTree, nodes};
 ghost use Rattle.lexmeaning.specs.Tree.{Tree};
 ghost use Rattle.lexre.specs.Counting.{state_nodes};
+ghost use Rattle.lexre.specs.Names.{AreKnown, trees_of};
 ghost use Rattle.lexre.specs.Outcome.{UnlessMemory};
-ghost use Rattle.lexre.specs.Reading.{NoneWithin, SpellsIn, StandsIn, StepsIn, begins_interval, is_among};
+ghost use Rattle.lexre.specs.Reading.{NoneWithin, SpellsIn, StandsIn, StepsIn, begins_interval, lowered};
 ghost use Rattle.lexre.specs.Running.{State};
 ghost use Rattle.lexre.specs.Soundness.{IsSoundState, IsSoundSymbol};
 ghost use Rattle.lexre.specs.Spelling.{Spells};
@@ -13,9 +14,11 @@ ghost use Rattle.lexre.specs.SymbolViews.{symbol_of};
 ghost use Rattle.lexre.specs.Views.{tree_of};
 ghost use Rattle.lexclass.specs.declared.error.PatternErrorKind.TheVariants.{DefinitionCycle, OutOfMemory};
 
+use crate::counts::capped_nodes;
 use crate::definitions::Defs;
 use crate::frames::Stack;
 use crate::lexer::symbol_at;
+use crate::names::Names;
 use crate::pattern::Pattern;
 use crate::symbols::Symbol;
 use lexclass::{Class, Fault, PatternError, PatternErrorKind};
@@ -62,18 +65,6 @@ fn told(stack: &Stack, fault: Fault, text: &[u8], at: usize) -> PatternError
     }
 }
 
-/// Whether the name is one of these.
-fn is_among(name: &[u8], names: &[Vec<u8>]) -> bool
-    ensures { result ≡ is_among name.now names.now }
-{
-    for known in names {
-        if known.as_slice() == name {
-            return true;
-        }
-    }
-    false
-}
-
 /// What is told of a name whose substitute has this fault. A name inside its own substitute is read on until no more may
 /// be opened, and is told as a cycle then.
 fn told_of_name(kind: PatternErrorKind, cyclic: bool) -> PatternErrorKind
@@ -88,114 +79,175 @@ fn told_of_name(kind: PatternErrorKind, cyclic: bool) -> PatternErrorKind
     }
 }
 
-/// The pattern that a name stands for, where so many parentheses and names may be opened, of at most `room` nodes. `open`
-/// has the names that are being read.
+/// What a text is read under.
+#[derive(Clone, Copy)]
+struct Scope<'a> {
+    defs: &'a Defs,
+    /// Whether letters stand for both cases.
+    fold: bool,
+}
+
+/// A pattern that was read.
+#[derive(Drop)]
+struct Read {
+    pattern: Pattern,
+    /// So many of the parentheses and names that might be opened never were.
+    spare: u8,
+}
+
+/// What a symbol brought.
+#[derive(Clone, Copy)]
+struct Taken {
+    nodes: u64,
+    /// So many parentheses and names might still be opened at each place of it.
+    spare: u8,
+}
+
+/// The pattern that a name stands for, where so many parentheses and names may be opened, of at most `room` nodes. A tree
+/// is kept of the name where that takes less than its text.
 #[cycle(read)]
 fn read_name(
     alloc: Global,
     name: &[u8],
-    defs: &Defs,
-    fold: bool,
+    scope: Scope<'_>,
     left: u8,
     room: u64,
-    open: &mut Vec<Vec<u8>>,
-) -> Result<Pattern, PatternErrorKind>
+    names: &mut Names,
+) -> Result<Read, PatternErrorKind>
     requires left { left ≤ 64 }
     requires room { room ≤ 65536 }
-    ensures found { IfOk result (λ p. StandsIn fold defs.now left name.now (tree_of p)) }
-    ensures few { IfOk result (λ p. nodes (tree_of p) ≤ room) }
-    ensures sound { IfOk result (λ p. IsSoundTree (tree_of p)) }
-    ensures none { IfErr result (λ e. UnlessMemory e (NoneWithin room (StandsIn fold defs.now left name.now))) }
+    requires known_so_far { AreKnown scope.fold scope.defs.now (trees_of names.old) }
+    ensures found { IfOk result (λ r. StandsIn scope.entry.fold scope.entry.defs.now (left - r.spare) name.now (tree_of r.pattern)) }
+    ensures spare { IfOk result (λ r. r.spare ≤ left) }
+    ensures few { IfOk result (λ r. nodes (tree_of r.pattern) ≤ room) }
+    ensures sound { IfOk result (λ r. IsSoundTree (tree_of r.pattern)) }
+    ensures known { OnOk result (AreKnown scope.entry.fold scope.entry.defs.now (trees_of names.new)) }
+    ensures none { IfErr result (λ e. UnlessMemory e (NoneWithin room (StandsIn scope.entry.fold scope.entry.defs.now left name.now))) }
 {
-    let Some(substitute) = defs.find(name) else {
+    if let Some(kept) = names.find(name, left) {
+        if capped_nodes(&kept.pattern) > room {
+            return Err(PatternErrorKind::TooBig);
+        }
+        return Ok(Read {
+            pattern: kept.pattern.copy(alloc)?,
+            spare: left - kept.needed,
+        });
+    }
+    let Some(substitute) = scope.defs.find(name) else {
         return Err(PatternErrorKind::UndefinedName);
     };
-    let cyclic = is_among(name, open);
+    let cyclic = names.is_open(name);
     if left == 0 {
         return Err(told_of_name(PatternErrorKind::TooDeep, cyclic));
     }
-    open.push(Vec::from_slice(alloc, name)?)?;
-    match read_within(alloc, substitute, defs, fold, left - 1, room, open) {
-        Ok(pattern) => {
-            open.pop();
-            Ok(pattern)
+    names.open(name)?;
+    match read_within(alloc, substitute, scope, left - 1, room, names) {
+        Ok(Read { pattern, spare }) => {
+            names.close();
+            if substitute.len() as u64 > capped_nodes(&pattern) {
+                names.keep(name, left - spare, &pattern)?;
+            }
+            Ok(Read { pattern, spare })
         }
         Err(error) => Err(told_of_name(error.kind, cyclic)),
     }
 }
 
-/// Takes a symbol that stands at this place, and answers how many nodes it brings: at most `room`.
+/// Takes a symbol that stands at this place and brings at most `room` nodes.
 #[cycle(read)]
 fn step(
     stack: &mut Stack,
     symbol: Symbol,
     at: usize,
-    defs: &Defs,
-    fold: bool,
+    scope: Scope<'_>,
     room: u64,
-    open: &mut Vec<Vec<u8>>,
-) -> Result<u64, PatternErrorKind>
+    names: &mut Names,
+) -> Result<Taken, PatternErrorKind>
     requires room { room ≤ 65536 }
     requires sound { IsSoundSymbol (symbol_of symbol) }
     requires sound_so_far { IsSoundState (state_of stack.old) }
-    ensures found { IfOk result (λ n. StepsIn fold defs.now (state_of stack.old) (symbol_of symbol.entry) (state_of stack.new)) }
-    ensures few { IfOk result (λ n. n ≤ room) }
-    ensures sound { IfOk result (λ n. IsSoundState (state_of stack.new)) }
-    ensures counted { IfOk result (λ n. state_nodes (state_of stack.new) ≡ state_nodes (state_of stack.old) + n) }
+    requires known_so_far { AreKnown scope.fold scope.defs.now (trees_of names.old) }
+    ensures found { IfOk result (λ a. StepsIn scope.entry.fold scope.entry.defs.now (state_of stack.old) (symbol_of symbol.entry) (state_of stack.new)) }
+    ensures spare { IfOk result (λ a. a.spare ≤ stack.new.left) }
+    ensures lowered { IfOk result (λ a. (e : ℕ) → e ≤ stack.old.left → e ≤ a.spare
+        → StepsIn scope.entry.fold scope.entry.defs.now (lowered e (state_of stack.old)) (symbol_of symbol.entry) (lowered e (state_of stack.new))) }
+    ensures few { IfOk result (λ a. a.nodes ≤ room) }
+    ensures sound { IfOk result (λ a. IsSoundState (state_of stack.new)) }
+    ensures known { OnOk result (AreKnown scope.entry.fold scope.entry.defs.now (trees_of names.new)) }
+    ensures counted { IfOk result (λ a. state_nodes (state_of stack.new) ≡ state_nodes (state_of stack.old) + a.nodes) }
     ensures none { IfErr result (λ e. UnlessMemory e
-        ((after : State) → StepsIn fold defs.now (state_of stack.old) (symbol_of symbol.entry) after → state_nodes after ≤ state_nodes (state_of stack.old) + room → ⊥)) }
+        ((after : State) → StepsIn scope.entry.fold scope.entry.defs.now (state_of stack.old) (symbol_of symbol.entry) after → state_nodes after ≤ state_nodes (state_of stack.old) + room → ⊥)) }
 {
-    let added = match symbol {
+    let taken = match symbol {
         Symbol::Name(name) => {
             stack.here.start = at;
-            let item = read_name(stack.alloc, name, defs, fold, stack.left, room, open)?;
-            stack.push(item, at)?
+            let Read { pattern, spare } = read_name(
+                stack.alloc,
+                name,
+                scope,
+                stack.left,
+                room,
+                names,
+            )?;
+            let nodes = stack.push(pattern, at)?;
+            Taken { nodes, spare }
         }
-        plain => stack.take(plain, at)?,
+        plain => {
+            let nodes = stack.take(plain, at)?;
+            Taken {
+                nodes,
+                spare: stack.left,
+            }
+        }
     };
-    if added > room {
+    if taken.nodes > room {
         return Err(PatternErrorKind::TooBig);
     }
-    Ok(added)
+    Ok(taken)
 }
 
-/// The pattern of a text in which so many parentheses and names may be opened, of at most `room` nodes. `open` has the
-/// names that are being read.
+/// The pattern of a text in which so many parentheses and names may be opened, of at most `room` nodes.
 #[cycle(read)]
 fn read_within(
     alloc: Global,
     text: &[u8],
-    defs: &Defs,
-    fold: bool,
+    scope: Scope<'_>,
     left: u8,
     room: u64,
-    open: &mut Vec<Vec<u8>>,
-) -> Result<Pattern, PatternError>
+    names: &mut Names,
+) -> Result<Read, PatternError>
     requires left { left ≤ 64 }
     requires room { room ≤ 65536 }
-    ensures found { IfOk result (λ p. SpellsIn fold defs.now left text.now (tree_of p)) }
-    ensures few { IfOk result (λ p. nodes (tree_of p) ≤ room) }
-    ensures sound { IfOk result (λ p. IsSoundTree (tree_of p)) }
-    ensures none { IfErr result (λ e. UnlessMemory e.kind (NoneWithin room (SpellsIn fold defs.now left text.now))) }
+    requires known_so_far { AreKnown scope.fold scope.defs.now (trees_of names.old) }
+    ensures found { IfOk result (λ r. SpellsIn scope.entry.fold scope.entry.defs.now (left - r.spare) text.now (tree_of r.pattern)) }
+    ensures spare { IfOk result (λ r. r.spare ≤ left) }
+    ensures few { IfOk result (λ r. nodes (tree_of r.pattern) ≤ room) }
+    ensures sound { IfOk result (λ r. IsSoundTree (tree_of r.pattern)) }
+    ensures known { OnOk result (AreKnown scope.entry.fold scope.entry.defs.now (trees_of names.new)) }
+    ensures none { IfErr result (λ e. UnlessMemory e.kind (NoneWithin room (SpellsIn scope.entry.fold scope.entry.defs.now left text.now))) }
 {
     let mut stack = Stack::new(alloc, left);
     let mut nodes = 0;
+    let mut spare = left;
     let mut rest = text;
     while !rest.is_empty() {
         let at = text.len().saturating_sub(rest.len());
-        let (symbol, after) = match symbol_at(alloc, rest, fold) {
+        let (symbol, after) = match symbol_at(alloc, rest, scope.fold) {
             Ok(found) => found,
             Err(fault) => return Err(told(&stack, fault, rest, at)),
         };
-        match step(&mut stack, symbol, at, defs, fold, room - nodes, open) {
-            Ok(added) => nodes += added,
+        match step(&mut stack, symbol, at, scope, room - nodes, names) {
+            Ok(taken) => {
+                nodes += taken.nodes;
+                spare = spare.min(taken.spare);
+            }
             Err(kind) => return Err(stack.fault(kind, at)),
         }
         rest = after;
     }
     let opening = stack.here.opening;
     match stack.finish() {
-        Ok(pattern) => Ok(pattern),
+        Ok(pattern) => Ok(Read { pattern, spare }),
         Err(PatternErrorKind::UnbalancedParen) => Err(PatternError {
             kind: PatternErrorKind::UnbalancedParen,
             at: opening,
@@ -222,17 +274,13 @@ pub fn read_pattern(
     ensures sound { IfOk result (λ p. IsSoundTree (tree_of p)) }
     ensures none { IfErr result (λ e. UnlessMemory e.kind ((t : Tree) → Spells options.fold defs.now text.now t → ⊥)) }
 {
-    let mut open = Vec::new(alloc);
-    match read_within(
-        alloc,
-        text,
+    let scope = Scope {
         defs,
-        options.fold,
-        MOST_OPEN,
-        MOST_NODES,
-        &mut open,
-    ) {
-        Ok(pattern) => Ok(pattern),
+        fold: options.fold,
+    };
+    let mut names = Names::new(alloc);
+    match read_within(alloc, text, scope, MOST_OPEN, MOST_NODES, &mut names) {
+        Ok(Read { pattern, .. }) => Ok(pattern),
         Err(
             PatternError {
                 kind: PatternErrorKind::OutOfMemory,

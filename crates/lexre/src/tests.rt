@@ -919,3 +919,154 @@ fn long_patterns(rt: HostRuntime) -> Result<(), Fail> {
     }
     Ok(())
 }
+
+// What is told of a text, where it is refused.
+fn told(alloc: Global, text: &[u8], defs: &Defs) -> Option<(PatternErrorKind, usize)> {
+    match read_pattern(alloc, text, defs, ReadOptions { fold: false }) {
+        Ok(_) => None,
+        Err(error) => Some((error.kind, error.at)),
+    }
+}
+
+// A text, as many times as given
+fn repeated(alloc: Global, part: &[u8], count: usize) -> Result<Vec<u8>, AllocError> {
+    let mut text = Vec::new(alloc);
+    for _ in 0..count {
+        text.extend_from_slice(part)?;
+    }
+    Ok(text)
+}
+
+// Names of long texts that have few nodes, and of their texts
+fn long_definitions(alloc: Global) -> Result<Defs, DefsError> {
+    let mut defs = Defs::new(alloc);
+    let mut class = repeated(alloc, b"a", 499_998)?;
+    class.insert(0, b'[')?;
+    class.push(b']')?;
+    defs.add(b"c", &class)?;
+    let quotes = repeated(alloc, b"\"a\"", 40_000)?;
+    defs.add(b"wide", &quotes)?;
+    for (name, text) in [
+        (b"pair".as_slice(), b"({c})({c})".as_slice()),
+        (b"p", b"{c}{c}"),
+        (b"q", b"{p}{p}{p}{p}"),
+        (b"r", b"{q}{q}"),
+        (b"three", b"((\"a\"))"),
+        (b"four", b"{three}"),
+        (b"wrong", b"{c}("),
+        (b"round", b"{c}{round}"),
+    ] {
+        defs.add(name, text)?;
+    }
+    Ok(defs)
+}
+
+// A text that stands many times, how often, how many sets that gives, and where it is too big once more.
+const OFTEN: [(&[u8], usize, u32, usize); 4] = [
+    (b"{c}", 65_535, 65_535, 196_605),
+    (b"{pair}", 21_845, 43_690, 131_070),
+    (b"{r}", 2427, 38_832, 7281),
+    (b"({pair}|{c})", 13_107, 39_321, 157_285),
+];
+
+#[test]
+fn long_texts_of_names(rt: HostRuntime) -> Result<(), Fail> {
+    let alloc = rt.alloc();
+    let defs = long_definitions(alloc)?;
+    for (part, count, sets, at) in OFTEN {
+        let mut text = repeated(alloc, part, count)?;
+        let options = ReadOptions { fold: false };
+        let pattern = read_pattern(alloc, &text, &defs, options).expect(&rt, "a tree");
+        assert_eq!(rt; positions(&pattern), Some(sets));
+        text.extend_from_slice(part)?;
+        assert!(rt; told(alloc, &text, &defs) == Some((PatternErrorKind::TooBig, at)));
+    }
+    Ok(())
+}
+
+// A text inside so many parentheses, between two texts
+fn within(
+    alloc: Global,
+    first: &[u8],
+    depth: usize,
+    inside: &[u8],
+    last: &[u8],
+) -> Result<Vec<u8>, AllocError> {
+    let mut text = Vec::from_slice(alloc, first)?;
+    for _ in 0..depth {
+        text.push(b'(')?;
+    }
+    text.extend_from_slice(inside)?;
+    for _ in 0..depth {
+        text.push(b')')?;
+    }
+    text.extend_from_slice(last)?;
+    Ok(text)
+}
+
+// A text, in how many parentheses the next stands, the last, and what is told. Of these names the first takes three of
+// what may be opened, and the second four.
+const DEEP: [(&[u8], usize, &[u8], &[u8], Option<usize>); 7] = [
+    (b"{three}", 61, b"{three}", b"{three}", None),
+    (b"", 61, b"{three}", b"{three}", None),
+    (b"{three}", 62, b"{three}", b"", Some(69)),
+    (b"", 62, b"{three}", b"{three}", Some(62)),
+    (b"{four}", 60, b"{four}{three}", b"({four})", None),
+    (b"({four})", 61, b"{three}{four}", b"", Some(76)),
+    (b"{three}", 61, b"({three})", b"", Some(69)),
+];
+
+#[test]
+fn names_in_parentheses(rt: HostRuntime) -> Result<(), Fail> {
+    let alloc = rt.alloc();
+    let defs = long_definitions(alloc)?;
+    for (first, depth, inside, last, refused) in DEEP {
+        let text = within(alloc, first, depth, inside, last)?;
+        let fault = refused.map(|at| (PatternErrorKind::TooDeep, at));
+        assert!(rt; told(alloc, &text, &defs) == fault);
+    }
+    Ok(())
+}
+
+#[test]
+fn names_inside_more_and_more(rt: HostRuntime) -> Result<(), Fail> {
+    let alloc = rt.alloc();
+    let defs = long_definitions(alloc)?;
+    for (depth, fault) in [(63, None), (64, Some((PatternErrorKind::TooDeep, 256)))] {
+        let mut text = repeated(alloc, b"{c}(", depth)?;
+        text.extend_from_slice(b"{c}")?;
+        text.extend_from_slice(&repeated(alloc, b")", depth)?)?;
+        assert!(rt; told(alloc, &text, &defs) == fault);
+    }
+    Ok(())
+}
+
+// A text with names that stand more than once, and what is told of it, where it is refused.
+const TWICE: [(&[u8], Option<(PatternErrorKind, usize)>); 7] = [
+    (b"{c}{wide}{c}", None),
+    (b"{wide}{wide}", Some((PatternErrorKind::TooBig, 6))),
+    (b"{c}{wide}({wide}", Some((PatternErrorKind::TooBig, 10))),
+    (
+        b"{c}{wrong}{wrong}",
+        Some((PatternErrorKind::MissingOperand, 3)),
+    ),
+    (
+        b"{wrong}{c}{wrong}",
+        Some((PatternErrorKind::MissingOperand, 0)),
+    ),
+    (
+        b"{c}({round}{c})",
+        Some((PatternErrorKind::DefinitionCycle, 4)),
+    ),
+    (b"{c}{d}{c}", Some((PatternErrorKind::UndefinedName, 3))),
+];
+
+#[test]
+fn names_that_stand_twice(rt: HostRuntime) -> Result<(), Fail> {
+    let alloc = rt.alloc();
+    let defs = long_definitions(alloc)?;
+    for (text, refused) in TWICE {
+        assert!(rt; told(alloc, text, &defs) == refused);
+    }
+    Ok(())
+}

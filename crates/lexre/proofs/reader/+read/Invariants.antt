@@ -1,7 +1,9 @@
-use Rattle.std.proofs.Common.{◌≡◌, ◌+◌, ◌*◌, ◌≤◌, length, []}
+use Rattle.std.proofs.Common.{◌≡◌, ℕ, ◌+◌, ◌-◌, ◌*◌, ◌≤◌, length, []}
 use Rattle.std.specs.FinMap.{get}
 use Rattle.lexre.specs.Counting.{state_nodes}
 use Rattle.lexclass.specs.Lexical.{symbol_at}
+use Rattle.lexre.specs.Names.{AreKnown, trees_of}
+use Rattle.lexre.specs.Reading.{lowered}
 use Rattle.lexre.specs.Running.{state, fresh}
 use Rattle.lexre.specs.Soundness.{IsSoundState}
 use Rattle.lexre.specs.StackViews.{state_of}
@@ -18,14 +20,19 @@ decreases-read_within l = 3 * l.left + 2
 abbrev pub decreases-step : goal.decreases-step
 decreases-step l = 3 * l.stack.now.left + 1
 
--- what is left to read gives what the whole text gives, and the nodes so far are counted
+-- what is left to read gives what the whole text gives, also where fewer may be opened, as long as there are some to
+-- spare; the nodes so far are counted, and what is kept of names is known
 abbrev pub invariant-read_within-loop-rest : goal.invariant-read_within-loop-rest
 invariant-read_within-loop-rest l = record {
-  agree : Agree (symbol_at l.fold) (get l.defs) (nothing_at l.fold) (state_of l.stack) l.rest (state fresh [] l.left) l.text;
+  agree : Agree (symbol_at l.scope.fold) (get l.scope.defs.now) (nothing_at l.scope.fold) (state_of l.stack) l.rest (state fresh [] l.left) l.text;
+  lower : (e : ℕ) → e ≤ l.spare → Agree (symbol_at l.scope.fold) (get l.scope.defs.now) (nothing_at l.scope.fold) (lowered e (state_of l.stack)) l.rest (state fresh [] (l.left - e)) l.text;
+  below : l.spare ≤ l.left;
+  below_now : l.spare ≤ l.stack.left;
   within : limit (state_of l.stack) ≡ l.left;
   counted : state_nodes (state_of l.stack) ≡ l.nodes;
   few : l.nodes ≤ l.room;
   sound : IsSoundState (state_of l.stack);
+  known : AreKnown l.scope.fold l.scope.defs.now (trees_of l.names);
 }
 
 abbrev pub decreases-read_within-loop-rest : goal.decreases-read_within-loop-rest
