@@ -196,21 +196,24 @@ fn states(
 /// The greatest limits.
 const MOST: (u32, u32) = (16_384, 8_192);
 
+const CHOICE: &str = "%%\nab|cb printf(\"X\");\n";
+
+const DOUBLING: &str = "%%\n(a|b)*a(a|b){11} ;\n";
+
+const CONDITIONS: &str = "%x C\n%%\na BEGIN(C);\nb printf(\"B\");\n<C>c BEGIN(0);\n";
+
 // The counts follow from what a position and a subset are, and are not what the program printed.
 #[test]
 fn counts(rt: HostRuntime) -> Result<(), Fail> {
     let alloc = rt.alloc();
-    let choice = "%%\nab|cb printf(\"X\");\n";
-    let doubling = "%%\n(a|b)*a(a|b){11} ;\n";
-    let conditions = "%x C\n%%\na BEGIN(C);\nb printf(\"B\");\n<C>c BEGIN(0);\n";
-    let rows = [
-        (choice, (4, 6), Ok(6)),
-        (choice, (3, 8_192), Err(BuildError::TooManyPositions)),
-        (choice, (16_384, 5), Err(BuildError::TooManyStates)),
-        (conditions, (3, 6), Ok(6)),
-        (doubling, (25, 4_098), Ok(4_098)),
-        (doubling, (24, 8_192), Err(BuildError::TooManyPositions)),
-        (doubling, (25, 4_097), Err(BuildError::TooManyStates)),
+    let rows = &[
+        (CHOICE, (4, 6), Ok(6)),
+        (CHOICE, (3, 8_192), Err(BuildError::TooManyPositions)),
+        (CHOICE, (16_384, 5), Err(BuildError::TooManyStates)),
+        (CONDITIONS, (3, 6), Ok(6)),
+        (DOUBLING, (25, 4_098), Ok(4_098)),
+        (DOUBLING, (24, 8_192), Err(BuildError::TooManyPositions)),
+        (DOUBLING, (25, 4_097), Err(BuildError::TooManyStates)),
         (
             "%%\n(a|b)*a(a|b){14} ;\n",
             MOST,
@@ -233,36 +236,31 @@ fn counts(rt: HostRuntime) -> Result<(), Fail> {
             Err(BuildError::TooManyPositions),
         ),
     ];
-    for (text, most, wanted) in rows {
+    for &(text, most, wanted) in rows {
         assert_eq!(rt; states(alloc, text, most)?, wanted);
     }
     Ok(())
 }
 
+const ROW: &str = "%%\n(a{15}){4} ;\n";
+
+const LONG_ROW: &str = "%%\n(a{255}){32} ;\n";
+
 // A state for each of so many letters in a row, the start and the dead state.
 #[test]
 fn rows_of_letters(rt: HostRuntime) -> Result<(), Fail> {
     let alloc = rt.alloc();
-    let row = "%%\n(a{15}){4} ;\n";
-    assert_eq!(rt; states(alloc, row, (60, 62))?, Ok(62));
-    assert_eq!(rt;
-        states(alloc, row, (60, 61))?,
-        Err(BuildError::TooManyStates)
-    );
-    assert_eq!(rt;
-        states(alloc, row, (59, 62))?,
-        Err(BuildError::TooManyPositions)
-    );
-    let long = "%%\n(a{255}){32} ;\n";
-    assert_eq!(rt; states(alloc, long, (8_160, 8_162))?, Ok(8_162));
-    assert_eq!(rt;
-        states(alloc, long, (8_160, 8_161))?,
-        Err(BuildError::TooManyStates)
-    );
-    assert_eq!(rt;
-        states(alloc, "%%\n(a{255}){64} ;\n", MOST)?,
-        Err(BuildError::TooManyStates)
-    );
+    let rows = &[
+        (ROW, (60, 62), Ok(62)),
+        (ROW, (60, 61), Err(BuildError::TooManyStates)),
+        (ROW, (59, 62), Err(BuildError::TooManyPositions)),
+        (LONG_ROW, (8_160, 8_162), Ok(8_162)),
+        (LONG_ROW, (8_160, 8_161), Err(BuildError::TooManyStates)),
+        ("%%\n(a{255}){64} ;\n", MOST, Err(BuildError::TooManyStates)),
+    ];
+    for &(text, most, wanted) in rows {
+        assert_eq!(rt; states(alloc, text, most)?, wanted);
+    }
     Ok(())
 }
 
@@ -298,47 +296,51 @@ fn whole(alloc: Global, text: &str) -> Result<Dfa, Fail> {
     Ok(built(alloc, text, limits)??)
 }
 
+/// The first condition, in the midst of a line.
+const INSIDE: (usize, bool) = (0, false);
+
+/// The first condition, at the start of a line.
+const AT_LINE: (usize, bool) = (0, true);
+
 #[test]
 fn words(rt: HostRuntime) -> Result<(), Fail> {
     let alloc = rt.alloc();
-    let inside = (0, false);
-    let line = (0, true);
-    let rows = [
+    let rows = &[
         (
-            "abc printf(\"X\");\n",
-            inside,
+            "%%\nabc printf(\"X\");\n",
+            INSIDE,
             [("", "+"), ("ab", "+"), ("abc", " 0"), ("abca", "")],
         ),
         (
-            "a+ ;\naa ;\n",
-            inside,
+            "%%\na+ ;\naa ;\n",
+            INSIDE,
             [("a", " 0+"), ("aa", " 0+"), ("aaa", " 0+"), ("b", "")],
         ),
         (
-            "a+ ECHO; REJECT;\naa ;\n",
-            inside,
+            "%%\na+ ECHO; REJECT;\naa ;\n",
+            INSIDE,
             [("a", " 0+"), ("aa", " 0 1+"), ("aaa", " 0+"), ("b", "")],
         ),
         (
-            "^a printf(\"A\");\n",
-            inside,
+            "%%\n^a printf(\"A\");\n",
+            INSIDE,
             [("", ""), ("a", ""), ("aa", ""), ("b", "")],
         ),
         (
-            "^a printf(\"A\");\n",
-            line,
+            "%%\n^a printf(\"A\");\n",
+            AT_LINE,
             [("", "+"), ("a", " 0"), ("aa", ""), ("b", "")],
         ),
         (
-            "ab/cd printf(\"[%s]\", yytext);\n",
-            inside,
+            "%%\nab/cd printf(\"[%s]\", yytext);\n",
+            INSIDE,
             [("ab", "+"), ("abc", "+"), ("abcd", " 0"), ("cd", "")],
         ),
     ];
-    for (rules, start, tests) in rows {
-        let automaton = whole(alloc, format!(in alloc; "%%\n{rules}")?.as_str())?;
-        for (word, wanted) in tests {
-            assert_eq!(rt; told(alloc, &automaton, start, word)?.as_str(), wanted);
+    for (text, start, tests) in rows {
+        let automaton = whole(alloc, text)?;
+        for &(word, wanted) in tests {
+            assert_eq!(rt; told(alloc, &automaton, *start, word)?.as_str(), wanted);
         }
     }
     Ok(())
@@ -347,16 +349,15 @@ fn words(rt: HostRuntime) -> Result<(), Fail> {
 #[test]
 fn conditions(rt: HostRuntime) -> Result<(), Fail> {
     let alloc = rt.alloc();
-    let text = "%x C\n%%\na BEGIN(C);\nb printf(\"B\");\n<C>c BEGIN(0);\n";
-    let automaton = whole(alloc, text)?;
-    let rows = [
+    let automaton = whole(alloc, CONDITIONS)?;
+    let rows = &[
         (0, "a", " 0"),
         (0, "b", " 1"),
         (0, "c", ""),
         (1, "a", ""),
         (1, "c", " 2"),
     ];
-    for (condition, word, wanted) in rows {
+    for &(condition, word, wanted) in rows {
         assert_eq!(rt;
             told(alloc, &automaton, (condition, false), word)?.as_str(),
             wanted

@@ -88,7 +88,7 @@ mod tests {
 
     #[test]
     fn reads_a_scan(rt: HostRuntime) -> Result<(), Fail> {
-        let lines: [(&[&str], &str, bool); 7] = [
+        let lines: &[(&[&str], &str, bool)] = &[
             (&["--scan-spec", "a.l"], "a.l", false),
             (&["--scan-spec=a.l"], "a.l", false),
             (&["--scan-spec", "b c"], "b c", false),
@@ -97,7 +97,7 @@ mod tests {
             (&["-i", "--scan-spec", "a.l"], "a.l", true),
             (&["-ii", "--scan-spec", "a.l", "-i"], "a.l", true),
         ];
-        for (line, want, folded) in lines {
+        for &(line, want, folded) in lines {
             match job_of(rt.alloc(), line)? {
                 Ok(Job::ScanSpec { file, fold }) => {
                     assert_eq!(rt; file.as_str(), want);
@@ -111,7 +111,7 @@ mod tests {
 
     #[test]
     fn refuses_all_else(rt: HostRuntime) -> Result<(), Fail> {
-        let lines: [&[&str]; 12] = [
+        let lines: &[&[&str]] = &[
             &[],
             &["--scan-spec"],
             &["a.l"],

@@ -214,70 +214,24 @@ fn put_line<K: Sink>(sink: &mut K, parts: &[&str]) -> Result<(), WriteFault>
 mod tests {
     use super::*;
     use lextab::MemorySink;
+    use std::alloc::Global;
+    use std::process::Abort;
 
-    fn refused(line: u32, kind: SpecErrorKind) -> Fault<'static> {
-        Fault::Scan(ScanError::Generate(GenError::Spec(SpecError { line, kind })))
-    }
-
-    fn in_pattern(kind: PatternErrorKind, at: usize) -> SpecErrorKind {
-        SpecErrorKind::Pattern(PatternError { kind, at })
-    }
-
-    fn stopped(error: RunError) -> Fault<'static> {
-        Fault::Scan(ScanError::Run(error))
+    /// Holds a fault to its line and its status.
+    fn assert_told(rt: &impl Abort, alloc: Global, fault: Fault<'_>, status: u8, line: &str) {
+        let mut sink = MemorySink::new(alloc);
+        let got = write_fault(fault, &mut sink);
+        assert!(rt; got == Ok(()), "{line}: {got:?}");
+        assert_eq!(rt; sink.written(), line.as_bytes());
+        assert_eq!(rt; fault.status(), status, "{line}");
     }
 
     #[test]
     fn tells_each_fault(rt: HostRuntime) {
-        let rows: [(Fault<'_>, u8, &str); 20] = [
+        let rows: &[(Fault<'_>, u8, &str)] = &[
             (Fault::Args(ArgsError::Usage), 64, "lex: usage\n"),
             (
                 Fault::Args(ArgsError::OutOfMemory),
-                71,
-                "lex: out of memory\n",
-            ),
-            (
-                refused(1, SpecErrorKind::NoRulesSection),
-                65,
-                "lex: line 1: NoRulesSection\n",
-            ),
-            (
-                refused(12, SpecErrorKind::BadDefinitionLine),
-                65,
-                "lex: line 12: BadDefinitionLine\n",
-            ),
-            (
-                refused(2, in_pattern(PatternErrorKind::MissingOperand, 0)),
-                65,
-                "lex: line 2: MissingOperand at 0\n",
-            ),
-            (
-                refused(2, in_pattern(PatternErrorKind::TooBig, 65_535)),
-                65,
-                "lex: line 2: TooBig at 65535\n",
-            ),
-            (
-                refused(2, in_pattern(PatternErrorKind::OutOfMemory, 7)),
-                71,
-                "lex: out of memory\n",
-            ),
-            (
-                refused(3, SpecErrorKind::UnknownStatement),
-                65,
-                "lex: line 3: UnknownStatement\n",
-            ),
-            (
-                refused(4_098, SpecErrorKind::TooManyRules),
-                65,
-                "lex: line 4098: TooManyRules\n",
-            ),
-            (
-                refused(9, SpecErrorKind::TooLong),
-                65,
-                "lex: line 9: TooLong\n",
-            ),
-            (
-                refused(2, SpecErrorKind::OutOfMemory),
                 71,
                 "lex: out of memory\n",
             ),
@@ -288,25 +242,86 @@ mod tests {
             ),
             (Fault::File("a.l"), 66, "lex: cannot read a.l\n"),
             (Fault::File(""), 66, "lex: cannot read \n"),
-            (stopped(RunError::Read), 74, "lex: read fault\n"),
-            (stopped(RunError::TooManyReads), 74, "lex: too many reads\n"),
-            (stopped(RunError::Write), 74, "lex: write fault\n"),
             (Fault::Output, 74, "lex: write fault\n"),
-            (stopped(RunError::OutOfMemory), 71, "lex: out of memory\n"),
-            (stopped(RunError::Failed), 74, "lex: failed\n"),
         ];
-        for (fault, status, line) in rows {
-            let mut sink = MemorySink::new(rt.alloc());
-            let got = write_fault(fault, &mut sink);
-            assert!(rt; got == Ok(()), "{line}: {got:?}");
-            assert_eq!(rt; sink.written(), line.as_bytes());
-            assert_eq!(rt; fault.status(), status, "{line}");
+        for &(fault, status, line) in rows {
+            assert_told(&rt, rt.alloc(), fault, status, line);
+        }
+    }
+
+    #[test]
+    fn tells_each_fault_of_a_run(rt: HostRuntime) {
+        let rows = &[
+            (RunError::Read, 74, "lex: read fault\n"),
+            (RunError::TooManyReads, 74, "lex: too many reads\n"),
+            (RunError::Write, 74, "lex: write fault\n"),
+            (RunError::OutOfMemory, 71, "lex: out of memory\n"),
+            (RunError::Failed, 74, "lex: failed\n"),
+        ];
+        for &(error, status, line) in rows {
+            let fault = Fault::Scan(ScanError::Run(error));
+            assert_told(&rt, rt.alloc(), fault, status, line);
+        }
+    }
+
+    const MISSING_OPERAND: SpecErrorKind = SpecErrorKind::Pattern(PatternError {
+        kind: PatternErrorKind::MissingOperand,
+        at: 0,
+    });
+
+    const TOO_BIG: SpecErrorKind = SpecErrorKind::Pattern(PatternError {
+        kind: PatternErrorKind::TooBig,
+        at: 65_535,
+    });
+
+    const NO_MEMORY_IN_A_PATTERN: SpecErrorKind = SpecErrorKind::Pattern(PatternError {
+        kind: PatternErrorKind::OutOfMemory,
+        at: 7,
+    });
+
+    #[test]
+    fn tells_each_fault_of_a_specification(rt: HostRuntime) {
+        let rows = &[
+            (
+                1,
+                SpecErrorKind::NoRulesSection,
+                65,
+                "lex: line 1: NoRulesSection\n",
+            ),
+            (
+                12,
+                SpecErrorKind::BadDefinitionLine,
+                65,
+                "lex: line 12: BadDefinitionLine\n",
+            ),
+            (2, MISSING_OPERAND, 65, "lex: line 2: MissingOperand at 0\n"),
+            (2, TOO_BIG, 65, "lex: line 2: TooBig at 65535\n"),
+            (2, NO_MEMORY_IN_A_PATTERN, 71, "lex: out of memory\n"),
+            (
+                3,
+                SpecErrorKind::UnknownStatement,
+                65,
+                "lex: line 3: UnknownStatement\n",
+            ),
+            (
+                4_098,
+                SpecErrorKind::TooManyRules,
+                65,
+                "lex: line 4098: TooManyRules\n",
+            ),
+            (9, SpecErrorKind::TooLong, 65, "lex: line 9: TooLong\n"),
+            (2, SpecErrorKind::OutOfMemory, 71, "lex: out of memory\n"),
+        ];
+        for &(line, kind, status, told) in rows {
+            let error = SpecError { line, kind };
+            let fault = Fault::Scan(ScanError::Generate(GenError::Spec(error)));
+            assert_told(&rt, rt.alloc(), fault, status, told);
         }
     }
 
     #[test]
     fn stops_at_a_write_fault(rt: HostRuntime) {
-        for (room, written) in [
+        for &(room, written) in &[
             (0usize, ""),
             (3, "lex"),
             (9, "lex: cann"),

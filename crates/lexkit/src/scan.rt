@@ -196,7 +196,7 @@ mod tests {
     #[test]
     fn scans_by_a_text(rt: HostRuntime) {
         let alloc = rt.alloc();
-        for (fold, text, input, want) in SCANS {
+        for &(fold, text, input, want) in &SCANS {
             let mut source = MemorySource::new(input);
             let mut sink = MemorySink::new(alloc);
             let got = scan_spec(alloc, text, Options { fold }, &mut source, &mut sink);
@@ -208,8 +208,8 @@ mod tests {
     /// A pattern of nested stars finds no word in a thousand letters, in no more time than its size and theirs ask for.
     #[test]
     fn answers_nested_stars(rt: HostRuntime) {
-        let letters = [b'a'; 1_000];
-        let mut source = MemorySource::new(&letters);
+        const LETTERS: [u8; 1_000] = [b'a'; 1_000];
+        let mut source = MemorySource::new(&LETTERS);
         let mut sink = MemorySink::new(rt.alloc());
         let text = b"%%\n(a*)*b printf(\"B\");\na+ printf(\"A\");\n";
         let got = scan_spec(rt.alloc(), text, Options::new(), &mut source, &mut sink);
@@ -307,7 +307,7 @@ mod tests {
     #[test]
     fn refuses_by_line(rt: HostRuntime) {
         let alloc = rt.alloc();
-        for (text, line, kind) in REFUSALS {
+        for &(text, line, kind) in &REFUSALS {
             let mut source = MemorySource::new(b"a");
             let mut sink = MemorySink::new(alloc);
             let got = scan_spec(alloc, text, Options::new(), &mut source, &mut sink);

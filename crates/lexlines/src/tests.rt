@@ -21,7 +21,7 @@ fn fault_of(alloc: Global, text: &str) -> Result<Option<(u32, SpecErrorKind)>, A
 #[test]
 fn faults_of_definitions(rt: HostRuntime) -> Result<(), Fail> {
     let alloc = rt.alloc();
-    let rows = [
+    let rows = &[
         ("", 1, SpecErrorKind::NoRulesSection),
         ("\n", 2, SpecErrorKind::NoRulesSection),
         ("D [0-9]", 2, SpecErrorKind::NoRulesSection),
@@ -62,7 +62,7 @@ fn faults_of_definitions(rt: HostRuntime) -> Result<(), Fail> {
         ("/* a\n%%\n", 1, SpecErrorKind::Unclosed),
         ("D a$\nfoo\n%%\n", 1, SpecErrorKind::AnchoredDefinition),
     ];
-    for (text, line, kind) in rows {
+    for &(text, line, kind) in rows {
         assert_eq!(rt; fault_of(alloc, text)?, Some((line, kind)));
     }
     Ok(())
@@ -77,9 +77,9 @@ fn declarations_of_a_section(rt: HostRuntime) -> Result<(), Fail> {
     assert_eq!(rt; section.line, 8);
     assert_eq!(rt; section.rest, b"%%\na ;\n".as_slice());
     let declared = section.declarations;
-    let rows = [("INITIAL", false), ("A", false), ("B", true)];
+    let rows = &[("INITIAL", false), ("A", false), ("B", true)];
     assert_eq!(rt; declared.conditions.len(), 3);
-    for (condition, (name, exclusive)) in declared.conditions.iter().zip(rows) {
+    for (condition, &(name, exclusive)) in declared.conditions.iter().zip(rows) {
         assert_eq!(rt; condition.name.as_slice(), name.as_bytes());
         assert_eq!(rt; condition.exclusive, exclusive);
     }

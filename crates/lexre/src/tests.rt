@@ -87,9 +87,12 @@ const CLASSES: [(&[u8], u8, u8, u32); 12] = [
     (b"xdigit", b'0', b'f', 22),
 ];
 
+// Words that name no class.
+const NO_CLASSES: [&[u8]; 4] = [b"word", b"Alpha", b"", b"alphas"];
+
 #[test]
 fn classes(rt: HostRuntime) {
-    for (name, first, last, count) in CLASSES {
+    for &(name, first, last, count) in &CLASSES {
         let class = ByteSet::named(name).expect(&rt, "a class");
         let mut members: u32 = 0;
         for byte in 0..=255u8 {
@@ -101,12 +104,7 @@ fn classes(rt: HostRuntime) {
         assert_eq!(rt; members, count);
         assert!(rt; class.contains(first) && class.contains(last));
     }
-    for name in [
-        b"word".as_slice(),
-        b"Alpha".as_slice(),
-        b"".as_slice(),
-        b"alphas".as_slice(),
-    ] {
+    for name in &NO_CLASSES {
         assert!(rt; ByteSet::named(name).is_none());
     }
 }
@@ -278,7 +276,7 @@ const CUTTINGS: [(&[u8], usize, Option<usize>, bool, bool); 16] = [
 
 #[test]
 fn cuttings(rt: HostRuntime) {
-    for (text, end, slash, two, dollar) in CUTTINGS {
+    for &(text, end, slash, two, dollar) in &CUTTINGS {
         assert_eq!(rt;
             cut_pattern(text),
             Ok(Cutting {
@@ -311,7 +309,7 @@ const FAULTS: [(&[u8], PatternErrorKind, usize); 14] = [
 
 #[test]
 fn cutting_faults(rt: HostRuntime) {
-    for (text, kind, at) in FAULTS {
+    for &(text, kind, at) in &FAULTS {
         assert_eq!(rt; cut_pattern(text), Err(PatternError { kind, at }));
     }
 }
@@ -369,60 +367,35 @@ fn classes_as_sets(rt: HostRuntime) {
     }
 }
 
+// A text that is no class, what is told of it, and the text from there on.
+const REFUSED_CLASSES: [(&[u8], PatternErrorKind, &[u8]); 10] = [
+    (b"[a", PatternErrorKind::UnclosedClass, b"[a"),
+    (b"[]", PatternErrorKind::UnclosedClass, b"[]"),
+    (b"[z-a]", PatternErrorKind::BadRange, b"z-a]"),
+    (b"[z-a", PatternErrorKind::BadRange, b"z-a"),
+    (b"[a-[:foo:]]", PatternErrorKind::BadRange, b"a-[:foo:]]"),
+    (
+        b"[^\\0-\\377]",
+        PatternErrorKind::EmptyClass,
+        b"[^\\0-\\377]",
+    ),
+    (
+        b"[[:foo:]]",
+        PatternErrorKind::UnknownClassName,
+        b"[:foo:]]",
+    ),
+    (b"[[=a=]]", PatternErrorKind::UnsupportedBracket, b"[=a=]]"),
+    (
+        b"[b-[=a=]]",
+        PatternErrorKind::UnsupportedBracket,
+        b"[=a=]]",
+    ),
+    (b"[\\400]", PatternErrorKind::BadEscape, b"\\400]"),
+];
+
 #[test]
 fn refused_classes(rt: HostRuntime) {
-    for (text, kind, rest) in [
-        (
-            b"[a".as_slice(),
-            PatternErrorKind::UnclosedClass,
-            b"[a".as_slice(),
-        ),
-        (
-            b"[]".as_slice(),
-            PatternErrorKind::UnclosedClass,
-            b"[]".as_slice(),
-        ),
-        (
-            b"[z-a]".as_slice(),
-            PatternErrorKind::BadRange,
-            b"z-a]".as_slice(),
-        ),
-        (
-            b"[z-a".as_slice(),
-            PatternErrorKind::BadRange,
-            b"z-a".as_slice(),
-        ),
-        (
-            b"[a-[:foo:]]".as_slice(),
-            PatternErrorKind::BadRange,
-            b"a-[:foo:]]".as_slice(),
-        ),
-        (
-            b"[^\\0-\\377]".as_slice(),
-            PatternErrorKind::EmptyClass,
-            b"[^\\0-\\377]".as_slice(),
-        ),
-        (
-            b"[[:foo:]]".as_slice(),
-            PatternErrorKind::UnknownClassName,
-            b"[:foo:]]".as_slice(),
-        ),
-        (
-            b"[[=a=]]".as_slice(),
-            PatternErrorKind::UnsupportedBracket,
-            b"[=a=]]".as_slice(),
-        ),
-        (
-            b"[b-[=a=]]".as_slice(),
-            PatternErrorKind::UnsupportedBracket,
-            b"[=a=]]".as_slice(),
-        ),
-        (
-            b"[\\400]".as_slice(),
-            PatternErrorKind::BadEscape,
-            b"\\400]".as_slice(),
-        ),
-    ] {
+    for &(text, kind, rest) in &REFUSED_CLASSES {
         match class_at(text, false) {
             Ok(_) => assert!(rt; false),
             Err(fault) => assert!(rt; fault.kind == kind && fault.rest == rest),
@@ -430,25 +403,23 @@ fn refused_classes(rt: HostRuntime) {
     }
 }
 
+// A text behind an opening brace, and the least and the most of the interval before the rest.
+const INTERVALS: [(&[u8], u8, Option<u8>); 4] = [
+    (b"2,3}b?", 2, Some(3)),
+    (b"255}b?", 255, Some(255)),
+    (b"0,}b?", 0, None),
+    (b"0000000000000000000002}b?", 2, Some(2)),
+];
+
+// Texts behind an opening brace that begin with no interval.
+const NO_INTERVALS: [&[u8]; 7] = [b"2,1}", b"256}", b"65538}", b"256,}", b"0}", b"2", b"2,x}"];
+
 #[test]
 fn intervals(rt: HostRuntime) {
-    for (text, least, most) in [
-        (b"2,3}b?".as_slice(), 2, Some(3)),
-        (b"255}b?".as_slice(), 255, Some(255)),
-        (b"0,}b?".as_slice(), 0, None),
-        (b"0000000000000000000002}b?".as_slice(), 2, Some(2)),
-    ] {
+    for &(text, least, most) in &INTERVALS {
         assert!(rt; interval_at(text) == Some(((least, most), b"b?".as_slice())));
     }
-    for text in [
-        b"2,1}".as_slice(),
-        b"256}".as_slice(),
-        b"65538}".as_slice(),
-        b"256,}".as_slice(),
-        b"0}".as_slice(),
-        b"2".as_slice(),
-        b"2,x}".as_slice(),
-    ] {
+    for text in &NO_INTERVALS {
         assert!(rt; interval_at(text).is_none());
     }
 }
@@ -469,7 +440,7 @@ enum Node {
 
 fn is_set_of(set: ByteSet, members: &[u8], inside: bool) -> bool {
     for byte in 0..=255u8 {
-        let listed = members.iter().any(|member| *member == byte);
+        let listed = members.contains(&byte);
         if set.contains(byte) != (listed == inside) {
             return false;
         }
@@ -504,37 +475,40 @@ fn after_trees<'a>(patterns: &[Pattern], nodes: &'a [Node]) -> Option<&'a [Node]
     Some(rest)
 }
 
+// A name and its text.
+const DEFINITIONS: [(&[u8], &[u8]); 24] = [
+    (b"D", b"[0-9]"),
+    (b"N", b"{D}+"),
+    (b"Or", b"a|b"),
+    (b"x", b"a{x}"),
+    (b"y", b"{z}"),
+    (b"z", b"({y})"),
+    (b"quote", b"\"a"),
+    (b"class", b"[a"),
+    (b"range", b"[z-a]"),
+    (b"empty", b"[^\\0-\\377]"),
+    (b"name", b"[[:foo:]]"),
+    (b"bracket", b"[[=a=]]"),
+    (b"escape", b"\\400"),
+    (b"interval", b"a{2,1}"),
+    (b"paren", b"(a"),
+    (b"operand", b"a||b"),
+    (b"undefined", b"{nothing}"),
+    (b"slash", b"a/b"),
+    (b"eight", b"aaaaaaaa"),
+    (
+        b"few",
+        b"{eight}{eight}{eight}{eight}{eight}{eight}{eight}{eight}",
+    ),
+    (b"some", b"{few}{few}{few}{few}{few}{few}{few}{few}"),
+    (b"many", b"{some}{some}{some}{some}{some}{some}{some}{some}"),
+    (b"more", b"{many}{many}{many}{many}{many}{many}{many}{many}"),
+    (b"big", b"{more}{more}{more}{more}{more}{more}{more}{more}"),
+];
+
 fn worked_definitions(alloc: Global) -> Result<Defs, DefsError> {
     let mut defs = Defs::new(alloc);
-    for (name, text) in [
-        (b"D".as_slice(), b"[0-9]".as_slice()),
-        (b"N", b"{D}+"),
-        (b"Or", b"a|b"),
-        (b"x", b"a{x}"),
-        (b"y", b"{z}"),
-        (b"z", b"({y})"),
-        (b"quote", b"\"a"),
-        (b"class", b"[a"),
-        (b"range", b"[z-a]"),
-        (b"empty", b"[^\\0-\\377]"),
-        (b"name", b"[[:foo:]]"),
-        (b"bracket", b"[[=a=]]"),
-        (b"escape", b"\\400"),
-        (b"interval", b"a{2,1}"),
-        (b"paren", b"(a"),
-        (b"operand", b"a||b"),
-        (b"undefined", b"{nothing}"),
-        (b"slash", b"a/b"),
-        (b"eight", b"aaaaaaaa"),
-        (
-            b"few",
-            b"{eight}{eight}{eight}{eight}{eight}{eight}{eight}{eight}",
-        ),
-        (b"some", b"{few}{few}{few}{few}{few}{few}{few}{few}"),
-        (b"many", b"{some}{some}{some}{some}{some}{some}{some}{some}"),
-        (b"more", b"{many}{many}{many}{many}{many}{many}{many}{many}"),
-        (b"big", b"{more}{more}{more}{more}{more}{more}{more}{more}"),
-    ] {
+    for &(name, text) in &DEFINITIONS {
         defs.add(name, text)?;
     }
     Ok(defs)
@@ -683,7 +657,7 @@ const TREES: [(&[u8], bool, &[Node]); 30] = [
 fn patterns(rt: HostRuntime) -> Result<(), Fail> {
     let alloc = rt.alloc();
     let defs = worked_definitions(alloc)?;
-    for (text, fold, nodes) in TREES {
+    for &(text, fold, nodes) in &TREES {
         let pattern = read_pattern(alloc, text, &defs, ReadOptions { fold }).expect(&rt, "a tree");
         assert!(rt; after_tree(&pattern, nodes).is_some_and(|rest| rest.is_empty()));
     }
@@ -755,7 +729,7 @@ const REFUSALS: [(&[u8], PatternErrorKind, usize); 57] = [
 fn refused_patterns(rt: HostRuntime) -> Result<(), Fail> {
     let alloc = rt.alloc();
     let defs = worked_definitions(alloc)?;
-    for (text, kind, at) in REFUSALS {
+    for &(text, kind, at) in &REFUSALS {
         match read_pattern(alloc, text, &defs, ReadOptions { fold: false }) {
             Ok(_) => assert!(rt; false),
             Err(error) => assert_eq!(rt; error, PatternError { kind, at }),
@@ -905,7 +879,7 @@ const LONG: [Long; 27] = [
 fn long_patterns(rt: HostRuntime) -> Result<(), Fail> {
     let alloc = rt.alloc();
     let defs = worked_definitions(alloc)?;
-    for (start, part, count, end, refused) in LONG {
+    for &(start, part, count, end, refused) in &LONG {
         let mut text = Vec::from_slice(alloc, start)?;
         for _ in 0..count {
             text.extend_from_slice(part)?;
@@ -973,7 +947,7 @@ const OFTEN: [(&[u8], usize, u32, usize); 4] = [
 fn long_texts_of_names(rt: HostRuntime) -> Result<(), Fail> {
     let alloc = rt.alloc();
     let defs = long_definitions(alloc)?;
-    for (part, count, sets, at) in OFTEN {
+    for &(part, count, sets, at) in &OFTEN {
         let mut text = repeated(alloc, part, count)?;
         let options = ReadOptions { fold: false };
         let pattern = read_pattern(alloc, &text, &defs, options).expect(&rt, "a tree");
@@ -1020,7 +994,7 @@ const DEEP: [(&[u8], usize, &[u8], &[u8], Option<usize>); 7] = [
 fn names_in_parentheses(rt: HostRuntime) -> Result<(), Fail> {
     let alloc = rt.alloc();
     let defs = long_definitions(alloc)?;
-    for (first, depth, inside, last, refused) in DEEP {
+    for &(first, depth, inside, last, refused) in &DEEP {
         let text = within(alloc, first, depth, inside, last)?;
         let fault = refused.map(|at| (PatternErrorKind::TooDeep, at));
         assert!(rt; told(alloc, &text, &defs) == fault);
@@ -1065,7 +1039,7 @@ const TWICE: [(&[u8], Option<(PatternErrorKind, usize)>); 7] = [
 fn names_that_stand_twice(rt: HostRuntime) -> Result<(), Fail> {
     let alloc = rt.alloc();
     let defs = long_definitions(alloc)?;
-    for (text, refused) in TWICE {
+    for &(text, refused) in &TWICE {
         assert!(rt; told(alloc, text, &defs) == refused);
     }
     Ok(())

@@ -8,8 +8,8 @@ use std::alloc::{AllocError, Global};
 use std::test::Fail;
 
 /// Whether the scan ends with status 0, and writes what the row says.
-fn holds(alloc: Global, options: Options, row: Row) -> Result<bool, ScanError> {
-    let (text, input, want) = row;
+fn holds(alloc: Global, options: Options, row: &Row) -> Result<bool, ScanError> {
+    let (text, input, want) = *row;
     let mut source = MemorySource::new(input.as_bytes());
     let mut sink = MemorySink::new(alloc);
     let status = scan_spec(alloc, text.as_bytes(), options, &mut source, &mut sink)?;
@@ -37,8 +37,8 @@ fn is_refused(alloc: Global, text: &[u8], line: &str) -> bool {
 }
 
 /// The text of a long specification.
-fn text_of(alloc: Global, long: Long) -> Result<Vec<u8>, AllocError> {
-    let (head, part, count, tail) = long;
+fn text_of(alloc: Global, long: &Long) -> Result<Vec<u8>, AllocError> {
+    let (head, part, count, tail) = *long;
     let mut text = Vec::from_slice(alloc, head.as_bytes())?;
     for _ in 0..count {
         text.extend_from_slice(part.as_bytes())?;
@@ -49,7 +49,7 @@ fn text_of(alloc: Global, long: Long) -> Result<Vec<u8>, AllocError> {
 
 #[test]
 fn scans_as_flex_does(rt: HostRuntime) {
-    for row in examples::EXAMPLES {
+    for row in &examples::EXAMPLES {
         let got = holds(rt.alloc(), Options::new(), row);
         assert!(rt; got == Ok(true), "{}: {got:?}", row.0);
     }
@@ -57,11 +57,11 @@ fn scans_as_flex_does(rt: HostRuntime) {
 
 #[test]
 fn scans_as_the_manual_says(rt: HostRuntime) {
-    for row in manual::EXAMPLES {
+    for row in &manual::EXAMPLES {
         let got = holds(rt.alloc(), Options::new(), row);
         assert!(rt; got == Ok(true), "{}: {got:?}", row.0);
     }
-    for row in manual::FOLDED {
+    for row in &manual::FOLDED {
         let got = holds(rt.alloc(), Options { fold: true }, row);
         assert!(rt; got == Ok(true), "{}: {got:?}", row.0);
     }
@@ -69,7 +69,7 @@ fn scans_as_the_manual_says(rt: HostRuntime) {
 
 #[test]
 fn refuses_as_the_manual_says(rt: HostRuntime) {
-    for (text, line) in manual::REFUSALS {
+    for &(text, line) in &manual::REFUSALS {
         let refused = is_refused(rt.alloc(), text.as_bytes(), line);
         assert!(rt; refused, "{text}{line}");
     }
@@ -110,7 +110,7 @@ fn ends_as_the_manual_says(rt: HostRuntime) {
 #[test]
 fn accepts_up_to_the_limits(rt: HostRuntime) -> Result<(), Fail> {
     let alloc = rt.alloc();
-    for long in limits::ACCEPTED {
+    for long in &limits::ACCEPTED {
         let text = text_of(alloc, long)?;
         let mut source = MemorySource::new(b"");
         let mut sink = MemorySink::new(alloc);
@@ -122,7 +122,7 @@ fn accepts_up_to_the_limits(rt: HostRuntime) -> Result<(), Fail> {
 
 #[test]
 fn refuses_past_the_limits(rt: HostRuntime) -> Result<(), Fail> {
-    for (long, line) in limits::REFUSED {
+    for (long, line) in &limits::REFUSED {
         let text = text_of(rt.alloc(), long)?;
         let refused = is_refused(rt.alloc(), &text, line);
         assert!(rt; refused, "{line}");

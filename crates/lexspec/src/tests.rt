@@ -1,5 +1,5 @@
 use crate::action_text::split_action;
-use crate::{Cut, Rule, Spec, SpecError, SpecErrorKind, Statement, read_spec};
+use crate::{Condition, Cut, Rule, Spec, SpecError, SpecErrorKind, Statement, read_spec};
 use lexre::{PatternError, PatternErrorKind, ReadOptions};
 use std::alloc::{AllocError, Global};
 use std::test::Fail;
@@ -32,7 +32,7 @@ fn of_rule(alloc: Global, rule: &str) -> Result<String, AllocError> {
 #[test]
 fn faults_of_rules(rt: HostRuntime) -> Result<(), Fail> {
     let alloc = rt.alloc();
-    let rows = [
+    let rows = &[
         ("<Z>a ;", SpecErrorKind::UnknownCondition),
         ("<INITIAL", SpecErrorKind::UnknownCondition),
         ("a/b$ ;", SpecErrorKind::TwoTrailing),
@@ -55,16 +55,31 @@ fn faults_of_rules(rt: HostRuntime) -> Result<(), Fail> {
         ("a |", SpecErrorKind::DanglingBar),
         ("a |\r\n", SpecErrorKind::DanglingBar),
         ("a yy_push_state(C);", SpecErrorKind::UnknownStatement),
-        ("[z-a] ;", pattern(PatternErrorKind::BadRange, 1)),
-        ("^[z-a] ;", pattern(PatternErrorKind::BadRange, 2)),
-        ("a/[z-a] ;", pattern(PatternErrorKind::BadRange, 3)),
-        ("<INITIAL>[z-a] ;", pattern(PatternErrorKind::BadRange, 10)),
-        ("a{0} ;", pattern(PatternErrorKind::BadInterval, 1)),
     ];
-    for (rule, kind) in rows {
+    for &(rule, kind) in rows {
         assert_eq!(rt;
             rules_or_fault(alloc, &of_rule(alloc, rule)?),
             Err((2, kind))
+        );
+    }
+    Ok(())
+}
+
+/// Rules whose patterns have a fault, by the offset of the fault in the rule's line.
+#[test]
+fn faults_of_patterns(rt: HostRuntime) -> Result<(), Fail> {
+    let alloc = rt.alloc();
+    let rows = &[
+        ("[z-a] ;", PatternErrorKind::BadRange, 1),
+        ("^[z-a] ;", PatternErrorKind::BadRange, 2),
+        ("a/[z-a] ;", PatternErrorKind::BadRange, 3),
+        ("<INITIAL>[z-a] ;", PatternErrorKind::BadRange, 10),
+        ("a{0} ;", PatternErrorKind::BadInterval, 1),
+    ];
+    for &(rule, kind, at) in rows {
+        assert_eq!(rt;
+            rules_or_fault(alloc, &of_rule(alloc, rule)?),
+            Err((2, pattern(kind, at)))
         );
     }
     Ok(())
@@ -74,15 +89,11 @@ fn faults_of_rules(rt: HostRuntime) -> Result<(), Fail> {
 #[test]
 fn first_of_two_faults(rt: HostRuntime) -> Result<(), Fail> {
     let alloc = rt.alloc();
-    let quote = PatternErrorKind::UnclosedQuote;
-    let rows = [
+    let rows = &[
         ("<Z><<EOF>>x ;", SpecErrorKind::UnknownCondition),
         ("<Z>\"a", SpecErrorKind::UnknownCondition),
         ("^<<EOF>>\"a", SpecErrorKind::BadEofRule),
-        ("a/b/\"c", pattern(quote, 4)),
         ("[z-a]/b$ ;", SpecErrorKind::TwoTrailing),
-        ("[z-a]/[y-b] ;", pattern(PatternErrorKind::BadRange, 1)),
-        ("[z-a]*/b* ;", pattern(PatternErrorKind::BadRange, 1)),
         ("a*/b* {", SpecErrorKind::VariableTrailing),
         ("a { return 1;", SpecErrorKind::Unclosed),
         ("a yyless(0); return 1;", SpecErrorKind::BadCount),
@@ -100,10 +111,28 @@ fn first_of_two_faults(rt: HostRuntime) -> Result<(), Fail> {
         ("a |\n<Z><<EOF>> ;", SpecErrorKind::DanglingBar),
         ("a return 1;\n<Z>a ;", SpecErrorKind::UnknownStatement),
     ];
-    for (rule, kind) in rows {
+    for &(rule, kind) in rows {
         assert_eq!(rt;
             rules_or_fault(alloc, &of_rule(alloc, rule)?),
             Err((2, kind))
+        );
+    }
+    Ok(())
+}
+
+/// Of two faults of a rule the one that is told, where it is a pattern's.
+#[test]
+fn first_of_two_faults_of_patterns(rt: HostRuntime) -> Result<(), Fail> {
+    let alloc = rt.alloc();
+    let rows = &[
+        ("a/b/\"c", PatternErrorKind::UnclosedQuote, 4),
+        ("[z-a]/[y-b] ;", PatternErrorKind::BadRange, 1),
+        ("[z-a]*/b* ;", PatternErrorKind::BadRange, 1),
+    ];
+    for &(rule, kind, at) in rows {
+        assert_eq!(rt;
+            rules_or_fault(alloc, &of_rule(alloc, rule)?),
+            Err((2, pattern(kind, at)))
         );
     }
     Ok(())
@@ -113,7 +142,7 @@ fn first_of_two_faults(rt: HostRuntime) -> Result<(), Fail> {
 #[test]
 fn lines_of_faults(rt: HostRuntime) {
     let alloc = rt.alloc();
-    let rows = [
+    let rows = &[
         ("%%\n<<EOF>> ;\n<<EOF>> ;", 3, SpecErrorKind::DuplicateEof),
         (
             "%%\n<<EOF>> ;\n<<EOF>> ;\na return 1;",
@@ -161,7 +190,7 @@ fn lines_of_faults(rt: HostRuntime) {
             SpecErrorKind::BadDefinitionLine,
         ),
     ];
-    for (text, line, kind) in rows {
+    for &(text, line, kind) in rows {
         assert_eq!(rt; rules_or_fault(alloc, text), Err((line, kind)));
     }
 }
@@ -170,7 +199,7 @@ fn lines_of_faults(rt: HostRuntime) {
 #[test]
 fn accepted_files(rt: HostRuntime) {
     let alloc = rt.alloc();
-    let rows = [
+    let rows = &[
         ("%%", 0),
         ("%%\n", 0),
         ("%% x\r\n", 0),
@@ -190,7 +219,7 @@ fn accepted_files(rt: HostRuntime) {
         ("%%\n<INITIAL,INITIAL>a ;", 1),
         ("%x A\n%%\n<A><<EOF>> ;\n<<EOF>> exit(1);\n", 0),
     ];
-    for (text, count) in rows {
+    for &(text, count) in rows {
         assert_eq!(rt; rules_or_fault(alloc, text), Ok(count));
     }
 }
@@ -198,28 +227,21 @@ fn accepted_files(rt: HostRuntime) {
 /// The text of an action ends at the first newline outside strings, comments and braces.
 #[test]
 fn ends_of_actions(rt: HostRuntime) {
-    let rows = [
-        ("ECHO;\nb", Some("ECHO;"), "b"),
-        ("{ a\n}\nb", Some("{ a\n}"), "b"),
+    let rows: &[(&[u8], Option<(&[u8], &[u8])>)] = &[
+        (b"ECHO;\nb", Some((b"ECHO;", b"b"))),
+        (b"{ a\n}\nb", Some((b"{ a\n}", b"b"))),
         (
-            "{ /* } */ \"}\\\"\" // }\n}",
-            Some("{ /* } */ \"}\\\"\" // }\n}"),
-            "",
+            b"{ /* } */ \"}\\\"\" // }\n}",
+            Some((b"{ /* } */ \"}\\\"\" // }\n}", b"")),
         ),
-        ("// a", Some("// a"), ""),
-        ("} ;\nb", Some("} ;"), "b"),
-        ("{ ECHO;", None, ""),
-        ("\"a\n\"", None, ""),
-        ("/* a", None, ""),
+        (b"// a", Some((b"// a", b""))),
+        (b"} ;\nb", Some((b"} ;", b"b"))),
+        (b"{ ECHO;", None),
+        (b"\"a\n\"", None),
+        (b"/* a", None),
     ];
-    for (text, action, rest) in rows {
-        match split_action(text.as_bytes()) {
-            Some((front, back)) => {
-                assert_eq!(rt; Some(front), action.map(|a| a.as_bytes()));
-                assert_eq!(rt; back, rest.as_bytes());
-            }
-            None => assert!(rt; action.is_none()),
-        }
+    for &(text, parts) in rows {
+        assert_eq!(rt; split_action(text), parts);
     }
 }
 
@@ -227,29 +249,20 @@ fn ends_of_actions(rt: HostRuntime) {
 #[test]
 fn skipped_lines(rt: HostRuntime) -> Result<(), Fail> {
     let alloc = rt.alloc();
-    let rows = [
-        ("%%\n", [0].as_slice()),
-        (
-            "%{\nint n;\n%}\n%%\na+ ;\naa ;\n%%\nint main(){}",
-            [1, 7].as_slice(),
-        ),
+    let rows: &[(&str, &[u32])] = &[
+        ("%%\n", &[]),
+        ("%{\nint n;\n%}\n%%\na+ ;\naa ;\n%%\nint main(){}", &[1, 7]),
         (
             "%{\n%}\n a;\n b;\n\n c;\n%% x\n d;\n e;\na ;\n f;\n",
-            [1, 3, 6, 8, 11].as_slice(),
+            &[1, 3, 6, 8, 11],
         ),
-        ("%%\na ;\n%% x", [0].as_slice()),
-        ("%%\na ;\n%%\n \n\t\n", [0].as_slice()),
-        ("%%\na ;\n%%\n\nx\n", [3].as_slice()),
-        ("/* a */\n%%\na { \n ;\n}\n", [0].as_slice()),
+        ("%%\na ;\n%% x", &[]),
+        ("%%\na ;\n%%\n \n\t\n", &[]),
+        ("%%\na ;\n%%\n\nx\n", &[3]),
+        ("/* a */\n%%\na { \n ;\n}\n", &[]),
     ];
-    for (text, lines) in rows {
-        let spec = read(alloc, text)?;
-        let found = if spec.skipped().is_empty() {
-            [0].as_slice()
-        } else {
-            spec.skipped()
-        };
-        assert_eq!(rt; found, lines);
+    for &(text, lines) in rows {
+        assert_eq!(rt; read(alloc, text)?.skipped(), lines);
     }
     Ok(())
 }
@@ -258,21 +271,28 @@ const WHOLE: &str =
     "%s A\n%x B\nD [0-9]\n%%\n<B,A>^a{D}/b BEGIN(B);\n<*>c$ |\n\"d\" printf(\"x%s\", yytext); exit(3);\n\
     a*/bc REJECT;\n<<EOF>> fputs(\"z\", yyout);\n<A><<EOF>> exit(5);\n";
 
+/// A condition's name, whether it is exclusive, and what its end writes and tells.
+fn row_of_condition(condition: &Condition) -> (&[u8], bool, &[u8], u8) {
+    (
+        condition.name.as_slice(),
+        condition.exclusive,
+        condition.end.print.as_slice(),
+        condition.end.status,
+    )
+}
+
 /// The conditions of a file, with their ends. (flex, Start Conditions and End-of-File Rules.)
 #[test]
 fn conditions_of_a_file(rt: HostRuntime) -> Result<(), Fail> {
     let spec = read(rt.alloc(), WHOLE)?;
-    let rows = [
-        ("INITIAL", false, "z", 0),
-        ("A", false, "", 5),
-        ("B", true, "z", 0),
+    let rows: &[(&[u8], bool, &[u8], u8)] = &[
+        (b"INITIAL", false, b"z", 0),
+        (b"A", false, b"", 5),
+        (b"B", true, b"z", 0),
     ];
     assert_eq!(rt; spec.conditions().len(), 3);
-    for (condition, (name, exclusive, print, status)) in spec.conditions().iter().zip(rows) {
-        assert_eq!(rt; condition.name.as_slice(), name.as_bytes());
-        assert_eq!(rt; condition.exclusive, exclusive);
-        assert_eq!(rt; condition.end.print.as_slice(), print.as_bytes());
-        assert_eq!(rt; condition.end.status, status);
+    for (condition, row) in spec.conditions().iter().zip(rows) {
+        assert_eq!(rt; row_of_condition(condition), *row);
     }
     Ok(())
 }
@@ -288,16 +308,27 @@ fn action_of(rule: &Rule) -> &'static str {
     }
 }
 
+/// A rule's line, conditions, anchor, cut and action.
+fn row_of_rule(rule: &Rule) -> (u32, Option<&[u8]>, bool, Cut, &'static str) {
+    (
+        rule.line,
+        rule.conditions.as_deref(),
+        rule.anchored,
+        rule.cut,
+        action_of(rule),
+    )
+}
+
 /// The rules of a file. (POSIX, lex, Rules in lex; flex, Patterns.)
 #[test]
 fn rules_of_a_file(rt: HostRuntime) -> Result<(), Fail> {
     let spec = read(rt.alloc(), WHOLE)?;
     assert!(rt; spec.rejects());
-    let rows = [
-        (5, Some([1, 2].as_slice()), true, Cut::Head(2), "BEGIN(B);"),
+    let rows: &[(u32, Option<&[u8]>, bool, Cut, &str)] = &[
+        (5, Some(&[1, 2]), true, Cut::Head(2), "BEGIN(B);"),
         (
             6,
-            Some([0, 1, 2].as_slice()),
+            Some(&[0, 1, 2]),
             false,
             Cut::Head(1),
             "printf(x) ECHO; exit(3);",
@@ -306,16 +337,9 @@ fn rules_of_a_file(rt: HostRuntime) -> Result<(), Fail> {
         (8, None, false, Cut::Trail(2), "REJECT;"),
     ];
     assert_eq!(rt; spec.rules().len(), 4);
-    for (rule, (line, conditions, anchored, cut, action)) in spec.rules().iter().zip(rows) {
-        assert_eq!(rt; rule.line, line);
-        assert_eq!(rt;
-            rule.conditions.as_ref().map(|list| list.as_slice()),
-            conditions
-        );
-        assert_eq!(rt; rule.anchored, anchored);
-        assert_eq!(rt; rule.trail.is_some(), cut != Cut::Whole);
-        assert_eq!(rt; rule.cut, cut);
-        assert_eq!(rt; action_of(rule), action);
+    for (rule, row) in spec.rules().iter().zip(rows) {
+        assert_eq!(rt; row_of_rule(rule), *row);
+        assert_eq!(rt; rule.trail.is_some(), rule.cut != Cut::Whole);
     }
     Ok(())
 }
@@ -324,12 +348,12 @@ fn rules_of_a_file(rt: HostRuntime) -> Result<(), Fail> {
 #[test]
 fn folded_letters(rt: HostRuntime) -> Result<(), Fail> {
     let alloc = rt.alloc();
-    let rows = [
+    let rows = &[
         ("%%\na ;", false, false),
         ("%%\na ;", true, true),
         ("%option case-insensitive\n%%\na ;", false, true),
     ];
-    for (text, fold, both) in rows {
+    for &(text, fold, both) in rows {
         let spec = read_spec(alloc, text.as_bytes(), ReadOptions { fold })?;
         assert_eq!(rt; has_capital(&spec), Some(both));
     }
