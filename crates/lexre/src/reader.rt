@@ -103,8 +103,8 @@ struct Taken {
     spare: u8,
 }
 
-/// The pattern that a name stands for, where so many parentheses and names may be opened, of at most `room` nodes. A tree
-/// is kept of the name where that takes less than its text.
+/// The pattern that a name stands for, where so many parentheses and names may be opened, of at most `room` nodes. Its tree
+/// is kept where it has fewer nodes than its text has bytes.
 #[cycle(read)]
 fn read_name(
     alloc: Global,
