@@ -14,7 +14,7 @@ use Rattle.lexre.specs.declared.names.Names.{Names}
 
 -- the names that are being read, the outermost first
 abbrev pub open_of : Names → List (List ℕ)
-open_of names = map (λ v. v.items) names.open.items
+open_of names = map (λ v. v.items) names.being_read.items
 
 -- names to trees, each with how many parentheses and names have to be opened for it
 abbrev pub Trees : Type 0

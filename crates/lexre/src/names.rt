@@ -21,7 +21,7 @@ pub(crate) struct Kept {
 #[derive(Drop)]
 pub(crate) struct Names {
     alloc: Global,
-    pub(crate) open: Vec<Vec<u8>>,
+    pub(crate) being_read: Vec<Vec<u8>>,
     pub(crate) kept: BTreeMap<Vec<u8>, Kept>,
 }
 
@@ -45,33 +45,33 @@ impl Names {
     {
         Names {
             alloc,
-            open: Vec::new(alloc),
+            being_read: Vec::new(alloc),
             kept: BTreeMap::new(alloc),
         }
     }
 
     /// Whether the name is being read.
     pub(crate) fn is_open(&self, name: &[u8]) -> bool
-        ensures { result ≡ is_among name.now self.now.open.items }
+        ensures { result ≡ is_among name.now self.now.being_read.items }
     {
-        is_among(name, &self.open)
+        is_among(name, &self.being_read)
     }
 
     /// Notes that the name is being read.
-    pub(crate) fn open(&mut self, name: &[u8]) -> Result<(), AllocError>
-        ensures opened { OnOk result (open_of self.new ≡ open_of self.old ++ name.now ∷ []) }
+    pub(crate) fn enter(&mut self, name: &[u8]) -> Result<(), AllocError>
+        ensures entered { OnOk result (open_of self.new ≡ open_of self.old ++ name.now ∷ []) }
         ensures trees { trees_of self.new ≡ trees_of self.old }
     {
-        self.open.push(Vec::from_slice(self.alloc, name)?)?;
+        self.being_read.push(Vec::from_slice(self.alloc, name)?)?;
         Ok(())
     }
 
     /// Notes that the name that was opened last was read.
-    pub(crate) fn close(&mut self)
-        ensures closed { open_of self.new ≡ take (length (open_of self.old) - 1) (open_of self.old) }
+    pub(crate) fn leave(&mut self)
+        ensures left { open_of self.new ≡ take (length (open_of self.old) - 1) (open_of self.old) }
         ensures trees { trees_of self.new ≡ trees_of self.old }
     {
-        self.open.pop();
+        self.being_read.pop();
     }
 
     /// What is kept of a name, unless it needs more than may be opened.

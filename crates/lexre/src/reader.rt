@@ -140,10 +140,10 @@ fn read_name(
     if left == 0 {
         return Err(told_of_name(PatternErrorKind::TooDeep, cyclic));
     }
-    names.open(name)?;
+    names.enter(name)?;
     match read_within(alloc, substitute, scope, left - 1, room, names) {
         Ok(Read { pattern, spare }) => {
-            names.close();
+            names.leave();
             if substitute.len() as u64 > capped_nodes(&pattern) {
                 names.keep(name, left - spare, &pattern)?;
             }

@@ -103,16 +103,16 @@ read_name-returns-then-capped_nodes-room-clause-none t c =
 pub read_name-read_within-requires : goal.read_name-read_within-requires
 read_name-read_within-requires t c =
     let P : Trees → Type 0 = λ x. AreKnown c.args.scope.fold c.args.scope.defs.now x in
-    (search rules, (search rules, (c.requires.room, subst P (sym c.open.ensures.trees) c.requires.known_so_far)))
+    (search rules, (search rules, (c.requires.room, subst P (sym c.enter.ensures.trees) c.requires.known_so_far)))
 
 pub read_name-returns-after-substitute-capped_nodes-clause-known : goal.read_name-returns-after-substitute-capped_nodes-clause-known
 read_name-returns-after-substitute-capped_nodes-clause-known t c =
     let P : Trees → Type 0 = λ x. AreKnown c.args.scope.fold c.args.scope.defs.now x in
-    let closed : P (trees_of c.close.new.self) = subst P (sym c.close.ensures.trees) c.in-Ok.ensures.known in
+    let closed : P (trees_of c.leave.new.self) = subst P (sym c.leave.ensures.trees) c.in-Ok.ensures.known in
     elim c.if-substitute-capped_nodes.branch [
       | read_name-then-substitute-capped_nodes+in_ok-keep-in-Ok w ↦
           rw w.names-is (subst P (sym w.in_ok-keep-in-Ok.ensures)
-          (still_known c.args.scope.fold c.args.scope.defs.now (trees_of c.close.new.self) c.args.name.now (tree_of c.in-Ok.field-0.pattern) (c.args.left - c.in-Ok.field-0.spare) closed
+          (still_known c.args.scope.fold c.args.scope.defs.now (trees_of c.leave.new.self) c.args.name.now (tree_of c.in-Ok.field-0.pattern) (c.args.left - c.in-Ok.field-0.spare) closed
           (spared_name c.args.scope.fold c.args.scope.defs.now c.args.left c.in-Ok.field-0.spare c.args.name.now _ (tree_of c.in-Ok.field-0.pattern) c.if-left-eq0.false c.in-Ok.ensures.spare
           (sym c.in-Some-find.ensures) c.in-Ok.ensures.found)
           c.in-Ok.ensures.sound))
