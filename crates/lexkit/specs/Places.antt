@@ -1,6 +1,6 @@
 -- Places of a text, and the places to which words lead from them.
 -- (POSIX, lex, Regular Expressions in lex: what a pattern matches, at each place of a text at once.)
-use Rattle.std.specs.Prelude.{◌≡◌, ℕ, ◌+◌, ◌≤◌, Bool, true, false, List, length, ◌↔◌}
+use Rattle.std.specs.Prelude.{◌≡◌, ℕ, ◌+◌, ◌≤◌, Bool, true, List, length, ◌↔◌}
 use Rattle.lexmeaning.specs.Text.{part, flag}
 use Rattle.lexmeaning.specs.Tree.{Joined}
 use Rattle.lexmeaning.specs.Shapes.{Language}
