@@ -1,5 +1,5 @@
 -- What the code of a step holds, against what a step is.
-use Rattle.std.specs.Prelude.{◌≡◌, ℕ, zero, suc, ◌<◌, Bool, true, false, List, [], ◌∷◌, ◌++◌, ◌+◌, length, map, slice_get, Option, Some, None, IfSome, Vec}
+use Rattle.std.specs.Prelude.{◌≡◌, ℕ, zero, suc, ◌<◌, Bool, true, false, List, [], ◌∷◌, ◌++◌, ◌+◌, length, map, slice_get, Some, Vec}
 use Rattle.std.proofs.Common.{refl, ap, sym, ◌∙◌, arith, Global, get_or, replicate, inl, inr}
 use Rattle.std.proofs.lemmas.Bool.{cases_lt}
 use Rattle.std.proofs.lemmas.List.{get_or_push, get_or_append_left}
@@ -9,8 +9,6 @@ use Rattle.std.specs.Bool.{Decides}
 use Rattle.std.specs.Cmp.Lexicographic.{pointwise}
 use Rattle.std.proofs.lemmas.Slice.Eq.{slice_eq-Decides}
 use Rattle.std.specs.List.{filter}
-use Rattle.lexmeaning.specs.Tree.{Tree}
-use Rattle.lexmeaning.specs.Shapes.{IsSoundTree}
 use Rattle.lexmeaning.specs.Spec.{Spec, Rule}
 use Rattle.lexmeaning.specs.Sound.{IsSoundRule, HaveSoundSides}
 use Rattle.lexspec.specs.Tests.{is_sound}
