@@ -3,6 +3,7 @@ use lexclass::ByteSet;
 
 /// A pattern: what a text of lex's regular expressions stands for. Calls that go over a pattern, and its drop, take
 /// stack in proportion to its depth, at most 160 bytes a level: less than 700 kB for 64 parentheses with 64 signs each.
+/// Reading one that is used by a name takes up to 512 bytes a level, less than 2.1 MB.
 #[derive(Drop)]
 pub enum Pattern {
     /// The empty text.
