@@ -21,3 +21,4 @@ pub mod Roots
 pub mod Tables
 pub mod Counting
 pub mod Surveying
+mod Quiet

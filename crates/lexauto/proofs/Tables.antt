@@ -1,4 +1,6 @@
 -- States with the keys of words are a table for their specification.
+use mathlib.Core.Logic.{∥∥₁_elim}
+use Rattle.std.proofs.Props.{props}
 use Rattle.std.specs.Prelude.{◌≡◌, ◌≢◌, ◌↔◌, ℕ, zero, suc, ◌+◌, ◌*◌, ◌<◌, ◌≤◌, Bool, true, false, cond, List, [], ◌∷◌, ◌++◌, length, nat_lt, Option, Some, None, slice_get, slice_index, slice_index_or, not}
 use Rattle.std.proofs.Common.{rules, inl, inr, refl, ap, sym, subst, ◌∙◌, arith}
 use Rattle.std.proofs.lemmas.Option.{slice_get-get_or, slice_get_within}
@@ -29,6 +31,9 @@ use Rattle.lexauto.proofs.RuleMeaning.{rule_exits_is}
 use Rattle.lexauto.proofs.Counting.{dead_run}
 use Rattle.lexauto.proofs.WordKeys.{no_marks, dead_step, dead_followers, word_key, start_live, later_live, start_lasts}
 use Rattle.lexauto.proofs.Accepting.{rules_fit, rules_left_is, left_ascend, first_is}
+
+same_bool : (a b : Bool) → IsProp (a ≡ b)
+same_bool a b = Prim.hlevel props
 
 some_is : (l : List ℕ) → (not (is_empty l) ≡ true) ↔ ((q : ℕ) × Among l q)
 some_is [] = (λ h. no_true h, λ (q, a). absurd a)
@@ -294,7 +299,7 @@ module _ (S : Spec) (sound : IsSound S) (keys : List Key) (next starts line_star
       ascending = accepts_ascend;
       dead_stays = dead_stays;
       dead_accepts = dead_accepts;
-      goes_on = leads_from;
+      goes_on = λ q. (λ g. ∣ (leads_from q).0 g ∣₁, λ t. ∥∥₁_elim t (same_bool (M.goes_on q) true) (λ r. (leads_from q).1 r));
       legal = statements_legal;
     }
 

@@ -59,8 +59,10 @@ fn mark_copies(inner: &Pattern, byte: u8, base: usize, count: u8, mask: &mut [bo
     ensures mask { (q : ℕ) → flag mask.new q ≡ (flag mask.old q || copies_read (reads (tree_of inner.now) byte q) base (positions (tree_of inner.now)) count) }
 {
     // Copies without positions cost nothing.
-    if let Some(0) = positions(inner) {
-        return base;
+    if count > 1 {
+        if let Some(0) = positions(inner) {
+            return base;
+        }
     }
     let mut after = base;
     for k in 0..count {

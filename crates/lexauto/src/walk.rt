@@ -142,11 +142,13 @@ fn leave_copies(
     ensures after { result.after ≡ base + copies.count * positions (tree_of inner.now) }
 {
     // Copies without positions cost nothing.
-    if let Some(0) = positions(inner) {
-        return Passed {
-            left: entered,
-            after: base,
-        };
+    if copies.count > 1 {
+        if let Some(0) = positions(inner) {
+            return Passed {
+                left: entered,
+                after: base,
+            };
+        }
     }
     let mut left = entered;
     let mut out = false;
@@ -284,11 +286,13 @@ fn enter_copies(
     ensures next { (q : ℕ) → flag next.new q ≡ (flag next.old q || comes (enters (tree_of inner.now) (flag last.now) q) (exits (tree_of inner.now) (flag last.now)) copies.loops base (positions (tree_of inner.now)) entered copies.count) }
 {
     // Copies without positions cost nothing.
-    if let Some(0) = positions(inner) {
-        return Passed {
-            left: entered,
-            after: base,
-        };
+    if copies.count > 1 {
+        if let Some(0) = positions(inner) {
+            return Passed {
+                left: entered,
+                after: base,
+            };
+        }
     }
     let mut left = entered;
     let mut out = false;

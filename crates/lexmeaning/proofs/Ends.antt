@@ -101,14 +101,14 @@ settle_good kept left (Again a) f h later = later a refl
 settle_good kept left (Over a e) f h later = (record { after = a; ended = Some e }, refl, h)
 
 module _ (R : Rules) (legal : (i : ℕ) → i < R.count → IsLegal R.conditions (R.statements i)) where
-  legal_of : (i : ℕ) → (i < R.count) ⊎ (R.count ≤ i) → IsLegal R.conditions (statements_of R i)
+  pub legal_of : (i : ℕ) → (i < R.count) ⊎ (R.count ≤ i) → IsLegal R.conditions (statements_of R i)
   legal_of i (inl lt) = subst (IsLegal R.conditions) (sym (cond-true (nat_lt i R.count) (R.statements i) (Echo ∷ []) (lt-ltb i R.count lt))) (legal i lt)
   legal_of i (inr le) = subst (IsLegal R.conditions) (sym (cond-false (nat_lt i R.count) (R.statements i) (Echo ∷ []) (le-ltb i R.count le))) (echo_legal R.conditions)
 
-  default_echoes : (i : ℕ) → i ≡ R.count → statements_of R i ≡ Echo ∷ []
+  pub default_echoes : (i : ℕ) → i ≡ R.count → statements_of R i ≡ Echo ∷ []
   default_echoes i e = cond-false (nat_lt i R.count) (R.statements i) (Echo ∷ []) (le-ltb i R.count (omega arith))
 
-  perform_good : (kept y : List ℕ) (ms : List Candidate) (out : List ℕ) (c : ℕ) → ((m : Candidate) → Among ms m → (1 ≤ m.keep) × (m.keep ≤ length y)) →
+  pub perform_good : (kept y : List ℕ) (ms : List Candidate) (out : List ℕ) (c : ℕ) → ((m : Candidate) → Among ms m → (1 ≤ m.keep) × (m.keep ≤ length y)) →
       (d : Candidate) → Among ms d → d.rule ≡ R.count → GoodMatch (length kept) (length y) (perform R kept y ms out c)
   unfolding perform
   perform_good kept y [] out c h d among is = absurd among
@@ -169,7 +169,7 @@ moves_from x p o h g None is =
 
 module _ (R : Rules) (l : Laws R) (legal : (i : ℕ) → i < R.count → IsLegal R.conditions (R.statements i))
     (exist : (c : ℕ) (bol : Bool) (y : List ℕ) → (ms : List Candidate) × Candidates R c bol y ms) (x : List ℕ) where
-  keep_bounds : (c : ℕ) (bol : Bool) (y : List ℕ) (m : Candidate) → IsCandidate R c bol y m → (1 ≤ m.keep) × (m.keep ≤ length y)
+  pub keep_bounds : (c : ℕ) (bol : Bool) (y : List ℕ) (m : Candidate) → IsCandidate R c bol y m → (1 ≤ m.keep) × (m.keep ≤ length y)
   keep_bounds c bol y m h = from h.fits
     where
       n : length (take m.len y) ≡ m.len

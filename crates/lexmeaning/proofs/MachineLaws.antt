@@ -1,5 +1,7 @@
 -- The rules that a machine tells keep the laws, and there are matches in order at each place.
 use Rattle.std.proofs.Common.{◌≡◌, ℕ, ◌+◌, ◌≤◌, Bool, true, List, [], ◌∷◌, ◌++◌, length, refl, sym, ◌∙◌, ap, subst, arith}
+use mathlib.Core.Logic.{∥∥₁_elim}
+use Rattle.std.proofs.Props.{props}
 use Rattle.std.proofs.lemmas.List.{length-append}
 use Rattle.lexmeaning.specs.Text.{Among, IsText}
 use Rattle.lexmeaning.specs.Laws.{Laws}
@@ -26,14 +28,17 @@ text_append : (u v : List ℕ) → IsText u → IsText v → IsText (u ++ v)
 text_append [] v h k = k
 text_append (b ∷ u) v h k = (h.0, text_append u v h.1 k)
 
+same_bool : (a b : Bool) → IsProp (a ≡ b)
+same_bool a b = Prim.hlevel props
+
 pub machine_laws : (M : Machine) → MachineLaws M → Laws (rules_of_machine M)
 machine_laws M laws = record {
   some_text = λ c bol w i k h. keeps_some (M.cut i) (length w) k h.not_empty h.keeps;
   inside = λ c bol w i k h. keeps_inside (M.cut i) (length w) k h.keeps;
   one_text = λ c bol w i k l h g. keeps_one (M.cut i) (length w) k l h.keeps g.keeps;
   live_from_full = λ c bol w u i k text some h.
-      (laws.goes_on (state_after M c bol w)).1 (u, text, some, i, subst (λ s. Among (M.accepts s) i) (walk-append M (M.start c bol) w u) h.accepted);
-  live_shorter = λ c bol w u text h. shorter c bol w u text ((laws.goes_on (state_after M c bol (w ++ u))).0 h);
+      (laws.goes_on (state_after M c bol w)).1 ∣ (u, text, some, i, subst (λ s. Among (M.accepts s) i) (walk-append M (M.start c bol) w u) h.accepted) ∣₁;
+  live_shorter = λ c bol w u text h. ∥∥₁_elim ((laws.goes_on (state_after M c bol (w ++ u))).0 h) (same_bool (M.goes_on (state_after M c bol w)) true) (λ q. shorter c bol w u text q);
 }
   where
     shorter : (c : ℕ) (bol : Bool) (w u : List ℕ) → IsText u → LeadsToAccept M (state_after M c bol (w ++ u)) → M.goes_on (state_after M c bol w) ≡ true
@@ -41,4 +46,4 @@ machine_laws M laws = record {
         let size : length (u ++ v) ≡ length u + length v = length-append u v in
         let there : walk M (state_after M c bol (w ++ u)) v ≡ walk M (state_after M c bol w) (u ++ v) =
         ap (λ s. walk M s v) (walk-append M (M.start c bol) w u) ∙ sym (walk-append M (state_after M c bol w) u v) in
-        (laws.goes_on (state_after M c bol w)).1 (u ++ v, text_append u v text more, omega arith, i, subst (λ s. Among (M.accepts s) i) there among)
+        (laws.goes_on (state_after M c bol w)).1 ∣ (u ++ v, text_append u v text more, omega arith, i, subst (λ s. Among (M.accepts s) i) there among) ∣₁

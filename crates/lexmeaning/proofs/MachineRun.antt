@@ -55,7 +55,7 @@ kept_complete (Trail t) n k h =
 abbrev pub EndsHere : Machine → ℕ → List ℕ → Candidate → Type 0
 EndsHere M n rules m = (m.len ≡ n) × Among rules m.rule × Keeps (M.cut m.rule) n m.keep
 
-match_sound : (M : Machine) (n i : ℕ) (o : Option ℕ) (m : Candidate) → kept_by (M.cut i) n ≡ o → option_map (λ k. record { len = n; rule = i; keep = k }) o ≡ Some m → (m.len ≡ n) × (m.rule ≡ i) × Keeps (M.cut i) n m.keep
+pub match_sound : (M : Machine) (n i : ℕ) (o : Option ℕ) (m : Candidate) → kept_by (M.cut i) n ≡ o → option_map (λ k. record { len = n; rule = i; keep = k }) o ≡ Some m → (m.len ≡ n) × (m.rule ≡ i) × Keeps (M.cut i) n m.keep
 match_sound M n i None m p e = absurd (no e)
   where
     no : None ≡ Some m → ⊥
@@ -75,7 +75,7 @@ state_from M n i is (Some q) m e (inl h) later =
     let r = match_sound M n i (kept_by (M.cut i) n) m refl (e ∙ ap Some (sym h)) in
     (r.0, inl r.1, subst (λ j. Keeps (M.cut j) n m.keep) (sym r.1) r.2)
 
-state_sound : (M : Machine) (n : ℕ) (is : List ℕ) (m : Candidate) → Among (filter_map (match_of M n) is) m → EndsHere M n is m
+pub state_sound : (M : Machine) (n : ℕ) (is : List ℕ) (m : Candidate) → Among (filter_map (match_of M n) is) m → EndsHere M n is m
 state_sound M n [] m h = absurd h
 state_sound M n (i ∷ is) m h = state_from M n i is (match_of M n i) m refl h (λ k. state_sound M n is m k)
 

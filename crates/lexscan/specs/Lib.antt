@@ -3,3 +3,13 @@ pub mod Memory
 pub mod Source
 pub mod SourceLaws
 pub mod Taking
+pub mod Window
+pub mod Answer
+pub mod Reads
+pub mod Sees
+pub mod Acts
+pub mod Descends
+pub mod Moves
+pub mod Stands
+pub mod Runs
+pub mod Picks

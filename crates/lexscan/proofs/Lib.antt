@@ -1,0 +1,11 @@
+pub mod Descending
+pub mod Growing
+pub mod Lasting
+pub mod Leaving
+pub mod Lifting
+pub mod Outcomes
+pub mod Ranging
+pub mod Refusing
+pub mod Saying
+pub mod Stepping
+pub mod Picking

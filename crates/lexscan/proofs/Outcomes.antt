@@ -1,0 +1,97 @@
+-- What the actions make of the matches that a scanner has seen.
+use Rattle.std.proofs.Common.{◌≡◌, ℕ, ◌≤◌, ◌<◌, false, List, [], ◌∷◌, ◌++◌, length, take, drop, ◌⊎◌, inl, inr, Option, Some, None, refl, sym, ◌∙◌, ap, subst, arith}
+use Rattle.std.proofs.lemmas.List.{length-take-le, take-take}
+use Rattle.std.proofs.lemmas.Bool.{cases_lt}
+use Rattle.lexmeaning.specs.Text.{Among}
+use Rattle.lexmeaning.specs.Legal.{IsLegal}
+use Rattle.lexmeaning.specs.Rules.{Rules, statements_of}
+use Rattle.lexmeaning.specs.Candidates.{Candidate, Candidates}
+use Rattle.lexmeaning.specs.Acting as Scan
+use Rattle.lexmeaning.specs.Acting.{Matched, Went, Done, Again, Over, act, settle, perform}
+use Rattle.lexmeaning.specs.Machine.{Machine, rules_of_machine}
+use Rattle.lexmeaning.specs.MachineLaws.{MachineLaws}
+use Rattle.lexmeaning.specs.Plain.{default_match}
+use Rattle.lexmeaning.specs.Trail.{trail_from, falling}
+use Rattle.lexmeaning.proofs.Actions.{begins_below}
+use Rattle.lexmeaning.proofs.Table.{WentBelow, act_below}
+use Rattle.lexmeaning.proofs.MachineLaws.{machine_laws}
+use Rattle.lexmeaning.proofs.MachineRun.{machine_candidates_exist}
+use Rattle.lexmeaning.proofs.Fronts.{among_right}
+use Rattle.lexmeaning.proofs.Local.{same_performed, keep_inside}
+use Rattle.lexmeaning.proofs.Falling.{falling_candidates}
+use Rattle.lexmeaning.proofs.Ends.{GoodMatch, perform_good, keep_bounds, legal_of}
+use Rattle.lexmeaning.proofs.Once.{some_inj}
+use Rattle.lexscan.specs.declared.state.Spot.{Spot}
+use Rattle.lexscan.specs.Sees.{SoFar}
+use Rattle.lexscan.specs.Descends.{outcome, matches_of}
+use Rattle.lexscan.proofs.Descending.{default_one}
+
+-- the condition stays in range
+settle_below : (n : ℕ) (w : Went) (f : Scan.Acting → Option Matched) (o : Matched) → WentBelow n w → ((a : Scan.Acting) → a.condition < n → f a ≡ Some o → o.after.condition < n) → settle w f ≡ Some o → o.after.condition < n
+settle_below n (Done a) f o h later e = subst (λ (z : Matched). z.after.condition < n) (some_inj (record { after = a; ended = None }) o e) h
+settle_below n (Again a) f o h later e = later a h e
+settle_below n (Over a d) f o h later e = subst (λ (z : Matched). z.after.condition < n) (some_inj (record { after = a; ended = Some d }) o e) h
+
+pub perform_below : (R : Rules) → ((i : ℕ) → i < R.count → IsLegal R.conditions (R.statements i)) → (kept y : List ℕ) (ms : List Candidate) (out : List ℕ) (c : ℕ) (o : Matched) → c < R.conditions → perform R kept y ms out c ≡ Some o → o.after.condition < R.conditions
+unfolding perform
+perform_below R legal kept y [] out c o lt e = absurd (no e)
+  where
+    no : None ≡ Some o → ⊥
+    no p = cc
+perform_below R legal kept y (m ∷ ms) out c o lt e =
+    let a : Scan.Acting = record { text = kept ++ take m.keep y; written = out; condition = c; more = false } in
+    let ok : IsLegal R.conditions (statements_of R m.rule) = legal_of R legal m.rule (cases_lt m.rule R.count) in
+    settle_below R.conditions (act (statements_of R m.rule) a) (λ b. perform R kept y ms b.written b.condition) o
+    (act_below R.conditions (statements_of R m.rule) a lt (begins_below R.conditions (statements_of R m.rule) ok.ranges))
+    (λ b less p. perform_below R legal kept y ms b.written b.condition o less p) e
+
+module _ (M : Machine) (laws : MachineLaws M) (p : Spot) (w : List ℕ) (reach state : ℕ) (trail : List ℕ) (some : 1 ≤ reach) (h : SoFar M p (drop p.at w) reach state trail) where
+  -- the bytes that the match has asked for
+  abbrev pub seen : List ℕ
+  seen = take reach (drop p.at w)
+
+  -- all the matches among them
+  abbrev pub seen_matches : List Candidate
+  seen_matches = falling M 0 (trail_from M (M.start p.condition p.line_start) seen) ++ default_match M.count seen
+
+  pub size : length seen ≡ reach
+  size = length-take-le reach (drop p.at w) h.inside
+
+  pub matches_are : matches_of M w p.at trail ≡ seen_matches
+  matches_are =
+      ap (λ t. falling M 0 t ++ default_match M.count (drop p.at w)) h.trail_is
+      ∙ ap (λ l. falling M 0 (trail_from M (M.start p.condition p.line_start) seen) ++ l) (default_one M (drop p.at w) (omega (arith, some, h.inside)) ∙ sym (default_one M seen (omega (arith, some, size))))
+
+  pub all_seen : Candidates (rules_of_machine M) p.condition p.line_start seen seen_matches
+  all_seen = falling_candidates M laws p.condition p.line_start seen
+
+  -- over all bytes or over those asked for, the actions make the same of them
+  pub seen_outcome : (out : List ℕ) (c : ℕ) → outcome M w p.at (matches_of M w p.at trail) out c ≡ perform (rules_of_machine M) (take p.at w) seen seen_matches out c
+  seen_outcome out c =
+      ap (λ l. outcome M w p.at l out c) matches_are
+      ∙ sym (same_performed (rules_of_machine M) (take p.at w) seen (drop p.at w) seen_matches out c
+      (λ m a. take-take m.keep reach (drop p.at w) (short m a)))
+    where
+      short : (m : Candidate) → Among seen_matches m → m.keep ≤ reach
+      short m a = let le = keep_inside (rules_of_machine M) (machine_laws M laws) p.condition p.line_start seen m ((all_seen.members m).0 a) in omega (arith, le, size)
+
+  -- there is an outcome
+  pub good : (out : List ℕ) (c : ℕ) → GoodMatch (length (take p.at w)) (length seen) (perform (rules_of_machine M) (take p.at w) seen seen_matches out c)
+  good out c =
+      perform_good (rules_of_machine M) laws.legal (take p.at w) seen seen_matches out c
+      (λ m a. keep_bounds (rules_of_machine M) (machine_laws M laws) laws.legal (λ c bol y. machine_candidates_exist M laws c bol y) w p.condition p.line_start seen m ((all_seen.members m).0 a))
+      (record { len = 1; rule = M.count; keep = 1 })
+      (among_right (falling M 0 (trail_from M (M.start p.condition p.line_start) seen)) (default_match M.count seen) (record { len = 1; rule = M.count; keep = 1 })
+      (subst (λ l. Among l (record { len = 1; rule = M.count; keep = 1 })) (sym (default_one M seen (omega (arith, some, size)))) (inl refl)))
+      refl
+
+  -- its text is not empty
+  pub some_text : (o : Matched) (out : List ℕ) (c : ℕ) → outcome M w p.at (matches_of M w p.at trail) out c ≡ Some o → 1 ≤ length o.after.text
+  some_text o out c e =
+      let q = good out c in
+      let same : q.0 ≡ o = some_inj q.0 o (sym q.1 ∙ sym (seen_outcome out c) ∙ e) in
+      subst (λ (z : Matched). 1 ≤ length z.after.text) same (from q.0.after q.2.grows)
+    where
+      from : (a : Scan.Acting) → (length (take p.at w) < length a.text) ⊎ ((1 ≤ length a.text) × (a.more ≡ false)) → 1 ≤ length a.text
+      from a (inl lt) = omega (arith, lt)
+      from a (inr k) = k.0

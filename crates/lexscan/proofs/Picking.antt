@@ -1,0 +1,119 @@
+-- The first match at a place, and what its action does.
+use Rattle.std.proofs.Common.{◌≡◌, ℕ, suc, ◌+◌, ◌-◌, ◌≤◌, ◌<◌, false, true, List, [], ◌∷◌, ◌++◌, length, take, drop, get_or, Option, Some, None, sym, ◌∙◌, ap, subst, arith}
+use Rattle.std.specs.Prelude.{filter_map, IfSome}
+use Rattle.std.proofs.lemmas.List.{length-take-le, length-drop, get_or-drop}
+use Rattle.lexmeaning.specs.Spec.{Statement, Echo, Print, Begin, More, Less, Reject, End, has_reject}
+use Rattle.lexmeaning.specs.Candidates.{Candidate}
+use Rattle.lexmeaning.specs.Acting as Scan
+use Rattle.lexmeaning.specs.Acting.{Matched, Went, act, settle}
+use Rattle.lexmeaning.specs.Machine.{Machine, walk}
+use Rattle.lexmeaning.specs.PlainMachine.{match_of}
+use Rattle.lexmeaning.specs.Plain.{default_match}
+use Rattle.lexmeaning.specs.Trail.{trail_from, falling}
+use Rattle.lexmeaning.proofs.Falling.{falling-snoc}
+use Rattle.lexmeaning.proofs.MachineLaws.{walk-append}
+use Rattle.lextab.specs.Rejecting.{NoReject}
+use Rattle.lexscan.specs.declared.act.Acting.{Acting}
+use Rattle.lexscan.specs.declared.act.Step.{Step}
+use Rattle.lexscan.specs.declared.state.Spot.{Spot}
+use Rattle.lexscan.specs.declared.pick.Pick.{Pick}
+use Rattle.lexscan.specs.Acts.{acting_of, Carried, CutShort}
+use Rattle.lexscan.specs.Descends.{outcome, matches_of, Passed, CutAll, Performed}
+use Rattle.lexscan.specs.Picks.{trail_of, IsFirst, state_at}
+use Rattle.lexscan.proofs.Growing.{take_one_more, trail_length, trail_snoc}
+use Rattle.lexscan.proofs.Descending as Down
+use Rattle.lexscan.proofs.Descending.{ended_by, start_of, head_outcome, statements_are, settled}
+
+pub first_before : (ms ns : List Candidate) (p : Pick) → IsFirst ms (Some p) → IsFirst (ms ++ ns) (Some p)
+first_before ms ns p (len, rest, e) = (len, rest ++ ns, ap (λ l. l ++ ns) e)
+
+pub first_after : (ms ns : List Candidate) (o : Option Pick) → ms ≡ [] → IsFirst ns o → IsFirst (ms ++ ns) o
+first_after ms ns o e h = subst (λ l. IsFirst (l ++ ns) o) (sym e) h
+
+pub first_same : (ms ns : List Candidate) (o : Option Pick) → ms ≡ ns → IsFirst ns o → IsFirst ms o
+first_same ms ns o e h = subst (λ l. IsFirst l o) (sym e) h
+
+pub keeps_more : (o : Option Pick) (n : ℕ) → IfSome o (λ pick. pick.keep ≤ n) → IfSome o (λ pick. pick.keep ≤ n + 1)
+keeps_more None n h = h
+keeps_more (Some p) n h = omega (arith, h)
+
+-- the state after one byte more
+pub state_more : (M : Machine) (p : Spot) (w : List ℕ) (n : ℕ) → p.at + n < length w → M.next (state_at M p w n) (get_or w (p.at + n) 0) ≡ state_at M p w (n + 1)
+state_more M p w n lt =
+    let y : List ℕ = drop p.at w in
+    let less : n < length y = omega (arith, length-drop p.at w, lt) in
+    let s0 : ℕ = M.start p.condition p.line_start in
+    ap (M.next (walk M s0 (take n y))) (sym (get_or-drop p.at w n 0)) ∙ sym (walk-append M s0 (take n y) (get_or y n 0 ∷ [])) ∙ ap (walk M s0) (sym (take_one_more n y less))
+
+-- the matches that end after one byte more come first
+pub falling_more : (M : Machine) (p : Spot) (w : List ℕ) (n : ℕ) → p.at + n < length w →
+    falling M 0 (trail_of M p w (n + 1)) ≡ filter_map (match_of M (n + 1)) (M.accepts (state_at M p w (n + 1))) ++ falling M 0 (trail_of M p w n)
+falling_more M p w n lt =
+    let y : List ℕ = drop p.at w in
+    let less : n < length y = omega (arith, length-drop p.at w, lt) in
+    let s0 : ℕ = M.start p.condition p.line_start in
+    let b : ℕ = get_or y n 0 in
+    let s : ℕ = M.next (walk M s0 (take n y)) b in
+    let same : s ≡ state_at M p w (n + 1) = sym (walk-append M s0 (take n y) (b ∷ [])) ∙ ap (walk M s0) (sym (take_one_more n y less)) in
+    let count : length (trail_of M p w n) ≡ n = trail_length M s0 (take n y) ∙ length-take-le n y (omega (arith, less)) in
+    let e : 0 + suc (length (trail_of M p w n)) ≡ n + 1 = omega (arith, count) in
+    ap (falling M 0) (ap (trail_from M s0) (take_one_more n y less) ∙ trail_snoc M s0 b (take n y))
+    ∙ falling-snoc M 0 s (trail_of M p w n)
+    ∙ ap (λ k. filter_map (match_of M k) (M.accepts s) ++ falling M 0 (trail_of M p w n)) e
+    ∙ ap (λ z. filter_map (match_of M (n + 1)) (M.accepts z) ++ falling M 0 (trail_of M p w n)) same
+
+-- the same, counted from the last
+pub falling_last : (M : Machine) (p : Spot) (w : List ℕ) (n : ℕ) → 1 ≤ n → p.at + n ≤ length w →
+    falling M 0 (trail_of M p w n) ≡ filter_map (match_of M n) (M.accepts (state_at M p w n)) ++ falling M 0 (trail_of M p w (n - 1))
+falling_last M p w n some le =
+    let e : n - 1 + 1 ≡ n = omega (arith, some) in
+    subst (λ k. falling M 0 (trail_of M p w k) ≡ filter_map (match_of M k) (M.accepts (state_at M p w k)) ++ falling M 0 (trail_of M p w (n - 1))) e
+    (falling_more M p w (n - 1) (omega (arith, some, le)))
+
+-- an action without REJECT does not go to the next match
+quiet_never : (ss : List Statement) (a b : Scan.Acting) → has_reject ss ≡ false → act ss a ≡ Scan.Again b → ⊥
+quiet_never [] a b h e = cc
+quiet_never (Echo ∷ ss) a b h e = quiet_never ss (record a { written = a.written ++ a.text }) b h e
+quiet_never (Print s ∷ ss) a b h e = quiet_never ss (record a { written = a.written ++ s }) b h e
+quiet_never (Begin d ∷ ss) a b h e = quiet_never ss (record a { condition = d }) b h e
+quiet_never (More ∷ ss) a b h e = quiet_never ss (record a { more = true }) b h e
+quiet_never (Less n ∷ ss) a b h e = quiet_never ss (record a { text = take n a.text }) b h e
+quiet_never (Reject ∷ ss) a b h e = absurd (no h)
+  where
+    no : true ≡ false → ⊥
+    no p = cc
+quiet_never (End s ∷ ss) a b h e = cc
+
+module _ {K : Type 0} (M : Machine) (wrote : K → List ℕ → K → Type 0) (none : (s : K) → wrote s [] s) (join : (s t u : K) (xs ys : List ℕ) → wrote s xs t → wrote t ys u → wrote s (xs ++ ys) u) (w : List ℕ) (at : ℕ) where
+  pub never_again : (s t : K) (p : Pick) (c : ℕ) (ss : List Statement) (new : Acting) → NoReject M → p.rule < M.count → ss ≡ M.statements p.rule →
+      Carried wrote s t w ss (start_of at p.keep c) new Step.Again → ⊥
+  never_again s t p c ss new quiet below same k = quiet_never ss _ _ (ap has_reject same ∙ quiet p.rule below) (k.acts [])
+
+  -- its action was carried out
+  pub picked : (s t : K) (trail : List ℕ) (p : Pick) (c : ℕ) (ss : List Statement) (new : Acting) (step : Step) → (step ≡ Step.Again → ⊥) → IsFirst (falling M 0 trail) (Some p) → p.rule < M.count → ss ≡ M.statements p.rule →
+      Carried wrote s t w ss (start_of at p.keep c) new step → Performed M wrote s t w at (matches_of M w at trail) c new (ended_by step)
+  picked s t trail p c ss new step never (len, rest, e) below same k = record {
+    out = k.out;
+    sink = k.sink;
+    acts = λ before.
+        ap (λ l. outcome M w at (l ++ default_match M.count (drop at w)) before c) e
+        ∙ head_outcome M w at (record { len = len; rule = p.rule; keep = p.keep }) (rest ++ default_match M.count (drop at w)) before c
+        ∙ ap (λ l. settle (act l (acting_of w (start_of at p.keep c) before)) (λ a. outcome M w at (rest ++ default_match M.count (drop at w)) a.written a.condition)) (statements_are M p.rule below ∙ sym same)
+        ∙ ap (λ z. settle z (λ a. outcome M w at (rest ++ default_match M.count (drop at w)) a.written a.condition)) (k.acts before)
+        ∙ settled step (acting_of w new (before ++ k.out)) (λ a. outcome M w at (rest ++ default_match M.count (drop at w)) a.written a.condition) never;
+  }
+
+  -- or cut short
+  pub picked_cut : (s t : K) (trail : List ℕ) (p : Pick) (c : ℕ) (ss : List Statement) → IsFirst (falling M 0 trail) (Some p) → p.rule < M.count → ss ≡ M.statements p.rule →
+      CutShort wrote s t w ss (start_of at p.keep c) → CutAll M wrote s t w at (matches_of M w at trail) c
+  picked_cut s t trail p c ss (len, rest, e) below same k = record {
+    out = k.out;
+    sink = k.sink;
+    front = λ before o is.
+        Down.cut_front M wrote none join w at s t (record { len = len; rule = p.rule; keep = p.keep }) (rest ++ default_match M.count (drop at w)) c ss (same ∙ sym (statements_are M p.rule below)) k before o
+        (ap (λ l. outcome M w at (l ++ default_match M.count (drop at w)) before c) (sym e) ∙ is);
+  }
+
+  -- there is none but the default match
+  pub none_picked : (s : K) (trail : List ℕ) (c : ℕ) → falling M 0 trail ≡ [] → Passed M wrote s s w at (falling M 0 trail) [] c c
+  none_picked s trail c e = subst (λ l. Passed M wrote s s w at (falling M 0 trail) l c c) e (Down.passed_first M wrote none join w at s (falling M 0 trail) c)

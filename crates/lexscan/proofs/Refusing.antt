@@ -1,0 +1,204 @@
+-- What a turn that was refused leaves.
+use Rattle.std.proofs.Common.{◌≡◌, ℕ, zero, suc, ◌+◌, ◌-◌, ◌≤◌, ◌<◌, Bool, true, false, List, [], ◌++◌, length, drop, ◌⊎◌, inl, inr, Some, None, refl, sym, ◌∙◌, ap, subst, arith}
+use Rattle.std.proofs.lemmas.List.{append-nil, append_assoc, length-append, length-drop, drop-append-le, drop_all, nil_from_length}
+use Rattle.lexmeaning.specs.Text.{IsText, BeginsWith}
+use Rattle.lexmeaning.specs.Rules.{Rules}
+use Rattle.lexmeaning.specs.Acting as Scan
+use Rattle.lexmeaning.specs.Acting.{Ending, Status}
+use Rattle.lexmeaning.specs.Run as Run
+use Rattle.lexmeaning.specs.Run.{Place, Turn, Turns}
+use Rattle.lexmeaning.specs.Demand.{AsksAt, FarFrom, Far, Consistent, GoesOnFrom}
+use Rattle.lexmeaning.specs.Scanned.{AfterTurns, seen_turn}
+use Rattle.lexmeaning.specs.Machine.{Machine, rules_of_machine}
+use Rattle.lexmeaning.specs.MachineLaws.{MachineLaws}
+use Rattle.lexmeaning.proofs.MachineLaws.{machine_laws}
+use Rattle.lexmeaning.proofs.Once.{one_state}
+use Rattle.lexmeaning.proofs.Both.{one_far}
+use Rattle.lexmeaning.proofs.Prefix.{asks_front}
+use Rattle.lexmeaning.proofs.Step.{seen_match}
+use Rattle.lexmeaning.proofs.Texts.{is_text_append}
+use Rattle.lexmeaning.proofs.Wanted.{WantsMore, wanted_far, wanted_end}
+use Rattle.lexmeaning.proofs.Written.{run_begins, part_begins}
+use Rattle.lexscan.specs.declared.state.State.{State}
+use Rattle.lexscan.specs.declared.reading.RunError.{RunError}
+use Rattle.lexscan.specs.declared.reading.RunError.TheVariants.{TooManyReads}
+use Rattle.lexscan.specs.Sees.{Saw, SawEnd, Wants, Unmet}
+use Rattle.lexscan.specs.Descends.{outcome, matches_of, CutAll, ending_of}
+use Rattle.lexscan.specs.Moves.{Refused}
+use Rattle.lexscan.specs.Stands.{state_of, Stands, Before, Fell}
+use Rattle.lexscan.proofs.Outcomes.{good, seen_outcome}
+use Rattle.lexscan.proofs.Lifting.{seen_here, dead_here, asks_here, inside_here, wants_here}
+
+-- an input that goes on from more goes on from less
+pub earlier : (given got : List ℕ) (a b : Bool) (x : List ℕ) → (a ≡ true → got ≡ []) → (a ≡ true → b ≡ true) → GoesOnFrom (given ++ got) b x → GoesOnFrom given a x
+earlier given got true true x none ends h = h ∙ ap (λ z. given ++ z) (none refl) ∙ append-nil given
+earlier given got true false x none ends h = absurd (no (ends refl))
+  where
+    no : false ≡ true → ⊥
+    no p = cc
+earlier given got false true x none ends h = (got, h)
+earlier given got false false x none ends h = (got ++ h.0, h.1 ∙ append_assoc given got h.0)
+
+pub with_rest : (given : List ℕ) (b : Bool) (x : List ℕ) → GoesOnFrom given b x → (rest : List ℕ) × (x ≡ given ++ rest)
+with_rest given true x h = ([], h ∙ sym (append-nil given))
+with_rest given false x h = h
+
+pub just_these : (given : List ℕ) (b : Bool) → GoesOnFrom given b given
+just_these given true = refl
+just_these given false = ([], sym (append-nil given))
+
+-- how far one more turn asks
+module _ (R : Rules) (x : List ℕ) (n : ℕ) (s : Run.State) (f : ℕ) (turns : Turns R x n s) (far : Far R x n f) (going : s.ended ≡ None) (t : Run.State) (g : ℕ) (e : Bool) (after : AfterTurns R x (suc n) t g e) where
+  far_step : FarFrom R x s None f g
+  far_step =
+      let r = after.reaches in
+      let same : r.0 ≡ s = one_state R x n r.0 s r.2 turns in
+      let one : r.1 ≡ f = one_far R x n r.1 f r.3 far in
+      subst (λ k. FarFrom R x s None k g) one (subst (λ z. FarFrom R x s z r.1 g) going (subst (λ (z : Run.State). FarFrom R x z z.ended r.1 g) same r.4))
+
+  pub no_less : f ≤ g
+  no_less = from far_step
+    where
+      from : FarFrom R x s None f g → f ≤ g
+      from (inl k) = omega (arith, k.1)
+      from (inr k) = let is = k.3 in omega (arith, is)
+
+  pub asked_far : (k : ℕ) → 1 ≤ k → s.place.at + k ≤ length x → ((i : ℕ) → i < k → AsksAt R x s.place i) → s.place.at + k ≤ g
+  asked_far zero some fits asks = absurd (omega (arith, some))
+  asked_far (suc k) some fits asks = from far_step
+    where
+      from : FarFrom R x s None f g → s.place.at + suc k ≤ g
+      from (inl h) = absurd (omega (arith, h.0, fits))
+      from (inr h) =
+          let reach = h.2 in
+          let less : k < h.1 = (reach.asked k (omega (arith, fits))).1 (asks k (omega arith)) in
+          let is = h.3 in
+          omega (arith, is, less)
+
+module _ {S K : Type 0} (M : Machine) (laws : MachineLaws M) (gave : S → List ℕ → S → Type 0) (wrote : K → List ℕ → K → Type 0) (s s' : S) (t t' : K) (n : ℕ) (given out : List ℕ) (old new : State)
+    (going : old.ended ≡ None) (h : Stands M n given out old) (m : Refused M gave wrote s s' t t' (record old { failed = true }) new) where
+  after_before : (x : List ℕ) → Consistent (given ++ m.took.got) new.reading.at_end x → AfterTurns (rules_of_machine M) x n (state_of out h.start old) (length given) old.reading.at_end
+  after_before x k = h.scanned x (k.0, earlier given m.took.got old.reading.at_end new.reading.at_end x m.took.nothing m.took.end_stays k.1)
+
+  before_is : (x : List ℕ) → Consistent (given ++ m.took.got) new.reading.at_end x → Before (rules_of_machine M) n h.start given old.reading.at_end x
+  before_is x k = record { state = state_of out h.start old; after = after_before x k; going = ap ending_of going; starts = refl }
+
+  win : drop h.start (given ++ m.took.got) ≡ new.reading.window.bytes
+  win = drop-append-le h.start given m.took.got (omega (arith, h.covered)) ∙ ap (λ z. z ++ m.took.got) (sym h.held) ∙ sym m.took.held
+
+  longer : length (given ++ m.took.got) ≡ length given + length m.took.got
+  longer = length-append given m.took.got
+
+  size : length new.reading.window.bytes ≡ length (given ++ m.took.got) - h.start
+  size = ap length (sym win) ∙ length-drop h.start (given ++ m.took.got)
+
+  -- these bytes go on what the run writes
+  abbrev pub Fronts : List ℕ → Type 0
+  Fronts w = (x : List ℕ) → Consistent (given ++ m.took.got) new.reading.at_end x → (v : List ℕ) (e : Ending) → Run.Run (rules_of_machine M) x v e → BeginsWith v (out ++ w)
+
+  -- the bytes taken are asked for
+  abbrev pub Within : Type 0
+  Within = (x : List ℕ) → Consistent (given ++ m.took.got) new.reading.at_end x → (t : Run.State) (far : ℕ) (asked : Bool) → AfterTurns (rules_of_machine M) x (suc n) t far asked → length (given ++ m.took.got) ≤ far
+
+  pub wants_end : Wants M old.spot new.reading → (old.reading.at_end ≡ false) × ((t : Run.State) (far : ℕ) (asked : Bool) → AfterTurns (rules_of_machine M) (given ++ m.took.got) (suc n) t far asked → asked ≡ true)
+  wants_end wants =
+      let g : List ℕ = given ++ m.took.got in
+      let more : WantsMore (rules_of_machine M) g (record { start = h.start; at = h.start + old.spot.at; condition = old.spot.condition }) =
+      wants_here M laws given m.took.got h.start old.spot new.reading.window.bytes h.covered win h.line new.reading refl wants in
+      let over = after_before g (is_text_append given m.took.got h.text m.took.text, just_these g new.reading.at_end) in
+      (not_before old.reading.at_end refl, λ t far asked after. wanted_end (rules_of_machine M) g n (state_of out h.start old) t far asked over.turns (ap ending_of going) more after)
+    where
+      no : true ≡ false → ⊥
+      no p = cc
+
+      not_before : (b : Bool) → old.reading.at_end ≡ b → old.reading.at_end ≡ false
+      not_before true e = absurd (no (sym (m.took.end_stays e) ∙ wants.reading))
+      not_before false e = e
+
+  pub wanted_front : Fronts []
+  wanted_front = (λ x k v e run. subst (BeginsWith v) (sym (append-nil out)) (run_begins (rules_of_machine M) x n (state_of out h.start old) v e (after_before x k).turns run))
+
+  -- nothing was taken
+  nothing_within : new.reading.window.bytes ≡ old.reading.window.bytes → Within
+  nothing_within same = (λ x k t far asked after.
+      let took : length new.reading.window.bytes ≡ length old.reading.window.bytes + length m.took.got = ap length m.took.held ∙ length-append old.reading.window.bytes m.took.got in
+      let over = after_before x k in
+      let le : length given ≤ far = no_less (rules_of_machine M) x n (state_of out h.start old) (length given) over.turns over.reaches (ap ending_of going) t far asked after in
+      omega (arith, longer, took, ap length same, le))
+
+  pub unmet_within : Unmet M old.spot old.reading new.reading → Within
+  unmet_within (inr same) = nothing_within same
+  unmet_within (inl wants) = (λ x k t far asked after.
+      let g : List ℕ = given ++ m.took.got in
+      let split = with_rest g new.reading.at_end x k.1 in
+      let more : WantsMore (rules_of_machine M) g (record { start = h.start; at = h.start + old.spot.at; condition = old.spot.condition }) =
+      wants_here M laws given m.took.got h.start old.spot new.reading.window.bytes h.covered win h.line new.reading refl wants in
+      wanted_far (rules_of_machine M) (machine_laws M laws) g split.0 (subst IsText split.1 k.0) n (state_of out h.start old) t far asked
+      (subst (λ y. Turns (rules_of_machine M) y n (state_of out h.start old)) split.1 (after_before x k).turns) (ap ending_of going) more
+      (subst (λ y. AfterTurns (rules_of_machine M) y (suc n) t far asked) split.1 after))
+
+  pub end_within : SawEnd old.spot old.reading new.reading → Within
+  end_within saw = nothing_within saw.same
+
+  pub end_front : SawEnd old.spot old.reading new.reading → (w : List ℕ) → BeginsWith (M.ending old.spot.condition).print w → Fronts w
+  end_front saw w is = (λ x k v e run.
+      let whole : x ≡ given ++ m.took.got = subst (λ b. GoesOnFrom (given ++ m.took.got) b x) saw.at_end k.1 in
+      let last : Run.State = record {
+        written = (M.ending old.spot.condition).print;
+        place = record { start = h.start + old.spot.at; at = h.start + old.spot.at; condition = old.spot.condition };
+        ended = Some (Status (M.ending old.spot.condition).status);
+      } in
+      let at : h.start + old.spot.at ≡ length x = omega (arith, ap length whole, size, saw.all, longer, h.covered) in
+      part_begins (rules_of_machine M) x n (state_of out h.start old) last w v e (after_before x k).turns (ap ending_of going) (inr (record { at_end = at; leaves = refl })) is run)
+
+  pub match_within : (trail : List ℕ) → Saw M old.spot old.reading new.reading trail → Within
+  match_within trail saw = (λ x k t far asked after.
+      let g : List ℕ = given ++ m.took.got in
+      let p : Place = record { start = h.start; at = h.start + old.spot.at; condition = old.spot.condition } in
+      let split = with_rest g new.reading.at_end x k.1 in
+      let over = after_before x k in
+      let fits : h.start + old.spot.at + saw.reach ≤ length g = inside_here M laws given m.took.got h.start old.spot new.reading.window.bytes h.covered win h.line saw.reach saw.state trail saw.some saw.so_far in
+      let whole : length x ≡ length g + length split.0 = ap length split.1 ∙ length-append g split.0 in
+      let asks : (i : ℕ) → i < saw.reach → AsksAt (rules_of_machine M) x p i =
+      λ i lt. subst (λ y. AsksAt (rules_of_machine M) y p i) (sym split.1) (asks_front (rules_of_machine M) g split.0 p i (omega (arith, fits, lt))
+      (asks_here M laws given m.took.got h.start old.spot new.reading.window.bytes h.covered win h.line saw.reach saw.state trail saw.some saw.so_far i lt)) in
+      let le : length given ≤ far = no_less (rules_of_machine M) x n (state_of out h.start old) (length given) over.turns over.reaches (ap ending_of going) t far asked after in
+      let reached : h.start + old.spot.at + saw.reach ≤ far = asked_far (rules_of_machine M) x n (state_of out h.start old) (length given) over.turns over.reaches (ap ending_of going) t far asked after saw.reach saw.some (omega (arith, fits, whole)) asks in
+      let before : length old.reading.window.bytes ≡ length given - h.start = ap length h.held ∙ length-drop h.start given in
+      omega (arith, size, before, saw.size, le, reached, longer, h.covered))
+
+  pub match_front : (trail : List ℕ) → Saw M old.spot old.reading new.reading trail →
+      (cut : CutAll M wrote t t' new.reading.window.bytes old.spot.at (matches_of M new.reading.window.bytes old.spot.at trail) old.spot.condition) → Fronts cut.out
+  match_front trail saw cut =
+      let w : List ℕ = new.reading.window.bytes in
+      let q = good M laws old.spot w saw.reach saw.state trail saw.some saw.so_far [] old.spot.condition in
+      let is : outcome M w old.spot.at (matches_of M w old.spot.at trail) [] old.spot.condition ≡ Some q.0 = seen_outcome M laws old.spot w saw.reach saw.state trail saw.some saw.so_far [] old.spot.condition ∙ q.1 in
+      let seen = seen_here M laws given m.took.got h.start old.spot w h.covered win h.line saw.reach saw.state trail saw.some saw.so_far q.0 is in
+      let wrote_all : BeginsWith seen.0.outcome.after.written cut.out = subst (λ (z : Scan.Matched). BeginsWith z.after.written cut.out) (sym seen.1) (cut.front [] q.0 is) in
+      (λ x k v e run.
+      let split = with_rest (given ++ m.took.got) new.reading.at_end x k.1 in
+      part_begins (rules_of_machine M) x n (state_of out h.start old) (seen_turn (record { start = h.start; at = h.start + old.spot.at; condition = old.spot.condition }) seen.0.outcome) cut.out v e (after_before x k).turns (ap ending_of going)
+      (inl (subst (λ y. Run.MatchTurn (rules_of_machine M) y (record { start = h.start; at = h.start + old.spot.at; condition = old.spot.condition }) (seen_turn (record { start = h.start; at = h.start + old.spot.at; condition = old.spot.condition }) seen.0.outcome)) (sym split.1)
+      (seen_match (rules_of_machine M) (machine_laws M laws) (given ++ m.took.got) split.0 (record { start = h.start; at = h.start + old.spot.at; condition = old.spot.condition }) saw.reach seen.0 (subst IsText split.1 k.0)
+      (enough x k split.0 split.1 saw.stops)))) wrote_all run)
+    where
+      enough : (x : List ℕ) → Consistent (given ++ m.took.got) new.reading.at_end x → (rest : List ℕ) → x ≡ (given ++ m.took.got) ++ rest →
+          ((M.goes_on saw.state ≡ false) × (new.reading.at_end ≡ old.reading.at_end)) ⊎ ((M.goes_on saw.state ≡ true) × (old.spot.at + saw.reach ≡ length new.reading.window.bytes) × (new.reading.at_end ≡ true)) →
+          (drop saw.reach (drop (h.start + old.spot.at) (given ++ m.took.got)) ++ rest ≡ []) ⊎ (AsksAt (rules_of_machine M) (given ++ m.took.got) (record { start = h.start; at = h.start + old.spot.at; condition = old.spot.condition }) saw.reach → ⊥)
+      enough x k rest e (inl q) = inr (dead_here M laws given m.took.got h.start old.spot new.reading.window.bytes h.covered win h.line saw.reach saw.state trail saw.some saw.so_far q.0)
+      enough x k rest e (inr q) =
+          let g : List ℕ = given ++ m.took.got in
+          let same : x ≡ g = subst (λ b. GoesOnFrom g b x) q.2 k.1 in
+          let more : length (g ++ rest) ≡ length g + length rest = length-append g rest in
+          let none : rest ≡ [] = nil_from_length rest (omega (arith, ap length (sym e ∙ same), more)) in
+          let left : length (drop (h.start + old.spot.at) g) ≡ length g - (h.start + old.spot.at) = length-drop (h.start + old.spot.at) g in
+          inl (ap (λ z. drop saw.reach (drop (h.start + old.spot.at) g) ++ z) none ∙ append-nil (drop saw.reach (drop (h.start + old.spot.at) g)) ∙ drop_all saw.reach (drop (h.start + old.spot.at) g) (omega (arith, size, left, q.1)))
+
+  pub fell : (e : RunError) → new.failed ≡ true → (e ≡ TooManyReads → Wants M old.spot new.reading) → (w : List ℕ) → Fronts w → Within → Fell M n given m.took.got (out ++ w) new e
+  fell e failed wants w front within = record {
+    failed = failed;
+    start = h.start;
+    gave_up = record { text = is_text_append given m.took.got h.text m.took.text; end_before = old.reading.at_end; before = before_is; front = front; within = within; asks_end = λ is. wants_end (wants is) };
+    held = sym win;
+    taken = m.took.taken ∙ ap (λ k. k + length m.took.got) h.taken ∙ sym longer;
+  }

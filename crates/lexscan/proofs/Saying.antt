@@ -1,0 +1,95 @@
+-- What the statements of an action do, one after another.
+use Rattle.std.proofs.Common.{◌≡◌, ℕ, ◌+◌, ◌<◌, true, List, [], ◌∷◌, ◌++◌, length, take, drop, refl, sym, ◌∙◌, ap, subst}
+use Rattle.std.proofs.lemmas.List.{append-nil, append_assoc, drop_more}
+use Rattle.std.specs.Prelude.{map, get_or}
+use Rattle.lexmeaning.specs.Text.{BeginsWith}
+use Rattle.lexmeaning.specs.Spec.{Statement, Echo, Print, Begin, More, Less, Reject, End}
+use Rattle.lexmeaning.specs.Acting as Scan
+use Rattle.lexmeaning.specs.Acting.{Went, act}
+use Rattle.lexscan.specs.declared.act.Acting.{Acting}
+use Rattle.lexscan.specs.declared.act.Step.{Step}
+use Rattle.lexaction.specs.declared.statement.Statement.{Statement as Item}
+use Rattle.lexaction.specs.Views.{statement_of}
+use Rattle.lexscan.specs.Acts.{acting_of, said, after_step, Steps, written_of, Carried, CutShort, CarriedTo}
+
+abbrev pub IsPrefixOf : List ℕ → List ℕ → Type 0
+IsPrefixOf u w = BeginsWith w u
+
+pub prefix_trans : (a b c : List ℕ) → IsPrefixOf a b → IsPrefixOf b c → IsPrefixOf a c
+prefix_trans a b c p q = (p.0 ++ q.0, q.1 ∙ ap (λ l. l ++ q.0) p.1 ∙ append_assoc a p.0 q.0)
+
+prefix_more : (a b c : List ℕ) → IsPrefixOf (a ++ b) c → IsPrefixOf a c
+prefix_more a b c p = (b ++ p.0, p.1 ∙ append_assoc a b p.0)
+
+pub prefix_same : (a : List ℕ) → IsPrefixOf a a
+prefix_same a = ([], sym (append-nil a))
+
+-- an action only adds to what was written
+pub act_grows : (ss : List Statement) (a : Scan.Acting) → IsPrefixOf a.written (written_of (act ss a))
+act_grows [] a = prefix_same a.written
+act_grows (Echo ∷ ss) a = prefix_more a.written a.text _ (act_grows ss (record a { written = a.written ++ a.text }))
+act_grows (Print s ∷ ss) a = prefix_more a.written s _ (act_grows ss (record a { written = a.written ++ s }))
+act_grows (Begin d ∷ ss) a = act_grows ss (record a { condition = d })
+act_grows (More ∷ ss) a = act_grows ss (record a { more = true })
+act_grows (Less n ∷ ss) a = act_grows ss (record a { text = take n a.text })
+act_grows (Reject ∷ ss) a = prefix_same a.written
+act_grows (End s ∷ ss) a = prefix_same a.written
+
+-- and by what its first statement says
+says_grows : (st : Statement) (ss : List Statement) (a : Scan.Acting) → IsPrefixOf (a.written ++ said st a.text) (written_of (act (st ∷ ss) a))
+says_grows Echo ss a = act_grows ss (record a { written = a.written ++ a.text })
+says_grows (Print s) ss a = act_grows ss (record a { written = a.written ++ s })
+says_grows (Begin d) ss a = subst (λ z. IsPrefixOf z (written_of (act (Begin d ∷ ss) a))) (sym (append-nil a.written)) (act_grows (Begin d ∷ ss) a)
+says_grows More ss a = subst (λ z. IsPrefixOf z (written_of (act (More ∷ ss) a))) (sym (append-nil a.written)) (act_grows (More ∷ ss) a)
+says_grows (Less n) ss a = subst (λ z. IsPrefixOf z (written_of (act (Less n ∷ ss) a))) (sym (append-nil a.written)) (act_grows (Less n ∷ ss) a)
+says_grows Reject ss a = subst (λ z. IsPrefixOf z (written_of (act (Reject ∷ ss) a))) (sym (append-nil a.written)) (act_grows (Reject ∷ ss) a)
+says_grows (End s) ss a = subst (λ z. IsPrefixOf z (written_of (act (End s ∷ ss) a))) (sym (append-nil a.written)) (act_grows (End s ∷ ss) a)
+
+-- nothing said
+pub nothing_said : (w : List ℕ) (a : Acting) (before : List ℕ) → acting_of w a before ≡ acting_of w a (before ++ [])
+nothing_said w a before = ap (acting_of w a) (sym (append-nil before))
+
+-- the statements that are left
+pub left_is : (items : List Item) (i : ℕ) (item : Item) → i < length items → item ≡ get_or items i item → map statement_of (drop i items) ≡ statement_of item ∷ map statement_of (drop (i + 1) items)
+left_is items i item lt is = ap (map statement_of) (drop_more items i item lt) ∙ ap (λ z. statement_of z ∷ map statement_of (drop (i + 1) items)) (sym is)
+
+module _ {K : Type 0} (wrote : K → List ℕ → K → Type 0) (none : (s : K) → wrote s [] s) (join : (s t u : K) (xs ys : List ℕ) → wrote s xs t → wrote t ys u → wrote s (xs ++ ys) u) where
+  pub carried_first : (s : K) (w : List ℕ) (ss : List Statement) (old : Acting) → CarriedTo wrote s s w ss ss old old
+  carried_first s w ss old = record { out = []; sink = none s; acts = λ before. ap (act ss) (nothing_said w old before) }
+
+  pub carried_next : (s t u : K) (w : List ℕ) (ss rest : List Statement) (st : Statement) (old mid new : Acting) (left : List Statement) → left ≡ st ∷ rest → CarriedTo wrote s t w ss left old mid →
+      wrote t (said st (take mid.end w)) u → Steps w st mid new Step.Next → CarriedTo wrote s u w ss rest old new
+  carried_next s t u w ss rest st old mid new left e h put steps = record {
+    out = h.out ++ said st (take mid.end w);
+    sink = join s t u h.out (said st (take mid.end w)) h.sink put;
+    acts = λ before. h.acts before ∙ ap (λ z. act z (acting_of w mid (before ++ h.out))) e ∙ steps (before ++ h.out) rest ∙ ap (λ z. act rest (acting_of w new z)) (append_assoc before h.out (said st (take mid.end w)));
+  }
+
+  pub carried_last : (s t : K) (w : List ℕ) (ss left : List Statement) (old new : Acting) → left ≡ [] → CarriedTo wrote s t w ss left old new → Carried wrote s t w ss old new Step.Next
+  carried_last s t w ss left old new e h = record { out = h.out; sink = h.sink; acts = λ before. h.acts before ∙ ap (λ z. act z (acting_of w new (before ++ h.out))) e }
+
+  -- a statement after which none follows
+  pub carried_stop : (s t u : K) (w : List ℕ) (ss rest : List Statement) (st : Statement) (old mid new : Acting) (left : List Statement) (step : Step) → (step ≡ Step.Next → ⊥) → left ≡ st ∷ rest → CarriedTo wrote s t w ss left old mid →
+      wrote t (said st (take mid.end w)) u → Steps w st mid new step → Carried wrote s u w ss old new step
+  carried_stop s t u w ss rest st old mid new left step stops e h put steps = record {
+    out = h.out ++ said st (take mid.end w);
+    sink = join s t u h.out (said st (take mid.end w)) h.sink put;
+    acts = λ before. h.acts before ∙ ap (λ z. act z (acting_of w mid (before ++ h.out))) e ∙ steps (before ++ h.out) rest
+        ∙ ap (λ z. after_step step rest (acting_of w new z)) (append_assoc before h.out (said st (take mid.end w))) ∙ no_rest step stops (acting_of w new (before ++ (h.out ++ said st (take mid.end w))));
+  }
+    where
+      no_rest : (step : Step) → (step ≡ Step.Next → ⊥) → (a : Scan.Acting) → after_step step rest a ≡ after_step step [] a
+      no_rest Step.Next stops a = absurd (stops refl)
+      no_rest Step.Again stops a = refl
+      no_rest (Step.Over s) stops a = refl
+
+  -- a statement that was refused
+  pub cut_short : (s t u : K) (w : List ℕ) (ss rest : List Statement) (st : Statement) (old mid : Acting) (left : List Statement) → left ≡ st ∷ rest → CarriedTo wrote s t w ss left old mid →
+      ((front : List ℕ) × IsPrefixOf front (said st (take mid.end w)) × wrote t front u) → CutShort wrote s u w ss old
+  cut_short s t u w ss rest st old mid left e h (front, is_front, put) = record {
+    out = h.out ++ front;
+    sink = join s t u h.out front h.sink put;
+    front = λ before. subst (λ z. IsPrefixOf (before ++ (h.out ++ front)) (written_of z)) (sym (h.acts before ∙ ap (λ z. act z (acting_of w mid (before ++ h.out))) e))
+        (subst (λ z. IsPrefixOf z (written_of (act (st ∷ rest) (acting_of w mid (before ++ h.out))))) (append_assoc before h.out front)
+        (prefix_trans ((before ++ h.out) ++ front) ((before ++ h.out) ++ said st (take mid.end w)) _ (is_front.0, ap (λ z. (before ++ h.out) ++ z) is_front.1 ∙ sym (append_assoc (before ++ h.out) front is_front.0)) (says_grows st rest (acting_of w mid (before ++ h.out)))));
+  }

@@ -1,0 +1,19 @@
+use Rattle.std.proofs.Common.{◌≡◌, ◌≤◌, length, take, true}
+use Rattle.lexmeaning.specs.Trail.{falling}
+use Rattle.lexscan.specs.Descends.{Passed}
+use Rattle.lexscan.proofs.descent.descend.Given as goal
+
+abbrev pub invariant-lengths : goal.invariant-lengths
+invariant-lengths g l =
+    let M = g.M.Machine.machine l.fn.machine in
+    record {
+      short : l.len ≤ length l.fn.trail.states;
+      same : l.outlet.sink.ghost_name ≡ l.fn.outlet.sink.ghost_name;
+      failures : g.K.Sink.failures l.outlet.sink.now ≡ g.K.Sink.failures l.fn.outlet.sink.now;
+      live : l.outlet.live ≡ true;
+      inside : l.acting.end ≤ length l.fn.window.bytes;
+      passed : Passed M g.K.Sink.wrote l.fn.outlet.sink.now l.outlet.sink.now l.fn.window.bytes l.fn.at (falling M 0 l.fn.trail.states) (falling M 0 (take l.len l.fn.trail.states)) l.fn.acting.condition l.acting.condition;
+    }
+
+abbrev pub decreases-lengths : goal.decreases-lengths
+decreases-lengths g l = l.len

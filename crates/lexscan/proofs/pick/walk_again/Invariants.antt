@@ -1,0 +1,20 @@
+use Rattle.std.proofs.Common.{◌≡◌, ◌≤◌, ◌<◌, ◌-◌}
+use Rattle.std.specs.Prelude.{IfSome}
+use Rattle.lexmeaning.specs.Trail.{falling}
+use Rattle.lexscan.specs.Picks.{IsFirst, trail_of, state_at}
+use Rattle.lexscan.proofs.pick.walk_again.Given as goal
+
+abbrev pub invariant-bytes : goal.invariant-bytes
+invariant-bytes g l =
+    let M = g.M.Machine.machine l.fn.machine in
+    record {
+      short : l.len ≤ l.fn.reach;
+      state_is : l.state ≡ state_at M l.fn.spot l.fn.window.bytes l.len;
+      state_known : l.state < g.M.Machine.states l.machine;
+      first : IsFirst (falling M 0 (trail_of M l.fn.spot l.fn.window.bytes l.len)) l.best;
+      known : IfSome l.best (λ pick. pick.rule < M.count);
+      keeps : IfSome l.best (λ pick. pick.keep ≤ l.len);
+    }
+
+abbrev pub decreases-bytes : goal.decreases-bytes
+decreases-bytes g l = l.fn.reach - l.len

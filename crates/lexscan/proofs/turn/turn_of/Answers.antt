@@ -1,0 +1,135 @@
+use Rattle.std.proofs.Common.{◌≡◌, ℕ, ◌++◌, true, false, List, [], ◌⊎◌, inl, inr, Ok, Err, refl, sym, ap, subst, ◌∙◌}
+use Rattle.lexmeaning.specs.Machine.{Machine}
+use Rattle.lexmeaning.specs.MachineLaws.{MachineLaws}
+use Rattle.lexscan.specs.declared.state.State.{State}
+use Rattle.lexscan.specs.declared.reading.RunError.TheVariants.{TooManyReads}
+use Rattle.lexscan.specs.Sees.{Wants}
+use Rattle.lexscan.specs.Moves.{Matched, Finished, Refused, Why, Says}
+use Rattle.lexscan.specs.Stands.{NoneAfterEnd, GoesOn, Stands, Fell}
+use Rattle.lexscan.proofs.Refusing as Fall
+use Rattle.lexscan.proofs.Ranging as Range
+use Rattle.lexscan.proofs.Stepping as Go
+use Rattle.lexscan.proofs.turn.turn_of.Goals as goal
+
+pub returns-then-state-clause-goes_on : goal.returns-then-state-clause-goes_on
+returns-then-state-clause-goes_on g c = (
+  [],
+  [],
+  g.met.S.Source.gave_none _,
+  g.met.K.Sink.wrote_none _,
+  λ e. (refl, e),
+  λ n given out h. let works = h.works in cc,
+)
+
+pub returns-in-Some-clause-goes_on : goal.returns-in-Some-clause-goes_on
+returns-in-Some-clause-goes_on g c = (
+  [],
+  [],
+  g.met.S.Source.gave_none _,
+  g.met.K.Sink.wrote_none _,
+  λ e. (refl, e),
+  (c.in-Some.is, λ n given out h. Go.stays_ended _ n c.in-Some.status given out _ c.in-Some.is h),
+)
+
+pub returns-in-Ok-clause-goes_on : goal.returns-in-Ok-clause-goes_on
+returns-in-Ok-clause-goes_on g c = from c.in-Ok.ensures.moved
+  where
+    M : Machine
+    M = g.M.Machine.machine c.args.machine.now
+
+    laws : MachineLaws (g.M.Machine.machine c.args.machine.now)
+    laws = g.M.Machine.laws c.args.machine.now
+
+    old : State
+    old = c.args.state.now
+
+    new : State
+    new = c.go.new.state
+
+    from : Matched M g.S.Source.gave g.K.Sink.wrote c.args.intake.now.source.now c.go.new.intake.source.now c.args.outlet.now.sink.now c.go.new.outlet.sink.now (record old { failed = true }) new c.in-Ok.turn
+        ⊎ Finished M g.S.Source.gave g.K.Sink.wrote c.args.intake.now.source.now c.go.new.intake.source.now c.args.outlet.now.sink.now c.go.new.outlet.sink.now (record old { failed = true }) new c.in-Ok.turn →
+        (got : List ℕ) × (wrote : List ℕ) × g.S.Source.gave c.args.intake.now.source.now got c.go.new.intake.source.now × g.K.Sink.wrote c.args.outlet.now.sink.now wrote c.go.new.outlet.sink.now
+        × NoneAfterEnd old (record new { failed = false }) got × GoesOn M old (record new { failed = false }) got wrote (Ok c.in-Ok.turn)
+    from (inl m) =
+        let ended : new.ended ≡ m.acted.ended = Go.ended_is m.acted.ended c.in-Ok.turn new.ended m.acted.says m.acted.is_ended (λ e. c.in-Ok.ensures.ended (ap Ok e) ∙ c.in_default.is) in (
+          m.took.got,
+          m.acted.performed.out,
+          m.took.source,
+          m.acted.performed.sink,
+          λ e. (m.took.nothing e, m.acted.same.at_end ∙ m.took.end_stays e),
+          (
+            subst (Says c.in-Ok.turn) (sym ended) m.acted.says,
+            λ n given out h. Go.matched_stands M laws g.S.Source.gave g.K.Sink.wrote _ _ _ _ n given out old new c.in-Ok.turn c.in_default.is h m ended,
+          ),
+        )
+    from (inr m) = (
+      m.took.got,
+      (M.ending old.spot.condition).print,
+      m.took.source,
+      m.sink,
+      λ e. (m.took.nothing e, m.left.same.at_end ∙ m.took.end_stays e),
+      (
+        m.left.says,
+        λ n given out h. Go.finished_stands M laws g.S.Source.gave g.K.Sink.wrote _ _ _ _ n given out old new c.in-Ok.turn c.in_default.is h m,
+      ),
+    )
+
+pub returns-in-Err-clause-goes_on : goal.returns-in-Err-clause-goes_on
+returns-in-Err-clause-goes_on g c = from m.why
+  where
+    M : Machine
+    M = g.M.Machine.machine c.args.machine.now
+
+    laws : MachineLaws (g.M.Machine.machine c.args.machine.now)
+    laws = g.M.Machine.laws c.args.machine.now
+
+    old : State
+    old = c.args.state.now
+
+    new : State
+    new = c.go.new.state
+
+    m : Refused M g.S.Source.gave g.K.Sink.wrote c.args.intake.now.source.now c.go.new.intake.source.now c.args.outlet.now.sink.now c.go.new.outlet.sink.now (record old { failed = true }) new
+    m = c.in-Err.ensures.moved
+
+    wants : c.in-Err.e ≡ TooManyReads → Wants M old.spot new.reading
+    wants e = (c.in-Err.ensures.too_many (ap Err e)).1
+
+    from : Why M g.K.Sink.wrote c.args.outlet.now.sink.now c.go.new.outlet.sink.now (record old { failed = true }) new →
+        (got : List ℕ) × (wrote : List ℕ) × g.S.Source.gave c.args.intake.now.source.now got c.go.new.intake.source.now × g.K.Sink.wrote c.args.outlet.now.sink.now wrote c.go.new.outlet.sink.now
+        × NoneAfterEnd old new got × ((n : ℕ) (given out : List ℕ) → Stands M n given out old → Fell M n given got (out ++ wrote) new c.in-Err.e)
+    from (inl k) = (
+      m.took.got,
+      [],
+      m.took.source,
+      k.1,
+      λ e. (m.took.nothing e, m.took.end_stays e),
+      λ n given out h. Fall.fell M laws g.S.Source.gave g.K.Sink.wrote _ _ _ _ n given out old new c.in_default.is h m c.in-Err.e c.in-Err.ensures.failed wants []
+          (Fall.wanted_front M laws g.S.Source.gave g.K.Sink.wrote _ _ _ _ n given out old new c.in_default.is h m)
+          (Fall.unmet_within M laws g.S.Source.gave g.K.Sink.wrote _ _ _ _ n given out old new c.in_default.is h m k.0),
+    )
+    from (inr (inl k)) = (
+      m.took.got,
+      k.2.out,
+      m.took.source,
+      k.2.sink,
+      λ e. (m.took.nothing e, m.took.end_stays e),
+      λ n given out h. Fall.fell M laws g.S.Source.gave g.K.Sink.wrote _ _ _ _ n given out old new c.in_default.is h m c.in-Err.e c.in-Err.ensures.failed wants k.2.out
+          (Fall.match_front M laws g.S.Source.gave g.K.Sink.wrote _ _ _ _ n given out old new c.in_default.is h m k.0 k.1 k.2)
+          (Fall.match_within M laws g.S.Source.gave g.K.Sink.wrote _ _ _ _ n given out old new c.in_default.is h m k.0 k.1),
+    )
+    from (inr (inr k)) = (
+      m.took.got,
+      k.1,
+      m.took.source,
+      k.3,
+      λ e. (m.took.nothing e, m.took.end_stays e),
+      λ n given out h. Fall.fell M laws g.S.Source.gave g.K.Sink.wrote _ _ _ _ n given out old new c.in_default.is h m c.in-Err.e c.in-Err.ensures.failed wants k.1
+          (Fall.end_front M laws g.S.Source.gave g.K.Sink.wrote _ _ _ _ n given out old new c.in_default.is h m k.0 k.1 k.2)
+          (Fall.end_within M laws g.S.Source.gave g.K.Sink.wrote _ _ _ _ n given out old new c.in_default.is h m k.0),
+    )
+
+pub returns-in-Ok-clause-condition : goal.returns-in-Ok-clause-condition
+returns-in-Ok-clause-condition g c =
+    let old : State = c.args.state.now in
+    Range.condition_below (g.M.Machine.machine c.args.machine.now) (g.M.Machine.laws c.args.machine.now) g.S.Source.gave g.K.Sink.wrote _ _ _ _ (record old { failed = true }) c.go.new.state (Ok c.in-Ok.turn) c.in-Ok.ensures.moved c.requires.condition

@@ -1,0 +1,46 @@
+-- What a whole run leaves.
+use Rattle.std.specs.Prelude.{◌≡◌, ℕ, Bool, List, ◌++◌, length, Some, Result, Ok, Err}
+use Rattle.lexmeaning.specs.Rules.{Rules}
+use Rattle.lexmeaning.specs.Acting.{Status}
+use Rattle.lexmeaning.specs.Run as Scan
+use Rattle.lexmeaning.specs.Run.{Run}
+use Rattle.lexmeaning.specs.Demand.{Consistent}
+use Rattle.lexmeaning.specs.Scanned.{Scanned}
+use Rattle.lexmeaning.specs.Machine.{Machine}
+use Rattle.lexscan.specs.declared.state.State.{State}
+use Rattle.lexscan.specs.declared.reading.RunError.{RunError}
+use Rattle.lexscan.specs.declared.reading.RunError.TheVariants.{TooManyReads}
+use Rattle.lexscan.specs.Stands.{Stands, GaveUp}
+
+-- After some turns these bytes were given and written.
+pub record Running {S K : Type 0} (M : Machine) (gave : S → List ℕ → S → Type 0) (wrote : K → List ℕ → K → Type 0) (s s' : S) (t t' : K) (now : State) : Type 0 where
+  pub turns : ℕ
+  pub given : List ℕ
+  pub out : List ℕ
+  pub source : gave s given s'
+  pub sink : wrote t out t'
+  pub stands : Stands M turns given out now
+
+-- The scan has ended: this is the run of every consistent input, and the turns up to its end ask for just what the
+-- source has told.
+pub record RanTo (R : Rules) (given out : List ℕ) (at_end : Bool) (status : ℕ) : Type 0 where
+  pub turns : ℕ
+  pub last : Scan.State
+  pub scanned : Scanned R given at_end turns last
+  pub writes : last.written ≡ out
+  pub ends : last.ended ≡ Some (Status status)
+  pub run : (x : List ℕ) → Consistent given at_end x → Run R x out (Status status)
+
+-- A turn was refused: what was written is a front of what the run of each consistent input writes.
+pub record RanInto (R : Rules) (given out : List ℕ) (at_end : Bool) (max_reads : ℕ) (e : RunError) : Type 0 where
+  pub turns : ℕ
+  pub start : ℕ
+  pub had : List ℕ
+  pub got : List ℕ
+  pub all : given ≡ had ++ got
+  pub gave_up : GaveUp R turns start had got out at_end e
+  pub too_many : e ≡ TooManyReads → length given ≡ max_reads
+
+abbrev pub Ran : Rules → List ℕ → List ℕ → Bool → ℕ → Result ℕ RunError → Type 0
+Ran R given out at_end max_reads (Ok status) = RanTo R given out at_end status
+Ran R given out at_end max_reads (Err e) = RanInto R given out at_end max_reads e

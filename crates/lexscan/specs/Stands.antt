@@ -1,0 +1,72 @@
+-- What is known of a scanner after some turns.
+use Rattle.std.specs.Prelude.{◌≡◌, ℕ, suc, ◌+◌, ◌≤◌, Bool, true, false, List, [], ◌++◌, length, drop, None, Result, Ok, Err}
+use Rattle.lexmeaning.specs.Text.{IsText, BeginsWith, at_line_start}
+use Rattle.lexmeaning.specs.Rules.{Rules}
+use Rattle.lexmeaning.specs.Acting.{Ending}
+use Rattle.lexmeaning.specs.Run as Scan
+use Rattle.lexmeaning.specs.Run.{Turns, Run}
+use Rattle.lexmeaning.specs.Demand.{Consistent}
+use Rattle.lexmeaning.specs.Scanned.{AfterTurns, Scanned}
+use Rattle.lexmeaning.specs.Machine.{Machine, rules_of_machine}
+use Rattle.lexscan.specs.declared.state.State.{State}
+use Rattle.lexscan.specs.declared.turn.Turn.{Turn}
+use Rattle.lexscan.specs.declared.reading.RunError.{RunError}
+use Rattle.lexscan.specs.declared.reading.RunError.TheVariants.{TooManyReads}
+use Rattle.lexscan.specs.Descends.{ending_of}
+use Rattle.lexscan.specs.Moves.{Says}
+
+-- how the scan stands, where the text starts there
+abbrev pub state_of : List ℕ → ℕ → State → Scan.State
+state_of out start s = record {
+  written = out;
+  place = record { start = start; at = start + s.spot.at; condition = s.spot.condition };
+  ended = ending_of s.ended;
+}
+
+-- After n turns, none refused: over every input that is consistent with the bytes given they have written these
+-- bytes and led to this place, and they ask for just what the source has told. The bytes held are those from the
+-- text's start on.
+pub record Stands (M : Machine) (n : ℕ) (given out : List ℕ) (s : State) : Type 0 where
+  pub works : s.failed ≡ false
+  pub start : ℕ
+  pub scanned : Scanned (rules_of_machine M) given s.reading.at_end n (state_of out start s)
+  pub text : IsText given
+  pub covered : start + s.spot.at ≤ length given
+  pub held : s.reading.window.bytes ≡ drop start given
+  pub line : s.spot.line_start ≡ at_line_start given (start + s.spot.at)
+  pub taken : s.reading.taken ≡ length given
+
+-- The turns before the refused one, over an input: they ask for just the bytes that the source had given.
+pub record Before (R : Rules) (n start : ℕ) (given : List ℕ) (end_asked : Bool) (x : List ℕ) : Type 0 where
+  pub state : Scan.State
+  pub after : AfterTurns R x n state (length given) end_asked
+  pub going : state.ended ≡ None
+  pub starts : state.place.start ≡ start
+
+-- The turn after n was refused. What was written is a front of what the run writes, and the bytes taken are no more than
+-- the turns ask for with this one. Where no more reads were allowed, it asks for the end, if the bytes given are all, and
+-- the turns before do not.
+pub record GaveUp (R : Rules) (n start : ℕ) (given got out : List ℕ) (at_end : Bool) (e : RunError) : Type 0 where
+  pub text : IsText (given ++ got)
+  pub end_before : Bool
+  pub before : (x : List ℕ) → Consistent (given ++ got) at_end x → Before R n start given end_before x
+  pub front : (x : List ℕ) → Consistent (given ++ got) at_end x → (w : List ℕ) (d : Ending) → Run R x w d → BeginsWith w out
+  pub within : (x : List ℕ) → Consistent (given ++ got) at_end x → (t : Scan.State) (far : ℕ) (asked : Bool) → AfterTurns R x (suc n) t far asked → length (given ++ got) ≤ far
+  pub asks_end : e ≡ TooManyReads → (end_before ≡ false) × ((t : Scan.State) (far : ℕ) (asked : Bool) → AfterTurns R (given ++ got) (suc n) t far asked → asked ≡ true)
+
+-- The bytes held are those from the text's start on, as the refused turn found it.
+pub record Fell (M : Machine) (n : ℕ) (given got out : List ℕ) (s : State) (e : RunError) : Type 0 where
+  pub failed : s.failed ≡ true
+  pub start : ℕ
+  pub gave_up : GaveUp (rules_of_machine M) n start given got out s.reading.at_end e
+  pub held : s.reading.window.bytes ≡ drop start (given ++ got)
+  pub taken : s.reading.taken ≡ length (given ++ got)
+
+-- Once the source has answered its end, it gives nothing more.
+abbrev pub NoneAfterEnd : State → State → List ℕ → Type 0
+NoneAfterEnd old new got = old.reading.at_end ≡ true → (got ≡ []) × (new.reading.at_end ≡ true)
+
+-- What a turn does: where the facts hold for n turns and two lists, they hold for n + 1 and the lists with its bytes appended.
+abbrev pub GoesOn : Machine → State → State → List ℕ → List ℕ → Result Turn RunError → Type 0
+GoesOn M old new got wrote (Ok turn) = Says turn new.ended × ((n : ℕ) (given out : List ℕ) → Stands M n given out old → Stands M (suc n) (given ++ got) (out ++ wrote) new)
+GoesOn M old new got wrote (Err e) = (n : ℕ) (given out : List ℕ) → Stands M n given out old → Fell M n given got (out ++ wrote) new e

@@ -1,0 +1,124 @@
+//! What the action of a match does.
+ghost use Rattle.std.specs.Prelude.{◌≡◌, ℕ, ◌+◌, ◌-◌, ◌^◌, ◌<◌, ◌≤◌, List, [], length, take, map, true, false, OnOk, OnErr, IfOk, IfErr};
+ghost use Rattle.lextab.specs.Sink.{Appended, fault_count};
+ghost use Rattle.lexscan.specs.Reads.{write_fault_count};
+ghost use Rattle.lexaction.specs.Views.{statement_of};
+ghost use Rattle.lexscan.specs.Acts.{said, Steps, Carried, CutShort};
+
+use crate::intake::Outlet;
+use crate::reading::RunError;
+use crate::window::Window;
+use lexaction::Statement;
+use lextab::Sink;
+
+/// The text's end in the window, the condition of the next match, and whether the next text is appended to this one.
+#[derive(Clone, Copy, Debug, PartialEq, Eq)]
+pub struct Acting {
+    pub end: usize,
+    pub condition: u8,
+    pub more: bool,
+}
+
+/// What follows a statement or an action.
+#[derive(Clone, Copy, Debug, PartialEq, Eq)]
+pub enum Step {
+    Next,
+    Again,
+    Over(u8),
+}
+
+/// Writes the bytes.
+pub fn put<K: Sink>(outlet: &mut Outlet<'_, K>, bytes: &[u8]) -> Result<(), RunError>
+    requires { outlet.old.live ≡ true }
+    ensures same { outlet.new.sink.ghost_name ≡ outlet.old.sink.ghost_name }
+    ensures bytes { Appended (λ xs. K.wrote outlet.old.sink.now xs outlet.new.sink.now) bytes.now result }
+    ensures failures { K.failures outlet.new.sink.now ≡ K.failures outlet.old.sink.now + write_fault_count result }
+    ensures live { OnOk result (outlet.new.live ≡ true) }
+    ensures refusals { IfErr result (λ e. e ≡ RunError.Write) }
+{
+    match outlet.put(bytes) {
+        Err(_) => Err(RunError::Write),
+        Ok(()) => Ok(()),
+    }
+}
+
+/// Carries out one statement.
+pub fn carry_one<K: Sink>(
+    outlet: &mut Outlet<'_, K>,
+    window: &Window,
+    statement: &Statement,
+    acting: &mut Acting,
+) -> Result<Step, RunError>
+    requires live { outlet.old.live ≡ true }
+    requires inside { acting.old.end ≤ length window.now.bytes }
+
+    ensures same { outlet.new.sink.ghost_name ≡ outlet.old.sink.ghost_name }
+    ensures bytes { Appended (λ xs. K.wrote outlet.old.sink.now xs outlet.new.sink.now) (said (statement_of statement.now) (take acting.old.end window.now.bytes)) result }
+    ensures failures { K.failures outlet.new.sink.now ≡ K.failures outlet.old.sink.now + write_fault_count result }
+    ensures live { OnOk result (outlet.new.live ≡ true) }
+    ensures refusals { IfErr result (λ e. e ≡ RunError.Write) }
+
+    ensures inside { acting.new.end ≤ length window.now.bytes }
+    ensures steps { IfOk result (λ step. Steps window.now.bytes (statement_of statement.now) acting.old acting.new step) }
+{
+    match statement {
+        Statement::Echo => {
+            let text = window.slice(0, acting.end);
+            match put(outlet, text) {
+                Err(e) => Err(e),
+                Ok(()) => Ok(Step::Next),
+            }
+        }
+        Statement::Print(bytes) => match put(outlet, bytes.as_slice()) {
+            Err(e) => Err(e),
+            Ok(()) => Ok(Step::Next),
+        },
+        Statement::Begin(condition) => {
+            acting.condition = *condition;
+            Ok(Step::Next)
+        }
+        Statement::More => {
+            acting.more = true;
+            Ok(Step::Next)
+        }
+        Statement::Less(count) => {
+            let count = usize::from(*count);
+            if count < acting.end {
+                acting.end = count;
+            }
+            Ok(Step::Next)
+        }
+        Statement::Reject => Ok(Step::Again),
+        Statement::End(status) => Ok(Step::Over(*status)),
+    }
+}
+
+/// Carries out the statements from the first on.
+pub fn carry_out<K: Sink>(
+    outlet: &mut Outlet<'_, K>,
+    window: &Window,
+    statements: &[Statement],
+    acting: &mut Acting,
+) -> Result<Step, RunError>
+    requires live { outlet.old.live ≡ true }
+    requires inside { acting.old.end ≤ length window.now.bytes }
+
+    ensures same { outlet.new.sink.ghost_name ≡ outlet.old.sink.ghost_name }
+    ensures failures { K.failures outlet.new.sink.now ≡ K.failures outlet.old.sink.now + write_fault_count result }
+    ensures live { OnOk result (outlet.new.live ≡ true) }
+    ensures refusals { IfErr result (λ e. e ≡ RunError.Write) }
+
+    ensures inside { acting.new.end ≤ length window.now.bytes }
+    ensures carried { IfOk result (λ step. Carried K.wrote outlet.old.sink.now outlet.new.sink.now window.now.bytes (map statement_of statements.now) acting.old acting.new step) }
+    ensures cut_short { OnErr result (CutShort K.wrote outlet.old.sink.now outlet.new.sink.now window.now.bytes (map statement_of statements.now) acting.old) }
+{
+    for statement in statements {
+        match carry_one(outlet, window, statement, acting) {
+            Err(e) => return Err(e),
+            Ok(Step::Next) => {}
+            Ok(Step::Again) => return Ok(Step::Again),
+            Ok(Step::Over(status)) => return Ok(Step::Over(status)),
+        }
+    }
+    Ok(Step::Next)
+}

@@ -1,0 +1,125 @@
+//! The matches at a place, from the longest down.
+ghost use Rattle.std.specs.Prelude.{◌≡◌, ℕ, ◌+◌, ◌-◌, ◌^◌, ◌<◌, ◌≤◌, List, [], length, filter_map, true, false, OnOk, OnErr, IfOk, IfErr, IfSome};
+ghost use Rattle.lexmeaning.specs.Text.{Among};
+ghost use Rattle.lexmeaning.specs.PlainMachine.{kept_by, match_of};
+ghost use Rattle.lexspec.specs.RuleViews.{cut_of};
+ghost use Rattle.lexscan.specs.Reads.{write_fault_count};
+ghost use Rattle.lexscan.specs.Descends.{matches_of, Tried, CutOff, CutAll, Performed};
+
+use crate::act::{Acting, Step, carry_out, put};
+use crate::intake::Outlet;
+use crate::reading::RunError;
+use crate::trail::Trail;
+use crate::window::Window;
+use lexspec::Cut;
+use lextab::{Machine, Sink};
+
+/// What a cut keeps of a match of so many bytes, if it fits.
+pub fn kept(cut: Cut, len: usize) -> Option<usize>
+    ensures keep { result ≡ kept_by (cut_of cut) len }
+    ensures short { IfSome result (λ keep. keep ≤ len) }
+{
+    match cut {
+        Cut::Whole => Some(len),
+        Cut::Head(count) => {
+            let count = usize::from(count);
+            if 0 < count && count <= len {
+                Some(count)
+            } else {
+                None
+            }
+        }
+        Cut::Trail(count) => {
+            let count = usize::from(count);
+            if count < len { Some(len - count) } else { None }
+        }
+    }
+}
+
+/// Tries the matches of one length, up to the first that is not rejected.
+fn try_rules<M: Machine, K: Sink>(
+    machine: &M,
+    outlet: &mut Outlet<'_, K>,
+    window: &Window,
+    rules: &[u32],
+    at: usize,
+    len: usize,
+    acting: &mut Acting,
+) -> Result<Step, RunError>
+    requires live { outlet.old.live ≡ true }
+    requires place { at + len ≤ length window.now.bytes }
+    requires known { (i : ℕ) → Among rules.now i → i < (M.machine machine.now).count }
+    requires inside { acting.old.end ≤ length window.now.bytes }
+
+    ensures same { outlet.new.sink.ghost_name ≡ outlet.old.sink.ghost_name }
+    ensures failures { K.failures outlet.new.sink.now ≡ K.failures outlet.old.sink.now + write_fault_count result }
+    ensures live { OnOk result (outlet.new.live ≡ true) }
+    ensures refusals { IfErr result (λ e. e ≡ RunError.Write) }
+
+    ensures inside { acting.new.end ≤ length window.now.bytes }
+    ensures tried { IfOk result (λ step. Tried (M.machine machine.now) K.wrote outlet.old.sink.now outlet.new.sink.now window.now.bytes at (filter_map (match_of (M.machine machine.now) len) rules.now) acting.old.condition acting.new step) }
+    ensures cut_off { OnErr result (CutOff (M.machine machine.now) K.wrote outlet.old.sink.now outlet.new.sink.now window.now.bytes at (filter_map (match_of (M.machine machine.now) len) rules.now) acting.old.condition) }
+{
+    let held = window.len();
+    for rule in rules {
+        let (cut, statements) = machine.rule(*rule);
+        if let Some(keep) = kept(cut, len) {
+            prove!(keep <= held - at);
+            acting.end = at + keep;
+            acting.more = false;
+            match carry_out(outlet, window, statements, acting) {
+                Err(e) => return Err(e),
+                Ok(Step::Next) => return Ok(Step::Next),
+                Ok(Step::Again) => {}
+                Ok(Step::Over(status)) => return Ok(Step::Over(status)),
+            }
+        }
+    }
+    Ok(Step::Again)
+}
+
+/// Tries the matches at a place, the longest first, and carries out the first that is not rejected. Answers the status of
+/// a scan that it ends.
+pub fn descend<M: Machine, K: Sink>(
+    machine: &M,
+    outlet: &mut Outlet<'_, K>,
+    window: &Window,
+    trail: &Trail,
+    at: usize,
+    acting: &mut Acting,
+) -> Result<Option<u8>, RunError>
+    requires live { outlet.old.live ≡ true }
+    requires some { 1 ≤ length trail.now.states }
+    requires place { at + length trail.now.states ≤ length window.now.bytes }
+    requires known { (state : ℕ) → Among trail.now.states state → state < M.states machine.now }
+    requires inside { acting.old.end ≤ length window.now.bytes }
+
+    ensures same { outlet.new.sink.ghost_name ≡ outlet.old.sink.ghost_name }
+    ensures failures { K.failures outlet.new.sink.now ≡ K.failures outlet.old.sink.now + write_fault_count result }
+    ensures live { OnOk result (outlet.new.live ≡ true) }
+    ensures refusals { IfErr result (λ e. e ≡ RunError.Write) }
+
+    ensures inside { acting.new.end ≤ length window.now.bytes }
+    ensures performed { IfOk result (λ ended. Performed (M.machine machine.now) K.wrote outlet.old.sink.now outlet.new.sink.now window.now.bytes at (matches_of (M.machine machine.now) window.now.bytes at trail.now.states) acting.old.condition acting.new ended) }
+    ensures cut_off { OnErr result (CutAll (M.machine machine.now) K.wrote outlet.old.sink.now outlet.new.sink.now window.now.bytes at (matches_of (M.machine machine.now) window.now.bytes at trail.now.states) acting.old.condition) }
+{
+    let mut len = trail.len();
+    'lengths: while 0 < len {
+        let rules = machine.accepts(trail.state(len - 1));
+        match try_rules(machine, outlet, window, rules, at, len, acting) {
+            Err(e) => return Err(e),
+            Ok(Step::Next) => return Ok(None),
+            Ok(Step::Again) => {}
+            Ok(Step::Over(status)) => return Ok(Some(status)),
+        }
+        len -= 1;
+    }
+    let held = window.len();
+    prove!(at < held);
+    acting.end = at + 1;
+    acting.more = false;
+    match put(outlet, window.slice(0, at + 1)) {
+        Err(e) => Err(e),
+        Ok(()) => Ok(None),
+    }
+}

@@ -1,0 +1,112 @@
+//! The two ends of a scan, each with what is known of its count of failures.
+ghost use Rattle.std.specs.Prelude.{◌≡◌, ℕ, ◌+◌, ◌-◌, ◌^◌, ◌<◌, ◌≤◌, List, [], ◌++◌, length, true, false, is_ok, OnOk, OnErr};
+ghost use Rattle.lexscan.specs.Source.{given, end_count};
+ghost use Rattle.lextab.specs.Sink.{Appended, fault_count};
+ghost use Rattle.lexscan.specs.Answer.{gives_byte};
+
+use crate::source::{ReadFault, Source};
+use lextab::{Sink, WriteFault};
+
+/// A source that may be called until it has failed or ended.
+#[derive(Drop)]
+pub struct Intake<'a, S: Source> {
+    source: &'a mut S,
+    live: bool,
+    ghost few_ends: { live ≡ true → S.ends source.now < 2 ^ 64 - 1 },
+    ghost few_failures: { live ≡ true → S.failures source.now < 2 ^ 64 - 1 },
+}
+
+impl<'a, S: Source> Intake<'a, S> {
+    pub fn new(source: &'a mut S) -> Intake<'a, S>
+        requires few_ends { S.ends source.old < 2 ^ 64 - 1 }
+        requires few_failures { S.failures source.old < 2 ^ 64 - 1 }
+        ensures same { result.source.ghost_name ≡ source.entry.ghost_name }
+        ensures value { result.source.now ≡ source.old }
+        ensures live { result.live ≡ true }
+    {
+        Intake { source, live: true }
+    }
+
+    /// Gives the source back.
+    pub fn into_inner(self) -> &'a mut S
+        ensures same { result.ghost_name ≡ self.entry.source.ghost_name }
+        ensures value { result.now ≡ self.entry.source.now }
+    {
+        let Intake { source, .. } = self;
+        source
+    }
+
+    #[inline]
+    pub fn next(&mut self) -> Result<Option<u8>, ReadFault>
+        requires { self.old.live ≡ true }
+        ensures same { self.new.source.ghost_name ≡ self.old.source.ghost_name }
+        ensures byte { S.gave self.old.source.now (given result) self.new.source.now }
+        ensures ends { S.ends self.new.source.now ≡ S.ends self.old.source.now + end_count result }
+        ensures failures { S.failures self.new.source.now ≡ S.failures self.old.source.now + fault_count result }
+        ensures live { self.new.live ≡ gives_byte result }
+    {
+        self.live = false;
+        match self.source.next() {
+            Ok(Some(byte)) => {
+                self.live = true;
+                Ok(Some(byte))
+            }
+            other => other,
+        }
+    }
+}
+
+/// A sink that may be called until it has failed.
+#[derive(Drop)]
+pub struct Outlet<'a, K: Sink> {
+    sink: &'a mut K,
+    live: bool,
+    ghost few_failures: { live ≡ true → K.failures sink.now < 2 ^ 64 - 1 },
+}
+
+impl<'a, K: Sink> Outlet<'a, K> {
+    pub fn new(sink: &'a mut K) -> Outlet<'a, K>
+        requires { K.failures sink.old < 2 ^ 64 - 1 }
+        ensures same { result.sink.ghost_name ≡ sink.entry.ghost_name }
+        ensures value { result.sink.now ≡ sink.old }
+        ensures live { result.live ≡ true }
+    {
+        Outlet { sink, live: true }
+    }
+
+    /// Gives the sink back.
+    pub fn into_inner(self) -> &'a mut K
+        ensures same { result.ghost_name ≡ self.entry.sink.ghost_name }
+        ensures value { result.now ≡ self.entry.sink.now }
+    {
+        let Outlet { sink, .. } = self;
+        sink
+    }
+
+    #[inline]
+    pub fn put(&mut self, bytes: &[u8]) -> Result<(), WriteFault>
+        requires { self.old.live ≡ true }
+        ensures same { self.new.sink.ghost_name ≡ self.old.sink.ghost_name }
+        ensures bytes { Appended (λ xs. K.wrote self.old.sink.now xs self.new.sink.now) bytes.now result }
+        ensures failures { K.failures self.new.sink.now ≡ K.failures self.old.sink.now + fault_count result }
+        ensures live { self.new.live ≡ is_ok result }
+    {
+        self.live = false;
+        let result = self.sink.put(bytes);
+        self.live = result.is_ok();
+        result
+    }
+
+    pub fn flush(&mut self) -> Result<(), WriteFault>
+        requires { self.old.live ≡ true }
+        ensures same { self.new.sink.ghost_name ≡ self.old.sink.ghost_name }
+        ensures bytes { K.wrote self.old.sink.now [] self.new.sink.now }
+        ensures failures { K.failures self.new.sink.now ≡ K.failures self.old.sink.now + fault_count result }
+        ensures live { self.new.live ≡ is_ok result }
+    {
+        self.live = false;
+        let result = self.sink.flush();
+        self.live = result.is_ok();
+        result
+    }
+}

@@ -1,0 +1,152 @@
+//! The longest match at a place, without the states before its last two.
+ghost use Rattle.std.specs.Prelude.{◌≡◌, ℕ, ◌+◌, ◌-◌, ◌^◌, ◌<◌, ◌≤◌, List, [], length, filter_map, true, false, OnOk, OnErr, IfOk, IfErr, IfSome};
+ghost use Rattle.lexmeaning.specs.Text.{Among};
+ghost use Rattle.lexmeaning.specs.PlainMachine.{match_of};
+ghost use Rattle.lexmeaning.specs.Trail.{falling};
+ghost use Rattle.lextab.specs.Rejecting.{NoReject};
+ghost use Rattle.lexscan.specs.Reads.{write_fault_count};
+ghost use Rattle.lexscan.specs.Descends.{matches_of, CutAll, Performed};
+ghost use Rattle.lexscan.specs.Picks.{IsFirst, Tells, trail_of};
+
+use crate::act::{Acting, Step, carry_out, put};
+use crate::descent::kept;
+use crate::intake::Outlet;
+use crate::reading::RunError;
+use crate::state::Spot;
+use crate::window::Window;
+use lextab::{Machine, Sink};
+
+/// How many bytes a match asked for, the state after them, and the one before the last of them.
+#[derive(Clone, Copy)]
+pub struct Seen {
+    pub reach: usize,
+    pub state: u32,
+    pub before: u32,
+}
+
+/// A match: its rule, and how many bytes it keeps.
+#[derive(Clone, Copy)]
+pub struct Pick {
+    pub rule: u32,
+    pub keep: usize,
+}
+
+/// The first of the rules whose cut fits a match of so many bytes.
+#[inline]
+fn first_fit<M: Machine>(machine: &M, rules: &[u32], len: usize) -> Option<Pick>
+    requires known { (i : ℕ) → Among rules.now i → i < (M.machine machine.now).count }
+
+    ensures first { IsFirst (filter_map (match_of (M.machine machine.now) len) rules.now) result }
+    ensures known { IfSome result (λ pick. pick.rule < (M.machine machine.now).count) }
+    ensures short { IfSome result (λ pick. pick.keep ≤ len) }
+{
+    for rule in rules {
+        let (cut, _) = machine.rule(*rule);
+        if let Some(keep) = kept(cut, len) {
+            return Some(Pick { rule: *rule, keep });
+        }
+    }
+    None
+}
+
+/// The longest match of the first bytes from a place on, by one more walk over them.
+#[cold]
+#[inline(never)]
+fn walk_again<M: Machine>(machine: &M, window: &Window, spot: Spot, reach: usize) -> Option<Pick>
+    requires condition { spot.condition < (M.machine machine.now).conditions }
+    requires inside { spot.at + reach ≤ length window.now.bytes }
+
+    ensures first { IsFirst (falling (M.machine machine.now) 0 (trail_of (M.machine machine.now) spot window.now.bytes reach)) result }
+    ensures known { IfSome result (λ pick. pick.rule < (M.machine machine.now).count) }
+    ensures short { IfSome result (λ pick. pick.keep ≤ reach) }
+{
+    let held = window.len();
+    let mut state = machine.start(spot.condition, spot.line_start);
+    let mut best: Option<Pick> = None;
+    let mut len = 0usize;
+    'bytes: while len < reach {
+        prove!(spot.at <= held && len < held - spot.at);
+        state = machine.step(state, window.byte(spot.at + len));
+        len += 1;
+        match first_fit(machine, machine.accepts(state), len) {
+            Some(pick) => best = Some(pick),
+            None => {}
+        }
+    }
+    best
+}
+
+/// The longest match of the bytes that were asked for: mostly the last state accepts, or the one before it.
+#[inline]
+pub fn longest<M: Machine>(machine: &M, window: &Window, spot: Spot, seen: Seen) -> Option<Pick>
+    requires condition { spot.condition < (M.machine machine.now).conditions }
+    requires tells { Tells (M.machine machine.now) (M.states machine.now) spot window.now.bytes seen }
+
+    ensures first { IsFirst (falling (M.machine machine.now) 0 (trail_of (M.machine machine.now) spot window.now.bytes seen.reach)) result }
+    ensures known { IfSome result (λ pick. pick.rule < (M.machine machine.now).count) }
+    ensures short { IfSome result (λ pick. pick.keep ≤ seen.reach) }
+{
+    let len = seen.reach;
+    if let Some(pick) = first_fit(machine, machine.accepts(seen.state), len) {
+        return Some(pick);
+    }
+    if len == 1 {
+        return None;
+    }
+    if let Some(pick) = first_fit(machine, machine.accepts(seen.before), len - 1) {
+        return Some(pick);
+    }
+    walk_again(machine, window, spot, len)
+}
+
+/// Carries out this match, or the default match where there is none. Answers the status of a scan that it ends.
+pub fn carry_pick<M: Machine, K: Sink>(
+    machine: &M,
+    outlet: &mut Outlet<'_, K>,
+    window: &Window,
+    spot: Spot,
+    seen: Seen,
+    pick: Option<Pick>,
+    acting: &mut Acting,
+) -> Result<Option<u8>, RunError>
+    requires live { outlet.old.live ≡ true }
+    requires quiet { NoReject (M.machine machine.now) }
+    requires place { spot.at + seen.reach ≤ length window.now.bytes }
+    requires some { 1 ≤ seen.reach }
+    requires first { IsFirst (falling (M.machine machine.now) 0 (trail_of (M.machine machine.now) spot window.now.bytes seen.reach)) pick }
+    requires known { IfSome pick (λ pick. pick.rule < (M.machine machine.now).count) }
+    requires short { IfSome pick (λ pick. pick.keep ≤ seen.reach) }
+
+    ensures same { outlet.new.sink.ghost_name ≡ outlet.old.sink.ghost_name }
+    ensures failures { K.failures outlet.new.sink.now ≡ K.failures outlet.old.sink.now + write_fault_count result }
+    ensures live { OnOk result (outlet.new.live ≡ true) }
+    ensures refusals { IfErr result (λ e. e ≡ RunError.Write) }
+
+    ensures inside { acting.new.end ≤ length window.now.bytes }
+    ensures performed { IfOk result (λ ended. Performed (M.machine machine.now) K.wrote outlet.old.sink.now outlet.new.sink.now window.now.bytes spot.at (matches_of (M.machine machine.now) window.now.bytes spot.at (trail_of (M.machine machine.now) spot window.now.bytes seen.reach)) acting.old.condition acting.new ended) }
+    ensures cut_off { OnErr result (CutAll (M.machine machine.now) K.wrote outlet.old.sink.now outlet.new.sink.now window.now.bytes spot.at (matches_of (M.machine machine.now) window.now.bytes spot.at (trail_of (M.machine machine.now) spot window.now.bytes seen.reach)) acting.old.condition) }
+{
+    let held = window.len();
+    acting.more = false;
+    match pick {
+        Some(pick) => {
+            prove!(spot.at <= held && pick.keep <= held - spot.at);
+            let (_, statements) = machine.rule(pick.rule);
+            acting.end = spot.at + pick.keep;
+            match carry_out(outlet, window, statements, acting) {
+                Err(e) => Err(e),
+                Ok(Step::Next) => Ok(None),
+                Ok(Step::Again) => Ok(None),
+                Ok(Step::Over(status)) => Ok(Some(status)),
+            }
+        }
+        None => {
+            prove!(spot.at < held);
+            acting.end = spot.at + 1;
+            match put(outlet, window.slice(0, spot.at + 1)) {
+                Err(e) => Err(e),
+                Ok(()) => Ok(None),
+            }
+        }
+    }
+}

@@ -1,0 +1,190 @@
+//! What a scanner keeps of its source.
+ghost use Rattle.std.specs.Prelude.{◌≡◌, ℕ, ◌+◌, ◌-◌, ◌^◌, ◌<◌, ◌≤◌, List, [], ◌∷◌, ◌++◌, length, true, false, OnOk, OnErr, IfOk, IfErr, IsErrOf, ◌⊎◌, if◌then◌else◌};
+ghost use Rattle.lexscan.specs.Source.{given};
+ghost use Rattle.lexmeaning.specs.Text.{IsText};
+ghost use Rattle.lexscan.specs.Reads.{Took, IsThere, IsWanted, IsShort, is_end, read_fault_count, end_step};
+
+use crate::intake::Intake;
+use crate::source::Source;
+use crate::state::Reading;
+use crate::trail::Trail;
+use thiserror::Error;
+
+/// Why a turn was refused.
+#[derive(Clone, Copy, Debug, PartialEq, Eq, Error)]
+pub enum RunError {
+    #[error("read fault")]
+    Read,
+    #[error("too many reads")]
+    TooManyReads,
+    #[error("write fault")]
+    Write,
+    #[error("out of memory")]
+    OutOfMemory,
+    #[error("failed")]
+    Failed,
+}
+
+/// Takes the next byte into the window, or learns that there is none.
+#[inline]
+fn take_plain<S: Source>(
+    intake: &mut Intake<'_, S>,
+    reading: &mut Reading,
+) -> Result<Option<u8>, RunError>
+    requires live { intake.old.live ≡ true }
+    requires more { reading.old.at_end ≡ false }
+
+    ensures same { intake.new.source.ghost_name ≡ intake.old.source.ghost_name }
+    ensures byte { S.gave intake.old.source.now (given result) intake.new.source.now }
+    ensures text { IsText (given result) }
+    ensures ends { S.ends intake.new.source.now ≡ S.ends intake.old.source.now + (if is_end result then 1 else 0) }
+    ensures failures { S.failures intake.new.source.now ≡ S.failures intake.old.source.now + read_fault_count result }
+    ensures live { OnOk result (reading.new.at_end ≡ false → intake.new.live ≡ true) }
+
+    ensures held { reading.new.window.bytes ≡ reading.old.window.bytes ++ given result }
+    ensures taken { reading.new.taken ≡ reading.old.taken + length (given result) }
+    ensures at_end { reading.new.at_end ≡ is_end result }
+    ensures max_reads { reading.new.max_reads ≡ reading.old.max_reads }
+
+    ensures too_many { IsErrOf result RunError.TooManyReads → reading.old.taken ≡ reading.old.max_reads }
+    ensures not_write { IsErrOf result RunError.Write → ⊥ }
+    ensures not_failed { IsErrOf result RunError.Failed → ⊥ }
+{
+    if reading.taken >= reading.max_reads {
+        return Err(RunError::TooManyReads);
+    }
+    if let Err(_) = reading.window.reserve() {
+        return Err(RunError::OutOfMemory);
+    }
+    match intake.next() {
+        Err(_) => Err(RunError::Read),
+        Ok(None) => {
+            reading.at_end = true;
+            Ok(None)
+        }
+        Ok(Some(byte)) => {
+            reading.taken += 1;
+            reading.window.push(byte);
+            Ok(Some(byte))
+        }
+    }
+}
+
+/// Takes the next byte into the window, or learns that there is none. There is room for its state before it is read.
+fn take_byte<S: Source>(
+    intake: &mut Intake<'_, S>,
+    reading: &mut Reading,
+    trail: &mut Trail,
+) -> Result<Option<u8>, RunError>
+    requires live { intake.old.live ≡ true }
+    requires more { reading.old.at_end ≡ false }
+
+    ensures same { intake.new.source.ghost_name ≡ intake.old.source.ghost_name }
+    ensures byte { S.gave intake.old.source.now (given result) intake.new.source.now }
+    ensures text { IsText (given result) }
+    ensures ends { S.ends intake.new.source.now ≡ S.ends intake.old.source.now + (if is_end result then 1 else 0) }
+    ensures failures { S.failures intake.new.source.now ≡ S.failures intake.old.source.now + read_fault_count result }
+    ensures live { OnOk result (reading.new.at_end ≡ false → intake.new.live ≡ true) }
+
+    ensures held { reading.new.window.bytes ≡ reading.old.window.bytes ++ given result }
+    ensures taken { reading.new.taken ≡ reading.old.taken + length (given result) }
+    ensures at_end { reading.new.at_end ≡ is_end result }
+    ensures max_reads { reading.new.max_reads ≡ reading.old.max_reads }
+
+    ensures states { trail.new.states ≡ trail.old.states }
+    ensures room { OnOk result (trail.new.room ≡ true) }
+
+    ensures too_many { IsErrOf result RunError.TooManyReads → reading.old.taken ≡ reading.old.max_reads }
+    ensures not_write { IsErrOf result RunError.Write → ⊥ }
+    ensures not_failed { IsErrOf result RunError.Failed → ⊥ }
+{
+    if reading.max_reads <= reading.taken {
+        return Err(RunError::TooManyReads);
+    }
+    if let Err(_) = trail.reserve() {
+        return Err(RunError::OutOfMemory);
+    }
+    take_plain(intake, reading)
+}
+
+/// Makes sure that the window has a byte at this place. Answers false where the source has
+/// answered its end.
+#[inline]
+pub fn fetch_byte<S: Source>(
+    intake: &mut Intake<'_, S>,
+    reading: &mut Reading,
+    next: usize,
+) -> Result<bool, RunError>
+    requires live { reading.old.at_end ≡ false → intake.old.live ≡ true }
+    requires place { next ≤ length reading.old.window.bytes }
+
+    ensures same { intake.new.source.ghost_name ≡ intake.old.source.ghost_name }
+    ensures took { Took S.gave intake.old.source.now intake.new.source.now reading.old reading.new }
+    ensures there { IfOk result (λ there. IsThere reading.old reading.new next there) }
+    ensures wanted { OnErr result (IsWanted reading.old reading.new next) }
+    ensures ends { S.ends intake.new.source.now ≡ S.ends intake.old.source.now + end_step reading.old.at_end reading.new.at_end }
+    ensures failures { S.failures intake.new.source.now ≡ S.failures intake.old.source.now + read_fault_count result }
+    ensures live { OnOk result (reading.new.at_end ≡ false → intake.new.live ≡ true) }
+
+    ensures still { reading.old.at_end ≡ true → intake.new.source.now ≡ intake.old.source.now }
+
+    ensures too_many { IsErrOf result RunError.TooManyReads → (reading.new.taken ≡ reading.new.max_reads) × IsWanted reading.old reading.new next }
+    ensures not_write { IsErrOf result RunError.Write → ⊥ }
+    ensures not_failed { IsErrOf result RunError.Failed → ⊥ }
+{
+    if next < reading.window.len() {
+        return Ok(true);
+    }
+    if reading.at_end {
+        return Ok(false);
+    }
+    match take_plain(intake, reading) {
+        Err(e) => Err(e),
+        Ok(None) => Ok(false),
+        Ok(Some(_)) => Ok(true),
+    }
+}
+
+/// Makes sure that the window has a byte at this place, and the trail room for its state. Answers false where the source
+/// has answered its end.
+pub fn fetch<S: Source>(
+    intake: &mut Intake<'_, S>,
+    reading: &mut Reading,
+    trail: &mut Trail,
+    next: usize,
+) -> Result<bool, RunError>
+    requires live { reading.old.at_end ≡ false → intake.old.live ≡ true }
+    requires place { next ≤ length reading.old.window.bytes }
+
+    ensures same { intake.new.source.ghost_name ≡ intake.old.source.ghost_name }
+    ensures took { Took S.gave intake.old.source.now intake.new.source.now reading.old reading.new }
+    ensures there { IfOk result (λ there. IsThere reading.old reading.new next there) }
+    ensures wanted { OnErr result (IsWanted reading.old reading.new next ⊎ IsShort reading.old reading.new next) }
+    ensures ends { S.ends intake.new.source.now ≡ S.ends intake.old.source.now + end_step reading.old.at_end reading.new.at_end }
+    ensures failures { S.failures intake.new.source.now ≡ S.failures intake.old.source.now + read_fault_count result }
+    ensures live { OnOk result (reading.new.at_end ≡ false → intake.new.live ≡ true) }
+
+    ensures still { reading.old.at_end ≡ true → intake.new.source.now ≡ intake.old.source.now }
+    ensures states { trail.new.states ≡ trail.old.states }
+    ensures room { IfOk result (λ there. there ≡ true → trail.new.room ≡ true) }
+
+    ensures too_many { IsErrOf result RunError.TooManyReads → (reading.new.taken ≡ reading.new.max_reads) × IsWanted reading.old reading.new next }
+    ensures not_write { IsErrOf result RunError.Write → ⊥ }
+    ensures not_failed { IsErrOf result RunError.Failed → ⊥ }
+{
+    if next < reading.window.len() {
+        return match trail.reserve() {
+            Err(_) => Err(RunError::OutOfMemory),
+            Ok(()) => Ok(true),
+        };
+    }
+    let ended = reading.at_end;
+    if ended {
+        return Ok(false);
+    }
+    match take_byte(intake, reading, trail) {
+        Err(e) => Err(e),
+        Ok(None) => Ok(false),
+        Ok(Some(_)) => Ok(true),
+    }
+}

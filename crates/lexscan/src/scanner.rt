@@ -1,0 +1,104 @@
+//! A scanner.
+ghost use Rattle.std.specs.Prelude.{◌≡◌, ℕ, ◌+◌, ◌-◌, ◌^◌, ◌<◌, ◌≤◌, List, [], ◌++◌, length, true, false, Some, None, Ok, Err, IsErrOf};
+ghost use Rattle.lexscan.specs.Reads.{read_fault_count, write_fault_count, end_step};
+ghost use Rattle.lexscan.specs.Stands.{NoneAfterEnd, GoesOn, Stands};
+
+use crate::intake::{Intake, Outlet};
+use crate::reading::RunError;
+use crate::source::Source;
+use crate::state::State;
+use crate::trail::Trail;
+use crate::turn::{Turn, turn_of};
+use lextab::{Machine, Sink};
+use std::alloc::Global;
+
+/// A scan of a source by a machine, to a sink.
+#[derive(Drop)]
+pub struct Scanner<'a, M: Machine, S: Source, K: Sink> {
+    machine: &'a M,
+    intake: Intake<'a, S>,
+    outlet: Outlet<'a, K>,
+    trail: Trail,
+    state: State,
+    ghost may_read: { state.failed ≡ false → state.ended ≡ None → state.reading.at_end ≡ false → intake.live ≡ true },
+    ghost may_write: { state.failed ≡ false → outlet.live ≡ true },
+    ghost condition: { state.spot.condition < (M.machine machine.now).conditions },
+    ghost inside: { state.spot.at ≤ length state.reading.window.bytes },
+}
+
+impl<'a, M: Machine, S: Source, K: Sink> Scanner<'a, M, S, K> {
+    /// A scanner that has made no turn, and takes at most so many bytes.
+    pub fn new(
+        alloc: Global,
+        machine: &'a M,
+        source: &'a mut S,
+        sink: &'a mut K,
+        max_reads: u64,
+    ) -> Scanner<'a, M, S, K>
+        requires few_ends { S.ends source.old < 2 ^ 64 - 1 }
+        requires few_reads { S.failures source.old < 2 ^ 64 - 1 }
+        requires few_writes { K.failures sink.old < 2 ^ 64 - 1 }
+        ensures same_source { result.intake.source.ghost_name ≡ source.entry.ghost_name }
+        ensures same_sink { result.outlet.sink.ghost_name ≡ sink.entry.ghost_name }
+        ensures source { result.intake.source.now ≡ source.old }
+        ensures sink { result.outlet.sink.now ≡ sink.old }
+        ensures machine { result.machine.now ≡ machine.now }
+        ensures max_reads { result.state.reading.max_reads ≡ max_reads }
+        ensures going { result.state.ended ≡ None }
+        ensures reading { result.state.reading.at_end ≡ false }
+        ensures stands { Stands (M.machine machine.now) 0 [] [] result.state }
+    {
+        Scanner {
+            machine,
+            intake: Intake::new(source),
+            outlet: Outlet::new(sink),
+            trail: Trail::new(alloc),
+            state: State::new(alloc, max_reads),
+        }
+    }
+
+    /// One match with its actions, or the end action.
+    pub fn turn(&mut self) -> Result<Turn, RunError>
+        ensures same_machine { self.new.machine.now ≡ self.old.machine.now }
+        ensures same_source { self.new.intake.source.ghost_name ≡ self.old.intake.source.ghost_name }
+        ensures same_sink { self.new.outlet.sink.ghost_name ≡ self.old.outlet.sink.ghost_name }
+        ensures goes_on { (got : List ℕ) × (wrote : List ℕ) × S.gave self.old.intake.source.now got self.new.intake.source.now
+            × K.wrote self.old.outlet.sink.now wrote self.new.outlet.sink.now
+            × NoneAfterEnd self.old.state self.new.state got × GoesOn (M.machine self.old.machine.now) self.old.state self.new.state got wrote result }
+
+        ensures still { self.old.state.reading.at_end ≡ true → self.new.intake.source.now ≡ self.old.intake.source.now }
+        ensures read_faults { S.failures self.new.intake.source.now ≡ S.failures self.old.intake.source.now + read_fault_count result }
+        ensures write_faults { K.failures self.new.outlet.sink.now ≡ K.failures self.old.outlet.sink.now + write_fault_count result }
+        ensures after_refusal { self.old.state.failed ≡ true → (result ≡ Err RunError.Failed) × (self.new.intake.source.now ≡ self.old.intake.source.now)
+            × (self.new.outlet.sink.now ≡ self.old.outlet.sink.now) × (self.new.state ≡ self.old.state) }
+        ensures refused { IsErrOf result RunError.Failed → self.old.state.failed ≡ true }
+        ensures after_end { (status : ℕ) → self.old.state.failed ≡ false → self.old.state.ended ≡ Some status → (result ≡ Ok (Turn.Ended status))
+            × (self.new.intake.source.now ≡ self.old.intake.source.now) × (self.new.outlet.sink.now ≡ self.old.outlet.sink.now) × (self.new.state ≡ self.old.state) }
+        ensures max_reads { self.new.state.reading.max_reads ≡ self.old.state.reading.max_reads }
+        ensures ends { S.ends self.new.intake.source.now ≡ S.ends self.old.intake.source.now + end_step self.old.state.reading.at_end self.new.state.reading.at_end }
+        ensures too_many { IsErrOf result RunError.TooManyReads → (self.new.state.reading.taken ≡ self.new.state.reading.max_reads) × (self.new.state.reading.at_end ≡ false) }
+    {
+        turn_of(
+            self.machine,
+            &mut self.intake,
+            &mut self.outlet,
+            &mut self.trail,
+            &mut self.state,
+        )
+    }
+
+    /// The bytes from the start of the text to the last byte taken.
+    pub fn held(&self) -> &[u8]
+        ensures { result.now ≡ self.now.state.reading.window.bytes }
+    {
+        let window = &self.state.reading.window;
+        window.slice(0, window.len())
+    }
+
+    /// How many bytes the source gave.
+    pub fn taken(&self) -> u64
+        ensures { result ≡ self.now.state.reading.taken }
+    {
+        self.state.reading.taken
+    }
+}

@@ -1,0 +1,381 @@
+//! A scan, one turn at a time, over the parts of a scanner.
+ghost use Rattle.std.specs.Prelude.{◌≡◌, ℕ, ◌+◌, ◌-◌, ◌^◌, ◌<◌, ◌≤◌, List, [], ◌∷◌, ◌++◌, length, true, false, Some, None, Ok, Err, OnOk, OnErr, IfOk, IfErr, IsErrOf, nat_eq, get_or};
+ghost use Rattle.lextab.specs.Sink.{Appended};
+ghost use Rattle.lexmeaning.specs.Text.{Among};
+ghost use Rattle.lexscan.specs.Reads.{read_fault_count, write_fault_count, end_step};
+ghost use Rattle.lexscan.specs.Sees.{Wants};
+ghost use Rattle.lexscan.specs.Descends.{matches_of, CutAll};
+ghost use Rattle.lextab.specs.Rejecting.{NoReject};
+ghost use Rattle.lexscan.specs.Picks.{Tells, trail_of};
+ghost use Rattle.lexscan.specs.Stands.{NoneAfterEnd, GoesOn};
+ghost use Rattle.lexscan.specs.Moves.{stays, left_bytes, left_at, Left, Acted, EndLeft, Moved};
+
+use crate::act::{Acting, put};
+use crate::descent::descend;
+use crate::intake::{Intake, Outlet};
+use crate::pick::{Seen, carry_pick, longest};
+use crate::reading::RunError;
+use crate::see::{see, see_last};
+use crate::source::Source;
+use crate::state::State;
+use crate::trail::Trail;
+use lextab::{Machine, Sink};
+
+/// What a turn did.
+#[derive(Clone, Copy, Debug, PartialEq, Eq)]
+pub enum Turn {
+    Went,
+    Ended(u8),
+}
+
+/// Flushes the sink.
+fn flush<K: Sink>(outlet: &mut Outlet<'_, K>) -> Result<(), RunError>
+    requires { outlet.old.live ≡ true }
+    ensures same { outlet.new.sink.ghost_name ≡ outlet.old.sink.ghost_name }
+    ensures bytes { K.wrote outlet.old.sink.now [] outlet.new.sink.now }
+    ensures failures { K.failures outlet.new.sink.now ≡ K.failures outlet.old.sink.now + write_fault_count result }
+    ensures live { OnOk result (outlet.new.live ≡ true) }
+    ensures refusals { IfErr result (λ e. e ≡ RunError.Write) }
+{
+    match outlet.flush() {
+        Err(_) => Err(RunError::Write),
+        Ok(()) => Ok(()),
+    }
+}
+
+/// Goes to the place of the next match.
+fn leave(state: &mut State, acting: Acting, over: bool)
+    requires { acting.end ≤ length state.old.reading.window.bytes }
+    ensures left { Left state.old.reading.window.bytes acting over state.new }
+    ensures taken { state.new.reading.taken ≡ state.old.reading.taken }
+    ensures at_end { state.new.reading.at_end ≡ state.old.reading.at_end }
+    ensures max_reads { state.new.reading.max_reads ≡ state.old.reading.max_reads }
+    ensures ended { state.new.ended ≡ state.old.ended }
+    ensures failed { state.new.failed ≡ state.old.failed }
+{
+    let end = acting.end;
+    if 0 < end {
+        state.spot.line_start = state.reading.window.byte(end - 1) == b'\n';
+    }
+    state.spot.condition = acting.condition;
+    if acting.more && !over {
+        state.spot.at = end;
+    } else {
+        state.reading.window.drop_front(end);
+        state.spot.at = 0;
+    }
+}
+
+/// The action of a match, and the place after it.
+fn match_turn<M: Machine, K: Sink>(
+    machine: &M,
+    outlet: &mut Outlet<'_, K>,
+    state: &mut State,
+    trail: &Trail,
+) -> Result<Turn, RunError>
+    requires live { outlet.old.live ≡ true }
+    requires some { 1 ≤ length trail.now.states }
+    requires inside { state.old.spot.at + length trail.now.states ≤ length state.old.reading.window.bytes }
+    requires known { (s : ℕ) → Among trail.now.states s → s < M.states machine.now }
+
+    ensures same { outlet.new.sink.ghost_name ≡ outlet.old.sink.ghost_name }
+    ensures failures { K.failures outlet.new.sink.now ≡ K.failures outlet.old.sink.now + write_fault_count result }
+    ensures live { OnOk result (outlet.new.live ≡ true) }
+    ensures refusals { IfErr result (λ e. e ≡ RunError.Write) }
+    ensures failed { state.new.failed ≡ state.old.failed }
+    ensures max_reads { state.new.reading.max_reads ≡ state.old.reading.max_reads }
+
+    ensures acted { IfOk result (λ turn. Acted (M.machine machine.now) K.wrote outlet.old.sink.now outlet.new.sink.now state.old.reading state.old.spot trail.now.states state.new turn) }
+    ensures going { result ≡ Ok Turn.Went → state.new.ended ≡ state.old.ended }
+    ensures cut_off { OnErr result (CutAll (M.machine machine.now) K.wrote outlet.old.sink.now outlet.new.sink.now state.old.reading.window.bytes state.old.spot.at
+        (matches_of (M.machine machine.now) state.old.reading.window.bytes state.old.spot.at trail.now.states) state.old.spot.condition) }
+    ensures unchanged { OnErr result (state.new ≡ state.old) }
+{
+    let mut acting = Acting {
+        end: 0,
+        condition: state.spot.condition,
+        more: false,
+    };
+    let spot = state.spot;
+    match descend(
+        machine,
+        outlet,
+        &state.reading.window,
+        trail,
+        spot.at,
+        &mut acting,
+    ) {
+        Err(e) => Err(e),
+        Ok(None) => {
+            leave(state, acting, false);
+            Ok(Turn::Went)
+        }
+        Ok(Some(status)) => match flush(outlet) {
+            Err(e) => Err(e),
+            Ok(()) => {
+                leave(state, acting, true);
+                state.ended = Some(status);
+                Ok(Turn::Ended(status))
+            }
+        },
+    }
+}
+
+/// The same for a machine without REJECT, by the longest match alone.
+fn last_turn<M: Machine, K: Sink>(
+    machine: &M,
+    outlet: &mut Outlet<'_, K>,
+    state: &mut State,
+    seen: Seen,
+) -> Result<Turn, RunError>
+    requires live { outlet.old.live ≡ true }
+    requires quiet { NoReject (M.machine machine.now) }
+    requires condition { state.old.spot.condition < (M.machine machine.now).conditions }
+    requires tells { Tells (M.machine machine.now) (M.states machine.now) state.old.spot state.old.reading.window.bytes seen }
+
+    ensures same { outlet.new.sink.ghost_name ≡ outlet.old.sink.ghost_name }
+    ensures failures { K.failures outlet.new.sink.now ≡ K.failures outlet.old.sink.now + write_fault_count result }
+    ensures live { OnOk result (outlet.new.live ≡ true) }
+    ensures refusals { IfErr result (λ e. e ≡ RunError.Write) }
+    ensures failed { state.new.failed ≡ state.old.failed }
+    ensures max_reads { state.new.reading.max_reads ≡ state.old.reading.max_reads }
+
+    ensures acted { IfOk result (λ turn. Acted (M.machine machine.now) K.wrote outlet.old.sink.now outlet.new.sink.now state.old.reading state.old.spot (trail_of (M.machine machine.now) state.old.spot state.old.reading.window.bytes seen.reach) state.new turn) }
+    ensures going { result ≡ Ok Turn.Went → state.new.ended ≡ state.old.ended }
+    ensures cut_off { OnErr result (CutAll (M.machine machine.now) K.wrote outlet.old.sink.now outlet.new.sink.now state.old.reading.window.bytes state.old.spot.at
+        (matches_of (M.machine machine.now) state.old.reading.window.bytes state.old.spot.at (trail_of (M.machine machine.now) state.old.spot state.old.reading.window.bytes seen.reach)) state.old.spot.condition) }
+    ensures unchanged { OnErr result (state.new ≡ state.old) }
+{
+    let mut acting = Acting {
+        end: 0,
+        condition: state.spot.condition,
+        more: false,
+    };
+    let spot = state.spot;
+    let pick = longest(machine, &state.reading.window, spot, seen);
+    match carry_pick(
+        machine,
+        outlet,
+        &state.reading.window,
+        spot,
+        seen,
+        pick,
+        &mut acting,
+    ) {
+        Err(e) => Err(e),
+        Ok(None) => {
+            leave(state, acting, false);
+            Ok(Turn::Went)
+        }
+        Ok(Some(status)) => match flush(outlet) {
+            Err(e) => Err(e),
+            Ok(()) => {
+                leave(state, acting, true);
+                state.ended = Some(status);
+                Ok(Turn::Ended(status))
+            }
+        },
+    }
+}
+
+/// The end action of the condition.
+fn end_turn<M: Machine, K: Sink>(
+    machine: &M,
+    outlet: &mut Outlet<'_, K>,
+    state: &mut State,
+) -> Result<Turn, RunError>
+    requires live { outlet.old.live ≡ true }
+    requires condition { state.old.spot.condition < (M.machine machine.now).conditions }
+    requires inside { state.old.spot.at ≤ length state.old.reading.window.bytes }
+
+    ensures same { outlet.new.sink.ghost_name ≡ outlet.old.sink.ghost_name }
+    ensures failures { K.failures outlet.new.sink.now ≡ K.failures outlet.old.sink.now + write_fault_count result }
+    ensures live { OnOk result (outlet.new.live ≡ true) }
+    ensures refusals { IfErr result (λ e. e ≡ RunError.Write) }
+    ensures failed { state.new.failed ≡ state.old.failed }
+    ensures max_reads { state.new.reading.max_reads ≡ state.old.reading.max_reads }
+
+    ensures bytes { Appended (λ xs. K.wrote outlet.old.sink.now xs outlet.new.sink.now) ((M.machine machine.now).ending state.old.spot.condition).print result }
+    ensures left { IfOk result (λ turn. EndLeft (M.machine machine.now) state.old.reading state.old.spot state.new turn) }
+    ensures unchanged { OnErr result (state.new ≡ state.old) }
+{
+    let action = machine.eof(state.spot.condition);
+    match put(outlet, action.print.as_slice()) {
+        Err(e) => Err(e),
+        Ok(()) => match flush(outlet) {
+            Err(e) => Err(e),
+            Ok(()) => {
+                state.reading.window.drop_front(state.spot.at);
+                state.spot.at = 0;
+                state.ended = Some(action.status);
+                Ok(Turn::Ended(action.status))
+            }
+        },
+    }
+}
+
+/// One match with its actions, or the end action, by the states after each byte.
+fn go_told<M: Machine, S: Source, K: Sink>(
+    machine: &M,
+    intake: &mut Intake<'_, S>,
+    outlet: &mut Outlet<'_, K>,
+    trail: &mut Trail,
+    state: &mut State,
+) -> Result<Turn, RunError>
+    requires may_read { state.old.reading.at_end ≡ false → intake.old.live ≡ true }
+    requires may_write { outlet.old.live ≡ true }
+    requires condition { state.old.spot.condition < (M.machine machine.now).conditions }
+    requires inside { state.old.spot.at ≤ length state.old.reading.window.bytes }
+
+    ensures same_source { intake.new.source.ghost_name ≡ intake.old.source.ghost_name }
+    ensures same_sink { outlet.new.sink.ghost_name ≡ outlet.old.sink.ghost_name }
+    ensures may_read { OnOk result (state.new.reading.at_end ≡ false → intake.new.live ≡ true) }
+    ensures may_write { OnOk result (outlet.new.live ≡ true) }
+    ensures failed { state.new.failed ≡ state.old.failed }
+    ensures max_reads { state.new.reading.max_reads ≡ state.old.reading.max_reads }
+    ensures ended { result ≡ Ok Turn.Went → state.new.ended ≡ state.old.ended }
+
+    ensures moved { Moved (M.machine machine.now) S.gave K.wrote intake.old.source.now intake.new.source.now outlet.old.sink.now outlet.new.sink.now state.old state.new result }
+
+    ensures still { state.old.reading.at_end ≡ true → intake.new.source.now ≡ intake.old.source.now }
+    ensures refused { IsErrOf result RunError.Failed → ⊥ }
+    ensures read_faults { S.failures intake.new.source.now ≡ S.failures intake.old.source.now + read_fault_count result }
+    ensures write_faults { K.failures outlet.new.sink.now ≡ K.failures outlet.old.sink.now + write_fault_count result }
+    ensures ends { S.ends intake.new.source.now ≡ S.ends intake.old.source.now + end_step state.old.reading.at_end state.new.reading.at_end }
+    ensures too_many { IsErrOf result RunError.TooManyReads → (state.new.reading.taken ≡ state.new.reading.max_reads) × Wants (M.machine machine.now) state.old.spot state.new.reading }
+{
+    let spot = state.spot;
+    match see(machine, intake, &mut state.reading, trail, spot) {
+        Err(e) => Err(e),
+        Ok(false) => end_turn(machine, outlet, state),
+        Ok(true) => match_turn(machine, outlet, state, trail),
+    }
+}
+
+/// The same for a machine without REJECT, by the last two states.
+fn go_last<M: Machine, S: Source, K: Sink>(
+    machine: &M,
+    intake: &mut Intake<'_, S>,
+    outlet: &mut Outlet<'_, K>,
+    state: &mut State,
+) -> Result<Turn, RunError>
+    requires quiet { NoReject (M.machine machine.now) }
+    requires may_read { state.old.reading.at_end ≡ false → intake.old.live ≡ true }
+    requires may_write { outlet.old.live ≡ true }
+    requires condition { state.old.spot.condition < (M.machine machine.now).conditions }
+    requires inside { state.old.spot.at ≤ length state.old.reading.window.bytes }
+
+    ensures same_source { intake.new.source.ghost_name ≡ intake.old.source.ghost_name }
+    ensures same_sink { outlet.new.sink.ghost_name ≡ outlet.old.sink.ghost_name }
+    ensures may_read { OnOk result (state.new.reading.at_end ≡ false → intake.new.live ≡ true) }
+    ensures may_write { OnOk result (outlet.new.live ≡ true) }
+    ensures failed { state.new.failed ≡ state.old.failed }
+    ensures max_reads { state.new.reading.max_reads ≡ state.old.reading.max_reads }
+    ensures ended { result ≡ Ok Turn.Went → state.new.ended ≡ state.old.ended }
+
+    ensures moved { Moved (M.machine machine.now) S.gave K.wrote intake.old.source.now intake.new.source.now outlet.old.sink.now outlet.new.sink.now state.old state.new result }
+
+    ensures still { state.old.reading.at_end ≡ true → intake.new.source.now ≡ intake.old.source.now }
+    ensures refused { IsErrOf result RunError.Failed → ⊥ }
+    ensures read_faults { S.failures intake.new.source.now ≡ S.failures intake.old.source.now + read_fault_count result }
+    ensures write_faults { K.failures outlet.new.sink.now ≡ K.failures outlet.old.sink.now + write_fault_count result }
+    ensures ends { S.ends intake.new.source.now ≡ S.ends intake.old.source.now + end_step state.old.reading.at_end state.new.reading.at_end }
+    ensures too_many { IsErrOf result RunError.TooManyReads → (state.new.reading.taken ≡ state.new.reading.max_reads) × Wants (M.machine machine.now) state.old.spot state.new.reading }
+{
+    let spot = state.spot;
+    match see_last(machine, intake, &mut state.reading, spot) {
+        Err(e) => Err(e),
+        Ok(None) => end_turn(machine, outlet, state),
+        Ok(Some(seen)) => last_turn(machine, outlet, state, seen),
+    }
+}
+
+/// One match with its actions, or the end action.
+fn go<M: Machine, S: Source, K: Sink>(
+    machine: &M,
+    intake: &mut Intake<'_, S>,
+    outlet: &mut Outlet<'_, K>,
+    trail: &mut Trail,
+    state: &mut State,
+) -> Result<Turn, RunError>
+    requires may_read { state.old.reading.at_end ≡ false → intake.old.live ≡ true }
+    requires may_write { outlet.old.live ≡ true }
+    requires condition { state.old.spot.condition < (M.machine machine.now).conditions }
+    requires inside { state.old.spot.at ≤ length state.old.reading.window.bytes }
+
+    ensures same_source { intake.new.source.ghost_name ≡ intake.old.source.ghost_name }
+    ensures same_sink { outlet.new.sink.ghost_name ≡ outlet.old.sink.ghost_name }
+    ensures may_read { OnOk result (state.new.reading.at_end ≡ false → intake.new.live ≡ true) }
+    ensures may_write { OnOk result (outlet.new.live ≡ true) }
+    ensures failed { state.new.failed ≡ state.old.failed }
+    ensures max_reads { state.new.reading.max_reads ≡ state.old.reading.max_reads }
+    ensures ended { result ≡ Ok Turn.Went → state.new.ended ≡ state.old.ended }
+
+    ensures moved { Moved (M.machine machine.now) S.gave K.wrote intake.old.source.now intake.new.source.now outlet.old.sink.now outlet.new.sink.now state.old state.new result }
+
+    ensures still { state.old.reading.at_end ≡ true → intake.new.source.now ≡ intake.old.source.now }
+    ensures refused { IsErrOf result RunError.Failed → ⊥ }
+    ensures read_faults { S.failures intake.new.source.now ≡ S.failures intake.old.source.now + read_fault_count result }
+    ensures write_faults { K.failures outlet.new.sink.now ≡ K.failures outlet.old.sink.now + write_fault_count result }
+    ensures ends { S.ends intake.new.source.now ≡ S.ends intake.old.source.now + end_step state.old.reading.at_end state.new.reading.at_end }
+    ensures too_many { IsErrOf result RunError.TooManyReads → (state.new.reading.taken ≡ state.new.reading.max_reads) × Wants (M.machine machine.now) state.old.spot state.new.reading }
+{
+    if machine.rejects() {
+        go_told(machine, intake, outlet, trail, state)
+    } else {
+        go_last(machine, intake, outlet, state)
+    }
+}
+
+/// One turn, over the parts of a scanner.
+pub fn turn_of<M: Machine, S: Source, K: Sink>(
+    machine: &M,
+    intake: &mut Intake<'_, S>,
+    outlet: &mut Outlet<'_, K>,
+    trail: &mut Trail,
+    state: &mut State,
+) -> Result<Turn, RunError>
+    requires may_read { state.old.failed ≡ false → state.old.ended ≡ None → state.old.reading.at_end ≡ false → intake.old.live ≡ true }
+    requires may_write { state.old.failed ≡ false → outlet.old.live ≡ true }
+    requires condition { state.old.spot.condition < (M.machine machine.now).conditions }
+    requires inside { state.old.spot.at ≤ length state.old.reading.window.bytes }
+
+    ensures same_source { intake.new.source.ghost_name ≡ intake.old.source.ghost_name }
+    ensures same_sink { outlet.new.sink.ghost_name ≡ outlet.old.sink.ghost_name }
+    ensures goes_on { (got : List ℕ) × (wrote : List ℕ) × S.gave intake.old.source.now got intake.new.source.now
+        × K.wrote outlet.old.sink.now wrote outlet.new.sink.now
+        × NoneAfterEnd state.old state.new got × GoesOn (M.machine machine.now) state.old state.new got wrote result }
+
+    ensures still { state.old.reading.at_end ≡ true → intake.new.source.now ≡ intake.old.source.now }
+    ensures read_faults { S.failures intake.new.source.now ≡ S.failures intake.old.source.now + read_fault_count result }
+    ensures write_faults { K.failures outlet.new.sink.now ≡ K.failures outlet.old.sink.now + write_fault_count result }
+    ensures after_refusal { state.old.failed ≡ true → (result ≡ Err RunError.Failed) × (intake.new.source.now ≡ intake.old.source.now)
+        × (outlet.new.sink.now ≡ outlet.old.sink.now) × (state.new ≡ state.old) }
+    ensures refused { IsErrOf result RunError.Failed → state.old.failed ≡ true }
+    ensures after_end { (status : ℕ) → state.old.failed ≡ false → state.old.ended ≡ Some status → (result ≡ Ok (Turn.Ended status))
+        × (intake.new.source.now ≡ intake.old.source.now) × (outlet.new.sink.now ≡ outlet.old.sink.now) × (state.new ≡ state.old) }
+    ensures max_reads { state.new.reading.max_reads ≡ state.old.reading.max_reads }
+
+    // The next turn may be called.
+    ensures may_read { state.new.failed ≡ false → state.new.ended ≡ None → state.new.reading.at_end ≡ false → intake.new.live ≡ true }
+    ensures may_write { state.new.failed ≡ false → outlet.new.live ≡ true }
+    ensures condition { state.new.spot.condition < (M.machine machine.now).conditions }
+    ensures inside { state.new.spot.at ≤ length state.new.reading.window.bytes }
+    ensures ends { S.ends intake.new.source.now ≡ S.ends intake.old.source.now + end_step state.old.reading.at_end state.new.reading.at_end }
+    ensures too_many { IsErrOf result RunError.TooManyReads → (state.new.reading.taken ≡ state.new.reading.max_reads) × (state.new.reading.at_end ≡ false) }
+{
+    if state.failed {
+        return Err(RunError::Failed);
+    }
+    if let Some(status) = state.ended {
+        return Ok(Turn::Ended(status));
+    }
+    state.failed = true;
+    match go(machine, intake, outlet, trail, state) {
+        Ok(turn) => {
+            state.failed = false;
+            Ok(turn)
+        }
+        Err(e) => Err(e),
+    }
+}

@@ -1,0 +1,76 @@
+//! A whole run.
+ghost use Rattle.std.specs.Prelude.{◌≡◌, ℕ, ◌+◌, ◌-◌, ◌^◌, ◌<◌, ◌≤◌, List, [], length, true, false, None, IsErrOf, nat_lt};
+ghost use Rattle.lexmeaning.specs.Machine.{rules_of_machine};
+ghost use Rattle.lexscan.specs.Reads.{read_fault_count, write_fault_count};
+ghost use Rattle.lexscan.specs.Stands.{Stands};
+ghost use Rattle.lexscan.specs.Runs.{Ran};
+
+use crate::intake::{Intake, Outlet};
+use crate::reading::RunError;
+use crate::source::Source;
+use crate::state::State;
+use crate::trail::Trail;
+use crate::turn::{Turn, turn_of};
+use lextab::{Machine, Sink};
+use std::alloc::Global;
+
+/// Turns until the end. Answers the status.
+pub fn run<M: Machine, S: Source, K: Sink>(
+    alloc: Global,
+    machine: &M,
+    source: &mut S,
+    sink: &mut K,
+    max_reads: u64,
+) -> Result<u8, RunError>
+    requires few_ends { S.ends source.old < 2 ^ 64 - 1 }
+    requires few_reads { S.failures source.old < 2 ^ 64 - 1 }
+    requires few_writes { K.failures sink.old < 2 ^ 64 - 1 }
+
+    ensures ran { (given : List ℕ) × (out : List ℕ) × S.gave source.old given source.new × K.wrote sink.old out sink.new
+        × Ran (rules_of_machine (M.machine machine.now)) given out (nat_lt (S.ends source.old) (S.ends source.new)) max_reads result }
+    ensures read_faults { S.failures source.new ≡ S.failures source.old + read_fault_count result }
+    ensures write_faults { K.failures sink.new ≡ K.failures sink.old + write_fault_count result }
+    ensures not_failed { IsErrOf result RunError.Failed → ⊥ }
+{
+    let mut intake = Intake::new(source);
+    let mut outlet = Outlet::new(sink);
+    let mut trail = Trail::new(alloc);
+    let mut state = State::new(alloc, max_reads);
+    let result = run_turns(machine, &mut intake, &mut outlet, &mut trail, &mut state);
+    let _source = intake.into_inner();
+    let _sink = outlet.into_inner();
+    result
+}
+
+fn run_turns<M: Machine, S: Source, K: Sink>(
+    machine: &M,
+    intake: &mut Intake<'_, S>,
+    outlet: &mut Outlet<'_, K>,
+    trail: &mut Trail,
+    state: &mut State,
+) -> Result<u8, RunError>
+    requires start { Stands (M.machine machine.now) 0 [] [] state.old }
+    requires going { state.old.ended ≡ None }
+    requires reading { state.old.reading.at_end ≡ false }
+    requires may_read { intake.old.live ≡ true }
+    requires may_write { outlet.old.live ≡ true }
+    requires condition { state.old.spot.condition < (M.machine machine.now).conditions }
+    requires inside { state.old.spot.at ≤ length state.old.reading.window.bytes }
+
+    ensures same_source { intake.new.source.ghost_name ≡ intake.old.source.ghost_name }
+    ensures same_sink { outlet.new.sink.ghost_name ≡ outlet.old.sink.ghost_name }
+    ensures ran { (given : List ℕ) × (out : List ℕ) × S.gave intake.old.source.now given intake.new.source.now
+        × K.wrote outlet.old.sink.now out outlet.new.sink.now
+        × Ran (rules_of_machine (M.machine machine.now)) given out (nat_lt (S.ends intake.old.source.now) (S.ends intake.new.source.now)) state.old.reading.max_reads result }
+    ensures read_faults { S.failures intake.new.source.now ≡ S.failures intake.old.source.now + read_fault_count result }
+    ensures write_faults { K.failures outlet.new.sink.now ≡ K.failures outlet.old.sink.now + write_fault_count result }
+    ensures not_failed { IsErrOf result RunError.Failed → ⊥ }
+{
+    'turns: loop {
+        match turn_of(machine, intake, outlet, trail, state) {
+            Err(e) => return Err(e),
+            Ok(Turn::Ended(status)) => return Ok(status),
+            Ok(Turn::Went) => {}
+        }
+    }
+}
