@@ -175,10 +175,9 @@ fn ends_as_the_manual_says(rt: HostRuntime) {
     }
 }
 
-#[test]
-fn accepts_up_to_the_limits(rt: HostRuntime) -> Result<(), Fail> {
-    let alloc = rt.alloc();
-    for long in limits::ACCEPTED {
+/// Scans nothing by each of these.
+fn assert_accepted(rt: &impl Abort, alloc: Global, rows: &[Long]) -> Result<(), Fail> {
+    for long in rows {
         let text = text_of(alloc, long)?;
         let mut source = MemorySource::new(b"");
         let mut sink = MemorySink::new(alloc);
@@ -188,14 +187,33 @@ fn accepts_up_to_the_limits(rt: HostRuntime) -> Result<(), Fail> {
     Ok(())
 }
 
-#[test]
-fn refuses_past_the_limits(rt: HostRuntime) -> Result<(), Fail> {
-    for (long, line) in limits::REFUSED {
-        let text = text_of(rt.alloc(), long)?;
-        let refused = is_refused(rt.alloc(), &text, line);
-        assert!(rt; refused, "{line}");
+/// Holds each of these to the line that refuses it.
+fn assert_refused(rt: &impl Abort, alloc: Global, rows: &[(Long, &str)]) -> Result<(), Fail> {
+    for (long, line) in rows {
+        let text = text_of(alloc, long)?;
+        assert!(rt; is_refused(alloc, &text, line), "{line}");
     }
     Ok(())
+}
+
+#[test]
+fn reads_up_to_the_limits(rt: HostRuntime) -> Result<(), Fail> {
+    assert_accepted(&rt, rt.alloc(), limits::ACCEPTED)
+}
+
+#[test]
+fn refuses_past_the_limits(rt: HostRuntime) -> Result<(), Fail> {
+    assert_refused(&rt, rt.alloc(), limits::REFUSED)
+}
+
+#[test]
+fn builds_up_to_the_limits(rt: HostRuntime) -> Result<(), Fail> {
+    assert_accepted(&rt, rt.alloc(), limits::BUILT)
+}
+
+#[test]
+fn builds_nothing_past_the_limits(rt: HostRuntime) -> Result<(), Fail> {
+    assert_refused(&rt, rt.alloc(), limits::UNBUILT)
 }
 
 /// `%x` and so many names: of one letter, of two, and so on.
