@@ -5,3 +5,6 @@ mod plain;
 mod tables;
 
 pub use plain::Plain;
+
+#[cfg(test)]
+mod tests;
