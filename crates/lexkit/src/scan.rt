@@ -79,6 +79,7 @@ fn scan_by<S: Source, K: Sink>(
 #[cfg(test)]
 mod tests {
     use super::*;
+    use lexauto::BuildError;
     use lexends::{MemorySink, MemorySource};
     use lexscan::RunError;
     use lexspec::{PatternError, PatternErrorKind, SpecError, SpecErrorKind};
@@ -176,7 +177,16 @@ mod tests {
         for &(fold, text, input, want) in &SCANS {
             let mut source = MemorySource::new(input);
             let mut sink = MemorySink::new(alloc);
-            let got = scan_spec(alloc, text, Options { fold, ..Options::new() }, &mut source, &mut sink);
+            let got = scan_spec(
+                alloc,
+                text,
+                Options {
+                    fold,
+                    ..Options::new()
+                },
+                &mut source,
+                &mut sink,
+            );
             assert!(rt; got == Ok(0), "{got:?}");
             assert_eq!(rt; sink.written(), want);
         }
@@ -199,12 +209,21 @@ mod tests {
     #[test]
     fn stops_at_faults(rt: HostRuntime) {
         let alloc = rt.alloc();
-        for place in 0..7usize {
+        for &(place, written) in &[
+            (0usize, ""),
+            (1, ""),
+            (2, "K"),
+            (3, "K "),
+            (4, "K "),
+            (5, "K N"),
+            (6, "K N "),
+            (7, "K N x"),
+        ] {
             let mut source = MemorySource::failing_after(b"if 42 x", place);
             let mut sink = MemorySink::new(alloc);
             let got = scan_spec(alloc, KEYS, Options::new(), &mut source, &mut sink);
             assert!(rt; got == Err(ScanError::Run(RunError::Read)), "{got:?}");
-            assert_eq!(rt; sink.written(), b"".as_slice());
+            assert_eq!(rt; sink.written(), written.as_bytes());
         }
         for place in 0..5usize {
             let mut source = MemorySource::new(b"if 42 x");
@@ -259,5 +278,41 @@ mod tests {
             assert!(rt; source.calls() == 0, "untouched");
             assert_eq!(rt; sink.written(), b"".as_slice());
         }
+    }
+
+    /// What a scan answers, and how often the source was called.
+    fn limited(alloc: Global, text: &[u8], limits: Limits) -> (Result<u8, ScanError>, u64)
+        requires few_positions { limits.positions ≤ 16384 }
+        requires few_states { limits.states ≤ 8192 }
+    {
+        let mut source = MemorySource::new(b"a");
+        let mut sink = MemorySink::new(alloc);
+        let options = Options {
+            fold: false,
+            limits,
+        };
+        let got = scan_spec(alloc, text, options, &mut source, &mut sink);
+        (got, source.calls())
+    }
+
+    #[test]
+    fn refuses_automata_that_pass_a_limit(rt: HostRuntime) {
+        let alloc = rt.alloc();
+        let positions = BuildError::TooManyPositions;
+        let got = limited(alloc, b"%%\n(a{255}){65} ;\n", Options::new().limits);
+        assert!(rt;
+            got == (Err(ScanError::Generate(GenError::Build(positions))), 0),
+            "{got:?}"
+        );
+        let few = Limits {
+            positions: 3,
+            states: 4,
+        };
+        let states = BuildError::TooManyStates;
+        let got = limited(alloc, b"%%\nabc ;\n", few);
+        assert!(rt;
+            got == (Err(ScanError::Generate(GenError::Build(states))), 0),
+            "{got:?}"
+        );
     }
 }

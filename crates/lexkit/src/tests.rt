@@ -71,12 +71,25 @@ fn takes_and_holds_what_is_asked_for(rt: HostRuntime) -> Result<(), Fail> {
             0,
         ),
         (MEGA, "mega-kludge", &[(5, "mega-"), (11, "")], 0),
-        (TRAIL, "abcdab", &[(4, "cd"), (4, "d"), (4, ""), (6, "b"), (6, "")], 0),
+        (
+            TRAIL,
+            "abcdab",
+            &[(4, "cd"), (4, "d"), (4, ""), (6, "b"), (6, "")],
+            0,
+        ),
         ("%%\nab exit(7);\n", "abXYZ", &[], 7),
-        ("%%\naa yymore();\nb ECHO; yyless(1);\n", "aab", &[(2, "aa"), (3, "ab"), (3, "b"), (3, "")], 0),
+        (
+            "%%\naa yymore();\nb ECHO; yyless(1);\n",
+            "aab",
+            &[(2, "aa"), (3, "ab"), (3, "b"), (3, "")],
+            0,
+        ),
     ];
     for &(text, input, after, status) in rows {
-        assert!(rt; goes_so(rt.alloc(), text, input, after, status)?, "{text} on {input}");
+        assert!(rt;
+            goes_so(rt.alloc(), text, input, after, status)?,
+            "{text} on {input}"
+        );
     }
     Ok(())
 }
@@ -190,12 +203,33 @@ fn a_refused_turn_holds_what_was_taken(rt: HostRuntime) -> Result<(), Fail> {
     let unwritten = Err(RunError::Write);
     let unread = Err(RunError::Read);
     let rows = &[
-        (MEGA, "mega-kludge", FAR, 5, [(went, 5, 5), (unwritten, 11, 11), (failed, 11, 11)]),
-        (MEGA, "mega-kludge", 5, FAR, [(went, 5, 5), (unread, 5, 5), (failed, 5, 5)]),
-        (FRONTS, "abcd", FAR, 3, [(unwritten, 4, 4), (failed, 4, 4), (failed, 4, 4)]),
+        (
+            MEGA,
+            "mega-kludge",
+            FAR,
+            5,
+            [(went, 5, 5), (unwritten, 11, 11), (failed, 11, 11)],
+        ),
+        (
+            MEGA,
+            "mega-kludge",
+            5,
+            FAR,
+            [(went, 5, 5), (unread, 5, 5), (failed, 5, 5)],
+        ),
+        (
+            FRONTS,
+            "abcd",
+            FAR,
+            3,
+            [(unwritten, 4, 4), (failed, 4, 4), (failed, 4, 4)],
+        ),
     ];
     for &(text, input, given, room, told) in rows {
-        assert!(rt; two_turns(rt.alloc(), text, input, given, room)? == told, "{text} on {input}");
+        assert!(rt;
+            two_turns(rt.alloc(), text, input, given, room)? == told,
+            "{text} on {input}"
+        );
     }
     Ok(())
 }

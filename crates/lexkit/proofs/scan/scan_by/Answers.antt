@@ -23,14 +23,17 @@ returns-in-Err-run-clause-told g c =
       states = states_of c.in-Ok.automaton;
       subsets = c.in-Ok.ensures.states;
       few_states = c.in-Ok.ensures.few_states;
-    } in (within, record {
-      given = h.0;
-      out = h.1;
-      source = h.2;
-      sink = h.3;
-      ran = Same.ran_into M c.in-Ok.ensures.laws S sound c.in-Ok.ensures.table h.0 h.1 b max_reads c.in-Err-run.fault
-          (subst (λ N. RanInto (rules_of_machine N) h.0 h.1 b max_reads c.in-Err-run.fault) c.new-machine.ensures h.4);
-    })
+    } in (
+      within,
+      record {
+        given = h.0;
+        out = h.1;
+        source = h.2;
+        sink = h.3;
+        ran = Same.ran_into M c.in-Ok.ensures.laws S sound c.in-Ok.ensures.table h.0 h.1 b max_reads c.in-Err-run.fault
+            (subst (λ N. RanInto (rules_of_machine N) h.0 h.1 b max_reads c.in-Err-run.fault) c.new-machine.ensures h.4);
+      },
+    )
 
 pub returns-clause-told : goal.returns-clause-told
 returns-clause-told g c =
@@ -44,11 +47,14 @@ returns-clause-told g c =
       states = states_of c.in-Ok.automaton;
       subsets = c.in-Ok.ensures.states;
       few_states = c.in-Ok.ensures.few_states;
-    } in (within, record {
-      given = h.0;
-      out = h.1;
-      source = h.2;
-      sink = h.3;
-      ran = Same.ran_to M c.in-Ok.ensures.laws S sound c.in-Ok.ensures.table h.0 h.1 b c.in-Ok-run.status
-          (subst (λ N. RanTo (rules_of_machine N) h.0 h.1 b c.in-Ok-run.status) c.new-machine.ensures h.4);
-    })
+    } in (
+      within,
+      record {
+        given = h.0;
+        out = h.1;
+        source = h.2;
+        sink = h.3;
+        ran = Same.ran_to M c.in-Ok.ensures.laws S sound c.in-Ok.ensures.table h.0 h.1 b c.in-Ok-run.status
+            (subst (λ N. RanTo (rules_of_machine N) h.0 h.1 b c.in-Ok-run.status) c.new-machine.ensures h.4);
+      },
+    )
