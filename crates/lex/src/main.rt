@@ -1,7 +1,7 @@
 //! The program: it scans standard input by a specification, to standard output.
 #![tactic(auto)]
 
-ghost use Rattle.std.specs.Prelude.{◌≡◌, ◌⊎◌, IfErr};
+ghost use Rattle.std.specs.Prelude.{◌≡◌, ◌≤◌, ◌⊎◌, IfErr};
 ghost use Rattle.lex.specs.Faults.{Tells, out_of_memory};
 
 use lexkit::{
@@ -104,7 +104,10 @@ fn read_spec_file(rt: &HostRuntime, name: String) -> Result<Vec<u8>, Failure>
 }
 
 /// Scans standard input to standard output.
-fn scan(rt: &HostRuntime, text: &[u8], options: Options) -> Result<u8, Failure> {
+fn scan(rt: &HostRuntime, text: &[u8], options: Options) -> Result<u8, Failure>
+    requires few_positions { options.limits.positions ≤ 16384 }
+    requires few_states { options.limits.states ≤ 8192 }
+{
     let mut source = FromRead::new(BufReader::new(rt.alloc(), rt.reader()).map_err(
         |_| AllocError,
     )?);
@@ -122,7 +125,11 @@ fn scan(rt: &HostRuntime, text: &[u8], options: Options) -> Result<u8, Failure> 
 fn run(rt: &HostRuntime) -> Result<u8, Failure> {
     let Job::ScanSpec { file, fold } = job_of(rt)?;
     let text = read_spec_file(rt, file)?;
-    scan(rt, text.as_slice(), Options { fold })
+    let options = Options {
+        fold,
+        ..Options::new()
+    };
+    scan(rt, text.as_slice(), options)
 }
 
 fn main(rt: HostRuntime) -> ExitCode {

@@ -2,8 +2,8 @@
 use Rattle.std.proofs.Common.{◌≡◌, ℕ, List, [], ◌∷◌, ◌++◌, length, map, refl, sym, ap, ◌∙◌, Vec, Global}
 use Rattle.std.proofs.lemmas.List.{map_push}
 use Rattle.lexaction.specs.Views.{statement_of}
-use Rattle.lexaction.specs.declared.statement.Statement as Declared
-use Rattle.lexaction.specs.declared.statement.Statement.TheVariants as R
+use Rattle.lexmachine.specs.declared.action.Statement as Declared
+use Rattle.lexmachine.specs.declared.action.Statement.TheVariants as R
 use Rattle.lexmeaning.specs.Spec.{Statement, Echo, Print, Begin, More, Less, Reject, End}
 use Rattle.lexaction.specs.Statements.{then_print}
 

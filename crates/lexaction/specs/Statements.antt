@@ -1,6 +1,7 @@
 -- Actions in normal form: no literal is empty, and no two are neighbours. (This project's.)
 use Rattle.std.specs.Prelude.{ℕ, List, [], ◌∷◌, ◌++◌, length}
 use Rattle.lexmeaning.specs.Spec.{Statement, Print}
+pub use Rattle.lexmachine.specs.Literals.{literal_bytes}
 
 -- a literal after the statements: dropped where it is empty, and joined with one that stands last
 abbrev pub then_print : List Statement → List ℕ → List Statement
@@ -21,7 +22,3 @@ then_all before (s ∷ ss) = then_all (then_one before s) ss
 
 abbrev pub normal : List Statement → List Statement
 normal ss = then_all [] ss
-
-abbrev pub literal_bytes : Statement → ℕ
-literal_bytes (Print bs) = length bs
-literal_bytes _ = 0

@@ -8,10 +8,11 @@ ghost use Rattle.lexaction.specs.Outcome.{Reads, UnlessMemory};
 
 use crate::bytes::skip;
 use crate::calls::statement_at;
-use crate::condition::{Condition, EndAction};
+use crate::condition::Condition;
 use crate::error::ActionError;
 use crate::legal::{are_few, check};
-use crate::statement::{Piece, Statement, say};
+use crate::statement::{Piece, say};
+use lexmachine::{EndAction, Statement};
 use std::alloc::Global;
 
 /// What an action is made of, at the front of a text that has neither blanks nor comments there.

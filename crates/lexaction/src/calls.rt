@@ -10,7 +10,8 @@ use crate::bytes::{digits_at, literal_at, name_at, next, skip};
 use crate::condition::Condition;
 use crate::error::ActionError;
 use crate::format::parts_of;
-use crate::statement::{Called, Parts, Said, Statement};
+use crate::statement::{Called, Parts, Said};
+use lexmachine::Statement;
 use lexclass::capped_value;
 use std::alloc::Global;
 

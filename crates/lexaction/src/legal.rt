@@ -1,66 +1,18 @@
 //! What may stand in one action.
 ghost use Rattle.std.specs.Prelude.{◌≡◌, ℕ, Bool, ◌&&◌, nat_le, List, length, map, sum_by, true, false, OnOk, OnErr};
-ghost use Rattle.lexmeaning.specs.Spec.{is_reject, has_reject};
+ghost use Rattle.lexmeaning.specs.Spec.{has_reject};
 ghost use Rattle.lexmeaning.specs.Legal.{is_less, is_more, ends_action, count_less, has_less, has_more, ends_last};
 ghost use Rattle.lexaction.specs.Statements.{literal_bytes};
 ghost use Rattle.lexaction.specs.Actions.{are_few, may_stand};
 ghost use Rattle.lexaction.specs.Views.{statement_of};
 
 use crate::error::ActionError;
-use crate::statement::Statement;
+use lexmachine::{Statement, has_reject};
 
 /// The greatest count of statements in an action.
 const MOST_STATEMENTS: usize = 256;
 /// The greatest count of literal bytes in an action.
 const MOST_LITERAL_BYTES: usize = 4096;
-
-impl Statement {
-    fn is_reject(&self) -> bool
-        ensures { result ≡ is_reject (statement_of self.now) }
-    {
-        matches!(self, Statement::Reject)
-    }
-
-    fn is_less(&self) -> bool
-        ensures { result ≡ is_less (statement_of self.now) }
-    {
-        matches!(self, Statement::Less(_))
-    }
-
-    fn is_more(&self) -> bool
-        ensures { result ≡ is_more (statement_of self.now) }
-    {
-        matches!(self, Statement::More)
-    }
-
-    /// Whether it is REJECT or ends the scan.
-    fn ends_action(&self) -> bool
-        ensures { result ≡ ends_action (statement_of self.now) }
-    {
-        matches!(self, Statement::Reject | Statement::End(_))
-    }
-
-    /// How many bytes it writes beside the text.
-    fn literal_bytes(&self) -> usize
-        ensures { result ≡ literal_bytes (statement_of self.now) }
-    {
-        match self {
-            Statement::Print(bytes) => bytes.len(),
-            _ => 0,
-        }
-    }
-}
-
-fn has_reject(statements: &[Statement]) -> bool
-    ensures { result ≡ has_reject (map statement_of statements.now) }
-{
-    for statement in statements {
-        if statement.is_reject() {
-            return true;
-        }
-    }
-    false
-}
 
 fn has_more(statements: &[Statement]) -> bool
     ensures { result ≡ has_more (map statement_of statements.now) }

@@ -6,18 +6,7 @@ ghost use Rattle.lexaction.specs.Views.{statement_of, said_of};
 ghost use Rattle.lexaction.specs.Outcome.{UnlessMemory};
 
 use crate::error::ActionError;
-
-/// A statement of an action in normal form.
-#[derive(Drop)]
-pub enum Statement {
-    Echo,
-    Print(Vec<u8>),
-    Begin(u8),
-    More,
-    Less(u16),
-    Reject,
-    End(u8),
-}
+use lexmachine::Statement;
 
 /// What a statement of the text says.
 #[derive(Drop)]

@@ -22,7 +22,7 @@ use lexspec::Spec;
 use std::alloc::Global;
 
 /// How large an automaton may become: at most 16,384 positions and 8,192 states.
-#[derive(Clone, Copy, Debug)]
+#[derive(Clone, Copy, Debug, PartialEq, Eq)]
 pub struct Limits {
     /// The greatest sum of the positions of all heads and trails.
     pub positions: u32,

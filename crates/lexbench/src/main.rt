@@ -2,8 +2,7 @@
 #![tactic(auto)]
 
 use lexauto::{BuildError, Limits, build};
-use lexre::ReadOptions;
-use lexspec::{SpecError, read_spec};
+use lexspec::{ReadOptions, SpecError, read_spec};
 use std::io;
 use std::io::Read;
 use std::process::ExitCode;

@@ -1,8 +1,8 @@
 -- The words of a refusal.
 use Rattle.std.proofs.Common.{◌≡◌, refl, []}
-use Rattle.lexlines.specs.declared.error.SpecErrorKind.{SpecErrorKind}
-use Rattle.lexlines.specs.declared.error.SpecErrorKind.TheVariants as kinds
-use Rattle.lexclass.specs.declared.error.PatternError.{PatternError}
+use Rattle.lexspec.specs.Refusals.SpecErrorKind.{SpecErrorKind}
+use Rattle.lexspec.specs.Refusals.SpecErrorKind.TheVariants as kinds
+use Rattle.lexspec.specs.Refusals.PatternError.{PatternError}
 use Rattle.lexkit.specs.Faults.{place_words}
 
 -- only the refusal of a pattern has a place

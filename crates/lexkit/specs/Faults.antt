@@ -4,15 +4,17 @@ use Rattle.std.specs.Prelude.{ℕ, Bool, true, false, if◌then◌else◌, List,
 use Rattle.std.specs.List.{concat}
 use Rattle.lexkit.specs.declared.args.ArgsError.{ArgsError}
 use Rattle.lexkit.specs.declared.args.ArgsError.TheVariants as args
-use Rattle.lexclass.specs.declared.error.PatternErrorKind.{PatternErrorKind}
-use Rattle.lexclass.specs.declared.error.PatternErrorKind.TheVariants as patterns
-use Rattle.lexlines.specs.declared.error.SpecErrorKind.{SpecErrorKind}
-use Rattle.lexlines.specs.declared.error.SpecErrorKind.TheVariants as kinds
-use Rattle.lexlines.specs.declared.error.SpecError.{SpecError}
+use Rattle.lexspec.specs.Refusals.PatternErrorKind.{PatternErrorKind}
+use Rattle.lexspec.specs.Refusals.PatternErrorKind.TheVariants as patterns
+use Rattle.lexspec.specs.Refusals.SpecErrorKind.{SpecErrorKind}
+use Rattle.lexspec.specs.Refusals.SpecErrorKind.TheVariants as kinds
+use Rattle.lexspec.specs.Refusals.SpecError.{SpecError}
+use Rattle.lexauto.specs.declared.error.BuildError.{BuildError}
+use Rattle.lexauto.specs.declared.error.BuildError.TheVariants as builds
+use Rattle.lexscan.specs.declared.error.RunError.{RunError}
+use Rattle.lexscan.specs.declared.error.RunError.TheVariants as runs
 use Rattle.lexkit.specs.declared.errors.GenError.{GenError}
 use Rattle.lexkit.specs.declared.errors.GenError.TheVariants as gens
-use Rattle.lexkit.specs.declared.errors.RunError.{RunError}
-use Rattle.lexkit.specs.declared.errors.RunError.TheVariants as runs
 use Rattle.lexkit.specs.declared.errors.ScanError.{ScanError}
 use Rattle.lexkit.specs.declared.errors.ScanError.TheVariants as scans
 use Rattle.lexkit.specs.declared.faults.Fault.{Fault}
@@ -93,8 +95,14 @@ abbrev pub args_words : ArgsError → List ℕ
 args_words args.Usage = codes "usage"
 args_words args.OutOfMemory = codes "out of memory"
 
+abbrev pub build_words : BuildError → List ℕ
+build_words builds.TooManyPositions = codes "TooManyPositions"
+build_words builds.TooManyStates = codes "TooManyStates"
+build_words builds.OutOfMemory = codes "out of memory"
+
 abbrev pub gen_words : GenError → List ℕ
 gen_words (gens.Spec e) = spec_words e
+gen_words (gens.Build e) = build_words e
 gen_words gens.OutOfMemory = codes "out of memory"
 
 abbrev pub scan_words : ScanError → List ℕ
@@ -111,7 +119,7 @@ fault_words faults.Output = codes "write fault"
 abbrev pub line_of : List ℕ → List ℕ
 line_of words = codes "lex: " ++ words ++ (10 ∷ [])
 
--- The statuses: 64 a command line, 65 a specification, 66 a file that cannot be read, 71 want of memory,
+-- The statuses: 64 a command line, 65 a specification or its automaton, 66 a file that cannot be read, 71 want of memory,
 -- 74 a read or a write.
 abbrev pub spec_status : SpecError → ℕ
 spec_status e = if lacks_memory e.kind then 71 else 65
@@ -120,8 +128,13 @@ abbrev pub run_status : RunError → ℕ
 run_status runs.OutOfMemory = 71
 run_status other = 74
 
+abbrev pub build_status : BuildError → ℕ
+build_status builds.OutOfMemory = 71
+build_status other = 65
+
 abbrev pub gen_status : GenError → ℕ
 gen_status (gens.Spec e) = spec_status e
+gen_status (gens.Build e) = build_status e
 gen_status gens.OutOfMemory = 71
 
 abbrev pub scan_status : ScanError → ℕ

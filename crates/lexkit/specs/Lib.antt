@@ -1,12 +1,6 @@
 pub mod Args
 pub mod Faults
-pub mod InputViews
 pub mod Joined
-pub mod Matches
-pub mod Places
-pub mod Reads
 pub mod Refusal
-pub mod ScanAnswers
+pub mod Headline
 pub mod ScanCounts
-pub mod Simple
-pub mod Turns

@@ -1,7 +1,7 @@
 -- How often the ends of a scan failed, by its answer.
 use Rattle.std.specs.Prelude.{ℕ, Result, Ok, Err}
-use Rattle.lexkit.specs.declared.errors.RunError.{RunError}
-use Rattle.lexkit.specs.declared.errors.RunError.TheVariants as runs
+use Rattle.lexscan.specs.declared.error.RunError.{RunError}
+use Rattle.lexscan.specs.declared.error.RunError.TheVariants as runs
 use Rattle.lexkit.specs.declared.errors.ScanError.{ScanError}
 use Rattle.lexkit.specs.declared.errors.ScanError.TheVariants.{Generate, Run}
 

@@ -1,5 +1,7 @@
 //! What a scan refuses, and why.
 
+use lexauto::BuildError;
+use lexscan::RunError;
 use lexspec::SpecError;
 use thiserror::Error;
 
@@ -17,27 +19,13 @@ pub enum ScanError {
 /// Why no scanner is made of a specification.
 #[derive(Clone, Copy, Debug, PartialEq, Eq, Error)]
 pub enum GenError {
+    /// The text is refused, at this line.
     #[error("{0}")]
     Spec(SpecError),
+    /// Its automaton passes a limit, or memory ran out while it was built.
+    #[error("{0}")]
+    Build(BuildError),
+    /// Memory ran out elsewhere.
     #[error("out of memory")]
     OutOfMemory,
-}
-
-/// Why a scan stopped.
-#[derive(Clone, Copy, Debug, PartialEq, Eq, Error)]
-pub enum RunError {
-    /// The source failed.
-    #[error("read fault")]
-    Read,
-    /// The scan wants one read more than it was given.
-    #[error("too many reads")]
-    TooManyReads,
-    /// The sink failed.
-    #[error("write fault")]
-    Write,
-    #[error("out of memory")]
-    OutOfMemory,
-    /// An earlier turn of the same scan stopped.
-    #[error("failed")]
-    Failed,
 }

@@ -1,15 +1,16 @@
 //! The line on standard error, and the exit status.
 ghost use Rattle.std.specs.Prelude.{◌≡◌, ℕ, ◌+◌, ◌-◌, ◌^◌, ◌<◌, ◌≤◌, List, ◌++◌};
-ghost use Rattle.lextab.specs.Sink.{Appended, fault_count};
+ghost use Rattle.lexends.specs.Sink.{Appended, fault_count};
 ghost use Rattle.lexkit.specs.Joined.{joined};
-ghost use Rattle.lexkit.specs.Faults.{line_of, fault_words, scan_words, gen_words, spec_words, lacks_memory, pattern_name, kind_name, run_words, args_words};
+ghost use Rattle.lexkit.specs.Faults.{line_of, fault_words, scan_words, gen_words, gen_status, build_words, spec_words, lacks_memory, pattern_name, kind_name, run_words, args_words};
 
 use crate::args::ArgsError;
-use crate::errors::{GenError, RunError, ScanError};
+use crate::errors::{GenError, ScanError};
 use itoa::Buffer;
-use lexre::{PatternError, PatternErrorKind};
-use lexspec::{SpecError, SpecErrorKind};
-use lextab::{Sink, WriteFault};
+use lexauto::BuildError;
+use lexends::{Sink, WriteFault};
+use lexscan::RunError;
+use lexspec::{PatternError, PatternErrorKind, SpecError, SpecErrorKind};
 
 /// What ended the program before its work was done.
 #[derive(Clone, Copy, Debug)]
@@ -34,14 +35,23 @@ impl Fault<'_> {
     {
         match self {
             Fault::Args(ArgsError::Usage) => 64,
-            Fault::Scan(ScanError::Generate(GenError::Spec(error))) if !lacks_memory(error.kind) =>
-                { 65 }
-            Fault::File(_) => 66,
-            Fault::Args(ArgsError::OutOfMemory)
-            | Fault::Scan(ScanError::Generate(_))
-            | Fault::Scan(ScanError::Run(RunError::OutOfMemory)) => 71,
+            Fault::Args(ArgsError::OutOfMemory) => 71,
+            Fault::Scan(ScanError::Generate(error)) => gen_status(*error),
+            Fault::Scan(ScanError::Run(RunError::OutOfMemory)) => 71,
             Fault::Scan(ScanError::Run(_)) | Fault::Output => 74,
+            Fault::File(_) => 66,
         }
+    }
+}
+
+/// 65 for a refusal of the text or of its automaton, and 71 for want of memory.
+fn gen_status(error: GenError) -> u8
+    ensures { result ≡ gen_status error }
+{
+    match error {
+        GenError::Spec(error) if lacks_memory(error.kind) => 71,
+        GenError::Build(BuildError::OutOfMemory) | GenError::OutOfMemory => 71,
+        GenError::Spec(_) | GenError::Build(_) => 65,
     }
 }
 
@@ -79,7 +89,18 @@ fn write_gen_error<K: Sink>(error: GenError, sink: &mut K) -> Result<(), WriteFa
 {
     match error {
         GenError::Spec(error) => write_spec_error(error, sink),
+        GenError::Build(error) => put_line(sink, &[build_text(error)]),
         GenError::OutOfMemory => put_line(sink, &[OUT_OF_MEMORY]),
+    }
+}
+
+fn build_text(error: BuildError) -> &'static str
+    ensures { result.now ≡ build_words error }
+{
+    match error {
+        BuildError::TooManyPositions => "TooManyPositions",
+        BuildError::TooManyStates => "TooManyStates",
+        BuildError::OutOfMemory => OUT_OF_MEMORY,
     }
 }
 
@@ -213,7 +234,7 @@ fn put_line<K: Sink>(sink: &mut K, parts: &[&str]) -> Result<(), WriteFault>
 #[cfg(test)]
 mod tests {
     use super::*;
-    use lextab::MemorySink;
+    use lexends::MemorySink;
     use std::alloc::Global;
     use std::process::Abort;
 
@@ -237,6 +258,21 @@ mod tests {
             ),
             (
                 Fault::Scan(ScanError::Generate(GenError::OutOfMemory)),
+                71,
+                "lex: out of memory\n",
+            ),
+            (
+                Fault::Scan(ScanError::Generate(GenError::Build(BuildError::TooManyStates))),
+                65,
+                "lex: TooManyStates\n",
+            ),
+            (
+                Fault::Scan(ScanError::Generate(GenError::Build(BuildError::TooManyPositions))),
+                65,
+                "lex: TooManyPositions\n",
+            ),
+            (
+                Fault::Scan(ScanError::Generate(GenError::Build(BuildError::OutOfMemory))),
                 71,
                 "lex: out of memory\n",
             ),

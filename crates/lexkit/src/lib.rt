@@ -5,19 +5,20 @@
 mod args;
 mod errors;
 mod faults;
-mod input;
-mod matching;
 mod options;
-mod runs;
 mod scan;
-mod turns;
 
 pub use args::{ArgsError, Job, read_args};
-pub use errors::{GenError, RunError, ScanError};
+pub use errors::{GenError, ScanError};
 pub use faults::{Fault, write_fault};
-pub use lexre::{PatternError, PatternErrorKind};
-pub use lexscan::{FromRead, MemorySource, ReadFault, Source};
-pub use lexspec::{SpecError, SpecErrorKind};
-pub use lextab::{MemorySink, Sink, ToWrite, WriteFault};
+pub use lexauto::{BuildError, Limits};
+pub use lexends::{
+    FromRead, MemorySink, MemorySource, ReadFault, Sink, Source, ToWrite, WriteFault,
+};
+pub use lexscan::RunError;
+pub use lexspec::{PatternError, PatternErrorKind, SpecError, SpecErrorKind};
 pub use options::Options;
 pub use scan::scan_spec;
+
+#[cfg(test)]
+mod tests;

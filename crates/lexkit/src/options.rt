@@ -1,18 +1,28 @@
-//! How a specification is read.
+//! How a specification is read, and how large its automaton may be.
 ghost use Rattle.std.specs.Prelude.{◌≡◌, false};
 
-/// What a caller may choose about reading a specification.
-#[derive(Clone, Copy, Debug, Default, PartialEq, Eq)]
+use lexauto::Limits;
+
+/// What a caller may choose about a specification.
+#[derive(Clone, Copy, Debug, PartialEq, Eq)]
 pub struct Options {
     /// Letters of patterns stand for both cases. (flex, Scanner Options: case-insensitive.)
     pub fold: bool,
+    /// The most positions and states of its automaton.
+    pub limits: Limits,
 }
 
 impl Options {
-    /// Patterns as they stand.
+    /// Patterns as they stand, and automata of at most 16,384 positions and 8,192 states.
     pub fn new() -> Options
-        ensures { result ≡ record { fold = false } }
+        ensures { result ≡ record { fold = false; limits = record { positions = 16384; states = 8192 } } }
     {
-        Options { fold: false }
+        Options {
+            fold: false,
+            limits: Limits {
+                positions: 16_384,
+                states: 8_192,
+            },
+        }
     }
 }

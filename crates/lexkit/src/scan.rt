@@ -1,29 +1,25 @@
 //! One scan, by a specification's text.
-ghost use Rattle.std.specs.Prelude.{◌≡◌, ℕ, ◌+◌, ◌-◌, ◌^◌, ◌<◌, ◌≤◌, List, nat_lt, IfOk, IfErr, MatchOption};
-ghost use Rattle.lexmeaning.specs.Spec.{Spec as SpecData};
+ghost use Rattle.std.specs.Prelude.{◌≡◌, ℕ, ◌+◌, ◌-◌, ◌^◌, ◌<◌, ◌≤◌, List, nat_lt};
 ghost use Rattle.lexspec.specs.Views.{spec_of};
-ghost use Rattle.lexkit.specs.Simple.{IsScanned, IsUnrun};
-ghost use Rattle.lexkit.specs.Turns.{run_write_faults};
-ghost use Rattle.lexkit.specs.Reads.{run_read_faults, Scans};
-ghost use Rattle.lexkit.specs.ScanAnswers.{run_of, RefusedRightly};
-ghost use Rattle.lexspec.specs.Files.{SpellsSpec};
-ghost use Rattle.lexlines.specs.Outcome.{UnlessMemory};
+ghost use Rattle.lexkit.specs.Headline.{Headline, ScansBy};
 ghost use Rattle.lexkit.specs.ScanCounts.{read_fault_count, write_fault_count};
 
-use crate::errors::{GenError, RunError, ScanError};
-use crate::input::read_input;
+use crate::errors::{GenError, ScanError};
 use crate::options::Options;
-use crate::runs::test_simple;
-use crate::turns::scan_text;
-use lexre::ReadOptions;
-use lexscan::Source;
-use lexspec::{Spec, SpecError, read_spec};
-use lextab::Sink;
+use lexauto::{Limits, build};
+use lexends::{Sink, Source};
+use lexscan::run;
+use lexspec::{ReadOptions, Spec, read_spec};
+use lextab::Plain;
 use std::alloc::Global;
 
-/// Scans the whole source by this specification, and writes to the sink. It answers the status that the
-/// specification ends with. A text that is no specification is refused, and then neither the source nor the sink
-/// is touched.
+/// How many reads a scan makes at most: 2^40.
+const MAX_READS: u64 = 1_099_511_627_776;
+
+/// Scans the source by the specification that a text spells, and writes to the sink. It answers the status that the
+/// specification ends with, 0 to 63, and takes no byte of the source that no rule asks for. A text that spells no
+/// specification, or one whose automaton passes the limits, is refused, and then neither the source nor the sink is
+/// touched.
 pub fn scan_spec<S: Source, K: Sink>(
     alloc: Global,
     text: &[u8],
@@ -31,80 +27,62 @@ pub fn scan_spec<S: Source, K: Sink>(
     source: &mut S,
     sink: &mut K,
 ) -> Result<u8, ScanError>
+    requires few_positions { options.limits.positions ≤ 16384 }
+    requires few_states { options.limits.states ≤ 8192 }
     requires few_ends { S.ends source.old < 2 ^ 64 - 1 }
     requires few_read_faults { S.failures source.old < 2 ^ 64 - 1 }
     requires few_write_faults { K.failures sink.old < 2 ^ 64 - 1 }
-    ensures told { MatchOption (run_of result) ((source.new ≡ source.old) × (sink.new ≡ sink.old))
-        (λ answer. (spec : SpecData) × (given : List ℕ) × (out : List ℕ) × SpellsSpec options.fold text.now spec × S.gave source.old given source.new × K.wrote sink.old out sink.new
-        × Scans spec given (nat_lt (S.ends source.old) (S.ends source.new)) out answer) }
-    ensures refused { RefusedRightly options.fold text.now result }
+    ensures told { Headline S.gave K.wrote options text.now (nat_lt (S.ends source.old) (S.ends source.new)) source.old source.new sink.old sink.new result }
     ensures read_faults { S.failures source.new ≡ S.failures source.old + read_fault_count result }
     ensures write_faults { K.failures sink.new ≡ K.failures sink.old + write_fault_count result }
     ensures ends_stay { S.ends source.old ≤ S.ends source.new }
     ensures one_end { S.ends source.new ≤ S.ends source.old + 1 }
 {
-    match read_run(alloc, text, options) {
-        Err(error) => Err(ScanError::Generate(GenError::Spec(error))),
-        Ok(spec) => match scan_source(alloc, &spec, source, sink) {
-            Err(fault) => Err(ScanError::Run(fault)),
-            Ok(status) => Ok(status),
-        },
-    }
-}
-
-/// The specification of a text, if it is run.
-fn read_run(alloc: Global, text: &[u8], options: Options) -> Result<Spec, SpecError>
-    ensures found { IfOk result (λ spec. SpellsSpec options.fold text.now (spec_of spec)) }
-    ensures run { IfOk result (λ spec. IsScanned (spec_of spec)) }
-    ensures none { IfErr result (λ e. UnlessMemory e.kind ((spec : SpecData) → SpellsSpec options.fold text.now spec → IsUnrun spec e)) }
-{
     let read = ReadOptions { fold: options.fold };
-    match read_spec(alloc, text, read) {
-        Err(error) => Err(error),
-        Ok(spec) => match test_simple(&spec) {
-            Err(error) => Err(error),
-            Ok(()) => Ok(spec),
-        },
-    }
+    let spec = match read_spec(alloc, text, read) {
+        Err(error) => return Err(ScanError::Generate(GenError::Spec(error))),
+        Ok(spec) => spec,
+    };
+    scan_by(alloc, &spec, options.limits, source, sink)
 }
 
-/// Scans the whole source by this specification.
-fn scan_source<S: Source, K: Sink>(
+/// Scans the source by a specification: builds its automaton, and runs the scanner over it.
+fn scan_by<S: Source, K: Sink>(
     alloc: Global,
     spec: &Spec,
+    limits: Limits,
     source: &mut S,
     sink: &mut K,
-) -> Result<u8, RunError>
-    requires scanned { IsScanned (spec_of spec.now) }
+) -> Result<u8, ScanError>
+    requires few_positions { limits.positions ≤ 16384 }
+    requires few_states { limits.states ≤ 8192 }
     requires few_ends { S.ends source.old < 2 ^ 64 - 1 }
     requires few_read_faults { S.failures source.old < 2 ^ 64 - 1 }
     requires few_write_faults { K.failures sink.old < 2 ^ 64 - 1 }
-    ensures told { (given : List ℕ) × (out : List ℕ) × S.gave source.old given source.new × K.wrote sink.old out sink.new
-        × Scans (spec_of spec.now) given (nat_lt (S.ends source.old) (S.ends source.new)) out result }
-    ensures read_faults { S.failures source.new ≡ S.failures source.old + run_read_faults result }
-    ensures write_faults { K.failures sink.new ≡ K.failures sink.old + run_write_faults result }
+    ensures told { ScansBy S.gave K.wrote limits (spec_of spec.now) (nat_lt (S.ends source.old) (S.ends source.new)) source.old source.new sink.old sink.new result }
+    ensures read_faults { S.failures source.new ≡ S.failures source.old + read_fault_count result }
+    ensures write_faults { K.failures sink.new ≡ K.failures sink.old + write_fault_count result }
     ensures ends_stay { S.ends source.old ≤ S.ends source.new }
     ensures one_end { S.ends source.new ≤ S.ends source.old + 1 }
 {
-    match read_input(alloc, source) {
-        Err(fault) => Err(fault),
-        Ok(input) => match scan_text(alloc, spec, &input, sink) {
-            Err(fault) => Err(fault),
-            Ok(()) => match sink.flush() {
-                Err(_) => Err(RunError::Write),
-                Ok(()) => Ok(0),
-            },
-        },
+    let automaton = match build(alloc, spec, limits) {
+        Err(error) => return Err(ScanError::Generate(GenError::Build(error))),
+        Ok(automaton) => automaton,
+    };
+    let machine = Plain::new(&automaton, spec);
+    match run(alloc, &machine, source, sink, MAX_READS) {
+        Err(fault) => Err(ScanError::Run(fault)),
+        Ok(status) => Ok(status),
     }
 }
 
 #[cfg(test)]
 mod tests {
     use super::*;
-    use lexre::{PatternError, PatternErrorKind};
-    use lexscan::MemorySource;
-    use lexspec::SpecErrorKind;
-    use lextab::MemorySink;
+    use lexauto::BuildError;
+    use lexends::{MemorySink, MemorySource};
+    use lexscan::RunError;
+    use lexspec::{PatternError, PatternErrorKind, SpecError, SpecErrorKind};
 
     // Whether letters stand for both cases, a specification, an input, and what is written.
     const SCANS: [(bool, &[u8], &[u8], &[u8]); 23] = [
@@ -199,7 +177,16 @@ mod tests {
         for &(fold, text, input, want) in &SCANS {
             let mut source = MemorySource::new(input);
             let mut sink = MemorySink::new(alloc);
-            let got = scan_spec(alloc, text, Options { fold }, &mut source, &mut sink);
+            let got = scan_spec(
+                alloc,
+                text,
+                Options {
+                    fold,
+                    ..Options::new()
+                },
+                &mut source,
+                &mut sink,
+            );
             assert!(rt; got == Ok(0), "{got:?}");
             assert_eq!(rt; sink.written(), want);
         }
@@ -222,12 +209,21 @@ mod tests {
     #[test]
     fn stops_at_faults(rt: HostRuntime) {
         let alloc = rt.alloc();
-        for place in 0..7usize {
+        for &(place, written) in &[
+            (0usize, ""),
+            (1, ""),
+            (2, "K"),
+            (3, "K "),
+            (4, "K "),
+            (5, "K N"),
+            (6, "K N "),
+            (7, "K N x"),
+        ] {
             let mut source = MemorySource::failing_after(b"if 42 x", place);
             let mut sink = MemorySink::new(alloc);
             let got = scan_spec(alloc, KEYS, Options::new(), &mut source, &mut sink);
             assert!(rt; got == Err(ScanError::Run(RunError::Read)), "{got:?}");
-            assert_eq!(rt; sink.written(), b"".as_slice());
+            assert_eq!(rt; sink.written(), written.as_bytes());
         }
         for place in 0..5usize {
             let mut source = MemorySource::new(b"if 42 x");
@@ -243,9 +239,8 @@ mod tests {
         assert_eq!(rt; sink.written(), b"K".as_slice());
     }
 
-    // A text that is refused, the line, and what is told of it: first those that are no specification, then those that are
-    // not run yet.
-    const REFUSALS: [(&[u8], u32, SpecErrorKind); 22] = [
+    // A text that is refused, the line, and what is told of it.
+    const REFUSALS: [(&[u8], u32, SpecErrorKind); 10] = [
         (b"", 1, SpecErrorKind::NoRulesSection),
         (b"\n\n", 3, SpecErrorKind::NoRulesSection),
         (b"\nD\n%%\n", 2, SpecErrorKind::BadDefinitionLine),
@@ -256,42 +251,6 @@ mod tests {
         (b"%%\na{0} ;", 2, BAD_INTERVAL),
         (b"%%\na return 1;", 2, SpecErrorKind::UnknownStatement),
         (b"%option stack\n%%\n", 1, SpecErrorKind::UnsupportedOption),
-        (
-            b"%x C\n%%\na ;\n<C>a ;",
-            4,
-            SpecErrorKind::UnsupportedOption,
-        ),
-        (b"%%\n<*>a ;", 2, SpecErrorKind::UnsupportedOption),
-        (b"%%\na ;\n^b ;", 3, SpecErrorKind::UnsupportedOption),
-        (b"%%\na/b ;", 2, SpecErrorKind::UnsupportedOption),
-        (b"%%\na$ ;", 2, SpecErrorKind::UnsupportedOption),
-        (b"%%\na BEGIN(0);", 2, SpecErrorKind::UnsupportedOption),
-        (
-            b"%%\na exit(1);\nb REJECT;",
-            2,
-            SpecErrorKind::UnsupportedOption,
-        ),
-        (b"%%\na yymore();", 2, SpecErrorKind::UnsupportedOption),
-        (
-            b"%%\na ;\nb yyless(1);",
-            3,
-            SpecErrorKind::UnsupportedOption,
-        ),
-        (
-            b"%%\n<<EOF>> puts(\"end\");\na REJECT;",
-            3,
-            SpecErrorKind::UnsupportedOption,
-        ),
-        (
-            b"%%\n<<EOF>> exit(1);\na ;",
-            0,
-            SpecErrorKind::UnsupportedOption,
-        ),
-        (
-            b"%x C\n%%\n<C><<EOF>> puts(\"end\");\na ;",
-            0,
-            SpecErrorKind::UnsupportedOption,
-        ),
     ];
 
     const BAD_RANGE: SpecErrorKind = SpecErrorKind::Pattern(PatternError {
@@ -319,5 +278,41 @@ mod tests {
             assert!(rt; source.calls() == 0, "untouched");
             assert_eq!(rt; sink.written(), b"".as_slice());
         }
+    }
+
+    /// What a scan answers, and how often the source was called.
+    fn limited(alloc: Global, text: &[u8], limits: Limits) -> (Result<u8, ScanError>, u64)
+        requires few_positions { limits.positions ≤ 16384 }
+        requires few_states { limits.states ≤ 8192 }
+    {
+        let mut source = MemorySource::new(b"a");
+        let mut sink = MemorySink::new(alloc);
+        let options = Options {
+            fold: false,
+            limits,
+        };
+        let got = scan_spec(alloc, text, options, &mut source, &mut sink);
+        (got, source.calls())
+    }
+
+    #[test]
+    fn refuses_automata_that_pass_a_limit(rt: HostRuntime) {
+        let alloc = rt.alloc();
+        let positions = BuildError::TooManyPositions;
+        let got = limited(alloc, b"%%\n(a{255}){65} ;\n", Options::new().limits);
+        assert!(rt;
+            got == (Err(ScanError::Generate(GenError::Build(positions))), 0),
+            "{got:?}"
+        );
+        let few = Limits {
+            positions: 3,
+            states: 4,
+        };
+        let states = BuildError::TooManyStates;
+        let got = limited(alloc, b"%%\nabc ;\n", few);
+        assert!(rt;
+            got == (Err(ScanError::Generate(GenError::Build(states))), 0),
+            "{got:?}"
+        );
     }
 }

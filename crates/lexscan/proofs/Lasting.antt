@@ -12,8 +12,8 @@ use Rattle.lexmeaning.proofs.MachineRun.{machine_candidates_exist}
 use Rattle.lexmeaning.proofs.Ends.{Grows}
 use Rattle.lexmeaning.proofs.Growth.{turns_grow, falls}
 use Rattle.lexscan.specs.declared.state.State.{State}
-use Rattle.lexscan.specs.declared.reading.RunError.{RunError}
-use Rattle.lexscan.specs.declared.reading.RunError.TheVariants.{TooManyReads}
+use Rattle.lexscan.specs.declared.error.RunError.{RunError}
+use Rattle.lexscan.specs.declared.error.RunError.TheVariants.{TooManyReads}
 use Rattle.lexscan.specs.Reads.{end_step}
 use Rattle.lexscan.specs.Descends.{ending_of}
 use Rattle.lexscan.specs.Stands.{state_of, Stands, Fell, NoneAfterEnd}

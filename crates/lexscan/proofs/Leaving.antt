@@ -1,12 +1,12 @@
 -- How a turn leaves the plain state.
 use Rattle.std.proofs.Common.{◌≡◌, ℕ, List, inl, inr, Result, Ok, Err, sym, ap, subst}
 use Rattle.std.specs.Prelude.{IfOk, OnErr}
-use Rattle.lextab.specs.Sink.{Appended}
+use Rattle.lexends.specs.Sink.{Appended}
 use Rattle.lexmeaning.specs.Machine.{Machine}
 use Rattle.lexscan.specs.declared.state.Reading.{Reading}
 use Rattle.lexscan.specs.declared.state.State.{State}
 use Rattle.lexscan.specs.declared.turn.Turn.{Turn}
-use Rattle.lexscan.specs.declared.reading.RunError.{RunError}
+use Rattle.lexscan.specs.declared.error.RunError.{RunError}
 use Rattle.lexscan.specs.Reads.{Took}
 use Rattle.lexscan.specs.Sees.{Saw, SawEnd}
 use Rattle.lexscan.specs.Descends.{matches_of, CutAll}

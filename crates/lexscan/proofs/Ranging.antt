@@ -4,7 +4,7 @@ use Rattle.lexmeaning.specs.Machine.{Machine, rules_of_machine}
 use Rattle.lexmeaning.specs.MachineLaws.{MachineLaws}
 use Rattle.lexscan.specs.declared.state.State.{State}
 use Rattle.lexscan.specs.declared.turn.Turn.{Turn}
-use Rattle.lexscan.specs.declared.reading.RunError.{RunError}
+use Rattle.lexscan.specs.declared.error.RunError.{RunError}
 use Rattle.lexscan.specs.Acts.{acting_of}
 use Rattle.lexscan.specs.Descends.{matches_of, ending_of}
 use Rattle.lexscan.specs.Moves.{Moved}

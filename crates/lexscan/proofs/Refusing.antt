@@ -20,8 +20,8 @@ use Rattle.lexmeaning.proofs.Texts.{is_text_append}
 use Rattle.lexmeaning.proofs.Wanted.{WantsMore, wanted_far, wanted_end}
 use Rattle.lexmeaning.proofs.Written.{run_begins, part_begins}
 use Rattle.lexscan.specs.declared.state.State.{State}
-use Rattle.lexscan.specs.declared.reading.RunError.{RunError}
-use Rattle.lexscan.specs.declared.reading.RunError.TheVariants.{TooManyReads}
+use Rattle.lexscan.specs.declared.error.RunError.{RunError}
+use Rattle.lexscan.specs.declared.error.RunError.TheVariants.{TooManyReads}
 use Rattle.lexscan.specs.Sees.{Saw, SawEnd, Wants, Unmet}
 use Rattle.lexscan.specs.Descends.{outcome, matches_of, CutAll, ending_of}
 use Rattle.lexscan.specs.Moves.{Refused}

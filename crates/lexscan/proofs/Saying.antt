@@ -8,8 +8,8 @@ use Rattle.lexmeaning.specs.Acting as Scan
 use Rattle.lexmeaning.specs.Acting.{Went, act}
 use Rattle.lexscan.specs.declared.act.Acting.{Acting}
 use Rattle.lexscan.specs.declared.act.Step.{Step}
-use Rattle.lexaction.specs.declared.statement.Statement.{Statement as Item}
-use Rattle.lexaction.specs.Views.{statement_of}
+use Rattle.lexmachine.specs.declared.action.Statement.{Statement as Item}
+use Rattle.lexmachine.specs.Views.{statement_of}
 use Rattle.lexscan.specs.Acts.{acting_of, said, after_step, Steps, written_of, Carried, CutShort, CarriedTo}
 
 abbrev pub IsPrefixOf : List ℕ → List ℕ → Type 0

@@ -1,8 +1,3 @@
-pub mod Adapters
-pub mod Memory
-pub mod Source
-pub mod SourceLaws
-pub mod Taking
 pub mod Window
 pub mod Answer
 pub mod Reads

@@ -7,7 +7,7 @@ use Rattle.lexscan.specs.declared.state.Spot.{Spot}
 use Rattle.lexscan.specs.declared.state.State.{State}
 use Rattle.lexscan.specs.declared.act.Acting.{Acting}
 use Rattle.lexscan.specs.declared.turn.Turn.{Turn}
-use Rattle.lexscan.specs.declared.reading.RunError.{RunError}
+use Rattle.lexscan.specs.declared.error.RunError.{RunError}
 use Rattle.lexscan.specs.Reads.{Took}
 use Rattle.lexscan.specs.Sees.{Saw, SawEnd, Unmet}
 use Rattle.lexscan.specs.Descends.{matches_of, Performed, CutAll}

@@ -2,8 +2,8 @@
 use Rattle.std.specs.Prelude.{◌≡◌, ℕ, ◌+◌, ◌<◌, max, Bool, true, false, List, [], ◌++◌, length, Option, Some, None, Result, Ok, Err}
 use Rattle.lexmeaning.specs.Text.{IsText}
 use Rattle.lexscan.specs.declared.state.Reading.{Reading}
-use Rattle.lexscan.specs.declared.reading.RunError.{RunError}
-use Rattle.lexscan.specs.declared.reading.RunError.TheVariants.{Read, Write}
+use Rattle.lexscan.specs.declared.error.RunError.{RunError}
+use Rattle.lexscan.specs.declared.error.RunError.TheVariants.{Read, Write}
 
 -- The source gave these bytes, and they were appended to the window.
 pub record Took {S : Type 0} (gave : S → List ℕ → S → Type 0) (s t : S) (old new : Reading) : Type 0 where

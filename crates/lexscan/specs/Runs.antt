@@ -8,8 +8,8 @@ use Rattle.lexmeaning.specs.Demand.{Consistent}
 use Rattle.lexmeaning.specs.Scanned.{Scanned}
 use Rattle.lexmeaning.specs.Machine.{Machine}
 use Rattle.lexscan.specs.declared.state.State.{State}
-use Rattle.lexscan.specs.declared.reading.RunError.{RunError}
-use Rattle.lexscan.specs.declared.reading.RunError.TheVariants.{TooManyReads}
+use Rattle.lexscan.specs.declared.error.RunError.{RunError}
+use Rattle.lexscan.specs.declared.error.RunError.TheVariants.{TooManyReads}
 use Rattle.lexscan.specs.Stands.{Stands, GaveUp}
 
 -- After some turns these bytes were given and written.

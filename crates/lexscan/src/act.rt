@@ -1,15 +1,15 @@
 //! What the action of a match does.
 ghost use Rattle.std.specs.Prelude.{◌≡◌, ℕ, ◌+◌, ◌-◌, ◌^◌, ◌<◌, ◌≤◌, List, [], length, take, map, true, false, OnOk, OnErr, IfOk, IfErr};
-ghost use Rattle.lextab.specs.Sink.{Appended, fault_count};
+ghost use Rattle.lexends.specs.Sink.{Appended, fault_count};
 ghost use Rattle.lexscan.specs.Reads.{write_fault_count};
-ghost use Rattle.lexaction.specs.Views.{statement_of};
+ghost use Rattle.lexmachine.specs.Views.{statement_of};
 ghost use Rattle.lexscan.specs.Acts.{said, Steps, Carried, CutShort};
 
 use crate::intake::Outlet;
-use crate::reading::RunError;
+use crate::error::RunError;
 use crate::window::Window;
-use lexaction::Statement;
-use lextab::Sink;
+use lexmachine::Statement;
+use lexends::Sink;
 
 /// The text's end in the window, the condition of the next match, and whether the next text is appended to this one.
 #[derive(Clone, Copy, Debug, PartialEq, Eq)]

@@ -2,17 +2,18 @@
 ghost use Rattle.std.specs.Prelude.{◌≡◌, ℕ, ◌+◌, ◌-◌, ◌^◌, ◌<◌, ◌≤◌, List, [], length, filter_map, true, false, OnOk, OnErr, IfOk, IfErr, IfSome};
 ghost use Rattle.lexmeaning.specs.Text.{Among};
 ghost use Rattle.lexmeaning.specs.PlainMachine.{kept_by, match_of};
-ghost use Rattle.lexspec.specs.RuleViews.{cut_of};
+ghost use Rattle.lexmachine.specs.Views.{cut_of};
 ghost use Rattle.lexscan.specs.Reads.{write_fault_count};
 ghost use Rattle.lexscan.specs.Descends.{matches_of, Tried, CutOff, CutAll, Performed};
 
 use crate::act::{Acting, Step, carry_out, put};
 use crate::intake::Outlet;
-use crate::reading::RunError;
+use crate::error::RunError;
 use crate::trail::Trail;
 use crate::window::Window;
-use lexspec::Cut;
-use lextab::{Machine, Sink};
+use lexmachine::Cut;
+use lexends::Sink;
+use lexmachine::Machine;
 
 /// What a cut keeps of a match of so many bytes, if it fits.
 pub fn kept(cut: Cut, len: usize) -> Option<usize>

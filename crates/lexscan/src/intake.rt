@@ -1,11 +1,10 @@
 //! The two ends of a scan, each with what is known of its count of failures.
 ghost use Rattle.std.specs.Prelude.{◌≡◌, ℕ, ◌+◌, ◌-◌, ◌^◌, ◌<◌, ◌≤◌, List, [], ◌++◌, length, true, false, is_ok, OnOk, OnErr};
-ghost use Rattle.lexscan.specs.Source.{given, end_count};
-ghost use Rattle.lextab.specs.Sink.{Appended, fault_count};
+ghost use Rattle.lexends.specs.Source.{given, end_count};
+ghost use Rattle.lexends.specs.Sink.{Appended, fault_count};
 ghost use Rattle.lexscan.specs.Answer.{gives_byte};
 
-use crate::source::{ReadFault, Source};
-use lextab::{Sink, WriteFault};
+use lexends::{ReadFault, Sink, Source, WriteFault};
 
 /// A source that may be called until it has failed or ended.
 #[derive(Drop)]

@@ -3,7 +3,7 @@ ghost use Rattle.std.specs.Prelude.{◌≡◌, ℕ, ◌+◌, ◌-◌, ◌^◌, �
 ghost use Rattle.lexmeaning.specs.Text.{Among};
 ghost use Rattle.lexmeaning.specs.PlainMachine.{match_of};
 ghost use Rattle.lexmeaning.specs.Trail.{falling};
-ghost use Rattle.lextab.specs.Rejecting.{NoReject};
+ghost use Rattle.lexmachine.specs.Rejecting.{NoReject};
 ghost use Rattle.lexscan.specs.Reads.{write_fault_count};
 ghost use Rattle.lexscan.specs.Descends.{matches_of, CutAll, Performed};
 ghost use Rattle.lexscan.specs.Picks.{IsFirst, Tells, trail_of};
@@ -11,10 +11,11 @@ ghost use Rattle.lexscan.specs.Picks.{IsFirst, Tells, trail_of};
 use crate::act::{Acting, Step, carry_out, put};
 use crate::descent::kept;
 use crate::intake::Outlet;
-use crate::reading::RunError;
+use crate::error::RunError;
 use crate::state::Spot;
 use crate::window::Window;
-use lextab::{Machine, Sink};
+use lexends::Sink;
+use lexmachine::Machine;
 
 /// How many bytes a match asked for, the state after them, and the one before the last of them.
 #[derive(Clone, Copy)]

@@ -1,29 +1,14 @@
 //! What a scanner keeps of its source.
 ghost use Rattle.std.specs.Prelude.{◌≡◌, ℕ, ◌+◌, ◌-◌, ◌^◌, ◌<◌, ◌≤◌, List, [], ◌∷◌, ◌++◌, length, true, false, OnOk, OnErr, IfOk, IfErr, IsErrOf, ◌⊎◌, if◌then◌else◌};
-ghost use Rattle.lexscan.specs.Source.{given};
+ghost use Rattle.lexends.specs.Source.{given};
 ghost use Rattle.lexmeaning.specs.Text.{IsText};
 ghost use Rattle.lexscan.specs.Reads.{Took, IsThere, IsWanted, IsShort, is_end, read_fault_count, end_step};
 
+use crate::error::RunError;
 use crate::intake::Intake;
-use crate::source::Source;
 use crate::state::Reading;
 use crate::trail::Trail;
-use thiserror::Error;
-
-/// Why a turn was refused.
-#[derive(Clone, Copy, Debug, PartialEq, Eq, Error)]
-pub enum RunError {
-    #[error("read fault")]
-    Read,
-    #[error("too many reads")]
-    TooManyReads,
-    #[error("write fault")]
-    Write,
-    #[error("out of memory")]
-    OutOfMemory,
-    #[error("failed")]
-    Failed,
-}
+use lexends::Source;
 
 /// Takes the next byte into the window, or learns that there is none.
 #[inline]

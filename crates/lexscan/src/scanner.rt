@@ -4,12 +4,12 @@ ghost use Rattle.lexscan.specs.Reads.{read_fault_count, write_fault_count, end_s
 ghost use Rattle.lexscan.specs.Stands.{NoneAfterEnd, GoesOn, Stands};
 
 use crate::intake::{Intake, Outlet};
-use crate::reading::RunError;
-use crate::source::Source;
+use crate::error::RunError;
 use crate::state::State;
 use crate::trail::Trail;
 use crate::turn::{Turn, turn_of};
-use lextab::{Machine, Sink};
+use lexends::{Sink, Source};
+use lexmachine::Machine;
 use std::alloc::Global;
 
 /// A scan of a source by a machine, to a sink.

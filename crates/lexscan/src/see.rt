@@ -7,11 +7,12 @@ ghost use Rattle.lexscan.specs.Picks.{SawSome, Tells};
 
 use crate::intake::Intake;
 use crate::pick::Seen;
-use crate::reading::{RunError, fetch, fetch_byte};
-use crate::source::Source;
+use crate::error::RunError;
+use crate::reading::{fetch, fetch_byte};
+use lexends::Source;
 use crate::state::{Reading, Spot};
 use crate::trail::Trail;
-use lextab::Machine;
+use lexmachine::Machine;
 
 /// Takes the bytes that a match asks for, and keeps the states after them. Answers false where there is none.
 pub fn see<M: Machine, S: Source>(

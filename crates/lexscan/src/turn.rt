@@ -1,11 +1,11 @@
 //! A scan, one turn at a time, over the parts of a scanner.
 ghost use Rattle.std.specs.Prelude.{◌≡◌, ℕ, ◌+◌, ◌-◌, ◌^◌, ◌<◌, ◌≤◌, List, [], ◌∷◌, ◌++◌, length, true, false, Some, None, Ok, Err, OnOk, OnErr, IfOk, IfErr, IsErrOf, nat_eq, get_or};
-ghost use Rattle.lextab.specs.Sink.{Appended};
+ghost use Rattle.lexends.specs.Sink.{Appended};
 ghost use Rattle.lexmeaning.specs.Text.{Among};
 ghost use Rattle.lexscan.specs.Reads.{read_fault_count, write_fault_count, end_step};
 ghost use Rattle.lexscan.specs.Sees.{Wants};
 ghost use Rattle.lexscan.specs.Descends.{matches_of, CutAll};
-ghost use Rattle.lextab.specs.Rejecting.{NoReject};
+ghost use Rattle.lexmachine.specs.Rejecting.{NoReject};
 ghost use Rattle.lexscan.specs.Picks.{Tells, trail_of};
 ghost use Rattle.lexscan.specs.Stands.{NoneAfterEnd, GoesOn};
 ghost use Rattle.lexscan.specs.Moves.{stays, left_bytes, left_at, Left, Acted, EndLeft, Moved};
@@ -14,12 +14,12 @@ use crate::act::{Acting, put};
 use crate::descent::descend;
 use crate::intake::{Intake, Outlet};
 use crate::pick::{Seen, carry_pick, longest};
-use crate::reading::RunError;
+use crate::error::RunError;
 use crate::see::{see, see_last};
-use crate::source::Source;
 use crate::state::State;
 use crate::trail::Trail;
-use lextab::{Machine, Sink};
+use lexends::{Sink, Source};
+use lexmachine::Machine;
 
 /// What a turn did.
 #[derive(Clone, Copy, Debug, PartialEq, Eq)]

@@ -6,12 +6,12 @@ ghost use Rattle.lexscan.specs.Stands.{Stands};
 ghost use Rattle.lexscan.specs.Runs.{Ran};
 
 use crate::intake::{Intake, Outlet};
-use crate::reading::RunError;
-use crate::source::Source;
+use crate::error::RunError;
 use crate::state::State;
 use crate::trail::Trail;
 use crate::turn::{Turn, turn_of};
-use lextab::{Machine, Sink};
+use lexends::{Sink, Source};
+use lexmachine::Machine;
 use std::alloc::Global;
 
 /// Turns until the end. Answers the status.
@@ -25,9 +25,10 @@ pub fn run<M: Machine, S: Source, K: Sink>(
     requires few_ends { S.ends source.old < 2 ^ 64 - 1 }
     requires few_reads { S.failures source.old < 2 ^ 64 - 1 }
     requires few_writes { K.failures sink.old < 2 ^ 64 - 1 }
-
     ensures ran { (given : List ℕ) × (out : List ℕ) × S.gave source.old given source.new × K.wrote sink.old out sink.new
         × Ran (rules_of_machine (M.machine machine.now)) given out (nat_lt (S.ends source.old) (S.ends source.new)) max_reads result }
+    ensures ends_stay { S.ends source.old ≤ S.ends source.new }
+    ensures one_end { S.ends source.new ≤ S.ends source.old + 1 }
     ensures read_faults { S.failures source.new ≡ S.failures source.old + read_fault_count result }
     ensures write_faults { K.failures sink.new ≡ K.failures sink.old + write_fault_count result }
     ensures not_failed { IsErrOf result RunError.Failed → ⊥ }
@@ -62,6 +63,8 @@ fn run_turns<M: Machine, S: Source, K: Sink>(
     ensures ran { (given : List ℕ) × (out : List ℕ) × S.gave intake.old.source.now given intake.new.source.now
         × K.wrote outlet.old.sink.now out outlet.new.sink.now
         × Ran (rules_of_machine (M.machine machine.now)) given out (nat_lt (S.ends intake.old.source.now) (S.ends intake.new.source.now)) state.old.reading.max_reads result }
+    ensures ends_stay { S.ends intake.old.source.now ≤ S.ends intake.new.source.now }
+    ensures one_end { S.ends intake.new.source.now ≤ S.ends intake.old.source.now + 1 }
     ensures read_faults { S.failures intake.new.source.now ≡ S.failures intake.old.source.now + read_fault_count result }
     ensures write_faults { K.failures outlet.new.sink.now ≡ K.failures outlet.old.sink.now + write_fault_count result }
     ensures not_failed { IsErrOf result RunError.Failed → ⊥ }

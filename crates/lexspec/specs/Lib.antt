@@ -19,3 +19,5 @@ pub mod EndRules
 pub mod Keeping
 pub mod Readings
 pub mod RuleExamples
+pub mod Refusals
+pub use Rattle.lexlines.specs.Outcome

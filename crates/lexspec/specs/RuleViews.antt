@@ -3,13 +3,8 @@ use Rattle.std.specs.Prelude.{map, option_map}
 use Rattle.lexmeaning.specs.Spec as S
 use Rattle.lexre.specs.Views.{tree_of}
 use Rattle.lexaction.specs.Views.{statement_of}
-use Rattle.lexspec.specs.declared.rule.Cut.{Cut}
+pub use Rattle.lexmachine.specs.Views.{cut_of}
 use Rattle.lexspec.specs.declared.rule.Rule.{Rule}
-
-abbrev pub cut_of : Cut → S.Cut
-cut_of Cut.Whole = S.Whole
-cut_of (Cut.Head m) = S.Head m
-cut_of (Cut.Trail n) = S.Trail n
 
 abbrev pub rule_of : Rule → S.Rule
 rule_of r = record {

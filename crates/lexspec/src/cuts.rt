@@ -6,7 +6,7 @@ ghost use Rattle.lexspec.specs.RuleItems.{HasFixed, IsCutOf};
 ghost use Rattle.lexspec.specs.RuleViews.{cut_of};
 ghost use Rattle.lexmeaning.specs.Spec.{Cut as Meant};
 
-use crate::rule::Cut;
+use lexmachine::Cut;
 use lexre::{Pattern, lengths};
 
 /// The length of each word of the pattern, where they have one length of at most 65,535 bytes.

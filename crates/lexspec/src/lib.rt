@@ -22,8 +22,10 @@ pub use laws::{
 };
 pub use lexaction::{Condition, EndAction, Statement};
 pub use lexlines::{SpecError, SpecErrorKind};
+pub use lexmachine::Cut;
+pub use lexre::{PatternError, PatternErrorKind, ReadOptions};
 pub use reading::read_spec;
-pub use rule::{Cut, Rule};
+pub use rule::Rule;
 pub use spec::Spec;
 
 #[cfg(test)]

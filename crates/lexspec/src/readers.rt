@@ -1,28 +1,15 @@
 //! What callers read of a specification.
 ghost use Rattle.std.specs.Prelude.{◌≡◌, true, map};
-ghost use Rattle.lexmeaning.specs.Spec.{has_reject, rejects};
-ghost use Rattle.lexaction.specs.Views.{condition_of, statement_of};
+ghost use Rattle.lexmeaning.specs.Spec.{rejects};
+ghost use Rattle.lexaction.specs.Views.{condition_of};
 ghost use Rattle.lexspec.specs.RuleViews.{rule_of};
 ghost use Rattle.lexspec.specs.Views.{spec_of, skipped_in, conditions_in, rules_in};
 ghost use Rattle.lexspec.specs.Tests.{is_sound};
 
 use crate::rule::Rule;
 use crate::spec::Spec;
-use lexaction::{Condition, Statement};
-
-impl Rule {
-    /// Whether its action has REJECT.
-    fn has_reject(&self) -> bool
-        ensures { result ≡ has_reject (map statement_of self.now.statements.items) }
-    {
-        for i in 0..self.statements.len() {
-            if matches!(self.statements[i], Statement::Reject) {
-                return true;
-            }
-        }
-        false
-    }
-}
+use lexaction::Condition;
+use lexmachine::has_reject;
 
 impl Spec {
     /// A specification of these conditions and rules. `skipped` has the lines of skipped code.
@@ -58,7 +45,7 @@ impl Spec {
         ensures { result ≡ rejects (spec_of self.now) }
     {
         for i in 0..self.rules.len() {
-            if self.rules[i].has_reject() {
+            if has_reject(&self.rules[i].statements) {
                 return true;
             }
         }

@@ -5,11 +5,10 @@ ghost use Rattle.lexauto.specs.Automata.{machine_of, conditions_of, states_of};
 ghost use Rattle.lexspec.specs.Views.{spec_of, conditions_in};
 ghost use Rattle.lextab.specs.Plain.{plain_machine};
 
-use crate::machine::Machine;
 use crate::plain::Plain;
-use lexaction::{EndAction, Statement};
 use lexauto::Dfa;
-use lexspec::{Cut, Spec};
+use lexmachine::{Cut, EndAction, Machine, Statement};
+use lexspec::Spec;
 
 impl<'a> Plain<'a> {
     /// The machine of an automaton for this specification.

@@ -2,7 +2,7 @@ use Rattle.std.proofs.Common.{ℕ, sym, ap, ◌∙◌, arith}
 use Rattle.std.specs.Prelude.{map, filter_map}
 use Rattle.lexmeaning.specs.Machine.{Machine}
 use Rattle.lexmeaning.specs.PlainMachine.{kept_by, match_of}
-use Rattle.lexaction.specs.Views.{statement_of}
+use Rattle.lexmachine.specs.Views.{statement_of}
 use Rattle.lexscan.specs.declared.act.Step.TheVariants as Step
 use Rattle.lexscan.proofs.Descending as Down
 use Rattle.lexscan.proofs.descent.try_rules.Goals as goal

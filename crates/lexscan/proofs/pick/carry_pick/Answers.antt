@@ -1,6 +1,6 @@
 use Rattle.std.proofs.Common.{◌≡◌, ℕ, ◌+◌, ◌-◌, List, take, ap, subst, ◌∙◌, arith}
 use Rattle.std.specs.Prelude.{map}
-use Rattle.lexaction.specs.Views.{statement_of}
+use Rattle.lexmachine.specs.Views.{statement_of}
 use Rattle.lexmeaning.specs.Text.{BeginsWith}
 use Rattle.lexmeaning.specs.Machine.{Machine}
 use Rattle.lexscan.specs.declared.act.Step.TheVariants as Step

@@ -2,7 +2,7 @@ use Rattle.std.proofs.Common.{◌≡◌, ℕ, ◌++◌, true, false, List, [], �
 use Rattle.lexmeaning.specs.Machine.{Machine}
 use Rattle.lexmeaning.specs.MachineLaws.{MachineLaws}
 use Rattle.lexscan.specs.declared.state.State.{State}
-use Rattle.lexscan.specs.declared.reading.RunError.TheVariants.{TooManyReads}
+use Rattle.lexscan.specs.declared.error.RunError.TheVariants.{TooManyReads}
 use Rattle.lexscan.specs.Sees.{Wants}
 use Rattle.lexscan.specs.Moves.{Matched, Finished, Refused, Why, Says}
 use Rattle.lexscan.specs.Stands.{NoneAfterEnd, GoesOn, Stands, Fell}

@@ -1,0 +1,12 @@
+//! The two ends of a scan: a source of bytes and a sink for them, which tell what each call gave or wrote.
+#![tactic(auto)]
+
+mod memory_sink;
+mod memory_source;
+mod sink;
+mod source;
+
+pub use memory_sink::MemorySink;
+pub use memory_source::MemorySource;
+pub use sink::{Sink, ToWrite, WriteFault};
+pub use source::{FromRead, ReadFault, Source};

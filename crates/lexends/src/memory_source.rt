@@ -1,0 +1,166 @@
+//! A source over memory that pauses once, at a stated place, for tests.
+ghost use Rattle.std.specs.Prelude.{◌≡◌, refl, ℕ, ◌+◌, ◌-◌, ◌^◌, ◌<◌, min, List, [], ◌++◌, None, Some, ◌⊎◌, ◌↔◌};
+ghost use Rattle.lexends.specs.Sink.{fault_count};
+ghost use Rattle.lexends.specs.Source.{given, end_count};
+ghost use Rattle.lexends.specs.Taking.{Takes, Takes-trans};
+
+use crate::source::{ReadFault, Source};
+
+/// What a source over memory answers once in place of a byte, after this many bytes.
+#[derive(Clone, Copy, Debug, PartialEq, Eq)]
+enum Pause {
+    Fault(usize),
+    End(usize),
+}
+
+/// Gives the bytes of a slice, and then its end in each call.
+///
+/// It may fail once, or answer its end once, before they are all given. A caller that goes on after
+/// that is given the rest.
+#[derive(Drop)]
+pub struct MemorySource<'a> {
+    rest: &'a [u8],
+    pause: Option<Pause>,
+    calls: u64,
+    ends: u64,
+    failures: u64,
+}
+
+impl<'a> MemorySource<'a> {
+    ghost use Rattle.lexends.specs.MemorySources.{rest_of, call_count, pause_of};
+    ghost use Rattle.lexends.specs.declared.memory_source.Pause.TheVariants.{Fault, End};
+
+    /// Gives these bytes, and then its end.
+    pub fn new(bytes: &'a [u8]) -> MemorySource<'a>
+        ensures bytes { rest_of result ≡ bytes.entry.now }
+        ensures pause { pause_of result ≡ None }
+        ensures calls { call_count result ≡ 0 }
+        ensures ends { ⟦<MemorySource<'a> as Source>⟧.ends result ≡ 0 }
+        ensures failures { ⟦<MemorySource<'a> as Source>⟧.failures result ≡ 0 }
+    {
+        MemorySource::pausing(bytes, None)
+    }
+
+    /// Gives this many of the bytes, then fails once, then gives the others.
+    pub fn failing_after(bytes: &'a [u8], count: usize) -> MemorySource<'a>
+        ensures bytes { rest_of result ≡ bytes.entry.now }
+        ensures pause { pause_of result ≡ Some (Fault count) }
+        ensures calls { call_count result ≡ 0 }
+        ensures ends { ⟦<MemorySource<'a> as Source>⟧.ends result ≡ 0 }
+        ensures failures { ⟦<MemorySource<'a> as Source>⟧.failures result ≡ 0 }
+    {
+        MemorySource::pausing(bytes, Some(Pause::Fault(count)))
+    }
+
+    /// Gives this many of the bytes, then answers its end once, then gives the others.
+    pub fn ending_after(bytes: &'a [u8], count: usize) -> MemorySource<'a>
+        ensures bytes { rest_of result ≡ bytes.entry.now }
+        ensures pause { pause_of result ≡ Some (End count) }
+        ensures calls { call_count result ≡ 0 }
+        ensures ends { ⟦<MemorySource<'a> as Source>⟧.ends result ≡ 0 }
+        ensures failures { ⟦<MemorySource<'a> as Source>⟧.failures result ≡ 0 }
+    {
+        MemorySource::pausing(bytes, Some(Pause::End(count)))
+    }
+
+    fn pausing(bytes: &'a [u8], pause: Option<Pause>) -> MemorySource<'a>
+        ensures bytes { result.rest.now ≡ bytes.entry.now }
+        ensures pause { result.pause ≡ pause }
+        ensures calls { result.calls ≡ 0 }
+        ensures ends { result.ends ≡ 0 }
+        ensures failures { result.failures ≡ 0 }
+    {
+        MemorySource {
+            rest: bytes,
+            pause,
+            calls: 0,
+            ends: 0,
+            failures: 0,
+        }
+    }
+
+    /// How often `next` was called, at most `u64::MAX`.
+    pub fn calls(&self) -> u64
+        ensures { result ≡ call_count self.now }
+    {
+        self.calls
+    }
+}
+
+impl Source for MemorySource<'_> {
+    ghost use Rattle.lexends.specs.MemorySources.{rest_of, call_count, pause_of, nearer, IsFault, IsEnd};
+    ghost use Rattle.lexends.specs.declared.memory_source.Pause.TheVariants.{Fault, End};
+
+    ghost gave = { λ s xs t. Takes s.rest.now t.rest.now xs };
+
+    ghost ends = { λ s. s.ends };
+
+    ghost failures = { λ s. s.failures };
+
+    /// The next byte. It fails exactly where it pauses with a fault, and answers the end where it pauses with one or has
+    /// no byte left.
+    fn next(&mut self) -> Result<Option<u8>, ReadFault>
+        requires few_ends { self.old.ends < 2 ^ 64 - 1 }
+        requires few_failures { self.old.failures < 2 ^ 64 - 1 }
+        ensures byte { Takes self.old.rest.now self.new.rest.now (given result) }
+        ensures ends { self.new.ends ≡ self.old.ends + end_count result }
+        ensures failures { self.new.failures ≡ self.old.failures + fault_count result }
+        ensures fault { IsFault result ↔ pause_of self.old ≡ Some (Fault 0) }
+        ensures end { IsEnd result ↔ ((pause_of self.old ≡ Some (End 0)) ⊎ ((rest_of self.old ≡ []) × (pause_of self.old ≡ Some (Fault 0) → ⊥))) }
+        ensures pause { pause_of self.new ≡ nearer (pause_of self.old) }
+        ensures calls { call_count self.new ≡ min (call_count self.old + 1) (2 ^ 64 - 1) }
+    {
+        self.calls = self.calls.saturating_add(1);
+        match self.pause {
+            Some(Pause::Fault(0)) => {
+                self.pause = None;
+                self.failures += 1;
+                return Err(ReadFault);
+            }
+            Some(Pause::End(0)) => {
+                self.pause = None;
+                self.ends += 1;
+                return Ok(None);
+            }
+            Some(Pause::Fault(count)) => self.pause = Some(Pause::Fault(count - 1)),
+            Some(Pause::End(count)) => self.pause = Some(Pause::End(count - 1)),
+            None => {}
+        }
+        match self.rest.split_first() {
+            None => {
+                self.ends += 1;
+                Ok(None)
+            }
+            Some((byte, rest)) => {
+                self.rest = rest;
+                Ok(Some(*byte))
+            }
+        }
+    }
+
+    ghost gave_none = { λ s. refl };
+
+    ghost gave_more = { λ s t u xs ys p q. Takes-trans s.rest.now t.rest.now u.rest.now xs ys p q };
+}
+
+#[cfg(test)]
+mod tests {
+    use super::*;
+
+    #[test]
+    fn a_source_pauses_once(rt: HostRuntime) {
+        let mut failing = MemorySource::failing_after(b"ab", 1);
+        assert!(rt; failing.next() == Ok(Some(97)));
+        assert!(rt; failing.next() == Err(ReadFault));
+        assert!(rt; failing.next() == Ok(Some(98)));
+        assert!(rt; failing.next() == Ok(None));
+        assert_eq!(rt; failing.calls(), 4);
+        let mut ending = MemorySource::ending_after(b"ab", 1);
+        assert!(rt; ending.next() == Ok(Some(97)));
+        assert!(rt; ending.next() == Ok(None));
+        assert!(rt; ending.next() == Ok(Some(98)));
+        let mut whole = MemorySource::new(b"a");
+        assert!(rt; whole.next() == Ok(Some(97)));
+        assert!(rt; whole.next() == Ok(None));
+    }
+}

@@ -1,0 +1,46 @@
+-- What is told of a machine's rules is told of those of its specification.
+use Rattle.std.proofs.Common.{ℕ, suc, Bool, List, ◌++◌}
+use Rattle.lexmeaning.specs.Spec.{Spec}
+use Rattle.lexmeaning.specs.Rules.{rules_of}
+use Rattle.lexmeaning.specs.Sound.{IsSound}
+use Rattle.lexmeaning.specs.Machine.{Machine, rules_of_machine}
+use Rattle.lexmeaning.specs.MachineLaws.{MachineLaws}
+use Rattle.lexmeaning.specs.TableFor.{TableFor}
+use Rattle.lexmeaning.specs.Acting.{Status}
+use Rattle.lexmeaning.proofs.Both.{same_after, same_run}
+use Rattle.lexscan.specs.declared.error.RunError.{RunError}
+use Rattle.lexscan.specs.Runs.{RanTo, RanInto}
+
+module _ (M : Machine) (laws : MachineLaws M) (S : Spec) (sound : IsSound S) (table : TableFor M S) where
+  pub ran_to : (given out : List ℕ) (at_end : Bool) (status : ℕ) → RanTo (rules_of_machine M) given out at_end status → RanTo (rules_of S) given out at_end status
+  ran_to given out at_end status h = record {
+    turns = h.turns;
+    last = h.last;
+    scanned = λ x k. (same_after M laws S sound table x k.0 h.turns h.last _ at_end).0 (h.scanned x k);
+    writes = h.writes;
+    ends = h.ends;
+    run = λ x k. (same_run M laws S sound table x k.0 out (Status status)).0 (h.run x k);
+  }
+
+  pub ran_into : (given out : List ℕ) (at_end : Bool) (max_reads : ℕ) (e : RunError) → RanInto (rules_of_machine M) given out at_end max_reads e → RanInto (rules_of S) given out at_end max_reads e
+  ran_into given out at_end max_reads e h = record {
+    turns = h.turns;
+    start = h.start;
+    had = h.had;
+    got = h.got;
+    all = h.all;
+    gave_up = record {
+      text = h.gave_up.text;
+      end_before = h.gave_up.end_before;
+      before = λ x k. (let b = h.gave_up.before x k in record {
+        state = b.state;
+        after = (same_after M laws S sound table x k.0 h.turns b.state _ h.gave_up.end_before).0 b.after;
+        going = b.going;
+        starts = b.starts;
+      });
+      front = λ x k w d r. h.gave_up.front x k w d ((same_run M laws S sound table x k.0 w d).1 r);
+      within = λ x k t far asked after. h.gave_up.within x k t far asked ((same_after M laws S sound table x k.0 (suc h.turns) t far asked).1 after);
+      asks_end = λ is. (let q = h.gave_up.asks_end is in (q.0, λ t far asked after. q.1 t far asked ((same_after M laws S sound table (h.had ++ h.got) h.gave_up.text (suc h.turns) t far asked).1 after)));
+    };
+    too_many = h.too_many;
+  }

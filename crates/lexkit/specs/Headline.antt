@@ -1,0 +1,72 @@
+-- What a scan by the text of a specification leaves. (What is written is that of POSIX and flex; what is taken from the source,
+-- the limits and the refusals are this project's.)
+use Rattle.std.specs.Prelude.{◌≡◌, ℕ, ◌<◌, ◌≤◌, Bool, List, Result, Ok, Err, ⊤}
+use Rattle.lexmeaning.specs.Spec.{Spec}
+use Rattle.lexmeaning.specs.Rules.{rules_of}
+use Rattle.lexmeaning.specs.Subsets.{Subsets, all_positions}
+use Rattle.lexspec.specs.Outcome.{UnlessMemory}
+use Rattle.lexspec.specs.Files.{SpellsSpec}
+use Rattle.lexauto.specs.declared.subsets.Limits.{Limits}
+use Rattle.lexauto.specs.declared.error.BuildError.{BuildError}
+use Rattle.lexauto.specs.declared.error.BuildError.TheVariants as builds
+use Rattle.lexscan.specs.Runs.{RanTo, RanInto}
+use Rattle.lexscan.specs.declared.error.RunError.{RunError}
+use Rattle.lexkit.specs.declared.options.Options.{Options}
+use Rattle.lexkit.specs.declared.errors.GenError.{GenError}
+use Rattle.lexkit.specs.declared.errors.GenError.TheVariants as gens
+use Rattle.lexkit.specs.declared.errors.ScanError.{ScanError}
+use Rattle.lexkit.specs.declared.errors.ScanError.TheVariants.{Generate, Run}
+
+-- a scan makes at most so many reads: 2 ^ 40
+abbrev pub max_reads : ℕ
+max_reads = 1099511627776
+
+-- the automaton of the specification is within the limits
+pub record IsWithin (limits : Limits) (S : Spec) : Type 0 where
+  pub few_positions : all_positions S.rules ≤ limits.positions
+  pub states : ℕ
+  pub subsets : Subsets S states
+  pub few_states : states ≤ limits.states
+
+-- The builder refuses a specification only where its automaton passes a limit, or memory ran out.
+abbrev pub BuildRefusal : Limits → Spec → BuildError → Type 0
+BuildRefusal limits S builds.TooManyPositions = limits.positions < all_positions S.rules
+BuildRefusal limits S builds.TooManyStates = (n : ℕ) → Subsets S n → limits.states < n
+BuildRefusal limits S builds.OutOfMemory = ⊤
+
+-- A text is refused only where it spells no specification, or the automaton of the one that it spells passes a limit, or
+-- memory ran out.
+abbrev pub Refusal : Options → List ℕ → GenError → Type 0
+Refusal options text (gens.Spec e) = UnlessMemory e.kind ((S : Spec) → SpellsSpec options.fold text S → ⊥)
+Refusal options text (gens.Build e) = (S : Spec) × SpellsSpec options.fold text S × BuildRefusal options.limits S e
+Refusal options text gens.OutOfMemory = ⊤
+
+-- The scan of a specification took these bytes of the source and wrote these to the sink. It came to its end: they are those
+-- of the run, and no byte was taken that the run does not ask for. Or it stopped: what was written is a front of what the
+-- run writes.
+abbrev pub Ran : Spec → List ℕ → List ℕ → Bool → Result ℕ RunError → Type 0
+Ran S given out at_end (Ok status) = RanTo (rules_of S) given out at_end status
+Ran S given out at_end (Err e) = RanInto (rules_of S) given out at_end max_reads e
+
+-- the calls on the way from s to s' gave, and those from t to t' wrote, what the scan of the specification asks for
+pub record Scans {A B : Type 0} (gave : A → List ℕ → A → Type 0) (wrote : B → List ℕ → B → Type 0) (S : Spec) (at_end : Bool) (s s' : A) (t t' : B) (answer : Result ℕ RunError) : Type 0 where
+  pub given : List ℕ
+  pub out : List ℕ
+  pub source : gave s given s'
+  pub sink : wrote t out t'
+  pub ran : Ran S given out at_end answer
+
+-- what the scan by a specification answers: it came to its end or stopped, or no automaton was built
+abbrev pub ScansBy : {A B : Type 0} → (A → List ℕ → A → Type 0) → (B → List ℕ → B → Type 0) → Limits → Spec → Bool → A → A → B → B → Result ℕ ScanError → Type 0
+ScansBy gave wrote limits S at_end s s' t t' (Ok status) = IsWithin limits S × Scans gave wrote S at_end s s' t t' (Ok status)
+ScansBy gave wrote limits S at_end s s' t t' (Err (Run e)) = IsWithin limits S × Scans gave wrote S at_end s s' t t' (Err e)
+ScansBy gave wrote limits S at_end s s' t t' (Err (Generate (gens.Build e))) = BuildRefusal limits S e × (s' ≡ s) × (t' ≡ t)
+ScansBy gave wrote limits S at_end s s' t t' (Err (Generate other)) = ⊥
+
+-- The headline: the scan is that of the specification that the text spells. A text that is refused leaves both ends as they were.
+abbrev pub Headline : {A B : Type 0} → (A → List ℕ → A → Type 0) → (B → List ℕ → B → Type 0) → Options → List ℕ → Bool → A → A → B → B → Result ℕ ScanError → Type 0
+Headline gave wrote options text at_end s s' t t' (Ok status) =
+    (S : Spec) × SpellsSpec options.fold text S × IsWithin options.limits S × Scans gave wrote S at_end s s' t t' (Ok status)
+Headline gave wrote options text at_end s s' t t' (Err (Run e)) =
+    (S : Spec) × SpellsSpec options.fold text S × IsWithin options.limits S × Scans gave wrote S at_end s s' t t' (Err e)
+Headline gave wrote options text at_end s s' t t' (Err (Generate e)) = Refusal options text e × (s' ≡ s) × (t' ≡ t)

@@ -1,0 +1,10 @@
+//! What a scanner obeys: a machine of states, the rules that these accept, and what the rules do.
+#![tactic(auto)]
+
+mod action;
+mod cut;
+mod machine;
+
+pub use action::{EndAction, Statement, has_reject};
+pub use cut::Cut;
+pub use machine::Machine;
