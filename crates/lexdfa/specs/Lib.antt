@@ -1,0 +1,4 @@
+pub mod Machines
+pub mod Parts
+pub mod Invariant
+pub mod Automata
