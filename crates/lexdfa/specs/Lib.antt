@@ -2,3 +2,4 @@ pub mod Machines
 pub mod Parts
 pub mod Invariant
 pub mod Automata
+pub mod Laws
