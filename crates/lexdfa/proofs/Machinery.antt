@@ -20,10 +20,10 @@ use Rattle.lexdfa.specs.declared.dfa.Parts.{Parts}
 same_bool : (a b : Bool) → IsProp (a ≡ b)
 same_bool a b = Prim.hlevel props
 
-clash : (b : Bool) → b ≡ false → b ≡ true → ⊥
+pub clash : (b : Bool) → b ≡ false → b ≡ true → ⊥
 clash b f t = absurd cc
 
-past_end : {A : Type 0} (xs : List A) (i : ℕ) (d : A) → length xs ≤ i → slice_index_or xs i d ≡ d
+pub past_end : {A : Type 0} (xs : List A) (i : ℕ) (d : A) → length xs ≤ i → slice_index_or xs i d ≡ d
 past_end [] i d h = refl
 past_end (x ∷ xs) zero d h = absurd (omega (arith, h))
 past_end (x ∷ xs) (suc i) d h = past_end xs i d (omega (arith, h))
@@ -90,7 +90,7 @@ module _ (p : Parts) (a : IsAutomaton p) where
     | inr f ↦ cond-false (nat_lt b 256) (slice_index p.next.items (s * 256 + b)) 0 f
   ]
 
-  dead_after : (w : List ℕ) → after p 0 w ≡ 0
+  pub dead_after : (w : List ℕ) → after p 0 w ≡ 0
   dead_after [] = refl
   dead_after (b ∷ w) = ap (λ (s : ℕ). after p s w) (a.dead_stays b) ∙ dead_after w
 

@@ -4,9 +4,16 @@ ghost use Rattle.lexmeaning.specs.Text.{Ascending};
 ghost use Rattle.lexdfa.specs.Parts.{IsReached, LeadsOn};
 ghost use Rattle.lexdfa.specs.Automata.{conditions_of, states_of, start_of, next_of, accepts_of, goes_on_of};
 
-use crate::dfa::Dfa;
+use crate::dfa::{Dfa, Parts};
 
 impl Dfa {
+    /// The lists of which it is made.
+    pub fn parts(&self) -> &Parts
+        ensures { result.now ≡ self.now.parts }
+    {
+        &self.parts
+    }
+
     /// The state where a match starts in a condition, at the start of a line or not.
     pub fn start(&self, cond: usize, bol: bool) -> u32
         requires { cond < conditions_of self.now }
