@@ -1,4 +1,5 @@
-//! Tests over the whole product: the examples of `examples/` and of the user's manual, through `scan_spec`.
+//! Tests over the whole product: worked scans, and the examples of `examples/` and of the user's manual, through
+//! `scan_spec`.
 #![tactic(auto)]
 
 #[cfg(test)]
@@ -11,3 +12,5 @@ mod manual;
 mod row;
 #[cfg(test)]
 mod tests;
+#[cfg(test)]
+mod worked;

@@ -1,17 +1,18 @@
 //! The limits of docs/MANUAL.md: the most that is accepted, and one more.
 use crate::row::Long;
 
-pub(crate) const ACCEPTED: [Long; 7] = [
+/// What a file, its actions and its patterns may have.
+pub(crate) const ACCEPTED: &[Long] = &[
     ("%%\n", "\n", 1_048_573, ""),
     ("%%\n", "a ;\n", 4_096, ""),
     ("%%\na ", "ECHO;", 256, "\n"),
     ("%%\na printf(\"", "x", 4_096, "\");\n"),
-    ("%%\n", "a", 65_535, " ;\n"),
+    ("%%\n", "\"\"", 65_535, " ;\n"),
     ("%%\na", "?", 64, " ;\n"),
     ("%%\na", "{255}", 1, " ;\n"),
 ];
 
-pub(crate) const REFUSED: [(Long, &str); 7] = [
+pub(crate) const REFUSED: &[(Long, &str)] = &[
     (("%%\n", "\n", 1_048_574, ""), "lex: line 0: TooLong\n"),
     (
         ("%%\n", "a ;\n", 4_097, ""),
@@ -23,9 +24,20 @@ pub(crate) const REFUSED: [(Long, &str); 7] = [
         "lex: line 2: TooLong\n",
     ),
     (
-        ("%%\n", "a", 65_536, " ;\n"),
-        "lex: line 2: TooBig at 65535\n",
+        ("%%\n", "\"\"", 65_536, " ;\n"),
+        "lex: line 2: TooBig at 131070\n",
     ),
     (("%%\n", "(", 65, "a ;\n"), "lex: line 2: TooDeep at 64\n"),
     (("%%\na", "?", 65, " ;\n"), "lex: line 2: TooDeep at 65\n"),
+];
+
+/// What an automaton may have: 16,384 positions; of states 4,098, since twice as many are 8,194.
+pub(crate) const BUILT: &[Long] = &[
+    ("%%\n", "a|", 16_383, "a ;\n"),
+    ("%%\n(a|b)*a", "(a|b)", 11, " ;\n"),
+];
+
+pub(crate) const UNBUILT: &[(Long, &str)] = &[
+    (("%%\n", "a|", 16_384, "a ;\n"), "lex: TooManyPositions\n"),
+    (("%%\n(a|b)*a", "(a|b)", 12, " ;\n"), "lex: TooManyStates\n"),
 ];

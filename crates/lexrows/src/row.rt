@@ -1,7 +1,7 @@
 //! Rows of tables.
 
-/// A specification, an input, and what is written.
-pub(crate) type Row = (&'static str, &'static str, &'static str);
+/// A specification, an input, what is written, and the status of the scan.
+pub(crate) type Row = (&'static str, &'static str, &'static str, u8);
 
 /// A specification that is refused, and the line that tells it.
 pub(crate) type Refusal = (&'static str, &'static str);

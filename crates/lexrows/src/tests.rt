@@ -1,19 +1,20 @@
 use crate::row::{Long, Row};
-use crate::{examples, limits, manual};
+use crate::{examples, limits, manual, worked};
 use lexkit::{
-    ArgsError, Fault, GenError, MemorySink, MemorySource, Options, RunError, ScanError, scan_spec,
-    write_fault,
+    ArgsError, Fault, GenError, MemorySink, MemorySource, Options, RunError, ScanError, Source,
+    scan_spec, write_fault,
 };
 use std::alloc::{AllocError, Global};
+use std::process::Abort;
 use std::test::Fail;
 
-/// Whether the scan ends with status 0, and writes what the row says.
+/// Whether the scan writes what the row says, and ends with its status.
 fn holds(alloc: Global, options: Options, row: &Row) -> Result<bool, ScanError> {
-    let (text, input, want) = *row;
+    let (text, input, want, status) = *row;
     let mut source = MemorySource::new(input.as_bytes());
     let mut sink = MemorySink::new(alloc);
-    let status = scan_spec(alloc, text.as_bytes(), options, &mut source, &mut sink)?;
-    Ok(status == 0 && sink.written() == want.as_bytes())
+    let got = scan_spec(alloc, text.as_bytes(), options, &mut source, &mut sink)?;
+    Ok(got == status && sink.written() == want.as_bytes())
 }
 
 /// Whether the program would end with this status and this line.
@@ -47,32 +48,99 @@ fn text_of(alloc: Global, long: &Long) -> Result<Vec<u8>, AllocError> {
     Ok(text)
 }
 
-#[test]
-fn scans_as_flex_does(rt: HostRuntime) {
-    for row in &examples::EXAMPLES {
-        let got = holds(rt.alloc(), Options::new(), row);
+/// Holds each row of a table.
+fn assert_rows(rt: &impl Abort, alloc: Global, options: Options, rows: &[Row]) {
+    for row in rows {
+        let got = holds(alloc, options, row);
         assert!(rt; got == Ok(true), "{}: {got:?}", row.0);
     }
+}
+
+/// The rules of the table with letters that stand for both cases.
+fn folding() -> Options {
+    Options {
+        fold: true,
+        ..Options::new()
+    }
+}
+
+#[test]
+fn scans_as_worked(rt: HostRuntime) {
+    assert_rows(&rt, rt.alloc(), Options::new(), worked::SCANS);
+}
+
+#[test]
+fn scans_as_flex_does(rt: HostRuntime) {
+    assert_rows(&rt, rt.alloc(), Options::new(), examples::EXAMPLES);
 }
 
 #[test]
 fn scans_as_the_manual_says(rt: HostRuntime) {
-    for row in &manual::EXAMPLES {
-        let got = holds(rt.alloc(), Options::new(), row);
-        assert!(rt; got == Ok(true), "{}: {got:?}", row.0);
-    }
-    for row in &manual::FOLDED {
-        let got = holds(rt.alloc(), Options { fold: true }, row);
-        assert!(rt; got == Ok(true), "{}: {got:?}", row.0);
-    }
+    let alloc = rt.alloc();
+    assert_rows(&rt, alloc, Options::new(), manual::EXAMPLES);
+    assert_rows(&rt, alloc, Options::new(), manual::DIFFERENCES);
+    assert_rows(&rt, alloc, folding(), manual::FOLDED);
 }
 
 #[test]
 fn refuses_as_the_manual_says(rt: HostRuntime) {
-    for &(text, line) in &manual::REFUSALS {
+    for &(text, line) in manual::REFUSALS {
         let refused = is_refused(rt.alloc(), text.as_bytes(), line);
         assert!(rt; refused, "{text}{line}");
     }
+}
+
+#[test]
+fn reads_no_byte_too_many(rt: HostRuntime) {
+    let alloc = rt.alloc();
+    for &(text, input, calls, next) in worked::READINGS {
+        let mut source = MemorySource::new(input.as_bytes());
+        let mut sink = MemorySink::new(alloc);
+        let got = scan_spec(
+            alloc,
+            text.as_bytes(),
+            Options::new(),
+            &mut source,
+            &mut sink,
+        );
+        assert!(rt;
+            got.is_ok() && source.calls() == calls,
+            "{text}{input}: {got:?}"
+        );
+        assert!(rt; source.next() == Ok(next), "{text}{input}");
+    }
+}
+
+/// A thousand bytes that are given back, but for the first, a thousand times are read once.
+#[test]
+fn reads_no_byte_twice(rt: HostRuntime) {
+    const LETTERS: [u8; 1_000] = [b'a'; 1_000];
+    let mut source = MemorySource::new(&LETTERS);
+    let mut sink = MemorySink::new(rt.alloc());
+    let text = b"%%\n[a-z]+ yyless(1);\n";
+    let got = scan_spec(rt.alloc(), text, Options::new(), &mut source, &mut sink);
+    assert!(rt; got == Ok(0), "{got:?}");
+    assert!(rt; source.calls() == 1_001 && sink.written().is_empty());
+}
+
+const MEGA: &[u8] = b"%%\nmega- ECHO; yymore();\nkludge ECHO;\n";
+
+/// What was written before a fault stays written, and nothing is read after it.
+#[test]
+fn stops_at_faults(rt: HostRuntime) {
+    let alloc = rt.alloc();
+    let mut source = MemorySource::new(b"mega-kludge");
+    let mut sink = MemorySink::failing_after(alloc, 5);
+    let got = scan_spec(alloc, MEGA, Options::new(), &mut source, &mut sink);
+    assert!(rt; got == Err(ScanError::Run(RunError::Write)), "{got:?}");
+    assert_eq!(rt; sink.written(), b"mega-".as_slice());
+    assert_eq!(rt; source.calls(), 11);
+    let mut source = MemorySource::failing_after(b"mega-kludge", 5);
+    let mut sink = MemorySink::new(alloc);
+    let got = scan_spec(alloc, MEGA, Options::new(), &mut source, &mut sink);
+    assert!(rt; got == Err(ScanError::Run(RunError::Read)), "{got:?}");
+    assert_eq!(rt; sink.written(), b"mega-".as_slice());
+    assert_eq!(rt; source.calls(), 6);
 }
 
 /// The lines of faults that have nothing to do with the specification.
@@ -107,10 +175,9 @@ fn ends_as_the_manual_says(rt: HostRuntime) {
     }
 }
 
-#[test]
-fn accepts_up_to_the_limits(rt: HostRuntime) -> Result<(), Fail> {
-    let alloc = rt.alloc();
-    for long in &limits::ACCEPTED {
+/// Scans nothing by each of these.
+fn assert_accepted(rt: &impl Abort, alloc: Global, rows: &[Long]) -> Result<(), Fail> {
+    for long in rows {
         let text = text_of(alloc, long)?;
         let mut source = MemorySource::new(b"");
         let mut sink = MemorySink::new(alloc);
@@ -120,14 +187,33 @@ fn accepts_up_to_the_limits(rt: HostRuntime) -> Result<(), Fail> {
     Ok(())
 }
 
-#[test]
-fn refuses_past_the_limits(rt: HostRuntime) -> Result<(), Fail> {
-    for (long, line) in &limits::REFUSED {
-        let text = text_of(rt.alloc(), long)?;
-        let refused = is_refused(rt.alloc(), &text, line);
-        assert!(rt; refused, "{line}");
+/// Holds each of these to the line that refuses it.
+fn assert_refused(rt: &impl Abort, alloc: Global, rows: &[(Long, &str)]) -> Result<(), Fail> {
+    for (long, line) in rows {
+        let text = text_of(alloc, long)?;
+        assert!(rt; is_refused(alloc, &text, line), "{line}");
     }
     Ok(())
+}
+
+#[test]
+fn reads_up_to_the_limits(rt: HostRuntime) -> Result<(), Fail> {
+    assert_accepted(&rt, rt.alloc(), limits::ACCEPTED)
+}
+
+#[test]
+fn refuses_past_the_limits(rt: HostRuntime) -> Result<(), Fail> {
+    assert_refused(&rt, rt.alloc(), limits::REFUSED)
+}
+
+#[test]
+fn builds_up_to_the_limits(rt: HostRuntime) -> Result<(), Fail> {
+    assert_accepted(&rt, rt.alloc(), limits::BUILT)
+}
+
+#[test]
+fn builds_nothing_past_the_limits(rt: HostRuntime) -> Result<(), Fail> {
+    assert_refused(&rt, rt.alloc(), limits::UNBUILT)
 }
 
 /// `%x` and so many names: of one letter, of two, and so on.
