@@ -22,3 +22,4 @@ pub mod Tables
 pub mod Counting
 pub mod Surveying
 mod Quiet
+pub mod Built

@@ -24,8 +24,8 @@ use Rattle.lexauto.specs.Keys.{Key, At}
 use Rattle.lexauto.specs.Explored.{run, Reached, key_at}
 use Rattle.lexauto.specs.WordKeys.{start_key, step_in, Surveys}
 use Rattle.lexmeaning.specs.Reading.{is_empty}
-use Rattle.lexauto.specs.Machines.{machine_with, cut_at, chosen, moving, IsReached}
-use Rattle.lexauto.specs.Facts.{accepted_by, goes_on_by, AcceptedBy, GoOnBy}
+use Rattle.lexdfa.specs.Machines.{machine_with, cut_at, moving, IsReached}
+use Rattle.lexauto.specs.Facts.{accepted_by, chosen, goes_on_by, AcceptedBy, GoOnBy}
 use Rattle.lexauto.proofs.FlowMeaning.{both, back, no_true}
 use Rattle.lexauto.proofs.RuleMeaning.{rule_exits_is}
 use Rattle.lexauto.proofs.Counting.{dead_run}

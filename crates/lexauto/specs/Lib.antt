@@ -9,7 +9,7 @@ pub mod Sets
 pub mod Packing
 pub mod Moving
 pub mod WordKeys
-pub mod Machines
-pub mod Automata
+pub use Rattle.lexdfa.specs.Machines
+pub use Rattle.lexdfa.specs.Automata
 pub mod Facts
 pub mod Errors

@@ -8,8 +8,7 @@ ghost use Rattle.lexauto.specs.Keys.{keys_in};
 ghost use Rattle.lexauto.specs.Packing.{kept_in};
 ghost use Rattle.lexauto.specs.RuleFlow.{rules_left};
 ghost use Rattle.lexauto.specs.Sets.{marked, lasts_in};
-ghost use Rattle.lexauto.specs.Machines.{chosen};
-ghost use Rattle.lexauto.specs.Facts.{accepted_by, AcceptedBy};
+ghost use Rattle.lexauto.specs.Facts.{accepted_by, chosen, AcceptedBy};
 
 use crate::packing::unpacked;
 use crate::rules::left_rules;

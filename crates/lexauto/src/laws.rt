@@ -10,7 +10,7 @@ ghost use Rattle.lexmeaning.specs.Text.{IsText, Among};
 ghost use Rattle.lexauto.specs.Sets.{marked, lasts_in};
 ghost use Rattle.lexauto.specs.Explored.{run};
 ghost use Rattle.lexauto.specs.WordKeys.{LastKey, start_key, step_in, Surveys};
-ghost use Rattle.lexauto.specs.Machines.{machine_with, moving};
+ghost use Rattle.lexdfa.specs.Machines.{machine_with, moving};
 ghost use Rattle.lexauto.specs.Facts.{AcceptedBy, GoOnBy};
 ghost use Rattle.lexmeaning.specs.TableFor.{TableFor};
 ghost use Rattle.lexmeaning.specs.Subsets.{IsLast, ReadsActive, all_positions, Subsets};

@@ -1,14 +1,12 @@
 //! Automata of lex: the positions of a specification's rules, and the states that sets of them are.
 #![tactic(auto)]
 
-mod dfa;
 mod error;
 mod explore;
 mod facts;
 mod laws;
 mod letters;
 mod packing;
-mod readers;
 mod rules;
 mod sets;
 mod starts;
@@ -16,12 +14,12 @@ mod stepping;
 mod subsets;
 mod walk;
 
-pub use dfa::Dfa;
 pub use error::BuildError;
 pub use laws::{
     first_positions, keys_of_words, live_positions, next_positions, one_count, one_step,
     one_step_of_rules, position_automaton, rules_that_fit, tables_of_keys, words_that_fit,
 };
+pub use lexdfa::Dfa;
 pub use subsets::{Limits, build};
 
 #[cfg(test)]

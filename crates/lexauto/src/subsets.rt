@@ -9,15 +9,15 @@ ghost use Rattle.lexauto.specs.Packing.{kept_in};
 ghost use Rattle.lexauto.specs.Explored.{MoreThan};
 ghost use Rattle.lexauto.specs.Facts.{GoOnBy};
 ghost use Rattle.lexauto.specs.WordKeys.{Surveys};
-ghost use Rattle.lexauto.specs.Machines.{IsReached};
-ghost use Rattle.lexauto.specs.Automata.{machine_of, states_of, conditions_of};
+ghost use Rattle.lexdfa.specs.Machines.{IsReached};
+ghost use Rattle.lexdfa.specs.Automata.{machine_of, states_of, conditions_of};
 
-use crate::dfa::Dfa;
 use crate::error::BuildError;
 use crate::explore::{ExploreError, explore};
 use crate::facts::all_accepted;
 use crate::starts::{add_starts, count_positions, dead_root};
 use crate::stepping::RuleMoves;
+use lexdfa::{Dfa, Parts};
 use lexspec::Spec;
 use std::alloc::Global;
 
@@ -85,11 +85,13 @@ pub fn build(alloc: Global, spec: &Spec, limits: Limits) -> Result<Dfa, BuildErr
     let moves = RuleMoves::new(alloc, spec, count)?;
     let found = explore_spec(alloc, &moves, limits.states)?;
     let accepts = all_accepted(alloc, spec, count, &found.keys)?;
-    Ok(Dfa {
+    let parts = Parts {
         starts: found.starts,
         line_starts: found.line_starts,
         next: found.next,
         accepts,
         goes_on: found.goes_on,
-    })
+    };
+    let automaton = Dfa::new(parts);
+    Ok(automaton)
 }

@@ -21,4 +21,6 @@ pub use options::Options;
 pub use scan::scan_spec;
 
 #[cfg(test)]
+mod machine_tests;
+#[cfg(test)]
 mod tests;

@@ -44,13 +44,12 @@ impl<'a, S: Source> Intake<'a, S> {
         ensures failures { S.failures self.new.source.now ≡ S.failures self.old.source.now + fault_count result }
         ensures live { self.new.live ≡ gives_byte result }
     {
-        self.live = false;
         match self.source.next() {
-            Ok(Some(byte)) => {
-                self.live = true;
-                Ok(Some(byte))
+            Ok(Some(byte)) => Ok(Some(byte)),
+            other => {
+                self.live = false;
+                other
             }
-            other => other,
         }
     }
 }

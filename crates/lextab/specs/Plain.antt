@@ -1,6 +1,6 @@
 -- The machine of an automaton as it stands.
 use Rattle.lexmeaning.specs.Machine.{Machine}
-use Rattle.lexauto.specs.Automata.{machine_of}
+use Rattle.lexdfa.specs.Automata.{machine_of}
 use Rattle.lexspec.specs.Views.{spec_of}
 use Rattle.lextab.specs.declared.plain.Plain.{Plain}
 

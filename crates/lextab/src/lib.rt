@@ -5,6 +5,3 @@ mod plain;
 mod tables;
 
 pub use plain::Plain;
-
-#[cfg(test)]
-mod tests;

@@ -2,10 +2,10 @@
 ghost use Rattle.std.specs.Prelude.{◌≡◌, ℕ, ◌<◌, length};
 ghost use Rattle.lexmeaning.specs.MachineLaws.{MachineLaws, MachineLaws-prop};
 ghost use Rattle.lexmeaning.specs.Spec.{rejects as some_reject};
-ghost use Rattle.lexauto.specs.Automata.{machine_of, conditions_of};
+ghost use Rattle.lexdfa.specs.Automata.{machine_of, conditions_of};
 ghost use Rattle.lexspec.specs.Views.{spec_of, conditions_in};
 
-use lexauto::Dfa;
+use lexdfa::Dfa;
 use lexspec::Spec;
 
 /// An automaton and its specification.

@@ -1,12 +1,12 @@
 //! What the automaton as it was built tells.
 ghost use Rattle.std.specs.Prelude.{◌≡◌, ℕ, ◌<◌, length};
 ghost use Rattle.lexmeaning.specs.MachineLaws.{MachineLaws};
-ghost use Rattle.lexauto.specs.Automata.{machine_of, conditions_of, states_of};
+ghost use Rattle.lexdfa.specs.Automata.{machine_of, conditions_of, states_of};
 ghost use Rattle.lexspec.specs.Views.{spec_of, conditions_in};
 ghost use Rattle.lextab.specs.Plain.{plain_machine};
 
 use crate::plain::Plain;
-use lexauto::Dfa;
+use lexdfa::Dfa;
 use lexmachine::{Cut, EndAction, Machine, Statement};
 use lexspec::Spec;
 

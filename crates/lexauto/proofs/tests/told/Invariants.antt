@@ -1,5 +1,5 @@
 use Rattle.std.proofs.Common.{◌<◌}
-use Rattle.lexauto.specs.Automata.{states_of}
+use Rattle.lexdfa.specs.Automata.{states_of}
 use Rattle.lexauto.proofs.tests.told.Given as goal
 
 abbrev pub invariant-loop-byte : goal.invariant-loop-byte

@@ -5,7 +5,7 @@ use Rattle.lexmeaning.specs.Sound.{IsSound}
 use Rattle.lexmeaning.specs.Machine.{Machine, rules_of_machine}
 use Rattle.lexspec.specs.Views.{spec_of}
 use Rattle.lexspec.proofs.TestLaws.{spec_is_sound}
-use Rattle.lexauto.specs.Automata.{machine_of, states_of}
+use Rattle.lexdfa.specs.Automata.{machine_of, states_of}
 use Rattle.lexscan.specs.Runs.{RanTo, RanInto}
 use Rattle.lexkit.specs.Headline.{max_reads, IsWithin}
 use Rattle.lexkit.proofs.Carried as Same

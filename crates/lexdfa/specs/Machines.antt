@@ -1,5 +1,5 @@
--- A machine of states with the actions of a specification.
-use Rattle.std.specs.Prelude.{◌≡◌, ◌<◌, ◌⊎◌, ℕ, Bool, true, false, List, cond, ◌+◌, ◌*◌, length, take, nat_lt, slice_index, Option, Some, None, slice_get}
+-- A machine of states with the actions of a specification. (This project's.)
+use Rattle.std.specs.Prelude.{◌≡◌, ◌<◌, ◌⊎◌, ℕ, Bool, List, cond, ◌+◌, ◌*◌, length, nat_lt, slice_index, Option, Some, None, slice_get}
 use Rattle.lexmeaning.specs.Spec.{Spec, Rule, Cut, Whole, statements_at, end_at}
 use Rattle.lexmeaning.specs.Text.{IsText}
 use Rattle.lexmeaning.specs.Machine.{Machine, state_after}
@@ -20,11 +20,6 @@ machine_with S start next accepts goes_on = record {
   statements = λ i. statements_at (slice_get S.rules i);
   ending = λ c. end_at (slice_get S.conditions c);
 }
-
--- all of the rules, or the first of them alone
-abbrev pub chosen : Bool → List ℕ → List ℕ
-chosen true l = l
-chosen false l = take 1 l
 
 -- the state is the dead one, or some word leads to it from some start
 abbrev pub IsReached : Machine → Spec → ℕ → Type 0

@@ -1,0 +1,5 @@
+pub mod Machines
+pub mod Parts
+pub mod Invariant
+pub mod Automata
+pub mod Laws
