@@ -5,8 +5,9 @@
 
 A specification has up to two start conditions and up to six rules, with lists, `^`, `$`, trailing context, BEGIN, yymore,
 yyless, REJECT, exit and an end of the input. Left out is what flex does otherwise by the manual's chapter on differences:
-`|` as an action, an empty head before trailing context, `^` beside yyless, a yyless that may pass the text, an action of
-<<EOF>> that does not end the scan, and definitions. It is no part of the gate."""
+`|` as an action, an empty head before trailing context, `|` or an interval in a side that alone has a fixed length, `^` beside
+yyless, a yyless that may pass the text, an action of <<EOF>> that does not end the scan, and definitions. It is no part of
+the gate."""
 import random
 import subprocess
 import sys
@@ -26,13 +27,15 @@ class Pattern:
     least: int
     greatest: int | None
     kind: int = ITEM
+    is_plain: bool = True  # no choice and no interval, which flex takes to be of no fixed length
 
     def within(self, kind):
         """The text, in parentheses where it would fall apart."""
         return self.text if self.kind <= kind else f"({self.text})"
 
     def is_fixed(self):
-        return self.least == self.greatest and self.least > 0
+        """Whether flex sees that its words have one length, which is not 0."""
+        return self.is_plain and self.least == self.greatest and self.least > 0
 
 
 def total(parts, fold):
@@ -50,12 +53,13 @@ def pattern(pick, depth):
         parts = [pattern(pick, depth - 1) for _ in range(pick.randint(2, 3))]
         least, greatest = [part.least for part in parts], [part.greatest for part in parts]
         if form < 0.55:
-            return Pattern("".join(part.within(SERIES) for part in parts), sum(least), total(greatest, sum), SERIES)
-        return Pattern("|".join(part.text for part in parts), min(least), total(greatest, max), CHOICE)
+            plain = all(part.is_plain for part in parts)
+            return Pattern("".join(part.within(SERIES) for part in parts), sum(least), total(greatest, sum), SERIES, plain)
+        return Pattern("|".join(part.text for part in parts), min(least), total(greatest, max), CHOICE, False)
     inner, sign = pattern(pick, depth - 1), pick.choice(list(SIGNS))
     least, greatest = SIGNS[sign]
     most = None if greatest is None or inner.greatest is None else inner.greatest * greatest
-    return Pattern(inner.within(ITEM) + sign, inner.least * least, most, SERIES)
+    return Pattern(inner.within(ITEM) + sign, inner.least * least, most, SERIES, inner.is_plain and "{" not in sign)
 
 
 def subject(pick):
