@@ -1,12 +1,11 @@
 -- Whether a machine's rules have REJECT.
-use Rattle.std.specs.Prelude.{◌≡◌, ℕ, ◌<◌, true, false}
-use Rattle.lexmeaning.specs.Spec.{has_reject}
 use Rattle.lexmeaning.specs.Machine.{Machine}
+use Rattle.lexmeaning.specs.MachineLaws as Laws
 
 -- no rule has it
 abbrev pub NoReject : Machine → Type 0
-NoReject M = (i : ℕ) → i < M.count → has_reject (M.statements i) ≡ false
+NoReject M = Laws.NoReject M
 
 -- some rule has it
 abbrev pub SomeReject : Machine → Type 0
-SomeReject M = (i : ℕ) × (i < M.count) × (has_reject (M.statements i) ≡ true)
+SomeReject M = Laws.SomeReject M
