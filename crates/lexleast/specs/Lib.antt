@@ -1,0 +1,16 @@
+pub mod Futures
+pub mod Splits
+pub mod Refines
+pub mod Arranged
+pub mod Sources
+pub mod Marked
+pub mod Going
+pub mod Letters
+pub mod Labels
+pub mod Automata
+pub mod Numbers
+pub mod Quotients
+pub mod Lists
+pub mod Views
+pub mod Building
+pub mod Least
