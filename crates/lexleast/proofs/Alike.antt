@@ -6,7 +6,7 @@ use Rattle.lexleast.specs.declared.blocks.Blocks.{Blocks}
 use Rattle.lexleast.specs.Arranged.{states, block_of}
 use Rattle.lexleast.specs.Sources.{Has, IsRow}
 use Rattle.lexleast.specs.Splits.{Cuts, Refining}
-use Rattle.lexleast.specs.Refines.{first_blocks}
+use Rattle.lexleast.proofs.Refines.{first_blocks}
 use Rattle.lexleast.specs.declared.sources.Letter.{Letter}
 use Rattle.lexleast.specs.Letters.{AreLetters, machine}
 use Rattle.lexleast.proofs.Rounds.{closed}

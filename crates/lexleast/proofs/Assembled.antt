@@ -16,7 +16,8 @@ use Rattle.lexleast.specs.Numbers.{AreMade, AreCalled, AreRows, AreStarts}
 use Rattle.lexleast.specs.Quotients.{AreClasses, IsQuotient, IsMinimised}
 use Rattle.lexleast.specs.Building.{FitsTable, ArePartsOf}
 use Rattle.lexleast.specs.Least.{SameFuture, AcceptsAs, GoesOnAs, IsLeast, IsNumbered}
-use Rattle.lexleast.specs.Views.{automaton_of, by_turns}
+use Rattle.lexleast.specs.Least.{by_turns}
+use Rattle.lexleast.specs.Views.{automaton_of}
 use Rattle.lexleast.specs.declared.tables.ClassTable.{ClassTable}
 use Rattle.lexleast.proofs.ByTurns.{turns_length, turn_even, turn_odd}
 use Rattle.lexleast.proofs.Wholes.{is_whole}

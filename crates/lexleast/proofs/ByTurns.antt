@@ -1,7 +1,7 @@
 -- Two lists by turns.
 use Rattle.std.proofs.Common.{◌≡◌, ℕ, zero, suc, ◌+◌, ◌*◌, ◌<◌, Bool, true, false, cond, List, [], ◌∷◌, length, refl, ap, ◌∙◌, arith}
 use Rattle.std.specs.Prelude.{slice_index}
-use Rattle.lexleast.specs.Views.{by_turns}
+use Rattle.lexleast.specs.Least.{by_turns}
 
 pub turns_length : (es os : List ℕ) → length os ≡ length es → length (by_turns es os) ≡ 2 * length es
 turns_length [] os h = refl

@@ -12,7 +12,8 @@ use Rattle.lexdfa.proofs.Machinery.{past_end, dead_after}
 use Rattle.lexleast.specs.Automata as A
 use Rattle.lexleast.specs.Quotients.{IsMinimised}
 use Rattle.lexleast.specs.Least.{SameFuture, AcceptsAs, GoesOnAs, IsLeast, AreSame, OneAutomaton}
-use Rattle.lexleast.specs.Views.{automaton_of, by_turns}
+use Rattle.lexleast.specs.Least.{by_turns}
+use Rattle.lexleast.specs.Views.{automaton_of}
 use Rattle.lexleast.proofs.Swapped.{same_or_not}
 use Rattle.lexleast.proofs.GoesOn.{both_true}
 use Rattle.lexleast.proofs.ByTurns.{turns_length, turn_even, turn_odd, turn_at, turns_same}

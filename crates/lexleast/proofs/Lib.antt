@@ -1,3 +1,4 @@
+pub mod Refines
 pub mod Swapped
 pub mod Pigeons
 pub mod Dividing

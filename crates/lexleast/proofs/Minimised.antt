@@ -2,7 +2,8 @@
 use Rattle.std.proofs.Common.{◌≡◌, ◌≢◌, ℕ, zero, suc, ◌+◌, ◌-◌, ◌*◌, ◌/◌, ◌%◌, ◌<◌, ◌≤◌, ◌⊎◌, List, [], ◌∷◌, ◌++◌, length, get_or, refl, ap, sym, subst, ◌∙◌, inl, inr, arith}
 use Rattle.std.proofs.lemmas.List.{get_or_append_left, get_or-append-add}
 use Rattle.std.specs.Prelude.{slice_index}
-use Rattle.lexleast.specs.Automata.{Automaton, next, accepts, after, IsText, IsWhole, SameFuture, AreToldApart, IsDead, IsReached, InOrder}
+use Rattle.lexleast.specs.Automata.{Automaton, next, accepts, after, IsText, IsWhole, SameFuture, AreToldApart, IsDead, IsReached}
+use Rattle.lexleast.specs.Least.{InOrder}
 use Rattle.lexleast.specs.Numbers.{IsNumberOf}
 use Rattle.lexleast.specs.Quotients.{AreClasses, IsQuotient, IsMinimised}
 use Rattle.lexleast.proofs.Swapped.{same_or_not}

@@ -3,7 +3,7 @@ use Rattle.std.proofs.Common.{◌≡◌, ◌≢◌, ℕ, suc, ◌+◌, ◌-◌, 
 use Rattle.std.proofs.lemmas.List.{get_or_append_left, get_or-append-add}
 use Rattle.std.specs.Prelude.{slice_index}
 use Rattle.lexleast.specs.Numbers.{Numbering, IsNumberOf, Grown, Keeps, AreCalled, AreRows, AreStarts}
-use Rattle.lexleast.specs.Automata.{InOrder}
+use Rattle.lexleast.specs.Least.{InOrder}
 use Rattle.lexleast.proofs.Swapped.{same_or_not}
 use Rattle.lexleast.proofs.Pigeons.{at_most}
 

@@ -2,7 +2,8 @@
 use Rattle.std.proofs.Common.{◌≡◌, ℕ, zero, suc, ◌+◌, ◌-◌, ◌*◌, ◌/◌, ◌%◌, ◌<◌, ◌≤◌, ◌⊎◌, List, [], ◌∷◌, ◌++◌, length, get_or, refl, ap, sym, subst, ◌∙◌, inl, inr, arith, length-append}
 use Rattle.std.proofs.lemmas.List.{get_or_append_left, get_or-append-add}
 use Rattle.std.specs.Prelude.{slice_index}
-use Rattle.lexleast.specs.Automata.{Automaton, next, after, IsText, IsWhole, SameFuture, IsLeast, IsNumbered, InOrder, OneTable}
+use Rattle.lexleast.specs.Automata.{Automaton, next, after, IsText, IsWhole, SameFuture, IsLeast, IsNumbered, OneTable}
+use Rattle.lexleast.specs.Least.{InOrder}
 use Rattle.lexleast.proofs.Swapped.{same_or_not}
 
 less : (i n : ℕ) → (i < n) ⊎ (n ≤ i)

@@ -6,7 +6,7 @@ use Rattle.std.proofs.lemmas.Bool.Decides.{nat_tests}
 use Rattle.lexleast.specs.declared.sources.Letter.{Letter}
 use Rattle.lexleast.specs.Futures.{IsClosed, IsCoarsest}
 use Rattle.lexleast.specs.Splits.{Cuts, Using, Refining}
-use Rattle.lexleast.specs.Refines.{taken, by_letter, used, finished}
+use Rattle.lexleast.proofs.Refines.{taken, by_letter, used, finished}
 use Rattle.lexleast.specs.Letters.{row_of, machine, AreLetters, Tells}
 use Rattle.lexleast.specs.Sources.{Has}
 

@@ -1,6 +1,7 @@
--- The words of Least over one list of starts and one table, and the order of numbers.
+-- The words of `Least` over one list of starts and one table, by which the steps are told.
 use Rattle.std.specs.Prelude.{◌≡◌, ◌≢◌, ◌⊎◌, ℕ, suc, ◌+◌, ◌-◌, ◌*◌, ◌<◌, ◌≤◌, List, [], ◌∷◌, ◌++◌, length, slice_index, slice_index_or}
 pub use Rattle.lexmeaning.specs.Text.{IsText}
+use Rattle.lexleast.specs.Least.{InOrder}
 
 pub record Automaton : Type 0 where
   pub states : ℕ
@@ -50,11 +51,6 @@ pub record IsLeast (A : Automaton) : Type 0 where
   pub dead : IsDead A 0
   pub reached : (s : ℕ) → s < A.states → s ≢ 0 → IsReached A s
   pub apart : (s t : ℕ) → s < A.states → t < A.states → s ≢ t → AreToldApart A s t
-
--- The numbers come in order: each is at most n, or else the next one, and so on. In the end m is the greatest.
-abbrev pub InOrder : ℕ → List ℕ → ℕ → Type 0
-InOrder n [] m = m ≡ n
-InOrder n (x ∷ xs) m = ((x ≤ n) × InOrder n xs m) ⊎ ((x ≡ suc n) × InOrder (suc n) xs m)
 
 -- Numbers from 1 in the order of the first call: by the starts, and then by the states in order of number, byte by byte.
 abbrev pub IsNumbered : Automaton → Type 0

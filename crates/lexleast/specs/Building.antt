@@ -3,7 +3,7 @@ use Rattle.std.specs.Prelude.{◌≡◌, ℕ, ◌*◌, ◌<◌, ◌≤◌, lengt
 use Rattle.lexdfa.specs.Parts.{goes_on}
 use Rattle.lexdfa.specs.declared.dfa.Parts.{Parts}
 use Rattle.lexleast.specs.Lists.{list_at}
-use Rattle.lexleast.specs.Views.{by_turns}
+use Rattle.lexleast.specs.Least.{by_turns}
 use Rattle.lexleast.specs.declared.tables.ClassTable.{ClassTable}
 
 -- the table has states of the automaton as members, and two starts for each condition

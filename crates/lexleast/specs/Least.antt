@@ -1,11 +1,9 @@
 -- The least automaton of those that accept alike, and the canonical numbers of its states. (This project's.)
-use Rattle.std.specs.Prelude.{◌≡◌, ◌≢◌, ℕ, ◌-◌, ◌<◌, Bool, List, [], ◌∷◌, ◌++◌, length}
+use Rattle.std.specs.Prelude.{◌≡◌, ◌≢◌, ◌⊎◌, ℕ, suc, ◌-◌, ◌<◌, ◌≤◌, Bool, List, [], ◌∷◌, ◌++◌, length}
 use Rattle.lexmeaning.specs.Text.{IsText}
 use Rattle.lexdfa.specs.Parts.{conditions, states, start, accepts, goes_on, after, lists_in, IsReached}
 use Rattle.lexdfa.specs.declared.dfa.Parts.{Parts}
 use Rattle.lexdfa.specs.declared.dfa.Dfa.{Dfa}
-use Rattle.lexleast.specs.Automata.{InOrder}
-use Rattle.lexleast.specs.Views.{by_turns}
 
 -- after each continuation, the empty one among them, both accept the same rules
 abbrev pub SameFuture : Parts → ℕ → Parts → ℕ → Type 0
@@ -20,10 +18,21 @@ pub record IsLeast (p : Parts) : Type 0 where
   pub reached : (s : ℕ) → s < states p → s ≢ 0 → IsReached p s
   pub apart : (s t : ℕ) → s < states p → t < states p → s ≢ t → AreToldApart p s t
 
+-- of each condition the start elsewhere, and then that at the start of a line
+abbrev pub by_turns : List ℕ → List ℕ → List ℕ
+by_turns [] ys = []
+by_turns (x ∷ xs) [] = []
+by_turns (x ∷ xs) (y ∷ ys) = x ∷ y ∷ by_turns xs ys
+
 -- where the states are called: by the starts, condition by condition, elsewhere and then at the start of a line; and
 -- then by the states in order of number, byte by byte
 abbrev pub calls : Parts → List ℕ
 calls p = by_turns p.starts.items p.line_starts.items ++ p.next.items
+
+-- The numbers come in order: each is at most n, or else the next one, and so on. In the end m is the greatest.
+abbrev pub InOrder : ℕ → List ℕ → ℕ → Type 0
+InOrder n [] m = m ≡ n
+InOrder n (x ∷ xs) m = ((x ≤ n) × InOrder n xs m) ⊎ ((x ≡ suc n) × InOrder (suc n) xs m)
 
 -- the states but the dead one are numbered from 1 in the order of their first call
 abbrev pub IsNumbered : Parts → Type 0

@@ -1,6 +1,6 @@
+pub mod Least
 pub mod Futures
 pub mod Splits
-pub mod Refines
 pub mod Arranged
 pub mod Sources
 pub mod Marked
@@ -13,4 +13,3 @@ pub mod Quotients
 pub mod Lists
 pub mod Views
 pub mod Building
-pub mod Least

@@ -11,7 +11,8 @@ ghost use Rattle.lexleast.specs.Lists.{list_at};
 ghost use Rattle.lexleast.specs.Numbers.{AreMade};
 ghost use Rattle.lexleast.specs.Quotients.{AreClasses};
 ghost use Rattle.lexleast.specs.Sources.{IsRow};
-ghost use Rattle.lexleast.specs.Views.{automaton_of, by_turns};
+ghost use Rattle.lexleast.specs.Least.{by_turns};
+ghost use Rattle.lexleast.specs.Views.{automaton_of};
 
 use crate::futures::classes;
 use crate::lists::labels_of;

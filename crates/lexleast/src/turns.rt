@@ -1,6 +1,6 @@
 //! Two lists by turns.
 ghost use Rattle.std.specs.Prelude.{◌≡◌, ◌^◌, ℕ, ◌+◌, ◌*◌, ◌<◌, length, slice_index, IfOk};
-ghost use Rattle.lexleast.specs.Views.{by_turns};
+ghost use Rattle.lexleast.specs.Least.{by_turns};
 
 use std::alloc::{AllocError, Global};
 

@@ -4,7 +4,7 @@ use Rattle.lexmeaning.specs.TableFor.{TableFor}
 use Rattle.lexdfa.specs.Invariant.{IsAutomaton}
 use Rattle.lexdfa.specs.declared.dfa.Parts.{Parts}
 use Rattle.lexleast.specs.Numbers.{AreMade}
-use Rattle.lexleast.specs.Views.{by_turns}
+use Rattle.lexleast.specs.Least.{by_turns}
 use Rattle.lexleast.proofs.Assembled.{IsLeastOf, fits, is_least_of}
 use Rattle.lexleast.proofs.minimising.minimise.Goals as goal
 

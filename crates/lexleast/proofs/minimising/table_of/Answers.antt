@@ -1,5 +1,5 @@
 use Rattle.std.proofs.Common.{◌≡◌, ℕ, ◌<◌, List, length, slice_index, sym, ap, subst, ◌∙◌}
-use Rattle.lexleast.specs.Views.{by_turns}
+use Rattle.lexleast.specs.Least.{by_turns}
 use Rattle.lexleast.proofs.ByTurns.{turns_below}
 use Rattle.lexleast.proofs.minimising.table_of.Goals as goal
 
