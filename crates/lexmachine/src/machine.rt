@@ -1,9 +1,8 @@
 //! What a scan obeys.
 ghost use Rattle.std.specs.Prelude.{◌≡◌, ℕ, ◌<◌, map, true, false};
 ghost use Rattle.lexmeaning.specs.Machine.{Machine as MachineModel};
-ghost use Rattle.lexmeaning.specs.MachineLaws.{MachineLaws};
 ghost use Rattle.lexmachine.specs.Views.{statement_of, end_action_of, cut_of};
-ghost use Rattle.lexmachine.specs.Rejecting.{NoReject, SomeReject};
+ghost use Rattle.lexmeaning.specs.MachineLaws.{MachineLaws, StaysBelow, NoReject, SomeReject};
 
 use crate::action::{EndAction, Statement};
 use crate::cut::Cut;
@@ -16,6 +15,8 @@ pub trait Machine {
     ghost states: { Self → ℕ };
 
     ghost laws: { (m : Self) → MachineLaws (machine m) };
+
+    ghost below: { (m : Self) → StaysBelow (machine m) (states m) };
 
     /// The state where a match starts in a condition, at the start of a line or not.
     fn start(&self, condition: u8, line_start: bool) -> u32

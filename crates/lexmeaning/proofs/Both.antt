@@ -4,10 +4,10 @@ use Rattle.std.proofs.Common.{◌≡◌, ℕ, zero, suc, ◌+◌, ◌-◌, ◌�
 use Rattle.std.specs.Prelude.{◌||◌}
 use Rattle.std.proofs.lemmas.Bool.{cases_lt}
 use Rattle.lexmeaning.specs.Text.{IsText, at_line_start}
-use Rattle.lexmeaning.specs.Spec.{Spec}
+use Rattle.lexmeaning.specs.Spec.{Spec, rejects}
 use Rattle.lexmeaning.specs.Rules.{Rules, rules_of}
 use Rattle.lexmeaning.specs.Acting.{Ending}
-use Rattle.lexmeaning.specs.Run.{Place, State, Run, first_state}
+use Rattle.lexmeaning.specs.Run.{Place, State, Turns, Run, first_state}
 use Rattle.lexmeaning.specs.Demand.{AsksForEnd, FarFrom, Far, EndAsked}
 use Rattle.lexmeaning.specs.Scanned.{AfterTurns, then_turn}
 use Rattle.lexmeaning.specs.Machine.{Machine, state_after, rules_of_machine}
@@ -15,13 +15,14 @@ use Rattle.lexmeaning.specs.MachineLaws.{MachineLaws}
 use Rattle.lexmeaning.specs.TableFor.{TableFor}
 use Rattle.lexmeaning.specs.Sound.{IsSound}
 use Rattle.lexmeaning.specs.PlainMachine.{reach_of}
+use Rattle.lexmeaning.specs.ScanLaws.{SameOver}
 use Rattle.lexmeaning.proofs.Once.{one_state, one_run}
 use Rattle.lexmeaning.proofs.Ends.{Inside, Moves, turn_exists}
 use Rattle.lexmeaning.proofs.Step.{one_more, one_more_ended}
 use Rattle.lexmeaning.proofs.Reaches.{one_reach, machine_reach}
 use Rattle.lexmeaning.proofs.MachineLaws.{machine_laws}
 use Rattle.lexmeaning.proofs.MachineRun.{machine_candidates_exist, machine_run_exists}
-use Rattle.lexmeaning.proofs.Table.{table_after, table_run}
+use Rattle.lexmeaning.proofs.Table.{turns_to, far_to, end_asked_to, end_asked_from, table_alike, table_after, table_run}
 
 -- what is asked for is determined
 
@@ -55,10 +56,10 @@ one_after R x n s t f g d e h k = (one_state R x n s t h.turns k.turns, one_far 
 -- for a machine it exists
 
 -- the scan has ended, or its place lies in the input
-abbrev Alive : List ℕ → State → Type 0
+abbrev pub Alive : List ℕ → State → Type 0
 Alive x s = ((e : Ending) × (s.ended ≡ Some e)) ⊎ ((s.ended ≡ None) × Inside x s.place)
 
-either_true : (A B : Type 0) (d e : Bool) → (d ≡ true) ↔ A → (e ≡ true) ↔ B → (d || e ≡ true) ↔ (A ⊎ B)
+pub either_true : (A B : Type 0) (d e : Bool) → (d ≡ true) ↔ A → (e ≡ true) ↔ B → (d || e ≡ true) ↔ (A ⊎ B)
 either_true A B true e h k = (λ p. inl (h.0 refl), λ p. refl)
 either_true A B false e h k = (λ p. inr (k.0 p), λ p. from p)
   where
@@ -145,3 +146,30 @@ module _ (M : Machine) (laws : MachineLaws M) (S : Spec) (sound : IsSound S) (ta
 
   pub same_run : (w : List ℕ) (d : Ending) → Run (rules_of_machine M) x w d ↔ Run (rules_of S) x w d
   same_run w d = (λ h. table_run M S sound table x w d text h, λ h. run_back w d h)
+
+  turns_back : (n : ℕ) (s : State) → Turns (rules_of S) x n s → Turns (rules_of_machine M) x n s
+  turns_back n s h =
+      let (t, g, d, own) = machine_after_exists M laws x text n in
+      let there = (turns_to (rejects S) (rules_of_machine M) (rules_of S) (table_alike M S sound table) x n t text own.turns).0 in
+      subst (Turns (rules_of_machine M) x n) (one_state (rules_of S) x n t s there h) own.turns
+
+  far_back : (n f : ℕ) → Far (rules_of S) x n f → Far (rules_of_machine M) x n f
+  far_back n f h =
+      let (t, g, d, own) = machine_after_exists M laws x text n in
+      let there = far_to (rejects S) (rules_of_machine M) (rules_of S) (table_alike M S sound table) x text n g own.reaches in
+      subst (Far (rules_of_machine M) x n) (one_far (rules_of S) x n g f there h) own.reaches
+
+  end_back : (n : ℕ) → EndAsked (rules_of S) x n → EndAsked (rules_of_machine M) x n
+  end_back n h =
+      let (t, g, d, own) = machine_after_exists M laws x text n in
+      end_asked_from (rejects S) (rules_of_machine M) (rules_of S) (table_alike M S sound table) x text n t own.turns h
+
+  -- A machine that is a table has the turns, demand and run of its specification.
+  pub same_over : SameOver (rules_of_machine M) (rules_of S) x
+  same_over = record {
+    turns = λ n s. (λ h. (turns_to (rejects S) (rules_of_machine M) (rules_of S) (table_alike M S sound table) x n s text h).0, λ h. turns_back n s h);
+    far = λ n f. (λ h. far_to (rejects S) (rules_of_machine M) (rules_of S) (table_alike M S sound table) x text n f h, λ h. far_back n f h);
+    end_asked = λ n. (λ h. end_asked_to (rejects S) (rules_of_machine M) (rules_of S) (table_alike M S sound table) x text n h, λ h. end_back n h);
+    after = same_after;
+    run = same_run;
+  }

@@ -8,17 +8,20 @@ use Rattle.lexmeaning.specs.Spec.{Spec, Rule, Cut, Whole, Head, Trail}
 use Rattle.lexmeaning.specs.Rules.{rules_of}
 use Rattle.lexmeaning.specs.Laws.{Laws}
 use Rattle.lexmeaning.specs.Machine.{Keeps}
-use Rattle.lexmeaning.specs.Sound.{CutFits, IsSound}
+use Rattle.lexmeaning.specs.Sound.{HasFixed, IsCutOf, IsSound}
 use Rattle.lexmeaning.specs.Fits.{InTrail, Fits}
 
 pub same_rule : (S : Spec) (i : ℕ) (q r : Rule) → slice_get S.rules i ≡ Some q → slice_get S.rules i ≡ Some r → q ≡ r
 same_rule S i q r h k = cc
 
-keeps_from : (cut : Cut) (head : Tree) (trail : Option Tree) (u v : List ℕ) (n k : ℕ) → CutFits cut head trail → In head u → InTrail trail v → n ≡ length u + length v → k ≡ length u → 1 ≤ k → Keeps cut n k
+fixed_is : (t : Tree) (n : ℕ) (w : List ℕ) → HasFixed t n → In t w → length w ≡ n
+fixed_is t n w h word = let low : n ≤ length w = h.0.none_shorter w word in let high : length w ≤ n = h.0.longest.1 w word in omega arith
+
+keeps_from : (cut : Cut) (head : Tree) (trail : Option Tree) (u v : List ℕ) (n k : ℕ) → IsCutOf head trail cut → In head u → InTrail trail v → n ≡ length u + length v → k ≡ length u → 1 ≤ k → Keeps cut n k
 keeps_from cut head None u v n k fits h t size is some = let z : length v ≡ 0 = ap length t in subst (λ d. Keeps d n k) (sym fits) (omega arith)
 keeps_from Whole head (Some q) u v n k fits h t size is some = absurd fits
-keeps_from (Head m) head (Some q) u v n k fits h t size is some = let e : length u ≡ m = fits u h in (omega arith, omega arith, omega arith)
-keeps_from (Trail m) head (Some q) u v n k fits h t size is some = let e : length v ≡ m = fits v t in (omega arith, some)
+keeps_from (Head m) head (Some q) u v n k fits h t size is some = let e : length u ≡ m = fixed_is head m u fits h in (omega arith, omega arith, omega arith)
+keeps_from (Trail m) head (Some q) u v n k fits h t size is some = let e : length v ≡ m = fixed_is q m v fits.1 t in (omega arith, some)
 
 -- The cut keeps the text.
 pub cut_keeps : (S : Spec) (sound : IsSound S) (c : ℕ) (bol : Bool) (w : List ℕ) (i k : ℕ) (r : Rule) → slice_get S.rules i ≡ Some r → Fits S c bol w i k → Keeps r.cut (length w) k

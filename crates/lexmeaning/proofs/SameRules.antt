@@ -1,18 +1,19 @@
--- Specifications with the same rules have the same turns, demand and run.
-use Rattle.std.proofs.Common.{◌≡◌, ℕ, ◌<◌, Bool, true, List, ◌++◌, length, ◌↔◌, sym, ◌∙◌, ap, subst, arith}
+-- Specifications with the same rules have the same turns, demand and run, and answer the same.
+use Rattle.std.proofs.Common.{◌≡◌, ℕ, suc, ◌<◌, Bool, true, false, ◌||◌, List, [], ◌∷◌, ◌++◌, length, ◌↔◌, Some, refl, sym, ◌∙◌, ap, subst, arith}
 use Rattle.std.specs.Prelude.{slice_get}
 use Rattle.lexmeaning.specs.Text.{IsText}
-use Rattle.lexmeaning.specs.Spec.{Spec, statements_at}
+use Rattle.lexmeaning.specs.Spec.{Spec, Rule, statements_at, has_reject, any_reject, rejects}
+use Rattle.lexmeaning.specs.Reports.{HasFit, UselessWhere, Useless, BackWord}
+use Rattle.lexmeaning.specs.TableFor.{Accepted}
+use Rattle.lexmeaning.specs.ScanLaws.{SameOver}
+use Rattle.lexmeaning.specs.TableLaws.{SameAnswers}
 use Rattle.lexmeaning.specs.Rules.{Live, rules_of}
 use Rattle.lexmeaning.specs.SameRules.{SameRules}
 use Rattle.lexmeaning.specs.Sound.{IsSound}
-use Rattle.lexmeaning.specs.Acting.{Ending}
-use Rattle.lexmeaning.specs.Run.{State, Run}
-use Rattle.lexmeaning.specs.Scanned.{AfterTurns}
 use Rattle.lexmeaning.proofs.Actions.{BeginsBelow, begins_below}
 use Rattle.lexmeaning.proofs.Texts.{is_text_append}
 use Rattle.lexmeaning.proofs.Exists.{candidates_exist}
-use Rattle.lexmeaning.proofs.Table.{Alike, get_at, after_to, run_to}
+use Rattle.lexmeaning.proofs.Table.{Alike, get_at, turns_to, far_to, end_asked_to, after_to, run_to}
 
 pub turned_round : (S T : Spec) → SameRules S T → SameRules T S
 turned_round S T same = record {
@@ -52,8 +53,86 @@ module _ (S T : Spec) (sound : IsSound S) (sound' : IsSound T) (same : SameRules
     exist = λ c bol y. (let r = candidates_exist T sound' c bol y in (r.0, r.2));
   }
 
-  pub after_to_same : (x : List ℕ) → IsText x → (n : ℕ) (s : State) (f : ℕ) (e : Bool) → AfterTurns (rules_of S) x n s f e → AfterTurns (rules_of T) x n s f e
-  after_to_same x text n s f e h = after_to true (rules_of S) (rules_of T) rules_alike x text n s f e h
+-- Their scans are the same.
+pub same_over : (S T : Spec) → IsSound S → IsSound T → SameRules S T → (x : List ℕ) → IsText x → SameOver (rules_of S) (rules_of T) x
+same_over S T sound sound' same x text = record {
+  turns = λ n s. (λ h. (turns_to true (rules_of S) (rules_of T) on x n s text h).0, λ h. (turns_to true (rules_of T) (rules_of S) back x n s text h).0);
+  far = λ n f. (λ h. far_to true (rules_of S) (rules_of T) on x text n f h, λ h. far_to true (rules_of T) (rules_of S) back x text n f h);
+  end_asked = λ n. (λ h. end_asked_to true (rules_of S) (rules_of T) on x text n h, λ h. end_asked_to true (rules_of T) (rules_of S) back x text n h);
+  after = λ n s f e. (λ h. after_to true (rules_of S) (rules_of T) on x text n s f e h, λ h. after_to true (rules_of T) (rules_of S) back x text n s f e h);
+  run = λ w d. (λ h. run_to true (rules_of S) (rules_of T) on x text w d h, λ h. run_to true (rules_of T) (rules_of S) back x text w d h);
+}
+  where
+    on : Alike true (rules_of S) (rules_of T)
+    on = rules_alike S T sound sound' same
 
-  pub run_to_same : (x : List ℕ) → IsText x → (w : List ℕ) (d : Ending) → Run (rules_of S) x w d → Run (rules_of T) x w d
-  run_to_same x text w d h = run_to true (rules_of S) (rules_of T) rules_alike x text w d h
+    back : Alike true (rules_of T) (rules_of S)
+    back = rules_alike T S sound' sound (turned_round S T same)
+
+-- What they answer is the same.
+
+same_rejecting : (rs qs : List Rule) → length rs ≡ length qs → ((i : ℕ) (r q : Rule) → slice_get rs i ≡ Some r → slice_get qs i ≡ Some q → r.statements ≡ q.statements) → any_reject rs ≡ any_reject qs
+same_rejecting [] [] e h = refl
+same_rejecting [] (q ∷ qs) e h = absurd (omega (arith, e))
+same_rejecting (r ∷ rs) [] e h = absurd (omega (arith, e))
+same_rejecting (r ∷ rs) (q ∷ qs) e h =
+    let first : has_reject r.statements ≡ has_reject q.statements = ap has_reject (h 0 r q refl refl) in
+    let later : any_reject rs ≡ any_reject qs = same_rejecting rs qs (omega (arith, e)) (λ i a b p k. h (suc i) a b p k) in
+    ap (λ z. z || any_reject rs) first ∙ ap (λ z. has_reject q.statements || z) later
+
+module _ (S T : Spec) (same : SameRules S T) where
+  live_on : (c : ℕ) (bol : Bool) (w : List ℕ) → c < length S.conditions → IsText w → Live S c bol w → Live T c bol w
+  live_on c bol w lt text (u, is_text, some, i, k, fits) = (u, is_text, some, i, k, (same.fits c bol (w ++ u) i k lt (is_text_append w u text is_text)).0 fits)
+
+  fit_on : (c : ℕ) (bol : Bool) (w : List ℕ) (i : ℕ) → c < length S.conditions → IsText w → HasFit S c bol w i → HasFit T c bol w i
+  fit_on c bol w i lt text h = (h.0, (same.fits c bol w i h.0 lt text).0 h.1)
+
+  fit_back : (c : ℕ) (bol : Bool) (w : List ℕ) (i : ℕ) → c < length S.conditions → IsText w → HasFit T c bol w i → HasFit S c bol w i
+  fit_back c bol w i lt text h = (h.0, (same.fits c bol w i h.0 lt text).1 h.1)
+
+  accepted_on : (all : Bool) (c : ℕ) (bol : Bool) (w : List ℕ) (i : ℕ) → c < length S.conditions → IsText w → Accepted all S c bol w i → Accepted all T c bol w i
+  accepted_on true c bol w i lt text h = fit_on c bol w i lt text h
+  accepted_on false c bol w i lt text h = (fit_on c bol w i lt text h.0, λ j less k. h.1 j less (fit_back c bol w j lt text k))
+
+  useless_on : (all : Bool) (i : ℕ) → UselessWhere all S i → UselessWhere all T i
+  useless_on true i h = λ c bol w lt text k. (let below : c < length S.conditions = omega (arith, lt, same.conditions) in h c bol w below text (fit_back c bol w i below text k))
+  useless_on false i h = λ c bol w lt text k. (
+      let below : c < length S.conditions = omega (arith, lt, same.conditions) in
+      let earlier = h c bol w below text (fit_back c bol w i below text k) in
+      (earlier.0, earlier.1, fit_on c bol w earlier.0 below text earlier.2))
+
+  rejects_on : rejects S ≡ rejects T
+  rejects_on = same_rejecting S.rules T.rules same.rules (λ i r q p k. (same.actions i r q p k).1)
+
+  report_on : (i : ℕ) → Useless S i → Useless T i
+  report_on i h = (omega (arith, h.0, same.rules), subst (λ b. UselessWhere b T i) rejects_on (useless_on (rejects S) i h.1))
+
+  back_word_on : (c : ℕ) (bol : Bool) (w : List ℕ) → BackWord S c bol w → BackWord T c bol w
+  back_word_on c bol w h = record {
+    condition = omega (arith, h.condition, same.conditions);
+    text = h.text;
+    two_or_more = h.two_or_more;
+    goes_on = live_on c bol w h.condition h.text h.goes_on;
+    fits_none = λ i k. h.fits_none i (fit_back c bol w i h.condition h.text k);
+  }
+
+pub same_answers : (S T : Spec) → SameRules S T → SameAnswers S T
+same_answers S T same = record {
+  live = λ c bol w lt text. (λ h. live_on S T same c bol w lt text h, λ h. live_on T S back c bol w (below c lt) text h);
+  accepted = λ c bol w i lt text. (
+    λ h. subst (λ b. Accepted b T c bol w i) rejecting (accepted_on S T same (rejects S) c bol w i lt text h),
+    λ h. subst (λ b. Accepted b S c bol w i) (sym rejecting) (accepted_on T S back (rejects T) c bol w i (below c lt) text h),
+  );
+  rejecting = rejecting;
+  useless = λ i. (λ h. report_on S T same i h, λ h. report_on T S back i h);
+  back_words = λ c bol w. (λ h. back_word_on S T same c bol w h, λ h. back_word_on T S back c bol w h);
+}
+  where
+    back : SameRules T S
+    back = turned_round S T same
+
+    rejecting : rejects S ≡ rejects T
+    rejecting = rejects_on S T same
+
+    below : (c : ℕ) → c < length S.conditions → c < length T.conditions
+    below c lt = omega (arith, lt, same.conditions)

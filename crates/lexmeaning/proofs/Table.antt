@@ -243,7 +243,7 @@ module _ (all : Bool) (R Q : Rules) (alike : Alike all R Q) (x : List ℕ) (text
   asks_from p i lt (inl e) = inl e
   asks_from p i lt (inr h) = inr ((alike.live p.condition (at_line_start x p.at) (take i (drop p.at x)) lt (is_text_take i (drop p.at x) (is_text_drop p.at x text))).1 h)
 
-  reach_to : (p : Place) (r : ℕ) → p.condition < Q.conditions → Reach R x p r → Reach Q x p r
+  pub reach_to : (p : Place) (r : ℕ) → p.condition < Q.conditions → Reach R x p r → Reach Q x p r
   reach_to p r lt h = record { inside = h.inside; asked = λ i less. (λ a. asks_to p i lt ((h.asked i less).0 a), λ a. (h.asked i less).1 (asks_from p i lt a)) }
 
   end_asks_to : (p : Place) → p.condition < Q.conditions → AsksForEnd R x p → AsksForEnd Q x p
@@ -259,20 +259,20 @@ module _ (all : Bool) (R Q : Rules) (alike : Alike all R Q) (x : List ℕ) (text
   far_from_to s None f g lt (inl h) = inl h
   far_from_to s None f g lt (inr (a, r, reach, is)) = inr (a, r, reach_to s.place r lt reach, is)
 
-  far_to : (n f : ℕ) → Far R x n f → Far Q x n f
+  pub far_to : (n f : ℕ) → Far R x n f → Far Q x n f
   far_to zero f h = h
   far_to (suc n) g (s, f, turns, far, step) =
       let k = turns_to all R Q alike x n s text turns in
       (s, f, k.0, far_to n f far, far_from_to s s.ended f g k.1 step)
 
-  end_asked_to : (n : ℕ) → EndAsked R x n → EndAsked Q x n
+  pub end_asked_to : (n : ℕ) → EndAsked R x n → EndAsked Q x n
   end_asked_to zero h = h
   end_asked_to (suc n) (inl h) = inl (end_asked_to n h)
   end_asked_to (suc n) (inr (s, turns, going, asks)) =
       let k = turns_to all R Q alike x n s text turns in
       inr (s, k.0, going, end_asks_to s.place k.1 asks)
 
-  end_asked_from : (n : ℕ) (s : State) → Turns R x n s → EndAsked Q x n → EndAsked R x n
+  pub end_asked_from : (n : ℕ) (s : State) → Turns R x n s → EndAsked Q x n → EndAsked R x n
   end_asked_from zero s turns h = h
   end_asked_from (suc n) s (b, turns, next) (inl h) = inl (end_asked_from n b turns h)
   end_asked_from (suc n) s (b, turns, next) (inr (t, other, going, asks)) =

@@ -1,5 +1,5 @@
--- Bytes, and sets of bytes. A set is a number below 2 ^ 256 whose bit b says whether the byte b is in it, so two sets
--- with the same members are the same number.
+-- Bytes, and sets of bytes. A set is a number whose bit b says whether the byte b is in it. Those that are made here are below
+-- 2 ^ 256, so two of them with the same members are the same number.
 -- (POSIX, lex, Regular Expressions in lex: bracket expressions in the POSIX locale.)
 use Rattle.std.specs.Prelude.{◌≡◌, ℕ, zero, suc, ◌+◌, ◌-◌, ◌*◌, ◌^◌, ◌<◌, Bool, true, false, not, ◌&&◌, ◌||◌, ◌==◌, nat_eq, nat_le, if◌then◌else◌, List, Option, Some, None, codes}
 use Rattle.std.specs.Int.{bit_at}

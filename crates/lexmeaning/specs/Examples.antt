@@ -1,7 +1,7 @@
 -- Worked examples: small specifications, each with its rules as lex would write them.
-use Rattle.std.specs.Prelude.{ℕ, Bool, true, false, List, [], ◌∷◌, ◌++◌, Some, None, codes}
+use Rattle.std.specs.Prelude.{ℕ, Bool, true, false, List, [], ◌∷◌, ◌++◌, Some, None, codes, replicate, if◌then◌else◌}
 use Rattle.lexmeaning.specs.ByteSets.{single, range_set, union, complement, fold_case}
-use Rattle.lexmeaning.specs.Tree.{Tree, Trees, Set, Cat, Alt, Star, Repeat, no_trees, tree}
+use Rattle.lexmeaning.specs.Tree.{Tree, Trees, Empty, Set, Cat, Alt, Star, Repeat, no_trees, tree}
 use Rattle.lexmeaning.specs.Spec.{Spec, Rule, Condition, Cut, Whole, Head, Trail, Statement, Echo, Print, Begin, More, Less, Reject, End}
 use Rattle.lexmeaning.specs.Rules.{rules_of}
 use Rattle.lexmeaning.specs.Acting.{Status}
@@ -150,3 +150,20 @@ says_end = record { conditions = condition (codes "INITIAL") false (codes "end" 
 -- `a$b printf("X");` and `\x41 printf("Y");`
 abbrev pub dollar_inside : Spec
 dollar_inside = of_rules (rule (string (codes "a$b")) (Print (codes "X") ∷ []) ∷ rule (letter 65) (Print (codes "Y") ∷ []) ∷ [])
+
+-- `a+`, with REJECT or without, and `aa`
+abbrev pub many_or_two : Bool → Spec
+many_or_two rejecting =
+    of_rules (rule (Repeat (letter 97) 1 None) (if rejecting then Reject ∷ [] else []) ∷ rule (string (codes "aa")) [] ∷ [])
+
+-- `""` and `a REJECT;`
+abbrev pub nothing_or_a : Spec
+nothing_or_a = of_rules (rule Empty [] ∷ rule (letter 97) (Reject ∷ []) ∷ [])
+
+-- `ab/cd`, with this cut
+abbrev pub cut_by : Cut → Spec
+cut_by cut = of_rules (rule_before (string (codes "ab")) (string (codes "cd")) cut [] ∷ [])
+
+-- an end that prints so many bytes
+abbrev pub ends_with_bytes : ℕ → Spec
+ends_with_bytes n = record { conditions = condition (codes "INITIAL") false (replicate n 120) 0 ∷ []; rules = [] }

@@ -1,8 +1,8 @@
 -- Worked examples of machines, one for each specification of the same name: how far they ask after each turn, and where
 -- the text starts.
-use Rattle.std.specs.Prelude.{◌≡◌, ℕ, Bool, ◌&&◌, ◌||◌, List, [], ◌∷◌, codes, nat_eq, nat_le, if◌then◌else◌}
+use Rattle.std.specs.Prelude.{◌≡◌, ℕ, Bool, false, ◌&&◌, ◌||◌, List, [], ◌∷◌, codes, nat_eq, nat_le, if◌then◌else◌}
 use Rattle.lexmeaning.specs.ByteSets.{within}
-use Rattle.lexmeaning.specs.Spec.{Cut, Whole, Head, Statement, Echo, Print, Less, End}
+use Rattle.lexmeaning.specs.Spec.{Cut, Whole, Head, Statement, Echo, Print, Less, Reject, End}
 use Rattle.lexmeaning.specs.Machine.{Machine}
 use Rattle.lexmeaning.specs.PlainMachine.{told_of}
 
@@ -25,6 +25,20 @@ machine count next accepts goes_on cut statements = record {
 
 abbrev pub whole : ℕ → Cut
 whole i = Whole
+
+-- no rules: 0 is the start
+abbrev pub nothing : Machine
+nothing = record {
+  conditions = 1;
+  count = 0;
+  start = λ c bol. 0;
+  next = λ s b. 0;
+  accepts = λ s. [];
+  goes_on = λ s. false;
+  cut = whole;
+  statements = λ i. [];
+  ending = λ c. record { print = []; status = 0 };
+}
 
 -- 1 is the start, 2 after a, 3 after ab
 abbrev pub exit_after_ab : Machine
@@ -59,3 +73,10 @@ before_cd = machine 1
 abbrev pub one_by_one : Machine
 one_by_one = machine 1 (λ s b. if (nat_eq s 1 || nat_eq s 2) && nat_le 97 b && nat_le b 122 then 2 else 0)
     (λ s. if nat_eq s 2 then 0 ∷ [] else []) (λ s. nat_eq s 1 || nat_eq s 2) whole (λ i. Less 1 ∷ [])
+
+-- 1 is the start, 2 after a, 3 after two, 4 after more; the first rule has REJECT
+abbrev pub many_or_two : Machine
+many_or_two = machine 2
+    (λ s b. if nat_eq b 97 && nat_eq s 1 then 2 else (if nat_eq b 97 && nat_eq s 2 then 3 else (if nat_eq b 97 && (nat_eq s 3 || nat_eq s 4) then 4 else 0)))
+    (λ s. if nat_eq s 3 then 0 ∷ 1 ∷ [] else (if nat_eq s 2 || nat_eq s 4 then 0 ∷ [] else [])) (λ s. nat_le 1 s && nat_le s 4) whole
+    (λ i. if nat_eq i 0 then Reject ∷ [] else [])

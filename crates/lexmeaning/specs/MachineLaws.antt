@@ -1,9 +1,9 @@
 -- What each machine keeps to. (This project's.)
-use Rattle.std.specs.Prelude.{◌≡◌, ℕ, ◌≤◌, ◌<◌, true, List, [], length, ◌↔◌}
-use Rattle.std.specs.Prelude.{◌∷◌}
+use Rattle.std.specs.Prelude.{◌≡◌, ℕ, ◌≤◌, ◌<◌, Bool, true, false, List, [], ◌∷◌, length, ◌↔◌}
 use Rattle.std.specs.Coded.{×_prop, Unit-prop, le_prop}
 use Rattle.std.proofs.Props.{props}
 use Rattle.lexmeaning.specs.Text.{IsText, Among, Ascending}
+use Rattle.lexmeaning.specs.Spec.{has_reject}
 use Rattle.lexmeaning.specs.Machine.{Machine, walk}
 use Rattle.lexmeaning.specs.Legal.{IsLegal}
 
@@ -21,7 +21,28 @@ pub record MachineLaws (M : Machine) : Type 0 where
   pub goes_on : (s : ℕ) → (M.goes_on s ≡ true) ↔ ∥ LeadsToAccept M s ∥₁
   pub legal : (i : ℕ) → i < M.count → IsLegal M.conditions (M.statements i)
 
--- There is one proof of them at most, so a type may keep them.
+-- The machine's states are the numbers below n: the dead one, those in which matches start, and those that a byte leads to
+-- from one of them. No other number accepts.
+pub record StaysBelow (M : Machine) (n : ℕ) : Type 0 where
+  pub dead : 0 < n
+  pub start : (c : ℕ) (bol : Bool) → c < M.conditions → M.start c bol < n
+  pub next : (s b : ℕ) → s < n → b < 256 → M.next s b < n
+  pub accepts : (s i : ℕ) → Among (M.accepts s) i → s < n
+
+-- no rule has REJECT
+abbrev pub NoReject : Machine → Type 0
+NoReject M = (i : ℕ) → i < M.count → has_reject (M.statements i) ≡ false
+
+-- some rule has it
+abbrev pub SomeReject : Machine → Type 0
+SomeReject M = (i : ℕ) × (i < M.count) × (has_reject (M.statements i) ≡ true)
+
+-- the answer says whether some rule has REJECT
+abbrev pub Rejects : Machine → Bool → Type 0
+Rejects M false = NoReject M
+Rejects M true = SomeReject M
+
+-- There is one proof of these at most, so a type may keep them.
 Ascending-prop : (l : List ℕ) → IsProp (Ascending l)
 Ascending-prop [] = Unit-prop
 Ascending-prop (i ∷ is) = ×_prop (λ x y. λ k. λ j a. le_prop (x j a) (y j a) k) (Ascending-prop is)
@@ -35,4 +56,12 @@ MachineLaws-prop M x y = λ k. record {
   dead_accepts = (let p : IsProp (M.accepts 0 ≡ []) = Prim.hlevel props in p) x.dead_accepts y.dead_accepts k;
   goes_on = λ s. (let p : IsProp ((M.goes_on s ≡ true) ↔ ∥ LeadsToAccept M s ∥₁) = Prim.hlevel props in p) (x.goes_on s) (y.goes_on s) k;
   legal = λ i h. (let p : IsProp (IsLegal M.conditions (M.statements i)) = Prim.hlevel props in p) (x.legal i h) (y.legal i h) k;
+}
+
+pub StaysBelow-prop : (M : Machine) (n : ℕ) → IsProp (StaysBelow M n)
+StaysBelow-prop M n x y = λ k. record {
+  dead = le_prop x.dead y.dead k;
+  start = λ c bol h. le_prop (x.start c bol h) (y.start c bol h) k;
+  next = λ s b h g. le_prop (x.next s b h g) (y.next s b h g) k;
+  accepts = λ s i a. le_prop (x.accepts s i a) (y.accepts s i a) k;
 }

@@ -22,12 +22,14 @@ abbrev pub UselessWhere : Bool → Spec → ℕ → Type 0
 UselessWhere true S i = NeverFits S i
 UselessWhere false S i = AlwaysLater S i
 
--- the rule is never carried out
+-- the specification has the rule, and it is never carried out
 abbrev pub Useless : Spec → ℕ → Type 0
-Useless S i = UselessWhere (rejects S) S i
+Useless S i = (i < length S.rules) × UselessWhere (rejects S) S i
 
 -- after this word the scanner may have to back up: a longer word may fit, and this one fits no rule
 pub record BackWord (S : Spec) (c : ℕ) (bol : Bool) (w : List ℕ) : Type 0 where
+  pub condition : c < length S.conditions
+  pub text : IsText w
   pub two_or_more : 2 ≤ length w
   pub goes_on : Live S c bol w
   pub fits_none : (i : ℕ) → HasFit S c bol w i → ⊥

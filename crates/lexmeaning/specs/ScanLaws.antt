@@ -1,11 +1,11 @@
 -- The laws of a scan. Each is the contract of a function of this crate. (This project's.)
-use Rattle.std.specs.Prelude.{◌≡◌, ℕ, suc, ◌+◌, ◌≤◌, max, Bool, true, false, List, [], ◌++◌, length, ◌↔◌, Option, Some, None, slice_get}
+use Rattle.std.specs.Prelude.{◌≡◌, ℕ, suc, ◌+◌, ◌≤◌, ◌<◌, max, Bool, true, false, List, [], ◌++◌, length, ◌↔◌, Option, Some, None, slice_get}
 use Rattle.lexmeaning.specs.Text.{IsText, BeginsWith}
 use Rattle.lexmeaning.specs.Rules.{Rules}
 use Rattle.lexmeaning.specs.Candidates.{Candidate, Candidates}
 use Rattle.lexmeaning.specs.Acting.{Ending}
 use Rattle.lexmeaning.specs.Run.{Place, State, Turn, EndTurn, Turns, Run, first_state}
-use Rattle.lexmeaning.specs.Demand.{AsksAt, Reach, Far}
+use Rattle.lexmeaning.specs.Demand.{AsksAt, Reach, Far, EndAsked}
 use Rattle.lexmeaning.specs.Scanned.{AfterTurns, Scanned, Seen, seen_turn, then_turn, Covered}
 use Rattle.lexmeaning.specs.Machine.{Machine, rules_of_machine}
 use Rattle.lexmeaning.specs.PlainMachine.{told_of}
@@ -14,6 +14,10 @@ use Rattle.lexmeaning.specs.PlainMachine.{told_of}
 abbrev pub OneList : Rules → Type 0
 OneList R = (c : ℕ) (bol : Bool) (y : List ℕ) (ms ns : List Candidate) → Candidates R c bol y ms → Candidates R c bol y ns → ms ≡ ns
 
+-- and in some way
+abbrev pub SomeList : Rules → Type 0
+SomeList R = (c : ℕ) (bol : Bool) (y : List ℕ) → (ms : List Candidate) × Candidates R c bol y ms
+
 -- a turn has one outcome
 abbrev pub OneTurn : Rules → Type 0
 OneTurn R = (x : List ℕ) (p : Place) (s t : State) → Turn R x p s → Turn R x p t → s ≡ t
@@ -21,6 +25,10 @@ OneTurn R = (x : List ℕ) (p : Place) (s t : State) → Turn R x p s → Turn R
 -- after n turns the scan stands in one way
 abbrev pub OneState : Rules → Type 0
 OneState R = (x : List ℕ) (n : ℕ) (s t : State) → Turns R x n s → Turns R x n t → s ≡ t
+
+-- and in some way
+abbrev pub SomeState : Rules → Type 0
+SomeState R = (x : List ℕ) (n : ℕ) → (s : State) × Turns R x n s
 
 -- an input has one run
 abbrev pub OneRun : Rules → Type 0
@@ -37,6 +45,25 @@ NoGap R = (x : List ℕ) (p : Place) (i j : ℕ) → IsText x → p.at + j ≤ l
 -- a match reaches in one way
 abbrev pub OneReach : Rules → Type 0
 OneReach R = (x : List ℕ) (p : Place) (q r : ℕ) → Reach R x p q → Reach R x p r → q ≡ r
+
+-- and in some way
+abbrev pub SomeReach : Rules → Type 0
+SomeReach R = (x : List ℕ) (p : Place) → IsText x → p.at < length x → p.condition < R.conditions → (r : ℕ) × Reach R x p r
+
+-- After n turns a scan stands in one way, and they ask for one number of bytes, and for the end or not.
+abbrev pub OneDemand : Rules → Type 0
+OneDemand R = (x : List ℕ) (n : ℕ) (s t : State) (f g : ℕ) (d e : Bool) → AfterTurns R x n s f d → AfterTurns R x n t g e → (s ≡ t) × (f ≡ g) × (d ≡ e)
+
+-- and there are such
+abbrev pub SomeDemand : Rules → Type 0
+SomeDemand R = (x : List ℕ) (n : ℕ) → IsText x → (s : State) × (far : ℕ) × (end_asked : Bool) × AfterTurns R x n s far end_asked
+
+-- The same where nothing decides which words are live: it is never so that there is no reach, and no such state.
+abbrev pub NeverNoReach : Rules → Type 0
+NeverNoReach R = (x : List ℕ) (p : Place) → IsText x → p.at < length x → ((r : ℕ) → Reach R x p r → ⊥) → ⊥
+
+abbrev pub NeverNoDemand : Rules → Type 0
+NeverNoDemand R = (x : List ℕ) (n : ℕ) → IsText x → ((s : State) (far : ℕ) (end_asked : Bool) → AfterTurns R x n s far end_asked → ⊥) → ⊥
 
 -- The text starts at or before the place, and the place is not past what the turns asked for.
 abbrev pub StaysCovered : Rules → Type 0
@@ -83,11 +110,17 @@ KnownAfterEnd R = (given : List ℕ) (at_end : Bool) (n : ℕ) (s t : State) →
 abbrev pub KnownOnceEnded : Rules → Type 0
 KnownOnceEnded R = (given : List ℕ) (at_end : Bool) (n : ℕ) (s : State) (e : Ending) → s.ended ≡ Some e → Scanned R given at_end n s → Scanned R given at_end (suc n) s
 
--- two sets of rules with the same turns, demand and run
+-- two sets of rules with the same turns, demand and run over an input
+pub record SameOver (R Q : Rules) (x : List ℕ) : Type 0 where
+  pub turns : (n : ℕ) (s : State) → Turns R x n s ↔ Turns Q x n s
+  pub far : (n f : ℕ) → Far R x n f ↔ Far Q x n f
+  pub end_asked : (n : ℕ) → EndAsked R x n ↔ EndAsked Q x n
+  pub after : (n : ℕ) (s : State) (far : ℕ) (end_asked : Bool) → AfterTurns R x n s far end_asked ↔ AfterTurns Q x n s far end_asked
+  pub run : (w : List ℕ) (d : Ending) → Run R x w d ↔ Run Q x w d
+
+-- over each input
 abbrev pub SameScan : Rules → Rules → Type 0
-SameScan R Q = (x : List ℕ) → IsText x →
-    ((n : ℕ) (s : State) (far : ℕ) (end_asked : Bool) → AfterTurns R x n s far end_asked ↔ AfterTurns Q x n s far end_asked)
-    × ((w : List ℕ) (d : Ending) → Run R x w d ↔ Run Q x w d)
+SameScan R Q = (x : List ℕ) → IsText x → SameOver R Q x
 
 -- a row of what the plain program tells: after n turns they ask for so many bytes, and the text starts there
 abbrev pub IsTold : Rules → List ℕ → ℕ → ℕ × ℕ → Type 0

@@ -3,20 +3,21 @@
 use Rattle.std.specs.Prelude.{◌≡◌, ℕ, ◌≤◌, ◌<◌, List, [], ◌∷◌, length, Option, Some, None, IfSome, slice_get, ⊤}
 use Rattle.lexmeaning.specs.Text.{Among, Ascending}
 use Rattle.lexmeaning.specs.Tree.{Tree, In}
-use Rattle.lexmeaning.specs.Shapes.{IsSoundTree}
+use Rattle.lexmeaning.specs.Shapes.{IsSoundTree, HasLengths}
 use Rattle.lexmeaning.specs.Spec.{Spec, Rule, Condition, Cut, Whole, Head, Trail}
 use Rattle.lexmeaning.specs.Legal.{IsLegal}
 
--- each word of the tree has n bytes
-abbrev pub HasLength : Tree → ℕ → Type 0
-HasLength t n = (w : List ℕ) → In t w → length w ≡ n
+-- each word of the tree has n bytes, and n is at most 65,535
+abbrev pub HasFixed : Tree → ℕ → Type 0
+HasFixed t n = HasLengths (In t) n (Some n) × (n ≤ 65535)
 
--- The cut names a side of fixed length; without trailing context it is the whole.
-abbrev pub CutFits : Cut → Tree → Option Tree → Type 0
-CutFits cut head None = cut ≡ Whole
-CutFits Whole head (Some t) = ⊥
-CutFits (Head m) head (Some t) = HasLength head m
-CutFits (Trail n) head (Some t) = HasLength t n
+-- A side of such a fixed length gives the cut: the head if it is one, and else the trailing context. Without trailing
+-- context the cut is the whole.
+abbrev pub IsCutOf : Tree → Option Tree → Cut → Type 0
+IsCutOf head None cut = cut ≡ Whole
+IsCutOf head (Some after) (Head m) = HasFixed head m
+IsCutOf head (Some after) (Trail n) = ((m : ℕ) → HasFixed head m → ⊥) × HasFixed after n
+IsCutOf head (Some after) Whole = ⊥
 
 -- a list of condition numbers: in order, each that of one of n conditions
 abbrev pub IsConditionList : ℕ → List ℕ → Type 0
@@ -38,10 +39,11 @@ pub record IsSoundRule (n : ℕ) (r : Rule) : Type 0 where
   pub listed : IfSome r.conditions (IsConditionList n)
   pub head : IsSoundTree r.head
   pub trail : IfSome r.trail IsSoundTree
-  pub cut : CutFits r.cut r.head r.trail
+  pub cut : IsCutOf r.head r.trail r.cut
   pub legal : IsLegal n r.statements
 
 pub record IsSound (S : Spec) : Type 0 where
   pub some_condition : 1 ≤ length S.conditions
   pub ends : (c : ℕ) (k : Condition) → slice_get S.conditions c ≡ Some k → k.end.status ≤ 63
+  pub prints : (c : ℕ) (k : Condition) → slice_get S.conditions c ≡ Some k → length k.end.print ≤ 4096
   pub rules : (i : ℕ) (r : Rule) → slice_get S.rules i ≡ Some r → IsSoundRule (length S.conditions) r

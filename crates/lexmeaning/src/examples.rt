@@ -1,6 +1,10 @@
 //! Worked examples.
 
 ghost use Rattle.std.specs.Prelude.{ℕ, Bool, true, false, List, [], ◌∷◌, ◌++◌, codes};
+ghost use Rattle.lexmeaning.specs.Spec.{Head, Trail};
+ghost use Rattle.lexmeaning.specs.Sound.{IsSound};
+ghost use Rattle.lexmeaning.specs.Reports.{Useless, BackWord};
+ghost use Rattle.lexmeaning.specs.MachineLaws.{StaysBelow, Rejects};
 ghost use Rattle.lexmeaning.specs.Examples as E;
 ghost use Rattle.lexmeaning.specs.MachineExamples as M;
 
@@ -54,4 +58,40 @@ pub fn examples_of_demand()
     ensures held_after_backing_up { M.Tells M.abc (codes "abab") ((3, 1) ∷ (3, 2) ∷ (4, 3) ∷ (4, 4) ∷ (4, 4) ∷ []) }
     ensures held_context { M.Tells M.before_cd (codes "abcdab") ((4, 2) ∷ (4, 3) ∷ (4, 4) ∷ (6, 5) ∷ (6, 6) ∷ (6, 6) ∷ []) }
     ensures held_one_by_one { M.Tells M.one_by_one (codes "aaaaa") ((5, 1) ∷ (5, 2) ∷ (5, 3) ∷ (5, 4) ∷ (5, 5) ∷ (5, 5) ∷ []) }
+{}
+
+/// Which specifications are sound: the cut is that of the head, if that has a fixed length, and an end prints at most 4,096 bytes.
+pub fn examples_of_soundness()
+    ensures head_cuts { IsSound (E.cut_by (Head 2)) }
+    ensures trail_does_not { IsSound (E.cut_by (Trail 2)) → ⊥ }
+    ensures shorter_cut { IsSound (E.cut_by (Head 1)) → ⊥ }
+    ensures trail_cuts { IsSound E.trim_lines }
+    ensures longest_end { IsSound (E.ends_with_bytes 4096) }
+    ensures longer_end { IsSound (E.ends_with_bytes 4097) → ⊥ }
+{}
+
+/// Which rules are useless, and which texts are back words.
+pub fn examples_of_reports()
+    ensures later_rule { Useless (E.many_or_two false) 1 }
+    ensures first_rule { Useless (E.many_or_two false) 0 → ⊥ }
+    ensures no_rule { Useless (E.many_or_two false) 2 → ⊥ }
+    ensures later_with_reject { Useless (E.many_or_two true) 1 → ⊥ }
+    ensures never_fits { Useless E.nothing_or_a 0 }
+    ensures longer_fits { (bol : Bool) → BackWord E.abc 0 bol (codes "ab") }
+    ensures one_byte { (bol : Bool) → BackWord E.abc 0 bol (codes "a") → ⊥ }
+    ensures whole_word { (bol : Bool) → BackWord E.abc 0 bol (codes "abc") → ⊥ }
+    ensures dead_word { (bol : Bool) → BackWord E.abc 0 bol (codes "ad") → ⊥ }
+    ensures fits_itself { (bol : Bool) → BackWord E.all_fronts 0 bol (codes "ab") → ⊥ }
+    ensures no_condition { (bol : Bool) → BackWord E.abc 1 bol (codes "ab") → ⊥ }
+{}
+
+/// How many states machines have, and whether their rules have REJECT.
+pub fn examples_of_machines()
+    ensures five_states { StaysBelow M.abc 5 }
+    ensures no_fewer { StaysBelow M.abc 4 → ⊥ }
+    ensures some_state { StaysBelow M.nothing 0 → ⊥ }
+    ensures no_reject { Rejects M.abc false }
+    ensures not_some { Rejects M.abc true → ⊥ }
+    ensures some_reject { Rejects M.many_or_two true }
+    ensures not_none { Rejects M.many_or_two false → ⊥ }
 {}

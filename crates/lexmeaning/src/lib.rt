@@ -10,16 +10,20 @@ mod tables;
 mod turns;
 mod words;
 
-pub use demand::{no_gap, one_reach, same_whatever_follows, stays_covered};
+pub use demand::{
+    no_gap, one_demand, one_reach, same_whatever_follows, some_demand, some_reach, stays_covered,
+};
 pub use examples::{
-    examples_of_actions, examples_of_demand, examples_of_ends, examples_of_matching,
-    examples_of_places,
+    examples_of_actions, examples_of_demand, examples_of_ends, examples_of_machines,
+    examples_of_matching, examples_of_places, examples_of_reports, examples_of_soundness,
 };
 pub use knowledge::{
     begins_the_run, known_after_end, known_after_match, known_after_match_at_end, known_at_first,
     known_once_ended, part_begins_the_run,
 };
 pub use plain::{plain_demand, plain_run};
-pub use tables::{same_rules_scan, table_scan};
-pub use turns::{one_list, one_run, one_state, one_turn, some_run};
-pub use words::word_readings;
+pub use tables::{
+    same_rules_answers, same_rules_scan, states_below, table_rejects, table_reports, table_scan,
+};
+pub use turns::{one_list, one_run, one_state, one_turn, some_list, some_run, some_state};
+pub use words::{never_no_count, word_readings};

@@ -5,12 +5,18 @@ ghost use Rattle.lexmeaning.specs.Rules.{rules_of};
 ghost use Rattle.lexmeaning.specs.Machine.{Machine, rules_of_machine};
 ghost use Rattle.lexmeaning.specs.Sound.{IsSound};
 ghost use Rattle.lexmeaning.specs.MachineLaws.{MachineLaws};
-ghost use Rattle.lexmeaning.specs.ScanLaws.{OneList, OneTurn, OneState, OneRun, SomeRun};
+ghost use Rattle.lexmeaning.specs.ScanLaws.{OneList, SomeList, OneTurn, OneState, SomeState, OneRun, SomeRun};
 
 /// The matches at a place are listed in one way.
 pub fn one_list()
     ensures specification { (S : Spec) → OneList (rules_of S) }
     ensures machine { (M : Machine) → OneList (rules_of_machine M) }
+{}
+
+/// And they are listed in some way: those of a sound specification, and of a machine that keeps its laws.
+pub fn some_list()
+    ensures specification { (S : Spec) → IsSound S → SomeList (rules_of S) }
+    ensures machine { (M : Machine) → MachineLaws M → SomeList (rules_of_machine M) }
 {}
 
 /// A turn has at most one outcome.
@@ -23,6 +29,12 @@ pub fn one_turn()
 pub fn one_state()
     ensures specification { (S : Spec) → OneState (rules_of S) }
     ensures machine { (M : Machine) → OneState (rules_of_machine M) }
+{}
+
+/// And it stands in some way.
+pub fn some_state()
+    ensures specification { (S : Spec) → IsSound S → SomeState (rules_of S) }
+    ensures machine { (M : Machine) → MachineLaws M → SomeState (rules_of_machine M) }
 {}
 
 /// An input has at most one run.

@@ -12,7 +12,7 @@ use Rattle.lexmeaning.specs.Plain.{default_match}
 use Rattle.lexmeaning.specs.Trail.{trail_from, falling}
 use Rattle.lexmeaning.proofs.Falling.{falling-snoc}
 use Rattle.lexmeaning.proofs.MachineLaws.{walk-append}
-use Rattle.lexmachine.specs.Rejecting.{NoReject}
+use Rattle.lexmeaning.specs.MachineLaws.{NoReject}
 use Rattle.lexscan.specs.declared.act.Acting.{Acting}
 use Rattle.lexscan.specs.declared.act.Step.{Step}
 use Rattle.lexscan.specs.declared.state.Spot.{Spot}

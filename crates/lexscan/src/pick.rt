@@ -3,7 +3,7 @@ ghost use Rattle.std.specs.Prelude.{◌≡◌, ℕ, ◌+◌, ◌-◌, ◌^◌, �
 ghost use Rattle.lexmeaning.specs.Text.{Among};
 ghost use Rattle.lexmeaning.specs.PlainMachine.{match_of};
 ghost use Rattle.lexmeaning.specs.Trail.{falling};
-ghost use Rattle.lexmachine.specs.Rejecting.{NoReject};
+ghost use Rattle.lexmeaning.specs.MachineLaws.{NoReject};
 ghost use Rattle.lexscan.specs.Reads.{write_fault_count};
 ghost use Rattle.lexscan.specs.Descends.{matches_of, CutAll, Performed};
 ghost use Rattle.lexscan.specs.Picks.{IsFirst, Tells, trail_of};

@@ -5,7 +5,7 @@ ghost use Rattle.lexmeaning.specs.Text.{Among};
 ghost use Rattle.lexscan.specs.Reads.{read_fault_count, write_fault_count, end_step};
 ghost use Rattle.lexscan.specs.Sees.{Wants};
 ghost use Rattle.lexscan.specs.Descends.{matches_of, CutAll};
-ghost use Rattle.lexmachine.specs.Rejecting.{NoReject};
+ghost use Rattle.lexmeaning.specs.MachineLaws.{NoReject};
 ghost use Rattle.lexscan.specs.Picks.{Tells, trail_of};
 ghost use Rattle.lexscan.specs.Stands.{NoneAfterEnd, GoesOn};
 ghost use Rattle.lexscan.specs.Moves.{stays, left_bytes, left_at, Left, Acted, EndLeft, Moved};

@@ -1,14 +1,15 @@
 -- Sides of fixed length.
-use Rattle.std.proofs.Common.{◌≡◌, ℕ, ◌≤◌, ◌==◌, ◌&&◌, Bool, true, length, Option, Some, None, refl, sym, ap, ◌∙◌, arith, rules}
-use Rattle.std.specs.Prelude.{IfSome, IfNone, nat_le}
-use Rattle.std.proofs.lemmas.Bool.{and_from, eq-eqb}
+use Rattle.std.proofs.Common.{◌≡◌, ℕ, ◌≤◌, ◌==◌, ◌&&◌, Bool, true, false, length, Option, Some, None, refl, sym, ap, subst, ◌∙◌, arith, rules}
+use Rattle.std.specs.Prelude.{IfSome, IfNone, nat_le, not}
+use Rattle.std.proofs.lemmas.Bool.{and_parts, and_from, eq-eqb, eqb-true, leb-true}
 use Rattle.lexmeaning.specs.Shapes.{Language, LongestIs, HasLengths, IsSoundTree}
 use Rattle.lexmeaning.specs.Tree.{Tree, In}
 use Rattle.lexmeaning.specs.Spec.{Cut, Whole, Head, Trail}
 use Rattle.lexre.specs.Lengths.{least, greatest}
 use Rattle.lexre.proofs.LengthLaws.{has_lengths}
-use Rattle.lexspec.specs.RuleItems.{HasFixed, IsCutOf, is_number}
-use Rattle.lexspec.specs.Tests.{has_length, cut_fits}
+use Rattle.lexmeaning.specs.Sound.{HasFixed, IsCutOf}
+use Rattle.lexspec.specs.RuleItems.{is_number}
+use Rattle.lexspec.specs.Tests.{has_length, has_fixed, is_fixed, is_whole, cut_fits}
 
 one_least : (L : Language) (m n : ℕ) (g h : Option ℕ) → HasLengths L m g → HasLengths L n h → m ≡ n
 one_least L m n g h a b =
@@ -33,7 +34,7 @@ not_fixed t m g has differ n (fixed, few) =
     differ (one_longest (In t) g (Some n) has.longest fixed.longest ∙ ap Some (sym same))
 
 -- a fixed length passes the test
-fixed_is_tested : (t : Tree) (n : ℕ) → IsSoundTree t → HasFixed t n → (has_length t n && nat_le n 65535) ≡ true
+fixed_is_tested : (t : Tree) (n : ℕ) → IsSoundTree t → HasFixed t n → has_fixed t n ≡ true
 fixed_is_tested t n sound (fixed, few) =
     let all = has_lengths t sound in
     let low : least t ≡ n = one_least (In t) (least t) n (greatest t) (Some n) all fixed in
@@ -43,6 +44,36 @@ fixed_is_tested t n sound (fixed, few) =
     le_true : (a b : ℕ) → a ≤ b → nat_le a b ≡ true
     le_true a b h = search rules
 
+-- what passes has a fixed length
+pub test_is_fixed : (t : Tree) (n : ℕ) → IsSoundTree t → has_fixed t n ≡ true → HasFixed t n
+test_is_fixed t n sound h =
+    let both = and_parts (has_length t n) (nat_le n 65535) h in
+    let ends = and_parts (least t == n) (is_number (greatest t) n) both.0 in
+    (from (greatest t) (eqb-true (least t) n ends.0) ends.1 (has_lengths t sound), leb-true n 65535 both.1)
+  where
+    from : (g : Option ℕ) → least t ≡ n → is_number g n ≡ true → HasLengths (In t) (least t) g → HasLengths (In t) n (Some n)
+    from None low high has = absurd (no high)
+      where
+        no : false ≡ true → ⊥
+        no e = cc
+    from (Some m) low high has = subst (λ z. HasLengths (In t) n (Some z)) (eqb-true m n high) (subst (λ z. HasLengths (In t) z (Some m)) low has)
+
+never_fixed : (t : Tree) → IsSoundTree t → ((n : ℕ) → HasFixed t n → ⊥) → (b : Bool) → is_fixed t ≡ b → not b ≡ true
+never_fixed t sound none true e = absurd (none (least t) (test_is_fixed t (least t) sound e))
+never_fixed t sound none false e = refl
+
+pub not_fixed_is : (t : Tree) → IsSoundTree t → (b : Bool) → is_fixed t ≡ b → not b ≡ true → (n : ℕ) → HasFixed t n → ⊥
+not_fixed_is t sound true e h n fixed = no h
+  where
+    no : false ≡ true → ⊥
+    no p = cc
+not_fixed_is t sound false e h n fixed =
+    let low : least t ≡ n = one_least (In t) (least t) n (greatest t) (Some n) (has_lengths t sound) fixed.0 in
+    no (sym e ∙ ap (has_fixed t) low ∙ fixed_is_tested t n sound fixed)
+  where
+    no : false ≡ true → ⊥
+    no p = cc
+
 pub cut_is_tested : (cut : Cut) (head : Tree) (trail : Option Tree) → IsSoundTree head → IfSome trail IsSoundTree → IsCutOf head trail cut → cut_fits cut head trail ≡ true
 cut_is_tested cut head None h k is = ap whole is
   where
@@ -50,7 +81,29 @@ cut_is_tested cut head None h k is = ap whole is
     whole c = cut_fits c head None
 cut_is_tested Whole head (Some t) h k is = absurd is
 cut_is_tested (Head m) head (Some t) h k is = fixed_is_tested head m h is
-cut_is_tested (Trail n) head (Some t) h k is = fixed_is_tested t n k is.1
+cut_is_tested (Trail n) head (Some t) h k is = and_from (not (is_fixed head)) (has_fixed t n) (never_fixed head h is.0 (is_fixed head) refl) (fixed_is_tested t n k is.1)
+
+whole_is : (cut : Cut) → is_whole cut ≡ true → cut ≡ Whole
+whole_is Whole h = refl
+whole_is (Head m) h = absurd (no h)
+  where
+    no : false ≡ true → ⊥
+    no p = cc
+whole_is (Trail n) h = absurd (no h)
+  where
+    no : false ≡ true → ⊥
+    no p = cc
+
+-- the cut that passes is the one that the sides give
+pub cut_is_fit : (cut : Cut) (head : Tree) (trail : Option Tree) → IsSoundTree head → IfSome trail IsSoundTree → cut_fits cut head trail ≡ true → IsCutOf head trail cut
+cut_is_fit cut head None h k fits = whole_is cut fits
+cut_is_fit Whole head (Some t) h k fits = no fits
+  where
+    no : false ≡ true → ⊥
+    no p = cc
+cut_is_fit (Head m) head (Some t) h k fits = test_is_fixed head m h fits
+cut_is_fit (Trail n) head (Some t) h k fits =
+    let both = and_parts (not (is_fixed head)) (has_fixed t n) fits in (not_fixed_is head h (is_fixed head) refl both.0, test_is_fixed t n k both.1)
 
 -- where neither side is fixed there is no cut
 pub no_cut : (head after : Tree) → ((n : ℕ) → HasFixed head n → ⊥) → ((n : ℕ) → HasFixed after n → ⊥) → (cut : Cut) → IsCutOf head (Some after) cut → ⊥

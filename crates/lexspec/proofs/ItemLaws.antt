@@ -13,7 +13,8 @@ use Rattle.lexaction.specs.Names.{number_from, names_of}
 use Rattle.lexaction.specs.declared.condition.Condition.{Condition}
 use Rattle.lexmeaning.specs.Reading.{after_blanks}
 use Rattle.lexspec.specs.Items.{Conditions, Trailing, Subject, at_end, matching, starts_rule, conditions_at, IsSubject, action_in, outside}
-use Rattle.lexspec.specs.RuleItems.{numbers_of, IsTrail, IsCutOf}
+use Rattle.lexmeaning.specs.Sound.{IsCutOf}
+use Rattle.lexspec.specs.RuleItems.{numbers_of, IsTrail}
 use Rattle.lexspec.specs.ItemReads.{names_in, NoRules, NoSides, ReadsFront, ReadsItem}
 use Rattle.lexlines.specs.declared.declarations.Declarations.{Declarations}
 use Rattle.lexlines.specs.declared.error.SpecErrorKind.{SpecErrorKind}

@@ -14,7 +14,8 @@ use Rattle.lexaction.proofs.OneAction.{one_statements}
 use Rattle.lexlines.specs.Lines.{without_returns, line_in, newlines}
 use Rattle.lexlines.specs.DefinitionLines.{definition_at, all_conditions, names_of, has_name, substitutes_of, all_options}
 use Rattle.lexspec.specs.Items.{Conditions, Trailing, no_trail, line_end, pattern_after, at_end, matching, Action, bar, spelled, Item, skipped, skipped_line, skipped_block, rule, AreItems}
-use Rattle.lexspec.specs.RuleItems.{HasFixed, IsCutOf, IsTrail, EndRule, IsActionOf, IsRule, AreRules}
+use Rattle.lexmeaning.specs.Sound.{HasFixed, IsCutOf}
+use Rattle.lexspec.specs.RuleItems.{IsTrail, EndRule, IsActionOf, IsRule, AreRules}
 use Rattle.lexspec.specs.Files.{conditions_with, SpellsSpec}
 use Rattle.lexlines.proofs.OneSection.{one_up_to, separator_ends}
 use Rattle.lexspec.proofs.OneItems.{one_items}

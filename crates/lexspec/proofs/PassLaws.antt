@@ -1,15 +1,16 @@
 -- What the items of the rules section spell passes the test for soundness.
 use Rattle.std.proofs.Common.{◌≡◌, ℕ, suc, ◌≤◌, Bool, true, false, ◌&&◌, if◌then◌else◌, List, [], ◌∷◌, length, Option, Some, None, IfSome, refl, sym, ap, subst, ◌∙◌, arith, map}
-use Rattle.std.specs.Prelude.{nat_le}
-use Rattle.std.proofs.lemmas.Bool.{and_parts, and_from, le-leb}
+use Rattle.std.specs.Prelude.{nat_le, sum_by}
+use Rattle.std.proofs.lemmas.Bool.{and_parts, and_from, le-leb, leb-true}
 use Rattle.std.proofs.lemmas.List.{length-map}
 use Rattle.lexmeaning.specs.Shapes.{IsSoundTree}
 use Rattle.lexmeaning.specs.Tree.{Tree}
 use Rattle.lexmeaning.specs.Legal.{all_in_range, ends_last, are_joined, are_compatible}
-use Rattle.lexmeaning.specs.Spec.{Rule, Statement, Condition}
+use Rattle.lexmeaning.specs.Spec.{Rule, Statement, Print, End, EndAction, Condition}
 use Rattle.lexre.specs.Definitions.{Definitions}
 use Rattle.lexaction.specs.Names.{number_from}
-use Rattle.lexaction.specs.Actions.{are_few, SpellsAction}
+use Rattle.lexaction.specs.Actions.{are_few, end_of, SpellsAction}
+use Rattle.lexaction.specs.Statements.{literal_bytes}
 use Rattle.lexaction.proofs.NormalLemmas.{legal_action, end_status}
 use Rattle.lexlines.specs.DefinitionLines.{Declared, names_of}
 use Rattle.lexspec.specs.Files.{lists_number, unlisted_end, end_in, conditions_with}
@@ -19,7 +20,7 @@ use Rattle.lexlines.specs.Declaring.{declared_of}
 use Rattle.lexspec.specs.ItemReads.{names_in}
 use Rattle.lexlines.specs.declared.declarations.Declarations.{Declarations}
 use Rattle.lexmeaning.specs.Sound.{HaveSoundSides, HasSoundSides}
-use Rattle.lexspec.specs.Tests.{sound_tree, sound_trail, cut_fits, sound_list, legal_action as legal_test, sound_rule, sound_rules, sound_conditions, is_sound}
+use Rattle.lexspec.specs.Tests.{sound_tree, sound_trail, cut_fits, sound_list, legal_action as legal_test, sound_rule, sound_rules, sound_end, sound_conditions, is_sound}
 use Rattle.lexspec.proofs.CutLaws.{cut_is_tested}
 use Rattle.lexlines.proofs.DeclaringLaws.{names_kept}
 use Rattle.lexspec.proofs.EndingLaws.{numbers_ordered}
@@ -65,6 +66,20 @@ action_acts names bar [] ss some h pass = absurd h
 action_acts names bar (r ∷ rs) ss some h pass =
     subst (MayAct (length names)) (sym h) (rule_acts (length names) r (and_parts (sound_rule (length names) r) (sound_rules (length names) rs) pass).0)
 
+-- an end action prints the literal of its statements
+end_print_of : (ss : List Statement) (e : EndAction) → sum_by literal_bytes ss ≤ 4096 → end_of ss ≡ Some e → length e.print ≤ 4096
+end_print_of [] e few is = let same : record { print = []; status = 0 } ≡ e = cc in subst (λ (z : EndAction). length z.print ≤ 4096) same (omega arith)
+end_print_of (Print bs ∷ []) e few is = let same : record { print = bs; status = 0 } ≡ e = cc in subst (λ (z : EndAction). length z.print ≤ 4096) same (omega (arith, few))
+end_print_of (End k ∷ []) e few is = let same : record { print = []; status = k } ≡ e = cc in subst (λ (z : EndAction). length z.print ≤ 4096) same (omega arith)
+end_print_of (Print bs ∷ End k ∷ []) e few is = let same : record { print = bs; status = k } ≡ e = cc in subst (λ (z : EndAction). length z.print ≤ 4096) same (omega (arith, few))
+end_print_of _ e few is = absurd (none is)
+  where
+    none : None ≡ Some e → ⊥
+    none p = cc
+
+end_print : (e : EndAction) (ss : List Statement) → are_few ss ≡ true → end_of ss ≡ Some e → length e.print ≤ 4096
+end_print e ss few is = end_print_of ss e (leb-true (sum_by literal_bytes ss) 4096 (and_parts (nat_le (length ss) 256) (nat_le (sum_by literal_bytes ss) 4096) few).1) is
+
 module _ (names : List (List ℕ)) (fold : Bool) (defined : Definitions) (some : 1 ≤ length names) where
   item_passes : (n : ℕ) (asked : Conditions) (anchored : Bool) (head : List ℕ) (after : Trailing) (action : Action) (is : List (ℕ × Item)) (rs : List Rule) (r : Rule)
       → IsRule names fold defined n asked anchored head after action is rs r → HasSoundSides r → sound_rules (length names) rs ≡ true → sound_rule (length names) r ≡ true
@@ -85,10 +100,13 @@ module _ (names : List (List ℕ)) (fold : Bool) (defined : Definitions) (some :
       ap (sound_rules (length names)) h.2
       ∙ and_from (sound_rule (length names) h.0) (sound_rules (length names) h.1) (item_passes n asked anchored head after action is h.1 h.0 h.3 both.0 later) later
 
-  -- the statuses of end actions
+  -- the statuses of end actions, and what they print
+  abbrev IsSmall : EndAction → Type 0
+  IsSmall e = (e.status ≤ 63) × (length e.print ≤ 4096)
+
   abbrev pub AreSmall : List EndRule → Type 0
   AreSmall [] = Unit {0}
-  AreSmall (e ∷ ends) = (e.1.status ≤ 63) × AreSmall ends
+  AreSmall (e ∷ ends) = IsSmall e.1 × AreSmall ends
 
   pub ends_small : (is : List (ℕ × Item)) (rs : List Rule) (ends : List EndRule) → AreRules names fold defined is rs ends → AreSmall ends
   ends_small [] rs ends h = subst AreSmall (sym h.1) tt
@@ -96,27 +114,30 @@ module _ (names : List (List ℕ)) (fold : Bool) (defined : Definitions) (some :
   ends_small ((n, skipped_line) ∷ is) rs ends h = ends_small is rs ends h
   ends_small ((n, skipped_block) ∷ is) rs ends h = ends_small is rs ends h
   ends_small ((n, rule asked at_end (spelled text)) ∷ is) rs ends h =
-      subst AreSmall (sym h.5) (end_status names text h.1 some h.4, ends_small is rs h.2 h.6)
+      subst AreSmall (sym h.5) ((end_status names text h.1 some h.4, end_print h.1 h.4.0 h.4.2 h.4.3), ends_small is rs h.2 h.6)
   ends_small ((n, rule asked at_end bar) ∷ is) rs ends h = absurd h
   ends_small ((n, rule asked (matching anchored head after) action) ∷ is) rs ends h = ends_small is h.1 ends h.4
 
-  small_unlisted : (ends : List EndRule) → AreSmall ends → (unlisted_end ends).status ≤ 63
-  small_unlisted [] h = omega arith
+  small_unlisted : (ends : List EndRule) → AreSmall ends → IsSmall (unlisted_end ends)
+  small_unlisted [] h = (omega arith, omega arith)
   small_unlisted ((None, e) ∷ ends) h = h.0
   small_unlisted ((Some cs, e) ∷ ends) h = small_unlisted ends h.1
 
-  small_end : (all ends : List EndRule) (c : ℕ) → AreSmall all → AreSmall ends → (end_in all ends c).status ≤ 63
+  small_end : (all ends : List EndRule) (c : ℕ) → AreSmall all → AreSmall ends → IsSmall (end_in all ends c)
   small_end all [] c h k = small_unlisted all h
   small_end all (e ∷ ends) c h k = from (lists_number e.0 c) (small_end all ends c h k.1)
     where
-      from : (b : Bool) → (end_in all ends c).status ≤ 63 → (if b then e.1 else end_in all ends c).status ≤ 63
+      from : (b : Bool) → IsSmall (end_in all ends c) → IsSmall (if b then e.1 else end_in all ends c)
       from true later = k.0
       from false later = later
 
   pub conditions_pass : (k : ℕ) (cs : List Declared) (ends : List EndRule) → AreSmall ends → sound_conditions (conditions_with k cs ends) ≡ true
   conditions_pass k [] ends h = refl
   conditions_pass k (c ∷ cs) ends h =
-      and_from (nat_le (end_in ends ends k).status 63) (sound_conditions (conditions_with (suc k) cs ends)) (le-leb (end_in ends ends k).status 63 (small_end ends ends k h h))
+      let e = end_in ends ends k in
+      let small = small_end ends ends k h h in
+      and_from (sound_end e) (sound_conditions (conditions_with (suc k) cs ends))
+      (and_from (nat_le e.status 63) (nat_le (length e.print) 4096) (le-leb e.status 63 small.0) (le-leb (length e.print) 4096 small.1))
       (conditions_pass (suc k) cs ends h)
 
 pub length_with : (k : ℕ) (cs : List Declared) (ends : List EndRule) → length (conditions_with k cs ends) ≡ length cs

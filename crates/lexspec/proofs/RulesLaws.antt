@@ -15,7 +15,8 @@ use Rattle.lexaction.specs.Actions.{SpellsAction, SpellsEndAction}
 use Rattle.lexmeaning.specs.Reading.{after_blanks, take_up_to}
 use Rattle.lexspec.specs.Items.{Conditions, Trailing, Subject, at_end, matching, Action, bar, spelled, Item, skipped, skipped_line, skipped_block, rule, conditions_at, IsSubject, action_in, outside, action_of, starts_rule, IsItem, AreItems}
 use Rattle.lexlines.specs.Lines.{newlines}
-use Rattle.lexspec.specs.RuleItems.{numbers_of, IsTrail, IsCutOf, EndRule, IsActionOf, goes_to_rule, IsRule, AreRules, HasHead}
+use Rattle.lexmeaning.specs.Sound.{IsCutOf}
+use Rattle.lexspec.specs.RuleItems.{numbers_of, IsTrail, EndRule, IsActionOf, goes_to_rule, IsRule, AreRules, HasHead}
 use Rattle.lexspec.specs.RuleReads.{acting, first_statements, filled, may_wait, Left}
 use Rattle.lexlines.proofs.OneSection.{no_true, two_percents, some_pair}
 use Rattle.lexspec.proofs.OneItems.{both_ways, AllBlank, StartsBlank, OpensBlock, tests_of, rule_tests, no_item_at_end, one_item, one_subject}

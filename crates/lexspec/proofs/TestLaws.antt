@@ -8,12 +8,13 @@ use Rattle.lexmeaning.specs.Tree.{Tree, Trees, Empty, Set, Cat, Alt, Star, Repea
 use Rattle.lexmeaning.specs.Shapes.{IsSoundTree, AreSoundTrees, HasPart, HasLengths}
 use Rattle.lexmeaning.specs.Spec.{Spec, Rule, Condition, Cut, Whole, Head, Trail, Statement}
 use Rattle.lexmeaning.specs.Legal.{all_in_range, ends_last, are_joined, are_compatible, IsLegal}
-use Rattle.lexmeaning.specs.Sound.{HasLength, CutFits, IsConditionList, IsSoundRule, IsSound}
+use Rattle.lexmeaning.specs.Sound.{IsConditionList, IsSoundRule, IsSound}
 use Rattle.lexre.specs.Lengths.{least, greatest}
 use Rattle.lexaction.specs.Actions.{are_few}
 use Rattle.lexre.proofs.LengthLaws.{has_lengths}
 use Rattle.lexspec.specs.RuleItems.{is_number}
-use Rattle.lexspec.specs.Tests.{any_below, are_bounds, has_part, sound_tree, sound_trees, sound_trail, has_length, is_whole, cut_fits, ascend_from, sound_list, legal_action, sound_rule, sound_rules, sound_conditions, is_sound}
+use Rattle.lexspec.specs.Tests.{any_below, are_bounds, has_part, sound_tree, sound_trees, sound_trail, cut_fits, ascend_from, sound_list, legal_action, sound_rule, sound_rules, sound_end, sound_conditions, is_sound}
+use Rattle.lexspec.proofs.CutLaws.{cut_is_fit}
 
 no_true : {A : Type 0} → false ≡ true → A
 no_true e = absurd (no e)
@@ -97,32 +98,6 @@ mutual
   sound_are_tested no_trees h = refl
   sound_are_tested (tree t ts) h = and_from (sound_tree t) (sound_trees ts) (sound_is_tested t h.0) (sound_are_tested ts h.1)
 
--- lengths and cuts
-
-one_length : (t : Tree) (n : ℕ) (g : Option ℕ) → HasLengths (In t) (least t) g → least t ≡ n → is_number g n ≡ true → HasLength t n
-one_length t n None lengths low high = no_true high
-one_length t n (Some m) lengths low high = λ w h. (
-    let same : m ≡ n = eqb-true m n high in
-    let more : least t ≤ length w = lengths.none_shorter w h in
-    let less : length w ≤ m = lengths.longest.1 w h in
-    omega arith)
-
-pub length_is_one : (t : Tree) (n : ℕ) → IsSoundTree t → has_length t n ≡ true → HasLength t n
-length_is_one t n sound h =
-    let both = and_parts (least t == n) (is_number (greatest t) n) h in
-    one_length t n (greatest t) (has_lengths t sound) (eqb-true (least t) n both.0) both.1
-
-whole_is : (cut : Cut) → is_whole cut ≡ true → cut ≡ Whole
-whole_is Whole h = refl
-whole_is (Head m) h = no_true h
-whole_is (Trail n) h = no_true h
-
-pub cut_is_fit : (cut : Cut) (head : Tree) (trail : Option Tree) → IsSoundTree head → IfSome trail IsSoundTree → cut_fits cut head trail ≡ true → CutFits cut head trail
-cut_is_fit cut head None h k fits = whole_is cut fits
-cut_is_fit Whole head (Some t) h k fits = no_true fits
-cut_is_fit (Head m) head (Some t) h k fits = length_is_one head m h (and_parts (has_length head m) (nat_le m 65535) fits).0
-cut_is_fit (Trail n) head (Some t) h k fits = length_is_one t n k (and_parts (has_length t n) (nat_le n 65535) fits).0
-
 -- lists of conditions
 
 ascending_above : (low n : ℕ) (cs : List ℕ) → ascend_from low n cs ≡ true → (c : ℕ) → Among cs c → (low ≤ c) × (c < n)
@@ -185,15 +160,16 @@ rule_of_sound n (q ∷ rs) zero r h e =
     subst (IsSoundRule n) same (rule_is_sound n q (and_parts (sound_rule n q) (sound_rules n rs) h).0)
 rule_of_sound n (q ∷ rs) (suc i) r h e = rule_of_sound n rs i r (and_parts (sound_rule n q) (sound_rules n rs) h).1 e
 
-end_of_sound : (cs : List Condition) (c : ℕ) (k : Condition) → sound_conditions cs ≡ true → slice_get cs c ≡ Some k → k.end.status ≤ 63
+end_of_sound : (cs : List Condition) (c : ℕ) (k : Condition) → sound_conditions cs ≡ true → slice_get cs c ≡ Some k → (k.end.status ≤ 63) × (length k.end.print ≤ 4096)
 end_of_sound [] c k h e = absurd (no e)
   where
     no : None ≡ Some k → ⊥
     no p = cc
 end_of_sound (d ∷ cs) zero k h e =
     let same : d ≡ k = cc in
-    subst (λ (z : Condition). z.end.status ≤ 63) same (leb-true d.end.status 63 (and_parts (nat_le d.end.status 63) (sound_conditions cs) h).0)
-end_of_sound (d ∷ cs) (suc c) k h e = end_of_sound cs c k (and_parts (nat_le d.end.status 63) (sound_conditions cs) h).1 e
+    let both = and_parts (nat_le d.end.status 63) (nat_le (length d.end.print) 4096) (and_parts (sound_end d.end) (sound_conditions cs) h).0 in
+    subst (λ (z : Condition). (z.end.status ≤ 63) × (length z.end.print ≤ 4096)) same (leb-true d.end.status 63 both.0, leb-true (length d.end.print) 4096 both.1)
+end_of_sound (d ∷ cs) (suc c) k h e = end_of_sound cs c k (and_parts (sound_end d.end) (sound_conditions cs) h).1 e
 
 -- A specification that passes the test is sound.
 pub spec_is_sound : (S : Spec) → is_sound S ≡ true → IsSound S
@@ -204,6 +180,7 @@ spec_is_sound S h =
     let one = and_parts (nat_le 1 (length S.conditions)) (nat_le (length S.conditions) 255) two.0 in
     record {
       some_condition = leb-true 1 (length S.conditions) one.0;
-      ends = λ c k e. end_of_sound S.conditions c k three.1 e;
+      ends = λ c k e. (end_of_sound S.conditions c k three.1 e).0;
+      prints = λ c k e. (end_of_sound S.conditions c k three.1 e).1;
       rules = λ i r e. rule_of_sound (length S.conditions) S.rules i r four.1 e;
     }

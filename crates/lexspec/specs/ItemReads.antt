@@ -5,7 +5,8 @@ use Rattle.lexmeaning.specs.Tree.{Tree}
 use Rattle.lexre.specs.Spelling.{Spells}
 use Rattle.lexaction.specs.Names.{number_from, names_of}
 use Rattle.lexspec.specs.Items.{Conditions, Trailing, at_end, matching, rule, action_of, IsItem}
-use Rattle.lexspec.specs.RuleItems.{numbers_of, IsTrail, IsCutOf, EndRule, HasHead}
+use Rattle.lexmeaning.specs.Sound.{IsCutOf}
+use Rattle.lexspec.specs.RuleItems.{numbers_of, IsTrail, EndRule, HasHead}
 use Rattle.lexspec.specs.RuleReads.{Left}
 use Rattle.lexspec.specs.RuleViews.{rule_of}
 use Rattle.lexspec.specs.Keeping.{MayFollow}

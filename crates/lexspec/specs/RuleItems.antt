@@ -1,12 +1,12 @@
 -- Which rules the items of the rules section spell.
 -- (POSIX, lex, Rules in lex and Actions in lex; flex, Patterns: trailing context, End-of-File Rules.)
-use Rattle.std.specs.Prelude.{◌≡◌, ℕ, ◌≤◌, Bool, true, false, ◌==◌, ◌&&◌, if◌then◌else◌, List, [], ◌∷◌, length, Option, Some, None, is_some}
+use Rattle.std.specs.Prelude.{◌≡◌, ℕ, Bool, true, false, ◌==◌, ◌&&◌, if◌then◌else◌, List, [], ◌∷◌, length, Option, Some, None, is_some}
 use Rattle.std.specs.List.{list_any}
 use Rattle.lexmeaning.specs.Text.{listed}
 use Rattle.lexmeaning.specs.ByteSets.{single}
-use Rattle.lexmeaning.specs.Tree.{Tree, Set, In}
-use Rattle.lexmeaning.specs.Shapes.{HasLengths}
-use Rattle.lexmeaning.specs.Spec.{EndAction, Statement, Cut, Whole, Head, Trail, Rule}
+use Rattle.lexmeaning.specs.Tree.{Tree, Set}
+use Rattle.lexmeaning.specs.Spec.{EndAction, Statement, Rule}
+use Rattle.lexmeaning.specs.Sound.{IsCutOf}
 use Rattle.lexre.specs.Definitions.{Definitions}
 use Rattle.lexre.specs.Spelling.{Spells}
 use Rattle.lexaction.specs.Names.{number_from}
@@ -28,16 +28,6 @@ numbers_of number n unlisted = Some None
 numbers_of number n every = Some (Some (listed (λ c. true) 0 n))
 numbers_of number n (only names) =
     if all_numbered number names then Some (Some (listed (λ c. list_any (λ name. is_number (number name) c) names) 0 n)) else None
-
--- A side of fixed length, at most 65,535, gives the cut: the head if it is such a side, and else the trailing context.
-abbrev pub HasFixed : Tree → ℕ → Type 0
-HasFixed t n = HasLengths (In t) n (Some n) × (n ≤ 65535)
-
-abbrev pub IsCutOf : Tree → Option Tree → Cut → Type 0
-IsCutOf head None cut = cut ≡ Whole
-IsCutOf head (Some after) (Head m) = HasFixed head m
-IsCutOf head (Some after) (Trail k) = ((m : ℕ) → HasFixed head m → ⊥) × HasFixed after k
-IsCutOf head (Some after) Whole = ⊥
 
 -- the tree of a newline, which `$` stands for
 unfoldable pub newline : Tree

@@ -1,9 +1,9 @@
 -- What a specification keeps to, as tests that compute: an invariant states them, and a law says that they are what
 -- soundness means. (This project's.)
-use Rattle.std.specs.Prelude.{ℕ, zero, suc, Bool, true, false, ◌&&◌, ◌||◌, ◌==◌, nat_le, nat_lt, List, [], ◌∷◌, length, Option, Some, None}
+use Rattle.std.specs.Prelude.{ℕ, zero, suc, Bool, true, false, not, ◌&&◌, ◌||◌, ◌==◌, nat_le, nat_lt, List, [], ◌∷◌, length, Option, Some, None}
 use Rattle.lexmeaning.specs.ByteSets.{has}
 use Rattle.lexmeaning.specs.Tree.{Tree, Trees, Empty, Set, Cat, Alt, Star, Repeat, no_trees, tree}
-use Rattle.lexmeaning.specs.Spec.{Spec, Rule, Condition, Cut, Whole, Head, Trail, Statement}
+use Rattle.lexmeaning.specs.Spec.{Spec, Rule, Condition, EndAction, Cut, Whole, Head, Trail, Statement}
 use Rattle.lexmeaning.specs.Legal.{all_in_range, ends_last, are_joined, are_compatible}
 use Rattle.lexre.specs.Lengths.{least, greatest}
 use Rattle.lexaction.specs.Actions.{are_few}
@@ -47,12 +47,20 @@ abbrev pub is_whole : Cut → Bool
 is_whole Whole = true
 is_whole _ = false
 
--- the cut names a side of fixed length, of at most 65,535 bytes
+-- and n is at most 65,535
+abbrev pub has_fixed : Tree → ℕ → Bool
+has_fixed t n = has_length t n && nat_le n 65535
+
+-- the words have one length, of at most 65,535 bytes
+abbrev pub is_fixed : Tree → Bool
+is_fixed t = has_fixed t (least t)
+
+-- the cut names a side of such a length, and the trailing context only where the head is none
 abbrev pub cut_fits : Cut → Tree → Option Tree → Bool
 cut_fits cut head None = is_whole cut
 cut_fits Whole head (Some t) = false
-cut_fits (Head m) head (Some t) = has_length head m && nat_le m 65535
-cut_fits (Trail n) head (Some t) = has_length t n && nat_le n 65535
+cut_fits (Head m) head (Some t) = has_fixed head m
+cut_fits (Trail n) head (Some t) = not (is_fixed head) && has_fixed t n
 
 -- numbers in order, each above the last one and below n
 abbrev pub ascend_from : ℕ → ℕ → List ℕ → Bool
@@ -76,9 +84,13 @@ abbrev pub sound_rules : ℕ → List Rule → Bool
 sound_rules n [] = true
 sound_rules n (r ∷ rs) = sound_rule n r && sound_rules n rs
 
+-- an end prints at most 4,096 bytes, and has a status of at most 63
+abbrev pub sound_end : EndAction → Bool
+sound_end e = nat_le e.status 63 && nat_le (length e.print) 4096
+
 abbrev pub sound_conditions : List Condition → Bool
 sound_conditions [] = true
-sound_conditions (c ∷ cs) = nat_le c.end.status 63 && sound_conditions cs
+sound_conditions (c ∷ cs) = sound_end c.end && sound_conditions cs
 
 -- a specification: at least one condition and at most 255, and at most 4,096 rules
 abbrev pub is_sound : Spec → Bool

@@ -2,7 +2,7 @@
 ghost use Rattle.std.specs.Prelude.{ℕ, Option, Some, None, option_map, IfSome, IfNone};
 ghost use Rattle.lexmeaning.specs.Shapes.{IsSoundTree};
 ghost use Rattle.lexre.specs.Views.{tree_of};
-ghost use Rattle.lexspec.specs.RuleItems.{HasFixed, IsCutOf};
+ghost use Rattle.lexmeaning.specs.Sound.{HasFixed, IsCutOf};
 ghost use Rattle.lexspec.specs.RuleViews.{cut_of};
 ghost use Rattle.lexmeaning.specs.Spec.{Cut as Meant};
 

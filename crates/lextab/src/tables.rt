@@ -4,6 +4,7 @@ ghost use Rattle.lexmeaning.specs.MachineLaws.{MachineLaws};
 ghost use Rattle.lexdfa.specs.Automata.{machine_of, conditions_of, states_of};
 ghost use Rattle.lexspec.specs.Views.{spec_of, conditions_in};
 ghost use Rattle.lextab.specs.Plain.{plain_machine};
+ghost use Rattle.lextab.proofs.Below.{below};
 
 use crate::plain::Plain;
 use lexdfa::Dfa;
@@ -31,6 +32,8 @@ impl Machine for Plain<'_> {
     ghost states = { λ p. states_of p.dfa.now };
 
     ghost laws = { λ p. p.lawful };
+
+    ghost below = { λ p. below p.dfa.now.parts p.dfa.now.lawful (spec_of p.spec.now) p.conditions };
 
     fn start(&self, condition: u8, line_start: bool) -> u32 {
         self.dfa.start(usize::from(condition), line_start)

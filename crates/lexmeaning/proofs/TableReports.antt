@@ -5,10 +5,7 @@ use Rattle.lexmeaning.specs.Spec.{Spec, rejects}
 use Rattle.lexmeaning.specs.Reports.{HasFit, UselessWhere, Useless, BackWord}
 use Rattle.lexmeaning.specs.Machine.{Machine, state_after}
 use Rattle.lexmeaning.specs.TableFor.{TableFor, Accepted}
-
--- the rule is accepted after some word
-abbrev pub IsAccepted : Machine → Spec → ℕ → Type 0
-IsAccepted M S i = (c : ℕ) × (bol : Bool) × (w : List ℕ) × (c < length S.conditions) × IsText w × Among (M.accepts (state_after M c bol w)) i
+use Rattle.lexmeaning.specs.TableLaws.{IsAccepted}
 
 -- where no rule is accepted, none fits
 none_below : (all : Bool) (S : Spec) (c : ℕ) (bol : Bool) (w : List ℕ) → ((i : ℕ) → Accepted all S c bol w i → ⊥) → (n i : ℕ) → i < n → HasFit S c bol w i → ⊥
@@ -56,15 +53,15 @@ module _ (M : Machine) (S : Spec) (table : TableFor M S) where
           (j, first_before S c bol w i j h first (λ same. never (c, bol, w, cond, text, subst (Among (M.accepts (state_after M c bol w))) same among)), first.0)
 
   -- A rule is useless if it is accepted after no word.
-  pub useless_is : (i : ℕ) → Useless S i ↔ (IsAccepted M S i → ⊥)
-  useless_is i = (to (rejects S) refl i, from (rejects S) refl i)
+  pub useless_is : (i : ℕ) → i < length S.rules → Useless S i ↔ (IsAccepted M S i → ⊥)
+  useless_is i lt = (λ h. to (rejects S) refl i h.1, λ h. (lt, from (rejects S) refl i h))
 
   -- A scan backs up after a word of two bytes or more whose state goes on and accepts nothing.
   pub back_word_is : (c : ℕ) (bol : Bool) (w : List ℕ) → c < length S.conditions → IsText w →
       BackWord S c bol w ↔ ((2 ≤ length w) × (M.goes_on (state_after M c bol w) ≡ true) × (M.accepts (state_after M c bol w) ≡ []))
   back_word_is c bol w cond text = (
     λ h. (h.two_or_more, (table.goes_on c bol w cond text).1 h.goes_on, empty h (some_or_none (M.accepts (state_after M c bol w)))),
-    λ h. record { two_or_more = h.0; goes_on = (table.goes_on c bol w cond text).0 h.1; fits_none = no_fits (rejects S) refl c bol w cond text h.2 },
+    λ h. record { condition = cond; text = text; two_or_more = h.0; goes_on = (table.goes_on c bol w cond text).0 h.1; fits_none = no_fits (rejects S) refl c bol w cond text h.2 },
   )
     where
       fit_of : (all : Bool) (j : ℕ) → Accepted all S c bol w j → HasFit S c bol w j
