@@ -8,6 +8,7 @@ use crate::errors::{GenError, ScanError};
 use crate::options::Options;
 use lexauto::{Limits, build};
 use lexends::{Sink, Source};
+use lexleast::minimise;
 use lexscan::run;
 use lexspec::{ReadOptions, Spec, read_spec};
 use lextab::Plain;
@@ -46,7 +47,7 @@ pub fn scan_spec<S: Source, K: Sink>(
     scan_by(alloc, &spec, options.limits, source, sink)
 }
 
-/// Scans the source by a specification: builds its automaton, and runs the scanner over it.
+/// Scans the source by a specification: builds its automaton, minimises it, and runs the scanner over it.
 fn scan_by<S: Source, K: Sink>(
     alloc: Global,
     spec: &Spec,
@@ -69,7 +70,11 @@ fn scan_by<S: Source, K: Sink>(
         Err(error) => return Err(ScanError::Generate(GenError::Build(error))),
         Ok(automaton) => automaton,
     };
-    let machine = Plain::new(&automaton, spec);
+    let least = match minimise(alloc, &automaton) {
+        Err(_) => return Err(ScanError::Generate(GenError::OutOfMemory)),
+        Ok(least) => least,
+    };
+    let machine = Plain::new(&least, spec);
     match run(alloc, &machine, source, sink, MAX_READS) {
         Err(fault) => Err(ScanError::Run(fault)),
         Ok(status) => Ok(status),

@@ -1,0 +1,46 @@
+-- Lists of noted blocks.
+use Rattle.std.proofs.Common.{◌≡◌, ℕ, ◌+◌, ◌<◌, ◌⊎◌, List, [], ◌∷◌, ◌++◌, length, get_or, ap, sym, ◌∙◌, inl, inr, arith, length-append, Vec, Global}
+use Rattle.std.proofs.lemmas.List.{get_or_append_left, get_or-append-add}
+use Rattle.std.specs.Prelude.{slice_index}
+use Rattle.lexleast.specs.Sources.{Has, HasBelow}
+use Rattle.lexleast.specs.declared.blocks.Blocks.{Blocks}
+use Rattle.lexleast.specs.Arranged.{states}
+use Rattle.lexleast.specs.Marked.{Marks}
+
+pub has_more : (xs : List ℕ) (d c : ℕ) → Has xs c → Has (xs ++ d ∷ []) c
+has_more xs d c (i, h, e) = (i, (let l = length-append xs (d ∷ []) in omega (arith, l, h)), get_or_append_left xs (d ∷ []) 0 i h ∙ e)
+
+pub has_last : (xs : List ℕ) (d : ℕ) → Has (xs ++ d ∷ []) d
+has_last xs d = (length xs, (let l = length-append xs (d ∷ []) in omega (arith, l)), ap (λ (i : ℕ). get_or (xs ++ d ∷ []) i 0) (let e : length xs ≡ length xs + 0 = omega arith in e) ∙ get_or-append-add xs (d ∷ []) 0 0)
+
+pub marks_then : (a b c : Blocks) (P Q R : ℕ → Type 0) → Marks a P b → Marks b Q c → ((x : ℕ) → R x → P x ⊎ Q x) → ((x : ℕ) → P x → R x) → ((x : ℕ) → Q x → R x) → Marks a R c
+marks_then a b c P Q R f g split left right =
+    let same : states b ≡ states a = ap (λ (v : Vec ℕ Global). length v.items) f.block in
+    record {
+      block = g.block ∙ f.block;
+      first = g.first ∙ f.first;
+      marked = λ x h r. elim (split x r) [
+        | inl p ↦ g.keeps x (omega (arith, same, h)) (f.marked x h p)
+        | inr q ↦ g.marked x (omega (arith, same, h)) q
+      ];
+      keeps = λ x h m. g.keeps x (omega (arith, same, h)) (f.keeps x h m);
+      only = λ x h m. elim (g.only x (omega (arith, same, h)) m) [
+        | inl n ↦ elim (f.only x h n) [ inl o ↦ inl o | inr p ↦ inr (left x p) ]
+        | inr q ↦ inr (right x q)
+      ];
+    }
+
+pub marks_as : (a b : Blocks) (P R : ℕ → Type 0) → Marks a P b → ((x : ℕ) → P x → R x) → ((x : ℕ) → R x → P x) → Marks a R b
+marks_as a b P R f to back = record {
+  block = f.block;
+  first = f.first;
+  marked = λ x h r. f.marked x h (back x r);
+  keeps = f.keeps;
+  only = λ x h m. elim (f.only x h m) [ inl o ↦ inl o | inr p ↦ inr (to x p) ];
+}
+
+pub below_more : (xs : List ℕ) (n t c : ℕ) → slice_index xs n ≡ t → HasBelow xs (n + 1) c → HasBelow xs n c ⊎ (c ≡ t)
+below_more xs n t c e (i, h, f) = elim (less i n h) [ inl g ↦ inl (i, g, f) | inr q ↦ inr (sym f ∙ ap (λ (j : ℕ). slice_index xs j) q ∙ e) ]
+  where
+    less : (i n : ℕ) → i < n + 1 → (i < n) ⊎ (i ≡ n)
+    less i n h = grind arith

@@ -1,0 +1,15 @@
+pub mod Least
+pub mod Futures
+pub mod Splits
+pub mod Arranged
+pub mod Sources
+pub mod Marked
+pub mod Going
+pub mod Letters
+pub mod Labels
+pub mod Automata
+pub mod Numbers
+pub mod Quotients
+pub mod Lists
+pub mod Views
+pub mod Building
