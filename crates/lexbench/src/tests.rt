@@ -4,7 +4,7 @@ use crate::LIMITS;
 use lexauto::build;
 use lexdfa::Dfa;
 use lexleast::{minimise, one_automaton};
-use lexre::ReadOptions;
+use lexspec::ReadOptions;
 use lexspec::read_spec;
 use std::alloc::Global;
 use std::test::Fail;
