@@ -19,9 +19,9 @@ use crate::action_text::split_action;
 use crate::cuts::cut_by;
 use crate::listed::condition_numbers;
 use crate::rule::Rule;
-use lexmachine::Cut;
 use crate::subject::{Subject, Trailing, conditions_at, subject_at};
 use lexlines::{Declarations, SpecErrorKind, skip_blanks};
+use lexmachine::Cut;
 use lexre::{ByteSet, Pattern, PatternError, ReadOptions, read_pattern};
 use std::alloc::Global;
 

@@ -27,4 +27,4 @@ module _ (p : Parts) (a : IsAutomaton p) (S : Spec) (count : conditions p ≡ le
   ]
 
   pub below : StaysBelow (machine_in p S) (states p)
-  below = record { dead = a.some; start = starts; next = nexts; accepts = accepted; }
+  below = record { dead = a.some; start = starts; next = nexts; accepts = accepted }

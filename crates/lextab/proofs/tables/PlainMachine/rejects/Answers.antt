@@ -1,6 +1,6 @@
 use Rattle.std.proofs.Common.{sym, ◌∙◌}
 use Rattle.lexspec.specs.Views.{spec_of}
-use Rattle.lextab.proofs.Rejects.{none_rejects, some_rejects}
+use Rattle.lexmeaning.proofs.States.{none_rejects, some_rejects}
 use Rattle.lextab.proofs.tables.PlainMachine.rejects.Goals as goal
 
 pub returns-clause-no : goal.returns-clause-no
