@@ -1,18 +1,18 @@
 -- Automata, and the machines that they are with a specification's actions.
 use mathlib.Core.Logic.{∥∥₁_elim, ∥∥₁_map}
 use Rattle.std.proofs.Props.{props}
-use Rattle.std.specs.Prelude.{◌≡◌, ◌≢◌, ◌↔◌, ℕ, zero, suc, ◌+◌, ◌*◌, ◌<◌, ◌≤◌, ◌⊎◌, Bool, true, false, List, [], ◌∷◌, length, map, nat_lt, Option, Some, None, slice_get, slice_index, slice_index_or, Vec}
+use Rattle.std.specs.Prelude.{◌≡◌, ◌≢◌, ◌↔◌, ℕ, zero, suc, ◌+◌, ◌*◌, ◌<◌, ◌≤◌, Bool, true, false, List, [], ◌∷◌, length, nat_lt, Option, Some, None, slice_get, slice_index, slice_index_or, Vec}
 use Rattle.std.proofs.Common.{inl, inr, refl, ap, sym, subst, ◌∙◌, arith, Global}
 use Rattle.std.proofs.lemmas.Bool.{cases_Bool, cases_lt, cond-true, cond-false}
 use Rattle.std.proofs.lemmas.List.{length-map}
-use Rattle.lexmeaning.specs.Text.{IsText, Among, Ascending}
+use Rattle.lexmeaning.specs.Text.{Among, Ascending}
 use Rattle.lexmeaning.specs.Spec.{Spec, Rule, statements_at}
 use Rattle.lexmeaning.specs.Sound.{IsSound}
 use Rattle.lexmeaning.specs.Legal.{IsLegal}
 use Rattle.lexmeaning.specs.Machine.{walk}
 use Rattle.lexmeaning.specs.MachineLaws.{MachineLaws, LeadsToAccept}
 use Rattle.lexdfa.specs.Machines as M
-use Rattle.lexdfa.specs.Parts.{conditions, states, start, next, lists_in, accepts, goes_on, after, IsReached, LeadsOn}
+use Rattle.lexdfa.specs.Parts.{states, start, next, lists_in, accepts, goes_on, after, IsReached, LeadsOn}
 use Rattle.lexdfa.specs.Invariant.{IsAutomaton}
 use Rattle.lexdfa.specs.Automata.{machine_in}
 use Rattle.lexdfa.specs.declared.dfa.Parts.{Parts}

@@ -3,7 +3,7 @@ use Rattle.std.specs.Prelude.{◌≡◌, ◌≢◌, ℕ, ◌*◌, ◌<◌, ◌�
 use Rattle.std.specs.Coded.{×_prop, Unit-prop, le_prop}
 use Rattle.std.proofs.Props.{props}
 use Rattle.lexmeaning.specs.Text.{Ascending}
-use Rattle.lexdfa.specs.Parts.{conditions, states, start, next, accepts, goes_on, IsReached, LeadsOn}
+use Rattle.lexdfa.specs.Parts.{states, next, accepts, goes_on, IsReached, LeadsOn}
 use Rattle.lexdfa.specs.declared.dfa.Parts.{Parts}
 
 pub record IsAutomaton (p : Parts) : Type 0 where

@@ -1,6 +1,6 @@
 -- The lists of a table of classes are the least automaton's.
 use mathlib.Core.Logic.{∥∥₁_map}
-use Rattle.std.proofs.Common.{inl, inr, ◌≡◌, ◌↔◌, ℕ, ◌+◌, ◌*◌, ◌++◌, ◌<◌, ◌≤◌, List, [], Bool, true, false, length, ap, sym, subst, ◌∙◌, arith, Vec, Global}
+use Rattle.std.proofs.Common.{inl, inr, ◌≡◌, ◌↔◌, ℕ, ◌+◌, ◌*◌, ◌++◌, ◌<◌, List, [], true, length, ap, sym, subst, ◌∙◌, arith, Vec, Global}
 use Rattle.std.proofs.lemmas.List.{length-map}
 use Rattle.std.proofs.lemmas.Bool.{cases_Bool, cond-false, ltb-true}
 use Rattle.std.specs.Prelude.{slice_index, nat_lt}
@@ -10,7 +10,7 @@ use Rattle.lexmeaning.specs.Spec.{Spec}
 use Rattle.lexmeaning.specs.MachineLaws.{MachineLaws}
 use Rattle.lexmeaning.specs.TableFor.{TableFor}
 use Rattle.lexdfa.specs.Automata.{machine_in}
-use Rattle.lexdfa.specs.Parts.{conditions, states, next, accepts, goes_on, after, IsReached, LeadsOn}
+use Rattle.lexdfa.specs.Parts.{conditions, states, next, accepts, goes_on, LeadsOn}
 use Rattle.lexdfa.specs.declared.dfa.Parts.{Parts}
 use Rattle.lexleast.specs.Numbers.{AreMade, AreCalled, AreRows, AreStarts}
 use Rattle.lexleast.specs.Quotients.{AreClasses, IsQuotient, IsMinimised}
@@ -21,7 +21,7 @@ use Rattle.lexleast.specs.Views.{automaton_of}
 use Rattle.lexleast.specs.declared.tables.ClassTable.{ClassTable}
 use Rattle.lexleast.proofs.ByTurns.{turns_length, turn_even, turn_odd}
 use Rattle.lexleast.proofs.Wholes.{is_whole}
-use Rattle.lexleast.proofs.Minimised.{Stands, minimised, own, future}
+use Rattle.lexleast.proofs.Minimised.{minimised, own, future}
 use Rattle.lexleast.proofs.SameTable.{laws_again, table_again}
 use Rattle.lexleast.proofs.Joined.{accepts_as, dead_future, future_of, goes_on_as, is_least, least_stays, moved, reached_in}
 

@@ -1,9 +1,8 @@
 -- One list of starts and one table say what the lists of an automaton say.
 use mathlib.Core.Logic.{∥∥₁_map}
-use Rattle.std.specs.Prelude.{◌≡◌, ◌≢◌, ℕ, zero, suc, ◌+◌, ◌*◌, ◌/◌, ◌%◌, ◌<◌, ◌≤◌, Bool, true, false, cond, List, [], ◌∷◌, length, nat_lt, slice_index, slice_index_or, Vec}
-use Rattle.std.proofs.Common.{rules, inl, inr, refl, ap, sym, subst, ◌∙◌, arith, Global}
+use Rattle.std.specs.Prelude.{◌≡◌, ℕ, zero, suc, ◌+◌, ◌*◌, ◌/◌, ◌%◌, ◌<◌, ◌≤◌, Bool, true, false, cond, List, [], ◌∷◌, length, nat_lt, slice_index, slice_index_or}
+use Rattle.std.proofs.Common.{rules, inl, inr, refl, ap, sym, subst, ◌∙◌, arith}
 use Rattle.std.proofs.lemmas.Bool.{cases_lt, cond-true}
-use Rattle.std.proofs.lemmas.List.{length-map}
 use Rattle.lexmeaning.specs.Text.{IsText, Among}
 use Rattle.lexdfa.specs.Invariant.{IsAutomaton}
 use Rattle.lexdfa.specs.Parts.{conditions, states, start, next, lists_in, accepts, goes_on, after, IsReached, LeadsOn}

@@ -1,5 +1,5 @@
 -- Automata that accept alike are machines and tables for the same specifications.
-use Rattle.std.proofs.Common.{◌≡◌, ℕ, ◌<◌, Bool, true, List, ap, sym, subst, ◌∙◌}
+use Rattle.std.proofs.Common.{◌≡◌, ℕ, ◌<◌, Bool, List, ap, sym, subst, ◌∙◌}
 use Rattle.lexmeaning.specs.Text.{IsText, Among, Ascending}
 use Rattle.lexmeaning.specs.Spec.{Spec}
 use Rattle.lexmeaning.specs.Machine.{walk}

@@ -1,5 +1,5 @@
 -- The words of `Least` over one list of starts and one table, by which the steps are told.
-use Rattle.std.specs.Prelude.{◌≡◌, ◌≢◌, ◌⊎◌, ℕ, suc, ◌+◌, ◌-◌, ◌*◌, ◌<◌, ◌≤◌, List, [], ◌∷◌, ◌++◌, length, slice_index, slice_index_or}
+use Rattle.std.specs.Prelude.{◌≡◌, ◌≢◌, ℕ, ◌+◌, ◌-◌, ◌*◌, ◌<◌, List, [], ◌∷◌, ◌++◌, length, slice_index, slice_index_or}
 pub use Rattle.lexmeaning.specs.Text.{IsText}
 use Rattle.lexleast.specs.Least.{InOrder}
 

@@ -1,5 +1,5 @@
 -- The least automaton of those that accept alike, and the canonical numbers of its states. (This project's.)
-use Rattle.std.specs.Prelude.{◌≡◌, ◌≢◌, ◌⊎◌, ℕ, suc, ◌-◌, ◌<◌, ◌≤◌, Bool, List, [], ◌∷◌, ◌++◌, length}
+use Rattle.std.specs.Prelude.{◌≡◌, ◌≢◌, ◌⊎◌, ℕ, suc, ◌-◌, ◌<◌, ◌≤◌, Bool, List, [], ◌∷◌, ◌++◌}
 use Rattle.lexmeaning.specs.Text.{IsText}
 use Rattle.lexdfa.specs.Parts.{conditions, states, start, accepts, goes_on, after, lists_in, IsReached}
 use Rattle.lexdfa.specs.declared.dfa.Parts.{Parts}

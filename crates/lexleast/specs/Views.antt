@@ -1,5 +1,5 @@
 -- An automaton as one list of starts and one table.
-use Rattle.std.specs.Prelude.{ℕ, List, [], ◌∷◌, length}
+use Rattle.std.specs.Prelude.{length}
 use Rattle.lexdfa.specs.Parts.{lists_in}
 use Rattle.lexdfa.specs.declared.dfa.Parts.{Parts}
 use Rattle.lexleast.specs.Automata.{Automaton}

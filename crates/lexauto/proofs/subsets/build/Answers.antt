@@ -1,4 +1,4 @@
-use Rattle.std.proofs.Common.{◌<◌, List, Vec, Global, ◌≡◌, ◌*◌, ℕ, length, arith, refl, sym, ap, subst, ◌∙◌, Err}
+use Rattle.std.proofs.Common.{◌<◌, List, Vec, Global, ◌≡◌, ℕ, length, arith, refl, sym, ap, subst, ◌∙◌, Err}
 use Rattle.std.proofs.lemmas.Result.{err_from_is_err_and}
 use Rattle.lexmeaning.specs.Subsets.{Subsets}
 use Rattle.lexmeaning.specs.TableFor.{TableFor}

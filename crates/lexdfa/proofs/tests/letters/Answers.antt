@@ -1,4 +1,4 @@
-use Rattle.std.proofs.Common.{rules, ◌≡◌, ℕ, List, [], ◌∷◌, true, false, Bool, length, map, ap, sym, ◌∙◌, arith, Vec, Global}
+use Rattle.std.proofs.Common.{rules, ◌≡◌, ℕ, List, [], ◌∷◌, true, false, length, map, ap, ◌∙◌, Vec, Global}
 use Rattle.lexdfa.specs.declared.dfa.Parts.{Parts}
 use Rattle.lexdfa.proofs.Letters.{letters_are}
 use Rattle.lexdfa.proofs.tests.letters.Goals as goal

@@ -1,6 +1,4 @@
-use Rattle.std.proofs.Common.{ℕ, List, sym, ap, subst, ◌∙◌}
-use Rattle.lexmeaning.specs.MachineLaws.{MachineLaws}
-use Rattle.lexmeaning.specs.TableFor.{TableFor}
+use Rattle.std.proofs.Common.{ℕ, List, sym, subst}
 use Rattle.lexdfa.specs.Invariant.{IsAutomaton}
 use Rattle.lexdfa.specs.declared.dfa.Parts.{Parts}
 use Rattle.lexleast.specs.Numbers.{AreMade}
