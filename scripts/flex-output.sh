@@ -13,10 +13,10 @@ set -euo pipefail
 flex_output() {
     local folder=$1 spec=$2 input=$3
     shift 3
-    flex --noyywrap "$@" -o "$folder/scan.c" "$spec"
-    echo 'int main(void) { return yylex(); }' >> "$folder/scan.c"
-    cc -w -o "$folder/scan" "$folder/scan.c"
-    timeout 10 "$folder/scan" < "$input"
+    flex --noyywrap "$@" -o "$folder/scan.c" "$spec" &&
+        echo 'int main(void) { return yylex(); }' >> "$folder/scan.c" &&
+        cc -w -o "$folder/scan" "$folder/scan.c" &&
+        timeout 10 "$folder/scan" < "$input"
 }
 
 folder=$(mktemp -d)

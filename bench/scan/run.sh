@@ -1,15 +1,15 @@
 #!/usr/bin/env bash
-# Scans 20 MB by each specification here with flex's scanner, as flex makes it by default and with -Cf, and with the program
+# Scans 20 MB (or SIZE bytes) by each specification here with flex's scanner, as flex makes it by default and with -Cf, and with the program
 # lex, compares what they write, and tells megabytes a second. Each is run three times, and the fastest counts.
 # The program is built first, by `rt run` in crates/lex. flex and a C compiler are wanted (apt-get install flex gcc).
 #
-#     bench/scan/run.sh [LEX]          LEX is another program to be measured in its place
+#     bench/scan/run.sh [LEX [SIZE]]          LEX is another program to be measured in its place
 set -euo pipefail
 here=$(cd "$(dirname "$0")" && pwd)
 lex=${1:-$here/../../crates/lex/out/lex}
 folder=$(mktemp -d)
 trap 'rm -r "$folder"' EXIT
-"$here/inputs.py" "$folder"
+"$here/inputs.py" "$folder" "${2:-20000000}"
 
 # Megabytes a second of the command that follows the input $1 and the output $2.
 speed() {

@@ -13,12 +13,12 @@ not_true false f = refl
 module _ (S : ℕ → Bool) (t : Tree) (base : ℕ) (none : (p : ℕ) → base ≤ p → p < base + positions t → S p ≡ false) where
   pub quiet_exits : exits t S base false ≡ false
   quiet_exits = not_true (exits t S base false) (λ h. elim ((exits_is S t base false).0 h) [
-      inl a ↦ no_true a.0
+    | inl a ↦ no_true a.0
     | inr b ↦ (let r = (glushkov t base).within.last b.0 b.2 in no_true (sym (none b.0 r.0 r.1) ∙ b.1))
   ])
 
   pub quiet_enters : (q : ℕ) → enters t S q base false ≡ false
   quiet_enters q = not_true (enters t S q base false) (λ h. elim ((enters_is S q t base false).0 h) [
-      inl a ↦ no_true a.0
+    | inl a ↦ no_true a.0
     | inr b ↦ (let r = (glushkov t base).within.follow b.0 q b.2 in no_true (sym (none b.0 r.0 r.1) ∙ b.1))
   ])

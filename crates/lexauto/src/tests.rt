@@ -272,7 +272,7 @@ fn told(
     word: &str,
 ) -> Result<String, AllocError> {
     let mut text = String::new(alloc);
-    if start.0 < automaton.starts.len() {
+    if start.0 < automaton.parts().starts.len() {
         let mut state = automaton.start(start.0, start.1);
         for byte in word.as_bytes() {
             state = automaton.next(state, *byte);

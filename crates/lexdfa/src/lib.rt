@@ -10,5 +10,5 @@ pub use dfa::{Dfa, Parts};
 pub use laws::automata_are_machines;
 pub use memory::OutOfMemory;
 
-
-
+#[cfg(test)]
+mod tests;

@@ -9,11 +9,7 @@ use crate::letters::letters_of;
 use std::alloc::{AllocError, Global};
 
 /// For each state the class of those that no continuation tells apart, by the states' labels.
-pub(crate) fn classes(
-    alloc: Global,
-    next: &[u32],
-    labels: Vec<u32>,
-) -> Result<Vec<u32>, AllocError>
+pub(crate) fn classes(alloc: Global, next: &[u32], labels: Vec<u32>) -> Result<Vec<u32>, AllocError>
     requires some { 0 < length labels.items }
     requires few { length labels.items < 2 ^ 32 }
     requires labels { IsRow labels.items }

@@ -107,3 +107,9 @@ module _ (S : Spec) (c : ℕ) (bol : Bool) (w : List ℕ) (i : ℕ) (r : Rule) (
         subst (λ q. active S c bol q ≡ true) same h.is_active,
         omega (arith, h.length_is, h.not_empty, ap length whole),
       )
+
+  pub fits_length : (k : ℕ) → Fits S c bol w i k → k ≡ length w
+  fits_length k h =
+      let same : h.rule ≡ r = same_rule S i h.rule r h.at at in
+      let none : h.trail ≡ [] = subst (λ t. InTrail t h.trail) plain (subst (λ (q : Rule). InTrail q.trail h.trail) same h.in_trail) in
+      h.length_is ∙ ap length (sym (append-nil h.text) ∙ ap (λ z. h.text ++ z) (sym none) ∙ sym h.splits)

@@ -167,3 +167,14 @@ cut_by cut = of_rules (rule_before (string (codes "ab")) (string (codes "cd")) c
 -- an end that prints so many bytes
 abbrev pub ends_with_bytes : ℕ → Spec
 ends_with_bytes n = record { conditions = condition (codes "INITIAL") false (replicate n 120) 0 ∷ []; rules = [] }
+
+-- one rule with this pattern, which echoes
+abbrev pub echoing : Tree → Spec
+echoing t = of_rules (rule t (Echo ∷ []) ∷ [])
+
+-- `a+`, and `aa*`
+abbrev pub many : Tree
+many = Repeat (letter 97) 1 None
+
+abbrev pub one_and_any : Tree
+one_and_any = Cat (tree (letter 97) (tree (Star (letter 97)) no_trees))

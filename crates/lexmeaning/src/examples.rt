@@ -4,6 +4,7 @@ ghost use Rattle.std.specs.Prelude.{ℕ, Bool, true, false, List, [], ◌∷◌,
 ghost use Rattle.lexmeaning.specs.Spec.{Head, Trail};
 ghost use Rattle.lexmeaning.specs.Sound.{IsSound};
 ghost use Rattle.lexmeaning.specs.Reports.{Useless, BackWord};
+ghost use Rattle.lexmeaning.specs.SameRules.{SameRules};
 ghost use Rattle.lexmeaning.specs.MachineLaws.{StaysBelow, Rejects};
 ghost use Rattle.lexmeaning.specs.Examples as E;
 ghost use Rattle.lexmeaning.specs.MachineExamples as M;
@@ -94,4 +95,14 @@ pub fn examples_of_machines()
     ensures not_some { Rejects M.abc true → ⊥ }
     ensures some_reject { Rejects M.many_or_two true }
     ensures not_none { Rejects M.many_or_two false → ⊥ }
+{}
+
+/// Which specifications have the same rules.
+pub fn examples_of_same_rules()
+    ensures written_in_two_ways { SameRules (E.echoing E.many) (E.echoing E.one_and_any) }
+    ensures other_words { SameRules (E.echoing E.many) (E.echoing (E.string (codes "aa"))) → ⊥ }
+    ensures other_statements { SameRules (E.echoing E.many) (E.of_rules (E.rule E.many [] ∷ [])) → ⊥ }
+    ensures other_count { SameRules (E.echoing E.many) E.nothing → ⊥ }
+    ensures other_end { SameRules (E.ends_with_bytes 1) (E.ends_with_bytes 2) → ⊥ }
+    ensures other_text { SameRules (E.cut_by (Head 2)) (E.of_rules (E.rule (E.string (codes "abcd")) [] ∷ [])) → ⊥ }
 {}

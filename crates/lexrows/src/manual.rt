@@ -240,6 +240,12 @@ pub(crate) const DIFFERENCES: &[Row] = &[
         0,
     ),
     (
+        "%%\na+/a{2} printf(\"<%s>\", yytext);\n",
+        "aaaa",
+        "<aa>aa",
+        0,
+    ),
+    (
         "%%\nx |\na+/ab printf(\"<%s>\", yytext);\n",
         "aaab",
         "<aa>ab",

@@ -8,9 +8,13 @@ use std::alloc::{AllocError, Global};
 use std::process::Abort;
 use std::test::Fail;
 
-/// Whether the scan writes what the row says, and ends with its status.
-fn holds(alloc: Global, options: Options, row: &Row) -> Result<bool, ScanError> {
+/// Whether the scan writes what the row says, and ends with its status; under `fold` letters stand for both cases.
+fn holds(alloc: Global, fold: bool, row: &Row) -> Result<bool, ScanError> {
     let (text, input, want, status) = *row;
+    let options = Options {
+        fold,
+        ..Options::new()
+    };
     let mut source = MemorySource::new(input.as_bytes());
     let mut sink = MemorySink::new(alloc);
     let got = scan_spec(alloc, text.as_bytes(), options, &mut source, &mut sink)?;
@@ -49,37 +53,28 @@ fn text_of(alloc: Global, long: &Long) -> Result<Vec<u8>, AllocError> {
 }
 
 /// Holds each row of a table.
-fn assert_rows(rt: &impl Abort, alloc: Global, options: Options, rows: &[Row]) {
+fn assert_rows(rt: &impl Abort, alloc: Global, fold: bool, rows: &[Row]) {
     for row in rows {
-        let got = holds(alloc, options, row);
+        let got = holds(alloc, fold, row);
         assert!(rt; got == Ok(true), "{}: {got:?}", row.0);
-    }
-}
-
-/// The rules of the table with letters that stand for both cases.
-fn folding() -> Options {
-    Options {
-        fold: true,
-        ..Options::new()
     }
 }
 
 #[test]
 fn scans_as_worked(rt: HostRuntime) {
-    assert_rows(&rt, rt.alloc(), Options::new(), worked::SCANS);
+    assert_rows(&rt, rt.alloc(), false, worked::SCANS);
 }
 
 #[test]
 fn scans_as_flex_does(rt: HostRuntime) {
-    assert_rows(&rt, rt.alloc(), Options::new(), examples::EXAMPLES);
+    assert_rows(&rt, rt.alloc(), false, examples::EXAMPLES);
 }
 
 #[test]
 fn scans_as_the_manual_says(rt: HostRuntime) {
-    let alloc = rt.alloc();
-    assert_rows(&rt, alloc, Options::new(), manual::EXAMPLES);
-    assert_rows(&rt, alloc, Options::new(), manual::DIFFERENCES);
-    assert_rows(&rt, alloc, folding(), manual::FOLDED);
+    assert_rows(&rt, rt.alloc(), false, manual::EXAMPLES);
+    assert_rows(&rt, rt.alloc(), false, manual::DIFFERENCES);
+    assert_rows(&rt, rt.alloc(), true, manual::FOLDED);
 }
 
 #[test]

@@ -4,7 +4,7 @@ ghost use Rattle.lexmeaning.specs.MachineLaws.{MachineLaws};
 ghost use Rattle.lexdfa.specs.Automata.{machine_of, conditions_of, states_of};
 ghost use Rattle.lexspec.specs.Views.{spec_of, conditions_in};
 ghost use Rattle.lextab.specs.Plain.{plain_machine};
-ghost use Rattle.lextab.proofs.Below.{below};
+ghost use Rattle.lextab.specs.Below.{below};
 
 use crate::plain::Plain;
 use lexdfa::Dfa;

@@ -61,3 +61,6 @@ returns-clause-told g c =
       ran = Same.ran_to M laws S sound table h.0 h.1 b c.in-Ok-run.status
           (subst (λ N. RanTo (rules_of_machine N) h.0 h.1 b c.in-Ok-run.status) c.new-machine.ensures h.4);
     })
+
+pub new-machine-requires-clause-laws : goal.new-machine-requires-clause-laws
+new-machine-requires-clause-laws g c = c.in-Ok-minimise.ensures.laws (spec_of c.args.spec.now) c.in-Ok.ensures.laws

@@ -23,7 +23,7 @@ module _ (p : Parts) (a : IsAutomaton p) (S : Spec) (count : conditions p ≡ le
   accepted : (s i : ℕ) → Among (accepts p s) i → s < states p
   accepted s i h = elim (cases_lt s (states p)) [
     | inl y ↦ y
-    | inr n ↦ absurd (subst (λ l. Among l i) (past_end (lists_in p) s [] (omega (arith, n, a.lists, length-map (λ v. v.items) p.accepts.items))) h)
+    | inr n ↦ absurd (subst (λ l. Among l i) (past_end (lists_in p) s [] (omega (arith, n, a.lists, length-map p.accepts.items (λ v. v.items)))) h)
   ]
 
   pub below : StaysBelow (machine_in p S) (states p)
