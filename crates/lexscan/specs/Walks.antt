@@ -5,6 +5,7 @@ use Rattle.lexmeaning.specs.Machine.{Machine, walk}
 use Rattle.lexscan.specs.declared.window.Stop.{Stop}
 use Rattle.lexscan.specs.declared.window.Stop.TheVariants.{Done, Full, End, Fault}
 use Rattle.lexscan.specs.declared.window.Walk.{Walk}
+use Rattle.lexscan.specs.declared.state.Reading.{Reading}
 
 -- These bytes led from a state to another, each of them but the first asked for.
 pub record Walked (M : Machine) (first : ℕ) (got : List ℕ) (state before : ℕ) : Type 0 where
@@ -34,6 +35,11 @@ goes Full = true
 goes End = false
 goes Fault = false
 
+-- whether the source answered its end
+abbrev pub ends_at : Stop → Bool
+ends_at End = true
+ends_at other = false
+
 -- The source gave these bytes, and the walk took them after those held.
 pub record Filled {S : Type 0} (gave : S → List ℕ → S → Type 0) (M : Machine) (s t : S) (old new : List ℕ) (first most : ℕ) (w : Walk) : Type 0 where
   pub got : List ℕ
@@ -51,3 +57,11 @@ pub record Filling {S : Type 0} (gave : S → List ℕ → S → Type 0) (M : Ma
   pub held : new ≡ old ++ got
   pub walked : Walked M first got state before
   pub goes_on : 1 ≤ length got → M.goes_on state ≡ true
+
+-- The window has grown by the bytes of a walk.
+pub record Grown (M : Machine) (old new : Reading) (first : ℕ) (w : Walk) : Type 0 where
+  pub got : List ℕ
+  pub held : new.window.bytes ≡ old.window.bytes ++ got
+  pub count : w.count ≡ length got
+  pub walked : Walked M first got w.state w.before
+  pub stops : StopsAt M got w.state w.stop

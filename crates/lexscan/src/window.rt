@@ -1,5 +1,5 @@
 //! The bytes that a scan holds.
-ghost use Rattle.std.specs.Prelude.{◌≡◌, ℕ, ◌+◌, ◌-◌, ◌<◌, ◌≤◌, List, [], ◌∷◌, ◌++◌, length, take, drop, true, false, OnOk, OnErr, vec_len, nat_lt, slice_range, get_or, ◌^◌, ◌⊎◌};
+ghost use Rattle.std.specs.Prelude.{◌≡◌, ℕ, ◌+◌, ◌-◌, ◌<◌, ◌≤◌, List, [], ◌∷◌, ◌++◌, length, take, drop, true, false, OnOk, OnErr, vec_len, nat_lt, slice_range, get_or, ◌^◌};
 ghost use Rattle.lexscan.specs.Walks.{Filled, end_of_stop, fault_of_stop, goes};
 
 use crate::intake::Intake;
@@ -147,14 +147,19 @@ impl Window {
         ensures live { intake.new.live ≡ goes result.stop }
         ensures known { result.state < M.states machine.now }
         ensures known_before { result.before < M.states machine.now }
-        ensures full { result.stop ≡ Stop.Full → (result.count ≡ most) ⊎ (self.new.room ≡ false) }
+        ensures some { self.old.room ≡ true → 1 ≤ most → result.stop ≡ Stop.Full → 1 ≤ result.count }
     {
         let begin = self.end;
         let mut end = begin;
         let mut state = first;
         let mut before = first;
         let room = self.buffer.len() - begin;
-        let limit = begin + if most < room as u64 { most as usize } else { room };
+        let limit = begin
+            + if most < room as u64 {
+                most as usize
+            } else {
+                room
+            };
         'bytes: while end < limit {
             match intake.next() {
                 Ok(Some(byte)) => {

@@ -75,15 +75,14 @@ bytes-preserved g c = record {
     small : b < 256
     small = search rules
 
-
 pub returns-in-Ok-None-clause-filled : goal.returns-in-Ok-None-clause-filled
 returns-in-Ok-None-clause-filled g c =
     subst (Filled g.S.Source.gave M c.args.intake.now.source.now c.next.new.self.source.now bytes (drop start (take c.bytes.end c.bytes.self-inside.buffer.items)) c.args.first c.args.most) (sym c.new-in-Ok-None.ensures)
     (filled g.S.Source.gave M c.args.intake.now.source.now c.next.new.self.source.now start c.self.inside.end c.bytes.end c.bytes.self-inside.buffer.items c.self.inside.buffer.items bytes c.args.first c.args.most (c.bytes.end - c.self.inside.end) c.bytes.state c.bytes.before Stop.End c.bytes.invariant.filling.got
-        (subst (λ xs. g.S.Source.gave c.args.intake.now.source.now xs c.next.new.self.source.now) (append-nil c.bytes.invariant.filling.got) (g.met.S.Source.gave_more _ _ _ _ _ c.bytes.invariant.filling.source (rw c.in-Ok-None.field-0-is at c.in-Ok-None.ensures.byte)))
-        (omega (arith, c.self.invariant.0, c.bytes.invariant.start)) (omega (arith, c.self.invariant.1, c.self.inside.buffer.ok)) (omega (arith, c.bytes-test.true, c.bytes.invariant.inside)) (omega (arith, c.bytes-test.true, c.bytes.invariant.few))
-        c.bytes.invariant.filling.held
-        view refl c.bytes.invariant.filling.walked c.bytes.invariant.filling.goes_on)
+    (subst (λ xs. g.S.Source.gave c.args.intake.now.source.now xs c.next.new.self.source.now) (append-nil c.bytes.invariant.filling.got) (g.met.S.Source.gave_more _ _ _ _ _ c.bytes.invariant.filling.source (rw c.in-Ok-None.field-0-is at c.in-Ok-None.ensures.byte)))
+    (omega (arith, c.self.invariant.0, c.bytes.invariant.start)) (omega (arith, c.self.invariant.1, c.self.inside.buffer.ok)) (omega (arith, c.bytes-test.true, c.bytes.invariant.inside)) (omega (arith, c.bytes-test.true, c.bytes.invariant.few))
+    c.bytes.invariant.filling.held
+    view refl c.bytes.invariant.filling.walked c.bytes.invariant.filling.goes_on)
   where
     M : Machine
     M = g.M.Machine.machine c.args.machine.now
@@ -101,10 +100,10 @@ pub returns-in-Err-clause-filled : goal.returns-in-Err-clause-filled
 returns-in-Err-clause-filled g c =
     subst (Filled g.S.Source.gave M c.args.intake.now.source.now c.next.new.self.source.now bytes (drop start (take c.bytes.end c.bytes.self-inside.buffer.items)) c.args.first c.args.most) (sym c.new-in-Err.ensures)
     (filled g.S.Source.gave M c.args.intake.now.source.now c.next.new.self.source.now start c.self.inside.end c.bytes.end c.bytes.self-inside.buffer.items c.self.inside.buffer.items bytes c.args.first c.args.most (c.bytes.end - c.self.inside.end) c.bytes.state c.bytes.before Stop.Fault c.bytes.invariant.filling.got
-        (subst (λ xs. g.S.Source.gave c.args.intake.now.source.now xs c.next.new.self.source.now) (append-nil c.bytes.invariant.filling.got) (g.met.S.Source.gave_more _ _ _ _ _ c.bytes.invariant.filling.source c.in-Err.ensures.byte))
-        (omega (arith, c.self.invariant.0, c.bytes.invariant.start)) (omega (arith, c.self.invariant.1, c.self.inside.buffer.ok)) (omega (arith, c.bytes-test.true, c.bytes.invariant.inside)) (omega (arith, c.bytes-test.true, c.bytes.invariant.few))
-        c.bytes.invariant.filling.held
-        view refl c.bytes.invariant.filling.walked c.bytes.invariant.filling.goes_on)
+    (subst (λ xs. g.S.Source.gave c.args.intake.now.source.now xs c.next.new.self.source.now) (append-nil c.bytes.invariant.filling.got) (g.met.S.Source.gave_more _ _ _ _ _ c.bytes.invariant.filling.source c.in-Err.ensures.byte))
+    (omega (arith, c.self.invariant.0, c.bytes.invariant.start)) (omega (arith, c.self.invariant.1, c.self.inside.buffer.ok)) (omega (arith, c.bytes-test.true, c.bytes.invariant.inside)) (omega (arith, c.bytes-test.true, c.bytes.invariant.few))
+    c.bytes.invariant.filling.held
+    view refl c.bytes.invariant.filling.walked c.bytes.invariant.filling.goes_on)
   where
     M : Machine
     M = g.M.Machine.machine c.args.machine.now
@@ -122,11 +121,11 @@ pub returns-then-not-goes_on-clause-filled : goal.returns-then-not-goes_on-claus
 returns-then-not-goes_on-clause-filled g c =
     subst (Filled g.S.Source.gave M c.args.intake.now.source.now c.next.new.self.source.now bytes (drop start (take (c.bytes.end + 1) (slice_set c.bytes.self-inside.buffer.items c.bytes.end c.in-Ok-Some.byte))) c.args.first c.args.most) (sym c.new.ensures)
     (filled g.S.Source.gave M c.args.intake.now.source.now c.next.new.self.source.now start c.self.inside.end (c.bytes.end + 1) (slice_set c.bytes.self-inside.buffer.items c.bytes.end c.in-Ok-Some.byte) c.self.inside.buffer.items bytes c.args.first c.args.most ((c.bytes.end + 1) - c.self.inside.end) c.step-state.result c.bytes.state Stop.Done (c.bytes.invariant.filling.got ++ c.in-Ok-Some.byte ∷ [])
-        (g.met.S.Source.gave_more _ _ _ _ _ c.bytes.invariant.filling.source (rw c.in-Ok-Some.field-0-is at c.in-Ok-Some.ensures.byte))
-        (omega (arith, c.self.invariant.0, c.bytes.invariant.start)) (omega (arith, c.self.invariant.1, c.self.inside.buffer.ok)) (omega (arith, c.bytes-test.true, c.bytes.invariant.inside, length-set c.bytes.self-inside.buffer.items c.bytes.end c.in-Ok-Some.byte)) (omega (arith, c.bytes-test.true, c.bytes.invariant.few))
-        (take_more_set c.bytes.self-inside.buffer.items c.bytes.end c.in-Ok-Some.byte (omega (arith, c.bytes-test.true, c.bytes.invariant.inside)) ∙ ap (λ z. z ++ c.in-Ok-Some.byte ∷ []) c.bytes.invariant.filling.held ∙ append_assoc _ c.bytes.invariant.filling.got (c.in-Ok-Some.byte ∷ []))
-        view refl (subst (λ k. Walked (g.M.Machine.machine c.args.machine.now) c.args.first (c.bytes.invariant.filling.got ++ c.in-Ok-Some.byte ∷ []) k c.bytes.state) (sym c.step-state.ensures.state)
-        (walked_more (g.M.Machine.machine c.args.machine.now) c.args.first c.bytes.invariant.filling.got c.bytes.state c.bytes.before c.in-Ok-Some.byte (search rules) c.bytes.invariant.filling.walked c.bytes.invariant.filling.goes_on)) (omega (arith, length-append c.bytes.invariant.filling.got (c.in-Ok-Some.byte ∷ [])), sym c.goes_on.ensures ∙ c.if-not-goes_on.true))
+    (g.met.S.Source.gave_more _ _ _ _ _ c.bytes.invariant.filling.source (rw c.in-Ok-Some.field-0-is at c.in-Ok-Some.ensures.byte))
+    (omega (arith, c.self.invariant.0, c.bytes.invariant.start)) (omega (arith, c.self.invariant.1, c.self.inside.buffer.ok)) (omega (arith, c.bytes-test.true, c.bytes.invariant.inside, length-set c.bytes.self-inside.buffer.items c.bytes.end c.in-Ok-Some.byte)) (omega (arith, c.bytes-test.true, c.bytes.invariant.few))
+    (take_more_set c.bytes.self-inside.buffer.items c.bytes.end c.in-Ok-Some.byte (omega (arith, c.bytes-test.true, c.bytes.invariant.inside)) ∙ ap (λ z. z ++ c.in-Ok-Some.byte ∷ []) c.bytes.invariant.filling.held ∙ append_assoc _ c.bytes.invariant.filling.got (c.in-Ok-Some.byte ∷ []))
+    view refl (subst (λ k. Walked (g.M.Machine.machine c.args.machine.now) c.args.first (c.bytes.invariant.filling.got ++ c.in-Ok-Some.byte ∷ []) k c.bytes.state) (sym c.step-state.ensures.state)
+    (walked_more (g.M.Machine.machine c.args.machine.now) c.args.first c.bytes.invariant.filling.got c.bytes.state c.bytes.before c.in-Ok-Some.byte (search rules) c.bytes.invariant.filling.walked c.bytes.invariant.filling.goes_on)) (omega (arith, length-append c.bytes.invariant.filling.got (c.in-Ok-Some.byte ∷ [])), sym c.goes_on.ensures ∙ c.if-not-goes_on.true))
   where
     M : Machine
     M = g.M.Machine.machine c.args.machine.now
