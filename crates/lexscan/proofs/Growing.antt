@@ -1,5 +1,5 @@
 -- The states after the bytes that a match has asked for, while the window grows.
-use Rattle.std.proofs.Common.{◌≡◌, ℕ, suc, zero, ◌+◌, ◌≤◌, ◌<◌, Bool, true, false, List, [], ◌∷◌, ◌++◌, length, take, drop, get_or, ◌⊎◌, inl, inr, refl, sym, ◌∙◌, ap, subst, arith}
+use Rattle.std.proofs.Common.{◌≡◌, ℕ, suc, zero, ◌+◌, ◌-◌, ◌≤◌, ◌<◌, Bool, true, false, List, [], ◌∷◌, ◌++◌, length, take, drop, get_or, ◌⊎◌, inl, inr, refl, sym, ◌∙◌, ap, subst, arith}
 use Rattle.std.proofs.lemmas.List.{take-append-le, length-append, append_assoc, length-drop, drop-append-le, get_or-drop}
 use Rattle.lexmeaning.specs.Text.{Among}
 use Rattle.lexmeaning.specs.Machine.{Machine, walk, state_after}
@@ -11,6 +11,12 @@ use Rattle.lexscan.specs.declared.state.Reading.{Reading}
 use Rattle.lexscan.specs.declared.state.Spot.{Spot}
 use Rattle.lexscan.specs.Reads.{Took, end_step}
 use Rattle.lexscan.specs.Sees.{SoFar, GoesOnAfter}
+use Rattle.lexscan.specs.Walks.{Walked, Grown}
+use Rattle.lexscan.specs.declared.window.Walk.{Walk}
+use Rattle.lexscan.specs.Picks.{trail_of, state_at}
+use Rattle.std.proofs.lemmas.List.{take_all}
+use Rattle.std.proofs.Math.Seq.{take-append-add}
+use Rattle.std.proofs.lemmas.Bool.{cases_lt}
 
 -- one element more
 pub take_one_more : (n : ℕ) (l : List ℕ) → n < length l → take (n + 1) l ≡ take n l ++ get_or l n 0 ∷ []
@@ -105,3 +111,115 @@ end_step_same false true e = absurd (no e)
     no : true ≡ false → ⊥
     no p = cc
 end_step_same false false e = refl
+
+-- a walk over bytes that follow those held
+module _ (M : Machine) (p : Spot) (w w' got : List ℕ) (n state : ℕ) (le : p.at ≤ length w) (all : p.at + n ≡ length w) (grown : w' ≡ w ++ got) where
+  abbrev y : List ℕ
+  y = drop p.at w
+
+  abbrev s0 : ℕ
+  s0 = M.start p.condition p.line_start
+
+  size : length y ≡ n
+  size = omega (arith, length-drop p.at w, all)
+
+  after : drop p.at w' ≡ y ++ got
+  after = ap (drop p.at) grown ∙ drop-append-le p.at w got le
+
+  whole : take n y ≡ y
+  whole = take_all n y (omega (arith, size))
+
+  -- the first bytes, where some of them follow those held
+  front : (j : ℕ) → take (n + j) (y ++ got) ≡ y ++ take j got
+  front j = ap (λ m. take (m + j) (y ++ got)) (sym size) ∙ take-append-add y got j
+
+  state_after_front : (trail : List ℕ) → SoFar M p y n state trail → (j : ℕ) → walk M s0 (take (n + j) (y ++ got)) ≡ walk M state (take j got)
+  state_after_front trail h j =
+      ap (walk M s0) (front j) ∙ walk-append M s0 y (take j got) ∙ ap (λ s. walk M s (take j got)) (ap (walk M s0) (sym whole) ∙ sym h.state_is)
+
+  asked_on : (trail : List ℕ) → SoFar M p y n state trail → (1 ≤ n → M.goes_on state ≡ true) → (s' before : ℕ) → Walked M state got s' before →
+      (i : ℕ) → 1 ≤ i → i < n + length got → (i < n) ⊎ (n ≤ i) → GoesOnAfter M p (y ++ got) i
+  asked_on trail h live s' before k i some less (inl a) = ap (λ z. M.goes_on (walk M s0 z)) (take-append-le i y got (omega (arith, size, a))) ∙ h.asked i some a
+  asked_on trail h live s' before k i some less (inr b) =
+      ap (λ j. M.goes_on (walk M s0 (take j (y ++ got)))) (sym there) ∙ ap M.goes_on (state_after_front trail h (i - n)) ∙ here (i - n) (omega (arith, less, b)) refl
+    where
+      there : n + (i - n) ≡ i
+      there = omega (arith, b)
+
+      here : (j : ℕ) → j < length got → j ≡ i - n → M.goes_on (walk M state (take j got)) ≡ true
+      here zero lt e = live (omega (arith, e, some, b))
+      here (suc j) lt e = k.asked (suc j) (omega arith) lt
+
+  pub so_far_walked : (trail : List ℕ) → SoFar M p y n state trail → (1 ≤ n → M.goes_on state ≡ true) → (s' before : ℕ) → Walked M state got s' before →
+      SoFar M p (drop p.at w') (n + length got) s' (trail_from M s0 (take (n + length got) (drop p.at w')))
+  so_far_walked trail h live s' before k = subst (λ z. SoFar M p z (n + length got) s' (trail_from M s0 (take (n + length got) z))) (sym after) (record {
+    inside = omega (arith, length-append y got, size);
+    state_is = k.state_is ∙ ap (walk M state) (sym (take_all (length got) got (omega arith))) ∙ sym (state_after_front trail h (length got));
+    asked = λ i some less. asked_on trail h live s' before k i some less (elim (cases_lt i n) [ inl z ↦ inl z | inr z ↦ inr z ]);
+    trail_is = refl;
+  })
+
+  -- the state before the last byte, where the walk took some
+  pub before_walked : (trail : List ℕ) → SoFar M p y n state trail → (s' before : ℕ) → Walked M state got s' before → 1 ≤ length got →
+      before ≡ state_after M p.condition p.line_start (take (n + length got - 1) (drop p.at w'))
+  before_walked trail h s' before k some =
+      k.before_is some ∙ sym (state_after_front trail h (length got - 1)) ∙ ap (λ m. walk M s0 (take m (y ++ got))) (omega (arith, some)) ∙ ap (λ z. walk M s0 (take (n + length got - 1) z)) (sym after)
+
+-- what is known of a match after a walk, by its reach in the window
+pub walked_on : (M : Machine) (p : Spot) (old new : Reading) (n state before : ℕ) (k : Walk) → p.at + n ≡ length old.window.bytes →
+    SoFar M p (drop p.at old.window.bytes) n state (trail_of M p old.window.bytes n) → (1 ≤ n → M.goes_on state ≡ true) → Grown M old new state k → (reach : ℕ) → reach ≡ length new.window.bytes - p.at →
+    SoFar M p (drop p.at new.window.bytes) reach k.state (trail_of M p new.window.bytes reach)
+walked_on M p old new n state before k place h live g reach e =
+    subst (λ r. SoFar M p (drop p.at new.window.bytes) r k.state (trail_of M p new.window.bytes r)) (omega (arith, e, place, sizes))
+    (so_far_walked M p old.window.bytes new.window.bytes g.got n state (omega (arith, place)) place g.held (trail_of M p old.window.bytes n) h live k.state k.before g.walked)
+  where
+    sizes : length new.window.bytes ≡ length old.window.bytes + length g.got
+    sizes = ap length g.held ∙ length-append old.window.bytes g.got
+
+pub before_on : (M : Machine) (p : Spot) (old new : Reading) (n state before b : ℕ) (k : Walk) → p.at + n ≡ length old.window.bytes →
+    SoFar M p (drop p.at old.window.bytes) n state (trail_of M p old.window.bytes n) → (1 ≤ n → before ≡ state_at M p old.window.bytes (n - 1)) → (g : Grown M old new state k) →
+    (1 ≤ k.count → b ≡ k.before) → (k.count ≡ 0 → b ≡ before) → (reach : ℕ) → reach ≡ length new.window.bytes - p.at → 1 ≤ reach → b ≡ state_at M p new.window.bytes (reach - 1)
+before_on M p old new n state before b k place h was g taken none reach e some = by_count (cases_lt 0 k.count)
+  where
+    sizes : length new.window.bytes ≡ length old.window.bytes + length g.got
+    sizes = ap length g.held ∙ length-append old.window.bytes g.got
+
+    le : p.at ≤ length old.window.bytes
+    le = omega (arith, place)
+
+    reach_is : reach ≡ n + length g.got
+    reach_is = omega (arith, e, place, sizes)
+
+    by_count : (0 < k.count) ⊎ (k.count ≤ 0) → b ≡ state_at M p new.window.bytes (reach - 1)
+    by_count (inl lt) =
+        taken (omega (arith, lt)) ∙ before_walked M p old.window.bytes new.window.bytes g.got n state le place g.held (trail_of M p old.window.bytes n) h k.state k.before g.walked (omega (arith, lt, g.count))
+        ∙ ap (λ r. state_at M p new.window.bytes r) (omega (arith, reach_is))
+    by_count (inr none_taken) =
+        let nothing : length g.got ≡ 0 = omega (arith, none_taken, g.count) in
+        let early : n - 1 ≤ length (drop p.at old.window.bytes) = omega (arith, length-drop p.at old.window.bytes, place) in
+        let same : take (n - 1) (drop p.at old.window.bytes) ≡ take (n - 1) (drop p.at new.window.bytes) =
+        sym (ap (take (n - 1)) (ap (drop p.at) g.held ∙ drop-append-le p.at old.window.bytes g.got le) ∙ take-append-le (n - 1) (drop p.at old.window.bytes) g.got early) in
+        none (omega (arith, none_taken)) ∙ was (omega (arith, some, reach_is, nothing)) ∙ ap (state_after M p.condition p.line_start) same ∙ ap (λ r. state_at M p new.window.bytes r) (omega (arith, reach_is, nothing))
+
+-- a machine that asks for one more after each byte of a walk goes on after it
+pub goes_after : (M : Machine) (n state reach : ℕ) (got : List ℕ) (s' before : ℕ) → Walked M state got s' before → (1 ≤ length got → M.goes_on s' ≡ true) → (1 ≤ n → M.goes_on state ≡ true) → reach ≡ n + length got →
+    1 ≤ reach → M.goes_on s' ≡ true
+goes_after M n state reach [] s' before k stops live e some = ap M.goes_on k.state_is ∙ live (omega (arith, e, some))
+goes_after M n state reach (b ∷ got) s' before k stops live e some = stops (omega arith)
+
+pub all_asked : (M : Machine) (p : Spot) (w : List ℕ) (n state : ℕ) (trail : List ℕ) → SoFar M p (drop p.at w) n state trail → p.at + n ≡ length w → (1 ≤ n → M.goes_on state ≡ true) →
+    (i : ℕ) → 1 ≤ i → p.at + i ≤ length w → GoesOnAfter M p (drop p.at w) i
+all_asked M p w n state trail h place live i some inside =
+    next_asked M p (drop p.at w) n state trail h live i some (omega (arith, place, inside)) (elim (cases_lt i n) [ inl a ↦ inl a | inr b ↦ inr b ])
+
+pub was_reading : (a b : Bool) → (a ≡ true → b ≡ true) → b ≡ false → a ≡ false
+was_reading true b h e = sym (h refl) ∙ e
+was_reading false b h e = refl
+
+pub clash : (b : Bool) → b ≡ true → b ≡ false → ⊥
+clash b t f = absurd cc
+
+pub end_step_ended : (a b : Bool) → a ≡ false → b ≡ true → end_step a b ≡ 1
+end_step_ended true b f t = absurd (clash true refl f)
+end_step_ended false true f t = refl
+end_step_ended false false f t = absurd (clash false t refl)

@@ -9,3 +9,4 @@ pub mod Refusing
 pub mod Saying
 pub mod Stepping
 pub mod Picking
+pub mod Walking

@@ -1,4 +1,5 @@
 pub mod Window
+pub mod Walks
 pub mod Answer
 pub mod Reads
 pub mod Sees

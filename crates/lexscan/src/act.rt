@@ -5,11 +5,11 @@ ghost use Rattle.lexscan.specs.Reads.{write_fault_count};
 ghost use Rattle.lexmachine.specs.Views.{statement_of};
 ghost use Rattle.lexscan.specs.Acts.{said, Steps, Carried, CutShort};
 
-use crate::intake::Outlet;
 use crate::error::RunError;
+use crate::intake::Outlet;
 use crate::window::Window;
-use lexmachine::Statement;
 use lexends::Sink;
+use lexmachine::Statement;
 
 /// The text's end in the window, the condition of the next match, and whether the next text is appended to this one.
 #[derive(Clone, Copy, Debug, PartialEq, Eq)]

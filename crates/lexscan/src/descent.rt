@@ -7,13 +7,12 @@ ghost use Rattle.lexscan.specs.Reads.{write_fault_count};
 ghost use Rattle.lexscan.specs.Descends.{matches_of, Tried, CutOff, CutAll, Performed};
 
 use crate::act::{Acting, Step, carry_out, put};
-use crate::intake::Outlet;
 use crate::error::RunError;
+use crate::intake::Outlet;
 use crate::trail::Trail;
 use crate::window::Window;
-use lexmachine::Cut;
 use lexends::Sink;
-use lexmachine::Machine;
+use lexmachine::{Cut, Machine};
 
 /// What a cut keeps of a match of so many bytes, if it fits.
 pub fn kept(cut: Cut, len: usize) -> Option<usize>

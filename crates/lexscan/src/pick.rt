@@ -10,8 +10,8 @@ ghost use Rattle.lexscan.specs.Picks.{IsFirst, Tells, trail_of};
 
 use crate::act::{Acting, Step, carry_out, put};
 use crate::descent::kept;
-use crate::intake::Outlet;
 use crate::error::RunError;
+use crate::intake::Outlet;
 use crate::state::Spot;
 use crate::window::Window;
 use lexends::Sink;

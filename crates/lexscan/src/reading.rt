@@ -2,13 +2,16 @@
 ghost use Rattle.std.specs.Prelude.{◌≡◌, ℕ, ◌+◌, ◌-◌, ◌^◌, ◌<◌, ◌≤◌, List, [], ◌∷◌, ◌++◌, length, true, false, OnOk, OnErr, IfOk, IfErr, IsErrOf, ◌⊎◌, if◌then◌else◌};
 ghost use Rattle.lexends.specs.Source.{given};
 ghost use Rattle.lexmeaning.specs.Text.{IsText};
+ghost use Rattle.lexscan.specs.Walks.{Grown, end_of_stop, fault_of_stop, ends_at, goes};
 ghost use Rattle.lexscan.specs.Reads.{Took, IsThere, IsWanted, IsShort, is_end, read_fault_count, end_step};
 
 use crate::error::RunError;
 use crate::intake::Intake;
 use crate::state::Reading;
 use crate::trail::Trail;
+use crate::window::{Stop, Walk};
 use lexends::Source;
+use lexmachine::Machine;
 
 /// Takes the next byte into the window, or learns that there is none.
 #[inline]
@@ -92,42 +95,47 @@ fn take_byte<S: Source>(
     take_plain(intake, reading)
 }
 
-/// Makes sure that the window has a byte at this place. Answers false where the source has
-/// answered its end.
-#[inline]
-pub fn fetch_byte<S: Source>(
+/// Takes bytes of the source into the window as long as the machine asks for one more, at least one where nothing is
+/// refused and the source has not ended. What is refused is refused before a byte is read.
+#[inline(always)]
+pub fn fill<M: Machine, S: Source>(
+    machine: &M,
     intake: &mut Intake<'_, S>,
     reading: &mut Reading,
-    next: usize,
-) -> Result<bool, RunError>
-    requires live { reading.old.at_end ≡ false → intake.old.live ≡ true }
-    requires place { next ≤ length reading.old.window.bytes }
+    first: u32,
+) -> Result<Walk, RunError>
+    requires live { intake.old.live ≡ true }
+    requires more { reading.old.at_end ≡ false }
+    requires known { first < M.states machine.now }
 
     ensures same { intake.new.source.ghost_name ≡ intake.old.source.ghost_name }
     ensures took { Took S.gave intake.old.source.now intake.new.source.now reading.old reading.new }
-    ensures there { IfOk result (λ there. IsThere reading.old reading.new next there) }
-    ensures wanted { OnErr result (IsWanted reading.old reading.new next) }
-    ensures ends { S.ends intake.new.source.now ≡ S.ends intake.old.source.now + end_step reading.old.at_end reading.new.at_end }
-    ensures failures { S.failures intake.new.source.now ≡ S.failures intake.old.source.now + read_fault_count result }
-    ensures live { OnOk result (reading.new.at_end ≡ false → intake.new.live ≡ true) }
+    ensures grown { IfOk result (λ walk. Grown (M.machine machine.now) reading.old reading.new first walk) }
+    ensures at_end { IfOk result (λ walk. reading.new.at_end ≡ ends_at walk.stop) }
+    ensures some { IfOk result (λ walk. walk.stop ≡ Stop.Full → 1 ≤ walk.count) }
+    ensures known { IfOk result (λ walk. walk.state < M.states machine.now) }
+    ensures known_before { IfOk result (λ walk. walk.before < M.states machine.now) }
+    ensures ends { IfOk result (λ walk. S.ends intake.new.source.now ≡ S.ends intake.old.source.now + end_of_stop walk.stop) }
+    ensures failures { IfOk result (λ walk. S.failures intake.new.source.now ≡ S.failures intake.old.source.now + fault_of_stop walk.stop) }
+    ensures live { IfOk result (λ walk. intake.new.live ≡ goes walk.stop) }
 
-    ensures still { reading.old.at_end ≡ true → intake.new.source.now ≡ intake.old.source.now }
-
-    ensures too_many { IsErrOf result RunError.TooManyReads → (reading.new.taken ≡ reading.new.max_reads) × IsWanted reading.old reading.new next }
-    ensures not_write { IsErrOf result RunError.Write → ⊥ }
-    ensures not_failed { IsErrOf result RunError.Failed → ⊥ }
+    ensures unchanged { OnErr result ((reading.new.window.bytes ≡ reading.old.window.bytes) × (reading.new.at_end ≡ false) × (intake.new.source.now ≡ intake.old.source.now)) }
+    ensures refusals { IfErr result (λ e. (e ≡ RunError.TooManyReads) ⊎ (e ≡ RunError.OutOfMemory)) }
+    ensures too_many { IsErrOf result RunError.TooManyReads → reading.new.taken ≡ reading.new.max_reads }
 {
-    if next < reading.window.len() {
-        return Ok(true);
+    if reading.max_reads <= reading.taken {
+        return Err(RunError::TooManyReads);
     }
-    if reading.at_end {
-        return Ok(false);
+    if let Err(_) = reading.window.reserve() {
+        return Err(RunError::OutOfMemory);
     }
-    match take_plain(intake, reading) {
-        Err(e) => Err(e),
-        Ok(None) => Ok(false),
-        Ok(Some(_)) => Ok(true),
+    let most = reading.max_reads - reading.taken;
+    let walk = reading.window.fill(machine, intake, first, most);
+    reading.taken += walk.count as u64;
+    if matches!(walk.stop, Stop::End) {
+        reading.at_end = true;
     }
+    Ok(walk)
 }
 
 /// Makes sure that the window has a byte at this place, and the trail room for its state. Answers false where the source

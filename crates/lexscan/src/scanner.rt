@@ -3,8 +3,8 @@ ghost use Rattle.std.specs.Prelude.{◌≡◌, ℕ, ◌+◌, ◌-◌, ◌^◌, �
 ghost use Rattle.lexscan.specs.Reads.{read_fault_count, write_fault_count, end_step};
 ghost use Rattle.lexscan.specs.Stands.{NoneAfterEnd, GoesOn, Stands};
 
-use crate::intake::{Intake, Outlet};
 use crate::error::RunError;
+use crate::intake::{Intake, Outlet};
 use crate::state::State;
 use crate::trail::Trail;
 use crate::turn::{Turn, turn_of};

@@ -1,17 +1,18 @@
 //! One match, which takes bytes from the source as it asks for them.
-ghost use Rattle.std.specs.Prelude.{◌≡◌, ℕ, ◌+◌, ◌-◌, ◌^◌, ◌<◌, ◌≤◌, List, [], length, true, false, OnOk, OnErr, IfOk, IfErr, IsErrOf, IfSome};
+ghost use Rattle.std.specs.Prelude.{◌≡◌, ℕ, ◌+◌, ◌-◌, ◌^◌, ◌<◌, ◌≤◌, List, [], length, true, false, OnOk, OnErr, IfOk, IfErr, IsErrOf, IfSome, drop, ◌⊎◌};
 ghost use Rattle.lexmeaning.specs.Text.{Among};
 ghost use Rattle.lexscan.specs.Reads.{Took, read_fault_count, end_step};
-ghost use Rattle.lexscan.specs.Sees.{SawOr, Wants, Unmet};
-ghost use Rattle.lexscan.specs.Picks.{SawSome, Tells};
+ghost use Rattle.lexscan.specs.Sees.{SawOr, SoFar, Wants, Unmet};
+ghost use Rattle.lexscan.specs.Picks.{SawSome, Tells, trail_of, state_at};
 
+use crate::error::RunError;
 use crate::intake::Intake;
 use crate::pick::Seen;
-use crate::error::RunError;
-use crate::reading::{fetch, fetch_byte};
-use lexends::Source;
+use crate::reading::{fetch, fill};
 use crate::state::{Reading, Spot};
 use crate::trail::Trail;
+use crate::window::{Stop, Walk};
+use lexends::Source;
 use lexmachine::Machine;
 
 /// Takes the bytes that a match asks for, and keeps the states after them. Answers false where there is none.
@@ -88,35 +89,98 @@ pub fn see_last<M: Machine, S: Source>(
     ensures not_write { IsErrOf result RunError.Write → ⊥ }
     ensures not_failed { IsErrOf result RunError.Failed → ⊥ }
 {
+    let held = reading.window.len();
     let mut state = machine.start(spot.condition, spot.line_start);
     let mut before = state;
-    let mut next = spot.at;
-    let mut len = 0usize;
-    'bytes: loop {
-        if len > 0 && !machine.goes_on(state) {
+    let mut reach = 0usize;
+    'held: while reach < held - spot.at {
+        before = state;
+        state = machine.step(state, reading.window.byte(spot.at + reach));
+        reach += 1;
+        if !machine.goes_on(state) {
             return Ok(Some(Seen {
-                reach: len,
+                reach,
                 state,
                 before,
             }));
         }
-        match fetch_byte(intake, reading, next) {
+    }
+    see_more(
+        machine,
+        intake,
+        reading,
+        spot,
+        Seen {
+            reach,
+            state,
+            before,
+        },
+    )
+}
+
+/// The state before the last byte, where this one was before a walk that may have taken none.
+#[inline]
+fn before_last(before: u32, walk: Walk) -> u32
+    ensures some { 1 ≤ walk.count → result ≡ walk.before }
+    ensures none { walk.count ≡ 0 → result ≡ before }
+    ensures one { (result ≡ walk.before) ⊎ (result ≡ before) }
+{
+    if walk.count == 0 { before } else { walk.before }
+}
+
+/// Goes on with a match that has asked for all the bytes held, and asks for one more: takes bytes of the source, and keeps the
+/// last two states. Answers nothing where there is no byte.
+#[inline(always)]
+fn see_more<M: Machine, S: Source>(
+    machine: &M,
+    intake: &mut Intake<'_, S>,
+    reading: &mut Reading,
+    spot: Spot,
+    seen: Seen,
+) -> Result<Option<Seen>, RunError>
+    requires live { reading.old.at_end ≡ false → intake.old.live ≡ true }
+    requires place { spot.at + seen.reach ≡ length reading.old.window.bytes }
+    requires so_far { SoFar (M.machine machine.now) spot (drop spot.at reading.old.window.bytes) seen.reach seen.state (trail_of (M.machine machine.now) spot reading.old.window.bytes seen.reach) }
+    requires goes_on { 1 ≤ seen.reach → (M.machine machine.now).goes_on seen.state ≡ true }
+    requires before_is { 1 ≤ seen.reach → seen.before ≡ state_at (M.machine machine.now) spot reading.old.window.bytes (seen.reach - 1) }
+    requires known { seen.state < M.states machine.now }
+    requires known_before { seen.before < M.states machine.now }
+
+    ensures same { intake.new.source.ghost_name ≡ intake.old.source.ghost_name }
+    ensures took { Took S.gave intake.old.source.now intake.new.source.now reading.old reading.new }
+    ensures saw { IfOk result (λ seen. SawSome (M.machine machine.now) spot reading.old reading.new seen) }
+    ensures tells { IfOk result (λ seen. IfSome seen (Tells (M.machine machine.now) (M.states machine.now) spot reading.new.window.bytes)) }
+    ensures unmet { OnErr result (Wants (M.machine machine.now) spot reading.new) }
+    ensures ends { S.ends intake.new.source.now ≡ S.ends intake.old.source.now + end_step reading.old.at_end reading.new.at_end }
+    ensures failures { S.failures intake.new.source.now ≡ S.failures intake.old.source.now + read_fault_count result }
+    ensures live { OnOk result (reading.new.at_end ≡ false → intake.new.live ≡ true) }
+    ensures still { reading.old.at_end ≡ true → intake.new.source.now ≡ intake.old.source.now }
+
+    ensures too_many { IsErrOf result RunError.TooManyReads → reading.new.taken ≡ reading.new.max_reads }
+    ensures not_write { IsErrOf result RunError.Write → ⊥ }
+    ensures not_failed { IsErrOf result RunError.Failed → ⊥ }
+{
+    let mut now = seen;
+    'fills: while !reading.at_end {
+        let walk = match fill(machine, intake, reading, now.state) {
             Err(e) => return Err(e),
-            Ok(false) => {
-                if len == 0 {
-                    return Ok(None);
-                }
-                return Ok(Some(Seen {
-                    reach: len,
-                    state,
-                    before,
-                }));
-            }
-            Ok(true) => {}
+            Ok(walk) => walk,
+        };
+        now = Seen {
+            reach: reading.window.len() - spot.at,
+            state: walk.state,
+            before: before_last(now.before, walk),
+        };
+        match walk.stop {
+            Stop::Done => return Ok(Some(now)),
+            Stop::Fault => return Err(RunError::Read),
+            Stop::End => {}
+            Stop::Full => {}
         }
-        before = state;
-        state = machine.step(state, reading.window.byte(next));
-        next += 1;
-        len += 1;
+    }
+    if now.reach == 0 {
+        Ok(None)
+    } else {
+        Ok(Some(now))
     }
 }

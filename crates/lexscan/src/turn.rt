@@ -12,9 +12,9 @@ ghost use Rattle.lexscan.specs.Moves.{stays, left_bytes, left_at, Left, Acted, E
 
 use crate::act::{Acting, put};
 use crate::descent::descend;
+use crate::error::RunError;
 use crate::intake::{Intake, Outlet};
 use crate::pick::{Seen, carry_pick, longest};
-use crate::error::RunError;
 use crate::see::{see, see_last};
 use crate::state::State;
 use crate::trail::Trail;

@@ -5,8 +5,8 @@ ghost use Rattle.lexscan.specs.Reads.{read_fault_count, write_fault_count};
 ghost use Rattle.lexscan.specs.Stands.{Stands};
 ghost use Rattle.lexscan.specs.Runs.{Ran};
 
-use crate::intake::{Intake, Outlet};
 use crate::error::RunError;
+use crate::intake::{Intake, Outlet};
 use crate::state::State;
 use crate::trail::Trail;
 use crate::turn::{Turn, turn_of};

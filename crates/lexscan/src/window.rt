@@ -1,34 +1,80 @@
 //! The bytes that a scan holds.
-ghost use Rattle.std.specs.Prelude.{◌≡◌, ℕ, ◌+◌, ◌-◌, ◌<◌, ◌≤◌, List, [], ◌∷◌, ◌++◌, length, drop, true, OnOk, OnErr, vec_len, vec_capacity, nat_lt, slice_range, get_or, ◌^◌};
+ghost use Rattle.std.specs.Prelude.{◌≡◌, ℕ, ◌+◌, ◌-◌, ◌<◌, ◌≤◌, List, [], ◌∷◌, ◌++◌, length, take, drop, true, false, OnOk, OnErr, vec_len, nat_lt, slice_range, get_or, ◌^◌};
+ghost use Rattle.lexscan.specs.Walks.{Filled, end_of_stop, fault_of_stop, goes};
 
+use crate::intake::Intake;
+use lexends::Source;
+use lexmachine::Machine;
 use std::alloc::{AllocError, Global};
 use std::marker::Model;
 
-/// A list of bytes that is used up from the front.
+/// How many bytes there is room for at first.
+const FIRST_ROOM: usize = 8_192;
+
+/// Why a walk over bytes of the source stopped.
+#[derive(Clone, Copy, Debug, PartialEq, Eq)]
+pub enum Stop {
+    /// The machine asks for no more.
+    Done,
+    /// There is no room for one more, or no more may be read.
+    Full,
+    /// The source answered its end.
+    End,
+    /// The source failed.
+    Fault,
+}
+
+/// A walk over bytes of the source: how many it took, the state after them, and the one before the last of them.
+#[derive(Clone, Copy)]
+pub struct Walk {
+    pub count: usize,
+    pub state: u32,
+    pub before: u32,
+    pub stop: Stop,
+}
+
+impl Walk {
+    #[inline]
+    fn new(count: usize, state: u32, before: u32, stop: Stop) -> Walk
+        ensures { result ≡ record { count = count; state = state; before = before; stop = stop } }
+    {
+        Walk {
+            count,
+            state,
+            before,
+            stop,
+        }
+    }
+}
+
+/// A list of bytes that is used up from the front: those of the buffer from `start` to `end`. What follows is room.
 #[derive(Drop)]
 pub struct Window {
     buffer: Vec<u8>,
     start: usize,
+    end: usize,
 }
 
 impl Model for Window {
-    ghost use Rattle.std.specs.Prelude.{◌≤◌, drop, vec_len, vec_capacity, nat_lt};
+    ghost use Rattle.std.specs.Prelude.{◌≤◌, take, drop, vec_len, nat_lt};
     ghost use Rattle.lexscan.specs.Window.{Held};
 
     ghost Value = { Held };
 
-    ghost view = { λ w. record { bytes = drop w.start w.buffer.items; room = nat_lt (vec_len w.buffer) (vec_capacity w.buffer) } };
+    ghost view = { λ w. record { bytes = drop w.start (take w.end w.buffer.items); room = nat_lt w.end (vec_len w.buffer) } };
 
-    ghost invariant = { λ w. w.start ≤ vec_len w.buffer };
+    ghost invariant = { λ w. (w.start ≤ w.end) × (w.end ≤ vec_len w.buffer) };
 }
 
 impl Window {
+    /// No bytes, and no room.
     pub fn new(alloc: Global) -> Window
         ensures { result.bytes ≡ [] }
     {
         Window {
             buffer: Vec::new(alloc),
             start: 0,
+            end: 0,
         }
     }
 
@@ -45,6 +91,7 @@ impl Window {
         self.grow()
     }
 
+    /// Moves the bytes to the front of the buffer, where at least as many were dropped, or else makes the buffer longer.
     #[cold]
     #[inline(never)]
     fn grow(&mut self) -> Result<(), AllocError>
@@ -53,31 +100,93 @@ impl Window {
         ensures err { OnErr result (self.new ≡ self.old) }
     {
         let start = self.start;
-        let held = self.buffer.len() - start;
-        if self.buffer.len() == self.buffer.capacity() && 0 < start && held <= start {
+        let held = self.end - start;
+        let size = self.buffer.len();
+        if self.end == size && 0 < start && held <= start {
             self.buffer.rotate_left(start);
-            self.buffer.truncate(held);
             self.start = 0;
+            self.end = held;
             return Ok(());
         }
-        self.buffer.reserve(1)
+        self.buffer.resize(size + size.max(FIRST_ROOM), 0)
     }
 
+    /// Whether there is room for one more.
     #[inline]
     pub fn has_room(&self) -> bool
         ensures { result ≡ self.now.room }
     {
-        self.buffer.len() < self.buffer.capacity()
+        self.end < self.buffer.len()
     }
 
+    /// Appends a byte.
     #[inline]
     pub fn push(&mut self, byte: u8)
         requires { self.old.room ≡ true }
         ensures { self.new.bytes ≡ self.old.bytes ++ byte ∷ [] }
     {
-        let _ = self.buffer.push(byte);
+        self.buffer[self.end] = byte;
+        self.end += 1;
     }
 
+    /// Takes bytes of the source, at most so many, as long as there is room for them and the machine asks for one more.
+    #[inline(always)]
+    pub fn fill<M: Machine, S: Source>(
+        &mut self,
+        machine: &M,
+        intake: &mut Intake<'_, S>,
+        first: u32,
+        most: u64,
+    ) -> Walk
+        requires live { intake.old.live ≡ true }
+        requires known { first < M.states machine.now }
+        ensures same { intake.new.source.ghost_name ≡ intake.old.source.ghost_name }
+        ensures filled { Filled S.gave (M.machine machine.now) intake.old.source.now intake.new.source.now self.old.bytes self.new.bytes first most result }
+        ensures ends { S.ends intake.new.source.now ≡ S.ends intake.old.source.now + end_of_stop result.stop }
+        ensures failures { S.failures intake.new.source.now ≡ S.failures intake.old.source.now + fault_of_stop result.stop }
+        ensures live { intake.new.live ≡ goes result.stop }
+        ensures known { result.state < M.states machine.now }
+        ensures known_before { result.before < M.states machine.now }
+        ensures some { self.old.room ≡ true → 1 ≤ most → result.stop ≡ Stop.Full → 1 ≤ result.count }
+    {
+        let begin = self.end;
+        let mut end = begin;
+        let mut state = first;
+        let mut before = first;
+        let room = self.buffer.len() - begin;
+        let limit = begin
+            + if most < room as u64 {
+                most as usize
+            } else {
+                room
+            };
+        'bytes: while end < limit {
+            match intake.next() {
+                Ok(Some(byte)) => {
+                    self.buffer[end] = byte;
+                    end += 1;
+                    before = state;
+                    state = machine.step(state, byte);
+                    if !machine.goes_on(state) {
+                        self.end = end;
+                        return Walk::new(end - begin, state, before, Stop::Done);
+                    }
+                }
+                Ok(None) => {
+                    self.end = end;
+                    return Walk::new(end - begin, state, before, Stop::End);
+                }
+                Err(_) => {
+                    self.end = end;
+                    return Walk::new(end - begin, state, before, Stop::Fault);
+                }
+            }
+        }
+        self.end = end;
+        Walk::new(end - begin, state, before, Stop::Full)
+    }
+
+    /// Drops bytes from the front, and copies nothing.
     pub fn drop_front(&mut self, n: usize)
         requires { n ≤ length self.old.bytes }
         ensures bytes { self.new.bytes ≡ drop n self.old.bytes }
@@ -86,14 +195,17 @@ impl Window {
         self.start += n;
     }
 
+    /// The bytes from one place up to another.
     pub fn slice(&self, i: usize, j: usize) -> &[u8]
         requires order { i ≤ j }
         requires in_bounds { j ≤ length self.now.bytes }
         ensures { result.now ≡ slice_range self.now.bytes i j }
     {
-        &self.buffer[self.start + i..self.start + j]
+        let held = &self.buffer[..self.end];
+        &held[self.start + i..self.start + j]
     }
 
+    /// The byte at a place.
     #[inline]
     pub fn byte(&self, i: usize) -> u8
         requires { i < length self.now.bytes }
@@ -103,10 +215,11 @@ impl Window {
         self.buffer[self.start + i]
     }
 
+    /// How many bytes there are.
     #[inline]
     pub fn len(&self) -> usize
         ensures { result ≡ length self.now.bytes }
     {
-        self.buffer.len() - self.start
+        self.end - self.start
     }
 }

@@ -1,28 +1,20 @@
-use Rattle.std.proofs.Common.{◌≡◌, ◌+◌, ◌-◌, ◌<◌, ◌≤◌, length, max, drop, true, false}
-use Rattle.lexscan.specs.Reads.{Took}
+use Rattle.std.proofs.Common.{◌≡◌, ◌+◌, ◌-◌, ◌<◌, ◌≤◌, length, drop, true}
 use Rattle.lexscan.specs.Sees.{SoFar}
 use Rattle.lexscan.specs.Picks.{trail_of, state_at}
 use Rattle.lexscan.proofs.see.see_last.Given as goal
 
-abbrev pub invariant-bytes : goal.invariant-bytes
-invariant-bytes g l =
+abbrev pub invariant-held : goal.invariant-held
+invariant-held g l =
     let M = g.M.Machine.machine l.machine in
     record {
-      place : l.next ≡ l.fn.spot.at + l.len;
-      so_far : SoFar M l.fn.spot (drop l.fn.spot.at l.reading.window.bytes) l.len l.state (trail_of M l.fn.spot l.reading.window.bytes l.len);
-      before_is : 1 ≤ l.len → l.before ≡ state_at M l.fn.spot l.reading.window.bytes (l.len - 1);
+      inside : l.fn.spot.at + l.reach ≤ length l.reading.window.bytes;
+      same : l.reading ≡ l.fn.reading;
+      so_far : SoFar M l.fn.spot (drop l.fn.spot.at l.reading.window.bytes) l.reach l.state (trail_of M l.fn.spot l.reading.window.bytes l.reach);
+      goes_on : 1 ≤ l.reach → M.goes_on l.state ≡ true;
+      before_is : 1 ≤ l.reach → l.before ≡ state_at M l.fn.spot l.reading.window.bytes (l.reach - 1);
       state_known : l.state < g.M.Machine.states l.machine;
       before_known : l.before < g.M.Machine.states l.machine;
-      took : Took g.S.Source.gave l.fn.intake.source.now l.intake.source.now l.fn.reading l.reading;
-      same : l.intake.source.ghost_name ≡ l.fn.intake.source.ghost_name;
-      ends : g.S.Source.ends l.intake.source.now ≡ g.S.Source.ends l.fn.intake.source.now;
-      failures : g.S.Source.failures l.intake.source.now ≡ g.S.Source.failures l.fn.intake.source.now;
-      live : l.reading.at_end ≡ false → l.intake.live ≡ true;
-      still : l.fn.reading.at_end ≡ true → l.intake.source.now ≡ l.fn.intake.source.now;
-      size : length l.reading.window.bytes ≡ max (length l.fn.reading.window.bytes) (l.fn.spot.at + l.len);
-      end_same : l.reading.at_end ≡ l.fn.reading.at_end;
     }
 
--- each byte is in the window, or it is taken
-abbrev pub decreases-bytes : goal.decreases-bytes
-decreases-bytes g l = l.reading.max_reads - l.reading.taken + (length l.reading.window.bytes - l.next)
+abbrev pub decreases-held : goal.decreases-held
+decreases-held g l = l.held - l.fn.spot.at - l.reach
