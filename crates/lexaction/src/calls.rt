@@ -11,8 +11,8 @@ use crate::condition::Condition;
 use crate::error::ActionError;
 use crate::format::parts_of;
 use crate::statement::{Called, Parts, Said};
-use lexmachine::Statement;
 use lexclass::capped_value;
+use lexmachine::Statement;
 use std::alloc::Global;
 
 #[tactic(auto, unfolding(crate::specs::Actions::this_word))]

@@ -4,8 +4,7 @@ use crate::LIMITS;
 use lexauto::build;
 use lexdfa::Dfa;
 use lexleast::{minimise, one_automaton};
-use lexspec::ReadOptions;
-use lexspec::read_spec;
+use lexspec::{ReadOptions, read_spec};
 use std::alloc::Global;
 use std::test::Fail;
 

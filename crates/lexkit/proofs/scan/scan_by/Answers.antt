@@ -30,14 +30,17 @@ returns-in-Err-run-clause-told g c =
       states = states_of c.in-Ok.automaton;
       subsets = c.in-Ok.ensures.states;
       few_states = c.in-Ok.ensures.few_states;
-    } in (within, record {
-      given = h.0;
-      out = h.1;
-      source = h.2;
-      sink = h.3;
-      ran = Same.ran_into M laws S sound table h.0 h.1 b max_reads c.in-Err-run.fault
-          (subst (λ N. RanInto (rules_of_machine N) h.0 h.1 b max_reads c.in-Err-run.fault) c.new-machine.ensures h.4);
-    })
+    } in (
+      within,
+      record {
+        given = h.0;
+        out = h.1;
+        source = h.2;
+        sink = h.3;
+        ran = Same.ran_into M laws S sound table h.0 h.1 b max_reads c.in-Err-run.fault
+            (subst (λ N. RanInto (rules_of_machine N) h.0 h.1 b max_reads c.in-Err-run.fault) c.new-machine.ensures h.4);
+      },
+    )
 
 pub returns-clause-told : goal.returns-clause-told
 returns-clause-told g c =
@@ -53,14 +56,17 @@ returns-clause-told g c =
       states = states_of c.in-Ok.automaton;
       subsets = c.in-Ok.ensures.states;
       few_states = c.in-Ok.ensures.few_states;
-    } in (within, record {
-      given = h.0;
-      out = h.1;
-      source = h.2;
-      sink = h.3;
-      ran = Same.ran_to M laws S sound table h.0 h.1 b c.in-Ok-run.status
-          (subst (λ N. RanTo (rules_of_machine N) h.0 h.1 b c.in-Ok-run.status) c.new-machine.ensures h.4);
-    })
+    } in (
+      within,
+      record {
+        given = h.0;
+        out = h.1;
+        source = h.2;
+        sink = h.3;
+        ran = Same.ran_to M laws S sound table h.0 h.1 b c.in-Ok-run.status
+            (subst (λ N. RanTo (rules_of_machine N) h.0 h.1 b c.in-Ok-run.status) c.new-machine.ensures h.4);
+      },
+    )
 
 pub new-machine-requires-clause-laws : goal.new-machine-requires-clause-laws
 new-machine-requires-clause-laws g c = c.in-Ok-minimise.ensures.laws (spec_of c.args.spec.now) c.in-Ok.ensures.laws
