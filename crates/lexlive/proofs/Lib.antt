@@ -1,0 +1,3 @@
+pub mod Spreads
+pub mod Leading
+pub mod Chained

@@ -1,0 +1,9 @@
+use Rattle.std.proofs.Common.{◌≡◌, length}
+use Rattle.lexlive.specs.Sources.{AreChains}
+use Rattle.lexlive.proofs.sources.chains_of.Given as goal
+
+abbrev pub invariant-loop-x : goal.invariant-loop-x
+invariant-loop-x l = record {
+  targets : length l.last.items ≡ l.targets;
+  chains : AreChains l.next l.last.items l.before.items l.x;
+}

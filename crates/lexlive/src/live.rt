@@ -1,0 +1,83 @@
+//! Which states are live.
+ghost use Rattle.std.specs.Prelude.{◌≡◌, ℕ, ◌*◌, ◌<◌, ◌≤◌, Bool, true, length, slice_index, IfOk, OnOk};
+ghost use Rattle.lexmeaning.specs.Text.{flag};
+ghost use Rattle.lexlive.specs.Live.{AreLive, GoesTo};
+ghost use Rattle.lexlive.specs.Sources.{Has};
+ghost use Rattle.lexlive.specs.Spreading.{Spreads};
+
+use crate::sources::{Sources, sources_of};
+use std::alloc::{AllocError, Global};
+
+/// Makes a state live. It waits, if it was not live and does not accept.
+fn enliven(
+    accepting: &[bool],
+    live: &mut Vec<bool>,
+    waiting: &mut Vec<u32>,
+    state: u32,
+) -> Result<(), AllocError>
+    requires state { state < length live.old.items }
+    requires one_each { length live.old.items ≡ length accepting.now }
+    ensures { OnOk result (Spreads (λ x. x ≡ state) accepting.now live.old.items waiting.old.items live.new.items waiting.new.items) }
+{
+    if live[state as usize] {
+        return Ok(());
+    }
+    live[state as usize] = true;
+    if !accepting[state as usize] {
+        waiting.push(state)?;
+    }
+    Ok(())
+}
+
+/// Makes the states live that go to a target.
+fn enliven_sources(
+    sources: &Sources<'_>,
+    accepting: &[bool],
+    live: &mut Vec<bool>,
+    waiting: &mut Vec<u32>,
+    target: u32,
+) -> Result<(), AllocError>
+    requires target { target < length live.old.items }
+    requires one_each { length live.old.items ≡ length accepting.now }
+    requires targets { length sources.now.chains.last.items ≡ length live.old.items }
+    ensures { OnOk result (Spreads (GoesTo sources.now.next.now target) accepting.now live.old.items waiting.old.items live.new.items waiting.new.items) }
+{
+    let mut entry = sources.chains.last[target as usize];
+    'chain: while entry > 0 {
+        enliven(accepting, live, waiting, (entry - 1) / 256)?;
+        entry = sources.chains.before[(entry - 1) as usize];
+    }
+    Ok(())
+}
+
+/// The states that accept.
+fn accepting_states(alloc: Global, accepting: &[bool]) -> Result<Vec<u32>, AllocError>
+    requires few { length accepting.now ≤ 8192 }
+    ensures known { IfOk result (λ v. (x : ℕ) → Has v.items x → flag accepting.now x ≡ true) }
+    ensures all { IfOk result (λ v. (x : ℕ) → flag accepting.now x ≡ true → Has v.items x) }
+{
+    let mut states: Vec<u32> = Vec::new(alloc);
+    for state in 0..accepting.len() {
+        if accepting[state] {
+            states.push(state as u32)?;
+        }
+    }
+    Ok(states)
+}
+
+/// For each state whether it is live: some text that is not empty leads from it to a state that accepts. `next` has a row
+/// of 256 targets for each state. Takes time in proportion to the table.
+pub fn live_states(alloc: Global, next: &[u32], accepting: &[bool]) -> Result<Vec<bool>, AllocError>
+    requires rows { length next.now ≡ 256 * length accepting.now }
+    requires few { length accepting.now ≤ 8192 }
+    requires known { (i : ℕ) → i < length next.now → slice_index next.now i < length accepting.now }
+    ensures { IfOk result (λ live. AreLive next.now accepting.now live.items) }
+{
+    let sources = sources_of(alloc, next, accepting.len())?;
+    let mut waiting = accepting_states(alloc, accepting)?;
+    let mut live = vec![in alloc; false; accepting.len()]?;
+    'rounds: while let Some(target) = waiting.pop() {
+        enliven_sources(&sources, accepting, &mut live, &mut waiting, target)?;
+    }
+    Ok(live)
+}

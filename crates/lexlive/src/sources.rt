@@ -1,0 +1,56 @@
+//! The entries of a table by their targets.
+ghost use Rattle.std.specs.Prelude.{◌≡◌, ◌^◌, ◌*◌, ℕ, ◌<◌, length, slice_index, IfOk};
+ghost use Rattle.lexlive.specs.Sources.{AreChains};
+
+use std::alloc::{AllocError, Global};
+
+/// For each target the last entry with it, and for each entry the last one before it with the same target; each one more
+/// than the entry, and 0 where there is none.
+#[derive(Drop)]
+pub(crate) struct Chains {
+    pub last: Vec<u32>,
+    pub before: Vec<u32>,
+}
+
+/// A table with its chains.
+#[derive(Drop)]
+pub(crate) struct Sources<'a> {
+    pub next: &'a [u32],
+    pub chains: Chains,
+    ghost rows: { length next.now ≡ 256 * length chains.last.items },
+    ghost few: { length next.now < 2 ^ 32 },
+    ghost chained: { AreChains next.now chains.last.items chains.before.items (length next.now) },
+}
+
+/// The table with its chains.
+pub(crate) fn sources_of(
+    alloc: Global,
+    next: &[u32],
+    targets: usize,
+) -> Result<Sources<'_>, AllocError>
+    requires rows { length next.now ≡ 256 * targets }
+    requires few { length next.now < 2 ^ 32 }
+    requires known { (x : ℕ) → x < length next.now → slice_index next.now x < targets }
+    ensures next { IfOk result (λ s. s.next.now ≡ next.now) }
+    ensures targets { IfOk result (λ s. length s.chains.last.items ≡ targets) }
+{
+    let chains = chains_of(alloc, next, targets)?;
+    Ok(Sources { next, chains })
+}
+
+/// The chains of a table over so many targets.
+fn chains_of(alloc: Global, next: &[u32], targets: usize) -> Result<Chains, AllocError>
+    requires few { length next.now < 2 ^ 32 }
+    requires known { (x : ℕ) → x < length next.now → slice_index next.now x < targets }
+    ensures chains { IfOk result (λ s. AreChains next.now s.last.items s.before.items (length next.now)) }
+    ensures targets { IfOk result (λ s. length s.last.items ≡ targets) }
+{
+    let mut last: Vec<u32> = vec![in alloc; 0; targets]?;
+    let mut before: Vec<u32> = Vec::new(alloc);
+    for x in 0..next.len() {
+        let target = next[x] as usize;
+        before.push(last[target])?;
+        last[target] = x as u32 + 1;
+    }
+    Ok(Chains { last, before })
+}
