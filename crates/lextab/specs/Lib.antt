@@ -1,2 +1,6 @@
-pub mod Plain
-pub mod Below
+pub mod Table
+pub mod Checks
+pub mod Steps
+pub mod Invariant
+pub mod Views
+pub mod Machines

@@ -1,7 +1,16 @@
-//! Machines for a specification: the automaton with the specification's actions.
+//! Packed tables: what they are made of, and how they go from state to state.
 #![tactic(auto)]
 
-mod plain;
+mod flat;
+mod machine;
+mod parts;
+mod steps;
 mod tables;
 
-pub use plain::Plain;
+pub use flat::Flat;
+pub use parts::{Row, TableCondition, TableParts, TableRule};
+pub use steps::flat_rows;
+pub use tables::Tables;
+
+#[cfg(test)]
+mod tests;

@@ -1,67 +1,59 @@
-//! What the automaton as it was built tells.
-ghost use Rattle.std.specs.Prelude.{◌≡◌, ℕ, ◌<◌, length};
-ghost use Rattle.lexmeaning.specs.MachineLaws.{MachineLaws};
-ghost use Rattle.lexdfa.specs.Automata.{machine_of, conditions_of, states_of};
-ghost use Rattle.lexspec.specs.Views.{spec_of, conditions_in};
-ghost use Rattle.lextab.specs.Plain.{plain_machine};
-ghost use Rattle.lextab.specs.Below.{below};
+//! Packed tables.
+ghost use Rattle.std.specs.Prelude.{◌≡◌, map, length};
+ghost use Rattle.lexmeaning.specs.MachineLaws.{MachineLaws, MachineLaws-prop, StaysBelow, StaysBelow-prop};
+ghost use Rattle.lextab.specs.Checks.{IsTable, any_reject};
+ghost use Rattle.lextab.specs.Invariant.{GoesOn, GoesOn-prop, IsTable-prop};
+ghost use Rattle.lextab.specs.Views.{rule_of, table_of, machine_in};
 
-use crate::plain::Plain;
-use lexdfa::Dfa;
-use lexmachine::{Cut, EndAction, Machine, Statement};
-use lexspec::Spec;
+use crate::parts::{TableParts, TableRule};
+use lexmachine::has_reject;
 
-impl<'a> Plain<'a> {
-    /// The machine of an automaton for this specification.
-    pub fn new(dfa: &'a Dfa, spec: &'a Spec) -> Plain<'a>
-        requires laws { MachineLaws (machine_of dfa.now (spec_of spec.now)) }
-        requires conditions { conditions_of dfa.now ≡ length (conditions_in (spec_of spec.now)) }
-        ensures { plain_machine result ≡ machine_of dfa.now (spec_of spec.now) }
-    {
-        Plain {
-            dfa,
-            spec,
-            rejects: spec.rejects(),
-        }
-    }
+/// A packed table, which keeps to all that a table file is checked for. No reader takes memory.
+#[derive(Drop)]
+pub struct Tables {
+    pub(crate) parts: TableParts,
+    pub(crate) goes_on: Vec<bool>,
+    pub(crate) rejects: bool,
+    ghost lawful: { IsTable (table_of parts) } by { IsTable-prop (table_of parts) },
+    ghost leading: { GoesOn (table_of parts) goes_on.items } by { GoesOn-prop (table_of parts) goes_on.items },
+    ghost laws: { MachineLaws (machine_in parts goes_on.items) } by { MachineLaws-prop (machine_in parts goes_on.items) },
+    ghost below: { StaysBelow (machine_in parts goes_on.items) (length parts.rows.items) } by { StaysBelow-prop (machine_in parts goes_on.items) (length parts.rows.items) },
+    ghost rejecting: { rejects ≡ any_reject (map rule_of parts.rules.items) },
 }
 
-impl Machine for Plain<'_> {
-    ghost machine = { λ p. plain_machine p };
+/// Whether some rule has REJECT.
+fn any_reject(rules: &[TableRule]) -> bool
+    ensures { result ≡ any_reject (map rule_of rules.now) }
+{
+    for rule in rules {
+        if has_reject(&rule.statements) {
+            return true;
+        }
+    }
+    false
+}
 
-    ghost states = { λ p. states_of p.dfa.now };
-
-    ghost laws = { λ p. p.lawful };
-
-    ghost below = { λ p. below p.dfa.now.parts p.dfa.now.lawful (spec_of p.spec.now) p.conditions };
-
-    fn start(&self, condition: u8, line_start: bool) -> u32 {
-        self.dfa.start(usize::from(condition), line_start)
+impl Tables {
+    /// The table of these parts. The flags say of each state whether some text of at least one byte leads from it to a
+    /// state that accepts a rule.
+    pub fn new(parts: TableParts, goes_on: Vec<bool>) -> Tables
+        requires table { IsTable (table_of parts) }
+        requires flags { GoesOn (table_of parts) goes_on.items }
+        ensures parts { result.parts ≡ parts }
+        ensures flags { result.goes_on.items ≡ goes_on.items }
+    {
+        let rejects = any_reject(&parts.rules);
+        Tables {
+            parts,
+            goes_on,
+            rejects,
+        }
     }
 
-    fn step(&self, state: u32, byte: u8) -> u32 {
-        self.dfa.next(state, byte)
-    }
-
-    fn goes_on(&self, state: u32) -> bool {
-        self.dfa.goes_on(state)
-    }
-
-    fn accepts(&self, state: u32) -> &[u32] {
-        self.dfa.accepts(state)
-    }
-
-    fn rule(&self, rule: u32) -> (Cut, &[Statement]) {
-        let rule = &self.spec.rules()[rule as usize];
-        (rule.cut, &rule.statements)
-    }
-
-    fn eof(&self, condition: u8) -> &EndAction {
-        let condition = &self.spec.conditions()[usize::from(condition)];
-        &condition.end
-    }
-
-    fn rejects(&self) -> bool {
-        self.rejects
+    /// The parts of which it is made.
+    pub fn parts(&self) -> &TableParts
+        ensures { result.now ≡ self.now.parts }
+    {
+        &self.parts
     }
 }

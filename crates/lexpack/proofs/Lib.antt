@@ -1,0 +1,17 @@
+pub mod Orders
+pub mod Unique
+pub mod Steps
+pub mod Bits
+pub mod Marks
+pub mod Counts
+pub mod Leads
+pub mod Placements
+pub mod Fills
+pub mod Whole
+pub mod Bounds
+pub mod Lifted
+pub mod Pushes
+pub mod Columns
+pub mod Actions
+pub mod Lawful
+pub mod Firsts
