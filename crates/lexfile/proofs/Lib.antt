@@ -1,0 +1,10 @@
+pub mod Bytes
+pub mod Forms
+pub mod Actions
+pub mod Fields
+pub mod Whole
+pub mod Loops
+pub mod Columns
+pub mod Written
+pub mod Texts
+pub mod Going

@@ -1,0 +1,32 @@
+-- Parts whose lengths four bytes hold. (A device of the writer.)
+use Rattle.std.specs.Prelude.{◌≤◌, length, All}
+use Rattle.lexmachine.specs.Views.{statement_of}
+use Rattle.lexmachine.specs.Literals.{literal_bytes}
+use Rattle.lexmachine.specs.declared.action.Statement.{Statement}
+use Rattle.lextab.specs.Views.{slots_of}
+use Rattle.lextab.specs.declared.parts.TableCondition.{TableCondition}
+use Rattle.lextab.specs.declared.parts.TableRule.{TableRule}
+use Rattle.lextab.specs.declared.parts.Row.{Row}
+use Rattle.lextab.specs.declared.parts.TableParts.{TableParts}
+
+abbrev pub FitsStatement : Statement → Type 0
+FitsStatement s = literal_bytes (statement_of s) ≤ 4096
+
+pub record FitsRule (r : TableRule) : Type 0 where
+  pub few : length r.statements.items ≤ 256
+  pub each : All FitsStatement r.statements.items
+
+abbrev pub FitsCondition : TableCondition → Type 0
+FitsCondition c = length c.end.print.items ≤ 4096
+
+abbrev pub FitsRow : Row → Type 0
+FitsRow r = length r.rules.items ≤ 4096
+
+pub record FitsParts (p : TableParts) : Type 0 where
+  pub conditions : length p.conditions.items ≤ 255
+  pub rules : length p.rules.items ≤ 4096
+  pub rows : length p.rows.items ≤ 8192
+  pub slots : length (slots_of p.checks.items p.nexts.items) ≤ 2097152
+  pub each_condition : All FitsCondition p.conditions.items
+  pub each_rule : All FitsRule p.rules.items
+  pub each_row : All FitsRow p.rows.items
