@@ -1,0 +1,7 @@
+pub mod Accepted
+pub mod Joined
+pub mod ReportLines
+pub mod Warned
+pub mod BackWords
+pub mod Counting
+pub mod Searching

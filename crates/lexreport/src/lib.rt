@@ -1,0 +1,19 @@
+//! The reports: rules that are never carried out, states that back up, and the lines that tell them.
+#![tactic(auto)]
+
+mod backing;
+mod backup;
+mod merging;
+mod search;
+mod useless;
+mod warned;
+mod writing;
+
+pub use backing::backing_up;
+pub use backup::{BackUp, write_backup};
+pub use merging::warnings;
+pub use useless::useless_rules;
+pub use warned::{Warning, write_warnings};
+
+#[cfg(test)]
+mod tests;
