@@ -1,7 +1,7 @@
 -- What is told of a failure of the program. (Own: POSIX leaves it to the implementation.)
 use Rattle.std.specs.Prelude.{◌≡◌, string_bytes}
-use Rattle.lex.specs.declared.Failure.{Failure}
-use Rattle.lex.specs.declared.Failure.TheVariants.{Args, Scan, File}
+use Rattle.lex.specs.declared.failure.Failure.{Failure}
+use Rattle.lex.specs.declared.failure.Failure.TheVariants.{Args, Scan, File, Output}
 use Rattle.lexkit.specs.declared.errors.GenError.TheVariants as gens
 use Rattle.lexkit.specs.declared.errors.ScanError.TheVariants as scans
 use Rattle.lexkit.specs.declared.faults.Fault.{Fault}
@@ -16,3 +16,4 @@ Tells (Args e) fault = fault ≡ faults.Args e
 Tells (Scan e) fault = fault ≡ faults.Scan e
 Tells (File name) (faults.File told) = told.now ≡ string_bytes name
 Tells (File name) other = ⊥
+Tells Output fault = fault ≡ faults.Output

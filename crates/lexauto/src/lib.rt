@@ -20,6 +20,7 @@ pub use laws::{
     one_step_of_rules, position_automaton, rules_that_fit, tables_of_keys, words_that_fit,
 };
 pub use lexdfa::Dfa;
+pub use starts::count_positions;
 pub use subsets::{Limits, build};
 
 #[cfg(test)]

@@ -30,7 +30,7 @@ fn positions_of_rule(rule: &Rule) -> Option<u64>
 }
 
 /// How many positions the rules have together. None exactly where there are more than the limit.
-pub(crate) fn count_positions(rules: &[Rule], limit: u32) -> Option<u32>
+pub fn count_positions(rules: &[Rule], limit: u32) -> Option<u32>
     ensures found { IfSome result (λ n. n ≡ all_positions (map rule_of rules.now)) }
     ensures within { IfSome result (λ n. n ≤ limit) }
     ensures none { IfNone result (limit < all_positions (map rule_of rules.now)) }

@@ -19,9 +19,8 @@ pub no_part : (whole done : List ℕ) (parts : List (Bor (List ℕ))) (i : ℕ) 
 no_part whole done parts i h w = w ∙ ap (λ l. done ++ joined l) (drop_all i parts h) ∙ append-nil done
 
 -- a prefix of the next part was written
-pub stopped : (whole done part more front rest end : List ℕ) → whole ≡ done ++ (part ++ more) → part ≡ front ++ rest → whole ++ end ≡ (done ++ front) ++ ((rest ++ more) ++ end)
-stopped whole done part more front rest end h e =
-    longer whole (done ++ front) (rest ++ more) end (h ∙ ap (λ l. done ++ l) (longer part front rest more e) ∙ sym (append_assoc done front (rest ++ more)))
+pub stopped_before : (whole done part more front rest : List ℕ) → whole ≡ done ++ (part ++ more) → part ≡ front ++ rest → whole ≡ (done ++ front) ++ (rest ++ more)
+stopped_before whole done part more front rest h e = h ∙ ap (λ l. done ++ l) (longer part front rest more e) ∙ sym (append_assoc done front (rest ++ more))
 
 -- what a call appends stands after what was written before it
 pub appended_after : {T E : Type 0} (before after : List ℕ → Type 0) (done bytes : List ℕ) (r : Result T E) → ((xs : List ℕ) → after xs → before (done ++ xs)) → Appended after bytes r → Appended before (done ++ bytes) r

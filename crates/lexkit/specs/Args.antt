@@ -1,8 +1,10 @@
 -- What a command line asks for.
-use Rattle.std.specs.Prelude.{◌≢◌, codes, string_bytes}
+use Rattle.std.specs.Prelude.{◌≢◌, codes, string_bytes, ⊤}
 use Rattle.lexkit.specs.declared.args.Job.{Job}
-use Rattle.lexkit.specs.declared.args.Job.TheVariants.{ScanSpec}
+use Rattle.lexkit.specs.declared.args.Job.TheVariants.{Generate, ScanSpec, ScanTable}
 
--- the job has a file by name: `-` would be standard input, which is scanned
+-- a scan has a file by name: `-` would be standard input, which is scanned
 abbrev pub IsNamed : Job → Type 0
-IsNamed (ScanSpec file fold) = string_bytes file ≢ codes "-"
+IsNamed (ScanSpec file fold quiet) = string_bytes file ≢ codes "-"
+IsNamed (ScanTable file) = string_bytes file ≢ codes "-"
+IsNamed (Generate files out stdout stats backup fold quiet) = ⊤

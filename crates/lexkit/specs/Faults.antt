@@ -13,6 +13,8 @@ use Rattle.lexauto.specs.declared.error.BuildError.{BuildError}
 use Rattle.lexauto.specs.declared.error.BuildError.TheVariants as builds
 use Rattle.lexscan.specs.declared.error.RunError.{RunError}
 use Rattle.lexscan.specs.declared.error.RunError.TheVariants as runs
+use Rattle.lexfile.specs.declared.error.TableError.{TableError}
+use Rattle.lexfile.specs.declared.error.TableError.TheVariants as tables
 use Rattle.lexkit.specs.declared.errors.GenError.{GenError}
 use Rattle.lexkit.specs.declared.errors.GenError.TheVariants as gens
 use Rattle.lexkit.specs.declared.errors.ScanError.{ScanError}
@@ -105,8 +107,17 @@ gen_words (gens.Spec e) = spec_words e
 gen_words (gens.Build e) = build_words e
 gen_words gens.OutOfMemory = codes "out of memory"
 
+abbrev pub table_words : TableError → List ℕ
+table_words tables.BadMagic = codes "table: BadMagic"
+table_words tables.BadVersion = codes "table: BadVersion"
+table_words tables.Truncated = codes "table: Truncated"
+table_words tables.TrailingBytes = codes "table: TrailingBytes"
+table_words (tables.BadField at) = concat (codes "table: BadField at " ∷ decimal at ∷ [])
+table_words tables.OutOfMemory = codes "out of memory"
+
 abbrev pub scan_words : ScanError → List ℕ
 scan_words (scans.Generate e) = gen_words e
+scan_words (scans.Table e) = table_words e
 scan_words (scans.Run e) = run_words e
 
 abbrev pub fault_words : Fault → List ℕ
@@ -119,7 +130,7 @@ fault_words faults.Output = codes "write fault"
 abbrev pub line_of : List ℕ → List ℕ
 line_of words = codes "lex: " ++ words ++ (10 ∷ [])
 
--- The statuses: 64 a command line, 65 a specification or its automaton, 66 a file that cannot be read, 71 want of memory,
+-- The statuses: 64 a command line, 65 a specification, its automaton or a table, 66 a file that cannot be read, 71 want of memory,
 -- 74 a read or a write.
 abbrev pub spec_status : SpecError → ℕ
 spec_status e = if lacks_memory e.kind then 71 else 65
@@ -137,8 +148,13 @@ gen_status (gens.Spec e) = spec_status e
 gen_status (gens.Build e) = build_status e
 gen_status gens.OutOfMemory = 71
 
+abbrev pub table_status : TableError → ℕ
+table_status tables.OutOfMemory = 71
+table_status other = 65
+
 abbrev pub scan_status : ScanError → ℕ
 scan_status (scans.Generate e) = gen_status e
+scan_status (scans.Table e) = table_status e
 scan_status (scans.Run e) = run_status e
 
 abbrev pub args_status : ArgsError → ℕ

@@ -1,8 +1,16 @@
 -- What a scan by the text of a specification leaves. (What is written is that of POSIX and flex; what is taken from the source,
 -- the limits and the refusals are this project's.)
-use Rattle.std.specs.Prelude.{◌≡◌, ℕ, ◌<◌, ◌≤◌, Bool, List, Result, Ok, Err, ⊤}
+use Rattle.std.specs.Prelude.{◌≡◌, ℕ, ◌<◌, ◌≤◌, Bool, false, List, Result, Ok, Err, ⊤}
 use Rattle.lexmeaning.specs.Spec.{Spec}
-use Rattle.lexmeaning.specs.Rules.{rules_of}
+use Rattle.lexmeaning.specs.Text.{flag}
+use Rattle.lexmeaning.specs.Rules.{Rules, rules_of}
+use Rattle.lexmeaning.specs.Machine.{rules_of_machine}
+use Rattle.lextab.specs.Table.{Table}
+use Rattle.lextab.specs.Steps.{machine_of_table}
+use Rattle.lextab.specs.Invariant.{GoesOn}
+use Rattle.lexfile.specs.File.{IsFileOf}
+use Rattle.lexfile.specs.Refusals.{is_out_of_memory}
+use Rattle.lexfile.specs.declared.error.TableError.{TableError}
 use Rattle.lexmeaning.specs.Subsets.{Subsets, all_positions}
 use Rattle.lexspec.specs.Outcome.{UnlessMemory}
 use Rattle.lexspec.specs.Files.{SpellsSpec}
@@ -15,7 +23,7 @@ use Rattle.lexkit.specs.declared.options.Options.{Options}
 use Rattle.lexkit.specs.declared.errors.GenError.{GenError}
 use Rattle.lexkit.specs.declared.errors.GenError.TheVariants as gens
 use Rattle.lexkit.specs.declared.errors.ScanError.{ScanError}
-use Rattle.lexkit.specs.declared.errors.ScanError.TheVariants.{Generate, Run}
+use Rattle.lexkit.specs.declared.errors.ScanError.TheVariants as scans
 
 -- a scan makes at most so many reads: 2 ^ 40
 abbrev pub max_reads : ℕ
@@ -41,33 +49,54 @@ Refusal options text (gens.Spec e) = UnlessMemory e.kind ((S : Spec) → SpellsS
 Refusal options text (gens.Build e) = (S : Spec) × SpellsSpec options.fold text S × BuildRefusal options.limits S e
 Refusal options text gens.OutOfMemory = ⊤
 
--- The scan of a specification took these bytes of the source and wrote these to the sink. It came to its end: they are those
+-- The scan by some rules took these bytes of the source and wrote these to the sink. It came to its end: they are those
 -- of the run, and no byte was taken that the run does not ask for. Or it stopped: what was written is a front of what the
 -- run writes.
-abbrev pub Ran : Spec → List ℕ → List ℕ → Bool → Result ℕ RunError → Type 0
-Ran S given out at_end (Ok status) = RanTo (rules_of S) given out at_end status
-Ran S given out at_end (Err e) = RanInto (rules_of S) given out at_end max_reads e
+abbrev pub Ran : Rules → List ℕ → List ℕ → Bool → Result ℕ RunError → Type 0
+Ran R given out at_end (Ok status) = RanTo R given out at_end status
+Ran R given out at_end (Err e) = RanInto R given out at_end max_reads e
 
--- the calls on the way from s to s' gave, and those from t to t' wrote, what the scan of the specification asks for
-pub record Scans {A B : Type 0} (gave : A → List ℕ → A → Type 0) (wrote : B → List ℕ → B → Type 0) (S : Spec) (at_end : Bool) (s s' : A) (t t' : B) (answer : Result ℕ RunError) : Type 0 where
+-- the calls on the way from s to s' gave, and those from t to t' wrote, what the scan by the rules asks for
+pub record Scans {A B : Type 0} (gave : A → List ℕ → A → Type 0) (wrote : B → List ℕ → B → Type 0) (R : Rules) (at_end : Bool) (s s' : A) (t t' : B) (answer : Result ℕ RunError) : Type 0 where
   pub given : List ℕ
   pub out : List ℕ
   pub source : gave s given s'
   pub sink : wrote t out t'
-  pub ran : Ran S given out at_end answer
+  pub ran : Ran R given out at_end answer
 
 -- what the scan by a specification answers: it came to its end or stopped, or no automaton was built
 abbrev pub ScansBy : {A B : Type 0} → (A → List ℕ → A → Type 0) → (B → List ℕ → B → Type 0) → Limits → Spec → Bool → A → A → B → B → Result ℕ ScanError → Type 0
-ScansBy gave wrote limits S at_end s s' t t' (Ok status) = IsWithin limits S × Scans gave wrote S at_end s s' t t' (Ok status)
-ScansBy gave wrote limits S at_end s s' t t' (Err (Run e)) = IsWithin limits S × Scans gave wrote S at_end s s' t t' (Err e)
-ScansBy gave wrote limits S at_end s s' t t' (Err (Generate (gens.Build e))) = BuildRefusal limits S e × (s' ≡ s) × (t' ≡ t)
-ScansBy gave wrote limits S at_end s s' t t' (Err (Generate gens.OutOfMemory)) = (s' ≡ s) × (t' ≡ t)
-ScansBy gave wrote limits S at_end s s' t t' (Err (Generate (gens.Spec e))) = ⊥
+ScansBy gave wrote limits S at_end s s' t t' (Ok status) = IsWithin limits S × Scans gave wrote (rules_of S) at_end s s' t t' (Ok status)
+ScansBy gave wrote limits S at_end s s' t t' (Err (scans.Run e)) = IsWithin limits S × Scans gave wrote (rules_of S) at_end s s' t t' (Err e)
+ScansBy gave wrote limits S at_end s s' t t' (Err (scans.Generate (gens.Build e))) = BuildRefusal limits S e × (s' ≡ s) × (t' ≡ t)
+ScansBy gave wrote limits S at_end s s' t t' (Err (scans.Generate gens.OutOfMemory)) = (s' ≡ s) × (t' ≡ t)
+ScansBy gave wrote limits S at_end s s' t t' (Err (scans.Generate (gens.Spec e))) = ⊥
+ScansBy gave wrote limits S at_end s s' t t' (Err (scans.Table e)) = ⊥
 
 -- The headline: the scan is that of the specification that the text spells. A text that is refused leaves both ends as they were.
 abbrev pub Headline : {A B : Type 0} → (A → List ℕ → A → Type 0) → (B → List ℕ → B → Type 0) → Options → List ℕ → Bool → A → A → B → B → Result ℕ ScanError → Type 0
 Headline gave wrote options text at_end s s' t t' (Ok status) =
-    (S : Spec) × SpellsSpec options.fold text S × IsWithin options.limits S × Scans gave wrote S at_end s s' t t' (Ok status)
-Headline gave wrote options text at_end s s' t t' (Err (Run e)) =
-    (S : Spec) × SpellsSpec options.fold text S × IsWithin options.limits S × Scans gave wrote S at_end s s' t t' (Err e)
-Headline gave wrote options text at_end s s' t t' (Err (Generate e)) = Refusal options text e × (s' ≡ s) × (t' ≡ t)
+    (S : Spec) × SpellsSpec options.fold text S × IsWithin options.limits S × Scans gave wrote (rules_of S) at_end s s' t t' (Ok status)
+Headline gave wrote options text at_end s s' t t' (Err (scans.Run e)) =
+    (S : Spec) × SpellsSpec options.fold text S × IsWithin options.limits S × Scans gave wrote (rules_of S) at_end s s' t t' (Err e)
+Headline gave wrote options text at_end s s' t t' (Err (scans.Generate e)) = Refusal options text e × (s' ≡ s) × (t' ≡ t)
+Headline gave wrote options text at_end s s' t t' (Err (scans.Table e)) = ⊥
+
+-- The rules of a table: those of its machine, where the states go on from which a text leads to one that accepts.
+pub record ScansTable {A B : Type 0} (gave : A → List ℕ → A → Type 0) (wrote : B → List ℕ → B → Type 0) (bytes : List ℕ) (at_end : Bool) (s s' : A) (t t' : B) (answer : Result ℕ RunError) : Type 0 where
+  pub table : Table
+  pub file : IsFileOf table bytes
+  pub goes_on : List Bool
+  pub leads : GoesOn table goes_on
+  pub scans : Scans gave wrote (rules_of_machine (machine_of_table table (λ state. flag goes_on state))) at_end s s' t t' answer
+
+-- Bytes are refused only where they are the file of no table, or memory ran out.
+abbrev pub TableRefusal : List ℕ → TableError → Type 0
+TableRefusal bytes e = is_out_of_memory e ≡ false → (t : Table) → IsFileOf t bytes → ⊥
+
+-- The scan is that by the rules of the table whose file the bytes are. Bytes that are refused leave both ends as they were.
+abbrev pub TableHeadline : {A B : Type 0} → (A → List ℕ → A → Type 0) → (B → List ℕ → B → Type 0) → List ℕ → Bool → A → A → B → B → Result ℕ ScanError → Type 0
+TableHeadline gave wrote bytes at_end s s' t t' (Ok status) = ScansTable gave wrote bytes at_end s s' t t' (Ok status)
+TableHeadline gave wrote bytes at_end s s' t t' (Err (scans.Run e)) = ScansTable gave wrote bytes at_end s s' t t' (Err e)
+TableHeadline gave wrote bytes at_end s s' t t' (Err (scans.Table e)) = TableRefusal bytes e × (s' ≡ s) × (t' ≡ t)
+TableHeadline gave wrote bytes at_end s s' t t' (Err (scans.Generate e)) = ⊥

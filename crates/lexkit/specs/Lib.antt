@@ -4,3 +4,6 @@ pub mod Joined
 pub mod Refusal
 pub mod Headline
 pub mod ScanCounts
+pub mod Generated
+pub mod Statistics
+pub mod Counting

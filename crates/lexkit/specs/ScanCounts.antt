@@ -3,7 +3,7 @@ use Rattle.std.specs.Prelude.{ℕ, Result, Ok, Err}
 use Rattle.lexscan.specs.declared.error.RunError.{RunError}
 use Rattle.lexscan.specs.declared.error.RunError.TheVariants as runs
 use Rattle.lexkit.specs.declared.errors.ScanError.{ScanError}
-use Rattle.lexkit.specs.declared.errors.ScanError.TheVariants.{Generate, Run}
+use Rattle.lexkit.specs.declared.errors.ScanError.TheVariants.{Generate, Table, Run}
 
 -- 1 where the scan stopped at a failure of its source
 abbrev pub read_fault_of : RunError → ℕ
@@ -13,6 +13,7 @@ read_fault_of other = 0
 abbrev pub read_fault_count : {T : Type 0} → Result T ScanError → ℕ
 read_fault_count (Ok v) = 0
 read_fault_count (Err (Generate e)) = 0
+read_fault_count (Err (Table e)) = 0
 read_fault_count (Err (Run e)) = read_fault_of e
 
 -- 1 where the scan stopped at a failure of its sink
@@ -23,4 +24,5 @@ write_fault_of other = 0
 abbrev pub write_fault_count : {T : Type 0} → Result T ScanError → ℕ
 write_fault_count (Ok v) = 0
 write_fault_count (Err (Generate e)) = 0
+write_fault_count (Err (Table e)) = 0
 write_fault_count (Err (Run e)) = write_fault_of e

@@ -1,17 +1,43 @@
 //! What a command line asks for.
-ghost use Rattle.std.specs.Prelude.{◌≡◌, IfOk};
+ghost use Rattle.std.specs.Prelude.{◌≡◌, ◌≢◌, IfOk, codes, string_bytes};
 ghost use Rattle.lexkit.specs.Args.{IsNamed};
 
 use clap::error::ErrorKind;
-use clap::{Arg, ArgAction, Command};
+use clap::{Arg, ArgAction, ArgMatches, Command};
 use std::alloc::{AllocError, Global};
 use thiserror::Error;
 
 /// What the program is to do.
 #[derive(Debug, Drop)]
 pub enum Job {
-    /// Scan standard input by the specification in this file; under `fold` letters of its patterns stand for both cases.
-    ScanSpec { file: String, fold: bool },
+    /// Make tables of the specification that these files are together. No file, and `-`, is standard input.
+    Generate {
+        files: Vec<String>,
+        /// The table file's name, where one is given.
+        out: Option<String>,
+        /// The table file goes to standard output, whatever `out` says.
+        stdout: bool,
+        /// Statistics are written.
+        stats: bool,
+        /// The report of states that back up is written.
+        backup: bool,
+        /// Letters of patterns stand for both cases.
+        fold: bool,
+        /// Warnings are not written.
+        quiet: bool,
+    },
+    /// Scan standard input by the specification in this file.
+    ScanSpec {
+        file: String,
+        /// Letters of patterns stand for both cases.
+        fold: bool,
+        /// Warnings are not written.
+        quiet: bool,
+    },
+    /// Scan standard input by the table in this file.
+    ScanTable {
+        file: String,
+    },
 }
 
 /// Why a command line is refused.
@@ -47,30 +73,117 @@ impl From<clap::Error> for ArgsError {
     }
 }
 
-/// Reads the words after the program's name: `--scan-spec FILE`, and `-i` as often as it stands there.
-///
-/// `-` is no FILE.
+/// Reads the words after the program's name: `[-t] [-n] [-v] [-b] [-i] [-w] [-o FILE] [FILE..]`, or `--scan-spec FILE` with
+/// `-i` or `-w`, or `--scan-table FILE` alone. Flags may be repeated. `-` is no FILE of a scan.
 pub fn read_args(alloc: Global, words: &[String]) -> Result<Job, ArgsError>
     ensures { IfOk result IsNamed }
 {
+    let command = known(alloc)?;
+    let matches = command.try_get_matches_from(words)?;
+    match (matches.get_str("scan-spec"), matches.get_str("scan-table")) {
+        (None, None) => generating(alloc, &matches),
+        (Some(file), None) => scanning_by_spec(alloc, &matches, file),
+        (None, Some(file)) => scanning_by_table(alloc, &matches, file),
+        (Some(_), Some(_)) => Err(ArgsError::Usage),
+    }
+}
+
+/// A flag, which may be repeated.
+fn flag<'a>(alloc: Global, id: &'a str, letter: char) -> Arg<'a> {
+    Arg::new(alloc, id).short(letter).action(ArgAction::Count)
+}
+
+/// The words that the program knows.
+fn known<'a>(alloc: Global) -> Result<Command<'a>, AllocError> {
+    let out = Arg::new(alloc, "out").short('o').action(ArgAction::Set);
     let scan_spec = Arg::new(alloc, "scan-spec")
         .long("scan-spec")
-        .value_name("FILE")
-        .required(true)
         .action(ArgAction::Set);
-    let fold = Arg::new(alloc, "fold").short('i').action(ArgAction::Count);
-    let command = Command::new(alloc, "lex")
+    let scan_table = Arg::new(alloc, "scan-table")
+        .long("scan-table")
+        .action(ArgAction::Set);
+    let files = Arg::new(alloc, "file")
+        .num_args(1..)
+        .action(ArgAction::Append);
+    Command::new(alloc, "lex")
         .no_binary_name(true)
+        .arg(flag(alloc, "stdout", 't'))?
+        .arg(flag(alloc, "no-stats", 'n'))?
+        .arg(flag(alloc, "stats", 'v'))?
+        .arg(flag(alloc, "backup", 'b'))?
+        .arg(flag(alloc, "fold", 'i'))?
+        .arg(flag(alloc, "quiet", 'w'))?
+        .arg(out)?
         .arg(scan_spec)?
-        .arg(fold)?;
-    let matches = command.try_get_matches_from(words)?;
-    match matches.get_str("scan-spec") {
-        None | Some("-") => Err(ArgsError::Usage),
-        Some(file) => Ok(Job::ScanSpec {
-            file: String::from_str(alloc, file)?,
-            fold: matches.get_count("fold") > 0,
-        }),
+        .arg(scan_table)?
+        .arg(files)
+}
+
+/// Whether the flag stands there.
+fn has(matches: &ArgMatches<'_>, flag: &str) -> bool {
+    matches.get_count(flag) > 0
+}
+
+/// Whether something stands there that only making tables takes: `-t`, `-n`, `-v`, `-b`, `-o` or a file.
+fn makes_tables(matches: &ArgMatches<'_>) -> bool {
+    has(matches, "stdout")
+        || has(matches, "no-stats")
+        || has(matches, "stats")
+        || has(matches, "backup")
+        || matches.get_str("out").is_some()
+        || matches.get_str("file").is_some()
+}
+
+fn generating(alloc: Global, matches: &ArgMatches<'_>) -> Result<Job, ArgsError>
+    ensures { IfOk result IsNamed }
+{
+    let out = match matches.get_str("out") {
+        None => None,
+        Some(name) => Some(String::from_str(alloc, name)?),
+    };
+    Ok(Job::Generate {
+        files: files_of(alloc, matches)?,
+        out,
+        stdout: has(matches, "stdout"),
+        stats: has(matches, "stats") && !has(matches, "no-stats"),
+        backup: has(matches, "backup"),
+        fold: has(matches, "fold"),
+        quiet: has(matches, "quiet"),
+    })
+}
+
+fn files_of(alloc: Global, matches: &ArgMatches<'_>) -> Result<Vec<String>, AllocError> {
+    let mut files = Vec::new(alloc);
+    if let Some(names) = matches.get_strs("file") {
+        for name in names {
+            files.push(String::from_str(alloc, *name)?)?;
+        }
     }
+    Ok(files)
+}
+
+fn scanning_by_spec(alloc: Global, matches: &ArgMatches<'_>, file: &str) -> Result<Job, ArgsError>
+    ensures { IfOk result IsNamed }
+{
+    if makes_tables(matches) || file == "-" {
+        return Err(ArgsError::Usage);
+    }
+    Ok(Job::ScanSpec {
+        file: String::from_str(alloc, file)?,
+        fold: has(matches, "fold"),
+        quiet: has(matches, "quiet"),
+    })
+}
+
+fn scanning_by_table(alloc: Global, matches: &ArgMatches<'_>, file: &str) -> Result<Job, ArgsError>
+    ensures { IfOk result IsNamed }
+{
+    if makes_tables(matches) || has(matches, "fold") || has(matches, "quiet") || file == "-" {
+        return Err(ArgsError::Usage);
+    }
+    Ok(Job::ScanTable {
+        file: String::from_str(alloc, file)?,
+    })
 }
 
 #[cfg(test)]
@@ -86,25 +199,71 @@ mod tests {
         Ok(read_args(alloc, words.as_slice()))
     }
 
+    /// What the line asks for, in the form that the debugger writes.
     #[test]
-    fn reads_a_scan(rt: HostRuntime) -> Result<(), Fail> {
-        let lines: &[(&[&str], &str, bool)] = &[
-            (&["--scan-spec", "a.l"], "a.l", false),
-            (&["--scan-spec=a.l"], "a.l", false),
-            (&["--scan-spec", "b c"], "b c", false),
-            (&["--scan-spec", ""], "", false),
-            (&["--scan-spec", "a.l", "-i"], "a.l", true),
-            (&["-i", "--scan-spec", "a.l"], "a.l", true),
-            (&["-ii", "--scan-spec", "a.l", "-i"], "a.l", true),
+    fn reads_jobs(rt: HostRuntime) -> Result<(), Fail> {
+        let lines: &[(&[&str], &str)] = &[
+            (
+                &["-tv", "a.l"],
+                "Generate { files: [\"a.l\"], out: None, stdout: true, stats: true, backup: false, fold: false, quiet: false }",
+            ),
+            (
+                &[],
+                "Generate { files: [], out: None, stdout: false, stats: false, backup: false, fold: false, quiet: false }",
+            ),
+            (
+                &["-"],
+                "Generate { files: [\"-\"], out: None, stdout: false, stats: false, backup: false, fold: false, quiet: false }",
+            ),
+            (
+                &["a", "-b", "-", "b", "-i"],
+                "Generate { files: [\"a\", \"-\", \"b\"], out: None, stdout: false, stats: false, backup: true, fold: true, quiet: false }",
+            ),
+            (
+                &["-vvn", "-w"],
+                "Generate { files: [], out: None, stdout: false, stats: false, backup: false, fold: false, quiet: true }",
+            ),
+            (
+                &["-oFILE", "a"],
+                "Generate { files: [\"a\"], out: Some(\"FILE\"), stdout: false, stats: false, backup: false, fold: false, quiet: false }",
+            ),
+            (
+                &["-o", "-", "a"],
+                "Generate { files: [\"a\"], out: Some(\"-\"), stdout: false, stats: false, backup: false, fold: false, quiet: false }",
+            ),
+            (
+                &["-to=x"],
+                "Generate { files: [], out: Some(\"x\"), stdout: true, stats: false, backup: false, fold: false, quiet: false }",
+            ),
+            (
+                &["-vo", "F"],
+                "Generate { files: [], out: Some(\"F\"), stdout: false, stats: true, backup: false, fold: false, quiet: false }",
+            ),
+            (
+                &["--", "-t"],
+                "Generate { files: [\"-t\"], out: None, stdout: false, stats: false, backup: false, fold: false, quiet: false }",
+            ),
+            (
+                &["--scan-spec", "a.l"],
+                "ScanSpec { file: \"a.l\", fold: false, quiet: false }",
+            ),
+            (
+                &["--scan-spec=a.l", "-w"],
+                "ScanSpec { file: \"a.l\", fold: false, quiet: true }",
+            ),
+            (
+                &["-ii", "--scan-spec", "", "-i"],
+                "ScanSpec { file: \"\", fold: true, quiet: false }",
+            ),
+            (&["--scan-table", "b"], "ScanTable { file: \"b\" }"),
         ];
-        for &(line, want, folded) in lines {
-            match job_of(rt.alloc(), line)? {
-                Ok(Job::ScanSpec { file, fold }) => {
-                    assert_eq!(rt; file.as_str(), want);
-                    assert_eq!(rt; fold, folded);
-                }
-                Err(error) => assert!(rt; false, "{want}: {error:?}"),
-            }
+        for &(line, want) in lines {
+            let got = job_of(rt.alloc(), line)?;
+            let told = match &got {
+                Ok(job) => format!(in rt.alloc(); "{job:?}")?,
+                Err(error) => format!(in rt.alloc(); "{error:?}")?,
+            };
+            assert_eq!(rt; told.as_str(), want);
         }
         Ok(())
     }
@@ -112,18 +271,29 @@ mod tests {
     #[test]
     fn refuses_all_else(rt: HostRuntime) -> Result<(), Fail> {
         let lines: &[&[&str]] = &[
-            &[],
             &["--scan-spec"],
-            &["a.l"],
             &["--scan-spec", "-"],
             &["--scan-spec", "-i"],
             &["--scan-spec", "a.l", "b.l"],
             &["--scan-spec", "a.l", "--scan-spec", "b.l"],
-            &["-i"],
+            &["--scan-spec", "a", "--scan-table", "b"],
             &["--scan-spec", "a.l", "-x"],
+            &["--scan-spec", "a.l", "-t"],
+            &["--scan-spec", "a.l", "-o", "b"],
+            &["--scan-spec", "a.l", "-h"],
+            &["--scan-table"],
+            &["--scan-table", "-"],
+            &["--scan-table", "a", "-i"],
+            &["--scan-table", "a", "-w"],
+            &["--scan-table", "a", "b"],
+            &["--scan-table", "a", "--scan-table", "b"],
+            &["-X"],
+            &["-o"],
+            &["-o", "-t"],
+            &["-o", "a", "-o", "b"],
             &["-h"],
             &["--help"],
-            &["--scan-spec", "a.l", "-h"],
+            &["--version"],
         ];
         for (number, line) in lines.iter().enumerate() {
             match job_of(rt.alloc(), *line)? {

@@ -1,6 +1,10 @@
 //! What a scan refuses, and why.
 
+ghost use Rattle.std.specs.Prelude.{◌≡◌};
+
 use lexauto::BuildError;
+use lexdfa::OutOfMemory;
+use lexfile::TableError;
 use lexscan::RunError;
 use lexspec::SpecError;
 use thiserror::Error;
@@ -11,6 +15,9 @@ pub enum ScanError {
     /// No scanner was made: the source and the sink were not touched.
     #[error("{0}")]
     Generate(GenError),
+    /// The bytes are no table file, or memory ran out before the scan: the source and the sink were not touched.
+    #[error("{0}")]
+    Table(TableError),
     /// The scan began, and stopped.
     #[error("{0}")]
     Run(RunError),
@@ -28,4 +35,14 @@ pub enum GenError {
     /// Memory ran out elsewhere.
     #[error("out of memory")]
     OutOfMemory,
+}
+
+impl From<OutOfMemory> for GenError {
+    ghost use Rattle.lexkit.specs.declared.errors.GenError.{GenError};
+
+    ghost from_gives = { λ _ e. e ≡ GenError.OutOfMemory };
+
+    fn from(_error: OutOfMemory) -> GenError {
+        GenError::OutOfMemory
+    }
 }

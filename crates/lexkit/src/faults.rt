@@ -2,13 +2,15 @@
 ghost use Rattle.std.specs.Prelude.{◌≡◌, ℕ, ◌+◌, ◌-◌, ◌^◌, ◌<◌, ◌≤◌, List, ◌++◌};
 ghost use Rattle.lexends.specs.Sink.{Appended, fault_count};
 ghost use Rattle.lexkit.specs.Joined.{joined};
-ghost use Rattle.lexkit.specs.Faults.{line_of, fault_words, scan_words, gen_words, gen_status, build_words, spec_words, lacks_memory, pattern_name, kind_name, run_words, args_words};
+ghost use Rattle.lexkit.specs.Faults.{line_of, fault_words, scan_words, gen_words, gen_status, table_words, table_status, build_words, spec_words, lacks_memory, pattern_name, kind_name, run_words, args_words};
 
 use crate::args::ArgsError;
 use crate::errors::{GenError, ScanError};
+use crate::writing::put_all;
 use itoa::Buffer;
 use lexauto::BuildError;
 use lexends::{Sink, WriteFault};
+use lexfile::TableError;
 use lexscan::RunError;
 use lexspec::{PatternError, PatternErrorKind, SpecError, SpecErrorKind};
 
@@ -28,7 +30,7 @@ pub enum Fault<'a> {
 impl Fault<'_> {
     ghost use Rattle.lexkit.specs.Faults.{status_of};
 
-    /// The exit status: 64 for the command line, 65 for the specification, 66 for a file, 71 for want of
+    /// The exit status: 64 for the command line, 65 for the specification or the table, 66 for a file, 71 for want of
     /// memory, and 74 for a read or a write.
     pub fn status(&self) -> u8
         ensures { result ≡ status_of self.now }
@@ -37,6 +39,7 @@ impl Fault<'_> {
             Fault::Args(ArgsError::Usage) => 64,
             Fault::Args(ArgsError::OutOfMemory) => 71,
             Fault::Scan(ScanError::Generate(error)) => gen_status(*error),
+            Fault::Scan(ScanError::Table(error)) => table_status(*error),
             Fault::Scan(ScanError::Run(RunError::OutOfMemory)) => 71,
             Fault::Scan(ScanError::Run(_)) | Fault::Output => 74,
             Fault::File(_) => 66,
@@ -52,6 +55,16 @@ fn gen_status(error: GenError) -> u8
         GenError::Spec(error) if lacks_memory(error.kind) => 71,
         GenError::Build(BuildError::OutOfMemory) | GenError::OutOfMemory => 71,
         GenError::Spec(_) | GenError::Build(_) => 65,
+    }
+}
+
+/// 65 for bytes that are no table file, and 71 for want of memory.
+fn table_status(error: TableError) -> u8
+    ensures { result ≡ table_status error }
+{
+    match error {
+        TableError::OutOfMemory => 71,
+        _ => 65,
     }
 }
 
@@ -78,6 +91,7 @@ fn write_scan_error<K: Sink>(error: ScanError, sink: &mut K) -> Result<(), Write
 {
     match error {
         ScanError::Generate(error) => write_gen_error(error, sink),
+        ScanError::Table(error) => write_table_error(error, sink),
         ScanError::Run(error) => put_line(sink, &[run_text(error)]),
     }
 }
@@ -91,6 +105,25 @@ fn write_gen_error<K: Sink>(error: GenError, sink: &mut K) -> Result<(), WriteFa
         GenError::Spec(error) => write_spec_error(error, sink),
         GenError::Build(error) => put_line(sink, &[build_text(error)]),
         GenError::OutOfMemory => put_line(sink, &[OUT_OF_MEMORY]),
+    }
+}
+
+fn write_table_error<K: Sink>(error: TableError, sink: &mut K) -> Result<(), WriteFault>
+    requires { K.failures sink.old < 2 ^ 64 - 1 }
+    ensures bytes { Appended (λ xs. K.wrote sink.old xs sink.new) (line_of (table_words error)) result }
+    ensures failures { K.failures sink.new ≡ K.failures sink.old + fault_count result }
+{
+    match error {
+        TableError::BadMagic => put_line(sink, &["table: BadMagic"]),
+        TableError::BadVersion => put_line(sink, &["table: BadVersion"]),
+        TableError::Truncated => put_line(sink, &["table: Truncated"]),
+        TableError::TrailingBytes => put_line(sink, &["table: TrailingBytes"]),
+        TableError::BadField(at) => {
+            let mut place = Buffer::new();
+            let place = place.format(at);
+            put_line(sink, &["table: BadField at ", place])
+        }
+        TableError::OutOfMemory => put_line(sink, &[OUT_OF_MEMORY]),
     }
 }
 
@@ -223,10 +256,8 @@ fn put_line<K: Sink>(sink: &mut K, parts: &[&str]) -> Result<(), WriteFault>
     if let Err(fault) = sink.put(b"lex: ") {
         return Err(fault);
     }
-    for part in parts {
-        if let Err(fault) = sink.put(part.as_bytes()) {
-            return Err(fault);
-        }
+    if let Err(fault) = put_all(sink, parts) {
+        return Err(fault);
     }
     sink.put(b"\n")
 }
@@ -273,6 +304,21 @@ mod tests {
             ),
             (
                 Fault::Scan(ScanError::Generate(GenError::Build(BuildError::OutOfMemory))),
+                71,
+                "lex: out of memory\n",
+            ),
+            (
+                Fault::Scan(ScanError::Table(TableError::Truncated)),
+                65,
+                "lex: table: Truncated\n",
+            ),
+            (
+                Fault::Scan(ScanError::Table(TableError::BadField(28))),
+                65,
+                "lex: table: BadField at 28\n",
+            ),
+            (
+                Fault::Scan(ScanError::Table(TableError::OutOfMemory)),
                 71,
                 "lex: out of memory\n",
             ),

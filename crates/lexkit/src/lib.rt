@@ -3,10 +3,14 @@
 #![tactic(auto)]
 
 mod args;
+mod counting;
 mod errors;
 mod faults;
+mod making;
 mod options;
 mod scan;
+mod stats;
+mod writing;
 
 pub use args::{ArgsError, Job, read_args};
 pub use errors::{GenError, ScanError};
@@ -15,10 +19,15 @@ pub use lexauto::{BuildError, Limits};
 pub use lexends::{
     FromRead, MemorySink, MemorySource, ReadFault, Sink, Source, ToWrite, WriteFault,
 };
+pub use lexfile::{TableError, read_tables, write_tables};
+pub use lexreport::{BackUp, Warning, write_backup, write_warnings};
 pub use lexscan::RunError;
 pub use lexspec::{PatternError, PatternErrorKind, SpecError, SpecErrorKind};
+pub use lextab::Tables;
+pub use making::{Generated, generate};
 pub use options::Options;
-pub use scan::scan_spec;
+pub use scan::{scan_spec, scan_table};
+pub use stats::{Stats, write_stats};
 
 #[cfg(test)]
 mod machine_tests;

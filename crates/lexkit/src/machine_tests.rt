@@ -1,8 +1,8 @@
 //! The machine of a small specification, call by call.
 use lexauto::{Limits, build};
 use lexmachine::{Cut, Machine, Statement};
+use lexpack::Plain;
 use lexspec::{ReadOptions, read_spec};
-use lextab::Plain;
 use std::test::Fail;
 
 const MOST: Limits = Limits {

@@ -1,17 +1,19 @@
-//! One scan, by a specification's text.
+//! One scan, by a specification's text or a table file.
 ghost use Rattle.std.specs.Prelude.{◌≡◌, ℕ, ◌+◌, ◌-◌, ◌^◌, ◌<◌, ◌≤◌, List, nat_lt};
 ghost use Rattle.lexspec.specs.Views.{spec_of};
-ghost use Rattle.lexkit.specs.Headline.{Headline, ScansBy};
+ghost use Rattle.lexkit.specs.Headline.{Headline, ScansBy, TableHeadline};
 ghost use Rattle.lexkit.specs.ScanCounts.{read_fault_count, write_fault_count};
 
 use crate::errors::{GenError, ScanError};
+use crate::making::least_automaton;
 use crate::options::Options;
-use lexauto::{Limits, build};
+use lexauto::Limits;
 use lexends::{Sink, Source};
-use lexleast::minimise;
+use lexfile::{TableError, read_tables};
+use lexpack::pack;
 use lexscan::run;
 use lexspec::{ReadOptions, Spec, read_spec};
-use lextab::Plain;
+use lextab::Flat;
 use std::alloc::Global;
 
 /// How many reads a scan makes at most: 2^40.
@@ -47,7 +49,7 @@ pub fn scan_spec<S: Source, K: Sink>(
     scan_by(alloc, &spec, options.limits, source, sink)
 }
 
-/// Scans the source by a specification: builds its automaton, minimises it, and runs the scanner over it.
+/// Scans the source by a specification: makes its tables, and runs the scanner over them.
 fn scan_by<S: Source, K: Sink>(
     alloc: Global,
     spec: &Spec,
@@ -66,18 +68,53 @@ fn scan_by<S: Source, K: Sink>(
     ensures ends_stay { S.ends source.old ≤ S.ends source.new }
     ensures one_end { S.ends source.new ≤ S.ends source.old + 1 }
 {
-    let automaton = match build(alloc, spec, limits) {
-        Err(error) => return Err(ScanError::Generate(GenError::Build(error))),
-        Ok(automaton) => automaton,
-    };
-    let least = match minimise(alloc, &automaton) {
-        Err(_) => return Err(ScanError::Generate(GenError::OutOfMemory)),
+    let least = match least_automaton(alloc, spec, limits) {
+        Err(error) => return Err(ScanError::Generate(error)),
         Ok(least) => least,
     };
-    let machine = Plain::new(&least, spec);
+    let tables = match pack(alloc, &least.automaton, spec) {
+        Err(_) => return Err(ScanError::Generate(GenError::OutOfMemory)),
+        Ok(tables) => tables,
+    };
+    let machine = match Flat::new(alloc, &tables) {
+        Err(_) => return Err(ScanError::Generate(GenError::OutOfMemory)),
+        Ok(machine) => machine,
+    };
     match run(alloc, &machine, source, sink, MAX_READS) {
         Err(fault) => Err(ScanError::Run(fault)),
         Ok(status) => Ok(status),
+    }
+}
+
+/// Scans the source by a table file, and writes to the sink. It answers the status that the table's rules end with, 0 to 63,
+/// and takes no byte of the source that no rule asks for. Bytes that are no table file are refused, and then neither the
+/// source nor the sink is touched.
+pub fn scan_table<S: Source, K: Sink>(
+    alloc: Global,
+    bytes: &[u8],
+    source: &mut S,
+    sink: &mut K,
+) -> Result<u8, ScanError>
+    requires few_ends { S.ends source.old < 2 ^ 64 - 1 }
+    requires few_read_faults { S.failures source.old < 2 ^ 64 - 1 }
+    requires few_write_faults { K.failures sink.old < 2 ^ 64 - 1 }
+    ensures told { TableHeadline S.gave K.wrote bytes.now (nat_lt (S.ends source.old) (S.ends source.new)) source.old source.new sink.old sink.new result }
+    ensures read_faults { S.failures source.new ≡ S.failures source.old + read_fault_count result }
+    ensures write_faults { K.failures sink.new ≡ K.failures sink.old + write_fault_count result }
+    ensures ends_stay { S.ends source.old ≤ S.ends source.new }
+    ensures one_end { S.ends source.new ≤ S.ends source.old + 1 }
+{
+    let tables = match read_tables(alloc, bytes) {
+        Err(error) => return Err(ScanError::Table(error)),
+        Ok(tables) => tables,
+    };
+    let flat = match Flat::new(alloc, &tables) {
+        Err(_) => return Err(ScanError::Table(TableError::OutOfMemory)),
+        Ok(flat) => flat,
+    };
+    match run(alloc, &flat, source, sink, MAX_READS) {
+        Err(error) => Err(ScanError::Run(error)),
+        Ok(answer) => Ok(answer),
     }
 }
 

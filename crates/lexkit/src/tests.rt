@@ -3,9 +3,9 @@ ghost use Rattle.std.specs.Prelude.{◌-◌, ◌^◌, ◌<◌};
 
 use crate::{MemorySink, MemorySource, RunError, Sink, Source};
 use lexauto::{Limits, build};
+use lexpack::Plain;
 use lexscan::{Scanner, Turn, run};
 use lexspec::{ReadOptions, Spec, read_spec};
-use lextab::Plain;
 use std::alloc::Global;
 use std::test::Fail;
 

@@ -1,34 +1,24 @@
-use Rattle.std.proofs.Common.{◌++◌, ◌+◌, [], ◌∷◌, codes, sym, ap, ◌∙◌, arith, append_assoc, drop, List, ℕ}
+use Rattle.std.proofs.Common.{◌++◌, [], ◌∷◌, codes, sym, ap, ◌∙◌, append_assoc, List, ℕ}
 use Rattle.lexkit.specs.Joined.{joined}
-use Rattle.lexkit.proofs.Lines.{longer, next_part, no_part, stopped, appended_after}
+use Rattle.lexkit.proofs.Lines.{longer, appended_after}
 use Rattle.lexkit.proofs.faults.put_line.Goals as goal
 
 pub returns-in-Err-clause-bytes : goal.returns-in-Err-clause-bytes
 returns-in-Err-clause-bytes g c = let some = c.in-Err.ensures.bytes in
     (some.0, (some.1.0 ++ (joined c.args.parts.now ++ (10 ∷ [])), longer (codes "lex: ") some.0 some.1.0 _ some.1.1), some.2)
 
-pub returns-in-Err-put-clause-bytes : goal.returns-in-Err-put-clause-bytes
-returns-in-Err-put-clause-bytes g c =
-    let so_far = c.loop-part.invariant.0 in let some = c.in-Err-put.ensures.bytes in let more = joined (drop (c.loop-part.part-index + 1) c.args.parts.now) in
-    let next = next_part _ so_far.0 c.as_bytes.result.now c.args.parts.now c.loop-part.part-index _ c.loop-part-test.true c.as_bytes.ensures.value so_far.2 in (
-      so_far.0 ++ some.0,
-      ((some.1.0 ++ more) ++ (10 ∷ []), stopped _ so_far.0 _ more some.0 some.1.0 (10 ∷ []) next some.1.1),
-      g.met.K.Sink.wrote_more _ _ _ _ _ so_far.1 some.2,
-    )
-
-pub loop-part-preserved : goal.loop-part-preserved
-loop-part-preserved g c =
-    let so_far = c.loop-part.invariant.0 in let part = c.as_bytes.result.now in
-    let next = next_part _ so_far.0 part c.args.parts.now c.loop-part.part-index _ c.loop-part-test.true c.as_bytes.ensures.value so_far.2 in (
-      (so_far.0 ++ part, g.met.K.Sink.wrote_more _ _ _ _ _ so_far.1 c.in_default-put.ensures.bytes, next ∙ sym (append_assoc so_far.0 part _)),
-      omega (arith, c.in_default-put.ensures.failures, c.loop-part.invariant.1),
-    )
+pub returns-in-Err-put_all-clause-bytes : goal.returns-in-Err-put_all-clause-bytes
+returns-in-Err-put_all-clause-bytes g c = let some = c.in-Err-put_all.ensures.bytes in (
+  codes "lex: " ++ some.0,
+  (some.1.0 ++ (10 ∷ []), ap (λ l. codes "lex: " ++ l) (longer _ some.0 some.1.0 (10 ∷ []) some.1.1) ∙ sym (append_assoc (codes "lex: ") some.0 (some.1.0 ++ (10 ∷ [])))),
+  g.met.K.Sink.wrote_more _ _ _ _ _ c.in_default.ensures.bytes some.2,
+)
 
 pub returns-clause-bytes : goal.returns-clause-bytes
 returns-clause-bytes g c =
-    let so_far = c.loop-part.invariant.0 in
-    let whole = no_part _ so_far.0 c.args.parts.now c.loop-part.part-index (omega (arith, c.loop-part-test.false)) so_far.2 in
+    let parts : List ℕ = joined c.args.parts.now in
     let before : List ℕ → Type 0 = λ xs. g.K.Sink.wrote c.args.sink.now xs c.put-2.new.self in
-    let after : List ℕ → Type 0 = λ xs. g.K.Sink.wrote c.loop-part.sink xs c.put-2.new.self in
-    let join : (xs : List ℕ) → after xs → before (so_far.0 ++ xs) = λ xs. g.met.K.Sink.wrote_more _ _ c.put-2.new.self so_far.0 xs so_far.1 in
-    rw (ap (λ l. l ++ (10 ∷ [])) whole) (appended_after before after so_far.0 (10 ∷ []) c.put-2.result join c.put-2.ensures.bytes)
+    let after : List ℕ → Type 0 = λ xs. g.K.Sink.wrote c.put_all.new.sink xs c.put-2.new.self in
+    let join : (xs : List ℕ) → after xs → before ((codes "lex: " ++ parts) ++ xs) = λ xs. g.met.K.Sink.wrote_more _ _ c.put-2.new.self (codes "lex: " ++ parts) xs
+    (g.met.K.Sink.wrote_more _ _ _ (codes "lex: ") parts c.in_default.ensures.bytes c.in_default-put_all.ensures.bytes) in
+    rw (append_assoc (codes "lex: ") parts (10 ∷ [])) at (appended_after before after (codes "lex: " ++ parts) (10 ∷ []) c.put-2.result join c.put-2.ensures.bytes)

@@ -1,0 +1,117 @@
+//! Tables and reports, written to files.
+ghost use Rattle.std.specs.Prelude.{◌≤◌};
+
+use crate::failure::Failure;
+use lexkit::{
+    BackUp, Generated, Options, Sink, Stats, Tables, ToWrite, Warning, WriteFault, generate,
+    write_backup, write_stats, write_tables, write_warnings,
+};
+use std::alloc::AllocError;
+use std::fs::File;
+use std::io;
+use std::io::{BufWriter, Write};
+
+/// Where the table file goes, and what is written beside it.
+#[derive(Debug, Drop)]
+pub struct Outputs {
+    /// The table file's name; lex.yy.tab where there is none.
+    pub table: Option<String>,
+    /// The table file goes to standard output, and the statistics to standard error.
+    pub to_stdout: bool,
+    pub stats: bool,
+    pub backup: bool,
+    /// Warnings are not written.
+    pub quiet: bool,
+}
+
+/// Where the table file goes if no name is given.
+const TABLE_FILE: &str = "lex.yy.tab";
+
+/// Where the report of states that back up goes.
+const BACKUP_FILE: &str = "lex.backup";
+
+/// Makes the outputs of a specification: warnings, the table file, the report of states that back up, and statistics. The
+/// first fault ends the run.
+pub fn make(
+    rt: &HostRuntime,
+    text: &[u8],
+    options: Options,
+    outputs: &Outputs,
+) -> Result<(), Failure>
+    requires few_positions { options.limits.positions ≤ 16384 }
+    requires few_states { options.limits.states ≤ 8192 }
+{
+    let made = generate(rt.alloc(), text, options)?;
+    if !outputs.quiet {
+        warn(rt, &made.warnings)?;
+    }
+    write_table(rt, &made.tables, outputs)?;
+    if outputs.backup {
+        report(rt, &made.backup)?;
+    }
+    if outputs.stats {
+        count(rt, &made.stats, outputs.to_stdout)?;
+    }
+    Ok(())
+}
+
+/// Writes the warnings of a specification to standard error.
+pub fn write_warnings_of(rt: &HostRuntime, text: &[u8], options: Options) -> Result<(), Failure>
+    requires few_positions { options.limits.positions ≤ 16384 }
+    requires few_states { options.limits.states ≤ 8192 }
+{
+    let made = generate(rt.alloc(), text, options)?;
+    warn(rt, &made.warnings)
+}
+
+fn warn(rt: &HostRuntime, warnings: &[Warning]) -> Result<(), Failure> {
+    write_warnings(warnings, &mut ToWrite::new(rt.stderr()))?;
+    Ok(())
+}
+
+/// Writes the table file to standard output or to its file.
+fn write_table(rt: &HostRuntime, tables: &Tables, outputs: &Outputs) -> Result<(), Failure> {
+    if outputs.to_stdout {
+        return put_table(rt, tables, io::writer(rt));
+    }
+    let name = match &outputs.table {
+        None => TABLE_FILE,
+        Some(name) => name.as_str(),
+    };
+    put_table(rt, tables, created(rt, name)?)
+}
+
+fn put_table<W: Write + Drop>(rt: &HostRuntime, tables: &Tables, writer: W) -> Result<(), Failure> {
+    let mut sink = ToWrite::new(BufWriter::new(rt.alloc(), writer).map_err(|_| AllocError)?);
+    write_tables(tables, &mut sink)?;
+    sink.flush()?;
+    Ok(())
+}
+
+fn report(rt: &HostRuntime, entries: &[BackUp]) -> Result<(), Failure> {
+    let writer = created(rt, BACKUP_FILE)?;
+    let mut sink = ToWrite::new(BufWriter::new(rt.alloc(), writer).map_err(|_| AllocError)?);
+    write_backup(entries, &mut sink)?;
+    sink.flush()?;
+    Ok(())
+}
+
+/// Writes the statistics to standard output, or to standard error where the table file is on standard output.
+fn count(rt: &HostRuntime, stats: &Stats, table_on_stdout: bool) -> Result<(), Failure> {
+    if table_on_stdout {
+        write_stats(stats, &mut ToWrite::new(rt.stderr()))?;
+        return Ok(());
+    }
+    let mut sink = ToWrite::new(io::writer(rt));
+    write_stats(stats, &mut sink)?;
+    sink.flush()?;
+    Ok(())
+}
+
+/// A file made anew.
+fn created(rt: &HostRuntime, name: &str) -> Result<File, Failure> {
+    match File::create(rt, name) {
+        Ok(file) => Ok(file),
+        Err(_) => Err(Failure::Output),
+    }
+}

@@ -1,0 +1,25 @@
+use Rattle.std.proofs.Common.{◌++◌, ℕ, List, map, subst}
+use Rattle.std.specs.List.Sorted.{IsPermutation}
+use Rattle.lexreport.specs.Warned.{of_code, of_rule}
+use Rattle.lexmeaning.specs.Spec.{Spec}
+use Rattle.lexspec.specs.Views.{spec_of, skipped_in, rules_in}
+use Rattle.lexkit.proofs.making.made_of.Goals as goal
+
+pub returns : goal.returns
+returns c =
+    let S : Spec = spec_of c.args.spec.now in
+    let l = c.requires.least in
+    record {
+      automaton = c.args.least.now.automaton;
+      subsets = c.args.least.now.subsets;
+      least = l;
+      packed = c.in_ok-tables.ensures.packed;
+      machine = c.in_ok-tables.ensures.machine;
+      warnings = (c.in_ok-warnings.ensures.in_order, (skipped_in c.args.spec.now, c.in_ok-useless.useless.items, c.in_ok-useless.ensures.ascending, c.in_ok-useless.ensures.useless, subst (λ (xs : List ℕ). IsPermutation (map of_code (skipped_in c.args.spec.now) ++ map (of_rule (rules_in S)) xs) c.in_ok-warnings.warnings.items) c.deref.ensures.value c.in_ok-warnings.ensures.all));
+      backup = record {
+        ascending = c.in_ok-backup.ensures.ascending;
+        states = c.in_ok-backup.ensures.back_words S l.conditions l.table;
+        words = c.in_ok-backup.ensures.words;
+      };
+      stats = c.stats_of-stats.ensures;
+    }

@@ -1,0 +1,43 @@
+use Rattle.std.proofs.Common.{Bool, subst}
+use Rattle.std.specs.Prelude.{nat_lt}
+use Rattle.lexmeaning.specs.Machine.{rules_of_machine}
+use Rattle.lextab.specs.Views.{table_of}
+use Rattle.lexscan.specs.Runs.{RanTo, RanInto}
+use Rattle.lexkit.specs.Headline.{max_reads}
+use Rattle.lexkit.proofs.scan.scan_table.Goals as goal
+
+pub returns-in-Err-run-clause-told : goal.returns-in-Err-run-clause-told
+returns-in-Err-run-clause-told g c =
+    let h = c.in-Err-run.ensures.ran in
+    let b : Bool = nat_lt (g.S.Source.ends c.args.source.now) (g.S.Source.ends c.run.new.source) in
+    record {
+      table = table_of c.in-Ok.tables.parts;
+      file = c.in-Ok.ensures.found;
+      goes_on = c.in-Ok.tables.goes_on.items;
+      leads = c.in-Ok.tables.leading;
+      scans = record {
+        given = h.0;
+        out = h.1;
+        source = h.2;
+        sink = h.3;
+        ran = subst (λ N. RanInto (rules_of_machine N) h.0 h.1 b max_reads c.in-Err-run.error) c.in-Ok-new.ensures.machine h.4;
+      };
+    }
+
+pub returns-clause-told : goal.returns-clause-told
+returns-clause-told g c =
+    let h = c.in-Ok-run.ensures.ran in
+    let b : Bool = nat_lt (g.S.Source.ends c.args.source.now) (g.S.Source.ends c.run.new.source) in
+    record {
+      table = table_of c.in-Ok.tables.parts;
+      file = c.in-Ok.ensures.found;
+      goes_on = c.in-Ok.tables.goes_on.items;
+      leads = c.in-Ok.tables.leading;
+      scans = record {
+        given = h.0;
+        out = h.1;
+        source = h.2;
+        sink = h.3;
+        ran = subst (λ N. RanTo (rules_of_machine N) h.0 h.1 b c.in-Ok-run.answer) c.in-Ok-new.ensures.machine h.4;
+      };
+    }

@@ -1,0 +1,92 @@
+-- What is made of the text of a specification. (Rules that cannot be matched: flex's warnings; states that back up: flex,
+-- Scanner Options: -b; the least automaton, its tables and the counts are this project's.)
+use Rattle.std.specs.Prelude.{◌≡◌, ◌↔◌, ℕ, ◌≤◌, List, ◌++◌, length, map, Result, Ok, Err, ⊤}
+use Rattle.std.specs.List.Sorted.{IsPermutation}
+use Rattle.lexmeaning.specs.Text.{Ascending, Among}
+use Rattle.lexmeaning.specs.Spec.{Spec}
+use Rattle.lexmeaning.specs.MachineLaws.{MachineLaws}
+use Rattle.lexmeaning.specs.TableFor.{TableFor}
+use Rattle.lexmeaning.specs.Reports.{Useless}
+use Rattle.lexmeaning.specs.Subsets.{Subsets, all_positions}
+use Rattle.lexspec.specs.Files.{SpellsSpec}
+use Rattle.lexdfa.specs.Automata.{conditions_of, states_of, next_of, machine_of}
+use Rattle.lexdfa.specs.declared.dfa.Dfa.{Dfa}
+use Rattle.lexleast.specs.Least.{IsLeast, IsNumbered}
+use Rattle.lexauto.specs.declared.subsets.Limits.{Limits}
+use Rattle.lexreport.specs.BackWords.{IsFirstWord, IsAfterBackWord, states_in}
+use Rattle.lexreport.specs.Warned.{of_code, of_rule, AreInOrder}
+use Rattle.lexreport.specs.declared.backup.BackUp.{BackUp}
+use Rattle.lexreport.specs.declared.warned.Warning.{Warning}
+use Rattle.lextab.specs.Table.{Table}
+use Rattle.lextab.specs.Views.{table_of}
+use Rattle.lextab.specs.Machines.{machine_of as table_machine}
+use Rattle.lexpack.specs.Packing.{IsPacked}
+use Rattle.lexpack.specs.Tables.{packing_in}
+use Rattle.lexfile.specs.File.{file_of}
+use Rattle.lexkit.specs.Headline.{BuildRefusal, Refusal}
+use Rattle.lexkit.specs.declared.options.Options.{Options}
+use Rattle.lexkit.specs.declared.errors.GenError.{GenError}
+use Rattle.lexkit.specs.declared.errors.GenError.TheVariants as gens
+use Rattle.lexkit.specs.declared.making.Generated.{Generated}
+use Rattle.lexkit.specs.declared.stats.Stats.{Stats}
+
+-- the least automaton of a specification, whose automaton had so many states before and is within the limits
+pub record IsLeastOf (limits : Limits) (S : Spec) (subsets : ℕ) (d : Dfa) : Type 0 where
+  pub few_positions : all_positions S.rules ≤ limits.positions
+  pub subsets_are : Subsets S subsets
+  pub few_states : subsets ≤ limits.states
+  pub conditions : conditions_of d ≡ length S.conditions
+  pub table : TableFor (machine_of d S) S
+  pub laws : MachineLaws (machine_of d S)
+  pub least : IsLeast d.parts
+  pub numbered : IsNumbered d.parts
+
+-- why no automaton is made of a specification
+abbrev pub SpecRefusal : Limits → Spec → GenError → Type 0
+SpecRefusal limits S (gens.Build e) = BuildRefusal limits S e
+SpecRefusal limits S gens.OutOfMemory = ⊤
+SpecRefusal limits S (gens.Spec e) = ⊥
+
+-- the counts of the statistics
+pub record AreCounts (S : Spec) (subsets : ℕ) (t : Table) (z : Stats) : Type 0 where
+  pub rules : z.rules ≡ length S.rules
+  pub conditions : z.conditions ≡ length S.conditions
+  pub positions : z.positions ≡ all_positions S.rules
+  pub subsets_are : z.subsets ≡ subsets
+  pub states : z.states ≡ length t.rows
+  pub classes : z.classes ≡ t.classes
+  pub slots : z.slots ≡ length t.slots
+  pub bytes : z.bytes ≡ length (file_of t)
+
+-- one warning for each of some lines of skipped code and for each useless rule, in order of line
+abbrev pub AreWarnings : Spec → List Warning → Type 0
+AreWarnings S ws =
+    AreInOrder ws × ((skipped useless : List ℕ) × Ascending useless × ((i : ℕ) → Among useless i ↔ Useless S i)
+    × IsPermutation (map of_code skipped ++ map (of_rule S.rules) useless) ws)
+
+-- the states after back words, ascending, each with its first word
+pub record AreBackUps (d : Dfa) (S : Spec) (entries : List BackUp) : Type 0 where
+  pub ascending : Ascending (states_in entries)
+  pub states : (s : ℕ) → Among (states_in entries) s ↔ IsAfterBackWord (machine_of d S) S s
+  pub words : (e : BackUp) → Among entries e → IsFirstWord d.parts e.state e.word.items
+
+-- the packed tables of the least automaton, with warnings, back words and counts
+pub record IsMadeOf (limits : Limits) (S : Spec) (g : Generated) : Type 0 where
+  pub automaton : Dfa
+  pub subsets : ℕ
+  pub least : IsLeastOf limits S subsets automaton
+  pub packed : IsPacked (states_of automaton) (next_of automaton) (packing_in (table_of g.tables.parts))
+  pub machine : table_machine g.tables ≡ machine_of automaton S
+  pub warnings : AreWarnings S g.warnings.items
+  pub backup : AreBackUps automaton S g.backup.items
+  pub stats : AreCounts S subsets (table_of g.tables.parts) g.stats
+
+-- what is made by a specification
+abbrev pub MakesBy : Limits → Spec → Result Generated GenError → Type 0
+MakesBy limits S (Ok g) = IsMadeOf limits S g
+MakesBy limits S (Err e) = SpecRefusal limits S e
+
+-- what is made of a text
+abbrev pub Makes : Options → List ℕ → Result Generated GenError → Type 0
+Makes options text (Ok g) = (S : Spec) × SpellsSpec options.fold text S × IsMadeOf options.limits S g
+Makes options text (Err e) = Refusal options text e

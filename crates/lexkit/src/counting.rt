@@ -1,0 +1,43 @@
+//! How long a table file is.
+ghost use Rattle.std.specs.Prelude.{◌≡◌, ℕ, ◌+◌, ◌-◌, ◌^◌, ◌<◌, List, length};
+ghost use Rattle.lextab.specs.Views.{table_of};
+ghost use Rattle.lexfile.specs.File.{file_of};
+ghost use Rattle.lexkit.specs.Counting.{Counts, counts_none, counts_more};
+
+use lexends::{Sink, WriteFault};
+use lexfile::write_tables;
+use lextab::Tables;
+
+/// Counts the bytes that are put, while their number fits.
+#[derive(Drop)]
+struct Counter {
+    bytes: u64,
+}
+
+impl Sink for Counter {
+    ghost wrote = { λ before bytes after. Counts before.bytes bytes after.bytes };
+
+    ghost failures = { λ counter. 0 };
+
+    ghost wrote_none = { λ counter. counts_none counter.bytes };
+
+    ghost wrote_more = { λ a b c xs ys. counts_more a.bytes b.bytes c.bytes xs ys };
+
+    fn put(&mut self, bytes: &[u8]) -> Result<(), WriteFault> {
+        self.bytes = self.bytes.saturating_add(bytes.len() as u64);
+        Ok(())
+    }
+
+    fn flush(&mut self) -> Result<(), WriteFault> {
+        Ok(())
+    }
+}
+
+/// How many bytes the file of these tables has.
+pub(crate) fn file_length(tables: &Tables) -> u32
+    ensures { result ≡ length (file_of (table_of tables.now.parts)) }
+{
+    let mut counter = Counter { bytes: 0 };
+    let _ = write_tables(tables, &mut counter);
+    counter.bytes as u32
+}

@@ -1,0 +1,109 @@
+//! What is made of the text of a specification.
+ghost use Rattle.std.specs.Prelude.{◌≡◌, ◌≤◌, IfOk, IfErr};
+ghost use Rattle.lexspec.specs.Views.{spec_of};
+ghost use Rattle.lexkit.specs.Generated.{IsLeastOf, IsMadeOf, SpecRefusal, MakesBy, Makes};
+
+use crate::errors::GenError;
+use crate::options::Options;
+use crate::stats::{Stats, stats_of};
+use lexauto::{Limits, build};
+use lexdfa::{Dfa, OutOfMemory};
+use lexleast::minimise;
+use lexpack::pack;
+use lexreport::{BackUp, Warning, backing_up, useless_rules, warnings};
+use lexspec::{ReadOptions, Spec, read_spec};
+use lextab::Tables;
+use std::alloc::Global;
+
+/// What is made of a specification.
+#[derive(Drop)]
+pub struct Generated {
+    /// The packed tables of its least automaton.
+    pub tables: Tables,
+    /// Skipped code and rules that cannot be matched, in order of line.
+    pub warnings: Vec<Warning>,
+    pub stats: Stats,
+    /// The states that back up, ascending, each with its first word.
+    pub backup: Vec<BackUp>,
+}
+
+/// The least automaton of a specification.
+#[derive(Drop)]
+pub(crate) struct Least {
+    pub(crate) automaton: Dfa,
+    /// How many states there were before.
+    pub(crate) subsets: u32,
+}
+
+/// Makes tables, warnings, statistics and the report of states that back up of the specification that a text spells. A text
+/// that spells none, or one whose automaton passes the limits, is refused.
+pub fn generate(alloc: Global, text: &[u8], options: Options) -> Result<Generated, GenError>
+    requires few_positions { options.limits.positions ≤ 16384 }
+    requires few_states { options.limits.states ≤ 8192 }
+    ensures { Makes options text.now result }
+{
+    let read = ReadOptions { fold: options.fold };
+    let spec = match read_spec(alloc, text, read) {
+        Err(error) => return Err(GenError::Spec(error)),
+        Ok(spec) => spec,
+    };
+    generate_by(alloc, &spec, options.limits)
+}
+
+fn generate_by(alloc: Global, spec: &Spec, limits: Limits) -> Result<Generated, GenError>
+    requires few_positions { limits.positions ≤ 16384 }
+    requires few_states { limits.states ≤ 8192 }
+    ensures { MakesBy limits (spec_of spec.now) result }
+{
+    let least = match least_automaton(alloc, spec, limits) {
+        Err(error) => return Err(error),
+        Ok(least) => least,
+    };
+    match made_of(alloc, spec, limits, &least) {
+        Err(_) => Err(GenError::OutOfMemory),
+        Ok(made) => Ok(made),
+    }
+}
+
+/// Builds the automaton of a specification, and minimises it.
+pub(crate) fn least_automaton(alloc: Global, spec: &Spec, limits: Limits) -> Result<Least, GenError>
+    requires few_positions { limits.positions ≤ 16384 }
+    requires few_states { limits.states ≤ 8192 }
+    ensures made { IfOk result (λ l. IsLeastOf limits (spec_of spec.now) l.subsets l.automaton) }
+    ensures refused { IfErr result (SpecRefusal limits (spec_of spec.now)) }
+{
+    let automaton = match build(alloc, spec, limits) {
+        Err(error) => return Err(GenError::Build(error)),
+        Ok(automaton) => automaton,
+    };
+    match minimise(alloc, &automaton) {
+        Err(_) => Err(GenError::OutOfMemory),
+        Ok(least) => Ok(Least {
+            automaton: least,
+            subsets: automaton.len(),
+        }),
+    }
+}
+
+/// The reports and tables of a least automaton.
+fn made_of(
+    alloc: Global,
+    spec: &Spec,
+    limits: Limits,
+    least: &Least,
+) -> Result<Generated, OutOfMemory>
+    requires least { IsLeastOf limits (spec_of spec.now) least.now.subsets least.now.automaton }
+    ensures { IfOk result (IsMadeOf limits (spec_of spec.now)) }
+{
+    let useless = useless_rules(alloc, spec, &least.automaton)?;
+    let warnings = warnings(alloc, spec, &useless)?;
+    let backup = backing_up(alloc, &least.automaton)?;
+    let tables = pack(alloc, &least.automaton, spec)?;
+    let stats = stats_of(spec, limits, least.subsets, &tables);
+    Ok(Generated {
+        tables,
+        warnings,
+        stats,
+        backup,
+    })
+}

@@ -1,0 +1,20 @@
+//! Texts put one after the other.
+ghost use Rattle.std.specs.Prelude.{◌≡◌, ℕ, ◌+◌, ◌-◌, ◌^◌, ◌<◌};
+ghost use Rattle.lexends.specs.Sink.{Appended, fault_count};
+ghost use Rattle.lexkit.specs.Joined.{joined};
+
+use lexends::{Sink, WriteFault};
+
+/// Puts the parts.
+pub(crate) fn put_all<K: Sink>(sink: &mut K, parts: &[&str]) -> Result<(), WriteFault>
+    requires { K.failures sink.old < 2 ^ 64 - 1 }
+    ensures bytes { Appended (λ xs. K.wrote sink.old xs sink.new) (joined parts.now) result }
+    ensures failures { K.failures sink.new ≡ K.failures sink.old + fault_count result }
+{
+    for part in parts {
+        if let Err(fault) = sink.put(part.as_bytes()) {
+            return Err(fault);
+        }
+    }
+    Ok(())
+}
