@@ -11,8 +11,7 @@ use crate::failure::Failure;
 use crate::generating::{Outputs, make, write_warnings_of};
 use crate::reading::{read_spec_file, read_specification, read_table_file};
 use lexkit::{
-    ArgsError, FromRead, Job, Options, Sink, ToWrite, read_args, scan_spec, scan_table,
-    write_fault,
+    ArgsError, FromRead, Job, Options, Sink, ToWrite, read_args, scan_spec, scan_table, write_fault,
 };
 use std::alloc::AllocError;
 use std::io::{BufReader, BufWriter, ErrorKind};
