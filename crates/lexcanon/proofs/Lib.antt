@@ -1,0 +1,2 @@
+pub mod Ordered
+pub mod SameTables

@@ -1,0 +1,7 @@
+use Rattle.lexcanon.proofs.SameTables.{parts, files}
+use Rattle.lexcanon.proofs.laws.one_file.Goals as goal
+
+pub returns : goal.returns
+returns c S T f g same a b =
+    let answers = c.same_rules_answers.ensures S T same in
+    files S T f g same answers a b (parts S T f g same answers a b c.one_automaton.ensures) c.one_packing.ensures c.packing_of_same_moves.ensures

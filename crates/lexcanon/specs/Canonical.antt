@@ -1,0 +1,28 @@
+-- The table file that a specification's rules have, whatever computes it. (This project's; rows and slots: Aho, Sethi and
+-- Ullman, Compilers, 3.9.)
+use Rattle.std.specs.Prelude.{◌≡◌, ℕ, Bool, List, length}
+use Rattle.lexmeaning.specs.Spec.{Spec}
+use Rattle.lexmeaning.specs.TableFor.{TableFor}
+use Rattle.lexdfa.specs.Automata.{conditions_of, states_of, next_of, machine_of}
+use Rattle.lexdfa.specs.declared.dfa.Dfa.{Dfa}
+use Rattle.lexleast.specs.Least.{IsLeast, IsNumbered}
+use Rattle.lextab.specs.Table.{Table}
+use Rattle.lextab.specs.Steps.{machine_of_table}
+use Rattle.lexpack.specs.Packing.{IsPacked}
+use Rattle.lexpack.specs.Tables.{packing_in}
+use Rattle.lexfile.specs.File.{IsFileOf}
+
+-- The bytes are the file of the table of an automaton for the specification. But for the dead state the automaton has one
+-- state for each future that words have, numbered in the order of the first call. The table has the automaton's rows, packed,
+-- and its starts and accepted rules, with the actions of the specification.
+pub record IsCanonical (S : Spec) (f : List ℕ) : Type 0 where
+  pub automaton : Dfa
+  pub conditions : conditions_of automaton ≡ length S.conditions
+  pub table_for : TableFor (machine_of automaton S) S
+  pub least : IsLeast automaton.parts
+  pub numbered : IsNumbered automaton.parts
+  pub table : Table
+  pub goes_on : ℕ → Bool
+  pub machine : machine_of_table table goes_on ≡ machine_of automaton S
+  pub packed : IsPacked (states_of automaton) (next_of automaton) (packing_in table)
+  pub file : IsFileOf table f

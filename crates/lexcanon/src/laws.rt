@@ -1,0 +1,20 @@
+//! The law of canonical files.
+ghost use Rattle.std.specs.Prelude.{◌≡◌, ℕ, List};
+ghost use Rattle.lexmeaning.specs.Spec.{Spec};
+ghost use Rattle.lexmeaning.specs.SameRules.{SameRules};
+ghost use Rattle.lexcanon.specs.Canonical.{IsCanonical};
+
+use lexleast::one_automaton;
+use lexmeaning::same_rules_answers;
+use lexpack::{one_packing, packing_of_same_moves};
+
+/// Specifications with the same rules, however their patterns are written, have the same canonical file, and each has at
+/// most one.
+pub fn one_file()
+    ensures { (S T : Spec) (f g : List ℕ) → SameRules S T → IsCanonical S f → IsCanonical T g → f ≡ g }
+{
+    same_rules_answers();
+    one_automaton();
+    one_packing();
+    packing_of_same_moves();
+}
