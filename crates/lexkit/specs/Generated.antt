@@ -4,6 +4,7 @@ use Rattle.std.specs.Prelude.{◌≡◌, ◌↔◌, ℕ, ◌≤◌, List, ◌++�
 use Rattle.std.specs.List.Sorted.{IsPermutation}
 use Rattle.lexmeaning.specs.Text.{Ascending, Among}
 use Rattle.lexmeaning.specs.Spec.{Spec}
+use Rattle.lexmeaning.specs.Sound.{IsSound}
 use Rattle.lexmeaning.specs.MachineLaws.{MachineLaws}
 use Rattle.lexmeaning.specs.TableFor.{TableFor}
 use Rattle.lexmeaning.specs.Reports.{Useless}
@@ -23,6 +24,7 @@ use Rattle.lextab.specs.Machines.{machine_of as table_machine}
 use Rattle.lexpack.specs.Packing.{IsPacked}
 use Rattle.lexpack.specs.Tables.{packing_in}
 use Rattle.lexfile.specs.File.{file_of}
+use Rattle.lexcanon.specs.Canonical.{IsCanonical}
 use Rattle.lexkit.specs.Headline.{BuildRefusal, Refusal}
 use Rattle.lexkit.specs.declared.options.Options.{Options}
 use Rattle.lexkit.specs.declared.errors.GenError.{GenError}
@@ -70,13 +72,15 @@ pub record AreBackUps (d : Dfa) (S : Spec) (entries : List BackUp) : Type 0 wher
   pub states : (s : ℕ) → Among (states_in entries) s ↔ IsAfterBackWord (machine_of d S) S s
   pub words : (e : BackUp) → Among entries e → IsFirstWord d.parts e.state e.word.items
 
--- the packed tables of the least automaton, with warnings, back words and counts
+-- the packed tables of the least automaton, whose file is the canonical one, with warnings, back words and counts
 pub record IsMadeOf (limits : Limits) (S : Spec) (g : Generated) : Type 0 where
+  pub sound : IsSound S
   pub automaton : Dfa
   pub subsets : ℕ
   pub least : IsLeastOf limits S subsets automaton
   pub packed : IsPacked (states_of automaton) (next_of automaton) (packing_in (table_of g.tables.parts))
   pub machine : table_machine g.tables ≡ machine_of automaton S
+  pub canonical : IsCanonical S (file_of (table_of g.tables.parts))
   pub warnings : AreWarnings S g.warnings.items
   pub backup : AreBackUps automaton S g.backup.items
   pub stats : AreCounts S subsets (table_of g.tables.parts) g.stats

@@ -5,5 +5,6 @@ pub mod Refusal
 pub mod Headline
 pub mod ScanCounts
 pub mod Generated
+pub mod FileScans
 pub mod Statistics
 pub mod Counting

@@ -6,6 +6,7 @@ mod args;
 mod counting;
 mod errors;
 mod faults;
+mod laws;
 mod making;
 mod options;
 mod scan;
@@ -15,6 +16,7 @@ mod writing;
 pub use args::{ArgsError, Job, read_args};
 pub use errors::{GenError, ScanError};
 pub use faults::{Fault, write_fault};
+pub use laws::file_scans;
 pub use lexauto::{BuildError, Limits};
 pub use lexends::{
     FromRead, MemorySink, MemorySource, ReadFault, Sink, Source, ToWrite, WriteFault,

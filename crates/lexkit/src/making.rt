@@ -11,7 +11,7 @@ use lexdfa::{Dfa, OutOfMemory};
 use lexleast::minimise;
 use lexpack::pack;
 use lexreport::{BackUp, Warning, backing_up, useless_rules, warnings};
-use lexspec::{ReadOptions, Spec, read_spec};
+use lexspec::{ReadOptions, Spec, read_spec, tested_specifications};
 use lextab::Tables;
 use std::alloc::Global;
 
@@ -35,8 +35,9 @@ pub(crate) struct Least {
     pub(crate) subsets: u32,
 }
 
-/// Makes tables, warnings, statistics and the report of states that back up of the specification that a text spells. A text
-/// that spells none, or one whose automaton passes the limits, is refused.
+/// Makes tables, warnings, statistics and the report of states that back up of the specification that a text spells. The
+/// file of the tables is the canonical one of the specification's rules. A text that spells none, or one whose automaton passes
+/// the limits, is refused.
 pub fn generate(alloc: Global, text: &[u8], options: Options) -> Result<Generated, GenError>
     requires few_positions { options.limits.positions ≤ 16384 }
     requires few_states { options.limits.states ≤ 8192 }
@@ -95,6 +96,7 @@ fn made_of(
     requires least { IsLeastOf limits (spec_of spec.now) least.now.subsets least.now.automaton }
     ensures { IfOk result (IsMadeOf limits (spec_of spec.now)) }
 {
+    tested_specifications();
     let useless = useless_rules(alloc, spec, &least.automaton)?;
     let warnings = warnings(alloc, spec, &useless)?;
     let backup = backing_up(alloc, &least.automaton)?;
