@@ -1,13 +1,21 @@
-//! Reads a specification from standard input, builds its automaton and the least one, and tells how many states each
-//! has; with the word `times`, how long either took too. This is what bench/ runs.
+//! Reads a specification from standard input, makes its automaton, the least one, its reports, its tables and their file,
+//! reads the file, and tells how large they are; with the word `times`, how long each step took too. This is what bench/ runs.
 #![tactic(auto)]
+
+ghost use Rattle.std.specs.Prelude.{IfOk};
+ghost use Rattle.lexspec.specs.Views.{spec_of};
+ghost use Rattle.lexbench.specs.For.{IsFor};
 
 #[cfg(test)]
 mod tests;
 
 use lexauto::{BuildError, Limits, build};
-use lexdfa::OutOfMemory;
+use lexdfa::{Dfa, OutOfMemory};
+use lexends::{MemorySink, WriteFault};
+use lexfile::{TableError, read_tables, write_tables};
 use lexleast::minimise;
+use lexpack::pack;
+use lexreport::{backing_up, useless_rules};
 use lexspec::{ReadOptions, Spec, SpecError, read_spec};
 use std::io::Read;
 use std::process::ExitCode;
@@ -24,18 +32,27 @@ const LIMITS: Limits = Limits {
 /// The bytes of the longest specification that is read as one.
 const MAX_SPEC: u64 = 1_048_576;
 
-/// What is told of a specification.
-#[derive(Clone, Copy)]
-struct Measure {
+/// An automaton, how many states it had before, and the milliseconds of both steps.
+#[derive(Drop)]
+struct Built {
+    automaton: Dfa,
     states: u32,
-    least: u32,
-    /// In milliseconds.
-    build_time: u128,
-    /// In milliseconds.
-    minimise_time: u128,
+    build: u128,
+    minimise: u128,
 }
 
-/// Why there is no automaton.
+/// What is made of an automaton, and the milliseconds of each step.
+#[derive(Clone, Copy)]
+struct Made {
+    slots: usize,
+    bytes: usize,
+    report: u128,
+    pack: u128,
+    write: u128,
+    read: u128,
+}
+
+/// Why there is no table file.
 #[derive(Debug, Drop, Error)]
 enum Failure {
     #[error("cannot read the specification")]
@@ -45,7 +62,11 @@ enum Failure {
     #[error("{0}")]
     Build(BuildError),
     #[error("{0}")]
-    Minimise(OutOfMemory),
+    Memory(OutOfMemory),
+    #[error("{0}")]
+    Write(WriteFault),
+    #[error("{0}")]
+    Table(TableError),
 }
 
 impl From<io::Error> for Failure {
@@ -68,7 +89,19 @@ impl From<BuildError> for Failure {
 
 impl From<OutOfMemory> for Failure {
     fn from(error: OutOfMemory) -> Failure {
-        Failure::Minimise(error)
+        Failure::Memory(error)
+    }
+}
+
+impl From<WriteFault> for Failure {
+    fn from(error: WriteFault) -> Failure {
+        Failure::Write(error)
+    }
+}
+
+impl From<TableError> for Failure {
+    fn from(error: TableError) -> Failure {
+        Failure::Table(error)
     }
 }
 
@@ -80,35 +113,75 @@ fn read(rt: &HostRuntime) -> Result<Spec, Failure> {
     Ok(spec)
 }
 
-/// How many states the automaton of a specification has and the least one, and the milliseconds that each took.
-fn measured(rt: &HostRuntime) -> Result<Measure, Failure> {
-    let spec = read(rt)?;
+/// The least automaton of a specification.
+fn least(rt: &HostRuntime, spec: &Spec) -> Result<Built, Failure>
+    ensures { IfOk result (λ b. IsFor (spec_of spec.now) b.automaton) }
+{
     let start = Instant::now(rt)?;
-    let automaton = build(rt.alloc(), &spec, LIMITS)?;
-    let build_time = start.elapsed(rt)?.as_millis();
+    let automaton = build(rt.alloc(), spec, LIMITS)?;
+    let build = start.elapsed(rt)?.as_millis();
     let start = Instant::now(rt)?;
     let least = minimise(rt.alloc(), &automaton)?;
-    let minimise_time = start.elapsed(rt)?.as_millis();
-    Ok(Measure {
+    let minimise = start.elapsed(rt)?.as_millis();
+    Ok(Built {
+        automaton: least,
         states: automaton.len(),
-        least: least.len(),
-        build_time,
-        minimise_time,
+        build,
+        minimise,
     })
 }
 
+/// The reports of a least automaton, its tables, their file, and the tables of the file.
+fn make(rt: &HostRuntime, spec: &Spec, automaton: &Dfa) -> Result<Made, Failure>
+    requires { IsFor (spec_of spec.now) automaton.now }
+{
+    let start = Instant::now(rt)?;
+    let _useless = useless_rules(rt.alloc(), spec, automaton)?;
+    let _backup = backing_up(rt.alloc(), automaton)?;
+    let report = start.elapsed(rt)?.as_millis();
+    let start = Instant::now(rt)?;
+    let tables = pack(rt.alloc(), automaton, spec)?;
+    let pack = start.elapsed(rt)?.as_millis();
+    let start = Instant::now(rt)?;
+    let mut file = MemorySink::new(rt.alloc());
+    write_tables(&tables, &mut file)?;
+    let write = start.elapsed(rt)?.as_millis();
+    let start = Instant::now(rt)?;
+    let again = read_tables(rt.alloc(), file.written())?;
+    let read = start.elapsed(rt)?.as_millis();
+    Ok(Made {
+        slots: again.parts().checks.len(),
+        bytes: file.written().len(),
+        report,
+        pack,
+        write,
+        read,
+    })
+}
+
+/// Tells what is made of the specification on standard input; with times, how long each step took.
+fn measure(rt: &HostRuntime, times: bool) -> Result<(), Failure> {
+    let start = Instant::now(rt)?;
+    let spec = read(rt)?;
+    let reading = start.elapsed(rt)?.as_millis();
+    let built = least(rt, &spec)?;
+    let made = make(rt, &spec, &built.automaton)?;
+    let least = built.automaton.len();
+    println!(rt; "states {}, least {least}, slots {}, bytes {}", built.states, made.slots, made.bytes)?;
+    if times {
+        println!(rt; "ms: reading {reading}, building {}, minimising {}", built.build, built.minimise)?;
+        println!(rt;
+            "ms: reporting {}, packing {}, writing {}, reading the file {}",
+            made.report, made.pack, made.write, made.read
+        )?;
+    }
+    Ok(())
+}
+
 fn main(rt: HostRuntime) -> io::Result<ExitCode> {
-    match measured(&rt) {
-        Ok(measure) => {
-            println!(rt; "states {}, least {}", measure.states, measure.least)?;
-            if env::args(&rt)?.len() > 1 {
-                println!(rt;
-                    "built in {} ms, minimised in {} ms",
-                    measure.build_time, measure.minimise_time
-                )?;
-            }
-            Ok(ExitCode::SUCCESS)
-        }
+    let times = env::args(&rt)?.len() > 1;
+    match measure(&rt, times) {
+        Ok(()) => Ok(ExitCode::SUCCESS),
         Err(failure) => {
             println!(rt; "{failure}")?;
             Ok(ExitCode::FAILURE)

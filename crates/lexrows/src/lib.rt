@@ -1,9 +1,13 @@
-//! Tests over the whole product: worked scans, and the examples of `examples/` and of the user's manual, through
-//! `scan_spec`.
+//! Tests over the whole product: worked scans, and the examples of `examples/` and of the user's manual, by specification
+//! and by table file; reports, and table files that are refused.
 #![tactic(auto)]
+
+pub mod caller;
 
 #[cfg(test)]
 mod examples;
+#[cfg(test)]
+mod files;
 #[cfg(test)]
 mod limits;
 #[cfg(test)]

@@ -2,7 +2,7 @@ use crate::row::{Long, Row};
 use crate::{examples, limits, manual, worked};
 use lexkit::{
     ArgsError, Fault, GenError, MemorySink, MemorySource, Options, RunError, ScanError, Source,
-    scan_spec, write_fault,
+    generate, scan_spec, scan_table, write_fault, write_tables,
 };
 use std::alloc::{AllocError, Global};
 use std::process::Abort;
@@ -21,8 +21,27 @@ fn holds(alloc: Global, fold: bool, row: &Row) -> Result<bool, ScanError> {
     Ok(got == status && sink.written() == want.as_bytes())
 }
 
+/// Whether a scan by the table file of the specification does as the row says.
+fn holds_by_table(alloc: Global, fold: bool, row: &Row) -> Result<bool, ScanError> {
+    let (text, input, want, status) = *row;
+    let options = Options {
+        fold,
+        ..Options::new()
+    };
+    let made = match generate(alloc, text.as_bytes(), options) {
+        Err(error) => return Err(ScanError::Generate(error)),
+        Ok(made) => made,
+    };
+    let mut file = MemorySink::new(alloc);
+    let written = write_tables(&made.tables, &mut file).is_ok();
+    let mut source = MemorySource::new(input.as_bytes());
+    let mut sink = MemorySink::new(alloc);
+    let got = scan_table(alloc, file.written(), &mut source, &mut sink)?;
+    Ok(written && got == status && sink.written() == want.as_bytes())
+}
+
 /// Whether the program would end with this status and this line.
-fn is_told(alloc: Global, fault: Fault<'_>, status: u8, line: &str) -> bool {
+pub(crate) fn is_told(alloc: Global, fault: Fault<'_>, status: u8, line: &str) -> bool {
     let mut sink = MemorySink::new(alloc);
     let written = write_fault(fault, &mut sink).is_ok();
     written && sink.written() == line.as_bytes() && fault.status() == status
@@ -57,6 +76,8 @@ fn assert_rows(rt: &impl Abort, alloc: Global, fold: bool, rows: &[Row]) {
     for row in rows {
         let got = holds(alloc, fold, row);
         assert!(rt; got == Ok(true), "{}: {got:?}", row.0);
+        let got = holds_by_table(alloc, fold, row);
+        assert!(rt; got == Ok(true), "{}, by its table file: {got:?}", row.0);
     }
 }
 
