@@ -167,9 +167,15 @@ fn measure(rt: &HostRuntime, times: bool) -> Result<(), Failure> {
     let built = least(rt, &spec)?;
     let made = make(rt, &spec, &built.automaton)?;
     let least = built.automaton.len();
-    println!(rt; "states {}, least {least}, slots {}, bytes {}", built.states, made.slots, made.bytes)?;
+    println!(rt;
+        "states {}, least {least}, slots {}, bytes {}",
+        built.states, made.slots, made.bytes
+    )?;
     if times {
-        println!(rt; "ms: reading {reading}, building {}, minimising {}", built.build, built.minimise)?;
+        println!(rt;
+            "ms: reading {reading}, building {}, minimising {}",
+            built.build, built.minimise
+        )?;
         println!(rt;
             "ms: reporting {}, packing {}, writing {}, reading the file {}",
             made.report, made.pack, made.write, made.read

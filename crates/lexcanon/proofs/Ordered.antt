@@ -52,6 +52,6 @@ one_slots (x ∷ xs) (y ∷ ys) h k =
     let check : x.check ≡ y.check = head_same x.check y.check (map (λ (s : Slot). s.check) xs) (map (λ (s : Slot). s.check) ys) h in
     let next : x.next ≡ y.next = head_same x.next y.next (map (λ (s : Slot). s.next) xs) (map (λ (s : Slot). s.next) ys) k in
     let rest : xs ≡ ys = one_slots xs ys (rest_same x.check y.check (map (λ (s : Slot). s.check) xs) (map (λ (s : Slot). s.check) ys) h)
-        (rest_same x.next y.next (map (λ (s : Slot). s.next) xs) (map (λ (s : Slot). s.next) ys) k) in
+    (rest_same x.next y.next (map (λ (s : Slot). s.next) xs) (map (λ (s : Slot). s.next) ys) k) in
     let head : x ≡ y = λ i. record { check = check i; next = next i } in
     rw (head, rest) refl

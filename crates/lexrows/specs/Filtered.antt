@@ -3,13 +3,16 @@ use Rattle.std.specs.Prelude.{ℕ, false, List, Option, IfSome}
 use Rattle.std.specs.Io.KnownBytes.{Appends}
 use Rattle.lexmeaning.specs.Spec.{Spec}
 use Rattle.lexmeaning.specs.Text.{IsText}
-use Rattle.lexmeaning.specs.Rules.{rules_of}
+use Rattle.lexmeaning.specs.Rules.{Rules, rules_of}
 use Rattle.lexmeaning.specs.Acting.{Status}
 use Rattle.lexmeaning.specs.Run.{Run}
 use Rattle.lexspec.specs.Files.{SpellsSpec}
 
--- The bytes that were appended are those that the specification, which the text spells, writes for all that the reader had,
--- where that is known.
+-- The bytes that were appended are those that the rules write for all that the reader had, where that is known.
+abbrev pub FilteredBy : Rules → Option (List ℕ) → Option (List ℕ) → Option (List ℕ) → Type 0
+FilteredBy R input before after =
+    (out : List ℕ) × (status : ℕ) × Appends before after out × IfSome input (λ x. IsText x → Run R x out (Status status))
+
+-- so by the rules of the specification that the text spells
 abbrev pub Filtered : List ℕ → Option (List ℕ) → Option (List ℕ) → Option (List ℕ) → Type 0
-Filtered text input before after = (S : Spec) × SpellsSpec false text S × (out : List ℕ) × (status : ℕ) × Appends before after out
-    × IfSome input (λ x. IsText x → Run (rules_of S) x out (Status status))
+Filtered text input before after = (S : Spec) × SpellsSpec false text S × FilteredBy (rules_of S) input before after

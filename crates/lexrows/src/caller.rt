@@ -1,8 +1,11 @@
-//! A caller of lexkit: the one of its CALLING.md.
+//! Callers of lexkit and of lexscan: those of their CALLING.md.
 ghost use Rattle.std.specs.Prelude.{IfOk};
-ghost use Rattle.lexrows.specs.Filtered.{Filtered};
+ghost use Rattle.lexmeaning.specs.Machine.{rules_of_machine};
+ghost use Rattle.lextab.specs.Machines.{machine_of};
+ghost use Rattle.lexrows.specs.Filtered.{Filtered, FilteredBy};
 
-use lexkit::{FromRead, Options, ScanError, ToWrite, scan_spec};
+use lexkit::{FromRead, Options, RunError, ScanError, Tables, ToWrite, scan_spec};
+use lexscan::run;
 use std::alloc::Global;
 use std::io::{Read, Write};
 
@@ -21,10 +24,25 @@ pub fn filtered<R: Read + Drop, W: Write + Drop>(
     Ok(sink.into_inner())
 }
 
+/// Scans what a reader gives by tables, and answers the writer, to which their rules have written. It makes at most 2^40 reads.
+pub fn filtered_by<R: Read + Drop, W: Write + Drop>(
+    alloc: Global,
+    tables: &Tables,
+    reader: R,
+    writer: W,
+) -> Result<W, RunError>
+    ensures { IfOk result (λ w. FilteredBy (rules_of_machine (machine_of tables.now)) (R.remaining reader) (W.contents writer) (W.contents w)) }
+{
+    let mut source = FromRead::new(reader);
+    let mut sink = ToWrite::new(writer);
+    run(alloc, tables, &mut source, &mut sink, 1 << 40)?;
+    Ok(sink.into_inner())
+}
+
 #[cfg(test)]
 mod tests {
     use super::*;
-    use std::io::Cursor;
+    use lexkit::generate;
 
     #[test]
     fn filters_a_reader(rt: HostRuntime) {
@@ -32,6 +50,19 @@ mod tests {
         let reader = b"a1 b22\n".as_slice();
         match filtered(rt.alloc(), rules, reader, Vec::new(rt.alloc())) {
             Ok(written) => assert_eq!(rt; written.as_slice(), b"aN bN\n".as_slice()),
+            Err(error) => assert!(rt; false, "{error:?}"),
+        }
+    }
+
+    #[test]
+    fn filters_a_reader_by_tables(rt: HostRuntime) {
+        let rules = b"%%\n[0-9]+ printf(\"N\");\n";
+        let reader = b"a1 b22\n".as_slice();
+        match generate(rt.alloc(), rules, Options::new()) {
+            Ok(made) => match filtered_by(rt.alloc(), &made.tables, reader, Vec::new(rt.alloc())) {
+                Ok(written) => assert_eq!(rt; written.as_slice(), b"aN bN\n".as_slice()),
+                Err(error) => assert!(rt; false, "{error:?}"),
+            },
             Err(error) => assert!(rt; false, "{error:?}"),
         }
     }

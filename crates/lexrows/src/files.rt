@@ -194,7 +194,10 @@ fn refuses_a_file_that_is_cut_short(rt: HostRuntime) -> Result<(), Fail> {
     let file = made.file.written();
     let truncated = ScanError::Table(TableError::Truncated);
     for (count, _) in file.iter().enumerate() {
-        assert!(rt; scanned(alloc, &file[..count]) == (Err(truncated), true), "{count}");
+        assert!(rt;
+            scanned(alloc, &file[..count]) == (Err(truncated), true),
+            "{count}"
+        );
     }
     let line = "lex: table: Truncated\n";
     assert!(rt; is_told(alloc, Fault::Scan(truncated), 65, line));

@@ -3,7 +3,6 @@
 #![tactic(auto)]
 
 pub mod caller;
-
 #[cfg(test)]
 mod examples;
 #[cfg(test)]

@@ -1,5 +1,4 @@
-use Rattle.std.proofs.Common.{Bool, ap, sym, subst, Option, List, ℕ}
-use Rattle.std.specs.Prelude.{nat_lt}
+use Rattle.std.proofs.Common.{Bool, ap, sym, subst}
 use Rattle.std.specs.Io.KnownBytes.{Appends}
 use Rattle.lexmeaning.specs.Rules.{rules_of}
 use Rattle.lexspec.specs.Files.{SpellsSpec}
@@ -12,12 +11,13 @@ returns g c =
     let (S, spells, within, scans) = c.in_ok-scan_spec.ensures.told in
     let s' = c.scan_spec.new.source in
     let source = subst (λ r. Gives (g.R.Read.remaining r) (g.R.Read.remaining s'.reader) c.new-source.result.ends s'.ends scans.given) c.new-source.ensures.reader scans.source in
-    let sink = subst (λ w. Appends (g.W.Write.contents w) (g.W.Write.contents c.scan_spec.new.sink.writer) scans.out) c.new-sink.ensures.writer scans.sink in
-    (
+    let sink = subst (λ w. Appends (g.W.Write.contents w) (g.W.Write.contents c.scan_spec.new.sink.writer) scans.out) c.new-sink.ensures.writer scans.sink in (
       S,
       subst (λ (fold : Bool). SpellsSpec fold c.args.rules.now S) (ap (λ o. o.fold) c.new.ensures) spells,
-      scans.out,
-      c.in_ok-scan_spec.field-0,
-      subst (λ w. Appends (g.W.Write.contents c.args.writer) (g.W.Write.contents w) scans.out) (sym c.into_inner.ensures) sink,
-      runs (rules_of S) scans.given scans.out c.in_ok-scan_spec.field-0 (g.R.Read.remaining c.args.reader) (g.R.Read.remaining s'.reader) c.new-source.result.ends s'.ends source scans.ran,
+      (
+        scans.out,
+        c.in_ok-scan_spec.field-0,
+        subst (λ w. Appends (g.W.Write.contents c.args.writer) (g.W.Write.contents w) scans.out) (sym c.into_inner.ensures) sink,
+        runs (rules_of S) scans.given scans.out c.in_ok-scan_spec.field-0 (g.R.Read.remaining c.args.reader) (g.R.Read.remaining s'.reader) c.new-source.result.ends s'.ends source scans.ran,
+      ),
     )
