@@ -23,11 +23,11 @@ enum Refill {
 /// are met, after the bytes before them.
 #[derive(Drop)]
 pub struct ByteReader<R> {
-    reader: R,
     buffer: Vec<u8>,
     start: usize,
     end: usize,
     error: Option<io::Error>,
+    reader: R,
     ghost in_order: { start ≤ end },
     ghost in_bounds: { end ≤ vec_len buffer },
     ghost some_room: { 0 < vec_len buffer },
@@ -55,11 +55,11 @@ impl<R: Read> ByteReader<R> {
     {
         let buffer = buffer::make(alloc, capacity)?;
         Ok(ByteReader {
-            reader,
             buffer,
             start: 0,
             end: 0,
             error: None,
+            reader,
         })
     }
 

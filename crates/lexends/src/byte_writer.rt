@@ -1,5 +1,5 @@
 //! A writer with a buffer, made for short writes.
-ghost use Rattle.std.specs.Prelude.{◌≡◌, ◌+◌, ◌-◌, ◌<◌, ◌≤◌, [], ◌++◌, length, take, drop, Ok, IfOk, OnOk, OnErr, vec_len};
+ghost use Rattle.std.specs.Prelude.{◌≡◌, ◌+◌, ◌-◌, ◌<◌, ◌≤◌, [], ◌++◌, length, take, drop, Ok, IfOk, OnOk, OnErr, IfSome, IfNone, IsSome, MatchOption, vec_len};
 ghost use Rattle.std.specs.Io.{WritesAtMost};
 ghost use Rattle.std.specs.Io.KnownBytes.{Appends, Keeps, WriteAppends};
 
@@ -63,8 +63,9 @@ impl Held {
 /// What is held is poured into the writer behind it where it is full, in a flush and in a drop. Where that fails, the error is
 /// told, what was not taken stays held, and a later call goes on with it: no byte is lost, and none is written twice.
 pub struct ByteWriter<W: Write + Drop> {
-    writer: W,
     held: Held,
+    error: Option<io::Error>,
+    writer: W,
 }
 
 impl<W: Write + Drop> ByteWriter<W> {
@@ -86,7 +87,11 @@ impl<W: Write + Drop> ByteWriter<W> {
     {
         let buffer = buffer::make(alloc, capacity)?;
         let held = Held { buffer, end: 0 };
-        Ok(ByteWriter { writer, held })
+        Ok(ByteWriter {
+            held,
+            error: None,
+            writer,
+        })
     }
 
     /// The writer behind it.
@@ -108,20 +113,44 @@ impl<W: Write + Drop> ByteWriter<W> {
         result
     }
 
-    /// Pours, and then holds the bytes, or hands them on where there are more than may be held.
+    /// Pours, and then holds the bytes, or hands them on where there are more than may be held. Where it answers nothing, the
+    /// error waits.
     #[cold]
     #[inline(never)]
-    fn pour_and_write(&mut self, bytes: &[u8]) -> io::Result<usize>
-        ensures bound { WritesAtMost result bytes.now }
-        ensures bytes { WriteAppends (bytes_written W.contents self.old) (bytes_written W.contents self.new) result bytes.now }
-        ensures rest { OnErr result (EndsWith (bytes_held self.old) (bytes_held self.new)) }
+    fn pour_and_write(&mut self, bytes: &[u8]) -> Option<usize>
+        ensures bound { IfSome result (λ count. count ≤ length bytes.now) }
+        ensures bytes { MatchOption result (Keeps (bytes_written W.contents self.old) (bytes_written W.contents self.new))
+            (λ count. Appends (bytes_written W.contents self.old) (bytes_written W.contents self.new) (take count bytes.now)) }
+        ensures rest { IfNone result (EndsWith (bytes_held self.old) (bytes_held self.new)) }
+        ensures error { IfNone result (IsSome self.new.error) }
     {
-        self.pour()?;
-        if bytes.len() > self.held.room() {
-            return self.writer.write(bytes);
+        if let Err(error) = self.pour() {
+            self.error = Some(error);
+            return None;
         }
-        self.held.push(bytes);
-        Ok(bytes.len())
+        if bytes.len() <= self.held.room() {
+            self.held.push(bytes);
+            return Some(bytes.len());
+        }
+        match self.writer.write(bytes) {
+            Ok(count) => Some(count),
+            Err(error) => {
+                self.error = Some(error);
+                None
+            }
+        }
+    }
+
+    #[cold]
+    fn take_error(&mut self) -> io::Error
+        requires { IsSome self.old.error }
+        ensures writer { self.new.writer ≡ self.old.writer }
+        ensures held { self.new.held ≡ self.old.held }
+    {
+        let Some(error) = self.error.take() else {
+            unreachable!()
+        };
+        error
     }
 }
 
@@ -142,7 +171,10 @@ impl<W: Write + Drop> Write for ByteWriter<W> {
             self.held.push(buf);
             return Ok(buf.len());
         }
-        self.pour_and_write(buf)
+        match self.pour_and_write(buf) {
+            Some(count) => Ok(count),
+            None => Err(self.take_error()),
+        }
     }
 
     /// Pours what is held, and flushes the writer behind it.
@@ -160,8 +192,9 @@ impl<W: Write + Drop> Drop for ByteWriter<W> {
     fn drop(mut self) {
         let _ = self.pour();
         let ByteWriter {
-            writer: _writer,
             held: _,
+            error: _,
+            writer: _writer,
         } = self;
     }
 }
@@ -173,12 +206,20 @@ fn copy_to(place: &mut [u8], bytes: &[u8])
     ensures { place.new ≡ bytes.now }
 {
     if bytes.len() > SHORT {
-        place.copy_from_slice(bytes);
+        copy_many(place, bytes);
         return;
     }
     for (index, byte) in bytes.iter().enumerate() {
         place[index] = *byte;
     }
+}
+
+#[inline(never)]
+fn copy_many(place: &mut [u8], bytes: &[u8])
+    requires { length place.old ≡ length bytes.now }
+    ensures { place.new ≡ bytes.now }
+{
+    place.copy_from_slice(bytes);
 }
 
 /// Writes until all is written or a write fails, and tells how many bytes were written. A write that takes none has failed.
