@@ -94,13 +94,6 @@ impl<W: Write + Drop> ByteWriter<W> {
         })
     }
 
-    /// The writer behind it.
-    pub fn get_ref(&self) -> &W
-        ensures { result.now ≡ writer_behind self.now }
-    {
-        &self.writer
-    }
-
     /// Writes what is held to the writer behind it. What it does not take stays held.
     fn pour(&mut self) -> io::Result<()>
         ensures bytes { Keeps (bytes_written W.contents self.old) (bytes_written W.contents self.new) }
@@ -296,12 +289,12 @@ mod tests {
         ];
         for (bytes, count, poured) in rows {
             assert!(rt; writer.write(bytes)? == count);
-            assert_eq!(rt; writer.get_ref().taken.as_slice(), poured);
+            assert_eq!(rt; writer.writer.taken.as_slice(), poured);
         }
         assert!(rt; writer.write(b"j")? == 1);
         writer.flush()?;
-        assert_eq!(rt; writer.get_ref().taken.as_slice(), b"abcdefghij".as_slice());
-        assert_eq!(rt; writer.get_ref().flushes, 1);
+        assert_eq!(rt; writer.writer.taken.as_slice(), b"abcdefghij".as_slice());
+        assert_eq!(rt; writer.writer.flushes, 1);
         Ok(())
     }
 
@@ -322,12 +315,12 @@ mod tests {
             assert!(rt; writer.write(b"abcdefg")? == 7);
             let refused = writer.write(b"hij");
             assert!(rt; refused.is_err_and(|error| error.kind() == want));
-            assert_eq!(rt; writer.get_ref().taken.as_slice(), b"abcde".as_slice());
+            assert_eq!(rt; writer.writer.taken.as_slice(), b"abcde".as_slice());
             assert!(rt; writer.flush().is_err_and(|error| error.kind() == want));
             assert!(rt; writer.write(b"hij")? == 3);
             writer.writer.room = 99;
             writer.flush()?;
-            assert_eq!(rt; writer.get_ref().taken.as_slice(), b"abcdefghij".as_slice());
+            assert_eq!(rt; writer.writer.taken.as_slice(), b"abcdefghij".as_slice());
         }
         Ok(())
     }
