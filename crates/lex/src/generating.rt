@@ -3,13 +3,12 @@ ghost use Rattle.std.specs.Prelude.{◌≤◌};
 
 use crate::failure::Failure;
 use lexkit::{
-    BackUp, Generated, Options, Sink, Stats, Tables, ToWrite, Warning, WriteFault, generate,
-    write_backup, write_stats, write_tables, write_warnings,
+    BackUp, ByteWriter, Generated, Options, Sink, Stats, Tables, ToWrite, Warning, WriteFault,
+    generate, write_backup, write_stats, write_tables, write_warnings,
 };
-use std::alloc::AllocError;
 use std::fs::File;
 use std::io;
-use std::io::{BufWriter, Write};
+use std::io::Write;
 
 /// Where the table file goes, and what is written beside it.
 #[derive(Debug, Drop)]
@@ -82,7 +81,7 @@ fn write_table(rt: &HostRuntime, tables: &Tables, outputs: &Outputs) -> Result<(
 }
 
 fn put_table<W: Write + Drop>(rt: &HostRuntime, tables: &Tables, writer: W) -> Result<(), Failure> {
-    let mut sink = ToWrite::new(BufWriter::new(rt.alloc(), writer).map_err(|_| AllocError)?);
+    let mut sink = ToWrite::new(ByteWriter::new(rt.alloc(), writer)?);
     write_tables(tables, &mut sink)?;
     sink.flush()?;
     Ok(())
@@ -90,7 +89,7 @@ fn put_table<W: Write + Drop>(rt: &HostRuntime, tables: &Tables, writer: W) -> R
 
 fn report(rt: &HostRuntime, entries: &[BackUp]) -> Result<(), Failure> {
     let writer = created(rt, BACKUP_FILE)?;
-    let mut sink = ToWrite::new(BufWriter::new(rt.alloc(), writer).map_err(|_| AllocError)?);
+    let mut sink = ToWrite::new(ByteWriter::new(rt.alloc(), writer)?);
     write_backup(entries, &mut sink)?;
     sink.flush()?;
     Ok(())

@@ -11,10 +11,10 @@ use crate::failure::Failure;
 use crate::generating::{Outputs, make, write_warnings_of};
 use crate::reading::{read_spec_file, read_specification, read_table_file};
 use lexkit::{
-    ArgsError, FromRead, Job, Options, Sink, ToWrite, read_args, scan_spec, scan_table, write_fault,
+    ArgsError, ByteReader, ByteWriter, FromRead, Job, Options, Sink, ToWrite, read_args, scan_spec,
+    scan_table, write_fault,
 };
-use std::alloc::AllocError;
-use std::io::{BufReader, BufWriter, ErrorKind};
+use std::io::ErrorKind;
 use std::process::ExitCode;
 use std::{env, io};
 
@@ -44,12 +44,8 @@ enum By<'a> {
 
 /// Scans standard input to standard output.
 fn scan(rt: &HostRuntime, by: By<'_>) -> Result<u8, Failure> {
-    let mut source = FromRead::new(BufReader::new(rt.alloc(), rt.reader()).map_err(
-        |_| AllocError,
-    )?);
-    let mut sink = ToWrite::new(BufWriter::new(rt.alloc(), io::writer(rt)).map_err(
-        |_| AllocError,
-    )?);
+    let mut source = FromRead::new(ByteReader::new(rt.alloc(), rt.reader())?);
+    let mut sink = ToWrite::new(ByteWriter::new(rt.alloc(), io::writer(rt))?);
     let result = match by {
         By::Spec(text, fold) => {
             scan_spec(rt.alloc(), text, options_of(fold), &mut source, &mut sink)

@@ -6,3 +6,5 @@ pub mod Taking
 pub mod SourceLaws
 pub mod MemorySinks
 pub mod MemorySources
+pub mod ByteReaders
+pub mod ByteWriters

@@ -1,11 +1,16 @@
 //! The two ends of a scan: a source of bytes and a sink for them, which tell what each call gave or wrote.
 #![tactic(auto)]
 
+mod buffer;
+mod byte_reader;
+mod byte_writer;
 mod memory_sink;
 mod memory_source;
 mod sink;
 mod source;
 
+pub use byte_reader::ByteReader;
+pub use byte_writer::ByteWriter;
 pub use memory_sink::MemorySink;
 pub use memory_source::MemorySource;
 pub use sink::{Sink, ToWrite, WriteFault};

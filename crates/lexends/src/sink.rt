@@ -71,6 +71,7 @@ impl<W: Write> Sink for ToWrite<W> {
 
     ghost failures = { λ s. s.failures };
 
+    #[inline]
     fn put(&mut self, bytes: &[u8]) -> Result<(), WriteFault> {
         let mut rest = bytes;
         while !rest.is_empty() {

@@ -68,6 +68,7 @@ impl<R: Read> Source for FromRead<R> {
 
     ghost failures = { λ s. s.failures };
 
+    #[inline(always)]
     fn next(&mut self) -> Result<Option<u8>, ReadFault> {
         let mut one = [0u8; 1];
         match self.reader.read(&mut one) {

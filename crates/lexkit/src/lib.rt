@@ -19,7 +19,8 @@ pub use faults::{Fault, write_fault};
 pub use laws::file_scans;
 pub use lexauto::{BuildError, Limits};
 pub use lexends::{
-    FromRead, MemorySink, MemorySource, ReadFault, Sink, Source, ToWrite, WriteFault,
+    ByteReader, ByteWriter, FromRead, MemorySink, MemorySource, ReadFault, Sink, Source, ToWrite,
+    WriteFault,
 };
 pub use lexfile::{TableError, read_tables, write_tables};
 pub use lexreport::{BackUp, Warning, write_backup, write_warnings};
