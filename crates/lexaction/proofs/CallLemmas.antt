@@ -6,21 +6,12 @@ use Rattle.lexaction.specs.Actions.{Said, does, begin_at, begin_from, begins, cl
 use Rattle.lexaction.specs.Calls.{with_rest}
 use Rattle.lexaction.specs.Outcome.{UnlessMemory}
 use Rattle.lexaction.specs.declared.error.ActionError.{ActionError}
-use Rattle.lexaction.specs.declared.error.ActionError.TheVariants.{UnknownStatement, UnknownCondition, BadCount, BadStatus, LessAndMore, RejectCombination, NotLast, BadEofAction, Unclosed, TooLong, OutOfMemory}
+use Rattle.lexaction.specs.declared.error.ActionError.TheVariants.{OutOfMemory}
 
 -- a weaker reason
 pub unless_memory : (kind : ActionError) (P Q : Type 0) → (P → Q) → UnlessMemory kind P → UnlessMemory kind Q
 unless_memory OutOfMemory P Q f h = tt
-unless_memory UnknownStatement P Q f h = f h
-unless_memory UnknownCondition P Q f h = f h
-unless_memory BadCount P Q f h = f h
-unless_memory BadStatus P Q f h = f h
-unless_memory LessAndMore P Q f h = f h
-unless_memory RejectCombination P Q f h = f h
-unless_memory NotLast P Q f h = f h
-unless_memory BadEofAction P Q f h = f h
-unless_memory Unclosed P Q f h = f h
-unless_memory TooLong P Q f h = f h
+unless_memory _ P Q f h = f h
 
 module _ (condition : List ℕ → Option ℕ) where
   mapped : (number : Option ℕ) (rest : List ℕ) → begins condition (option_map (with_rest rest) number) ≡ option_map (with_rest rest) (option_map (λ n. does (Begin n)) number)

@@ -4,7 +4,7 @@ use Rattle.lexmeaning.specs.Spec.{EndAction, Statement}
 use Rattle.lexaction.specs.Actions.{SpellsStatements, SpellsAction, SpellsEndAction, may_stand, are_few, end_of}
 use Rattle.lexaction.specs.Outcome.{UnlessMemory}
 use Rattle.lexaction.specs.declared.error.ActionError.{ActionError}
-use Rattle.lexaction.specs.declared.error.ActionError.TheVariants.{UnknownStatement, UnknownCondition, BadCount, BadStatus, LessAndMore, RejectCombination, NotLast, BadEofAction, Unclosed, TooLong, OutOfMemory}
+use Rattle.lexaction.specs.declared.error.ActionError.TheVariants.{OutOfMemory}
 use Rattle.lexaction.proofs.CallLemmas.{unless_memory}
 use Rattle.lexaction.proofs.ActionLemmas.{SpellsNone}
 use Rattle.lexaction.proofs.OneAction.{one_statements}
@@ -12,16 +12,7 @@ use Rattle.lexaction.proofs.OneAction.{one_statements}
 -- a fact that holds in any case
 unless_of : (kind : ActionError) (P : Type 0) → P → UnlessMemory kind P
 unless_of OutOfMemory P h = tt
-unless_of UnknownStatement P h = h
-unless_of UnknownCondition P h = h
-unless_of BadCount P h = h
-unless_of BadStatus P h = h
-unless_of LessAndMore P h = h
-unless_of RejectCombination P h = h
-unless_of NotLast P h = h
-unless_of BadEofAction P h = h
-unless_of Unclosed P h = h
-unless_of TooLong P h = h
+unless_of _ P h = h
 
 no_both : {A : Type 0} → true ≡ false → A
 no_both e = absurd (no e)

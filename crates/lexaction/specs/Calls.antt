@@ -19,6 +19,11 @@ abbrev pub CallReads : {X : Type 0} → (X → Called) → (X → List ℕ) → 
 CallReads called rest (Ok x) read = read ≡ option_map (with_rest (rest x)) (said_by_call (called x))
 CallReads called rest (Err e) read = UnlessMemory e (read ≡ None)
 
+-- the same of a reader that takes no memory
+abbrev pub CallFinds : {X : Type 0} → (X → Called) → (X → List ℕ) → Option X → Option (Said × List ℕ) → Type 0
+CallFinds called rest (Some x) read = read ≡ option_map (with_rest (rest x)) (said_by_call (called x))
+CallFinds called rest None read = read ≡ None
+
 -- a condition is read if it is declared
 abbrev pub ConditionReads : {X : Type 0} → (X → Option ℕ) → (X → List ℕ) → Option X → Option (ℕ × List ℕ) → Type 0
 ConditionReads number rest (Some x) read = read ≡ option_map (with_rest (rest x)) (number x)

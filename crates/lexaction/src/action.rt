@@ -5,6 +5,7 @@ ghost use Rattle.lexaction.specs.Actions.{piece_from, SpellsStatements, SpellsAc
 ghost use Rattle.lexaction.specs.Names.{number_from, names_of};
 ghost use Rattle.lexaction.specs.Views.{statement_of, piece_of, end_action_of};
 ghost use Rattle.lexaction.specs.Outcome.{Reads, UnlessMemory};
+ghost use Rattle.lexaction.specs.Limits.{max_conditions};
 
 use crate::bytes::skip;
 use crate::calls::statement_at;
@@ -22,7 +23,7 @@ fn piece_from<'a>(
     conditions: &[Condition],
     text: &'a [u8],
 ) -> Result<(Piece, &'a [u8]), ActionError>
-    requires { length conditions.now ≤ 255 }
+    requires { length conditions.now ≤ max_conditions }
     ensures spelled { Reads (λ x. (piece_of x.0, x.1.now)) result (piece_from (number_from 0 (names_of conditions.now)) text.now) }
     ensures shorter { IfOk result (λ x. length x.1.now < length text.now) }
 {
@@ -48,7 +49,7 @@ fn read_statements(
     conditions: &[Condition],
     text: &[u8],
 ) -> Result<Vec<Statement>, ActionError>
-    requires { length conditions.now ≤ 255 }
+    requires { length conditions.now ≤ max_conditions }
     // What is read is spelled by the text.
     ensures found { IfOk result (λ ss. SpellsStatements (number_from 0 (names_of conditions.now)) text.now (map statement_of ss.items)) }
     // What is refused spells no statements, unless memory ran out.
@@ -89,7 +90,7 @@ pub fn read_action(
     conditions: &[Condition],
     text: &[u8],
 ) -> Result<Vec<Statement>, ActionError>
-    requires { length conditions.now ≤ 255 }
+    requires { length conditions.now ≤ max_conditions }
     // What is read is spelled by the text.
     ensures found { IfOk result (λ ss. SpellsAction (number_from 0 (names_of conditions.now)) text.now (map statement_of ss.items)) }
     // What is refused is no action, unless memory ran out.
@@ -107,7 +108,7 @@ pub fn read_end_action(
     conditions: &[Condition],
     text: &[u8],
 ) -> Result<EndAction, ActionError>
-    requires { length conditions.now ≤ 255 }
+    requires { length conditions.now ≤ max_conditions }
     // What is read is spelled by the text.
     ensures found { IfOk result (λ e. SpellsEndAction (number_from 0 (names_of conditions.now)) text.now (end_action_of e)) }
     // What is refused is no end action, unless memory ran out.

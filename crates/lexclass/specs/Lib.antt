@@ -1,8 +1,10 @@
 pub mod ClassSets
 pub mod Classes
 pub mod Elements
+pub mod Faults
 pub mod Halves
 pub mod Lexical
+pub mod Limits
 pub mod Passing
 pub mod Stops
 pub mod Symbols

@@ -12,13 +12,13 @@ mod section;
 mod skipped;
 mod skipping;
 
-pub use declarations::{Declarations, number_of};
+pub use declarations::{Declarations, MAX_CONDITIONS};
 pub use error::{SpecError, SpecErrorKind};
 pub use laws::examples_of_lines;
 pub use lines::{
     is_all_blank, is_blank, skip_blanks, split_before, split_line, starts_blank, without_returns,
 };
-pub use newlines::newlines_before;
+pub use newlines::{MAX_FILE_BYTES, newlines_before};
 pub use section::{Section, read_section};
 pub use skipped::Skipped;
 pub use skipping::skip_block;

@@ -5,6 +5,7 @@ ghost use Rattle.lexlines.specs.DefinitionLines.{Definition as Meant, definition
 ghost use Rattle.lexlines.specs.Declaring.{AreAllowed};
 ghost use Rattle.lexlines.specs.Sections.{HasSection, kind_told};
 ghost use Rattle.lexlines.specs.Outcome.{UnlessMemory};
+ghost use Rattle.lexlines.specs.Limits.{max_file_bytes};
 
 use crate::declarations::Declarations;
 use crate::definition::{DefinitionFault, definition_at};
@@ -26,7 +27,7 @@ pub struct Section<'a> {
 /// The definitions section, up to a line that begins with `%%`. `fold` says whether patterns ignore case without an
 /// option. The first faulty line is refused; without a `%%` it is the line after the last, as `NoRulesSection`.
 pub fn read_section(alloc: Global, text: &[u8], fold: bool) -> Result<Section<'_>, SpecError>
-    requires { length text.now ≤ 1048576 }
+    requires { length text.now ≤ max_file_bytes }
     ensures found { IfOk result (λ s. HasSection fold text.now s) }
     ensures none { IfErr result (λ e. UnlessMemory e.kind ((ds : List Meant) (after : List ℕ) → IsUpTo definition_at text.now ds after
         → begins (codes "%%") after ≡ true → AreAllowed ds → ⊥)) }

@@ -4,6 +4,7 @@ use Rattle.lexmeaning.specs.Shapes.{nodes}
 use Rattle.lexclass.specs.Symbols.{Symbol, item}
 use Rattle.lexclass.specs.declared.error.PatternErrorKind.{PatternErrorKind}
 use Rattle.lexclass.specs.declared.error.PatternErrorKind.TheVariants.{OutOfMemory}
+use Rattle.lexre.specs.Limits.{max_nodes}
 
 -- the fact, unless memory ran out
 abbrev pub UnlessMemory : PatternErrorKind → Type 0 → Type 0
@@ -17,4 +18,4 @@ size_of _ = 0
 
 -- what begins a text is no symbol, or one that has too many nodes by itself
 abbrev pub IsRefused : Option (Symbol × List ℕ) → Type 0
-IsRefused front = (s : Symbol) (rest : List ℕ) → ◌≡◌ {A = Option (Symbol × List ℕ)} front (Some (s, rest)) → 65536 < size_of s
+IsRefused front = (s : Symbol) (rest : List ℕ) → ◌≡◌ {A = Option (Symbol × List ℕ)} front (Some (s, rest)) → max_nodes < size_of s

@@ -6,8 +6,8 @@ use Rattle.std.specs.Prelude.{Result, Ok, Err, OnErr, IfOk, IfErr, Vec, option_m
 use Rattle.lexre.specs.Views.{tree_of}
 use Rattle.lexspec.specs.RuleViews.{cut_of}
 use Rattle.lexspec.specs.declared.rule.Rule.{Rule}
-use Rattle.lexspec.specs.declared.item.RuleText.{RuleText}
-use Rattle.lexspec.specs.declared.item.Front.TheVariants as F
+use Rattle.lexspec.specs.declared.rule_text.RuleText.{RuleText}
+use Rattle.lexspec.specs.declared.rule_text.Front.TheVariants as F
 use Rattle.lexre.specs.Spelling.{Spells}
 use Rattle.lexaction.specs.Names.{number_from, names_of}
 use Rattle.lexaction.specs.declared.condition.Condition.{Condition}
