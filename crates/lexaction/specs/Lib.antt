@@ -1,4 +1,5 @@
 pub mod Actions
+pub mod ActionFaults
 pub mod Bytes
 pub mod Calls
 pub mod Comments

@@ -4,11 +4,11 @@ ghost use Rattle.lexmeaning.specs.Spec.{has_reject};
 ghost use Rattle.lexmeaning.specs.Legal.{is_less, is_more, ends_action, count_less, has_less, has_more, ends_last};
 ghost use Rattle.lexaction.specs.Statements.{literal_bytes};
 ghost use Rattle.lexaction.specs.Actions.{are_few, may_stand};
-ghost use Rattle.lexaction.specs.Outcome.{IsTogetherFault};
+ghost use Rattle.lexaction.specs.ActionFaults.{IsTogetherFault};
 ghost use Rattle.lexaction.specs.Views.{statement_of};
 ghost use Rattle.lexaction.specs.Limits.{max_literal_bytes};
 
-use crate::error::ActionError;
+use lexclass::SpecErrorKind;
 use lexmachine::{Statement, has_reject};
 
 /// The greatest count of statements in an action.
@@ -88,7 +88,7 @@ pub(crate) fn are_few(statements: &[Statement]) -> bool
 
 /// Whether these statements may be the action of a rule, and else the first fault.
 #[tactic(auto, using(crate::proofs::LegalLemmas::too_many, crate::proofs::LegalLemmas::less_and_more, crate::proofs::LegalLemmas::less_twice, crate::proofs::LegalLemmas::reject_with, crate::proofs::LegalLemmas::not_last, crate::proofs::LegalLemmas::may_stand_is))]
-pub(crate) fn check(statements: &[Statement]) -> Result<(), ActionError>
+pub(crate) fn check(statements: &[Statement]) -> Result<(), SpecErrorKind>
     ensures ok { OnOk result (may_stand (map statement_of statements.now) ≡ true) }
     ensures err { OnErr result (may_stand (map statement_of statements.now) ≡ false) }
     ensures fault { IfErr result (λ e. IsTogetherFault e) }
@@ -96,19 +96,19 @@ pub(crate) fn check(statements: &[Statement]) -> Result<(), ActionError>
     let more = has_more(statements);
     let less = has_less(statements);
     if !are_few(statements) {
-        return Err(ActionError::TooLong);
+        return Err(SpecErrorKind::TooLong);
     }
     if less && more {
-        return Err(ActionError::LessAndMore);
+        return Err(SpecErrorKind::LessAndMore);
     }
     if count_less(statements) > 1 {
-        return Err(ActionError::LessAndMore);
+        return Err(SpecErrorKind::LessAndMore);
     }
     if has_reject(statements) && (more || less) {
-        return Err(ActionError::RejectCombination);
+        return Err(SpecErrorKind::RejectCombination);
     }
     if !ends_last(statements) {
-        return Err(ActionError::NotLast);
+        return Err(SpecErrorKind::NotLast);
     }
     Ok(())
 }

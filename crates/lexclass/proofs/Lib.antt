@@ -12,3 +12,4 @@ pub mod SetLaws
 pub mod PassingLaws
 pub mod EndLaws
 pub mod MemberLaws
+pub mod MemoryLaws

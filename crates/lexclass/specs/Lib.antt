@@ -5,6 +5,8 @@ pub mod Faults
 pub mod Halves
 pub mod Lexical
 pub mod Limits
+pub mod Memory
 pub mod Passing
+pub mod PatternMemory
 pub mod Stops
 pub mod Symbols

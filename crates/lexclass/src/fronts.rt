@@ -1,13 +1,14 @@
-//! Runs of bytes at the front of a text.
-ghost use Rattle.std.specs.Prelude.{◌≡◌, ℕ, ◌<◌, Bool, List, drop, option_map};
+//! What stands at the front of a text.
+ghost use Rattle.std.specs.Prelude.{◌≡◌, ℕ, ◌<◌, ◌++◌, Bool, List, drop, option_map};
 ghost use Rattle.lexmeaning.specs.Reading.{take_up_to};
 ghost use Rattle.lexclass.specs.Lexical.{after_word};
 
-/// The bytes at the front that pass the test, at most so many, and what follows them.
+/// The bytes at the front that pass the test, at most `limit` of them, and what follows.
 pub fn take_up_to<F: Fn(u8) -> bool>(limit: usize, test: F, text: &[u8]) -> (&[u8], &[u8])
     requires { F.IsAlwaysCallable test }
-    ensures { (p : ℕ → Bool) → ((b : ℕ) (r : Bool) → b < 256 → F.post test b r → r ≡ p b)
+    ensures front { (p : ℕ → Bool) → ((b : ℕ) (r : Bool) → b < 256 → F.post test b r → r ≡ p b)
         → ◌≡◌ {A = List ℕ × List ℕ} (take_up_to limit p text.now) (result.0.now, result.1.now) }
+    ensures whole { result.0.now ++ result.1.now ≡ text.now }
 {
     for (i, byte) in text.iter().enumerate() {
         if i == limit || !test(*byte) {

@@ -13,6 +13,7 @@ mod fronts;
 mod names;
 mod parts;
 mod passing;
+mod refusals;
 mod sets;
 
 pub use brackets::{class_byte_at, find_stop, named_at, next_stop, skip_unsupported};
@@ -26,4 +27,5 @@ pub use fronts::{skip_first, skip_word, take_up_to};
 pub use names::{goes_on_name, split_name, starts_name};
 pub use parts::Part;
 pub use passing::skip_class;
+pub use refusals::{SpecError, SpecErrorKind};
 pub use sets::ByteSet;

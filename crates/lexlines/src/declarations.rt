@@ -7,10 +7,10 @@ ghost use Rattle.lexlines.specs.Declaring.{declared_of, with_kind, AreGood, AreA
 ghost use Rattle.lexlines.specs.Outcome.{UnlessMemory};
 
 use crate::definition::Definition;
-use crate::error::SpecErrorKind;
 use crate::lines::next_word;
 use crate::skipped::Skipped;
 use lexaction::{Condition, EndAction, number_of};
+use lexclass::SpecErrorKind;
 use lexre::{Defs, DefsError};
 use std::alloc::{AllocError, Global};
 

@@ -4,7 +4,6 @@
 
 mod declarations;
 mod definition;
-mod error;
 mod laws;
 mod lines;
 mod newlines;
@@ -13,8 +12,8 @@ mod skipped;
 mod skipping;
 
 pub use declarations::{Declarations, MAX_CONDITIONS};
-pub use error::{SpecError, SpecErrorKind};
 pub use laws::examples_of_lines;
+pub use lexclass::{SpecError, SpecErrorKind};
 pub use lines::{
     is_all_blank, is_blank, skip_blanks, split_before, split_line, starts_blank, without_returns,
 };

@@ -69,7 +69,7 @@ fn faults_of_definitions(rt: HostRuntime) -> Result<(), Fail> {
     Ok(())
 }
 
-/// A line that declares so many conditions, and then others.
+/// A line that declares `count` conditions, and then others.
 fn many_conditions(alloc: Global, count: u32, others: &str) -> Result<String, AllocError> {
     let mut text = String::new(alloc);
     text.push_str("%x")?;
@@ -140,7 +140,7 @@ fn lines_and_blanks(rt: HostRuntime) {
     assert!(rt; skip_block(b"a\n".as_slice()).is_none());
 }
 
-/// A run of code lines is told once, a block always.
+/// A run of code lines is reported once, and each block by itself.
 #[test]
 fn skipped_lines(rt: HostRuntime) -> Result<(), Fail> {
     let mut skipped = Skipped::new(rt.alloc());

@@ -1,15 +1,9 @@
--- What a refusal tells.
-use Rattle.std.specs.Prelude.{◌≡◌, ℕ, ◌<◌, List, Option, Some, ⊤}
+-- What a refusal means.
+use Rattle.std.specs.Prelude.{◌≡◌, ℕ, ◌<◌, List, Option, Some}
 use Rattle.lexmeaning.specs.Shapes.{nodes}
 use Rattle.lexclass.specs.Symbols.{Symbol, item}
-use Rattle.lexclass.specs.declared.error.PatternErrorKind.{PatternErrorKind}
-use Rattle.lexclass.specs.declared.error.PatternErrorKind.TheVariants.{OutOfMemory}
+pub use Rattle.lexclass.specs.PatternMemory.{UnlessMemory}
 use Rattle.lexre.specs.Limits.{max_nodes}
-
--- the fact, unless memory ran out
-abbrev pub UnlessMemory : PatternErrorKind → Type 0 → Type 0
-UnlessMemory OutOfMemory P = ⊤
-UnlessMemory _ P = P
 
 -- how many nodes the tree of a symbol has
 abbrev pub size_of : Symbol → ℕ

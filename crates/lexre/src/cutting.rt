@@ -45,7 +45,7 @@ struct CuttingSoFar {
 /// Where the pattern of a rule that begins the text ends: at the first blank or newline outside quotes, classes and
 /// escapes, or at the end of the text. Offsets are from 0. What is wrong inside a class is passed over.
 ///
-/// The first fault from the left is told: `UnclosedQuote` and `UnclosedClass` at the opening sign, `BadEscape` at the
+/// The first fault from the left is reported: `UnclosedQuote` and `UnclosedClass` at the opening sign, `BadEscape` at the
 /// backslash, and `MisplacedSlash` at a `/` inside parentheses. A `)` with none open counts for nothing.
 pub fn cut_pattern(text: &[u8]) -> Result<Cutting, PatternError>
     ensures found { IfOk result (λ c. IsCutting text.now c.end c.slash c.two c.dollar) }

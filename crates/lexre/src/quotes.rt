@@ -13,7 +13,7 @@ use crate::pattern::Pattern;
 use lexclass::{ByteSet, Fault, PatternErrorKind, escape_at, folded, literal_byte_at};
 use std::alloc::Global;
 
-/// A series of so many bytes has as many nodes as a pattern may have.
+/// The most bytes of a text in quotes: their series has as many nodes as a pattern may have.
 const MAX_QUOTED_BYTES: usize = 65_535;
 
 /// What follows a text in quotes. The text handed in begins with the first quote, at which a quote that no other closes is

@@ -25,10 +25,10 @@ use crate::symbols::Symbol;
 use lexclass::{Class, Fault, PatternError, PatternErrorKind};
 use std::alloc::Global;
 
-/// So many parentheses and names may be open at one place.
+/// The most parentheses and names that may be open at one place.
 const MAX_OPEN: u8 = 64;
 
-/// So many nodes a pattern may have.
+/// The most nodes of a pattern.
 const MAX_NODES: u64 = 65_536;
 
 /// How a pattern is read.

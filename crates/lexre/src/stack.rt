@@ -20,7 +20,7 @@ use lexclass::{PatternError, PatternErrorKind};
 use std::alloc::Global;
 use std::mem;
 
-/// So many signs may stand on one item.
+/// The most signs that may stand on one item.
 const MAX_SIGNS: u8 = 64;
 
 /// The pattern of a series: a part alone is itself.
@@ -85,7 +85,7 @@ impl Frame {
 }
 
 impl Stack {
-    /// Nothing read, and so many parentheses and names that may be opened.
+    /// Nothing read yet. `left` is how many parentheses and names may be opened.
     pub(crate) fn new(alloc: Global, left: u8) -> Stack
         requires { left ≤ max_open }
         ensures { state_of result ≡ state fresh [] left }
@@ -206,7 +206,7 @@ impl Stack {
         Ok(1)
     }
 
-    /// What is told of a symbol that stands at this place: too many nodes at the item that brings them.
+    /// The fault of a symbol that stands at this place. Too many nodes are reported at the item that brings them.
     pub(crate) fn fault(&self, kind: PatternErrorKind, at: usize) -> PatternError
         ensures { result.kind ≡ kind }
     {

@@ -17,9 +17,9 @@ use Rattle.lexmeaning.specs.Sound.{IsCutOf}
 use Rattle.lexspec.specs.RuleItems.{numbers_of, IsTrail}
 use Rattle.lexspec.specs.ItemReads.{names_in, NoRules, NoSides, ReadsFront, ReadsItem}
 use Rattle.lexlines.specs.declared.declarations.Declarations.{Declarations}
-use Rattle.lexlines.specs.declared.error.SpecErrorKind.{SpecErrorKind}
+use Rattle.lexclass.specs.declared.refusals.SpecErrorKind.{SpecErrorKind}
 use Rattle.lexlines.specs.Outcome.{UnlessMemory}
-use Rattle.lexlines.proofs.OutcomeLaws.{unless_memory, always}
+use Rattle.lexclass.proofs.MemoryLaws.{unless_memory, always}
 use Rattle.lexspec.proofs.RulesLaws.{no_list, no_numbers, no_subject, no_head, no_action, tree_once}
 use Rattle.lexspec.proofs.OneSpec.{one_trail}
 use Rattle.lexmeaning.specs.Spec.{Cut}

@@ -22,15 +22,15 @@ use Rattle.lexspec.specs.RuleViews.{rule_of}
 use Rattle.lexlines.specs.Outcome.{UnlessMemory}
 use Rattle.lexspec.specs.Tests.{is_sound}
 use Rattle.lexspec.specs.Views.{spec_of}
-use Rattle.lexlines.specs.declared.error.SpecError.{SpecError}
-use Rattle.lexlines.specs.declared.error.SpecErrorKind.{SpecErrorKind}
+use Rattle.lexclass.specs.declared.refusals.SpecError.{SpecError}
+use Rattle.lexclass.specs.declared.refusals.SpecErrorKind.{SpecErrorKind}
 use Rattle.lexspec.specs.declared.spec.Spec.{Spec as SpecOfCode}
 use Rattle.lexlines.specs.declared.declarations.Declarations.{Declarations}
 use Rattle.lexspec.specs.declared.rules_section.RulesSection.{RulesSection}
 use Rattle.lexlines.specs.declared.section.Section.{Section}
 use Rattle.lexlines.proofs.DeclaringLaws.{names_kept}
 use Rattle.lexlines.proofs.OneSection.{separator_ends, one_up_to}
-use Rattle.lexlines.proofs.OutcomeLaws.{unless_memory}
+use Rattle.lexclass.proofs.MemoryLaws.{unless_memory}
 use Rattle.lexspec.proofs.PassLaws.{kept_passes, length_with}
 use Rattle.lexspec.proofs.RestLaws.{newlines_few}
 use Rattle.lexlines.proofs.SectionLaws.{EndsWith, ends_on, definition_ends}

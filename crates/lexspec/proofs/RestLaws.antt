@@ -19,14 +19,14 @@ use Rattle.lexmeaning.specs.Sound.{HaveSoundSides}
 use Rattle.lexspec.specs.RulesReads.{HasRules, NoSuchRules}
 use Rattle.lexlines.specs.Outcome.{UnlessMemory}
 use Rattle.lexlines.specs.declared.declarations.Declarations.{Declarations}
-use Rattle.lexlines.specs.declared.error.SpecError.{SpecError}
-use Rattle.lexlines.specs.declared.error.SpecErrorKind.{SpecErrorKind}
+use Rattle.lexclass.specs.declared.refusals.SpecError.{SpecError}
+use Rattle.lexclass.specs.declared.refusals.SpecErrorKind.{SpecErrorKind}
 use Rattle.lexspec.specs.declared.rule.Rule.{Rule}
 use Rattle.lexspec.specs.declared.rules_section.RulesSection.{RulesSection}
 use Rattle.lexspec.specs.declared.rules_so_far.RulesSoFar.{RulesSoFar}
 use Rattle.lexlines.proofs.OneSection.{no_true}
 use Rattle.lexspec.proofs.OneItems.{no_item_at_end}
-use Rattle.lexlines.proofs.OutcomeLaws.{unless_memory, always}
+use Rattle.lexclass.proofs.MemoryLaws.{unless_memory, always}
 use Rattle.lexspec.proofs.RulesLaws.{agree_first}
 use Rattle.lexspec.specs.Limits.{max_rules}
 

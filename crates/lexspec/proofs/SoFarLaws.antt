@@ -6,9 +6,6 @@ use Rattle.lexmeaning.specs.Spec as S
 use Rattle.lexaction.specs.Names.{number_from, names_of}
 use Rattle.lexaction.specs.Views.{end_action_of}
 use Rattle.lexaction.specs.Actions.{SpellsAction, SpellsEndAction}
-use Rattle.lexaction.specs.Outcome as A
-use Rattle.lexaction.specs.declared.error.ActionError.{ActionError}
-use Rattle.lexaction.specs.declared.error.ActionError.TheVariants as AK
 use Rattle.lexaction.specs.declared.condition.Condition.{Condition}
 use Rattle.lexmeaning.specs.Reading.{begins}
 use Rattle.lexspec.specs.Items.{Action, bar, spelled, at_end, matching, rule, action_of, IsItem}
@@ -22,31 +19,16 @@ use Rattle.lexspec.specs.Agreeing.{Agrees, GoesOn}
 use Rattle.lexspec.specs.Endings.{numbers_kept}
 use Rattle.lexspec.specs.Files.{AreSingle}
 use Rattle.lexspec.specs.Tests.{sound_list}
-use Rattle.lexspec.specs.ActionFaults.{told_of}
+use Rattle.lexclass.proofs.MemoryLaws.{unless_memory}
 use Rattle.lexlines.specs.Outcome.{UnlessMemory}
 use Rattle.lexlines.specs.declared.declarations.Declarations.{Declarations}
 use Rattle.lexspec.specs.declared.rule_text.Front.TheVariants as F
 use Rattle.lexspec.specs.declared.endings.EndRule.{EndRule as EndRuleKept}
 use Rattle.lexspec.specs.declared.rule.Rule.{Rule}
 use Rattle.lexspec.specs.declared.rules_so_far.RulesSoFar.{RulesSoFar}
-use Rattle.lexlines.specs.declared.error.SpecErrorKind.{SpecErrorKind}
+use Rattle.lexclass.specs.declared.refusals.SpecErrorKind.{SpecErrorKind}
 use Rattle.lexspec.proofs.EndingLaws.{numbers_ordered}
 use Rattle.lexspec.proofs.RulesLaws.{Agree, end_on, agree_end, agree_rule, agree_bar, ActsAs, IsSpelled, acts_of}
-
--- the faults of actions
-
-told_unless : (fault : ActionError) (P Q : Type 0) → (P → Q) → A.UnlessMemory fault P → UnlessMemory (told_of fault) Q
-told_unless AK.OutOfMemory P Q f h = tt
-told_unless AK.UnknownStatement P Q f h = f h
-told_unless AK.UnknownCondition P Q f h = f h
-told_unless AK.BadCount P Q f h = f h
-told_unless AK.BadStatus P Q f h = f h
-told_unless AK.LessAndMore P Q f h = f h
-told_unless AK.RejectCombination P Q f h = f h
-told_unless AK.NotLast P Q f h = f h
-told_unless AK.BadEofAction P Q f h = f h
-told_unless AK.Unclosed P Q f h = f h
-told_unless AK.TooLong P Q f h = f h
 
 -- an action is a bar, or its text
 
@@ -90,13 +72,12 @@ module _ (d : Declarations) where
       (rule_of r) ss (subst (λ z. IsItem t (rule h.asked (matching h.anchored h.head h.after) z) rest) is h.item) h.has_head
       (subst (λ z. SpellsAction (number_from 0 (names_of z)) action ss) same acts) (to start whole s n t a))
 
-  pub rule_refused : (r : Rule) (action : List ℕ) (fault : ActionError) (kind : SpecErrorKind) (cs : List Condition) (s : RulesSoFar) → action_of action ≡ spelled action
-      → cs ≡ d.conditions.items → kind ≡ told_of fault → A.UnlessMemory fault ((ss : List S.Statement) → SpellsAction (number_from 0 (names_of cs)) action ss → ⊥)
+  pub rule_refused : (r : Rule) (action : List ℕ) (kind : SpecErrorKind) (cs : List Condition) (s : RulesSoFar) → action_of action ≡ spelled action
+      → cs ≡ d.conditions.items → UnlessMemory kind ((ss : List S.Statement) → SpellsAction (number_from 0 (names_of cs)) action ss → ⊥)
       → UnlessMemory kind (NoRulesAfter d s (F.Matching r) action)
-  rule_refused r action fault kind cs s is same told none =
-      subst (λ k. UnlessMemory k (NoRulesAfter d s (F.Matching r) action)) (sym told)
-      (told_unless fault ((ss : List S.Statement) → SpellsAction (number_from 0 (names_of cs)) action ss → ⊥) (NoRulesAfter d s (F.Matching r) action) (λ none_is n t rest R E reads left may.
-      act none_is (acting_here n t rest R E reads left)) none)
+  rule_refused r action kind cs s is same none =
+      unless_memory kind ((ss : List S.Statement) → SpellsAction (number_from 0 (names_of cs)) action ss → ⊥) (NoRulesAfter d s (F.Matching r) action) (λ none_is n t rest R E reads left may.
+      act none_is (acting_here n t rest R E reads left)) none
     where
       acting_here : (n : ℕ) (t rest : List ℕ) (R : List S.Rule) (E : List EndRule) → ReadsFront d n t action rest (F.Matching r) → Left (names_in d) d.fold d.defs n t (map rule_of s.waiting.items) R E
           → IsSpelled (names_in d) d.fold d.defs (spelled action)
@@ -130,13 +111,12 @@ module _ (d : Declarations) where
       (subst (λ z. SpellsEndAction (number_from 0 (names_of z)) action (end_action_of e.action)) same acts)
       (subst (λ z. Now start whole (map rule_of s.rules.items) (map end_rule_of s.ends.items) z n t) none (to start whole s n t a)))
 
-  pub end_refused : (numbers : Option (Vec ℕ Global)) (action : List ℕ) (fault : ActionError) (kind : SpecErrorKind) (cs : List Condition) (s : RulesSoFar) → action_of action ≡ spelled action
-      → cs ≡ d.conditions.items → kind ≡ told_of fault
-      → A.UnlessMemory fault ((e : S.EndAction) → SpellsEndAction (number_from 0 (names_of cs)) action e → ⊥) → UnlessMemory kind (NoRulesAfter d s (F.AtEnd numbers) action)
-  end_refused numbers action fault kind cs s is same told none =
-      subst (λ k. UnlessMemory k (NoRulesAfter d s (F.AtEnd numbers) action)) (sym told)
-      (told_unless fault ((e : S.EndAction) → SpellsEndAction (number_from 0 (names_of cs)) action e → ⊥) (NoRulesAfter d s (F.AtEnd numbers) action) (λ none_is n t rest R E reads left may.
-      act none_is (subst (ActsAs (names_in d) d.fold d.defs (map rule_of s.waiting.items) at_end) is (end_acts numbers action n t rest (map rule_of s.waiting.items) R E reads left))) none)
+  pub end_refused : (numbers : Option (Vec ℕ Global)) (action : List ℕ) (kind : SpecErrorKind) (cs : List Condition) (s : RulesSoFar) → action_of action ≡ spelled action
+      → cs ≡ d.conditions.items
+      → UnlessMemory kind ((e : S.EndAction) → SpellsEndAction (number_from 0 (names_of cs)) action e → ⊥) → UnlessMemory kind (NoRulesAfter d s (F.AtEnd numbers) action)
+  end_refused numbers action kind cs s is same none =
+      unless_memory kind ((e : S.EndAction) → SpellsEndAction (number_from 0 (names_of cs)) action e → ⊥) (NoRulesAfter d s (F.AtEnd numbers) action) (λ none_is n t rest R E reads left may.
+      act none_is (subst (ActsAs (names_in d) d.fold d.defs (map rule_of s.waiting.items) at_end) is (end_acts numbers action n t rest (map rule_of s.waiting.items) R E reads left))) none
     where
       act : ((e : S.EndAction) → SpellsEndAction (number_from 0 (names_of cs)) action e → ⊥) → ActsAs (names_in d) d.fold d.defs (map rule_of s.waiting.items) at_end (spelled action) → ⊥
       act none_is (empty, e, spells) = none_is e (subst (λ z. SpellsEndAction (number_from 0 (names_of z)) action e) (sym same) spells)

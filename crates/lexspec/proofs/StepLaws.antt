@@ -10,7 +10,7 @@ use Rattle.lexspec.specs.Agreeing.{Agrees}
 use Rattle.lexspec.specs.SkipViews.{item_of}
 use Rattle.lexlines.specs.Outcome.{UnlessMemory}
 use Rattle.lexlines.specs.declared.declarations.Declarations.{Declarations}
-use Rattle.lexlines.specs.declared.error.SpecErrorKind.{SpecErrorKind}
+use Rattle.lexclass.specs.declared.refusals.SpecErrorKind.{SpecErrorKind}
 use Rattle.lexspec.specs.declared.rule_text.Front.{Front}
 use Rattle.lexspec.specs.declared.rule_text.Front.TheVariants as F
 use Rattle.lexspec.specs.declared.rule_text.RuleText.{RuleText}
@@ -19,7 +19,7 @@ use Rattle.lexspec.specs.declared.skips.Skip.TheVariants.{Blank, Code, Block}
 use Rattle.lexspec.specs.declared.rules_so_far.RulesSoFar.{RulesSoFar}
 use Rattle.lexlines.proofs.OneSection.{no_true, some_pair}
 use Rattle.lexspec.proofs.OneItems.{both_ways}
-use Rattle.lexlines.proofs.OutcomeLaws.{unless_memory, always}
+use Rattle.lexclass.proofs.MemoryLaws.{unless_memory, always}
 use Rattle.lexlines.proofs.SectionLaws.{EndsWith, ends_on, each_some, each_none, each_if, newlines_front}
 use Rattle.lexspec.proofs.EndLaws.{Ends, action_ends, blanks_end, conditions_end, subject_ends, item_ends}
 use Rattle.lexspec.proofs.RulesLaws.{agree_plain, is_plain}

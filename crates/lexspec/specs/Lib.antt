@@ -10,7 +10,6 @@ pub mod SubjectViews
 pub mod SubjectFaults
 pub mod RuleReads
 pub mod ItemReads
-pub mod ActionFaults
 pub mod Agreeing
 pub mod SkipViews
 pub mod RulesReads

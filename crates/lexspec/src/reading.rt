@@ -6,7 +6,7 @@ ghost use Rattle.lexlines.specs.Outcome.{UnlessMemory};
 ghost use Rattle.lexspec.specs.Readings.{has_text, of_sections, SpellsRest};
 ghost use Rattle.lexspec.specs.Tests.{is_sound};
 ghost use Rattle.lexspec.specs.Views.{spec_of};
-ghost use Rattle.lexlines.specs.declared.error.SpecErrorKind.TheVariants.{OutOfMemory};
+ghost use Rattle.lexclass.specs.declared.refusals.SpecErrorKind.TheVariants.{OutOfMemory};
 ghost use Rattle.lexaction.specs.Limits.{max_conditions};
 ghost use Rattle.lexlines.specs.Limits.{max_file_bytes};
 
@@ -78,7 +78,7 @@ fn read_on(alloc: Global, section: Section<'_>) -> Result<Spec, SpecError>
 }
 
 /// The specification that a file spells. `fold` says whether letters of patterns stand for both cases without an option.
-/// The first faulty line is refused, and a rule by the line of its pattern; `TooLong` of the whole file is told of line 0.
+/// The first faulty line is reported, for a rule that of its pattern; `TooLong` of the whole file is reported at line 0.
 pub fn read_spec(alloc: Global, text: &[u8], options: ReadOptions) -> Result<Spec, SpecError>
     ensures found { IfOk result (λ s. SpellsSpec options.fold text.now (spec_of s)) }
     ensures none { IfErr result (λ e. UnlessMemory e.kind ((S : Meant) → SpellsSpec options.fold text.now S → ⊥)) }

@@ -14,7 +14,7 @@ ghost use Rattle.lexspec.specs.ItemReads.{NoRules, NoSides, ReadsItem};
 ghost use Rattle.lexspec.specs.SoundSides.{HasSoundFront};
 ghost use Rattle.lexmeaning.specs.Sound.{AreSoundSides};
 ghost use Rattle.lexlines.specs.Outcome.{UnlessMemory};
-ghost use Rattle.lexlines.specs.declared.error.SpecErrorKind.TheVariants.{Unclosed};
+ghost use Rattle.lexclass.specs.declared.refusals.SpecErrorKind.TheVariants.{Unclosed};
 ghost use Rattle.lexaction.specs.Limits.{max_conditions};
 
 use crate::action_text::split_action;
@@ -124,7 +124,7 @@ fn read_sides(
     }
 }
 
-/// The rule that begins a text, at the line with this number. Its faults are told in this order: `UnknownCondition`,
+/// The rule that begins a text, at the line with this number. Its faults are reported in this order: `UnknownCondition`,
 /// `BadEofRule`, `Pattern` of the cutting, `TwoTrailing`, `Pattern` of the head and of the trailing context,
 /// `VariableTrailing`, `Unclosed`.
 pub(crate) fn read_rule_text<'a>(
@@ -179,7 +179,7 @@ pub(crate) fn read_rule_text<'a>(
     }
 }
 
-/// The rule with the action that follows its pattern. `Unclosed` is told of an action that is left open.
+/// The rule with the action that follows its pattern. An action that is left open is `Unclosed`.
 fn with_action(front: Front, after: &[u8]) -> Result<RuleText<'_>, SpecErrorKind>
     ensures front { IfOk result (λ x. x.front ≡ front) }
     ensures action { IfOk result (λ x. ◌≡◌ {A = Option (List ℕ × List ℕ)} (action_in outside 0 (after_blanks after.now)) (Some (x.action.now, x.rest.now))) }

@@ -10,7 +10,7 @@ ghost use Rattle.lexspec.specs.EndOpenings.{begins_end};
 ghost use Rattle.lexspec.specs.RulesReads.{HasRules, NoSuchRules, line_of_last};
 ghost use Rattle.lexlines.specs.Outcome.{UnlessMemory};
 ghost use Rattle.lexlines.specs.Skips.{next_in};
-ghost use Rattle.lexlines.specs.declared.error.SpecErrorKind.TheVariants.{DanglingBar};
+ghost use Rattle.lexclass.specs.declared.refusals.SpecErrorKind.TheVariants.{DanglingBar};
 ghost use Rattle.lexaction.specs.Limits.{max_conditions};
 ghost use Rattle.lexlines.specs.Limits.{max_file_bytes};
 ghost use Rattle.lexspec.specs.Limits.{max_rules};
@@ -48,7 +48,7 @@ fn begins_end(text: &[u8]) -> bool
     }
 }
 
-/// Takes what is skipped at a line of the rules section.
+/// Keeps the line of what is skipped there, if it is code.
 fn add_skip(skipped: &mut Skipped, skip: Skip, line: u32) -> Result<(), AllocError>
     requires { line + 1 < 2 ^ 32 }
     ensures { OnOk result (skipped.new.lines.items ≡ lines_with skip (next_in skipped.old) line skipped.old.lines.items) }
@@ -75,8 +75,8 @@ impl RulesSoFar {
     }
 
     /// The rules with that of the item that begins a text, at the line with this number, and what follows the item.
-    /// `Unclosed` is told of a block that is left open, `DanglingBar` of an `<<EOF>>` rule where others wait for its
-    /// action, and `TooManyRules` of another where there are 4,096; the other faults are those of a rule.
+    /// A block that is left open is `Unclosed`, an `<<EOF>>` rule for whose action others wait is a `DanglingBar`, and
+    /// another rule where there may be no more is `TooManyRules`; the other faults are those of a rule.
     pub(crate) fn with_item<'a>(
         self,
         alloc: Global,
@@ -133,7 +133,8 @@ impl RulesSoFar {
         }
     }
 
-    /// The rules of a section that ends with this rest, at this line. `DanglingBar` is told of the last rule that waits.
+    /// The rules of a section that ends with this rest, at this line. If rules still wait for an
+    /// action, the last of them is a `DanglingBar`.
     fn ended(self, rest: &[u8], line: u32) -> Result<RulesSection<'_>, SpecError>
         ensures waiting { IfOk result (λ s. length self.waiting.items ≡ 0) }
         ensures rules { IfOk result (λ s. s.rules.items ≡ self.rules.items) }

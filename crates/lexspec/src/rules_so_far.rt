@@ -12,7 +12,7 @@ use crate::action_text::is_bar;
 use crate::endings::{EndRule, may_join};
 use crate::rule::Rule;
 use crate::rule_text::{Front, RuleText};
-use crate::statements::{finished, told};
+use crate::statements::finished;
 use lexaction::{read_action, read_end_action};
 use lexlines::{Declarations, SpecErrorKind};
 use std::alloc::Global;
@@ -63,7 +63,7 @@ impl RulesSoFar {
                     ends,
                 })
             }
-            Err(fault) => Err(told(fault)),
+            Err(kind) => Err(kind),
         }
     }
 
@@ -97,7 +97,7 @@ impl RulesSoFar {
                 progress.ends.push(end)?;
                 Ok(progress)
             }
-            Err(fault) => Err(told(fault)),
+            Err(kind) => Err(kind),
         }
     }
 

@@ -3,7 +3,7 @@ ghost use Rattle.std.specs.Prelude.{◌≡◌, ℕ, ◌<◌, List, true, false, 
 ghost use Rattle.lexmeaning.specs.Reading.{begins};
 ghost use Rattle.lexspec.specs.Items.{Item, IsItem, starts_rule};
 ghost use Rattle.lexspec.specs.SkipViews.{item_of};
-ghost use Rattle.lexlines.specs.declared.error.SpecErrorKind.TheVariants.{Unclosed};
+ghost use Rattle.lexclass.specs.declared.refusals.SpecErrorKind.TheVariants.{Unclosed};
 
 use lexlines::{SpecErrorKind, is_all_blank, skip_block, split_line, starts_blank};
 
@@ -18,8 +18,8 @@ pub(crate) enum Skip {
     Block,
 }
 
-/// What is skipped at the front of a text, and what follows it; None where a rule begins. `Unclosed` is told of a block
-/// that is left open.
+/// What is skipped at the front of a text, and what follows it; None where a rule begins. A block that is left open is
+/// `Unclosed`.
 pub(crate) fn skip_at(text: &[u8]) -> Result<Option<(Skip, &[u8])>, SpecErrorKind>
     requires some { 0 < length text.now }
     requires no_end { begins (codes "%%") text.now ≡ false }

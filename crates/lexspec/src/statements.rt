@@ -1,33 +1,12 @@
 //! Rules with their actions. (POSIX, lex, Actions in lex.)
 ghost use Rattle.std.specs.Prelude.{◌≡◌, ◌++◌, ◌∷◌, [], map, IfOk};
 ghost use Rattle.lexaction.specs.Views.{statement_of};
-ghost use Rattle.lexspec.specs.ActionFaults.{told_of};
 ghost use Rattle.lexspec.specs.RuleReads.{acting};
 ghost use Rattle.lexspec.specs.RuleViews.{rule_of};
 
 use crate::rule::Rule;
-use lexaction::{ActionError, Statement};
-use lexlines::SpecErrorKind;
+use lexaction::Statement;
 use std::alloc::{AllocError, Global};
-
-/// How a fault of an action is told.
-pub(crate) fn told(fault: ActionError) -> SpecErrorKind
-    ensures { result ≡ told_of fault }
-{
-    match fault {
-        ActionError::UnknownStatement => SpecErrorKind::UnknownStatement,
-        ActionError::UnknownCondition => SpecErrorKind::UnknownCondition,
-        ActionError::BadCount => SpecErrorKind::BadCount,
-        ActionError::BadStatus => SpecErrorKind::BadStatus,
-        ActionError::LessAndMore => SpecErrorKind::LessAndMore,
-        ActionError::RejectCombination => SpecErrorKind::RejectCombination,
-        ActionError::NotLast => SpecErrorKind::NotLast,
-        ActionError::BadEofAction => SpecErrorKind::BadEofAction,
-        ActionError::Unclosed => SpecErrorKind::Unclosed,
-        ActionError::TooLong => SpecErrorKind::TooLong,
-        ActionError::OutOfMemory => SpecErrorKind::OutOfMemory,
-    }
-}
 
 fn copy_statement(alloc: Global, statement: &Statement) -> Result<Statement, AllocError>
     ensures { IfOk result (λ s. statement_of s ≡ statement_of statement.now) }

@@ -42,14 +42,14 @@ pub(crate) enum Subject<'a> {
     },
 }
 
-/// The first bytes, at most so many.
+/// The first `count` bytes, or all where there are fewer.
 fn first_bytes(text: &[u8], count: usize) -> &[u8]
     ensures { result.now ≡ take count text.now }
 {
     text.get(..count).unwrap_or(text)
 }
 
-/// The text without its first bytes.
+/// The text without its first `count` bytes, or nothing where there are fewer.
 fn without_bytes(text: &[u8], count: usize) -> &[u8]
     ensures { result.now ≡ drop count text.now }
 {
@@ -134,7 +134,7 @@ fn ends_subject(text: &[u8]) -> bool
 }
 
 /// The pattern or the `<<EOF>>` at the front of a text, which stands at this place of the rule's line, and what follows
-/// it. `BadEofRule` is told of `<<EOF>>` that goes on or stands after `^`.
+/// it. `<<EOF>>` that goes on, or stands after `^`, is `BadEofRule`.
 pub(crate) fn subject_at(text: &[u8], at: usize) -> Result<(Subject<'_>, &[u8]), SpecErrorKind>
     ensures found { IfOk result (λ x. IsSubject text.now (subject_of x.0) x.1.now) }
     ensures none { OnErr result ((s : SubjectMeant) (rest : List ℕ) → IsSubject text.now s rest → ⊥) }

@@ -96,7 +96,7 @@ fn faults_of_patterns(rt: HostRuntime) -> Result<(), Fail> {
     Ok(())
 }
 
-/// Of two faults of a rule the one that is told.
+/// Of two faults of a rule the one that is reported.
 #[test]
 fn first_of_two_faults(rt: HostRuntime) -> Result<(), Fail> {
     let alloc = rt.alloc();
@@ -131,7 +131,7 @@ fn first_of_two_faults(rt: HostRuntime) -> Result<(), Fail> {
     Ok(())
 }
 
-/// Of two faults of a rule the one that is told, where it is a pattern's.
+/// Of two faults of a rule the one that is reported, where it is a pattern's.
 #[test]
 fn first_of_two_faults_of_patterns(rt: HostRuntime) -> Result<(), Fail> {
     let alloc = rt.alloc();
@@ -288,7 +288,7 @@ const WHOLE: &str =
     "%s A\n%x B\nD [0-9]\n%%\n<B,A>^a{D}/b BEGIN(B);\n<*>c$ |\n\"d\" printf(\"x%s\", yytext); exit(3);\n\
     a*/bc REJECT;\na*/(\"\"*) REJECT;\n<<EOF>> fputs(\"z\", yyout);\n<A><<EOF>> exit(5);\n";
 
-/// A condition's name, whether it is exclusive, and what its end writes and tells.
+/// A condition's name, whether it is exclusive, and what its end writes and answers.
 fn row_of_condition(condition: &Condition) -> (&[u8], bool, &[u8], u8) {
     (
         condition.name.as_slice(),

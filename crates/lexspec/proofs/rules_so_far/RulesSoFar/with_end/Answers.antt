@@ -31,5 +31,5 @@ returns-in_ok-push-in-Ok-clause-keeps c = λ k.
 
 pub returns-in-Err-clause-none : goal.returns-in-Err-clause-none
 returns-in-Err-clause-none c =
-    end_refused c.args.declarations.now c.args.conditions c.args.action.now c.in-Err.fault c.told.result c.deref.result.now c.args.self
-    (action_spelled c.args.action.now _ c.is_bar.ensures c.if-is_bar.false) c.deref.ensures.value c.told.ensures c.in-Err.ensures.none
+    end_refused c.args.declarations.now c.args.conditions c.args.action.now c.in-Err.kind c.deref.result.now c.args.self
+    (action_spelled c.args.action.now _ c.is_bar.ensures c.if-is_bar.false) c.deref.ensures.value c.in-Err.ensures.none

@@ -23,5 +23,5 @@ returns-in_ok-rules-in-Ok-clause-keeps c = λ front room k.
 
 pub returns-in-Err-clause-none : goal.returns-in-Err-clause-none
 returns-in-Err-clause-none c =
-    rule_refused c.args.declarations.now c.args.rule c.args.action.now c.in-Err.fault c.told.result c.deref.result.now c.args.self
-    (action_spelled c.args.action.now _ c.is_bar.ensures c.if-is_bar.false) c.deref.ensures.value c.told.ensures c.in-Err.ensures.none
+    rule_refused c.args.declarations.now c.args.rule c.args.action.now c.in-Err.kind c.deref.result.now c.args.self
+    (action_spelled c.args.action.now _ c.is_bar.ensures c.if-is_bar.false) c.deref.ensures.value c.in-Err.ensures.none

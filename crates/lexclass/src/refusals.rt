@@ -1,12 +1,12 @@
 //! Why a file is no specification.
 ghost use Rattle.std.specs.Prelude.{◌≡◌};
-ghost use Rattle.lexlines.specs.declared.error.SpecErrorKind.TheVariants.{OutOfMemory};
+ghost use Rattle.lexclass.specs.declared.refusals.SpecErrorKind.TheVariants.{OutOfMemory};
 
-use lexre::PatternError;
+use crate::error::PatternError;
 use std::alloc::{AllocError, AllocFailed};
 use thiserror::Error;
 
-/// The reason, by its name.
+/// Why a file is refused, by name.
 #[derive(Clone, Copy, PartialEq, Eq, Debug, Error)]
 pub enum SpecErrorKind {
     /// No line begins with `%%`.
@@ -81,7 +81,7 @@ pub enum SpecErrorKind {
     /// A file of more than 1,048,576 bytes, or an action of more than 256 statements or 4,096 literal bytes.
     #[error("TooLong")]
     TooLong,
-    /// A growth was refused.
+    /// A request for memory was refused.
     #[error("OutOfMemory")]
     OutOfMemory,
 }
@@ -94,7 +94,7 @@ pub struct SpecError {
     pub kind: SpecErrorKind,
 }
 
-/// Want of memory, told of the whole file.
+/// Want of memory, reported at line 0, for the whole file.
 const OUT_OF_MEMORY: SpecError = SpecError {
     line: 0,
     kind: SpecErrorKind::OutOfMemory,
