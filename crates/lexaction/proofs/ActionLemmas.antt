@@ -6,9 +6,9 @@ use Rattle.lexmeaning.specs.Spec.{Statement}
 use Rattle.lexaction.specs.Statements.{then_all}
 use Rattle.lexaction.specs.Actions.{Piece, semicolon, opens, closes, says, Said, said_by, statement_at, piece_from, piece_at, are_balanced, statements_of, NoPiece, SpellsStatements}
 use Rattle.lexaction.specs.Outcome.{UnlessMemory}
-use Rattle.lexaction.specs.declared.error.ActionError.{ActionError}
+use Rattle.lexclass.specs.declared.refusals.SpecErrorKind.{SpecErrorKind}
 use Rattle.std.proofs.lemmas.Bool.{ne_eqb, eqb-true}
-use Rattle.lexaction.proofs.CallLemmas.{unless_memory}
+use Rattle.lexclass.proofs.MemoryLaws.{unless_memory}
 
 some_is : {A : Type 0} (x y : A) → Some x ≡ Some y → x ≡ y
 some_is x y e = cc
@@ -98,7 +98,7 @@ module _ (condition : List ℕ → Option ℕ) where
   abbrev pub SpellsNone : List ℕ → Type 0
   SpellsNone text = (ss : List Statement) → SpellsStatements condition text ss → ⊥
 
-  pub refused_piece : (kind : ActionError) (n : ℕ) (before : List Statement) (rest text : List ℕ) → Agree n before rest text → (length (skip rest) ≡ 0 → ⊥)
+  pub refused_piece : (kind : SpecErrorKind) (n : ℕ) (before : List Statement) (rest text : List ℕ) → Agree n before rest text → (length (skip rest) ≡ 0 → ⊥)
       → UnlessMemory kind (piece_at condition rest ≡ None) → UnlessMemory kind (SpellsNone text)
   refused_piece kind n before rest text agree some h = unless_memory kind _ (SpellsNone text) (λ none ss spells. go ss none (agree.back ss spells)) h
     where

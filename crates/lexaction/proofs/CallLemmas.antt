@@ -5,22 +5,8 @@ use Rattle.lexmeaning.specs.Spec.{Begin}
 use Rattle.lexaction.specs.Actions.{Said, does, begin_at, begin_from, begins, closed_condition, condition_at, after_word, after_statement, statement_at}
 use Rattle.lexaction.specs.Calls.{with_rest}
 use Rattle.lexaction.specs.Outcome.{UnlessMemory}
-use Rattle.lexaction.specs.declared.error.ActionError.{ActionError}
-use Rattle.lexaction.specs.declared.error.ActionError.TheVariants.{UnknownStatement, UnknownCondition, BadCount, BadStatus, LessAndMore, RejectCombination, NotLast, BadEofAction, Unclosed, TooLong, OutOfMemory}
-
--- a weaker reason
-pub unless_memory : (kind : ActionError) (P Q : Type 0) → (P → Q) → UnlessMemory kind P → UnlessMemory kind Q
-unless_memory OutOfMemory P Q f h = tt
-unless_memory UnknownStatement P Q f h = f h
-unless_memory UnknownCondition P Q f h = f h
-unless_memory BadCount P Q f h = f h
-unless_memory BadStatus P Q f h = f h
-unless_memory LessAndMore P Q f h = f h
-unless_memory RejectCombination P Q f h = f h
-unless_memory NotLast P Q f h = f h
-unless_memory BadEofAction P Q f h = f h
-unless_memory Unclosed P Q f h = f h
-unless_memory TooLong P Q f h = f h
+use Rattle.lexclass.proofs.MemoryLaws.{unless_memory}
+use Rattle.lexclass.specs.declared.refusals.SpecErrorKind.{SpecErrorKind}
 
 module _ (condition : List ℕ → Option ℕ) where
   mapped : (number : Option ℕ) (rest : List ℕ) → begins condition (option_map (with_rest rest) number) ≡ option_map (with_rest rest) (option_map (λ n. does (Begin n)) number)
@@ -43,7 +29,7 @@ module _ (condition : List ℕ → Option ℕ) where
   unfolding statement_at
   none_of t word rest name h = rw (name, h) refl
 
-  pub statement_refused : (kind : ActionError) (t word rest : List ℕ) → ◌≡◌ {A = Option (List ℕ × List ℕ)} (name_at t) (Some (word, rest)) → UnlessMemory kind (after_word condition word rest ≡ None)
+  pub statement_refused : (kind : SpecErrorKind) (t word rest : List ℕ) → ◌≡◌ {A = Option (List ℕ × List ℕ)} (name_at t) (Some (word, rest)) → UnlessMemory kind (after_word condition word rest ≡ None)
       → UnlessMemory kind (statement_at condition t ≡ None)
   statement_refused kind t word rest name h = unless_memory kind _ _ (none_of t word rest name) h
 

@@ -1,6 +1,7 @@
 pub mod ByteLemmas
 pub mod PartLemmas
 pub mod CallLemmas
+pub mod FaultLaws
 pub mod StatementLemmas
 pub mod ActionLemmas
 pub mod OneAction

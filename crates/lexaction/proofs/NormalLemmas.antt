@@ -8,6 +8,7 @@ use Rattle.lexaction.specs.Names.{number_from}
 use Rattle.lexaction.specs.Statements.{then_print, then_one, then_all}
 use Rattle.lexaction.specs.Actions.{are_few, statements_of, SpellsStatements, SpellsAction, SpellsEndAction, end_of}
 use Rattle.lexaction.proofs.RangeLemmas.{raw, all_raw, cut_good, number_below}
+use Rattle.lexaction.specs.Limits.{max_status}
 
 -- ranges
 
@@ -162,20 +163,20 @@ legal_action names text ss some (spells, stands) =
 
 -- the status of an end action
 
-small_end : (n : ℕ) (ss : List Statement) (e : EndAction) → all_in_range n ss ≡ true → end_of ss ≡ Some e → e.status ≤ 63
-small_end n [] e h is = let same : record { print = []; status = 0 } ≡ e = cc in subst (λ (z : EndAction). z.status ≤ 63) same (omega arith)
-small_end n (Print bs ∷ []) e h is = let same : record { print = bs; status = 0 } ≡ e = cc in subst (λ (z : EndAction). z.status ≤ 63) same (omega arith)
+small_end : (n : ℕ) (ss : List Statement) (e : EndAction) → all_in_range n ss ≡ true → end_of ss ≡ Some e → e.status ≤ max_status
+small_end n [] e h is = let same : record { print = []; status = 0 } ≡ e = cc in subst (λ (z : EndAction). z.status ≤ max_status) same (omega arith)
+small_end n (Print bs ∷ []) e h is = let same : record { print = bs; status = 0 } ≡ e = cc in subst (λ (z : EndAction). z.status ≤ max_status) same (omega arith)
 small_end n (End k ∷ []) e h is =
     let same : record { print = []; status = k } ≡ e = cc in
-    subst (λ (z : EndAction). z.status ≤ 63) same (leb-true k 63 (and_parts (nat_le k 63) true h).0)
+    subst (λ (z : EndAction). z.status ≤ max_status) same (leb-true k max_status (and_parts (nat_le k max_status) true h).0)
 small_end n (Print bs ∷ End k ∷ []) e h is =
     let same : record { print = bs; status = k } ≡ e = cc in
-    let rest = and_parts (nat_le 1 (length bs)) (nat_le k 63 && true) h in
-    subst (λ (z : EndAction). z.status ≤ 63) same (leb-true k 63 (and_parts (nat_le k 63) true rest.1).0)
+    let rest = and_parts (nat_le 1 (length bs)) (nat_le k max_status && true) h in
+    subst (λ (z : EndAction). z.status ≤ max_status) same (leb-true k max_status (and_parts (nat_le k max_status) true rest.1).0)
 small_end n _ e h is = absurd (none is)
   where
     none : None ≡ Some e → ⊥
     none p = cc
 
-pub end_status : (names : List (List ℕ)) (text : List ℕ) (e : EndAction) → 1 ≤ length names → SpellsEndAction (number_from 0 names) text e → e.status ≤ 63
+pub end_status : (names : List (List ℕ)) (text : List ℕ) (e : EndAction) → 1 ≤ length names → SpellsEndAction (number_from 0 names) text e → e.status ≤ max_status
 end_status names text e some (ss, spells, few, is) = small_end (length names) ss e (spelled_range names text ss some spells) is

@@ -9,6 +9,7 @@ use Rattle.lexmeaning.specs.Reading.{◌>>=◌, IsCut}
 use Rattle.lexaction.specs.Names.{number_from}
 use Rattle.lexaction.specs.Bytes.{next, name_at, digits_at, literal_at, skip}
 use Rattle.lexaction.specs.Actions.{Said, does, prints, prints_text, said_by, Piece, semicolon, opens, closes, says, statements_of, NoPiece, no_argument, number_argument, second_word, parts_of, without_text, with_text, formatted_at, printf_at, fputs_at, puts_at, yymore_at, yyless_at, yyterminate_at, exit_at, condition_at, closed_condition, begins, begin_from, begin_at, after_word, after_statement, statement_at, piece_from, piece_at}
+use Rattle.lexaction.specs.Limits.{max_kept, max_status}
 
 -- as `in_range`, but that a literal may be empty
 abbrev pub raw : ℕ → Statement → Bool
@@ -85,11 +86,11 @@ yyterminate_good n t = if_bind (Good n) (no_argument t) _ (λ rest e. refl)
 
 yyless_good : (n : ℕ) (t : List ℕ) → IfSome (yyless_at t) (Good n)
 unfolding yyless_at
-yyless_good n t = if_bind (Good n) (number_argument t) _ (λ found e. if_chosen (Good n) (within 1 65535 found.0) _ _ (λ h. and_from (within 1 65535 found.0) true h refl) (λ h. tt))
+yyless_good n t = if_bind (Good n) (number_argument t) _ (λ found e. if_chosen (Good n) (within 1 max_kept found.0) _ _ (λ h. and_from (within 1 max_kept found.0) true h refl) (λ h. tt))
 
 exit_good : (n : ℕ) (t : List ℕ) → IfSome (exit_at t) (Good n)
 unfolding exit_at
-exit_good n t = if_bind (Good n) (number_argument t) _ (λ found e. if_chosen (Good n) (nat_le found.0 63) _ _ (λ h. and_from (nat_le found.0 63) true h refl) (λ h. tt))
+exit_good n t = if_bind (Good n) (number_argument t) _ (λ found e. if_chosen (Good n) (nat_le found.0 max_status) _ _ (λ h. and_from (nat_le found.0 max_status) true h refl) (λ h. tt))
 
 -- a name's number is below the count of names
 pub number_below : (k : ℕ) (names : List (List ℕ)) (name : List ℕ) → IfSome (number_from k names name) (λ c. c < k + length names)

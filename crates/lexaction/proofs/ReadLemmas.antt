@@ -3,25 +3,10 @@ use Rattle.std.proofs.Common.{◌≡◌, ℕ, true, false, List, Option, Some, N
 use Rattle.lexmeaning.specs.Spec.{EndAction, Statement}
 use Rattle.lexaction.specs.Actions.{SpellsStatements, SpellsAction, SpellsEndAction, may_stand, are_few, end_of}
 use Rattle.lexaction.specs.Outcome.{UnlessMemory}
-use Rattle.lexaction.specs.declared.error.ActionError.{ActionError}
-use Rattle.lexaction.specs.declared.error.ActionError.TheVariants.{UnknownStatement, UnknownCondition, BadCount, BadStatus, LessAndMore, RejectCombination, NotLast, BadEofAction, Unclosed, TooLong, OutOfMemory}
-use Rattle.lexaction.proofs.CallLemmas.{unless_memory}
+use Rattle.lexclass.specs.declared.refusals.SpecErrorKind.{SpecErrorKind}
+use Rattle.lexclass.proofs.MemoryLaws.{unless_memory, always}
 use Rattle.lexaction.proofs.ActionLemmas.{SpellsNone}
 use Rattle.lexaction.proofs.OneAction.{one_statements}
-
--- a fact that holds in any case
-unless_of : (kind : ActionError) (P : Type 0) → P → UnlessMemory kind P
-unless_of OutOfMemory P h = tt
-unless_of UnknownStatement P h = h
-unless_of UnknownCondition P h = h
-unless_of BadCount P h = h
-unless_of BadStatus P h = h
-unless_of LessAndMore P h = h
-unless_of RejectCombination P h = h
-unless_of NotLast P h = h
-unless_of BadEofAction P h = h
-unless_of Unclosed P h = h
-unless_of TooLong P h = h
 
 no_both : {A : Type 0} → true ≡ false → A
 no_both e = absurd (no e)
@@ -36,15 +21,15 @@ module _ (condition : List ℕ → Option ℕ) (text : List ℕ) where
   abbrev pub NoEndAction : Type 0
   NoEndAction = (e : EndAction) → SpellsEndAction condition text e → ⊥
 
-  pub none_read : (kind : ActionError) → UnlessMemory kind (SpellsNone condition text) → UnlessMemory kind NoAction
+  pub none_read : (kind : SpecErrorKind) → UnlessMemory kind (SpellsNone condition text) → UnlessMemory kind NoAction
   none_read kind h = unless_memory kind (SpellsNone condition text) NoAction (λ none ss spells. none ss spells.0) h
 
-  pub none_checked : (kind : ActionError) (ss : List Statement) → SpellsStatements condition text ss → may_stand ss ≡ false → UnlessMemory kind NoAction
+  pub none_checked : (kind : SpecErrorKind) (ss : List Statement) → SpellsStatements condition text ss → may_stand ss ≡ false → UnlessMemory kind NoAction
   none_checked kind ss read bad =
-      unless_of kind NoAction (λ other spells. (let same : other ≡ ss = one_statements condition text other ss spells.0 read in
+      always kind NoAction (λ other spells. (let same : other ≡ ss = one_statements condition text other ss spells.0 read in
       no_both (sym spells.1 ∙ ap may_stand same ∙ bad)))
 
-  pub no_end_read : (kind : ActionError) → UnlessMemory kind (SpellsNone condition text) → UnlessMemory kind NoEndAction
+  pub no_end_read : (kind : SpecErrorKind) → UnlessMemory kind (SpellsNone condition text) → UnlessMemory kind NoEndAction
   no_end_read kind h = unless_memory kind (SpellsNone condition text) NoEndAction (λ none e spells. none spells.0 spells.1) h
 
   pub no_end_few : (ss : List Statement) → SpellsStatements condition text ss → are_few ss ≡ false → NoEndAction

@@ -6,6 +6,8 @@ use Rattle.lexaction.specs.Bytes.{skip, next, name_at, digits_at, literal_at}
 use Rattle.lexmeaning.specs.Spec.{EndAction, Statement, Echo, Print, Begin, More, Less, Reject, End}
 use Rattle.lexmeaning.specs.Legal.{ends_last, are_compatible}
 use Rattle.lexaction.specs.Statements.{normal, literal_bytes}
+use Rattle.lexaction.specs.Limits.{max_statements, max_literal_bytes, max_kept, max_status}
+use Rattle.lexclass.specs.Limits.{number_cap}
 
 -- what a statement says: something that is done, a literal, or a literal, the text, and a literal
 pub data Said : Type 0 where
@@ -87,13 +89,13 @@ unfoldable pub yyterminate_at : Reader Said
 yyterminate_at t = no_argument t >>= λ rest. Some (does (End 0), rest)
 
 unfoldable pub yyless_at : Reader Said
-yyless_at t = number_argument t >>= λ (n, rest). if within 1 65535 n then Some (does (Less n), rest) else None
+yyless_at t = number_argument t >>= λ (n, rest). if within 1 max_kept n then Some (does (Less n), rest) else None
 
 unfoldable pub exit_at : Reader Said
-exit_at t = number_argument t >>= λ (n, rest). if nat_le n 63 then Some (does (End n), rest) else None
+exit_at t = number_argument t >>= λ (n, rest). if nat_le n max_status then Some (does (End n), rest) else None
 
 abbrev pub capped : ℕ × List ℕ → ℕ × List ℕ
-capped found = (min 65536 found.0, found.1)
+capped found = (min number_cap found.0, found.1)
 
 -- what an action is made of
 pub data Piece : Type 0 where
@@ -197,9 +199,9 @@ module _ (condition : List ℕ → Option ℕ) where
   SpellsStatements text ss =
       (ps : List Piece) × IsCut piece_at NoPiece text ps × (are_balanced 0 ps ≡ true) × (ss ≡ normal (statements_of ps))
 
--- at most 256 statements, and 4,096 literal bytes
+-- there are no more statements and literal bytes than an action may have
 abbrev pub are_few : List Statement → Bool
-are_few ss = nat_le (length ss) 256 && nat_le (sum_by literal_bytes ss) 4096
+are_few ss = nat_le (length ss) max_statements && nat_le (sum_by literal_bytes ss) max_literal_bytes
 
 -- the statements may be the action of a rule
 abbrev pub may_stand : List Statement → Bool

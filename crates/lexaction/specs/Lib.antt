@@ -1,8 +1,10 @@
 pub mod Actions
+pub mod ActionFaults
 pub mod Bytes
 pub mod Calls
 pub mod Comments
 pub mod Formats
+pub mod Limits
 pub mod Names
 pub mod Outcome
 pub mod Statements

@@ -5,13 +5,15 @@ ghost use Rattle.lexaction.specs.Actions.{piece_from, SpellsStatements, SpellsAc
 ghost use Rattle.lexaction.specs.Names.{number_from, names_of};
 ghost use Rattle.lexaction.specs.Views.{statement_of, piece_of, end_action_of};
 ghost use Rattle.lexaction.specs.Outcome.{Reads, UnlessMemory};
+ghost use Rattle.lexaction.specs.Limits.{max_conditions};
+ghost use Rattle.lexaction.specs.ActionFaults.{IsActionFault};
 
 use crate::bytes::skip;
 use crate::calls::statement_at;
 use crate::condition::Condition;
-use crate::error::ActionError;
 use crate::legal::{are_few, check};
 use crate::statement::{Piece, say};
+use lexclass::SpecErrorKind;
 use lexmachine::{EndAction, Statement};
 use std::alloc::Global;
 
@@ -21,13 +23,14 @@ fn piece_from<'a>(
     alloc: Global,
     conditions: &[Condition],
     text: &'a [u8],
-) -> Result<(Piece, &'a [u8]), ActionError>
-    requires { length conditions.now ≤ 255 }
+) -> Result<(Piece, &'a [u8]), SpecErrorKind>
+    requires { length conditions.now ≤ max_conditions }
     ensures spelled { Reads (λ x. (piece_of x.0, x.1.now)) result (piece_from (number_from 0 (names_of conditions.now)) text.now) }
     ensures shorter { IfOk result (λ x. length x.1.now < length text.now) }
+    ensures fault { IfErr result (λ e. IsActionFault e) }
 {
     let Some((first, after)) = text.split_first() else {
-        return Err(ActionError::UnknownStatement);
+        return Err(SpecErrorKind::UnknownStatement);
     };
     if *first == b';' {
         return Ok((Piece::Semicolon, after));
@@ -47,12 +50,13 @@ fn read_statements(
     alloc: Global,
     conditions: &[Condition],
     text: &[u8],
-) -> Result<Vec<Statement>, ActionError>
-    requires { length conditions.now ≤ 255 }
+) -> Result<Vec<Statement>, SpecErrorKind>
+    requires { length conditions.now ≤ max_conditions }
     // What is read is spelled by the text.
     ensures found { IfOk result (λ ss. SpellsStatements (number_from 0 (names_of conditions.now)) text.now (map statement_of ss.items)) }
     // What is refused spells no statements, unless memory ran out.
     ensures none { IfErr result (λ e. UnlessMemory e ((ss : List S.Statement) → SpellsStatements (number_from 0 (names_of conditions.now)) text.now ss → ⊥)) }
+    ensures fault { IfErr result (λ e. IsActionFault e) }
 {
     let mut statements = Vec::new(alloc);
     let mut open: usize = 0;
@@ -61,7 +65,7 @@ fn read_statements(
         let here = skip(rest);
         if here.is_empty() {
             if open > 0 {
-                return Err(ActionError::Unclosed);
+                return Err(SpecErrorKind::Unclosed);
             }
             return Ok(statements);
         }
@@ -71,7 +75,7 @@ fn read_statements(
             Piece::Opens => open += 1,
             Piece::Closes => {
                 if open == 0 {
-                    return Err(ActionError::UnknownStatement);
+                    return Err(SpecErrorKind::UnknownStatement);
                 }
                 open -= 1;
             }
@@ -84,16 +88,18 @@ fn read_statements(
 /// The statements of a rule's action, in normal form. The first fault from the left is named: `UnknownStatement`,
 /// `BadCount`, `BadStatus` and `UnknownCondition` of a statement, `Unclosed` for a brace left open, and then `TooLong`
 /// (256 statements, 4,096 literal bytes), `LessAndMore`, `RejectCombination` and `NotLast`. (POSIX, lex, Actions in lex.)
+#[tactic(auto, using(crate::proofs::FaultLaws::together_fault_of_action))]
 pub fn read_action(
     alloc: Global,
     conditions: &[Condition],
     text: &[u8],
-) -> Result<Vec<Statement>, ActionError>
-    requires { length conditions.now ≤ 255 }
+) -> Result<Vec<Statement>, SpecErrorKind>
+    requires { length conditions.now ≤ max_conditions }
     // What is read is spelled by the text.
     ensures found { IfOk result (λ ss. SpellsAction (number_from 0 (names_of conditions.now)) text.now (map statement_of ss.items)) }
     // What is refused is no action, unless memory ran out.
     ensures none { IfErr result (λ e. UnlessMemory e ((ss : List S.Statement) → SpellsAction (number_from 0 (names_of conditions.now)) text.now ss → ⊥)) }
+    ensures fault { IfErr result (λ e. IsActionFault e) }
 {
     let statements = read_statements(alloc, conditions, text)?;
     check(&statements)?;
@@ -106,20 +112,21 @@ pub fn read_end_action(
     alloc: Global,
     conditions: &[Condition],
     text: &[u8],
-) -> Result<EndAction, ActionError>
-    requires { length conditions.now ≤ 255 }
+) -> Result<EndAction, SpecErrorKind>
+    requires { length conditions.now ≤ max_conditions }
     // What is read is spelled by the text.
     ensures found { IfOk result (λ e. SpellsEndAction (number_from 0 (names_of conditions.now)) text.now (end_action_of e)) }
     // What is refused is no end action, unless memory ran out.
     ensures none { IfErr result (λ e. UnlessMemory e ((a : S.EndAction) → SpellsEndAction (number_from 0 (names_of conditions.now)) text.now a → ⊥)) }
+    ensures fault { IfErr result (λ e. IsActionFault e) }
 {
     let statements = read_statements(alloc, conditions, text)?;
     if !are_few(&statements) {
-        return Err(ActionError::TooLong);
+        return Err(SpecErrorKind::TooLong);
     }
     match end_of(alloc, statements) {
         Some(end) => Ok(end),
-        None => Err(ActionError::BadEofAction),
+        None => Err(SpecErrorKind::BadEofAction),
     }
 }
 

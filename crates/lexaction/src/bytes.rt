@@ -1,13 +1,15 @@
 //! Bytes, names, numbers and strings of an action.
-ghost use Rattle.std.specs.Prelude.{◌≡◌, ◌≤◌, ◌<◌, ◌+◌, suc, length, min, option_map, ◌∷◌, MatchOption, IfSome, IfOk};
-ghost use Rattle.lexmeaning.specs.Reading.{take_run, is_white, starts_name, goes_on_name};
+ghost use Rattle.std.specs.Prelude.{◌≡◌, ◌≤◌, ◌<◌, ◌+◌, suc, length, min, option_map, ◌∷◌, MatchOption, IfSome, IfOk, IfErr};
+ghost use Rattle.lexmeaning.specs.Reading.{take_run, is_white, starts_name};
 ghost use Rattle.lexmeaning.specs.ByteSets.{is_digit};
 ghost use Rattle.lexaction.specs.Bytes.{name_at, digits_at, skip, skip_in, next, as_byte, plain_escape, escape_at, string_byte_at, string_at, literal_at};
 ghost use Rattle.lexaction.specs.Comments.{outside, slash, block, line};
 ghost use Rattle.lexaction.specs.Outcome.{Reads};
+ghost use Rattle.lexaction.specs.ActionFaults.{IsActionFault};
 
-use crate::error::ActionError;
-use lexclass::{Class, goes_on_name, hexadecimal_at, octal_at, starts_name, take_up_to};
+use lexclass::{
+    Class, SpecErrorKind, control, hexadecimal_at, octal_at, split_name, starts_name, take_up_to,
+};
 use std::alloc::Global;
 
 #[tactic(auto, unfolding(lexmeaning::specs::ByteSets::is_blank))]
@@ -15,13 +17,6 @@ fn is_white(byte: u8) -> bool
     ensures { result ≡ is_white byte }
 {
     byte == b'\t' || byte == b' ' || byte == b'\n'
-}
-
-/// The bytes of a name at the front, and what follows them.
-fn split_name(text: &[u8]) -> (&[u8], &[u8])
-    ensures { take_run goes_on_name text.now ≡ (result.0.now, result.1.now) }
-{
-    take_up_to(text.len(), |byte| goes_on_name(byte), text)
 }
 
 /// The digits at the front, and what follows them.
@@ -139,13 +134,7 @@ fn plain_escape(byte: u8) -> Option<u8>
     ensures { result ≡ plain_escape byte }
 {
     match byte {
-        b'a' => Some(7),
-        b'b' => Some(8),
-        b'f' => Some(12),
-        b'n' => Some(10),
-        b'r' => Some(13),
-        b't' => Some(9),
-        b'v' => Some(11),
+        b'a' | b'b' | b'f' | b'n' | b'r' | b't' | b'v' => Some(control(byte)),
         b'\\' | b'"' | b'\'' | b'?' => Some(byte),
         _ => None,
     }
@@ -199,9 +188,10 @@ fn string_byte_at(text: &[u8]) -> Option<(u8, &[u8])>
 }
 
 /// After the opening quote.
-fn string_at(alloc: Global, text: &[u8]) -> Result<(Vec<u8>, &[u8]), ActionError>
+fn string_at(alloc: Global, text: &[u8]) -> Result<(Vec<u8>, &[u8]), SpecErrorKind>
     ensures string { Reads (λ x. (x.0.items, x.1.now)) result (string_at (suc (length text.now)) text.now) }
     ensures shorter { IfOk result (λ x. length x.1.now < length text.now) }
+    ensures fault { IfErr result (λ e. IsActionFault e) }
 {
     let mut bytes = Vec::new(alloc);
     let mut rest = text;
@@ -210,21 +200,22 @@ fn string_at(alloc: Global, text: &[u8]) -> Result<(Vec<u8>, &[u8]), ActionError
             return Ok((bytes, after));
         }
         let Some((byte, beyond)) = string_byte_at(rest) else {
-            return Err(ActionError::UnknownStatement);
+            return Err(SpecErrorKind::UnknownStatement);
         };
         bytes.push(byte)?;
         rest = beyond;
     }
-    Err(ActionError::Unclosed)
+    Err(SpecErrorKind::Unclosed)
 }
 
 #[tactic(auto, unfolding(crate::specs::Bytes::literal_at))]
-pub(crate) fn literal_at(alloc: Global, text: &[u8]) -> Result<(Vec<u8>, &[u8]), ActionError>
+pub(crate) fn literal_at(alloc: Global, text: &[u8]) -> Result<(Vec<u8>, &[u8]), SpecErrorKind>
     ensures literal { Reads (λ x. (x.0.items, x.1.now)) result (literal_at text.now) }
     ensures shorter { IfOk result (λ x. length x.1.now ≤ length text.now) }
+    ensures fault { IfErr result (λ e. IsActionFault e) }
 {
     let Some(inside) = next(b'"', text) else {
-        return Err(ActionError::UnknownStatement);
+        return Err(SpecErrorKind::UnknownStatement);
     };
     string_at(alloc, inside)
 }

@@ -1,19 +1,25 @@
 //! The statements of an action, one at a time.
-ghost use Rattle.std.specs.Prelude.{◌≡◌, ◌≤◌, ◌<◌, length, map, min, option_map, codes, IfSome, IfOk};
+ghost use Rattle.std.specs.Prelude.{◌≡◌, ◌≤◌, ◌<◌, length, map, min, option_map, codes, IfSome, IfOk, IfErr};
 ghost use Rattle.lexaction.specs.Actions.{this_word, no_argument, number_argument, second_word, capped, formatted_at, printf_at, yymore_at, yyless_at, yyterminate_at, exit_at, closed_condition, fputs_at, puts_at, condition_at, begin_at, after_word, after_statement, statement_at};
 ghost use Rattle.lexaction.specs.Names.{number_from, names_of};
 ghost use Rattle.lexaction.specs.Views.{said_of};
 ghost use Rattle.lexaction.specs.Outcome.{Reads, UnlessMemory};
-ghost use Rattle.lexaction.specs.Calls.{CallReads, ConditionReads, BeginReads};
+ghost use Rattle.lexaction.specs.Calls.{CallReads, CallFinds, ConditionReads, BeginReads};
+ghost use Rattle.lexaction.specs.Limits.{max_conditions};
+ghost use Rattle.lexaction.specs.ActionFaults.{IsActionFault};
 
 use crate::bytes::{digits_at, literal_at, name_at, next, skip};
-use crate::condition::Condition;
-use crate::error::ActionError;
+use crate::condition::{Condition, number_of};
 use crate::format::parts_of;
 use crate::statement::{Called, Parts, Said};
-use lexclass::capped_value;
+use lexclass::{SpecErrorKind, capped_value};
 use lexmachine::Statement;
 use std::alloc::Global;
+
+/// The most bytes that yyless keeps.
+const MAX_KEPT: u32 = 65_535;
+/// The greatest status of exit.
+const MAX_STATUS: u32 = 63;
 
 #[tactic(auto, unfolding(crate::specs::Actions::this_word))]
 fn this_word<'a>(word: &[u8], text: &'a [u8]) -> Option<&'a [u8]>
@@ -33,7 +39,7 @@ fn no_argument(text: &[u8]) -> Option<&[u8]>
     next(b')', inside)
 }
 
-/// The number in parentheses, or 65,536 where that is less.
+/// The number in parentheses, or the cap on numbers where that is less.
 #[tactic(auto, unfolding(crate::specs::Actions::number_argument))]
 fn number_argument(text: &[u8]) -> Option<(u32, &[u8])>
     ensures spelled { option_map (λ x. (x.0, x.1.now)) result ≡ option_map capped (number_argument text.now) }
@@ -60,23 +66,24 @@ fn formatted_at<'a>(
     alloc: Global,
     format: &[u8],
     text: &'a [u8],
-) -> Result<(Called, &'a [u8]), ActionError>
+) -> Result<(Called, &'a [u8]), SpecErrorKind>
     ensures spelled { CallReads (λ x. x.0) (λ x. x.1.now) result (formatted_at format.now text.now) }
     ensures shorter { IfOk result (λ x. length x.1.now ≤ length text.now) }
+    ensures fault { IfErr result (λ e. IsActionFault e) }
 {
     let parts = parts_of(alloc, format)?;
     let Parts { front, back } = parts;
     match next(b')', text) {
         Some(after) => match back {
             None => Ok((Called::Says(Said::Prints(front)), after)),
-            Some(_) => Err(ActionError::UnknownStatement),
+            Some(_) => Err(SpecErrorKind::UnknownStatement),
         },
         None => {
             let Some(after) = second_word(b"yytext".as_slice(), text) else {
-                return Err(ActionError::UnknownStatement);
+                return Err(SpecErrorKind::UnknownStatement);
             };
             match back {
-                None => Err(ActionError::UnknownStatement),
+                None => Err(SpecErrorKind::UnknownStatement),
                 Some(back) => Ok((Called::Says(Said::PrintsText(front, back)), after)),
             }
         }
@@ -84,43 +91,46 @@ fn formatted_at<'a>(
 }
 
 #[tactic(auto, unfolding(crate::specs::Actions::printf_at))]
-fn printf_at(alloc: Global, text: &[u8]) -> Result<(Called, &[u8]), ActionError>
+fn printf_at(alloc: Global, text: &[u8]) -> Result<(Called, &[u8]), SpecErrorKind>
     ensures spelled { CallReads (λ x. x.0) (λ x. x.1.now) result (printf_at text.now) }
     ensures shorter { IfOk result (λ x. length x.1.now ≤ length text.now) }
+    ensures fault { IfErr result (λ e. IsActionFault e) }
 {
     let Some(inside) = next(b'(', text) else {
-        return Err(ActionError::UnknownStatement);
+        return Err(SpecErrorKind::UnknownStatement);
     };
     let (literal, rest) = literal_at(alloc, inside)?;
     formatted_at(alloc, &literal, rest)
 }
 
 #[tactic(auto, unfolding(crate::specs::Actions::fputs_at))]
-fn fputs_at(alloc: Global, text: &[u8]) -> Result<(Called, &[u8]), ActionError>
+fn fputs_at(alloc: Global, text: &[u8]) -> Result<(Called, &[u8]), SpecErrorKind>
     ensures spelled { CallReads (λ x. x.0) (λ x. x.1.now) result (fputs_at text.now) }
     ensures shorter { IfOk result (λ x. length x.1.now ≤ length text.now) }
+    ensures fault { IfErr result (λ e. IsActionFault e) }
 {
     let Some(inside) = next(b'(', text) else {
-        return Err(ActionError::UnknownStatement);
+        return Err(SpecErrorKind::UnknownStatement);
     };
     let (literal, rest) = literal_at(alloc, inside)?;
     let Some(after) = second_word(b"yyout".as_slice(), rest) else {
-        return Err(ActionError::UnknownStatement);
+        return Err(SpecErrorKind::UnknownStatement);
     };
     Ok((Called::Says(Said::Prints(literal)), after))
 }
 
 #[tactic(auto, unfolding(crate::specs::Actions::puts_at))]
-fn puts_at(alloc: Global, text: &[u8]) -> Result<(Called, &[u8]), ActionError>
+fn puts_at(alloc: Global, text: &[u8]) -> Result<(Called, &[u8]), SpecErrorKind>
     ensures spelled { CallReads (λ x. x.0) (λ x. x.1.now) result (puts_at text.now) }
     ensures shorter { IfOk result (λ x. length x.1.now ≤ length text.now) }
+    ensures fault { IfErr result (λ e. IsActionFault e) }
 {
     let Some(inside) = next(b'(', text) else {
-        return Err(ActionError::UnknownStatement);
+        return Err(SpecErrorKind::UnknownStatement);
     };
     let (literal, rest) = literal_at(alloc, inside)?;
     let Some(after) = next(b')', rest) else {
-        return Err(ActionError::UnknownStatement);
+        return Err(SpecErrorKind::UnknownStatement);
     };
     let mut line = literal;
     line.push(b'\n')?;
@@ -128,75 +138,54 @@ fn puts_at(alloc: Global, text: &[u8]) -> Result<(Called, &[u8]), ActionError>
 }
 
 #[tactic(auto, unfolding(crate::specs::Actions::yymore_at))]
-fn yymore_at(text: &[u8]) -> Result<(Called, &[u8]), ActionError>
-    ensures spelled { CallReads (λ x. x.0) (λ x. x.1.now) result (yymore_at text.now) }
-    ensures shorter { IfOk result (λ x. length x.1.now ≤ length text.now) }
+fn yymore_at(text: &[u8]) -> Option<(Called, &[u8])>
+    ensures spelled { CallFinds (λ x. x.0) (λ x. x.1.now) result (yymore_at text.now) }
+    ensures shorter { IfSome result (λ x. length x.1.now ≤ length text.now) }
 {
-    let Some(rest) = no_argument(text) else {
-        return Err(ActionError::UnknownStatement);
-    };
-    Ok((Called::Says(Said::Does(Statement::More)), rest))
+    let rest = no_argument(text)?;
+    Some((Called::Says(Said::Does(Statement::More)), rest))
 }
 
 #[tactic(auto, unfolding(crate::specs::Actions::yyterminate_at))]
-fn yyterminate_at(text: &[u8]) -> Result<(Called, &[u8]), ActionError>
-    ensures spelled { CallReads (λ x. x.0) (λ x. x.1.now) result (yyterminate_at text.now) }
-    ensures shorter { IfOk result (λ x. length x.1.now ≤ length text.now) }
+fn yyterminate_at(text: &[u8]) -> Option<(Called, &[u8])>
+    ensures spelled { CallFinds (λ x. x.0) (λ x. x.1.now) result (yyterminate_at text.now) }
+    ensures shorter { IfSome result (λ x. length x.1.now ≤ length text.now) }
 {
-    let Some(rest) = no_argument(text) else {
-        return Err(ActionError::UnknownStatement);
-    };
-    Ok((Called::Says(Said::Does(Statement::End(0))), rest))
+    let rest = no_argument(text)?;
+    Some((Called::Says(Said::Does(Statement::End(0))), rest))
 }
 
 #[tactic(auto, unfolding(crate::specs::Actions::yyless_at))]
-fn yyless_at(text: &[u8]) -> Result<(Called, &[u8]), ActionError>
-    ensures spelled { CallReads (λ x. x.0) (λ x. x.1.now) result (yyless_at text.now) }
-    ensures shorter { IfOk result (λ x. length x.1.now ≤ length text.now) }
+fn yyless_at(text: &[u8]) -> Option<(Called, &[u8])>
+    ensures spelled { CallFinds (λ x. x.0) (λ x. x.1.now) result (yyless_at text.now) }
+    ensures shorter { IfSome result (λ x. length x.1.now ≤ length text.now) }
 {
-    let Some((number, rest)) = number_argument(text) else {
-        return Err(ActionError::UnknownStatement);
-    };
-    if number == 0 || number > 65535 {
-        return Ok((Called::Faulty(ActionError::BadCount), rest));
+    let (number, rest) = number_argument(text)?;
+    if number == 0 || number > MAX_KEPT {
+        return Some((Called::BadCount, rest));
     }
-    Ok((
+    Some((
         Called::Says(Said::Does(Statement::Less(number as u16))),
         rest,
     ))
 }
 
 #[tactic(auto, unfolding(crate::specs::Actions::exit_at))]
-fn exit_at(text: &[u8]) -> Result<(Called, &[u8]), ActionError>
-    ensures spelled { CallReads (λ x. x.0) (λ x. x.1.now) result (exit_at text.now) }
-    ensures shorter { IfOk result (λ x. length x.1.now ≤ length text.now) }
+fn exit_at(text: &[u8]) -> Option<(Called, &[u8])>
+    ensures spelled { CallFinds (λ x. x.0) (λ x. x.1.now) result (exit_at text.now) }
+    ensures shorter { IfSome result (λ x. length x.1.now ≤ length text.now) }
 {
-    let Some((number, rest)) = number_argument(text) else {
-        return Err(ActionError::UnknownStatement);
-    };
-    if number > 63 {
-        return Ok((Called::Faulty(ActionError::BadStatus), rest));
+    let (number, rest) = number_argument(text)?;
+    if number > MAX_STATUS {
+        return Some((Called::BadStatus, rest));
     }
-    Ok((Called::Says(Said::Does(Statement::End(number as u8))), rest))
-}
-
-/// The number of the condition with the name.
-fn number_of(conditions: &[Condition], name: &[u8]) -> Option<u8>
-    requires { length conditions.now ≤ 255 }
-    ensures { result ≡ number_from 0 (names_of conditions.now) name.now }
-{
-    for i in 0..conditions.len() {
-        if conditions[i].name.as_slice() == name {
-            return Some(i as u8);
-        }
-    }
-    None
+    Some((Called::Says(Said::Does(Statement::End(number as u8))), rest))
 }
 
 /// A condition, which may not be declared: its name, or `0`.
 #[tactic(auto, unfolding(crate::specs::Actions::condition_at))]
 fn condition_at<'a>(conditions: &[Condition], text: &'a [u8]) -> Option<(Option<u8>, &'a [u8])>
-    requires { length conditions.now ≤ 255 }
+    requires { length conditions.now ≤ max_conditions }
     ensures spelled { ConditionReads (λ x. x.0) (λ x. x.1.now) result (condition_at (number_from 0 (names_of conditions.now)) text.now) }
     ensures shorter { IfSome result (λ x. length x.1.now ≤ length text.now) }
 {
@@ -215,7 +204,7 @@ fn condition_at<'a>(conditions: &[Condition], text: &'a [u8]) -> Option<(Option<
 
 #[tactic(auto, unfolding(crate::specs::Actions::closed_condition))]
 fn closed_condition<'a>(conditions: &[Condition], text: &'a [u8]) -> Option<(Option<u8>, &'a [u8])>
-    requires { length conditions.now ≤ 255 }
+    requires { length conditions.now ≤ max_conditions }
     ensures spelled { ConditionReads (λ x. x.0) (λ x. x.1.now) result (closed_condition (number_from 0 (names_of conditions.now)) text.now) }
     ensures shorter { IfSome result (λ x. length x.1.now ≤ length text.now) }
 {
@@ -230,26 +219,22 @@ fn begins(number: Option<u8>) -> Called
 {
     match number {
         Some(number) => Called::Says(Said::Does(Statement::Begin(number))),
-        None => Called::Faulty(ActionError::UnknownCondition),
+        None => Called::UnknownCondition,
     }
 }
 
 #[tactic(auto, unfolding(crate::specs::Actions::begin_at))]
-fn begin_at<'a>(conditions: &[Condition], text: &'a [u8]) -> Result<(Called, &'a [u8]), ActionError>
-    requires { length conditions.now ≤ 255 }
-    ensures spelled { CallReads (λ x. x.0) (λ x. x.1.now) result (begin_at (number_from 0 (names_of conditions.now)) text.now) }
-    ensures shorter { IfOk result (λ x. length x.1.now ≤ length text.now) }
+fn begin_at<'a>(conditions: &[Condition], text: &'a [u8]) -> Option<(Called, &'a [u8])>
+    requires { length conditions.now ≤ max_conditions }
+    ensures spelled { CallFinds (λ x. x.0) (λ x. x.1.now) result (begin_at (number_from 0 (names_of conditions.now)) text.now) }
+    ensures shorter { IfSome result (λ x. length x.1.now ≤ length text.now) }
 {
-    match next(b'(', text) {
-        Some(inside) => match closed_condition(conditions, inside) {
-            Some((number, rest)) => Ok((begins(number), rest)),
-            None => Err(ActionError::UnknownStatement),
-        },
-        None => match condition_at(conditions, text) {
-            Some((number, rest)) => Ok((begins(number), rest)),
-            None => Err(ActionError::UnknownStatement),
-        },
+    if let Some(inside) = next(b'(', text) {
+        let (number, rest) = closed_condition(conditions, inside)?;
+        return Some((begins(number), rest));
     }
+    let (number, rest) = condition_at(conditions, text)?;
+    Some((begins(number), rest))
 }
 
 #[tactic(auto, unfolding(crate::specs::Actions::after_statement))]
@@ -272,25 +257,26 @@ fn after_word<'a>(
     conditions: &[Condition],
     word: &[u8],
     text: &'a [u8],
-) -> Result<(Called, &'a [u8]), ActionError>
-    requires { length conditions.now ≤ 255 }
+) -> Result<(Called, &'a [u8]), SpecErrorKind>
+    requires { length conditions.now ≤ max_conditions }
     ensures spelled { CallReads (λ x. x.0) (λ x. x.1.now) result (after_word (number_from 0 (names_of conditions.now)) word.now text.now) }
     ensures shorter { IfOk result (λ x. length x.1.now ≤ length text.now) }
+    ensures fault { IfErr result (λ e. IsActionFault e) }
 {
     if word == b"ECHO".as_slice() {
         Ok((Called::Says(Said::Does(Statement::Echo)), text))
     } else if word == b"REJECT".as_slice() {
         Ok((Called::Says(Said::Does(Statement::Reject)), text))
     } else if word == b"BEGIN".as_slice() {
-        begin_at(conditions, text)
+        begin_at(conditions, text).ok_or(SpecErrorKind::UnknownStatement)
     } else if word == b"yymore".as_slice() {
-        yymore_at(text)
+        yymore_at(text).ok_or(SpecErrorKind::UnknownStatement)
     } else if word == b"yyless".as_slice() {
-        yyless_at(text)
+        yyless_at(text).ok_or(SpecErrorKind::UnknownStatement)
     } else if word == b"yyterminate".as_slice() {
-        yyterminate_at(text)
+        yyterminate_at(text).ok_or(SpecErrorKind::UnknownStatement)
     } else if word == b"exit".as_slice() {
-        exit_at(text)
+        exit_at(text).ok_or(SpecErrorKind::UnknownStatement)
     } else if word == b"printf".as_slice() {
         printf_at(alloc, text)
     } else if word == b"fputs".as_slice() {
@@ -298,7 +284,7 @@ fn after_word<'a>(
     } else if word == b"puts".as_slice() {
         puts_at(alloc, text)
     } else {
-        Err(ActionError::UnknownStatement)
+        Err(SpecErrorKind::UnknownStatement)
     }
 }
 
@@ -307,20 +293,23 @@ pub(crate) fn statement_at<'a>(
     alloc: Global,
     conditions: &[Condition],
     text: &'a [u8],
-) -> Result<(Said, &'a [u8]), ActionError>
-    requires { length conditions.now ≤ 255 }
+) -> Result<(Said, &'a [u8]), SpecErrorKind>
+    requires { length conditions.now ≤ max_conditions }
     ensures spelled { Reads (λ x. (said_of x.0, x.1.now)) result (statement_at (number_from 0 (names_of conditions.now)) text.now) }
     ensures shorter { IfOk result (λ x. length x.1.now < length text.now) }
+    ensures fault { IfErr result (λ e. IsActionFault e) }
 {
     let Some((word, rest)) = name_at(text) else {
-        return Err(ActionError::UnknownStatement);
+        return Err(SpecErrorKind::UnknownStatement);
     };
     let (called, after) = after_word(alloc, conditions, word, rest)?;
     let Some(last) = after_statement(after) else {
-        return Err(ActionError::UnknownStatement);
+        return Err(SpecErrorKind::UnknownStatement);
     };
     match called {
         Called::Says(said) => Ok((said, last)),
-        Called::Faulty(error) => Err(error),
+        Called::BadCount => Err(SpecErrorKind::BadCount),
+        Called::BadStatus => Err(SpecErrorKind::BadStatus),
+        Called::UnknownCondition => Err(SpecErrorKind::UnknownCondition),
     }
 }

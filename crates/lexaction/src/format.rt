@@ -4,9 +4,10 @@ ghost use Rattle.lexaction.specs.Actions.{parts_of};
 ghost use Rattle.lexaction.specs.Formats.{read_on};
 ghost use Rattle.lexaction.specs.Views.{parts_view, format_view};
 ghost use Rattle.lexaction.specs.Outcome.{Reads, UnlessMemory};
+ghost use Rattle.lexaction.specs.ActionFaults.{IsActionFault};
 
-use crate::error::ActionError;
 use crate::statement::Parts;
+use lexclass::SpecErrorKind;
 use std::alloc::Global;
 use std::mem;
 
@@ -16,14 +17,15 @@ pub(crate) struct Format {
     /// What came before the `%s`.
     pub(crate) front: Option<Vec<u8>>,
     pub(crate) bytes: Vec<u8>,
-    /// A `%` was read last, whose meaning the next byte tells.
+    /// Whether the last byte read is a `%`, whose meaning depends on the next byte.
     pub(crate) percent: bool,
 }
 
 impl Format {
-    fn take(&mut self, alloc: Global, byte: u8) -> Result<(), ActionError>
+    fn take(&mut self, alloc: Global, byte: u8) -> Result<(), SpecErrorKind>
         ensures ok { OnOk result ((t : List ℕ) → read_on (format_view self.new) t ≡ read_on (format_view self.old) (byte ∷ t)) }
         ensures err { IfErr result (λ e. UnlessMemory e ((t : List ℕ) → read_on (format_view self.old) (byte ∷ t) ≡ None)) }
+        ensures fault { IfErr result (λ e. IsActionFault e) }
     {
         if !self.percent {
             if byte == b'%' {
@@ -39,7 +41,7 @@ impl Format {
             return Ok(());
         }
         if byte != b's' || self.front.is_some() {
-            return Err(ActionError::UnknownStatement);
+            return Err(SpecErrorKind::UnknownStatement);
         }
         self.front = Some(mem::replace(&mut self.bytes, Vec::new(alloc)));
         self.percent = false;
@@ -49,8 +51,9 @@ impl Format {
 
 /// The literals of a format.
 #[tactic(auto, unfolding(crate::specs::Actions::parts_of))]
-pub(crate) fn parts_of(alloc: Global, text: &[u8]) -> Result<Parts, ActionError>
-    ensures { Reads parts_view result (parts_of text.now) }
+pub(crate) fn parts_of(alloc: Global, text: &[u8]) -> Result<Parts, SpecErrorKind>
+    ensures spelled { Reads parts_view result (parts_of text.now) }
+    ensures fault { IfErr result (λ e. IsActionFault e) }
 {
     let mut format = Format {
         front: None,
@@ -61,7 +64,7 @@ pub(crate) fn parts_of(alloc: Global, text: &[u8]) -> Result<Parts, ActionError>
         format.take(alloc, *byte)?;
     }
     if format.percent {
-        return Err(ActionError::UnknownStatement);
+        return Err(SpecErrorKind::UnknownStatement);
     }
     let Format { front, bytes, .. } = format;
     match front {

@@ -1,18 +1,20 @@
 //! What may stand in one action.
-ghost use Rattle.std.specs.Prelude.{◌≡◌, ℕ, Bool, ◌&&◌, nat_le, List, length, map, sum_by, true, false, OnOk, OnErr};
+ghost use Rattle.std.specs.Prelude.{◌≡◌, ℕ, Bool, ◌&&◌, nat_le, List, length, map, sum_by, true, false, OnOk, OnErr, IfErr};
 ghost use Rattle.lexmeaning.specs.Spec.{has_reject};
 ghost use Rattle.lexmeaning.specs.Legal.{is_less, is_more, ends_action, count_less, has_less, has_more, ends_last};
 ghost use Rattle.lexaction.specs.Statements.{literal_bytes};
 ghost use Rattle.lexaction.specs.Actions.{are_few, may_stand};
+ghost use Rattle.lexaction.specs.ActionFaults.{IsTogetherFault};
 ghost use Rattle.lexaction.specs.Views.{statement_of};
+ghost use Rattle.lexaction.specs.Limits.{max_literal_bytes};
 
-use crate::error::ActionError;
+use lexclass::SpecErrorKind;
 use lexmachine::{Statement, has_reject};
 
 /// The greatest count of statements in an action.
-const MOST_STATEMENTS: usize = 256;
+const MAX_STATEMENTS: usize = 256;
 /// The greatest count of literal bytes in an action.
-const MOST_LITERAL_BYTES: usize = 4096;
+const MAX_LITERAL_BYTES: usize = 4_096;
 
 fn has_more(statements: &[Statement]) -> bool
     ensures { result ≡ has_more (map statement_of statements.now) }
@@ -65,12 +67,12 @@ fn ends_last(statements: &[Statement]) -> bool
 
 /// Whether the literals have no more bytes than an action may have.
 fn are_short(statements: &[Statement]) -> bool
-    ensures { result ≡ nat_le (sum_by literal_bytes (map statement_of statements.now)) 4096 }
+    ensures { result ≡ nat_le (sum_by literal_bytes (map statement_of statements.now)) max_literal_bytes }
 {
     let mut total = 0;
     for statement in statements {
         total += statement.literal_bytes();
-        if total > MOST_LITERAL_BYTES {
+        if total > MAX_LITERAL_BYTES {
             return false;
         }
     }
@@ -81,31 +83,32 @@ fn are_short(statements: &[Statement]) -> bool
 pub(crate) fn are_few(statements: &[Statement]) -> bool
     ensures { result ≡ are_few (map statement_of statements.now) }
 {
-    statements.len() <= MOST_STATEMENTS && are_short(statements)
+    statements.len() <= MAX_STATEMENTS && are_short(statements)
 }
 
 /// Whether these statements may be the action of a rule, and else the first fault.
 #[tactic(auto, using(crate::proofs::LegalLemmas::too_many, crate::proofs::LegalLemmas::less_and_more, crate::proofs::LegalLemmas::less_twice, crate::proofs::LegalLemmas::reject_with, crate::proofs::LegalLemmas::not_last, crate::proofs::LegalLemmas::may_stand_is))]
-pub(crate) fn check(statements: &[Statement]) -> Result<(), ActionError>
+pub(crate) fn check(statements: &[Statement]) -> Result<(), SpecErrorKind>
     ensures ok { OnOk result (may_stand (map statement_of statements.now) ≡ true) }
     ensures err { OnErr result (may_stand (map statement_of statements.now) ≡ false) }
+    ensures fault { IfErr result (λ e. IsTogetherFault e) }
 {
     let more = has_more(statements);
     let less = has_less(statements);
     if !are_few(statements) {
-        return Err(ActionError::TooLong);
+        return Err(SpecErrorKind::TooLong);
     }
     if less && more {
-        return Err(ActionError::LessAndMore);
+        return Err(SpecErrorKind::LessAndMore);
     }
     if count_less(statements) > 1 {
-        return Err(ActionError::LessAndMore);
+        return Err(SpecErrorKind::LessAndMore);
     }
     if has_reject(statements) && (more || less) {
-        return Err(ActionError::RejectCombination);
+        return Err(SpecErrorKind::RejectCombination);
     }
     if !ends_last(statements) {
-        return Err(ActionError::NotLast);
+        return Err(SpecErrorKind::NotLast);
     }
     Ok(())
 }

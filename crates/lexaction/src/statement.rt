@@ -4,8 +4,9 @@ ghost use Rattle.lexaction.specs.Statements.{then_print, then_one, then_all};
 ghost use Rattle.lexaction.specs.Actions.{said_by};
 ghost use Rattle.lexaction.specs.Views.{statement_of, said_of};
 ghost use Rattle.lexaction.specs.Outcome.{UnlessMemory};
+ghost use Rattle.lexaction.specs.ActionFaults.{IsActionFault};
 
-use crate::error::ActionError;
+use lexclass::SpecErrorKind;
 use lexmachine::Statement;
 
 /// What a statement of the text says.
@@ -21,7 +22,12 @@ pub(crate) enum Said {
 #[derive(Drop)]
 pub(crate) enum Called {
     Says(Said),
-    Faulty(ActionError),
+    /// yyless keeps no byte, or too many.
+    BadCount,
+    /// exit has too great a status.
+    BadStatus,
+    /// BEGIN names a condition that is not declared.
+    UnknownCondition,
 }
 
 #[derive(Drop)]
@@ -40,9 +46,10 @@ pub(crate) struct Parts {
 }
 
 /// Puts a literal at the end.
-fn print(statements: &mut Vec<Statement>, bytes: Vec<u8>) -> Result<(), ActionError>
+fn print(statements: &mut Vec<Statement>, bytes: Vec<u8>) -> Result<(), SpecErrorKind>
     ensures ok { OnOk result (map statement_of statements.new.items ≡ then_print (map statement_of statements.old.items) bytes.items) }
     ensures err { IfErr result (λ e. UnlessMemory e ⊥) }
+    ensures fault { IfErr result (λ e. IsActionFault e) }
 {
     if bytes.is_empty() {
         return Ok(());
@@ -69,9 +76,10 @@ fn print(statements: &mut Vec<Statement>, bytes: Vec<u8>) -> Result<(), ActionEr
 }
 
 /// Puts what is said at the end, in normal form.
-pub(crate) fn say(statements: &mut Vec<Statement>, said: Said) -> Result<(), ActionError>
+pub(crate) fn say(statements: &mut Vec<Statement>, said: Said) -> Result<(), SpecErrorKind>
     ensures ok { OnOk result (map statement_of statements.new.items ≡ then_all (map statement_of statements.old.items) (said_by (said_of said))) }
     ensures err { IfErr result (λ e. UnlessMemory e ⊥) }
+    ensures fault { IfErr result (λ e. IsActionFault e) }
 {
     match said {
         Said::Does(Statement::Print(bytes)) => print(statements, bytes),

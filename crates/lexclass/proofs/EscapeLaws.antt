@@ -7,6 +7,7 @@ use Rattle.lexmeaning.specs.ByteSets.{within, is_xdigit, is_digit}
 use Rattle.lexmeaning.specs.Escapes.{octal_at, hexadecimal_at}
 use Rattle.lexmeaning.specs.Reading.{take_up_to, value, is_empty, digit_of}
 use Rattle.lexclass.proofs.Narrowing.{fits, too_large}
+use Rattle.lexclass.specs.Limits.{number_cap}
 
 abbrev Found : Type 0
 Found = Option (ℕ × List ℕ)
@@ -17,14 +18,14 @@ unfolding octal_at
 octal_from t digits rest e = rw e refl
 
 pub octal_found : {E : Type 0} (t digits rest : List ℕ) (r : Result ℕ E) (v x : ℕ) → ◌≡◌ {A = List ℕ × List ℕ} (take_up_to 3 (within 48 55) t) (digits, rest)
-    → v ≡ min 65536 (value 8 digits) → OkIff r (v < 256) v → Some x ≡ result_ok r → ◌≡◌ {A = Found} (octal_at t) (Some (x, rest))
+    → v ≡ min number_cap (value 8 digits) → OkIff r (v < 256) v → Some x ≡ result_ok r → ◌≡◌ {A = Found} (octal_at t) (Some (x, rest))
 octal_found t digits rest r v x e f h k =
     let p = fits 256 r v x h k in
     let same : value 8 digits ≡ x = omega (arith, p.0, p.1) in
     octal_from t digits rest e ∙ rw (lt-ltb (value 8 digits) 256 (omega (arith, p.0))) (ap (λ n. Some (n, rest)) same)
 
 pub octal_refused : {E : Type 0} (t digits rest : List ℕ) (r : Result ℕ E) (v : ℕ) → ◌≡◌ {A = List ℕ × List ℕ} (take_up_to 3 (within 48 55) t) (digits, rest)
-    → v ≡ min 65536 (value 8 digits) → OkIff r (v < 256) v → None ≡ result_ok r → ◌≡◌ {A = Found} (octal_at t) None
+    → v ≡ min number_cap (value 8 digits) → OkIff r (v < 256) v → None ≡ result_ok r → ◌≡◌ {A = Found} (octal_at t) None
 octal_refused t digits rest r v e f h k =
     let large : 256 ≤ v = too_large 256 r v h k in
     octal_from t digits rest e ∙ rw (le-ltb (value 8 digits) 256 (omega arith)) refl
@@ -62,12 +63,12 @@ fits_byte : (t digits rest : List ℕ) → ◌≡◌ {A = List ℕ × List ℕ} 
 fits_byte t digits rest e = let P : List ℕ × List ℕ → Type 0 = λ x. value 16 x.0 < 256 in subst P e (two_digits t)
 
 pub hexadecimal_found : {E : Type 0} (t digits rest : List ℕ) (r : Result ℕ E) (v x : ℕ) → ◌≡◌ {A = List ℕ × List ℕ} (take_up_to 2 is_xdigit t) (digits, rest)
-    → is_empty digits ≡ false → v ≡ min 65536 (value 16 digits) → OkIff r (v < 256) v → Some x ≡ result_ok r → ◌≡◌ {A = Found} (hexadecimal_at t) (Some (x, rest))
+    → is_empty digits ≡ false → v ≡ min number_cap (value 16 digits) → OkIff r (v < 256) v → Some x ≡ result_ok r → ◌≡◌ {A = Found} (hexadecimal_at t) (Some (x, rest))
 hexadecimal_found t digits rest r v x e some f h k =
     let p = fits 256 r v x h k in
     let same : value 16 digits ≡ x = omega (arith, p.0, p.1) in
     hexadecimal_from t digits rest e ∙ rw some (ap (λ n. Some (n, rest)) same)
 
 pub hexadecimal_fits : {E : Type 0} (t digits rest : List ℕ) (r : Result ℕ E) (v : ℕ) → ◌≡◌ {A = List ℕ × List ℕ} (take_up_to 2 is_xdigit t) (digits, rest)
-    → v ≡ min 65536 (value 16 digits) → OkIff r (v < 256) v → None ≡ result_ok r → ⊥
+    → v ≡ min number_cap (value 16 digits) → OkIff r (v < 256) v → None ≡ result_ok r → ⊥
 hexadecimal_fits t digits rest r v e f h k = omega (arith, too_large 256 r v h k, fits_byte t digits rest e)

@@ -9,6 +9,7 @@ use Rattle.lexmeaning.specs.Reading.{take_up_to, value, is_empty, begins}
 use Rattle.lexclass.specs.Lexical.{after_word, bounded, interval_at}
 use Rattle.lexclass.specs.Symbols.{Symbol, interval}
 use Rattle.lexclass.proofs.Narrowing.{fits, too_large}
+use Rattle.lexclass.specs.Limits.{max_times, number_cap}
 
 pub begun : (w t u : List ℕ) → after_word w t ≡ Some u → (begins w t ≡ true) × (drop (length w) t ≡ u)
 unfolding after_word
@@ -39,17 +40,17 @@ bounded_reversed : (m n : ℕ) (rest : List ℕ) → n < m → ◌≡◌ {A = Fo
 unfolding bounded
 bounded_reversed m n rest h = rw (reversed m n h) refl
 
-bounded_above : (m n : ℕ) (rest : List ℕ) → 255 < n → ◌≡◌ {A = Found} (bounded m n rest) None
+bounded_above : (m n : ℕ) (rest : List ℕ) → max_times < n → ◌≡◌ {A = Found} (bounded m n rest) None
 unfolding bounded
-bounded_above m n rest h = rw (reversed n 255 h) (go (nat_le m n) (nat_le 1 n))
+bounded_above m n rest h = rw (reversed n max_times h) (go (nat_le m n) (nat_le 1 n))
   where
     go : (a b : Bool) → ◌≡◌ {A = Found} (if a && b && false then Some (interval m (Some n), rest) else None) None
     go true true = refl
     go true false = refl
     go false b = refl
 
--- a count above 255 may be told as 65,536
-capped : (m n x y : ℕ) (rest : List ℕ) → x ≡ min 65536 m → y ≡ min 65536 n → ◌≡◌ {A = Found} (bounded m n rest) (bounded x y rest)
+-- a count above the greatest may be capped
+capped : (m n x y : ℕ) (rest : List ℕ) → x ≡ min number_cap m → y ≡ min number_cap n → ◌≡◌ {A = Found} (bounded m n rest) (bounded x y rest)
 capped m n x y rest e f = ⊎_elim small (λ large. bounded_above m n rest (omega arith) ∙ sym (bounded_above x y rest (omega arith))) (cases_lt n 256)
   where
     small : n < 256 → ◌≡◌ {A = Found} (bounded m n rest) (bounded x y rest)
@@ -68,7 +69,7 @@ after_comma m rest = let (most, end) = take_up_to (length (drop 1 rest)) is_digi
 abbrev after_least : ℕ → List ℕ → Found
 after_least m rest =
     if begins (codes "}") rest then bounded m m (drop 1 rest)
-    else if begins (codes ",}") rest then (if nat_le m 255 then Some (interval m None, drop 2 rest) else None)
+    else if begins (codes ",}") rest then (if nat_le m max_times then Some (interval m None, drop 2 rest) else None)
     else if begins (codes ",") rest then after_comma m rest
     else None
 
@@ -76,31 +77,31 @@ interval_from : (t digits rest : List ℕ) → IsRun t digits rest → interval_
 unfolding interval_at
 interval_from t digits rest e = rw e refl
 
-pub exactly : (t digits rest after : List ℕ) (x : ℕ) (o : Found) → IsRun t digits rest → x ≡ min 65536 (value 10 digits) → after_word (codes "}") rest ≡ Some after
+pub exactly : (t digits rest after : List ℕ) (x : ℕ) (o : Found) → IsRun t digits rest → x ≡ min number_cap (value 10 digits) → after_word (codes "}") rest ≡ Some after
     → ◌≡◌ {A = Found} (bounded x x after) o → interval_at t ≡ o
 exactly t digits rest after x o e f g h =
     let p = begun (codes "}") rest after g in
     interval_from t digits rest e ∙ rw p.0 (ap (bounded (value 10 digits) (value 10 digits)) p.1 ∙ capped _ _ x x after f f ∙ h)
 
 open_end : (t digits rest after : List ℕ) → IsRun t digits rest → after_word (codes "}") rest ≡ None → after_word (codes ",}") rest ≡ Some after
-    → interval_at t ≡ (if nat_le (value 10 digits) 255 then Some (interval (value 10 digits) None, after) else None)
+    → interval_at t ≡ (if nat_le (value 10 digits) max_times then Some (interval (value 10 digits) None, after) else None)
 open_end t digits rest after e f g =
     let p = begun (codes ",}") rest after g in
-    interval_from t digits rest e ∙ rw (not_begun (codes "}") rest f, p.0) (ap (λ u. if nat_le (value 10 digits) 255 then Some (interval (value 10 digits) None, u) else None) p.1)
+    interval_from t digits rest e ∙ rw (not_begun (codes "}") rest f, p.0) (ap (λ u. if nat_le (value 10 digits) max_times then Some (interval (value 10 digits) None, u) else None) p.1)
 
-pub at_least : {E : Type 0} (t digits rest after : List ℕ) (r : Result ℕ E) (x y : ℕ) → IsRun t digits rest → x ≡ min 65536 (value 10 digits)
+pub at_least : {E : Type 0} (t digits rest after : List ℕ) (r : Result ℕ E) (x y : ℕ) → IsRun t digits rest → x ≡ min number_cap (value 10 digits)
     → after_word (codes "}") rest ≡ None → after_word (codes ",}") rest ≡ Some after → OkIff r (x < 256) x → Some y ≡ result_ok r
     → interval_at t ≡ Some (interval y None, after)
 at_least t digits rest after r x y e f g h k l =
     let p = fits 256 r x y k l in
     let same : value 10 digits ≡ y = omega (arith, p.0, p.1) in
-    open_end t digits rest after e g h ∙ rw (in_order (value 10 digits) 255 (omega (arith, p.0))) (ap (λ n. Some (interval n None, after)) same)
+    open_end t digits rest after e g h ∙ rw (in_order (value 10 digits) max_times (omega (arith, p.0))) (ap (λ n. Some (interval n None, after)) same)
 
-pub at_least_too_many : {E : Type 0} (t digits rest after : List ℕ) (r : Result ℕ E) (x : ℕ) → IsRun t digits rest → x ≡ min 65536 (value 10 digits)
+pub at_least_too_many : {E : Type 0} (t digits rest after : List ℕ) (r : Result ℕ E) (x : ℕ) → IsRun t digits rest → x ≡ min number_cap (value 10 digits)
     → after_word (codes "}") rest ≡ None → after_word (codes ",}") rest ≡ Some after → OkIff r (x < 256) x → None ≡ result_ok r → interval_at t ≡ None
 at_least_too_many t digits rest after r x e f g h k l =
     let large : 256 ≤ x = too_large 256 r x k l in
-    open_end t digits rest after e g h ∙ rw (reversed (value 10 digits) 255 (omega arith)) refl
+    open_end t digits rest after e g h ∙ rw (reversed (value 10 digits) max_times (omega arith)) refl
 
 pub no_comma : (t digits rest : List ℕ) → IsRun t digits rest → after_word (codes "}") rest ≡ None → after_word (codes ",}") rest ≡ None
     → after_word (codes ",") rest ≡ None → interval_at t ≡ None
@@ -131,7 +132,7 @@ comma_unclosed t digits rest most end h e = comma_then t digits rest most end h 
 pub comma_no_digit : (t digits rest most end : List ℕ) → IsComma t digits rest most end → is_empty most ≡ true → interval_at t ≡ None
 comma_no_digit t digits rest most end h e = comma_then t digits rest most end h ∙ rw e refl
 
-pub between : (t digits rest most end after : List ℕ) (x y : ℕ) (o : Found) → IsComma t digits rest most end → x ≡ min 65536 (value 10 digits) → y ≡ min 65536 (value 10 most)
+pub between : (t digits rest most end after : List ℕ) (x y : ℕ) (o : Found) → IsComma t digits rest most end → x ≡ min number_cap (value 10 digits) → y ≡ min number_cap (value 10 most)
     → is_empty most ≡ false → after_word (codes "}") end ≡ Some after → ◌≡◌ {A = Found} (bounded x y after) o → interval_at t ≡ o
 between t digits rest most end after x y o h e f some g k =
     let p = begun (codes "}") end after g in

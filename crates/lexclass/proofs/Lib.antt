@@ -1,6 +1,7 @@
 pub mod Narrowing
 pub mod RunLaws
 pub mod EscapeLaws
+pub mod FaultLaws
 pub mod BracketLaws
 pub mod ElementLaws
 pub mod ShorterLaws
@@ -11,3 +12,4 @@ pub mod SetLaws
 pub mod PassingLaws
 pub mod EndLaws
 pub mod MemberLaws
+pub mod MemoryLaws

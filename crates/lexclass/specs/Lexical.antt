@@ -7,6 +7,7 @@ use Rattle.lexmeaning.specs.Reading.{◌>>=◌, Reader, is_empty, begins, take_r
 use Rattle.lexmeaning.specs.Escapes.{control, is_octal, octal_at, hexadecimal_at, byte_with, until_quote}
 use Rattle.lexmeaning.specs.Tree.{Tree, Empty, Set, Cat, trees}
 use Rattle.lexclass.specs.Symbols.{Symbol, item, name, opening, closing, bar, sign, interval, any_times, once_or_more, at_most_once, Lexer}
+use Rattle.lexclass.specs.Limits.{max_times}
 
 -- what follows the word, where the text begins with it
 unfoldable pub after_word : List ℕ → List ℕ → Option (List ℕ)
@@ -150,9 +151,9 @@ class_set fold negated es = union_set es >>= λ s.
 
 -- Intervals and names, after `{`.
 
--- from m to n times, n from 1 to 255
+-- from m to n times, n from 1 on
 unfoldable pub bounded : ℕ → ℕ → Reader Symbol
-bounded m n rest = if nat_le m n && nat_le 1 n && nat_le n 255 then Some (interval m (Some n), rest) else None
+bounded m n rest = if nat_le m n && nat_le 1 n && nat_le n max_times then Some (interval m (Some n), rest) else None
 
 -- at a digit: `m}`, `m,}` or `m,n}`
 unfoldable pub interval_at : Reader Symbol
@@ -160,7 +161,7 @@ interval_at t =
     let (least, rest) = take_run is_digit t in
     let m = value 10 least in
     if begins (codes "}") rest then bounded m m (drop 1 rest)
-    else if begins (codes ",}") rest then (if nat_le m 255 then Some (interval m None, drop 2 rest) else None)
+    else if begins (codes ",}") rest then (if nat_le m max_times then Some (interval m None, drop 2 rest) else None)
     else if begins (codes ",") rest then
     (let (most, after) = take_run is_digit (drop 1 rest) in
     if not (is_empty most) && begins (codes "}") after then bounded m (value 10 most) (drop 1 after) else None)

@@ -1,8 +1,12 @@
 pub mod ClassSets
 pub mod Classes
 pub mod Elements
+pub mod Faults
 pub mod Halves
 pub mod Lexical
+pub mod Limits
+pub mod Memory
 pub mod Passing
+pub mod PatternMemory
 pub mod Stops
 pub mod Symbols

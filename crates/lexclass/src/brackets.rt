@@ -1,12 +1,13 @@
 //! What stands between brackets inside a class. (POSIX, Base Definitions, RE Bracket Expression.)
-ghost use Rattle.std.specs.Prelude.{◌≡◌, ◌≤◌, ℕ, List, length, Option, Some, None, MatchResult, option_map};
+ghost use Rattle.std.specs.Prelude.{◌≡◌, ◌≤◌, ℕ, List, length, Option, Some, None, MatchResult, IfErr, option_map};
+ghost use Rattle.lexclass.specs.Faults.{IsByteFault};
 ghost use Rattle.lexclass.specs.Lexical.{literal_byte_at, enclosed_at, letters_at, named_at, unsupported_at};
 ghost use Rattle.lexclass.specs.Stops.{stop_of};
 
 use crate::classes::Class;
 use crate::error::{Fault, PatternErrorKind};
-use crate::escapes::escape_at;
-use crate::runs::{skip_word, take_up_to};
+use crate::escapes::literal_byte_at;
+use crate::fronts::{skip_word, take_up_to};
 
 /// At least one letter, and `:]`: the letters, and what follows.
 fn letters_at(text: &[u8]) -> Option<(&[u8], &[u8])>
@@ -78,24 +79,22 @@ pub fn skip_unsupported<'a>(text: &'a [u8], stop: &[u8]) -> Option<&'a [u8]>
 }
 
 /// A byte of a class, and what follows it: an escape, or any byte but a newline. `class` is the text from the class on, at
-/// which it is told that the class is not closed.
-#[tactic(auto, unfolding(crate::specs::Lexical::literal_byte_at))]
+/// which a class that is not closed is reported.
 pub fn class_byte_at<'a>(class: &'a [u8], text: &'a [u8]) -> Result<(u8, &'a [u8]), Fault<'a>>
-    ensures { MatchResult result
+    ensures found { MatchResult result
         (λ x. ◌≡◌ {A = Option (ℕ × List ℕ)} (literal_byte_at text.now) (Some (x.0, x.1.now)))
         (λ _. ◌≡◌ {A = Option (ℕ × List ℕ)} (literal_byte_at text.now) None) }
+    ensures fault { IfErr result (λ f. IsByteFault f.kind) }
 {
-    let unclosed = Fault {
-        kind: PatternErrorKind::UnclosedClass,
-        rest: class,
-    };
-    let (&byte, after) = text.split_first().ok_or(unclosed)?;
-    match byte {
-        b'\n' => Err(unclosed),
-        b'\\' => escape_at(after).ok_or(Fault {
+    match literal_byte_at(text) {
+        Some(found) => Ok(found),
+        None if text.starts_with(b"\\") => Err(Fault {
             kind: PatternErrorKind::BadEscape,
             rest: text,
         }),
-        _ => Ok((byte, after)),
+        None => Err(Fault {
+            kind: PatternErrorKind::UnclosedClass,
+            rest: class,
+        }),
     }
 }

@@ -1,19 +1,20 @@
 //! Numbers in digits.
 ghost use Rattle.std.specs.Prelude.{◌≡◌, ◌≤◌, min};
 ghost use Rattle.lexmeaning.specs.Reading.{digit_of, value};
+ghost use Rattle.lexclass.specs.Limits.{number_cap};
 
-/// A number above this is as good as this.
-const CAP: u32 = 65536;
+/// A number above this one counts as this one.
+const NUMBER_CAP: u32 = 65_536;
 
-/// The number that the digits write.
+/// The number that the digits write, or the cap where that is less.
 pub fn capped_value(radix: u32, digits: &[u8]) -> u32
     requires from_one { 1 ≤ radix }
     requires at_most { radix ≤ 16 }
-    ensures { result ≡ min 65536 (value radix digits.now) }
+    ensures { result ≡ min number_cap (value radix digits.now) }
 {
     let mut number = 0;
     for digit in digits {
-        number = (number * radix + digit_of(*digit)).min(CAP);
+        number = (number * radix + digit_of(*digit)).min(NUMBER_CAP);
     }
     number
 }

@@ -1,7 +1,8 @@
 //! The elements of a class. (POSIX, Base Definitions, RE Bracket Expression.)
-ghost use Rattle.std.specs.Prelude.{◌≡◌, ◌≤◌, List, length, ℕ, Option, Some, None, MatchResult, option_map};
+ghost use Rattle.std.specs.Prelude.{◌≡◌, ◌≤◌, List, length, ℕ, Option, Some, None, MatchResult, IfErr, IfOk, IfSome, option_map};
 ghost use Rattle.lexclass.specs.Lexical.{Element, bracketed_at, element_at, is_range, range_at};
 ghost use Rattle.lexclass.specs.Elements.{element_of};
+ghost use Rattle.lexclass.specs.Faults.{IsByteFault, HasPartFault};
 ghost use Rattle.lexclass.specs.Stops.{stop_of};
 
 use crate::brackets::{class_byte_at, named_at, next_stop, skip_unsupported};
@@ -12,7 +13,8 @@ use crate::parts::Part;
 #[tactic(auto, unfolding(crate::specs::Lexical::bracketed_at))]
 fn bracketed_at<'a>(text: &'a [u8], stop: &[u8]) -> Option<(Part<'a>, &'a [u8])>
     requires { stop.now ≡ stop_of text.now }
-    ensures { ◌≡◌ {A = Option (Element × List ℕ)} (bracketed_at text.now) (option_map (λ x. (element_of x.0, x.1.now)) result) }
+    ensures found { ◌≡◌ {A = Option (Element × List ℕ)} (bracketed_at text.now) (option_map (λ x. (element_of x.0, x.1.now)) result) }
+    ensures refused { IfSome result (λ x. HasPartFault x.0) }
 {
     if let Some((letters, rest)) = named_at(text) {
         return Some((Part::Named(letters), rest));
@@ -47,9 +49,11 @@ fn range_at<'a>(
     stop: &'a [u8],
 ) -> Result<(Part<'a>, &'a [u8]), Fault<'a>>
     requires { length stop.now ≤ length text.now → stop.now ≡ stop_of text.now }
-    ensures { MatchResult result
+    ensures found { MatchResult result
         (λ x. ◌≡◌ {A = Option (Element × List ℕ)} (range_at low text.now) (Some (element_of x.0, x.1.now)))
         (λ _. ◌≡◌ {A = Option (Element × List ℕ)} (range_at low text.now) None) }
+    ensures refused { IfOk result (λ x. HasPartFault x.0) }
+    ensures fault { IfErr result (λ f. IsByteFault f.kind) }
 {
     match bracketed_at(text, next_stop(stop, text)) {
         Some((Part::Named(_), rest)) => {
@@ -73,8 +77,8 @@ fn range_at<'a>(
     }
 }
 
-/// An element of a class, and what follows it. `class` is the text from the class on, at which it is told that the class is
-/// not closed, and `stop` the text from its first `]` or newline on.
+/// An element of a class, and what follows it. `class` is the text from the class on, at which a class that is not closed is
+/// reported, and `stop` the text from its first `]` or newline on.
 #[tactic(auto, unfolding(crate::specs::Lexical::element_at))]
 pub fn element_at<'a>(
     class: &'a [u8],
@@ -82,9 +86,11 @@ pub fn element_at<'a>(
     stop: &'a [u8],
 ) -> Result<(Part<'a>, &'a [u8]), Fault<'a>>
     requires { stop.now ≡ stop_of text.now }
-    ensures { MatchResult result
+    ensures found { MatchResult result
         (λ x. ◌≡◌ {A = Option (Element × List ℕ)} (element_at text.now) (Some (element_of x.0, x.1.now)))
         (λ _. ◌≡◌ {A = Option (Element × List ℕ)} (element_at text.now) None) }
+    ensures refused { IfOk result (λ x. HasPartFault x.0) }
+    ensures fault { IfErr result (λ f. IsByteFault f.kind) }
 {
     if let Some(found) = bracketed_at(text, stop) {
         return Ok(found);

@@ -5,7 +5,7 @@ ghost use Rattle.lexclass.specs.declared.error.PatternErrorKind.TheVariants.{Out
 use std::alloc::{AllocError, AllocFailed};
 use thiserror::Error;
 
-/// The reason, by its name. A fault inside a name's substitute is told of the name.
+/// Why a text is no pattern, by name. A fault inside a name's substitute is reported at the name.
 #[derive(Clone, Copy, Debug, PartialEq, Eq, Error)]
 pub enum PatternErrorKind {
     /// A quote that is not closed on its line.
@@ -73,7 +73,7 @@ impl<T: Drop> From<AllocFailed<T>> for PatternErrorKind {
     }
 }
 
-/// The first fault that was met, and its place in the text, counted from 0.
+/// The first fault in a text, and its place there, counted from 0.
 #[derive(Clone, Copy, Debug, PartialEq, Eq, Error)]
 #[error("{kind} at {at}")]
 pub struct PatternError {

@@ -1,11 +1,11 @@
 //! Escapes. (POSIX, lex, Regular Expressions in lex; flex, Patterns.)
 ghost use Rattle.std.specs.Prelude.{◌≡◌, ℕ, List, Option, option_map};
 ghost use Rattle.lexmeaning.specs.Escapes.{control, hexadecimal_at, octal_at};
-ghost use Rattle.lexclass.specs.Lexical.{escape_at};
+ghost use Rattle.lexclass.specs.Lexical.{escape_at, literal_byte_at};
 
 use crate::classes::Class;
 use crate::digits::capped_value;
-use crate::runs::take_up_to;
+use crate::fronts::take_up_to;
 
 /// After a backslash: the byte, and what follows it. None at a newline, at the end, and at octal digits above 255.
 #[tactic(auto, unfolding(crate::specs::Lexical::escape_at))]
@@ -18,6 +18,19 @@ pub fn escape_at(text: &[u8]) -> Option<(u8, &[u8])>
         b'0'..=b'7' => octal_at(text),
         b'x' => Some(hexadecimal_at(after).unwrap_or((b'x', after))),
         other => Some((control(other), after)),
+    }
+}
+
+/// A byte between quotes or brackets, and what follows it: an escape, or any byte but a newline.
+#[tactic(auto, unfolding(crate::specs::Lexical::literal_byte_at))]
+pub fn literal_byte_at(text: &[u8]) -> Option<(u8, &[u8])>
+    ensures { ◌≡◌ {A = Option (ℕ × List ℕ)} (literal_byte_at text.now) (option_map (λ x. (x.0, x.1.now)) result) }
+{
+    let (&byte, after) = text.split_first()?;
+    match byte {
+        b'\n' => None,
+        b'\\' => escape_at(after),
+        _ => Some((byte, after)),
     }
 }
 
@@ -44,7 +57,7 @@ pub fn hexadecimal_at(text: &[u8]) -> Option<(u8, &[u8])>
 
 /// The byte that a backslash and this one stand for: C's, or itself.
 #[tactic(auto, unfolding(lexmeaning::specs::Escapes::control))]
-fn control(byte: u8) -> u8
+pub fn control(byte: u8) -> u8
     ensures { result ≡ control byte }
 {
     match byte {

@@ -1,15 +1,16 @@
 //! The set of a class. (POSIX, Base Definitions, RE Bracket Expression.)
-ghost use Rattle.std.specs.Prelude.{◌≡◌, ◌≤◌, ℕ, Bool, List, Option, Some, None, true, suc, length, drop, MatchResult, IfOk};
+ghost use Rattle.std.specs.Prelude.{◌≡◌, ◌≤◌, ℕ, Bool, List, Option, Some, None, true, suc, length, drop, MatchResult, IfOk, IfErr};
 ghost use Rattle.lexmeaning.specs.ByteSets.{ByteSet, complement, range_set, HasByte};
 ghost use Rattle.lexclass.specs.ClassSets.{class_set_at, member_at, members_at};
+ghost use Rattle.lexclass.specs.Faults.{IsClassFault};
 ghost use Rattle.lexclass.specs.Lexical.{folded};
 ghost use Rattle.lexclass.specs.Stops.{stop_of};
 
 use crate::brackets::{find_stop, next_stop};
 use crate::elements::element_at;
 use crate::error::{Fault, PatternErrorKind};
+use crate::fronts::{skip_first, skip_word};
 use crate::parts::Part;
-use crate::runs::{skip_first, skip_word};
 use crate::sets::ByteSet;
 
 /// The bytes from `low` to `high`, of which there is one at least.
@@ -23,7 +24,7 @@ fn span(low: u8, high: u8) -> ByteSet
 
 /// The set of the element at the front of the text, and what follows it. `class` is the text from the class on, and `stop`
 /// the text from its first `]` or newline on.
-#[tactic(auto, unfolding(crate::specs::Lexical::element_set))]
+#[tactic(auto, unfolding(crate::specs::Lexical::element_set), using(crate::proofs::FaultLaws::byte_fault_of_class, crate::proofs::FaultLaws::part_fault_of_class))]
 fn member_at<'a>(
     class: &'a [u8],
     text: &'a [u8],
@@ -34,6 +35,7 @@ fn member_at<'a>(
         (λ x. ◌≡◌ {A = Option (ByteSet × List ℕ)} (member_at text.now) (Some (x.0, x.1.now)))
         (λ _. ◌≡◌ {A = Option (ByteSet × List ℕ)} (member_at text.now) None) }
     ensures some { IfOk result (λ x. HasByte x.0) }
+    ensures fault { IfErr result (λ f. IsClassFault f.kind) }
 {
     let (part, rest) = element_at(class, text, stop)?;
     match part {
@@ -63,6 +65,7 @@ fn members_at<'a>(class: &'a [u8], text: &'a [u8]) -> Result<(ByteSet, &'a [u8])
         (λ x. ◌≡◌ {A = Option (ByteSet × List ℕ)} (members_at (suc (length text.now)) true text.now) (Some (x.0, x.1.now)))
         (λ _. ◌≡◌ {A = Option (ByteSet × List ℕ)} (members_at (suc (length text.now)) true text.now) None) }
     ensures some { IfOk result (λ x. HasByte x.0) }
+    ensures fault { IfErr result (λ f. IsClassFault f.kind) }
 {
     let mut stop = find_stop(text);
     let (mut set, mut rest) = match member_at(class, text, stop) {
@@ -101,6 +104,7 @@ pub fn class_at<'a>(class: &'a [u8], fold: bool) -> Result<(ByteSet, &'a [u8]), 
         (λ x. ◌≡◌ {A = Option (ByteSet × List ℕ)} (class_set_at fold (drop 1 class.now)) (Some (x.0, x.1.now)))
         (λ _. ◌≡◌ {A = Option (ByteSet × List ℕ)} (class_set_at fold (drop 1 class.now)) None) }
     ensures some { IfOk result (λ x. HasByte x.0) }
+    ensures fault { IfErr result (λ f. IsClassFault f.kind) }
 {
     let inside = skip_first(class);
     if let Some(listed) = skip_word(b"^", inside) {

@@ -8,6 +8,6 @@ pub enum Part<'a> {
     Span(u8, u8),
     /// `[:name:]`.
     Named(&'a [u8]),
-    /// What may not stand in a class, and what is told of it.
+    /// What may not stand in a class, and the fault that says why.
     Refused(Fault<'a>),
 }

@@ -1,7 +1,8 @@
 //! Classes, passed over. (POSIX, lex, Regular Expressions in lex; flex, Patterns.)
-ghost use Rattle.std.specs.Prelude.{◌≡◌, ◌<◌, ◌≤◌, length, drop, codes, if◌then◌else◌, Some, None, IfOk, MatchResult};
+ghost use Rattle.std.specs.Prelude.{◌≡◌, ◌<◌, ◌≤◌, length, drop, codes, if◌then◌else◌, Some, None, IfOk, IfErr, MatchResult};
 ghost use Rattle.lexmeaning.specs.Reading.{begins};
 ghost use Rattle.lexclass.specs.Lexical.{class_at};
+ghost use Rattle.lexclass.specs.Faults.{IsByteFault};
 ghost use Rattle.lexclass.specs.Passing.{rest_of_class};
 
 use crate::brackets::{find_stop, next_stop};
@@ -9,12 +10,13 @@ use crate::elements::element_at;
 use crate::error::{Fault, PatternErrorKind};
 
 /// After the opening bracket of a class: what follows the closing one, whatever the elements are. `class` is the text from
-/// the class on, at which it is told that the class is not closed.
+/// the class on, at which a class that is not closed is reported.
 pub fn skip_class<'a>(class: &'a [u8], text: &'a [u8]) -> Result<&'a [u8], Fault<'a>>
     ensures rest { MatchResult result
         (λ rest. rest_of_class (class_at text.now) ≡ Some rest.now)
         (λ _. rest_of_class (class_at text.now) ≡ None) }
     ensures shorter { IfOk result (λ rest. length rest.now < length text.now) }
+    ensures fault { IfErr result (λ f. IsByteFault f.kind) }
 {
     let inside = skip_negation(text);
     let mut stop = find_stop(inside);

@@ -11,6 +11,7 @@ use Rattle.lexaction.specs.declared.condition.Condition.{Condition}
 use Rattle.lexlines.specs.DefinitionLines.{Declared, names_of, has_name, are_distinct}
 use Rattle.lexlines.specs.Declaring.{declared_of, with_kind, AreGood}
 use Rattle.lexlines.proofs.OneSection.{no_true}
+use Rattle.lexaction.specs.Limits.{max_conditions}
 
 pub word_same : (w : List ℕ) → is_word w w ≡ true
 word_same [] = refl
@@ -89,7 +90,7 @@ has_number cs name b e = ap (λ ns. has_name ns name) (names_kept cs) ∙ sym (n
 -- one name more
 
 pub push_good : (cs new : List Condition) (c : Condition) (d : Declared) → new ≡ cs ++ c ∷ [] → declared_of c ≡ d → AreGood (map declared_of cs)
-    → has_name (names_of (map declared_of cs)) d.name ≡ false → (length cs ≡ 255 → ⊥) → AreGood (map declared_of new)
+    → has_name (names_of (map declared_of cs)) d.name ≡ false → (length cs ≡ max_conditions → ⊥) → AreGood (map declared_of new)
 push_good cs new c d e is good free room =
     let same : map declared_of new ≡ map declared_of cs ++ d ∷ [] = ap (map declared_of) e ∙ map-append declared_of cs (c ∷ []) ∙ ap (λ z. map declared_of cs ++ z ∷ []) is in
     let names : names_of (map declared_of new) ≡ names_of (map declared_of cs) ++ d.name ∷ [] = ap names_of same ∙ map-append (λ (z : Declared). z.name) (map declared_of cs) (d ∷ []) in

@@ -11,8 +11,8 @@ use Rattle.lexlines.specs.DefinitionLines.{Definition, nothing, code_line, code_
 use Rattle.lexlines.specs.Declaring.{declared_of, AreGood, AreAllowed, Declares}
 use Rattle.lexlines.specs.declared.declarations.Declarations.{Declarations}
 use Rattle.lexlines.specs.Outcome.{UnlessMemory}
-use Rattle.lexlines.specs.declared.error.SpecErrorKind.{SpecErrorKind}
-use Rattle.lexlines.proofs.OutcomeLaws.{unless_memory}
+use Rattle.lexclass.specs.declared.refusals.SpecErrorKind.{SpecErrorKind}
+use Rattle.lexclass.proofs.MemoryLaws.{unless_memory}
 use Rattle.lexlines.proofs.OneSection.{no_true, separator_ends, some_pair}
 
 -- one line more

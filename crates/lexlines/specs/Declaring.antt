@@ -4,6 +4,7 @@ use Rattle.std.specs.FinMap.{from_entries}
 use Rattle.lexaction.specs.declared.condition.Condition.{Condition}
 use Rattle.lexlines.specs.DefinitionLines.{Definition, Declared, all_conditions, names_of, has_name, are_distinct, substitutes_of, all_options, are_known}
 use Rattle.lexlines.specs.declared.declarations.Declarations.{Declarations}
+use Rattle.lexaction.specs.Limits.{max_conditions}
 
 abbrev pub declared_of : Condition → Declared
 declared_of c = record { exclusive = c.exclusive; name = c.name.items }
@@ -12,9 +13,9 @@ declared_of c = record { exclusive = c.exclusive; name = c.name.items }
 abbrev pub with_kind : Bool → List (List ℕ) → List Declared
 with_kind exclusive names = map (λ n. record { exclusive = exclusive; name = n }) names
 
--- no condition is declared twice, and there are at most 255
+-- no condition is declared twice, and there are not too many
 abbrev pub AreGood : List Declared → Type 0
-AreGood cs = (are_distinct (names_of cs) ≡ true) × (length cs ≤ 255)
+AreGood cs = (are_distinct (names_of cs) ≡ true) × (length cs ≤ max_conditions)
 
 -- no condition and no name is declared twice, conditions are few, and options are known
 abbrev pub AreAllowed : List Definition → Type 0

@@ -4,8 +4,8 @@ use Rattle.std.specs.FinMap.{get}
 use Rattle.lexre.specs.Definitions.{Definitions}
 use Rattle.lexlines.specs.declared.definition.DefinitionFault.{DefinitionFault}
 use Rattle.lexlines.specs.declared.definition.DefinitionFault.TheVariants.{BadLine, Unclosed, Anchored}
-use Rattle.lexlines.specs.declared.error.SpecErrorKind.{SpecErrorKind}
-use Rattle.lexlines.specs.declared.error.SpecErrorKind.TheVariants as K
+use Rattle.lexclass.specs.declared.refusals.SpecErrorKind.{SpecErrorKind}
+use Rattle.lexclass.specs.declared.refusals.SpecErrorKind.TheVariants as K
 use Rattle.lexmeaning.specs.Reading.{begins}
 use Rattle.lexlines.specs.DefinitionLines.{Definition, definition_at, IsUpTo}
 use Rattle.lexlines.specs.Lines.{newlines}
@@ -21,8 +21,8 @@ pub record HasSection (fold : Bool) (text : List ℕ) (s : Section) : Type 0 whe
   pub allowed : AreAllowed definitions
   pub line : s.line + newlines s.rest.now ≡ 1 + newlines text
 
--- how a fault of a line is told, where these names are defined before it
-abbrev pub kind_told : Definitions → DefinitionFault → SpecErrorKind
-kind_told defined BadLine = K.BadDefinitionLine
-kind_told defined Unclosed = K.Unclosed
-kind_told defined (Anchored name) = if is_some (get defined name.now) then K.DuplicateName else K.AnchoredDefinition
+-- the reason that is reported for a fault of a line, where these names are defined before it
+abbrev pub reported_kind : Definitions → DefinitionFault → SpecErrorKind
+reported_kind defined BadLine = K.BadDefinitionLine
+reported_kind defined Unclosed = K.Unclosed
+reported_kind defined (Anchored name) = if is_some (get defined name.now) then K.DuplicateName else K.AnchoredDefinition

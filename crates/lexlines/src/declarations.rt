@@ -1,6 +1,5 @@
 //! What the definitions section declares. (POSIX, lex, Definitions in lex; flex, Start Conditions and Options.)
 ghost use Rattle.std.specs.Prelude.{◌≡◌, ◌≤◌, ◌<◌, ◌+◌, ◌^◌, ◌||◌, Bool, List, [], ◌∷◌, ◌++◌, map, length, codes, is_some, IfOk, IfErr, IfSome, OnOk};
-ghost use Rattle.lexaction.specs.Names.{number_from, names_of};
 ghost use Rattle.lexlines.specs.Lines.{words};
 ghost use Rattle.lexlines.specs.DefinitionLines.{Definition as Meant, has_name, known_options, are_known, Declared};
 ghost use Rattle.lexlines.specs.DefinitionViews.{definition_of};
@@ -8,15 +7,15 @@ ghost use Rattle.lexlines.specs.Declaring.{declared_of, with_kind, AreGood, AreA
 ghost use Rattle.lexlines.specs.Outcome.{UnlessMemory};
 
 use crate::definition::Definition;
-use crate::error::SpecErrorKind;
 use crate::lines::next_word;
 use crate::skipped::Skipped;
-use lexaction::{Condition, EndAction};
+use lexaction::{Condition, EndAction, number_of};
+use lexclass::SpecErrorKind;
 use lexre::{Defs, DefsError};
 use std::alloc::{AllocError, Global};
 
 /// The most conditions, INITIAL among them.
-const MAX_CONDITIONS: usize = 255;
+pub const MAX_CONDITIONS: usize = 255;
 
 /// What the lines of the definitions section declare.
 #[derive(Drop)]
@@ -30,20 +29,6 @@ pub struct Declarations {
     pub fold: bool,
     /// The lines where code was skipped.
     pub skipped: Skipped,
-}
-
-/// The number of the condition with the name.
-pub fn number_of(conditions: &[Condition], name: &[u8]) -> Option<u8>
-    requires { length conditions.now ≤ 255 }
-    ensures number { result ≡ number_from 0 (names_of conditions.now) name.now }
-    ensures below { IfSome result (λ n. n < length conditions.now) }
-{
-    for i in 0..conditions.len() {
-        if conditions[i].name.as_slice() == name {
-            return Some(i as u8);
-        }
-    }
-    None
 }
 
 /// A condition without an end action.

@@ -4,7 +4,7 @@ ghost use Rattle.std.specs.List.{list_any};
 ghost use Rattle.lexlines.specs.Lines.{words};
 ghost use Rattle.lexlines.specs.DefinitionLines.{Definition as Meant, options, ignored, is_name, are_names, trimmed, ends_anchored, declaration, number, definition_in, percent_line, definition_at};
 ghost use Rattle.lexlines.specs.DefinitionViews.{definition_of};
-ghost use Rattle.lexmeaning.specs.Reading.{take_run, is_empty, begins, goes_on_name, after_run};
+ghost use Rattle.lexmeaning.specs.Reading.{is_empty, begins, after_run};
 ghost use Rattle.lexmeaning.specs.ByteSets.{is_digit, is_word};
 
 use crate::lines::{
@@ -12,7 +12,7 @@ use crate::lines::{
     starts_blank,
 };
 use crate::skipping::{skip_block, skip_comment};
-use lexclass::{goes_on_name, skip_first, starts_name};
+use lexclass::{skip_first, split_name, starts_name};
 
 /// A line of the definitions section, with the lines of a comment or block that it opens.
 #[derive(Clone, Copy)]
@@ -42,13 +42,6 @@ pub(crate) enum DefinitionFault<'a> {
     Unclosed,
     /// The substitute of this name begins with `^` or ends with `$`.
     Anchored { name: &'a [u8] },
-}
-
-/// The bytes of a name at the front, and what follows them.
-fn split_name(text: &[u8]) -> (&[u8], &[u8])
-    ensures name { ◌≡◌ {A = List ℕ × List ℕ} (take_run goes_on_name text.now) (result.0.now, result.1.now) }
-{
-    split_before(|byte| !goes_on_name(byte), text)
 }
 
 /// Whether the word is a name.

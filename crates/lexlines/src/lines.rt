@@ -7,7 +7,7 @@ ghost use Rattle.lexlines.specs.Lines.{without_returns, line_in, before_blank, w
 ghost use Rattle.lexlines.specs.Runs.{split_before};
 
 use bstr::ByteSlice;
-use lexclass::skip_first;
+use lexclass::{skip_first, take_up_to};
 use std::alloc::{AllocError, Global};
 
 /// The text without each carriage return that stands directly before a newline.
@@ -32,12 +32,7 @@ pub fn split_before<F: Fn(u8) -> bool>(test: F, text: &[u8]) -> (&[u8], &[u8])
         → split_before p text.now ≡ (result.0.now, result.1.now) }
     ensures whole { result.0.now ++ result.1.now ≡ text.now }
 {
-    for (i, byte) in text.iter().enumerate() {
-        if test(*byte) {
-            return text.split_at(i);
-        }
-    }
-    text.split_at(text.len())
+    take_up_to(text.len(), |byte| !test(byte), text)
 }
 
 /// The first line, without its newline, and what follows that.

@@ -1,10 +1,14 @@
 //! Numbers of lines.
 ghost use Rattle.std.specs.Prelude.{◌≡◌, ◌≤◌, ◌-◌, length, take};
 ghost use Rattle.lexlines.specs.Lines.{newlines};
+ghost use Rattle.lexlines.specs.Limits.{max_file_bytes};
+
+/// The most bytes of a file.
+pub const MAX_FILE_BYTES: usize = 1_048_576;
 
 /// How many newlines stand before the rest of the text.
 pub fn newlines_before(text: &[u8], rest: &[u8]) -> u32
-    requires { length text.now ≤ 1048576 }
+    requires { length text.now ≤ max_file_bytes }
     ensures { result ≡ newlines (take (length text.now - length rest.now) text.now) }
 {
     let (front, _) = text.split_at(text.len().saturating_sub(rest.len()));

@@ -3,13 +3,14 @@ ghost use Rattle.std.specs.Prelude.{◌≡◌, ℕ, ◌≤◌, ◌+◌, true, Li
 ghost use Rattle.lexmeaning.specs.Reading.{begins};
 ghost use Rattle.lexlines.specs.DefinitionLines.{Definition as Meant, definition_at, IsUpTo};
 ghost use Rattle.lexlines.specs.Declaring.{AreAllowed};
-ghost use Rattle.lexlines.specs.Sections.{HasSection, kind_told};
+ghost use Rattle.lexlines.specs.Sections.{HasSection, reported_kind};
 ghost use Rattle.lexlines.specs.Outcome.{UnlessMemory};
+ghost use Rattle.lexlines.specs.Limits.{max_file_bytes};
 
 use crate::declarations::Declarations;
 use crate::definition::{DefinitionFault, definition_at};
-use crate::error::{SpecError, SpecErrorKind};
 use crate::newlines::newlines_before;
+use lexclass::{SpecError, SpecErrorKind};
 use std::alloc::Global;
 
 /// What the definitions section declares, and where the next section begins.
@@ -26,7 +27,7 @@ pub struct Section<'a> {
 /// The definitions section, up to a line that begins with `%%`. `fold` says whether patterns ignore case without an
 /// option. The first faulty line is refused; without a `%%` it is the line after the last, as `NoRulesSection`.
 pub fn read_section(alloc: Global, text: &[u8], fold: bool) -> Result<Section<'_>, SpecError>
-    requires { length text.now ≤ 1048576 }
+    requires { length text.now ≤ max_file_bytes }
     ensures found { IfOk result (λ s. HasSection fold text.now s) }
     ensures none { IfErr result (λ e. UnlessMemory e.kind ((ds : List Meant) (after : List ℕ) → IsUpTo definition_at text.now ds after
         → begins (codes "%%") after ≡ true → AreAllowed ds → ⊥)) }
@@ -72,9 +73,9 @@ pub fn read_section(alloc: Global, text: &[u8], fold: bool) -> Result<Section<'_
 }
 
 impl Declarations {
-    /// How a fault of a line is told. A name that is defined already is a `DuplicateName` first.
+    /// The reason that is reported for a fault of a line: `DuplicateName` where the name is defined already.
     fn kind_of(&self, fault: DefinitionFault<'_>) -> SpecErrorKind
-        ensures { result ≡ kind_told self.now.defs fault.entry }
+        ensures { result ≡ reported_kind self.now.defs fault.entry }
     {
         match fault {
             DefinitionFault::BadLine => SpecErrorKind::BadDefinitionLine,

@@ -1,14 +1,15 @@
 use crate::{
-    Skipped, SpecErrorKind, is_all_blank, is_blank, newlines_before, number_of, read_section,
+    MAX_FILE_BYTES, Skipped, SpecErrorKind, is_all_blank, is_blank, newlines_before, read_section,
     skip_blanks, skip_block, split_before, split_line, starts_blank, without_returns,
 };
+use lexaction::number_of;
 use std::alloc::{AllocError, Global};
 use std::test::Fail;
 
 /// The line and the kind of the fault of a definitions section, if it has one and is not too long.
 fn fault_of(alloc: Global, text: &str) -> Result<Option<(u32, SpecErrorKind)>, AllocError> {
     let kept = without_returns(alloc, text.as_bytes())?;
-    if kept.len() > 1_048_576 {
+    if kept.len() > MAX_FILE_BYTES {
         return Ok(None);
     }
     match read_section(alloc, &kept, false) {
@@ -68,6 +69,36 @@ fn faults_of_definitions(rt: HostRuntime) -> Result<(), Fail> {
     Ok(())
 }
 
+/// A line that declares `count` conditions, and then others.
+fn many_conditions(alloc: Global, count: u32, others: &str) -> Result<String, AllocError> {
+    let mut text = String::new(alloc);
+    text.push_str("%x")?;
+    for i in 0..count {
+        text.push_str(&format!(in alloc; " c{i}")?)?;
+    }
+    text.push_str(others)?;
+    text.push_str("\n%%\n")?;
+    Ok(text)
+}
+
+/// With INITIAL there may be 255 conditions. A name that is declared already is one, also where there may be no more.
+#[test]
+fn counts_of_conditions(rt: HostRuntime) -> Result<(), Fail> {
+    let alloc = rt.alloc();
+    let rows = &[
+        ("", None),
+        (" d", Some((1, SpecErrorKind::TooManyConditions))),
+        (" c0", Some((1, SpecErrorKind::DuplicateCondition))),
+    ];
+    for &(others, fault) in rows {
+        assert_eq!(rt;
+            fault_of(alloc, &many_conditions(alloc, 254, others)?)?,
+            fault
+        );
+    }
+    Ok(())
+}
+
 /// What a definitions section declares, and where it ends. (POSIX, lex, Definitions in lex; flex, Start Conditions.)
 #[test]
 fn declarations_of_a_section(rt: HostRuntime) -> Result<(), Fail> {
@@ -109,7 +140,7 @@ fn lines_and_blanks(rt: HostRuntime) {
     assert!(rt; skip_block(b"a\n".as_slice()).is_none());
 }
 
-/// A run of code lines is told once, a block always.
+/// A run of code lines is reported once, and each block by itself.
 #[test]
 fn skipped_lines(rt: HostRuntime) -> Result<(), Fail> {
     let mut skipped = Skipped::new(rt.alloc());

@@ -2,8 +2,8 @@
 use Rattle.std.proofs.Common.{◌≡◌, ℕ, zero, suc, ◌+◌, ◌-◌, ◌<◌, ◌≤◌, Bool, true, false, List, [], ◌∷◌, length, Option, Some, None, refl, sym, ap, ◌∙◌, subst, arith}
 use Rattle.lexmeaning.specs.Reading.{◌>>=◌}
 use Rattle.lexre.specs.Cutting.{Piece, opens, closes, slash, dollar, other, piece_at, slashes, ends_with_dollar, is_dollar, first_of, has_two, IsEnd, IsPieces, IsCutting}
-use Rattle.lexre.specs.Progress.{Ending, ending, first_with, two_with, special_with}
-use Rattle.lexre.specs.declared.cutting.Progress.{Progress}
+use Rattle.lexre.specs.CuttingSoFar.{Ending, ending, first_with, two_with, special_with}
+use Rattle.lexre.specs.declared.cutting.CuttingSoFar.{CuttingSoFar}
 
 -- One piece.
 
@@ -85,12 +85,12 @@ past_inside (suc n) first two was at ps inside = refl
 -- What the rest makes together with what was read.
 
 -- the rest, which stands at a place, goes on to this cutting
-abbrev pub Goes : Progress → ℕ → List ℕ → ℕ → Option ℕ → Bool → Bool → Type 0
+abbrev pub Goes : CuttingSoFar → ℕ → List ℕ → ℕ → Option ℕ → Bool → Bool → Type 0
 Goes p at rest end first two special =
     (ps : List (Piece × ℕ)) × IsPieces at rest ps end × (◌≡◌ {A = Ending} (ending p ps) (Some (first, two, special)))
 
 -- it goes on to just the cuttings of the whole text
-pub record Agree (p : Progress) (at : ℕ) (rest text : List ℕ) : Type 0 where
+pub record Agree (p : CuttingSoFar) (at : ℕ) (rest text : List ℕ) : Type 0 where
   pub on : (end : ℕ) (first : Option ℕ) (two special : Bool) → Goes p at rest end first two special → IsCutting text end first two special
   pub back : (end : ℕ) (first : Option ℕ) (two special : Bool) → IsCutting text end first two special → Goes p at rest end first two special
 
@@ -105,7 +105,7 @@ unfolding ends_with_dollar
 last_first [] = refl
 last_first (p ∷ ps) = refl
 
-abbrev pub fresh : Progress
+abbrev pub fresh : CuttingSoFar
 fresh = record { depth = 0; slash = None; two = false; dollar = false }
 
 first_on : (text : List ℕ) (ps : List (Piece × ℕ)) (end : ℕ) (first : Option ℕ) (two special : Bool) → IsPieces 0 text ps end → (o : Option (List ℕ)) → slashes 0 ps ≡ o
@@ -152,7 +152,7 @@ pair_is p q x y e =
 none_some : (x : Piece × List ℕ) → ◌≡◌ {A = Option (Piece × List ℕ)} None (Some x) → ⊥
 none_some x e = cc
 
-goes_on : (p p' : Progress) (at at' : ℕ) (rest after : List ℕ) (q : Piece) (end : ℕ) (first : Option ℕ) (two special : Bool)
+goes_on : (p p' : CuttingSoFar) (at at' : ℕ) (rest after : List ℕ) (q : Piece) (end : ℕ) (first : Option ℕ) (two special : Bool)
     → ◌≡◌ {A = Option (Piece × List ℕ)} (piece_at rest) (Some (q, after)) → at' ≡ at + (length rest - length after)
     → ((ps : List (Piece × ℕ)) → ◌≡◌ {A = Ending} (ending p ((q, at) ∷ ps)) (ending p' ps))
     → Goes p' at' after end first two special → Goes p at rest end first two special
@@ -160,7 +160,7 @@ goes_on p p' at at' rest after q end first two special here place step (ps, cut,
     let P : ℕ → Type 0 = λ k. IsPieces k after ps end in
     ((q, at) ∷ ps, (after, here, refl, subst P place cut), step ps ∙ made)
 
-goes_back : (p p' : Progress) (at at' : ℕ) (rest after : List ℕ) (q : Piece) (end : ℕ) (first : Option ℕ) (two special : Bool)
+goes_back : (p p' : CuttingSoFar) (at at' : ℕ) (rest after : List ℕ) (q : Piece) (end : ℕ) (first : Option ℕ) (two special : Bool)
     → ◌≡◌ {A = Option (Piece × List ℕ)} (piece_at rest) (Some (q, after)) → at' ≡ at + (length rest - length after)
     → ((ps : List (Piece × ℕ)) → ◌≡◌ {A = Ending} (ending p ((q, at) ∷ ps)) (ending p' ps))
     → Goes p at rest end first two special → Goes p' at' after end first two special
@@ -173,7 +173,7 @@ goes_back p p' at at' rest after q end first two special here place step ((r, k)
     let S : ℕ → Type 0 = λ x. ◌≡◌ {A = Ending} (ending p ((q, x) ∷ ps)) (Some (first, two, special)) in
     (ps, subst Q (sym place) (subst P is.1 cut), sym (step ps) ∙ subst S stands (subst R is.0 made))
 
-pub agree_step : (p p' : Progress) (at at' : ℕ) (rest after text : List ℕ) (q : Piece)
+pub agree_step : (p p' : CuttingSoFar) (at at' : ℕ) (rest after text : List ℕ) (q : Piece)
     → ◌≡◌ {A = Option (Piece × List ℕ)} (piece_at rest) (Some (q, after)) → at' ≡ at + (length rest - length after)
     → ((ps : List (Piece × ℕ)) → ◌≡◌ {A = Ending} (ending p ((q, at) ∷ ps)) (ending p' ps))
     → Agree p at rest text → Agree p' at' after text
@@ -192,21 +192,21 @@ ended (suc n) None true last = refl
 ended (suc n) None false last = refl
 ended (suc n) (Some f) two last = refl
 
-pub found_at : (p : Progress) (at : ℕ) (rest text : List ℕ) → Agree p at rest text → IsEnd rest → IsCutting text at p.slash p.two p.dollar
+pub found_at : (p : CuttingSoFar) (at : ℕ) (rest text : List ℕ) → Agree p at rest text → IsEnd rest → IsCutting text at p.slash p.two p.dollar
 found_at p at rest text agree end = agree.on at p.slash p.two p.dollar ([], (end, refl), ended p.depth p.slash p.two p.dollar)
 
 -- what is refused has no cutting
 abbrev pub HasNone : List ℕ → Type 0
 HasNone text = (end : ℕ) (first : Option ℕ) (two special : Bool) → IsCutting text end first two special → ⊥
 
-pub refused_piece : (p : Progress) (at : ℕ) (rest text : List ℕ) → Agree p at rest text → ◌≡◌ {A = Option (Piece × List ℕ)} (piece_at rest) None → (IsEnd rest → ⊥) → HasNone text
+pub refused_piece : (p : CuttingSoFar) (at : ℕ) (rest text : List ℕ) → Agree p at rest text → ◌≡◌ {A = Option (Piece × List ℕ)} (piece_at rest) None → (IsEnd rest → ⊥) → HasNone text
 refused_piece p at rest text agree none goes end first two special h = go (agree.back end first two special h)
   where
     go : Goes p at rest end first two special → ⊥
     go ([], done, made) = goes done.0
     go (q ∷ ps, (left, there, stands, cut), made) = none_some (q.0, left) (sym none ∙ there)
 
-pub refused_slash : (p : Progress) (at : ℕ) (rest after text : List ℕ) (q : Piece) → Agree p at rest text → ◌≡◌ {A = Option (Piece × List ℕ)} (piece_at rest) (Some (q, after))
+pub refused_slash : (p : CuttingSoFar) (at : ℕ) (rest after text : List ℕ) (q : Piece) → Agree p at rest text → ◌≡◌ {A = Option (Piece × List ℕ)} (piece_at rest) (Some (q, after))
     → ((ps : List (Piece × ℕ)) → ◌≡◌ {A = Ending} (ending p ((q, at) ∷ ps)) None) → HasNone text
 refused_slash p at rest after text q agree here step end first two special h = go (agree.back end first two special h)
   where

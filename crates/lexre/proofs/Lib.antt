@@ -3,6 +3,7 @@ pub mod CountLaws
 pub mod CuttingLaws
 pub mod DefinitionLaws
 pub mod EntryLaws
+pub mod FaultLaws
 pub mod FrontLaws
 pub mod GrammarLaws
 pub mod LengthLaws

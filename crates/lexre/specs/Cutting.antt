@@ -1,7 +1,9 @@
 -- Where the pattern of a rule ends, and what stands at its end. (POSIX, lex, Rules in lex; flex, Patterns: `r/s`, `r$`.)
-use Rattle.std.specs.Prelude.{◌≡◌, ℕ, zero, suc, ◌+◌, ◌-◌, Bool, true, false, ◌==◌, if◌then◌else◌, List, [], ◌∷◌, length, Option, Some, None}
+use Rattle.std.specs.Prelude.{◌≡◌, ℕ, zero, suc, ◌+◌, ◌-◌, Bool, true, false, ◌==◌, if◌then◌else◌, List, [], ◌∷◌, length, Option, Some, None, ⊤}
 use Rattle.lexmeaning.specs.Reading.{◌>>=◌, Reader, is_white}
 use Rattle.lexclass.specs.Lexical.{escape_at, after_quotes, class_at}
+use Rattle.lexclass.specs.declared.error.PatternErrorKind.{PatternErrorKind}
+use Rattle.lexclass.specs.declared.error.PatternErrorKind.TheVariants.{UnclosedQuote, UnclosedClass, BadEscape, MisplacedSlash}
 
 -- what the text of a pattern is made of, as far as cutting it goes
 pub data Piece : Type 0 where
@@ -78,3 +80,17 @@ pub record IsCutting (text : List ℕ) (end : ℕ) (first_slash : Option ℕ) (t
   pub first : first_slash ≡ first_of places
   pub second : two ≡ has_two places
   pub last : special ≡ ends_with_dollar pieces
+
+-- why a text in quotes has no end
+abbrev pub IsQuoteFault : PatternErrorKind → Type 0
+IsQuoteFault UnclosedQuote = ⊤
+IsQuoteFault BadEscape = ⊤
+IsQuoteFault _ = ⊥
+
+-- why a text has no cutting
+abbrev pub IsCuttingFault : PatternErrorKind → Type 0
+IsCuttingFault UnclosedQuote = ⊤
+IsCuttingFault UnclosedClass = ⊤
+IsCuttingFault BadEscape = ⊤
+IsCuttingFault MisplacedSlash = ⊤
+IsCuttingFault _ = ⊥

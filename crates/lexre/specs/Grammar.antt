@@ -4,6 +4,7 @@
 use Rattle.std.specs.Prelude.{◌≡◌, ℕ, suc, ◌<◌, List, [], ◌∷◌, ◌++◌, Option, Some}
 use Rattle.lexmeaning.specs.Tree.{Tree, trees, Cat, Alt, Repeat}
 use Rattle.lexclass.specs.Symbols.{Symbol, Sign, item, name, opening, closing, bar, sign, interval, signed, Lexer, IsCut}
+use Rattle.lexre.specs.Limits.{max_signs}
 
 -- the tree of a series, by its parts, of which the last stands apart: a part alone is itself
 abbrev pub series_tree : List Tree → Tree → Tree
@@ -27,15 +28,15 @@ module _ (symbol_at : Lexer) (defined : List ℕ → Option (List ℕ)) where
           → defined n ≡ Some text → IsCut symbol_at text ss → IsPattern d ss ts t
           → IsItem (suc d) (name n ∷ []) (choice_tree ts t)
 
-    -- a series of items, each with at most 64 signs: the parts before the last, the last, and how many signs that has
+    -- a series of items, each with not too many signs: the parts before the last, the last, and how many signs that has
     pub data IsSeries : ℕ → List Symbol → List Tree → Tree → ℕ → Type 0 where
       first : (d : ℕ) (ss : List Symbol) (t : Tree) → IsItem d ss t → IsSeries d ss [] t 0
       next : (d : ℕ) (ss : List Symbol) (parts : List Tree) (last : Tree) (k : ℕ) (more : List Symbol) (t : Tree)
           → IsSeries d ss parts last k → IsItem d more t → IsSeries d (ss ++ more) (parts ++ last ∷ []) t 0
       repeated : (d : ℕ) (ss : List Symbol) (parts : List Tree) (last : Tree) (k : ℕ) (s : Sign)
-          → IsSeries d ss parts last k → k < 64 → IsSeries d (ss ++ sign s ∷ []) parts (signed s last) (suc k)
+          → IsSeries d ss parts last k → k < max_signs → IsSeries d (ss ++ sign s ∷ []) parts (signed s last) (suc k)
       counted : (d : ℕ) (ss : List Symbol) (parts : List Tree) (last : Tree) (k m : ℕ) (n : Option ℕ)
-          → IsSeries d ss parts last k → k < 64 → IsSeries d (ss ++ interval m n ∷ []) parts (Repeat last m n) (suc k)
+          → IsSeries d ss parts last k → k < max_signs → IsSeries d (ss ++ interval m n ∷ []) parts (Repeat last m n) (suc k)
 
     -- series joined by bars: the trees of those before the last, and of the last
     pub data IsPattern : ℕ → List Symbol → List Tree → Tree → Type 0 where

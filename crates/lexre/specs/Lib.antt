@@ -4,9 +4,10 @@ pub mod Definitions
 pub mod Entries
 pub mod Grammar
 pub mod Lengths
+pub mod Limits
 pub mod Names
 pub mod Outcome
-pub mod Progress
+pub mod CuttingSoFar
 pub mod Reading
 pub mod Readings
 pub mod Running

@@ -1,14 +1,9 @@
--- What a refusal tells.
-use Rattle.std.specs.Prelude.{◌≡◌, ℕ, ◌<◌, List, Option, Some, ⊤}
+-- What a refusal means.
+use Rattle.std.specs.Prelude.{◌≡◌, ℕ, ◌<◌, List, Option, Some}
 use Rattle.lexmeaning.specs.Shapes.{nodes}
 use Rattle.lexclass.specs.Symbols.{Symbol, item}
-use Rattle.lexclass.specs.declared.error.PatternErrorKind.{PatternErrorKind}
-use Rattle.lexclass.specs.declared.error.PatternErrorKind.TheVariants.{OutOfMemory}
-
--- the fact, unless memory ran out
-abbrev pub UnlessMemory : PatternErrorKind → Type 0 → Type 0
-UnlessMemory OutOfMemory P = ⊤
-UnlessMemory _ P = P
+pub use Rattle.lexclass.specs.PatternMemory.{UnlessMemory}
+use Rattle.lexre.specs.Limits.{max_nodes}
 
 -- how many nodes the tree of a symbol has
 abbrev pub size_of : Symbol → ℕ
@@ -17,4 +12,4 @@ size_of _ = 0
 
 -- what begins a text is no symbol, or one that has too many nodes by itself
 abbrev pub IsRefused : Option (Symbol × List ℕ) → Type 0
-IsRefused front = (s : Symbol) (rest : List ℕ) → ◌≡◌ {A = Option (Symbol × List ℕ)} front (Some (s, rest)) → 65536 < size_of s
+IsRefused front = (s : Symbol) (rest : List ℕ) → ◌≡◌ {A = Option (Symbol × List ℕ)} front (Some (s, rest)) → max_nodes < size_of s

@@ -4,6 +4,7 @@ use Rattle.std.specs.Prelude.{◌≡◌, ℕ, zero, suc, nat_lt, if◌then◌els
 use Rattle.lexmeaning.specs.Tree.{Tree, Repeat}
 use Rattle.lexclass.specs.Symbols.{Symbol, item, name, opening, closing, bar, sign, interval, signed, Lexer, IsCut}
 use Rattle.lexre.specs.Grammar.{series_tree, choice_tree, SpellsWithin}
+use Rattle.lexre.specs.Limits.{max_signs}
 
 -- A pattern as far as it was read: its finished series, and of the series that is being read the parts before the last, the
 -- last, if there is one, and how many signs that has.
@@ -27,7 +28,7 @@ push t (state here outer d) = state (pushed t here) outer d
 abbrev pub onto_last : (Tree → Tree) → State → Option State
 onto_last f (state (frame done parts None k) outer d) = None
 onto_last f (state (frame done parts (Some t) k) outer d) =
-    if nat_lt k 64 then Some (state (frame done parts (Some (f t)) (suc k)) outer d) else None
+    if nat_lt k max_signs then Some (state (frame done parts (Some (f t)) (suc k)) outer d) else None
 
 abbrev pub opened : State → Option State
 opened (state here outer zero) = None

@@ -6,8 +6,9 @@ use Rattle.lexmeaning.specs.Shapes.{nodes}
 use Rattle.lexre.specs.Definitions.{Definitions}
 use Rattle.lexre.specs.Grammar.{SpellsWithin}
 use Rattle.lexclass.specs.Lexical.{symbol_at}
+use Rattle.lexre.specs.Limits.{max_open, max_nodes}
 
--- The text is a pattern, and this is its tree: at most 64 parentheses and names are open at one place, and it has at most
--- 65,536 nodes. Under `fold` letters stand for both cases.
+-- The text is a pattern, and this is its tree: there are not too many parentheses and names open at one place, and not too
+-- many nodes. Under `fold` letters stand for both cases.
 abbrev pub Spells : Bool → Definitions → List ℕ → Tree → Type 0
-Spells fold defs text tree = SpellsWithin (symbol_at fold) (get defs) 64 text tree × (nodes tree ≤ 65536)
+Spells fold defs text tree = SpellsWithin (symbol_at fold) (get defs) max_open text tree × (nodes tree ≤ max_nodes)

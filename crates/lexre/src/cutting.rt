@@ -1,7 +1,8 @@
 //! Where the pattern of a rule ends. (POSIX, lex, Rules in lex; flex, Patterns: `r/s`, `r$`.)
 ghost use Rattle.std.specs.Prelude.{◌≡◌, ◌+◌, ◌^◌, ◌<◌, ◌≤◌, ℕ, Bool, ◌∷◌, List, length, Option, Some, None, IfOk, IfErr, IfSome, OnErr, MatchOption, MatchResult};
-ghost use Rattle.lexre.specs.Cutting.{piece_at, slash, IsCutting, IsEnd, Piece};
-ghost use Rattle.lexre.specs.Progress.{ending, piece_of, Ending};
+ghost use Rattle.lexre.specs.Cutting.{piece_at, slash, IsCutting, IsCuttingFault, IsEnd, Piece};
+ghost use Rattle.lexclass.specs.declared.error.PatternErrorKind.TheVariants.{MisplacedSlash};
+ghost use Rattle.lexre.specs.CuttingSoFar.{ending, piece_of, Ending};
 
 use crate::quotes::skip_quoted;
 use lexclass::{Fault, PatternError, PatternErrorKind, escape_at, skip_class};
@@ -32,7 +33,7 @@ enum Kind {
 
 /// What is known of a pattern up to a place.
 #[derive(Clone, Copy)]
-struct Progress {
+struct CuttingSoFar {
     /// How many parentheses are open.
     depth: usize,
     slash: Option<usize>,
@@ -44,15 +45,16 @@ struct Progress {
 /// Where the pattern of a rule that begins the text ends: at the first blank or newline outside quotes, classes and
 /// escapes, or at the end of the text. Offsets are from 0. What is wrong inside a class is passed over.
 ///
-/// The first fault from the left is told: `UnclosedQuote` and `UnclosedClass` at the opening sign, `BadEscape` at the
+/// The first fault from the left is reported: `UnclosedQuote` and `UnclosedClass` at the opening sign, `BadEscape` at the
 /// backslash, and `MisplacedSlash` at a `/` inside parentheses. A `)` with none open counts for nothing.
 pub fn cut_pattern(text: &[u8]) -> Result<Cutting, PatternError>
     ensures found { IfOk result (λ c. IsCutting text.now c.end c.slash c.two c.dollar) }
     ensures inside { IfOk result (λ c. c.end ≤ length text.now) }
     ensures none { IfErr result
         (λ _. (end : ℕ) (first : Option ℕ) (two special : Bool) → IsCutting text.now end first two special → ⊥) }
+    ensures fault { IfErr result (λ e. IsCuttingFault e.kind) }
 {
-    let mut progress = Progress {
+    let mut progress = CuttingSoFar {
         depth: 0,
         slash: None,
         two: false,
@@ -74,33 +76,34 @@ pub fn cut_pattern(text: &[u8]) -> Result<Cutting, PatternError>
     }
 }
 
-impl Progress {
+impl CuttingSoFar {
     /// What is known behind a piece that stands at this place. A `/` inside parentheses is a `MisplacedSlash`.
-    #[tactic(auto, unfolding(crate::specs::Cutting::slashes, crate::specs::Progress::ending))]
-    fn past(self, kind: Kind, at: usize) -> Result<Progress, PatternError>
+    #[tactic(auto, unfolding(crate::specs::Cutting::slashes, crate::specs::CuttingSoFar::ending))]
+    fn past(self, kind: Kind, at: usize) -> Result<CuttingSoFar, PatternError>
         requires { self.depth + 1 < 2 ^ 64 }
         ensures ending { MatchResult result
             (λ after. (ps : List (Piece × ℕ)) → ◌≡◌ {A = Ending} (ending self ((piece_of kind, at) ∷ ps)) (ending after ps))
             (λ _. (ps : List (Piece × ℕ)) → ◌≡◌ {A = Ending} (ending self ((piece_of kind, at) ∷ ps)) None) }
         ensures depth { IfOk result (λ after. after.depth ≤ self.depth + 1) }
+        ensures fault { IfErr result (λ e. e.kind ≡ MisplacedSlash) }
     {
         match kind {
-            Kind::Opens => Ok(Progress {
+            Kind::Opens => Ok(CuttingSoFar {
                 depth: self.depth + 1,
                 dollar: false,
                 ..self
             }),
-            Kind::Closes => Ok(Progress {
+            Kind::Closes => Ok(CuttingSoFar {
                 depth: self.depth.saturating_sub(1),
                 dollar: false,
                 ..self
             }),
             Kind::Slash => self.past_slash(at),
-            Kind::Dollar => Ok(Progress {
+            Kind::Dollar => Ok(CuttingSoFar {
                 dollar: true,
                 ..self
             }),
-            Kind::Other => Ok(Progress {
+            Kind::Other => Ok(CuttingSoFar {
                 dollar: false,
                 ..self
             }),
@@ -108,12 +111,13 @@ impl Progress {
     }
 
     /// What is known behind a slash.
-    #[tactic(auto, unfolding(crate::specs::Cutting::slashes, crate::specs::Progress::ending))]
-    fn past_slash(self, at: usize) -> Result<Progress, PatternError>
+    #[tactic(auto, unfolding(crate::specs::Cutting::slashes, crate::specs::CuttingSoFar::ending))]
+    fn past_slash(self, at: usize) -> Result<CuttingSoFar, PatternError>
         ensures ending { MatchResult result
             (λ after. (ps : List (Piece × ℕ)) → ◌≡◌ {A = Ending} (ending self ((slash, at) ∷ ps)) (ending after ps))
             (λ _. (ps : List (Piece × ℕ)) → ◌≡◌ {A = Ending} (ending self ((slash, at) ∷ ps)) None) }
         ensures depth { IfOk result (λ after. after.depth ≤ self.depth) }
+        ensures fault { IfErr result (λ e. e.kind ≡ MisplacedSlash) }
     {
         if self.depth > 0 {
             return Err(PatternError {
@@ -122,12 +126,12 @@ impl Progress {
             });
         }
         match self.slash {
-            None => Ok(Progress {
+            None => Ok(CuttingSoFar {
                 slash: Some(at),
                 dollar: false,
                 ..self
             }),
-            Some(_) => Ok(Progress {
+            Some(_) => Ok(CuttingSoFar {
                 two: true,
                 dollar: false,
                 ..self
@@ -137,7 +141,7 @@ impl Progress {
 }
 
 /// The piece at the front of the text, which stands at this place, and what follows it. None at the end of the pattern.
-#[tactic(auto, unfolding(crate::specs::Cutting::piece_at, lexmeaning::specs::ByteSets::is_blank))]
+#[tactic(auto, unfolding(crate::specs::Cutting::piece_at, lexmeaning::specs::ByteSets::is_blank), using(crate::proofs::FaultLaws::quote_fault_of_cutting, crate::proofs::FaultLaws::byte_fault_of_cutting))]
 fn piece_at(text: &[u8], at: usize) -> Result<Option<(Kind, &[u8])>, PatternError>
     requires { at + length text.now < 2 ^ 64 }
     ensures found { IfOk result (λ found. MatchOption found
@@ -146,6 +150,7 @@ fn piece_at(text: &[u8], at: usize) -> Result<Option<(Kind, &[u8])>, PatternErro
     ensures shorter { IfOk result (λ found. IfSome found (λ x. length x.1.now < length text.now)) }
     ensures none { OnErr result (◌≡◌ {A = Option (Piece × List ℕ)} (piece_at text.now) None) }
     ensures not_end { OnErr result (IsEnd text.now → ⊥) }
+    ensures fault { IfErr result (λ e. IsCuttingFault e.kind) }
 {
     let Some((first, after)) = text.split_first() else {
         return Ok(None);
@@ -158,11 +163,11 @@ fn piece_at(text: &[u8], at: usize) -> Result<Option<(Kind, &[u8])>, PatternErro
         b'$' => Ok(Some((Kind::Dollar, after))),
         b'"' => match skip_quoted(text) {
             Ok(rest) => Ok(Some((Kind::Other, rest))),
-            Err(fault) => Err(told(fault, text, at)),
+            Err(fault) => Err(placed(fault, text, at)),
         },
         b'[' => match skip_class(text, after) {
             Ok(rest) => Ok(Some((Kind::Other, rest))),
-            Err(fault) => Err(told(fault, text, at)),
+            Err(fault) => Err(placed(fault, text, at)),
         },
         b'\\' => match escape_at(after) {
             Some((_byte, rest)) => Ok(Some((Kind::Other, rest))),
@@ -176,8 +181,9 @@ fn piece_at(text: &[u8], at: usize) -> Result<Option<(Kind, &[u8])>, PatternErro
 }
 
 /// The fault, by its place: the text, of which the fault has a part, stands at the place `at`.
-fn told(fault: Fault, text: &[u8], at: usize) -> PatternError
+fn placed(fault: Fault, text: &[u8], at: usize) -> PatternError
     requires { at + length text.now < 2 ^ 64 }
+    ensures { result.kind ≡ fault.entry.kind }
 {
     PatternError {
         kind: fault.kind,

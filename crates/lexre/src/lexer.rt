@@ -68,7 +68,7 @@ fn escape_item<'a>(
     }
 }
 
-/// The symbol at the front of the text, and what follows it. A fault is told at its place: `MisplacedSlash` at a `/`,
+/// The symbol at the front of the text, and what follows it. A fault is reported at its place: `MisplacedSlash` at a `/`,
 /// `MissingOperand` at a blank, a newline and the end, and the faults of quotes, classes, escapes and braces at theirs.
 /// A text in quotes that has too many nodes by itself is `TooBig`.
 #[tactic(auto, unfolding(lexclass::specs::Lexical::symbol_at, lexclass::specs::Lexical::is_ordinary))]

@@ -1,22 +1,26 @@
 //! Texts in quotes. (POSIX, lex, Regular Expressions in lex.)
-ghost use Rattle.std.specs.Prelude.{◌≡◌, ◌<◌, ℕ, List, Option, Some, None, MatchResult, IfOk, drop, option_map};
+ghost use Rattle.std.specs.Prelude.{◌≡◌, ◌<◌, ℕ, List, Option, Some, None, MatchResult, IfOk, IfErr, drop};
 ghost use Rattle.lexmeaning.specs.ByteSets.{single};
 ghost use Rattle.lexmeaning.specs.Shapes.{IsSoundTree, nodes};
 ghost use Rattle.lexmeaning.specs.Tree.{Set};
-ghost use Rattle.lexclass.specs.Lexical.{after_quotes, folded, quoted_tree, literal_byte_at, quoted_bytes};
+ghost use Rattle.lexclass.specs.Lexical.{after_quotes, folded, quoted_tree, quoted_bytes};
+ghost use Rattle.lexre.specs.Cutting.{IsQuoteFault};
 ghost use Rattle.lexre.specs.Outcome.{UnlessMemory};
 ghost use Rattle.lexre.specs.Views.{tree_of};
+ghost use Rattle.lexre.specs.Limits.{max_nodes};
 
 use crate::pattern::Pattern;
-use lexclass::{ByteSet, Fault, PatternErrorKind, escape_at, folded};
+use lexclass::{ByteSet, Fault, PatternErrorKind, escape_at, folded, literal_byte_at};
 use std::alloc::Global;
 
-/// A series of so many bytes has as many nodes as a pattern may have.
-const MOST_BYTES: usize = 65_535;
+/// The most bytes of a text in quotes: their series has as many nodes as a pattern may have.
+const MAX_QUOTED_BYTES: usize = 65_535;
 
-/// What follows a text in quotes. The text handed in begins with the first quote, at which it is told that no other closes it.
+/// What follows a text in quotes. The text handed in begins with the first quote, at which a quote that no other closes is
+/// reported.
 pub(crate) fn skip_quoted<'a>(text: &'a [u8]) -> Result<&'a [u8], Fault<'a>>
-    ensures { MatchResult result (λ rest. after_quotes (drop 1 text.now) ≡ Some rest.now) (λ _. after_quotes (drop 1 text.now) ≡ None) }
+    ensures found { MatchResult result (λ rest. after_quotes (drop 1 text.now) ≡ Some rest.now) (λ _. after_quotes (drop 1 text.now) ≡ None) }
+    ensures fault { IfErr result (λ f. IsQuoteFault f.kind) }
 {
     let mut rest = text.get(1..).unwrap_or(text);
     while let Some((&byte, after)) = rest.split_first() {
@@ -42,21 +46,8 @@ pub(crate) fn skip_quoted<'a>(text: &'a [u8]) -> Result<&'a [u8], Fault<'a>>
     })
 }
 
-/// A byte between quotes, and what follows it: an escape, or any byte but a newline.
-#[tactic(auto, unfolding(lexclass::specs::Lexical::literal_byte_at))]
-fn quoted_byte_at(text: &[u8]) -> Option<(u8, &[u8])>
-    ensures { ◌≡◌ {A = Option (ℕ × List ℕ)} (literal_byte_at text.now) (option_map (λ x. (x.0, x.1.now)) result) }
-{
-    let (&byte, after) = text.split_first()?;
-    match byte {
-        b'\n' => None,
-        b'\\' => escape_at(after),
-        _ => Some((byte, after)),
-    }
-}
-
 /// The bytes after an opening quote, and what follows the closing one. `quote` is the text from the opening quote on, at
-/// which it is told that no other closes it.
+/// which a quote that no other closes is reported.
 pub(crate) fn quoted_at<'a>(
     alloc: Global,
     quote: &'a [u8],
@@ -72,7 +63,7 @@ pub(crate) fn quoted_at<'a>(
         if first == b'"' {
             return Ok((bytes, after));
         }
-        let Some((byte, beyond)) = quoted_byte_at(rest) else {
+        let Some((byte, beyond)) = literal_byte_at(rest) else {
             return Err(match first {
                 b'\n' => Fault {
                     kind: PatternErrorKind::UnclosedQuote,
@@ -117,14 +108,14 @@ pub(crate) fn quoted_pattern(
 ) -> Result<Pattern, PatternErrorKind>
     ensures tree { MatchResult result
         (λ p. tree_of p ≡ quoted_tree fold bytes.now)
-        (λ e. UnlessMemory e (65536 < nodes (quoted_tree fold bytes.now))) }
+        (λ e. UnlessMemory e (max_nodes < nodes (quoted_tree fold bytes.now))) }
     ensures sound { IfOk result (λ p. IsSoundTree (tree_of p)) }
 {
     match bytes {
         [] => Ok(Pattern::Empty),
         [byte] => Ok(byte_pattern(*byte, fold)),
         _ => {
-            if bytes.len() > MOST_BYTES {
+            if bytes.len() > MAX_QUOTED_BYTES {
                 return Err(PatternErrorKind::TooBig);
             }
             let mut parts = Vec::new(alloc);

@@ -13,6 +13,7 @@ ghost use Rattle.lexre.specs.StackViews.{state_of};
 ghost use Rattle.lexre.specs.SymbolViews.{symbol_of};
 ghost use Rattle.lexre.specs.Views.{tree_of};
 ghost use Rattle.lexclass.specs.declared.error.PatternErrorKind.TheVariants.{DefinitionCycle, OutOfMemory};
+ghost use Rattle.lexre.specs.Limits.{max_open, max_nodes};
 
 use crate::counts::capped_nodes;
 use crate::definitions::Defs;
@@ -24,11 +25,11 @@ use crate::symbols::Symbol;
 use lexclass::{Class, Fault, PatternError, PatternErrorKind};
 use std::alloc::Global;
 
-/// So many parentheses and names may be open at one place.
-const MOST_OPEN: u8 = 64;
+/// The most parentheses and names that may be open at one place.
+const MAX_OPEN: u8 = 64;
 
-/// So many nodes a pattern may have.
-const MOST_NODES: u64 = 65_536;
+/// The most nodes of a pattern.
+const MAX_NODES: u64 = 65_536;
 
 /// How a pattern is read.
 #[derive(Clone, Copy)]
@@ -114,8 +115,8 @@ fn read_name(
     room: u64,
     names: &mut Names,
 ) -> Result<Read, PatternErrorKind>
-    requires left { left ≤ 64 }
-    requires room { room ≤ 65536 }
+    requires left { left ≤ max_open }
+    requires room { room ≤ max_nodes }
     requires known_so_far { AreKnown scope.fold scope.defs.now (trees_of names.old) }
     ensures found { IfOk result (λ r. StandsIn scope.entry.fold scope.entry.defs.now (left - r.spare) name.now (tree_of r.pattern)) }
     ensures spare { IfOk result (λ r. r.spare ≤ left) }
@@ -163,7 +164,7 @@ fn step(
     room: u64,
     names: &mut Names,
 ) -> Result<Taken, PatternErrorKind>
-    requires room { room ≤ 65536 }
+    requires room { room ≤ max_nodes }
     requires sound { IsSoundSymbol (symbol_of symbol) }
     requires sound_so_far { IsSoundState (state_of stack.old) }
     requires known_so_far { AreKnown scope.fold scope.defs.now (trees_of names.old) }
@@ -216,8 +217,8 @@ fn read_within(
     room: u64,
     names: &mut Names,
 ) -> Result<Read, PatternError>
-    requires left { left ≤ 64 }
-    requires room { room ≤ 65536 }
+    requires left { left ≤ max_open }
+    requires room { room ≤ max_nodes }
     requires known_so_far { AreKnown scope.fold scope.defs.now (trees_of names.old) }
     ensures found { IfOk result (λ r. SpellsIn scope.entry.fold scope.entry.defs.now (left - r.spare) text.now (tree_of r.pattern)) }
     ensures spare { IfOk result (λ r. r.spare ≤ left) }
@@ -279,7 +280,7 @@ pub fn read_pattern(
         fold: options.fold,
     };
     let mut names = Names::new(alloc);
-    match read_within(alloc, text, scope, MOST_OPEN, MOST_NODES, &mut names) {
+    match read_within(alloc, text, scope, MAX_OPEN, MAX_NODES, &mut names) {
         Ok(Read { pattern, .. }) => Ok(pattern),
         Err(
             PatternError {

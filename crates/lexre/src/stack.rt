@@ -10,6 +10,7 @@ ghost use Rattle.lexre.specs.SymbolViews.{sign_of, symbol_of};
 ghost use Rattle.lexclass.specs.Symbols.{signed};
 ghost use Rattle.lexre.specs.Views.{tree_of};
 ghost use Rattle.lexclass.specs.declared.error.PatternErrorKind.TheVariants.{OutOfMemory};
+ghost use Rattle.lexre.specs.Limits.{max_open};
 
 use crate::counts::capped_nodes;
 use crate::frames::{Frame, Stack};
@@ -19,8 +20,8 @@ use lexclass::{PatternError, PatternErrorKind};
 use std::alloc::Global;
 use std::mem;
 
-/// So many signs may stand on one item.
-const MOST_SIGNS: u8 = 64;
+/// The most signs that may stand on one item.
+const MAX_SIGNS: u8 = 64;
 
 /// The pattern of a series: a part alone is itself.
 fn series(mut parts: Vec<Pattern>, last: Pattern) -> Result<Pattern, PatternErrorKind>
@@ -84,9 +85,9 @@ impl Frame {
 }
 
 impl Stack {
-    /// Nothing read, and so many parentheses and names that may be opened.
+    /// Nothing read yet. `left` is how many parentheses and names may be opened.
     pub(crate) fn new(alloc: Global, left: u8) -> Stack
-        requires { left ≤ 64 }
+        requires { left ≤ max_open }
         ensures { state_of result ≡ state fresh [] left }
     {
         Stack {
@@ -161,7 +162,7 @@ impl Stack {
     {
         if self.here.last.is_none() {
             Some(PatternErrorKind::MissingOperand)
-        } else if self.here.signs >= MOST_SIGNS {
+        } else if self.here.signs >= MAX_SIGNS {
             Some(PatternErrorKind::TooDeep)
         } else {
             None
@@ -175,7 +176,7 @@ impl Stack {
         let Some(last) = self.here.last.take() else {
             return Err(PatternErrorKind::MissingOperand);
         };
-        if self.here.signs >= MOST_SIGNS {
+        if self.here.signs >= MAX_SIGNS {
             return Err(PatternErrorKind::TooDeep);
         }
         let inner = Box::new(self.alloc, last)?;
@@ -196,7 +197,7 @@ impl Stack {
         let Some(last) = self.here.last.take() else {
             return Err(PatternErrorKind::MissingOperand);
         };
-        if self.here.signs >= MOST_SIGNS {
+        if self.here.signs >= MAX_SIGNS {
             return Err(PatternErrorKind::TooDeep);
         }
         let inner = Box::new(self.alloc, last)?;
@@ -205,7 +206,7 @@ impl Stack {
         Ok(1)
     }
 
-    /// What is told of a symbol that stands at this place: too many nodes at the item that brings them.
+    /// The fault of a symbol that stands at this place. Too many nodes are reported at the item that brings them.
     pub(crate) fn fault(&self, kind: PatternErrorKind, at: usize) -> PatternError
         ensures { result.kind ≡ kind }
     {

@@ -515,7 +515,7 @@ fn worked_definitions(alloc: Global) -> Result<Defs, DefsError> {
 }
 
 // A text, whether it is read with fold, and its tree.
-const TREES: [(&[u8], bool, &[Node]); 30] = [
+const TREES: [(&[u8], bool, &[Node]); 31] = [
     (b"[]a]", false, &[Node::Bytes(b"]a")]),
     (b"[a-]", false, &[Node::Bytes(b"a-")]),
     (b"[-a]", false, &[Node::Bytes(b"a-")]),
@@ -616,6 +616,11 @@ const TREES: [(&[u8], bool, &[Node]); 30] = [
         false,
         &[Node::Cat(2), Node::Bytes(b"[:"), Node::Bytes(b"]")],
     ),
+    (
+        b"[[:^:]]",
+        false,
+        &[Node::Cat(2), Node::Bytes(b"[:^"), Node::Bytes(b"]")],
+    ),
     (b"((a))", false, &[Node::Bytes(b"a")]),
     (
         b"{N}x",
@@ -665,7 +670,7 @@ fn patterns(rt: HostRuntime) -> Result<(), Fail> {
 }
 
 // A text that is no pattern, what is told of it, and where.
-const REFUSALS: [(&[u8], PatternErrorKind, usize); 57] = [
+const REFUSALS: [(&[u8], PatternErrorKind, usize); 60] = [
     (b"\"a", PatternErrorKind::UnclosedQuote, 0),
     (b"b\"a\n\"", PatternErrorKind::UnclosedQuote, 1),
     (b"b{quote}", PatternErrorKind::UnclosedQuote, 1),
@@ -685,6 +690,7 @@ const REFUSALS: [(&[u8], PatternErrorKind, usize); 57] = [
     (b"[[=a=]]", PatternErrorKind::UnsupportedBracket, 1),
     (b"[a-[.b.]]", PatternErrorKind::UnsupportedBracket, 3),
     (b"[[:^alpha:]]", PatternErrorKind::UnsupportedBracket, 1),
+    (b"[a-[:^alpha:]]", PatternErrorKind::UnsupportedBracket, 3),
     (b"b{bracket}", PatternErrorKind::UnsupportedBracket, 1),
     (b"\\400", PatternErrorKind::BadEscape, 0),
     (b"\"a\\400", PatternErrorKind::BadEscape, 2),
@@ -708,10 +714,12 @@ const REFUSALS: [(&[u8], PatternErrorKind, usize); 57] = [
     (b"", PatternErrorKind::MissingOperand, 0),
     (b"(", PatternErrorKind::MissingOperand, 1),
     (b"(a|", PatternErrorKind::MissingOperand, 3),
+    (b")", PatternErrorKind::MissingOperand, 0),
     (b"a|)", PatternErrorKind::MissingOperand, 2),
     (b"a b", PatternErrorKind::MissingOperand, 1),
     (b"a\n", PatternErrorKind::MissingOperand, 1),
     (b"{2}", PatternErrorKind::MissingOperand, 0),
+    (b"{2", PatternErrorKind::MissingOperand, 0),
     (b"a|{2,1}", PatternErrorKind::MissingOperand, 2),
     (b"b{operand}", PatternErrorKind::MissingOperand, 1),
     (b"{nothing}", PatternErrorKind::UndefinedName, 0),
@@ -1011,6 +1019,33 @@ fn names_inside_more_and_more(rt: HostRuntime) -> Result<(), Fail> {
         text.extend_from_slice(b"{c}")?;
         text.extend_from_slice(&repeated(alloc, b")", depth)?)?;
         assert!(rt; told(alloc, &text, &defs) == fault);
+    }
+    Ok(())
+}
+
+// So many names from n0 on, the text of each the next one, and that of the last the first
+fn round(alloc: Global, count: u32) -> Result<Defs, DefsError> {
+    let mut defs = Defs::new(alloc);
+    for number in 0..count {
+        let next = if number + 1 < count { number + 1 } else { 0 };
+        let name = format!(in alloc; "n{number}")?;
+        let text = format!(in alloc; "{{n{next}}}")?;
+        defs.add(name.as_bytes(), text.as_bytes())?;
+    }
+    Ok(defs)
+}
+
+// A cycle of 64 names is met as one, and in a longer one the limit on names is met first.
+#[test]
+fn names_in_a_round(rt: HostRuntime) -> Result<(), Fail> {
+    let alloc = rt.alloc();
+    let rows = &[
+        (64, PatternErrorKind::DefinitionCycle),
+        (65, PatternErrorKind::TooDeep),
+    ];
+    for &(count, kind) in rows {
+        let defs = round(alloc, count)?;
+        assert!(rt; told(alloc, b"a{n0}", &defs) == Some((kind, 1)));
     }
     Ok(())
 }

@@ -12,12 +12,13 @@ use Rattle.lexspec.specs.EndOpenings.{opens_end, begins_end}
 use Rattle.lexspec.specs.RuleViews.{rule_of}
 use Rattle.lexspec.specs.ItemReads.{names_in, ReadsFront, NoneLeft}
 use Rattle.lexlines.specs.declared.declarations.Declarations.{Declarations}
-use Rattle.lexspec.specs.declared.item.Front.{Front}
-use Rattle.lexspec.specs.declared.item.Front.TheVariants as F
-use Rattle.lexspec.specs.declared.taking.Progress.{Progress}
+use Rattle.lexspec.specs.declared.rule_text.Front.{Front}
+use Rattle.lexspec.specs.declared.rule_text.Front.TheVariants as F
+use Rattle.lexspec.specs.declared.rules_so_far.RulesSoFar.{RulesSoFar}
 use Rattle.lexlines.proofs.OneSection.{no_true, two_percents}
 use Rattle.lexspec.proofs.OneItems.{both_ways, AllBlank, StartsBlank, OpensBlock, tests_of, rule_tests, not_caret}
 use Rattle.lexspec.proofs.RulesLaws.{ActsAs, invert}
+use Rattle.lexspec.specs.Limits.{max_rules}
 
 module _ (d : Declarations) where
   no_action : (w : List S.Rule) (s : Subject) (u v : List ℕ) (action : Action) → (w ≡ [] → ⊥) → IsSubject u s v → begins (codes "<<EOF>>") u ≡ true → ActsAs (names_in d) d.fold d.defs w s action → ⊥
@@ -26,7 +27,7 @@ module _ (d : Declarations) where
   no_action w (matching true head after) u v action some (caret, not_end, p) on acts = both_ways (begins (codes "^") u) caret (not_caret u on)
   no_action w (matching false head after) u v action some (caret, not_end, p) on acts = both_ways (begins (codes "<<EOF>>") u) on not_end
 
-  pub end_refused : (s : Progress) (n : ℕ) (t : List ℕ) → starts_rule t ≡ true → begins_end t ≡ true → (length s.waiting.items ≡ 0 → ⊥) → NoneLeft d s n t
+  pub end_refused : (s : RulesSoFar) (n : ℕ) (t : List ℕ) → starts_rule t ≡ true → begins_end t ≡ true → (length s.waiting.items ≡ 0 → ⊥) → NoneLeft d s n t
   end_refused s n t starts on some R E left may =
       let h = invert (names_in d) d.fold d.defs n t (map rule_of s.waiting.items) R E starts left in
       no_action (map rule_of s.waiting.items) h.subject h.u h.v (action_of h.text) (λ empty. some (sym (length-map s.waiting.items rule_of) ∙ ap length empty)) h.cut (sym (ap opens_end h.list) ∙ on) h.acts
@@ -43,7 +44,7 @@ module _ (d : Declarations) where
   some_later n t later E ((m, rule asked at_end action) ∷ is) starts off (rest, line, (starts', u, v, text, list, cut, ends, is_action), more) are = no_true (sym off ∙ ap opens_end list ∙ cut.0)
   some_later n t later E ((m, rule asked (matching anchored head after) action) ∷ is) starts off (rest, line, item, more) (r, others, all, one, later_ones) = omega (arith, ap length all)
 
-  pub full_refused : (s : Progress) (n : ℕ) (t : List ℕ) → starts_rule t ≡ true → begins_end t ≡ false → 4096 ≤ length s.rules.items + length s.waiting.items → NoneLeft d s n t
+  pub full_refused : (s : RulesSoFar) (n : ℕ) (t : List ℕ) → starts_rule t ≡ true → begins_end t ≡ false → max_rules ≤ length s.rules.items + length s.waiting.items → NoneLeft d s n t
   full_refused s n t starts off full R E left may =
       let waiting = map rule_of s.waiting.items in
       let more : 1 ≤ length left.later = some_later n t left.later E left.items starts off left.here left.are in
@@ -63,9 +64,9 @@ module _ (d : Declarations) where
   not_end u v head false after (caret, off, p) = off
 
   -- a rule has room where there is room for any rule but an `<<EOF>>` rule
-  pub has_room : (s : Progress) (n : ℕ) (t action rest : List ℕ) (front : Front) → ReadsFront d n t action rest front → (begins_end t ≡ false → length s.rules.items + length s.waiting.items < 4096) → HasRoom front s
+  pub has_room : (s : RulesSoFar) (n : ℕ) (t action rest : List ℕ) (front : Front) → ReadsFront d n t action rest front → (begins_end t ≡ false → length s.rules.items + length s.waiting.items < max_rules) → HasRoom front s
   has_room s n t action rest (F.Matching r) h room = from h.item
     where
-      from : IsItem t (rule h.asked (matching h.anchored h.head h.after) (action_of action)) rest → length s.rules.items + length s.waiting.items < 4096
+      from : IsItem t (rule h.asked (matching h.anchored h.head h.after) (action_of action)) rest → length s.rules.items + length s.waiting.items < max_rules
       from (starts, u, v, text, list, cut, ends, is_action) = room (ap opens_end list ∙ not_end u v h.head h.anchored h.after cut)
   has_room s n t action rest (F.AtEnd numbers) h room = tt

@@ -10,6 +10,7 @@ use Rattle.lexre.proofs.LengthLaws.{has_lengths}
 use Rattle.lexmeaning.specs.Sound.{HasFixed, IsCutOf}
 use Rattle.lexspec.specs.RuleItems.{is_number}
 use Rattle.lexspec.specs.Tests.{has_length, has_fixed, is_fixed, is_whole, cut_fits}
+use Rattle.lexspec.specs.Limits.{max_fixed_length}
 
 one_least : (L : Language) (m n : ℕ) (g h : Option ℕ) → HasLengths L m g → HasLengths L n h → m ≡ n
 one_least L m n g h a b =
@@ -39,7 +40,7 @@ fixed_is_tested t n sound (fixed, few) =
     let all = has_lengths t sound in
     let low : least t ≡ n = one_least (In t) (least t) n (greatest t) (Some n) all fixed in
     let high : greatest t ≡ Some n = one_longest (In t) (greatest t) (Some n) all.longest fixed.longest in
-    and_from (has_length t n) (nat_le n 65535) (and_from (least t == n) (is_number (greatest t) n) (eq-eqb (least t) n low) (ap (λ g. is_number g n) high ∙ eq-eqb n n refl)) (le_true n 65535 few)
+    and_from (has_length t n) (nat_le n max_fixed_length) (and_from (least t == n) (is_number (greatest t) n) (eq-eqb (least t) n low) (ap (λ g. is_number g n) high ∙ eq-eqb n n refl)) (le_true n max_fixed_length few)
   where
     le_true : (a b : ℕ) → a ≤ b → nat_le a b ≡ true
     le_true a b h = search rules
@@ -47,9 +48,9 @@ fixed_is_tested t n sound (fixed, few) =
 -- what passes has a fixed length
 pub test_is_fixed : (t : Tree) (n : ℕ) → IsSoundTree t → has_fixed t n ≡ true → HasFixed t n
 test_is_fixed t n sound h =
-    let both = and_parts (has_length t n) (nat_le n 65535) h in
+    let both = and_parts (has_length t n) (nat_le n max_fixed_length) h in
     let ends = and_parts (least t == n) (is_number (greatest t) n) both.0 in
-    (from (greatest t) (eqb-true (least t) n ends.0) ends.1 (has_lengths t sound), leb-true n 65535 both.1)
+    (from (greatest t) (eqb-true (least t) n ends.0) ends.1 (has_lengths t sound), leb-true n max_fixed_length both.1)
   where
     from : (g : Option ℕ) → least t ≡ n → is_number g n ≡ true → HasLengths (In t) (least t) g → HasLengths (In t) n (Some n)
     from None low high has = absurd (no high)

@@ -6,8 +6,8 @@ use Rattle.std.specs.Prelude.{Result, Ok, Err, OnErr, IfOk, IfErr, Vec, option_m
 use Rattle.lexre.specs.Views.{tree_of}
 use Rattle.lexspec.specs.RuleViews.{cut_of}
 use Rattle.lexspec.specs.declared.rule.Rule.{Rule}
-use Rattle.lexspec.specs.declared.item.RuleText.{RuleText}
-use Rattle.lexspec.specs.declared.item.Front.TheVariants as F
+use Rattle.lexspec.specs.declared.rule_text.RuleText.{RuleText}
+use Rattle.lexspec.specs.declared.rule_text.Front.TheVariants as F
 use Rattle.lexre.specs.Spelling.{Spells}
 use Rattle.lexaction.specs.Names.{number_from, names_of}
 use Rattle.lexaction.specs.declared.condition.Condition.{Condition}
@@ -17,9 +17,9 @@ use Rattle.lexmeaning.specs.Sound.{IsCutOf}
 use Rattle.lexspec.specs.RuleItems.{numbers_of, IsTrail}
 use Rattle.lexspec.specs.ItemReads.{names_in, NoRules, NoSides, ReadsFront, ReadsItem}
 use Rattle.lexlines.specs.declared.declarations.Declarations.{Declarations}
-use Rattle.lexlines.specs.declared.error.SpecErrorKind.{SpecErrorKind}
+use Rattle.lexclass.specs.declared.refusals.SpecErrorKind.{SpecErrorKind}
 use Rattle.lexlines.specs.Outcome.{UnlessMemory}
-use Rattle.lexlines.proofs.OutcomeLaws.{unless_memory, always}
+use Rattle.lexclass.proofs.MemoryLaws.{unless_memory, always}
 use Rattle.lexspec.proofs.RulesLaws.{no_list, no_numbers, no_subject, no_head, no_action, tree_once}
 use Rattle.lexspec.proofs.OneSpec.{one_trail}
 use Rattle.lexmeaning.specs.Spec.{Cut}

@@ -11,9 +11,9 @@ use Rattle.lexspec.specs.SoundSides.{HasSoundFront}
 use Rattle.lexmeaning.specs.Sound.{HaveSoundSides}
 use Rattle.lexlines.specs.declared.declarations.Declarations.{Declarations}
 use Rattle.lexspec.specs.declared.endings.EndRule.{EndRule}
-use Rattle.lexspec.specs.declared.item.Front.TheVariants as F
+use Rattle.lexspec.specs.declared.rule_text.Front.TheVariants as F
 use Rattle.lexspec.specs.declared.rule.Rule.{Rule}
-use Rattle.lexspec.specs.declared.taking.Progress.{Progress}
+use Rattle.lexspec.specs.declared.rules_so_far.RulesSoFar.{RulesSoFar}
 use Rattle.lexspec.proofs.EndingLaws.{single_none}
 use Rattle.lexspec.proofs.SideLaws.{bar_sound, rule_sound}
 
@@ -21,17 +21,17 @@ one_item_more : {A : Type 0} (xs : List A) (x : A) → length (xs ++ x ∷ []) �
 one_item_more xs x = length-append xs (x ∷ [])
 
 module _ (d : Declarations) where
-  pub keeps_first : (s : Progress) → s.rules.items ≡ [] → s.waiting.items ≡ [] → s.ends.items ≡ [] → Keeps d s
+  pub keeps_first : (s : RulesSoFar) → s.rules.items ≡ [] → s.waiting.items ≡ [] → s.ends.items ≡ [] → Keeps d s
   keeps_first s rules waiting ends = record {
     sound = (subst (λ z. HaveSoundSides (map rule_of z)) (sym rules) tt, subst (λ z. HaveSoundSides (map rule_of z)) (sym waiting) tt);
     single = subst (λ z. AreSingle (length d.conditions.items) (map end_rule_of z)) (sym ends) (single_none (length d.conditions.items));
     few = omega (arith, ap length rules, ap length waiting);
   }
 
-  single_on : (s s' : Progress) → s'.ends.items ≡ s.ends.items → AreSingle (length d.conditions.items) (map end_rule_of s.ends.items) → AreSingle (length d.conditions.items) (map end_rule_of s'.ends.items)
+  single_on : (s s' : RulesSoFar) → s'.ends.items ≡ s.ends.items → AreSingle (length d.conditions.items) (map end_rule_of s.ends.items) → AreSingle (length d.conditions.items) (map end_rule_of s'.ends.items)
   single_on s s' ends h = subst (λ z. AreSingle (length d.conditions.items) (map end_rule_of z)) (sym ends) h
 
-  pub keeps_bar : (r : Rule) (s s' : Progress) → s'.rules.items ≡ s.rules.items → s'.ends.items ≡ s.ends.items → s'.waiting.items ≡ s.waiting.items ++ r ∷ []
+  pub keeps_bar : (r : Rule) (s s' : RulesSoFar) → s'.rules.items ≡ s.rules.items → s'.ends.items ≡ s.ends.items → s'.waiting.items ≡ s.waiting.items ++ r ∷ []
       → HasSoundFront (F.Matching r) → HasRoom (F.Matching r) s → Keeps d s → Keeps d s'
   keeps_bar r s s' rules ends waiting front room k =
       let sides = bar_sound (F.Matching r) r s.rules.items s.waiting.items s'.waiting.items refl waiting front k.sound.0 k.sound.1 in
@@ -41,7 +41,7 @@ module _ (d : Declarations) where
         few = omega (arith, room, ap length rules, ap length waiting, one_item_more s.waiting.items r);
       }
 
-  pub keeps_rule : (r : Rule) (ss : List S.Statement) (s s' : Progress)
+  pub keeps_rule : (r : Rule) (ss : List S.Statement) (s s' : RulesSoFar)
       → map rule_of s'.rules.items ≡ map rule_of s.rules.items ++ (map (acting ss) (map rule_of s.waiting.items) ++ acting ss (rule_of r) ∷ [])
       → s'.ends.items ≡ s.ends.items → s'.waiting.items ≡ [] → HasSoundFront (F.Matching r) → HasRoom (F.Matching r) s → Keeps d s → Keeps d s'
   keeps_rule r ss s s' rules ends waiting front room k =
@@ -59,7 +59,7 @@ module _ (d : Declarations) where
         few = omega (arith, room, all, later, done, newer, named, waited, ap length waiting);
       }
 
-  pub keeps_end : (e : EndRule) (old : List EndRule) (s s' : Progress) → old ≡ s.ends.items → s'.rules.items ≡ s.rules.items → s'.ends.items ≡ s.ends.items ++ e ∷ [] → s'.waiting.items ≡ s.waiting.items
+  pub keeps_end : (e : EndRule) (old : List EndRule) (s s' : RulesSoFar) → old ≡ s.ends.items → s'.rules.items ≡ s.rules.items → s'.ends.items ≡ s.ends.items ++ e ∷ [] → s'.waiting.items ≡ s.waiting.items
       → ((count : ℕ) → AreSingle count (map end_rule_of old) → AreSingle count (map end_rule_of old ++ end_rule_of e ∷ [])) → Keeps d s → Keeps d s'
   keeps_end e old s s' same rules ends waiting joins k = record {
     sound = (subst (λ z. HaveSoundSides (map rule_of z)) (sym rules) k.sound.0, subst (λ z. HaveSoundSides (map rule_of z)) (sym waiting) k.sound.1);

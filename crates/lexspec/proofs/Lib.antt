@@ -7,8 +7,8 @@ pub mod ListedLaws
 pub mod CutLaws
 pub mod RulesLaws
 pub mod ItemLaws
-pub mod ProgressLaws
-pub mod PlainLaws
+pub mod SoFarLaws
+pub mod SkipLaws
 pub mod EndLaws
 pub mod StepLaws
 pub mod RestLaws

@@ -9,6 +9,7 @@ use Rattle.lexspec.specs.Items.{parts_at}
 use Rattle.lexspec.specs.RuleItems.{all_numbered, is_number}
 use Rattle.lexmeaning.specs.Text.{listed}
 use Rattle.lexspec.specs.SubjectViews.{parts}
+use Rattle.lexaction.specs.Limits.{max_conditions}
 
 abbrev Split : Type 0
 Split = List ℕ × List ℕ
@@ -51,17 +52,17 @@ next_part t front (c ∷ back) rest e h is = parts_first t front (c ∷ back) e 
 
 -- Flags at the numbers of the names that were met.
 pub record Marks (number : List ℕ → Option ℕ) (names rest : List (List ℕ)) (flags : List Bool) : Type 0 where
-  pub count : length flags ≡ 255
+  pub count : length flags ≡ max_conditions
   pub numbered : all_numbered number rest ≡ all_numbered number names
-  pub listed : (c : ℕ) → c < 255 → (get_or flags c false || list_any (λ name. is_number (number name) c) rest) ≡ list_any (λ name. is_number (number name) c) names
+  pub listed : (c : ℕ) → c < max_conditions → (get_or flags c false || list_any (λ name. is_number (number name) c) rest) ≡ list_any (λ name. is_number (number name) c) names
 
 no_flag : (n c : ℕ) → get_or (replicate n false) c false ≡ false
 no_flag zero c = refl
 no_flag (suc n) zero = refl
 no_flag (suc n) (suc c) = no_flag n c
 
-pub marks_first : (number : List ℕ → Option ℕ) (names : List (List ℕ)) → Marks number names names (replicate 255 false)
-marks_first number names = record { count = refl; numbered = refl; listed = λ c h. ap (λ z. z || list_any (λ name. is_number (number name) c) names) (no_flag 255 c) }
+pub marks_first : (number : List ℕ → Option ℕ) (names : List (List ℕ)) → Marks number names names (replicate max_conditions false)
+marks_first number names = record { count = refl; numbered = refl; listed = λ c h. ap (λ z. z || list_any (λ name. is_number (number name) c) names) (no_flag max_conditions c) }
 
 or_comes : (a b c : Bool) → ((a || b) || c) ≡ (a || (b || c))
 or_comes true b c = refl
@@ -114,7 +115,7 @@ marks_next number names all rest name flags k m first here below = record {
 }
 
 pub marks_all : (number : List ℕ → Option ℕ) (names : List (List ℕ)) (flags : List Bool) → Marks number names [] flags
-    → (all_numbered number names ≡ true) × ((c : ℕ) → c < 255 → get_or flags c false ≡ list_any (λ name. is_number (number name) c) names)
+    → (all_numbered number names ≡ true) × ((c : ℕ) → c < max_conditions → get_or flags c false ≡ list_any (λ name. is_number (number name) c) names)
 marks_all number names flags m = (sym m.numbered, λ c h. sym (or_none (get_or flags c false)) ∙ m.listed c h)
   where
     or_none : (b : Bool) → (b || false) ≡ b
@@ -149,5 +150,5 @@ all_flags zero c h = absurd (omega arith)
 all_flags (suc n) zero h = refl
 all_flags (suc n) (suc c) h = all_flags n c (omega arith)
 
-pub every_flag : (c : ℕ) → c < 255 → get_or (replicate 255 true) c false ≡ true
-every_flag c h = all_flags 255 c h
+pub every_flag : (c : ℕ) → c < max_conditions → get_or (replicate max_conditions true) c false ≡ true
+every_flag c h = all_flags max_conditions c h

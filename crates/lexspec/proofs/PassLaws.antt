@@ -25,6 +25,8 @@ use Rattle.lexspec.proofs.CutLaws.{cut_is_tested}
 use Rattle.lexlines.proofs.DeclaringLaws.{names_kept}
 use Rattle.lexspec.proofs.EndingLaws.{numbers_ordered}
 use Rattle.lexspec.proofs.TestLaws.{sound_is_tested}
+use Rattle.lexaction.specs.Limits.{max_conditions, max_statements, max_literal_bytes, max_status}
+use Rattle.lexspec.specs.Limits.{max_rules}
 
 -- rules
 
@@ -67,18 +69,18 @@ action_acts names bar (r ∷ rs) ss some h pass =
     subst (MayAct (length names)) (sym h) (rule_acts (length names) r (and_parts (sound_rule (length names) r) (sound_rules (length names) rs) pass).0)
 
 -- an end action prints the literal of its statements
-end_print_of : (ss : List Statement) (e : EndAction) → sum_by literal_bytes ss ≤ 4096 → end_of ss ≡ Some e → length e.print ≤ 4096
-end_print_of [] e few is = let same : record { print = []; status = 0 } ≡ e = cc in subst (λ (z : EndAction). length z.print ≤ 4096) same (omega arith)
-end_print_of (Print bs ∷ []) e few is = let same : record { print = bs; status = 0 } ≡ e = cc in subst (λ (z : EndAction). length z.print ≤ 4096) same (omega (arith, few))
-end_print_of (End k ∷ []) e few is = let same : record { print = []; status = k } ≡ e = cc in subst (λ (z : EndAction). length z.print ≤ 4096) same (omega arith)
-end_print_of (Print bs ∷ End k ∷ []) e few is = let same : record { print = bs; status = k } ≡ e = cc in subst (λ (z : EndAction). length z.print ≤ 4096) same (omega (arith, few))
+end_print_of : (ss : List Statement) (e : EndAction) → sum_by literal_bytes ss ≤ max_literal_bytes → end_of ss ≡ Some e → length e.print ≤ max_literal_bytes
+end_print_of [] e few is = let same : record { print = []; status = 0 } ≡ e = cc in subst (λ (z : EndAction). length z.print ≤ max_literal_bytes) same (omega arith)
+end_print_of (Print bs ∷ []) e few is = let same : record { print = bs; status = 0 } ≡ e = cc in subst (λ (z : EndAction). length z.print ≤ max_literal_bytes) same (omega (arith, few))
+end_print_of (End k ∷ []) e few is = let same : record { print = []; status = k } ≡ e = cc in subst (λ (z : EndAction). length z.print ≤ max_literal_bytes) same (omega arith)
+end_print_of (Print bs ∷ End k ∷ []) e few is = let same : record { print = bs; status = k } ≡ e = cc in subst (λ (z : EndAction). length z.print ≤ max_literal_bytes) same (omega (arith, few))
 end_print_of _ e few is = absurd (none is)
   where
     none : None ≡ Some e → ⊥
     none p = cc
 
-end_print : (e : EndAction) (ss : List Statement) → are_few ss ≡ true → end_of ss ≡ Some e → length e.print ≤ 4096
-end_print e ss few is = end_print_of ss e (leb-true (sum_by literal_bytes ss) 4096 (and_parts (nat_le (length ss) 256) (nat_le (sum_by literal_bytes ss) 4096) few).1) is
+end_print : (e : EndAction) (ss : List Statement) → are_few ss ≡ true → end_of ss ≡ Some e → length e.print ≤ max_literal_bytes
+end_print e ss few is = end_print_of ss e (leb-true (sum_by literal_bytes ss) max_literal_bytes (and_parts (nat_le (length ss) max_statements) (nat_le (sum_by literal_bytes ss) max_literal_bytes) few).1) is
 
 module _ (names : List (List ℕ)) (fold : Bool) (defined : Definitions) (some : 1 ≤ length names) where
   item_passes : (n : ℕ) (asked : Conditions) (anchored : Bool) (head : List ℕ) (after : Trailing) (action : Action) (is : List (ℕ × Item)) (rs : List Rule) (r : Rule)
@@ -102,7 +104,7 @@ module _ (names : List (List ℕ)) (fold : Bool) (defined : Definitions) (some :
 
   -- the statuses of end actions, and what they print
   abbrev IsSmall : EndAction → Type 0
-  IsSmall e = (e.status ≤ 63) × (length e.print ≤ 4096)
+  IsSmall e = (e.status ≤ max_status) × (length e.print ≤ max_literal_bytes)
 
   abbrev pub AreSmall : List EndRule → Type 0
   AreSmall [] = Unit {0}
@@ -137,7 +139,7 @@ module _ (names : List (List ℕ)) (fold : Bool) (defined : Definitions) (some :
       let e = end_in ends ends k in
       let small = small_end ends ends k h h in
       and_from (sound_end e) (sound_conditions (conditions_with (suc k) cs ends))
-      (and_from (nat_le e.status 63) (nat_le (length e.print) 4096) (le-leb e.status 63 small.0) (le-leb (length e.print) 4096 small.1))
+      (and_from (nat_le e.status max_status) (nat_le (length e.print) max_literal_bytes) (le-leb e.status max_status small.0) (le-leb (length e.print) max_literal_bytes small.1))
       (conditions_pass (suc k) cs ends h)
 
 pub length_with : (k : ℕ) (cs : List Declared) (ends : List EndRule) → length (conditions_with k cs ends) ≡ length cs
@@ -145,7 +147,7 @@ length_with k [] ends = refl
 length_with k (c ∷ cs) ends = ap suc (length_with (suc k) cs ends)
 
 -- The specification passes: its conditions are few, its rules are few, and their sides are sound.
-pub spec_passes : (cs : List Declared) (fold : Bool) (defined : Definitions) (is : List (ℕ × Item)) (rs : List Rule) (ends : List EndRule) → 1 ≤ length cs → length cs ≤ 255 → length rs ≤ 4096
+pub spec_passes : (cs : List Declared) (fold : Bool) (defined : Definitions) (is : List (ℕ × Item)) (rs : List Rule) (ends : List EndRule) → 1 ≤ length cs → length cs ≤ max_conditions → length rs ≤ max_rules
     → AreRules (names_of cs) fold defined is rs ends → HaveSoundSides rs → is_sound (record { conditions = conditions_with 0 cs ends; rules = rs }) ≡ true
 spec_passes cs fold defined is rs ends some few few_rules h sides =
     let conditions = conditions_with 0 cs ends in
@@ -154,21 +156,21 @@ spec_passes cs fold defined is rs ends some few few_rules h sides =
     let some_name : 1 ≤ length (names_of cs) = omega arith in
     let same : length (names_of cs) ≡ length conditions = named ∙ sym count in
     let small = ends_small (names_of cs) fold defined some_name is rs ends h in
-    let one = and_from (nat_le 1 (length conditions)) (nat_le (length conditions) 255) (le-leb 1 (length conditions) (omega arith)) (le-leb (length conditions) 255 (omega arith)) in
-    let two = and_from (nat_le 1 (length conditions) && nat_le (length conditions) 255) (nat_le (length rs) 4096) one (le-leb (length rs) 4096 few_rules) in
-    let three = and_from (nat_le 1 (length conditions) && nat_le (length conditions) 255 && nat_le (length rs) 4096) (sound_conditions conditions) two
+    let one = and_from (nat_le 1 (length conditions)) (nat_le (length conditions) max_conditions) (le-leb 1 (length conditions) (omega arith)) (le-leb (length conditions) max_conditions (omega arith)) in
+    let two = and_from (nat_le 1 (length conditions) && nat_le (length conditions) max_conditions) (nat_le (length rs) max_rules) one (le-leb (length rs) max_rules few_rules) in
+    let three = and_from (nat_le 1 (length conditions) && nat_le (length conditions) max_conditions && nat_le (length rs) max_rules) (sound_conditions conditions) two
     (conditions_pass (names_of cs) fold defined some_name 0 cs ends small) in
-    and_from (nat_le 1 (length conditions) && nat_le (length conditions) 255 && nat_le (length rs) 4096 && sound_conditions conditions) (sound_rules (length conditions) rs) three
+    and_from (nat_le 1 (length conditions) && nat_le (length conditions) max_conditions && nat_le (length rs) max_rules && sound_conditions conditions) (sound_rules (length conditions) rs) three
     (ap (λ n. sound_rules n rs) (sym same) ∙ rules_pass (names_of cs) fold defined some_name is rs ends h sides)
 
 -- The same of what the code keeps: the declared conditions, with their ends.
 pub kept_passes : (d : Declarations) (fold : Bool) (defined : Definitions) (is : List (ℕ × Item)) (rs : List Rule) (ends : List EndRule) (cs : List Condition) → 1 ≤ length d.conditions.items
-    → length d.conditions.items ≤ 255 → length rs ≤ 4096 → AreRules (names_in d) fold defined is rs ends → HaveSoundSides rs → cs ≡ conditions_with 0 (map declared_of d.conditions.items) ends
+    → length d.conditions.items ≤ max_conditions → length rs ≤ max_rules → AreRules (names_in d) fold defined is rs ends → HaveSoundSides rs → cs ≡ conditions_with 0 (map declared_of d.conditions.items) ends
     → is_sound (record { conditions = cs; rules = rs }) ≡ true
 kept_passes d fold defined is rs ends cs some few few_rules h sides are =
     let kept = map declared_of d.conditions.items in
     let count : length kept ≡ length d.conditions.items = length-map d.conditions.items declared_of in
     let some_kept : 1 ≤ length kept = omega arith in
-    let few_kept : length kept ≤ 255 = omega arith in
+    let few_kept : length kept ≤ max_conditions = omega arith in
     ap (λ z. is_sound (record { conditions = z; rules = rs })) are
     ∙ spec_passes kept fold defined is rs ends some_kept few_kept few_rules (subst (λ ns. AreRules ns fold defined is rs ends) (sym (names_kept d.conditions.items)) h) sides

@@ -22,18 +22,21 @@ use Rattle.lexspec.specs.RuleViews.{rule_of}
 use Rattle.lexlines.specs.Outcome.{UnlessMemory}
 use Rattle.lexspec.specs.Tests.{is_sound}
 use Rattle.lexspec.specs.Views.{spec_of}
-use Rattle.lexlines.specs.declared.error.SpecError.{SpecError}
-use Rattle.lexlines.specs.declared.error.SpecErrorKind.{SpecErrorKind}
+use Rattle.lexclass.specs.declared.refusals.SpecError.{SpecError}
+use Rattle.lexclass.specs.declared.refusals.SpecErrorKind.{SpecErrorKind}
 use Rattle.lexspec.specs.declared.spec.Spec.{Spec as SpecOfCode}
 use Rattle.lexlines.specs.declared.declarations.Declarations.{Declarations}
 use Rattle.lexspec.specs.declared.rules_section.RulesSection.{RulesSection}
 use Rattle.lexlines.specs.declared.section.Section.{Section}
 use Rattle.lexlines.proofs.DeclaringLaws.{names_kept}
 use Rattle.lexlines.proofs.OneSection.{separator_ends, one_up_to}
-use Rattle.lexlines.proofs.OutcomeLaws.{unless_memory}
+use Rattle.lexclass.proofs.MemoryLaws.{unless_memory}
 use Rattle.lexspec.proofs.PassLaws.{kept_passes, length_with}
 use Rattle.lexspec.proofs.RestLaws.{newlines_few}
 use Rattle.lexlines.proofs.SectionLaws.{EndsWith, ends_on, definition_ends}
+use Rattle.lexaction.specs.Limits.{max_conditions}
+use Rattle.lexlines.specs.Limits.{max_file_bytes}
+use Rattle.lexspec.specs.Limits.{max_rules}
 
 -- without carriage returns
 
@@ -65,7 +68,7 @@ not_longer (c ∷ d ∷ t) = from (c == 13 && d == 10) (not_longer (d ∷ t))
     from true h = omega arith
     from false h = omega arith
 
-pub kept_short : (file kept : List ℕ) → length file ≤ 1048576 → kept ≡ without_returns file → length kept ≤ 1048576
+pub kept_short : (file kept : List ℕ) → length file ≤ max_file_bytes → kept ≡ without_returns file → length kept ≤ max_file_bytes
 kept_short file kept few is = omega (arith, few, ap length is, not_longer file)
 
 -- the first section
@@ -85,14 +88,14 @@ line_few fold t s h = omega (arith, h.line, newlines_few t)
 
 -- the second one
 
-pub sections_pass : (d : Declarations) (n : ℕ) (t : List ℕ) (x : RulesSection) → 1 ≤ length d.conditions.items → length d.conditions.items ≤ 255 → HasRules d n t x → is_sound (of_sections d x) ≡ true
+pub sections_pass : (d : Declarations) (n : ℕ) (t : List ℕ) (x : RulesSection) → 1 ≤ length d.conditions.items → length d.conditions.items ≤ max_conditions → HasRules d n t x → is_sound (of_sections d x) ≡ true
 sections_pass d n t x some few h =
-    kept_passes d d.fold d.defs h.items (map rule_of x.rules.items) (map end_rule_of x.ends.items) _ some few (subst (λ z. z ≤ 4096) (sym (length-map x.rules.items rule_of)) h.few) h.are h.sound refl
+    kept_passes d d.fold d.defs h.items (map rule_of x.rules.items) (map end_rule_of x.ends.items) _ some few (subst (λ z. z ≤ max_rules) (sym (length-map x.rules.items rule_of)) h.few) h.are h.sound refl
 
 -- both
 
 -- the specification of the declarations, in the words of the file's definition
-pub spelled : (fold : Bool) (file : List ℕ) (s : Section) (S : Spec) → length file ≤ 1048576 → HasSection fold (without_returns file) s → SpellsRest s S → SpellsSpec fold file S
+pub spelled : (fold : Bool) (file : List ℕ) (s : Section) (S : Spec) → length file ≤ max_file_bytes → HasSection fold (without_returns file) s → SpellsRest s S → SpellsSpec fold file S
 spelled fold file s S short h r =
     let d = s.declarations in
     let names : names_in d ≡ names_of (all_conditions h.definitions) = sym (names_kept d.conditions.items) ∙ ap names_of h.declares.conditions in
@@ -145,7 +148,7 @@ rest_of fold file s S h k =
 pub no_section : (fold : Bool) (file : List ℕ) → ((ds : List Definition) (after : List ℕ) → IsUpTo definition_at (without_returns file) ds after → begins (codes "%%") after ≡ true → AreAllowed ds → ⊥)
     → (S : Spec) → SpellsSpec fold file S → ⊥
 no_section fold file none S k =
-    let few : length (all_conditions k.definitions) ≤ 255 = omega (arith, k.few_conditions, ap length k.conditions, length_with 0 (all_conditions k.definitions) k.ends) in
+    let few : length (all_conditions k.definitions) ≤ max_conditions = omega (arith, k.few_conditions, ap length k.conditions, length_with 0 (all_conditions k.definitions) k.ends) in
     none k.definitions k.after k.first_section k.separator ((k.names, few), k.defined_once, k.options)
 
 -- the answers of the reader
@@ -153,7 +156,7 @@ no_section fold file none S k =
 abbrev File : Type 0
 File = List ℕ
 
-pub read_found : (r : Result SpecOfCode SpecError) (fold : Bool) (file kept : File) (s : Section) → length file ≤ 1048576 → kept ≡ without_returns file → HasSection fold kept s
+pub read_found : (r : Result SpecOfCode SpecError) (fold : Bool) (file kept : File) (s : Section) → length file ≤ max_file_bytes → kept ≡ without_returns file → HasSection fold kept s
     → IfOk r (λ x. SpellsRest s (spec_of x)) → IfOk r (λ x. SpellsSpec fold file (spec_of x))
 read_found (Err e) fold file kept s short is h rest = tt
 read_found (Ok x) fold file kept s short is h rest = spelled fold file s (spec_of x) short (subst (λ z. HasSection fold z s) is h) rest

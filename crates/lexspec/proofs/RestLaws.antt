@@ -19,15 +19,16 @@ use Rattle.lexmeaning.specs.Sound.{HaveSoundSides}
 use Rattle.lexspec.specs.RulesReads.{HasRules, NoSuchRules}
 use Rattle.lexlines.specs.Outcome.{UnlessMemory}
 use Rattle.lexlines.specs.declared.declarations.Declarations.{Declarations}
-use Rattle.lexlines.specs.declared.error.SpecError.{SpecError}
-use Rattle.lexlines.specs.declared.error.SpecErrorKind.{SpecErrorKind}
+use Rattle.lexclass.specs.declared.refusals.SpecError.{SpecError}
+use Rattle.lexclass.specs.declared.refusals.SpecErrorKind.{SpecErrorKind}
 use Rattle.lexspec.specs.declared.rule.Rule.{Rule}
 use Rattle.lexspec.specs.declared.rules_section.RulesSection.{RulesSection}
-use Rattle.lexspec.specs.declared.taking.Progress.{Progress}
+use Rattle.lexspec.specs.declared.rules_so_far.RulesSoFar.{RulesSoFar}
 use Rattle.lexlines.proofs.OneSection.{no_true}
 use Rattle.lexspec.proofs.OneItems.{no_item_at_end}
-use Rattle.lexlines.proofs.OutcomeLaws.{unless_memory, always}
+use Rattle.lexclass.proofs.MemoryLaws.{unless_memory, always}
 use Rattle.lexspec.proofs.RulesLaws.{agree_first}
+use Rattle.lexspec.specs.Limits.{max_rules}
 
 -- where the section ends
 abbrev pub IsOver : List ℕ → Type 0
@@ -42,7 +43,7 @@ no_elements [] h = refl
 no_elements (x ∷ xs) h = absurd (omega arith)
 
 module _ (d : Declarations) where
-  pub agrees_first : (s : Progress) (n : ℕ) (t : List ℕ) → s.rules.items ≡ [] → s.waiting.items ≡ [] → s.ends.items ≡ [] → Agrees d n t s n t
+  pub agrees_first : (s : RulesSoFar) (n : ℕ) (t : List ℕ) → s.rules.items ≡ [] → s.waiting.items ≡ [] → s.ends.items ≡ [] → Agrees d n t s n t
   agrees_first s n t e f g =
       let a = agree_first (names_in d) d.fold d.defs n t in
       record {
@@ -55,16 +56,16 @@ module _ (d : Declarations) where
   left_of n t items R E here are = record { items = items; here = here; later = R; are = are; next = refl; whole = refl }
 
   -- what is not spelled from a place on is not spelled from the first line on
-  pub section_refused : (start n : ℕ) (whole t : List ℕ) (s : Progress) (e : SpecErrorKind) → Agrees d start whole s n t → UnlessMemory e (NoneLeft d s n t) → UnlessMemory e (NoSuchRules d start whole)
+  pub section_refused : (start n : ℕ) (whole t : List ℕ) (s : RulesSoFar) (e : SpecErrorKind) → Agrees d start whole s n t → UnlessMemory e (NoneLeft d s n t) → UnlessMemory e (NoSuchRules d start whole)
   section_refused start n whole t s e a h = unless_memory e (NoneLeft d s n t) (NoSuchRules d start whole) (λ none items R E here are few single.
       let (T, F, p, q, left) = a.on R E (left_of start whole items R E here are) in
       let all : length R ≡ length (map rule_of s.rules.items) + length T = ap length p ∙ length-append (map rule_of s.rules.items) T in
       let done : length (map rule_of s.rules.items) ≡ length s.rules.items = length-map s.rules.items rule_of in
-      let room : length s.rules.items + length T ≤ 4096 = omega arith in
+      let room : length s.rules.items + length T ≤ max_rules = omega arith in
       none T F left (room, subst (AreSingle (length d.conditions.items)) q single)) h
 
   -- no rule waits at the end
-  pub end_waits : (n : ℕ) (t : List ℕ) (s : Progress) (e : SpecErrorKind) → IsOver t → (length s.waiting.items ≡ 0 → ⊥) → UnlessMemory e (NoneLeft d s n t)
+  pub end_waits : (n : ℕ) (t : List ℕ) (s : RulesSoFar) (e : SpecErrorKind) → IsOver t → (length s.waiting.items ≡ 0 → ⊥) → UnlessMemory e (NoneLeft d s n t)
   end_waits n t s e over some = always e (NoneLeft d s n t) (λ R E left may. from s.waiting.items some left.items left.here left.next)
     where
       from : (ws : List Rule) → (length ws ≡ 0 → ⊥) → (is : List (ℕ × Item)) → AreItems n t is → may_wait (map rule_of ws) is ≡ true → ⊥
@@ -72,7 +73,7 @@ module _ (d : Declarations) where
       from (w ∷ ws) h [] here next = no_true next
       from (w ∷ ws) h (i ∷ is) (rest, first, item, more) next = no_item_at_end t i.1 rest over item
 
-  pub all_read : (start n : ℕ) (whole t : List ℕ) (s : Progress) (x : RulesSection) → Agrees d start whole s n t → Keeps d s → IsOver t → length s.waiting.items ≡ 0
+  pub all_read : (start n : ℕ) (whole t : List ℕ) (s : RulesSoFar) (x : RulesSection) → Agrees d start whole s n t → Keeps d s → IsOver t → length s.waiting.items ≡ 0
       → x.rules.items ≡ s.rules.items → x.ends.items ≡ s.ends.items → x.rest.now ≡ t → HasRules d start whole x
   all_read start n whole t s x a keeps over none rules ends rest =
       let nobody : s.waiting.items ≡ [] = no_elements s.waiting.items none in
@@ -91,7 +92,7 @@ module _ (d : Declarations) where
       }
 
   -- one item more
-  pub item_read : (s s' : Progress) (start line more : ℕ) (whole t rest : List ℕ)
+  pub item_read : (s s' : RulesSoFar) (start line more : ℕ) (whole t rest : List ℕ)
       → ((start : ℕ) (whole : List ℕ) → Agrees d start whole s line t → Agrees d start whole s' (line + (newlines t - newlines rest)) rest)
       → newlines (take (length t - length rest) t) + newlines rest ≡ newlines t → more ≡ newlines (take (length t - length rest) t) → Agrees d start whole s line t
       → Agrees d start whole s' (line + more) rest
@@ -99,12 +100,12 @@ module _ (d : Declarations) where
       let same : newlines t - newlines rest ≡ more = omega (arith, counts, e) in
       subst (λ z. Agrees d start whole s' (line + z) rest) same (on start whole a)
 
-  pub ended_found : (r : Result RulesSection SpecError) (start n : ℕ) (whole t : List ℕ) (s : Progress) → Agrees d start whole s n t → Keeps d s → IsOver t → IfOk r (λ x. length s.waiting.items ≡ 0)
+  pub ended_found : (r : Result RulesSection SpecError) (start n : ℕ) (whole t : List ℕ) (s : RulesSoFar) → Agrees d start whole s n t → Keeps d s → IsOver t → IfOk r (λ x. length s.waiting.items ≡ 0)
       → IfOk r (λ x. x.rules.items ≡ s.rules.items) → IfOk r (λ x. x.ends.items ≡ s.ends.items) → IfOk r (λ x. x.rest.now ≡ t) → IfOk r (λ x. HasRules d start whole x)
   ended_found (Err e) start n whole t s a keeps over none rules ends rest = tt
   ended_found (Ok x) start n whole t s a keeps over none rules ends rest = all_read start n whole t s x a keeps over none rules ends rest
 
-  pub ended_none : (r : Result RulesSection SpecError) (start n : ℕ) (whole t : List ℕ) (s : Progress) → Agrees d start whole s n t → IsOver t → IfErr r (λ e. length s.waiting.items ≡ 0 → ⊥)
+  pub ended_none : (r : Result RulesSection SpecError) (start n : ℕ) (whole t : List ℕ) (s : RulesSoFar) → Agrees d start whole s n t → IsOver t → IfErr r (λ e. length s.waiting.items ≡ 0 → ⊥)
       → IfErr r (λ e. UnlessMemory e.kind (NoSuchRules d start whole))
   ended_none (Ok x) start n whole t s a over some = tt
   ended_none (Err e) start n whole t s a over some = section_refused start n whole t s e.kind a (end_waits n t s e.kind over some)

@@ -6,8 +6,8 @@ use Rattle.lexspec.specs.RuleReads.{acting}
 use Rattle.lexspec.specs.RuleViews.{rule_of}
 use Rattle.lexspec.specs.SoundSides.{HasSoundFront}
 use Rattle.lexmeaning.specs.Sound.{HaveSoundSides}
-use Rattle.lexspec.specs.declared.item.Front.{Front}
-use Rattle.lexspec.specs.declared.item.Front.TheVariants as F
+use Rattle.lexspec.specs.declared.rule_text.Front.{Front}
+use Rattle.lexspec.specs.declared.rule_text.Front.TheVariants as F
 use Rattle.lexspec.specs.declared.rule.Rule.{Rule}
 
 sides_append : (rs qs : List S.Rule) → HaveSoundSides rs → HaveSoundSides qs → HaveSoundSides (rs ++ qs)

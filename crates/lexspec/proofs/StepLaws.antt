@@ -7,19 +7,19 @@ use Rattle.lexlines.specs.Lines.{newlines}
 use Rattle.lexspec.specs.RuleViews.{rule_of}
 use Rattle.lexspec.specs.ItemReads.{names_in, ReadsFront, ReadsItem, NoRules, NoRulesAfter, NoneLeft}
 use Rattle.lexspec.specs.Agreeing.{Agrees}
-use Rattle.lexspec.specs.PlainViews.{item_of}
+use Rattle.lexspec.specs.SkipViews.{item_of}
 use Rattle.lexlines.specs.Outcome.{UnlessMemory}
 use Rattle.lexlines.specs.declared.declarations.Declarations.{Declarations}
-use Rattle.lexlines.specs.declared.error.SpecErrorKind.{SpecErrorKind}
-use Rattle.lexspec.specs.declared.item.Front.{Front}
-use Rattle.lexspec.specs.declared.item.Front.TheVariants as F
-use Rattle.lexspec.specs.declared.item.RuleText.{RuleText}
-use Rattle.lexspec.specs.declared.plain.Plain.{Plain}
-use Rattle.lexspec.specs.declared.plain.Plain.TheVariants.{Blank, Code, Block}
-use Rattle.lexspec.specs.declared.taking.Progress.{Progress}
+use Rattle.lexclass.specs.declared.refusals.SpecErrorKind.{SpecErrorKind}
+use Rattle.lexspec.specs.declared.rule_text.Front.{Front}
+use Rattle.lexspec.specs.declared.rule_text.Front.TheVariants as F
+use Rattle.lexspec.specs.declared.rule_text.RuleText.{RuleText}
+use Rattle.lexspec.specs.declared.skips.Skip.{Skip}
+use Rattle.lexspec.specs.declared.skips.Skip.TheVariants.{Blank, Code, Block}
+use Rattle.lexspec.specs.declared.rules_so_far.RulesSoFar.{RulesSoFar}
 use Rattle.lexlines.proofs.OneSection.{no_true, some_pair}
 use Rattle.lexspec.proofs.OneItems.{both_ways}
-use Rattle.lexlines.proofs.OutcomeLaws.{unless_memory, always}
+use Rattle.lexclass.proofs.MemoryLaws.{unless_memory, always}
 use Rattle.lexlines.proofs.SectionLaws.{EndsWith, ends_on, each_some, each_none, each_if, newlines_front}
 use Rattle.lexspec.proofs.EndLaws.{Ends, action_ends, blanks_end, conditions_end, subject_ends, item_ends}
 use Rattle.lexspec.proofs.RulesLaws.{agree_plain, is_plain}
@@ -75,19 +75,19 @@ module _ (d : Declarations) where
   pub reads_counts : (n : ℕ) (t : List ℕ) (x : RuleText) → ReadsItem d n t x → newlines (take (length t - length x.rest.now) t) + newlines x.rest.now ≡ newlines t
   reads_counts n t x h = let (i, plain, item) = reads_item n t x.action.now x.rest.now x.front h in newlines_front t x.rest.now (item_ends t i x.rest.now item)
 
-  plain_is : (k : Plain) → is_plain (names_in d) d.fold d.defs (item_of k) ≡ true
+  plain_is : (k : Skip) → is_plain (names_in d) d.fold d.defs (item_of k) ≡ true
   plain_is Blank = refl
   plain_is Code = refl
   plain_is Block = refl
 
-  pub plain_agrees : (s : Progress) (start n : ℕ) (whole t : List ℕ) (k : Plain) (rest : List ℕ) → IsItem t (item_of k) rest → Agrees d start whole s n t
+  pub plain_agrees : (s : RulesSoFar) (start n : ℕ) (whole t : List ℕ) (k : Skip) (rest : List ℕ) → IsItem t (item_of k) rest → Agrees d start whole s n t
       → Agrees d start whole s (n + (newlines t - newlines rest)) rest
   plain_agrees s start n whole t k rest item a =
       let b = agree_plain (names_in d) d.fold d.defs start whole (map rule_of s.rules.items) _ (map rule_of s.waiting.items) n t (item_of k) rest (plain_is k) item (record { back = a.back; on = a.on }) in
       record { back = b.back; on = b.on }
 
   -- where there is no item, and the section does not end, nothing is spelled
-  pub plain_refused : (s : Progress) (n : ℕ) (t : List ℕ) (e : SpecErrorKind) → 0 < length t → begins (codes "%%") t ≡ false → ((i : Item) (rest : List ℕ) → IsItem t i rest → ⊥) → UnlessMemory e (NoneLeft d s n t)
+  pub plain_refused : (s : RulesSoFar) (n : ℕ) (t : List ℕ) (e : SpecErrorKind) → 0 < length t → begins (codes "%%") t ≡ false → ((i : Item) (rest : List ℕ) → IsItem t i rest → ⊥) → UnlessMemory e (NoneLeft d s n t)
   plain_refused s n t e some off none = always e (NoneLeft d s n t) (λ R E left may. from left.items left.here)
     where
       from : (is : List (ℕ × Item)) → AreItems n t is → ⊥
@@ -95,9 +95,9 @@ module _ (d : Declarations) where
       from [] (inr e) = both_ways (begins (codes "%%") t) e off
       from (i ∷ is) (rest, first, item, more) = none i.1 rest item
 
-  pub text_refused : (s : Progress) (n : ℕ) (t : List ℕ) (e : SpecErrorKind) → UnlessMemory e (NoRules d t) → UnlessMemory e (NoneLeft d s n t)
+  pub text_refused : (s : RulesSoFar) (n : ℕ) (t : List ℕ) (e : SpecErrorKind) → UnlessMemory e (NoRules d t) → UnlessMemory e (NoneLeft d s n t)
   text_refused s n t e h = unless_memory e (NoRules d t) (NoneLeft d s n t) (λ none R E left may. none n (map rule_of s.waiting.items) R E left) h
 
-  pub rule_refused : (s : Progress) (n : ℕ) (t : List ℕ) (x : RuleText) (e : SpecErrorKind) → ReadsItem d n t x → UnlessMemory e (NoRulesAfter d s x.front x.action.now) → UnlessMemory e (NoneLeft d s n t)
+  pub rule_refused : (s : RulesSoFar) (n : ℕ) (t : List ℕ) (x : RuleText) (e : SpecErrorKind) → ReadsItem d n t x → UnlessMemory e (NoRulesAfter d s x.front x.action.now) → UnlessMemory e (NoneLeft d s n t)
   rule_refused s n t x e reads h =
       unless_memory e (NoRulesAfter d s x.front x.action.now) (NoneLeft d s n t) (λ none R E left may. none n t x.rest.now R E reads left may) h

@@ -15,6 +15,8 @@ use Rattle.lexre.proofs.LengthLaws.{has_lengths}
 use Rattle.lexspec.specs.RuleItems.{is_number}
 use Rattle.lexspec.specs.Tests.{any_below, are_bounds, has_part, sound_tree, sound_trees, sound_trail, cut_fits, ascend_from, sound_list, legal_action, sound_rule, sound_rules, sound_end, sound_conditions, is_sound}
 use Rattle.lexspec.proofs.CutLaws.{cut_is_fit}
+use Rattle.lexaction.specs.Limits.{max_conditions, max_literal_bytes, max_status}
+use Rattle.lexspec.specs.Limits.{max_rules}
 
 no_true : {A : Type 0} → false ≡ true → A
 no_true e = absurd (no e)
@@ -160,24 +162,24 @@ rule_of_sound n (q ∷ rs) zero r h e =
     subst (IsSoundRule n) same (rule_is_sound n q (and_parts (sound_rule n q) (sound_rules n rs) h).0)
 rule_of_sound n (q ∷ rs) (suc i) r h e = rule_of_sound n rs i r (and_parts (sound_rule n q) (sound_rules n rs) h).1 e
 
-end_of_sound : (cs : List Condition) (c : ℕ) (k : Condition) → sound_conditions cs ≡ true → slice_get cs c ≡ Some k → (k.end.status ≤ 63) × (length k.end.print ≤ 4096)
+end_of_sound : (cs : List Condition) (c : ℕ) (k : Condition) → sound_conditions cs ≡ true → slice_get cs c ≡ Some k → (k.end.status ≤ max_status) × (length k.end.print ≤ max_literal_bytes)
 end_of_sound [] c k h e = absurd (no e)
   where
     no : None ≡ Some k → ⊥
     no p = cc
 end_of_sound (d ∷ cs) zero k h e =
     let same : d ≡ k = cc in
-    let both = and_parts (nat_le d.end.status 63) (nat_le (length d.end.print) 4096) (and_parts (sound_end d.end) (sound_conditions cs) h).0 in
-    subst (λ (z : Condition). (z.end.status ≤ 63) × (length z.end.print ≤ 4096)) same (leb-true d.end.status 63 both.0, leb-true (length d.end.print) 4096 both.1)
+    let both = and_parts (nat_le d.end.status max_status) (nat_le (length d.end.print) max_literal_bytes) (and_parts (sound_end d.end) (sound_conditions cs) h).0 in
+    subst (λ (z : Condition). (z.end.status ≤ max_status) × (length z.end.print ≤ max_literal_bytes)) same (leb-true d.end.status max_status both.0, leb-true (length d.end.print) max_literal_bytes both.1)
 end_of_sound (d ∷ cs) (suc c) k h e = end_of_sound cs c k (and_parts (sound_end d.end) (sound_conditions cs) h).1 e
 
 -- A specification that passes the test is sound.
 pub spec_is_sound : (S : Spec) → is_sound S ≡ true → IsSound S
 spec_is_sound S h =
-    let four = and_parts (nat_le 1 (length S.conditions) && nat_le (length S.conditions) 255 && nat_le (length S.rules) 4096 && sound_conditions S.conditions) (sound_rules (length S.conditions) S.rules) h in
-    let three = and_parts (nat_le 1 (length S.conditions) && nat_le (length S.conditions) 255 && nat_le (length S.rules) 4096) (sound_conditions S.conditions) four.0 in
-    let two = and_parts (nat_le 1 (length S.conditions) && nat_le (length S.conditions) 255) (nat_le (length S.rules) 4096) three.0 in
-    let one = and_parts (nat_le 1 (length S.conditions)) (nat_le (length S.conditions) 255) two.0 in
+    let four = and_parts (nat_le 1 (length S.conditions) && nat_le (length S.conditions) max_conditions && nat_le (length S.rules) max_rules && sound_conditions S.conditions) (sound_rules (length S.conditions) S.rules) h in
+    let three = and_parts (nat_le 1 (length S.conditions) && nat_le (length S.conditions) max_conditions && nat_le (length S.rules) max_rules) (sound_conditions S.conditions) four.0 in
+    let two = and_parts (nat_le 1 (length S.conditions) && nat_le (length S.conditions) max_conditions) (nat_le (length S.rules) max_rules) three.0 in
+    let one = and_parts (nat_le 1 (length S.conditions)) (nat_le (length S.conditions) max_conditions) two.0 in
     record {
       some_condition = leb-true 1 (length S.conditions) one.0;
       ends = λ c k e. (end_of_sound S.conditions c k three.1 e).0;

@@ -7,19 +7,19 @@ use Rattle.lexspec.specs.RuleViews.{rule_of}
 use Rattle.lexspec.specs.EndRules.{end_rule_of}
 use Rattle.lexlines.specs.Lines.{newlines}
 use Rattle.lexspec.specs.ItemReads.{names_in, ReadsFront}
-use Rattle.lexspec.specs.declared.item.Front.{Front}
+use Rattle.lexspec.specs.declared.rule_text.Front.{Front}
 use Rattle.lexlines.specs.declared.declarations.Declarations.{Declarations}
-use Rattle.lexspec.specs.declared.taking.Progress.{Progress}
+use Rattle.lexspec.specs.declared.rules_so_far.RulesSoFar.{RulesSoFar}
 
 -- The text `whole` spells, from the line `start` on, just the rules that were read with those that t spells from the line n
 -- on, where some of those that were read wait.
-pub record Agrees (d : Declarations) (start : ℕ) (whole : List ℕ) (s : Progress) (n : ℕ) (t : List ℕ) : Type 0 where
+pub record Agrees (d : Declarations) (start : ℕ) (whole : List ℕ) (s : RulesSoFar) (n : ℕ) (t : List ℕ) : Type 0 where
   pub back : (R : List Rule) (E : List EndRule) → Left (names_in d) d.fold d.defs n t (map rule_of s.waiting.items) R E
       → Left (names_in d) d.fold d.defs start whole [] (map rule_of s.rules.items ++ R) (map end_rule_of s.ends.items ++ E)
   pub on : (R : List Rule) (E : List EndRule) → Left (names_in d) d.fold d.defs start whole [] R E
       → (S : List Rule) × (F : List EndRule) × (R ≡ map rule_of s.rules.items ++ S) × (E ≡ map end_rule_of s.ends.items ++ F) × Left (names_in d) d.fold d.defs n t (map rule_of s.waiting.items) S F
 
 -- what agrees before a rule that begins a text, agrees after it
-abbrev pub GoesOn : Declarations → Front → List ℕ → Progress → Progress → Type 0
+abbrev pub GoesOn : Declarations → Front → List ℕ → RulesSoFar → RulesSoFar → Type 0
 GoesOn d front action s later = (start n : ℕ) (whole t rest : List ℕ) → ReadsFront d n t action rest front → Agrees d start whole s n t
     → Agrees d start whole later (n + (newlines t - newlines rest)) rest

@@ -9,6 +9,9 @@ use Rattle.lexlines.specs.Lines.{without_returns, line_in, newlines}
 use Rattle.lexlines.specs.DefinitionLines.{Definition, Declared, definition_at, IsUpTo, all_conditions, names_of, has_name, are_distinct, substitutes_of, all_options, are_known}
 use Rattle.lexspec.specs.Items.{Item, AreItems}
 use Rattle.lexspec.specs.RuleItems.{EndRule, AreRules}
+use Rattle.lexaction.specs.Limits.{max_conditions}
+use Rattle.lexlines.specs.Limits.{max_file_bytes}
+use Rattle.lexspec.specs.Limits.{max_rules}
 
 -- no condition has two ends, and without a list there is one at most
 abbrev pub lists_number : Option (List ℕ) → ℕ → Bool
@@ -39,7 +42,7 @@ conditions_with k (c ∷ cs) ends = record { name = c.name; exclusive = c.exclus
 
 -- The text is a file of this specification.
 pub record SpellsSpec (fold : Bool) (file : List ℕ) (S : Spec) : Type 0 where
-  pub short : length file ≤ 1048576
+  pub short : length file ≤ max_file_bytes
   pub definitions : List Definition
   pub after : List ℕ
   pub first_section : IsUpTo definition_at (without_returns file) definitions after
@@ -53,5 +56,5 @@ pub record SpellsSpec (fold : Bool) (file : List ℕ) (S : Spec) : Type 0 where
   pub rules : AreRules (names_of (all_conditions definitions)) (fold || has_name (all_options definitions) (codes "case-insensitive")) (from_entries (substitutes_of definitions)) items S.rules ends
   pub one_end : AreSingle (length (all_conditions definitions)) ends
   pub conditions : S.conditions ≡ conditions_with 0 (all_conditions definitions) ends
-  pub few_conditions : length S.conditions ≤ 255
-  pub few_rules : length S.rules ≤ 4096
+  pub few_conditions : length S.conditions ≤ max_conditions
+  pub few_rules : length S.rules ≤ max_rules

@@ -11,10 +11,10 @@ use Rattle.lexspec.specs.RuleReads.{Left}
 use Rattle.lexspec.specs.RuleViews.{rule_of}
 use Rattle.lexspec.specs.Keeping.{MayFollow}
 use Rattle.lexlines.specs.declared.declarations.Declarations.{Declarations}
-use Rattle.lexspec.specs.declared.item.Front.{Front}
-use Rattle.lexspec.specs.declared.item.Front.TheVariants as F
-use Rattle.lexspec.specs.declared.item.RuleText.{RuleText}
-use Rattle.lexspec.specs.declared.taking.Progress.{Progress}
+use Rattle.lexspec.specs.declared.rule_text.Front.{Front}
+use Rattle.lexspec.specs.declared.rule_text.Front.TheVariants as F
+use Rattle.lexspec.specs.declared.rule_text.RuleText.{RuleText}
+use Rattle.lexspec.specs.declared.rules_so_far.RulesSoFar.{RulesSoFar}
 
 -- the names that rules may list, as the code keeps them
 abbrev pub names_in : Declarations → List (List ℕ)
@@ -51,10 +51,10 @@ abbrev pub ReadsItem : Declarations → ℕ → List ℕ → RuleText → Type 0
 ReadsItem d n t x = ReadsFront d n t x.action.now x.rest.now x.front
 
 -- nothing that may follow is spelled from a rule on, where these rules wait
-abbrev pub NoRulesAfter : Declarations → Progress → Front → List ℕ → Type 0
+abbrev pub NoRulesAfter : Declarations → RulesSoFar → Front → List ℕ → Type 0
 NoRulesAfter d s front action = (n : ℕ) (t rest : List ℕ) (R : List Rule) (E : List EndRule) → ReadsFront d n t action rest front
     → Left (names_in d) d.fold d.defs n t (map rule_of s.waiting.items) R E → MayFollow d s R E → ⊥
 
 -- the text spells nothing that may follow from the line n on, where these rules wait
-abbrev pub NoneLeft : Declarations → Progress → ℕ → List ℕ → Type 0
+abbrev pub NoneLeft : Declarations → RulesSoFar → ℕ → List ℕ → Type 0
 NoneLeft d s n t = (R : List Rule) (E : List EndRule) → Left (names_in d) d.fold d.defs n t (map rule_of s.waiting.items) R E → MayFollow d s R E → ⊥

@@ -97,9 +97,9 @@ action_in escaped n (c ∷ t) = if c == 10 then None else with_byte c (action_in
 abbrev pub action_of : List ℕ → Action
 action_of text = if begins (codes "|") text && is_all_blank (drop 1 text) then bar else spelled text
 
-abbrev pub starts_blank : List ℕ → Bool
-starts_blank [] = true
-starts_blank (c ∷ t) = is_white c
+abbrev pub ends_subject : List ℕ → Bool
+ends_subject [] = true
+ends_subject (c ∷ t) = is_white c
 
 -- the head and the trailing context of a pattern's text, by its end, its first slash and whether it ends with `$`
 abbrev pub sides : List ℕ → ℕ → Option ℕ → Bool → Option (List ℕ × Trailing)
@@ -119,7 +119,7 @@ IsPattern t head after rest =
     (stop : ℕ) × (at : Option ℕ) × (special : Bool) × IsCutting t stop at false special × (sides t stop at special ≡ Some (head, after)) × (rest ≡ drop stop t)
 
 abbrev pub IsSubject : List ℕ → Subject → List ℕ → Type 0
-IsSubject t at_end rest = (begins (codes "<<EOF>>") t ≡ true) × (rest ≡ drop 7 t) × (starts_blank rest ≡ true)
+IsSubject t at_end rest = (begins (codes "<<EOF>>") t ≡ true) × (rest ≡ drop 7 t) × (ends_subject rest ≡ true)
 IsSubject t (matching true head after) rest =
     (begins (codes "^") t ≡ true) × (begins (codes "<<EOF>>") (drop 1 t) ≡ false) × IsPattern (drop 1 t) head after rest
 IsSubject t (matching false head after) rest =

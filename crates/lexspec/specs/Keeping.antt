@@ -6,21 +6,22 @@ use Rattle.lexspec.specs.RuleItems.{EndRule}
 use Rattle.lexspec.specs.SoundSides.{HasSoundRules}
 use Rattle.lexspec.specs.EndRules.{end_rule_of}
 use Rattle.lexlines.specs.declared.declarations.Declarations.{Declarations}
-use Rattle.lexspec.specs.declared.item.Front.{Front}
-use Rattle.lexspec.specs.declared.item.Front.TheVariants as F
-use Rattle.lexspec.specs.declared.taking.Progress.{Progress}
+use Rattle.lexspec.specs.declared.rule_text.Front.{Front}
+use Rattle.lexspec.specs.declared.rule_text.Front.TheVariants as F
+use Rattle.lexspec.specs.declared.rules_so_far.RulesSoFar.{RulesSoFar}
+use Rattle.lexspec.specs.Limits.{max_rules}
 
 -- there is room for one rule more; an `<<EOF>>` rule needs none
-abbrev pub HasRoom : Front → Progress → Type 0
-HasRoom (F.Matching r) s = length s.rules.items + length s.waiting.items < 4096
+abbrev pub HasRoom : Front → RulesSoFar → Type 0
+HasRoom (F.Matching r) s = length s.rules.items + length s.waiting.items < max_rules
 HasRoom (F.AtEnd numbers) s = Unit {0}
 
 -- their sides are sound, no condition has two ends, and with those that wait there are few
-pub record Keeps (d : Declarations) (s : Progress) : Type 0 where
+pub record Keeps (d : Declarations) (s : RulesSoFar) : Type 0 where
   pub sound : HasSoundRules s
   pub single : AreSingle (length d.conditions.items) (map end_rule_of s.ends.items)
-  pub few : length s.rules.items + length s.waiting.items ≤ 4096
+  pub few : length s.rules.items + length s.waiting.items ≤ max_rules
 
 -- these rules and these `<<EOF>>` rules may go on after them
-abbrev pub MayFollow : Declarations → Progress → List Rule → List EndRule → Type 0
-MayFollow d s R E = (length s.rules.items + length R ≤ 4096) × AreSingle (length d.conditions.items) (map end_rule_of s.ends.items ++ E)
+abbrev pub MayFollow : Declarations → RulesSoFar → List Rule → List EndRule → Type 0
+MayFollow d s R E = (length s.rules.items + length R ≤ max_rules) × AreSingle (length d.conditions.items) (map end_rule_of s.ends.items ++ E)

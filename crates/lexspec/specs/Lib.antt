@@ -1,4 +1,5 @@
 pub mod Tests
+pub mod Limits
 pub mod RuleViews
 pub mod Views
 pub mod Items
@@ -6,11 +7,11 @@ pub mod RuleItems
 pub mod Files
 pub mod ActionViews
 pub mod SubjectViews
+pub mod SubjectFaults
 pub mod RuleReads
 pub mod ItemReads
-pub mod ActionFaults
 pub mod Agreeing
-pub mod PlainViews
+pub mod SkipViews
 pub mod RulesReads
 pub mod EndOpenings
 pub mod Endings

@@ -14,6 +14,7 @@ use Rattle.lexspec.specs.ItemReads.{names_in}
 use Rattle.lexlines.specs.declared.declarations.Declarations.{Declarations}
 use Rattle.lexspec.specs.declared.rules_section.RulesSection.{RulesSection}
 use Rattle.lexlines.specs.declared.section.Section.{Section}
+use Rattle.lexspec.specs.Limits.{max_rules}
 
 -- a byte that is neither a blank nor a newline
 abbrev pub has_text : List ℕ → Bool
@@ -31,4 +32,4 @@ pub record SpellsRest (s : Section) (S : Spec) : Type 0 where
   pub are : AreRules (names_in s.declarations) s.declarations.fold s.declarations.defs items S.rules ends
   pub one_end : AreSingle (length s.declarations.conditions.items) ends
   pub conditions : S.conditions ≡ conditions_with 0 (map declared_of s.declarations.conditions.items) ends
-  pub few_rules : length S.rules ≤ 4096
+  pub few_rules : length S.rules ≤ max_rules

@@ -12,6 +12,7 @@ use Rattle.lexmeaning.specs.Sound.{HaveSoundSides}
 use Rattle.lexlines.specs.declared.declarations.Declarations.{Declarations}
 use Rattle.lexspec.specs.declared.rule.Rule.{Rule as RuleKept}
 use Rattle.lexspec.specs.declared.rules_section.RulesSection.{RulesSection}
+use Rattle.lexspec.specs.Limits.{max_rules}
 
 -- the items of the text, which begins at the line n, and the rules that they spell; after them nothing is left, or a line of `%%`
 pub record HasRules (d : Declarations) (n : ℕ) (text : List ℕ) (s : RulesSection) : Type 0 where
@@ -21,12 +22,12 @@ pub record HasRules (d : Declarations) (n : ℕ) (text : List ℕ) (s : RulesSec
   pub stops : (s.rest.now ≡ []) ⊎ (begins (codes "%%") s.rest.now ≡ true)
   pub sound : HaveSoundSides (map rule_of s.rules.items)
   pub single : AreSingle (length d.conditions.items) (map end_rule_of s.ends.items)
-  pub few : length s.rules.items ≤ 4096
+  pub few : length s.rules.items ≤ max_rules
 
 -- the items of the text spell no rules, or too many, or two ends of a condition
 abbrev pub NoSuchRules : Declarations → ℕ → List ℕ → Type 0
 NoSuchRules d n text = (items : List (ℕ × Item)) (rules : List Rule) (ends : List EndRule) → AreItems n text items → AreRules (names_in d) d.fold d.defs items rules ends
-    → length rules ≤ 4096 → AreSingle (length d.conditions.items) ends → ⊥
+    → length rules ≤ max_rules → AreSingle (length d.conditions.items) ends → ⊥
 
 -- the line of the last rule that waits for an action, or else n
 abbrev pub line_of_last : ℕ → List RuleKept → ℕ

@@ -8,6 +8,8 @@ use Rattle.lexmeaning.specs.Legal.{all_in_range, ends_last, are_joined, are_comp
 use Rattle.lexre.specs.Lengths.{least, greatest}
 use Rattle.lexaction.specs.Actions.{are_few}
 use Rattle.lexspec.specs.RuleItems.{is_number}
+use Rattle.lexaction.specs.Limits.{max_conditions, max_literal_bytes, max_status}
+use Rattle.lexspec.specs.Limits.{max_rules, max_fixed_length}
 
 -- some number below n passes
 unfoldable pub any_below : ℕ → (ℕ → Bool) → Bool
@@ -49,7 +51,7 @@ is_whole _ = false
 
 -- and n is at most 65,535
 abbrev pub has_fixed : Tree → ℕ → Bool
-has_fixed t n = has_length t n && nat_le n 65535
+has_fixed t n = has_length t n && nat_le n max_fixed_length
 
 -- the words have one length, of at most 65,535 bytes
 abbrev pub is_fixed : Tree → Bool
@@ -86,7 +88,7 @@ sound_rules n (r ∷ rs) = sound_rule n r && sound_rules n rs
 
 -- an end prints at most 4,096 bytes, and has a status of at most 63
 abbrev pub sound_end : EndAction → Bool
-sound_end e = nat_le e.status 63 && nat_le (length e.print) 4096
+sound_end e = nat_le e.status max_status && nat_le (length e.print) max_literal_bytes
 
 abbrev pub sound_conditions : List Condition → Bool
 sound_conditions [] = true
@@ -95,5 +97,5 @@ sound_conditions (c ∷ cs) = sound_end c.end && sound_conditions cs
 -- a specification: at least one condition and at most 255, and at most 4,096 rules
 abbrev pub is_sound : Spec → Bool
 is_sound S =
-    nat_le 1 (length S.conditions) && nat_le (length S.conditions) 255 && nat_le (length S.rules) 4096
+    nat_le 1 (length S.conditions) && nat_le (length S.conditions) max_conditions && nat_le (length S.rules) max_rules
     && sound_conditions S.conditions && sound_rules (length S.conditions) S.rules

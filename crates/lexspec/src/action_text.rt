@@ -30,7 +30,7 @@ enum Place {
 
 /// Where the text of an action stands, and how many braces are open there.
 #[derive(Clone, Copy)]
-struct Progress {
+struct ActionState {
     place: Place,
     depth: usize,
 }
@@ -39,14 +39,14 @@ struct Progress {
 #[derive(Clone, Copy)]
 enum Step {
     /// The action goes on from there.
-    Goes(Progress),
+    Goes(ActionState),
     /// The action ended before it.
     Ends,
     /// A string is not closed.
     Refused,
 }
 
-impl Progress {
+impl ActionState {
     /// What the byte does outside strings and comments, where it is not the second byte of a comment's opening.
     fn past_outside(self, byte: u8) -> Step
         requires { self.depth + 1 < 2 ^ 64 }
@@ -64,7 +64,7 @@ impl Progress {
             b'/' => Place::Slash,
             _ => Place::Outside,
         };
-        Step::Goes(Progress { place, depth })
+        Step::Goes(ActionState { place, depth })
     }
 
     /// What the byte does after a slash outside strings and comments.
@@ -122,7 +122,7 @@ impl Progress {
     fn at(self, place: Place) -> Step
         ensures { result ≡ Step.Goes (record { place = place; depth = self.depth }) }
     {
-        Step::Goes(Progress {
+        Step::Goes(ActionState {
             place,
             depth: self.depth,
         })
@@ -141,7 +141,7 @@ impl Progress {
 pub(crate) fn split_action(text: &[u8]) -> Option<(&[u8], &[u8])>
     ensures { option_map (λ x. (x.0.now, x.1.now)) result ≡ action_in outside 0 text.now }
 {
-    let mut progress = Progress {
+    let mut progress = ActionState {
         place: Place::Outside,
         depth: 0,
     };

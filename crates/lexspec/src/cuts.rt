@@ -9,7 +9,10 @@ ghost use Rattle.lexmeaning.specs.Spec.{Cut as Meant};
 use lexmachine::Cut;
 use lexre::{Pattern, lengths};
 
-/// The length of each word of the pattern, where they have one length of at most 65,535 bytes.
+/// The greatest length of the words of a side by which a match is cut.
+const MAX_FIXED_LENGTH: u32 = 65_535;
+
+/// The length of each word of the pattern, where they have one length that is not too great.
 fn fixed_length(pattern: &Pattern) -> Option<u16>
     requires { IsSoundTree (tree_of pattern.now) }
     ensures found { IfSome result (λ n. HasFixed (tree_of pattern.now) n) }
@@ -17,7 +20,7 @@ fn fixed_length(pattern: &Pattern) -> Option<u16>
 {
     let found = lengths(pattern)?;
     let max = found.max?;
-    if max != found.min || max > 65_535 {
+    if max != found.min || max > MAX_FIXED_LENGTH {
         return None;
     }
     Some(max as u16)

@@ -8,6 +8,7 @@ ghost use Rattle.lexspec.specs.Files.{lists_number, unlisted_end as unlisted_end
 ghost use Rattle.lexspec.specs.EndRules.{end_rule_of};
 ghost use Rattle.lexspec.specs.RuleItems.{EndRule as EndRuleMeant};
 ghost use Rattle.lexspec.specs.Tests.{sound_list};
+ghost use Rattle.lexaction.specs.Limits.{max_conditions};
 
 use lexaction::{Condition, EndAction};
 use std::alloc::{AllocError, Global};
@@ -121,7 +122,7 @@ pub(crate) fn with_ends(
     conditions: Vec<Condition>,
     ends: &[EndRule],
 ) -> Result<Vec<Condition>, AllocError>
-    requires { length conditions.items ≤ 255 }
+    requires { length conditions.items ≤ max_conditions }
     ensures { IfOk result (λ cs. map condition_of cs.items ≡ conditions_with 0 (map declared_of conditions.items) (map end_rule_of ends.now)) }
 {
     let mut ended = Vec::new(alloc);

@@ -11,6 +11,8 @@ ghost use Rattle.lexmeaning.specs.Sound.{HaveSoundSides, IsSound};
 ghost use Rattle.lexspec.specs.Files.{conditions_with, SpellsSpec};
 ghost use Rattle.lexspec.specs.Tests.{is_sound, sound_tree};
 ghost use Rattle.lexspec.specs.RuleExamples.{ConditionLists, Actions};
+ghost use Rattle.lexaction.specs.Limits.{max_conditions};
+ghost use Rattle.lexspec.specs.Limits.{max_rules};
 
 /// A tree passes the test exactly if it is sound.
 pub fn tested_trees()
@@ -31,7 +33,7 @@ pub fn one_specification()
 /// are 1 to 255 conditions, and there are at most 4,096 rules.
 pub fn sound_specifications()
     ensures { (cs : List Declared) (fold : Bool) (defined : Definitions) (items : List (ℕ × Item)) (rules : List Rule) (ends : List EndRule)
-        → 1 ≤ length cs → length cs ≤ 255 → length rules ≤ 4096 → AreRules (names_of cs) fold defined items rules ends → HaveSoundSides rules
+        → 1 ≤ length cs → length cs ≤ max_conditions → length rules ≤ max_rules → AreRules (names_of cs) fold defined items rules ends → HaveSoundSides rules
         → is_sound (record { conditions = conditions_with 0 cs ends; rules = rules }) ≡ true }
 {}
 

@@ -1,21 +1,21 @@
 //! Specifications of lex as values.
 #![tactic(auto)]
 
-mod acting;
 mod action_text;
+mod condition_list;
 mod cuts;
 mod endings;
-mod item;
 mod laws;
-mod listed;
-mod plain;
 mod readers;
 mod reading;
 mod rule;
+mod rule_text;
 mod rules_section;
+mod rules_so_far;
+mod skips;
 mod spec;
+mod statements;
 mod subject;
-mod taking;
 
 pub use laws::{
     examples_of_rules, one_specification, sound_specifications, tested_specifications, tested_trees,

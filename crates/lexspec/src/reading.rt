@@ -1,25 +1,24 @@
 //! Specification files. (POSIX, lex, Input Files; flex, Format of the Input File.)
-ghost use Rattle.std.specs.Prelude.{◌≡◌, ◌≤◌, true, length, IfOk, IfErr};
+ghost use Rattle.std.specs.Prelude.{◌≡◌, ◌≤◌, ◌+◌, true, length, IfOk, IfErr};
 ghost use Rattle.lexmeaning.specs.Spec.{Spec as Meant};
 ghost use Rattle.lexspec.specs.Files.{SpellsSpec};
 ghost use Rattle.lexlines.specs.Outcome.{UnlessMemory};
 ghost use Rattle.lexspec.specs.Readings.{has_text, of_sections, SpellsRest};
 ghost use Rattle.lexspec.specs.Tests.{is_sound};
 ghost use Rattle.lexspec.specs.Views.{spec_of};
-ghost use Rattle.lexlines.specs.declared.error.SpecErrorKind.TheVariants.{OutOfMemory};
+ghost use Rattle.lexclass.specs.declared.refusals.SpecErrorKind.TheVariants.{OutOfMemory};
+ghost use Rattle.lexaction.specs.Limits.{max_conditions};
+ghost use Rattle.lexlines.specs.Limits.{max_file_bytes};
 
 use crate::endings::with_ends;
 use crate::rules_section::{RulesSection, read_rules};
 use crate::spec::Spec;
 use lexlines::{
-    Declarations, Section, Skipped, SpecError, SpecErrorKind, is_blank, read_section, split_line,
-    without_returns,
+    Declarations, MAX_FILE_BYTES, Section, Skipped, SpecError, SpecErrorKind, is_blank,
+    read_section, split_line, without_returns,
 };
 use lexre::ReadOptions;
 use std::alloc::Global;
-
-/// The most bytes of a file.
-const MAX_BYTES: usize = 1_048_576;
 
 /// Whether a text has a byte other than blanks and newlines.
 fn has_text(text: &[u8]) -> bool
@@ -35,7 +34,7 @@ fn joined(
     found: RulesSection<'_>,
     skipped: Skipped,
 ) -> Result<Spec, SpecError>
-    requires few { length declarations.conditions.items ≤ 255 }
+    requires few { length declarations.conditions.items ≤ max_conditions }
     requires sound { is_sound (of_sections declarations found) ≡ true }
     ensures found { IfOk result (λ s. spec_of s ≡ of_sections declarations found.entry) }
     ensures none { IfErr result (λ e. e.kind ≡ OutOfMemory) }
@@ -59,9 +58,9 @@ fn joined(
 /// The specification of a file whose definitions section is this.
 fn read_on(alloc: Global, section: Section<'_>) -> Result<Spec, SpecError>
     requires some { 1 ≤ length section.declarations.conditions.items }
-    requires few { length section.declarations.conditions.items ≤ 255 }
-    requires short { length section.rest.now ≤ 1048576 }
-    requires line { section.line ≤ 1048577 }
+    requires few { length section.declarations.conditions.items ≤ max_conditions }
+    requires short { length section.rest.now ≤ max_file_bytes }
+    requires line { section.line ≤ max_file_bytes + 1 }
     ensures found { IfOk result (λ s. SpellsRest section.entry (spec_of s)) }
     ensures none { IfErr result (λ e. UnlessMemory e.kind ((S : Meant) → SpellsRest section.entry S → ⊥)) }
 {
@@ -79,12 +78,12 @@ fn read_on(alloc: Global, section: Section<'_>) -> Result<Spec, SpecError>
 }
 
 /// The specification that a file spells. `fold` says whether letters of patterns stand for both cases without an option.
-/// The first faulty line is refused, and a rule by the line of its pattern; `TooLong` of the whole file is told of line 0.
+/// The first faulty line is reported, for a rule that of its pattern; `TooLong` of the whole file is reported at line 0.
 pub fn read_spec(alloc: Global, text: &[u8], options: ReadOptions) -> Result<Spec, SpecError>
     ensures found { IfOk result (λ s. SpellsSpec options.fold text.now (spec_of s)) }
     ensures none { IfErr result (λ e. UnlessMemory e.kind ((S : Meant) → SpellsSpec options.fold text.now S → ⊥)) }
 {
-    if text.len() > MAX_BYTES {
+    if text.len() > MAX_FILE_BYTES {
         return Err(SpecError {
             line: 0,
             kind: SpecErrorKind::TooLong,

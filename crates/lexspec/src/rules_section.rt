@@ -5,19 +5,22 @@ ghost use Rattle.lexlines.specs.Lines.{newlines};
 ghost use Rattle.lexspec.specs.ItemReads.{NoneLeft};
 ghost use Rattle.lexspec.specs.Agreeing.{Agrees};
 ghost use Rattle.lexspec.specs.Keeping.{Keeps};
-ghost use Rattle.lexspec.specs.PlainViews.{lines_with};
+ghost use Rattle.lexspec.specs.SkipViews.{lines_with};
 ghost use Rattle.lexspec.specs.EndOpenings.{begins_end};
 ghost use Rattle.lexspec.specs.RulesReads.{HasRules, NoSuchRules, line_of_last};
 ghost use Rattle.lexlines.specs.Outcome.{UnlessMemory};
 ghost use Rattle.lexlines.specs.Skips.{next_in};
-ghost use Rattle.lexlines.specs.declared.error.SpecErrorKind.TheVariants.{DanglingBar};
+ghost use Rattle.lexclass.specs.declared.refusals.SpecErrorKind.TheVariants.{DanglingBar};
+ghost use Rattle.lexaction.specs.Limits.{max_conditions};
+ghost use Rattle.lexlines.specs.Limits.{max_file_bytes};
+ghost use Rattle.lexspec.specs.Limits.{max_rules};
 
 use crate::endings::EndRule;
-use crate::item::read_rule_text;
-use crate::plain::{Plain, plain_at};
 use crate::rule::Rule;
+use crate::rule_text::read_rule_text;
+use crate::rules_so_far::RulesSoFar;
+use crate::skips::{Skip, skip_at};
 use crate::subject::conditions_at;
-use crate::taking::Progress;
 use lexlines::{Declarations, Skipped, SpecError, SpecErrorKind, newlines_before};
 use std::alloc::{AllocError, Global};
 
@@ -45,26 +48,26 @@ fn begins_end(text: &[u8]) -> bool
     }
 }
 
-/// Takes what is skipped at a line of the rules section.
-fn add_plain(skipped: &mut Skipped, plain: Plain, line: u32) -> Result<(), AllocError>
+/// Keeps the line of what is skipped there, if it is code.
+fn add_skip(skipped: &mut Skipped, skip: Skip, line: u32) -> Result<(), AllocError>
     requires { line + 1 < 2 ^ 32 }
-    ensures { OnOk result (skipped.new.lines.items ≡ lines_with plain (next_in skipped.old) line skipped.old.lines.items) }
+    ensures { OnOk result (skipped.new.lines.items ≡ lines_with skip (next_in skipped.old) line skipped.old.lines.items) }
 {
-    match plain {
-        Plain::Blank => Ok(()),
-        Plain::Code => skipped.add_line(line),
-        Plain::Block => skipped.add_block(line),
+    match skip {
+        Skip::Blank => Ok(()),
+        Skip::Code => skipped.add_line(line),
+        Skip::Block => skipped.add_block(line),
     }
 }
 
-impl Progress {
+impl RulesSoFar {
     /// No rule so far.
-    pub(crate) fn new(alloc: Global) -> Progress
+    pub(crate) fn new(alloc: Global) -> RulesSoFar
         ensures rules { result.rules.items ≡ [] }
         ensures waiting { result.waiting.items ≡ [] }
         ensures ends { result.ends.items ≡ [] }
     {
-        Progress {
+        RulesSoFar {
             rules: Vec::new(alloc),
             waiting: Vec::new(alloc),
             ends: Vec::new(alloc),
@@ -72,8 +75,8 @@ impl Progress {
     }
 
     /// The rules with that of the item that begins a text, at the line with this number, and what follows the item.
-    /// `Unclosed` is told of a block that is left open, `DanglingBar` of an `<<EOF>>` rule where others wait for its
-    /// action, and `TooManyRules` of another where there are 4,096; the other faults are those of a rule.
+    /// A block that is left open is `Unclosed`, an `<<EOF>>` rule for whose action others wait is a `DanglingBar`, and
+    /// another rule where there may be no more is `TooManyRules`; the other faults are those of a rule.
     pub(crate) fn with_item<'a>(
         self,
         alloc: Global,
@@ -81,12 +84,12 @@ impl Progress {
         skipped: &mut Skipped,
         text: &'a [u8],
         line: u32,
-    ) -> Result<(Progress, &'a [u8]), SpecErrorKind>
-        requires few { length declarations.now.conditions.items ≤ 255 }
+    ) -> Result<(RulesSoFar, &'a [u8]), SpecErrorKind>
+        requires few { length declarations.now.conditions.items ≤ max_conditions }
         requires some { 0 < length text.now }
         requires no_end { begins (codes "%%") text.now ≡ false }
         requires line { line + 1 < 2 ^ 32 }
-        requires room { length self.rules.items + length self.waiting.items ≤ 4096 }
+        requires room { length self.rules.items + length self.waiting.items ≤ max_rules }
         ensures found { IfOk result (λ x. (start : ℕ) (whole : List ℕ) → Agrees declarations.now start whole self line text.now
             → Agrees declarations.now start whole x.0 (line + (newlines text.now - newlines x.1.now)) x.1.now) }
         ensures keeps { IfOk result (λ x. Keeps declarations.now self → Keeps declarations.now x.0) }
@@ -94,12 +97,12 @@ impl Progress {
         ensures shorter { IfOk result (λ x. length x.1.now < length text.now) }
         ensures none { IfErr result (λ e. UnlessMemory e (NoneLeft declarations.now self line text.now)) }
     {
-        let plain = match plain_at(text) {
+        let plain = match skip_at(text) {
             Ok(found) => found,
             Err(kind) => return Err(kind),
         };
         if let Some((skip, rest)) = plain {
-            add_plain(skipped, skip, line)?;
+            add_skip(skipped, skip, line)?;
             return Ok((self, rest));
         }
         if begins_end(text) {
@@ -130,7 +133,8 @@ impl Progress {
         }
     }
 
-    /// The rules of a section that ends with this rest, at this line. `DanglingBar` is told of the last rule that waits.
+    /// The rules of a section that ends with this rest, at this line. If rules still wait for an
+    /// action, the last of them is a `DanglingBar`.
     fn ended(self, rest: &[u8], line: u32) -> Result<RulesSection<'_>, SpecError>
         ensures waiting { IfOk result (λ s. length self.waiting.items ≡ 0) }
         ensures rules { IfOk result (λ s. s.rules.items ≡ self.rules.items) }
@@ -140,7 +144,7 @@ impl Progress {
         ensures none { IfErr result (λ e. length self.waiting.items ≡ 0 → ⊥) }
         ensures fault { IfErr result (λ e. e ≡ record { line = line_of_last line self.waiting.items; kind = DanglingBar }) }
     {
-        let Progress {
+        let RulesSoFar {
             rules,
             waiting,
             ends,
@@ -170,14 +174,14 @@ pub(crate) fn read_rules<'a>(
     text: &'a [u8],
     first: u32,
 ) -> Result<RulesSection<'a>, SpecError>
-    requires few { length declarations.now.conditions.items ≤ 255 }
-    requires short { length text.now ≤ 1048576 }
-    requires first { first ≤ 1048578 }
+    requires few { length declarations.now.conditions.items ≤ max_conditions }
+    requires short { length text.now ≤ max_file_bytes }
+    requires first { first ≤ max_file_bytes + 2 }
     ensures found { IfOk result (λ s. HasRules declarations.now first text.now s) }
     ensures line { IfOk result (λ s. s.line + newlines s.rest.now ≡ first + newlines text.now) }
     ensures none { IfErr result (λ e. UnlessMemory e.kind (NoSuchRules declarations.now first text.now)) }
 {
-    let mut progress = Progress::new(alloc);
+    let mut progress = RulesSoFar::new(alloc);
     let mut rest = text;
     let mut line = first;
     'items: while !rest.is_empty() && !rest.starts_with(b"%%") {

@@ -1,7 +1,8 @@
 //! What stands before the action of a rule: its condition list and its pattern. (POSIX, lex, Rules in lex; flex,
 //! Patterns, Start Conditions, End-of-File Rules.)
-ghost use Rattle.std.specs.Prelude.{◌≡◌, ◌+◌, ◌<◌, ◌^◌, ℕ, List, false, Option, Some, None, option_map, take, drop, IfOk, OnErr};
-ghost use Rattle.lexspec.specs.Items.{Conditions as AskedFor, Subject as SubjectMeant, Trailing as TrailMeant, conditions_at, sides, starts_blank, IsPattern, IsSubject};
+ghost use Rattle.std.specs.Prelude.{◌≡◌, ◌+◌, ◌<◌, ◌^◌, ℕ, List, false, Option, Some, None, option_map, take, drop, IfOk, IfErr, OnErr};
+ghost use Rattle.lexspec.specs.Items.{Conditions as AskedFor, Subject as SubjectMeant, Trailing as TrailMeant, conditions_at, sides, ends_subject, IsPattern, IsSubject};
+ghost use Rattle.lexspec.specs.SubjectFaults.{IsSubjectFault};
 ghost use Rattle.lexspec.specs.SubjectViews.{conditions_of, trailing_of, subject_of};
 
 use lexclass::skip_first;
@@ -41,14 +42,14 @@ pub(crate) enum Subject<'a> {
     },
 }
 
-/// The first bytes, at most so many.
+/// The first `count` bytes, or all where there are fewer.
 fn first_bytes(text: &[u8], count: usize) -> &[u8]
     ensures { result.now ≡ take count text.now }
 {
     text.get(..count).unwrap_or(text)
 }
 
-/// The text without its first bytes.
+/// The text without its first `count` bytes, or nothing where there are fewer.
 fn without_bytes(text: &[u8], count: usize) -> &[u8]
     ensures { result.now ≡ drop count text.now }
 {
@@ -102,6 +103,7 @@ fn sides<'a>(text: &'a [u8], cutting: Cutting) -> Option<(&'a [u8], Trailing<'a>
 fn pattern_at(text: &[u8], at: usize) -> Result<((&[u8], Trailing<'_>), &[u8]), SpecErrorKind>
     ensures found { IfOk result (λ x. IsPattern text.now x.0.0.now (trailing_of x.0.1) x.1.now) }
     ensures none { OnErr result ((head : List ℕ) (after : TrailMeant) (rest : List ℕ) → IsPattern text.now head after rest → ⊥) }
+    ensures fault { IfErr result (λ e. IsSubjectFault e) }
 {
     let cutting = match cut_pattern(text) {
         Ok(cutting) => cutting,
@@ -122,8 +124,8 @@ fn pattern_at(text: &[u8], at: usize) -> Result<((&[u8], Trailing<'_>), &[u8]), 
 }
 
 /// Whether the text begins with a blank or a newline, or has nothing.
-fn starts_blank(text: &[u8]) -> bool
-    ensures { result ≡ starts_blank text.now }
+fn ends_subject(text: &[u8]) -> bool
+    ensures { result ≡ ends_subject text.now }
 {
     match text.split_first() {
         Some((first, _)) => is_blank(*first) || *first == b'\n',
@@ -132,14 +134,15 @@ fn starts_blank(text: &[u8]) -> bool
 }
 
 /// The pattern or the `<<EOF>>` at the front of a text, which stands at this place of the rule's line, and what follows
-/// it. `BadEofRule` is told of `<<EOF>>` that goes on or stands after `^`.
+/// it. `<<EOF>>` that goes on, or stands after `^`, is `BadEofRule`.
 pub(crate) fn subject_at(text: &[u8], at: usize) -> Result<(Subject<'_>, &[u8]), SpecErrorKind>
     ensures found { IfOk result (λ x. IsSubject text.now (subject_of x.0) x.1.now) }
     ensures none { OnErr result ((s : SubjectMeant) (rest : List ℕ) → IsSubject text.now s rest → ⊥) }
+    ensures fault { IfErr result (λ e. IsSubjectFault e) }
 {
     if text.starts_with(b"<<EOF>>") {
         let rest = without_bytes(text, 7);
-        if !starts_blank(rest) {
+        if !ends_subject(rest) {
             return Err(SpecErrorKind::BadEofRule);
         }
         return Ok((Subject::AtEnd, rest));

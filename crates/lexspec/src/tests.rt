@@ -35,8 +35,13 @@ fn faults_of_rules(rt: HostRuntime) -> Result<(), Fail> {
     let rows = &[
         ("<Z>a ;", SpecErrorKind::UnknownCondition),
         ("<INITIAL", SpecErrorKind::UnknownCondition),
+        ("<>a ;", SpecErrorKind::UnknownCondition),
+        ("<INITIAL,>a ;", SpecErrorKind::UnknownCondition),
+        ("<*,INITIAL>a ;", SpecErrorKind::UnknownCondition),
+        ("< INITIAL>a ;", SpecErrorKind::UnknownCondition),
         ("a/b$ ;", SpecErrorKind::TwoTrailing),
         ("a/(b$ ;", SpecErrorKind::TwoTrailing),
+        ("a/b/c ;", SpecErrorKind::TwoTrailing),
         ("<<EOF>>x ;", SpecErrorKind::BadEofRule),
         ("^<<EOF>> ;", SpecErrorKind::BadEofRule),
         ("a*/b* ;", SpecErrorKind::VariableTrailing),
@@ -51,10 +56,15 @@ fn faults_of_rules(rt: HostRuntime) -> Result<(), Fail> {
         ("a exit(64);", SpecErrorKind::BadStatus),
         ("a { ECHO;", SpecErrorKind::Unclosed),
         ("a { ECHO;\n\nb ;", SpecErrorKind::Unclosed),
+        ("a puts(\"b\\\nc\");", SpecErrorKind::Unclosed),
         ("%{\na", SpecErrorKind::Unclosed),
         ("a |", SpecErrorKind::DanglingBar),
         ("a |\r\n", SpecErrorKind::DanglingBar),
         ("a yy_push_state(C);", SpecErrorKind::UnknownStatement),
+        (
+            "a {\n ECHO;\n return 1;\n}",
+            SpecErrorKind::UnknownStatement,
+        ),
     ];
     for &(rule, kind) in rows {
         assert_eq!(rt;
@@ -74,6 +84,7 @@ fn faults_of_patterns(rt: HostRuntime) -> Result<(), Fail> {
         ("^[z-a] ;", PatternErrorKind::BadRange, 2),
         ("a/[z-a] ;", PatternErrorKind::BadRange, 3),
         ("<INITIAL>[z-a] ;", PatternErrorKind::BadRange, 10),
+        ("<INITIAL>\"a ;", PatternErrorKind::UnclosedQuote, 9),
         ("a{0} ;", PatternErrorKind::BadInterval, 1),
     ];
     for &(rule, kind, at) in rows {
@@ -85,7 +96,7 @@ fn faults_of_patterns(rt: HostRuntime) -> Result<(), Fail> {
     Ok(())
 }
 
-/// Of two faults of a rule the one that is told.
+/// Of two faults of a rule the one that is reported.
 #[test]
 fn first_of_two_faults(rt: HostRuntime) -> Result<(), Fail> {
     let alloc = rt.alloc();
@@ -120,7 +131,7 @@ fn first_of_two_faults(rt: HostRuntime) -> Result<(), Fail> {
     Ok(())
 }
 
-/// Of two faults of a rule the one that is told, where it is a pattern's.
+/// Of two faults of a rule the one that is reported, where it is a pattern's.
 #[test]
 fn first_of_two_faults_of_patterns(rt: HostRuntime) -> Result<(), Fail> {
     let alloc = rt.alloc();
@@ -159,6 +170,12 @@ fn lines_of_faults(rt: HostRuntime) {
             4,
             SpecErrorKind::DuplicateEof,
         ),
+        (
+            "%%\n<*><<EOF>> ;\n<*><<EOF>> ;",
+            3,
+            SpecErrorKind::DuplicateEof,
+        ),
+        ("%%\na |\n^<<EOF>> ;", 3, SpecErrorKind::BadEofRule),
         ("%%\na |\nb |\n\n", 3, SpecErrorKind::DanglingBar),
         ("%%\na |\nb |\n%%\n", 3, SpecErrorKind::DanglingBar),
         ("%%\na |\nb |\n<<EOF>> ;", 3, SpecErrorKind::DanglingBar),
@@ -269,9 +286,9 @@ fn skipped_lines(rt: HostRuntime) -> Result<(), Fail> {
 
 const WHOLE: &str =
     "%s A\n%x B\nD [0-9]\n%%\n<B,A>^a{D}/b BEGIN(B);\n<*>c$ |\n\"d\" printf(\"x%s\", yytext); exit(3);\n\
-    a*/bc REJECT;\n<<EOF>> fputs(\"z\", yyout);\n<A><<EOF>> exit(5);\n";
+    a*/bc REJECT;\na*/(\"\"*) REJECT;\n<<EOF>> fputs(\"z\", yyout);\n<A><<EOF>> exit(5);\n";
 
-/// A condition's name, whether it is exclusive, and what its end writes and tells.
+/// A condition's name, whether it is exclusive, and what its end writes and answers.
 fn row_of_condition(condition: &Condition) -> (&[u8], bool, &[u8], u8) {
     (
         condition.name.as_slice(),
@@ -335,8 +352,9 @@ fn rules_of_a_file(rt: HostRuntime) -> Result<(), Fail> {
         ),
         (7, None, false, Cut::Whole, "printf(x) ECHO; exit(3);"),
         (8, None, false, Cut::Trail(2), "REJECT;"),
+        (9, None, false, Cut::Trail(0), "REJECT;"),
     ];
-    assert_eq!(rt; spec.rules().len(), 4);
+    assert_eq!(rt; spec.rules().len(), 5);
     for (rule, row) in spec.rules().iter().zip(rows) {
         assert_eq!(rt; row_of_rule(rule), *row);
         assert_eq!(rt; rule.trail.is_some(), rule.cut != Cut::Whole);
@@ -383,29 +401,6 @@ fn repeated(
     }
     text.push_str(after)?;
     Ok(text)
-}
-
-/// A line that declares so many conditions.
-fn many_conditions(alloc: Global, count: u32) -> Result<String, AllocError> {
-    let mut text = String::new(alloc);
-    text.push_str("%x")?;
-    for i in 0..count {
-        text.push_str(&format!(in alloc; " c{i}")?)?;
-    }
-    text.push_str("\n%%\n")?;
-    Ok(text)
-}
-
-/// With INITIAL there may be 255 conditions.
-#[test]
-fn counts_of_conditions(rt: HostRuntime) -> Result<(), Fail> {
-    let alloc = rt.alloc();
-    assert_eq!(rt; rules_or_fault(alloc, &many_conditions(alloc, 254)?), Ok(0));
-    assert_eq!(rt;
-        rules_or_fault(alloc, &many_conditions(alloc, 255)?),
-        Err((1, SpecErrorKind::TooManyConditions))
-    );
-    Ok(())
 }
 
 /// Limits on the parts of a file, passed by one: texts repeated, and what follows.

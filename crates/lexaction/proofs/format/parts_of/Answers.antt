@@ -1,14 +1,14 @@
 use Rattle.std.proofs.Common.{arith}
 use Rattle.std.proofs.lemmas.Result.{err_from_is_err_and}
 use Rattle.lexaction.proofs.PartLemmas.{joined_first, part_refused}
-use Rattle.lexaction.proofs.CallLemmas.{unless_memory}
+use Rattle.lexclass.proofs.MemoryLaws.{unless_memory}
 use Rattle.lexaction.specs.Views.{format_view}
 use Rattle.lexaction.proofs.format.parts_of.Goals as goal
 
 pub loop-byte-init : goal.loop-byte-init
 loop-byte-init c = rw c.new.ensures.items (joined_first _)
 
-pub returns-in_err-take : goal.returns-in_err-take
-returns-in_err-take c =
+pub returns-in_err-take-clause-spelled : goal.returns-in_err-take-clause-spelled
+returns-in_err-take-clause-spelled c =
     let p = err_from_is_err_and c.from_residual.result c.from_residual.ensures.1 in
     rw (p.1, p.2) (unless_memory _ _ _ (part_refused (format_view c.loop-byte.format) c.args.text.now c.loop-byte.byte-index (omega arith) c.loop-byte.invariant) c.in_err-take.ensures.err)

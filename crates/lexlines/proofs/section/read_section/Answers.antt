@@ -1,5 +1,5 @@
 use Rattle.std.proofs.Common.{rules, arith, sym, ◌∙◌, ◌≡◌, length}
-use Rattle.lexlines.proofs.OutcomeLaws.{always}
+use Rattle.lexclass.proofs.MemoryLaws.{always}
 use Rattle.lexlines.proofs.SectionLaws.{no_line, taking_refused, no_definition_at_end, no_separator_at_end, begin_reading, good_kept, read_line, line_counts}
 use Rattle.lexlines.proofs.section.read_section.Goals as goal
 

@@ -5,8 +5,8 @@ use Rattle.lexre.proofs.braces.name_at.Goals as goal
 
 pub returns-in_err-after : goal.returns-in_err-after
 returns-in_err-after c =
-    rw c.from_residual.ensures (name_then c.args.text.now _ _ None (c.take_up_to.ensures goes_on_name (λ b r h post. search rules)) c.in_err-after.ensures)
+    rw c.from_residual.ensures (name_then c.args.text.now _ _ None (c.take_up_to.ensures.front goes_on_name (λ b r h post. search rules)) c.in_err-after.ensures)
 
 pub returns : goal.returns
 returns c =
-    name_then c.args.text.now _ _ (Some c.in_ok-after.after.now) (c.take_up_to.ensures goes_on_name (λ b r h post. search rules)) c.in_ok-after.ensures
+    name_then c.args.text.now _ _ (Some c.in_ok-after.after.now) (c.take_up_to.ensures.front goes_on_name (λ b r h post. search rules)) c.in_ok-after.ensures

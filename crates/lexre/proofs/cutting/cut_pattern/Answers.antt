@@ -1,6 +1,7 @@
 use Rattle.std.proofs.Common.{◌≡◌, ◌-◌, ◌<◌, ℕ, length, arith, subst}
 use Rattle.std.proofs.lemmas.Result.{err_from_is_err_and}
 use Rattle.lexre.proofs.CuttingLaws.{Agree, fresh, agree_first, agree_step, found_at, refused_piece, refused_slash}
+use Rattle.lexre.proofs.FaultLaws.{slash_fault_of_cutting}
 use Rattle.lexre.proofs.cutting.cut_pattern.Goals as goal
 
 pub pieces-init : goal.pieces-init
@@ -31,3 +32,13 @@ pieces-preserved c =
       agree = agree_step _ _ _ _ _ _ _ _ here (omega arith) c.in_ok-progress.ensures.ending c.pieces.invariant.agree;
       few = omega (arith, c.in_ok-progress.ensures.depth);
     }
+
+pub returns-in_err-kind-clause-fault : goal.returns-in_err-kind-clause-fault
+returns-in_err-kind-clause-fault c =
+    let p = err_from_is_err_and c.from_residual.result c.from_residual.ensures.1 in
+    rw (p.1, p.2) c.in_err-kind.ensures.fault
+
+pub returns-in_err-progress-clause-fault : goal.returns-in_err-progress-clause-fault
+returns-in_err-progress-clause-fault c =
+    let p = err_from_is_err_and c.from_residual-in_err-progress.result c.from_residual-in_err-progress.ensures.1 in
+    rw (p.1, p.2) (slash_fault_of_cutting _ c.in_err-progress.ensures.fault)

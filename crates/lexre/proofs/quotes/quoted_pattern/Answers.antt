@@ -8,8 +8,8 @@ use Rattle.lexre.proofs.QuotedLaws.{many_bytes, tree_of_many, byte_trees}
 use Rattle.lexre.proofs.SoundLaws.{sound_quoted}
 use Rattle.lexre.proofs.quotes.quoted_pattern.Goals as goal
 
-pub returns-then-bytes-gt-MOST_BYTES-clause-tree : goal.returns-then-bytes-gt-MOST_BYTES-clause-tree
-returns-then-bytes-gt-MOST_BYTES-clause-tree c = many_bytes c.args.fold c.args.bytes.now c.if-bytes-gt-MOST_BYTES.true
+pub returns-then-bytes-gt-MAX_QUOTED_BYTES-clause-tree : goal.returns-then-bytes-gt-MAX_QUOTED_BYTES-clause-tree
+returns-then-bytes-gt-MAX_QUOTED_BYTES-clause-tree c = many_bytes c.args.fold c.args.bytes.now c.if-bytes-gt-MAX_QUOTED_BYTES.true
 
 pub returns-after-loop-byte-clause-tree : goal.returns-after-loop-byte-clause-tree
 returns-after-loop-byte-clause-tree c =

@@ -3,11 +3,11 @@ use Rattle.lexclass.proofs.QuoteLaws.{escape_shorter, closing_at, newline_at, no
 use Rattle.lexre.proofs.quotes.skip_quoted.Goals as goal
 use Rattle.lexre.proofs.quotes.skip_quoted.Goals.{in-Some+else-byte-eq34+then-byte-eq10, in_default}
 
-pub returns-then-byte-eq34 : goal.returns-then-byte-eq34
-returns-then-byte-eq34 c = closing_at _ _ _ _ c.loop-byte.invariant c.in-Some.ensures.cases.0 c.if-byte-eq34.true
+pub returns-then-byte-eq34-clause-found : goal.returns-then-byte-eq34-clause-found
+returns-then-byte-eq34-clause-found c = closing_at _ _ _ _ c.loop-byte.invariant c.in-Some.ensures.cases.0 c.if-byte-eq34.true
 
-pub returns-in_default-escape_at : goal.returns-in_default-escape_at
-returns-in_default-escape_at c = bad_escape_at _ _ _ _ c.loop-byte.invariant c.in-Some.ensures.cases.0 c.if-byte-eq92.true c.in_default-escape_at.ensures
+pub returns-in_default-escape_at-clause-found : goal.returns-in_default-escape_at-clause-found
+returns-in_default-escape_at-clause-found c = bad_escape_at _ _ _ _ c.loop-byte.invariant c.in-Some.ensures.cases.0 c.if-byte-eq92.true c.in_default-escape_at.ensures
 
 pub loop-byte-smaller-then-byte-eq92 : goal.loop-byte-smaller-then-byte-eq92
 loop-byte-smaller-then-byte-eq92 c = omega (arith, escape_shorter _ _ _ c.in-Some-escape_at.ensures, c.in-Some.ensures.cases.1)
@@ -18,8 +18,8 @@ loop-byte-preserved-then-byte-eq92 c = escape_passed _ _ _ _ _ _ c.loop-byte.inv
 pub loop-byte-preserved : goal.loop-byte-preserved
 loop-byte-preserved c = other_passed _ _ _ _ c.loop-byte.invariant c.in-Some.ensures.cases.0 c.if-byte-eq34.false c.if-byte-eq10.false c.if-byte-eq92.false
 
-pub returns : goal.returns
-returns c = elim c.match-split_first.branch [
+pub returns-clause-found : goal.returns-clause-found
+returns-clause-found c = elim c.match-split_first.branch [
   | in-Some+else-byte-eq34+then-byte-eq10 w ↦ newline_at _ _ _ _ c.loop-byte.invariant w.in-Some.ensures.cases.0 w.if-byte-eq10.true
   | in_default w ↦ nothing_at _ _ c.loop-byte.invariant w.in_default.ensures.cases
 ]

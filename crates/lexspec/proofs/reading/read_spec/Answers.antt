@@ -1,27 +1,28 @@
 use Rattle.std.proofs.Common.{rules, ◌≤◌, ◌∙◌, length, arith}
 use Rattle.lexspec.proofs.ReadingLaws.{kept_short, rest_short, line_few, read_found, read_none, section_none}
 use Rattle.lexspec.proofs.reading.read_spec.Goals as goal
+use Rattle.lexlines.specs.Limits.{max_file_bytes}
 
 pub read_section-requires : goal.read_section-requires
 read_section-requires c =
-    let few : length c.args.text.now ≤ 1048576 = search rules in
+    let few : length c.args.text.now ≤ max_file_bytes = search rules in
     kept_short c.args.text.now c.deref.result.now few (c.deref.ensures.value ∙ c.in_ok-kept.ensures)
 
 pub read_on-requires-clause-short : goal.read_on-requires-clause-short
 read_on-requires-clause-short c =
-    let few : length c.args.text.now ≤ 1048576 = search rules in
+    let few : length c.args.text.now ≤ max_file_bytes = search rules in
     let kept = kept_short c.args.text.now c.deref.result.now few (c.deref.ensures.value ∙ c.in_ok-kept.ensures) in
     omega (arith, kept, rest_short c.args.options.fold c.deref.result.now c.in-Ok.section c.in-Ok.ensures.found)
 
 pub read_on-requires-clause-line : goal.read_on-requires-clause-line
 read_on-requires-clause-line c =
-    let few : length c.args.text.now ≤ 1048576 = search rules in
+    let few : length c.args.text.now ≤ max_file_bytes = search rules in
     let kept = kept_short c.args.text.now c.deref.result.now few (c.deref.ensures.value ∙ c.in_ok-kept.ensures) in
     omega (arith, kept, line_few c.args.options.fold c.deref.result.now c.in-Ok.section c.in-Ok.ensures.found)
 
 pub returns-in-Ok-clause-found : goal.returns-in-Ok-clause-found
 returns-in-Ok-clause-found c =
-    let few : length c.args.text.now ≤ 1048576 = search rules in
+    let few : length c.args.text.now ≤ max_file_bytes = search rules in
     read_found c.read_on.result c.args.options.fold c.args.text.now c.deref.result.now c.in-Ok.section few (c.deref.ensures.value ∙ c.in_ok-kept.ensures) c.in-Ok.ensures.found c.read_on.ensures.found
 
 pub returns-in-Ok-clause-none : goal.returns-in-Ok-clause-none

@@ -1,8 +1,0 @@
-use Rattle.std.proofs.Common.{◌≡◌, ℕ, ◌<◌, ◌++◌, ◌-◌, Bool, false}
-use Rattle.std.specs.Prelude.{slice_index_or}
-use Rattle.lexmeaning.specs.Text.{listed}
-use Rattle.lexspec.proofs.listed.numbers_where.Given as goal
-
-abbrev pub invariant-loop-number : goal.invariant-loop-number
-invariant-loop-number l = (test : ℕ → Bool) → ((c : ℕ) → c < 255 → slice_index_or l.flags c false ≡ test c)
-    → l.numbers.items ++ listed test l.number (l.count - l.number) ≡ listed test 0 l.count

@@ -1,0 +1,61 @@
+use Rattle.std.proofs.Common.{rules, sym, ◌∙◌, ◌≡◌, ◌+◌, ◌<◌, false, length}
+use Rattle.lexspec.specs.EndOpenings.{begins_end}
+use Rattle.lexlines.proofs.OneSection.{no_true}
+use Rattle.lexspec.specs.SkipViews.{item_of}
+use Rattle.lexlines.proofs.SectionLaws.{newlines_front}
+use Rattle.lexspec.proofs.EndLaws.{item_ends}
+use Rattle.lexspec.proofs.AwaitingLaws.{end_refused, full_refused, has_room}
+use Rattle.lexspec.proofs.StepLaws.{reads_shorter, reads_counts, plain_agrees, plain_refused, text_refused, rule_refused}
+use Rattle.lexspec.proofs.rules_so_far.RulesSoFar.with_item.Goals.{then-begins_end+else-not-is_empty, else-begins_end+else-len-ge-MAX_RULES}
+use Rattle.lexspec.proofs.rules_so_far.RulesSoFar.with_item.Goals as goal
+use Rattle.lexspec.specs.Limits.{max_rules}
+
+pub returns-in-Err-clause-none : goal.returns-in-Err-clause-none
+returns-in-Err-clause-none c = plain_refused c.args.declarations.now c.args.self c.args.line c.args.text.now c.in-Err.kind c.requires.some c.requires.no_end c.in-Err.ensures.none
+
+pub returns-in-Some-clause-found : goal.returns-in-Some-clause-found
+returns-in-Some-clause-found c = λ start whole a.
+    plain_agrees c.args.declarations.now c.args.self start c.args.line whole c.args.text.now c.in-Some.skip c.in-Some.rest.now (rw c.in-Some.is at c.in-Ok.ensures.found) a
+
+pub returns-in-Some-clause-counts : goal.returns-in-Some-clause-counts
+returns-in-Some-clause-counts c = newlines_front c.args.text.now c.in-Some.rest.now (item_ends c.args.text.now (item_of c.in-Some.skip) c.in-Some.rest.now (rw c.in-Some.is at c.in-Ok.ensures.found))
+
+pub returns-in-Err-read_rule_text-clause-none : goal.returns-in-Err-read_rule_text-clause-none
+returns-in-Err-read_rule_text-clause-none c =
+    text_refused c.args.declarations.now c.args.self c.args.line c.args.text.now c.in-Err-read_rule_text.kind c.in-Err-read_rule_text.ensures.none
+
+pub returns-in-Ok-with_rule-clause-counts : goal.returns-in-Ok-with_rule-clause-counts
+returns-in-Ok-with_rule-clause-counts c = reads_counts c.args.declarations.now c.args.line c.args.text.now c.in-Ok-read_rule_text.found c.in-Ok-read_rule_text.ensures.found
+
+pub returns-in-Ok-with_rule-clause-shorter : goal.returns-in-Ok-with_rule-clause-shorter
+returns-in-Ok-with_rule-clause-shorter c = reads_shorter c.args.declarations.now c.args.line c.args.text.now c.in-Ok-read_rule_text.found c.in-Ok-read_rule_text.ensures.found
+
+pub returns-in-Err-with_rule-clause-none : goal.returns-in-Err-with_rule-clause-none
+returns-in-Err-with_rule-clause-none c =
+    rule_refused c.args.declarations.now c.args.self c.args.line c.args.text.now c.in-Ok-read_rule_text.found c.in-Err-with_rule.kind c.in-Ok-read_rule_text.ensures.found c.in-Err-with_rule.ensures.none
+
+pub returns-then-not-is_empty-clause-none : goal.returns-then-not-is_empty-clause-none
+returns-then-not-is_empty-clause-none c =
+    let some : length c.args.self.waiting.items ≡ 0 → ⊥ = search rules in
+    end_refused c.args.declarations.now c.args.self c.args.line c.args.text.now (rw c.in_default.is at c.in-Ok.ensures.rule) (sym c.begins_end.ensures ∙ c.if-begins_end.true) some
+
+pub returns-then-len-ge-MAX_RULES-clause-none : goal.returns-then-len-ge-MAX_RULES-clause-none
+returns-then-len-ge-MAX_RULES-clause-none c =
+    full_refused c.args.declarations.now c.args.self c.args.line c.args.text.now (rw c.in_default.is at c.in-Ok.ensures.rule) (sym c.begins_end.ensures ∙ c.if-begins_end.false)
+    (search rules)
+
+pub returns-in-Ok-with_rule-clause-found : goal.returns-in-Ok-with_rule-clause-found
+returns-in-Ok-with_rule-clause-found c = λ start whole a.
+    c.in-Ok-with_rule.ensures.found start c.args.line whole c.args.text.now c.in-Ok-read_rule_text.found.rest.now c.in-Ok-read_rule_text.ensures.found a
+
+has_place : (c : goal.In-Ok-with_rule) → begins_end c.args.text.now ≡ false → length c.args.self.rules.items + length c.args.self.waiting.items < max_rules
+has_place c = elim c.if-begins_end.branch [
+  | then-begins_end+else-not-is_empty w ↦ λ off. no_true (sym off ∙ sym c.begins_end.ensures ∙ w.if-begins_end.true)
+  | else-begins_end+else-len-ge-MAX_RULES w ↦ λ off. search rules
+]
+
+pub returns-in-Ok-with_rule-clause-keeps : goal.returns-in-Ok-with_rule-clause-keeps
+returns-in-Ok-with_rule-clause-keeps c = λ k.
+    c.in-Ok-with_rule.ensures.keeps c.in-Ok-read_rule_text.ensures.sound
+    (has_room c.args.declarations.now c.args.self c.args.line c.args.text.now c.in-Ok-read_rule_text.found.action.now c.in-Ok-read_rule_text.found.rest.now c.in-Ok-read_rule_text.found.front
+    c.in-Ok-read_rule_text.ensures.found (has_place c)) k
