@@ -11,6 +11,3 @@ pub use error::TableError;
 pub use laws::one_table;
 pub use tables::read_tables;
 pub use writing::write_tables;
-
-#[cfg(test)]
-mod tests;

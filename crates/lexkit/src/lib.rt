@@ -31,8 +31,3 @@ pub use making::{Generated, generate};
 pub use options::Options;
 pub use scan::{scan_spec, scan_table};
 pub use stats::{Stats, write_stats};
-
-#[cfg(test)]
-mod machine_tests;
-#[cfg(test)]
-mod tests;

@@ -19,6 +19,3 @@ pub use laws::{
 };
 pub use plain::Plain;
 pub use tables::pack;
-
-#[cfg(test)]
-mod tests;

@@ -14,6 +14,3 @@ pub use backup::{BackUp, write_backup};
 pub use merging::warnings;
 pub use useless::useless_rules;
 pub use warned::{Warning, write_warnings};
-
-#[cfg(test)]
-mod tests;

@@ -1,8 +1,8 @@
 //! Worked scans turn by turn: what is taken, what is held, and what a fault leaves.
 ghost use Rattle.std.specs.Prelude.{◌-◌, ◌^◌, ◌<◌};
 
-use crate::{MemorySink, MemorySource, RunError, Sink, Source};
 use lexauto::{Limits, build};
+use lexkit::{MemorySink, MemorySource, RunError, Sink, Source};
 use lexpack::Plain;
 use lexscan::{Scanner, Turn, run};
 use lexspec::{ReadOptions, Spec, read_spec};

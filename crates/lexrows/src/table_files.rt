@@ -1,6 +1,5 @@
 //! Table files byte for byte, and files that are none.
-use crate::{TableError, read_tables, write_tables};
-use lexends::{MemorySink, WriteFault};
+use lexkit::{MemorySink, TableError, WriteFault, read_tables, write_tables};
 use std::alloc::{AllocError, Global};
 use std::test::Fail;
 

@@ -1,6 +1,5 @@
 //! The lines of the reports.
-use crate::{BackUp, Warning, write_backup, write_warnings};
-use lexends::{MemorySink, WriteFault};
+use lexkit::{BackUp, MemorySink, Warning, WriteFault, write_backup, write_warnings};
 use std::test::Fail;
 
 #[test]

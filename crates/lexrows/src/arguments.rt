@@ -1,0 +1,117 @@
+//! What words of a command line ask for.
+use lexkit::{ArgsError, Job, read_args};
+use std::alloc::{AllocError, Global};
+use std::test::Fail;
+
+fn job_of(alloc: Global, line: &[&str]) -> Result<Result<Job, ArgsError>, AllocError> {
+    let mut words = Vec::new(alloc);
+    for word in line {
+        words.push(String::from_str(alloc, *word)?)?;
+    }
+    Ok(read_args(alloc, words.as_slice()))
+}
+
+/// What the line asks for, in the form that the debugger writes.
+#[test]
+fn reads_jobs(rt: HostRuntime) -> Result<(), Fail> {
+    let lines: &[(&[&str], &str)] = &[
+        (
+            &["-tv", "a.l"],
+            "Generate { files: [\"a.l\"], out: None, stdout: true, stats: true, backup: false, fold: false, quiet: false }",
+        ),
+        (
+            &[],
+            "Generate { files: [], out: None, stdout: false, stats: false, backup: false, fold: false, quiet: false }",
+        ),
+        (
+            &["-"],
+            "Generate { files: [\"-\"], out: None, stdout: false, stats: false, backup: false, fold: false, quiet: false }",
+        ),
+        (
+            &["a", "-b", "-", "b", "-i"],
+            "Generate { files: [\"a\", \"-\", \"b\"], out: None, stdout: false, stats: false, backup: true, fold: true, quiet: false }",
+        ),
+        (
+            &["-vvn", "-w"],
+            "Generate { files: [], out: None, stdout: false, stats: false, backup: false, fold: false, quiet: true }",
+        ),
+        (
+            &["-oFILE", "a"],
+            "Generate { files: [\"a\"], out: Some(\"FILE\"), stdout: false, stats: false, backup: false, fold: false, quiet: false }",
+        ),
+        (
+            &["-o", "-", "a"],
+            "Generate { files: [\"a\"], out: Some(\"-\"), stdout: false, stats: false, backup: false, fold: false, quiet: false }",
+        ),
+        (
+            &["-to=x"],
+            "Generate { files: [], out: Some(\"x\"), stdout: true, stats: false, backup: false, fold: false, quiet: false }",
+        ),
+        (
+            &["-vo", "F"],
+            "Generate { files: [], out: Some(\"F\"), stdout: false, stats: true, backup: false, fold: false, quiet: false }",
+        ),
+        (
+            &["--", "-t"],
+            "Generate { files: [\"-t\"], out: None, stdout: false, stats: false, backup: false, fold: false, quiet: false }",
+        ),
+        (
+            &["--scan-spec", "a.l"],
+            "ScanSpec { file: \"a.l\", fold: false, quiet: false }",
+        ),
+        (
+            &["--scan-spec=a.l", "-w"],
+            "ScanSpec { file: \"a.l\", fold: false, quiet: true }",
+        ),
+        (
+            &["-ii", "--scan-spec", "", "-i"],
+            "ScanSpec { file: \"\", fold: true, quiet: false }",
+        ),
+        (&["--scan-table", "b"], "ScanTable { file: \"b\" }"),
+    ];
+    for &(line, want) in lines {
+        let got = job_of(rt.alloc(), line)?;
+        let told = match &got {
+            Ok(job) => format!(in rt.alloc(); "{job:?}")?,
+            Err(error) => format!(in rt.alloc(); "{error:?}")?,
+        };
+        assert_eq!(rt; told.as_str(), want);
+    }
+    Ok(())
+}
+
+#[test]
+fn refuses_all_else(rt: HostRuntime) -> Result<(), Fail> {
+    let lines: &[&[&str]] = &[
+        &["--scan-spec"],
+        &["--scan-spec", "-"],
+        &["--scan-spec", "-i"],
+        &["--scan-spec", "a.l", "b.l"],
+        &["--scan-spec", "a.l", "--scan-spec", "b.l"],
+        &["--scan-spec", "a", "--scan-table", "b"],
+        &["--scan-spec", "a.l", "-x"],
+        &["--scan-spec", "a.l", "-t"],
+        &["--scan-spec", "a.l", "-o", "b"],
+        &["--scan-spec", "a.l", "-h"],
+        &["--scan-table"],
+        &["--scan-table", "-"],
+        &["--scan-table", "a", "-i"],
+        &["--scan-table", "a", "-w"],
+        &["--scan-table", "a", "b"],
+        &["--scan-table", "a", "--scan-table", "b"],
+        &["-X"],
+        &["-o"],
+        &["-o", "-t"],
+        &["-o", "a", "-o", "b"],
+        &["-h"],
+        &["--help"],
+        &["--version"],
+    ];
+    for (number, line) in lines.iter().enumerate() {
+        match job_of(rt.alloc(), *line)? {
+            Err(ArgsError::Usage) => {}
+            other => assert!(rt; false, "line {number}: {other:?}"),
+        }
+    }
+    Ok(())
+}
