@@ -81,7 +81,8 @@ fn many_conditions(alloc: Global, count: u32, others: &str) -> Result<String, Al
     Ok(text)
 }
 
-/// With INITIAL there may be 255 conditions. A name that is declared already is one, also where there may be no more.
+/// With INITIAL there may be 255 conditions. A name that is declared already is reported as such, also where there may be
+/// no more.
 #[test]
 fn counts_of_conditions(rt: HostRuntime) -> Result<(), Fail> {
     let alloc = rt.alloc();

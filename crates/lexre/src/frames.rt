@@ -1,5 +1,6 @@
 //! A pattern as far as it was read. Its methods are in `stack`.
 ghost use Rattle.std.specs.Prelude.{◌+◌, ◌≤◌, vec_len};
+ghost use Rattle.lexre.specs.Limits.{max_open};
 
 use crate::pattern::Pattern;
 use std::alloc::Global;
@@ -28,5 +29,5 @@ pub(crate) struct Stack {
     pub(crate) outer: Vec<Frame>,
     /// How many more may be opened.
     pub(crate) left: u8,
-    ghost within_limit: { vec_len outer + left ≤ 64 },
+    ghost within_limit: { vec_len outer + left ≤ max_open },
 }

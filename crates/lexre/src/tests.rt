@@ -1023,7 +1023,7 @@ fn names_inside_more_and_more(rt: HostRuntime) -> Result<(), Fail> {
     Ok(())
 }
 
-// So many names from n0 on, the text of each the next one, and that of the last the first
+// `count` names from n0 on: the text of each is the next one, and that of the last is the first
 fn round(alloc: Global, count: u32) -> Result<Defs, DefsError> {
     let mut defs = Defs::new(alloc);
     for number in 0..count {
@@ -1035,7 +1035,7 @@ fn round(alloc: Global, count: u32) -> Result<Defs, DefsError> {
     Ok(defs)
 }
 
-// A cycle of 64 names is met as one, and in a longer one the limit on names is met first.
+// A cycle of 64 names is found, and in a longer one the limit on names is met first.
 #[test]
 fn names_in_a_round(rt: HostRuntime) -> Result<(), Fail> {
     let alloc = rt.alloc();
