@@ -3,7 +3,6 @@
 
 mod bounds;
 mod braces;
-mod copies;
 mod counts;
 mod cutting;
 mod definitions;

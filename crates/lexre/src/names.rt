@@ -96,7 +96,7 @@ impl Names {
         ensures { OnOk result (trees_of self.new ≡ insert (trees_of self.old) name.now (tree_of pattern.now, needed)) }
     {
         let name = Vec::from_slice(self.alloc, name)?;
-        let pattern = pattern.copy(self.alloc)?;
+        let pattern = pattern.shared()?;
         self.kept.insert(name, Kept { pattern, needed })?;
         Ok(())
     }

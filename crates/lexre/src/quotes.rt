@@ -10,6 +10,7 @@ ghost use Rattle.lexre.specs.Views.{tree_of};
 use crate::pattern::Pattern;
 use lexclass::{ByteSet, Fault, PatternErrorKind, escape_at, folded};
 use std::alloc::Global;
+use std::rc::Rc;
 
 /// A series of so many bytes has as many nodes as a pattern may have.
 const MOST_BYTES: usize = 65_535;
@@ -131,7 +132,7 @@ pub(crate) fn quoted_pattern(
             for byte in bytes {
                 parts.push(byte_pattern(*byte, fold))?;
             }
-            Ok(Pattern::Cat(parts))
+            Ok(Pattern::Cat(Rc::new(alloc, parts)?))
         }
     }
 }

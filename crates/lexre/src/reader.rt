@@ -129,7 +129,7 @@ fn read_name(
             return Err(PatternErrorKind::TooBig);
         }
         return Ok(Read {
-            pattern: kept.pattern.copy(alloc)?,
+            pattern: kept.pattern.shared()?,
             spare: left - kept.needed,
         });
     }

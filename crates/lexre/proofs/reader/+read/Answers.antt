@@ -121,7 +121,7 @@ read_name-returns-after-substitute-capped_nodes-clause-known t c =
 
 pub read_name-returns-in-Some-clause-sound : goal.read_name-returns-in-Some-clause-sound
 read_name-returns-in-Some-clause-sound t c =
-    rw c.in_ok-copy.ensures
+    rw c.in_ok-shared.ensures
     (known_usable c.args.scope.fold c.args.scope.defs.now (trees_of c.args.names.now) c.args.left c.args.name.now (tree_of c.in-Some.kept.now.pattern) c.in-Some.kept.now.needed
     c.requires.known_so_far (sym c.in-Some.ensures)).2
 
