@@ -11,7 +11,7 @@ ghost use Rattle.lexclass.specs.Symbols.{signed};
 ghost use Rattle.lexre.specs.Views.{tree_of};
 ghost use Rattle.lexclass.specs.declared.error.PatternErrorKind.TheVariants.{OutOfMemory};
 
-use crate::counts::capped_nodes;
+use crate::counted::Counted;
 use crate::frames::{Frame, Stack};
 use crate::pattern::Pattern;
 use crate::symbols::{Sign, Symbol};
@@ -103,11 +103,11 @@ impl Stack {
     }
 
     /// Takes an item that begins at this place, and answers how many nodes it brings.
-    pub(crate) fn push(&mut self, item: Pattern, start: usize) -> Result<u64, PatternErrorKind>
-        ensures { StepsTo result (Some (push (tree_of item) (state_of self.old))) (item_adds (tree_of item) (state_of self.old)) (state_of self.new) }
+    pub(crate) fn push(&mut self, item: Counted, start: usize) -> Result<u64, PatternErrorKind>
+        ensures { StepsTo result (Some (push (tree_of item.pattern) (state_of self.old))) (item_adds (tree_of item.pattern) (state_of self.old)) (state_of self.new) }
     {
-        let added = capped_nodes(&item) + self.here.extra();
-        self.here.push(item, start)?;
+        let added = item.nodes + self.here.extra();
+        self.here.push(item.pattern, start)?;
         Ok(added)
     }
 
@@ -226,7 +226,7 @@ impl Stack {
         ensures { StepsTo result (step_of (symbol_of symbol.entry) (state_of self.old)) (adds (symbol_of symbol.entry) (state_of self.old)) (state_of self.new) }
     {
         match symbol {
-            Symbol::Item(item) => self.push(item, at),
+            Symbol::Item(item) => self.push(Counted::new(item), at),
             Symbol::Name(_) => Err(PatternErrorKind::UndefinedName),
             Symbol::Opening => self.open(at),
             Symbol::Closing => self.close(),

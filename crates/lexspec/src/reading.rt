@@ -15,7 +15,7 @@ use lexlines::{
     Declarations, Section, Skipped, SpecError, SpecErrorKind, is_blank, read_section, split_line,
     without_returns,
 };
-use lexre::ReadOptions;
+use lexre::{Names, ReadOptions};
 use std::alloc::Global;
 
 /// The most bytes of a file.
@@ -72,7 +72,15 @@ fn read_on(alloc: Global, section: Section<'_>) -> Result<Spec, SpecError>
     } = section;
     let (_, text) = split_line(rest);
     let mut skipped = Skipped::new(alloc);
-    match read_rules(alloc, &declarations, &mut skipped, text, line + 1) {
+    let mut names = Names::new(alloc);
+    match read_rules(
+        alloc,
+        &declarations,
+        &mut names,
+        &mut skipped,
+        text,
+        line + 1,
+    ) {
         Ok(found) => joined(alloc, declarations, found, skipped),
         Err(fault) => Err(fault),
     }
