@@ -24,7 +24,7 @@ FILES = {
     # a definition of 65,000 letters, used by each rule
     "letters": defined([("D", "a" * 65_000)], NAMED * RULES),
     # a tree of 65,535 nodes made of 16 short definitions, used by each rule
-    "doubling": defined(doubling("a", 15), NAMED * RULES),
+    "twice": defined(doubling("a", 15), NAMED * RULES),
     # the like with trailing context, so that each rule's lengths are counted
     "lengths": defined(doubling("a?", 14), "{D}/a ;\n" * RULES),
     # a class of 500,000 bytes in a definition that each rule uses

@@ -13,7 +13,7 @@ if (($# == 0)); then
 fi
 "$here/files.py" "$folder"
 ulimit -t 60 -v 8000000
-for name in letters doubling lengths class cycle rules nodes; do
+for name in letters twice lengths class cycle rules nodes; do
     echo "$name.l, $(stat -c %s "$folder/$name.l") bytes"
     /usr/bin/time --quiet -f "%U s of the processor, %M KiB" "$program" < "$folder/$name.l" 2>&1 || true
 done
