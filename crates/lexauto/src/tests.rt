@@ -14,6 +14,7 @@ use crate::{
 use lexre::{ByteSet, Pattern, ReadOptions, positions};
 use lexspec::{SpecError, read_spec};
 use std::alloc::{AllocError, Global};
+use std::rc::Rc;
 use std::test::Fail;
 
 fn byte(byte: u8) -> Pattern
@@ -26,7 +27,7 @@ fn star(alloc: Global, inner: Pattern) -> Result<Pattern, AllocError>
     requires { IsSoundTree (tree_of inner) }
     ensures { IfOk result (λ p. IsSoundTree (tree_of p)) }
 {
-    Ok(Pattern::Star(Box::new(alloc, inner)?))
+    Ok(Pattern::Star(Rc::new(alloc, inner)?))
 }
 
 fn repeat(alloc: Global, inner: Pattern, m: u8, n: Option<u8>) -> Result<Pattern, AllocError>
@@ -34,7 +35,7 @@ fn repeat(alloc: Global, inner: Pattern, m: u8, n: Option<u8>) -> Result<Pattern
     requires in_order { ForSome n (λ n. (m ≤ n) × (1 ≤ n)) }
     ensures { IfOk result (λ p. IsSoundTree (tree_of p)) }
 {
-    Ok(Pattern::Repeat(Box::new(alloc, inner)?, m, n))
+    Ok(Pattern::Repeat(Rc::new(alloc, inner)?, m, n))
 }
 
 fn cat(alloc: Global, first: Pattern, second: Pattern) -> Result<Pattern, AllocError>
@@ -42,7 +43,8 @@ fn cat(alloc: Global, first: Pattern, second: Pattern) -> Result<Pattern, AllocE
     requires second { IsSoundTree (tree_of second) }
     ensures { IfOk result (λ p. IsSoundTree (tree_of p)) }
 {
-    Ok(Pattern::Cat(vec![in alloc; first, second]?))
+    let parts = vec![in alloc; first, second]?;
+    Ok(Pattern::Cat(Rc::new(alloc, parts)?))
 }
 
 /// The positions that come next in a pattern of at most four, and at the end a 4 if it is left.

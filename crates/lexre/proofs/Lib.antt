@@ -1,6 +1,7 @@
 pub mod BraceLaws
 pub mod CountLaws
 pub mod CuttingLaws
+pub mod CycleLaws
 pub mod DefinitionLaws
 pub mod EntryLaws
 pub mod FaultLaws

@@ -3,7 +3,7 @@ use Rattle.std.proofs.Common.{◌≡◌, ℕ, zero, suc, ◌+◌, ◌-◌, ◌<�
 use Rattle.std.specs.FinMap.{get}
 use Rattle.lexmeaning.specs.Shapes.{nodes}
 use Rattle.lexmeaning.specs.Tree.{Tree}
-use Rattle.lexre.specs.Counting.{state_nodes, adds, item_adds}
+use Rattle.lexre.specs.Counting.{state_nodes, adds, item_adds, capped_nodes}
 use Rattle.lexre.specs.Definitions.{Definitions}
 use Rattle.lexre.specs.Grammar.{SpellsWithin}
 use Rattle.lexclass.specs.Lexical.{symbol_at}
@@ -133,6 +133,10 @@ module _ (symbol_at : Lexer) (defined : List ℕ → Option (List ℕ)) (none : 
 
   pub few_at_end : (most : ℕ) (st : State) (tree : Tree) → finished st ≡ Some tree → state_nodes st ≤ most → nodes tree ≤ most
   few_at_end most st tree e few = omega (arith, finished_nodes st tree e)
+
+-- a count of few nodes is that of the tree
+pub counted_at_end : (st : State) (tree : Tree) (n : ℕ) → finished st ≡ Some tree → state_nodes st ≡ n → n ≤ 65536 → n ≡ capped_nodes tree
+counted_at_end st tree n e counted few = omega (arith, finished_nodes st tree e)
 
 -- Names.
 

@@ -1,5 +1,6 @@
 pub mod Counting
 pub mod Cutting
+pub mod Cycles
 pub mod Definitions
 pub mod Entries
 pub mod Grammar

@@ -21,7 +21,7 @@ abbrev pub Trees : Type 0
 Trees = FinMap (slice_cmp nat_cmp) (Tree × ℕ)
 
 abbrev pub tree_kept : Kept → Tree × ℕ
-tree_kept k = (tree_of k.pattern, k.needed)
+tree_kept k = (tree_of k.tree.pattern, k.needed)
 
 abbrev pub trees_of : Names → Trees
 trees_of names = map_of tree_kept names.kept.entries

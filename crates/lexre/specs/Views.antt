@@ -8,8 +8,8 @@ use Rattle.lexre.specs.declared.pattern.Pattern.TheFolds.{fold-Pattern}
 abbrev pub node_tree : Pattern-F Tree → Tree
 node_tree Pattern-F.Empty = Empty
 node_tree (Pattern-F.Set s) = Set s
-node_tree (Pattern-F.Cat parts) = Cat (trees parts.items)
-node_tree (Pattern-F.Alt parts) = Alt (trees parts.items)
+node_tree (Pattern-F.Cat parts) = Cat (trees parts.value.items)
+node_tree (Pattern-F.Alt parts) = Alt (trees parts.value.items)
 node_tree (Pattern-F.Star inner) = Star inner.value
 node_tree (Pattern-F.Repeat inner m n) = Repeat inner.value m n
 

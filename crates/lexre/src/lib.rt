@@ -3,7 +3,7 @@
 
 mod bounds;
 mod braces;
-mod copies;
+mod counted;
 mod counts;
 mod cutting;
 mod definitions;
@@ -25,8 +25,9 @@ pub use definitions::{Defs, DefsError};
 pub use laws::{one_cutting, one_tree, readings_use_own_positions};
 pub use lexclass::{ByteSet, PatternError, PatternErrorKind};
 pub use measures::lengths;
+pub use names::Names;
 pub use pattern::Pattern;
-pub use reader::{ReadOptions, read_pattern};
+pub use reader::{ReadOptions, read_pattern, read_with_names};
 
 #[cfg(test)]
 mod tests;

@@ -1,28 +1,29 @@
-//! The names that are met while a pattern is read.
-ghost use Rattle.std.specs.Prelude.{◌≡◌, ◌-◌, OnOk, option_map, [], ◌∷◌, ◌++◌, length, take};
+//! The names that are met while patterns are read.
+ghost use Rattle.std.specs.Prelude.{◌≡◌, ◌-◌, false, OnOk, option_map, [], ◌∷◌, ◌++◌, length, take};
 ghost use Rattle.std.specs.FinMap.{empty, get, insert};
 ghost use Rattle.lexre.specs.Names.{open_of, tree_kept, trees_of, usable};
 ghost use Rattle.lexre.specs.Reading.{is_among};
 ghost use Rattle.lexre.specs.Views.{tree_of};
 
-use crate::pattern::Pattern;
+use crate::counted::Counted;
 use std::alloc::{AllocError, Global};
 use std::collections::BTreeMap;
 
 /// The tree of a name that was read whole.
 #[derive(Drop)]
 pub(crate) struct Kept {
-    pub(crate) pattern: Pattern,
+    pub(crate) tree: Counted,
     /// How many parentheses and names have to be opened for it, the name itself among them.
     pub(crate) needed: u8,
 }
 
-/// The names that are being read, and what is kept of those that were.
+/// What is kept of the names that patterns of one file use: each is read once.
 #[derive(Drop)]
-pub(crate) struct Names {
+pub struct Names {
     alloc: Global,
-    pub(crate) being_read: Vec<Vec<u8>>,
-    pub(crate) kept: BTreeMap<Vec<u8>, Kept>,
+    /// The names whose texts are being read, the outermost first.
+    being_read: Vec<Vec<u8>>,
+    kept: BTreeMap<Vec<u8>, Kept>,
 }
 
 /// Whether the name is one of these.
@@ -39,15 +40,22 @@ fn is_among(name: &[u8], names: &[Vec<u8>]) -> bool
 
 impl Names {
     /// No names.
-    pub(crate) fn new(alloc: Global) -> Names
-        ensures none_open { open_of result ≡ [] }
-        ensures trees { trees_of result ≡ empty }
+    pub fn new(alloc: Global) -> Names
+        ensures { trees_of result ≡ empty }
     {
         Names {
             alloc,
             being_read: Vec::new(alloc),
             kept: BTreeMap::new(alloc),
         }
+    }
+
+    /// Notes that no name is being read.
+    pub(crate) fn begin(&mut self)
+        ensures none_open { open_of self.new ≡ [] }
+        ensures trees { trees_of self.new ≡ trees_of self.old }
+    {
+        self.being_read = Vec::new(self.alloc);
     }
 
     /// Whether the name is being read.
@@ -57,8 +65,9 @@ impl Names {
         is_among(name, &self.being_read)
     }
 
-    /// Notes that the name is being read.
+    /// Notes that the name is being read, which it was not.
     pub(crate) fn enter(&mut self, name: &[u8]) -> Result<(), AllocError>
+        requires { is_among name.now self.old.being_read.items ≡ false }
         ensures entered { OnOk result (open_of self.new ≡ open_of self.old ++ name.now ∷ []) }
         ensures trees { trees_of self.new ≡ trees_of self.old }
     {
@@ -86,18 +95,13 @@ impl Names {
         }
     }
 
-    /// Keeps a copy of the tree of a name, for which so many have to be opened.
-    pub(crate) fn keep(
-        &mut self,
-        name: &[u8],
-        needed: u8,
-        pattern: &Pattern,
-    ) -> Result<(), AllocError>
-        ensures { OnOk result (trees_of self.new ≡ insert (trees_of self.old) name.now (tree_of pattern.now, needed)) }
+    /// Keeps the tree of a name, for which so many have to be opened.
+    pub(crate) fn keep(&mut self, name: &[u8], needed: u8, tree: Counted) -> Result<(), AllocError>
+        ensures trees { OnOk result (trees_of self.new ≡ insert (trees_of self.old) name.now (tree_of tree.pattern, needed)) }
+        ensures same_open { OnOk result (open_of self.new ≡ open_of self.old) }
     {
         let name = Vec::from_slice(self.alloc, name)?;
-        let pattern = pattern.copy(self.alloc)?;
-        self.kept.insert(name, Kept { pattern, needed })?;
+        self.kept.insert(name, Kept { tree, needed })?;
         Ok(())
     }
 }

@@ -1,9 +1,14 @@
 //! Patterns as trees. (POSIX, lex, Regular Expressions in lex.)
-use lexclass::ByteSet;
+ghost use Rattle.std.specs.Prelude.{◌≡◌, IfOk};
+ghost use Rattle.lexre.specs.Views.{tree_of};
 
-/// A pattern: what a text of lex's regular expressions stands for. Calls that go over a pattern, and its drop, take
-/// stack in proportion to its depth, at most 160 bytes a level: less than 700 kB for 64 parentheses with 64 signs each.
-/// Reading one that is used by a name takes up to 512 bytes a level, less than 2.1 MB.
+use lexclass::ByteSet;
+use std::alloc::AllocError;
+use std::rc::Rc;
+
+/// A pattern: what a text of lex's regular expressions stands for. Trees may have parts in common. Calls that go over a
+/// pattern, and its drop, take stack in proportion to its depth, at most 160 bytes a level: less than 700 kB for 64
+/// parentheses with 64 signs each.
 #[derive(Drop)]
 pub enum Pattern {
     /// The empty text.
@@ -11,11 +16,29 @@ pub enum Pattern {
     /// One byte of the set.
     Set(ByteSet),
     /// Its parts, one after another.
-    Cat(Vec<Pattern>),
+    Cat(Rc<Vec<Pattern>>),
     /// One of its parts.
-    Alt(Vec<Pattern>),
+    Alt(Rc<Vec<Pattern>>),
     /// Any number of times.
-    Star(Box<Pattern>),
+    Star(Rc<Pattern>),
     /// At least so many times, and at most so many where there is an upper bound.
-    Repeat(Box<Pattern>, u8, Option<u8>),
+    Repeat(Rc<Pattern>, u8, Option<u8>),
+}
+
+impl Pattern {
+    /// The same tree again, whose parts are not copied.
+    pub(crate) fn shared(&self) -> Result<Pattern, AllocError>
+        ensures { IfOk result (λ p. tree_of p ≡ tree_of self.now) }
+    {
+        match self {
+            Pattern::Empty => Ok(Pattern::Empty),
+            Pattern::Set(set) => Ok(Pattern::Set(*set)),
+            Pattern::Cat(parts) => Ok(Pattern::Cat(parts.clone()?)),
+            Pattern::Alt(parts) => Ok(Pattern::Alt(parts.clone()?)),
+            Pattern::Star(inner) => Ok(Pattern::Star(inner.clone()?)),
+            Pattern::Repeat(inner, least, most) => {
+                Ok(Pattern::Repeat(inner.clone()?, *least, *most))
+            }
+        }
+    }
 }

@@ -1,9 +1,10 @@
 //! Reads patterns. (POSIX, lex, Regular Expressions in lex; flex, Patterns. The bounds are this project's.)
-ghost use Rattle.std.specs.Prelude.{◌≡◌, ◌+◌, ◌-◌, ◌≤◌, ℕ, true, false, IfOk, IfErr, OnOk};
+ghost use Rattle.std.specs.Prelude.{◌≡◌, ◌+◌, ◌-◌, ◌≤◌, ℕ, IfOk, IfErr, OnOk};
 ghost use Rattle.lexmeaning.specs.Shapes.{IsSoundTree, nodes};
 ghost use Rattle.lexmeaning.specs.Tree.{Tree};
 ghost use Rattle.lexre.specs.Counting.{state_nodes};
-ghost use Rattle.lexre.specs.Names.{AreKnown, trees_of};
+ghost use Rattle.lexre.specs.Cycles.{AllLead, AllLeadToSymbol, AllLeadToText};
+ghost use Rattle.lexre.specs.Names.{AreKnown, open_of, trees_of};
 ghost use Rattle.lexre.specs.Outcome.{UnlessMemory};
 ghost use Rattle.lexre.specs.Reading.{NoneWithin, SpellsIn, StandsIn, StepsIn, begins_interval, lowered};
 ghost use Rattle.lexre.specs.Running.{State};
@@ -12,10 +13,10 @@ ghost use Rattle.lexre.specs.Spelling.{Spells};
 ghost use Rattle.lexre.specs.StackViews.{state_of};
 ghost use Rattle.lexre.specs.SymbolViews.{symbol_of};
 ghost use Rattle.lexre.specs.Views.{tree_of};
-ghost use Rattle.lexclass.specs.declared.error.PatternErrorKind.TheVariants.{DefinitionCycle, OutOfMemory};
+ghost use Rattle.lexclass.specs.declared.error.PatternErrorKind.TheVariants.{OutOfMemory};
 ghost use Rattle.lexre.specs.Limits.{max_open, max_nodes};
 
-use crate::counts::capped_nodes;
+use crate::counted::Counted;
 use crate::definitions::Defs;
 use crate::frames::Stack;
 use crate::lexer::symbol_at;
@@ -66,20 +67,6 @@ fn told(stack: &Stack, fault: Fault, text: &[u8], at: usize) -> PatternError
     }
 }
 
-/// What is told of a name whose substitute has this fault. A name inside its own substitute is read on until no more may
-/// be opened, and is told as a cycle then.
-fn told_of_name(kind: PatternErrorKind, cyclic: bool) -> PatternErrorKind
-    ensures memory { kind ≡ OutOfMemory → result ≡ OutOfMemory }
-    ensures cycle { cyclic ≡ true → (kind ≡ OutOfMemory → ⊥) → result ≡ DefinitionCycle }
-    ensures other { cyclic ≡ false → result ≡ kind }
-{
-    match kind {
-        PatternErrorKind::OutOfMemory => PatternErrorKind::OutOfMemory,
-        _ if cyclic => PatternErrorKind::DefinitionCycle,
-        other => other,
-    }
-}
-
 /// What a text is read under.
 #[derive(Clone, Copy)]
 struct Scope<'a> {
@@ -91,7 +78,7 @@ struct Scope<'a> {
 /// A pattern that was read.
 #[derive(Drop)]
 struct Read {
-    pattern: Pattern,
+    tree: Counted,
     /// So many of the parentheses and names that might be opened never were.
     spare: u8,
 }
@@ -105,7 +92,7 @@ struct Taken {
 }
 
 /// The pattern that a name stands for, where so many parentheses and names may be opened, of at most `room` nodes. Its tree
-/// is kept where it has fewer nodes than its text has bytes.
+/// is kept. A name whose text is being read stands for none.
 #[cycle(read)]
 fn read_name(
     alloc: Global,
@@ -118,39 +105,41 @@ fn read_name(
     requires left { left ≤ max_open }
     requires room { room ≤ max_nodes }
     requires known_so_far { AreKnown scope.fold scope.defs.now (trees_of names.old) }
-    ensures found { IfOk result (λ r. StandsIn scope.entry.fold scope.entry.defs.now (left - r.spare) name.now (tree_of r.pattern)) }
+    requires lead { AllLead scope.fold scope.defs.now (open_of names.old) name.now }
+    ensures found { IfOk result (λ r. StandsIn scope.entry.fold scope.entry.defs.now (left - r.spare) name.now (tree_of r.tree.pattern)) }
     ensures spare { IfOk result (λ r. r.spare ≤ left) }
-    ensures few { IfOk result (λ r. nodes (tree_of r.pattern) ≤ room) }
-    ensures sound { IfOk result (λ r. IsSoundTree (tree_of r.pattern)) }
+    ensures few { IfOk result (λ r. nodes (tree_of r.tree.pattern) ≤ room) }
+    ensures sound { IfOk result (λ r. IsSoundTree (tree_of r.tree.pattern)) }
     ensures known { OnOk result (AreKnown scope.entry.fold scope.entry.defs.now (trees_of names.new)) }
+    ensures same_open { OnOk result (open_of names.new ≡ open_of names.old) }
     ensures none { IfErr result (λ e. UnlessMemory e (NoneWithin room (StandsIn scope.entry.fold scope.entry.defs.now left name.now))) }
 {
     if let Some(kept) = names.find(name, left) {
-        if capped_nodes(&kept.pattern) > room {
+        if kept.tree.nodes > room {
             return Err(PatternErrorKind::TooBig);
         }
         return Ok(Read {
-            pattern: kept.pattern.copy(alloc)?,
+            tree: kept.tree.shared()?,
             spare: left - kept.needed,
         });
     }
     let Some(substitute) = scope.defs.find(name) else {
         return Err(PatternErrorKind::UndefinedName);
     };
-    let cyclic = names.is_open(name);
+    if names.is_open(name) {
+        return Err(PatternErrorKind::DefinitionCycle);
+    }
     if left == 0 {
-        return Err(told_of_name(PatternErrorKind::TooDeep, cyclic));
+        return Err(PatternErrorKind::TooDeep);
     }
     names.enter(name)?;
     match read_within(alloc, substitute, scope, left - 1, room, names) {
-        Ok(Read { pattern, spare }) => {
+        Ok(Read { tree, spare }) => {
             names.leave();
-            if substitute.len() as u64 > capped_nodes(&pattern) {
-                names.keep(name, left - spare, &pattern)?;
-            }
-            Ok(Read { pattern, spare })
+            names.keep(name, left - spare, tree.shared()?)?;
+            Ok(Read { tree, spare })
         }
-        Err(error) => Err(told_of_name(error.kind, cyclic)),
+        Err(error) => Err(error.kind),
     }
 }
 
@@ -168,6 +157,7 @@ fn step(
     requires sound { IsSoundSymbol (symbol_of symbol) }
     requires sound_so_far { IsSoundState (state_of stack.old) }
     requires known_so_far { AreKnown scope.fold scope.defs.now (trees_of names.old) }
+    requires lead { AllLeadToSymbol scope.fold scope.defs.now (open_of names.old) (symbol_of symbol) }
     ensures found { IfOk result (λ a. StepsIn scope.entry.fold scope.entry.defs.now (state_of stack.old) (symbol_of symbol.entry) (state_of stack.new)) }
     ensures spare { IfOk result (λ a. a.spare ≤ stack.new.left) }
     ensures lowered { IfOk result (λ a. (e : ℕ) → e ≤ stack.old.left → e ≤ a.spare
@@ -175,6 +165,7 @@ fn step(
     ensures few { IfOk result (λ a. a.nodes ≤ room) }
     ensures sound { IfOk result (λ a. IsSoundState (state_of stack.new)) }
     ensures known { OnOk result (AreKnown scope.entry.fold scope.entry.defs.now (trees_of names.new)) }
+    ensures same_open { OnOk result (open_of names.new ≡ open_of names.old) }
     ensures counted { IfOk result (λ a. state_nodes (state_of stack.new) ≡ state_nodes (state_of stack.old) + a.nodes) }
     ensures none { IfErr result (λ e. UnlessMemory e
         ((after : State) → StepsIn scope.entry.fold scope.entry.defs.now (state_of stack.old) (symbol_of symbol.entry) after → state_nodes after ≤ state_nodes (state_of stack.old) + room → ⊥)) }
@@ -182,7 +173,7 @@ fn step(
     let taken = match symbol {
         Symbol::Name(name) => {
             stack.here.start = at;
-            let Read { pattern, spare } = read_name(
+            let Read { tree, spare } = read_name(
                 stack.alloc,
                 name,
                 scope,
@@ -190,7 +181,7 @@ fn step(
                 room,
                 names,
             )?;
-            let nodes = stack.push(pattern, at)?;
+            let nodes = stack.push(tree, at)?;
             Taken { nodes, spare }
         }
         plain => {
@@ -220,11 +211,13 @@ fn read_within(
     requires left { left ≤ max_open }
     requires room { room ≤ max_nodes }
     requires known_so_far { AreKnown scope.fold scope.defs.now (trees_of names.old) }
-    ensures found { IfOk result (λ r. SpellsIn scope.entry.fold scope.entry.defs.now (left - r.spare) text.now (tree_of r.pattern)) }
+    requires lead { AllLeadToText scope.fold scope.defs.now (open_of names.old) text.now }
+    ensures found { IfOk result (λ r. SpellsIn scope.entry.fold scope.entry.defs.now (left - r.spare) text.now (tree_of r.tree.pattern)) }
     ensures spare { IfOk result (λ r. r.spare ≤ left) }
-    ensures few { IfOk result (λ r. nodes (tree_of r.pattern) ≤ room) }
-    ensures sound { IfOk result (λ r. IsSoundTree (tree_of r.pattern)) }
+    ensures few { IfOk result (λ r. nodes (tree_of r.tree.pattern) ≤ room) }
+    ensures sound { IfOk result (λ r. IsSoundTree (tree_of r.tree.pattern)) }
     ensures known { OnOk result (AreKnown scope.entry.fold scope.entry.defs.now (trees_of names.new)) }
+    ensures same_open { OnOk result (open_of names.new ≡ open_of names.old) }
     ensures none { IfErr result (λ e. UnlessMemory e.kind (NoneWithin room (SpellsIn scope.entry.fold scope.entry.defs.now left text.now))) }
 {
     let mut stack = Stack::new(alloc, left);
@@ -248,7 +241,10 @@ fn read_within(
     }
     let opening = stack.here.opening;
     match stack.finish() {
-        Ok(pattern) => Ok(Read { pattern, spare }),
+        Ok(pattern) => Ok(Read {
+            tree: Counted { pattern, nodes },
+            spare,
+        }),
         Err(PatternErrorKind::UnbalancedParen) => Err(PatternError {
             kind: PatternErrorKind::UnbalancedParen,
             at: opening,
@@ -275,13 +271,35 @@ pub fn read_pattern(
     ensures sound { IfOk result (λ p. IsSoundTree (tree_of p)) }
     ensures none { IfErr result (λ e. UnlessMemory e.kind ((t : Tree) → Spells options.fold defs.now text.now t → ⊥)) }
 {
+    let mut names = Names::new(alloc);
+    read_with_names(alloc, text, defs, options, &mut names)
+}
+
+/// Reads a pattern as `read_pattern` does, by what is kept of names, and keeps those that it reads. So the patterns of one
+/// file, with one set of definitions and options, read each name once.
+pub fn read_with_names(
+    alloc: Global,
+    text: &[u8],
+    defs: &Defs,
+    options: ReadOptions,
+    names: &mut Names,
+) -> Result<Pattern, PatternError>
+    requires known_so_far { AreKnown options.fold defs.now (trees_of names.old) }
+    ensures found { IfOk result (λ p. Spells options.fold defs.now text.now (tree_of p)) }
+    ensures sound { IfOk result (λ p. IsSoundTree (tree_of p)) }
+    ensures known { OnOk result (AreKnown options.fold defs.now (trees_of names.new)) }
+    ensures none { IfErr result (λ e. UnlessMemory e.kind ((t : Tree) → Spells options.fold defs.now text.now t → ⊥)) }
+{
     let scope = Scope {
         defs,
         fold: options.fold,
     };
-    let mut names = Names::new(alloc);
-    match read_within(alloc, text, scope, MAX_OPEN, MAX_NODES, &mut names) {
-        Ok(Read { pattern, .. }) => Ok(pattern),
+    names.begin();
+    match read_within(alloc, text, scope, MAX_OPEN, MAX_NODES, names) {
+        Ok(Read { tree, .. }) => {
+            let Counted { pattern, .. } = tree;
+            Ok(pattern)
+        }
         Err(
             PatternError {
                 kind: PatternErrorKind::OutOfMemory,

@@ -12,37 +12,42 @@ ghost use Rattle.lexre.specs.Views.{tree_of};
 ghost use Rattle.lexclass.specs.declared.error.PatternErrorKind.TheVariants.{OutOfMemory};
 ghost use Rattle.lexre.specs.Limits.{max_open};
 
-use crate::counts::capped_nodes;
+use crate::counted::Counted;
 use crate::frames::{Frame, Stack};
 use crate::pattern::Pattern;
 use crate::symbols::{Sign, Symbol};
 use lexclass::{PatternError, PatternErrorKind};
 use std::alloc::Global;
 use std::mem;
+use std::rc::Rc;
 
 /// The most signs that may stand on one item.
 const MAX_SIGNS: u8 = 64;
 
 /// The pattern of a series: a part alone is itself.
-fn series(mut parts: Vec<Pattern>, last: Pattern) -> Result<Pattern, PatternErrorKind>
+fn series(
+    alloc: Global,
+    mut parts: Vec<Pattern>,
+    last: Pattern,
+) -> Result<Pattern, PatternErrorKind>
     ensures { MatchResult result (λ p. tree_of p ≡ series_tree (map tree_of parts.items) (tree_of last)) (λ e. e ≡ OutOfMemory) }
 {
     if parts.is_empty() {
         return Ok(last);
     }
     parts.push(last)?;
-    Ok(Pattern::Cat(parts))
+    Ok(Pattern::Cat(Rc::new(alloc, parts)?))
 }
 
 /// The pattern of a choice: a series alone is itself.
-fn choice(mut done: Vec<Pattern>, last: Pattern) -> Result<Pattern, PatternErrorKind>
+fn choice(alloc: Global, mut done: Vec<Pattern>, last: Pattern) -> Result<Pattern, PatternErrorKind>
     ensures { MatchResult result (λ p. tree_of p ≡ choice_tree (map tree_of done.items) (tree_of last)) (λ e. e ≡ OutOfMemory) }
 {
     if done.is_empty() {
         return Ok(last);
     }
     done.push(last)?;
-    Ok(Pattern::Alt(done))
+    Ok(Pattern::Alt(Rc::new(alloc, done)?))
 }
 
 impl Frame {
@@ -99,11 +104,11 @@ impl Stack {
     }
 
     /// Takes an item that begins at this place, and answers how many nodes it brings.
-    pub(crate) fn push(&mut self, item: Pattern, start: usize) -> Result<u64, PatternErrorKind>
-        ensures { StepsTo result (Some (push (tree_of item) (state_of self.old))) (item_adds (tree_of item) (state_of self.old)) (state_of self.new) }
+    pub(crate) fn push(&mut self, item: Counted, start: usize) -> Result<u64, PatternErrorKind>
+        ensures { StepsTo result (Some (push (tree_of item.pattern) (state_of self.old))) (item_adds (tree_of item.pattern) (state_of self.old)) (state_of self.new) }
     {
-        let added = capped_nodes(&item) + self.here.extra();
-        self.here.push(item, start)?;
+        let added = item.nodes + self.here.extra();
+        self.here.push(item.pattern, start)?;
         Ok(added)
     }
 
@@ -133,8 +138,8 @@ impl Stack {
         let added = outside.extra();
         let inside = mem::replace(&mut self.here, outside);
         let start = inside.opening;
-        let last = series(inside.parts, last)?;
-        let item = choice(inside.done, last)?;
+        let last = series(self.alloc, inside.parts, last)?;
+        let item = choice(self.alloc, inside.done, last)?;
         self.left += 1;
         self.here.push(item, start)?;
         Ok(added)
@@ -148,7 +153,7 @@ impl Stack {
             return Err(PatternErrorKind::MissingOperand);
         };
         let parts = mem::replace(&mut self.here.parts, Vec::new(self.alloc));
-        let whole = series(parts, last)?;
+        let whole = series(self.alloc, parts, last)?;
         self.here.done.push(whole)?;
         self.here.signs = 0;
         Ok(0)
@@ -179,7 +184,7 @@ impl Stack {
         if self.here.signs >= MAX_SIGNS {
             return Err(PatternErrorKind::TooDeep);
         }
-        let inner = Box::new(self.alloc, last)?;
+        let inner = Rc::new(self.alloc, last)?;
         let repeated = match sign {
             Sign::AnyTimes => Pattern::Star(inner),
             Sign::OnceOrMore => Pattern::Repeat(inner, 1, None),
@@ -200,7 +205,7 @@ impl Stack {
         if self.here.signs >= MAX_SIGNS {
             return Err(PatternErrorKind::TooDeep);
         }
-        let inner = Box::new(self.alloc, last)?;
+        let inner = Rc::new(self.alloc, last)?;
         self.here.last = Some(Pattern::Repeat(inner, least, most));
         self.here.signs += 1;
         Ok(1)
@@ -222,7 +227,7 @@ impl Stack {
         ensures { StepsTo result (step_of (symbol_of symbol.entry) (state_of self.old)) (adds (symbol_of symbol.entry) (state_of self.old)) (state_of self.new) }
     {
         match symbol {
-            Symbol::Item(item) => self.push(item, at),
+            Symbol::Item(item) => self.push(Counted::new(item), at),
             Symbol::Name(_) => Err(PatternErrorKind::UndefinedName),
             Symbol::Opening => self.open(at),
             Symbol::Closing => self.close(),
@@ -238,7 +243,12 @@ impl Stack {
             (λ p. finished (state_of self) ≡ Some (tree_of p))
             (λ e. UnlessMemory e (finished (state_of self) ≡ None)) }
     {
-        let Stack { here, outer, .. } = self;
+        let Stack {
+            alloc,
+            here,
+            outer,
+            ..
+        } = self;
         let Frame {
             done,
             parts,
@@ -251,7 +261,7 @@ impl Stack {
         if !outer.is_empty() {
             return Err(PatternErrorKind::UnbalancedParen);
         }
-        let last = series(parts, last)?;
-        choice(done, last)
+        let last = series(alloc, parts, last)?;
+        choice(alloc, done, last)
     }
 }

@@ -12,6 +12,7 @@ use crate::{
 };
 use lexclass::class_at;
 use std::alloc::{AllocError, Global};
+use std::rc::Rc;
 use std::test::Fail;
 
 fn byte(byte: u8) -> Pattern
@@ -24,7 +25,7 @@ fn star(alloc: Global, inner: Pattern) -> Result<Pattern, AllocError>
     requires { IsSoundTree (tree_of inner) }
     ensures { IfOk result (λ p. IsSoundTree (tree_of p)) }
 {
-    Ok(Pattern::Star(Box::new(alloc, inner)?))
+    Ok(Pattern::Star(Rc::new(alloc, inner)?))
 }
 
 fn repeat(alloc: Global, inner: Pattern, m: u8, n: Option<u8>) -> Result<Pattern, AllocError>
@@ -32,7 +33,7 @@ fn repeat(alloc: Global, inner: Pattern, m: u8, n: Option<u8>) -> Result<Pattern
     requires in_order { ForSome n (λ n. (m ≤ n) × (1 ≤ n)) }
     ensures { IfOk result (λ p. IsSoundTree (tree_of p)) }
 {
-    Ok(Pattern::Repeat(Box::new(alloc, inner)?, m, n))
+    Ok(Pattern::Repeat(Rc::new(alloc, inner)?, m, n))
 }
 
 fn cat(alloc: Global, first: Pattern, second: Pattern) -> Result<Pattern, AllocError>
@@ -40,7 +41,8 @@ fn cat(alloc: Global, first: Pattern, second: Pattern) -> Result<Pattern, AllocE
     requires second { IsSoundTree (tree_of second) }
     ensures { IfOk result (λ p. IsSoundTree (tree_of p)) }
 {
-    Ok(Pattern::Cat(vec![in alloc; first, second]?))
+    let parts = vec![in alloc; first, second]?;
+    Ok(Pattern::Cat(Rc::new(alloc, parts)?))
 }
 
 fn alt(alloc: Global, first: Pattern, second: Pattern) -> Result<Pattern, AllocError>
@@ -48,7 +50,8 @@ fn alt(alloc: Global, first: Pattern, second: Pattern) -> Result<Pattern, AllocE
     requires second { IsSoundTree (tree_of second) }
     ensures { IfOk result (λ p. IsSoundTree (tree_of p)) }
 {
-    Ok(Pattern::Alt(vec![in alloc; first, second]?))
+    let parts = vec![in alloc; first, second]?;
+    Ok(Pattern::Alt(Rc::new(alloc, parts)?))
 }
 
 #[test]
@@ -222,7 +225,7 @@ fn lengthened(alloc: Global, first: Pattern, bytes: u32) -> Result<Pattern, Allo
     for _ in 0..bytes {
         parts.push(byte(b'a'))?;
     }
-    Ok(Pattern::Cat(parts))
+    Ok(Pattern::Cat(Rc::new(alloc, parts)?))
 }
 
 #[test]

@@ -18,6 +18,7 @@ pub mod Endings
 pub mod SoundSides
 pub mod EndRules
 pub mod Keeping
+pub mod KeptNames
 pub mod Readings
 pub mod RuleExamples
 pub mod Refusals

@@ -17,7 +17,7 @@ use lexlines::{
     Declarations, MAX_FILE_BYTES, Section, Skipped, SpecError, SpecErrorKind, is_blank,
     read_section, split_line, without_returns,
 };
-use lexre::ReadOptions;
+use lexre::{Names, ReadOptions};
 use std::alloc::Global;
 
 /// Whether a text has a byte other than blanks and newlines.
@@ -71,7 +71,15 @@ fn read_on(alloc: Global, section: Section<'_>) -> Result<Spec, SpecError>
     } = section;
     let (_, text) = split_line(rest);
     let mut skipped = Skipped::new(alloc);
-    match read_rules(alloc, &declarations, &mut skipped, text, line + 1) {
+    let mut names = Names::new(alloc);
+    match read_rules(
+        alloc,
+        &declarations,
+        &mut names,
+        &mut skipped,
+        text,
+        line + 1,
+    ) {
         Ok(found) => joined(alloc, declarations, found, skipped),
         Err(fault) => Err(fault),
     }

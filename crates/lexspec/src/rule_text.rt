@@ -1,5 +1,5 @@
 //! The rules of a file, but for their actions. (POSIX, lex, Rules in lex; flex, Patterns, End-of-File Rules.)
-ghost use Rattle.std.specs.Prelude.{◌≡◌, ℕ, ◌≤◌, true, List, length, Option, Some, None, option_map, IfOk, IfErr, IfSome, OnErr};
+ghost use Rattle.std.specs.Prelude.{◌≡◌, ℕ, ◌≤◌, true, List, length, Option, Some, None, option_map, IfOk, IfErr, IfSome, OnErr, OnOk};
 ghost use Rattle.lexmeaning.specs.Tree.{Tree};
 ghost use Rattle.lexmeaning.specs.Shapes.{IsSoundTree};
 ghost use Rattle.lexre.specs.Views.{tree_of};
@@ -11,6 +11,7 @@ ghost use Rattle.lexspec.specs.RuleItems.{IsTrail};
 ghost use Rattle.lexspec.specs.RuleViews.{cut_of};
 ghost use Rattle.lexspec.specs.SubjectViews.{trailing_of};
 ghost use Rattle.lexspec.specs.ItemReads.{NoRules, NoSides, ReadsItem};
+ghost use Rattle.lexspec.specs.KeptNames.{AreKept};
 ghost use Rattle.lexspec.specs.SoundSides.{HasSoundFront};
 ghost use Rattle.lexmeaning.specs.Sound.{AreSoundSides};
 ghost use Rattle.lexlines.specs.Outcome.{UnlessMemory};
@@ -24,7 +25,7 @@ use crate::rule::Rule;
 use crate::subject::{Subject, Trailing, conditions_at, subject_at};
 use lexlines::{Declarations, SpecErrorKind, skip_blanks};
 use lexmachine::Cut;
-use lexre::{ByteSet, Pattern, PatternError, ReadOptions, read_pattern};
+use lexre::{ByteSet, Names, Pattern, PatternError, ReadOptions, read_with_names};
 use std::alloc::Global;
 
 /// A rule without its statements, or the conditions of an `<<EOF>>` rule.
@@ -54,17 +55,20 @@ struct Sides {
 fn read_side(
     alloc: Global,
     declarations: &Declarations,
+    names: &mut Names,
     text: &[u8],
     at: usize,
 ) -> Result<Pattern, SpecErrorKind>
+    requires known_so_far { AreKept declarations.now names.old }
     ensures found { IfOk result (λ p. Spells declarations.now.fold declarations.now.defs text.now (tree_of p)) }
     ensures sound { IfOk result (λ p. IsSoundTree (tree_of p)) }
+    ensures known { OnOk result (AreKept declarations.now names.new) }
     ensures none { IfErr result (λ e. UnlessMemory e ((t : Tree) → Spells declarations.now.fold declarations.now.defs text.now t → ⊥)) }
 {
     let options = ReadOptions {
         fold: declarations.fold,
     };
-    match read_pattern(alloc, text, &declarations.defs, options) {
+    match read_with_names(alloc, text, &declarations.defs, options, names) {
         Ok(pattern) => Ok(pattern),
         Err(fault) => Err(SpecErrorKind::Pattern(PatternError {
             kind: fault.kind,
@@ -77,17 +81,20 @@ fn read_side(
 fn read_trail(
     alloc: Global,
     declarations: &Declarations,
+    names: &mut Names,
     trail: Trailing<'_>,
     at: usize,
 ) -> Result<Option<Pattern>, SpecErrorKind>
+    requires known_so_far { AreKept declarations.now names.old }
     ensures found { IfOk result (λ t. IsTrail declarations.now.fold declarations.now.defs (trailing_of trail.entry) (option_map tree_of t)) }
     ensures sound { IfOk result (λ t. IfSome t (λ p. IsSoundTree (tree_of p))) }
+    ensures known { OnOk result (AreKept declarations.now names.new) }
     ensures none { IfErr result (λ e. UnlessMemory e ((t : Option Tree) → IsTrail declarations.now.fold declarations.now.defs (trailing_of trail.entry) t → ⊥)) }
 {
     match trail {
         Trailing::None => Ok(None),
         Trailing::LineEnd => Ok(Some(Pattern::Set(ByteSet::of(b'\n')))),
-        Trailing::Pattern(text) => match read_side(alloc, declarations, text, at) {
+        Trailing::Pattern(text) => match read_side(alloc, declarations, names, text, at) {
             Ok(pattern) => Ok(Some(pattern)),
             Err(kind) => Err(kind),
         },
@@ -99,22 +106,25 @@ fn read_trail(
 fn read_sides(
     alloc: Global,
     declarations: &Declarations,
+    names: &mut Names,
     head: &[u8],
     trail: Trailing<'_>,
     at: usize,
 ) -> Result<Sides, SpecErrorKind>
+    requires known_so_far { AreKept declarations.now names.old }
     ensures head { IfOk result (λ s. Spells declarations.now.fold declarations.now.defs head.now (tree_of s.head)) }
     ensures trail { IfOk result (λ s. IsTrail declarations.now.fold declarations.now.defs (trailing_of trail.entry) (option_map tree_of s.trail)) }
     ensures cut { IfOk result (λ s. IsCutOf (tree_of s.head) (option_map tree_of s.trail) (cut_of s.cut)) }
     ensures sound { IfOk result (λ s. AreSoundSides (tree_of s.head) (option_map tree_of s.trail)) }
+    ensures known { OnOk result (AreKept declarations.now names.new) }
     ensures none { IfErr result (λ e. UnlessMemory e (NoSides declarations.now head.now (trailing_of trail.entry))) }
 {
     let after = at.saturating_add(head.len()).saturating_add(1);
-    let head = match read_side(alloc, declarations, head, at) {
+    let head = match read_side(alloc, declarations, names, head, at) {
         Ok(pattern) => pattern,
         Err(kind) => return Err(kind),
     };
-    let trail = match read_trail(alloc, declarations, trail, after) {
+    let trail = match read_trail(alloc, declarations, names, trail, after) {
         Ok(pattern) => pattern,
         Err(kind) => return Err(kind),
     };
@@ -130,13 +140,16 @@ fn read_sides(
 pub(crate) fn read_rule_text<'a>(
     alloc: Global,
     declarations: &Declarations,
+    names: &mut Names,
     text: &'a [u8],
     line: u32,
 ) -> Result<RuleText<'a>, SpecErrorKind>
     requires starts { starts_rule text.now ≡ true }
+    requires known_so_far { AreKept declarations.now names.old }
     requires few { length declarations.now.conditions.items ≤ max_conditions }
     ensures found { IfOk result (λ x. ReadsItem declarations.now line text.now x) }
     ensures sound { IfOk result (λ x. HasSoundFront x.front) }
+    ensures known { OnOk result (AreKept declarations.now names.new) }
     ensures none { IfErr result (λ e. UnlessMemory e (NoRules declarations.now text.now)) }
 {
     let Some((asked, after_list)) = conditions_at(text) else {
@@ -159,7 +172,7 @@ pub(crate) fn read_rule_text<'a>(
             trail,
         } => {
             let place = at.saturating_add(usize::from(anchored));
-            match read_sides(alloc, declarations, head, trail, place) {
+            match read_sides(alloc, declarations, names, head, trail, place) {
                 Ok(sides) => {
                     let Sides { head, trail, cut } = sides;
                     let rule = Rule {

@@ -5,6 +5,7 @@ ghost use Rattle.lexlines.specs.Lines.{newlines};
 ghost use Rattle.lexspec.specs.ItemReads.{NoneLeft};
 ghost use Rattle.lexspec.specs.Agreeing.{Agrees};
 ghost use Rattle.lexspec.specs.Keeping.{Keeps};
+ghost use Rattle.lexspec.specs.KeptNames.{AreKept};
 ghost use Rattle.lexspec.specs.SkipViews.{lines_with};
 ghost use Rattle.lexspec.specs.EndOpenings.{begins_end};
 ghost use Rattle.lexspec.specs.RulesReads.{HasRules, NoSuchRules, line_of_last};
@@ -22,6 +23,7 @@ use crate::rules_so_far::RulesSoFar;
 use crate::skips::{Skip, skip_at};
 use crate::subject::conditions_at;
 use lexlines::{Declarations, Skipped, SpecError, SpecErrorKind, newlines_before};
+use lexre::Names;
 use std::alloc::{AllocError, Global};
 
 /// The most rules.
@@ -81,11 +83,13 @@ impl RulesSoFar {
         self,
         alloc: Global,
         declarations: &Declarations,
+        names: &mut Names,
         skipped: &mut Skipped,
         text: &'a [u8],
         line: u32,
     ) -> Result<(RulesSoFar, &'a [u8]), SpecErrorKind>
         requires few { length declarations.now.conditions.items ≤ max_conditions }
+        requires known_so_far { AreKept declarations.now names.old }
         requires some { 0 < length text.now }
         requires no_end { begins (codes "%%") text.now ≡ false }
         requires line { line + 1 < 2 ^ 32 }
@@ -93,6 +97,7 @@ impl RulesSoFar {
         ensures found { IfOk result (λ x. (start : ℕ) (whole : List ℕ) → Agrees declarations.now start whole self line text.now
             → Agrees declarations.now start whole x.0 (line + (newlines text.now - newlines x.1.now)) x.1.now) }
         ensures keeps { IfOk result (λ x. Keeps declarations.now self → Keeps declarations.now x.0) }
+        ensures known { OnOk result (AreKept declarations.now names.new) }
         ensures counts { IfOk result (λ x. newlines (take (length text.now - length x.1.now) text.now) + newlines x.1.now ≡ newlines text.now) }
         ensures shorter { IfOk result (λ x. length x.1.now < length text.now) }
         ensures none { IfErr result (λ e. UnlessMemory e (NoneLeft declarations.now self line text.now)) }
@@ -112,7 +117,7 @@ impl RulesSoFar {
         } else if self.rules.len() + self.waiting.len() >= MAX_RULES {
             return Err(SpecErrorKind::TooManyRules);
         }
-        let found = match read_rule_text(alloc, declarations, text, line) {
+        let found = match read_rule_text(alloc, declarations, names, text, line) {
             Ok(found) => found,
             Err(kind) => return Err(kind),
         };
@@ -170,11 +175,13 @@ impl RulesSoFar {
 pub(crate) fn read_rules<'a>(
     alloc: Global,
     declarations: &Declarations,
+    names: &mut Names,
     skipped: &mut Skipped,
     text: &'a [u8],
     first: u32,
 ) -> Result<RulesSection<'a>, SpecError>
     requires few { length declarations.now.conditions.items ≤ max_conditions }
+    requires known_so_far { AreKept declarations.now names.old }
     requires short { length text.now ≤ max_file_bytes }
     requires first { first ≤ max_file_bytes + 2 }
     ensures found { IfOk result (λ s. HasRules declarations.now first text.now s) }
@@ -186,7 +193,14 @@ pub(crate) fn read_rules<'a>(
     let mut line = first;
     'items: while !rest.is_empty() && !rest.starts_with(b"%%") {
         let waiting = progress.line_waiting(line);
-        let (next, after) = match progress.with_item(alloc, declarations, skipped, rest, line) {
+        let (next, after) = match progress.with_item(
+            alloc,
+            declarations,
+            names,
+            skipped,
+            rest,
+            line,
+        ) {
             Ok(found) => found,
             Err(kind) => {
                 let line = if kind == SpecErrorKind::DanglingBar {

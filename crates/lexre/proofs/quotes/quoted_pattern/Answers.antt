@@ -11,21 +11,21 @@ use Rattle.lexre.proofs.quotes.quoted_pattern.Goals as goal
 pub returns-then-bytes-gt-MAX_QUOTED_BYTES-clause-tree : goal.returns-then-bytes-gt-MAX_QUOTED_BYTES-clause-tree
 returns-then-bytes-gt-MAX_QUOTED_BYTES-clause-tree c = many_bytes c.args.fold c.args.bytes.now c.if-bytes-gt-MAX_QUOTED_BYTES.true
 
-pub returns-after-loop-byte-clause-tree : goal.returns-after-loop-byte-clause-tree
-returns-after-loop-byte-clause-tree c =
+pub returns-in_ok-new-in_default-clause-tree : goal.returns-in_ok-new-in_default-clause-tree
+returns-in_ok-new-in_default-clause-tree c =
     let bytes = c.args.bytes.now in
     let all : take c.loop-byte.byte-index bytes ≡ bytes = take_all _ _ (omega arith) in
     let many : 2 ≤ length bytes = omega arith in
     let tree : Cat (trees (map tree_of c.loop-byte.parts.items)) ≡ quoted_tree c.args.fold bytes =
     ap (λ ts. Cat (trees ts)) (c.loop-byte.invariant ∙ ap (byte_trees c.args.fold) all) ∙ tree_of_many c.args.fold bytes many in
-    search (rules, the_lemmas, tree)
+    search (rules, the_lemmas, tree, c.in_ok-new-in_default.ensures)
 
-pub returns-after-loop-byte-clause-sound : goal.returns-after-loop-byte-clause-sound
-returns-after-loop-byte-clause-sound c =
+pub returns-in_ok-new-in_default-clause-sound : goal.returns-in_ok-new-in_default-clause-sound
+returns-in_ok-new-in_default-clause-sound c =
     let bytes = c.args.bytes.now in
     let all : take c.loop-byte.byte-index bytes ≡ bytes = take_all _ _ (omega arith) in
     let many : 2 ≤ length bytes = omega arith in
     let tree : Cat (trees (map tree_of c.loop-byte.parts.items)) ≡ quoted_tree c.args.fold bytes =
     ap (λ ts. Cat (trees ts)) (c.loop-byte.invariant ∙ ap (byte_trees c.args.fold) all) ∙ tree_of_many c.args.fold bytes many in
     let h : IsSoundTree (Cat (trees (map tree_of c.loop-byte.parts.items))) = subst IsSoundTree (sym tree) (sound_quoted c.args.fold bytes (λ k. let f = c.type_inv.bytes k in omega arith)) in
-    search (rules, the_lemmas, h)
+    search (rules, the_lemmas, h, c.in_ok-new-in_default.ensures)

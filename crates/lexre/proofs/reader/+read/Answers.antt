@@ -1,22 +1,25 @@
-use Rattle.std.proofs.Common.{ℕ, ◌-◌, rules, ◌∙◌, sym, subst, ap, arith}
+use Rattle.std.proofs.Common.{ℕ, ◌-◌, List, rules, ◌∙◌, sym, subst, ap, arith}
 use Rattle.std.proofs.lemmas.Result.{err_from_is_err_and}
-use Rattle.std.specs.FinMap.{get}
+use Rattle.std.specs.FinMap.{get, insert}
+use Rattle.lexmeaning.specs.Tree.{Tree}
 use Rattle.lexclass.specs.Lexical.{symbol_at}
-use Rattle.lexre.specs.Names.{Trees, AreKnown, trees_of}
+use Rattle.lexre.specs.Cycles.{AllLeadToText}
+use Rattle.lexre.specs.Names.{Trees, AreKnown, open_of, trees_of}
 use Rattle.lexre.specs.Reading.{lowered}
 use Rattle.lexre.specs.StackViews.{state_of}
 use Rattle.lexre.specs.SymbolViews.{symbol_of}
 use Rattle.lexclass.specs.Symbols.{item}
 use Rattle.lexre.specs.Views.{tree_of}
 use Rattle.lexclass.specs.declared.error.PatternErrorKind.TheVariants.{UnbalancedParen}
+use Rattle.lexre.proofs.CycleLaws.{all_lead_front, all_lead_on, among_open, ends_step, refused_cycle}
 use Rattle.lexre.proofs.FrontLaws.{symbol_takes}
 use Rattle.lexre.proofs.LowerLaws.{finished_lower, name_lower, spared_name, stands_rises, step_lower}
 use Rattle.lexre.proofs.NameLaws.{known_usable, still_known, too_many_known}
 use Rattle.lexre.proofs.OneTree.{some_is, step_limit}
-use Rattle.lexre.proofs.ReaderLaws.{nothing_at, nothing_left, something_left, unless_weaker, retold, agree_step, refused_front, refused_step, refused_end, found_at_end, few_at_end, no_substitute, left_of, steps_from, steps_name, plain_of, no_name_step, too_many_named, too_many_plain, counted_plain}
+use Rattle.lexre.proofs.ReaderLaws.{nothing_at, nothing_left, something_left, unless_weaker, retold, agree_step, refused_front, refused_step, refused_end, found_at_end, few_at_end, counted_at_end, no_substitute, left_of, steps_from, steps_name, plain_of, no_name_step, too_many_named, too_many_plain, counted_plain}
 use Rattle.lexre.proofs.SoundLaws.{sound_step, sound_finished}
 use Rattle.lexre.proofs.reader.+read.Goals as goal
-use Rattle.lexre.proofs.reader.+read.Goals.{read_name-then-substitute-capped_nodes+in_ok-keep-in-Ok, read_name-else-substitute-capped_nodes, step-in-Name+in_ok-pattern-in-Name+in_ok-nodes-in-Name, step-in_default+in_ok-nodes-in_default}
+use Rattle.lexre.proofs.reader.+read.Goals.{step-in-Name+in_ok-tree-in-Name+in_ok-nodes-in-Name, step-in_default+in_ok-nodes-in_default}
 use Rattle.lexre.specs.declared.reader.Taken.{Taken}
 
 abbrev nodes_of : Taken → ℕ
@@ -27,8 +30,12 @@ spare_of x = x.spare
 
 pub read_name-returns-in-Err-clause-none : goal.read_name-returns-in-Err-clause-none
 read_name-returns-in-Err-clause-none t c =
-    retold c.in-Err.error.kind _ _ c.told_of_name-in-Err.ensures.memory
-    (unless_weaker c.in-Err.error.kind _ _ (no_substitute c.args.scope.fold c.args.scope.defs.now c.args.room c.args.left c.args.name.now _ (sym c.in-Some-find.ensures)) c.in-Err.ensures.none)
+    unless_weaker c.in-Err.error.kind _ _ (no_substitute c.args.scope.fold c.args.scope.defs.now c.args.room c.args.left c.args.name.now _ (sym c.in-Some-find.ensures)) c.in-Err.ensures.none
+
+pub read_name-returns-then-is_open-clause-none : goal.read_name-returns-then-is_open-clause-none
+read_name-returns-then-is_open-clause-none t c =
+    refused_cycle c.args.scope.fold c.args.scope.defs.now c.args.room c.args.left (open_of c.args.names.now) c.args.name.now c.requires.lead
+    (among_open c.args.name.now c.args.names.now.being_read.items (sym c.is_open.ensures ∙ c.if-is_open.true))
 
 pub read_within-returns-in-Err-clause-none : goal.read_within-returns-in-Err-clause-none
 read_within-returns-in-Err-clause-none t c =
@@ -40,6 +47,32 @@ pub read_within-returns-in-Err-step-clause-none : goal.read_within-returns-in-Er
 read_within-returns-in-Err-step-clause-none t c =
     rw c.fault.ensures (refused_step (symbol_at c.args.scope.fold) (get c.args.scope.defs.now) (nothing_at c.args.scope.fold) c.in-Err-step.kind c.args.room _ c.args.left (state_of c.loop-rest.stack) c.loop-rest.rest.now c.args.text.now _ _
     c.loop-rest.invariant.agree c.in-Ok.ensures.front (let k = c.loop-rest.invariant.counted in omega arith) c.in-Err-step.ensures.none)
+
+pub read_within-step-requires : goal.read_within-step-requires
+read_within-step-requires t c =
+    let Q : List (List ℕ) → Type 0 = λ x. AllLeadToText c.args.scope.fold c.args.scope.defs.now x c.args.text.now in
+    let lead = subst Q (sym c.loop-rest.invariant.same_open) c.requires.lead in (
+      search rules,
+      (
+        search rules,
+        (
+          c.in-Ok.ensures.sound,
+          (
+            c.loop-rest.invariant.sound,
+            (
+              c.loop-rest.invariant.known,
+              all_lead_front c.args.scope.fold c.args.scope.defs.now _ c.args.text.now c.loop-rest.rest.now c.in-Ok.found.1.now _ lead c.loop-rest.invariant.ends c.in-Ok.ensures.front,
+            ),
+          ),
+        ),
+      ),
+    )
+
+pub read_within-invariant_of-result : goal.read_within-invariant_of-result
+read_within-invariant_of-result t c = record {
+  counted = counted_at_end (state_of c.loop-rest.stack) (tree_of c.in-Ok-finish.pattern) c.loop-rest.nodes c.in-Ok-finish.ensures c.loop-rest.invariant.counted
+      (let h = c.loop-rest.invariant.few in let k = c.requires.room in omega arith);
+}
 
 pub read_within-loop-rest-smaller : goal.read_within-loop-rest-smaller
 read_within-loop-rest-smaller t c = symbol_takes c.args.scope.fold c.loop-rest.rest.now c.in-Ok.found.1.now _ c.in-Ok.ensures.front
@@ -54,6 +87,9 @@ read_within-loop-rest-preserved t c = record {
   few = (let k = c.loop-rest.invariant.few in omega (arith, c.in-Ok-step.ensures.few));
   sound = c.in-Ok-step.ensures.sound;
   known = c.in-Ok-step.ensures.known;
+  same_open = c.in-Ok-step.ensures.same_open ∙ c.loop-rest.invariant.same_open;
+  ends = ends_step (symbol_at c.args.scope.fold) (get c.args.scope.defs.now) (nothing_at c.args.scope.fold) c.args.text.now c.loop-rest.rest.now c.in-Ok.found.1.now _
+      c.loop-rest.invariant.ends c.in-Ok.ensures.front;
   lower = λ e h.
       let k = c.min-spare.ensures in
       let j = c.loop-rest.invariant.below_now in
@@ -86,6 +122,7 @@ read_within-returns-in-Err-finish t c = record {
   few = tt;
   sound = tt;
   known = tt;
+  same_open = tt;
   none = refused_end (symbol_at c.args.scope.fold) (get c.args.scope.defs.now) (nothing_at c.args.scope.fold) c.in-Err-finish.kind c.args.room c.args.left (state_of c.loop-rest.stack) c.loop-rest.rest.now c.args.text.now
       c.loop-rest.invariant.agree (nothing_left _ (search rules)) c.in-Err-finish.ensures;
 }
@@ -93,48 +130,57 @@ read_within-returns-in-Err-finish t c = record {
 pub read_within-returns-in-Ok-finish-clause-sound : goal.read_within-returns-in-Ok-finish-clause-sound
 read_within-returns-in-Ok-finish-clause-sound t c = sound_finished (state_of c.loop-rest.stack) (tree_of c.in-Ok-finish.pattern) c.loop-rest.invariant.sound c.in-Ok-finish.ensures
 
-pub read_name-returns-then-capped_nodes-room-clause-none : goal.read_name-returns-then-capped_nodes-room-clause-none
-read_name-returns-then-capped_nodes-room-clause-none t c =
-    let (below, stands, sound) = known_usable c.args.scope.fold c.args.scope.defs.now (trees_of c.args.names.now) c.args.left c.args.name.now (tree_of c.in-Some.kept.now.pattern) c.in-Some.kept.now.needed
+pub read_name-returns-then-kept-room-clause-none : goal.read_name-returns-then-kept-room-clause-none
+read_name-returns-then-kept-room-clause-none t c =
+    let (below, stands, sound) = known_usable c.args.scope.fold c.args.scope.defs.now (trees_of c.args.names.now) c.args.left c.args.name.now (tree_of c.in-Some.kept.now.tree.pattern) c.in-Some.kept.now.needed
     c.requires.known_so_far (sym c.in-Some.ensures) in
-    too_many_known c.args.scope.fold c.args.scope.defs.now c.args.room c.args.left c.args.name.now (tree_of c.in-Some.kept.now.pattern)
-    (stands_rises c.args.scope.fold c.args.scope.defs.now c.in-Some.kept.now.needed c.args.left c.args.name.now (tree_of c.in-Some.kept.now.pattern) stands below) (omega arith)
+    too_many_known c.args.scope.fold c.args.scope.defs.now c.args.room c.args.left c.args.name.now (tree_of c.in-Some.kept.now.tree.pattern)
+    (stands_rises c.args.scope.fold c.args.scope.defs.now c.in-Some.kept.now.needed c.args.left c.args.name.now (tree_of c.in-Some.kept.now.tree.pattern) stands below) (omega (arith, c.in-Some.kept.now.tree.counted))
 
 pub read_name-read_within-requires : goal.read_name-read_within-requires
 read_name-read_within-requires t c =
     let P : Trees → Type 0 = λ x. AreKnown c.args.scope.fold c.args.scope.defs.now x in
-    (search rules, (search rules, (c.requires.room, subst P (sym c.enter.ensures.trees) c.requires.known_so_far)))
+    let Q : List (List ℕ) → Type 0 = λ x. AllLeadToText c.args.scope.fold c.args.scope.defs.now x c.in-Some-find.substitute.now in (
+      search rules,
+      (
+        search rules,
+        (
+          c.requires.room,
+          (
+            subst P (sym c.enter.ensures.trees) c.requires.known_so_far,
+            subst Q (sym c.in_ok-enter.ensures.entered) (all_lead_on c.args.scope.fold c.args.scope.defs.now (open_of c.args.names.now) c.args.name.now _ (sym c.in-Some-find.ensures) c.requires.lead),
+          ),
+        ),
+      ),
+    )
 
-pub read_name-returns-after-substitute-capped_nodes-clause-known : goal.read_name-returns-after-substitute-capped_nodes-clause-known
-read_name-returns-after-substitute-capped_nodes-clause-known t c =
+pub read_name-returns-in_ok-keep-in-Ok-clause-known : goal.read_name-returns-in_ok-keep-in-Ok-clause-known
+read_name-returns-in_ok-keep-in-Ok-clause-known t c =
     let P : Trees → Type 0 = λ x. AreKnown c.args.scope.fold c.args.scope.defs.now x in
     let closed : P (trees_of c.leave.new.self) = subst P (sym c.leave.ensures.trees) c.in-Ok.ensures.known in
-    elim c.if-substitute-capped_nodes.branch [
-      | read_name-then-substitute-capped_nodes+in_ok-keep-in-Ok w ↦
-          rw w.names-is (subst P (sym w.in_ok-keep-in-Ok.ensures)
-          (still_known c.args.scope.fold c.args.scope.defs.now (trees_of c.leave.new.self) c.args.name.now (tree_of c.in-Ok.field-0.pattern) (c.args.left - c.in-Ok.field-0.spare) closed
-          (spared_name c.args.scope.fold c.args.scope.defs.now c.args.left c.in-Ok.field-0.spare c.args.name.now _ (tree_of c.in-Ok.field-0.pattern) c.if-left-eq0.false c.in-Ok.ensures.spare
-          (sym c.in-Some-find.ensures) c.in-Ok.ensures.found)
-          c.in-Ok.ensures.sound))
-      | read_name-else-substitute-capped_nodes w ↦ rw w.names-is closed
-    ]
+    let Q : Tree → Type 0 = λ x. P (insert (trees_of c.leave.new.self) c.args.name.now (x, c.args.left - c.in-Ok.field-0.spare)) in
+    subst P (sym c.in_ok-keep-in-Ok.ensures.trees) (subst Q (sym c.in_ok-shared-in-Ok.ensures)
+    (still_known c.args.scope.fold c.args.scope.defs.now (trees_of c.leave.new.self) c.args.name.now (tree_of c.in-Ok.field-0.tree.pattern) (c.args.left - c.in-Ok.field-0.spare) closed
+    (spared_name c.args.scope.fold c.args.scope.defs.now c.args.left c.in-Ok.field-0.spare c.args.name.now _ (tree_of c.in-Ok.field-0.tree.pattern) c.if-left-eq0.false c.in-Ok.ensures.spare
+    (sym c.in-Some-find.ensures) c.in-Ok.ensures.found)
+    c.in-Ok.ensures.sound))
 
 pub read_name-returns-in-Some-clause-sound : goal.read_name-returns-in-Some-clause-sound
 read_name-returns-in-Some-clause-sound t c =
-    rw c.in_ok-copy.ensures
-    (known_usable c.args.scope.fold c.args.scope.defs.now (trees_of c.args.names.now) c.args.left c.args.name.now (tree_of c.in-Some.kept.now.pattern) c.in-Some.kept.now.needed
+    rw c.in_ok-shared.ensures
+    (known_usable c.args.scope.fold c.args.scope.defs.now (trees_of c.args.names.now) c.args.left c.args.name.now (tree_of c.in-Some.kept.now.tree.pattern) c.in-Some.kept.now.needed
     c.requires.known_so_far (sym c.in-Some.ensures)).2
 
-pub step-returns-in_err-pattern-in-Name-clause-none : goal.step-returns-in_err-pattern-in-Name-clause-none
-step-returns-in_err-pattern-in-Name-clause-none t c =
+pub step-returns-in_err-tree-in-Name-clause-none : goal.step-returns-in_err-tree-in-Name-clause-none
+step-returns-in_err-tree-in-Name-clause-none t c =
     let p = err_from_is_err_and c.from_residual.result c.from_residual.ensures.1 in
-    rw (p.1, p.2, c.in-Name.is) (no_name_step c.args.scope.fold c.args.scope.defs.now _ c.args.room (state_of c.args.stack.now) c.in-Name.name.now c.in_err-pattern-in-Name.ensures.none)
+    rw (p.1, p.2, c.in-Name.is) (no_name_step c.args.scope.fold c.args.scope.defs.now _ c.args.room (state_of c.args.stack.now) c.in-Name.name.now c.in_err-tree-in-Name.ensures.none)
 
 pub step-returns-then-taken-room-clause-none : goal.step-returns-then-taken-room-clause-none
 step-returns-then-taken-room-clause-none t c = elim c.match-symbol.branch [
-  | step-in-Name+in_ok-pattern-in-Name+in_ok-nodes-in-Name w ↦
-      rw w.in-Name.is (too_many_named c.args.scope.fold c.args.scope.defs.now c.args.room c.match-symbol.taken.nodes (state_of c.args.stack.now) w.in-Name.name.now (tree_of w.in_ok-pattern-in-Name.field-0.pattern)
-      (stands_rises c.args.scope.fold c.args.scope.defs.now (c.args.stack.now.left - w.in_ok-pattern-in-Name.field-0.spare) c.args.stack.now.left w.in-Name.name.now (tree_of w.in_ok-pattern-in-Name.field-0.pattern) w.in_ok-pattern-in-Name.ensures.found (omega arith))
+  | step-in-Name+in_ok-tree-in-Name+in_ok-nodes-in-Name w ↦
+      rw w.in-Name.is (too_many_named c.args.scope.fold c.args.scope.defs.now c.args.room c.match-symbol.taken.nodes (state_of c.args.stack.now) w.in-Name.name.now (tree_of w.in_ok-tree-in-Name.field-0.tree.pattern)
+      (stands_rises c.args.scope.fold c.args.scope.defs.now (c.args.stack.now.left - w.in_ok-tree-in-Name.field-0.spare) c.args.stack.now.left w.in-Name.name.now (tree_of w.in_ok-tree-in-Name.field-0.tree.pattern) w.in_ok-tree-in-Name.ensures.found (omega arith))
       (ap nodes_of w.taken-is ∙ w.in_ok-nodes-in-Name.ensures.1) c.if-taken-room.true)
   | step-in_default+in_ok-nodes-in_default w ↦
       too_many_plain c.args.scope.fold c.args.scope.defs.now c.args.room c.match-symbol.taken.nodes (state_of c.args.stack.now) (state_of w.take.new.self) (symbol_of c.args.symbol)
@@ -143,9 +189,9 @@ step-returns-then-taken-room-clause-none t c = elim c.match-symbol.branch [
 
 pub step-returns-clause-found : goal.step-returns-clause-found
 step-returns-clause-found t c = elim c.match-symbol.branch [
-  | step-in-Name+in_ok-pattern-in-Name+in_ok-nodes-in-Name w ↦
-      rw (w.stack-is, w.in-Name.is) (steps_name c.args.scope.fold c.args.scope.defs.now (state_of c.args.stack.now) (state_of w.push.new.self) w.in-Name.name.now (tree_of w.in_ok-pattern-in-Name.field-0.pattern)
-      (stands_rises c.args.scope.fold c.args.scope.defs.now (c.args.stack.now.left - w.in_ok-pattern-in-Name.field-0.spare) c.args.stack.now.left w.in-Name.name.now (tree_of w.in_ok-pattern-in-Name.field-0.pattern) w.in_ok-pattern-in-Name.ensures.found (omega arith))
+  | step-in-Name+in_ok-tree-in-Name+in_ok-nodes-in-Name w ↦
+      rw (w.stack-is, w.in-Name.is) (steps_name c.args.scope.fold c.args.scope.defs.now (state_of c.args.stack.now) (state_of w.push.new.self) w.in-Name.name.now (tree_of w.in_ok-tree-in-Name.field-0.tree.pattern)
+      (stands_rises c.args.scope.fold c.args.scope.defs.now (c.args.stack.now.left - w.in_ok-tree-in-Name.field-0.spare) c.args.stack.now.left w.in-Name.name.now (tree_of w.in_ok-tree-in-Name.field-0.tree.pattern) w.in_ok-tree-in-Name.ensures.found (omega arith))
       w.in_ok-nodes-in-Name.ensures.0)
   | step-in_default+in_ok-nodes-in_default w ↦
       rw w.stack-is (steps_from c.args.scope.fold c.args.scope.defs.now (symbol_of c.args.symbol) (state_of c.args.stack.now) (state_of w.take.new.self)
@@ -154,9 +200,9 @@ step-returns-clause-found t c = elim c.match-symbol.branch [
 
 pub step-returns-clause-lowered : goal.step-returns-clause-lowered
 step-returns-clause-lowered t c = elim c.match-symbol.branch [
-  | step-in-Name+in_ok-pattern-in-Name+in_ok-nodes-in-Name w ↦ λ e h h'.
-      rw (w.stack-is, w.in-Name.is) (name_lower c.args.scope.fold c.args.scope.defs.now e w.in_ok-pattern-in-Name.field-0.spare (state_of c.args.stack.now) (state_of w.push.new.self) w.in-Name.name.now
-      (tree_of w.in_ok-pattern-in-Name.field-0.pattern) (let k = ap spare_of w.taken-is in omega arith) w.in_ok-pattern-in-Name.ensures.found w.in_ok-nodes-in-Name.ensures.0)
+  | step-in-Name+in_ok-tree-in-Name+in_ok-nodes-in-Name w ↦ λ e h h'.
+      rw (w.stack-is, w.in-Name.is) (name_lower c.args.scope.fold c.args.scope.defs.now e w.in_ok-tree-in-Name.field-0.spare (state_of c.args.stack.now) (state_of w.push.new.self) w.in-Name.name.now
+      (tree_of w.in_ok-tree-in-Name.field-0.tree.pattern) (let k = ap spare_of w.taken-is in omega arith) w.in_ok-tree-in-Name.ensures.found w.in_ok-nodes-in-Name.ensures.0)
   | step-in_default+in_ok-nodes-in_default w ↦ λ e h h'.
       let plain = plain_of (symbol_of c.args.symbol) (state_of c.args.stack.now) (state_of w.take.new.self) w.in_ok-nodes-in_default.ensures.0 in
       rw w.stack-is (steps_from c.args.scope.fold c.args.scope.defs.now (symbol_of c.args.symbol) (lowered e (state_of c.args.stack.now)) (lowered e (state_of w.take.new.self)) plain
@@ -165,17 +211,17 @@ step-returns-clause-lowered t c = elim c.match-symbol.branch [
 
 pub step-returns-clause-spare : goal.step-returns-clause-spare
 step-returns-clause-spare t c = elim c.match-symbol.branch [
-  | step-in-Name+in_ok-pattern-in-Name+in_ok-nodes-in-Name w ↦
+  | step-in-Name+in_ok-tree-in-Name+in_ok-nodes-in-Name w ↦
       let k = ap spare_of w.taken-is in
       let same = ap left_of (some_is _ _ w.in_ok-nodes-in-Name.ensures.0) in
-      rw w.stack-is (omega (arith, w.in_ok-pattern-in-Name.ensures.spare))
+      rw w.stack-is (omega (arith, w.in_ok-tree-in-Name.ensures.spare))
   | step-in_default+in_ok-nodes-in_default w ↦ (let k = ap spare_of w.taken-is in rw w.stack-is (omega arith))
 ]
 
 pub step-returns-clause-counted : goal.step-returns-clause-counted
 step-returns-clause-counted t c = elim c.match-symbol.branch [
-  | step-in-Name+in_ok-pattern-in-Name+in_ok-nodes-in-Name w ↦
-      rw w.stack-is (counted_plain c.args.room c.match-symbol.taken.nodes (state_of c.args.stack.now) (state_of w.push.new.self) (item (tree_of w.in_ok-pattern-in-Name.field-0.pattern))
+  | step-in-Name+in_ok-tree-in-Name+in_ok-nodes-in-Name w ↦
+      rw w.stack-is (counted_plain c.args.room c.match-symbol.taken.nodes (state_of c.args.stack.now) (state_of w.push.new.self) (item (tree_of w.in_ok-tree-in-Name.field-0.tree.pattern))
       w.in_ok-nodes-in-Name.ensures.0 (ap nodes_of w.taken-is ∙ w.in_ok-nodes-in-Name.ensures.1) c.if-taken-room.false c.requires.room)
   | step-in_default+in_ok-nodes-in_default w ↦
       rw w.stack-is (counted_plain c.args.room c.match-symbol.taken.nodes (state_of c.args.stack.now) (state_of w.take.new.self) (symbol_of c.args.symbol)
@@ -184,8 +230,8 @@ step-returns-clause-counted t c = elim c.match-symbol.branch [
 
 pub step-returns-clause-sound : goal.step-returns-clause-sound
 step-returns-clause-sound t c = elim c.match-symbol.branch [
-  | step-in-Name+in_ok-pattern-in-Name+in_ok-nodes-in-Name w ↦
-      rw w.stack-is (sound_step (item (tree_of w.in_ok-pattern-in-Name.field-0.pattern)) (state_of c.args.stack.now) (state_of w.push.new.self) w.in_ok-pattern-in-Name.ensures.sound c.requires.sound_so_far
+  | step-in-Name+in_ok-tree-in-Name+in_ok-nodes-in-Name w ↦
+      rw w.stack-is (sound_step (item (tree_of w.in_ok-tree-in-Name.field-0.tree.pattern)) (state_of c.args.stack.now) (state_of w.push.new.self) w.in_ok-tree-in-Name.ensures.sound c.requires.sound_so_far
       w.in_ok-nodes-in-Name.ensures.0)
   | step-in_default+in_ok-nodes-in_default w ↦
       rw w.stack-is (sound_step (symbol_of c.args.symbol) (state_of c.args.stack.now) (state_of w.take.new.self) c.requires.sound c.requires.sound_so_far w.in_ok-nodes-in_default.ensures.0)
@@ -193,6 +239,6 @@ step-returns-clause-sound t c = elim c.match-symbol.branch [
 
 pub step-returns-clause-known : goal.step-returns-clause-known
 step-returns-clause-known t c = elim c.match-symbol.branch [
-  | step-in-Name+in_ok-pattern-in-Name+in_ok-nodes-in-Name w ↦ rw w.names-is w.in_ok-pattern-in-Name.ensures.known
+  | step-in-Name+in_ok-tree-in-Name+in_ok-nodes-in-Name w ↦ rw w.names-is w.in_ok-tree-in-Name.ensures.known
   | step-in_default+in_ok-nodes-in_default w ↦ rw w.names-is c.requires.known_so_far
 ]

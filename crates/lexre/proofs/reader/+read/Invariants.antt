@@ -2,11 +2,12 @@ use Rattle.std.proofs.Common.{◌≡◌, ℕ, ◌+◌, ◌-◌, ◌*◌, ◌≤�
 use Rattle.std.specs.FinMap.{get}
 use Rattle.lexre.specs.Counting.{state_nodes}
 use Rattle.lexclass.specs.Lexical.{symbol_at}
-use Rattle.lexre.specs.Names.{AreKnown, trees_of}
+use Rattle.lexre.specs.Names.{AreKnown, open_of, trees_of}
 use Rattle.lexre.specs.Reading.{lowered}
 use Rattle.lexre.specs.Running.{state, fresh}
 use Rattle.lexre.specs.Soundness.{IsSoundState}
 use Rattle.lexre.specs.StackViews.{state_of}
+use Rattle.lexre.proofs.CycleLaws.{EndsWith}
 use Rattle.lexre.proofs.OneTree.{limit}
 use Rattle.lexre.proofs.ReaderLaws.{Agree, nothing_at}
 use Rattle.lexre.proofs.reader.+read.Given as goal
@@ -21,7 +22,7 @@ abbrev pub decreases-step : goal.decreases-step
 decreases-step l = 3 * l.stack.now.left + 1
 
 -- what is left to read gives what the whole text gives, also where fewer may be opened, as long as there are some to
--- spare; the nodes so far are counted, and what is kept of names is known
+-- spare; the nodes so far are counted, what is kept of names is known, and those that are open are those from before
 abbrev pub invariant-read_within-loop-rest : goal.invariant-read_within-loop-rest
 invariant-read_within-loop-rest l = record {
   agree : Agree (symbol_at l.scope.fold) (get l.scope.defs.now) (nothing_at l.scope.fold) (state_of l.stack) l.rest (state fresh [] l.left) l.text;
@@ -33,6 +34,8 @@ invariant-read_within-loop-rest l = record {
   few : l.nodes ≤ l.room;
   sound : IsSoundState (state_of l.stack);
   known : AreKnown l.scope.fold l.scope.defs.now (trees_of l.names);
+  same_open : open_of l.names ≡ open_of l.initial.names;
+  ends : EndsWith (symbol_at l.scope.fold) (get l.scope.defs.now) l.text l.rest;
 }
 
 abbrev pub decreases-read_within-loop-rest : goal.decreases-read_within-loop-rest

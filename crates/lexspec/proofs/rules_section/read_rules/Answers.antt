@@ -9,6 +9,7 @@ pub items-init : goal.items-init
 items-init c = record {
   agrees = agrees_first c.args.declarations.now c.new-progress.result c.args.first c.args.text.now c.new-progress.ensures.rules c.new-progress.ensures.waiting c.new-progress.ensures.ends;
   keeps = keeps_first c.args.declarations.now c.new-progress.result c.new-progress.ensures.rules c.new-progress.ensures.waiting c.new-progress.ensures.ends;
+  known = c.requires.known_so_far;
   line = refl;
   shorter = omega arith;
 }
@@ -38,6 +39,7 @@ items-preserved c = record {
   agrees = item_read c.args.declarations.now c.items.progress c.in-Ok.found.0 c.args.first c.items.line c.newlines_before-line.result c.args.text.now c.items.rest.now c.in-Ok.found.1.now
       c.in-Ok.ensures.found c.in-Ok.ensures.counts c.newlines_before-line.ensures c.items.invariant.agrees;
   keeps = c.in-Ok.ensures.keeps c.items.invariant.keeps;
+  known = c.in-Ok.ensures.known;
   line = omega (arith, c.items.invariant.line, c.in-Ok.ensures.counts, c.newlines_before-line.ensures);
   shorter = omega (arith, c.items.invariant.shorter, c.in-Ok.ensures.shorter);
 }
