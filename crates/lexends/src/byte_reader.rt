@@ -1,5 +1,5 @@
 //! A reader with a buffer, made for reads of one byte.
-ghost use Rattle.std.specs.Prelude.{◌≡◌, ◌≢◌, ◌+◌, ◌-◌, ◌<◌, ◌≤◌, ◌⊎◌, min, [], ◌∷◌, ◌++◌, length, take, drop, slice_range, IfOk, IfErr, OnOk, OnErr, IsSome, Some, vec_len};
+ghost use Rattle.std.specs.Prelude.{◌≡◌, ◌≢◌, ◌-◌, ◌<◌, ◌≤◌, min, [], ◌∷◌, ◌++◌, length, take, IfOk, OnErr, IsSome, vec_len};
 ghost use Rattle.std.specs.Io.{ReadsAtMost};
 ghost use Rattle.std.specs.Io.KnownBytes.{Consumes, Keeps, IsAtEnd, ReadConsumes};
 
@@ -92,6 +92,7 @@ impl<R: Read> ByteReader<R> {
     #[cold]
     fn take_error(&mut self) -> io::Error
         requires { IsSome self.old.error }
+        ensures error { self.old.error ≡ Some result }
         ensures reader { self.new.reader ≡ self.old.reader }
         ensures ahead { bytes_ahead self.new ≡ bytes_ahead self.old }
     {

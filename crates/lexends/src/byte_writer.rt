@@ -1,5 +1,5 @@
 //! A writer with a buffer, made for short writes.
-ghost use Rattle.std.specs.Prelude.{◌≡◌, ◌+◌, ◌-◌, ◌<◌, ◌≤◌, [], ◌++◌, length, take, drop, Ok, IfOk, OnOk, OnErr, IfSome, IfNone, IsSome, MatchOption, vec_len};
+ghost use Rattle.std.specs.Prelude.{◌≡◌, ◌+◌, ◌-◌, ◌≤◌, [], ◌++◌, length, take, drop, IfOk, OnOk, OnErr, IfSome, IfNone, IsSome, MatchOption, vec_len};
 ghost use Rattle.std.specs.Io.{WritesAtMost};
 ghost use Rattle.std.specs.Io.KnownBytes.{Appends, Keeps, WriteAppends};
 
@@ -137,6 +137,7 @@ impl<W: Write + Drop> ByteWriter<W> {
     #[cold]
     fn take_error(&mut self) -> io::Error
         requires { IsSome self.old.error }
+        ensures error { self.old.error ≡ Some result }
         ensures writer { self.new.writer ≡ self.old.writer }
         ensures held { self.new.held ≡ self.old.held }
     {
