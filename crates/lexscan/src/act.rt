@@ -28,6 +28,7 @@ pub enum Step {
 }
 
 /// Writes the bytes.
+#[inline(always)]
 pub fn put<K: Sink>(outlet: &mut Outlet<'_, K>, bytes: &[u8]) -> Result<(), RunError>
     requires { outlet.old.live ≡ true }
     ensures same { outlet.new.sink.ghost_name ≡ outlet.old.sink.ghost_name }
@@ -43,6 +44,7 @@ pub fn put<K: Sink>(outlet: &mut Outlet<'_, K>, bytes: &[u8]) -> Result<(), RunE
 }
 
 /// Carries out one statement.
+#[inline(always)]
 pub fn carry_one<K: Sink>(
     outlet: &mut Outlet<'_, K>,
     window: &Window,
@@ -94,6 +96,7 @@ pub fn carry_one<K: Sink>(
 }
 
 /// Carries out the statements from the first on.
+#[inline(always)]
 pub fn carry_out<K: Sink>(
     outlet: &mut Outlet<'_, K>,
     window: &Window,
