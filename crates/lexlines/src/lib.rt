@@ -21,6 +21,3 @@ pub use newlines::{MAX_FILE_BYTES, newlines_before};
 pub use section::{Section, read_section};
 pub use skipped::Skipped;
 pub use skipping::skip_block;
-
-#[cfg(test)]
-mod tests;

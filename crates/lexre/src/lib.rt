@@ -28,6 +28,3 @@ pub use measures::lengths;
 pub use names::Names;
 pub use pattern::Pattern;
 pub use reader::{ReadOptions, read_pattern, read_with_names};
-
-#[cfg(test)]
-mod tests;

@@ -27,6 +27,3 @@ pub use lexre::{PatternError, PatternErrorKind, ReadOptions};
 pub use reading::read_spec;
 pub use rule::Rule;
 pub use spec::Spec;
-
-#[cfg(test)]
-mod tests;

@@ -4,13 +4,12 @@ ghost use Rattle.std.specs.Prelude.{◌≤◌, IfOk};
 ghost use Rattle.lexmeaning.specs.Shapes.{IsSoundTree};
 ghost use Rattle.lexre.specs.Views.{tree_of};
 
-use crate::braces::interval_at;
-use crate::{
+use lexclass::class_at;
+use lexre::{
     ByteSet, Cutting, Defs, DefsError, Lengths, Pattern, PatternError, PatternErrorKind,
     ReadOptions, cut_pattern, lengths, one_cutting, one_tree, positions, read_pattern,
     readings_use_own_positions,
 };
-use lexclass::class_at;
 use std::alloc::{AllocError, Global};
 use std::rc::Rc;
 use std::test::Fail;
@@ -406,25 +405,40 @@ fn refused_classes(rt: HostRuntime) {
     }
 }
 
-// A text behind an opening brace, and the least and the most of the interval before the rest.
-const INTERVALS: [(&[u8], u8, Option<u8>); 4] = [
-    (b"2,3}b?", 2, Some(3)),
-    (b"255}b?", 255, Some(255)),
-    (b"0,}b?", 0, None),
-    (b"0000000000000000000002}b?", 2, Some(2)),
+// A pattern with an interval, and the least and the greatest length of what it matches.
+const INTERVALS: [(&[u8], u32, Option<u32>); 4] = [
+    (b"a{2,3}b", 3, Some(4)),
+    (b"a{255}b", 256, Some(256)),
+    (b"a{0,}b", 1, None),
+    (b"a{0000000000000000000002}b", 3, Some(3)),
 ];
 
-// Texts behind an opening brace that begin with no interval.
-const NO_INTERVALS: [&[u8]; 7] = [b"2,1}", b"256}", b"65538}", b"256,}", b"0}", b"2", b"2,x}"];
+// Patterns whose brace begins no interval.
+const NO_INTERVALS: [&[u8]; 7] = [
+    b"a{2,1}",
+    b"a{256}",
+    b"a{65538}",
+    b"a{256,}",
+    b"a{0}",
+    b"a{2",
+    b"a{2,x}",
+];
 
 #[test]
-fn intervals(rt: HostRuntime) {
-    for &(text, least, most) in &INTERVALS {
-        assert!(rt; interval_at(text) == Some(((least, most), b"b?".as_slice())));
+fn intervals(rt: HostRuntime) -> Result<(), Fail> {
+    let alloc = rt.alloc();
+    let defs = worked_definitions(alloc)?;
+    let options = ReadOptions { fold: false };
+    for &(text, min, max) in &INTERVALS {
+        let pattern = read_pattern(alloc, text, &defs, options).expect(&rt, "a tree");
+        assert_eq!(rt; lengths(&pattern), Some(Lengths { min, max }));
     }
     for text in &NO_INTERVALS {
-        assert!(rt; interval_at(text).is_none());
+        let kind = PatternErrorKind::BadInterval;
+        let error = read_pattern(alloc, *text, &defs, options).err();
+        assert_eq!(rt; error, Some(PatternError { kind, at: 1 }));
     }
+    Ok(())
 }
 
 /// A node of a tree, before its parts.

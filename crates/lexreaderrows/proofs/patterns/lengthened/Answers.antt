@@ -3,7 +3,7 @@ use Rattle.lexmeaning.specs.Shapes.{IsSoundTree, AreSoundTrees, HasPart}
 use Rattle.lexmeaning.specs.Tree.{trees}
 use Rattle.lexre.specs.Views.{tree_of}
 use Rattle.lexre.specs.declared.pattern.Pattern.{Pattern}
-use Rattle.lexre.proofs.tests.lengthened.Goals as goal
+use Rattle.lexreaderrows.proofs.patterns.lengthened.Goals as goal
 
 one_more : (ps : List Pattern) (p : Pattern) → AreSoundTrees (trees (map tree_of ps)) → IsSoundTree (tree_of p) → AreSoundTrees (trees (map tree_of (ps ++ p ∷ [])))
 one_more [] p sound here = (here, tt)

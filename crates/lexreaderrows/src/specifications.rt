@@ -1,6 +1,7 @@
-use crate::action_text::split_action;
-use crate::{Condition, Cut, Rule, Spec, SpecError, SpecErrorKind, Statement, read_spec};
-use lexre::{PatternError, PatternErrorKind, ReadOptions};
+use lexspec::{
+    Condition, Cut, PatternError, PatternErrorKind, ReadOptions, Rule, Spec, SpecError,
+    SpecErrorKind, Statement, read_spec,
+};
 use std::alloc::{AllocError, Global};
 use std::test::Fail;
 
@@ -244,21 +245,18 @@ fn accepted_files(rt: HostRuntime) {
 /// The text of an action ends at the first newline outside strings, comments and braces.
 #[test]
 fn ends_of_actions(rt: HostRuntime) {
-    let rows: &[(&[u8], Option<(&[u8], &[u8])>)] = &[
-        (b"ECHO;\nb", Some((b"ECHO;", b"b"))),
-        (b"{ a\n}\nb", Some((b"{ a\n}", b"b"))),
-        (
-            b"{ /* } */ \"}\\\"\" // }\n}",
-            Some((b"{ /* } */ \"}\\\"\" // }\n}", b"")),
-        ),
-        (b"// a", Some((b"// a", b""))),
-        (b"} ;\nb", Some((b"} ;", b"b"))),
-        (b"{ ECHO;", None),
-        (b"\"a\n\"", None),
-        (b"/* a", None),
+    let rows = &[
+        ("%%\na ECHO;\nb ;", Ok(2)),
+        ("%%\na { ECHO;\n}\nb ;", Ok(2)),
+        ("%%\na { /* } */ printf(\"}\\\"\"); // }\n}", Ok(1)),
+        ("%%\na // b", Ok(1)),
+        ("%%\na } ;\nb ;", Err((2, SpecErrorKind::UnknownStatement))),
+        ("%%\na { ECHO;", Err((2, SpecErrorKind::Unclosed))),
+        ("%%\na puts(\"a\n\");", Err((2, SpecErrorKind::Unclosed))),
+        ("%%\na /* a", Err((2, SpecErrorKind::Unclosed))),
     ];
-    for &(text, parts) in rows {
-        assert_eq!(rt; split_action(text), parts);
+    for &(text, wanted) in rows {
+        assert_eq!(rt; rules_or_fault(rt.alloc(), text), wanted, "{text}");
     }
 }
 

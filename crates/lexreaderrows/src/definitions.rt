@@ -1,8 +1,8 @@
-use crate::{
+use lexaction::number_of;
+use lexlines::{
     MAX_FILE_BYTES, Skipped, SpecErrorKind, is_all_blank, is_blank, newlines_before, read_section,
     skip_blanks, skip_block, split_before, split_line, starts_blank, without_returns,
 };
-use lexaction::number_of;
 use std::alloc::{AllocError, Global};
 use std::test::Fail;
 
