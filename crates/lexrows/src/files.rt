@@ -49,6 +49,11 @@ fn reports_as_worked(rt: HostRuntime) -> Result<(), Fail> {
             NONE_BACKS_UP,
         ),
         (
+            "%{\nint n;\n%}\n%%\na+    ;\naa    ;\n",
+            "lex: line 1: warning: code skipped\nlex: line 6: warning: rule cannot be matched\n",
+            NONE_BACKS_UP,
+        ),
+        (
             "%%\na+ ;\naa ;\n",
             "lex: line 3: warning: rule cannot be matched\n",
             NONE_BACKS_UP,

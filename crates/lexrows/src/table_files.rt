@@ -1,5 +1,8 @@
 //! Table files byte for byte, and files that are none.
-use lexkit::{MemorySink, TableError, WriteFault, read_tables, write_tables};
+use lexkit::{
+    MemorySink, MemorySource, Options, ScanError, TableError, WriteFault, generate, read_tables,
+    scan_table, write_tables,
+};
 use std::alloc::{AllocError, Global};
 use std::test::Fail;
 
@@ -80,6 +83,14 @@ fn changed(alloc: Global, at: usize, new: &[u8]) -> Result<Vec<u8>, AllocError> 
 
 fn refusal(alloc: Global, bytes: &[u8]) -> Option<TableError> {
     read_tables(alloc, bytes).err()
+}
+
+/// Whether a scan of `if iff` by these bytes writes this, with status 0.
+fn writes(alloc: Global, bytes: &[u8], want: &str) -> Result<bool, ScanError> {
+    let mut source = MemorySource::new(b"if iff");
+    let mut sink = MemorySink::new(alloc);
+    let status = scan_table(alloc, bytes, &mut source, &mut sink)?;
+    Ok(status == 0 && sink.written() == want.as_bytes())
 }
 
 /// What is written of the table that is read from the bytes.
@@ -209,14 +220,40 @@ fn the_first_fault_is_named(rt: HostRuntime) -> Result<(), Fail> {
 #[test]
 fn changed_tables_are_read(rt: HostRuntime) -> Result<(), Fail> {
     let alloc = rt.alloc();
-    let rows: [(usize, &[u8]); 2] = [(399, b"\0\0\0\0\0\0\0\0"), (41, b"\x01\0\0\0\x03")];
-    for &(at, new) in &rows {
+    let rows: &[(usize, &[u8], &str)] = &[
+        (399, b"\0\0\0\0\0\0\0\0", "KI"),
+        (41, b"\x01\0\0\0\x03", "II I"),
+    ];
+    for &(at, new, scanned) in rows {
         let bytes = changed(alloc, at, new)?;
         let sink = rewritten(alloc, &bytes)
             .ok()
             .ok_or("the file is a table's")?;
         assert_eq!(rt; sink.written(), bytes.as_slice());
+        assert_eq!(rt; writes(alloc, &bytes, scanned), Ok(true));
     }
+    Ok(())
+}
+
+/// The file of what a specification spells.
+fn file_of(alloc: Global, text: &str) -> Option<MemorySink> {
+    let made = generate(alloc, text.as_bytes(), Options::new()).ok()?;
+    let mut sink = MemorySink::new(alloc);
+    write_tables(&made.tables, &mut sink).ok()?;
+    Some(sink)
+}
+
+#[test]
+fn files_are_generated(rt: HostRuntime) -> Result<(), Fail> {
+    let alloc = rt.alloc();
+    let text = "%%\nif printf(\"K\");\n[a-z]+ printf(\"I\");\n";
+    let file = file_of(alloc, text).ok_or("the file of two rules")?;
+    let worked = worked(alloc)?;
+    assert_eq!(rt; file.written(), worked.as_slice());
+
+    let file = file_of(alloc, "%%\n").ok_or("the file of no rules")?;
+    let plain = plain(alloc, 0, b"")?;
+    assert_eq!(rt; file.written(), plain.as_slice());
     Ok(())
 }
 

@@ -18,6 +18,12 @@ pub(crate) const SCANS: &[Row] = &[
         "K I",
         0,
     ),
+    (
+        "%%\nif printf(\"K\");\n[a-z]+ printf(\"I\");\n",
+        "if iff\n",
+        "K I\n",
+        0,
+    ),
     ("%%\nabc printf(\"X\");\n", "abab", "abab", 0),
     // yymore, yyless and REJECT.
     (
