@@ -8,5 +8,6 @@ pub mod Limits
 pub mod Memory
 pub mod Passing
 pub mod PatternMemory
+pub mod RefusalNames
 pub mod Stops
 pub mod Symbols

@@ -1,6 +1,6 @@
 //! The character classes of the POSIX locale, on bytes. (POSIX, Base Definitions, LC_CTYPE.)
 ghost use Rattle.std.specs.Prelude.{◌≡◌, option_map};
-ghost use Rattle.lexmeaning.specs.ByteSets.{named_set, other_case, set_of};
+ghost use Rattle.lexmeaning.specs.ByteSets.{is_word, named_set, other_case, set_of};
 ghost use Rattle.lexclass.specs.Classes.{test_of};
 
 /// A character class.
@@ -20,26 +20,45 @@ pub enum Class {
     Xdigit,
 }
 
+/// Whether a name is this word.
+fn is_word(name: &[u8], word: &str) -> bool
+    ensures { result ≡ is_word name.now word.now }
+{
+    name == word.as_bytes()
+}
+
 impl Class {
     /// The class of this name, where there is one.
     #[tactic(auto, unfolding(lexmeaning::specs::ByteSets::named_set))]
     pub fn named(name: &[u8]) -> Option<Class>
         ensures { named_set name.now ≡ option_map (λ c. set_of (test_of c)) result }
     {
-        match name {
-            b"alpha" => Some(Class::Alpha),
-            b"digit" => Some(Class::Digit),
-            b"alnum" => Some(Class::Alnum),
-            b"upper" => Some(Class::Upper),
-            b"lower" => Some(Class::Lower),
-            b"space" => Some(Class::Space),
-            b"blank" => Some(Class::Blank),
-            b"cntrl" => Some(Class::Cntrl),
-            b"graph" => Some(Class::Graph),
-            b"print" => Some(Class::Print),
-            b"punct" => Some(Class::Punct),
-            b"xdigit" => Some(Class::Xdigit),
-            _ => None,
+        if is_word(name, "alpha") {
+            Some(Class::Alpha)
+        } else if is_word(name, "digit") {
+            Some(Class::Digit)
+        } else if is_word(name, "alnum") {
+            Some(Class::Alnum)
+        } else if is_word(name, "upper") {
+            Some(Class::Upper)
+        } else if is_word(name, "lower") {
+            Some(Class::Lower)
+        } else if is_word(name, "space") {
+            Some(Class::Space)
+        } else if is_word(name, "blank") {
+            Some(Class::Blank)
+        } else if is_word(name, "cntrl") {
+            Some(Class::Cntrl)
+        } else if is_word(name, "graph") {
+            Some(Class::Graph)
+        } else if is_word(name, "print") {
+            Some(Class::Print)
+        } else if is_word(name, "punct") {
+            Some(Class::Punct)
+        } else if is_word(name, "xdigit") {
+            Some(Class::Xdigit)
+        } else {
+            None
         }
     }
 

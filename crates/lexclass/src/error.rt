@@ -1,60 +1,80 @@
 //! Why a text is no pattern.
-ghost use Rattle.std.specs.Prelude.{◌≡◌};
+ghost use Rattle.std.specs.Prelude.{◌≡◌, Some};
+ghost use Rattle.lexclass.specs.RefusalNames.{pattern_name};
 ghost use Rattle.lexclass.specs.declared.error.PatternErrorKind.TheVariants.{OutOfMemory};
 
 use std::alloc::{AllocError, AllocFailed};
+use std::fmt;
 use thiserror::Error;
 
 /// Why a text is no pattern, by name. A fault inside a name's substitute is reported at the name.
 #[derive(Clone, Copy, Debug, PartialEq, Eq, Error)]
 pub enum PatternErrorKind {
     /// A quote that is not closed on its line.
-    #[error("UnclosedQuote")]
     UnclosedQuote,
     /// A class that is not closed on its line.
-    #[error("UnclosedClass")]
     UnclosedClass,
     /// A range whose ends are in the wrong order, or whose second end is a named class.
-    #[error("BadRange")]
     BadRange,
     /// A negated class without a byte.
-    #[error("EmptyClass")]
     EmptyClass,
     /// `[:name:]` with a name that the POSIX locale does not have.
-    #[error("UnknownClassName")]
     UnknownClassName,
     /// `[:^name:]`, `[=a=]` or `[.a.]`.
-    #[error("UnsupportedBracket")]
     UnsupportedBracket,
     /// A backslash before a newline or at the end, or octal digits above 255.
-    #[error("BadEscape")]
     BadEscape,
     /// Braces that hold neither an interval nor a name.
-    #[error("BadInterval")]
     BadInterval,
     /// A parenthesis without its other.
-    #[error("UnbalancedParen")]
     UnbalancedParen,
     /// No item where one is wanted.
-    #[error("MissingOperand")]
     MissingOperand,
     /// `{name}` where the name has no definition.
-    #[error("UndefinedName")]
     UndefinedName,
     /// A name whose substitute leads back to it.
-    #[error("DefinitionCycle")]
     DefinitionCycle,
     /// More than 64 parentheses and names open at one place, or more than 64 signs on one item.
-    #[error("TooDeep")]
     TooDeep,
     /// More than 65,536 nodes.
-    #[error("TooBig")]
     TooBig,
     /// A slash inside a pattern, or inside parentheses.
-    #[error("MisplacedSlash")]
     MisplacedSlash,
-    #[error("OutOfMemory")]
     OutOfMemory,
+}
+
+impl PatternErrorKind {
+    /// Its name, as it is told.
+    pub fn name(self) -> &'static str
+        ensures { result.now ≡ pattern_name self }
+    {
+        match self {
+            PatternErrorKind::UnclosedQuote => "UnclosedQuote",
+            PatternErrorKind::UnclosedClass => "UnclosedClass",
+            PatternErrorKind::BadRange => "BadRange",
+            PatternErrorKind::EmptyClass => "EmptyClass",
+            PatternErrorKind::UnknownClassName => "UnknownClassName",
+            PatternErrorKind::UnsupportedBracket => "UnsupportedBracket",
+            PatternErrorKind::BadEscape => "BadEscape",
+            PatternErrorKind::BadInterval => "BadInterval",
+            PatternErrorKind::UnbalancedParen => "UnbalancedParen",
+            PatternErrorKind::MissingOperand => "MissingOperand",
+            PatternErrorKind::UndefinedName => "UndefinedName",
+            PatternErrorKind::DefinitionCycle => "DefinitionCycle",
+            PatternErrorKind::TooDeep => "TooDeep",
+            PatternErrorKind::TooBig => "TooBig",
+            PatternErrorKind::MisplacedSlash => "MisplacedSlash",
+            PatternErrorKind::OutOfMemory => "OutOfMemory",
+        }
+    }
+}
+
+impl fmt::Display for PatternErrorKind {
+    ghost output = { λ kind. Some (pattern_name kind) };
+
+    fn fmt<W: fmt::Write>(&self, f: &mut fmt::Formatter<W>) -> fmt::Result {
+        f.write_str(self.name())
+    }
 }
 
 impl From<AllocError> for PatternErrorKind {

@@ -2,7 +2,7 @@
 ghost use Rattle.std.specs.Prelude.{◌≡◌, ℕ, ◌+◌, ◌-◌, ◌^◌, ◌<◌, ◌≤◌, List, ◌++◌};
 ghost use Rattle.lexends.specs.Sink.{Appended, fault_count};
 ghost use Rattle.lexkit.specs.Joined.{joined};
-ghost use Rattle.lexkit.specs.Faults.{line_of, fault_words, scan_words, gen_words, gen_status, table_words, table_status, build_words, spec_words, lacks_memory, pattern_name, kind_name, run_words, args_words};
+ghost use Rattle.lexkit.specs.Faults.{line_of, fault_words, scan_words, gen_words, gen_status, table_words, table_status, build_words, spec_words, lacks_memory, run_words, args_words};
 
 use crate::args::ArgsError;
 use crate::errors::{GenError, ScanError};
@@ -145,7 +145,7 @@ fn write_spec_error<K: Sink>(error: SpecError, sink: &mut K) -> Result<(), Write
     if lacks_memory(error.kind) {
         return put_line(sink, &[OUT_OF_MEMORY]);
     }
-    let name = kind_text(error.kind);
+    let name = error.kind.name();
     let mut line = Buffer::new();
     let line = line.format(error.line);
     match error.kind {
@@ -169,61 +169,6 @@ fn lacks_memory(kind: SpecErrorKind) -> bool
                 ..
             })
     )
-}
-
-fn pattern_text(kind: PatternErrorKind) -> &'static str
-    ensures { result.now ≡ pattern_name kind }
-{
-    match kind {
-        PatternErrorKind::UnclosedQuote => "UnclosedQuote",
-        PatternErrorKind::UnclosedClass => "UnclosedClass",
-        PatternErrorKind::BadRange => "BadRange",
-        PatternErrorKind::EmptyClass => "EmptyClass",
-        PatternErrorKind::UnknownClassName => "UnknownClassName",
-        PatternErrorKind::UnsupportedBracket => "UnsupportedBracket",
-        PatternErrorKind::BadEscape => "BadEscape",
-        PatternErrorKind::BadInterval => "BadInterval",
-        PatternErrorKind::UnbalancedParen => "UnbalancedParen",
-        PatternErrorKind::MissingOperand => "MissingOperand",
-        PatternErrorKind::UndefinedName => "UndefinedName",
-        PatternErrorKind::DefinitionCycle => "DefinitionCycle",
-        PatternErrorKind::TooDeep => "TooDeep",
-        PatternErrorKind::TooBig => "TooBig",
-        PatternErrorKind::MisplacedSlash => "MisplacedSlash",
-        PatternErrorKind::OutOfMemory => "OutOfMemory",
-    }
-}
-
-fn kind_text(kind: SpecErrorKind) -> &'static str
-    ensures { result.now ≡ kind_name kind }
-{
-    match kind {
-        SpecErrorKind::NoRulesSection => "NoRulesSection",
-        SpecErrorKind::BadDefinitionLine => "BadDefinitionLine",
-        SpecErrorKind::DuplicateName => "DuplicateName",
-        SpecErrorKind::DuplicateCondition => "DuplicateCondition",
-        SpecErrorKind::UnknownCondition => "UnknownCondition",
-        SpecErrorKind::Pattern(error) => pattern_text(error.kind),
-        SpecErrorKind::VariableTrailing => "VariableTrailing",
-        SpecErrorKind::TwoTrailing => "TwoTrailing",
-        SpecErrorKind::AnchoredDefinition => "AnchoredDefinition",
-        SpecErrorKind::BadEofRule => "BadEofRule",
-        SpecErrorKind::DuplicateEof => "DuplicateEof",
-        SpecErrorKind::UnknownStatement => "UnknownStatement",
-        SpecErrorKind::LessAndMore => "LessAndMore",
-        SpecErrorKind::RejectCombination => "RejectCombination",
-        SpecErrorKind::NotLast => "NotLast",
-        SpecErrorKind::BadEofAction => "BadEofAction",
-        SpecErrorKind::BadCount => "BadCount",
-        SpecErrorKind::BadStatus => "BadStatus",
-        SpecErrorKind::Unclosed => "Unclosed",
-        SpecErrorKind::DanglingBar => "DanglingBar",
-        SpecErrorKind::UnsupportedOption => "UnsupportedOption",
-        SpecErrorKind::TooManyRules => "TooManyRules",
-        SpecErrorKind::TooManyConditions => "TooManyConditions",
-        SpecErrorKind::TooLong => "TooLong",
-        SpecErrorKind::OutOfMemory => "OutOfMemory",
-    }
 }
 
 fn run_text(error: RunError) -> &'static str
