@@ -22,6 +22,3 @@ pub use laws::{
 pub use lexdfa::Dfa;
 pub use starts::count_positions;
 pub use subsets::{Limits, build};
-
-#[cfg(test)]
-mod tests;

@@ -6,9 +6,6 @@ ghost use Rattle.std.specs.Prelude.{IfOk};
 ghost use Rattle.lexspec.specs.Views.{spec_of};
 ghost use Rattle.lexbench.specs.For.{IsFor};
 
-#[cfg(test)]
-mod tests;
-
 use lexauto::{BuildError, Limits, build};
 use lexdfa::{Dfa, OutOfMemory};
 use lexends::{MemorySink, WriteFault};

@@ -9,6 +9,3 @@ mod readers;
 pub use dfa::{Dfa, Parts};
 pub use laws::automata_are_machines;
 pub use memory::OutOfMemory;
-
-#[cfg(test)]
-mod tests;

@@ -5,6 +5,3 @@ mod live;
 mod sources;
 
 pub use live::live_states;
-
-#[cfg(test)]
-mod tests;

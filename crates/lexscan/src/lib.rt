@@ -19,3 +19,4 @@ pub use error::RunError;
 pub use scanner::Scanner;
 pub use turn::Turn;
 pub use whole::run;
+pub use window::Window;

@@ -11,6 +11,3 @@ pub use flat::Flat;
 pub use parts::{Row, TableCondition, TableParts, TableRule};
 pub use steps::flat_rows;
 pub use tables::Tables;
-
-#[cfg(test)]
-mod tests;

@@ -5,8 +5,8 @@ ghost use Rattle.lextab.specs.Invariant.{GoesOn};
 ghost use Rattle.lextab.specs.Views.{condition_of, row_of, table_of};
 ghost use Rattle.lextab.specs.Machines.{machine_of, states_of};
 
-use crate::{Flat, Row, TableCondition, TableParts, TableRule, Tables, flat_rows};
 use lexmachine::{Cut, EndAction, Machine, Statement};
+use lextab::{Flat, Row, TableCondition, TableParts, TableRule, Tables, flat_rows};
 use std::alloc::{AllocError, Global};
 use std::process::Abort;
 use std::test::Fail;

@@ -1,18 +1,9 @@
-//! Worked automata and their least ones, whose states are counted and numbered by hand.
+//! Least automata, whose states are counted and numbered by hand.
 
-use crate::LIMITS;
-use lexauto::build;
+use crate::automata::whole;
 use lexdfa::Dfa;
 use lexleast::{minimise, one_automaton};
-use lexspec::{ReadOptions, read_spec};
-use std::alloc::Global;
 use std::test::Fail;
-
-/// The automaton of a file.
-fn built(alloc: Global, text: &str) -> Result<Dfa, Fail> {
-    let spec = read_spec(alloc, text.as_bytes(), ReadOptions { fold: false })?;
-    Ok(build(alloc, &spec, LIMITS)?)
-}
 
 /// The state after a word, from the start of a condition.
 fn after(automaton: &Dfa, condition: usize, line_start: bool, word: &str) -> Option<u32> {
@@ -52,7 +43,7 @@ fn counts(rt: HostRuntime) -> Result<(), Fail> {
         ("%%\n", 1, 1),
     ];
     for &(text, before, least) in rows {
-        let automaton = built(alloc, text)?;
+        let automaton = whole(alloc, text)?;
         assert_eq!(rt; automaton.len(), before);
         assert_eq!(rt; minimise(alloc, &automaton)?.len(), least);
     }
@@ -81,7 +72,7 @@ fn numbers(rt: HostRuntime) -> Result<(), Fail> {
         (FALLING, 0, false, "b", 3),
     ];
     for &(text, condition, line_start, word, state) in rows {
-        let least = minimise(alloc, &built(alloc, text)?)?;
+        let least = minimise(alloc, &whole(alloc, text)?)?;
         assert_eq!(rt; after(&least, condition, line_start, word), Some(state));
     }
     Ok(())
@@ -91,7 +82,7 @@ fn numbers(rt: HostRuntime) -> Result<(), Fail> {
 fn rules(rt: HostRuntime) -> Result<(), Fail> {
     let alloc = rt.alloc();
     one_automaton();
-    let least = minimise(alloc, &built(alloc, SAME_END)?)?;
+    let least = minimise(alloc, &whole(alloc, SAME_END)?)?;
     let again = minimise(alloc, &least)?;
     assert_eq!(rt; again.len(), least.len());
     let rows = &[

@@ -2,7 +2,7 @@
 ghost use Rattle.std.specs.Prelude.{◌≡◌, ◌≢◌, ℕ, length, slice_index, IfOk};
 ghost use Rattle.lexdfa.specs.Automata.{conditions_of, states_of};
 
-use crate::{Dfa, OutOfMemory, Parts, automata_are_machines};
+use lexdfa::{Dfa, OutOfMemory, Parts, automata_are_machines};
 use std::alloc::{AllocError, Global};
 use std::test::Fail;
 
