@@ -1,6 +1,6 @@
 use Rattle.std.proofs.Common.{◌<◌}
 use Rattle.lexdfa.specs.Automata.{states_of}
-use Rattle.lexauto.proofs.tests.told.Given as goal
+use Rattle.lexpartrows.proofs.automata.told.Given as goal
 
 abbrev pub invariant-loop-byte : goal.invariant-loop-byte
 invariant-loop-byte l = l.state < states_of l.automaton

@@ -1,7 +1,7 @@
 use Rattle.std.proofs.Common.{rules, ◌≡◌, ℕ, List, [], ◌∷◌, true, false, length, map, ap, ◌∙◌, Vec, Global}
 use Rattle.lexdfa.specs.declared.dfa.Parts.{Parts}
-use Rattle.lexdfa.proofs.Letters.{letters_are}
-use Rattle.lexdfa.proofs.tests.letters.Goals as goal
+use Rattle.lexpartrows.proofs.Letters.{letters_are}
+use Rattle.lexpartrows.proofs.by_hand.letters.Goals as goal
 
 pub new-requires : goal.new-requires
 new-requires c =

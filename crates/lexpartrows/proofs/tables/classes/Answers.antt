@@ -3,7 +3,7 @@ use Rattle.std.specs.Prelude.{slice_index, slice_set}
 use Rattle.std.proofs.lemmas.Bool.{cases_lt, cases_eq}
 use Rattle.std.proofs.lemmas.List.{get_or-replicate, get_or-set_other, length-replicate}
 use Rattle.lextab.proofs.Places.{past_end}
-use Rattle.lextab.proofs.tests.classes.Goals as goal
+use Rattle.lexpartrows.proofs.tables.classes.Goals as goal
 
 all_alike : (n i x : ℕ) → get_or (replicate n x) i x ≡ x
 all_alike n i x = elim (cases_lt i n) [

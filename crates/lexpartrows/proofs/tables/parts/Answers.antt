@@ -11,8 +11,8 @@ use Rattle.lextab.specs.declared.parts.Row.{Row}
 use Rattle.lextab.specs.declared.parts.TableCondition.{TableCondition}
 use Rattle.lextab.specs.declared.parts.TableRule.{TableRule}
 use Rattle.lextab.specs.declared.parts.TableParts.{TableParts}
-use Rattle.lextab.proofs.Letter.{letter, letter_is, letter_goes_on}
-use Rattle.lextab.proofs.tests.parts.Goals as goal
+use Rattle.lexpartrows.proofs.Letter.{letter, letter_is, letter_goes_on}
+use Rattle.lexpartrows.proofs.tables.parts.Goals as goal
 
 same_table : (p : TableParts) → map condition_of p.conditions.items ≡ (letter p.class_of.items).conditions → map rule_of p.rules.items ≡ (letter p.class_of.items).rules → p.classes ≡ 2
     → map row_of p.rows.items ≡ (letter p.class_of.items).rows → p.checks.items ≡ 0 ∷ 1 ∷ [] → p.nexts.items ≡ 0 ∷ 2 ∷ [] → table_of p ≡ letter p.class_of.items

@@ -2,7 +2,7 @@ use Rattle.std.proofs.Common.{rules, ◌≡◌, ℕ, List, length, replicate, se
 use Rattle.std.proofs.lemmas.Bool.{cases_lt}
 use Rattle.std.proofs.lemmas.List.{get_or-replicate, get_or-set_other, length-replicate}
 use Rattle.lexdfa.proofs.Machinery.{past_end}
-use Rattle.lexdfa.proofs.tests.moves.Goals as goal
+use Rattle.lexpartrows.proofs.by_hand.moves.Goals as goal
 
 all_alike : (n i x : ℕ) → get_or (replicate n x) i x ≡ x
 all_alike n i x = elim (cases_lt i n) [

@@ -1,7 +1,7 @@
 use Rattle.std.proofs.Common.{rules, ◌≡◌, ◌<◌, ℕ, List, replicate, arith, sym, subst}
 use Rattle.std.specs.Prelude.{slice_index, slice_set}
 use Rattle.lexlive.proofs.Spreads.{small_set, small_zeros}
-use Rattle.lexlive.proofs.tests.moves.Goals as goal
+use Rattle.lexpartrows.proofs.live.moves.Goals as goal
 
 pub returns-clause-known : goal.returns-clause-known
 returns-clause-known c = λ i h.

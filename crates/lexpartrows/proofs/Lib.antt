@@ -1,0 +1,2 @@
+mod Letter
+mod Letters
