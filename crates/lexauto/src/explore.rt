@@ -9,7 +9,7 @@ use crate::packing::{packed, unpacked};
 use std::alloc::{AllocError, AllocFailed, Global};
 use std::collections::BTreeMap;
 
-#[derive(Debug, Drop)]
+#[derive(Drop)]
 pub(crate) enum ExploreError {
     TooMany,
     Memory,

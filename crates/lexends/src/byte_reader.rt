@@ -9,7 +9,7 @@ use std::io;
 use std::io::Read;
 
 /// What a refill brought.
-#[derive(Clone, Copy, Debug, PartialEq, Eq)]
+#[derive(Clone, Copy, PartialEq, Eq)]
 enum Refill {
     Bytes,
     End,

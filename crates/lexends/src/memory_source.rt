@@ -7,7 +7,7 @@ ghost use Rattle.lexends.specs.Taking.{Takes, Takes-trans};
 use crate::source::{ReadFault, Source};
 
 /// What a source over memory answers once in place of a byte, after this many bytes.
-#[derive(Clone, Copy, Debug, PartialEq, Eq)]
+#[derive(Clone, Copy, PartialEq, Eq)]
 enum Pause {
     Fault(usize),
     End(usize),

@@ -39,7 +39,7 @@ impl From<AllocError> for TableError {
 }
 
 /// Why the front of bytes is no table file.
-#[derive(Clone, Copy, Debug, PartialEq, Eq, Drop)]
+#[derive(Clone, Copy, PartialEq, Eq, Drop)]
 pub enum ReadError {
     BadMagic,
     BadVersion,

@@ -12,7 +12,7 @@ use lexends::Sink;
 use lexmachine::Statement;
 
 /// The text's end in the window, the condition of the next match, and whether the next text is appended to this one.
-#[derive(Clone, Copy, Debug, PartialEq, Eq)]
+#[derive(Clone, Copy, PartialEq, Eq)]
 pub struct Acting {
     pub end: usize,
     pub condition: u8,
@@ -20,7 +20,7 @@ pub struct Acting {
 }
 
 /// What follows a statement or an action.
-#[derive(Clone, Copy, Debug, PartialEq, Eq)]
+#[derive(Clone, Copy, PartialEq, Eq)]
 pub enum Step {
     Next,
     Again,

@@ -12,7 +12,7 @@ use std::marker::Model;
 const FIRST_ROOM: usize = 8_192;
 
 /// Why a walk over bytes of the source stopped.
-#[derive(Clone, Copy, Debug, PartialEq, Eq)]
+#[derive(Clone, Copy, PartialEq, Eq)]
 pub enum Stop {
     /// The machine asks for no more.
     Done,

@@ -16,7 +16,7 @@ use std::alloc::Global;
 
 /// What stood before a statement in its action: the bytes of its literals, and whether a literal stands directly
 /// before, a yymore and a yyless. And how many statements there are from this one on.
-#[derive(Clone, Copy, Debug)]
+#[derive(Clone, Copy)]
 pub struct Before {
     pub literal: u32,
     pub printed: bool,

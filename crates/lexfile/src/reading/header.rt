@@ -8,7 +8,7 @@ use super::fields::{long_within, short};
 use crate::error::ReadError;
 
 /// How many there are of each kind.
-#[derive(Clone, Copy, Debug)]
+#[derive(Clone, Copy)]
 pub struct Counts {
     pub conditions: u32,
     pub rules: u32,
