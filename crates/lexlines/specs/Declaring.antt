@@ -5,6 +5,7 @@ use Rattle.lexaction.specs.declared.condition.Condition.{Condition}
 use Rattle.lexlines.specs.DefinitionLines.{Definition, Declared, all_conditions, names_of, has_name, are_distinct, substitutes_of, all_options, are_known}
 use Rattle.lexlines.specs.declared.declarations.Declarations.{Declarations}
 use Rattle.lexaction.specs.Limits.{max_conditions}
+use Rattle.lexre.specs.declared.options.ReadOptions.{ReadOptions}
 
 abbrev pub declared_of : Condition → Declared
 declared_of c = record { exclusive = c.exclusive; name = c.name.items }
@@ -21,8 +22,12 @@ AreGood cs = (are_distinct (names_of cs) ≡ true) × (length cs ≤ max_conditi
 abbrev pub AreAllowed : List Definition → Type 0
 AreAllowed ds = AreGood (all_conditions ds) × (are_distinct (map (λ (d : List ℕ × List ℕ). d.0) (substitutes_of ds)) ≡ true) × (are_known (all_options ds) ≡ true)
 
+-- the same way of reading, and letters stand for both cases if it is asked for
+abbrev pub with_fold : ReadOptions → Bool → ReadOptions
+with_fold how asked = record { fold = how.fold || asked; posix = how.posix }
+
 -- what the lines declare is what the code keeps
-pub record Declares (fold : Bool) (ds : List Definition) (d : Declarations) : Type 0 where
+pub record Declares (how : ReadOptions) (ds : List Definition) (d : Declarations) : Type 0 where
   pub conditions : map declared_of d.conditions.items ≡ all_conditions ds
   pub defs : d.defs ≡ from_entries (substitutes_of ds)
-  pub folds : d.fold ≡ (fold || has_name (all_options ds) (codes "case-insensitive"))
+  pub reads : d.options ≡ with_fold how (has_name (all_options ds) (codes "case-insensitive"))
