@@ -12,7 +12,8 @@ use Rattle.lexmeaning.specs.ByteSets.{is_word}
 use Rattle.lexre.specs.Definitions.{Definitions}
 use Rattle.lexre.specs.declared.options.ReadOptions.{ReadOptions}
 use Rattle.lexlines.specs.DefinitionLines.{Definition, nothing, code_line, code_block, declares, options, ignored, defines, Declared, declared, all_conditions, has_name, are_distinct, substitutes_of, all_options, known_options, are_known}
-use Rattle.lexlines.specs.Declaring.{declared_of, with_kind, AreGood, AreAllowed, with_fold, Declares}
+use Rattle.lexlines.specs.Declaring.{declared_of, with_kind, AreGood, AreAllowed, Declares}
+use Rattle.lexlines.specs.Folding.{with_fold}
 use Rattle.lexlines.specs.declared.declarations.Declarations.{Declarations}
 use Rattle.lexlines.proofs.OneSection.{no_true}
 use Rattle.lexlines.proofs.DeclaringLaws.{word_same, word_is, word_other, has_append, distinct_push, distinct_taken}

@@ -1,10 +1,11 @@
 -- What the definitions section declares, as the code keeps it.
-use Rattle.std.specs.Prelude.{◌≡◌, ℕ, ◌≤◌, Bool, true, ◌||◌, List, map, length, codes}
+use Rattle.std.specs.Prelude.{◌≡◌, ℕ, ◌≤◌, Bool, true, List, map, length, codes}
 use Rattle.std.specs.FinMap.{from_entries}
 use Rattle.lexaction.specs.declared.condition.Condition.{Condition}
 use Rattle.lexlines.specs.DefinitionLines.{Definition, Declared, all_conditions, names_of, has_name, are_distinct, substitutes_of, all_options, are_known}
 use Rattle.lexlines.specs.declared.declarations.Declarations.{Declarations}
 use Rattle.lexaction.specs.Limits.{max_conditions}
+use Rattle.lexlines.specs.Folding.{with_fold}
 use Rattle.lexre.specs.declared.options.ReadOptions.{ReadOptions}
 
 abbrev pub declared_of : Condition → Declared
@@ -21,10 +22,6 @@ AreGood cs = (are_distinct (names_of cs) ≡ true) × (length cs ≤ max_conditi
 -- no condition and no name is declared twice, conditions are few, and options are known
 abbrev pub AreAllowed : List Definition → Type 0
 AreAllowed ds = AreGood (all_conditions ds) × (are_distinct (map (λ (d : List ℕ × List ℕ). d.0) (substitutes_of ds)) ≡ true) × (are_known (all_options ds) ≡ true)
-
--- the same way of reading, and letters stand for both cases if it is asked for
-abbrev pub with_fold : ReadOptions → Bool → ReadOptions
-with_fold how asked = record { fold = how.fold || asked; posix = how.posix }
 
 -- what the lines declare is what the code keeps
 pub record Declares (how : ReadOptions) (ds : List Definition) (d : Declarations) : Type 0 where
