@@ -57,7 +57,13 @@ fn scan(rt: &HostRuntime, by: By<'_>) -> Result<u8, Failure> {
     let mut sink = ToWrite::new(ByteWriter::new(rt.alloc(), io::writer(rt))?);
     let result = match by {
         By::Spec(text, options) => {
-            scan_spec(rt.alloc(), text, options_of(options), &mut source, &mut sink)
+            scan_spec(
+                rt.alloc(),
+                text,
+                options_of(options),
+                &mut source,
+                &mut sink,
+            )
         }
         By::Table(bytes) => scan_table(rt.alloc(), bytes, &mut source, &mut sink),
     };

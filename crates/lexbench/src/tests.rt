@@ -10,7 +10,11 @@ use std::test::Fail;
 
 /// The automaton of a file.
 fn built(alloc: Global, text: &str) -> Result<Dfa, Fail> {
-    let spec = read_spec(alloc, text.as_bytes(), ReadOptions { fold: false })?;
+    let options = ReadOptions {
+        fold: false,
+        posix: false,
+    };
+    let spec = read_spec(alloc, text.as_bytes(), options)?;
     Ok(build(alloc, &spec, LIMITS)?)
 }
 

@@ -27,7 +27,11 @@ pub struct Section<'a> {
 
 /// The definitions section, up to a line that begins with `%%`. `options` says how patterns are read
 /// without an option. The first faulty line is refused; without a `%%` it is the line after the last, as `NoRulesSection`.
-pub fn read_section(alloc: Global, text: &[u8], options: ReadOptions) -> Result<Section<'_>, SpecError>
+pub fn read_section(
+    alloc: Global,
+    text: &[u8],
+    options: ReadOptions,
+) -> Result<Section<'_>, SpecError>
     requires { length text.now ≤ max_file_bytes }
     ensures found { IfOk result (λ s. HasSection options text.now s) }
     ensures none { IfErr result (λ e. UnlessMemory e.kind ((ds : List Meant) (after : List ℕ) → IsUpTo definition_at text.now ds after
