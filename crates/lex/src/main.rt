@@ -33,11 +33,20 @@ fn job_of(rt: &HostRuntime) -> Result<Job, ArgsError> {
     read_args(rt.alloc(), words.as_slice())
 }
 
+/// How patterns are read.
+#[derive(Debug, Clone, Copy)]
+struct PatternOptions {
+    /// Letters stand for both cases.
+    fold: bool,
+    /// Intervals apply to series.
+    posix: bool,
+}
+
 /// What a scan goes by.
 #[derive(Debug, Clone, Copy)]
 enum By<'a> {
-    /// The text of a specification, and whether letters of its patterns stand for both cases.
-    Spec(&'a [u8], bool),
+    /// The text of a specification, and how it is read.
+    Spec(&'a [u8], PatternOptions),
     /// A table file.
     Table(&'a [u8]),
 }
@@ -47,8 +56,14 @@ fn scan(rt: &HostRuntime, by: By<'_>) -> Result<u8, Failure> {
     let mut source = FromRead::new(ByteReader::new(rt.alloc(), rt.reader())?);
     let mut sink = ToWrite::new(ByteWriter::new(rt.alloc(), io::writer(rt))?);
     let result = match by {
-        By::Spec(text, fold) => {
-            scan_spec(rt.alloc(), text, options_of(fold), &mut source, &mut sink)
+        By::Spec(text, options) => {
+            scan_spec(
+                rt.alloc(),
+                text,
+                options_of(options),
+                &mut source,
+                &mut sink,
+            )
         }
         By::Table(bytes) => scan_table(rt.alloc(), bytes, &mut source, &mut sink),
     };
@@ -59,13 +74,15 @@ fn scan(rt: &HostRuntime, by: By<'_>) -> Result<u8, Failure> {
     Ok(result?)
 }
 
-/// How a specification is read: with letters for both cases or not.
-fn options_of(fold: bool) -> Options
+/// How a specification is read, with the limits of the program.
+fn options_of(options: PatternOptions) -> Options
     ensures few_positions { result.limits.positions ≤ 16384 }
     ensures few_states { result.limits.states ≤ 8192 }
 {
+    let PatternOptions { fold, posix } = options;
     Options {
         fold,
+        posix,
         ..Options::new()
     }
 }
@@ -79,6 +96,7 @@ fn run(rt: &HostRuntime) -> Result<u8, Failure> {
             stats,
             backup,
             fold,
+            posix,
             quiet,
         } => {
             let text = read_specification(rt, files.as_slice())?;
@@ -89,15 +107,22 @@ fn run(rt: &HostRuntime) -> Result<u8, Failure> {
                 backup,
                 quiet,
             };
-            make(rt, text.as_slice(), options_of(fold), &outputs)?;
+            let options = PatternOptions { fold, posix };
+            make(rt, text.as_slice(), options_of(options), &outputs)?;
             Ok(0)
         }
-        Job::ScanSpec { file, fold, quiet } => {
+        Job::ScanSpec {
+            file,
+            fold,
+            posix,
+            quiet,
+        } => {
+            let options = PatternOptions { fold, posix };
             let text = read_spec_file(rt, file)?;
             if !quiet {
-                write_warnings_of(rt, text.as_slice(), options_of(fold))?;
+                write_warnings_of(rt, text.as_slice(), options_of(options))?;
             }
-            scan(rt, By::Spec(text.as_slice(), fold))
+            scan(rt, By::Spec(text.as_slice(), options))
         }
         Job::ScanTable { file } => {
             let bytes = read_table_file(rt, file)?;

@@ -106,7 +106,11 @@ impl From<TableError> for Failure {
 fn read(rt: &HostRuntime) -> Result<Spec, Failure> {
     let mut text = Vec::new(rt.alloc());
     rt.reader().take(MAX_SPEC + 1).read_to_end(&mut text)?;
-    let spec = read_spec(rt.alloc(), &text, ReadOptions { fold: false })?;
+    let options = ReadOptions {
+        fold: false,
+        posix: false,
+    };
+    let spec = read_spec(rt.alloc(), &text, options)?;
     Ok(spec)
 }
 

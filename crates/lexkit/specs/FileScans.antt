@@ -12,7 +12,7 @@ use Rattle.lextab.specs.Steps.{machine_of_table}
 use Rattle.lextab.specs.Invariant.{GoesOn}
 use Rattle.lextab.specs.Views.{table_of}
 use Rattle.lexfile.specs.File.{IsFileOf, file_of}
-use Rattle.lexkit.specs.Headline.{Ran}
+use Rattle.lexkit.specs.Headline.{Ran, reading}
 use Rattle.lexkit.specs.Generated.{Makes}
 use Rattle.lexkit.specs.declared.options.Options.{Options}
 use Rattle.lexkit.specs.declared.making.Generated.{Generated}
@@ -20,7 +20,7 @@ use Rattle.lexkit.specs.declared.making.Generated.{Generated}
 -- What a scan by the rules of a table took, wrote and answered, where its file is that of what is made of a text, is what a
 -- scan by the specification that the text spells takes, writes and answers.
 abbrev pub FileScans : Type 0
-FileScans = (options : Options) (text : List ℕ) (g : Generated) → Makes options text (Ok g) → (S : Spec) × SpellsSpec options.fold text S
+FileScans = (options : Options) (text : List ℕ) (g : Generated) → Makes options text (Ok g) → (S : Spec) × SpellsSpec (reading options) text S
     × ((t : Table) (flags : List Bool) → IsFileOf t (file_of (table_of g.tables.parts)) → GoesOn t flags
     → (given out : List ℕ) (at_end : Bool) (answer : Result ℕ RunError)
     → Ran (rules_of_machine (machine_of_table t (λ state. flag flags state))) given out at_end answer → Ran (rules_of S) given out at_end answer)

@@ -25,7 +25,7 @@ use Rattle.lexpack.specs.Packing.{IsPacked}
 use Rattle.lexpack.specs.Tables.{packing_in}
 use Rattle.lexfile.specs.File.{file_of}
 use Rattle.lexcanon.specs.Canonical.{IsCanonical}
-use Rattle.lexkit.specs.Headline.{BuildRefusal, Refusal}
+use Rattle.lexkit.specs.Headline.{BuildRefusal, Refusal, reading}
 use Rattle.lexkit.specs.declared.options.Options.{Options}
 use Rattle.lexkit.specs.declared.errors.GenError.{GenError}
 use Rattle.lexkit.specs.declared.errors.GenError.TheVariants as gens
@@ -92,5 +92,5 @@ MakesBy limits S (Err e) = SpecRefusal limits S e
 
 -- what is made of a text
 abbrev pub Makes : Options → List ℕ → Result Generated GenError → Type 0
-Makes options text (Ok g) = (S : Spec) × SpellsSpec options.fold text S × IsMadeOf options.limits S g
+Makes options text (Ok g) = (S : Spec) × SpellsSpec (reading options) text S × IsMadeOf options.limits S g
 Makes options text (Err e) = Refusal options text e

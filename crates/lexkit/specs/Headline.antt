@@ -13,6 +13,7 @@ use Rattle.lexfile.specs.Refusals.{is_out_of_memory}
 use Rattle.lexfile.specs.declared.error.TableError.{TableError}
 use Rattle.lexmeaning.specs.Subsets.{Subsets, all_positions}
 use Rattle.lexspec.specs.Outcome.{UnlessMemory}
+use Rattle.lexre.specs.declared.options.ReadOptions.{ReadOptions}
 use Rattle.lexspec.specs.Files.{SpellsSpec}
 use Rattle.lexauto.specs.declared.subsets.Limits.{Limits}
 use Rattle.lexauto.specs.declared.error.BuildError.{BuildError}
@@ -42,11 +43,15 @@ BuildRefusal limits S builds.TooManyPositions = limits.positions < all_positions
 BuildRefusal limits S builds.TooManyStates = (n : ℕ) → Subsets S n → limits.states < n
 BuildRefusal limits S builds.OutOfMemory = ⊤
 
+-- how the patterns of a specification are read
+abbrev pub reading : Options → ReadOptions
+reading options = record { fold = options.fold; posix = options.posix }
+
 -- A text is refused only where it spells no specification, or the automaton of the one that it spells passes a limit, or
 -- memory ran out.
 abbrev pub Refusal : Options → List ℕ → GenError → Type 0
-Refusal options text (gens.Spec e) = UnlessMemory e.kind ((S : Spec) → SpellsSpec options.fold text S → ⊥)
-Refusal options text (gens.Build e) = (S : Spec) × SpellsSpec options.fold text S × BuildRefusal options.limits S e
+Refusal options text (gens.Spec e) = UnlessMemory e.kind ((S : Spec) → SpellsSpec (reading options) text S → ⊥)
+Refusal options text (gens.Build e) = (S : Spec) × SpellsSpec (reading options) text S × BuildRefusal options.limits S e
 Refusal options text gens.OutOfMemory = ⊤
 
 -- The scan by some rules took these bytes of the source and wrote these to the sink. It came to its end: they are those
@@ -76,9 +81,9 @@ ScansBy gave wrote limits S at_end s s' t t' (Err (scans.Table e)) = ⊥
 -- The headline: the scan is that of the specification that the text spells. A text that is refused leaves both ends as they were.
 abbrev pub Headline : {A B : Type 0} → (A → List ℕ → A → Type 0) → (B → List ℕ → B → Type 0) → Options → List ℕ → Bool → A → A → B → B → Result ℕ ScanError → Type 0
 Headline gave wrote options text at_end s s' t t' (Ok status) =
-    (S : Spec) × SpellsSpec options.fold text S × IsWithin options.limits S × Scans gave wrote (rules_of S) at_end s s' t t' (Ok status)
+    (S : Spec) × SpellsSpec (reading options) text S × IsWithin options.limits S × Scans gave wrote (rules_of S) at_end s s' t t' (Ok status)
 Headline gave wrote options text at_end s s' t t' (Err (scans.Run e)) =
-    (S : Spec) × SpellsSpec options.fold text S × IsWithin options.limits S × Scans gave wrote (rules_of S) at_end s s' t t' (Err e)
+    (S : Spec) × SpellsSpec (reading options) text S × IsWithin options.limits S × Scans gave wrote (rules_of S) at_end s s' t t' (Err e)
 Headline gave wrote options text at_end s s' t t' (Err (scans.Generate e)) = Refusal options text e × (s' ≡ s) × (t' ≡ t)
 Headline gave wrote options text at_end s s' t t' (Err (scans.Table e)) = ⊥
 

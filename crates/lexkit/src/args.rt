@@ -23,6 +23,8 @@ pub enum Job {
         backup: bool,
         /// Letters of patterns stand for both cases.
         fold: bool,
+        /// Intervals apply to series.
+        posix: bool,
         /// Warnings are not written.
         quiet: bool,
     },
@@ -31,6 +33,8 @@ pub enum Job {
         file: String,
         /// Letters of patterns stand for both cases.
         fold: bool,
+        /// Intervals apply to series.
+        posix: bool,
         /// Warnings are not written.
         quiet: bool,
     },
@@ -73,8 +77,8 @@ impl From<clap::Error> for ArgsError {
     }
 }
 
-/// Reads the words after the program's name: `[-t] [-n] [-v] [-b] [-i] [-w] [-o FILE] [FILE..]`, or `--scan-spec FILE` with
-/// `-i` or `-w`, or `--scan-table FILE` alone. Flags may be repeated. `-` is no FILE of a scan.
+/// Reads the words after the program's name: `[-t] [-n] [-v] [-b] [-i] [-X] [-w] [-o FILE] [FILE..]`, or `--scan-spec FILE`
+/// with `-i`, `-X` or `-w`, or `--scan-table FILE` alone. Flags may be repeated. `-` is no FILE of a scan.
 pub fn read_args(alloc: Global, words: &[String]) -> Result<Job, ArgsError>
     ensures { IfOk result IsNamed }
 {
@@ -112,6 +116,7 @@ fn known<'a>(alloc: Global) -> Result<Command<'a>, AllocError> {
         .arg(flag(alloc, "stats", 'v'))?
         .arg(flag(alloc, "backup", 'b'))?
         .arg(flag(alloc, "fold", 'i'))?
+        .arg(flag(alloc, "posix", 'X'))?
         .arg(flag(alloc, "quiet", 'w'))?
         .arg(out)?
         .arg(scan_spec)?
@@ -134,6 +139,11 @@ fn makes_tables(matches: &ArgMatches<'_>) -> bool {
         || matches.get_str("file").is_some()
 }
 
+/// Whether something stands there that only reading patterns takes: `-i` or `-X`.
+fn reads_patterns(matches: &ArgMatches<'_>) -> bool {
+    has(matches, "fold") || has(matches, "posix")
+}
+
 fn generating(alloc: Global, matches: &ArgMatches<'_>) -> Result<Job, ArgsError>
     ensures { IfOk result IsNamed }
 {
@@ -148,6 +158,7 @@ fn generating(alloc: Global, matches: &ArgMatches<'_>) -> Result<Job, ArgsError>
         stats: has(matches, "stats") && !has(matches, "no-stats"),
         backup: has(matches, "backup"),
         fold: has(matches, "fold"),
+        posix: has(matches, "posix"),
         quiet: has(matches, "quiet"),
     })
 }
@@ -171,6 +182,7 @@ fn scanning_by_spec(alloc: Global, matches: &ArgMatches<'_>, file: &str) -> Resu
     Ok(Job::ScanSpec {
         file: String::from_str(alloc, file)?,
         fold: has(matches, "fold"),
+        posix: has(matches, "posix"),
         quiet: has(matches, "quiet"),
     })
 }
@@ -178,7 +190,7 @@ fn scanning_by_spec(alloc: Global, matches: &ArgMatches<'_>, file: &str) -> Resu
 fn scanning_by_table(alloc: Global, matches: &ArgMatches<'_>, file: &str) -> Result<Job, ArgsError>
     ensures { IfOk result IsNamed }
 {
-    if makes_tables(matches) || has(matches, "fold") || has(matches, "quiet") || file == "-" {
+    if makes_tables(matches) || reads_patterns(matches) || has(matches, "quiet") || file == "-" {
         return Err(ArgsError::Usage);
     }
     Ok(Job::ScanTable {

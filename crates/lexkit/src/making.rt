@@ -43,7 +43,10 @@ pub fn generate(alloc: Global, text: &[u8], options: Options) -> Result<Generate
     requires few_states { options.limits.states ≤ 8192 }
     ensures { Makes options text.now result }
 {
-    let read = ReadOptions { fold: options.fold };
+    let read = ReadOptions {
+        fold: options.fold,
+        posix: options.posix,
+    };
     let spec = match read_spec(alloc, text, read) {
         Err(error) => return Err(GenError::Spec(error)),
         Ok(spec) => spec,

@@ -8,6 +8,8 @@ use lexauto::Limits;
 pub struct Options {
     /// Letters of patterns stand for both cases. (flex, Scanner Options: case-insensitive.)
     pub fold: bool,
+    /// An interval applies to the whole series to its left. (POSIX, lex, Regular Expressions in lex.)
+    pub posix: bool,
     /// The most positions and states of its automaton.
     pub limits: Limits,
 }
@@ -15,10 +17,11 @@ pub struct Options {
 impl Options {
     /// Patterns as they stand, and automata of at most 16,384 positions and 8,192 states.
     pub fn new() -> Options
-        ensures { result ≡ record { fold = false; limits = record { positions = 16384; states = 8192 } } }
+        ensures { result ≡ record { fold = false; posix = false; limits = record { positions = 16384; states = 8192 } } }
     {
         Options {
             fold: false,
+            posix: false,
             limits: Limits {
                 positions: 16_384,
                 states: 8_192,

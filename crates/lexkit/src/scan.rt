@@ -41,7 +41,10 @@ pub fn scan_spec<S: Source, K: Sink>(
     ensures ends_stay { S.ends source.old ≤ S.ends source.new }
     ensures one_end { S.ends source.new ≤ S.ends source.old + 1 }
 {
-    let read = ReadOptions { fold: options.fold };
+    let read = ReadOptions {
+        fold: options.fold,
+        posix: options.posix,
+    };
     let spec = match read_spec(alloc, text, read) {
         Err(error) => return Err(ScanError::Generate(GenError::Spec(error))),
         Ok(spec) => spec,

@@ -10,6 +10,7 @@ use Rattle.lexlines.specs.Lines.{line_in, after_block, after_comment, newlines, 
 use Rattle.lexlines.specs.DefinitionLines.{Definition, nothing, code_line, code_block, definition_in, percent_line, definition_at, IsUpTo}
 use Rattle.lexlines.specs.Declaring.{declared_of, AreGood, AreAllowed, Declares}
 use Rattle.lexlines.specs.declared.declarations.Declarations.{Declarations}
+use Rattle.lexre.specs.declared.options.ReadOptions.{ReadOptions}
 use Rattle.lexlines.specs.Outcome.{UnlessMemory}
 use Rattle.lexclass.specs.declared.refusals.SpecErrorKind.{SpecErrorKind}
 use Rattle.lexclass.proofs.MemoryLaws.{unless_memory}
@@ -170,22 +171,22 @@ newlines_front t rest (front, e) =
     ap (λ z. newlines z + newlines rest) first ∙ sym (sum_by-append (λ (c : ℕ). cond (c == 10) 1 0) front rest) ∙ ap newlines (sym e)
 
 -- so far these lines were read, and what they declare is kept
-pub record Reading (fold : Bool) (text : List ℕ) (d : Declarations) (rest : List ℕ) : Type 0 where
+pub record Reading (how : ReadOptions) (text : List ℕ) (d : Declarations) (rest : List ℕ) : Type 0 where
   pub definitions : List Definition
   pub lines : IsUpTo definition_at text definitions rest
-  pub declares : Declares fold definitions d
+  pub declares : Declares how definitions d
   pub allowed : AreAllowed definitions
 
-pub begin_reading : (fold : Bool) (text : List ℕ) (d : Declarations) → Declares fold [] d → Reading fold text d text
-begin_reading fold text d h = record { definitions = []; lines = refl; declares = h; allowed = ((refl, omega arith), refl, refl) }
+pub begin_reading : (how : ReadOptions) (text : List ℕ) (d : Declarations) → Declares how [] d → Reading how text d text
+begin_reading how text d h = record { definitions = []; lines = refl; declares = h; allowed = ((refl, omega arith), refl, refl) }
 
-pub good_kept : (fold : Bool) (text rest : List ℕ) (d : Declarations) → Reading fold text d rest → AreGood (map declared_of d.conditions.items)
-good_kept fold text rest d r = subst AreGood (sym r.declares.conditions) r.allowed.0
+pub good_kept : (how : ReadOptions) (text rest : List ℕ) (d : Declarations) → Reading how text d rest → AreGood (map declared_of d.conditions.items)
+good_kept how text rest d r = subst AreGood (sym r.declares.conditions) r.allowed.0
 
-pub read_line : (fold : Bool) (text rest next : List ℕ) (old new : Declarations) (d : Definition) → Reading fold text old rest → definition_at rest ≡ Some (d, next)
-    → ((fold : Bool) (ds : List Definition) → Declares fold ds old → AreAllowed ds → Declares fold (ds ++ d ∷ []) new × AreAllowed (ds ++ d ∷ [])) → Reading fold text new next
-read_line fold text rest next old new d r here takes =
-    let taken = takes fold r.definitions r.declares r.allowed in
+pub read_line : (how : ReadOptions) (text rest next : List ℕ) (old new : Declarations) (d : Definition) → Reading how text old rest → definition_at rest ≡ Some (d, next)
+    → ((how : ReadOptions) (ds : List Definition) → Declares how ds old → AreAllowed ds → Declares how (ds ++ d ∷ []) new × AreAllowed (ds ++ d ∷ [])) → Reading how text new next
+read_line how text rest next old new d r here takes =
+    let taken = takes how r.definitions r.declares r.allowed in
     record { definitions = r.definitions ++ d ∷ []; lines = up_to_push definition_at text r.definitions d rest next r.lines here; declares = taken.0; allowed = taken.1 }
 
 pub line_counts : (rest next : List ℕ) (d : Definition) (line more whole : ℕ) → definition_at rest ≡ Some (d, next) → line + newlines rest ≡ whole → more ≡ newlines (take (length rest - length next) rest)
@@ -196,8 +197,8 @@ line_counts rest next d line more whole here so e = omega (arith, newlines_front
 abbrev pub NoSection : List ℕ → Type 0
 NoSection text = (ds : List Definition) (after : List ℕ) → IsUpTo definition_at text ds after → begins (codes "%%") after ≡ true → AreAllowed ds → ⊥
 
-pub taking_refused : (kind : SpecErrorKind) (fold : Bool) (text rest next : List ℕ) (old : Declarations) (d : Definition) → Reading fold text old rest → definition_at rest ≡ Some (d, next)
-    → UnlessMemory kind ((fold : Bool) (ds more : List Definition) → Declares fold ds old → AreAllowed (ds ++ d ∷ more) → ⊥) → UnlessMemory kind (NoSection text)
-taking_refused kind fold text rest next old d r here h =
-    unless_memory kind ((fold : Bool) (ds more : List Definition) → Declares fold ds old → AreAllowed (ds ++ d ∷ more) → ⊥) (NoSection text)
-    (λ refused. no_taking AreAllowed text rest next r.definitions d r.lines here (λ more. refused fold r.definitions more r.declares)) h
+pub taking_refused : (kind : SpecErrorKind) (how : ReadOptions) (text rest next : List ℕ) (old : Declarations) (d : Definition) → Reading how text old rest → definition_at rest ≡ Some (d, next)
+    → UnlessMemory kind ((how : ReadOptions) (ds more : List Definition) → Declares how ds old → AreAllowed (ds ++ d ∷ more) → ⊥) → UnlessMemory kind (NoSection text)
+taking_refused kind how text rest next old d r here h =
+    unless_memory kind ((how : ReadOptions) (ds more : List Definition) → Declares how ds old → AreAllowed (ds ++ d ∷ more) → ⊥) (NoSection text)
+    (λ refused. no_taking AreAllowed text rest next r.definitions d r.lines here (λ more. refused how r.definitions more r.declares)) h

@@ -10,8 +10,10 @@ use Rattle.std.proofs.lemmas.Bool.{and_parts, and_from}
 use Rattle.std.proofs.lemmas.List.{map-append, append_assoc}
 use Rattle.lexmeaning.specs.ByteSets.{is_word}
 use Rattle.lexre.specs.Definitions.{Definitions}
+use Rattle.lexre.specs.declared.options.ReadOptions.{ReadOptions}
 use Rattle.lexlines.specs.DefinitionLines.{Definition, nothing, code_line, code_block, declares, options, ignored, defines, Declared, declared, all_conditions, has_name, are_distinct, substitutes_of, all_options, known_options, are_known}
 use Rattle.lexlines.specs.Declaring.{declared_of, with_kind, AreGood, AreAllowed, Declares}
+use Rattle.lexlines.specs.Folding.{with_fold}
 use Rattle.lexlines.specs.declared.declarations.Declarations.{Declarations}
 use Rattle.lexlines.proofs.OneSection.{no_true}
 use Rattle.lexlines.proofs.DeclaringLaws.{word_same, word_is, word_other, has_append, distinct_push, distinct_taken}
@@ -71,15 +73,19 @@ or_assoc false b c = refl
 pub record Adds (ds : List Definition) (d : Definition) (old new : Declarations) : Type 0 where
   pub conditions : map declared_of new.conditions.items ≡ map declared_of old.conditions.items ++ declared (d ∷ [])
   pub defs : new.defs ≡ from_entries (substitutes_of ds ++ substitutes_of (d ∷ []))
-  pub folds : new.fold ≡ (old.fold || has_name (all_options (d ∷ [])) (codes "case-insensitive"))
+  pub reads : new.options ≡ with_fold old.options (has_name (all_options (d ∷ [])) (codes "case-insensitive"))
 
-adds_declares : (fold : Bool) (ds : List Definition) (d : Definition) (old new : Declarations) → Adds ds d old new → Declares fold ds old → Declares fold (ds ++ d ∷ []) new
-adds_declares fold ds d old new a h = record {
+-- the same way of reading, but for this
+abbrev with_folds : ReadOptions → Bool → ReadOptions
+with_folds how fold = record { fold = fold; posix = how.posix }
+
+adds_declares : (how : ReadOptions) (ds : List Definition) (d : Definition) (old new : Declarations) → Adds ds d old new → Declares how ds old → Declares how (ds ++ d ∷ []) new
+adds_declares how ds d old new a h = record {
   conditions = a.conditions ∙ ap (λ z. z ++ declared (d ∷ [])) h.conditions ∙ sym (conditions_append ds (d ∷ []));
   defs = a.defs ∙ ap from_entries (sym (substitutes_append ds (d ∷ [])));
-  folds = a.folds ∙ ap (λ z. z || has_name (all_options (d ∷ [])) (codes "case-insensitive")) h.folds
-      ∙ sym (or_assoc fold (has_name (all_options ds) (codes "case-insensitive")) (has_name (all_options (d ∷ [])) (codes "case-insensitive")))
-      ∙ ap (λ z. fold || z) (sym (has_append (all_options ds) (all_options (d ∷ [])) (codes "case-insensitive")) ∙ ap (λ z. has_name z (codes "case-insensitive")) (sym (options_append ds (d ∷ []))));
+  reads = a.reads ∙ ap (λ z. with_fold z (has_name (all_options (d ∷ [])) (codes "case-insensitive"))) h.reads
+      ∙ ap (λ z. with_folds how z) (sym (or_assoc how.fold (has_name (all_options ds) (codes "case-insensitive")) (has_name (all_options (d ∷ [])) (codes "case-insensitive"))))
+      ∙ ap (with_fold how) (sym (has_append (all_options ds) (all_options (d ∷ [])) (codes "case-insensitive")) ∙ ap (λ z. has_name z (codes "case-insensitive")) (sym (options_append ds (d ∷ []))));
 }
 
 adds_allowed : (ds : List Definition) (d : Definition) → AreGood (all_conditions ds ++ declared (d ∷ [])) → are_distinct (firsts (substitutes_of ds ++ substitutes_of (d ∷ []))) ≡ true
@@ -94,53 +100,56 @@ or_none : (b : Bool) → (b || false) ≡ b
 or_none true = refl
 or_none false = refl
 
+none_asked : (how : ReadOptions) → with_fold how false ≡ how
+none_asked how = ap (with_folds how) (or_none how.fold)
+
 -- a line that declares nothing
-pub adds_nothing : (d : Definition) → (declared (d ∷ []) ≡ []) → (substitutes_of (d ∷ []) ≡ []) → (all_options (d ∷ []) ≡ []) → (fold : Bool) (ds : List Definition) (old new : Declarations)
-    → new.conditions.items ≡ old.conditions.items → new.defs ≡ old.defs → new.fold ≡ old.fold → Declares fold ds old → AreAllowed ds → Declares fold (ds ++ d ∷ []) new × AreAllowed (ds ++ d ∷ [])
-adds_nothing d none no_name no_option fold ds old new conditions defs folds h allowed = (
-  adds_declares fold ds d old new (record {
+pub adds_nothing : (d : Definition) → (declared (d ∷ []) ≡ []) → (substitutes_of (d ∷ []) ≡ []) → (all_options (d ∷ []) ≡ []) → (how : ReadOptions) (ds : List Definition) (old new : Declarations)
+    → new.conditions.items ≡ old.conditions.items → new.defs ≡ old.defs → new.options ≡ old.options → Declares how ds old → AreAllowed ds → Declares how (ds ++ d ∷ []) new × AreAllowed (ds ++ d ∷ [])
+adds_nothing d none no_name no_option how ds old new conditions defs reads h allowed = (
+  adds_declares how ds d old new (record {
     conditions = ap (map declared_of) conditions ∙ sym (append-nil (map declared_of old.conditions.items)) ∙ ap (λ z. map declared_of old.conditions.items ++ z) (sym none);
     defs = defs ∙ h.defs ∙ ap from_entries (sym (append-nil (substitutes_of ds)) ∙ ap (λ z. substitutes_of ds ++ z) (sym no_name));
-    folds = folds ∙ sym (or_none old.fold) ∙ ap (λ z. old.fold || has_name z (codes "case-insensitive")) (sym no_option);
+    reads = reads ∙ sym (none_asked old.options) ∙ ap (λ z. with_fold old.options (has_name z (codes "case-insensitive"))) (sym no_option);
   }) h,
   adds_allowed ds d (subst AreGood (sym (append-nil (all_conditions ds)) ∙ ap (λ z. all_conditions ds ++ z) (sym none)) allowed.0)
       (ap (λ z. are_distinct (firsts (substitutes_of ds ++ z))) no_name ∙ ap (λ z. are_distinct (firsts z)) (append-nil (substitutes_of ds)) ∙ allowed.1) allowed.2 (ap are_known no_option),
 )
 
 -- a line that declares conditions
-pub adds_conditions : (exclusive : Bool) (names : List (List ℕ)) (fold : Bool) (ds : List Definition) (old new : Declarations)
-    → map declared_of new.conditions.items ≡ map declared_of old.conditions.items ++ with_kind exclusive names → new.defs ≡ old.defs → new.fold ≡ old.fold → AreGood (map declared_of new.conditions.items)
-    → Declares fold ds old → AreAllowed ds → Declares fold (ds ++ declares exclusive names ∷ []) new × AreAllowed (ds ++ declares exclusive names ∷ [])
-adds_conditions exclusive names fold ds old new conditions defs folds good h allowed =
+pub adds_conditions : (exclusive : Bool) (names : List (List ℕ)) (how : ReadOptions) (ds : List Definition) (old new : Declarations)
+    → map declared_of new.conditions.items ≡ map declared_of old.conditions.items ++ with_kind exclusive names → new.defs ≡ old.defs → new.options ≡ old.options → AreGood (map declared_of new.conditions.items)
+    → Declares how ds old → AreAllowed ds → Declares how (ds ++ declares exclusive names ∷ []) new × AreAllowed (ds ++ declares exclusive names ∷ [])
+adds_conditions exclusive names how ds old new conditions defs reads good h allowed =
     let all : with_kind exclusive names ≡ declared (declares exclusive names ∷ []) = sym (append-nil (with_kind exclusive names)) in
     let same : map declared_of new.conditions.items ≡ all_conditions ds ++ declared (declares exclusive names ∷ []) =
     conditions ∙ ap (λ z. z ++ with_kind exclusive names) h.conditions ∙ ap (λ z. all_conditions ds ++ z) all in (
-      adds_declares fold ds (declares exclusive names) old new (record {
+      adds_declares how ds (declares exclusive names) old new (record {
         conditions = conditions ∙ ap (λ z. map declared_of old.conditions.items ++ z) all;
         defs = defs ∙ h.defs ∙ ap from_entries (sym (append-nil (substitutes_of ds)));
-        folds = folds ∙ sym (or_none old.fold);
+        reads = reads ∙ sym (none_asked old.options);
       }) h,
       adds_allowed ds (declares exclusive names) (subst AreGood same good) (ap (λ z. are_distinct (firsts z)) (append-nil (substitutes_of ds)) ∙ allowed.1) allowed.2 refl,
     )
 
 pub refused_conditions : (exclusive : Bool) (names : List (List ℕ)) (old : Declarations) → ((more : List Declared) → AreGood (map declared_of old.conditions.items ++ with_kind exclusive names ++ more) → ⊥)
-    → (fold : Bool) (ds more : List Definition) → Declares fold ds old → AreAllowed (ds ++ declares exclusive names ∷ more) → ⊥
-refused_conditions exclusive names old none fold ds more h allowed =
+    → (how : ReadOptions) (ds more : List Definition) → Declares how ds old → AreAllowed (ds ++ declares exclusive names ∷ more) → ⊥
+refused_conditions exclusive names old none how ds more h allowed =
     let same : all_conditions (ds ++ declares exclusive names ∷ more) ≡ map declared_of old.conditions.items ++ with_kind exclusive names ++ declared more =
     conditions_append ds (declares exclusive names ∷ more) ∙ ap (λ z. z ++ (with_kind exclusive names ++ declared more)) (sym h.conditions)
     ∙ sym (append_assoc (map declared_of old.conditions.items) (with_kind exclusive names) (declared more)) in
     none (declared more) (subst AreGood same allowed.0)
 
 -- a line of options
-pub adds_options : (ws : List (List ℕ)) (fold : Bool) (ds : List Definition) (old new : Declarations) → new.conditions.items ≡ old.conditions.items → new.defs ≡ old.defs
-    → new.fold ≡ (old.fold || has_name ws (codes "case-insensitive")) → are_known ws ≡ true → Declares fold ds old → AreAllowed ds
-    → Declares fold (ds ++ options ws ∷ []) new × AreAllowed (ds ++ options ws ∷ [])
-adds_options ws fold ds old new conditions defs folds known h allowed =
+pub adds_options : (ws : List (List ℕ)) (how : ReadOptions) (ds : List Definition) (old new : Declarations) → new.conditions.items ≡ old.conditions.items → new.defs ≡ old.defs
+    → new.options ≡ with_fold old.options (has_name ws (codes "case-insensitive")) → are_known ws ≡ true → Declares how ds old → AreAllowed ds
+    → Declares how (ds ++ options ws ∷ []) new × AreAllowed (ds ++ options ws ∷ [])
+adds_options ws how ds old new conditions defs reads known h allowed =
     let all : ws ≡ all_options (options ws ∷ []) = sym (append-nil ws) in (
-      adds_declares fold ds (options ws) old new (record {
+      adds_declares how ds (options ws) old new (record {
         conditions = ap (map declared_of) conditions ∙ sym (append-nil (map declared_of old.conditions.items));
         defs = defs ∙ h.defs ∙ ap from_entries (sym (append-nil (substitutes_of ds)));
-        folds = folds ∙ ap (λ z. old.fold || has_name z (codes "case-insensitive")) all;
+        reads = reads ∙ ap (λ z. with_fold old.options (has_name z (codes "case-insensitive"))) all;
       }) h,
       adds_allowed ds (options ws) (subst AreGood (sym (append-nil (all_conditions ds))) allowed.0) (ap (λ z. are_distinct (firsts z)) (append-nil (substitutes_of ds)) ∙ allowed.1) allowed.2
           (ap are_known (sym all) ∙ known),
@@ -177,9 +186,9 @@ found_by_name (e ∷ es) name =
 name_there : (es : List (List ℕ × List ℕ)) (m : Definitions) (name : List ℕ) → m ≡ from_entries es → is_some (map.get m name) ≡ has_name (firsts es) name
 name_there es m name e = ap (λ z. is_some (map.get z name)) e ∙ ap is_some (map.get-from_entries nat_list_cmp_total es name) ∙ found_by_name es name
 
-pub refused_name : (name text : List ℕ) (old : Declarations) → IsSome (map.get old.defs name) → (fold : Bool) (ds more : List Definition) → Declares fold ds old
+pub refused_name : (name text : List ℕ) (old : Declarations) → IsSome (map.get old.defs name) → (how : ReadOptions) (ds more : List Definition) → Declares how ds old
     → AreAllowed (ds ++ defines name text ∷ more) → ⊥
-refused_name name text old there fold ds more h allowed =
+refused_name name text old there how ds more h allowed =
     let taken : has_name (firsts (substitutes_of ds)) name ≡ true = sym (name_there (substitutes_of ds) old.defs name h.defs) ∙ there in
     let names : firsts (substitutes_of (ds ++ defines name text ∷ more)) ≡ firsts (substitutes_of ds) ++ name ∷ firsts (substitutes_of more) =
     ap firsts (substitutes_append ds (defines name text ∷ more)) ∙ map-append (λ (d : List ℕ × List ℕ). d.0) (substitutes_of ds) ((name, text) ∷ substitutes_of more) in
@@ -189,19 +198,19 @@ none_if : {A : Type 0} (o : Option A) → is_some o ≡ false → o ≡ None
 none_if None e = refl
 none_if (Some x) e = no_true (sym e)
 
-pub adds_name : (name text : List ℕ) (fold : Bool) (ds : List Definition) (old new : Declarations) → new.conditions.items ≡ old.conditions.items → new.fold ≡ old.fold
-    → new.defs ≡ map.insert old.defs name text → (IsSome (map.get old.defs name) → ⊥) → Declares fold ds old → AreAllowed ds
-    → Declares fold (ds ++ defines name text ∷ []) new × AreAllowed (ds ++ defines name text ∷ [])
-adds_name name text fold ds old new conditions folds defs free h allowed =
+pub adds_name : (name text : List ℕ) (how : ReadOptions) (ds : List Definition) (old new : Declarations) → new.conditions.items ≡ old.conditions.items → new.options ≡ old.options
+    → new.defs ≡ map.insert old.defs name text → (IsSome (map.get old.defs name) → ⊥) → Declares how ds old → AreAllowed ds
+    → Declares how (ds ++ defines name text ∷ []) new × AreAllowed (ds ++ defines name text ∷ [])
+adds_name name text how ds old new conditions reads defs free h allowed =
     let entries = substitutes_of ds in
     let off : is_some (map.get old.defs name) ≡ false = not_so (is_some (map.get old.defs name)) free in
     let out : has_name (firsts entries) name ≡ false = sym (name_there entries old.defs name h.defs) ∙ off in
     let none : find (slice_cmp nat_cmp) name entries ≡ None = none_if (find (slice_cmp nat_cmp) name entries) (found_by_name entries name ∙ out) in (
-      adds_declares fold ds (defines name text) old new (record {
+      adds_declares how ds (defines name text) old new (record {
         conditions = ap (map declared_of) conditions ∙ sym (append-nil (map declared_of old.conditions.items));
         defs = defs ∙ ap (λ z. map.insert z name text) h.defs
             ∙ sym (map.from_entries_push nat_list_cmp_total (map.slice_cmp-IsAntisymmetric map.nat_cmp-IsAntisymmetric) entries name text none);
-        folds = folds ∙ sym (or_none old.fold);
+        reads = reads ∙ sym (none_asked old.options);
       }) h,
       adds_allowed ds (defines name text) (subst AreGood (sym (append-nil (all_conditions ds))) allowed.0)
           (ap are_distinct (map-append (λ (d : List ℕ × List ℕ). d.0) entries ((name, text) ∷ [])) ∙ distinct_push (firsts entries) name allowed.1 out) allowed.2 refl,

@@ -1,10 +1,12 @@
 -- What the definitions section declares, as the code keeps it.
-use Rattle.std.specs.Prelude.{◌≡◌, ℕ, ◌≤◌, Bool, true, ◌||◌, List, map, length, codes}
+use Rattle.std.specs.Prelude.{◌≡◌, ℕ, ◌≤◌, Bool, true, List, map, length, codes}
 use Rattle.std.specs.FinMap.{from_entries}
 use Rattle.lexaction.specs.declared.condition.Condition.{Condition}
 use Rattle.lexlines.specs.DefinitionLines.{Definition, Declared, all_conditions, names_of, has_name, are_distinct, substitutes_of, all_options, are_known}
 use Rattle.lexlines.specs.declared.declarations.Declarations.{Declarations}
 use Rattle.lexaction.specs.Limits.{max_conditions}
+use Rattle.lexlines.specs.Folding.{with_fold}
+use Rattle.lexre.specs.declared.options.ReadOptions.{ReadOptions}
 
 abbrev pub declared_of : Condition → Declared
 declared_of c = record { exclusive = c.exclusive; name = c.name.items }
@@ -22,7 +24,7 @@ abbrev pub AreAllowed : List Definition → Type 0
 AreAllowed ds = AreGood (all_conditions ds) × (are_distinct (map (λ (d : List ℕ × List ℕ). d.0) (substitutes_of ds)) ≡ true) × (are_known (all_options ds) ≡ true)
 
 -- what the lines declare is what the code keeps
-pub record Declares (fold : Bool) (ds : List Definition) (d : Declarations) : Type 0 where
+pub record Declares (how : ReadOptions) (ds : List Definition) (d : Declarations) : Type 0 where
   pub conditions : map declared_of d.conditions.items ≡ all_conditions ds
   pub defs : d.defs ≡ from_entries (substitutes_of ds)
-  pub folds : d.fold ≡ (fold || has_name (all_options ds) (codes "case-insensitive"))
+  pub reads : d.options ≡ with_fold how (has_name (all_options ds) (codes "case-insensitive"))

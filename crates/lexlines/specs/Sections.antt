@@ -1,7 +1,8 @@
 -- What the reader of the definitions section answers.
-use Rattle.std.specs.Prelude.{◌≡◌, ℕ, ◌+◌, Bool, true, List, codes, is_some, if◌then◌else◌}
+use Rattle.std.specs.Prelude.{◌≡◌, ℕ, ◌+◌, true, List, codes, is_some, if◌then◌else◌}
 use Rattle.std.specs.FinMap.{get}
 use Rattle.lexre.specs.Definitions.{Definitions}
+use Rattle.lexre.specs.declared.options.ReadOptions.{ReadOptions}
 use Rattle.lexlines.specs.declared.definition.DefinitionFault.{DefinitionFault}
 use Rattle.lexlines.specs.declared.definition.DefinitionFault.TheVariants.{BadLine, Unclosed, Anchored}
 use Rattle.lexclass.specs.declared.refusals.SpecErrorKind.{SpecErrorKind}
@@ -13,11 +14,11 @@ use Rattle.lexlines.specs.Declaring.{AreAllowed, Declares}
 use Rattle.lexlines.specs.declared.section.Section.{Section}
 
 -- the lines before the one that begins with `%%`, what they declare, and the number of that line
-pub record HasSection (fold : Bool) (text : List ℕ) (s : Section) : Type 0 where
+pub record HasSection (how : ReadOptions) (text : List ℕ) (s : Section) : Type 0 where
   pub definitions : List Definition
   pub lines : IsUpTo definition_at text definitions s.rest.now
   pub separator : begins (codes "%%") s.rest.now ≡ true
-  pub declares : Declares fold definitions s.declarations
+  pub declares : Declares how definitions s.declarations
   pub allowed : AreAllowed definitions
   pub line : s.line + newlines s.rest.now ≡ 1 + newlines text
 

@@ -5,13 +5,14 @@ ghost use Rattle.lexlines.specs.DefinitionLines.{Definition as Meant, has_name, 
 ghost use Rattle.lexlines.specs.DefinitionViews.{definition_of};
 ghost use Rattle.lexlines.specs.Declaring.{declared_of, with_kind, AreGood, AreAllowed, Declares};
 ghost use Rattle.lexlines.specs.Outcome.{UnlessMemory};
+ghost use Rattle.lexre.specs.declared.options.ReadOptions.{ReadOptions as Reading};
 
 use crate::definition::Definition;
 use crate::lines::next_word;
 use crate::skipped::Skipped;
 use lexaction::{Condition, EndAction, number_of};
 use lexclass::SpecErrorKind;
-use lexre::{Defs, DefsError};
+use lexre::{Defs, DefsError, ReadOptions};
 use std::alloc::{AllocError, Global};
 
 /// The most conditions, INITIAL among them.
@@ -25,8 +26,8 @@ pub struct Declarations {
     pub conditions: Vec<Condition>,
     /// The names with their substitutes.
     pub defs: Defs,
-    /// Whether patterns ignore case.
-    pub fold: bool,
+    /// How patterns are read.
+    pub options: ReadOptions,
     /// The lines where code was skipped.
     pub skipped: Skipped,
 }
@@ -107,8 +108,8 @@ fn with_options(fold: bool, text: &[u8]) -> Option<bool>
 
 impl Declarations {
     /// INITIAL alone, which is inclusive.
-    pub(crate) fn new(alloc: Global, fold: bool) -> Result<Declarations, AllocError>
-        ensures { IfOk result (λ d. Declares fold [] d) }
+    pub(crate) fn new(alloc: Global, options: ReadOptions) -> Result<Declarations, AllocError>
+        ensures { IfOk result (λ d. Declares options [] d) }
     {
         let initial = condition(alloc, b"INITIAL".as_slice(), false)?;
         let conditions: Vec<Condition> = vec![in alloc; initial]?;
@@ -116,7 +117,7 @@ impl Declarations {
             alloc,
             conditions,
             defs: Defs::new(alloc),
-            fold,
+            options,
             skipped: Skipped::new(alloc),
         })
     }
@@ -130,9 +131,9 @@ impl Declarations {
     ) -> Result<(), SpecErrorKind>
         requires good { AreGood (map declared_of self.old.conditions.items) }
         requires line { line + 1 < 2 ^ 32 }
-        ensures found { OnOk result ((fold : Bool) (ds : List Meant) → Declares fold ds self.old → AreAllowed ds
-            → Declares fold (ds ++ definition_of definition.entry ∷ []) self.new × AreAllowed (ds ++ definition_of definition.entry ∷ [])) }
-        ensures none { IfErr result (λ e. UnlessMemory e ((fold : Bool) (ds more : List Meant) → Declares fold ds self.old → AreAllowed (ds ++ definition_of definition.entry ∷ more) → ⊥)) }
+        ensures found { OnOk result ((how : Reading) (ds : List Meant) → Declares how ds self.old → AreAllowed ds
+            → Declares how (ds ++ definition_of definition.entry ∷ []) self.new × AreAllowed (ds ++ definition_of definition.entry ∷ [])) }
+        ensures none { IfErr result (λ e. UnlessMemory e ((how : Reading) (ds more : List Meant) → Declares how ds self.old → AreAllowed (ds ++ definition_of definition.entry ∷ more) → ⊥)) }
     {
         match definition {
             Definition::Nothing => Ok(()),
@@ -142,9 +143,9 @@ impl Declarations {
             Definition::Declares { exclusive, names } => {
                 declare(self.alloc, &mut self.conditions, exclusive, names)
             }
-            Definition::Options(text) => match with_options(self.fold, text) {
+            Definition::Options(text) => match with_options(self.options.fold, text) {
                 Some(folds) => {
-                    self.fold = folds;
+                    self.options.fold = folds;
                     Ok(())
                 }
                 None => Err(SpecErrorKind::UnsupportedOption),

@@ -11,6 +11,7 @@ use crate::declarations::Declarations;
 use crate::definition::{DefinitionFault, definition_at};
 use crate::newlines::newlines_before;
 use lexclass::{SpecError, SpecErrorKind};
+use lexre::ReadOptions;
 use std::alloc::Global;
 
 /// What the definitions section declares, and where the next section begins.
@@ -24,15 +25,19 @@ pub struct Section<'a> {
     pub line: u32,
 }
 
-/// The definitions section, up to a line that begins with `%%`. `fold` says whether patterns ignore case without an
-/// option. The first faulty line is refused; without a `%%` it is the line after the last, as `NoRulesSection`.
-pub fn read_section(alloc: Global, text: &[u8], fold: bool) -> Result<Section<'_>, SpecError>
+/// The definitions section, up to a line that begins with `%%`. `options` says how patterns are read
+/// without an option. The first faulty line is refused; without a `%%` it is the line after the last, as `NoRulesSection`.
+pub fn read_section(
+    alloc: Global,
+    text: &[u8],
+    options: ReadOptions,
+) -> Result<Section<'_>, SpecError>
     requires { length text.now ≤ max_file_bytes }
-    ensures found { IfOk result (λ s. HasSection fold text.now s) }
+    ensures found { IfOk result (λ s. HasSection options text.now s) }
     ensures none { IfErr result (λ e. UnlessMemory e.kind ((ds : List Meant) (after : List ℕ) → IsUpTo definition_at text.now ds after
         → begins (codes "%%") after ≡ true → AreAllowed ds → ⊥)) }
 {
-    let mut declarations = Declarations::new(alloc, fold)?;
+    let mut declarations = Declarations::new(alloc, options)?;
     let mut rest = text;
     let mut line: u32 = 1;
     'lines: loop {

@@ -31,7 +31,11 @@ fn built(alloc: Global, text: &str, limits: Limits) -> Result<Result<Dfa, BuildE
     requires positions { limits.positions ≤ 16384 }
     requires states { limits.states ≤ 8192 }
 {
-    let spec = read_spec(alloc, text.as_bytes(), ReadOptions { fold: false })?;
+    let options = ReadOptions {
+        fold: false,
+        posix: false,
+    };
+    let spec = read_spec(alloc, text.as_bytes(), options)?;
     Ok(build(alloc, &spec, limits))
 }
 

@@ -9,9 +9,10 @@ use Rattle.lexmeaning.specs.Text.{Among}
 use Rattle.lexmeaning.specs.Tree.{Tree}
 use Rattle.lexre.specs.Cycles.{LeadsTo, LeadsToText, AllLead, AllLeadToText, AllLeadToSymbol}
 use Rattle.lexre.specs.Definitions.{Definitions}
-use Rattle.lexre.specs.Grammar.{choice_tree, IsItem, IsSeries, IsPattern, alone, group, defines, first, next, repeated, counted, only, choice, SpellsWithin}
+use Rattle.lexre.specs.Grammar.{choice_tree, Signs, IsItem, IsSeries, IsPattern, alone, group, defines, first, next, repeated, counted, only, choice, SpellsWithin}
 use Rattle.lexre.specs.Reading.{SpellsIn, StandsIn, NoneWithin, is_among}
 use Rattle.lexre.specs.Running.{Stands}
+use Rattle.lexre.specs.declared.options.ReadOptions.{ReadOptions}
 use Rattle.lexmeaning.proofs.Fronts.{among_append}
 use Rattle.lexre.proofs.OneTree.{pair_is}
 use Rattle.lexre.proofs.ReaderLaws.{nothing_at}
@@ -39,10 +40,10 @@ no_sign n s e = cc
 no_interval : (n : List ℕ) (k : ℕ) (m : Option ℕ) → name n ≡ interval k m → ⊥
 no_interval n k m e = cc
 
-module _ (symbol_at : Lexer) (defined : List ℕ → Option (List ℕ)) where
+module _ (posix : Bool) (symbol_at : Lexer) (defined : List ℕ → Option (List ℕ)) where
   -- the name stands for a tree where fewer may be opened
   abbrev Below : ℕ → List ℕ → Type 0
-  Below d n = (below : ℕ) × (u : Tree) × (below < d) × Stands symbol_at defined below n u
+  Below d n = (below : ℕ) × (u : Tree) × (below < d) × Stands posix symbol_at defined below n u
 
   deeper : (d : ℕ) (n : List ℕ) → Below d n → Below (suc d) n
   deeper d n (below, u, less, stands) = (below, u, omega arith, stands)
@@ -56,18 +57,18 @@ module _ (symbol_at : Lexer) (defined : List ℕ → Option (List ℕ)) where
   ]
 
   mutual
-    item_named : (d : ℕ) (ss : List Symbol) (t : Tree) → IsItem symbol_at defined d ss t → (n : List ℕ) → Among ss (name n) → Below d n
+    item_named : (d : ℕ) (ss : List Symbol) (t : Tree) → IsItem posix symbol_at defined d ss t → (n : List ℕ) → Among ss (name n) → Below d n
     item_named _ _ _ (alone d t) n (inl here) = absurd (no_item n t here)
     item_named _ _ _ (alone d t) n (inr more) = absurd more
     item_named _ _ _ (group d ss ts t inside) n (inl here) = absurd (no_opening n here)
     item_named _ _ _ (group d ss ts t inside) n (inr more) = deeper d n (pattern_named d ss ts t inside n (in_front ss closing n (no_closing n) more))
     item_named _ _ _ (defines d m text ss ts t found cut inside) n (inl here) =
         let same : m ≡ n = sym (name_is n m here) in
-        let P : List ℕ → Type 0 = λ x. Stands symbol_at defined d x (choice_tree ts t) in
+        let P : List ℕ → Type 0 = λ x. Stands posix symbol_at defined d x (choice_tree ts t) in
         (d, choice_tree ts t, omega arith, subst P same (text, found, (ss, ts, t, cut, inside, refl)))
     item_named _ _ _ (defines d m text ss ts t found cut inside) n (inr more) = absurd more
 
-    series_named : (d : ℕ) (ss : List Symbol) (parts : List Tree) (last : Tree) (k : ℕ) → IsSeries symbol_at defined d ss parts last k
+    series_named : (d : ℕ) (ss : List Symbol) (parts : List Tree) (last : Tree) (k : Signs) → IsSeries posix symbol_at defined d ss parts last k
         → (n : List ℕ) → Among ss (name n) → Below d n
     series_named _ _ _ _ _ (first d ss t it) n among = item_named d ss t it n among
     series_named _ _ _ _ _ (next d ss parts last k more t before it) n among = elim (among_append ss more (name n) among) [
@@ -78,7 +79,7 @@ module _ (symbol_at : Lexer) (defined : List ℕ → Option (List ℕ)) where
     series_named _ _ _ _ _ (counted d ss parts last k m most before below) n among =
         series_named d ss parts last k before n (in_front ss (interval m most) n (no_interval n m most) among)
 
-    pattern_named : (d : ℕ) (ss : List Symbol) (ts : List Tree) (t : Tree) → IsPattern symbol_at defined d ss ts t → (n : List ℕ) → Among ss (name n) → Below d n
+    pattern_named : (d : ℕ) (ss : List Symbol) (ts : List Tree) (t : Tree) → IsPattern posix symbol_at defined d ss ts t → (n : List ℕ) → Among ss (name n) → Below d n
     pattern_named _ _ _ _ (only d ss parts last k series) n among = series_named d ss parts last k series n among
     pattern_named _ _ _ _ (choice d ss ts t more parts last k before series) n among = elim (among_append ss (bar ∷ more) (name n) among) [
       | inl left ↦ pattern_named d ss ts t before n left
@@ -121,61 +122,61 @@ module _ (symbol_at : Lexer) (defined : List ℕ → Option (List ℕ)) where
 
     -- a name in the text of a tree stands for a tree
     text_named : (d : ℕ) (text rest after : List ℕ) (n : List ℕ) (t : Tree) → EndsWith text rest → symbol_at rest ≡ Some (name n, after)
-        → SpellsWithin symbol_at defined d text t → Below d n
+        → SpellsWithin posix symbol_at defined d text t → Below d n
     text_named d text rest after n t ends here (ss, ts, last, cut, is, same) =
         pattern_named d ss ts last is n (front_among text rest after (name n) ss ends here cut)
 
 -- Names that lead to others.
 
-leads_front : (fold : Bool) (defs : Definitions) (m text rest after n : List ℕ) → LeadsToText fold defs m text
-    → EndsWith (symbol_at fold) (get defs) text rest → symbol_at fold rest ≡ Some (name n, after) → LeadsTo fold defs m n
-leads_front fold defs m text rest after n leads ends here d t stands =
+leads_front : (how : ReadOptions) (defs : Definitions) (m text rest after n : List ℕ) → LeadsToText how defs m text
+    → EndsWith how.posix (symbol_at how.fold) (get defs) text rest → symbol_at how.fold rest ≡ Some (name n, after) → LeadsTo how defs m n
+leads_front how defs m text rest after n leads ends here d t stands =
     let (below, u, less, spells) = leads d t stands in
-    let (under, v, less', stands') = text_named (symbol_at fold) (get defs) (nothing_at fold) below text rest after n u ends here spells in
+    let (under, v, less', stands') = text_named how.posix (symbol_at how.fold) (get defs) (nothing_at how.fold) below text rest after n u ends here spells in
     (suc under, v, omega arith, stands')
 
-pub all_lead_front : (fold : Bool) (defs : Definitions) (ns : List (List ℕ)) (text rest after : List ℕ) (s : Symbol) → AllLeadToText fold defs ns text
-    → EndsWith (symbol_at fold) (get defs) text rest → symbol_at fold rest ≡ Some (s, after) → AllLeadToSymbol fold defs ns s
-all_lead_front fold defs ns text rest after (item t) lead ends here = tt
-all_lead_front fold defs ns text rest after (name n) lead ends here = λ m among. leads_front fold defs m text rest after n (lead m among) ends here
-all_lead_front fold defs ns text rest after opening lead ends here = tt
-all_lead_front fold defs ns text rest after closing lead ends here = tt
-all_lead_front fold defs ns text rest after bar lead ends here = tt
-all_lead_front fold defs ns text rest after (sign s) lead ends here = tt
-all_lead_front fold defs ns text rest after (interval k m) lead ends here = tt
+pub all_lead_front : (how : ReadOptions) (defs : Definitions) (ns : List (List ℕ)) (text rest after : List ℕ) (s : Symbol) → AllLeadToText how defs ns text
+    → EndsWith how.posix (symbol_at how.fold) (get defs) text rest → symbol_at how.fold rest ≡ Some (s, after) → AllLeadToSymbol how defs ns s
+all_lead_front how defs ns text rest after (item t) lead ends here = tt
+all_lead_front how defs ns text rest after (name n) lead ends here = λ m among. leads_front how defs m text rest after n (lead m among) ends here
+all_lead_front how defs ns text rest after opening lead ends here = tt
+all_lead_front how defs ns text rest after closing lead ends here = tt
+all_lead_front how defs ns text rest after bar lead ends here = tt
+all_lead_front how defs ns text rest after (sign s) lead ends here = tt
+all_lead_front how defs ns text rest after (interval k m) lead ends here = tt
 
 -- a name leads to its own text
-own_text : (fold : Bool) (defs : Definitions) (n text : List ℕ) → get defs n ≡ Some text → LeadsToText fold defs n text
-own_text fold defs n text found zero t stands = absurd stands
-own_text fold defs n text found (suc d) t (text', found', spells) =
+own_text : (how : ReadOptions) (defs : Definitions) (n text : List ℕ) → get defs n ≡ Some text → LeadsToText how defs n text
+own_text how defs n text found zero t stands = absurd stands
+own_text how defs n text found (suc d) t (text', found', spells) =
     let same : text' ≡ text = cc in
-    let P : List ℕ → Type 0 = λ x. SpellsIn fold defs d x t in
+    let P : List ℕ → Type 0 = λ x. SpellsIn how defs d x t in
     (d, t, omega arith, subst P same spells)
 
-on_to_text : (fold : Bool) (defs : Definitions) (m n text : List ℕ) → get defs n ≡ Some text → LeadsTo fold defs m n → LeadsToText fold defs m text
-on_to_text fold defs m n text found leads d t stands =
+on_to_text : (how : ReadOptions) (defs : Definitions) (m n text : List ℕ) → get defs n ≡ Some text → LeadsTo how defs m n → LeadsToText how defs m text
+on_to_text how defs m n text found leads d t stands =
     let (below, u, less, stands') = leads d t stands in
-    let (under, v, less', spells) = own_text fold defs n text found below u stands' in
+    let (under, v, less', spells) = own_text how defs n text found below u stands' in
     (under, v, omega arith, spells)
 
-pub all_lead_on : (fold : Bool) (defs : Definitions) (ns : List (List ℕ)) (n text : List ℕ) → get defs n ≡ Some text → AllLead fold defs ns n
-    → AllLeadToText fold defs (ns ++ n ∷ []) text
-all_lead_on fold defs ns n text found lead m among = go (among_append ns (n ∷ []) m among)
+pub all_lead_on : (how : ReadOptions) (defs : Definitions) (ns : List (List ℕ)) (n text : List ℕ) → get defs n ≡ Some text → AllLead how defs ns n
+    → AllLeadToText how defs (ns ++ n ∷ []) text
+all_lead_on how defs ns n text found lead m among = go (among_append ns (n ∷ []) m among)
   where
-    go : Among ns m ⊎ Among (n ∷ []) m → LeadsToText fold defs m text
-    go (inl before) = on_to_text fold defs m n text found (lead m before)
-    go (inr (inl here)) = (let P : List ℕ → Type 0 = λ x. LeadsToText fold defs x text in subst P (sym here) (own_text fold defs n text found))
+    go : Among ns m ⊎ Among (n ∷ []) m → LeadsToText how defs m text
+    go (inl before) = on_to_text how defs m n text found (lead m before)
+    go (inr (inl here)) = (let P : List ℕ → Type 0 = λ x. LeadsToText how defs x text in subst P (sym here) (own_text how defs n text found))
     go (inr (inr more)) = absurd more
 
-pub none_lead : (fold : Bool) (defs : Definitions) (text : List ℕ) → AllLeadToText fold defs [] text
-none_lead fold defs text m among = absurd among
+pub none_lead : (how : ReadOptions) (defs : Definitions) (text : List ℕ) → AllLeadToText how defs [] text
+none_lead how defs text m among = absurd among
 
 -- a name that leads to itself stands for no tree
-no_tree : (fold : Bool) (defs : Definitions) (n : List ℕ) → LeadsTo fold defs n n → (most d : ℕ) (t : Tree) → d ≤ most → StandsIn fold defs d n t → ⊥
-no_tree fold defs n leads zero d t h stands = let (below, u, less, stands') = leads d t stands in omega arith
-no_tree fold defs n leads (suc most) d t h stands =
+no_tree : (how : ReadOptions) (defs : Definitions) (n : List ℕ) → LeadsTo how defs n n → (most d : ℕ) (t : Tree) → d ≤ most → StandsIn how defs d n t → ⊥
+no_tree how defs n leads zero d t h stands = let (below, u, less, stands') = leads d t stands in omega arith
+no_tree how defs n leads (suc most) d t h stands =
     let (below, u, less, stands') = leads d t stands in
-    no_tree fold defs n leads most below u (omega arith) stands'
+    no_tree how defs n leads most below u (omega arith) stands'
 
 word_is : (v w : List ℕ) → is_word v w ≡ true → v ≡ w
 word_is [] [] e = refl
@@ -192,6 +193,6 @@ among_open n (v ∷ vs) e = elim (or_cases (is_word v.items n) (is_among n vs) e
   | inr more ↦ inr (among_open n vs more)
 ]
 
-pub refused_cycle : (fold : Bool) (defs : Definitions) (room left : ℕ) (ns : List (List ℕ)) (n : List ℕ) → AllLead fold defs ns n → Among ns n
-    → NoneWithin room (StandsIn fold defs left n)
-refused_cycle fold defs room left ns n lead among t stands few = no_tree fold defs n (lead n among) left left t (omega arith) stands
+pub refused_cycle : (how : ReadOptions) (defs : Definitions) (room left : ℕ) (ns : List (List ℕ)) (n : List ℕ) → AllLead how defs ns n → Among ns n
+    → NoneWithin room (StandsIn how defs left n)
+refused_cycle how defs room left ns n lead among t stands few = no_tree how defs n (lead n among) left left t (omega arith) stands

@@ -3,8 +3,8 @@ use Rattle.std.proofs.Common.{◌≡◌, ℕ, zero, suc, ◌<◌, Bool, true, fa
 use Rattle.std.proofs.lemmas.Bool.{lt-ltb, ltb-true}
 use Rattle.lexmeaning.specs.Tree.{Tree, Repeat}
 use Rattle.lexclass.specs.Symbols.{Symbol, Sign, item, name, opening, closing, bar, sign, interval, signed, Lexer}
-use Rattle.lexre.specs.Grammar.{series_tree, choice_tree, IsItem, IsSeries, IsPattern, alone, group, defines, first, next, repeated, counted, only, choice, SpellsWithin}
-use Rattle.lexre.specs.Running.{Frame, frame, fresh, State, state, pushed, onto_last, finished, Stands, Steps, Runs, RunsText}
+use Rattle.lexre.specs.Grammar.{series_tree, choice_tree, Signs, on_item, how_many, one_more, parts_before, operand, operand_signs, IsItem, IsSeries, IsPattern, alone, group, defines, first, next, repeated, counted, only, choice, SpellsWithin}
+use Rattle.lexre.specs.Running.{Frame, frame, fresh, State, state, pushed, onto_last, gathered, finished, Stands, Steps, Runs, RunsText}
 
 some_is : {A : Type 0} (x y : A) → Some x ≡ Some y → x ≡ y
 some_is x y e = cc
@@ -13,28 +13,28 @@ pub chosen : {A : Type 0} (b : Bool) (x y : A) → (if b then Some x else None) 
 chosen true x y e = (refl, some_is x y e)
 chosen false x y e = cc
 
-module _ (symbol_at : Lexer) (defined : List ℕ → Option (List ℕ)) where
+module _ (posix : Bool) (symbol_at : Lexer) (defined : List ℕ → Option (List ℕ)) where
   abbrev Go : State → List Symbol → Tree → Type 0
-  Go = Runs symbol_at defined
+  Go = Runs posix symbol_at defined
 
   -- what the run after a pattern may find: any last series with this tree
   abbrev After : ℕ → List Tree → Tree → List Frame → List Symbol → Tree → Type 0
   After d ts t outer rest tree =
-      (parts : List Tree) (last : Tree) (k : ℕ) → t ≡ series_tree parts last → Go (state (frame ts parts (Some last) k) outer d) rest tree
+      (parts : List Tree) (last : Tree) (k : Signs) → t ≡ series_tree parts last → Go (state (frame ts parts (Some last) k) outer d) rest tree
 
   along : (st : State) (ss ss' : List Symbol) (tree : Tree) → ss ≡ ss' → Go st ss tree → Go st ss' tree
   along st ss ss' tree e run = let P : List Symbol → Type 0 = λ x. Go st x tree in subst P e run
 
-  signs_go : (done parts : List Tree) (last : Tree) (k : ℕ) (outer : List Frame) (d : ℕ) (f : Tree → Tree) → k < 64
-      → onto_last f (state (frame done parts (Some last) k) outer d) ≡ Some (state (frame done parts (Some (f last)) (suc k)) outer d)
-  signs_go done parts last k outer d f below = rw (lt-ltb k 64 below) refl
+  signs_go : (done parts : List Tree) (last : Tree) (k : Signs) (outer : List Frame) (d : ℕ) (f : Tree → Tree) → how_many k < 64
+      → onto_last f (state (frame done parts (Some last) k) outer d) ≡ Some (state (frame done parts (Some (f last)) (one_more k)) outer d)
+  signs_go done parts last k outer d f below = rw (lt-ltb (how_many k) 64 below) refl
 
   -- the same symbols in another grouping
   regroup : (st : State) (ss more rest : List Symbol) (tree : Tree) → Go st (ss ++ (more ++ rest)) tree → Go st ((ss ++ more) ++ rest) tree
   regroup st ss more rest tree run = along st _ _ tree (sym (append_assoc ss more rest)) run
 
   mutual
-    item_runs : (d : ℕ) (ss : List Symbol) (t : Tree) → IsItem symbol_at defined d ss t
+    item_runs : (d : ℕ) (ss : List Symbol) (t : Tree) → IsItem posix symbol_at defined d ss t
         → (here : Frame) (outer : List Frame) (rest : List Symbol) (tree : Tree)
         → Go (state (pushed t here) outer d) rest tree → Go (state here outer d) (ss ++ rest) tree
     item_runs _ _ _ (alone d t) here outer rest tree run = (state (pushed t here) outer d, refl, run)
@@ -54,25 +54,28 @@ module _ (symbol_at : Lexer) (defined : List ℕ → Option (List ℕ)) where
       run,
     )
 
-    series_runs : (d : ℕ) (ss : List Symbol) (parts : List Tree) (last : Tree) (k : ℕ) → IsSeries symbol_at defined d ss parts last k
+    series_runs : (d : ℕ) (ss : List Symbol) (parts : List Tree) (last : Tree) (k : Signs) → IsSeries posix symbol_at defined d ss parts last k
         → (done : List Tree) (outer : List Frame) (rest : List Symbol) (tree : Tree)
-        → Go (state (frame done parts (Some last) k) outer d) rest tree → Go (state (frame done [] None 0) outer d) (ss ++ rest) tree
+        → Go (state (frame done parts (Some last) k) outer d) rest tree → Go (state (frame done [] None (on_item 0 0)) outer d) (ss ++ rest) tree
     series_runs _ _ _ _ _ (first d ss last it) done outer rest tree run =
-        item_runs d ss last it (frame done [] None 0) outer rest tree run
+        item_runs d ss last it (frame done [] None (on_item 0 0)) outer rest tree run
     series_runs _ _ _ _ _ (next d ss parts last k more t before it) done outer rest tree run =
-        regroup (state (frame done [] None 0) outer d) ss more rest tree
+        regroup (state (frame done [] None (on_item 0 0)) outer d) ss more rest tree
         (series_runs d ss parts last k before done outer (more ++ rest) tree
         (item_runs d more t it (frame done parts (Some last) k) outer rest tree run))
     series_runs _ _ _ _ _ (repeated d ss parts last k s before below) done outer rest tree run =
-        regroup (state (frame done [] None 0) outer d) ss (sign s ∷ []) rest tree
+        regroup (state (frame done [] None (on_item 0 0)) outer d) ss (sign s ∷ []) rest tree
         (series_runs d ss parts last k before done outer (sign s ∷ rest) tree
-        (state (frame done parts (Some (signed s last)) (suc k)) outer d, signs_go done parts last k outer d (signed s) below, run))
+        (state (frame done parts (Some (signed s last)) (one_more k)) outer d, signs_go done parts last k outer d (signed s) below, run))
     series_runs _ _ _ _ _ (counted d ss parts last k m n before below) done outer rest tree run =
-        regroup (state (frame done [] None 0) outer d) ss (interval m n ∷ []) rest tree
-        (series_runs d ss parts last k before done outer (interval m n ∷ rest) tree
-        (state (frame done parts (Some (Repeat last m n)) (suc k)) outer d, signs_go done parts last k outer d (λ t. Repeat t m n) below, run))
+        regroup (state (frame done [] None (on_item 0 0)) outer d) ss (interval m n ∷ []) rest tree
+        (series_runs d ss parts last k before done outer (interval m n ∷ rest) tree (
+          state (frame done (parts_before posix parts) (Some (Repeat (operand posix parts last) m n)) (one_more (operand_signs posix k))) outer d,
+          signs_go done (parts_before posix parts) (operand posix parts last) (operand_signs posix k) outer d (λ t. Repeat t m n) below,
+          run,
+        ))
 
-    pattern_runs : (d : ℕ) (ss : List Symbol) (ts : List Tree) (t : Tree) → IsPattern symbol_at defined d ss ts t
+    pattern_runs : (d : ℕ) (ss : List Symbol) (ts : List Tree) (t : Tree) → IsPattern posix symbol_at defined d ss ts t
         → (outer : List Frame) (rest : List Symbol) (tree : Tree)
         → After d ts t outer rest tree → Go (state fresh outer d) (ss ++ rest) tree
     pattern_runs _ _ _ _ (only d ss parts last k series) outer rest tree run =
@@ -80,14 +83,14 @@ module _ (symbol_at : Lexer) (defined : List ℕ → Option (List ℕ)) where
     pattern_runs _ _ _ _ (choice d ss ts t more parts last k before series) outer rest tree run =
         regroup (state fresh outer d) ss (bar ∷ more) rest tree
         (pattern_runs d ss ts t before outer (bar ∷ more ++ rest) tree (λ parts' last' k' e. (
-          state (frame (ts ++ series_tree parts' last' ∷ []) [] None 0) outer d,
+          state (frame (ts ++ series_tree parts' last' ∷ []) [] None (on_item 0 0)) outer d,
           refl,
           series_runs d more parts last k series (ts ++ series_tree parts' last' ∷ []) outer rest tree
               (let P : Tree → Type 0 = λ x. Go (state (frame (ts ++ x ∷ []) parts (Some last) k) outer d) rest tree in subst P e (run parts last k refl)),
         )))
 
   -- what the grammar gives is what reading from the left gives
-  pub spelled_runs : (d : ℕ) (text : List ℕ) (tree : Tree) → SpellsWithin symbol_at defined d text tree → RunsText symbol_at defined (state fresh [] d) text tree
+  pub spelled_runs : (d : ℕ) (text : List ℕ) (tree : Tree) → SpellsWithin posix symbol_at defined d text tree → RunsText posix symbol_at defined (state fresh [] d) text tree
   spelled_runs d text tree (ss, ts, t, cut, is, e) = (
     ss,
     cut,
@@ -101,12 +104,12 @@ module _ (symbol_at : Lexer) (defined : List ℕ → Option (List ℕ)) where
   IsBefore : ℕ → List Symbol → List Tree → Type 0
   IsBefore d pre done =
       ((pre ≡ []) × (done ≡ []))
-      ⊎ ((ss : List Symbol) × (ts : List Tree) × (t : Tree) × IsPattern symbol_at defined d ss ts t × (pre ≡ ss ++ bar ∷ []) × (done ≡ ts ++ t ∷ []))
+      ⊎ ((ss : List Symbol) × (ts : List Tree) × (t : Tree) × IsPattern posix symbol_at defined d ss ts t × (pre ≡ ss ++ bar ∷ []) × (done ≡ ts ++ t ∷ []))
 
   abbrev InFrame : ℕ → List Symbol → Frame → Type 0
   InFrame d pre (frame done parts None k) = IsBefore d pre done × (parts ≡ [])
   InFrame d pre (frame done parts (Some t) k) =
-      (before : List Symbol) × (ss : List Symbol) × IsBefore d before done × IsSeries symbol_at defined d ss parts t k × (pre ≡ before ++ ss)
+      (before : List Symbol) × (ss : List Symbol) × IsBefore d before done × IsSeries posix symbol_at defined d ss parts t k × (pre ≡ before ++ ss)
 
   -- `root` is how many may be opened in the outermost pattern
   abbrev InFrames : ℕ → List Symbol → Frame → List Frame → ℕ → Type 0
@@ -118,20 +121,20 @@ module _ (symbol_at : Lexer) (defined : List ℕ → Option (List ℕ)) where
   InState root pre (state here outer d) = InFrames root pre here outer d
 
   -- a series after those before it is a pattern
-  whole : (d : ℕ) (before ss : List Symbol) (done parts : List Tree) (t : Tree) (k : ℕ) → IsBefore d before done
-      → IsSeries symbol_at defined d ss parts t k → IsPattern symbol_at defined d (before ++ ss) done (series_tree parts t)
+  whole : (d : ℕ) (before ss : List Symbol) (done parts : List Tree) (t : Tree) (k : Signs) → IsBefore d before done
+      → IsSeries posix symbol_at defined d ss parts t k → IsPattern posix symbol_at defined d (before ++ ss) done (series_tree parts t)
   unfolding IsBefore
   whole d before ss done parts t k (inl (e, f)) series = rw (e, f) (only d ss parts t k series)
   whole d before ss done parts t k (inr (ss', ts', t', is, e, f)) series =
       rw (e, f, append_assoc) (choice d ss' ts' t' ss parts t k is series)
 
-  item_in : (d : ℕ) (pre s : List Symbol) (here : Frame) (t : Tree) → InFrame d pre here → IsItem symbol_at defined d s t → InFrame d (pre ++ s) (pushed t here)
+  item_in : (d : ℕ) (pre s : List Symbol) (here : Frame) (t : Tree) → InFrame d pre here → IsItem posix symbol_at defined d s t → InFrame d (pre ++ s) (pushed t here)
   item_in d pre s (frame done parts None k) t (before, e) it = rw e (pre, s, before, first d s t it, refl)
   item_in d pre s (frame done parts (Some last) k) t (before, ss, is, series, e) it =
       (before, ss ++ s, is, next d ss parts last k s t series it, ap (λ x. x ++ s) e ∙ append_assoc before ss s)
 
   item_in_frames : (root d : ℕ) (pre s : List Symbol) (here : Frame) (outer : List Frame) (t : Tree) → InFrames root pre here outer d
-      → IsItem symbol_at defined d s t → InFrames root (pre ++ s) (pushed t here) outer d
+      → IsItem posix symbol_at defined d s t → InFrames root (pre ++ s) (pushed t here) outer d
   item_in_frames root d pre s here [] t (e, is) it = (e, item_in d pre s here t is it)
   item_in_frames root d pre s here (f ∷ fs) t (p, q, e, is, rest) it =
       (p, q ++ s, ap (λ x. x ++ s) e ∙ append_assoc p (opening ∷ q) s, item_in d q s here t is it, rest)
@@ -149,56 +152,58 @@ module _ (symbol_at : Lexer) (defined : List ℕ → Option (List ℕ)) where
   unfolding IsBefore
   open_in root pre here outer d is = (pre, [], refl, (inl (refl, refl), refl), is)
 
-  close_in : (root : ℕ) (pre : List Symbol) (done parts : List Tree) (t : Tree) (k : ℕ) (f : Frame) (fs : List Frame) (d : ℕ)
+  close_in : (root : ℕ) (pre : List Symbol) (done parts : List Tree) (t : Tree) (k : Signs) (f : Frame) (fs : List Frame) (d : ℕ)
       → InFrames root pre (frame done parts (Some t) k) (f ∷ fs) d
       → InFrames root (pre ++ closing ∷ []) (pushed (choice_tree done (series_tree parts t)) f) fs (suc d)
   close_in root pre done parts t k f fs d (p, q, e, (before, ss, is, series, e'), rest) =
-      let inside : IsPattern symbol_at defined d q done (series_tree parts t) = rw e' (whole d before ss done parts t k is series) in
+      let inside : IsPattern posix symbol_at defined d q done (series_tree parts t) = rw e' (whole d before ss done parts t k is series) in
       let regrouped : pre ++ closing ∷ [] ≡ p ++ ((opening ∷ q) ++ closing ∷ []) = ap (λ x. x ++ closing ∷ []) e ∙ append_assoc p (opening ∷ q) (closing ∷ []) in
       rw regrouped (item_in_frames root (suc d) p ((opening ∷ q) ++ closing ∷ []) f fs (choice_tree done (series_tree parts t)) rest
       (group d q done (series_tree parts t) inside))
 
-  bar_in : (d : ℕ) (q : List Symbol) (done parts : List Tree) (t : Tree) (k : ℕ) → InFrame d q (frame done parts (Some t) k)
-      → InFrame d (q ++ bar ∷ []) (frame (done ++ series_tree parts t ∷ []) [] None 0)
+  bar_in : (d : ℕ) (q : List Symbol) (done parts : List Tree) (t : Tree) (k : Signs) → InFrame d q (frame done parts (Some t) k)
+      → InFrame d (q ++ bar ∷ []) (frame (done ++ series_tree parts t ∷ []) [] None (on_item 0 0))
   unfolding IsBefore
   bar_in d q done parts t k (before, ss, is, series, e) =
       (inr (q, done, series_tree parts t, rw e (whole d before ss done parts t k is series), refl, refl), refl)
 
-  sign_in : (d : ℕ) (q : List Symbol) (done parts : List Tree) (t : Tree) (k : ℕ) (s : Sign) → k < 64 → InFrame d q (frame done parts (Some t) k)
-      → InFrame d (q ++ sign s ∷ []) (frame done parts (Some (signed s t)) (suc k))
+  sign_in : (d : ℕ) (q : List Symbol) (done parts : List Tree) (t : Tree) (k : Signs) (s : Sign) → how_many k < 64 → InFrame d q (frame done parts (Some t) k)
+      → InFrame d (q ++ sign s ∷ []) (frame done parts (Some (signed s t)) (one_more k))
   sign_in d q done parts t k s below (before, ss, is, series, e) =
       (before, ss ++ sign s ∷ [], is, repeated d ss parts t k s series below, ap (λ x. x ++ sign s ∷ []) e ∙ append_assoc before ss (sign s ∷ []))
 
-  interval_in : (d : ℕ) (q : List Symbol) (done parts : List Tree) (t : Tree) (k m : ℕ) (n : Option ℕ) → k < 64 → InFrame d q (frame done parts (Some t) k)
-      → InFrame d (q ++ interval m n ∷ []) (frame done parts (Some (Repeat t m n)) (suc k))
+  interval_in : (d : ℕ) (q : List Symbol) (done parts : List Tree) (t : Tree) (k : Signs) (m : ℕ) (n : Option ℕ) → how_many (operand_signs posix k) < 64
+      → InFrame d q (frame done parts (Some t) k)
+      → InFrame d (q ++ interval m n ∷ []) (frame done (parts_before posix parts) (Some (Repeat (operand posix parts t) m n)) (one_more (operand_signs posix k)))
   interval_in d q done parts t k m n below (before, ss, is, series, e) =
       (before, ss ++ interval m n ∷ [], is, counted d ss parts t k m n series below, ap (λ x. x ++ interval m n ∷ []) e ∙ append_assoc before ss (interval m n ∷ []))
 
   at_state : (root : ℕ) (pre : List Symbol) (st after : State) → st ≡ after → InState root pre st → InState root pre after
   at_state root pre st after e is = let P : State → Type 0 = λ x. InState root pre x in subst P e is
 
-  sign_step : (root : ℕ) (pre : List Symbol) (done parts : List Tree) (t : Tree) (k : ℕ) (outer : List Frame) (d : ℕ) (s : Sign) (after : State)
+  sign_step : (root : ℕ) (pre : List Symbol) (done parts : List Tree) (t : Tree) (k : Signs) (outer : List Frame) (d : ℕ) (s : Sign) (after : State)
       → InFrames root pre (frame done parts (Some t) k) outer d
       → onto_last (signed s) (state (frame done parts (Some t) k) outer d) ≡ Some after → InState root (pre ++ sign s ∷ []) after
   sign_step root pre done parts t k outer d s after is e =
-      let both = chosen (nat_lt k 64) (state (frame done parts (Some (signed s t)) (suc k)) outer d) after e in
-      at_state root (pre ++ sign s ∷ []) (state (frame done parts (Some (signed s t)) (suc k)) outer d) after both.1
-      (frame_changed root d pre (sign s ∷ []) (frame done parts (Some t) k) (frame done parts (Some (signed s t)) (suc k)) outer
-      (λ q. sign_in d q done parts t k s (ltb-true k 64 both.0)) is)
+      let both = chosen (nat_lt (how_many k) 64) (state (frame done parts (Some (signed s t)) (one_more k)) outer d) after e in
+      at_state root (pre ++ sign s ∷ []) (state (frame done parts (Some (signed s t)) (one_more k)) outer d) after both.1
+      (frame_changed root d pre (sign s ∷ []) (frame done parts (Some t) k) (frame done parts (Some (signed s t)) (one_more k)) outer
+      (λ q. sign_in d q done parts t k s (ltb-true (how_many k) 64 both.0)) is)
 
-  interval_step : (root : ℕ) (pre : List Symbol) (done parts : List Tree) (t : Tree) (k : ℕ) (outer : List Frame) (d m : ℕ) (n : Option ℕ) (after : State)
+  interval_step : (root : ℕ) (pre : List Symbol) (done parts : List Tree) (t : Tree) (k : Signs) (outer : List Frame) (d m : ℕ) (n : Option ℕ) (after : State)
       → InFrames root pre (frame done parts (Some t) k) outer d
-      → onto_last (λ x. Repeat x m n) (state (frame done parts (Some t) k) outer d) ≡ Some after → InState root (pre ++ interval m n ∷ []) after
+      → onto_last (λ x. Repeat x m n) (gathered posix (state (frame done parts (Some t) k) outer d)) ≡ Some after → InState root (pre ++ interval m n ∷ []) after
   interval_step root pre done parts t k outer d m n after is e =
-      let both = chosen (nat_lt k 64) (state (frame done parts (Some (Repeat t m n)) (suc k)) outer d) after e in
-      at_state root (pre ++ interval m n ∷ []) (state (frame done parts (Some (Repeat t m n)) (suc k)) outer d) after both.1
-      (frame_changed root d pre (interval m n ∷ []) (frame done parts (Some t) k) (frame done parts (Some (Repeat t m n)) (suc k)) outer
-      (λ q. interval_in d q done parts t k m n (ltb-true k 64 both.0)) is)
+      let new : Frame = frame done (parts_before posix parts) (Some (Repeat (operand posix parts t) m n)) (one_more (operand_signs posix k)) in
+      let both = chosen (nat_lt (how_many (operand_signs posix k)) 64) (state new outer d) after e in
+      at_state root (pre ++ interval m n ∷ []) (state new outer d) after both.1
+      (frame_changed root d pre (interval m n ∷ []) (frame done parts (Some t) k) new outer
+      (λ q. interval_in d q done parts t k m n (ltb-true (how_many (operand_signs posix k)) 64 both.0)) is)
 
-  named_item : (d : ℕ) (n : List ℕ) (t : Tree) → Stands symbol_at defined d n t → IsItem symbol_at defined (suc d) (name n ∷ []) t
+  named_item : (d : ℕ) (n : List ℕ) (t : Tree) → Stands posix symbol_at defined d n t → IsItem posix symbol_at defined (suc d) (name n ∷ []) t
   named_item d n t (text, found, (ss, ts, last, cut, is, e)) = rw e (defines d n text ss ts last found cut is)
 
-  step_in : (root : ℕ) (pre : List Symbol) (s : Symbol) (st after : State) → InState root pre st → Steps symbol_at defined st s after
+  step_in : (root : ℕ) (pre : List Symbol) (s : Symbol) (st after : State) → InState root pre st → Steps posix symbol_at defined st s after
       → InState root (pre ++ s ∷ []) after
   step_in root pre (item t) (state here outer d) after is e =
       at_state root (pre ++ item t ∷ []) (state (pushed t here) outer d) after (some_is _ _ e)
@@ -217,8 +222,8 @@ module _ (symbol_at : Lexer) (defined : List ℕ → Option (List ℕ)) where
   step_in root pre closing (state (frame done parts None k) outer d) after is e = cc
   step_in root pre bar (state (frame done parts None k) outer d) after is e = cc
   step_in root pre bar (state (frame done parts (Some t) k) outer d) after is e =
-      at_state root (pre ++ bar ∷ []) (state (frame (done ++ series_tree parts t ∷ []) [] None 0) outer d) after (some_is _ _ e)
-      (frame_changed root d pre (bar ∷ []) (frame done parts (Some t) k) (frame (done ++ series_tree parts t ∷ []) [] None 0) outer
+      at_state root (pre ++ bar ∷ []) (state (frame (done ++ series_tree parts t ∷ []) [] None (on_item 0 0)) outer d) after (some_is _ _ e)
+      (frame_changed root d pre (bar ∷ []) (frame done parts (Some t) k) (frame (done ++ series_tree parts t ∷ []) [] None (on_item 0 0)) outer
       (λ q. bar_in d q done parts t k) is)
   step_in root pre (sign s) (state (frame done parts None k) outer d) after is e = cc
   step_in root pre (sign s) (state (frame done parts (Some t) k) outer d) after is e = sign_step root pre done parts t k outer d s after is e
@@ -227,7 +232,7 @@ module _ (symbol_at : Lexer) (defined : List ℕ → Option (List ℕ)) where
 
   -- a pattern with this tree
   abbrev HasTree : ℕ → List Symbol → Tree → Type 0
-  HasTree d ss tree = (ts : List Tree) × (t : Tree) × IsPattern symbol_at defined d ss ts t × (tree ≡ choice_tree ts t)
+  HasTree d ss tree = (ts : List Tree) × (t : Tree) × IsPattern posix symbol_at defined d ss ts t × (tree ≡ choice_tree ts t)
 
   end_in : (root : ℕ) (pre : List Symbol) (st : State) (tree : Tree) → InState root pre st → finished st ≡ Some tree → HasTree root pre tree
   end_in root pre (state (frame done parts None k) outer d) tree is e = cc
@@ -235,8 +240,8 @@ module _ (symbol_at : Lexer) (defined : List ℕ → Option (List ℕ)) where
   end_in root pre (state (frame done parts (Some t) k) [] d) tree (r, (before, ss, is, series, e')) e = (
     done,
     series_tree parts t,
-    (let inside : IsPattern symbol_at defined d pre done (series_tree parts t) = rw e' (whole d before ss done parts t k is series) in
-        let P : ℕ → Type 0 = λ x. IsPattern symbol_at defined x pre done (series_tree parts t) in subst P r inside),
+    (let inside : IsPattern posix symbol_at defined d pre done (series_tree parts t) = rw e' (whole d before ss done parts t k is series) in
+        let P : ℕ → Type 0 = λ x. IsPattern posix symbol_at defined x pre done (series_tree parts t) in subst P r inside),
     sym (some_is _ _ e),
   )
 
@@ -246,7 +251,7 @@ module _ (symbol_at : Lexer) (defined : List ℕ → Option (List ℕ)) where
       let all : HasTree root ((pre ++ s ∷ []) ++ ss) tree = runs_in root (pre ++ s ∷ []) ss after tree (step_in root pre s st after is e) run in
       let P : List Symbol → Type 0 = λ x. HasTree root x tree in subst P (append_assoc pre (s ∷ []) ss) all
 
-  pub runs_spelled : (d : ℕ) (text : List ℕ) (tree : Tree) → RunsText symbol_at defined (state fresh [] d) text tree → SpellsWithin symbol_at defined d text tree
+  pub runs_spelled : (d : ℕ) (text : List ℕ) (tree : Tree) → RunsText posix symbol_at defined (state fresh [] d) text tree → SpellsWithin posix symbol_at defined d text tree
   unfolding IsBefore
   runs_spelled d text tree (ss, cut, run) =
       let all = runs_in d [] ss (state fresh [] d) tree (refl, (inl (refl, refl), refl)) run in

@@ -5,52 +5,53 @@ use Rattle.lexmeaning.specs.Tree.{Tree, Repeat}
 use Rattle.lexclass.specs.Lexical.{symbol_at}
 use Rattle.lexclass.specs.Symbols.{Symbol, item, name, opening, closing, bar, sign, interval, signed, Lexer}
 use Rattle.lexre.specs.Definitions.{Definitions}
-use Rattle.lexre.specs.Grammar.{series_tree, choice_tree, IsItem, IsSeries, IsPattern, alone, group, defines, first, next, repeated, counted, only, choice, SpellsWithin}
+use Rattle.lexre.specs.Grammar.{series_tree, choice_tree, Signs, how_many, one_more, IsItem, IsSeries, IsPattern, alone, group, defines, first, next, repeated, counted, only, choice, SpellsWithin}
 use Rattle.lexre.specs.Reading.{SpellsIn, StandsIn, StepsIn, lowered}
-use Rattle.lexre.specs.Running.{frame, fresh, State, state, push, pushed, onto_last, opened, finished, step_of}
+use Rattle.lexre.specs.Running.{frame, fresh, State, state, push, pushed, onto_last, gathered, opened, finished, step_of}
+use Rattle.lexre.specs.declared.options.ReadOptions.{ReadOptions}
 use Rattle.lexre.proofs.OneTree.{some_is}
 use Rattle.lexre.proofs.ReaderLaws.{left_of, stands_in, steps_name}
 
 -- What is read where fewer may be opened is read where more may be.
-module _ (symbol_at : Lexer) (defined : List ℕ → Option (List ℕ)) where
+module _ (posix : Bool) (symbol_at : Lexer) (defined : List ℕ → Option (List ℕ)) where
   mutual
-    item_rises : (d e : ℕ) (ss : List Symbol) (t : Tree) → IsItem symbol_at defined d ss t → d ≤ e → IsItem symbol_at defined e ss t
+    item_rises : (d e : ℕ) (ss : List Symbol) (t : Tree) → IsItem posix symbol_at defined d ss t → d ≤ e → IsItem posix symbol_at defined e ss t
     item_rises _ e _ _ (alone d t) h = alone e t
     item_rises _ zero _ _ (group d ss ts t inside) h = absurd (omega arith)
     item_rises _ (suc e) _ _ (group d ss ts t inside) h = group e ss ts t (pattern_rises d e ss ts t inside (omega arith))
     item_rises _ zero _ _ (defines d n text ss ts t found cut inside) h = absurd (omega arith)
     item_rises _ (suc e) _ _ (defines d n text ss ts t found cut inside) h = defines e n text ss ts t found cut (pattern_rises d e ss ts t inside (omega arith))
 
-    series_rises : (d e : ℕ) (ss : List Symbol) (parts : List Tree) (last : Tree) (k : ℕ) → IsSeries symbol_at defined d ss parts last k → d ≤ e
-        → IsSeries symbol_at defined e ss parts last k
+    series_rises : (d e : ℕ) (ss : List Symbol) (parts : List Tree) (last : Tree) (k : Signs) → IsSeries posix symbol_at defined d ss parts last k → d ≤ e
+        → IsSeries posix symbol_at defined e ss parts last k
     series_rises _ e _ _ _ _ (first d ss t it) h = first e ss t (item_rises d e ss t it h)
     series_rises _ e _ _ _ _ (next d ss parts last k more t before it) h =
         next e ss parts last k more t (series_rises d e ss parts last k before h) (item_rises d e more t it h)
     series_rises _ e _ _ _ _ (repeated d ss parts last k s before below) h = repeated e ss parts last k s (series_rises d e ss parts last k before h) below
     series_rises _ e _ _ _ _ (counted d ss parts last k m n before below) h = counted e ss parts last k m n (series_rises d e ss parts last k before h) below
 
-    pattern_rises : (d e : ℕ) (ss : List Symbol) (ts : List Tree) (t : Tree) → IsPattern symbol_at defined d ss ts t → d ≤ e → IsPattern symbol_at defined e ss ts t
+    pattern_rises : (d e : ℕ) (ss : List Symbol) (ts : List Tree) (t : Tree) → IsPattern posix symbol_at defined d ss ts t → d ≤ e → IsPattern posix symbol_at defined e ss ts t
     pattern_rises _ e _ _ _ (only d ss parts last k series) h = only e ss parts last k (series_rises d e ss parts last k series h)
     pattern_rises _ e _ _ _ (choice d ss ts t more parts last k before series) h =
         choice e ss ts t more parts last k (pattern_rises d e ss ts t before h) (series_rises d e more parts last k series h)
 
-  pub spelled_rises : (d e : ℕ) (text : List ℕ) (t : Tree) → SpellsWithin symbol_at defined d text t → d ≤ e → SpellsWithin symbol_at defined e text t
+  pub spelled_rises : (d e : ℕ) (text : List ℕ) (t : Tree) → SpellsWithin posix symbol_at defined d text t → d ≤ e → SpellsWithin posix symbol_at defined e text t
   spelled_rises d e text t (ss, ts, last, cut, is, same) h = (ss, ts, last, cut, pattern_rises d e ss ts last is h, same)
 
-pub stands_rises : (fold : Bool) (defs : Definitions) (d e : ℕ) (n : List ℕ) (t : Tree) → StandsIn fold defs d n t → d ≤ e → StandsIn fold defs e n t
-stands_rises fold defs zero e n t stands h = absurd stands
-stands_rises fold defs (suc d) zero n t stands h = absurd (omega arith)
-stands_rises fold defs (suc d) (suc e) n t (text, found, spells) h =
-    (text, found, spelled_rises (symbol_at fold) (get defs) d e text t spells (omega arith))
+pub stands_rises : (how : ReadOptions) (defs : Definitions) (d e : ℕ) (n : List ℕ) (t : Tree) → StandsIn how defs d n t → d ≤ e → StandsIn how defs e n t
+stands_rises how defs zero e n t stands h = absurd stands
+stands_rises how defs (suc d) zero n t stands h = absurd (omega arith)
+stands_rises how defs (suc d) (suc e) n t (text, found, spells) h =
+    (text, found, spelled_rises how.posix (symbol_at how.fold) (get defs) d e text t spells (omega arith))
 
 -- a name needs one more than its substitute
-pub spared_name : (fold : Bool) (defs : Definitions) (left spare : ℕ) (n sub : List ℕ) (t : Tree) → (left ≡ 0 → ⊥) → spare ≤ left - 1 → get defs n ≡ Some sub
-    → SpellsIn fold defs (left - 1 - spare) sub t → StandsIn fold defs (left - spare) n t
-spared_name fold defs left spare n sub t some fits found spells =
+pub spared_name : (how : ReadOptions) (defs : Definitions) (left spare : ℕ) (n sub : List ℕ) (t : Tree) → (left ≡ 0 → ⊥) → spare ≤ left - 1 → get defs n ≡ Some sub
+    → SpellsIn how defs (left - 1 - spare) sub t → StandsIn how defs (left - spare) n t
+spared_name how defs left spare n sub t some fits found spells =
     let some' : left - spare ≡ 0 → ⊥ = λ e. some (omega arith) in
     let same : left - 1 - spare ≡ left - spare - 1 = omega arith in
-    let P : ℕ → Type 0 = λ x. SpellsIn fold defs x sub t in
-    stands_in fold defs (left - spare) n sub t some' found (subst P same spells)
+    let P : ℕ → Type 0 = λ x. SpellsIn how defs x sub t in
+    stands_in how defs (left - spare) n sub t some' found (subst P same spells)
 
 -- A state where fewer may be opened.
 
@@ -64,35 +65,40 @@ finished_lower e (state (frame done parts (Some t) k) (f ∷ fs) d) = refl
 
 onto_lower : (e : ℕ) (f : Tree → Tree) (st after : State) → onto_last f st ≡ Some after → onto_last f (lowered e st) ≡ Some (lowered e after)
 onto_lower e f (state (frame done parts None k) outer d) after is = cc
-onto_lower e f (state (frame done parts (Some t) k) outer d) after is = go (nat_lt k 64) is
+onto_lower e f (state (frame done parts (Some t) k) outer d) after is = go (nat_lt (how_many k) 64) is
   where
-    go : (b : Bool) → (if b then Some (state (frame done parts (Some (f t)) (suc k)) outer d) else None) ≡ Some after
-        → (if b then Some (state (frame done parts (Some (f t)) (suc k)) outer (d - e)) else None) ≡ Some (lowered e after)
+    go : (b : Bool) → (if b then Some (state (frame done parts (Some (f t)) (one_more k)) outer d) else None) ≡ Some after
+        → (if b then Some (state (frame done parts (Some (f t)) (one_more k)) outer (d - e)) else None) ≡ Some (lowered e after)
     go true is = ap (λ x. Some (lowered e x)) (some_is _ _ is)
     go false is = cc
 
-pub step_lower : (e : ℕ) (s : Symbol) (st after : State) → e ≤ left_of st → e ≤ left_of after → step_of s st ≡ Some after
-    → step_of s (lowered e st) ≡ Some (lowered e after)
-step_lower e (item t) st after h h' is = ap Some (pushed_lower e t st) ∙ ap (λ x. Some (lowered e x)) (some_is _ _ is)
-step_lower e (name n) st after h h' is = cc
-step_lower e opening (state here outer zero) after h h' is = cc
-step_lower e opening (state here outer (suc d)) after h h' is =
+gathered_lower : (e : ℕ) (posix : Bool) (st : State) → gathered posix (lowered e st) ≡ lowered e (gathered posix st)
+gathered_lower e posix (state (frame done parts None k) outer d) = refl
+gathered_lower e posix (state (frame done parts (Some t) k) outer d) = refl
+
+pub step_lower : (posix : Bool) (e : ℕ) (s : Symbol) (st after : State) → e ≤ left_of st → e ≤ left_of after → step_of posix s st ≡ Some after
+    → step_of posix s (lowered e st) ≡ Some (lowered e after)
+step_lower posix e (item t) st after h h' is = ap Some (pushed_lower e t st) ∙ ap (λ x. Some (lowered e x)) (some_is _ _ is)
+step_lower posix e (name n) st after h h' is = cc
+step_lower posix e opening (state here outer zero) after h h' is = cc
+step_lower posix e opening (state here outer (suc d)) after h h' is =
     let same : state fresh (here ∷ outer) d ≡ after = some_is _ _ is in
     let fits : e ≤ d = omega (arith, ap left_of same) in
     let less : suc d - e ≡ suc (d - e) = omega arith in
     ap (λ x. opened (state here outer x)) less ∙ ap (λ x. Some (lowered e x)) same
-step_lower e closing (state (frame done parts (Some t) k) (f ∷ fs) d) after h h' is =
+step_lower posix e closing (state (frame done parts (Some t) k) (f ∷ fs) d) after h h' is =
     let less : suc (d - e) ≡ suc d - e = omega arith in
     ap (λ x. Some (state (pushed (choice_tree done (series_tree parts t)) f) fs x)) less ∙ ap (λ x. Some (lowered e x)) (some_is _ _ is)
-step_lower e closing (state (frame done parts (Some t) k) [] d) after h h' is = cc
-step_lower e closing (state (frame done parts None k) outer d) after h h' is = cc
-step_lower e bar (state (frame done parts None k) outer d) after h h' is = cc
-step_lower e bar (state (frame done parts (Some t) k) outer d) after h h' is = ap (λ x. Some (lowered e x)) (some_is _ _ is)
-step_lower e (sign s) st after h h' is = onto_lower e (signed s) st after is
-step_lower e (interval m n) st after h h' is = onto_lower e (λ t. Repeat t m n) st after is
+step_lower posix e closing (state (frame done parts (Some t) k) [] d) after h h' is = cc
+step_lower posix e closing (state (frame done parts None k) outer d) after h h' is = cc
+step_lower posix e bar (state (frame done parts None k) outer d) after h h' is = cc
+step_lower posix e bar (state (frame done parts (Some t) k) outer d) after h h' is = ap (λ x. Some (lowered e x)) (some_is _ _ is)
+step_lower posix e (sign s) st after h h' is = onto_lower e (signed s) st after is
+step_lower posix e (interval m n) st after h h' is =
+    ap (onto_last (λ t. Repeat t m n)) (gathered_lower e posix st) ∙ onto_lower e (λ t. Repeat t m n) (gathered posix st) after is
 
-pub name_lower : (fold : Bool) (defs : Definitions) (e spare : ℕ) (st after : State) (n : List ℕ) (t : Tree) → e ≤ spare
-    → StandsIn fold defs (left_of st - spare) n t → Some (push t st) ≡ Some after → StepsIn fold defs (lowered e st) (name n) (lowered e after)
-name_lower fold defs e spare (state here outer d) after n t h stands is =
-    steps_name fold defs (state here outer (d - e)) (lowered e after) n t (stands_rises fold defs (d - spare) (d - e) n t stands (omega arith))
+pub name_lower : (how : ReadOptions) (defs : Definitions) (e spare : ℕ) (st after : State) (n : List ℕ) (t : Tree) → e ≤ spare
+    → StandsIn how defs (left_of st - spare) n t → Some (push t st) ≡ Some after → StepsIn how defs (lowered e st) (name n) (lowered e after)
+name_lower how defs e spare (state here outer d) after n t h stands is =
+    steps_name how defs (state here outer (d - e)) (lowered e after) n t (stands_rises how defs (d - spare) (d - e) n t stands (omega arith))
     (ap (λ x. Some (lowered e x)) (some_is _ _ is))

@@ -12,6 +12,7 @@ use Rattle.lexre.specs.Definitions.{Definitions}
 use Rattle.lexre.specs.Counting.{capped_nodes}
 use Rattle.lexre.specs.Names.{Trees, usable, AreKnown}
 use Rattle.lexre.specs.Reading.{StandsIn, NoneWithin}
+use Rattle.lexre.specs.declared.options.ReadOptions.{ReadOptions}
 use Rattle.lexre.proofs.GrammarLaws.{chosen}
 use Rattle.lexre.proofs.OneTree.{some_is}
 use Rattle.lexre.proofs.ReaderLaws.{one_stands}
@@ -32,40 +33,40 @@ some_usable left k u e =
     let (below, same) = chosen (nat_le k.1 left) k u e in
     (leb-true k.1 left below, same)
 
-pub known_usable : (fold : Bool) (defs : Definitions) (trees : Trees) (left : ℕ) (n : List ℕ) (t : Tree) (needed : ℕ) → AreKnown fold defs trees
-    → usable left (map.get trees n) ≡ Some (t, needed) → (needed ≤ left) × StandsIn fold defs needed n t × IsSoundTree t
-known_usable fold defs trees left n t needed known e = go (map.get trees n) refl e
+pub known_usable : (how : ReadOptions) (defs : Definitions) (trees : Trees) (left : ℕ) (n : List ℕ) (t : Tree) (needed : ℕ) → AreKnown how defs trees
+    → usable left (map.get trees n) ≡ Some (t, needed) → (needed ≤ left) × StandsIn how defs needed n t × IsSoundTree t
+known_usable how defs trees left n t needed known e = go (map.get trees n) refl e
   where
-    go : (k : Option (Tree × ℕ)) → map.get trees n ≡ k → usable left k ≡ Some (t, needed) → (needed ≤ left) × StandsIn fold defs needed n t × IsSoundTree t
+    go : (k : Option (Tree × ℕ)) → map.get trees n ≡ k → usable left k ≡ Some (t, needed) → (needed ≤ left) × StandsIn how defs needed n t × IsSoundTree t
     go None here e = absurd (none_some e)
     go (Some k) here e =
         let (below, same) = some_usable left k (t, needed) e in
         let (stands, sound) = known n t needed (here ∙ ap Some same) in
         (subst (λ (x : Tree × ℕ). x.1 ≤ left) same below, stands, sound)
 
-pub nothing_known : (fold : Bool) (defs : Definitions) → AreKnown fold defs map.empty
-nothing_known fold defs n t left e = absurd (none_some (sym (map.get-empty (slice_cmp nat_cmp) n) ∙ e))
+pub nothing_known : (how : ReadOptions) (defs : Definitions) → AreKnown how defs map.empty
+nothing_known how defs n t left e = absurd (none_some (sym (map.get-empty (slice_cmp nat_cmp) n) ∙ e))
 
 -- a name stands for a tree, which is sound
-abbrev Meant : Bool → Definitions → List ℕ → Tree × ℕ → Type 0
-Meant fold defs n k = StandsIn fold defs k.1 n k.0 × IsSoundTree k.0
+abbrev Meant : ReadOptions → Definitions → List ℕ → Tree × ℕ → Type 0
+Meant how defs n k = StandsIn how defs k.1 n k.0 × IsSoundTree k.0
 
-pub still_known : (fold : Bool) (defs : Definitions) (trees : Trees) (n : List ℕ) (t : Tree) (needed : ℕ) → AreKnown fold defs trees
-    → StandsIn fold defs needed n t → IsSoundTree t → AreKnown fold defs (map.insert trees n (t, needed))
-still_known fold defs trees n t needed known stands sound q u k e =
+pub still_known : (how : ReadOptions) (defs : Definitions) (trees : Trees) (n : List ℕ) (t : Tree) (needed : ℕ) → AreKnown how defs trees
+    → StandsIn how defs needed n t → IsSoundTree t → AreKnown how defs (map.insert trees n (t, needed))
+still_known how defs trees n t needed known stands sound q u k e =
     go (slice_cmp nat_cmp q n) refl (sym (map.get-insert nat_list_cmp_total trees n (t, needed) q) ∙ e)
   where
-    go : (r : Ordering) → slice_cmp nat_cmp q n ≡ r → cond (is_eq r) (Some (t, needed)) (map.get trees q) ≡ Some (u, k) → Meant fold defs q (u, k)
+    go : (r : Ordering) → slice_cmp nat_cmp q n ≡ r → cond (is_eq r) (Some (t, needed)) (map.get trees q) ≡ Some (u, k) → Meant how defs q (u, k)
     go Less same f = known q u k f
     go Equal same f =
         let here : q ≡ n = map.slice_cmp-IsAntisymmetric map.nat_cmp-IsAntisymmetric q n same in
-        rw here (subst (Meant fold defs n) (some_is (t, needed) (u, k) f) (stands, sound))
+        rw here (subst (Meant how defs n) (some_is (t, needed) (u, k) f) (stands, sound))
     go Greater same f = known q u k f
 
 -- Refusals.
 
-pub too_many_known : (fold : Bool) (defs : Definitions) (room left : ℕ) (n : List ℕ) (t : Tree) → StandsIn fold defs left n t → room < capped_nodes t → NoneWithin room (StandsIn fold defs left n)
-too_many_known fold defs room zero n t stands big u stands' few = stands
-too_many_known fold defs room (suc d) n t stands big u stands' few =
-    let same : u ≡ t = one_stands fold defs d n u t stands' stands in
+pub too_many_known : (how : ReadOptions) (defs : Definitions) (room left : ℕ) (n : List ℕ) (t : Tree) → StandsIn how defs left n t → room < capped_nodes t → NoneWithin room (StandsIn how defs left n)
+too_many_known how defs room zero n t stands big u stands' few = stands
+too_many_known how defs room (suc d) n t stands big u stands' few =
+    let same : u ≡ t = one_stands how defs d n u t stands' stands in
     omega (arith, ap nodes same)

@@ -1,9 +1,9 @@
 -- A text spells at most one tree.
-use Rattle.std.proofs.Common.{◌≡◌, ℕ, zero, suc, ◌+◌, ◌<◌, ◌≤◌, length, nat_lt, List, [], ◌∷◌, Option, Some, None, refl, sym, ap, ◌∙◌, subst, arith}
+use Rattle.std.proofs.Common.{◌≡◌, ℕ, zero, suc, ◌+◌, ◌<◌, ◌≤◌, length, Bool, nat_lt, List, [], ◌∷◌, Option, Some, None, refl, sym, ap, ◌∙◌, subst, arith}
 use Rattle.lexmeaning.specs.Tree.{Tree, Repeat}
 use Rattle.lexclass.specs.Symbols.{Symbol, item, name, opening, closing, bar, sign, interval, signed, Lexer, IsCut}
-use Rattle.lexre.specs.Grammar.{SpellsWithin}
-use Rattle.lexre.specs.Running.{frame, fresh, State, state, pushed, onto_last, Stands, Steps, Runs}
+use Rattle.lexre.specs.Grammar.{how_many, one_more, SpellsWithin}
+use Rattle.lexre.specs.Running.{frame, fresh, State, state, pushed, onto_last, gathered, Stands, Steps, Runs}
 use Rattle.lexre.proofs.GrammarLaws.{spelled_runs, chosen}
 
 pub some_is : {A : Type 0} (x y : A) → Some x ≡ Some y → x ≡ y
@@ -21,9 +21,13 @@ limit (state here outer d) = d + length outer
 onto_limit : (f : Tree → Tree) (st after : State) → onto_last f st ≡ Some after → limit after ≡ limit st
 onto_limit f (state (frame done parts None k) outer d) after e = cc
 onto_limit f (state (frame done parts (Some t) k) outer d) after e =
-    ap limit (sym (chosen (nat_lt k 64) (state (frame done parts (Some (f t)) (suc k)) outer d) after e).1)
+    ap limit (sym (chosen (nat_lt (how_many k) 64) (state (frame done parts (Some (f t)) (one_more k)) outer d) after e).1)
 
-module _ (symbol_at : Lexer) (defined : List ℕ → Option (List ℕ)) (none : symbol_at [] ≡ None) where
+gathered_limit : (posix : Bool) (st : State) → limit (gathered posix st) ≡ limit st
+gathered_limit posix (state (frame done parts None k) outer d) = refl
+gathered_limit posix (state (frame done parts (Some t) k) outer d) = refl
+
+module _ (posix : Bool) (symbol_at : Lexer) (defined : List ℕ → Option (List ℕ)) (none : symbol_at [] ≡ None) where
   same_cut : (ss ss' : List Symbol) (text : List ℕ) → IsCut symbol_at text ss → IsCut symbol_at text ss' → ss ≡ ss'
   same_cut [] [] text end end' = refl
   same_cut [] (s ∷ ss) text end (rest, here, cut) = (let e : symbol_at [] ≡ Some (s, rest) = ap symbol_at (sym end) ∙ here in cc)
@@ -36,16 +40,16 @@ module _ (symbol_at : Lexer) (defined : List ℕ → Option (List ℕ)) (none : 
       cc
 
   abbrev IsUnique : ℕ → Type 0
-  IsUnique d = (text : List ℕ) (t t' : Tree) → SpellsWithin symbol_at defined d text t → SpellsWithin symbol_at defined d text t' → t ≡ t'
+  IsUnique d = (text : List ℕ) (t t' : Tree) → SpellsWithin posix symbol_at defined d text t → SpellsWithin posix symbol_at defined d text t' → t ≡ t'
 
-  same_name : (d : ℕ) (n : List ℕ) (t t' : Tree) → IsUnique d → Stands symbol_at defined d n t → Stands symbol_at defined d n t' → t ≡ t'
+  same_name : (d : ℕ) (n : List ℕ) (t t' : Tree) → IsUnique d → Stands posix symbol_at defined d n t → Stands posix symbol_at defined d n t' → t ≡ t'
   same_name d n t t' unique (text, found, spells) (text', found', spells') =
       let same : text' ≡ text = cc in
-      let P : List ℕ → Type 0 = λ x. SpellsWithin symbol_at defined d x t' in
+      let P : List ℕ → Type 0 = λ x. SpellsWithin posix symbol_at defined d x t' in
       unique text t t' spells (subst P same spells')
 
   same_step : (m : ℕ) → ((d : ℕ) → d < m → IsUnique d) → (s : Symbol) (st a b : State) → limit st ≤ m
-      → Steps symbol_at defined st s a → Steps symbol_at defined st s b → a ≡ b
+      → Steps posix symbol_at defined st s a → Steps posix symbol_at defined st s b → a ≡ b
   same_step m unique (item t) st a b h e f = some_is _ _ (sym e ∙ f)
   same_step m unique (name n) (state here outer zero) a b h e f = absurd e
   same_step m unique (name n) (state here outer (suc d)) a b h (t, stands, e) (t', stands', e') =
@@ -56,7 +60,7 @@ module _ (symbol_at : Lexer) (defined : List ℕ → Option (List ℕ)) (none : 
   same_step m unique (sign s) st a b h e f = some_is _ _ (sym e ∙ f)
   same_step m unique (interval k n) st a b h e f = some_is _ _ (sym e ∙ f)
 
-  pub step_limit : (s : Symbol) (st a : State) → Steps symbol_at defined st s a → limit a ≡ limit st
+  pub step_limit : (s : Symbol) (st a : State) → Steps posix symbol_at defined st s a → limit a ≡ limit st
   step_limit (item t) (state here outer d) a e = ap limit (sym (some_is _ _ e))
   step_limit (name n) (state here outer zero) a e = absurd e
   step_limit (name n) (state here outer (suc d)) a (t, stands, e) = ap limit e
@@ -68,28 +72,28 @@ module _ (symbol_at : Lexer) (defined : List ℕ → Option (List ℕ)) (none : 
   step_limit bar (state (frame done parts None k) outer d) a e = cc
   step_limit bar (state (frame done parts (Some t) k) outer d) a e = ap limit (sym (some_is _ _ e))
   step_limit (sign s) st a e = onto_limit (signed s) st a e
-  step_limit (interval k n) st a e = onto_limit (λ t. Repeat t k n) st a e
+  step_limit (interval k n) st a e = onto_limit (λ t. Repeat t k n) (gathered posix st) a e ∙ gathered_limit posix st
 
   same_run : (m : ℕ) → ((d : ℕ) → d < m → IsUnique d) → (ss : List Symbol) (st : State) (t t' : Tree) → limit st ≤ m
-      → Runs symbol_at defined st ss t → Runs symbol_at defined st ss t' → t ≡ t'
+      → Runs posix symbol_at defined st ss t → Runs posix symbol_at defined st ss t' → t ≡ t'
   same_run m unique [] st t t' h e f = some_is _ _ (sym e ∙ f)
   same_run m unique (s ∷ ss) st t t' h (a, e, run) (b, f, run') =
       let same : b ≡ a = same_step m unique s st b a h f e in
-      let P : State → Type 0 = λ x. Runs symbol_at defined x ss t' in
+      let P : State → Type 0 = λ x. Runs posix symbol_at defined x ss t' in
       same_run m unique ss a t t' (omega (arith, step_limit s st a e)) run (subst P same run')
 
-  unique_below : (m d : ℕ) → d < m → (text : List ℕ) (t t' : Tree) → SpellsWithin symbol_at defined d text t → SpellsWithin symbol_at defined d text t' → t ≡ t'
+  unique_below : (m d : ℕ) → d < m → (text : List ℕ) (t t' : Tree) → SpellsWithin posix symbol_at defined d text t → SpellsWithin posix symbol_at defined d text t' → t ≡ t'
   unique_below zero d h text t t' spells spells' = absurd (omega arith)
   unique_below (suc m) d h text t t' spells spells' =
-      let (ss, cut, run) = spelled_runs symbol_at defined d text t spells in
-      let (ss', cut', run') = spelled_runs symbol_at defined d text t' spells' in
+      let (ss, cut, run) = spelled_runs posix symbol_at defined d text t spells in
+      let (ss', cut', run') = spelled_runs posix symbol_at defined d text t' spells' in
       let same : ss' ≡ ss = same_cut ss' ss text cut' cut in
-      let P : List Symbol → Type 0 = λ x. Runs symbol_at defined (state fresh [] d) x t' in
+      let P : List Symbol → Type 0 = λ x. Runs posix symbol_at defined (state fresh [] d) x t' in
       same_run m (unique_below m) ss (state fresh [] d) t t' (omega arith) run (subst P same run')
 
-  pub one_tree : (d : ℕ) (text : List ℕ) (t t' : Tree) → SpellsWithin symbol_at defined d text t → SpellsWithin symbol_at defined d text t' → t ≡ t'
+  pub one_tree : (d : ℕ) (text : List ℕ) (t t' : Tree) → SpellsWithin posix symbol_at defined d text t → SpellsWithin posix symbol_at defined d text t' → t ≡ t'
   one_tree d = unique_below (suc d) d (omega arith)
 
   -- a symbol leads to at most one state
-  pub one_step : (s : Symbol) (st a b : State) → Steps symbol_at defined st s a → Steps symbol_at defined st s b → a ≡ b
+  pub one_step : (s : Symbol) (st a b : State) → Steps posix symbol_at defined st s a → Steps posix symbol_at defined st s b → a ≡ b
   one_step s st a b e f = same_step (limit st) (λ d h. one_tree d) s st a b (omega arith) e f

@@ -13,6 +13,7 @@ use Rattle.lexre.specs.Running.{State, state, fresh, push, pushed, finished, ste
 use Rattle.lexclass.specs.Symbols.{Symbol, item, name, opening, closing, bar, sign, interval, Lexer, IsCut}
 use Rattle.lexclass.specs.declared.error.PatternErrorKind.{PatternErrorKind}
 use Rattle.lexclass.specs.declared.error.PatternErrorKind.TheVariants.{OutOfMemory}
+use Rattle.lexre.specs.declared.options.ReadOptions.{ReadOptions}
 use Rattle.lexre.proofs.CountLaws.{step_grows, step_nodes, steps_grow, runs_grow, finished_nodes, push_grows}
 use Rattle.lexre.proofs.GrammarLaws.{spelled_runs, runs_spelled}
 use Rattle.lexre.proofs.OneTree.{one_step, one_tree, pair_is, some_is}
@@ -39,11 +40,11 @@ pub retold : (a b : PatternErrorKind) (P : Type 0) → (a ≡ OutOfMemory → b 
 retold OutOfMemory b P h u = let e : b ≡ OutOfMemory = h refl in rw e tt
 retold _ b P h u = unless_of b P u
 
-module _ (symbol_at : Lexer) (defined : List ℕ → Option (List ℕ)) (none : symbol_at [] ≡ None) where
+module _ (posix : Bool) (symbol_at : Lexer) (defined : List ℕ → Option (List ℕ)) (none : symbol_at [] ≡ None) where
   -- reading the text from the state gives what reading that text from that state gives
   pub record Agree (st : State) (text : List ℕ) (st' : State) (text' : List ℕ) : Type 0 where
-    pub on : (tree : Tree) → RunsText symbol_at defined st text tree → RunsText symbol_at defined st' text' tree
-    pub back : (tree : Tree) → RunsText symbol_at defined st' text' tree → RunsText symbol_at defined st text tree
+    pub on : (tree : Tree) → RunsText posix symbol_at defined st text tree → RunsText posix symbol_at defined st' text' tree
+    pub back : (tree : Tree) → RunsText posix symbol_at defined st' text' tree → RunsText posix symbol_at defined st text tree
 
   pub agree_itself : (st : State) (text : List ℕ) → Agree st text st text
   agree_itself st text = record { on = λ tree run. run; back = λ tree run. run }
@@ -55,49 +56,49 @@ module _ (symbol_at : Lexer) (defined : List ℕ → Option (List ℕ)) (none : 
   no_end text s rest here end = let e : symbol_at [] ≡ Some (s, rest) = ap symbol_at (sym end) ∙ here in cc
 
   -- a run begins with the symbol that begins the text
-  first_step : (st : State) (text rest : List ℕ) (s : Symbol) (tree : Tree) → symbol_at text ≡ Some (s, rest) → RunsText symbol_at defined st text tree
-      → (after : State) × Steps symbol_at defined st s after × RunsText symbol_at defined after rest tree
+  first_step : (st : State) (text rest : List ℕ) (s : Symbol) (tree : Tree) → symbol_at text ≡ Some (s, rest) → RunsText posix symbol_at defined st text tree
+      → (after : State) × Steps posix symbol_at defined st s after × RunsText posix symbol_at defined after rest tree
   first_step st text rest s tree here ([], end, run) = absurd (no_end text s rest here end)
   first_step st text rest s tree here (s' ∷ ss, (rest', here', cut), (after, step, run)) =
       let same = pair_is s' s rest' rest (sym here' ∙ here) in
-      let P : Symbol → Type 0 = λ x. Steps symbol_at defined st x after in
+      let P : Symbol → Type 0 = λ x. Steps posix symbol_at defined st x after in
       let Q : List ℕ → Type 0 = λ x. IsCut symbol_at x ss in
       (after, subst P same.0 step, (ss, subst Q same.1 cut, run))
 
-  agree_one : (st after : State) (text rest : List ℕ) (s : Symbol) → symbol_at text ≡ Some (s, rest) → Steps symbol_at defined st s after → Agree after rest st text
+  agree_one : (st after : State) (text rest : List ℕ) (s : Symbol) → symbol_at text ≡ Some (s, rest) → Steps posix symbol_at defined st s after → Agree after rest st text
   agree_one st after text rest s here step = record {
     on = λ tree run. (s ∷ run.0, (rest, here, run.1), (after, step, run.2));
     back = λ tree run.
         let (after', step', run') = first_step st text rest s tree here run in
-        let same : after' ≡ after = one_step symbol_at defined none s st after' after step' step in
-        let P : State → Type 0 = λ x. RunsText symbol_at defined x rest tree in subst P same run';
+        let same : after' ≡ after = one_step posix symbol_at defined none s st after' after step' step in
+        let P : State → Type 0 = λ x. RunsText posix symbol_at defined x rest tree in subst P same run';
   }
 
   -- one symbol more
-  pub agree_step : (st after begun : State) (text rest whole : List ℕ) (s : Symbol) → symbol_at text ≡ Some (s, rest) → Steps symbol_at defined st s after
+  pub agree_step : (st after begun : State) (text rest whole : List ℕ) (s : Symbol) → symbol_at text ≡ Some (s, rest) → Steps posix symbol_at defined st s after
       → Agree st text begun whole → Agree after rest begun whole
   agree_step st after begun text rest whole s here step agree = agree_then after rest st text begun whole (agree_one st after text rest s here step) agree
 
-  counted : (st : State) (text : List ℕ) (tree : Tree) → RunsText symbol_at defined st text tree → state_nodes st ≤ nodes tree
-  counted st text tree (ss, cut, run) = runs_grow symbol_at defined ss st tree run
+  counted : (st : State) (text : List ℕ) (tree : Tree) → RunsText posix symbol_at defined st text tree → state_nodes st ≤ nodes tree
+  counted st text tree (ss, cut, run) = runs_grow posix symbol_at defined ss st tree run
 
   -- no tree of so few nodes comes from the state
   abbrev pub NoRun : ℕ → State → List ℕ → Type 0
-  NoRun most st text = (tree : Tree) → RunsText symbol_at defined st text tree → nodes tree ≤ most → ⊥
+  NoRun most st text = (tree : Tree) → RunsText posix symbol_at defined st text tree → nodes tree ≤ most → ⊥
 
   abbrev pub NoTree : ℕ → ℕ → List ℕ → Type 0
-  NoTree most d text = (t : Tree) → SpellsWithin symbol_at defined d text t → nodes t ≤ most → ⊥
+  NoTree most d text = (t : Tree) → SpellsWithin posix symbol_at defined d text t → nodes t ≤ most → ⊥
 
   pub refused : (kind : PatternErrorKind) (P : Type 0) (most d : ℕ) (st : State) (rest text : List ℕ) → Agree st rest (state fresh [] d) text
       → (P → NoRun most st rest) → UnlessMemory kind P → UnlessMemory kind (NoTree most d text)
   refused kind P most d st rest text agree f h =
-      unless_weaker kind P (NoTree most d text) (λ p t spells few. f p t (agree.back t (spelled_runs symbol_at defined d text t spells)) few) h
+      unless_weaker kind P (NoTree most d text) (λ p t spells few. f p t (agree.back t (spelled_runs posix symbol_at defined d text t spells)) few) h
 
   front_refused : (most : ℕ) (st : State) (rest : List ℕ) → (rest ≡ [] → ⊥) → most ≤ 65536 → IsRefused (symbol_at rest) → NoRun most st rest
   front_refused most st rest some small h tree ([], end, run) few = some end
   front_refused most st rest some small h tree (s ∷ ss, (rest', here, cut), (after, step, run)) few =
       let big = h s rest' here in
-      omega (arith, steps_grow symbol_at defined s st after step, runs_grow symbol_at defined ss after tree run)
+      omega (arith, steps_grow posix symbol_at defined s st after step, runs_grow posix symbol_at defined ss after tree run)
 
   pub refused_front : (kind : PatternErrorKind) (most d : ℕ) (st : State) (rest text : List ℕ) → Agree st rest (state fresh [] d) text → (rest ≡ [] → ⊥) → most ≤ 65536
       → UnlessMemory kind (IsRefused (symbol_at rest)) → UnlessMemory kind (NoTree most d text)
@@ -105,7 +106,7 @@ module _ (symbol_at : Lexer) (defined : List ℕ → Option (List ℕ)) (none : 
 
   -- no step leads to a state that counts so few
   abbrev pub NoStep : ℕ → State → Symbol → Type 0
-  NoStep most st s = (after : State) → Steps symbol_at defined st s after → state_nodes after ≤ most → ⊥
+  NoStep most st s = (after : State) → Steps posix symbol_at defined st s after → state_nodes after ≤ most → ⊥
 
   step_refused : (most most' : ℕ) (st : State) (rest after : List ℕ) (s : Symbol) → symbol_at rest ≡ Some (s, after) → most ≤ most' → NoStep most' st s → NoRun most st rest
   step_refused most most' st rest after s here le h tree run few =
@@ -126,10 +127,10 @@ module _ (symbol_at : Lexer) (defined : List ℕ → Option (List ℕ)) (none : 
   refused_end kind most d st rest text agree end h = refused kind _ most d st rest text agree (end_refused most st rest end) h
 
   pub found_at_end : (d : ℕ) (st : State) (rest text : List ℕ) (tree : Tree) → Agree st rest (state fresh [] d) text → rest ≡ []
-      → finished st ≡ Some tree → SpellsWithin symbol_at defined d text tree
+      → finished st ≡ Some tree → SpellsWithin posix symbol_at defined d text tree
   found_at_end d st rest text tree agree end e =
-      let P : List ℕ → Type 0 = λ x. RunsText symbol_at defined st x tree in
-      runs_spelled symbol_at defined d text tree (agree.on tree (subst P (sym end) ([], refl, e)))
+      let P : List ℕ → Type 0 = λ x. RunsText posix symbol_at defined st x tree in
+      runs_spelled posix symbol_at defined d text tree (agree.on tree (subst P (sym end) ([], refl, e)))
 
   pub few_at_end : (most : ℕ) (st : State) (tree : Tree) → finished st ≡ Some tree → state_nodes st ≤ most → nodes tree ≤ most
   few_at_end most st tree e few = omega (arith, finished_nodes st tree e)
@@ -144,116 +145,116 @@ pub nothing_at : (fold : Bool) → symbol_at fold [] ≡ None
 unfolding symbol_at
 nothing_at fold = refl
 
-pub stands_in : (fold : Bool) (defs : Definitions) (left : ℕ) (n sub : List ℕ) (t : Tree) → (left ≡ 0 → ⊥) → get defs n ≡ Some sub → SpellsIn fold defs (left - 1) sub t
-    → StandsIn fold defs left n t
-stands_in fold defs zero n sub t some found spells = some refl
-stands_in fold defs (suc d) n sub t some found spells =
+pub stands_in : (how : ReadOptions) (defs : Definitions) (left : ℕ) (n sub : List ℕ) (t : Tree) → (left ≡ 0 → ⊥) → get defs n ≡ Some sub → SpellsIn how defs (left - 1) sub t
+    → StandsIn how defs left n t
+stands_in how defs zero n sub t some found spells = some refl
+stands_in how defs (suc d) n sub t some found spells =
     let e : suc d - 1 ≡ d = omega arith in
-    let P : ℕ → Type 0 = λ x. SpellsIn fold defs x sub t in
+    let P : ℕ → Type 0 = λ x. SpellsIn how defs x sub t in
     (sub, found, subst P e spells)
 
-pub undefined_name : (fold : Bool) (defs : Definitions) (room left : ℕ) (n : List ℕ) → get defs n ≡ None → NoneWithin room (StandsIn fold defs left n)
-undefined_name fold defs room zero n e t stands few = stands
-undefined_name fold defs room (suc d) n e t (sub, found, spells) few = cc
+pub undefined_name : (how : ReadOptions) (defs : Definitions) (room left : ℕ) (n : List ℕ) → get defs n ≡ None → NoneWithin room (StandsIn how defs left n)
+undefined_name how defs room zero n e t stands few = stands
+undefined_name how defs room (suc d) n e t (sub, found, spells) few = cc
 
-pub none_left : (fold : Bool) (defs : Definitions) (room left : ℕ) (n : List ℕ) → left ≡ 0 → NoneWithin room (StandsIn fold defs left n)
-none_left fold defs room zero n e t stands few = stands
-none_left fold defs room (suc d) n e t stands few = absurd (omega arith)
+pub none_left : (how : ReadOptions) (defs : Definitions) (room left : ℕ) (n : List ℕ) → left ≡ 0 → NoneWithin room (StandsIn how defs left n)
+none_left how defs room zero n e t stands few = stands
+none_left how defs room (suc d) n e t stands few = absurd (omega arith)
 
-pub no_substitute : (fold : Bool) (defs : Definitions) (room left : ℕ) (n sub : List ℕ) → get defs n ≡ Some sub → NoneWithin room (SpellsIn fold defs (left - 1) sub)
-    → NoneWithin room (StandsIn fold defs left n)
-no_substitute fold defs room zero n sub found h t stands few = stands
-no_substitute fold defs room (suc d) n sub found h t (sub', found', spells) few =
+pub no_substitute : (how : ReadOptions) (defs : Definitions) (room left : ℕ) (n sub : List ℕ) → get defs n ≡ Some sub → NoneWithin room (SpellsIn how defs (left - 1) sub)
+    → NoneWithin room (StandsIn how defs left n)
+no_substitute how defs room zero n sub found h t stands few = stands
+no_substitute how defs room (suc d) n sub found h t (sub', found', spells) few =
     let same : sub' ≡ sub = cc in
     let back : d ≡ suc d - 1 = omega arith in
-    let P : List ℕ → Type 0 = λ x. SpellsIn fold defs d x t in
-    let Q : ℕ → Type 0 = λ x. SpellsIn fold defs x sub t in
+    let P : List ℕ → Type 0 = λ x. SpellsIn how defs d x t in
+    let Q : ℕ → Type 0 = λ x. SpellsIn how defs x sub t in
     h t (subst Q back (subst P same spells)) few
 
 -- Steps.
 
-pub steps_from : (fold : Bool) (defs : Definitions) (s : Symbol) (st after : State) → IsPlain s → step_of s st ≡ Some after → StepsIn fold defs st s after
-steps_from fold defs (item t) st after plain e = e
-steps_from fold defs (name n) st after plain e = absurd plain
-steps_from fold defs opening st after plain e = e
-steps_from fold defs closing st after plain e = e
-steps_from fold defs bar st after plain e = e
-steps_from fold defs (sign s) st after plain e = e
-steps_from fold defs (interval m n) st after plain e = e
+pub steps_from : (how : ReadOptions) (defs : Definitions) (s : Symbol) (st after : State) → IsPlain s → step_of how.posix s st ≡ Some after → StepsIn how defs st s after
+steps_from how defs (item t) st after plain e = e
+steps_from how defs (name n) st after plain e = absurd plain
+steps_from how defs opening st after plain e = e
+steps_from how defs closing st after plain e = e
+steps_from how defs bar st after plain e = e
+steps_from how defs (sign s) st after plain e = e
+steps_from how defs (interval m n) st after plain e = e
 
-steps_to : (fold : Bool) (defs : Definitions) (s : Symbol) (st after : State) → IsPlain s → StepsIn fold defs st s after → step_of s st ≡ Some after
-steps_to fold defs (item t) st after plain e = e
-steps_to fold defs (name n) st after plain e = absurd plain
-steps_to fold defs opening st after plain e = e
-steps_to fold defs closing st after plain e = e
-steps_to fold defs bar st after plain e = e
-steps_to fold defs (sign s) st after plain e = e
-steps_to fold defs (interval m n) st after plain e = e
+steps_to : (how : ReadOptions) (defs : Definitions) (s : Symbol) (st after : State) → IsPlain s → StepsIn how defs st s after → step_of how.posix s st ≡ Some after
+steps_to how defs (item t) st after plain e = e
+steps_to how defs (name n) st after plain e = absurd plain
+steps_to how defs opening st after plain e = e
+steps_to how defs closing st after plain e = e
+steps_to how defs bar st after plain e = e
+steps_to how defs (sign s) st after plain e = e
+steps_to how defs (interval m n) st after plain e = e
 
 -- how many more may be opened
 abbrev pub left_of : State → ℕ
 left_of (state here outer d) = d
 
-pub steps_name : (fold : Bool) (defs : Definitions) (st after : State) (n : List ℕ) (t : Tree) → StandsIn fold defs (left_of st) n t
-    → Some (push t st) ≡ Some after → StepsIn fold defs st (name n) after
-steps_name fold defs (state here outer zero) after n t stands e = stands
-steps_name fold defs (state here outer (suc d)) after n t stands e = (t, stands, sym (some_is _ _ e))
+pub steps_name : (how : ReadOptions) (defs : Definitions) (st after : State) (n : List ℕ) (t : Tree) → StandsIn how defs (left_of st) n t
+    → Some (push t st) ≡ Some after → StepsIn how defs st (name n) after
+steps_name how defs (state here outer zero) after n t stands e = stands
+steps_name how defs (state here outer (suc d)) after n t stands e = (t, stands, sym (some_is _ _ e))
 
-abbrev NoStepIn : Bool → Definitions → ℕ → State → Symbol → Type 0
-NoStepIn fold defs most st s = (after : State) → StepsIn fold defs st s after → state_nodes after ≤ most → ⊥
+abbrev NoStepIn : ReadOptions → Definitions → ℕ → State → Symbol → Type 0
+NoStepIn how defs most st s = (after : State) → StepsIn how defs st s after → state_nodes after ≤ most → ⊥
 
-pub no_plain_step : (fold : Bool) (defs : Definitions) (kind : PatternErrorKind) (most : ℕ) (st : State) (s : Symbol) → IsPlain s → UnlessMemory kind (step_of s st ≡ None)
-    → UnlessMemory kind (NoStepIn fold defs most st s)
-no_plain_step fold defs kind most st s plain h =
-    unless_weaker kind _ (NoStepIn fold defs most st s) (λ e after step few. let f = steps_to fold defs s st after plain step in absurd (never after e f)) h
+pub no_plain_step : (how : ReadOptions) (defs : Definitions) (kind : PatternErrorKind) (most : ℕ) (st : State) (s : Symbol) → IsPlain s → UnlessMemory kind (step_of how.posix s st ≡ None)
+    → UnlessMemory kind (NoStepIn how defs most st s)
+no_plain_step how defs kind most st s plain h =
+    unless_weaker kind _ (NoStepIn how defs most st s) (λ e after step few. let f = steps_to how defs s st after plain step in absurd (never after e f)) h
   where
-    never : (after : State) → step_of s st ≡ None → step_of s st ≡ Some after → ⊥
+    never : (after : State) → step_of how.posix s st ≡ None → step_of how.posix s st ≡ Some after → ⊥
     never after e f = cc
 
-pub no_push : (fold : Bool) (defs : Definitions) (kind : PatternErrorKind) (most : ℕ) (st : State) (s : Symbol) (t : Tree) → UnlessMemory kind (Some (push t st) ≡ None)
-    → UnlessMemory kind (NoStepIn fold defs most st s)
-no_push fold defs kind most st s t h = unless_weaker kind _ (NoStepIn fold defs most st s) (λ e. absurd (never e)) h
+pub no_push : (how : ReadOptions) (defs : Definitions) (kind : PatternErrorKind) (most : ℕ) (st : State) (s : Symbol) (t : Tree) → UnlessMemory kind (Some (push t st) ≡ None)
+    → UnlessMemory kind (NoStepIn how defs most st s)
+no_push how defs kind most st s t h = unless_weaker kind _ (NoStepIn how defs most st s) (λ e. absurd (never e)) h
   where
     never : Some (push t st) ≡ None → ⊥
     never e = cc
 
-pub no_name_step : (fold : Bool) (defs : Definitions) (kind : PatternErrorKind) (room : ℕ) (st : State) (n : List ℕ)
-    → UnlessMemory kind (NoneWithin room (StandsIn fold defs (left_of st) n)) → UnlessMemory kind (NoStepIn fold defs (state_nodes st + room) st (name n))
-no_name_step fold defs kind room st n h = unless_weaker kind _ (NoStepIn fold defs (state_nodes st + room) st (name n)) (go st) h
+pub no_name_step : (how : ReadOptions) (defs : Definitions) (kind : PatternErrorKind) (room : ℕ) (st : State) (n : List ℕ)
+    → UnlessMemory kind (NoneWithin room (StandsIn how defs (left_of st) n)) → UnlessMemory kind (NoStepIn how defs (state_nodes st + room) st (name n))
+no_name_step how defs kind room st n h = unless_weaker kind _ (NoStepIn how defs (state_nodes st + room) st (name n)) (go st) h
   where
-    go : (st : State) → NoneWithin room (StandsIn fold defs (left_of st) n) → NoStepIn fold defs (state_nodes st + room) st (name n)
+    go : (st : State) → NoneWithin room (StandsIn how defs (left_of st) n) → NoStepIn how defs (state_nodes st + room) st (name n)
     go (state here outer zero) h after step few = step
     go (state here outer (suc d)) h after (t, stands, e) few =
         let k = ap state_nodes e in
         h t stands (omega (arith, push_grows here outer (suc d) t))
 
 -- only a symbol that is no name steps so
-pub plain_of : (s : Symbol) (st after : State) → step_of s st ≡ Some after → IsPlain s
-plain_of (item t) st after e = tt
-plain_of (name n) st after e = cc
-plain_of opening st after e = tt
-plain_of closing st after e = tt
-plain_of bar st after e = tt
-plain_of (sign s) st after e = tt
-plain_of (interval m n) st after e = tt
+pub plain_of : (posix : Bool) (s : Symbol) (st after : State) → step_of posix s st ≡ Some after → IsPlain s
+plain_of posix (item t) st after e = tt
+plain_of posix (name n) st after e = cc
+plain_of posix opening st after e = tt
+plain_of posix closing st after e = tt
+plain_of posix bar st after e = tt
+plain_of posix (sign s) st after e = tt
+plain_of posix (interval m n) st after e = tt
 
-pub too_many_plain : (fold : Bool) (defs : Definitions) (room n : ℕ) (st there : State) (s : Symbol) → step_of s st ≡ Some there → n ≡ adds s st → room < n
-    → NoStepIn fold defs (state_nodes st + room) st s
-too_many_plain fold defs room n st there s is e big after step few = omega (arith, step_grows s st after (steps_to fold defs s st after (plain_of s st there is) step))
+pub too_many_plain : (how : ReadOptions) (defs : Definitions) (room n : ℕ) (st there : State) (s : Symbol) → step_of how.posix s st ≡ Some there → n ≡ adds s st → room < n
+    → NoStepIn how defs (state_nodes st + room) st s
+too_many_plain how defs room n st there s is e big after step few = omega (arith, step_grows how.posix s st after (steps_to how defs s st after (plain_of how.posix s st there is) step))
 
-pub counted_plain : (room n : ℕ) (st there : State) (s : Symbol) → step_of s st ≡ Some there → n ≡ adds s st → n ≤ room → room ≤ 65536 → state_nodes there ≡ state_nodes st + n
-counted_plain room n st there s is e few small = step_nodes s st there is (omega arith) ∙ ap (λ k. state_nodes st + k) (sym e)
+pub counted_plain : (posix : Bool) (room n : ℕ) (st there : State) (s : Symbol) → step_of posix s st ≡ Some there → n ≡ adds s st → n ≤ room → room ≤ 65536 → state_nodes there ≡ state_nodes st + n
+counted_plain posix room n st there s is e few small = step_nodes posix s st there is (omega arith) ∙ ap (λ k. state_nodes st + k) (sym e)
 
-pub one_stands : (fold : Bool) (defs : Definitions) (d : ℕ) (n : List ℕ) (t u : Tree) → Stands (symbol_at fold) (get defs) d n t → Stands (symbol_at fold) (get defs) d n u → t ≡ u
-one_stands fold defs d n t u (sub, found, spells) (sub', found', spells') =
+pub one_stands : (how : ReadOptions) (defs : Definitions) (d : ℕ) (n : List ℕ) (t u : Tree) → Stands how.posix (symbol_at how.fold) (get defs) d n t → Stands how.posix (symbol_at how.fold) (get defs) d n u → t ≡ u
+one_stands how defs d n t u (sub, found, spells) (sub', found', spells') =
     let same : sub' ≡ sub = cc in
-    let P : List ℕ → Type 0 = λ x. SpellsIn fold defs d x u in
-    one_tree (symbol_at fold) (get defs) (nothing_at fold) d sub t u spells (subst P same spells')
+    let P : List ℕ → Type 0 = λ x. SpellsIn how defs d x u in
+    one_tree how.posix (symbol_at how.fold) (get defs) (nothing_at how.fold) d sub t u spells (subst P same spells')
 
-pub too_many_named : (fold : Bool) (defs : Definitions) (room k : ℕ) (st : State) (n : List ℕ) (t : Tree) → StandsIn fold defs (left_of st) n t → k ≡ item_adds t st → room < k
-    → NoStepIn fold defs (state_nodes st + room) st (name n)
-too_many_named fold defs room k (state here outer zero) n t stands e big after step few = stands
-too_many_named fold defs room k (state here outer (suc d)) n t stands e big after (u, stands', f) few =
-    let same : u ≡ t = one_stands fold defs d n u t stands' stands in
+pub too_many_named : (how : ReadOptions) (defs : Definitions) (room k : ℕ) (st : State) (n : List ℕ) (t : Tree) → StandsIn how defs (left_of st) n t → k ≡ item_adds t st → room < k
+    → NoStepIn how defs (state_nodes st + room) st (name n)
+too_many_named how defs room k (state here outer zero) n t stands e big after step few = stands
+too_many_named how defs room k (state here outer (suc d)) n t stands e big after (u, stands', f) few =
+    let same : u ≡ t = one_stands how defs d n u t stands' stands in
     let there : after ≡ state (pushed t here) outer (suc d) = f ∙ ap (λ x. state (pushed x here) outer (suc d)) same in
-    omega (arith, step_grows (item t) (state here outer (suc d)) after (ap Some (sym there)))
+    omega (arith, step_grows how.posix (item t) (state here outer (suc d)) after (ap Some (sym there)))

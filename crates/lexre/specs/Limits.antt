@@ -9,6 +9,6 @@ max_nodes = 65536
 abbrev pub max_open : ℕ
 max_open = 64
 
--- how many signs of repetition an item may have
+-- how many signs of repetition an item may have, or a whole series
 abbrev pub max_signs : ℕ
 max_signs = 64

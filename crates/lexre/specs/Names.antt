@@ -1,5 +1,5 @@
 -- The trees that are kept of the names that were read.
-use Rattle.std.specs.Prelude.{◌≡◌, ℕ, nat_le, Bool, if◌then◌else◌, List, map, Option, Some, None}
+use Rattle.std.specs.Prelude.{◌≡◌, ℕ, nat_le, if◌then◌else◌, List, map, Option, Some, None}
 use Rattle.std.specs.Cmp.Lexicographic.{slice_cmp}
 use Rattle.std.specs.FinMap.{FinMap, get}
 use Rattle.std.specs.Ordering.{nat_cmp}
@@ -11,6 +11,7 @@ use Rattle.lexre.specs.Reading.{StandsIn}
 use Rattle.lexre.specs.Views.{tree_of}
 use Rattle.lexre.specs.declared.names.Kept.{Kept}
 use Rattle.lexre.specs.declared.names.Names.{Names}
+use Rattle.lexre.specs.declared.options.ReadOptions.{ReadOptions}
 
 -- the names that are being read, the outermost first
 abbrev pub open_of : Names → List (List ℕ)
@@ -32,5 +33,5 @@ usable left None = None
 usable left (Some k) = if nat_le k.1 left then Some k else None
 
 -- each name stands for the tree that is kept of it, which is sound
-abbrev pub AreKnown : Bool → Definitions → Trees → Type 0
-AreKnown fold defs trees = (n : List ℕ) (t : Tree) (needed : ℕ) → get trees n ≡ Some (t, needed) → StandsIn fold defs needed n t × IsSoundTree t
+abbrev pub AreKnown : ReadOptions → Definitions → Trees → Type 0
+AreKnown how defs trees = (n : List ℕ) (t : Tree) (needed : ℕ) → get trees n ≡ Some (t, needed) → StandsIn how defs needed n t × IsSoundTree t

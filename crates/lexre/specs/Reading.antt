@@ -9,19 +9,20 @@ use Rattle.lexre.specs.Grammar.{SpellsWithin}
 use Rattle.lexclass.specs.Lexical.{symbol_at}
 use Rattle.lexre.specs.Running.{State, state, Stands, Steps}
 use Rattle.lexclass.specs.Symbols.{Symbol}
+use Rattle.lexre.specs.declared.options.ReadOptions.{ReadOptions}
 
 -- the text is a pattern, and this is its tree
-abbrev pub SpellsIn : Bool → Definitions → ℕ → List ℕ → Tree → Type 0
-SpellsIn fold defs d text t = SpellsWithin (symbol_at fold) (get defs) d text t
+abbrev pub SpellsIn : ReadOptions → Definitions → ℕ → List ℕ → Tree → Type 0
+SpellsIn how defs d text t = SpellsWithin how.posix (symbol_at how.fold) (get defs) d text t
 
 -- the name may be opened, and this is its tree
-abbrev pub StandsIn : Bool → Definitions → ℕ → List ℕ → Tree → Type 0
-StandsIn fold defs zero n t = ⊥
-StandsIn fold defs (suc d) n t = Stands (symbol_at fold) (get defs) d n t
+abbrev pub StandsIn : ReadOptions → Definitions → ℕ → List ℕ → Tree → Type 0
+StandsIn how defs zero n t = ⊥
+StandsIn how defs (suc d) n t = Stands how.posix (symbol_at how.fold) (get defs) d n t
 
 -- the state after a symbol
-abbrev pub StepsIn : Bool → Definitions → State → Symbol → State → Type 0
-StepsIn fold defs st s after = Steps (symbol_at fold) (get defs) st s after
+abbrev pub StepsIn : ReadOptions → Definitions → State → Symbol → State → Type 0
+StepsIn how defs st s after = Steps how.posix (symbol_at how.fold) (get defs) st s after
 
 -- the state where so many fewer may be opened
 abbrev pub lowered : ℕ → State → State

@@ -1,26 +1,26 @@
 -- Reading the symbols of a pattern from the left, with a stack of what is open. The grammar does not mention it: that it
 -- answers as the grammar says is proved.
-use Rattle.std.specs.Prelude.{◌≡◌, ℕ, zero, suc, nat_lt, if◌then◌else◌, List, [], ◌∷◌, ◌++◌, Option, Some, None}
+use Rattle.std.specs.Prelude.{◌≡◌, ℕ, zero, suc, nat_lt, Bool, if◌then◌else◌, List, [], ◌∷◌, ◌++◌, Option, Some, None}
 use Rattle.lexmeaning.specs.Tree.{Tree, Repeat}
 use Rattle.lexclass.specs.Symbols.{Symbol, item, name, opening, closing, bar, sign, interval, signed, Lexer, IsCut}
-use Rattle.lexre.specs.Grammar.{series_tree, choice_tree, SpellsWithin}
+use Rattle.lexre.specs.Grammar.{series_tree, choice_tree, Signs, on_item, how_many, one_more, series_count, parts_before, operand, operand_signs, SpellsWithin}
 use Rattle.lexre.specs.Limits.{max_signs}
 
 -- A pattern as far as it was read: its finished series, and of the series that is being read the parts before the last, the
--- last, if there is one, and how many signs that has.
+-- last, if there is one, and its signs.
 pub data Frame : Type 0 where
-  frame : List Tree → List Tree → Option Tree → ℕ → Frame
+  frame : List Tree → List Tree → Option Tree → Signs → Frame
 
 abbrev pub fresh : Frame
-fresh = frame [] [] None 0
+fresh = frame [] [] None (on_item 0 0)
 
 -- the pattern that is being read, those round it, and how many more may be opened
 pub data State : Type 0 where
   state : Frame → List Frame → ℕ → State
 
 abbrev pub pushed : Tree → Frame → Frame
-pushed t (frame done parts None k) = frame done parts (Some t) 0
-pushed t (frame done parts (Some last) k) = frame done (parts ++ last ∷ []) (Some t) 0
+pushed t (frame done parts None k) = frame done parts (Some t) (on_item 0 0)
+pushed t (frame done parts (Some last) k) = frame done (parts ++ last ∷ []) (Some t) (on_item (series_count k) 0)
 
 abbrev pub push : Tree → State → State
 push t (state here outer d) = state (pushed t here) outer d
@@ -28,7 +28,13 @@ push t (state here outer d) = state (pushed t here) outer d
 abbrev pub onto_last : (Tree → Tree) → State → Option State
 onto_last f (state (frame done parts None k) outer d) = None
 onto_last f (state (frame done parts (Some t) k) outer d) =
-    if nat_lt k max_signs then Some (state (frame done parts (Some (f t)) (suc k)) outer d) else None
+    if nat_lt (how_many k) max_signs then Some (state (frame done parts (Some (f t)) (one_more k)) outer d) else None
+
+-- what an interval applies to is the last part
+abbrev pub gathered : Bool → State → State
+gathered posix (state (frame done parts None k) outer d) = state (frame done parts None k) outer d
+gathered posix (state (frame done parts (Some t) k) outer d) =
+    state (frame done (parts_before posix parts) (Some (operand posix parts t)) (operand_signs posix k)) outer d
 
 abbrev pub opened : State → Option State
 opened (state here outer zero) = None
@@ -41,7 +47,7 @@ closed (state (frame done parts None k) outer d) = None
 
 abbrev pub parted : State → Option State
 parted (state (frame done parts None k) outer d) = None
-parted (state (frame done parts (Some t) k) outer d) = Some (state (frame (done ++ series_tree parts t ∷ []) [] None 0) outer d)
+parted (state (frame done parts (Some t) k) outer d) = Some (state (frame (done ++ series_tree parts t ∷ []) [] None (on_item 0 0)) outer d)
 
 abbrev pub finished : State → Option Tree
 finished (state (frame done parts (Some t) k) [] d) = Some (choice_tree done (series_tree parts t))
@@ -49,14 +55,14 @@ finished (state (frame done parts (Some t) k) (f ∷ fs) d) = None
 finished (state (frame done parts None k) outer d) = None
 
 -- the step at a symbol that is no name
-abbrev pub step_of : Symbol → State → Option State
-step_of (item t) st = Some (push t st)
-step_of (name n) st = None
-step_of opening st = opened st
-step_of closing st = closed st
-step_of bar st = parted st
-step_of (sign s) st = onto_last (signed s) st
-step_of (interval m n) st = onto_last (λ t. Repeat t m n) st
+abbrev pub step_of : Bool → Symbol → State → Option State
+step_of posix (item t) st = Some (push t st)
+step_of posix (name n) st = None
+step_of posix opening st = opened st
+step_of posix closing st = closed st
+step_of posix bar st = parted st
+step_of posix (sign s) st = onto_last (signed s) st
+step_of posix (interval m n) st = onto_last (λ t. Repeat t m n) (gathered posix st)
 
 -- the symbol is no name
 abbrev pub IsPlain : Symbol → Type 0
@@ -68,10 +74,10 @@ IsPlain bar = Unit {0}
 IsPlain (sign s) = Unit {0}
 IsPlain (interval m n) = Unit {0}
 
-module _ (symbol_at : Lexer) (defined : List ℕ → Option (List ℕ)) where
+module _ (posix : Bool) (symbol_at : Lexer) (defined : List ℕ → Option (List ℕ)) where
   -- the substitute of the name is a pattern, and this is its tree
   abbrev pub Stands : ℕ → List ℕ → Tree → Type 0
-  Stands d n t = (text : List ℕ) × (defined n ≡ Some text) × SpellsWithin symbol_at defined d text t
+  Stands d n t = (text : List ℕ) × (defined n ≡ Some text) × SpellsWithin posix symbol_at defined d text t
 
   abbrev pub StepsName : State → List ℕ → State → Type 0
   StepsName (state here outer zero) n after = ⊥
@@ -84,7 +90,7 @@ module _ (symbol_at : Lexer) (defined : List ℕ → Option (List ℕ)) where
   Steps st closing after = closed st ≡ Some after
   Steps st bar after = parted st ≡ Some after
   Steps st (sign s) after = onto_last (signed s) st ≡ Some after
-  Steps st (interval m n) after = onto_last (λ t. Repeat t m n) st ≡ Some after
+  Steps st (interval m n) after = onto_last (λ t. Repeat t m n) (gathered posix st) ≡ Some after
 
   -- from the state, reading these symbols to the end gives the tree
   abbrev pub Runs : State → List Symbol → Tree → Type 0

@@ -1,15 +1,23 @@
 -- What a `Stack` stands for.
 use Rattle.std.specs.Prelude.{◌≡◌, ℕ, map, reverse, option_map, Option, Some, None, Result, Ok, Err}
 use Rattle.lexre.specs.Outcome.{UnlessMemory}
+use Rattle.lexre.specs.Grammar as grammar
+use Rattle.lexre.specs.Grammar.{on_item, on_series}
 use Rattle.lexre.specs.Running.{State, frame, state}
 use Rattle.lexre.specs.Running as run
 use Rattle.lexre.specs.Views.{tree_of}
 use Rattle.lexclass.specs.declared.error.PatternErrorKind.{PatternErrorKind}
 use Rattle.lexre.specs.declared.frames.Frame.{Frame}
+use Rattle.lexre.specs.declared.frames.Signs.{Signs}
+use Rattle.lexre.specs.declared.frames.Signs.TheVariants.{OnItem, OnSeries}
 use Rattle.lexre.specs.declared.frames.Stack.{Stack}
 
+abbrev pub signs_of : Signs → grammar.Signs
+signs_of (OnItem before k) = on_item before k
+signs_of (OnSeries k) = on_series k
+
 abbrev pub frame_of : Frame → run.Frame
-frame_of f = frame (map tree_of f.done.items) (map tree_of f.parts.items) (option_map tree_of f.last) f.signs
+frame_of f = frame (map tree_of f.done.items) (map tree_of f.parts.items) (option_map tree_of f.last) (signs_of f.signs)
 
 abbrev pub state_of : Stack → State
 state_of s = state (frame_of s.here) (reverse (map frame_of s.outer.items)) s.left

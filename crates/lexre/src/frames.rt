@@ -5,6 +5,15 @@ ghost use Rattle.lexre.specs.Limits.{max_open};
 use crate::pattern::Pattern;
 use std::alloc::Global;
 
+/// What the next sign applies to, and how many stand on it.
+#[derive(Clone, Copy)]
+pub(crate) enum Signs {
+    /// The item that was read last. `before` stand on the series before it.
+    OnItem { before: u8, signs: u8 },
+    /// The whole series, from an interval on that applies to it.
+    OnSeries(u8),
+}
+
 /// A pattern inside its parentheses, as far as it was read.
 #[derive(Drop)]
 pub(crate) struct Frame {
@@ -17,8 +26,8 @@ pub(crate) struct Frame {
     /// The parts of the series that is being read, before its last.
     pub(crate) parts: Vec<Pattern>,
     pub(crate) last: Option<Pattern>,
-    /// How many signs the last part has.
-    pub(crate) signs: u8,
+    /// The signs of the last part.
+    pub(crate) signs: Signs,
 }
 
 #[derive(Drop)]

@@ -6,16 +6,17 @@ ghost use Rattle.lexre.specs.Cutting.{IsCutting};
 ghost use Rattle.lexre.specs.Definitions.{Definitions};
 ghost use Rattle.lexre.specs.Readings.{UsesFrom};
 ghost use Rattle.lexre.specs.Spelling.{Spells};
+ghost use Rattle.lexre.specs.declared.options.ReadOptions.{ReadOptions};
 
 /// A reading uses positions from its base on, and no more of them than the tree has.
 pub fn readings_use_own_positions()
     ensures { (t : Tree) (base : ℕ) (rs : List Cell) → Reads t base rs → UsesFrom base (base + positions t) rs }
 {}
 
-/// A text spells at most one tree.
+/// A text spells at most one tree, however patterns are read.
 pub fn one_tree()
-    ensures { (fold : Bool) (defs : Definitions) (text : List ℕ) (t u : Tree)
-        → Spells fold defs text t → Spells fold defs text u → t ≡ u }
+    ensures { (options : ReadOptions) (defs : Definitions) (text : List ℕ) (t u : Tree)
+        → Spells options defs text t → Spells options defs text u → t ≡ u }
 {}
 
 /// A text has at most one cutting.

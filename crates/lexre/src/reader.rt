@@ -21,6 +21,7 @@ use crate::definitions::Defs;
 use crate::frames::Stack;
 use crate::lexer::symbol_at;
 use crate::names::Names;
+use crate::options::ReadOptions;
 use crate::pattern::Pattern;
 use crate::symbols::Symbol;
 use lexclass::{Class, Fault, PatternError, PatternErrorKind};
@@ -31,13 +32,6 @@ const MAX_OPEN: u8 = 64;
 
 /// The most nodes of a pattern.
 const MAX_NODES: u64 = 65_536;
-
-/// How a pattern is read.
-#[derive(Clone, Copy)]
-pub struct ReadOptions {
-    /// Whether letters stand for both cases. (flex, Scanner Options: case-insensitive.)
-    pub fold: bool,
-}
 
 /// Whether the text begins with an opening brace and a digit.
 fn begins_interval(text: &[u8]) -> bool
@@ -51,12 +45,12 @@ fn begins_interval(text: &[u8]) -> bool
 
 /// What is told of a fault in the text that stands at this place: an interval that is bad in itself is told after what
 /// lacks to its left.
-fn told(stack: &Stack, fault: Fault, text: &[u8], at: usize) -> PatternError
+fn told(stack: &Stack, fault: Fault, text: &[u8], at: usize, posix: bool) -> PatternError
     ensures { fault.entry.kind ≡ OutOfMemory → result.kind ≡ OutOfMemory }
 {
     let kind = match fault.kind {
         PatternErrorKind::BadInterval if begins_interval(text) => {
-            stack.repeat_fault().unwrap_or(fault.kind)
+            stack.interval_fault(posix).unwrap_or(fault.kind)
         }
         other => other,
     };
@@ -71,8 +65,7 @@ fn told(stack: &Stack, fault: Fault, text: &[u8], at: usize) -> PatternError
 #[derive(Clone, Copy)]
 struct Scope<'a> {
     defs: &'a Defs,
-    /// Whether letters stand for both cases.
-    fold: bool,
+    options: ReadOptions,
 }
 
 /// A pattern that was read.
@@ -104,15 +97,15 @@ fn read_name(
 ) -> Result<Read, PatternErrorKind>
     requires left { left ≤ max_open }
     requires room { room ≤ max_nodes }
-    requires known_so_far { AreKnown scope.fold scope.defs.now (trees_of names.old) }
-    requires lead { AllLead scope.fold scope.defs.now (open_of names.old) name.now }
-    ensures found { IfOk result (λ r. StandsIn scope.entry.fold scope.entry.defs.now (left - r.spare) name.now (tree_of r.tree.pattern)) }
+    requires known_so_far { AreKnown scope.options scope.defs.now (trees_of names.old) }
+    requires lead { AllLead scope.options scope.defs.now (open_of names.old) name.now }
+    ensures found { IfOk result (λ r. StandsIn scope.entry.options scope.entry.defs.now (left - r.spare) name.now (tree_of r.tree.pattern)) }
     ensures spare { IfOk result (λ r. r.spare ≤ left) }
     ensures few { IfOk result (λ r. nodes (tree_of r.tree.pattern) ≤ room) }
     ensures sound { IfOk result (λ r. IsSoundTree (tree_of r.tree.pattern)) }
-    ensures known { OnOk result (AreKnown scope.entry.fold scope.entry.defs.now (trees_of names.new)) }
+    ensures known { OnOk result (AreKnown scope.entry.options scope.entry.defs.now (trees_of names.new)) }
     ensures same_open { OnOk result (open_of names.new ≡ open_of names.old) }
-    ensures none { IfErr result (λ e. UnlessMemory e (NoneWithin room (StandsIn scope.entry.fold scope.entry.defs.now left name.now))) }
+    ensures none { IfErr result (λ e. UnlessMemory e (NoneWithin room (StandsIn scope.entry.options scope.entry.defs.now left name.now))) }
 {
     if let Some(kept) = names.find(name, left) {
         if kept.tree.nodes > room {
@@ -156,19 +149,19 @@ fn step(
     requires room { room ≤ max_nodes }
     requires sound { IsSoundSymbol (symbol_of symbol) }
     requires sound_so_far { IsSoundState (state_of stack.old) }
-    requires known_so_far { AreKnown scope.fold scope.defs.now (trees_of names.old) }
-    requires lead { AllLeadToSymbol scope.fold scope.defs.now (open_of names.old) (symbol_of symbol) }
-    ensures found { IfOk result (λ a. StepsIn scope.entry.fold scope.entry.defs.now (state_of stack.old) (symbol_of symbol.entry) (state_of stack.new)) }
+    requires known_so_far { AreKnown scope.options scope.defs.now (trees_of names.old) }
+    requires lead { AllLeadToSymbol scope.options scope.defs.now (open_of names.old) (symbol_of symbol) }
+    ensures found { IfOk result (λ a. StepsIn scope.entry.options scope.entry.defs.now (state_of stack.old) (symbol_of symbol.entry) (state_of stack.new)) }
     ensures spare { IfOk result (λ a. a.spare ≤ stack.new.left) }
     ensures lowered { IfOk result (λ a. (e : ℕ) → e ≤ stack.old.left → e ≤ a.spare
-        → StepsIn scope.entry.fold scope.entry.defs.now (lowered e (state_of stack.old)) (symbol_of symbol.entry) (lowered e (state_of stack.new))) }
+        → StepsIn scope.entry.options scope.entry.defs.now (lowered e (state_of stack.old)) (symbol_of symbol.entry) (lowered e (state_of stack.new))) }
     ensures few { IfOk result (λ a. a.nodes ≤ room) }
     ensures sound { IfOk result (λ a. IsSoundState (state_of stack.new)) }
-    ensures known { OnOk result (AreKnown scope.entry.fold scope.entry.defs.now (trees_of names.new)) }
+    ensures known { OnOk result (AreKnown scope.entry.options scope.entry.defs.now (trees_of names.new)) }
     ensures same_open { OnOk result (open_of names.new ≡ open_of names.old) }
     ensures counted { IfOk result (λ a. state_nodes (state_of stack.new) ≡ state_nodes (state_of stack.old) + a.nodes) }
     ensures none { IfErr result (λ e. UnlessMemory e
-        ((after : State) → StepsIn scope.entry.fold scope.entry.defs.now (state_of stack.old) (symbol_of symbol.entry) after → state_nodes after ≤ state_nodes (state_of stack.old) + room → ⊥)) }
+        ((after : State) → StepsIn scope.entry.options scope.entry.defs.now (state_of stack.old) (symbol_of symbol.entry) after → state_nodes after ≤ state_nodes (state_of stack.old) + room → ⊥)) }
 {
     let taken = match symbol {
         Symbol::Name(name) => {
@@ -185,7 +178,7 @@ fn step(
             Taken { nodes, spare }
         }
         plain => {
-            let nodes = stack.take(plain, at)?;
+            let nodes = stack.take(plain, at, scope.options.posix)?;
             Taken {
                 nodes,
                 spare: stack.left,
@@ -210,15 +203,15 @@ fn read_within(
 ) -> Result<Read, PatternError>
     requires left { left ≤ max_open }
     requires room { room ≤ max_nodes }
-    requires known_so_far { AreKnown scope.fold scope.defs.now (trees_of names.old) }
-    requires lead { AllLeadToText scope.fold scope.defs.now (open_of names.old) text.now }
-    ensures found { IfOk result (λ r. SpellsIn scope.entry.fold scope.entry.defs.now (left - r.spare) text.now (tree_of r.tree.pattern)) }
+    requires known_so_far { AreKnown scope.options scope.defs.now (trees_of names.old) }
+    requires lead { AllLeadToText scope.options scope.defs.now (open_of names.old) text.now }
+    ensures found { IfOk result (λ r. SpellsIn scope.entry.options scope.entry.defs.now (left - r.spare) text.now (tree_of r.tree.pattern)) }
     ensures spare { IfOk result (λ r. r.spare ≤ left) }
     ensures few { IfOk result (λ r. nodes (tree_of r.tree.pattern) ≤ room) }
     ensures sound { IfOk result (λ r. IsSoundTree (tree_of r.tree.pattern)) }
-    ensures known { OnOk result (AreKnown scope.entry.fold scope.entry.defs.now (trees_of names.new)) }
+    ensures known { OnOk result (AreKnown scope.entry.options scope.entry.defs.now (trees_of names.new)) }
     ensures same_open { OnOk result (open_of names.new ≡ open_of names.old) }
-    ensures none { IfErr result (λ e. UnlessMemory e.kind (NoneWithin room (SpellsIn scope.entry.fold scope.entry.defs.now left text.now))) }
+    ensures none { IfErr result (λ e. UnlessMemory e.kind (NoneWithin room (SpellsIn scope.entry.options scope.entry.defs.now left text.now))) }
 {
     let mut stack = Stack::new(alloc, left);
     let mut nodes = 0;
@@ -226,9 +219,9 @@ fn read_within(
     let mut rest = text;
     while !rest.is_empty() {
         let at = text.len().saturating_sub(rest.len());
-        let (symbol, after) = match symbol_at(alloc, rest, scope.fold) {
+        let (symbol, after) = match symbol_at(alloc, rest, scope.options.fold) {
             Ok(found) => found,
-            Err(fault) => return Err(told(&stack, fault, rest, at)),
+            Err(fault) => return Err(told(&stack, fault, rest, at, scope.options.posix)),
         };
         match step(&mut stack, symbol, at, scope, room - nodes, names) {
             Ok(taken) => {
@@ -267,9 +260,9 @@ pub fn read_pattern(
     defs: &Defs,
     options: ReadOptions,
 ) -> Result<Pattern, PatternError>
-    ensures found { IfOk result (λ p. Spells options.fold defs.now text.now (tree_of p)) }
+    ensures found { IfOk result (λ p. Spells options defs.now text.now (tree_of p)) }
     ensures sound { IfOk result (λ p. IsSoundTree (tree_of p)) }
-    ensures none { IfErr result (λ e. UnlessMemory e.kind ((t : Tree) → Spells options.fold defs.now text.now t → ⊥)) }
+    ensures none { IfErr result (λ e. UnlessMemory e.kind ((t : Tree) → Spells options defs.now text.now t → ⊥)) }
 {
     let mut names = Names::new(alloc);
     read_with_names(alloc, text, defs, options, &mut names)
@@ -284,16 +277,13 @@ pub fn read_with_names(
     options: ReadOptions,
     names: &mut Names,
 ) -> Result<Pattern, PatternError>
-    requires known_so_far { AreKnown options.fold defs.now (trees_of names.old) }
-    ensures found { IfOk result (λ p. Spells options.fold defs.now text.now (tree_of p)) }
+    requires known_so_far { AreKnown options defs.now (trees_of names.old) }
+    ensures found { IfOk result (λ p. Spells options defs.now text.now (tree_of p)) }
     ensures sound { IfOk result (λ p. IsSoundTree (tree_of p)) }
-    ensures known { OnOk result (AreKnown options.fold defs.now (trees_of names.new)) }
-    ensures none { IfErr result (λ e. UnlessMemory e.kind ((t : Tree) → Spells options.fold defs.now text.now t → ⊥)) }
+    ensures known { OnOk result (AreKnown options defs.now (trees_of names.new)) }
+    ensures none { IfErr result (λ e. UnlessMemory e.kind ((t : Tree) → Spells options defs.now text.now t → ⊥)) }
 {
-    let scope = Scope {
-        defs,
-        fold: options.fold,
-    };
+    let scope = Scope { defs, options };
     names.begin();
     match read_within(alloc, text, scope, MAX_OPEN, MAX_NODES, names) {
         Ok(Read { tree, .. }) => {

@@ -1,19 +1,19 @@
 //! A pattern as far as it was read. (POSIX, lex, Regular Expressions in lex; flex, Patterns.)
-ghost use Rattle.std.specs.Prelude.{◌≡◌, ◌+◌, ◌≤◌, ℕ, List, Option, [], Some, None, map, MatchResult, IfOk, IfErr, IfSome, IfNone, IsSome};
+ghost use Rattle.std.specs.Prelude.{◌≡◌, ◌+◌, ◌≤◌, ◌<◌, ℕ, List, Option, [], Some, None, map, MatchResult, IfOk, IfErr, IfSome, IfNone, IsSome};
 ghost use Rattle.lexmeaning.specs.Tree.{Repeat, Tree};
 ghost use Rattle.lexre.specs.Counting.{adds, closing_adds, extra, item_adds};
-ghost use Rattle.lexre.specs.Grammar.{choice_tree, series_tree};
+ghost use Rattle.lexre.specs.Grammar.{choice_tree, how_many, on_item, one_more, operand, operand_signs, parts_before, series_count, series_tree};
 ghost use Rattle.lexre.specs.Outcome.{UnlessMemory};
-ghost use Rattle.lexre.specs.Running.{State, closed, finished, fresh, onto_last, opened, parted, push, pushed, state, step_of};
-ghost use Rattle.lexre.specs.StackViews.{StepsTo, frame_of, state_of};
+ghost use Rattle.lexre.specs.Running.{State, closed, finished, fresh, gathered, onto_last, opened, parted, push, pushed, state, step_of};
+ghost use Rattle.lexre.specs.StackViews.{StepsTo, frame_of, signs_of, state_of};
 ghost use Rattle.lexre.specs.SymbolViews.{sign_of, symbol_of};
 ghost use Rattle.lexclass.specs.Symbols.{signed};
 ghost use Rattle.lexre.specs.Views.{tree_of};
 ghost use Rattle.lexclass.specs.declared.error.PatternErrorKind.TheVariants.{OutOfMemory};
-ghost use Rattle.lexre.specs.Limits.{max_open};
+ghost use Rattle.lexre.specs.Limits.{max_open, max_signs};
 
 use crate::counted::Counted;
-use crate::frames::{Frame, Stack};
+use crate::frames::{Frame, Signs, Stack};
 use crate::pattern::Pattern;
 use crate::symbols::{Sign, Symbol};
 use lexclass::{PatternError, PatternErrorKind};
@@ -21,7 +21,7 @@ use std::alloc::Global;
 use std::mem;
 use std::rc::Rc;
 
-/// The most signs that may stand on one item.
+/// The most signs that may stand on one item, or on one series.
 const MAX_SIGNS: u8 = 64;
 
 /// The pattern of a series: a part alone is itself.
@@ -50,6 +50,89 @@ fn choice(alloc: Global, mut done: Vec<Pattern>, last: Pattern) -> Result<Patter
     Ok(Pattern::Alt(Rc::new(alloc, done)?))
 }
 
+/// What an interval applies to: the last part, or under `posix` the whole series, whose parts before the last are taken.
+fn operand(
+    alloc: Global,
+    parts: &mut Vec<Pattern>,
+    last: Pattern,
+    posix: bool,
+) -> Result<Pattern, PatternErrorKind>
+    ensures found { MatchResult result (λ p. tree_of p ≡ operand posix (map tree_of parts.old.items) (tree_of last)) (λ e. e ≡ OutOfMemory) }
+    ensures left { IfOk result (λ _. map tree_of parts.new.items ≡ parts_before posix (map tree_of parts.old.items)) }
+{
+    if !posix {
+        return Ok(last);
+    }
+    let all = mem::replace(parts, Vec::new(alloc));
+    series(alloc, all, last)
+}
+
+impl Signs {
+    /// None, on the first item of a series.
+    fn none() -> Signs
+        ensures { signs_of result ≡ on_item 0 0 }
+    {
+        Signs::OnItem {
+            before: 0,
+            signs: 0,
+        }
+    }
+
+    /// How many stand on what the next sign applies to.
+    fn count(self) -> u8
+        ensures { result ≡ how_many (signs_of self) }
+    {
+        match self {
+            Signs::OnItem { signs, .. } => signs,
+            Signs::OnSeries(signs) => signs,
+        }
+    }
+
+    /// How many stand on the whole series.
+    fn series_count(self) -> u8
+        ensures { result ≡ series_count (signs_of self) }
+    {
+        match self {
+            Signs::OnItem { before, .. } => before,
+            Signs::OnSeries(signs) => signs,
+        }
+    }
+
+    fn one_more(self) -> Signs
+        requires { how_many (signs_of self) < max_signs }
+        ensures { signs_of result ≡ one_more (signs_of self) }
+    {
+        match self {
+            Signs::OnItem { before, signs } => Signs::OnItem {
+                before,
+                signs: signs + 1,
+            },
+            Signs::OnSeries(signs) => Signs::OnSeries(signs + 1),
+        }
+    }
+
+    /// None, on an item that follows.
+    fn at_next_item(self) -> Signs
+        ensures { signs_of result ≡ on_item (series_count (signs_of self)) 0 }
+    {
+        Signs::OnItem {
+            before: self.series_count(),
+            signs: 0,
+        }
+    }
+
+    /// Those on what an interval applies to.
+    fn at_interval(self, posix: bool) -> Signs
+        ensures { signs_of result ≡ operand_signs posix (signs_of self) }
+    {
+        if posix {
+            Signs::OnSeries(self.series_count())
+        } else {
+            self
+        }
+    }
+}
+
 impl Frame {
     fn new(alloc: Global, opening: usize) -> Frame
         ensures { frame_of result ≡ fresh }
@@ -60,7 +143,7 @@ impl Frame {
             done: Vec::new(alloc),
             parts: Vec::new(alloc),
             last: None,
-            signs: 0,
+            signs: Signs::none(),
         }
     }
 
@@ -79,12 +162,15 @@ impl Frame {
     fn push(&mut self, item: Pattern, start: usize) -> Result<(), PatternErrorKind>
         ensures { MatchResult result (λ _. frame_of self.new ≡ pushed (tree_of item) (frame_of self.old)) (λ e. e ≡ OutOfMemory) }
     {
-        if let Some(last) = self.last.take() {
-            self.parts.push(last)?;
+        match self.last.take() {
+            Some(last) => {
+                self.parts.push(last)?;
+                self.signs = self.signs.at_next_item();
+            }
+            None => self.signs = Signs::none(),
         }
         self.last = Some(item);
         self.start = start;
-        self.signs = 0;
         Ok(())
     }
 }
@@ -155,19 +241,19 @@ impl Stack {
         let parts = mem::replace(&mut self.here.parts, Vec::new(self.alloc));
         let whole = series(self.alloc, parts, last)?;
         self.here.done.push(whole)?;
-        self.here.signs = 0;
+        self.here.signs = Signs::none();
         Ok(0)
     }
 
-    /// What the place lacks where a sign or an interval stands: an item to its left, or room for one more on it.
-    pub(crate) fn repeat_fault(&self) -> Option<PatternErrorKind>
-        ensures never { IfSome result (λ kind. (f : Tree → Tree) → onto_last f (state_of self.now) ≡ None) }
+    /// What the place lacks where an interval stands: something to its left, or room for one more on it.
+    pub(crate) fn interval_fault(&self, posix: bool) -> Option<PatternErrorKind>
+        ensures never { IfSome result (λ kind. (f : Tree → Tree) → onto_last f (gathered posix (state_of self.now)) ≡ None) }
         ensures memory { IfSome result (λ kind. kind ≡ OutOfMemory → ⊥) }
-        ensures steps { IfNone result (IsSome (onto_last (λ t. t) (state_of self.now))) }
+        ensures steps { IfNone result (IsSome (onto_last (λ t. t) (gathered posix (state_of self.now)))) }
     {
         if self.here.last.is_none() {
             Some(PatternErrorKind::MissingOperand)
-        } else if self.here.signs >= MAX_SIGNS {
+        } else if self.here.signs.at_interval(posix).count() >= MAX_SIGNS {
             Some(PatternErrorKind::TooDeep)
         } else {
             None
@@ -181,7 +267,7 @@ impl Stack {
         let Some(last) = self.here.last.take() else {
             return Err(PatternErrorKind::MissingOperand);
         };
-        if self.here.signs >= MAX_SIGNS {
+        if self.here.signs.count() >= MAX_SIGNS {
             return Err(PatternErrorKind::TooDeep);
         }
         let inner = Rc::new(self.alloc, last)?;
@@ -191,23 +277,30 @@ impl Stack {
             Sign::AtMostOnce => Pattern::Repeat(inner, 0, Some(1)),
         };
         self.here.last = Some(repeated);
-        self.here.signs += 1;
+        self.here.signs = self.here.signs.one_more();
         Ok(1)
     }
 
-    /// Repeats the last part, as the interval says.
-    fn interval(&mut self, least: u8, most: Option<u8>) -> Result<u64, PatternErrorKind>
-        ensures { StepsTo result (onto_last (λ t. Repeat t least most) (state_of self.old)) 1 (state_of self.new) }
+    /// Repeats the last part, or under `posix` the whole series, as the interval says.
+    fn interval(
+        &mut self,
+        least: u8,
+        most: Option<u8>,
+        posix: bool,
+    ) -> Result<u64, PatternErrorKind>
+        ensures { StepsTo result (onto_last (λ t. Repeat t least most) (gathered posix (state_of self.old))) 1 (state_of self.new) }
     {
         let Some(last) = self.here.last.take() else {
             return Err(PatternErrorKind::MissingOperand);
         };
-        if self.here.signs >= MAX_SIGNS {
+        let signs = self.here.signs.at_interval(posix);
+        if signs.count() >= MAX_SIGNS {
             return Err(PatternErrorKind::TooDeep);
         }
-        let inner = Rc::new(self.alloc, last)?;
+        let operand = operand(self.alloc, &mut self.here.parts, last, posix)?;
+        let inner = Rc::new(self.alloc, operand)?;
         self.here.last = Some(Pattern::Repeat(inner, least, most));
-        self.here.signs += 1;
+        self.here.signs = signs.one_more();
         Ok(1)
     }
 
@@ -223,9 +316,17 @@ impl Stack {
     }
 
     /// Takes a symbol that stands at this place and is no name, and answers how many nodes it brings.
-    pub(crate) fn take(&mut self, symbol: Symbol, at: usize) -> Result<u64, PatternErrorKind>
-        ensures { StepsTo result (step_of (symbol_of symbol.entry) (state_of self.old)) (adds (symbol_of symbol.entry) (state_of self.old)) (state_of self.new) }
+    pub(crate) fn take(
+        &mut self,
+        symbol: Symbol,
+        at: usize,
+        posix: bool,
+    ) -> Result<u64, PatternErrorKind>
+        ensures { StepsTo result (step_of posix (symbol_of symbol.entry) (state_of self.old)) (adds (symbol_of symbol.entry) (state_of self.old)) (state_of self.new) }
     {
+        if posix && matches!(symbol, Symbol::Sign(_) | Symbol::Interval(..)) {
+            self.here.start = at;
+        }
         match symbol {
             Symbol::Item(item) => self.push(Counted::new(item), at),
             Symbol::Name(_) => Err(PatternErrorKind::UndefinedName),
@@ -233,7 +334,7 @@ impl Stack {
             Symbol::Closing => self.close(),
             Symbol::Bar => self.part(),
             Symbol::Sign(sign) => self.sign(sign),
-            Symbol::Interval(least, most) => self.interval(least, most),
+            Symbol::Interval(least, most) => self.interval(least, most, posix),
         }
     }
 

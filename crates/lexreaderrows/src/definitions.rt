@@ -1,3 +1,4 @@
+use crate::patterns::PLAIN;
 use lexaction::number_of;
 use lexlines::{
     MAX_FILE_BYTES, Skipped, SpecErrorKind, is_all_blank, is_blank, newlines_before, read_section,
@@ -12,7 +13,7 @@ fn fault_of(alloc: Global, text: &str) -> Result<Option<(u32, SpecErrorKind)>, A
     if kept.len() > MAX_FILE_BYTES {
         return Ok(None);
     }
-    match read_section(alloc, &kept, false) {
+    match read_section(alloc, &kept, PLAIN) {
         Ok(_section) => Ok(None),
         Err(fault) => Ok(Some((fault.line, fault.kind))),
     }
@@ -105,7 +106,7 @@ fn counts_of_conditions(rt: HostRuntime) -> Result<(), Fail> {
 fn declarations_of_a_section(rt: HostRuntime) -> Result<(), Fail> {
     let text =
         b"%s A\n%x B\n%option case-insensitive\nD [0-9]\n%{\nint n;\n%}\n%%\na ;\n".as_slice();
-    let section = read_section(rt.alloc(), text, false)?;
+    let section = read_section(rt.alloc(), text, PLAIN)?;
     assert_eq!(rt; section.line, 8);
     assert_eq!(rt; section.rest, b"%%\na ;\n".as_slice());
     let declared = section.declarations;
@@ -118,7 +119,7 @@ fn declarations_of_a_section(rt: HostRuntime) -> Result<(), Fail> {
     assert_eq!(rt; number_of(&declared.conditions, b"B".as_slice()), Some(2));
     assert_eq!(rt; number_of(&declared.conditions, b"C".as_slice()), None);
     assert!(rt; declared.defs.find(b"D".as_slice()).is_some());
-    assert!(rt; declared.fold);
+    assert!(rt; declared.options.fold);
     assert_eq!(rt; declared.skipped.lines.as_slice(), [5].as_slice());
     Ok(())
 }

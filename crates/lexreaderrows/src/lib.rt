@@ -8,4 +8,6 @@ mod definitions;
 #[cfg(test)]
 mod patterns;
 #[cfg(test)]
+mod series;
+#[cfg(test)]
 mod specifications;

@@ -14,6 +14,12 @@ use std::alloc::{AllocError, Global};
 use std::rc::Rc;
 use std::test::Fail;
 
+/// Patterns as they stand, and intervals over items.
+pub(crate) const PLAIN: ReadOptions = ReadOptions {
+    fold: false,
+    posix: false,
+};
+
 fn byte(byte: u8) -> Pattern
     ensures { IsSoundTree (tree_of result) }
 {
@@ -428,14 +434,13 @@ const NO_INTERVALS: [&[u8]; 7] = [
 fn intervals(rt: HostRuntime) -> Result<(), Fail> {
     let alloc = rt.alloc();
     let defs = worked_definitions(alloc)?;
-    let options = ReadOptions { fold: false };
     for &(text, min, max) in &INTERVALS {
-        let pattern = read_pattern(alloc, text, &defs, options).expect(&rt, "a tree");
+        let pattern = read_pattern(alloc, text, &defs, PLAIN).expect(&rt, "a tree");
         assert_eq!(rt; lengths(&pattern), Some(Lengths { min, max }));
     }
     for text in &NO_INTERVALS {
         let kind = PatternErrorKind::BadInterval;
-        let error = read_pattern(alloc, *text, &defs, options).err();
+        let error = read_pattern(alloc, *text, &defs, PLAIN).err();
         assert_eq!(rt; error, Some(PatternError { kind, at: 1 }));
     }
     Ok(())
@@ -443,7 +448,7 @@ fn intervals(rt: HostRuntime) -> Result<(), Fail> {
 
 /// A node of a tree, before its parts.
 #[derive(Clone, Copy)]
-enum Node {
+pub(crate) enum Node {
     Empty,
     /// A set of these bytes.
     Bytes(&'static [u8]),
@@ -467,7 +472,7 @@ fn is_set_of(set: ByteSet, members: &[u8], inside: bool) -> bool {
 
 // The nodes that follow those of the tree, where these begin with its own
 #[cycle(nodes)]
-fn after_tree<'a>(pattern: &Pattern, nodes: &'a [Node]) -> Option<&'a [Node]> {
+pub(crate) fn after_tree<'a>(pattern: &Pattern, nodes: &'a [Node]) -> Option<&'a [Node]> {
     let (first, rest) = nodes.split_first()?;
     match (pattern, *first) {
         (Pattern::Empty, Node::Empty) => Some(rest),
@@ -680,7 +685,8 @@ fn patterns(rt: HostRuntime) -> Result<(), Fail> {
     let alloc = rt.alloc();
     let defs = worked_definitions(alloc)?;
     for &(text, fold, nodes) in &TREES {
-        let pattern = read_pattern(alloc, text, &defs, ReadOptions { fold }).expect(&rt, "a tree");
+        let options = ReadOptions { fold, ..PLAIN };
+        let pattern = read_pattern(alloc, text, &defs, options).expect(&rt, "a tree");
         assert!(rt; after_tree(&pattern, nodes).is_some_and(|rest| rest.is_empty()));
     }
     Ok(())
@@ -755,7 +761,7 @@ fn refused_patterns(rt: HostRuntime) -> Result<(), Fail> {
     let alloc = rt.alloc();
     let defs = worked_definitions(alloc)?;
     for &(text, kind, at) in &REFUSALS {
-        match read_pattern(alloc, text, &defs, ReadOptions { fold: false }) {
+        match read_pattern(alloc, text, &defs, PLAIN) {
             Ok(_) => assert!(rt; false),
             Err(error) => assert_eq!(rt; error, PatternError { kind, at }),
         }
@@ -910,7 +916,7 @@ fn long_patterns(rt: HostRuntime) -> Result<(), Fail> {
             text.extend_from_slice(part)?;
         }
         text.extend_from_slice(end)?;
-        let told = match read_pattern(alloc, &text, &defs, ReadOptions { fold: false }) {
+        let told = match read_pattern(alloc, &text, &defs, PLAIN) {
             Ok(_) => None,
             Err(error) => Some((error.kind, error.at)),
         };
@@ -921,7 +927,7 @@ fn long_patterns(rt: HostRuntime) -> Result<(), Fail> {
 
 // What is told of a text, where it is refused.
 fn told(alloc: Global, text: &[u8], defs: &Defs) -> Option<(PatternErrorKind, usize)> {
-    match read_pattern(alloc, text, defs, ReadOptions { fold: false }) {
+    match read_pattern(alloc, text, defs, PLAIN) {
         Ok(_) => None,
         Err(error) => Some((error.kind, error.at)),
     }
@@ -974,8 +980,7 @@ fn long_texts_of_names(rt: HostRuntime) -> Result<(), Fail> {
     let defs = long_definitions(alloc)?;
     for &(part, count, sets, at) in &OFTEN {
         let mut text = repeated(alloc, part, count)?;
-        let options = ReadOptions { fold: false };
-        let pattern = read_pattern(alloc, &text, &defs, options).expect(&rt, "a tree");
+        let pattern = read_pattern(alloc, &text, &defs, PLAIN).expect(&rt, "a tree");
         assert_eq!(rt; positions(&pattern), Some(sets));
         text.extend_from_slice(part)?;
         assert!(rt; told(alloc, &text, &defs) == Some((PatternErrorKind::TooBig, at)));

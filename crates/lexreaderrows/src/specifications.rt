@@ -1,3 +1,4 @@
+use crate::patterns::PLAIN;
 use lexspec::{
     Condition, Cut, PatternError, PatternErrorKind, ReadOptions, Rule, Spec, SpecError,
     SpecErrorKind, Statement, read_spec,
@@ -7,7 +8,7 @@ use std::test::Fail;
 
 /// The specification of a file, where letters stand for themselves.
 fn read(alloc: Global, text: &str) -> Result<Spec, SpecError> {
-    read_spec(alloc, text.as_bytes(), ReadOptions { fold: false })
+    read_spec(alloc, text.as_bytes(), PLAIN)
 }
 
 /// The number of rules of a file, or why it is refused and at which line.
@@ -370,7 +371,8 @@ fn folded_letters(rt: HostRuntime) -> Result<(), Fail> {
         ("%option case-insensitive\n%%\na ;", false, true),
     ];
     for &(text, fold, both) in rows {
-        let spec = read_spec(alloc, text.as_bytes(), ReadOptions { fold })?;
+        let options = ReadOptions { fold, ..PLAIN };
+        let spec = read_spec(alloc, text.as_bytes(), options)?;
         assert_eq!(rt; has_capital(&spec), Some(both));
     }
     Ok(())

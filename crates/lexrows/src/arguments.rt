@@ -17,55 +17,67 @@ fn reads_jobs(rt: HostRuntime) -> Result<(), Fail> {
     let lines: &[(&[&str], &str)] = &[
         (
             &["-tv", "a.l"],
-            "Generate { files: [\"a.l\"], out: None, stdout: true, stats: true, backup: false, fold: false, quiet: false }",
+            "Generate { files: [\"a.l\"], out: None, stdout: true, stats: true, backup: false, fold: false, posix: false, quiet: false }",
         ),
         (
             &[],
-            "Generate { files: [], out: None, stdout: false, stats: false, backup: false, fold: false, quiet: false }",
+            "Generate { files: [], out: None, stdout: false, stats: false, backup: false, fold: false, posix: false, quiet: false }",
         ),
         (
             &["-"],
-            "Generate { files: [\"-\"], out: None, stdout: false, stats: false, backup: false, fold: false, quiet: false }",
+            "Generate { files: [\"-\"], out: None, stdout: false, stats: false, backup: false, fold: false, posix: false, quiet: false }",
         ),
         (
             &["a", "-b", "-", "b", "-i"],
-            "Generate { files: [\"a\", \"-\", \"b\"], out: None, stdout: false, stats: false, backup: true, fold: true, quiet: false }",
+            "Generate { files: [\"a\", \"-\", \"b\"], out: None, stdout: false, stats: false, backup: true, fold: true, posix: false, quiet: false }",
         ),
         (
             &["-vvn", "-w"],
-            "Generate { files: [], out: None, stdout: false, stats: false, backup: false, fold: false, quiet: true }",
+            "Generate { files: [], out: None, stdout: false, stats: false, backup: false, fold: false, posix: false, quiet: true }",
         ),
         (
             &["-oFILE", "a"],
-            "Generate { files: [\"a\"], out: Some(\"FILE\"), stdout: false, stats: false, backup: false, fold: false, quiet: false }",
+            "Generate { files: [\"a\"], out: Some(\"FILE\"), stdout: false, stats: false, backup: false, fold: false, posix: false, quiet: false }",
         ),
         (
             &["-o", "-", "a"],
-            "Generate { files: [\"a\"], out: Some(\"-\"), stdout: false, stats: false, backup: false, fold: false, quiet: false }",
+            "Generate { files: [\"a\"], out: Some(\"-\"), stdout: false, stats: false, backup: false, fold: false, posix: false, quiet: false }",
         ),
         (
             &["-to=x"],
-            "Generate { files: [], out: Some(\"x\"), stdout: true, stats: false, backup: false, fold: false, quiet: false }",
+            "Generate { files: [], out: Some(\"x\"), stdout: true, stats: false, backup: false, fold: false, posix: false, quiet: false }",
         ),
         (
             &["-vo", "F"],
-            "Generate { files: [], out: Some(\"F\"), stdout: false, stats: true, backup: false, fold: false, quiet: false }",
+            "Generate { files: [], out: Some(\"F\"), stdout: false, stats: true, backup: false, fold: false, posix: false, quiet: false }",
         ),
         (
             &["--", "-t"],
-            "Generate { files: [\"-t\"], out: None, stdout: false, stats: false, backup: false, fold: false, quiet: false }",
+            "Generate { files: [\"-t\"], out: None, stdout: false, stats: false, backup: false, fold: false, posix: false, quiet: false }",
+        ),
+        (
+            &["-X", "a", "-X"],
+            "Generate { files: [\"a\"], out: None, stdout: false, stats: false, backup: false, fold: false, posix: true, quiet: false }",
+        ),
+        (
+            &["-iX"],
+            "Generate { files: [], out: None, stdout: false, stats: false, backup: false, fold: true, posix: true, quiet: false }",
+        ),
+        (
+            &["-X", "--scan-spec", "a.l"],
+            "ScanSpec { file: \"a.l\", fold: false, posix: true, quiet: false }",
         ),
         (
             &["--scan-spec", "a.l"],
-            "ScanSpec { file: \"a.l\", fold: false, quiet: false }",
+            "ScanSpec { file: \"a.l\", fold: false, posix: false, quiet: false }",
         ),
         (
             &["--scan-spec=a.l", "-w"],
-            "ScanSpec { file: \"a.l\", fold: false, quiet: true }",
+            "ScanSpec { file: \"a.l\", fold: false, posix: false, quiet: true }",
         ),
         (
             &["-ii", "--scan-spec", "", "-i"],
-            "ScanSpec { file: \"\", fold: true, quiet: false }",
+            "ScanSpec { file: \"\", fold: true, posix: false, quiet: false }",
         ),
         (&["--scan-table", "b"], "ScanTable { file: \"b\" }"),
     ];
@@ -96,10 +108,11 @@ fn refuses_all_else(rt: HostRuntime) -> Result<(), Fail> {
         &["--scan-table"],
         &["--scan-table", "-"],
         &["--scan-table", "a", "-i"],
+        &["--scan-table", "a", "-X"],
+        &["-X", "--scan-table", "a"],
         &["--scan-table", "a", "-w"],
         &["--scan-table", "a", "b"],
         &["--scan-table", "a", "--scan-table", "b"],
-        &["-X"],
         &["-o"],
         &["-o", "-t"],
         &["-o", "a", "-o", "b"],

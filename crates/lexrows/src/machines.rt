@@ -1,8 +1,9 @@
 //! The machine of a small specification, call by call.
+use crate::row::PLAIN;
 use lexauto::{Limits, build};
 use lexmachine::{Cut, Machine, Statement};
 use lexpack::Plain;
-use lexspec::{ReadOptions, read_spec};
+use lexspec::read_spec;
 use std::test::Fail;
 
 const MOST: Limits = Limits {
@@ -16,7 +17,7 @@ const TEXT: &[u8] =
 #[test]
 fn tells_of_the_automaton_and_the_actions(rt: HostRuntime) -> Result<(), Fail> {
     let alloc = rt.alloc();
-    let spec = read_spec(alloc, TEXT, ReadOptions { fold: false })?;
+    let spec = read_spec(alloc, TEXT, PLAIN)?;
     let automaton = build(alloc, &spec, MOST)?;
     let machine = Plain::new(&automaton, &spec);
     assert!(rt; !machine.rejects());
@@ -43,7 +44,7 @@ fn tells_of_the_automaton_and_the_actions(rt: HostRuntime) -> Result<(), Fail> {
 #[test]
 fn tells_of_rules(rt: HostRuntime) -> Result<(), Fail> {
     let alloc = rt.alloc();
-    let spec = read_spec(alloc, TEXT, ReadOptions { fold: false })?;
+    let spec = read_spec(alloc, TEXT, PLAIN)?;
     let automaton = build(alloc, &spec, MOST)?;
     let machine = Plain::new(&automaton, &spec);
     if spec.rules().len() == 2 {
@@ -60,7 +61,7 @@ fn tells_of_rules(rt: HostRuntime) -> Result<(), Fail> {
 #[test]
 fn a_machine_may_have_no_rules(rt: HostRuntime) -> Result<(), Fail> {
     let alloc = rt.alloc();
-    let spec = read_spec(alloc, b"%%\n", ReadOptions { fold: false })?;
+    let spec = read_spec(alloc, b"%%\n", PLAIN)?;
     let automaton = build(alloc, &spec, MOST)?;
     let machine = Plain::new(&automaton, &spec);
     if spec.conditions().len() == 1 {

@@ -168,6 +168,9 @@ pub(crate) const EXAMPLES: &[Row] = &[
     ("%%\nab+ printf(\"X\");\n", "a abb", "a X", 0),
     ("%%\nab? printf(\"X\");\n", "abb", "Xb", 0),
     ("%%\nab{2} printf(\"X\");\n", "abbabab", "Xabab", 0),
+    ("%%\nab{2}c printf(\"X\");\n", "abbc", "X", 0),
+    ("%%\na{2}b{3} printf(\"X\");\n", "aabbb", "X", 0),
+    ("%%\na|bc{2} printf(\"X\");\n", "a bcc", "X X", 0),
     ("%%\na{2,3} printf(\"X\");\n", "aaaa a", "Xa a", 0),
     ("%%\na{2,} printf(\"X\");\n", "a aaaa", "a X", 0),
     ("%%\n(ab)+ printf(\"X\");\n", "abab a", "X a", 0),
@@ -216,6 +219,15 @@ pub(crate) const EXAMPLES: &[Row] = &[
 
 /// Where letters stand for both cases.
 pub(crate) const FOLDED: &[Row] = &[("%%\nif  printf(\"K\");\n", "iF", "K", 0)];
+
+/// With `-X`.
+pub(crate) const SERIES: &[Row] = &[
+    ("%%\nab{2}  printf(\"X\");\n", "abbabab", "abbX", 0),
+    ("%%\nab{2}c printf(\"X\");\n", "ababc", "X", 0),
+    ("%%\na{2}b{3} printf(\"X\");\n", "aabaabaab", "X", 0),
+    ("%%\na|bc{2} printf(\"X\");\n", "a bcbc", "X X", 0),
+    ("%%\n(ab){2} printf(\"X\");\n", "abab", "X", 0),
+];
 
 /// Where flex 2.6.4 does something else.
 pub(crate) const DIFFERENCES: &[Row] = &[

@@ -211,8 +211,8 @@ fn limited(alloc: Global, text: &[u8], limits: Limits) -> (Result<u8, ScanError>
     let mut source = MemorySource::new(b"a");
     let mut sink = MemorySink::new(alloc);
     let options = Options {
-        fold: false,
         limits,
+        ..Options::new()
     };
     let got = scan_spec(alloc, text, options, &mut source, &mut sink);
     (got, source.calls())

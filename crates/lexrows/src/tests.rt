@@ -1,20 +1,33 @@
-use crate::row::{Long, Row};
+ghost use Rattle.std.specs.Prelude.{◌≤◌};
+
+use crate::row::{FOLD, Long, PLAIN, POSIX, Row};
 use crate::{examples, limits, manual, worked};
 use lexkit::{
     ArgsError, Fault, GenError, MemorySink, MemorySource, Options, RunError, ScanError, Source,
     generate, scan_spec, scan_table, write_fault, write_tables,
 };
+use lexspec::ReadOptions;
 use std::alloc::{AllocError, Global};
 use std::process::Abort;
 use std::test::Fail;
 
-/// Whether the scan writes what the row says, and ends with its status; under `fold` letters stand for both cases.
-fn holds(alloc: Global, fold: bool, row: &Row) -> Result<bool, ScanError> {
-    let (text, input, want, status) = *row;
-    let options = Options {
+/// The options of a call where patterns are read so.
+fn options_of(how: ReadOptions) -> Options
+    ensures few_positions { result.limits.positions ≤ 16384 }
+    ensures few_states { result.limits.states ≤ 8192 }
+{
+    let ReadOptions { fold, posix } = how;
+    Options {
         fold,
+        posix,
         ..Options::new()
-    };
+    }
+}
+
+/// Whether the scan writes what the row says, and ends with its status.
+fn holds(alloc: Global, how: ReadOptions, row: &Row) -> Result<bool, ScanError> {
+    let (text, input, want, status) = *row;
+    let options = options_of(how);
     let mut source = MemorySource::new(input.as_bytes());
     let mut sink = MemorySink::new(alloc);
     let got = scan_spec(alloc, text.as_bytes(), options, &mut source, &mut sink)?;
@@ -22,12 +35,9 @@ fn holds(alloc: Global, fold: bool, row: &Row) -> Result<bool, ScanError> {
 }
 
 /// Whether a scan by the table file of the specification does as the row says.
-fn holds_by_table(alloc: Global, fold: bool, row: &Row) -> Result<bool, ScanError> {
+fn holds_by_table(alloc: Global, how: ReadOptions, row: &Row) -> Result<bool, ScanError> {
     let (text, input, want, status) = *row;
-    let options = Options {
-        fold,
-        ..Options::new()
-    };
+    let options = options_of(how);
     let made = match generate(alloc, text.as_bytes(), options) {
         Err(error) => return Err(ScanError::Generate(error)),
         Ok(made) => made,
@@ -72,30 +82,32 @@ fn text_of(alloc: Global, long: &Long) -> Result<Vec<u8>, AllocError> {
 }
 
 /// Holds each row of a table.
-fn assert_rows(rt: &impl Abort, alloc: Global, fold: bool, rows: &[Row]) {
+fn assert_rows(rt: &impl Abort, alloc: Global, how: ReadOptions, rows: &[Row]) {
     for row in rows {
-        let got = holds(alloc, fold, row);
+        let got = holds(alloc, how, row);
         assert!(rt; got == Ok(true), "{}: {got:?}", row.0);
-        let got = holds_by_table(alloc, fold, row);
+        let got = holds_by_table(alloc, how, row);
         assert!(rt; got == Ok(true), "{}, by its table file: {got:?}", row.0);
     }
 }
 
 #[test]
 fn scans_as_worked(rt: HostRuntime) {
-    assert_rows(&rt, rt.alloc(), false, worked::SCANS);
+    assert_rows(&rt, rt.alloc(), PLAIN, worked::SCANS);
+    assert_rows(&rt, rt.alloc(), POSIX, worked::SERIES);
 }
 
 #[test]
 fn scans_as_flex_does(rt: HostRuntime) {
-    assert_rows(&rt, rt.alloc(), false, examples::EXAMPLES);
+    assert_rows(&rt, rt.alloc(), PLAIN, examples::EXAMPLES);
 }
 
 #[test]
 fn scans_as_the_manual_says(rt: HostRuntime) {
-    assert_rows(&rt, rt.alloc(), false, manual::EXAMPLES);
-    assert_rows(&rt, rt.alloc(), false, manual::DIFFERENCES);
-    assert_rows(&rt, rt.alloc(), true, manual::FOLDED);
+    assert_rows(&rt, rt.alloc(), PLAIN, manual::EXAMPLES);
+    assert_rows(&rt, rt.alloc(), PLAIN, manual::DIFFERENCES);
+    assert_rows(&rt, rt.alloc(), FOLD, manual::FOLDED);
+    assert_rows(&rt, rt.alloc(), POSIX, manual::SERIES);
 }
 
 #[test]

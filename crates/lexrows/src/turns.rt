@@ -1,11 +1,12 @@
 //! Worked scans turn by turn: what is taken, what is held, and what a fault leaves.
 ghost use Rattle.std.specs.Prelude.{◌-◌, ◌^◌, ◌<◌};
 
+use crate::row::PLAIN;
 use lexauto::{Limits, build};
 use lexkit::{MemorySink, MemorySource, RunError, Sink, Source};
 use lexpack::Plain;
 use lexscan::{Scanner, Turn, run};
-use lexspec::{ReadOptions, Spec, read_spec};
+use lexspec::{Spec, read_spec};
 use std::alloc::Global;
 use std::test::Fail;
 
@@ -26,7 +27,7 @@ const COMMENTS: &str =
     "%x C\n%%\n\"/*\" BEGIN(C);\n<C>\"*/\" BEGIN(INITIAL);\n<C>.|\\n ;\n<C><<EOF>> printf(\"open\"); exit(3);\n";
 
 fn read(alloc: Global, text: &str) -> Result<Spec, Fail> {
-    let spec = read_spec(alloc, text.as_bytes(), ReadOptions { fold: false })?;
+    let spec = read_spec(alloc, text.as_bytes(), PLAIN)?;
     Ok(spec)
 }
 

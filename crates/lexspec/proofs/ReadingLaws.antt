@@ -37,6 +37,8 @@ use Rattle.lexlines.proofs.SectionLaws.{EndsWith, ends_on, definition_ends}
 use Rattle.lexaction.specs.Limits.{max_conditions}
 use Rattle.lexlines.specs.Limits.{max_file_bytes}
 use Rattle.lexspec.specs.Limits.{max_rules}
+use Rattle.lexlines.specs.Folding.{with_fold}
+use Rattle.lexre.specs.declared.options.ReadOptions.{ReadOptions}
 
 -- without carriage returns
 
@@ -77,30 +79,30 @@ up_to_ends : (t : List ℕ) (ds : List Definition) (rest : List ℕ) → IsUpTo 
 up_to_ends t [] rest h = ([], h)
 up_to_ends t (d ∷ ds) rest (next, here, later) = ends_on t next rest (definition_ends t (d, next) here) (up_to_ends next ds rest later)
 
-pub rest_short : (fold : Bool) (t : List ℕ) (s : Section) → HasSection fold t s → length s.rest.now ≤ length t
-rest_short fold t s h = let (front, e) = up_to_ends t h.definitions s.rest.now h.lines in omega (arith, ap length e, length-append front s.rest.now)
+pub rest_short : (how : ReadOptions) (t : List ℕ) (s : Section) → HasSection how t s → length s.rest.now ≤ length t
+rest_short how t s h = let (front, e) = up_to_ends t h.definitions s.rest.now h.lines in omega (arith, ap length e, length-append front s.rest.now)
 
-count_is : (fold : Bool) (t : List ℕ) (s : Section) (h : HasSection fold t s) → length s.declarations.conditions.items ≡ length (all_conditions h.definitions)
-count_is fold t s h = sym (length-map s.declarations.conditions.items declared_of) ∙ ap length h.declares.conditions
+count_is : (how : ReadOptions) (t : List ℕ) (s : Section) (h : HasSection how t s) → length s.declarations.conditions.items ≡ length (all_conditions h.definitions)
+count_is how t s h = sym (length-map s.declarations.conditions.items declared_of) ∙ ap length h.declares.conditions
 
-pub line_few : (fold : Bool) (t : List ℕ) (s : Section) → HasSection fold t s → s.line ≤ 1 + length t
-line_few fold t s h = omega (arith, h.line, newlines_few t)
+pub line_few : (how : ReadOptions) (t : List ℕ) (s : Section) → HasSection how t s → s.line ≤ 1 + length t
+line_few how t s h = omega (arith, h.line, newlines_few t)
 
 -- the second one
 
 pub sections_pass : (d : Declarations) (n : ℕ) (t : List ℕ) (x : RulesSection) → 1 ≤ length d.conditions.items → length d.conditions.items ≤ max_conditions → HasRules d n t x → is_sound (of_sections d x) ≡ true
 sections_pass d n t x some few h =
-    kept_passes d d.fold d.defs h.items (map rule_of x.rules.items) (map end_rule_of x.ends.items) _ some few (subst (λ z. z ≤ max_rules) (sym (length-map x.rules.items rule_of)) h.few) h.are h.sound refl
+    kept_passes d d.options d.defs h.items (map rule_of x.rules.items) (map end_rule_of x.ends.items) _ some few (subst (λ z. z ≤ max_rules) (sym (length-map x.rules.items rule_of)) h.few) h.are h.sound refl
 
 -- both
 
 -- the specification of the declarations, in the words of the file's definition
-pub spelled : (fold : Bool) (file : List ℕ) (s : Section) (S : Spec) → length file ≤ max_file_bytes → HasSection fold (without_returns file) s → SpellsRest s S → SpellsSpec fold file S
-spelled fold file s S short h r =
+pub spelled : (how : ReadOptions) (file : List ℕ) (s : Section) (S : Spec) → length file ≤ max_file_bytes → HasSection how (without_returns file) s → SpellsRest s S → SpellsSpec how file S
+spelled how file s S short h r =
     let d = s.declarations in
     let names : names_in d ≡ names_of (all_conditions h.definitions) = sym (names_kept d.conditions.items) ∙ ap names_of h.declares.conditions in
     let line : s.line + 1 ≡ 2 + newlines file - newlines s.rest.now = omega (arith, h.line, newlines_kept file) in
-    let count = count_is fold (without_returns file) s h in
+    let count = count_is how (without_returns file) s h in
     let conditions : S.conditions ≡ conditions_with 0 (all_conditions h.definitions) r.ends = r.conditions ∙ ap (λ z. conditions_with 0 z r.ends) h.declares.conditions in
     let few = h.allowed.0.1 in
     record {
@@ -115,39 +117,39 @@ spelled fold file s S short h r =
       defined_once = h.allowed.1;
       options = h.allowed.2;
       ends = r.ends;
-      rules = subst (λ z. AreRules z (fold || has_name (all_options h.definitions) (codes "case-insensitive")) (from_entries (substitutes_of h.definitions)) r.items S.rules r.ends) names
-          (subst (λ z. AreRules (names_in d) z (from_entries (substitutes_of h.definitions)) r.items S.rules r.ends) h.declares.folds
-          (subst (λ z. AreRules (names_in d) d.fold z r.items S.rules r.ends) h.declares.defs r.are));
+      rules = subst (λ z. AreRules z (with_fold how (has_name (all_options h.definitions) (codes "case-insensitive"))) (from_entries (substitutes_of h.definitions)) r.items S.rules r.ends) names
+          (subst (λ z. AreRules (names_in d) z (from_entries (substitutes_of h.definitions)) r.items S.rules r.ends) h.declares.reads
+          (subst (λ z. AreRules (names_in d) d.options z r.items S.rules r.ends) h.declares.defs r.are));
       one_end = subst (λ z. AreSingle z r.ends) count r.one_end;
       conditions = conditions;
       few_conditions = omega (arith, ap length conditions, length_with 0 (all_conditions h.definitions) r.ends);
       few_rules = r.few_rules;
     }
 
-pub rest_of : (fold : Bool) (file : List ℕ) (s : Section) (S : Spec) → HasSection fold (without_returns file) s → SpellsSpec fold file S → SpellsRest s S
-rest_of fold file s S h k =
+pub rest_of : (how : ReadOptions) (file : List ℕ) (s : Section) (S : Spec) → HasSection how (without_returns file) s → SpellsSpec how file S → SpellsRest s S
+rest_of how file s S h k =
     let d = s.declarations in
     let same = one_up_to definition_at (without_returns file) k.definitions h.definitions k.after s.rest.now k.first_section h.lines (separator_ends k.after k.separator) (separator_ends s.rest.now h.separator) in
     let names : names_of (all_conditions h.definitions) ≡ names_in d = ap names_of (sym h.declares.conditions) ∙ names_kept d.conditions.items in
     let line : 2 + newlines file - newlines s.rest.now ≡ s.line + 1 = omega (arith, h.line, newlines_kept file) in
-    let are : AreRules (names_of (all_conditions h.definitions)) (fold || has_name (all_options h.definitions) (codes "case-insensitive")) (from_entries (substitutes_of h.definitions)) k.items S.rules k.ends =
-    subst (λ z. AreRules (names_of (all_conditions z)) (fold || has_name (all_options z) (codes "case-insensitive")) (from_entries (substitutes_of z)) k.items S.rules k.ends) same.0 k.rules in
+    let are : AreRules (names_of (all_conditions h.definitions)) (with_fold how (has_name (all_options h.definitions) (codes "case-insensitive"))) (from_entries (substitutes_of h.definitions)) k.items S.rules k.ends =
+    subst (λ z. AreRules (names_of (all_conditions z)) (with_fold how (has_name (all_options z) (codes "case-insensitive"))) (from_entries (substitutes_of z)) k.items S.rules k.ends) same.0 k.rules in
     record {
       items = k.items;
       here = subst (λ z. AreItems z (line_in s.rest.now).1 k.items) line (subst (λ z. AreItems (2 + newlines file - newlines z) (line_in z).1 k.items) same.1 k.second_section);
       ends = k.ends;
-      are = subst (λ z. AreRules (names_in d) d.fold z k.items S.rules k.ends) (sym h.declares.defs)
-          (subst (λ z. AreRules (names_in d) z (from_entries (substitutes_of h.definitions)) k.items S.rules k.ends) (sym h.declares.folds)
-          (subst (λ z. AreRules z (fold || has_name (all_options h.definitions) (codes "case-insensitive")) (from_entries (substitutes_of h.definitions)) k.items S.rules k.ends) names are));
-      one_end = subst (λ z. AreSingle z k.ends) (sym (count_is fold (without_returns file) s h)) (subst (λ z. AreSingle (length (all_conditions z)) k.ends) same.0 k.one_end);
+      are = subst (λ z. AreRules (names_in d) d.options z k.items S.rules k.ends) (sym h.declares.defs)
+          (subst (λ z. AreRules (names_in d) z (from_entries (substitutes_of h.definitions)) k.items S.rules k.ends) (sym h.declares.reads)
+          (subst (λ z. AreRules z (with_fold how (has_name (all_options h.definitions) (codes "case-insensitive"))) (from_entries (substitutes_of h.definitions)) k.items S.rules k.ends) names are));
+      one_end = subst (λ z. AreSingle z k.ends) (sym (count_is how (without_returns file) s h)) (subst (λ z. AreSingle (length (all_conditions z)) k.ends) same.0 k.one_end);
       conditions = k.conditions ∙ ap (λ z. conditions_with 0 (all_conditions z) k.ends) same.0 ∙ ap (λ z. conditions_with 0 z k.ends) (sym h.declares.conditions);
       few_rules = k.few_rules;
     }
 
 -- where the first section is not spelled, the file is not
-pub no_section : (fold : Bool) (file : List ℕ) → ((ds : List Definition) (after : List ℕ) → IsUpTo definition_at (without_returns file) ds after → begins (codes "%%") after ≡ true → AreAllowed ds → ⊥)
-    → (S : Spec) → SpellsSpec fold file S → ⊥
-no_section fold file none S k =
+pub no_section : (how : ReadOptions) (file : List ℕ) → ((ds : List Definition) (after : List ℕ) → IsUpTo definition_at (without_returns file) ds after → begins (codes "%%") after ≡ true → AreAllowed ds → ⊥)
+    → (S : Spec) → SpellsSpec how file S → ⊥
+no_section how file none S k =
     let few : length (all_conditions k.definitions) ≤ max_conditions = omega (arith, k.few_conditions, ap length k.conditions, length_with 0 (all_conditions k.definitions) k.ends) in
     none k.definitions k.after k.first_section k.separator ((k.names, few), k.defined_once, k.options)
 
@@ -156,20 +158,20 @@ no_section fold file none S k =
 abbrev File : Type 0
 File = List ℕ
 
-pub read_found : (r : Result SpecOfCode SpecError) (fold : Bool) (file kept : File) (s : Section) → length file ≤ max_file_bytes → kept ≡ without_returns file → HasSection fold kept s
-    → IfOk r (λ x. SpellsRest s (spec_of x)) → IfOk r (λ x. SpellsSpec fold file (spec_of x))
-read_found (Err e) fold file kept s short is h rest = tt
-read_found (Ok x) fold file kept s short is h rest = spelled fold file s (spec_of x) short (subst (λ z. HasSection fold z s) is h) rest
+pub read_found : (r : Result SpecOfCode SpecError) (how : ReadOptions) (file kept : File) (s : Section) → length file ≤ max_file_bytes → kept ≡ without_returns file → HasSection how kept s
+    → IfOk r (λ x. SpellsRest s (spec_of x)) → IfOk r (λ x. SpellsSpec how file (spec_of x))
+read_found (Err e) how file kept s short is h rest = tt
+read_found (Ok x) how file kept s short is h rest = spelled how file s (spec_of x) short (subst (λ z. HasSection how z s) is h) rest
 
-pub read_none : (r : Result SpecOfCode SpecError) (fold : Bool) (file kept : File) (s : Section) → kept ≡ without_returns file → HasSection fold kept s
-    → IfErr r (λ e. UnlessMemory e.kind ((S : Spec) → SpellsRest s S → ⊥)) → IfErr r (λ e. UnlessMemory e.kind ((S : Spec) → SpellsSpec fold file S → ⊥))
-read_none (Ok x) fold file kept s is h rest = tt
-read_none (Err e) fold file kept s is h rest =
-    unless_memory e.kind ((S : Spec) → SpellsRest s S → ⊥) ((S : Spec) → SpellsSpec fold file S → ⊥) (λ none S k. none S (rest_of fold file s S (subst (λ z. HasSection fold z s) is h) k)) rest
+pub read_none : (r : Result SpecOfCode SpecError) (how : ReadOptions) (file kept : File) (s : Section) → kept ≡ without_returns file → HasSection how kept s
+    → IfErr r (λ e. UnlessMemory e.kind ((S : Spec) → SpellsRest s S → ⊥)) → IfErr r (λ e. UnlessMemory e.kind ((S : Spec) → SpellsSpec how file S → ⊥))
+read_none (Ok x) how file kept s is h rest = tt
+read_none (Err e) how file kept s is h rest =
+    unless_memory e.kind ((S : Spec) → SpellsRest s S → ⊥) ((S : Spec) → SpellsSpec how file S → ⊥) (λ none S k. none S (rest_of how file s S (subst (λ z. HasSection how z s) is h) k)) rest
 
-pub section_none : (fold : Bool) (file kept : File) (kind : SpecErrorKind) → kept ≡ without_returns file
+pub section_none : (how : ReadOptions) (file kept : File) (kind : SpecErrorKind) → kept ≡ without_returns file
     → UnlessMemory kind ((ds : List Definition) (after : List ℕ) → IsUpTo definition_at kept ds after → begins (codes "%%") after ≡ true → AreAllowed ds → ⊥)
-    → UnlessMemory kind ((S : Spec) → SpellsSpec fold file S → ⊥)
-section_none fold file kept kind is h =
-    unless_memory kind ((ds : List Definition) (after : List ℕ) → IsUpTo definition_at kept ds after → begins (codes "%%") after ≡ true → AreAllowed ds → ⊥) ((S : Spec) → SpellsSpec fold file S → ⊥)
-    (λ none. no_section fold file (λ ds after up. none ds after (subst (λ z. IsUpTo definition_at z ds after) (sym is) up))) h
+    → UnlessMemory kind ((S : Spec) → SpellsSpec how file S → ⊥)
+section_none how file kept kind is h =
+    unless_memory kind ((ds : List Definition) (after : List ℕ) → IsUpTo definition_at kept ds after → begins (codes "%%") after ≡ true → AreAllowed ds → ⊥) ((S : Spec) → SpellsSpec how file S → ⊥)
+    (λ none. no_section how file (λ ds after up. none ds after (subst (λ z. IsUpTo definition_at z ds after) (sym is) up))) h

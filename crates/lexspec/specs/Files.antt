@@ -1,6 +1,6 @@
 -- Which specification a file spells. (POSIX, lex, Input Files; flex, Format of the Input File. The bounds are this
 -- project's.)
-use Rattle.std.specs.Prelude.{◌≡◌, ℕ, suc, ◌+◌, ◌-◌, ◌≤◌, ◌<◌, Bool, true, false, ◌||◌, if◌then◌else◌, List, [], ◌∷◌, map, length, count_by, Option, Some, None, codes}
+use Rattle.std.specs.Prelude.{◌≡◌, ℕ, suc, ◌+◌, ◌-◌, ◌≤◌, ◌<◌, Bool, true, false, if◌then◌else◌, List, [], ◌∷◌, map, length, count_by, Option, Some, None, codes}
 use Rattle.std.specs.FinMap.{from_entries}
 use Rattle.lexmeaning.specs.Spec.{Spec, Condition, EndAction}
 use Rattle.lexmeaning.specs.Active.{lists}
@@ -12,6 +12,8 @@ use Rattle.lexspec.specs.RuleItems.{EndRule, AreRules}
 use Rattle.lexaction.specs.Limits.{max_conditions}
 use Rattle.lexlines.specs.Limits.{max_file_bytes}
 use Rattle.lexspec.specs.Limits.{max_rules}
+use Rattle.lexlines.specs.Folding.{with_fold}
+use Rattle.lexre.specs.declared.options.ReadOptions.{ReadOptions}
 
 -- no condition has two ends, and without a list there is one at most
 abbrev pub lists_number : Option (List ℕ) → ℕ → Bool
@@ -41,7 +43,7 @@ conditions_with k [] ends = []
 conditions_with k (c ∷ cs) ends = record { name = c.name; exclusive = c.exclusive; end = end_in ends ends k } ∷ conditions_with (suc k) cs ends
 
 -- The text is a file of this specification.
-pub record SpellsSpec (fold : Bool) (file : List ℕ) (S : Spec) : Type 0 where
+pub record SpellsSpec (how : ReadOptions) (file : List ℕ) (S : Spec) : Type 0 where
   pub short : length file ≤ max_file_bytes
   pub definitions : List Definition
   pub after : List ℕ
@@ -53,7 +55,7 @@ pub record SpellsSpec (fold : Bool) (file : List ℕ) (S : Spec) : Type 0 where
   pub defined_once : are_distinct (map (λ (d : List ℕ × List ℕ). d.0) (substitutes_of definitions)) ≡ true
   pub options : are_known (all_options definitions) ≡ true
   pub ends : List EndRule
-  pub rules : AreRules (names_of (all_conditions definitions)) (fold || has_name (all_options definitions) (codes "case-insensitive")) (from_entries (substitutes_of definitions)) items S.rules ends
+  pub rules : AreRules (names_of (all_conditions definitions)) (with_fold how (has_name (all_options definitions) (codes "case-insensitive"))) (from_entries (substitutes_of definitions)) items S.rules ends
   pub one_end : AreSingle (length (all_conditions definitions)) ends
   pub conditions : S.conditions ≡ conditions_with 0 (all_conditions definitions) ends
   pub few_conditions : length S.conditions ≤ max_conditions

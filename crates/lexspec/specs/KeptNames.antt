@@ -5,4 +5,4 @@ use Rattle.lexre.specs.declared.names.Names.{Names}
 
 -- each name stands for the tree that is kept of it, under these declarations
 abbrev pub AreKept : Declarations → Names → Type 0
-AreKept d names = AreKnown d.fold d.defs (trees_of names)
+AreKept d names = AreKnown d.options d.defs (trees_of names)

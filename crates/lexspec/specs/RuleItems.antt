@@ -12,6 +12,7 @@ use Rattle.lexre.specs.Spelling.{Spells}
 use Rattle.lexaction.specs.Names.{number_from}
 use Rattle.lexaction.specs.Actions.{SpellsAction, SpellsEndAction}
 use Rattle.lexspec.specs.Items.{Conditions, unlisted, every, only, Trailing, no_trail, line_end, pattern_after, at_end, matching, Action, bar, spelled, Item, rule}
+use Rattle.lexre.specs.declared.options.ReadOptions.{ReadOptions}
 
 -- whether every name of a list has a number, and whether a name there has the number c
 abbrev pub all_numbered : (List ℕ → Option ℕ) → List (List ℕ) → Bool
@@ -33,11 +34,11 @@ numbers_of number n (only names) =
 unfoldable pub newline : Tree
 newline = Set (single 10)
 
-abbrev pub IsTrail : Bool → Definitions → Trailing → Option Tree → Type 0
-IsTrail fold defined no_trail t = t ≡ None
-IsTrail fold defined line_end t = t ≡ Some newline
-IsTrail fold defined (pattern_after text) None = ⊥
-IsTrail fold defined (pattern_after text) (Some t) = Spells fold defined text t
+abbrev pub IsTrail : ReadOptions → Definitions → Trailing → Option Tree → Type 0
+IsTrail how defined no_trail t = t ≡ None
+IsTrail how defined line_end t = t ≡ Some newline
+IsTrail how defined (pattern_after text) None = ⊥
+IsTrail how defined (pattern_after text) (Some t) = Spells how defined text t
 
 -- an `<<EOF>>` rule, by the numbers of its conditions and its action
 abbrev pub EndRule : Type 0
@@ -58,14 +59,14 @@ goes_to_rule bar ((n, rule asked (matching anchored head after) action) ∷ is) 
 goes_to_rule bar ((n, i) ∷ is) = goes_to_rule bar is
 
 -- `names` are those of the conditions, by number
-module _ (names : List (List ℕ)) (fold : Bool) (defined : Definitions) where
+module _ (names : List (List ℕ)) (how : ReadOptions) (defined : Definitions) where
   -- a rule but for its statements
   pub record HasHead (n : ℕ) (asked : Conditions) (anchored : Bool) (head : List ℕ) (after : Trailing) (r : Rule) : Type 0 where
     pub line_is : r.line ≡ n
     pub listed : numbers_of (number_from 0 names) (length names) asked ≡ Some r.conditions
     pub anchor : r.anchored ≡ anchored
-    pub head_is : Spells fold defined head r.head
-    pub trail_is : IsTrail fold defined after r.trail
+    pub head_is : Spells how defined head r.head
+    pub trail_is : IsTrail how defined after r.trail
     pub cut_is : IsCutOf r.head r.trail r.cut
 
   -- the rule of an item, where `rules` are those of the items after it

@@ -9,6 +9,7 @@ ghost use Rattle.lexspec.specs.Items.{Item};
 ghost use Rattle.lexspec.specs.RuleItems.{EndRule, AreRules};
 ghost use Rattle.lexmeaning.specs.Sound.{HaveSoundSides, IsSound};
 ghost use Rattle.lexspec.specs.Files.{conditions_with, SpellsSpec};
+ghost use Rattle.lexre.specs.declared.options.ReadOptions.{ReadOptions};
 ghost use Rattle.lexspec.specs.Tests.{is_sound, sound_tree};
 ghost use Rattle.lexspec.specs.RuleExamples.{ConditionLists, Actions};
 ghost use Rattle.lexaction.specs.Limits.{max_conditions};
@@ -26,14 +27,14 @@ pub fn tested_specifications()
 
 /// A file spells at most one specification.
 pub fn one_specification()
-    ensures { (fold : Bool) (file : List ℕ) (S T : Spec) → SpellsSpec fold file S → SpellsSpec fold file T → S ≡ T }
+    ensures { (how : ReadOptions) (file : List ℕ) (S T : Spec) → SpellsSpec how file S → SpellsSpec how file T → S ≡ T }
 {}
 
 /// The rules that items spell, with the conditions and their ends, pass the test where each rule has sound sides, there
 /// are 1 to 255 conditions, and there are at most 4,096 rules.
 pub fn sound_specifications()
-    ensures { (cs : List Declared) (fold : Bool) (defined : Definitions) (items : List (ℕ × Item)) (rules : List Rule) (ends : List EndRule)
-        → 1 ≤ length cs → length cs ≤ max_conditions → length rules ≤ max_rules → AreRules (names_of cs) fold defined items rules ends → HaveSoundSides rules
+    ensures { (cs : List Declared) (how : ReadOptions) (defined : Definitions) (items : List (ℕ × Item)) (rules : List Rule) (ends : List EndRule)
+        → 1 ≤ length cs → length cs ≤ max_conditions → length rules ≤ max_rules → AreRules (names_of cs) how defined items rules ends → HaveSoundSides rules
         → is_sound (record { conditions = conditions_with 0 cs ends; rules = rules }) ≡ true }
 {}
 

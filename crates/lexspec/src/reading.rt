@@ -85,11 +85,11 @@ fn read_on(alloc: Global, section: Section<'_>) -> Result<Spec, SpecError>
     }
 }
 
-/// The specification that a file spells. `fold` says whether letters of patterns stand for both cases without an option.
+/// The specification that a file spells. `options` says how patterns are read without an option.
 /// The first faulty line is reported, for a rule that of its pattern; `TooLong` of the whole file is reported at line 0.
 pub fn read_spec(alloc: Global, text: &[u8], options: ReadOptions) -> Result<Spec, SpecError>
-    ensures found { IfOk result (λ s. SpellsSpec options.fold text.now (spec_of s)) }
-    ensures none { IfErr result (λ e. UnlessMemory e.kind ((S : Meant) → SpellsSpec options.fold text.now S → ⊥)) }
+    ensures found { IfOk result (λ s. SpellsSpec options text.now (spec_of s)) }
+    ensures none { IfErr result (λ e. UnlessMemory e.kind ((S : Meant) → SpellsSpec options text.now S → ⊥)) }
 {
     if text.len() > MAX_FILE_BYTES {
         return Err(SpecError {
@@ -98,7 +98,7 @@ pub fn read_spec(alloc: Global, text: &[u8], options: ReadOptions) -> Result<Spe
         });
     }
     let kept = without_returns(alloc, text)?;
-    match read_section(alloc, &kept, options.fold) {
+    match read_section(alloc, &kept, options) {
         Ok(section) => read_on(alloc, section),
         Err(fault) => Err(fault),
     }

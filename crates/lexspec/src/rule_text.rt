@@ -25,7 +25,7 @@ use crate::rule::Rule;
 use crate::subject::{Subject, Trailing, conditions_at, subject_at};
 use lexlines::{Declarations, SpecErrorKind, skip_blanks};
 use lexmachine::Cut;
-use lexre::{ByteSet, Names, Pattern, PatternError, ReadOptions, read_with_names};
+use lexre::{ByteSet, Names, Pattern, PatternError, read_with_names};
 use std::alloc::Global;
 
 /// A rule without its statements, or the conditions of an `<<EOF>>` rule.
@@ -60,15 +60,13 @@ fn read_side(
     at: usize,
 ) -> Result<Pattern, SpecErrorKind>
     requires known_so_far { AreKept declarations.now names.old }
-    ensures found { IfOk result (λ p. Spells declarations.now.fold declarations.now.defs text.now (tree_of p)) }
+    ensures found { IfOk result (λ p. Spells declarations.now.options declarations.now.defs text.now (tree_of p)) }
     ensures sound { IfOk result (λ p. IsSoundTree (tree_of p)) }
     ensures known { OnOk result (AreKept declarations.now names.new) }
-    ensures none { IfErr result (λ e. UnlessMemory e ((t : Tree) → Spells declarations.now.fold declarations.now.defs text.now t → ⊥)) }
+    ensures none { IfErr result (λ e. UnlessMemory e ((t : Tree) → Spells declarations.now.options declarations.now.defs text.now t → ⊥)) }
 {
-    let options = ReadOptions {
-        fold: declarations.fold,
-    };
-    match read_with_names(alloc, text, &declarations.defs, options, names) {
+    let Declarations { options, defs, .. } = declarations;
+    match read_with_names(alloc, text, defs, *options, names) {
         Ok(pattern) => Ok(pattern),
         Err(fault) => Err(SpecErrorKind::Pattern(PatternError {
             kind: fault.kind,
@@ -86,10 +84,10 @@ fn read_trail(
     at: usize,
 ) -> Result<Option<Pattern>, SpecErrorKind>
     requires known_so_far { AreKept declarations.now names.old }
-    ensures found { IfOk result (λ t. IsTrail declarations.now.fold declarations.now.defs (trailing_of trail.entry) (option_map tree_of t)) }
+    ensures found { IfOk result (λ t. IsTrail declarations.now.options declarations.now.defs (trailing_of trail.entry) (option_map tree_of t)) }
     ensures sound { IfOk result (λ t. IfSome t (λ p. IsSoundTree (tree_of p))) }
     ensures known { OnOk result (AreKept declarations.now names.new) }
-    ensures none { IfErr result (λ e. UnlessMemory e ((t : Option Tree) → IsTrail declarations.now.fold declarations.now.defs (trailing_of trail.entry) t → ⊥)) }
+    ensures none { IfErr result (λ e. UnlessMemory e ((t : Option Tree) → IsTrail declarations.now.options declarations.now.defs (trailing_of trail.entry) t → ⊥)) }
 {
     match trail {
         Trailing::None => Ok(None),
@@ -112,8 +110,8 @@ fn read_sides(
     at: usize,
 ) -> Result<Sides, SpecErrorKind>
     requires known_so_far { AreKept declarations.now names.old }
-    ensures head { IfOk result (λ s. Spells declarations.now.fold declarations.now.defs head.now (tree_of s.head)) }
-    ensures trail { IfOk result (λ s. IsTrail declarations.now.fold declarations.now.defs (trailing_of trail.entry) (option_map tree_of s.trail)) }
+    ensures head { IfOk result (λ s. Spells declarations.now.options declarations.now.defs head.now (tree_of s.head)) }
+    ensures trail { IfOk result (λ s. IsTrail declarations.now.options declarations.now.defs (trailing_of trail.entry) (option_map tree_of s.trail)) }
     ensures cut { IfOk result (λ s. IsCutOf (tree_of s.head) (option_map tree_of s.trail) (cut_of s.cut)) }
     ensures sound { IfOk result (λ s. AreSoundSides (tree_of s.head) (option_map tree_of s.trail)) }
     ensures known { OnOk result (AreKept declarations.now names.new) }

@@ -5,7 +5,7 @@ use Rattle.lexlines.proofs.section.read_section.Given as goal
 
 abbrev pub invariant-lines : goal.invariant-lines
 invariant-lines l = record {
-  read : Reading l.fold l.text l.declarations l.rest;
+  read : Reading l.fn.options l.text l.declarations l.rest;
   line : l.line + newlines l.rest ≡ 1 + newlines l.text;
   shorter : length l.rest ≤ length l.text;
 }

@@ -6,4 +6,4 @@ use Rattle.lexre.proofs.laws.one_tree.Goals as goal
 
 pub returns : goal.returns
 unfolding symbol_at
-returns c = λ fold defs text t u h k. one_tree (symbol_at fold) (get defs) refl 64 text t u h.0 k.0
+returns c = λ how defs text t u h k. one_tree how.posix (symbol_at how.fold) (get defs) refl 64 text t u h.0 k.0

@@ -10,15 +10,15 @@ use Rattle.lexre.proofs.reader.read_with_names.Goals as goal
 
 pub read_within-requires-clause-known_so_far : goal.read_within-requires-clause-known_so_far
 read_within-requires-clause-known_so_far c =
-    let P : Trees → Type 0 = λ x. AreKnown c.args.options.fold c.args.defs.now x in subst P (sym c.begin.ensures.trees) c.requires.known_so_far
+    let P : Trees → Type 0 = λ x. AreKnown c.args.options c.args.defs.now x in subst P (sym c.begin.ensures.trees) c.requires.known_so_far
 
 pub read_within-requires-clause-lead : goal.read_within-requires-clause-lead
 read_within-requires-clause-lead c =
-    let P : List (List ℕ) → Type 0 = λ x. AllLeadToText c.args.options.fold c.args.defs.now x c.args.text.now in
-    subst P (sym c.begin.ensures.none_open) (none_lead c.args.options.fold c.args.defs.now c.args.text.now)
+    let P : List (List ℕ) → Type 0 = λ x. AllLeadToText c.args.options c.args.defs.now x c.args.text.now in
+    subst P (sym c.begin.ensures.none_open) (none_lead c.args.options c.args.defs.now c.args.text.now)
 
 pub returns-in-Ok-clause-found : goal.returns-in-Ok-clause-found
 returns-in-Ok-clause-found c = (
-  spelled_rises (symbol_at c.args.options.fold) (get c.args.defs.now) (64 - c.in-Ok.field-0.spare) 64 c.args.text.now (tree_of c.in-Ok.field-0.tree.pattern) c.in-Ok.ensures.found (omega arith),
+  spelled_rises c.args.options.posix (symbol_at c.args.options.fold) (get c.args.defs.now) (64 - c.in-Ok.field-0.spare) 64 c.args.text.now (tree_of c.in-Ok.field-0.tree.pattern) c.in-Ok.ensures.found (omega arith),
   c.in-Ok.ensures.few,
 )

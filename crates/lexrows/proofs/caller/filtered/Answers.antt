@@ -1,8 +1,9 @@
-use Rattle.std.proofs.Common.{Bool, ap, sym, subst}
+use Rattle.std.proofs.Common.{ap, sym, subst}
 use Rattle.std.specs.Io.KnownBytes.{Appends}
 use Rattle.lexmeaning.specs.Rules.{rules_of}
 use Rattle.lexspec.specs.Files.{SpellsSpec}
 use Rattle.lexends.specs.Source.{Gives}
+use Rattle.lexkit.specs.Headline.{reading}
 use Rattle.lexrows.proofs.Filtering.{runs}
 use Rattle.lexrows.proofs.caller.filtered.Goals as goal
 
@@ -13,7 +14,7 @@ returns g c =
     let source = subst (λ r. Gives (g.R.Read.remaining r) (g.R.Read.remaining s'.reader) c.new-source.result.ends s'.ends scans.given) c.new-source.ensures.reader scans.source in
     let sink = subst (λ w. Appends (g.W.Write.contents w) (g.W.Write.contents c.scan_spec.new.sink.writer) scans.out) c.new-sink.ensures.writer scans.sink in (
       S,
-      subst (λ (fold : Bool). SpellsSpec fold c.args.rules.now S) (ap (λ o. o.fold) c.new.ensures) spells,
+      subst (λ how. SpellsSpec how c.args.rules.now S) (ap reading c.new.ensures) spells,
       (
         scans.out,
         c.in_ok-scan_spec.field-0,

@@ -12,23 +12,23 @@ pub read_on-requires-clause-short : goal.read_on-requires-clause-short
 read_on-requires-clause-short c =
     let few : length c.args.text.now ≤ max_file_bytes = search rules in
     let kept = kept_short c.args.text.now c.deref.result.now few (c.deref.ensures.value ∙ c.in_ok-kept.ensures) in
-    omega (arith, kept, rest_short c.args.options.fold c.deref.result.now c.in-Ok.section c.in-Ok.ensures.found)
+    omega (arith, kept, rest_short c.args.options c.deref.result.now c.in-Ok.section c.in-Ok.ensures.found)
 
 pub read_on-requires-clause-line : goal.read_on-requires-clause-line
 read_on-requires-clause-line c =
     let few : length c.args.text.now ≤ max_file_bytes = search rules in
     let kept = kept_short c.args.text.now c.deref.result.now few (c.deref.ensures.value ∙ c.in_ok-kept.ensures) in
-    omega (arith, kept, line_few c.args.options.fold c.deref.result.now c.in-Ok.section c.in-Ok.ensures.found)
+    omega (arith, kept, line_few c.args.options c.deref.result.now c.in-Ok.section c.in-Ok.ensures.found)
 
 pub returns-in-Ok-clause-found : goal.returns-in-Ok-clause-found
 returns-in-Ok-clause-found c =
     let few : length c.args.text.now ≤ max_file_bytes = search rules in
-    read_found c.read_on.result c.args.options.fold c.args.text.now c.deref.result.now c.in-Ok.section few (c.deref.ensures.value ∙ c.in_ok-kept.ensures) c.in-Ok.ensures.found c.read_on.ensures.found
+    read_found c.read_on.result c.args.options c.args.text.now c.deref.result.now c.in-Ok.section few (c.deref.ensures.value ∙ c.in_ok-kept.ensures) c.in-Ok.ensures.found c.read_on.ensures.found
 
 pub returns-in-Ok-clause-none : goal.returns-in-Ok-clause-none
 returns-in-Ok-clause-none c =
-    read_none c.read_on.result c.args.options.fold c.args.text.now c.deref.result.now c.in-Ok.section (c.deref.ensures.value ∙ c.in_ok-kept.ensures) c.in-Ok.ensures.found c.read_on.ensures.none
+    read_none c.read_on.result c.args.options c.args.text.now c.deref.result.now c.in-Ok.section (c.deref.ensures.value ∙ c.in_ok-kept.ensures) c.in-Ok.ensures.found c.read_on.ensures.none
 
 pub returns-clause-none : goal.returns-clause-none
 returns-clause-none c =
-    section_none c.args.options.fold c.args.text.now c.deref.result.now c.in-Err.fault.kind (c.deref.ensures.value ∙ c.in_ok-kept.ensures) c.in-Err.ensures.none
+    section_none c.args.options c.args.text.now c.deref.result.now c.in-Err.fault.kind (c.deref.ensures.value ∙ c.in_ok-kept.ensures) c.in-Err.ensures.none
