@@ -1,9 +1,9 @@
 -- A machine for a specification has its turns, and asks for the same bytes.
 use Rattle.std.proofs.Common.{◌≡◌, ℕ, zero, suc, ◌+◌, ◌-◌, ◌≤◌, ◌<◌, Bool, true, false, List, [], ◌∷◌, ◌++◌, length, take, drop, ◌⊎◌, inl, inr, ◌↔◌, Option, Some, None, refl, sym, ◌∙◌, ap, subst, arith}
-use Rattle.std.specs.Prelude.{slice_get, nat_lt, if◌then◌else◌, ⊤}
+use Rattle.std.specs.Prelude.{slice_get, nat_lt, if◌then◌else◌}
 use Rattle.std.proofs.lemmas.List.{length-append}
 use Rattle.std.proofs.lemmas.Bool.{cond-true, cond-false, lt-ltb, le-ltb, or_parts, cases_lt}
-use Rattle.lexmeaning.specs.Text.{IsText, Among, part, at_line_start}
+use Rattle.lexmeaning.specs.Text.{IsText, Among, AllBelow, part, at_line_start}
 use Rattle.lexmeaning.specs.Spec.{Spec, Rule, Statement, Echo, Print, Begin, More, Less, Reject, End, Push, Pop, has_reject, EndAction, statements_at, rejects, any_reject}
 use Rattle.lexmeaning.specs.Rules.{Rules, Full, rules_of, statements_of}
 use Rattle.lexmeaning.specs.Candidates.{Candidate, Before, IsCandidate, Candidates}
@@ -67,11 +67,6 @@ settle_quiet (Push d ∷ ss) a f g h =
     full_quiet (has_room a.stack) a (act ss (record a { condition = d; stack = a.condition ∷ a.stack })) f g (settle_quiet ss (record a { condition = d; stack = a.condition ∷ a.stack }) f g h)
 settle_quiet (Pop ∷ ss) a f g h =
     empty_quiet a.stack a (λ c cs. act ss (record a { condition = c; stack = cs })) f g (λ c cs. settle_quiet ss (record a { condition = c; stack = cs }) f g h)
-
--- the conditions of a stack
-abbrev pub AllBelow : ℕ → List ℕ → Type 0
-AllBelow n [] = ⊤
-AllBelow n (c ∷ cs) = (c < n) × AllBelow n cs
 
 -- a condition and a stack
 abbrev pub Below : ℕ → ℕ → List ℕ → Type 0
