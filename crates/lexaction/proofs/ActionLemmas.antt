@@ -4,6 +4,7 @@ use Rattle.lexmeaning.specs.Reading.{IsCut}
 use Rattle.lexaction.specs.Bytes.{skip}
 use Rattle.lexmeaning.specs.Spec.{Statement}
 use Rattle.lexaction.specs.Statements.{then_all}
+use Rattle.lexaction.specs.Names.{Known}
 use Rattle.lexaction.specs.Actions.{Piece, semicolon, opens, closes, says, Said, said_by, statement_at, piece_from, piece_at, are_balanced, statements_of, NoPiece, SpellsStatements}
 use Rattle.lexaction.specs.Outcome.{UnlessMemory}
 use Rattle.lexclass.specs.declared.refusals.SpecErrorKind.{SpecErrorKind}
@@ -26,31 +27,31 @@ pub nothing_left : (s : List ℕ) → length s ≡ 0 → s ≡ []
 nothing_left [] h = refl
 nothing_left (b ∷ bs) h = absurd (omega arith)
 
-module _ (condition : List ℕ → Option ℕ) where
+module _ (known : Known) where
   -- n braces are open, these statements stand before, and the text has only pieces that give the whole
   abbrev pub Goes : ℕ → List Statement → List ℕ → List Statement → Type 0
   Goes n before text ss =
-      (ps : List Piece) × IsCut (piece_at condition) NoPiece text ps × (are_balanced n ps ≡ true) × (ss ≡ then_all before (statements_of ps))
+      (ps : List Piece) × IsCut (piece_at known) NoPiece text ps × (are_balanced n ps ≡ true) × (ss ≡ then_all before (statements_of ps))
 
   pub record Agree (n : ℕ) (before : List Statement) (rest text : List ℕ) : Type 0 where
-    pub on : (ss : List Statement) → Goes n before rest ss → SpellsStatements condition text ss
-    pub back : (ss : List Statement) → SpellsStatements condition text ss → Goes n before rest ss
+    pub on : (ss : List Statement) → Goes n before rest ss → SpellsStatements known text ss
+    pub back : (ss : List Statement) → SpellsStatements known text ss → Goes n before rest ss
 
   pub agree_first : (text : List ℕ) → Agree 0 [] text text
   agree_first text = record { on = λ ss goes. goes; back = λ ss goes. goes }
 
-  none_first : (p : Piece) (rest : List ℕ) → piece_from condition [] ≡ Some (p, rest) → ⊥
+  none_first : (p : Piece) (rest : List ℕ) → piece_from known [] ≡ Some (p, rest) → ⊥
   unfolding piece_from
   none_first p rest e = cc
 
-  pub no_piece : (text : List ℕ) (p : Piece) (rest : List ℕ) → piece_at condition text ≡ Some (p, rest) → skip text ≡ [] → ⊥
-  no_piece text p rest here end = none_first p rest (ap (piece_from condition) (sym end) ∙ here)
+  pub no_piece : (text : List ℕ) (p : Piece) (rest : List ℕ) → piece_at known text ≡ Some (p, rest) → skip text ≡ [] → ⊥
+  no_piece text p rest here end = none_first p rest (ap (piece_from known) (sym end) ∙ here)
 
   pub piece_said : (t : List ℕ) (c : ℕ) (u rest : List ℕ) (s : Said) → t ≡ c ∷ u → (c ≡ 59 → ⊥) → (c ≡ 123 → ⊥) → (c ≡ 125 → ⊥)
-      → ◌≡◌ {A = Option (Said × List ℕ)} (statement_at condition t) (Some (s, rest)) → ◌≡◌ {A = Option (Piece × List ℕ)} (piece_from condition t) (Some (says s, rest))
+      → ◌≡◌ {A = Option (Said × List ℕ)} (statement_at known t) (Some (s, rest)) → ◌≡◌ {A = Option (Piece × List ℕ)} (piece_from known t) (Some (says s, rest))
   unfolding piece_from
   piece_said t c u rest s e one two three said =
-      let at : ◌≡◌ {A = Option (Said × List ℕ)} (statement_at condition (c ∷ u)) (Some (s, rest)) = ap (statement_at condition) (sym e) ∙ said in
+      let at : ◌≡◌ {A = Option (Said × List ℕ)} (statement_at known (c ∷ u)) (Some (s, rest)) = ap (statement_at known) (sym e) ∙ said in
       rw (e, ne_eqb c 59 one, ne_eqb c 123 two, ne_eqb c 125 three, at) refl
 
   -- what is left after a piece
@@ -59,23 +60,23 @@ module _ (condition : List ℕ → Option ℕ) where
     pub said : (ps : List Piece) → then_all before (statements_of (p ∷ ps)) ≡ then_all before' (statements_of ps)
 
   pub goes_on : (n n' : ℕ) (before before' : List Statement) (rest after : List ℕ) (p : Piece) (ss : List Statement)
-      → piece_at condition rest ≡ Some (p, after) → Step n before p n' before' → Goes n' before' after ss → Goes n before rest ss
+      → piece_at known rest ≡ Some (p, after) → Step n before p n' before' → Goes n' before' after ss → Goes n before rest ss
   goes_on n n' before before' rest after p ss here step (ps, cut, balanced, same) =
       (p ∷ ps, (after, here, cut), step.braces ps ∙ balanced, same ∙ sym (step.said ps))
 
   pub goes_back : (n n' : ℕ) (before before' : List Statement) (rest after : List ℕ) (p : Piece) (ss : List Statement)
-      → piece_at condition rest ≡ Some (p, after) → Step n before p n' before' → Goes n before rest ss → Goes n' before' after ss
+      → piece_at known rest ≡ Some (p, after) → Step n before p n' before' → Goes n before rest ss → Goes n' before' after ss
   goes_back n n' before before' rest after p ss here step ([], done, balanced, same) = absurd (no_piece rest p after here done)
   goes_back n n' before before' rest after p ss here step (q ∷ ps, (left, there, cut), balanced, same) =
       let is = pair_is q p left after (sym there ∙ here) in
       let piece = is.0 in
-      let P : List ℕ → Type 0 = λ x. IsCut (piece_at condition) NoPiece x ps in
+      let P : List ℕ → Type 0 = λ x. IsCut (piece_at known) NoPiece x ps in
       let Q : Piece → Type 0 = λ x. are_balanced n (x ∷ ps) ≡ true in
       let R : Piece → Type 0 = λ x. ss ≡ then_all before (statements_of (x ∷ ps)) in
       (ps, subst P is.1 cut, sym (step.braces ps) ∙ subst Q piece balanced, subst R piece same ∙ step.said ps)
 
   pub agree_step : (n n' : ℕ) (before before' : List Statement) (rest after text : List ℕ) (p : Piece)
-      → piece_at condition rest ≡ Some (p, after) → Step n before p n' before' → Agree n before rest text → Agree n' before' after text
+      → piece_at known rest ≡ Some (p, after) → Step n before p n' before' → Agree n before rest text → Agree n' before' after text
   agree_step n n' before before' rest after text p here step agree = record {
     on = λ ss goes. agree.on ss (goes_on n n' before before' rest after p ss here step goes);
     back = λ ss spells. goes_back n n' before before' rest after p ss here step (agree.back ss spells);
@@ -96,17 +97,17 @@ module _ (condition : List ℕ → Option ℕ) where
 
   -- what is refused spells nothing
   abbrev pub SpellsNone : List ℕ → Type 0
-  SpellsNone text = (ss : List Statement) → SpellsStatements condition text ss → ⊥
+  SpellsNone text = (ss : List Statement) → SpellsStatements known text ss → ⊥
 
   pub refused_piece : (kind : SpecErrorKind) (n : ℕ) (before : List Statement) (rest text : List ℕ) → Agree n before rest text → (length (skip rest) ≡ 0 → ⊥)
-      → UnlessMemory kind (piece_at condition rest ≡ None) → UnlessMemory kind (SpellsNone text)
+      → UnlessMemory kind (piece_at known rest ≡ None) → UnlessMemory kind (SpellsNone text)
   refused_piece kind n before rest text agree some h = unless_memory kind _ (SpellsNone text) (λ none ss spells. go ss none (agree.back ss spells)) h
     where
-      go : (ss : List Statement) → piece_at condition rest ≡ None → Goes n before rest ss → ⊥
+      go : (ss : List Statement) → piece_at known rest ≡ None → Goes n before rest ss → ⊥
       go ss none ([], done, balanced, same) = some (ap length done)
       go ss none (q ∷ ps, (left, there, cut), balanced, same) = cc
 
-  pub refused_close : (n : ℕ) (before : List Statement) (rest after text : List ℕ) → n ≡ 0 → Agree n before rest text → piece_at condition rest ≡ Some (closes, after) → SpellsNone text
+  pub refused_close : (n : ℕ) (before : List Statement) (rest after text : List ℕ) → n ≡ 0 → Agree n before rest text → piece_at known rest ≡ Some (closes, after) → SpellsNone text
   refused_close (suc n) before rest after text none agree here ss spells = absurd (omega arith)
   refused_close zero before rest after text none agree here ss spells = go (agree.back ss spells)
     where
@@ -125,10 +126,10 @@ module _ (condition : List ℕ → Option ℕ) where
   pub refused_open : (n : ℕ) (before : List Statement) (rest text : List ℕ) → Agree n before rest text → length (skip rest) ≡ 0 → 0 < n → SpellsNone text
   refused_open n before rest text agree end open_some ss spells = let e = (ended n before rest ss (nothing_left _ end) (agree.back ss spells)).0 in omega arith
 
-  pub found_at : (n : ℕ) (before : List Statement) (rest text : List ℕ) → Agree n before rest text → length (skip rest) ≡ 0 → n ≡ 0 → SpellsStatements condition text before
+  pub found_at : (n : ℕ) (before : List Statement) (rest text : List ℕ) → Agree n before rest text → length (skip rest) ≡ 0 → n ≡ 0 → SpellsStatements known text before
   found_at zero before rest text agree end e = agree.on before ([], nothing_left _ end, refl, refl)
   found_at (suc n) before rest text agree end e = absurd (omega arith)
 
-  pub piece_here : (rest here after : List ℕ) (p q : Piece) → here ≡ skip rest → ◌≡◌ {A = Option (Piece × List ℕ)} (piece_from condition here) (Some (p, after)) → p ≡ q
-      → ◌≡◌ {A = Option (Piece × List ℕ)} (piece_at condition rest) (Some (q, after))
-  piece_here rest here after p q skipped is same = ap (piece_from condition) (sym skipped) ∙ is ∙ ap (λ x. Some (x, after)) same
+  pub piece_here : (rest here after : List ℕ) (p q : Piece) → here ≡ skip rest → ◌≡◌ {A = Option (Piece × List ℕ)} (piece_from known here) (Some (p, after)) → p ≡ q
+      → ◌≡◌ {A = Option (Piece × List ℕ)} (piece_at known rest) (Some (q, after))
+  piece_here rest here after p q skipped is same = ap (piece_from known) (sym skipped) ∙ is ∙ ap (λ x. Some (x, after)) same

@@ -2,9 +2,9 @@
 use Rattle.std.proofs.Common.{◌≡◌, ℕ, suc, ◌+◌, ◌≤◌, ◌<◌, Bool, true, false, List, [], ◌∷◌, ◌++◌, length, Some, None, IfSome, refl, sym, ap, ◌∙◌, subst, arith}
 use Rattle.std.specs.Prelude.{not, ◌&&◌, nat_le}
 use Rattle.std.proofs.lemmas.Bool.{and_parts, and_from, le-leb, leb-true}
-use Rattle.lexmeaning.specs.Spec.{EndAction, Statement, Echo, Print, Begin, More, Less, Reject, End}
+use Rattle.lexmeaning.specs.Spec.{EndAction, Statement, Echo, Print, Begin, More, Less, Reject, End, Push, Pop}
 use Rattle.lexmeaning.specs.Legal.{in_range, all_in_range, is_literal, are_joined, ends_last, are_compatible, IsLegal}
-use Rattle.lexaction.specs.Names.{number_from}
+use Rattle.lexaction.specs.Names.{number_from, known_in}
 use Rattle.lexaction.specs.Statements.{then_print, then_one, then_all}
 use Rattle.lexaction.specs.Actions.{are_few, statements_of, SpellsStatements, SpellsAction, SpellsEndAction, end_of}
 use Rattle.lexaction.proofs.RangeLemmas.{raw, all_raw, cut_good, number_below}
@@ -38,6 +38,8 @@ print_range n (More ∷ []) (b ∷ bs) h = literal b bs
 print_range n (Less k ∷ []) (b ∷ bs) h = range_before n (Less k) [] (Print (b ∷ bs) ∷ []) (λ k. literal b bs) h
 print_range n (Reject ∷ []) (b ∷ bs) h = literal b bs
 print_range n (End k ∷ []) (b ∷ bs) h = range_before n (End k) [] (Print (b ∷ bs) ∷ []) (λ k. literal b bs) h
+print_range n (Push d ∷ []) (b ∷ bs) h = range_before n (Push d) [] (Print (b ∷ bs) ∷ []) (λ k. literal b bs) h
+print_range n (Pop ∷ []) (b ∷ bs) h = literal b bs
 print_range n (s ∷ t ∷ ss) (b ∷ bs) h = range_before n s (t ∷ ss) (then_print (t ∷ ss) (b ∷ bs)) (λ k. print_range n (t ∷ ss) (b ∷ bs) k) h
 
 one_range : (n : ℕ) (ss : List Statement) (s : Statement) → all_in_range n ss ≡ true → raw n s ≡ true → all_in_range n (then_one ss s) ≡ true
@@ -48,6 +50,8 @@ one_range n ss More h k = range_append n ss (More ∷ []) h refl
 one_range n ss (Less j) h k = range_append n ss (Less j ∷ []) h (and_from (in_range n (Less j)) true k refl)
 one_range n ss Reject h k = range_append n ss (Reject ∷ []) h refl
 one_range n ss (End j) h k = range_append n ss (End j ∷ []) h (and_from (in_range n (End j)) true k refl)
+one_range n ss (Push d) h k = range_append n ss (Push d ∷ []) h (and_from (in_range n (Push d)) true k refl)
+one_range n ss Pop h k = range_append n ss (Pop ∷ []) h refl
 
 all_range : (n : ℕ) (before ss : List Statement) → all_in_range n before ≡ true → all_raw n ss ≡ true → all_in_range n (then_all before ss) ≡ true
 all_range n before [] h k = h
@@ -94,6 +98,8 @@ print_first More [] b bs = refl
 print_first (Less k) [] b bs = refl
 print_first Reject [] b bs = refl
 print_first (End k) [] b bs = refl
+print_first (Push d) [] b bs = refl
+print_first Pop [] b bs = refl
 print_first s (t ∷ ss) b bs = refl
 
 print_joined : (ss : List Statement) (bs : List ℕ) → are_joined ss ≡ true → are_joined (then_print ss bs) ≡ true
@@ -107,6 +113,8 @@ print_joined (More ∷ []) (b ∷ bs) h = refl
 print_joined (Less k ∷ []) (b ∷ bs) h = refl
 print_joined (Reject ∷ []) (b ∷ bs) h = refl
 print_joined (End k ∷ []) (b ∷ bs) h = refl
+print_joined (Push d ∷ []) (b ∷ bs) h = refl
+print_joined (Pop ∷ []) (b ∷ bs) h = refl
 print_joined (s ∷ t ∷ ss) (b ∷ bs) h =
     let both = joined_parts s (t ∷ ss) h in
     joined_from s (then_print (t ∷ ss) (b ∷ bs)) (ap (λ z. is_literal s && z) (print_first t ss b bs) ∙ both.0) (print_joined (t ∷ ss) (b ∷ bs) both.1)
@@ -136,6 +144,8 @@ one_joined ss More h = other_joined ss More refl h
 one_joined ss (Less j) h = other_joined ss (Less j) refl h
 one_joined ss Reject h = other_joined ss Reject refl h
 one_joined ss (End j) h = other_joined ss (End j) refl h
+one_joined ss (Push d) h = other_joined ss (Push d) refl h
+one_joined ss Pop h = other_joined ss Pop refl h
 
 all_joined : (before ss : List Statement) → are_joined before ≡ true → are_joined (then_all before ss) ≡ true
 all_joined before [] h = h
@@ -143,19 +153,19 @@ all_joined before (s ∷ ss) h = all_joined (then_one before s) ss (one_joined b
 
 -- statements that a text spells
 
-pub spelled_range : (names : List (List ℕ)) (text : List ℕ) (ss : List Statement) → 1 ≤ length names → SpellsStatements (number_from 0 names) text ss → all_in_range (length names) ss ≡ true
-spelled_range names text ss some (ps, cut, balanced, same) =
+pub spelled_range : (names : List (List ℕ)) (stack : Bool) (text : List ℕ) (ss : List Statement) → 1 ≤ length names → SpellsStatements (known_in names stack) text ss → all_in_range (length names) ss ≡ true
+spelled_range names stack text ss some (ps, cut, balanced, same) =
     subst (λ z. all_in_range (length names) z ≡ true) (sym same)
-    (all_range (length names) [] (statements_of ps) refl (cut_good (number_from 0 names) (length names) some below text ps cut))
+    (all_range (length names) [] (statements_of ps) refl (cut_good (known_in names stack) (length names) some below text ps cut))
   where
     below : (name : List ℕ) → IfSome (number_from 0 names name) (λ c. c < length names)
     below name = let e : 0 + length names ≡ length names = omega arith in subst (λ m. IfSome (number_from 0 names name) (λ c. c < m)) e (number_below 0 names name)
 
-pub legal_action : (names : List (List ℕ)) (text : List ℕ) (ss : List Statement) → 1 ≤ length names → SpellsAction (number_from 0 names) text ss → IsLegal (length names) ss
-legal_action names text ss some (spells, stands) =
+pub legal_action : (names : List (List ℕ)) (stack : Bool) (text : List ℕ) (ss : List Statement) → 1 ≤ length names → SpellsAction (known_in names stack) text ss → IsLegal (length names) ss
+legal_action names stack text ss some (spells, stands) =
     let few_last = and_parts (are_few ss && ends_last ss) (are_compatible ss) stands in
     record {
-      ranges = spelled_range names text ss some spells;
+      ranges = spelled_range names stack text ss some spells;
       last = (and_parts (are_few ss) (ends_last ss) few_last.0).1;
       joined = subst (λ z. are_joined z ≡ true) (sym spells.3) (all_joined [] (statements_of spells.0) refl);
       compatible = few_last.1;
@@ -178,5 +188,5 @@ small_end n _ e h is = absurd (none is)
     none : None ≡ Some e → ⊥
     none p = cc
 
-pub end_status : (names : List (List ℕ)) (text : List ℕ) (e : EndAction) → 1 ≤ length names → SpellsEndAction (number_from 0 names) text e → e.status ≤ max_status
-end_status names text e some (ss, spells, few, is) = small_end (length names) ss e (spelled_range names text ss some spells) is
+pub end_status : (names : List (List ℕ)) (stack : Bool) (text : List ℕ) (e : EndAction) → 1 ≤ length names → SpellsEndAction (known_in names stack) text e → e.status ≤ max_status
+end_status names stack text e some (ss, spells, few, is) = small_end (length names) ss e (spelled_range names stack text ss some spells) is

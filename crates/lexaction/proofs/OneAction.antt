@@ -3,6 +3,7 @@ use Rattle.std.proofs.Common.{◌≡◌, ℕ, List, [], ◌∷◌, Option, Some,
 use Rattle.lexmeaning.specs.Reading.{Reader, IsCut}
 use Rattle.lexmeaning.specs.Spec.{Statement}
 use Rattle.lexaction.specs.Statements.{normal}
+use Rattle.lexaction.specs.Names.{Known}
 use Rattle.lexaction.specs.Actions.{piece_at, statements_of, NoPiece, SpellsStatements}
 use Rattle.lexaction.proofs.ActionLemmas.{no_piece}
 
@@ -22,7 +23,7 @@ one_cut {A} item_at Done stops text (x ∷ xs) (y ∷ ys) (rest, here, cut) (lef
     let others = one_cut item_at Done stops left xs ys (subst P (ap (λ (p : A × List ℕ). p.1) same) cut) more in
     cc
 
-pub one_statements : (condition : List ℕ → Option ℕ) (text : List ℕ) (ss ss' : List Statement) → SpellsStatements condition text ss → SpellsStatements condition text ss' → ss ≡ ss'
-one_statements condition text ss ss' (ps, cut, balanced, same) (qs, cut', balanced', same') =
-    let e = one_cut (piece_at condition) NoPiece (λ t p rest done here. no_piece condition t p rest here done) text ps qs cut cut' in
+pub one_statements : (known : Known) (text : List ℕ) (ss ss' : List Statement) → SpellsStatements known text ss → SpellsStatements known text ss' → ss ≡ ss'
+one_statements known text ss ss' (ps, cut, balanced, same) (qs, cut', balanced', same') =
+    let e = one_cut (piece_at known) NoPiece (λ t p rest done here. no_piece known t p rest here done) text ps qs cut cut' in
     same ∙ ap (λ xs. normal (statements_of xs)) e ∙ sym same'

@@ -6,9 +6,9 @@ use Rattle.lexmeaning.specs.Spec.{Statement, Print}
 use Rattle.lexmeaning.specs.Legal.{in_range}
 use Rattle.lexmeaning.specs.ByteSets.{is_word, within}
 use Rattle.lexmeaning.specs.Reading.{◌>>=◌, IsCut}
-use Rattle.lexaction.specs.Names.{number_from}
+use Rattle.lexaction.specs.Names.{number_from, Known}
 use Rattle.lexaction.specs.Bytes.{next, name_at, digits_at, literal_at, skip}
-use Rattle.lexaction.specs.Actions.{Said, does, prints, prints_text, said_by, Piece, semicolon, opens, closes, says, statements_of, NoPiece, no_argument, number_argument, second_word, parts_of, without_text, with_text, formatted_at, printf_at, fputs_at, puts_at, yymore_at, yyless_at, yyterminate_at, exit_at, condition_at, closed_condition, begins, begin_from, begin_at, after_word, after_statement, statement_at, piece_from, piece_at}
+use Rattle.lexaction.specs.Actions.{Said, does, prints, prints_text, said_by, Piece, semicolon, opens, closes, says, statements_of, NoPiece, no_argument, number_argument, second_word, parts_of, without_text, with_text, formatted_at, printf_at, fputs_at, puts_at, yymore_at, yyless_at, yyterminate_at, exit_at, condition_at, closed_condition, begins, begin_from, begin_at, pushes, push_from, push_at, pop_at, stack_word, after_word, after_statement, statement_at, piece_from, piece_at}
 use Rattle.lexaction.specs.Limits.{max_kept, max_status}
 
 -- as `in_range`, but that a literal may be empty
@@ -84,6 +84,10 @@ yyterminate_good : (n : ℕ) (t : List ℕ) → IfSome (yyterminate_at t) (Good 
 unfolding yyterminate_at
 yyterminate_good n t = if_bind (Good n) (no_argument t) _ (λ rest e. refl)
 
+pop_good : (n : ℕ) (t : List ℕ) → IfSome (pop_at t) (Good n)
+unfolding pop_at
+pop_good n t = if_bind (Good n) (no_argument t) _ (λ rest e. refl)
+
 yyless_good : (n : ℕ) (t : List ℕ) → IfSome (yyless_at t) (Good n)
 unfolding yyless_at
 yyless_good n t = if_bind (Good n) (number_argument t) _ (λ found e. if_chosen (Good n) (within 1 max_kept found.0) _ _ (λ h. and_from (within 1 max_kept found.0) true h refl) (λ h. tt))
@@ -132,37 +136,57 @@ module _ (condition : List ℕ → Option ℕ) (n : ℕ) (some : 1 ≤ n) (below
       from (Some inside) = begins_good (closed_condition condition inside) (closed_good inside)
       from None = begins_good (condition_at condition t) (condition_good t)
 
-  word_good : (word t : List ℕ) → IfSome (after_word condition word t) (Good n)
+  pushes_good : (o : Option (ℕ × List ℕ)) → IfSome o (Numbered n) → IfSome (pushes condition o) (Good n)
+  pushes_good None h = tt
+  pushes_good (Some found) h = and_from (nat_lt found.0 n) true (lt-ltb found.0 n h) refl
+
+  push_good : (t : List ℕ) → IfSome (push_at condition t) (Good n)
+  unfolding push_at
+  push_good t = from (next 40 t)
+    where
+      from : (o : Option (List ℕ)) → IfSome (push_from condition o) (Good n)
+      from (Some inside) = pushes_good (closed_condition condition inside) (closed_good inside)
+      from None = tt
+
+  stack_good : (word t : List ℕ) → IfSome (stack_word condition word t) (Good n)
+  unfolding stack_word
+  stack_good word t =
+      if_chosen (Good n) (is_word word (codes "yy_push_state")) _ _ (λ h. push_good t) (λ h.
+      if_chosen (Good n) (is_word word (codes "yy_pop_state")) _ _ (λ h. pop_good n t) (λ h. tt))
+
+module _ (known : Known) (n : ℕ) (some : 1 ≤ n) (below : (name : List ℕ) → IfSome (known.number name) (λ c. c < n)) where
+  word_good : (word t : List ℕ) → IfSome (after_word known word t) (Good n)
   unfolding after_word
   word_good word t =
       if_chosen (Good n) (is_word word (codes "ECHO")) _ _ (λ h. refl) (λ h.
       if_chosen (Good n) (is_word word (codes "REJECT")) _ _ (λ h. refl) (λ h.
-      if_chosen (Good n) (is_word word (codes "BEGIN")) _ _ (λ h. begin_good t) (λ h.
+      if_chosen (Good n) (is_word word (codes "BEGIN")) _ _ (λ h. begin_good known.number n some below t) (λ h.
       if_chosen (Good n) (is_word word (codes "yymore")) _ _ (λ h. yymore_good n t) (λ h.
       if_chosen (Good n) (is_word word (codes "yyless")) _ _ (λ h. yyless_good n t) (λ h.
       if_chosen (Good n) (is_word word (codes "yyterminate")) _ _ (λ h. yyterminate_good n t) (λ h.
       if_chosen (Good n) (is_word word (codes "exit")) _ _ (λ h. exit_good n t) (λ h.
       if_chosen (Good n) (is_word word (codes "printf")) _ _ (λ h. printf_good n t) (λ h.
       if_chosen (Good n) (is_word word (codes "fputs")) _ _ (λ h. fputs_good n t) (λ h.
-      if_chosen (Good n) (is_word word (codes "puts")) _ _ (λ h. puts_good n t) (λ h. tt))))))))))
+      if_chosen (Good n) (is_word word (codes "puts")) _ _ (λ h. puts_good n t) (λ h.
+      if_chosen (Good n) known.stack _ _ (λ h. stack_good known.number n some below word t) (λ h. tt)))))))))))
 
-  statement_good : (t : List ℕ) → IfSome (statement_at condition t) (Good n)
+  statement_good : (t : List ℕ) → IfSome (statement_at known t) (Good n)
   unfolding statement_at
-  statement_good t = if_bind (Good n) (name_at t) _ (λ name e. if_bind (Good n) (after_word condition name.0 name.1) _ (λ said e'.
-      if_bind (Good n) (after_statement said.1) _ (λ last e''. some_of (Good n) (after_word condition name.0 name.1) said (word_good name.0 name.1) e')))
+  statement_good t = if_bind (Good n) (name_at t) _ (λ name e. if_bind (Good n) (after_word known name.0 name.1) _ (λ said e'.
+      if_bind (Good n) (after_statement said.1) _ (λ last e''. some_of (Good n) (after_word known name.0 name.1) said (word_good name.0 name.1) e')))
 
   abbrev GoodPiece : Piece × List ℕ → Type 0
   GoodPiece x = all_raw n (statements_of (x.0 ∷ [])) ≡ true
 
-  piece_good : (t : List ℕ) → IfSome (piece_from condition t) GoodPiece
+  piece_good : (t : List ℕ) → IfSome (piece_from known t) GoodPiece
   unfolding piece_from
   piece_good [] = tt
   piece_good (c ∷ t) =
       if_chosen GoodPiece (c == 59) _ _ (λ h. refl) (λ h.
       if_chosen GoodPiece (c == 123) _ _ (λ h. refl) (λ h.
       if_chosen GoodPiece (c == 125) _ _ (λ h. refl) (λ h.
-      if_bind GoodPiece (statement_at condition (c ∷ t)) _ (λ said e.
-      all_raw_append n (said_by said.0) [] (some_of (Good n) (statement_at condition (c ∷ t)) said (statement_good (c ∷ t)) e) refl))))
+      if_bind GoodPiece (statement_at known (c ∷ t)) _ (λ said e.
+      all_raw_append n (said_by said.0) [] (some_of (Good n) (statement_at known (c ∷ t)) said (statement_good (c ∷ t)) e) refl))))
 
   piece_before : (p : Piece) (ps : List Piece) → all_raw n (statements_of (p ∷ [])) ≡ true → all_raw n (statements_of ps) ≡ true → all_raw n (statements_of (p ∷ ps)) ≡ true
   piece_before semicolon ps h k = k
@@ -176,7 +200,7 @@ module _ (condition : List ℕ → Option ℕ) (n : ℕ) (some : 1 ≤ n) (below
       without (prints_text front back) h = h
 
   -- all the statements of a text
-  pub cut_good : (text : List ℕ) (ps : List Piece) → IsCut (piece_at condition) NoPiece text ps → all_raw n (statements_of ps) ≡ true
+  pub cut_good : (text : List ℕ) (ps : List Piece) → IsCut (piece_at known) NoPiece text ps → all_raw n (statements_of ps) ≡ true
   cut_good text [] done = refl
   cut_good text (p ∷ ps) (rest, here, cut) =
-      piece_before p ps (some_of GoodPiece (piece_from condition (skip text)) (p, rest) (piece_good (skip text)) here) (cut_good rest ps cut)
+      piece_before p ps (some_of GoodPiece (piece_from known (skip text)) (p, rest) (piece_good (skip text)) here) (cut_good rest ps cut)

@@ -4,7 +4,7 @@ use Rattle.std.proofs.lemmas.List.{map_push}
 use Rattle.lexaction.specs.Views.{statement_of}
 use Rattle.lexmachine.specs.declared.action.Statement as Declared
 use Rattle.lexmachine.specs.declared.action.Statement.TheVariants as R
-use Rattle.lexmeaning.specs.Spec.{Statement, Echo, Print, Begin, More, Less, Reject, End}
+use Rattle.lexmeaning.specs.Spec.{Statement, Echo, Print, Begin, More, Less, Reject, End, Push, Pop}
 use Rattle.lexaction.specs.Statements.{then_print}
 
 pub onto_print : (ss : List Statement) (front : List ℕ) (b : ℕ) (bs : List ℕ) → then_print (ss ++ Print front ∷ []) (b ∷ bs) ≡ ss ++ Print (front ++ b ∷ bs) ∷ []
@@ -25,6 +25,8 @@ onto_other [] More b bs h = refl
 onto_other [] (Less n) b bs h = refl
 onto_other [] Reject b bs h = refl
 onto_other [] (End n) b bs h = refl
+onto_other [] (Push c) b bs h = refl
+onto_other [] Pop b bs h = refl
 onto_other (t ∷ []) s b bs h = ap (λ x. t ∷ x) (onto_other [] s b bs h)
 onto_other (t ∷ u ∷ ss) s b bs h = ap (λ x. t ∷ x) (onto_other (u ∷ ss) s b bs h)
 
@@ -51,6 +53,8 @@ other_of R.More h = tt
 other_of (R.Less n) h = tt
 other_of R.Reject h = tt
 other_of (R.End n) h = tt
+other_of (R.Push c) h = tt
+other_of R.Pop h = tt
 
 pub print_other : (old mid put new : List Declared.Statement) (last : Declared.Statement) (bytes : Vec ℕ Global) → old ≡ mid ++ last ∷ [] → ((v : Vec ℕ Global) → last ≡ R.Print v → ⊥) → put ≡ mid ++ last ∷ [] → new ≡ put ++ R.Print bytes ∷ [] → (length bytes.items ≡ 0 → ⊥)
     → map statement_of new ≡ then_print (map statement_of old) bytes.items

@@ -2,8 +2,9 @@
 use Rattle.std.specs.Prelude.{◌≡◌, ℕ, zero, suc, Bool, true, false, ◌&&◌, ◌==◌, nat_le, if◌then◌else◌, List, [], ◌∷◌, ◌++◌, length, sum_by, Option, Some, None, codes, min}
 use Rattle.lexmeaning.specs.ByteSets.{is_word, within}
 use Rattle.lexmeaning.specs.Reading.{◌>>=◌, Reader, IsCut, value}
+use Rattle.lexaction.specs.Names.{Known}
 use Rattle.lexaction.specs.Bytes.{skip, next, name_at, digits_at, literal_at}
-use Rattle.lexmeaning.specs.Spec.{EndAction, Statement, Echo, Print, Begin, More, Less, Reject, End}
+use Rattle.lexmeaning.specs.Spec.{EndAction, Statement, Echo, Print, Begin, More, Less, Reject, End, Push, Pop}
 use Rattle.lexmeaning.specs.Legal.{ends_last, are_compatible}
 use Rattle.lexaction.specs.Statements.{normal, literal_bytes}
 use Rattle.lexaction.specs.Limits.{max_statements, max_literal_bytes, max_kept, max_status}
@@ -81,7 +82,7 @@ fputs_at t = next 40 t >>= λ inside. literal_at inside >>= λ (text, rest). sec
 unfoldable pub puts_at : Reader Said
 puts_at t = next 40 t >>= λ inside. literal_at inside >>= λ (text, rest). next 41 rest >>= λ after. Some (prints (text ++ 10 ∷ []), after)
 
--- after `yymore`, `yyterminate`, `yyless` and `exit`
+-- after `yymore`, `yyterminate`, `yyless`, `yy_pop_state` and `exit`
 unfoldable pub yymore_at : Reader Said
 yymore_at t = no_argument t >>= λ rest. Some (does More, rest)
 
@@ -90,6 +91,9 @@ yyterminate_at t = no_argument t >>= λ rest. Some (does (End 0), rest)
 
 unfoldable pub yyless_at : Reader Said
 yyless_at t = number_argument t >>= λ (n, rest). if within 1 max_kept n then Some (does (Less n), rest) else None
+
+unfoldable pub pop_at : Reader Said
+pop_at t = no_argument t >>= λ rest. Some (does Pop, rest)
 
 unfoldable pub exit_at : Reader Said
 exit_at t = number_argument t >>= λ (n, rest). if nat_le n max_status then Some (does (End n), rest) else None
@@ -165,12 +169,32 @@ module _ (condition : List ℕ → Option ℕ) where
   unfoldable pub begin_at : Reader Said
   begin_at t = begin_from t (next 40 t)
 
+  abbrev pub pushes : Option (ℕ × List ℕ) → Option (Said × List ℕ)
+  pushes None = None
+  pushes (Some found) = Some (does (Push found.0), found.1)
+
+  -- after `yy_push_state`, by what follows a `(` there
+  abbrev pub push_from : Option (List ℕ) → Option (Said × List ℕ)
+  push_from (Some inside) = pushes (closed_condition inside)
+  push_from None = None
+
+  unfoldable pub push_at : Reader Said
+  push_at t = push_from (next 40 t)
+
+  -- the statements of the stack, by their first word
+  unfoldable pub stack_word : List ℕ → Reader Said
+  stack_word word t =
+      if is_word word (codes "yy_push_state") then push_at t
+      else if is_word word (codes "yy_pop_state") then pop_at t
+      else None
+
+module _ (known : Known) where
   -- the statements, by their first word
   unfoldable pub after_word : List ℕ → Reader Said
   after_word word t =
       if is_word word (codes "ECHO") then Some (does Echo, t)
       else if is_word word (codes "REJECT") then Some (does Reject, t)
-      else if is_word word (codes "BEGIN") then begin_at t
+      else if is_word word (codes "BEGIN") then begin_at known.number t
       else if is_word word (codes "yymore") then yymore_at t
       else if is_word word (codes "yyless") then yyless_at t
       else if is_word word (codes "yyterminate") then yyterminate_at t
@@ -178,6 +202,7 @@ module _ (condition : List ℕ → Option ℕ) where
       else if is_word word (codes "printf") then printf_at t
       else if is_word word (codes "fputs") then fputs_at t
       else if is_word word (codes "puts") then puts_at t
+      else if known.stack then stack_word known.number word t
       else None
 
   unfoldable pub statement_at : Reader Said
@@ -208,8 +233,8 @@ abbrev pub may_stand : List Statement → Bool
 may_stand ss = are_few ss && ends_last ss && are_compatible ss
 
 -- the action of a rule
-abbrev pub SpellsAction : (List ℕ → Option ℕ) → List ℕ → List Statement → Type 0
-SpellsAction condition text ss = SpellsStatements condition text ss × (may_stand ss ≡ true)
+abbrev pub SpellsAction : Known → List ℕ → List Statement → Type 0
+SpellsAction known text ss = SpellsStatements known text ss × (may_stand ss ≡ true)
 
 -- what an `<<EOF>>` rule does with these statements: it may print, and it ends the scan, with status 0 where it says
 -- none (flex, End-of-File Rules)
@@ -226,6 +251,6 @@ alone [] e = Some e
 alone (s ∷ ss) e = None
 
 -- the action of an `<<EOF>>` rule
-abbrev pub SpellsEndAction : (List ℕ → Option ℕ) → List ℕ → EndAction → Type 0
-SpellsEndAction condition text e =
-    (ss : List Statement) × SpellsStatements condition text ss × (are_few ss ≡ true) × (end_of ss ≡ Some e)
+abbrev pub SpellsEndAction : Known → List ℕ → EndAction → Type 0
+SpellsEndAction known text e =
+    (ss : List Statement) × SpellsStatements known text ss × (are_few ss ≡ true) × (end_of ss ≡ Some e)

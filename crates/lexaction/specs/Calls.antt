@@ -1,7 +1,7 @@
 -- What the readers of calls answer.
 use Rattle.std.specs.Prelude.{◌≡◌, ℕ, List, Option, Some, None, Result, Ok, Err, option_map}
 use Rattle.lexaction.specs.Actions.{Said, does}
-use Rattle.lexmeaning.specs.Spec.{Begin}
+use Rattle.lexmeaning.specs.Spec.{Begin, Push}
 use Rattle.lexaction.specs.Views.{said_of}
 use Rattle.lexaction.specs.Outcome.{UnlessMemory}
 use Rattle.lexclass.specs.declared.refusals.SpecErrorKind.{SpecErrorKind}
@@ -33,3 +33,6 @@ ConditionReads number rest None read = read ≡ None
 
 abbrev pub BeginReads : Option ℕ → Called → Type 0
 BeginReads number called = said_by_call called ≡ option_map (λ n. does (Begin n)) number
+
+abbrev pub PushReads : Option ℕ → Called → Type 0
+PushReads number called = said_by_call called ≡ option_map (λ n. does (Push n)) number

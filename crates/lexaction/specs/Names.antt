@@ -1,5 +1,5 @@
 -- Names and their numbers.
-use Rattle.std.specs.Prelude.{ℕ, suc, if◌then◌else◌, List, [], ◌∷◌, map, Option, Some, None}
+use Rattle.std.specs.Prelude.{ℕ, suc, Bool, if◌then◌else◌, List, [], ◌∷◌, map, Option, Some, None}
 use Rattle.lexmeaning.specs.ByteSets.{is_word}
 use Rattle.lexaction.specs.declared.condition.Condition.{Condition}
 
@@ -10,3 +10,11 @@ number_from k (n ∷ ns) name = if is_word n name then Some k else number_from (
 
 abbrev pub names_of : List Condition → List (List ℕ)
 names_of cs = map (λ c. c.name.items) cs
+
+-- what actions may name: conditions, by their names, and pushes and pops, where the option `stack` is set
+pub record Known : Type 0 where
+  pub number : List ℕ → Option ℕ
+  pub stack : Bool
+
+abbrev pub known_in : List (List ℕ) → Bool → Known
+known_in names stack = record { number = number_from 0 names; stack = stack }

@@ -2,7 +2,7 @@
 ghost use Rattle.std.specs.Prelude.{◌≡◌, ◌≤◌, ◌<◌, List, [], ◌∷◌, ◌++◌, length, map, option_map, IfOk, IfErr};
 ghost use Rattle.lexmeaning.specs.Spec as S;
 ghost use Rattle.lexaction.specs.Actions.{piece_from, SpellsStatements, SpellsAction, SpellsEndAction, end_of, alone};
-ghost use Rattle.lexaction.specs.Names.{number_from, names_of};
+ghost use Rattle.lexaction.specs.Names.{known_in, names_of};
 ghost use Rattle.lexaction.specs.Views.{statement_of, piece_of, end_action_of};
 ghost use Rattle.lexaction.specs.Outcome.{Reads, UnlessMemory};
 ghost use Rattle.lexaction.specs.Limits.{max_conditions};
@@ -22,10 +22,11 @@ use std::alloc::Global;
 fn piece_from<'a>(
     alloc: Global,
     conditions: &[Condition],
+    stack: bool,
     text: &'a [u8],
 ) -> Result<(Piece, &'a [u8]), SpecErrorKind>
     requires { length conditions.now ≤ max_conditions }
-    ensures spelled { Reads (λ x. (piece_of x.0, x.1.now)) result (piece_from (number_from 0 (names_of conditions.now)) text.now) }
+    ensures spelled { Reads (λ x. (piece_of x.0, x.1.now)) result (piece_from (known_in (names_of conditions.now) stack) text.now) }
     ensures shorter { IfOk result (λ x. length x.1.now < length text.now) }
     ensures fault { IfErr result (λ e. IsActionFault e) }
 {
@@ -41,7 +42,7 @@ fn piece_from<'a>(
     if *first == b'}' {
         return Ok((Piece::Closes, after));
     }
-    let (said, rest) = statement_at(alloc, conditions, text)?;
+    let (said, rest) = statement_at(alloc, conditions, stack, text)?;
     Ok((Piece::Says(said), rest))
 }
 
@@ -49,13 +50,14 @@ fn piece_from<'a>(
 fn read_statements(
     alloc: Global,
     conditions: &[Condition],
+    stack: bool,
     text: &[u8],
 ) -> Result<Vec<Statement>, SpecErrorKind>
     requires { length conditions.now ≤ max_conditions }
     // What is read is spelled by the text.
-    ensures found { IfOk result (λ ss. SpellsStatements (number_from 0 (names_of conditions.now)) text.now (map statement_of ss.items)) }
+    ensures found { IfOk result (λ ss. SpellsStatements (known_in (names_of conditions.now) stack) text.now (map statement_of ss.items)) }
     // What is refused spells no statements, unless memory ran out.
-    ensures none { IfErr result (λ e. UnlessMemory e ((ss : List S.Statement) → SpellsStatements (number_from 0 (names_of conditions.now)) text.now ss → ⊥)) }
+    ensures none { IfErr result (λ e. UnlessMemory e ((ss : List S.Statement) → SpellsStatements (known_in (names_of conditions.now) stack) text.now ss → ⊥)) }
     ensures fault { IfErr result (λ e. IsActionFault e) }
 {
     let mut statements = Vec::new(alloc);
@@ -69,7 +71,7 @@ fn read_statements(
             }
             return Ok(statements);
         }
-        let (piece, after) = piece_from(alloc, conditions, here)?;
+        let (piece, after) = piece_from(alloc, conditions, stack, here)?;
         match piece {
             Piece::Semicolon => {}
             Piece::Opens => open += 1,
@@ -87,21 +89,23 @@ fn read_statements(
 
 /// The statements of a rule's action, in normal form. The first fault from the left is named: `UnknownStatement`,
 /// `BadCount`, `BadStatus` and `UnknownCondition` of a statement, `Unclosed` for a brace left open, and then `TooLong`
-/// (256 statements, 4,096 literal bytes), `LessAndMore`, `RejectCombination` and `NotLast`. (POSIX, lex, Actions in lex.)
+/// (256 statements, 4,096 literal bytes), `LessAndMore`, `RejectCombination` and `NotLast`. `stack` says whether
+/// yy_push_state and yy_pop_state may stand there. (POSIX, lex, Actions in lex; flex, Start Conditions.)
 #[tactic(auto, using(crate::proofs::FaultLaws::together_fault_of_action))]
 pub fn read_action(
     alloc: Global,
     conditions: &[Condition],
+    stack: bool,
     text: &[u8],
 ) -> Result<Vec<Statement>, SpecErrorKind>
     requires { length conditions.now ≤ max_conditions }
     // What is read is spelled by the text.
-    ensures found { IfOk result (λ ss. SpellsAction (number_from 0 (names_of conditions.now)) text.now (map statement_of ss.items)) }
+    ensures found { IfOk result (λ ss. SpellsAction (known_in (names_of conditions.now) stack) text.now (map statement_of ss.items)) }
     // What is refused is no action, unless memory ran out.
-    ensures none { IfErr result (λ e. UnlessMemory e ((ss : List S.Statement) → SpellsAction (number_from 0 (names_of conditions.now)) text.now ss → ⊥)) }
+    ensures none { IfErr result (λ e. UnlessMemory e ((ss : List S.Statement) → SpellsAction (known_in (names_of conditions.now) stack) text.now ss → ⊥)) }
     ensures fault { IfErr result (λ e. IsActionFault e) }
 {
-    let statements = read_statements(alloc, conditions, text)?;
+    let statements = read_statements(alloc, conditions, stack, text)?;
     check(&statements)?;
     Ok(statements)
 }
@@ -111,16 +115,17 @@ pub fn read_action(
 pub fn read_end_action(
     alloc: Global,
     conditions: &[Condition],
+    stack: bool,
     text: &[u8],
 ) -> Result<EndAction, SpecErrorKind>
     requires { length conditions.now ≤ max_conditions }
     // What is read is spelled by the text.
-    ensures found { IfOk result (λ e. SpellsEndAction (number_from 0 (names_of conditions.now)) text.now (end_action_of e)) }
+    ensures found { IfOk result (λ e. SpellsEndAction (known_in (names_of conditions.now) stack) text.now (end_action_of e)) }
     // What is refused is no end action, unless memory ran out.
-    ensures none { IfErr result (λ e. UnlessMemory e ((a : S.EndAction) → SpellsEndAction (number_from 0 (names_of conditions.now)) text.now a → ⊥)) }
+    ensures none { IfErr result (λ e. UnlessMemory e ((a : S.EndAction) → SpellsEndAction (known_in (names_of conditions.now) stack) text.now a → ⊥)) }
     ensures fault { IfErr result (λ e. IsActionFault e) }
 {
-    let statements = read_statements(alloc, conditions, text)?;
+    let statements = read_statements(alloc, conditions, stack, text)?;
     if !are_few(&statements) {
         return Err(SpecErrorKind::TooLong);
     }

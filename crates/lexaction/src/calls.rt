@@ -1,10 +1,10 @@
 //! The statements of an action, one at a time.
 ghost use Rattle.std.specs.Prelude.{◌≡◌, ◌≤◌, ◌<◌, length, map, min, option_map, codes, IfSome, IfOk, IfErr};
-ghost use Rattle.lexaction.specs.Actions.{this_word, no_argument, number_argument, second_word, capped, formatted_at, printf_at, yymore_at, yyless_at, yyterminate_at, exit_at, closed_condition, fputs_at, puts_at, condition_at, begin_at, after_word, after_statement, statement_at};
-ghost use Rattle.lexaction.specs.Names.{number_from, names_of};
+ghost use Rattle.lexaction.specs.Actions.{this_word, no_argument, number_argument, second_word, capped, formatted_at, printf_at, yymore_at, yyless_at, yyterminate_at, exit_at, pop_at, closed_condition, fputs_at, puts_at, condition_at, begin_at, push_at, stack_word, after_word, after_statement, statement_at};
+ghost use Rattle.lexaction.specs.Names.{number_from, names_of, known_in};
 ghost use Rattle.lexaction.specs.Views.{said_of};
 ghost use Rattle.lexaction.specs.Outcome.{Reads, UnlessMemory};
-ghost use Rattle.lexaction.specs.Calls.{CallReads, CallFinds, ConditionReads, BeginReads};
+ghost use Rattle.lexaction.specs.Calls.{CallReads, CallFinds, ConditionReads, BeginReads, PushReads};
 ghost use Rattle.lexaction.specs.Limits.{max_conditions};
 ghost use Rattle.lexaction.specs.ActionFaults.{IsActionFault};
 
@@ -237,6 +237,58 @@ fn begin_at<'a>(conditions: &[Condition], text: &'a [u8]) -> Option<(Called, &'a
     Some((begins(number), rest))
 }
 
+/// What a `yy_push_state` of this condition says.
+fn pushes(number: Option<u8>) -> Called
+    ensures { PushReads number result }
+{
+    match number {
+        Some(number) => Called::Says(Said::Does(Statement::Push(number))),
+        None => Called::UnknownCondition,
+    }
+}
+
+#[tactic(auto, unfolding(crate::specs::Actions::push_at))]
+fn push_at<'a>(conditions: &[Condition], text: &'a [u8]) -> Option<(Called, &'a [u8])>
+    requires { length conditions.now ≤ max_conditions }
+    ensures spelled { CallFinds (λ x. x.0) (λ x. x.1.now) result (push_at (number_from 0 (names_of conditions.now)) text.now) }
+    ensures shorter { IfSome result (λ x. length x.1.now ≤ length text.now) }
+{
+    if let Some(inside) = next(b'(', text) {
+        let (number, rest) = closed_condition(conditions, inside)?;
+        return Some((pushes(number), rest));
+    }
+    None
+}
+
+#[tactic(auto, unfolding(crate::specs::Actions::pop_at))]
+fn pop_at(text: &[u8]) -> Option<(Called, &[u8])>
+    ensures spelled { CallFinds (λ x. x.0) (λ x. x.1.now) result (pop_at text.now) }
+    ensures shorter { IfSome result (λ x. length x.1.now ≤ length text.now) }
+{
+    let rest = no_argument(text)?;
+    Some((Called::Says(Said::Does(Statement::Pop)), rest))
+}
+
+/// The statements of the stack of conditions, by their first word.
+#[tactic(auto, unfolding(crate::specs::Actions::stack_word))]
+fn stack_word<'a>(
+    conditions: &[Condition],
+    word: &[u8],
+    text: &'a [u8],
+) -> Option<(Called, &'a [u8])>
+    requires { length conditions.now ≤ max_conditions }
+    ensures spelled { CallFinds (λ x. x.0) (λ x. x.1.now) result (stack_word (number_from 0 (names_of conditions.now)) word.now text.now) }
+    ensures shorter { IfSome result (λ x. length x.1.now ≤ length text.now) }
+{
+    if word == b"yy_push_state".as_slice() {
+        push_at(conditions, text)
+    } else if word == b"yy_pop_state".as_slice() {
+        pop_at(text)
+    } else {
+        None
+    }
+}
+
 #[tactic(auto, unfolding(crate::specs::Actions::after_statement))]
 fn after_statement(text: &[u8]) -> Option<&[u8]>
     ensures spelled { option_map (λ r. r.now) result ≡ after_statement text.now }
@@ -255,11 +307,12 @@ fn after_statement(text: &[u8]) -> Option<&[u8]>
 fn after_word<'a>(
     alloc: Global,
     conditions: &[Condition],
+    stack: bool,
     word: &[u8],
     text: &'a [u8],
 ) -> Result<(Called, &'a [u8]), SpecErrorKind>
     requires { length conditions.now ≤ max_conditions }
-    ensures spelled { CallReads (λ x. x.0) (λ x. x.1.now) result (after_word (number_from 0 (names_of conditions.now)) word.now text.now) }
+    ensures spelled { CallReads (λ x. x.0) (λ x. x.1.now) result (after_word (known_in (names_of conditions.now) stack) word.now text.now) }
     ensures shorter { IfOk result (λ x. length x.1.now ≤ length text.now) }
     ensures fault { IfErr result (λ e. IsActionFault e) }
 {
@@ -283,6 +336,8 @@ fn after_word<'a>(
         fputs_at(alloc, text)
     } else if word == b"puts".as_slice() {
         puts_at(alloc, text)
+    } else if stack {
+        stack_word(conditions, word, text).ok_or(SpecErrorKind::UnknownStatement)
     } else {
         Err(SpecErrorKind::UnknownStatement)
     }
@@ -292,17 +347,18 @@ fn after_word<'a>(
 pub(crate) fn statement_at<'a>(
     alloc: Global,
     conditions: &[Condition],
+    stack: bool,
     text: &'a [u8],
 ) -> Result<(Said, &'a [u8]), SpecErrorKind>
     requires { length conditions.now ≤ max_conditions }
-    ensures spelled { Reads (λ x. (said_of x.0, x.1.now)) result (statement_at (number_from 0 (names_of conditions.now)) text.now) }
+    ensures spelled { Reads (λ x. (said_of x.0, x.1.now)) result (statement_at (known_in (names_of conditions.now) stack) text.now) }
     ensures shorter { IfOk result (λ x. length x.1.now < length text.now) }
     ensures fault { IfErr result (λ e. IsActionFault e) }
 {
     let Some((word, rest)) = name_at(text) else {
         return Err(SpecErrorKind::UnknownStatement);
     };
-    let (called, after) = after_word(alloc, conditions, word, rest)?;
+    let (called, after) = after_word(alloc, conditions, stack, word, rest)?;
     let Some(last) = after_statement(after) else {
         return Err(SpecErrorKind::UnknownStatement);
     };

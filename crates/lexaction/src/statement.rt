@@ -26,7 +26,7 @@ pub(crate) enum Called {
     BadCount,
     /// exit has too great a status.
     BadStatus,
-    /// BEGIN names a condition that is not declared.
+    /// BEGIN or yy_push_state names a condition that is not declared.
     UnknownCondition,
 }
 

@@ -1,7 +1,7 @@
 -- What the words of a machine stand for.
 use Rattle.lexmeaning.specs.Spec as S
 use Rattle.lexmachine.specs.declared.action.Statement.{Statement}
-use Rattle.lexmachine.specs.declared.action.Statement.TheVariants.{Echo, Print, Begin, More, Less, Reject, End}
+use Rattle.lexmachine.specs.declared.action.Statement.TheVariants.{Echo, Print, Begin, More, Less, Reject, End, Push, Pop}
 use Rattle.lexmachine.specs.declared.action.EndAction.{EndAction}
 use Rattle.lexmachine.specs.declared.cut.Cut.{Cut}
 
@@ -13,6 +13,8 @@ statement_of More = S.More
 statement_of (Less n) = S.Less n
 statement_of Reject = S.Reject
 statement_of (End n) = S.End n
+statement_of (Push c) = S.Push c
+statement_of Pop = S.Pop
 
 abbrev pub end_action_of : EndAction → S.EndAction
 end_action_of e = record { print = e.print.items; status = e.status }

@@ -22,6 +22,10 @@ pub enum Statement {
     Reject,
     /// Ends the scan with this status, 0 to 63: yyterminate, exit.
     End(u8),
+    /// Puts the condition of the next match on the stack, and this one, by its number, in its place: yy_push_state.
+    Push(u8),
+    /// Takes the condition of the next match from the stack: yy_pop_state.
+    Pop,
 }
 
 impl Statement {

@@ -2,7 +2,7 @@
 use Rattle.std.proofs.Common.{◌≡◌, ℕ, ◌≤◌, ◌<◌, Bool, true, false, List, [], ◌∷◌, ◌⊎◌, inl, inr, refl}
 use Rattle.std.specs.Prelude.{not, ◌&&◌, ◌||◌, nat_le, ⊤}
 use Rattle.std.proofs.lemmas.Bool.{ltb-true, leb-true, and_parts}
-use Rattle.lexmeaning.specs.Spec.{Statement, Echo, Print, Begin, More, Less, Reject, End, has_reject}
+use Rattle.lexmeaning.specs.Spec.{Statement, Echo, Print, Begin, More, Less, Reject, End, Push, Pop, has_reject}
 use Rattle.lexmeaning.specs.Legal.{in_range, all_in_range, has_less, has_more, count_less, IsLegal}
 
 -- each yyless keeps at least one byte
@@ -15,8 +15,10 @@ LessFromOne (Begin d ∷ ss) = LessFromOne ss
 LessFromOne (More ∷ ss) = LessFromOne ss
 LessFromOne (Reject ∷ ss) = LessFromOne ss
 LessFromOne (End s ∷ ss) = LessFromOne ss
+LessFromOne (Push d ∷ ss) = LessFromOne ss
+LessFromOne (Pop ∷ ss) = LessFromOne ss
 
--- each BEGIN names a condition
+-- each BEGIN and each push names a condition
 abbrev pub BeginsBelow : ℕ → List Statement → Type 0
 BeginsBelow n [] = ⊤
 BeginsBelow n (Begin d ∷ ss) = (d < n) × BeginsBelow n ss
@@ -26,6 +28,8 @@ BeginsBelow n (More ∷ ss) = BeginsBelow n ss
 BeginsBelow n (Less m ∷ ss) = BeginsBelow n ss
 BeginsBelow n (Reject ∷ ss) = BeginsBelow n ss
 BeginsBelow n (End s ∷ ss) = BeginsBelow n ss
+BeginsBelow n (Push d ∷ ss) = (d < n) × BeginsBelow n ss
+BeginsBelow n (Pop ∷ ss) = BeginsBelow n ss
 
 pub less_from_one : (n : ℕ) (ss : List Statement) → all_in_range n ss ≡ true → LessFromOne ss
 less_from_one n [] h = tt
@@ -39,6 +43,8 @@ less_from_one n (Begin d ∷ ss) h = less_from_one n ss (and_parts (in_range n (
 less_from_one n (More ∷ ss) h = less_from_one n ss h
 less_from_one n (Reject ∷ ss) h = less_from_one n ss h
 less_from_one n (End s ∷ ss) h = less_from_one n ss (and_parts (in_range n (End s)) (all_in_range n ss) h).1
+less_from_one n (Push d ∷ ss) h = less_from_one n ss (and_parts (in_range n (Push d)) (all_in_range n ss) h).1
+less_from_one n (Pop ∷ ss) h = less_from_one n ss h
 
 pub begins_below : (n : ℕ) (ss : List Statement) → all_in_range n ss ≡ true → BeginsBelow n ss
 begins_below n [] h = tt
@@ -51,6 +57,10 @@ begins_below n (Less k ∷ ss) h = begins_below n ss (and_parts (in_range n (Les
 begins_below n (More ∷ ss) h = begins_below n ss h
 begins_below n (Reject ∷ ss) h = begins_below n ss h
 begins_below n (End s ∷ ss) h = begins_below n ss (and_parts (in_range n (End s)) (all_in_range n ss) h).1
+begins_below n (Push d ∷ ss) h =
+    let both = and_parts (in_range n (Push d)) (all_in_range n ss) h in
+    (ltb-true d n both.0, begins_below n ss both.1)
+begins_below n (Pop ∷ ss) h = begins_below n ss h
 
 not_both : (a b : Bool) → not (a && b) ≡ true → (a ≡ false) ⊎ (b ≡ false)
 not_both true true h = absurd (no h)

@@ -1,8 +1,8 @@
 -- The worked examples, computed by the plain program.
 use Rattle.std.proofs.Common.{true, false, [], ◌∷◌, ◌++◌, refl}
-use Rattle.std.specs.Prelude.{codes}
+use Rattle.std.specs.Prelude.{codes, replicate}
 use Rattle.lexmeaning.specs.ByteSets.{has, single, range_set, union, complement, fold_case, other_case, set_of, set_below}
-use Rattle.lexmeaning.specs.Acting.{Status, perform}
+use Rattle.lexmeaning.specs.Acting.{Status, StackFault, perform}
 use Rattle.lexmeaning.specs.Examples as E
 use Rattle.lexmeaning.specs.MachineExamples as M
 use Rattle.lexmeaning.proofs.PlainRun.{run_is}
@@ -110,6 +110,30 @@ end_rule_alone = run_is E.says_end [] 40 (codes "end" ++ 10 ∷ []) (Status 0) r
 pub ordinary_dollar : E.Writes E.dollar_inside (codes "a$bA") (codes "XY") 0
 unfolding has single range_set union complement fold_case other_case set_of set_below perform
 ordinary_dollar = run_is E.dollar_inside (codes "a$bA") 40 (codes "XY") (Status 0) refl
+
+pub nested : E.Writes E.parentheses (codes "(a())b") (codes "<a<>>b") 0
+unfolding has single range_set union complement fold_case other_case set_of set_below perform
+nested = run_is E.parentheses (codes "(a())b") 40 (codes "<a<>>b") (Status 0) refl
+
+pub pushes_the_next : E.Writes E.pushes_after_begin (codes "abc") (codes "C") 0
+unfolding has single range_set union complement fold_case other_case set_of set_below perform
+pushes_the_next = run_is E.pushes_after_begin (codes "abc") 40 (codes "C") (Status 0) refl
+
+pub empty : E.Faults E.pops_nothing (codes "xa") (codes "xA")
+unfolding has single range_set union complement fold_case other_case set_of set_below perform
+empty = run_is E.pops_nothing (codes "xa") 40 (codes "xA") StackFault refl
+
+pub full : E.Writes E.only_pushes (replicate 255 97) [] 0
+unfolding has single range_set union complement fold_case other_case set_of set_below perform
+full = run_is E.only_pushes (replicate 255 97) 300 [] (Status 0) refl
+
+pub over_full : E.Faults E.only_pushes (replicate 256 97) []
+unfolding has single range_set union complement fold_case other_case set_of set_below perform
+over_full = run_is E.only_pushes (replicate 256 97) 300 [] StackFault refl
+
+pub kept_by_reject : E.Writes E.rejects_after_push (codes "ab") (codes "Ab") 0
+unfolding has single range_set union complement fold_case other_case set_of set_below perform
+kept_by_reject = run_is E.rejects_after_push (codes "ab") 40 (codes "Ab") (Status 0) refl
 
 pub taken_by_exit : M.Tells M.exit_after_ab (codes "abXYZ") ((2, 2) ∷ [])
 unfolding perform

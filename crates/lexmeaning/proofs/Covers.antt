@@ -20,21 +20,21 @@ settle_short n (Again a) f o h later e = later a e
 settle_short n (Over a d) f o h later e = let same : record { after = a; ended = Some d } ≡ o = cc in subst (λ (z : Matched). length z.after.text ≤ n) same h
 
 -- the text that a match leaves is no longer than what was kept and the longest text
-perform_short : (R : Rules) (kept y : List ℕ) (ms : List Candidate) (out : List ℕ) (c n : ℕ) (o : Matched) → ((m : Candidate) → Among ms m → m.keep ≤ n) →
-    perform R kept y ms out c ≡ Some o → length o.after.text ≤ length kept + n
+perform_short : (R : Rules) (kept y : List ℕ) (ms : List Candidate) (out : List ℕ) (c : ℕ) (cs : List ℕ) (n : ℕ) (o : Matched) → ((m : Candidate) → Among ms m → m.keep ≤ n) →
+    perform R kept y ms out c cs ≡ Some o → length o.after.text ≤ length kept + n
 unfolding perform
-perform_short R kept y [] out c n o h e = absurd (no e)
+perform_short R kept y [] out c cs n o h e = absurd (no e)
   where
     no : None ≡ Some o → ⊥
     no p = cc
-perform_short R kept y (m ∷ ms) out c n o h e =
-    let a : Acting = record { text = kept ++ take m.keep y; written = out; condition = c; more = false } in
+perform_short R kept y (m ∷ ms) out c cs n o h e =
+    let a : Acting = record { text = kept ++ take m.keep y; written = out; condition = c; stack = cs; more = false } in
     let k : m.keep ≤ n = h m (inl refl) in
     let short : length (take m.keep y) ≤ m.keep = rw length-take (omega arith) in
     let size : length (kept ++ take m.keep y) ≡ length kept + length (take m.keep y) = length-append kept (take m.keep y) in
-    settle_short (length kept + n) (act (statements_of R m.rule) a) (λ b. perform R kept y ms b.written b.condition) o
+    settle_short (length kept + n) (act (statements_of R m.rule) a) (λ b. perform R kept y ms b.written b.condition b.stack) o
     (no_longer (length kept + n) (statements_of R m.rule) a (omega arith))
-    (λ b p. perform_short R kept y ms b.written b.condition n o (λ q i. h q (inr i)) p) e
+    (λ b p. perform_short R kept y ms b.written b.condition b.stack n o (λ q i. h q (inr i)) p) e
 
 -- a match is no longer than what it asks for
 len_reached : (R : Rules) (l : Laws R) (x : List ℕ) (p : Place) (r : ℕ) (m : Candidate) → IsText x → p.at < length x → Reach R x p r → IsCandidate R p.condition (at_line_start x p.at) (drop p.at x) m →
@@ -70,7 +70,7 @@ match_covers R l x p r f t text h reach turn =
     let bol : Bool = at_line_start x p.at in
     let kept : length (part x p.start p.at) ≤ p.at - p.start = rw length-take (omega arith) in
     let bound : (m : Candidate) → Among turn.matches m → m.keep ≤ r = λ m i. keep_bound m ((turn.all.members m).0 i) in
-    let short = perform_short R (part x p.start p.at) (drop p.at x) turn.matches [] p.condition r turn.outcome bound turn.performed in
+    let short = perform_short R (part x p.start p.at) (drop p.at x) turn.matches [] p.condition p.stack r turn.outcome bound turn.performed in
     subst (λ (z : State). Covered z.place (max f (p.at + r))) (sym turn.leaves)
     (record { ordered = next_ordered p turn.outcome.after turn.outcome.ended turn.outcome.after.more; covered = omega (arith, h.ordered, kept, short) })
   where

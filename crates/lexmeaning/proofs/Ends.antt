@@ -4,13 +4,13 @@ use Rattle.std.specs.Prelude.{nat_lt, if◌then◌else◌, ⊤}
 use Rattle.std.proofs.lemmas.List.{length-append, length-take, length-take-le, length-drop}
 use Rattle.std.proofs.lemmas.Bool.{cond-true, cond-false, lt-ltb, le-ltb, cases_lt}
 use Rattle.lexmeaning.specs.Text.{Among, part, at_line_start}
-use Rattle.lexmeaning.specs.Spec.{Statement, Echo, Print, Begin, More, Less, Reject, End}
+use Rattle.lexmeaning.specs.Spec.{Statement, Echo, Print, Begin, More, Less, Reject, End, Push, Pop}
 use Rattle.lexmeaning.specs.Rules.{Rules, Full, statements_of}
 use Rattle.lexmeaning.specs.Laws.{Laws}
 use Rattle.lexmeaning.specs.Legal.{has_less, has_more, IsLegal}
 use Rattle.lexmeaning.proofs.Actions.{LessFromOne, less_from_one, apart, echo_legal}
 use Rattle.lexmeaning.specs.Candidates.{Candidate, IsCandidate, Candidates}
-use Rattle.lexmeaning.specs.Acting.{Ending, Status, Acting, Matched, Went, Done, Again, Over, act, settle, perform}
+use Rattle.lexmeaning.specs.Acting.{Ending, Status, StackFault, Acting, Matched, Went, Done, Again, Over, act, has_room, popped, settle, perform}
 use Rattle.lexmeaning.specs.Run.{Place, State, Turn, NextFrom, Turns, Run, first_state, next_place, next_start}
 
 no_true : {A : Type 0} → true ≡ false → A
@@ -25,6 +25,15 @@ Leaves P (Done a) = P a
 Leaves P (Again a) = ⊤
 Leaves P (Over a e) = P a
 
+-- a fault of the stack leaves what was there
+pub unless_full : (P : Acting → Type 0) (b : Bool) (a : Acting) (w : Went) → P a → Leaves P w → Leaves P (if b then w else Over a StackFault)
+unless_full P true a w h k = k
+unless_full P false a w h k = h
+
+pub unless_empty : (P : Acting → Type 0) (cs : List ℕ) (a : Acting) (next : ℕ → List ℕ → Went) → P a → ((c : ℕ) (rest : List ℕ) → Leaves P (next c rest)) → Leaves P (popped cs a next)
+unless_empty P [] a next h k = h
+unless_empty P (c ∷ cs) a next h k = k c cs
+
 pub no_longer : (n : ℕ) (ss : List Statement) (a : Acting) → length a.text ≤ n → Leaves (λ b. length b.text ≤ n) (act ss a)
 no_longer n [] a h = h
 no_longer n (Echo ∷ ss) a h = no_longer n ss (record a { written = a.written ++ a.text }) h
@@ -34,6 +43,12 @@ no_longer n (More ∷ ss) a h = no_longer n ss (record a { more = true }) h
 no_longer n (Less m ∷ ss) a h = let e : length (take m a.text) ≡ min m (length a.text) = length-take m a.text in no_longer n ss (record a { text = take m a.text }) (omega arith)
 no_longer n (Reject ∷ ss) a h = tt
 no_longer n (End s ∷ ss) a h = h
+no_longer n (Push d ∷ ss) a h =
+    unless_full (λ b. length b.text ≤ n) (has_room a.stack) a (act ss (record a { condition = d; stack = a.condition ∷ a.stack })) h
+    (no_longer n ss (record a { condition = d; stack = a.condition ∷ a.stack }) h)
+no_longer n (Pop ∷ ss) a h =
+    unless_empty (λ b. length b.text ≤ n) a.stack a (λ c cs. act ss (record a { condition = c; stack = cs })) h
+    (λ c cs. no_longer n ss (record a { condition = c; stack = cs }) h)
 
 pub not_empty : (ss : List Statement) (a : Acting) → LessFromOne ss → 1 ≤ length a.text → Leaves (λ b. 1 ≤ length b.text) (act ss a)
 not_empty [] a l h = h
@@ -44,6 +59,12 @@ not_empty (More ∷ ss) a l h = not_empty ss (record a { more = true }) l h
 not_empty (Less m ∷ ss) a l h = let e : length (take m a.text) ≡ min m (length a.text) = length-take m a.text in not_empty ss (record a { text = take m a.text }) l.1 (omega (arith, l.0))
 not_empty (Reject ∷ ss) a l h = tt
 not_empty (End s ∷ ss) a l h = h
+not_empty (Push d ∷ ss) a l h =
+    unless_full (λ b. 1 ≤ length b.text) (has_room a.stack) a (act ss (record a { condition = d; stack = a.condition ∷ a.stack })) h
+    (not_empty ss (record a { condition = d; stack = a.condition ∷ a.stack }) l h)
+not_empty (Pop ∷ ss) a l h =
+    unless_empty (λ b. 1 ≤ length b.text) a.stack a (λ c cs. act ss (record a { condition = c; stack = cs })) h
+    (λ c cs. not_empty ss (record a { condition = c; stack = cs }) l h)
 
 same_text : (n : ℕ) (ss : List Statement) (a : Acting) → has_less ss ≡ false → length a.text ≡ n → Leaves (λ b. length b.text ≡ n) (act ss a)
 same_text n [] a l h = h
@@ -54,6 +75,12 @@ same_text n (More ∷ ss) a l h = same_text n ss (record a { more = true }) l h
 same_text n (Less m ∷ ss) a l h = no_true l
 same_text n (Reject ∷ ss) a l h = tt
 same_text n (End s ∷ ss) a l h = h
+same_text n (Push d ∷ ss) a l h =
+    unless_full (λ b. length b.text ≡ n) (has_room a.stack) a (act ss (record a { condition = d; stack = a.condition ∷ a.stack })) h
+    (same_text n ss (record a { condition = d; stack = a.condition ∷ a.stack }) l h)
+same_text n (Pop ∷ ss) a l h =
+    unless_empty (λ b. length b.text ≡ n) a.stack a (λ c cs. act ss (record a { condition = c; stack = cs })) h
+    (λ c cs. same_text n ss (record a { condition = c; stack = cs }) l h)
 
 no_more : (ss : List Statement) (a : Acting) → has_more ss ≡ false → a.more ≡ false → Leaves (λ b. b.more ≡ false) (act ss a)
 no_more [] a l h = h
@@ -64,6 +91,12 @@ no_more (More ∷ ss) a l h = no_true l
 no_more (Less m ∷ ss) a l h = no_more ss (record a { text = take m a.text }) l h
 no_more (Reject ∷ ss) a l h = tt
 no_more (End s ∷ ss) a l h = h
+no_more (Push d ∷ ss) a l h =
+    unless_full (λ b. b.more ≡ false) (has_room a.stack) a (act ss (record a { condition = d; stack = a.condition ∷ a.stack })) h
+    (no_more ss (record a { condition = d; stack = a.condition ∷ a.stack }) l h)
+no_more (Pop ∷ ss) a l h =
+    unless_empty (λ b. b.more ≡ false) a.stack a (λ c cs. act ss (record a { condition = c; stack = cs })) h
+    (λ c cs. no_more ss (record a { condition = c; stack = cs }) l h)
 
 -- The outcome of a match over `kept` bytes and a rest of `left`: the text lies inside, and it is kept whole and longer
 -- than `kept`, or it is not empty and the next text starts at its end.
@@ -108,17 +141,17 @@ module _ (R : Rules) (legal : (i : ℕ) → i < R.count → IsLegal R.conditions
   pub default_echoes : (i : ℕ) → i ≡ R.count → statements_of R i ≡ Echo ∷ []
   default_echoes i e = cond-false (nat_lt i R.count) (R.statements i) (Echo ∷ []) (le-ltb i R.count (omega arith))
 
-  pub perform_good : (kept y : List ℕ) (ms : List Candidate) (out : List ℕ) (c : ℕ) → ((m : Candidate) → Among ms m → (1 ≤ m.keep) × (m.keep ≤ length y)) →
-      (d : Candidate) → Among ms d → d.rule ≡ R.count → GoodMatch (length kept) (length y) (perform R kept y ms out c)
+  pub perform_good : (kept y : List ℕ) (ms : List Candidate) (out : List ℕ) (c : ℕ) (cs : List ℕ) → ((m : Candidate) → Among ms m → (1 ≤ m.keep) × (m.keep ≤ length y)) →
+      (d : Candidate) → Among ms d → d.rule ≡ R.count → GoodMatch (length kept) (length y) (perform R kept y ms out c cs)
   unfolding perform
-  perform_good kept y [] out c h d among is = absurd among
-  perform_good kept y (m ∷ ms) out c h d among is =
-      let a : Acting = record { text = kept ++ take m.keep y; written = out; condition = c; more = false } in
+  perform_good kept y [] out c cs h d among is = absurd among
+  perform_good kept y (m ∷ ms) out c cs h d among is =
+      let a : Acting = record { text = kept ++ take m.keep y; written = out; condition = c; stack = cs; more = false } in
       let k = h m (inl refl) in
       let size : length (kept ++ take m.keep y) ≡ length kept + m.keep = length-append kept (take m.keep y) ∙ ap (λ n. length kept + n) (length-take-le m.keep y k.1) in
-      settle_good (length kept) (length y) (act (statements_of R m.rule) a) (λ b. perform R kept y ms b.written b.condition)
+      settle_good (length kept) (length y) (act (statements_of R m.rule) a) (λ b. perform R kept y ms b.written b.condition b.stack)
       (act_goes_on R.conditions (length kept) (length y) (statements_of R m.rule) a (legal_of m.rule (cases_lt m.rule R.count)) refl (omega (arith, k.0)) (omega (arith, k.1)))
-      (λ b again. perform_good kept y ms b.written b.condition (λ n i. h n (inr i)) d (in_rest a b again among) is)
+      (λ b again. perform_good kept y ms b.written b.condition b.stack (λ n i. h n (inr i)) d (in_rest a b again among) is)
     where
       not_again : (a b : Acting) → Done a ≡ Again b → ⊥
       not_again a b e = cc
@@ -142,7 +175,7 @@ abbrev pub Moves : List ℕ → Place → State → Type 0
 Moves x p s = ((e : Ending) × (s.ended ≡ Some e)) ⊎ ((s.ended ≡ None) × Inside x s.place × Grows p s.place)
 
 place_from : (x : List ℕ) (p : Place) (a : Acting) → Inside x p → GoesOn (p.at - p.start) (length x - p.at) a → (b : Bool) → a.more ≡ b →
-    (q : Place) → q ≡ record { start = if b then p.start else p.start + length a.text; at = p.start + length a.text; condition = a.condition } → Inside x q × Grows p q
+    (q : Place) → q ≡ record { start = if b then p.start else p.start + length a.text; at = p.start + length a.text; condition = a.condition; stack = a.stack } → Inside x q × Grows p q
 place_from x p a h g true is q e =
     let s : q.start ≡ p.start = ap (λ (z : Place). z.start) e in
     let t : q.at ≡ p.start + length a.text = ap (λ (z : Place). z.at) e in
@@ -165,7 +198,7 @@ moves_from : (x : List ℕ) (p : Place) (o : Matched) → Inside x p → GoesOn 
 moves_from x p o h g (Some e) is = inl (e, is)
 moves_from x p o h g None is =
     let end : ℕ = p.start + length o.after.text in
-    let r = place_from x p o.after h g o.after.more refl (next_place p o) (ap (λ z. record { start = next_start z o.after.more p.start end; at = end; condition = o.after.condition }) is) in inr (is, r.0, r.1)
+    let r = place_from x p o.after h g o.after.more refl (next_place p o) (ap (λ z. record { start = next_start z o.after.more p.start end; at = end; condition = o.after.condition; stack = o.after.stack }) is) in inr (is, r.0, r.1)
 
 module _ (R : Rules) (l : Laws R) (legal : (i : ℕ) → i < R.count → IsLegal R.conditions (R.statements i))
     (exist : (c : ℕ) (bol : Bool) (y : List ℕ) → (ms : List Candidate) × Candidates R c bol y ms) (x : List ℕ) where
@@ -184,7 +217,7 @@ module _ (R : Rules) (l : Laws R) (legal : (i : ℕ) → i < R.count → IsLegal
     where
       from : (p.at < length x) ⊎ (length x ≤ p.at) → (s : State) × Turn R x p s × Moves x p s
       from (inr le) =
-          let u : State = record { written = (R.ending p.condition).print; place = record { start = p.at; at = p.at; condition = p.condition }; ended = Some (Status (R.ending p.condition).status) } in
+          let u : State = record { written = (R.ending p.condition).print; place = record { start = p.at; at = p.at; condition = p.condition; stack = p.stack }; ended = Some (Status (R.ending p.condition).status) } in
           (u, inr (record { at_end = omega (arith, h.fits); leaves = refl }), inl (Status (R.ending p.condition).status, refl))
       from (inl lt) =
           let bol : Bool = at_line_start x p.at in
@@ -196,7 +229,7 @@ module _ (R : Rules) (l : Laws R) (legal : (i : ℕ) → i < R.count → IsLegal
           let one : Candidate = record { len = 1; rule = R.count; keep = 1 } in
           let some : 1 ≤ length y = omega arith in
           let among : Among listed.0 one = (listed.1.members one).1 (record { inside = some; fits = inr (refl, length-take-le 1 y some, refl) }) in
-          let good = perform_good R legal kept y listed.0 [] p.condition (λ m a. keep_bounds p.condition bol y m ((listed.1.members m).0 a)) one among refl in
+          let good = perform_good R legal kept y listed.0 [] p.condition p.stack (λ m a. keep_bounds p.condition bol y m ((listed.1.members m).0 a)) one among refl in
           let o : Matched = good.0 in
           let u : State = record { written = o.after.written; place = next_place p o; ended = o.ended } in
           let goes : GoesOn (p.at - p.start) (length x - p.at) o.after = subst (λ n. GoesOn (p.at - p.start) n o.after) left (subst (λ n. GoesOn n (length y) o.after) before good.2) in

@@ -1,12 +1,12 @@
 -- The matches of a machine from the longest down, told by the states after each byte.
 use Rattle.std.proofs.Common.{◌≡◌, ℕ, suc, ◌+◌, ◌<◌, Bool, List, [], ◌∷◌, ◌++◌, length, ◌⊎◌, inl, inr, ◌↔◌, Option, Some, None, take, true, false, refl, sym, ◌∙◌, ap, subst, arith}
-use Rattle.std.specs.Prelude.{filter_map}
+use Rattle.std.specs.Prelude.{filter_map, if◌then◌else◌}
 use Rattle.std.specs.List.{cons_option}
 use Rattle.std.proofs.lemmas.List.{append-nil, append_assoc}
 use Rattle.lexmeaning.specs.Text.{Among, Ascending, BeginsWith}
-use Rattle.lexmeaning.specs.Spec.{Statement, Echo, Print, Begin, More, Less, Reject, End}
+use Rattle.lexmeaning.specs.Spec.{Statement, Echo, Print, Begin, More, Less, Reject, End, Push, Pop}
 use Rattle.lexmeaning.specs.Rules.{Rules, statements_of}
-use Rattle.lexmeaning.specs.Acting.{Acting, Went, Done, Again, Over, Matched, act, settle, perform}
+use Rattle.lexmeaning.specs.Acting.{Acting, StackFault, Went, Done, Again, Over, Matched, act, has_room, popped, settle, perform}
 use Rattle.lexmeaning.specs.Candidates.{Candidate, Before, InOrder, Candidates}
 use Rattle.lexmeaning.specs.Machine.{Machine, rules_of_machine}
 use Rattle.lexmeaning.specs.MachineLaws.{MachineLaws}
@@ -134,6 +134,14 @@ acting_after (Over a e) = a
 pub begins_trans : (u v w : List ℕ) → BeginsWith w v → BeginsWith v u → BeginsWith w u
 begins_trans u v w h k = (k.0 ++ h.0, h.1 ∙ ap (λ z. z ++ h.0) k.1 ∙ append_assoc u k.0 h.0)
 
+full_adds : (b : Bool) (a : Acting) (w : Went) → BeginsWith (acting_after w).written a.written → BeginsWith (acting_after (if b then w else Over a StackFault)).written a.written
+full_adds true a w h = h
+full_adds false a w h = ([], sym (append-nil a.written))
+
+empty_adds : (cs : List ℕ) (a : Acting) (next : ℕ → List ℕ → Went) → ((c : ℕ) (rest : List ℕ) → BeginsWith (acting_after (next c rest)).written a.written) → BeginsWith (acting_after (popped cs a next)).written a.written
+empty_adds [] a next h = ([], sym (append-nil a.written))
+empty_adds (c ∷ cs) a next h = h c cs
+
 pub act_adds : (ss : List Statement) (a : Acting) → BeginsWith (acting_after (act ss a)).written a.written
 act_adds [] a = ([], sym (append-nil a.written))
 act_adds (Echo ∷ ss) a = begins_trans a.written (a.written ++ a.text) (acting_after (act (Echo ∷ ss) a)).written (act_adds ss (record a { written = a.written ++ a.text })) (a.text, refl)
@@ -143,6 +151,9 @@ act_adds (More ∷ ss) a = act_adds ss (record a { more = true })
 act_adds (Less n ∷ ss) a = act_adds ss (record a { text = take n a.text })
 act_adds (Reject ∷ ss) a = ([], sym (append-nil a.written))
 act_adds (End s ∷ ss) a = ([], sym (append-nil a.written))
+act_adds (Push d ∷ ss) a =
+    full_adds (has_room a.stack) a (act ss (record a { condition = d; stack = a.condition ∷ a.stack })) (act_adds ss (record a { condition = d; stack = a.condition ∷ a.stack }))
+act_adds (Pop ∷ ss) a = empty_adds a.stack a (λ c cs. act ss (record a { condition = c; stack = cs })) (λ c cs. act_adds ss (record a { condition = c; stack = cs }))
 
 some_same : {A : Type 0} (a b : A) → Some a ≡ Some b → a ≡ b
 some_same a b e = cc
@@ -152,12 +163,12 @@ settle_adds (Done a) f v o h later e = subst (λ (z : Matched). BeginsWith z.aft
 settle_adds (Again a) f v o h later e = begins_trans v a.written o.after.written (later a e) h
 settle_adds (Over a d) f v o h later e = subst (λ (z : Matched). BeginsWith z.after.written v) (some_same (record { after = a; ended = Some d }) o e) h
 
-pub perform_adds : (R : Rules) (kept y : List ℕ) (ms : List Candidate) (w : List ℕ) (c : ℕ) (o : Matched) → perform R kept y ms w c ≡ Some o → BeginsWith o.after.written w
+pub perform_adds : (R : Rules) (kept y : List ℕ) (ms : List Candidate) (w : List ℕ) (c : ℕ) (cs : List ℕ) (o : Matched) → perform R kept y ms w c cs ≡ Some o → BeginsWith o.after.written w
 unfolding perform
-perform_adds R kept y [] w c o e = absurd (no e)
+perform_adds R kept y [] w c cs o e = absurd (no e)
   where
     no : None ≡ Some o → ⊥
     no p = cc
-perform_adds R kept y (m ∷ ms) w c o e =
-    let a : Acting = record { text = kept ++ take m.keep y; written = w; condition = c; more = false } in
-    settle_adds (act (statements_of R m.rule) a) (λ b. perform R kept y ms b.written b.condition) w o (act_adds (statements_of R m.rule) a) (λ b p. perform_adds R kept y ms b.written b.condition o p) e
+perform_adds R kept y (m ∷ ms) w c cs o e =
+    let a : Acting = record { text = kept ++ take m.keep y; written = w; condition = c; stack = cs; more = false } in
+    settle_adds (act (statements_of R m.rule) a) (λ b. perform R kept y ms b.written b.condition b.stack) w o (act_adds (statements_of R m.rule) a) (λ b p. perform_adds R kept y ms b.written b.condition b.stack o p) e

@@ -67,12 +67,12 @@ settle_same (Again a) f g h = h a
 settle_same (Over a e) f g h = refl
 
 -- Carrying out matches reads their texts alone.
-pub same_performed : (R : Rules) (kept v w : List ℕ) (ms : List Candidate) (out : List ℕ) (c : ℕ) → ((m : Candidate) → Among ms m → take m.keep v ≡ take m.keep w) →
-    perform R kept v ms out c ≡ perform R kept w ms out c
+pub same_performed : (R : Rules) (kept v w : List ℕ) (ms : List Candidate) (out : List ℕ) (c : ℕ) (cs : List ℕ) → ((m : Candidate) → Among ms m → take m.keep v ≡ take m.keep w) →
+    perform R kept v ms out c cs ≡ perform R kept w ms out c cs
 unfolding perform
-same_performed R kept v w [] out c h = refl
-same_performed R kept v w (m ∷ ms) out c h =
-    let next : (y : List ℕ) → Acting → Option Matched = λ y a. perform R kept y ms a.written a.condition in
-    let begin : List ℕ → Acting = λ t. record { text = kept ++ t; written = out; condition = c; more = false } in
+same_performed R kept v w [] out c cs h = refl
+same_performed R kept v w (m ∷ ms) out c cs h =
+    let next : (y : List ℕ) → Acting → Option Matched = λ y a. perform R kept y ms a.written a.condition a.stack in
+    let begin : List ℕ → Acting = λ t. record { text = kept ++ t; written = out; condition = c; stack = cs; more = false } in
     ap (λ t. settle (act (statements_of R m.rule) (begin t)) (next v)) (h m (inl refl))
-    ∙ settle_same (act (statements_of R m.rule) (begin (take m.keep w))) (next v) (next w) (λ a. same_performed R kept v w ms a.written a.condition (λ n k. h n (inr k)))
+    ∙ settle_same (act (statements_of R m.rule) (begin (take m.keep w))) (next v) (next w) (λ a. same_performed R kept v w ms a.written a.condition a.stack (λ n k. h n (inr k)))

@@ -42,7 +42,7 @@ some_inj a b e = cc
 one_match : (R : Rules) (x : List ℕ) (p : Place) (s t : State) → MatchTurn R x p s → MatchTurn R x p t → s ≡ t
 one_match R x p s t h k =
     let same : h.matches ≡ k.matches = one_candidates R _ _ _ _ _ h.all k.all in
-    let both : Some h.outcome ≡ Some k.outcome = sym h.performed ∙ ap (λ ms. perform R (part x p.start p.at) (drop p.at x) ms [] p.condition) same ∙ k.performed in
+    let both : Some h.outcome ≡ Some k.outcome = sym h.performed ∙ ap (λ ms. perform R (part x p.start p.at) (drop p.at x) ms [] p.condition p.stack) same ∙ k.performed in
     let outcome : h.outcome ≡ k.outcome = some_inj _ _ both in
     h.leaves ∙ ap (λ (o : Matched). record { written = o.after.written; place = next_place p o; ended = o.ended }) outcome ∙ sym k.leaves
 

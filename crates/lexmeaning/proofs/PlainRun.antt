@@ -235,7 +235,7 @@ IsNext R x s t = (u : State) × Turn R x s.place u × (t ≡ record { written = 
 
 after_is : (R : Rules) (x : List ℕ) (s t : State) (ms : List Candidate) (o : Option Matched) → s.place.at < length x →
     Candidates R s.place.condition (at_line_start x s.place.at) (drop s.place.at x) ms →
-    perform R (part x s.place.start s.place.at) (drop s.place.at x) ms [] s.place.condition ≡ o → after_match s o ≡ Some t → IsNext R x s t
+    perform R (part x s.place.start s.place.at) (drop s.place.at x) ms [] s.place.condition s.place.stack ≡ o → after_match s o ≡ Some t → IsNext R x s t
 after_is R x s t ms None lt all done e = no_state e
 after_is R x s t ms (Some o) lt all done e =
     let u : State = record { written = o.after.written; place = next_place s.place o; ended = o.ended } in
@@ -244,13 +244,13 @@ after_is R x s t ms (Some o) lt all done e =
 perform_is : (R : Rules) (x : List ℕ) (s t : State) (r : Option (List Candidate)) → s.place.at < length x →
     ((ms : List Candidate) → r ≡ Some ms → Candidates R s.place.condition (at_line_start x s.place.at) (drop s.place.at x) ms) → perform_at R x s r ≡ Some t → IsNext R x s t
 perform_is R x s t None lt all e = no_state e
-perform_is R x s t (Some ms) lt all e = after_is R x s t ms (perform R (part x s.place.start s.place.at) (drop s.place.at x) ms [] s.place.condition) lt (all ms refl) refl e
+perform_is R x s t (Some ms) lt all e = after_is R x s t ms (perform R (part x s.place.start s.place.at) (drop s.place.at x) ms [] s.place.condition s.place.stack) lt (all ms refl) refl e
 
 end_is : (R : Rules) (x : List ℕ) (s t : State) (b : Bool) → nat_eq s.place.at (length x) ≡ b → (if b then Some (after_end R s) else None) ≡ Some t → IsNext R x s t
 end_is R x s t false p e = no_state e
 end_is R x s t true p e =
     let c : ℕ = s.place.condition in
-    let u : State = record { written = (R.ending c).print; place = record { start = s.place.at; at = s.place.at; condition = c }; ended = Some (Status (R.ending c).status) } in
+    let u : State = record { written = (R.ending c).print; place = record { start = s.place.at; at = s.place.at; condition = c; stack = s.place.stack }; ended = Some (Status (R.ending c).status) } in
     (u, inr (record { at_end = eqb-true s.place.at (length x) p; leaves = refl }), sym (some_state (after_end R s) t e))
 
 turn_from : (R : Rules) (list : Listing) (lists : (c : ℕ) (bol : Bool) (y : List ℕ) (ms : List Candidate) → list c bol y ≡ Some ms → Candidates R c bol y ms) (x : List ℕ) (s t : State) (b : Bool) → nat_lt s.place.at (length x) ≡ b → turn_at b R list x s ≡ Some t → IsNext R x s t

@@ -22,23 +22,23 @@ more_matches R l c bol v rest is_text some (inl e) ms h = subst (λ y. Candidate
 more_matches R l c bol v rest is_text some (inr dead) ms h = more_input R l c bol v rest is_text some dead ms h
 
 -- the outcome of a match is what its actions make of the bytes that it saw
-same_outcome : (R : Rules) (l : Laws R) (c : ℕ) (bol : Bool) (kept v rest : List ℕ) (ms : List Candidate) (d : ℕ) → Candidates R c bol v ms →
-    perform R kept v ms [] d ≡ perform R kept (v ++ rest) ms [] d
-same_outcome R l c bol kept v rest ms d h =
-    same_performed R kept v (v ++ rest) ms [] d (λ m a. sym (take-append-le m.keep v rest (keep_inside R l c bol v m ((h.members m).0 a))))
+same_outcome : (R : Rules) (l : Laws R) (c : ℕ) (bol : Bool) (kept v rest : List ℕ) (ms : List Candidate) (d : ℕ) (cs : List ℕ) → Candidates R c bol v ms →
+    perform R kept v ms [] d cs ≡ perform R kept (v ++ rest) ms [] d cs
+same_outcome R l c bol kept v rest ms d cs h =
+    same_performed R kept v (v ++ rest) ms [] d cs (λ m a. sym (take-append-le m.keep v rest (keep_inside R l c bol v m ((h.members m).0 a))))
 
 -- A match that saw the bytes v at its place, and needs no more, is the turn there.
 pub match_turn : (R : Rules) (l : Laws R) (x : List ℕ) (p : Place) (v rest : List ℕ) → IsText rest → p.at < length x → drop p.at x ≡ v ++ rest → 1 ≤ length v →
     Suffices R p.condition (at_line_start x p.at) v rest →
     (ms : List Candidate) → Candidates R p.condition (at_line_start x p.at) v ms →
-    (o : Matched) → perform R (part x p.start p.at) v ms [] p.condition ≡ Some o →
+    (o : Matched) → perform R (part x p.start p.at) v ms [] p.condition p.stack ≡ Some o →
     MatchTurn R x p (record { written = o.after.written; place = next_place p o; ended = o.ended })
 match_turn R l x p v rest is_text before splits some enough ms h o done = record {
   before_end = before;
   matches = ms;
   all = subst (λ y. Candidates R p.condition (at_line_start x p.at) y ms) (sym splits) (more_matches R l p.condition (at_line_start x p.at) v rest is_text some enough ms h);
   outcome = o;
-  performed = ap (λ y. perform R (part x p.start p.at) y ms [] p.condition) splits ∙ sym (same_outcome R l p.condition (at_line_start x p.at) (part x p.start p.at) v rest ms p.condition h) ∙ done;
+  performed = ap (λ y. perform R (part x p.start p.at) y ms [] p.condition p.stack) splits ∙ sym (same_outcome R l p.condition (at_line_start x p.at) (part x p.start p.at) v rest ms p.condition p.stack h) ∙ done;
   leaves = refl;
 }
 
@@ -117,10 +117,10 @@ module _ (R : Rules) (l : Laws R) (g a b : List ℕ) (p : Place) (r : ℕ) (text
       (subst (λ y. Candidates R p.condition (at_line_start (g ++ a) p.at) y h.matches) (front_splits R g a p r fits) h.all) in
       let there : Candidates R p.condition (at_line_start (g ++ b) p.at) v h.matches = subst (λ bol. Candidates R p.condition bol v h.matches) line here in
       let kept : part (g ++ b) p.start p.at ≡ part (g ++ a) p.start p.at = part_front g b p.start p.at (omega arith) ∙ sym (part_front g a p.start p.at (omega arith)) in
-      let done : perform R (part (g ++ b) p.start p.at) v h.matches [] p.condition ≡ Some h.outcome =
-      ap (λ k. perform R k v h.matches [] p.condition) kept
-      ∙ same_outcome R l p.condition (at_line_start (g ++ a) p.at) (part (g ++ a) p.start p.at) v ra h.matches p.condition here
-      ∙ ap (λ y. perform R (part (g ++ a) p.start p.at) y h.matches [] p.condition) (sym (front_splits R g a p r fits))
+      let done : perform R (part (g ++ b) p.start p.at) v h.matches [] p.condition p.stack ≡ Some h.outcome =
+      ap (λ k. perform R k v h.matches [] p.condition p.stack) kept
+      ∙ same_outcome R l p.condition (at_line_start (g ++ a) p.at) (part (g ++ a) p.start p.at) v ra h.matches p.condition p.stack here
+      ∙ ap (λ y. perform R (part (g ++ a) p.start p.at) y h.matches [] p.condition p.stack) (sym (front_splits R g a p r fits))
       ∙ h.performed in
       let len : length (g ++ b) ≡ length g + length b = length-append g b in
       let turn = match_turn R l (g ++ b) p v rb more_b (omega arith) (front_splits R g b p r fits) (omega arith) (inr dead_b) h.matches there h.outcome done in

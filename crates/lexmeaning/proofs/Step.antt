@@ -57,7 +57,7 @@ seen_match R l given rest p r h is_text enough =
     let len : length (given ++ rest) ≡ length given + length rest = length-append given rest in
     match_turn R l (given ++ rest) p v more text (omega (arith, h.inside, h.some)) (front_splits R given rest p r h.inside) (omega (arith, h.some)) (suffices enough)
     h.matches (subst (λ bol. Candidates R p.condition bol v h.matches) (sym line) h.all) h.outcome
-    (ap (λ k. perform R k v h.matches [] p.condition) (part_front given rest p.start p.at (omega (arith, h.inside))) ∙ h.performed)
+    (ap (λ k. perform R k v h.matches [] p.condition p.stack) (part_front given rest p.start p.at (omega (arith, h.inside))) ∙ h.performed)
   where
     suffices : (drop r (drop p.at given) ++ rest ≡ []) ⊎ (AsksAt R given p r → ⊥) → Suffices R p.condition (at_line_start (given ++ rest) p.at) (take r (drop p.at given)) (drop r (drop p.at given) ++ rest)
     suffices (inl none) = inl none

@@ -1,13 +1,13 @@
 -- A machine for a specification has its turns, and asks for the same bytes.
 use Rattle.std.proofs.Common.{◌≡◌, ℕ, zero, suc, ◌+◌, ◌-◌, ◌≤◌, ◌<◌, Bool, true, false, List, [], ◌∷◌, ◌++◌, length, take, drop, ◌⊎◌, inl, inr, ◌↔◌, Option, Some, None, refl, sym, ◌∙◌, ap, subst, arith}
-use Rattle.std.specs.Prelude.{slice_get, nat_lt}
+use Rattle.std.specs.Prelude.{slice_get, nat_lt, if◌then◌else◌}
 use Rattle.std.proofs.lemmas.List.{length-append}
 use Rattle.std.proofs.lemmas.Bool.{cond-true, cond-false, lt-ltb, le-ltb, or_parts, cases_lt}
-use Rattle.lexmeaning.specs.Text.{IsText, Among, part, at_line_start}
-use Rattle.lexmeaning.specs.Spec.{Spec, Rule, Statement, Echo, Print, Begin, More, Less, Reject, End, has_reject, EndAction, statements_at, rejects, any_reject}
+use Rattle.lexmeaning.specs.Text.{IsText, Among, AllBelow, part, at_line_start}
+use Rattle.lexmeaning.specs.Spec.{Spec, Rule, Statement, Echo, Print, Begin, More, Less, Reject, End, Push, Pop, has_reject, EndAction, statements_at, rejects, any_reject}
 use Rattle.lexmeaning.specs.Rules.{Rules, Full, rules_of, statements_of}
 use Rattle.lexmeaning.specs.Candidates.{Candidate, Before, IsCandidate, Candidates}
-use Rattle.lexmeaning.specs.Acting.{Ending, Status, Acting, Matched, Went, Done, Again, Over, act, settle, perform}
+use Rattle.lexmeaning.specs.Acting.{Ending, Status, StackFault, Acting, Matched, Went, Done, Again, Over, act, has_room, popped, settle, perform}
 use Rattle.lexmeaning.specs.Run.{Place, State, Turn, MatchTurn, EndTurn, NextFrom, Turns, Run}
 use Rattle.lexmeaning.specs.Demand.{AsksAt, Reach, AsksForEnd, FarFrom, Far, EndAsked}
 use Rattle.lexmeaning.specs.Scanned.{AfterTurns}
@@ -43,6 +43,14 @@ pub record Alike (all : Bool) (R Q : Rules) : Type 0 where
 
 -- actions
 
+full_quiet : (b : Bool) (a : Acting) (w : Went) (f g : Acting → Option Matched) → settle w f ≡ settle w g → settle (if b then w else Over a StackFault) f ≡ settle (if b then w else Over a StackFault) g
+full_quiet true a w f g h = h
+full_quiet false a w f g h = refl
+
+empty_quiet : (cs : List ℕ) (a : Acting) (next : ℕ → List ℕ → Went) (f g : Acting → Option Matched) → ((c : ℕ) (rest : List ℕ) → settle (next c rest) f ≡ settle (next c rest) g) → settle (popped cs a next) f ≡ settle (popped cs a next) g
+empty_quiet [] a next f g h = refl
+empty_quiet (c ∷ cs) a next f g h = h c cs
+
 settle_quiet : (ss : List Statement) (a : Acting) (f g : Acting → Option Matched) → has_reject ss ≡ false → settle (act ss a) f ≡ settle (act ss a) g
 settle_quiet [] a f g h = refl
 settle_quiet (Echo ∷ ss) a f g h = settle_quiet ss (record a { written = a.written ++ a.text }) f g h
@@ -55,46 +63,67 @@ settle_quiet (Reject ∷ ss) a f g h = absurd (no h)
     no : true ≡ false → ⊥
     no p = cc
 settle_quiet (End s ∷ ss) a f g h = refl
+settle_quiet (Push d ∷ ss) a f g h =
+    full_quiet (has_room a.stack) a (act ss (record a { condition = d; stack = a.condition ∷ a.stack })) f g (settle_quiet ss (record a { condition = d; stack = a.condition ∷ a.stack }) f g h)
+settle_quiet (Pop ∷ ss) a f g h =
+    empty_quiet a.stack a (λ c cs. act ss (record a { condition = c; stack = cs })) f g (λ c cs. settle_quiet ss (record a { condition = c; stack = cs }) f g h)
 
--- the condition that an action leaves
+-- a condition and a stack
+abbrev pub Below : ℕ → ℕ → List ℕ → Type 0
+Below n c cs = (c < n) × AllBelow n cs
+
+-- the conditions that an action leaves
 abbrev pub WentBelow : ℕ → Went → Type 0
-WentBelow n (Done a) = a.condition < n
-WentBelow n (Again a) = a.condition < n
-WentBelow n (Over a e) = a.condition < n
+WentBelow n (Done a) = Below n a.condition a.stack
+WentBelow n (Again a) = Below n a.condition a.stack
+WentBelow n (Over a e) = Below n a.condition a.stack
 
-pub act_below : (n : ℕ) (ss : List Statement) (a : Acting) → a.condition < n → BeginsBelow n ss → WentBelow n (act ss a)
+full_below : (n : ℕ) (b : Bool) (a : Acting) (w : Went) → Below n a.condition a.stack → WentBelow n w → WentBelow n (if b then w else Over a StackFault)
+full_below n true a w h k = k
+full_below n false a w h k = h
+
+empty_below : (n : ℕ) (cs : List ℕ) (a : Acting) (next : ℕ → List ℕ → Went) → Below n a.condition a.stack → AllBelow n cs → ((c : ℕ) (rest : List ℕ) → Below n c rest → WentBelow n (next c rest)) →
+    WentBelow n (popped cs a next)
+empty_below n [] a next h all k = h
+empty_below n (c ∷ cs) a next h all k = k c cs all
+
+pub act_below : (n : ℕ) (ss : List Statement) (a : Acting) → Below n a.condition a.stack → BeginsBelow n ss → WentBelow n (act ss a)
 act_below n [] a h k = h
 act_below n (Echo ∷ ss) a h k = act_below n ss (record a { written = a.written ++ a.text }) h k
 act_below n (Print s ∷ ss) a h k = act_below n ss (record a { written = a.written ++ s }) h k
-act_below n (Begin d ∷ ss) a h k = act_below n ss (record a { condition = d }) k.0 k.1
+act_below n (Begin d ∷ ss) a h k = act_below n ss (record a { condition = d }) (k.0, h.1) k.1
 act_below n (More ∷ ss) a h k = act_below n ss (record a { more = true }) h k
 act_below n (Less m ∷ ss) a h k = act_below n ss (record a { text = take m a.text }) h k
 act_below n (Reject ∷ ss) a h k = h
 act_below n (End s ∷ ss) a h k = h
+act_below n (Push d ∷ ss) a h k =
+    full_below n (has_room a.stack) a (act ss (record a { condition = d; stack = a.condition ∷ a.stack })) h (act_below n ss (record a { condition = d; stack = a.condition ∷ a.stack }) (k.0, h) k.1)
+act_below n (Pop ∷ ss) a h k =
+    empty_below n a.stack a (λ c cs. act ss (record a { condition = c; stack = cs })) h h.1 (λ c cs below. act_below n ss (record a { condition = c; stack = cs }) below k)
 
-settle_below : (n : ℕ) (w : Went) (f : Acting → Option Matched) (o : Matched) → WentBelow n w → ((a : Acting) → a.condition < n → f a ≡ Some o → o.after.condition < n) →
-    settle w f ≡ Some o → o.after.condition < n
-settle_below n (Done a) f o h later e = let same : record { after = a; ended = None } ≡ o = cc in subst (λ (z : Matched). z.after.condition < n) same h
+settle_below : (n : ℕ) (w : Went) (f : Acting → Option Matched) (o : Matched) → WentBelow n w → ((a : Acting) → Below n a.condition a.stack → f a ≡ Some o → Below n o.after.condition o.after.stack) →
+    settle w f ≡ Some o → Below n o.after.condition o.after.stack
+settle_below n (Done a) f o h later e = let same : record { after = a; ended = None } ≡ o = cc in subst (λ (z : Matched). Below n z.after.condition z.after.stack) same h
 settle_below n (Again a) f o h later e = later a h e
-settle_below n (Over a d) f o h later e = let same : record { after = a; ended = Some d } ≡ o = cc in subst (λ (z : Matched). z.after.condition < n) same h
+settle_below n (Over a d) f o h later e = let same : record { after = a; ended = Some d } ≡ o = cc in subst (λ (z : Matched). Below n z.after.condition z.after.stack) same h
 
 -- the statements of a rule, and the default rule's
 statements_below : (R : Rules) (i : ℕ) → ((j : ℕ) → j < R.count → BeginsBelow R.conditions (R.statements j)) → (i < R.count) ⊎ (R.count ≤ i) → BeginsBelow R.conditions (statements_of R i)
 statements_below R i h (inl lt) = subst (BeginsBelow R.conditions) (sym (cond-true (nat_lt i R.count) (R.statements i) (Echo ∷ []) (lt-ltb i R.count lt))) (h i lt)
 statements_below R i h (inr le) = subst (BeginsBelow R.conditions) (sym (cond-false (nat_lt i R.count) (R.statements i) (Echo ∷ []) (le-ltb i R.count le))) tt
 
-pub perform_below : (R : Rules) → ((j : ℕ) → j < R.count → BeginsBelow R.conditions (R.statements j)) → (kept y : List ℕ) (ms : List Candidate) (out : List ℕ) (c : ℕ) (o : Matched) →
-    c < R.conditions → perform R kept y ms out c ≡ Some o → o.after.condition < R.conditions
+pub perform_below : (R : Rules) → ((j : ℕ) → j < R.count → BeginsBelow R.conditions (R.statements j)) → (kept y : List ℕ) (ms : List Candidate) (out : List ℕ) (c : ℕ) (cs : List ℕ) (o : Matched) →
+    Below R.conditions c cs → perform R kept y ms out c cs ≡ Some o → Below R.conditions o.after.condition o.after.stack
 unfolding perform
-perform_below R h kept y [] out c o lt e = absurd (no e)
+perform_below R h kept y [] out c cs o lt e = absurd (no e)
   where
     no : None ≡ Some o → ⊥
     no p = cc
-perform_below R h kept y (m ∷ ms) out c o lt e =
-    let a : Acting = record { text = kept ++ take m.keep y; written = out; condition = c; more = false } in
-    settle_below R.conditions (act (statements_of R m.rule) a) (λ b. perform R kept y ms b.written b.condition) o
+perform_below R h kept y (m ∷ ms) out c cs o lt e =
+    let a : Acting = record { text = kept ++ take m.keep y; written = out; condition = c; stack = cs; more = false } in
+    settle_below R.conditions (act (statements_of R m.rule) a) (λ b. perform R kept y ms b.written b.condition b.stack) o
     (act_below R.conditions (statements_of R m.rule) a lt (statements_below R m.rule h (cases_lt m.rule R.count)))
-    (λ b below p. perform_below R h kept y ms b.written b.condition o below p) e
+    (λ b below p. perform_below R h kept y ms b.written b.condition b.stack o below p) e
 
 module _ (all : Bool) (R Q : Rules) (alike : Alike all R Q) where
   pub same_statements : (i : ℕ) → statements_of R i ≡ statements_of Q i
@@ -116,27 +145,27 @@ module _ (all : Bool) (R Q : Rules) (alike : Alike all R Q) where
   pub candidate_to : (c : ℕ) (bol : Bool) (y : List ℕ) (m : Candidate) → c < Q.conditions → IsText y → IsCandidate R c bol y m → IsCandidate Q c bol y m
   candidate_to c bol y m lt text h = record { inside = h.inside; fits = full_to c bol (take m.len y) m.rule m.keep lt (is_text_take m.len y text) h.fits }
 
-same_perform : (all : Bool) (R Q : Rules) (alike : Alike all R Q) (kept y : List ℕ) (ms : List Candidate) (out : List ℕ) (d : ℕ) → perform R kept y ms out d ≡ perform Q kept y ms out d
+same_perform : (all : Bool) (R Q : Rules) (alike : Alike all R Q) (kept y : List ℕ) (ms : List Candidate) (out : List ℕ) (d : ℕ) (cs : List ℕ) → perform R kept y ms out d cs ≡ perform Q kept y ms out d cs
 unfolding perform
-same_perform all R Q alike kept y [] out d = refl
-same_perform all R Q alike kept y (m ∷ ms) out d =
-    let a : Acting = record { text = kept ++ take m.keep y; written = out; condition = d; more = false } in
-    ap (λ ss. settle (act ss a) (λ b. perform R kept y ms b.written b.condition)) (same_statements all R Q alike m.rule)
-    ∙ settle_same (act (statements_of Q m.rule) a) (λ b. perform R kept y ms b.written b.condition) (λ b. perform Q kept y ms b.written b.condition)
-    (λ b. same_perform all R Q alike kept y ms b.written b.condition)
+same_perform all R Q alike kept y [] out d cs = refl
+same_perform all R Q alike kept y (m ∷ ms) out d cs =
+    let a : Acting = record { text = kept ++ take m.keep y; written = out; condition = d; stack = cs; more = false } in
+    ap (λ ss. settle (act ss a) (λ b. perform R kept y ms b.written b.condition b.stack)) (same_statements all R Q alike m.rule)
+    ∙ settle_same (act (statements_of Q m.rule) a) (λ b. perform R kept y ms b.written b.condition b.stack) (λ b. perform Q kept y ms b.written b.condition b.stack)
+    (λ b. same_perform all R Q alike kept y ms b.written b.condition b.stack)
 
 quiet_statements : (Q : Rules) → ((i : ℕ) → i < Q.count → has_reject (Q.statements i) ≡ false) → (i : ℕ) → (i < Q.count) ⊎ (Q.count ≤ i) → has_reject (statements_of Q i) ≡ false
 quiet_statements Q h i (inl lt) = ap has_reject (cond-true (nat_lt i Q.count) (Q.statements i) (Echo ∷ []) (lt-ltb i Q.count lt)) ∙ h i lt
 quiet_statements Q h i (inr le) = ap has_reject (cond-false (nat_lt i Q.count) (Q.statements i) (Echo ∷ []) (le-ltb i Q.count le))
 
 -- the first match decides, where no rule has REJECT
-head_performed : (R Q : Rules) (alike : Alike false R Q) (kept y : List ℕ) (m : Candidate) (ms ns : List Candidate) (out : List ℕ) (d : ℕ) →
-    perform R kept y (m ∷ ms) out d ≡ perform Q kept y (m ∷ ns) out d
+head_performed : (R Q : Rules) (alike : Alike false R Q) (kept y : List ℕ) (m : Candidate) (ms ns : List Candidate) (out : List ℕ) (d : ℕ) (cs : List ℕ) →
+    perform R kept y (m ∷ ms) out d cs ≡ perform Q kept y (m ∷ ns) out d cs
 unfolding perform
-head_performed R Q alike kept y m ms ns out d =
-    let a : Acting = record { text = kept ++ take m.keep y; written = out; condition = d; more = false } in
-    ap (λ ss. settle (act ss a) (λ b. perform R kept y ms b.written b.condition)) (same_statements false R Q alike m.rule)
-    ∙ settle_quiet (statements_of Q m.rule) a (λ b. perform R kept y ms b.written b.condition) (λ b. perform Q kept y ns b.written b.condition)
+head_performed R Q alike kept y m ms ns out d cs =
+    let a : Acting = record { text = kept ++ take m.keep y; written = out; condition = d; stack = cs; more = false } in
+    ap (λ ss. settle (act ss a) (λ b. perform R kept y ms b.written b.condition b.stack)) (same_statements false R Q alike m.rule)
+    ∙ settle_quiet (statements_of Q m.rule) a (λ b. perform R kept y ms b.written b.condition b.stack) (λ b. perform Q kept y ns b.written b.condition b.stack)
     (quiet_statements Q alike.matches.1 m.rule (cases_lt m.rule Q.count))
 
 candidate_from : (R Q : Rules) (alike : Alike true R Q) (c : ℕ) (bol : Bool) (y : List ℕ) (m : Candidate) → c < Q.conditions → IsText y → IsCandidate Q c bol y m → IsCandidate R c bol y m
@@ -167,66 +196,70 @@ first_from R Q alike c bol y n ns lt text h = record { inside = own.inside; fits
             let q : Candidate = record { len = n.len; rule = j; keep = l } in
             not_after q refl less ((h.members q).1 (record { inside = own.inside; fits = inl (omega (arith, less, f.0), g) }))
 
-nothing_performed : (R : Rules) (kept y : List ℕ) (d : ℕ) (o : Matched) → perform R kept y [] [] d ≡ Some o → ⊥
+nothing_performed : (R : Rules) (kept y : List ℕ) (d : ℕ) (cs : List ℕ) (o : Matched) → perform R kept y [] [] d cs ≡ Some o → ⊥
 unfolding perform
-nothing_performed R kept y d o e = no e
+nothing_performed R kept y d cs o e = no e
   where
     no : None ≡ Some o → ⊥
     no p = cc
 
-performed_to : (all : Bool) (R Q : Rules) (alike : Alike all R Q) (c : ℕ) (bol : Bool) (kept y : List ℕ) (ms ns : List Candidate) (d : ℕ) (o : Matched) → c < Q.conditions → IsText y →
-    Candidates R c bol y ms → Candidates Q c bol y ns → perform R kept y ms [] d ≡ Some o → perform Q kept y ns [] d ≡ Some o
-performed_to true R Q alike c bol kept y ms ns d o lt text p q e =
+performed_to : (all : Bool) (R Q : Rules) (alike : Alike all R Q) (c : ℕ) (bol : Bool) (kept y : List ℕ) (ms ns : List Candidate) (d : ℕ) (cs : List ℕ) (o : Matched) → c < Q.conditions → IsText y →
+    Candidates R c bol y ms → Candidates Q c bol y ns → perform R kept y ms [] d cs ≡ Some o → perform Q kept y ns [] d cs ≡ Some o
+performed_to true R Q alike c bol kept y ms ns d cs o lt text p q e =
     let same : ms ≡ ns = same_order ms ns p.in_order q.in_order (λ m. (
       λ a. (q.members m).1 (candidate_to true R Q alike c bol y m lt text ((p.members m).0 a)),
       λ a. (p.members m).1 (candidate_from R Q alike c bol y m lt text ((q.members m).0 a)),
     )) in
-    ap (λ z. perform Q kept y z [] d) (sym same) ∙ sym (same_perform true R Q alike kept y ms [] d) ∙ e
-performed_to false R Q alike c bol kept y [] ns d o lt text p q e = absurd (nothing_performed R kept y d o e)
-performed_to false R Q alike c bol kept y (m ∷ ms) [] d o lt text p q e = absurd ((q.members m).1 (candidate_to false R Q alike c bol y m lt text ((p.members m).0 (inl refl))))
-performed_to false R Q alike c bol kept y (m ∷ ms) (n ∷ ns) d o lt text p q e =
+    ap (λ z. perform Q kept y z [] d cs) (sym same) ∙ sym (same_perform true R Q alike kept y ms [] d cs) ∙ e
+performed_to false R Q alike c bol kept y [] ns d cs o lt text p q e = absurd (nothing_performed R kept y d cs o e)
+performed_to false R Q alike c bol kept y (m ∷ ms) [] d cs o lt text p q e = absurd ((q.members m).1 (candidate_to false R Q alike c bol y m lt text ((p.members m).0 (inl refl))))
+performed_to false R Q alike c bol kept y (m ∷ ms) (n ∷ ns) d cs o lt text p q e =
     let m_in : Among (n ∷ ns) m = (q.members m).1 (candidate_to false R Q alike c bol y m lt text ((p.members m).0 (inl refl))) in
     let n_in : Among (m ∷ ms) n = (p.members n).1 (first_from R Q alike c bol y n ns lt text q) in
     let same : m ≡ n = same_heads m n ms ns p.in_order q.in_order m_in n_in in
-    ap (λ z. perform Q kept y (z ∷ ns) [] d) (sym same) ∙ sym (head_performed R Q alike kept y m ms ns [] d) ∙ e
+    ap (λ z. perform Q kept y (z ∷ ns) [] d cs) (sym same) ∙ sym (head_performed R Q alike kept y m ms ns [] d cs) ∙ e
 
 -- turns
 
--- where a turn leads, the condition is in range
-abbrev pub Leads : Rules → List ℕ → Place → State → Type 0
-Leads Q x p s = Turn Q x p s × (s.place.condition < Q.conditions)
+-- the conditions of a place are in range
+abbrev pub PlaceBelow : Rules → Place → Type 0
+PlaceBelow Q p = Below Q.conditions p.condition p.stack
 
-match_to : (all : Bool) (R Q : Rules) (alike : Alike all R Q) (x : List ℕ) (p : Place) (s : State) → IsText x → p.condition < Q.conditions → MatchTurn R x p s → Leads Q x p s
+-- where a turn leads, the conditions are in range
+abbrev pub Leads : Rules → List ℕ → Place → State → Type 0
+Leads Q x p s = Turn Q x p s × PlaceBelow Q s.place
+
+match_to : (all : Bool) (R Q : Rules) (alike : Alike all R Q) (x : List ℕ) (p : Place) (s : State) → IsText x → PlaceBelow Q p → MatchTurn R x p s → Leads Q x p s
 match_to all R Q alike x p s text lt h =
     let bol : Bool = at_line_start x p.at in
     let y : List ℕ = drop p.at x in
     let listed = alike.exist p.condition bol y in
-    let done : perform Q (part x p.start p.at) y listed.0 [] p.condition ≡ Some h.outcome =
-    performed_to all R Q alike p.condition bol (part x p.start p.at) y h.matches listed.0 p.condition h.outcome lt (is_text_drop p.at x text) h.all listed.1 h.performed in
-    let below : h.outcome.after.condition < Q.conditions = perform_below Q alike.begins (part x p.start p.at) y listed.0 [] p.condition h.outcome lt done in (
+    let done : perform Q (part x p.start p.at) y listed.0 [] p.condition p.stack ≡ Some h.outcome =
+    performed_to all R Q alike p.condition bol (part x p.start p.at) y h.matches listed.0 p.condition p.stack h.outcome lt.0 (is_text_drop p.at x text) h.all listed.1 h.performed in
+    let below = perform_below Q alike.begins (part x p.start p.at) y listed.0 [] p.condition p.stack h.outcome lt done in (
       inl (record { before_end = h.before_end; matches = listed.0; all = listed.1; outcome = h.outcome; performed = done; leaves = h.leaves }),
-      subst (λ (z : State). z.place.condition < Q.conditions) (sym h.leaves) below,
+      subst (λ (z : State). PlaceBelow Q z.place) (sym h.leaves) below,
     )
 
-end_to : (all : Bool) (R Q : Rules) (alike : Alike all R Q) (x : List ℕ) (p : Place) (s : State) → p.condition < Q.conditions → EndTurn R x p s → Leads Q x p s
+end_to : (all : Bool) (R Q : Rules) (alike : Alike all R Q) (x : List ℕ) (p : Place) (s : State) → PlaceBelow Q p → EndTurn R x p s → Leads Q x p s
 end_to all R Q alike x p s lt h =
-    let make : EndAction → State = λ a. record { written = a.print; place = record { start = p.at; at = p.at; condition = p.condition }; ended = Some (Status a.status) } in
-    (inr (record { at_end = h.at_end; leaves = h.leaves ∙ ap make (alike.ending p.condition lt) }), subst (λ (z : State). z.place.condition < Q.conditions) (sym h.leaves) lt)
+    let make : EndAction → State = λ a. record { written = a.print; place = record { start = p.at; at = p.at; condition = p.condition; stack = p.stack }; ended = Some (Status a.status) } in
+    (inr (record { at_end = h.at_end; leaves = h.leaves ∙ ap make (alike.ending p.condition lt.0) }), subst (λ (z : State). PlaceBelow Q z.place) (sym h.leaves) lt)
 
-turn_to : (all : Bool) (R Q : Rules) (alike : Alike all R Q) (x : List ℕ) (p : Place) (s : State) → IsText x → p.condition < Q.conditions → Turn R x p s → Leads Q x p s
+turn_to : (all : Bool) (R Q : Rules) (alike : Alike all R Q) (x : List ℕ) (p : Place) (s : State) → IsText x → PlaceBelow Q p → Turn R x p s → Leads Q x p s
 turn_to all R Q alike x p s text lt (inl h) = match_to all R Q alike x p s text lt h
 turn_to all R Q alike x p s text lt (inr h) = end_to all R Q alike x p s lt h
 
-next_to : (all : Bool) (R Q : Rules) (alike : Alike all R Q) (x : List ℕ) (s t : State) (e : Option Ending) → IsText x → s.place.condition < Q.conditions → NextFrom R x s e t →
-    NextFrom Q x s e t × (t.place.condition < Q.conditions)
-next_to all R Q alike x s t (Some e) text lt h = (h, subst (λ (z : State). z.place.condition < Q.conditions) (sym h) lt)
+next_to : (all : Bool) (R Q : Rules) (alike : Alike all R Q) (x : List ℕ) (s t : State) (e : Option Ending) → IsText x → PlaceBelow Q s.place → NextFrom R x s e t →
+    NextFrom Q x s e t × PlaceBelow Q t.place
+next_to all R Q alike x s t (Some e) text lt h = (h, subst (λ (z : State). PlaceBelow Q z.place) (sym h) lt)
 next_to all R Q alike x s t None text lt (u, turn, is) =
     let k = turn_to all R Q alike x s.place u text lt turn in
-    ((u, k.0, is), subst (λ (z : State). z.place.condition < Q.conditions) (sym is) k.1)
+    ((u, k.0, is), subst (λ (z : State). PlaceBelow Q z.place) (sym is) k.1)
 
 -- n turns of R are n turns of Q
-pub turns_to : (all : Bool) (R Q : Rules) (alike : Alike all R Q) (x : List ℕ) (n : ℕ) (s : State) → IsText x → Turns R x n s → Turns Q x n s × (s.place.condition < Q.conditions)
-turns_to all R Q alike x zero s text h = (h, subst (λ (z : State). z.place.condition < Q.conditions) (sym h) alike.some_condition)
+pub turns_to : (all : Bool) (R Q : Rules) (alike : Alike all R Q) (x : List ℕ) (n : ℕ) (s : State) → IsText x → Turns R x n s → Turns Q x n s × PlaceBelow Q s.place
+turns_to all R Q alike x zero s text h = (h, subst (λ (z : State). PlaceBelow Q z.place) (sym h) (alike.some_condition, tt))
 turns_to all R Q alike x (suc n) s text (b, h, next) =
     let ih = turns_to all R Q alike x n b text h in
     let k = next_to all R Q alike x b s b.ended text ih.1 next in
@@ -263,14 +296,14 @@ module _ (all : Bool) (R Q : Rules) (alike : Alike all R Q) (x : List ℕ) (text
   far_to zero f h = h
   far_to (suc n) g (s, f, turns, far, step) =
       let k = turns_to all R Q alike x n s text turns in
-      (s, f, k.0, far_to n f far, far_from_to s s.ended f g k.1 step)
+      (s, f, k.0, far_to n f far, far_from_to s s.ended f g k.1.0 step)
 
   pub end_asked_to : (n : ℕ) → EndAsked R x n → EndAsked Q x n
   end_asked_to zero h = h
   end_asked_to (suc n) (inl h) = inl (end_asked_to n h)
   end_asked_to (suc n) (inr (s, turns, going, asks)) =
       let k = turns_to all R Q alike x n s text turns in
-      inr (s, k.0, going, end_asks_to s.place k.1 asks)
+      inr (s, k.0, going, end_asks_to s.place k.1.0 asks)
 
   pub end_asked_from : (n : ℕ) (s : State) → Turns R x n s → EndAsked Q x n → EndAsked R x n
   end_asked_from zero s turns h = h
@@ -278,7 +311,7 @@ module _ (all : Bool) (R Q : Rules) (alike : Alike all R Q) (x : List ℕ) (text
   end_asked_from (suc n) s (b, turns, next) (inr (t, other, going, asks)) =
       let k = turns_to all R Q alike x n b text turns in
       let same : t ≡ b = one_state Q x n t b other k.0 in
-      inr (b, turns, subst (λ (z : State). z.ended ≡ None) same going, end_asks_from b.place k.1 (subst (λ (z : State). AsksForEnd Q x z.place) same asks))
+      inr (b, turns, subst (λ (z : State). z.ended ≡ None) same going, end_asks_from b.place k.1.0 (subst (λ (z : State). AsksForEnd Q x z.place) same asks))
 
   -- how a scan over R stands is how one over Q stands
   pub after_to : (n : ℕ) (s : State) (far : ℕ) (e : Bool) → AfterTurns R x n s far e → AfterTurns Q x n s far e

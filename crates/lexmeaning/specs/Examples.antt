@@ -2,14 +2,18 @@
 use Rattle.std.specs.Prelude.{ℕ, Bool, true, false, List, [], ◌∷◌, ◌++◌, Some, None, codes, replicate, if◌then◌else◌}
 use Rattle.lexmeaning.specs.ByteSets.{single, range_set, union, complement, fold_case}
 use Rattle.lexmeaning.specs.Tree.{Tree, Trees, Empty, Set, Cat, Alt, Star, Repeat, no_trees, tree}
-use Rattle.lexmeaning.specs.Spec.{Spec, Rule, Condition, Cut, Whole, Head, Trail, Statement, Echo, Print, Begin, More, Less, Reject, End}
+use Rattle.lexmeaning.specs.Spec.{Spec, Rule, Condition, Cut, Whole, Head, Trail, Statement, Echo, Print, Begin, More, Less, Reject, End, Push, Pop}
 use Rattle.lexmeaning.specs.Rules.{rules_of}
-use Rattle.lexmeaning.specs.Acting.{Status}
+use Rattle.lexmeaning.specs.Acting.{Status, StackFault}
 use Rattle.lexmeaning.specs.Run.{Run}
 
 -- what a specification writes of an input, and with which status it ends
 abbrev pub Writes : Spec → (input written : List ℕ) → (status : ℕ) → Type 0
 Writes S input written status = Run (rules_of S) input written (Status status)
+
+-- what it writes of an input until the stack of conditions is at fault
+abbrev pub Faults : Spec → (input written : List ℕ) → Type 0
+Faults S input written = Run (rules_of S) input written StackFault
 
 abbrev pub letter : ℕ → Tree
 letter b = Set (single b)
@@ -178,3 +182,30 @@ many = Repeat (letter 97) 1 None
 
 abbrev pub one_and_any : Tree
 one_and_any = Cat (tree (letter 97) (tree (Star (letter 97)) no_trees))
+
+-- `a printf("A"); yy_pop_state(); printf("B");`
+abbrev pub pops_nothing : Spec
+pops_nothing = of_rules (rule (letter 97) (Print (codes "A") ∷ Pop ∷ Print (codes "B") ∷ []) ∷ [])
+
+-- `a yy_push_state(0);`
+abbrev pub only_pushes : Spec
+only_pushes = of_rules (rule (letter 97) (Push 0 ∷ []) ∷ [])
+
+-- `%x C D`; `a BEGIN(C); yy_push_state(D);`, `<D>b yy_pop_state();` and `<C>c printf("C");`
+abbrev pub pushes_after_begin : Spec
+pushes_after_begin = record {
+  conditions = initial ∷ condition (codes "C") true [] 0 ∷ condition (codes "D") true [] 0 ∷ [];
+  rules = rule (letter 97) (Begin 1 ∷ Push 2 ∷ []) ∷ rule_in (2 ∷ []) (letter 98) (Pop ∷ []) ∷ rule_in (1 ∷ []) (letter 99) (Print (codes "C") ∷ []) ∷ [];
+}
+
+-- `%x C`; `"(" printf("<"); yy_push_state(C);`, `<C>"(" printf("<"); yy_push_state(C);` and `<C>")" printf(">"); yy_pop_state();`
+abbrev pub parentheses : Spec
+parentheses = record {
+  conditions = initial ∷ condition (codes "C") true [] 0 ∷ [];
+  rules = rule (letter 40) (Print (codes "<") ∷ Push 1 ∷ []) ∷ rule_in (1 ∷ []) (letter 40) (Print (codes "<") ∷ Push 1 ∷ [])
+      ∷ rule_in (1 ∷ []) (letter 41) (Print (codes ">") ∷ Pop ∷ []) ∷ [];
+}
+
+-- `ab yy_push_state(0); REJECT;` and `a printf("A"); yy_pop_state();`
+abbrev pub rejects_after_push : Spec
+rejects_after_push = of_rules (rule (string (codes "ab")) (Push 0 ∷ Reject ∷ []) ∷ rule (letter 97) (Print (codes "A") ∷ Pop ∷ []) ∷ [])

@@ -120,14 +120,14 @@ Listing = ℕ → Bool → List ℕ → Option (List Candidate)
 abbrev pub perform_at : Rules → List ℕ → State → Option (List Candidate) → Option State
 perform_at R x s None = None
 perform_at R x s (Some ms) =
-    after_match s (perform R (part x s.place.start s.place.at) (drop s.place.at x) ms [] s.place.condition)
+    after_match s (perform R (part x s.place.start s.place.at) (drop s.place.at x) ms [] s.place.condition s.place.stack)
 
 abbrev pub after_end : Rules → State → State
 after_end R s =
     let action = R.ending s.place.condition in
     record {
       written = s.written ++ action.print;
-      place = record { start = s.place.at; at = s.place.at; condition = s.place.condition };
+      place = record { start = s.place.at; at = s.place.at; condition = s.place.condition; stack = s.place.stack };
       ended = Some (Status action.status);
     }
 

@@ -6,11 +6,12 @@ use Rattle.lexmeaning.specs.Rules.{Rules}
 use Rattle.lexmeaning.specs.Candidates.{Candidate, Candidates}
 use Rattle.lexmeaning.specs.Acting.{Ending, Status, Matched, perform}
 
--- where the current text starts, how far the input is matched, and the condition
+-- where the current text starts, how far the input is matched, the condition, and the stack of conditions from its top down
 pub record Place : Type 0 where
   pub start : ℕ
   pub at : ℕ
   pub condition : ℕ
+  pub stack : List ℕ
 
 -- what was written, the place, and how the scan has ended, if it has
 pub record State : Type 0 where
@@ -19,7 +20,7 @@ pub record State : Type 0 where
   pub ended : Option Ending
 
 abbrev pub first_place : Place
-first_place = record { start = 0; at = 0; condition = 0 }
+first_place = record { start = 0; at = 0; condition = 0; stack = [] }
 
 abbrev pub first_state : State
 first_state = record { written = []; place = first_place; ended = None }
@@ -32,7 +33,7 @@ next_start None more start end = if more then start else end
 abbrev pub next_place : Place → Matched → Place
 next_place p o =
     let end = p.start + length o.after.text in
-    record { start = next_start o.ended o.after.more p.start end; at = end; condition = o.after.condition }
+    record { start = next_start o.ended o.after.more p.start end; at = end; condition = o.after.condition; stack = o.after.stack }
 
 -- a match at a place, with its actions
 pub record MatchTurn (R : Rules) (x : List ℕ) (p : Place) (s : State) : Type 0 where
@@ -40,7 +41,7 @@ pub record MatchTurn (R : Rules) (x : List ℕ) (p : Place) (s : State) : Type 0
   pub matches : List Candidate
   pub all : Candidates R p.condition (at_line_start x p.at) (drop p.at x) matches
   pub outcome : Matched
-  pub performed : perform R (part x p.start p.at) (drop p.at x) matches [] p.condition ≡ Some outcome
+  pub performed : perform R (part x p.start p.at) (drop p.at x) matches [] p.condition p.stack ≡ Some outcome
   pub leaves : s ≡ record { written = outcome.after.written; place = next_place p outcome; ended = outcome.ended }
 
 -- the end action of the condition
@@ -48,7 +49,7 @@ pub record EndTurn (R : Rules) (x : List ℕ) (p : Place) (s : State) : Type 0 w
   pub at_end : p.at ≡ length x
   pub leaves : s ≡ record {
     written = (R.ending p.condition).print;
-    place = record { start = p.at; at = p.at; condition = p.condition };
+    place = record { start = p.at; at = p.at; condition = p.condition; stack = p.stack };
     ended = Some (Status (R.ending p.condition).status);
   }
 

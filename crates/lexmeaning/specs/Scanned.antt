@@ -30,7 +30,7 @@ pub record Seen (R : Rules) (given : List ℕ) (p : Place) (r : ℕ) : Type 0 wh
   pub matches : List Candidate
   pub all : Candidates R p.condition (at_line_start given p.at) (take r (drop p.at given)) matches
   pub outcome : Matched
-  pub performed : perform R (part given p.start p.at) (take r (drop p.at given)) matches [] p.condition ≡ Some outcome
+  pub performed : perform R (part given p.start p.at) (take r (drop p.at given)) matches [] p.condition p.stack ≡ Some outcome
 
 abbrev pub seen_turn : (p : Place) → Matched → State
 seen_turn p o = record { written = o.after.written; place = next_place p o; ended = o.ended }

@@ -19,6 +19,10 @@ pub data Statement : Type 0 where
   Reject : Statement
   -- ends the scan with this status (`yyterminate`, `exit`)
   End : ℕ → Statement
+  -- puts the condition of the next match on the stack, and this one in its place (`yy_push_state`)
+  Push : ℕ → Statement
+  -- takes the condition of the next match from the stack (`yy_pop_state`)
+  Pop : Statement
 
 -- what is done at the end of the input: bytes that are written, and the scan's status
 pub record EndAction : Type 0 where

@@ -1,6 +1,6 @@
 //! Worked examples.
 
-ghost use Rattle.std.specs.Prelude.{ℕ, Bool, true, false, List, [], ◌∷◌, ◌++◌, codes};
+ghost use Rattle.std.specs.Prelude.{ℕ, Bool, true, false, List, [], ◌∷◌, ◌++◌, codes, replicate};
 ghost use Rattle.lexmeaning.specs.Spec.{Head, Trail};
 ghost use Rattle.lexmeaning.specs.Sound.{IsSound};
 ghost use Rattle.lexmeaning.specs.Reports.{Useless, BackWord};
@@ -41,6 +41,16 @@ pub fn examples_of_places()
     ensures open_comment { E.Writes E.comments (codes "a/*b*/c/*d") (codes "acopen") 3 }
     ensures exclusive { E.Writes (E.switched true) (codes "abcb") (codes "bB") 0 }
     ensures inclusive { E.Writes (E.switched false) (codes "abcb") (codes "BB") 0 }
+{}
+
+/// The stack of conditions: what a push puts there and a pop takes, when they are at fault, and that REJECT keeps it.
+pub fn examples_of_stacks()
+    ensures nested { E.Writes E.parentheses (codes "(a())b") (codes "<a<>>b") 0 }
+    ensures pushes_the_next { E.Writes E.pushes_after_begin (codes "abc") (codes "C") 0 }
+    ensures empty { E.Faults E.pops_nothing (codes "xa") (codes "xA") }
+    ensures full { E.Writes E.only_pushes (replicate 255 97) [] 0 }
+    ensures over_full { E.Faults E.only_pushes (replicate 256 97) [] }
+    ensures kept_by_reject { E.Writes E.rejects_after_push (codes "ab") (codes "Ab") 0 }
 {}
 
 /// How scans end.

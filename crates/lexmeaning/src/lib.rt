@@ -16,7 +16,7 @@ pub use demand::{
 pub use examples::{
     examples_of_actions, examples_of_demand, examples_of_ends, examples_of_machines,
     examples_of_matching, examples_of_places, examples_of_reports, examples_of_same_rules,
-    examples_of_soundness,
+    examples_of_soundness, examples_of_stacks,
 };
 pub use knowledge::{
     begins_the_run, known_after_end, known_after_match, known_after_match_at_end, known_at_first,

@@ -16,9 +16,10 @@ use Rattle.lexmeaning.specs.PlainMachine.{kept_by, match_of}
 use Rattle.lexmeaning.specs.Trail.{falling}
 use Rattle.lexmeaning.proofs.Falling.{settle_adds, perform_adds, acting_after, falling-snoc}
 use Rattle.lexscan.specs.declared.act.Acting.{Acting}
+use Rattle.lexscan.specs.declared.act.Finish.{Finish}
 use Rattle.lexscan.specs.declared.act.Step.{Step}
 use Rattle.lexscan.specs.Acts.{acting_of, after_step, written_of, Carried, CutShort}
-use Rattle.lexscan.specs.Descends.{outcome, matches_of, Passed, Tried, CutOff, CutAll, Performed, ending_of}
+use Rattle.lexscan.specs.Descends.{Conditions, conditions_of, conditions_in, outcome, matches_of, Passed, Tried, CutOff, CutAll, Performed, finished_of}
 use Rattle.lexscan.proofs.Growing.{take_one_more}
 use Rattle.lexmeaning.specs.Plain.{default_match}
 
@@ -40,15 +41,15 @@ settle_stop Step.Again a f g never = absurd (never refl)
 settle_stop (Step.Over s) a f g never = refl
 
 -- what the action of a match starts from
-abbrev pub start_of : (at keep condition : ℕ) → Acting
-start_of at keep condition = record { end = at + keep; condition = condition; more = false }
+abbrev pub start_of : (at keep : ℕ) → Conditions → Acting
+start_of at keep c = record { end = at + keep; condition = c.next; stack = c.stack; more = false }
 
-pub head_outcome : (M : Machine) (w : List ℕ) (at : ℕ) (m : Candidate) (ms : List Candidate) (before : List ℕ) (c : ℕ) →
-    outcome M w at (m ∷ ms) before c ≡ settle (act (statements_of (rules_of_machine M) m.rule) (acting_of w (start_of at m.keep c) before)) (λ a. outcome M w at ms a.written a.condition)
+pub head_outcome : (M : Machine) (w : List ℕ) (at : ℕ) (m : Candidate) (ms : List Candidate) (before : List ℕ) (c : Conditions) →
+    outcome M w at (m ∷ ms) before c ≡ settle (act (statements_of (rules_of_machine M) m.rule) (acting_of w (start_of at m.keep c) before)) (λ a. outcome M w at ms a.written (conditions_in a))
 unfolding perform
 head_outcome M w at m ms before c =
     let text : take at w ++ take m.keep (drop at w) ≡ take (at + m.keep) w = sym (take-add at m.keep w) in
-    ap (λ t. settle (act (statements_of (rules_of_machine M) m.rule) (record { text = t; written = before; condition = c; more = false })) (λ a. outcome M w at ms a.written a.condition)) text
+    ap (λ t. settle (act (statements_of (rules_of_machine M) m.rule) (record { text = t; written = before; condition = c.next; stack = c.stack; more = false })) (λ a. outcome M w at ms a.written (conditions_in a))) text
 
 pub statements_are : (M : Machine) (i : ℕ) → i < M.count → statements_of (rules_of_machine M) i ≡ M.statements i
 statements_are M i lt = cond-true (nat_lt i M.count) (M.statements i) (Echo ∷ []) (lt-ltb i M.count lt)
@@ -57,11 +58,11 @@ pub default_is : (M : Machine) → statements_of (rules_of_machine M) M.count �
 default_is M = cond-false (nat_lt M.count M.count) (M.statements M.count) (Echo ∷ []) (le-ltb M.count M.count (omega arith))
 
 module _ {K : Type 0} (M : Machine) (wrote : K → List ℕ → K → Type 0) (none : (s : K) → wrote s [] s) (join : (s t u : K) (xs ys : List ℕ) → wrote s xs t → wrote t ys u → wrote s (xs ++ ys) u) (w : List ℕ) (at : ℕ) where
-  pub passed_first : (s : K) (all : List Candidate) (c : ℕ) → Passed M wrote s s w at all all c c
+  pub passed_first : (s : K) (all : List Candidate) (c : Conditions) → Passed M wrote s s w at all all c c
   passed_first s all c = record { out = []; sink = none s; acts = λ before rest. ap (λ z. outcome M w at (all ++ rest) z c) (sym (append-nil before)) }
 
   -- a rule whose cut does not fit
-  pub passed_skip : (s t : K) (all : List Candidate) (rules : List ℕ) (i len c d : ℕ) → i < length rules → kept_by (M.cut (get_or rules i 0)) len ≡ None →
+  pub passed_skip : (s t : K) (all : List Candidate) (rules : List ℕ) (i len : ℕ) (c d : Conditions) → i < length rules → kept_by (M.cut (get_or rules i 0)) len ≡ None →
       Passed M wrote s t w at all (filter_map (match_of M len) (drop i rules)) c d → Passed M wrote s t w at all (filter_map (match_of M len) (drop (i + 1) rules)) c d
   passed_skip s t all rules i len c d lt e h =
       subst (λ l. Passed M wrote s t w at all l c d) (ap (filter_map (match_of M len)) (drop_more rules i 0 lt) ∙ no_match M len (get_or rules i 0) (drop (i + 1) rules) e) h
@@ -71,10 +72,10 @@ module _ {K : Type 0} (M : Machine) (wrote : K → List ℕ → K → Type 0) (n
   left_match rules i len keep lt e = ap (filter_map (match_of M len)) (drop_more rules i 0 lt) ∙ one_match M len (get_or rules i 0) keep (drop (i + 1) rules) e
 
   -- the next match, where its action was carried out
-  acted : (s t u : K) (all : List Candidate) (rules : List ℕ) (i len keep c d : ℕ) (ss : List Statement) (new : Acting) (step : Step) → i < length rules → get_or rules i 0 < M.count →
+  acted : (s t u : K) (all : List Candidate) (rules : List ℕ) (i len keep : ℕ) (c d : Conditions) (ss : List Statement) (new : Acting) (step : Step) → i < length rules → get_or rules i 0 < M.count →
       kept_by (M.cut (get_or rules i 0)) len ≡ Some keep → ss ≡ M.statements (get_or rules i 0) → (h : Passed M wrote s t w at all (filter_map (match_of M len) (drop i rules)) c d) →
       (k : Carried wrote t u w ss (start_of at keep d) new step) → (before : List ℕ) (rest : List Candidate) →
-      outcome M w at (all ++ rest) before c ≡ settle (after_step step [] (acting_of w new (before ++ (h.out ++ k.out)))) (λ a. outcome M w at (filter_map (match_of M len) (drop (i + 1) rules) ++ rest) a.written a.condition)
+      outcome M w at (all ++ rest) before c ≡ settle (after_step step [] (acting_of w new (before ++ (h.out ++ k.out)))) (λ a. outcome M w at (filter_map (match_of M len) (drop (i + 1) rules) ++ rest) a.written (conditions_in a))
   acted s t u all rules i len keep c d ss new step lt below e same h k before rest =
       h.acts before rest ∙ ap (λ l. outcome M w at (l ++ rest) (before ++ h.out) d) (left_match rules i len keep lt e)
       ∙ head_outcome M w at (record { len = len; rule = get_or rules i 0; keep = keep }) (filter_map (match_of M len) (drop (i + 1) rules) ++ rest) (before ++ h.out) d
@@ -83,40 +84,40 @@ module _ {K : Type 0} (M : Machine) (wrote : K → List ℕ → K → Type 0) (n
       ∙ ap (λ z. settle (after_step step [] (acting_of w new z)) f) (append_assoc before h.out k.out)
     where
       f : Scan.Acting → Option Matched
-      f a = outcome M w at (filter_map (match_of M len) (drop (i + 1) rules) ++ rest) a.written a.condition
+      f a = outcome M w at (filter_map (match_of M len) (drop (i + 1) rules) ++ rest) a.written (conditions_in a)
 
-  pub passed_again : (s t u : K) (all : List Candidate) (rules : List ℕ) (i len keep c d : ℕ) (ss : List Statement) (new : Acting) → i < length rules → get_or rules i 0 < M.count →
+  pub passed_again : (s t u : K) (all : List Candidate) (rules : List ℕ) (i len keep : ℕ) (c d : Conditions) (ss : List Statement) (new : Acting) → i < length rules → get_or rules i 0 < M.count →
       kept_by (M.cut (get_or rules i 0)) len ≡ Some keep → ss ≡ M.statements (get_or rules i 0) → Passed M wrote s t w at all (filter_map (match_of M len) (drop i rules)) c d →
-      Carried wrote t u w ss (start_of at keep d) new Step.Again → Passed M wrote s u w at all (filter_map (match_of M len) (drop (i + 1) rules)) c new.condition
+      Carried wrote t u w ss (start_of at keep d) new Step.Again → Passed M wrote s u w at all (filter_map (match_of M len) (drop (i + 1) rules)) c (conditions_of new)
   passed_again s t u all rules i len keep c d ss new lt below e same h k = record {
     out = h.out ++ k.out;
     sink = join s t u h.out k.out h.sink k.sink;
     acts = λ before rest. acted s t u all rules i len keep c d ss new Step.Again lt below e same h k before rest;
   }
 
-  pub tried_stop : (s t u : K) (all : List Candidate) (rules : List ℕ) (i len keep c d : ℕ) (ss : List Statement) (new : Acting) (step : Step) → (step ≡ Step.Again → ⊥) → i < length rules → get_or rules i 0 < M.count →
+  pub tried_stop : (s t u : K) (all : List Candidate) (rules : List ℕ) (i len keep : ℕ) (c d : Conditions) (ss : List Statement) (new : Acting) (step : Step) → (step ≡ Step.Again → ⊥) → i < length rules → get_or rules i 0 < M.count →
       kept_by (M.cut (get_or rules i 0)) len ≡ Some keep → ss ≡ M.statements (get_or rules i 0) → Passed M wrote s t w at all (filter_map (match_of M len) (drop i rules)) c d →
       Carried wrote t u w ss (start_of at keep d) new step → Tried M wrote s u w at all c new step
   tried_stop s t u all rules i len keep c d ss new step never lt below e same h k = record {
     out = h.out ++ k.out;
     sink = join s t u h.out k.out h.sink k.sink;
     acts = λ before rest. acted s t u all rules i len keep c d ss new step lt below e same h k before rest
-        ∙ settle_stop step (acting_of w new (before ++ (h.out ++ k.out))) (λ a. outcome M w at (filter_map (match_of M len) (drop (i + 1) rules) ++ rest) a.written a.condition) (λ a. outcome M w at rest a.written a.condition) never;
+        ∙ settle_stop step (acting_of w new (before ++ (h.out ++ k.out))) (λ a. outcome M w at (filter_map (match_of M len) (drop (i + 1) rules) ++ rest) a.written (conditions_in a)) (λ a. outcome M w at rest a.written (conditions_in a)) never;
   }
 
   -- or cut short
-  pub cut_front : (t u : K) (m : Candidate) (ms : List Candidate) (d : ℕ) (ss : List Statement) → ss ≡ statements_of (rules_of_machine M) m.rule → (k : CutShort wrote t u w ss (start_of at m.keep d)) →
+  pub cut_front : (t u : K) (m : Candidate) (ms : List Candidate) (d : Conditions) (ss : List Statement) → ss ≡ statements_of (rules_of_machine M) m.rule → (k : CutShort wrote t u w ss (start_of at m.keep d)) →
       (before : List ℕ) (o : Matched) → outcome M w at (m ∷ ms) before d ≡ Some o → BeginsWith o.after.written (before ++ k.out)
   cut_front t u m ms d ss same k before o e =
-      settle_adds went (λ a. outcome M w at ms a.written a.condition) (before ++ k.out) o
+      settle_adds went (λ a. outcome M w at ms a.written (conditions_in a)) (before ++ k.out) o
       (subst (λ z. BeginsWith z (before ++ k.out)) (sym (written_same went)) (k.front before))
-      (λ a p. perform_adds (rules_of_machine M) (take at w) (drop at w) ms a.written a.condition o p)
-      (ap (λ l. settle (act l (acting_of w (start_of at m.keep d) before)) (λ a. outcome M w at ms a.written a.condition)) same ∙ sym (head_outcome M w at m ms before d) ∙ e)
+      (λ a p. perform_adds (rules_of_machine M) (take at w) (drop at w) ms a.written a.condition a.stack o p)
+      (ap (λ l. settle (act l (acting_of w (start_of at m.keep d) before)) (λ a. outcome M w at ms a.written (conditions_in a))) same ∙ sym (head_outcome M w at m ms before d) ∙ e)
     where
       went : Went
       went = act ss (acting_of w (start_of at m.keep d) before)
 
-  pub cut_here : (s t u : K) (all : List Candidate) (rules : List ℕ) (i len keep c d : ℕ) (ss : List Statement) → i < length rules → get_or rules i 0 < M.count →
+  pub cut_here : (s t u : K) (all : List Candidate) (rules : List ℕ) (i len keep : ℕ) (c d : Conditions) (ss : List Statement) → i < length rules → get_or rules i 0 < M.count →
       kept_by (M.cut (get_or rules i 0)) len ≡ Some keep → ss ≡ M.statements (get_or rules i 0) → Passed M wrote s t w at all (filter_map (match_of M len) (drop i rules)) c d →
       CutShort wrote t u w ss (start_of at keep d) → CutOff M wrote s u w at all c
   cut_here s t u all rules i len keep c d ss lt below e same h k = record {
@@ -133,12 +134,12 @@ among_get [] i lt = absurd (omega (arith, lt))
 among_get (b ∷ l) zero lt = inl refl
 among_get (b ∷ l) (suc i) lt = inr (among_get l i (omega (arith, lt)))
 
-abbrev pub ended_by : Step → Option ℕ
+abbrev pub ended_by : Step → Option Finish
 ended_by Step.Next = None
 ended_by Step.Again = None
-ended_by (Step.Over s) = Some s
+ended_by (Step.Over f) = Some f
 
-pub settled : (step : Step) (a : Scan.Acting) (f : Scan.Acting → Option Matched) → (step ≡ Step.Again → ⊥) → settle (after_step step [] a) f ≡ Some (record { after = a; ended = ending_of (ended_by step) })
+pub settled : (step : Step) (a : Scan.Acting) (f : Scan.Acting → Option Matched) → (step ≡ Step.Again → ⊥) → settle (after_step step [] a) f ≡ Some (record { after = a; ended = finished_of (ended_by step) })
 settled Step.Next a f never = refl
 settled Step.Again a f never = absurd (never refl)
 settled (Step.Over s) a f never = refl
@@ -159,32 +160,32 @@ module _ {K : Type 0} (M : Machine) (wrote : K → List ℕ → K → Type 0) (j
   abbrev pub here : ℕ → List Candidate
   here n = filter_map (match_of M (n + 1)) (M.accepts (get_or trail n 0))
 
-  state_acts : (s t u : K) (n c d : ℕ) (new : Acting) (step : Step) → n < length trail → (h : Passed M wrote s t w at (falling M 0 trail) (falling M 0 (take (n + 1) trail)) c d) → (k : Tried M wrote t u w at (here n) d new step) →
+  state_acts : (s t u : K) (n : ℕ) (c d : Conditions) (new : Acting) (step : Step) → n < length trail → (h : Passed M wrote s t w at (falling M 0 trail) (falling M 0 (take (n + 1) trail)) c d) → (k : Tried M wrote t u w at (here n) d new step) →
       (before : List ℕ) (rest : List Candidate) → outcome M w at (falling M 0 trail ++ rest) before c
-      ≡ settle (after_step step [] (acting_of w new (before ++ (h.out ++ k.out)))) (λ a. outcome M w at (falling M 0 (take n trail) ++ rest) a.written a.condition)
+      ≡ settle (after_step step [] (acting_of w new (before ++ (h.out ++ k.out)))) (λ a. outcome M w at (falling M 0 (take n trail) ++ rest) a.written (conditions_in a))
   state_acts s t u n c d new step lt h k before rest =
       h.acts before rest ∙ ap (λ l. outcome M w at (l ++ rest) (before ++ h.out) d) (falling_take M trail n lt) ∙ ap (λ l. outcome M w at l (before ++ h.out) d) (append_assoc (here n) (falling M 0 (take n trail)) rest)
       ∙ k.acts (before ++ h.out) (falling M 0 (take n trail) ++ rest)
-      ∙ ap (λ z. settle (after_step step [] (acting_of w new z)) (λ a. outcome M w at (falling M 0 (take n trail) ++ rest) a.written a.condition)) (append_assoc before h.out k.out)
+      ∙ ap (λ z. settle (after_step step [] (acting_of w new z)) (λ a. outcome M w at (falling M 0 (take n trail) ++ rest) a.written (conditions_in a))) (append_assoc before h.out k.out)
 
-  pub state_passed : (s t u : K) (n c d : ℕ) (new : Acting) → n < length trail → Passed M wrote s t w at (falling M 0 trail) (falling M 0 (take (n + 1) trail)) c d → Tried M wrote t u w at (here n) d new Step.Again →
-      Passed M wrote s u w at (falling M 0 trail) (falling M 0 (take n trail)) c new.condition
+  pub state_passed : (s t u : K) (n : ℕ) (c d : Conditions) (new : Acting) → n < length trail → Passed M wrote s t w at (falling M 0 trail) (falling M 0 (take (n + 1) trail)) c d → Tried M wrote t u w at (here n) d new Step.Again →
+      Passed M wrote s u w at (falling M 0 trail) (falling M 0 (take n trail)) c (conditions_of new)
   state_passed s t u n c d new lt h k = record {
     out = h.out ++ k.out;
     sink = join s t u h.out k.out h.sink k.sink;
     acts = λ before rest. state_acts s t u n c d new Step.Again lt h k before rest;
   }
 
-  pub state_stop : (s t u : K) (n c d : ℕ) (new : Acting) (step : Step) → (step ≡ Step.Again → ⊥) → n < length trail → Passed M wrote s t w at (falling M 0 trail) (falling M 0 (take (n + 1) trail)) c d → Tried M wrote t u w at (here n) d new step →
-      Performed M wrote s u w at (matches_of M w at trail) c new (ended_by step)
+  pub state_stop : (s t u : K) (n : ℕ) (c d : Conditions) (new : Acting) (step : Step) → (step ≡ Step.Again → ⊥) → n < length trail → Passed M wrote s t w at (falling M 0 trail) (falling M 0 (take (n + 1) trail)) c d → Tried M wrote t u w at (here n) d new step →
+      Performed M wrote s u w at (matches_of M w at trail) c new (finished_of (ended_by step))
   state_stop s t u n c d new step never lt h k = record {
     out = h.out ++ k.out;
     sink = join s t u h.out k.out h.sink k.sink;
     acts = λ before. state_acts s t u n c d new step lt h k before (default_match M.count (drop at w))
-        ∙ settled step (acting_of w new (before ++ (h.out ++ k.out))) (λ a. outcome M w at (falling M 0 (take n trail) ++ default_match M.count (drop at w)) a.written a.condition) never;
+        ∙ settled step (acting_of w new (before ++ (h.out ++ k.out))) (λ a. outcome M w at (falling M 0 (take n trail) ++ default_match M.count (drop at w)) a.written (conditions_in a)) never;
   }
 
-  pub state_cut : (s t u : K) (n c d : ℕ) → n < length trail → Passed M wrote s t w at (falling M 0 trail) (falling M 0 (take (n + 1) trail)) c d → CutOff M wrote t u w at (here n) d → CutAll M wrote s u w at (matches_of M w at trail) c
+  pub state_cut : (s t u : K) (n : ℕ) (c d : Conditions) → n < length trail → Passed M wrote s t w at (falling M 0 trail) (falling M 0 (take (n + 1) trail)) c d → CutOff M wrote t u w at (here n) d → CutAll M wrote s u w at (matches_of M w at trail) c
   state_cut s t u n c d lt h k = record {
     out = h.out ++ k.out;
     sink = join s t u h.out k.out h.sink k.sink;
@@ -197,7 +198,7 @@ module _ {K : Type 0} (M : Machine) (wrote : K → List ℕ → K → Type 0) (j
   }
 
   -- the default match
-  default_acts : (s t : K) (c d : ℕ) → at < length w → (h : Passed M wrote s t w at (falling M 0 trail) [] c d) → (before : List ℕ) (rest : List Candidate) →
+  default_acts : (s t : K) (c d : Conditions) → at < length w → (h : Passed M wrote s t w at (falling M 0 trail) [] c d) → (before : List ℕ) (rest : List Candidate) →
       outcome M w at ((falling M 0 trail ++ default_match M.count (drop at w)) ++ rest) before c ≡ Some (record { after = acting_of w (start_of at 1 d) (before ++ (h.out ++ take (at + 1) w)); ended = None })
   default_acts s t c d lt h before rest =
       let some : 1 ≤ length (drop at w) = omega (arith, length-drop at w, lt) in
@@ -206,17 +207,17 @@ module _ {K : Type 0} (M : Machine) (wrote : K → List ℕ → K → Type 0) (j
       ∙ h.acts before (default_match M.count (drop at w) ++ rest)
       ∙ ap (λ l. outcome M w at (l ++ rest) (before ++ h.out) d) (default_one M (drop at w) some)
       ∙ head_outcome M w at one rest (before ++ h.out) d
-      ∙ ap (λ l. settle (act l (acting_of w (start_of at 1 d) (before ++ h.out))) (λ a. outcome M w at rest a.written a.condition)) (default_is M)
+      ∙ ap (λ l. settle (act l (acting_of w (start_of at 1 d) (before ++ h.out))) (λ a. outcome M w at rest a.written (conditions_in a))) (default_is M)
       ∙ ap (λ z. Some (record { after = acting_of w (start_of at 1 d) z; ended = None })) (append_assoc before h.out (take (at + 1) w))
 
-  pub default_stop : (s t u : K) (c d : ℕ) → at < length w → Passed M wrote s t w at (falling M 0 trail) [] c d → wrote t (take (at + 1) w) u → Performed M wrote s u w at (matches_of M w at trail) c (start_of at 1 d) None
+  pub default_stop : (s t u : K) (c d : Conditions) → at < length w → Passed M wrote s t w at (falling M 0 trail) [] c d → wrote t (take (at + 1) w) u → Performed M wrote s u w at (matches_of M w at trail) c (start_of at 1 d) None
   default_stop s t u c d lt h put = record {
     out = h.out ++ take (at + 1) w;
     sink = join s t u h.out (take (at + 1) w) h.sink put;
     acts = λ before. ap (λ l. outcome M w at l before c) (sym (append-nil (falling M 0 trail ++ default_match M.count (drop at w)))) ∙ default_acts s t c d lt h before [];
   }
 
-  pub default_cut : (s t u : K) (c d : ℕ) → at < length w → Passed M wrote s t w at (falling M 0 trail) [] c d → ((front : List ℕ) × BeginsWith (take (at + 1) w) front × wrote t front u) → CutAll M wrote s u w at (matches_of M w at trail) c
+  pub default_cut : (s t u : K) (c d : Conditions) → at < length w → Passed M wrote s t w at (falling M 0 trail) [] c d → ((front : List ℕ) × BeginsWith (take (at + 1) w) front × wrote t front u) → CutAll M wrote s u w at (matches_of M w at trail) c
   default_cut s t u c d lt h (front, is_front, put) = record {
     out = h.out ++ front;
     sink = join s t u h.out front h.sink put;
@@ -234,20 +235,30 @@ module _ {K : Type 0} (M : Machine) (wrote : K → List ℕ → K → Type 0) (j
 pub wrote_flushed : {K : Type 0} (wrote : K → List ℕ → K → Type 0) (s t u : K) (xs : List ℕ) → ((s t u : K) (xs ys : List ℕ) → wrote s xs t → wrote t ys u → wrote s (xs ++ ys) u) → wrote s xs t → wrote t [] u → wrote s xs u
 wrote_flushed wrote s t u xs join h k = subst (λ z. wrote s z u) (append-nil xs) (join s t u xs [] h k)
 
-pub performed_flushed : {K : Type 0} (M : Machine) (wrote : K → List ℕ → K → Type 0) (s t u : K) (w : List ℕ) (at : ℕ) (all : List Candidate) (c : ℕ) (new : Acting) (ended : Option ℕ) → ((s t u : K) (xs ys : List ℕ) → wrote s xs t → wrote t ys u → wrote s (xs ++ ys) u) →
+pub performed_flushed : {K : Type 0} (M : Machine) (wrote : K → List ℕ → K → Type 0) (s t u : K) (w : List ℕ) (at : ℕ) (all : List Candidate) (c : Conditions) (new : Acting) (ended : Option Ending) → ((s t u : K) (xs ys : List ℕ) → wrote s xs t → wrote t ys u → wrote s (xs ++ ys) u) →
     Performed M wrote s t w at all c new ended → wrote t [] u → Performed M wrote s u w at all c new ended
 performed_flushed M wrote s t u w at all c new ended join h k = record { out = h.out; sink = wrote_flushed wrote s t u h.out join h.sink k; acts = h.acts }
 
 -- the matches were tried, and a flush was refused
-pub performed_cut : {K : Type 0} (M : Machine) (wrote : K → List ℕ → K → Type 0) (s t u : K) (w : List ℕ) (at : ℕ) (all : List Candidate) (c : ℕ) (new : Acting) (ended : Option ℕ) → ((s t u : K) (xs ys : List ℕ) → wrote s xs t → wrote t ys u → wrote s (xs ++ ys) u) →
+pub performed_cut : {K : Type 0} (M : Machine) (wrote : K → List ℕ → K → Type 0) (s t u : K) (w : List ℕ) (at : ℕ) (all : List Candidate) (c : Conditions) (new : Acting) (ended : Option Ending) → ((s t u : K) (xs ys : List ℕ) → wrote s xs t → wrote t ys u → wrote s (xs ++ ys) u) →
     Performed M wrote s t w at all c new ended → wrote t [] u → CutAll M wrote s u w at all c
 performed_cut M wrote s t u w at all c new ended join h k = record {
   out = h.out;
   sink = wrote_flushed wrote s t u h.out join h.sink k;
   front = λ before o is.
-      let same : Some (record { after = acting_of w new (before ++ h.out); ended = ending_of ended }) ≡ Some o = sym (h.acts before) ∙ is in
-      subst (λ (z : Matched). BeginsWith z.after.written (before ++ h.out)) (some_one (record { after = acting_of w new (before ++ h.out); ended = ending_of ended }) o same) ([], sym (append-nil (before ++ h.out)));
+      let same : Some (record { after = acting_of w new (before ++ h.out); ended = ended }) ≡ Some o = sym (h.acts before) ∙ is in
+      subst (λ (z : Matched). BeginsWith z.after.written (before ++ h.out)) (some_one (record { after = acting_of w new (before ++ h.out); ended = ended }) o same) ([], sym (append-nil (before ++ h.out)));
 }
+  where
+    some_one : (a b : Matched) → Some a ≡ Some b → a ≡ b
+    some_one a b e = cc
+
+-- the matches were tried
+pub performed_front : {K : Type 0} (M : Machine) (wrote : K → List ℕ → K → Type 0) (s t : K) (w : List ℕ) (at : ℕ) (all : List Candidate) (c : Conditions) (new : Acting) (ended : Option Ending) →
+    (h : Performed M wrote s t w at all c new ended) → (before : List ℕ) (o : Matched) → outcome M w at all before c ≡ Some o → BeginsWith o.after.written (before ++ h.out)
+performed_front M wrote s t w at all c new ended h before o is =
+    let same : Some (record { after = acting_of w new (before ++ h.out); ended = ended }) ≡ Some o = sym (h.acts before) ∙ is in
+    subst (λ (z : Matched). BeginsWith z.after.written (before ++ h.out)) (some_one (record { after = acting_of w new (before ++ h.out); ended = ended }) o same) ([], sym (append-nil (before ++ h.out)))
   where
     some_one : (a b : Matched) → Some a ≡ Some b → a ≡ b
     some_one a b e = cc

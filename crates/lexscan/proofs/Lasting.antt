@@ -16,8 +16,8 @@ use Rattle.lexscan.specs.declared.error.RunError.{RunError}
 use Rattle.lexscan.specs.declared.error.RunError.TheVariants.{TooManyReads}
 use Rattle.lexscan.specs.Reads.{end_step}
 use Rattle.lexscan.specs.Descends.{ending_of}
-use Rattle.lexscan.specs.Stands.{state_of, Stands, Fell, NoneAfterEnd}
-use Rattle.lexscan.specs.Runs.{Running, RanTo, RanInto}
+use Rattle.lexscan.specs.Stands.{state_of, Stands, Fell, NoneAfterEnd, RanTo}
+use Rattle.lexscan.specs.Runs.{Running, RanInto}
 use Rattle.lexscan.proofs.Refusing.{earlier, just_these}
 
 -- where the text starts
@@ -76,11 +76,11 @@ running_on M gave wrote r s s' t u u' old new got put join join' h a b k = recor
 }
 
 -- at the end
-pub ran_to : (M : Machine) (n status e e' : ℕ) (given out : List ℕ) (s : State) → e' ≡ e + end_step false s.reading.at_end → s.ended ≡ Some status → Stands M n given out s → RanTo (rules_of_machine M) given out (nat_lt e e') status
+pub ran_to : (M : Machine) (n status e e' : ℕ) (given out : List ℕ) (s : State) → e' ≡ e + end_step false s.reading.at_end → s.ended ≡ Some status → Stands M n given out s → RanTo (rules_of_machine M) given out (nat_lt e e') (Status status)
 ran_to M n status e e' given out s ends over h =
     let told : nat_lt e e' ≡ s.reading.at_end = answered e e' s.reading.at_end ends in
     let ended : (state_of out h.start s).ended ≡ Some (Status status) = ap ending_of over in
-    subst (λ b. RanTo (rules_of_machine M) given out b status) (sym told) (record {
+    subst (λ b. RanTo (rules_of_machine M) given out b (Status status)) (sym told) (record {
       turns = n;
       last = state_of out h.start s;
       scanned = h.scanned;
@@ -101,4 +101,5 @@ ran_into M n e e' m given got out s error ends many h =
       all = refl;
       gave_up = h.gave_up;
       too_many = λ is. sym h.taken ∙ many is;
+      fault = h.fault;
     })

@@ -17,7 +17,7 @@ use Rattle.lexscan.specs.Descends.{outcome, matches_of}
 use Rattle.lexscan.proofs.Outcomes.{seen_matches, all_seen, seen_outcome}
 
 -- where a match stands in the input
-module _ (M : Machine) (laws : MachineLaws M) (given got : List ℕ) (start : ℕ) (p : Spot) (w : List ℕ)
+module _ (M : Machine) (laws : MachineLaws M) (given got : List ℕ) (start : ℕ) (p : Spot) (cs w : List ℕ)
     (covered : start + p.at ≤ length given) (win : drop start (given ++ got) ≡ w) (line : p.line_start ≡ at_line_start given (start + p.at)) where
   from_here : drop (start + p.at) (given ++ got) ≡ drop p.at w
   from_here = sym (drop-drop p.at start (given ++ got)) ∙ ap (drop p.at) win
@@ -44,10 +44,10 @@ module _ (M : Machine) (laws : MachineLaws M) (given got : List ℕ) (start : �
       (subst (λ b. M.goes_on (state_after M p.condition b (take i (drop (start + p.at) (given ++ got)))) ≡ true) line_is k)
 
   -- a match that asks for all bytes held and for one more
-  pub wants_here : (new : Reading) → new.window.bytes ≡ w → Wants M p new → WantsMore (rules_of_machine M) (given ++ got) (record { start = start; at = start + p.at; condition = p.condition })
+  pub wants_here : (new : Reading) → new.window.bytes ≡ w → Wants M p new → WantsMore (rules_of_machine M) (given ++ got) (record { start = start; at = start + p.at; condition = p.condition; stack = cs })
   wants_here new same h = (omega (arith, window_size, input_size, covered, ap length same, h.inside), asks)
     where
-      asks : (i : ℕ) → start + p.at + i ≤ length (given ++ got) → AsksAt (rules_of_machine M) (given ++ got) (record { start = start; at = start + p.at; condition = p.condition }) i
+      asks : (i : ℕ) → start + p.at + i ≤ length (given ++ got) → AsksAt (rules_of_machine M) (given ++ got) (record { start = start; at = start + p.at; condition = p.condition; stack = cs }) i
       asks zero le = inl refl
       asks (suc i) le = inr (to_input (suc i) (subst (λ z. GoesOnAfter M p (drop p.at z) (suc i)) same (h.asked (suc i) (omega arith) (omega (arith, le, window_size, ap length same)))))
 
@@ -56,22 +56,22 @@ module _ (M : Machine) (laws : MachineLaws M) (given got : List ℕ) (start : �
     pub inside_here : start + p.at + reach ≤ length (given ++ got)
     inside_here = omega (arith, h.inside, length-drop p.at w, window_size, some)
 
-    pub dead_here : M.goes_on state ≡ false → AsksAt (rules_of_machine M) (given ++ got) (record { start = start; at = start + p.at; condition = p.condition }) reach → ⊥
+    pub dead_here : M.goes_on state ≡ false → AsksAt (rules_of_machine M) (given ++ got) (record { start = start; at = start + p.at; condition = p.condition; stack = cs }) reach → ⊥
     dead_here dead (inl e) = omega (arith, some, e)
     dead_here dead (inr k) = no (sym dead ∙ ap M.goes_on h.state_is ∙ from_input reach k)
       where
         no : false ≡ true → ⊥
         no e = cc
 
-    pub live_here : M.goes_on state ≡ true → AsksAt (rules_of_machine M) (given ++ got) (record { start = start; at = start + p.at; condition = p.condition }) reach
+    pub live_here : M.goes_on state ≡ true → AsksAt (rules_of_machine M) (given ++ got) (record { start = start; at = start + p.at; condition = p.condition; stack = cs }) reach
     live_here live = inr (to_input reach (ap M.goes_on (sym h.state_is) ∙ live))
 
-    pub asks_here : (i : ℕ) → i < reach → AsksAt (rules_of_machine M) (given ++ got) (record { start = start; at = start + p.at; condition = p.condition }) i
+    pub asks_here : (i : ℕ) → i < reach → AsksAt (rules_of_machine M) (given ++ got) (record { start = start; at = start + p.at; condition = p.condition; stack = cs }) i
     asks_here zero lt = inl refl
     asks_here (suc i) lt = inr (to_input (suc i) (h.asked (suc i) (omega arith) lt))
 
-    pub seen_here : (o : Matched) → outcome M w p.at (matches_of M w p.at trail) [] p.condition ≡ Some o →
-        (s : Seen (rules_of_machine M) (given ++ got) (record { start = start; at = start + p.at; condition = p.condition }) reach) × (s.outcome ≡ o)
+    pub seen_here : (o : Matched) → outcome M w p.at (matches_of M w p.at trail) [] (record { next = p.condition; stack = cs }) ≡ Some o →
+        (s : Seen (rules_of_machine M) (given ++ got) (record { start = start; at = start + p.at; condition = p.condition; stack = cs }) reach) × (s.outcome ≡ o)
     seen_here o is =
         let yw : List ℕ = drop p.at w in
         let y : List ℕ = drop (start + p.at) (given ++ got) in (
@@ -83,9 +83,9 @@ module _ (M : Machine) (laws : MachineLaws M) (given got : List ℕ) (start : �
             all = subst (λ q. Candidates (rules_of_machine M) p.condition q (take reach y) (seen_matches M laws p w reach state trail some h)) (sym line_is)
                 (subst (λ z. Candidates (rules_of_machine M) p.condition p.line_start (take reach z) (seen_matches M laws p w reach state trail some h)) (sym from_here) (all_seen M laws p w reach state trail some h));
             outcome = o;
-            performed = ap (λ k. perform (rules_of_machine M) k (take reach y) (seen_matches M laws p w reach state trail some h) [] p.condition) kept_is
-                ∙ ap (λ z. perform (rules_of_machine M) (take p.at w) (take reach z) (seen_matches M laws p w reach state trail some h) [] p.condition) from_here
-                ∙ sym (seen_outcome M laws p w reach state trail some h [] p.condition) ∙ is;
+            performed = ap (λ k. perform (rules_of_machine M) k (take reach y) (seen_matches M laws p w reach state trail some h) [] p.condition cs) kept_is
+                ∙ ap (λ z. perform (rules_of_machine M) (take p.at w) (take reach z) (seen_matches M laws p w reach state trail some h) [] p.condition cs) from_here
+                ∙ sym (seen_outcome M laws p w reach state trail some h [] (record { next = p.condition; stack = cs })) ∙ is;
           },
           refl,
         )

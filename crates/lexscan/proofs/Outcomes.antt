@@ -13,7 +13,7 @@ use Rattle.lexmeaning.specs.MachineLaws.{MachineLaws}
 use Rattle.lexmeaning.specs.Plain.{default_match}
 use Rattle.lexmeaning.specs.Trail.{trail_from, falling}
 use Rattle.lexmeaning.proofs.Actions.{begins_below}
-use Rattle.lexmeaning.proofs.Table.{WentBelow, act_below}
+use Rattle.lexmeaning.proofs.Table.{Below, WentBelow, act_below}
 use Rattle.lexmeaning.proofs.MachineLaws.{machine_laws}
 use Rattle.lexmeaning.proofs.MachineRun.{machine_candidates_exist}
 use Rattle.lexmeaning.proofs.Fronts.{among_right}
@@ -23,27 +23,29 @@ use Rattle.lexmeaning.proofs.Ends.{GoodMatch, perform_good, keep_bounds, legal_o
 use Rattle.lexmeaning.proofs.Once.{some_inj}
 use Rattle.lexscan.specs.declared.state.Spot.{Spot}
 use Rattle.lexscan.specs.Sees.{SoFar}
-use Rattle.lexscan.specs.Descends.{outcome, matches_of}
+use Rattle.lexscan.specs.Descends.{Conditions, outcome, matches_of}
 use Rattle.lexscan.proofs.Descending.{default_one}
 
--- the condition stays in range
-settle_below : (n : ℕ) (w : Went) (f : Scan.Acting → Option Matched) (o : Matched) → WentBelow n w → ((a : Scan.Acting) → a.condition < n → f a ≡ Some o → o.after.condition < n) → settle w f ≡ Some o → o.after.condition < n
-settle_below n (Done a) f o h later e = subst (λ (z : Matched). z.after.condition < n) (some_inj (record { after = a; ended = None }) o e) h
+-- the conditions stay in range
+settle_below : (n : ℕ) (w : Went) (f : Scan.Acting → Option Matched) (o : Matched) → WentBelow n w → ((a : Scan.Acting) → Below n a.condition a.stack → f a ≡ Some o → Below n o.after.condition o.after.stack) → settle w f ≡ Some o →
+    Below n o.after.condition o.after.stack
+settle_below n (Done a) f o h later e = subst (λ (z : Matched). Below n z.after.condition z.after.stack) (some_inj (record { after = a; ended = None }) o e) h
 settle_below n (Again a) f o h later e = later a h e
-settle_below n (Over a d) f o h later e = subst (λ (z : Matched). z.after.condition < n) (some_inj (record { after = a; ended = Some d }) o e) h
+settle_below n (Over a d) f o h later e = subst (λ (z : Matched). Below n z.after.condition z.after.stack) (some_inj (record { after = a; ended = Some d }) o e) h
 
-pub perform_below : (R : Rules) → ((i : ℕ) → i < R.count → IsLegal R.conditions (R.statements i)) → (kept y : List ℕ) (ms : List Candidate) (out : List ℕ) (c : ℕ) (o : Matched) → c < R.conditions → perform R kept y ms out c ≡ Some o → o.after.condition < R.conditions
+pub perform_below : (R : Rules) → ((i : ℕ) → i < R.count → IsLegal R.conditions (R.statements i)) → (kept y : List ℕ) (ms : List Candidate) (out : List ℕ) (c : ℕ) (cs : List ℕ) (o : Matched) → Below R.conditions c cs →
+    perform R kept y ms out c cs ≡ Some o → Below R.conditions o.after.condition o.after.stack
 unfolding perform
-perform_below R legal kept y [] out c o lt e = absurd (no e)
+perform_below R legal kept y [] out c cs o lt e = absurd (no e)
   where
     no : None ≡ Some o → ⊥
     no p = cc
-perform_below R legal kept y (m ∷ ms) out c o lt e =
-    let a : Scan.Acting = record { text = kept ++ take m.keep y; written = out; condition = c; more = false } in
+perform_below R legal kept y (m ∷ ms) out c cs o lt e =
+    let a : Scan.Acting = record { text = kept ++ take m.keep y; written = out; condition = c; stack = cs; more = false } in
     let ok : IsLegal R.conditions (statements_of R m.rule) = legal_of R legal m.rule (cases_lt m.rule R.count) in
-    settle_below R.conditions (act (statements_of R m.rule) a) (λ b. perform R kept y ms b.written b.condition) o
+    settle_below R.conditions (act (statements_of R m.rule) a) (λ b. perform R kept y ms b.written b.condition b.stack) o
     (act_below R.conditions (statements_of R m.rule) a lt (begins_below R.conditions (statements_of R m.rule) ok.ranges))
-    (λ b less p. perform_below R legal kept y ms b.written b.condition o less p) e
+    (λ b less p. perform_below R legal kept y ms b.written b.condition b.stack o less p) e
 
 module _ (M : Machine) (laws : MachineLaws M) (p : Spot) (w : List ℕ) (reach state : ℕ) (trail : List ℕ) (some : 1 ≤ reach) (h : SoFar M p (drop p.at w) reach state trail) where
   -- the bytes that the match has asked for
@@ -66,19 +68,19 @@ module _ (M : Machine) (laws : MachineLaws M) (p : Spot) (w : List ℕ) (reach s
   all_seen = falling_candidates M laws p.condition p.line_start seen
 
   -- over all bytes or over those asked for, the actions make the same of them
-  pub seen_outcome : (out : List ℕ) (c : ℕ) → outcome M w p.at (matches_of M w p.at trail) out c ≡ perform (rules_of_machine M) (take p.at w) seen seen_matches out c
+  pub seen_outcome : (out : List ℕ) (c : Conditions) → outcome M w p.at (matches_of M w p.at trail) out c ≡ perform (rules_of_machine M) (take p.at w) seen seen_matches out c.next c.stack
   seen_outcome out c =
       ap (λ l. outcome M w p.at l out c) matches_are
-      ∙ sym (same_performed (rules_of_machine M) (take p.at w) seen (drop p.at w) seen_matches out c
+      ∙ sym (same_performed (rules_of_machine M) (take p.at w) seen (drop p.at w) seen_matches out c.next c.stack
       (λ m a. take-take m.keep reach (drop p.at w) (short m a)))
     where
       short : (m : Candidate) → Among seen_matches m → m.keep ≤ reach
       short m a = let le = keep_inside (rules_of_machine M) (machine_laws M laws) p.condition p.line_start seen m ((all_seen.members m).0 a) in omega (arith, le, size)
 
   -- there is an outcome
-  pub good : (out : List ℕ) (c : ℕ) → GoodMatch (length (take p.at w)) (length seen) (perform (rules_of_machine M) (take p.at w) seen seen_matches out c)
+  pub good : (out : List ℕ) (c : Conditions) → GoodMatch (length (take p.at w)) (length seen) (perform (rules_of_machine M) (take p.at w) seen seen_matches out c.next c.stack)
   good out c =
-      perform_good (rules_of_machine M) laws.legal (take p.at w) seen seen_matches out c
+      perform_good (rules_of_machine M) laws.legal (take p.at w) seen seen_matches out c.next c.stack
       (λ m a. keep_bounds (rules_of_machine M) (machine_laws M laws) laws.legal (λ c bol y. machine_candidates_exist M laws c bol y) w p.condition p.line_start seen m ((all_seen.members m).0 a))
       (record { len = 1; rule = M.count; keep = 1 })
       (among_right (falling M 0 (trail_from M (M.start p.condition p.line_start) seen)) (default_match M.count seen) (record { len = 1; rule = M.count; keep = 1 })
@@ -86,7 +88,7 @@ module _ (M : Machine) (laws : MachineLaws M) (p : Spot) (w : List ℕ) (reach s
       refl
 
   -- its text is not empty
-  pub some_text : (o : Matched) (out : List ℕ) (c : ℕ) → outcome M w p.at (matches_of M w p.at trail) out c ≡ Some o → 1 ≤ length o.after.text
+  pub some_text : (o : Matched) (out : List ℕ) (c : Conditions) → outcome M w p.at (matches_of M w p.at trail) out c ≡ Some o → 1 ≤ length o.after.text
   some_text o out c e =
       let q = good out c in
       let same : q.0 ≡ o = some_inj q.0 o (sym q.1 ∙ sym (seen_outcome out c) ∙ e) in

@@ -1,11 +1,11 @@
 -- The first match at a place, and what its action does.
 use Rattle.std.proofs.Common.{◌≡◌, ℕ, suc, ◌+◌, ◌-◌, ◌≤◌, ◌<◌, false, true, List, [], ◌∷◌, ◌++◌, length, take, drop, get_or, Option, Some, None, sym, ◌∙◌, ap, subst, arith}
-use Rattle.std.specs.Prelude.{filter_map, IfSome}
+use Rattle.std.specs.Prelude.{Bool, filter_map, IfSome, if◌then◌else◌}
 use Rattle.std.proofs.lemmas.List.{length-take-le, length-drop, get_or-drop}
-use Rattle.lexmeaning.specs.Spec.{Statement, Echo, Print, Begin, More, Less, Reject, End, has_reject}
+use Rattle.lexmeaning.specs.Spec.{Statement, Echo, Print, Begin, More, Less, Reject, End, Push, Pop, has_reject}
 use Rattle.lexmeaning.specs.Candidates.{Candidate}
 use Rattle.lexmeaning.specs.Acting as Scan
-use Rattle.lexmeaning.specs.Acting.{Matched, Went, act, settle}
+use Rattle.lexmeaning.specs.Acting.{Matched, Went, Over, StackFault, act, has_room, popped, settle}
 use Rattle.lexmeaning.specs.Machine.{Machine, walk}
 use Rattle.lexmeaning.specs.PlainMachine.{match_of}
 use Rattle.lexmeaning.specs.Plain.{default_match}
@@ -18,7 +18,7 @@ use Rattle.lexscan.specs.declared.act.Step.{Step}
 use Rattle.lexscan.specs.declared.state.Spot.{Spot}
 use Rattle.lexscan.specs.declared.pick.Pick.{Pick}
 use Rattle.lexscan.specs.Acts.{acting_of, Carried, CutShort}
-use Rattle.lexscan.specs.Descends.{outcome, matches_of, Passed, CutAll, Performed}
+use Rattle.lexscan.specs.Descends.{Conditions, conditions_in, outcome, matches_of, finished_of, Passed, CutAll, Performed}
 use Rattle.lexscan.specs.Picks.{trail_of, IsFirst, state_at}
 use Rattle.lexscan.proofs.Growing.{take_one_more, trail_length, trail_snoc}
 use Rattle.lexscan.proofs.Descending as Down
@@ -70,6 +70,15 @@ falling_last M p w n some le =
     subst (λ k. falling M 0 (trail_of M p w k) ≡ filter_map (match_of M k) (M.accepts (state_at M p w k)) ++ falling M 0 (trail_of M p w (n - 1))) e
     (falling_more M p w (n - 1) (omega (arith, some, le)))
 
+-- a fault of the stack does not go to the next match
+full_never : (r : Bool) (a : Scan.Acting) (w : Went) (b : Scan.Acting) → (w ≡ Scan.Again b → ⊥) → (if r then w else Over a StackFault) ≡ Scan.Again b → ⊥
+full_never true a w b h e = h e
+full_never false a w b h e = cc
+
+empty_never : (cs : List ℕ) (a : Scan.Acting) (next : ℕ → List ℕ → Went) (b : Scan.Acting) → ((c : ℕ) (rest : List ℕ) → next c rest ≡ Scan.Again b → ⊥) → popped cs a next ≡ Scan.Again b → ⊥
+empty_never [] a next b h e = cc
+empty_never (c ∷ cs) a next b h e = h c cs e
+
 -- an action without REJECT does not go to the next match
 quiet_never : (ss : List Statement) (a b : Scan.Acting) → has_reject ss ≡ false → act ss a ≡ Scan.Again b → ⊥
 quiet_never [] a b h e = cc
@@ -83,28 +92,32 @@ quiet_never (Reject ∷ ss) a b h e = absurd (no h)
     no : true ≡ false → ⊥
     no p = cc
 quiet_never (End s ∷ ss) a b h e = cc
+quiet_never (Push d ∷ ss) a b h e =
+    full_never (has_room a.stack) a (act ss (record a { condition = d; stack = a.condition ∷ a.stack })) b (λ p. quiet_never ss (record a { condition = d; stack = a.condition ∷ a.stack }) b h p) e
+quiet_never (Pop ∷ ss) a b h e =
+    empty_never a.stack a (λ c cs. act ss (record a { condition = c; stack = cs })) b (λ c cs p. quiet_never ss (record a { condition = c; stack = cs }) b h p) e
 
 module _ {K : Type 0} (M : Machine) (wrote : K → List ℕ → K → Type 0) (none : (s : K) → wrote s [] s) (join : (s t u : K) (xs ys : List ℕ) → wrote s xs t → wrote t ys u → wrote s (xs ++ ys) u) (w : List ℕ) (at : ℕ) where
-  pub never_again : (s t : K) (p : Pick) (c : ℕ) (ss : List Statement) (new : Acting) → NoReject M → p.rule < M.count → ss ≡ M.statements p.rule →
+  pub never_again : (s t : K) (p : Pick) (c : Conditions) (ss : List Statement) (new : Acting) → NoReject M → p.rule < M.count → ss ≡ M.statements p.rule →
       Carried wrote s t w ss (start_of at p.keep c) new Step.Again → ⊥
   never_again s t p c ss new quiet below same k = quiet_never ss _ _ (ap has_reject same ∙ quiet p.rule below) (k.acts [])
 
   -- its action was carried out
-  pub picked : (s t : K) (trail : List ℕ) (p : Pick) (c : ℕ) (ss : List Statement) (new : Acting) (step : Step) → (step ≡ Step.Again → ⊥) → IsFirst (falling M 0 trail) (Some p) → p.rule < M.count → ss ≡ M.statements p.rule →
-      Carried wrote s t w ss (start_of at p.keep c) new step → Performed M wrote s t w at (matches_of M w at trail) c new (ended_by step)
+  pub picked : (s t : K) (trail : List ℕ) (p : Pick) (c : Conditions) (ss : List Statement) (new : Acting) (step : Step) → (step ≡ Step.Again → ⊥) → IsFirst (falling M 0 trail) (Some p) → p.rule < M.count → ss ≡ M.statements p.rule →
+      Carried wrote s t w ss (start_of at p.keep c) new step → Performed M wrote s t w at (matches_of M w at trail) c new (finished_of (ended_by step))
   picked s t trail p c ss new step never (len, rest, e) below same k = record {
     out = k.out;
     sink = k.sink;
     acts = λ before.
         ap (λ l. outcome M w at (l ++ default_match M.count (drop at w)) before c) e
         ∙ head_outcome M w at (record { len = len; rule = p.rule; keep = p.keep }) (rest ++ default_match M.count (drop at w)) before c
-        ∙ ap (λ l. settle (act l (acting_of w (start_of at p.keep c) before)) (λ a. outcome M w at (rest ++ default_match M.count (drop at w)) a.written a.condition)) (statements_are M p.rule below ∙ sym same)
-        ∙ ap (λ z. settle z (λ a. outcome M w at (rest ++ default_match M.count (drop at w)) a.written a.condition)) (k.acts before)
-        ∙ settled step (acting_of w new (before ++ k.out)) (λ a. outcome M w at (rest ++ default_match M.count (drop at w)) a.written a.condition) never;
+        ∙ ap (λ l. settle (act l (acting_of w (start_of at p.keep c) before)) (λ a. outcome M w at (rest ++ default_match M.count (drop at w)) a.written (conditions_in a))) (statements_are M p.rule below ∙ sym same)
+        ∙ ap (λ z. settle z (λ a. outcome M w at (rest ++ default_match M.count (drop at w)) a.written (conditions_in a))) (k.acts before)
+        ∙ settled step (acting_of w new (before ++ k.out)) (λ a. outcome M w at (rest ++ default_match M.count (drop at w)) a.written (conditions_in a)) never;
   }
 
   -- or cut short
-  pub picked_cut : (s t : K) (trail : List ℕ) (p : Pick) (c : ℕ) (ss : List Statement) → IsFirst (falling M 0 trail) (Some p) → p.rule < M.count → ss ≡ M.statements p.rule →
+  pub picked_cut : (s t : K) (trail : List ℕ) (p : Pick) (c : Conditions) (ss : List Statement) → IsFirst (falling M 0 trail) (Some p) → p.rule < M.count → ss ≡ M.statements p.rule →
       CutShort wrote s t w ss (start_of at p.keep c) → CutAll M wrote s t w at (matches_of M w at trail) c
   picked_cut s t trail p c ss (len, rest, e) below same k = record {
     out = k.out;
@@ -115,5 +128,5 @@ module _ {K : Type 0} (M : Machine) (wrote : K → List ℕ → K → Type 0) (n
   }
 
   -- there is none but the default match
-  pub none_picked : (s : K) (trail : List ℕ) (c : ℕ) → falling M 0 trail ≡ [] → Passed M wrote s s w at (falling M 0 trail) [] c c
+  pub none_picked : (s : K) (trail : List ℕ) (c : Conditions) → falling M 0 trail ≡ [] → Passed M wrote s s w at (falling M 0 trail) [] c c
   none_picked s trail c e = subst (λ l. Passed M wrote s s w at (falling M 0 trail) l c c) e (Down.passed_first M wrote none join w at s (falling M 0 trail) c)

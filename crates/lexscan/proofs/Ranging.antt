@@ -1,21 +1,22 @@
--- The condition stays in range.
-use Rattle.std.proofs.Common.{ℕ, ◌<◌, List, [], inl, inr, Result, Ok, Err, sym, subst}
+-- The conditions stay in range.
+use Rattle.std.proofs.Common.{ℕ, List, [], inl, inr, Ok, sym, subst}
 use Rattle.lexmeaning.specs.Machine.{Machine, rules_of_machine}
 use Rattle.lexmeaning.specs.MachineLaws.{MachineLaws}
+use Rattle.lexmeaning.proofs.Table.{Below}
 use Rattle.lexscan.specs.declared.state.State.{State}
 use Rattle.lexscan.specs.declared.turn.Turn.{Turn}
-use Rattle.lexscan.specs.declared.error.RunError.{RunError}
 use Rattle.lexscan.specs.Acts.{acting_of}
 use Rattle.lexscan.specs.Descends.{matches_of, ending_of}
 use Rattle.lexscan.specs.Moves.{Moved}
 use Rattle.lexscan.proofs.Outcomes.{perform_below}
 use Rattle.std.proofs.Common.{take, drop}
 
-pub condition_below : {S K : Type 0} (M : Machine) (laws : MachineLaws M) (gave : S → List ℕ → S → Type 0) (wrote : K → List ℕ → K → Type 0) (s s' : S) (t t' : K) (old new : State) (result : Result Turn RunError) →
-    Moved M gave wrote s s' t t' old new result → old.spot.condition < M.conditions → new.spot.condition < M.conditions
-condition_below M laws gave wrote s s' t t' old new (Ok turn) (inl m) lt =
-    subst (λ c. c < M.conditions) (sym m.acted.left.condition)
-    (perform_below (rules_of_machine M) laws.legal (take old.spot.at m.mid.window.bytes) (drop old.spot.at m.mid.window.bytes) (matches_of M m.mid.window.bytes old.spot.at m.trail) [] old.spot.condition
-    (record { after = acting_of m.mid.window.bytes m.acted.acting m.acted.performed.out; ended = ending_of m.acted.ended }) lt (m.acted.performed.acts []))
-condition_below M laws gave wrote s s' t t' old new (Ok turn) (inr m) lt = subst (λ c. c < M.conditions) (sym m.left.condition) lt
-condition_below M laws gave wrote s s' t t' old new (Err e) m lt = let same = m.spot in rw same lt
+pub conditions_below : {S K : Type 0} (M : Machine) (laws : MachineLaws M) (gave : S → List ℕ → S → Type 0) (wrote : K → List ℕ → K → Type 0) (s s' : S) (t t' : K) (old new : State) (turn : Turn) →
+    Moved M gave wrote s s' t t' old new (Ok turn) → Below M.conditions old.spot.condition old.acting.stack → Below M.conditions new.spot.condition new.acting.stack
+conditions_below M laws gave wrote s s' t t' old new turn (inl m) lt =
+    subst (λ cs. Below M.conditions new.spot.condition cs) (sym m.acted.left.stack)
+    (subst (λ c. Below M.conditions c m.acted.acting.stack) (sym m.acted.left.condition)
+    (perform_below (rules_of_machine M) laws.legal (take old.spot.at m.mid.window.bytes) (drop old.spot.at m.mid.window.bytes) (matches_of M m.mid.window.bytes old.spot.at m.trail) [] old.spot.condition old.acting.stack
+    (record { after = acting_of m.mid.window.bytes m.acted.acting m.acted.performed.out; ended = ending_of m.acted.ended }) lt (m.acted.performed.acts [])))
+conditions_below M laws gave wrote s s' t t' old new turn (inr m) lt =
+    subst (λ cs. Below M.conditions new.spot.condition cs) (sym m.left.stack) (subst (λ c. Below M.conditions c old.acting.stack) (sym m.left.condition) lt)

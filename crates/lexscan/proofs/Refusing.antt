@@ -4,7 +4,7 @@ use Rattle.std.proofs.lemmas.List.{append-nil, append_assoc, length-append, leng
 use Rattle.lexmeaning.specs.Text.{IsText, BeginsWith}
 use Rattle.lexmeaning.specs.Rules.{Rules}
 use Rattle.lexmeaning.specs.Acting as Scan
-use Rattle.lexmeaning.specs.Acting.{Ending, Status}
+use Rattle.lexmeaning.specs.Acting.{Ending, Status, StackFault}
 use Rattle.lexmeaning.specs.Run as Run
 use Rattle.lexmeaning.specs.Run.{Place, Turn, Turns}
 use Rattle.lexmeaning.specs.Demand.{AsksAt, FarFrom, Far, Consistent, GoesOnFrom}
@@ -21,11 +21,11 @@ use Rattle.lexmeaning.proofs.Wanted.{WantsMore, wanted_far, wanted_end}
 use Rattle.lexmeaning.proofs.Written.{run_begins, part_begins}
 use Rattle.lexscan.specs.declared.state.State.{State}
 use Rattle.lexscan.specs.declared.error.RunError.{RunError}
-use Rattle.lexscan.specs.declared.error.RunError.TheVariants.{TooManyReads}
+use Rattle.lexscan.specs.declared.error.RunError.TheVariants.{TooManyReads, Stack}
 use Rattle.lexscan.specs.Sees.{Saw, SawEnd, Wants, Unmet}
-use Rattle.lexscan.specs.Descends.{outcome, matches_of, CutAll, ending_of}
+use Rattle.lexscan.specs.Descends.{conditions_at, outcome, matches_of, CutAll, ending_of}
 use Rattle.lexscan.specs.Moves.{Refused}
-use Rattle.lexscan.specs.Stands.{state_of, Stands, Before, Fell}
+use Rattle.lexscan.specs.Stands.{state_of, Stands, Before, Fell, RanTo}
 use Rattle.lexscan.proofs.Outcomes.{good, seen_outcome}
 use Rattle.lexscan.proofs.Lifting.{seen_here, dead_here, asks_here, inside_here, wants_here}
 
@@ -75,8 +75,8 @@ module _ (R : Rules) (x : List ℕ) (n : ℕ) (s : Run.State) (f : ℕ) (turns :
           let is = h.3 in
           omega (arith, is, less)
 
-module _ {S K : Type 0} (M : Machine) (laws : MachineLaws M) (gave : S → List ℕ → S → Type 0) (wrote : K → List ℕ → K → Type 0) (s s' : S) (t t' : K) (n : ℕ) (given out : List ℕ) (old new : State)
-    (going : old.ended ≡ None) (h : Stands M n given out old) (m : Refused M gave wrote s s' t t' (record old { failed = true }) new) where
+module _ {S K : Type 0} (M : Machine) (laws : MachineLaws M) (gave : S → List ℕ → S → Type 0) (wrote : K → List ℕ → K → Type 0) (s s' : S) (t t' : K) (n : ℕ) (given out : List ℕ) (old new : State) (error : RunError)
+    (going : old.ended ≡ None) (h : Stands M n given out old) (m : Refused M gave wrote s s' t t' (record old { failed = true }) new error) where
   after_before : (x : List ℕ) → Consistent (given ++ m.took.got) new.reading.at_end x → AfterTurns (rules_of_machine M) x n (state_of out h.start old) (length given) old.reading.at_end
   after_before x k = h.scanned x (k.0, earlier given m.took.got old.reading.at_end new.reading.at_end x m.took.nothing m.took.end_stays k.1)
 
@@ -103,8 +103,8 @@ module _ {S K : Type 0} (M : Machine) (laws : MachineLaws M) (gave : S → List 
   pub wants_end : Wants M old.spot new.reading → (old.reading.at_end ≡ false) × ((t : Run.State) (far : ℕ) (asked : Bool) → AfterTurns (rules_of_machine M) (given ++ m.took.got) (suc n) t far asked → asked ≡ true)
   wants_end wants =
       let g : List ℕ = given ++ m.took.got in
-      let more : WantsMore (rules_of_machine M) g (record { start = h.start; at = h.start + old.spot.at; condition = old.spot.condition }) =
-      wants_here M laws given m.took.got h.start old.spot new.reading.window.bytes h.covered win h.line new.reading refl wants in
+      let more : WantsMore (rules_of_machine M) g (record { start = h.start; at = h.start + old.spot.at; condition = old.spot.condition; stack = old.acting.stack }) =
+      wants_here M laws given m.took.got h.start old.spot old.acting.stack new.reading.window.bytes h.covered win h.line new.reading refl wants in
       let over = after_before g (is_text_append given m.took.got h.text m.took.text, just_these g new.reading.at_end) in
       (not_before old.reading.at_end refl, λ t far asked after. wanted_end (rules_of_machine M) g n (state_of out h.start old) t far asked over.turns (ap ending_of going) more after)
     where
@@ -131,8 +131,8 @@ module _ {S K : Type 0} (M : Machine) (laws : MachineLaws M) (gave : S → List 
   unmet_within (inl wants) = (λ x k t far asked after.
       let g : List ℕ = given ++ m.took.got in
       let split = with_rest g new.reading.at_end x k.1 in
-      let more : WantsMore (rules_of_machine M) g (record { start = h.start; at = h.start + old.spot.at; condition = old.spot.condition }) =
-      wants_here M laws given m.took.got h.start old.spot new.reading.window.bytes h.covered win h.line new.reading refl wants in
+      let more : WantsMore (rules_of_machine M) g (record { start = h.start; at = h.start + old.spot.at; condition = old.spot.condition; stack = old.acting.stack }) =
+      wants_here M laws given m.took.got h.start old.spot old.acting.stack new.reading.window.bytes h.covered win h.line new.reading refl wants in
       wanted_far (rules_of_machine M) (machine_laws M laws) g split.0 (subst IsText split.1 k.0) n (state_of out h.start old) t far asked
       (subst (λ y. Turns (rules_of_machine M) y n (state_of out h.start old)) split.1 (after_before x k).turns) (ap ending_of going) more
       (subst (λ y. AfterTurns (rules_of_machine M) y (suc n) t far asked) split.1 after))
@@ -145,7 +145,7 @@ module _ {S K : Type 0} (M : Machine) (laws : MachineLaws M) (gave : S → List 
       let whole : x ≡ given ++ m.took.got = subst (λ b. GoesOnFrom (given ++ m.took.got) b x) saw.at_end k.1 in
       let last : Run.State = record {
         written = (M.ending old.spot.condition).print;
-        place = record { start = h.start + old.spot.at; at = h.start + old.spot.at; condition = old.spot.condition };
+        place = record { start = h.start + old.spot.at; at = h.start + old.spot.at; condition = old.spot.condition; stack = old.acting.stack };
         ended = Some (Status (M.ending old.spot.condition).status);
       } in
       let at : h.start + old.spot.at ≡ length x = omega (arith, ap length whole, size, saw.all, longer, h.covered) in
@@ -154,38 +154,38 @@ module _ {S K : Type 0} (M : Machine) (laws : MachineLaws M) (gave : S → List 
   pub match_within : (trail : List ℕ) → Saw M old.spot old.reading new.reading trail → Within
   match_within trail saw = (λ x k t far asked after.
       let g : List ℕ = given ++ m.took.got in
-      let p : Place = record { start = h.start; at = h.start + old.spot.at; condition = old.spot.condition } in
+      let p : Place = record { start = h.start; at = h.start + old.spot.at; condition = old.spot.condition; stack = old.acting.stack } in
       let split = with_rest g new.reading.at_end x k.1 in
       let over = after_before x k in
-      let fits : h.start + old.spot.at + saw.reach ≤ length g = inside_here M laws given m.took.got h.start old.spot new.reading.window.bytes h.covered win h.line saw.reach saw.state trail saw.some saw.so_far in
+      let fits : h.start + old.spot.at + saw.reach ≤ length g = inside_here M laws given m.took.got h.start old.spot old.acting.stack new.reading.window.bytes h.covered win h.line saw.reach saw.state trail saw.some saw.so_far in
       let whole : length x ≡ length g + length split.0 = ap length split.1 ∙ length-append g split.0 in
       let asks : (i : ℕ) → i < saw.reach → AsksAt (rules_of_machine M) x p i =
       λ i lt. subst (λ y. AsksAt (rules_of_machine M) y p i) (sym split.1) (asks_front (rules_of_machine M) g split.0 p i (omega (arith, fits, lt))
-      (asks_here M laws given m.took.got h.start old.spot new.reading.window.bytes h.covered win h.line saw.reach saw.state trail saw.some saw.so_far i lt)) in
+      (asks_here M laws given m.took.got h.start old.spot old.acting.stack new.reading.window.bytes h.covered win h.line saw.reach saw.state trail saw.some saw.so_far i lt)) in
       let le : length given ≤ far = no_less (rules_of_machine M) x n (state_of out h.start old) (length given) over.turns over.reaches (ap ending_of going) t far asked after in
       let reached : h.start + old.spot.at + saw.reach ≤ far = asked_far (rules_of_machine M) x n (state_of out h.start old) (length given) over.turns over.reaches (ap ending_of going) t far asked after saw.reach saw.some (omega (arith, fits, whole)) asks in
       let before : length old.reading.window.bytes ≡ length given - h.start = ap length h.held ∙ length-drop h.start given in
       omega (arith, size, before, saw.size, le, reached, longer, h.covered))
 
   pub match_front : (trail : List ℕ) → Saw M old.spot old.reading new.reading trail →
-      (cut : CutAll M wrote t t' new.reading.window.bytes old.spot.at (matches_of M new.reading.window.bytes old.spot.at trail) old.spot.condition) → Fronts cut.out
+      (cut : CutAll M wrote t t' new.reading.window.bytes old.spot.at (matches_of M new.reading.window.bytes old.spot.at trail) (conditions_at old)) → Fronts cut.out
   match_front trail saw cut =
       let w : List ℕ = new.reading.window.bytes in
-      let q = good M laws old.spot w saw.reach saw.state trail saw.some saw.so_far [] old.spot.condition in
-      let is : outcome M w old.spot.at (matches_of M w old.spot.at trail) [] old.spot.condition ≡ Some q.0 = seen_outcome M laws old.spot w saw.reach saw.state trail saw.some saw.so_far [] old.spot.condition ∙ q.1 in
-      let seen = seen_here M laws given m.took.got h.start old.spot w h.covered win h.line saw.reach saw.state trail saw.some saw.so_far q.0 is in
+      let q = good M laws old.spot w saw.reach saw.state trail saw.some saw.so_far [] (conditions_at old) in
+      let is : outcome M w old.spot.at (matches_of M w old.spot.at trail) [] (conditions_at old) ≡ Some q.0 = seen_outcome M laws old.spot w saw.reach saw.state trail saw.some saw.so_far [] (conditions_at old) ∙ q.1 in
+      let seen = seen_here M laws given m.took.got h.start old.spot old.acting.stack w h.covered win h.line saw.reach saw.state trail saw.some saw.so_far q.0 is in
       let wrote_all : BeginsWith seen.0.outcome.after.written cut.out = subst (λ (z : Scan.Matched). BeginsWith z.after.written cut.out) (sym seen.1) (cut.front [] q.0 is) in
       (λ x k v e run.
       let split = with_rest (given ++ m.took.got) new.reading.at_end x k.1 in
-      part_begins (rules_of_machine M) x n (state_of out h.start old) (seen_turn (record { start = h.start; at = h.start + old.spot.at; condition = old.spot.condition }) seen.0.outcome) cut.out v e (after_before x k).turns (ap ending_of going)
-      (inl (subst (λ y. Run.MatchTurn (rules_of_machine M) y (record { start = h.start; at = h.start + old.spot.at; condition = old.spot.condition }) (seen_turn (record { start = h.start; at = h.start + old.spot.at; condition = old.spot.condition }) seen.0.outcome)) (sym split.1)
-      (seen_match (rules_of_machine M) (machine_laws M laws) (given ++ m.took.got) split.0 (record { start = h.start; at = h.start + old.spot.at; condition = old.spot.condition }) saw.reach seen.0 (subst IsText split.1 k.0)
+      part_begins (rules_of_machine M) x n (state_of out h.start old) (seen_turn (record { start = h.start; at = h.start + old.spot.at; condition = old.spot.condition; stack = old.acting.stack }) seen.0.outcome) cut.out v e (after_before x k).turns (ap ending_of going)
+      (inl (subst (λ y. Run.MatchTurn (rules_of_machine M) y (record { start = h.start; at = h.start + old.spot.at; condition = old.spot.condition; stack = old.acting.stack }) (seen_turn (record { start = h.start; at = h.start + old.spot.at; condition = old.spot.condition; stack = old.acting.stack }) seen.0.outcome)) (sym split.1)
+      (seen_match (rules_of_machine M) (machine_laws M laws) (given ++ m.took.got) split.0 (record { start = h.start; at = h.start + old.spot.at; condition = old.spot.condition; stack = old.acting.stack }) saw.reach seen.0 (subst IsText split.1 k.0)
       (enough x k split.0 split.1 saw.stops)))) wrote_all run)
     where
       enough : (x : List ℕ) → Consistent (given ++ m.took.got) new.reading.at_end x → (rest : List ℕ) → x ≡ (given ++ m.took.got) ++ rest →
           ((M.goes_on saw.state ≡ false) × (new.reading.at_end ≡ old.reading.at_end)) ⊎ ((M.goes_on saw.state ≡ true) × (old.spot.at + saw.reach ≡ length new.reading.window.bytes) × (new.reading.at_end ≡ true)) →
-          (drop saw.reach (drop (h.start + old.spot.at) (given ++ m.took.got)) ++ rest ≡ []) ⊎ (AsksAt (rules_of_machine M) (given ++ m.took.got) (record { start = h.start; at = h.start + old.spot.at; condition = old.spot.condition }) saw.reach → ⊥)
-      enough x k rest e (inl q) = inr (dead_here M laws given m.took.got h.start old.spot new.reading.window.bytes h.covered win h.line saw.reach saw.state trail saw.some saw.so_far q.0)
+          (drop saw.reach (drop (h.start + old.spot.at) (given ++ m.took.got)) ++ rest ≡ []) ⊎ (AsksAt (rules_of_machine M) (given ++ m.took.got) (record { start = h.start; at = h.start + old.spot.at; condition = old.spot.condition; stack = old.acting.stack }) saw.reach → ⊥)
+      enough x k rest e (inl q) = inr (dead_here M laws given m.took.got h.start old.spot old.acting.stack new.reading.window.bytes h.covered win h.line saw.reach saw.state trail saw.some saw.so_far q.0)
       enough x k rest e (inr q) =
           let g : List ℕ = given ++ m.took.got in
           let same : x ≡ g = subst (λ b. GoesOnFrom g b x) q.2 k.1 in
@@ -194,11 +194,13 @@ module _ {S K : Type 0} (M : Machine) (laws : MachineLaws M) (gave : S → List 
           let left : length (drop (h.start + old.spot.at) g) ≡ length g - (h.start + old.spot.at) = length-drop (h.start + old.spot.at) g in
           inl (ap (λ z. drop saw.reach (drop (h.start + old.spot.at) g) ++ z) none ∙ append-nil (drop saw.reach (drop (h.start + old.spot.at) g)) ∙ drop_all saw.reach (drop (h.start + old.spot.at) g) (omega (arith, size, left, q.1)))
 
-  pub fell : (e : RunError) → new.failed ≡ true → (e ≡ TooManyReads → Wants M old.spot new.reading) → (w : List ℕ) → Fronts w → Within → Fell M n given m.took.got (out ++ w) new e
-  fell e failed wants w front within = record {
+  pub fell : new.failed ≡ true → (error ≡ TooManyReads → Wants M old.spot new.reading) → (w : List ℕ) → Fronts w → Within →
+      (error ≡ Stack → RanTo (rules_of_machine M) (given ++ m.took.got) (out ++ w) new.reading.at_end StackFault) → Fell M n given m.took.got (out ++ w) new error
+  fell failed wants w front within fault = record {
     failed = failed;
     start = h.start;
     gave_up = record { text = is_text_append given m.took.got h.text m.took.text; end_before = old.reading.at_end; before = before_is; front = front; within = within; asks_end = λ is. wants_end (wants is) };
     held = sym win;
     taken = m.took.taken ∙ ap (λ k. k + length m.took.got) h.taken ∙ sym longer;
+    fault = fault;
   }

@@ -1,11 +1,11 @@
 -- What the statements of an action do, one after another.
 use Rattle.std.proofs.Common.{◌≡◌, ℕ, ◌+◌, ◌<◌, true, List, [], ◌∷◌, ◌++◌, length, take, drop, refl, sym, ◌∙◌, ap, subst}
 use Rattle.std.proofs.lemmas.List.{append-nil, append_assoc, drop_more}
-use Rattle.std.specs.Prelude.{map, get_or}
+use Rattle.std.specs.Prelude.{Bool, false, map, get_or, if◌then◌else◌}
 use Rattle.lexmeaning.specs.Text.{BeginsWith}
-use Rattle.lexmeaning.specs.Spec.{Statement, Echo, Print, Begin, More, Less, Reject, End}
+use Rattle.lexmeaning.specs.Spec.{Statement, Echo, Print, Begin, More, Less, Reject, End, Push, Pop}
 use Rattle.lexmeaning.specs.Acting as Scan
-use Rattle.lexmeaning.specs.Acting.{Went, act}
+use Rattle.lexmeaning.specs.Acting.{Went, Over, StackFault, act, has_room, popped}
 use Rattle.lexscan.specs.declared.act.Acting.{Acting}
 use Rattle.lexscan.specs.declared.act.Step.{Step}
 use Rattle.lexmachine.specs.declared.action.Statement.{Statement as Item}
@@ -24,6 +24,15 @@ prefix_more a b c p = (b ++ p.0, p.1 ∙ append_assoc a b p.0)
 pub prefix_same : (a : List ℕ) → IsPrefixOf a a
 prefix_same a = ([], sym (append-nil a))
 
+-- a fault of the stack leaves what was written
+full_grows : (b : Bool) (a : Scan.Acting) (w : Went) → IsPrefixOf a.written (written_of w) → IsPrefixOf a.written (written_of (if b then w else Over a StackFault))
+full_grows true a w h = h
+full_grows false a w h = prefix_same a.written
+
+empty_grows : (cs : List ℕ) (a : Scan.Acting) (next : ℕ → List ℕ → Went) → ((c : ℕ) (rest : List ℕ) → IsPrefixOf a.written (written_of (next c rest))) → IsPrefixOf a.written (written_of (popped cs a next))
+empty_grows [] a next h = prefix_same a.written
+empty_grows (c ∷ cs) a next h = h c cs
+
 -- an action only adds to what was written
 pub act_grows : (ss : List Statement) (a : Scan.Acting) → IsPrefixOf a.written (written_of (act ss a))
 act_grows [] a = prefix_same a.written
@@ -34,6 +43,8 @@ act_grows (More ∷ ss) a = act_grows ss (record a { more = true })
 act_grows (Less n ∷ ss) a = act_grows ss (record a { text = take n a.text })
 act_grows (Reject ∷ ss) a = prefix_same a.written
 act_grows (End s ∷ ss) a = prefix_same a.written
+act_grows (Push d ∷ ss) a = full_grows (has_room a.stack) a (act ss (record a { condition = d; stack = a.condition ∷ a.stack })) (act_grows ss (record a { condition = d; stack = a.condition ∷ a.stack }))
+act_grows (Pop ∷ ss) a = empty_grows a.stack a (λ c cs. act ss (record a { condition = c; stack = cs })) (λ c cs. act_grows ss (record a { condition = c; stack = cs }))
 
 -- and by what its first statement says
 says_grows : (st : Statement) (ss : List Statement) (a : Scan.Acting) → IsPrefixOf (a.written ++ said st a.text) (written_of (act (st ∷ ss) a))
@@ -44,6 +55,8 @@ says_grows More ss a = subst (λ z. IsPrefixOf z (written_of (act (More ∷ ss) 
 says_grows (Less n) ss a = subst (λ z. IsPrefixOf z (written_of (act (Less n ∷ ss) a))) (sym (append-nil a.written)) (act_grows (Less n ∷ ss) a)
 says_grows Reject ss a = subst (λ z. IsPrefixOf z (written_of (act (Reject ∷ ss) a))) (sym (append-nil a.written)) (act_grows (Reject ∷ ss) a)
 says_grows (End s) ss a = subst (λ z. IsPrefixOf z (written_of (act (End s ∷ ss) a))) (sym (append-nil a.written)) (act_grows (End s ∷ ss) a)
+says_grows (Push d) ss a = subst (λ z. IsPrefixOf z (written_of (act (Push d ∷ ss) a))) (sym (append-nil a.written)) (act_grows (Push d ∷ ss) a)
+says_grows Pop ss a = subst (λ z. IsPrefixOf z (written_of (act (Pop ∷ ss) a))) (sym (append-nil a.written)) (act_grows (Pop ∷ ss) a)
 
 -- nothing said
 pub nothing_said : (w : List ℕ) (a : Acting) (before : List ℕ) → acting_of w a before ≡ acting_of w a (before ++ [])

@@ -1,15 +1,16 @@
 -- What the statements of an action do.
 use Rattle.std.specs.Prelude.{◌≡◌, ℕ, List, [], ◌∷◌, ◌++◌, take}
 use Rattle.lexmeaning.specs.Text.{BeginsWith}
-use Rattle.lexmeaning.specs.Spec.{Statement, Echo, Print, Begin, More, Less, Reject, End}
+use Rattle.lexmeaning.specs.Spec.{Statement, Echo, Print, Begin, More, Less, Reject, End, Push, Pop}
 use Rattle.lexmeaning.specs.Acting as Scan
-use Rattle.lexmeaning.specs.Acting.{Went, Done, Over, Status, act}
+use Rattle.lexmeaning.specs.Acting.{Ending, Status, StackFault, Went, Done, Over, act}
 use Rattle.lexscan.specs.declared.act.Acting.{Acting}
+use Rattle.lexscan.specs.declared.act.Finish.{Finish}
 use Rattle.lexscan.specs.declared.act.Step.{Step}
 
 -- over these bytes, after so much was written
 abbrev pub acting_of : List ℕ → Acting → List ℕ → Scan.Acting
-acting_of w a before = record { text = take a.end w; written = before; condition = a.condition; more = a.more }
+acting_of w a before = record { text = take a.end w; written = before; condition = a.condition; stack = a.stack; more = a.more }
 
 -- what a statement writes of a text
 abbrev pub said : Statement → List ℕ → List ℕ
@@ -20,12 +21,18 @@ said More text = []
 said (Less n) text = []
 said Reject text = []
 said (End s) text = []
+said (Push d) text = []
+said Pop text = []
+
+abbrev pub finish_of : Finish → Ending
+finish_of (Finish.Status s) = Status s
+finish_of Finish.StackFault = StackFault
 
 -- what follows, where these statements are left
 abbrev pub after_step : Step → List Statement → Scan.Acting → Went
 after_step Step.Next rest a = act rest a
 after_step Step.Again rest a = Scan.Again a
-after_step (Step.Over s) rest a = Over a (Status s)
+after_step (Step.Over f) rest a = Over a (finish_of f)
 
 abbrev pub Steps : List ℕ → Statement → Acting → Acting → Step → Type 0
 Steps w st old new step = (before : List ℕ) (rest : List Statement) → act (st ∷ rest) (acting_of w old before) ≡ after_step step rest (acting_of w new (before ++ said st (take old.end w)))

@@ -1,44 +1,62 @@
 -- How the matches at a place are tried, one after another.
-use Rattle.std.specs.Prelude.{◌≡◌, ℕ, List, [], ◌++◌, take, drop, Option, Some, None}
+use Rattle.std.specs.Prelude.{◌≡◌, ℕ, ◌≤◌, List, [], ◌++◌, length, take, drop, Option, Some, None}
 use Rattle.lexmeaning.specs.Text.{BeginsWith}
 use Rattle.lexmeaning.specs.Candidates.{Candidate}
-use Rattle.lexmeaning.specs.Acting.{Ending, Status, Matched, settle, perform}
+use Rattle.lexmeaning.specs.Acting as Scan
+use Rattle.lexmeaning.specs.Acting.{Ending, Status, StackFault, Matched, settle, perform}
 use Rattle.lexmeaning.specs.Machine.{Machine, rules_of_machine}
 use Rattle.lexmeaning.specs.Plain.{default_match}
 use Rattle.lexmeaning.specs.Trail.{falling}
 use Rattle.lexscan.specs.declared.act.Acting.{Acting}
+use Rattle.lexscan.specs.declared.act.Finish.{Finish}
 use Rattle.lexscan.specs.declared.act.Step.{Step}
-use Rattle.lexscan.specs.Acts.{acting_of, after_step}
+use Rattle.lexscan.specs.declared.state.State.{State}
+use Rattle.lexscan.specs.Acts.{acting_of, after_step, finish_of}
+
+-- the condition of the next match, and the stack of conditions
+pub record Conditions : Type 0 where
+  pub next : ℕ
+  pub stack : List ℕ
+
+abbrev pub conditions_of : Acting → Conditions
+conditions_of a = record { next = a.condition; stack = a.stack }
+
+abbrev pub conditions_in : Scan.Acting → Conditions
+conditions_in a = record { next = a.condition; stack = a.stack }
+
+-- those with which a turn begins
+abbrev pub conditions_at : State → Conditions
+conditions_at s = record { next = s.spot.condition; stack = s.acting.stack }
 
 -- what the actions of these matches make of the bytes w, where a match starts at a place in them
-abbrev pub outcome : Machine → List ℕ → ℕ → List Candidate → List ℕ → ℕ → Option Matched
-outcome M w at ms before condition = perform (rules_of_machine M) (take at w) (drop at w) ms before condition
+abbrev pub outcome : Machine → List ℕ → ℕ → List Candidate → List ℕ → Conditions → Option Matched
+outcome M w at ms before c = perform (rules_of_machine M) (take at w) (drop at w) ms before c.next c.stack
 
 -- all the matches that these states tell
 abbrev pub matches_of : Machine → List ℕ → ℕ → List ℕ → List Candidate
 matches_of M w at trail = falling M 0 trail ++ default_match M.count (drop at w)
 
 -- All matches up to some were rejected: these are left.
-pub record Passed {K : Type 0} (M : Machine) (wrote : K → List ℕ → K → Type 0) (s t : K) (w : List ℕ) (at : ℕ) (all left : List Candidate) (old new : ℕ) : Type 0 where
+pub record Passed {K : Type 0} (M : Machine) (wrote : K → List ℕ → K → Type 0) (s t : K) (w : List ℕ) (at : ℕ) (all left : List Candidate) (old new : Conditions) : Type 0 where
   pub out : List ℕ
   pub sink : wrote s out t
   pub acts : (before : List ℕ) (rest : List Candidate) → outcome M w at (all ++ rest) before old ≡ outcome M w at (left ++ rest) (before ++ out) new
 
 -- These matches were tried, and this is what follows.
-pub record Tried {K : Type 0} (M : Machine) (wrote : K → List ℕ → K → Type 0) (s t : K) (w : List ℕ) (at : ℕ) (all : List Candidate) (old : ℕ) (new : Acting) (step : Step) : Type 0 where
+pub record Tried {K : Type 0} (M : Machine) (wrote : K → List ℕ → K → Type 0) (s t : K) (w : List ℕ) (at : ℕ) (all : List Candidate) (old : Conditions) (new : Acting) (step : Step) : Type 0 where
   pub out : List ℕ
   pub sink : wrote s out t
   pub acts : (before : List ℕ) (rest : List Candidate) →
-      outcome M w at (all ++ rest) before old ≡ settle (after_step step [] (acting_of w new (before ++ out))) (λ a. outcome M w at rest a.written a.condition)
+      outcome M w at (all ++ rest) before old ≡ settle (after_step step [] (acting_of w new (before ++ out))) (λ a. outcome M w at rest a.written (conditions_in a))
 
 -- One of these matches was cut short: what was written is a front of what they all make of it.
-pub record CutOff {K : Type 0} (M : Machine) (wrote : K → List ℕ → K → Type 0) (s t : K) (w : List ℕ) (at : ℕ) (all : List Candidate) (old : ℕ) : Type 0 where
+pub record CutOff {K : Type 0} (M : Machine) (wrote : K → List ℕ → K → Type 0) (s t : K) (w : List ℕ) (at : ℕ) (all : List Candidate) (old : Conditions) : Type 0 where
   pub out : List ℕ
   pub sink : wrote s out t
   pub front : (before : List ℕ) (rest : List Candidate) (o : Matched) → outcome M w at (all ++ rest) before old ≡ Some o → BeginsWith o.after.written (before ++ out)
 
 -- The same, where no others follow.
-pub record CutAll {K : Type 0} (M : Machine) (wrote : K → List ℕ → K → Type 0) (s t : K) (w : List ℕ) (at : ℕ) (all : List Candidate) (old : ℕ) : Type 0 where
+pub record CutAll {K : Type 0} (M : Machine) (wrote : K → List ℕ → K → Type 0) (s t : K) (w : List ℕ) (at : ℕ) (all : List Candidate) (old : Conditions) : Type 0 where
   pub out : List ℕ
   pub sink : wrote s out t
   pub front : (before : List ℕ) (o : Matched) → outcome M w at all before old ≡ Some o → BeginsWith o.after.written (before ++ out)
@@ -47,8 +65,18 @@ abbrev pub ending_of : Option ℕ → Option Ending
 ending_of None = None
 ending_of (Some s) = Some (Status s)
 
+abbrev pub finished_of : Option Finish → Option Ending
+finished_of None = None
+finished_of (Some f) = Some (finish_of f)
+
 -- One of the matches was not rejected.
-pub record Performed {K : Type 0} (M : Machine) (wrote : K → List ℕ → K → Type 0) (s t : K) (w : List ℕ) (at : ℕ) (all : List Candidate) (old : ℕ) (new : Acting) (ended : Option ℕ) : Type 0 where
+pub record Performed {K : Type 0} (M : Machine) (wrote : K → List ℕ → K → Type 0) (s t : K) (w : List ℕ) (at : ℕ) (all : List Candidate) (old : Conditions) (new : Acting) (ended : Option Ending) : Type 0 where
   pub out : List ℕ
   pub sink : wrote s out t
-  pub acts : (before : List ℕ) → outcome M w at all before old ≡ Some (record { after = acting_of w new (before ++ out); ended = ending_of ended })
+  pub acts : (before : List ℕ) → outcome M w at all before old ≡ Some (record { after = acting_of w new (before ++ out); ended = ended })
+
+-- One of them was not rejected, and the stack of conditions was at fault in it.
+pub record Faulted {K : Type 0} (M : Machine) (wrote : K → List ℕ → K → Type 0) (s t : K) (w : List ℕ) (at : ℕ) (all : List Candidate) (old : Conditions) : Type 0 where
+  pub acting : Acting
+  pub performed : Performed M wrote s t w at all old acting (Some StackFault)
+  pub inside : acting.end ≤ length w

@@ -6,6 +6,7 @@ pub mod Sees
 pub mod Acts
 pub mod Descends
 pub mod Moves
+pub mod Stacks
 pub mod Stands
 pub mod Runs
 pub mod Picks

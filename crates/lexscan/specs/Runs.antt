@@ -1,7 +1,7 @@
 -- What a whole run leaves.
 use Rattle.std.specs.Prelude.{◌≡◌, ℕ, Bool, List, ◌++◌, length, Some, Result, Ok, Err}
 use Rattle.lexmeaning.specs.Rules.{Rules}
-use Rattle.lexmeaning.specs.Acting.{Status}
+use Rattle.lexmeaning.specs.Acting.{Status, StackFault}
 use Rattle.lexmeaning.specs.Run as Scan
 use Rattle.lexmeaning.specs.Run.{Run}
 use Rattle.lexmeaning.specs.Demand.{Consistent}
@@ -9,8 +9,8 @@ use Rattle.lexmeaning.specs.Scanned.{Scanned}
 use Rattle.lexmeaning.specs.Machine.{Machine}
 use Rattle.lexscan.specs.declared.state.State.{State}
 use Rattle.lexscan.specs.declared.error.RunError.{RunError}
-use Rattle.lexscan.specs.declared.error.RunError.TheVariants.{TooManyReads}
-use Rattle.lexscan.specs.Stands.{Stands, GaveUp}
+use Rattle.lexscan.specs.declared.error.RunError.TheVariants.{TooManyReads, Stack}
+use Rattle.lexscan.specs.Stands.{Stands, GaveUp, RanTo}
 
 -- After some turns these bytes were given and written.
 pub record Running {S K : Type 0} (M : Machine) (gave : S → List ℕ → S → Type 0) (wrote : K → List ℕ → K → Type 0) (s s' : S) (t t' : K) (now : State) : Type 0 where
@@ -21,17 +21,8 @@ pub record Running {S K : Type 0} (M : Machine) (gave : S → List ℕ → S →
   pub sink : wrote t out t'
   pub stands : Stands M turns given out now
 
--- The scan has ended: this is the run of every consistent input, and the turns up to its end ask for just what the
--- source has told.
-pub record RanTo (R : Rules) (given out : List ℕ) (at_end : Bool) (status : ℕ) : Type 0 where
-  pub turns : ℕ
-  pub last : Scan.State
-  pub scanned : Scanned R given at_end turns last
-  pub writes : last.written ≡ out
-  pub ends : last.ended ≡ Some (Status status)
-  pub run : (x : List ℕ) → Consistent given at_end x → Run R x out (Status status)
-
--- A turn was refused: what was written is a front of what the run of each consistent input writes.
+-- A turn was refused: what was written is a front of what the run of each consistent input writes; where the stack was at
+-- fault, it is all of it, and the run ends so.
 pub record RanInto (R : Rules) (given out : List ℕ) (at_end : Bool) (max_reads : ℕ) (e : RunError) : Type 0 where
   pub turns : ℕ
   pub start : ℕ
@@ -40,7 +31,8 @@ pub record RanInto (R : Rules) (given out : List ℕ) (at_end : Bool) (max_reads
   pub all : given ≡ had ++ got
   pub gave_up : GaveUp R turns start had got out at_end e
   pub too_many : e ≡ TooManyReads → length given ≡ max_reads
+  pub fault : e ≡ Stack → RanTo R given out at_end StackFault
 
 abbrev pub Ran : Rules → List ℕ → List ℕ → Bool → ℕ → Result ℕ RunError → Type 0
-Ran R given out at_end max_reads (Ok status) = RanTo R given out at_end status
+Ran R given out at_end max_reads (Ok status) = RanTo R given out at_end (Status status)
 Ran R given out at_end max_reads (Err e) = RanInto R given out at_end max_reads e

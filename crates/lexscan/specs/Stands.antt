@@ -1,8 +1,8 @@
 -- What is known of a scanner after some turns.
-use Rattle.std.specs.Prelude.{◌≡◌, ℕ, suc, ◌+◌, ◌≤◌, Bool, true, false, List, [], ◌++◌, length, drop, None, Result, Ok, Err}
+use Rattle.std.specs.Prelude.{◌≡◌, ℕ, suc, ◌+◌, ◌≤◌, Bool, true, false, List, [], ◌++◌, length, drop, Some, None, Result, Ok, Err}
 use Rattle.lexmeaning.specs.Text.{IsText, BeginsWith, at_line_start}
 use Rattle.lexmeaning.specs.Rules.{Rules}
-use Rattle.lexmeaning.specs.Acting.{Ending}
+use Rattle.lexmeaning.specs.Acting.{Ending, StackFault}
 use Rattle.lexmeaning.specs.Run as Scan
 use Rattle.lexmeaning.specs.Run.{Turns, Run}
 use Rattle.lexmeaning.specs.Demand.{Consistent}
@@ -11,7 +11,7 @@ use Rattle.lexmeaning.specs.Machine.{Machine, rules_of_machine}
 use Rattle.lexscan.specs.declared.state.State.{State}
 use Rattle.lexscan.specs.declared.turn.Turn.{Turn}
 use Rattle.lexscan.specs.declared.error.RunError.{RunError}
-use Rattle.lexscan.specs.declared.error.RunError.TheVariants.{TooManyReads}
+use Rattle.lexscan.specs.declared.error.RunError.TheVariants.{TooManyReads, Stack}
 use Rattle.lexscan.specs.Descends.{ending_of}
 use Rattle.lexscan.specs.Moves.{Says}
 
@@ -19,7 +19,7 @@ use Rattle.lexscan.specs.Moves.{Says}
 abbrev pub state_of : List ℕ → ℕ → State → Scan.State
 state_of out start s = record {
   written = out;
-  place = record { start = start; at = start + s.spot.at; condition = s.spot.condition };
+  place = record { start = start; at = start + s.spot.at; condition = s.spot.condition; stack = s.acting.stack };
   ended = ending_of s.ended;
 }
 
@@ -54,13 +54,25 @@ pub record GaveUp (R : Rules) (n start : ℕ) (given got out : List ℕ) (at_end
   pub within : (x : List ℕ) → Consistent (given ++ got) at_end x → (t : Scan.State) (far : ℕ) (asked : Bool) → AfterTurns R x (suc n) t far asked → length (given ++ got) ≤ far
   pub asks_end : e ≡ TooManyReads → (end_before ≡ false) × ((t : Scan.State) (far : ℕ) (asked : Bool) → AfterTurns R (given ++ got) (suc n) t far asked → asked ≡ true)
 
--- The bytes held are those from the text's start on, as the refused turn found it.
+-- The scan has ended: this is the run of every consistent input, and the turns up to its end ask for just what the
+-- source has told.
+pub record RanTo (R : Rules) (given out : List ℕ) (at_end : Bool) (ending : Ending) : Type 0 where
+  pub turns : ℕ
+  pub last : Scan.State
+  pub scanned : Scanned R given at_end turns last
+  pub writes : last.written ≡ out
+  pub ends : last.ended ≡ Some ending
+  pub run : (x : List ℕ) → Consistent given at_end x → Run R x out ending
+
+-- The bytes held are those from the text's start on, as the refused turn found it. The stack was at fault where the run
+-- ends so, with what was written.
 pub record Fell (M : Machine) (n : ℕ) (given got out : List ℕ) (s : State) (e : RunError) : Type 0 where
   pub failed : s.failed ≡ true
   pub start : ℕ
   pub gave_up : GaveUp (rules_of_machine M) n start given got out s.reading.at_end e
   pub held : s.reading.window.bytes ≡ drop start (given ++ got)
   pub taken : s.reading.taken ≡ length (given ++ got)
+  pub fault : e ≡ Stack → RanTo (rules_of_machine M) (given ++ got) out s.reading.at_end StackFault
 
 -- Once the source has answered its end, it gives nothing more.
 abbrev pub NoneAfterEnd : State → State → List ℕ → Type 0

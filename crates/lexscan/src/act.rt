@@ -7,16 +7,26 @@ ghost use Rattle.lexscan.specs.Acts.{said, Steps, Carried, CutShort};
 
 use crate::error::RunError;
 use crate::intake::Outlet;
+use crate::stack::Stack;
 use crate::window::Window;
 use lexends::Sink;
 use lexmachine::Statement;
 
-/// The text's end in the window, the condition of the next match, and whether the next text is appended to this one.
-#[derive(Clone, Copy, PartialEq, Eq)]
+/// The text's end in the window, the condition of the next match, the stack of conditions, and whether the next text is
+/// appended to this one.
+#[derive(Drop)]
 pub struct Acting {
     pub end: usize,
     pub condition: u8,
+    pub stack: Stack,
     pub more: bool,
+}
+
+/// How a scan ends: with a status, or because the stack of conditions was full or empty.
+#[derive(Clone, Copy, Debug, PartialEq, Eq)]
+pub enum Finish {
+    Status(u8),
+    StackFault,
 }
 
 /// What follows a statement or an action.
@@ -24,7 +34,7 @@ pub struct Acting {
 pub enum Step {
     Next,
     Again,
-    Over(u8),
+    Over(Finish),
 }
 
 /// Writes the bytes.
@@ -91,7 +101,22 @@ pub fn carry_one<K: Sink>(
             Ok(Step::Next)
         }
         Statement::Reject => Ok(Step::Again),
-        Statement::End(status) => Ok(Step::Over(*status)),
+        Statement::End(status) => Ok(Step::Over(Finish::Status(*status))),
+        Statement::Push(condition) => {
+            if acting.stack.push(acting.condition) {
+                acting.condition = *condition;
+                Ok(Step::Next)
+            } else {
+                Ok(Step::Over(Finish::StackFault))
+            }
+        }
+        Statement::Pop => match acting.stack.pop() {
+            Some(condition) => {
+                acting.condition = condition;
+                Ok(Step::Next)
+            }
+            None => Ok(Step::Over(Finish::StackFault)),
+        },
     }
 }
 
@@ -120,7 +145,7 @@ pub fn carry_out<K: Sink>(
             Err(e) => return Err(e),
             Ok(Step::Next) => {}
             Ok(Step::Again) => return Ok(Step::Again),
-            Ok(Step::Over(status)) => return Ok(Step::Over(status)),
+            Ok(Step::Over(finish)) => return Ok(Step::Over(finish)),
         }
     }
     Ok(Step::Next)

@@ -4,9 +4,9 @@ ghost use Rattle.lexmeaning.specs.Text.{Among};
 ghost use Rattle.lexmeaning.specs.PlainMachine.{kept_by, match_of};
 ghost use Rattle.lexmachine.specs.Views.{cut_of};
 ghost use Rattle.lexscan.specs.Reads.{write_fault_count};
-ghost use Rattle.lexscan.specs.Descends.{matches_of, Tried, CutOff, CutAll, Performed};
+ghost use Rattle.lexscan.specs.Descends.{matches_of, conditions_of, finished_of, Tried, CutOff, CutAll, Performed};
 
-use crate::act::{Acting, Step, carry_out, put};
+use crate::act::{Acting, Finish, Step, carry_out, put};
 use crate::error::RunError;
 use crate::intake::Outlet;
 use crate::trail::Trail;
@@ -57,8 +57,8 @@ fn try_rules<M: Machine, K: Sink>(
     ensures refusals { IfErr result (λ e. e ≡ RunError.Write) }
 
     ensures inside { acting.new.end ≤ length window.now.bytes }
-    ensures tried { IfOk result (λ step. Tried (M.machine machine.now) K.wrote outlet.old.sink.now outlet.new.sink.now window.now.bytes at (filter_map (match_of (M.machine machine.now) len) rules.now) acting.old.condition acting.new step) }
-    ensures cut_off { OnErr result (CutOff (M.machine machine.now) K.wrote outlet.old.sink.now outlet.new.sink.now window.now.bytes at (filter_map (match_of (M.machine machine.now) len) rules.now) acting.old.condition) }
+    ensures tried { IfOk result (λ step. Tried (M.machine machine.now) K.wrote outlet.old.sink.now outlet.new.sink.now window.now.bytes at (filter_map (match_of (M.machine machine.now) len) rules.now) (conditions_of acting.old) acting.new step) }
+    ensures cut_off { OnErr result (CutOff (M.machine machine.now) K.wrote outlet.old.sink.now outlet.new.sink.now window.now.bytes at (filter_map (match_of (M.machine machine.now) len) rules.now) (conditions_of acting.old)) }
 {
     let held = window.len();
     for rule in rules {
@@ -71,15 +71,15 @@ fn try_rules<M: Machine, K: Sink>(
                 Err(e) => return Err(e),
                 Ok(Step::Next) => return Ok(Step::Next),
                 Ok(Step::Again) => {}
-                Ok(Step::Over(status)) => return Ok(Step::Over(status)),
+                Ok(Step::Over(finish)) => return Ok(Step::Over(finish)),
             }
         }
     }
     Ok(Step::Again)
 }
 
-/// Tries the matches at a place, the longest first, and carries out the first that is not rejected. Answers the status of
-/// a scan that it ends.
+/// Tries the matches at a place, the longest first, and carries out the first that is not rejected. Answers how the
+/// scan ends, if it does.
 pub fn descend<M: Machine, K: Sink>(
     machine: &M,
     outlet: &mut Outlet<'_, K>,
@@ -87,7 +87,7 @@ pub fn descend<M: Machine, K: Sink>(
     trail: &Trail,
     at: usize,
     acting: &mut Acting,
-) -> Result<Option<u8>, RunError>
+) -> Result<Option<Finish>, RunError>
     requires live { outlet.old.live ≡ true }
     requires some { 1 ≤ length trail.now.states }
     requires place { at + length trail.now.states ≤ length window.now.bytes }
@@ -100,8 +100,8 @@ pub fn descend<M: Machine, K: Sink>(
     ensures refusals { IfErr result (λ e. e ≡ RunError.Write) }
 
     ensures inside { acting.new.end ≤ length window.now.bytes }
-    ensures performed { IfOk result (λ ended. Performed (M.machine machine.now) K.wrote outlet.old.sink.now outlet.new.sink.now window.now.bytes at (matches_of (M.machine machine.now) window.now.bytes at trail.now.states) acting.old.condition acting.new ended) }
-    ensures cut_off { OnErr result (CutAll (M.machine machine.now) K.wrote outlet.old.sink.now outlet.new.sink.now window.now.bytes at (matches_of (M.machine machine.now) window.now.bytes at trail.now.states) acting.old.condition) }
+    ensures performed { IfOk result (λ ended. Performed (M.machine machine.now) K.wrote outlet.old.sink.now outlet.new.sink.now window.now.bytes at (matches_of (M.machine machine.now) window.now.bytes at trail.now.states) (conditions_of acting.old) acting.new (finished_of ended)) }
+    ensures cut_off { OnErr result (CutAll (M.machine machine.now) K.wrote outlet.old.sink.now outlet.new.sink.now window.now.bytes at (matches_of (M.machine machine.now) window.now.bytes at trail.now.states) (conditions_of acting.old)) }
 {
     let mut len = trail.len();
     'lengths: while 0 < len {
@@ -110,7 +110,7 @@ pub fn descend<M: Machine, K: Sink>(
             Err(e) => return Err(e),
             Ok(Step::Next) => return Ok(None),
             Ok(Step::Again) => {}
-            Ok(Step::Over(status)) => return Ok(Some(status)),
+            Ok(Step::Over(finish)) => return Ok(Some(finish)),
         }
         len -= 1;
     }

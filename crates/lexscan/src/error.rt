@@ -17,6 +17,9 @@ pub enum RunError {
     /// Memory ran out.
     #[error("out of memory")]
     OutOfMemory,
+    /// The stack of start conditions was full at a push, or empty at a pop.
+    #[error("condition stack")]
+    Stack,
     /// An earlier turn of the same scan was refused.
     #[error("failed")]
     Failed,

@@ -9,6 +9,7 @@ mod pick;
 mod reading;
 mod scanner;
 mod see;
+mod stack;
 mod state;
 mod trail;
 mod turn;

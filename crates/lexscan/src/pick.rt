@@ -5,10 +5,10 @@ ghost use Rattle.lexmeaning.specs.PlainMachine.{match_of};
 ghost use Rattle.lexmeaning.specs.Trail.{falling};
 ghost use Rattle.lexmeaning.specs.MachineLaws.{NoReject};
 ghost use Rattle.lexscan.specs.Reads.{write_fault_count};
-ghost use Rattle.lexscan.specs.Descends.{matches_of, CutAll, Performed};
+ghost use Rattle.lexscan.specs.Descends.{matches_of, CutAll, Performed, conditions_of, finished_of};
 ghost use Rattle.lexscan.specs.Picks.{IsFirst, Tells, trail_of};
 
-use crate::act::{Acting, Step, carry_out, put};
+use crate::act::{Acting, Finish, Step, carry_out, put};
 use crate::descent::kept;
 use crate::error::RunError;
 use crate::intake::Outlet;
@@ -100,7 +100,7 @@ pub fn longest<M: Machine>(machine: &M, window: &Window, spot: Spot, seen: Seen)
     walk_again(machine, window, spot, len)
 }
 
-/// Carries out this match, or the default match where there is none. Answers the status of a scan that it ends.
+/// Carries out this match, or the default match where there is none. Answers how the scan ends, if it does.
 pub fn carry_pick<M: Machine, K: Sink>(
     machine: &M,
     outlet: &mut Outlet<'_, K>,
@@ -109,7 +109,7 @@ pub fn carry_pick<M: Machine, K: Sink>(
     seen: Seen,
     pick: Option<Pick>,
     acting: &mut Acting,
-) -> Result<Option<u8>, RunError>
+) -> Result<Option<Finish>, RunError>
     requires live { outlet.old.live ≡ true }
     requires quiet { NoReject (M.machine machine.now) }
     requires place { spot.at + seen.reach ≤ length window.now.bytes }
@@ -124,8 +124,8 @@ pub fn carry_pick<M: Machine, K: Sink>(
     ensures refusals { IfErr result (λ e. e ≡ RunError.Write) }
 
     ensures inside { acting.new.end ≤ length window.now.bytes }
-    ensures performed { IfOk result (λ ended. Performed (M.machine machine.now) K.wrote outlet.old.sink.now outlet.new.sink.now window.now.bytes spot.at (matches_of (M.machine machine.now) window.now.bytes spot.at (trail_of (M.machine machine.now) spot window.now.bytes seen.reach)) acting.old.condition acting.new ended) }
-    ensures cut_off { OnErr result (CutAll (M.machine machine.now) K.wrote outlet.old.sink.now outlet.new.sink.now window.now.bytes spot.at (matches_of (M.machine machine.now) window.now.bytes spot.at (trail_of (M.machine machine.now) spot window.now.bytes seen.reach)) acting.old.condition) }
+    ensures performed { IfOk result (λ ended. Performed (M.machine machine.now) K.wrote outlet.old.sink.now outlet.new.sink.now window.now.bytes spot.at (matches_of (M.machine machine.now) window.now.bytes spot.at (trail_of (M.machine machine.now) spot window.now.bytes seen.reach)) (conditions_of acting.old) acting.new (finished_of ended)) }
+    ensures cut_off { OnErr result (CutAll (M.machine machine.now) K.wrote outlet.old.sink.now outlet.new.sink.now window.now.bytes spot.at (matches_of (M.machine machine.now) window.now.bytes spot.at (trail_of (M.machine machine.now) spot window.now.bytes seen.reach)) (conditions_of acting.old)) }
 {
     let held = window.len();
     acting.more = false;
@@ -138,7 +138,7 @@ pub fn carry_pick<M: Machine, K: Sink>(
                 Err(e) => Err(e),
                 Ok(Step::Next) => Ok(None),
                 Ok(Step::Again) => Ok(None),
-                Ok(Step::Over(status)) => Ok(Some(status)),
+                Ok(Step::Over(finish)) => Ok(Some(finish)),
             }
         }
         None => {

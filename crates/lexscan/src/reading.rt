@@ -37,6 +37,7 @@ fn take_plain<S: Source>(
     ensures too_many { IsErrOf result RunError.TooManyReads → reading.old.taken ≡ reading.old.max_reads }
     ensures not_write { IsErrOf result RunError.Write → ⊥ }
     ensures not_failed { IsErrOf result RunError.Failed → ⊥ }
+    ensures not_stack { IsErrOf result RunError.Stack → ⊥ }
 {
     if reading.taken >= reading.max_reads {
         return Err(RunError::TooManyReads);
@@ -85,6 +86,7 @@ fn take_byte<S: Source>(
     ensures too_many { IsErrOf result RunError.TooManyReads → reading.old.taken ≡ reading.old.max_reads }
     ensures not_write { IsErrOf result RunError.Write → ⊥ }
     ensures not_failed { IsErrOf result RunError.Failed → ⊥ }
+    ensures not_stack { IsErrOf result RunError.Stack → ⊥ }
 {
     if reading.max_reads <= reading.taken {
         return Err(RunError::TooManyReads);
@@ -164,6 +166,7 @@ pub fn fetch<S: Source>(
     ensures too_many { IsErrOf result RunError.TooManyReads → (reading.new.taken ≡ reading.new.max_reads) × IsWanted reading.old reading.new next }
     ensures not_write { IsErrOf result RunError.Write → ⊥ }
     ensures not_failed { IsErrOf result RunError.Failed → ⊥ }
+    ensures not_stack { IsErrOf result RunError.Stack → ⊥ }
 {
     if next < reading.window.len() {
         return match trail.reserve() {

@@ -1,6 +1,8 @@
 //! A scanner.
 ghost use Rattle.std.specs.Prelude.{◌≡◌, ℕ, ◌+◌, ◌-◌, ◌^◌, ◌<◌, ◌≤◌, List, [], ◌++◌, length, true, false, Some, None, Ok, Err, IsErrOf};
+ghost use Rattle.lexmeaning.specs.Text.{AllBelow};
 ghost use Rattle.lexscan.specs.Reads.{read_fault_count, write_fault_count, end_step};
+ghost use Rattle.lexscan.specs.Stacks.{AllBelow-prop};
 ghost use Rattle.lexscan.specs.Stands.{NoneAfterEnd, GoesOn, Stands};
 
 use crate::error::RunError;
@@ -24,6 +26,7 @@ pub struct Scanner<'a, M: Machine, S: Source, K: Sink> {
     ghost may_write: { state.failed ≡ false → outlet.live ≡ true },
     ghost condition: { state.spot.condition < (M.machine machine.now).conditions },
     ghost inside: { state.spot.at ≤ length state.reading.window.bytes },
+    ghost stack: { state.failed ≡ false → AllBelow (M.machine machine.now).conditions state.acting.stack } by { λ x y. λ k. λ e. AllBelow-prop (M.machine machine.now).conditions state.acting.stack (x e) (y e) k },
 }
 
 impl<'a, M: Machine, S: Source, K: Sink> Scanner<'a, M, S, K> {

@@ -42,6 +42,7 @@ pub fn see<M: Machine, S: Source>(
     ensures too_many { IsErrOf result RunError.TooManyReads → (reading.new.taken ≡ reading.new.max_reads) × Wants (M.machine machine.now) spot reading.new }
     ensures not_write { IsErrOf result RunError.Write → ⊥ }
     ensures not_failed { IsErrOf result RunError.Failed → ⊥ }
+    ensures not_stack { IsErrOf result RunError.Stack → ⊥ }
 {
     trail.clear();
     let mut state = machine.start(spot.condition, spot.line_start);
@@ -88,6 +89,7 @@ pub fn see_last<M: Machine, S: Source>(
     ensures too_many { IsErrOf result RunError.TooManyReads → reading.new.taken ≡ reading.new.max_reads }
     ensures not_write { IsErrOf result RunError.Write → ⊥ }
     ensures not_failed { IsErrOf result RunError.Failed → ⊥ }
+    ensures not_stack { IsErrOf result RunError.Stack → ⊥ }
 {
     let held = reading.window.len();
     let mut state = machine.start(spot.condition, spot.line_start);
@@ -159,6 +161,7 @@ fn see_more<M: Machine, S: Source>(
     ensures too_many { IsErrOf result RunError.TooManyReads → reading.new.taken ≡ reading.new.max_reads }
     ensures not_write { IsErrOf result RunError.Write → ⊥ }
     ensures not_failed { IsErrOf result RunError.Failed → ⊥ }
+    ensures not_stack { IsErrOf result RunError.Stack → ⊥ }
 {
     let mut now = seen;
     'fills: while !reading.at_end {

@@ -1,16 +1,16 @@
 //! A scan, one turn at a time, over the parts of a scanner.
-ghost use Rattle.std.specs.Prelude.{◌≡◌, ℕ, ◌+◌, ◌-◌, ◌^◌, ◌<◌, ◌≤◌, List, [], ◌∷◌, ◌++◌, length, true, false, Some, None, Ok, Err, OnOk, OnErr, IfOk, IfErr, IsErrOf, nat_eq, get_or};
+ghost use Rattle.std.specs.Prelude.{◌≡◌, ℕ, ◌+◌, ◌-◌, ◌^◌, ◌<◌, ◌≤◌, List, [], ◌∷◌, ◌++◌, length, true, false, Some, None, Ok, Err, OnOk, OnErr, IfOk, IfErr, IsErrOf, nat_eq, get_or, ◌⊎◌};
 ghost use Rattle.lexends.specs.Sink.{Appended};
-ghost use Rattle.lexmeaning.specs.Text.{Among};
+ghost use Rattle.lexmeaning.specs.Text.{Among, AllBelow};
 ghost use Rattle.lexscan.specs.Reads.{read_fault_count, write_fault_count, end_step};
 ghost use Rattle.lexscan.specs.Sees.{Wants};
-ghost use Rattle.lexscan.specs.Descends.{matches_of, CutAll};
+ghost use Rattle.lexscan.specs.Descends.{matches_of, conditions_at, CutAll, Faulted};
 ghost use Rattle.lexmeaning.specs.MachineLaws.{NoReject};
 ghost use Rattle.lexscan.specs.Picks.{Tells, trail_of};
 ghost use Rattle.lexscan.specs.Stands.{NoneAfterEnd, GoesOn};
-ghost use Rattle.lexscan.specs.Moves.{stays, left_bytes, left_at, Left, Acted, EndLeft, Moved};
+ghost use Rattle.lexscan.specs.Moves.{stays, left_bytes, left_at, Left, Acted, EndLeft, Moved, Untouched};
 
-use crate::act::{Acting, put};
+use crate::act::{Finish, put};
 use crate::descent::descend;
 use crate::error::RunError;
 use crate::intake::{Intake, Outlet};
@@ -44,21 +44,21 @@ fn flush<K: Sink>(outlet: &mut Outlet<'_, K>) -> Result<(), RunError>
 }
 
 /// Goes to the place of the next match.
-fn leave(state: &mut State, acting: Acting, over: bool)
-    requires { acting.end ≤ length state.old.reading.window.bytes }
-    ensures left { Left state.old.reading.window.bytes acting over state.new }
+fn leave(state: &mut State, over: bool)
+    requires { state.old.acting.end ≤ length state.old.reading.window.bytes }
+    ensures left { Left state.old.reading.window.bytes state.old.acting over state.new }
     ensures taken { state.new.reading.taken ≡ state.old.reading.taken }
     ensures at_end { state.new.reading.at_end ≡ state.old.reading.at_end }
     ensures max_reads { state.new.reading.max_reads ≡ state.old.reading.max_reads }
     ensures ended { state.new.ended ≡ state.old.ended }
     ensures failed { state.new.failed ≡ state.old.failed }
 {
-    let end = acting.end;
+    let end = state.acting.end;
     if 0 < end {
         state.spot.line_start = state.reading.window.byte(end - 1) == b'\n';
     }
-    state.spot.condition = acting.condition;
-    if acting.more && !over {
+    state.spot.condition = state.acting.condition;
+    if state.acting.more && !over {
         state.spot.at = end;
     } else {
         state.reading.window.drop_front(end);
@@ -81,42 +81,46 @@ fn match_turn<M: Machine, K: Sink>(
     ensures same { outlet.new.sink.ghost_name ≡ outlet.old.sink.ghost_name }
     ensures failures { K.failures outlet.new.sink.now ≡ K.failures outlet.old.sink.now + write_fault_count result }
     ensures live { OnOk result (outlet.new.live ≡ true) }
-    ensures refusals { IfErr result (λ e. e ≡ RunError.Write) }
+    ensures refusals { IfErr result (λ e. (e ≡ RunError.Write) ⊎ (e ≡ RunError.Stack)) }
     ensures failed { state.new.failed ≡ state.old.failed }
     ensures max_reads { state.new.reading.max_reads ≡ state.old.reading.max_reads }
 
-    ensures acted { IfOk result (λ turn. Acted (M.machine machine.now) K.wrote outlet.old.sink.now outlet.new.sink.now state.old.reading state.old.spot trail.now.states state.new turn) }
+    ensures acted { IfOk result (λ turn. Acted (M.machine machine.now) K.wrote outlet.old.sink.now outlet.new.sink.now state.old.reading state.old.spot (conditions_at state.old) trail.now.states state.new turn) }
     ensures going { result ≡ Ok Turn.Went → state.new.ended ≡ state.old.ended }
     ensures cut_off { OnErr result (CutAll (M.machine machine.now) K.wrote outlet.old.sink.now outlet.new.sink.now state.old.reading.window.bytes state.old.spot.at
-        (matches_of (M.machine machine.now) state.old.reading.window.bytes state.old.spot.at trail.now.states) state.old.spot.condition) }
-    ensures unchanged { OnErr result (state.new ≡ state.old) }
+        (matches_of (M.machine machine.now) state.old.reading.window.bytes state.old.spot.at trail.now.states) (conditions_at state.old)) }
+    ensures fault { IsErrOf result RunError.Stack → Faulted (M.machine machine.now) K.wrote outlet.old.sink.now outlet.new.sink.now state.old.reading.window.bytes state.old.spot.at
+        (matches_of (M.machine machine.now) state.old.reading.window.bytes state.old.spot.at trail.now.states) (conditions_at state.old) }
+    ensures unchanged { OnErr result (Untouched state.old state.new) }
 {
-    let mut acting = Acting {
-        end: 0,
-        condition: state.spot.condition,
-        more: false,
-    };
+    state.acting.end = 0;
+    state.acting.condition = state.spot.condition;
+    state.acting.more = false;
     let spot = state.spot;
+    let reading = &state.reading;
     match descend(
         machine,
         outlet,
-        &state.reading.window,
+        &reading.window,
         trail,
         spot.at,
-        &mut acting,
+        &mut state.acting,
     ) {
         Err(e) => Err(e),
         Ok(None) => {
-            leave(state, acting, false);
+            leave(state, false);
             Ok(Turn::Went)
         }
-        Ok(Some(status)) => match flush(outlet) {
+        Ok(Some(finish)) => match flush(outlet) {
             Err(e) => Err(e),
-            Ok(()) => {
-                leave(state, acting, true);
-                state.ended = Some(status);
-                Ok(Turn::Ended(status))
-            }
+            Ok(()) => match finish {
+                Finish::StackFault => Err(RunError::Stack),
+                Finish::Status(status) => {
+                    leave(state, true);
+                    state.ended = Some(status);
+                    Ok(Turn::Ended(status))
+                }
+            },
         },
     }
 }
@@ -136,44 +140,48 @@ fn last_turn<M: Machine, K: Sink>(
     ensures same { outlet.new.sink.ghost_name ≡ outlet.old.sink.ghost_name }
     ensures failures { K.failures outlet.new.sink.now ≡ K.failures outlet.old.sink.now + write_fault_count result }
     ensures live { OnOk result (outlet.new.live ≡ true) }
-    ensures refusals { IfErr result (λ e. e ≡ RunError.Write) }
+    ensures refusals { IfErr result (λ e. (e ≡ RunError.Write) ⊎ (e ≡ RunError.Stack)) }
     ensures failed { state.new.failed ≡ state.old.failed }
     ensures max_reads { state.new.reading.max_reads ≡ state.old.reading.max_reads }
 
-    ensures acted { IfOk result (λ turn. Acted (M.machine machine.now) K.wrote outlet.old.sink.now outlet.new.sink.now state.old.reading state.old.spot (trail_of (M.machine machine.now) state.old.spot state.old.reading.window.bytes seen.reach) state.new turn) }
+    ensures acted { IfOk result (λ turn. Acted (M.machine machine.now) K.wrote outlet.old.sink.now outlet.new.sink.now state.old.reading state.old.spot (conditions_at state.old) (trail_of (M.machine machine.now) state.old.spot state.old.reading.window.bytes seen.reach) state.new turn) }
     ensures going { result ≡ Ok Turn.Went → state.new.ended ≡ state.old.ended }
     ensures cut_off { OnErr result (CutAll (M.machine machine.now) K.wrote outlet.old.sink.now outlet.new.sink.now state.old.reading.window.bytes state.old.spot.at
-        (matches_of (M.machine machine.now) state.old.reading.window.bytes state.old.spot.at (trail_of (M.machine machine.now) state.old.spot state.old.reading.window.bytes seen.reach)) state.old.spot.condition) }
-    ensures unchanged { OnErr result (state.new ≡ state.old) }
+        (matches_of (M.machine machine.now) state.old.reading.window.bytes state.old.spot.at (trail_of (M.machine machine.now) state.old.spot state.old.reading.window.bytes seen.reach)) (conditions_at state.old)) }
+    ensures fault { IsErrOf result RunError.Stack → Faulted (M.machine machine.now) K.wrote outlet.old.sink.now outlet.new.sink.now state.old.reading.window.bytes state.old.spot.at
+        (matches_of (M.machine machine.now) state.old.reading.window.bytes state.old.spot.at (trail_of (M.machine machine.now) state.old.spot state.old.reading.window.bytes seen.reach)) (conditions_at state.old) }
+    ensures unchanged { OnErr result (Untouched state.old state.new) }
 {
-    let mut acting = Acting {
-        end: 0,
-        condition: state.spot.condition,
-        more: false,
-    };
+    state.acting.end = 0;
+    state.acting.condition = state.spot.condition;
+    state.acting.more = false;
     let spot = state.spot;
-    let pick = longest(machine, &state.reading.window, spot, seen);
+    let reading = &state.reading;
+    let pick = longest(machine, &reading.window, spot, seen);
     match carry_pick(
         machine,
         outlet,
-        &state.reading.window,
+        &reading.window,
         spot,
         seen,
         pick,
-        &mut acting,
+        &mut state.acting,
     ) {
         Err(e) => Err(e),
         Ok(None) => {
-            leave(state, acting, false);
+            leave(state, false);
             Ok(Turn::Went)
         }
-        Ok(Some(status)) => match flush(outlet) {
+        Ok(Some(finish)) => match flush(outlet) {
             Err(e) => Err(e),
-            Ok(()) => {
-                leave(state, acting, true);
-                state.ended = Some(status);
-                Ok(Turn::Ended(status))
-            }
+            Ok(()) => match finish {
+                Finish::StackFault => Err(RunError::Stack),
+                Finish::Status(status) => {
+                    leave(state, true);
+                    state.ended = Some(status);
+                    Ok(Turn::Ended(status))
+                }
+            },
         },
     }
 }
@@ -196,7 +204,7 @@ fn end_turn<M: Machine, K: Sink>(
     ensures max_reads { state.new.reading.max_reads ≡ state.old.reading.max_reads }
 
     ensures bytes { Appended (λ xs. K.wrote outlet.old.sink.now xs outlet.new.sink.now) ((M.machine machine.now).ending state.old.spot.condition).print result }
-    ensures left { IfOk result (λ turn. EndLeft (M.machine machine.now) state.old.reading state.old.spot state.new turn) }
+    ensures left { IfOk result (λ turn. EndLeft (M.machine machine.now) state.old.reading state.old.spot (conditions_at state.old) state.new turn) }
     ensures unchanged { OnErr result (state.new ≡ state.old) }
 {
     let action = machine.eof(state.spot.condition);
@@ -339,6 +347,7 @@ pub fn turn_of<M: Machine, S: Source, K: Sink>(
     requires may_write { state.old.failed ≡ false → outlet.old.live ≡ true }
     requires condition { state.old.spot.condition < (M.machine machine.now).conditions }
     requires inside { state.old.spot.at ≤ length state.old.reading.window.bytes }
+    requires stack { state.old.failed ≡ false → AllBelow (M.machine machine.now).conditions state.old.acting.stack }
 
     ensures same_source { intake.new.source.ghost_name ≡ intake.old.source.ghost_name }
     ensures same_sink { outlet.new.sink.ghost_name ≡ outlet.old.sink.ghost_name }
@@ -361,6 +370,7 @@ pub fn turn_of<M: Machine, S: Source, K: Sink>(
     ensures may_write { state.new.failed ≡ false → outlet.new.live ≡ true }
     ensures condition { state.new.spot.condition < (M.machine machine.now).conditions }
     ensures inside { state.new.spot.at ≤ length state.new.reading.window.bytes }
+    ensures stack { state.new.failed ≡ false → AllBelow (M.machine machine.now).conditions state.new.acting.stack }
     ensures ends { S.ends intake.new.source.now ≡ S.ends intake.old.source.now + end_step state.old.reading.at_end state.new.reading.at_end }
     ensures too_many { IsErrOf result RunError.TooManyReads → (state.new.reading.taken ≡ state.new.reading.max_reads) × (state.new.reading.at_end ≡ false) }
 {

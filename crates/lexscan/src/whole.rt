@@ -1,6 +1,7 @@
 //! A whole run.
 ghost use Rattle.std.specs.Prelude.{◌≡◌, ℕ, ◌+◌, ◌-◌, ◌^◌, ◌<◌, ◌≤◌, List, [], length, true, false, None, IsErrOf, nat_lt};
 ghost use Rattle.lexmeaning.specs.Machine.{rules_of_machine};
+ghost use Rattle.lexmeaning.specs.Text.{AllBelow};
 ghost use Rattle.lexscan.specs.Reads.{read_fault_count, write_fault_count};
 ghost use Rattle.lexscan.specs.Stands.{Stands};
 ghost use Rattle.lexscan.specs.Runs.{Ran};
@@ -57,6 +58,7 @@ fn run_turns<M: Machine, S: Source, K: Sink>(
     requires may_write { outlet.old.live ≡ true }
     requires condition { state.old.spot.condition < (M.machine machine.now).conditions }
     requires inside { state.old.spot.at ≤ length state.old.reading.window.bytes }
+    requires stack { AllBelow (M.machine machine.now).conditions state.old.acting.stack }
 
     ensures same_source { intake.new.source.ghost_name ≡ intake.old.source.ghost_name }
     ensures same_sink { outlet.new.sink.ghost_name ≡ outlet.old.sink.ghost_name }

@@ -4,7 +4,7 @@ use Rattle.std.specs.Prelude.{◌≡◌, ℕ, suc, ◌≤◌, ◌<◌, Bool, tru
 use Rattle.std.specs.Coded.{×_prop, Unit-prop, le_prop}
 use Rattle.std.proofs.Props.{props}
 use Rattle.lexmeaning.specs.Text.{IsText, Among, Ascending, flag}
-use Rattle.lexmeaning.specs.Spec.{Statement, Echo, Print, Begin, More, Less, Reject, End, Cut, Whole, Head, Trail}
+use Rattle.lexmeaning.specs.Spec.{Statement, Echo, Print, Begin, More, Less, Reject, End, Push, Pop, Cut, Whole, Head, Trail}
 use Rattle.lexmeaning.specs.Legal.{IsLegal}
 use Rattle.lextab.specs.Table.{Condition, Rule, Row, Slot, Table}
 use Rattle.lextab.specs.Checks.{Each, Sizes, sizes_of, AreSizes, IsCondition, IsCut, HasText, IsRule, IsRow, IsSlot, IsTable, any_reject, bases_of}
@@ -44,6 +44,8 @@ HasText-prop i More = Unit-prop
 HasText-prop i (Less n) = Unit-prop
 HasText-prop i Reject = Unit-prop
 HasText-prop i (End n) = Unit-prop
+HasText-prop i (Push c) = Unit-prop
+HasText-prop i Pop = Unit-prop
 
 IsCondition-prop : (z : Sizes) (i : ℕ) (c : Condition) → IsProp (IsCondition z i c)
 IsCondition-prop z i c x y = λ k. record {

@@ -1,12 +1,12 @@
 use Rattle.std.proofs.Common.{◌≤◌, ◌+◌, length, map}
-use Rattle.lexaction.specs.Names.{number_from, names_of}
+use Rattle.lexaction.specs.Names.{known_in, names_of}
 use Rattle.lexaction.specs.Views.{statement_of}
 use Rattle.lexaction.proofs.ActionLemmas.{Agree}
 use Rattle.lexaction.proofs.action.read_statements.Given as goal
 
 abbrev pub invariant-pieces : goal.invariant-pieces
 invariant-pieces l = record {
-  agree : Agree (number_from 0 (names_of l.conditions)) l.open (map statement_of l.statements.items) l.rest l.text;
+  agree : Agree (known_in (names_of l.conditions) l.stack) l.open (map statement_of l.statements.items) l.rest l.text;
   bound : l.open + length l.rest ≤ length l.text;
 }
 

@@ -32,7 +32,7 @@ pub returns-in-Ok-Over-clause-carried : goal.returns-in-Ok-Over-clause-carried
 returns-in-Ok-Over-clause-carried g c =
     let ens = rw c.in-Ok-Over.field-0-is at c.in-Ok-Over.ensures in
     Say.carried_stop g.K.Sink.wrote g.met.K.Sink.wrote_none g.met.K.Sink.wrote_more _ _ _ c.args.window.now.bytes (map statement_of c.args.statements.now) (map statement_of (drop (c.loop-statement.statement-index + 1) c.args.statements.now))
-    (statement_of c.statement-item.result) c.args.acting.now c.loop-statement.acting c.carry_one.new.acting (map statement_of (drop c.loop-statement.statement-index c.args.statements.now)) (Step.Over c.in-Ok-Over.status) (λ e. cc)
+    (statement_of c.statement-item.result) c.args.acting.now c.loop-statement.acting c.carry_one.new.acting (map statement_of (drop c.loop-statement.statement-index c.args.statements.now)) (Step.Over c.in-Ok-Over.finish) (λ e. cc)
     (Say.left_is c.args.statements.now c.loop-statement.statement-index c.statement-item.result c.loop-statement-test.true c.statement-item.is) c.loop-statement.invariant.carried ens.bytes ens.steps
 
 pub loop-statement-preserved : goal.loop-statement-preserved

@@ -1,6 +1,6 @@
 use Rattle.std.proofs.Common.{◌≡◌, ◌≤◌, length, take, true}
 use Rattle.lexmeaning.specs.Trail.{falling}
-use Rattle.lexscan.specs.Descends.{Passed}
+use Rattle.lexscan.specs.Descends.{conditions_of, Passed}
 use Rattle.lexscan.proofs.descent.descend.Given as goal
 
 abbrev pub invariant-lengths : goal.invariant-lengths
@@ -12,7 +12,7 @@ invariant-lengths g l =
       failures : g.K.Sink.failures l.outlet.sink.now ≡ g.K.Sink.failures l.fn.outlet.sink.now;
       live : l.outlet.live ≡ true;
       inside : l.acting.end ≤ length l.fn.window.bytes;
-      passed : Passed M g.K.Sink.wrote l.fn.outlet.sink.now l.outlet.sink.now l.fn.window.bytes l.fn.at (falling M 0 l.fn.trail.states) (falling M 0 (take l.len l.fn.trail.states)) l.fn.acting.condition l.acting.condition;
+      passed : Passed M g.K.Sink.wrote l.fn.outlet.sink.now l.outlet.sink.now l.fn.window.bytes l.fn.at (falling M 0 l.fn.trail.states) (falling M 0 (take l.len l.fn.trail.states)) (conditions_of l.fn.acting) (conditions_of l.acting);
     }
 
 abbrev pub decreases-lengths : goal.decreases-lengths

@@ -4,6 +4,7 @@ use Rattle.lexmeaning.specs.Machine.{Machine}
 use Rattle.lexmeaning.specs.PlainMachine.{kept_by, match_of}
 use Rattle.lexmachine.specs.Views.{statement_of}
 use Rattle.lexscan.specs.declared.act.Step.TheVariants as Step
+use Rattle.lexscan.specs.Descends.{conditions_of}
 use Rattle.lexscan.proofs.Descending as Down
 use Rattle.lexscan.proofs.descent.try_rules.Goals as goal
 use Rattle.lexscan.proofs.descent.try_rules.Goals.{in-Some+else-prove+in-Ok-Again, in_default}
@@ -16,7 +17,7 @@ returns-in-Err-clause-cut_off g c =
     let M : Machine = g.M.Machine.machine c.args.machine.now in
     let i : ℕ = c.loop-rule.rule-index in
     Down.cut_here M g.K.Sink.wrote g.met.K.Sink.wrote_none g.met.K.Sink.wrote_more c.args.window.now.bytes c.args.at _ _ _
-    (filter_map (match_of M c.args.len) c.args.rules.now) c.args.rules.now i c.args.len c.in-Some.keep c.args.acting.now.condition c.loop-rule.acting.condition (map statement_of c.rule-cut.result.1.now)
+    (filter_map (match_of M c.args.len) c.args.rules.now) c.args.rules.now i c.args.len c.in-Some.keep (conditions_of c.args.acting.now) (conditions_of c.loop-rule.acting) (map statement_of c.rule-cut.result.1.now)
     c.loop-rule-test.true (c.requires.known _ (Down.among_get c.args.rules.now i c.loop-rule-test.true)) (ap (λ k. kept_by k c.args.len) (sym c.rule-cut.ensures.cut) ∙ sym c.in-Some.ensures.keep) c.rule-cut.ensures.statements
     c.loop-rule.invariant.passed c.in-Err.ensures.cut_short
 
@@ -26,7 +27,7 @@ returns-in-Ok-Next-clause-tried g c =
     let M : Machine = g.M.Machine.machine c.args.machine.now in
     let i : ℕ = c.loop-rule.rule-index in
     Down.tried_stop M g.K.Sink.wrote g.met.K.Sink.wrote_none g.met.K.Sink.wrote_more c.args.window.now.bytes c.args.at _ _ _
-    (filter_map (match_of M c.args.len) c.args.rules.now) c.args.rules.now i c.args.len c.in-Some.keep c.args.acting.now.condition c.loop-rule.acting.condition (map statement_of c.rule-cut.result.1.now) c.carry_out.new.acting Step.Next (λ e. cc)
+    (filter_map (match_of M c.args.len) c.args.rules.now) c.args.rules.now i c.args.len c.in-Some.keep (conditions_of c.args.acting.now) (conditions_of c.loop-rule.acting) (map statement_of c.rule-cut.result.1.now) c.carry_out.new.acting Step.Next (λ e. cc)
     c.loop-rule-test.true (c.requires.known _ (Down.among_get c.args.rules.now i c.loop-rule-test.true)) (ap (λ k. kept_by k c.args.len) (sym c.rule-cut.ensures.cut) ∙ sym c.in-Some.ensures.keep) c.rule-cut.ensures.statements
     c.loop-rule.invariant.passed ens.carried
 
@@ -36,7 +37,7 @@ returns-in-Ok-Over-clause-tried g c =
     let M : Machine = g.M.Machine.machine c.args.machine.now in
     let i : ℕ = c.loop-rule.rule-index in
     Down.tried_stop M g.K.Sink.wrote g.met.K.Sink.wrote_none g.met.K.Sink.wrote_more c.args.window.now.bytes c.args.at _ _ _
-    (filter_map (match_of M c.args.len) c.args.rules.now) c.args.rules.now i c.args.len c.in-Some.keep c.args.acting.now.condition c.loop-rule.acting.condition (map statement_of c.rule-cut.result.1.now) c.carry_out.new.acting (Step.Over c.in-Ok-Over.status) (λ e. cc)
+    (filter_map (match_of M c.args.len) c.args.rules.now) c.args.rules.now i c.args.len c.in-Some.keep (conditions_of c.args.acting.now) (conditions_of c.loop-rule.acting) (map statement_of c.rule-cut.result.1.now) c.carry_out.new.acting (Step.Over c.in-Ok-Over.finish) (λ e. cc)
     c.loop-rule-test.true (c.requires.known _ (Down.among_get c.args.rules.now i c.loop-rule-test.true)) (ap (λ k. kept_by k c.args.len) (sym c.rule-cut.ensures.cut) ∙ sym c.in-Some.ensures.keep) c.rule-cut.ensures.statements
     c.loop-rule.invariant.passed ens.carried
 
@@ -47,7 +48,7 @@ loop-rule-preserved g c = elim c.match-kept.branch [
       let M : Machine = g.M.Machine.machine c.args.machine.now in
       let i : ℕ = c.loop-rule.rule-index in
       let passed = Down.passed_again M g.K.Sink.wrote g.met.K.Sink.wrote_none g.met.K.Sink.wrote_more c.args.window.now.bytes c.args.at _ _ _
-      (filter_map (match_of M c.args.len) c.args.rules.now) c.args.rules.now i c.args.len w.in-Some.keep c.args.acting.now.condition c.loop-rule.acting.condition (map statement_of c.rule-cut.result.1.now) w.carry_out.new.acting
+      (filter_map (match_of M c.args.len) c.args.rules.now) c.args.rules.now i c.args.len w.in-Some.keep (conditions_of c.args.acting.now) (conditions_of c.loop-rule.acting) (map statement_of c.rule-cut.result.1.now) w.carry_out.new.acting
       c.loop-rule-test.true (c.requires.known _ (Down.among_get c.args.rules.now i c.loop-rule-test.true)) (ap (λ k. kept_by k c.args.len) (sym c.rule-cut.ensures.cut) ∙ sym w.in-Some.ensures.keep) c.rule-cut.ensures.statements
       c.loop-rule.invariant.passed ens.carried in
       rw (w.outlet-is, w.acting-is) (record {
@@ -61,7 +62,7 @@ loop-rule-preserved g c = elim c.match-kept.branch [
       (let M : Machine = g.M.Machine.machine c.args.machine.now in
       let i : ℕ = c.loop-rule.rule-index in
       let passed = Down.passed_skip M g.K.Sink.wrote g.met.K.Sink.wrote_none g.met.K.Sink.wrote_more c.args.window.now.bytes c.args.at _ _
-      (filter_map (match_of M c.args.len) c.args.rules.now) c.args.rules.now i c.args.len c.args.acting.now.condition c.loop-rule.acting.condition
+      (filter_map (match_of M c.args.len) c.args.rules.now) c.args.rules.now i c.args.len (conditions_of c.args.acting.now) (conditions_of c.loop-rule.acting)
       c.loop-rule-test.true (ap (λ k. kept_by k c.args.len) (sym c.rule-cut.ensures.cut) ∙ sym w.in_default.ensures.keep) c.loop-rule.invariant.passed in
       rw (w.outlet-is, w.acting-is) (record {
         same = c.loop-rule.invariant.same;

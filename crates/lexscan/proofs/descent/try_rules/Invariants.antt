@@ -1,7 +1,7 @@
 use Rattle.std.proofs.Common.{◌≡◌, ◌≤◌, length, drop, true}
 use Rattle.std.specs.Prelude.{filter_map}
 use Rattle.lexmeaning.specs.PlainMachine.{match_of}
-use Rattle.lexscan.specs.Descends.{Passed}
+use Rattle.lexscan.specs.Descends.{conditions_of, Passed}
 use Rattle.lexscan.proofs.descent.try_rules.Given as goal
 
 abbrev pub invariant-loop-rule : goal.invariant-loop-rule
@@ -12,5 +12,5 @@ invariant-loop-rule g l =
       failures : g.K.Sink.failures l.outlet.sink.now ≡ g.K.Sink.failures l.fn.outlet.sink.now;
       live : l.outlet.live ≡ true;
       inside : l.acting.end ≤ length l.fn.window.bytes;
-      passed : Passed M g.K.Sink.wrote l.fn.outlet.sink.now l.outlet.sink.now l.fn.window.bytes l.fn.at (filter_map (match_of M l.fn.len) l.fn.rules) (filter_map (match_of M l.fn.len) (drop l.rule-index l.fn.rules)) l.fn.acting.condition l.acting.condition;
+      passed : Passed M g.K.Sink.wrote l.fn.outlet.sink.now l.outlet.sink.now l.fn.window.bytes l.fn.at (filter_map (match_of M l.fn.len) l.fn.rules) (filter_map (match_of M l.fn.len) (drop l.rule-index l.fn.rules)) (conditions_of l.fn.acting) (conditions_of l.acting);
     }

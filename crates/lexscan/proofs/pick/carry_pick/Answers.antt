@@ -5,6 +5,7 @@ use Rattle.lexmeaning.specs.Text.{BeginsWith}
 use Rattle.lexmeaning.specs.Machine.{Machine}
 use Rattle.lexscan.specs.declared.act.Step.TheVariants as Step
 use Rattle.lexscan.specs.Picks.{trail_of}
+use Rattle.lexscan.specs.Descends.{conditions_of}
 use Rattle.lexscan.proofs.Descending as Down
 use Rattle.lexscan.proofs.Picking as Pick
 use Rattle.lexscan.proofs.pick.carry_pick.Goals as goal
@@ -13,7 +14,7 @@ pub returns-in-Err-clause-cut_off : goal.returns-in-Err-clause-cut_off
 returns-in-Err-clause-cut_off g c =
     let M : Machine = g.M.Machine.machine c.args.machine.now in
     let w : List ℕ = c.args.window.now.bytes in
-    Pick.picked_cut M g.K.Sink.wrote g.met.K.Sink.wrote_none g.met.K.Sink.wrote_more w c.args.spot.at _ _ (trail_of M c.args.spot w c.args.seen.reach) c.in-Some.pick c.args.acting.now.condition
+    Pick.picked_cut M g.K.Sink.wrote g.met.K.Sink.wrote_none g.met.K.Sink.wrote_more w c.args.spot.at _ _ (trail_of M c.args.spot w c.args.seen.reach) c.in-Some.pick (conditions_of c.args.acting.now)
     (map statement_of c.rule.result.1.now) (rw c.in-Some.is at c.requires.first) (rw c.in-Some.is at c.requires.known) c.rule.ensures.statements c.in-Err.ensures.cut_short
 
 pub returns-in-Ok-Next-clause-performed : goal.returns-in-Ok-Next-clause-performed
@@ -21,7 +22,7 @@ returns-in-Ok-Next-clause-performed g c =
     let ens = rw c.in-Ok-Next.field-0-is at c.in-Ok-Next.ensures in
     let M : Machine = g.M.Machine.machine c.args.machine.now in
     let w : List ℕ = c.args.window.now.bytes in
-    Pick.picked M g.K.Sink.wrote g.met.K.Sink.wrote_none g.met.K.Sink.wrote_more w c.args.spot.at _ _ (trail_of M c.args.spot w c.args.seen.reach) c.in-Some.pick c.args.acting.now.condition
+    Pick.picked M g.K.Sink.wrote g.met.K.Sink.wrote_none g.met.K.Sink.wrote_more w c.args.spot.at _ _ (trail_of M c.args.spot w c.args.seen.reach) c.in-Some.pick (conditions_of c.args.acting.now)
     (map statement_of c.rule.result.1.now) c.carry_out.new.acting Step.Next (λ e. cc) (rw c.in-Some.is at c.requires.first) (rw c.in-Some.is at c.requires.known) c.rule.ensures.statements ens.carried
 
 pub returns-in-Ok-Again-clause-performed : goal.returns-in-Ok-Again-clause-performed
@@ -29,7 +30,7 @@ returns-in-Ok-Again-clause-performed g c =
     let ens = rw c.in-Ok-Again.field-0-is at c.in-Ok-Again.ensures in
     let M : Machine = g.M.Machine.machine c.args.machine.now in
     let w : List ℕ = c.args.window.now.bytes in
-    absurd (Pick.never_again M g.K.Sink.wrote g.met.K.Sink.wrote_none g.met.K.Sink.wrote_more w c.args.spot.at _ _ c.in-Some.pick c.args.acting.now.condition
+    absurd (Pick.never_again M g.K.Sink.wrote g.met.K.Sink.wrote_none g.met.K.Sink.wrote_more w c.args.spot.at _ _ c.in-Some.pick (conditions_of c.args.acting.now)
     (map statement_of c.rule.result.1.now) c.carry_out.new.acting c.requires.quiet (rw c.in-Some.is at c.requires.known) c.rule.ensures.statements ens.carried)
 
 pub returns-in-Ok-Over-clause-performed : goal.returns-in-Ok-Over-clause-performed
@@ -37,8 +38,8 @@ returns-in-Ok-Over-clause-performed g c =
     let ens = rw c.in-Ok-Over.field-0-is at c.in-Ok-Over.ensures in
     let M : Machine = g.M.Machine.machine c.args.machine.now in
     let w : List ℕ = c.args.window.now.bytes in
-    Pick.picked M g.K.Sink.wrote g.met.K.Sink.wrote_none g.met.K.Sink.wrote_more w c.args.spot.at _ _ (trail_of M c.args.spot w c.args.seen.reach) c.in-Some.pick c.args.acting.now.condition
-    (map statement_of c.rule.result.1.now) c.carry_out.new.acting (Step.Over c.in-Ok-Over.status) (λ e. cc) (rw c.in-Some.is at c.requires.first) (rw c.in-Some.is at c.requires.known) c.rule.ensures.statements ens.carried
+    Pick.picked M g.K.Sink.wrote g.met.K.Sink.wrote_none g.met.K.Sink.wrote_more w c.args.spot.at _ _ (trail_of M c.args.spot w c.args.seen.reach) c.in-Some.pick (conditions_of c.args.acting.now)
+    (map statement_of c.rule.result.1.now) c.carry_out.new.acting (Step.Over c.in-Ok-Over.finish) (λ e. cc) (rw c.in-Some.is at c.requires.first) (rw c.in-Some.is at c.requires.known) c.rule.ensures.statements ens.carried
 
 pub returns-in-Err-put-clause-cut_off : goal.returns-in-Err-put-clause-cut_off
 returns-in-Err-put-clause-cut_off g c =
@@ -47,8 +48,8 @@ returns-in-Err-put-clause-cut_off g c =
     let trail : List ℕ = trail_of M c.args.spot w c.args.seen.reach in
     let count : c.args.spot.at + 1 - 0 ≡ c.args.spot.at + 1 = omega arith in
     let text : c.slice.result.now ≡ take (c.args.spot.at + 1) w = c.slice.ensures ∙ ap (λ k. take k w) count in
-    Down.default_cut M g.K.Sink.wrote g.met.K.Sink.wrote_more w c.args.spot.at trail _ _ _ c.args.acting.now.condition c.args.acting.now.condition (omega (arith, c.requires.place, c.requires.some))
-    (Pick.none_picked M g.K.Sink.wrote g.met.K.Sink.wrote_none g.met.K.Sink.wrote_more w c.args.spot.at _ trail c.args.acting.now.condition (rw c.in-None.is at c.requires.first))
+    Down.default_cut M g.K.Sink.wrote g.met.K.Sink.wrote_more w c.args.spot.at trail _ _ _ (conditions_of c.args.acting.now) (conditions_of c.args.acting.now) (omega (arith, c.requires.place, c.requires.some))
+    (Pick.none_picked M g.K.Sink.wrote g.met.K.Sink.wrote_none g.met.K.Sink.wrote_more w c.args.spot.at _ trail (conditions_of c.args.acting.now) (rw c.in-None.is at c.requires.first))
     (subst (λ (l : List ℕ). (front : List ℕ) × BeginsWith l front × g.K.Sink.wrote c.args.outlet.now.sink.now front c.put.new.outlet.sink.now) text c.in-Err-put.ensures.bytes)
 
 pub returns-in-Ok-clause-performed : goal.returns-in-Ok-clause-performed
@@ -58,6 +59,6 @@ returns-in-Ok-clause-performed g c =
     let trail : List ℕ = trail_of M c.args.spot w c.args.seen.reach in
     let count : c.args.spot.at + 1 - 0 ≡ c.args.spot.at + 1 = omega arith in
     let text : c.slice.result.now ≡ take (c.args.spot.at + 1) w = c.slice.ensures ∙ ap (λ k. take k w) count in
-    Down.default_stop M g.K.Sink.wrote g.met.K.Sink.wrote_more w c.args.spot.at trail _ _ _ c.args.acting.now.condition c.args.acting.now.condition (omega (arith, c.requires.place, c.requires.some))
-    (Pick.none_picked M g.K.Sink.wrote g.met.K.Sink.wrote_none g.met.K.Sink.wrote_more w c.args.spot.at _ trail c.args.acting.now.condition (rw c.in-None.is at c.requires.first))
+    Down.default_stop M g.K.Sink.wrote g.met.K.Sink.wrote_more w c.args.spot.at trail _ _ _ (conditions_of c.args.acting.now) (conditions_of c.args.acting.now) (omega (arith, c.requires.place, c.requires.some))
+    (Pick.none_picked M g.K.Sink.wrote g.met.K.Sink.wrote_none g.met.K.Sink.wrote_more w c.args.spot.at _ trail (conditions_of c.args.acting.now) (rw c.in-None.is at c.requires.first))
     (subst (λ l. g.K.Sink.wrote c.args.outlet.now.sink.now l c.put.new.outlet.sink.now) text c.in-Ok.ensures.bytes)

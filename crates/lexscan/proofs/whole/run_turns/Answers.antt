@@ -59,6 +59,7 @@ turns-preserved g c =
       may_write = now.may_write after.works;
       condition = now.condition;
       inside = now.inside;
+      stack = now.stack after.works;
       max_reads = now.max_reads ∙ inv.max_reads;
       running = Last.running_on (g.M.Machine.machine c.args.machine.now) g.S.Source.gave g.K.Sink.wrote _ _ _ _ _ _ c.turns.state c.turn_of.new.state m.0 m.1 g.met.S.Source.gave_more g.met.K.Sink.wrote_more h m.2 m.3 after;
       ends = omega (arith, now.ends, inv.ends, Last.answered_once c.turns.state.reading.at_end c.turn_of.new.state.reading.at_end (λ e. (m.4 e).1));

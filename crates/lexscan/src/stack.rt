@@ -1,0 +1,57 @@
+//! The stack of start conditions.
+ghost use Rattle.std.specs.Prelude.{◌≡◌, List, [], ◌∷◌, true, false, IfSome, IfNone};
+ghost use Rattle.lexmeaning.specs.Acting.{has_room};
+
+use arrayvec::ArrayVec;
+use std::marker::Model;
+
+/// How many conditions it holds at most.
+const DEPTH: usize = 255;
+
+/// The conditions that pushes have put there, in an array of fixed capacity.
+#[derive(Drop)]
+pub struct Stack {
+    kept: ArrayVec<u8, DEPTH>,
+}
+
+impl Model for Stack {
+    ghost use Rattle.std.specs.Prelude.{ℕ, List, reverse};
+
+    ghost Value = { List ℕ };
+
+    // from the top down
+    ghost view = { λ s. reverse s.kept.items };
+}
+
+impl Stack {
+    /// No conditions.
+    pub fn new() -> Stack
+        ensures { result ≡ [] }
+    {
+        Stack {
+            kept: ArrayVec::new(),
+        }
+    }
+
+    /// Puts a condition on top, if there is room, and answers whether there was.
+    pub fn push(&mut self, condition: u8) -> bool
+        ensures room { result ≡ has_room self.old }
+        ensures top { result ≡ true → self.new ≡ condition ∷ self.old }
+        ensures full { result ≡ false → self.new ≡ self.old }
+    {
+        if self.kept.is_full() {
+            return false;
+        }
+        self.kept.push(condition);
+        true
+    }
+
+    /// Takes the condition on top, if there is one.
+    pub fn pop(&mut self) -> Option<u8>
+        ensures top { IfSome result (λ condition. self.old ≡ condition ∷ self.new) }
+        ensures empty { IfNone result (self.old ≡ []) }
+        ensures unchanged { IfNone result (self.new ≡ self.old) }
+    {
+        self.kept.pop()
+    }
+}
