@@ -27,6 +27,14 @@ pub(crate) const REFUSED: &[(Long, &str)] = &[
         ("%%\n", "\"\"", 65_536, " ;\n"),
         "lex: line 2: TooBig at 131070\n",
     ),
+    (
+        ("%%\n", "a", 65_536, " ;\n"),
+        "lex: line 2: TooBig at 65535\n",
+    ),
+    (
+        ("%%\nb*/(a{255}){255}", "a{255}", 2, "a ;\n"),
+        "lex: line 2: VariableTrailing\n",
+    ),
     (("%%\n", "(", 65, "a ;\n"), "lex: line 2: TooDeep at 64\n"),
     (("%%\na", "?", 65, " ;\n"), "lex: line 2: TooDeep at 65\n"),
 ];
@@ -39,5 +47,10 @@ pub(crate) const BUILT: &[Long] = &[
 
 pub(crate) const UNBUILT: &[(Long, &str)] = &[
     (("%%\n", "a|", 16_384, "a ;\n"), "lex: TooManyPositions\n"),
+    (("%%\n", "a", 65_535, " ;\n"), "lex: TooManyPositions\n"),
+    (
+        ("%%\nb*/(a{255}){255}", "a{255}", 2, " ;\n"),
+        "lex: TooManyPositions\n",
+    ),
     (("%%\n(a|b)*a", "(a|b)", 12, " ;\n"), "lex: TooManyStates\n"),
 ];
