@@ -4,7 +4,8 @@ ghost use Rattle.std.specs.Prelude.{◌≤◌, IfOk};
 ghost use Rattle.lexmeaning.specs.Shapes.{IsSoundTree};
 ghost use Rattle.lexre.specs.Views.{tree_of};
 
-use crate::sets::{START, key_of, lasts_in, marks_of, numbers_of, starts_in};
+use crate::layout::lay;
+use crate::sets::{START, in_order, key_of, lasts_in, marks_of, numbers_of, starts_in};
 use crate::walk::{enter, leave};
 use crate::{
     BuildError, Dfa, Limits, build, first_positions, keys_of_words, live_positions, next_positions,
@@ -56,15 +57,14 @@ fn step(
 ) -> Result<Vec<u32>, AllocError>
     requires { IsSoundTree (tree_of pattern.now) }
 {
-    let few = matches!(positions(pattern), Some(0..=4));
-    let marks = marks_of(alloc, 4, last)?;
-    let mut next = vec![in alloc; false; 4]?;
-    if few {
-        enter(pattern, &marks, 0, entered, &mut next);
-    }
-    let mut numbers = numbers_of(alloc, &next)?;
-    if few && leave(pattern, &marks, 0, entered).left {
-        numbers.push(4)?;
+    let mut numbers = Vec::new(alloc);
+    if matches!(positions(pattern), Some(0..=4)) {
+        let part = lay(alloc, pattern)?;
+        let last = in_order(alloc, 4, last)?;
+        enter(&part, &last, 0, 0, entered, &mut numbers)?;
+        if leave(&part, &last, 0, 0, entered).left {
+            numbers.push(4)?;
+        }
     }
     Ok(numbers)
 }
@@ -90,6 +90,14 @@ fn sets(rt: HostRuntime) -> Result<(), Fail> {
     let marks = marks_of(alloc, 3, &[2, 0, 7])?;
     assert_eq!(rt; marks.as_slice(), [true, false, true].as_slice());
     assert_eq!(rt; numbers_of(alloc, &marks)?.as_slice(), [0, 2].as_slice());
+    assert_eq!(rt;
+        in_order(alloc, 3, &[2, 0, 7, 2])?.as_slice(),
+        [0, 2].as_slice()
+    );
+    assert_eq!(rt;
+        in_order(alloc, 8, &[0, 2, 7])?.as_slice(),
+        [0, 2, 7].as_slice()
+    );
     assert_eq!(rt; key_of(alloc, START, &[])?.len(), 0);
     let key = key_of(alloc, START, &[0, 2])?;
     assert_eq!(rt; starts_in(&key), [0, 2].as_slice());
