@@ -22,4 +22,7 @@ pub mod Tables
 pub mod Counting
 pub mod Surveying
 mod Quiet
+pub mod AlikeLaws
+pub mod CursorLaws
+pub mod LaidLaws
 pub mod Built

@@ -6,7 +6,7 @@ use Rattle.lexauto.specs.Flow.{exits, enters}
 use Rattle.lexauto.proofs.FlowMeaning.{exits_is, enters_is, no_true}
 use Rattle.lexauto.proofs.Glushkov.{glushkov}
 
-not_true : (b : Bool) → (b ≡ true → ⊥) → b ≡ false
+pub not_true : (b : Bool) → (b ≡ true → ⊥) → b ≡ false
 not_true true f = absurd (f refl)
 not_true false f = refl
 

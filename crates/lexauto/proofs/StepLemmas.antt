@@ -52,14 +52,14 @@ pub reading_alike : (rules : List Rule) (followers : List ℕ) (b c : ℕ) → (
 unfolding reading_in
 reading_alike rules followers b c h = ap (λ (f : ℕ → Bool). tagged 1 (filter f followers)) (fun_ext h)
 
-module _ (rules : List Rule) (count n : ℕ) (k : Key) (on last : List Bool) where
-  pub followers_is : length rules ≡ n → ((i : ℕ) → flag on i ≡ marked n (starts_in k) i) → ((p : ℕ) → flag last p ≡ marked count (lasts_in k) p)
-      → listed (λ q. rules_enter rules (flag on) (flag last) q 0 0) 0 count ≡ followers_in rules count k
+module _ (rules : List Rule) (count n : ℕ) (k : Key) (on : List Bool) (last : ℕ → Bool) where
+  pub followers_is : length rules ≡ n → ((i : ℕ) → flag on i ≡ marked n (starts_in k) i) → ((p : ℕ) → last p ≡ marked count (lasts_in k) p)
+      → listed (λ q. rules_enter rules (flag on) last q 0 0) 0 count ≡ followers_in rules count k
   unfolding followers_in
   followers_is same o l =
       let on_is : flag on ≡ marked (length rules) (starts_in k) = fun_ext (λ i. o i ∙ ap (λ (m : ℕ). marked m (starts_in k) i) (sym same)) in
-      let last_is : flag last ≡ marked count (lasts_in k) = fun_ext l in
-      let by_on : (ℕ → Bool) → ℕ → Bool = λ f q. rules_enter rules f (flag last) q 0 0 in
+      let last_is : last ≡ marked count (lasts_in k) = fun_ext l in
+      let by_on : (ℕ → Bool) → ℕ → Bool = λ f q. rules_enter rules f last q 0 0 in
       let by_last : (ℕ → Bool) → ℕ → Bool = λ f q. rules_enter rules (marked (length rules) (starts_in k)) f q 0 0 in
       ap (λ (f : ℕ → Bool). listed f 0 count) (ap by_on on_is ∙ ap by_last last_is)
 

@@ -13,3 +13,7 @@ pub use Rattle.lexdfa.specs.Machines
 pub use Rattle.lexdfa.specs.Automata
 pub mod Facts
 pub mod Errors
+pub mod Plans
+pub mod Cursors
+pub mod Alike
+pub mod Laid

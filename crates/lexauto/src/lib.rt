@@ -5,6 +5,7 @@ mod error;
 mod explore;
 mod facts;
 mod laws;
+mod layout;
 mod letters;
 mod packing;
 mod rules;

@@ -1,7 +1,9 @@
 //! Sets of numbers, as lists and as flags.
-ghost use Rattle.std.specs.Prelude.{◌≡◌, ◌<◌, ◌≤◌, ◌^◌, ◌∷◌, ℕ, length, IfOk};
+ghost use Rattle.std.specs.Prelude.{◌≡◌, ◌<◌, ◌≤◌, ◌^◌, ◌∷◌, ℕ, true, length, slice_index, IfOk};
 ghost use Rattle.std.specs.List.{filter};
 ghost use Rattle.lexmeaning.specs.Text.{flag, listed};
+ghost use Rattle.lexmeaning.specs.Active.{lists};
+ghost use Rattle.lexauto.specs.Cursors.{Increases};
 ghost use Rattle.lexauto.specs.Sets.{marked, tagged, starts_in, lasts_in};
 
 use std::alloc::{AllocError, Global};
@@ -49,6 +51,36 @@ pub(crate) fn numbers_of(alloc: Global, marks: &[bool]) -> Result<Vec<u32>, Allo
             numbers.push(i as u32)?;
         }
     }
+    Ok(numbers)
+}
+
+/// Whether the numbers ascend, and are below `count`.
+fn is_in_order(count: usize, numbers: &[u32]) -> bool
+    ensures increases { result ≡ true → Increases numbers.now }
+    ensures below { result ≡ true → (j : ℕ) → j < length numbers.now → slice_index numbers.now j < count }
+{
+    let mut free = 0;
+    for number in numbers {
+        let number = *number as usize;
+        if number < free || number >= count {
+            return false;
+        }
+        free = number + 1;
+    }
+    true
+}
+
+/// The numbers of the list that are below `count`, ascending, each once.
+pub(crate) fn in_order(alloc: Global, count: usize, numbers: &[u32]) -> Result<Vec<u32>, AllocError>
+    requires { count < 2 ^ 32 }
+    ensures increases { IfOk result (λ v. Increases v.items) }
+    ensures same { IfOk result (λ v. (i : ℕ) → lists v.items i ≡ marked count numbers.now i) }
+{
+    if is_in_order(count, numbers) {
+        return Vec::from_slice(alloc, numbers);
+    }
+    let marks = marks_of(alloc, count, numbers)?;
+    let numbers = numbers_of(alloc, &marks)?;
     Ok(numbers)
 }
 

@@ -1,18 +1,17 @@
 //! How the states of a specification's automaton lead to one another: by the positions of its rules.
-ghost use Rattle.std.specs.Prelude.{◌≡◌, ◌<◌, ◌≤◌, ◌^◌, ℕ, false, List, length, map, IfOk};
+ghost use Rattle.std.specs.Prelude.{◌≡◌, ◌<◌, ◌≤◌, ◌^◌, ℕ, Bool, List, length, map, IfOk};
 ghost use Rattle.lexmeaning.specs.Subsets.{all_positions};
-ghost use Rattle.lexspec.specs.RuleViews.{rule_of};
 ghost use Rattle.lexspec.specs.Views.{spec_of, rules_in};
-ghost use Rattle.lexmeaning.specs.Text.{flag, listed};
-ghost use Rattle.lexauto.specs.RuleFlow.{rules_enter, rules_read};
-ghost use Rattle.lexmeaning.specs.Sound.{HaveSoundSides};
+ghost use Rattle.lexmeaning.specs.Text.{flag};
+ghost use Rattle.lexauto.specs.Laid.{shape_of, HaveSized, HaveSized-prop};
+ghost use Rattle.lexauto.specs.RuleFlow.{rules_enter, rules_left, rules_read};
 ghost use Rattle.lexauto.specs.Moving.{AreMasks, AreTwins, masks_in, mask_at, followers_in, reading_in};
 
 use crate::explore::Moves;
 use crate::letters::mark_rules;
-use crate::rules::enter_rules;
-use crate::sets::{last_key, lasts_in, marks_of, numbers_of, starts_in};
-use lexspec::{Rule, Spec};
+use crate::rules::{LaidRule, enter_rules, lay_rules};
+use crate::sets::{in_order, last_key, lasts_in, marks_of, starts_in};
+use lexspec::Spec;
 use std::alloc::{AllocError, Global};
 
 /// A specification, the count of its positions, and for each byte the positions that read it.
@@ -20,9 +19,15 @@ use std::alloc::{AllocError, Global};
 pub(crate) struct RuleMoves<'a> {
     pub spec: &'a Spec,
     pub count: usize,
+    pub rules: Vec<LaidRule>,
     masks: Vec<Vec<bool>>,
     twins: Vec<u8>,
     ghost within: { all_positions (rules_in (spec_of spec.now)) ≡ count },
+    ghost sized: { HaveSized rules.items } by { HaveSized-prop rules.items },
+    ghost number: { length rules.items ≡ length (rules_in (spec_of spec.now)) },
+    ghost size: { all_positions (map shape_of rules.items) ≡ count },
+    ghost next: { (on last : ℕ → Bool) (q : ℕ) → rules_enter (map shape_of rules.items) on last q 0 0 ≡ rules_enter (rules_in (spec_of spec.now)) on last q 0 0 },
+    ghost left: { (last : ℕ → Bool) → rules_left (map shape_of rules.items) last 0 0 ≡ rules_left (rules_in (spec_of spec.now)) last 0 0 },
     ghost few: { count < 2 ^ 32 },
     ghost all: { length (masks_in masks.items) ≡ 256 },
     ghost each: { (b q : ℕ) → b < 256 → flag (mask_at (masks_in masks.items) b) q ≡ rules_read (rules_in (spec_of spec.now)) b q 0 },
@@ -30,10 +35,10 @@ pub(crate) struct RuleMoves<'a> {
 }
 
 /// For each byte the positions that read it.
-fn masks_of(alloc: Global, rules: &[Rule], count: usize) -> Result<Vec<Vec<bool>>, AllocError>
-    requires within { all_positions (map rule_of rules.now) ≤ count }
+fn masks_of(alloc: Global, rules: &[LaidRule], count: usize) -> Result<Vec<Vec<bool>>, AllocError>
+    requires within { all_positions (map shape_of rules.now) ≤ count }
     requires few { count < 2 ^ 32 }
-    ensures { IfOk result (λ v. AreMasks (map rule_of rules.now) (masks_in v.items)) }
+    ensures { IfOk result (λ v. AreMasks (map shape_of rules.now) (masks_in v.items)) }
 {
     let mut masks = Vec::new(alloc);
     for byte in 0..256usize {
@@ -70,27 +75,6 @@ fn twins_of(alloc: Global, masks: &[Vec<bool>]) -> Result<Vec<u8>, AllocError>
     Ok(twins)
 }
 
-/// The positions that come next, where the rules of `on` are entered, and these are the last positions. No flag of
-/// `next` is set yet.
-fn next_numbers(
-    alloc: Global,
-    rules: &[Rule],
-    on: &[bool],
-    last: &[bool],
-    next: &mut [bool],
-) -> Result<Vec<u32>, AllocError>
-    requires sound { HaveSoundSides (map rule_of rules.now) }
-    requires within { all_positions (map rule_of rules.now) ≤ length last.now }
-    requires few { length last.now < 2 ^ 32 }
-    requires on { length on.now ≡ length rules.now }
-    requires room { length next.old ≡ length last.now }
-    requires none { (q : ℕ) → flag next.old q ≡ false }
-    ensures { IfOk result (λ v. v.items ≡ listed (λ q. rules_enter (map rule_of rules.now) (flag on.now) (flag last.now) q 0 0) 0 (length last.now)) }
-{
-    enter_rules(rules, on, last, next);
-    numbers_of(alloc, next)
-}
-
 impl<'a> RuleMoves<'a> {
     /// The moves of a specification that has so many positions.
     pub(crate) fn new(
@@ -102,11 +86,13 @@ impl<'a> RuleMoves<'a> {
         requires few { count < 2 ^ 32 }
         ensures { IfOk result (λ m. (m.spec.now ≡ spec.now) × (m.count ≡ count)) }
     {
-        let masks = masks_of(alloc, spec.rules(), count)?;
+        let rules = lay_rules(alloc, spec.rules())?;
+        let masks = masks_of(alloc, &rules, count)?;
         let twins = twins_of(alloc, &masks)?;
         Ok(RuleMoves {
             spec,
             count,
+            rules,
             masks,
             twins,
         })
@@ -119,11 +105,9 @@ impl Moves for RuleMoves<'_> {
     ghost read = { λ m k b. reading_in (rules_in (spec_of m.spec.now)) k b };
 
     fn followers(&self, alloc: Global, key: &[u32]) -> Result<Vec<u32>, AllocError> {
-        let rules = self.spec.rules();
-        let on = marks_of(alloc, rules.len(), starts_in(key))?;
-        let last = marks_of(alloc, self.count, lasts_in(key))?;
-        let mut next = vec![in alloc; false; self.count]?;
-        next_numbers(alloc, rules, &on, &last, &mut next)
+        let on = marks_of(alloc, self.rules.len(), starts_in(key))?;
+        let last = in_order(alloc, self.count, lasts_in(key))?;
+        enter_rules(alloc, &self.rules, &on, &last)
     }
 
     fn reading(&self, alloc: Global, followers: &[u32], byte: u8) -> Result<Vec<u32>, AllocError> {

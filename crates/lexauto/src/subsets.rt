@@ -84,7 +84,7 @@ pub fn build(alloc: Global, spec: &Spec, limits: Limits) -> Result<Dfa, BuildErr
     };
     let moves = RuleMoves::new(alloc, spec, count)?;
     let found = explore_spec(alloc, &moves, limits.states)?;
-    let accepts = all_accepted(alloc, spec, count, &found.keys)?;
+    let accepts = all_accepted(alloc, &moves, &found.keys)?;
     let parts = Parts {
         starts: found.starts,
         line_starts: found.line_starts,

@@ -8,5 +8,5 @@ use Rattle.lexauto.proofs.facts.all_accepted.Given as goal
 abbrev pub invariant-loop-kept : goal.invariant-loop-kept
 invariant-loop-kept l = record {
   len : length l.all.items ≡ l.kept-index;
-  told : (i : ℕ) (k : Key) → i < l.kept-index → At (kept_in l.keys) i k → slice_index_or (keys_in l.all.items) i [] ≡ accepted_by (spec_of l.spec) k;
+  told : (i : ℕ) (k : Key) → i < l.kept-index → At (kept_in l.keys) i k → slice_index_or (keys_in l.all.items) i [] ≡ accepted_by (spec_of l.moves.spec.now) k;
 }

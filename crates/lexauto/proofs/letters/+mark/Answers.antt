@@ -1,20 +1,15 @@
 use Rattle.std.proofs.Common.{rules, ◌≡◌, ◌+◌, ◌-◌, ◌<◌, ◌||◌, Bool, sym, ◌∙◌, ap}
 use Rattle.lexmeaning.specs.Positions.{positions}
-use Rattle.lexre.specs.Views.{tree_of}
+use Rattle.lexauto.specs.Plans.{plan_of, plans, tree_in, trees_in}
 use Rattle.lexmeaning.specs.Text.{flag}
 use Rattle.lexauto.specs.RuleFlow.{copies_read, reads}
-use Rattle.lexauto.proofs.Copies.{copy_place, or_false, or_assoc}
-use Rattle.lexauto.proofs.LetterTests.{copies_nothing, read_step}
+use Rattle.lexauto.proofs.Copies.{copy_place, or_assoc}
+use Rattle.lexauto.proofs.LetterTests.{read_step}
 use Rattle.lexauto.proofs.letters.+mark.Goals as goal
-
-pub mark_copies-returns-in-Some-eq0-clause-mask : goal.mark_copies-returns-in-Some-eq0-clause-mask
-mark_copies-returns-in-Some-eq0-clause-mask t c = λ q.
-    let none : positions (tree_of c.args.inner.now) ≡ 0 = sym c.in-Some-eq0.ensures.found ∙ c.in-Some-eq0.field-0-test in
-    sym (ap (λ (j : Bool). flag c.args.mask.now q || j) (copies_nothing c.args.byte q (tree_of c.args.inner.now) none c.args.base c.args.count) ∙ or_false (flag c.args.mask.now q))
 
 pub mark_copies-loop-k-preserved : goal.mark_copies-loop-k-preserved
 mark_copies-loop-k-preserved t c =
-    let tree = tree_of c.args.inner.now in
+    let tree = tree_in (plan_of c.args.inner.now) in
     let count = c.args.count in
     let k = c.loop-k.k in
     let lt : k < count = c.loop-k-test.true in

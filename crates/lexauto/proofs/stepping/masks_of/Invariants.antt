@@ -1,5 +1,5 @@
 use Rattle.std.proofs.Common.{◌≡◌, ℕ, ◌<◌, length}
-use Rattle.lexspec.specs.RuleViews.{rule_of}
+use Rattle.lexauto.specs.Laid.{shape_of}
 use Rattle.std.specs.Prelude.{map}
 use Rattle.lexmeaning.specs.Text.{flag}
 use Rattle.lexauto.specs.RuleFlow.{rules_read}
@@ -9,5 +9,5 @@ use Rattle.lexauto.proofs.stepping.masks_of.Given as goal
 abbrev pub invariant-loop-byte : goal.invariant-loop-byte
 invariant-loop-byte l = record {
   len : length (masks_in l.masks.items) ≡ l.byte;
-  each : (b q : ℕ) → b < l.byte → flag (mask_at (masks_in l.masks.items) b) q ≡ rules_read (map rule_of l.rules) b q 0;
+  each : (b q : ℕ) → b < l.byte → flag (mask_at (masks_in l.masks.items) b) q ≡ rules_read (map shape_of l.rules) b q 0;
 }

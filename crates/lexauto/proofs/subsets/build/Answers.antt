@@ -41,7 +41,8 @@ new-automaton-requires c =
     let keys = kept_in found.keys.items in
     let same : c.in_ok-moves.moves.spec.now ≡ c.args.spec.now = c.in_ok-moves.ensures.0 in
     let s = subst (λ (p : Spec). Surveys (spec_of p) keys found.next.items found.starts.items found.line_starts.items) same c.in_ok-found.ensures.ok in
-    let accepted = subst (λ (ks : List (Vec ℕ Global)). AcceptedBy (spec_of c.args.spec.now) (kept_in ks) (keys_in c.in_ok-accepts.accepts.items)) c.deref.ensures.value c.in_ok-accepts.ensures.accepted in
+    let accepted = subst (λ (ks : List (Vec ℕ Global)). AcceptedBy (spec_of c.args.spec.now) (kept_in ks) (keys_in c.in_ok-accepts.accepts.items)) c.deref.ensures.value
+    (subst (λ (p : Spec). AcceptedBy (spec_of p) (kept_in c.deref.result.now) (keys_in c.in_ok-accepts.accepts.items)) same c.in_ok-accepts.ensures.accepted) in
     let on = subst (λ (p : Spec). GoOnBy (spec_of p) keys found.goes_on.items) same c.in_ok-found.ensures.goes_on in
     let size = kept_length found.keys.items in
     let goes = c.in_ok-found.ensures.len ∙ sym size in
@@ -58,7 +59,8 @@ returns-clause-table c =
     let keys = kept_in found.keys.items in
     let same : c.in_ok-moves.moves.spec.now ≡ c.args.spec.now = c.in_ok-moves.ensures.0 in
     let s = subst (λ (p : Spec). Surveys (spec_of p) keys found.next.items found.starts.items found.line_starts.items) same c.in_ok-found.ensures.ok in
-    let accepted = subst (λ (ks : List (Vec ℕ Global)). AcceptedBy (spec_of c.args.spec.now) (kept_in ks) (keys_in c.in_ok-accepts.accepts.items)) c.deref.ensures.value c.in_ok-accepts.ensures.accepted in
+    let accepted = subst (λ (ks : List (Vec ℕ Global)). AcceptedBy (spec_of c.args.spec.now) (kept_in ks) (keys_in c.in_ok-accepts.accepts.items)) c.deref.ensures.value
+    (subst (λ (p : Spec). AcceptedBy (spec_of p) (kept_in c.deref.result.now) (keys_in c.in_ok-accepts.accepts.items)) same c.in_ok-accepts.ensures.accepted) in
     let on = subst (λ (p : Spec). GoOnBy (spec_of p) keys found.goes_on.items) same c.in_ok-found.ensures.goes_on in
     let size = kept_length found.keys.items in
     let goes = c.in_ok-found.ensures.len ∙ sym size in
@@ -82,7 +84,8 @@ returns-clause-reached c =
     let keys = kept_in found.keys.items in
     let same : c.in_ok-moves.moves.spec.now ≡ c.args.spec.now = c.in_ok-moves.ensures.0 in
     let s = subst (λ (p : Spec). Surveys (spec_of p) keys found.next.items found.starts.items found.line_starts.items) same c.in_ok-found.ensures.ok in
-    let accepted = subst (λ (ks : List (Vec ℕ Global)). AcceptedBy (spec_of c.args.spec.now) (kept_in ks) (keys_in c.in_ok-accepts.accepts.items)) c.deref.ensures.value c.in_ok-accepts.ensures.accepted in
+    let accepted = subst (λ (ks : List (Vec ℕ Global)). AcceptedBy (spec_of c.args.spec.now) (kept_in ks) (keys_in c.in_ok-accepts.accepts.items)) c.deref.ensures.value
+    (subst (λ (p : Spec). AcceptedBy (spec_of p) (kept_in c.deref.result.now) (keys_in c.in_ok-accepts.accepts.items)) same c.in_ok-accepts.ensures.accepted) in
     let on = subst (λ (p : Spec). GoOnBy (spec_of p) keys found.goes_on.items) same c.in_ok-found.ensures.goes_on in
     let size = kept_length found.keys.items in
     let goes = c.in_ok-found.ensures.len ∙ sym size in
@@ -98,7 +101,8 @@ returns-clause-laws c =
     let keys = kept_in found.keys.items in
     let same : c.in_ok-moves.moves.spec.now ≡ c.args.spec.now = c.in_ok-moves.ensures.0 in
     let s = subst (λ (p : Spec). Surveys (spec_of p) keys found.next.items found.starts.items found.line_starts.items) same c.in_ok-found.ensures.ok in
-    let accepted = subst (λ (ks : List (Vec ℕ Global)). AcceptedBy (spec_of c.args.spec.now) (kept_in ks) (keys_in c.in_ok-accepts.accepts.items)) c.deref.ensures.value c.in_ok-accepts.ensures.accepted in
+    let accepted = subst (λ (ks : List (Vec ℕ Global)). AcceptedBy (spec_of c.args.spec.now) (kept_in ks) (keys_in c.in_ok-accepts.accepts.items)) c.deref.ensures.value
+    (subst (λ (p : Spec). AcceptedBy (spec_of p) (kept_in c.deref.result.now) (keys_in c.in_ok-accepts.accepts.items)) same c.in_ok-accepts.ensures.accepted) in
     let on = subst (λ (p : Spec). GoOnBy (spec_of p) keys found.goes_on.items) same c.in_ok-found.ensures.goes_on in
     let size = kept_length found.keys.items in
     let goes = c.in_ok-found.ensures.len ∙ sym size in

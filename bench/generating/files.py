@@ -1,0 +1,35 @@
+#!/usr/bin/env python3
+"""Writes specifications that are slow to build into FOLDER: patterns of nested signs, many rules, and parts without positions
+that many rules use.
+
+    bench/generating/files.py FOLDER"""
+import sys
+from pathlib import Path
+
+SIGNS = 64
+
+
+def nested(items):
+    """So many letters, each with nested signs."""
+    return "%%\n" + ("a" + "+" * SIGNS) * items + " ;\n"
+
+
+def words(count):
+    """So many rules, each a word of three letters."""
+    letters = str.maketrans("0123456789abcdef", "abcdefghijklmnop")
+    return "%%\n" + "".join(f"{number:03x}".translate(letters) + " ;\n" for number in range(count))
+
+
+def nothing(rules):
+    """Rules that each use a tree of 65,535 nodes without a position."""
+    names = ['D0 ""'] + [f"D{k} {{D{k - 1}}}{{D{k - 1}}}" for k in range(1, 16)]
+    return "\n".join(names) + "\n%%\n" + "{D15}a ;\n" * rules
+
+
+FILES = {f"nested{items}": nested(items) for items in (100, 200, 400, 1000)}
+FILES |= {f"words{count}": words(count) for count in (2_000, 4_096)}
+FILES["nothing16"] = nothing(16)
+
+folder = Path(sys.argv[1])
+for name, text in FILES.items():
+    (folder / f"{name}.l").write_text(text)

@@ -1,0 +1,26 @@
+use Rattle.std.proofs.Common.{rules, ◌≡◌, ℕ, ◌<◌, Bool, List, length, true, arith, sym, ap, subst, ◌∙◌}
+use Rattle.lexmeaning.specs.Active.{lists}
+use Rattle.lexmeaning.specs.Text.{flag, listed}
+use Rattle.lexauto.specs.Cursors.{Increases}
+use Rattle.lexauto.specs.Sets.{marked}
+use Rattle.lexauto.proofs.CursorLaws.{increases, all_marked, listed_flags}
+use Rattle.lexauto.proofs.Numbers.{listed_ascends, marked_is}
+use Rattle.lexauto.proofs.sets.in_order.Goals as goal
+
+pub returns-then-is_in_order-clause-same : goal.returns-then-is_in_order-clause-same
+returns-then-is_in_order-clause-same c =
+    let h = all_marked c.args.count c.args.numbers.now (c.is_in_order.ensures.below c.if-is_in_order.true) in
+    search (rules, h)
+
+pub returns-clause-increases : goal.returns-clause-increases
+returns-clause-increases c =
+    let marks = c.deref.result.now in
+    subst Increases (sym c.in_ok-numbers.ensures) (increases (listed (flag marks) 0 (length marks)) (listed_ascends (flag marks) 0 (length marks)))
+
+pub returns-clause-same : goal.returns-clause-same
+returns-clause-same c = λ i.
+    let marks = c.deref.result.now in
+    let same : (j : ℕ) → flag marks j ≡ marked c.args.count c.args.numbers.now j = λ j. ap (λ (m : List Bool). flag m j) c.deref.ensures.value ∙ c.in_ok-marks.ensures.marks j in
+    let size : length marks ≡ c.args.count = ap length c.deref.ensures.value ∙ c.in_ok-marks.ensures.length in
+    let low : (j : ℕ) → flag marks j ≡ true → j < length marks = λ j t. let r = ((marked_is c.args.count c.args.numbers.now j).0 (sym (same j) ∙ t)).0 in omega (arith, r, size) in
+    ap (λ (l : List ℕ). lists l i) c.in_ok-numbers.ensures ∙ listed_flags (length marks) (flag marks) low i ∙ same i

@@ -1,0 +1,32 @@
+use Rattle.std.proofs.Common.{◌≡◌, ◌<◌, ℕ, Bool, List, length, map, sym, ap, ◌∙◌}
+use Rattle.lexmeaning.specs.Subsets.{all_positions}
+use Rattle.lexspec.specs.RuleViews.{rule_of}
+use Rattle.lexspec.specs.Views.{spec_of}
+use Rattle.lexauto.specs.Laid.{shape_of}
+use Rattle.lexauto.specs.RuleFlow.{rules_enter, rules_left, rules_read}
+use Rattle.lexauto.specs.declared.rules.LaidRule.{LaidRule}
+use Rattle.lexauto.proofs.LaidLaws.{NextAll, LeftAll, Letters}
+use Rattle.lexauto.proofs.StepLemmas.{tested_rules, length_map}
+use Rattle.lexauto.proofs.stepping.RuleMoves.new.Goals as goal
+
+pub lay_rules-requires-clause-sound : goal.lay_rules-requires-clause-sound
+lay_rules-requires-clause-sound c = rw c.rules.ensures.rules (tested_rules (spec_of c.args.spec.now) c.rules.ensures.sound)
+
+pub invariant_of-result-clause-number : goal.invariant_of-result-clause-number
+invariant_of-result-clause-number c =
+    sym (length_map shape_of c.in_ok-rules.rules.items) ∙ c.in_ok-rules.ensures.alike.number ∙ ap length c.rules.ensures.rules
+
+pub invariant_of-result-clause-size : goal.invariant_of-result-clause-size
+invariant_of-result-clause-size c = c.in_ok-rules.ensures.alike.size ∙ ap all_positions c.rules.ensures.rules ∙ c.requires.within
+
+pub invariant_of-result-clause-next : goal.invariant_of-result-clause-next
+invariant_of-result-clause-next c = λ on last q. ap (λ (f : NextAll). f on last q 0 0) (c.in_ok-rules.ensures.alike.next ∙ ap rules_enter c.rules.ensures.rules)
+
+pub invariant_of-result-clause-left : goal.invariant_of-result-clause-left
+invariant_of-result-clause-left c = λ last. ap (λ (f : LeftAll). f last 0 0) (c.in_ok-rules.ensures.alike.left ∙ ap rules_left c.rules.ensures.rules)
+
+pub invariant_of-result-clause-each : goal.invariant_of-result-clause-each
+invariant_of-result-clause-each c = λ b q low.
+    c.in_ok-masks.ensures.each b q low
+    ∙ ap (λ (rs : List LaidRule). rules_read (map shape_of rs) b q 0) c.deref.ensures.value
+    ∙ ap (λ (f : Letters). f b q 0) (c.in_ok-rules.ensures.alike.letters ∙ ap rules_read c.rules.ensures.rules)
