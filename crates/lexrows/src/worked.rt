@@ -120,9 +120,19 @@ pub(crate) const SERIES: &[Row] = &[
     ("%%\nab{2} printf(\"X\");\n", "abbabab", "abbX", 0),
     ("%%\nabc{1,3} printf(\"X\");\n", "abc abcabc", "X X", 0),
     ("%%\nab{2}c printf(\"X\");\n", "abbcababc", "abbcX", 0),
-    ("%%\na{2}b{3} printf(\"X\");\n", "aabbbaabaabaab", "aabbbX", 0),
+    (
+        "%%\na{2}b{3} printf(\"X\");\n",
+        "aabbbaabaabaab",
+        "aabbbX",
+        0,
+    ),
     ("%%\na|bc{2} printf(\"X\");\n", "bccbcbc", "bccX", 0),
     ("%%\n(ab){2} printf(\"X\");\n", "ababab", "Xab", 0),
     ("%%\nab{2}/c{2} printf(\"X\");\n", "ababcc", "Xcc", 0),
-    ("D ab{2}\n%%\n{D}c{2} printf(\"X\");\n", "ababcababc", "X", 0),
+    (
+        "D ab{2}\n%%\n{D}c{2} printf(\"X\");\n",
+        "ababcababc",
+        "X",
+        0,
+    ),
 ];
