@@ -26,3 +26,4 @@ pub record Declares (fold : Bool) (ds : List Definition) (d : Declarations) : Ty
   pub conditions : map declared_of d.conditions.items ≡ all_conditions ds
   pub defs : d.defs ≡ from_entries (substitutes_of ds)
   pub folds : d.fold ≡ (fold || has_name (all_options ds) (codes "case-insensitive"))
+  pub stacks : d.stack ≡ has_name (all_options ds) (codes "stack")
