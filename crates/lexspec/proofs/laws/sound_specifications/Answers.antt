@@ -2,4 +2,4 @@ use Rattle.lexspec.proofs.PassLaws.{spec_passes}
 use Rattle.lexspec.proofs.laws.sound_specifications.Goals as goal
 
 pub returns : goal.returns
-returns c = λ cs fold defined items rules ends some few few_rules are sides. spec_passes cs fold defined items rules ends some few few_rules are sides
+returns c = λ cs fold stack defined items rules ends some few few_rules are sides. spec_passes cs fold stack defined items rules ends some few few_rules are sides
