@@ -4,10 +4,11 @@ use Rattle.std.specs.Prelude.{◌&&◌, ◌||◌, not, nat_le, nat_lt, sum_by}
 use Rattle.std.proofs.lemmas.Bool.Decides.{nat_tests}
 use Rattle.std.proofs.lemmas.List.{nil_from_length}
 use Rattle.std.proofs.lemmas.List.Sums.{sum_by-cons}
-use Rattle.lexmeaning.specs.Spec.{Statement, Echo, Print, Begin, More, Less, Reject, End, has_reject}
+use Rattle.lexmeaning.specs.Spec.{Statement, Echo, Print, Begin, More, Less, Reject, End, Push, Pop, has_reject}
 use Rattle.lexmeaning.specs.Legal.{all_in_range, ends_action, ends_last, is_literal, are_joined, has_less, has_more, count_less, IsLegal}
 use Rattle.lexmachine.specs.Literals.{literal_bytes}
 use Rattle.lextab.specs.Checks.{Each, HasText}
+use Rattle.lexfile.specs.File.{has_stack}
 use Rattle.lexfile.specs.Seen.{EachFrom, Seen, unseen, seen_after, MayStand}
 
 -- ---- tests
@@ -34,6 +35,10 @@ is_le a b h = grind (arith, nat_tests)
 not_true : (b : Bool) → (b ≡ true → ⊥) → b ≡ false
 not_true true h = absurd (h refl)
 not_true false h = refl
+
+not_false : (b : Bool) → (b ≡ false → ⊥) → b ≡ true
+not_false true h = refl
+not_false false h = absurd (h refl)
 
 clash : {X : Type 0} (b : Bool) → b ≡ false → b ≡ true → X
 clash b h k = absurd cc
@@ -86,6 +91,8 @@ none_counted (More ∷ ss) h = none_counted ss h
 none_counted (Less n ∷ ss) h = absurd cc
 none_counted (Reject ∷ ss) h = none_counted ss h
 none_counted (End c ∷ ss) h = none_counted ss h
+none_counted (Push c ∷ ss) h = none_counted ss h
+none_counted (Pop ∷ ss) h = none_counted ss h
 
 counted_none : (ss : List Statement) → count_less ss ≡ 0 → has_less ss ≡ false
 counted_none [] h = refl
@@ -96,6 +103,8 @@ counted_none (More ∷ ss) h = counted_none ss h
 counted_none (Less n ∷ ss) h = absurd (omega (arith, h))
 counted_none (Reject ∷ ss) h = counted_none ss h
 counted_none (End c ∷ ss) h = counted_none ss h
+counted_none (Push c ∷ ss) h = counted_none ss h
+counted_none (Pop ∷ ss) h = counted_none ss h
 
 texts_at : (i j : ℕ) (ss : List Statement) → Each HasText i ss → Each HasText j ss
 texts_at i j [] h = tt
@@ -106,6 +115,8 @@ texts_at i j (More ∷ ss) h = (tt, texts_at (suc i) (suc j) ss h.1)
 texts_at i j (Less n ∷ ss) h = (tt, texts_at (suc i) (suc j) ss h.1)
 texts_at i j (Reject ∷ ss) h = (tt, texts_at (suc i) (suc j) ss h.1)
 texts_at i j (End c ∷ ss) h = (tt, texts_at (suc i) (suc j) ss h.1)
+texts_at i j (Push c ∷ ss) h = (tt, texts_at (suc i) (suc j) ss h.1)
+texts_at i j (Pop ∷ ss) h = (tt, texts_at (suc i) (suc j) ss h.1)
 
 -- what the rest of an action keeps to, where this was seen before it
 record Fits (n : ℕ) (s : Seen) (ss : List Statement) : Type 0 where
@@ -121,6 +132,7 @@ record Fits (n : ℕ) (s : Seen) (ss : List Statement) : Type 0 where
   less_alone : has_less ss ≡ true → has_more ss ≡ false
   one_less : count_less ss ≤ 1
   bytes : Each HasText 0 ss
+  stacks : s.stack ≡ false → has_stack ss ≡ false
 
 fits : (n : ℕ) (s : Seen) (ss : List Statement) → s.literal ≤ 4096 → s.left ≡ length ss → EachFrom (MayStand n) seen_after s ss → Fits n s ss
 fits n s [] low left h = record {
@@ -136,6 +148,7 @@ fits n s [] low left h = record {
   less_alone = λ e. refl;
   one_less = omega arith;
   bytes = tt;
+  stacks = λ e. refl;
 }
 fits n s (Echo ∷ ss) low left h =
     let r = fits n (seen_after s Echo) ss low (omega (arith, left)) h.1 in
@@ -152,6 +165,7 @@ fits n s (Echo ∷ ss) low left h =
       less_alone = r.less_alone;
       one_less = r.one_less;
       bytes = (tt, texts_at 0 1 ss r.bytes);
+      stacks = r.stacks;
     }
 fits n s (Print b ∷ ss) low left h =
     let len = h.0.1.0 in
@@ -170,6 +184,7 @@ fits n s (Print b ∷ ss) low left h =
       less_alone = r.less_alone;
       one_less = r.one_less;
       bytes = (h.0.1.1, texts_at 0 1 ss r.bytes);
+      stacks = r.stacks;
     }
 fits n s (Begin c ∷ ss) low left h =
     let r = fits n (seen_after s (Begin c)) ss low (omega (arith, left)) h.1 in
@@ -186,6 +201,7 @@ fits n s (Begin c ∷ ss) low left h =
       less_alone = r.less_alone;
       one_less = r.one_less;
       bytes = (tt, texts_at 0 1 ss r.bytes);
+      stacks = r.stacks;
     }
 fits n s (More ∷ ss) low left h =
     let r = fits n (seen_after s More) ss low (omega (arith, left)) h.1 in
@@ -203,6 +219,7 @@ fits n s (More ∷ ss) low left h =
       less_alone = λ e. clash (has_less ss) m.0 e;
       one_less = r.one_less;
       bytes = (tt, texts_at 0 1 ss r.bytes);
+      stacks = r.stacks;
     }
 fits n s (Less k ∷ ss) low left h =
     let r = fits n (seen_after s (Less k)) ss low (omega (arith, left)) h.1 in
@@ -222,6 +239,7 @@ fits n s (Less k ∷ ss) low left h =
       less_alone = λ e. l.1.0;
       one_less = omega (arith, none_counted ss l.0);
       bytes = (tt, texts_at 0 1 ss r.bytes);
+      stacks = r.stacks;
     }
 fits n s (Reject ∷ ss) low left h =
     let r = fits n (seen_after s Reject) ss low (omega (arith, left)) h.1 in
@@ -239,6 +257,7 @@ fits n s (Reject ∷ ss) low left h =
       less_alone = λ e. ap has_more none;
       one_less = r.one_less;
       bytes = (tt, texts_at 0 1 ss r.bytes);
+      stacks = r.stacks;
     }
 fits n s (End k ∷ ss) low left h =
     let r = fits n (seen_after s (End k)) ss low (omega (arith, left)) h.1 in
@@ -257,6 +276,41 @@ fits n s (End k ∷ ss) low left h =
       less_alone = r.less_alone;
       one_less = r.one_less;
       bytes = (tt, texts_at 0 1 ss r.bytes);
+      stacks = r.stacks;
+    }
+fits n s (Push c ∷ ss) low left h =
+    let r = fits n (seen_after s (Push c)) ss low (omega (arith, left)) h.1 in
+    record {
+      ranges = is_and (nat_lt c n) (all_in_range n ss) (is_lt c n h.0.1) r.ranges;
+      last = last_more (Push c) ss (λ e. absurd cc) r.last;
+      left = left;
+      joined = joined_more (Push c) ss (λ e. absurd cc) r.joined;
+      apart = λ e. refl;
+      literals = omega (arith, r.literals, sum_by-cons literal_bytes (Push c) ss);
+      less = r.less;
+      more = r.more;
+      reject_alone = r.reject_alone;
+      less_alone = r.less_alone;
+      one_less = r.one_less;
+      bytes = (tt, texts_at 0 1 ss r.bytes);
+      stacks = λ e. clash s.stack e h.0.0;
+    }
+fits n s (Pop ∷ ss) low left h =
+    let r = fits n (seen_after s Pop) ss low (omega (arith, left)) h.1 in
+    record {
+      ranges = r.ranges;
+      last = last_more Pop ss (λ e. absurd cc) r.last;
+      left = left;
+      joined = joined_more Pop ss (λ e. absurd cc) r.joined;
+      apart = λ e. refl;
+      literals = omega (arith, r.literals, sum_by-cons literal_bytes Pop ss);
+      less = r.less;
+      more = r.more;
+      reject_alone = r.reject_alone;
+      less_alone = r.less_alone;
+      one_less = r.one_less;
+      bytes = (tt, texts_at 0 1 ss r.bytes);
+      stacks = λ e. clash s.stack e h.0;
     }
 
 stand : (n : ℕ) (s : Seen) (ss : List Statement) → Fits n s ss → EachFrom (MayStand n) seen_after s ss
@@ -279,6 +333,7 @@ stand n s (Echo ∷ ss) f =
         less_alone = f.less_alone;
         one_less = f.one_less;
         bytes = texts_at 1 0 ss f.bytes.1;
+        stacks = f.stacks;
       }),
     )
 stand n s (Print b ∷ ss) f =
@@ -302,6 +357,7 @@ stand n s (Print b ∷ ss) f =
         less_alone = f.less_alone;
         one_less = f.one_less;
         bytes = texts_at 1 0 ss f.bytes.1;
+        stacks = f.stacks;
       }),
     )
 stand n s (Begin c ∷ ss) f =
@@ -323,6 +379,7 @@ stand n s (Begin c ∷ ss) f =
         less_alone = f.less_alone;
         one_less = f.one_less;
         bytes = texts_at 1 0 ss f.bytes.1;
+        stacks = f.stacks;
       }),
     )
 stand n s (More ∷ ss) f =
@@ -344,6 +401,7 @@ stand n s (More ∷ ss) f =
         less_alone = λ e. let k = f.less_alone e in absurd cc;
         one_less = f.one_less;
         bytes = texts_at 1 0 ss f.bytes.1;
+        stacks = f.stacks;
       }),
     )
 stand n s (Less k ∷ ss) f =
@@ -371,6 +429,7 @@ stand n s (Less k ∷ ss) f =
         less_alone = λ e. f.less_alone refl;
         one_less = omega (arith, count);
         bytes = texts_at 1 0 ss f.bytes.1;
+        stacks = f.stacks;
       }),
     )
 stand n s (Reject ∷ ss) f =
@@ -395,6 +454,7 @@ stand n s (Reject ∷ ss) f =
         less_alone = λ e. ap has_more none;
         one_less = f.one_less;
         bytes = texts_at 1 0 ss f.bytes.1;
+        stacks = f.stacks;
       }),
     )
 stand n s (End k ∷ ss) f =
@@ -419,6 +479,52 @@ stand n s (End k ∷ ss) f =
         less_alone = f.less_alone;
         one_less = f.one_less;
         bytes = texts_at 1 0 ss f.bytes.1;
+        stacks = f.stacks;
+      }),
+    )
+stand n s (Push c ∷ ss) f =
+    let left : s.left - 1 ≡ length ss = omega (arith, f.left) in
+    let l = last_less (Push c) ss f.last in
+    let j = joined_less (Push c) ss f.joined in
+    let r = and_is (nat_lt c n) (all_in_range n ss) f.ranges in
+    let on = not_false s.stack (λ e. let k = f.stacks e in absurd cc) in (
+      (on, lt_is c n r.0),
+      stand n (seen_after s (Push c)) ss (record {
+        ranges = r.1;
+        last = l.0;
+        left = left;
+        joined = j.0;
+        apart = λ e. absurd cc;
+        literals = omega (arith, f.literals, sum_by-cons literal_bytes (Push c) ss);
+        less = f.less;
+        more = f.more;
+        reject_alone = f.reject_alone;
+        less_alone = f.less_alone;
+        one_less = f.one_less;
+        bytes = texts_at 1 0 ss f.bytes.1;
+        stacks = λ e. clash s.stack e on;
+      }),
+    )
+stand n s (Pop ∷ ss) f =
+    let left : s.left - 1 ≡ length ss = omega (arith, f.left) in
+    let l = last_less Pop ss f.last in
+    let j = joined_less Pop ss f.joined in
+    let on = not_false s.stack (λ e. let k = f.stacks e in absurd cc) in (
+      on,
+      stand n (seen_after s Pop) ss (record {
+        ranges = f.ranges;
+        last = l.0;
+        left = left;
+        joined = j.0;
+        apart = λ e. absurd cc;
+        literals = omega (arith, f.literals, sum_by-cons literal_bytes Pop ss);
+        less = f.less;
+        more = f.more;
+        reject_alone = f.reject_alone;
+        less_alone = f.less_alone;
+        one_less = f.one_less;
+        bytes = texts_at 1 0 ss f.bytes.1;
+        stacks = λ e. clash s.stack e on;
       }),
     )
 
@@ -448,20 +554,26 @@ pub record IsAction (n : ℕ) (ss : List Statement) : Type 0 where
   pub legal : IsLegal n ss
   pub bytes : Each HasText 0 ss
 
-pub action_is : (n : ℕ) (ss : List Statement) → length ss ≤ 256 → EachFrom (MayStand n) seen_after (unseen (length ss)) ss → IsAction n ss
-action_is n ss few h =
-    let f = fits n (unseen (length ss)) ss (omega arith) refl h in
-    record {
-      few = few;
-      literals = omega (arith, f.literals);
-      legal = record { ranges = f.ranges; last = f.last; joined = f.joined; compatible = compatible_is (has_reject ss) (has_more ss) (has_less ss) (count_less ss) f.reject_alone f.less_alone f.one_less };
-      bytes = f.bytes;
-    }
+-- the statements that the version has
+abbrev pub InVersion : Bool → List Statement → Type 0
+InVersion stack ss = stack ≡ false → has_stack ss ≡ false
 
-pub is_action : (n : ℕ) (ss : List Statement) → IsAction n ss → EachFrom (MayStand n) seen_after (unseen (length ss)) ss
-is_action n ss a =
+pub action_is : (n : ℕ) (stack : Bool) (ss : List Statement) → length ss ≤ 256 → EachFrom (MayStand n) seen_after (unseen stack (length ss)) ss → IsAction n ss × InVersion stack ss
+action_is n stack ss few h =
+    let f = fits n (unseen stack (length ss)) ss (omega arith) refl h in (
+      record {
+        few = few;
+        literals = omega (arith, f.literals);
+        legal = record { ranges = f.ranges; last = f.last; joined = f.joined; compatible = compatible_is (has_reject ss) (has_more ss) (has_less ss) (count_less ss) f.reject_alone f.less_alone f.one_less };
+        bytes = f.bytes;
+      },
+      f.stacks,
+    )
+
+pub is_action : (n : ℕ) (stack : Bool) (ss : List Statement) → IsAction n ss → InVersion stack ss → EachFrom (MayStand n) seen_after (unseen stack (length ss)) ss
+is_action n stack ss a version =
     let p = compatible_parts (has_reject ss) (has_more ss) (has_less ss) (count_less ss) a.legal.compatible in
-    stand n (unseen (length ss)) ss (record {
+    stand n (unseen stack (length ss)) ss (record {
       ranges = a.legal.ranges;
       last = a.legal.last;
       left = refl;
@@ -474,4 +586,5 @@ is_action n ss a =
       less_alone = p.1.0;
       one_less = p.1.1;
       bytes = a.bytes;
+      stacks = version;
     })

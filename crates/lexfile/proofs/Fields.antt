@@ -1,20 +1,20 @@
 -- The texts of a table's parts.
 use Rattle.std.proofs.Common.{◌≡◌, ◌⊎◌, ℕ, zero, suc, ◌+◌, ◌-◌, ◌<◌, ◌≤◌, Bool, true, false, cond, List, [], ◌∷◌, ◌++◌, length, get_or, Option, Some, None, refl, sym, ap, subst, ◌∙◌, arith, inl, inr}
-use Rattle.std.specs.Prelude.{◌&&◌, ◌||◌, nat_le, nat_lt, ◌==◌}
+use Rattle.std.specs.Prelude.{◌&&◌, ◌||◌, nat_le, nat_lt, ◌==◌, not}
 use Rattle.std.specs.Int.{w16, w32, to_be_bytes}
 use Rattle.std.specs.List.{flat_map}
 use Rattle.std.proofs.lemmas.Bool.Decides.{nat_tests}
 use Rattle.std.proofs.lemmas.List.{nil_from_length}
 use Rattle.std.proofs.lemmas.Option.{same_Some}
 use Rattle.lexmeaning.specs.Text.{IsText, Among, Ascending}
-use Rattle.lexmeaning.specs.Spec.{Statement, Echo, Print, Begin, More, Less, Reject, End, EndAction, Cut, Whole, Head, Trail}
-use Rattle.lextab.specs.Table.{Row}
+use Rattle.lexmeaning.specs.Spec.{Statement, Echo, Print, Begin, More, Less, Reject, End, Push, Pop, EndAction, Cut, Whole, Head, Trail}
+use Rattle.lextab.specs.Table.{Row, Rule}
 use Rattle.lextab.specs.Checks.{Sizes, IsCondition, IsCut, IsRule, IsRow, IsSlot}
 use Rattle.lexfile.specs.File.{byte, string, cut_text, statement_text, end_text, condition_text, rule_text, row_text, slot_text}
 use Rattle.lexfile.specs.Seen.{EachFrom, IsString, MayStand, Seen, unseen, seen_after}
 use Rattle.lexfile.specs.Reading.{◌>>=◌, only_if, both, seen_as, many, byte_at, number_at, bytes_at, within, long_at, below, positive_at, string_at, end_from, end_at, condition_from, condition_at, whole_of, cut_number, cut_at, bars, arguments, statement_at, statements_at, rule_from, rule_at, above, between, accepted_at, none_at_0, row_from, few, row_at, slot_from, good_check, slot_at}
 use Rattle.lexfile.proofs.Forms.{IsReader, bind_some, reads_both, reads_if, reads_as, reads_like, reads_many, reads_byte, reads_bytes, reads_long, reads_short}
-use Rattle.lexfile.proofs.Actions.{and_is, is_and, lt_is, is_lt, le_is, is_le, IsAction, action_is, is_action}
+use Rattle.lexfile.proofs.Actions.{and_is, is_and, lt_is, is_lt, le_is, is_le, IsAction, action_is, is_action, InVersion}
 
 -- ---- tests
 
@@ -173,6 +173,10 @@ unbarred : {A : Type 0} (b : Bool) (r : Option (A × List ℕ)) (x : A) (rest : 
 unbarred true r x rest e = absurd cc
 unbarred false r x rest e = (refl, e)
 
+on : (b : Bool) → not b ≡ false → b ≡ true
+on true h = refl
+on false h = absurd cc
+
 pub reads_statement : (conditions : ℕ) (s : Seen) → conditions ≤ 256 → IsReader statement_text (MayStand conditions s) (statement_at conditions s)
 unfolding statement_at
 reads_statement conditions s low = record { takes = take; again = again }
@@ -204,7 +208,13 @@ reads_statement conditions s low = record { takes = take; again = again }
                     | inl p ↦ let f = or_is (s.less || s.more) (nat_lt 1 s.left) (free s k 5 u.0 p.0) in taken statement_text (MayStand conditions s) Reject k 5 p.0 refl (or_is s.less s.more f.0, not_lt 1 s.left f.1) bytes x rest fits.1 p.1
                     | inr q ↦ elim (chosen (k == 6) _ _ _ q.1) [
                       | inl p ↦ let last = not_lt 1 s.left (free s k 6 u.0 p.0) in taken_as End statement_text (MayStand conditions s) byte (λ n. n < 64) _ status k 6 p.0 (λ b l. refl) (λ b l. (last, l)) bytes x rest fits.1 p.1
-                      | inr q ↦ none_some (x, rest) q.1
+                      | inr q ↦ elim (chosen (k == 7) _ _ _ q.1) [
+                        | inl p ↦ taken_as Push statement_text (MayStand conditions s) byte (λ n. n < conditions) _ named k 7 p.0 (λ b l. refl) (λ b l. (on s.stack (free s k 7 u.0 p.0), l)) bytes x rest fits.1 p.1
+                        | inr q ↦ elim (chosen (k == 8) _ _ _ q.1) [
+                          | inl p ↦ taken statement_text (MayStand conditions s) Pop k 8 p.0 refl (on s.stack (free s k 8 u.0 p.0)) bytes x rest fits.1 p.1
+                          | inr q ↦ none_some (x, rest) q.1
+                        ]
+                      ]
                     ]
                   ]
                 ]
@@ -221,28 +231,34 @@ reads_statement conditions s low = record { takes = take; again = again }
     again (Less n) rest h = rw (is_or s.less s.more h.0 h.1.0) (ap (λ (o : Option (ℕ × List ℕ)). o >>= λ y. Some (Less y.0, y.1)) (reads_positive.again n rest h.1.1))
     again Reject rest h = rw (is_or (s.less || s.more) (nat_lt 1 s.left) (is_or s.less s.more h.0.0 h.0.1) (is_not_lt 1 s.left h.1)) refl
     again (End c) rest h = rw (is_not_lt 1 s.left h.0) (ap (λ (o : Option (ℕ × List ℕ)). o >>= λ y. Some (End y.0, y.1)) (status.again c rest h.1))
+    again (Push c) rest h = rw h.0 (ap (λ (o : Option (ℕ × List ℕ)). o >>= λ y. Some (Push y.0, y.1)) (named.again c rest h.1))
+    again Pop rest h = rw h refl
 
 -- ---- rules
 
-pub reads_rule : (z : Sizes) (i : ℕ) → z.conditions ≤ 256 → IsReader rule_text (IsRule z i) (rule_at z.conditions)
+-- a rule that the version has
+abbrev pub IsRuleBy : Sizes → Bool → ℕ → Rule → Type 0
+IsRuleBy z stack i r = IsRule z i r × InVersion stack r.statements
+
+pub reads_rule : (z : Sizes) (stack : Bool) (i : ℕ) → z.conditions ≤ 256 → IsReader rule_text (IsRuleBy z stack i) (rule_at z.conditions stack)
 unfolding rule_at
-reads_rule z i low = reads_like rule_text (λ r. LowCut r.cut × IsAction z.conditions r.statements) (IsRule z i) _
+reads_rule z stack i low = reads_like rule_text (λ r. LowCut r.cut × (IsAction z.conditions r.statements × InVersion stack r.statements)) (IsRuleBy z stack i) _
     (reads_as
     (λ (p : Cut × List Statement). cut_text p.0 ++ (to_be_bytes w32 (length p.1) ++ flat_map statement_text p.1))
-    (λ p. LowCut p.0 × IsAction z.conditions p.1)
+    (λ p. LowCut p.0 × (IsAction z.conditions p.1 × InVersion stack p.1))
     _ rule_from (λ r. (r.cut, r.statements))
-    (reads_both cut_text LowCut cut_at (λ c statements. to_be_bytes w32 (length statements) ++ flat_map statement_text statements) (λ c. IsAction z.conditions) (λ c. statements_at z.conditions) reads_cut (λ c l. actions))
+    (reads_both cut_text LowCut cut_at (λ c statements. to_be_bytes w32 (length statements) ++ flat_map statement_text statements) (λ c ss. IsAction z.conditions ss × InVersion stack ss) (λ c. statements_at z.conditions stack) reads_cut (λ c l. actions))
     (λ r. refl) (λ p l. refl))
-    (λ r l. record { cut = cut_is r.cut l.0; few = l.1.few; literals = l.1.literals; legal = l.1.legal; bytes = l.1.bytes })
-    (λ r l. (is_cut r.cut l.cut, record { few = l.few; literals = l.literals; legal = l.legal; bytes = l.bytes }))
+    (λ r l. (record { cut = cut_is r.cut l.0; few = l.1.0.few; literals = l.1.0.literals; legal = l.1.0.legal; bytes = l.1.0.bytes }, l.1.1))
+    (λ r l. (is_cut r.cut l.0.cut, (record { few = l.0.few; literals = l.0.literals; legal = l.0.legal; bytes = l.0.bytes }, l.1)))
   where
-    actions : IsReader (λ (statements : List Statement). to_be_bytes w32 (length statements) ++ flat_map statement_text statements) (IsAction z.conditions) (statements_at z.conditions)
-    actions = reads_like (λ (xs : List Statement). to_be_bytes w32 (length xs) ++ flat_map statement_text xs) (λ xs. ((0 ≤ length xs) × (length xs ≤ 256)) × ((length xs ≡ length xs) × EachFrom (MayStand z.conditions) seen_after (unseen (length xs)) xs)) (IsAction z.conditions) (statements_at z.conditions)
-        (reads_as (counted_text statement_text) (λ p. ((0 ≤ p.0) × (p.0 ≤ 256)) × ((length p.1 ≡ p.0) × EachFrom (MayStand z.conditions) seen_after (unseen p.0) p.1)) _ (λ p. p.1) (λ xs. (length xs, xs))
-        (reads_both (to_be_bytes w32) (λ n. (0 ≤ n) × (n ≤ 256)) (long_at 0 256) (λ n. flat_map statement_text) (λ n xs. (length xs ≡ n) × EachFrom (MayStand z.conditions) seen_after (unseen n) xs) (λ n. many (statement_at z.conditions) seen_after n (unseen n))
-        (reads_within 0 256 (omega arith)) (λ n l. reads_many statement_text (MayStand z.conditions) (statement_at z.conditions) seen_after (λ s. reads_statement z.conditions s low) n (unseen n)))
+    actions : IsReader (λ (statements : List Statement). to_be_bytes w32 (length statements) ++ flat_map statement_text statements) (λ ss. IsAction z.conditions ss × InVersion stack ss) (statements_at z.conditions stack)
+    actions = reads_like (λ (xs : List Statement). to_be_bytes w32 (length xs) ++ flat_map statement_text xs) (λ xs. ((0 ≤ length xs) × (length xs ≤ 256)) × ((length xs ≡ length xs) × EachFrom (MayStand z.conditions) seen_after (unseen stack (length xs)) xs)) (λ ss. IsAction z.conditions ss × InVersion stack ss) (statements_at z.conditions stack)
+        (reads_as (counted_text statement_text) (λ p. ((0 ≤ p.0) × (p.0 ≤ 256)) × ((length p.1 ≡ p.0) × EachFrom (MayStand z.conditions) seen_after (unseen stack p.0) p.1)) _ (λ p. p.1) (λ xs. (length xs, xs))
+        (reads_both (to_be_bytes w32) (λ n. (0 ≤ n) × (n ≤ 256)) (long_at 0 256) (λ n. flat_map statement_text) (λ n xs. (length xs ≡ n) × EachFrom (MayStand z.conditions) seen_after (unseen stack n) xs) (λ n. many (statement_at z.conditions) seen_after n (unseen stack n))
+        (reads_within 0 256 (omega arith)) (λ n l. reads_many statement_text (MayStand z.conditions) (statement_at z.conditions) seen_after (λ s. reads_statement z.conditions s low) n (unseen stack n)))
         (λ xs. refl) (λ p l. ap (λ (n : ℕ). (n, p.1)) l.1.0))
-        (λ xs l. action_is z.conditions xs l.0.1 l.1.1) (λ xs l. ((omega arith, l.few), (refl, is_action z.conditions xs l)))
+        (λ xs l. action_is z.conditions stack xs l.0.1 l.1.1) (λ xs l. ((omega arith, l.0.few), (refl, is_action z.conditions stack xs l.0 l.1)))
 
 -- ---- states
 

@@ -16,7 +16,7 @@ use Rattle.lextab.specs.declared.parts.TableCondition.{TableCondition}
 use Rattle.lextab.specs.declared.parts.TableRule.{TableRule}
 use Rattle.lextab.specs.declared.parts.Row.{Row}
 use Rattle.lextab.specs.declared.parts.TableParts.{TableParts}
-use Rattle.lexfile.specs.File.{byte, cut_text, statement_text, condition_text, rule_text, row_text, slot_text, sizes_text, magic, file_of}
+use Rattle.lexfile.specs.File.{byte, cut_text, statement_text, condition_text, rule_text, row_text, slot_text, sizes_text, magic, file_of, version_of}
 use Rattle.lexfile.specs.Fitting.{FitsStatement, FitsRule, FitsCondition, FitsRow, FitsParts}
 use Rattle.lexfile.proofs.Fields.{few_ascend}
 
@@ -43,11 +43,12 @@ same_sizes c r n k e x y z a b d = rw (a, b, d) refl
 sizes_same : (p : TableParts) → sizes_in_memory p ≡ sizes_of (table_of p)
 sizes_same p = sym (same_sizes _ _ _ p.classes (length (slots_of p.checks.items p.nexts.items)) _ _ _ (length-map p.conditions.items condition_of) (length-map p.rules.items rule_of) (length-map p.rows.items row_of))
 
-pub header_same : (p : TableParts) → magic ++ (to_be_bytes w16 1 ++ (to_be_bytes w32 (length p.conditions.items) ++ (to_be_bytes w32 (length p.rules.items) ++ (to_be_bytes w32 (length p.rows.items) ++ (to_be_bytes w32 p.classes ++ to_be_bytes w32 (length (slots_of p.checks.items p.nexts.items)))))))
-    ≡ magic ++ (to_be_bytes w16 1 ++ sizes_text (sizes_of (table_of p)))
-header_same p = ap (λ (z : Sizes). magic ++ (to_be_bytes w16 1 ++ sizes_text z)) (sizes_same p)
+pub header_same : (p : TableParts) (v : ℕ) → v ≡ version_of (map rule_of p.rules.items) → magic ++ (to_be_bytes w16 v ++ (to_be_bytes w32 (length p.conditions.items) ++ (to_be_bytes w32 (length p.rules.items) ++ (to_be_bytes w32 (length p.rows.items) ++ (to_be_bytes w32 p.classes ++ to_be_bytes w32 (length (slots_of p.checks.items p.nexts.items)))))))
+    ≡ magic ++ (to_be_bytes w16 (version_of (map rule_of p.rules.items)) ++ sizes_text (sizes_of (table_of p)))
+header_same p v e =
+    ap (λ (z : Sizes). magic ++ (to_be_bytes w16 v ++ sizes_text z)) (sizes_same p) ∙ ap (λ n. magic ++ (to_be_bytes w16 n ++ sizes_text (sizes_of (table_of p)))) e
 
-pub file_same : (p : TableParts) → (magic ++ (to_be_bytes w16 1 ++ sizes_text (sizes_of (table_of p)))) ++ (flat_map (λ c. condition_text (condition_of c)) p.conditions.items ++ (flat_map (λ r. rule_text (rule_of r)) p.rules.items ++ (p.class_of.items ++ (flat_map (λ r. row_text (row_of r)) p.rows.items ++ flat_map slot_text (slots_of p.checks.items p.nexts.items))))) ≡ file_of (table_of p)
+pub file_same : (p : TableParts) → (magic ++ (to_be_bytes w16 (version_of (map rule_of p.rules.items)) ++ sizes_text (sizes_of (table_of p)))) ++ (flat_map (λ c. condition_text (condition_of c)) p.conditions.items ++ (flat_map (λ r. rule_text (rule_of r)) p.rules.items ++ (p.class_of.items ++ (flat_map (λ r. row_text (row_of r)) p.rows.items ++ flat_map slot_text (slots_of p.checks.items p.nexts.items))))) ≡ file_of (table_of p)
 file_same p =
     let rows = seen_same row_text row_of p.rows.items in
     let classes = bytes_same p.class_of.items in

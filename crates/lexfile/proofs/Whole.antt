@@ -1,6 +1,6 @@
 -- Each table has one file, and each file at most one table.
-use Rattle.std.proofs.Common.{◌≡◌, ℕ, ◌<◌, ◌≤◌, true, List, [], ◌∷◌, ◌++◌, length, Option, Some, None, refl, sym, ap, subst, ◌∙◌, arith}
-use Rattle.std.specs.Prelude.{◌==◌}
+use Rattle.std.proofs.Common.{◌≡◌, ℕ, suc, ◌<◌, ◌≤◌, Bool, true, false, ◌⊎◌, inl, inr, List, [], ◌∷◌, ◌++◌, length, Option, Some, None, refl, sym, ap, subst, ◌∙◌, arith}
+use Rattle.std.specs.Prelude.{◌==◌, ◌||◌, if◌then◌else◌}
 use Rattle.std.specs.Int.{w16, w32, to_be_bytes}
 use Rattle.std.specs.List.{flat_map}
 use Rattle.std.proofs.lemmas.Bool.Decides.{nat_tests}
@@ -9,12 +9,12 @@ use Rattle.std.proofs.lemmas.List.{append-nil, nil_from_length}
 use Rattle.lexmeaning.specs.Text.{IsText}
 use Rattle.lextab.specs.Table.{Condition, Rule, Row, Slot, Table}
 use Rattle.lextab.specs.Checks.{Each, Sizes, sizes_of, AreSizes, IsCondition, IsRule, any_reject, IsRow, bases_of, IsSlot, IsTable}
-use Rattle.lexfile.specs.File.{byte, condition_text, rule_text, row_text, slot_text, sizes_text, magic, version_of, file_of, IsFileOf}
+use Rattle.lexfile.specs.File.{byte, condition_text, rule_text, row_text, slot_text, sizes_text, magic, version_of, file_of, IsFileOf, has_stack, any_stack}
 use Rattle.lexfile.specs.Seen.{following}
 use Rattle.lexfile.specs.Reading.{only_if, both, many, number_at, bytes_at, condition_at, rule_at, class_at, row_at, slot_at, is_magic, sizes_from, sizes_at, Parts, table_from, table_at}
 use Rattle.lexfile.proofs.Forms.{IsReader, reads_both, reads_if, reads_as, reads_like, reads_places, reads_bytes, reads_short}
 use Rattle.lexfile.proofs.Actions.{and_is}
-use Rattle.lexfile.proofs.Fields.{reads_within, reads_byte_below, reads_condition, reads_rule, reads_row, reads_slot, tag_is}
+use Rattle.lexfile.proofs.Fields.{reads_within, reads_byte_below, reads_condition, IsRuleBy, reads_rule, reads_row, reads_slot, tag_is}
 
 reads_sizes : IsReader sizes_text AreSizes sizes_at
 unfolding sizes_at
@@ -72,9 +72,45 @@ reads_magic : IsReader (λ xs. xs) (λ xs. xs ≡ magic) (only_if is_magic (byte
 reads_magic = reads_if (λ xs. xs) (λ xs. (length xs ≡ 6) × IsText xs) (λ xs. xs ≡ magic) is_magic (bytes_at 6) (reads_bytes 6)
     (λ xs l e. magic_is xs l.0 e) (λ xs l. (ap is_magic l, (ap length l, subst IsText (sym l) magic_bytes)))
 
-reads_version : IsReader (to_be_bytes w16) (λ v. v ≡ 1) (only_if (λ v. v == 1) (number_at w16))
-reads_version = reads_if (to_be_bytes w16) (λ n. n < 65536) (λ v. v ≡ 1) (λ v. v == 1) (number_at w16) reads_short
-    (λ v l e. tag_is v 1 e) (λ v l. (rw l refl, omega arith))
+abbrev IsVersion : ℕ → Type 0
+IsVersion v = (v ≡ 1) ⊎ (v ≡ 2)
+
+version_is : (v : ℕ) (b : Bool) → (v == 1) ≡ b → (b || v == 2) ≡ true → IsVersion v
+version_is v true e h = inl (tag_is v 1 e)
+version_is v false e h = inr (tag_is v 2 h)
+
+is_version : (v : ℕ) → IsVersion v → ((v == 1 || v == 2) ≡ true) × (v < 65536)
+is_version v (inl e) = (rw e refl, omega (arith, e))
+is_version v (inr e) = (rw e refl, omega (arith, e))
+
+needed : (b : Bool) → IsVersion (if b then 2 else 1)
+needed true = inr refl
+needed false = inl refl
+
+reads_version : IsReader (to_be_bytes w16) IsVersion (only_if (λ v. v == 1 || v == 2) (number_at w16))
+reads_version = reads_if (to_be_bytes w16) (λ n. n < 65536) IsVersion (λ v. v == 1 || v == 2) (number_at w16) reads_short
+    (λ v l e. version_is v (v == 1) refl e) (λ v l. is_version v l)
+
+-- rules need just the version that has their statements
+none_needed : (b : Bool) (v : ℕ) → (if b then 2 else 1) ≡ v → (v == 2) ≡ false → b ≡ false
+none_needed false v e h = refl
+none_needed true v e h = absurd (two (ap (λ n. n == 2) e ∙ h))
+  where
+    two : true ≡ false → ⊥
+    two p = absurd cc
+
+no_stack : (b c : Bool) → (b || c) ≡ false → (b ≡ false) × (c ≡ false)
+no_stack true c e = absurd cc
+no_stack false c e = (refl, e)
+
+each_by : (z : Sizes) (stack : Bool) (i : ℕ) (rs : List Rule) → (stack ≡ false → any_stack rs ≡ false) → Each (IsRule z) i rs → Each (IsRuleBy z stack) i rs
+each_by z stack i [] none l = tt
+each_by z stack i (r ∷ rs) none l =
+    ((l.0, λ e. (no_stack (has_stack r.statements) (any_stack rs) (none e)).0), each_by z stack (suc i) rs (λ e. (no_stack (has_stack r.statements) (any_stack rs) (none e)).1) l.1)
+
+by_each : (z : Sizes) (stack : Bool) (i : ℕ) (rs : List Rule) → Each (IsRuleBy z stack) i rs → Each (IsRule z) i rs
+by_each z stack i [] l = tt
+by_each z stack i (r ∷ rs) l = (l.0.0, by_each z stack (suc i) rs l.1)
 
 -- ---- the parts after the sizes
 
@@ -94,7 +130,7 @@ IsBody v z p =
 
 abbrev body_at : ℕ → Sizes → List ℕ → Option (Body × List ℕ)
 body_at v z = both (many (λ i. condition_at z.states) following z.conditions 0) (λ cs.
-    both (only_if (λ rs. version_of rs == v) (many (λ i. rule_at z.conditions) following z.rules 0)) (λ rs.
+    both (only_if (λ rs. version_of rs == v) (many (λ i. rule_at z.conditions (v == 2)) following z.rules 0)) (λ rs.
     both (many (class_at z.classes) following 256 0) (λ ks.
     both (many (row_at z (any_reject rs)) following z.states 0) (λ rows.
     many (slot_at z (bases_of rows)) following z.slots 0))))
@@ -114,9 +150,9 @@ reads_body v z ok =
     reads_both (flat_map rule_text) (λ xs. ((length xs ≡ z.rules) × Each (IsRule z) 0 xs) × (version_of xs ≡ v)) _
     (λ rs (p : List ℕ × (List Row × List Slot)). flat_map byte p.0 ++ (flat_map row_text p.1.0 ++ flat_map slot_text p.1.1))
     (λ rs p. ((length p.0 ≡ 256) × Each (λ b k. k < z.classes) 0 p.0) × (((length p.1.0 ≡ z.states) × Each (IsRow z (any_reject rs)) 0 p.1.0) × ((length p.1.1 ≡ z.slots) × Each (IsSlot z (bases_of p.1.0)) 0 p.1.1))) _
-    (reads_if (flat_map rule_text) (λ xs. (length xs ≡ z.rules) × Each (IsRule z) 0 xs) (λ xs. ((length xs ≡ z.rules) × Each (IsRule z) 0 xs) × (version_of xs ≡ v)) (λ rs. version_of rs == v) _
-    (reads_places rule_text (IsRule z) (λ i. rule_at z.conditions) (λ i. reads_rule z i conditions_low) z.rules)
-    (λ rs l e. (l, tag_is _ v e)) (λ rs l. (rw l.1 (same_tag v), l.0)))
+    (reads_if (flat_map rule_text) (λ xs. (length xs ≡ z.rules) × Each (IsRuleBy z (v == 2)) 0 xs) (λ xs. ((length xs ≡ z.rules) × Each (IsRule z) 0 xs) × (version_of xs ≡ v)) (λ rs. version_of rs == v) _
+    (reads_places rule_text (IsRuleBy z (v == 2)) (λ i. rule_at z.conditions (v == 2)) (λ i. reads_rule z (v == 2) i conditions_low) z.rules)
+    (λ rs l e. ((l.0, by_each z (v == 2) 0 rs l.1), tag_is _ v e)) (λ rs l. (rw l.1 (same_tag v), (l.0.0, each_by z (v == 2) 0 rs (none_needed (any_stack rs) v l.1) l.0.1))))
     (λ rs l.
     reads_both (flat_map byte) (λ xs. (length xs ≡ 256) × Each (λ b k. k < z.classes) 0 xs) _
     (λ ks (p : List Row × List Slot). flat_map row_text p.0 ++ flat_map slot_text p.1)
@@ -140,7 +176,7 @@ abbrev parts_of : Table → Parts
 parts_of t = (magic, (version_of t.rules, (sizes_of t, (t.conditions, (t.rules, (t.class_of, (t.rows, t.slots)))))))
 
 abbrev IsParts : Parts → Type 0
-IsParts p = (p.0 ≡ magic) × ((p.1.0 ≡ 1) × (AreSizes p.1.1.0 × IsBody p.1.0 p.1.1.0 p.1.1.1))
+IsParts p = (p.0 ≡ magic) × (IsVersion p.1.0 × (AreSizes p.1.1.0 × IsBody p.1.0 p.1.1.0 p.1.1.1))
 
 parts_back : (p : Parts) → IsParts p → parts_of (table_from p) ≡ p
 parts_back p l =
@@ -154,15 +190,15 @@ pub reads_table : IsReader file_of IsTable table_at
 unfolding table_at
 reads_table = reads_like file_of (λ t. IsParts (parts_of t)) IsTable _
     (reads_as (λ (p : Parts). p.0 ++ (to_be_bytes w16 p.1.0 ++ (sizes_text p.1.1.0 ++ body_text p.1.1.1))) IsParts _ table_from parts_of
-    (reads_both (λ xs. xs) (λ xs. xs ≡ magic) _ (λ m (p : ℕ × (Sizes × Body)). to_be_bytes w16 p.0 ++ (sizes_text p.1.0 ++ body_text p.1.1)) (λ m p. (p.0 ≡ 1) × (AreSizes p.1.0 × IsBody p.0 p.1.0 p.1.1)) _
+    (reads_both (λ xs. xs) (λ xs. xs ≡ magic) _ (λ m (p : ℕ × (Sizes × Body)). to_be_bytes w16 p.0 ++ (sizes_text p.1.0 ++ body_text p.1.1)) (λ m p. IsVersion p.0 × (AreSizes p.1.0 × IsBody p.0 p.1.0 p.1.1)) _
     reads_magic (λ m l.
-    reads_both (to_be_bytes w16) (λ v. v ≡ 1) _ (λ v (p : Sizes × Body). sizes_text p.0 ++ body_text p.1) (λ v p. AreSizes p.0 × IsBody v p.0 p.1) _
+    reads_both (to_be_bytes w16) IsVersion _ (λ v (p : Sizes × Body). sizes_text p.0 ++ body_text p.1) (λ v p. AreSizes p.0 × IsBody v p.0 p.1) _
     reads_version (λ v l.
     reads_both sizes_text AreSizes sizes_at (λ z. body_text) (λ z. IsBody v z) (λ z. body_at v z)
     reads_sizes (λ z l. reads_body v z l))))
     (λ t. refl) parts_back)
     (λ t l. let b = l.1.1.1 in record { sizes = l.1.1.0; conditions = b.0.1; rules = b.1.0.0.1; bytes = b.1.1.0.0; class_of = b.1.1.0.1; rows = b.1.1.1.0.1; slots = b.1.1.1.1.1 })
-    (λ t l. (refl, (refl, (l.sizes, ((refl, l.conditions), (((refl, l.rules), refl), ((l.bytes, l.class_of), ((refl, l.rows), (refl, l.slots)))))))))
+    (λ t l. (refl, (needed (any_stack t.rules), (l.sizes, ((refl, l.conditions), (((refl, l.rules), refl), ((l.bytes, l.class_of), ((refl, l.rows), (refl, l.slots)))))))))
 
 -- the front of the bytes is a table file
 pub front_again : (t : Table) (rest : List ℕ) → IsTable t → table_at (file_of t ++ rest) ≡ Some (t, rest)

@@ -1,8 +1,8 @@
 -- The file of a table: its parts in order, numbers with the greatest byte first. (This project's.)
-use Rattle.std.specs.Prelude.{◌≡◌, ℕ, List, [], ◌∷◌, ◌++◌, length}
+use Rattle.std.specs.Prelude.{◌≡◌, ℕ, Bool, true, false, ◌||◌, if◌then◌else◌, List, [], ◌∷◌, ◌++◌, length}
 use Rattle.std.specs.Int.{w16, w32, to_be_bytes}
 use Rattle.std.specs.List.{flat_map}
-use Rattle.lexmeaning.specs.Spec.{Statement, Echo, Print, Begin, More, Less, Reject, End, EndAction, Cut, Whole, Head, Trail}
+use Rattle.lexmeaning.specs.Spec.{Statement, Echo, Print, Begin, More, Less, Reject, End, Push, Pop, EndAction, Cut, Whole, Head, Trail}
 use Rattle.lextab.specs.Table.{Condition, Rule, Row, Slot, Table}
 use Rattle.lextab.specs.Checks.{Sizes, sizes_of, IsTable}
 
@@ -35,6 +35,8 @@ statement_text More = byte 3
 statement_text (Less n) = 4 ∷ short n
 statement_text Reject = byte 5
 statement_text (End status) = 6 ∷ byte status
+statement_text (Push c) = 7 ∷ byte c
+statement_text Pop = byte 8
 
 abbrev pub end_text : EndAction → List ℕ
 end_text e = string e.print ++ byte e.status
@@ -55,9 +57,23 @@ slot_text s = long s.check ++ long s.next
 abbrev pub magic : List ℕ
 magic = 76 ∷ 69 ∷ 88 ∷ 84 ∷ 65 ∷ 66 ∷ []
 
--- the version that these rules need
+-- a statement of the stack of conditions
+abbrev pub is_stack : Statement → Bool
+is_stack (Push c) = true
+is_stack Pop = true
+is_stack _ = false
+
+abbrev pub has_stack : List Statement → Bool
+has_stack [] = false
+has_stack (s ∷ ss) = is_stack s || has_stack ss
+
+abbrev pub any_stack : List Rule → Bool
+any_stack [] = false
+any_stack (r ∷ rs) = has_stack r.statements || any_stack rs
+
+-- the version that these rules need: 2 where one has a statement of the stack
 abbrev pub version_of : List Rule → ℕ
-version_of rules = 1
+version_of rules = if any_stack rules then 2 else 1
 
 abbrev pub sizes_text : Sizes → List ℕ
 sizes_text z = long z.conditions ++ (long z.rules ++ (long z.states ++ (long z.classes ++ long z.slots)))

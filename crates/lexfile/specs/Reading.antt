@@ -1,7 +1,7 @@
 -- Reading a table from its bytes, from left to right: a value and the bytes after it, or nothing. (A device of the reader.)
-use Rattle.std.specs.Prelude.{ℕ, zero, suc, ◌+◌, ◌-◌, Bool, true, false, ◌&&◌, ◌||◌, cond, if◌then◌else◌, nat_lt, nat_le, ◌==◌, List, [], ◌∷◌, length, take, drop, Option, Some, None, slice_index}
+use Rattle.std.specs.Prelude.{ℕ, zero, suc, ◌+◌, ◌-◌, Bool, true, false, not, ◌&&◌, ◌||◌, cond, if◌then◌else◌, nat_lt, nat_le, ◌==◌, List, [], ◌∷◌, length, take, drop, Option, Some, None, slice_index}
 use Rattle.std.specs.Int.{Width, w16, w32, byte_len, from_be_bytes}
-use Rattle.lexmeaning.specs.Spec.{Statement, Echo, Print, Begin, More, Less, Reject, End, EndAction, Cut, Whole, Head, Trail}
+use Rattle.lexmeaning.specs.Spec.{Statement, Echo, Print, Begin, More, Less, Reject, End, Push, Pop, EndAction, Cut, Whole, Head, Trail}
 use Rattle.lextab.specs.Table.{Condition, Rule, Row, Slot, Table}
 use Rattle.lextab.specs.Checks.{Sizes, any_reject, bases_of}
 use Rattle.lexfile.specs.File.{version_of}
@@ -105,6 +105,8 @@ bars s k =
     else if k == 4 then s.less || s.more
     else if k == 5 then (s.less || s.more) || nat_lt 1 s.left
     else if k == 6 then nat_lt 1 s.left
+    else if k == 7 then not s.stack
+    else if k == 8 then not s.stack
     else false
 
 abbrev pub arguments : ℕ → Seen → ℕ → List ℕ → Option (Statement × List ℕ)
@@ -116,20 +118,22 @@ arguments conditions s k bytes =
     else if k == 4 then seen_as Less positive_at bytes
     else if k == 5 then Some (Reject, bytes)
     else if k == 6 then seen_as End (only_if (below 64) byte_at) bytes
+    else if k == 7 then seen_as Push (only_if (below conditions) byte_at) bytes
+    else if k == 8 then Some (Pop, bytes)
     else None
 
 unfoldable pub statement_at : ℕ → Seen → List ℕ → Option (Statement × List ℕ)
 statement_at conditions s bytes = byte_at bytes >>= λ k. if bars s k.0 then None else arguments conditions s k.0 k.1
 
 -- a count, and so many
-abbrev pub statements_at : ℕ → List ℕ → Option (List Statement × List ℕ)
-statements_at conditions = seen_as (λ p. p.1) (both (long_at 0 256) (λ n. many (statement_at conditions) seen_after n (unseen n)))
+abbrev pub statements_at : ℕ → Bool → List ℕ → Option (List Statement × List ℕ)
+statements_at conditions stack = seen_as (λ p. p.1) (both (long_at 0 256) (λ n. many (statement_at conditions) seen_after n (unseen stack n)))
 
 abbrev pub rule_from : Cut × List Statement → Rule
 rule_from p = record { cut = p.0; statements = p.1 }
 
-unfoldable pub rule_at : ℕ → List ℕ → Option (Rule × List ℕ)
-rule_at conditions = seen_as rule_from (both cut_at (λ c. statements_at conditions))
+unfoldable pub rule_at : ℕ → Bool → List ℕ → Option (Rule × List ℕ)
+rule_at conditions stack = seen_as rule_from (both cut_at (λ c. statements_at conditions stack))
 
 -- ---- classes
 
@@ -182,9 +186,9 @@ abbrev pub table_from : Parts → Table
 table_from p = record { conditions = p.1.1.1.0; rules = p.1.1.1.1.0; classes = p.1.1.0.classes; class_of = p.1.1.1.1.1.0; rows = p.1.1.1.1.1.1.0; slots = p.1.1.1.1.1.1.1 }
 
 unfoldable pub table_at : List ℕ → Option (Table × List ℕ)
-table_at = seen_as table_from (both (only_if is_magic (bytes_at 6)) (λ m. both (only_if (λ v. v == 1) (number_at w16)) (λ v. both sizes_at (λ z.
+table_at = seen_as table_from (both (only_if is_magic (bytes_at 6)) (λ m. both (only_if (λ v. v == 1 || v == 2) (number_at w16)) (λ v. both sizes_at (λ z.
     both (many (λ i. condition_at z.states) following z.conditions 0) (λ cs.
-    both (only_if (λ rs. version_of rs == v) (many (λ i. rule_at z.conditions) following z.rules 0)) (λ rs.
+    both (only_if (λ rs. version_of rs == v) (many (λ i. rule_at z.conditions (v == 2)) following z.rules 0)) (λ rs.
     both (many (class_at z.classes) following 256 0) (λ ks.
     both (many (row_at z (any_reject rs)) following z.states 0) (λ rows.
     many (slot_at z (bases_of rows)) following z.slots 0))))))))

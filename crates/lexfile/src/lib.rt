@@ -5,6 +5,7 @@ mod error;
 mod laws;
 mod reading;
 mod tables;
+mod version;
 mod writing;
 
 pub use error::TableError;

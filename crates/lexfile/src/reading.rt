@@ -16,6 +16,7 @@ mod slots;
 mod states;
 
 use crate::error::{ReadError, TableError};
+use crate::version::version_of;
 use actions::{rejects_in, rules};
 use conditions::conditions;
 use header::{magic, sizes, version};
@@ -28,11 +29,14 @@ use std::alloc::Global;
 fn table(alloc: Global, bytes: &[u8]) -> Result<(TableParts, &[u8]), ReadError>
     ensures { Gives (λ x. (table_of x.0, x.1.now)) result (table_at bytes.now) }
 {
-    let (_, rest) = magic(bytes)?;
-    let (version, rest) = version(rest)?;
+    let (_, after_magic) = magic(bytes)?;
+    let (version, rest) = version(after_magic)?;
     let (counts, rest) = sizes(rest)?;
     let (conditions, rest) = conditions(alloc, rest, counts.conditions, counts.states)?;
-    let (rules, rest) = rules(alloc, rest, counts.rules, counts.conditions)?;
+    let (rules, rest) = rules(alloc, rest, counts.rules, counts.conditions, version == 2)?;
+    if version_of(&rules) != version {
+        return Err(ReadError::BadField(after_magic.len()));
+    }
     let rejects = rejects_in(&rules);
     let (class_of, rest) = class_map(alloc, rest, counts.classes)?;
     let (rows, rest) = states(alloc, rest, counts, rejects)?;

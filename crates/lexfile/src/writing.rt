@@ -3,7 +3,7 @@ ghost use Rattle.std.specs.Prelude.{◌≡◌, ℕ, ◌+◌, ◌-◌, ◌^◌, �
 ghost use Rattle.lexends.specs.Sink.{Appended, fault_count};
 ghost use Rattle.lextab.specs.Checks.{Sizes, sizes_of};
 ghost use Rattle.lextab.specs.Views.{table_of, slots_of};
-ghost use Rattle.lexfile.specs.File.{magic, short, sizes_text, file_of};
+ghost use Rattle.lexfile.specs.File.{magic, short, version_of, sizes_text, file_of};
 ghost use Rattle.lexfile.specs.Fitting.{FitsParts};
 
 mod actions;
@@ -11,6 +11,7 @@ mod conditions;
 mod fields;
 mod states;
 
+use crate::version::version_of;
 use actions::put_rules;
 use conditions::put_conditions;
 use fields::{put_long, put_short};
@@ -29,11 +30,12 @@ fn slot_count(parts: &TableParts) -> usize
 fn put_header<K: Sink>(sink: &mut K, parts: &TableParts) -> Result<(), WriteFault>
     requires few { K.failures sink.old < 2 ^ 64 - 1 }
     requires fits { FitsParts parts.now }
-    ensures bytes { Appended (λ xs. K.wrote sink.old xs sink.new) (magic ++ (short 1 ++ sizes_text (sizes_of (table_of parts.now)))) result }
+    ensures bytes { Appended (λ xs. K.wrote sink.old xs sink.new) (magic ++ (short (version_of (table_of parts.now).rules) ++ sizes_text (sizes_of (table_of parts.now)))) result }
     ensures failures { K.failures sink.new ≡ K.failures sink.old + fault_count result }
 {
+    let version = version_of(parts.rules.as_slice());
     sink.put(b"LEXTAB")?;
-    put_short(sink, 1)?;
+    put_short(sink, version)?;
     put_long(sink, parts.conditions.len() as u32)?;
     put_long(sink, parts.rules.len() as u32)?;
     put_long(sink, parts.rows.len() as u32)?;

@@ -6,20 +6,21 @@ use Rattle.lexmeaning.specs.Sound.{IsSound}
 use Rattle.lexmeaning.specs.Machine.{Machine, rules_of_machine}
 use Rattle.lexmeaning.specs.MachineLaws.{MachineLaws}
 use Rattle.lexmeaning.specs.TableFor.{TableFor}
-use Rattle.lexmeaning.specs.Acting.{Status}
+use Rattle.lexmeaning.specs.Acting.{Ending, StackFault}
 use Rattle.lexmeaning.proofs.Both.{same_after, same_run}
 use Rattle.lexscan.specs.declared.error.RunError.{RunError}
-use Rattle.lexscan.specs.Runs.{RanTo, RanInto}
+use Rattle.lexscan.specs.Stands.{RanTo}
+use Rattle.lexscan.specs.Runs.{RanInto}
 
 module _ (M : Machine) (laws : MachineLaws M) (S : Spec) (sound : IsSound S) (table : TableFor M S) where
-  pub ran_to : (given out : List ℕ) (at_end : Bool) (status : ℕ) → RanTo (rules_of_machine M) given out at_end status → RanTo (rules_of S) given out at_end status
-  ran_to given out at_end status h = record {
+  pub ran_to : (given out : List ℕ) (at_end : Bool) (d : Ending) → RanTo (rules_of_machine M) given out at_end d → RanTo (rules_of S) given out at_end d
+  ran_to given out at_end d h = record {
     turns = h.turns;
     last = h.last;
     scanned = λ x k. (same_after M laws S sound table x k.0 h.turns h.last _ at_end).0 (h.scanned x k);
     writes = h.writes;
     ends = h.ends;
-    run = λ x k. (same_run M laws S sound table x k.0 out (Status status)).0 (h.run x k);
+    run = λ x k. (same_run M laws S sound table x k.0 out d).0 (h.run x k);
   }
 
   pub ran_into : (given out : List ℕ) (at_end : Bool) (max_reads : ℕ) (e : RunError) → RanInto (rules_of_machine M) given out at_end max_reads e → RanInto (rules_of S) given out at_end max_reads e
@@ -43,4 +44,5 @@ module _ (M : Machine) (laws : MachineLaws M) (S : Spec) (sound : IsSound S) (ta
       asks_end = λ is. (let q = h.gave_up.asks_end is in (q.0, λ t far asked after. q.1 t far asked ((same_after M laws S sound table (h.had ++ h.got) h.gave_up.text (suc h.turns) t far asked).1 after)));
     };
     too_many = h.too_many;
+    fault = λ is. ran_to given out at_end StackFault (h.fault is);
   }

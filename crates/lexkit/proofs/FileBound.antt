@@ -2,7 +2,7 @@
 use Rattle.std.proofs.Common.{◌≡◌, ℕ, suc, ◌+◌, ◌*◌, ◌-◌, ◌<◌, ◌≤◌, List, [], ◌∷◌, ◌++◌, length, flat_map, sum_by, inl, inr, refl, arith, length-append, Result, Ok, Err, Option, Some, None, unwrap_or, IfSome, IfNone}
 use Rattle.std.proofs.lemmas.List.Sums.{sum_by-cons}
 use Rattle.lexmeaning.specs.Text.{Among, Ascending}
-use Rattle.lexmeaning.specs.Spec.{Statement, Echo, Print, Begin, More, Less, Reject, End, Cut, Whole, Head, Trail}
+use Rattle.lexmeaning.specs.Spec.{Statement, Echo, Print, Begin, More, Less, Reject, End, Push, Pop, Cut, Whole, Head, Trail}
 use Rattle.lexmachine.specs.Literals.{literal_bytes}
 use Rattle.lexends.specs.Sink.{Appended, fault_count}
 use Rattle.lexends.specs.declared.sink.WriteFault.{WriteFault}
@@ -56,6 +56,8 @@ of_statement More = omega arith
 of_statement (Less n) = omega arith
 of_statement Reject = omega arith
 of_statement (End n) = omega arith
+of_statement (Push c) = omega arith
+of_statement Pop = omega arith
 
 of_statements : (ss : List Statement) → length (flat_map statement_text ss) ≤ 5 * length ss + sum_by literal_bytes ss
 of_statements [] = omega arith

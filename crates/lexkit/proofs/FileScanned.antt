@@ -9,6 +9,7 @@ use Rattle.lexmeaning.specs.Rules.{rules_of}
 use Rattle.lexmeaning.specs.Machine.{Machine, rules_of_machine}
 use Rattle.lexmeaning.specs.MachineLaws.{MachineLaws}
 use Rattle.lexmeaning.specs.TableFor.{TableFor}
+use Rattle.lexmeaning.specs.Acting.{Status}
 use Rattle.lexscan.specs.declared.error.RunError.{RunError}
 use Rattle.lextab.specs.Table.{Table}
 use Rattle.lextab.specs.Steps.{machine_of_table}
@@ -33,5 +34,5 @@ same_machine t u xs ys e h = rw (e, h) refl
 
 pub ran : (M : Machine) → MachineLaws M → (S : Spec) → IsSound S → TableFor M S → (given out : List ℕ) (at_end : Bool) (answer : Result ℕ RunError)
     → Ran (rules_of_machine M) given out at_end answer → Ran (rules_of S) given out at_end answer
-ran M laws S sound table given out at_end (Ok status) h = Same.ran_to M laws S sound table given out at_end status h
+ran M laws S sound table given out at_end (Ok status) h = Same.ran_to M laws S sound table given out at_end (Status status) h
 ran M laws S sound table given out at_end (Err e) h = Same.ran_into M laws S sound table given out at_end max_reads e h

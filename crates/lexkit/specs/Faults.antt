@@ -46,6 +46,7 @@ run_words runs.Read = codes "read fault"
 run_words runs.TooManyReads = codes "too many reads"
 run_words runs.Write = codes "write fault"
 run_words runs.OutOfMemory = codes "out of memory"
+run_words runs.Stack = codes "condition stack"
 run_words runs.Failed = codes "failed"
 
 abbrev pub args_words : ArgsError → List ℕ
@@ -91,6 +92,7 @@ abbrev pub spec_status : SpecError → ℕ
 spec_status e = if lacks_memory e.kind then 71 else 65
 
 abbrev pub run_status : RunError → ℕ
+run_status runs.Stack = 70
 run_status runs.OutOfMemory = 71
 run_status other = 74
 

@@ -18,7 +18,9 @@ use Rattle.lexspec.specs.Files.{SpellsSpec}
 use Rattle.lexauto.specs.declared.subsets.Limits.{Limits}
 use Rattle.lexauto.specs.declared.error.BuildError.{BuildError}
 use Rattle.lexauto.specs.declared.error.BuildError.TheVariants as builds
-use Rattle.lexscan.specs.Runs.{RanTo, RanInto}
+use Rattle.lexmeaning.specs.Acting.{Status}
+use Rattle.lexscan.specs.Stands.{RanTo}
+use Rattle.lexscan.specs.Runs.{RanInto}
 use Rattle.lexscan.specs.declared.error.RunError.{RunError}
 use Rattle.lexkit.specs.declared.options.Options.{Options}
 use Rattle.lexkit.specs.declared.errors.GenError.{GenError}
@@ -56,9 +58,9 @@ Refusal options text gens.OutOfMemory = ⊤
 
 -- The scan by some rules took these bytes of the source and wrote these to the sink. It came to its end: they are those
 -- of the run, and no byte was taken that the run does not ask for. Or it stopped: what was written is a front of what the
--- run writes.
+-- run writes; where the stack of conditions was at fault, it is all of it, and the run ends so.
 abbrev pub Ran : Rules → List ℕ → List ℕ → Bool → Result ℕ RunError → Type 0
-Ran R given out at_end (Ok status) = RanTo R given out at_end status
+Ran R given out at_end (Ok status) = RanTo R given out at_end (Status status)
 Ran R given out at_end (Err e) = RanInto R given out at_end max_reads e
 
 -- the calls on the way from s to s' gave, and those from t to t' wrote, what the scan by the rules asks for

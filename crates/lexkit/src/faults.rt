@@ -30,8 +30,8 @@ pub enum Fault<'a> {
 impl Fault<'_> {
     ghost use Rattle.lexkit.specs.Faults.{status_of};
 
-    /// The exit status: 64 for the command line, 65 for the specification or the table, 66 for a file, 71 for want of
-    /// memory, and 74 for a read or a write.
+    /// The exit status: 64 for the command line, 65 for the specification or the table, 66 for a file, 70 for the
+    /// stack of conditions, 71 for want of memory, and 74 for a read or a write.
     pub fn status(&self) -> u8
         ensures { result ≡ status_of self.now }
     {
@@ -40,6 +40,7 @@ impl Fault<'_> {
             Fault::Args(ArgsError::OutOfMemory) => 71,
             Fault::Scan(ScanError::Generate(error)) => gen_status(*error),
             Fault::Scan(ScanError::Table(error)) => table_status(*error),
+            Fault::Scan(ScanError::Run(RunError::Stack)) => 70,
             Fault::Scan(ScanError::Run(RunError::OutOfMemory)) => 71,
             Fault::Scan(ScanError::Run(_)) | Fault::Output => 74,
             Fault::File(_) => 66,
@@ -179,6 +180,7 @@ fn run_text(error: RunError) -> &'static str
         RunError::TooManyReads => "too many reads",
         RunError::Write => "write fault",
         RunError::OutOfMemory => OUT_OF_MEMORY,
+        RunError::Stack => "condition stack",
         RunError::Failed => "failed",
     }
 }

@@ -74,6 +74,7 @@ pub record Adds (ds : List Definition) (d : Definition) (old new : Declarations)
   pub conditions : map declared_of new.conditions.items ≡ map declared_of old.conditions.items ++ declared (d ∷ [])
   pub defs : new.defs ≡ from_entries (substitutes_of ds ++ substitutes_of (d ∷ []))
   pub reads : new.options ≡ with_fold old.options (has_name (all_options (d ∷ [])) (codes "case-insensitive"))
+  pub stacks : new.stack ≡ (old.stack || has_name (all_options (d ∷ [])) (codes "stack"))
 
 -- the same way of reading, but for this
 abbrev with_folds : ReadOptions → Bool → ReadOptions
@@ -86,6 +87,8 @@ adds_declares how ds d old new a h = record {
   reads = a.reads ∙ ap (λ z. with_fold z (has_name (all_options (d ∷ [])) (codes "case-insensitive"))) h.reads
       ∙ ap (λ z. with_folds how z) (sym (or_assoc how.fold (has_name (all_options ds) (codes "case-insensitive")) (has_name (all_options (d ∷ [])) (codes "case-insensitive"))))
       ∙ ap (with_fold how) (sym (has_append (all_options ds) (all_options (d ∷ [])) (codes "case-insensitive")) ∙ ap (λ z. has_name z (codes "case-insensitive")) (sym (options_append ds (d ∷ []))));
+  stacks = a.stacks ∙ ap (λ z. z || has_name (all_options (d ∷ [])) (codes "stack")) h.stacks
+      ∙ sym (has_append (all_options ds) (all_options (d ∷ [])) (codes "stack")) ∙ ap (λ z. has_name z (codes "stack")) (sym (options_append ds (d ∷ [])));
 }
 
 adds_allowed : (ds : List Definition) (d : Definition) → AreGood (all_conditions ds ++ declared (d ∷ [])) → are_distinct (firsts (substitutes_of ds ++ substitutes_of (d ∷ []))) ≡ true
@@ -105,12 +108,13 @@ none_asked how = ap (with_folds how) (or_none how.fold)
 
 -- a line that declares nothing
 pub adds_nothing : (d : Definition) → (declared (d ∷ []) ≡ []) → (substitutes_of (d ∷ []) ≡ []) → (all_options (d ∷ []) ≡ []) → (how : ReadOptions) (ds : List Definition) (old new : Declarations)
-    → new.conditions.items ≡ old.conditions.items → new.defs ≡ old.defs → new.options ≡ old.options → Declares how ds old → AreAllowed ds → Declares how (ds ++ d ∷ []) new × AreAllowed (ds ++ d ∷ [])
-adds_nothing d none no_name no_option how ds old new conditions defs reads h allowed = (
+    → new.conditions.items ≡ old.conditions.items → new.defs ≡ old.defs → new.options ≡ old.options → new.stack ≡ old.stack → Declares how ds old → AreAllowed ds → Declares how (ds ++ d ∷ []) new × AreAllowed (ds ++ d ∷ [])
+adds_nothing d none no_name no_option how ds old new conditions defs reads stacks h allowed = (
   adds_declares how ds d old new (record {
     conditions = ap (map declared_of) conditions ∙ sym (append-nil (map declared_of old.conditions.items)) ∙ ap (λ z. map declared_of old.conditions.items ++ z) (sym none);
     defs = defs ∙ h.defs ∙ ap from_entries (sym (append-nil (substitutes_of ds)) ∙ ap (λ z. substitutes_of ds ++ z) (sym no_name));
     reads = reads ∙ sym (none_asked old.options) ∙ ap (λ z. with_fold old.options (has_name z (codes "case-insensitive"))) (sym no_option);
+    stacks = stacks ∙ sym (or_none old.stack) ∙ ap (λ z. old.stack || has_name z (codes "stack")) (sym no_option);
   }) h,
   adds_allowed ds d (subst AreGood (sym (append-nil (all_conditions ds)) ∙ ap (λ z. all_conditions ds ++ z) (sym none)) allowed.0)
       (ap (λ z. are_distinct (firsts (substitutes_of ds ++ z))) no_name ∙ ap (λ z. are_distinct (firsts z)) (append-nil (substitutes_of ds)) ∙ allowed.1) allowed.2 (ap are_known no_option),
@@ -118,9 +122,9 @@ adds_nothing d none no_name no_option how ds old new conditions defs reads h all
 
 -- a line that declares conditions
 pub adds_conditions : (exclusive : Bool) (names : List (List ℕ)) (how : ReadOptions) (ds : List Definition) (old new : Declarations)
-    → map declared_of new.conditions.items ≡ map declared_of old.conditions.items ++ with_kind exclusive names → new.defs ≡ old.defs → new.options ≡ old.options → AreGood (map declared_of new.conditions.items)
+    → map declared_of new.conditions.items ≡ map declared_of old.conditions.items ++ with_kind exclusive names → new.defs ≡ old.defs → new.options ≡ old.options → new.stack ≡ old.stack → AreGood (map declared_of new.conditions.items)
     → Declares how ds old → AreAllowed ds → Declares how (ds ++ declares exclusive names ∷ []) new × AreAllowed (ds ++ declares exclusive names ∷ [])
-adds_conditions exclusive names how ds old new conditions defs reads good h allowed =
+adds_conditions exclusive names how ds old new conditions defs reads stacks good h allowed =
     let all : with_kind exclusive names ≡ declared (declares exclusive names ∷ []) = sym (append-nil (with_kind exclusive names)) in
     let same : map declared_of new.conditions.items ≡ all_conditions ds ++ declared (declares exclusive names ∷ []) =
     conditions ∙ ap (λ z. z ++ with_kind exclusive names) h.conditions ∙ ap (λ z. all_conditions ds ++ z) all in (
@@ -128,6 +132,7 @@ adds_conditions exclusive names how ds old new conditions defs reads good h allo
         conditions = conditions ∙ ap (λ z. map declared_of old.conditions.items ++ z) all;
         defs = defs ∙ h.defs ∙ ap from_entries (sym (append-nil (substitutes_of ds)));
         reads = reads ∙ sym (none_asked old.options);
+        stacks = stacks ∙ sym (or_none old.stack);
       }) h,
       adds_allowed ds (declares exclusive names) (subst AreGood same good) (ap (λ z. are_distinct (firsts z)) (append-nil (substitutes_of ds)) ∙ allowed.1) allowed.2 refl,
     )
@@ -142,14 +147,15 @@ refused_conditions exclusive names old none how ds more h allowed =
 
 -- a line of options
 pub adds_options : (ws : List (List ℕ)) (how : ReadOptions) (ds : List Definition) (old new : Declarations) → new.conditions.items ≡ old.conditions.items → new.defs ≡ old.defs
-    → new.options ≡ with_fold old.options (has_name ws (codes "case-insensitive")) → are_known ws ≡ true → Declares how ds old → AreAllowed ds
+    → new.options ≡ with_fold old.options (has_name ws (codes "case-insensitive")) → new.stack ≡ (old.stack || has_name ws (codes "stack")) → are_known ws ≡ true → Declares how ds old → AreAllowed ds
     → Declares how (ds ++ options ws ∷ []) new × AreAllowed (ds ++ options ws ∷ [])
-adds_options ws how ds old new conditions defs reads known h allowed =
+adds_options ws how ds old new conditions defs reads stacks known h allowed =
     let all : ws ≡ all_options (options ws ∷ []) = sym (append-nil ws) in (
       adds_declares how ds (options ws) old new (record {
         conditions = ap (map declared_of) conditions ∙ sym (append-nil (map declared_of old.conditions.items));
         defs = defs ∙ h.defs ∙ ap from_entries (sym (append-nil (substitutes_of ds)));
         reads = reads ∙ ap (λ z. with_fold old.options (has_name z (codes "case-insensitive"))) all;
+        stacks = stacks ∙ ap (λ z. old.stack || has_name z (codes "stack")) all;
       }) h,
       adds_allowed ds (options ws) (subst AreGood (sym (append-nil (all_conditions ds))) allowed.0) (ap (λ z. are_distinct (firsts z)) (append-nil (substitutes_of ds)) ∙ allowed.1) allowed.2
           (ap are_known (sym all) ∙ known),
@@ -198,10 +204,10 @@ none_if : {A : Type 0} (o : Option A) → is_some o ≡ false → o ≡ None
 none_if None e = refl
 none_if (Some x) e = no_true (sym e)
 
-pub adds_name : (name text : List ℕ) (how : ReadOptions) (ds : List Definition) (old new : Declarations) → new.conditions.items ≡ old.conditions.items → new.options ≡ old.options
+pub adds_name : (name text : List ℕ) (how : ReadOptions) (ds : List Definition) (old new : Declarations) → new.conditions.items ≡ old.conditions.items → new.options ≡ old.options → new.stack ≡ old.stack
     → new.defs ≡ map.insert old.defs name text → (IsSome (map.get old.defs name) → ⊥) → Declares how ds old → AreAllowed ds
     → Declares how (ds ++ defines name text ∷ []) new × AreAllowed (ds ++ defines name text ∷ [])
-adds_name name text how ds old new conditions reads defs free h allowed =
+adds_name name text how ds old new conditions reads stacks defs free h allowed =
     let entries = substitutes_of ds in
     let off : is_some (map.get old.defs name) ≡ false = not_so (is_some (map.get old.defs name)) free in
     let out : has_name (firsts entries) name ≡ false = sym (name_there entries old.defs name h.defs) ∙ off in
@@ -211,6 +217,7 @@ adds_name name text how ds old new conditions reads defs free h allowed =
         defs = defs ∙ ap (λ z. map.insert z name text) h.defs
             ∙ sym (map.from_entries_push nat_list_cmp_total (map.slice_cmp-IsAntisymmetric map.nat_cmp-IsAntisymmetric) entries name text none);
         reads = reads ∙ sym (none_asked old.options);
+        stacks = stacks ∙ sym (or_none old.stack);
       }) h,
       adds_allowed ds (defines name text) (subst AreGood (sym (append-nil (all_conditions ds))) allowed.0)
           (ap are_distinct (map-append (λ (d : List ℕ × List ℕ). d.0) entries ((name, text) ∷ [])) ∙ distinct_push (firsts entries) name allowed.1 out) allowed.2 refl,

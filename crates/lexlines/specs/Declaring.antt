@@ -28,3 +28,4 @@ pub record Declares (how : ReadOptions) (ds : List Definition) (d : Declarations
   pub conditions : map declared_of d.conditions.items ≡ all_conditions ds
   pub defs : d.defs ≡ from_entries (substitutes_of ds)
   pub reads : d.options ≡ with_fold how (has_name (all_options ds) (codes "case-insensitive"))
+  pub stacks : d.stack ≡ has_name (all_options ds) (codes "stack")

@@ -131,7 +131,7 @@ all_options (options ws ∷ ds) = ws ++ all_options ds
 all_options (_ ∷ ds) = all_options ds
 
 abbrev pub known_options : List (List ℕ)
-known_options = codes "noyywrap" ∷ codes "nounput" ∷ codes "noinput" ∷ codes "yylineno" ∷ codes "8bit" ∷ codes "batch" ∷ codes "interactive" ∷ codes "always-interactive" ∷ codes "never-interactive" ∷ codes "case-insensitive" ∷ []
+known_options = codes "noyywrap" ∷ codes "nounput" ∷ codes "noinput" ∷ codes "yylineno" ∷ codes "8bit" ∷ codes "batch" ∷ codes "interactive" ∷ codes "always-interactive" ∷ codes "never-interactive" ∷ codes "case-insensitive" ∷ codes "stack" ∷ []
 
 abbrev pub are_known : List (List ℕ) → Bool
 are_known [] = true

@@ -28,6 +28,8 @@ pub struct Declarations {
     pub defs: Defs,
     /// How patterns are read.
     pub options: ReadOptions,
+    /// Whether actions may push and pop conditions.
+    pub stack: bool,
     /// The lines where code was skipped.
     pub skipped: Skipped,
 }
@@ -86,6 +88,7 @@ fn is_known(word: &[u8]) -> bool
         || b"always-interactive".as_slice() == word
         || b"never-interactive".as_slice() == word
         || b"case-insensitive".as_slice() == word
+        || b"stack".as_slice() == word
 }
 
 /// Whether patterns ignore case after these options, where `fold` says whether they do before. None where an option is
@@ -106,6 +109,27 @@ fn with_options(fold: bool, text: &[u8]) -> Option<bool>
     Some(folds)
 }
 
+/// Whether the option `stack` is among these.
+fn asks_stack(text: &[u8]) -> bool
+    ensures { result ≡ has_name (words text.now) (codes "stack") }
+{
+    let mut rest = text;
+    while let Some((word, after)) = next_word(rest) {
+        if word == b"stack".as_slice() {
+            return true;
+        }
+        rest = after;
+    }
+    false
+}
+
+/// Whether actions may push and pop after these options, where `stack` says whether they might before.
+fn with_stack(stack: bool, text: &[u8]) -> bool
+    ensures { result ≡ (stack || has_name (words text.now) (codes "stack")) }
+{
+    stack || asks_stack(text)
+}
+
 impl Declarations {
     /// INITIAL alone, which is inclusive.
     pub(crate) fn new(alloc: Global, options: ReadOptions) -> Result<Declarations, AllocError>
@@ -118,6 +142,7 @@ impl Declarations {
             conditions,
             defs: Defs::new(alloc),
             options,
+            stack: false,
             skipped: Skipped::new(alloc),
         })
     }
@@ -146,6 +171,7 @@ impl Declarations {
             Definition::Options(text) => match with_options(self.options.fold, text) {
                 Some(folds) => {
                     self.options.fold = folds;
+                    self.stack = with_stack(self.stack, text);
                     Ok(())
                 }
                 None => Err(SpecErrorKind::UnsupportedOption),

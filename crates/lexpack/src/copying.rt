@@ -41,6 +41,8 @@ fn copy_statement(alloc: Global, statement: &Statement) -> Result<Statement, All
         Statement::Less(count) => Ok(Statement::Less(*count)),
         Statement::Reject => Ok(Statement::Reject),
         Statement::End(status) => Ok(Statement::End(*status)),
+        Statement::Push(condition) => Ok(Statement::Push(*condition)),
+        Statement::Pop => Ok(Statement::Pop),
     }
 }
 

@@ -56,7 +56,7 @@ fn faults_of_definitions(rt: HostRuntime) -> Result<(), Fail> {
             SpecErrorKind::UnsupportedOption,
         ),
         (
-            "%option stack\n%x C\n%%\n",
+            "%option stack reentrant\n%x C\n%%\n",
             1,
             SpecErrorKind::UnsupportedOption,
         ),

@@ -9,7 +9,7 @@ use Rattle.lexmeaning.specs.Acting.{Status}
 use Rattle.lexmeaning.specs.Run.{Run}
 use Rattle.lexmeaning.specs.Demand.{GoesOnFrom}
 use Rattle.lexends.specs.Source.{Gives}
-use Rattle.lexscan.specs.Runs.{RanTo}
+use Rattle.lexscan.specs.Stands.{RanTo}
 
 front : (x given : List ℕ) (known : Option (List ℕ)) → Consumes (Some x) known given → GoesOnFrom given false x
 front x given None h = elim h [ ]
@@ -20,6 +20,6 @@ goes x given known ends ends' true e h = h.whole (ltb-true ends ends' e)
 goes x given known ends ends' false e h = front x given known h.taken
 
 pub runs : (R : Rules) (given out : List ℕ) (status : ℕ) (known known' : Option (List ℕ)) (ends ends' : ℕ) → Gives known known' ends ends' given
-    → RanTo R given out (nat_lt ends ends') status → IfSome known (λ x. IsText x → Run R x out (Status status))
+    → RanTo R given out (nat_lt ends ends') (Status status) → IfSome known (λ x. IsText x → Run R x out (Status status))
 runs R given out status None known' ends ends' g h = tt
 runs R given out status (Some x) known' ends ends' g h = λ text. h.run x (text, goes x given known' ends ends' (nat_lt ends ends') refl g)

@@ -75,6 +75,7 @@ fn tells_each_fault_of_a_run(rt: HostRuntime) {
         (RunError::TooManyReads, 74, "lex: too many reads\n"),
         (RunError::Write, 74, "lex: write fault\n"),
         (RunError::OutOfMemory, 71, "lex: out of memory\n"),
+        (RunError::Stack, 70, "lex: condition stack\n"),
         (RunError::Failed, 74, "lex: failed\n"),
     ];
     for &(error, status, line) in rows {

@@ -146,6 +146,18 @@ pub(crate) const EXAMPLES: &[Row] = &[
         0,
     ),
     (
+        "%option stack\n%x COMMENT\n%%\n\"/*\"            yy_push_state(COMMENT);\n<COMMENT>\"/*\"   yy_push_state(COMMENT);\n<COMMENT>\"*/\"   yy_pop_state();\n<COMMENT>.|\\n   ;\n",
+        "a/*b/*c*/d*/e",
+        "ae",
+        0,
+    ),
+    (
+        "%option stack\n%x STRING CODE\n%%\n\\\"             printf(\"<\"); yy_push_state(STRING);\n<CODE>\\\"       printf(\"<\"); yy_push_state(STRING);\n<STRING>\\\"     printf(\">\"); yy_pop_state();\n<STRING>\"${\"   printf(\"(\"); yy_push_state(CODE);\n<CODE>\"}\"      printf(\")\"); yy_pop_state();\n",
+        "x\"a${b\"c\"}d\"y",
+        "x<a(b<c>)d>y",
+        0,
+    ),
+    (
         "%x C\n%%\na           BEGIN(C);\n<C><<EOF>>  puts(\"in C\"); yyterminate();\n<<EOF>>     puts(\"elsewhere\"); yyterminate();\n",
         "b",
         "belsewhere\n",

@@ -8,7 +8,7 @@ use lexkit::{
 use std::alloc::Global;
 
 // Whether letters stand for both cases, a specification, an input, and what is written.
-const SCANS: [(bool, &[u8], &[u8], &[u8]); 23] = [
+const SCANS: [(bool, &[u8], &[u8], &[u8]); 26] = [
     (
         false,
         b"%%\nif printf(\"K\");\niffy printf(\"L\");\n",
@@ -92,6 +92,24 @@ const SCANS: [(bool, &[u8], &[u8], &[u8]); 23] = [
     ),
     (false, b"%%\n\"a b\" printf(\"1\");", b"a b a", b"1 a"),
     (false, b"%%\na ECHO;\nb printf(\"\");", b"abc", b"ac"),
+    (
+        false,
+        b"%option stack\n%x C\n%%\n\"(\" printf(\"<\"); yy_push_state(C);\n<C>\"(\" printf(\"<\"); yy_push_state(C);\n<C>\")\" printf(\">\"); yy_pop_state();\n",
+        b"(a())b",
+        b"<a<>>b",
+    ),
+    (
+        false,
+        b"%option stack\n%x C D\n%%\na BEGIN(C); yy_push_state(D);\n<D>b yy_pop_state();\n<C>c printf(\"C\");\n",
+        b"abc",
+        b"C",
+    ),
+    (
+        false,
+        b"%option stack\n%%\nab yy_push_state(0); REJECT;\na printf(\"A\"); yy_pop_state();\n",
+        b"ab",
+        b"Ab",
+    ),
 ];
 
 #[test]
@@ -162,8 +180,34 @@ fn stops_at_faults(rt: HostRuntime) {
     assert_eq!(rt; sink.written(), b"K".as_slice());
 }
 
+/// The stack holds 255 conditions; a push past them ends the scan, and so does a pop where there is none.
+#[test]
+fn stops_at_faults_of_the_stack(rt: HostRuntime) {
+    const LETTERS: [u8; 256] = [b'a'; 256];
+    let alloc = rt.alloc();
+    let pushes = b"%option stack\n%%\na yy_push_state(0);\n";
+    let pops = b"%option stack\n%%\na printf(\"A\"); yy_pop_state(); printf(\"B\");\n";
+    let stack = Err(ScanError::Run(RunError::Stack));
+    let rows: [(&[u8], &[u8], Result<u8, ScanError>, &[u8]); 3] = [
+        (pushes, &LETTERS[..255], Ok(0), b""),
+        (pushes, &LETTERS, stack, b""),
+        (pops, b"xa", stack, b"xA"),
+    ];
+    for &(text, input, want, written) in &rows {
+        let mut source = MemorySource::new(input);
+        let mut sink = MemorySink::new(alloc);
+        let got = scan_spec(alloc, text, Options::new(), &mut source, &mut sink);
+        assert!(rt; got == want, "{got:?}");
+        assert_eq!(rt; sink.written(), written);
+    }
+    let mut source = MemorySource::new(b"a");
+    let mut sink = MemorySink::failing_flush(alloc);
+    let got = scan_spec(alloc, pops, Options::new(), &mut source, &mut sink);
+    assert!(rt; got == Err(ScanError::Run(RunError::Write)), "{got:?}");
+}
+
 // A text that is refused, the line, and what is told of it.
-const REFUSALS: [(&[u8], u32, SpecErrorKind); 10] = [
+const REFUSALS: [(&[u8], u32, SpecErrorKind); 11] = [
     (b"", 1, SpecErrorKind::NoRulesSection),
     (b"\n\n", 3, SpecErrorKind::NoRulesSection),
     (b"\nD\n%%\n", 2, SpecErrorKind::BadDefinitionLine),
@@ -173,7 +217,8 @@ const REFUSALS: [(&[u8], u32, SpecErrorKind); 10] = [
     (b"%%\na ;\n\n[z-a] ;", 4, BAD_RANGE),
     (b"%%\na{0} ;", 2, BAD_INTERVAL),
     (b"%%\na return 1;", 2, SpecErrorKind::UnknownStatement),
-    (b"%option stack\n%%\n", 1, SpecErrorKind::UnsupportedOption),
+    (b"%option stac\n%%\n", 1, SpecErrorKind::UnsupportedOption),
+    (b"%%\na yy_pop_state();", 2, SpecErrorKind::UnknownStatement),
 ];
 
 const BAD_RANGE: SpecErrorKind = SpecErrorKind::Pattern(PatternError {

@@ -183,9 +183,10 @@ fn changed_fields_are_named(rt: HostRuntime) -> Result<(), Fail> {
         let bytes = changed(alloc, at, &number.to_be_bytes())?;
         assert_eq!(rt; refusal(alloc, &bytes), Some(TableError::BadField(at)));
     }
-    let single: [(usize, u8, TableError); 7] = [
+    let single: [(usize, u8, TableError); 8] = [
         (0, b'l', TableError::BadMagic),
         (7, 3, TableError::BadVersion),
+        (7, 2, TableError::BadField(6)),
         (40, 64, TableError::BadField(40)),
         (41, 3, TableError::BadField(41)),
         (50, 9, TableError::BadField(50)),
@@ -196,6 +197,30 @@ fn changed_fields_are_named(rt: HostRuntime) -> Result<(), Fail> {
         let bytes = changed(alloc, at, &[byte])?;
         assert_eq!(rt; refusal(alloc, &bytes), Some(want));
     }
+    Ok(())
+}
+
+const PARENTHESES: &[u8] =
+    b"%option stack\n%x C\n%%\n\"(\" printf(\"<\"); yy_push_state(C);\n<C>\"(\" printf(\"<\"); yy_push_state(C);\n<C>\")\" printf(\">\"); yy_pop_state();\n";
+
+/// A table with statements of the stack has a file of version 2, and no other.
+#[test]
+fn statements_of_the_stack_need_version_2(rt: HostRuntime) -> Result<(), Fail> {
+    let alloc = rt.alloc();
+    let made = generate(alloc, PARENTHESES, Options::new())
+        .ok()
+        .ok_or("the tables are made")?;
+    let mut sink = MemorySink::new(alloc);
+    write_tables(&made.tables, &mut sink)
+        .ok()
+        .ok_or("the file is written")?;
+    let file = sink.written();
+    assert_eq!(rt; &file[..8], b"LEXTAB\0\x02".as_slice());
+    let again = rewritten(alloc, file).ok().ok_or("the file is a table's")?;
+    assert_eq!(rt; again.written(), file);
+    let mut older = Vec::from_slice(alloc, file)?;
+    older[7] = 1;
+    assert_eq!(rt; refusal(alloc, &older), Some(TableError::BadField(69)));
     Ok(())
 }
 

@@ -225,6 +225,13 @@ fn a_refused_turn_holds_what_was_taken(rt: HostRuntime) -> Result<(), Fail> {
             3,
             [(unwritten, 4, 4), (failed, 4, 4), (failed, 4, 4)],
         ),
+        (
+            "%option stack\n%%\na printf(\"A\"); yy_pop_state(); printf(\"B\");\n",
+            "xa",
+            FAR,
+            FAR,
+            [(went, 1, 0), (Err(RunError::Stack), 2, 1), (failed, 2, 1)],
+        ),
     ];
     for &(text, input, given, room, told) in rows {
         assert!(rt;

@@ -21,7 +21,7 @@ use Rattle.lexspec.proofs.RulesLaws.{ActsAs, invert}
 use Rattle.lexspec.specs.Limits.{max_rules}
 
 module _ (d : Declarations) where
-  no_action : (w : List S.Rule) (s : Subject) (u v : List ℕ) (action : Action) → (w ≡ [] → ⊥) → IsSubject u s v → begins (codes "<<EOF>>") u ≡ true → ActsAs (names_in d) d.options d.defs w s action → ⊥
+  no_action : (w : List S.Rule) (s : Subject) (u v : List ℕ) (action : Action) → (w ≡ [] → ⊥) → IsSubject u s v → begins (codes "<<EOF>>") u ≡ true → ActsAs (names_in d) d.options d.stack d.defs w s action → ⊥
   no_action w at_end u v bar some is on acts = acts
   no_action w at_end u v (spelled text) some is on (empty, e, spells) = some empty
   no_action w (matching true head after) u v action some (caret, not_end, p) on acts = both_ways (begins (codes "^") u) caret (not_caret u on)
@@ -29,12 +29,12 @@ module _ (d : Declarations) where
 
   pub end_refused : (s : RulesSoFar) (n : ℕ) (t : List ℕ) → starts_rule t ≡ true → begins_end t ≡ true → (length s.waiting.items ≡ 0 → ⊥) → NoneLeft d s n t
   end_refused s n t starts on some R E left may =
-      let h = invert (names_in d) d.options d.defs n t (map rule_of s.waiting.items) R E starts left in
+      let h = invert (names_in d) d.options d.stack d.defs n t (map rule_of s.waiting.items) R E starts left in
       no_action (map rule_of s.waiting.items) h.subject h.u h.v (action_of h.text) (λ empty. some (sym (length-map s.waiting.items rule_of) ∙ ap length empty)) h.cut (sym (ap opens_end h.list) ∙ on) h.acts
 
   -- a text that begins with another rule spells one rule at least
   some_later : (n : ℕ) (t : List ℕ) (later : List S.Rule) (E : List EndRule) (items : List (ℕ × Item)) → starts_rule t ≡ true → begins_end t ≡ false → AreItems n t items
-      → AreRules (names_in d) d.options d.defs items later E → 1 ≤ length later
+      → AreRules (names_in d) d.options d.stack d.defs items later E → 1 ≤ length later
   unfolding take_up_to
   some_later n t later E [] starts off (inl e) are = no_true (sym (ap starts_rule e) ∙ starts)
   some_later n t later E [] starts off (inr e) are = let p = two_percents t e in no_true (sym (rule_tests (37 ∷ 37 ∷ p.0) (subst (λ z. starts_rule z ≡ true) p.1 starts)).2)

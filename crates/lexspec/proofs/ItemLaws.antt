@@ -35,24 +35,24 @@ numbers_by_names cs items asked o e h =
 
 module _ (d : Declarations) (t : List ℕ) (starts : starts_rule t ≡ true) where
   pub refused_list : conditions_at t ≡ None → NoRules d t
-  refused_list none = no_list (names_in d) d.options d.defs t starts none
+  refused_list none = no_list (names_in d) d.options d.stack d.defs t starts none
 
   pub refused_numbers : (kind : SpecErrorKind) (u : List ℕ) (asked : Conditions) (cs : List Condition) → cs ≡ d.conditions.items → conditions_at t ≡ Some (asked, u)
       → UnlessMemory kind (numbers_of (number_from 0 (names_of cs)) (length cs) asked ≡ None) → UnlessMemory kind (NoRules d t)
   refused_numbers kind u asked cs e list h =
       unless_memory kind (numbers_of (number_from 0 (names_of cs)) (length cs) asked ≡ None) (NoRules d t)
-      (λ none. no_numbers (names_in d) d.options d.defs t u asked starts list (numbers_by_names cs d.conditions.items asked None e none)) h
+      (λ none. no_numbers (names_in d) d.options d.stack d.defs t u asked starts list (numbers_by_names cs d.conditions.items asked None e none)) h
 
   pub refused_subject : (kind : SpecErrorKind) (u : List ℕ) (asked : Conditions) → conditions_at t ≡ Some (asked, u) → ((s : Subject) (v : List ℕ) → IsSubject u s v → ⊥) → UnlessMemory kind (NoRules d t)
-  refused_subject kind u asked list none = always kind (NoRules d t) (no_subject (names_in d) d.options d.defs t u asked starts list none)
+  refused_subject kind u asked list none = always kind (NoRules d t) (no_subject (names_in d) d.options d.stack d.defs t u asked starts list none)
 
   pub refused_sides : (kind : SpecErrorKind) (u v : List ℕ) (asked : Conditions) (s : Subject) (anchored : Bool) (head : List ℕ) (after : Trailing) → conditions_at t ≡ Some (asked, u)
       → IsSubject u s v → s ≡ matching anchored head after → UnlessMemory kind (NoSides d head after) → UnlessMemory kind (NoRules d t)
   refused_sides kind u v asked s anchored head after list cut is h =
-      unless_memory kind (NoSides d head after) (NoRules d t) (no_head (names_in d) d.options d.defs t u v asked anchored head after starts list (subst (λ z. IsSubject u z v) is cut)) h
+      unless_memory kind (NoSides d head after) (NoRules d t) (no_head (names_in d) d.options d.stack d.defs t u v asked anchored head after starts list (subst (λ z. IsSubject u z v) is cut)) h
 
   pub refused_action : (u v : List ℕ) (asked : Conditions) (subject : Subject) → conditions_at t ≡ Some (asked, u) → IsSubject u subject v → action_in outside 0 (after_blanks v) ≡ None → NoRules d t
-  refused_action u v asked subject list cut none = no_action (names_in d) d.options d.defs t u v asked subject starts list cut none
+  refused_action u v asked subject list cut none = no_action (names_in d) d.options d.stack d.defs t u v asked subject starts list cut none
 
   pub refused_left_open : (r : Result RuleText SpecErrorKind) (u v : List ℕ) (asked : Conditions) (s s' : Subject) → conditions_at t ≡ Some (asked, u) → IsSubject u s v → s ≡ s'
       → OnErr r (action_in outside 0 (after_blanks v) ≡ None) → IfErr r (λ e. UnlessMemory e (NoRules d t))

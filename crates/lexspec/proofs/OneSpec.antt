@@ -8,7 +8,7 @@ use Rattle.lexmeaning.specs.Spec.{Spec, EndAction, Statement, Cut, Whole, Head, 
 use Rattle.lexre.specs.Definitions.{Definitions}
 use Rattle.lexre.specs.Spelling.{Spells}
 use Rattle.lexre.specs.Cutting.{IsCutting}
-use Rattle.lexaction.specs.Names.{number_from}
+use Rattle.lexaction.specs.Names.{Known, known_in}
 use Rattle.lexaction.specs.Actions.{SpellsEndAction, end_of}
 use Rattle.lexaction.proofs.OneAction.{one_statements}
 use Rattle.lexlines.specs.Lines.{without_returns, line_in, newlines}
@@ -53,49 +53,49 @@ module _ (tree_once : (how : ReadOptions) (defs : Definitions) (text : List ℕ)
   one_trail how defs (pattern_after text) (Some t) None h k = absurd k
   one_trail how defs (pattern_after text) (Some t) (Some u) h k = ap Some (tree_once how defs text t u h k)
 
-  one_action : (number : List ℕ → Option ℕ) (action : Action) (rules : List Rule) (ss tt : List Statement) → IsActionOf number action rules ss → IsActionOf number action rules tt → ss ≡ tt
-  one_action number (spelled text) rules ss tt h k = one_statements number text ss tt h.0 k.0
-  one_action number bar [] ss tt h k = absurd h
-  one_action number bar (r ∷ rules) ss tt h k = h ∙ sym k
+  one_action : (known : Known) (action : Action) (rules : List Rule) (ss tt : List Statement) → IsActionOf known action rules ss → IsActionOf known action rules tt → ss ≡ tt
+  one_action known (spelled text) rules ss tt h k = one_statements known text ss tt h.0 k.0
+  one_action known bar [] ss tt h k = absurd h
+  one_action known bar (r ∷ rules) ss tt h k = h ∙ sym k
 
-  pub one_rule : (names : List (List ℕ)) (how : ReadOptions) (defs : Definitions) (n : ℕ) (asked : Conditions) (anchored : Bool) (head : List ℕ) (after : Trailing) (action : Action) (is : List (ℕ × Item)) (rules : List Rule) (q r : Rule) →
-      IsRule names how defs n asked anchored head after action is rules q → IsRule names how defs n asked anchored head after action is rules r → q ≡ r
-  one_rule names how defs n asked anchored head after action is rules q r h k =
+  pub one_rule : (names : List (List ℕ)) (how : ReadOptions) (stack : Bool) (defs : Definitions) (n : ℕ) (asked : Conditions) (anchored : Bool) (head : List ℕ) (after : Trailing) (action : Action) (is : List (ℕ × Item)) (rules : List Rule) (q r : Rule) →
+      IsRule names how stack defs n asked anchored head after action is rules q → IsRule names how stack defs n asked anchored head after action is rules r → q ≡ r
+  one_rule names how stack defs n asked anchored head after action is rules q r h k =
       let line : q.line ≡ r.line = h.front.line_is ∙ sym k.front.line_is in
       let conditions : q.conditions ≡ r.conditions = some_is q.conditions r.conditions (sym h.front.listed ∙ k.front.listed) in
       let anchor : q.anchored ≡ r.anchored = h.front.anchor ∙ sym k.front.anchor in
       let same_head : q.head ≡ r.head = tree_once how defs head q.head r.head h.front.head_is k.front.head_is in
       let same_trail : q.trail ≡ r.trail = one_trail how defs after q.trail r.trail h.front.trail_is k.front.trail_is in
       let cut : q.cut ≡ r.cut = one_cut r.head r.trail q.cut r.cut (subst (λ z. IsCutOf r.head z q.cut) same_trail (subst (λ z. IsCutOf z q.trail q.cut) same_head h.front.cut_is)) k.front.cut_is in
-      let statements : q.statements ≡ r.statements = one_action (number_from 0 names) action rules q.statements r.statements h.statements_are k.statements_are in
+      let statements : q.statements ≡ r.statements = one_action (known_in names stack) action rules q.statements r.statements h.statements_are k.statements_are in
       λ i. record { line = line i; conditions = conditions i; anchored = anchor i; head = same_head i; trail = same_trail i; cut = cut i; statements = statements i }
 
-  pub one_end : (number : List ℕ → Option ℕ) (text : List ℕ) (e f : EndAction) → SpellsEndAction number text e → SpellsEndAction number text f → e ≡ f
-  one_end number text e f (ss, h, few, is) (tt, k, few', is') =
-      let same : ss ≡ tt = one_statements number text ss tt h k in
+  pub one_end : (known : Known) (text : List ℕ) (e f : EndAction) → SpellsEndAction known text e → SpellsEndAction known text f → e ≡ f
+  one_end known text e f (ss, h, few, is) (tt, k, few', is') =
+      let same : ss ≡ tt = one_statements known text ss tt h k in
       some_is e f (sym is ∙ ap end_of same ∙ is')
 
   -- the rules and the ends of items are determined
-  one_rules : (names : List (List ℕ)) (how : ReadOptions) (defs : Definitions) (is : List (ℕ × Item)) (qs rs : List Rule) (es fs : List EndRule) →
-      AreRules names how defs is qs es → AreRules names how defs is rs fs → (qs ≡ rs) × (es ≡ fs)
-  one_rules names how defs [] qs rs es fs h k = (h.0 ∙ sym k.0, h.1 ∙ sym k.1)
-  one_rules names how defs ((n, skipped) ∷ is) qs rs es fs h k = one_rules names how defs is qs rs es fs h k
-  one_rules names how defs ((n, skipped_line) ∷ is) qs rs es fs h k = one_rules names how defs is qs rs es fs h k
-  one_rules names how defs ((n, skipped_block) ∷ is) qs rs es fs h k = one_rules names how defs is qs rs es fs h k
-  one_rules names how defs ((n, rule asked at_end bar) ∷ is) qs rs es fs h k = absurd h
-  one_rules names how defs ((n, rule asked at_end (spelled text)) ∷ is) qs rs es fs (numbers, e, others, listed, spells, all, more) (numbers', e', others', listed', spells', all', more') =
+  one_rules : (names : List (List ℕ)) (how : ReadOptions) (stack : Bool) (defs : Definitions) (is : List (ℕ × Item)) (qs rs : List Rule) (es fs : List EndRule) →
+      AreRules names how stack defs is qs es → AreRules names how stack defs is rs fs → (qs ≡ rs) × (es ≡ fs)
+  one_rules names how stack defs [] qs rs es fs h k = (h.0 ∙ sym k.0, h.1 ∙ sym k.1)
+  one_rules names how stack defs ((n, skipped) ∷ is) qs rs es fs h k = one_rules names how stack defs is qs rs es fs h k
+  one_rules names how stack defs ((n, skipped_line) ∷ is) qs rs es fs h k = one_rules names how stack defs is qs rs es fs h k
+  one_rules names how stack defs ((n, skipped_block) ∷ is) qs rs es fs h k = one_rules names how stack defs is qs rs es fs h k
+  one_rules names how stack defs ((n, rule asked at_end bar) ∷ is) qs rs es fs h k = absurd h
+  one_rules names how stack defs ((n, rule asked at_end (spelled text)) ∷ is) qs rs es fs (numbers, e, others, listed, spells, all, more) (numbers', e', others', listed', spells', all', more') =
       let same : numbers ≡ numbers' = some_is numbers numbers' (sym listed ∙ listed') in
-      let end : e ≡ e' = one_end (number_from 0 names) text e e' spells spells' in
-      let later = one_rules names how defs is qs rs others others' more more' in
+      let end : e ≡ e' = one_end (known_in names stack) text e e' spells spells' in
+      let later = one_rules names how stack defs is qs rs others others' more more' in
       let pair : ◌≡◌ {A = EndRule} (numbers, e) (numbers', e') = ap (λ z. (z, e)) same ∙ ap (λ z. (numbers', z)) end in
       (later.0, all ∙ ap (λ z. z ∷ others) pair ∙ ap (λ z. (numbers', e') ∷ z) later.1 ∙ sym all')
-  one_rules names how defs ((n, rule asked (matching anchored head after) (spelled text)) ∷ is) qs rs es fs (q, others, all, one, more) (r, others', all', one', more') =
-      let later = one_rules names how defs is others others' es fs more more' in
-      let same : q ≡ r = one_rule names how defs n asked anchored head after (spelled text) is others' q r (subst (λ z. IsRule names how defs n asked anchored head after (spelled text) is z q) later.0 one) one' in
+  one_rules names how stack defs ((n, rule asked (matching anchored head after) (spelled text)) ∷ is) qs rs es fs (q, others, all, one, more) (r, others', all', one', more') =
+      let later = one_rules names how stack defs is others others' es fs more more' in
+      let same : q ≡ r = one_rule names how stack defs n asked anchored head after (spelled text) is others' q r (subst (λ z. IsRule names how stack defs n asked anchored head after (spelled text) is z q) later.0 one) one' in
       (all ∙ ap (λ z. z ∷ others) same ∙ ap (λ z. r ∷ z) later.0 ∙ sym all', later.1)
-  one_rules names how defs ((n, rule asked (matching anchored head after) bar) ∷ is) qs rs es fs (q, others, all, one, more) (r, others', all', one', more') =
-      let later = one_rules names how defs is others others' es fs more more' in
-      let same : q ≡ r = one_rule names how defs n asked anchored head after bar is others' q r (subst (λ z. IsRule names how defs n asked anchored head after bar is z q) later.0 one) one' in
+  one_rules names how stack defs ((n, rule asked (matching anchored head after) bar) ∷ is) qs rs es fs (q, others, all, one, more) (r, others', all', one', more') =
+      let later = one_rules names how stack defs is others others' es fs more more' in
+      let same : q ≡ r = one_rule names how stack defs n asked anchored head after bar is others' q r (subst (λ z. IsRule names how stack defs n asked anchored head after bar is z q) later.0 one) one' in
       (all ∙ ap (λ z. z ∷ others) same ∙ ap (λ z. r ∷ z) later.0 ∙ sym all', later.1)
 
   module _ (cut_once : (t : List ℕ) (stop stop' : ℕ) (at at' : Option ℕ) (two two' special special' : Bool) → IsCutting t stop at two special → IsCutting t stop' at' two' special' →
@@ -105,10 +105,10 @@ module _ (tree_once : (how : ReadOptions) (defs : Definitions) (text : List ℕ)
         let first = one_up_to definition_at (without_returns file) h.definitions k.definitions h.after k.after h.first_section k.first_section (separator_ends h.after h.separator) (separator_ends k.after k.separator) in
         let items : h.items ≡ k.items = one_items cut_once (2 + newlines file - newlines k.after) (line_in k.after).1 h.items k.items
         (subst (λ z. AreItems (2 + newlines file - newlines z) (line_in z).1 h.items) first.1 h.second_section) k.second_section in
-        let all : AreRules (names_of (all_conditions k.definitions)) (with_fold how (has_name (all_options k.definitions) (codes "case-insensitive"))) (from_entries (substitutes_of k.definitions)) k.items S.rules h.ends =
-        subst (λ z. AreRules (names_of (all_conditions k.definitions)) (with_fold how (has_name (all_options k.definitions) (codes "case-insensitive"))) (from_entries (substitutes_of k.definitions)) z S.rules h.ends) items
-        (subst (λ z. AreRules (names_of (all_conditions z)) (with_fold how (has_name (all_options z) (codes "case-insensitive"))) (from_entries (substitutes_of z)) h.items S.rules h.ends) first.0 h.rules) in
-        let both = one_rules (names_of (all_conditions k.definitions)) (with_fold how (has_name (all_options k.definitions) (codes "case-insensitive"))) (from_entries (substitutes_of k.definitions)) k.items S.rules T.rules h.ends k.ends all k.rules in
+        let all : AreRules (names_of (all_conditions k.definitions)) (with_fold how (has_name (all_options k.definitions) (codes "case-insensitive"))) (has_name (all_options k.definitions) (codes "stack")) (from_entries (substitutes_of k.definitions)) k.items S.rules h.ends =
+        subst (λ z. AreRules (names_of (all_conditions k.definitions)) (with_fold how (has_name (all_options k.definitions) (codes "case-insensitive"))) (has_name (all_options k.definitions) (codes "stack")) (from_entries (substitutes_of k.definitions)) z S.rules h.ends) items
+        (subst (λ z. AreRules (names_of (all_conditions z)) (with_fold how (has_name (all_options z) (codes "case-insensitive"))) (has_name (all_options z) (codes "stack")) (from_entries (substitutes_of z)) h.items S.rules h.ends) first.0 h.rules) in
+        let both = one_rules (names_of (all_conditions k.definitions)) (with_fold how (has_name (all_options k.definitions) (codes "case-insensitive"))) (has_name (all_options k.definitions) (codes "stack")) (from_entries (substitutes_of k.definitions)) k.items S.rules T.rules h.ends k.ends all k.rules in
         let conditions : S.conditions ≡ T.conditions =
         h.conditions ∙ ap (λ z. conditions_with 0 (all_conditions z) h.ends) first.0 ∙ ap (λ z. conditions_with 0 (all_conditions k.definitions) z) both.1 ∙ sym k.conditions in
         λ i. record { conditions = conditions i; rules = both.0 i }

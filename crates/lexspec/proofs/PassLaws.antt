@@ -8,7 +8,7 @@ use Rattle.lexmeaning.specs.Tree.{Tree}
 use Rattle.lexmeaning.specs.Legal.{all_in_range, ends_last, are_joined, are_compatible}
 use Rattle.lexmeaning.specs.Spec.{Rule, Statement, Print, End, EndAction, Condition}
 use Rattle.lexre.specs.Definitions.{Definitions}
-use Rattle.lexaction.specs.Names.{number_from}
+use Rattle.lexaction.specs.Names.{number_from, known_in}
 use Rattle.lexaction.specs.Actions.{are_few, end_of, SpellsAction}
 use Rattle.lexaction.specs.Statements.{literal_bytes}
 use Rattle.lexaction.proofs.NormalLemmas.{legal_action, end_status}
@@ -52,21 +52,21 @@ rule_acts n r h =
     let five = and_parts (sound_list n r.conditions && sound_tree r.head && sound_trail r.trail && cut_fits r.cut r.head r.trail && legal_test n r.statements) (are_few r.statements) h in
     ((and_parts (sound_list n r.conditions && sound_tree r.head && sound_trail r.trail && cut_fits r.cut r.head r.trail) (legal_test n r.statements) five.0).1, five.1)
 
-spelled_acts : (names : List (List ℕ)) (text : List ℕ) (ss : List Statement) → 1 ≤ length names → SpellsAction (number_from 0 names) text ss → MayAct (length names) ss
-spelled_acts names text ss some h =
+spelled_acts : (names : List (List ℕ)) (stack : Bool) (text : List ℕ) (ss : List Statement) → 1 ≤ length names → SpellsAction (known_in names stack) text ss → MayAct (length names) ss
+spelled_acts names stack text ss some h =
     let n = length names in
-    let legal = legal_action names text ss some h in
+    let legal = legal_action names stack text ss some h in
     let few = and_parts (are_few ss && ends_last ss) (are_compatible ss) h.1 in (
       and_from (all_in_range n ss && ends_last ss && are_joined ss) (are_compatible ss)
           (and_from (all_in_range n ss && ends_last ss) (are_joined ss) (and_from (all_in_range n ss) (ends_last ss) legal.ranges legal.last) legal.joined) legal.compatible,
       (and_parts (are_few ss) (ends_last ss) few.0).0,
     )
 
-action_acts : (names : List (List ℕ)) (action : Action) (rs : List Rule) (ss : List Statement) → 1 ≤ length names → IsActionOf (number_from 0 names) action rs ss → sound_rules (length names) rs ≡ true
+action_acts : (names : List (List ℕ)) (stack : Bool) (action : Action) (rs : List Rule) (ss : List Statement) → 1 ≤ length names → IsActionOf (known_in names stack) action rs ss → sound_rules (length names) rs ≡ true
     → MayAct (length names) ss
-action_acts names (spelled text) rs ss some h pass = spelled_acts names text ss some h
-action_acts names bar [] ss some h pass = absurd h
-action_acts names bar (r ∷ rs) ss some h pass =
+action_acts names stack (spelled text) rs ss some h pass = spelled_acts names stack text ss some h
+action_acts names stack bar [] ss some h pass = absurd h
+action_acts names stack bar (r ∷ rs) ss some h pass =
     subst (MayAct (length names)) (sym h) (rule_acts (length names) r (and_parts (sound_rule (length names) r) (sound_rules (length names) rs) pass).0)
 
 -- an end action prints the literal of its statements
@@ -83,14 +83,14 @@ end_print_of _ e few is = absurd (none is)
 end_print : (e : EndAction) (ss : List Statement) → are_few ss ≡ true → end_of ss ≡ Some e → length e.print ≤ max_literal_bytes
 end_print e ss few is = end_print_of ss e (leb-true (sum_by literal_bytes ss) max_literal_bytes (and_parts (nat_le (length ss) max_statements) (nat_le (sum_by literal_bytes ss) max_literal_bytes) few).1) is
 
-module _ (names : List (List ℕ)) (how : ReadOptions) (defined : Definitions) (some : 1 ≤ length names) where
+module _ (names : List (List ℕ)) (how : ReadOptions) (stack : Bool) (defined : Definitions) (some : 1 ≤ length names) where
   item_passes : (n : ℕ) (asked : Conditions) (anchored : Bool) (head : List ℕ) (after : Trailing) (action : Action) (is : List (ℕ × Item)) (rs : List Rule) (r : Rule)
-      → IsRule names how defined n asked anchored head after action is rs r → HasSoundSides r → sound_rules (length names) rs ≡ true → sound_rule (length names) r ≡ true
+      → IsRule names how stack defined n asked anchored head after action is rs r → HasSoundSides r → sound_rules (length names) rs ≡ true → sound_rule (length names) r ≡ true
   item_passes n asked anchored head after action is rs r h sides pass =
       rule_passes (length names) r (numbers_ordered (number_from 0 names) (length names) asked r.conditions h.front.listed) sides
-      (cut_is_tested r.cut r.head r.trail sides.0 sides.1 h.front.cut_is) (action_acts names action rs r.statements some h.statements_are pass)
+      (cut_is_tested r.cut r.head r.trail sides.0 sides.1 h.front.cut_is) (action_acts names stack action rs r.statements some h.statements_are pass)
 
-  pub rules_pass : (is : List (ℕ × Item)) (rs : List Rule) (ends : List EndRule) → AreRules names how defined is rs ends → HaveSoundSides rs → sound_rules (length names) rs ≡ true
+  pub rules_pass : (is : List (ℕ × Item)) (rs : List Rule) (ends : List EndRule) → AreRules names how stack defined is rs ends → HaveSoundSides rs → sound_rules (length names) rs ≡ true
   rules_pass [] rs ends h sides = ap (sound_rules (length names)) h.0
   rules_pass ((n, skipped) ∷ is) rs ends h sides = rules_pass is rs ends h sides
   rules_pass ((n, skipped_line) ∷ is) rs ends h sides = rules_pass is rs ends h sides
@@ -111,13 +111,13 @@ module _ (names : List (List ℕ)) (how : ReadOptions) (defined : Definitions) (
   AreSmall [] = Unit {0}
   AreSmall (e ∷ ends) = IsSmall e.1 × AreSmall ends
 
-  pub ends_small : (is : List (ℕ × Item)) (rs : List Rule) (ends : List EndRule) → AreRules names how defined is rs ends → AreSmall ends
+  pub ends_small : (is : List (ℕ × Item)) (rs : List Rule) (ends : List EndRule) → AreRules names how stack defined is rs ends → AreSmall ends
   ends_small [] rs ends h = subst AreSmall (sym h.1) tt
   ends_small ((n, skipped) ∷ is) rs ends h = ends_small is rs ends h
   ends_small ((n, skipped_line) ∷ is) rs ends h = ends_small is rs ends h
   ends_small ((n, skipped_block) ∷ is) rs ends h = ends_small is rs ends h
   ends_small ((n, rule asked at_end (spelled text)) ∷ is) rs ends h =
-      subst AreSmall (sym h.5) ((end_status names text h.1 some h.4, end_print h.1 h.4.0 h.4.2 h.4.3), ends_small is rs h.2 h.6)
+      subst AreSmall (sym h.5) ((end_status names stack text h.1 some h.4, end_print h.1 h.4.0 h.4.2 h.4.3), ends_small is rs h.2 h.6)
   ends_small ((n, rule asked at_end bar) ∷ is) rs ends h = absurd h
   ends_small ((n, rule asked (matching anchored head after) action) ∷ is) rs ends h = ends_small is h.1 ends h.4
 
@@ -148,30 +148,30 @@ length_with k [] ends = refl
 length_with k (c ∷ cs) ends = ap suc (length_with (suc k) cs ends)
 
 -- The specification passes: its conditions are few, its rules are few, and their sides are sound.
-pub spec_passes : (cs : List Declared) (how : ReadOptions) (defined : Definitions) (is : List (ℕ × Item)) (rs : List Rule) (ends : List EndRule) → 1 ≤ length cs → length cs ≤ max_conditions → length rs ≤ max_rules
-    → AreRules (names_of cs) how defined is rs ends → HaveSoundSides rs → is_sound (record { conditions = conditions_with 0 cs ends; rules = rs }) ≡ true
-spec_passes cs how defined is rs ends some few few_rules h sides =
+pub spec_passes : (cs : List Declared) (how : ReadOptions) (stack : Bool) (defined : Definitions) (is : List (ℕ × Item)) (rs : List Rule) (ends : List EndRule) → 1 ≤ length cs → length cs ≤ max_conditions → length rs ≤ max_rules
+    → AreRules (names_of cs) how stack defined is rs ends → HaveSoundSides rs → is_sound (record { conditions = conditions_with 0 cs ends; rules = rs }) ≡ true
+spec_passes cs how stack defined is rs ends some few few_rules h sides =
     let conditions = conditions_with 0 cs ends in
     let named : length (names_of cs) ≡ length cs = length-map cs (λ (c : Declared). c.name) in
     let count : length conditions ≡ length cs = length_with 0 cs ends in
     let some_name : 1 ≤ length (names_of cs) = omega arith in
     let same : length (names_of cs) ≡ length conditions = named ∙ sym count in
-    let small = ends_small (names_of cs) how defined some_name is rs ends h in
+    let small = ends_small (names_of cs) how stack defined some_name is rs ends h in
     let one = and_from (nat_le 1 (length conditions)) (nat_le (length conditions) max_conditions) (le-leb 1 (length conditions) (omega arith)) (le-leb (length conditions) max_conditions (omega arith)) in
     let two = and_from (nat_le 1 (length conditions) && nat_le (length conditions) max_conditions) (nat_le (length rs) max_rules) one (le-leb (length rs) max_rules few_rules) in
     let three = and_from (nat_le 1 (length conditions) && nat_le (length conditions) max_conditions && nat_le (length rs) max_rules) (sound_conditions conditions) two
-    (conditions_pass (names_of cs) how defined some_name 0 cs ends small) in
+    (conditions_pass (names_of cs) how stack defined some_name 0 cs ends small) in
     and_from (nat_le 1 (length conditions) && nat_le (length conditions) max_conditions && nat_le (length rs) max_rules && sound_conditions conditions) (sound_rules (length conditions) rs) three
-    (ap (λ n. sound_rules n rs) (sym same) ∙ rules_pass (names_of cs) how defined some_name is rs ends h sides)
+    (ap (λ n. sound_rules n rs) (sym same) ∙ rules_pass (names_of cs) how stack defined some_name is rs ends h sides)
 
 -- The same of what the code keeps: the declared conditions, with their ends.
-pub kept_passes : (d : Declarations) (how : ReadOptions) (defined : Definitions) (is : List (ℕ × Item)) (rs : List Rule) (ends : List EndRule) (cs : List Condition) → 1 ≤ length d.conditions.items
-    → length d.conditions.items ≤ max_conditions → length rs ≤ max_rules → AreRules (names_in d) how defined is rs ends → HaveSoundSides rs → cs ≡ conditions_with 0 (map declared_of d.conditions.items) ends
+pub kept_passes : (d : Declarations) (how : ReadOptions) (stack : Bool) (defined : Definitions) (is : List (ℕ × Item)) (rs : List Rule) (ends : List EndRule) (cs : List Condition) → 1 ≤ length d.conditions.items
+    → length d.conditions.items ≤ max_conditions → length rs ≤ max_rules → AreRules (names_in d) how stack defined is rs ends → HaveSoundSides rs → cs ≡ conditions_with 0 (map declared_of d.conditions.items) ends
     → is_sound (record { conditions = cs; rules = rs }) ≡ true
-kept_passes d how defined is rs ends cs some few few_rules h sides are =
+kept_passes d how stack defined is rs ends cs some few few_rules h sides are =
     let kept = map declared_of d.conditions.items in
     let count : length kept ≡ length d.conditions.items = length-map d.conditions.items declared_of in
     let some_kept : 1 ≤ length kept = omega arith in
     let few_kept : length kept ≤ max_conditions = omega arith in
     ap (λ z. is_sound (record { conditions = z; rules = rs })) are
-    ∙ spec_passes kept how defined is rs ends some_kept few_kept few_rules (subst (λ ns. AreRules ns how defined is rs ends) (sym (names_kept d.conditions.items)) h) sides
+    ∙ spec_passes kept how stack defined is rs ends some_kept few_kept few_rules (subst (λ ns. AreRules ns how stack defined is rs ends) (sym (names_kept d.conditions.items)) h) sides

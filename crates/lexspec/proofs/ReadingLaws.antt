@@ -92,7 +92,7 @@ line_few how t s h = omega (arith, h.line, newlines_few t)
 
 pub sections_pass : (d : Declarations) (n : ℕ) (t : List ℕ) (x : RulesSection) → 1 ≤ length d.conditions.items → length d.conditions.items ≤ max_conditions → HasRules d n t x → is_sound (of_sections d x) ≡ true
 sections_pass d n t x some few h =
-    kept_passes d d.options d.defs h.items (map rule_of x.rules.items) (map end_rule_of x.ends.items) _ some few (subst (λ z. z ≤ max_rules) (sym (length-map x.rules.items rule_of)) h.few) h.are h.sound refl
+    kept_passes d d.options d.stack d.defs h.items (map rule_of x.rules.items) (map end_rule_of x.ends.items) _ some few (subst (λ z. z ≤ max_rules) (sym (length-map x.rules.items rule_of)) h.few) h.are h.sound refl
 
 -- both
 
@@ -117,9 +117,10 @@ spelled how file s S short h r =
       defined_once = h.allowed.1;
       options = h.allowed.2;
       ends = r.ends;
-      rules = subst (λ z. AreRules z (with_fold how (has_name (all_options h.definitions) (codes "case-insensitive"))) (from_entries (substitutes_of h.definitions)) r.items S.rules r.ends) names
-          (subst (λ z. AreRules (names_in d) z (from_entries (substitutes_of h.definitions)) r.items S.rules r.ends) h.declares.reads
-          (subst (λ z. AreRules (names_in d) d.options z r.items S.rules r.ends) h.declares.defs r.are));
+      rules = subst (λ z. AreRules z (with_fold how (has_name (all_options h.definitions) (codes "case-insensitive"))) (has_name (all_options h.definitions) (codes "stack")) (from_entries (substitutes_of h.definitions)) r.items S.rules r.ends) names
+          (subst (λ z. AreRules (names_in d) z (has_name (all_options h.definitions) (codes "stack")) (from_entries (substitutes_of h.definitions)) r.items S.rules r.ends) h.declares.reads
+          (subst (λ z. AreRules (names_in d) d.options z (from_entries (substitutes_of h.definitions)) r.items S.rules r.ends) h.declares.stacks
+          (subst (λ z. AreRules (names_in d) d.options d.stack z r.items S.rules r.ends) h.declares.defs r.are)));
       one_end = subst (λ z. AreSingle z r.ends) count r.one_end;
       conditions = conditions;
       few_conditions = omega (arith, ap length conditions, length_with 0 (all_conditions h.definitions) r.ends);
@@ -132,15 +133,16 @@ rest_of how file s S h k =
     let same = one_up_to definition_at (without_returns file) k.definitions h.definitions k.after s.rest.now k.first_section h.lines (separator_ends k.after k.separator) (separator_ends s.rest.now h.separator) in
     let names : names_of (all_conditions h.definitions) ≡ names_in d = ap names_of (sym h.declares.conditions) ∙ names_kept d.conditions.items in
     let line : 2 + newlines file - newlines s.rest.now ≡ s.line + 1 = omega (arith, h.line, newlines_kept file) in
-    let are : AreRules (names_of (all_conditions h.definitions)) (with_fold how (has_name (all_options h.definitions) (codes "case-insensitive"))) (from_entries (substitutes_of h.definitions)) k.items S.rules k.ends =
-    subst (λ z. AreRules (names_of (all_conditions z)) (with_fold how (has_name (all_options z) (codes "case-insensitive"))) (from_entries (substitutes_of z)) k.items S.rules k.ends) same.0 k.rules in
+    let are : AreRules (names_of (all_conditions h.definitions)) (with_fold how (has_name (all_options h.definitions) (codes "case-insensitive"))) (has_name (all_options h.definitions) (codes "stack")) (from_entries (substitutes_of h.definitions)) k.items S.rules k.ends =
+    subst (λ z. AreRules (names_of (all_conditions z)) (with_fold how (has_name (all_options z) (codes "case-insensitive"))) (has_name (all_options z) (codes "stack")) (from_entries (substitutes_of z)) k.items S.rules k.ends) same.0 k.rules in
     record {
       items = k.items;
       here = subst (λ z. AreItems z (line_in s.rest.now).1 k.items) line (subst (λ z. AreItems (2 + newlines file - newlines z) (line_in z).1 k.items) same.1 k.second_section);
       ends = k.ends;
-      are = subst (λ z. AreRules (names_in d) d.options z k.items S.rules k.ends) (sym h.declares.defs)
-          (subst (λ z. AreRules (names_in d) z (from_entries (substitutes_of h.definitions)) k.items S.rules k.ends) (sym h.declares.reads)
-          (subst (λ z. AreRules z (with_fold how (has_name (all_options h.definitions) (codes "case-insensitive"))) (from_entries (substitutes_of h.definitions)) k.items S.rules k.ends) names are));
+      are = subst (λ z. AreRules (names_in d) d.options d.stack z k.items S.rules k.ends) (sym h.declares.defs)
+          (subst (λ z. AreRules (names_in d) d.options z (from_entries (substitutes_of h.definitions)) k.items S.rules k.ends) (sym h.declares.stacks)
+          (subst (λ z. AreRules (names_in d) z (has_name (all_options h.definitions) (codes "stack")) (from_entries (substitutes_of h.definitions)) k.items S.rules k.ends) (sym h.declares.reads)
+          (subst (λ z. AreRules z (with_fold how (has_name (all_options h.definitions) (codes "case-insensitive"))) (has_name (all_options h.definitions) (codes "stack")) (from_entries (substitutes_of h.definitions)) k.items S.rules k.ends) names are)));
       one_end = subst (λ z. AreSingle z k.ends) (sym (count_is how (without_returns file) s h)) (subst (λ z. AreSingle (length (all_conditions z)) k.ends) same.0 k.one_end);
       conditions = k.conditions ∙ ap (λ z. conditions_with 0 (all_conditions z) k.ends) same.0 ∙ ap (λ z. conditions_with 0 z k.ends) (sym h.declares.conditions);
       few_rules = k.few_rules;

@@ -10,7 +10,7 @@ use Rattle.lexre.specs.Spelling.{Spells}
 use Rattle.lexre.specs.Cutting.{IsCutting}
 use Rattle.lexre.proofs.CuttingLaws.{one_cutting}
 use Rattle.lexre.proofs.OneTree.{one_tree}
-use Rattle.lexaction.specs.Names.{number_from}
+use Rattle.lexaction.specs.Names.{number_from, known_in}
 use Rattle.lexaction.specs.Actions.{SpellsAction, SpellsEndAction}
 use Rattle.lexmeaning.specs.Reading.{after_blanks, take_up_to}
 use Rattle.lexspec.specs.Items.{Conditions, Trailing, Subject, at_end, matching, Action, bar, spelled, Item, skipped, skipped_line, skipped_block, rule, conditions_at, IsSubject, action_in, outside, action_of, starts_rule, IsItem, AreItems}
@@ -48,7 +48,7 @@ behind n t i rest (j ∷ js) item (rest', line, item', more) =
       here = subst (λ z. AreItems (n + (newlines t - newlines z)) z js) (sym same.1) more;
     }
 
-module _ (names : List (List ℕ)) (how : ReadOptions) (defined : Definitions) where
+module _ (names : List (List ℕ)) (how : ReadOptions) (stack : Bool) (defined : Definitions) where
   -- lines that are skipped
   abbrev pub is_plain : Item → Bool
   is_plain skipped = true
@@ -63,33 +63,33 @@ module _ (names : List (List ℕ)) (how : ReadOptions) (defined : Definitions) w
   wait_plain (r ∷ w) n skipped_block is h = refl
   wait_plain (r ∷ w) n (rule asked subject action) is h = no_true h
 
-  rules_plain : (n : ℕ) (i : Item) (is : List (ℕ × Item)) (rs : List Rule) (es : List EndRule) → is_plain i ≡ true → AreRules names how defined ((n, i) ∷ is) rs es → AreRules names how defined is rs es
+  rules_plain : (n : ℕ) (i : Item) (is : List (ℕ × Item)) (rs : List Rule) (es : List EndRule) → is_plain i ≡ true → AreRules names how stack defined ((n, i) ∷ is) rs es → AreRules names how stack defined is rs es
   rules_plain n skipped is rs es h are = are
   rules_plain n skipped_line is rs es h are = are
   rules_plain n skipped_block is rs es h are = are
   rules_plain n (rule asked subject action) is rs es h are = no_true h
 
-  plain_rules : (n : ℕ) (i : Item) (is : List (ℕ × Item)) (rs : List Rule) (es : List EndRule) → is_plain i ≡ true → AreRules names how defined is rs es → AreRules names how defined ((n, i) ∷ is) rs es
+  plain_rules : (n : ℕ) (i : Item) (is : List (ℕ × Item)) (rs : List Rule) (es : List EndRule) → is_plain i ≡ true → AreRules names how stack defined is rs es → AreRules names how stack defined ((n, i) ∷ is) rs es
   plain_rules n skipped is rs es h are = are
   plain_rules n skipped_line is rs es h are = are
   plain_rules n skipped_block is rs es h are = are
   plain_rules n (rule asked subject action) is rs es h are = no_true h
 
   pub plain_on : (n : ℕ) (t : List ℕ) (i : Item) (rest : List ℕ) (w R : List Rule) (E : List EndRule) → is_plain i ≡ true → IsItem t i rest
-      → Left names how defined n t w R E → Left names how defined (n + (newlines t - newlines rest)) rest w R E
+      → Left names how stack defined n t w R E → Left names how stack defined (n + (newlines t - newlines rest)) rest w R E
   plain_on n t i rest w R E plain item left =
       let b = behind n t i rest left.items item left.here in
       record {
         items = b.others;
         here = b.here;
         later = left.later;
-        are = rules_plain n i b.others left.later E plain (subst (λ z. AreRules names how defined z left.later E) b.all left.are);
+        are = rules_plain n i b.others left.later E plain (subst (λ z. AreRules names how stack defined z left.later E) b.all left.are);
         next = sym (wait_plain w n i b.others plain) ∙ ap (may_wait w) (sym b.all) ∙ left.next;
         whole = left.whole;
       }
 
   pub plain_back : (n : ℕ) (t : List ℕ) (i : Item) (rest : List ℕ) (w R : List Rule) (E : List EndRule) → is_plain i ≡ true → IsItem t i rest
-      → Left names how defined (n + (newlines t - newlines rest)) rest w R E → Left names how defined n t w R E
+      → Left names how stack defined (n + (newlines t - newlines rest)) rest w R E → Left names how stack defined n t w R E
   plain_back n t i rest w R E plain item left = record {
     items = (n, i) ∷ left.items;
     here = (rest, refl, item, left.here);
@@ -101,22 +101,22 @@ module _ (names : List (List ℕ)) (how : ReadOptions) (defined : Definitions) w
 
   -- an `<<EOF>>` rule, for which no rule waits
   pub end_on : (n : ℕ) (t : List ℕ) (asked : Conditions) (text rest : List ℕ) (numbers : Option (List ℕ)) (e : EndAction) (R : List Rule) (E : List EndRule)
-      → IsItem t (rule asked at_end (spelled text)) rest → numbers_of (number_from 0 names) (length names) asked ≡ Some numbers → SpellsEndAction (number_from 0 names) text e
-      → Left names how defined n t [] R E
-      → (F : List EndRule) × (E ≡ (numbers, e) ∷ F) × Left names how defined (n + (newlines t - newlines rest)) rest [] R F
+      → IsItem t (rule asked at_end (spelled text)) rest → numbers_of (number_from 0 names) (length names) asked ≡ Some numbers → SpellsEndAction (known_in names stack) text e
+      → Left names how stack defined n t [] R E
+      → (F : List EndRule) × (E ≡ (numbers, e) ∷ F) × Left names how stack defined (n + (newlines t - newlines rest)) rest [] R F
   end_on n t asked text rest numbers e R E item listed acts left =
       let b = behind n t (rule asked at_end (spelled text)) rest left.items item left.here in
-      let (numbers', e', others, listed', acts', all, more) = subst (λ z. AreRules names how defined z left.later E) b.all left.are in
+      let (numbers', e', others, listed', acts', all, more) = subst (λ z. AreRules names how stack defined z left.later E) b.all left.are in
       let same : numbers' ≡ numbers = some_is numbers' numbers (sym listed' ∙ listed) in
-      let act : e' ≡ e = one_end tree_once (number_from 0 names) text e' e acts' acts in (
+      let act : e' ≡ e = one_end tree_once (known_in names stack) text e' e acts' acts in (
         others,
         all ∙ ap (λ z. (z, e') ∷ others) same ∙ ap (λ z. (numbers, z) ∷ others) act,
         record { items = b.others; here = b.here; later = left.later; are = more; next = refl; whole = left.whole },
       )
 
   pub end_back : (n : ℕ) (t : List ℕ) (asked : Conditions) (text rest : List ℕ) (numbers : Option (List ℕ)) (e : EndAction) (R : List Rule) (E : List EndRule)
-      → IsItem t (rule asked at_end (spelled text)) rest → numbers_of (number_from 0 names) (length names) asked ≡ Some numbers → SpellsEndAction (number_from 0 names) text e
-      → Left names how defined (n + (newlines t - newlines rest)) rest [] R E → Left names how defined n t [] R ((numbers, e) ∷ E)
+      → IsItem t (rule asked at_end (spelled text)) rest → numbers_of (number_from 0 names) (length names) asked ≡ Some numbers → SpellsEndAction (known_in names stack) text e
+      → Left names how stack defined (n + (newlines t - newlines rest)) rest [] R E → Left names how stack defined n t [] R ((numbers, e) ∷ E)
   end_back n t asked text rest numbers e R E item listed acts left = record {
     items = (n, rule asked at_end (spelled text)) ∷ left.items;
     here = (rest, refl, item, left.here);
@@ -129,7 +129,7 @@ module _ (names : List (List ℕ)) (how : ReadOptions) (defined : Definitions) w
   -- a rule with an action of its own, which the rules that wait take
 
   with_statements : (n : ℕ) (asked : Conditions) (anchored : Bool) (head : List ℕ) (after : Trailing) (r : Rule) (ss : List Statement)
-      → HasHead names how defined n asked anchored head after r → HasHead names how defined n asked anchored head after (acting ss r)
+      → HasHead names how stack defined n asked anchored head after r → HasHead names how stack defined n asked anchored head after (acting ss r)
   with_statements n asked anchored head after r ss h = record {
     line_is = h.line_is;
     listed = h.listed;
@@ -140,8 +140,8 @@ module _ (names : List (List ℕ)) (how : ReadOptions) (defined : Definitions) w
   }
 
   head_rule : (n : ℕ) (asked : Conditions) (anchored : Bool) (head : List ℕ) (after : Trailing) (text : List ℕ) (is : List (ℕ × Item)) (rs : List Rule) (r : Rule) (ss : List Statement)
-      → HasHead names how defined n asked anchored head after r → SpellsAction (number_from 0 names) text ss
-      → IsRule names how defined n asked anchored head after (spelled text) is rs (acting ss r)
+      → HasHead names how stack defined n asked anchored head after r → SpellsAction (known_in names stack) text ss
+      → IsRule names how stack defined n asked anchored head after (spelled text) is rs (acting ss r)
   head_rule n asked anchored head after text is rs r ss h acts = record {
     front = with_statements n asked anchored head after r _ h;
     next = refl;
@@ -149,13 +149,13 @@ module _ (names : List (List ℕ)) (how : ReadOptions) (defined : Definitions) w
   }
 
   pub rule_on : (n : ℕ) (t : List ℕ) (asked : Conditions) (anchored : Bool) (head : List ℕ) (after : Trailing) (text rest : List ℕ) (r : Rule) (ss : List Statement) (w R : List Rule) (E : List EndRule)
-      → IsItem t (rule asked (matching anchored head after) (spelled text)) rest → HasHead names how defined n asked anchored head after r → SpellsAction (number_from 0 names) text ss
-      → Left names how defined n t w R E
-      → (S : List Rule) × (R ≡ (map (acting ss) w ++ acting ss r ∷ []) ++ S) × Left names how defined (n + (newlines t - newlines rest)) rest [] S E
+      → IsItem t (rule asked (matching anchored head after) (spelled text)) rest → HasHead names how stack defined n asked anchored head after r → SpellsAction (known_in names stack) text ss
+      → Left names how stack defined n t w R E
+      → (S : List Rule) × (R ≡ (map (acting ss) w ++ acting ss r ∷ []) ++ S) × Left names how stack defined (n + (newlines t - newlines rest)) rest [] S E
   rule_on n t asked anchored head after text rest r ss w R E item h acts left =
       let b = behind n t (rule asked (matching anchored head after) (spelled text)) rest left.items item left.here in
-      let (q, others, all, one, more) = subst (λ z. AreRules names how defined z left.later E) b.all left.are in
-      let same : q ≡ acting ss r = one_rule tree_once names how defined n asked anchored head after (spelled text) b.others others q (acting ss r) one
+      let (q, others, all, one, more) = subst (λ z. AreRules names how stack defined z left.later E) b.all left.are in
+      let same : q ≡ acting ss r = one_rule tree_once names how stack defined n asked anchored head after (spelled text) b.others others q (acting ss r) one
       (head_rule n asked anchored head after text b.others others r ss h acts) in
       let later : left.later ≡ acting ss r ∷ others = all ∙ ap (λ z. z ∷ others) same in (
         others,
@@ -169,8 +169,8 @@ module _ (names : List (List ℕ)) (how : ReadOptions) (defined : Definitions) w
   wait_rule (r ∷ w) n asked anchored head after action is = refl
 
   pub rule_back : (n : ℕ) (t : List ℕ) (asked : Conditions) (anchored : Bool) (head : List ℕ) (after : Trailing) (text rest : List ℕ) (r : Rule) (ss : List Statement) (w S : List Rule) (E : List EndRule)
-      → IsItem t (rule asked (matching anchored head after) (spelled text)) rest → HasHead names how defined n asked anchored head after r → SpellsAction (number_from 0 names) text ss
-      → Left names how defined (n + (newlines t - newlines rest)) rest [] S E → Left names how defined n t w ((map (acting ss) w ++ acting ss r ∷ []) ++ S) E
+      → IsItem t (rule asked (matching anchored head after) (spelled text)) rest → HasHead names how stack defined n asked anchored head after r → SpellsAction (known_in names stack) text ss
+      → Left names how stack defined (n + (newlines t - newlines rest)) rest [] S E → Left names how stack defined n t w ((map (acting ss) w ++ acting ss r ∷ []) ++ S) E
   rule_back n t asked anchored head after text rest r ss w S E item h acts left = record {
     items = (n, rule asked (matching anchored head after) (spelled text)) ∷ left.items;
     here = (rest, refl, item, left.here);
@@ -182,17 +182,17 @@ module _ (names : List (List ℕ)) (how : ReadOptions) (defined : Definitions) w
 
   -- a rule that waits for the action of the next one
 
-  takes_first : (rs : List Rule) (ss : List Statement) → IsActionOf (number_from 0 names) bar rs ss → ss ≡ first_statements rs
+  takes_first : (rs : List Rule) (ss : List Statement) → IsActionOf (known_in names stack) bar rs ss → ss ≡ first_statements rs
   takes_first [] ss h = absurd h
   takes_first (r ∷ rs) ss h = h
 
-  has_first : (rs : List Rule) (ss : List Statement) → IsActionOf (number_from 0 names) bar rs ss → IsActionOf (number_from 0 names) bar rs (first_statements rs)
+  has_first : (rs : List Rule) (ss : List Statement) → IsActionOf (known_in names stack) bar rs ss → IsActionOf (known_in names stack) bar rs (first_statements rs)
   has_first [] ss h = absurd h
   has_first (r ∷ rs) ss h = refl
 
   bar_rule : (n : ℕ) (asked : Conditions) (anchored : Bool) (head : List ℕ) (after : Trailing) (is : List (ℕ × Item)) (rs : List Rule) (r : Rule)
-      → HasHead names how defined n asked anchored head after r → goes_to_rule bar is ≡ true → IsActionOf (number_from 0 names) bar rs (first_statements rs)
-      → IsRule names how defined n asked anchored head after bar is rs (acting (first_statements rs) r)
+      → HasHead names how stack defined n asked anchored head after r → goes_to_rule bar is ≡ true → IsActionOf (known_in names stack) bar rs (first_statements rs)
+      → IsRule names how stack defined n asked anchored head after bar is rs (acting (first_statements rs) r)
   bar_rule n asked anchored head after is rs r h next takes = record {
     front = with_statements n asked anchored head after r _ h;
     next = next;
@@ -207,13 +207,13 @@ module _ (names : List (List ℕ)) (how : ReadOptions) (defined : Definitions) w
   fill_more ss w r rs = sym (append_assoc (map (acting ss) w) (acting ss r ∷ []) rs) ∙ ap (λ z. z ++ rs) (sym (map-append (acting ss) w (r ∷ [])))
 
   pub bar_on : (n : ℕ) (t : List ℕ) (asked : Conditions) (anchored : Bool) (head : List ℕ) (after : Trailing) (rest : List ℕ) (r : Rule) (w R : List Rule) (E : List EndRule)
-      → IsItem t (rule asked (matching anchored head after) bar) rest → HasHead names how defined n asked anchored head after r
-      → Left names how defined n t w R E → Left names how defined (n + (newlines t - newlines rest)) rest (w ++ r ∷ []) R E
+      → IsItem t (rule asked (matching anchored head after) bar) rest → HasHead names how stack defined n asked anchored head after r
+      → Left names how stack defined n t w R E → Left names how stack defined (n + (newlines t - newlines rest)) rest (w ++ r ∷ []) R E
   bar_on n t asked anchored head after rest r w R E item h left =
       let b = behind n t (rule asked (matching anchored head after) bar) rest left.items item left.here in
-      let (q, others, all, one, more) = subst (λ z. AreRules names how defined z left.later E) b.all left.are in
+      let (q, others, all, one, more) = subst (λ z. AreRules names how stack defined z left.later E) b.all left.are in
       let f = first_statements others in
-      let same : q ≡ acting f r = one_rule tree_once names how defined n asked anchored head after bar b.others others q (acting f r) one
+      let same : q ≡ acting f r = one_rule tree_once names how stack defined n asked anchored head after bar b.others others q (acting f r) one
       (bar_rule n asked anchored head after b.others others r h one.next (has_first others q.statements one.statements_are)) in
       let later : left.later ≡ acting f r ∷ others = all ∙ ap (λ z. z ∷ others) same in
       record {
@@ -225,20 +225,20 @@ module _ (names : List (List ℕ)) (how : ReadOptions) (defined : Definitions) w
         whole = left.whole ∙ ap (filled w) later ∙ fill_more f w r others;
       }
 
-  goes_first : (is : List (ℕ × Item)) (rs : List Rule) (es : List EndRule) → goes_to_rule bar is ≡ true → AreRules names how defined is rs es
-      → IsActionOf (number_from 0 names) bar rs (first_statements rs)
+  goes_first : (is : List (ℕ × Item)) (rs : List Rule) (es : List EndRule) → goes_to_rule bar is ≡ true → AreRules names how stack defined is rs es
+      → IsActionOf (known_in names stack) bar rs (first_statements rs)
   goes_first [] rs es h are = no_true h
   goes_first ((n, rule asked at_end action) ∷ is) rs es h are = no_true h
-  goes_first ((n, rule asked (matching anchored head after) bar) ∷ is) rs es h (r, others, all, one, more) = subst (λ z. IsActionOf (number_from 0 names) bar z (first_statements z)) (sym all) refl
+  goes_first ((n, rule asked (matching anchored head after) bar) ∷ is) rs es h (r, others, all, one, more) = subst (λ z. IsActionOf (known_in names stack) bar z (first_statements z)) (sym all) refl
   goes_first ((n, rule asked (matching anchored head after) (spelled text)) ∷ is) rs es h (r, others, all, one, more) =
-      subst (λ z. IsActionOf (number_from 0 names) bar z (first_statements z)) (sym all) refl
+      subst (λ z. IsActionOf (known_in names stack) bar z (first_statements z)) (sym all) refl
   goes_first ((n, skipped) ∷ is) rs es h are = goes_first is rs es h are
   goes_first ((n, skipped_line) ∷ is) rs es h are = goes_first is rs es h are
   goes_first ((n, skipped_block) ∷ is) rs es h are = goes_first is rs es h are
 
   pub bar_back : (n : ℕ) (t : List ℕ) (asked : Conditions) (anchored : Bool) (head : List ℕ) (after : Trailing) (rest : List ℕ) (r : Rule) (w R : List Rule) (E : List EndRule)
-      → IsItem t (rule asked (matching anchored head after) bar) rest → HasHead names how defined n asked anchored head after r
-      → Left names how defined (n + (newlines t - newlines rest)) rest (w ++ r ∷ []) R E → Left names how defined n t w R E
+      → IsItem t (rule asked (matching anchored head after) bar) rest → HasHead names how stack defined n asked anchored head after r
+      → Left names how stack defined (n + (newlines t - newlines rest)) rest (w ++ r ∷ []) R E → Left names how stack defined n t w R E
   bar_back n t asked anchored head after rest r w R E item h left =
       let goes : goes_to_rule bar left.items ≡ true = sym (wait_more w r left.items) ∙ left.next in
       let f = first_statements left.later in
@@ -253,9 +253,9 @@ module _ (names : List (List ℕ)) (how : ReadOptions) (defined : Definitions) w
 
   -- What is read so far, and what is left.
   pub record Agree (start : ℕ) (whole_text : List ℕ) (done : List Rule) (ends : List EndRule) (w : List Rule) (n : ℕ) (t : List ℕ) : Type 0 where
-    pub back : (R : List Rule) (E : List EndRule) → Left names how defined n t w R E → Left names how defined start whole_text [] (done ++ R) (ends ++ E)
-    pub on : (R : List Rule) (E : List EndRule) → Left names how defined start whole_text [] R E
-        → (S : List Rule) × (F : List EndRule) × (R ≡ done ++ S) × (E ≡ ends ++ F) × Left names how defined n t w S F
+    pub back : (R : List Rule) (E : List EndRule) → Left names how stack defined n t w R E → Left names how stack defined start whole_text [] (done ++ R) (ends ++ E)
+    pub on : (R : List Rule) (E : List EndRule) → Left names how stack defined start whole_text [] R E
+        → (S : List Rule) × (F : List EndRule) × (R ≡ done ++ S) × (E ≡ ends ++ F) × Left names how stack defined n t w S F
 
   pub agree_first : (n : ℕ) (t : List ℕ) → Agree n t [] [] [] n t
   agree_first n t = record { back = (λ R E left. left); on = (λ R E left. (R, E, refl, refl, left)) }
@@ -268,10 +268,10 @@ module _ (names : List (List ℕ)) (how : ReadOptions) (defined : Definitions) w
   }
 
   pub agree_end : (start : ℕ) (whole_text : List ℕ) (done : List Rule) (ends : List EndRule) (n : ℕ) (t : List ℕ) (asked : Conditions) (text rest : List ℕ) (numbers : Option (List ℕ)) (e : EndAction)
-      → IsItem t (rule asked at_end (spelled text)) rest → numbers_of (number_from 0 names) (length names) asked ≡ Some numbers → SpellsEndAction (number_from 0 names) text e
+      → IsItem t (rule asked at_end (spelled text)) rest → numbers_of (number_from 0 names) (length names) asked ≡ Some numbers → SpellsEndAction (known_in names stack) text e
       → Agree start whole_text done ends [] n t → Agree start whole_text done (ends ++ (numbers, e) ∷ []) [] (n + (newlines t - newlines rest)) rest
   agree_end start whole_text done ends n t asked text rest numbers e item listed acts a = record {
-    back = (λ R E left. subst (λ z. Left names how defined start whole_text [] (done ++ R) z) (sym (append_assoc ends ((numbers, e) ∷ []) E))
+    back = (λ R E left. subst (λ z. Left names how stack defined start whole_text [] (done ++ R) z) (sym (append_assoc ends ((numbers, e) ∷ []) E))
         (a.back R ((numbers, e) ∷ E) (end_back n t asked text rest numbers e R E item listed acts left)));
     on = (λ R E left.
         let (S, F, p, q, more) = a.on R E left in
@@ -281,10 +281,10 @@ module _ (names : List (List ℕ)) (how : ReadOptions) (defined : Definitions) w
 
   pub agree_rule : (start : ℕ) (whole_text : List ℕ) (done : List Rule) (ends : List EndRule) (w : List Rule) (n : ℕ) (t : List ℕ)
       (asked : Conditions) (anchored : Bool) (head : List ℕ) (after : Trailing) (text rest : List ℕ) (r : Rule) (ss : List Statement)
-      → IsItem t (rule asked (matching anchored head after) (spelled text)) rest → HasHead names how defined n asked anchored head after r → SpellsAction (number_from 0 names) text ss
+      → IsItem t (rule asked (matching anchored head after) (spelled text)) rest → HasHead names how stack defined n asked anchored head after r → SpellsAction (known_in names stack) text ss
       → Agree start whole_text done ends w n t → Agree start whole_text (done ++ (map (acting ss) w ++ acting ss r ∷ [])) ends [] (n + (newlines t - newlines rest)) rest
   agree_rule start whole_text done ends w n t asked anchored head after text rest r ss item h acts a = record {
-    back = (λ R E left. subst (λ z. Left names how defined start whole_text [] z (ends ++ E)) (sym (append_assoc done (map (acting ss) w ++ acting ss r ∷ []) R))
+    back = (λ R E left. subst (λ z. Left names how stack defined start whole_text [] z (ends ++ E)) (sym (append_assoc done (map (acting ss) w ++ acting ss r ∷ []) R))
         (a.back ((map (acting ss) w ++ acting ss r ∷ []) ++ R) E (rule_back n t asked anchored head after text rest r ss w R E item h acts left)));
     on = (λ R E left.
         let (S, F, p, q, more) = a.on R E left in
@@ -294,7 +294,7 @@ module _ (names : List (List ℕ)) (how : ReadOptions) (defined : Definitions) w
 
   pub agree_bar : (start : ℕ) (whole_text : List ℕ) (done : List Rule) (ends : List EndRule) (w : List Rule) (n : ℕ) (t : List ℕ)
       (asked : Conditions) (anchored : Bool) (head : List ℕ) (after : Trailing) (rest : List ℕ) (r : Rule)
-      → IsItem t (rule asked (matching anchored head after) bar) rest → HasHead names how defined n asked anchored head after r
+      → IsItem t (rule asked (matching anchored head after) bar) rest → HasHead names how stack defined n asked anchored head after r
       → Agree start whole_text done ends w n t → Agree start whole_text done ends (w ++ r ∷ []) (n + (newlines t - newlines rest)) rest
   agree_bar start whole_text done ends w n t asked anchored head after rest r item h a = record {
     back = (λ R E left. a.back R E (bar_back n t asked anchored head after rest r w R E item h left));
@@ -305,11 +305,11 @@ module _ (names : List (List ℕ)) (how : ReadOptions) (defined : Definitions) w
 
   abbrev pub IsSpelled : Action → Type 0
   IsSpelled bar = Unit {0}
-  IsSpelled (spelled text) = (ss : List Statement) × SpellsAction (number_from 0 names) text ss
+  IsSpelled (spelled text) = (ss : List Statement) × SpellsAction (known_in names stack) text ss
 
   abbrev pub ActsAs : List Rule → Subject → Action → Type 0
   ActsAs w at_end bar = ⊥
-  ActsAs w at_end (spelled text) = (w ≡ []) × (e : EndAction) × SpellsEndAction (number_from 0 names) text e
+  ActsAs w at_end (spelled text) = (w ≡ []) × (e : EndAction) × SpellsEndAction (known_in names stack) text e
   ActsAs w (matching anchored head after) action =
       (r : Rule) × Spells how defined head r.head × IsTrail how defined after r.trail × IsCutOf r.head r.trail r.cut × IsSpelled action
 
@@ -328,7 +328,7 @@ module _ (names : List (List ℕ)) (how : ReadOptions) (defined : Definitions) w
     pub acts : ActsAs w subject (action_of text)
 
   acts_here : (w : List Rule) (n : ℕ) (asked : Conditions) (subject : Subject) (action : Action) (is : List (ℕ × Item)) (rs : List Rule) (es : List EndRule)
-      → AreRules names how defined ((n, rule asked subject action) ∷ is) rs es → may_wait w ((n, rule asked subject action) ∷ is) ≡ true
+      → AreRules names how stack defined ((n, rule asked subject action) ∷ is) rs es → may_wait w ((n, rule asked subject action) ∷ is) ≡ true
       → ((numbers : Option (List ℕ)) × (numbers_of (number_from 0 names) (length names) asked ≡ Some numbers)) × ActsAs w subject action
   acts_here w n asked at_end bar is rs es are next = absurd are
   acts_here [] n asked at_end (spelled text) is rs es (numbers, e, others, listed, acts, all, more) next = ((numbers, listed), (refl, e, acts))
@@ -338,7 +338,7 @@ module _ (names : List (List ℕ)) (how : ReadOptions) (defined : Definitions) w
       ((r.conditions, one.front.listed), (r, one.front.head_is, one.front.trail_is, one.front.cut_is, (r.statements, one.statements_are)))
 
   rule_here : (t : List ℕ) (w : List Rule) (n : ℕ) (i : Item) (rest : List ℕ) (is : List (ℕ × Item)) (rs : List Rule) (es : List EndRule) → starts_rule t ≡ true → IsItem t i rest
-      → AreRules names how defined ((n, i) ∷ is) rs es → may_wait w ((n, i) ∷ is) ≡ true → RuleHere t w
+      → AreRules names how stack defined ((n, i) ∷ is) rs es → may_wait w ((n, i) ∷ is) ≡ true → RuleHere t w
   rule_here t w n skipped rest is rs es starts item are next = both_ways (AllBlank t) (tests_of t skipped rest item) (rule_tests t starts).0
   rule_here t w n skipped_line rest is rs es starts item are next = both_ways (StartsBlank t) (tests_of t skipped_line rest item).1 (rule_tests t starts).1
   rule_here t w n skipped_block rest is rs es starts item are next = both_ways (OpensBlock t) (tests_of t skipped_block rest item).2 (rule_tests t starts).3
@@ -359,18 +359,18 @@ module _ (names : List (List ℕ)) (how : ReadOptions) (defined : Definitions) w
         acts = subst (ActsAs w subject) is_action here.1;
       }
 
-  pub invert : (n : ℕ) (t : List ℕ) (w R : List Rule) (E : List EndRule) → starts_rule t ≡ true → Left names how defined n t w R E → RuleHere t w
+  pub invert : (n : ℕ) (t : List ℕ) (w R : List Rule) (E : List EndRule) → starts_rule t ≡ true → Left names how stack defined n t w R E → RuleHere t w
   unfolding take_up_to
   invert n t w R E starts left = from left.items left.here left.are left.next
     where
-      from : (items : List (ℕ × Item)) → AreItems n t items → AreRules names how defined items left.later E → may_wait w items ≡ true → RuleHere t w
+      from : (items : List (ℕ × Item)) → AreItems n t items → AreRules names how stack defined items left.later E → may_wait w items ≡ true → RuleHere t w
       from [] (inl e) are next = no_true (sym (ap starts_rule e) ∙ starts)
       from [] (inr e) are next = let p = two_percents t e in no_true (sym (rule_tests (37 ∷ 37 ∷ p.0) (subst (λ z. starts_rule z ≡ true) p.1 starts)).2)
       from ((m, i) ∷ is) (rest, line, item, more) are next = rule_here t w m i rest is left.later E starts item are next
 
   -- nothing is spelled from there on
   abbrev pub NoLeft : List ℕ → Type 0
-  NoLeft t = (n : ℕ) (w R : List Rule) (E : List EndRule) → Left names how defined n t w R E → ⊥
+  NoLeft t = (n : ℕ) (w R : List Rule) (E : List EndRule) → Left names how stack defined n t w R E → ⊥
 
   no_some : {A B : Type 0} (x : A) (o : Option A) → o ≡ Some x → o ≡ None → B
   no_some {A} x o e f = absurd (none (sym e ∙ f))
@@ -398,7 +398,7 @@ module _ (names : List (List ℕ)) (how : ReadOptions) (defined : Definitions) w
   Known w subject v = (text rest : List ℕ) × (action_in outside 0 (after_blanks v) ≡ Some (text, rest)) × ActsAs w subject (action_of text)
 
   known : (n : ℕ) (t u v : List ℕ) (asked : Conditions) (subject : Subject) (w R : List Rule) (E : List EndRule) → starts_rule t ≡ true → conditions_at t ≡ Some (asked, u) → IsSubject u subject v
-      → Left names how defined n t w R E → Known w subject v
+      → Left names how stack defined n t w R E → Known w subject v
   known n t u v asked subject w R E starts list cut left =
       let h = invert n t w R E starts left in
       let same = (some_pair h.asked asked h.u u (sym h.list ∙ list)).1 in
@@ -425,7 +425,7 @@ module _ (names : List (List ℕ)) (how : ReadOptions) (defined : Definitions) w
 
   -- the action of the rule that begins a text
   pub acts_of : (n : ℕ) (t : List ℕ) (asked : Conditions) (subject : Subject) (action : Action) (rest : List ℕ) (w R : List Rule) (E : List EndRule) → IsItem t (rule asked subject action) rest
-      → Left names how defined n t w R E → ActsAs w subject action
+      → Left names how stack defined n t w R E → ActsAs w subject action
   acts_of n t asked subject action rest w R E (starts, u, v, text, list, cut, ends, is) left =
       let k = known n t u v asked subject w R E starts list cut left in
       let same = (some_pair k.0 text k.1 rest (sym k.2 ∙ ends)).0 in

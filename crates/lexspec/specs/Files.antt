@@ -55,7 +55,7 @@ pub record SpellsSpec (how : ReadOptions) (file : List ℕ) (S : Spec) : Type 0 
   pub defined_once : are_distinct (map (λ (d : List ℕ × List ℕ). d.0) (substitutes_of definitions)) ≡ true
   pub options : are_known (all_options definitions) ≡ true
   pub ends : List EndRule
-  pub rules : AreRules (names_of (all_conditions definitions)) (with_fold how (has_name (all_options definitions) (codes "case-insensitive"))) (from_entries (substitutes_of definitions)) items S.rules ends
+  pub rules : AreRules (names_of (all_conditions definitions)) (with_fold how (has_name (all_options definitions) (codes "case-insensitive"))) (has_name (all_options definitions) (codes "stack")) (from_entries (substitutes_of definitions)) items S.rules ends
   pub one_end : AreSingle (length (all_conditions definitions)) ends
   pub conditions : S.conditions ≡ conditions_with 0 (all_conditions definitions) ends
   pub few_conditions : length S.conditions ≤ max_conditions

@@ -22,7 +22,7 @@ names_in d = names_of d.conditions.items
 
 -- the text spells no rules from there on
 abbrev pub NoRules : Declarations → List ℕ → Type 0
-NoRules d t = (n : ℕ) (w R : List Rule) (E : List EndRule) → Left (names_in d) d.options d.defs n t w R E → ⊥
+NoRules d t = (n : ℕ) (w R : List Rule) (E : List EndRule) → Left (names_in d) d.options d.stack d.defs n t w R E → ⊥
 
 -- the sides of a pattern have no trees, or neither gives a cut
 abbrev pub NoSides : Declarations → List ℕ → Trailing → Type 0
@@ -35,7 +35,7 @@ pub record ReadsRule (d : Declarations) (n : ℕ) (t action rest : List ℕ) (r 
   pub head : List ℕ
   pub after : Trailing
   pub item : IsItem t (rule asked (matching anchored head after) (action_of action)) rest
-  pub has_head : HasHead (names_in d) d.options d.defs n asked anchored head after r
+  pub has_head : HasHead (names_in d) d.options d.stack d.defs n asked anchored head after r
 
 -- an `<<EOF>>` rule begins it
 pub record ReadsEnd (d : Declarations) (t action rest : List ℕ) (numbers : Option (List ℕ)) : Type 0 where
@@ -53,8 +53,8 @@ ReadsItem d n t x = ReadsFront d n t x.action.now x.rest.now x.front
 -- nothing that may follow is spelled from a rule on, where these rules wait
 abbrev pub NoRulesAfter : Declarations → RulesSoFar → Front → List ℕ → Type 0
 NoRulesAfter d s front action = (n : ℕ) (t rest : List ℕ) (R : List Rule) (E : List EndRule) → ReadsFront d n t action rest front
-    → Left (names_in d) d.options d.defs n t (map rule_of s.waiting.items) R E → MayFollow d s R E → ⊥
+    → Left (names_in d) d.options d.stack d.defs n t (map rule_of s.waiting.items) R E → MayFollow d s R E → ⊥
 
 -- the text spells nothing that may follow from the line n on, where these rules wait
 abbrev pub NoneLeft : Declarations → RulesSoFar → ℕ → List ℕ → Type 0
-NoneLeft d s n t = (R : List Rule) (E : List EndRule) → Left (names_in d) d.options d.defs n t (map rule_of s.waiting.items) R E → MayFollow d s R E → ⊥
+NoneLeft d s n t = (R : List Rule) (E : List EndRule) → Left (names_in d) d.options d.stack d.defs n t (map rule_of s.waiting.items) R E → MayFollow d s R E → ⊥

@@ -29,7 +29,7 @@ pub record SpellsRest (s : Section) (S : Spec) : Type 0 where
   pub items : List (ℕ × Item)
   pub here : AreItems (s.line + 1) (line_in s.rest.now).1 items
   pub ends : List EndRule
-  pub are : AreRules (names_in s.declarations) s.declarations.options s.declarations.defs items S.rules ends
+  pub are : AreRules (names_in s.declarations) s.declarations.options s.declarations.stack s.declarations.defs items S.rules ends
   pub one_end : AreSingle (length s.declarations.conditions.items) ends
   pub conditions : S.conditions ≡ conditions_with 0 (map declared_of s.declarations.conditions.items) ends
   pub few_rules : length S.rules ≤ max_rules

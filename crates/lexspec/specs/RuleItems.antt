@@ -9,7 +9,7 @@ use Rattle.lexmeaning.specs.Spec.{EndAction, Statement, Rule}
 use Rattle.lexmeaning.specs.Sound.{IsCutOf}
 use Rattle.lexre.specs.Definitions.{Definitions}
 use Rattle.lexre.specs.Spelling.{Spells}
-use Rattle.lexaction.specs.Names.{number_from}
+use Rattle.lexaction.specs.Names.{number_from, Known, known_in}
 use Rattle.lexaction.specs.Actions.{SpellsAction, SpellsEndAction}
 use Rattle.lexspec.specs.Items.{Conditions, unlisted, every, only, Trailing, no_trail, line_end, pattern_after, at_end, matching, Action, bar, spelled, Item, rule}
 use Rattle.lexre.specs.declared.options.ReadOptions.{ReadOptions}
@@ -45,10 +45,10 @@ abbrev pub EndRule : Type 0
 EndRule = Option (List ℕ) × EndAction
 
 -- the statements of an action: those that its text spells, or those of the next rule
-abbrev pub IsActionOf : (List ℕ → Option ℕ) → Action → List Rule → List Statement → Type 0
-IsActionOf number (spelled text) rules ss = SpellsAction number text ss
-IsActionOf number bar [] ss = ⊥
-IsActionOf number bar (r ∷ rules) ss = ss ≡ r.statements
+abbrev pub IsActionOf : Known → Action → List Rule → List Statement → Type 0
+IsActionOf known (spelled text) rules ss = SpellsAction known text ss
+IsActionOf known bar [] ss = ⊥
+IsActionOf known bar (r ∷ rules) ss = ss ≡ r.statements
 
 -- after a `|` the next rule is there, and is no `<<EOF>>` rule
 abbrev pub goes_to_rule : Action → List (ℕ × Item) → Bool
@@ -58,8 +58,8 @@ goes_to_rule bar ((n, rule asked at_end action) ∷ is) = false
 goes_to_rule bar ((n, rule asked (matching anchored head after) action) ∷ is) = true
 goes_to_rule bar ((n, i) ∷ is) = goes_to_rule bar is
 
--- `names` are those of the conditions, by number
-module _ (names : List (List ℕ)) (how : ReadOptions) (defined : Definitions) where
+-- `names` are those of the conditions, by number, and `stack` says whether actions may push and pop
+module _ (names : List (List ℕ)) (how : ReadOptions) (stack : Bool) (defined : Definitions) where
   -- a rule but for its statements
   pub record HasHead (n : ℕ) (asked : Conditions) (anchored : Bool) (head : List ℕ) (after : Trailing) (r : Rule) : Type 0 where
     pub line_is : r.line ≡ n
@@ -73,14 +73,14 @@ module _ (names : List (List ℕ)) (how : ReadOptions) (defined : Definitions) w
   pub record IsRule (n : ℕ) (asked : Conditions) (anchored : Bool) (head : List ℕ) (after : Trailing) (action : Action) (is : List (ℕ × Item)) (rules : List Rule) (r : Rule) : Type 0 where
     pub front : HasHead n asked anchored head after r
     pub next : goes_to_rule action is ≡ true
-    pub statements_are : IsActionOf (number_from 0 names) action rules r.statements
+    pub statements_are : IsActionOf (known_in names stack) action rules r.statements
 
   -- the rules and the `<<EOF>>` rules of the items
   abbrev pub AreRules : List (ℕ × Item) → List Rule → List EndRule → Type 0
   AreRules [] rules ends = (rules ≡ []) × (ends ≡ [])
   AreRules ((n, rule asked at_end (spelled text)) ∷ is) rules ends =
       (numbers : Option (List ℕ)) × (e : EndAction) × (others : List EndRule)
-      × (numbers_of (number_from 0 names) (length names) asked ≡ Some numbers) × SpellsEndAction (number_from 0 names) text e
+      × (numbers_of (number_from 0 names) (length names) asked ≡ Some numbers) × SpellsEndAction (known_in names stack) text e
       × (ends ≡ (numbers, e) ∷ others) × AreRules is rules others
   AreRules ((n, rule asked at_end bar) ∷ is) rules ends = ⊥
   AreRules ((n, rule asked (matching anchored head after) action) ∷ is) rules ends =

@@ -24,10 +24,10 @@ may_wait [] is = true
 may_wait (w ∷ ws) is = goes_to_rule bar is
 
 -- the rules and `<<EOF>>` rules that a text spells from the line n on, after rules that wait for the next action
-pub record Left (names : List (List ℕ)) (how : ReadOptions) (defined : Definitions) (n : ℕ) (t : List ℕ) (waiting rules : List Rule) (ends : List EndRule) : Type 0 where
+pub record Left (names : List (List ℕ)) (how : ReadOptions) (stack : Bool) (defined : Definitions) (n : ℕ) (t : List ℕ) (waiting rules : List Rule) (ends : List EndRule) : Type 0 where
   pub items : List (ℕ × Item)
   pub here : AreItems n t items
   pub later : List Rule
-  pub are : AreRules names how defined items later ends
+  pub are : AreRules names how stack defined items later ends
   pub next : may_wait waiting items ≡ true
   pub whole : rules ≡ filled waiting later

@@ -18,7 +18,7 @@ use Rattle.lexspec.specs.Limits.{max_rules}
 pub record HasRules (d : Declarations) (n : ℕ) (text : List ℕ) (s : RulesSection) : Type 0 where
   pub items : List (ℕ × Item)
   pub here : AreItems n text items
-  pub are : AreRules (names_in d) d.options d.defs items (map rule_of s.rules.items) (map end_rule_of s.ends.items)
+  pub are : AreRules (names_in d) d.options d.stack d.defs items (map rule_of s.rules.items) (map end_rule_of s.ends.items)
   pub stops : (s.rest.now ≡ []) ⊎ (begins (codes "%%") s.rest.now ≡ true)
   pub sound : HaveSoundSides (map rule_of s.rules.items)
   pub single : AreSingle (length d.conditions.items) (map end_rule_of s.ends.items)
@@ -26,7 +26,7 @@ pub record HasRules (d : Declarations) (n : ℕ) (text : List ℕ) (s : RulesSec
 
 -- the items of the text spell no rules, or too many, or two ends of a condition
 abbrev pub NoSuchRules : Declarations → ℕ → List ℕ → Type 0
-NoSuchRules d n text = (items : List (ℕ × Item)) (rules : List Rule) (ends : List EndRule) → AreItems n text items → AreRules (names_in d) d.options d.defs items rules ends
+NoSuchRules d n text = (items : List (ℕ × Item)) (rules : List Rule) (ends : List EndRule) → AreItems n text items → AreRules (names_in d) d.options d.stack d.defs items rules ends
     → length rules ≤ max_rules → AreSingle (length d.conditions.items) ends → ⊥
 
 -- the line of the last rule that waits for an action, or else n

@@ -54,7 +54,7 @@ impl RulesSoFar {
                 ends,
             });
         }
-        match read_action(alloc, &declarations.conditions, action) {
+        match read_action(alloc, &declarations.conditions, declarations.stack, action) {
             Ok(statements) => {
                 let rules = finished(alloc, rules, waiting, rule, statements)?;
                 Ok(RulesSoFar {
@@ -87,7 +87,7 @@ impl RulesSoFar {
         if is_bar(action) {
             return Err(SpecErrorKind::BadEofAction);
         }
-        match read_end_action(alloc, &declarations.conditions, action) {
+        match read_end_action(alloc, &declarations.conditions, declarations.stack, action) {
             Ok(action) => {
                 let end = EndRule { conditions, action };
                 if !may_join(&self.ends, &end) {

@@ -23,6 +23,8 @@ pub struct Before {
     pub more: bool,
     pub less: bool,
     pub left: u32,
+    /// Whether the file's version has statements of the stack.
+    pub stack: bool,
 }
 
 impl Before {
@@ -36,6 +38,8 @@ impl Before {
             4 => self.less || self.more,
             5 => self.less || self.more || self.left > 1,
             6 => self.left > 1,
+            7 => !self.stack,
+            8 => !self.stack,
             _ => false,
         }
     }
@@ -56,7 +60,12 @@ impl Before {
             }
             Statement::More => now.more = true,
             Statement::Less(_) => now.less = true,
-            Statement::Echo | Statement::Begin(_) | Statement::Reject | Statement::End(_) => {}
+            Statement::Echo
+            | Statement::Begin(_)
+            | Statement::Reject
+            | Statement::End(_)
+            | Statement::Push(_)
+            | Statement::Pop => {}
         }
         now
     }
@@ -142,6 +151,11 @@ fn statement(
             let (status, rest) = byte_below(rest, 64)?;
             Ok((Statement::End(status), rest))
         }
+        7 => {
+            let (condition, rest) = byte_below(rest, conditions)?;
+            Ok((Statement::Push(condition), rest))
+        }
+        8 => Ok((Statement::Pop, rest)),
         _ => Err(ReadError::BadField(left)),
     }
 }
@@ -151,8 +165,9 @@ fn statements(
     bytes: &[u8],
     count: u32,
     conditions: u32,
+    stack: bool,
 ) -> Result<(Vec<Statement>, &[u8]), ReadError>
-    ensures { Gives (λ x. (map statement_of x.0.items, x.1.now)) result (many (statement_at conditions) seen_after count (unseen count) bytes.now) }
+    ensures { Gives (λ x. (map statement_of x.0.items, x.1.now)) result (many (statement_at conditions) seen_after count (unseen stack count) bytes.now) }
 {
     let mut read = Vec::new(alloc);
     let mut rest = bytes;
@@ -162,6 +177,7 @@ fn statements(
         more: false,
         less: false,
         left: count,
+        stack,
     };
     for i in 0..count {
         let (one, after) = statement(alloc, rest, conditions, before)?;
@@ -173,12 +189,17 @@ fn statements(
 }
 
 #[tactic(auto, unfolding(crate::specs::Reading::rule_at))]
-fn rule(alloc: Global, bytes: &[u8], conditions: u32) -> Result<(TableRule, &[u8]), ReadError>
-    ensures gives { Gives (λ x. (rule_of x.0, x.1.now)) result (rule_at conditions bytes.now) }
+fn rule(
+    alloc: Global,
+    bytes: &[u8],
+    conditions: u32,
+    stack: bool,
+) -> Result<(TableRule, &[u8]), ReadError>
+    ensures gives { Gives (λ x. (rule_of x.0, x.1.now)) result (rule_at conditions stack bytes.now) }
 {
     let (cut, rest) = cut(bytes)?;
     let (count, rest) = long_within(rest, 0, 256)?;
-    let (statements, rest) = statements(alloc, rest, count, conditions)?;
+    let (statements, rest) = statements(alloc, rest, count, conditions, stack)?;
     Ok((TableRule { cut, statements }, rest))
 }
 
@@ -187,13 +208,14 @@ pub fn rules(
     bytes: &[u8],
     count: u32,
     conditions: u32,
+    stack: bool,
 ) -> Result<(Vec<TableRule>, &[u8]), ReadError>
-    ensures { Gives (λ x. (map rule_of x.0.items, x.1.now)) result (many (λ i. rule_at conditions) following count 0 bytes.now) }
+    ensures { Gives (λ x. (map rule_of x.0.items, x.1.now)) result (many (λ i. rule_at conditions stack) following count 0 bytes.now) }
 {
     let mut read = Vec::new(alloc);
     let mut rest = bytes;
     for i in 0..count {
-        let (one, after) = rule(alloc, rest, conditions)?;
+        let (one, after) = rule(alloc, rest, conditions, stack)?;
         read.push(one)?;
         rest = after;
     }

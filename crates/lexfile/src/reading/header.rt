@@ -1,5 +1,5 @@
 //! Reads the header: the magic bytes, the version, and how many there are of each kind.
-ghost use Rattle.std.specs.Prelude.{◌≡◌, ◌≤◌, ◌==◌, IfOk};
+ghost use Rattle.std.specs.Prelude.{◌≡◌, ◌≤◌, ◌==◌, ◌||◌, ◌⊎◌, IfOk};
 ghost use Rattle.std.specs.Int.{w16};
 ghost use Rattle.lexfile.specs.Reading.{only_if, number_at, bytes_at, is_magic, sizes_at};
 ghost use Rattle.lexfile.specs.Views.{Gives, sizes_in};
@@ -37,11 +37,11 @@ pub fn magic(bytes: &[u8]) -> Result<(&[u8], &[u8]), ReadError>
 }
 
 pub fn version(bytes: &[u8]) -> Result<(u16, &[u8]), ReadError>
-    ensures gives { Gives (λ x. (x.0, x.1.now)) result (only_if (λ v. v == 1) (number_at w16) bytes.now) }
-    ensures known { IfOk result (λ x. x.0 ≡ 1) }
+    ensures gives { Gives (λ x. (x.0, x.1.now)) result (only_if (λ v. v == 1 || v == 2) (number_at w16) bytes.now) }
+    ensures known { IfOk result (λ x. (x.0 ≡ 1) ⊎ (x.0 ≡ 2)) }
 {
     let (version, rest) = short(bytes)?;
-    if version != 1 {
+    if version != 1 && version != 2 {
         return Err(ReadError::BadVersion);
     }
     Ok((version, rest))

@@ -54,6 +54,8 @@ fn put_statement<K: Sink>(sink: &mut K, statement: &Statement) -> Result<(), Wri
         }
         Statement::Reject => sink.put(&[5]),
         Statement::End(status) => sink.put(&[6, *status]),
+        Statement::Push(condition) => sink.put(&[7, *condition]),
+        Statement::Pop => sink.put(&[8]),
     }
 }
 

@@ -7,7 +7,9 @@ use Rattle.lexspec.specs.Views.{spec_of}
 use Rattle.lexspec.proofs.TestLaws.{spec_is_sound}
 use Rattle.lexdfa.specs.Automata.{machine_of}
 use Rattle.lextab.specs.Machines.{machine_of as table_machine}
-use Rattle.lexscan.specs.Runs.{RanTo, RanInto}
+use Rattle.lexmeaning.specs.Acting.{Status}
+use Rattle.lexscan.specs.Stands.{RanTo}
+use Rattle.lexscan.specs.Runs.{RanInto}
 use Rattle.lexkit.specs.Headline.{max_reads}
 use Rattle.lexkit.proofs.Carried as Same
 use Rattle.lexkit.proofs.Refusing.{told_of, within}
@@ -51,7 +53,7 @@ returns-clause-told g c =
         out = h.1;
         source = h.2;
         sink = h.3;
-        ran = Same.ran_to M l.laws S sound l.table h.0 h.1 b c.in-Ok-run.status
-            (subst (λ N. RanTo (rules_of_machine N) h.0 h.1 b c.in-Ok-run.status) same h.4);
+        ran = Same.ran_to M l.laws S sound l.table h.0 h.1 b (Status c.in-Ok-run.status)
+            (subst (λ N. RanTo (rules_of_machine N) h.0 h.1 b (Status c.in-Ok-run.status)) same h.4);
       },
     )

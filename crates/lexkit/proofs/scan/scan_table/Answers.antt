@@ -2,7 +2,9 @@ use Rattle.std.proofs.Common.{Bool, subst}
 use Rattle.std.specs.Prelude.{nat_lt}
 use Rattle.lexmeaning.specs.Machine.{rules_of_machine}
 use Rattle.lextab.specs.Views.{table_of}
-use Rattle.lexscan.specs.Runs.{RanTo, RanInto}
+use Rattle.lexmeaning.specs.Acting.{Status}
+use Rattle.lexscan.specs.Stands.{RanTo}
+use Rattle.lexscan.specs.Runs.{RanInto}
 use Rattle.lexkit.specs.Headline.{max_reads}
 use Rattle.lexkit.proofs.scan.scan_table.Goals as goal
 
@@ -38,6 +40,6 @@ returns-clause-told g c =
         out = h.1;
         source = h.2;
         sink = h.3;
-        ran = subst (λ N. RanTo (rules_of_machine N) h.0 h.1 b c.in-Ok-run.answer) c.in-Ok-new.ensures.machine h.4;
+        ran = subst (λ N. RanTo (rules_of_machine N) h.0 h.1 b (Status c.in-Ok-run.answer)) c.in-Ok-new.ensures.machine h.4;
       };
     }

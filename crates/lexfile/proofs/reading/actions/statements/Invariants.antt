@@ -7,4 +7,4 @@ use Rattle.lexfile.proofs.Loops.{with_front}
 use Rattle.lexfile.proofs.reading.actions.statements.Given as goal
 
 abbrev pub invariant-loop-i : goal.invariant-loop-i
-invariant-loop-i l = record { low : l.before.literal ≤ 4096; left : l.before.left ≡ l.count - l.i; read : with_front (map statement_of l.read.items) (many (statement_at l.conditions) seen_after (l.count - l.i) (seen_of l.before) l.rest) ≡ many (statement_at l.conditions) seen_after l.count (unseen l.count) l.bytes }
+invariant-loop-i l = record { low : l.before.literal ≤ 4096; left : l.before.left ≡ l.count - l.i; read : with_front (map statement_of l.read.items) (many (statement_at l.conditions) seen_after (l.count - l.i) (seen_of l.before) l.rest) ≡ many (statement_at l.conditions) seen_after l.count (unseen l.stack l.count) l.bytes }

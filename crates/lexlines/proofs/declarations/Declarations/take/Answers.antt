@@ -13,21 +13,21 @@ differs : ◌≡◌ {A = Result (Unit {0}) DefsError} (Ok tt) (Err Duplicate) �
 differs e = cc
 
 pub returns-in-Nothing-clause-found : goal.returns-in-Nothing-clause-found
-returns-in-Nothing-clause-found c = λ how ds h k. rw (ap definition_of c.in-Nothing.is) (adds_nothing nothing refl refl refl how ds c.args.self.now _ refl refl refl h k)
+returns-in-Nothing-clause-found c = λ how ds h k. rw (ap definition_of c.in-Nothing.is) (adds_nothing nothing refl refl refl how ds c.args.self.now _ refl refl refl refl h k)
 
 pub returns-in-Ignored-clause-found : goal.returns-in-Ignored-clause-found
-returns-in-Ignored-clause-found c = λ how ds h k. rw (ap definition_of c.in-Ignored.is) (adds_nothing ignored refl refl refl how ds c.args.self.now _ refl refl refl h k)
+returns-in-Ignored-clause-found c = λ how ds h k. rw (ap definition_of c.in-Ignored.is) (adds_nothing ignored refl refl refl how ds c.args.self.now _ refl refl refl refl h k)
 
 pub returns-in_ok-add_line-in-CodeLine-clause-found : goal.returns-in_ok-add_line-in-CodeLine-clause-found
-returns-in_ok-add_line-in-CodeLine-clause-found c = λ how ds h k. rw (ap definition_of c.in-CodeLine.is) (adds_nothing code_line refl refl refl how ds c.args.self.now _ refl refl refl h k)
+returns-in_ok-add_line-in-CodeLine-clause-found c = λ how ds h k. rw (ap definition_of c.in-CodeLine.is) (adds_nothing code_line refl refl refl how ds c.args.self.now _ refl refl refl refl h k)
 
 pub returns-in_ok-add_block-in-CodeBlock-clause-found : goal.returns-in_ok-add_block-in-CodeBlock-clause-found
-returns-in_ok-add_block-in-CodeBlock-clause-found c = λ how ds h k. rw (ap definition_of c.in-CodeBlock.is) (adds_nothing code_block refl refl refl how ds c.args.self.now _ refl refl refl h k)
+returns-in_ok-add_block-in-CodeBlock-clause-found c = λ how ds h k. rw (ap definition_of c.in-CodeBlock.is) (adds_nothing code_block refl refl refl how ds c.args.self.now _ refl refl refl refl h k)
 
 pub returns-in-Declares-clause-found : goal.returns-in-Declares-clause-found
 returns-in-Declares-clause-found c =
     on_ok c.declare.result _ _ _ (λ same good how ds h k.
-    rw (ap definition_of c.in-Declares.is) (adds_conditions c.in-Declares.exclusive (words c.in-Declares.names.now) how ds c.args.self.now _ same refl refl good h k))
+    rw (ap definition_of c.in-Declares.is) (adds_conditions c.in-Declares.exclusive (words c.in-Declares.names.now) how ds c.args.self.now _ same refl refl refl good h k))
     c.declare.ensures.declared c.declare.ensures.good
 
 pub returns-in-Declares-clause-none : goal.returns-in-Declares-clause-none
@@ -38,7 +38,7 @@ returns-in-Declares-clause-none c =
 
 pub returns-in-Some-clause-found : goal.returns-in-Some-clause-found
 returns-in-Some-clause-found c = λ how ds h k.
-    rw (ap definition_of c.in-Options.is) (adds_options (words c.in-Options.text.now) how ds c.args.self.now _ refl refl (ap (λ z. record { fold = z; posix = c.args.self.now.options.posix }) c.in-Some.ensures.found) c.in-Some.ensures.known h k)
+    rw (ap definition_of c.in-Options.is) (adds_options (words c.in-Options.text.now) how ds c.args.self.now _ refl refl (ap (λ z. record { fold = z; posix = c.args.self.now.options.posix }) c.in-Some.ensures.found) c.with_stack-self.ensures c.in-Some.ensures.known h k)
 
 pub returns-in-None-clause-none : goal.returns-in-None-clause-none
 returns-in-None-clause-none c = λ how ds more h k.
@@ -46,7 +46,7 @@ returns-in-None-clause-none c = λ how ds more h k.
 
 pub returns-in-Ok-clause-found : goal.returns-in-Ok-clause-found
 returns-in-Ok-clause-found c = λ how ds h k.
-    rw (ap definition_of c.in-Defines.is) (adds_name c.in-Defines.name.now c.in-Defines.text.now how ds c.args.self.now _ refl refl c.in-Ok.ensures.ok (λ some. differs (c.in-Ok.ensures.duplicate.1 some)) h k)
+    rw (ap definition_of c.in-Defines.is) (adds_name c.in-Defines.name.now c.in-Defines.text.now how ds c.args.self.now _ refl refl refl c.in-Ok.ensures.ok (λ some. differs (c.in-Ok.ensures.duplicate.1 some)) h k)
 
 pub returns-in-Err-Duplicate-clause-none : goal.returns-in-Err-Duplicate-clause-none
 returns-in-Err-Duplicate-clause-none c = λ how ds more h k.
