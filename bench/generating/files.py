@@ -21,14 +21,14 @@ def words(count):
 
 
 def nothing(rules):
-    """Rules that each use a tree of 65,535 nodes without a position."""
-    names = ['D0 ""'] + [f"D{k} {{D{k - 1}}}{{D{k - 1}}}" for k in range(1, 16)]
-    return "\n".join(names) + "\n%%\n" + "{D15}a ;\n" * rules
+    """Rules that each use a tree of 32,767 nodes without a position."""
+    names = ['D0 ""'] + [f"D{k} {{D{k - 1}}}{{D{k - 1}}}" for k in range(1, 15)]
+    return "\n".join(names) + "\n%%\n" + "{D14}a ;\n" * rules
 
 
 FILES = {f"nested{items}": nested(items) for items in (100, 200, 400, 1000)}
 FILES |= {f"words{count}": words(count) for count in (2_000, 4_096)}
-FILES["nothing16"] = nothing(16)
+FILES |= {f"nothing{rules}": nothing(rules) for rules in (16, 256)}
 
 folder = Path(sys.argv[1])
 for name, text in FILES.items():

@@ -1,15 +1,15 @@
 -- Trees are walked alike where their parts are.
-use Rattle.std.proofs.Common.{◌<◌, ◌≤◌, length, drop, get_or, ◌≡◌, ℕ, zero, suc, ◌+◌, ◌*◌, ◌||◌, Bool, false, List, [], ◌∷◌, ◌++◌, map, Option, refl, sym, ap, ◌∙◌, arith}
+use Rattle.std.proofs.Common.{◌<◌, ◌≤◌, length, drop, get_or, ◌≡◌, ℕ, ◌+◌, ◌*◌, ◌||◌, Bool, false, List, [], ◌∷◌, ◌++◌, map, Option, refl, sym, ap, ◌∙◌, arith}
 use Rattle.std.proofs.Math.Path.{fun_ext}
 use Rattle.std.proofs.lemmas.List.{drop_more, drop_all}
 use Rattle.std.specs.Prelude.{IfOk, Result, Ok, Err}
-use Rattle.lexmeaning.specs.Tree.{Tree, Trees, Empty, Set, Cat, Alt, Star, Repeat, no_trees, tree, trees}
+use Rattle.lexmeaning.specs.Tree.{Tree, Trees, Empty, Cat, Alt, Star, Repeat, tree, trees}
 use Rattle.lexmeaning.specs.Positions.{positions, positions_of, copies}
 use Rattle.lexmeaning.specs.Shapes.{IsSoundTree}
 use Rattle.lexauto.specs.Flow.{is_none, passes, comes, exits, exits_each, exits_some, enters, enters_each, enters_some}
 use Rattle.lexauto.specs.RuleFlow.{reads, each_read, copies_read}
 use Rattle.lexauto.specs.Alike.{Alike, AlikeAll}
-use Rattle.lexauto.specs.Plans.{Plan, plan, plans, tree_in, trees_in, plan_of, IsSized, AreSized}
+use Rattle.lexauto.specs.Plans.{plans, tree_in, trees_in, plan_of, IsSized, AreSized}
 use Rattle.lexauto.specs.declared.layout.Part.{Part}
 use Rattle.lexauto.proofs.Copies.{nothing_left, nothing_comes}
 use Rattle.lexauto.proofs.LetterTests.{nothing_read}

@@ -7,7 +7,7 @@ use Rattle.lexmeaning.specs.Tree.{Tree}
 use Rattle.lexmeaning.specs.Positions.{positions}
 use Rattle.lexauto.specs.Cursors.{Increases, IsCursor, IsFront}
 use Rattle.lexauto.specs.Flow.{exits, enters}
-use Rattle.lexauto.proofs.Numbers.{lists_is, listed_is, listed_ascends, marked_is}
+use Rattle.lexauto.proofs.Numbers.{lists_is, listed_is, marked_is}
 use Rattle.lexauto.specs.Sets.{marked}
 use Rattle.std.specs.Prelude.{◌==◌}
 use Rattle.std.proofs.lemmas.Bool.{cases_Bool, eqb-true, eq-eqb}

@@ -1,9 +1,7 @@
 -- Rules that are laid out are walked like those that they were.
-use Rattle.std.proofs.Common.{◌≡◌, ℕ, zero, suc, ◌+◌, ◌||◌, Bool, List, [], ◌∷◌, ◌++◌, map, length, cond, false, Option, Some, None, refl, sym, ap, subst, ◌∙◌, arith}
-use Rattle.std.specs.Prelude.{IfSome, option_map, ◌↔◌}
-use Rattle.std.proofs.lemmas.Bool.{cond-true}
+use Rattle.std.proofs.Common.{◌≡◌, ℕ, suc, ◌+◌, ◌||◌, Bool, List, [], ◌∷◌, ◌++◌, map, cond, false, Option, Some, None, refl, sym, ap, ◌∙◌}
 use Rattle.lexmeaning.specs.Active.{lists}
-use Rattle.lexmeaning.specs.Text.{Among, Ascending, listed}
+use Rattle.lexmeaning.specs.Text.{listed}
 use Rattle.lexmeaning.specs.Tree.{Tree}
 use Rattle.lexmeaning.specs.Positions.{positions}
 use Rattle.lexmeaning.specs.Spec.{Rule}
@@ -12,7 +10,6 @@ use Rattle.lexauto.specs.Alike.{Alike}
 use Rattle.lexauto.specs.Cursors.{IsFront}
 use Rattle.lexauto.specs.Flow.{exits, enters}
 use Rattle.lexauto.specs.Laid.{shape_of, AlikeTrails, AlikeRules, IsSizedRule, HaveSized}
-use Rattle.lexauto.specs.Plans.{plan_of, tree_in}
 use Rattle.lexauto.specs.RuleFlow.{trail_exits, trail_enters, rule_exits, rule_enters, rules_enter, rules_left, rules_read, reads, trail_reads}
 use Rattle.lexauto.specs.declared.rules.LaidRule.{LaidRule}
 use Rattle.std.proofs.Math.Path.{fun_ext}

@@ -1,5 +1,5 @@
 -- Trees that are walked alike. (This project's.)
-use Rattle.std.specs.Prelude.{◌≡◌, ℕ, Bool}
+use Rattle.std.specs.Prelude.{◌≡◌}
 use Rattle.lexmeaning.specs.Tree.{Tree, Trees}
 use Rattle.lexmeaning.specs.Positions.{positions, positions_of}
 use Rattle.lexauto.specs.Flow.{exits, exits_each, exits_some, enters, enters_each, enters_some}

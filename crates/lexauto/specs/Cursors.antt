@@ -1,5 +1,5 @@
 -- Where a walk stands in an ascending list of positions. (This project's.)
-use Rattle.std.specs.Prelude.{◌≡◌, ℕ, ◌<◌, ◌≤◌, List, length, slice_index}
+use Rattle.std.specs.Prelude.{ℕ, ◌<◌, ◌≤◌, List, length, slice_index}
 use Rattle.lexmeaning.specs.Text.{Among, Ascending}
 
 -- a smaller number comes first, by index

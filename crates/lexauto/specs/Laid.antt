@@ -1,13 +1,13 @@
 -- Rules laid out for walks. (This project's.)
-use Rattle.std.specs.Prelude.{◌≡◌, ℕ, Bool, false, List, [], ◌∷◌, Option, Some, None, IfSome, length, option_map, ⊤}
+use Rattle.std.specs.Prelude.{◌≡◌, false, List, [], ◌∷◌, Option, Some, None, IfSome, length, option_map, ⊤}
 use Rattle.std.specs.Coded.{×_prop, Unit-prop}
 use Rattle.std.proofs.Math.Nat.{ℕ_set}
 use Rattle.lexmeaning.specs.Spec as S
-use Rattle.lexmeaning.specs.Subsets.{positions_of_rule, all_positions}
+use Rattle.lexmeaning.specs.Subsets.{all_positions}
 use Rattle.lexmeaning.specs.Tree.{Tree}
 use Rattle.lexauto.specs.Alike.{Alike}
 use Rattle.lexauto.specs.Plans.{Plan, Plans, Nothing, Letter, Series, Choice, Loop, Copies, no_plans, plan, plan_of, tree_in, IsSized, AreSized}
-use Rattle.lexauto.specs.RuleFlow.{rule_exits, rule_enters, rules_enter, rules_left, rules_read, reads, trail_reads}
+use Rattle.lexauto.specs.RuleFlow.{rules_enter, rules_left, rules_read}
 use Rattle.lexauto.specs.declared.rules.LaidRule.{LaidRule}
 
 -- a rule whose sides are the trees of the laid out ones

@@ -1,9 +1,9 @@
-use Rattle.std.proofs.Common.{rules, ◌≡◌, ◌+◌, ◌<◌, ◌≤◌, ◌++◌, ◌∷◌, [], List, length, map, drop, arith, refl, sym, ap, subst, ◌∙◌}
-use Rattle.lexmeaning.specs.Positions.{positions, positions_of, copies}
+use Rattle.std.proofs.Common.{rules, ◌≡◌, ◌+◌, ◌≤◌, ◌++◌, ◌∷◌, [], List, length, map, drop, arith, sym, ap, subst, ◌∙◌}
+use Rattle.lexmeaning.specs.Positions.{positions, positions_of}
 use Rattle.lexmeaning.specs.Tree.{Tree, Trees, trees, Cat, Alt, Star, Repeat}
 use Rattle.lexre.specs.Views.{tree_of}
 use Rattle.lexauto.specs.Alike.{Alike, AlikeAll}
-use Rattle.lexauto.specs.Plans.{plan_of, plans, tree_in, trees_in, IsSized, AreSized}
+use Rattle.lexauto.specs.Plans.{plan_of, plans, tree_in, trees_in, AreSized}
 use Rattle.lexauto.specs.declared.layout.Part.{Part}
 use Rattle.lexauto.proofs.AlikeLaws.{laid_trees, laid_are, none_after, sized_more, are_sized_more, drop_one, drop_none, alike_more, alike_nothing, alike_series, alike_choice, alike_star, alike_repeat, if_ok_by}
 use Rattle.lexre.specs.declared.pattern.Pattern.TheFolds as P

@@ -1,6 +1,6 @@
-use Rattle.std.proofs.Common.{rules, ◌≡◌, ◌+◌, ◌-◌, ◌<◌, ◌||◌, Bool, sym, ◌∙◌, ap}
+use Rattle.std.proofs.Common.{rules, ◌+◌, ◌-◌, ◌<◌, ◌||◌, Bool, sym, ◌∙◌, ap}
 use Rattle.lexmeaning.specs.Positions.{positions}
-use Rattle.lexauto.specs.Plans.{plan_of, plans, tree_in, trees_in}
+use Rattle.lexauto.specs.Plans.{plan_of, tree_in}
 use Rattle.lexmeaning.specs.Text.{flag}
 use Rattle.lexauto.specs.RuleFlow.{copies_read, reads}
 use Rattle.lexauto.proofs.Copies.{copy_place, or_assoc}

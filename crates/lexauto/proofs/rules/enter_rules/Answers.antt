@@ -1,4 +1,4 @@
-use Rattle.std.proofs.Common.{rules, ◌≡◌, ◌≤◌, ◌+◌, ◌||◌, ℕ, Bool, List, [], length, map, drop, arith, sym, ap, subst, ◌∙◌}
+use Rattle.std.proofs.Common.{rules, ◌≡◌, ◌≤◌, ◌+◌, ◌||◌, ℕ, Bool, List, [], length, map, drop, arith, sym, subst, ◌∙◌}
 use Rattle.lexmeaning.specs.Active.{lists}
 use Rattle.lexmeaning.specs.Spec.{Rule}
 use Rattle.lexmeaning.specs.Subsets.{all_positions}

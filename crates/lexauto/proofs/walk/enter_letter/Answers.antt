@@ -1,4 +1,4 @@
-use Rattle.std.proofs.Common.{◌≡◌, ◌+◌, ◌≤◌, ℕ, List, Vec, Global, arith, sym, ap, subst, ◌∙◌}
+use Rattle.std.proofs.Common.{◌+◌, ℕ, List, Vec, Global, arith, sym, ap, subst, ◌∙◌}
 use Rattle.lexauto.specs.Cursors.{IsFront}
 use Rattle.lexauto.proofs.CursorLaws.{front_more, front_wider}
 use Rattle.lexauto.proofs.walk.enter_letter.Goals.{then-entered+in_ok-push, else-entered}

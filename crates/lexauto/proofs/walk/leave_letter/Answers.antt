@@ -1,4 +1,4 @@
-use Rattle.std.proofs.Common.{◌≡◌, ◌+◌, ◌<◌, ◌≤◌, arith, sym}
+use Rattle.std.proofs.Common.{◌+◌, arith, sym}
 use Rattle.lexauto.proofs.CursorLaws.{none_before}
 use Rattle.lexauto.proofs.walk.leave_letter.Goals as goal
 

@@ -1,6 +1,5 @@
-use Rattle.std.proofs.Common.{◌≡◌, ◌<◌, ℕ, Bool, List, length, map, sym, ap, ◌∙◌}
+use Rattle.std.proofs.Common.{List, length, map, sym, ap, ◌∙◌}
 use Rattle.lexmeaning.specs.Subsets.{all_positions}
-use Rattle.lexspec.specs.RuleViews.{rule_of}
 use Rattle.lexspec.specs.Views.{spec_of}
 use Rattle.lexauto.specs.Laid.{shape_of}
 use Rattle.lexauto.specs.RuleFlow.{rules_enter, rules_left, rules_read}

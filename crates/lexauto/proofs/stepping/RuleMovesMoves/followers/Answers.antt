@@ -1,7 +1,7 @@
 use Rattle.std.proofs.Common.{rules, ◌≡◌, ℕ, Bool, List, length, map, IfOk, sym, ap, subst, ◌∙◌}
 use Rattle.lexmeaning.specs.Active.{lists}
 use Rattle.lexmeaning.specs.Subsets.{all_positions}
-use Rattle.lexmeaning.specs.Text.{flag, listed}
+use Rattle.lexmeaning.specs.Text.{flag}
 use Rattle.lexspec.specs.Views.{spec_of, rules_in}
 use Rattle.lexauto.specs.Laid.{shape_of}
 use Rattle.lexauto.specs.RuleFlow.{rules_enter}
