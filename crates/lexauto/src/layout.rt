@@ -7,6 +7,7 @@ ghost use Rattle.lexre.specs.Views.{tree_of};
 ghost use Rattle.lexauto.specs.Alike.{Alike, AlikeAll};
 ghost use Rattle.lexauto.specs.Plans.{plan_of, plans, tree_in, trees_in, IsSized, AreSized};
 
+use crate::walk::copies_of;
 use lexclass::ByteSet;
 use lexre::Pattern;
 use std::alloc::{AllocError, Global};
@@ -52,16 +53,6 @@ struct Row {
     size: u32,
 }
 
-/// How many copies of its inner pattern a repetition counts.
-fn copies_of(least: u8, most: Option<u8>) -> u8
-    ensures { result ≡ copies least most }
-{
-    match most {
-        Some(most) => most,
-        None => least.max(1),
-    }
-}
-
 fn star(alloc: Global, inner: Part) -> Result<Part, AllocError>
     requires sized { IsSized (plan_of inner) }
     ensures sized { IfOk result (λ p. IsSized (plan_of p)) }
@@ -77,7 +68,7 @@ fn repeat(alloc: Global, inner: Part, least: u8, most: Option<u8>) -> Result<Par
     ensures sized { IfOk result (λ p. IsSized (plan_of p)) }
     ensures tree { IfOk result (λ p. tree_in (plan_of p) ≡ Repeat (tree_in (plan_of inner)) least most) }
 {
-    let size = u32::from(copies_of(least, most)) * inner.size();
+    let size = u32::from(copies_of(least, most).count) * inner.size();
     Ok(Part::Repeat(size, Box::new(alloc, inner)?, least, most))
 }
 
