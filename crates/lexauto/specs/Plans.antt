@@ -1,5 +1,5 @@
 -- Trees laid out for walks: with how many positions each part has. (This project's.)
-use Rattle.std.specs.Prelude.{◌≡◌, ℕ, ◌*◌, List, [], ◌∷◌, Option, ⊤}
+use Rattle.std.specs.Prelude.{◌≡◌, ℕ, ◌*◌, List, [], ◌∷◌, map, Option, ⊤}
 use Rattle.lexmeaning.specs.ByteSets.{ByteSet}
 use Rattle.lexmeaning.specs.Tree.{Tree, Trees, Empty, Set, Cat, Alt, Star, Repeat, no_trees, tree}
 use Rattle.lexmeaning.specs.Positions.{positions, positions_of, copies}
@@ -69,3 +69,7 @@ node_plan (Part-F.Repeat n inner m k) = Copies n inner.value m k
 
 abbrev pub plan_of : Part → Plan
 plan_of = fold-Part Plan node_plan
+
+-- the trees of parts
+abbrev pub trees_laid : List Part → List Tree
+trees_laid ps = map (λ p. tree_in (plan_of p)) ps

@@ -1,11 +1,11 @@
 //! Patterns laid out for walks: each part with how many positions it has.
-ghost use Rattle.std.specs.Prelude.{◌≡◌, ◌+◌, ◌*◌, ◌<◌, ◌≤◌, ◌^◌, length, map, IfOk};
+ghost use Rattle.std.specs.Prelude.{◌≡◌, true, ◌+◌, ◌*◌, ◌<◌, ◌≤◌, ◌^◌, List, ◌∷◌, ◌++◌, length, map, IfOk, OnOk};
 ghost use Rattle.lexmeaning.specs.Positions.{positions, positions_of, copies};
 ghost use Rattle.lexmeaning.specs.Shapes.{IsSoundTree, AreSoundTrees};
-ghost use Rattle.lexmeaning.specs.Tree.{trees, Star, Repeat};
+ghost use Rattle.lexmeaning.specs.Tree.{Tree, Trees, trees, Empty, Star, Repeat};
 ghost use Rattle.lexre.specs.Views.{tree_of};
-ghost use Rattle.lexauto.specs.Alike.{Alike, AlikeAll};
-ghost use Rattle.lexauto.specs.Plans.{plan_of, plans, tree_in, trees_in, IsSized, AreSized};
+ghost use Rattle.lexauto.specs.Alike.{Alike, AlikeAll, AddsNothing};
+ghost use Rattle.lexauto.specs.Plans.{plan_of, plans, tree_in, trees_in, trees_laid, IsSized, AreSized};
 
 use crate::walk::copies_of;
 use lexclass::ByteSet;
@@ -44,13 +44,46 @@ impl Part {
             Part::Repeat(size, _, _, _) => *size,
         }
     }
+
+    /// Whether nothing was laid out, since there is no position.
+    fn is_nothing(&self) -> bool
+        ensures { result ≡ true → tree_in (plan_of self.now) ≡ Empty }
+    {
+        matches!(self, Part::Nothing)
+    }
 }
 
-/// Parts laid out, and how many positions they have together.
+/// Parts laid out, how many positions they have together, and whether the last of them has none.
 #[derive(Drop)]
 struct Row {
     parts: Vec<Part>,
     size: u32,
+    ends_empty: bool,
+}
+
+impl Row {
+    /// Adds a part. Of parts without positions that stand side by side, one is kept.
+    fn add(&mut self, part: Part) -> Result<(), AllocError>
+        requires sized { AreSized (plans (map plan_of self.old.parts.items)) }
+        requires part { IsSized (plan_of part) }
+        requires few { self.old.size + positions (tree_in (plan_of part)) < 2 ^ 32 }
+        requires empty { self.old.ends_empty ≡ true → AddsNothing (trees_laid self.old.parts.items) Empty }
+        ensures sized { OnOk result (AreSized (plans (map plan_of self.new.parts.items))) }
+        ensures size { OnOk result (self.new.size ≡ self.old.size + positions (tree_in (plan_of part))) }
+        ensures count { OnOk result (self.old.size ≡ positions_of (trees_in (plans (map plan_of self.old.parts.items))) → self.new.size ≡ positions_of (trees_in (plans (map plan_of self.new.parts.items)))) }
+        ensures empty { OnOk result (self.new.ends_empty ≡ true → AddsNothing (trees_laid self.new.parts.items) Empty) }
+        ensures alike { OnOk result ((t : Tree) (rest : List Tree) (whole : Trees) → Alike (tree_in (plan_of part)) t
+            → AlikeAll (trees (trees_laid self.old.parts.items ++ t ∷ rest)) whole → AlikeAll (trees (trees_laid self.new.parts.items ++ rest)) whole) }
+    {
+        let is_empty = part.is_nothing();
+        if is_empty && self.ends_empty {
+            return Ok(());
+        }
+        self.ends_empty = is_empty;
+        self.size += part.size();
+        self.parts.push(part)?;
+        Ok(())
+    }
 }
 
 fn star(alloc: Global, inner: Part) -> Result<Part, AllocError>
@@ -124,12 +157,14 @@ fn lay_all(alloc: Global, parts: &[Pattern]) -> Result<Row, AllocError>
     ensures size { IfOk result (λ r. r.size ≡ positions_of (trees_in (plans (map plan_of r.parts.items)))) }
     ensures alike { IfOk result (λ r. AlikeAll (trees_in (plans (map plan_of r.parts.items))) (trees (map tree_of parts.now))) }
 {
-    let mut laid = Vec::new(alloc);
-    let mut size = 0;
+    let mut row = Row {
+        parts: Vec::new(alloc),
+        size: 0,
+        ends_empty: false,
+    };
     for part in parts {
         let part = lay(alloc, part)?;
-        size += part.size();
-        laid.push(part)?;
+        row.add(part)?;
     }
-    Ok(Row { parts: laid, size })
+    Ok(row)
 }

@@ -3,9 +3,9 @@ use Rattle.lexmeaning.specs.Positions.{positions, positions_of}
 use Rattle.lexmeaning.specs.Tree.{Tree, Trees, trees, Cat, Alt, Star, Repeat}
 use Rattle.lexre.specs.Views.{tree_of}
 use Rattle.lexauto.specs.Alike.{Alike, AlikeAll}
-use Rattle.lexauto.specs.Plans.{plan_of, plans, tree_in, trees_in, AreSized}
+use Rattle.lexauto.specs.Plans.{plan_of, plans, tree_in, trees_in, trees_laid, AreSized}
 use Rattle.lexauto.specs.declared.layout.Part.{Part}
-use Rattle.lexauto.proofs.AlikeLaws.{laid_trees, laid_are, none_after, sized_more, are_sized_more, drop_one, drop_none, alike_more, alike_nothing, alike_series, alike_choice, alike_star, alike_repeat, if_ok_by}
+use Rattle.lexauto.proofs.AlikeLaws.{laid_are, none_after, drop_one, drop_none, alike_nothing, alike_series, alike_choice, alike_star, alike_repeat, if_ok_by}
 use Rattle.lexre.specs.declared.pattern.Pattern.TheFolds as P
 use Rattle.lexauto.specs.declared.layout.Part.TheFolds as L
 use Rattle.lexauto.proofs.layout.+lay.Goals as goal
@@ -17,33 +17,29 @@ lay-returns-then-size-eq0-clause-alike t c =
 
 pub lay_all-loop-part-preserved : goal.lay_all-loop-part-preserved
 lay_all-loop-part-preserved t c =
-    let laid = c.loop-part.laid.items in
-    let part = c.in_ok-part.part in
     let i = c.loop-part.part-index in
     let rest : map tree_of (drop i c.args.parts.now) ≡ tree_of c.part-item.result ∷ map tree_of (drop (i + 1) c.args.parts.now) = drop_one tree_of c.args.parts.now i c.part-item.result c.loop-part-test.true c.part-item.is in
-    let items : c.push.new.self.items ≡ laid ++ part ∷ [] = c.in_ok-push.ensures.items in
-    let here : c.size-size.result ≡ positions (tree_in (plan_of part)) = c.size-size.ensures in
-    let same : positions (tree_in (plan_of part)) ≡ positions (tree_of c.part-item.result) = c.in_ok-part.ensures.alike.size in
+    let same : positions (tree_in (plan_of c.in_ok-part.part)) ≡ positions (tree_of c.part-item.result) = c.in_ok-part.ensures.alike.size in
     let sum : positions_of (trees (map tree_of (drop i c.args.parts.now))) ≡ positions (tree_of c.part-item.result) + positions_of (trees (map tree_of (drop (i + 1) c.args.parts.now))) = ap (λ ts. positions_of (trees ts)) rest in
     let before = c.loop-part.invariant.total in
+    let grown = c.in_ok-add.ensures.size in
     record {
       sound = search rules;
-      sized = subst (λ (ps : List Part). AreSized (plans (map plan_of ps))) (sym items) (are_sized_more laid part c.loop-part.invariant.sized c.in_ok-part.ensures.sized);
-      size = ap (λ n. n + c.size-size.result) c.loop-part.invariant.size ∙ ap (λ n. positions_of (trees_in (plans (map plan_of laid))) + n) here ∙ sym (sized_more laid part)
-          ∙ ap (λ (ps : List Part). positions_of (trees_in (plans (map plan_of ps)))) (sym items);
-      total = omega (arith, here, same, sum, before);
-      alike = subst (λ (ps : List Part). AlikeAll (trees (laid_trees ps ++ map tree_of (drop (i + 1) c.args.parts.now))) (trees (map tree_of c.args.parts.now))) (sym items)
-          (alike_more laid part (tree_of c.part-item.result) (map tree_of (drop (i + 1) c.args.parts.now)) (trees (map tree_of c.args.parts.now)) c.in_ok-part.ensures.alike
-          (subst (λ (ts : List Tree). AlikeAll (trees (laid_trees laid ++ ts)) (trees (map tree_of c.args.parts.now))) rest c.loop-part.invariant.alike));
+      sized = c.in_ok-add.ensures.sized;
+      size = c.in_ok-add.ensures.count c.loop-part.invariant.size;
+      total = omega (arith, same, sum, before, grown);
+      empty = c.in_ok-add.ensures.empty;
+      alike = c.in_ok-add.ensures.alike (tree_of c.part-item.result) (map tree_of (drop (i + 1) c.args.parts.now)) (trees (map tree_of c.args.parts.now)) c.in_ok-part.ensures.alike
+          (subst (λ (ts : List Tree). AlikeAll (trees (trees_laid c.loop-part.row.parts.items ++ ts)) (trees (map tree_of c.args.parts.now))) rest c.loop-part.invariant.alike);
     }
 
 pub lay_all-returns-clause-alike : goal.lay_all-returns-clause-alike
 lay_all-returns-clause-alike t c =
-    let laid = c.loop-part.laid.items in
+    let laid = c.loop-part.row.parts.items in
     let done : length c.args.parts.now ≤ c.loop-part.part-index = search rules in
     let none = drop_none tree_of c.args.parts.now c.loop-part.part-index done in
-    let all = subst (λ (ts : List Tree). AlikeAll (trees (laid_trees laid ++ ts)) (trees (map tree_of c.args.parts.now))) none c.loop-part.invariant.alike in
-    subst (λ (ts : Trees). AlikeAll ts (trees (map tree_of c.args.parts.now))) (ap trees (none_after (laid_trees laid)) ∙ laid_are laid) all
+    let all = subst (λ (ts : List Tree). AlikeAll (trees (trees_laid laid ++ ts)) (trees (map tree_of c.args.parts.now))) none c.loop-part.invariant.alike in
+    subst (λ (ts : Trees). AlikeAll ts (trees (map tree_of c.args.parts.now))) (ap trees (none_after (trees_laid laid)) ∙ laid_are laid) all
 
 pub lay_node-returns-in_ok-row-in-Cat-clause-alike : goal.lay_node-returns-in_ok-row-in-Cat-clause-alike
 lay_node-returns-in_ok-row-in-Cat-clause-alike t c =
