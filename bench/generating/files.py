@@ -22,8 +22,8 @@ def words(count):
 
 def nothing(rules):
     """Rules that each use a tree of 32,767 nodes without a position."""
-    names = ['D0 ""'] + [f"D{k} {{D{k - 1}}}{{D{k - 1}}}" for k in range(1, 15)]
-    return "\n".join(names) + "\n%%\n" + "{D14}a ;\n" * rules
+    names = ['N0 ""'] + [f"N{k} {{N{k - 1}}}{{N{k - 1}}}" for k in range(1, 15)]
+    return "\n".join(names) + "\n%%\n" + "{N14}a ;\n" * rules
 
 
 FILES = {f"nested{items}": nested(items) for items in (100, 200, 400, 1000)}

@@ -16,8 +16,8 @@ def defined(lines, rules):
 
 def doubling(first, times):
     """Names of which each stands for the one before it twice."""
-    lines = [("D0", first)] + [(f"D{k}", f"{{D{k - 1}}}{{D{k - 1}}}") for k in range(1, times)]
-    return lines + [("D", f"{{D{times - 1}}}{{D{times - 1}}}")]
+    lines = [("N0", first)] + [(f"N{k}", f"{{N{k - 1}}}{{N{k - 1}}}") for k in range(1, times)]
+    return lines + [("D", f"{{N{times - 1}}}{{N{times - 1}}}")]
 
 
 FILES = {
