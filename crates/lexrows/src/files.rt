@@ -18,7 +18,16 @@ struct Outputs {
 
 /// The table file and the reports of a specification.
 fn made(alloc: Global, text: &str) -> Result<Outputs, GenError> {
-    let generated = generate(alloc, text.as_bytes(), Options::new())?;
+    made_by(alloc, text, false)
+}
+
+/// The same, with intervals over series or not.
+fn made_by(alloc: Global, text: &str, posix: bool) -> Result<Outputs, GenError> {
+    let options = Options {
+        posix,
+        ..Options::new()
+    };
+    let generated = generate(alloc, text.as_bytes(), options)?;
     let mut file = MemorySink::new(alloc);
     let mut warnings = MemorySink::new(alloc);
     let mut backup = MemorySink::new(alloc);
@@ -115,7 +124,7 @@ fn counts_as_worked(rt: HostRuntime) -> Result<(), Fail> {
     Ok(())
 }
 
-/// The first two of a row have equal rules, and the third has others.
+/// The two of a row have equal rules.
 #[test]
 fn equal_rules_have_equal_files(rt: HostRuntime) -> Result<(), Fail> {
     let rows = &[
@@ -131,12 +140,19 @@ fn equal_rules_have_equal_files(rt: HostRuntime) -> Result<(), Fail> {
             "%%\nx printf(\"[\"); ECHO; printf(\"]\");\n",
         ),
         ("D [0-9]\n%%\n{D}{2} ;\n", "%%\n[0-9][0-9] ;\n"),
+        (
+            "%option stack\n%x C\n%%\n\"(\" printf(\"<\"); yy_push_state(C);\n<C>\"(\" printf(\"<\"); yy_push_state(C);\n<C>\")\" printf(\">\"); yy_pop_state();\n",
+            "%option stack\n%x Paren\n\n%%\n\n\"(\" printf(\"<\"); yy_push_state(Paren);\n\n<Paren>\"(\" printf(\"<\"); yy_push_state(Paren);\n<Paren>\")\" printf(\">\"); yy_pop_state();\n",
+        ),
     ];
     for &(text, again) in rows {
         let first = made(rt.alloc(), text)?;
         let second = made(rt.alloc(), again)?;
         assert_eq!(rt; first.file.written(), second.file.written(), "{text}");
     }
+    let first = made(rt.alloc(), "%%\nabab ECHO;\n")?;
+    let second = made_by(rt.alloc(), "%%\nab{2} ECHO;\n", true)?;
+    assert_eq!(rt; first.file.written(), second.file.written());
     let first = made(rt.alloc(), "%%\na ;\nb ECHO;\n")?;
     let second = made(rt.alloc(), "%%\nb ECHO;\na ;\n")?;
     assert!(rt; first.file.written() != second.file.written());
