@@ -262,6 +262,25 @@ fn definitions(rt: HostRuntime) -> Result<(), Fail> {
     Ok(())
 }
 
+/// A name that finds no room is not added, and those before it stay (`scripts/refuse-memory.py` refuses the room).
+#[test]
+fn refused_definitions(rt: HostRuntime) -> Result<(), Fail> {
+    const NAMES: &[&[u8]] = &[b"a", b"b", b"c", b"d", b"e", b"f", b"g", b"h", b"i"];
+    let mut defs = Defs::new(rt.alloc());
+    for (at, &name) in NAMES.iter().enumerate() {
+        if let Err(error) = defs.add(name, b"[0-9]") {
+            assert_eq!(rt; error, DefsError::OutOfMemory);
+            assert!(rt; defs.find(name).is_none());
+            for &before in &NAMES[..at] {
+                assert!(rt; defs.find(before) == Some(b"[0-9]"));
+            }
+            return Ok(());
+        }
+    }
+    assert_eq!(rt; defs.add(b"a", b"x"), Err(DefsError::Duplicate));
+    Ok(())
+}
+
 // A text, where its pattern ends, the first slash, whether there is a second, and whether a special `$` ends it.
 const CUTTINGS: [(&[u8], usize, Option<usize>, bool, bool); 16] = [
     (b"", 0, None, false, false),

@@ -18,6 +18,8 @@ mod machines;
 #[cfg(test)]
 mod manual;
 #[cfg(test)]
+mod refused;
+#[cfg(test)]
 mod reports;
 #[cfg(test)]
 mod row;

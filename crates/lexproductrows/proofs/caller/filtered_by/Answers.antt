@@ -3,8 +3,8 @@ use Rattle.std.specs.Io.KnownBytes.{Appends}
 use Rattle.lexmeaning.specs.Machine.{rules_of_machine}
 use Rattle.lextab.specs.Machines.{machine_of}
 use Rattle.lexends.specs.Source.{Gives}
-use Rattle.lexrows.proofs.Filtering.{runs}
-use Rattle.lexrows.proofs.caller.filtered_by.Goals as goal
+use Rattle.lexproductrows.proofs.Filtering.{runs}
+use Rattle.lexproductrows.proofs.caller.filtered_by.Goals as goal
 
 pub returns : goal.returns
 returns g c =

@@ -2,7 +2,7 @@
 ghost use Rattle.std.specs.Prelude.{IfOk};
 ghost use Rattle.lexmeaning.specs.Machine.{rules_of_machine};
 ghost use Rattle.lextab.specs.Machines.{machine_of};
-ghost use Rattle.lexrows.specs.Filtered.{Filtered, FilteredBy};
+ghost use Rattle.lexproductrows.specs.Filtered.{Filtered, FilteredBy};
 
 use lexkit::{FromRead, Options, RunError, ScanError, Tables, ToWrite, scan_spec};
 use lexscan::run;

@@ -4,8 +4,8 @@ use Rattle.lexmeaning.specs.Rules.{rules_of}
 use Rattle.lexspec.specs.Files.{SpellsSpec}
 use Rattle.lexends.specs.Source.{Gives}
 use Rattle.lexkit.specs.Headline.{reading}
-use Rattle.lexrows.proofs.Filtering.{runs}
-use Rattle.lexrows.proofs.caller.filtered.Goals as goal
+use Rattle.lexproductrows.proofs.Filtering.{runs}
+use Rattle.lexproductrows.proofs.caller.filtered.Goals as goal
 
 pub returns : goal.returns
 returns g c =
