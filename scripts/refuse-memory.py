@@ -1,11 +1,13 @@
 #!/usr/bin/env python3
 """Runs the program lex with the Nth request for memory refused, for N = 1, 2, .. until a run meets no refusal, and holds each run
 to the manual: either it ends as it does without a refusal, or with status 71 and `lex: out of memory`, and then what it wrote
-is a front of what it writes else, and a table file that was begun is no whole one.
+is a front of what it writes else, and a table file that was begun is no whole one. Each test whose name begins with `refused_` is
+run in the same way: it ends well, or fails with an error that says that memory ran out.
 
-    scripts/refuse-memory.py LEX
+    scripts/refuse-memory.py LEX [TESTS..]
 
-LEX is the program as LLVM links it, as crates/lex/out/lex. The requests are those to the C library: a small library
+LEX is the program as LLVM links it, as crates/lex/out/lex, and TESTS are tests that are linked so, as
+crates/lexproductrows/out/lexproductrows_tests. The requests are those to the C library: a small library
 that counts them and refuses the Nth is made by cc in a folder of its own. It is no part of the gate."""
 import os
 import subprocess
@@ -106,8 +108,34 @@ def fault(whole, got):
     return None
 
 
+def fault_of_test(whole, got):
+    """What is wrong with a test in which a request was refused, if anything."""
+    if got[0] == whole[0]:
+        return None
+    told = b"".join([got[2], *got[1]])
+    return None if b"OutOfMemory" in told or b"AllocError" in told else f"status {got[0]}, {told[-200:]!r}"
+
+
+def all_requests(name, program, folder, words, given, fault):
+    """Runs the program with each request refused in turn, and answers how many runs were wrong."""
+    whole = run(program, folder, words, given, 0)
+    nth, borne, faults = 1, 0, 0
+    while True:
+        got = run(program, folder, words, given, nth)
+        if not got[3]:
+            break
+        wrong = fault(whole, got)
+        borne += got[0] == whole[0]
+        if wrong:
+            faults += 1
+            print(f"{name}, request {nth}: {wrong}")
+        nth += 1
+    print(f"{name}: {nth - 1} requests, {nth - 1 - borne} runs ended for want of memory, {borne} as without a refusal")
+    return faults
+
+
 def main():
-    lex = str(Path(sys.argv[1]).resolve())
+    lex, *tests = [str(Path(it).resolve()) for it in sys.argv[1:]]
     faults = 0
     with tempfile.TemporaryDirectory() as at:
         folder = Path(at)
@@ -117,19 +145,12 @@ def main():
         subprocess.run([lex, "-o", "table", "spec"], cwd=folder, check=True)
         for name, text, words, given in RUNS:
             (folder / "spec").write_text(text)
-            whole = run(lex, folder, words, given, 0)
-            nth, borne = 1, 0
-            while True:
-                got = run(lex, folder, words, given, nth)
-                if not got[3]:
-                    break
-                wrong = fault(whole, got)
-                borne += got[0] == whole[0]
-                if wrong:
-                    faults += 1
-                    print(f"{name}, request {nth}: {wrong}")
-                nth += 1
-            print(f"{name}: {nth - 1} requests, {nth - 1 - borne} runs ended for want of memory, {borne} as without a refusal")
+            faults += all_requests(name, lex, folder, words, given, fault)
+        for program in tests:
+            listed = subprocess.run([program, "--list"], capture_output=True, check=True, text=True).stdout
+            names = [line.removesuffix(": test") for line in listed.splitlines() if "::refused_" in line]
+            for name in names:
+                faults += all_requests(name, program, folder, [name], b"", fault_of_test)
     print(f"faults: {faults}")
     return 1 if faults else 0
 
