@@ -15,7 +15,7 @@ pub enum Failure {
 }
 
 impl Failure {
-    /// What is told of it.
+    /// The fault that is reported.
     pub fn fault(&self) -> Fault<'_>
         ensures { Tells self.now result }
     {

@@ -68,7 +68,7 @@ fn scan(rt: &HostRuntime, by: By<'_>) -> Result<u8, Failure> {
         By::Table(bytes) => scan_table(rt.alloc(), bytes, &mut source, &mut sink),
     };
     if result.is_err() {
-        // What was written before the fault is still to be seen, and the fault is told in any case.
+        // What was written before the fault is still to be seen, and the fault is reported in any case.
         let _ = sink.flush();
     }
     Ok(result?)

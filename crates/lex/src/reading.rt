@@ -15,7 +15,7 @@ const MAX_SPEC: u64 = 1_048_576;
 /// The bytes of the longest table file.
 const MAX_TABLE: u64 = 268_435_456;
 
-/// Reads on until the text has so many bytes. `-` is standard input.
+/// Reads on until the text has this many bytes. `-` is standard input.
 fn read_more(rt: &HostRuntime, name: &str, most: u64, text: &mut Vec<u8>) -> io::Result<()> {
     let room = most.saturating_sub(text.len() as u64);
     if name == "-" {
@@ -26,7 +26,7 @@ fn read_more(rt: &HostRuntime, name: &str, most: u64, text: &mut Vec<u8>) -> io:
     Ok(())
 }
 
-/// What is told of a file that cannot be read.
+/// The failure that is reported for a file that cannot be read.
 fn unread(error: ErrorKind, name: String) -> Failure
     ensures { (result ≡ out_of_memory) ⊎ (result ≡ Failure.File name) }
 {

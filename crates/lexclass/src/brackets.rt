@@ -5,7 +5,7 @@ ghost use Rattle.lexclass.specs.Lexical.{literal_byte_at, enclosed_at, letters_a
 ghost use Rattle.lexclass.specs.Stops.{stop_of};
 
 use crate::classes::Class;
-use crate::error::{Fault, PatternErrorKind};
+use crate::error::{FaultAt, PatternErrorKind};
 use crate::escapes::literal_byte_at;
 use crate::fronts::{skip_word, take_up_to};
 
@@ -80,7 +80,7 @@ pub fn skip_unsupported<'a>(text: &'a [u8], stop: &[u8]) -> Option<&'a [u8]>
 
 /// A byte of a class, and what follows it: an escape, or any byte but a newline. `class` is the text from the class on, at
 /// which a class that is not closed is reported.
-pub fn class_byte_at<'a>(class: &'a [u8], text: &'a [u8]) -> Result<(u8, &'a [u8]), Fault<'a>>
+pub fn class_byte_at<'a>(class: &'a [u8], text: &'a [u8]) -> Result<(u8, &'a [u8]), FaultAt<'a>>
     ensures found { MatchResult result
         (λ x. ◌≡◌ {A = Option (ℕ × List ℕ)} (literal_byte_at text.now) (Some (x.0, x.1.now)))
         (λ _. ◌≡◌ {A = Option (ℕ × List ℕ)} (literal_byte_at text.now) None) }
@@ -88,11 +88,11 @@ pub fn class_byte_at<'a>(class: &'a [u8], text: &'a [u8]) -> Result<(u8, &'a [u8
 {
     match literal_byte_at(text) {
         Some(found) => Ok(found),
-        None if text.starts_with(b"\\") => Err(Fault {
+        None if text.starts_with(b"\\") => Err(FaultAt {
             kind: PatternErrorKind::BadEscape,
             rest: text,
         }),
-        None => Err(Fault {
+        None => Err(FaultAt {
             kind: PatternErrorKind::UnclosedClass,
             rest: class,
         }),

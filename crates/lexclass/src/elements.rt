@@ -6,7 +6,7 @@ ghost use Rattle.lexclass.specs.Faults.{IsByteFault, HasPartFault};
 ghost use Rattle.lexclass.specs.Stops.{stop_of};
 
 use crate::brackets::{class_byte_at, named_at, next_stop, skip_unsupported};
-use crate::error::{Fault, PatternErrorKind};
+use crate::error::{FaultAt, PatternErrorKind};
 use crate::parts::Part;
 
 /// `[:name:]`, or what is like it and not supported, and what follows it. `stop` is the text from its first `]` or newline on.
@@ -20,7 +20,7 @@ fn bracketed_at<'a>(text: &'a [u8], stop: &[u8]) -> Option<(Part<'a>, &'a [u8])>
         return Some((Part::Named(letters), rest));
     }
     let rest = skip_unsupported(text, stop)?;
-    let fault = Fault {
+    let fault = FaultAt {
         kind: PatternErrorKind::UnsupportedBracket,
         rest: text,
     };
@@ -47,7 +47,7 @@ fn range_at<'a>(
     low: u8,
     text: &'a [u8],
     stop: &'a [u8],
-) -> Result<(Part<'a>, &'a [u8]), Fault<'a>>
+) -> Result<(Part<'a>, &'a [u8]), FaultAt<'a>>
     requires { length stop.now ≤ length text.now → stop.now ≡ stop_of text.now }
     ensures found { MatchResult result
         (λ x. ◌≡◌ {A = Option (Element × List ℕ)} (range_at low text.now) (Some (element_of x.0, x.1.now)))
@@ -57,14 +57,14 @@ fn range_at<'a>(
 {
     match bracketed_at(text, next_stop(stop, text)) {
         Some((Part::Named(_), rest)) => {
-            let fault = Fault {
+            let fault = FaultAt {
                 kind: PatternErrorKind::BadRange,
                 rest: range,
             };
             Ok((Part::Refused(fault), rest))
         }
         Some((_, rest)) => {
-            let fault = Fault {
+            let fault = FaultAt {
                 kind: PatternErrorKind::UnsupportedBracket,
                 rest: text,
             };
@@ -84,7 +84,7 @@ pub fn element_at<'a>(
     class: &'a [u8],
     text: &'a [u8],
     stop: &'a [u8],
-) -> Result<(Part<'a>, &'a [u8]), Fault<'a>>
+) -> Result<(Part<'a>, &'a [u8]), FaultAt<'a>>
     requires { stop.now ≡ stop_of text.now }
     ensures found { MatchResult result
         (λ x. ◌≡◌ {A = Option (Element × List ℕ)} (element_at text.now) (Some (element_of x.0, x.1.now)))

@@ -44,7 +44,7 @@ pub enum PatternErrorKind {
 }
 
 impl PatternErrorKind {
-    /// Its name, as it is told.
+    /// Its name, as messages have it.
     pub fn name(self) -> &'static str
         ensures { result.now ≡ pattern_name self }
     {
@@ -103,7 +103,7 @@ pub struct PatternError {
 
 /// A fault, and the text from its place on.
 #[derive(Clone, Copy)]
-pub struct Fault<'a> {
+pub struct FaultAt<'a> {
     pub kind: PatternErrorKind,
     pub rest: &'a [u8],
 }

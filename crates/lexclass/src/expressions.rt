@@ -8,7 +8,7 @@ ghost use Rattle.lexclass.specs.Stops.{stop_of};
 
 use crate::brackets::{find_stop, next_stop};
 use crate::elements::element_at;
-use crate::error::{Fault, PatternErrorKind};
+use crate::error::{FaultAt, PatternErrorKind};
 use crate::fronts::{skip_first, skip_word};
 use crate::parts::Part;
 use crate::sets::ByteSet;
@@ -29,7 +29,7 @@ fn member_at<'a>(
     class: &'a [u8],
     text: &'a [u8],
     stop: &'a [u8],
-) -> Result<(ByteSet, &'a [u8]), Fault<'a>>
+) -> Result<(ByteSet, &'a [u8]), FaultAt<'a>>
     requires { stop.now ≡ stop_of text.now }
     ensures set { MatchResult result
         (λ x. ◌≡◌ {A = Option (ByteSet × List ℕ)} (member_at text.now) (Some (x.0, x.1.now)))
@@ -41,7 +41,7 @@ fn member_at<'a>(
     match part {
         Part::Span(low, high) => {
             if low > high {
-                return Err(Fault {
+                return Err(FaultAt {
                     kind: PatternErrorKind::BadRange,
                     rest: text,
                 });
@@ -49,7 +49,7 @@ fn member_at<'a>(
             Ok((span(low, high), rest))
         }
         Part::Named(name) => {
-            let set = ByteSet::named(name).ok_or(Fault {
+            let set = ByteSet::named(name).ok_or(FaultAt {
                 kind: PatternErrorKind::UnknownClassName,
                 rest: text,
             })?;
@@ -60,7 +60,7 @@ fn member_at<'a>(
 }
 
 /// The bytes of the elements up to the closing bracket, and what follows it. A bracket that comes first is an element.
-fn members_at<'a>(class: &'a [u8], text: &'a [u8]) -> Result<(ByteSet, &'a [u8]), Fault<'a>>
+fn members_at<'a>(class: &'a [u8], text: &'a [u8]) -> Result<(ByteSet, &'a [u8]), FaultAt<'a>>
     ensures set { MatchResult result
         (λ x. ◌≡◌ {A = Option (ByteSet × List ℕ)} (members_at (suc (length text.now)) true text.now) (Some (x.0, x.1.now)))
         (λ _. ◌≡◌ {A = Option (ByteSet × List ℕ)} (members_at (suc (length text.now)) true text.now) None) }
@@ -99,7 +99,7 @@ fn negated(fold: bool, set: ByteSet) -> ByteSet
 }
 
 /// The set of a class, and what follows it. `class` is the text from its opening bracket on.
-pub fn class_at<'a>(class: &'a [u8], fold: bool) -> Result<(ByteSet, &'a [u8]), Fault<'a>>
+pub fn class_at<'a>(class: &'a [u8], fold: bool) -> Result<(ByteSet, &'a [u8]), FaultAt<'a>>
     ensures set { MatchResult result
         (λ x. ◌≡◌ {A = Option (ByteSet × List ℕ)} (class_set_at fold (drop 1 class.now)) (Some (x.0, x.1.now)))
         (λ _. ◌≡◌ {A = Option (ByteSet × List ℕ)} (class_set_at fold (drop 1 class.now)) None) }
@@ -114,7 +114,7 @@ pub fn class_at<'a>(class: &'a [u8], fold: bool) -> Result<(ByteSet, &'a [u8]), 
         };
         let others = negated(fold, set);
         if others.is_empty() {
-            return Err(Fault {
+            return Err(FaultAt {
                 kind: PatternErrorKind::EmptyClass,
                 rest: class,
             });

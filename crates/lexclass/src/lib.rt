@@ -20,7 +20,7 @@ pub use brackets::{class_byte_at, find_stop, named_at, next_stop, skip_unsupport
 pub use classes::{Class, other_case};
 pub use digits::capped_value;
 pub use elements::element_at;
-pub use error::{Fault, PatternError, PatternErrorKind};
+pub use error::{FaultAt, PatternError, PatternErrorKind};
 pub use escapes::{control, escape_at, hexadecimal_at, literal_byte_at, octal_at};
 pub use expressions::{class_at, folded};
 pub use fronts::{skip_first, skip_word, take_up_to};

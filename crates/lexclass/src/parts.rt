@@ -1,5 +1,5 @@
 //! What a class is made of.
-use crate::error::Fault;
+use crate::error::FaultAt;
 
 /// An element of a class.
 #[derive(Clone, Copy)]
@@ -9,5 +9,5 @@ pub enum Part<'a> {
     /// `[:name:]`.
     Named(&'a [u8]),
     /// What may not stand in a class, and the fault that says why.
-    Refused(Fault<'a>),
+    Refused(FaultAt<'a>),
 }

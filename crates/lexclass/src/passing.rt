@@ -7,11 +7,11 @@ ghost use Rattle.lexclass.specs.Passing.{rest_of_class};
 
 use crate::brackets::{find_stop, next_stop};
 use crate::elements::element_at;
-use crate::error::{Fault, PatternErrorKind};
+use crate::error::{FaultAt, PatternErrorKind};
 
 /// After the opening bracket of a class: what follows the closing one, whatever the elements are. `class` is the text from
 /// the class on, at which a class that is not closed is reported.
-pub fn skip_class<'a>(class: &'a [u8], text: &'a [u8]) -> Result<&'a [u8], Fault<'a>>
+pub fn skip_class<'a>(class: &'a [u8], text: &'a [u8]) -> Result<&'a [u8], FaultAt<'a>>
     ensures rest { MatchResult result
         (λ rest. rest_of_class (class_at text.now) ≡ Some rest.now)
         (λ _. rest_of_class (class_at text.now) ≡ None) }
@@ -29,7 +29,7 @@ pub fn skip_class<'a>(class: &'a [u8], text: &'a [u8]) -> Result<&'a [u8], Fault
         let (_, next) = element_at(class, rest, stop)?;
         rest = next;
     }
-    Err(Fault {
+    Err(FaultAt {
         kind: PatternErrorKind::UnclosedClass,
         rest: class,
     })

@@ -64,7 +64,7 @@ pub enum SpecErrorKind {
 }
 
 impl SpecErrorKind {
-    /// Its name, as it is told; that of a pattern is the name of what is wrong with it.
+    /// Its name, as messages have it; that of a pattern is the name of what is wrong with it.
     pub fn name(self) -> &'static str
         ensures { result.now ≡ kind_name self }
     {

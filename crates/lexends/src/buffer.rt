@@ -6,7 +6,7 @@ use std::alloc::{AllocError, Global};
 /// How many bytes a buffer has.
 pub const CAPACITY: usize = 65_536;
 
-/// A buffer of so many bytes.
+/// A buffer of this many bytes.
 pub fn make(alloc: Global, capacity: usize) -> Result<Vec<u8>, AllocError>
     ensures { IfOk result (λ buffer. vec_len buffer ≡ capacity) }
 {

@@ -19,7 +19,7 @@ enum Refill {
 
 /// Reads into a buffer, so that a read of one byte is mostly a look into it.
 ///
-/// The reader behind it is asked where the buffer is empty, and once in a call: so an error and an end are told where they
+/// The reader behind it is asked where the buffer is empty, and once in a call: so an error and an end are reported where they
 /// are met, after the bytes before them.
 #[derive(Drop)]
 pub struct ByteReader<R> {

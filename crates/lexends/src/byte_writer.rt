@@ -46,7 +46,7 @@ impl Held {
         self.end = end;
     }
 
-    /// Drops so many bytes from the front.
+    /// Drops this many bytes from the front.
     fn drop_front(&mut self, count: usize)
         requires { count ≤ self.old.end }
         ensures bytes { take self.new.end self.new.buffer.items ≡ drop count (take self.old.end self.old.buffer.items) }

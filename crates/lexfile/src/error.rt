@@ -25,7 +25,7 @@ pub enum TableError {
     /// The field at this offset, counted from 0, has a value that it may not have there.
     #[error("BadField at {0}")]
     BadField(usize),
-    /// A growth was refused.
+    /// A request for memory was refused.
     #[error("OutOfMemory")]
     OutOfMemory,
 }

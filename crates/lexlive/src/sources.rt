@@ -38,7 +38,7 @@ pub(crate) fn sources_of(
     Ok(Sources { next, chains })
 }
 
-/// The chains of a table over so many targets.
+/// The chains of a table over this many targets.
 fn chains_of(alloc: Global, next: &[u32], targets: usize) -> Result<Chains, AllocError>
     requires few { length next.now < 2 ^ 32 }
     requires known { (x : ℕ) → x < length next.now → slice_index next.now x < targets }

@@ -16,7 +16,7 @@ pub enum Statement {
     Begin(u8),
     /// The next text is appended to this one: yymore.
     More,
-    /// Keeps so many bytes of the text, 1 to 65,535, and returns the rest: yyless.
+    /// Keeps this many bytes of the text, 1 to 65,535, and returns the rest: yyless.
     Less(u16),
     /// Goes on to the next best match.
     Reject,

@@ -5,8 +5,8 @@
 pub enum Cut {
     /// All of it: there is no trailing context.
     Whole,
-    /// So many bytes from the front, up to 65,535.
+    /// Its first bytes, this many of them, up to 65,535.
     Head(u16),
-    /// All but so many bytes, up to 65,535.
+    /// All but its last bytes, this many of them, up to 65,535.
     Trail(u16),
 }

@@ -21,7 +21,7 @@ pub(crate) struct Packed {
     pub(crate) next: Vec<u32>,
 }
 
-/// Packs an automaton of so many states, given the targets of each state, 256 to a state.
+/// Packs an automaton of this many states, given the targets of each state, 256 to a state.
 pub(crate) fn pack_rows(alloc: Global, next: &[u32], states: usize) -> Result<Packed, AllocError>
     requires rows { length next.now ≡ 256 * states }
     requires some { 0 < states }

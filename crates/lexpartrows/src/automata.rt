@@ -108,7 +108,7 @@ const ROW: &str = "%%\n(a{15}){4} ;\n";
 
 const LONG_ROW: &str = "%%\n(a{255}){32} ;\n";
 
-// A state for each of so many letters in a row, the start and the dead state.
+// A state for each of this many letters in a row, the start and the dead state.
 #[test]
 fn rows_of_letters(rt: HostRuntime) -> Result<(), Fail> {
     let alloc = rt.alloc();

@@ -55,7 +55,10 @@ fn refused_run(rt: HostRuntime) -> Result<(), Fail> {
     let mut source = MemorySource::new(INPUT);
     let mut sink = MemorySink::new(alloc);
     let result = run(alloc, &machine, &mut source, &mut sink, 10_000);
-    assert!(rt; result == Ok(0) || result == Err(RunError::OutOfMemory), "{result:?}");
+    assert!(rt;
+        result == Ok(0) || result == Err(RunError::OutOfMemory),
+        "{result:?}"
+    );
     assert_eq!(rt; sink.written(), b"".as_slice());
     Ok(())
 }

@@ -206,7 +206,7 @@ fn stops_at_faults_of_the_stack(rt: HostRuntime) {
     assert!(rt; got == Err(ScanError::Run(RunError::Write)), "{got:?}");
 }
 
-// A text that is refused, the line, and what is told of it.
+// A text that is refused, the line, and what is reported of it.
 const REFUSALS: [(&[u8], u32, SpecErrorKind); 11] = [
     (b"", 1, SpecErrorKind::NoRulesSection),
     (b"\n\n", 3, SpecErrorKind::NoRulesSection),

@@ -282,7 +282,7 @@ fn files_are_generated(rt: HostRuntime) -> Result<(), Fail> {
     Ok(())
 }
 
-/// One rule of these statements, of which there are so many.
+/// One rule of these statements, of which there are this many.
 fn action(alloc: Global, count: u8, statements: &[u8]) -> Result<Vec<u8>, AllocError> {
     let text = joined(alloc, &[b"\x02\0\0\xff\xff\0\0\0", &[count], statements])?;
     plain(alloc, 1, &text)

@@ -31,7 +31,7 @@ fn read(alloc: Global, text: &str) -> Result<Spec, Fail> {
     Ok(spec)
 }
 
-/// Whether each turn goes on and leaves so many bytes taken and these held, and the next two turns end with this status.
+/// Whether each turn goes on and leaves this many bytes taken and these held, and the next two turns end with this status.
 fn goes_so(
     alloc: Global,
     text: &str,
@@ -174,7 +174,7 @@ fn a_thousand_letters_are_returned_one_by_one(rt: HostRuntime) -> Result<(), Fai
     Ok(())
 }
 
-/// What two turns answer where the sink takes so many bytes and the source gives so many.
+/// What two turns answer where the sink takes this many bytes and the source gives this many.
 fn two_turns(
     alloc: Global,
     text: &str,

@@ -9,7 +9,8 @@ ghost use Rattle.lexclass.specs.Symbols.{interval, name};
 
 use crate::symbols::Symbol;
 use lexclass::{
-    Class, Fault, PatternErrorKind, capped_value, goes_on_name, skip_word, starts_name, take_up_to,
+    Class, FaultAt, PatternErrorKind, capped_value, goes_on_name, skip_word, starts_name,
+    take_up_to,
 };
 
 /// The letters of a name, after the opening brace, and what follows the closing one.
@@ -67,13 +68,13 @@ fn counts(least: u32, most: u32) -> Option<(u8, Option<u8>)>
 pub(crate) fn braces_at<'a>(
     braces: &'a [u8],
     text: &'a [u8],
-) -> Result<(Symbol<'a>, &'a [u8]), Fault<'a>>
+) -> Result<(Symbol<'a>, &'a [u8]), FaultAt<'a>>
     ensures front { MatchResult result
         (λ x. ◌≡◌ {A = Front} (braces_at text.now) (Some (symbol_of x.0, x.1.now)))
         (λ _. ◌≡◌ {A = Front} (braces_at text.now) None) }
     ensures sound { IfOk result (λ x. IsSoundSymbol (symbol_of x.0)) }
 {
-    let refused = Fault {
+    let refused = FaultAt {
         kind: PatternErrorKind::BadInterval,
         rest: braces,
     };

@@ -5,7 +5,7 @@ ghost use Rattle.lexclass.specs.declared.error.PatternErrorKind.TheVariants.{Mis
 ghost use Rattle.lexre.specs.CuttingSoFar.{ending, piece_of, Ending};
 
 use crate::quotes::skip_quoted;
-use lexclass::{Fault, PatternError, PatternErrorKind, escape_at, skip_class};
+use lexclass::{FaultAt, PatternError, PatternErrorKind, escape_at, skip_class};
 
 /// Where the pattern of a rule ends, and what stands at its end.
 #[derive(Clone, Copy, PartialEq, Eq, Debug)]
@@ -181,7 +181,7 @@ fn piece_at(text: &[u8], at: usize) -> Result<Option<(Kind, &[u8])>, PatternErro
 }
 
 /// The fault, by its place: the text, of which the fault has a part, stands at the place `at`.
-fn placed(fault: Fault, text: &[u8], at: usize) -> PatternError
+fn placed(fault: FaultAt, text: &[u8], at: usize) -> PatternError
     requires { at + length text.now < 2 ^ 64 }
     ensures { result.kind ≡ fault.entry.kind }
 {

@@ -9,7 +9,7 @@ use crate::braces::braces_at;
 use crate::pattern::Pattern;
 use crate::quotes::{byte_pattern, quoted_at, quoted_pattern};
 use crate::symbols::{Sign, Symbol};
-use lexclass::{ByteSet, Fault, PatternErrorKind, class_at, escape_at};
+use lexclass::{ByteSet, FaultAt, PatternErrorKind, class_at, escape_at};
 use std::alloc::Global;
 
 /// The item of a text in quotes, and what follows it. `quote` is the text from the opening quote on, and `text` what
@@ -19,7 +19,7 @@ fn quoted_item<'a>(
     quote: &'a [u8],
     text: &'a [u8],
     fold: bool,
-) -> Result<(Symbol<'a>, &'a [u8]), Fault<'a>>
+) -> Result<(Symbol<'a>, &'a [u8]), FaultAt<'a>>
     ensures front { MatchResult result
         (λ x. ◌≡◌ {A = Front} (quoted_front fold text.now) (Some (symbol_of x.0, x.1.now)))
         (λ e. UnlessMemory e.kind (IsRefused (quoted_front fold text.now))) }
@@ -31,12 +31,12 @@ fn quoted_item<'a>(
     };
     match quoted_pattern(alloc, &bytes, fold) {
         Ok(pattern) => Ok((Symbol::Item(pattern), rest)),
-        Err(kind) => Err(Fault { kind, rest: quote }),
+        Err(kind) => Err(FaultAt { kind, rest: quote }),
     }
 }
 
 /// The item of a class, and what follows it. `class` is the text from its opening bracket on.
-fn class_item<'a>(class: &'a [u8], fold: bool) -> Result<(Symbol<'a>, &'a [u8]), Fault<'a>>
+fn class_item<'a>(class: &'a [u8], fold: bool) -> Result<(Symbol<'a>, &'a [u8]), FaultAt<'a>>
     ensures front { MatchResult result
         (λ x. ◌≡◌ {A = Front} (class_front fold (drop 1 class.now)) (Some (symbol_of x.0, x.1.now)))
         (λ _. ◌≡◌ {A = Front} (class_front fold (drop 1 class.now)) None) }
@@ -53,7 +53,7 @@ fn escape_item<'a>(
     escape: &'a [u8],
     text: &'a [u8],
     fold: bool,
-) -> Result<(Symbol<'a>, &'a [u8]), Fault<'a>>
+) -> Result<(Symbol<'a>, &'a [u8]), FaultAt<'a>>
     ensures front { MatchResult result
         (λ x. ◌≡◌ {A = Front} (escape_front fold text.now) (Some (symbol_of x.0, x.1.now)))
         (λ _. ◌≡◌ {A = Front} (escape_front fold text.now) None) }
@@ -61,7 +61,7 @@ fn escape_item<'a>(
 {
     match escape_at(text) {
         Some((byte, rest)) => Ok((Symbol::Item(byte_pattern(byte, fold)), rest)),
-        None => Err(Fault {
+        None => Err(FaultAt {
             kind: PatternErrorKind::BadEscape,
             rest: escape,
         }),
@@ -76,13 +76,13 @@ pub(crate) fn symbol_at<'a>(
     alloc: Global,
     text: &'a [u8],
     fold: bool,
-) -> Result<(Symbol<'a>, &'a [u8]), Fault<'a>>
+) -> Result<(Symbol<'a>, &'a [u8]), FaultAt<'a>>
     ensures front { MatchResult result
         (λ x. ◌≡◌ {A = Front} (symbol_at fold text.now) (Some (symbol_of x.0, x.1.now)))
         (λ e. UnlessMemory e.kind (IsRefused (symbol_at fold text.now))) }
     ensures sound { IfOk result (λ x. IsSoundSymbol (symbol_of x.0)) }
 {
-    let missing = Fault {
+    let missing = FaultAt {
         kind: PatternErrorKind::MissingOperand,
         rest: text,
     };
@@ -102,7 +102,7 @@ pub(crate) fn symbol_at<'a>(
         b'[' => class_item(text, fold),
         b'\\' => escape_item(text, after, fold),
         b'{' => braces_at(text, after),
-        b'/' => Err(Fault {
+        b'/' => Err(FaultAt {
             kind: PatternErrorKind::MisplacedSlash,
             rest: text,
         }),

@@ -21,7 +21,7 @@ pub enum Pattern {
     Alt(Rc<Vec<Pattern>>),
     /// Any number of times.
     Star(Rc<Pattern>),
-    /// At least so many times, and at most so many where there is an upper bound.
+    /// At least this many times, and at most this many where there is an upper bound.
     Repeat(Rc<Pattern>, u8, Option<u8>),
 }
 

@@ -10,7 +10,7 @@ ghost use Rattle.lexre.specs.Views.{tree_of};
 ghost use Rattle.lexre.specs.Limits.{max_nodes};
 
 use crate::pattern::Pattern;
-use lexclass::{ByteSet, Fault, PatternErrorKind, escape_at, folded, literal_byte_at};
+use lexclass::{ByteSet, FaultAt, PatternErrorKind, escape_at, folded, literal_byte_at};
 use std::alloc::Global;
 use std::rc::Rc;
 
@@ -19,7 +19,7 @@ const MAX_QUOTED_BYTES: usize = 65_535;
 
 /// What follows a text in quotes. The text handed in begins with the first quote, at which a quote that no other closes is
 /// reported.
-pub(crate) fn skip_quoted<'a>(text: &'a [u8]) -> Result<&'a [u8], Fault<'a>>
+pub(crate) fn skip_quoted<'a>(text: &'a [u8]) -> Result<&'a [u8], FaultAt<'a>>
     ensures found { MatchResult result (λ rest. after_quotes (drop 1 text.now) ≡ Some rest.now) (λ _. after_quotes (drop 1 text.now) ≡ None) }
     ensures fault { IfErr result (λ f. IsQuoteFault f.kind) }
 {
@@ -31,7 +31,7 @@ pub(crate) fn skip_quoted<'a>(text: &'a [u8]) -> Result<&'a [u8], Fault<'a>>
             break;
         } else if byte == b'\\' {
             let Some((_, after_escape)) = escape_at(after) else {
-                return Err(Fault {
+                return Err(FaultAt {
                     kind: PatternErrorKind::BadEscape,
                     rest,
                 });
@@ -41,7 +41,7 @@ pub(crate) fn skip_quoted<'a>(text: &'a [u8]) -> Result<&'a [u8], Fault<'a>>
             rest = after;
         }
     }
-    Err(Fault {
+    Err(FaultAt {
         kind: PatternErrorKind::UnclosedQuote,
         rest: text,
     })
@@ -53,7 +53,7 @@ pub(crate) fn quoted_at<'a>(
     alloc: Global,
     quote: &'a [u8],
     text: &'a [u8],
-) -> Result<(Vec<u8>, &'a [u8]), Fault<'a>>
+) -> Result<(Vec<u8>, &'a [u8]), FaultAt<'a>>
     ensures { MatchResult result
         (λ x. ◌≡◌ {A = Option (List ℕ × List ℕ)} (quoted_bytes text.now) (Some (x.0.items, x.1.now)))
         (λ e. UnlessMemory e.kind (◌≡◌ {A = Option (List ℕ × List ℕ)} (quoted_bytes text.now) None)) }
@@ -66,11 +66,11 @@ pub(crate) fn quoted_at<'a>(
         }
         let Some((byte, beyond)) = literal_byte_at(rest) else {
             return Err(match first {
-                b'\n' => Fault {
+                b'\n' => FaultAt {
                     kind: PatternErrorKind::UnclosedQuote,
                     rest: quote,
                 },
-                _ => Fault {
+                _ => FaultAt {
                     kind: PatternErrorKind::BadEscape,
                     rest,
                 },
@@ -79,14 +79,14 @@ pub(crate) fn quoted_at<'a>(
         match bytes.push(byte) {
             Ok(()) => rest = beyond,
             Err(_) => {
-                return Err(Fault {
+                return Err(FaultAt {
                     kind: PatternErrorKind::OutOfMemory,
                     rest,
                 });
             }
         }
     }
-    Err(Fault {
+    Err(FaultAt {
         kind: PatternErrorKind::UnclosedQuote,
         rest: quote,
     })

@@ -24,7 +24,7 @@ use crate::names::Names;
 use crate::options::ReadOptions;
 use crate::pattern::Pattern;
 use crate::symbols::Symbol;
-use lexclass::{Class, Fault, PatternError, PatternErrorKind};
+use lexclass::{Class, FaultAt, PatternError, PatternErrorKind};
 use std::alloc::Global;
 
 /// The most parentheses and names that may be open at one place.
@@ -43,9 +43,9 @@ fn begins_interval(text: &[u8]) -> bool
     }
 }
 
-/// What is told of a fault in the text that stands at this place: an interval that is bad in itself is told after what
+/// What is reported of a fault in the text that stands at this place: an interval that is bad in itself is reported after what
 /// lacks to its left.
-fn told(stack: &Stack, fault: Fault, text: &[u8], at: usize, posix: bool) -> PatternError
+fn told(stack: &Stack, fault: FaultAt, text: &[u8], at: usize, posix: bool) -> PatternError
     ensures { fault.entry.kind ≡ OutOfMemory → result.kind ≡ OutOfMemory }
 {
     let kind = match fault.kind {
@@ -72,7 +72,7 @@ struct Scope<'a> {
 #[derive(Drop)]
 struct Read {
     tree: Counted,
-    /// So many of the parentheses and names that might be opened never were.
+    /// How many parentheses and names more might have been opened.
     spare: u8,
 }
 
@@ -80,11 +80,11 @@ struct Read {
 #[derive(Clone, Copy)]
 struct Taken {
     nodes: u64,
-    /// So many parentheses and names might still be opened at each place of it.
+    /// How many parentheses and names more might have been opened at each place of it.
     spare: u8,
 }
 
-/// The pattern that a name stands for, where so many parentheses and names may be opened, of at most `room` nodes. Its tree
+/// The pattern that a name stands for, where this many parentheses and names may be opened, of at most `room` nodes. Its tree
 /// is kept. A name whose text is being read stands for none.
 #[cycle(read)]
 fn read_name(
@@ -191,7 +191,7 @@ fn step(
     Ok(taken)
 }
 
-/// The pattern of a text in which so many parentheses and names may be opened, of at most `room` nodes.
+/// The pattern of a text in which this many parentheses and names may be opened, of at most `room` nodes.
 #[cycle(read)]
 fn read_within(
     alloc: Global,
@@ -252,8 +252,8 @@ fn read_within(
 /// Reads a pattern. The whole text has to be one: what a rule has besides, as `^`, `$` and `/`, is taken off before.
 /// Offsets are from 0. (POSIX, lex, Regular Expressions in lex; flex, Patterns.)
 ///
-/// The first fault from the left is told, at the place of its sign; where an operand was expected, at the byte there, or
-/// the end. A fault inside a substitute is told at the `{` of the text that was handed in, and want of memory at 0.
+/// The first fault from the left is reported, at the place of its sign; where an operand was expected, at the byte there, or
+/// the end. A fault inside a substitute is reported at the `{` of the text that was handed in, and want of memory at 0.
 pub fn read_pattern(
     alloc: Global,
     text: &[u8],

@@ -221,7 +221,7 @@ fn deepest(alloc: Global) -> Result<Pattern, AllocError>
     Ok(pattern)
 }
 
-// A tree and so many bytes behind it
+// A tree and this many bytes behind it
 fn lengthened(alloc: Global, first: Pattern, bytes: u32) -> Result<Pattern, AllocError>
     requires { IsSoundTree (tree_of first) }
     ensures { IfOk result (λ p. IsSoundTree (tree_of p)) }
@@ -316,7 +316,7 @@ fn cuttings(rt: HostRuntime) {
     }
 }
 
-// A text that has no cutting, what is told of it, and where.
+// A text that has no cutting, what is reported of it, and where.
 const FAULTS: [(&[u8], PatternErrorKind, usize); 14] = [
     (b"\"a", PatternErrorKind::UnclosedQuote, 0),
     (b"[a]\"b", PatternErrorKind::UnclosedQuote, 3),
@@ -394,7 +394,7 @@ fn classes_as_sets(rt: HostRuntime) {
     }
 }
 
-// A text that is no class, what is told of it, and the text from there on.
+// A text that is no class, what is reported of it, and the text from there on.
 const REFUSED_CLASSES: [(&[u8], PatternErrorKind, &[u8]); 10] = [
     (b"[a", PatternErrorKind::UnclosedClass, b"[a"),
     (b"[]", PatternErrorKind::UnclosedClass, b"[]"),
@@ -711,7 +711,7 @@ fn patterns(rt: HostRuntime) -> Result<(), Fail> {
     Ok(())
 }
 
-// A text that is no pattern, what is told of it, and where.
+// A text that is no pattern, what is reported of it, and where.
 const REFUSALS: [(&[u8], PatternErrorKind, usize); 60] = [
     (b"\"a", PatternErrorKind::UnclosedQuote, 0),
     (b"b\"a\n\"", PatternErrorKind::UnclosedQuote, 1),
@@ -788,7 +788,7 @@ fn refused_patterns(rt: HostRuntime) -> Result<(), Fail> {
     Ok(())
 }
 
-// What a text begins with, a part, how often that stands, what follows, and what is told of the text, where it is refused.
+// What a text begins with, a part, how often that stands, what follows, and what is reported of the text, where it is refused.
 type Long = (
     &'static [u8],
     &'static [u8],
@@ -944,7 +944,7 @@ fn long_patterns(rt: HostRuntime) -> Result<(), Fail> {
     Ok(())
 }
 
-// What is told of a text, where it is refused.
+// What is reported of a text, where it is refused.
 fn told(alloc: Global, text: &[u8], defs: &Defs) -> Option<(PatternErrorKind, usize)> {
     match read_pattern(alloc, text, defs, PLAIN) {
         Ok(_) => None,
@@ -1007,7 +1007,7 @@ fn long_texts_of_names(rt: HostRuntime) -> Result<(), Fail> {
     Ok(())
 }
 
-// A text inside so many parentheses, between two texts
+// A text inside this many parentheses, between two texts
 fn within(
     alloc: Global,
     first: &[u8],
@@ -1027,7 +1027,7 @@ fn within(
     Ok(text)
 }
 
-// A text, in how many parentheses the next stands, the last, and what is told. Of these names the first takes three of
+// A text, in how many parentheses the next stands, the last, and what is reported. Of these names the first takes three of
 // what may be opened, and the second four.
 const DEEP: [(&[u8], usize, &[u8], &[u8], Option<usize>); 7] = [
     (b"{three}", 61, b"{three}", b"{three}", None),
@@ -1091,7 +1091,7 @@ fn names_in_a_round(rt: HostRuntime) -> Result<(), Fail> {
     Ok(())
 }
 
-// A text with names that stand more than once, and what is told of it, where it is refused.
+// A text with names that stand more than once, and what is reported of it, where it is refused.
 const TWICE: [(&[u8], Option<(PatternErrorKind, usize)>); 7] = [
     (b"{c}{wide}{c}", None),
     (b"{wide}{wide}", Some((PatternErrorKind::TooBig, 6))),

@@ -214,7 +214,7 @@ fn intervals_on_nothing(rt: HostRuntime) -> Result<(), Fail> {
 /// What begins a text, a part, how often that stands, and what follows.
 type Long = (&'static [u8], &'static [u8], usize, &'static [u8]);
 
-/// What is told of a text, and where, if it is refused.
+/// What is reported of a text, and where, if it is refused.
 type Told = Option<(PatternErrorKind, usize)>;
 
 const DEEP: PatternErrorKind = PatternErrorKind::TooDeep;
@@ -223,7 +223,7 @@ const BIG: PatternErrorKind = PatternErrorKind::TooBig;
 
 const BAD: PatternErrorKind = PatternErrorKind::BadInterval;
 
-// What is told where intervals apply to items, and where they apply to series.
+// What is reported where intervals apply to items, and where they apply to series.
 const MANY: [(Long, Told, Told); 14] = [
     ((b"", b"a{1}", 64, b"a"), None, None),
     ((b"", b"a{1}", 65, b""), None, Some((DEEP, 257))),

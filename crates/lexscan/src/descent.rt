@@ -14,7 +14,7 @@ use crate::window::Window;
 use lexends::Sink;
 use lexmachine::{Cut, Machine};
 
-/// What a cut keeps of a match of so many bytes, if it fits.
+/// What a cut keeps of a match of this many bytes, if it fits.
 pub fn kept(cut: Cut, len: usize) -> Option<usize>
     ensures keep { result ≡ kept_by (cut_of cut) len }
     ensures short { IfSome result (λ keep. keep ≤ len) }

@@ -32,7 +32,7 @@ pub struct Pick {
     pub keep: usize,
 }
 
-/// The first of the rules whose cut fits a match of so many bytes.
+/// The first of the rules whose cut fits a match of this many bytes.
 #[inline]
 fn first_fit<M: Machine>(machine: &M, rules: &[u32], len: usize) -> Option<Pick>
     requires known { (i : ℕ) → Among rules.now i → i < (M.machine machine.now).count }

@@ -30,7 +30,7 @@ pub struct Scanner<'a, M: Machine, S: Source, K: Sink> {
 }
 
 impl<'a, M: Machine, S: Source, K: Sink> Scanner<'a, M, S, K> {
-    /// A scanner that has made no turn, and takes at most so many bytes.
+    /// A scanner that has made no turn, and takes at most this many bytes.
     pub fn new(
         alloc: Global,
         machine: &'a M,

@@ -129,7 +129,7 @@ impl Window {
         self.end += 1;
     }
 
-    /// Takes bytes of the source, at most so many, as long as there is room for them and the machine asks for one more.
+    /// Takes bytes of the source, at most this many, as long as there is room for them and the machine asks for one more.
     #[inline(always)]
     pub fn fill<M: Machine, S: Source>(
         &mut self,

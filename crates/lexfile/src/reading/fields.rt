@@ -86,7 +86,7 @@ pub fn long_below(bytes: &[u8], limit: u32) -> Result<(u32, &[u8]), ReadError>
     Ok((number, rest))
 }
 
-/// So many bytes.
+/// The next `count` bytes.
 pub fn text(alloc: Global, bytes: &[u8], count: u32) -> Result<(Vec<u8>, &[u8]), ReadError>
     ensures gives { Gives (λ x. (x.0.items, x.1.now)) result (bytes_at count bytes.now) }
     ensures length { IfOk result (λ x. length x.0.items ≡ count) }
