@@ -11,6 +11,7 @@ pub mod Numbered
 pub mod Minimised
 pub mod Looks
 pub mod Labelling
+pub mod FirstBytes
 pub mod Bytes
 pub mod ByTurns
 pub mod Wholes
