@@ -1,47 +1,56 @@
--- The letters of a table are its bytes.
+-- The letters of a table stand for its bytes.
 use Rattle.std.proofs.Common.{◌≡◌, ℕ, ◌+◌, ◌*◌, ◌<◌, List, [], ◌∷◌, length, refl, ap, sym, ◌∙◌, arith}
 use Rattle.std.specs.Prelude.{slice_index}
 use Rattle.lexleast.specs.Futures.{Machine, IsClosed, AreLetters, run, IsCoarsest}
-use Rattle.lexleast.specs.Letters.{machine, bytes_machine, row_of}
+use Rattle.lexleast.specs.Letters.{machine, bytes_machine}
+use Rattle.lexleast.specs.Columns.{AreBytes}
 use Rattle.lexleast.specs.Automata.{Automaton, IsWhole, after, next, accepts, IsText}
 use Rattle.lexleast.specs.Quotients.{AreClasses}
 use Rattle.lexleast.specs.declared.sources.Letter.{Letter}
 
--- machines with the same moves have the same classes
-module _ (m k : Machine) (states : m.states ≡ k.states) (letters : m.letters ≡ k.letters) (inner : IsClosed k)
-    (steps : (x a : ℕ) → x < k.states → a < k.letters → m.step x a ≡ k.step x a) (acc : (x : ℕ) → m.accepts x ≡ k.accepts x) where
-  run_same : (w : List ℕ) (x : ℕ) → x < k.states → AreLetters k w → run m x w ≡ run k x w
-  run_same [] x h l = refl
-  run_same (a ∷ w) x h (b, l) = ap (λ (y : ℕ). run m y w) (steps x a h b) ∙ run_same w (k.step x a) (inner x a h b) l
+-- a letter of k moves as the letter a of m does
+abbrev Stands : Machine → Machine → ℕ → Type 0
+Stands m k a = (b : ℕ) × (b < k.letters) × ((x : ℕ) → x < k.states → m.step x a ≡ k.step x b)
 
-  there : (w : List ℕ) → AreLetters m w → AreLetters k w
-  there [] l = tt
-  there (a ∷ w) (b, l) = ((omega (arith, b, letters)), there w l)
+-- a word of k leads where the word w of m does
+abbrev Reads : Machine → Machine → List ℕ → Type 0
+Reads m k w = (v : List ℕ) × AreLetters k v × ((x : ℕ) → x < k.states → run m x w ≡ run k x v)
 
-  back : (w : List ℕ) → AreLetters k w → AreLetters m w
-  back [] l = tt
-  back (a ∷ w) (b, l) = ((omega (arith, b, letters)), back w l)
+reads : (m k : Machine) → IsClosed k → ((a : ℕ) → a < m.letters → Stands m k a) → (w : List ℕ) → AreLetters m w → Reads m k w
+reads m k inner stands [] l = ([], tt, λ x h. refl)
+reads m k inner stands (a ∷ w) (low, l) =
+    let (b, g, s) = stands a low in
+    let (v, q, r) = reads m k inner stands w l in
+    (b ∷ v, (g, q), λ x h. ap (λ (y : ℕ). run m y w) (s x h) ∙ r (k.step x b) (inner x b h g))
 
-  told : (x : ℕ) (w : List ℕ) → x < k.states → AreLetters k w → m.accepts (run m x w) ≡ k.accepts (run k x w)
-  told x w h l = acc (run m x w) ∙ ap (λ (y : ℕ). k.accepts y) (run_same w x h l)
-
+-- machines of which each letter has one of the other with its moves have the same classes
+module _ (m k : Machine) (states : m.states ≡ k.states) (outer : IsClosed m) (inner : IsClosed k) (acc : (x : ℕ) → m.accepts x ≡ k.accepts x)
+    (there : (a : ℕ) → a < m.letters → Stands m k a) (back : (b : ℕ) → b < k.letters → Stands k m b) where
   pub same_classes : (block : ℕ → ℕ) → IsCoarsest m block → IsCoarsest k block
   same_classes block c = record {
-    same = λ x y h g e w l. sym (told x w h l) ∙ c.same x y (omega (arith, h, states)) (omega (arith, g, states)) e w (back w l) ∙ told y w g l;
+    same = λ x y h g e w l.
+        let (v, q, r) = reads k m outer back w l in
+        let hm : x < m.states = omega (arith, h, states) in
+        let gm : y < m.states = omega (arith, g, states) in
+        ap k.accepts (r x hm) ∙ sym (acc (run m x v)) ∙ c.same x y hm gm e v q ∙ acc (run m y v) ∙ sym (ap k.accepts (r y gm));
     apart = λ x y h g n.
         let (w, l, d) = c.apart x y (omega (arith, h, states)) (omega (arith, g, states)) n in
-        (w, there w l, λ e. d (told x w h (there w l) ∙ e ∙ sym (told y w g (there w l))));
+        let (v, q, r) = reads m k inner there w l in
+        (v, q, λ e. d (acc (run m x w) ∙ ap k.accepts (r x h) ∙ e ∙ sym (ap k.accepts (r y g)) ∙ sym (acc (run m y w))));
   }
 
 closed_bytes : (table labels : List ℕ) → length table ≡ 256 * length labels → ((i : ℕ) → i < length table → slice_index table i < length labels) → IsClosed (bytes_machine table labels)
 closed_bytes table labels len known = λ x a h l. known (x * 256 + a) (omega (arith, h, l, len))
 
-pub by_bytes : (letters : List Letter) (table labels : List ℕ) (block : ℕ → ℕ) → length letters ≡ 256
-    → ((a x : ℕ) → a < 256 → x < length labels → slice_index (row_of letters a) x ≡ slice_index table (x * 256 + a))
+pub by_bytes : (letters : List Letter) (table labels : List ℕ) (block : ℕ → ℕ) → AreBytes table (length labels) letters
     → length table ≡ 256 * length labels → ((i : ℕ) → i < length table → slice_index table i < length labels)
+    → IsClosed (machine letters labels)
     → IsCoarsest (machine letters labels) block → IsCoarsest (bytes_machine table labels) block
-by_bytes letters table labels block count moves len known c =
-    same_classes (machine letters labels) (bytes_machine table labels) refl count (closed_bytes table labels len known) (λ x a h l. moves a x l h) (λ x. refl) block c
+by_bytes letters table labels block are len known outer c =
+    same_classes (machine letters labels) (bytes_machine table labels) refl outer (closed_bytes table labels len known) (λ x. refl)
+    (λ k h. let (b, low, i) = are.bytes k h in (b, low, i.moves))
+    (λ b h. let (k, i) = are.all b h in (k, i.known, λ x g. sym (i.moves x g)))
+    block c
 
 -- classes by labels, where one label stands for one list of rules
 module _ (A : Automaton) (whole : IsWhole A) (labels classes : List ℕ) (count : length labels ≡ A.states) (all : length classes ≡ A.states)

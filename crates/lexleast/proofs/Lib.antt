@@ -2,7 +2,9 @@ pub mod Refines
 pub mod Swapped
 pub mod Pigeons
 pub mod Dividing
+pub mod Pieces
 pub mod Noting
+pub mod Chains
 pub mod GoesOn
 pub mod Rounds
 pub mod Stretched
@@ -11,6 +13,7 @@ pub mod Numbered
 pub mod Minimised
 pub mod Looks
 pub mod Labelling
+pub mod FirstBytes
 pub mod Bytes
 pub mod ByTurns
 pub mod Wholes

@@ -1,11 +1,11 @@
 -- Lists of noted blocks.
-use Rattle.std.proofs.Common.{◌≡◌, ℕ, ◌+◌, ◌<◌, ◌⊎◌, List, [], ◌∷◌, ◌++◌, length, get_or, ap, sym, ◌∙◌, inl, inr, arith, length-append, Vec, Global}
+use Rattle.std.proofs.Common.{◌≡◌, ℕ, ◌+◌, ◌<◌, ◌⊎◌, Bool, true, false, List, [], ◌∷◌, ◌++◌, length, get_or, ap, sym, subst, ◌∙◌, inl, inr, arith, length-append, Vec, Global}
 use Rattle.std.proofs.lemmas.List.{get_or_append_left, get_or-append-add}
 use Rattle.std.specs.Prelude.{slice_index}
 use Rattle.lexleast.specs.Sources.{Has, HasBelow}
 use Rattle.lexleast.specs.declared.blocks.Blocks.{Blocks}
-use Rattle.lexleast.specs.Arranged.{states}
-use Rattle.lexleast.specs.Marked.{Marks}
+use Rattle.lexleast.specs.Arranged.{IsMarked, IsTouched, block_of, count, states}
+use Rattle.lexleast.specs.Marked.{Marks, Notes}
 
 pub has_more : (xs : List ℕ) (d c : ℕ) → Has xs c → Has (xs ++ d ∷ []) c
 has_more xs d c (i, h, e) = (i, (let l = length-append xs (d ∷ []) in omega (arith, l, h)), get_or_append_left xs (d ∷ []) 0 i h ∙ e)
@@ -44,3 +44,48 @@ below_more xs n t c e (i, h, f) = elim (less i n h) [ inl g ↦ inl (i, g, f) | 
   where
     less : (i n : ℕ) → i < n + 1 → (i < n) ⊎ (i ≡ n)
     less i n h = grind arith
+
+-- one state is marked
+module _ (old new : Blocks) (x : ℕ) (first : Bool) (block : new.block ≡ old.block) (firsts : new.first ≡ old.first)
+    (touches : (c : ℕ) → IsTouched new c → IsTouched old c ⊎ ((c ≡ block_of old x) × (first ≡ true))) where
+  same_count : count new ≡ count old
+  same_count = ap (λ (v : Vec ℕ Global). length v.items) firsts
+
+  pub one_marked : IsMarked new x → ((y : ℕ) → y < states old → IsMarked old y → IsMarked new y)
+      → ((y : ℕ) → y < states old → IsMarked new y → IsMarked old y ⊎ (y ≡ x)) → Marks old (λ y. y ≡ x) new
+  one_marked marks keeps only = record {
+    block = block;
+    first = firsts;
+    marked = λ y h e. subst (λ (z : ℕ). IsMarked new z) (sym e) marks;
+    keeps = keeps;
+    only = only;
+  }
+
+  -- it is not the first of its block
+  pub noted_already : (touched : List ℕ) → first ≡ false → Notes touched old → Notes touched new
+  noted_already touched later notes = record {
+    all = λ c h t. elim (touches c t) [
+      | inl o ↦ notes.all c (omega (arith, same_count, h)) o
+      | inr (e, now) ↦ absurd (clash first now later)
+    ];
+    blocks = λ i h. let b = notes.blocks i h in omega (arith, b, same_count);
+  }
+    where
+      clash : (b : Bool) → b ≡ true → b ≡ false → ⊥
+      clash b h k = absurd cc
+
+  -- its block is noted
+  pub noted : (touched : List ℕ) → block_of old x < count old → Notes touched old → Notes (touched ++ block_of old x ∷ []) new
+  noted touched low notes = record {
+    all = λ c h t. elim (touches c t) [
+      | inl o ↦ has_more touched (block_of old x) c (notes.all c (omega (arith, same_count, h)) o)
+      | inr (e, now) ↦ subst (λ (d : ℕ). Has (touched ++ block_of old x ∷ []) d) (sym e) (has_last touched (block_of old x))
+    ];
+    blocks = λ i h. elim (low_or_last i (length touched) (let l = length-append touched (block_of old x ∷ []) in omega (arith, l, h))) [
+      | inl g ↦ (let b = notes.blocks i g in let e : slice_index (touched ++ block_of old x ∷ []) i ≡ slice_index touched i = get_or_append_left touched (block_of old x ∷ []) 0 i g in omega (arith, e, b, same_count))
+      | inr q ↦ (let e : slice_index (touched ++ block_of old x ∷ []) i ≡ block_of old x = ap (λ (j : ℕ). get_or (touched ++ block_of old x ∷ []) j 0) (let z : i ≡ length touched + 0 = omega (arith, q) in z) ∙ get_or-append-add touched (block_of old x ∷ []) 0 0 in omega (arith, e, low, same_count))
+    ];
+  }
+    where
+      low_or_last : (i n : ℕ) → i < n + 1 → (i < n) ⊎ (i ≡ n)
+      low_or_last i n h = grind arith

@@ -1,5 +1,5 @@
 -- States in an order in which each block is a stretch, whose marked states stand first.
-use Rattle.std.specs.Prelude.{◌≡◌, ◌≢◌, ◌⊎◌, ◌↔◌, ◌^◌, ℕ, ◌+◌, ◌-◌, ◌<◌, ◌≤◌, Bool, true, cond, List, length, slice_index}
+use Rattle.std.specs.Prelude.{◌≡◌, ◌≢◌, ◌⊎◌, ◌↔◌, ◌^◌, ℕ, ◌+◌, ◌-◌, ◌*◌, ◌<◌, ◌≤◌, Bool, true, cond, List, length, slice_index}
 use Rattle.lexleast.specs.declared.blocks.Blocks.{Blocks}
 
 -- the block of the state x
@@ -58,6 +58,12 @@ pub record IsDivided (low high kept kept_end piece piece_end : ℕ) : Type 0 whe
   pub piece_to : piece_end ≤ high
   pub all : (i : ℕ) → low ≤ i → i < high → ((piece ≤ i) × (i < piece_end)) ⊎ ((kept ≤ i) × (i < kept_end))
   pub apart : (i : ℕ) → piece ≤ i → i < piece_end → kept ≤ i → i < kept_end → ⊥
+
+-- the marked and the other states of a block, of which the smaller piece is to be a new block
+pub record ArePieces (first middle end kept kept_end piece piece_end : ℕ) : Type 0 where
+  pub divided : IsDivided first end kept kept_end piece piece_end
+  pub half : 2 * (piece_end - piece) ≤ end - first
+  pub either : ((piece ≡ first) × (piece_end ≡ middle)) ⊎ ((piece ≡ middle) × (piece_end ≡ end))
 
 -- The block c was cut into its marked and its other states, or it has only one sort. None of it is marked any more.
 pub record IsCut (old : Blocks) (c : ℕ) (new : Blocks) (done : Bool) : Type 0 where

@@ -6,6 +6,7 @@ pub mod Sources
 pub mod Marked
 pub mod Going
 pub mod Letters
+pub mod Columns
 pub mod Labels
 pub mod Automata
 pub mod Numbers

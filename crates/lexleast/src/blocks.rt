@@ -1,6 +1,6 @@
 //! Blocks of states.
-ghost use Rattle.std.specs.Prelude.{◌≡◌, ◌≢◌, ◌⊎◌, ◌^◌, ℕ, ◌+◌, ◌*◌, ◌<◌, ◌≤◌, true, length, slice_index, IfOk, OnOk};
-ghost use Rattle.lexleast.specs.Arranged.{Arranged, IsCut, IsDivided, IsTouched, IsMarked, block_of, place_of, size, states, count};
+ghost use Rattle.std.specs.Prelude.{◌≡◌, ◌≢◌, ◌⊎◌, ◌^◌, ℕ, ◌+◌, ◌*◌, ◌<◌, ◌≤◌, true, false, length, slice_index, IfOk, OnOk};
+ghost use Rattle.lexleast.specs.Arranged.{ArePieces, Arranged, IsCut, IsDivided, IsTouched, IsMarked, block_of, place_of, size, states, count};
 
 use std::alloc::{AllocError, Global};
 
@@ -100,6 +100,49 @@ fn divide(
     Ok(())
 }
 
+/// Whether a block has marked states and others.
+fn is_mixed(first: u32, middle: u32, end: u32) -> bool
+    requires from { first ≤ middle }
+    requires to { middle ≤ end }
+    ensures mixed { result ≡ true → (first < middle) × (middle < end) }
+    ensures uniform { result ≡ false → (middle ≡ first) ⊎ (middle ≡ end) }
+{
+    first < middle && middle < end
+}
+
+/// The two pieces of a block: the one that it keeps, and a new block.
+#[derive(Clone, Copy)]
+struct Pieces {
+    kept: Stretch,
+    new: Stretch,
+}
+
+/// The marked states and the others of a block. The smaller piece is to be a new block.
+fn halves(first: u32, middle: u32, end: u32) -> Pieces
+    requires marked { first < middle }
+    requires others { middle < end }
+    ensures { ArePieces first middle end result.kept.from result.kept.to result.new.from result.new.to }
+{
+    let marked = Stretch {
+        from: first,
+        to: middle,
+    };
+    let others = Stretch {
+        from: middle,
+        to: end,
+    };
+    if middle - first <= end - middle {
+        return Pieces {
+            kept: others,
+            new: marked,
+        };
+    }
+    Pieces {
+        kept: marked,
+        new: others,
+    }
+}
+
 /// Cuts a block into its marked and its other states, where it has both. The smaller piece is a new block. Whether it
 /// did.
 pub(crate) fn cut(blocks: &mut Blocks, number: usize) -> Result<bool, AllocError>
@@ -112,22 +155,11 @@ pub(crate) fn cut(blocks: &mut Blocks, number: usize) -> Result<bool, AllocError
     let first = blocks.first[number];
     let middle = blocks.middle[number];
     let end = blocks.end[number];
-    if middle == first || middle == end {
+    if !is_mixed(first, middle, end) {
         blocks.middle[number] = first;
         return Ok(false);
     }
-    let marked = Stretch {
-        from: first,
-        to: middle,
-    };
-    let others = Stretch {
-        from: middle,
-        to: end,
-    };
-    if middle - first <= end - middle {
-        divide(blocks, number, others, marked)?;
-    } else {
-        divide(blocks, number, marked, others)?;
-    }
+    let pieces = halves(first, middle, end);
+    divide(blocks, number, pieces.kept, pieces.new)?;
     Ok(true)
 }

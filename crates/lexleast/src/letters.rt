@@ -1,7 +1,8 @@
 //! The letters of an automaton over bytes.
-ghost use Rattle.std.specs.Prelude.{◌≡◌, ◌^◌, ℕ, ◌+◌, ◌*◌, ◌<◌, length, slice_index, IfOk};
-ghost use Rattle.lexleast.specs.Letters.{AreLetters, row_of};
+ghost use Rattle.std.specs.Prelude.{◌≡◌, ◌^◌, ℕ, ◌+◌, ◌*◌, ◌<◌, length, slice_index, IfOk, OnOk};
+ghost use Rattle.lexleast.specs.Columns.{AreBytes, HaveLetters};
 
+use crate::columns::first_bytes;
 use crate::sources::{Letter, chained};
 use std::alloc::{AllocError, Global};
 
@@ -19,7 +20,32 @@ fn column(alloc: Global, next: &[u32], states: usize, byte: usize) -> Result<Vec
     Ok(column)
 }
 
-/// The letter of each byte.
+/// Adds the letter of a byte that is the first of those alike.
+fn add_first(
+    alloc: Global,
+    letters: &mut Vec<Letter>,
+    next: &[u32],
+    states: usize,
+    firsts: &[u8],
+    byte: usize,
+) -> Result<(), AllocError>
+    requires byte { byte < 256 }
+    requires firsts { length firsts.now ≡ 256 }
+    requires few { states < 2 ^ 32 }
+    requires len { length next.now ≡ 256 * states }
+    requires known { (i : ℕ) → i < length next.now → slice_index next.now i < states }
+    requires letters { HaveLetters next.now firsts.now states letters.old.items byte }
+    ensures { OnOk result (HaveLetters next.now firsts.now states letters.new.items (byte + 1)) }
+{
+    if firsts[byte] as usize != byte {
+        return Ok(());
+    }
+    let row = column(alloc, next, states, byte)?;
+    letters.push(chained(alloc, row)?)?;
+    Ok(())
+}
+
+/// The letters of the bytes, one for those by which all states go alike.
 pub(crate) fn letters_of(
     alloc: Global,
     next: &[u32],
@@ -28,14 +54,12 @@ pub(crate) fn letters_of(
     requires few { states < 2 ^ 32 }
     requires len { length next.now ≡ 256 * states }
     requires known { (i : ℕ) → i < length next.now → slice_index next.now i < states }
-    ensures count { IfOk result (λ v. length v.items ≡ 256) }
-    ensures rows { IfOk result (λ v. AreLetters v.items states) }
-    ensures moves { IfOk result (λ v. (a x : ℕ) → a < 256 → x < states → slice_index (row_of v.items a) x ≡ slice_index next.now (x * 256 + a)) }
+    ensures { IfOk result (λ v. AreBytes next.now states v.items) }
 {
+    let firsts = first_bytes(alloc, next, states)?;
     let mut letters = Vec::new(alloc);
     for byte in 0..256 {
-        let row = column(alloc, next, states, byte)?;
-        letters.push(chained(alloc, row)?)?;
+        add_first(alloc, &mut letters, next, states, &firsts, byte)?;
     }
     Ok(letters)
 }

@@ -2,6 +2,7 @@
 #![tactic(auto)]
 
 mod blocks;
+mod columns;
 mod cutting;
 mod futures;
 mod labels;

@@ -9,7 +9,6 @@ use crate::sources::Letter;
 use std::alloc::AllocError;
 
 /// Marks a state, and notes its block when it is the first there.
-#[tactic(auto, using(crate::proofs::Noting::has_more, crate::proofs::Noting::has_last))]
 fn note(blocks: &mut Blocks, touched: &mut Vec<u32>, state: u32) -> Result<(), AllocError>
     requires state { state < states blocks.old }
     requires arranged { Arranged blocks.old }
@@ -18,9 +17,10 @@ fn note(blocks: &mut Blocks, touched: &mut Vec<u32>, state: u32) -> Result<(), A
     ensures notes { OnOk result (Notes touched.new.items blocks.new) }
     ensures marks { OnOk result (Marks blocks.old (λ x. x ≡ state) blocks.new) }
 {
-    if mark(blocks, state) {
-        touched.push(blocks.block[state as usize])?;
+    if !mark(blocks, state) {
+        return Ok(());
     }
+    touched.push(blocks.block[state as usize])?;
     Ok(())
 }
 

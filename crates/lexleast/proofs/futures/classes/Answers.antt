@@ -1,9 +1,20 @@
-use Rattle.std.proofs.Common.{rules, ◌≡◌, ◌+◌, ◌*◌, List, length, slice_index, arith, sym, subst}
-use Rattle.lexleast.specs.Letters.{row_of}
+use Rattle.std.proofs.Common.{rules, ◌≡◌, ℕ, ◌<◌, List, length, slice_index, arith, sym, subst}
+use Rattle.lexleast.specs.Columns.{AreBytes}
+use Rattle.lexleast.specs.Letters.{AreLetters}
 use Rattle.lexleast.specs.declared.sources.Letter.{Letter}
 use Rattle.lexleast.proofs.Bytes.{by_bytes}
+use Rattle.lexleast.proofs.FirstBytes.{are_letters}
+use Rattle.lexleast.proofs.Rounds.{closed}
 use Rattle.lexleast.proofs.Dividing.{few_blocks}
 use Rattle.lexleast.proofs.futures.classes.Goals as goal
+
+pub refine-requires-clause-rows : goal.refine-requires-clause-rows
+refine-requires-clause-rows c =
+    let labels = c.args.labels.items in
+    let n : c.len.result ≡ length labels = search rules in
+    subst (λ (i : ℕ). AreLetters c.deref.result.now i) n
+    (subst (λ (letters : List Letter). AreLetters letters c.len.result) (sym c.deref.ensures.value)
+    (are_letters c.args.next.now c.len.result c.in_ok-letters.letters.items c.in_ok-letters.ensures))
 
 pub returns-clause-row : goal.returns-clause-row
 returns-clause-row c =
@@ -17,9 +28,8 @@ returns-clause-coarsest c =
     let labels = c.args.labels.items in
     let table = c.args.next.now in
     let n : c.len.result ≡ length labels = search rules in
-    let letters : c.deref.result.now ≡ c.in_ok-letters.letters.items = c.deref.ensures.value in
-    let e = c.in_ok-letters.ensures in
-    by_bytes c.deref.result.now table labels (λ x. slice_index _ x)
-    (subst (λ (ls : List Letter). length ls ≡ 256) (sym letters) e.count)
-    (λ a x h k. subst (λ (ls : List Letter). slice_index (row_of ls a) x ≡ slice_index table (x * 256 + a)) (sym letters) (e.moves a x h (omega (arith, k, n))))
-    c.requires.len c.requires.known c.in_ok-blocks.ensures.coarsest
+    let letters = c.deref.result.now in
+    let are : AreBytes table (length labels) letters = subst (λ (i : ℕ). AreBytes table i letters) n
+    (subst (λ (ls : List Letter). AreBytes table c.len.result ls) (sym c.deref.ensures.value) c.in_ok-letters.ensures) in
+    by_bytes letters table labels (λ x. slice_index c.in_ok-blocks.blocks.block.items x) are c.requires.len c.requires.known
+    (closed letters labels (are_letters table (length labels) letters are)) c.in_ok-blocks.ensures.coarsest
