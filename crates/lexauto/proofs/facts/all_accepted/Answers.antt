@@ -15,13 +15,13 @@ loop-kept-preserved c =
     let keys = kept_in c.args.keys.now in
     let lt : n < length c.args.keys.now = search rules in
     let here : slice_get keys n ≡ Some (unpacked c.kept-item.result.items) = item_at (λ (v : Vec ℕ Global). unpacked v.items) c.args.keys.now n c.kept-item.result lt c.kept-item.is in
-    let lists : keys_in c.push.new.self.items ≡ keys_in c.loop-kept.all.items ++ c.in_ok-accepted.accepted.items ∷ [] =
-    ap keys_in c.in_ok-push.ensures.items ∙ keys_of_push c.loop-kept.all.items c.in_ok-accepted.accepted in
-    let is : c.in_ok-accepted.accepted.items ≡ accepted_by (spec_of c.args.moves.now.spec.now) (unpacked c.kept-item.result.items) = search rules in
+    let lists : keys_in c.push.new.self.items ≡ keys_in c.loop-kept.all.items ++ c.in_ok-walked.walked.accepted.items ∷ [] =
+    ap keys_in c.in_ok-push.ensures.items ∙ keys_of_push c.loop-kept.all.items c.in_ok-walked.walked.accepted in
+    let is : c.in_ok-walked.walked.accepted.items ≡ accepted_by (spec_of c.args.moves.now.spec.now) (unpacked c.kept-item.result.items) = search rules in
     record {
       len = search rules;
       told = λ i k h at. ap (λ (ls : List (List ℕ)). get_or ls i []) lists
-          ∙ told_more [] (accepted_by (spec_of c.args.moves.now.spec.now)) keys (keys_in c.loop-kept.all.items) n (unpacked c.kept-item.result.items) c.in_ok-accepted.accepted.items
+          ∙ told_more [] (accepted_by (spec_of c.args.moves.now.spec.now)) keys (keys_in c.loop-kept.all.items) n (unpacked c.kept-item.result.items) c.in_ok-walked.walked.accepted.items
           (keys_length c.loop-kept.all.items ∙ c.loop-kept.invariant.len) here is c.loop-kept.invariant.told i k h at;
     }
 
