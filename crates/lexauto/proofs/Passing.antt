@@ -1,24 +1,27 @@
 -- A walk goes from rule to rule by the last positions: nothing comes next of a rule that has none of them, and it is not left.
-use Rattle.std.proofs.Common.{◌≡◌, ℕ, zero, suc, ◌+◌, ◌-◌, ◌<◌, ◌≤◌, ◌⊎◌, ◌||◌, Bool, true, false, cond, List, [], ◌∷◌, ◌++◌, Option, Some, None, length, drop, get_or, inl, inr, refl, sym, ap, subst, ◌∙◌, arith, append_assoc}
-use Rattle.std.specs.Prelude.{slice_index, slice_get}
+use Rattle.std.proofs.Common.{◌≡◌, ℕ, zero, suc, ◌+◌, ◌-◌, ◌<◌, ◌≤◌, ◌⊎◌, ◌||◌, Bool, true, false, cond, List, [], ◌∷◌, ◌++◌, Option, Some, None, length, map, drop, get_or, inl, inr, refl, sym, ap, subst, ◌∙◌, arith, append_assoc}
+use Rattle.std.specs.Prelude.{slice_index, slice_index_or, slice_get}
 use Rattle.std.proofs.lemmas.List.{drop-drop, drop_more}
-use Rattle.std.proofs.lemmas.Option.{get_or_from_slice_get, slice_get_within}
+use Rattle.std.proofs.lemmas.Option.{get_or_from_slice_get, slice_get-get_or}
 use Rattle.lexmeaning.specs.Active.{lists}
 use Rattle.lexmeaning.specs.Tree.{Tree}
 use Rattle.lexmeaning.specs.Positions.{positions}
 use Rattle.lexmeaning.specs.Spec.{Rule}
 use Rattle.lexmeaning.specs.Subsets.{positions_of_trail, positions_of_rule, all_positions, base_of}
 use Rattle.lexmeaning.specs.Text.{listed}
-use Rattle.lexauto.specs.Cursors.{Increases, IsCursor, IsFront}
+use Rattle.lexauto.specs.Cursors.{IsCursor, IsFront}
 use Rattle.lexauto.specs.Flow.{exits, enters}
+use Rattle.lexauto.specs.Laid.{shape_of, IsSizedRule, HaveSized}
 use Rattle.lexauto.specs.Owners.{AreOwners}
 use Rattle.lexauto.specs.RuleFlow.{trail_exits, trail_enters, rule_exits, rule_enters, rules_enter, rules_left}
 use Rattle.lexauto.specs.declared.owners.Owner.{Owner}
+use Rattle.lexauto.specs.declared.rules.LaidRule.{LaidRule}
 use Rattle.lexauto.proofs.Bases.{base_low, base_up, base_within, base_next, base_first, base_behind}
 use Rattle.lexauto.proofs.Copies.{or_false, or_assoc}
 use Rattle.lexauto.proofs.CursorLaws.{cursor_past, none_before, front_wider, front_none}
 use Rattle.lexauto.proofs.LaidLaws.{front_listed}
 use Rattle.lexauto.proofs.Quiet.{quiet_exits, quiet_enters}
+use Rattle.lexauto.proofs.StepLemmas.{item_at, length_map}
 
 -- no rule is entered
 abbrev pub nowhere : ℕ → Bool
@@ -235,3 +238,44 @@ module _ (rules : List Rule) (last : List ℕ) (at : ℕ) (next left : List ℕ)
 
     pub all_left : left ≡ rules_left rules (lists last) 0 0
     all_left = sym (nil_after left) ∙ ap (λ (l : List ℕ). left ++ l) (sym rest_none.1) ∙ h.goes
+
+sized_at : (laid : List LaidRule) (i : ℕ) (l : LaidRule) → HaveSized laid → i < length laid → l ≡ get_or laid i l → IsSizedRule l
+sized_at [] i l h low e = absurd (omega arith)
+sized_at (x ∷ laid) zero l h low e = subst (λ (r : LaidRule). IsSizedRule r) (sym e) h.0
+sized_at (x ∷ laid) (suc i) l h low e = sized_at laid i l h.1 (omega arith) e
+
+-- the same of rules that are laid out
+module _ (laid : List LaidRule) (owners : List Owner) (last : List ℕ) (at : ℕ) (next left : List ℕ) (are : AreOwners (map shape_of laid) owners)
+    (known : (j : ℕ) → j < length last → slice_index last j < length owners) (h : HasPassed (map shape_of laid) last at next left) (low : at < length last) where
+  abbrev owner : Owner
+  owner = slice_index_or owners (slice_index last at) (record { rule = 0; base = 0 })
+
+  own : slice_get owners (slice_index last at) ≡ Some owner
+  own = slice_get-get_or owners (slice_index last at) (record { rule = 0; base = 0 }) (known at low)
+
+  pub owner_within : owner.rule < length laid
+  owner_within = let w = rule_within (map shape_of laid) last at next left h owners are owner low own in omega (arith, w, length_map shape_of laid)
+
+  pub owner_cursor : IsCursor last at owner.base
+  owner_cursor = at_rule (map shape_of laid) last at next left h owners are owner low own
+
+  pub owner_front : IsFront next owner.base
+  owner_front = at_front (map shape_of laid) last at next left h owners are owner low own
+
+  module _ (rule : LaidRule) (is : rule ≡ get_or laid owner.rule rule) where
+    there : slice_get (map shape_of laid) owner.rule ≡ Some (shape_of rule)
+    there = item_at shape_of laid owner.rule rule owner_within is
+
+    pub owner_sized : HaveSized laid → IsSizedRule rule
+    owner_sized sized = sized_at laid owner.rule rule sized owner_within is
+
+    pub owner_few : owner.base + positions_of_rule (shape_of rule) ≤ all_positions (map shape_of laid)
+    owner_few = rule_few (map shape_of laid) last at next left h owners are owner low own (shape_of rule) there
+
+    pub owner_further : (n : ℕ) → IsCursor last n (owner.base + positions_of_rule (shape_of rule)) → at < n
+    owner_further = further (map shape_of laid) last at next left h owners are owner low own (shape_of rule) there
+
+    pub owner_passed : (n : ℕ) (more gone : List ℕ) → IsCursor last n (owner.base + positions_of_rule (shape_of rule)) → IsFront more (owner.base + positions_of_rule (shape_of rule))
+        → ((q : ℕ) → lists more q ≡ (lists next q || rule_enters (shape_of rule) (lists last) q owner.base false))
+        → gone ≡ left ++ cond (rule_exits (shape_of rule) (lists last) owner.base) (owner.rule ∷ []) [] → HasPassed (map shape_of laid) last n more gone
+    owner_passed = one_passed (map shape_of laid) last at next left h owners are owner low own (shape_of rule) there

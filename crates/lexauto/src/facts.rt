@@ -1,13 +1,10 @@
 //! What the keys of states tell: the positions that follow, and the rules that are accepted.
-ghost use Rattle.std.specs.Prelude.{◌≡◌, [], length, IfOk};
+ghost use Rattle.std.specs.Prelude.{◌≡◌, [], IfOk};
 ghost use Rattle.lexspec.specs.Views.{spec_of, rules_in};
-ghost use Rattle.lexauto.specs.Keys.{keys_in};
 ghost use Rattle.lexauto.specs.Moving.{followers_in};
-ghost use Rattle.lexauto.specs.Packing.{kept_in};
 ghost use Rattle.lexauto.specs.Sets.{starts_in, lasts_in};
-ghost use Rattle.lexauto.specs.Facts.{accepted_by, AcceptedBy};
+ghost use Rattle.lexauto.specs.Facts.{accepted_by};
 
-use crate::packing::unpacked;
 use crate::rules::{Walked, enter_rules, pass_rules};
 use crate::sets::{in_order, lasts_in, marks_of, starts_in};
 use crate::stepping::RuleMoves;
@@ -49,22 +46,4 @@ pub(crate) fn walk(alloc: Global, moves: &RuleMoves, key: &[u32]) -> Result<Walk
         return walk_lasts(alloc, moves, key);
     }
     walk_starts(alloc, moves, key)
-}
-
-/// The rules that each state accepts.
-pub(crate) fn all_accepted(
-    alloc: Global,
-    moves: &RuleMoves,
-    keys: &[Vec<u32>],
-) -> Result<Vec<Vec<u32>>, AllocError>
-    ensures len { IfOk result (λ v. length v.items ≡ length keys.now) }
-    ensures accepted { IfOk result (λ v. AcceptedBy (spec_of moves.now.spec.now) (kept_in keys.now) (keys_in v.items)) }
-{
-    let mut all = Vec::new(alloc);
-    for kept in keys {
-        let key = unpacked(alloc, kept)?;
-        let walked = walk(alloc, moves, &key)?;
-        all.push(walked.accepted)?;
-    }
-    Ok(all)
 }

@@ -4,6 +4,7 @@ ghost use Rattle.lexmeaning.specs.Spec.{rejects};
 ghost use Rattle.lexmeaning.specs.Subsets.{all_positions};
 ghost use Rattle.lexspec.specs.Views.{spec_of, rules_in};
 ghost use Rattle.lexmeaning.specs.Text.{flag};
+ghost use Rattle.lexauto.specs.Facts.{accepted_by};
 ghost use Rattle.lexauto.specs.Laid.{shape_of, HaveSized, HaveSized-prop};
 ghost use Rattle.lexauto.specs.Owners.{AreOwners};
 ghost use Rattle.lexauto.specs.RuleFlow.{rules_enter, rules_left, rules_read};
@@ -13,7 +14,7 @@ use crate::explore::Moves;
 use crate::facts::walk;
 use crate::letters::mark_rules;
 use crate::owners::{Owner, owners_of};
-use crate::rules::{LaidRule, lay_rules};
+use crate::rules::{LaidRule, Walked, lay_rules};
 use crate::sets::last_key;
 use lexspec::Spec;
 use std::alloc::{AllocError, Global};
@@ -115,11 +116,12 @@ impl<'a> RuleMoves<'a> {
 impl Moves for RuleMoves<'_> {
     ghost follow = { λ m k. followers_in (rules_in (spec_of m.spec.now)) m.count k };
 
+    ghost accept = { λ m k. accepted_by (spec_of m.spec.now) k };
+
     ghost read = { λ m k b. reading_in (rules_in (spec_of m.spec.now)) k b };
 
-    fn followers(&self, alloc: Global, key: &[u32]) -> Result<Vec<u32>, AllocError> {
-        let walked = walk(alloc, self, key)?;
-        Ok(walked.followers)
+    fn walk(&self, alloc: Global, key: &[u32]) -> Result<Walked, AllocError> {
+        walk(alloc, self, key)
     }
 
     fn reading(&self, alloc: Global, followers: &[u32], byte: u8) -> Result<Vec<u32>, AllocError> {

@@ -1,7 +1,6 @@
-use Rattle.std.proofs.Common.{◌≡◌, ◌<◌, ℕ, Bool, false, List, [], length, map, refl, sym, ap, ◌∙◌, arith}
+use Rattle.std.proofs.Common.{◌≡◌, ◌<◌, ℕ, Bool, List, length, map, refl, ap, ◌∙◌, arith}
 use Rattle.std.specs.Prelude.{slice_index}
 use Rattle.lexmeaning.specs.Active.{lists}
-use Rattle.lexmeaning.specs.Spec.{rejects}
 use Rattle.lexmeaning.specs.Subsets.{all_positions}
 use Rattle.lexspec.specs.Views.{spec_of, rules_in}
 use Rattle.lexauto.specs.Facts.{chosen}
