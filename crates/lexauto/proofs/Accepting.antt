@@ -17,15 +17,11 @@ use Rattle.lexauto.proofs.FlowMeaning.{both, back, no_true}
 use Rattle.lexauto.proofs.RuleMeaning.{rule_exits_is}
 use Rattle.lexauto.proofs.Numbers.{marked_is, lasts_tagged}
 use Rattle.lexauto.proofs.ActiveRules.{AreSound, SoundRule, rule_is, rule_finishes, occurs_range}
+use Rattle.lexauto.proofs.Bases.{base_low}
 use Rattle.lexauto.proofs.LastPositions.{accepts_is, last_to_path, occurs}
 use Rattle.lexauto.proofs.Meaning.{fit_read, read_fit, sound_rules}
 
 -- the positions of rules don't overlap
-
-base_low : (rules : List Rule) (base j : ℕ) → base ≤ base_of rules base j
-base_low [] base j = omega arith
-base_low (r ∷ rules) base zero = omega arith
-base_low (r ∷ rules) base (suc j) = let h = base_low rules (base + positions_of_rule r) j in omega (arith, h)
 
 base_order : (rules : List Rule) (base i j : ℕ) (r : Rule) → slice_get rules i ≡ Some r → i < j → base_of rules base i + positions_of_rule r ≤ base_of rules base j
 base_order [] base i j r at h = absurd (none at)

@@ -150,3 +150,7 @@ listed_flags n f low i = elim (cases_Bool (f i)) [
   | inl y ↦ (lists_is (listed f 0 n) i).1 ((listed_is f n i).1 (low i y, y)) ∙ sym y
   | inr e ↦ not_true (lists (listed f 0 n) i) (λ h. no_true (sym e ∙ ((listed_is f n i).0 ((lists_is (listed f 0 n) i).0 h)).1)) ∙ sym e
 ]
+
+-- those that are marked are less than n
+pub below_marked : (n : ℕ) (l xs : List ℕ) → ((i : ℕ) → lists l i ≡ marked n xs i) → (j : ℕ) → j < length l → slice_index l j < n
+below_marked n l xs h j low = ((marked_is n xs (slice_index l j)).0 (sym (h (slice_index l j)) ∙ (lists_is l (slice_index l j)).1 (at_among l j low))).0

@@ -26,3 +26,6 @@ pub mod AlikeLaws
 pub mod CursorLaws
 pub mod LaidLaws
 pub mod Built
+pub mod Bases
+pub mod Owning
+pub mod Passing

@@ -1,11 +1,12 @@
 -- Lists of the numbers that pass a test.
-use Rattle.std.specs.Prelude.{◌≡◌, ◌↔◌, ℕ, zero, suc, ◌+◌, ◌-◌, ◌<◌, ◌≤◌, Bool, true, false, cond, ◌⊎◌, List, [], ◌∷◌, ◌++◌, nat_lt, nat_eq}
+use Rattle.std.specs.Prelude.{◌≡◌, ◌↔◌, ℕ, zero, suc, ◌+◌, ◌-◌, ◌<◌, ◌≤◌, Bool, true, false, cond, ◌⊎◌, List, [], ◌∷◌, ◌++◌, ◌&&◌, nat_lt, nat_eq}
 use Rattle.std.proofs.Common.{rules, inl, inr, refl, ap, sym, ◌∙◌, arith}
 use Rattle.std.proofs.lemmas.List.{append_assoc}
 use Rattle.std.proofs.lemmas.Bool.{ltb-true, eqb-true, eq-eqb}
 use Rattle.std.specs.List.{filter}
 use Rattle.lexmeaning.specs.Text.{Among, Ascending, listed}
 use Rattle.lexmeaning.specs.Active.{lists}
+use Rattle.lexauto.specs.Keys.{Key}
 use Rattle.lexauto.specs.Sets.{marked, tagged, starts_in, lasts_in}
 use Rattle.lexauto.proofs.FlowMeaning.{both, either, or_is, and_is, no_true}
 
@@ -135,3 +136,16 @@ lasts_tagged (x ∷ xs) = refl
 pub no_lasts_tagged : (xs : List ℕ) → lasts_in (tagged 0 xs) ≡ []
 no_lasts_tagged [] = refl
 no_lasts_tagged (x ∷ xs) = refl
+
+-- a key tells of starts or of last positions, and not of both
+pub starts_or_lasts : (k : Key) → (starts_in k ≡ []) ⊎ (lasts_in k ≡ [])
+starts_or_lasts [] = inl refl
+starts_or_lasts (zero ∷ xs) = inr refl
+starts_or_lasts (suc kind ∷ xs) = inl refl
+
+pub none_marked : (n i : ℕ) (xs : List ℕ) → xs ≡ [] → false ≡ marked n xs i
+none_marked n i xs e = from (nat_lt i n) ∙ ap (λ (ys : List ℕ). marked n ys i) (sym e)
+  where
+    from : (b : Bool) → false ≡ (b && false)
+    from true = refl
+    from false = refl

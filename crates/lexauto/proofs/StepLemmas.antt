@@ -1,7 +1,7 @@
 -- What the code of a step holds, against what a step is.
-use Rattle.std.specs.Prelude.{◌≡◌, ℕ, zero, suc, ◌<◌, Bool, true, false, List, [], ◌∷◌, ◌++◌, ◌+◌, length, map, slice_get, Some, Vec}
+use Rattle.std.specs.Prelude.{◌≡◌, ℕ, zero, suc, ◌<◌, ◌≤◌, ◌^◌, ◌&&◌, nat_le, Bool, true, false, List, [], ◌∷◌, ◌++◌, ◌+◌, length, map, slice_get, Some, Vec}
 use Rattle.std.proofs.Common.{refl, ap, sym, ◌∙◌, arith, Global, get_or, replicate, inl, inr}
-use Rattle.std.proofs.lemmas.Bool.{cases_lt}
+use Rattle.std.proofs.lemmas.Bool.{cases_lt, leb-true}
 use Rattle.std.proofs.lemmas.List.{get_or_push, get_or_append_left}
 use Rattle.std.proofs.Math.Path.{fun_ext}
 use Rattle.std.proofs.Math.Bool.{beq}
@@ -11,7 +11,10 @@ use Rattle.std.proofs.lemmas.Slice.Eq.{slice_eq-Decides}
 use Rattle.std.specs.List.{filter}
 use Rattle.lexmeaning.specs.Spec.{Spec, Rule}
 use Rattle.lexmeaning.specs.Sound.{IsSoundRule, HaveSoundSides}
-use Rattle.lexspec.specs.Tests.{is_sound}
+use Rattle.lexaction.specs.Limits.{max_conditions}
+use Rattle.lexspec.specs.Limits.{max_rules}
+use Rattle.lexspec.specs.Tests.{is_sound, sound_conditions, sound_rules}
+use Rattle.lexauto.proofs.FlowMeaning.{and_is}
 use Rattle.lexspec.proofs.TestLaws.{spec_is_sound}
 use Rattle.lexauto.specs.Keys.{Key}
 use Rattle.lexmeaning.specs.Text.{flag, listed}
@@ -52,16 +55,24 @@ pub reading_alike : (rules : List Rule) (followers : List ℕ) (b c : ℕ) → (
 unfolding reading_in
 reading_alike rules followers b c h = ap (λ (f : ℕ → Bool). tagged 1 (filter f followers)) (fun_ext h)
 
-module _ (rules : List Rule) (count n : ℕ) (k : Key) (on : List Bool) (last : ℕ → Bool) where
-  pub followers_is : length rules ≡ n → ((i : ℕ) → flag on i ≡ marked n (starts_in k) i) → ((p : ℕ) → last p ≡ marked count (lasts_in k) p)
-      → listed (λ q. rules_enter rules (flag on) last q 0 0) 0 count ≡ followers_in rules count k
+module _ (rules : List Rule) (count n : ℕ) (k : Key) (on last : ℕ → Bool) where
+  pub followers_is : length rules ≡ n → ((i : ℕ) → on i ≡ marked n (starts_in k) i) → ((p : ℕ) → last p ≡ marked count (lasts_in k) p)
+      → listed (λ q. rules_enter rules on last q 0 0) 0 count ≡ followers_in rules count k
   unfolding followers_in
   followers_is same o l =
-      let on_is : flag on ≡ marked (length rules) (starts_in k) = fun_ext (λ i. o i ∙ ap (λ (m : ℕ). marked m (starts_in k) i) (sym same)) in
+      let on_is : on ≡ marked (length rules) (starts_in k) = fun_ext (λ i. o i ∙ ap (λ (m : ℕ). marked m (starts_in k) i) (sym same)) in
       let last_is : last ≡ marked count (lasts_in k) = fun_ext l in
       let by_on : (ℕ → Bool) → ℕ → Bool = λ f q. rules_enter rules f last q 0 0 in
       let by_last : (ℕ → Bool) → ℕ → Bool = λ f q. rules_enter rules (marked (length rules) (starts_in k)) f q 0 0 in
       ap (λ (f : ℕ → Bool). listed f 0 count) (ap by_on on_is ∙ ap by_last last_is)
+
+pub few_rules : (S : Spec) → is_sound S ≡ true → length S.rules < 2 ^ 32
+few_rules S h =
+    let four = (and_is (nat_le 1 (length S.conditions) && nat_le (length S.conditions) max_conditions && nat_le (length S.rules) max_rules && sound_conditions S.conditions) (sound_rules (length S.conditions) S.rules)).0 h in
+    let three = (and_is (nat_le 1 (length S.conditions) && nat_le (length S.conditions) max_conditions && nat_le (length S.rules) max_rules) (sound_conditions S.conditions)).0 four.0 in
+    let two = (and_is (nat_le 1 (length S.conditions) && nat_le (length S.conditions) max_conditions) (nat_le (length S.rules) max_rules)).0 three.0 in
+    let most : length S.rules ≤ 4096 = leb-true (length S.rules) max_rules two.1 in
+    omega (arith, most)
 
 pub listed_same : (f g : ℕ → Bool) (m n : ℕ) → ((q : ℕ) → f q ≡ g q) → m ≡ n → listed f 0 m ≡ listed g 0 n
 listed_same f g m n h e = ap (λ (k : ℕ → Bool). listed k 0 m) (fun_ext h) ∙ ap (listed g 0) e

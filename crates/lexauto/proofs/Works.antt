@@ -1,18 +1,18 @@
 -- The steps of a work list.
-use Rattle.std.proofs.Common.{◌≡◌, ◌==◌, Bool, false, not, ℕ, suc, ◌+◌, ◌*◌, ◌/◌, ◌%◌, ◌<◌, ◌≤◌, ◌⊎◌, List, [], ◌∷◌, ◌++◌, length, Option, refl, ap, sym, subst, ◌∙◌, inl, inr, arith, get_or, length-append}
+use Rattle.std.proofs.Common.{◌≡◌, ◌==◌, not, ℕ, suc, ◌+◌, ◌*◌, ◌/◌, ◌%◌, ◌<◌, ◌≤◌, ◌⊎◌, List, [], ◌∷◌, ◌++◌, length, Option, refl, ap, sym, subst, ◌∙◌, inl, inr, arith, get_or, length-append}
 use Rattle.std.proofs.lemmas.Bool.{cases_lt, ne_eqb}
 use Rattle.std.specs.Prelude.{slice_index}
 use Rattle.std.proofs.lemmas.Option.{slice_get_within, slice_get-get_or, get_or_from_slice_get}
 use Rattle.std.proofs.lemmas.List.{get_or_push, get_or_append_left}
 use Rattle.lexauto.specs.Keys.{Key, At, Absent, Apart, Finds, Found}
 use Rattle.lexmeaning.specs.Text.{IsText}
-use Rattle.lexauto.specs.Explored.{run, Reached, IsAutomaton, MoreThan, key_at, Exploring, Held, GoOn, GoOnSoFar}
+use Rattle.lexauto.specs.Explored.{run, Reached, IsAutomaton, MoreThan, key_at, Exploring, Held, Tells, TellsSoFar}
 use Rattle.lexmeaning.specs.Reading.{is_empty}
 use Rattle.lexauto.proofs.Places.{at_longer, at_shorter}
 
--- for each key up to this place, whether something follows it
-abbrev pub OnAt : (Key → Key) → List Key → ℕ → List Bool → Type 0
-OnAt follow keys at goes = (length goes ≡ at + 1) × ((i : ℕ) → i < length goes → get_or goes i false ≡ not (is_empty (follow (key_at keys i))))
+-- for each key up to this place, what f tells of it
+abbrev pub ToldAt : {A : Type 0} → A → (Key → A) → List Key → ℕ → List A → Type 0
+ToldAt none f keys at told = (length told ≡ at + 1) × ((i : ℕ) → i < length told → get_or told i none ≡ f (key_at keys i))
 
 pub some_is : (l : List ℕ) → not (length l == 0) ≡ not (is_empty l)
 some_is [] = refl
@@ -95,43 +95,43 @@ module _ (step : Key → ℕ → Key) where
           let same : key_at new (n / 256) ≡ key_at keys (n / 256) = key_is new (n / 256) (key_at keys (n / 256)) (grown keys new k found (n / 256) (key_at keys (n / 256)) (is_key keys (n / 256) low)) in
           rw (place, same) is
 
-      module _ (follow : Key → Key) where
-        pub on_first : (n : ℕ) (goes : List Bool) (x : Bool) → n ≡ length next → n % 256 ≡ 0 → GoOnSoFar follow keys next goes → x ≡ not (is_empty (follow (key_at keys (n / 256))))
-            → OnAt follow keys (n / 256) (goes ++ x ∷ [])
-        on_first n goes x count whole on is =
+      module _ {A : Type 0} (none : A) (f : Key → A) where
+        pub told_first : (n : ℕ) (told : List A) (x : A) → n ≡ length next → n % 256 ≡ 0 → TellsSoFar none f keys next told → x ≡ f (key_at keys (n / 256))
+            → ToldAt none f keys (n / 256) (told ++ x ∷ [])
+        told_first n told x count whole on is =
             let len = on.len in
-            let more : length (goes ++ x ∷ []) ≡ length goes + 1 = length-append goes (x ∷ []) in
-            let size : length goes ≡ n / 256 = omega (arith, len, count, whole) in (
+            let more : length (told ++ x ∷ []) ≡ length told + 1 = length-append told (x ∷ []) in
+            let size : length told ≡ n / 256 = omega (arith, len, count, whole) in (
               omega (arith, more, size),
-              λ i h. elim (cases_lt i (length goes)) [
-                | inl g ↦ rw (get_or_append_left goes (x ∷ []) false i g) (on.each i g)
+              λ i h. elim (cases_lt i (length told)) [
+                | inl g ↦ rw (get_or_append_left told (x ∷ []) none i g) (on.each i g)
                 | inr g ↦ (let at : i ≡ n / 256 = omega (arith, more, size, g, h) in
-                    rw (at, get_or_push goes x false (n / 256) size) is)
+                    rw (at, get_or_push told x none (n / 256) size) is)
               ],
             )
 
-        pub on_further : (n : ℕ) (goes : List Bool) → n ≡ length next → 0 < n % 256 → GoOnSoFar follow keys next goes → OnAt follow keys (n / 256) goes
-        on_further n goes count some on = (let len = on.len in omega (arith, len, count, some), on.each)
+        pub told_further : (n : ℕ) (told : List A) → n ≡ length next → 0 < n % 256 → TellsSoFar none f keys next told → ToldAt none f keys (n / 256) told
+        told_further n told count some on = (let len = on.len in omega (arith, len, count, some), on.each)
 
-        pub on_longer : (new : List Key) (target n : ℕ) (k : Key) (goes : List Bool) → n ≡ length next → n / 256 < length keys → Found keys k new → OnAt follow keys (n / 256) goes
-            → GoOnSoFar follow new (next ++ target ∷ []) goes
-        on_longer new target n k goes count low found on =
+        pub told_longer : (new : List Key) (target n : ℕ) (k : Key) (told : List A) → n ≡ length next → n / 256 < length keys → Found keys k new → ToldAt none f keys (n / 256) told
+            → TellsSoFar none f new (next ++ target ∷ []) told
+        told_longer new target n k told count low found on =
             let size = on.0 in
             record {
               len = let more : length (next ++ target ∷ []) ≡ length next + 1 = length-append next (target ∷ []) in omega (arith, more, size, count);
               each = λ i h. (let lower : i < length keys = omega (arith, size, h, low) in
-                  on.1 i h ∙ ap (λ (q : Key). not (is_empty (follow q))) (sym (key_is new i (key_at keys i) (grown keys new k found i (key_at keys i) (is_key keys i lower)))));
+                  on.1 i h ∙ ap f (sym (key_is new i (key_at keys i) (grown keys new k found i (key_at keys i) (is_key keys i lower)))));
             }
 
-        pub on_done : (goes : List Bool) → length keys ≤ length next / 256 → GoOnSoFar follow keys next goes → GoOn follow keys goes
-        on_done goes done on =
+        pub told_done : (told : List A) → length keys ≤ length next / 256 → TellsSoFar none f keys next told → Tells none f keys told
+        told_done told done on =
             let len = on.len in
             let b = e.behind in
-            let size : length goes ≡ length keys = omega (arith, len, b, done) in
+            let size : length told ≡ length keys = omega (arith, len, b, done) in
             record {
               len = size;
-              each = λ i k a. (let low : i < length goes = (let w = slice_get_within keys i k a in omega (arith, w, size)) in
-                  on.each i low ∙ ap (λ (q : Key). not (is_empty (follow q))) (key_is keys i k a));
+              each = λ i k a. (let low : i < length told = (let w = slice_get_within keys i k a in omega (arith, w, size)) in
+                  on.each i low ∙ ap f (key_is keys i k a));
             }
 
       pub apart : Apart keys

@@ -42,16 +42,23 @@ pub record Exploring (step : Key → ℕ → Key) (roots : List Key) (find : Key
   pub behind : length next ≤ 256 * length keys
   pub room : length keys ≤ limit
 
+-- for each key, what f tells of it
+pub record Tells {A : Type 0} (none : A) (f : Key → A) (keys : List Key) (told : List A) : Type 0 where
+  pub len : length told ≡ length keys
+  pub each : (i : ℕ) (k : Key) → At keys i k → slice_index_or told i none ≡ f k
+
 -- for each key, whether something follows it
-pub record GoOn (follow : Key → Key) (keys : List Key) (goes_on : List Bool) : Type 0 where
-  pub len : length goes_on ≡ length keys
-  pub each : (i : ℕ) (k : Key) → At keys i k → slice_index_or goes_on i false ≡ not (is_empty (follow k))
+abbrev pub goes_by : (Key → Key) → Key → Bool
+goes_by follow k = not (is_empty (follow k))
+
+abbrev pub GoOn : (Key → Key) → List Key → List Bool → Type 0
+GoOn follow = Tells false (goes_by follow)
 
 -- what follows a key that has some of its moves, but not all
 abbrev pub Held : (Key → Key) → List Key → List ℕ → Key → Type 0
 Held follow keys next held = 0 < length next % 256 → held ≡ follow (key_at keys (length next / 256))
 
--- for each key that has some of its moves, whether something follows it
-pub record GoOnSoFar (follow : Key → Key) (keys : List Key) (next : List ℕ) (goes_on : List Bool) : Type 0 where
-  pub len : length goes_on ≡ (length next + 255) / 256
-  pub each : (i : ℕ) → i < length goes_on → slice_index_or goes_on i false ≡ not (is_empty (follow (key_at keys i)))
+-- for each key that has some of its moves, what f tells of it
+pub record TellsSoFar {A : Type 0} (none : A) (f : Key → A) (keys : List Key) (next : List ℕ) (told : List A) : Type 0 where
+  pub len : length told ≡ (length next + 255) / 256
+  pub each : (i : ℕ) → i < length told → slice_index_or told i none ≡ f (key_at keys i)

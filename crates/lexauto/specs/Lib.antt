@@ -17,3 +17,4 @@ pub mod Plans
 pub mod Cursors
 pub mod Alike
 pub mod Laid
+pub mod Owners

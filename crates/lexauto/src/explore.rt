@@ -1,11 +1,12 @@
 //! A work list over keys: all that are reached from some roots, each once, with their moves.
-ghost use Rattle.std.specs.Prelude.{◌≡◌, ℕ, ◌<◌, ◌≤◌, List, length, slice_index, IfOk, OnOk, IsErrOf};
+ghost use Rattle.std.specs.Prelude.{◌≡◌, ℕ, ◌<◌, ◌≤◌, List, [], ◌∷◌, ◌++◌, length, slice_index, IfOk, OnOk, IsErrOf};
 ghost use Rattle.lexauto.specs.declared.explore.ExploreError.TheVariants.{Memory};
-ghost use Rattle.lexauto.specs.Explored.{GoOn, IsAutomaton, MoreThan, Reached, step_by};
-ghost use Rattle.lexauto.specs.Keys.{At, Absent, Found, Finds};
-ghost use Rattle.lexauto.specs.Packing.{look_kept, kept_in};
+ghost use Rattle.lexauto.specs.Explored.{GoOn, IsAutomaton, MoreThan, Reached, Tells, goes_by, step_by};
+ghost use Rattle.lexauto.specs.Keys.{At, Absent, Found, Finds, keys_in};
+ghost use Rattle.lexauto.specs.Packing.{look_kept, kept_in, unpacked};
 
 use crate::packing::{packed, unpacked};
+use crate::rules::Walked;
 use std::alloc::{AllocError, AllocFailed, Global};
 use std::collections::BTreeMap;
 
@@ -70,11 +71,14 @@ pub(crate) fn intern(
 pub(crate) trait Moves {
     ghost follow: { Self → List ℕ → List ℕ };
 
+    ghost accept: { Self → List ℕ → List ℕ };
+
     ghost read: { Self → List ℕ → ℕ → List ℕ };
 
-    /// What follows a key, by whatever byte.
-    fn followers(&self, alloc: Global, key: &[u32]) -> Result<Vec<u32>, AllocError>
-        ensures { IfOk result (λ k. k.items ≡ follow self.now key.now) };
+    /// What follows a key, by whatever byte, and which rules it accepts.
+    fn walk(&self, alloc: Global, key: &[u32]) -> Result<Walked, AllocError>
+        ensures followers { IfOk result (λ w. w.followers.items ≡ follow self.now key.now) }
+        ensures accepted { IfOk result (λ w. w.accepted.items ≡ accept self.now key.now) };
 
     /// The key that one byte makes of what follows.
     fn reading(&self, alloc: Global, followers: &[u32], byte: u8) -> Result<Vec<u32>, AllocError>
@@ -113,11 +117,40 @@ fn target<M: Moves>(
     intern(alloc, table, key, limit)
 }
 
-/// The keys that are reached, as they are kept, 256 moves for each, and whether something follows it.
+/// What keys tell, in their order: the rules that each accepts, and whether something follows it.
+#[derive(Drop)]
+struct Told {
+    accepts: Vec<Vec<u32>>,
+    goes_on: Vec<bool>,
+}
+
+impl Told {
+    /// Adds what a key tells, which is kept so. Answers what follows it.
+    fn add<M: Moves>(
+        &mut self,
+        alloc: Global,
+        moves: &M,
+        kept: &[u32],
+    ) -> Result<Vec<u32>, AllocError>
+        ensures followers { IfOk result (λ v. v.items ≡ M.follow moves.now (unpacked kept.now)) }
+        ensures accepts { OnOk result (keys_in self.new.accepts.items ≡ keys_in self.old.accepts.items ++ M.accept moves.now (unpacked kept.now) ∷ []) }
+        ensures goes_on { OnOk result (self.new.goes_on.items ≡ self.old.goes_on.items ++ goes_by (M.follow moves.now) (unpacked kept.now) ∷ []) }
+    {
+        let key = unpacked(alloc, kept)?;
+        let walked = moves.walk(alloc, &key)?;
+        self.accepts.push(walked.accepted)?;
+        self.goes_on.push(!walked.followers.is_empty())?;
+        Ok(walked.followers)
+    }
+}
+
+/// The keys that are reached, as they are kept, 256 moves for each, the rules that each accepts, and whether something
+/// follows it.
 #[derive(Drop)]
 pub(crate) struct Explored {
     pub keys: Vec<Vec<u32>>,
     pub next: Vec<u32>,
+    pub accepts: Vec<Vec<u32>>,
     pub goes_on: Vec<bool>,
 }
 
@@ -133,20 +166,22 @@ pub(crate) fn explore<M: Moves>(
     requires room { length roots.keys.items ≤ limit }
     ensures ok { IfOk result (λ t. IsAutomaton (step_by (M.follow moves.now) (M.read moves.now)) (kept_in roots.keys.items) (kept_in t.keys.items) t.next.items) }
     ensures room { IfOk result (λ t. length t.keys.items ≤ limit) }
+    ensures accepts { IfOk result (λ t. Tells [] (M.accept moves.now) (kept_in t.keys.items) (keys_in t.accepts.items)) }
     ensures goes_on { IfOk result (λ t. GoOn (M.follow moves.now) (kept_in t.keys.items) t.goes_on.items) }
     ensures too_many { IsErrOf result ExploreError.TooMany → MoreThan limit (Reached (step_by (M.follow moves.now) (M.read moves.now)) (kept_in roots.keys.items)) }
 {
     let mut table = roots;
     let mut next: Vec<u32> = Vec::new(alloc);
-    let mut goes_on: Vec<bool> = Vec::new(alloc);
+    let mut told = Told {
+        accepts: Vec::new(alloc),
+        goes_on: Vec::new(alloc),
+    };
     let mut followers: Vec<u32> = Vec::new(alloc);
     'work: while next.len() / 256 < table.keys.len() {
         let at = next.len() / 256;
         let byte = (next.len() % 256) as u8;
         if byte == 0 {
-            let key = unpacked(alloc, &table.keys[at])?;
-            followers = moves.followers(alloc, &key)?;
-            goes_on.push(!followers.is_empty())?;
+            followers = told.add(alloc, moves, &table.keys[at])?;
         }
         let row = &next[at * 256..];
         let place = target(alloc, moves, &mut table, &followers, row, byte, limit)?;
@@ -155,6 +190,7 @@ pub(crate) fn explore<M: Moves>(
     Ok(Explored {
         keys: table.keys,
         next,
-        goes_on,
+        accepts: told.accepts,
+        goes_on: told.goes_on,
     })
 }

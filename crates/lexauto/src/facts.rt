@@ -1,52 +1,49 @@
-//! What the keys of states tell: the rules that they accept.
-ghost use Rattle.std.specs.Prelude.{◌≡◌, ◌<◌, ◌≤◌, ◌^◌, length, map, IfOk, slice_get};
-ghost use Rattle.lexmeaning.specs.Spec.{rejects};
-ghost use Rattle.lexspec.specs.Views.{spec_of};
-ghost use Rattle.lexauto.specs.Keys.{keys_in};
-ghost use Rattle.lexauto.specs.Packing.{kept_in};
-ghost use Rattle.lexauto.specs.RuleFlow.{rules_left};
-ghost use Rattle.lexauto.specs.Sets.{marked, lasts_in};
-ghost use Rattle.lexauto.specs.Facts.{accepted_by, chosen, AcceptedBy};
+//! What the keys of states tell: the positions that follow, and the rules that are accepted.
+ghost use Rattle.std.specs.Prelude.{◌≡◌, [], IfOk};
+ghost use Rattle.lexspec.specs.Views.{spec_of, rules_in};
+ghost use Rattle.lexauto.specs.Moving.{followers_in};
+ghost use Rattle.lexauto.specs.Sets.{starts_in, lasts_in};
+ghost use Rattle.lexauto.specs.Facts.{accepted_by};
 
-use crate::packing::unpacked;
-use crate::rules::left_rules;
-use crate::sets::{in_order, lasts_in};
+use crate::rules::{Walked, enter_rules, pass_rules};
+use crate::sets::{in_order, lasts_in, marks_of, starts_in};
 use crate::stepping::RuleMoves;
 use std::alloc::{AllocError, Global};
 
-/// The rules that a state accepts: those that are left at their ends, or the first of them if no rule has REJECT.
-fn accepted_by(
-    alloc: Global,
-    moves: &RuleMoves,
-    whole: bool,
-    key: &[u32],
-) -> Result<Vec<u32>, AllocError>
-    requires whole { whole ≡ rejects (spec_of moves.now.spec.now) }
-    ensures { IfOk result (λ v. v.items ≡ accepted_by (spec_of moves.now.spec.now) key.now) }
+/// What a start state's key tells. No rule is accepted there.
+fn walk_starts(alloc: Global, moves: &RuleMoves, key: &[u32]) -> Result<Walked, AllocError>
+    requires { lasts_in key.now ≡ [] }
+    ensures followers { IfOk result (λ w. w.followers.items ≡ followers_in (rules_in (spec_of moves.now.spec.now)) moves.now.count key.now) }
+    ensures accepted { IfOk result (λ w. w.accepted.items ≡ accepted_by (spec_of moves.now.spec.now) key.now) }
 {
-    let last = in_order(alloc, moves.count, lasts_in(key))?;
-    let mut left = left_rules(alloc, &moves.rules, &last)?;
-    if !whole {
-        left.truncate(1);
-    }
-    Ok(left)
+    let on = marks_of(alloc, moves.rules.len(), starts_in(key))?;
+    let followers = enter_rules(alloc, &moves.rules, &on)?;
+    Ok(Walked {
+        followers,
+        accepted: Vec::new(alloc),
+    })
 }
 
-/// The rules that each state accepts.
-pub(crate) fn all_accepted(
-    alloc: Global,
-    moves: &RuleMoves,
-    keys: &[Vec<u32>],
-) -> Result<Vec<Vec<u32>>, AllocError>
-    ensures len { IfOk result (λ v. length v.items ≡ length keys.now) }
-    ensures accepted { IfOk result (λ v. AcceptedBy (spec_of moves.now.spec.now) (kept_in keys.now) (keys_in v.items)) }
+/// What another state's key tells. The rules that are accepted are those that are left at their ends, or the first of them
+/// if no rule has REJECT.
+fn walk_lasts(alloc: Global, moves: &RuleMoves, key: &[u32]) -> Result<Walked, AllocError>
+    requires { starts_in key.now ≡ [] }
+    ensures followers { IfOk result (λ w. w.followers.items ≡ followers_in (rules_in (spec_of moves.now.spec.now)) moves.now.count key.now) }
+    ensures accepted { IfOk result (λ w. w.accepted.items ≡ accepted_by (spec_of moves.now.spec.now) key.now) }
 {
-    let whole = moves.spec.rejects();
-    let mut all = Vec::new(alloc);
-    for kept in keys {
-        let key = unpacked(alloc, kept)?;
-        let accepted = accepted_by(alloc, moves, whole, &key)?;
-        all.push(accepted)?;
+    let last = in_order(alloc, moves.count, lasts_in(key))?;
+    let mut walked = pass_rules(alloc, &moves.rules, &moves.owners, &last)?;
+    walked.choose(moves.accepts_all);
+    Ok(walked)
+}
+
+/// What a key tells.
+pub(crate) fn walk(alloc: Global, moves: &RuleMoves, key: &[u32]) -> Result<Walked, AllocError>
+    ensures followers { IfOk result (λ w. w.followers.items ≡ followers_in (rules_in (spec_of moves.now.spec.now)) moves.now.count key.now) }
+    ensures accepted { IfOk result (λ w. w.accepted.items ≡ accepted_by (spec_of moves.now.spec.now) key.now) }
+{
+    if starts_in(key).is_empty() {
+        return walk_lasts(alloc, moves, key);
     }
-    Ok(all)
+    walk_starts(alloc, moves, key)
 }

@@ -7,6 +7,7 @@ mod facts;
 mod laws;
 mod layout;
 mod letters;
+mod owners;
 mod packing;
 mod rules;
 mod sets;

@@ -1,5 +1,5 @@
 //! One step of the position automaton of all rules.
-ghost use Rattle.std.specs.Prelude.{◌≡◌, ℕ, ◌+◌, ◌<◌, ◌≤◌, ◌^◌, ◌||◌, false, length, map, IfOk};
+ghost use Rattle.std.specs.Prelude.{◌≡◌, ℕ, ◌+◌, ◌<◌, ◌^◌, ◌++◌, ◌∷◌, [], ◌||◌, false, cond, length, map, slice_index, IfOk};
 ghost use Rattle.lexmeaning.specs.Active.{lists};
 ghost use Rattle.lexmeaning.specs.Sound.{HasSoundSides, HaveSoundSides};
 ghost use Rattle.lexmeaning.specs.Subsets.{positions_of_rule, all_positions};
@@ -7,11 +7,14 @@ ghost use Rattle.lexmeaning.specs.Text.{flag, listed};
 ghost use Rattle.lexspec.specs.RuleViews.{rule_of};
 ghost use Rattle.lexauto.specs.Alike.{Alike};
 ghost use Rattle.lexauto.specs.Cursors.{IsCursor, IsFront};
+ghost use Rattle.lexauto.specs.Facts.{chosen};
 ghost use Rattle.lexauto.specs.Laid.{shape_of, AlikeTrails, AlikeRules, IsSizedRule, HaveSized};
+ghost use Rattle.lexauto.specs.Owners.{AreOwners};
 ghost use Rattle.lexauto.specs.RuleFlow.{rule_exits, rule_enters, rules_enter, rules_left};
 
 use crate::layout::{Part, lay};
-use crate::walk::{Passed, enter, leave};
+use crate::owners::Owner;
+use crate::walk::{Passed, enter};
 use lexspec::Rule;
 use std::alloc::{AllocError, Global};
 
@@ -24,7 +27,7 @@ pub(crate) struct LaidRule {
 
 impl LaidRule {
     /// How many positions the rule has.
-    fn size(&self) -> usize
+    pub(crate) fn size(&self) -> usize
         requires { IsSizedRule self.now }
         ensures { result ≡ positions_of_rule (shape_of self.now) }
     {
@@ -71,99 +74,142 @@ pub(crate) fn lay_rules(alloc: Global, rules: &[Rule]) -> Result<Vec<LaidRule>, 
     Ok(laid)
 }
 
-/// Whether a rule is left at its end, where these are the last positions.
-fn leave_rule(rule: &LaidRule, last: &[u32], at: usize, base: usize) -> Passed
-    requires sized { IsSizedRule rule.now }
-    requires cursor { IsCursor last.now at base }
-    requires few { base + positions_of_rule (shape_of rule.now) < 2 ^ 32 }
-    ensures left { result.left ≡ rule_exits (shape_of rule.now) (lists last.now) base }
-    ensures cursor { IsCursor last.now result.at (base + positions_of_rule (shape_of rule.now)) }
-{
-    let head = leave(&rule.head, last, at, base, false);
-    match &rule.trail {
-        Some(trail) => {
-            let behind = base + rule.head.size() as usize;
-            leave(trail, last, head.at, behind, head.left)
-        }
-        None => head,
-    }
-}
-
-/// Adds the positions of a rule that come next, where it is entered or not, and these are the last ones. Answers where the
-/// last positions behind it begin.
-fn enter_rule(
+/// Adds the positions of a rule that come next, where it is not entered, and these are the last ones. Tells whether it is left
+/// at its end.
+fn pass_rule(
     rule: &LaidRule,
     last: &[u32],
     at: usize,
     base: usize,
-    entered: bool,
     next: &mut Vec<u32>,
-) -> Result<usize, AllocError>
+) -> Result<Passed, AllocError>
     requires sized { IsSizedRule rule.now }
     requires cursor { IsCursor last.now at base }
     requires few { base + positions_of_rule (shape_of rule.now) < 2 ^ 32 }
     requires front { IsFront next.old.items base }
-    ensures cursor { IfOk result (λ n. IsCursor last.now n (base + positions_of_rule (shape_of rule.now))) }
+    ensures left { IfOk result (λ p. p.left ≡ rule_exits (shape_of rule.now) (lists last.now) base) }
+    ensures cursor { IfOk result (λ p. IsCursor last.now p.at (base + positions_of_rule (shape_of rule.now))) }
     ensures front { IfOk result (λ _. IsFront next.new.items (base + positions_of_rule (shape_of rule.now))) }
-    ensures next { IfOk result (λ _. (q : ℕ) → lists next.new.items q ≡ (lists next.old.items q || rule_enters (shape_of rule.now) (lists last.now) q base entered)) }
+    ensures next { IfOk result (λ _. (q : ℕ) → lists next.new.items q ≡ (lists next.old.items q || rule_enters (shape_of rule.now) (lists last.now) q base false)) }
 {
-    let head = enter(&rule.head, last, at, base, entered, next)?;
+    let head = enter(&rule.head, last, at, base, false, next)?;
     match &rule.trail {
         Some(trail) => {
-            let begun = leave(&rule.head, last, at, base, false);
             let behind = base + rule.head.size() as usize;
-            let passed = enter(trail, last, head.at, behind, begun.left, next)?;
-            Ok(passed.at)
+            let passed = enter(trail, last, head.at, behind, head.left, next)?;
+            Ok(passed)
         }
-        None => Ok(head.at),
+        None => Ok(head),
     }
 }
 
-/// The positions that come next, where the rules of `on` are entered, and these are the last ones.
+/// What the last positions lead to.
+#[derive(Drop)]
+pub(crate) struct Walked {
+    /// The positions that come next, ascending.
+    pub followers: Vec<u32>,
+    /// The numbers of the rules that are left at their ends, ascending.
+    pub accepted: Vec<u32>,
+}
+
+impl Walked {
+    /// Walks a rule. Answers where the last positions behind it begin.
+    fn pass(
+        &mut self,
+        rule: &LaidRule,
+        owner: Owner,
+        last: &[u32],
+        at: usize,
+    ) -> Result<usize, AllocError>
+        requires sized { IsSizedRule rule.now }
+        requires cursor { IsCursor last.now at owner.base }
+        requires few { owner.base + positions_of_rule (shape_of rule.now) < 2 ^ 32 }
+        requires front { IsFront self.old.followers.items owner.base }
+        ensures cursor { IfOk result (λ n. IsCursor last.now n (owner.base + positions_of_rule (shape_of rule.now))) }
+        ensures front { IfOk result (λ _. IsFront self.new.followers.items (owner.base + positions_of_rule (shape_of rule.now))) }
+        ensures followers { IfOk result (λ _. (q : ℕ) → lists self.new.followers.items q ≡ (lists self.old.followers.items q || rule_enters (shape_of rule.now) (lists last.now) q owner.base false)) }
+        ensures accepted { IfOk result (λ _. self.new.accepted.items ≡ self.old.accepted.items ++ cond (rule_exits (shape_of rule.now) (lists last.now) owner.base) (owner.rule ∷ []) []) }
+    {
+        let passed = pass_rule(rule, last, at, owner.base as usize, &mut self.followers)?;
+        if !passed.left {
+            return Ok(passed.at);
+        }
+        self.accepted.push(owner.rule)?;
+        Ok(passed.at)
+    }
+
+    /// Keeps all of the rules, or the first of them alone.
+    pub(crate) fn choose(&mut self, all: bool)
+        ensures followers { self.new.followers.items ≡ self.old.followers.items }
+        ensures accepted { self.new.accepted.items ≡ chosen all self.old.accepted.items }
+    {
+        if all {
+            return;
+        }
+        self.accepted.truncate(1);
+    }
+}
+
+/// What these last positions lead to, where no rule is entered. It goes from rule to rule by them.
+pub(crate) fn pass_rules(
+    alloc: Global,
+    rules: &[LaidRule],
+    owners: &[Owner],
+    last: &[u32],
+) -> Result<Walked, AllocError>
+    requires sized { HaveSized rules.now }
+    requires few { all_positions (map shape_of rules.now) < 2 ^ 32 }
+    requires owners { AreOwners (map shape_of rules.now) owners.now }
+    requires cursor { IsCursor last.now 0 0 }
+    requires within { (j : ℕ) → j < length last.now → slice_index last.now j < length owners.now }
+    ensures followers { IfOk result (λ w. w.followers.items ≡ listed (λ q. rules_enter (map shape_of rules.now) (λ _. false) (lists last.now) q 0 0) 0 (all_positions (map shape_of rules.now))) }
+    ensures accepted { IfOk result (λ w. w.accepted.items ≡ rules_left (map shape_of rules.now) (lists last.now) 0 0) }
+{
+    let mut walked = Walked {
+        followers: Vec::new(alloc),
+        accepted: Vec::new(alloc),
+    };
+    let mut at = 0;
+    while at < last.len() {
+        let owner = owners[last[at] as usize];
+        at = walked.pass(&rules[owner.rule as usize], owner, last, at)?;
+    }
+    Ok(walked)
+}
+
+/// Adds the first positions of a rule that is entered: those of its head, some of which is read.
+fn enter_rule(
+    rule: &LaidRule,
+    base: usize,
+    entered: bool,
+    next: &mut Vec<u32>,
+) -> Result<(), AllocError>
+    requires sized { IsSizedRule rule.now }
+    requires few { base + positions_of_rule (shape_of rule.now) < 2 ^ 32 }
+    requires front { IsFront next.old.items base }
+    ensures front { IfOk result (λ _. IsFront next.new.items (base + positions_of_rule (shape_of rule.now))) }
+    ensures next { IfOk result (λ _. (q : ℕ) → lists next.new.items q ≡ (lists next.old.items q || rule_enters (shape_of rule.now) (λ _. false) q base entered)) }
+{
+    enter(&rule.head, &[], 0, base, entered, next)?;
+    Ok(())
+}
+
+/// The first positions of the rules of `on`.
 pub(crate) fn enter_rules(
     alloc: Global,
     rules: &[LaidRule],
     on: &[bool],
-    last: &[u32],
 ) -> Result<Vec<u32>, AllocError>
     requires sized { HaveSized rules.now }
-    requires cursor { IsCursor last.now 0 0 }
     requires few { all_positions (map shape_of rules.now) < 2 ^ 32 }
     requires on { length on.now ≡ length rules.now }
-    ensures { IfOk result (λ v. v.items ≡ listed (λ q. rules_enter (map shape_of rules.now) (flag on.now) (lists last.now) q 0 0) 0 (all_positions (map shape_of rules.now))) }
+    ensures { IfOk result (λ v. v.items ≡ listed (λ q. rules_enter (map shape_of rules.now) (flag on.now) (λ _. false) q 0 0) 0 (all_positions (map shape_of rules.now))) }
 {
     let mut next = Vec::new(alloc);
-    let mut at = 0;
     let mut base = 0;
     for (i, rule) in rules.iter().enumerate() {
-        at = enter_rule(rule, last, at, base, on[i], &mut next)?;
+        enter_rule(rule, base, on[i], &mut next)?;
         base += rule.size();
     }
     Ok(next)
-}
-
-/// The numbers of the rules that are left at their ends, where these are the last positions, ascending.
-pub(crate) fn left_rules(
-    alloc: Global,
-    rules: &[LaidRule],
-    last: &[u32],
-) -> Result<Vec<u32>, AllocError>
-    requires sized { HaveSized rules.now }
-    requires cursor { IsCursor last.now 0 0 }
-    requires few { all_positions (map shape_of rules.now) < 2 ^ 32 }
-    requires rules { length rules.now < 2 ^ 32 }
-    ensures { IfOk result (λ v. v.items ≡ rules_left (map shape_of rules.now) (lists last.now) 0 0) }
-{
-    let mut left = Vec::new(alloc);
-    let mut at = 0;
-    let mut base = 0;
-    for (i, rule) in rules.iter().enumerate() {
-        let passed = leave_rule(rule, last, at, base);
-        if passed.left {
-            left.push(i as u32)?;
-        }
-        at = passed.at;
-        base += rule.size();
-    }
-    Ok(left)
 }

@@ -1,16 +1,21 @@
 //! How the states of a specification's automaton lead to one another: by the positions of its rules.
 ghost use Rattle.std.specs.Prelude.{◌≡◌, ◌<◌, ◌≤◌, ◌^◌, ℕ, Bool, List, length, map, IfOk};
+ghost use Rattle.lexmeaning.specs.Spec.{rejects};
 ghost use Rattle.lexmeaning.specs.Subsets.{all_positions};
 ghost use Rattle.lexspec.specs.Views.{spec_of, rules_in};
 ghost use Rattle.lexmeaning.specs.Text.{flag};
+ghost use Rattle.lexauto.specs.Facts.{accepted_by};
 ghost use Rattle.lexauto.specs.Laid.{shape_of, HaveSized, HaveSized-prop};
+ghost use Rattle.lexauto.specs.Owners.{AreOwners};
 ghost use Rattle.lexauto.specs.RuleFlow.{rules_enter, rules_left, rules_read};
 ghost use Rattle.lexauto.specs.Moving.{AreMasks, AreTwins, masks_in, mask_at, followers_in, reading_in};
 
 use crate::explore::Moves;
+use crate::facts::walk;
 use crate::letters::mark_rules;
-use crate::rules::{LaidRule, enter_rules, lay_rules};
-use crate::sets::{in_order, last_key, lasts_in, marks_of, starts_in};
+use crate::owners::{Owner, owners_of};
+use crate::rules::{LaidRule, Walked, lay_rules};
+use crate::sets::last_key;
 use lexspec::Spec;
 use std::alloc::{AllocError, Global};
 
@@ -20,6 +25,9 @@ pub(crate) struct RuleMoves<'a> {
     pub spec: &'a Spec,
     pub count: usize,
     pub rules: Vec<LaidRule>,
+    pub owners: Vec<Owner>,
+    /// Whether some rule has REJECT, so that a state accepts all rules that fit.
+    pub accepts_all: bool,
     masks: Vec<Vec<bool>>,
     twins: Vec<u8>,
     ghost within: { all_positions (rules_in (spec_of spec.now)) ≡ count },
@@ -29,6 +37,9 @@ pub(crate) struct RuleMoves<'a> {
     ghost next: { (on last : ℕ → Bool) (q : ℕ) → rules_enter (map shape_of rules.items) on last q 0 0 ≡ rules_enter (rules_in (spec_of spec.now)) on last q 0 0 },
     ghost left: { (last : ℕ → Bool) → rules_left (map shape_of rules.items) last 0 0 ≡ rules_left (rules_in (spec_of spec.now)) last 0 0 },
     ghost few: { count < 2 ^ 32 },
+    ghost whole: { accepts_all ≡ rejects (spec_of spec.now) },
+    ghost owned: { length owners.items ≡ count },
+    ghost owners_are: { AreOwners (map shape_of rules.items) owners.items },
     ghost all: { length (masks_in masks.items) ≡ 256 },
     ghost each: { (b q : ℕ) → b < 256 → flag (mask_at (masks_in masks.items) b) q ≡ rules_read (rules_in (spec_of spec.now)) b q 0 },
     ghost alike: { AreTwins (masks_in masks.items) twins.items },
@@ -87,12 +98,15 @@ impl<'a> RuleMoves<'a> {
         ensures { IfOk result (λ m. (m.spec.now ≡ spec.now) × (m.count ≡ count)) }
     {
         let rules = lay_rules(alloc, spec.rules())?;
+        let owners = owners_of(alloc, &rules)?;
         let masks = masks_of(alloc, &rules, count)?;
         let twins = twins_of(alloc, &masks)?;
         Ok(RuleMoves {
             spec,
             count,
             rules,
+            owners,
+            accepts_all: spec.rejects(),
             masks,
             twins,
         })
@@ -102,12 +116,12 @@ impl<'a> RuleMoves<'a> {
 impl Moves for RuleMoves<'_> {
     ghost follow = { λ m k. followers_in (rules_in (spec_of m.spec.now)) m.count k };
 
+    ghost accept = { λ m k. accepted_by (spec_of m.spec.now) k };
+
     ghost read = { λ m k b. reading_in (rules_in (spec_of m.spec.now)) k b };
 
-    fn followers(&self, alloc: Global, key: &[u32]) -> Result<Vec<u32>, AllocError> {
-        let on = marks_of(alloc, self.rules.len(), starts_in(key))?;
-        let last = in_order(alloc, self.count, lasts_in(key))?;
-        enter_rules(alloc, &self.rules, &on, &last)
+    fn walk(&self, alloc: Global, key: &[u32]) -> Result<Walked, AllocError> {
+        walk(alloc, self, key)
     }
 
     fn reading(&self, alloc: Global, followers: &[u32], byte: u8) -> Result<Vec<u32>, AllocError> {

@@ -4,17 +4,16 @@ ghost use Rattle.lexmeaning.specs.Subsets.{all_positions, Subsets};
 ghost use Rattle.lexmeaning.specs.TableFor.{TableFor};
 ghost use Rattle.lexmeaning.specs.MachineLaws.{MachineLaws};
 ghost use Rattle.lexspec.specs.Views.{spec_of, rules_in, conditions_in};
-ghost use Rattle.lexauto.specs.Keys.{Key, At};
+ghost use Rattle.lexauto.specs.Keys.{Key, At, keys_in};
 ghost use Rattle.lexauto.specs.Packing.{kept_in};
 ghost use Rattle.lexauto.specs.Explored.{MoreThan};
-ghost use Rattle.lexauto.specs.Facts.{GoOnBy};
+ghost use Rattle.lexauto.specs.Facts.{AcceptedBy, GoOnBy};
 ghost use Rattle.lexauto.specs.WordKeys.{Surveys};
 ghost use Rattle.lexdfa.specs.Machines.{IsReached};
 ghost use Rattle.lexdfa.specs.Automata.{machine_of, states_of, conditions_of};
 
 use crate::error::BuildError;
 use crate::explore::{ExploreError, explore};
-use crate::facts::all_accepted;
 use crate::starts::{add_starts, count_positions, dead_root};
 use crate::stepping::RuleMoves;
 use lexdfa::{Dfa, Parts};
@@ -30,11 +29,12 @@ pub struct Limits {
     pub states: u32,
 }
 
-/// The keys of an automaton's states, how they lead to one another, and which of them go on.
+/// The keys of an automaton's states, how they lead to one another, which rules they accept, and which of them go on.
 #[derive(Drop)]
 struct Survey {
     keys: Vec<Vec<u32>>,
     next: Vec<u32>,
+    accepts: Vec<Vec<u32>>,
     goes_on: Vec<bool>,
     starts: Vec<u32>,
     line_starts: Vec<u32>,
@@ -44,6 +44,8 @@ struct Survey {
 fn explore_spec(alloc: Global, moves: &RuleMoves, limit: u32) -> Result<Survey, ExploreError>
     ensures ok { IfOk result (λ s. Surveys (spec_of moves.now.spec.now) (kept_in s.keys.items) s.next.items s.starts.items s.line_starts.items) }
     ensures room { IfOk result (λ s. length s.keys.items ≤ limit) }
+    ensures accepts_len { IfOk result (λ s. length s.accepts.items ≡ length s.keys.items) }
+    ensures accepted { IfOk result (λ s. AcceptedBy (spec_of moves.now.spec.now) (kept_in s.keys.items) (keys_in s.accepts.items)) }
     ensures len { IfOk result (λ s. length s.goes_on.items ≡ length s.keys.items) }
     ensures goes_on { IfOk result (λ s. GoOnBy (spec_of moves.now.spec.now) (kept_in s.keys.items) s.goes_on.items) }
     ensures too_many { IsErrOf result ExploreError.TooMany → (n : ℕ) → Subsets (spec_of moves.now.spec.now) n → limit < n }
@@ -55,6 +57,7 @@ fn explore_spec(alloc: Global, moves: &RuleMoves, limit: u32) -> Result<Survey, 
     Ok(Survey {
         keys: explored.keys,
         next: explored.next,
+        accepts: explored.accepts,
         goes_on: explored.goes_on,
         starts,
         line_starts,
@@ -84,12 +87,11 @@ pub fn build(alloc: Global, spec: &Spec, limits: Limits) -> Result<Dfa, BuildErr
     };
     let moves = RuleMoves::new(alloc, spec, count)?;
     let found = explore_spec(alloc, &moves, limits.states)?;
-    let accepts = all_accepted(alloc, &moves, &found.keys)?;
     let parts = Parts {
         starts: found.starts,
         line_starts: found.line_starts,
         next: found.next,
-        accepts,
+        accepts: found.accepts,
         goes_on: found.goes_on,
     };
     let automaton = Dfa::new(parts);

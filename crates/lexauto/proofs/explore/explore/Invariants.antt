@@ -1,5 +1,6 @@
-use Rattle.std.proofs.Common.{◌-◌, ◌*◌, length}
-use Rattle.lexauto.specs.Explored.{Exploring, GoOnSoFar, Held, step_by}
+use Rattle.std.proofs.Common.{◌-◌, ◌*◌, false, [], length}
+use Rattle.lexauto.specs.Explored.{Exploring, Held, TellsSoFar, goes_by, step_by}
+use Rattle.lexauto.specs.Keys.{keys_in}
 use Rattle.lexauto.specs.Packing.{look_kept, kept_in}
 use Rattle.lexauto.proofs.explore.explore.Given as goal
 
@@ -7,7 +8,8 @@ abbrev pub invariant-work : goal.invariant-work
 invariant-work g l = record {
   exploring : Exploring (step_by (g.M.Moves.follow l.moves) (g.M.Moves.read l.moves)) (kept_in l.fn.roots.keys.items) (look_kept l.table.places) (kept_in l.table.keys.items) l.next.items l.limit;
   held : Held (g.M.Moves.follow l.moves) (kept_in l.table.keys.items) l.next.items l.followers.items;
-  on : GoOnSoFar (g.M.Moves.follow l.moves) (kept_in l.table.keys.items) l.next.items l.goes_on.items;
+  on : TellsSoFar false (goes_by (g.M.Moves.follow l.moves)) (kept_in l.table.keys.items) l.next.items l.told.goes_on.items;
+  accepted : TellsSoFar [] (g.M.Moves.accept l.moves) (kept_in l.table.keys.items) l.next.items (keys_in l.told.accepts.items);
 }
 
 abbrev pub decreases-work : goal.decreases-work

@@ -1,4 +1,4 @@
-use Rattle.std.proofs.Common.{rules, ◌≡◌, ◌≤◌, ◌+◌, ◌||◌, ℕ, Bool, List, [], length, map, drop, arith, sym, subst, ◌∙◌}
+use Rattle.std.proofs.Common.{rules, ◌≡◌, ◌≤◌, ◌+◌, ◌||◌, ℕ, Bool, false, List, [], length, map, drop, arith, sym, subst, ◌∙◌}
 use Rattle.lexmeaning.specs.Active.{lists}
 use Rattle.lexmeaning.specs.Spec.{Rule}
 use Rattle.lexmeaning.specs.Subsets.{all_positions}
@@ -17,11 +17,11 @@ returns c =
     let i = c.loop-i.i in
     let base = c.loop-i.base in
     let next = c.loop-i.next.items in
-    let f : ℕ → Bool = λ q. rules_enter all (flag c.args.on.now) (lists c.args.last.now) q 0 0 in
+    let f : ℕ → Bool = λ q. rules_enter all (flag c.args.on.now) (λ _. false) q 0 0 in
     let done : length c.args.rules.now ≤ i = search rules in
     let none : map shape_of (drop i c.args.rules.now) ≡ [] = drop_none shape_of c.args.rules.now i done in
     let place : base + all_positions [] ≡ all_positions all = subst (λ (rs : List Rule). base + all_positions rs ≡ all_positions all) none c.loop-i.invariant.place in
     let end : base ≡ all_positions all = omega (arith, place) in
     let told : (q : ℕ) → lists next q ≡ f q = λ q.
-    sym (or_false (lists next q)) ∙ subst (λ (rs : List Rule). (lists next q || rules_enter rs (flag c.args.on.now) (lists c.args.last.now) q i base) ≡ f q) none (c.loop-i.invariant.told q) in
+    sym (or_false (lists next q)) ∙ subst (λ (rs : List Rule). (lists next q || rules_enter rs (flag c.args.on.now) (λ _. false) q i base) ≡ f q) none (c.loop-i.invariant.told q) in
     front_listed next (all_positions all) f (subst (λ (n : ℕ). IsFront next n) end c.loop-i.invariant.front) told

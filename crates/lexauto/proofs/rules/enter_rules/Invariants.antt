@@ -1,8 +1,8 @@
-use Rattle.std.proofs.Common.{◌≡◌, ℕ, ◌+◌, ◌||◌, drop, map}
+use Rattle.std.proofs.Common.{◌≡◌, ℕ, ◌+◌, ◌||◌, false, drop, map}
 use Rattle.lexmeaning.specs.Active.{lists}
 use Rattle.lexmeaning.specs.Subsets.{all_positions}
 use Rattle.lexmeaning.specs.Text.{flag}
-use Rattle.lexauto.specs.Cursors.{IsCursor, IsFront}
+use Rattle.lexauto.specs.Cursors.{IsFront}
 use Rattle.lexauto.specs.Laid.{shape_of, HaveSized}
 use Rattle.lexauto.specs.RuleFlow.{rules_enter}
 use Rattle.lexauto.proofs.rules.enter_rules.Given as goal
@@ -11,8 +11,7 @@ abbrev pub invariant-loop-i : goal.invariant-loop-i
 invariant-loop-i l = record {
   sized : HaveSized (drop l.i l.rules);
   place : l.base + all_positions (map shape_of (drop l.i l.rules)) ≡ all_positions (map shape_of l.rules);
-  cursor : IsCursor l.last l.at l.base;
   front : IsFront l.next.items l.base;
-  told : (q : ℕ) → (lists l.next.items q || rules_enter (map shape_of (drop l.i l.rules)) (flag l.on) (lists l.last) q l.i l.base)
-      ≡ rules_enter (map shape_of l.rules) (flag l.on) (lists l.last) q 0 0;
+  told : (q : ℕ) → (lists l.next.items q || rules_enter (map shape_of (drop l.i l.rules)) (flag l.on) (λ _. false) q l.i l.base)
+      ≡ rules_enter (map shape_of l.rules) (flag l.on) (λ _. false) q 0 0;
 }

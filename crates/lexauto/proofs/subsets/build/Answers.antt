@@ -1,4 +1,4 @@
-use Rattle.std.proofs.Common.{◌<◌, List, Vec, Global, ◌≡◌, ℕ, length, arith, refl, sym, ap, subst, ◌∙◌, Err}
+use Rattle.std.proofs.Common.{◌<◌, ◌≡◌, ℕ, length, arith, refl, sym, ap, subst, ◌∙◌, Err}
 use Rattle.std.proofs.lemmas.Result.{err_from_is_err_and}
 use Rattle.lexmeaning.specs.Subsets.{Subsets}
 use Rattle.lexmeaning.specs.TableFor.{TableFor}
@@ -41,16 +41,15 @@ new-automaton-requires c =
     let keys = kept_in found.keys.items in
     let same : c.in_ok-moves.moves.spec.now ≡ c.args.spec.now = c.in_ok-moves.ensures.0 in
     let s = subst (λ (p : Spec). Surveys (spec_of p) keys found.next.items found.starts.items found.line_starts.items) same c.in_ok-found.ensures.ok in
-    let accepted = subst (λ (ks : List (Vec ℕ Global)). AcceptedBy (spec_of c.args.spec.now) (kept_in ks) (keys_in c.in_ok-accepts.accepts.items)) c.deref.ensures.value
-    (subst (λ (p : Spec). AcceptedBy (spec_of p) (kept_in c.deref.result.now) (keys_in c.in_ok-accepts.accepts.items)) same c.in_ok-accepts.ensures.accepted) in
+    let accepted = subst (λ (p : Spec). AcceptedBy (spec_of p) keys (keys_in found.accepts.items)) same c.in_ok-found.ensures.accepted in
     let on = subst (λ (p : Spec). GoOnBy (spec_of p) keys found.goes_on.items) same c.in_ok-found.ensures.goes_on in
     let size = kept_length found.keys.items in
     let goes = c.in_ok-found.ensures.len ∙ sym size in
-    let lists = c.in_ok-accepts.ensures.len ∙ ap length c.deref.ensures.value ∙ sym size in
+    let lists = c.in_ok-found.ensures.accepts_len ∙ sym size in
     let room = c.in_ok-found.ensures.room in
     let most = c.requires.states in
     automaton_is (spec_of c.args.spec.now) (spec_is_sound (spec_of c.args.spec.now) c.args.spec.now.sound)
-    (record { starts = found.starts; line_starts = found.line_starts; next = found.next; accepts = c.in_ok-accepts.accepts; goes_on = found.goes_on })
+    (record { starts = found.starts; line_starts = found.line_starts; next = found.next; accepts = found.accepts; goes_on = found.goes_on })
     keys s accepted on lists goes (omega (arith, size, room, most))
 
 pub returns-clause-table : goal.returns-clause-table
@@ -59,15 +58,14 @@ returns-clause-table c =
     let keys = kept_in found.keys.items in
     let same : c.in_ok-moves.moves.spec.now ≡ c.args.spec.now = c.in_ok-moves.ensures.0 in
     let s = subst (λ (p : Spec). Surveys (spec_of p) keys found.next.items found.starts.items found.line_starts.items) same c.in_ok-found.ensures.ok in
-    let accepted = subst (λ (ks : List (Vec ℕ Global)). AcceptedBy (spec_of c.args.spec.now) (kept_in ks) (keys_in c.in_ok-accepts.accepts.items)) c.deref.ensures.value
-    (subst (λ (p : Spec). AcceptedBy (spec_of p) (kept_in c.deref.result.now) (keys_in c.in_ok-accepts.accepts.items)) same c.in_ok-accepts.ensures.accepted) in
+    let accepted = subst (λ (p : Spec). AcceptedBy (spec_of p) keys (keys_in found.accepts.items)) same c.in_ok-found.ensures.accepted in
     let on = subst (λ (p : Spec). GoOnBy (spec_of p) keys found.goes_on.items) same c.in_ok-found.ensures.goes_on in
     let size = kept_length found.keys.items in
     let goes = c.in_ok-found.ensures.len ∙ sym size in
-    let lists = c.in_ok-accepts.ensures.len ∙ ap length c.deref.ensures.value ∙ sym size in
+    let lists = c.in_ok-found.ensures.accepts_len ∙ sym size in
     subst (λ (p : Parts). TableFor (machine_in p (spec_of c.args.spec.now)) (spec_of c.args.spec.now)) (sym c.new-automaton.ensures)
     (table_is (spec_of c.args.spec.now) (spec_is_sound (spec_of c.args.spec.now) c.args.spec.now.sound)
-    (record { starts = found.starts; line_starts = found.line_starts; next = found.next; accepts = c.in_ok-accepts.accepts; goes_on = found.goes_on })
+    (record { starts = found.starts; line_starts = found.line_starts; next = found.next; accepts = found.accepts; goes_on = found.goes_on })
     keys s accepted on lists goes)
 
 pub returns-clause-conditions : goal.returns-clause-conditions
@@ -84,15 +82,14 @@ returns-clause-reached c =
     let keys = kept_in found.keys.items in
     let same : c.in_ok-moves.moves.spec.now ≡ c.args.spec.now = c.in_ok-moves.ensures.0 in
     let s = subst (λ (p : Spec). Surveys (spec_of p) keys found.next.items found.starts.items found.line_starts.items) same c.in_ok-found.ensures.ok in
-    let accepted = subst (λ (ks : List (Vec ℕ Global)). AcceptedBy (spec_of c.args.spec.now) (kept_in ks) (keys_in c.in_ok-accepts.accepts.items)) c.deref.ensures.value
-    (subst (λ (p : Spec). AcceptedBy (spec_of p) (kept_in c.deref.result.now) (keys_in c.in_ok-accepts.accepts.items)) same c.in_ok-accepts.ensures.accepted) in
+    let accepted = subst (λ (p : Spec). AcceptedBy (spec_of p) keys (keys_in found.accepts.items)) same c.in_ok-found.ensures.accepted in
     let on = subst (λ (p : Spec). GoOnBy (spec_of p) keys found.goes_on.items) same c.in_ok-found.ensures.goes_on in
     let size = kept_length found.keys.items in
     let goes = c.in_ok-found.ensures.len ∙ sym size in
-    let lists = c.in_ok-accepts.ensures.len ∙ ap length c.deref.ensures.value ∙ sym size in
+    let lists = c.in_ok-found.ensures.accepts_len ∙ sym size in
     subst (λ (p : Parts). (q : ℕ) → q < states p → IsReached (machine_in p (spec_of c.args.spec.now)) (spec_of c.args.spec.now) q) (sym c.new-automaton.ensures)
     (reached_are (spec_of c.args.spec.now) (spec_is_sound (spec_of c.args.spec.now) c.args.spec.now.sound)
-    (record { starts = found.starts; line_starts = found.line_starts; next = found.next; accepts = c.in_ok-accepts.accepts; goes_on = found.goes_on })
+    (record { starts = found.starts; line_starts = found.line_starts; next = found.next; accepts = found.accepts; goes_on = found.goes_on })
     keys s accepted on lists goes)
 
 pub returns-clause-laws : goal.returns-clause-laws
@@ -101,15 +98,14 @@ returns-clause-laws c =
     let keys = kept_in found.keys.items in
     let same : c.in_ok-moves.moves.spec.now ≡ c.args.spec.now = c.in_ok-moves.ensures.0 in
     let s = subst (λ (p : Spec). Surveys (spec_of p) keys found.next.items found.starts.items found.line_starts.items) same c.in_ok-found.ensures.ok in
-    let accepted = subst (λ (ks : List (Vec ℕ Global)). AcceptedBy (spec_of c.args.spec.now) (kept_in ks) (keys_in c.in_ok-accepts.accepts.items)) c.deref.ensures.value
-    (subst (λ (p : Spec). AcceptedBy (spec_of p) (kept_in c.deref.result.now) (keys_in c.in_ok-accepts.accepts.items)) same c.in_ok-accepts.ensures.accepted) in
+    let accepted = subst (λ (p : Spec). AcceptedBy (spec_of p) keys (keys_in found.accepts.items)) same c.in_ok-found.ensures.accepted in
     let on = subst (λ (p : Spec). GoOnBy (spec_of p) keys found.goes_on.items) same c.in_ok-found.ensures.goes_on in
     let size = kept_length found.keys.items in
     let goes = c.in_ok-found.ensures.len ∙ sym size in
-    let lists = c.in_ok-accepts.ensures.len ∙ ap length c.deref.ensures.value ∙ sym size in
+    let lists = c.in_ok-found.ensures.accepts_len ∙ sym size in
     subst (λ (p : Parts). MachineLaws (machine_in p (spec_of c.args.spec.now))) (sym c.new-automaton.ensures)
     (laws_are (spec_of c.args.spec.now) (spec_is_sound (spec_of c.args.spec.now) c.args.spec.now.sound)
-    (record { starts = found.starts; line_starts = found.line_starts; next = found.next; accepts = c.in_ok-accepts.accepts; goes_on = found.goes_on })
+    (record { starts = found.starts; line_starts = found.line_starts; next = found.next; accepts = found.accepts; goes_on = found.goes_on })
     keys s accepted on lists goes)
 
 pub returns-clause-states : goal.returns-clause-states

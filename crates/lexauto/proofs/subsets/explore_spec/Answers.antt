@@ -6,6 +6,8 @@ use Rattle.lexauto.specs.Moving.{followers_in}
 use Rattle.lexspec.proofs.TestLaws.{spec_is_sound}
 use Rattle.lexauto.specs.declared.explore.ExploreError.TheVariants.{TooMany}
 use Rattle.lexauto.specs.Packing.{look_kept, kept_in}
+use Rattle.lexauto.proofs.Kept.{kept_length}
+use Rattle.lexauto.proofs.Places.{keys_length}
 use Rattle.lexauto.proofs.Surveying.{more_roots_than, more_keys_than, surveyed}
 use Rattle.lexauto.proofs.subsets.explore_spec.Goals as goal
 
@@ -43,3 +45,10 @@ returns-clause-ok c =
 pub returns-clause-goes_on : goal.returns-clause-goes_on
 returns-clause-goes_on c = λ i k a.
     c.in_ok-explored.ensures.goes_on.each i k a ∙ ap (λ (n : ℕ). not (is_empty (followers_in (rules_in (spec_of c.args.moves.now.spec.now)) n k))) (sym c.args.moves.now.within)
+
+pub returns-clause-accepts_len : goal.returns-clause-accepts_len
+returns-clause-accepts_len c =
+    sym (keys_length c.in_ok-explored.explored.accepts.items) ∙ c.in_ok-explored.ensures.accepts.len ∙ kept_length c.in_ok-explored.explored.keys.items
+
+pub returns-clause-accepted : goal.returns-clause-accepted
+returns-clause-accepted c = c.in_ok-explored.ensures.accepts.each

@@ -1,15 +1,31 @@
-use Rattle.std.proofs.Common.{List, length, map, sym, ap, ◌∙◌}
+use Rattle.std.proofs.Common.{◌<◌, ◌^◌, List, length, map, sym, ap, subst, ◌∙◌, arith}
 use Rattle.lexmeaning.specs.Subsets.{all_positions}
 use Rattle.lexspec.specs.Views.{spec_of}
 use Rattle.lexauto.specs.Laid.{shape_of}
+use Rattle.lexauto.specs.Owners.{AreOwners}
 use Rattle.lexauto.specs.RuleFlow.{rules_enter, rules_left, rules_read}
 use Rattle.lexauto.specs.declared.rules.LaidRule.{LaidRule}
 use Rattle.lexauto.proofs.LaidLaws.{NextAll, LeftAll, Letters}
-use Rattle.lexauto.proofs.StepLemmas.{tested_rules, length_map}
+use Rattle.lexauto.proofs.StepLemmas.{tested_rules, few_rules, length_map}
 use Rattle.lexauto.proofs.stepping.RuleMoves.new.Goals as goal
 
 pub lay_rules-requires-clause-sound : goal.lay_rules-requires-clause-sound
 lay_rules-requires-clause-sound c = rw c.rules.ensures.rules (tested_rules (spec_of c.args.spec.now) c.rules.ensures.sound)
+
+pub owners_of-requires-clause-rules : goal.owners_of-requires-clause-rules
+owners_of-requires-clause-rules c =
+    let number = ap (λ (rs : List LaidRule). length rs) c.deref.ensures.value ∙ sym (length_map shape_of c.in_ok-rules.rules.items) ∙ c.in_ok-rules.ensures.alike.number ∙ ap length c.rules.ensures.rules in
+    let few : length (spec_of c.args.spec.now).rules < 2 ^ 32 = few_rules (spec_of c.args.spec.now) c.rules.ensures.sound in
+    omega (arith, number, few)
+
+pub invariant_of-result-clause-owned : goal.invariant_of-result-clause-owned
+invariant_of-result-clause-owned c =
+    c.in_ok-owners.ensures.len ∙ ap (λ (rs : List LaidRule). all_positions (map shape_of rs)) c.deref.ensures.value
+    ∙ c.in_ok-rules.ensures.alike.size ∙ ap all_positions c.rules.ensures.rules ∙ c.requires.within
+
+pub invariant_of-result-clause-owners_are : goal.invariant_of-result-clause-owners_are
+invariant_of-result-clause-owners_are c =
+    subst (λ (rs : List LaidRule). AreOwners (map shape_of rs) c.in_ok-owners.owners.items) c.deref.ensures.value c.in_ok-owners.ensures.owners
 
 pub invariant_of-result-clause-number : goal.invariant_of-result-clause-number
 invariant_of-result-clause-number c =
@@ -27,5 +43,5 @@ invariant_of-result-clause-left c = λ last. ap (λ (f : LeftAll). f last 0 0) (
 pub invariant_of-result-clause-each : goal.invariant_of-result-clause-each
 invariant_of-result-clause-each c = λ b q low.
     c.in_ok-masks.ensures.each b q low
-    ∙ ap (λ (rs : List LaidRule). rules_read (map shape_of rs) b q 0) c.deref.ensures.value
+    ∙ ap (λ (rs : List LaidRule). rules_read (map shape_of rs) b q 0) c.deref-2.ensures.value
     ∙ ap (λ (f : Letters). f b q 0) (c.in_ok-rules.ensures.alike.letters ∙ ap rules_read c.rules.ensures.rules)
