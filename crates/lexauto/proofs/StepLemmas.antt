@@ -1,5 +1,5 @@
 -- What the code of a step holds, against what a step is.
-use Rattle.std.specs.Prelude.{◌≡◌, ℕ, zero, suc, ◌<◌, ◌≤◌, ◌^◌, ◌&&◌, nat_le, Bool, true, false, List, [], ◌∷◌, ◌++◌, ◌+◌, length, map, slice_get, Some, Vec}
+use Rattle.std.specs.Prelude.{◌≡◌, ℕ, zero, suc, ◌<◌, ◌≤◌, ◌^◌, ◌&&◌, nat_le, Bool, true, false, List, [], ◌∷◌, ◌++◌, ◌+◌, cond, length, map, slice_get, slice_index, Some, Vec}
 use Rattle.std.proofs.Common.{refl, ap, sym, ◌∙◌, arith, Global, get_or, replicate, inl, inr}
 use Rattle.std.proofs.lemmas.Bool.{cases_lt, leb-true}
 use Rattle.std.proofs.lemmas.List.{get_or_push, get_or_append_left}
@@ -20,7 +20,7 @@ use Rattle.lexauto.specs.Keys.{Key}
 use Rattle.lexmeaning.specs.Text.{flag, listed}
 use Rattle.lexauto.specs.RuleFlow.{rules_enter, rules_read}
 use Rattle.lexauto.specs.Sets.{marked, tagged, starts_in, lasts_in}
-use Rattle.lexauto.specs.Moving.{mask_at, followers_in, reading_in}
+use Rattle.lexauto.specs.Moving.{masks_in, mask_at, followers_in, reading_in}
 
 rules_sound : (rules : List Rule) (n : ℕ) → ((i : ℕ) (r : Rule) → slice_get rules i ≡ Some r → IsSoundRule n r) → HaveSoundSides rules
 rules_sound [] n h = tt
@@ -38,6 +38,14 @@ pub length_map : {A B : Type 0} (f : A → B) (xs : List A) → length (map f xs
 length_map f [] = refl
 length_map f (x ∷ xs) = ap suc (length_map f xs)
 
+-- the mask of a byte that stands in a list of them
+pub mask_tells : (vs : List (Vec Bool Global)) (rules : List Rule) → length (masks_in vs) ≡ 256
+    → ((b q : ℕ) → b < 256 → flag (mask_at (masks_in vs) b) q ≡ rules_read rules b q 0)
+    → (b : ℕ) → b < 256 → (v : Vec Bool Global) → v ≡ get_or vs b v → (q : ℕ) → flag v.items q ≡ rules_read rules b q 0
+mask_tells vs rules all each b small v here q =
+    let low : b < length vs = omega (arith, length_map (λ (m : Vec Bool Global). m.items) vs, all, small) in
+    ap (λ (m : List Bool). flag m q) (sym (mask_from vs b v low here)) ∙ each b q small
+
 pub reading_is : (rules : List Rule) (followers : List ℕ) (b : ℕ) (mask : List Bool) → ((q : ℕ) → flag mask q ≡ rules_read rules b q 0) → tagged 1 (filter (flag mask) followers) ≡ reading_in rules followers b
 unfolding reading_in
 reading_is rules followers b mask h = ap (λ (f : ℕ → Bool). tagged 1 (filter f followers)) (fun_ext h)
@@ -51,9 +59,17 @@ beq_decides false false = (λ h. refl, λ h. refl)
 pub same_flags : (xs ys : List Bool) (r : Bool) → r ≡ pointwise beq xs ys → r ≡ true → xs ≡ ys
 same_flags xs ys r e h = (slice_eq-Decides beq_decides xs ys r e).0 h
 
-pub reading_alike : (rules : List Rule) (followers : List ℕ) (b c : ℕ) → ((q : ℕ) → rules_read rules b q 0 ≡ rules_read rules c q 0) → reading_in rules followers b ≡ reading_in rules followers c
+filter_alike : (f g : ℕ → Bool) (l : List ℕ) → ((j : ℕ) → j < length l → f (slice_index l j) ≡ g (slice_index l j)) → filter f l ≡ filter g l
+filter_alike f g [] h = refl
+filter_alike f g (x ∷ l) h =
+    ap (λ b. cond b (x ∷ filter f l) (filter f l)) (h 0 (omega arith)) ∙ ap (λ m. cond (g x) (x ∷ m) m) (filter_alike f g l (λ j low. h (suc j) (omega arith)))
+
+-- two bytes that the same followers read make the same key
+pub reading_alike : (rules : List Rule) (followers : List ℕ) (b c : ℕ)
+    → ((j : ℕ) → j < length followers → rules_read rules b (slice_index followers j) 0 ≡ rules_read rules c (slice_index followers j) 0)
+    → reading_in rules followers b ≡ reading_in rules followers c
 unfolding reading_in
-reading_alike rules followers b c h = ap (λ (f : ℕ → Bool). tagged 1 (filter f followers)) (fun_ext h)
+reading_alike rules followers b c h = ap (tagged 1) (filter_alike (λ q. rules_read rules b q 0) (λ q. rules_read rules c q 0) followers h)
 
 module _ (rules : List Rule) (count n : ℕ) (k : Key) (on last : ℕ → Bool) where
   pub followers_is : length rules ≡ n → ((i : ℕ) → on i ≡ marked n (starts_in k) i) → ((p : ℕ) → last p ≡ marked count (lasts_in k) p)

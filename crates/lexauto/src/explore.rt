@@ -84,10 +84,10 @@ pub(crate) trait Moves {
     fn reading(&self, alloc: Global, followers: &[u32], byte: u8) -> Result<Vec<u32>, AllocError>
         ensures { IfOk result (λ k. k.items ≡ read self.now followers.now byte) };
 
-    /// The first byte that is read as this one is, whatever follows.
-    fn twin(&self, byte: u8) -> u8
+    /// An earlier byte that is read as this one is, where what follows tells of one; else the byte itself.
+    fn twin(&self, followers: &[u32], byte: u8) -> u8
         ensures first { result ≤ byte }
-        ensures same { (k : List ℕ) → read self.now k result ≡ read self.now k byte };
+        ensures same { read self.now followers.now result ≡ read self.now followers.now byte };
 }
 
 /// The place of the key that a byte makes of what follows; of a byte that is read as an earlier one, from the row so far.
@@ -109,7 +109,7 @@ fn target<M: Moves>(
     ensures room { OnOk result (length table.old.keys.items ≤ limit → length table.new.keys.items ≤ limit) }
     ensures full { IsErrOf result ExploreError.TooMany → Absent (kept_in table.old.keys.items) (M.read moves.now followers.now byte) × (limit ≤ length table.old.keys.items) }
 {
-    let twin = moves.twin(byte);
+    let twin = moves.twin(followers, byte);
     if twin < byte {
         return Ok(row[twin as usize]);
     }

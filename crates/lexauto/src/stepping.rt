@@ -1,5 +1,5 @@
 //! How the states of a specification's automaton lead to one another: by the positions of its rules.
-ghost use Rattle.std.specs.Prelude.{◌≡◌, ◌<◌, ◌≤◌, ◌^◌, ℕ, Bool, List, length, map, IfOk};
+ghost use Rattle.std.specs.Prelude.{◌≡◌, ◌<◌, ◌≤◌, ◌^◌, ℕ, Bool, List, true, length, map, IfOk};
 ghost use Rattle.lexmeaning.specs.Spec.{rejects};
 ghost use Rattle.lexmeaning.specs.Subsets.{all_positions};
 ghost use Rattle.lexspec.specs.Views.{spec_of, rules_in};
@@ -15,7 +15,7 @@ use crate::facts::walk;
 use crate::letters::mark_rules;
 use crate::owners::{Owner, owners_of};
 use crate::rules::{LaidRule, Walked, lay_rules};
-use crate::sets::last_key;
+use crate::sets::{are_marked_alike, last_key};
 use lexspec::Spec;
 use std::alloc::{AllocError, Global};
 
@@ -111,6 +111,15 @@ impl<'a> RuleMoves<'a> {
             twins,
         })
     }
+
+    /// Whether just those of the positions that read the one byte read the other.
+    fn reads_alike(&self, positions: &[u32], byte: u8, other: u8) -> bool
+        ensures { result ≡ true → reading_in (rules_in (spec_of self.now.spec.now)) positions.now byte ≡ reading_in (rules_in (spec_of self.now.spec.now)) positions.now other }
+    {
+        let marks = &self.masks[byte as usize];
+        let others = &self.masks[other as usize];
+        are_marked_alike(positions, marks, others)
+    }
 }
 
 impl Moves for RuleMoves<'_> {
@@ -128,7 +137,15 @@ impl Moves for RuleMoves<'_> {
         last_key(alloc, followers, &self.masks[byte as usize])
     }
 
-    fn twin(&self, byte: u8) -> u8 {
-        self.twins[byte as usize]
+    fn twin(&self, followers: &[u32], byte: u8) -> u8 {
+        let twin = self.twins[byte as usize];
+        if twin < byte || byte == 0 {
+            return twin;
+        }
+        let before = byte - 1;
+        if self.reads_alike(followers, before, byte) {
+            return before;
+        }
+        byte
     }
 }

@@ -33,3 +33,5 @@ mod tests;
 mod turns;
 #[cfg(test)]
 mod worked;
+#[cfg(test)]
+mod writers;
