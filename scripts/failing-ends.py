@@ -44,11 +44,17 @@ def many():
     return os.open("many", os.O_RDONLY)
 
 
+def few():
+    """An input whose output is shorter than a buffer."""
+    Path("few").write_bytes(b"if x 42")
+    return os.open("few", os.O_RDONLY)
+
+
 # What a run is, the words after the program's name, standard input, output and error, the status, and the line that is told.
 RUNS = [
     ("a scan into a pipe that is read no more", ["--scan-spec", "all"], many, broken_pipe, None, 74, WRITE),
     ("a scan onto a full disk", ["--scan-spec", "all"], many, full, None, 74, WRITE),
-    ("a short scan onto a full disk", ["--scan-table", "table"], None, full, None, 74, WRITE),
+    ("a short scan onto a full disk", ["--scan-table", "table"], few, full, None, 74, WRITE),
     ("a scan of a folder", ["--scan-spec", "all"], folder_end, nothing, None, 74, READ),
     ("a table onto a full disk", ["-t", "spec"], None, full, None, 74, WRITE),
     ("a table into a pipe that is read no more", ["-t", "spec"], None, broken_pipe, None, 74, WRITE),

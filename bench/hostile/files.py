@@ -55,8 +55,8 @@ FILES = {
     "slots.tab": whole,
     "slots_short.tab": whole[:-1],
     "slots_wrong.tab": table(STATES),
-    "lines.l": b"%%\n[^\\n]*\\n ;\n",
-    "trail.l": b"%%\n[^\\n]*\\n REJECT;\n.|\\n ;\n",
+    "lines.l": b"%%\n[^\\n]+|\\n ;\n",
+    "trail.l": b"%%\n[^\\n]+ ;\n\\n REJECT;\n",
 }
 for name, text in FILES.items():
     (folder / name).write_bytes(text)

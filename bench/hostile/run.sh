@@ -4,7 +4,7 @@
 # 8 GB, is stopped.
 #
 #     bench/hostile/run.sh [LEX]              LEX is another program to be measured in its place
-set -euo pipefail
+set -eu
 here=$(cd "$(dirname "$0")" && pwd)
 lex=${1:-$here/../../crates/lex/out/lex}
 folder=$(mktemp -d)
