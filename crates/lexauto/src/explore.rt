@@ -125,7 +125,7 @@ struct Told {
 }
 
 impl Told {
-    /// Adds what a key tells, which is kept so. Answers what follows it.
+    /// Adds what a key tells, as it is kept. Answers what follows it.
     fn add<M: Moves>(
         &mut self,
         alloc: Global,

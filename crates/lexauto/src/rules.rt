@@ -74,8 +74,8 @@ pub(crate) fn lay_rules(alloc: Global, rules: &[Rule]) -> Result<Vec<LaidRule>, 
     Ok(laid)
 }
 
-/// Adds the positions of a rule that come next, where it is not entered, and these are the last ones. Tells whether it is left
-/// at its end.
+/// Adds the positions of a rule that come next, where it is not entered, and these are the last ones. Tells whether it is
+/// left at its end.
 fn pass_rule(
     rule: &LaidRule,
     last: &[u32],
@@ -96,8 +96,7 @@ fn pass_rule(
     match &rule.trail {
         Some(trail) => {
             let behind = base + rule.head.size() as usize;
-            let passed = enter(trail, last, head.at, behind, head.left, next)?;
-            Ok(passed)
+            enter(trail, last, head.at, behind, head.left, next)
         }
         None => Ok(head),
     }
