@@ -26,6 +26,9 @@ Letters = ℕ → ℕ → ℕ → Bool
 pub alike_self : (t : Tree) → Alike t t
 alike_self t = record { size = refl; left = refl; next = refl; letters = refl }
 
+pub alike_on : (t u v : Tree) → Alike t u → Alike u v → Alike t v
+alike_on t u v h k = record { size = h.size ∙ k.size; left = h.left ∙ k.left; next = h.next ∙ k.next; letters = h.letters ∙ k.letters }
+
 pub all_alike_self : (ts : Trees) → AlikeAll ts ts
 all_alike_self ts = record { size = refl; each_left = refl; some_left = refl; each_next = refl; some_next = refl; letters = refl }
 

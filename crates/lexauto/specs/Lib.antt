@@ -16,4 +16,5 @@ pub mod Errors
 pub mod Plans
 pub mod Cursors
 pub mod Alike
+pub mod Signs
 pub mod Laid

@@ -1,10 +1,11 @@
 //! Patterns laid out for walks: each part with how many positions it has.
-ghost use Rattle.std.specs.Prelude.{◌≡◌, true, ◌+◌, ◌*◌, ◌<◌, ◌≤◌, ◌^◌, List, ◌∷◌, ◌++◌, length, map, IfOk, OnOk};
+ghost use Rattle.std.specs.Prelude.{◌≡◌, true, ◌||◌, ◌+◌, ◌*◌, ◌<◌, ◌≤◌, ◌^◌, List, ◌∷◌, ◌++◌, length, map, IfOk, OnOk};
 ghost use Rattle.lexmeaning.specs.Positions.{positions, positions_of, copies};
 ghost use Rattle.lexmeaning.specs.Shapes.{IsSoundTree, AreSoundTrees};
 ghost use Rattle.lexmeaning.specs.Tree.{Tree, Trees, trees, Empty, Star, Repeat};
 ghost use Rattle.lexre.specs.Views.{tree_of};
 ghost use Rattle.lexauto.specs.Alike.{Alike, AlikeAll, AddsNothing};
+ghost use Rattle.lexauto.specs.Signs.{skips, repeats, signed};
 ghost use Rattle.lexauto.specs.Plans.{plan_of, plans, tree_in, trees_in, trees_laid, IsSized, AreSized};
 
 use crate::walk::copies_of;
@@ -86,23 +87,87 @@ impl Row {
     }
 }
 
-fn star(alloc: Global, inner: Part) -> Result<Part, AllocError>
-    requires sized { IsSized (plan_of inner) }
-    ensures sized { IfOk result (λ p. IsSized (plan_of p)) }
-    ensures tree { IfOk result (λ p. tree_in (plan_of p) ≡ Star (tree_in (plan_of inner))) }
-{
-    let size = inner.size();
-    Ok(Part::Star(size, Box::new(alloc, inner)?))
+/// A sign on an item.
+#[derive(Clone, Copy)]
+enum Sign {
+    /// The item may be left out: `?`.
+    Optional,
+    /// It may be repeated: `+`.
+    Plus,
+    /// It may be left out or repeated: `*`.
+    Star,
 }
 
-fn repeat(alloc: Global, inner: Part, least: u8, most: Option<u8>) -> Result<Part, AllocError>
-    requires sized { IsSized (plan_of inner) }
-    requires few { copies least most * positions (tree_in (plan_of inner)) < 2 ^ 32 }
+impl Sign {
+    /// The sign that does what this one does on another.
+    fn on(self, other: Sign) -> Sign
+        ensures skips { skips result ≡ (skips self || skips other) }
+        ensures repeats { repeats result ≡ (repeats self || repeats other) }
+    {
+        match (self, other) {
+            (Sign::Optional, Sign::Optional) => Sign::Optional,
+            (Sign::Plus, Sign::Plus) => Sign::Plus,
+            _ => Sign::Star,
+        }
+    }
+
+    /// An item of this size under the sign.
+    fn over(self, size: u32, item: Box<Part>) -> Part
+        requires sized { IsSized (plan_of item.value) }
+        requires size { size ≡ positions (tree_in (plan_of item.value)) }
+        ensures sized { IsSized (plan_of result) }
+        ensures tree { tree_in (plan_of result) ≡ signed self (tree_in (plan_of item.value)) }
+    {
+        match self {
+            Sign::Optional => Part::Repeat(size, item, 0, Some(1)),
+            Sign::Plus => Part::Repeat(size, item, 1, None),
+            Sign::Star => Part::Star(size, item),
+        }
+    }
+}
+
+/// A part under a sign. Where it is under a sign already, one does for both.
+fn signed(alloc: Global, part: Part, sign: Sign) -> Result<Part, AllocError>
+    requires sized { IsSized (plan_of part) }
     ensures sized { IfOk result (λ p. IsSized (plan_of p)) }
-    ensures tree { IfOk result (λ p. tree_in (plan_of p) ≡ Repeat (tree_in (plan_of inner)) least most) }
+    ensures alike { IfOk result (λ p. Alike (tree_in (plan_of p)) (signed sign (tree_in (plan_of part)))) }
 {
-    let size = u32::from(copies_of(least, most).count) * inner.size();
-    Ok(Part::Repeat(size, Box::new(alloc, inner)?, least, most))
+    match part {
+        Part::Star(size, item) => Ok(sign.on(Sign::Star).over(size, item)),
+        Part::Repeat(size, item, 1, None) => Ok(sign.on(Sign::Plus).over(size, item)),
+        Part::Repeat(size, item, 0, Some(1)) => Ok(sign.on(Sign::Optional).over(size, item)),
+        part => {
+            let size = part.size();
+            Ok(sign.over(size, Box::new(alloc, part)?))
+        }
+    }
+}
+
+/// Copies of a part.
+fn copied(alloc: Global, part: Part, least: u8, most: Option<u8>) -> Result<Part, AllocError>
+    requires sized { IsSized (plan_of part) }
+    requires few { copies least most * positions (tree_in (plan_of part)) < 2 ^ 32 }
+    ensures sized { IfOk result (λ p. IsSized (plan_of p)) }
+    ensures tree { IfOk result (λ p. tree_in (plan_of p) ≡ Repeat (tree_in (plan_of part)) least most) }
+{
+    let size = u32::from(copies_of(least, most).count) * part.size();
+    Ok(Part::Repeat(size, Box::new(alloc, part)?, least, most))
+}
+
+/// A part that is repeated between these bounds.
+fn repeat(alloc: Global, part: Part, least: u8, most: Option<u8>) -> Result<Part, AllocError>
+    requires sized { IsSized (plan_of part) }
+    requires few { copies least most * positions (tree_in (plan_of part)) < 2 ^ 32 }
+    ensures sized { IfOk result (λ p. IsSized (plan_of p)) }
+    ensures alike { IfOk result (λ p. Alike (tree_in (plan_of p)) (Repeat (tree_in (plan_of part)) least most)) }
+{
+    match (least, most) {
+        (0, Some(1)) => signed(alloc, part, Sign::Optional),
+        (1, None) => signed(alloc, part, Sign::Plus),
+        (0, None) => signed(alloc, part, Sign::Star),
+        (1, Some(1)) => Ok(part),
+        _ => copied(alloc, part, least, most),
+    }
 }
 
 /// A pattern laid out.
@@ -140,7 +205,7 @@ fn lay_node(alloc: Global, pattern: &Pattern) -> Result<Part, AllocError>
         }
         Pattern::Star(inner) => {
             let part = lay(alloc, inner)?;
-            star(alloc, part)
+            signed(alloc, part, Sign::Star)
         }
         Pattern::Repeat(inner, least, most) => {
             let part = lay(alloc, inner)?;

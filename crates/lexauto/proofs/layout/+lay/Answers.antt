@@ -5,7 +5,7 @@ use Rattle.lexre.specs.Views.{tree_of}
 use Rattle.lexauto.specs.Alike.{Alike, AlikeAll}
 use Rattle.lexauto.specs.Plans.{plan_of, plans, tree_in, trees_in, trees_laid, AreSized}
 use Rattle.lexauto.specs.declared.layout.Part.{Part}
-use Rattle.lexauto.proofs.AlikeLaws.{laid_are, none_after, drop_one, drop_none, alike_nothing, alike_series, alike_choice, alike_star, alike_repeat, if_ok_by}
+use Rattle.lexauto.proofs.AlikeLaws.{laid_are, none_after, drop_one, drop_none, alike_nothing, alike_on, alike_series, alike_choice, alike_star, alike_repeat, if_ok_by}
 use Rattle.lexre.specs.declared.pattern.Pattern.TheFolds as P
 use Rattle.lexauto.specs.declared.layout.Part.TheFolds as L
 use Rattle.lexauto.proofs.layout.+lay.Goals as goal
@@ -63,8 +63,8 @@ lay_node-returns-in_ok-part-in-Star-clause-alike t c =
     let inner = tree_of c.deref-in-Star.result.now in
     let is : Star inner ≡ tree_of c.args.pattern.now = search (rules, P.the_lemmas) in
     let alike : Alike (Star own) (tree_of c.args.pattern.now) = subst (λ (u : Tree). Alike (Star own) u) is (alike_star own inner c.in_ok-part-in-Star.ensures.alike) in
-    if_ok_by c.star.result (λ p. tree_in (plan_of p) ≡ Star own) (λ p. Alike (tree_in (plan_of p)) (tree_of c.args.pattern.now))
-    (λ p e. subst (λ (u : Tree). Alike u (tree_of c.args.pattern.now)) (sym e) alike) c.star.ensures.tree
+    if_ok_by c.signed.result (λ p. Alike (tree_in (plan_of p)) (Star own)) (λ p. Alike (tree_in (plan_of p)) (tree_of c.args.pattern.now))
+    (λ p h. alike_on (tree_in (plan_of p)) (Star own) (tree_of c.args.pattern.now) h alike) c.signed.ensures.alike
 
 pub lay_node-returns-in_ok-part-in-Repeat-clause-alike : goal.lay_node-returns-in_ok-part-in-Repeat-clause-alike
 lay_node-returns-in_ok-part-in-Repeat-clause-alike t c =
@@ -74,5 +74,5 @@ lay_node-returns-in_ok-part-in-Repeat-clause-alike t c =
     let n = c.in-Repeat.most in
     let is : Repeat inner m n ≡ tree_of c.args.pattern.now = search (rules, P.the_lemmas) in
     let alike : Alike (Repeat own m n) (tree_of c.args.pattern.now) = subst (λ (u : Tree). Alike (Repeat own m n) u) is (alike_repeat m n own inner c.in_ok-part-in-Repeat.ensures.alike) in
-    if_ok_by c.repeat.result (λ p. tree_in (plan_of p) ≡ Repeat own m n) (λ p. Alike (tree_in (plan_of p)) (tree_of c.args.pattern.now))
-    (λ p e. subst (λ (u : Tree). Alike u (tree_of c.args.pattern.now)) (sym e) alike) c.repeat.ensures.tree
+    if_ok_by c.repeat.result (λ p. Alike (tree_in (plan_of p)) (Repeat own m n)) (λ p. Alike (tree_in (plan_of p)) (tree_of c.args.pattern.now))
+    (λ p h. alike_on (tree_in (plan_of p)) (Repeat own m n) (tree_of c.args.pattern.now) h alike) c.repeat.ensures.alike
