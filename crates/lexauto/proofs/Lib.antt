@@ -24,6 +24,7 @@ pub mod Surveying
 mod Quiet
 pub mod AlikeLaws
 pub mod SignLaws
+pub mod RowLaws
 pub mod CursorLaws
 pub mod LaidLaws
 pub mod Built

@@ -1,10 +1,10 @@
 //! Patterns laid out for walks: each part with how many positions it has.
-ghost use Rattle.std.specs.Prelude.{◌≡◌, true, ◌||◌, ◌+◌, ◌*◌, ◌<◌, ◌≤◌, ◌^◌, List, ◌∷◌, ◌++◌, length, map, IfOk, OnOk};
+ghost use Rattle.std.specs.Prelude.{◌≡◌, true, ◌||◌, ◌+◌, ◌*◌, ◌<◌, ◌≤◌, ◌^◌, List, [], ◌∷◌, ◌++◌, map, IfOk, OnOk, IfSome, IfNone};
 ghost use Rattle.lexmeaning.specs.Positions.{positions, positions_of, copies};
 ghost use Rattle.lexmeaning.specs.Shapes.{IsSoundTree, AreSoundTrees};
-ghost use Rattle.lexmeaning.specs.Tree.{Tree, Trees, trees, Empty, Star, Repeat};
+ghost use Rattle.lexmeaning.specs.Tree.{Tree, trees, Empty, Cat, Alt, Star, Repeat};
 ghost use Rattle.lexre.specs.Views.{tree_of};
-ghost use Rattle.lexauto.specs.Alike.{Alike, AlikeAll, AddsNothing};
+ghost use Rattle.lexauto.specs.Alike.{Alike, choice_of};
 ghost use Rattle.lexauto.specs.Signs.{skips, repeats, signed};
 ghost use Rattle.lexauto.specs.Plans.{plan_of, plans, tree_in, trees_in, trees_laid, IsSized, AreSized};
 
@@ -13,7 +13,7 @@ use lexclass::ByteSet;
 use lexre::Pattern;
 use std::alloc::{AllocError, Global};
 
-/// A pattern laid out. A part without positions has no parts.
+/// A pattern laid out. No part of another is without positions.
 #[derive(Drop)]
 pub(crate) enum Part {
     /// No position.
@@ -51,39 +51,6 @@ impl Part {
         ensures { result ≡ true → tree_in (plan_of self.now) ≡ Empty }
     {
         matches!(self, Part::Nothing)
-    }
-}
-
-/// Parts laid out, how many positions they have together, and whether the last of them has none.
-#[derive(Drop)]
-struct Row {
-    parts: Vec<Part>,
-    size: u32,
-    ends_empty: bool,
-}
-
-impl Row {
-    /// Adds a part. Of parts without positions that stand side by side, one is kept.
-    fn add(&mut self, part: Part) -> Result<(), AllocError>
-        requires sized { AreSized (plans (map plan_of self.old.parts.items)) }
-        requires part { IsSized (plan_of part) }
-        requires few { self.old.size + positions (tree_in (plan_of part)) < 2 ^ 32 }
-        requires empty { self.old.ends_empty ≡ true → AddsNothing (trees_laid self.old.parts.items) Empty }
-        ensures sized { OnOk result (AreSized (plans (map plan_of self.new.parts.items))) }
-        ensures size { OnOk result (self.new.size ≡ self.old.size + positions (tree_in (plan_of part))) }
-        ensures count { OnOk result (self.old.size ≡ positions_of (trees_in (plans (map plan_of self.old.parts.items))) → self.new.size ≡ positions_of (trees_in (plans (map plan_of self.new.parts.items)))) }
-        ensures empty { OnOk result (self.new.ends_empty ≡ true → AddsNothing (trees_laid self.new.parts.items) Empty) }
-        ensures alike { OnOk result ((t : Tree) (rest : List Tree) (whole : Trees) → Alike (tree_in (plan_of part)) t
-            → AlikeAll (trees (trees_laid self.old.parts.items ++ t ∷ rest)) whole → AlikeAll (trees (trees_laid self.new.parts.items ++ rest)) whole) }
-    {
-        let is_empty = part.is_nothing();
-        if is_empty && self.ends_empty {
-            return Ok(());
-        }
-        self.ends_empty = is_empty;
-        self.size += part.size();
-        self.parts.push(part)?;
-        Ok(())
     }
 }
 
@@ -170,6 +137,91 @@ fn repeat(alloc: Global, part: Part, least: u8, most: Option<u8>) -> Result<Part
     }
 }
 
+/// The only one of the parts, taken out, where there is just one.
+fn only(parts: &mut Vec<Part>) -> Option<Part>
+    ensures one { IfSome result (λ p. parts.old.items ≡ p ∷ []) }
+    ensures other { IfNone result (parts.new.items ≡ parts.old.items) }
+{
+    if parts.len() != 1 {
+        return None;
+    }
+    parts.pop()
+}
+
+/// Those parts that have positions, how many these are together, and whether there was a part without.
+#[derive(Drop)]
+struct Row {
+    parts: Vec<Part>,
+    size: u32,
+    has_empty: bool,
+}
+
+impl Row {
+    /// Adds a part, or tells that there was one without positions.
+    fn add(&mut self, part: Part) -> Result<(), AllocError>
+        requires sized { AreSized (plans (map plan_of self.old.parts.items)) }
+        requires part { IsSized (plan_of part) }
+        requires few { self.old.size + positions (tree_in (plan_of part)) < 2 ^ 32 }
+        ensures sized { OnOk result (AreSized (plans (map plan_of self.new.parts.items))) }
+        ensures size { OnOk result (self.new.size ≡ self.old.size + positions (tree_in (plan_of part))) }
+        ensures count { OnOk result (self.old.size ≡ positions_of (trees_in (plans (map plan_of self.old.parts.items))) → self.new.size ≡ positions_of (trees_in (plans (map plan_of self.new.parts.items)))) }
+        ensures series { OnOk result ((t : Tree) (rest : List Tree) (whole : Tree) → Alike (tree_in (plan_of part)) t
+            → Alike (Cat (trees (trees_laid self.old.parts.items ++ t ∷ rest))) whole → Alike (Cat (trees (trees_laid self.new.parts.items ++ rest))) whole) }
+        ensures choice { OnOk result ((t : Tree) (rest : List Tree) (whole : Tree) → Alike (tree_in (plan_of part)) t
+            → Alike (choice_of self.old.has_empty (trees (trees_laid self.old.parts.items ++ t ∷ rest))) whole → Alike (choice_of self.new.has_empty (trees (trees_laid self.new.parts.items ++ rest))) whole) }
+    {
+        if part.is_nothing() {
+            self.has_empty = true;
+            return Ok(());
+        }
+        self.size += part.size();
+        self.parts.push(part)?;
+        Ok(())
+    }
+}
+
+/// The parts one after another.
+fn series(row: Row) -> Part
+    requires sized { AreSized (plans (map plan_of row.parts.items)) }
+    requires size { row.size ≡ positions_of (trees_in (plans (map plan_of row.parts.items))) }
+    ensures sized { IsSized (plan_of result) }
+    ensures alike { Alike (tree_in (plan_of result)) (Cat (trees (trees_laid row.parts.items))) }
+{
+    let mut parts = row.parts;
+    match only(&mut parts) {
+        Some(part) => part,
+        None => Part::Series(row.size, parts),
+    }
+}
+
+/// One of the parts.
+fn one_of(size: u32, all: Vec<Part>) -> Part
+    requires sized { AreSized (plans (map plan_of all.items)) }
+    requires size { size ≡ positions_of (trees_in (plans (map plan_of all.items))) }
+    ensures sized { IsSized (plan_of result) }
+    ensures alike { Alike (tree_in (plan_of result)) (Alt (trees (trees_laid all.items))) }
+{
+    let mut parts = all;
+    match only(&mut parts) {
+        Some(part) => part,
+        None => Part::Choice(size, parts),
+    }
+}
+
+/// One of the parts, or none where there was one without positions.
+fn choice(alloc: Global, row: Row) -> Result<Part, AllocError>
+    requires sized { AreSized (plans (map plan_of row.parts.items)) }
+    requires size { row.size ≡ positions_of (trees_in (plans (map plan_of row.parts.items))) }
+    ensures sized { IfOk result (λ p. IsSized (plan_of p)) }
+    ensures alike { IfOk result (λ p. Alike (tree_in (plan_of p)) (choice_of row.has_empty (trees (trees_laid row.parts.items)))) }
+{
+    let part = one_of(row.size, row.parts);
+    if row.has_empty {
+        return signed(alloc, part, Sign::Optional);
+    }
+    Ok(part)
+}
+
 /// A pattern laid out.
 #[cycle(lay)]
 pub(crate) fn lay(alloc: Global, pattern: &Pattern) -> Result<Part, AllocError>
@@ -197,11 +249,11 @@ fn lay_node(alloc: Global, pattern: &Pattern) -> Result<Part, AllocError>
         Pattern::Set(set) => Ok(Part::Letter(*set)),
         Pattern::Cat(parts) => {
             let row = lay_all(alloc, parts)?;
-            Ok(Part::Series(row.size, row.parts))
+            Ok(series(row))
         }
         Pattern::Alt(parts) => {
             let row = lay_all(alloc, parts)?;
-            Ok(Part::Choice(row.size, row.parts))
+            choice(alloc, row)
         }
         Pattern::Star(inner) => {
             let part = lay(alloc, inner)?;
@@ -220,12 +272,13 @@ fn lay_all(alloc: Global, parts: &[Pattern]) -> Result<Row, AllocError>
     requires few { positions_of (trees (map tree_of parts.now)) < 2 ^ 32 }
     ensures sized { IfOk result (λ r. AreSized (plans (map plan_of r.parts.items))) }
     ensures size { IfOk result (λ r. r.size ≡ positions_of (trees_in (plans (map plan_of r.parts.items)))) }
-    ensures alike { IfOk result (λ r. AlikeAll (trees_in (plans (map plan_of r.parts.items))) (trees (map tree_of parts.now))) }
+    ensures series { IfOk result (λ r. Alike (Cat (trees (trees_laid r.parts.items))) (Cat (trees (map tree_of parts.now)))) }
+    ensures choice { IfOk result (λ r. Alike (choice_of r.has_empty (trees (trees_laid r.parts.items))) (Alt (trees (map tree_of parts.now)))) }
 {
     let mut row = Row {
         parts: Vec::new(alloc),
         size: 0,
-        ends_empty: false,
+        has_empty: false,
     };
     for part in parts {
         let part = lay(alloc, part)?;
