@@ -8,7 +8,7 @@ use Rattle.lexmeaning.specs.Positions.{positions, positions_of, copies}
 use Rattle.lexmeaning.specs.Shapes.{IsSoundTree}
 use Rattle.lexauto.specs.Flow.{is_none, passes, comes, exits, exits_each, exits_some, enters, enters_each, enters_some}
 use Rattle.lexauto.specs.RuleFlow.{reads, each_read, copies_read}
-use Rattle.lexauto.specs.Alike.{Alike, AlikeAll, AddsNothing}
+use Rattle.lexauto.specs.Alike.{Alike, AlikeAll}
 use Rattle.lexauto.specs.Plans.{plans, tree_in, trees_in, trees_laid, plan_of, IsSized, AreSized}
 use Rattle.lexauto.specs.declared.layout.Part.{Part}
 use Rattle.lexauto.proofs.Copies.{nothing_left, nothing_comes}
@@ -25,6 +25,9 @@ Letters = ℕ → ℕ → ℕ → Bool
 
 pub alike_self : (t : Tree) → Alike t t
 alike_self t = record { size = refl; left = refl; next = refl; letters = refl }
+
+pub alike_on : (t u v : Tree) → Alike t u → Alike u v → Alike t v
+alike_on t u v h k = record { size = h.size ∙ k.size; left = h.left ∙ k.left; next = h.next ∙ k.next; letters = h.letters ∙ k.letters }
 
 pub all_alike_self : (ts : Trees) → AlikeAll ts ts
 all_alike_self ts = record { size = refl; each_left = refl; some_left = refl; each_next = refl; some_next = refl; letters = refl }
@@ -114,49 +117,9 @@ module _ (m : ℕ) (n : Option ℕ) where
   }
 
 -- one of a list of trees is walked like another
-alike_within : (before : List Tree) (t u : Tree) (rest : List Tree) → Alike t u → AlikeAll (trees (before ++ t ∷ rest)) (trees (before ++ u ∷ rest))
+pub alike_within : (before : List Tree) (t u : Tree) (rest : List Tree) → Alike t u → AlikeAll (trees (before ++ t ∷ rest)) (trees (before ++ u ∷ rest))
 alike_within [] t u rest h = alike_first t u (trees rest) (trees rest) h (all_alike_self (trees rest))
 alike_within (x ∷ before) t u rest h = alike_first x x (trees (before ++ t ∷ rest)) (trees (before ++ u ∷ rest)) (alike_self x) (alike_within before t u rest h)
-
--- one part more is laid out
-pub alike_more : (laid : List Part) (p : Part) (t : Tree) (rest : List Tree) (whole : Trees) → Alike (tree_in (plan_of p)) t
-    → AlikeAll (trees (trees_laid laid ++ t ∷ rest)) whole → AlikeAll (trees (trees_laid (laid ++ p ∷ []) ++ rest)) whole
-alike_more laid p t rest whole h k =
-    rw (regroup laid) (all_alike_on (trees (trees_laid laid ++ tree_in (plan_of p) ∷ rest)) (trees (trees_laid laid ++ t ∷ rest)) whole (alike_within (trees_laid laid) (tree_in (plan_of p)) t rest h) k)
-  where
-    regroup : (ps : List Part) → trees_laid (ps ++ p ∷ []) ++ rest ≡ trees_laid ps ++ tree_in (plan_of p) ∷ rest
-    regroup [] = refl
-    regroup (x ∷ ps) = ap (λ ts. tree_in (plan_of x) ∷ ts) (regroup ps)
-
-or_twice : (a b : Bool) → (a || b) ≡ (a || (a || b))
-or_twice true b = refl
-or_twice false b = refl
-
--- the empty text twice is walked like once
-twice : (ts : Trees) → AlikeAll (tree Empty ts) (tree Empty (tree Empty ts))
-twice ts = record {
-  size = omega arith;
-  each_left = fun_ext (λ S. fun_ext (λ base. fun_ext (λ i. ap (λ n. exits_each ts S n i) (omega arith))));
-  some_left = fun_ext (λ S. fun_ext (λ base. fun_ext (λ i. or_twice i (exits_some ts S (base + 0) i) ∙ ap (λ n. i || (i || exits_some ts S n i)) (omega arith))));
-  each_next = fun_ext (λ S. fun_ext (λ q. fun_ext (λ base. fun_ext (λ i. ap (λ n. enters_each ts S q n i) (omega arith)))));
-  some_next = fun_ext (λ S. fun_ext (λ q. fun_ext (λ base. fun_ext (λ i. ap (λ n. enters_some ts S q n i) (omega arith)))));
-  letters = fun_ext (λ b. fun_ext (λ q. fun_ext (λ base. ap (λ n. each_read ts b q n) (omega arith))));
-}
-
--- behind a part without positions another one changes nothing
-pub adds_nothing : (laid : List Part) (p : Part) → tree_in (plan_of p) ≡ Empty → AddsNothing (trees_laid (laid ++ p ∷ [])) Empty
-adds_nothing [] p e rest = subst (λ t. AlikeAll (tree t (trees rest)) (tree t (tree Empty (trees rest)))) (sym e) (twice (trees rest))
-adds_nothing (x ∷ laid) p e rest = (
-    alike_first (tree_in (plan_of x)) (tree_in (plan_of x)) (trees (trees_laid (laid ++ p ∷ []) ++ rest)) (trees (trees_laid (laid ++ p ∷ []) ++ Empty ∷ rest))
-    (alike_self (tree_in (plan_of x))) (adds_nothing laid p e rest))
-
--- a part without positions behind another one is left out
-pub alike_without : (laid : List Part) (p : Part) (t : Tree) (rest : List Tree) (whole : Trees) → AddsNothing (trees_laid laid) Empty → tree_in (plan_of p) ≡ Empty → Alike (tree_in (plan_of p)) t
-    → AlikeAll (trees (trees_laid laid ++ t ∷ rest)) whole → AlikeAll (trees (trees_laid laid ++ rest)) whole
-alike_without laid p t rest whole none e h k =
-    let empty : Alike Empty t = subst (λ u. Alike u t) e h in
-    all_alike_on (trees (trees_laid laid ++ rest)) (trees (trees_laid laid ++ Empty ∷ rest)) whole (none rest)
-    (all_alike_on (trees (trees_laid laid ++ Empty ∷ rest)) (trees (trees_laid laid ++ t ∷ rest)) whole (alike_within (trees_laid laid) Empty t rest empty) k)
 
 pub laid_are : (ps : List Part) → trees (trees_laid ps) ≡ trees_in (plans (map plan_of ps))
 laid_are [] = refl

@@ -23,6 +23,8 @@ pub mod Counting
 pub mod Surveying
 mod Quiet
 pub mod AlikeLaws
+pub mod SignLaws
+pub mod RowLaws
 pub mod CursorLaws
 pub mod LaidLaws
 pub mod Built

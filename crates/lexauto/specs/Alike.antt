@@ -1,6 +1,6 @@
 -- Trees that are walked alike. (This project's.)
-use Rattle.std.specs.Prelude.{◌≡◌, List, ◌∷◌, ◌++◌}
-use Rattle.lexmeaning.specs.Tree.{Tree, Trees, trees}
+use Rattle.std.specs.Prelude.{◌≡◌, Bool, true, false, Some}
+use Rattle.lexmeaning.specs.Tree.{Tree, Trees, Alt, Repeat}
 use Rattle.lexmeaning.specs.Positions.{positions, positions_of}
 use Rattle.lexauto.specs.Flow.{exits, exits_each, exits_some, enters, enters_each, enters_some}
 use Rattle.lexauto.specs.RuleFlow.{reads, each_read}
@@ -19,6 +19,7 @@ pub record AlikeAll (ts us : Trees) : Type 0 where
   pub some_next : enters_some ts ≡ enters_some us
   pub letters : each_read ts ≡ each_read us
 
--- behind these trees one more changes nothing
-abbrev pub AddsNothing : List Tree → Tree → Type 0
-AddsNothing ts t = (rest : List Tree) → AlikeAll (trees (ts ++ rest)) (trees (ts ++ t ∷ rest))
+-- one of the trees, or none of them too
+abbrev pub choice_of : Bool → Trees → Tree
+choice_of false ts = Alt ts
+choice_of true ts = Repeat (Alt ts) 0 (Some 1)

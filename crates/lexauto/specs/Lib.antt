@@ -16,5 +16,6 @@ pub mod Errors
 pub mod Plans
 pub mod Cursors
 pub mod Alike
+pub mod Signs
 pub mod Laid
 pub mod Owners

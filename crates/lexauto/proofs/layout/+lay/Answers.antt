@@ -1,11 +1,11 @@
 use Rattle.std.proofs.Common.{rules, ◌≡◌, ◌+◌, ◌≤◌, ◌++◌, ◌∷◌, [], List, length, map, drop, arith, sym, ap, subst, ◌∙◌}
 use Rattle.lexmeaning.specs.Positions.{positions, positions_of}
-use Rattle.lexmeaning.specs.Tree.{Tree, Trees, trees, Cat, Alt, Star, Repeat}
+use Rattle.lexmeaning.specs.Tree.{Tree, trees, Cat, Alt, Star, Repeat}
 use Rattle.lexre.specs.Views.{tree_of}
-use Rattle.lexauto.specs.Alike.{Alike, AlikeAll}
+use Rattle.lexauto.specs.Alike.{Alike, choice_of}
 use Rattle.lexauto.specs.Plans.{plan_of, plans, tree_in, trees_in, trees_laid, AreSized}
 use Rattle.lexauto.specs.declared.layout.Part.{Part}
-use Rattle.lexauto.proofs.AlikeLaws.{laid_are, none_after, drop_one, drop_none, alike_nothing, alike_series, alike_choice, alike_star, alike_repeat, if_ok_by}
+use Rattle.lexauto.proofs.AlikeLaws.{none_after, drop_one, drop_none, alike_nothing, alike_on, alike_star, alike_repeat, if_ok_by}
 use Rattle.lexre.specs.declared.pattern.Pattern.TheFolds as P
 use Rattle.lexauto.specs.declared.layout.Part.TheFolds as L
 use Rattle.lexauto.proofs.layout.+lay.Goals as goal
@@ -23,39 +23,50 @@ lay_all-loop-part-preserved t c =
     let sum : positions_of (trees (map tree_of (drop i c.args.parts.now))) ≡ positions (tree_of c.part-item.result) + positions_of (trees (map tree_of (drop (i + 1) c.args.parts.now))) = ap (λ ts. positions_of (trees ts)) rest in
     let before = c.loop-part.invariant.total in
     let grown = c.in_ok-add.ensures.size in
+    let whole_series = Cat (trees (map tree_of c.args.parts.now)) in
+    let whole_choice = Alt (trees (map tree_of c.args.parts.now)) in
     record {
       sound = search rules;
       sized = c.in_ok-add.ensures.sized;
       size = c.in_ok-add.ensures.count c.loop-part.invariant.size;
       total = omega (arith, same, sum, before, grown);
-      empty = c.in_ok-add.ensures.empty;
-      alike = c.in_ok-add.ensures.alike (tree_of c.part-item.result) (map tree_of (drop (i + 1) c.args.parts.now)) (trees (map tree_of c.args.parts.now)) c.in_ok-part.ensures.alike
-          (subst (λ (ts : List Tree). AlikeAll (trees (trees_laid c.loop-part.row.parts.items ++ ts)) (trees (map tree_of c.args.parts.now))) rest c.loop-part.invariant.alike);
+      series = c.in_ok-add.ensures.series (tree_of c.part-item.result) (map tree_of (drop (i + 1) c.args.parts.now)) whole_series c.in_ok-part.ensures.alike
+          (subst (λ (ts : List Tree). Alike (Cat (trees (trees_laid c.loop-part.row.parts.items ++ ts))) whole_series) rest c.loop-part.invariant.series);
+      choice = c.in_ok-add.ensures.choice (tree_of c.part-item.result) (map tree_of (drop (i + 1) c.args.parts.now)) whole_choice c.in_ok-part.ensures.alike
+          (subst (λ (ts : List Tree). Alike (choice_of c.loop-part.row.has_empty (trees (trees_laid c.loop-part.row.parts.items ++ ts))) whole_choice) rest c.loop-part.invariant.choice);
     }
 
-pub lay_all-returns-clause-alike : goal.lay_all-returns-clause-alike
-lay_all-returns-clause-alike t c =
-    let laid = c.loop-part.row.parts.items in
+pub lay_all-returns-clause-series : goal.lay_all-returns-clause-series
+lay_all-returns-clause-series t c =
+    let laid = trees_laid c.loop-part.row.parts.items in
     let done : length c.args.parts.now ≤ c.loop-part.part-index = search rules in
     let none = drop_none tree_of c.args.parts.now c.loop-part.part-index done in
-    let all = subst (λ (ts : List Tree). AlikeAll (trees (trees_laid laid ++ ts)) (trees (map tree_of c.args.parts.now))) none c.loop-part.invariant.alike in
-    subst (λ (ts : Trees). AlikeAll ts (trees (map tree_of c.args.parts.now))) (ap trees (none_after (trees_laid laid)) ∙ laid_are laid) all
+    let left : laid ++ map tree_of (drop c.loop-part.part-index c.args.parts.now) ≡ laid = ap (λ (ts : List Tree). laid ++ ts) none ∙ none_after laid in
+    subst (λ (ts : List Tree). Alike (Cat (trees ts)) (Cat (trees (map tree_of c.args.parts.now)))) left c.loop-part.invariant.series
+
+pub lay_all-returns-clause-choice : goal.lay_all-returns-clause-choice
+lay_all-returns-clause-choice t c =
+    let laid = trees_laid c.loop-part.row.parts.items in
+    let done : length c.args.parts.now ≤ c.loop-part.part-index = search rules in
+    let none = drop_none tree_of c.args.parts.now c.loop-part.part-index done in
+    let left : laid ++ map tree_of (drop c.loop-part.part-index c.args.parts.now) ≡ laid = ap (λ (ts : List Tree). laid ++ ts) none ∙ none_after laid in
+    subst (λ (ts : List Tree). Alike (choice_of c.loop-part.row.has_empty (trees ts)) (Alt (trees (map tree_of c.args.parts.now)))) left c.loop-part.invariant.choice
 
 pub lay_node-returns-in_ok-row-in-Cat-clause-alike : goal.lay_node-returns-in_ok-row-in-Cat-clause-alike
 lay_node-returns-in_ok-row-in-Cat-clause-alike t c =
-    let own = trees_in (plans (map plan_of c.in_ok-row-in-Cat.row.parts.items)) in
+    let laid = Cat (trees (trees_laid c.in_ok-row-in-Cat.row.parts.items)) in
     let all = trees (map tree_of c.deref-in-Cat.result.now) in
     let is : Cat all ≡ tree_of c.args.pattern.now = search (rules, P.the_lemmas) in
-    let a : Alike (Cat own) (tree_of c.args.pattern.now) = subst (λ (u : Tree). Alike (Cat own) u) is (alike_series own all c.in_ok-row-in-Cat.ensures.alike) in
-    search (rules, L.the_lemmas, a)
+    subst (λ (u : Tree). Alike (tree_in (plan_of c.series.result)) u) is
+    (alike_on (tree_in (plan_of c.series.result)) laid (Cat all) c.series.ensures.alike c.in_ok-row-in-Cat.ensures.series)
 
 pub lay_node-returns-in_ok-row-in-Alt-clause-alike : goal.lay_node-returns-in_ok-row-in-Alt-clause-alike
 lay_node-returns-in_ok-row-in-Alt-clause-alike t c =
-    let own = trees_in (plans (map plan_of c.in_ok-row-in-Alt.row.parts.items)) in
+    let laid = choice_of c.in_ok-row-in-Alt.row.has_empty (trees (trees_laid c.in_ok-row-in-Alt.row.parts.items)) in
     let all = trees (map tree_of c.deref-in-Alt-2.result.now) in
     let is : Alt all ≡ tree_of c.args.pattern.now = search (rules, P.the_lemmas) in
-    let a : Alike (Alt own) (tree_of c.args.pattern.now) = subst (λ (u : Tree). Alike (Alt own) u) is (alike_choice own all c.in_ok-row-in-Alt.ensures.alike) in
-    search (rules, L.the_lemmas, a)
+    if_ok_by c.choice.result (λ p. Alike (tree_in (plan_of p)) laid) (λ p. Alike (tree_in (plan_of p)) (tree_of c.args.pattern.now))
+    (λ p h. subst (λ (u : Tree). Alike (tree_in (plan_of p)) u) is (alike_on (tree_in (plan_of p)) laid (Alt all) h c.in_ok-row-in-Alt.ensures.choice)) c.choice.ensures.alike
 
 pub lay_node-returns-in_ok-part-in-Star-clause-alike : goal.lay_node-returns-in_ok-part-in-Star-clause-alike
 lay_node-returns-in_ok-part-in-Star-clause-alike t c =
@@ -63,8 +74,8 @@ lay_node-returns-in_ok-part-in-Star-clause-alike t c =
     let inner = tree_of c.deref-in-Star.result.now in
     let is : Star inner ≡ tree_of c.args.pattern.now = search (rules, P.the_lemmas) in
     let alike : Alike (Star own) (tree_of c.args.pattern.now) = subst (λ (u : Tree). Alike (Star own) u) is (alike_star own inner c.in_ok-part-in-Star.ensures.alike) in
-    if_ok_by c.star.result (λ p. tree_in (plan_of p) ≡ Star own) (λ p. Alike (tree_in (plan_of p)) (tree_of c.args.pattern.now))
-    (λ p e. subst (λ (u : Tree). Alike u (tree_of c.args.pattern.now)) (sym e) alike) c.star.ensures.tree
+    if_ok_by c.signed.result (λ p. Alike (tree_in (plan_of p)) (Star own)) (λ p. Alike (tree_in (plan_of p)) (tree_of c.args.pattern.now))
+    (λ p h. alike_on (tree_in (plan_of p)) (Star own) (tree_of c.args.pattern.now) h alike) c.signed.ensures.alike
 
 pub lay_node-returns-in_ok-part-in-Repeat-clause-alike : goal.lay_node-returns-in_ok-part-in-Repeat-clause-alike
 lay_node-returns-in_ok-part-in-Repeat-clause-alike t c =
@@ -74,5 +85,5 @@ lay_node-returns-in_ok-part-in-Repeat-clause-alike t c =
     let n = c.in-Repeat.most in
     let is : Repeat inner m n ≡ tree_of c.args.pattern.now = search (rules, P.the_lemmas) in
     let alike : Alike (Repeat own m n) (tree_of c.args.pattern.now) = subst (λ (u : Tree). Alike (Repeat own m n) u) is (alike_repeat m n own inner c.in_ok-part-in-Repeat.ensures.alike) in
-    if_ok_by c.repeat.result (λ p. tree_in (plan_of p) ≡ Repeat own m n) (λ p. Alike (tree_in (plan_of p)) (tree_of c.args.pattern.now))
-    (λ p e. subst (λ (u : Tree). Alike u (tree_of c.args.pattern.now)) (sym e) alike) c.repeat.ensures.tree
+    if_ok_by c.repeat.result (λ p. Alike (tree_in (plan_of p)) (Repeat own m n)) (λ p. Alike (tree_in (plan_of p)) (tree_of c.args.pattern.now))
+    (λ p h. alike_on (tree_in (plan_of p)) (Repeat own m n) (tree_of c.args.pattern.now) h alike) c.repeat.ensures.alike

@@ -1,9 +1,9 @@
-use Rattle.std.proofs.Common.{true, ◌≡◌, ◌+◌, ◌++◌, drop, map}
-use Rattle.lexmeaning.specs.Tree.{trees, Empty}
+use Rattle.std.proofs.Common.{◌≡◌, ◌+◌, ◌++◌, drop, map}
+use Rattle.lexmeaning.specs.Tree.{trees, Cat, Alt}
 use Rattle.lexmeaning.specs.Shapes.{AreSoundTrees}
 use Rattle.lexmeaning.specs.Positions.{positions_of}
 use Rattle.lexre.specs.Views.{tree_of}
-use Rattle.lexauto.specs.Alike.{AlikeAll, AddsNothing}
+use Rattle.lexauto.specs.Alike.{Alike, choice_of}
 use Rattle.lexauto.specs.Plans.{plan_of, plans, trees_in, trees_laid, AreSized}
 use Rattle.lexauto.proofs.layout.+lay.Given as goal
 
@@ -13,6 +13,6 @@ invariant-lay_all-loop-part l = record {
   sized : AreSized (plans (map plan_of l.row.parts.items));
   size : l.row.size ≡ positions_of (trees_in (plans (map plan_of l.row.parts.items)));
   total : l.row.size + positions_of (trees (map tree_of (drop l.part-index l.parts))) ≡ positions_of (trees (map tree_of l.parts));
-  empty : l.row.ends_empty ≡ true → AddsNothing (trees_laid l.row.parts.items) Empty;
-  alike : AlikeAll (trees (trees_laid l.row.parts.items ++ map tree_of (drop l.part-index l.parts))) (trees (map tree_of l.parts));
+  series : Alike (Cat (trees (trees_laid l.row.parts.items ++ map tree_of (drop l.part-index l.parts)))) (Cat (trees (map tree_of l.parts)));
+  choice : Alike (choice_of l.row.has_empty (trees (trees_laid l.row.parts.items ++ map tree_of (drop l.part-index l.parts)))) (Alt (trees (map tree_of l.parts)));
 }

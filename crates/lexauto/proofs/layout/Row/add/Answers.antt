@@ -1,17 +1,20 @@
-use Rattle.std.proofs.Common.{rules, ◌≡◌, ◌+◌, ◌++◌, ◌∷◌, [], true, List, map, sym, ap, subst, ◌∙◌}
+use Rattle.std.proofs.Common.{◌≡◌, ◌+◌, ◌++◌, List, map, sym, ap, subst, ◌∙◌}
 use Rattle.lexmeaning.specs.Positions.{positions, positions_of}
-use Rattle.lexmeaning.specs.Tree.{Tree, trees, Empty}
-use Rattle.lexauto.specs.Alike.{AlikeAll, AddsNothing}
+use Rattle.lexmeaning.specs.Tree.{trees, Cat}
+use Rattle.lexauto.specs.Alike.{Alike, choice_of}
 use Rattle.lexauto.specs.Plans.{plan_of, plans, tree_in, trees_in, trees_laid, AreSized}
 use Rattle.lexauto.specs.declared.layout.Part.{Part}
-use Rattle.lexauto.proofs.AlikeLaws.{sized_more, are_sized_more, alike_more, alike_without, adds_nothing}
+use Rattle.lexauto.proofs.AlikeLaws.{sized_more, are_sized_more}
+use Rattle.lexauto.proofs.RowLaws.{series_left_out, choice_left_out, series_more, choice_more}
 use Rattle.lexauto.proofs.layout.Row.add.Goals as goal
 
-pub returns-then-self-clause-alike : goal.returns-then-self-clause-alike
-returns-then-self-clause-alike c t rest whole h k =
-    let ended : c.args.self.now.ends_empty ≡ true = search rules in
-    let empty : c.is_nothing-is_empty.result ≡ true = search rules in
-    alike_without c.args.self.now.parts.items c.args.part t rest whole (c.requires.empty ended) (c.is_nothing-is_empty.ensures empty) h k
+pub returns-then-is_nothing-clause-series : goal.returns-then-is_nothing-clause-series
+returns-then-is_nothing-clause-series c t rest whole h k =
+    series_left_out c.args.self.now.parts.items c.args.part t rest whole h (c.is_nothing.ensures c.if-is_nothing.true) k
+
+pub returns-then-is_nothing-clause-choice : goal.returns-then-is_nothing-clause-choice
+returns-then-is_nothing-clause-choice c t rest whole h k =
+    choice_left_out c.args.self.now.parts.items c.args.part t rest whole h (c.is_nothing.ensures c.if-is_nothing.true) c.args.self.now.has_empty k
 
 pub returns-clause-sized : goal.returns-clause-sized
 returns-clause-sized c =
@@ -22,10 +25,11 @@ returns-clause-count c before =
     ap (λ n. n + c.size.result) before ∙ ap (λ n. positions_of (trees_in (plans (map plan_of c.args.self.now.parts.items))) + n) c.size.ensures ∙ sym (sized_more c.args.self.now.parts.items c.args.part)
     ∙ ap (λ (ps : List Part). positions_of (trees_in (plans (map plan_of ps)))) (sym c.in_ok-push.ensures.items)
 
-pub returns-clause-empty : goal.returns-clause-empty
-returns-clause-empty c empty =
-    subst (λ (ps : List Part). AddsNothing (trees_laid ps) Empty) (sym c.in_ok-push.ensures.items) (adds_nothing c.args.self.now.parts.items c.args.part (c.is_nothing-is_empty.ensures empty))
+pub returns-clause-series : goal.returns-clause-series
+returns-clause-series c t rest whole h k =
+    subst (λ (ps : List Part). Alike (Cat (trees (trees_laid ps ++ rest))) whole) (sym c.in_ok-push.ensures.items) (series_more c.args.self.now.parts.items c.args.part t rest whole h k)
 
-pub returns-clause-alike : goal.returns-clause-alike
-returns-clause-alike c t rest whole h k =
-    subst (λ (ps : List Part). AlikeAll (trees (trees_laid ps ++ rest)) whole) (sym c.in_ok-push.ensures.items) (alike_more c.args.self.now.parts.items c.args.part t rest whole h k)
+pub returns-clause-choice : goal.returns-clause-choice
+returns-clause-choice c t rest whole h k =
+    subst (λ (ps : List Part). Alike (choice_of c.args.self.now.has_empty (trees (trees_laid ps ++ rest))) whole) (sym c.in_ok-push.ensures.items)
+    (choice_more c.args.self.now.parts.items c.args.part t rest whole h c.args.self.now.has_empty k)
