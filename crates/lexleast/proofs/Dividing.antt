@@ -30,8 +30,24 @@ pub put_other : (xs : List ℕ) (c v w d : ℕ) → d < length xs → d ≢ c �
 unfolding put
 put_other xs c v w d h n = get_or_append_left (set xs c v) (w ∷ []) 0 d (let f = length-set xs c v in omega (arith, h, f)) ∙ get_or-set_other xs c d v 0 n
 
+pub put_others : (first middle : List ℕ) (c kept piece e : ℕ) → length middle ≡ length first → e < length first → e ≢ c
+    → (slice_index (put first c kept piece) e ≡ slice_index first e) × (slice_index (put middle c kept piece) e ≡ slice_index middle e)
+put_others first middle c kept piece e m h n = (put_other first c kept piece e h n, put_other middle c kept piece e (omega (arith, m, h)) n)
+
 low_or_last : (d k : ℕ) → d < suc k → (d < k) ⊎ (d ≡ k)
 low_or_last d k h = grind arith
+
+-- neither piece has marked states
+pub put_touched : (first middle : List ℕ) (c kept piece e : ℕ) → length middle ≡ length first → c < length first → e < suc (length first)
+    → slice_index (put first c kept piece) e < slice_index (put middle c kept piece) e → (e < length first) × (e ≢ c) × (slice_index first e < slice_index middle e)
+put_touched first middle c kept piece e m low h t = elim (low_or_last e (length first) h) [
+  | inr q ↦ absurd (let f = put_new first c kept piece e (sym q) in let g = put_new middle c kept piece e (m ∙ sym q) in omega (arith, f, g, t))
+  | inl k ↦ elim (same_or_not e c) [
+    | inl q ↦ absurd (let u : slice_index (put first c kept piece) c < slice_index (put middle c kept piece) c = subst (λ (i : ℕ). slice_index (put first c kept piece) i < slice_index (put middle c kept piece) i) q t in
+        let f = put_at first c kept piece low in let g = put_at middle c kept piece (omega (arith, m, low)) in omega (arith, f, g, u))
+    | inr n ↦ (let o = put_others first middle c kept piece e m k n in let f = o.0 in let g = o.1 in (k, n, omega (arith, f, g, t)))
+  ]
+]
 
 module _ (order place block first middle end : List ℕ) (a : Arrangement order place block first middle end) where
   -- there are at most as many blocks as states
@@ -157,12 +173,3 @@ module _ (order place block first middle end : List ℕ) (a : Arrangement order 
       to = by_blocks (λ e f m t. m ≤ t) (let h = d.piece_some in omega (arith, h)) (let h = d.kept_some in omega (arith, h)) (λ e k n. a.to e k);
       within = by_blocks (λ e f m t. t ≤ length block2) (let h = d.piece_to in let w = a.within c low in omega (arith, h, w, len)) (let h = d.kept_to in let w = a.within c low in omega (arith, h, w, len)) (λ e k n. let w = a.within e k in omega (arith, w, len));
     }
-
-    pub others : (e : ℕ) → e < length first → e ≢ c → (slice_index (put first c kept piece) e ≡ slice_index first e) × (slice_index (put middle c kept piece) e ≡ slice_index middle e)
-    others e k n = (put_other first c kept piece e k n, put_other middle c kept piece e (let m = a.middles in omega (arith, m, k)) n)
-
-    pub touched : (e : ℕ) → e < suc (length first) → slice_index (put first c kept piece) e < slice_index (put middle c kept piece) e
-        → (e < length first) × (e ≢ c) × (slice_index first e < slice_index middle e)
-    unfolding first2 middle2 end2
-    touched e h = by_blocks (λ e f m t. f < m → (e < length first) × (e ≢ c) × (slice_index first e < slice_index middle e))
-        (λ q. absurd (omega (arith, q))) (λ q. absurd (omega (arith, q))) (λ e k n q. (k, n, q)) e (let l = count2 in omega (arith, l, h))

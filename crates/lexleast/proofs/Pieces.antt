@@ -83,7 +83,7 @@ module _ (old new : Blocks) (a : Arranged old) (c kept kept_end piece piece_end 
     marks = λ x h n.
         let q : place_of new x ≡ place_of old x = ap (λ (v : Vec ℕ Global). slice_index v.items x) place in
         let m : slice_index new.middle.items (block_of new x) ≡ slice_index old.middle.items (block_of old x) =
-            ap (λ (d : ℕ). slice_index new.middle.items d) (rest x (stays x h n)) ∙ (others (block_of old x) (a.numbered x h) n).1 in
+        ap (λ (d : ℕ). slice_index new.middle.items d) (rest x (stays x h n)) ∙ (others (block_of old x) (a.numbered x h) n).1 in
         ((λ w. omega (arith, q, m, w)), (λ w. omega (arith, q, m, w)));
     either = λ x h e. elim (in_or_not x) [ inl i ↦ inr (refl, in_moved x h i) | inr n ↦ inl (rest x n ∙ e) ];
     together = λ x y h k e g w. elim (in_or_not x) [

@@ -1,7 +1,7 @@
 -- Rounds of cutting.
-use Rattle.std.proofs.Common.{◌≡◌, ◌≢◌, ◌↔◌, ℕ, zero, suc, ◌+◌, ◌<◌, ◌≤◌, ◌⊎◌, Bool, true, ◌==◌, List, [], ◌∷◌, ◌++◌, length, length-append, get_or, ap, sym, subst, ◌∙◌, inl, inr, arith}
+use Rattle.std.proofs.Common.{◌≡◌, ◌≢◌, ◌↔◌, ℕ, zero, suc, ◌+◌, ◌<◌, ◌≤◌, ◌⊎◌, Bool, true, ◌==◌, List, [], ◌∷◌, ◌++◌, length, length-append, get_or, refl, ap, sym, subst, ◌∙◌, inl, inr, arith}
 use Rattle.std.specs.Prelude.{slice_index}
-use Rattle.std.proofs.lemmas.List.{get_or_append_left, get_or-append-add}
+use Rattle.std.proofs.lemmas.List.{get_or_append_left, get_or-append-add, get_or_push}
 use Rattle.std.proofs.lemmas.Bool.Decides.{nat_tests}
 use Rattle.lexleast.specs.declared.sources.Letter.{Letter}
 use Rattle.lexleast.specs.Futures.{IsClosed, IsCoarsest}
@@ -73,3 +73,19 @@ module _ (letters : List Letter) (labels : List ℕ) (n : ℕ) (len : length lab
   pub settled : (block : ℕ → ℕ) (waiting : List ℕ) → length waiting ≡ 0
       → (coarse : ℕ → ℕ) × Refining (machine letters labels) block (Has waiting) coarse → IsCoarsest (machine letters labels) block
   settled block waiting none (coarse, r) = finished (machine letters labels) (closed letters labels fits) block (Has waiting) coarse r (λ x h (i, low, e). omega (arith, low, none))
+
+-- what holds of the numbers that wait holds of the last and of those before it
+pub last_known : (waited left : List ℕ) (number n : ℕ) → waited ≡ left ++ number ∷ [] → ((i : ℕ) → i < length waited → slice_index waited i < n) → number < n
+last_known waited left number n is known =
+    let last : slice_index waited (length left) ≡ number = ap (λ (xs : List ℕ). slice_index xs (length left)) is ∙ get_or_push left number 0 (length left) refl in
+    let longer : length waited ≡ length left + 1 = ap (λ (xs : List ℕ). length xs) is ∙ length-append left (number ∷ []) in
+    let low = known (length left) (omega (arith, longer)) in
+    omega (arith, last, low)
+
+pub left_known : (waited left : List ℕ) (number n : ℕ) → waited ≡ left ++ number ∷ [] → ((i : ℕ) → i < length waited → slice_index waited i < n)
+    → (i : ℕ) → i < length left → slice_index left i < n
+left_known waited left number n is known i h =
+    let same : slice_index waited i ≡ slice_index left i = ap (λ (xs : List ℕ). slice_index xs i) is ∙ get_or_append_left left (number ∷ []) 0 i h in
+    let longer : length waited ≡ length left + 1 = ap (λ (xs : List ℕ). length xs) is ∙ length-append left (number ∷ []) in
+    let low = known i (omega (arith, longer, h)) in
+    omega (arith, same, low)

@@ -30,8 +30,8 @@ returns-clause-cut c =
     let m = get_or_read b.middle.items _ _ (omega (arith, a.middles, low)) c.index-middle.ensures 0 in
     let e = get_or_read b.end.items _ _ (omega (arith, a.ends, low)) c.index-end.ensures 0 in
     let two : ArePieces (slice_index b.first.items n) (slice_index b.middle.items n) (slice_index b.end.items n) kept.from kept.to piece.from piece.to =
-        subst (λ (i : ℕ). ArePieces i (slice_index b.middle.items n) (slice_index b.end.items n) kept.from kept.to piece.from piece.to) f
-        (subst (λ (i : ℕ). ArePieces c.index-first.result.now i (slice_index b.end.items n) kept.from kept.to piece.from piece.to) m
-        (subst (λ (i : ℕ). ArePieces c.index-first.result.now c.index-middle.result.now i kept.from kept.to piece.from piece.to) e c.halves-pieces.ensures)) in
+    subst (λ (i : ℕ). ArePieces i (slice_index b.middle.items n) (slice_index b.end.items n) kept.from kept.to piece.from piece.to) f
+    (subst (λ (i : ℕ). ArePieces c.index-first.result.now i (slice_index b.end.items n) kept.from kept.to piece.from piece.to) m
+    (subst (λ (i : ℕ). ArePieces c.index-first.result.now c.index-middle.result.now i kept.from kept.to piece.from piece.to) e c.halves-pieces.ensures)) in
     let d = c.in_ok-divide.ensures in
     pieces_cut b c.divide.new.blocks a n kept.from kept.to piece.from piece.to low two d.place d.states d.count d.moved d.rest d.others d.touched

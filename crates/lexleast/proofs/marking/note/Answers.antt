@@ -13,9 +13,9 @@ returns-clause-notes c =
     let same : states c.mark.new.blocks ≡ states b = ap (λ (v : Vec ℕ Global). length v.items) m.block in
     let within : c.args.state < states c.mark.new.blocks = omega (arith, same, c.requires.state) in
     let block : c.index.result.now ≡ block_of b c.args.state =
-        get_or_read c.mark.new.blocks.block.items _ _ within c.index.ensures 0 ∙ ap (λ (v : Vec ℕ Global). slice_index v.items c.args.state) m.block in
+    get_or_read c.mark.new.blocks.block.items _ _ within c.index.ensures 0 ∙ ap (λ (v : Vec ℕ Global). slice_index v.items c.args.state) m.block in
     let items : c.push.new.self.items ≡ c.args.touched.now.items ++ block_of b c.args.state ∷ [] =
-        c.in_ok-push.ensures.items ∙ ap (λ (n : ℕ). c.args.touched.now.items ++ n ∷ []) block in
+    c.in_ok-push.ensures.items ∙ ap (λ (n : ℕ). c.args.touched.now.items ++ n ∷ []) block in
     subst (λ (xs : List ℕ). Notes xs c.mark.new.blocks) (sym items)
     (noted b c.mark.new.blocks c.args.state c.mark.result m.block m.first m.touches c.args.touched.now.items low c.requires.notes)
 

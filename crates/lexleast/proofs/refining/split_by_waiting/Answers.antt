@@ -3,11 +3,21 @@ use Rattle.lexleast.specs.Arranged.{states, count, block_of, Arranged}
 use Rattle.lexleast.specs.Sources.{Has}
 use Rattle.lexleast.specs.declared.blocks.Blocks.{Blocks}
 use Rattle.lexleast.proofs.Dividing.{few_blocks}
-use Rattle.lexleast.proofs.Rounds.{round, settled}
+use Rattle.lexleast.proofs.Rounds.{last_known, left_known, round, settled}
 use Rattle.lexleast.proofs.refining.split_by_waiting.Goals as goal
 
 few : (b : Blocks) → Arranged b → count b ≤ states b
 few b a = few_blocks b.order.items b.place.items b.block.items b.first.items b.middle.items b.end.items a
+
+pub members-requires-clause-number : goal.members-requires-clause-number
+members-requires-clause-number c =
+    let v = c.rounds.invariant in
+    last_known c.rounds.waiting.items c.pop.new.self.items c.in-Some.number (count c.rounds.blocks) c.in-Some.ensures.items v.known
+
+pub split_by_all-requires-clause-known : goal.split_by_all-requires-clause-known
+split_by_all-requires-clause-known c =
+    let v = c.rounds.invariant in
+    left_known c.rounds.waiting.items c.pop.new.self.items c.in-Some.number (count c.rounds.blocks) c.in-Some.ensures.items v.known
 
 pub rounds-smaller : goal.rounds-smaller
 rounds-smaller c =
