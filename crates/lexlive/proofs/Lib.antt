@@ -1,3 +1,4 @@
 pub mod Spreads
 pub mod Leading
 pub mod Chained
+pub mod Linked

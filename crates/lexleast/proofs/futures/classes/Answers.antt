@@ -1,4 +1,4 @@
-use Rattle.std.proofs.Common.{rules, ◌≡◌, ℕ, ◌<◌, List, length, slice_index, arith, sym, subst}
+use Rattle.std.proofs.Common.{rules, ◌≡◌, ℕ, List, length, slice_index, arith, sym, subst}
 use Rattle.lexleast.specs.Columns.{AreBytes}
 use Rattle.lexleast.specs.Letters.{AreLetters}
 use Rattle.lexleast.specs.declared.sources.Letter.{Letter}

@@ -1,4 +1,4 @@
-use Rattle.std.proofs.Common.{rules, ◌≡◌, ℕ, subst, arith}
+use Rattle.std.proofs.Common.{rules, ◌≡◌, ℕ, subst}
 use Rattle.lexleast.specs.Columns.{HaveLetters}
 use Rattle.lexleast.proofs.FirstBytes.{every_byte}
 use Rattle.lexleast.proofs.letters.letters_of.Goals as goal

@@ -1,4 +1,4 @@
-use Rattle.std.proofs.Common.{rules, ◌≡◌, ◌-◌, ◌<◌, ℕ, suc, length, slice_index, arith}
+use Rattle.std.proofs.Common.{rules, ◌≡◌, ◌-◌, ◌<◌, suc, length, arith}
 use Rattle.std.proofs.lemmas.List.{get_or_read}
 use Rattle.lexleast.proofs.Chains.{goes_before, marks_before}
 use Rattle.lexleast.proofs.marking.mark_sources.Goals as goal

@@ -1,0 +1,24 @@
+use Rattle.std.proofs.Common.{rules, ◌≡◌, ℕ, ◌+◌, ◌<◌, ◌++◌, ◌∷◌, [], List, length, length-set, slice_index, slice_set, arith, refl, sym, subst, ap, ◌∙◌}
+use Rattle.std.proofs.lemmas.List.{get_or_read}
+use Rattle.lexlive.specs.Sources.{AreChains}
+use Rattle.lexlive.proofs.Linked.{one_more_chained}
+use Rattle.lexlive.proofs.sources.chains_of.Goals as goal
+
+pub loop-x-preserved : goal.loop-x-preserved
+loop-x-preserved c =
+    let next = c.args.next.now in
+    let x = c.loop-x.x in
+    let last = c.loop-x.last.items in
+    let before = c.loop-x.before.items in
+    let v = c.loop-x.invariant in
+    let within : x < length next = search rules in
+    let known = c.requires.known x within in
+    let targets = v.targets in
+    let low : slice_index next x < length last = omega (arith, known, targets) in
+    let read = get_or_read last _ _ low c.index.ensures 0 in
+    let items : c.push.new.self.items ≡ before ++ slice_index last (slice_index next x) ∷ [] = c.in_ok-push.ensures.items ∙ ap (λ (n : ℕ). before ++ n ∷ []) read in
+    record {
+      targets = length-set last (slice_index next x) (x + 1) ∙ targets;
+      chains = subst (λ (xs : List ℕ). AreChains next (slice_set last (slice_index next x) (x + 1)) xs (x + 1)) (sym items)
+          (one_more_chained next last before x (slice_index next x) v.chains low refl);
+    }
