@@ -1,10 +1,9 @@
-use Rattle.std.proofs.Common.{rules, ◌≡◌, ◌+◌, ◌≤◌, ◌++◌, ◌∷◌, [], List, length, map, drop, arith, sym, ap, subst, ◌∙◌}
+use Rattle.std.proofs.Common.{rules, ◌≡◌, ◌+◌, ◌≤◌, ◌++◌, ◌∷◌, List, length, map, drop, arith, sym, ap, subst, ◌∙◌}
 use Rattle.lexmeaning.specs.Positions.{positions, positions_of}
 use Rattle.lexmeaning.specs.Tree.{Tree, trees, Cat, Alt, Star, Repeat}
 use Rattle.lexre.specs.Views.{tree_of}
 use Rattle.lexauto.specs.Alike.{Alike, choice_of}
-use Rattle.lexauto.specs.Plans.{plan_of, plans, tree_in, trees_in, trees_laid, AreSized}
-use Rattle.lexauto.specs.declared.layout.Part.{Part}
+use Rattle.lexauto.specs.Plans.{plan_of, tree_in, trees_laid}
 use Rattle.lexauto.proofs.AlikeLaws.{none_after, drop_one, drop_none, alike_nothing, alike_on, alike_star, alike_repeat, if_ok_by}
 use Rattle.lexre.specs.declared.pattern.Pattern.TheFolds as P
 use Rattle.lexauto.specs.declared.layout.Part.TheFolds as L

@@ -1,8 +1,8 @@
-use Rattle.std.proofs.Common.{◌≡◌, ◌+◌, ◌++◌, List, map, sym, ap, subst, ◌∙◌}
-use Rattle.lexmeaning.specs.Positions.{positions, positions_of}
+use Rattle.std.proofs.Common.{◌+◌, ◌++◌, List, map, sym, ap, subst, ◌∙◌}
+use Rattle.lexmeaning.specs.Positions.{positions_of}
 use Rattle.lexmeaning.specs.Tree.{trees, Cat}
 use Rattle.lexauto.specs.Alike.{Alike, choice_of}
-use Rattle.lexauto.specs.Plans.{plan_of, plans, tree_in, trees_in, trees_laid, AreSized}
+use Rattle.lexauto.specs.Plans.{plan_of, plans, trees_in, trees_laid, AreSized}
 use Rattle.lexauto.specs.declared.layout.Part.{Part}
 use Rattle.lexauto.proofs.AlikeLaws.{sized_more, are_sized_more}
 use Rattle.lexauto.proofs.RowLaws.{series_left_out, choice_left_out, series_more, choice_more}
