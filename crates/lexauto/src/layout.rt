@@ -26,7 +26,7 @@ pub(crate) enum Part {
     Choice(u32, Vec<Part>),
     /// Any number of times.
     Star(u32, Box<Part>),
-    /// At least so many times, and at most so many where there is an upper bound.
+    /// At least this many times, and at most this many where there is an upper bound.
     Repeat(u32, Box<Part>, u8, Option<u8>),
 }
 

@@ -3,12 +3,12 @@
 
 mod error;
 mod explore;
-mod facts;
+mod following;
 mod laws;
 mod layout;
-mod letters;
 mod owners;
 mod packing;
+mod readers;
 mod rules;
 mod sets;
 mod starts;

@@ -39,7 +39,7 @@ fn key_of_bits(alloc: Global, words: &[u32]) -> Result<Vec<u32>, AllocError>
     Ok(key)
 }
 
-/// So many words, with the bits of these positions.
+/// This many words, with the bits of these positions.
 fn bits_of(alloc: Global, count: usize, positions: &[u32]) -> Result<Vec<u32>, AllocError>
     ensures { IfOk result (λ v. v.items ≡ with_bits (replicate count 0) positions.now) }
 {

@@ -11,9 +11,9 @@ ghost use Rattle.lexauto.specs.RuleFlow.{rules_enter, rules_left, rules_read};
 ghost use Rattle.lexauto.specs.Moving.{AreMasks, AreTwins, masks_in, mask_at, followers_in, reading_in};
 
 use crate::explore::Moves;
-use crate::facts::walk;
-use crate::letters::mark_rules;
+use crate::following::walk;
 use crate::owners::{Owner, owners_of};
+use crate::readers::mark_rules;
 use crate::rules::{LaidRule, Walked, lay_rules};
 use crate::sets::{are_marked_alike, last_key};
 use lexspec::Spec;
@@ -87,7 +87,7 @@ fn twins_of(alloc: Global, masks: &[Vec<bool>]) -> Result<Vec<u8>, AllocError>
 }
 
 impl<'a> RuleMoves<'a> {
-    /// The moves of a specification that has so many positions.
+    /// The moves of a specification that has this many positions.
     pub(crate) fn new(
         alloc: Global,
         spec: &'a Spec,

@@ -21,9 +21,9 @@ pub(crate) struct Passed {
 /// The copies of its inner pattern that a repetition counts.
 #[derive(Clone, Copy)]
 pub(crate) struct Copies {
-    /// So many of them are passed at least.
+    /// How many of them are passed at least.
     pub least: u8,
-    /// So many there are.
+    /// How many there are.
     pub count: u8,
     /// Whether the last one may be repeated.
     pub loops: bool,

@@ -5,7 +5,7 @@ use Rattle.lexmeaning.specs.Text.{flag}
 use Rattle.lexauto.specs.RuleFlow.{copies_read, reads}
 use Rattle.lexauto.proofs.Copies.{copy_place, or_assoc}
 use Rattle.lexauto.proofs.LetterTests.{read_step}
-use Rattle.lexauto.proofs.letters.+mark.Goals as goal
+use Rattle.lexauto.proofs.readers.+mark.Goals as goal
 
 pub mark_copies-loop-k-preserved : goal.mark_copies-loop-k-preserved
 mark_copies-loop-k-preserved t c =

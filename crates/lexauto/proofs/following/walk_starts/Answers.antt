@@ -12,7 +12,7 @@ use Rattle.lexauto.specs.declared.rules.LaidRule.{LaidRule}
 use Rattle.lexauto.proofs.Numbers.{none_marked}
 use Rattle.lexauto.proofs.Passing.{nowhere, none_gone}
 use Rattle.lexauto.proofs.StepLemmas.{followers_is, listed_same}
-use Rattle.lexauto.proofs.facts.walk_starts.Goals as goal
+use Rattle.lexauto.proofs.following.walk_starts.Goals as goal
 
 none_chosen : (b : Bool) → [] ≡ chosen b []
 none_chosen true = refl

@@ -3,7 +3,7 @@ use Rattle.lexmeaning.specs.Subsets.{all_positions}
 use Rattle.lexauto.specs.Laid.{shape_of}
 use Rattle.lexmeaning.specs.Text.{flag}
 use Rattle.lexauto.specs.RuleFlow.{rules_read}
-use Rattle.lexauto.proofs.letters.mark_rules.Given as goal
+use Rattle.lexauto.proofs.readers.mark_rules.Given as goal
 
 abbrev pub invariant-loop-rule : goal.invariant-loop-rule
 invariant-loop-rule l = record {

@@ -3,7 +3,7 @@ use Rattle.lexmeaning.specs.Positions.{positions, positions_of}
 use Rattle.lexauto.specs.Plans.{plan_of, plans, tree_in, trees_in}
 use Rattle.lexmeaning.specs.Text.{flag}
 use Rattle.lexauto.specs.RuleFlow.{copies_read, reads, each_read}
-use Rattle.lexauto.proofs.letters.+mark.Given as goal
+use Rattle.lexauto.proofs.readers.+mark.Given as goal
 
 abbrev pub invariant-mark_each-loop-part : goal.invariant-mark_each-loop-part
 invariant-mark_each-loop-part l = record {

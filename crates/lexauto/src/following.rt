@@ -1,4 +1,4 @@
-//! What the keys of states tell: the positions that follow, and the rules that are accepted.
+//! What follows the key of a state, and the rules that it accepts.
 ghost use Rattle.std.specs.Prelude.{◌≡◌, [], IfOk};
 ghost use Rattle.lexspec.specs.Views.{spec_of, rules_in};
 ghost use Rattle.lexauto.specs.Moving.{followers_in};

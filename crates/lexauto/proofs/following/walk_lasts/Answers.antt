@@ -14,7 +14,7 @@ use Rattle.lexauto.proofs.LaidLaws.{left_is}
 use Rattle.lexauto.proofs.Numbers.{none_marked}
 use Rattle.lexauto.proofs.Passing.{nowhere}
 use Rattle.lexauto.proofs.StepLemmas.{followers_is, listed_same}
-use Rattle.lexauto.proofs.facts.walk_lasts.Goals as goal
+use Rattle.lexauto.proofs.following.walk_lasts.Goals as goal
 
 pub pass_rules-requires-clause-within : goal.pass_rules-requires-clause-within
 pass_rules-requires-clause-within c = λ j low.
