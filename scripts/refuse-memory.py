@@ -113,7 +113,8 @@ def fault_of_test(whole, got):
     if got[0] == whole[0]:
         return None
     told = b"".join([got[2], *got[1]])
-    return None if b"OutOfMemory" in told or b"AllocError" in told else f"status {got[0]}, {told[-200:]!r}"
+    is_told = any(name in told for name in (b"OutOfMemory", b"AllocError", b"AllocFailed"))
+    return None if is_told else f"status {got[0]}, {told[-200:]!r}"
 
 
 def all_requests(name, program, folder, words, given, fault):
