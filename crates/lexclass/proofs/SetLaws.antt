@@ -1,13 +1,14 @@
 -- Facts on sets of bytes.
-use Rattle.std.proofs.Common.{eq-eqb, add-one, ◌||◌, max, bit_and, bit_or, add_comm, ⊎_elim, ◌≡◌, ℕ, zero, suc, ◌+◌, ◌-◌, ◌*◌, ◌/◌, ◌%◌, ◌^◌, ◌<◌, ◌≤◌, Bool, true, false, not, ◌==◌, refl, sym, ap, ◌∙◌, arith}
+use Rattle.std.proofs.Common.{eq-eqb, add-one, ◌||◌, max, bit_and, bit_or, add_comm, ⊎_elim, ◌≡◌, ℕ, zero, suc, ◌+◌, ◌-◌, ◌*◌, ◌/◌, ◌%◌, ◌^◌, ◌<◌, ◌≤◌, Bool, true, false, not, ◌==◌, ◌≢◌, refl, sym, ap, ◌∙◌, arith}
 use Rattle.std.proofs.Math.Nat.{two-pow-succ, one-mul, mod-eq_of_lt}
 use Rattle.std.proofs.Math.Pow.{pow-lt}
 use Rattle.std.specs.Int.{bit_at, w128}
 use Rattle.lexclass.specs.Halves.{joined}
 use Rattle.std.proofs.lemmas.Bool.{cases_lt}
+use Rattle.std.proofs.lemmas.Bool.Decides.{eqb_tells}
 use Rattle.std.proofs.lemmas.Nat.{or_lt}
 use lib.Bits.{or_disjoint}
-use Rattle.std.proofs.lemmas.Nat.Bits.{bit_at-lt, same_from_bits_below, bit_at_above, bit_at_cat_low, bit_at_cat_high, bit_at-zero, bit_at_lowest, bit_at_or, bit_at_not, shr_and_one, and_pow}
+use Rattle.std.proofs.lemmas.Nat.Bits.{bit_at-lt, same_from_bits_below, bit_at_above, bit_at-pow_same, bit_at-pow_other, bit_at_cat_low, bit_at_cat_high, bit_at-zero, bit_at_lowest, bit_at_or, bit_at_not, shr_and_one, and_pow}
 use Rattle.lexmeaning.specs.ByteSets.{single, bit_of, has, set_below, set_of, empty_set, union, complement}
 use Rattle.lexmeaning.specs.Shapes.{IsSoundTree}
 use Rattle.lexmeaning.specs.Tree.{Set}
@@ -200,6 +201,39 @@ after_out n p half new e h f = f ∙ rw (e, add-one) (one_more_out n p (sym h))
 -- the shift `1 << n` of a word
 pub one_shifted : (n : ℕ) → n < 128 → 1 * 2 ^ n % 2 ^ 128 ≡ 2 ^ n
 one_shifted n h = ap (λ x. x % 2 ^ 128) (one-mul (2 ^ n)) ∙ mod-eq_of_lt (pow-lt h)
+
+not_equal : (b n : ℕ) → b ≢ n → (b == n) ≡ false
+not_equal b n h = ⊎_elim (λ is. absurd (h is.1)) (λ is. is.0) (eqb_tells b n)
+
+-- a word with one bit
+pow_bit : (n b : ℕ) → (bit_at (2 ^ n) b == 1) ≡ (b == n)
+pow_bit n b = ⊎_elim
+    (λ is. rw (is.1, bit_at-pow_same n) (sym (eq-eqb n n refl)))
+    (λ is. rw (bit_at-pow_other n b is.1) (sym is.0))
+    (eqb_tells b n)
+
+no_bit : (b : ℕ) → (bit_at 0 b == 1) ≡ false
+no_bit b = ap (λ x. x == 1) (bit_at-zero b)
+
+same_shift : (b n : ℕ) → 128 ≤ b → 128 ≤ n → (b - 128 == n - 128) ≡ (b == n)
+same_shift b n h k = ⊎_elim
+    (λ is. rw is.1 (eq-eqb (n - 128) (n - 128) refl ∙ sym (eq-eqb n n refl)))
+    (λ is. not_equal (b - 128) (n - 128) (λ e. is.1 (omega (arith, e, h, k))) ∙ sym is.0)
+    (eqb_tells b n)
+
+-- the set of one byte, as two words
+
+pub single_low : (n : ℕ) → n < 128 → joined 0 (2 ^ n) ≡ single n
+unfolding single
+single_low n h = joined_is 0 (2 ^ n) (λ b. b == n) (omega arith) (pow-lt h)
+    (λ b k. pow_bit n b)
+    (λ b k m. no_bit (b - 128) ∙ sym (not_equal b n (λ e. omega (arith, e, h, m))))
+
+pub single_high : (n : ℕ) → 128 ≤ n → n < 256 → joined (2 ^ (n - 128)) 0 ≡ single n
+unfolding single
+single_high n h k = joined_is (2 ^ (n - 128)) 0 (λ b. b == n) (pow-lt {j = 128} (omega (arith, h, k))) (omega arith)
+    (λ b m. no_bit b ∙ sym (not_equal b n (λ e. omega (arith, e, h, m))))
+    (λ b m l. pow_bit (n - 128) (b - 128) ∙ same_shift b n l h)
 
 -- one byte is a sound tree
 pub sound_single : (s b : ℕ) → b < 256 → s ≡ single b → IsSoundTree (Set s)

@@ -95,11 +95,20 @@ impl ByteSet {
     }
 
     /// The set of this byte alone.
-    #[tactic(auto, unfolding(lexmeaning::specs::ByteSets::single))]
     pub fn of(byte: u8) -> ByteSet
         ensures { result ≡ single byte }
     {
-        ByteSet::passing(|b| b == byte)
+        if byte < 128 {
+            ByteSet {
+                low: 1 << byte,
+                high: 0,
+            }
+        } else {
+            ByteSet {
+                low: 0,
+                high: 1 << (byte - 128),
+            }
+        }
     }
 
     /// The bytes from `lo` to `hi`, both in it.
