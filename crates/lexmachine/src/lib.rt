@@ -2,9 +2,11 @@
 #![tactic(auto)]
 
 mod action;
+mod copying;
 mod cut;
 mod machine;
 
 pub use action::{EndAction, Statement, has_reject};
+pub use copying::{copy_end, copy_statements};
 pub use cut::Cut;
 pub use machine::Machine;

@@ -5,7 +5,7 @@
 mod demand;
 mod examples;
 mod knowledge;
-mod plain;
+mod plain_program;
 mod tables;
 mod turns;
 mod words;
@@ -22,7 +22,7 @@ pub use knowledge::{
     begins_the_run, known_after_end, known_after_match, known_after_match_at_end, known_at_first,
     known_once_ended, part_begins_the_run,
 };
-pub use plain::{plain_demand, plain_run};
+pub use plain_program::{plain_demand, plain_run};
 pub use tables::{
     same_rules_answers, same_rules_scan, states_below, table_rejects, table_reports, table_scan,
 };

@@ -7,8 +7,8 @@ ghost use Rattle.lextab.specs.Checks.{Each, HasText};
 ghost use Rattle.lextab.specs.Views.{condition_of, rule_of, row_of};
 ghost use Rattle.lexpack.specs.Assembled.{start_in, conditions_with, action_in, rows_with};
 
-use crate::copying::{copy_end, copy_statements};
 use lexaction::Condition;
+use lexmachine::{copy_end, copy_statements};
 use lexspec::Rule;
 use lextab::{Row, TableCondition, TableRule};
 use std::alloc::{AllocError, Global};

@@ -3,7 +3,6 @@
 
 mod assembling;
 mod classes;
-mod copying;
 mod filling;
 mod laws;
 mod packing;

@@ -5,34 +5,8 @@ ghost use Rattle.lexspec.specs.RuleReads.{acting};
 ghost use Rattle.lexspec.specs.RuleViews.{rule_of};
 
 use crate::rule::Rule;
-use lexaction::Statement;
+use lexmachine::{Statement, copy_statements};
 use std::alloc::{AllocError, Global};
-
-fn copy_statement(alloc: Global, statement: &Statement) -> Result<Statement, AllocError>
-    ensures { IfOk result (λ s. statement_of s ≡ statement_of statement.now) }
-{
-    match statement {
-        Statement::Echo => Ok(Statement::Echo),
-        Statement::Print(bytes) => Ok(Statement::Print(Vec::from_slice(alloc, bytes)?)),
-        Statement::Begin(condition) => Ok(Statement::Begin(*condition)),
-        Statement::More => Ok(Statement::More),
-        Statement::Less(count) => Ok(Statement::Less(*count)),
-        Statement::Reject => Ok(Statement::Reject),
-        Statement::End(status) => Ok(Statement::End(*status)),
-        Statement::Push(condition) => Ok(Statement::Push(*condition)),
-        Statement::Pop => Ok(Statement::Pop),
-    }
-}
-
-fn copy_statements(alloc: Global, statements: &[Statement]) -> Result<Vec<Statement>, AllocError>
-    ensures { IfOk result (λ ss. map statement_of ss.items ≡ map statement_of statements.now) }
-{
-    let mut copies = Vec::new(alloc);
-    for statement in statements {
-        copies.push(copy_statement(alloc, statement)?)?;
-    }
-    Ok(copies)
-}
 
 /// The rule with these statements.
 fn with_statements(rule: Rule, statements: Vec<Statement>) -> Rule

@@ -4,12 +4,8 @@ use Rattle.lexmeaning.specs.Text.{IsText, Ascending, Among}
 use Rattle.lexmeaning.specs.Spec.{Statement, Print, Cut, Whole, Head, Trail, has_reject}
 use Rattle.lexmeaning.specs.Legal.{IsLegal}
 use Rattle.lexmachine.specs.Literals.{literal_bytes}
+pub use Rattle.lexmachine.specs.Literals.{Each, HasText}
 use Rattle.lextab.specs.Table.{Condition, Rule, Row, Slot, Table}
-
--- each of the list meets P at its place, the places being counted from i on
-abbrev pub Each : {A : Type 0} → (ℕ → A → Type 0) → ℕ → List A → Type 0
-Each P i [] = ⊤
-Each P i (x ∷ xs) = P i x × Each P (suc i) xs
 
 -- how many there are of each kind
 pub record Sizes : Type 0 where
@@ -44,10 +40,6 @@ abbrev pub IsCut : Cut → Type 0
 IsCut Whole = ⊤
 IsCut (Head n) = n ≤ 65535
 IsCut (Trail n) = n ≤ 65535
-
-abbrev pub HasText : ℕ → Statement → Type 0
-HasText i (Print s) = IsText s
-HasText i _ = ⊤
 
 -- a legal action in normal form, of at most 256 statements and 4,096 literal bytes
 pub record IsRule (z : Sizes) (i : ℕ) (r : Rule) : Type 0 where

@@ -10,7 +10,8 @@ use Rattle.lextab.specs.Checks.{Each}
 use Rattle.lextab.specs.Views.{condition_of}
 use Rattle.lextab.specs.declared.parts.TableCondition.{TableCondition}
 use Rattle.lexpack.specs.Assembled.{start_in, conditions_with}
-use Rattle.lexpack.proofs.Pushes.{each_push, next_condition}
+use Rattle.lexmachine.proofs.Growing.{each_push}
+use Rattle.lexpack.proofs.Pushes.{next_condition}
 use Rattle.lexpack.proofs.assembling.table_conditions.Goals as goal
 
 pub loop-i-preserved : goal.loop-i-preserved

@@ -8,7 +8,8 @@ use Rattle.lextab.specs.Checks.{Each, HasText}
 use Rattle.lextab.specs.Views.{rule_of}
 use Rattle.lextab.specs.declared.parts.TableRule.{TableRule}
 use Rattle.lexpack.specs.Assembled.{action_in}
-use Rattle.lexpack.proofs.Pushes.{each_push, next_rule}
+use Rattle.lexmachine.proofs.Growing.{each_push}
+use Rattle.lexpack.proofs.Pushes.{next_rule}
 use Rattle.lexpack.proofs.assembling.table_rules.Goals as goal
 
 pub loop-i-preserved : goal.loop-i-preserved

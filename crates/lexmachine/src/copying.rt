@@ -1,10 +1,10 @@
 //! Copies of actions.
 ghost use Rattle.std.specs.Prelude.{◌≡◌, ℕ, map, IfOk};
 ghost use Rattle.lexmeaning.specs.Text.{IsText};
+ghost use Rattle.lexmachine.specs.Literals.{Each, HasText};
 ghost use Rattle.lexmachine.specs.Views.{statement_of, end_action_of};
-ghost use Rattle.lextab.specs.Checks.{Each, HasText};
 
-use lexmachine::{EndAction, Statement};
+use crate::action::{EndAction, Statement};
 use std::alloc::{AllocError, Global};
 
 /// A copy of bytes.
@@ -16,8 +16,8 @@ fn copy_bytes(alloc: Global, bytes: &[u8]) -> Result<Vec<u8>, AllocError>
     Ok(copy)
 }
 
-/// A copy of an end action.
-pub(crate) fn copy_end(alloc: Global, end: &EndAction) -> Result<EndAction, AllocError>
+/// A copy of an end action, or want of memory.
+pub fn copy_end(alloc: Global, end: &EndAction) -> Result<EndAction, AllocError>
     ensures same { IfOk result (λ e. end_action_of e ≡ end_action_of end.now) }
     ensures text { IfOk result (λ e. IsText e.print.items) }
 {
@@ -46,8 +46,8 @@ fn copy_statement(alloc: Global, statement: &Statement) -> Result<Statement, All
     }
 }
 
-/// Copies of statements.
-pub(crate) fn copy_statements(
+/// Copies of statements, in their order, or want of memory.
+pub fn copy_statements(
     alloc: Global,
     statements: &[Statement],
 ) -> Result<Vec<Statement>, AllocError>

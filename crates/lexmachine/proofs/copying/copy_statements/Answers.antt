@@ -3,9 +3,9 @@ use Rattle.std.proofs.lemmas.Grind.{common_steps}
 use Rattle.std.proofs.lemmas.List.{map_push}
 use Rattle.lexmeaning.specs.Spec as S
 use Rattle.lexmachine.specs.Views.{statement_of}
-use Rattle.lextab.specs.Checks.{Each, HasText}
-use Rattle.lexpack.proofs.Pushes.{each_push}
-use Rattle.lexpack.proofs.copying.copy_statements.Goals as goal
+use Rattle.lexmachine.specs.Literals.{Each, HasText}
+use Rattle.lexmachine.proofs.Growing.{each_push}
+use Rattle.lexmachine.proofs.copying.copy_statements.Goals as goal
 
 pub loop-statement-preserved : goal.loop-statement-preserved
 loop-statement-preserved c =

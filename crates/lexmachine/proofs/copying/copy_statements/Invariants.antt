@@ -1,7 +1,7 @@
 use Rattle.std.proofs.Common.{◌≡◌, ◌++◌, map, drop}
 use Rattle.lexmachine.specs.Views.{statement_of}
-use Rattle.lextab.specs.Checks.{Each, HasText}
-use Rattle.lexpack.proofs.copying.copy_statements.Given as goal
+use Rattle.lexmachine.specs.Literals.{Each, HasText}
+use Rattle.lexmachine.proofs.copying.copy_statements.Given as goal
 
 abbrev pub invariant-loop-statement : goal.invariant-loop-statement
 invariant-loop-statement l =
