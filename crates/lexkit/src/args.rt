@@ -99,6 +99,25 @@ fn flag<'a>(alloc: Global, id: &'a str, letter: char) -> Arg<'a> {
 
 /// The words that the program knows.
 fn known<'a>(alloc: Global) -> Result<Command<'a>, AllocError> {
+    let command = Command::new(alloc, "lex").no_binary_name(true);
+    let command = with_flags(alloc, command)?;
+    with_names(alloc, command)
+}
+
+/// The command with the flags.
+fn with_flags<'a>(alloc: Global, command: Command<'a>) -> Result<Command<'a>, AllocError> {
+    command
+        .arg(flag(alloc, "stdout", 't'))?
+        .arg(flag(alloc, "no-stats", 'n'))?
+        .arg(flag(alloc, "stats", 'v'))?
+        .arg(flag(alloc, "backup", 'b'))?
+        .arg(flag(alloc, "fold", 'i'))?
+        .arg(flag(alloc, "posix", 'X'))?
+        .arg(flag(alloc, "quiet", 'w'))
+}
+
+/// The command with the words that name files.
+fn with_names<'a>(alloc: Global, command: Command<'a>) -> Result<Command<'a>, AllocError> {
     let out = Arg::new(alloc, "out").short('o').action(ArgAction::Set);
     let scan_spec = Arg::new(alloc, "scan-spec")
         .long("scan-spec")
@@ -109,15 +128,7 @@ fn known<'a>(alloc: Global) -> Result<Command<'a>, AllocError> {
     let files = Arg::new(alloc, "file")
         .num_args(1..)
         .action(ArgAction::Append);
-    Command::new(alloc, "lex")
-        .no_binary_name(true)
-        .arg(flag(alloc, "stdout", 't'))?
-        .arg(flag(alloc, "no-stats", 'n'))?
-        .arg(flag(alloc, "stats", 'v'))?
-        .arg(flag(alloc, "backup", 'b'))?
-        .arg(flag(alloc, "fold", 'i'))?
-        .arg(flag(alloc, "posix", 'X'))?
-        .arg(flag(alloc, "quiet", 'w'))?
+    command
         .arg(out)?
         .arg(scan_spec)?
         .arg(scan_table)?

@@ -2,7 +2,7 @@
 ghost use Rattle.std.specs.Prelude.{◌≡◌, ℕ, ◌+◌, ◌-◌, ◌^◌, ◌<◌, ◌≤◌, List, ◌++◌};
 ghost use Rattle.lexends.specs.Sink.{Appended, fault_count};
 ghost use Rattle.lexkit.specs.Joined.{joined};
-ghost use Rattle.lexkit.specs.Faults.{line_of, fault_words, scan_words, gen_words, gen_status, table_words, table_status, build_words, spec_words, lacks_memory, run_words, args_words};
+ghost use Rattle.lexkit.specs.Faults.{line_of, fault_words, scan_words, gen_words, gen_status, table_words, table_status, args_status, scan_status, run_status, build_words, spec_words, lacks_memory, run_words, args_words};
 
 use crate::args::ArgsError;
 use crate::errors::{GenError, ScanError};
@@ -36,15 +36,43 @@ impl Fault<'_> {
         ensures { result ≡ status_of self.now }
     {
         match self {
-            Fault::Args(ArgsError::Usage) => 64,
-            Fault::Args(ArgsError::OutOfMemory) => 71,
-            Fault::Scan(ScanError::Generate(error)) => gen_status(*error),
-            Fault::Scan(ScanError::Table(error)) => table_status(*error),
-            Fault::Scan(ScanError::Run(RunError::Stack)) => 70,
-            Fault::Scan(ScanError::Run(RunError::OutOfMemory)) => 71,
-            Fault::Scan(ScanError::Run(_)) | Fault::Output => 74,
+            Fault::Args(error) => args_status(*error),
+            Fault::Scan(error) => scan_status(*error),
             Fault::File(_) => 66,
+            Fault::Output => 74,
         }
+    }
+}
+
+/// 64 for the words, and 71 for want of memory.
+fn args_status(error: ArgsError) -> u8
+    ensures { result ≡ args_status error }
+{
+    match error {
+        ArgsError::Usage => 64,
+        ArgsError::OutOfMemory => 71,
+    }
+}
+
+/// The status of a scan that was refused, or stopped.
+fn scan_status(error: ScanError) -> u8
+    ensures { result ≡ scan_status error }
+{
+    match error {
+        ScanError::Generate(error) => gen_status(error),
+        ScanError::Table(error) => table_status(error),
+        ScanError::Run(error) => run_status(error),
+    }
+}
+
+/// 70 for the stack of conditions, 71 for want of memory, and 74 for a read or a write.
+fn run_status(error: RunError) -> u8
+    ensures { result ≡ run_status error }
+{
+    match error {
+        RunError::Stack => 70,
+        RunError::OutOfMemory => 71,
+        _ => 74,
     }
 }
 
