@@ -198,33 +198,44 @@ mod tests {
         }
     }
 
+    const ANSWERS: &[Answer] = &[
+        Answer::Bytes(b"ab"),
+        Answer::Fault(ErrorKind::Interrupted),
+        Answer::Bytes(b"c"),
+        Answer::Bytes(b""),
+        Answer::Bytes(b"d"),
+        Answer::Fault(ErrorKind::Other),
+    ];
+
+    const WANTS: &[Result<&[u8], ErrorKind>] = &[
+        Ok(b"a"),
+        Ok(b"b"),
+        Err(ErrorKind::Interrupted),
+        Ok(b"c"),
+        Ok(b""),
+        Ok(b"d"),
+        Err(ErrorKind::Other),
+        Ok(b""),
+    ];
+
+    /// Whether a read into this much room answers this.
+    fn reads<R: Read>(
+        reader: &mut ByteReader<R>,
+        room: usize,
+        want: Result<&[u8], ErrorKind>,
+    ) -> bool {
+        let mut place = [0u8; 4];
+        match reader.read(&mut place[..room.min(4)]) {
+            Ok(count) => want == Ok(&place[..count]),
+            Err(error) => want == Err(error.kind()),
+        }
+    }
+
     #[test]
     fn tells_each_answer_where_it_is_met(rt: HostRuntime) -> Result<(), Fail> {
-        let answers = [
-            Answer::Bytes(b"ab"),
-            Answer::Fault(ErrorKind::Interrupted),
-            Answer::Bytes(b"c"),
-            Answer::Bytes(b""),
-            Answer::Bytes(b"d"),
-            Answer::Fault(ErrorKind::Other),
-        ];
-        let wants = [
-            Ok(b"a".as_slice()),
-            Ok(b"b"),
-            Err(ErrorKind::Interrupted),
-            Ok(b"c"),
-            Ok(b""),
-            Ok(b"d"),
-            Err(ErrorKind::Other),
-            Ok(b""),
-        ];
-        let mut reader = ByteReader::new(rt.alloc(), Script { answers: &answers })?;
-        for want in wants {
-            let mut place = [0u8; 1];
-            match reader.read(&mut place) {
-                Ok(count) => assert!(rt; want == Ok(&place[..count])),
-                Err(error) => assert!(rt; want == Err(error.kind())),
-            }
+        let mut reader = ByteReader::new(rt.alloc(), Script { answers: ANSWERS })?;
+        for &want in WANTS {
+            assert!(rt; reads(&mut reader, 1, want));
         }
         Ok(())
     }
@@ -237,15 +248,14 @@ mod tests {
         Ok(())
     }
 
+    // How much room there is, and which bytes are given.
+    const ROOMS: &[(usize, &[u8])] = &[(1, b"a"), (4, b"bc"), (0, b""), (2, b"de"), (2, b"")];
+
     #[test]
     fn gives_what_there_is_room_for(rt: HostRuntime) -> Result<(), Fail> {
         let mut reader = ByteReader::with_capacity(rt.alloc(), 3, b"abcde".as_slice())?;
-        let rows: [(usize, &[u8]); 5] = [(1, b"a"), (4, b"bc"), (0, b""), (2, b"de"), (2, b"")];
-        for (room, want) in rows {
-            let mut place = [0u8; 4];
-            let place = &mut place[..room];
-            assert!(rt; reader.read(place)? == want.len());
-            assert!(rt; place.starts_with(want));
+        for &(room, want) in ROOMS {
+            assert!(rt; reads(&mut reader, room, Ok(want)));
         }
         Ok(())
     }

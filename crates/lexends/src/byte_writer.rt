@@ -278,64 +278,100 @@ mod tests {
         }
     }
 
+    /// A writer with room for this many bytes, over one that drips.
+    fn held_before(
+        alloc: Global,
+        capacity: usize,
+        drip: Drip,
+    ) -> Result<ByteWriter<Drip>, AllocError> {
+        ByteWriter::with_capacity(alloc, capacity, drip)
+    }
+
+    /// Whether this many of the bytes are written.
+    fn writes(writer: &mut ByteWriter<Drip>, bytes: &[u8], want: usize) -> bool {
+        match writer.write(bytes) {
+            Ok(count) => count == want,
+            Err(_) => false,
+        }
+    }
+
+    /// Whether a write fails so.
+    fn refuses(writer: &mut ByteWriter<Drip>, bytes: &[u8], want: ErrorKind) -> bool {
+        match writer.write(bytes) {
+            Ok(_) => false,
+            Err(error) => error.kind() == want,
+        }
+    }
+
+    /// Whether a flush answers this.
+    fn flushes(writer: &mut ByteWriter<Drip>, want: Result<(), ErrorKind>) -> bool {
+        match writer.flush() {
+            Ok(()) => want.is_ok(),
+            Err(error) => want == Err(error.kind()),
+        }
+    }
+
+    /// Whether these bytes are poured so far.
+    fn has_poured(writer: &ByteWriter<Drip>, bytes: &[u8]) -> bool {
+        writer.writer.taken.as_slice() == bytes
+    }
+
+    // Bytes, how many of them are written, and what is poured then.
+    const ROWS: &[(&[u8], usize, &[u8])] = &[
+        (b"abc", 3, b""),
+        (b"", 0, b""),
+        (b"d", 1, b""),
+        (b"ef", 2, b"abcd"),
+        (b"ghijk", 3, b"abcdefghi"),
+    ];
+
     #[test]
     fn pours_when_it_is_full_and_in_a_flush(rt: HostRuntime) -> Result<(), Fail> {
-        let mut writer = ByteWriter::with_capacity(rt.alloc(), 4, dripping(rt.alloc(), 99, None))?;
-        let rows: [(&[u8], usize, &[u8]); 5] = [
-            (b"abc", 3, b""),
-            (b"", 0, b""),
-            (b"d", 1, b""),
-            (b"ef", 2, b"abcd"),
-            (b"ghijk", 3, b"abcdefghi"),
-        ];
-        for (bytes, count, poured) in rows {
-            assert!(rt; writer.write(bytes)? == count);
-            assert_eq!(rt; writer.writer.taken.as_slice(), poured);
+        let mut writer = held_before(rt.alloc(), 4, dripping(rt.alloc(), 99, None))?;
+        for &(bytes, count, poured) in ROWS {
+            assert!(rt; writes(&mut writer, bytes, count));
+            assert!(rt; has_poured(&writer, poured));
         }
-        assert!(rt; writer.write(b"j")? == 1);
-        writer.flush()?;
-        assert_eq!(rt; writer.writer.taken.as_slice(), b"abcdefghij".as_slice());
+        assert!(rt; writes(&mut writer, b"j", 1));
+        assert!(rt; flushes(&mut writer, Ok(())));
+        assert!(rt; has_poured(&writer, b"abcdefghij"));
         assert_eq!(rt; writer.writer.flushes, 1);
         Ok(())
     }
 
+    // What a full writer answers, and what is told.
+    const FAULTS: &[(Option<ErrorKind>, ErrorKind)] = &[
+        (None, ErrorKind::WriteZero),
+        (Some(ErrorKind::Interrupted), ErrorKind::Interrupted),
+        (Some(ErrorKind::Other), ErrorKind::Other),
+    ];
+
     /// What the writer behind it does not take stays held, and is poured later.
     #[test]
     fn loses_and_repeats_nothing_at_a_fault(rt: HostRuntime) -> Result<(), Fail> {
-        let rows = [
-            (None, ErrorKind::WriteZero),
-            (Some(ErrorKind::Interrupted), ErrorKind::Interrupted),
-            (Some(ErrorKind::Other), ErrorKind::Other),
-        ];
-        for (full, want) in rows {
-            let mut writer = ByteWriter::with_capacity(
-                rt.alloc(),
-                8,
-                dripping(rt.alloc(), 5, full),
-            )?;
-            assert!(rt; writer.write(b"abcdefg")? == 7);
-            let refused = writer.write(b"hij");
-            assert!(rt; refused.is_err_and(|error| error.kind() == want));
-            assert_eq!(rt; writer.writer.taken.as_slice(), b"abcde".as_slice());
-            assert!(rt; writer.flush().is_err_and(|error| error.kind() == want));
-            assert!(rt; writer.write(b"hij")? == 3);
+        for &(full, want) in FAULTS {
+            let mut writer = held_before(rt.alloc(), 8, dripping(rt.alloc(), 5, full))?;
+            assert!(rt; writes(&mut writer, b"abcdefg", 7));
+            assert!(rt; refuses(&mut writer, b"hij", want));
+            assert!(rt; has_poured(&writer, b"abcde"));
+            assert!(rt; flushes(&mut writer, Err(want)));
+            assert!(rt; writes(&mut writer, b"hij", 3));
             writer.writer.room = 99;
-            writer.flush()?;
-            assert_eq!(rt; writer.writer.taken.as_slice(), b"abcdefghij".as_slice());
+            assert!(rt; flushes(&mut writer, Ok(())));
+            assert!(rt; has_poured(&writer, b"abcdefghij"));
         }
         Ok(())
     }
+
+    const TEXT: &[u8] = b"a text of more than sixteen bytes";
 
     #[test]
     fn pours_when_it_is_dropped(rt: HostRuntime) -> Result<(), Fail> {
         let mut taken: Vec<u8> = Vec::new(rt.alloc());
         let mut writer = ByteWriter::new(rt.alloc(), &mut taken)?;
-        assert!(rt; writer.write(b"a text of more than sixteen bytes")? == 33);
+        assert!(rt; writer.write(TEXT)? == 33);
         drop(writer);
-        assert_eq!(rt;
-            taken.as_slice(),
-            b"a text of more than sixteen bytes".as_slice()
-        );
+        assert!(rt; taken.as_slice() == TEXT);
         Ok(())
     }
 }

@@ -141,32 +141,32 @@ mod tests {
         }
     }
 
+    fn dripping(alloc: Global, room: usize, full: Full) -> Drip {
+        let taken = Vec::new(alloc);
+        Drip { taken, room, full }
+    }
+
+    // How many bytes there is room for, what is answered then, whether all are written, and which.
+    const ROWS: &[(usize, Full, bool, &[u8])] = &[
+        (9, Full::Fault, true, b"abcde"),
+        (5, Full::Nothing, true, b"abcde"),
+        (3, Full::Nothing, false, b"abc"),
+        (4, Full::Fault, false, b"abcd"),
+    ];
+
     #[test]
     fn writes_all_or_tells_a_fault(rt: HostRuntime) {
-        let rows: [(usize, Full, Result<(), WriteFault>, &[u8]); 4] = [
-            (9, Full::Fault, Ok(()), b"abcde"),
-            (5, Full::Nothing, Ok(()), b"abcde"),
-            (3, Full::Nothing, Err(WriteFault), b"abc"),
-            (4, Full::Fault, Err(WriteFault), b"abcd"),
-        ];
-        for (room, full, want, written) in rows {
-            let taken = Vec::new(rt.alloc());
-            let mut sink = ToWrite::new(Drip { taken, room, full });
-            let result = sink.put(b"abcde");
-            assert!(rt; result == want, "room {room}");
-            assert_eq!(rt; sink.into_inner().taken.as_slice(), written);
+        for &(room, full, all, written) in ROWS {
+            let mut sink = ToWrite::new(dripping(rt.alloc(), room, full));
+            assert!(rt; sink.put(b"abcde").is_ok() == all, "room {room}");
+            assert!(rt; sink.into_inner().taken.as_slice() == written);
         }
     }
 
     #[test]
     fn tells_a_failed_flush(rt: HostRuntime) {
-        let taken = Vec::new(rt.alloc());
-        let mut sink = ToWrite::new(Drip {
-            taken,
-            room: 0,
-            full: Full::Nothing,
-        });
-        assert!(rt; sink.flush() == Err(WriteFault));
+        let mut sink = ToWrite::new(dripping(rt.alloc(), 0, Full::Nothing));
+        assert!(rt; sink.flush().is_err());
     }
 
     /// Over memory, whose bytes are known, what is held is what was put.

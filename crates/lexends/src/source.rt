@@ -125,21 +125,33 @@ mod tests {
         }
     }
 
+    const ANSWERS: &[Answer] = &[
+        Answer::Byte(97),
+        Answer::Fault,
+        Answer::Byte(98),
+        Answer::End,
+        Answer::Byte(99),
+    ];
+
+    const WANTS: &[Result<Option<u8>, ReadFault>] = &[
+        Ok(Some(97)),
+        Err(ReadFault),
+        Ok(Some(98)),
+        Ok(None),
+        Ok(Some(99)),
+    ];
+
+    /// Whether this is the answer to one call.
+    fn answers(source: &mut FromRead<Script<'_>>, want: Result<Option<u8>, ReadFault>) -> bool {
+        source.ends < u64::MAX && source.failures < u64::MAX && source.next() == want
+    }
+
     #[test]
     fn asks_the_reader_once_a_call(rt: HostRuntime) {
-        let answers = [
-            Answer::Byte(97),
-            Answer::Fault,
-            Answer::Byte(98),
-            Answer::End,
-            Answer::Byte(99),
-        ];
-        let mut source = FromRead::new(Script { answers: &answers });
-        assert!(rt; source.next() == Ok(Some(97)));
-        assert!(rt; source.next() == Err(ReadFault));
-        assert!(rt; source.next() == Ok(Some(98)));
-        assert!(rt; source.next() == Ok(None));
-        assert!(rt; source.next() == Ok(Some(99)));
+        let mut source = FromRead::new(Script { answers: ANSWERS });
+        for &want in WANTS {
+            assert!(rt; answers(&mut source, want));
+        }
     }
 
     /// Over a slice, whose bytes are known, the byte that is given is the first.

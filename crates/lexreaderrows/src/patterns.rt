@@ -59,6 +59,74 @@ fn alt(alloc: Global, first: Pattern, second: Pattern) -> Result<Pattern, AllocE
     Ok(Pattern::Alt(Rc::new(alloc, parts)?))
 }
 
+/// How long the words of a pattern are, at least and at most.
+type Bounds = (u32, Option<u32>);
+
+fn bounds_of(pattern: &Pattern) -> Option<Bounds>
+    requires { IsSoundTree (tree_of pattern.now) }
+{
+    let Lengths { min, max } = lengths(pattern)?;
+    Some((min, max))
+}
+
+/// Whether a pattern has these lengths, and this many positions.
+fn measures(pattern: &Pattern, bounds: Option<Bounds>, count: Option<u32>) -> bool
+    requires { IsSoundTree (tree_of pattern.now) }
+{
+    bounds_of(pattern) == bounds && positions(pattern) == count
+}
+
+/// Whether a text is read, and what has these lengths.
+pub(crate) fn has_bounds(
+    alloc: Global,
+    text: &[u8],
+    defs: &Defs,
+    options: ReadOptions,
+    bounds: Bounds,
+) -> bool {
+    match read_pattern(alloc, text, defs, options) {
+        Ok(pattern) => bounds_of(&pattern) == Some(bounds),
+        Err(_) => false,
+    }
+}
+
+/// How many positions a text has, where it is read.
+pub(crate) fn positions_of(
+    alloc: Global,
+    text: &[u8],
+    defs: &Defs,
+    options: ReadOptions,
+) -> Option<u32> {
+    match read_pattern(alloc, text, defs, options) {
+        Ok(pattern) => positions(&pattern),
+        Err(_) => None,
+    }
+}
+
+/// Whether a text is read, and its tree has these nodes.
+pub(crate) fn has_tree(
+    alloc: Global,
+    text: &[u8],
+    defs: &Defs,
+    options: ReadOptions,
+    nodes: &[Node],
+) -> bool {
+    match read_pattern(alloc, text, defs, options) {
+        Ok(pattern) => after_tree(&pattern, nodes).is_some_and(|rest| rest.is_empty()),
+        Err(_) => false,
+    }
+}
+
+/// What is reported of a text, and where, if it is refused.
+pub(crate) type Told = Option<(PatternErrorKind, usize)>;
+
+pub(crate) fn told(alloc: Global, text: &[u8], defs: &Defs, options: ReadOptions) -> Told {
+    match read_pattern(alloc, text, defs, options) {
+        Ok(_) => None,
+        Err(error) => Some((error.kind, error.at)),
+    }
+}
+
 #[test]
 fn laws() {
     readings_use_own_positions();
@@ -66,14 +134,20 @@ fn laws() {
     one_cutting();
 }
 
+fn folds_letters() -> bool {
+    let letters = ByteSet::range(b'a', b'c').fold_case();
+    letters.contains(b'B') && letters.contains(b'c') && !letters.contains(b'd')
+}
+
+fn folds_signs() -> bool {
+    let signs = ByteSet::range(b'@', b'[');
+    signs.fold_case() == signs.union(&ByteSet::range(b'a', b'z'))
+}
+
 #[test]
 fn sets(rt: HostRuntime) {
-    let letters = ByteSet::range(b'a', b'c').fold_case();
-    assert!(rt; letters.contains(b'B') && letters.contains(b'c') && !letters.contains(b'd'));
-    assert!(rt;
-        ByteSet::range(b'@', b'[').fold_case()
-            == ByteSet::range(b'@', b'[').union(&ByteSet::range(b'a', b'z'))
-    );
+    assert!(rt; folds_letters());
+    assert!(rt; folds_signs());
     assert!(rt; ByteSet::of(200).complement().complement() == ByteSet::of(200));
     assert!(rt; ByteSet::of(7).union(&ByteSet::empty()) == ByteSet::of(7));
     assert!(rt; ByteSet::range(0, 255).complement().is_empty() && !ByteSet::of(255).is_empty());
@@ -98,63 +172,63 @@ const CLASSES: [(&[u8], u8, u8, u32); 12] = [
 // Words that name no class.
 const NO_CLASSES: [&[u8]; 4] = [b"word", b"Alpha", b"", b"alphas"];
 
+/// Whether a class has this many bytes, all from the first to the last, and both of them.
+fn has_members(name: &[u8], first: u8, last: u8, count: u32) -> bool {
+    let Some(class) = ByteSet::named(name) else {
+        return false;
+    };
+    let mut members: u32 = 0;
+    for byte in 0..=255u8 {
+        if class.contains(byte) {
+            if byte < first || last < byte || members > 255 {
+                return false;
+            }
+            members += 1;
+        }
+    }
+    members == count && class.contains(first) && class.contains(last)
+}
+
 #[test]
 fn classes(rt: HostRuntime) {
     for &(name, first, last, count) in &CLASSES {
-        let class = ByteSet::named(name).expect(&rt, "a class");
-        let mut members: u32 = 0;
-        for byte in 0..=255u8 {
-            if class.contains(byte) {
-                assert!(rt; first <= byte && byte <= last && members < 256);
-                members += 1;
-            }
-        }
-        assert_eq!(rt; members, count);
-        assert!(rt; class.contains(first) && class.contains(last));
+        assert!(rt; has_members(name, first, last, count));
     }
     for name in &NO_CLASSES {
         assert!(rt; ByteSet::named(name).is_none());
     }
 }
 
+// a{2,3}b?
+fn repeated_and_maybe(alloc: Global) -> Result<Pattern, AllocError>
+    ensures { IfOk result (λ p. IsSoundTree (tree_of p)) }
+{
+    let twice = repeat(alloc, byte(b'a'), 2, Some(3))?;
+    let maybe = repeat(alloc, byte(b'b'), 0, Some(1))?;
+    cat(alloc, twice, maybe)
+}
+
+// (ab)*
+fn pairs(alloc: Global) -> Result<Pattern, AllocError>
+    ensures { IfOk result (λ p. IsSoundTree (tree_of p)) }
+{
+    let pair = cat(alloc, byte(b'a'), byte(b'b'))?;
+    star(alloc, pair)
+}
+
 #[test]
 fn counts(rt: HostRuntime) -> Result<(), Fail> {
     let alloc = rt.alloc();
-
-    // a{2,3}b?
-    let twice = repeat(alloc, byte(b'a'), 2, Some(3))?;
-    let maybe = repeat(alloc, byte(b'b'), 0, Some(1))?;
-    let pattern = cat(alloc, twice, maybe)?;
-    assert_eq!(rt;
-        lengths(&pattern),
-        Some(Lengths {
-            min: 2,
-            max: Some(4)
-        })
-    );
-    assert_eq!(rt; positions(&pattern), Some(4));
-
-    // (ab)*
-    let pair = cat(alloc, byte(b'a'), byte(b'b'))?;
-    let pattern = star(alloc, pair)?;
-    assert_eq!(rt; lengths(&pattern), Some(Lengths { min: 0, max: None }));
-    assert_eq!(rt; positions(&pattern), Some(2));
+    assert!(rt; measures(&repeated_and_maybe(alloc)?, Some((2, Some(4))), Some(4)));
+    assert!(rt; measures(&pairs(alloc)?, Some((0, None)), Some(2)));
 
     // (""*)
-    let pattern = star(alloc, Pattern::Empty)?;
-    assert_eq!(rt;
-        lengths(&pattern),
-        Some(Lengths {
-            min: 0,
-            max: Some(0)
-        })
-    );
-    assert_eq!(rt; positions(&pattern), Some(0));
+    let nothing = star(alloc, Pattern::Empty)?;
+    assert!(rt; measures(&nothing, Some((0, Some(0))), Some(0)));
 
     // a{0,}
-    let pattern = repeat(alloc, byte(b'a'), 0, None)?;
-    assert_eq!(rt; lengths(&pattern), Some(Lengths { min: 0, max: None }));
-    assert_eq!(rt; positions(&pattern), Some(1));
+    let any = repeat(alloc, byte(b'a'), 0, None)?;
+    assert!(rt; measures(&any, Some((0, None)), Some(1)));
     Ok(())
 }
 
@@ -169,31 +243,24 @@ fn huge(alloc: Global, times: u8) -> Result<Pattern, AllocError>
     Ok(pattern)
 }
 
-#[test]
-fn counts_past_the_limit(rt: HostRuntime) -> Result<(), Fail> {
-    let alloc = rt.alloc();
-
-    let pattern = huge(alloc, 3)?;
-    let most = 255 * 255 * 255;
-    assert_eq!(rt;
-        lengths(&pattern),
-        Some(Lengths {
-            min: most,
-            max: Some(most)
-        })
-    );
-    assert_eq!(rt; positions(&pattern), Some(most));
-
-    let pattern = huge(alloc, 5)?;
-    assert_eq!(rt; lengths(&pattern), None);
-    assert_eq!(rt; positions(&pattern), None);
-
-    // a part may pass the limit where the whole has no length that does
+// More than can be counted, or any number of times b
+fn huge_or_any(alloc: Global) -> Result<Pattern, AllocError>
+    ensures { IfOk result (λ p. IsSoundTree (tree_of p)) }
+{
     let large = huge(alloc, 5)?;
     let any = star(alloc, byte(b'b'))?;
-    let pattern = alt(alloc, large, any)?;
-    assert_eq!(rt; lengths(&pattern), Some(Lengths { min: 0, max: None }));
-    assert_eq!(rt; positions(&pattern), None);
+    alt(alloc, large, any)
+}
+
+#[test]
+fn counts_past_the_limit(rt: HostRuntime) -> Result<(), Fail> {
+    const MOST: u32 = 255 * 255 * 255;
+    let alloc = rt.alloc();
+    assert!(rt; measures(&huge(alloc, 3)?, Some((MOST, Some(MOST))), Some(MOST)));
+    assert!(rt; measures(&huge(alloc, 5)?, None, None));
+
+    // a part may pass the limit where the whole has no length that does
+    assert!(rt; measures(&huge_or_any(alloc)?, Some((0, None)), None));
     Ok(())
 }
 
@@ -236,17 +303,14 @@ fn lengthened(alloc: Global, first: Pattern, bytes: u32) -> Result<Pattern, Allo
 #[test]
 fn counts_of_65536_nodes(rt: HostRuntime) -> Result<(), Fail> {
     let alloc = rt.alloc();
-    let deep = deepest(alloc)?;
-    let pattern = lengthened(alloc, deep, 61_114)?;
-    assert_eq!(rt;
-        lengths(&pattern),
-        Some(Lengths {
-            min: 61_115,
-            max: None
-        })
-    );
-    assert_eq!(rt; positions(&pattern), Some(61_245));
+    let pattern = lengthened(alloc, deepest(alloc)?, 61_114)?;
+    assert!(rt; measures(&pattern, Some((61_115, None)), Some(61_245)));
     Ok(())
+}
+
+/// Whether a name has this text.
+fn has_text(defs: &Defs, name: &[u8], text: &[u8]) -> bool {
+    defs.find(name).is_some_and(|found| found == text)
 }
 
 #[test]
@@ -255,9 +319,9 @@ fn definitions(rt: HostRuntime) -> Result<(), Fail> {
     assert!(rt; defs.find(b"D").is_none());
     defs.add(b"D", b"[0-9]")?;
     defs.add(b"N", b"{D}+")?;
-    assert_eq!(rt; defs.add(b"D", b"x"), Err(DefsError::Duplicate));
-    assert_eq!(rt; defs.find(b"D").expect(&rt, "a text"), b"[0-9]".as_slice());
-    assert_eq!(rt; defs.find(b"N").expect(&rt, "a text"), b"{D}+".as_slice());
+    assert!(rt; defs.add(b"D", b"x") == Err(DefsError::Duplicate));
+    assert!(rt; has_text(&defs, b"D", b"[0-9]"));
+    assert!(rt; has_text(&defs, b"N", b"{D}+"));
     assert!(rt; defs.find(b"d").is_none());
     Ok(())
 }
@@ -272,7 +336,7 @@ fn refused_definitions(rt: HostRuntime) -> Result<(), Fail> {
             assert_eq!(rt; error, DefsError::OutOfMemory);
             assert!(rt; defs.find(name).is_none());
             for &before in &NAMES[..at] {
-                assert!(rt; defs.find(before) == Some(b"[0-9]"));
+                assert!(rt; has_text(&defs, before, b"[0-9]"));
             }
             return Ok(());
         }
@@ -301,18 +365,27 @@ const CUTTINGS: [(&[u8], usize, Option<usize>, bool, bool); 16] = [
     (b"a$b/$[$] c", 8, Some(3), false, false),
 ];
 
-#[test]
-fn cuttings(rt: HostRuntime) {
-    for &(text, end, slash, two, dollar) in &CUTTINGS {
-        assert_eq!(rt;
-            cut_pattern(text),
-            Ok(Cutting {
+/// Where a pattern ends, the first slash, whether there is a second, and whether a special `$` ends it; or the fault.
+type Cut = Result<(usize, Option<usize>, bool, bool), (PatternErrorKind, usize)>;
+
+fn cut(text: &[u8]) -> Cut {
+    match cut_pattern(text) {
+        Ok(
+            Cutting {
                 end,
                 slash,
                 two,
-                dollar
-            })
-        );
+                dollar,
+            },
+        ) => Ok((end, slash, two, dollar)),
+        Err(error) => Err((error.kind, error.at)),
+    }
+}
+
+#[test]
+fn cuttings(rt: HostRuntime) {
+    for &(text, end, slash, two, dollar) in &CUTTINGS {
+        assert!(rt; cut(text) == Ok((end, slash, two, dollar)));
     }
 }
 
@@ -337,61 +410,60 @@ const FAULTS: [(&[u8], PatternErrorKind, usize); 14] = [
 #[test]
 fn cutting_faults(rt: HostRuntime) {
     for &(text, kind, at) in &FAULTS {
-        assert_eq!(rt; cut_pattern(text), Err(PatternError { kind, at }));
+        assert!(rt; cut(text) == Err((kind, at)));
     }
+}
+
+/// Whether a text of this byte alone has a cutting to its end, or is an unclosed class.
+fn is_cut(alloc: Global, byte: u8) -> Result<bool, AllocError> {
+    let mut text = Vec::new(alloc);
+    text.resize(1_048_576, byte)?;
+    Ok(match cut(&text) {
+        Ok((end, _, _, _)) => byte != b'[' && end == 1_048_576,
+        Err(fault) => byte == b'[' && fault == (PatternErrorKind::UnclosedClass, 0),
+    })
 }
 
 #[test]
 fn cuttings_of_long_texts(rt: HostRuntime) -> Result<(), Fail> {
-    for byte in [b'a', b'"', b'[', b'(', b'\\'] {
-        let mut text = Vec::new(rt.alloc());
-        text.resize(1_048_576, byte)?;
-        let cutting = cut_pattern(&text);
-        if byte == b'[' {
-            let kind = PatternErrorKind::UnclosedClass;
-            assert_eq!(rt; cutting, Err(PatternError { kind, at: 0 }));
-        } else {
-            assert_eq!(rt; cutting.expect(&rt, "a cutting").end, 1_048_576);
-        }
+    for &byte in b"a\"[(\\" {
+        assert!(rt; is_cut(rt.alloc(), byte)?);
     }
     Ok(())
 }
 
+// A class, what it lists, and whether these bytes are its own or are all but its own.
+const LISTED: [(&[u8], &[u8], bool); 6] = [
+    (b"[]a]", b"]a", true),
+    (b"[a-]", b"a-", true),
+    (b"[-a]", b"a-", true),
+    (b"[a-c-e]", b"abc-e", true),
+    (b"[^\\n]", b"\n", false),
+    (b"[[.]", b"[.", true),
+];
+
+/// Whether a text is a class, and nothing behind it, with these bytes or with all but these.
+fn is_class_of(text: &[u8], members: &[u8], inside: bool) -> bool {
+    match class_at(text, false) {
+        Ok((found, rest)) => is_set_of(found, members, inside) && rest.is_empty(),
+        Err(_) => false,
+    }
+}
+
+/// Whether `[^b]` has neither case of its letter where letters stand for both.
+fn folds_others() -> bool {
+    match class_at(b"[^b]x", true) {
+        Ok((found, rest)) => is_set_of(found, b"bB", false) && rest == b"x".as_slice(),
+        Err(_) => false,
+    }
+}
+
 #[test]
 fn classes_as_sets(rt: HostRuntime) {
-    let minus = ByteSet::of(b'-');
-    let pair = ByteSet::of(b'a').union(&minus);
-    for (text, set) in [
-        (
-            b"[]a]".as_slice(),
-            ByteSet::of(b']').union(&ByteSet::of(b'a')),
-        ),
-        (b"[a-]".as_slice(), pair),
-        (b"[-a]".as_slice(), pair),
-        (
-            b"[a-c-e]".as_slice(),
-            ByteSet::range(b'a', b'c')
-                .union(&minus)
-                .union(&ByteSet::of(b'e')),
-        ),
-        (b"[^\\n]".as_slice(), ByteSet::of(10).complement()),
-        (
-            b"[[.]".as_slice(),
-            ByteSet::of(b'[').union(&ByteSet::of(b'.')),
-        ),
-    ] {
-        match class_at(text, false) {
-            Ok((found, rest)) => assert!(rt; found == set && rest.is_empty()),
-            Err(_) => assert!(rt; false),
-        }
+    for &(text, members, inside) in &LISTED {
+        assert!(rt; is_class_of(text, members, inside));
     }
-    match class_at(b"[^b]x", true) {
-        Ok((found, rest)) => {
-            assert!(rt; !found.contains(b'b') && !found.contains(b'B') && found.contains(b'x'));
-            assert_eq!(rt; rest, b"x".as_slice());
-        }
-        Err(_) => assert!(rt; false),
-    }
+    assert!(rt; folds_others());
 }
 
 // A text that is no class, what is reported of it, and the text from there on.
@@ -420,13 +492,18 @@ const REFUSED_CLASSES: [(&[u8], PatternErrorKind, &[u8]); 10] = [
     (b"[\\400]", PatternErrorKind::BadEscape, b"\\400]"),
 ];
 
+/// Whether a text is refused so, at this rest of it.
+fn is_no_class(text: &[u8], kind: PatternErrorKind, rest: &[u8]) -> bool {
+    match class_at(text, false) {
+        Ok(_) => false,
+        Err(fault) => fault.kind == kind && fault.rest == rest,
+    }
+}
+
 #[test]
 fn refused_classes(rt: HostRuntime) {
     for &(text, kind, rest) in &REFUSED_CLASSES {
-        match class_at(text, false) {
-            Ok(_) => assert!(rt; false),
-            Err(fault) => assert!(rt; fault.kind == kind && fault.rest == rest),
-        }
+        assert!(rt; is_no_class(text, kind, rest));
     }
 }
 
@@ -454,13 +531,11 @@ fn intervals(rt: HostRuntime) -> Result<(), Fail> {
     let alloc = rt.alloc();
     let defs = worked_definitions(alloc)?;
     for &(text, min, max) in &INTERVALS {
-        let pattern = read_pattern(alloc, text, &defs, PLAIN).expect(&rt, "a tree");
-        assert_eq!(rt; lengths(&pattern), Some(Lengths { min, max }));
+        assert!(rt; has_bounds(alloc, text, &defs, PLAIN, (min, max)));
     }
     for text in &NO_INTERVALS {
-        let kind = PatternErrorKind::BadInterval;
-        let error = read_pattern(alloc, *text, &defs, PLAIN).err();
-        assert_eq!(rt; error, Some(PatternError { kind, at: 1 }));
+        let fault = Some((PatternErrorKind::BadInterval, 1));
+        assert!(rt; told(alloc, *text, &defs, PLAIN) == fault);
     }
     Ok(())
 }
@@ -705,8 +780,7 @@ fn patterns(rt: HostRuntime) -> Result<(), Fail> {
     let defs = worked_definitions(alloc)?;
     for &(text, fold, nodes) in &TREES {
         let options = ReadOptions { fold, ..PLAIN };
-        let pattern = read_pattern(alloc, text, &defs, options).expect(&rt, "a tree");
-        assert!(rt; after_tree(&pattern, nodes).is_some_and(|rest| rest.is_empty()));
+        assert!(rt; has_tree(alloc, text, &defs, options, nodes));
     }
     Ok(())
 }
@@ -780,26 +854,30 @@ fn refused_patterns(rt: HostRuntime) -> Result<(), Fail> {
     let alloc = rt.alloc();
     let defs = worked_definitions(alloc)?;
     for &(text, kind, at) in &REFUSALS {
-        match read_pattern(alloc, text, &defs, PLAIN) {
-            Ok(_) => assert!(rt; false),
-            Err(error) => assert_eq!(rt; error, PatternError { kind, at }),
-        }
+        assert!(rt; told(alloc, text, &defs, PLAIN) == Some((kind, at)));
     }
     Ok(())
 }
 
-// What a text begins with, a part, how often that stands, what follows, and what is reported of the text, where it is refused.
-type Long = (
-    &'static [u8],
-    &'static [u8],
-    usize,
-    &'static [u8],
-    Option<(PatternErrorKind, usize)>,
-);
+/// What begins a text, a part, how often that stands, and what follows.
+pub(crate) type Long = (&'static [u8], &'static [u8], usize, &'static [u8]);
+
+pub(crate) fn text_of(alloc: Global, long: Long) -> Result<Vec<u8>, AllocError> {
+    let (start, part, count, end) = long;
+    let mut text = Vec::from_slice(alloc, start)?;
+    for _ in 0..count {
+        text.extend_from_slice(part)?;
+    }
+    text.extend_from_slice(end)?;
+    Ok(text)
+}
 
 const CLOSED: &[u8] = b"a))))))))))))))))))))))))))))))))))))))))))))))))))))))))))))))))";
 
-const LONG: [Long; 27] = [
+// What a text begins with, a part, how often that stands, what follows, and what is reported of the text, where it is refused.
+type LongRow = (&'static [u8], &'static [u8], usize, &'static [u8], Told);
+
+const LONG: [LongRow; 27] = [
     (b"", b"a", 65535, b"", None),
     (
         b"",
@@ -930,26 +1008,10 @@ fn long_patterns(rt: HostRuntime) -> Result<(), Fail> {
     let alloc = rt.alloc();
     let defs = worked_definitions(alloc)?;
     for &(start, part, count, end, refused) in &LONG {
-        let mut text = Vec::from_slice(alloc, start)?;
-        for _ in 0..count {
-            text.extend_from_slice(part)?;
-        }
-        text.extend_from_slice(end)?;
-        let told = match read_pattern(alloc, &text, &defs, PLAIN) {
-            Ok(_) => None,
-            Err(error) => Some((error.kind, error.at)),
-        };
-        assert!(rt; told == refused);
+        let text = text_of(alloc, (start, part, count, end))?;
+        assert!(rt; told(alloc, &text, &defs, PLAIN) == refused);
     }
     Ok(())
-}
-
-// What is reported of a text, where it is refused.
-fn told(alloc: Global, text: &[u8], defs: &Defs) -> Option<(PatternErrorKind, usize)> {
-    match read_pattern(alloc, text, defs, PLAIN) {
-        Ok(_) => None,
-        Err(error) => Some((error.kind, error.at)),
-    }
 }
 
 // A text, as many times as given
@@ -961,6 +1023,18 @@ fn repeated(alloc: Global, part: &[u8], count: usize) -> Result<Vec<u8>, AllocEr
     Ok(text)
 }
 
+// A name and its text.
+const SHORT_NAMES: [(&[u8], &[u8]); 8] = [
+    (b"pair", b"({c})({c})"),
+    (b"p", b"{c}{c}"),
+    (b"q", b"{p}{p}{p}{p}"),
+    (b"r", b"{q}{q}"),
+    (b"three", b"((\"a\"))"),
+    (b"four", b"{three}"),
+    (b"wrong", b"{c}("),
+    (b"round", b"{c}{round}"),
+];
+
 // Names of long texts that have few nodes, and of their texts
 fn long_definitions(alloc: Global) -> Result<Defs, DefsError> {
     let mut defs = Defs::new(alloc);
@@ -970,16 +1044,7 @@ fn long_definitions(alloc: Global) -> Result<Defs, DefsError> {
     defs.add(b"c", &class)?;
     let quotes = repeated(alloc, b"\"a\"", 40_000)?;
     defs.add(b"wide", &quotes)?;
-    for (name, text) in [
-        (b"pair".as_slice(), b"({c})({c})".as_slice()),
-        (b"p", b"{c}{c}"),
-        (b"q", b"{p}{p}{p}{p}"),
-        (b"r", b"{q}{q}"),
-        (b"three", b"((\"a\"))"),
-        (b"four", b"{three}"),
-        (b"wrong", b"{c}("),
-        (b"round", b"{c}{round}"),
-    ] {
+    for &(name, text) in &SHORT_NAMES {
         defs.add(name, text)?;
     }
     Ok(defs)
@@ -999,10 +1064,10 @@ fn long_texts_of_names(rt: HostRuntime) -> Result<(), Fail> {
     let defs = long_definitions(alloc)?;
     for &(part, count, sets, at) in &OFTEN {
         let mut text = repeated(alloc, part, count)?;
-        let pattern = read_pattern(alloc, &text, &defs, PLAIN).expect(&rt, "a tree");
-        assert_eq!(rt; positions(&pattern), Some(sets));
+        assert!(rt; positions_of(alloc, &text, &defs, PLAIN) == Some(sets));
         text.extend_from_slice(part)?;
-        assert!(rt; told(alloc, &text, &defs) == Some((PatternErrorKind::TooBig, at)));
+        let fault = Some((PatternErrorKind::TooBig, at));
+        assert!(rt; told(alloc, &text, &defs, PLAIN) == fault);
     }
     Ok(())
 }
@@ -1046,20 +1111,31 @@ fn names_in_parentheses(rt: HostRuntime) -> Result<(), Fail> {
     for &(first, depth, inside, last, refused) in &DEEP {
         let text = within(alloc, first, depth, inside, last)?;
         let fault = refused.map(|at| (PatternErrorKind::TooDeep, at));
-        assert!(rt; told(alloc, &text, &defs) == fault);
+        assert!(rt; told(alloc, &text, &defs, PLAIN) == fault);
     }
     Ok(())
 }
+
+// `{c}(` as many times as given, `{c}`, and `)` as many times
+fn opened(alloc: Global, depth: usize) -> Result<Vec<u8>, AllocError> {
+    let mut text = repeated(alloc, b"{c}(", depth)?;
+    text.extend_from_slice(b"{c}")?;
+    for _ in 0..depth {
+        text.push(b')')?;
+    }
+    Ok(text)
+}
+
+// A depth, and what is reported there.
+const INSIDE: [(usize, Told); 2] = [(63, None), (64, Some((PatternErrorKind::TooDeep, 256)))];
 
 #[test]
 fn names_inside_more_and_more(rt: HostRuntime) -> Result<(), Fail> {
     let alloc = rt.alloc();
     let defs = long_definitions(alloc)?;
-    for (depth, fault) in [(63, None), (64, Some((PatternErrorKind::TooDeep, 256)))] {
-        let mut text = repeated(alloc, b"{c}(", depth)?;
-        text.extend_from_slice(b"{c}")?;
-        text.extend_from_slice(&repeated(alloc, b")", depth)?)?;
-        assert!(rt; told(alloc, &text, &defs) == fault);
+    for &(depth, fault) in &INSIDE {
+        let text = opened(alloc, depth)?;
+        assert!(rt; told(alloc, &text, &defs, PLAIN) == fault);
     }
     Ok(())
 }
@@ -1086,7 +1162,7 @@ fn names_in_a_round(rt: HostRuntime) -> Result<(), Fail> {
     ];
     for &(count, kind) in rows {
         let defs = round(alloc, count)?;
-        assert!(rt; told(alloc, b"a{n0}", &defs) == Some((kind, 1)));
+        assert!(rt; told(alloc, b"a{n0}", &defs, PLAIN) == Some((kind, 1)));
     }
     Ok(())
 }
@@ -1116,7 +1192,7 @@ fn names_that_stand_twice(rt: HostRuntime) -> Result<(), Fail> {
     let alloc = rt.alloc();
     let defs = long_definitions(alloc)?;
     for &(text, refused) in &TWICE {
-        assert!(rt; told(alloc, text, &defs) == refused);
+        assert!(rt; told(alloc, text, &defs, PLAIN) == refused);
     }
     Ok(())
 }

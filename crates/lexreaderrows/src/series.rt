@@ -1,11 +1,8 @@
 //! Intervals over items, and over series. (POSIX, lex, Regular Expressions in lex.)
 
-use crate::patterns::{Node, PLAIN, after_tree};
-use lexre::{
-    Defs, DefsError, Lengths, PatternError, PatternErrorKind, ReadOptions, lengths, positions,
-    read_pattern,
-};
-use std::alloc::{AllocError, Global};
+use crate::patterns::{Long, Node, PLAIN, Told, has_bounds, has_tree, positions_of, text_of, told};
+use lexre::{Defs, DefsError, PatternErrorKind, ReadOptions};
+use std::alloc::Global;
 use std::test::Fail;
 
 /// Intervals over series.
@@ -170,10 +167,8 @@ fn both_readings(rt: HostRuntime) -> Result<(), Fail> {
     let alloc = rt.alloc();
     let defs = definitions(alloc)?;
     for &(text, plain, posix) in &LENGTHS {
-        for &(options, (min, max)) in &[(PLAIN, plain), (POSIX, posix)] {
-            let pattern = read_pattern(alloc, text, &defs, options).expect(&rt, "a tree");
-            assert_eq!(rt; lengths(&pattern), Some(Lengths { min, max }));
-        }
+        assert!(rt; has_bounds(alloc, text, &defs, PLAIN, plain));
+        assert!(rt; has_bounds(alloc, text, &defs, POSIX, posix));
     }
     Ok(())
 }
@@ -183,39 +178,32 @@ fn trees_of_series(rt: HostRuntime) -> Result<(), Fail> {
     let alloc = rt.alloc();
     let defs = definitions(alloc)?;
     for &(text, nodes, count) in &TREES {
-        let pattern = read_pattern(alloc, text, &defs, POSIX).expect(&rt, "a tree");
-        assert!(rt; after_tree(&pattern, nodes).is_some_and(|rest| rest.is_empty()));
-        assert_eq!(rt; positions(&pattern), Some(count));
+        assert!(rt; has_tree(alloc, text, &defs, POSIX, nodes));
+        assert!(rt; positions_of(alloc, text, &defs, POSIX) == Some(count));
     }
     Ok(())
 }
+
+// A text, and where an operand is missing in it.
+const NOTHING: [(&[u8], usize); 5] = [
+    (b"{2}", 0),
+    (b"a|{2}", 2),
+    (b"a({2})", 2),
+    (b"{2,1}", 0),
+    (b"a{2}|{3}", 5),
+];
 
 #[test]
 fn intervals_on_nothing(rt: HostRuntime) -> Result<(), Fail> {
     let alloc = rt.alloc();
     let defs = definitions(alloc)?;
-    let kind = PatternErrorKind::MissingOperand;
-    let rows: &[(&[u8], usize)] = &[
-        (b"{2}", 0),
-        (b"a|{2}", 2),
-        (b"a({2})", 2),
-        (b"{2,1}", 0),
-        (b"a{2}|{3}", 5),
-    ];
-    for &(text, at) in rows {
-        for &options in &[PLAIN, POSIX] {
-            let error = read_pattern(alloc, text, &defs, options).err();
-            assert_eq!(rt; error, Some(PatternError { kind, at }));
-        }
+    for &(text, at) in &NOTHING {
+        let fault = Some((PatternErrorKind::MissingOperand, at));
+        assert!(rt; told(alloc, text, &defs, PLAIN) == fault);
+        assert!(rt; told(alloc, text, &defs, POSIX) == fault);
     }
     Ok(())
 }
-
-/// What begins a text, a part, how often that stands, and what follows.
-type Long = (&'static [u8], &'static [u8], usize, &'static [u8]);
-
-/// What is reported of a text, and where, if it is refused.
-type Told = Option<(PatternErrorKind, usize)>;
 
 const DEEP: PatternErrorKind = PatternErrorKind::TooDeep;
 
@@ -261,29 +249,14 @@ const MANY: [(Long, Told, Told); 14] = [
     ((b"", b"a", 65_534, b"{2}"), None, None),
 ];
 
-fn text_of(alloc: Global, long: Long) -> Result<Vec<u8>, AllocError> {
-    let (start, part, count, end) = long;
-    let mut text = Vec::from_slice(alloc, start)?;
-    for _ in 0..count {
-        text.extend_from_slice(part)?;
-    }
-    text.extend_from_slice(end)?;
-    Ok(text)
-}
-
 #[test]
 fn many_signs(rt: HostRuntime) -> Result<(), Fail> {
     let alloc = rt.alloc();
     let defs = definitions(alloc)?;
     for &(long, plain, posix) in &MANY {
         let text = text_of(alloc, long)?;
-        for &(options, want) in &[(PLAIN, plain), (POSIX, posix)] {
-            let told = match read_pattern(alloc, &text, &defs, options) {
-                Ok(_) => None,
-                Err(error) => Some((error.kind, error.at)),
-            };
-            assert!(rt; told == want);
-        }
+        assert!(rt; told(alloc, &text, &defs, PLAIN) == plain);
+        assert!(rt; told(alloc, &text, &defs, POSIX) == posix);
     }
     Ok(())
 }

@@ -12,7 +12,9 @@ fn read(alloc: Global, text: &str) -> Result<Spec, SpecError> {
 }
 
 /// The number of rules of a file, or why it is refused and at which line.
-fn rules_or_fault(alloc: Global, text: &str) -> Result<usize, (u32, SpecErrorKind)> {
+type Answer = Result<usize, (u32, SpecErrorKind)>;
+
+fn rules_or_fault(alloc: Global, text: &str) -> Answer {
     match read(alloc, text) {
         Ok(spec) => Ok(spec.rules().len()),
         Err(error) => Err((error.line, error.kind)),
@@ -27,6 +29,12 @@ fn pattern(kind: PatternErrorKind, at: usize) -> SpecErrorKind {
 /// A file of one rule.
 fn of_rule(alloc: Global, rule: &str) -> Result<String, AllocError> {
     format!(in alloc; "%%\n{rule}")
+}
+
+/// Whether a file of one rule is refused so, at that rule.
+fn is_refused(alloc: Global, rule: &str, kind: SpecErrorKind) -> Result<bool, AllocError> {
+    let text = of_rule(alloc, rule)?;
+    Ok(rules_or_fault(alloc, &text) == Err((2, kind)))
 }
 
 /// Rules with their faults, each at the first line of its section, line 2 of the file. (POSIX, lex, Rules in lex and
@@ -69,10 +77,7 @@ fn faults_of_rules(rt: HostRuntime) -> Result<(), Fail> {
         ),
     ];
     for &(rule, kind) in rows {
-        assert_eq!(rt;
-            rules_or_fault(alloc, &of_rule(alloc, rule)?),
-            Err((2, kind))
-        );
+        assert!(rt; is_refused(alloc, rule, kind)?, "at {rule}");
     }
     Ok(())
 }
@@ -90,10 +95,7 @@ fn faults_of_patterns(rt: HostRuntime) -> Result<(), Fail> {
         ("a{0} ;", PatternErrorKind::BadInterval, 1),
     ];
     for &(rule, kind, at) in rows {
-        assert_eq!(rt;
-            rules_or_fault(alloc, &of_rule(alloc, rule)?),
-            Err((2, pattern(kind, at)))
-        );
+        assert!(rt; is_refused(alloc, rule, pattern(kind, at))?, "at {rule}");
     }
     Ok(())
 }
@@ -125,10 +127,7 @@ fn first_of_two_faults(rt: HostRuntime) -> Result<(), Fail> {
         ("a return 1;\n<Z>a ;", SpecErrorKind::UnknownStatement),
     ];
     for &(rule, kind) in rows {
-        assert_eq!(rt;
-            rules_or_fault(alloc, &of_rule(alloc, rule)?),
-            Err((2, kind))
-        );
+        assert!(rt; is_refused(alloc, rule, kind)?, "at {rule}");
     }
     Ok(())
 }
@@ -143,10 +142,7 @@ fn first_of_two_faults_of_patterns(rt: HostRuntime) -> Result<(), Fail> {
         ("[z-a]*/b* ;", PatternErrorKind::BadRange, 1),
     ];
     for &(rule, kind, at) in rows {
-        assert_eq!(rt;
-            rules_or_fault(alloc, &of_rule(alloc, rule)?),
-            Err((2, pattern(kind, at)))
-        );
+        assert!(rt; is_refused(alloc, rule, pattern(kind, at))?, "at {rule}");
     }
     Ok(())
 }
@@ -297,19 +293,27 @@ fn row_of_condition(condition: &Condition) -> (&[u8], bool, &[u8], u8) {
     )
 }
 
+const CONDITIONS: &[(&[u8], bool, &[u8], u8)] = &[
+    (b"INITIAL", false, b"z", 0),
+    (b"A", false, b"", 5),
+    (b"B", true, b"z", 0),
+];
+
+/// Whether the conditions are those of the rows.
+fn are_conditions(conditions: &[Condition]) -> bool {
+    for (condition, row) in conditions.iter().zip(CONDITIONS) {
+        if row_of_condition(condition) != *row {
+            return false;
+        }
+    }
+    conditions.len() == CONDITIONS.len()
+}
+
 /// The conditions of a file, with their ends. (flex, Start Conditions and End-of-File Rules.)
 #[test]
 fn conditions_of_a_file(rt: HostRuntime) -> Result<(), Fail> {
     let spec = read(rt.alloc(), WHOLE)?;
-    let rows: &[(&[u8], bool, &[u8], u8)] = &[
-        (b"INITIAL", false, b"z", 0),
-        (b"A", false, b"", 5),
-        (b"B", true, b"z", 0),
-    ];
-    assert_eq!(rt; spec.conditions().len(), 3);
-    for (condition, row) in spec.conditions().iter().zip(rows) {
-        assert_eq!(rt; row_of_condition(condition), *row);
-    }
+    assert!(rt; are_conditions(spec.conditions()));
     Ok(())
 }
 
@@ -335,35 +339,43 @@ fn row_of_rule(rule: &Rule) -> (u32, Option<&[u8]>, bool, Cut, &'static str) {
     )
 }
 
+// A rule's line, conditions, anchor, cut and action.
+const RULES: &[(u32, Option<&[u8]>, bool, Cut, &str)] = &[
+    (5, Some(&[1, 2]), true, Cut::Head(2), "BEGIN(B);"),
+    (
+        6,
+        Some(&[0, 1, 2]),
+        false,
+        Cut::Head(1),
+        "printf(x) ECHO; exit(3);",
+    ),
+    (7, None, false, Cut::Whole, "printf(x) ECHO; exit(3);"),
+    (8, None, false, Cut::Trail(2), "REJECT;"),
+    (9, None, false, Cut::Trail(0), "REJECT;"),
+];
+
+/// Whether the rules are those of the rows, with a trail where they have a cut.
+fn are_rules(rules: &[Rule]) -> bool {
+    for (rule, row) in rules.iter().zip(RULES) {
+        if row_of_rule(rule) != *row || rule.trail.is_some() != (rule.cut != Cut::Whole) {
+            return false;
+        }
+    }
+    rules.len() == RULES.len()
+}
+
 /// The rules of a file. (POSIX, lex, Rules in lex; flex, Patterns.)
 #[test]
 fn rules_of_a_file(rt: HostRuntime) -> Result<(), Fail> {
     let spec = read(rt.alloc(), WHOLE)?;
     assert!(rt; spec.rejects());
-    let rows: &[(u32, Option<&[u8]>, bool, Cut, &str)] = &[
-        (5, Some(&[1, 2]), true, Cut::Head(2), "BEGIN(B);"),
-        (
-            6,
-            Some(&[0, 1, 2]),
-            false,
-            Cut::Head(1),
-            "printf(x) ECHO; exit(3);",
-        ),
-        (7, None, false, Cut::Whole, "printf(x) ECHO; exit(3);"),
-        (8, None, false, Cut::Trail(2), "REJECT;"),
-        (9, None, false, Cut::Trail(0), "REJECT;"),
-    ];
-    assert_eq!(rt; spec.rules().len(), 5);
-    for (rule, row) in spec.rules().iter().zip(rows) {
-        assert_eq!(rt; row_of_rule(rule), *row);
-        assert_eq!(rt; rule.trail.is_some(), rule.cut != Cut::Whole);
-    }
+    assert!(rt; are_rules(spec.rules()));
     Ok(())
 }
 
 /// Letters stand for both cases by the option of the call or of the file. (flex, Scanner Options: case-insensitive.)
 #[test]
-fn folded_letters(rt: HostRuntime) -> Result<(), Fail> {
+fn folded_letters(rt: HostRuntime) {
     let alloc = rt.alloc();
     let rows = &[
         ("%%\na ;", false, false),
@@ -371,18 +383,19 @@ fn folded_letters(rt: HostRuntime) -> Result<(), Fail> {
         ("%option case-insensitive\n%%\na ;", false, true),
     ];
     for &(text, fold, both) in rows {
-        let options = ReadOptions { fold, ..PLAIN };
-        let spec = read_spec(alloc, text.as_bytes(), options)?;
-        assert_eq!(rt; has_capital(&spec), Some(both));
+        assert_eq!(rt; has_capital(alloc, text, fold), Some(both));
     }
-    Ok(())
 }
 
-/// Whether the first pattern, a set, has the letter A.
-fn has_capital(spec: &Spec) -> Option<bool> {
-    match spec.rules().first()?.head {
-        lexre::Pattern::Set(set) => Some(set.contains(b'A')),
-        _ => None,
+/// Whether the first pattern of a file, a set, has the letter A.
+fn has_capital(alloc: Global, text: &str, fold: bool) -> Option<bool> {
+    let options = ReadOptions { fold, ..PLAIN };
+    match read_spec(alloc, text.as_bytes(), options) {
+        Ok(spec) => match spec.rules().first()?.head {
+            lexre::Pattern::Set(set) => Some(set.contains(b'A')),
+            _ => None,
+        },
+        Err(_) => None,
     }
 }
 
@@ -403,28 +416,70 @@ fn repeated(
     Ok(text)
 }
 
+/// What stands before a part, the part, how often it stands, what stands after it, and how many rules that gives or why it
+/// is refused.
+type Limit = (&'static str, &'static str, u32, &'static str, Answer);
+
+const LONG: SpecErrorKind = SpecErrorKind::TooLong;
+
+const MANY: SpecErrorKind = SpecErrorKind::TooManyRules;
+
+const DEEP: SpecErrorKind = SpecErrorKind::Pattern(PatternError {
+    kind: PatternErrorKind::TooDeep,
+    at: 65,
+});
+
+const BIG: SpecErrorKind = SpecErrorKind::Pattern(PatternError {
+    kind: PatternErrorKind::TooBig,
+    at: 65_535,
+});
+
+const LIMITS: &[Limit] = &[
+    ("%%\na ", "ECHO;", 256, "", Ok(1)),
+    ("%%\na ", "ECHO;", 257, "", Err((2, LONG))),
+    (
+        "%%\na ",
+        "ECHO;",
+        257,
+        "yyless(1); yymore();",
+        Err((2, LONG)),
+    ),
+    ("%%\na", "?", 64, " ;", Ok(1)),
+    ("%%\na", "?", 65, " ;", Err((2, DEEP))),
+];
+
+const LARGE_LIMITS: &[Limit] = &[
+    ("%%\na printf(\"", "x", 4_096, "\");", Ok(1)),
+    ("%%\na printf(\"", "x", 4_097, "\");", Err((2, LONG))),
+    ("%%\n", "a\n", 4_096, "<<EOF>> ;", Ok(4_096)),
+    ("%%\n", "a\n", 4_096, "<Z>a", Err((4_098, MANY))),
+    ("%%\n", "a\n", 4_095, "a |\na ;", Err((4_098, MANY))),
+    ("%%\n", "a", 65_535, "", Ok(1)),
+    ("%%\n", "a", 65_536, "", Err((2, BIG))),
+    ("%%\nb*/(a{255}){255}", "a{255}", 2, " ;", Ok(1)),
+    (
+        "%%\nb*/(a{255}){255}",
+        "a{255}",
+        2,
+        "a ;",
+        Err((2, SpecErrorKind::VariableTrailing)),
+    ),
+    ("%%\n", "\n", 1_048_573, "", Ok(0)),
+    ("%%\n", "\n", 1_048_574, "", Err((0, LONG))),
+];
+
+/// The number of rules of a file with a part repeated, or why it is refused and at which line.
+fn repeated_rules_or_fault(alloc: Global, limit: &Limit) -> Result<Answer, AllocError> {
+    let &(before, word, count, after, _) = limit;
+    let text = repeated(alloc, before, word, count, after)?;
+    Ok(rules_or_fault(alloc, &text))
+}
+
 /// Limits on the parts of a file, passed by one: texts repeated, and what follows.
 #[test]
 fn limits(rt: HostRuntime) -> Result<(), Fail> {
-    let alloc = rt.alloc();
-    let deep = pattern(PatternErrorKind::TooDeep, 65);
-    let long = SpecErrorKind::TooLong;
-    let rows = [
-        ("%%\na ", "ECHO;", 256, "", Ok(1)),
-        ("%%\na ", "ECHO;", 257, "", Err((2, long))),
-        (
-            "%%\na ",
-            "ECHO;",
-            257,
-            "yyless(1); yymore();",
-            Err((2, long)),
-        ),
-        ("%%\na", "?", 64, " ;", Ok(1)),
-        ("%%\na", "?", 65, " ;", Err((2, deep))),
-    ];
-    for (before, word, count, after, answer) in rows {
-        let text = repeated(alloc, before, word, count, after)?;
-        assert_eq!(rt; rules_or_fault(alloc, &text), answer);
+    for limit in LIMITS {
+        assert_eq!(rt; repeated_rules_or_fault(rt.alloc(), limit)?, limit.4);
     }
     Ok(())
 }
@@ -432,37 +487,8 @@ fn limits(rt: HostRuntime) -> Result<(), Fail> {
 /// Limits on literals, lengths, rules and bytes, passed by one: texts repeated, and what follows.
 #[test]
 fn large_limits(rt: HostRuntime) -> Result<(), Fail> {
-    let alloc = rt.alloc();
-    let long = SpecErrorKind::TooLong;
-    let many = SpecErrorKind::TooManyRules;
-    let rows = [
-        ("%%\na printf(\"", "x", 4_096, "\");", Ok(1)),
-        ("%%\na printf(\"", "x", 4_097, "\");", Err((2, long))),
-        ("%%\n", "a\n", 4_096, "<<EOF>> ;", Ok(4_096)),
-        ("%%\n", "a\n", 4_096, "<Z>a", Err((4_098, many))),
-        ("%%\n", "a\n", 4_095, "a |\na ;", Err((4_098, many))),
-        ("%%\n", "a", 65_535, "", Ok(1)),
-        (
-            "%%\n",
-            "a",
-            65_536,
-            "",
-            Err((2, pattern(PatternErrorKind::TooBig, 65_535))),
-        ),
-        ("%%\nb*/(a{255}){255}", "a{255}", 2, " ;", Ok(1)),
-        (
-            "%%\nb*/(a{255}){255}",
-            "a{255}",
-            2,
-            "a ;",
-            Err((2, SpecErrorKind::VariableTrailing)),
-        ),
-        ("%%\n", "\n", 1_048_573, "", Ok(0)),
-        ("%%\n", "\n", 1_048_574, "", Err((0, long))),
-    ];
-    for (before, word, count, after, answer) in rows {
-        let text = repeated(alloc, before, word, count, after)?;
-        assert_eq!(rt; rules_or_fault(alloc, &text), answer);
+    for limit in LARGE_LIMITS {
+        assert_eq!(rt; repeated_rules_or_fault(rt.alloc(), limit)?, limit.4);
     }
     Ok(())
 }
