@@ -12,6 +12,7 @@ pub mod Places
 pub mod Kept
 pub mod Works
 pub mod LetterTests
+pub mod Listing
 pub mod RuleMeaning
 pub mod Numbers
 pub mod StepLemmas

@@ -5,6 +5,7 @@ pub mod Flows
 pub mod Keys
 pub mod Explored
 pub mod RuleFlow
+pub mod Letters
 pub mod Sets
 pub mod Packing
 pub mod Moving

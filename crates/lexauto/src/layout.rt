@@ -8,10 +8,14 @@ ghost use Rattle.lexauto.specs.Alike.{Alike, choice_of};
 ghost use Rattle.lexauto.specs.Signs.{skips, repeats, signed};
 ghost use Rattle.lexauto.specs.Plans.{plan_of, plans, tree_in, trees_in, trees_laid, IsSized, AreSized};
 
+use crate::bare::is_bare;
 use crate::walk::copies_of;
 use lexclass::ByteSet;
 use lexre::Pattern;
 use std::alloc::{AllocError, Global};
+
+/// How deep a part is searched for positions before it is laid out.
+const LEVELS: u8 = 4;
 
 /// A pattern laid out. No part of another is without positions.
 #[derive(Drop)]
@@ -266,6 +270,20 @@ fn lay_node(alloc: Global, pattern: &Pattern) -> Result<Part, AllocError>
     }
 }
 
+/// A part laid out. Small parts without positions are not looked at further.
+#[cycle(lay)]
+fn lay_part(alloc: Global, pattern: &Pattern) -> Result<Part, AllocError>
+    requires sound { IsSoundTree (tree_of pattern.now) }
+    requires few { positions (tree_of pattern.now) < 2 ^ 32 }
+    ensures sized { IfOk result (λ p. IsSized (plan_of p)) }
+    ensures alike { IfOk result (λ p. Alike (tree_in (plan_of p)) (tree_of pattern.now)) }
+{
+    if is_bare(pattern, LEVELS) {
+        return Ok(Part::Nothing);
+    }
+    lay(alloc, pattern)
+}
+
 #[cycle(lay)]
 fn lay_all(alloc: Global, parts: &[Pattern]) -> Result<Row, AllocError>
     requires sound { AreSoundTrees (trees (map tree_of parts.now)) }
@@ -281,7 +299,7 @@ fn lay_all(alloc: Global, parts: &[Pattern]) -> Result<Row, AllocError>
         has_empty: false,
     };
     for part in parts {
-        let part = lay(alloc, part)?;
+        let part = lay_part(alloc, part)?;
         row.add(part)?;
     }
     Ok(row)

@@ -1,6 +1,7 @@
 //! Automata of lex: the positions of a specification's rules, and the states that sets of them are.
 #![tactic(auto)]
 
+mod bare;
 mod error;
 mod explore;
 mod following;

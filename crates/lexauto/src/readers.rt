@@ -1,8 +1,9 @@
 //! Which positions read a byte.
-ghost use Rattle.std.specs.Prelude.{◌≡◌, ℕ, ◌+◌, ◌*◌, ◌<◌, ◌≤◌, ◌^◌, ◌||◌, length, map};
+ghost use Rattle.std.specs.Prelude.{◌≡◌, ℕ, ◌+◌, ◌*◌, ◌||◌, length, map, IfOk, OnOk};
 ghost use Rattle.lexmeaning.specs.Positions.{positions, positions_of};
 ghost use Rattle.lexmeaning.specs.Subsets.{all_positions};
 ghost use Rattle.lexauto.specs.Laid.{shape_of};
+ghost use Rattle.lexauto.specs.Letters.{reads_at};
 ghost use Rattle.lexauto.specs.Plans.{plan_of, plans, tree_in, trees_in};
 ghost use Rattle.lexmeaning.specs.Text.{flag};
 ghost use Rattle.lexauto.specs.RuleFlow.{copies_read, reads, each_read, rules_read};
@@ -10,71 +11,72 @@ ghost use Rattle.lexauto.specs.RuleFlow.{copies_read, reads, each_read, rules_re
 use crate::layout::Part;
 use crate::rules::LaidRule;
 use crate::walk::copies_of;
+use lexclass::ByteSet;
+use std::alloc::{AllocError, Global};
 
-/// Marks the positions of a part that read the byte. Answers the position behind its last one.
-#[cycle(mark)]
-fn mark(part: &Part, byte: u8, base: usize, mask: &mut [bool]) -> usize
-    requires within { base + positions (tree_in (plan_of part.now)) ≤ length mask.old }
-    requires few { length mask.old < 2 ^ 32 }
-    ensures after { result ≡ base + positions (tree_in (plan_of part.now)) }
-    ensures mask { (q : ℕ) → flag mask.new q ≡ (flag mask.old q || reads (tree_in (plan_of part.now)) byte q base) }
+/// Lists the bytes that each position of a part reads.
+#[cycle(list)]
+fn list(part: &Part, letters: &mut Vec<ByteSet>) -> Result<(), AllocError>
+    ensures count { OnOk result (length letters.new.items ≡ length letters.old.items + positions (tree_in (plan_of part.now))) }
+    ensures letters { OnOk result ((b q : ℕ) → reads_at letters.new.items b q 0 ≡ (reads_at letters.old.items b q 0 || reads (tree_in (plan_of part.now)) b q (length letters.old.items))) }
 {
     match part {
-        Part::Nothing => base,
-        Part::Letter(set) => {
-            if set.contains(byte) {
-                mask[base] = true;
-            }
-            base + 1
-        }
-        Part::Series(_, parts) => mark_each(parts, byte, base, mask),
-        Part::Choice(_, parts) => mark_each(parts, byte, base, mask),
-        Part::Star(_, inner) => mark(inner, byte, base, mask),
+        Part::Nothing => {}
+        Part::Letter(set) => letters.push(*set)?,
+        Part::Series(_, parts) => list_each(parts, letters)?,
+        Part::Choice(_, parts) => list_each(parts, letters)?,
+        Part::Star(_, inner) => list(inner, letters)?,
         Part::Repeat(_, inner, least, most) => {
-            mark_copies(inner, byte, base, copies_of(*least, *most).count, mask)
+            list_copies(inner, copies_of(*least, *most).count, letters)?
         }
     }
+    Ok(())
 }
 
-#[cycle(mark)]
-fn mark_each(parts: &[Part], byte: u8, base: usize, mask: &mut [bool]) -> usize
-    requires within { base + positions_of (trees_in (plans (map plan_of parts.now))) ≤ length mask.old }
-    requires few { length mask.old < 2 ^ 32 }
-    ensures after { result ≡ base + positions_of (trees_in (plans (map plan_of parts.now))) }
-    ensures mask { (q : ℕ) → flag mask.new q ≡ (flag mask.old q || each_read (trees_in (plans (map plan_of parts.now))) byte q base) }
+#[cycle(list)]
+fn list_each(parts: &[Part], letters: &mut Vec<ByteSet>) -> Result<(), AllocError>
+    ensures count { OnOk result (length letters.new.items ≡ length letters.old.items + positions_of (trees_in (plans (map plan_of parts.now)))) }
+    ensures letters { OnOk result ((b q : ℕ) → reads_at letters.new.items b q 0 ≡ (reads_at letters.old.items b q 0 || each_read (trees_in (plans (map plan_of parts.now))) b q (length letters.old.items))) }
 {
-    let mut after = base;
     for part in parts {
-        after = mark(part, byte, after, mask);
+        list(part, letters)?;
     }
-    after
+    Ok(())
 }
 
-#[cycle(mark)]
-fn mark_copies(inner: &Part, byte: u8, base: usize, count: u8, mask: &mut [bool]) -> usize
-    requires within { base + count * positions (tree_in (plan_of inner.now)) ≤ length mask.old }
-    requires few { length mask.old < 2 ^ 32 }
-    ensures after { result ≡ base + count * positions (tree_in (plan_of inner.now)) }
-    ensures mask { (q : ℕ) → flag mask.new q ≡ (flag mask.old q || copies_read (reads (tree_in (plan_of inner.now)) byte q) base (positions (tree_in (plan_of inner.now))) count) }
+#[cycle(list)]
+fn list_copies(inner: &Part, count: u8, letters: &mut Vec<ByteSet>) -> Result<(), AllocError>
+    ensures count { OnOk result (length letters.new.items ≡ length letters.old.items + count * positions (tree_in (plan_of inner.now))) }
+    ensures letters { OnOk result ((b q : ℕ) → reads_at letters.new.items b q 0
+        ≡ (reads_at letters.old.items b q 0 || copies_read (reads (tree_in (plan_of inner.now)) b q) (length letters.old.items) (positions (tree_in (plan_of inner.now))) count)) }
 {
-    let mut after = base;
     for k in 0..count {
-        after = mark(inner, byte, after, mask);
+        list(inner, letters)?;
     }
-    after
+    Ok(())
 }
 
-/// Marks the positions of the rules that read the byte.
-pub(crate) fn mark_rules(rules: &[LaidRule], byte: u8, mask: &mut [bool])
-    requires within { all_positions (map shape_of rules.now) ≤ length mask.old }
-    requires few { length mask.old < 2 ^ 32 }
-    ensures { (q : ℕ) → flag mask.new q ≡ (flag mask.old q || rules_read (map shape_of rules.now) byte q 0) }
+/// The bytes that each position of the rules reads.
+pub(crate) fn letters_of(alloc: Global, rules: &[LaidRule]) -> Result<Vec<ByteSet>, AllocError>
+    ensures { IfOk result (λ v. (b q : ℕ) → reads_at v.items b q 0 ≡ rules_read (map shape_of rules.now) b q 0) }
 {
-    let mut base = 0;
+    let mut letters = Vec::new(alloc);
     for rule in rules {
-        base = mark(&rule.head, byte, base, mask);
+        list(&rule.head, &mut letters)?;
         if let Some(trail) = &rule.trail {
-            base = mark(trail, byte, base, mask);
+            list(trail, &mut letters)?;
         }
     }
+    Ok(letters)
+}
+
+/// Which positions read the byte, by the bytes that each one reads.
+pub(crate) fn mask_of(alloc: Global, letters: &[ByteSet], byte: u8) -> Result<Vec<bool>, AllocError>
+    ensures { IfOk result (λ v. (q : ℕ) → flag v.items q ≡ reads_at letters.now byte q 0) }
+{
+    let mut mask = Vec::with_capacity(alloc, letters.len())?;
+    for set in letters {
+        mask.push(set.contains(byte))?;
+    }
+    Ok(mask)
 }

@@ -13,7 +13,7 @@ ghost use Rattle.lexauto.specs.Moving.{AreMasks, AreTwins, masks_in, mask_at, fo
 use crate::explore::Moves;
 use crate::following::walk;
 use crate::owners::{Owner, owners_of};
-use crate::readers::mark_rules;
+use crate::readers::{letters_of, mask_of};
 use crate::rules::{LaidRule, Walked, lay_rules};
 use crate::sets::{are_marked_alike, last_key};
 use lexspec::Spec;
@@ -46,15 +46,13 @@ pub(crate) struct RuleMoves<'a> {
 }
 
 /// For each byte the positions that read it.
-fn masks_of(alloc: Global, rules: &[LaidRule], count: usize) -> Result<Vec<Vec<bool>>, AllocError>
-    requires within { all_positions (map shape_of rules.now) ≤ count }
-    requires few { count < 2 ^ 32 }
+fn masks_of(alloc: Global, rules: &[LaidRule]) -> Result<Vec<Vec<bool>>, AllocError>
     ensures { IfOk result (λ v. AreMasks (map shape_of rules.now) (masks_in v.items)) }
 {
+    let letters = letters_of(alloc, rules)?;
     let mut masks = Vec::new(alloc);
     for byte in 0..256usize {
-        let mut mask = vec![in alloc; false; count]?;
-        mark_rules(rules, byte as u8, &mut mask);
+        let mask = mask_of(alloc, &letters, byte as u8)?;
         masks.push(mask)?;
     }
     Ok(masks)
@@ -99,7 +97,7 @@ impl<'a> RuleMoves<'a> {
     {
         let rules = lay_rules(alloc, spec.rules())?;
         let owners = owners_of(alloc, &rules)?;
-        let masks = masks_of(alloc, &rules, count)?;
+        let masks = masks_of(alloc, &rules)?;
         let twins = twins_of(alloc, &masks)?;
         Ok(RuleMoves {
             spec,

@@ -3,6 +3,7 @@ pub mod Parts
 pub mod Merged
 pub mod Orders
 pub mod Counted
+pub mod Stretched
 pub mod Searched
 pub mod Starting
 pub mod Entered

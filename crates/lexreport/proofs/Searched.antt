@@ -1,5 +1,5 @@
 -- The steps of a search.
-use Rattle.std.proofs.Common.{◌≡◌, ◌⊎◌, ◌<◌, ◌≤◌, ◌+◌, ◌*◌, ℕ, zero, suc, List, [], ◌∷◌, ◌++◌, length, get_or, set, take, Option, Some, None, true, false, inl, inr, sym, ap, refl, ◌∙◌, subst, arith, append_assoc, append-nil}
+use Rattle.std.proofs.Common.{◌≡◌, ◌⊎◌, ◌<◌, ◌≤◌, ◌+◌, ◌*◌, ℕ, zero, suc, List, [], ◌∷◌, ◌++◌, length, get_or, set, map, take, Option, Some, None, true, false, inl, inr, sym, ap, refl, ◌∙◌, subst, arith, append_assoc, append-nil}
 use Rattle.std.specs.Option.{is_some}
 use Rattle.std.proofs.lemmas.Bool.{cases_lt, cases_eq}
 use Rattle.std.proofs.lemmas.List.{length_push, length-set, get_or_append_left, get_or_push, get_or-set_same, get_or-set_other, take_more}
@@ -8,8 +8,8 @@ use Rattle.lexdfa.specs.Parts.{states}
 use Rattle.lexdfa.specs.declared.dfa.Parts.{Parts}
 use Rattle.lexreport.specs.BackWords.{Before, NotAfter}
 use Rattle.lexreport.specs.Counting.{step, walk, IsStart, LeadsTo}
-use Rattle.lexreport.specs.Searching.{at, place_of, unfound, words_of, states_of_groups, IsPlaced, IsPast, AllBefore, IsAt, IsUpTo, AreFound, AreSeen}
-use Rattle.lexreport.specs.declared.search.Group.{Group}
+use Rattle.lexreport.specs.Searching.{at, place_of, unfound, word_in, IsPlaced, IsPast, AllBefore, IsAt, IsUpTo, AreFound, AreSeen}
+use Rattle.lexreport.specs.declared.groups.Group.{Group}
 use Rattle.lexreport.proofs.Accepting.{among_push}
 use Rattle.lexreport.proofs.Orders.{empty_before, before_trans, before_longer, before_last, not_after_longer, not_after_trans}
 use Rattle.lexreport.proofs.Counted.{leads_more}
@@ -273,12 +273,12 @@ first_up_to p words found old places starts ws fs all are known none first only 
       | inr s ↦ (let z = s.0 in (omega (arith, z), subst (λ i. Among (at (starts ∷ []) i) x) (sym s.0) s.1))
     ]
 
-pub words_at : (gs : List Group) (k : ℕ) (g : Group) → k < length gs → g ≡ get_or gs k g → at (words_of gs) k ≡ g.word.items
-words_at [] k g h e = absurd (omega (arith, h))
-words_at (x ∷ gs) zero g h e = ap (λ (y : Group). y.word.items) (sym e)
-words_at (x ∷ gs) (suc k) g h e = words_at gs k g (omega (arith, h)) e
+pub group_at : (gs : List Group) (text : List ℕ) (k : ℕ) (g : Group) → k < length gs → g ≡ get_or gs k g → get_or (map (word_in text) gs) k [] ≡ word_in text g
+group_at [] text k g h e = absurd (omega (arith, h))
+group_at (x ∷ gs) text zero g h e = ap (word_in text) (sym e)
+group_at (x ∷ gs) text (suc k) g h e = group_at gs text k g (omega (arith, h)) e
 
-pub states_at : (gs : List Group) (k : ℕ) (g : Group) → k < length gs → g ≡ get_or gs k g → at (states_of_groups gs) k ≡ g.states.items
+pub states_at : (gs : List Group) (k : ℕ) (g : Group) → k < length gs → g ≡ get_or gs k g → get_or (map (λ (y : Group). y.states.items) gs) k [] ≡ g.states.items
 states_at [] k g h e = absurd (omega (arith, h))
 states_at (x ∷ gs) zero g h e = ap (λ (y : Group). y.states.items) (sym e)
 states_at (x ∷ gs) (suc k) g h e = states_at gs k g (omega (arith, h)) e

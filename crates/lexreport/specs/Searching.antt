@@ -1,12 +1,13 @@
 -- A search for the first word that leads to each state, in groups: a word, and the states that it is the first to lead to.
 -- (This project's.)
-use Rattle.std.specs.Prelude.{◌≡◌, ℕ, suc, ◌⊎◌, ◌+◌, ◌*◌, ◌<◌, ◌≤◌, List, [], ◌∷◌, ◌++◌, length, map, take, Option, Some, None, slice_index_or}
+use Rattle.std.specs.Prelude.{◌≡◌, ℕ, suc, ◌⊎◌, ◌+◌, ◌-◌, ◌*◌, ◌<◌, ◌≤◌, List, [], ◌∷◌, ◌++◌, length, map, take, drop, Option, Some, None, slice_index_or}
 use Rattle.lexmeaning.specs.Text.{Among}
 use Rattle.lexdfa.specs.Parts.{states}
 use Rattle.lexdfa.specs.declared.dfa.Parts.{Parts}
 use Rattle.lexreport.specs.BackWords.{Before, NotAfter}
 use Rattle.lexreport.specs.Counting.{step, IsStart, LeadsTo}
-use Rattle.lexreport.specs.declared.search.Group.{Group}
+use Rattle.lexreport.specs.declared.groups.Group.{Group}
+use Rattle.lexreport.specs.declared.groups.Groups.{Groups}
 
 -- an element of a list of lists
 abbrev pub at : List (List ℕ) → ℕ → List ℕ
@@ -16,11 +17,14 @@ at ls j = slice_index_or ls j []
 abbrev pub place_of : List (Option ℕ) → ℕ → Option ℕ
 place_of places x = slice_index_or places x None
 
-abbrev pub words_of : List Group → List (List ℕ)
-words_of groups = map (λ g. g.word.items) groups
+abbrev pub word_in : List ℕ → Group → List ℕ
+word_in text g = take (g.end - g.start) (drop g.start text)
 
-abbrev pub states_of_groups : List Group → List (List ℕ)
-states_of_groups groups = map (λ g. g.states.items) groups
+abbrev pub words_of : Groups → List (List ℕ)
+words_of groups = map (λ g. word_in groups.text.items g) groups.groups.items
+
+abbrev pub states_of_groups : Groups → List (List ℕ)
+states_of_groups groups = map (λ g. g.states.items) groups.groups.items
 
 -- how many states were not found yet
 abbrev pub unfound : List (Option ℕ) → ℕ

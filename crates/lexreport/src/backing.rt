@@ -29,7 +29,7 @@ pub fn backing_up(alloc: Global, dfa: &Dfa) -> Result<Vec<BackUp>, OutOfMemory>
 
 /// The states that go on and accept nothing, of those that were found after two bytes or more.
 fn entries(alloc: Global, dfa: &Dfa, found: &Found) -> Result<Vec<BackUp>, AllocError>
-    requires { AreFound dfa.now.parts (words_of found.now.groups.items) found.now.places.items }
+    requires { AreFound dfa.now.parts (words_of found.now.groups) found.now.places.items }
     ensures ascending { IfOk result (λ v. Ascending (states_in v.items)) }
     ensures states { IfOk result (λ v. (s : ℕ) → Among (states_in v.items) s ↔ BacksUp dfa.now.parts s) }
     ensures words { IfOk result (λ v. (e : BackUp) → Among v.items e → IsFirstWord dfa.now.parts e.state e.word.items) }
@@ -45,7 +45,7 @@ fn entries(alloc: Global, dfa: &Dfa, found: &Found) -> Result<Vec<BackUp>, Alloc
 
 /// The entry of a state, if it backs up.
 fn entry(alloc: Global, dfa: &Dfa, found: &Found, state: u32) -> Result<Option<BackUp>, AllocError>
-    requires found { AreFound dfa.now.parts (words_of found.now.groups.items) found.now.places.items }
+    requires found { AreFound dfa.now.parts (words_of found.now.groups) found.now.places.items }
     requires known { state < states_of dfa.now }
     ensures { IfOk result (λ o. IsEntry dfa.now.parts state o) }
 {
@@ -55,7 +55,7 @@ fn entry(alloc: Global, dfa: &Dfa, found: &Found, state: u32) -> Result<Option<B
     match found.places[3 * state as usize + 2] {
         None => Ok(None),
         Some(place) => {
-            let word = Vec::from_slice(alloc, &found.groups[place].word)?;
+            let word = Vec::from_slice(alloc, found.groups.word(place))?;
             Ok(Some(BackUp { state, word }))
         }
     }

@@ -3,10 +3,12 @@
 
 mod backing;
 mod backup;
+mod groups;
 mod merging;
 mod search;
 mod useless;
 mod warned;
+mod words;
 mod writing;
 
 pub use backing::backing_up;

@@ -6,31 +6,25 @@ ghost use Rattle.lexdfa.specs.Automata.{states_of};
 ghost use Rattle.lexreport.specs.Counting.{step, IsStart};
 ghost use Rattle.lexreport.specs.Searching.{place_of, words_of, states_of_groups, unfound, IsAt, IsUpTo, AreFound};
 
+use crate::groups::Groups;
 use lexdfa::Dfa;
 use std::alloc::{AllocError, Global};
-
-/// A word, and the states that it is the first to lead to.
-#[derive(Drop)]
-pub(crate) struct Group {
-    pub word: Vec<u8>,
-    pub states: Vec<u32>,
-}
 
 /// Groups in the order of their words, and for each state the place of the group that it is in.
 #[derive(Drop)]
 pub(crate) struct Found {
-    pub groups: Vec<Group>,
+    pub groups: Groups,
     pub places: Vec<Option<usize>>,
 }
 
 /// The states that are reached, each with its first word.
 pub(crate) fn search(alloc: Global, dfa: &Dfa) -> Result<Found, AllocError>
-    ensures { IfOk result (λ f. AreFound dfa.now.parts (words_of f.groups.items) f.places.items) }
+    ensures { IfOk result (λ f. AreFound dfa.now.parts (words_of f.groups) f.places.items) }
 {
     let mut places = vec![in alloc; None; 3 * dfa.len() as usize]?;
     let mut groups = first_group(alloc, dfa, &mut places)?;
     let mut place = 0;
-    while place < groups.len() {
+    while place < groups.groups.len() {
         expand(alloc, dfa, &mut groups, &mut places, place)?;
         place += 1;
     }
@@ -42,15 +36,14 @@ fn first_group(
     alloc: Global,
     dfa: &Dfa,
     places: &mut Vec<Option<usize>>,
-) -> Result<Vec<Group>, AllocError>
+) -> Result<Groups, AllocError>
     requires len { length places.old.items ≡ 3 * states_of dfa.now }
     requires none { (x : ℕ) → place_of places.old.items x ≡ None }
-    ensures { IfOk result (λ v. IsUpTo dfa.now.parts (words_of v.items) (states_of_groups v.items) places.new.items 0) }
+    ensures { IfOk result (λ g. IsUpTo dfa.now.parts (words_of g) (states_of_groups g) places.new.items 0) }
 {
     let states = starts(alloc, dfa)?;
     put_first(places, &states);
-    let word = Vec::new(alloc);
-    let groups = vec![in alloc; Group { word, states }]?;
+    let groups = Groups::first(alloc, states)?;
     Ok(groups)
 }
 
@@ -82,13 +75,13 @@ fn starts(alloc: Global, dfa: &Dfa) -> Result<Vec<u32>, AllocError>
 fn expand(
     alloc: Global,
     dfa: &Dfa,
-    groups: &mut Vec<Group>,
+    groups: &mut Groups,
     places: &mut Vec<Option<usize>>,
     place: usize,
 ) -> Result<(), AllocError>
-    requires here { IsAt dfa.now.parts (words_of groups.old.items) (states_of_groups groups.old.items) places.old.items place 0 }
-    ensures up_to { OnOk result (IsUpTo dfa.now.parts (words_of groups.new.items) (states_of_groups groups.new.items) places.new.items (place + 1)) }
-    ensures fewer { OnOk result (length groups.new.items + unfound places.new.items ≤ length groups.old.items + unfound places.old.items) }
+    requires here { IsAt dfa.now.parts (words_of groups.old) (states_of_groups groups.old) places.old.items place 0 }
+    ensures up_to { OnOk result (IsUpTo dfa.now.parts (words_of groups.new) (states_of_groups groups.new) places.new.items (place + 1)) }
+    ensures fewer { OnOk result (length groups.new.groups.items + unfound places.new.items ≤ length groups.old.groups.items + unfound places.old.items) }
 {
     for byte in 0..256u32 {
         visit(alloc, dfa, groups, places, place, byte as u8)?;
@@ -100,22 +93,21 @@ fn expand(
 fn visit(
     alloc: Global,
     dfa: &Dfa,
-    groups: &mut Vec<Group>,
+    groups: &mut Groups,
     places: &mut Vec<Option<usize>>,
     place: usize,
     byte: u8,
 ) -> Result<(), AllocError>
-    requires here { IsAt dfa.now.parts (words_of groups.old.items) (states_of_groups groups.old.items) places.old.items place byte }
-    ensures next { OnOk result (IsAt dfa.now.parts (words_of groups.new.items) (states_of_groups groups.new.items) places.new.items place (byte + 1)) }
-    ensures fewer { OnOk result (length groups.new.items + unfound places.new.items ≤ length groups.old.items + unfound places.old.items) }
+    requires here { IsAt dfa.now.parts (words_of groups.old) (states_of_groups groups.old) places.old.items place byte }
+    ensures next { OnOk result (IsAt dfa.now.parts (words_of groups.new) (states_of_groups groups.new) places.new.items place (byte + 1)) }
+    ensures fewer { OnOk result (length groups.new.groups.items + unfound places.new.items ≤ length groups.old.groups.items + unfound places.old.items) }
 {
-    let next = groups.len();
-    let states = unseen(alloc, dfa, &groups[place].states, byte, places, next)?;
+    let next = groups.groups.len();
+    let states = unseen(alloc, dfa, &groups.groups[place].states, byte, places, next)?;
     if states.is_empty() {
         return Ok(());
     }
-    let word = longer(alloc, &groups[place].word, byte)?;
-    groups.push(Group { word, states })?;
+    groups.add(alloc, place, byte, states)?;
     Ok(())
 }
 
@@ -155,13 +147,4 @@ fn next(dfa: &Dfa, state: u32, byte: u8) -> u32
     ensures known { result < 3 * states_of dfa.now }
 {
     3 * dfa.next(state / 3, byte) + (state % 3 + 1).min(2)
-}
-
-/// A word with one byte more.
-fn longer(alloc: Global, word: &[u8], byte: u8) -> Result<Vec<u8>, AllocError>
-    ensures { IfOk result (λ v. v.items ≡ word.now ++ byte ∷ []) }
-{
-    let mut longer = Vec::from_slice(alloc, word)?;
-    longer.push(byte)?;
-    Ok(longer)
 }

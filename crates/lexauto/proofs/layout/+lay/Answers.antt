@@ -86,3 +86,8 @@ lay_node-returns-in_ok-part-in-Repeat-clause-alike t c =
     let alike : Alike (Repeat own m n) (tree_of c.args.pattern.now) = subst (λ (u : Tree). Alike (Repeat own m n) u) is (alike_repeat m n own inner c.in_ok-part-in-Repeat.ensures.alike) in
     if_ok_by c.repeat.result (λ p. Alike (tree_in (plan_of p)) (Repeat own m n)) (λ p. Alike (tree_in (plan_of p)) (tree_of c.args.pattern.now))
     (λ p h. alike_on (tree_in (plan_of p)) (Repeat own m n) (tree_of c.args.pattern.now) h alike) c.repeat.ensures.alike
+
+pub lay_part-returns-then-is_bare-clause-alike : goal.lay_part-returns-then-is_bare-clause-alike
+lay_part-returns-then-is_bare-clause-alike t c =
+    let a = alike_nothing (tree_of c.args.pattern.now) c.requires.sound (c.is_bare.ensures c.if-is_bare.true) in
+    search (rules, L.the_lemmas, a)

@@ -4,6 +4,6 @@ use Rattle.lexreport.proofs.search.expand.Given as goal
 
 abbrev pub invariant-loop-byte : goal.invariant-loop-byte
 invariant-loop-byte l = record {
-  here : IsAt l.dfa.parts (words_of l.groups.items) (states_of_groups l.groups.items) l.places.items l.place l.byte;
-  fewer : length l.groups.items + unfound l.places.items ≤ length l.fn.groups.items + unfound l.fn.places.items;
+  here : IsAt l.dfa.parts (words_of l.groups) (states_of_groups l.groups) l.places.items l.place l.byte;
+  fewer : length l.groups.groups.items + unfound l.places.items ≤ length l.fn.groups.groups.items + unfound l.fn.places.items;
 }

@@ -11,9 +11,8 @@ returns c =
     let p = c.args.dfa.now.parts in
     let starts = c.deref.result.now in
     let are = subst (λ (l : List ℕ). (x : ℕ) → Among l x ↔ IsStart p x) (sym c.deref.ensures.value) c.in_ok-states.ensures in
-    let items = c.in_ok-groups.ensures.items in
-    first_up_to p (words_of c.in_ok-groups.groups.items) (states_of_groups c.in_ok-groups.groups.items) c.args.places.now.items c.put_first.new.places.items starts
-    (ap words_of items ∙ ap (λ (l : List ℕ). l ∷ []) c.new-word.ensures.items)
-    (ap states_of_groups items ∙ ap (λ (l : List ℕ). l ∷ []) (sym c.deref.ensures.value))
+    let groups = c.in_ok-groups.ensures in
+    first_up_to p (words_of c.in_ok-groups.groups) (states_of_groups c.in_ok-groups.groups) c.args.places.now.items c.put_first.new.places.items starts
+    groups.words (groups.states ∙ ap (λ (l : List ℕ). l ∷ []) (sym c.deref.ensures.value))
     (c.put_first.ensures.len ∙ c.requires.len)
     are (λ x m. starts_known p c.args.dfa.now.lawful x ((are x).0 m)) c.requires.none c.put_first.ensures.first c.put_first.ensures.only
