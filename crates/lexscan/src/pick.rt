@@ -1,5 +1,5 @@
 //! The longest match at a place, without the states before its last two.
-ghost use Rattle.std.specs.Prelude.{◌≡◌, ℕ, ◌+◌, ◌-◌, ◌^◌, ◌<◌, ◌≤◌, List, [], length, filter_map, true, false, OnOk, OnErr, IfOk, IfErr, IfSome, ◌⊎◌};
+ghost use Rattle.std.specs.Prelude.{◌≡◌, ℕ, ◌+◌, ◌-◌, ◌^◌, ◌<◌, ◌≤◌, List, [], length, filter_map, true, false, OnOk, OnErr, IfOk, IfErr, IfSome};
 ghost use Rattle.lexmeaning.specs.Text.{Among};
 ghost use Rattle.lexmeaning.specs.PlainMachine.{match_of};
 ghost use Rattle.lexmeaning.specs.Trail.{falling};
@@ -23,13 +23,6 @@ pub struct Seen {
     pub reach: usize,
     pub state: u32,
     pub before: u32,
-}
-
-/// A state, and how many bytes lead to it.
-#[derive(Clone, Copy)]
-struct End {
-    state: u32,
-    len: usize,
 }
 
 /// A match: its rule, and how many bytes it keeps.
@@ -84,32 +77,6 @@ fn walk_again<M: Machine>(machine: &M, window: &Window, spot: Spot, reach: usize
     best
 }
 
-/// The last of the two states, or the one before it where no rule is accepted there, and how many bytes lead to it.
-#[inline(always)]
-fn likely_end<M: Machine>(machine: &M, seen: Seen) -> End
-    requires some { 1 ≤ seen.reach }
-    requires known { seen.state < M.states machine.now }
-    requires known_before { seen.before < M.states machine.now }
-
-    ensures end { ((result.state ≡ seen.state) × (result.len ≡ seen.reach))
-        ⊎ (((M.machine machine.now).accepts seen.state ≡ []) × (result.state ≡ seen.before) × (result.len ≡ seen.reach - 1)) }
-    ensures known { result.state < M.states machine.now }
-    ensures short { result.len ≤ seen.reach }
-{
-    // Both are at hand, so nothing is to be guessed.
-    if machine.accepts(seen.state).is_empty() {
-        End {
-            state: seen.before,
-            len: seen.reach - 1,
-        }
-    } else {
-        End {
-            state: seen.state,
-            len: seen.reach,
-        }
-    }
-}
-
 /// The longest match of the bytes that were asked for: mostly the last state accepts, or the one before it.
 #[inline]
 pub fn longest<M: Machine>(machine: &M, window: &Window, spot: Spot, seen: Seen) -> Option<Pick>
@@ -120,14 +87,17 @@ pub fn longest<M: Machine>(machine: &M, window: &Window, spot: Spot, seen: Seen)
     ensures known { IfSome result (λ pick. pick.rule < (M.machine machine.now).count) }
     ensures short { IfSome result (λ pick. pick.keep ≤ seen.reach) }
 {
-    let end = likely_end(machine, seen);
-    if end.len == 0 {
-        return None;
-    }
-    if let Some(pick) = first_fit(machine, machine.accepts(end.state), end.len) {
+    let len = seen.reach;
+    if let Some(pick) = first_fit(machine, machine.accepts(seen.state), len) {
         return Some(pick);
     }
-    walk_again(machine, window, spot, seen.reach)
+    if len == 1 {
+        return None;
+    }
+    if let Some(pick) = first_fit(machine, machine.accepts(seen.before), len - 1) {
+        return Some(pick);
+    }
+    walk_again(machine, window, spot, len)
 }
 
 /// Carries out this match, or the default match where there is none. Answers how the scan ends, if it does.
