@@ -4,6 +4,8 @@
 
 #[cfg(test)]
 mod arguments;
+#[cfg(test)]
+mod building;
 pub mod caller;
 #[cfg(test)]
 mod examples;
@@ -23,6 +25,8 @@ mod refused;
 mod reports;
 #[cfg(test)]
 mod row;
+#[cfg(test)]
+mod scanning;
 #[cfg(test)]
 mod scans;
 #[cfg(test)]

@@ -1,15 +1,8 @@
 //! The machine of a small specification, call by call.
-use crate::row::PLAIN;
-use lexauto::{Limits, build};
+use crate::building::{built, read};
 use lexmachine::{Cut, Machine, Statement};
 use lexpack::Plain;
-use lexspec::read_spec;
 use std::test::Fail;
-
-const MOST: Limits = Limits {
-    positions: 16_384,
-    states: 8_192,
-};
 
 const TEXT: &[u8] =
     b"%x C\n%%\nab/c ECHO; exit(3);\n^a BEGIN(C);\n<C><<EOF>> puts(\"open\"); exit(2);\n";
@@ -17,8 +10,8 @@ const TEXT: &[u8] =
 #[test]
 fn tells_of_the_automaton_and_the_actions(rt: HostRuntime) -> Result<(), Fail> {
     let alloc = rt.alloc();
-    let spec = read_spec(alloc, TEXT, PLAIN)?;
-    let automaton = build(alloc, &spec, MOST)?;
+    let spec = read(alloc, TEXT)?;
+    let automaton = built(alloc, &spec)?;
     let machine = Plain::new(&automaton, &spec);
     assert!(rt; !machine.rejects());
     if spec.conditions().len() == 2 {
@@ -44,8 +37,8 @@ fn tells_of_the_automaton_and_the_actions(rt: HostRuntime) -> Result<(), Fail> {
 #[test]
 fn tells_of_rules(rt: HostRuntime) -> Result<(), Fail> {
     let alloc = rt.alloc();
-    let spec = read_spec(alloc, TEXT, PLAIN)?;
-    let automaton = build(alloc, &spec, MOST)?;
+    let spec = read(alloc, TEXT)?;
+    let automaton = built(alloc, &spec)?;
     let machine = Plain::new(&automaton, &spec);
     if spec.rules().len() == 2 {
         let (cut, statements) = machine.rule(0);
@@ -61,8 +54,8 @@ fn tells_of_rules(rt: HostRuntime) -> Result<(), Fail> {
 #[test]
 fn a_machine_may_have_no_rules(rt: HostRuntime) -> Result<(), Fail> {
     let alloc = rt.alloc();
-    let spec = read_spec(alloc, b"%%\n", PLAIN)?;
-    let automaton = build(alloc, &spec, MOST)?;
+    let spec = read(alloc, b"%%\n")?;
+    let automaton = built(alloc, &spec)?;
     let machine = Plain::new(&automaton, &spec);
     if spec.conditions().len() == 1 {
         let start = machine.start(0, false);

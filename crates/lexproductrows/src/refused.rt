@@ -1,19 +1,12 @@
 //! What stays where memory is refused. No request is refused in these tests themselves: `scripts/refuse-memory.py` runs each of
 //! them with the first request refused, then the second, and so on. A run must then end well, or fail with the name of an
 //! error that says that memory ran out.
-use crate::row::PLAIN;
-use lexauto::{Limits, build};
+use crate::building::{built, read};
 use lexkit::{ArgsError, MemorySink, MemorySource, RunError, Sink, read_args};
 use lexpack::Plain;
 use lexscan::{Scanner, Turn, Window, run};
-use lexspec::read_spec;
 use std::alloc::Global;
 use std::test::Fail;
-
-const MOST: Limits = Limits {
-    positions: 16_384,
-    states: 8_192,
-};
 
 /// Each match is given back but for a letter.
 const LETTERS: &str = "%%\n[a-z]+ yyless(1);\n";
@@ -25,8 +18,8 @@ const INPUT: &[u8] = b"abcdefghijklmnopqrstuvwxyzabcdefghijklmn";
 #[test]
 fn refused_turns(rt: HostRuntime) -> Result<(), Fail> {
     let alloc = rt.alloc();
-    let spec = read_spec(alloc, LETTERS.as_bytes(), PLAIN)?;
-    let automaton = build(alloc, &spec, MOST)?;
+    let spec = read(alloc, LETTERS.as_bytes())?;
+    let automaton = built(alloc, &spec)?;
     let machine = Plain::new(&automaton, &spec);
     let mut source = MemorySource::new(INPUT);
     let mut sink = MemorySink::new(alloc);
@@ -49,8 +42,8 @@ fn refused_turns(rt: HostRuntime) -> Result<(), Fail> {
 #[test]
 fn refused_run(rt: HostRuntime) -> Result<(), Fail> {
     let alloc = rt.alloc();
-    let spec = read_spec(alloc, LETTERS.as_bytes(), PLAIN)?;
-    let automaton = build(alloc, &spec, MOST)?;
+    let spec = read(alloc, LETTERS.as_bytes())?;
+    let automaton = built(alloc, &spec)?;
     let machine = Plain::new(&automaton, &spec);
     let mut source = MemorySource::new(INPUT);
     let mut sink = MemorySink::new(alloc);

@@ -1,10 +1,13 @@
 //! Small scans by specifications, their faults and refusals.
 ghost use Rattle.std.specs.Prelude.{◌≤◌};
 
+use crate::row::PLAIN;
+use crate::scanning::{Failing, scanned};
 use lexkit::{
     BuildError, GenError, Limits, MemorySink, MemorySource, Options, PatternError,
     PatternErrorKind, RunError, ScanError, SpecError, SpecErrorKind, scan_spec,
 };
+use lexspec::ReadOptions;
 use std::alloc::Global;
 
 // Whether letters stand for both cases, a specification, an input, and what is written.
@@ -114,22 +117,10 @@ const SCANS: [(bool, &[u8], &[u8], &[u8]); 26] = [
 
 #[test]
 fn scans_by_a_text(rt: HostRuntime) {
-    let alloc = rt.alloc();
     for &(fold, text, input, want) in &SCANS {
-        let mut source = MemorySource::new(input);
-        let mut sink = MemorySink::new(alloc);
-        let got = scan_spec(
-            alloc,
-            text,
-            Options {
-                fold,
-                ..Options::new()
-            },
-            &mut source,
-            &mut sink,
-        );
-        assert!(rt; got == Ok(0), "{got:?}");
-        assert_eq!(rt; sink.written(), want);
+        let how = ReadOptions { fold, ..PLAIN };
+        let scan = scanned(rt.alloc(), text, how, input, Failing::Never);
+        assert!(rt; scan.does(Ok(0), want));
     }
 }
 
@@ -137,74 +128,58 @@ fn scans_by_a_text(rt: HostRuntime) {
 #[test]
 fn answers_nested_stars(rt: HostRuntime) {
     const LETTERS: [u8; 1_000] = [b'a'; 1_000];
-    let mut source = MemorySource::new(&LETTERS);
-    let mut sink = MemorySink::new(rt.alloc());
     let text = b"%%\n(a*)*b printf(\"B\");\na+ printf(\"A\");\n";
-    let got = scan_spec(rt.alloc(), text, Options::new(), &mut source, &mut sink);
-    assert!(rt; got == Ok(0), "{got:?}");
-    assert_eq!(rt; sink.written(), b"A".as_slice());
+    let scan = scanned(rt.alloc(), text, PLAIN, &LETTERS, Failing::Never);
+    assert!(rt; scan.does(Ok(0), b"A"));
 }
 
 const KEYS: &[u8] = b"%%\nif printf(\"K\");\n[0-9][0-9] printf(\"N\");\n";
 
+// Where a scan fails, how, and what is written.
+const STOPS: &[(Failing, RunError, &[u8])] = &[
+    (Failing::Read(0), RunError::Read, b""),
+    (Failing::Read(1), RunError::Read, b""),
+    (Failing::Read(2), RunError::Read, b"K"),
+    (Failing::Read(3), RunError::Read, b"K "),
+    (Failing::Read(4), RunError::Read, b"K "),
+    (Failing::Read(5), RunError::Read, b"K N"),
+    (Failing::Read(6), RunError::Read, b"K N "),
+    (Failing::Read(7), RunError::Read, b"K N x"),
+    (Failing::Write(0), RunError::Write, b""),
+    (Failing::Write(1), RunError::Write, b"K"),
+    (Failing::Write(2), RunError::Write, b"K "),
+    (Failing::Write(3), RunError::Write, b"K N"),
+    (Failing::Write(4), RunError::Write, b"K N "),
+];
+
 #[test]
 fn stops_at_faults(rt: HostRuntime) {
-    let alloc = rt.alloc();
-    for &(place, written) in &[
-        (0usize, ""),
-        (1, ""),
-        (2, "K"),
-        (3, "K "),
-        (4, "K "),
-        (5, "K N"),
-        (6, "K N "),
-        (7, "K N x"),
-    ] {
-        let mut source = MemorySource::failing_after(b"if 42 x", place);
-        let mut sink = MemorySink::new(alloc);
-        let got = scan_spec(alloc, KEYS, Options::new(), &mut source, &mut sink);
-        assert!(rt; got == Err(ScanError::Run(RunError::Read)), "{got:?}");
-        assert_eq!(rt; sink.written(), written.as_bytes());
+    for &(failing, error, written) in STOPS {
+        let scan = scanned(rt.alloc(), KEYS, PLAIN, b"if 42 x", failing);
+        assert!(rt; scan.does(Err(ScanError::Run(error)), written));
     }
-    for place in 0..5usize {
-        let mut source = MemorySource::new(b"if 42 x");
-        let mut sink = MemorySink::failing_after(alloc, place);
-        let got = scan_spec(alloc, KEYS, Options::new(), &mut source, &mut sink);
-        assert!(rt; got == Err(ScanError::Run(RunError::Write)), "{got:?}");
-        assert_eq!(rt; sink.written(), &b"K N x"[..place]);
-    }
-    let mut source = MemorySource::new(b"if");
-    let mut sink = MemorySink::failing_flush(alloc);
-    let got = scan_spec(alloc, KEYS, Options::new(), &mut source, &mut sink);
-    assert!(rt; got == Err(ScanError::Run(RunError::Write)), "{got:?}");
-    assert_eq!(rt; sink.written(), b"K".as_slice());
+    let scan = scanned(rt.alloc(), KEYS, PLAIN, b"if", Failing::Flush);
+    assert!(rt; scan.does(Err(ScanError::Run(RunError::Write)), b"K"));
 }
 
 /// The stack holds 255 conditions; a push past them ends the scan, and so does a pop where there is none.
 #[test]
 fn stops_at_faults_of_the_stack(rt: HostRuntime) {
     const LETTERS: [u8; 256] = [b'a'; 256];
-    let alloc = rt.alloc();
-    let pushes = b"%option stack\n%%\na yy_push_state(0);\n";
-    let pops = b"%option stack\n%%\na printf(\"A\"); yy_pop_state(); printf(\"B\");\n";
     let stack = Err(ScanError::Run(RunError::Stack));
-    let rows: [(&[u8], &[u8], Result<u8, ScanError>, &[u8]); 3] = [
-        (pushes, &LETTERS[..255], Ok(0), b""),
-        (pushes, &LETTERS, stack, b""),
-        (pops, b"xa", stack, b"xA"),
-    ];
-    for &(text, input, want, written) in &rows {
-        let mut source = MemorySource::new(input);
-        let mut sink = MemorySink::new(alloc);
-        let got = scan_spec(alloc, text, Options::new(), &mut source, &mut sink);
-        assert!(rt; got == want, "{got:?}");
-        assert_eq!(rt; sink.written(), written);
-    }
-    let mut source = MemorySource::new(b"a");
-    let mut sink = MemorySink::failing_flush(alloc);
-    let got = scan_spec(alloc, pops, Options::new(), &mut source, &mut sink);
-    assert!(rt; got == Err(ScanError::Run(RunError::Write)), "{got:?}");
+    let scan = scanned(rt.alloc(), PUSHES, PLAIN, &LETTERS[..255], Failing::Never);
+    assert!(rt; scan.does(Ok(0), b""));
+    let scan = scanned(rt.alloc(), PUSHES, PLAIN, &LETTERS, Failing::Never);
+    assert!(rt; scan.does(stack, b""));
+    let scan = scanned(rt.alloc(), POPS, PLAIN, b"xa", Failing::Never);
+    assert!(rt; scan.does(stack, b"xA"));
+    let scan = scanned(rt.alloc(), POPS, PLAIN, b"a", Failing::Flush);
+    assert!(rt; scan.answer == Err(ScanError::Run(RunError::Write)));
 }
+
+const PUSHES: &[u8] = b"%option stack\n%%\na yy_push_state(0);\n";
+
+const POPS: &[u8] = b"%option stack\n%%\na printf(\"A\"); yy_pop_state(); printf(\"B\");\n";
 
 // A text that is refused, the line, and what is reported of it.
 const REFUSALS: [(&[u8], u32, SpecErrorKind); 11] = [
@@ -233,18 +208,11 @@ const BAD_INTERVAL: SpecErrorKind = SpecErrorKind::Pattern(PatternError {
 
 #[test]
 fn refuses_by_line(rt: HostRuntime) {
-    let alloc = rt.alloc();
     for &(text, line, kind) in &REFUSALS {
-        let mut source = MemorySource::new(b"a");
-        let mut sink = MemorySink::new(alloc);
-        let got = scan_spec(alloc, text, Options::new(), &mut source, &mut sink);
-        let error = SpecError { line, kind };
-        assert!(rt;
-            got == Err(ScanError::Generate(GenError::Spec(error))),
-            "{got:?}"
-        );
-        assert!(rt; source.calls() == 0, "untouched");
-        assert_eq!(rt; sink.written(), b"".as_slice());
+        let scan = scanned(rt.alloc(), text, PLAIN, b"a", Failing::Never);
+        let error = GenError::Spec(SpecError { line, kind });
+        assert!(rt; scan.answer == Err(ScanError::Generate(error)));
+        assert!(rt; scan.touches_nothing(), "untouched");
     }
 }
 

@@ -1,8 +1,7 @@
 //! Table files byte for byte, and files that are none.
-use lexkit::{
-    MemorySink, MemorySource, Options, ScanError, TableError, WriteFault, generate, read_tables,
-    scan_table, write_tables,
-};
+use crate::row::PLAIN;
+use crate::scanning::{file_of, scanned_by_table};
+use lexkit::{MemorySink, TableError, WriteFault, read_tables, write_tables};
 use std::alloc::{AllocError, Global};
 use std::test::Fail;
 
@@ -86,11 +85,16 @@ fn refusal(alloc: Global, bytes: &[u8]) -> Option<TableError> {
 }
 
 /// Whether a scan of `if iff` by these bytes writes this, with status 0.
-fn writes(alloc: Global, bytes: &[u8], want: &str) -> Result<bool, ScanError> {
-    let mut source = MemorySource::new(b"if iff");
-    let mut sink = MemorySink::new(alloc);
-    let status = scan_table(alloc, bytes, &mut source, &mut sink)?;
-    Ok(status == 0 && sink.written() == want.as_bytes())
+fn writes(alloc: Global, bytes: &[u8], want: &str) -> bool {
+    scanned_by_table(alloc, bytes, b"if iff").does(Ok(0), want.as_bytes())
+}
+
+/// Whether the bytes are a table's, which is written as they are.
+fn is_rewritten(alloc: Global, bytes: &[u8]) -> bool {
+    match rewritten(alloc, bytes) {
+        Ok(sink) => sink.written() == bytes,
+        Err(_) => false,
+    }
 }
 
 /// What is written of the table that is read from the bytes.
@@ -124,15 +128,11 @@ fn files_are_read_and_written(rt: HostRuntime) -> Result<(), Fail> {
         parts.nexts.as_slice(),
         [0, 0, 0, 3, 4, 0, 0, 0, 0].as_slice()
     );
-    let sink = rewritten(alloc, &worked).ok().ok_or("it is written")?;
-    assert_eq!(rt; sink.written(), worked.as_slice());
+    assert!(rt; is_rewritten(alloc, &worked));
 
     let empty = plain(alloc, 0, b"")?;
     assert_eq!(rt; empty.len(), 317);
-    let sink = rewritten(alloc, &empty)
-        .ok()
-        .ok_or("the file of no rules is written")?;
-    assert_eq!(rt; sink.written(), empty.as_slice());
+    assert!(rt; is_rewritten(alloc, &empty));
     Ok(())
 }
 
@@ -151,7 +151,7 @@ fn no_file_is_a_prefix_of_another(rt: HostRuntime) -> Result<(), Fail> {
 #[test]
 fn changed_fields_are_named(rt: HostRuntime) -> Result<(), Fail> {
     let alloc = rt.alloc();
-    let numbers: [(usize, u32); 26] = [
+    let numbers: &[(usize, u32)] = &[
         (8, 0),
         (8, 256),
         (12, 4097),
@@ -179,11 +179,11 @@ fn changed_fields_are_named(rt: HostRuntime) -> Result<(), Fail> {
         (447, 5),
         (451, 1),
     ];
-    for &(at, number) in &numbers {
+    for &(at, number) in numbers {
         let bytes = changed(alloc, at, &number.to_be_bytes())?;
         assert_eq!(rt; refusal(alloc, &bytes), Some(TableError::BadField(at)));
     }
-    let single: [(usize, u8, TableError); 8] = [
+    let single: &[(usize, u8, TableError)] = &[
         (0, b'l', TableError::BadMagic),
         (7, 3, TableError::BadVersion),
         (7, 2, TableError::BadField(6)),
@@ -193,7 +193,7 @@ fn changed_fields_are_named(rt: HostRuntime) -> Result<(), Fail> {
         (71, 4, TableError::BadField(71)),
         (100, 4, TableError::BadField(100)),
     ];
-    for &(at, byte, want) in &single {
+    for &(at, byte, want) in single {
         let bytes = changed(alloc, at, &[byte])?;
         assert_eq!(rt; refusal(alloc, &bytes), Some(want));
     }
@@ -207,18 +207,12 @@ const PARENTHESES: &[u8] =
 #[test]
 fn statements_of_the_stack_need_version_2(rt: HostRuntime) -> Result<(), Fail> {
     let alloc = rt.alloc();
-    let made = generate(alloc, PARENTHESES, Options::new())
-        .ok()
-        .ok_or("the tables are made")?;
-    let mut sink = MemorySink::new(alloc);
-    write_tables(&made.tables, &mut sink)
-        .ok()
-        .ok_or("the file is written")?;
+    let sink = file_of(alloc, PARENTHESES, PLAIN).ok_or("the file is written")?;
     let file = sink.written();
-    assert_eq!(rt; &file[..8], b"LEXTAB\0\x02".as_slice());
-    let again = rewritten(alloc, file).ok().ok_or("the file is a table's")?;
-    assert_eq!(rt; again.written(), file);
+    assert!(rt; file.starts_with(b"LEXTAB\0\x02"));
+    assert!(rt; is_rewritten(alloc, file));
     let mut older = Vec::from_slice(alloc, file)?;
+    assert!(rt; older.len() > 8);
     older[7] = 1;
     assert_eq!(rt; refusal(alloc, &older), Some(TableError::BadField(69)));
     Ok(())
@@ -251,34 +245,23 @@ fn changed_tables_are_read(rt: HostRuntime) -> Result<(), Fail> {
     ];
     for &(at, new, scanned) in rows {
         let bytes = changed(alloc, at, new)?;
-        let sink = rewritten(alloc, &bytes)
-            .ok()
-            .ok_or("the file is a table's")?;
-        assert_eq!(rt; sink.written(), bytes.as_slice());
-        assert_eq!(rt; writes(alloc, &bytes, scanned), Ok(true));
+        assert!(rt; is_rewritten(alloc, &bytes));
+        assert!(rt; writes(alloc, &bytes, scanned));
     }
     Ok(())
 }
 
-/// The file of what a specification spells.
-fn file_of(alloc: Global, text: &str) -> Option<MemorySink> {
-    let made = generate(alloc, text.as_bytes(), Options::new()).ok()?;
-    let mut sink = MemorySink::new(alloc);
-    write_tables(&made.tables, &mut sink).ok()?;
-    Some(sink)
+/// Whether a specification has this file.
+fn has_file(alloc: Global, text: &[u8], file: &[u8]) -> bool {
+    file_of(alloc, text, PLAIN).is_some_and(|made| made.written() == file)
 }
 
 #[test]
 fn files_are_generated(rt: HostRuntime) -> Result<(), Fail> {
     let alloc = rt.alloc();
-    let text = "%%\nif printf(\"K\");\n[a-z]+ printf(\"I\");\n";
-    let file = file_of(alloc, text).ok_or("the file of two rules")?;
-    let worked = worked(alloc)?;
-    assert_eq!(rt; file.written(), worked.as_slice());
-
-    let file = file_of(alloc, "%%\n").ok_or("the file of no rules")?;
-    let plain = plain(alloc, 0, b"")?;
-    assert_eq!(rt; file.written(), plain.as_slice());
+    let text = b"%%\nif printf(\"K\");\n[a-z]+ printf(\"I\");\n";
+    assert!(rt; has_file(alloc, text, &worked(alloc)?));
+    assert!(rt; has_file(alloc, b"%%\n", &plain(alloc, 0, b"")?));
     Ok(())
 }
 
@@ -291,16 +274,15 @@ fn action(alloc: Global, count: u8, statements: &[u8]) -> Result<Vec<u8>, AllocE
 #[test]
 fn actions_are_read(rt: HostRuntime) -> Result<(), Fail> {
     let alloc = rt.alloc();
-    let rows: [(u8, &[u8]); 4] = [
+    let rows: &[(u8, &[u8])] = &[
         (5, b"\0\x01\0\0\0\x02ab\x02\0\x03\x06\x3f"),
         (2, b"\0\x04\xff\xff"),
         (3, b"\x01\0\0\0\x01a\0\x05"),
         (0, b""),
     ];
-    for &(count, statements) in &rows {
+    for &(count, statements) in rows {
         let bytes = action(alloc, count, statements)?;
-        let sink = rewritten(alloc, &bytes).ok().ok_or("the action is legal")?;
-        assert_eq!(rt; sink.written(), bytes.as_slice());
+        assert!(rt; is_rewritten(alloc, &bytes));
     }
     Ok(())
 }
@@ -308,7 +290,7 @@ fn actions_are_read(rt: HostRuntime) -> Result<(), Fail> {
 #[test]
 fn the_tag_of_a_statement_is_named(rt: HostRuntime) -> Result<(), Fail> {
     let alloc = rt.alloc();
-    let rows: [(u8, &[u8], usize); 14] = [
+    let rows: &[(u8, &[u8], usize)] = &[
         // REJECT and the end of a scan before another statement
         (2, b"\x05\0", 50),
         (2, b"\x06\x40\0", 50),
@@ -328,7 +310,7 @@ fn the_tag_of_a_statement_is_named(rt: HostRuntime) -> Result<(), Fail> {
         (1, b"\x06\x40", 51),
         (1, b"\x07", 50),
     ];
-    for &(count, statements, at) in &rows {
+    for &(count, statements, at) in rows {
         let bytes = action(alloc, count, statements)?;
         assert_eq!(rt; refusal(alloc, &bytes), Some(TableError::BadField(at)));
     }
@@ -357,10 +339,7 @@ fn accepting(alloc: Global, first: u8, second: u8) -> Result<Vec<u8>, AllocError
 fn accepted_rules_ascend(rt: HostRuntime) -> Result<(), Fail> {
     let alloc = rt.alloc();
     let bytes = accepting(alloc, 0, 1)?;
-    let sink = rewritten(alloc, &bytes)
-        .ok()
-        .ok_or("both rules are accepted")?;
-    assert_eq!(rt; sink.written(), bytes.as_slice());
+    assert!(rt; is_rewritten(alloc, &bytes));
     for &(first, second) in &[(1, 0), (0, 2), (1, 1)] {
         let bytes = accepting(alloc, first, second)?;
         assert_eq!(rt; refusal(alloc, &bytes), Some(TableError::BadField(344)));
@@ -386,7 +365,7 @@ fn a_prefix_is_written(rt: HostRuntime) -> Result<(), Fail> {
 #[test]
 fn refusals_are_told(rt: HostRuntime) -> Result<(), Fail> {
     let alloc = rt.alloc();
-    let rows = [
+    let rows = &[
         (TableError::BadMagic, "BadMagic"),
         (TableError::BadVersion, "BadVersion"),
         (TableError::Truncated, "Truncated"),
@@ -394,7 +373,7 @@ fn refusals_are_told(rt: HostRuntime) -> Result<(), Fail> {
         (TableError::BadField(28), "BadField at 28"),
         (TableError::OutOfMemory, "OutOfMemory"),
     ];
-    for &(error, words) in &rows {
+    for &(error, words) in rows {
         let told = format!(in alloc; "{error}")?;
         assert_eq!(rt; told.as_str(), words);
     }

@@ -1,53 +1,38 @@
-ghost use Rattle.std.specs.Prelude.{◌≤◌};
-
 use crate::row::{FOLD, Long, PLAIN, POSIX, Row};
+use crate::scanning::{Failing, file_of, scanned, scanned_by_table};
 use crate::{examples, limits, manual, worked};
 use lexkit::{
     ArgsError, Fault, GenError, MemorySink, MemorySource, Options, RunError, ScanError, Source,
-    generate, scan_spec, scan_table, write_fault, write_tables,
+    scan_spec, write_fault,
 };
 use lexspec::ReadOptions;
 use std::alloc::{AllocError, Global};
 use std::process::Abort;
 use std::test::Fail;
 
-/// The options of a call where patterns are read so.
-fn options_of(how: ReadOptions) -> Options
-    ensures few_positions { result.limits.positions ≤ 16384 }
-    ensures few_states { result.limits.states ≤ 8192 }
-{
-    let ReadOptions { fold, posix } = how;
-    Options {
-        fold,
-        posix,
-        ..Options::new()
-    }
-}
-
 /// Whether the scan writes what the row says, and ends with its status.
-fn holds(alloc: Global, how: ReadOptions, row: &Row) -> Result<bool, ScanError> {
+fn holds(alloc: Global, how: ReadOptions, row: &Row) -> bool {
     let (text, input, want, status) = *row;
-    let options = options_of(how);
-    let mut source = MemorySource::new(input.as_bytes());
-    let mut sink = MemorySink::new(alloc);
-    let got = scan_spec(alloc, text.as_bytes(), options, &mut source, &mut sink)?;
-    Ok(got == status && sink.written() == want.as_bytes())
+    let scan = scanned(
+        alloc,
+        text.as_bytes(),
+        how,
+        input.as_bytes(),
+        Failing::Never,
+    );
+    scan.does(Ok(status), want.as_bytes())
 }
 
 /// Whether a scan by the table file of the specification does as the row says.
-fn holds_by_table(alloc: Global, how: ReadOptions, row: &Row) -> Result<bool, ScanError> {
+fn holds_by_table(alloc: Global, how: ReadOptions, row: &Row) -> bool {
     let (text, input, want, status) = *row;
-    let options = options_of(how);
-    let made = match generate(alloc, text.as_bytes(), options) {
-        Err(error) => return Err(ScanError::Generate(error)),
-        Ok(made) => made,
-    };
-    let mut file = MemorySink::new(alloc);
-    let written = write_tables(&made.tables, &mut file).is_ok();
-    let mut source = MemorySource::new(input.as_bytes());
-    let mut sink = MemorySink::new(alloc);
-    let got = scan_table(alloc, file.written(), &mut source, &mut sink)?;
-    Ok(written && got == status && sink.written() == want.as_bytes())
+    match file_of(alloc, text.as_bytes(), how) {
+        Some(file) => {
+            let scan = scanned_by_table(alloc, file.written(), input.as_bytes());
+            scan.does(Ok(status), want.as_bytes())
+        }
+        None => false,
+    }
 }
 
 /// Whether the program would end with this status and this line.
@@ -59,14 +44,10 @@ pub(crate) fn is_told(alloc: Global, fault: Fault<'_>, status: u8, line: &str) -
 
 /// Whether the specification is refused by this line, before anything is read or written.
 fn is_refused(alloc: Global, text: &[u8], line: &str) -> bool {
-    let mut source = MemorySource::new(b"a");
-    let mut sink = MemorySink::new(alloc);
-    match scan_spec(alloc, text, Options::new(), &mut source, &mut sink) {
+    let scan = scanned(alloc, text, PLAIN, b"a", Failing::Never);
+    match scan.answer {
         Ok(_) => false,
-        Err(error) => {
-            let untouched = source.calls() == 0 && sink.written().is_empty();
-            untouched && is_told(alloc, Fault::Scan(error), 65, line)
-        }
+        Err(error) => { scan.touches_nothing() && is_told(alloc, Fault::Scan(error), 65, line) }
     }
 }
 
@@ -84,10 +65,12 @@ fn text_of(alloc: Global, long: &Long) -> Result<Vec<u8>, AllocError> {
 /// Holds each row of a table.
 fn assert_rows(rt: &impl Abort, alloc: Global, how: ReadOptions, rows: &[Row]) {
     for row in rows {
-        let got = holds(alloc, how, row);
-        assert!(rt; got == Ok(true), "{}: {got:?}", row.0);
-        let got = holds_by_table(alloc, how, row);
-        assert!(rt; got == Ok(true), "{}, by its table file: {got:?}", row.0);
+        assert!(rt; holds(alloc, how, row), "{}", row.0);
+        assert!(rt;
+            holds_by_table(alloc, how, row),
+            "{}, by its table file",
+            row.0
+        );
     }
 }
 
@@ -118,24 +101,19 @@ fn refuses_as_the_manual_says(rt: HostRuntime) {
     }
 }
 
+/// Whether a scan calls the source so often, which then gives this.
+fn reads_so(alloc: Global, text: &[u8], input: &[u8], calls: u64, next: Option<u8>) -> bool {
+    let mut source = MemorySource::new(input);
+    let mut sink = MemorySink::new(alloc);
+    let got = scan_spec(alloc, text, Options::new(), &mut source, &mut sink);
+    got.is_ok() && source.calls() == calls && source.next() == Ok(next)
+}
+
 #[test]
 fn reads_no_byte_too_many(rt: HostRuntime) {
-    let alloc = rt.alloc();
     for &(text, input, calls, next) in worked::READINGS {
-        let mut source = MemorySource::new(input.as_bytes());
-        let mut sink = MemorySink::new(alloc);
-        let got = scan_spec(
-            alloc,
-            text.as_bytes(),
-            Options::new(),
-            &mut source,
-            &mut sink,
-        );
-        assert!(rt;
-            got.is_ok() && source.calls() == calls,
-            "{text}{input}: {got:?}"
-        );
-        assert!(rt; source.next() == Ok(next), "{text}{input}");
+        let so = reads_so(rt.alloc(), text.as_bytes(), input.as_bytes(), calls, next);
+        assert!(rt; so, "{text}{input}");
     }
 }
 
@@ -143,12 +121,10 @@ fn reads_no_byte_too_many(rt: HostRuntime) {
 #[test]
 fn reads_no_byte_twice(rt: HostRuntime) {
     const LETTERS: [u8; 1_000] = [b'a'; 1_000];
-    let mut source = MemorySource::new(&LETTERS);
-    let mut sink = MemorySink::new(rt.alloc());
     let text = b"%%\n[a-z]+ yyless(1);\n";
-    let got = scan_spec(rt.alloc(), text, Options::new(), &mut source, &mut sink);
-    assert!(rt; got == Ok(0), "{got:?}");
-    assert!(rt; source.calls() == 1_001 && sink.written().is_empty());
+    let scan = scanned(rt.alloc(), text, PLAIN, &LETTERS, Failing::Never);
+    assert!(rt; scan.does(Ok(0), b""));
+    assert!(rt; scan.calls == 1_001);
 }
 
 const MEGA: &[u8] = b"%%\nmega- ECHO; yymore();\nkludge ECHO;\n";
@@ -156,25 +132,21 @@ const MEGA: &[u8] = b"%%\nmega- ECHO; yymore();\nkludge ECHO;\n";
 /// What was written before a fault stays written, and nothing is read after it.
 #[test]
 fn stops_at_faults(rt: HostRuntime) {
-    let alloc = rt.alloc();
-    let mut source = MemorySource::new(b"mega-kludge");
-    let mut sink = MemorySink::failing_after(alloc, 5);
-    let got = scan_spec(alloc, MEGA, Options::new(), &mut source, &mut sink);
-    assert!(rt; got == Err(ScanError::Run(RunError::Write)), "{got:?}");
-    assert_eq!(rt; sink.written(), b"mega-".as_slice());
-    assert_eq!(rt; source.calls(), 11);
-    let mut source = MemorySource::failing_after(b"mega-kludge", 5);
-    let mut sink = MemorySink::new(alloc);
-    let got = scan_spec(alloc, MEGA, Options::new(), &mut source, &mut sink);
-    assert!(rt; got == Err(ScanError::Run(RunError::Read)), "{got:?}");
-    assert_eq!(rt; sink.written(), b"mega-".as_slice());
-    assert_eq!(rt; source.calls(), 6);
+    let rows = &[
+        (Failing::Write(5), RunError::Write, 11),
+        (Failing::Read(5), RunError::Read, 6),
+    ];
+    for &(failing, error, calls) in rows {
+        let scan = scanned(rt.alloc(), MEGA, PLAIN, b"mega-kludge", failing);
+        assert!(rt; scan.does(Err(ScanError::Run(error)), b"mega-"));
+        assert!(rt; scan.calls == calls);
+    }
 }
 
 /// The lines of faults that have nothing to do with the specification.
 #[test]
 fn ends_as_the_manual_says(rt: HostRuntime) {
-    let rows = [
+    let rows: &[(Fault<'_>, u8, &str)] = &[
         (Fault::Args(ArgsError::Usage), 64, "lex: usage\n"),
         (Fault::File("missing.l"), 66, "lex: cannot read missing.l\n"),
         (
@@ -198,7 +170,7 @@ fn ends_as_the_manual_says(rt: HostRuntime) {
             "lex: too many reads\n",
         ),
     ];
-    for (fault, status, line) in rows {
+    for &(fault, status, line) in rows {
         assert!(rt; is_told(rt.alloc(), fault, status, line), "{line}");
     }
 }
@@ -207,10 +179,8 @@ fn ends_as_the_manual_says(rt: HostRuntime) {
 fn assert_accepted(rt: &impl Abort, alloc: Global, rows: &[Long]) -> Result<(), Fail> {
     for long in rows {
         let text = text_of(alloc, long)?;
-        let mut source = MemorySource::new(b"");
-        let mut sink = MemorySink::new(alloc);
-        let got = scan_spec(alloc, &text, Options::new(), &mut source, &mut sink);
-        assert!(rt; got == Ok(0), "{} {}: {got:?}", long.1, long.2);
+        let scan = scanned(alloc, &text, PLAIN, b"", Failing::Never);
+        assert!(rt; scan.answer == Ok(0), "{} {}", long.1, long.2);
     }
     Ok(())
 }
@@ -260,10 +230,8 @@ fn conditions(alloc: Global, count: u32) -> Result<Vec<u8>, AllocError> {
 fn counts_conditions(rt: HostRuntime) -> Result<(), Fail> {
     let alloc = rt.alloc();
     let most = conditions(alloc, 254)?;
-    let mut source = MemorySource::new(b"");
-    let mut sink = MemorySink::new(alloc);
-    let got = scan_spec(alloc, &most, Options::new(), &mut source, &mut sink);
-    assert!(rt; got == Ok(0), "{got:?}");
+    let scan = scanned(alloc, &most, PLAIN, b"", Failing::Never);
+    assert!(rt; scan.answer == Ok(0));
     let more = conditions(alloc, 255)?;
     let line = "lex: line 1: TooManyConditions\n";
     assert!(rt; is_refused(alloc, &more, line), "{line}");

@@ -1,19 +1,12 @@
 //! Worked scans turn by turn: what is taken, what is held, and what a fault leaves.
 ghost use Rattle.std.specs.Prelude.{◌-◌, ◌^◌, ◌<◌};
 
-use crate::row::PLAIN;
-use lexauto::{Limits, build};
+use crate::building::{built, read};
 use lexkit::{MemorySink, MemorySource, RunError, Sink, Source};
 use lexpack::Plain;
 use lexscan::{Scanner, Turn, run};
-use lexspec::{Spec, read_spec};
 use std::alloc::Global;
 use std::test::Fail;
-
-const MOST: Limits = Limits {
-    positions: 16_384,
-    states: 8_192,
-};
 
 const NUMBERS: &str = "%%\nif printf(\"K\");\n[0-9][0-9] printf(\"N\");\n";
 
@@ -26,11 +19,6 @@ const TRAIL: &str = "%%\nab/cd printf(\"[%s]\", yytext);\n";
 const COMMENTS: &str =
     "%x C\n%%\n\"/*\" BEGIN(C);\n<C>\"*/\" BEGIN(INITIAL);\n<C>.|\\n ;\n<C><<EOF>> printf(\"open\"); exit(3);\n";
 
-fn read(alloc: Global, text: &str) -> Result<Spec, Fail> {
-    let spec = read_spec(alloc, text.as_bytes(), PLAIN)?;
-    Ok(spec)
-}
-
 /// Whether each turn goes on and leaves this many bytes taken and these held, and the next two turns end with this status.
 fn goes_so(
     alloc: Global,
@@ -39,8 +27,8 @@ fn goes_so(
     after: &[(u64, &str)],
     status: u8,
 ) -> Result<bool, Fail> {
-    let spec = read(alloc, text)?;
-    let automaton = build(alloc, &spec, MOST)?;
+    let spec = read(alloc, text.as_bytes())?;
+    let automaton = built(alloc, &spec)?;
     let machine = Plain::new(&automaton, &spec);
     let mut source = MemorySource::new(input.as_bytes());
     let mut sink = MemorySink::new(alloc);
@@ -107,8 +95,8 @@ fn ends_so<'a, K: Sink>(
     requires few_reads { ⟦<MemorySource<'a> as Source>⟧.failures source.old < 2 ^ 64 - 1 }
     requires few_writes { K.failures sink.old < 2 ^ 64 - 1 }
 {
-    let spec = read(alloc, text)?;
-    let automaton = build(alloc, &spec, MOST)?;
+    let spec = read(alloc, text.as_bytes())?;
+    let automaton = built(alloc, &spec)?;
     let machine = Plain::new(&automaton, &spec);
     let result = run(alloc, &machine, source, sink, max_reads);
     Ok((result, source.calls()))
@@ -163,8 +151,8 @@ fn a_thousand_letters_are_returned_one_by_one(rt: HostRuntime) -> Result<(), Fai
         assert!(rt; got == (result, calls), "{got:?}");
         assert_eq!(rt; sink.written(), b"".as_slice());
     }
-    let spec = read(alloc, text)?;
-    let automaton = build(alloc, &spec, MOST)?;
+    let spec = read(alloc, text.as_bytes())?;
+    let automaton = built(alloc, &spec)?;
     let machine = Plain::new(&automaton, &spec);
     let mut source = MemorySource::new(&input);
     let mut sink = MemorySink::new(alloc);
@@ -182,8 +170,8 @@ fn two_turns(
     given: usize,
     room: usize,
 ) -> Result<[(Result<Turn, RunError>, u64, usize); 3], Fail> {
-    let spec = read(alloc, text)?;
-    let automaton = build(alloc, &spec, MOST)?;
+    let spec = read(alloc, text.as_bytes())?;
+    let automaton = built(alloc, &spec)?;
     let machine = Plain::new(&automaton, &spec);
     let mut source = MemorySource::failing_after(input.as_bytes(), given);
     let mut sink = MemorySink::failing_after(alloc, room);

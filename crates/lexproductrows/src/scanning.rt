@@ -1,0 +1,92 @@
+//! Scans over memory. What they promise is left out, so that what calls them is proved in less time.
+use lexkit::{
+    MemorySink, MemorySource, Options, ScanError, generate, scan_spec, scan_table, write_tables,
+};
+use lexspec::ReadOptions;
+use std::alloc::Global;
+
+/// Where a source or a sink fails: nowhere, after so many bytes, or in a flush.
+#[derive(Clone, Copy)]
+pub(crate) enum Failing {
+    Never,
+    Read(usize),
+    Write(usize),
+    Flush,
+}
+
+/// What a scan answers and writes, and how often the source is called.
+#[derive(Drop)]
+pub(crate) struct Scan {
+    pub(crate) answer: Result<u8, ScanError>,
+    pub(crate) sink: MemorySink,
+    pub(crate) calls: u64,
+}
+
+impl Scan {
+    /// Whether this is answered, and this is written.
+    pub(crate) fn does(&self, answer: Result<u8, ScanError>, written: &[u8]) -> bool {
+        self.answer == answer && self.sink.written() == written
+    }
+
+    /// Whether nothing is read, and nothing is written.
+    pub(crate) fn touches_nothing(&self) -> bool {
+        self.calls == 0 && self.sink.written().is_empty()
+    }
+}
+
+/// A scan by a specification.
+pub(crate) fn scanned(
+    alloc: Global,
+    text: &[u8],
+    how: ReadOptions,
+    input: &[u8],
+    failing: Failing,
+) -> Scan {
+    let ReadOptions { fold, posix } = how;
+    let options = Options {
+        fold,
+        posix,
+        ..Options::new()
+    };
+    let mut source = match failing {
+        Failing::Read(given) => MemorySource::failing_after(input, given),
+        _ => MemorySource::new(input),
+    };
+    let mut sink = match failing {
+        Failing::Write(room) => MemorySink::failing_after(alloc, room),
+        Failing::Flush => MemorySink::failing_flush(alloc),
+        _ => MemorySink::new(alloc),
+    };
+    let answer = scan_spec(alloc, text, options, &mut source, &mut sink);
+    Scan {
+        answer,
+        sink,
+        calls: source.calls(),
+    }
+}
+
+/// A scan by a table file.
+pub(crate) fn scanned_by_table(alloc: Global, file: &[u8], input: &[u8]) -> Scan {
+    let mut source = MemorySource::new(input);
+    let mut sink = MemorySink::new(alloc);
+    let answer = scan_table(alloc, file, &mut source, &mut sink);
+    Scan {
+        answer,
+        sink,
+        calls: source.calls(),
+    }
+}
+
+/// The table file of a specification, where it has one.
+pub(crate) fn file_of(alloc: Global, text: &[u8], how: ReadOptions) -> Option<MemorySink> {
+    let ReadOptions { fold, posix } = how;
+    let options = Options {
+        fold,
+        posix,
+        ..Options::new()
+    };
+    let made = generate(alloc, text, options).ok()?;
+    let mut file = MemorySink::new(alloc);
+    write_tables(&made.tables, &mut file).ok()?;
+    Some(file)
+}
