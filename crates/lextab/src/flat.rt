@@ -1,20 +1,19 @@
-//! Packed tables with a row of 256 targets for each state, so that a step is one look-up. There are at most 8,192 states, so
-//! two bytes hold a target.
+//! Packed tables with a row of 256 targets for each state, so that a step is one look-up.
 ghost use Rattle.std.specs.Prelude.{◌≡◌, ℕ, ◌+◌, ◌*◌, ◌<◌, length, slice_index, IfOk};
 ghost use Rattle.lextab.specs.Steps.{step_of};
 ghost use Rattle.lextab.specs.Views.{table_of};
 ghost use Rattle.lextab.specs.Machines.{machine_of, states_of};
 
-use crate::steps::short_rows;
+use crate::steps::flat_rows;
 use crate::tables::Tables;
 use lexmachine::{Cut, EndAction, Machine, Statement};
 use std::alloc::{AllocError, Global};
 
-/// Packed tables, and 512 bytes of targets for each state. It is the same machine. No reader takes memory.
+/// Packed tables, and 1 KB of targets for each state. It is the same machine. No reader takes memory.
 #[derive(Drop)]
 pub struct Flat<'a> {
     pub(crate) tables: &'a Tables,
-    next: Vec<u16>,
+    next: Vec<u32>,
     ghost rows: { length next.items ≡ 256 * length tables.now.parts.rows.items },
     ghost targets: { (s b : ℕ) → s < length tables.now.parts.rows.items → b < 256 → slice_index next.items (256 * s + b) ≡ step_of (table_of tables.now.parts) s b },
 }
@@ -25,7 +24,7 @@ impl<'a> Flat<'a> {
         ensures machine { IfOk result (λ f. machine_of f.tables.now ≡ machine_of tables.now) }
         ensures states { IfOk result (λ f. states_of f.tables.now ≡ states_of tables.now) }
     {
-        let next = short_rows(alloc, &tables.parts)?;
+        let next = flat_rows(alloc, &tables.parts)?;
         Ok(Flat { tables, next })
     }
 }
@@ -44,7 +43,7 @@ impl Machine for Flat<'_> {
     }
 
     fn step(&self, state: u32, byte: u8) -> u32 {
-        u32::from(self.next[256 * state as usize + usize::from(byte)])
+        self.next[256 * state as usize + usize::from(byte)]
     }
 
     fn goes_on(&self, state: u32) -> bool {

@@ -36,17 +36,3 @@ pub fn flat_rows(alloc: Global, parts: &TableParts) -> Result<Vec<u32>, AllocErr
     }
     Ok(next)
 }
-
-/// The same in two bytes each.
-pub(crate) fn short_rows(alloc: Global, parts: &TableParts) -> Result<Vec<u16>, AllocError>
-    requires { IsTable (table_of parts.now) }
-    ensures len { IfOk result (λ v. length v.items ≡ 256 * length parts.now.rows.items) }
-    ensures each { IfOk result (λ v. (s b : ℕ) → s < length parts.now.rows.items → b < 256 → slice_index v.items (256 * s + b) ≡ step_of (table_of parts.now) s b) }
-{
-    let places = 256 * parts.rows.len();
-    let mut next = Vec::with_capacity(alloc, places)?;
-    for place in 0..places {
-        next.push(target(parts, (place / 256) as u32, (place % 256) as u8) as u16)?;
-    }
-    Ok(next)
-}
