@@ -158,9 +158,51 @@ ends old now waited waiting m a same none g = record {
   one_waits = g.one_waits;
 }
 
--- what was marked where nothing was
-pub just : (old new : Blocks) (P : ℕ → Type 0) → Arranged old → ((c : ℕ) → c < count old → IsTouched old c → ⊥) → Marks old P new → (x : ℕ) → x < states old → IsMarked new x ↔ P x
-just old new P a none f x h = (
-  λ m. elim (f.only x h m) [ inl w ↦ absurd (none (block_of old x) (a.numbered x h) (marked_touches old a x h w)) | inr p ↦ p ],
-  λ p. f.marked x h p,
-)
+-- whether one number is less than another
+decided : (i j : ℕ) → (b : Bool) × ((i < j) ↔ (b ≡ true))
+decided i j = elim (less i j) [
+  | inl h ↦ (true, (λ _. refl, λ _. h))
+  | inr g ↦ (false, (λ h. absurd (omega (arith, g, h)), λ e. absurd cc))
+]
+  where
+    less : (i j : ℕ) → (i < j) ⊎ (j ≤ i)
+    less i j = grind arith
+
+-- which states are marked
+pub mark_of : Blocks → ℕ → Bool
+mark_of b x = (decided (slice_index b.place.items x) (slice_index b.middle.items (block_of b x))).0
+
+pub mark_is : (b : Blocks) (x : ℕ) → IsMarked b x ↔ (mark_of b x ≡ true)
+unfolding mark_of
+mark_is b x = (decided (slice_index b.place.items x) (slice_index b.middle.items (block_of b x))).1
+
+-- where nothing was marked, states of one block are marked alike just if they meet P alike
+module _ (old new : Blocks) (P : ℕ → Type 0) (a : Arranged old) (none : (c : ℕ) → c < count old → IsTouched old c → ⊥) (f : Marks old P new)
+    (m : ℕ → Bool) (tells : (x : ℕ) → x < states old → (m x ≡ true) ↔ P x) where
+  meets : (x : ℕ) → x < states old → mark_of new x ≡ true → m x ≡ true
+  meets x h k = elim (f.only x h ((mark_is new x).1 k)) [
+    | inl w ↦ absurd (none (block_of old x) (a.numbered x h) (marked_touches old a x h w))
+    | inr p ↦ (tells x h).1 p
+  ]
+
+  marks_too : (x y : ℕ) → x < states old → y < states old → block_of old x ≡ block_of old y → m x ≡ m y → mark_of new x ≡ true → mark_of new y ≡ true
+  marks_too x y h k e q w = elim (f.marked y k ((tells y k).0 (sym q ∙ meets x h w))) [
+    | inl n ↦ (mark_is new y).0 n
+    | inr alone ↦ subst (λ (z : ℕ). mark_of new z ≡ true) (alone x h e) w
+  ]
+
+  meets_too : (x y : ℕ) → x < states old → y < states old → block_of old x ≡ block_of old y → mark_of new x ≡ mark_of new y → m x ≡ true → m y ≡ true
+  meets_too x y h k e q w = elim (f.marked x h ((tells x h).0 w)) [
+    | inl n ↦ meets y k (sym q ∙ (mark_is new x).0 n)
+    | inr alone ↦ subst (λ (z : ℕ). m z ≡ true) (sym (alone y k (sym e))) w
+  ]
+
+  pub cuts_by : (block : ℕ → ℕ) (before after : ℕ → Type 0) → Cuts (states old) (block_of old) block (mark_of new) before after → Cuts (states old) (block_of old) block m before after
+  cuts_by block before after c = record {
+    finer = λ x y h k e. let r = c.finer x y h k e in
+        (r.0, both_true (m x) (m y) (λ w. meets_too x y h k r.0 r.1 w) (λ w. meets_too y x k h (sym r.0) (sym r.1) w));
+    no_finer = λ x y h k e q. c.no_finer x y h k e
+        (both_true (mark_of new x) (mark_of new y) (λ w. marks_too x y h k e q w) (λ w. marks_too y x k h (sym e) (sym q) w));
+    waits = c.waits;
+    one_waits = c.one_waits;
+  }

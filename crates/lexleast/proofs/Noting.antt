@@ -1,10 +1,10 @@
 -- Lists of noted blocks.
-use Rattle.std.proofs.Common.{◌≡◌, ℕ, ◌+◌, ◌<◌, ◌⊎◌, Bool, true, false, List, [], ◌∷◌, ◌++◌, length, get_or, ap, sym, subst, ◌∙◌, inl, inr, arith, length-append, Vec, Global}
+use Rattle.std.proofs.Common.{◌≡◌, ℕ, ◌+◌, ◌<◌, ◌⊎◌, Bool, true, false, List, [], ◌∷◌, ◌++◌, length, get_or, ap, sym, subst, ◌∙◌, refl, inl, inr, arith, length-append, Vec, Global}
 use Rattle.std.proofs.lemmas.List.{get_or_append_left, get_or-append-add}
 use Rattle.std.specs.Prelude.{slice_index}
 use Rattle.lexleast.specs.Sources.{Has, HasBelow}
 use Rattle.lexleast.specs.declared.blocks.Blocks.{Blocks}
-use Rattle.lexleast.specs.Arranged.{IsMarked, IsTouched, block_of, count, states}
+use Rattle.lexleast.specs.Arranged.{Arranged, IsAlone, IsMarked, IsTouched, block_of, count, states}
 use Rattle.lexleast.specs.Marked.{Marks, Notes}
 
 pub has_more : (xs : List ℕ) (d c : ℕ) → Has xs c → Has (xs ++ d ∷ []) c
@@ -20,8 +20,11 @@ marks_then a b c P Q R f g split left right =
       block = g.block ∙ f.block;
       first = g.first ∙ f.first;
       marked = λ x h r. elim (split x r) [
-        | inl p ↦ g.keeps x (omega (arith, same, h)) (f.marked x h p)
-        | inr q ↦ g.marked x (omega (arith, same, h)) q
+        | inl p ↦ elim (f.marked x h p) [ inl w ↦ inl (g.keeps x (omega (arith, same, h)) w) | inr s ↦ inr s ]
+        | inr q ↦ elim (g.marked x (omega (arith, same, h)) q) [
+          | inl w ↦ inl w
+          | inr s ↦ inr (subst (λ (v : Vec ℕ Global). (y : ℕ) → y < length v.items → slice_index v.items y ≡ slice_index v.items x → y ≡ x) f.block s)
+        ]
       ];
       keeps = λ x h m. g.keeps x (omega (arith, same, h)) (f.keeps x h m);
       only = λ x h m. elim (g.only x (omega (arith, same, h)) m) [
@@ -56,7 +59,7 @@ module _ (old new : Blocks) (x : ℕ) (first : Bool) (block : new.block ≡ old.
   one_marked marks keeps only = record {
     block = block;
     first = firsts;
-    marked = λ y h e. subst (λ (z : ℕ). IsMarked new z) (sym e) marks;
+    marked = λ y h e. inl (subst (λ (z : ℕ). IsMarked new z) (sym e) marks);
     keeps = keeps;
     only = only;
   }
@@ -89,3 +92,26 @@ module _ (old new : Blocks) (x : ℕ) (first : Bool) (block : new.block ≡ old.
     where
       low_or_last : (i n : ℕ) → i < n + 1 → (i < n) ⊎ (i ≡ n)
       low_or_last i n h = grind arith
+
+-- a block of one place has one state
+pub alone_in : (b : Blocks) (x : ℕ) → Arranged b → x < states b
+    → slice_index b.first.items (block_of b x) + 1 ≡ slice_index b.end.items (block_of b x) → IsAlone b x
+alone_in b x a h one = λ y k q.
+    let fx = a.after x h in
+    let tx = a.before x h in
+    let fy = a.after y k in
+    let ty = a.before y k in
+    let f : slice_index b.first.items (block_of b y) ≡ slice_index b.first.items (block_of b x) = ap (λ (c : ℕ). slice_index b.first.items c) q in
+    let t : slice_index b.end.items (block_of b y) ≡ slice_index b.end.items (block_of b x) = ap (λ (c : ℕ). slice_index b.end.items c) q in
+    let same : slice_index b.place.items y ≡ slice_index b.place.items x = omega (arith, fx, tx, fy, ty, f, t, one) in
+    sym (a.back y k) ∙ ap (λ (i : ℕ). slice_index b.order.items i) same ∙ a.back x h
+
+-- one that is alone need not be marked
+pub alone_marks : (b : Blocks) (x : ℕ) → IsAlone b x → Marks b (λ y. y ≡ x) b
+alone_marks b x alone = record {
+  block = refl;
+  first = refl;
+  marked = λ y h e. inr (subst (λ (z : ℕ). IsAlone b z) (sym e) alone);
+  keeps = λ y h m. m;
+  only = λ y h m. inl m;
+}

@@ -26,6 +26,10 @@ IsTouched b c = slice_index b.first.items c < slice_index b.middle.items c
 abbrev pub IsMarked : Blocks → ℕ → Type 0
 IsMarked b x = slice_index b.place.items x < slice_index b.middle.items (block_of b x)
 
+-- its block has no other state
+abbrev pub IsAlone : Blocks → ℕ → Type 0
+IsAlone b x = (y : ℕ) → y < states b → block_of b y ≡ block_of b x → y ≡ x
+
 pub record Arrangement (order place block first middle end : List ℕ) : Type 0 where
   pub few : length block < 2 ^ 32
   pub orders : length order ≡ length block

@@ -1,6 +1,6 @@
 //! Marking the states that go to a splitter.
-ghost use Rattle.std.specs.Prelude.{◌≡◌, ℕ, ◌<◌, length, slice_index, OnOk};
-ghost use Rattle.lexleast.specs.Arranged.{Arranged, states};
+ghost use Rattle.std.specs.Prelude.{◌≡◌, ℕ, ◌+◌, ◌<◌, true, length, slice_index, OnOk};
+ghost use Rattle.lexleast.specs.Arranged.{Arranged, block_of, states};
 ghost use Rattle.lexleast.specs.Marked.{Marks, Notes};
 ghost use Rattle.lexleast.specs.Sources.{Has};
 
@@ -24,6 +24,37 @@ fn note(blocks: &mut Blocks, touched: &mut Vec<u32>, state: u32) -> Result<(), A
     Ok(())
 }
 
+/// Whether a state's block has no other.
+fn is_alone(blocks: &Blocks, state: u32) -> bool
+    requires state { state < states blocks.now }
+    requires arranged { Arranged blocks.now }
+    ensures { result ≡ true → slice_index blocks.now.first.items (block_of blocks.now state) + 1 ≡ slice_index blocks.now.end.items (block_of blocks.now state) }
+{
+    let number = blocks.block[state as usize] as usize;
+    let first = blocks.first[number] as usize;
+    let end = blocks.end[number] as usize;
+    first + 1 == end
+}
+
+/// Marks a state as `note` does, but one that is alone in its block, which cannot be cut.
+fn note_unless_alone(
+    blocks: &mut Blocks,
+    touched: &mut Vec<u32>,
+    state: u32,
+) -> Result<(), AllocError>
+    requires state { state < states blocks.old }
+    requires arranged { Arranged blocks.old }
+    requires notes { Notes touched.old.items blocks.old }
+    ensures arranged { OnOk result (Arranged blocks.new) }
+    ensures notes { OnOk result (Notes touched.new.items blocks.new) }
+    ensures marks { OnOk result (Marks blocks.old (λ x. x ≡ state) blocks.new) }
+{
+    if is_alone(blocks, state) {
+        return Ok(());
+    }
+    note(blocks, touched, state)
+}
+
 /// Marks the states that go to a target by a letter, and notes each block when its first state is marked.
 fn mark_sources(
     blocks: &mut Blocks,
@@ -42,7 +73,7 @@ fn mark_sources(
     let mut next = letter.chains.last[target as usize];
     'chain: while next > 0 {
         let state = next - 1;
-        note(blocks, touched, state)?;
+        note_unless_alone(blocks, touched, state)?;
         next = letter.chains.before[state as usize];
     }
     Ok(())

@@ -20,10 +20,10 @@ chain-preserved c =
     let here = v.here z at in
     let is = get_or_read before _ _ (let l = letter.chained.befores in omega (arith, l, inside)) c.index-next-in-chain.ensures 0 in
     record {
-      arranged = c.in_ok-note.ensures.arranged;
-      notes = c.in_ok-note.ensures.notes;
+      arranged = c.in_ok-note_unless_alone.ensures.arranged;
+      notes = c.in_ok-note_unless_alone.ensures.notes;
       low = let l = letter.chained.before_low z inside in omega (arith, l, is, inside, len);
       here = goes_before row last before letter.chained c.args.target next z c.index-next-in-chain.result.now at inside here is;
       marks = marks_before row last before letter.chained c.args.target next z c.index-next-in-chain.result.now at inside here is
-          c.args.blocks.now c.chain.blocks c.note.new.blocks v.marks c.in_ok-note.ensures.marks;
+          c.args.blocks.now c.chain.blocks c.note_unless_alone.new.blocks v.marks c.in_ok-note_unless_alone.ensures.marks;
     }
