@@ -1,5 +1,6 @@
 -- The parts of a format, as they are read.
-use Rattle.std.proofs.Common.{◌≡◌, ℕ, Bool, true, false, List, [], ◌∷◌, ◌++◌, Option, Some, None, refl, sym, ap, ◌∙◌, append_assoc, append-nil, suc, ◌<◌, length, get_or, drop, drop-cons, option_map}
+use Rattle.std.proofs.Common.{◌≡◌, ℕ, Bool, true, false, List, [], ◌∷◌, ◌++◌, Option, Some, None, refl, sym, ap, ◌∙◌, append_assoc, append-nil, suc, ◌<◌, length, get_or, drop, drop-cons, option_map, ◌+◌, ◌≤◌, add-one}
+use Rattle.std.proofs.lemmas.List.{at_drop_all}
 use Rattle.std.specs.Prelude.{is_some}
 use Rattle.std.proofs.lemmas.Bool.{ne_eqb}
 use Rattle.lexaction.specs.Actions.{onto, split, parts_in, parts_of}
@@ -63,3 +64,10 @@ map_some f (Some x) e h = cc
 pub part_refused : (st : State) (text : List ℕ) (i : ℕ) → i < length text → read_on st (drop i text) ≡ parts_in false text → ((t : List ℕ) → read_on st (get_or text i 0 ∷ t) ≡ None) → parts_of text ≡ None
 unfolding parts_of
 part_refused st text i within so none = sym so ∙ ap (read_on st) (drop-cons text i 0 within) ∙ none (drop (suc i) text)
+
+pub part_taken : (was now : State) (text : List ℕ) (i : ℕ) → i < length text → read_on was (drop i text) ≡ parts_in false text → ((t : List ℕ) → read_on now t ≡ read_on was (get_or text i 0 ∷ t)) → read_on now (drop (i + 1) text) ≡ parts_in false text
+part_taken was now text i within so step = rw add-one (step (drop (suc i) text) ∙ ap (read_on was) (sym (drop-cons text i 0 within)) ∙ so)
+
+pub part_ended : (st : State) (text : List ℕ) (i : ℕ) → length text ≤ i → read_on st (drop i text) ≡ parts_in false text → read_on st [] ≡ parts_of text
+unfolding parts_of
+part_ended st text i past so = sym (at_drop_all (read_on st) text i past) ∙ so

@@ -47,6 +47,27 @@ impl Format {
         self.percent = false;
         Ok(())
     }
+
+    /// The literals, where the format ends here.
+    fn finish(self) -> Result<Parts, SpecErrorKind>
+        ensures spelled { Reads parts_view result (read_on (format_view self) []) }
+        ensures fault { IfErr result (λ e. IsActionFault e) }
+    {
+        if self.percent {
+            return Err(SpecErrorKind::UnknownStatement);
+        }
+        let Format { front, bytes, .. } = self;
+        match front {
+            Some(front) => Ok(Parts {
+                front,
+                back: Some(bytes),
+            }),
+            None => Ok(Parts {
+                front: bytes,
+                back: None,
+            }),
+        }
+    }
 }
 
 /// The literals of a format.
@@ -63,18 +84,5 @@ pub(crate) fn parts_of(alloc: Global, text: &[u8]) -> Result<Parts, SpecErrorKin
     for byte in text {
         format.take(alloc, *byte)?;
     }
-    if format.percent {
-        return Err(SpecErrorKind::UnknownStatement);
-    }
-    let Format { front, bytes, .. } = format;
-    match front {
-        Some(front) => Ok(Parts {
-            front,
-            back: Some(bytes),
-        }),
-        None => Ok(Parts {
-            front: bytes,
-            back: None,
-        }),
-    }
+    format.finish()
 }

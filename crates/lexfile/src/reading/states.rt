@@ -1,8 +1,9 @@
 //! Reads the classes of the bytes, and the states.
-ghost use Rattle.std.specs.Prelude.{◌≡◌, ◌≤◌, ◌<◌, IfOk, map, length};
+ghost use Rattle.std.specs.Prelude.{◌≡◌, ◌≤◌, ◌<◌, ◌+◌, ◌&&◌, nat_lt, nat_le, IfOk, map, length};
+ghost use Rattle.std.specs.Int.{w32};
 ghost use Rattle.lextab.specs.Views.{row_of};
 ghost use Rattle.lexfile.specs.Seen.{following};
-ghost use Rattle.lexfile.specs.Reading.{many, class_at, accepted_at, above, row_at};
+ghost use Rattle.lexfile.specs.Reading.{many, class_at, accepted_at, above, row_at, only_if, none_at_0, few, number_at};
 ghost use Rattle.lexfile.specs.Views.{Gives, sizes_in};
 
 use super::fields::{byte_below, long};
@@ -57,6 +58,41 @@ fn accepted(
     Ok((read, rest))
 }
 
+/// The state that a row turns to where no slot is its own.
+fn otherwise_of(bytes: &[u8], states: u32, state: u32) -> Result<(u32, &[u8]), ReadError>
+    ensures gives { Gives (λ x. (x.0, x.1.now)) result (only_if (λ n. nat_lt n states && none_at_0 state n) (number_at w32) bytes.now) }
+{
+    let (otherwise, rest) = long(bytes)?;
+    if otherwise >= states || (state == 0 && otherwise != 0) {
+        return Err(ReadError::BadField(bytes.len()));
+    }
+    Ok((otherwise, rest))
+}
+
+/// Where the slots of a row begin.
+fn base_of(bytes: &[u8], counts: Counts, state: u32) -> Result<(u32, &[u8]), ReadError>
+    ensures gives { Gives (λ x. (x.0, x.1.now)) result (only_if (λ n. nat_le (n + counts.classes) counts.slots && none_at_0 state n) (number_at w32) bytes.now) }
+{
+    let (base, rest) = long(bytes)?;
+    if u64::from(base) + u64::from(counts.classes) > u64::from(counts.slots)
+        || (state == 0 && base != 0)
+    {
+        return Err(ReadError::BadField(bytes.len()));
+    }
+    Ok((base, rest))
+}
+
+/// How many rules a row accepts.
+fn count_of(bytes: &[u8], rejects: bool, state: u32) -> Result<(u32, &[u8]), ReadError>
+    ensures gives { Gives (λ x. (x.0, x.1.now)) result (only_if (few rejects state) (number_at w32) bytes.now) }
+{
+    let (count, rest) = long(bytes)?;
+    if (!rejects && count > 1) || (state == 0 && count != 0) {
+        return Err(ReadError::BadField(bytes.len()));
+    }
+    Ok((count, rest))
+}
+
 #[tactic(auto, unfolding(crate::specs::Reading::row_at))]
 fn row(
     alloc: Global,
@@ -68,22 +104,9 @@ fn row(
     requires low { counts.classes ≤ 256 }
     ensures gives { Gives (λ x. (row_of x.0, x.1.now)) result (row_at (sizes_in counts) rejects state bytes.now) }
 {
-    let (otherwise, rest) = long(bytes)?;
-    if otherwise >= counts.states || (state == 0 && otherwise != 0) {
-        return Err(ReadError::BadField(bytes.len()));
-    }
-    let left = rest.len();
-    let (base, rest) = long(rest)?;
-    if u64::from(base) + u64::from(counts.classes) > u64::from(counts.slots)
-        || (state == 0 && base != 0)
-    {
-        return Err(ReadError::BadField(left));
-    }
-    let left = rest.len();
-    let (count, rest) = long(rest)?;
-    if (!rejects && count > 1) || (state == 0 && count != 0) {
-        return Err(ReadError::BadField(left));
-    }
+    let (otherwise, rest) = otherwise_of(bytes, counts.states, state)?;
+    let (base, rest) = base_of(rest, counts, state)?;
+    let (count, rest) = count_of(rest, rejects, state)?;
     let (rules, rest) = accepted(alloc, rest, count, counts.rules)?;
     Ok((
         Row {
