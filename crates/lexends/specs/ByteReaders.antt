@@ -1,5 +1,5 @@
 -- What the reader with a buffer has read ahead, and what is left in it.
-use Rattle.std.specs.Prelude.{◌≡◌, ℕ, min, List, ◌++◌, length, take, Option, Result, MatchResult, slice_range}
+use Rattle.std.specs.Prelude.{◌≡◌, ℕ, min, List, ◌++◌, length, take, drop, Option, Result, MatchResult}
 use Rattle.std.specs.Io.KnownBytes.{prepend_known}
 use Rattle.lexends.specs.declared.byte_reader.ByteReader.{ByteReader}
 
@@ -9,7 +9,7 @@ reader_behind r = r.reader
 
 -- the bytes that were read and not given yet
 abbrev pub bytes_ahead : {R : Type 0} → ByteReader R → List ℕ
-bytes_ahead r = slice_range r.buffer.items r.start r.end
+bytes_ahead r = drop r.start r.buffer.items
 
 -- the bytes ahead and then those that are left in the reader behind, where they are known
 abbrev pub bytes_left : {R : Type 0} → (R → Option (List ℕ)) → ByteReader R → Option (List ℕ)

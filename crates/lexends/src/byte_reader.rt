@@ -19,17 +19,16 @@ enum Refill {
 
 /// Reads into a buffer, so that a read of one byte is mostly a look into it.
 ///
-/// The reader behind it is asked where the buffer is empty, and once in a call: so an error and an end are reported where they
-/// are met, after the bytes before them.
+/// The reader behind it is asked where no byte is ahead, and once in a call: so an error and an end are reported where they
+/// are met, after the bytes before them. The bytes ahead are the last of the buffer, so that one comparison finds whether
+/// there is one.
 #[derive(Drop)]
 pub struct ByteReader<R> {
     buffer: Vec<u8>,
     start: usize,
-    end: usize,
     error: Option<io::Error>,
     reader: R,
-    ghost in_order: { start ≤ end },
-    ghost in_bounds: { end ≤ vec_len buffer },
+    ghost in_bounds: { start ≤ vec_len buffer },
     ghost some_room: { 0 < vec_len buffer },
 }
 
@@ -56,8 +55,7 @@ impl<R: Read> ByteReader<R> {
         let buffer = buffer::make(alloc, capacity)?;
         Ok(ByteReader {
             buffer,
-            start: 0,
-            end: 0,
+            start: capacity,
             error: None,
             reader,
         })
@@ -67,19 +65,18 @@ impl<R: Read> ByteReader<R> {
     #[cold]
     #[inline(never)]
     fn refill(&mut self) -> Refill
-        requires { self.old.start ≡ self.old.end }
+        requires { self.old.start ≡ vec_len self.old.buffer }
         ensures bytes { Keeps (bytes_left R.remaining self.old) (bytes_left R.remaining self.new) }
-        ensures some { result ≡ Refill.Bytes → self.new.start < self.new.end }
-        ensures none { result ≢ Refill.Bytes → self.new.start ≡ self.new.end }
+        ensures some { result ≡ Refill.Bytes → self.new.start < vec_len self.new.buffer }
+        ensures none { result ≢ Refill.Bytes → self.new.start ≡ vec_len self.new.buffer }
         ensures end { result ≡ Refill.End → IsAtEnd (R.remaining self.new.reader) }
         ensures fault { result ≡ Refill.Fault → IsSome self.new.error }
     {
-        self.start = 0;
-        self.end = 0;
         match read_over(&mut self.reader, &mut self.buffer) {
             Ok(0) => Refill::End,
             Ok(count) => {
-                self.end = count;
+                self.start = self.buffer.len() - count;
+                self.buffer.rotate_right(self.start);
                 Refill::Bytes
             }
             Err(error) => {
@@ -105,7 +102,7 @@ impl<R: Read> ByteReader<R> {
     /// Gives the first byte ahead.
     #[inline(always)]
     fn give_byte(&mut self) -> u8
-        requires { self.old.start < self.old.end }
+        requires { self.old.start < vec_len self.old.buffer }
         ensures reader { self.new.reader ≡ self.old.reader }
         ensures ahead { bytes_ahead self.old ≡ result ∷ bytes_ahead self.new }
     {
@@ -117,10 +114,10 @@ impl<R: Read> ByteReader<R> {
     /// Gives as many bytes ahead as there is room for.
     fn give(&mut self, buf: &mut [u8]) -> usize
         ensures reader { self.new.reader ≡ self.old.reader }
-        ensures count { result ≡ min (length buf.old) (self.old.end - self.old.start) }
+        ensures count { result ≡ min (length buf.old) (length (bytes_ahead self.old)) }
         ensures ahead { bytes_ahead self.old ≡ take result buf.new ++ bytes_ahead self.new }
     {
-        let count = buf.len().min(self.end - self.start);
+        let count = buf.len().min(self.buffer.len() - self.start);
         let end = self.start + count;
         buf[..count].copy_from_slice(&self.buffer[self.start..end]);
         self.start = end;
@@ -139,7 +136,7 @@ impl<R: Read> Read for ByteReader<R> {
         ensures bytes { ReadConsumes (bytes_left R.remaining self.old) (bytes_left R.remaining self.new) result buf.new }
         ensures ahead { bytes_ahead self.old ≢ [] → GivesAhead self.old self.new result buf.new }
     {
-        if self.start == self.end {
+        if self.start == self.buffer.len() {
             match self.refill() {
                 Refill::Bytes => {}
                 Refill::End => return Ok(0),

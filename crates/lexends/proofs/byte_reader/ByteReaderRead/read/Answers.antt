@@ -1,9 +1,10 @@
 use Rattle.std.proofs.Common.{◌≡◌, ℕ, ◌<◌, List, [], ◌∷◌, ◌++◌, Option, length, take, drop, set, length-set, refl, sym, ap, ◌∙◌, arith}
 use Rattle.std.specs.Io.KnownBytes.{Keeps, Consumes, IsAtEnd, prepend_known}
+use Rattle.std.proofs.Math.ListN.{drop_of_length-le}
 use Rattle.std.proofs.KnownBytes.{prepend_known-read, Keeps-refl}
 use Rattle.lexends.specs.ByteReaders.{bytes_ahead, bytes_left}
 use Rattle.lexends.proofs.byte_reader.ByteReaderRead.read.Goals as goal
-use Rattle.lexends.proofs.byte_reader.ByteReaderRead.read.Goals.{then-self+in-Bytes, else-self}
+use Rattle.lexends.proofs.byte_reader.ByteReaderRead.read.Goals.{then-self-len+in-Bytes, else-self-len}
 
 -- the first place has what was put there
 first_is : (xs : List ℕ) (x : ℕ) → length xs ≡ 1 → take 1 (set xs 0 x) ≡ x ∷ []
@@ -25,12 +26,12 @@ one_consumed a b c buf old new x one e same kept =
 pub returns-then-buf-eq1-clause-bytes : goal.returns-then-buf-eq1-clause-bytes
 returns-then-buf-eq1-clause-bytes g c =
     let left = bytes_left g.R.Read.remaining in
-    let kept : Keeps (left c.args.self.now) (left c.if-self.self) = elim c.if-self.branch [
-      | then-self+in-Bytes w ↦ rw w.self-is w.refill.ensures.bytes
-      | else-self w ↦ rw w.self-is (Keeps-refl _)
+    let kept : Keeps (left c.args.self.now) (left c.if-self-len.self) = elim c.if-self-len.branch [
+      | then-self-len+in-Bytes w ↦ rw w.self-is w.refill.ensures.bytes
+      | else-self-len w ↦ rw w.self-is (Keeps-refl _)
     ] in
-    one_consumed (left c.args.self.now) (g.R.Read.remaining c.if-self.self.reader) (g.R.Read.remaining c.give_byte.new.self.reader)
-    c.args.buf.now (bytes_ahead c.if-self.self) (bytes_ahead c.give_byte.new.self) c.give_byte.result (omega arith)
+    one_consumed (left c.args.self.now) (g.R.Read.remaining c.if-self-len.self.reader) (g.R.Read.remaining c.give_byte.new.self.reader)
+    c.args.buf.now (bytes_ahead c.if-self-len.self) (bytes_ahead c.give_byte.new.self) c.give_byte.result (omega arith)
     c.give_byte.ensures.ahead (ap g.R.Read.remaining c.give_byte.ensures.reader) kept
 
 pub returns-then-buf-eq1-clause-ahead : goal.returns-then-buf-eq1-clause-ahead
@@ -38,9 +39,9 @@ returns-then-buf-eq1-clause-ahead g c some =
     let before = c.args.self.now in
     let after = c.give_byte.new.self in
     let x = c.give_byte.result in
-    elim c.if-self.branch [
-      | then-self+in-Bytes w ↦ absurd (some (ap (λ n. take n (drop before.start before.buffer.items)) {y = 0} (omega arith)))
-      | else-self w ↦
+    elim c.if-self-len.branch [
+      | then-self-len+in-Bytes w ↦ absurd (some (drop_of_length-le before.buffer.items (omega arith)))
+      | else-self-len w ↦
           let ahead : bytes_ahead before ≡ x ∷ bytes_ahead after = ap bytes_ahead (sym w.self-is) ∙ c.give_byte.ensures.ahead in
           let long = ap length ahead in (
             c.give_byte.ensures.reader ∙ ap (λ s. s.reader) w.self-is,
