@@ -8,7 +8,7 @@ use Rattle.lexaction.specs.Names.{number_from, known_in}
 use Rattle.lexaction.specs.Statements.{then_print, then_one, then_all}
 use Rattle.lexaction.specs.Actions.{are_few, statements_of, SpellsStatements, SpellsAction, SpellsEndAction, end_of}
 use Rattle.lexaction.proofs.RangeLemmas.{raw, all_raw, cut_good, number_below}
-use Rattle.lexaction.specs.Limits.{max_status}
+use Rattle.lexmeaning.specs.Limits.{max_status}
 
 -- ranges
 

@@ -9,7 +9,7 @@ use Rattle.lexmeaning.specs.Reading.{◌>>=◌, IsCut}
 use Rattle.lexaction.specs.Names.{number_from, Known}
 use Rattle.lexaction.specs.Bytes.{next, name_at, digits_at, literal_at, skip}
 use Rattle.lexaction.specs.Actions.{Said, does, prints, prints_text, said_by, Piece, semicolon, opens, closes, says, statements_of, NoPiece, no_argument, number_argument, second_word, parts_of, without_text, with_text, formatted_at, printf_at, fputs_at, puts_at, yymore_at, yyless_at, yyterminate_at, exit_at, condition_at, closed_condition, begins, begin_from, begin_at, pushes, push_from, push_at, pop_at, stack_word, after_word, after_statement, statement_at, piece_from, piece_at}
-use Rattle.lexaction.specs.Limits.{max_kept, max_status}
+use Rattle.lexmeaning.specs.Limits.{max_kept, max_status}
 
 -- as `in_range`, but that a literal may be empty
 abbrev pub raw : ℕ → Statement → Bool

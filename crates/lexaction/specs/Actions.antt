@@ -7,7 +7,7 @@ use Rattle.lexaction.specs.Bytes.{skip, next, name_at, digits_at, literal_at}
 use Rattle.lexmeaning.specs.Spec.{EndAction, Statement, Echo, Print, Begin, More, Less, Reject, End, Push, Pop}
 use Rattle.lexmeaning.specs.Legal.{ends_last, are_compatible}
 use Rattle.lexaction.specs.Statements.{normal, literal_bytes}
-use Rattle.lexaction.specs.Limits.{max_statements, max_literal_bytes, max_kept, max_status}
+use Rattle.lexmeaning.specs.Limits.{max_statements, max_literal_bytes, max_kept, max_status}
 use Rattle.lexclass.specs.Limits.{number_cap}
 
 -- what a statement says: something that is done, a literal, or a literal, the text, and a literal

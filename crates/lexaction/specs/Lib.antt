@@ -4,7 +4,6 @@ pub mod Bytes
 pub mod Calls
 pub mod Comments
 pub mod Formats
-pub mod Limits
 pub mod Names
 pub mod Outcome
 pub mod Statements

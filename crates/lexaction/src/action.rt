@@ -5,7 +5,7 @@ ghost use Rattle.lexaction.specs.Actions.{piece_from, SpellsStatements, SpellsAc
 ghost use Rattle.lexaction.specs.Names.{known_in, names_of};
 ghost use Rattle.lexaction.specs.Views.{statement_of, piece_of, end_action_of};
 ghost use Rattle.lexaction.specs.Outcome.{Reads, UnlessMemory};
-ghost use Rattle.lexaction.specs.Limits.{max_conditions};
+ghost use Rattle.lexmeaning.specs.Limits.{max_conditions};
 ghost use Rattle.lexaction.specs.ActionFaults.{IsActionFault};
 
 use crate::bytes::skip;

@@ -5,7 +5,7 @@ ghost use Rattle.lexaction.specs.Names.{number_from, names_of, known_in};
 ghost use Rattle.lexaction.specs.Views.{said_of};
 ghost use Rattle.lexaction.specs.Outcome.{Reads, UnlessMemory};
 ghost use Rattle.lexaction.specs.Calls.{CallReads, CallFinds, ConditionReads, BeginReads, PushReads};
-ghost use Rattle.lexaction.specs.Limits.{max_conditions};
+ghost use Rattle.lexmeaning.specs.Limits.{max_conditions};
 ghost use Rattle.lexaction.specs.ActionFaults.{IsActionFault};
 
 use crate::bytes::{digits_at, literal_at, name_at, next, skip};

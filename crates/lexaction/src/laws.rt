@@ -4,7 +4,7 @@ ghost use Rattle.lexmeaning.specs.Spec.{EndAction, Statement};
 ghost use Rattle.lexmeaning.specs.Legal.{IsLegal};
 ghost use Rattle.lexaction.specs.Names.{Known, known_in};
 ghost use Rattle.lexaction.specs.Actions.{SpellsAction, SpellsEndAction};
-ghost use Rattle.lexaction.specs.Limits.{max_status};
+ghost use Rattle.lexmeaning.specs.Limits.{max_status};
 
 /// A text spells at most one action, whatever numbers the conditions have.
 pub fn one_action()

@@ -6,7 +6,7 @@ ghost use Rattle.lexaction.specs.Statements.{literal_bytes};
 ghost use Rattle.lexaction.specs.Actions.{are_few, may_stand};
 ghost use Rattle.lexaction.specs.ActionFaults.{IsTogetherFault};
 ghost use Rattle.lexaction.specs.Views.{statement_of};
-ghost use Rattle.lexaction.specs.Limits.{max_literal_bytes};
+ghost use Rattle.lexmeaning.specs.Limits.{max_literal_bytes};
 
 use lexclass::SpecErrorKind;
 use lexmachine::{Statement, has_reject};

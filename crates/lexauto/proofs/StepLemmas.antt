@@ -11,8 +11,7 @@ use Rattle.std.proofs.lemmas.Slice.Eq.{slice_eq-Decides}
 use Rattle.std.specs.List.{filter}
 use Rattle.lexmeaning.specs.Spec.{Spec, Rule}
 use Rattle.lexmeaning.specs.Sound.{IsSoundRule, HaveSoundSides}
-use Rattle.lexaction.specs.Limits.{max_conditions}
-use Rattle.lexspec.specs.Limits.{max_rules}
+use Rattle.lexmeaning.specs.Limits.{max_conditions, max_rules}
 use Rattle.lexspec.specs.Tests.{is_sound, sound_conditions, sound_rules}
 use Rattle.lexauto.proofs.FlowMeaning.{and_is}
 use Rattle.lexspec.proofs.TestLaws.{spec_is_sound}

@@ -1,5 +1,6 @@
 //! The automaton of a specification, by subset construction.
 ghost use Rattle.std.specs.Prelude.{◌≡◌, ◌<◌, ◌≤◌, ◌^◌, ℕ, length, IfOk, IsErrOf};
+ghost use Rattle.lexmeaning.specs.Limits.{max_states, max_positions};
 ghost use Rattle.lexmeaning.specs.Subsets.{all_positions, Subsets};
 ghost use Rattle.lexmeaning.specs.TableFor.{TableFor};
 ghost use Rattle.lexmeaning.specs.MachineLaws.{MachineLaws};
@@ -68,8 +69,8 @@ fn explore_spec(alloc: Global, moves: &RuleMoves, limit: u32) -> Result<Survey, 
 /// if no rule has REJECT, and goes on where a longer word may fit. Some word leads to each state but the dead one. TooManyPositions comes exactly where the heads and
 /// trails have more positions than their limit, TooManyStates only where there are more states.
 pub fn build(alloc: Global, spec: &Spec, limits: Limits) -> Result<Dfa, BuildError>
-    requires positions { limits.positions ≤ 16384 }
-    requires states { limits.states ≤ 8192 }
+    requires positions { limits.positions ≤ max_positions }
+    requires states { limits.states ≤ max_states }
     ensures table { IfOk result (λ d. TableFor (machine_of d (spec_of spec.now)) (spec_of spec.now)) }
     ensures conditions { IfOk result (λ d. conditions_of d ≡ length (conditions_in (spec_of spec.now))) }
     ensures reached { IfOk result (λ d. (p : ℕ) → p < states_of d → IsReached (machine_of d (spec_of spec.now)) (spec_of spec.now) p) }

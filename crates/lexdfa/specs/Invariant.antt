@@ -2,13 +2,14 @@
 use Rattle.std.specs.Prelude.{◌≡◌, ◌≢◌, ℕ, ◌*◌, ◌<◌, ◌≤◌, true, List, [], ◌∷◌, length, slice_index, ◌↔◌}
 use Rattle.std.specs.Coded.{×_prop, Unit-prop, le_prop}
 use Rattle.std.proofs.Props.{props}
+use Rattle.lexmeaning.specs.Limits.{max_states}
 use Rattle.lexmeaning.specs.Text.{Ascending}
 use Rattle.lexdfa.specs.Parts.{states, next, accepts, goes_on, IsReached, LeadsOn}
 use Rattle.lexdfa.specs.declared.dfa.Parts.{Parts}
 
 pub record IsAutomaton (p : Parts) : Type 0 where
   pub some : 1 ≤ states p
-  pub few : states p ≤ 8192
+  pub few : states p ≤ max_states
   -- each condition has two starts, and each state a row, a list of rules and a flag
   pub lines : length p.line_starts.items ≡ length p.starts.items
   pub rows : length p.next.items ≡ 256 * length p.goes_on.items

@@ -1,5 +1,6 @@
 //! What callers read of an automaton.
 ghost use Rattle.std.specs.Prelude.{◌≡◌, ◌≢◌, ◌<◌, ◌≤◌, ◌↔◌, ℕ, [], length, IsTrue};
+ghost use Rattle.lexmeaning.specs.Limits.{max_states};
 ghost use Rattle.lexmeaning.specs.Text.{Ascending};
 ghost use Rattle.lexdfa.specs.Parts.{IsReached, LeadsOn};
 ghost use Rattle.lexdfa.specs.Automata.{conditions_of, states_of, start_of, next_of, accepts_of, goes_on_of};
@@ -61,7 +62,7 @@ impl Dfa {
     pub fn len(&self) -> u32
         ensures states { result ≡ states_of self.now }
         ensures some { 1 ≤ result }
-        ensures few { result ≤ 8192 }
+        ensures few { result ≤ max_states }
         ensures reached { (s : ℕ) → s < result → s ≢ 0 → ∥ IsReached self.now.parts s ∥₁ }
     {
         self.parts.goes_on.len() as u32

@@ -11,7 +11,7 @@ use Rattle.lexaction.specs.declared.condition.Condition.{Condition}
 use Rattle.lexlines.specs.DefinitionLines.{Declared, names_of, has_name, are_distinct}
 use Rattle.lexlines.specs.Declaring.{declared_of, with_kind, AreGood}
 use Rattle.lexlines.proofs.OneSection.{no_true}
-use Rattle.lexaction.specs.Limits.{max_conditions}
+use Rattle.lexmeaning.specs.Limits.{max_conditions}
 
 pub word_same : (w : List ℕ) → is_word w w ≡ true
 word_same [] = refl

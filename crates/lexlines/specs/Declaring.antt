@@ -4,7 +4,7 @@ use Rattle.std.specs.FinMap.{from_entries}
 use Rattle.lexaction.specs.declared.condition.Condition.{Condition}
 use Rattle.lexlines.specs.DefinitionLines.{Definition, Declared, all_conditions, names_of, has_name, are_distinct, substitutes_of, all_options, are_known}
 use Rattle.lexlines.specs.declared.declarations.Declarations.{Declarations}
-use Rattle.lexaction.specs.Limits.{max_conditions}
+use Rattle.lexmeaning.specs.Limits.{max_conditions}
 use Rattle.lexlines.specs.Folding.{with_fold}
 use Rattle.lexre.specs.declared.options.ReadOptions.{ReadOptions}
 

@@ -1,6 +1,5 @@
 pub mod Lines
 pub mod Folding
-pub mod Limits
 pub mod Runs
 pub mod DefinitionLines
 pub mod DefinitionViews

@@ -1,7 +1,7 @@
 //! Numbers of lines.
 ghost use Rattle.std.specs.Prelude.{◌≡◌, ◌≤◌, ◌-◌, length, take};
 ghost use Rattle.lexlines.specs.Lines.{newlines};
-ghost use Rattle.lexlines.specs.Limits.{max_file_bytes};
+ghost use Rattle.lexmeaning.specs.Limits.{max_file_bytes};
 
 /// The most bytes of a file.
 pub const MAX_FILE_BYTES: usize = 1_048_576;

@@ -5,7 +5,7 @@ ghost use Rattle.lexlines.specs.DefinitionLines.{Definition as Meant, definition
 ghost use Rattle.lexlines.specs.Declaring.{AreAllowed};
 ghost use Rattle.lexlines.specs.Sections.{HasSection, reported_kind};
 ghost use Rattle.lexlines.specs.Outcome.{UnlessMemory};
-ghost use Rattle.lexlines.specs.Limits.{max_file_bytes};
+ghost use Rattle.lexmeaning.specs.Limits.{max_file_bytes};
 
 use crate::declarations::Declarations;
 use crate::definition::{DefinitionFault, definition_at};

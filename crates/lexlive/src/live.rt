@@ -1,5 +1,6 @@
 //! Which states are live.
 ghost use Rattle.std.specs.Prelude.{◌≡◌, ℕ, ◌*◌, ◌<◌, ◌≤◌, Bool, true, length, slice_index, IfOk, OnOk};
+ghost use Rattle.lexmeaning.specs.Limits.{max_states};
 ghost use Rattle.lexmeaning.specs.Text.{flag};
 ghost use Rattle.lexlive.specs.Live.{AreLive, GoesTo};
 ghost use Rattle.lexlive.specs.Sources.{Has};
@@ -52,7 +53,7 @@ fn enliven_sources(
 
 /// The states that accept.
 fn accepting_states(alloc: Global, accepting: &[bool]) -> Result<Vec<u32>, AllocError>
-    requires few { length accepting.now ≤ 8192 }
+    requires few { length accepting.now ≤ max_states }
     ensures known { IfOk result (λ v. (x : ℕ) → Has v.items x → flag accepting.now x ≡ true) }
     ensures all { IfOk result (λ v. (x : ℕ) → flag accepting.now x ≡ true → Has v.items x) }
 {
@@ -69,7 +70,7 @@ fn accepting_states(alloc: Global, accepting: &[bool]) -> Result<Vec<u32>, Alloc
 /// of 256 targets for each state. Takes time in proportion to the table.
 pub fn live_states(alloc: Global, next: &[u32], accepting: &[bool]) -> Result<Vec<bool>, AllocError>
     requires rows { length next.now ≡ 256 * length accepting.now }
-    requires few { length accepting.now ≤ 8192 }
+    requires few { length accepting.now ≤ max_states }
     requires known { (i : ℕ) → i < length next.now → slice_index next.now i < length accepting.now }
     ensures { IfOk result (λ live. AreLive next.now accepting.now live.items) }
 {

@@ -1,5 +1,6 @@
 -- What the actions of a match do. (POSIX and flex, Actions in lex.)
 use Rattle.std.specs.Prelude.{ℕ, Bool, true, false, List, [], ◌∷◌, ◌++◌, length, take, nat_lt, if◌then◌else◌, Option, Some, None}
+use Rattle.lexmeaning.specs.Limits.{max_stack}
 use Rattle.lexmeaning.specs.Spec.{Statement, Echo, Print, Begin, More, Less, Reject, End, Push, Pop}
 use Rattle.lexmeaning.specs.Rules.{Rules, statements_of}
 use Rattle.lexmeaning.specs.Candidates.{Candidate}
@@ -26,7 +27,7 @@ pub data Went : Type 0 where
 
 -- The stack has room for 255 conditions. (flex, Start Conditions, has no bound; this one is own.)
 abbrev pub has_room : List ℕ → Bool
-has_room cs = nat_lt (length cs) 255
+has_room cs = nat_lt (length cs) max_stack
 
 -- goes on with the condition that is taken from the stack, and with what is left there
 abbrev pub popped : List ℕ → Acting → (ℕ → List ℕ → Went) → Went

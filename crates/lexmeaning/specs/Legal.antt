@@ -1,6 +1,7 @@
 -- What the actions of a specification or a machine keep to.
 -- (POSIX, lex, Actions in lex; what may not stand in one action is this project's.)
 use Rattle.std.specs.Prelude.{◌≡◌, ℕ, suc, Bool, true, false, not, ◌&&◌, ◌||◌, List, [], ◌∷◌, length, nat_le, nat_lt, if◌then◌else◌}
+use Rattle.lexmeaning.specs.Limits.{max_kept, max_status}
 use Rattle.lexmeaning.specs.Spec.{Statement, Print, Begin, More, Less, Reject, End, Push, has_reject}
 
 -- what a statement names: a condition, one of n; a count of bytes, from 1 to 65,535; a status, up to 63. A literal has
@@ -8,8 +9,8 @@ use Rattle.lexmeaning.specs.Spec.{Statement, Print, Begin, More, Less, Reject, E
 abbrev pub in_range : ℕ → Statement → Bool
 in_range n (Print s) = nat_le 1 (length s)
 in_range n (Begin d) = nat_lt d n
-in_range n (Less k) = nat_le 1 k && nat_le k 65535
-in_range n (End s) = nat_le s 63
+in_range n (Less k) = nat_le 1 k && nat_le k max_kept
+in_range n (End s) = nat_le s max_status
 in_range n (Push d) = nat_lt d n
 in_range n _ = true
 

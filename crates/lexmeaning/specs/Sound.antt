@@ -1,6 +1,7 @@
 -- What a specification that was read keeps to.
 -- (POSIX, lex, Definitions in lex and Actions in lex; flex, Patterns: trailing context.)
 use Rattle.std.specs.Prelude.{◌≡◌, ℕ, ◌≤◌, ◌<◌, List, [], ◌∷◌, length, Option, Some, None, IfSome, slice_get, ⊤}
+use Rattle.lexmeaning.specs.Limits.{max_fixed_length, max_status, max_literal_bytes}
 use Rattle.lexmeaning.specs.Text.{Among, Ascending}
 use Rattle.lexmeaning.specs.Tree.{Tree, In}
 use Rattle.lexmeaning.specs.Shapes.{IsSoundTree, HasLengths}
@@ -9,7 +10,7 @@ use Rattle.lexmeaning.specs.Legal.{IsLegal}
 
 -- each word of the tree has n bytes, and n is at most 65,535
 abbrev pub HasFixed : Tree → ℕ → Type 0
-HasFixed t n = HasLengths (In t) n (Some n) × (n ≤ 65535)
+HasFixed t n = HasLengths (In t) n (Some n) × (n ≤ max_fixed_length)
 
 -- A side of such a fixed length gives the cut: the head if it is one, and else the trailing context. Without trailing
 -- context the cut is the whole.
@@ -44,6 +45,6 @@ pub record IsSoundRule (n : ℕ) (r : Rule) : Type 0 where
 
 pub record IsSound (S : Spec) : Type 0 where
   pub some_condition : 1 ≤ length S.conditions
-  pub ends : (c : ℕ) (k : Condition) → slice_get S.conditions c ≡ Some k → k.end.status ≤ 63
-  pub prints : (c : ℕ) (k : Condition) → slice_get S.conditions c ≡ Some k → length k.end.print ≤ 4096
+  pub ends : (c : ℕ) (k : Condition) → slice_get S.conditions c ≡ Some k → k.end.status ≤ max_status
+  pub prints : (c : ℕ) (k : Condition) → slice_get S.conditions c ≡ Some k → length k.end.print ≤ max_literal_bytes
   pub rules : (i : ℕ) (r : Rule) → slice_get S.rules i ≡ Some r → IsSoundRule (length S.conditions) r

@@ -10,7 +10,7 @@ use Rattle.lexre.proofs.LengthLaws.{has_lengths}
 use Rattle.lexmeaning.specs.Sound.{HasFixed, IsCutOf}
 use Rattle.lexspec.specs.RuleItems.{is_number}
 use Rattle.lexspec.specs.Tests.{has_length, has_fixed, is_fixed, is_whole, cut_fits}
-use Rattle.lexspec.specs.Limits.{max_fixed_length}
+use Rattle.lexmeaning.specs.Limits.{max_fixed_length}
 
 one_least : (L : Language) (m n : ℕ) (g h : Option ℕ) → HasLengths L m g → HasLengths L n h → m ≡ n
 one_least L m n g h a b =

@@ -9,7 +9,7 @@ use Rattle.lexspec.specs.Items.{parts_at}
 use Rattle.lexspec.specs.RuleItems.{all_numbered, is_number}
 use Rattle.lexmeaning.specs.Text.{listed}
 use Rattle.lexspec.specs.SubjectViews.{parts}
-use Rattle.lexaction.specs.Limits.{max_conditions}
+use Rattle.lexmeaning.specs.Limits.{max_conditions}
 
 abbrev Split : Type 0
 Split = List ℕ × List ℕ

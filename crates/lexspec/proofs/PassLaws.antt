@@ -25,8 +25,7 @@ use Rattle.lexspec.proofs.CutLaws.{cut_is_tested}
 use Rattle.lexlines.proofs.DeclaringLaws.{names_kept}
 use Rattle.lexspec.proofs.EndingLaws.{numbers_ordered}
 use Rattle.lexspec.proofs.TestLaws.{sound_is_tested}
-use Rattle.lexaction.specs.Limits.{max_conditions, max_statements, max_literal_bytes, max_status}
-use Rattle.lexspec.specs.Limits.{max_rules}
+use Rattle.lexmeaning.specs.Limits.{max_conditions, max_statements, max_literal_bytes, max_status, max_rules}
 use Rattle.lexre.specs.declared.options.ReadOptions.{ReadOptions}
 
 -- rules

@@ -34,9 +34,7 @@ use Rattle.lexclass.proofs.MemoryLaws.{unless_memory}
 use Rattle.lexspec.proofs.PassLaws.{kept_passes, length_with}
 use Rattle.lexspec.proofs.RestLaws.{newlines_few}
 use Rattle.lexlines.proofs.SectionLaws.{EndsWith, ends_on, definition_ends}
-use Rattle.lexaction.specs.Limits.{max_conditions}
-use Rattle.lexlines.specs.Limits.{max_file_bytes}
-use Rattle.lexspec.specs.Limits.{max_rules}
+use Rattle.lexmeaning.specs.Limits.{max_conditions, max_file_bytes, max_rules}
 use Rattle.lexlines.specs.Folding.{with_fold}
 use Rattle.lexre.specs.declared.options.ReadOptions.{ReadOptions}
 

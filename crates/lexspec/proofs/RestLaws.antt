@@ -28,7 +28,7 @@ use Rattle.lexlines.proofs.OneSection.{no_true}
 use Rattle.lexspec.proofs.OneItems.{no_item_at_end}
 use Rattle.lexclass.proofs.MemoryLaws.{unless_memory, always}
 use Rattle.lexspec.proofs.RulesLaws.{agree_first}
-use Rattle.lexspec.specs.Limits.{max_rules}
+use Rattle.lexmeaning.specs.Limits.{max_rules}
 
 -- where the section ends
 abbrev pub IsOver : List ℕ → Type 0

@@ -15,8 +15,7 @@ use Rattle.lexre.proofs.LengthLaws.{has_lengths}
 use Rattle.lexspec.specs.RuleItems.{is_number}
 use Rattle.lexspec.specs.Tests.{any_below, are_bounds, has_part, sound_tree, sound_trees, sound_trail, cut_fits, ascend_from, sound_list, legal_action, sound_rule, sound_rules, sound_end, sound_conditions, is_sound}
 use Rattle.lexspec.proofs.CutLaws.{cut_is_fit}
-use Rattle.lexaction.specs.Limits.{max_conditions, max_literal_bytes, max_status}
-use Rattle.lexspec.specs.Limits.{max_rules}
+use Rattle.lexmeaning.specs.Limits.{max_conditions, max_literal_bytes, max_status, max_rules}
 
 no_true : {A : Type 0} → false ≡ true → A
 no_true e = absurd (no e)

@@ -9,9 +9,7 @@ use Rattle.lexlines.specs.Lines.{without_returns, line_in, newlines}
 use Rattle.lexlines.specs.DefinitionLines.{Definition, Declared, definition_at, IsUpTo, all_conditions, names_of, has_name, are_distinct, substitutes_of, all_options, are_known}
 use Rattle.lexspec.specs.Items.{Item, AreItems}
 use Rattle.lexspec.specs.RuleItems.{EndRule, AreRules}
-use Rattle.lexaction.specs.Limits.{max_conditions}
-use Rattle.lexlines.specs.Limits.{max_file_bytes}
-use Rattle.lexspec.specs.Limits.{max_rules}
+use Rattle.lexmeaning.specs.Limits.{max_conditions, max_file_bytes, max_rules}
 use Rattle.lexlines.specs.Folding.{with_fold}
 use Rattle.lexre.specs.declared.options.ReadOptions.{ReadOptions}
 

@@ -9,7 +9,7 @@ use Rattle.lexlines.specs.declared.declarations.Declarations.{Declarations}
 use Rattle.lexspec.specs.declared.rule_text.Front.{Front}
 use Rattle.lexspec.specs.declared.rule_text.Front.TheVariants as F
 use Rattle.lexspec.specs.declared.rules_so_far.RulesSoFar.{RulesSoFar}
-use Rattle.lexspec.specs.Limits.{max_rules}
+use Rattle.lexmeaning.specs.Limits.{max_rules}
 
 -- there is room for one rule more; an `<<EOF>>` rule needs none
 abbrev pub HasRoom : Front → RulesSoFar → Type 0

@@ -1,5 +1,4 @@
 pub mod Tests
-pub mod Limits
 pub mod RuleViews
 pub mod Views
 pub mod Items

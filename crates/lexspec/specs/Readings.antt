@@ -14,7 +14,7 @@ use Rattle.lexspec.specs.ItemReads.{names_in}
 use Rattle.lexlines.specs.declared.declarations.Declarations.{Declarations}
 use Rattle.lexspec.specs.declared.rules_section.RulesSection.{RulesSection}
 use Rattle.lexlines.specs.declared.section.Section.{Section}
-use Rattle.lexspec.specs.Limits.{max_rules}
+use Rattle.lexmeaning.specs.Limits.{max_rules}
 
 -- a byte that is neither a blank nor a newline
 abbrev pub has_text : List ℕ → Bool

@@ -12,7 +12,7 @@ use Rattle.lexmeaning.specs.Sound.{HaveSoundSides}
 use Rattle.lexlines.specs.declared.declarations.Declarations.{Declarations}
 use Rattle.lexspec.specs.declared.rule.Rule.{Rule as RuleKept}
 use Rattle.lexspec.specs.declared.rules_section.RulesSection.{RulesSection}
-use Rattle.lexspec.specs.Limits.{max_rules}
+use Rattle.lexmeaning.specs.Limits.{max_rules}
 
 -- the items of the text, which begins at the line n, and the rules that they spell; after them nothing is left, or a line of `%%`
 pub record HasRules (d : Declarations) (n : ℕ) (text : List ℕ) (s : RulesSection) : Type 0 where

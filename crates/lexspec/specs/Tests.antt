@@ -8,8 +8,7 @@ use Rattle.lexmeaning.specs.Legal.{all_in_range, ends_last, are_joined, are_comp
 use Rattle.lexre.specs.Lengths.{least, greatest}
 use Rattle.lexaction.specs.Actions.{are_few}
 use Rattle.lexspec.specs.RuleItems.{is_number}
-use Rattle.lexaction.specs.Limits.{max_conditions, max_literal_bytes, max_status}
-use Rattle.lexspec.specs.Limits.{max_rules, max_fixed_length}
+use Rattle.lexmeaning.specs.Limits.{max_conditions, max_literal_bytes, max_status, max_rules, max_fixed_length}
 
 -- some number below n passes
 unfoldable pub any_below : ℕ → (ℕ → Bool) → Bool

@@ -6,7 +6,7 @@ ghost use Rattle.lexspec.specs.RuleItems.{all_numbered, is_number, numbers_of};
 ghost use Rattle.lexmeaning.specs.Text.{listed};
 ghost use Rattle.lexspec.specs.SubjectViews.{conditions_of, parts};
 ghost use Rattle.lexlines.specs.Outcome.{UnlessMemory};
-ghost use Rattle.lexaction.specs.Limits.{max_conditions};
+ghost use Rattle.lexmeaning.specs.Limits.{max_conditions};
 
 use crate::subject::Conditions;
 use lexaction::{Condition, number_of};

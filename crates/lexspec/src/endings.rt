@@ -8,7 +8,7 @@ ghost use Rattle.lexspec.specs.Files.{lists_number, unlisted_end as unlisted_end
 ghost use Rattle.lexspec.specs.EndRules.{end_rule_of};
 ghost use Rattle.lexspec.specs.RuleItems.{EndRule as EndRuleMeant};
 ghost use Rattle.lexspec.specs.Tests.{sound_list};
-ghost use Rattle.lexaction.specs.Limits.{max_conditions};
+ghost use Rattle.lexmeaning.specs.Limits.{max_conditions};
 
 use lexaction::{Condition, EndAction};
 use std::alloc::{AllocError, Global};

@@ -12,8 +12,7 @@ ghost use Rattle.lexspec.specs.Files.{conditions_with, SpellsSpec};
 ghost use Rattle.lexre.specs.declared.options.ReadOptions.{ReadOptions};
 ghost use Rattle.lexspec.specs.Tests.{is_sound, sound_tree};
 ghost use Rattle.lexspec.specs.RuleExamples.{ConditionLists, Actions};
-ghost use Rattle.lexaction.specs.Limits.{max_conditions};
-ghost use Rattle.lexspec.specs.Limits.{max_rules};
+ghost use Rattle.lexmeaning.specs.Limits.{max_conditions, max_rules};
 
 /// A tree passes the test exactly if it is sound.
 pub fn tested_trees()

@@ -7,8 +7,7 @@ ghost use Rattle.lexspec.specs.Readings.{has_text, of_sections, SpellsRest};
 ghost use Rattle.lexspec.specs.Tests.{is_sound};
 ghost use Rattle.lexspec.specs.Views.{spec_of};
 ghost use Rattle.lexclass.specs.declared.refusals.SpecErrorKind.TheVariants.{OutOfMemory};
-ghost use Rattle.lexaction.specs.Limits.{max_conditions};
-ghost use Rattle.lexlines.specs.Limits.{max_file_bytes};
+ghost use Rattle.lexmeaning.specs.Limits.{max_conditions, max_file_bytes};
 
 use crate::endings::with_ends;
 use crate::rules_section::{RulesSection, read_rules};

@@ -16,7 +16,7 @@ ghost use Rattle.lexspec.specs.SoundSides.{HasSoundFront};
 ghost use Rattle.lexmeaning.specs.Sound.{AreSoundSides};
 ghost use Rattle.lexlines.specs.Outcome.{UnlessMemory};
 ghost use Rattle.lexclass.specs.declared.refusals.SpecErrorKind.TheVariants.{Unclosed};
-ghost use Rattle.lexaction.specs.Limits.{max_conditions};
+ghost use Rattle.lexmeaning.specs.Limits.{max_conditions};
 
 use crate::action_text::split_action;
 use crate::condition_list::condition_numbers;

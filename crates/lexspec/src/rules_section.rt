@@ -12,9 +12,7 @@ ghost use Rattle.lexspec.specs.RulesReads.{HasRules, NoSuchRules, line_of_last};
 ghost use Rattle.lexlines.specs.Outcome.{UnlessMemory};
 ghost use Rattle.lexlines.specs.Skips.{next_in};
 ghost use Rattle.lexclass.specs.declared.refusals.SpecErrorKind.TheVariants.{DanglingBar};
-ghost use Rattle.lexaction.specs.Limits.{max_conditions};
-ghost use Rattle.lexlines.specs.Limits.{max_file_bytes};
-ghost use Rattle.lexspec.specs.Limits.{max_rules};
+ghost use Rattle.lexmeaning.specs.Limits.{max_conditions, max_file_bytes, max_rules};
 
 use crate::endings::EndRule;
 use crate::rule::Rule;

@@ -6,7 +6,7 @@ ghost use Rattle.lexspec.specs.Keeping.{HasRoom, Keeps};
 ghost use Rattle.lexlines.specs.Outcome.{UnlessMemory};
 ghost use Rattle.lexspec.specs.SoundSides.{HasSoundFront};
 ghost use Rattle.lexspec.specs.declared.rule_text.Front.TheVariants.{Matching, AtEnd};
-ghost use Rattle.lexaction.specs.Limits.{max_conditions};
+ghost use Rattle.lexmeaning.specs.Limits.{max_conditions};
 
 use crate::action_text::is_bar;
 use crate::endings::{EndRule, may_join};

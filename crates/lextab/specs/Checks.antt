@@ -1,5 +1,6 @@
 -- What a table keeps to. (This project's; what actions keep to: POSIX and flex, Actions.)
 use Rattle.std.specs.Prelude.{◌≡◌, ℕ, suc, ◌+◌, ◌<◌, ◌≤◌, Bool, false, ◌||◌, List, [], ◌∷◌, length, map, sum_by, slice_index, ⊤}
+use Rattle.lexmeaning.specs.Limits.{max_conditions, max_rules, max_states, max_classes, max_slots, max_literal_bytes, max_status, max_fixed_length, max_statements}
 use Rattle.lexmeaning.specs.Text.{IsText, Ascending, Among}
 use Rattle.lexmeaning.specs.Spec.{Statement, Print, Cut, Whole, Head, Trail, has_reject}
 use Rattle.lexmeaning.specs.Legal.{IsLegal}
@@ -20,32 +21,32 @@ sizes_of t = record { conditions = length t.conditions; rules = length t.rules; 
 
 pub record AreSizes (z : Sizes) : Type 0 where
   pub some_condition : 1 ≤ z.conditions
-  pub conditions : z.conditions ≤ 255
-  pub rules : z.rules ≤ 4096
+  pub conditions : z.conditions ≤ max_conditions
+  pub rules : z.rules ≤ max_rules
   pub some_state : 1 ≤ z.states
-  pub states : z.states ≤ 8192
+  pub states : z.states ≤ max_states
   pub some_class : 1 ≤ z.classes
-  pub classes : z.classes ≤ 256
+  pub classes : z.classes ≤ max_classes
   pub slots_for_each_class : z.classes ≤ z.slots
-  pub slots : z.slots ≤ 2097152
+  pub slots : z.slots ≤ max_slots
 
 pub record IsCondition (z : Sizes) (i : ℕ) (c : Condition) : Type 0 where
   pub start : c.start < z.states
   pub line_start : c.line_start < z.states
-  pub print : length c.end.print ≤ 4096
+  pub print : length c.end.print ≤ max_literal_bytes
   pub bytes : IsText c.end.print
-  pub status : c.end.status ≤ 63
+  pub status : c.end.status ≤ max_status
 
 abbrev pub IsCut : Cut → Type 0
 IsCut Whole = ⊤
-IsCut (Head n) = n ≤ 65535
-IsCut (Trail n) = n ≤ 65535
+IsCut (Head n) = n ≤ max_fixed_length
+IsCut (Trail n) = n ≤ max_fixed_length
 
 -- a legal action in normal form, of at most 256 statements and 4,096 literal bytes
 pub record IsRule (z : Sizes) (i : ℕ) (r : Rule) : Type 0 where
   pub cut : IsCut r.cut
-  pub few : length r.statements ≤ 256
-  pub literals : sum_by literal_bytes r.statements ≤ 4096
+  pub few : length r.statements ≤ max_statements
+  pub literals : sum_by literal_bytes r.statements ≤ max_literal_bytes
   pub legal : IsLegal z.conditions r.statements
   pub bytes : Each HasText 0 r.statements
 

@@ -2,7 +2,7 @@ use Rattle.std.proofs.Common.{◌≡◌, ◌+◌, ◌≤◌, drop, map, sum_by}
 use Rattle.lexaction.specs.Statements.{literal_bytes}
 use Rattle.lexaction.specs.Views.{statement_of}
 use Rattle.lexaction.proofs.legal.are_short.Given as goal
-use Rattle.lexaction.specs.Limits.{max_literal_bytes}
+use Rattle.lexmeaning.specs.Limits.{max_literal_bytes}
 
 abbrev pub invariant-loop-statement : goal.invariant-loop-statement
 invariant-loop-statement l = record {
