@@ -3,7 +3,7 @@ use Rattle.std.proofs.Common.{◌≡◌, ℕ, suc, ◌+◌, ◌*◌, ◌-◌, �
 use Rattle.std.proofs.lemmas.List.Sums.{sum_by-cons}
 use Rattle.lexmeaning.specs.Text.{Among, Ascending}
 use Rattle.lexmeaning.specs.Spec.{Statement, Echo, Print, Begin, More, Less, Reject, End, Push, Pop, Cut, Whole, Head, Trail}
-use Rattle.lexmachine.specs.Literals.{literal_bytes}
+use Rattle.lextab.specs.Checks.{literal_bytes}
 use Rattle.lexends.specs.Sink.{Appended, fault_count}
 use Rattle.lexends.specs.declared.sink.WriteFault.{WriteFault}
 use Rattle.lextab.specs.Table.{Condition, Rule, Row, Slot, Table}

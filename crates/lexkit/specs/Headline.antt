@@ -13,8 +13,7 @@ use Rattle.lexfile.specs.Refusals.{is_out_of_memory}
 use Rattle.lexfile.specs.declared.error.TableError.{TableError}
 use Rattle.lexmeaning.specs.Subsets.{Subsets, all_positions}
 use Rattle.lexspec.specs.Outcome.{UnlessMemory}
-use Rattle.lexre.specs.declared.options.ReadOptions.{ReadOptions}
-use Rattle.lexspec.specs.Files.{SpellsSpec}
+use Rattle.lexspec.specs.Files.{SpellsSpec, ReadOptions}
 use Rattle.lexauto.specs.declared.subsets.Limits.{Limits}
 use Rattle.lexauto.specs.declared.error.BuildError.{BuildError}
 use Rattle.lexauto.specs.declared.error.BuildError.TheVariants as builds

@@ -11,7 +11,7 @@ use Rattle.lexspec.specs.Items.{Item, AreItems}
 use Rattle.lexspec.specs.RuleItems.{EndRule, AreRules}
 use Rattle.lexmeaning.specs.Limits.{max_conditions, max_file_bytes, max_rules}
 use Rattle.lexlines.specs.Folding.{with_fold}
-use Rattle.lexre.specs.declared.options.ReadOptions.{ReadOptions}
+pub use Rattle.lexre.specs.declared.options.ReadOptions.{ReadOptions}
 
 -- no condition has two ends, and without a list there is one at most
 abbrev pub lists_number : Option (List ℕ) → ℕ → Bool

@@ -4,8 +4,7 @@ use Rattle.lexmeaning.specs.Limits.{max_conditions, max_rules, max_states, max_c
 use Rattle.lexmeaning.specs.Text.{IsText, Ascending, Among}
 use Rattle.lexmeaning.specs.Spec.{Statement, Print, Cut, Whole, Head, Trail, has_reject}
 use Rattle.lexmeaning.specs.Legal.{IsLegal}
-use Rattle.lexmachine.specs.Literals.{literal_bytes}
-pub use Rattle.lexmachine.specs.Literals.{Each, HasText}
+pub use Rattle.lexmachine.specs.Literals.{Each, HasText, literal_bytes}
 use Rattle.lextab.specs.Table.{Condition, Rule, Row, Slot, Table}
 
 -- how many there are of each kind
