@@ -13,7 +13,7 @@ fn column(alloc: Global, next: &[u32], states: usize, byte: usize) -> Result<Vec
     ensures len { IfOk result (λ v. length v.items ≡ states) }
     ensures each { IfOk result (λ v. (x : ℕ) → x < states → slice_index v.items x ≡ slice_index next.now (x * 256 + byte)) }
 {
-    let mut column = Vec::new(alloc);
+    let mut column = Vec::with_capacity(alloc, states)?;
     for state in 0..states {
         column.push(next[state * 256 + byte])?;
     }

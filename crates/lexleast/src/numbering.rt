@@ -78,7 +78,7 @@ pub(crate) fn number_rows(
         → AreCalled (length starts) numbers.new.members.items (starts ++ v.items)) }
     ensures keeps { OnOk result (Keeps numbers.old.members.items numbers.new.members.items) }
 {
-    let mut rows: Vec<u32> = Vec::new(alloc);
+    let mut rows: Vec<u32> = Vec::with_capacity(alloc, table.len())?;
     'rows: while rows.len() / 256 < numbers.members.len() {
         let member = numbers.members[rows.len() / 256] as usize;
         let target = table[member * 256 + rows.len() % 256];
