@@ -1,8 +1,9 @@
 -- The first of the matches at a place.
-use Rattle.std.specs.Prelude.{◌≡◌, ℕ, ◌-◌, ◌+◌, ◌≤◌, ◌<◌, List, [], ◌∷◌, take, drop, length, Option, Some, None}
+use Rattle.std.specs.Prelude.{◌≡◌, ℕ, ◌-◌, ◌+◌, ◌≤◌, ◌<◌, List, [], ◌∷◌, take, drop, length, map, Option, Some, None}
 use Rattle.lexmeaning.specs.Candidates.{Candidate}
 use Rattle.lexmeaning.specs.Machine.{Machine, state_after}
 use Rattle.lexmeaning.specs.Trail.{trail_from}
+use Rattle.lexmachine.specs.Views.{statement_of}
 use Rattle.lexscan.specs.declared.state.Spot.{Spot}
 use Rattle.lexscan.specs.declared.state.Reading.{Reading}
 use Rattle.lexscan.specs.declared.pick.Pick.{Pick}
@@ -16,6 +17,10 @@ trail_of M p w reach = trail_from M (M.start p.condition p.line_start) (take rea
 abbrev pub IsFirst : List Candidate → Option Pick → Type 0
 IsFirst ms None = ms ≡ []
 IsFirst ms (Some p) = (len : ℕ) × (rest : List Candidate) × (ms ≡ record { len = len; rule = p.rule; keep = p.keep } ∷ rest)
+
+-- the statements are those of the rule
+abbrev pub Says : Machine → Pick → Type 0
+Says M p = map statement_of p.statements.now ≡ M.statements p.rule
 
 -- the state after the first bytes from a place on
 abbrev pub state_at : Machine → Spot → List ℕ → ℕ → ℕ

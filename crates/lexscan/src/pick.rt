@@ -6,7 +6,7 @@ ghost use Rattle.lexmeaning.specs.Trail.{falling};
 ghost use Rattle.lexmeaning.specs.MachineLaws.{NoReject};
 ghost use Rattle.lexscan.specs.Reads.{write_fault_count};
 ghost use Rattle.lexscan.specs.Descends.{matches_of, CutAll, Performed, conditions_of, finished_of};
-ghost use Rattle.lexscan.specs.Picks.{IsFirst, Tells, trail_of};
+ghost use Rattle.lexscan.specs.Picks.{IsFirst, Says, Tells, trail_of};
 
 use crate::act::{Acting, Finish, Step, carry_out, put};
 use crate::descent::kept;
@@ -15,7 +15,7 @@ use crate::intake::Outlet;
 use crate::state::Spot;
 use crate::window::Window;
 use lexends::Sink;
-use lexmachine::Machine;
+use lexmachine::{Machine, Statement};
 
 /// How many bytes a match asked for, the state after them, and the one before the last of them.
 #[derive(Clone, Copy)]
@@ -25,26 +25,32 @@ pub struct Seen {
     pub before: u32,
 }
 
-/// A match: its rule, and how many bytes it keeps.
+/// A match: its rule, how many bytes it keeps, and what the rule does.
 #[derive(Clone, Copy)]
-pub struct Pick {
+pub struct Pick<'m> {
     pub rule: u32,
     pub keep: usize,
+    pub statements: &'m [Statement],
 }
 
 /// The first of the rules whose cut fits a match of this many bytes.
 #[inline]
-fn first_fit<M: Machine>(machine: &M, rules: &[u32], len: usize) -> Option<Pick>
+fn first_fit<'m, M: Machine>(machine: &'m M, rules: &[u32], len: usize) -> Option<Pick<'m>>
     requires known { (i : ℕ) → Among rules.now i → i < (M.machine machine.now).count }
 
     ensures first { IsFirst (filter_map (match_of (M.machine machine.now) len) rules.now) result }
     ensures known { IfSome result (λ pick. pick.rule < (M.machine machine.now).count) }
+    ensures says { IfSome result (Says (M.machine machine.now)) }
     ensures short { IfSome result (λ pick. pick.keep ≤ len) }
 {
     for rule in rules {
-        let (cut, _) = machine.rule(*rule);
+        let (cut, statements) = machine.rule(*rule);
         if let Some(keep) = kept(cut, len) {
-            return Some(Pick { rule: *rule, keep });
+            return Some(Pick {
+                rule: *rule,
+                keep,
+                statements,
+            });
         }
     }
     None
@@ -53,17 +59,23 @@ fn first_fit<M: Machine>(machine: &M, rules: &[u32], len: usize) -> Option<Pick>
 /// The longest match of the first bytes from a place on, by one more walk over them.
 #[cold]
 #[inline(never)]
-fn walk_again<M: Machine>(machine: &M, window: &Window, spot: Spot, reach: usize) -> Option<Pick>
+fn walk_again<'m, M: Machine>(
+    machine: &'m M,
+    window: &Window,
+    spot: Spot,
+    reach: usize,
+) -> Option<Pick<'m>>
     requires condition { spot.condition < (M.machine machine.now).conditions }
     requires inside { spot.at + reach ≤ length window.now.bytes }
 
     ensures first { IsFirst (falling (M.machine machine.now) 0 (trail_of (M.machine machine.now) spot window.now.bytes reach)) result }
     ensures known { IfSome result (λ pick. pick.rule < (M.machine machine.now).count) }
+    ensures says { IfSome result (Says (M.machine machine.now)) }
     ensures short { IfSome result (λ pick. pick.keep ≤ reach) }
 {
     let held = window.len();
     let mut state = machine.start(spot.condition, spot.line_start);
-    let mut best: Option<Pick> = None;
+    let mut best: Option<Pick<'m>> = None;
     let mut len = 0usize;
     'bytes: while len < reach {
         prove!(spot.at <= held && len < held - spot.at);
@@ -79,12 +91,18 @@ fn walk_again<M: Machine>(machine: &M, window: &Window, spot: Spot, reach: usize
 
 /// The longest match of the bytes that were asked for: mostly the last state accepts, or the one before it.
 #[inline]
-pub fn longest<M: Machine>(machine: &M, window: &Window, spot: Spot, seen: Seen) -> Option<Pick>
+pub fn longest<'m, M: Machine>(
+    machine: &'m M,
+    window: &Window,
+    spot: Spot,
+    seen: Seen,
+) -> Option<Pick<'m>>
     requires condition { spot.condition < (M.machine machine.now).conditions }
     requires tells { Tells (M.machine machine.now) (M.states machine.now) spot window.now.bytes seen }
 
     ensures first { IsFirst (falling (M.machine machine.now) 0 (trail_of (M.machine machine.now) spot window.now.bytes seen.reach)) result }
     ensures known { IfSome result (λ pick. pick.rule < (M.machine machine.now).count) }
+    ensures says { IfSome result (Says (M.machine machine.now)) }
     ensures short { IfSome result (λ pick. pick.keep ≤ seen.reach) }
 {
     let len = seen.reach;
@@ -107,7 +125,7 @@ pub fn carry_pick<M: Machine, K: Sink>(
     window: &Window,
     spot: Spot,
     seen: Seen,
-    pick: Option<Pick>,
+    pick: Option<Pick<'_>>,
     acting: &mut Acting,
 ) -> Result<Option<Finish>, RunError>
     requires live { outlet.old.live ≡ true }
@@ -116,6 +134,7 @@ pub fn carry_pick<M: Machine, K: Sink>(
     requires some { 1 ≤ seen.reach }
     requires first { IsFirst (falling (M.machine machine.now) 0 (trail_of (M.machine machine.now) spot window.now.bytes seen.reach)) pick }
     requires known { IfSome pick (λ pick. pick.rule < (M.machine machine.now).count) }
+    requires says { IfSome pick (Says (M.machine machine.now)) }
     requires short { IfSome pick (λ pick. pick.keep ≤ seen.reach) }
 
     ensures same { outlet.new.sink.ghost_name ≡ outlet.old.sink.ghost_name }
@@ -132,9 +151,8 @@ pub fn carry_pick<M: Machine, K: Sink>(
     match pick {
         Some(pick) => {
             prove!(spot.at <= held && pick.keep <= held - spot.at);
-            let (_, statements) = machine.rule(pick.rule);
             acting.end = spot.at + pick.keep;
-            match carry_out(outlet, window, statements, acting) {
+            match carry_out(outlet, window, pick.statements, acting) {
                 Err(e) => Err(e),
                 Ok(Step::Next) => Ok(None),
                 Ok(Step::Again) => Ok(None),
