@@ -10,7 +10,7 @@ use crate::error::RunError;
 use crate::intake::{Intake, Outlet};
 use crate::state::State;
 use crate::trail::Trail;
-use crate::turn::{Turn, turn_of};
+use crate::turn::{Turn, turn_on};
 use lexends::{Sink, Source};
 use lexmachine::Machine;
 use std::alloc::Global;
@@ -72,7 +72,7 @@ fn run_turns<M: Machine, S: Source, K: Sink>(
     ensures not_failed { IsErrOf result RunError.Failed → ⊥ }
 {
     'turns: loop {
-        match turn_of(machine, intake, outlet, trail, state) {
+        match turn_on(machine, intake, outlet, trail, state) {
             Err(e) => return Err(e),
             Ok(Turn::Ended(status)) => return Ok(status),
             Ok(Turn::Went) => {}
