@@ -19,8 +19,8 @@ IsFirst ms None = ms ≡ []
 IsFirst ms (Some p) = (len : ℕ) × (rest : List Candidate) × (ms ≡ record { len = len; rule = p.rule; keep = p.keep } ∷ rest)
 
 -- the statements are those of the rule
-abbrev pub Says : Machine → Pick → Type 0
-Says M p = map statement_of p.statements.now ≡ M.statements p.rule
+abbrev pub HasStatements : Machine → Pick → Type 0
+HasStatements M p = map statement_of p.statements.now ≡ M.statements p.rule
 
 -- the state after the first bytes from a place on
 abbrev pub state_at : Machine → Spot → List ℕ → ℕ → ℕ

@@ -6,7 +6,7 @@ ghost use Rattle.lexmeaning.specs.Trail.{falling};
 ghost use Rattle.lexmeaning.specs.MachineLaws.{NoReject};
 ghost use Rattle.lexscan.specs.Reads.{write_fault_count};
 ghost use Rattle.lexscan.specs.Descends.{matches_of, CutAll, Performed, conditions_of, finished_of};
-ghost use Rattle.lexscan.specs.Picks.{IsFirst, Says, Tells, trail_of};
+ghost use Rattle.lexscan.specs.Picks.{IsFirst, HasStatements, Tells, trail_of};
 
 use crate::act::{Acting, Finish, Step, carry_out, put};
 use crate::descent::kept;
@@ -40,7 +40,7 @@ fn first_fit<'m, M: Machine>(machine: &'m M, rules: &[u32], len: usize) -> Optio
 
     ensures first { IsFirst (filter_map (match_of (M.machine machine.now) len) rules.now) result }
     ensures known { IfSome result (λ pick. pick.rule < (M.machine machine.now).count) }
-    ensures says { IfSome result (Says (M.machine machine.now)) }
+    ensures statements { IfSome result (HasStatements (M.machine machine.now)) }
     ensures short { IfSome result (λ pick. pick.keep ≤ len) }
 {
     for rule in rules {
@@ -70,7 +70,7 @@ fn walk_again<'m, M: Machine>(
 
     ensures first { IsFirst (falling (M.machine machine.now) 0 (trail_of (M.machine machine.now) spot window.now.bytes reach)) result }
     ensures known { IfSome result (λ pick. pick.rule < (M.machine machine.now).count) }
-    ensures says { IfSome result (Says (M.machine machine.now)) }
+    ensures statements { IfSome result (HasStatements (M.machine machine.now)) }
     ensures short { IfSome result (λ pick. pick.keep ≤ reach) }
 {
     let held = window.len();
@@ -102,7 +102,7 @@ pub fn longest<'m, M: Machine>(
 
     ensures first { IsFirst (falling (M.machine machine.now) 0 (trail_of (M.machine machine.now) spot window.now.bytes seen.reach)) result }
     ensures known { IfSome result (λ pick. pick.rule < (M.machine machine.now).count) }
-    ensures says { IfSome result (Says (M.machine machine.now)) }
+    ensures statements { IfSome result (HasStatements (M.machine machine.now)) }
     ensures short { IfSome result (λ pick. pick.keep ≤ seen.reach) }
 {
     let len = seen.reach;
@@ -134,7 +134,7 @@ pub fn carry_pick<M: Machine, K: Sink>(
     requires some { 1 ≤ seen.reach }
     requires first { IsFirst (falling (M.machine machine.now) 0 (trail_of (M.machine machine.now) spot window.now.bytes seen.reach)) pick }
     requires known { IfSome pick (λ pick. pick.rule < (M.machine machine.now).count) }
-    requires says { IfSome pick (Says (M.machine machine.now)) }
+    requires statements { IfSome pick (HasStatements (M.machine machine.now)) }
     requires short { IfSome pick (λ pick. pick.keep ≤ seen.reach) }
 
     ensures same { outlet.new.sink.ghost_name ≡ outlet.old.sink.ghost_name }

@@ -15,7 +15,7 @@ returns-in-Err-clause-cut_off g c =
     let M : Machine = g.M.Machine.machine c.args.machine.now in
     let w : List ℕ = c.args.window.now.bytes in
     Pick.picked_cut M g.K.Sink.wrote g.met.K.Sink.wrote_none g.met.K.Sink.wrote_more w c.args.spot.at _ _ (trail_of M c.args.spot w c.args.seen.reach) c.in-Some.pick (conditions_of c.args.acting.now)
-    (map statement_of c.in-Some.pick.statements.now) (rw c.in-Some.is at c.requires.first) (rw c.in-Some.is at c.requires.known) (rw c.in-Some.is at c.requires.says) c.in-Err.ensures.cut_short
+    (map statement_of c.in-Some.pick.statements.now) (rw c.in-Some.is at c.requires.first) (rw c.in-Some.is at c.requires.known) (rw c.in-Some.is at c.requires.statements) c.in-Err.ensures.cut_short
 
 pub returns-in-Ok-Next-clause-performed : goal.returns-in-Ok-Next-clause-performed
 returns-in-Ok-Next-clause-performed g c =
@@ -23,7 +23,7 @@ returns-in-Ok-Next-clause-performed g c =
     let M : Machine = g.M.Machine.machine c.args.machine.now in
     let w : List ℕ = c.args.window.now.bytes in
     Pick.picked M g.K.Sink.wrote g.met.K.Sink.wrote_none g.met.K.Sink.wrote_more w c.args.spot.at _ _ (trail_of M c.args.spot w c.args.seen.reach) c.in-Some.pick (conditions_of c.args.acting.now)
-    (map statement_of c.in-Some.pick.statements.now) c.carry_out.new.acting Step.Next (λ e. cc) (rw c.in-Some.is at c.requires.first) (rw c.in-Some.is at c.requires.known) (rw c.in-Some.is at c.requires.says) ens.carried
+    (map statement_of c.in-Some.pick.statements.now) c.carry_out.new.acting Step.Next (λ e. cc) (rw c.in-Some.is at c.requires.first) (rw c.in-Some.is at c.requires.known) (rw c.in-Some.is at c.requires.statements) ens.carried
 
 pub returns-in-Ok-Again-clause-performed : goal.returns-in-Ok-Again-clause-performed
 returns-in-Ok-Again-clause-performed g c =
@@ -31,7 +31,7 @@ returns-in-Ok-Again-clause-performed g c =
     let M : Machine = g.M.Machine.machine c.args.machine.now in
     let w : List ℕ = c.args.window.now.bytes in
     absurd (Pick.never_again M g.K.Sink.wrote g.met.K.Sink.wrote_none g.met.K.Sink.wrote_more w c.args.spot.at _ _ c.in-Some.pick (conditions_of c.args.acting.now)
-    (map statement_of c.in-Some.pick.statements.now) c.carry_out.new.acting c.requires.quiet (rw c.in-Some.is at c.requires.known) (rw c.in-Some.is at c.requires.says) ens.carried)
+    (map statement_of c.in-Some.pick.statements.now) c.carry_out.new.acting c.requires.quiet (rw c.in-Some.is at c.requires.known) (rw c.in-Some.is at c.requires.statements) ens.carried)
 
 pub returns-in-Ok-Over-clause-performed : goal.returns-in-Ok-Over-clause-performed
 returns-in-Ok-Over-clause-performed g c =
@@ -39,7 +39,7 @@ returns-in-Ok-Over-clause-performed g c =
     let M : Machine = g.M.Machine.machine c.args.machine.now in
     let w : List ℕ = c.args.window.now.bytes in
     Pick.picked M g.K.Sink.wrote g.met.K.Sink.wrote_none g.met.K.Sink.wrote_more w c.args.spot.at _ _ (trail_of M c.args.spot w c.args.seen.reach) c.in-Some.pick (conditions_of c.args.acting.now)
-    (map statement_of c.in-Some.pick.statements.now) c.carry_out.new.acting (Step.Over c.in-Ok-Over.finish) (λ e. cc) (rw c.in-Some.is at c.requires.first) (rw c.in-Some.is at c.requires.known) (rw c.in-Some.is at c.requires.says) ens.carried
+    (map statement_of c.in-Some.pick.statements.now) c.carry_out.new.acting (Step.Over c.in-Ok-Over.finish) (λ e. cc) (rw c.in-Some.is at c.requires.first) (rw c.in-Some.is at c.requires.known) (rw c.in-Some.is at c.requires.statements) ens.carried
 
 pub returns-in-Err-put-clause-cut_off : goal.returns-in-Err-put-clause-cut_off
 returns-in-Err-put-clause-cut_off g c =

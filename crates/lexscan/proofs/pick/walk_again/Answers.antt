@@ -24,7 +24,7 @@ bytes-preserved-in-Some g c =
       first = Pick.first_same _ _ (Some c.in-Some.pick) (Pick.falling_more M p w n lt)
           (Pick.first_before _ (falling M 0 (trail_of M p w n)) c.in-Some.pick (subst (λ l. IsFirst (filter_map (match_of M (n + 1)) l) (Some c.in-Some.pick)) (c.accepts.ensures ∙ ap M.accepts stepped) c.in-Some.ensures.first));
       known = c.in-Some.ensures.known;
-      says = c.in-Some.ensures.says;
+      statements = c.in-Some.ensures.statements;
       keeps = c.in-Some.ensures.short;
     }
 
@@ -44,6 +44,6 @@ bytes-preserved g c =
       first = Pick.first_same _ _ c.bytes.best (Pick.falling_more M p w n lt)
           (Pick.first_after _ (falling M 0 (trail_of M p w n)) c.bytes.best (subst (λ l. IsFirst (filter_map (match_of M (n + 1)) l) None) (c.accepts.ensures ∙ ap M.accepts stepped) c.in-None.ensures.first) c.bytes.invariant.first);
       known = c.bytes.invariant.known;
-      says = c.bytes.invariant.says;
+      statements = c.bytes.invariant.statements;
       keeps = Pick.keeps_more c.bytes.best n c.bytes.invariant.keeps;
     }

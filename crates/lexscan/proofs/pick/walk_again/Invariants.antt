@@ -1,7 +1,7 @@
 use Rattle.std.proofs.Common.{◌≡◌, ◌≤◌, ◌<◌, ◌-◌}
 use Rattle.std.specs.Prelude.{IfSome}
 use Rattle.lexmeaning.specs.Trail.{falling}
-use Rattle.lexscan.specs.Picks.{IsFirst, Says, trail_of, state_at}
+use Rattle.lexscan.specs.Picks.{IsFirst, HasStatements, trail_of, state_at}
 use Rattle.lexscan.proofs.pick.walk_again.Given as goal
 
 abbrev pub invariant-bytes : goal.invariant-bytes
@@ -13,7 +13,7 @@ invariant-bytes g l =
       state_known : l.state < g.M.Machine.states l.machine;
       first : IsFirst (falling M 0 (trail_of M l.fn.spot l.fn.window.bytes l.len)) l.best;
       known : IfSome l.best (λ pick. pick.rule < M.count);
-      says : IfSome l.best (Says M);
+      statements : IfSome l.best (HasStatements M);
       keeps : IfSome l.best (λ pick. pick.keep ≤ l.len);
     }
 
