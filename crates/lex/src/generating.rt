@@ -3,8 +3,9 @@ ghost use Rattle.std.specs.Prelude.{◌≤◌};
 
 use crate::failure::Failure;
 use lexkit::{
-    BackUp, ByteWriter, Generated, Options, Sink, Stats, Tables, ToWrite, Warning, WriteFault,
-    generate, write_backup, write_stats, write_tables, write_warnings,
+    BackUp, ByteWriter, Generated, MAX_POSITIONS, MAX_STATES, Options, Sink, Stats, Tables,
+    ToWrite, Warning, WriteFault, generate, write_backup, write_stats, write_tables,
+    write_warnings,
 };
 use std::fs::File;
 use std::io;
@@ -37,8 +38,8 @@ pub fn make(
     options: Options,
     outputs: &Outputs,
 ) -> Result<(), Failure>
-    requires few_positions { options.limits.positions ≤ 16384 }
-    requires few_states { options.limits.states ≤ 8192 }
+    requires few_positions { options.limits.positions ≤ MAX_POSITIONS }
+    requires few_states { options.limits.states ≤ MAX_STATES }
 {
     let made = generate(rt.alloc(), text, options)?;
     if !outputs.quiet {
@@ -56,8 +57,8 @@ pub fn make(
 
 /// Writes the warnings of a specification to standard error.
 pub fn write_warnings_of(rt: &HostRuntime, text: &[u8], options: Options) -> Result<(), Failure>
-    requires few_positions { options.limits.positions ≤ 16384 }
-    requires few_states { options.limits.states ≤ 8192 }
+    requires few_positions { options.limits.positions ≤ MAX_POSITIONS }
+    requires few_states { options.limits.states ≤ MAX_STATES }
 {
     let made = generate(rt.alloc(), text, options)?;
     warn(rt, &made.warnings)

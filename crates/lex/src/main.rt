@@ -11,8 +11,8 @@ use crate::failure::Failure;
 use crate::generating::{Outputs, make, write_warnings_of};
 use crate::reading::{read_spec_file, read_specification, read_table_file};
 use lexkit::{
-    ArgsError, ByteReader, ByteWriter, FromRead, Job, Options, Sink, ToWrite, read_args, scan_spec,
-    scan_table, write_fault,
+    ArgsError, ByteReader, ByteWriter, FromRead, Job, MAX_POSITIONS, MAX_STATES, Options, Sink,
+    ToWrite, read_args, scan_spec, scan_table, write_fault,
 };
 use std::io::ErrorKind;
 use std::process::ExitCode;
@@ -76,8 +76,8 @@ fn scan(rt: &HostRuntime, by: By<'_>) -> Result<u8, Failure> {
 
 /// How a specification is read, with the limits of the program.
 fn options_of(options: PatternOptions) -> Options
-    ensures few_positions { result.limits.positions ≤ 16384 }
-    ensures few_states { result.limits.states ≤ 8192 }
+    ensures few_positions { result.limits.positions ≤ MAX_POSITIONS }
+    ensures few_states { result.limits.states ≤ MAX_STATES }
 {
     let PatternOptions { fold, posix } = options;
     Options {

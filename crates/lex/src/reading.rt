@@ -4,13 +4,14 @@ ghost use Rattle.lex.specs.Faults.{out_of_memory};
 ghost use Rattle.lex.specs.declared.failure.Failure.{Failure};
 
 use crate::failure::Failure;
+use lexkit::MAX_FILE_BYTES;
 use std::alloc::AllocError;
 use std::fs::File;
 use std::io;
 use std::io::{ErrorKind, Read};
 
-/// The bytes of the longest specification.
-const MAX_SPEC: u64 = 1_048_576;
+/// The bytes that are read of a specification at most: one more than it may have.
+const SPEC_BYTES: u64 = MAX_FILE_BYTES as u64 + 1;
 
 /// The bytes of the longest table file.
 const MAX_TABLE: u64 = 268_435_456;
@@ -41,16 +42,16 @@ fn unread(error: ErrorKind, name: String) -> Failure
 pub fn read_specification(rt: &HostRuntime, files: &[String]) -> Result<Vec<u8>, Failure> {
     let mut text = Vec::new(rt.alloc());
     if files.is_empty() {
-        if let Err(error) = read_more(rt, "-", MAX_SPEC + 1, &mut text) {
+        if let Err(error) = read_more(rt, "-", SPEC_BYTES, &mut text) {
             return Err(unread(error.kind(), String::from_str(rt.alloc(), "-")?));
         }
     }
     for file in files {
-        if let Err(error) = read_more(rt, file.as_str(), MAX_SPEC + 1, &mut text) {
+        if let Err(error) = read_more(rt, file.as_str(), SPEC_BYTES, &mut text) {
             let name = String::from_str(rt.alloc(), file.as_str())?;
             return Err(unread(error.kind(), name));
         }
-        if text.len() as u64 > MAX_SPEC {
+        if text.len() > MAX_FILE_BYTES {
             return Ok(text);
         }
     }
@@ -62,7 +63,7 @@ pub fn read_spec_file(rt: &HostRuntime, name: String) -> Result<Vec<u8>, Failure
     ensures { IfErr result (λ failure. (failure ≡ out_of_memory) ⊎ (failure ≡ Failure.File name)) }
 {
     let mut text = Vec::new(rt.alloc());
-    match read_more(rt, name.as_str(), MAX_SPEC + 1, &mut text) {
+    match read_more(rt, name.as_str(), SPEC_BYTES, &mut text) {
         Ok(()) => Ok(text),
         Err(error) => Err(unread(error.kind(), name)),
     }

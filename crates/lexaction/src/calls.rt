@@ -14,12 +14,8 @@ use crate::format::parts_of;
 use crate::statement::{Called, Parts, Said};
 use lexclass::{SpecErrorKind, capped_value};
 use lexmachine::Statement;
+use lexmeaning::{MAX_KEPT, MAX_STATUS};
 use std::alloc::Global;
-
-/// The most bytes that yyless keeps.
-const MAX_KEPT: u32 = 65_535;
-/// The greatest status of exit.
-const MAX_STATUS: u32 = 63;
 
 #[tactic(auto, unfolding(crate::specs::Actions::this_word))]
 fn this_word<'a>(word: &[u8], text: &'a [u8]) -> Option<&'a [u8]>

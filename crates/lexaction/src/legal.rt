@@ -10,11 +10,7 @@ ghost use Rattle.lexmeaning.specs.Limits.{max_literal_bytes};
 
 use lexclass::SpecErrorKind;
 use lexmachine::{Statement, has_reject};
-
-/// The greatest count of statements in an action.
-const MAX_STATEMENTS: usize = 256;
-/// The greatest count of literal bytes in an action.
-const MAX_LITERAL_BYTES: usize = 4_096;
+use lexmeaning::{MAX_LITERAL_BYTES, MAX_STATEMENTS};
 
 fn has_more(statements: &[Statement]) -> bool
     ensures { result ≡ has_more (map statement_of statements.now) }

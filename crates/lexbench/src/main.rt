@@ -11,6 +11,7 @@ use lexdfa::{Dfa, OutOfMemory};
 use lexends::{MemorySink, WriteFault};
 use lexfile::{TableError, read_tables, write_tables};
 use lexleast::minimise;
+use lexmeaning::{MAX_FILE_BYTES, MAX_POSITIONS, MAX_STATES};
 use lexpack::pack;
 use lexreport::{backing_up, useless_rules};
 use lexspec::{ReadOptions, Spec, SpecError, read_spec};
@@ -22,12 +23,9 @@ use thiserror::Error;
 
 /// The most positions and states.
 const LIMITS: Limits = Limits {
-    positions: 16_384,
-    states: 8_192,
+    positions: MAX_POSITIONS,
+    states: MAX_STATES,
 };
-
-/// The bytes of the longest specification that is read as one.
-const MAX_SPEC: u64 = 1_048_576;
 
 /// An automaton, how many states it had before, and the milliseconds of both steps.
 #[derive(Drop)]
@@ -105,7 +103,9 @@ impl From<TableError> for Failure {
 /// The specification on standard input.
 fn read(rt: &HostRuntime) -> Result<Spec, Failure> {
     let mut text = Vec::new(rt.alloc());
-    rt.reader().take(MAX_SPEC + 1).read_to_end(&mut text)?;
+    rt.reader()
+        .take(MAX_FILE_BYTES as u64 + 1)
+        .read_to_end(&mut text)?;
     let options = ReadOptions {
         fold: false,
         posix: false,

@@ -8,25 +8,26 @@ use Rattle.lextab.specs.declared.parts.TableCondition.{TableCondition}
 use Rattle.lextab.specs.declared.parts.TableRule.{TableRule}
 use Rattle.lextab.specs.declared.parts.Row.{Row}
 use Rattle.lextab.specs.declared.parts.TableParts.{TableParts}
+use Rattle.lexmeaning.specs.Limits.{max_conditions, max_statements, max_literal_bytes, max_rules, max_states, max_slots}
 
 abbrev pub FitsStatement : Statement → Type 0
-FitsStatement s = literal_bytes (statement_of s) ≤ 4096
+FitsStatement s = literal_bytes (statement_of s) ≤ max_literal_bytes
 
 pub record FitsRule (r : TableRule) : Type 0 where
-  pub few : length r.statements.items ≤ 256
+  pub few : length r.statements.items ≤ max_statements
   pub each : All FitsStatement r.statements.items
 
 abbrev pub FitsCondition : TableCondition → Type 0
-FitsCondition c = length c.end.print.items ≤ 4096
+FitsCondition c = length c.end.print.items ≤ max_literal_bytes
 
 abbrev pub FitsRow : Row → Type 0
-FitsRow r = length r.rules.items ≤ 4096
+FitsRow r = length r.rules.items ≤ max_rules
 
 pub record FitsParts (p : TableParts) : Type 0 where
-  pub conditions : length p.conditions.items ≤ 255
-  pub rules : length p.rules.items ≤ 4096
-  pub rows : length p.rows.items ≤ 8192
-  pub slots : length (slots_of p.checks.items p.nexts.items) ≤ 2097152
+  pub conditions : length p.conditions.items ≤ max_conditions
+  pub rules : length p.rules.items ≤ max_rules
+  pub rows : length p.rows.items ≤ max_states
+  pub slots : length (slots_of p.checks.items p.nexts.items) ≤ max_slots
   pub each_condition : All FitsCondition p.conditions.items
   pub each_rule : All FitsRule p.rules.items
   pub each_row : All FitsRow p.rows.items

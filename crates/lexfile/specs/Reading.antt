@@ -6,6 +6,7 @@ use Rattle.lextab.specs.Table.{Condition, Rule, Row, Slot, Table}
 use Rattle.lextab.specs.Checks.{Sizes, any_reject, bases_of}
 use Rattle.lexfile.specs.File.{version_of}
 use Rattle.lexfile.specs.Seen.{Seen, unseen, seen_after, following}
+use Rattle.lexmeaning.specs.Limits.{max_conditions, max_rules, max_states, max_classes, max_slots, max_literal_bytes, max_status, max_fixed_length, max_statements}
 
 infixl 10 ◌>>=◌
 abbrev pub ◌>>=◌ : {A B : Type 0} → Option A → (A → Option B) → Option B
@@ -66,7 +67,7 @@ abbrev pub sizes_from : ℕ × (ℕ × (ℕ × (ℕ × ℕ))) → Sizes
 sizes_from p = record { conditions = p.0; rules = p.1.0; states = p.1.1.0; classes = p.1.1.1.0; slots = p.1.1.1.1 }
 
 unfoldable pub sizes_at : List ℕ → Option (Sizes × List ℕ)
-sizes_at = seen_as sizes_from (both (long_at 1 255) (λ c. both (long_at 0 4096) (λ r. both (long_at 1 8192) (λ n. both (long_at 1 256) (λ k. long_at k 2097152)))))
+sizes_at = seen_as sizes_from (both (long_at 1 max_conditions) (λ c. both (long_at 0 max_rules) (λ r. both (long_at 1 max_states) (λ n. both (long_at 1 max_classes) (λ k. long_at k max_slots)))))
 
 -- ---- conditions
 
@@ -74,7 +75,7 @@ abbrev pub end_from : List ℕ × ℕ → EndAction
 end_from p = record { print = p.0; status = p.1 }
 
 unfoldable pub end_at : List ℕ → Option (EndAction × List ℕ)
-end_at = seen_as end_from (both (string_at 0 4096) (λ p. only_if (below 64) byte_at))
+end_at = seen_as end_from (both (string_at 0 max_literal_bytes) (λ p. only_if (below (max_status + 1)) byte_at))
 
 abbrev pub condition_from : ℕ × (ℕ × EndAction) → Condition
 condition_from p = record { start = p.0; line_start = p.1.0; end = p.1.1 }
@@ -90,8 +91,8 @@ whole_of n = Whole
 abbrev pub cut_number : ℕ → List ℕ → Option (Cut × List ℕ)
 cut_number k bytes =
     if k == 0 then seen_as whole_of (only_if (below 1) (number_at w32)) bytes
-    else if k == 1 then seen_as Head (only_if (below 65536) (number_at w32)) bytes
-    else if k == 2 then seen_as Trail (only_if (below 65536) (number_at w32)) bytes
+    else if k == 1 then seen_as Head (only_if (below (max_fixed_length + 1)) (number_at w32)) bytes
+    else if k == 2 then seen_as Trail (only_if (below (max_fixed_length + 1)) (number_at w32)) bytes
     else None
 
 unfoldable pub cut_at : List ℕ → Option (Cut × List ℕ)
@@ -112,12 +113,12 @@ bars s k =
 abbrev pub arguments : ℕ → Seen → ℕ → List ℕ → Option (Statement × List ℕ)
 arguments conditions s k bytes =
     if k == 0 then Some (Echo, bytes)
-    else if k == 1 then seen_as Print (string_at 1 (4096 - s.literal)) bytes
+    else if k == 1 then seen_as Print (string_at 1 (max_literal_bytes - s.literal)) bytes
     else if k == 2 then seen_as Begin (only_if (below conditions) byte_at) bytes
     else if k == 3 then Some (More, bytes)
     else if k == 4 then seen_as Less positive_at bytes
     else if k == 5 then Some (Reject, bytes)
-    else if k == 6 then seen_as End (only_if (below 64) byte_at) bytes
+    else if k == 6 then seen_as End (only_if (below (max_status + 1)) byte_at) bytes
     else if k == 7 then seen_as Push (only_if (below conditions) byte_at) bytes
     else if k == 8 then Some (Pop, bytes)
     else None
@@ -127,7 +128,7 @@ statement_at conditions s bytes = byte_at bytes >>= λ k. if bars s k.0 then Non
 
 -- a count, and so many
 abbrev pub statements_at : ℕ → Bool → List ℕ → Option (List Statement × List ℕ)
-statements_at conditions stack = seen_as (λ p. p.1) (both (long_at 0 256) (λ n. many (statement_at conditions) seen_after n (unseen stack n)))
+statements_at conditions stack = seen_as (λ p. p.1) (both (long_at 0 max_statements) (λ n. many (statement_at conditions) seen_after n (unseen stack n)))
 
 abbrev pub rule_from : Cut × List Statement → Rule
 rule_from p = record { cut = p.0; statements = p.1 }

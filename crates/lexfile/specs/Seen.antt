@@ -2,6 +2,7 @@
 use Rattle.std.specs.Prelude.{◌≡◌, ℕ, ◌+◌, ◌-◌, ◌<◌, ◌≤◌, Bool, true, false, List, [], ◌∷◌, length, ⊤}
 use Rattle.lexmeaning.specs.Text.{IsText}
 use Rattle.lexmeaning.specs.Spec.{Statement, Echo, Print, Begin, More, Less, Reject, End, Push, Pop}
+use Rattle.lexmeaning.specs.Limits.{max_literal_bytes, max_kept}
 
 -- each of the list meets P at the state that those before it left
 abbrev pub EachFrom : {A S : Type 0} → (S → A → Type 0) → (S → A → S) → S → List A → Type 0
@@ -41,10 +42,10 @@ seen_after s Pop = record s { printed = false; left = s.left - 1 }
 -- the statement may stand there, where there are so many conditions
 abbrev pub MayStand : ℕ → Seen → Statement → Type 0
 MayStand conditions s Echo = ⊤
-MayStand conditions s (Print bytes) = (s.printed ≡ false) × IsString 1 (4096 - s.literal) bytes
+MayStand conditions s (Print bytes) = (s.printed ≡ false) × IsString 1 (max_literal_bytes - s.literal) bytes
 MayStand conditions s (Begin c) = c < conditions
 MayStand conditions s More = s.less ≡ false
-MayStand conditions s (Less n) = (s.less ≡ false) × ((s.more ≡ false) × ((1 ≤ n) × (n < 65536)))
+MayStand conditions s (Less n) = (s.less ≡ false) × ((s.more ≡ false) × ((1 ≤ n) × (n < max_kept + 1)))
 MayStand conditions s Reject = ((s.less ≡ false) × (s.more ≡ false)) × (s.left ≤ 1)
 MayStand conditions s (End status) = (s.left ≤ 1) × (status < 64)
 MayStand conditions s (Push c) = (s.stack ≡ true) × (c < conditions)

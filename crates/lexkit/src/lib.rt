@@ -23,6 +23,7 @@ pub use lexends::{
     WriteFault,
 };
 pub use lexfile::{TableError, read_tables, write_tables};
+pub use lexmeaning::{MAX_FILE_BYTES, MAX_POSITIONS, MAX_STATES};
 pub use lexreport::{BackUp, Warning, write_backup, write_warnings};
 pub use lexscan::RunError;
 pub use lexspec::{PatternError, PatternErrorKind, SpecError, SpecErrorKind};

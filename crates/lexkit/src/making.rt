@@ -2,6 +2,7 @@
 ghost use Rattle.std.specs.Prelude.{◌≡◌, ◌≤◌, IfOk, IfErr};
 ghost use Rattle.lexspec.specs.Views.{spec_of};
 ghost use Rattle.lexkit.specs.Generated.{IsLeastOf, IsMadeOf, SpecRefusal, MakesBy, Makes};
+ghost use Rattle.lexmeaning.specs.Limits.{max_positions, max_states};
 
 use crate::errors::GenError;
 use crate::options::Options;
@@ -39,8 +40,8 @@ pub(crate) struct Least {
 /// file of the tables is the canonical one of the specification's rules. A text that spells none, or one whose automaton passes
 /// the limits, is refused.
 pub fn generate(alloc: Global, text: &[u8], options: Options) -> Result<Generated, GenError>
-    requires few_positions { options.limits.positions ≤ 16384 }
-    requires few_states { options.limits.states ≤ 8192 }
+    requires few_positions { options.limits.positions ≤ max_positions }
+    requires few_states { options.limits.states ≤ max_states }
     ensures { Makes options text.now result }
 {
     let read = ReadOptions {
@@ -55,8 +56,8 @@ pub fn generate(alloc: Global, text: &[u8], options: Options) -> Result<Generate
 }
 
 fn generate_by(alloc: Global, spec: &Spec, limits: Limits) -> Result<Generated, GenError>
-    requires few_positions { limits.positions ≤ 16384 }
-    requires few_states { limits.states ≤ 8192 }
+    requires few_positions { limits.positions ≤ max_positions }
+    requires few_states { limits.states ≤ max_states }
     ensures { MakesBy limits (spec_of spec.now) result }
 {
     let least = match least_automaton(alloc, spec, limits) {
@@ -71,8 +72,8 @@ fn generate_by(alloc: Global, spec: &Spec, limits: Limits) -> Result<Generated, 
 
 /// Builds the automaton of a specification, and minimises it.
 pub(crate) fn least_automaton(alloc: Global, spec: &Spec, limits: Limits) -> Result<Least, GenError>
-    requires few_positions { limits.positions ≤ 16384 }
-    requires few_states { limits.states ≤ 8192 }
+    requires few_positions { limits.positions ≤ max_positions }
+    requires few_states { limits.states ≤ max_states }
     ensures made { IfOk result (λ l. IsLeastOf limits (spec_of spec.now) l.subsets l.automaton) }
     ensures refused { IfErr result (SpecRefusal limits (spec_of spec.now)) }
 {

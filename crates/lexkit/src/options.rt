@@ -1,7 +1,9 @@
 //! How a specification is read, and how large its automaton may be.
 ghost use Rattle.std.specs.Prelude.{◌≡◌, false};
+ghost use Rattle.lexmeaning.specs.Limits.{max_positions, max_states};
 
 use lexauto::Limits;
+use lexmeaning::{MAX_POSITIONS, MAX_STATES};
 
 /// What a caller may choose about a specification.
 #[derive(Clone, Copy, Debug, PartialEq, Eq)]
@@ -17,14 +19,14 @@ pub struct Options {
 impl Options {
     /// Patterns as they stand, and automata of at most 16,384 positions and 8,192 states.
     pub fn new() -> Options
-        ensures { result ≡ record { fold = false; posix = false; limits = record { positions = 16384; states = 8192 } } }
+        ensures { result ≡ record { fold = false; posix = false; limits = record { positions = max_positions; states = max_states } } }
     {
         Options {
             fold: false,
             posix: false,
             limits: Limits {
-                positions: 16_384,
-                states: 8_192,
+                positions: MAX_POSITIONS,
+                states: MAX_STATES,
             },
         }
     }

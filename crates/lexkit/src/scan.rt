@@ -3,6 +3,7 @@ ghost use Rattle.std.specs.Prelude.{◌≡◌, ℕ, ◌+◌, ◌-◌, ◌^◌, �
 ghost use Rattle.lexspec.specs.Views.{spec_of};
 ghost use Rattle.lexkit.specs.Headline.{Headline, ScansBy, TableHeadline};
 ghost use Rattle.lexkit.specs.ScanCounts.{read_fault_count, write_fault_count};
+ghost use Rattle.lexmeaning.specs.Limits.{max_positions, max_states};
 
 use crate::errors::{GenError, ScanError};
 use crate::making::least_automaton;
@@ -30,8 +31,8 @@ pub fn scan_spec<S: Source, K: Sink>(
     source: &mut S,
     sink: &mut K,
 ) -> Result<u8, ScanError>
-    requires few_positions { options.limits.positions ≤ 16384 }
-    requires few_states { options.limits.states ≤ 8192 }
+    requires few_positions { options.limits.positions ≤ max_positions }
+    requires few_states { options.limits.states ≤ max_states }
     requires few_ends { S.ends source.old < 2 ^ 64 - 1 }
     requires few_read_faults { S.failures source.old < 2 ^ 64 - 1 }
     requires few_write_faults { K.failures sink.old < 2 ^ 64 - 1 }
@@ -60,8 +61,8 @@ fn scan_by<S: Source, K: Sink>(
     source: &mut S,
     sink: &mut K,
 ) -> Result<u8, ScanError>
-    requires few_positions { limits.positions ≤ 16384 }
-    requires few_states { limits.states ≤ 8192 }
+    requires few_positions { limits.positions ≤ max_positions }
+    requires few_states { limits.states ≤ max_states }
     requires few_ends { S.ends source.old < 2 ^ 64 - 1 }
     requires few_read_faults { S.failures source.old < 2 ^ 64 - 1 }
     requires few_write_faults { K.failures sink.old < 2 ^ 64 - 1 }

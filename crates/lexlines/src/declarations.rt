@@ -12,11 +12,9 @@ use crate::lines::next_word;
 use crate::skipped::Skipped;
 use lexaction::{Condition, EndAction, number_of};
 use lexclass::SpecErrorKind;
+use lexmeaning::MAX_CONDITIONS;
 use lexre::{Defs, DefsError, ReadOptions};
 use std::alloc::{AllocError, Global};
-
-/// The most conditions, INITIAL among them.
-pub const MAX_CONDITIONS: usize = 255;
 
 /// What the lines of the definitions section declare.
 #[derive(Drop)]

@@ -11,13 +11,13 @@ mod section;
 mod skipped;
 mod skipping;
 
-pub use declarations::{Declarations, MAX_CONDITIONS};
+pub use declarations::Declarations;
 pub use laws::examples_of_lines;
 pub use lexclass::{SpecError, SpecErrorKind};
 pub use lines::{
     is_all_blank, is_blank, skip_blanks, split_before, split_line, starts_blank, without_returns,
 };
-pub use newlines::{MAX_FILE_BYTES, newlines_before};
+pub use newlines::newlines_before;
 pub use section::{Section, read_section};
 pub use skipped::Skipped;
 pub use skipping::skip_block;

@@ -3,9 +3,6 @@ ghost use Rattle.std.specs.Prelude.{◌≡◌, ◌≤◌, ◌-◌, length, take}
 ghost use Rattle.lexlines.specs.Lines.{newlines};
 ghost use Rattle.lexmeaning.specs.Limits.{max_file_bytes};
 
-/// The most bytes of a file.
-pub const MAX_FILE_BYTES: usize = 1_048_576;
-
 /// How many newlines stand before the rest of the text.
 pub fn newlines_before(text: &[u8], rest: &[u8]) -> u32
     requires { length text.now ≤ max_file_bytes }

@@ -1,10 +1,11 @@
 //! The meaning of a scan: the definitions that a reader must believe (in `specs/`), and the laws over them.
-//! Each function here has a law as its contract, and does nothing.
+//! Each function here has a law as its contract, and does nothing. The constants are the limits that crates share.
 #![tactic(auto)]
 
 mod demand;
 mod examples;
 mod knowledge;
+mod limits;
 mod plain_program;
 mod tables;
 mod turns;
@@ -21,6 +22,11 @@ pub use examples::{
 pub use knowledge::{
     begins_the_run, known_after_end, known_after_match, known_after_match_at_end, known_at_first,
     known_once_ended, part_begins_the_run,
+};
+pub use limits::{
+    MAX_CLASSES, MAX_CONDITIONS, MAX_FILE_BYTES, MAX_FIXED_LENGTH, MAX_KEPT, MAX_LITERAL_BYTES,
+    MAX_POSITIONS, MAX_RULES, MAX_SLOTS, MAX_STACK, MAX_STATEMENTS, MAX_STATES, MAX_STATUS,
+    limits_agree,
 };
 pub use plain_program::{plain_demand, plain_run};
 pub use tables::{

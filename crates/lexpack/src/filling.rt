@@ -2,6 +2,7 @@
 ghost use Rattle.std.specs.Prelude.{◌≡◌, ◌≢◌, ℕ, ◌+◌, ◌*◌, ◌<◌, ◌≤◌, ◌^◌, length, slice_index, OnOk, IfOk};
 ghost use Rattle.lexpack.specs.Packing.{IsBase, IsSize, AreSlots};
 ghost use Rattle.lexpack.specs.Searching.{by_head, AreFilled};
+ghost use Rattle.lexmeaning.specs.Limits.{max_states};
 
 use crate::rows::{entries_of, row_of};
 use std::alloc::{AllocError, Global};
@@ -47,7 +48,7 @@ fn fill_all(
     targets: &mut [u32],
 ) -> Result<(), AllocError>
     requires rows { length next.now ≡ 256 * length bases.now }
-    requires states { length bases.now ≤ 8192 }
+    requires states { length bases.now ≤ max_states }
     requires few { length heads.now ≤ 256 }
     requires defaults { length defaults.now ≡ length bases.now }
     requires placed { (s : ℕ) → s < length bases.now → IsBase (by_head next.now heads.now) (length heads.now) defaults.now bases.now s (slice_index bases.now s) }
@@ -88,7 +89,7 @@ pub(crate) fn slots_of(
 ) -> Result<Slots, AllocError>
     requires some { 0 < length bases.now }
     requires rows { length next.now ≡ 256 * length bases.now }
-    requires states { length bases.now ≤ 8192 }
+    requires states { length bases.now ≤ max_states }
     requires few { length heads.now ≤ 256 }
     requires defaults { length defaults.now ≡ length bases.now }
     requires placed { (s : ℕ) → s < length bases.now → IsBase (by_head next.now heads.now) (length heads.now) defaults.now bases.now s (slice_index bases.now s) }

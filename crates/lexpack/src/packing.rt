@@ -3,6 +3,7 @@ ghost use Rattle.std.specs.Prelude.{◌≡◌, ℕ, ◌*◌, ◌<◌, ◌≤◌,
 ghost use Rattle.lexpack.specs.Packing.{IsPacked};
 ghost use Rattle.lexpack.specs.Searching.{moves};
 ghost use Rattle.lexpack.specs.Views.{packing_of};
+ghost use Rattle.lexmeaning.specs.Limits.{max_states};
 
 use crate::classes::classes_of;
 use crate::filling::slots_of;
@@ -25,7 +26,7 @@ pub(crate) struct Packed {
 pub(crate) fn pack_rows(alloc: Global, next: &[u32], states: usize) -> Result<Packed, AllocError>
     requires rows { length next.now ≡ 256 * states }
     requires some { 0 < states }
-    requires few { states ≤ 8192 }
+    requires few { states ≤ max_states }
     requires below { (i : ℕ) → i < length next.now → slice_index next.now i < states }
     ensures { IfOk result (λ p. IsPacked states (moves next.now) (packing_of p)) }
 {

@@ -2,6 +2,7 @@
 ghost use Rattle.std.specs.Prelude.{◌≡◌, ℕ, ◌+◌, ◌*◌, ◌<◌, ◌≤◌, ◌^◌, length, vec_len, slice_index, OnOk, IfOk};
 ghost use Rattle.lexpack.specs.Packing.{IsBase};
 ghost use Rattle.lexpack.specs.Searching.{slot_bit, IsFirstFit, IsMarked, by_head};
+ghost use Rattle.lexmeaning.specs.Limits.{max_states};
 
 use crate::rows::{entries_of, row_of};
 use crate::slots::{first_fit, full_words, mark};
@@ -40,7 +41,7 @@ pub(crate) fn bases_of(
     defaults: &[u32],
 ) -> Result<Vec<u32>, AllocError>
     requires rows { length next.now ≡ 256 * states }
-    requires states { states ≤ 8192 }
+    requires states { states ≤ max_states }
     requires few { length heads.now ≤ 256 }
     requires defaults { length defaults.now ≡ states }
     ensures len { IfOk result (λ v. length v.items ≡ states) }

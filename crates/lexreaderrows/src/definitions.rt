@@ -1,9 +1,10 @@
 use crate::patterns::PLAIN;
 use lexaction::{Condition, number_of};
 use lexlines::{
-    MAX_FILE_BYTES, Skipped, SpecErrorKind, is_all_blank, is_blank, newlines_before, read_section,
-    skip_blanks, skip_block, split_before, split_line, starts_blank, without_returns,
+    Skipped, SpecErrorKind, is_all_blank, is_blank, newlines_before, read_section, skip_blanks,
+    skip_block, split_before, split_line, starts_blank, without_returns,
 };
+use lexmeaning::MAX_FILE_BYTES;
 use std::alloc::{AllocError, Global};
 use std::test::Fail;
 

@@ -3,15 +3,13 @@ ghost use Rattle.std.specs.Prelude.{◌≡◌, List, [], ◌∷◌, true, false,
 ghost use Rattle.lexmeaning.specs.Acting.{has_room};
 
 use arrayvec::ArrayVec;
+use lexmeaning::MAX_STACK;
 use std::marker::Model;
-
-/// How many conditions it holds at most.
-const DEPTH: usize = 255;
 
 /// The conditions that pushes have put there, in an array of fixed capacity.
 #[derive(Drop)]
 pub struct Stack {
-    kept: ArrayVec<u8, DEPTH>,
+    kept: ArrayVec<u8, MAX_STACK>,
 }
 
 impl Model for Stack {

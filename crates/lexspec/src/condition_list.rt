@@ -11,7 +11,8 @@ ghost use Rattle.lexmeaning.specs.Limits.{max_conditions};
 use crate::subject::Conditions;
 use lexaction::{Condition, number_of};
 use lexclass::skip_first;
-use lexlines::{MAX_CONDITIONS, SpecErrorKind, split_before};
+use lexlines::{SpecErrorKind, split_before};
+use lexmeaning::MAX_CONDITIONS;
 use std::alloc::{AllocError, Global};
 
 /// The conditions that the names between commas list, each as a flag at its number. None where a name is not declared.

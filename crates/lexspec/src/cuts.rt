@@ -7,10 +7,8 @@ ghost use Rattle.lexspec.specs.RuleViews.{cut_of};
 ghost use Rattle.lexmeaning.specs.Spec.{Cut as Meant};
 
 use lexmachine::Cut;
+use lexmeaning::MAX_FIXED_LENGTH;
 use lexre::{Pattern, lengths};
-
-/// The greatest length of the words of a side by which a match is cut.
-const MAX_FIXED_LENGTH: u32 = 65_535;
 
 /// The length of each word of the pattern, where they have one length that is not too great.
 fn fixed_length(pattern: &Pattern) -> Option<u16>

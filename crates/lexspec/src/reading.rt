@@ -13,9 +13,10 @@ use crate::endings::with_ends;
 use crate::rules_section::{RulesSection, read_rules};
 use crate::spec::Spec;
 use lexlines::{
-    Declarations, MAX_FILE_BYTES, Section, Skipped, SpecError, SpecErrorKind, is_blank,
-    read_section, split_line, without_returns,
+    Declarations, Section, Skipped, SpecError, SpecErrorKind, is_blank, read_section, split_line,
+    without_returns,
 };
+use lexmeaning::MAX_FILE_BYTES;
 use lexre::{Names, ReadOptions};
 use std::alloc::Global;
 

@@ -21,11 +21,9 @@ use crate::rules_so_far::RulesSoFar;
 use crate::skips::{Skip, skip_at};
 use crate::subject::conditions_at;
 use lexlines::{Declarations, Skipped, SpecError, SpecErrorKind, newlines_before};
+use lexmeaning::MAX_RULES;
 use lexre::Names;
 use std::alloc::{AllocError, Global};
-
-/// The most rules.
-const MAX_RULES: usize = 4_096;
 
 /// What the rules section has, and what follows it.
 #[derive(Drop)]

@@ -7,10 +7,12 @@ ghost use Rattle.lextab.specs.Views.{rule_of};
 ghost use Rattle.lexfile.specs.Seen.{following, unseen, seen_after};
 ghost use Rattle.lexfile.specs.Reading.{many, string_at, cut_at, bars, statement_at, statements_at, rule_at};
 ghost use Rattle.lexfile.specs.Views.{Gives, seen_of};
+ghost use Rattle.lexmeaning.specs.Limits.{max_literal_bytes};
 
 use super::fields::{byte, byte_below, long, long_below, long_within, positive, text};
 use crate::error::ReadError;
 use lexmachine::{Cut, Statement, has_reject};
+use lexmeaning::{MAX_FIXED_LENGTH, MAX_LITERAL_BYTES, MAX_STATEMENTS, MAX_STATUS};
 use lextab::TableRule;
 use std::alloc::Global;
 
@@ -46,7 +48,7 @@ impl Before {
 
     /// The same with this statement.
     fn and(self, statement: &Statement) -> Before
-        requires short { self.literal + literal_bytes (statement_of statement.now) ≤ 4096 }
+        requires short { self.literal + literal_bytes (statement_of statement.now) ≤ max_literal_bytes }
         requires left { 1 ≤ self.left }
         ensures { seen_of result ≡ seen_after (seen_of self) (statement_of statement.now) }
     {
@@ -82,11 +84,11 @@ fn cut(bytes: &[u8]) -> Result<(Cut, &[u8]), ReadError>
             Ok((Cut::Whole, rest))
         }
         1 => {
-            let (number, rest) = long_below(rest, 65536)?;
+            let (number, rest) = long_below(rest, MAX_FIXED_LENGTH + 1)?;
             Ok((Cut::Head(number as u16), rest))
         }
         2 => {
-            let (number, rest) = long_below(rest, 65536)?;
+            let (number, rest) = long_below(rest, MAX_FIXED_LENGTH + 1)?;
             Ok((Cut::Trail(number as u16), rest))
         }
         _ => Err(ReadError::BadField(bytes.len())),
@@ -101,12 +103,12 @@ fn literal(
     room: u32,
     left: usize,
 ) -> Result<(Vec<u8>, &[u8]), ReadError>
-    requires { room ≤ 4096 }
+    requires { room ≤ max_literal_bytes }
     ensures gives { Gives (λ x. (x.0.items, x.1.now)) result (string_at 1 room bytes.now) }
     ensures length { IfOk result (λ x. length x.0.items ≤ room) }
 {
     let (count, rest) = long(bytes)?;
-    if count < 1 || 4096 < count {
+    if count < 1 || MAX_LITERAL_BYTES < count as usize {
         return Err(ReadError::BadField(bytes.len()));
     }
     if room < count {
@@ -122,9 +124,9 @@ fn statement(
     conditions: u32,
     before: Before,
 ) -> Result<(Statement, &[u8]), ReadError>
-    requires { before.literal ≤ 4096 }
+    requires { before.literal ≤ max_literal_bytes }
     ensures gives { Gives (λ x. (statement_of x.0, x.1.now)) result (statement_at conditions (seen_of before) bytes.now) }
-    ensures literal { IfOk result (λ x. before.literal + literal_bytes (statement_of x.0) ≤ 4096) }
+    ensures literal { IfOk result (λ x. before.literal + literal_bytes (statement_of x.0) ≤ max_literal_bytes) }
 {
     let left = bytes.len();
     let (tag, rest) = byte(bytes)?;
@@ -134,7 +136,12 @@ fn statement(
     match tag {
         0 => Ok((Statement::Echo, rest)),
         1 => {
-            let (print, rest) = literal(alloc, rest, 4096 - before.literal, left)?;
+            let (print, rest) = literal(
+                alloc,
+                rest,
+                MAX_LITERAL_BYTES as u32 - before.literal,
+                left,
+            )?;
             Ok((Statement::Print(print), rest))
         }
         2 => {
@@ -148,7 +155,7 @@ fn statement(
         }
         5 => Ok((Statement::Reject, rest)),
         6 => {
-            let (status, rest) = byte_below(rest, 64)?;
+            let (status, rest) = byte_below(rest, MAX_STATUS + 1)?;
             Ok((Statement::End(status), rest))
         }
         7 => {
@@ -198,7 +205,7 @@ fn rule(
     ensures gives { Gives (λ x. (rule_of x.0, x.1.now)) result (rule_at conditions stack bytes.now) }
 {
     let (cut, rest) = cut(bytes)?;
-    let (count, rest) = long_within(rest, 0, 256)?;
+    let (count, rest) = long_within(rest, 0, MAX_STATEMENTS as u32)?;
     let (statements, rest) = statements(alloc, rest, count, conditions, stack)?;
     Ok((TableRule { cut, statements }, rest))
 }

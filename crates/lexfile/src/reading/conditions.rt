@@ -9,6 +9,7 @@ ghost use Rattle.lexfile.specs.Views.{Gives};
 use super::fields::{byte_below, long_below, long_within, text};
 use crate::error::ReadError;
 use lexmachine::EndAction;
+use lexmeaning::{MAX_LITERAL_BYTES, MAX_STATUS};
 use lextab::TableCondition;
 use std::alloc::Global;
 
@@ -16,9 +17,9 @@ use std::alloc::Global;
 fn end_action(alloc: Global, bytes: &[u8]) -> Result<(EndAction, &[u8]), ReadError>
     ensures gives { Gives (λ x. (end_action_of x.0, x.1.now)) result (end_at bytes.now) }
 {
-    let (count, rest) = long_within(bytes, 0, 4096)?;
+    let (count, rest) = long_within(bytes, 0, MAX_LITERAL_BYTES as u32)?;
     let (print, rest) = text(alloc, rest, count)?;
-    let (status, rest) = byte_below(rest, 64)?;
+    let (status, rest) = byte_below(rest, MAX_STATUS + 1)?;
     Ok((EndAction { print, status }, rest))
 }
 

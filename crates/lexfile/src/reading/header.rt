@@ -3,9 +3,11 @@ ghost use Rattle.std.specs.Prelude.{◌≡◌, ◌≤◌, ◌==◌, ◌||◌, �
 ghost use Rattle.std.specs.Int.{w16};
 ghost use Rattle.lexfile.specs.Reading.{only_if, number_at, bytes_at, is_magic, sizes_at};
 ghost use Rattle.lexfile.specs.Views.{Gives, sizes_in};
+ghost use Rattle.lexmeaning.specs.Limits.{max_classes};
 
 use super::fields::{long_within, short};
 use crate::error::ReadError;
+use lexmeaning::{MAX_CLASSES, MAX_CONDITIONS, MAX_RULES, MAX_SLOTS, MAX_STATES};
 
 /// How many there are of each kind.
 #[derive(Clone, Copy)]
@@ -50,13 +52,13 @@ pub fn version(bytes: &[u8]) -> Result<(u16, &[u8]), ReadError>
 #[tactic(auto, unfolding(crate::specs::Reading::sizes_at))]
 pub fn sizes(bytes: &[u8]) -> Result<(Counts, &[u8]), ReadError>
     ensures gives { Gives (λ x. (sizes_in x.0, x.1.now)) result (sizes_at bytes.now) }
-    ensures classes { IfOk result (λ x. x.0.classes ≤ 256) }
+    ensures classes { IfOk result (λ x. x.0.classes ≤ max_classes) }
 {
-    let (conditions, rest) = long_within(bytes, 1, 255)?;
-    let (rules, rest) = long_within(rest, 0, 4096)?;
-    let (states, rest) = long_within(rest, 1, 8192)?;
-    let (classes, rest) = long_within(rest, 1, 256)?;
-    let (slots, rest) = long_within(rest, classes, 2_097_152)?;
+    let (conditions, rest) = long_within(bytes, 1, MAX_CONDITIONS as u32)?;
+    let (rules, rest) = long_within(rest, 0, MAX_RULES as u32)?;
+    let (states, rest) = long_within(rest, 1, MAX_STATES)?;
+    let (classes, rest) = long_within(rest, 1, MAX_CLASSES)?;
+    let (slots, rest) = long_within(rest, classes, MAX_SLOTS)?;
     let counts = Counts {
         conditions,
         rules,

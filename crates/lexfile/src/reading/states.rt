@@ -5,6 +5,7 @@ ghost use Rattle.lextab.specs.Views.{row_of};
 ghost use Rattle.lexfile.specs.Seen.{following};
 ghost use Rattle.lexfile.specs.Reading.{many, class_at, accepted_at, above, row_at, only_if, none_at_0, few, number_at};
 ghost use Rattle.lexfile.specs.Views.{Gives, sizes_in};
+ghost use Rattle.lexmeaning.specs.Limits.{max_classes};
 
 use super::fields::{byte_below, long};
 use super::header::Counts;
@@ -101,7 +102,7 @@ fn row(
     rejects: bool,
     state: u32,
 ) -> Result<(Row, &[u8]), ReadError>
-    requires low { counts.classes ≤ 256 }
+    requires low { counts.classes ≤ max_classes }
     ensures gives { Gives (λ x. (row_of x.0, x.1.now)) result (row_at (sizes_in counts) rejects state bytes.now) }
 {
     let (otherwise, rest) = otherwise_of(bytes, counts.states, state)?;
@@ -124,7 +125,7 @@ pub fn states(
     counts: Counts,
     rejects: bool,
 ) -> Result<(Vec<Row>, &[u8]), ReadError>
-    requires { counts.classes ≤ 256 }
+    requires { counts.classes ≤ max_classes }
     ensures len { IfOk result (λ x. length x.0.items ≡ counts.states) }
     ensures gives { Gives (λ x. (map row_of x.0.items, x.1.now)) result (many (row_at (sizes_in counts) rejects) following counts.states 0 bytes.now) }
 {

@@ -6,6 +6,7 @@ ghost use Rattle.lexmachine.specs.Views.{end_action_of};
 ghost use Rattle.lextab.specs.Views.{condition_of};
 ghost use Rattle.lexfile.specs.File.{end_text, condition_text};
 ghost use Rattle.lexfile.specs.Fitting.{FitsCondition};
+ghost use Rattle.lexmeaning.specs.Limits.{max_literal_bytes};
 
 use super::fields::{put_long, put_string};
 use lexends::{Sink, WriteFault};
@@ -14,7 +15,7 @@ use lextab::TableCondition;
 
 fn put_end<K: Sink>(sink: &mut K, end: &EndAction) -> Result<(), WriteFault>
     requires few { K.failures sink.old < 2 ^ 64 - 1 }
-    requires short { length end.now.print.items ≤ 4096 }
+    requires short { length end.now.print.items ≤ max_literal_bytes }
     ensures bytes { Appended (λ xs. K.wrote sink.old xs sink.new) (end_text (end_action_of end.now)) result }
     ensures failures { K.failures sink.new ≡ K.failures sink.old + fault_count result }
 {

@@ -3,6 +3,7 @@ ghost use Rattle.std.specs.Prelude.{◌≡◌, ◌+◌, ◌-◌, ◌^◌, ◌<�
 ghost use Rattle.std.specs.List.{flat_map};
 ghost use Rattle.lexends.specs.Sink.{Appended, fault_count};
 ghost use Rattle.lexfile.specs.File.{short, long, string};
+ghost use Rattle.lexmeaning.specs.Limits.{max_literal_bytes};
 
 use lexends::{Sink, WriteFault};
 
@@ -39,7 +40,7 @@ pub fn put_longs<K: Sink>(sink: &mut K, numbers: &[u32]) -> Result<(), WriteFaul
 /// The length and the bytes.
 pub fn put_string<K: Sink>(sink: &mut K, bytes: &[u8]) -> Result<(), WriteFault>
     requires few { K.failures sink.old < 2 ^ 64 - 1 }
-    requires short { length bytes.now ≤ 4096 }
+    requires short { length bytes.now ≤ max_literal_bytes }
     ensures bytes { Appended (λ xs. K.wrote sink.old xs sink.new) (string bytes.now) result }
     ensures failures { K.failures sink.new ≡ K.failures sink.old + fault_count result }
 {
