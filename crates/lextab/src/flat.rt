@@ -14,8 +14,10 @@ use std::alloc::{AllocError, Global};
 pub struct Flat<'a> {
     pub(crate) tables: &'a Tables,
     next: Vec<u32>,
+    goes_on: &'a [bool],
     ghost rows: { length next.items ≡ 256 * length tables.now.parts.rows.items },
     ghost targets: { (s b : ℕ) → s < length tables.now.parts.rows.items → b < 256 → slice_index next.items (256 * s + b) ≡ step_of (table_of tables.now.parts) s b },
+    ghost flags: { goes_on.now ≡ tables.now.goes_on.items },
 }
 
 impl<'a> Flat<'a> {
@@ -25,7 +27,12 @@ impl<'a> Flat<'a> {
         ensures states { IfOk result (λ f. states_of f.tables.now ≡ states_of tables.now) }
     {
         let next = flat_rows(alloc, &tables.parts)?;
-        Ok(Flat { tables, next })
+        let goes_on = tables.goes_on.as_slice();
+        Ok(Flat {
+            tables,
+            next,
+            goes_on,
+        })
     }
 }
 
@@ -47,7 +54,7 @@ impl Machine for Flat<'_> {
     }
 
     fn goes_on(&self, state: u32) -> bool {
-        self.tables.goes_on(state)
+        self.goes_on[state as usize]
     }
 
     fn accepts(&self, state: u32) -> &[u32] {
