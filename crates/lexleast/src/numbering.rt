@@ -12,6 +12,25 @@ pub(crate) struct Numbers {
     pub members: Vec<u32>,
 }
 
+/// Gives the next number to a state's class, which has none.
+#[inline(never)]
+fn number_next(numbers: &mut Numbers, classes: &[u32], state: u32) -> Result<u32, AllocError>
+    requires state { state < length classes.now }
+    requires few { length classes.now < 2 ^ 32 }
+    requires classes { IsRow classes.now }
+    requires numbers { AreNumbers classes.now numbers.old }
+    requires none { length numbers.old.members.items ≤ slice_index numbers.old.of_class.items (slice_index classes.now state) }
+    ensures numbers { OnOk result (AreNumbers classes.now numbers.new) }
+    ensures number { IfOk result (λ k. IsNumberOf classes.now numbers.new.members.items k state) }
+    ensures grown { IfOk result (λ k. Grown numbers.old.members.items state k numbers.new.members.items) }
+{
+    let class = classes[state as usize] as usize;
+    let next = numbers.members.len() as u32;
+    numbers.of_class[class] = next;
+    numbers.members.push(state)?;
+    Ok(next)
+}
+
 /// The number of a state's class. A class that has none gets the next one.
 pub(crate) fn number(numbers: &mut Numbers, classes: &[u32], state: u32) -> Result<u32, AllocError>
     requires state { state < length classes.now }
@@ -27,10 +46,7 @@ pub(crate) fn number(numbers: &mut Numbers, classes: &[u32], state: u32) -> Resu
     if (found as usize) < numbers.members.len() {
         return Ok(found);
     }
-    let next = numbers.members.len() as u32;
-    numbers.of_class[class] = next;
-    numbers.members.push(state)?;
-    Ok(next)
+    number_next(numbers, classes, state)
 }
 
 /// The numbers of the starts.

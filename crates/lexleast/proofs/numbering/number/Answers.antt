@@ -1,21 +1,18 @@
-use Rattle.std.proofs.Common.{rules, ◌≡◌, ℕ, List, length, slice_index, arith, sym, refl, ap, subst, ◌∙◌, set}
+use Rattle.std.proofs.Common.{rules, ◌≡◌, ℕ, length, slice_index, arith, sym, ap, ◌∙◌}
 use Rattle.std.proofs.lemmas.List.{get_or_read}
-use Rattle.lexleast.specs.Numbers.{Numbering}
-use Rattle.lexleast.proofs.Numbered.{one_number_more, few_numbers}
+use Rattle.lexleast.proofs.Numbered.{few_numbers}
 use Rattle.lexleast.proofs.numbering.number.Goals as goal
 
-pub returns-clause-numbers : goal.returns-clause-numbers
-returns-clause-numbers c =
+pub number_next-requires-clause-none : goal.number_next-requires-clause-none
+number_next-requires-clause-none c =
     let cs = c.args.classes.now in
     let ns = c.args.numbers.now in
     let a = c.requires.numbers in
     let x = c.args.state in
     let low = c.requires.classes x c.requires.state in
     let found = sym (get_or_read ns.of_class.items _ _ (omega (arith, low, a.slots)) c.index-found.ensures 0) in
-    let next : c.len-next.result ≡ length ns.members.items = search rules in
     let full : c.len.result ≡ length ns.members.items = search rules in
-    subst (λ (ms : List ℕ). Numbering cs (set ns.of_class.items (slice_index cs x) c.len-next.result) ms) (sym c.in_ok-push.ensures.items)
-    (one_number_more cs ns.of_class.items ns.members.items x (slice_index cs x) c.len-next.result a c.requires.state refl low next (omega (arith, found, full, c.if-found-len.false)))
+    omega (arith, found, full, c.if-found-len.false)
 
 pub returns-then-found-len-clause-number : goal.returns-then-found-len-clause-number
 returns-then-found-len-clause-number c =
