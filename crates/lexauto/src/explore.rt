@@ -90,6 +90,27 @@ pub(crate) trait Moves {
         ensures same { read self.now followers.now result ≡ read self.now followers.now byte };
 }
 
+/// The place of the key that a byte makes of what follows.
+#[inline(never)]
+fn read_target<M: Moves>(
+    alloc: Global,
+    moves: &M,
+    table: &mut Interner,
+    followers: &[u32],
+    byte: u8,
+    limit: u32,
+) -> Result<u32, ExploreError>
+    requires { Finds (look_kept table.old.places) (kept_in table.old.keys.items) }
+    ensures finds { OnOk result (Finds (look_kept table.new.places) (kept_in table.new.keys.items)) }
+    ensures place { IfOk result (λ i. At (kept_in table.new.keys.items) i (M.read moves.now followers.now byte)) }
+    ensures found { OnOk result (Found (kept_in table.old.keys.items) (M.read moves.now followers.now byte) (kept_in table.new.keys.items)) }
+    ensures room { OnOk result (length table.old.keys.items ≤ limit → length table.new.keys.items ≤ limit) }
+    ensures full { IsErrOf result ExploreError.TooMany → Absent (kept_in table.old.keys.items) (M.read moves.now followers.now byte) × (limit ≤ length table.old.keys.items) }
+{
+    let key = moves.reading(alloc, followers, byte)?;
+    intern(alloc, table, key, limit)
+}
+
 /// The place of the key that a byte makes of what follows; of a byte that is read as an earlier one, from the row so far.
 fn target<M: Moves>(
     alloc: Global,
@@ -113,8 +134,7 @@ fn target<M: Moves>(
     if twin < byte {
         return Ok(row[twin as usize]);
     }
-    let key = moves.reading(alloc, followers, byte)?;
-    intern(alloc, table, key, limit)
+    read_target(alloc, moves, table, followers, byte, limit)
 }
 
 /// What keys tell, in their order: the rules that each accepts, and whether something follows it.

@@ -84,6 +84,7 @@ joins leads cs hs i x low within less = record {
     | inl q ↦ (let w = x.order l k less (omega (arith, ap at q, new)) in let w1 = w.1 in (w.0, omega arith, old w.0 (omega arith) ∙ w.2))
     | inr d ↦ (let w = x.order b k (omega arith) (omega (arith, old b (omega arith))) in let w1 = w.1 in (w.0, w1, old w.0 (omega arith) ∙ w.2))
   ];
+  all = λ e k h. absurd (let f = x.few in omega (arith, e, f));
 }
   where
     l : ℕ
@@ -130,6 +131,10 @@ begins leads cs hs i x low within self = record {
     | inl q ↦ (let f = x.first k (omega (arith, ap at q, new)) in let f0 = f.0 in (slice_index hs k, omega arith, old (slice_index hs k) f0 ∙ f.1))
     | inr d ↦ (let w = x.order b k (omega arith) (omega (arith, old b (omega arith))) in let w1 = w.1 in (w.0, w1, old w.0 (omega arith) ∙ w.2))
   ];
+  all = λ e k h. (let same : length hs ≡ i = omega (arith, e, length_append_one hs i) in elim (same_or_not k i) [
+    | inl q ↦ get_or_push hs i 0 k (same ∙ sym q) ∙ sym q
+    | inr d ↦ (let g : k < i = omega arith in get_or_append_left hs (i ∷ []) 0 k (omega (arith, same, g)) ∙ x.all same k g)
+  ]);
 }
   where
     at : ℕ → ℕ

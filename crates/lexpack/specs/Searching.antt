@@ -51,6 +51,10 @@ pub record IsMarked (old ks : List ℕ) (b n : ℕ) (new : List ℕ) : Type 0 wh
 abbrev pub moves : List ℕ → ℕ → ℕ → ℕ
 moves next s b = slice_index next (256 * s + b)
 
+-- of as many classes as there are bytes each byte is the first of its own
+abbrev pub AreAllBytes : List ℕ → Type 0
+AreAllBytes heads = length heads ≡ 256 → (k : ℕ) → k < 256 → slice_index heads k ≡ k
+
 -- the first i bytes have classes, numbered in order of their first byte
 pub record AreNumbered (leads class_of heads : List ℕ) (i : ℕ) : Type 0 where
   pub len : length class_of ≡ i
@@ -60,6 +64,7 @@ pub record AreNumbered (leads class_of heads : List ℕ) (i : ℕ) : Type 0 wher
   pub same : (b : ℕ) → b < i → slice_index class_of b ≡ slice_index class_of (slice_index leads b)
   pub first : (k : ℕ) → k < length heads → (slice_index heads k < i) × (slice_index class_of (slice_index heads k) ≡ k)
   pub order : (b k : ℕ) → b < i → k < slice_index class_of b → (c : ℕ) × (c < b) × (slice_index class_of c ≡ k)
+  pub all : length heads ≡ i → (k : ℕ) → k < i → slice_index heads k ≡ k
 
 -- the target of a state by a class: by the byte that stands for it
 abbrev pub by_head : List ℕ → List ℕ → ℕ → ℕ → ℕ

@@ -1,7 +1,7 @@
 //! Byte classes.
 ghost use Rattle.std.specs.Prelude.{◌≡◌, ℕ, ◌+◌, ◌*◌, ◌<◌, ◌≤◌, length, slice_index, OnOk, IfOk};
 ghost use Rattle.lexpack.specs.Classes.{IsClassMap};
-ghost use Rattle.lexpack.specs.Searching.{AreLeads, IsSplit, moves, AreNumbered};
+ghost use Rattle.lexpack.specs.Searching.{AreAllBytes, AreLeads, IsSplit, moves, AreNumbered};
 
 use std::alloc::{AllocError, Global};
 
@@ -91,6 +91,7 @@ pub(crate) fn classes_of(alloc: Global, next: &[u32], states: usize) -> Result<C
     requires { length next.now ≡ 256 * states }
     ensures map { IfOk result (λ c. IsClassMap states (moves next.now) c.class_of.items (length c.heads.items)) }
     ensures heads { IfOk result (λ c. (k : ℕ) → k < length c.heads.items → (slice_index c.heads.items k < 256) × (slice_index c.class_of.items (slice_index c.heads.items k) ≡ k)) }
+    ensures all { IfOk result (λ c. AreAllBytes c.heads.items) }
     ensures few { IfOk result (λ c. (0 < length c.heads.items) × (length c.heads.items ≤ 256)) }
 {
     let lead = leads(alloc, next, states)?;

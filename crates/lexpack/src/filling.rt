@@ -1,10 +1,10 @@
 //! The slots of the entries.
 ghost use Rattle.std.specs.Prelude.{◌≡◌, ◌≢◌, ℕ, ◌+◌, ◌*◌, ◌<◌, ◌≤◌, ◌^◌, length, slice_index, OnOk, IfOk};
 ghost use Rattle.lexpack.specs.Packing.{IsBase, IsSize, AreSlots};
-ghost use Rattle.lexpack.specs.Searching.{by_head, AreFilled};
+ghost use Rattle.lexpack.specs.Searching.{by_head, AreAllBytes, AreFilled};
 ghost use Rattle.lexmeaning.specs.Limits.{max_states};
 
-use crate::rows::{entries_of, row_of};
+use crate::rows::{entries_of, read_row};
 use std::alloc::{AllocError, Global};
 
 /// The number of slots: the greatest base and the number of classes.
@@ -50,6 +50,7 @@ fn fill_all(
     requires rows { length next.now ≡ 256 * length bases.now }
     requires states { length bases.now ≤ max_states }
     requires few { length heads.now ≤ 256 }
+    requires all { AreAllBytes heads.now }
     requires defaults { length defaults.now ≡ length bases.now }
     requires placed { (s : ℕ) → s < length bases.now → IsBase (by_head next.now heads.now) (length heads.now) defaults.now bases.now s (slice_index bases.now s) }
     requires within { (s : ℕ) → s < length bases.now → slice_index bases.now s + length heads.now ≤ length check.old }
@@ -57,8 +58,9 @@ fn fill_all(
     requires zeros { (i : ℕ) → (slice_index check.old i ≡ 0) × (slice_index targets.old i ≡ 0) }
     ensures { OnOk result (AreSlots (length bases.now) (by_head next.now heads.now) (length heads.now) defaults.now bases.now check.new targets.new) }
 {
+    let mut row = vec![in alloc; 0u32; heads.len()]?;
     for state in 0..bases.len() {
-        let row = row_of(alloc, next, state, heads)?;
+        read_row(next, state, heads, &mut row);
         let entries = entries_of(alloc, &row, defaults[state])?;
         fill(
             &entries,
@@ -91,6 +93,7 @@ pub(crate) fn slots_of(
     requires rows { length next.now ≡ 256 * length bases.now }
     requires states { length bases.now ≤ max_states }
     requires few { length heads.now ≤ 256 }
+    requires all { AreAllBytes heads.now }
     requires defaults { length defaults.now ≡ length bases.now }
     requires placed { (s : ℕ) → s < length bases.now → IsBase (by_head next.now heads.now) (length heads.now) defaults.now bases.now s (slice_index bases.now s) }
     ensures check { IfOk result (λ t. IsSize (length bases.now) (length heads.now) bases.now (length t.check.items)) }

@@ -1,10 +1,10 @@
 //! Rows placed one over another, each at the first place that fits.
 ghost use Rattle.std.specs.Prelude.{◌≡◌, ℕ, ◌+◌, ◌*◌, ◌<◌, ◌≤◌, ◌^◌, length, vec_len, slice_index, OnOk, IfOk};
 ghost use Rattle.lexpack.specs.Packing.{IsBase};
-ghost use Rattle.lexpack.specs.Searching.{slot_bit, IsFirstFit, IsMarked, by_head};
+ghost use Rattle.lexpack.specs.Searching.{slot_bit, AreAllBytes, IsFirstFit, IsMarked, by_head};
 ghost use Rattle.lexmeaning.specs.Limits.{max_states};
 
-use crate::rows::{entries_of, row_of};
+use crate::rows::{entries_of, read_row};
 use crate::slots::{first_fit, full_words, mark};
 use std::alloc::{AllocError, Global};
 
@@ -43,16 +43,18 @@ pub(crate) fn bases_of(
     requires rows { length next.now ≡ 256 * states }
     requires states { states ≤ max_states }
     requires few { length heads.now ≤ 256 }
+    requires all { AreAllBytes heads.now }
     requires defaults { length defaults.now ≡ states }
     ensures len { IfOk result (λ v. length v.items ≡ states) }
     ensures small { IfOk result (λ v. (s : ℕ) → s < states → slice_index v.items s ≤ 320 * states) }
     ensures each { IfOk result (λ v. (s : ℕ) → s < states → IsBase (by_head next.now heads.now) (length heads.now) defaults.now v.items s (slice_index v.items s)) }
 {
+    let mut row = vec![in alloc; 0u32; heads.len()]?;
     let mut words: Vec<u64> = Vec::new(alloc);
     let mut full = 0;
     let mut bases = Vec::new(alloc);
     for state in 0..states {
-        let row = row_of(alloc, next, state, heads)?;
+        read_row(next, state, heads, &mut row);
         let entries = entries_of(alloc, &row, defaults[state])?;
         let base = place(&mut words, full, &entries)?;
         full = full_words(&words, full);

@@ -1,21 +1,20 @@
 //! Rows of targets, class by class.
 ghost use Rattle.std.specs.Prelude.{◌≡◌, ℕ, ◌≢◌, ◌+◌, ◌*◌, ◌<◌, ◌≤◌, ◌^◌, ◌⊎◌, length, slice_index, map, IfOk};
 ghost use Rattle.lexpack.specs.Packing.{often, IsDefault};
-ghost use Rattle.lexpack.specs.Searching.{AreEntries, by_head};
+ghost use Rattle.lexpack.specs.Searching.{AreAllBytes, AreEntries, by_head};
 
 use std::alloc::{AllocError, Global};
 
-/// The targets of the bytes.
-pub(crate) fn targets(alloc: Global, block: &[u32], heads: &[u8]) -> Result<Vec<u32>, AllocError>
-    requires { length block.now ≡ 256 }
-    ensures len { IfOk result (λ v. length v.items ≡ length heads.now) }
-    ensures each { IfOk result (λ v. (k : ℕ) → k < length heads.now → slice_index v.items k ≡ slice_index block.now (slice_index heads.now k)) }
+/// Writes the targets of the bytes.
+fn pick(block: &[u32], heads: &[u8], row: &mut [u32])
+    requires block { length block.now ≡ 256 }
+    requires len { length row.old ≡ length heads.now }
+    ensures len { length row.new ≡ length heads.now }
+    ensures each { (k : ℕ) → k < length heads.now → slice_index row.new k ≡ slice_index block.now (slice_index heads.now k) }
 {
-    let mut row = Vec::new(alloc);
-    for head in heads {
-        row.push(block[*head as usize])?;
+    for (k, head) in heads.iter().enumerate() {
+        row[k] = block[*head as usize];
     }
-    Ok(row)
 }
 
 /// Counts how often each target stands in the row.
@@ -88,19 +87,20 @@ pub(crate) fn entries_of(alloc: Global, row: &[u32], default: u32) -> Result<Vec
     Ok(entries)
 }
 
-/// The targets of a state's classes.
-pub(crate) fn row_of(
-    alloc: Global,
-    next: &[u32],
-    state: usize,
-    heads: &[u8],
-) -> Result<Vec<u32>, AllocError>
-    requires { 256 * state + 256 ≤ length next.now }
-    ensures len { IfOk result (λ v. length v.items ≡ length heads.now) }
-    ensures each { IfOk result (λ v. (k : ℕ) → k < length heads.now → slice_index v.items k ≡ by_head next.now heads.now state k) }
+/// Writes the targets of a state's classes.
+pub(crate) fn read_row(next: &[u32], state: usize, heads: &[u8], row: &mut Vec<u32>)
+    requires block { 256 * state + 256 ≤ length next.now }
+    requires all { AreAllBytes heads.now }
+    requires len { length row.old.items ≡ length heads.now }
+    ensures len { length row.new.items ≡ length heads.now }
+    ensures each { (k : ℕ) → k < length heads.now → slice_index row.new.items k ≡ by_head next.now heads.now state k }
 {
-    let row = targets(alloc, &next[256 * state..256 * state + 256], heads)?;
-    Ok(row)
+    let block = &next[256 * state..256 * state + 256];
+    if heads.len() == 256 {
+        row.copy_from_slice(block);
+    } else {
+        pick(block, heads, row);
+    }
 }
 
 /// The default of each state. The counts are all 0.
@@ -114,15 +114,17 @@ pub(crate) fn defaults_of(
     requires rows { length next.now ≡ 256 * states }
     requires some { 0 < length heads.now }
     requires few { length heads.now ≤ 256 }
+    requires all { AreAllBytes heads.now }
     requires below { (i : ℕ) → i < length next.now → slice_index next.now i < states }
     requires counts { length counts.old ≡ states }
     requires none { (t : ℕ) → slice_index counts.old t ≡ 0 }
     ensures len { IfOk result (λ v. length v.items ≡ states) }
     ensures each { IfOk result (λ v. (s : ℕ) → s < states → IsDefault (by_head next.now heads.now s) (length heads.now) (slice_index v.items s)) }
 {
+    let mut row = vec![in alloc; 0u32; heads.len()]?;
     let mut defaults = Vec::new(alloc);
     for state in 0..states {
-        let row = row_of(alloc, next, state, heads)?;
+        read_row(next, state, heads, &mut row);
         let default = default_of(&row, counts);
         defaults.push(default)?;
     }

@@ -10,7 +10,7 @@ loop-state-preserved c =
     let ds = c.args.defaults.now in
     let bs = c.args.bases.now in
     let s = c.loop-state.state in
-    let row = c.in_ok-row.row.items in
+    let row = c.read_row.new.row.items in
     let ks = c.deref-in-loop-state.result.now in
     let low : s < length bs = search rules in
     let e1 : c.deref.result.now ≡ row = c.deref.ensures.value in
@@ -20,5 +20,8 @@ loop-state-preserved c =
     (subst (λ (l : List ℕ). AreEntries l (slice_index ds s) (length l) c.in_ok-entries.entries.items) e1 c.in_ok-entries.ensures) in
     let filled : AreFilled ks row (slice_index bs s) s (length ks) c.loop-state.check c.loop-state.targets c.fill.new.check c.fill.new.next =
     subst (λ (l : List ℕ). AreFilled ks l (slice_index bs s) s (length ks) c.loop-state.check c.loop-state.targets c.fill.new.check c.fill.new.next) e2 c.fill.ensures in
-    one_more_filled to count ds bs s row ks c.loop-state.check c.loop-state.targets c.fill.new.check c.fill.new.next
-    c.loop-state.invariant (c.requires.placed s low) c.in_ok-row.ensures.len c.in_ok-row.ensures.each ents filled (search rules)
+    record {
+      row = c.read_row.ensures.len;
+      slots = one_more_filled to count ds bs s row ks c.loop-state.check c.loop-state.targets c.fill.new.check c.fill.new.next
+          c.loop-state.invariant.slots (c.requires.placed s low) c.read_row.ensures.len c.read_row.ensures.each ents filled (search rules);
+    }

@@ -1,6 +1,16 @@
-use Rattle.std.proofs.Common.{rules, length, sym, refl, ◌∙◌}
+use Rattle.std.proofs.Common.{rules, length, sym, refl, subst, ◌∙◌}
+use Rattle.lexpack.specs.Searching.{AreAllBytes}
 use Rattle.lexpack.proofs.Whole.{bases_at, defaults_at, slots_at, size_at, whole}
 use Rattle.lexpack.proofs.packing.pack_rows.Goals as goal
+
+pub defaults_of-requires-clause-all : goal.defaults_of-requires-clause-all
+defaults_of-requires-clause-all c = subst AreAllBytes (sym c.deref.ensures.value) c.in_ok-classes.ensures.all
+
+pub bases_of-requires-clause-all : goal.bases_of-requires-clause-all
+bases_of-requires-clause-all c = subst AreAllBytes (sym c.deref-2.ensures.value) c.in_ok-classes.ensures.all
+
+pub slots_of-requires-clause-all : goal.slots_of-requires-clause-all
+slots_of-requires-clause-all c = subst AreAllBytes (sym c.deref-4.ensures.value) c.in_ok-classes.ensures.all
 
 pub slots_of-requires-clause-placed : goal.slots_of-requires-clause-placed
 slots_of-requires-clause-placed c = bases_at c.args.next.now c.deref-2.result.now c.deref-4.result.now c.deref-3.result.now c.deref-5.result.now

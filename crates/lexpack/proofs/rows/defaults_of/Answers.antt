@@ -21,13 +21,14 @@ loop-state-preserved c =
     let count = length c.args.heads.now in
     let s = c.loop-state.state in
     let row = c.deref.result.now in
-    let is : row ≡ c.in_ok-row.row.items = c.deref.ensures.value in
-    let len : length row ≡ count = ap length is ∙ c.in_ok-row.ensures.len in
+    let is : row ≡ c.read_row.new.row.items = c.deref.ensures.value in
+    let len : length row ≡ count = ap length is ∙ c.read_row.ensures.len in
     let d = c.default_of-default.result in
     let one : IsDefault (slice_index row) count d = subst (λ (n : ℕ). IsDefault (slice_index row) n d) len c.default_of-default.ensures.default in
     record {
+      row = c.read_row.ensures.len;
       len = search rules;
       each = more_defaults to count d s c.loop-state.defaults.items c.push.new.self.items c.loop-state.invariant.len c.in_ok-push.ensures.items c.loop-state.invariant.each
-          (default_same (slice_index row) (to s) count d (λ k h. ap (λ (l : List ℕ). slice_index l k) is ∙ c.in_ok-row.ensures.each k h) one);
+          (default_same (slice_index row) (to s) count d (λ k h. ap (λ (l : List ℕ). slice_index l k) is ∙ c.read_row.ensures.each k h) one);
       none = c.default_of-default.ensures.none;
     }
