@@ -1,12 +1,13 @@
 -- A walk of a machine, byte by byte.
-use Rattle.std.proofs.Common.{◌≡◌, ℕ, ◌+◌, ◌-◌, ◌≤◌, ◌<◌, ◌⊎◌, inl, inr, true, List, [], ◌∷◌, ◌++◌, length, take, drop, refl, sym, ◌∙◌, ap, subst, arith}
+use Rattle.std.proofs.Common.{◌≡◌, ℕ, ◌+◌, ◌-◌, ◌≤◌, ◌<◌, ◌⊎◌, inl, inr, true, List, [], ◌∷◌, ◌++◌, length, take, drop, refl, sym, ◌∙◌, ap, arith}
 use Rattle.std.proofs.lemmas.Bool.{cases_lt}
-use Rattle.std.proofs.lemmas.List.{take-append-le, length-append, length-take, take_all, drop-append-le}
-use Rattle.lexmeaning.specs.Text.{IsText}
+use Rattle.std.proofs.Math.Seq.{take-append-add}
+use Rattle.std.proofs.lemmas.List.{take-append-le, take-take, length-append, length-take, take_all, drop-append-le}
 use Rattle.lexmeaning.specs.Machine.{Machine, walk}
 use Rattle.lexmeaning.proofs.MachineLaws.{walk-append}
 use Rattle.lexmeaning.proofs.Texts.{is_text_append}
 use Rattle.lexscan.specs.declared.window.Stop.{Stop}
+use Rattle.lexscan.specs.declared.window.Walk.{Walk}
 use Rattle.lexscan.specs.Walks.{Walked, Filled, StopsAt}
 
 -- no bytes yet
@@ -43,22 +44,54 @@ walked_more M first got state before b small h live = record {
     asked i some (inr e) =
         ap (λ w. M.goes_on (walk M first w)) (ap (λ n. take n (got ++ b ∷ [])) e ∙ front_of got b) ∙ ap M.goes_on (sym h.state_is) ∙ live (omega (arith, some, e))
 
--- a walk that has stopped, and the window after it
-pub filled : {S : Type 0} (gave : S → List ℕ → S → Type 0) (M : Machine) (s t : S) (start begin end : ℕ) (buffer old bytes : List ℕ) (first most count state before : ℕ) (stop : Stop) (got : List ℕ) →
-    gave s got t → start ≤ begin → begin ≤ length old → end ≤ length buffer → end ≤ begin + most → take end buffer ≡ take begin old ++ got → bytes ≡ drop start (take begin old) → count ≡ end - begin →
-    Walked M first got state before → StopsAt M got state stop →
-    Filled gave M s t bytes (drop start (take end buffer)) first most (record { count = count; state = state; before = before; stop = stop })
-filled gave M s t start begin end buffer old bytes first most count state before stop got source low in_old in_new few held view counted walked stops = record {
+-- a walk that has stopped, and the place that it filled from the front
+pub filled : {S : Type 0} (gave : S → List ℕ → S → Type 0) (M : Machine) (s t : S) (place : List ℕ) (first most count state before : ℕ) (stop : Stop) (got : List ℕ) →
+    gave s got t → count ≤ length place → count ≤ most → take count place ≡ [] ++ got → Walked M first got state before → StopsAt M got state stop →
+    Filled gave M s t [] (take count place) first most (record { count = count; state = state; before = before; stop = stop })
+filled gave M s t place first most count state before stop got source inside few held walked stops = record {
   got = got;
   source = source;
-  held = ap (drop start) held ∙ drop-append-le start (take begin old) got (omega (arith, length-take begin old, low, in_old)) ∙ ap (λ z. z ++ got) (sym view);
-  count = omega (arith, counted, size);
+  held = held;
+  count = size;
   few = omega (arith, size, few);
   walked = walked;
   stops = stops;
 }
   where
-    size : end ≡ begin + length got
+    size : count ≡ length got
     size =
-        let sizes : length (take end buffer) ≡ length (take begin old ++ got) = ap length held in
-        omega (arith, sizes, length-take end buffer, length-take begin old, length-append (take begin old) got, in_old, in_new)
+        let sizes : length (take count place) ≡ length got = ap length held in
+        omega (arith, sizes, length-take count place, inside)
+
+-- the front of a buffer after a write into its middle
+front_after : (n count room : ℕ) (old place post rest : List ℕ) → n ≤ length old → n + count ≤ room → count ≤ length place →
+    take (n + count) (take room ((take n old ++ (place ++ post)) ++ rest)) ≡ take n old ++ take count place
+front_after n count room old place post rest in_old in_room in_place =
+    take-take (n + count) room ((take n old ++ (place ++ post)) ++ rest) in_room
+    ∙ take-append-le (n + count) (take n old ++ (place ++ post)) rest (omega (arith, size, in_place, length-append (take n old) (place ++ post), length-append place post))
+    ∙ ap (λ k. take (k + count) (take n old ++ (place ++ post))) (sym size) ∙ take-append-add (take n old) (place ++ post) count ∙ ap (λ z. take n old ++ z) (take-append-le count place post in_place)
+  where
+    size : length (take n old) ≡ n
+    size = omega (arith, length-take n old, in_old)
+
+-- a place in the window that a walk has filled, and the window after it
+pub filled_on : {S : Type 0} (gave : S → List ℕ → S → Type 0) (M : Machine) (s t : S) (start begin size room most first : ℕ) (old items place post rest bytes : List ℕ) (w : Walk) →
+    Filled gave M s t [] (take w.count place) first size w → old ≡ items → start ≤ begin → begin ≤ length items → begin + size ≤ room → size ≤ length place → size ≤ most →
+    bytes ≡ drop start (take begin items) → Filled gave M s t bytes (drop start (take (begin + w.count) (take room ((take begin old ++ (place ++ post)) ++ rest)))) first most w
+filled_on gave M s t start begin size room most first old items place post rest bytes w f same low in_old in_room in_place few view = record {
+  got = f.got;
+  source = f.source;
+  held = ap (drop start) (front_after begin w.count room old place post rest (omega (arith, in_old, lengths)) (omega (arith, counted, in_room)) (omega (arith, counted, in_place)))
+      ∙ drop-append-le start (take begin old) (take w.count place) (omega (arith, length-take begin old, low, in_old, lengths))
+      ∙ ap (λ z. z ++ take w.count place) (ap (λ z. drop start (take begin z)) same ∙ sym view) ∙ ap (λ z. bytes ++ z) f.held;
+  count = f.count;
+  few = omega (arith, f.few, few);
+  walked = f.walked;
+  stops = f.stops;
+}
+  where
+    lengths : length old ≡ length items
+    lengths = ap length same
+
+    counted : w.count ≤ size
+    counted = omega (arith, f.count, f.few)

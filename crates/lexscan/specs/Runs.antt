@@ -1,11 +1,7 @@
 -- What a whole run leaves.
-use Rattle.std.specs.Prelude.{◌≡◌, ℕ, Bool, List, ◌++◌, length, Some, Result, Ok, Err}
+use Rattle.std.specs.Prelude.{◌≡◌, ℕ, Bool, List, ◌++◌, length, Result, Ok, Err}
 use Rattle.lexmeaning.specs.Rules.{Rules}
 use Rattle.lexmeaning.specs.Acting.{Status, StackFault}
-use Rattle.lexmeaning.specs.Run as Scan
-use Rattle.lexmeaning.specs.Run.{Run}
-use Rattle.lexmeaning.specs.Demand.{Consistent}
-use Rattle.lexmeaning.specs.Scanned.{Scanned}
 use Rattle.lexmeaning.specs.Machine.{Machine}
 use Rattle.lexscan.specs.declared.state.State.{State}
 use Rattle.lexscan.specs.declared.error.RunError.{RunError}

@@ -47,6 +47,46 @@ impl Walk {
     }
 }
 
+/// Takes bytes of the source to a place, as long as there is room for them and the machine asks for one more.
+#[inline(always)]
+fn walk_into<M: Machine, S: Source>(
+    place: &mut [u8],
+    machine: &M,
+    intake: &mut Intake<'_, S>,
+    first: u32,
+) -> Walk
+    requires live { intake.old.live ≡ true }
+    requires known { first < M.states machine.now }
+    ensures same { intake.new.source.ghost_name ≡ intake.old.source.ghost_name }
+    ensures filled { Filled S.gave (M.machine machine.now) intake.old.source.now intake.new.source.now [] (take result.count place.new) first (length place.old) result }
+    ensures ends { S.ends intake.new.source.now ≡ S.ends intake.old.source.now + end_of_stop result.stop }
+    ensures failures { S.failures intake.new.source.now ≡ S.failures intake.old.source.now + fault_of_stop result.stop }
+    ensures live { intake.new.live ≡ goes result.stop }
+    ensures known { result.state < M.states machine.now }
+    ensures known_before { result.before < M.states machine.now }
+    ensures some { 1 ≤ length place.old → result.stop ≡ Stop.Full → 1 ≤ result.count }
+{
+    let mut count = 0usize;
+    let mut state = first;
+    let mut before = first;
+    'bytes: while count < place.len() {
+        match intake.next() {
+            Ok(Some(byte)) => {
+                place[count] = byte;
+                count += 1;
+                before = state;
+                state = machine.step(state, byte);
+                if !machine.goes_on(state) {
+                    return Walk::new(count, state, before, Stop::Done);
+                }
+            }
+            Ok(None) => return Walk::new(count, state, before, Stop::End),
+            Err(_) => return Walk::new(count, state, before, Stop::Fault),
+        }
+    }
+    Walk::new(count, state, before, Stop::Full)
+}
+
 /// A list of bytes that is used up from the front: those of the buffer from `start` to `end`. What follows is room.
 #[derive(Drop)]
 pub struct Window {
@@ -150,9 +190,6 @@ impl Window {
         ensures some { self.old.room ≡ true → 1 ≤ most → result.stop ≡ Stop.Full → 1 ≤ result.count }
     {
         let begin = self.end;
-        let mut end = begin;
-        let mut state = first;
-        let mut before = first;
         let room = self.buffer.len() - begin;
         let limit = begin
             + if most < room as u64 {
@@ -160,30 +197,9 @@ impl Window {
             } else {
                 room
             };
-        'bytes: while end < limit {
-            match intake.next() {
-                Ok(Some(byte)) => {
-                    self.buffer[end] = byte;
-                    end += 1;
-                    before = state;
-                    state = machine.step(state, byte);
-                    if !machine.goes_on(state) {
-                        self.end = end;
-                        return Walk::new(end - begin, state, before, Stop::Done);
-                    }
-                }
-                Ok(None) => {
-                    self.end = end;
-                    return Walk::new(end - begin, state, before, Stop::End);
-                }
-                Err(_) => {
-                    self.end = end;
-                    return Walk::new(end - begin, state, before, Stop::Fault);
-                }
-            }
-        }
-        self.end = end;
-        Walk::new(end - begin, state, before, Stop::Full)
+        let walk = walk_into(&mut self.buffer[begin..limit], machine, intake, first);
+        self.end = begin + walk.count;
+        walk
     }
 
     /// Drops bytes from the front, and copies nothing.

@@ -1,10 +1,9 @@
-use Rattle.std.proofs.Common.{◌≡◌, ℕ, ◌+◌, ◌-◌, ◌≤◌, ◌<◌, Bool, true, false, List, ◌++◌, length, drop, inl, inr, refl, sym, ap, subst, ◌∙◌, arith, rules}
+use Rattle.std.proofs.Common.{◌≡◌, ℕ, ◌+◌, ◌-◌, ◌≤◌, ◌<◌, true, false, length, drop, inl, inr, sym, ap, subst, ◌∙◌, arith}
 use Rattle.std.proofs.lemmas.List.{length-append}
 use Rattle.lexmeaning.specs.Machine.{Machine}
 use Rattle.lexscan.specs.declared.state.Spot.{Spot}
 use Rattle.lexscan.specs.declared.state.Reading.{Reading}
 use Rattle.lexscan.specs.declared.window.Stop.TheVariants as Stop
-use Rattle.lexscan.specs.Reads.{end_step}
 use Rattle.lexscan.specs.Sees.{SoFar}
 use Rattle.lexscan.specs.Picks.{trail_of, state_at}
 use Rattle.lexscan.specs.Walks.{Grown, StopsAt, ends_at, end_of_stop, fault_of_stop, goes}
