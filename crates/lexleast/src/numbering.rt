@@ -1,5 +1,5 @@
 //! Numbering classes of states.
-ghost use Rattle.std.specs.Prelude.{◌≡◌, ◌^◌, ℕ, ◌*◌, ◌++◌, ◌<◌, ◌≤◌, List, [], length, slice_index, IfOk, OnOk};
+ghost use Rattle.std.specs.Prelude.{◌≡◌, ◌^◌, ℕ, ◌+◌, ◌*◌, ◌/◌, ◌%◌, ◌++◌, ◌∷◌, ◌<◌, ◌≤◌, List, [], length, slice_index, IfOk, OnOk};
 ghost use Rattle.lexleast.specs.Sources.{IsRow};
 ghost use Rattle.lexleast.specs.Numbers.{AreCalled, AreNumbers, AreRows, AreStarts, Grown, IsNumberOf, Keeps};
 
@@ -14,21 +14,20 @@ pub(crate) struct Numbers {
 
 /// Gives the next number to a state's class, which has none.
 #[inline(never)]
-fn number_next(numbers: &mut Numbers, classes: &[u32], state: u32) -> Result<u32, AllocError>
+fn call(numbers: &mut Numbers, classes: &[u32], state: u32) -> Result<(), AllocError>
     requires state { state < length classes.now }
     requires few { length classes.now < 2 ^ 32 }
     requires classes { IsRow classes.now }
     requires numbers { AreNumbers classes.now numbers.old }
     requires none { length numbers.old.members.items ≤ slice_index numbers.old.of_class.items (slice_index classes.now state) }
     ensures numbers { OnOk result (AreNumbers classes.now numbers.new) }
-    ensures number { IfOk result (λ k. IsNumberOf classes.now numbers.new.members.items k state) }
-    ensures grown { IfOk result (λ k. Grown numbers.old.members.items state k numbers.new.members.items) }
+    ensures members { OnOk result (numbers.new.members.items ≡ numbers.old.members.items ++ state ∷ []) }
+    ensures number { OnOk result (slice_index numbers.new.of_class.items (slice_index classes.now state) ≡ length numbers.old.members.items) }
 {
     let class = classes[state as usize] as usize;
-    let next = numbers.members.len() as u32;
-    numbers.of_class[class] = next;
+    numbers.of_class[class] = numbers.members.len() as u32;
     numbers.members.push(state)?;
-    Ok(next)
+    Ok(())
 }
 
 /// The number of a state's class. A class that has none gets the next one.
@@ -42,11 +41,10 @@ pub(crate) fn number(numbers: &mut Numbers, classes: &[u32], state: u32) -> Resu
     ensures grown { IfOk result (λ k. Grown numbers.old.members.items state k numbers.new.members.items) }
 {
     let class = classes[state as usize] as usize;
-    let found = numbers.of_class[class];
-    if (found as usize) < numbers.members.len() {
-        return Ok(found);
+    if numbers.of_class[class] as usize >= numbers.members.len() {
+        call(numbers, classes, state)?;
     }
-    number_next(numbers, classes, state)
+    Ok(numbers.of_class[class])
 }
 
 /// The numbers of the starts.
@@ -74,6 +72,36 @@ pub(crate) fn number_starts(
     Ok(called)
 }
 
+/// Adds the row of the next number: the numbers of where its class goes by each byte. Classes that are called here get
+/// numbers.
+fn number_row(
+    numbers: &mut Numbers,
+    classes: &[u32],
+    table: &[u32],
+    rows: &mut Vec<u32>,
+) -> Result<(), AllocError>
+    requires len { length table.now ≡ 256 * length classes.now }
+    requires table { (i : ℕ) → i < length table.now → slice_index table.now i < length classes.now }
+    requires few { length classes.now < 2 ^ 32 }
+    requires classes { IsRow classes.now }
+    requires numbers { AreNumbers classes.now numbers.old }
+    requires whole { length rows.old.items % 256 ≡ 0 }
+    requires next { length rows.old.items / 256 < length numbers.old.members.items }
+    requires rows { AreRows classes.now table.now numbers.old.members.items rows.old.items }
+    ensures numbers { OnOk result (AreNumbers classes.now numbers.new) }
+    ensures len { OnOk result (length rows.new.items ≡ length rows.old.items + 256) }
+    ensures rows { OnOk result (AreRows classes.now table.now numbers.new.members.items rows.new.items) }
+    ensures called { OnOk result ((starts : List ℕ) → AreCalled (length starts) numbers.old.members.items (starts ++ rows.old.items)
+        → AreCalled (length starts) numbers.new.members.items (starts ++ rows.new.items)) }
+    ensures keeps { OnOk result (Keeps numbers.old.members.items numbers.new.members.items) }
+{
+    let member = numbers.members[rows.len() / 256] as usize;
+    for target in &table[member * 256..member * 256 + 256] {
+        rows.push(number(numbers, classes, *target)?)?;
+    }
+    Ok(())
+}
+
 /// The rows of the numbers, each with the numbers of where its class goes by each byte. Classes that are called here get
 /// numbers, and rows.
 pub(crate) fn number_rows(
@@ -96,9 +124,7 @@ pub(crate) fn number_rows(
 {
     let mut rows: Vec<u32> = Vec::with_capacity(alloc, table.len())?;
     'rows: while rows.len() / 256 < numbers.members.len() {
-        let member = numbers.members[rows.len() / 256] as usize;
-        let target = table[member * 256 + rows.len() % 256];
-        rows.push(number(numbers, classes, target)?)?;
+        number_row(numbers, classes, table, &mut rows)?;
     }
     Ok(rows)
 }

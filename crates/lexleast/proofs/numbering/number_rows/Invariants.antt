@@ -1,10 +1,11 @@
-use Rattle.std.proofs.Common.{◌≤◌, ◌*◌, ◌-◌, ◌++◌, ℕ, List, length}
+use Rattle.std.proofs.Common.{◌≡◌, ◌≤◌, ◌*◌, ◌%◌, ◌-◌, ◌++◌, ℕ, List, length}
 use Rattle.lexleast.specs.Numbers.{AreCalled, AreNumbers, AreRows, Keeps}
 use Rattle.lexleast.proofs.numbering.number_rows.Given as goal
 
 abbrev pub invariant-rows : goal.invariant-rows
 invariant-rows l = record {
   numbers : AreNumbers l.classes l.numbers;
+  whole : length l.rows.items % 256 ≡ 0;
   most : length l.rows.items ≤ 256 * length l.numbers.members.items;
   each : AreRows l.classes l.table l.numbers.members.items l.rows.items;
   called : (starts : List ℕ) → AreCalled (length starts) l.fn.numbers.members.items starts → AreCalled (length starts) l.numbers.members.items (starts ++ l.rows.items);
