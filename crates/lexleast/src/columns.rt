@@ -1,5 +1,5 @@
 //! Bytes by which all states go alike.
-ghost use Rattle.std.specs.Prelude.{◌≡◌, ℕ, ◌*◌, ◌<◌, ◌≤◌, length, slice_index, IfOk};
+ghost use Rattle.std.specs.Prelude.{◌≡◌, ℕ, ◌*◌, ◌<◌, ◌≤◌, true, length, slice_index, IfOk};
 ghost use Rattle.lexleast.specs.Columns.{AreFirsts, IsFirstAlike};
 
 use std::alloc::{AllocError, Global};
@@ -20,17 +20,24 @@ fn first_alike(firsts: &[u8], row: &[u32], byte: usize) -> u8
     byte as u8
 }
 
-/// Tells bytes apart by one more row.
-fn compare_row(firsts: &mut [u8], row: &[u32])
+/// Tells bytes apart by one more row. Answers whether all are.
+fn compare_row(firsts: &mut [u8], row: &[u32]) -> bool
     requires len { length firsts.old ≡ 256 }
     requires row { length row.now ≡ 256 }
     requires low { (b : ℕ) → b < 256 → slice_index firsts.old b ≤ b }
-    ensures { (b : ℕ) → b < 256 → IsFirstAlike firsts.old row.now b (slice_index firsts.new b) }
+    ensures firsts { (b : ℕ) → b < 256 → IsFirstAlike firsts.old row.now b (slice_index firsts.new b) }
+    ensures apart { result ≡ true → (b : ℕ) → b < 256 → slice_index firsts.new b ≡ b }
 {
+    let mut apart = true;
     for i in 0..256usize {
         let byte = 255 - i;
-        firsts[byte] = first_alike(firsts, row, byte);
+        let first = first_alike(firsts, row, byte);
+        firsts[byte] = first;
+        if first as usize != byte {
+            apart = false;
+        }
     }
+    apart
 }
 
 /// Tells bytes apart by the rows of all states.
@@ -40,7 +47,9 @@ fn compare_rows(firsts: &mut [u8], next: &[u32], states: usize)
     ensures { AreFirsts next.now firsts.new states }
 {
     for state in 0..states {
-        compare_row(firsts, &next[state * 256..state * 256 + 256]);
+        if compare_row(firsts, &next[state * 256..state * 256 + 256]) {
+            return;
+        }
     }
 }
 

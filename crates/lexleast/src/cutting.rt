@@ -10,6 +10,7 @@ use crate::blocks::{Blocks, cut};
 use std::alloc::AllocError;
 
 /// Cuts a block. The new block, if there is one, waits.
+#[inline(never)]
 fn cut_one(blocks: &mut Blocks, number: u32, waiting: &mut Vec<u32>) -> Result<(), AllocError>
     requires number { number < count blocks.old }
     requires arranged { Arranged blocks.old }

@@ -9,6 +9,7 @@ use crate::sources::Letter;
 use std::alloc::AllocError;
 
 /// Marks a state, and notes its block when it is the first there.
+#[inline(never)]
 fn note(blocks: &mut Blocks, touched: &mut Vec<u32>, state: u32) -> Result<(), AllocError>
     requires state { state < states blocks.old }
     requires arranged { Arranged blocks.old }

@@ -48,6 +48,14 @@ pub more_leads : (n : ℕ) (go : ℕ → ℕ → ℕ) (old row new : List ℕ) �
     → ((b : ℕ) → b < 256 → IsSplit old row b (slice_index new b)) → AreLeads (n + 1) go new
 more_leads n go old row new x is y b h = one_more_lead n go old row x is b (slice_index new b) h (y b h)
 
+-- bytes that are each their own lead stay so
+pub still_alone : (n m : ℕ) (go : ℕ → ℕ → ℕ) (leads : List ℕ) → n ≤ m → AreLeads n go leads → ((b : ℕ) → b < 256 → slice_index leads b ≡ b) → AreLeads m go leads
+still_alone n m go leads le x own b h = record {
+  at_most = (x b h).at_most;
+  alike = λ s g. ap (go s) (own b h);
+  least = λ c less e. (x b h).least c less (λ s g. e s (omega (arith, g, le)));
+}
+
 pub class_map : (n : ℕ) (go : ℕ → ℕ → ℕ) (leads class_of heads : List ℕ) → AreLeads n go leads → AreNumbered leads class_of heads 256
     → IsClassMap n go class_of (length heads)
 class_map n go leads class_of heads x y = record {

@@ -1,5 +1,5 @@
 //! Byte classes.
-ghost use Rattle.std.specs.Prelude.{◌≡◌, ℕ, ◌+◌, ◌*◌, ◌<◌, ◌≤◌, length, slice_index, OnOk, IfOk};
+ghost use Rattle.std.specs.Prelude.{◌≡◌, ℕ, ◌+◌, ◌*◌, ◌<◌, ◌≤◌, true, length, slice_index, OnOk, IfOk};
 ghost use Rattle.lexpack.specs.Classes.{IsClassMap};
 ghost use Rattle.lexpack.specs.Searching.{AreAllBytes, AreLeads, IsSplit, moves, AreNumbered};
 
@@ -20,19 +20,25 @@ fn earliest(lead: &[u8], row: &[u32], byte: usize) -> u8
     byte as u8
 }
 
-/// Splits classes by the row of one more state.
-fn split(row: &[u32], lead: &mut [u8])
+/// Splits classes by the row of one more state. Answers whether each byte is alone in its class now.
+fn split(row: &[u32], lead: &mut [u8]) -> bool
     requires leads { length lead.old ≡ 256 }
     requires targets { length row.now ≡ 256 }
     requires heads { (b : ℕ) → b < 256 → (slice_index lead.old b ≤ b) × (slice_index lead.old (slice_index lead.old b) ≡ slice_index lead.old b) }
-    ensures { (b : ℕ) → b < 256 → IsSplit lead.old row.now b (slice_index lead.new b) }
+    ensures split { (b : ℕ) → b < 256 → IsSplit lead.old row.now b (slice_index lead.new b) }
+    ensures alone { result ≡ true → (b : ℕ) → b < 256 → slice_index lead.new b ≡ b }
 {
+    let mut alone = true;
     for i in 0..256usize {
         let byte = 255 - i;
         if row[byte] != row[lead[byte] as usize] {
             lead[byte] = earliest(lead, row, byte);
         }
+        if lead[byte] as usize != byte {
+            alone = false;
+        }
     }
+    alone
 }
 
 /// Splits classes by the rows of all states.
@@ -43,7 +49,9 @@ fn split_all(next: &[u32], states: usize, lead: &mut [u8])
     ensures { AreLeads states (moves next.now) lead.new }
 {
     for state in 0..states {
-        split(&next[256 * state..256 * state + 256], lead);
+        if split(&next[256 * state..256 * state + 256], lead) {
+            return;
+        }
     }
 }
 
