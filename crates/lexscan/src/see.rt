@@ -175,7 +175,12 @@ fn see_more<M: Machine, S: Source>(
             before: before_last(now.before, walk),
         };
         match walk.stop {
-            Stop::Done => return Ok(Some(now)),
+            Stop::Done => {
+                return Ok(Some(Seen {
+                    before: walk.before,
+                    ..now
+                }));
+            }
             Stop::Fault => return Err(RunError::Read),
             Stop::End => {}
             Stop::Full => {}
