@@ -65,7 +65,7 @@ pub fn see<M: Machine, S: Source>(
 }
 
 /// Takes the bytes that a match asks for, and keeps the last two states. Answers nothing where there is none.
-#[inline]
+#[inline(always)]
 pub fn see_last<M: Machine, S: Source>(
     machine: &M,
     intake: &mut Intake<'_, S>,

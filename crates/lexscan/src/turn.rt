@@ -225,6 +225,7 @@ fn far_turn<M: Machine, K: Sink>(
 }
 
 /// The same for a machine without REJECT, by the longest match alone.
+#[inline(always)]
 fn last_turn<M: Machine, K: Sink>(
     machine: &M,
     outlet: &mut Outlet<'_, K>,
@@ -335,6 +336,7 @@ fn go_told<M: Machine, S: Source, K: Sink>(
 }
 
 /// The same for a machine without REJECT, by the last two states.
+#[inline(always)]
 fn go_last<M: Machine, S: Source, K: Sink>(
     machine: &M,
     intake: &mut Intake<'_, S>,
@@ -454,6 +456,53 @@ pub fn turn_on<M: Machine, S: Source, K: Sink>(
             Ok(turn)
         }
         Err(e) => Err(e),
+    }
+}
+
+/// The same for a machine without REJECT.
+#[inline(always)]
+pub fn quiet_turn<M: Machine, S: Source, K: Sink>(
+    machine: &M,
+    intake: &mut Intake<'_, S>,
+    outlet: &mut Outlet<'_, K>,
+    state: &mut State,
+) -> Result<Turn, RunError>
+    requires quiet { NoReject (M.machine machine.now) }
+    requires working { state.old.failed ≡ false }
+    requires going { state.old.ended ≡ None }
+    requires may_read { state.old.reading.at_end ≡ false → intake.old.live ≡ true }
+    requires may_write { outlet.old.live ≡ true }
+    requires condition { state.old.spot.condition < (M.machine machine.now).conditions }
+    requires inside { state.old.spot.at ≤ length state.old.reading.window.bytes }
+    requires stack { AllBelow (M.machine machine.now).conditions state.old.acting.stack }
+
+    ensures same_source { intake.new.source.ghost_name ≡ intake.old.source.ghost_name }
+    ensures same_sink { outlet.new.sink.ghost_name ≡ outlet.old.sink.ghost_name }
+    ensures goes_on { (got : List ℕ) × (wrote : List ℕ) × S.gave intake.old.source.now got intake.new.source.now
+        × K.wrote outlet.old.sink.now wrote outlet.new.sink.now
+        × NoneAfterEnd state.old state.new got × GoesOn (M.machine machine.now) state.old state.new got wrote result }
+
+    ensures still { state.old.reading.at_end ≡ true → intake.new.source.now ≡ intake.old.source.now }
+    ensures read_faults { S.failures intake.new.source.now ≡ S.failures intake.old.source.now + read_fault_count result }
+    ensures write_faults { K.failures outlet.new.sink.now ≡ K.failures outlet.old.sink.now + write_fault_count result }
+    ensures refused { IsErrOf result RunError.Failed → ⊥ }
+    ensures max_reads { state.new.reading.max_reads ≡ state.old.reading.max_reads }
+
+    // The next turn may be called.
+    ensures may_read { state.new.failed ≡ false → state.new.ended ≡ None → state.new.reading.at_end ≡ false → intake.new.live ≡ true }
+    ensures may_write { state.new.failed ≡ false → outlet.new.live ≡ true }
+    ensures condition { state.new.spot.condition < (M.machine machine.now).conditions }
+    ensures inside { state.new.spot.at ≤ length state.new.reading.window.bytes }
+    ensures stack { state.new.failed ≡ false → AllBelow (M.machine machine.now).conditions state.new.acting.stack }
+    ensures ends { S.ends intake.new.source.now ≡ S.ends intake.old.source.now + end_step state.old.reading.at_end state.new.reading.at_end }
+    ensures too_many { IsErrOf result RunError.TooManyReads → (state.new.reading.taken ≡ state.new.reading.max_reads) × (state.new.reading.at_end ≡ false) }
+{
+    match go_last(machine, intake, outlet, state) {
+        Ok(turn) => Ok(turn),
+        Err(e) => {
+            state.failed = true;
+            Err(e)
+        }
     }
 }
 
