@@ -1,5 +1,5 @@
 //! The longest match at a place, without the states before its last two.
-ghost use Rattle.std.specs.Prelude.{◌≡◌, ℕ, ◌+◌, ◌-◌, ◌^◌, ◌<◌, ◌≤◌, List, [], length, filter_map, true, false, OnOk, OnErr, IfOk, IfErr, IfSome};
+ghost use Rattle.std.specs.Prelude.{◌≡◌, ℕ, ◌+◌, ◌-◌, ◌^◌, ◌<◌, ◌≤◌, List, [], length, filter_map, Some, true, false, OnOk, OnErr, IfOk, IfErr, IfSome};
 ghost use Rattle.lexmeaning.specs.Text.{Among};
 ghost use Rattle.lexmeaning.specs.PlainMachine.{match_of};
 ghost use Rattle.lexmeaning.specs.Trail.{falling};
@@ -34,7 +34,7 @@ pub struct Pick<'m> {
 }
 
 /// The first of the rules whose cut fits a match of this many bytes.
-#[inline]
+#[inline(always)]
 fn first_fit<'m, M: Machine>(machine: &'m M, rules: &[u32], len: usize) -> Option<Pick<'m>>
     requires known { (i : ℕ) → Among rules.now i → i < (M.machine machine.now).count }
 
@@ -57,9 +57,7 @@ fn first_fit<'m, M: Machine>(machine: &'m M, rules: &[u32], len: usize) -> Optio
 }
 
 /// The longest match of the first bytes from a place on, by one more walk over them.
-#[cold]
-#[inline(never)]
-fn walk_again<'m, M: Machine>(
+pub fn walk_again<'m, M: Machine>(
     machine: &'m M,
     window: &Window,
     spot: Spot,
@@ -89,9 +87,9 @@ fn walk_again<'m, M: Machine>(
     best
 }
 
-/// The longest match of the bytes that were asked for: mostly the last state accepts, or the one before it.
-#[inline]
-pub fn longest<'m, M: Machine>(
+/// The longest match of the bytes that were asked for, where the last state accepts or the one before it.
+#[inline(always)]
+pub fn near_end<'m, M: Machine>(
     machine: &'m M,
     window: &Window,
     spot: Spot,
@@ -100,7 +98,8 @@ pub fn longest<'m, M: Machine>(
     requires condition { spot.condition < (M.machine machine.now).conditions }
     requires tells { Tells (M.machine machine.now) (M.states machine.now) spot window.now.bytes seen }
 
-    ensures first { IsFirst (falling (M.machine machine.now) 0 (trail_of (M.machine machine.now) spot window.now.bytes seen.reach)) result }
+    ensures first { IfSome result (λ pick. IsFirst (falling (M.machine machine.now) 0 (trail_of (M.machine machine.now) spot window.now.bytes seen.reach)) (Some pick)) }
+    ensures one { seen.reach ≡ 1 → IsFirst (falling (M.machine machine.now) 0 (trail_of (M.machine machine.now) spot window.now.bytes seen.reach)) result }
     ensures known { IfSome result (λ pick. pick.rule < (M.machine machine.now).count) }
     ensures statements { IfSome result (HasStatements (M.machine machine.now)) }
     ensures short { IfSome result (λ pick. pick.keep ≤ seen.reach) }
@@ -115,27 +114,28 @@ pub fn longest<'m, M: Machine>(
     if let Some(pick) = first_fit(machine, machine.accepts(seen.before), len - 1) {
         return Some(pick);
     }
-    walk_again(machine, window, spot, len)
+    None
 }
 
 /// Carries out this match, or the default match where there is none. Answers how the scan ends, if it does.
+#[inline(always)]
 pub fn carry_pick<M: Machine, K: Sink>(
     machine: &M,
     outlet: &mut Outlet<'_, K>,
     window: &Window,
     spot: Spot,
-    seen: Seen,
+    reach: usize,
     pick: Option<Pick<'_>>,
     acting: &mut Acting,
 ) -> Result<Option<Finish>, RunError>
     requires live { outlet.old.live ≡ true }
     requires quiet { NoReject (M.machine machine.now) }
-    requires place { spot.at + seen.reach ≤ length window.now.bytes }
-    requires some { 1 ≤ seen.reach }
-    requires first { IsFirst (falling (M.machine machine.now) 0 (trail_of (M.machine machine.now) spot window.now.bytes seen.reach)) pick }
+    requires place { spot.at + reach ≤ length window.now.bytes }
+    requires some { 1 ≤ reach }
+    requires first { IsFirst (falling (M.machine machine.now) 0 (trail_of (M.machine machine.now) spot window.now.bytes reach)) pick }
     requires known { IfSome pick (λ pick. pick.rule < (M.machine machine.now).count) }
     requires statements { IfSome pick (HasStatements (M.machine machine.now)) }
-    requires short { IfSome pick (λ pick. pick.keep ≤ seen.reach) }
+    requires short { IfSome pick (λ pick. pick.keep ≤ reach) }
 
     ensures same { outlet.new.sink.ghost_name ≡ outlet.old.sink.ghost_name }
     ensures failures { K.failures outlet.new.sink.now ≡ K.failures outlet.old.sink.now + write_fault_count result }
@@ -143,8 +143,8 @@ pub fn carry_pick<M: Machine, K: Sink>(
     ensures refusals { IfErr result (λ e. e ≡ RunError.Write) }
 
     ensures inside { acting.new.end ≤ length window.now.bytes }
-    ensures performed { IfOk result (λ ended. Performed (M.machine machine.now) K.wrote outlet.old.sink.now outlet.new.sink.now window.now.bytes spot.at (matches_of (M.machine machine.now) window.now.bytes spot.at (trail_of (M.machine machine.now) spot window.now.bytes seen.reach)) (conditions_of acting.old) acting.new (finished_of ended)) }
-    ensures cut_off { OnErr result (CutAll (M.machine machine.now) K.wrote outlet.old.sink.now outlet.new.sink.now window.now.bytes spot.at (matches_of (M.machine machine.now) window.now.bytes spot.at (trail_of (M.machine machine.now) spot window.now.bytes seen.reach)) (conditions_of acting.old)) }
+    ensures performed { IfOk result (λ ended. Performed (M.machine machine.now) K.wrote outlet.old.sink.now outlet.new.sink.now window.now.bytes spot.at (matches_of (M.machine machine.now) window.now.bytes spot.at (trail_of (M.machine machine.now) spot window.now.bytes reach)) (conditions_of acting.old) acting.new (finished_of ended)) }
+    ensures cut_off { OnErr result (CutAll (M.machine machine.now) K.wrote outlet.old.sink.now outlet.new.sink.now window.now.bytes spot.at (matches_of (M.machine machine.now) window.now.bytes spot.at (trail_of (M.machine machine.now) spot window.now.bytes reach)) (conditions_of acting.old)) }
 {
     let held = window.len();
     acting.more = false;

@@ -65,7 +65,7 @@ pub fn see<M: Machine, S: Source>(
 }
 
 /// Takes the bytes that a match asks for, and keeps the last two states. Answers nothing where there is none.
-#[inline]
+#[inline(always)]
 pub fn see_last<M: Machine, S: Source>(
     machine: &M,
     intake: &mut Intake<'_, S>,
@@ -175,7 +175,12 @@ fn see_more<M: Machine, S: Source>(
             before: before_last(now.before, walk),
         };
         match walk.stop {
-            Stop::Done => return Ok(Some(now)),
+            Stop::Done => {
+                return Ok(Some(Seen {
+                    before: walk.before,
+                    ..now
+                }));
+            }
             Stop::Fault => return Err(RunError::Read),
             Stop::End => {}
             Stop::Full => {}

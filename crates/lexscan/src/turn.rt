@@ -1,12 +1,13 @@
 //! A scan, one turn at a time, over the parts of a scanner.
-ghost use Rattle.std.specs.Prelude.{◌≡◌, ℕ, ◌+◌, ◌-◌, ◌^◌, ◌<◌, ◌≤◌, List, [], ◌∷◌, ◌++◌, length, true, false, Some, None, Ok, Err, OnOk, OnErr, IfOk, IfErr, IsErrOf, nat_eq, get_or, ◌⊎◌};
+ghost use Rattle.std.specs.Prelude.{◌≡◌, ℕ, ◌+◌, ◌-◌, ◌^◌, ◌<◌, ◌≤◌, List, [], ◌∷◌, ◌++◌, length, true, false, Some, None, Ok, Err, OnOk, OnErr, IfOk, IfErr, IfSome, IsErrOf, nat_eq, get_or, ◌⊎◌};
 ghost use Rattle.lexends.specs.Sink.{Appended};
 ghost use Rattle.lexmeaning.specs.Text.{Among, AllBelow};
 ghost use Rattle.lexscan.specs.Reads.{read_fault_count, write_fault_count, end_step};
 ghost use Rattle.lexscan.specs.Sees.{Wants};
 ghost use Rattle.lexscan.specs.Descends.{matches_of, conditions_at, CutAll, Faulted};
 ghost use Rattle.lexmeaning.specs.MachineLaws.{NoReject};
-ghost use Rattle.lexscan.specs.Picks.{Tells, trail_of};
+ghost use Rattle.lexscan.specs.Picks.{IsFirst, HasStatements, Tells, trail_of};
+ghost use Rattle.lexmeaning.specs.Trail.{falling};
 ghost use Rattle.lexscan.specs.Stands.{NoneAfterEnd, GoesOn};
 ghost use Rattle.lexscan.specs.Moves.{stays, left_bytes, left_at, Left, Acted, EndLeft, Moved, Untouched};
 
@@ -14,7 +15,7 @@ use crate::act::{Finish, put};
 use crate::descent::descend;
 use crate::error::RunError;
 use crate::intake::{Intake, Outlet};
-use crate::pick::{Seen, carry_pick, longest};
+use crate::pick::{Pick, Seen, carry_pick, near_end, walk_again};
 use crate::see::{see, see_last};
 use crate::state::State;
 use crate::trail::Trail;
@@ -125,7 +126,106 @@ fn match_turn<M: Machine, K: Sink>(
     }
 }
 
+/// Carries out the longest match, or the default match where there is none, and goes to the place after it.
+#[inline(always)]
+fn carry_turn<M: Machine, K: Sink>(
+    machine: &M,
+    outlet: &mut Outlet<'_, K>,
+    state: &mut State,
+    reach: usize,
+    pick: Option<Pick<'_>>,
+) -> Result<Turn, RunError>
+    requires live { outlet.old.live ≡ true }
+    requires quiet { NoReject (M.machine machine.now) }
+    requires place { state.old.spot.at + reach ≤ length state.old.reading.window.bytes }
+    requires some { 1 ≤ reach }
+    requires first { IsFirst (falling (M.machine machine.now) 0 (trail_of (M.machine machine.now) state.old.spot state.old.reading.window.bytes reach)) pick }
+    requires known { IfSome pick (λ pick. pick.rule < (M.machine machine.now).count) }
+    requires statements { IfSome pick (HasStatements (M.machine machine.now)) }
+    requires short { IfSome pick (λ pick. pick.keep ≤ reach) }
+
+    ensures same { outlet.new.sink.ghost_name ≡ outlet.old.sink.ghost_name }
+    ensures failures { K.failures outlet.new.sink.now ≡ K.failures outlet.old.sink.now + write_fault_count result }
+    ensures live { OnOk result (outlet.new.live ≡ true) }
+    ensures refusals { IfErr result (λ e. (e ≡ RunError.Write) ⊎ (e ≡ RunError.Stack)) }
+    ensures failed { state.new.failed ≡ state.old.failed }
+    ensures max_reads { state.new.reading.max_reads ≡ state.old.reading.max_reads }
+
+    ensures acted { IfOk result (λ turn. Acted (M.machine machine.now) K.wrote outlet.old.sink.now outlet.new.sink.now state.old.reading state.old.spot (conditions_at state.old) (trail_of (M.machine machine.now) state.old.spot state.old.reading.window.bytes reach) state.new turn) }
+    ensures going { result ≡ Ok Turn.Went → state.new.ended ≡ state.old.ended }
+    ensures cut_off { OnErr result (CutAll (M.machine machine.now) K.wrote outlet.old.sink.now outlet.new.sink.now state.old.reading.window.bytes state.old.spot.at
+        (matches_of (M.machine machine.now) state.old.reading.window.bytes state.old.spot.at (trail_of (M.machine machine.now) state.old.spot state.old.reading.window.bytes reach)) (conditions_at state.old)) }
+    ensures fault { IsErrOf result RunError.Stack → Faulted (M.machine machine.now) K.wrote outlet.old.sink.now outlet.new.sink.now state.old.reading.window.bytes state.old.spot.at
+        (matches_of (M.machine machine.now) state.old.reading.window.bytes state.old.spot.at (trail_of (M.machine machine.now) state.old.spot state.old.reading.window.bytes reach)) (conditions_at state.old) }
+    ensures unchanged { OnErr result (Untouched state.old state.new) }
+{
+    state.acting.condition = state.spot.condition;
+    let spot = state.spot;
+    let reading = &state.reading;
+    match carry_pick(
+        machine,
+        outlet,
+        &reading.window,
+        spot,
+        reach,
+        pick,
+        &mut state.acting,
+    ) {
+        Err(e) => Err(e),
+        Ok(None) => {
+            leave(state, false);
+            Ok(Turn::Went)
+        }
+        Ok(Some(finish)) => match flush(outlet) {
+            Err(e) => Err(e),
+            Ok(()) => match finish {
+                Finish::StackFault => Err(RunError::Stack),
+                Finish::Status(status) => {
+                    leave(state, true);
+                    state.ended = Some(status);
+                    Ok(Turn::Ended(status))
+                }
+            },
+        },
+    }
+}
+
+/// The same turn where neither the last state accepts nor the one before it.
+#[cold]
+#[inline(never)]
+fn far_turn<M: Machine, K: Sink>(
+    machine: &M,
+    outlet: &mut Outlet<'_, K>,
+    state: &mut State,
+    reach: usize,
+) -> Result<Turn, RunError>
+    requires live { outlet.old.live ≡ true }
+    requires quiet { NoReject (M.machine machine.now) }
+    requires condition { state.old.spot.condition < (M.machine machine.now).conditions }
+    requires place { state.old.spot.at + reach ≤ length state.old.reading.window.bytes }
+    requires some { 1 ≤ reach }
+
+    ensures same { outlet.new.sink.ghost_name ≡ outlet.old.sink.ghost_name }
+    ensures failures { K.failures outlet.new.sink.now ≡ K.failures outlet.old.sink.now + write_fault_count result }
+    ensures live { OnOk result (outlet.new.live ≡ true) }
+    ensures refusals { IfErr result (λ e. (e ≡ RunError.Write) ⊎ (e ≡ RunError.Stack)) }
+    ensures failed { state.new.failed ≡ state.old.failed }
+    ensures max_reads { state.new.reading.max_reads ≡ state.old.reading.max_reads }
+
+    ensures acted { IfOk result (λ turn. Acted (M.machine machine.now) K.wrote outlet.old.sink.now outlet.new.sink.now state.old.reading state.old.spot (conditions_at state.old) (trail_of (M.machine machine.now) state.old.spot state.old.reading.window.bytes reach) state.new turn) }
+    ensures going { result ≡ Ok Turn.Went → state.new.ended ≡ state.old.ended }
+    ensures cut_off { OnErr result (CutAll (M.machine machine.now) K.wrote outlet.old.sink.now outlet.new.sink.now state.old.reading.window.bytes state.old.spot.at
+        (matches_of (M.machine machine.now) state.old.reading.window.bytes state.old.spot.at (trail_of (M.machine machine.now) state.old.spot state.old.reading.window.bytes reach)) (conditions_at state.old)) }
+    ensures fault { IsErrOf result RunError.Stack → Faulted (M.machine machine.now) K.wrote outlet.old.sink.now outlet.new.sink.now state.old.reading.window.bytes state.old.spot.at
+        (matches_of (M.machine machine.now) state.old.reading.window.bytes state.old.spot.at (trail_of (M.machine machine.now) state.old.spot state.old.reading.window.bytes reach)) (conditions_at state.old) }
+    ensures unchanged { OnErr result (Untouched state.old state.new) }
+{
+    let pick = walk_again(machine, &state.reading.window, state.spot, reach);
+    carry_turn(machine, outlet, state, reach, pick)
+}
+
 /// The same for a machine without REJECT, by the longest match alone.
+#[inline(always)]
 fn last_turn<M: Machine, K: Sink>(
     machine: &M,
     outlet: &mut Outlet<'_, K>,
@@ -152,38 +252,13 @@ fn last_turn<M: Machine, K: Sink>(
         (matches_of (M.machine machine.now) state.old.reading.window.bytes state.old.spot.at (trail_of (M.machine machine.now) state.old.spot state.old.reading.window.bytes seen.reach)) (conditions_at state.old) }
     ensures unchanged { OnErr result (Untouched state.old state.new) }
 {
-    state.acting.end = 0;
-    state.acting.condition = state.spot.condition;
-    state.acting.more = false;
-    let spot = state.spot;
-    let reading = &state.reading;
-    let pick = longest(machine, &reading.window, spot, seen);
-    match carry_pick(
-        machine,
-        outlet,
-        &reading.window,
-        spot,
-        seen,
-        pick,
-        &mut state.acting,
-    ) {
-        Err(e) => Err(e),
-        Ok(None) => {
-            leave(state, false);
-            Ok(Turn::Went)
-        }
-        Ok(Some(finish)) => match flush(outlet) {
-            Err(e) => Err(e),
-            Ok(()) => match finish {
-                Finish::StackFault => Err(RunError::Stack),
-                Finish::Status(status) => {
-                    leave(state, true);
-                    state.ended = Some(status);
-                    Ok(Turn::Ended(status))
-                }
-            },
-        },
+    if let Some(pick) = near_end(machine, &state.reading.window, state.spot, seen) {
+        return carry_turn(machine, outlet, state, seen.reach, Some(pick));
     }
+    if 1 < seen.reach {
+        return far_turn(machine, outlet, state, seen.reach);
+    }
+    carry_turn(machine, outlet, state, seen.reach, None)
 }
 
 /// The end action of the condition.
@@ -261,6 +336,7 @@ fn go_told<M: Machine, S: Source, K: Sink>(
 }
 
 /// The same for a machine without REJECT, by the last two states.
+#[inline(always)]
 fn go_last<M: Machine, S: Source, K: Sink>(
     machine: &M,
     intake: &mut Intake<'_, S>,
@@ -380,6 +456,53 @@ pub fn turn_on<M: Machine, S: Source, K: Sink>(
             Ok(turn)
         }
         Err(e) => Err(e),
+    }
+}
+
+/// The same for a machine without REJECT.
+#[inline(always)]
+pub fn quiet_turn<M: Machine, S: Source, K: Sink>(
+    machine: &M,
+    intake: &mut Intake<'_, S>,
+    outlet: &mut Outlet<'_, K>,
+    state: &mut State,
+) -> Result<Turn, RunError>
+    requires quiet { NoReject (M.machine machine.now) }
+    requires working { state.old.failed ≡ false }
+    requires going { state.old.ended ≡ None }
+    requires may_read { state.old.reading.at_end ≡ false → intake.old.live ≡ true }
+    requires may_write { outlet.old.live ≡ true }
+    requires condition { state.old.spot.condition < (M.machine machine.now).conditions }
+    requires inside { state.old.spot.at ≤ length state.old.reading.window.bytes }
+    requires stack { AllBelow (M.machine machine.now).conditions state.old.acting.stack }
+
+    ensures same_source { intake.new.source.ghost_name ≡ intake.old.source.ghost_name }
+    ensures same_sink { outlet.new.sink.ghost_name ≡ outlet.old.sink.ghost_name }
+    ensures goes_on { (got : List ℕ) × (wrote : List ℕ) × S.gave intake.old.source.now got intake.new.source.now
+        × K.wrote outlet.old.sink.now wrote outlet.new.sink.now
+        × NoneAfterEnd state.old state.new got × GoesOn (M.machine machine.now) state.old state.new got wrote result }
+
+    ensures still { state.old.reading.at_end ≡ true → intake.new.source.now ≡ intake.old.source.now }
+    ensures read_faults { S.failures intake.new.source.now ≡ S.failures intake.old.source.now + read_fault_count result }
+    ensures write_faults { K.failures outlet.new.sink.now ≡ K.failures outlet.old.sink.now + write_fault_count result }
+    ensures refused { IsErrOf result RunError.Failed → ⊥ }
+    ensures max_reads { state.new.reading.max_reads ≡ state.old.reading.max_reads }
+
+    // The next turn may be called.
+    ensures may_read { state.new.failed ≡ false → state.new.ended ≡ None → state.new.reading.at_end ≡ false → intake.new.live ≡ true }
+    ensures may_write { state.new.failed ≡ false → outlet.new.live ≡ true }
+    ensures condition { state.new.spot.condition < (M.machine machine.now).conditions }
+    ensures inside { state.new.spot.at ≤ length state.new.reading.window.bytes }
+    ensures stack { state.new.failed ≡ false → AllBelow (M.machine machine.now).conditions state.new.acting.stack }
+    ensures ends { S.ends intake.new.source.now ≡ S.ends intake.old.source.now + end_step state.old.reading.at_end state.new.reading.at_end }
+    ensures too_many { IsErrOf result RunError.TooManyReads → (state.new.reading.taken ≡ state.new.reading.max_reads) × (state.new.reading.at_end ≡ false) }
+{
+    match go_last(machine, intake, outlet, state) {
+        Ok(turn) => Ok(turn),
+        Err(e) => {
+            state.failed = true;
+            Err(e)
+        }
     }
 }
 

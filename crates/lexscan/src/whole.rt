@@ -1,6 +1,7 @@
 //! A whole run.
 ghost use Rattle.std.specs.Prelude.{◌≡◌, ℕ, ◌+◌, ◌-◌, ◌^◌, ◌<◌, ◌≤◌, List, [], length, true, false, None, IsErrOf, nat_lt};
 ghost use Rattle.lexmeaning.specs.Machine.{rules_of_machine};
+ghost use Rattle.lexmeaning.specs.MachineLaws.{NoReject};
 ghost use Rattle.lexmeaning.specs.Text.{AllBelow};
 ghost use Rattle.lexscan.specs.Reads.{read_fault_count, write_fault_count};
 ghost use Rattle.lexscan.specs.Stands.{Stands};
@@ -10,7 +11,7 @@ use crate::error::RunError;
 use crate::intake::{Intake, Outlet};
 use crate::state::State;
 use crate::trail::Trail;
-use crate::turn::{Turn, turn_on};
+use crate::turn::{Turn, quiet_turn, turn_on};
 use lexends::{Sink, Source};
 use lexmachine::Machine;
 use std::alloc::Global;
@@ -44,7 +45,44 @@ pub fn run<M: Machine, S: Source, K: Sink>(
     result
 }
 
+/// Turns until the end.
 fn run_turns<M: Machine, S: Source, K: Sink>(
+    machine: &M,
+    intake: &mut Intake<'_, S>,
+    outlet: &mut Outlet<'_, K>,
+    trail: &mut Trail,
+    state: &mut State,
+) -> Result<u8, RunError>
+    requires start { Stands (M.machine machine.now) 0 [] [] state.old }
+    requires going { state.old.ended ≡ None }
+    requires reading { state.old.reading.at_end ≡ false }
+    requires may_read { intake.old.live ≡ true }
+    requires may_write { outlet.old.live ≡ true }
+    requires condition { state.old.spot.condition < (M.machine machine.now).conditions }
+    requires inside { state.old.spot.at ≤ length state.old.reading.window.bytes }
+    requires stack { AllBelow (M.machine machine.now).conditions state.old.acting.stack }
+
+    ensures same_source { intake.new.source.ghost_name ≡ intake.old.source.ghost_name }
+    ensures same_sink { outlet.new.sink.ghost_name ≡ outlet.old.sink.ghost_name }
+    ensures ran { (given : List ℕ) × (out : List ℕ) × S.gave intake.old.source.now given intake.new.source.now
+        × K.wrote outlet.old.sink.now out outlet.new.sink.now
+        × Ran (rules_of_machine (M.machine machine.now)) given out (nat_lt (S.ends intake.old.source.now) (S.ends intake.new.source.now)) state.old.reading.max_reads result }
+    ensures ends_stay { S.ends intake.old.source.now ≤ S.ends intake.new.source.now }
+    ensures one_end { S.ends intake.new.source.now ≤ S.ends intake.old.source.now + 1 }
+    ensures read_faults { S.failures intake.new.source.now ≡ S.failures intake.old.source.now + read_fault_count result }
+    ensures write_faults { K.failures outlet.new.sink.now ≡ K.failures outlet.old.sink.now + write_fault_count result }
+    ensures not_failed { IsErrOf result RunError.Failed → ⊥ }
+{
+    if machine.rejects() {
+        run_told(machine, intake, outlet, trail, state)
+    } else {
+        run_quiet(machine, intake, outlet, state)
+    }
+}
+
+/// The same for any machine.
+#[inline(never)]
+fn run_told<M: Machine, S: Source, K: Sink>(
     machine: &M,
     intake: &mut Intake<'_, S>,
     outlet: &mut Outlet<'_, K>,
@@ -75,6 +113,43 @@ fn run_turns<M: Machine, S: Source, K: Sink>(
         match turn_on(machine, intake, outlet, trail, state) {
             Err(e) => return Err(e),
             Ok(Turn::Ended(status)) => return Ok(status),
+            Ok(Turn::Went) => {}
+        }
+    }
+}
+
+/// The same for a machine without REJECT, so that no turn asks whether it has any.
+fn run_quiet<M: Machine, S: Source, K: Sink>(
+    machine: &M,
+    intake: &mut Intake<'_, S>,
+    outlet: &mut Outlet<'_, K>,
+    state: &mut State,
+) -> Result<u8, RunError>
+    requires quiet { NoReject (M.machine machine.now) }
+    requires start { Stands (M.machine machine.now) 0 [] [] state.old }
+    requires going { state.old.ended ≡ None }
+    requires reading { state.old.reading.at_end ≡ false }
+    requires may_read { intake.old.live ≡ true }
+    requires may_write { outlet.old.live ≡ true }
+    requires condition { state.old.spot.condition < (M.machine machine.now).conditions }
+    requires inside { state.old.spot.at ≤ length state.old.reading.window.bytes }
+    requires stack { AllBelow (M.machine machine.now).conditions state.old.acting.stack }
+
+    ensures same_source { intake.new.source.ghost_name ≡ intake.old.source.ghost_name }
+    ensures same_sink { outlet.new.sink.ghost_name ≡ outlet.old.sink.ghost_name }
+    ensures ran { (given : List ℕ) × (out : List ℕ) × S.gave intake.old.source.now given intake.new.source.now
+        × K.wrote outlet.old.sink.now out outlet.new.sink.now
+        × Ran (rules_of_machine (M.machine machine.now)) given out (nat_lt (S.ends intake.old.source.now) (S.ends intake.new.source.now)) state.old.reading.max_reads result }
+    ensures ends_stay { S.ends intake.old.source.now ≤ S.ends intake.new.source.now }
+    ensures one_end { S.ends intake.new.source.now ≤ S.ends intake.old.source.now + 1 }
+    ensures read_faults { S.failures intake.new.source.now ≡ S.failures intake.old.source.now + read_fault_count result }
+    ensures write_faults { K.failures outlet.new.sink.now ≡ K.failures outlet.old.sink.now + write_fault_count result }
+    ensures not_failed { IsErrOf result RunError.Failed → ⊥ }
+{
+    'turns: loop {
+        match quiet_turn(machine, intake, outlet, state) {
+            Err(e) => return Err(e),
+            Ok(Turn::Ended(answer)) => return Ok(answer),
             Ok(Turn::Went) => {}
         }
     }

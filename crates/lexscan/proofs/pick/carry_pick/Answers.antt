@@ -14,7 +14,7 @@ pub returns-in-Err-clause-cut_off : goal.returns-in-Err-clause-cut_off
 returns-in-Err-clause-cut_off g c =
     let M : Machine = g.M.Machine.machine c.args.machine.now in
     let w : List ℕ = c.args.window.now.bytes in
-    Pick.picked_cut M g.K.Sink.wrote g.met.K.Sink.wrote_none g.met.K.Sink.wrote_more w c.args.spot.at _ _ (trail_of M c.args.spot w c.args.seen.reach) c.in-Some.pick (conditions_of c.args.acting.now)
+    Pick.picked_cut M g.K.Sink.wrote g.met.K.Sink.wrote_none g.met.K.Sink.wrote_more w c.args.spot.at _ _ (trail_of M c.args.spot w c.args.reach) c.in-Some.pick (conditions_of c.args.acting.now)
     (map statement_of c.in-Some.pick.statements.now) (rw c.in-Some.is at c.requires.first) (rw c.in-Some.is at c.requires.known) (rw c.in-Some.is at c.requires.statements) c.in-Err.ensures.cut_short
 
 pub returns-in-Ok-Next-clause-performed : goal.returns-in-Ok-Next-clause-performed
@@ -22,7 +22,7 @@ returns-in-Ok-Next-clause-performed g c =
     let ens = rw c.in-Ok-Next.field-0-is at c.in-Ok-Next.ensures in
     let M : Machine = g.M.Machine.machine c.args.machine.now in
     let w : List ℕ = c.args.window.now.bytes in
-    Pick.picked M g.K.Sink.wrote g.met.K.Sink.wrote_none g.met.K.Sink.wrote_more w c.args.spot.at _ _ (trail_of M c.args.spot w c.args.seen.reach) c.in-Some.pick (conditions_of c.args.acting.now)
+    Pick.picked M g.K.Sink.wrote g.met.K.Sink.wrote_none g.met.K.Sink.wrote_more w c.args.spot.at _ _ (trail_of M c.args.spot w c.args.reach) c.in-Some.pick (conditions_of c.args.acting.now)
     (map statement_of c.in-Some.pick.statements.now) c.carry_out.new.acting Step.Next (λ e. cc) (rw c.in-Some.is at c.requires.first) (rw c.in-Some.is at c.requires.known) (rw c.in-Some.is at c.requires.statements) ens.carried
 
 pub returns-in-Ok-Again-clause-performed : goal.returns-in-Ok-Again-clause-performed
@@ -38,14 +38,14 @@ returns-in-Ok-Over-clause-performed g c =
     let ens = rw c.in-Ok-Over.field-0-is at c.in-Ok-Over.ensures in
     let M : Machine = g.M.Machine.machine c.args.machine.now in
     let w : List ℕ = c.args.window.now.bytes in
-    Pick.picked M g.K.Sink.wrote g.met.K.Sink.wrote_none g.met.K.Sink.wrote_more w c.args.spot.at _ _ (trail_of M c.args.spot w c.args.seen.reach) c.in-Some.pick (conditions_of c.args.acting.now)
+    Pick.picked M g.K.Sink.wrote g.met.K.Sink.wrote_none g.met.K.Sink.wrote_more w c.args.spot.at _ _ (trail_of M c.args.spot w c.args.reach) c.in-Some.pick (conditions_of c.args.acting.now)
     (map statement_of c.in-Some.pick.statements.now) c.carry_out.new.acting (Step.Over c.in-Ok-Over.finish) (λ e. cc) (rw c.in-Some.is at c.requires.first) (rw c.in-Some.is at c.requires.known) (rw c.in-Some.is at c.requires.statements) ens.carried
 
 pub returns-in-Err-put-clause-cut_off : goal.returns-in-Err-put-clause-cut_off
 returns-in-Err-put-clause-cut_off g c =
     let M : Machine = g.M.Machine.machine c.args.machine.now in
     let w : List ℕ = c.args.window.now.bytes in
-    let trail : List ℕ = trail_of M c.args.spot w c.args.seen.reach in
+    let trail : List ℕ = trail_of M c.args.spot w c.args.reach in
     let count : c.args.spot.at + 1 - 0 ≡ c.args.spot.at + 1 = omega arith in
     let text : c.slice.result.now ≡ take (c.args.spot.at + 1) w = c.slice.ensures ∙ ap (λ k. take k w) count in
     Down.default_cut M g.K.Sink.wrote g.met.K.Sink.wrote_more w c.args.spot.at trail _ _ _ (conditions_of c.args.acting.now) (conditions_of c.args.acting.now) (omega (arith, c.requires.place, c.requires.some))
@@ -56,7 +56,7 @@ pub returns-in-Ok-clause-performed : goal.returns-in-Ok-clause-performed
 returns-in-Ok-clause-performed g c =
     let M : Machine = g.M.Machine.machine c.args.machine.now in
     let w : List ℕ = c.args.window.now.bytes in
-    let trail : List ℕ = trail_of M c.args.spot w c.args.seen.reach in
+    let trail : List ℕ = trail_of M c.args.spot w c.args.reach in
     let count : c.args.spot.at + 1 - 0 ≡ c.args.spot.at + 1 = omega arith in
     let text : c.slice.result.now ≡ take (c.args.spot.at + 1) w = c.slice.ensures ∙ ap (λ k. take k w) count in
     Down.default_stop M g.K.Sink.wrote g.met.K.Sink.wrote_more w c.args.spot.at trail _ _ _ (conditions_of c.args.acting.now) (conditions_of c.args.acting.now) (omega (arith, c.requires.place, c.requires.some))

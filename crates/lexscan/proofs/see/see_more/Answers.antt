@@ -1,4 +1,4 @@
-use Rattle.std.proofs.Common.{◌≡◌, ℕ, ◌+◌, ◌-◌, ◌≤◌, ◌<◌, true, false, length, drop, inl, inr, sym, ap, subst, ◌∙◌, arith}
+use Rattle.std.proofs.Common.{◌≡◌, ℕ, ◌+◌, ◌-◌, ◌≤◌, ◌<◌, true, refl, false, length, drop, inl, inr, sym, ap, subst, ◌∙◌, arith}
 use Rattle.std.proofs.lemmas.List.{length-append}
 use Rattle.lexmeaning.specs.Machine.{Machine}
 use Rattle.lexscan.specs.declared.state.Spot.{Spot}
@@ -55,24 +55,21 @@ returns-in-Done-clause-saw g c = record {
     so_far : SoFar M p (drop p.at new.window.bytes) reach c.in-Ok.walk.state (trail_of M p new.window.bytes reach)
     so_far = Grow.walked_on M p old new c.fills.now.reach c.fills.now.state c.fills.now.before c.in-Ok.walk c.fills.invariant.place c.fills.invariant.so_far c.fills.invariant.goes_on grown reach reach_is
 
-    before_is : 1 ≤ reach → c.before_last.result ≡ state_at M p new.window.bytes (reach - 1)
-    before_is = Grow.before_on M p old new c.fills.now.reach c.fills.now.state c.fills.now.before c.before_last.result c.in-Ok.walk c.fills.invariant.place c.fills.invariant.so_far c.fills.invariant.before_is grown
-        c.before_last.ensures.some c.before_last.ensures.none reach reach_is
+    stops : StopsAt M grown.got c.in-Ok.walk.state Stop.Done
+    stops = subst (StopsAt M grown.got c.in-Ok.walk.state) c.in-Done.is grown.stops
 
-    known_before : c.before_last.result < g.M.Machine.states c.args.machine.now
-    known_before = elim c.before_last.ensures.one [
-      | inl e ↦ subst (λ n. n < g.M.Machine.states c.args.machine.now) (sym e) c.in-Ok.ensures.known_before
-      | inr e ↦ subst (λ n. n < g.M.Machine.states c.args.machine.now) (sym e) c.fills.invariant.before_known
-    ]
+    before_is : 1 ≤ reach → c.in-Ok.walk.before ≡ state_at M p new.window.bytes (reach - 1)
+    before_is = Grow.before_on M p old new c.fills.now.reach c.fills.now.state c.fills.now.before c.in-Ok.walk.before c.in-Ok.walk c.fills.invariant.place c.fills.invariant.so_far c.fills.invariant.before_is grown
+        (λ _. refl) (λ none. absurd (omega (arith, none, grown.count, stops.0))) reach reach_is
+
+    known_before : c.in-Ok.walk.before < g.M.Machine.states c.args.machine.now
+    known_before = c.in-Ok.ensures.known_before
 
     going : old.at_end ≡ false
     going = c.fills-test.true
 
     reading : c.args.reading.now.at_end ≡ false
     reading = Grow.was_reading c.args.reading.now.at_end old.at_end c.fills.invariant.took.end_stays going
-
-    stops : StopsAt M grown.got c.in-Ok.walk.state Stop.Done
-    stops = subst (StopsAt M grown.got c.in-Ok.walk.state) c.in-Done.is grown.stops
 
 pub returns-in-Done-clause-tells : goal.returns-in-Done-clause-tells
 returns-in-Done-clause-tells g c = record {
@@ -111,24 +108,21 @@ returns-in-Done-clause-tells g c = record {
     so_far : SoFar M p (drop p.at new.window.bytes) reach c.in-Ok.walk.state (trail_of M p new.window.bytes reach)
     so_far = Grow.walked_on M p old new c.fills.now.reach c.fills.now.state c.fills.now.before c.in-Ok.walk c.fills.invariant.place c.fills.invariant.so_far c.fills.invariant.goes_on grown reach reach_is
 
-    before_is : 1 ≤ reach → c.before_last.result ≡ state_at M p new.window.bytes (reach - 1)
-    before_is = Grow.before_on M p old new c.fills.now.reach c.fills.now.state c.fills.now.before c.before_last.result c.in-Ok.walk c.fills.invariant.place c.fills.invariant.so_far c.fills.invariant.before_is grown
-        c.before_last.ensures.some c.before_last.ensures.none reach reach_is
+    stops : StopsAt M grown.got c.in-Ok.walk.state Stop.Done
+    stops = subst (StopsAt M grown.got c.in-Ok.walk.state) c.in-Done.is grown.stops
 
-    known_before : c.before_last.result < g.M.Machine.states c.args.machine.now
-    known_before = elim c.before_last.ensures.one [
-      | inl e ↦ subst (λ n. n < g.M.Machine.states c.args.machine.now) (sym e) c.in-Ok.ensures.known_before
-      | inr e ↦ subst (λ n. n < g.M.Machine.states c.args.machine.now) (sym e) c.fills.invariant.before_known
-    ]
+    before_is : 1 ≤ reach → c.in-Ok.walk.before ≡ state_at M p new.window.bytes (reach - 1)
+    before_is = Grow.before_on M p old new c.fills.now.reach c.fills.now.state c.fills.now.before c.in-Ok.walk.before c.in-Ok.walk c.fills.invariant.place c.fills.invariant.so_far c.fills.invariant.before_is grown
+        (λ _. refl) (λ none. absurd (omega (arith, none, grown.count, stops.0))) reach reach_is
+
+    known_before : c.in-Ok.walk.before < g.M.Machine.states c.args.machine.now
+    known_before = c.in-Ok.ensures.known_before
 
     going : old.at_end ≡ false
     going = c.fills-test.true
 
     reading : c.args.reading.now.at_end ≡ false
     reading = Grow.was_reading c.args.reading.now.at_end old.at_end c.fills.invariant.took.end_stays going
-
-    stops : StopsAt M grown.got c.in-Ok.walk.state Stop.Done
-    stops = subst (StopsAt M grown.got c.in-Ok.walk.state) c.in-Done.is grown.stops
 
     some : 1 ≤ reach
     some = omega (arith, reach_is, c.fills.invariant.place, sizes, stops.0)

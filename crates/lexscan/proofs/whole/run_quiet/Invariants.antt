@@ -3,7 +3,7 @@ use Rattle.lexmeaning.specs.Text.{AllBelow}
 use Rattle.lexscan.specs.Reads.{end_step}
 use Rattle.lexscan.specs.Runs.{Running}
 use Rattle.lexscan.proofs.Lasting.{left_over}
-use Rattle.lexscan.proofs.whole.run_turns.Given as goal
+use Rattle.lexscan.proofs.whole.run_quiet.Given as goal
 
 abbrev pub invariant-turns : goal.invariant-turns
 invariant-turns g l =

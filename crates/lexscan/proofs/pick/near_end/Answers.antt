@@ -6,7 +6,7 @@ use Rattle.lexmeaning.specs.Trail.{falling}
 use Rattle.lexscan.specs.declared.state.Spot.{Spot}
 use Rattle.lexscan.specs.Picks.{IsFirst, trail_of}
 use Rattle.lexscan.proofs.Picking as Pick
-use Rattle.lexscan.proofs.pick.longest.Goals as goal
+use Rattle.lexscan.proofs.pick.near_end.Goals as goal
 
 pub returns-in-Some-clause-first : goal.returns-in-Some-clause-first
 returns-in-Some-clause-first g c =
@@ -17,8 +17,8 @@ returns-in-Some-clause-first g c =
     Pick.first_same _ _ (Some c.in-Some.pick) (Pick.falling_last M p w n c.requires.tells.some c.requires.tells.inside)
     (Pick.first_before _ (falling M 0 (trail_of M p w (n - 1))) c.in-Some.pick (subst (λ l. IsFirst (filter_map (match_of M n) l) (Some c.in-Some.pick)) (c.accepts.ensures ∙ ap M.accepts c.requires.tells.state_is) c.in-Some.ensures.first))
 
-pub returns-then-len-eq1-clause-first : goal.returns-then-len-eq1-clause-first
-returns-then-len-eq1-clause-first g c =
+pub returns-then-len-eq1-clause-one : goal.returns-then-len-eq1-clause-one
+returns-then-len-eq1-clause-one g c _ =
     let M : Machine = g.M.Machine.machine c.args.machine.now in
     let w : List ℕ = c.args.window.now.bytes in
     let p : Spot = c.args.spot in

@@ -5,14 +5,14 @@ use Rattle.lexscan.specs.declared.act.Finish.TheVariants as Finish
 use Rattle.lexscan.specs.Descends.{conditions_at, finished_of, matches_of}
 use Rattle.lexscan.specs.Picks.{trail_of}
 use Rattle.lexscan.proofs.Descending.{performed_flushed, performed_cut}
-use Rattle.lexscan.proofs.turn.last_turn.Goals as goal
+use Rattle.lexscan.proofs.turn.carry_turn.Goals as goal
 
 pub returns-in-Err-flush-clause-cut_off : goal.returns-in-Err-flush-clause-cut_off
 returns-in-Err-flush-clause-cut_off g c =
     let ens = rw c.in-Ok-Some.field-0-is at c.in-Ok-Some.ensures in
     let M : Machine = g.M.Machine.machine c.args.machine.now in
     let w : List ℕ = c.args.state.now.reading.window.bytes in
-    performed_cut M g.K.Sink.wrote _ _ _ w c.args.state.now.spot.at (matches_of M w c.args.state.now.spot.at (trail_of M c.args.state.now.spot w c.args.seen.reach)) (conditions_at c.args.state.now) c.carry_pick.new.acting (finished_of (Some c.in-Ok-Some.finish)) g.met.K.Sink.wrote_more
+    performed_cut M g.K.Sink.wrote _ _ _ w c.args.state.now.spot.at (matches_of M w c.args.state.now.spot.at (trail_of M c.args.state.now.spot w c.args.reach)) (conditions_at c.args.state.now) c.carry_pick.new.acting (finished_of (Some c.in-Ok-Some.finish)) g.met.K.Sink.wrote_more
     ens.performed c.in-Err-flush.ensures.bytes
 
 pub returns-in-StackFault-clause-cut_off : goal.returns-in-StackFault-clause-cut_off
@@ -20,7 +20,7 @@ returns-in-StackFault-clause-cut_off g c =
     let ens = rw c.in-Ok-Some.field-0-is at c.in-Ok-Some.ensures in
     let M : Machine = g.M.Machine.machine c.args.machine.now in
     let w : List ℕ = c.args.state.now.reading.window.bytes in
-    performed_cut M g.K.Sink.wrote _ _ _ w c.args.state.now.spot.at (matches_of M w c.args.state.now.spot.at (trail_of M c.args.state.now.spot w c.args.seen.reach)) (conditions_at c.args.state.now) c.carry_pick.new.acting (finished_of (Some c.in-Ok-Some.finish)) g.met.K.Sink.wrote_more
+    performed_cut M g.K.Sink.wrote _ _ _ w c.args.state.now.spot.at (matches_of M w c.args.state.now.spot.at (trail_of M c.args.state.now.spot w c.args.reach)) (conditions_at c.args.state.now) c.carry_pick.new.acting (finished_of (Some c.in-Ok-Some.finish)) g.met.K.Sink.wrote_more
     ens.performed c.in-Ok.ensures.bytes
 
 pub returns-in-StackFault-clause-fault : goal.returns-in-StackFault-clause-fault
@@ -30,7 +30,7 @@ returns-in-StackFault-clause-fault g c _ =
     let w : List ℕ = c.args.state.now.reading.window.bytes in
     record {
       acting = c.carry_pick.new.acting;
-      performed = performed_flushed M g.K.Sink.wrote _ _ _ w c.args.state.now.spot.at (matches_of M w c.args.state.now.spot.at (trail_of M c.args.state.now.spot w c.args.seen.reach)) (conditions_at c.args.state.now) c.carry_pick.new.acting (Some StackFault) g.met.K.Sink.wrote_more
+      performed = performed_flushed M g.K.Sink.wrote _ _ _ w c.args.state.now.spot.at (matches_of M w c.args.state.now.spot.at (trail_of M c.args.state.now.spot w c.args.reach)) (conditions_at c.args.state.now) c.carry_pick.new.acting (Some StackFault) g.met.K.Sink.wrote_more
           ens.performed c.in-Ok.ensures.bytes;
       inside = ens.inside;
     }
@@ -43,7 +43,7 @@ returns-in-Status-clause-acted g c =
     record {
       acting = c.carry_pick.new.acting;
       ended = Some c.in-Status.status;
-      performed = performed_flushed M g.K.Sink.wrote _ _ _ w c.args.state.now.spot.at (matches_of M w c.args.state.now.spot.at (trail_of M c.args.state.now.spot w c.args.seen.reach)) (conditions_at c.args.state.now) c.carry_pick.new.acting (finished_of (Some (Finish.Status c.in-Status.status))) g.met.K.Sink.wrote_more
+      performed = performed_flushed M g.K.Sink.wrote _ _ _ w c.args.state.now.spot.at (matches_of M w c.args.state.now.spot.at (trail_of M c.args.state.now.spot w c.args.reach)) (conditions_at c.args.state.now) c.carry_pick.new.acting (finished_of (Some (Finish.Status c.in-Status.status))) g.met.K.Sink.wrote_more
           ens.performed c.in-Ok.ensures.bytes;
       inside = ens.inside;
       left = record { held = c.leave-in-Status.ensures.left.held; at = c.leave-in-Status.ensures.left.at; line = c.leave-in-Status.ensures.left.line; condition = c.leave-in-Status.ensures.left.condition; stack = c.leave-in-Status.ensures.left.stack };
