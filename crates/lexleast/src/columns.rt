@@ -20,24 +20,31 @@ fn first_alike(firsts: &[u8], row: &[u32], byte: usize) -> u8
     byte as u8
 }
 
-/// Tells bytes apart by one more row. Answers whether all are.
-fn compare_row(firsts: &mut [u8], row: &[u32]) -> bool
+/// Tells bytes apart by one more row.
+fn compare_row(firsts: &mut [u8], row: &[u32])
     requires len { length firsts.old ≡ 256 }
     requires row { length row.now ≡ 256 }
     requires low { (b : ℕ) → b < 256 → slice_index firsts.old b ≤ b }
-    ensures firsts { (b : ℕ) → b < 256 → IsFirstAlike firsts.old row.now b (slice_index firsts.new b) }
-    ensures apart { result ≡ true → (b : ℕ) → b < 256 → slice_index firsts.new b ≡ b }
+    ensures { (b : ℕ) → b < 256 → IsFirstAlike firsts.old row.now b (slice_index firsts.new b) }
 {
-    let mut apart = true;
     for i in 0..256usize {
         let byte = 255 - i;
-        let first = first_alike(firsts, row, byte);
-        firsts[byte] = first;
-        if first as usize != byte {
-            apart = false;
+        firsts[byte] = first_alike(firsts, row, byte);
+    }
+}
+
+/// Whether each byte is the first of those alike. A byte that is not is mostly one of the last.
+fn are_apart(firsts: &[u8]) -> bool
+    requires { length firsts.now ≡ 256 }
+    ensures { result ≡ true → (b : ℕ) → b < 256 → slice_index firsts.now b ≡ b }
+{
+    for i in 0..256usize {
+        let byte = 255 - i;
+        if firsts[byte] as usize != byte {
+            return false;
         }
     }
-    apart
+    true
 }
 
 /// Tells bytes apart by the rows of all states.
@@ -47,7 +54,8 @@ fn compare_rows(firsts: &mut [u8], next: &[u32], states: usize)
     ensures { AreFirsts next.now firsts.new states }
 {
     for state in 0..states {
-        if compare_row(firsts, &next[state * 256..state * 256 + 256]) {
+        compare_row(firsts, &next[state * 256..state * 256 + 256]);
+        if are_apart(firsts) {
             return;
         }
     }

@@ -20,25 +20,33 @@ fn earliest(lead: &[u8], row: &[u32], byte: usize) -> u8
     byte as u8
 }
 
-/// Splits classes by the row of one more state. Answers whether each byte is alone in its class now.
-fn split(row: &[u32], lead: &mut [u8]) -> bool
+/// Splits classes by the row of one more state.
+fn split(row: &[u32], lead: &mut [u8])
     requires leads { length lead.old ≡ 256 }
     requires targets { length row.now ≡ 256 }
     requires heads { (b : ℕ) → b < 256 → (slice_index lead.old b ≤ b) × (slice_index lead.old (slice_index lead.old b) ≡ slice_index lead.old b) }
-    ensures split { (b : ℕ) → b < 256 → IsSplit lead.old row.now b (slice_index lead.new b) }
-    ensures alone { result ≡ true → (b : ℕ) → b < 256 → slice_index lead.new b ≡ b }
+    ensures { (b : ℕ) → b < 256 → IsSplit lead.old row.now b (slice_index lead.new b) }
 {
-    let mut alone = true;
     for i in 0..256usize {
         let byte = 255 - i;
         if row[byte] != row[lead[byte] as usize] {
             lead[byte] = earliest(lead, row, byte);
         }
+    }
+}
+
+/// Whether each byte is alone in its class. One that is not is mostly one of the last.
+fn are_alone(lead: &[u8]) -> bool
+    requires { length lead.now ≡ 256 }
+    ensures { result ≡ true → (b : ℕ) → b < 256 → slice_index lead.now b ≡ b }
+{
+    for i in 0..256usize {
+        let byte = 255 - i;
         if lead[byte] as usize != byte {
-            alone = false;
+            return false;
         }
     }
-    alone
+    true
 }
 
 /// Splits classes by the rows of all states.
@@ -49,7 +57,8 @@ fn split_all(next: &[u32], states: usize, lead: &mut [u8])
     ensures { AreLeads states (moves next.now) lead.new }
 {
     for state in 0..states {
-        if split(&next[256 * state..256 * state + 256], lead) {
+        split(&next[256 * state..256 * state + 256], lead);
+        if are_alone(lead) {
             return;
         }
     }
