@@ -7,6 +7,10 @@ use Rattle.lexmeaning.specs.Positions.{copies, positions, positions_of}
 use Rattle.lexmeaning.specs.Shapes.{IsSoundTree, AreSoundTrees}
 use Rattle.lexauto.specs.Flow.{is_zero, is_none, passes, comes, exits, exits_each, exits_some, enters, enters_each, enters_some}
 
+pub and_false : (b : Bool) → (b && false) ≡ false
+and_false true = refl
+and_false false = refl
+
 pub or_false : (a : Bool) → (a || false) ≡ a
 or_false true = refl
 or_false false = refl

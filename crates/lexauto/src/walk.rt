@@ -364,6 +364,9 @@ fn enter_copy(
     ensures front { IfOk result (λ _. IsFront next.new.items (base + positions (tree_in (plan_of inner.now)))) }
     ensures next { IfOk result (λ _. (q : ℕ) → lists next.new.items q ≡ (lists next.old.items q || enters (tree_in (plan_of inner.now)) (lists last.now) q base (entered || (loops && exits (tree_in (plan_of inner.now)) (lists last.now) base false)))) }
 {
+    if !entered && is_quiet(last, at, base + inner.size() as usize) {
+        return Ok(Passed { left: false, at });
+    }
     if !loops || entered {
         return enter(inner, last, at, base, entered, next);
     }

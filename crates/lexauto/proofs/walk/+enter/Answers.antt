@@ -4,7 +4,7 @@ use Rattle.lexmeaning.specs.Active.{lists}
 use Rattle.lexmeaning.specs.Positions.{positions}
 use Rattle.lexauto.specs.Flow.{is_zero, comes, exits, enters}
 use Rattle.lexauto.specs.Plans.{plan_of, tree_in}
-use Rattle.lexauto.proofs.Copies.{passes_step, comes_step, copy_place, or_false, or_assoc, and_assoc, left_before, left_here, not_left}
+use Rattle.lexauto.proofs.Copies.{passes_step, comes_step, copy_place, or_false, and_false, or_assoc, and_assoc, left_before, left_here, not_left}
 use Rattle.lexauto.proofs.CursorLaws.{quiet_left, quiet_next}
 use Rattle.lexauto.proofs.walk.+enter.Goals.{enter_copies-then-out, enter_copies-else-out+then-needed-eq0, enter_copies-else-out+else-needed-eq0}
 use Rattle.lexauto.proofs.walk.+enter.Goals as goal
@@ -22,6 +22,24 @@ enter-returns-then-is_quiet-clause-next t c = λ q.
     let last = c.args.last.now in
     let quiet = subst (λ (n : ℕ). (length last ≤ c.args.at) ⊎ (c.args.base + n ≤ slice_index last c.args.at)) c.size.ensures (c.is_quiet.ensures.yes c.if-is_quiet.true) in
     let none : enters tree (lists last) q c.args.base c.args.entered ≡ false = ap (enters tree (lists last) q c.args.base) c.if-not-entered.true ∙ quiet_next last c.args.at c.args.base c.requires.cursor tree quiet q in
+    sym (ap (λ (j : Bool). lists c.args.next.now.items q || j) none ∙ or_false (lists c.args.next.now.items q))
+
+pub enter_copy-returns-then-is_quiet-clause-left : goal.enter_copy-returns-then-is_quiet-clause-left
+enter_copy-returns-then-is_quiet-clause-left t c =
+    let tree = tree_in (plan_of c.args.inner.now) in
+    let last = c.args.last.now in
+    let quiet = subst (λ (n : ℕ). (length last ≤ c.args.at) ⊎ (c.args.base + n ≤ slice_index last c.args.at)) c.size.ensures (c.is_quiet.ensures.yes c.if-is_quiet.true) in
+    sym (ap (exits tree (lists last) c.args.base) c.if-not-entered.true ∙ quiet_left last c.args.at c.args.base c.requires.cursor tree quiet)
+
+pub enter_copy-returns-then-is_quiet-clause-next : goal.enter_copy-returns-then-is_quiet-clause-next
+enter_copy-returns-then-is_quiet-clause-next t c = λ q.
+    let tree = tree_in (plan_of c.args.inner.now) in
+    let last = c.args.last.now in
+    let quiet = subst (λ (n : ℕ). (length last ≤ c.args.at) ⊎ (c.args.base + n ≤ slice_index last c.args.at)) c.size.ensures (c.is_quiet.ensures.yes c.if-is_quiet.true) in
+    let again = exits tree (lists last) c.args.base false in
+    let stays : (c.args.entered || (c.args.loops && again)) ≡ false =
+    ap (λ (j : Bool). j || (c.args.loops && again)) c.if-not-entered.true ∙ ap (λ (j : Bool). c.args.loops && j) (quiet_left last c.args.at c.args.base c.requires.cursor tree quiet) ∙ and_false c.args.loops in
+    let none : enters tree (lists last) q c.args.base (c.args.entered || (c.args.loops && again)) ≡ false = ap (enters tree (lists last) q c.args.base) stays ∙ quiet_next last c.args.at c.args.base c.requires.cursor tree quiet q in
     sym (ap (λ (j : Bool). lists c.args.next.now.items q || j) none ∙ or_false (lists c.args.next.now.items q))
 
 pub enter_copies-loop-k-preserved : goal.enter_copies-loop-k-preserved
