@@ -374,46 +374,9 @@ fn go_last<M: Machine, S: Source, K: Sink>(
     }
 }
 
-/// One match with its actions, or the end action.
-fn go<M: Machine, S: Source, K: Sink>(
-    machine: &M,
-    intake: &mut Intake<'_, S>,
-    outlet: &mut Outlet<'_, K>,
-    trail: &mut Trail,
-    state: &mut State,
-) -> Result<Turn, RunError>
-    requires may_read { state.old.reading.at_end ≡ false → intake.old.live ≡ true }
-    requires may_write { outlet.old.live ≡ true }
-    requires condition { state.old.spot.condition < (M.machine machine.now).conditions }
-    requires inside { state.old.spot.at ≤ length state.old.reading.window.bytes }
-
-    ensures same_source { intake.new.source.ghost_name ≡ intake.old.source.ghost_name }
-    ensures same_sink { outlet.new.sink.ghost_name ≡ outlet.old.sink.ghost_name }
-    ensures may_read { OnOk result (state.new.reading.at_end ≡ false → intake.new.live ≡ true) }
-    ensures may_write { OnOk result (outlet.new.live ≡ true) }
-    ensures failed { state.new.failed ≡ state.old.failed }
-    ensures max_reads { state.new.reading.max_reads ≡ state.old.reading.max_reads }
-    ensures ended { result ≡ Ok Turn.Went → state.new.ended ≡ state.old.ended }
-
-    ensures moved { Moved (M.machine machine.now) S.gave K.wrote intake.old.source.now intake.new.source.now outlet.old.sink.now outlet.new.sink.now state.old state.new result }
-
-    ensures still { state.old.reading.at_end ≡ true → intake.new.source.now ≡ intake.old.source.now }
-    ensures refused { IsErrOf result RunError.Failed → ⊥ }
-    ensures read_faults { S.failures intake.new.source.now ≡ S.failures intake.old.source.now + read_fault_count result }
-    ensures write_faults { K.failures outlet.new.sink.now ≡ K.failures outlet.old.sink.now + write_fault_count result }
-    ensures ends { S.ends intake.new.source.now ≡ S.ends intake.old.source.now + end_step state.old.reading.at_end state.new.reading.at_end }
-    ensures too_many { IsErrOf result RunError.TooManyReads → (state.new.reading.taken ≡ state.new.reading.max_reads) × Wants (M.machine machine.now) state.old.spot state.new.reading }
-{
-    if machine.rejects() {
-        go_told(machine, intake, outlet, trail, state)
-    } else {
-        go_last(machine, intake, outlet, state)
-    }
-}
-
-/// One turn of a scan that has neither failed nor ended.
-#[inline]
-pub fn turn_on<M: Machine, S: Source, K: Sink>(
+/// One turn of a scan that has neither failed nor ended, by the states after each byte.
+#[inline(always)]
+pub fn told_turn<M: Machine, S: Source, K: Sink>(
     machine: &M,
     intake: &mut Intake<'_, S>,
     outlet: &mut Outlet<'_, K>,
@@ -449,17 +412,16 @@ pub fn turn_on<M: Machine, S: Source, K: Sink>(
     ensures ends { S.ends intake.new.source.now ≡ S.ends intake.old.source.now + end_step state.old.reading.at_end state.new.reading.at_end }
     ensures too_many { IsErrOf result RunError.TooManyReads → (state.new.reading.taken ≡ state.new.reading.max_reads) × (state.new.reading.at_end ≡ false) }
 {
-    state.failed = true;
-    match go(machine, intake, outlet, trail, state) {
-        Ok(turn) => {
-            state.failed = false;
-            Ok(turn)
+    match go_told(machine, intake, outlet, trail, state) {
+        Ok(turn) => Ok(turn),
+        Err(e) => {
+            state.failed = true;
+            Err(e)
         }
-        Err(e) => Err(e),
     }
 }
 
-/// The same for a machine without REJECT.
+/// The same for a machine without REJECT, by the last two states.
 #[inline(always)]
 pub fn quiet_turn<M: Machine, S: Source, K: Sink>(
     machine: &M,
@@ -503,6 +465,50 @@ pub fn quiet_turn<M: Machine, S: Source, K: Sink>(
             state.failed = true;
             Err(e)
         }
+    }
+}
+
+/// One turn of a scan that has neither failed nor ended.
+fn turn_on<M: Machine, S: Source, K: Sink>(
+    machine: &M,
+    intake: &mut Intake<'_, S>,
+    outlet: &mut Outlet<'_, K>,
+    trail: &mut Trail,
+    state: &mut State,
+) -> Result<Turn, RunError>
+    requires working { state.old.failed ≡ false }
+    requires going { state.old.ended ≡ None }
+    requires may_read { state.old.reading.at_end ≡ false → intake.old.live ≡ true }
+    requires may_write { outlet.old.live ≡ true }
+    requires condition { state.old.spot.condition < (M.machine machine.now).conditions }
+    requires inside { state.old.spot.at ≤ length state.old.reading.window.bytes }
+    requires stack { AllBelow (M.machine machine.now).conditions state.old.acting.stack }
+
+    ensures same_source { intake.new.source.ghost_name ≡ intake.old.source.ghost_name }
+    ensures same_sink { outlet.new.sink.ghost_name ≡ outlet.old.sink.ghost_name }
+    ensures goes_on { (got : List ℕ) × (wrote : List ℕ) × S.gave intake.old.source.now got intake.new.source.now
+        × K.wrote outlet.old.sink.now wrote outlet.new.sink.now
+        × NoneAfterEnd state.old state.new got × GoesOn (M.machine machine.now) state.old state.new got wrote result }
+
+    ensures still { state.old.reading.at_end ≡ true → intake.new.source.now ≡ intake.old.source.now }
+    ensures read_faults { S.failures intake.new.source.now ≡ S.failures intake.old.source.now + read_fault_count result }
+    ensures write_faults { K.failures outlet.new.sink.now ≡ K.failures outlet.old.sink.now + write_fault_count result }
+    ensures refused { IsErrOf result RunError.Failed → ⊥ }
+    ensures max_reads { state.new.reading.max_reads ≡ state.old.reading.max_reads }
+
+    // The next turn may be called.
+    ensures may_read { state.new.failed ≡ false → state.new.ended ≡ None → state.new.reading.at_end ≡ false → intake.new.live ≡ true }
+    ensures may_write { state.new.failed ≡ false → outlet.new.live ≡ true }
+    ensures condition { state.new.spot.condition < (M.machine machine.now).conditions }
+    ensures inside { state.new.spot.at ≤ length state.new.reading.window.bytes }
+    ensures stack { state.new.failed ≡ false → AllBelow (M.machine machine.now).conditions state.new.acting.stack }
+    ensures ends { S.ends intake.new.source.now ≡ S.ends intake.old.source.now + end_step state.old.reading.at_end state.new.reading.at_end }
+    ensures too_many { IsErrOf result RunError.TooManyReads → (state.new.reading.taken ≡ state.new.reading.max_reads) × (state.new.reading.at_end ≡ false) }
+{
+    if machine.rejects() {
+        told_turn(machine, intake, outlet, trail, state)
+    } else {
+        quiet_turn(machine, intake, outlet, state)
     }
 }
 

@@ -11,7 +11,7 @@ use crate::error::RunError;
 use crate::intake::{Intake, Outlet};
 use crate::state::State;
 use crate::trail::Trail;
-use crate::turn::{Turn, quiet_turn, turn_on};
+use crate::turn::{Turn, quiet_turn, told_turn};
 use lexends::{Sink, Source};
 use lexmachine::Machine;
 use std::alloc::Global;
@@ -110,7 +110,7 @@ fn run_told<M: Machine, S: Source, K: Sink>(
     ensures not_failed { IsErrOf result RunError.Failed → ⊥ }
 {
     'turns: loop {
-        match turn_on(machine, intake, outlet, trail, state) {
+        match told_turn(machine, intake, outlet, trail, state) {
             Err(e) => return Err(e),
             Ok(Turn::Ended(status)) => return Ok(status),
             Ok(Turn::Went) => {}

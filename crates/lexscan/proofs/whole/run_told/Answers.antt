@@ -12,8 +12,8 @@ returns-in-Err-clause-ran g c =
       h.out ++ m.1,
       g.met.S.Source.gave_more _ _ _ _ _ h.source m.2,
       g.met.K.Sink.wrote_more _ _ _ _ _ h.sink m.3,
-      Last.ran_into _ h.turns _ _ _ h.given m.0 (h.out ++ m.1) c.turn_on.new.state c.in-Err.e
-          (omega (arith, now.ends, inv.ends, Last.answered_once c.turns.state.reading.at_end c.turn_on.new.state.reading.at_end (λ e. (m.4 e).1)))
+      Last.ran_into _ h.turns _ _ _ h.given m.0 (h.out ++ m.1) c.told_turn.new.state c.in-Err.e
+          (omega (arith, now.ends, inv.ends, Last.answered_once c.turns.state.reading.at_end c.told_turn.new.state.reading.at_end (λ e. (m.4 e).1)))
           (λ is. (now.too_many (ap Err is)).0 ∙ now.max_reads ∙ inv.max_reads)
           (m.5 h.turns h.given h.out h.stands),
     )
@@ -28,8 +28,8 @@ returns-in-Ok-Ended-clause-ran g c =
       h.out ++ m.1,
       g.met.S.Source.gave_more _ _ _ _ _ h.source m.2,
       g.met.K.Sink.wrote_more _ _ _ _ _ h.sink m.3,
-      Last.ran_to _ (suc h.turns) c.in-Ok-Ended.status _ _ (h.given ++ m.0) (h.out ++ m.1) c.turn_on.new.state
-          (omega (arith, now.ends, inv.ends, Last.answered_once c.turns.state.reading.at_end c.turn_on.new.state.reading.at_end (λ e. (m.4 e).1)))
+      Last.ran_to _ (suc h.turns) c.in-Ok-Ended.status _ _ (h.given ++ m.0) (h.out ++ m.1) c.told_turn.new.state
+          (omega (arith, now.ends, inv.ends, Last.answered_once c.turns.state.reading.at_end c.told_turn.new.state.reading.at_end (λ e. (m.4 e).1)))
           m.5.0 (m.5.1 h.turns h.given h.out h.stands),
     )
 
@@ -40,9 +40,9 @@ turns-smaller g c =
     let now = c.in-Ok-Went.ensures in
     let m = rw c.in-Ok-Went.field-0-is at now.goes_on in
     let few : c.turns.state.reading.taken ≤ c.turns.state.reading.max_reads = c.turns.state.reading.few_reads in
-    let few' : c.turn_on.new.state.reading.taken ≤ c.turns.state.reading.max_reads = omega (arith, c.turn_on.new.state.reading.few_reads, now.max_reads) in
-    subst (λ k. Last.left_over k c.turn_on.new.state < Last.left_over c.turns.state.reading.max_reads c.turns.state) (sym now.max_reads)
-    (Last.turn_falls (g.M.Machine.machine c.args.machine.now) (g.M.Machine.laws c.args.machine.now) c.turns.state.reading.max_reads h.turns h.given m.0 h.out m.1 c.turns.state c.turn_on.new.state h.stands (m.5.1 h.turns h.given h.out h.stands) m.4 m.5.0 few few')
+    let few' : c.told_turn.new.state.reading.taken ≤ c.turns.state.reading.max_reads = omega (arith, c.told_turn.new.state.reading.few_reads, now.max_reads) in
+    subst (λ k. Last.left_over k c.told_turn.new.state < Last.left_over c.turns.state.reading.max_reads c.turns.state) (sym now.max_reads)
+    (Last.turn_falls (g.M.Machine.machine c.args.machine.now) (g.M.Machine.laws c.args.machine.now) c.turns.state.reading.max_reads h.turns h.given m.0 h.out m.1 c.turns.state c.told_turn.new.state h.stands (m.5.1 h.turns h.given h.out h.stands) m.4 m.5.0 few few')
 
 pub turns-preserved : goal.turns-preserved
 turns-preserved g c =
@@ -61,8 +61,8 @@ turns-preserved g c =
       inside = now.inside;
       stack = now.stack after.works;
       max_reads = now.max_reads ∙ inv.max_reads;
-      running = Last.running_on (g.M.Machine.machine c.args.machine.now) g.S.Source.gave g.K.Sink.wrote _ _ _ _ _ _ c.turns.state c.turn_on.new.state m.0 m.1 g.met.S.Source.gave_more g.met.K.Sink.wrote_more h m.2 m.3 after;
-      ends = omega (arith, now.ends, inv.ends, Last.answered_once c.turns.state.reading.at_end c.turn_on.new.state.reading.at_end (λ e. (m.4 e).1));
+      running = Last.running_on (g.M.Machine.machine c.args.machine.now) g.S.Source.gave g.K.Sink.wrote _ _ _ _ _ _ c.turns.state c.told_turn.new.state m.0 m.1 g.met.S.Source.gave_more g.met.K.Sink.wrote_more h m.2 m.3 after;
+      ends = omega (arith, now.ends, inv.ends, Last.answered_once c.turns.state.reading.at_end c.told_turn.new.state.reading.at_end (λ e. (m.4 e).1));
       read_faults = omega (arith, now.read_faults, inv.read_faults);
       write_faults = omega (arith, now.write_faults, inv.write_faults);
     }
