@@ -501,7 +501,7 @@ fn is_no_class(text: &[u8], kind: PatternErrorKind, rest: &[u8]) -> bool {
 }
 
 #[test]
-fn refused_classes(rt: HostRuntime) {
+fn classes_that_are_refused(rt: HostRuntime) {
     for &(text, kind, rest) in &REFUSED_CLASSES {
         assert!(rt; is_no_class(text, kind, rest));
     }
@@ -850,7 +850,7 @@ const REFUSALS: [(&[u8], PatternErrorKind, usize); 60] = [
 ];
 
 #[test]
-fn refused_patterns(rt: HostRuntime) -> Result<(), Fail> {
+fn patterns_that_are_refused(rt: HostRuntime) -> Result<(), Fail> {
     let alloc = rt.alloc();
     let defs = worked_definitions(alloc)?;
     for &(text, kind, at) in &REFUSALS {
