@@ -6,6 +6,7 @@
 LEX is the program, as crates/lex/out/lex. The ends are a pipe that nobody reads any more, a full disk (/dev/full), a folder in
 the place of a file, a closed standard input or output, and files that are not there or may not be read. It is no part of the gate."""
 import os
+import shutil
 import subprocess
 import sys
 import tempfile
@@ -37,6 +38,10 @@ def folder_end():
     return os.open(".", os.O_RDONLY)
 
 
+def closed():
+    """No end at all: its number is free when the program begins."""
+
+
 def many():
     """An input that is longer than what a pipe holds."""
     with open("many", "wb") as file:
@@ -51,6 +56,7 @@ def few():
 
 
 # What a run is, the words after the program's name, standard input, output and error, the status, and the line that is told.
+# The program runs as nobody, so that a file of mode 0 may not be read.
 RUNS = [
     ("a scan into a pipe that is read no more", ["--scan-spec", "all"], many, broken_pipe, None, 74, WRITE),
     ("a scan onto a full disk", ["--scan-spec", "all"], many, full, None, 74, WRITE),
@@ -68,28 +74,53 @@ RUNS = [
     ("a table that is a folder", ["--scan-table", "folder"], None, nothing, None, 66, "lex: cannot read folder\n"),
     ("a specification that is not there", ["-t", "none"], None, nothing, None, 66, "lex: cannot read none\n"),
     ("a specification from a folder as standard input", ["-t"], folder_end, nothing, None, 66, "lex: cannot read -\n"),
+    ("a scan of a closed input", ["--scan-spec", "all"], closed, nothing, None, 74, READ),
+    ("a scan into a closed output", ["--scan-table", "table"], few, closed, None, 74, WRITE),
+    ("a table into a closed output", ["-t", "spec"], None, closed, None, 74, WRITE),
+    ("statistics into a closed output", ["-v", "-o", "made", "spec"], None, closed, None, 74, WRITE),
+    ("a specification from a closed input", ["-t"], closed, nothing, None, 66, "lex: cannot read -\n"),
+    ("a specification that may not be read", ["-t", "secret"], None, nothing, None, 66, "lex: cannot read secret\n"),
+    ("a scan by one that may not be read", ["--scan-spec", "secret"], None, nothing, None, 66, "lex: cannot read secret\n"),
+    ("a table that may not be read", ["--scan-table", "secret"], None, nothing, None, 66, "lex: cannot read secret\n"),
+    ("a table file that may not be written", ["-o", "secret", "spec"], None, nothing, None, 74, WRITE),
+    ("a report that cannot be written", ["-b", "-o", "made", "spec"], None, nothing, None, 74, WRITE),
 ]
+
+NOBODY = 65_534
 
 
 def run(lex, words, given, output, errors):
     """The status and what was told."""
     ends = [end() if end else nothing() for end in (given, output)]
     told = errors() if errors else subprocess.PIPE
-    done = subprocess.run([lex, *words], stdin=ends[0], stdout=ends[1], stderr=told, timeout=60)
+
+    def begin():
+        for number, end in enumerate(ends):
+            if end is None:
+                os.close(number)
+        if os.getuid() == 0:
+            os.setuid(NOBODY)
+
+    done = subprocess.run([lex, *words], stdin=ends[0], stdout=ends[1], stderr=told, timeout=60, preexec_fn=begin)
     for end in ends:
-        os.close(end)
+        if end is not None:
+            os.close(end)
     return done.returncode, (done.stderr or b"").decode()
 
 
 def main():
-    lex = str(Path(sys.argv[1]).resolve())
     faults = 0
     with tempfile.TemporaryDirectory() as at:
+        lex = shutil.copy(sys.argv[1], at)
         os.chdir(at)
         for name, text in (("spec", SPEC), ("all", ALL), ("useless", USELESS)):
             Path(name).write_text(text)
         Path("folder").mkdir()
+        Path("lex.backup").mkdir()
+        Path("secret").write_text(SPEC)
+        Path("secret").chmod(0)
         subprocess.run([lex, "-o", "table", "spec"], check=True)
+        os.chmod(at, 0o777)
         for name, words, given, output, errors, status, line in RUNS:
             got = run(lex, words, given, output, errors)
             so = got == (status, line)

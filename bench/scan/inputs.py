@@ -1,13 +1,17 @@
 #!/usr/bin/env python3
-"""Writes inputs of about SIZE bytes for the specifications here into FOLDER: program.input, log.input, json.input.
+"""Writes inputs of about SIZE bytes into FOLDER, NAME.input for each specification NAME.l here and for four of examples/,
+whose own inputs are repeated.
 
     bench/scan/inputs.py FOLDER [SIZE]
 
 The same numbers make the same inputs each time."""
+import itertools
 import random
 import sys
 from pathlib import Path
 
+EXAMPLES = Path(__file__).resolve().parents[2] / "examples"
+REPEATED = "words documents c_tokens heredoc".split()
 NAMES = "index count next_state table length source Scanner buffer at limit row total".split()
 
 
@@ -39,9 +43,33 @@ def json(pick):
     )
 
 
-folder, size = Path(sys.argv[1]), int(sys.argv[2]) if len(sys.argv) > 2 else 20_000_000
-for make in (program, log, json):
-    pick, written = random.Random(1), 0
-    with open(folder / f"{make.__name__}.input", "w") as out:
-        while written < size:
-            written += out.write(make(pick))
+def indented(pick):
+    """A JSON object with a line for each member, and for each item of its list."""
+    name, number = pick.choice(NAMES), pick.randrange(1_000_000)
+    told = f"the {name} of \\\"{pick.choice(NAMES)}\\\"\\n"
+    items = ",\n".join(f"            {number * step / 1000}" for step in (1, -1, 0))
+    return (
+        f'    {{\n        "id" : {number},\n        "name" : "{name}",\n        "at" : [\n{items}\n        ],\n'
+        f'        "told" : "{told}",\n        "open" : true,\n        "next" : null\n    }},\n'
+    )
+
+
+def pieces(name):
+    """The pieces of text of which the input for a specification is made."""
+    if name in REPEATED:
+        return itertools.repeat((EXAMPLES / f"{name}.input").read_text())
+    make, pick = MAKERS[name], random.Random(1)
+    return (make(pick) for _ in itertools.count())
+
+
+MAKERS = {"program": program, "letters": program, "log": log, "lines": log, "json": json, "minify": indented}
+
+if __name__ == "__main__":
+    folder, size = Path(sys.argv[1]), int(sys.argv[2]) if len(sys.argv) > 2 else 20_000_000
+    for name in [*MAKERS, *REPEATED]:
+        written = 0
+        with open(folder / f"{name}.input", "w") as out:
+            for piece in pieces(name):
+                written += out.write(piece)
+                if written >= size:
+                    break

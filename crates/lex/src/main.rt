@@ -11,7 +11,7 @@ use crate::failure::Failure;
 use crate::generating::{Outputs, make, write_warnings_of};
 use crate::reading::{read_spec_file, read_specification, read_table_file};
 use lexkit::{
-    ArgsError, ByteReader, ByteWriter, FromRead, Job, MAX_POSITIONS, MAX_STATES, Options, Sink,
+    ArgsError, ByteReader, ByteWriter, FromBytes, Job, MAX_POSITIONS, MAX_STATES, Options, Sink,
     ToWrite, read_args, scan_spec, scan_table, write_fault,
 };
 use std::io::ErrorKind;
@@ -53,7 +53,7 @@ enum By<'a> {
 
 /// Scans standard input to standard output.
 fn scan(rt: &HostRuntime, by: By<'_>) -> Result<u8, Failure> {
-    let mut source = FromRead::new(ByteReader::new(rt.alloc(), rt.reader())?);
+    let mut source = FromBytes::new(ByteReader::new(rt.alloc(), rt.reader())?);
     let mut sink = ToWrite::new(ByteWriter::new(rt.alloc(), io::writer(rt))?);
     let result = match by {
         By::Spec(text, options) => {

@@ -1,5 +1,5 @@
 -- What the source over memory holds, and what it answers.
-use Rattle.std.specs.Prelude.{ℕ, zero, suc, List, Result, Ok, Err, Option, Some, None}
+use Rattle.std.specs.Prelude.{ℕ, zero, suc, ◌-◌, List, take, Result, Ok, Err, Option, Some, None}
 use Rattle.lexends.specs.declared.memory_source.MemorySource.{MemorySource}
 use Rattle.lexends.specs.declared.memory_source.Pause.{Pause}
 use Rattle.lexends.specs.declared.memory_source.Pause.TheVariants.{Fault, End}
@@ -15,6 +15,22 @@ call_count source = source.calls
 -- where it will pause, counted in calls
 abbrev pub pause_of : MemorySource → Option Pause
 pause_of source = source.pause
+
+-- of some bytes, those before the pause
+abbrev pub before_pause : Option Pause → List ℕ → List ℕ
+before_pause None bytes = bytes
+before_pause (Some (Fault n)) bytes = take n bytes
+before_pause (Some (End n)) bytes = take n bytes
+
+-- the bytes that it shows: those that it will give before it pauses
+abbrev pub shown_of : MemorySource → List ℕ
+shown_of source = before_pause source.pause source.rest.now
+
+-- a pause is as many calls nearer, where it comes no sooner
+abbrev pub nearer_by : ℕ → Option Pause → Option Pause
+nearer_by count None = None
+nearer_by count (Some (Fault n)) = Some (Fault (n - count))
+nearer_by count (Some (End n)) = Some (End (n - count))
 
 -- a pause is one call nearer, and then it is past
 abbrev pub nearer : Option Pause → Option Pause

@@ -1,5 +1,5 @@
 //! A reader with a buffer, made for reads of one byte.
-ghost use Rattle.std.specs.Prelude.{◌≡◌, ◌≢◌, ◌-◌, ◌<◌, ◌≤◌, min, [], ◌∷◌, ◌++◌, length, take, IfOk, OnErr, IsSome, vec_len};
+ghost use Rattle.std.specs.Prelude.{◌≡◌, ◌≢◌, ◌-◌, ◌<◌, ◌≤◌, min, [], ◌∷◌, ◌++◌, length, take, drop, IfOk, OnErr, IsSome, vec_len};
 ghost use Rattle.std.specs.Io.{ReadsAtMost};
 ghost use Rattle.std.specs.Io.KnownBytes.{Consumes, Keeps, IsAtEnd, ReadConsumes};
 
@@ -109,6 +109,24 @@ impl<R: Read> ByteReader<R> {
         let byte = self.buffer[self.start];
         self.start += 1;
         byte
+    }
+
+    /// The bytes ahead.
+    #[inline(always)]
+    pub fn ahead(&self) -> &[u8]
+        ensures { result.now ≡ bytes_ahead self.now }
+    {
+        &self.buffer[self.start..]
+    }
+
+    /// Drops as many of the bytes ahead.
+    #[inline(always)]
+    pub fn skip(&mut self, count: usize)
+        requires { count ≤ length (bytes_ahead self.old) }
+        ensures reader { self.new.reader ≡ self.old.reader }
+        ensures ahead { bytes_ahead self.new ≡ drop count (bytes_ahead self.old) }
+    {
+        self.start += count;
     }
 
     /// Gives as many bytes ahead as there is room for.

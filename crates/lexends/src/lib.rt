@@ -4,6 +4,7 @@
 mod buffer;
 mod byte_reader;
 mod byte_writer;
+mod from_bytes;
 mod memory_sink;
 mod memory_source;
 mod sink;
@@ -11,6 +12,7 @@ mod source;
 
 pub use byte_reader::ByteReader;
 pub use byte_writer::ByteWriter;
+pub use from_bytes::FromBytes;
 pub use memory_sink::MemorySink;
 pub use memory_source::MemorySource;
 pub use sink::{Sink, ToWrite, WriteFault};

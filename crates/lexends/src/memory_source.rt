@@ -1,5 +1,5 @@
 //! A source over memory that pauses once, at a stated place, for tests.
-ghost use Rattle.std.specs.Prelude.{◌≡◌, refl, ℕ, ◌+◌, ◌-◌, ◌^◌, ◌<◌, min, List, [], ◌++◌, None, Some, ◌⊎◌, ◌↔◌};
+ghost use Rattle.std.specs.Prelude.{◌≡◌, refl, ℕ, ◌+◌, ◌-◌, ◌^◌, ◌<◌, ◌≤◌, min, List, [], ◌++◌, length, take, None, Some, ◌⊎◌, ◌↔◌};
 ghost use Rattle.lexends.specs.Sink.{fault_count};
 ghost use Rattle.lexends.specs.Source.{given, end_count};
 ghost use Rattle.lexends.specs.Taking.{Takes, Takes-trans};
@@ -88,7 +88,7 @@ impl<'a> MemorySource<'a> {
 }
 
 impl Source for MemorySource<'_> {
-    ghost use Rattle.lexends.specs.MemorySources.{rest_of, call_count, pause_of, nearer, IsFault, IsEnd};
+    ghost use Rattle.lexends.specs.MemorySources.{rest_of, call_count, pause_of, nearer, nearer_by, shown_of, IsFault, IsEnd};
     ghost use Rattle.lexends.specs.declared.memory_source.Pause.TheVariants.{Fault, End};
 
     ghost gave = { λ s xs t. Takes s.rest.now t.rest.now xs };
@@ -96,6 +96,8 @@ impl Source for MemorySource<'_> {
     ghost ends = { λ s. s.ends };
 
     ghost failures = { λ s. s.failures };
+
+    ghost ready = { λ s. shown_of s };
 
     /// The next byte. It fails exactly where it pauses with a fault, and answers the end where it pauses with one or has
     /// no byte left.
@@ -138,6 +140,33 @@ impl Source for MemorySource<'_> {
         }
     }
 
+    /// The bytes before it pauses, or all that are left.
+    fn ahead(&self) -> &[u8] {
+        let shown = match self.pause {
+            None => self.rest.len(),
+            Some(Pause::Fault(count) | Pause::End(count)) => count.min(self.rest.len()),
+        };
+        &self.rest[..shown]
+    }
+
+    /// Gives as many of these bytes. It counts as that many calls of `next`.
+    fn give(&mut self, count: usize)
+        requires { count ≤ length (shown_of self.old) }
+        ensures bytes { Takes self.old.rest.now self.new.rest.now (take count (shown_of self.old)) }
+        ensures ends { self.new.ends ≡ self.old.ends }
+        ensures failures { self.new.failures ≡ self.old.failures }
+        ensures pause { pause_of self.new ≡ nearer_by count (pause_of self.old) }
+        ensures calls { call_count self.new ≡ min (call_count self.old + count) (2 ^ 64 - 1) }
+    {
+        self.calls = self.calls.saturating_add(count as u64);
+        self.pause = match self.pause {
+            None => None,
+            Some(Pause::Fault(left)) => Some(Pause::Fault(left - count)),
+            Some(Pause::End(left)) => Some(Pause::End(left - count)),
+        };
+        self.rest = &self.rest[count..];
+    }
+
     ghost gave_none = { λ s. refl };
 
     ghost gave_more = { λ s t u xs ys p q. Takes-trans s.rest.now t.rest.now u.rest.now xs ys p q };
@@ -165,6 +194,8 @@ mod tests {
 
     const ENDING: &[Answer] = &[Ok(Some(97)), Ok(None), Ok(Some(98))];
 
+    const PAUSED: &[Answer] = &[Err(ReadFault)];
+
     const WHOLE: &[Answer] = &[Ok(Some(97)), Ok(None)];
 
     #[test]
@@ -176,5 +207,21 @@ mod tests {
         assert!(rt; answers(&mut ending, ENDING));
         let mut whole = MemorySource::new(b"a");
         assert!(rt; answers(&mut whole, WHOLE));
+    }
+
+    /// What is shown ends where the source pauses.
+    #[test]
+    fn a_source_shows_what_it_gives_before_it_pauses(rt: HostRuntime) {
+        assert!(rt; MemorySource::new(b"abc").ahead() == b"abc".as_slice());
+        assert!(rt; MemorySource::ending_after(b"abc", 5).ahead() == b"abc".as_slice());
+        let mut failing = MemorySource::failing_after(b"abc", 2);
+        assert!(rt; failing.ahead() == b"ab".as_slice());
+        if 2 <= failing.ahead().len() {
+            failing.give(2);
+        }
+        assert!(rt; failing.ahead().is_empty());
+        assert!(rt; answers(&mut failing, PAUSED));
+        assert!(rt; failing.ahead() == b"c".as_slice());
+        assert_eq!(rt; failing.calls(), 3);
     }
 }

@@ -1,5 +1,5 @@
 //! Where the bytes of a scan come from.
-ghost use Rattle.std.specs.Prelude.{◌≡◌, ℕ, ◌+◌, ◌-◌, ◌^◌, ◌<◌, ◌≤◌, List, [], ◌++◌, length, IfOk, slice_get};
+ghost use Rattle.std.specs.Prelude.{◌≡◌, ℕ, ◌+◌, ◌-◌, ◌^◌, ◌<◌, ◌≤◌, List, [], ◌++◌, length, take, IfOk, slice_get};
 ghost use Rattle.lexends.specs.Source.{given, end_count, Gives};
 ghost use Rattle.lexends.specs.Sink.{fault_count};
 ghost use Rattle.lexends.specs.SourceLaws.{Gives-nil, Gives-trans};
@@ -23,6 +23,9 @@ pub trait Source {
     /// How often the source failed.
     ghost failures: { Self → ℕ };
 
+    /// The bytes that it can give without asking for them.
+    ghost ready: { Self → List ℕ };
+
     /// The next byte, or `None` at the end.
     fn next(&mut self) -> Result<Option<u8>, ReadFault>
         requires few_ends { ends self.old < 2 ^ 64 - 1 }
@@ -30,6 +33,17 @@ pub trait Source {
         ensures byte { gave self.old (given result) self.new }
         ensures ends { ends self.new ≡ ends self.old + end_count result }
         ensures failures { failures self.new ≡ failures self.old + fault_count result };
+
+    /// Bytes that it can give without asking for them. They are not given yet.
+    fn ahead(&self) -> &[u8]
+        ensures { result.now ≡ ready self.now };
+
+    /// Gives as many of these bytes.
+    fn give(&mut self, count: usize)
+        requires { count ≤ length (ready self.old) }
+        ensures bytes { gave self.old (take count (ready self.old)) self.new }
+        ensures ends { ends self.new ≡ ends self.old }
+        ensures failures { failures self.new ≡ failures self.old };
 
     ghost gave_none: { (s : Self) → gave s [] s };
 
@@ -68,6 +82,8 @@ impl<R: Read> Source for FromRead<R> {
 
     ghost failures = { λ s. s.failures };
 
+    ghost ready = { λ s. [] };
+
     #[inline(always)]
     fn next(&mut self) -> Result<Option<u8>, ReadFault> {
         let mut one = [0u8; 1];
@@ -82,6 +98,14 @@ impl<R: Read> Source for FromRead<R> {
                 Err(ReadFault)
             }
         }
+    }
+
+    fn ahead(&self) -> &[u8] {
+        &[]
+    }
+
+    fn give(&mut self, count: usize) {
+        let _count = count;
     }
 
     ghost gave_none = { λ s. Gives-nil (R.remaining s.reader) s.ends };

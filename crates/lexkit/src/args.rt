@@ -106,33 +106,46 @@ fn known<'a>(alloc: Global) -> Result<Command<'a>, AllocError> {
 
 /// The command with the flags.
 fn with_flags<'a>(alloc: Global, command: Command<'a>) -> Result<Command<'a>, AllocError> {
-    command
-        .arg(flag(alloc, "stdout", 't'))?
-        .arg(flag(alloc, "no-stats", 'n'))?
-        .arg(flag(alloc, "stats", 'v'))?
-        .arg(flag(alloc, "backup", 'b'))?
-        .arg(flag(alloc, "fold", 'i'))?
-        .arg(flag(alloc, "posix", 'X'))?
-        .arg(flag(alloc, "quiet", 'w'))
+    let flags = &[
+        ("stdout", 't'),
+        ("no-stats", 'n'),
+        ("stats", 'v'),
+        ("backup", 'b'),
+        ("fold", 'i'),
+        ("posix", 'X'),
+        ("quiet", 'w'),
+    ];
+    let mut with = command;
+    for &(name, letter) in flags {
+        with = with.arg(flag(alloc, name, letter))?;
+    }
+    Ok(with)
+}
+
+/// The word that names the table's file.
+fn out_word<'a>(alloc: Global) -> Arg<'a> {
+    Arg::new(alloc, "out").short('o').action(ArgAction::Set)
+}
+
+/// A long word that names a file.
+fn long_word<'a>(alloc: Global, name: &'a str) -> Arg<'a> {
+    Arg::new(alloc, name).long(name).action(ArgAction::Set)
+}
+
+/// The words that name specifications.
+fn file_words<'a>(alloc: Global) -> Arg<'a> {
+    Arg::new(alloc, "file")
+        .num_args(1..)
+        .action(ArgAction::Append)
 }
 
 /// The command with the words that name files.
 fn with_names<'a>(alloc: Global, command: Command<'a>) -> Result<Command<'a>, AllocError> {
-    let out = Arg::new(alloc, "out").short('o').action(ArgAction::Set);
-    let scan_spec = Arg::new(alloc, "scan-spec")
-        .long("scan-spec")
-        .action(ArgAction::Set);
-    let scan_table = Arg::new(alloc, "scan-table")
-        .long("scan-table")
-        .action(ArgAction::Set);
-    let files = Arg::new(alloc, "file")
-        .num_args(1..)
-        .action(ArgAction::Append);
     command
-        .arg(out)?
-        .arg(scan_spec)?
-        .arg(scan_table)?
-        .arg(files)
+        .arg(out_word(alloc))?
+        .arg(long_word(alloc, "scan-spec"))?
+        .arg(long_word(alloc, "scan-table"))?
+        .arg(file_words(alloc))
 }
 
 /// Whether the flag stands there.

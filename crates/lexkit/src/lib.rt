@@ -19,8 +19,8 @@ pub use faults::{Fault, write_fault};
 pub use laws::file_scans;
 pub use lexauto::{BuildError, Limits};
 pub use lexends::{
-    ByteReader, ByteWriter, FromRead, MemorySink, MemorySource, ReadFault, Sink, Source, ToWrite,
-    WriteFault,
+    ByteReader, ByteWriter, FromBytes, FromRead, MemorySink, MemorySource, ReadFault, Sink, Source,
+    ToWrite, WriteFault,
 };
 pub use lexfile::{TableError, read_tables, write_tables};
 pub use lexmeaning::{MAX_FILE_BYTES, MAX_POSITIONS, MAX_STATES};

@@ -4,9 +4,11 @@
 mod action;
 mod copying;
 mod cut;
+mod glance;
 mod machine;
 
 pub use action::{EndAction, Statement, has_reject};
 pub use copying::{copy_end, copy_statements};
 pub use cut::Cut;
+pub use glance::{Gist, Way};
 pub use machine::Machine;

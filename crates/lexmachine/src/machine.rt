@@ -1,11 +1,13 @@
 //! What a scan obeys.
-ghost use Rattle.std.specs.Prelude.{◌≡◌, ℕ, ◌<◌, map, true, false};
+ghost use Rattle.std.specs.Prelude.{◌≡◌, ℕ, ◌<◌, map, true, false, IfSome};
 ghost use Rattle.lexmeaning.specs.Machine.{Machine as MachineModel};
 ghost use Rattle.lexmachine.specs.Views.{statement_of, end_action_of, cut_of};
+ghost use Rattle.lexmachine.specs.Glances.{Leads, Gists};
 ghost use Rattle.lexmeaning.specs.MachineLaws.{MachineLaws, StaysBelow, NoReject, SomeReject};
 
 use crate::action::{EndAction, Statement};
 use crate::cut::Cut;
+use crate::glance::{Gist, Way};
 
 /// States, the rules that they accept, and what these do.
 pub trait Machine {
@@ -55,4 +57,25 @@ pub trait Machine {
     fn rejects(&self) -> bool
         ensures no { result ≡ false → NoReject (machine self.now) }
         ensures yes { result ≡ true → SomeReject (machine self.now) };
+
+    /// A walk over bytes up to the first after which the machine goes on no more, if it is found at a glance.
+    fn way(&self, first: u32, bytes: &[u8]) -> Option<Way>
+        requires { first < states self.now }
+        ensures way { IfSome result (Leads (machine self.now) first bytes.now) }
+        ensures known { IfSome result (λ way. way.state < states self.now) }
+        ensures known_before { IfSome result (λ way. way.before < states self.now) }
+    {
+        let _bytes = bytes;
+        let _first = first;
+        None
+    }
+
+    /// What is known of the first rule that the state accepts.
+    fn gist(&self, state: u32) -> Gist<'_>
+        requires { state < states self.now }
+        ensures { Gists (machine self.now) state result }
+    {
+        let _state = state;
+        Gist::Any
+    }
 }

@@ -38,6 +38,30 @@ fn refused_turns(rt: HostRuntime) -> Result<(), Fail> {
     Ok(())
 }
 
+/// Each match asks for all the letters, and keeps one.
+const ONE_OF_MANY: &str = "%%\na ;\na*b ;\n";
+
+/// Where memory for marks of walks in vain is refused, that is not told: once all bytes are taken, each turn is taken.
+#[test]
+fn refused_marks(rt: HostRuntime) -> Result<(), Fail> {
+    let alloc = rt.alloc();
+    let spec = read(alloc, ONE_OF_MANY.as_bytes())?;
+    let automaton = built(alloc, &spec)?;
+    let machine = Plain::new(&automaton, &spec);
+    let letters = [b'a'; 1_000];
+    let mut source = MemorySource::new(&letters);
+    let mut sink = MemorySink::new(alloc);
+    let mut scanner = Scanner::new(alloc, &machine, &mut source, &mut sink, 10_000);
+    if scanner.turn() == Err(RunError::OutOfMemory) {
+        return Ok(());
+    }
+    for _ in 0..999 {
+        assert!(rt; scanner.turn() == Ok(Turn::Went));
+    }
+    assert!(rt; scanner.turn() == Ok(Turn::Ended(0)));
+    Ok(())
+}
+
 /// A run ends well, or tells that memory ran out; nothing is written by it.
 #[test]
 fn refused_run(rt: HostRuntime) -> Result<(), Fail> {

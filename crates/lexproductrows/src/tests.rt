@@ -127,6 +127,18 @@ fn reads_no_byte_twice(rt: HostRuntime) {
     assert!(rt; scan.calls == 1_001);
 }
 
+/// Each match goes over the letters that are left and keeps one, until as many letters are left as a longer one takes.
+#[test]
+fn goes_over_letters_again(rt: HostRuntime) {
+    let text = b"%%\na printf(\"A\");\n(aa)*b printf(\"B\");\n";
+    let mut input = [b'a'; 703];
+    input[401] = b'b';
+    let mut want = [b'A'; 303];
+    want[1] = b'B';
+    let scan = scanned(rt.alloc(), text, PLAIN, &input, Failing::Never);
+    assert!(rt; scan.does(Ok(0), &want));
+}
+
 const MEGA: &[u8] = b"%%\nmega- ECHO; yymore();\nkludge ECHO;\n";
 
 /// What was written before a fault stays written, and nothing is read after it.

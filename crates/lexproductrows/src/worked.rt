@@ -119,6 +119,19 @@ pub(crate) const READINGS: &[Reading] = &[
     ("%%\n.|\\n ;\n", "abc", 4, None),
     ("%%\n", "abc", 4, None),
     ("%%\nabc ;\n[a-c] yyterminate();\n", "abd", 3, None),
+    // Some matches, one that ends the scan, and bytes that the source has ready.
+    (
+        "%%\n[a-z]+ ECHO;\n\" \" ;\n\";\" exit(3);\n",
+        "ab cd;ef gh",
+        6,
+        Some(b'e'),
+    ),
+    (
+        "%%\n[a-z]+ ECHO;\n\" \" ;\n\";\"+ exit(3);\n",
+        "ab cd;ef gh",
+        7,
+        Some(b'f'),
+    ),
 ];
 
 /// With intervals over series.

@@ -1,6 +1,7 @@
 -- Turn after turn, up to the end.
 use Rattle.std.proofs.Common.{◌≡◌, ℕ, suc, ◌+◌, ◌-◌, ◌*◌, ◌≤◌, ◌<◌, Bool, true, false, List, ◌++◌, length, Some, None, refl, sym, ◌∙◌, ap, subst, arith}
 use Rattle.std.specs.Prelude.{nat_lt}
+use Rattle.std.proofs.lemmas.Nat.{mul-le}
 use Rattle.std.proofs.lemmas.Bool.{lt-ltb, ltb-true}
 use Rattle.std.proofs.lemmas.List.{length-drop}
 use Rattle.lexmeaning.specs.Acting.{Status}
@@ -18,6 +19,7 @@ use Rattle.lexscan.specs.Reads.{end_step}
 use Rattle.lexscan.specs.Descends.{ending_of}
 use Rattle.lexscan.specs.Stands.{state_of, Stands, Fell, NoneAfterEnd, RanTo}
 use Rattle.lexscan.specs.Runs.{Running, RanInto}
+use Rattle.lexscan.specs.Bursts.{NoEarlier}
 use Rattle.lexscan.proofs.Refusing.{earlier, just_these}
 
 -- where the text starts
@@ -74,6 +76,25 @@ running_on M gave wrote r s s' t u u' old new got put join join' h a b k = recor
   sink = join' t u u' h.out put h.sink b;
   stands = k;
 }
+
+-- several turns more
+pub running_further : {S K : Type 0} (M : Machine) (gave : S → List ℕ → S → Type 0) (wrote : K → List ℕ → K → Type 0) (r s s' : S) (t u u' : K) (old new : State) (turns : ℕ) (got put : List ℕ) →
+    ((r s t : S) (xs ys : List ℕ) → gave r xs s → gave s ys t → gave r (xs ++ ys) t) → ((r s t : K) (xs ys : List ℕ) → wrote r xs s → wrote s ys t → wrote r (xs ++ ys) t) →
+    (h : Running M gave wrote r s t u old) → gave s got s' → wrote u put u' → Stands M (turns + h.turns) (h.given ++ got) (h.out ++ put) new → Running M gave wrote r s' t u' new
+running_further M gave wrote r s s' t u u' old new turns got put join join' h a b k = record {
+  turns = turns + h.turns;
+  given = h.given ++ got;
+  out = h.out ++ put;
+  source = join r s s' h.given got h.source a;
+  sink = join' t u u' h.out put h.sink b;
+  stands = k;
+}
+
+-- what does not start earlier has no more left
+pub no_more_left : (m : ℕ) (old new : State) → NoEarlier old new → left_over m new ≤ left_over m old
+no_more_left m old new h =
+    let few : (m - start_of new) * (m + 1) ≤ (m - start_of old) * (m + 1) = mul-le (m - start_of new) (m + 1) (m - start_of old) (m + 1) (omega (arith, h.start)) (omega arith) in
+    omega (arith, few, h.place)
 
 -- at the end
 pub ran_to : (M : Machine) (n status e e' : ℕ) (given out : List ℕ) (s : State) → e' ≡ e + end_step false s.reading.at_end → s.ended ≡ Some status → Stands M n given out s → RanTo (rules_of_machine M) given out (nat_lt e e') (Status status)

@@ -10,3 +10,8 @@ pub mod Saying
 pub mod Stepping
 pub mod Picking
 pub mod Walking
+pub mod Showing
+pub mod Bursting
+pub mod Furthering
+pub mod Barrens
+pub mod Marks

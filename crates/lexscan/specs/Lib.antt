@@ -10,3 +10,6 @@ pub mod Stacks
 pub mod Stands
 pub mod Runs
 pub mod Picks
+pub mod Bursts
+pub mod Memos
+pub mod Backs

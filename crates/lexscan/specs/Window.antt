@@ -1,10 +1,11 @@
 -- The bytes that a window holds.
 use Rattle.std.specs.Prelude.{List, ℕ, Bool}
 
--- a list of bytes, and whether there is room for one more
+-- a list of bytes, whether there is room for one more, and what is shown in the room
 pub record Held : Type 0 where
   pub bytes : List ℕ
   pub room : Bool
+  pub ahead : List ℕ
 
 -- the states after each byte of a match, and whether there is room for one more
 pub record Told : Type 0 where

@@ -1,5 +1,5 @@
 //! The two ends of a scan, each with what is known of its count of failures.
-ghost use Rattle.std.specs.Prelude.{◌≡◌, ℕ, ◌+◌, ◌-◌, ◌^◌, ◌<◌, ◌≤◌, List, [], ◌++◌, length, true, false, is_ok, OnOk, OnErr};
+ghost use Rattle.std.specs.Prelude.{◌≡◌, ℕ, ◌+◌, ◌-◌, ◌^◌, ◌<◌, ◌≤◌, List, [], ◌++◌, length, take, true, false, is_ok, OnOk, OnErr};
 ghost use Rattle.lexends.specs.Source.{given, end_count};
 ghost use Rattle.lexends.specs.Sink.{Appended, fault_count};
 ghost use Rattle.lexscan.specs.Answer.{gives_byte};
@@ -51,6 +51,32 @@ impl<'a, S: Source> Intake<'a, S> {
                 other
             }
         }
+    }
+}
+
+impl<'a, S: Source> Intake<'a, S> {
+    /// The bytes that the source has ready. They are not given yet.
+    #[inline(always)]
+    pub fn ahead(&self) -> &[u8]
+        ensures { result.now ≡ S.ready self.now.source.now }
+    {
+        self.source.ahead()
+    }
+
+    /// Has the source give as many of these bytes.
+    #[inline(always)]
+    pub fn give(&mut self, count: usize)
+        requires { count ≤ length (S.ready self.old.source.now) }
+        ensures same { self.new.source.ghost_name ≡ self.old.source.ghost_name }
+        ensures bytes { S.gave self.old.source.now (take count (S.ready self.old.source.now)) self.new.source.now }
+        ensures ends { S.ends self.new.source.now ≡ S.ends self.old.source.now }
+        ensures failures { S.failures self.new.source.now ≡ S.failures self.old.source.now }
+        ensures live { self.new.live ≡ self.old.live }
+    {
+        let live = self.live;
+        self.live = false;
+        self.source.give(count);
+        self.live = live;
     }
 }
 

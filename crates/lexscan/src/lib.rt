@@ -2,9 +2,14 @@
 #![tactic(auto)]
 
 mod act;
+mod back;
+mod burst;
+mod cell;
 mod descent;
 mod error;
+mod further;
 mod intake;
+mod memo;
 mod pick;
 mod reading;
 mod scanner;

@@ -2,11 +2,13 @@
 ghost use Rattle.std.specs.Prelude.{◌≡◌, ℕ, ◌+◌, ◌-◌, ◌^◌, ◌<◌, ◌≤◌, List, [], ◌++◌, length, true, false, Some, None, Ok, Err, IsErrOf};
 ghost use Rattle.lexmeaning.specs.Text.{AllBelow};
 ghost use Rattle.lexscan.specs.Reads.{read_fault_count, write_fault_count, end_step};
+ghost use Rattle.lexscan.specs.Memos.{AreTrue, AreTrue-prop};
 ghost use Rattle.lexscan.specs.Stacks.{AllBelow-prop};
 ghost use Rattle.lexscan.specs.Stands.{NoneAfterEnd, GoesOn, Stands};
 
 use crate::error::RunError;
 use crate::intake::{Intake, Outlet};
+use crate::memo::Memo;
 use crate::state::State;
 use crate::trail::Trail;
 use crate::turn::{Turn, turn_of};
@@ -21,12 +23,14 @@ pub struct Scanner<'a, M: Machine, S: Source, K: Sink> {
     intake: Intake<'a, S>,
     outlet: Outlet<'a, K>,
     trail: Trail,
+    memo: Memo,
     state: State,
     ghost may_read: { state.failed ≡ false → state.ended ≡ None → state.reading.at_end ≡ false → intake.live ≡ true },
     ghost may_write: { state.failed ≡ false → outlet.live ≡ true },
     ghost condition: { state.spot.condition < (M.machine machine.now).conditions },
     ghost inside: { state.spot.at ≤ length state.reading.window.bytes },
     ghost stack: { state.failed ≡ false → AllBelow (M.machine machine.now).conditions state.acting.stack } by { λ x y. λ k. λ e. AllBelow-prop (M.machine machine.now).conditions state.acting.stack (x e) (y e) k },
+    ghost marks: { state.failed ≡ false → AreTrue (M.machine machine.now) state.reading memo } by { λ x y. λ k. λ e. AreTrue-prop (M.machine machine.now) state.reading memo (x e) (y e) k },
 }
 
 impl<'a, M: Machine, S: Source, K: Sink> Scanner<'a, M, S, K> {
@@ -56,6 +60,7 @@ impl<'a, M: Machine, S: Source, K: Sink> Scanner<'a, M, S, K> {
             intake: Intake::new(source),
             outlet: Outlet::new(sink),
             trail: Trail::new(alloc),
+            memo: Memo::new(alloc),
             state: State::new(alloc, max_reads),
         }
     }
@@ -86,6 +91,7 @@ impl<'a, M: Machine, S: Source, K: Sink> Scanner<'a, M, S, K> {
             &mut self.intake,
             &mut self.outlet,
             &mut self.trail,
+            &mut self.memo,
             &mut self.state,
         )
     }

@@ -133,7 +133,7 @@ fn before_last(before: u32, walk: Walk) -> u32
 /// Goes on with a match that has asked for all the bytes held, and asks for one more: takes bytes of the source, and keeps the
 /// last two states. Answers nothing where there is no byte.
 #[inline(always)]
-fn see_more<M: Machine, S: Source>(
+pub fn see_more<M: Machine, S: Source>(
     machine: &M,
     intake: &mut Intake<'_, S>,
     reading: &mut Reading,

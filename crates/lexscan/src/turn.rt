@@ -8,25 +8,42 @@ ghost use Rattle.lexscan.specs.Descends.{matches_of, conditions_at, CutAll, Faul
 ghost use Rattle.lexmeaning.specs.MachineLaws.{NoReject};
 ghost use Rattle.lexscan.specs.Picks.{IsFirst, HasStatements, Tells, trail_of};
 ghost use Rattle.lexmeaning.specs.Trail.{falling};
+ghost use Rattle.lexscan.specs.Backs.{IsOpen};
+ghost use Rattle.lexscan.specs.declared.memo.Mark.{Mark};
+ghost use Rattle.lexscan.specs.Memos.{AreTrue};
 ghost use Rattle.lexscan.specs.Stands.{NoneAfterEnd, GoesOn};
 ghost use Rattle.lexscan.specs.Moves.{stays, left_bytes, left_at, Left, Acted, EndLeft, Moved, Untouched};
 
 use crate::act::{Finish, put};
+use crate::back::{Ahead, look, note};
 use crate::descent::descend;
 use crate::error::RunError;
 use crate::intake::{Intake, Outlet};
+use crate::memo::Memo;
 use crate::pick::{Pick, Seen, carry_pick, near_end, walk_again};
-use crate::see::{see, see_last};
+use crate::see::{see, see_last, see_more};
 use crate::state::State;
 use crate::trail::Trail;
 use lexends::{Sink, Source};
 use lexmachine::Machine;
+
+/// How many bytes a match goes over again at most, before what was known of walks over them is kept.
+const BACKLOG: usize = 128;
 
 /// What a turn did.
 #[derive(Clone, Copy, Debug, PartialEq, Eq)]
 pub enum Turn {
     Went,
     Ended(u8),
+}
+
+/// Whether the next match has more bytes before it that are held than it may go over again.
+#[inline(always)]
+pub fn has_backlog(state: &State) -> bool
+    requires { state.now.spot.at ≤ length state.now.reading.window.bytes }
+    ensures { result ≡ true → state.now.spot.at < length state.now.reading.window.bytes }
+{
+    BACKLOG < state.reading.window.len() - state.spot.at
 }
 
 /// Flushes the sink.
@@ -374,6 +391,134 @@ fn go_last<M: Machine, S: Source, K: Sink>(
     }
 }
 
+/// The same where the match asks for all the bytes held, and for one more.
+fn go_past<M: Machine, S: Source, K: Sink>(
+    machine: &M,
+    intake: &mut Intake<'_, S>,
+    outlet: &mut Outlet<'_, K>,
+    state: &mut State,
+    seen: Seen,
+) -> Result<Turn, RunError>
+    requires quiet { NoReject (M.machine machine.now) }
+    requires may_read { state.old.reading.at_end ≡ false → intake.old.live ≡ true }
+    requires may_write { outlet.old.live ≡ true }
+    requires condition { state.old.spot.condition < (M.machine machine.now).conditions }
+    requires open { IsOpen (M.machine machine.now) (M.states machine.now) state.old.spot state.old.reading seen }
+
+    ensures same_source { intake.new.source.ghost_name ≡ intake.old.source.ghost_name }
+    ensures same_sink { outlet.new.sink.ghost_name ≡ outlet.old.sink.ghost_name }
+    ensures may_read { OnOk result (state.new.reading.at_end ≡ false → intake.new.live ≡ true) }
+    ensures may_write { OnOk result (outlet.new.live ≡ true) }
+    ensures failed { state.new.failed ≡ state.old.failed }
+    ensures max_reads { state.new.reading.max_reads ≡ state.old.reading.max_reads }
+    ensures ended { result ≡ Ok Turn.Went → state.new.ended ≡ state.old.ended }
+
+    ensures moved { Moved (M.machine machine.now) S.gave K.wrote intake.old.source.now intake.new.source.now outlet.old.sink.now outlet.new.sink.now state.old state.new result }
+
+    ensures still { state.old.reading.at_end ≡ true → intake.new.source.now ≡ intake.old.source.now }
+    ensures refused { IsErrOf result RunError.Failed → ⊥ }
+    ensures read_faults { S.failures intake.new.source.now ≡ S.failures intake.old.source.now + read_fault_count result }
+    ensures write_faults { K.failures outlet.new.sink.now ≡ K.failures outlet.old.sink.now + write_fault_count result }
+    ensures ends { S.ends intake.new.source.now ≡ S.ends intake.old.source.now + end_step state.old.reading.at_end state.new.reading.at_end }
+    ensures too_many { IsErrOf result RunError.TooManyReads → (state.new.reading.taken ≡ state.new.reading.max_reads) × Wants (M.machine machine.now) state.old.spot state.new.reading }
+{
+    let spot = state.spot;
+    match see_more(machine, intake, &mut state.reading, spot, seen) {
+        Err(e) => Err(e),
+        Ok(None) => end_turn(machine, outlet, state),
+        Ok(Some(seen)) => last_turn(machine, outlet, state, seen),
+    }
+}
+
+/// The same over many bytes that an earlier match has asked for: a walk over them ends where it is known to lead to no match.
+fn go_over<M: Machine, S: Source, K: Sink>(
+    machine: &M,
+    intake: &mut Intake<'_, S>,
+    outlet: &mut Outlet<'_, K>,
+    memo: &mut Memo,
+    state: &mut State,
+) -> Result<Turn, RunError>
+    requires quiet { NoReject (M.machine machine.now) }
+    requires may_read { state.old.reading.at_end ≡ false → intake.old.live ≡ true }
+    requires may_write { outlet.old.live ≡ true }
+    requires condition { state.old.spot.condition < (M.machine machine.now).conditions }
+    requires inside { state.old.spot.at < length state.old.reading.window.bytes }
+    requires marks { AreTrue (M.machine machine.now) state.old.reading memo.old }
+
+    ensures same_source { intake.new.source.ghost_name ≡ intake.old.source.ghost_name }
+    ensures same_sink { outlet.new.sink.ghost_name ≡ outlet.old.sink.ghost_name }
+    ensures may_read { OnOk result (state.new.reading.at_end ≡ false → intake.new.live ≡ true) }
+    ensures may_write { OnOk result (outlet.new.live ≡ true) }
+    ensures failed { state.new.failed ≡ state.old.failed }
+    ensures max_reads { state.new.reading.max_reads ≡ state.old.reading.max_reads }
+    ensures ended { result ≡ Ok Turn.Went → state.new.ended ≡ state.old.ended }
+
+    ensures moved { Moved (M.machine machine.now) S.gave K.wrote intake.old.source.now intake.new.source.now outlet.old.sink.now outlet.new.sink.now state.old state.new result }
+    ensures marks { OnOk result (AreTrue (M.machine machine.now) state.new.reading memo.new) }
+
+    ensures still { state.old.reading.at_end ≡ true → intake.new.source.now ≡ intake.old.source.now }
+    ensures refused { IsErrOf result RunError.Failed → ⊥ }
+    ensures read_faults { S.failures intake.new.source.now ≡ S.failures intake.old.source.now + read_fault_count result }
+    ensures write_faults { K.failures outlet.new.sink.now ≡ K.failures outlet.old.sink.now + write_fault_count result }
+    ensures ends { S.ends intake.new.source.now ≡ S.ends intake.old.source.now + end_step state.old.reading.at_end state.new.reading.at_end }
+    ensures too_many { IsErrOf result RunError.TooManyReads → (state.new.reading.taken ≡ state.new.reading.max_reads) × Wants (M.machine machine.now) state.old.spot state.new.reading }
+{
+    let spot = state.spot;
+    memo.fit(state.reading.window.len() - spot.at);
+    match look(machine, &state.reading, memo, spot) {
+        Ahead::Open(seen) => go_past(machine, intake, outlet, state, seen),
+        Ahead::Settled(settled) => {
+            note(machine, &state.reading, memo, spot, settled);
+            let seen = Seen {
+                reach: settled.keep,
+                state: settled.state,
+                before: settled.before,
+            };
+            last_turn(machine, outlet, state, seen)
+        }
+    }
+}
+
+/// The same, and gives the memory of the marks back where few bytes are left.
+fn go_back<M: Machine, S: Source, K: Sink>(
+    machine: &M,
+    intake: &mut Intake<'_, S>,
+    outlet: &mut Outlet<'_, K>,
+    memo: &mut Memo,
+    state: &mut State,
+) -> Result<Turn, RunError>
+    requires quiet { NoReject (M.machine machine.now) }
+    requires may_read { state.old.reading.at_end ≡ false → intake.old.live ≡ true }
+    requires may_write { outlet.old.live ≡ true }
+    requires condition { state.old.spot.condition < (M.machine machine.now).conditions }
+    requires inside { state.old.spot.at < length state.old.reading.window.bytes }
+    requires marks { AreTrue (M.machine machine.now) state.old.reading memo.old }
+
+    ensures same_source { intake.new.source.ghost_name ≡ intake.old.source.ghost_name }
+    ensures same_sink { outlet.new.sink.ghost_name ≡ outlet.old.sink.ghost_name }
+    ensures may_read { OnOk result (state.new.reading.at_end ≡ false → intake.new.live ≡ true) }
+    ensures may_write { OnOk result (outlet.new.live ≡ true) }
+    ensures failed { state.new.failed ≡ state.old.failed }
+    ensures max_reads { state.new.reading.max_reads ≡ state.old.reading.max_reads }
+    ensures ended { result ≡ Ok Turn.Went → state.new.ended ≡ state.old.ended }
+
+    ensures moved { Moved (M.machine machine.now) S.gave K.wrote intake.old.source.now intake.new.source.now outlet.old.sink.now outlet.new.sink.now state.old state.new result }
+    ensures marks { OnOk result (AreTrue (M.machine machine.now) state.new.reading memo.new) }
+
+    ensures still { state.old.reading.at_end ≡ true → intake.new.source.now ≡ intake.old.source.now }
+    ensures refused { IsErrOf result RunError.Failed → ⊥ }
+    ensures read_faults { S.failures intake.new.source.now ≡ S.failures intake.old.source.now + read_fault_count result }
+    ensures write_faults { K.failures outlet.new.sink.now ≡ K.failures outlet.old.sink.now + write_fault_count result }
+    ensures ends { S.ends intake.new.source.now ≡ S.ends intake.old.source.now + end_step state.old.reading.at_end state.new.reading.at_end }
+    ensures too_many { IsErrOf result RunError.TooManyReads → (state.new.reading.taken ≡ state.new.reading.max_reads) × Wants (M.machine machine.now) state.old.spot state.new.reading }
+{
+    let result = go_over(machine, intake, outlet, memo, state);
+    if state.reading.window.len().saturating_sub(state.spot.at) <= BACKLOG {
+        memo.clear();
+    }
+    result
+}
+
 /// One turn of a scan that has neither failed nor ended, by the states after each byte.
 #[inline(always)]
 pub fn told_turn<M: Machine, S: Source, K: Sink>(
@@ -456,6 +601,7 @@ pub fn quiet_turn<M: Machine, S: Source, K: Sink>(
     ensures condition { state.new.spot.condition < (M.machine machine.now).conditions }
     ensures inside { state.new.spot.at ≤ length state.new.reading.window.bytes }
     ensures stack { state.new.failed ≡ false → AllBelow (M.machine machine.now).conditions state.new.acting.stack }
+    ensures marks { (ms : List Mark) → AreTrue (M.machine machine.now) state.old.reading ms → state.new.failed ≡ false → AreTrue (M.machine machine.now) state.new.reading ms }
     ensures ends { S.ends intake.new.source.now ≡ S.ends intake.old.source.now + end_step state.old.reading.at_end state.new.reading.at_end }
     ensures too_many { IsErrOf result RunError.TooManyReads → (state.new.reading.taken ≡ state.new.reading.max_reads) × (state.new.reading.at_end ≡ false) }
 {
@@ -468,21 +614,25 @@ pub fn quiet_turn<M: Machine, S: Source, K: Sink>(
     }
 }
 
-/// One turn of a scan that has neither failed nor ended.
-fn turn_on<M: Machine, S: Source, K: Sink>(
+/// The same over many bytes that an earlier match has asked for.
+#[cold]
+#[inline(never)]
+pub fn back_turn<M: Machine, S: Source, K: Sink>(
     machine: &M,
     intake: &mut Intake<'_, S>,
     outlet: &mut Outlet<'_, K>,
-    trail: &mut Trail,
+    memo: &mut Memo,
     state: &mut State,
 ) -> Result<Turn, RunError>
+    requires quiet { NoReject (M.machine machine.now) }
     requires working { state.old.failed ≡ false }
     requires going { state.old.ended ≡ None }
     requires may_read { state.old.reading.at_end ≡ false → intake.old.live ≡ true }
     requires may_write { outlet.old.live ≡ true }
     requires condition { state.old.spot.condition < (M.machine machine.now).conditions }
-    requires inside { state.old.spot.at ≤ length state.old.reading.window.bytes }
+    requires inside { state.old.spot.at < length state.old.reading.window.bytes }
     requires stack { AllBelow (M.machine machine.now).conditions state.old.acting.stack }
+    requires marks { AreTrue (M.machine machine.now) state.old.reading memo.old }
 
     ensures same_source { intake.new.source.ghost_name ≡ intake.old.source.ghost_name }
     ensures same_sink { outlet.new.sink.ghost_name ≡ outlet.old.sink.ghost_name }
@@ -502,11 +652,64 @@ fn turn_on<M: Machine, S: Source, K: Sink>(
     ensures condition { state.new.spot.condition < (M.machine machine.now).conditions }
     ensures inside { state.new.spot.at ≤ length state.new.reading.window.bytes }
     ensures stack { state.new.failed ≡ false → AllBelow (M.machine machine.now).conditions state.new.acting.stack }
+    ensures marks { state.new.failed ≡ false → AreTrue (M.machine machine.now) state.new.reading memo.new }
+    ensures ends { S.ends intake.new.source.now ≡ S.ends intake.old.source.now + end_step state.old.reading.at_end state.new.reading.at_end }
+    ensures too_many { IsErrOf result RunError.TooManyReads → (state.new.reading.taken ≡ state.new.reading.max_reads) × (state.new.reading.at_end ≡ false) }
+{
+    match go_back(machine, intake, outlet, memo, state) {
+        Ok(turn) => Ok(turn),
+        Err(e) => {
+            state.failed = true;
+            Err(e)
+        }
+    }
+}
+
+/// One turn of a scan that has neither failed nor ended.
+fn turn_on<M: Machine, S: Source, K: Sink>(
+    machine: &M,
+    intake: &mut Intake<'_, S>,
+    outlet: &mut Outlet<'_, K>,
+    trail: &mut Trail,
+    memo: &mut Memo,
+    state: &mut State,
+) -> Result<Turn, RunError>
+    requires working { state.old.failed ≡ false }
+    requires going { state.old.ended ≡ None }
+    requires may_read { state.old.reading.at_end ≡ false → intake.old.live ≡ true }
+    requires may_write { outlet.old.live ≡ true }
+    requires condition { state.old.spot.condition < (M.machine machine.now).conditions }
+    requires inside { state.old.spot.at ≤ length state.old.reading.window.bytes }
+    requires stack { AllBelow (M.machine machine.now).conditions state.old.acting.stack }
+    requires marks { AreTrue (M.machine machine.now) state.old.reading memo.old }
+
+    ensures same_source { intake.new.source.ghost_name ≡ intake.old.source.ghost_name }
+    ensures same_sink { outlet.new.sink.ghost_name ≡ outlet.old.sink.ghost_name }
+    ensures goes_on { (got : List ℕ) × (wrote : List ℕ) × S.gave intake.old.source.now got intake.new.source.now
+        × K.wrote outlet.old.sink.now wrote outlet.new.sink.now
+        × NoneAfterEnd state.old state.new got × GoesOn (M.machine machine.now) state.old state.new got wrote result }
+
+    ensures still { state.old.reading.at_end ≡ true → intake.new.source.now ≡ intake.old.source.now }
+    ensures read_faults { S.failures intake.new.source.now ≡ S.failures intake.old.source.now + read_fault_count result }
+    ensures write_faults { K.failures outlet.new.sink.now ≡ K.failures outlet.old.sink.now + write_fault_count result }
+    ensures refused { IsErrOf result RunError.Failed → ⊥ }
+    ensures max_reads { state.new.reading.max_reads ≡ state.old.reading.max_reads }
+
+    // The next turn may be called.
+    ensures may_read { state.new.failed ≡ false → state.new.ended ≡ None → state.new.reading.at_end ≡ false → intake.new.live ≡ true }
+    ensures may_write { state.new.failed ≡ false → outlet.new.live ≡ true }
+    ensures condition { state.new.spot.condition < (M.machine machine.now).conditions }
+    ensures inside { state.new.spot.at ≤ length state.new.reading.window.bytes }
+    ensures stack { state.new.failed ≡ false → AllBelow (M.machine machine.now).conditions state.new.acting.stack }
+    ensures marks { state.new.failed ≡ false → AreTrue (M.machine machine.now) state.new.reading memo.new }
     ensures ends { S.ends intake.new.source.now ≡ S.ends intake.old.source.now + end_step state.old.reading.at_end state.new.reading.at_end }
     ensures too_many { IsErrOf result RunError.TooManyReads → (state.new.reading.taken ≡ state.new.reading.max_reads) × (state.new.reading.at_end ≡ false) }
 {
     if machine.rejects() {
+        memo.clear();
         told_turn(machine, intake, outlet, trail, state)
+    } else if has_backlog(state) {
+        back_turn(machine, intake, outlet, memo, state)
     } else {
         quiet_turn(machine, intake, outlet, state)
     }
@@ -518,6 +721,7 @@ pub fn turn_of<M: Machine, S: Source, K: Sink>(
     intake: &mut Intake<'_, S>,
     outlet: &mut Outlet<'_, K>,
     trail: &mut Trail,
+    memo: &mut Memo,
     state: &mut State,
 ) -> Result<Turn, RunError>
     requires may_read { state.old.failed ≡ false → state.old.ended ≡ None → state.old.reading.at_end ≡ false → intake.old.live ≡ true }
@@ -525,6 +729,7 @@ pub fn turn_of<M: Machine, S: Source, K: Sink>(
     requires condition { state.old.spot.condition < (M.machine machine.now).conditions }
     requires inside { state.old.spot.at ≤ length state.old.reading.window.bytes }
     requires stack { state.old.failed ≡ false → AllBelow (M.machine machine.now).conditions state.old.acting.stack }
+    requires marks { state.old.failed ≡ false → AreTrue (M.machine machine.now) state.old.reading memo.old }
 
     ensures same_source { intake.new.source.ghost_name ≡ intake.old.source.ghost_name }
     ensures same_sink { outlet.new.sink.ghost_name ≡ outlet.old.sink.ghost_name }
@@ -548,6 +753,7 @@ pub fn turn_of<M: Machine, S: Source, K: Sink>(
     ensures condition { state.new.spot.condition < (M.machine machine.now).conditions }
     ensures inside { state.new.spot.at ≤ length state.new.reading.window.bytes }
     ensures stack { state.new.failed ≡ false → AllBelow (M.machine machine.now).conditions state.new.acting.stack }
+    ensures marks { state.new.failed ≡ false → AreTrue (M.machine machine.now) state.new.reading memo.new }
     ensures ends { S.ends intake.new.source.now ≡ S.ends intake.old.source.now + end_step state.old.reading.at_end state.new.reading.at_end }
     ensures too_many { IsErrOf result RunError.TooManyReads → (state.new.reading.taken ≡ state.new.reading.max_reads) × (state.new.reading.at_end ≡ false) }
 {
@@ -557,5 +763,5 @@ pub fn turn_of<M: Machine, S: Source, K: Sink>(
     if let Some(status) = state.ended {
         return Ok(Turn::Ended(status));
     }
-    turn_on(machine, intake, outlet, trail, state)
+    turn_on(machine, intake, outlet, trail, memo, state)
 }

@@ -3,18 +3,26 @@ ghost use Rattle.std.specs.Prelude.{◌≡◌, ℕ, ◌+◌, ◌-◌, ◌^◌, �
 ghost use Rattle.lexmeaning.specs.Machine.{rules_of_machine};
 ghost use Rattle.lexmeaning.specs.MachineLaws.{NoReject};
 ghost use Rattle.lexmeaning.specs.Text.{AllBelow};
+ghost use Rattle.lexscan.specs.Memos.{AreTrue};
 ghost use Rattle.lexscan.specs.Reads.{read_fault_count, write_fault_count};
 ghost use Rattle.lexscan.specs.Stands.{Stands};
 ghost use Rattle.lexscan.specs.Runs.{Ran};
 
 use crate::error::RunError;
+use crate::further::go_further;
 use crate::intake::{Intake, Outlet};
+use crate::memo::Memo;
 use crate::state::State;
 use crate::trail::Trail;
-use crate::turn::{Turn, quiet_turn, told_turn};
+use crate::turn::{Turn, back_turn, has_backlog, quiet_turn, told_turn};
 use lexends::{Sink, Source};
 use lexmachine::Machine;
 use std::alloc::Global;
+
+/// How many bytes of the source are shown at once, at most and at least.
+const MOST_SHOWN: usize = 8_192;
+
+const LEAST_SHOWN: usize = 64;
 
 /// Turns until the end. Answers the status.
 pub fn run<M: Machine, S: Source, K: Sink>(
@@ -38,8 +46,16 @@ pub fn run<M: Machine, S: Source, K: Sink>(
     let mut intake = Intake::new(source);
     let mut outlet = Outlet::new(sink);
     let mut trail = Trail::new(alloc);
+    let mut memo = Memo::new(alloc);
     let mut state = State::new(alloc, max_reads);
-    let result = run_turns(machine, &mut intake, &mut outlet, &mut trail, &mut state);
+    let result = run_turns(
+        machine,
+        &mut intake,
+        &mut outlet,
+        &mut trail,
+        &mut memo,
+        &mut state,
+    );
     let _source = intake.into_inner();
     let _sink = outlet.into_inner();
     result
@@ -51,6 +67,7 @@ fn run_turns<M: Machine, S: Source, K: Sink>(
     intake: &mut Intake<'_, S>,
     outlet: &mut Outlet<'_, K>,
     trail: &mut Trail,
+    memo: &mut Memo,
     state: &mut State,
 ) -> Result<u8, RunError>
     requires start { Stands (M.machine machine.now) 0 [] [] state.old }
@@ -61,6 +78,7 @@ fn run_turns<M: Machine, S: Source, K: Sink>(
     requires condition { state.old.spot.condition < (M.machine machine.now).conditions }
     requires inside { state.old.spot.at ≤ length state.old.reading.window.bytes }
     requires stack { AllBelow (M.machine machine.now).conditions state.old.acting.stack }
+    requires marks { AreTrue (M.machine machine.now) state.old.reading memo.old }
 
     ensures same_source { intake.new.source.ghost_name ≡ intake.old.source.ghost_name }
     ensures same_sink { outlet.new.sink.ghost_name ≡ outlet.old.sink.ghost_name }
@@ -76,7 +94,7 @@ fn run_turns<M: Machine, S: Source, K: Sink>(
     if machine.rejects() {
         run_told(machine, intake, outlet, trail, state)
     } else {
-        run_quiet(machine, intake, outlet, state)
+        run_quiet(machine, intake, outlet, memo, state)
     }
 }
 
@@ -118,11 +136,24 @@ fn run_told<M: Machine, S: Source, K: Sink>(
     }
 }
 
-/// The same for a machine without REJECT, so that no turn asks whether it has any.
+/// How many bytes are shown next, where so many were, and the turns over them were done with so many: what is shown in vain is
+/// no more than a part of what is done.
+#[inline]
+fn next_most(most: usize, done: usize) -> usize {
+    if done < most / 2 {
+        (most / 2).max(LEAST_SHOWN)
+    } else {
+        most.saturating_mul(2).min(MOST_SHOWN)
+    }
+}
+
+/// The same for a machine without REJECT, so that no turn asks whether it has any. Turns that are told at a glance are made in one
+/// go, but for those over many bytes that an earlier match has asked for.
 fn run_quiet<M: Machine, S: Source, K: Sink>(
     machine: &M,
     intake: &mut Intake<'_, S>,
     outlet: &mut Outlet<'_, K>,
+    memo: &mut Memo,
     state: &mut State,
 ) -> Result<u8, RunError>
     requires quiet { NoReject (M.machine machine.now) }
@@ -134,6 +165,7 @@ fn run_quiet<M: Machine, S: Source, K: Sink>(
     requires condition { state.old.spot.condition < (M.machine machine.now).conditions }
     requires inside { state.old.spot.at ≤ length state.old.reading.window.bytes }
     requires stack { AllBelow (M.machine machine.now).conditions state.old.acting.stack }
+    requires marks { AreTrue (M.machine machine.now) state.old.reading memo.old }
 
     ensures same_source { intake.new.source.ghost_name ≡ intake.old.source.ghost_name }
     ensures same_sink { outlet.new.sink.ghost_name ≡ outlet.old.sink.ghost_name }
@@ -146,11 +178,24 @@ fn run_quiet<M: Machine, S: Source, K: Sink>(
     ensures write_faults { K.failures outlet.new.sink.now ≡ K.failures outlet.old.sink.now + write_fault_count result }
     ensures not_failed { IsErrOf result RunError.Failed → ⊥ }
 {
+    let mut most = MOST_SHOWN;
     'turns: loop {
-        match quiet_turn(machine, intake, outlet, state) {
-            Err(e) => return Err(e),
-            Ok(Turn::Ended(answer)) => return Ok(answer),
-            Ok(Turn::Went) => {}
+        if has_backlog(state) {
+            match back_turn(machine, intake, outlet, memo, state) {
+                Err(e) => return Err(e),
+                Ok(Turn::Ended(status)) => return Ok(status),
+                Ok(Turn::Went) => {}
+            }
+        } else {
+            match go_further(machine, intake, outlet, state, most) {
+                Err(refused) => return Err(refused),
+                Ok(done) => most = next_most(most, done),
+            }
+            match quiet_turn(machine, intake, outlet, state) {
+                Err(e) => return Err(e),
+                Ok(Turn::Ended(answer)) => return Ok(answer),
+                Ok(Turn::Went) => {}
+            }
         }
     }
 }

@@ -87,21 +87,23 @@ fn walk_into<M: Machine, S: Source>(
     Walk::new(count, state, before, Stop::Full)
 }
 
-/// A list of bytes that is used up from the front: those of the buffer from `start` to `end`. What follows is room.
+/// A list of bytes that is used up from the front: those of the buffer from `start` to `end`. What follows is room. Up to
+/// `shown` it may show bytes that are not held yet.
 #[derive(Drop)]
 pub struct Window {
     buffer: Vec<u8>,
     start: usize,
     end: usize,
+    shown: usize,
 }
 
 impl Model for Window {
-    ghost use Rattle.std.specs.Prelude.{◌≤◌, take, drop, vec_len, nat_lt};
+    ghost use Rattle.std.specs.Prelude.{◌≤◌, ◌-◌, take, drop, vec_len, nat_lt};
     ghost use Rattle.lexscan.specs.Window.{Held};
 
     ghost Value = { Held };
 
-    ghost view = { λ w. record { bytes = drop w.start (take w.end w.buffer.items); room = nat_lt w.end (vec_len w.buffer) } };
+    ghost view = { λ w. record { bytes = drop w.start (take w.end w.buffer.items); room = nat_lt w.end (vec_len w.buffer); ahead = take (w.shown - w.end) (drop w.end w.buffer.items) } };
 
     ghost invariant = { λ w. (w.start ≤ w.end) × (w.end ≤ vec_len w.buffer) };
 }
@@ -115,6 +117,7 @@ impl Window {
             buffer: Vec::new(alloc),
             start: 0,
             end: 0,
+            shown: 0,
         }
     }
 
@@ -237,5 +240,49 @@ impl Window {
         ensures { result ≡ length self.now.bytes }
     {
         self.end - self.start
+    }
+
+    /// Moves the bytes to the front of the buffer, where at least as many were dropped and there is less room than this.
+    fn close_up(&mut self, most: usize)
+        ensures bytes { self.new.bytes ≡ self.old.bytes }
+    {
+        let held = self.end - self.start;
+        if self.buffer.len() - self.end < most && held <= self.start {
+            self.buffer.copy_within(self.start..self.end, 0);
+            self.start = 0;
+            self.end = held;
+        }
+    }
+
+    /// Shows the first of these bytes in the room, at most this many, and answers how many. They are not held yet.
+    pub fn show(&mut self, bytes: &[u8], most: usize) -> usize
+        ensures bytes { self.new.bytes ≡ self.old.bytes }
+        ensures ahead { self.new.ahead ≡ take result bytes.now }
+        ensures few { result ≤ length bytes.now }
+        ensures most { result ≤ most }
+    {
+        self.close_up(most);
+        let end = self.end;
+        let room = self.buffer.len() - end;
+        let count = room.min(bytes.len()).min(most);
+        self.buffer[end..end + count].copy_from_slice(&bytes[..count]);
+        self.shown = end + count;
+        count
+    }
+
+    /// The bytes, and then as many of those that are shown.
+    pub fn text(&self, count: usize) -> &[u8]
+        requires { count ≤ length self.now.ahead }
+        ensures { result.now ≡ self.now.bytes ++ take count self.now.ahead }
+    {
+        &self.buffer[self.start..self.end + count]
+    }
+
+    /// Holds as many of the bytes that are shown.
+    pub fn accept(&mut self, count: usize)
+        requires { count ≤ length self.old.ahead }
+        ensures { self.new.bytes ≡ self.old.bytes ++ take count self.old.ahead }
+    {
+        self.end += count;
     }
 }

@@ -4,3 +4,4 @@ pub mod Steps
 pub mod Invariant
 pub mod Views
 pub mod Machines
+pub mod Flats

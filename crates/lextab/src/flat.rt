@@ -1,22 +1,26 @@
 //! Packed tables with a row of 256 targets for each state, so that a step is one look-up.
-ghost use Rattle.std.specs.Prelude.{◌≡◌, ℕ, ◌+◌, ◌*◌, ◌<◌, length, slice_index, IfOk};
+ghost use Rattle.std.specs.Prelude.{◌≡◌, ℕ, ◌+◌, ◌*◌, ◌<◌, ◌≤◌, true, false, length, slice_index, IfOk};
+ghost use Rattle.lexmachine.specs.Glances.{Leads, Gists};
+ghost use Rattle.lexmeaning.specs.Limits.{max_states};
+ghost use Rattle.lexmeaning.specs.Text.{flag};
+ghost use Rattle.lextab.specs.Flats.{marked};
 ghost use Rattle.lextab.specs.Steps.{step_of};
 ghost use Rattle.lextab.specs.Views.{table_of};
 ghost use Rattle.lextab.specs.Machines.{machine_of, states_of};
 
-use crate::steps::flat_rows;
+use crate::steps::{STOP, marked_rows};
 use crate::tables::Tables;
-use lexmachine::{Cut, EndAction, Machine, Statement};
+use lexmachine::{Cut, EndAction, Gist, Machine, Statement, Way};
 use std::alloc::{AllocError, Global};
 
-/// Packed tables, and 1 KB of targets for each state. It is the same machine. No reader takes memory.
+/// Packed tables, and 1 KB of marked targets for each state. It is the same machine. No reader takes memory.
 #[derive(Drop)]
 pub struct Flat<'a> {
     pub(crate) tables: &'a Tables,
-    next: Vec<u32>,
+    rows: Vec<u32>,
     goes_on: &'a [bool],
-    ghost rows: { length next.items ≡ 256 * length tables.now.parts.rows.items },
-    ghost targets: { (s b : ℕ) → s < length tables.now.parts.rows.items → b < 256 → slice_index next.items (256 * s + b) ≡ step_of (table_of tables.now.parts) s b },
+    ghost sizes: { length rows.items ≡ 256 * length tables.now.parts.rows.items },
+    ghost targets: { (s b : ℕ) → s < length tables.now.parts.rows.items → b < 256 → slice_index rows.items (256 * s + b) ≡ marked (flag goes_on.now (step_of (table_of tables.now.parts) s b)) (step_of (table_of tables.now.parts) s b) },
     ghost flags: { goes_on.now ≡ tables.now.goes_on.items },
 }
 
@@ -26,13 +30,35 @@ impl<'a> Flat<'a> {
         ensures machine { IfOk result (λ f. machine_of f.tables.now ≡ machine_of tables.now) }
         ensures states { IfOk result (λ f. states_of f.tables.now ≡ states_of tables.now) }
     {
-        let next = flat_rows(alloc, &tables.parts)?;
         let goes_on = tables.goes_on.as_slice();
+        let rows = marked_rows(alloc, &tables.parts, goes_on)?;
         Ok(Flat {
             tables,
-            next,
+            rows,
             goes_on,
         })
+    }
+
+    /// The marked state after one byte more, from the state whose row is at this place.
+    #[inline(always)]
+    fn target(&self, place: u32, byte: u8) -> u32
+        requires { (s : ℕ) × (s < states_of self.now.tables.now) × (place ≡ 256 * s) }
+        ensures { (s : ℕ) → place ≡ 256 * s → s < states_of self.now.tables.now → result ≡ marked (flag self.now.goes_on.now (step_of (table_of self.now.tables.now.parts) s byte)) (step_of (table_of self.now.tables.now.parts) s byte) }
+    {
+        self.rows[place as usize + usize::from(byte)]
+    }
+}
+
+/// The state that a marked target is.
+#[inline(always)]
+fn state_of(target: u32) -> u32
+    ensures goes { (s : ℕ) → s ≤ max_states → target ≡ marked true s → result ≡ s }
+    ensures stops { (s : ℕ) → target ≡ marked false s → result ≡ s }
+{
+    if target < STOP {
+        target / 256
+    } else {
+        target - STOP
     }
 }
 
@@ -50,7 +76,7 @@ impl Machine for Flat<'_> {
     }
 
     fn step(&self, state: u32, byte: u8) -> u32 {
-        self.next[256 * state as usize + usize::from(byte)]
+        state_of(self.target(256 * state, byte))
     }
 
     fn goes_on(&self, state: u32) -> bool {
@@ -71,5 +97,56 @@ impl Machine for Flat<'_> {
 
     fn rejects(&self) -> bool {
         self.tables.rejects()
+    }
+
+    #[inline(always)]
+    fn way(&self, first: u32, bytes: &[u8]) -> Option<Way> {
+        let mut place = 256 * first;
+        let mut count = 0usize;
+        'bytes: while count < bytes.len() {
+            let next = self.target(place, bytes[count]);
+            count += 1;
+            if STOP <= next {
+                return Some(Way {
+                    count,
+                    state: next - STOP,
+                    before: place / 256,
+                });
+            }
+            if next == place {
+                'run: while count < bytes.len() && self.target(place, bytes[count]) == place {
+                    count += 1;
+                }
+            }
+            place = next;
+        }
+        None
+    }
+
+    #[inline(always)]
+    fn gist(&self, state: u32) -> Gist<'_> {
+        gist_of(self.tables, state)
+    }
+}
+
+/// What is told of the first rule that the state accepts.
+#[inline(always)]
+fn gist_of(tables: &Tables, state: u32) -> Gist<'_>
+    requires { state < states_of tables.now }
+    ensures { Gists (machine_of tables.now) state result }
+{
+    let Some(rule) = tables.accepts(state).first() else {
+        return Gist::NoRule;
+    };
+    let (cut, statements) = tables.rule(*rule);
+    if !matches!(cut, Cut::Whole) || 1 < statements.len() {
+        return Gist::Any;
+    }
+    match statements.first() {
+        None => Gist::Silent,
+        Some(Statement::Echo) => Gist::Echo,
+        Some(Statement::Print(bytes)) => Gist::Print(bytes.as_slice()),
+        Some(Statement::Begin(condition)) => Gist::Begin(*condition),
+        Some(_) => Gist::Any,
     }
 }

@@ -1,4 +1,5 @@
 use Rattle.std.proofs.Common.{rules, ◌≡◌, ◌+◌, ◌<◌, ℕ, suc, List, [], ◌∷◌, Some, length, map, drop, refl, sym, ap, subst, ◌∙◌, arith}
+use Rattle.std.proofs.lemmas.Grind.{common_steps}
 use Rattle.std.specs.Prelude.{slice_get}
 use Rattle.std.proofs.lemmas.List.{drop_more}
 use Rattle.lexmeaning.specs.Spec.{Rule}
@@ -54,3 +55,9 @@ loop-i-preserved c =
           (λ k d g h. c.in_ok-resize.ensures.by_index.1 k d refl (omega (arith, g, before)) (omega (arith, h, size)))
           c.loop-i.invariant.owners;
     }
+
+pub returns-clause-len : goal.returns-clause-len
+returns-clause-len c = grind (arith, common_steps)
+
+pub returns-clause-owners : goal.returns-clause-owners
+returns-clause-owners c = c.loop-i.invariant.owners

@@ -1,4 +1,5 @@
-use Rattle.std.proofs.Common.{rules, ◌≡◌, ◌+◌, ◌-◌, ◌<◌, ◌||◌, ◌++◌, ◌∷◌, [], Bool, List, length, sym, ◌∙◌, ap}
+use Rattle.std.proofs.Common.{rules, arith, ◌≡◌, ◌+◌, ◌-◌, ◌<◌, ◌||◌, ◌++◌, ◌∷◌, [], Bool, List, length, sym, ◌∙◌, ap}
+use Rattle.std.proofs.lemmas.Grind.{common_steps}
 use Rattle.lexmeaning.specs.Positions.{positions}
 use Rattle.lexmeaning.specs.ByteSets.{ByteSet}
 use Rattle.lexmeaning.specs.Tree.{Set}
@@ -37,3 +38,9 @@ list-returns-in_ok-push-in-Letter-clause-letters t c = λ b q.
     let more : c.push.new.self.items ≡ c.args.letters.now.items ++ c.in-Letter.set ∷ [] = c.in_ok-push-in-Letter.ensures.items in
     ap (λ (xs : List ByteSet). reads_at xs b q 0) more
     ∙ reads_letter c.args.letters.now.items c.in-Letter.set (tree_in (plan_of c.args.part.now)) is b q
+
+pub list_each-loop-part-preserved : goal.list_each-loop-part-preserved
+list_each-loop-part-preserved t c = record {
+  count = grind (arith, common_steps, c.loop-part.invariant.count);
+  told = λ b q. grind (arith, common_steps, c.loop-part.invariant.told b q, c.in_ok-list.ensures.letters b q);
+}

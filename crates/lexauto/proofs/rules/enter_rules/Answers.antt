@@ -1,4 +1,5 @@
 use Rattle.std.proofs.Common.{rules, ◌≡◌, ◌≤◌, ◌+◌, ◌||◌, ℕ, Bool, false, List, [], length, map, drop, arith, sym, subst, ◌∙◌}
+use Rattle.std.proofs.lemmas.Grind.{common_steps}
 use Rattle.lexmeaning.specs.Active.{lists}
 use Rattle.lexmeaning.specs.Spec.{Rule}
 use Rattle.lexmeaning.specs.Subsets.{all_positions}
@@ -25,3 +26,11 @@ returns c =
     let told : (q : ℕ) → lists next q ≡ f q = λ q.
     sym (or_false (lists next q)) ∙ subst (λ (rs : List Rule). (lists next q || rules_enter rs (flag c.args.on.now) (λ _. false) q i base) ≡ f q) none (c.loop-i.invariant.told q) in
     front_listed next (all_positions all) f (subst (λ (n : ℕ). IsFront next n) end c.loop-i.invariant.front) told
+
+pub loop-i-preserved : goal.loop-i-preserved
+loop-i-preserved c = record {
+  sized = grind (arith, common_steps);
+  place = grind (arith, common_steps, c.loop-i.invariant.place);
+  front = grind (arith, common_steps);
+  told = λ q. grind (arith, common_steps, c.loop-i.invariant.told q);
+}

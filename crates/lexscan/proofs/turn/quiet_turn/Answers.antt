@@ -12,6 +12,7 @@ use Rattle.lexscan.specs.Moves.{Matched, Finished, Refused, Why, StackFaulted, S
 use Rattle.lexscan.specs.Stands.{NoneAfterEnd, GoesOn, Stands, Fell}
 use Rattle.lexscan.proofs.Refusing as Fall
 use Rattle.lexscan.proofs.Ranging as Range
+use Rattle.lexscan.proofs.Barrens.{true_moved}
 use Rattle.lexscan.proofs.Stepping as Go
 use Rattle.lexscan.proofs.turn.quiet_turn.Goals as goal
 
@@ -166,3 +167,6 @@ returns-in-Ok-clause-stack g c _ =
     let old : State = c.args.state.now in
     (Range.conditions_below (g.M.Machine.machine c.args.machine.now) (g.M.Machine.laws c.args.machine.now) g.S.Source.gave g.K.Sink.wrote _ _ _ _ old c.go_last.new.state c.in-Ok.turn c.in-Ok.ensures.moved
     (c.requires.condition, c.requires.stack)).1
+
+pub returns-in-Ok-clause-marks : goal.returns-in-Ok-clause-marks
+returns-in-Ok-clause-marks g c ms h _ = true_moved (g.M.Machine.machine c.args.machine.now) g.S.Source.gave g.K.Sink.wrote _ _ _ _ c.args.state.now c.go_last.new.state ms (Ok c.in-Ok.turn) c.in-Ok.ensures.moved h

@@ -1,5 +1,6 @@
 use Rattle.std.proofs.Common.{◌≡◌, ◌+◌, ◌<◌, ◌≤◌, length, None, false, true}
 use Rattle.lexmeaning.specs.Text.{AllBelow}
+use Rattle.lexscan.specs.Memos.{AreTrue}
 use Rattle.lexscan.specs.Reads.{end_step}
 use Rattle.lexscan.specs.Runs.{Running}
 use Rattle.lexscan.proofs.Lasting.{left_over}
@@ -17,6 +18,7 @@ invariant-turns g l =
       condition : l.state.spot.condition < M.conditions;
       inside : l.state.spot.at ≤ length l.state.reading.window.bytes;
       stack : AllBelow M.conditions l.state.acting.stack;
+      marks : AreTrue M l.state.reading l.memo;
       max_reads : l.state.reading.max_reads ≡ l.fn.state.reading.max_reads;
       running : Running M g.S.Source.gave g.K.Sink.wrote l.fn.intake.source.now l.intake.source.now l.fn.outlet.sink.now l.outlet.sink.now l.state;
       ends : g.S.Source.ends l.intake.source.now ≡ g.S.Source.ends l.fn.intake.source.now + end_step false l.state.reading.at_end;

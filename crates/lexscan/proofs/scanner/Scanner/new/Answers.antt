@@ -3,5 +3,5 @@ use Rattle.lexscan.proofs.scanner.Scanner.new.Goals as goal
 
 pub returns-clause-stands : goal.returns-clause-stands
 returns-clause-stands g c =
-    let e = c.new-4.ensures in
-    stands_first (g.M.Machine.machine c.args.machine.now) c.new-4.result e.failed e.held e.taken e.at_end e.at e.line_start e.condition e.stack e.ended
+    let e = c.new-5.ensures in
+    stands_first (g.M.Machine.machine c.args.machine.now) c.new-5.result e.failed e.held e.taken e.at_end e.at e.line_start e.condition e.stack e.ended

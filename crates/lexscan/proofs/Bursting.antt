@@ -1,0 +1,467 @@
+-- Turns over a text that the source has ready.
+use Rattle.std.proofs.Common.{◌≡◌, ℕ, suc, ◌+◌, ◌-◌, ◌≤◌, ◌<◌, Bool, true, false, List, [], ◌∷◌, ◌++◌, length, take, drop, get_or, ◌⊎◌, inl, inr, Some, None, refl, sym, ◌∙◌, ap, subst, arith}
+use Rattle.std.specs.Prelude.{max, nat_eq, filter_map, ⊤}
+use Rattle.std.proofs.lemmas.List.{append-nil, append_assoc, length-drop, length-take-le, get_or-take, take-take, take-append-drop, drop-take, drop-append-le, drop-drop, drop_all}
+use Rattle.lexmeaning.specs.Text.{IsText, Among, BeginsWith}
+use Rattle.lexmeaning.specs.Spec as S
+use Rattle.lexmeaning.specs.Candidates.{Candidate}
+use Rattle.lexmeaning.specs.Acting as Scan
+use Rattle.lexmeaning.specs.Acting.{act, settle}
+use Rattle.lexmeaning.specs.Machine.{Machine, walk}
+use Rattle.lexmeaning.specs.MachineLaws.{MachineLaws}
+use Rattle.lexmeaning.specs.PlainMachine.{kept_by, match_of}
+use Rattle.lexmeaning.specs.Plain.{default_match}
+use Rattle.lexmeaning.specs.Trail.{falling}
+use Rattle.lexmeaning.proofs.Texts.{is_text_take, is_text_drop}
+use Rattle.lexmeaning.proofs.Actions.{BeginsBelow, begins_below}
+use Rattle.lexmachine.specs.declared.glance.Way.{Way}
+use Rattle.lexmachine.specs.declared.glance.Gist.{Gist}
+use Rattle.lexmachine.specs.declared.glance.Gist.TheVariants.{Any, NoRule, Silent, Echo, Print, Begin}
+use Rattle.lexmachine.specs.Glances.{Leads, FirstDoes, Gists}
+use Rattle.lexscan.specs.declared.state.State.{State}
+use Rattle.lexscan.specs.declared.state.Reading.{Reading}
+use Rattle.lexscan.specs.declared.state.Spot.{Spot}
+use Rattle.lexscan.specs.declared.act.Acting.{Acting}
+use Rattle.lexscan.specs.declared.act.Step.{Step}
+use Rattle.lexscan.specs.declared.turn.Turn.{Turn}
+use Rattle.lexscan.specs.declared.burst.Told.{Told}
+use Rattle.lexscan.specs.declared.error.RunError.TheVariants.{Write, Stack, TooManyReads}
+use Rattle.lexscan.specs.Acts.{acting_of, after_step, written_of}
+use Rattle.lexscan.specs.Descends.{Conditions, conditions_in, outcome, matches_of, Performed, CutAll}
+use Rattle.lexscan.specs.Sees.{SoFar, Saw}
+use Rattle.lexscan.specs.Picks.{trail_of, state_at}
+use Rattle.lexscan.specs.Moves.{Matched, Refused}
+use Rattle.lexscan.specs.Stands.{Stands, Fell}
+use Rattle.lexscan.specs.Bursts.{statements_in, is_told, condition_after, written_by, Between, AllStand, Went, Broke, Tells}
+use Rattle.lexscan.proofs.Descending as Down
+use Rattle.lexscan.proofs.Descending.{one_match, start_of, head_outcome, statements_are, settled}
+use Rattle.lexscan.proofs.Picking.{falling_last}
+use Rattle.lexscan.proofs.Stepping as Go
+use Rattle.lexscan.proofs.Refusing as Fall
+
+-- the bytes from a place on, up to one that is further on
+module _ (text : List ℕ) (c far far' : ℕ) (le : c ≤ far) (more : far ≤ far') (inside : far' ≤ length text) where
+  pub whole : take far' text ≡ take far text ++ drop far (take far' text)
+  whole = sym (take-append-drop far (take far' text)) ∙ ap (λ l. l ++ drop far (take far' text)) (take-take far far' text more)
+
+  pub grows : drop c (take far' text) ≡ drop c (take far text) ++ drop far (take far' text)
+  grows = ap (drop c) whole ∙ drop-append-le c (take far text) (drop far (take far' text)) (omega (arith, le, more, inside, length-take-le far text (omega (arith, more, inside))))
+
+  pub grown_by : length (drop far (take far' text)) ≡ far' - far
+  grown_by = length-drop far (take far' text) ∙ ap (λ n. n - far) (length-take-le far' text inside)
+
+  pub size_from : length (drop c (take far' text)) ≡ far' - c
+  size_from = length-drop c (take far' text) ∙ ap (λ n. n - c) (length-take-le far' text inside)
+
+  pub size_before : length (drop c (take far text)) ≡ far - c
+  size_before = length-drop c (take far text) ∙ ap (λ n. n - c) (length-take-le far text (omega (arith, more, inside)))
+
+  pub front_is : (i : ℕ) → c + i ≤ far' → take i (drop c (take far' text)) ≡ take i (drop c text)
+  front_is i le' =
+      let e : c + (far' - c) ≡ far' = omega (arith, le, more) in
+      ap (take i) (ap (λ n. drop c (take n text)) (sym e) ∙ drop-take c (far' - c) text) ∙ take-take i (far' - c) (drop c text) (omega (arith, le'))
+
+-- what is told of a state's first rule
+gist_first : (M : Machine) (s : ℕ) (g : Gist) → is_told g ≡ true → Gists M s g → FirstDoes M s (statements_in g)
+gist_first M s Any is h = absurd (no is)
+  where
+    no : false ≡ true → ⊥
+    no e = cc
+gist_first M s NoRule is h = absurd (no is)
+  where
+    no : false ≡ true → ⊥
+    no e = cc
+gist_first M s Silent is h = h
+gist_first M s Echo is h = h
+gist_first M s (Print bytes) is h = h
+gist_first M s (Begin c) is h = h
+
+-- The match of a walk is the first of all, and its rule does what is told.
+pub record Heads (M : Machine) (trail : List ℕ) (gist : Gist) (keep : ℕ) : Type 0 where
+  pub len : ℕ
+  pub rule : ℕ
+  pub others : List Candidate
+  pub first : falling M 0 trail ≡ record { len = len; rule = rule; keep = keep } ∷ others
+  pub below : rule < M.count
+  pub does : statements_in gist ≡ M.statements rule
+
+whole_kept : (M : Machine) (n i : ℕ) → M.cut i ≡ S.Whole → kept_by (M.cut i) n ≡ Some n
+whole_kept M n i e = ap (λ k. kept_by k n) e
+
+first_here : (M : Machine) (n s : ℕ) (g : Gist) (ms : List Candidate) → MachineLaws M → (f : FirstDoes M s (statements_in g)) → (l : List Candidate) → l ≡ filter_map (match_of M n) (M.accepts s) ++ ms →
+    (rest : List Candidate) × (l ≡ record { len = n; rule = f.rule; keep = n } ∷ rest)
+first_here M n s g ms laws f l e = (
+  filter_map (match_of M n) f.others ++ ms,
+  e ∙ ap (λ a. filter_map (match_of M n) a ++ ms) f.accepts ∙ ap (λ a. a ++ ms) (one_match M n f.rule n f.others (whole_kept M n f.rule f.whole)),
+)
+
+rule_below : (M : Machine) (s : ℕ) (ss : List S.Statement) → MachineLaws M → (f : FirstDoes M s ss) → f.rule < M.count
+rule_below M s ss laws f = laws.in_range s f.rule (subst (λ l. Among l f.rule) (sym f.accepts) (inl refl))
+
+-- a told rule leaves the condition in range
+pub told_below : (M : Machine) (laws : MachineLaws M) (s : ℕ) (g : Gist) (c : ℕ) → is_told g ≡ true → Gists M s g → c < M.conditions → condition_after g c < M.conditions
+told_below M laws s Any c is h lt = lt
+told_below M laws s NoRule c is h lt = lt
+told_below M laws s Silent c is h lt = lt
+told_below M laws s Echo c is h lt = lt
+told_below M laws s (Print bytes) c is h lt = lt
+told_below M laws s (Begin d) c is h lt =
+    let legal = laws.legal h.rule (rule_below M s (S.Begin d ∷ []) laws h) in
+    (subst (λ ss. BeginsBelow M.conditions ss) h.does (begins_below M.conditions (M.statements h.rule) legal.ranges)).0
+
+-- where the action of what is told ends
+abbrev pub told_acting : Gist → ℕ → Conditions → Acting
+told_acting g keep c = record { end = 0 + keep; condition = condition_after g c.next; stack = c.stack; more = false }
+
+-- the statements that are told, over a text
+act_told : (w : List ℕ) (g : Gist) (keep : ℕ) (c : Conditions) (before : List ℕ) → is_told g ≡ true →
+    act (statements_in g) (acting_of w (start_of 0 keep c) before) ≡ after_step Step.Next [] (acting_of w (told_acting g keep c) (before ++ written_by g (take (0 + keep) w)))
+act_told w Any keep c before is = absurd (no is)
+  where
+    no : false ≡ true → ⊥
+    no e = cc
+act_told w NoRule keep c before is = absurd (no is)
+  where
+    no : false ≡ true → ⊥
+    no e = cc
+act_told w Silent keep c before is = ap (λ b. after_step Step.Next [] (acting_of w (start_of 0 keep c) b)) (sym (append-nil before))
+act_told w Echo keep c before is = refl
+act_told w (Print bytes) keep c before is = refl
+act_told w (Begin d) keep c before is = ap (λ b. after_step Step.Next [] (acting_of w (told_acting (Begin d) keep c) b)) (sym (append-nil before))
+
+-- what is written before a fault is a front of it
+said_front : (w : List ℕ) (g : Gist) (keep : ℕ) (c : Conditions) (before front : List ℕ) → is_told g ≡ true → BeginsWith (written_by g (take (0 + keep) w)) front →
+    BeginsWith (written_of (act (statements_in g) (acting_of w (start_of 0 keep c) before))) (before ++ front)
+said_front w g keep c before front is (rest, e) = (
+  rest,
+  ap written_of (act_told w g keep c before is) ∙ ap (λ l. before ++ l) e ∙ sym (append_assoc before front rest),
+)
+
+module _ (M : Machine) (laws : MachineLaws M) (text : List ℕ) (bytes : IsText text) (c far cond : ℕ) (line : Bool) (way : Way) (told : Told) (le : c ≤ far) (inside : far ≤ length text)
+    (leads : Leads M (M.start cond line) (drop c text) way) (tells : Tells M way told) (is : is_told told.gist ≡ true) where
+  -- how far is asked for then
+  abbrev pub beyond : ℕ
+  beyond = max far (c + way.count)
+
+  -- what is held then, from the start of the match on
+  abbrev pub w : List ℕ
+  w = drop c (take beyond text)
+
+  abbrev pub p : Spot
+  p = record { at = 0; line_start = line; condition = cond }
+
+  abbrev pub trail : List ℕ
+  trail = trail_of M p w way.count
+
+  reaches : c + way.count ≤ length text
+  reaches = omega (arith, leads.inside, length-drop c text, leads.some, le, inside)
+
+  pub far_beyond : far ≤ beyond
+  far_beyond = omega arith
+
+  pub inside_beyond : beyond ≤ length text
+  inside_beyond = omega (arith, reaches, inside)
+
+  within : way.count ≤ length w
+  within = let s = size_from text c far beyond le far_beyond inside_beyond in omega (arith, s)
+
+  front_here : (i : ℕ) → i ≤ way.count → take i w ≡ take i (drop c text)
+  front_here i less = front_is text c far beyond le far_beyond inside_beyond i (omega (arith, less))
+
+  state_here : way.state ≡ state_at M p w way.count
+  state_here = leads.state_is ∙ ap (walk M (M.start cond line)) (sym (front_here way.count (omega arith)))
+
+  before_here : way.before ≡ state_at M p w (way.count - 1)
+  before_here = leads.before_is ∙ ap (walk M (M.start cond line)) (sym (front_here (way.count - 1) (omega arith)))
+
+  so_far : SoFar M p (drop p.at w) way.count way.state trail
+  so_far = record {
+    inside = within;
+    state_is = state_here;
+    asked = λ i some less. subst (λ l. M.goes_on (walk M (M.start cond line) l) ≡ true) (sym (front_here i (omega (arith, less)))) (leads.asked i some less);
+    trail_is = refl;
+  }
+
+  heads : Heads M trail told.gist told.keep
+  heads = from tells
+    where
+      from : ((told.keep ≡ way.count) × Gists M way.state told.gist) ⊎ ((1 < way.count) × (told.keep + 1 ≡ way.count) × (M.accepts way.state ≡ []) × Gists M way.before told.gist) → Heads M trail told.gist told.keep
+      from (inl h) =
+          let f : FirstDoes M way.state (statements_in told.gist) = gist_first M way.state told.gist is h.1 in
+          let last = falling_last M p w way.count leads.some (omega (arith, within)) ∙ ap (λ s. filter_map (match_of M way.count) (M.accepts s) ++ falling M 0 (trail_of M p w (way.count - 1))) (sym state_here) in
+          let first = first_here M way.count way.state told.gist (falling M 0 (trail_of M p w (way.count - 1))) laws f (falling M 0 trail) last in
+          record {
+            len = way.count;
+            rule = f.rule;
+            others = first.0;
+            first = first.1 ∙ ap (λ k. record { len = way.count; rule = f.rule; keep = k } ∷ first.0) (sym h.0);
+            below = rule_below M way.state (statements_in told.gist) laws f;
+            does = sym f.does;
+          }
+      from (inr h) =
+          let f : FirstDoes M way.before (statements_in told.gist) = gist_first M way.before told.gist is h.3 in
+          let n : ℕ = way.count - 1 in
+          let keeps : told.keep ≡ n = omega (arith, h.1) in
+          let some : 1 ≤ n = omega (arith, h.0) in
+          let last = falling_last M p w way.count leads.some (omega (arith, within)) ∙ ap (λ s. filter_map (match_of M way.count) (M.accepts s) ++ falling M 0 (trail_of M p w n)) (sym state_here)
+          ∙ ap (λ a. filter_map (match_of M way.count) a ++ falling M 0 (trail_of M p w n)) h.2 in
+          let last' = last ∙ falling_last M p w n some (omega (arith, within)) ∙ ap (λ s. filter_map (match_of M n) (M.accepts s) ++ falling M 0 (trail_of M p w (n - 1))) (sym before_here) in
+          let first = first_here M n way.before told.gist (falling M 0 (trail_of M p w (n - 1))) laws f (falling M 0 trail) last' in
+          record {
+            len = n;
+            rule = f.rule;
+            others = first.0;
+            first = first.1 ∙ ap (λ k. record { len = n; rule = f.rule; keep = k } ∷ first.0) (sym keeps);
+            below = rule_below M way.before (statements_in told.gist) laws f;
+            does = sym f.does;
+          }
+
+  pub keeps_some : (1 ≤ told.keep) × (told.keep ≤ way.count)
+  keeps_some = from tells
+    where
+      from : ((told.keep ≡ way.count) × Gists M way.state told.gist) ⊎ ((1 < way.count) × (told.keep + 1 ≡ way.count) × (M.accepts way.state ≡ []) × Gists M way.before told.gist) → (1 ≤ told.keep) × (told.keep ≤ way.count)
+      from (inl h) = (omega (arith, h.0, leads.some), omega (arith, h.0))
+      from (inr h) = (omega (arith, h.0, h.1), omega (arith, h.1))
+
+  pub condition_below : cond < M.conditions → condition_after told.gist cond < M.conditions
+  condition_below lt = from tells
+    where
+      from : ((told.keep ≡ way.count) × Gists M way.state told.gist) ⊎ ((1 < way.count) × (told.keep + 1 ≡ way.count) × (M.accepts way.state ≡ []) × Gists M way.before told.gist) → condition_after told.gist cond < M.conditions
+      from (inl h) = told_below M laws way.state told.gist cond is h.1 lt
+      from (inr h) = told_below M laws way.before told.gist cond is h.3 lt
+
+  said_here : take (0 + told.keep) w ≡ take told.keep (drop c text)
+  said_here = let e : 0 + told.keep ≡ told.keep = omega arith in ap (λ k. take k w) e ∙ front_here told.keep keeps_some.1
+
+  module _ {K : Type 0} (wrote : K → List ℕ → K → Type 0) (none : (s : K) → wrote s [] s) (join : (s t u : K) (xs ys : List ℕ) → wrote s xs t → wrote t ys u → wrote s (xs ++ ys) u) (t u : K) (stack : List ℕ) where
+    abbrev cs : Conditions
+    cs = record { next = cond; stack = stack }
+
+    abbrev performed : wrote t (written_by told.gist (take told.keep (drop c text))) u → Performed M wrote t u w 0 (matches_of M w 0 trail) cs (told_acting told.gist told.keep cs) None
+    performed put =
+        let out : List ℕ = written_by told.gist (take (0 + told.keep) w) in
+        let rest : List Candidate = heads.others ++ default_match M.count (drop 0 w) in record {
+          out = out;
+          sink = subst (λ l. wrote t (written_by told.gist l) u) (sym said_here) put;
+          acts = λ before.
+              ap (λ l. outcome M w 0 (l ++ default_match M.count (drop 0 w)) before cs) heads.first
+              ∙ head_outcome M w 0 (record { len = heads.len; rule = heads.rule; keep = told.keep }) rest before cs
+              ∙ ap (λ l. settle (act l (acting_of w (start_of 0 told.keep cs) before)) (λ a. outcome M w 0 rest a.written (conditions_in a))) (statements_are M heads.rule heads.below ∙ sym heads.does)
+              ∙ ap (λ z. settle z (λ a. outcome M w 0 rest a.written (conditions_in a))) (act_told w told.gist told.keep cs before is)
+              ∙ settled Step.Next (acting_of w (told_acting told.gist told.keep cs) (before ++ out)) (λ a. outcome M w 0 rest a.written (conditions_in a)) (λ e. cc);
+        }
+
+    cut : (front : List ℕ) → BeginsWith (written_by told.gist (take told.keep (drop c text))) front → wrote t front u → (before : List ℕ) (o : Scan.Matched) →
+        outcome M w 0 (matches_of M w 0 trail) before cs ≡ Some o → BeginsWith o.after.written (before ++ front)
+    cut front begins put before o e =
+        let rest : List Candidate = heads.others ++ default_match M.count (drop 0 w) in
+        Down.cut_front M wrote none join w 0 t u (record { len = heads.len; rule = heads.rule; keep = told.keep }) rest cs (statements_in told.gist) (heads.does ∙ sym (statements_are M heads.rule heads.below))
+        (record { out = front; sink = put; front = λ b. said_front w told.gist told.keep cs b front is (subst (λ l. BeginsWith (written_by told.gist l) front) (sym said_here) begins) }) before o
+        (ap (λ l. outcome M w 0 (l ++ default_match M.count (drop 0 w)) before cs) (sym heads.first) ∙ e)
+
+    abbrev Nothing : ⊤ → List ℕ → ⊤ → Type 0
+    Nothing a xs b = ⊤
+
+    never : {P : Type 0} → false ≡ true → P
+    never e = absurd (no e)
+      where
+        no : false ≡ true → ⊥
+        no q = cc
+
+    -- the state before the match, made of one after it
+    abbrev was : (v : State) (taken : ℕ) → taken ≤ v.reading.max_reads → State
+    was v taken few = record v {
+      reading = record v.reading { window = record { bytes = drop c (take far text); room = true; ahead = [] }; taken = taken; at_end = false; few_reads = few };
+      spot = p;
+      acting = record v.acting { stack = stack };
+      ended = None;
+      failed = false;
+    }
+
+    abbrev got : List ℕ
+    got = drop far (take beyond text)
+
+    -- the turn was carried out
+    pub step : wrote t (written_by told.gist (take told.keep (drop c text))) u → (line' : Bool) → line' ≡ nat_eq (get_or (take told.keep (drop c text)) (told.keep - 1) 0) 10 → (n taken : ℕ) (given before : List ℕ) →
+        AllStand M n given before (drop c (take far text)) taken cond line stack →
+        AllStand M (suc n) (given ++ drop far (take beyond text)) (before ++ written_by told.gist (take told.keep (drop c text))) (drop (c + told.keep) (take beyond text)) (taken + (beyond - far)) (condition_after told.gist cond) line' stack
+    step put line' starts n taken given before all v b works =
+        let few : taken ≤ v.reading.max_reads = let all = v.reading.few_reads in omega (arith, all, b.taken_is) in
+        let old : State = was v taken few in
+        let h : Stands M n given before old = all old (record { bytes_are = refl; taken_is = refl; at_end = refl; at = refl; line_is = refl; condition_is = refl; stack_is = refl; going = refl }) refl in
+        let mid : Reading = record v.reading { window = record { bytes = w; room = true; ahead = [] } } in
+        let size = grown_by text c far beyond le far_beyond inside_beyond in
+        let did = performed put in
+        let m : Matched M Nothing wrote tt tt t u (record old { failed = true }) v Turn.Went = record {
+          mid = mid;
+          took = record {
+            got = got;
+            source = tt;
+            text = is_text_drop far (take beyond text) (is_text_take beyond text bytes);
+            held = grows text c far beyond le far_beyond inside_beyond;
+            taken = b.taken_is ∙ ap (λ k. taken + k) (sym size);
+            nothing = never;
+            end_stays = never;
+            max_reads = refl;
+          };
+          trail = trail;
+          saw = record {
+            reach = way.count;
+            some = leads.some;
+            state = way.state;
+            so_far = so_far;
+            size = (let a = size_from text c far beyond le far_beyond inside_beyond in let z = size_before text c far beyond le far_beyond inside_beyond in omega (arith, a, z, le));
+            stops = inl (leads.stops, b.at_end);
+          };
+          acted = record {
+            acting = told_acting told.gist told.keep cs;
+            ended = None;
+            performed = did;
+            inside = omega (arith, within, keeps_some.1);
+            left = record {
+              held = b.bytes_are ∙ sym (drop-drop told.keep c (take beyond text)) ∙ (let e : told.keep ≡ 0 + told.keep = omega arith in ap (λ k. drop k w) e);
+              at = b.at;
+              line = λ some. b.line_is ∙ starts ∙ (let e : told.keep - 1 ≡ 0 + told.keep - 1 = omega arith in ap (λ k. nat_eq (get_or (take told.keep (drop c text)) k 0) 10) e ∙ last_byte);
+              condition = b.condition_is;
+              stack = b.stack_is;
+            };
+            says = refl;
+            same = record { taken = refl; at_end = refl };
+            is_ended = λ e h. b.going ∙ h;
+          };
+        } in
+        let stands : Stands M (suc n) (given ++ got) (before ++ did.out) (record v { failed = false }) = Go.matched_stands M laws Nothing wrote tt tt t u n given before old v Turn.Went refl h m b.going in
+        let stands' : Stands M (suc n) (given ++ got) (before ++ did.out) v = subst (λ f. Stands M (suc n) (given ++ got) (before ++ did.out) (record v { failed = f })) (sym works) stands in
+        subst (λ l. Stands M (suc n) (given ++ got) (before ++ written_by told.gist l) v) said_here stands'
+      where
+        last_byte : nat_eq (get_or (take told.keep (drop c text)) (0 + told.keep - 1) 0) 10 ≡ nat_eq (get_or w (0 + told.keep - 1) 0) 10
+        last_byte = ap (λ l. nat_eq (get_or l (0 + told.keep - 1) 0) 10) (sym (front_here told.keep keeps_some.1)) ∙ ap (λ b. nat_eq b 10) (get_or-take told.keep w (0 + told.keep - 1) 0 (omega (arith, keeps_some.0)))
+
+    -- the sink failed in it
+    pub broke : (front : List ℕ) → BeginsWith (written_by told.gist (take told.keep (drop c text))) front → wrote t front u → (n taken : ℕ) (given before : List ℕ) → AllStand M n given before (drop c (take far text)) taken cond line stack →
+        (v : State) → Between v (drop c (take beyond text)) (taken + (beyond - far)) cond line stack → v.failed ≡ true → Fell M n given (drop far (take beyond text)) (before ++ front) v Write
+    broke front begins put n taken given before all v b bad =
+        let few : taken ≤ v.reading.max_reads = let all = v.reading.few_reads in omega (arith, all, b.taken_is) in
+        let old : State = was v taken few in
+        let h : Stands M n given before old = all old (record { bytes_are = refl; taken_is = refl; at_end = refl; at = refl; line_is = refl; condition_is = refl; stack_is = refl; going = refl }) refl in
+        let size = grown_by text c far beyond le far_beyond inside_beyond in
+        let saw : Saw M p old.reading v.reading (trail_of M p v.reading.window.bytes way.count) = record {
+          reach = way.count;
+          some = leads.some;
+          state = way.state;
+          so_far = subst (λ z. SoFar M p (drop p.at z) way.count way.state (trail_of M p z way.count)) (sym b.bytes_are) so_far;
+          size = (let a = size_from text c far beyond le far_beyond inside_beyond in let z = size_before text c far beyond le far_beyond inside_beyond in let e = ap length b.bytes_are in omega (arith, a, z, e, le));
+          stops = inl (leads.stops, b.at_end);
+        } in
+        let short : CutAll M wrote t u v.reading.window.bytes 0 (matches_of M v.reading.window.bytes 0 (trail_of M p v.reading.window.bytes way.count)) cs = record {
+          out = front;
+          sink = put;
+          front = subst (λ z. (before : List ℕ) (o : Scan.Matched) → outcome M z 0 (matches_of M z 0 (trail_of M p z way.count)) before cs ≡ Some o → BeginsWith o.after.written (before ++ front)) (sym b.bytes_are) (cut front begins put);
+        } in
+        let m : Refused M Nothing wrote tt tt t u (record old { failed = true }) v Write = record {
+          took = record {
+            got = got;
+            source = tt;
+            text = is_text_drop far (take beyond text) (is_text_take beyond text bytes);
+            held = b.bytes_are ∙ grows text c far beyond le far_beyond inside_beyond;
+            taken = b.taken_is ∙ ap (λ k. taken + k) (sym size);
+            nothing = never;
+            end_stays = never;
+            max_reads = refl;
+          };
+          spot = λ i. record { at = b.at i; line_start = b.line_is i; condition = b.condition_is i };
+          why = inr (inl (trail_of M p v.reading.window.bytes way.count, saw, short));
+          fault = λ e. absurd (not_stack e);
+        } in
+        Fall.fell M laws Nothing wrote tt tt t u n given before old v Write refl h m bad (λ e. absurd (not_many e)) short.out
+        (Fall.match_front M laws Nothing wrote tt tt t u n given before old v Write refl h m (trail_of M p v.reading.window.bytes way.count) saw short)
+        (Fall.match_within M laws Nothing wrote tt tt t u n given before old v Write refl h m (trail_of M p v.reading.window.bytes way.count) saw) (λ e. absurd (not_stack e))
+      where
+        not_stack : Write ≡ Stack → ⊥
+        not_stack e = cc
+
+        not_many : Write ≡ TooManyReads → ⊥
+        not_many e = cc
+
+-- no turn yet
+pub went_none : {K : Type 0} (M : Machine) (wrote : K → List ℕ → K → Type 0) (t : K) (text : List ℕ) (held cond : ℕ) (line : Bool) → held ≤ length text → wrote t [] t → Went M wrote t t text held cond line 0 held cond line
+went_none M wrote t text held cond line inside none = record {
+  turns = 0;
+  out = [];
+  sink = none;
+  stand = λ n given before taken stack all v b works.
+      let nothing : drop held (take held text) ≡ [] = drop_all held (take held text) (omega (arith, length-take-le held text inside)) in
+      subst (λ l. Stands M (0 + n) (given ++ l) (before ++ []) v) (sym nothing)
+      (subst (λ l. Stands M (0 + n) l (before ++ []) v) (sym (append-nil given))
+      (subst (λ l. Stands M (0 + n) given l v) (sym (append-nil before))
+      (subst (λ k. Stands M k given before v) (omega arith)
+      (all v (record {
+        bytes_are = b.bytes_are;
+        taken_is = b.taken_is ∙ omega arith;
+        at_end = b.at_end;
+        at = b.at;
+        line_is = b.line_is;
+        condition_is = b.condition_is;
+        stack_is = b.stack_is;
+        going = b.going;
+      }) works))));
+}
+
+module _ (M : Machine) (laws : MachineLaws M) (text : List ℕ) (bytes : IsText text) (held cond0 : ℕ) (line0 : Bool) (c far cond : ℕ) (line : Bool) (way : Way) (told : Told) (first : held ≤ far) (le : c ≤ far) (inside : far ≤ length text)
+    (leads : Leads M (M.start cond line) (drop c text) way) (tells : Tells M way told) (is : is_told told.gist ≡ true)
+    {K : Type 0} (wrote : K → List ℕ → K → Type 0) (none : (s : K) → wrote s [] s) (join : (s t u : K) (xs ys : List ℕ) → wrote s xs t → wrote t ys u → wrote s (xs ++ ys) u) (s t u : K) (went : Went M wrote s t text held cond0 line0 c far cond line) where
+  abbrev next : ℕ
+  next = max far (c + way.count)
+
+  all_given : (given : List ℕ) → (given ++ drop held (take far text)) ++ drop far (take next text) ≡ given ++ drop held (take next text)
+  all_given given =
+      append_assoc given (drop held (take far text)) (drop far (take next text))
+      ∙ ap (λ l. given ++ l) (sym (grows text held far next first (far_beyond M laws text bytes c far cond line way told le inside leads tells is) (inside_beyond M laws text bytes c far cond line way told le inside leads tells is)))
+
+  -- one turn more
+  pub went_more : wrote t (written_by told.gist (take told.keep (drop c text))) u → (line' : Bool) → line' ≡ nat_eq (get_or (take told.keep (drop c text)) (told.keep - 1) 0) 10 →
+      Went M wrote s u text held cond0 line0 (c + told.keep) next (condition_after told.gist cond) line'
+  went_more put line' starts = record {
+    turns = suc went.turns;
+    out = went.out ++ written_by told.gist (take told.keep (drop c text));
+    sink = join s t u went.out (written_by told.gist (take told.keep (drop c text))) went.sink put;
+    stand = λ n given before taken stack all v b works.
+        let h = step M laws text bytes c far cond line way told le inside leads tells is wrote none join t u stack put line' starts (went.turns + n) (taken + (far - held)) (given ++ drop held (take far text)) (before ++ went.out)
+        (went.stand n given before taken stack all) v (record {
+          bytes_are = b.bytes_are;
+          taken_is = b.taken_is ∙ omega (arith, first);
+          at_end = b.at_end;
+          at = b.at;
+          line_is = b.line_is;
+          condition_is = b.condition_is;
+          stack_is = b.stack_is;
+          going = b.going;
+        }) works in
+        subst (λ k. Stands M k (given ++ drop held (take next text)) (before ++ (went.out ++ written_by told.gist (take told.keep (drop c text)))) v) (omega arith)
+        (subst (λ l. Stands M (suc (went.turns + n)) l (before ++ (went.out ++ written_by told.gist (take told.keep (drop c text)))) v) (all_given given)
+        (subst (λ l. Stands M (suc (went.turns + n)) ((given ++ drop held (take far text)) ++ drop far (take next text)) l v) (append_assoc before went.out (written_by told.gist (take told.keep (drop c text)))) h));
+  }
+
+  -- the sink failed in it
+  pub broke_then : (front : List ℕ) → BeginsWith (written_by told.gist (take told.keep (drop c text))) front → wrote t front u → Broke M wrote s u text held cond0 line0 c next cond line
+  broke_then front begins put = record {
+    turns = went.turns;
+    out = went.out ++ front;
+    sink = join s t u went.out front went.sink put;
+    before = far;
+    few = first;
+    more = far_beyond M laws text bytes c far cond line way told le inside leads tells is;
+    fell = λ n given before taken stack all v b bad.
+        subst (λ l. Fell M (went.turns + n) (given ++ drop held (take far text)) (drop far (take next text)) l v Write) (append_assoc before went.out front)
+        (broke M laws text bytes c far cond line way told le inside leads tells is wrote none join t u stack front begins put (went.turns + n) (taken + (far - held)) (given ++ drop held (take far text)) (before ++ went.out)
+        (went.stand n given before taken stack all) v (record {
+          bytes_are = b.bytes_are;
+          taken_is = b.taken_is ∙ omega (arith, first);
+          at_end = b.at_end;
+          at = b.at;
+          line_is = b.line_is;
+          condition_is = b.condition_is;
+          stack_is = b.stack_is;
+          going = b.going;
+        }) bad);
+  }

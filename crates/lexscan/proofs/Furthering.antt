@@ -1,0 +1,101 @@
+-- What several turns leave.
+use Rattle.std.proofs.Common.{◌≡◌, ℕ, ◌+◌, ◌-◌, ◌≤◌, Bool, true, false, List, [], ◌++◌, length, take, drop, None, sym, ◌∙◌, ap, subst, arith}
+use Rattle.std.proofs.lemmas.List.{append-nil, length-append, length-take-le, take-take}
+use Rattle.std.proofs.Math.Seq.{take-append_seam, drop-append_seam}
+use Rattle.lexmeaning.specs.Text.{at_line_start}
+use Rattle.lexmeaning.specs.Scanned.{Scanned}
+use Rattle.lexmeaning.specs.Machine.{Machine, rules_of_machine}
+use Rattle.lexmeaning.proofs.Texts.{take_past}
+use Rattle.lexscan.specs.declared.state.State.{State}
+use Rattle.lexscan.specs.declared.error.RunError.TheVariants.{Write}
+use Rattle.lexscan.specs.Descends.{ending_of}
+use Rattle.lexscan.specs.Stands.{state_of, Stands, Fell}
+use Rattle.lexscan.specs.Bursts.{Between, AllStand, Went, Broke}
+
+-- what is known of a state is known of each that stands as it does
+pub stands_all : (M : Machine) (n : ℕ) (given out : List ℕ) (old : State) (bytes : List ℕ) → old.reading.window.bytes ≡ bytes → old.reading.at_end ≡ false → old.spot.at ≡ 0 → old.ended ≡ None → Stands M n given out old →
+    AllStand M n given out bytes old.reading.taken old.spot.condition old.spot.line_start old.acting.stack
+stands_all M n given out old bytes held reading at going h v b works = record {
+  works = works;
+  start = h.start;
+  scanned = subst (λ e. Scanned (rules_of_machine M) given e n (state_of out h.start v)) (reading ∙ sym b.at_end)
+      (subst (Scanned (rules_of_machine M) given old.reading.at_end n)
+      (λ i. record { written = out; place = record { start = h.start; at = h.start + (at ∙ sym b.at) i; condition = sym b.condition_is i; stack = sym b.stack_is i }; ended = ending_of ((going ∙ sym b.going) i) }) h.scanned);
+  text = h.text;
+  covered = omega (arith, h.covered, at, b.at);
+  held = b.bytes_are ∙ sym held ∙ h.held;
+  line = b.line_is ∙ h.line ∙ ap (λ k. at_line_start given (h.start + k)) (at ∙ sym b.at);
+  taken = b.taken_is ∙ h.taken;
+}
+
+-- a text made of the bytes held and of those that are ready
+module _ (text held ready : List ℕ) (shown asked : ℕ) (is : text ≡ held ++ take shown ready) (few : shown ≤ length ready) (low : length held ≤ asked) (high : asked ≤ length text) where
+  pub held_first : take (length held) text ≡ held
+  held_first = ap (take (length held)) is ∙ take-append_seam held (take shown ready)
+
+  pub asked_first : take asked text ≡ held ++ take (asked - length held) ready
+  asked_first =
+      let size : length text ≡ length held + shown = ap length is ∙ length-append held (take shown ready) ∙ ap (λ k. length held + k) (length-take-le shown ready few) in
+      let e : asked ≡ length held + (asked - length held) = omega (arith, low) in
+      ap (take asked) is ∙ ap (λ k. take k (held ++ take shown ready)) e ∙ take_past held (take shown ready) (asked - length held)
+      ∙ ap (λ l. held ++ l) (take-take (asked - length held) shown ready (omega (arith, size, high)))
+
+  pub got_after : drop (length held) (take asked text) ≡ take (asked - length held) ready
+  got_after = ap (drop (length held)) asked_first ∙ drop-append_seam held (take (asked - length held) ready)
+
+pub given_all : (text held ready : List ℕ) (h shown asked : ℕ) → h ≡ length held → text ≡ held ++ take shown ready → shown ≤ length ready → h ≤ asked → asked ≤ length text → take (asked - h) ready ≡ drop h (take asked text)
+given_all text held ready h shown asked size is few low high =
+    sym (ap (λ k. drop k (take asked text)) size ∙ got_after text held ready shown asked is few (omega (arith, low, size)) high ∙ ap (λ k. take (asked - k) ready) (sym size))
+
+-- the bytes that are accepted are those that are ready
+pub accepted : (text held bytes ahead given ready : List ℕ) (h shown asked done : ℕ) → h ≡ length held → text ≡ held ++ take shown ready → shown ≤ length ready → asked ≤ length text → bytes ≡ held → ahead ≡ take shown given → given ≡ ready →
+    drop done (bytes ++ take (asked - h) ahead) ≡ drop done (held ++ take (asked - h) ready)
+accepted text held bytes ahead given ready h shown asked done size is few high e f g =
+    let all : length text ≡ length held + shown = ap length is ∙ length-append held (take shown ready) ∙ ap (λ k. length held + k) (length-take-le shown ready few) in
+    ap (λ l. drop done (l ++ take (asked - h) ahead)) e ∙ ap (λ l. drop done (held ++ take (asked - h) l)) (f ∙ ap (take shown) g) ∙ ap (λ l. drop done (held ++ l)) (take-take (asked - h) shown ready (omega (arith, all, size, high)))
+
+-- nothing was done
+pub no_further : (M : Machine) (n : ℕ) (given out : List ℕ) (s : State) → Stands M n given out s → Stands M (0 + n) (given ++ []) (out ++ []) s
+no_further M n given out s h = subst (λ l. Stands M (0 + n) l (out ++ []) s) (sym (append-nil given)) (subst (λ l. Stands M (0 + n) given l s) (sym (append-nil out)) (subst (λ k. Stands M k given out s) (omega arith) h))
+
+-- the turns of a burst, over a state and the one after it
+module _ (M : Machine) (old new : State) (text ready : List ℕ) (h shown asked done condition : ℕ) (line : Bool) (size : h ≡ length old.reading.window.bytes) (is : text ≡ old.reading.window.bytes ++ take shown ready) (few : shown ≤ length ready)
+    (low : h ≤ asked) (high : asked ≤ length text) (held_is : new.reading.window.bytes ≡ drop done (old.reading.window.bytes ++ take (asked - h) ready)) (taken_is : new.reading.taken ≡ old.reading.taken + (asked - h)) (reading : old.reading.at_end ≡ false)
+    (at_end : new.reading.at_end ≡ false) (begins : old.spot.at ≡ 0) (at : new.spot.at ≡ 0) (line_is : new.spot.line_start ≡ line) (condition_is : new.spot.condition ≡ condition) (stack_is : new.acting.stack ≡ old.acting.stack) (going : old.ended ≡ None)
+    (goes : new.ended ≡ None) {K : Type 0} (wrote : K → List ℕ → K → Type 0) (t u : K) where
+  abbrev bytes : List ℕ
+  bytes = old.reading.window.bytes
+
+  low' : length bytes ≤ asked
+  low' = omega (arith, low, size)
+
+  pub first_held : bytes ≡ take h text
+  first_held = sym (ap (λ k. take k text) size ∙ held_first text bytes ready shown asked is few low' high)
+
+  pub all_asked : take asked text ≡ bytes ++ take (asked - h) ready
+  all_asked = asked_first text bytes ready shown asked is few low' high ∙ ap (λ k. bytes ++ take (asked - k) ready) (sym size)
+
+  pub given_is : drop h (take asked text) ≡ take (asked - h) ready
+  given_is = ap (λ k. drop k (take asked text)) size ∙ got_after text bytes ready shown asked is few low' high ∙ ap (λ k. take (asked - k) ready) (sym size)
+
+  pub between : Between new (drop done (take asked text)) (old.reading.taken + (asked - h)) condition line old.acting.stack
+  between = record {
+    bytes_are = held_is ∙ ap (drop done) (sym all_asked);
+    taken_is = taken_is;
+    at_end = at_end;
+    at = at;
+    line_is = line_is;
+    condition_is = condition_is;
+    stack_is = stack_is;
+    going = goes;
+  }
+
+  pub went_further : (went : Went M wrote t u text h old.spot.condition old.spot.line_start done asked condition line) → new.failed ≡ false → (n : ℕ) (given out : List ℕ) → Stands M n given out old →
+      Stands M (went.turns + n) (given ++ take (asked - h) ready) (out ++ went.out) new
+  went_further went works n given out stands =
+      subst (λ l. Stands M (went.turns + n) (given ++ l) (out ++ went.out) new) given_is
+      (went.stand n given out old.reading.taken old.acting.stack (stands_all M n given out old (take h text) first_held reading begins going stands) new between works)
+
+  pub broke_further : (broke : Broke M wrote t u text h old.spot.condition old.spot.line_start done asked condition line) → new.failed ≡ true → (n : ℕ) (given out : List ℕ) → Stands M n given out old →
+      Fell M (broke.turns + n) (given ++ drop h (take broke.before text)) (drop broke.before (take asked text)) (out ++ broke.out) new Write
+  broke_further broke bad n given out stands = broke.fell n given out old.reading.taken old.acting.stack (stands_all M n given out old (take h text) first_held reading begins going stands) new between bad

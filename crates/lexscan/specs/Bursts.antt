@@ -1,0 +1,96 @@
+-- What several turns in one go do.
+use Rattle.std.specs.Prelude.{◌≡◌, ℕ, ◌+◌, ◌-◌, ◌≤◌, Bool, true, false, List, [], ◌∷◌, ◌++◌, length, take, drop, None, ◌<◌, ◌⊎◌, Result, Ok, Err}
+use Rattle.lexmeaning.specs.Spec as S
+use Rattle.lexmeaning.specs.Machine.{Machine}
+use Rattle.lexmachine.specs.declared.glance.Gist.{Gist}
+use Rattle.lexmachine.specs.declared.glance.Gist.TheVariants.{Any, NoRule, Silent, Echo, Print, Begin}
+use Rattle.lexscan.specs.declared.state.State.{State}
+use Rattle.lexscan.specs.declared.error.RunError.{RunError}
+use Rattle.lexscan.specs.declared.error.RunError.TheVariants.{Write}
+use Rattle.lexscan.specs.declared.burst.Burst.{Burst}
+use Rattle.lexscan.specs.declared.burst.Told.{Told}
+use Rattle.lexmachine.specs.declared.glance.Way.{Way}
+use Rattle.lexmachine.specs.Glances.{Gists}
+use Rattle.lexscan.specs.Stands.{Stands, Fell}
+
+-- what is told of a rule
+abbrev pub statements_in : Gist → List S.Statement
+statements_in Silent = []
+statements_in Echo = S.Echo ∷ []
+statements_in (Print bytes) = S.Print bytes.now ∷ []
+statements_in (Begin c) = S.Begin c ∷ []
+statements_in other = []
+
+-- whether anything is told
+abbrev pub is_told : Gist → Bool
+is_told Any = false
+is_told NoRule = false
+is_told other = true
+
+abbrev pub condition_after : Gist → ℕ → ℕ
+condition_after (Begin c) old = c
+condition_after other old = old
+
+abbrev pub written_by : Gist → List ℕ → List ℕ
+written_by Echo text = text
+written_by (Print bytes) text = bytes.now
+written_by other text = []
+
+-- A state that stands between two turns, with these bytes held and so many taken.
+pub record Between (v : State) (bytes : List ℕ) (taken condition : ℕ) (line : Bool) (stack : List ℕ) : Type 0 where
+  pub bytes_are : v.reading.window.bytes ≡ bytes
+  pub taken_is : v.reading.taken ≡ taken
+  pub at_end : v.reading.at_end ≡ false
+  pub at : v.spot.at ≡ 0
+  pub line_is : v.spot.line_start ≡ line
+  pub condition_is : v.spot.condition ≡ condition
+  pub stack_is : v.acting.stack ≡ stack
+  pub going : v.ended ≡ None
+
+-- Each such state that has not failed stands so after n turns.
+abbrev pub AllStand : Machine → ℕ → List ℕ → List ℕ → List ℕ → ℕ → ℕ → Bool → List ℕ → Type 0
+AllStand M n given out bytes taken condition line stack = (v : State) → Between v bytes taken condition line stack → v.failed ≡ false → Stands M n given out v
+
+-- Some turns over a text, of which the first bytes are held: they were told from its first byte up to that at `done`, and asked for those
+-- up to `asked`.
+pub record Went {K : Type 0} (M : Machine) (wrote : K → List ℕ → K → Type 0) (t u : K) (text : List ℕ) (held condition : ℕ) (line : Bool) (done asked condition' : ℕ) (line' : Bool) : Type 0 where
+  pub turns : ℕ
+  pub out : List ℕ
+  pub sink : wrote t out u
+  pub stand : (n : ℕ) (given before : List ℕ) (taken : ℕ) (stack : List ℕ) → AllStand M n given before (take held text) taken condition line stack →
+      AllStand M (turns + n) (given ++ drop held (take asked text)) (before ++ out) (drop done (take asked text)) (taken + (asked - held)) condition' line' stack
+
+-- The turn after some others was refused, since the sink failed.
+pub record Broke {K : Type 0} (M : Machine) (wrote : K → List ℕ → K → Type 0) (t u : K) (text : List ℕ) (held condition : ℕ) (line : Bool) (done asked condition' : ℕ) (line' : Bool) : Type 0 where
+  pub turns : ℕ
+  pub out : List ℕ
+  pub sink : wrote t out u
+  pub before : ℕ
+  pub few : held ≤ before
+  pub more : before ≤ asked
+  pub fell : (n : ℕ) (given had : List ℕ) (taken : ℕ) (stack : List ℕ) → AllStand M n given had (take held text) taken condition line stack →
+      (v : State) → Between v (drop done (take asked text)) (taken + (asked - held)) condition' line' stack → v.failed ≡ true →
+      Fell M (turns + n) (given ++ drop held (take before text)) (drop before (take asked text)) (had ++ out) v Write
+
+abbrev pub BurstsBy : {K : Type 0} → Bool → Machine → (K → List ℕ → K → Type 0) → K → K → List ℕ → ℕ → ℕ → Bool → Burst → Type 0
+BurstsBy false M wrote t u text held condition line b = Went M wrote t u text held condition line b.done b.asked b.condition b.line_start
+BurstsBy true M wrote t u text held condition line b = Broke M wrote t u text held condition line b.done b.asked b.condition b.line_start
+
+-- What is told of the match of a walk: by its last state, or, where this one accepts nothing, by the one before it.
+abbrev pub Tells : Machine → Way → Told → Type 0
+Tells M way told = ((told.keep ≡ way.count) × Gists M way.state told.gist) ⊎ ((1 < way.count) × (told.keep + 1 ≡ way.count) × (M.accepts way.state ≡ []) × Gists M way.before told.gist)
+
+abbrev pub fault_of : Bool → ℕ
+fault_of true = 1
+fault_of false = 0
+
+-- What several turns do: where the facts hold for n turns and two lists, they hold for some more and the lists with their bytes
+-- appended; or the next turn after some was refused.
+abbrev pub GoesFurther : Machine → State → State → List ℕ → List ℕ → Result ℕ RunError → Type 0
+GoesFurther M old new got wrote (Ok count) = (turns : ℕ) × ((n : ℕ) (given out : List ℕ) → Stands M n given out old → Stands M (turns + n) (given ++ got) (out ++ wrote) new)
+GoesFurther M old new got wrote (Err e) = (turns : ℕ) × (had more : List ℕ) × (got ≡ had ++ more) × ((n : ℕ) (given out : List ℕ) → Stands M n given out old → Fell M (turns + n) (given ++ had) more (out ++ wrote) new e)
+
+-- The text starts no earlier, nor does the match.
+pub record NoEarlier (old new : State) : Type 0 where
+  pub start : old.reading.taken - length old.reading.window.bytes ≤ new.reading.taken - length new.reading.window.bytes
+  pub place : old.reading.taken - length old.reading.window.bytes + old.spot.at ≤ new.reading.taken - length new.reading.window.bytes + new.spot.at

@@ -1,0 +1,106 @@
+//! Several turns of a scan in one go.
+ghost use Rattle.std.specs.Prelude.{◌≡◌, ℕ, ◌+◌, ◌-◌, ◌^◌, ◌<◌, ◌≤◌, Bool, List, [], ◌++◌, length, take, drop, true, false, None, OnOk, OnErr, IfOk, IfErr};
+ghost use Rattle.lexmeaning.specs.Text.{AllBelow};
+ghost use Rattle.lexmeaning.specs.MachineLaws.{NoReject};
+ghost use Rattle.lexscan.specs.Reads.{write_fault_count};
+ghost use Rattle.lexscan.specs.Stands.{NoneAfterEnd};
+ghost use Rattle.lexscan.specs.Bursts.{GoesFurther, NoEarlier};
+ghost use Rattle.lexscan.specs.declared.memo.Mark.{Mark};
+ghost use Rattle.lexscan.specs.Memos.{AreTrue};
+
+use crate::burst::{Burst, burst_over};
+use crate::error::RunError;
+use crate::intake::{Intake, Outlet};
+use crate::state::{Spot, State};
+use lexends::{Sink, Source};
+use lexmachine::Machine;
+
+/// Goes to the place after some turns over the bytes held and those shown after them.
+#[inline(always)]
+fn advance(state: &mut State, burst: Burst, got: usize)
+    requires got { got ≤ length state.old.reading.window.ahead }
+    requires few { state.old.reading.taken + got ≤ state.old.reading.max_reads }
+    requires done { burst.done ≤ length state.old.reading.window.bytes + got }
+    ensures held { state.new.reading.window.bytes ≡ drop burst.done (state.old.reading.window.bytes ++ take got state.old.reading.window.ahead) }
+    ensures taken { state.new.reading.taken ≡ state.old.reading.taken + got }
+    ensures at_end { state.new.reading.at_end ≡ state.old.reading.at_end }
+    ensures max_reads { state.new.reading.max_reads ≡ state.old.reading.max_reads }
+    ensures at { state.new.spot.at ≡ 0 }
+    ensures line_start { state.new.spot.line_start ≡ burst.line_start }
+    ensures condition { state.new.spot.condition ≡ burst.condition }
+    ensures stack { state.new.acting.stack ≡ state.old.acting.stack }
+    ensures ended { state.new.ended ≡ state.old.ended }
+    ensures failed { state.new.failed ≡ state.old.failed }
+{
+    let _most = state.reading.max_reads;
+    state.reading.taken += got as u64;
+    state.reading.window.accept(got);
+    state.reading.window.drop_front(burst.done);
+    state.spot = Spot {
+        at: 0,
+        line_start: burst.line_start,
+        condition: burst.condition,
+    };
+}
+
+/// Turns over the bytes held and at most this many of those that the source has ready, as long as each match ends among them and
+/// its rule is told at a glance. Answers how many bytes they are done with.
+pub fn go_further<M: Machine, S: Source, K: Sink>(
+    machine: &M,
+    intake: &mut Intake<'_, S>,
+    outlet: &mut Outlet<'_, K>,
+    state: &mut State,
+    most: usize,
+) -> Result<usize, RunError>
+    requires working { state.old.failed ≡ false }
+    requires going { state.old.ended ≡ None }
+    requires may_read { state.old.reading.at_end ≡ false → intake.old.live ≡ true }
+    requires may_write { outlet.old.live ≡ true }
+    requires condition { state.old.spot.condition < (M.machine machine.now).conditions }
+    requires inside { state.old.spot.at ≤ length state.old.reading.window.bytes }
+
+    ensures same_source { intake.new.source.ghost_name ≡ intake.old.source.ghost_name }
+    ensures same_sink { outlet.new.sink.ghost_name ≡ outlet.old.sink.ghost_name }
+    ensures goes_on { (got : List ℕ) × (wrote : List ℕ) × S.gave intake.old.source.now got intake.new.source.now
+        × K.wrote outlet.old.sink.now wrote outlet.new.sink.now
+        × NoneAfterEnd state.old state.new got × GoesFurther (M.machine machine.now) state.old state.new got wrote result }
+    ensures ends { S.ends intake.new.source.now ≡ S.ends intake.old.source.now }
+    ensures read_faults { S.failures intake.new.source.now ≡ S.failures intake.old.source.now }
+    ensures write_faults { K.failures outlet.new.sink.now ≡ K.failures outlet.old.sink.now + write_fault_count result }
+    ensures refusals { IfErr result (λ e. e ≡ RunError.Write) }
+    ensures at_end { state.new.reading.at_end ≡ state.old.reading.at_end }
+    ensures max_reads { state.new.reading.max_reads ≡ state.old.reading.max_reads }
+    ensures going { state.new.ended ≡ None }
+    ensures no_earlier { NoEarlier state.old state.new }
+
+    // The next turn may be called.
+    ensures working { OnOk result (state.new.failed ≡ false) }
+    ensures may_read { state.new.reading.at_end ≡ false → intake.new.live ≡ true }
+    ensures may_write { OnOk result (outlet.new.live ≡ true) }
+    ensures condition { state.new.spot.condition < (M.machine machine.now).conditions }
+    ensures inside { state.new.spot.at ≤ length state.new.reading.window.bytes }
+    ensures stack { state.new.acting.stack ≡ state.old.acting.stack }
+    ensures marks { (ms : List Mark) → AreTrue (M.machine machine.now) state.old.reading ms → AreTrue (M.machine machine.now) state.new.reading ms }
+{
+    if state.reading.at_end || state.spot.at != 0 {
+        return Ok(0);
+    }
+    let left = state.reading.max_reads - state.reading.taken;
+    let most = if left < most as u64 {
+        left as usize
+    } else {
+        most
+    };
+    let held = state.reading.window.len();
+    let shown = state.reading.window.show(intake.ahead(), most);
+    let text = state.reading.window.text(shown);
+    let burst = burst_over(machine, outlet, text, held, state.spot);
+    let got = burst.asked - held;
+    intake.give(got);
+    advance(state, burst, got);
+    if burst.fault {
+        state.failed = true;
+        return Err(RunError::Write);
+    }
+    Ok(burst.done)
+}
