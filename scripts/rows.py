@@ -1,5 +1,5 @@
 #!/usr/bin/env python3
-"""Writes the tables that the tests of lexproductrows run: crates/lexproductrows/src/examples.rt from examples/, and manual.rt from
+"""Writes the tables that the tests of lextest_product run: crates/lextest_product/src/examples.rt from examples/, and manual.rt from
 docs/MANUAL.md. A test reads no file, so the texts stand in it once more; run this where either changes, and then `rt fmt`.
 
     scripts/rows.py          writes both
@@ -87,7 +87,7 @@ def write_examples():
         texts = [spec.with_suffix(end).read_bytes().decode() for end in (".l", ".input", ".output")]
         status = int(status.read_text()) if status.exists() else 0
         rows.append(f"    // {spec.stem}\n" + row([*texts, status]))
-    (ROOT / "crates/lexproductrows/src/examples.rt").write_text(
+    (ROOT / "crates/lextest_product/src/examples.rt").write_text(
         "//! The specifications of `examples/`, with what flex 2.6.4 writes: written by `scripts/rows.py`.\n"
         "use crate::row::Row;\n\n" + table("EXAMPLES", "Row", rows)
     )
@@ -95,7 +95,7 @@ def write_examples():
 
 def write_manual(text):
     scans, others, refusals = manual(text)
-    (ROOT / "crates/lexproductrows/src/manual.rt").write_text(
+    (ROOT / "crates/lextest_product/src/manual.rt").write_text(
         "//! The examples of docs/MANUAL.md: written by `scripts/rows.py`.\n"
         "use crate::row::{Refusal, Row};\n\n"
         + table("EXAMPLES", "Row", [row(scan[:4]) for scan in scans if not scan[4]])

@@ -78,7 +78,7 @@ fn write_table(rt: &HostRuntime, tables: &Tables, outputs: &Outputs) -> Result<(
         None => TABLE_FILE,
         Some(name) => name.as_str(),
     };
-    put_table(rt, tables, created(rt, name)?)
+    put_table(rt, tables, create(rt, name)?)
 }
 
 fn put_table<W: Write + Drop>(rt: &HostRuntime, tables: &Tables, writer: W) -> Result<(), Failure> {
@@ -89,7 +89,7 @@ fn put_table<W: Write + Drop>(rt: &HostRuntime, tables: &Tables, writer: W) -> R
 }
 
 fn report(rt: &HostRuntime, entries: &[BackUp]) -> Result<(), Failure> {
-    let writer = created(rt, BACKUP_FILE)?;
+    let writer = create(rt, BACKUP_FILE)?;
     let mut sink = ToWrite::new(ByteWriter::new(rt.alloc(), writer)?);
     write_backup(entries, &mut sink)?;
     sink.flush()?;
@@ -109,7 +109,7 @@ fn count(rt: &HostRuntime, stats: &Stats, table_on_stdout: bool) -> Result<(), F
 }
 
 /// A file made anew.
-fn created(rt: &HostRuntime, name: &str) -> Result<File, Failure> {
+fn create(rt: &HostRuntime, name: &str) -> Result<File, Failure> {
     match File::create(rt, name) {
         Ok(file) => Ok(file),
         Err(_) => Err(Failure::Output),

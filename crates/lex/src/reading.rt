@@ -28,7 +28,7 @@ fn read_more(rt: &HostRuntime, name: &str, most: u64, text: &mut Vec<u8>) -> io:
 }
 
 /// The failure that is reported for a file that cannot be read.
-fn unread(error: ErrorKind, name: String) -> Failure
+fn reading_failure(error: ErrorKind, name: String) -> Failure
     ensures { (result ≡ out_of_memory) ⊎ (result ≡ Failure.File name) }
 {
     match error {
@@ -43,13 +43,13 @@ pub fn read_specification(rt: &HostRuntime, files: &[String]) -> Result<Vec<u8>,
     let mut text = Vec::new(rt.alloc());
     if files.is_empty() {
         if let Err(error) = read_more(rt, "-", SPEC_BYTES, &mut text) {
-            return Err(unread(error.kind(), String::from_str(rt.alloc(), "-")?));
+            return Err(reading_failure(error.kind(), String::from_str(rt.alloc(), "-")?));
         }
     }
     for file in files {
         if let Err(error) = read_more(rt, file.as_str(), SPEC_BYTES, &mut text) {
             let name = String::from_str(rt.alloc(), file.as_str())?;
-            return Err(unread(error.kind(), name));
+            return Err(reading_failure(error.kind(), name));
         }
         if text.len() > MAX_FILE_BYTES {
             return Ok(text);
@@ -65,7 +65,7 @@ pub fn read_spec_file(rt: &HostRuntime, name: String) -> Result<Vec<u8>, Failure
     let mut text = Vec::new(rt.alloc());
     match read_more(rt, name.as_str(), SPEC_BYTES, &mut text) {
         Ok(()) => Ok(text),
-        Err(error) => Err(unread(error.kind(), name)),
+        Err(error) => Err(reading_failure(error.kind(), name)),
     }
 }
 
@@ -77,6 +77,6 @@ pub fn read_table_file(rt: &HostRuntime, name: String) -> Result<Vec<u8>, Failur
     match read_more(rt, name.as_str(), MAX_TABLE + 1, &mut bytes) {
         Ok(()) if bytes.len() as u64 > MAX_TABLE => Err(Failure::File(name)),
         Ok(()) => Ok(bytes),
-        Err(error) => Err(unread(error.kind(), name)),
+        Err(error) => Err(reading_failure(error.kind(), name)),
     }
 }

@@ -1,13 +1,13 @@
 -- The rules that are left at their ends are those that fit.
 use Rattle.std.specs.Prelude.{◌≡◌, ◌≢◌, ◌↔◌, ℕ, zero, suc, ◌+◌, ◌<◌, ◌≤◌, Bool, true, false, cond, ◌⊎◌, List, [], ◌∷◌, ◌++◌, Some, None, slice_get, take}
 use Rattle.std.proofs.Common.{inl, inr, refl, ap, sym, subst, ◌∙◌, arith}
-use Rattle.lexmeaning.specs.Text.{Among, Ascending}
-use Rattle.lexmeaning.specs.Positions.{ReadsWord}
-use Rattle.lexmeaning.specs.Spec.{Spec, Rule}
-use Rattle.lexmeaning.specs.Reports.{HasFit}
-use Rattle.lexmeaning.specs.Sound.{IsSound}
-use Rattle.lexmeaning.specs.Active.{active}
-use Rattle.lexmeaning.specs.Subsets.{IsLast, ReadsActive, ReadsRule, all_positions, positions_of_rule, base_of}
+use Rattle.lex_semantics.specs.Text.{Among, Ascending}
+use Rattle.lex_semantics.specs.Positions.{ReadsWord}
+use Rattle.lex_semantics.specs.Spec.{Spec, Rule}
+use Rattle.lex_semantics.specs.Reports.{HasFit}
+use Rattle.lex_semantics.specs.Sound.{IsSound}
+use Rattle.lex_semantics.specs.Active.{active}
+use Rattle.lex_semantics.specs.Subsets.{IsLast, ReadsActive, ReadsRule, all_positions, positions_of_rule, base_of}
 use Rattle.lexauto.specs.RuleAutomaton.{rule_quad}
 use Rattle.lexauto.specs.RuleFlow.{rule_exits, rules_left}
 use Rattle.lexauto.specs.Sets.{marked, lasts_in}
@@ -44,7 +44,7 @@ sound_at [] h i r at = absurd (none at)
 sound_at (q ∷ rules) h zero r at = let same : q ≡ r = cc in subst SoundRule same h.0
 sound_at (q ∷ rules) h (suc i) r at = sound_at rules h.1 i r at
 
-module _ (S : Spec) (sound : IsSound S) (c : ℕ) (bol : Bool) (w : List ℕ) (some : w ≢ []) where
+module _ (S : Spec) (sound : IsSound S) (c : ℕ) (line_start : Bool) (w : List ℕ) (some : w ≢ []) where
   are_sound : AreSound S.rules
   are_sound = sound_rules S.rules _ sound.rules
 
@@ -60,19 +60,19 @@ module _ (S : Spec) (sound : IsSound S) (c : ℕ) (bol : Bool) (w : List ℕ) (s
       occurs_range x base (base + positions_of_rule r) d.within p (occurs x (ReadsRule r base) base (base + positions_of_rule r) d fin path.0 p path.2)
 
   -- a rule fits just where one of its last positions is left
-  pub fit_is : (i : ℕ) (r : Rule) → slice_get S.rules i ≡ Some r → HasFit S c bol w i ↔ ((p : ℕ) × IsLast (ReadsActive S c bol) w p × (rule_quad r (base_of S.rules 0 i)).last p)
+  pub fit_is : (i : ℕ) (r : Rule) → slice_get S.rules i ≡ Some r → HasFit S c line_start w i ↔ ((p : ℕ) × IsLast (ReadsActive S c line_start) w p × (rule_quad r (base_of S.rules 0 i)).last p)
   fit_is i r at = (to, from)
     where
       accept : ReadsWord (ReadsRule r (base_of S.rules 0 i)) w ↔ ((p : ℕ) × IsLast (ReadsRule r (base_of S.rules 0 i)) w p × (rule_quad r (base_of S.rules 0 i)).last p)
       accept = accepts_is (rule_quad r (base_of S.rules 0 i)) (ReadsRule r (base_of S.rules 0 i)) (base_of S.rules 0 i) (base_of S.rules 0 i + positions_of_rule r)
           (rule_is r (base_of S.rules 0 i)) (rule_finishes r (base_of S.rules 0 i) (sound_at S.rules are_sound i r at)) w some
 
-      to : HasFit S c bol w i → (p : ℕ) × IsLast (ReadsActive S c bol) w p × (rule_quad r (base_of S.rules 0 i)).last p
+      to : HasFit S c line_start w i → (p : ℕ) × IsLast (ReadsActive S c line_start) w p × (rule_quad r (base_of S.rules 0 i)).last p
       to (k, h) =
           let same : h.rule ≡ r = (let e : Some h.rule ≡ Some r = sym h.at ∙ at in cc) in
-          let reads = fit_read S c bol w i k (base_of S.rules 0 i) h in
+          let reads = fit_read S c line_start w i k (base_of S.rules 0 i) h in
           let (p, (rs, zs, e, ends, rest), last) = accept.0 (subst (λ (q : Rule). ReadsWord (ReadsRule q (base_of S.rules 0 i)) w) same reads) in
-          (p, (rs, zs, e, ends, (i, r, at, subst (λ (q : Rule). active S c bol q ≡ true) same h.is_active, rest)), last)
+          (p, (rs, zs, e, ends, (i, r, at, subst (λ (q : Rule). active S c line_start q ≡ true) same h.is_active, rest)), last)
 
       same_rule : (j : ℕ) (q : Rule) (p : ℕ) → slice_get S.rules j ≡ Some q → IsLast (ReadsRule q (base_of S.rules 0 j)) w p → (rule_quad r (base_of S.rules 0 i)).last p → i ≡ j
       same_rule j q p there l last =
@@ -84,17 +84,17 @@ module _ (S : Spec) (sound : IsSound S) (c : ℕ) (bol : Bool) (w : List ℕ) (s
             | inr (inr h) ↦ absurd (let o = base_order S.rules 0 j i q there h in omega (arith, o, mine.0, range.1))
           ]
 
-      from : (p : ℕ) × IsLast (ReadsActive S c bol) w p × (rule_quad r (base_of S.rules 0 i)).last p → HasFit S c bol w i
+      from : (p : ℕ) × IsLast (ReadsActive S c line_start) w p × (rule_quad r (base_of S.rules 0 i)).last p → HasFit S c line_start w i
       from (p, (rs, zs, e, ends, (j, q, there, on, reads)), last) =
           let same : i ≡ j = same_rule j q p there (rs, zs, e, ends, reads) last in
           let rule : r ≡ q = (let g : Some r ≡ Some q = sym at ∙ ap (slice_get S.rules) same ∙ there in cc) in
           let mine : ReadsRule r (base_of S.rules 0 i) (rs ++ zs) =
           subst (λ (z : Rule). ReadsRule z (base_of S.rules 0 i) (rs ++ zs)) (sym rule) (subst (λ (n : ℕ). ReadsRule q (base_of S.rules 0 n) (rs ++ zs)) (sym same) reads) in
-          read_fit S c bol w i (base_of S.rules 0 i) r at (subst (λ (z : Rule). active S c bol z ≡ true) (sym rule) on)
+          read_fit S c line_start w i (base_of S.rules 0 i) r at (subst (λ (z : Rule). active S c line_start z ≡ true) (sym rule) on)
           (accept.1 (p, (rs, zs, e, ends, mine), last))
 
-  pub left_is : (k : Key) → LastKey S c bol w k → (i : ℕ) (r : Rule) → slice_get S.rules i ≡ Some r
-      → (rule_exits r (marked (all_positions S.rules) (lasts_in k)) (base_of S.rules 0 i) ≡ true) ↔ HasFit S c bol w i
+  pub left_is : (k : Key) → LastKey S c line_start w k → (i : ℕ) (r : Rule) → slice_get S.rules i ≡ Some r
+      → (rule_exits r (marked (all_positions S.rules) (lasts_in k)) (base_of S.rules 0 i) ≡ true) ↔ HasFit S c line_start w i
   left_is k (l, is, lists, low) i r at =
       let P = all_positions S.rules in
       let lasts : lasts_in k ≡ l = ap lasts_in is ∙ lasts_tagged l in
@@ -191,10 +191,10 @@ first_is (x ∷ l) h i = (to, from)
     from (inl e, least) = inl e
     from (inr g, least) = absurd (least x (h.0 i g) (inl refl))
 
-pub rules_fit : (S : Spec) → IsSound S → (c : ℕ) (bol : Bool) (w : List ℕ) → w ≢ [] → (k : Key) → LastKey S c bol w k
-    → (i : ℕ) → Among (rules_left S.rules (marked (all_positions S.rules) (lasts_in k)) 0 0) i ↔ HasFit S c bol w i
-rules_fit S sound c bol w some k h i =
+pub rules_fit : (S : Spec) → IsSound S → (c : ℕ) (line_start : Bool) (w : List ℕ) → w ≢ [] → (k : Key) → LastKey S c line_start w k
+    → (i : ℕ) → Among (rules_left S.rules (marked (all_positions S.rules) (lasts_in k)) 0 0) i ↔ HasFit S c line_start w i
+rules_fit S sound c line_start w some k h i =
     let last = marked (all_positions S.rules) (lasts_in k) in (
-      λ a. (let (r, at, e) = (rules_left_is last S.rules i).0 a in (left_is S sound c bol w some k h i r at).0 e),
-      λ (n, f). (rules_left_is last S.rules i).1 (f.rule, f.at, (left_is S sound c bol w some k h i f.rule f.at).1 (n, f)),
+      λ a. (let (r, at, e) = (rules_left_is last S.rules i).0 a in (left_is S sound c line_start w some k h i r at).0 e),
+      λ (n, f). (rules_left_is last S.rules i).1 (f.rule, f.at, (left_is S sound c line_start w some k h i f.rule f.at).1 (n, f)),
     )

@@ -1,11 +1,11 @@
 -- Rules with heads and trails, and those of them that are active.
 use Rattle.std.specs.Prelude.{◌≡◌, ◌≢◌, ◌↔◌, ℕ, suc, ◌+◌, ◌<◌, ◌≤◌, Bool, true, false, IsTrue, ◌⊎◌, List, [], ◌∷◌, ◌++◌, Option, Some, None}
 use Rattle.std.proofs.Common.{inl, inr, refl, arith}
-use Rattle.lexmeaning.specs.Tree.{Tree}
-use Rattle.lexmeaning.specs.Positions.{Cell, Readings, positions, Reads}
-use Rattle.lexmeaning.specs.Shapes.{IsSoundTree}
-use Rattle.lexmeaning.specs.Subsets.{IsLast, positions_of_rule, positions_of_trail, all_positions, ReadsTrail, ReadsRule}
-use Rattle.lexmeaning.specs.Spec.{Rule}
+use Rattle.lex_semantics.specs.Tree.{Tree}
+use Rattle.lex_semantics.specs.Positions.{Cell, Readings, positions, Reads}
+use Rattle.lex_semantics.specs.Shapes.{IsSoundTree}
+use Rattle.lex_semantics.specs.Subsets.{IsLast, positions_of_rule, positions_of_trail, all_positions, ReadsTrail, ReadsRule}
+use Rattle.lex_semantics.specs.Spec.{Rule}
 use Rattle.lexauto.specs.PositionAutomaton.{Quad, fail, skip, alt, quad, Whole}
 use Rattle.lexauto.specs.RuleAutomaton.{nonempty, trail_quad, rule_quad, gated, active_quad, every}
 use Rattle.lexauto.proofs.Parts.{Within, from_more}

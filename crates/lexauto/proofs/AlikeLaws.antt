@@ -3,9 +3,9 @@ use Rattle.std.proofs.Common.{◌<◌, ◌≤◌, length, drop, get_or, ◌≡�
 use Rattle.std.proofs.Math.Path.{fun_ext}
 use Rattle.std.proofs.lemmas.List.{drop_more, drop_all}
 use Rattle.std.specs.Prelude.{IfOk, Result, Ok, Err}
-use Rattle.lexmeaning.specs.Tree.{Tree, Trees, Empty, Cat, Alt, Star, Repeat, tree, trees}
-use Rattle.lexmeaning.specs.Positions.{positions, positions_of, copies}
-use Rattle.lexmeaning.specs.Shapes.{IsSoundTree}
+use Rattle.lex_semantics.specs.Tree.{Tree, Trees, Empty, Cat, Alt, Star, Repeat, tree, trees}
+use Rattle.lex_semantics.specs.Positions.{positions, positions_of, copies}
+use Rattle.lex_semantics.specs.Shapes.{IsSoundTree}
 use Rattle.lexauto.specs.Flow.{is_none, passes, comes, exits, exits_each, exits_some, enters, enters_each, enters_some}
 use Rattle.lexauto.specs.RuleFlow.{reads, each_read, copies_read}
 use Rattle.lexauto.specs.Alike.{Alike, AlikeAll}

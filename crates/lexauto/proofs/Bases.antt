@@ -1,8 +1,8 @@
 -- Where the positions of rules begin.
 use Rattle.std.proofs.Common.{◌≡◌, ℕ, zero, suc, ◌+◌, ◌≤◌, List, [], ◌∷◌, Some, drop, refl, ap, ◌∙◌, arith}
 use Rattle.std.specs.Prelude.{slice_get}
-use Rattle.lexmeaning.specs.Spec.{Rule}
-use Rattle.lexmeaning.specs.Subsets.{positions_of_rule, all_positions, base_of}
+use Rattle.lex_semantics.specs.Spec.{Rule}
+use Rattle.lex_semantics.specs.Subsets.{positions_of_rule, all_positions, base_of}
 
 pub base_low : (rules : List Rule) (base j : ℕ) → base ≤ base_of rules base j
 base_low [] base j = omega arith

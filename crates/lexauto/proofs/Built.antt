@@ -1,16 +1,16 @@
 -- The lists that are built of a specification make an automaton, and its table.
 use Rattle.std.proofs.Common.{◌≡◌, ℕ, ◌*◌, ◌<◌, ◌≤◌, List, [], length, arith, sym, ap, ◌∙◌}
 use Rattle.std.proofs.lemmas.Option.{slice_get_within}
-use Rattle.lexmeaning.specs.Spec.{Spec}
-use Rattle.lexmeaning.specs.Sound.{IsSound}
-use Rattle.lexmeaning.specs.TableFor.{TableFor}
-use Rattle.lexmeaning.specs.MachineLaws.{MachineLaws}
-use Rattle.lexdfa.specs.declared.dfa.Parts.{Parts}
-use Rattle.lexdfa.specs.Parts.{states}
-use Rattle.lexdfa.specs.Machines.{IsReached}
-use Rattle.lexdfa.specs.Automata.{machine_in}
-use Rattle.lexdfa.specs.Invariant.{IsAutomaton}
-use Rattle.lexdfa.proofs.Machinery.{automaton_of_laws}
+use Rattle.lex_semantics.specs.Spec.{Spec}
+use Rattle.lex_semantics.specs.Sound.{IsSound}
+use Rattle.lex_semantics.specs.TableFor.{TableFor}
+use Rattle.lex_semantics.specs.MachineLaws.{MachineLaws}
+use Rattle.lexauto_dfa.specs.declared.dfa.Parts.{Parts}
+use Rattle.lexauto_dfa.specs.Parts.{states}
+use Rattle.lexauto_dfa.specs.Machines.{IsReached}
+use Rattle.lexauto_dfa.specs.Automata.{machine_in}
+use Rattle.lexauto_dfa.specs.Invariant.{IsAutomaton}
+use Rattle.lexauto_dfa.proofs.Machinery.{automaton_of_laws}
 use Rattle.lexauto.specs.Keys.{Key, keys_in}
 use Rattle.lexauto.specs.WordKeys.{Surveys}
 use Rattle.lexauto.specs.Facts.{AcceptedBy, GoOnBy}

@@ -2,9 +2,9 @@
 use Rattle.std.specs.Prelude.{◌≡◌, ℕ, zero, suc, ◌+◌, ◌-◌, ◌*◌, ◌<◌, ◌≤◌, ◌||◌, ◌&&◌, ◌==◌, Bool, true, false, Option, Some, None, IfSome}
 use Rattle.std.proofs.Common.{refl, ap, sym, ◌∙◌, arith}
 use Rattle.std.proofs.lemmas.Bool.{ne_eqb}
-use Rattle.lexmeaning.specs.Tree.{Tree, Trees, Empty, Set, Cat, Alt, Star, Repeat, no_trees, tree}
-use Rattle.lexmeaning.specs.Positions.{copies, positions, positions_of}
-use Rattle.lexmeaning.specs.Shapes.{IsSoundTree, AreSoundTrees}
+use Rattle.lex_semantics.specs.Tree.{Tree, Trees, Empty, Set, Cat, Alt, Star, Repeat, no_trees, tree}
+use Rattle.lex_semantics.specs.Positions.{copies, positions, positions_of}
+use Rattle.lex_semantics.specs.Shapes.{IsSoundTree, AreSoundTrees}
 use Rattle.lexauto.specs.Flow.{is_zero, is_none, passes, comes, exits, exits_each, exits_some, enters, enters_each, enters_some}
 
 pub and_false : (b : Bool) → (b && false) ≡ false

@@ -3,11 +3,11 @@ use Rattle.std.specs.Prelude.{◌≡◌, ◌≢◌, ℕ, zero, suc, ◌+◌, ◌
 use Rattle.std.proofs.Common.{inl, inr, refl, ap, sym, subst, ◌∙◌, arith}
 use Rattle.std.proofs.lemmas.List.{length-append}
 use Rattle.std.proofs.lemmas.Option.{slice_get_within}
-use Rattle.lexmeaning.specs.Text.{IsText, Among, listed}
-use Rattle.lexmeaning.specs.Spec.{Spec, Rule}
-use Rattle.lexmeaning.specs.Sound.{IsSound}
-use Rattle.lexmeaning.specs.Subsets.{IsLast, ReadsActive, IsActive, ListsSet, Distinct, AreStarts, AreLasts, Subsets}
-use Rattle.lexmeaning.proofs.Fronts.{among_left, among_right}
+use Rattle.lex_semantics.specs.Text.{IsText, Among, listed}
+use Rattle.lex_semantics.specs.Spec.{Spec, Rule}
+use Rattle.lex_semantics.specs.Sound.{IsSound}
+use Rattle.lex_semantics.specs.Subsets.{IsLast, ReadsActive, IsActive, ListsSet, Distinct, AreStarts, AreLasts, Subsets}
+use Rattle.lex_semantics.proofs.Fronts.{among_left, among_right}
 use Rattle.lexauto.specs.RuleAutomaton.{is_on, is_active}
 use Rattle.lexauto.specs.Sets.{tagged}
 use Rattle.lexauto.specs.Keys.{Key, At, Apart}
@@ -19,11 +19,11 @@ use Rattle.lexauto.proofs.WordKeys.{word_key, dead_step}
 use Rattle.lexauto.proofs.StepLemmas.{length_map}
 
 abbrev pub StartOf : Spec → Key → Type 0
-StartOf S k = (l : List ℕ) × (k ≡ 0 ∷ l) × (1 ≤ length l) × ((c : ℕ) × (bol : Bool) × (c < length S.conditions) × ListsSet l (IsActive S c bol))
+StartOf S k = (l : List ℕ) × (k ≡ 0 ∷ l) × (1 ≤ length l) × ((c : ℕ) × (line_start : Bool) × (c < length S.conditions) × ListsSet l (IsActive S c line_start))
 
 abbrev pub LastOf : Spec → Key → Type 0
 LastOf S k = (l : List ℕ) × (k ≡ 1 ∷ l) × (1 ≤ length l)
-    × ((c : ℕ) × (bol : Bool) × (w : List ℕ) × (c < length S.conditions) × IsText w × (1 ≤ length w) × ListsSet l (IsLast (ReadsActive S c bol) w))
+    × ((c : ℕ) × (line_start : Bool) × (w : List ℕ) × (c < length S.conditions) × IsText w × (1 ≤ length w) × ListsSet l (IsLast (ReadsActive S c line_start) w))
 
 -- the dead state's key, that of a start, or that of last positions
 abbrev pub Shape : Spec → Key → Type 0
@@ -34,32 +34,32 @@ cons_one x xs = omega arith
 
 module _ (S : Spec) where
   -- a start's list
-  start_lists : (c : ℕ) (bol : Bool) → ListsSet (listed (is_active S c bol) 0 (length S.rules)) (IsActive S c bol)
-  start_lists c bol = (
-    listed_ascends (is_active S c bol) 0 (length S.rules),
+  start_lists : (c : ℕ) (line_start : Bool) → ListsSet (listed (is_active S c line_start) 0 (length S.rules)) (IsActive S c line_start)
+  start_lists c line_start = (
+    listed_ascends (is_active S c line_start) 0 (length S.rules),
     λ i. (
-      λ a. to i (slice_get S.rules i) refl ((listed_is (is_active S c bol) (length S.rules) i).0 a).1,
-      λ (r, at, on). (listed_is (is_active S c bol) (length S.rules) i).1 (slice_get_within S.rules i r at, ap (is_on S c bol) at ∙ on),
+      λ a. to i (slice_get S.rules i) refl ((listed_is (is_active S c line_start) (length S.rules) i).0 a).1,
+      λ (r, at, on). (listed_is (is_active S c line_start) (length S.rules) i).1 (slice_get_within S.rules i r at, ap (is_on S c line_start) at ∙ on),
     ),
   )
     where
-      to : (i : ℕ) (o : Option Rule) → slice_get S.rules i ≡ o → is_on S c bol (slice_get S.rules i) ≡ true → IsActive S c bol i
-      to i None e h = no_true (sym (ap (is_on S c bol) e) ∙ h)
-      to i (Some r) e h = (r, e, sym (ap (is_on S c bol) e) ∙ h)
+      to : (i : ℕ) (o : Option Rule) → slice_get S.rules i ≡ o → is_on S c line_start (slice_get S.rules i) ≡ true → IsActive S c line_start i
+      to i None e h = no_true (sym (ap (is_on S c line_start) e) ∙ h)
+      to i (Some r) e h = (r, e, sym (ap (is_on S c line_start) e) ∙ h)
 
-  start_shape : (c : ℕ) (bol : Bool) → c < length S.conditions → Shape S (start_key S c bol)
-  start_shape c bol lt = from (listed (is_active S c bol) 0 (length S.rules)) (start_lists c bol)
+  start_shape : (c : ℕ) (line_start : Bool) → c < length S.conditions → Shape S (start_key S c line_start)
+  start_shape c line_start lt = from (listed (is_active S c line_start) 0 (length S.rules)) (start_lists c line_start)
     where
-      from : (l : List ℕ) → ListsSet l (IsActive S c bol) → Shape S (tagged 0 l)
+      from : (l : List ℕ) → ListsSet l (IsActive S c line_start) → Shape S (tagged 0 l)
       from [] h = inl refl
-      from (x ∷ xs) h = inr (inl (x ∷ xs, refl, cons_one x xs, (c, bol, lt, h)))
+      from (x ∷ xs) h = inr (inl (x ∷ xs, refl, cons_one x xs, (c, line_start, lt, h)))
 
-  last_shape : (c : ℕ) (bol : Bool) (b : ℕ) (w : List ℕ) (k : Key) → c < length S.conditions → b < 256 → IsText w → LastKey S c bol (b ∷ w) k → Shape S k
-  last_shape c bol b w k lt byte text (l, is, lists, low) = subst (Shape S) (sym is) (from l lists)
+  last_shape : (c : ℕ) (line_start : Bool) (b : ℕ) (w : List ℕ) (k : Key) → c < length S.conditions → b < 256 → IsText w → LastKey S c line_start (b ∷ w) k → Shape S k
+  last_shape c line_start b w k lt byte text (l, is, lists, low) = subst (Shape S) (sym is) (from l lists)
     where
-      from : (l : List ℕ) → ListsSet l (IsLast (ReadsActive S c bol) (b ∷ w)) → Shape S (tagged 1 l)
+      from : (l : List ℕ) → ListsSet l (IsLast (ReadsActive S c line_start) (b ∷ w)) → Shape S (tagged 1 l)
       from [] h = inl refl
-      from (x ∷ xs) h = inr (inr (x ∷ xs, refl, cons_one x xs, (c, bol, b ∷ w, lt, (byte, text), cons_one b w, h)))
+      from (x ∷ xs) h = inr (inr (x ∷ xs, refl, cons_one x xs, (c, line_start, b ∷ w, lt, (byte, text), cons_one b w, h)))
 
   pub dead_run : (w : List ℕ) → run (step_in S) [] w ≡ []
   dead_run [] = refl
@@ -67,7 +67,7 @@ module _ (S : Spec) where
 
   pub root_shape : (k : Key) → IsRoot S k → Shape S k
   root_shape k (inl e) = inl e
-  root_shape k (inr (c, bol, lt, e)) = subst (Shape S) (sym e) (start_shape c bol lt)
+  root_shape k (inr (c, line_start, lt, e)) = subst (Shape S) (sym e) (start_shape c line_start lt)
 
   module _ (sound : IsSound S) where
     pub reached_shape : (roots : List Key) → ((i : ℕ) (k : Key) → At roots i k → IsRoot S k) → (k : Key) → Reached (step_in S) roots k → Shape S k
@@ -75,10 +75,10 @@ module _ (S : Spec) where
       where
         from : IsRoot S root → (w : List ℕ) → IsText w → run (step_in S) root w ≡ k → Shape S k
         from (inl dead) w text e = inl (sym e ∙ ap (λ (r : Key). run (step_in S) r w) dead ∙ dead_run w)
-        from (inr (c, bol, lt, is)) [] text e = subst (Shape S) (sym is ∙ e) (start_shape c bol lt)
-        from (inr (c, bol, lt, is)) (b ∷ w) text e =
+        from (inr (c, line_start, lt, is)) [] text e = subst (Shape S) (sym is ∙ e) (start_shape c line_start lt)
+        from (inr (c, line_start, lt, is)) (b ∷ w) text e =
             subst (Shape S) (ap (λ (r : Key). run (step_in S) r (b ∷ w)) (sym is) ∙ e)
-            (last_shape c bol b w (run (step_in S) (start_key S c bol) (b ∷ w)) lt text.0 text.1 (word_key S c bol sound b w text.0 text.1))
+            (last_shape c line_start b w (run (step_in S) (start_key S c line_start) (b ∷ w)) lt text.0 text.1 (word_key S c line_start sound b w text.0 text.1))
 
 -- the lists of a kind
 
@@ -193,19 +193,19 @@ tail_is : (n m : ℕ) (xs ys : List ℕ) → n ∷ xs ≡ m ∷ ys → xs ≡ ys
 tail_is n m xs ys e = cc
 
 module _ (S : Spec) where
-  start_only : (l : List ℕ) → Shape S (0 ∷ l) → (c : ℕ) × (bol : Bool) × (c < length S.conditions) × (1 ≤ length l) × ListsSet l (IsActive S c bol)
+  start_only : (l : List ℕ) → Shape S (0 ∷ l) → (c : ℕ) × (line_start : Bool) × (c < length S.conditions) × (1 ≤ length l) × ListsSet l (IsActive S c line_start)
   start_only l (inl e) = some_kind 0 l e
-  start_only l (inr (inl (xs, e, some, (c, bol, lt, h)))) =
+  start_only l (inr (inl (xs, e, some, (c, line_start, lt, h)))) =
       let same : xs ≡ l = sym (tail_is 0 0 l xs e) in
-      (c, bol, lt, subst (λ (ys : List ℕ). 1 ≤ length ys) same some, subst (λ (ys : List ℕ). ListsSet ys (IsActive S c bol)) same h)
+      (c, line_start, lt, subst (λ (ys : List ℕ). 1 ≤ length ys) same some, subst (λ (ys : List ℕ). ListsSet ys (IsActive S c line_start)) same h)
   start_only l (inr (inr (xs, e, r, r2))) = two_kinds l xs e
 
-  last_only : (l : List ℕ) → Shape S (1 ∷ l) → (c : ℕ) × (bol : Bool) × (w : List ℕ) × (c < length S.conditions) × IsText w × (1 ≤ length w) × (1 ≤ length l) × ListsSet l (IsLast (ReadsActive S c bol) w)
+  last_only : (l : List ℕ) → Shape S (1 ∷ l) → (c : ℕ) × (line_start : Bool) × (w : List ℕ) × (c < length S.conditions) × IsText w × (1 ≤ length w) × (1 ≤ length l) × ListsSet l (IsLast (ReadsActive S c line_start) w)
   last_only l (inl e) = some_kind 1 l e
   last_only l (inr (inl (xs, e, r, r2))) = two_kinds xs l (sym e)
-  last_only l (inr (inr (xs, e, some, (c, bol, w, lt, text, word, h)))) =
+  last_only l (inr (inr (xs, e, some, (c, line_start, w, lt, text, word, h)))) =
       let same : xs ≡ l = sym (tail_is 1 1 l xs e) in
-      (c, bol, w, lt, text, word, subst (λ (ys : List ℕ). 1 ≤ length ys) same some, subst (λ (ys : List ℕ). ListsSet ys (IsLast (ReadsActive S c bol) w)) same h)
+      (c, line_start, w, lt, text, word, subst (λ (ys : List ℕ). 1 ≤ length ys) same some, subst (λ (ys : List ℕ). ListsSet ys (IsLast (ReadsActive S c line_start) w)) same h)
 
   of_kind : (n : ℕ) (xs : List ℕ) → Shape S (suc n ∷ xs) → n ≡ 0
   of_kind n xs (inl e) = some_kind (suc n) xs e
@@ -225,7 +225,7 @@ module _ (S : Spec) where
     kinds : OfKind keys
     kinds i n xs a = of_kind n xs (shape_at i (suc n ∷ xs) a)
 
-    start_there : (c : ℕ) (bol : Bool) → c < length S.conditions → (i : ℕ) × At s.roots i (start_key S c bol)
+    start_there : (c : ℕ) (line_start : Bool) → c < length S.conditions → (i : ℕ) × At s.roots i (start_key S c line_start)
     start_there c true h = (slice_index line_starts c, s.lines_are c (let e = s.lines_len in omega (arith, e, h)))
     start_there c false h = (slice_index starts c, s.starts_are c (let e = s.starts_len in omega (arith, e, h)))
 
@@ -236,30 +236,30 @@ module _ (S : Spec) where
     are_starts : AreStarts S (starts_list keys)
     are_starts = record {
       distinct = starts_distinct keys s.automaton.apart;
-      listed = λ c bol l lt lists some.
-          let own = listed (is_active S c bol) 0 (length S.rules) in
-          let same : own ≡ l = same_set (IsActive S c bol) own l (start_lists S c bol) lists in
-          let (i, at) = start_there c bol lt in
-          let key : start_key S c bol ≡ 0 ∷ l = ap (tagged 0) same ∙ tagged_some 0 l some in
-          starts_among keys l i (subst (λ (k : Key). At keys i k) key (s.automaton.starts i (start_key S c bol) at));
+      listed = λ c line_start l lt lists some.
+          let own = listed (is_active S c line_start) 0 (length S.rules) in
+          let same : own ≡ l = same_set (IsActive S c line_start) own l (start_lists S c line_start) lists in
+          let (i, at) = start_there c line_start lt in
+          let key : start_key S c line_start ≡ 0 ∷ l = ap (tagged 0) same ∙ tagged_some 0 l some in
+          starts_among keys l i (subst (λ (k : Key). At keys i k) key (s.automaton.starts i (start_key S c line_start) at));
       only = λ l a. let (i, at) = among_starts keys l a in start_only l (shape_at i (0 ∷ l) at);
     }
 
-    last_there : (c : ℕ) (bol : Bool) (w l : List ℕ) → c < length S.conditions → IsText w → 1 ≤ length w → ListsSet l (IsLast (ReadsActive S c bol) w) → 1 ≤ length l → Among (lasts_list keys) l
-    last_there c bol [] l lt text word lists some = absurd (omega (arith, word))
-    last_there c bol (b ∷ w) l lt text word lists some =
-        let k = run (step_in S) (start_key S c bol) (b ∷ w) in
-        let (m, is, own, low) = word_key S c bol sound b w text.0 text.1 in
-        let same : m ≡ l = same_set (IsLast (ReadsActive S c bol) (b ∷ w)) m l own lists in
+    last_there : (c : ℕ) (line_start : Bool) (w l : List ℕ) → c < length S.conditions → IsText w → 1 ≤ length w → ListsSet l (IsLast (ReadsActive S c line_start) w) → 1 ≤ length l → Among (lasts_list keys) l
+    last_there c line_start [] l lt text word lists some = absurd (omega (arith, word))
+    last_there c line_start (b ∷ w) l lt text word lists some =
+        let k = run (step_in S) (start_key S c line_start) (b ∷ w) in
+        let (m, is, own, low) = word_key S c line_start sound b w text.0 text.1 in
+        let same : m ≡ l = same_set (IsLast (ReadsActive S c line_start) (b ∷ w)) m l own lists in
         let key : k ≡ 1 ∷ l = is ∙ ap (tagged 1) same ∙ tagged_some 1 l some in
-        let (r, at) = start_there c bol lt in
-        let (i, here) = s.automaton.all k (r, start_key S c bol, at, (b ∷ w, text, refl)) in
+        let (r, at) = start_there c line_start lt in
+        let (i, here) = s.automaton.all k (r, start_key S c line_start, at, (b ∷ w, text, refl)) in
         lasts_among keys l i (subst (λ (q : Key). At keys i q) key here)
 
     are_lasts : AreLasts S (lasts_list keys)
     are_lasts = record {
       distinct = lasts_distinct keys kinds s.automaton.apart;
-      listed = λ c bol w l lt text word lists some. last_there c bol w l lt text word lists some;
+      listed = λ c line_start w l lt text word lists some. last_there c line_start w l lt text word lists some;
       only = λ l a. let (i, at) = among_lasts keys kinds l a in last_only l (shape_at i (1 ∷ l) at);
     }
 
@@ -319,12 +319,12 @@ too_many_subsets S limit n (ks, many, apart, shapes) s =
   where
     from : (k : Key) → Shape S k → Among ([] ∷ (map (λ l. 0 ∷ l) s.starts ++ map (λ l. 1 ∷ l) s.lasts)) k
     from k (inl e) = inl e
-    from k (inr (inl (l, e, some, (c, bol, lt, h)))) =
+    from k (inr (inl (l, e, some, (c, line_start, lt, h)))) =
         inr (subst (λ (q : Key). Among (map (λ l. 0 ∷ l) s.starts ++ map (λ l. 1 ∷ l) s.lasts) q) (sym e)
-        (among_left (map (λ l. 0 ∷ l) s.starts) (map (λ l. 1 ∷ l) s.lasts) (0 ∷ l) (among_map (λ l. 0 ∷ l) s.starts l (s.are_starts.listed c bol l lt h some))))
-    from k (inr (inr (l, e, some, (c, bol, w, lt, text, word, h)))) =
+        (among_left (map (λ l. 0 ∷ l) s.starts) (map (λ l. 1 ∷ l) s.lasts) (0 ∷ l) (among_map (λ l. 0 ∷ l) s.starts l (s.are_starts.listed c line_start l lt h some))))
+    from k (inr (inr (l, e, some, (c, line_start, w, lt, text, word, h)))) =
         inr (subst (λ (q : Key). Among (map (λ l. 0 ∷ l) s.starts ++ map (λ l. 1 ∷ l) s.lasts) q) (sym e)
-        (among_right (map (λ l. 0 ∷ l) s.starts) (map (λ l. 1 ∷ l) s.lasts) (1 ∷ l) (among_map (λ l. 1 ∷ l) s.lasts l (s.are_lasts.listed c bol w l lt text word h some))))
+        (among_right (map (λ l. 0 ∷ l) s.starts) (map (λ l. 1 ∷ l) s.lasts) (1 ∷ l) (among_map (λ l. 1 ∷ l) s.lasts l (s.are_lasts.listed c line_start w l lt text word h some))))
 
 -- There is one count of subsets.
 
@@ -350,10 +350,10 @@ no_more_of ls ms d inside = no_more ls ms (distinct_apart ls d) (λ i k a. insid
 
 module _ (S : Spec) where
   starts_inside : (ls ms : List (List ℕ)) → AreStarts S ls → AreStarts S ms → length ls ≤ length ms
-  starts_inside ls ms a b = no_more_of ls ms a.distinct (λ l h. let (c, bol, lt, some, lists) = a.only l h in b.listed c bol l lt lists some)
+  starts_inside ls ms a b = no_more_of ls ms a.distinct (λ l h. let (c, line_start, lt, some, lists) = a.only l h in b.listed c line_start l lt lists some)
 
   lasts_inside : (ls ms : List (List ℕ)) → AreLasts S ls → AreLasts S ms → length ls ≤ length ms
-  lasts_inside ls ms a b = no_more_of ls ms a.distinct (λ l h. let (c, bol, w, lt, text, word, some, lists) = a.only l h in b.listed c bol w l lt text word lists some)
+  lasts_inside ls ms a b = no_more_of ls ms a.distinct (λ l h. let (c, line_start, w, lt, text, word, some, lists) = a.only l h in b.listed c line_start w l lt text word lists some)
 
   pub counts_agree : (m n : ℕ) → Subsets S m → Subsets S n → m ≡ n
   counts_agree m n s t =

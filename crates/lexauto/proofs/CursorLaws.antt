@@ -1,10 +1,10 @@
 -- How a walk goes on in a list of positions.
 use Rattle.std.proofs.Common.{◌≡◌, ℕ, zero, suc, ◌+◌, ◌<◌, ◌≤◌, ◌⊎◌, ◌||◌, Bool, true, false, List, [], ◌∷◌, ◌++◌, length, inl, inr, refl, sym, ap, subst, ◌∙◌, arith}
 use Rattle.std.specs.Prelude.{slice_index}
-use Rattle.lexmeaning.specs.Active.{lists}
-use Rattle.lexmeaning.specs.Text.{Among, Ascending, listed}
-use Rattle.lexmeaning.specs.Tree.{Tree}
-use Rattle.lexmeaning.specs.Positions.{positions}
+use Rattle.lex_semantics.specs.Active.{lists}
+use Rattle.lex_semantics.specs.Text.{Among, Ascending, listed}
+use Rattle.lex_semantics.specs.Tree.{Tree}
+use Rattle.lex_semantics.specs.Positions.{positions}
 use Rattle.lexauto.specs.Cursors.{Increases, IsCursor, IsFront}
 use Rattle.lexauto.specs.Flow.{exits, enters}
 use Rattle.lexauto.proofs.Numbers.{lists_is, listed_is, marked_is}

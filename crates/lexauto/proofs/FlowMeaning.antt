@@ -2,8 +2,8 @@
 use Rattle.std.specs.Prelude.{◌≡◌, ◌↔◌, ℕ, zero, suc, ◌+◌, ◌-◌, ◌*◌, max, ◌||◌, ◌&&◌, ◌==◌, Bool, true, false, ◌⊎◌, Option, Some, None}
 use Rattle.std.proofs.Common.{inl, inr, refl, sym, subst, arith}
 use Rattle.std.proofs.lemmas.Bool.{eqb-true, eq-eqb}
-use Rattle.lexmeaning.specs.Tree.{Tree, Trees, Empty, Set, Cat, Alt, Star, Repeat, no_trees, tree}
-use Rattle.lexmeaning.specs.Positions.{copies, positions}
+use Rattle.lex_semantics.specs.Tree.{Tree, Trees, Empty, Set, Cat, Alt, Star, Repeat, no_trees, tree}
+use Rattle.lex_semantics.specs.Positions.{copies, positions}
 use Rattle.lexauto.specs.PositionAutomaton.{Quad, fail, skip, cat, plus, opt, times, chain, repeated, quad, quad_all, quad_one}
 use Rattle.lexauto.specs.Flows.{Exits, Enters}
 use Rattle.lexauto.specs.Flow.{is_none, passes, comes, exits, exits_each, exits_some, enters, enters_each, enters_some}

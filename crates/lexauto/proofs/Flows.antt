@@ -1,7 +1,7 @@
 -- One step through a tree, with no table of what follows what: what enters each part and what leaves it.
 use Rattle.std.specs.Prelude.{◌≡◌, ◌↔◌, ℕ, ◌⊎◌}
 use Rattle.std.proofs.Common.{inl, inr, refl, subst}
-use Rattle.lexmeaning.specs.ByteSets.{ByteSet}
+use Rattle.lex_semantics.specs.ByteSets.{ByteSet}
 use Rattle.lexauto.specs.Flows.{Exits, Enters}
 use Rattle.lexauto.specs.PositionAutomaton.{Quad, skip, leaf, cat, alt, plus, opt}
 

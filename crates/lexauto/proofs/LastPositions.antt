@@ -1,8 +1,8 @@
 -- What a word leaves, and how one more byte changes it.
 use Rattle.std.specs.Prelude.{◌≡◌, ◌≢◌, ◌↔◌, ℕ, ◌⊎◌, List, [], ◌∷◌, ◌++◌}
 use Rattle.std.proofs.Common.{inl, inr, refl, ap, sym, subst, ◌∙◌}
-use Rattle.lexmeaning.specs.Positions.{Cell, Readings, bytes_of, ReadsWord}
-use Rattle.lexmeaning.specs.Subsets.{EndsAt, IsLast}
+use Rattle.lex_semantics.specs.Positions.{Cell, Readings, bytes_of, ReadsWord}
+use Rattle.lex_semantics.specs.Subsets.{EndsAt, IsLast}
 use Rattle.lexauto.specs.PositionAutomaton.{Quad, From, Whole}
 use Rattle.lexauto.proofs.Glushkov.{Describes}
 use Rattle.lexauto.proofs.Trimmed.{Finishes, from_any}

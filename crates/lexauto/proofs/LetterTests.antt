@@ -1,11 +1,11 @@
 -- The positions that read a byte are those whose letter it is.
 use Rattle.std.specs.Prelude.{◌≡◌, ◌↔◌, ℕ, zero, suc, ◌+◌, ◌-◌, ◌*◌, ◌<◌, max, ◌||◌, ◌==◌, Bool, true, false, List, [], ◌∷◌, Option, Some, None}
 use Rattle.std.proofs.Common.{refl, ap, sym, subst, ◌∙◌, arith}
-use Rattle.lexmeaning.specs.ByteSets.{has}
-use Rattle.lexmeaning.specs.Tree.{Tree, Trees, Empty, Set, Cat, Alt, Star, Repeat, no_trees, tree}
-use Rattle.lexmeaning.specs.Positions.{copies, positions, positions_of}
-use Rattle.lexmeaning.specs.Spec.{Rule}
-use Rattle.lexmeaning.specs.Subsets.{positions_of_rule}
+use Rattle.lex_semantics.specs.ByteSets.{has}
+use Rattle.lex_semantics.specs.Tree.{Tree, Trees, Empty, Set, Cat, Alt, Star, Repeat, no_trees, tree}
+use Rattle.lex_semantics.specs.Positions.{copies, positions, positions_of}
+use Rattle.lex_semantics.specs.Spec.{Rule}
+use Rattle.lex_semantics.specs.Subsets.{positions_of_rule}
 use Rattle.lexauto.specs.PositionAutomaton.{Quad, times, chain, repeated, quad, quad_all, quad_one}
 use Rattle.lexauto.specs.RuleAutomaton.{trail_quad, active_quad, every}
 use Rattle.lexauto.specs.RuleFlow.{copies_read, reads, each_read, trail_reads, rules_read}

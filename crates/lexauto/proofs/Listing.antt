@@ -1,8 +1,8 @@
 -- One set more.
 use Rattle.std.proofs.Common.{◌≡◌, ◌+◌, ◌||◌, ℕ, Bool, List, [], ◌∷◌, ◌++◌, length, sym, ap, ◌∙◌, arith}
 use Rattle.std.specs.Prelude.{◌&&◌, ◌==◌}
-use Rattle.lexmeaning.specs.ByteSets.{ByteSet, has}
-use Rattle.lexmeaning.specs.Tree.{Tree, Set}
+use Rattle.lex_semantics.specs.ByteSets.{ByteSet, has}
+use Rattle.lex_semantics.specs.Tree.{Tree, Set}
 use Rattle.lexauto.specs.RuleFlow.{reads}
 use Rattle.lexauto.specs.Letters.{reads_at}
 use Rattle.lexauto.proofs.Copies.{or_false, or_assoc}

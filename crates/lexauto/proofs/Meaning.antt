@@ -1,20 +1,20 @@
 -- The words that fit rules, by readings.
 use Rattle.std.specs.Prelude.{◌≢◌, ◌↔◌, slice_get, IsTrue}
 use Rattle.std.proofs.Common.{◌≡◌, ℕ, zero, suc, ◌+◌, ◌≤◌, Bool, true, List, [], ◌∷◌, ◌++◌, length, inl, inr, Option, Some, None, IfSome, refl, sym, ◌∙◌, ap, subst, arith}
-use Rattle.lexmeaning.specs.Text.{IsText}
-use Rattle.lexmeaning.specs.Tree.{Tree, Trees, Empty, Set, Cat, Alt, Star, Repeat, no_trees, tree, Joined, In, InEach, InSome}
-use Rattle.lexmeaning.specs.Positions.{Cell, positions, bytes_of, ReadsWord}
-use Rattle.lexmeaning.specs.Spec.{Spec, Rule}
-use Rattle.lexmeaning.specs.Active.{active}
-use Rattle.lexmeaning.specs.Fits.{InTrail, Fits}
-use Rattle.lexmeaning.specs.Rules.{Live}
-use Rattle.lexmeaning.specs.Reports.{HasFit}
-use Rattle.lexmeaning.specs.Subsets.{base_of, positions_of_rule, ReadsTrail, ReadsRule, ReadsActive}
-use Rattle.lexmeaning.proofs.WordReadings.{word_readings, bytes_join}
-use Rattle.lexmeaning.proofs.Texts.{is_text_right, is_text_append}
+use Rattle.lex_semantics.specs.Text.{IsText}
+use Rattle.lex_semantics.specs.Tree.{Tree, Trees, Empty, Set, Cat, Alt, Star, Repeat, no_trees, tree, Joined, In, InEach, InSome}
+use Rattle.lex_semantics.specs.Positions.{Cell, positions, bytes_of, ReadsWord}
+use Rattle.lex_semantics.specs.Spec.{Spec, Rule}
+use Rattle.lex_semantics.specs.Active.{active}
+use Rattle.lex_semantics.specs.Fits.{InTrail, Fits}
+use Rattle.lex_semantics.specs.Rules.{Live}
+use Rattle.lex_semantics.specs.Reports.{HasFit}
+use Rattle.lex_semantics.specs.Subsets.{base_of, positions_of_rule, ReadsTrail, ReadsRule, ReadsActive}
+use Rattle.lex_semantics.proofs.WordReadings.{word_readings, bytes_join}
+use Rattle.lex_semantics.proofs.Texts.{is_text_right, is_text_append}
 use Rattle.lexauto.specs.RuleAutomaton.{is_on}
-use Rattle.lexmeaning.specs.Shapes.{IsSoundTree}
-use Rattle.lexmeaning.specs.Sound.{IsSoundRule}
+use Rattle.lex_semantics.specs.Shapes.{IsSoundTree}
+use Rattle.lex_semantics.specs.Sound.{IsSoundRule}
 use Rattle.lexauto.proofs.ActiveRules.{ReadsSomeRule, AreSound, SoundTrail}
 use Rattle.lexauto.proofs.LastPositions.{GoesOn}
 
@@ -66,15 +66,15 @@ some_bytes [] h = absurd (h refl)
 some_bytes (c ∷ us) h = omega arith
 
 -- A word that fits a rule has a reading of the rule, and a word with a reading of an active rule fits it.
-pub fit_read : (S : Spec) (c : ℕ) (bol : Bool) (w : List ℕ) (i k base : ℕ) → (h : Fits S c bol w i k) → ReadsWord (ReadsRule h.rule base) w
-fit_read S c bol w i k base h =
+pub fit_read : (S : Spec) (c : ℕ) (line_start : Bool) (w : List ℕ) (i k base : ℕ) → (h : Fits S c line_start w i k) → ReadsWord (ReadsRule h.rule base) w
+fit_read S c line_start w i k base h =
     let (us, is_u, read) = (word_readings h.rule.head base h.text).0 h.in_head in
     let (vs, is_v, reads) = trail_read h.rule.trail (base + positions h.rule.head) h.trail h.in_trail in
     let some : 1 ≤ length (bytes_of us) = subst (λ (z : List ℕ). 1 ≤ length z) (sym is_u) (omega (arith, h.length_is, h.not_empty)) in
     (us ++ vs, bytes_join us vs ∙ ap (λ z. z ++ bytes_of vs) is_u ∙ ap (λ z. h.text ++ z) is_v ∙ sym h.splits, (us, vs, refl, (read, not_nil us some), reads))
 
-pub read_fit : (S : Spec) (c : ℕ) (bol : Bool) (w : List ℕ) (i base : ℕ) (r : Rule) → slice_get S.rules i ≡ Some r → active S c bol r ≡ true → ReadsWord (ReadsRule r base) w → HasFit S c bol w i
-read_fit S c bol w i base r at on (rs, is_w, (us, vs, e, (read, some), reads)) = (
+pub read_fit : (S : Spec) (c : ℕ) (line_start : Bool) (w : List ℕ) (i base : ℕ) (r : Rule) → slice_get S.rules i ≡ Some r → active S c line_start r ≡ true → ReadsWord (ReadsRule r base) w → HasFit S c line_start w i
+read_fit S c line_start w i base r at on (rs, is_w, (us, vs, e, (read, some), reads)) = (
   length (bytes_of us),
   record {
     rule = r;
@@ -90,13 +90,13 @@ read_fit S c bol w i base r at on (rs, is_w, (us, vs, e, (read, some), reads)) =
   },
 )
 
-fit_text : (S : Spec) (c : ℕ) (bol : Bool) (w : List ℕ) (i k : ℕ) → Fits S c bol w i k → IsText w
-fit_text S c bol w i k h = subst IsText (sym h.splits) (is_text_append h.text h.trail (word_text h.rule.head h.text h.in_head) (trail_text h.rule.trail h.trail h.in_trail))
+fit_text : (S : Spec) (c : ℕ) (line_start : Bool) (w : List ℕ) (i k : ℕ) → Fits S c line_start w i k → IsText w
+fit_text S c line_start w i k h = subst IsText (sym h.splits) (is_text_append h.text h.trail (word_text h.rule.head h.text h.in_head) (trail_text h.rule.trail h.trail h.in_trail))
 
-pub active_fit : (S : Spec) (c : ℕ) (bol : Bool) (w : List ℕ) → ReadsWord (ReadsActive S c bol) w ↔ ((i : ℕ) × HasFit S c bol w i)
-active_fit S c bol w = (
-  λ (rs, e, (i, r, at, on, reads)). (i, read_fit S c bol w i (base_of S.rules 0 i) r at on (rs, e, reads)),
-  λ (i, (k, h)). (let r = fit_read S c bol w i k (base_of S.rules 0 i) h in (r.0, r.1, (i, h.rule, h.at, h.is_active, r.2))),
+pub active_fit : (S : Spec) (c : ℕ) (line_start : Bool) (w : List ℕ) → ReadsWord (ReadsActive S c line_start) w ↔ ((i : ℕ) × HasFit S c line_start w i)
+active_fit S c line_start w = (
+  λ (rs, e, (i, r, at, on, reads)). (i, read_fit S c line_start w i (base_of S.rules 0 i) r at on (rs, e, reads)),
+  λ (i, (k, h)). (let r = fit_read S c line_start w i k (base_of S.rules 0 i) h in (r.0, r.1, (i, h.rule, h.at, h.is_active, r.2))),
 )
 
 some_length : (u : List ℕ) → u ≢ [] → 1 ≤ length u
@@ -111,11 +111,11 @@ length_some (b ∷ u) h e = absurd (no e)
     no p = cc
 
 -- A word is live exactly if some reading of an active rule goes on from it.
-pub live_goes_on : (S : Spec) (c : ℕ) (bol : Bool) (w : List ℕ) → Live S c bol w ↔ GoesOn (ReadsActive S c bol) w
-live_goes_on S c bol w = (
-  λ (u, text, some, i, k, h). (u, length_some u some, (active_fit S c bol (w ++ u)).1 (i, (k, h))),
-  λ (u, some, reads). (let f = (active_fit S c bol (w ++ u)).0 reads in
-      (u, is_text_right w u (fit_text S c bol (w ++ u) f.0 f.1.0 f.1.1), some_length u some, f.0, f.1.0, f.1.1)),
+pub live_goes_on : (S : Spec) (c : ℕ) (line_start : Bool) (w : List ℕ) → Live S c line_start w ↔ GoesOn (ReadsActive S c line_start) w
+live_goes_on S c line_start w = (
+  λ (u, text, some, i, k, h). (u, length_some u some, (active_fit S c line_start (w ++ u)).1 (i, (k, h))),
+  λ (u, some, reads). (let f = (active_fit S c line_start (w ++ u)).0 reads in
+      (u, is_text_right w u (fit_text S c line_start (w ++ u) f.0 f.1.0 f.1.1), some_length u some, f.0, f.1.0, f.1.1)),
 )
 
 -- the readings of active rules, rule by rule
@@ -143,13 +143,13 @@ from_some on i base (q ∷ rules) rs (inr h) =
     let e : suc i + j ≡ i + suc j = omega arith in
     (suc j, r, at, subst (λ z. on z ≡ true) e is, reads)
 
-pub active_some : (S : Spec) (c : ℕ) (bol : Bool) (rs : List Cell) → ReadsActive S c bol rs ↔ ReadsSomeRule (λ i. is_on S c bol (slice_get S.rules i)) 0 0 S.rules rs
-active_some S c bol rs = (
+pub active_some : (S : Spec) (c : ℕ) (line_start : Bool) (rs : List Cell) → ReadsActive S c line_start rs ↔ ReadsSomeRule (λ i. is_on S c line_start (slice_get S.rules i)) 0 0 S.rules rs
+active_some S c line_start rs = (
   λ (i, r, at, on, reads). (let e : 0 + i ≡ i = omega arith in
-      to_some (λ i. is_on S c bol (slice_get S.rules i)) 0 0 S.rules rs i r at (subst (λ z. is_on S c bol (slice_get S.rules z) ≡ true) (sym e) (ap (is_on S c bol) at ∙ on)) reads),
-  λ h. (let (j, r, at, is, reads) = from_some (λ i. is_on S c bol (slice_get S.rules i)) 0 0 S.rules rs h in
+      to_some (λ i. is_on S c line_start (slice_get S.rules i)) 0 0 S.rules rs i r at (subst (λ z. is_on S c line_start (slice_get S.rules z) ≡ true) (sym e) (ap (is_on S c line_start) at ∙ on)) reads),
+  λ h. (let (j, r, at, is, reads) = from_some (λ i. is_on S c line_start (slice_get S.rules i)) 0 0 S.rules rs h in
       let e : 0 + j ≡ j = omega arith in
-      (j, r, at, ap (is_on S c bol) (sym at) ∙ subst (λ z. is_on S c bol (slice_get S.rules z) ≡ true) e is, reads)),
+      (j, r, at, ap (is_on S c line_start) (sym at) ∙ subst (λ z. is_on S c line_start (slice_get S.rules z) ≡ true) e is, reads)),
 )
 
 -- sound rules

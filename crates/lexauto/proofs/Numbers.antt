@@ -4,8 +4,8 @@ use Rattle.std.proofs.Common.{rules, inl, inr, refl, ap, sym, ◌∙◌, arith}
 use Rattle.std.proofs.lemmas.List.{append_assoc}
 use Rattle.std.proofs.lemmas.Bool.{ltb-true, eqb-true, eq-eqb}
 use Rattle.std.specs.List.{filter}
-use Rattle.lexmeaning.specs.Text.{Among, Ascending, listed}
-use Rattle.lexmeaning.specs.Active.{lists}
+use Rattle.lex_semantics.specs.Text.{Among, Ascending, listed}
+use Rattle.lex_semantics.specs.Active.{lists}
 use Rattle.lexauto.specs.Keys.{Key}
 use Rattle.lexauto.specs.Sets.{marked, tagged, starts_in, lasts_in}
 use Rattle.lexauto.proofs.FlowMeaning.{both, either, or_is, and_is, no_true}

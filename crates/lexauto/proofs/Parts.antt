@@ -1,7 +1,7 @@
 -- A position automaton reads what its tree reads.
 use Rattle.std.specs.Prelude.{◌≡◌, ℕ, zero, suc, ◌<◌, ◌≤◌, ◌⊎◌, List, [], ◌∷◌, ◌++◌}
 use Rattle.std.proofs.Common.{inl, inr, refl, ap, arith}
-use Rattle.lexmeaning.specs.Positions.{Cell, Readings, Passes}
+use Rattle.lex_semantics.specs.Positions.{Cell, Readings, Passes}
 use Rattle.lexauto.specs.PositionAutomaton.{Quad, cat, alt, plus, opt, From, Whole}
 
 -- every position of the automaton is in a range

@@ -1,7 +1,7 @@
 -- A part that is not entered and has none of the last positions is not left, and none of its positions is next.
 use Rattle.std.proofs.Common.{◌≡◌, ℕ, ◌+◌, ◌<◌, ◌≤◌, Bool, true, false, inl, inr, refl, sym, ◌∙◌}
-use Rattle.lexmeaning.specs.Tree.{Tree}
-use Rattle.lexmeaning.specs.Positions.{positions}
+use Rattle.lex_semantics.specs.Tree.{Tree}
+use Rattle.lex_semantics.specs.Positions.{positions}
 use Rattle.lexauto.specs.Flow.{exits, enters}
 use Rattle.lexauto.proofs.FlowMeaning.{exits_is, enters_is, no_true}
 use Rattle.lexauto.proofs.Glushkov.{glushkov}

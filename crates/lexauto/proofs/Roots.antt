@@ -3,7 +3,7 @@ use Rattle.std.specs.Prelude.{◌≡◌, ℕ, ◌+◌, ◌≤◌, ◌⊎◌, Boo
 use Rattle.std.proofs.Common.{inl, inr, sym, subst, ◌∙◌, arith}
 use Rattle.std.proofs.lemmas.Bool.{cases_lt}
 use Rattle.std.proofs.lemmas.List.{get_or_push, get_or_append_left, length-append}
-use Rattle.lexmeaning.specs.Spec.{Spec}
+use Rattle.lex_semantics.specs.Spec.{Spec}
 use Rattle.lexauto.specs.Keys.{Key, At, Absent, Finds, Found}
 use Rattle.lexauto.specs.Explored.{MoreThan}
 use Rattle.lexauto.specs.WordKeys.{start_key, IsRoot, AreRoots, AreStartPlaces, Grows}
@@ -25,12 +25,12 @@ module _ (S : Spec) where
     only = λ i q a. elim (grown_only keys new k found i q a) [ inl o ↦ r.only i q o | inr e ↦ subst (IsRoot S) (sym e) root ];
   }
 
-  pub more_places : (bol : Bool) (keys new : List Key) (places : List ℕ) (place n : ℕ) → length places ≡ n → Grows keys new → AreStartPlaces S bol keys places
-      → At new place (start_key S n bol) → AreStartPlaces S bol new (places ++ place ∷ [])
-  more_places bol keys new places place n len grows are here = λ c h.
+  pub more_places : (line_start : Bool) (keys new : List Key) (places : List ℕ) (place n : ℕ) → length places ≡ n → Grows keys new → AreStartPlaces S line_start keys places
+      → At new place (start_key S n line_start) → AreStartPlaces S line_start new (places ++ place ∷ [])
+  more_places line_start keys new places place n len grows are here = λ c h.
       let size : length (places ++ place ∷ []) ≡ length places + 1 = length-append places (place ∷ []) in
       elim (cases_lt c (length places)) [
-        | inl lt ↦ rw (get_or_append_left places (place ∷ []) 0 c lt) (grows (slice_index places c) (start_key S c bol) (are c lt))
+        | inl lt ↦ rw (get_or_append_left places (place ∷ []) 0 c lt) (grows (slice_index places c) (start_key S c line_start) (are c lt))
         | inr ge ↦ (let same : c ≡ n = omega arith in rw (same, get_or_push places place 0 n len) here)
       ]
 

@@ -2,8 +2,8 @@
 use Rattle.std.specs.Prelude.{◌≡◌, ℕ, ◌+◌, ◌||◌, Bool, true, false, List, [], ◌∷◌, ◌++◌, Some}
 use Rattle.std.proofs.Common.{refl, ap, sym, subst, ◌∙◌, arith}
 use Rattle.std.proofs.Math.Path.{fun_ext}
-use Rattle.lexmeaning.specs.Tree.{Tree, Trees, Empty, Cat, Alt, no_trees, tree, trees}
-use Rattle.lexmeaning.specs.Positions.{positions, positions_of}
+use Rattle.lex_semantics.specs.Tree.{Tree, Trees, Empty, Cat, Alt, no_trees, tree, trees}
+use Rattle.lex_semantics.specs.Positions.{positions, positions_of}
 use Rattle.lexauto.specs.Flow.{exits, exits_each, exits_some, enters, enters_each, enters_some}
 use Rattle.lexauto.specs.RuleFlow.{reads, each_read}
 use Rattle.lexauto.specs.Alike.{Alike, AlikeAll, choice_of}

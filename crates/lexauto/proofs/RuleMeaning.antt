@@ -1,10 +1,10 @@
 -- The tests of a step through rules say how the positions of their automata move, and which of them end.
 use Rattle.std.specs.Prelude.{◌≡◌, ◌↔◌, ℕ, suc, ◌+◌, Bool, true, false, ◌⊎◌, List, [], ◌∷◌, Option, Some, None}
 use Rattle.std.proofs.Common.{inl, inr, refl}
-use Rattle.lexmeaning.specs.Tree.{Tree}
-use Rattle.lexmeaning.specs.Positions.{positions}
-use Rattle.lexmeaning.specs.Spec.{Rule}
-use Rattle.lexmeaning.specs.Subsets.{positions_of_rule}
+use Rattle.lex_semantics.specs.Tree.{Tree}
+use Rattle.lex_semantics.specs.Positions.{positions}
+use Rattle.lex_semantics.specs.Spec.{Rule}
+use Rattle.lex_semantics.specs.Subsets.{positions_of_rule}
 use Rattle.lexauto.specs.PositionAutomaton.{Quad, quad}
 use Rattle.lexauto.specs.Flows.{Exits, Enters}
 use Rattle.lexauto.specs.Flow.{exits, enters}

@@ -2,8 +2,8 @@
 use Rattle.std.specs.Prelude.{◌≡◌, ℕ, ◌||◌, ◌&&◌, Bool, true, false, Some, None}
 use Rattle.std.proofs.Common.{refl, ap, sym, ◌∙◌, arith}
 use Rattle.std.proofs.Math.Path.{fun_ext}
-use Rattle.lexmeaning.specs.Tree.{Tree, Star, Repeat}
-use Rattle.lexmeaning.specs.Positions.{positions}
+use Rattle.lex_semantics.specs.Tree.{Tree, Star, Repeat}
+use Rattle.lex_semantics.specs.Positions.{positions}
 use Rattle.lexauto.specs.Flow.{exits, enters}
 use Rattle.lexauto.specs.RuleFlow.{reads}
 use Rattle.lexauto.specs.Alike.{Alike}

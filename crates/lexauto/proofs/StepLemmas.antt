@@ -9,14 +9,14 @@ use Rattle.std.specs.Bool.{Decides}
 use Rattle.std.specs.Cmp.Lexicographic.{pointwise}
 use Rattle.std.proofs.lemmas.Slice.Eq.{slice_eq-Decides}
 use Rattle.std.specs.List.{filter}
-use Rattle.lexmeaning.specs.Spec.{Spec, Rule}
-use Rattle.lexmeaning.specs.Sound.{IsSoundRule, HaveSoundSides}
-use Rattle.lexmeaning.specs.Limits.{max_conditions, max_rules}
+use Rattle.lex_semantics.specs.Spec.{Spec, Rule}
+use Rattle.lex_semantics.specs.Sound.{IsSoundRule, HaveSoundSides}
+use Rattle.lex_semantics.specs.Limits.{max_conditions, max_rules}
 use Rattle.lexspec.specs.Tests.{is_sound, sound_conditions, sound_rules}
 use Rattle.lexauto.proofs.FlowMeaning.{and_is}
 use Rattle.lexspec.proofs.TestLaws.{spec_is_sound}
 use Rattle.lexauto.specs.Keys.{Key}
-use Rattle.lexmeaning.specs.Text.{flag, listed}
+use Rattle.lex_semantics.specs.Text.{flag, listed}
 use Rattle.lexauto.specs.RuleFlow.{rules_enter, rules_read}
 use Rattle.lexauto.specs.Sets.{marked, tagged, starts_in, lasts_in}
 use Rattle.lexauto.specs.Moving.{masks_in, mask_at, followers_in, reading_in}

@@ -2,9 +2,9 @@
 use Rattle.std.specs.Prelude.{◌≡◌, ℕ, ◌+◌, ◌*◌, ◌/◌, ◌%◌, ◌<◌, true, false, List, [], length, Option, slice_index}
 use Rattle.std.proofs.Common.{sym, subst, arith}
 use Rattle.std.proofs.lemmas.Option.{slice_get_within, slice_get-get_or}
-use Rattle.lexmeaning.specs.Spec.{Spec}
-use Rattle.lexmeaning.specs.Sound.{IsSound}
-use Rattle.lexmeaning.specs.Subsets.{Subsets, all_positions}
+use Rattle.lex_semantics.specs.Spec.{Spec}
+use Rattle.lex_semantics.specs.Sound.{IsSound}
+use Rattle.lex_semantics.specs.Subsets.{Subsets, all_positions}
 use Rattle.lexauto.specs.Moving.{followers_in, reading_in}
 use Rattle.lexauto.specs.Keys.{Key, At}
 use Rattle.lexauto.specs.Explored.{IsAutomaton, MoreThan, Reached, key_at, step_by}

@@ -5,26 +5,26 @@ use Rattle.std.specs.Prelude.{◌≡◌, ◌≢◌, ◌↔◌, ℕ, zero, suc, �
 use Rattle.std.proofs.Common.{rules, inl, inr, refl, ap, sym, subst, ◌∙◌, arith}
 use Rattle.std.proofs.lemmas.Option.{slice_get-get_or, slice_get_within}
 use Rattle.std.proofs.lemmas.Bool.{cases_Bool, cases_lt, cond-true, cond-false, ltb-true}
-use Rattle.lexmeaning.specs.Text.{IsText, Among, Ascending}
-use Rattle.lexmeaning.specs.Spec.{Spec, Rule, rejects, statements_at}
-use Rattle.lexmeaning.specs.Rules.{Live}
-use Rattle.lexmeaning.specs.Legal.{IsLegal}
-use Rattle.lexmeaning.specs.MachineLaws.{MachineLaws, LeadsToAccept}
-use Rattle.lexmeaning.proofs.MachineLaws.{walk-append}
-use Rattle.lexmeaning.proofs.Texts.{is_text_append}
-use Rattle.lexmeaning.specs.Reports.{HasFit}
-use Rattle.lexmeaning.specs.Sound.{IsSound}
-use Rattle.lexmeaning.specs.Subsets.{all_positions}
-use Rattle.lexmeaning.specs.Machine.{Machine, walk, state_after}
-use Rattle.lexmeaning.specs.TableFor.{TableFor, Accepted}
+use Rattle.lex_semantics.specs.Text.{IsText, Among, Ascending}
+use Rattle.lex_semantics.specs.Spec.{Spec, Rule, rejects, statements_at}
+use Rattle.lex_semantics.specs.Rules.{Live}
+use Rattle.lex_semantics.specs.Legal.{IsLegal}
+use Rattle.lex_semantics.specs.MachineLaws.{MachineLaws, LeadsToAccept}
+use Rattle.lex_semantics.proofs.MachineLaws.{walk-append}
+use Rattle.lex_semantics.proofs.Texts.{is_text_append}
+use Rattle.lex_semantics.specs.Reports.{HasFit}
+use Rattle.lex_semantics.specs.Sound.{IsSound}
+use Rattle.lex_semantics.specs.Subsets.{all_positions}
+use Rattle.lex_semantics.specs.Machine.{Machine, walk, state_after}
+use Rattle.lex_semantics.specs.TableFor.{TableFor, Accepted}
 use Rattle.lexauto.specs.RuleFlow.{rules_left}
 use Rattle.lexauto.specs.Sets.{marked, lasts_in}
 use Rattle.lexauto.specs.Moving.{followers_in}
 use Rattle.lexauto.specs.Keys.{Key, At}
 use Rattle.lexauto.specs.Explored.{run, Reached, key_at}
 use Rattle.lexauto.specs.WordKeys.{start_key, step_in, Surveys}
-use Rattle.lexmeaning.specs.Reading.{is_empty}
-use Rattle.lexdfa.specs.Machines.{machine_with, cut_at, moving, IsReached}
+use Rattle.lex_semantics.specs.Reading.{is_empty}
+use Rattle.lexauto_dfa.specs.Machines.{machine_with, cut_at, moving, IsReached}
 use Rattle.lexauto.specs.Facts.{accepted_by, chosen, goes_on_by, AcceptedBy, GoOnBy}
 use Rattle.lexauto.proofs.FlowMeaning.{both, back, no_true}
 use Rattle.lexauto.proofs.RuleMeaning.{rule_exits_is}
@@ -45,16 +45,16 @@ chosen_ascends false [] h = tt
 chosen_ascends false (x ∷ l) h = (λ j a. absurd a, tt)
 
 -- nothing fits the empty word
-no_fit : (S : Spec) (c : ℕ) (bol : Bool) (i : ℕ) → HasFit S c bol [] i → ⊥
-no_fit S c bol i (k, h) = empty h.text h.trail h.splits (let e = h.length_is in let n = h.not_empty in omega (arith, e, n))
+no_fit : (S : Spec) (c : ℕ) (line_start : Bool) (i : ℕ) → HasFit S c line_start [] i → ⊥
+no_fit S c line_start i (k, h) = empty h.text h.trail h.splits (let e = h.length_is in let n = h.not_empty in omega (arith, e, n))
   where
     empty : (u v : List ℕ) → [] ≡ u ++ v → 1 ≤ length u → ⊥
     empty [] v e n = omega (arith, n)
     empty (x ∷ u) v e n = absurd cc
 
-chosen_is : (all : Bool) (S : Spec) (c : ℕ) (bol : Bool) (w : List ℕ) (l : List ℕ) → Ascending l → ((i : ℕ) → Among l i ↔ HasFit S c bol w i) → (i : ℕ) → Among (chosen all l) i ↔ Accepted all S c bol w i
-chosen_is true S c bol w l up fits i = fits i
-chosen_is false S c bol w l up fits i = both (first_is l up i) (
+chosen_is : (all : Bool) (S : Spec) (c : ℕ) (line_start : Bool) (w : List ℕ) (l : List ℕ) → Ascending l → ((i : ℕ) → Among l i ↔ HasFit S c line_start w i) → (i : ℕ) → Among (chosen all l) i ↔ Accepted all S c line_start w i
+chosen_is true S c line_start w l up fits i = fits i
+chosen_is false S c line_start w l up fits i = both (first_is l up i) (
   (λ (a, least). ((fits i).0 a, λ j lt f. least j lt ((fits j).1 f))),
   (λ (f, least). ((fits i).1 f, λ j lt a. least j lt ((fits j).0 a))),
 )
@@ -89,9 +89,9 @@ some_chosen false (x ∷ l) i a = (x, inl refl)
 module _ (S : Spec) (sound : IsSound S) (keys : List Key) (next starts line_starts : List ℕ) (s : Surveys S keys next starts line_starts)
     (accepts : List (List ℕ)) (goes : List Bool) (accepted : AcceptedBy S keys accepts) (on : GoOnBy S keys goes) where
   M : Machine
-  M = machine_with S (λ c bol. cond bol (slice_index line_starts c) (slice_index starts c)) (moving next) (λ p. slice_index_or accepts p []) (λ p. slice_index_or goes p false)
+  M = machine_with S (λ c line_start. cond line_start (slice_index line_starts c) (slice_index starts c)) (moving next) (λ p. slice_index_or accepts p []) (λ p. slice_index_or goes p false)
 
-  start_at : (c : ℕ) (bol : Bool) → c < length S.conditions → At keys (cond bol (slice_index line_starts c) (slice_index starts c)) (start_key S c bol)
+  start_at : (c : ℕ) (line_start : Bool) → c < length S.conditions → At keys (cond line_start (slice_index line_starts c) (slice_index starts c)) (start_key S c line_start)
   start_at c true h = s.automaton.starts (slice_index line_starts c) (start_key S c true) (s.lines_are c (let e = s.lines_len in omega (arith, e, h)))
   start_at c false h = s.automaton.starts (slice_index starts c) (start_key S c false) (s.starts_are c (let e = s.starts_len in omega (arith, e, h)))
 
@@ -100,53 +100,53 @@ module _ (S : Spec) (sound : IsSound S) (keys : List Key) (next starts line_star
   walk_at p k [] a h = a
   walk_at p k (b ∷ w) a h = walk_at (moving next p b) (step_in S k b) w (subst (λ (q : ℕ). At keys q (step_in S k b)) (sym (moved next p b h.0)) (s.automaton.moves p b k h.0 a)) h.1
 
-  after_at : (c : ℕ) (bol : Bool) (w : List ℕ) → c < length S.conditions → IsText w → At keys (state_after M c bol w) (run (step_in S) (start_key S c bol) w)
+  after_at : (c : ℕ) (line_start : Bool) (w : List ℕ) → c < length S.conditions → IsText w → At keys (state_after M c line_start w) (run (step_in S) (start_key S c line_start) w)
   unfolding M
-  after_at c bol w h text = walk_at (cond bol (slice_index line_starts c) (slice_index starts c)) (start_key S c bol) w (start_at c bol h) text
+  after_at c line_start w h text = walk_at (cond line_start (slice_index line_starts c) (slice_index starts c)) (start_key S c line_start) w (start_at c line_start h) text
 
-  accepts_after : (c : ℕ) (bol : Bool) (w : List ℕ) → c < length S.conditions → IsText w → M.accepts (state_after M c bol w) ≡ accepted_by S (run (step_in S) (start_key S c bol) w)
+  accepts_after : (c : ℕ) (line_start : Bool) (w : List ℕ) → c < length S.conditions → IsText w → M.accepts (state_after M c line_start w) ≡ accepted_by S (run (step_in S) (start_key S c line_start) w)
   unfolding M
-  accepts_after c bol w h text = accepted (state_after M c bol w) (run (step_in S) (start_key S c bol) w) (after_at c bol w h text)
+  accepts_after c line_start w h text = accepted (state_after M c line_start w) (run (step_in S) (start_key S c line_start) w) (after_at c line_start w h text)
 
-  goes_after : (c : ℕ) (bol : Bool) (w : List ℕ) → c < length S.conditions → IsText w → M.goes_on (state_after M c bol w) ≡ goes_on_by S (run (step_in S) (start_key S c bol) w)
+  goes_after : (c : ℕ) (line_start : Bool) (w : List ℕ) → c < length S.conditions → IsText w → M.goes_on (state_after M c line_start w) ≡ goes_on_by S (run (step_in S) (start_key S c line_start) w)
   unfolding M
-  goes_after c bol w h text = on (state_after M c bol w) (run (step_in S) (start_key S c bol) w) (after_at c bol w h text)
+  goes_after c line_start w h text = on (state_after M c line_start w) (run (step_in S) (start_key S c line_start) w) (after_at c line_start w h text)
 
   no_cons : (b : ℕ) (w : List ℕ) → b ∷ w ≢ []
   no_cons b w e = absurd cc
 
-  left_fit : (c : ℕ) (bol : Bool) (w : List ℕ) → IsText w → (i : ℕ)
-      → Among (rules_left S.rules (marked (all_positions S.rules) (lasts_in (run (step_in S) (start_key S c bol) w))) 0 0) i ↔ HasFit S c bol w i
-  left_fit c bol [] text i =
-      let last = marked (all_positions S.rules) (lasts_in (start_key S c bol)) in (
-        λ a. (let (r, at, e) = (rules_left_is last S.rules i).0 a in let (p, is, l) = (rule_exits_is last r _).0 e in absurd (start_lasts S c bol p is)),
-        λ f. absurd (no_fit S c bol i f),
+  left_fit : (c : ℕ) (line_start : Bool) (w : List ℕ) → IsText w → (i : ℕ)
+      → Among (rules_left S.rules (marked (all_positions S.rules) (lasts_in (run (step_in S) (start_key S c line_start) w))) 0 0) i ↔ HasFit S c line_start w i
+  left_fit c line_start [] text i =
+      let last = marked (all_positions S.rules) (lasts_in (start_key S c line_start)) in (
+        λ a. (let (r, at, e) = (rules_left_is last S.rules i).0 a in let (p, is, l) = (rule_exits_is last r _).0 e in absurd (start_lasts S c line_start p is)),
+        λ f. absurd (no_fit S c line_start i f),
       )
-  left_fit c bol (b ∷ w) text i = rules_fit S sound c bol (b ∷ w) (no_cons b w) (run (step_in S) (start_key S c bol) (b ∷ w)) (word_key S c bol sound b w text.0 text.1) i
+  left_fit c line_start (b ∷ w) text i = rules_fit S sound c line_start (b ∷ w) (no_cons b w) (run (step_in S) (start_key S c line_start) (b ∷ w)) (word_key S c line_start sound b w text.0 text.1) i
 
-  some_live : (c : ℕ) (bol : Bool) (w : List ℕ) → IsText w → (goes_on_by S (run (step_in S) (start_key S c bol) w) ≡ true) ↔ Live S c bol w
-  some_live c bol [] text = both (some_is (followers_in S.rules (all_positions S.rules) (start_key S c bol))) (back (start_live S c bol sound))
-  some_live c bol (b ∷ w) text =
-      let k = run (step_in S) (start_key S c bol) (b ∷ w) in
-      both (some_is (followers_in S.rules (all_positions S.rules) k)) (back (later_live S c bol sound (b ∷ w) k (no_cons b w) (word_key S c bol sound b w text.0 text.1)))
+  some_live : (c : ℕ) (line_start : Bool) (w : List ℕ) → IsText w → (goes_on_by S (run (step_in S) (start_key S c line_start) w) ≡ true) ↔ Live S c line_start w
+  some_live c line_start [] text = both (some_is (followers_in S.rules (all_positions S.rules) (start_key S c line_start))) (back (start_live S c line_start sound))
+  some_live c line_start (b ∷ w) text =
+      let k = run (step_in S) (start_key S c line_start) (b ∷ w) in
+      both (some_is (followers_in S.rules (all_positions S.rules) k)) (back (later_live S c line_start sound (b ∷ w) k (no_cons b w) (word_key S c line_start sound b w text.0 text.1)))
 
   table : TableFor M S
   unfolding M
   table = record {
     conditions = refl;
     count = refl;
-    ascending = λ c bol w h text. subst Ascending (sym (accepts_after c bol w h text))
-        (chosen_ascends (rejects S) (rules_left S.rules (marked (all_positions S.rules) (lasts_in (run (step_in S) (start_key S c bol) w))) 0 0) (left_ascend (marked (all_positions S.rules) (lasts_in (run (step_in S) (start_key S c bol) w))) S.rules 0 0));
-    accepts = λ c bol w i h text.
-        let l = rules_left S.rules (marked (all_positions S.rules) (lasts_in (run (step_in S) (start_key S c bol) w))) 0 0 in
-        let e = accepts_after c bol w h text in
-        let is = chosen_is (rejects S) S c bol w l (left_ascend (marked (all_positions S.rules) (lasts_in (run (step_in S) (start_key S c bol) w))) S.rules 0 0) (left_fit c bol w text) i in (
+    ascending = λ c line_start w h text. subst Ascending (sym (accepts_after c line_start w h text))
+        (chosen_ascends (rejects S) (rules_left S.rules (marked (all_positions S.rules) (lasts_in (run (step_in S) (start_key S c line_start) w))) 0 0) (left_ascend (marked (all_positions S.rules) (lasts_in (run (step_in S) (start_key S c line_start) w))) S.rules 0 0));
+    accepts = λ c line_start w i h text.
+        let l = rules_left S.rules (marked (all_positions S.rules) (lasts_in (run (step_in S) (start_key S c line_start) w))) 0 0 in
+        let e = accepts_after c line_start w h text in
+        let is = chosen_is (rejects S) S c line_start w l (left_ascend (marked (all_positions S.rules) (lasts_in (run (step_in S) (start_key S c line_start) w))) S.rules 0 0) (left_fit c line_start w text) i in (
           λ a. is.0 (subst (λ (xs : List ℕ). Among xs i) e a),
           λ f. subst (λ (xs : List ℕ). Among xs i) (sym e) (is.1 f),
         );
-    goes_on = λ c bol w h text.
-        let e = goes_after c bol w h text in
-        let is = some_live c bol w text in (
+    goes_on = λ c line_start w h text.
+        let e = goes_after c line_start w h text in
+        let is = some_live c line_start w text in (
           λ g. is.0 (sym e ∙ g),
           λ l. e ∙ is.1 l,
         );
@@ -166,7 +166,7 @@ module _ (S : Spec) (sound : IsSound S) (keys : List Key) (next starts line_star
       from : At keys p (key_at keys p) → Reached (step_in S) s.roots (key_at keys p) → IsReached M S p
       from here (i, root, at, (w, text, e)) = elim (s.only i root at) [
         | inl dead ↦ inl (sym (same_place 0 [] here (sym (dead_run S w) ∙ ap (λ (r : Key). run (step_in S) r w) (sym dead) ∙ e) (s.automaton.starts 0 [] s.dead)))
-        | inr (c, bol, lt, is) ↦ inr (c, bol, w, lt, text, same_place (state_after M c bol w) (run (step_in S) (start_key S c bol) w) here (ap (λ (r : Key). run (step_in S) r w) (sym is) ∙ e) (after_at c bol w lt text))
+        | inr (c, line_start, lt, is) ↦ inr (c, line_start, w, lt, text, same_place (state_after M c line_start w) (run (step_in S) (start_key S c line_start) w) here (ap (λ (r : Key). run (step_in S) r w) (sym is) ∙ e) (after_at c line_start w lt text))
       ]
 
   none_of : (l : List ℕ) → ((x : ℕ) → Among l x → ⊥) → l ≡ []
@@ -208,25 +208,25 @@ module _ (S : Spec) (sound : IsSound S) (keys : List Key) (next starts line_star
   nothing_at_dead u i a = let none : M.accepts (walk M 0 u) ≡ [] = ap M.accepts (dead_walk u) ∙ dead_accepts in subst (λ (l : List ℕ). Among l i) none a
 
   -- a rule is accepted after a word just where one fits it
-  some_accepted : (c : ℕ) (bol : Bool) (w : List ℕ) → c < length S.conditions → IsText w → (i : ℕ) → HasFit S c bol w i → (j : ℕ) × Among (M.accepts (state_after M c bol w)) j
-  some_accepted c bol w h text i f =
-      let l = rules_left S.rules (marked (all_positions S.rules) (lasts_in (run (step_in S) (start_key S c bol) w))) 0 0 in
-      let (j, a) = some_chosen (rejects S) l i ((left_fit c bol w text i).1 f) in
-      (j, subst (λ (xs : List ℕ). Among xs j) (sym (accepts_after c bol w h text)) a)
+  some_accepted : (c : ℕ) (line_start : Bool) (w : List ℕ) → c < length S.conditions → IsText w → (i : ℕ) → HasFit S c line_start w i → (j : ℕ) × Among (M.accepts (state_after M c line_start w)) j
+  some_accepted c line_start w h text i f =
+      let l = rules_left S.rules (marked (all_positions S.rules) (lasts_in (run (step_in S) (start_key S c line_start) w))) 0 0 in
+      let (j, a) = some_chosen (rejects S) l i ((left_fit c line_start w text i).1 f) in
+      (j, subst (λ (xs : List ℕ). Among xs j) (sym (accepts_after c line_start w h text)) a)
 
-  accepted_fits : (c : ℕ) (bol : Bool) (w : List ℕ) → c < length S.conditions → IsText w → (i : ℕ) → Among (M.accepts (state_after M c bol w)) i → HasFit S c bol w i
-  accepted_fits c bol w h text i a =
-      let l = rules_left S.rules (marked (all_positions S.rules) (lasts_in (run (step_in S) (start_key S c bol) w))) 0 0 in
-      (left_fit c bol w text i).0 (among_chosen (rejects S) l i (subst (λ (xs : List ℕ). Among xs i) (accepts_after c bol w h text) a))
+  accepted_fits : (c : ℕ) (line_start : Bool) (w : List ℕ) → c < length S.conditions → IsText w → (i : ℕ) → Among (M.accepts (state_after M c line_start w)) i → HasFit S c line_start w i
+  accepted_fits c line_start w h text i a =
+      let l = rules_left S.rules (marked (all_positions S.rules) (lasts_in (run (step_in S) (start_key S c line_start) w))) 0 0 in
+      (left_fit c line_start w text i).0 (among_chosen (rejects S) l i (subst (λ (xs : List ℕ). Among xs i) (accepts_after c line_start w h text) a))
 
-  later_state : (c : ℕ) (bol : Bool) (w u : List ℕ) → state_after M c bol (w ++ u) ≡ walk M (state_after M c bol w) u
-  later_state c bol w u = walk-append M (M.start c bol) w u
+  later_state : (c : ℕ) (line_start : Bool) (w u : List ℕ) → state_after M c line_start (w ++ u) ≡ walk M (state_after M c line_start w) u
+  later_state c line_start w u = walk-append M (M.start c line_start) w u
 
-  leads : (c : ℕ) (bol : Bool) (w : List ℕ) → c < length S.conditions → IsText w → Live S c bol w ↔ LeadsToAccept M (state_after M c bol w)
-  leads c bol w h text = (
-    λ (u, more, some, i, k, f). (let (j, a) = some_accepted c bol (w ++ u) h (is_text_append w u text more) i (k, f) in
-        (u, more, some, j, subst (λ (p : ℕ). Among (M.accepts p) j) (later_state c bol w u) a)),
-    λ (u, more, some, i, a). (let (k, f) = accepted_fits c bol (w ++ u) h (is_text_append w u text more) i (subst (λ (p : ℕ). Among (M.accepts p) i) (sym (later_state c bol w u)) a) in
+  leads : (c : ℕ) (line_start : Bool) (w : List ℕ) → c < length S.conditions → IsText w → Live S c line_start w ↔ LeadsToAccept M (state_after M c line_start w)
+  leads c line_start w h text = (
+    λ (u, more, some, i, k, f). (let (j, a) = some_accepted c line_start (w ++ u) h (is_text_append w u text more) i (k, f) in
+        (u, more, some, j, subst (λ (p : ℕ). Among (M.accepts p) j) (later_state c line_start w u) a)),
+    λ (u, more, some, i, a). (let (k, f) = accepted_fits c line_start (w ++ u) h (is_text_append w u text more) i (subst (λ (p : ℕ). Among (M.accepts p) i) (sym (later_state c line_start w u)) a) in
         (u, more, some, i, k, f)),
   )
 
@@ -235,9 +235,9 @@ module _ (S : Spec) (sound : IsSound S) (keys : List Key) (next starts line_star
     λ g. no_true (sym (ap M.goes_on e ∙ dead_goes_on) ∙ g),
     λ (u, more, some, i, a). absurd (nothing_at_dead u i (subst (λ (q : ℕ). Among (M.accepts (walk M q u)) i) e a)),
   )
-  leads_from_reached p (inr (c, bol, w, h, text, e)) =
+  leads_from_reached p (inr (c, line_start, w, h, text, e)) =
       let P : ℕ → Type 0 = λ q. (M.goes_on q ≡ true) ↔ LeadsToAccept M q in
-      subst P e (both (table.goes_on c bol w h text) (leads c bol w h text))
+      subst P e (both (table.goes_on c line_start w h text) (leads c line_start w h text))
 
   module _ (accepts_len : length accepts ≡ length keys) (goes_len : length goes ≡ length keys) where
     past_accepts : (p : ℕ) → length keys ≤ p → M.accepts p ≡ []
@@ -305,18 +305,18 @@ module _ (S : Spec) (sound : IsSound S) (keys : List Key) (next starts line_star
 
 pub table_of : (S : Spec) → IsSound S → (keys : List Key) (next starts line_starts : List ℕ) → Surveys S keys next starts line_starts →
     (accepts : List (List ℕ)) (goes : List Bool) → AcceptedBy S keys accepts → GoOnBy S keys goes →
-    TableFor (machine_with S (λ c bol. cond bol (slice_index line_starts c) (slice_index starts c)) (moving next) (λ p. slice_index_or accepts p []) (λ p. slice_index_or goes p false)) S
+    TableFor (machine_with S (λ c line_start. cond line_start (slice_index line_starts c) (slice_index starts c)) (moving next) (λ p. slice_index_or accepts p []) (λ p. slice_index_or goes p false)) S
 unfolding M
 table_of S sound keys next starts line_starts s accepts goes accepted on = table S sound keys next starts line_starts s accepts goes accepted on
 
 pub reached_of : (S : Spec) → IsSound S → (keys : List Key) (next starts line_starts : List ℕ) → Surveys S keys next starts line_starts →
     (accepts : List (List ℕ)) (goes : List Bool) → AcceptedBy S keys accepts → GoOnBy S keys goes → (p : ℕ) → p < length keys →
-    IsReached (machine_with S (λ c bol. cond bol (slice_index line_starts c) (slice_index starts c)) (moving next) (λ p. slice_index_or accepts p []) (λ p. slice_index_or goes p false)) S p
+    IsReached (machine_with S (λ c line_start. cond line_start (slice_index line_starts c) (slice_index starts c)) (moving next) (λ p. slice_index_or accepts p []) (λ p. slice_index_or goes p false)) S p
 unfolding M
 reached_of S sound keys next starts line_starts s accepts goes accepted on = reached_state S sound keys next starts line_starts s accepts goes accepted on
 
 pub laws_of : (S : Spec) → IsSound S → (keys : List Key) (next starts line_starts : List ℕ) → Surveys S keys next starts line_starts →
     (accepts : List (List ℕ)) (goes : List Bool) → AcceptedBy S keys accepts → GoOnBy S keys goes → length accepts ≡ length keys → length goes ≡ length keys →
-    MachineLaws (machine_with S (λ c bol. cond bol (slice_index line_starts c) (slice_index starts c)) (moving next) (λ p. slice_index_or accepts p []) (λ p. slice_index_or goes p false))
+    MachineLaws (machine_with S (λ c line_start. cond line_start (slice_index line_starts c) (slice_index starts c)) (moving next) (λ p. slice_index_or accepts p []) (λ p. slice_index_or goes p false))
 unfolding M
 laws_of S sound keys next starts line_starts s accepts goes accepted on accepts_len goes_len = laws S sound keys next starts line_starts s accepts goes accepted on accepts_len goes_len

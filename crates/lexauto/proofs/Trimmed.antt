@@ -1,9 +1,9 @@
 -- In a sound tree every position leads to an end.
 use Rattle.std.specs.Prelude.{◌≡◌, ℕ, zero, suc, ◌+◌, ◌*◌, ◌<◌, ◌≤◌, max, ◌⊎◌, List, [], ◌∷◌, ◌++◌, Option, Some, None, IfSome}
 use Rattle.std.proofs.Common.{inl, inr, refl, subst, arith}
-use Rattle.lexmeaning.specs.Tree.{Tree, Trees, Empty, Set, Cat, Alt, Star, Repeat, no_trees, tree}
-use Rattle.lexmeaning.specs.Positions.{Cell, copies, positions, positions_of}
-use Rattle.lexmeaning.specs.Shapes.{IsSoundTree, AreSoundTrees, HasPart}
+use Rattle.lex_semantics.specs.Tree.{Tree, Trees, Empty, Set, Cat, Alt, Star, Repeat, no_trees, tree}
+use Rattle.lex_semantics.specs.Positions.{Cell, copies, positions, positions_of}
+use Rattle.lex_semantics.specs.Shapes.{IsSoundTree, AreSoundTrees, HasPart}
 use Rattle.lexauto.specs.PositionAutomaton.{Quad, skip, cat, alt, plus, opt, times, chain, repeated, quad, quad_all, quad_one, From, Whole}
 use Rattle.lexauto.proofs.Parts.{join, join_from, in_right, chosen_left, from_more, in_plus}
 

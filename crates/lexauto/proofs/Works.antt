@@ -5,9 +5,9 @@ use Rattle.std.specs.Prelude.{slice_index}
 use Rattle.std.proofs.lemmas.Option.{slice_get_within, slice_get-get_or, get_or_from_slice_get}
 use Rattle.std.proofs.lemmas.List.{get_or_push, get_or_append_left}
 use Rattle.lexauto.specs.Keys.{Key, At, Absent, Apart, Finds, Found}
-use Rattle.lexmeaning.specs.Text.{IsText}
+use Rattle.lex_semantics.specs.Text.{IsText}
 use Rattle.lexauto.specs.Explored.{run, Reached, IsAutomaton, MoreThan, key_at, Exploring, Held, Tells, TellsSoFar}
-use Rattle.lexmeaning.specs.Reading.{is_empty}
+use Rattle.lex_semantics.specs.Reading.{is_empty}
 use Rattle.lexauto.proofs.Places.{at_longer, at_shorter}
 
 -- for each key up to this place, what f tells of it

@@ -1,7 +1,7 @@
 -- Trees that are walked alike. (This project's.)
 use Rattle.std.specs.Prelude.{◌≡◌, Bool, true, false, Some}
-use Rattle.lexmeaning.specs.Tree.{Tree, Trees, Alt, Repeat}
-use Rattle.lexmeaning.specs.Positions.{positions, positions_of}
+use Rattle.lex_semantics.specs.Tree.{Tree, Trees, Alt, Repeat}
+use Rattle.lex_semantics.specs.Positions.{positions, positions_of}
 use Rattle.lexauto.specs.Flow.{exits, exits_each, exits_some, enters, enters_each, enters_some}
 use Rattle.lexauto.specs.RuleFlow.{reads, each_read}
 

@@ -1,6 +1,6 @@
 -- Where a walk stands in an ascending list of positions. (This project's.)
 use Rattle.std.specs.Prelude.{ℕ, ◌<◌, ◌≤◌, List, length, slice_index}
-use Rattle.lexmeaning.specs.Text.{Among, Ascending}
+use Rattle.lex_semantics.specs.Text.{Among, Ascending}
 
 -- a smaller number comes first, by index
 abbrev pub Increases : List ℕ → Type 0

@@ -1,8 +1,8 @@
 -- What a work list finds. (This project's.)
 use Rattle.std.specs.Prelude.{◌≡◌, ℕ, ◌+◌, ◌*◌, ◌/◌, ◌%◌, ◌<◌, ◌≤◌, Bool, false, List, [], ◌∷◌, length, Option, slice_index, slice_index_or, not}
-use Rattle.lexmeaning.specs.Text.{IsText}
+use Rattle.lex_semantics.specs.Text.{IsText}
 use Rattle.lexauto.specs.Keys.{Key, At, Apart, Finds}
-use Rattle.lexmeaning.specs.Reading.{is_empty}
+use Rattle.lex_semantics.specs.Reading.{is_empty}
 
 -- the step of a key by a byte: what follows it, and reads the byte
 abbrev pub step_by : (Key → Key) → (Key → ℕ → Key) → Key → ℕ → Key

@@ -1,12 +1,12 @@
 -- What a state's key tells of it. (This project's.)
 use Rattle.std.specs.Prelude.{◌≡◌, ℕ, Bool, true, false, not, List, [], take, slice_index_or}
-use Rattle.lexmeaning.specs.Spec.{Spec, rejects}
-use Rattle.lexmeaning.specs.Subsets.{all_positions}
+use Rattle.lex_semantics.specs.Spec.{Spec, rejects}
+use Rattle.lex_semantics.specs.Subsets.{all_positions}
 use Rattle.lexauto.specs.RuleFlow.{rules_left}
 use Rattle.lexauto.specs.Sets.{marked, lasts_in}
 use Rattle.lexauto.specs.Moving.{followers_in}
 use Rattle.lexauto.specs.Keys.{Key, At}
-use Rattle.lexmeaning.specs.Reading.{is_empty}
+use Rattle.lex_semantics.specs.Reading.{is_empty}
 
 -- all of the rules, or the first of them alone
 abbrev pub chosen : Bool → List ℕ → List ℕ

@@ -2,9 +2,9 @@
 use Rattle.std.specs.Prelude.{◌≡◌, false, List, [], ◌∷◌, Option, Some, None, IfSome, length, option_map, ⊤}
 use Rattle.std.specs.Coded.{×_prop, Unit-prop}
 use Rattle.std.proofs.Math.Nat.{ℕ_set}
-use Rattle.lexmeaning.specs.Spec as S
-use Rattle.lexmeaning.specs.Subsets.{all_positions}
-use Rattle.lexmeaning.specs.Tree.{Tree}
+use Rattle.lex_semantics.specs.Spec as S
+use Rattle.lex_semantics.specs.Subsets.{all_positions}
+use Rattle.lex_semantics.specs.Tree.{Tree}
 use Rattle.lexauto.specs.Alike.{Alike}
 use Rattle.lexauto.specs.Plans.{Plan, Plans, Nothing, Letter, Series, Choice, Loop, Copies, no_plans, plan, plan_of, tree_in, IsSized, AreSized}
 use Rattle.lexauto.specs.RuleFlow.{rules_enter, rules_left, rules_read}

@@ -1,6 +1,6 @@
 -- The bytes that positions read, a set for each. (This project's.)
 use Rattle.std.specs.Prelude.{ℕ, ◌+◌, ◌||◌, ◌&&◌, ◌==◌, Bool, false, List, [], ◌∷◌}
-use Rattle.lexmeaning.specs.ByteSets.{ByteSet, has}
+use Rattle.lex_semantics.specs.ByteSets.{ByteSet, has}
 
 -- The position q is of one of the sets, counted from base, and reads the byte.
 abbrev pub reads_at : List ByteSet → ℕ → ℕ → ℕ → Bool

@@ -10,8 +10,8 @@ pub mod Sets
 pub mod Packing
 pub mod Moving
 pub mod WordKeys
-pub use Rattle.lexdfa.specs.Machines
-pub use Rattle.lexdfa.specs.Automata
+pub use Rattle.lexauto_dfa.specs.Machines
+pub use Rattle.lexauto_dfa.specs.Automata
 pub mod Facts
 pub mod Errors
 pub mod Plans

@@ -2,9 +2,9 @@
 use Rattle.std.specs.Prelude.{◌≡◌, ℕ, ◌<◌, ◌≤◌, Bool, List, [], length, map, slice_index, slice_index_or, Vec}
 use Rattle.std.proofs.Common.{Global}
 use Rattle.std.specs.List.{filter}
-use Rattle.lexmeaning.specs.Spec.{Rule}
+use Rattle.lex_semantics.specs.Spec.{Rule}
 use Rattle.lexauto.specs.Keys.{Key}
-use Rattle.lexmeaning.specs.Text.{flag, listed}
+use Rattle.lex_semantics.specs.Text.{flag, listed}
 use Rattle.lexauto.specs.RuleFlow.{rules_enter, rules_read}
 use Rattle.lexauto.specs.Sets.{marked, tagged, starts_in, lasts_in}
 

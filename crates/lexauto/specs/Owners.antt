@@ -1,7 +1,7 @@
 -- Which rule has a position. (This project's.)
 use Rattle.std.specs.Prelude.{◌≡◌, ℕ, suc, ◌<◌, ◌≤◌, List, length, Some, slice_get}
-use Rattle.lexmeaning.specs.Spec.{Rule}
-use Rattle.lexmeaning.specs.Subsets.{base_of}
+use Rattle.lex_semantics.specs.Spec.{Rule}
+use Rattle.lex_semantics.specs.Subsets.{base_of}
 use Rattle.lexauto.specs.declared.owners.Owner.{Owner}
 
 -- each position's rule, and where the positions of that rule begin

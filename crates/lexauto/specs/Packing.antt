@@ -6,7 +6,7 @@ use Rattle.std.specs.Str.{bytes_eq}
 use Rattle.std.specs.BTreeMap.{BTreeMap}
 use Rattle.lexauto.specs.Keys.{Key, look}
 use Rattle.lexauto.specs.Sets.{lasts_in}
-use Rattle.lexmeaning.specs.Text.{listed}
+use Rattle.lex_semantics.specs.Text.{listed}
 
 -- whether the position's bit is set
 abbrev pub bit_at : List ℕ → ℕ → Bool

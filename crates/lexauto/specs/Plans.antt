@@ -1,8 +1,8 @@
 -- Trees laid out for walks: with how many positions each part has. (This project's.)
 use Rattle.std.specs.Prelude.{◌≡◌, ℕ, ◌*◌, List, [], ◌∷◌, map, Option, ⊤}
-use Rattle.lexmeaning.specs.ByteSets.{ByteSet}
-use Rattle.lexmeaning.specs.Tree.{Tree, Trees, Empty, Set, Cat, Alt, Star, Repeat, no_trees, tree}
-use Rattle.lexmeaning.specs.Positions.{positions, positions_of, copies}
+use Rattle.lex_semantics.specs.ByteSets.{ByteSet}
+use Rattle.lex_semantics.specs.Tree.{Tree, Trees, Empty, Set, Cat, Alt, Star, Repeat, no_trees, tree}
+use Rattle.lex_semantics.specs.Positions.{positions, positions_of, copies}
 use Rattle.lexauto.specs.declared.layout.Part.{Part}
 use Rattle.lexauto.specs.declared.layout.Part.TheOpen.{Part-F}
 use Rattle.lexauto.specs.declared.layout.Part.TheFolds.{fold-Part}

@@ -1,9 +1,9 @@
 -- The position automaton of a tree: which positions come first, which last, and which follow one another.
 -- (This project's; the construction is Glushkov's.)
 use Rattle.std.specs.Prelude.{◌≡◌, ℕ, zero, suc, ◌+◌, ◌*◌, ◌⊎◌, [], ◌∷◌, Option, Some, None}
-use Rattle.lexmeaning.specs.ByteSets.{ByteSet, IsIn}
-use Rattle.lexmeaning.specs.Tree.{Tree, Trees, Empty, Set, Cat, Alt, Star, Repeat, no_trees, tree}
-use Rattle.lexmeaning.specs.Positions.{Cell, Readings, positions}
+use Rattle.lex_semantics.specs.ByteSets.{ByteSet, IsIn}
+use Rattle.lex_semantics.specs.Tree.{Tree, Trees, Empty, Set, Cat, Alt, Star, Repeat, no_trees, tree}
+use Rattle.lex_semantics.specs.Positions.{Cell, Readings, positions}
 
 -- the empty word is read, the positions that can be first and last, those that follow one another, and the bytes of each
 pub record Quad : Type 1 where

@@ -1,10 +1,10 @@
 -- The position automaton of a rule, and of all the rules of a specification. (This project's.)
 use Rattle.std.specs.Prelude.{ℕ, suc, ◌+◌, Bool, true, false, List, [], ◌∷◌, Option, Some, None, slice_get}
-use Rattle.lexmeaning.specs.Tree.{Tree}
-use Rattle.lexmeaning.specs.Positions.{positions}
-use Rattle.lexmeaning.specs.Subsets.{positions_of_rule}
-use Rattle.lexmeaning.specs.Spec.{Spec, Rule}
-use Rattle.lexmeaning.specs.Active.{active}
+use Rattle.lex_semantics.specs.Tree.{Tree}
+use Rattle.lex_semantics.specs.Positions.{positions}
+use Rattle.lex_semantics.specs.Subsets.{positions_of_rule}
+use Rattle.lex_semantics.specs.Spec.{Spec, Rule}
+use Rattle.lex_semantics.specs.Active.{active}
 use Rattle.lexauto.specs.PositionAutomaton.{Quad, fail, skip, cat, alt, quad}
 
 -- the same without the empty reading
@@ -33,15 +33,15 @@ every i = true
 
 -- whether a rule is there and active
 abbrev pub is_on : Spec → ℕ → Bool → Option Rule → Bool
-is_on S c bol None = false
-is_on S c bol (Some r) = active S c bol r
+is_on S c line_start None = false
+is_on S c line_start (Some r) = active S c line_start r
 
 abbrev pub is_active : Spec → ℕ → Bool → ℕ → Bool
-is_active S c bol i = is_on S c bol (slice_get S.rules i)
+is_active S c line_start i = is_on S c line_start (slice_get S.rules i)
 
 -- the automaton of the active rules, and of all of them
 abbrev pub active_automaton : Spec → ℕ → Bool → Quad
-active_automaton S c bol = active_quad (is_active S c bol) 0 0 S.rules
+active_automaton S c line_start = active_quad (is_active S c line_start) 0 0 S.rules
 
 abbrev pub automaton : Spec → Quad
 automaton S = active_quad every 0 0 S.rules

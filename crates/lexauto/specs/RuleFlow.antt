@@ -1,10 +1,10 @@
 -- One step through the rules of a specification, as tests that compute. (This project's.)
 use Rattle.std.specs.Prelude.{ℕ, zero, suc, ◌+◌, ◌||◌, ◌&&◌, ◌==◌, Bool, false, cond, List, [], ◌∷◌, Option, Some, None}
-use Rattle.lexmeaning.specs.ByteSets.{has}
-use Rattle.lexmeaning.specs.Tree.{Tree, Trees, Empty, Set, Cat, Alt, Star, Repeat, no_trees, tree}
-use Rattle.lexmeaning.specs.Positions.{copies, positions}
-use Rattle.lexmeaning.specs.Spec.{Rule}
-use Rattle.lexmeaning.specs.Subsets.{positions_of_rule}
+use Rattle.lex_semantics.specs.ByteSets.{has}
+use Rattle.lex_semantics.specs.Tree.{Tree, Trees, Empty, Set, Cat, Alt, Star, Repeat, no_trees, tree}
+use Rattle.lex_semantics.specs.Positions.{copies, positions}
+use Rattle.lex_semantics.specs.Spec.{Rule}
+use Rattle.lex_semantics.specs.Subsets.{positions_of_rule}
 use Rattle.lexauto.specs.Flow.{exits, enters}
 
 abbrev pub trail_exits : Option Tree → (ℕ → Bool) → ℕ → Bool → Bool

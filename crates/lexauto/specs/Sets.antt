@@ -1,7 +1,7 @@
 -- Sets of rules and positions as lists, and the keys of states. A key's first number says what kind of state it is for.
 -- (This project's.)
 use Rattle.std.specs.Prelude.{ℕ, zero, suc, ◌&&◌, Bool, List, [], ◌∷◌, nat_lt}
-use Rattle.lexmeaning.specs.Active.{lists}
+use Rattle.lex_semantics.specs.Active.{lists}
 use Rattle.lexauto.specs.Keys.{Key}
 
 -- the number is in the list, and below n

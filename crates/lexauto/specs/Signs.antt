@@ -1,6 +1,6 @@
 -- Signs on items: an item may be left out, repeated, or both. (This project's.)
 use Rattle.std.specs.Prelude.{Bool, true, false, Some, None}
-use Rattle.lexmeaning.specs.Tree.{Tree, Star, Repeat}
+use Rattle.lex_semantics.specs.Tree.{Tree, Star, Repeat}
 use Rattle.lexauto.specs.declared.layout.Sign.{Sign}
 use Rattle.lexauto.specs.declared.layout.Sign.TheVariants as S
 

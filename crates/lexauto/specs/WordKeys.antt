@@ -1,8 +1,8 @@
 -- The keys that words lead to. (This project's.)
 use Rattle.std.specs.Prelude.{◌≡◌, ℕ, ◌<◌, ◌⊎◌, Bool, true, false, List, [], length, Option, slice_index}
-use Rattle.lexmeaning.specs.Text.{Among, listed}
-use Rattle.lexmeaning.specs.Spec.{Spec}
-use Rattle.lexmeaning.specs.Subsets.{IsLast, ReadsActive, all_positions, ListsSet}
+use Rattle.lex_semantics.specs.Text.{Among, listed}
+use Rattle.lex_semantics.specs.Spec.{Spec}
+use Rattle.lex_semantics.specs.Subsets.{IsLast, ReadsActive, all_positions, ListsSet}
 use Rattle.lexauto.specs.RuleAutomaton.{is_active}
 use Rattle.lexauto.specs.Sets.{tagged}
 use Rattle.lexauto.specs.Moving.{followers_in, reading_in}
@@ -11,7 +11,7 @@ use Rattle.lexauto.specs.Explored.{step_by, IsAutomaton}
 
 -- the key of a start: the active rules
 abbrev pub start_key : Spec → ℕ → Bool → Key
-start_key S c bol = tagged 0 (listed (is_active S c bol) 0 (length S.rules))
+start_key S c line_start = tagged 0 (listed (is_active S c line_start) 0 (length S.rules))
 
 -- the key after one byte more
 abbrev pub step_in : Spec → Key → ℕ → Key
@@ -19,12 +19,12 @@ step_in S = step_by (followers_in S.rules (all_positions S.rules)) (reading_in S
 
 -- the key lists the last positions of the word
 abbrev pub LastKey : Spec → ℕ → Bool → List ℕ → Key → Type 0
-LastKey S c bol w k =
-    (l : List ℕ) × (k ≡ tagged 1 l) × ListsSet l (IsLast (ReadsActive S c bol) w) × ((p : ℕ) → Among l p → p < all_positions S.rules)
+LastKey S c line_start w k =
+    (l : List ℕ) × (k ≡ tagged 1 l) × ListsSet l (IsLast (ReadsActive S c line_start) w) × ((p : ℕ) → Among l p → p < all_positions S.rules)
 
 -- the dead state's key, or that of a start
 abbrev pub IsRoot : Spec → Key → Type 0
-IsRoot S k = (k ≡ []) ⊎ ((c : ℕ) × (bol : Bool) × (c < length S.conditions) × (k ≡ start_key S c bol))
+IsRoot S k = (k ≡ []) ⊎ ((c : ℕ) × (line_start : Bool) × (c < length S.conditions) × (k ≡ start_key S c line_start))
 
 -- the table has the dead state's key first, and else those of starts
 pub record AreRoots (S : Spec) (find : Key → Option ℕ) (keys : List Key) : Type 0 where
@@ -34,7 +34,7 @@ pub record AreRoots (S : Spec) (find : Key → Option ℕ) (keys : List Key) : T
 
 -- the places of the starts of each condition
 abbrev pub AreStartPlaces : Spec → Bool → List Key → List ℕ → Type 0
-AreStartPlaces S bol keys places = (c : ℕ) → c < length places → At keys (slice_index places c) (start_key S c bol)
+AreStartPlaces S line_start keys places = (c : ℕ) → c < length places → At keys (slice_index places c) (start_key S c line_start)
 
 -- what stands in the one list stands in the other at the same place
 abbrev pub Grows : List Key → List Key → Type 0

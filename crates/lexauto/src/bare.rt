@@ -1,7 +1,7 @@
 //! Patterns that have no position, as far as a look at their first levels tells.
 ghost use Rattle.std.specs.Prelude.{◌≡◌, true, map};
-ghost use Rattle.lexmeaning.specs.Positions.{positions, positions_of};
-ghost use Rattle.lexmeaning.specs.Tree.{trees};
+ghost use Rattle.lex_semantics.specs.Positions.{positions, positions_of};
+ghost use Rattle.lex_semantics.specs.Tree.{trees};
 ghost use Rattle.lexre.specs.Views.{tree_of};
 
 use lexre::Pattern;

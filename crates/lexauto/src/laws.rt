@@ -1,19 +1,19 @@
 //! Laws of position automata: what they read, and how the last positions of a specification move.
 ghost use Rattle.std.specs.Prelude.{◌≡◌, ◌≢◌, ◌↔◌, ◌<◌, ◌⊎◌, ◌+◌, ◌*◌, false, cond, slice_index, slice_index_or, ℕ, Bool, true, List, [], ◌∷◌, ◌++◌};
-ghost use Rattle.lexmeaning.specs.Tree.{Tree};
-ghost use Rattle.lexmeaning.specs.Positions.{Cell, Reads, ReadsWord};
-ghost use Rattle.lexmeaning.specs.Spec.{Spec, Rule};
-ghost use Rattle.lexmeaning.specs.Rules.{Live};
-ghost use Rattle.lexmeaning.specs.Reports.{HasFit};
-ghost use Rattle.lexmeaning.specs.Sound.{IsSound};
-ghost use Rattle.lexmeaning.specs.Text.{IsText, Among};
+ghost use Rattle.lex_semantics.specs.Tree.{Tree};
+ghost use Rattle.lex_semantics.specs.Positions.{Cell, Reads, ReadsWord};
+ghost use Rattle.lex_semantics.specs.Spec.{Spec, Rule};
+ghost use Rattle.lex_semantics.specs.Rules.{Live};
+ghost use Rattle.lex_semantics.specs.Reports.{HasFit};
+ghost use Rattle.lex_semantics.specs.Sound.{IsSound};
+ghost use Rattle.lex_semantics.specs.Text.{IsText, Among};
 ghost use Rattle.lexauto.specs.Sets.{marked, lasts_in};
 ghost use Rattle.lexauto.specs.Explored.{run};
 ghost use Rattle.lexauto.specs.WordKeys.{LastKey, start_key, step_in, Surveys};
-ghost use Rattle.lexdfa.specs.Machines.{machine_with, moving};
+ghost use Rattle.lexauto_dfa.specs.Machines.{machine_with, moving};
 ghost use Rattle.lexauto.specs.Facts.{AcceptedBy, GoOnBy};
-ghost use Rattle.lexmeaning.specs.TableFor.{TableFor};
-ghost use Rattle.lexmeaning.specs.Subsets.{IsLast, ReadsActive, all_positions, Subsets};
+ghost use Rattle.lex_semantics.specs.TableFor.{TableFor};
+ghost use Rattle.lex_semantics.specs.Subsets.{IsLast, ReadsActive, all_positions, Subsets};
 ghost use Rattle.lexauto.specs.PositionAutomaton.{quad, Whole};
 ghost use Rattle.lexauto.specs.Flow.{exits, enters};
 ghost use Rattle.lexauto.specs.Flows.{Exits, Enters};
@@ -27,26 +27,26 @@ pub fn position_automaton()
 
 /// A word has a reading of an active rule exactly if it fits a rule.
 pub fn words_that_fit()
-    ensures { (S : Spec) (c : ℕ) (bol : Bool) (w : List ℕ) → ReadsWord (ReadsActive S c bol) w ↔ ((i : ℕ) × HasFit S c bol w i) }
+    ensures { (S : Spec) (c : ℕ) (line_start : Bool) (w : List ℕ) → ReadsWord (ReadsActive S c line_start) w ↔ ((i : ℕ) × HasFit S c line_start w i) }
 {}
 
 /// The positions that a byte leaves are the first ones of the active rules that read it.
 pub fn first_positions()
-    ensures { (S : Spec) → IsSound S → (c : ℕ) (bol : Bool) (b q : ℕ) →
-        IsLast (ReadsActive S c bol) (b ∷ []) q ↔ ((active_automaton S c bol).first q × (active_automaton S c bol).letter (b, q)) }
+    ensures { (S : Spec) → IsSound S → (c : ℕ) (line_start : Bool) (b q : ℕ) →
+        IsLast (ReadsActive S c line_start) (b ∷ []) q ↔ ((active_automaton S c line_start).first q × (active_automaton S c line_start).letter (b, q)) }
 {}
 
 /// The positions that one byte more leaves are those that follow, of all rules, and read it.
 pub fn next_positions()
-    ensures { (S : Spec) → IsSound S → (c : ℕ) (bol : Bool) (w : List ℕ) (b q : ℕ) → w ≢ [] →
-        IsLast (ReadsActive S c bol) (w ++ b ∷ []) q ↔ ((automaton S).letter (b, q) × ((p : ℕ) × IsLast (ReadsActive S c bol) w p × (automaton S).follow p q)) }
+    ensures { (S : Spec) → IsSound S → (c : ℕ) (line_start : Bool) (w : List ℕ) (b q : ℕ) → w ≢ [] →
+        IsLast (ReadsActive S c line_start) (w ++ b ∷ []) q ↔ ((automaton S).letter (b, q) × ((p : ℕ) × IsLast (ReadsActive S c line_start) w p × (automaton S).follow p q)) }
 {}
 
 /// A word is live just where some position follows one that it left; the empty word, where some rule has a first one.
 pub fn live_positions()
-    ensures after { (S : Spec) → IsSound S → (c : ℕ) (bol : Bool) (w : List ℕ) → w ≢ [] →
-        Live S c bol w ↔ ((p q : ℕ) × IsLast (ReadsActive S c bol) w p × (automaton S).follow p q) }
-    ensures first { (S : Spec) → IsSound S → (c : ℕ) (bol : Bool) → Live S c bol [] ↔ ((q : ℕ) × (active_automaton S c bol).first q) }
+    ensures after { (S : Spec) → IsSound S → (c : ℕ) (line_start : Bool) (w : List ℕ) → w ≢ [] →
+        Live S c line_start w ↔ ((p q : ℕ) × IsLast (ReadsActive S c line_start) w p × (automaton S).follow p q) }
+    ensures first { (S : Spec) → IsSound S → (c : ℕ) (line_start : Bool) → Live S c line_start [] ↔ ((q : ℕ) × (active_automaton S c line_start).first q) }
 {}
 
 /// The tests of a step say what leaves a pattern, and which positions come next.
@@ -66,20 +66,20 @@ pub fn one_step_of_rules()
 
 /// The key that a word leads to lists its last positions.
 pub fn keys_of_words()
-    ensures { (S : Spec) → IsSound S → (c : ℕ) (bol : Bool) (b : ℕ) (w : List ℕ) → b < 256 → IsText w → LastKey S c bol (b ∷ w) (run (step_in S) (start_key S c bol) (b ∷ w)) }
+    ensures { (S : Spec) → IsSound S → (c : ℕ) (line_start : Bool) (b : ℕ) (w : List ℕ) → b < 256 → IsText w → LastKey S c line_start (b ∷ w) (run (step_in S) (start_key S c line_start) (b ∷ w)) }
 {}
 
 /// The rules that are left at their ends after a word are those that fit it.
 pub fn rules_that_fit()
-    ensures { (S : Spec) → IsSound S → (c : ℕ) (bol : Bool) (w : List ℕ) → w ≢ [] → (k : List ℕ) → LastKey S c bol w k →
-        (i : ℕ) → Among (rules_left S.rules (marked (all_positions S.rules) (lasts_in k)) 0 0) i ↔ HasFit S c bol w i }
+    ensures { (S : Spec) → IsSound S → (c : ℕ) (line_start : Bool) (w : List ℕ) → w ≢ [] → (k : List ℕ) → LastKey S c line_start w k →
+        (i : ℕ) → Among (rules_left S.rules (marked (all_positions S.rules) (lasts_in k)) 0 0) i ↔ HasFit S c line_start w i }
 {}
 
 /// States whose keys are those of words, and which tell what their keys do, are a table for their specification.
 pub fn tables_of_keys()
     ensures { (S : Spec) → IsSound S → (keys : List (List ℕ)) (next starts line_starts : List ℕ) → Surveys S keys next starts line_starts →
         (accepts : List (List ℕ)) (goes : List Bool) → AcceptedBy S keys accepts → GoOnBy S keys goes →
-        TableFor (machine_with S (λ c bol. cond bol (slice_index line_starts c) (slice_index starts c)) (moving next) (λ p. slice_index_or accepts p []) (λ p. slice_index_or goes p false)) S }
+        TableFor (machine_with S (λ c line_start. cond line_start (slice_index line_starts c) (slice_index starts c)) (moving next) (λ p. slice_index_or accepts p []) (λ p. slice_index_or goes p false)) S }
 {}
 
 /// There is at most one count of subsets.

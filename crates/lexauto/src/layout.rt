@@ -1,8 +1,8 @@
 //! Patterns laid out for walks: each part with how many positions it has.
 ghost use Rattle.std.specs.Prelude.{◌≡◌, true, ◌||◌, ◌+◌, ◌*◌, ◌<◌, ◌≤◌, ◌^◌, List, [], ◌∷◌, ◌++◌, map, IfOk, OnOk, IfSome, IfNone};
-ghost use Rattle.lexmeaning.specs.Positions.{positions, positions_of, copies};
-ghost use Rattle.lexmeaning.specs.Shapes.{IsSoundTree, AreSoundTrees};
-ghost use Rattle.lexmeaning.specs.Tree.{Tree, trees, Empty, Cat, Alt, Star, Repeat};
+ghost use Rattle.lex_semantics.specs.Positions.{positions, positions_of, copies};
+ghost use Rattle.lex_semantics.specs.Shapes.{IsSoundTree, AreSoundTrees};
+ghost use Rattle.lex_semantics.specs.Tree.{Tree, trees, Empty, Cat, Alt, Star, Repeat};
 ghost use Rattle.lexre.specs.Views.{tree_of};
 ghost use Rattle.lexauto.specs.Alike.{Alike, choice_of};
 ghost use Rattle.lexauto.specs.Signs.{skips, repeats, signed};
@@ -10,8 +10,8 @@ ghost use Rattle.lexauto.specs.Plans.{plan_of, plans, tree_in, trees_in, trees_l
 
 use crate::bare::is_bare;
 use crate::walk::copies_of;
-use lexclass::ByteSet;
 use lexre::Pattern;
+use lexre_bytes::ByteSet;
 use std::alloc::{AllocError, Global};
 
 /// How deep a part is searched for positions before it is laid out.

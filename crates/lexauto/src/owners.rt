@@ -1,6 +1,6 @@
 //! Which rule has a position.
 ghost use Rattle.std.specs.Prelude.{◌≡◌, ◌<◌, ◌^◌, length, map, IfOk};
-ghost use Rattle.lexmeaning.specs.Subsets.{all_positions};
+ghost use Rattle.lex_semantics.specs.Subsets.{all_positions};
 ghost use Rattle.lexauto.specs.Laid.{shape_of, HaveSized};
 ghost use Rattle.lexauto.specs.Owners.{AreOwners};
 

@@ -2,7 +2,7 @@
 ghost use Rattle.std.specs.Prelude.{◌≡◌, ℕ, ◌<◌, ◌*◌, ◌/◌, ◌%◌, ◌^◌, ◌∷◌, length, bit_or, IfOk};
 ghost use Rattle.std.proofs.Common.{replicate};
 ghost use Rattle.lexauto.specs.Sets.{lasts_in};
-ghost use Rattle.lexmeaning.specs.Text.{listed};
+ghost use Rattle.lex_semantics.specs.Text.{listed};
 ghost use Rattle.lexauto.specs.Packing.{bit_at, with_bits, bit_count, unpacked, word_count, packed};
 
 use crate::sets::{LAST, lasts_in};

@@ -1,17 +1,17 @@
 //! Which positions read a byte.
 ghost use Rattle.std.specs.Prelude.{◌≡◌, ℕ, ◌+◌, ◌*◌, ◌||◌, length, map, IfOk, OnOk};
-ghost use Rattle.lexmeaning.specs.Positions.{positions, positions_of};
-ghost use Rattle.lexmeaning.specs.Subsets.{all_positions};
+ghost use Rattle.lex_semantics.specs.Positions.{positions, positions_of};
+ghost use Rattle.lex_semantics.specs.Subsets.{all_positions};
 ghost use Rattle.lexauto.specs.Laid.{shape_of};
 ghost use Rattle.lexauto.specs.Letters.{reads_at};
 ghost use Rattle.lexauto.specs.Plans.{plan_of, plans, tree_in, trees_in};
-ghost use Rattle.lexmeaning.specs.Text.{flag};
+ghost use Rattle.lex_semantics.specs.Text.{flag};
 ghost use Rattle.lexauto.specs.RuleFlow.{copies_read, reads, each_read, rules_read};
 
 use crate::layout::Part;
 use crate::rules::LaidRule;
 use crate::walk::copies_of;
-use lexclass::ByteSet;
+use lexre_bytes::ByteSet;
 use std::alloc::{AllocError, Global};
 
 /// Lists the bytes that each position of a part reads.

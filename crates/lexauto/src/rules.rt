@@ -1,9 +1,9 @@
 //! One step of the position automaton of all rules.
 ghost use Rattle.std.specs.Prelude.{◌≡◌, ℕ, ◌+◌, ◌<◌, ◌^◌, ◌++◌, ◌∷◌, [], ◌||◌, false, cond, length, map, slice_index, IfOk};
-ghost use Rattle.lexmeaning.specs.Active.{lists};
-ghost use Rattle.lexmeaning.specs.Sound.{HasSoundSides, HaveSoundSides};
-ghost use Rattle.lexmeaning.specs.Subsets.{positions_of_rule, all_positions};
-ghost use Rattle.lexmeaning.specs.Text.{flag, listed};
+ghost use Rattle.lex_semantics.specs.Active.{lists};
+ghost use Rattle.lex_semantics.specs.Sound.{HasSoundSides, HaveSoundSides};
+ghost use Rattle.lex_semantics.specs.Subsets.{positions_of_rule, all_positions};
+ghost use Rattle.lex_semantics.specs.Text.{flag, listed};
 ghost use Rattle.lexspec.specs.RuleViews.{rule_of};
 ghost use Rattle.lexauto.specs.Alike.{Alike};
 ghost use Rattle.lexauto.specs.Cursors.{IsCursor, IsFront};

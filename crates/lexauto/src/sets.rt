@@ -1,8 +1,8 @@
 //! Sets of numbers, as lists and as flags.
 ghost use Rattle.std.specs.Prelude.{◌≡◌, ◌<◌, ◌≤◌, ◌^◌, ◌∷◌, ℕ, true, length, slice_index, IfOk};
 ghost use Rattle.std.specs.List.{filter};
-ghost use Rattle.lexmeaning.specs.Text.{flag, listed};
-ghost use Rattle.lexmeaning.specs.Active.{lists};
+ghost use Rattle.lex_semantics.specs.Text.{flag, listed};
+ghost use Rattle.lex_semantics.specs.Active.{lists};
 ghost use Rattle.lexauto.specs.Cursors.{Increases};
 ghost use Rattle.lexauto.specs.Sets.{marked, tagged, starts_in, lasts_in};
 

@@ -1,8 +1,8 @@
 //! Where matches start: the active rules of each condition, at the start of a line or not.
 ghost use Rattle.std.specs.Prelude.{◌≡◌, ◌<◌, ◌≤◌, ◌^◌, ◌&&◌, ◌||◌, [], ◌∷◌, not, ℕ, false, true, length, map, slice_get, slice_index, option_map, List, IfOk, OnOk, IfSome, IfNone, IsErrOf};
-ghost use Rattle.lexmeaning.specs.Active.{lists, serves, active};
-ghost use Rattle.lexmeaning.specs.Subsets.{positions_of_rule, all_positions};
-ghost use Rattle.lexaction.specs.Views.{condition_of};
+ghost use Rattle.lex_semantics.specs.Active.{lists, serves, active};
+ghost use Rattle.lex_semantics.specs.Subsets.{positions_of_rule, all_positions};
+ghost use Rattle.lexspec_actions.specs.Views.{condition_of};
 ghost use Rattle.lexspec.specs.RuleViews.{rule_of};
 ghost use Rattle.lexspec.specs.Views.{spec_of, conditions_in};
 ghost use Rattle.lexauto.specs.Keys.{Key, At, Finds};
@@ -60,25 +60,30 @@ fn lists(numbers: &[u8], number: usize) -> bool
 
 /// Whether a rule is active in the condition of this number, at the start of a line or not.
 /// (POSIX, lex, Definitions in lex and Regular Expressions in lex; flex, Start Conditions.)
-fn is_active(condition: &Condition, number: usize, bol: bool, rule: &Rule) -> bool
-    ensures { result ≡ (serves (option_map (λ v. v.items) rule.now.conditions) number (Some (condition_of condition.now)) && (not rule.now.anchored || bol)) }
+fn is_active(condition: &Condition, number: usize, line_start: bool, rule: &Rule) -> bool
+    ensures { result ≡ (serves (option_map (λ v. v.items) rule.now.conditions) number (Some (condition_of condition.now)) && (not rule.now.anchored || line_start)) }
 {
     let serves = match &rule.conditions {
         None => !condition.exclusive,
         Some(numbers) => lists(numbers, number),
     };
-    serves && (!rule.anchored || bol)
+    serves && (!rule.anchored || line_start)
 }
 
 /// The key of the state where a match starts.
-fn start_key(alloc: Global, spec: &Spec, number: usize, bol: bool) -> Result<Vec<u32>, AllocError>
+fn start_key(
+    alloc: Global,
+    spec: &Spec,
+    number: usize,
+    line_start: bool,
+) -> Result<Vec<u32>, AllocError>
     requires { number < length (conditions_in (spec_of spec.now)) }
-    ensures { IfOk result (λ v. v.items ≡ start_key (spec_of spec.now) number bol) }
+    ensures { IfOk result (λ v. v.items ≡ start_key (spec_of spec.now) number line_start) }
 {
     let condition = &spec.conditions()[number];
     let mut numbers = Vec::new(alloc);
     for (i, rule) in spec.rules().iter().enumerate() {
-        if is_active(condition, number, bol, rule) {
+        if is_active(condition, number, line_start, rule) {
             numbers.push(i as u32)?;
         }
     }
@@ -104,21 +109,21 @@ pub(crate) fn dead_root(alloc: Global, limit: u32) -> Result<Interner, ExploreEr
 pub(crate) fn add_starts(
     alloc: Global,
     spec: &Spec,
-    bol: bool,
+    line_start: bool,
     table: &mut Interner,
     limit: u32,
 ) -> Result<Vec<u32>, ExploreError>
     requires { AreRoots (spec_of spec.now) (look_kept table.old.places) (kept_in table.old.keys.items) }
     ensures roots { OnOk result (AreRoots (spec_of spec.now) (look_kept table.new.places) (kept_in table.new.keys.items)) }
     ensures grows { OnOk result (Grows (kept_in table.old.keys.items) (kept_in table.new.keys.items)) }
-    ensures places { IfOk result (λ v. AreStartPlaces (spec_of spec.now) bol (kept_in table.new.keys.items) v.items) }
+    ensures places { IfOk result (λ v. AreStartPlaces (spec_of spec.now) line_start (kept_in table.new.keys.items) v.items) }
     ensures len { IfOk result (λ v. length v.items ≡ length (conditions_in (spec_of spec.now))) }
     ensures room { OnOk result (length table.old.keys.items ≤ limit → length table.new.keys.items ≤ limit) }
     ensures too_many { IsErrOf result ExploreError.TooMany → MoreThan limit (IsRoot (spec_of spec.now)) }
 {
     let mut places = Vec::new(alloc);
     for number in 0..spec.conditions().len() {
-        let key = start_key(alloc, spec, number, bol)?;
+        let key = start_key(alloc, spec, number, line_start)?;
         let place = intern(alloc, table, key, limit)?;
         places.push(place)?;
     }

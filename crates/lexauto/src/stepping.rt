@@ -1,9 +1,9 @@
 //! How the states of a specification's automaton lead to one another: by the positions of its rules.
 ghost use Rattle.std.specs.Prelude.{◌≡◌, ◌<◌, ◌≤◌, ◌^◌, ℕ, Bool, List, true, length, map, IfOk};
-ghost use Rattle.lexmeaning.specs.Spec.{rejects};
-ghost use Rattle.lexmeaning.specs.Subsets.{all_positions};
+ghost use Rattle.lex_semantics.specs.Spec.{rejects};
+ghost use Rattle.lex_semantics.specs.Subsets.{all_positions};
 ghost use Rattle.lexspec.specs.Views.{spec_of, rules_in};
-ghost use Rattle.lexmeaning.specs.Text.{flag};
+ghost use Rattle.lex_semantics.specs.Text.{flag};
 ghost use Rattle.lexauto.specs.Facts.{accepted_by};
 ghost use Rattle.lexauto.specs.Laid.{shape_of, HaveSized, HaveSized-prop};
 ghost use Rattle.lexauto.specs.Owners.{AreOwners};

@@ -1,23 +1,23 @@
 //! The automaton of a specification, by subset construction.
 ghost use Rattle.std.specs.Prelude.{◌≡◌, ◌<◌, ◌≤◌, ◌^◌, ℕ, length, IfOk, IsErrOf};
-ghost use Rattle.lexmeaning.specs.Limits.{max_states, max_positions};
-ghost use Rattle.lexmeaning.specs.Subsets.{all_positions, Subsets};
-ghost use Rattle.lexmeaning.specs.TableFor.{TableFor};
-ghost use Rattle.lexmeaning.specs.MachineLaws.{MachineLaws};
+ghost use Rattle.lex_semantics.specs.Limits.{max_states, max_positions};
+ghost use Rattle.lex_semantics.specs.Subsets.{all_positions, Subsets};
+ghost use Rattle.lex_semantics.specs.TableFor.{TableFor};
+ghost use Rattle.lex_semantics.specs.MachineLaws.{MachineLaws};
 ghost use Rattle.lexspec.specs.Views.{spec_of, rules_in, conditions_in};
 ghost use Rattle.lexauto.specs.Keys.{Key, At, keys_in};
 ghost use Rattle.lexauto.specs.Packing.{kept_in};
 ghost use Rattle.lexauto.specs.Explored.{MoreThan};
 ghost use Rattle.lexauto.specs.Facts.{AcceptedBy, GoOnBy};
 ghost use Rattle.lexauto.specs.WordKeys.{Surveys};
-ghost use Rattle.lexdfa.specs.Machines.{IsReached};
-ghost use Rattle.lexdfa.specs.Automata.{machine_of, states_of, conditions_of};
+ghost use Rattle.lexauto_dfa.specs.Machines.{IsReached};
+ghost use Rattle.lexauto_dfa.specs.Automata.{machine_of, states_of, conditions_of};
 
 use crate::error::BuildError;
 use crate::explore::{ExploreError, explore};
 use crate::starts::{add_starts, count_positions, dead_root};
 use crate::stepping::RuleMoves;
-use lexdfa::{Dfa, Parts};
+use lexauto_dfa::{Dfa, Parts};
 use lexspec::Spec;
 use std::alloc::Global;
 

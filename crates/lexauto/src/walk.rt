@@ -1,7 +1,7 @@
 //! One step of the position automaton of a pattern, with no table of what follows what.
 ghost use Rattle.std.specs.Prelude.{◌≡◌, ℕ, ◌+◌, ◌-◌, ◌*◌, ◌<◌, ◌≤◌, ◌^◌, ◌||◌, ◌&&◌, ◌⊎◌, ◌==◌, true, false, length, map, slice_index, IfOk};
-ghost use Rattle.lexmeaning.specs.Active.{lists};
-ghost use Rattle.lexmeaning.specs.Positions.{positions, positions_of, copies};
+ghost use Rattle.lex_semantics.specs.Active.{lists};
+ghost use Rattle.lex_semantics.specs.Positions.{positions, positions_of, copies};
 ghost use Rattle.lexauto.specs.Cursors.{IsCursor, IsFront};
 ghost use Rattle.lexauto.specs.Flow.{is_zero, is_none, passes, comes, exits, exits_each, exits_some, enters, enters_each, enters_some};
 ghost use Rattle.lexauto.specs.Plans.{plan_of, plans, tree_in, trees_in, IsSized, AreSized};

@@ -1,7 +1,7 @@
 -- Lists that are determined by their members or columns.
 use Rattle.std.proofs.Common.{◌≡◌, ℕ, ◌<◌, List, [], ◌∷◌, length, map, inl, inr, refl, sym, ap, ◌∙◌, ◌↔◌, ◌⊎◌, arith}
-use Rattle.lexmeaning.specs.Text.{Among, Ascending}
-use Rattle.lextab.specs.Table.{Slot}
+use Rattle.lex_semantics.specs.Text.{Among, Ascending}
+use Rattle.lextab_packed.specs.Table.{Slot}
 
 above : (x y : ℕ) (ys : List ℕ) → ((j : ℕ) → Among ys j → y < j) → Among (y ∷ ys) x → (x ≡ y) ⊎ (y < x)
 above x y ys low (inl e) = inl e

@@ -5,25 +5,25 @@ use Rattle.std.proofs.Math.ListN.{get_or-map}
 use Rattle.std.proofs.lemmas.Bool.{cases_lt}
 use Rattle.std.proofs.lemmas.List.{ext_get_or, length-map}
 use Rattle.std.proofs.lemmas.Option.{slice_get-get_or}
-use Rattle.lexmeaning.specs.Text.{IsText, Among, Ascending}
-use Rattle.lexmeaning.specs.Spec as Words
-use Rattle.lexmeaning.specs.Spec.{Spec, rejects}
-use Rattle.lexmeaning.specs.SameRules.{SameRules}
-use Rattle.lexmeaning.specs.TableLaws.{SameAnswers}
-use Rattle.lexmeaning.specs.TableFor.{TableFor, Accepted}
-use Rattle.lexmeaning.specs.Machine.{walk, state_after}
-use Rattle.lexdfa.specs.Invariant.{IsAutomaton}
-use Rattle.lexdfa.specs.Machines as M
-use Rattle.lexdfa.specs.Machines.{moving}
-use Rattle.lexdfa.specs.Parts.{conditions, states, start, next, accepts, after}
-use Rattle.lexdfa.specs.Automata.{machine_in}
-use Rattle.lexdfa.specs.declared.dfa.Parts.{Parts}
-use Rattle.lexleast.specs.Least.{AcceptsAs, AreSame, OneAutomaton}
-use Rattle.lextab.specs.Table.{Table, Condition, Rule, Row, Slot}
-use Rattle.lextab.specs.Steps.{no_row, start_at, ending_at, cut_at, statements_at}
-use Rattle.lexpack.specs.Packing.{Packing, IsPacked}
-use Rattle.lexpack.specs.Tables.{packing_in}
-use Rattle.lexfile.specs.File.{file_of}
+use Rattle.lex_semantics.specs.Text.{IsText, Among, Ascending}
+use Rattle.lex_semantics.specs.Spec as Words
+use Rattle.lex_semantics.specs.Spec.{Spec, rejects}
+use Rattle.lex_semantics.specs.SameRules.{SameRules}
+use Rattle.lex_semantics.specs.TableLaws.{SameAnswers}
+use Rattle.lex_semantics.specs.TableFor.{TableFor, Accepted}
+use Rattle.lex_semantics.specs.Machine.{walk, state_after}
+use Rattle.lexauto_dfa.specs.Invariant.{IsAutomaton}
+use Rattle.lexauto_dfa.specs.Machines as M
+use Rattle.lexauto_dfa.specs.Machines.{moving}
+use Rattle.lexauto_dfa.specs.Parts.{conditions, states, start, next, accepts, after}
+use Rattle.lexauto_dfa.specs.Automata.{machine_in}
+use Rattle.lexauto_dfa.specs.declared.dfa.Parts.{Parts}
+use Rattle.lexauto_minimise.specs.Least.{AcceptsAs, AreSame, OneAutomaton}
+use Rattle.lextab_packed.specs.Table.{Table, Condition, Rule, Row, Slot}
+use Rattle.lextab_packed.specs.Steps.{no_row, start_at, ending_at, cut_at, statements_at}
+use Rattle.lextab_packing.specs.Packing.{Packing, IsPacked}
+use Rattle.lextab_packing.specs.Tables.{packing_in}
+use Rattle.lextab_file.specs.File.{file_of}
 use Rattle.lexcanon.specs.Canonical.{IsCanonical}
 use Rattle.lexcanon.proofs.Ordered.{one_order, one_slots}
 
@@ -45,14 +45,14 @@ stays_dead : (p : Parts) → IsAutomaton p → (w : List ℕ) → after p 0 w �
 stays_dead p a [] = refl
 stays_dead p a (b ∷ w) = ap (λ (s : ℕ). after p s w) (a.dead_stays b) ∙ stays_dead p a w
 
-no_start : (p : Parts) (c : ℕ) (bol : Bool) → IsAutomaton p → conditions p ≤ c → start p c bol ≡ 0
+no_start : (p : Parts) (c : ℕ) (line_start : Bool) → IsAutomaton p → conditions p ≤ c → start p c line_start ≡ 0
 no_start p c true a h = past p.line_starts.items c 0 (let l = a.lines in omega (arith, l, h))
 no_start p c false a h = past p.starts.items c 0 h
 
 -- past the conditions nothing is accepted
-accepts_none : (p : Parts) (c : ℕ) (bol : Bool) (w : List ℕ) → IsAutomaton p → conditions p ≤ c → accepts p (after p (start p c bol) w) ≡ []
-accepts_none p c bol w a h =
-    ap (λ (s : ℕ). accepts p (after p s w)) (no_start p c bol a h) ∙ ap (λ (s : ℕ). accepts p s) (stays_dead p a w) ∙ a.dead_accepts
+accepts_none : (p : Parts) (c : ℕ) (line_start : Bool) (w : List ℕ) → IsAutomaton p → conditions p ≤ c → accepts p (after p (start p c line_start) w) ≡ []
+accepts_none p c line_start w a h =
+    ap (λ (s : ℕ). accepts p (after p s w)) (no_start p c line_start a h) ∙ ap (λ (s : ℕ). accepts p s) (stays_dead p a w) ∙ a.dead_accepts
 
 abbrev no_condition : Condition
 no_condition = record { start = 0; line_start = 0; end = record { print = []; status = 0 } }
@@ -61,17 +61,17 @@ abbrev no_rule : Rule
 no_rule = record { cut = Words.Whole; statements = [] }
 
 module _ (p : Parts) (S : Spec) (t : TableFor (machine_in p S) S) where
-  here : (c : ℕ) (bol : Bool) (w : List ℕ) → accepts p (walk (machine_in p S) (start p c bol) w) ≡ accepts p (after p (start p c bol) w)
-  here c bol w = ap (λ (s : ℕ). accepts p s) (walks p S (start p c bol) w)
+  here : (c : ℕ) (line_start : Bool) (w : List ℕ) → accepts p (walk (machine_in p S) (start p c line_start) w) ≡ accepts p (after p (start p c line_start) w)
+  here c line_start w = ap (λ (s : ℕ). accepts p s) (walks p S (start p c line_start) w)
 
-  pub ordered : (c : ℕ) (bol : Bool) (w : List ℕ) → c < length S.conditions → IsText w → Ascending (accepts p (after p (start p c bol) w))
-  ordered c bol w low text = subst Ascending (here c bol w) (t.ascending c bol w low text)
+  pub ordered : (c : ℕ) (line_start : Bool) (w : List ℕ) → c < length S.conditions → IsText w → Ascending (accepts p (after p (start p c line_start) w))
+  ordered c line_start w low text = subst Ascending (here c line_start w) (t.ascending c line_start w low text)
 
-  pub accepted : (c : ℕ) (bol : Bool) (w : List ℕ) (i : ℕ) → c < length S.conditions → IsText w
-      → Among (accepts p (after p (start p c bol) w)) i ↔ Accepted (rejects S) S c bol w i
-  accepted c bol w i low text = (
-    λ a. (t.accepts c bol w i low text).0 (subst (λ (l : List ℕ). Among l i) (sym (here c bol w)) a),
-    λ k. subst (λ (l : List ℕ). Among l i) (here c bol w) ((t.accepts c bol w i low text).1 k),
+  pub accepted : (c : ℕ) (line_start : Bool) (w : List ℕ) (i : ℕ) → c < length S.conditions → IsText w
+      → Among (accepts p (after p (start p c line_start) w)) i ↔ Accepted (rejects S) S c line_start w i
+  accepted c line_start w i low text = (
+    λ a. (t.accepts c line_start w i low text).0 (subst (λ (l : List ℕ). Among l i) (sym (here c line_start w)) a),
+    λ k. subst (λ (l : List ℕ). Among l i) (here c line_start w) ((t.accepts c line_start w i low text).1 k),
   )
 
 module _ (S T : Spec) (f g : List ℕ) (same : SameRules S T) (answers : SameAnswers S T) (a : IsCanonical S f) (b : IsCanonical T g) where
@@ -81,19 +81,19 @@ module _ (S T : Spec) (f g : List ℕ) (same : SameRules S T) (answers : SameAns
   abbrev B : Parts
   B = b.automaton.parts
 
-  alike : (c : ℕ) (bol : Bool) (w : List ℕ) → c < length S.conditions → c < length T.conditions → IsText w → accepts A (after A (start A c bol) w) ≡ accepts B (after B (start B c bol) w)
-  alike c bol w low low' text = one_order (accepts A (after A (start A c bol) w)) (accepts B (after B (start B c bol) w))
-      (ordered A S a.table_for c bol w low text) (ordered B T b.table_for c bol w low' text)
+  alike : (c : ℕ) (line_start : Bool) (w : List ℕ) → c < length S.conditions → c < length T.conditions → IsText w → accepts A (after A (start A c line_start) w) ≡ accepts B (after B (start B c line_start) w)
+  alike c line_start w low low' text = one_order (accepts A (after A (start A c line_start) w)) (accepts B (after B (start B c line_start) w))
+      (ordered A S a.table_for c line_start w low text) (ordered B T b.table_for c line_start w low' text)
       (λ i. (
-        λ h. (accepted B T b.table_for c bol w i low' text).1 ((answers.accepted c bol w i low text).0 ((accepted A S a.table_for c bol w i low text).0 h)),
-        λ h. (accepted A S a.table_for c bol w i low text).1 ((answers.accepted c bol w i low text).1 ((accepted B T b.table_for c bol w i low' text).0 h)),
+        λ h. (accepted B T b.table_for c line_start w i low' text).1 ((answers.accepted c line_start w i low text).0 ((accepted A S a.table_for c line_start w i low text).0 h)),
+        λ h. (accepted A S a.table_for c line_start w i low text).1 ((answers.accepted c line_start w i low text).1 ((accepted B T b.table_for c line_start w i low' text).0 h)),
       ))
 
   accepts_alike : AcceptsAs A B
-  accepts_alike c bol w text = elim (cases_lt c (length S.conditions)) [
-    | inl low ↦ alike c bol w low (let k = same.conditions in omega (arith, low, k)) text
+  accepts_alike c line_start w text = elim (cases_lt c (length S.conditions)) [
+    | inl low ↦ alike c line_start w low (let k = same.conditions in omega (arith, low, k)) text
     | inr high ↦ (let k = same.conditions in let m = a.conditions in let n = b.conditions in
-        accepts_none A c bol w a.automaton.lawful (omega (arith, high, m)) ∙ sym (accepts_none B c bol w b.automaton.lawful (omega (arith, high, k, n))))
+        accepts_none A c line_start w a.automaton.lawful (omega (arith, high, m)) ∙ sym (accepts_none B c line_start w b.automaton.lawful (omega (arith, high, k, n))))
   ]
 
   module _ (one_automaton : OneAutomaton) where
@@ -117,11 +117,11 @@ module _ (S T : Spec) (f g : List ℕ) (same : SameRules S T) (answers : SameAns
     rows_len = sym (length-map a.table.rows (λ (r : Row). r.base)) ∙ ap (λ (p : Packing). length p.bases) packing ∙ length-map b.table.rows (λ (r : Row). r.base)
 
     row : (i : ℕ) → slice_index_or a.table.rows i no_row ≡ slice_index_or b.table.rows i no_row
-    row i = λ k. record { otherwise = otherwise k; base = base k; rules = rules k }
+    row i = λ k. record { default_target = default_target k; base = base k; rules = rules k }
       where
-        otherwise : (slice_index_or a.table.rows i no_row).otherwise ≡ (slice_index_or b.table.rows i no_row).otherwise
-        otherwise = sym (get_or-map (λ (r : Row). r.otherwise) a.table.rows i no_row) ∙ ap (λ (p : Packing). slice_index p.defaults i) packing
-            ∙ get_or-map (λ (r : Row). r.otherwise) b.table.rows i no_row
+        default_target : (slice_index_or a.table.rows i no_row).default_target ≡ (slice_index_or b.table.rows i no_row).default_target
+        default_target = sym (get_or-map (λ (r : Row). r.default_target) a.table.rows i no_row) ∙ ap (λ (p : Packing). slice_index p.defaults i) packing
+            ∙ get_or-map (λ (r : Row). r.default_target) b.table.rows i no_row
 
         base : (slice_index_or a.table.rows i no_row).base ≡ (slice_index_or b.table.rows i no_row).base
         base = sym (get_or-map (λ (r : Row). r.base) a.table.rows i no_row) ∙ ap (λ (p : Packing). slice_index p.bases i) packing

@@ -1,16 +1,16 @@
 -- The table file that a specification's rules have, whatever computes it. (This project's; rows and slots: Aho, Sethi and
 -- Ullman, Compilers, 3.9.)
 use Rattle.std.specs.Prelude.{◌≡◌, ℕ, Bool, List, length}
-use Rattle.lexmeaning.specs.Spec.{Spec}
-use Rattle.lexmeaning.specs.TableFor.{TableFor}
-use Rattle.lexdfa.specs.Automata.{conditions_of, states_of, next_of, machine_of}
-use Rattle.lexdfa.specs.declared.dfa.Dfa.{Dfa}
-use Rattle.lexleast.specs.Least.{IsLeast, IsNumbered}
-use Rattle.lextab.specs.Table.{Table}
-use Rattle.lextab.specs.Steps.{machine_of_table}
-use Rattle.lexpack.specs.Packing.{IsPacked}
-use Rattle.lexpack.specs.Tables.{packing_in}
-use Rattle.lexfile.specs.File.{IsFileOf}
+use Rattle.lex_semantics.specs.Spec.{Spec}
+use Rattle.lex_semantics.specs.TableFor.{TableFor}
+use Rattle.lexauto_dfa.specs.Automata.{conditions_of, states_of, next_of, machine_of}
+use Rattle.lexauto_dfa.specs.declared.dfa.Dfa.{Dfa}
+use Rattle.lexauto_minimise.specs.Least.{IsLeast, IsNumbered}
+use Rattle.lextab_packed.specs.Table.{Table}
+use Rattle.lextab_packed.specs.Steps.{machine_of_table}
+use Rattle.lextab_packing.specs.Packing.{IsPacked}
+use Rattle.lextab_packing.specs.Tables.{packing_in}
+use Rattle.lextab_file.specs.File.{IsFileOf}
 
 -- The bytes are the file of the table of an automaton for the specification. But for the dead state the automaton has one
 -- state for each future that words have, numbered in the order of the first call. The table has the automaton's rows, packed,

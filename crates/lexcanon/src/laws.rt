@@ -1,12 +1,12 @@
 //! The law of canonical files.
 ghost use Rattle.std.specs.Prelude.{◌≡◌, ℕ, List};
-ghost use Rattle.lexmeaning.specs.Spec.{Spec};
-ghost use Rattle.lexmeaning.specs.SameRules.{SameRules};
+ghost use Rattle.lex_semantics.specs.Spec.{Spec};
+ghost use Rattle.lex_semantics.specs.SameRules.{SameRules};
 ghost use Rattle.lexcanon.specs.Canonical.{IsCanonical};
 
-use lexleast::one_automaton;
-use lexmeaning::same_rules_answers;
-use lexpack::{one_packing, packing_of_same_moves};
+use lex_semantics::same_rules_answers;
+use lexauto_minimise::one_automaton;
+use lextab_packing::{one_packing, packing_of_same_moves};
 
 /// Specifications with the same rules, however their patterns are written, have the same canonical file, and each has at
 /// most one.

@@ -1,13 +1,13 @@
 -- What is told of a machine's rules is told of those of its specification.
 use Rattle.std.proofs.Common.{ℕ, suc, Bool, List, ◌++◌}
-use Rattle.lexmeaning.specs.Spec.{Spec}
-use Rattle.lexmeaning.specs.Rules.{rules_of}
-use Rattle.lexmeaning.specs.Sound.{IsSound}
-use Rattle.lexmeaning.specs.Machine.{Machine, rules_of_machine}
-use Rattle.lexmeaning.specs.MachineLaws.{MachineLaws}
-use Rattle.lexmeaning.specs.TableFor.{TableFor}
-use Rattle.lexmeaning.specs.Acting.{Ending, StackFault}
-use Rattle.lexmeaning.proofs.Both.{same_after, same_run}
+use Rattle.lex_semantics.specs.Spec.{Spec}
+use Rattle.lex_semantics.specs.Rules.{rules_of}
+use Rattle.lex_semantics.specs.Sound.{IsSound}
+use Rattle.lex_semantics.specs.Machine.{Machine, rules_of_machine}
+use Rattle.lex_semantics.specs.MachineLaws.{MachineLaws}
+use Rattle.lex_semantics.specs.TableFor.{TableFor}
+use Rattle.lex_semantics.specs.Acting.{Ending, StackFault}
+use Rattle.lex_semantics.proofs.Both.{same_after, same_run}
 use Rattle.lexscan.specs.declared.error.RunError.{RunError}
 use Rattle.lexscan.specs.Stands.{RanTo}
 use Rattle.lexscan.specs.Runs.{RanInto}

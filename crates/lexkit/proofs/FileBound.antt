@@ -1,14 +1,14 @@
 -- How long the file of a table is at most.
 use Rattle.std.proofs.Common.{◌≡◌, ℕ, suc, ◌+◌, ◌*◌, ◌-◌, ◌<◌, ◌≤◌, List, [], ◌∷◌, ◌++◌, length, flat_map, sum_by, inl, inr, refl, arith, length-append, Result, Ok, Err, Option, Some, None, unwrap_or, IfSome, IfNone}
 use Rattle.std.proofs.lemmas.List.Sums.{sum_by-cons}
-use Rattle.lexmeaning.specs.Text.{Among, Ascending}
-use Rattle.lexmeaning.specs.Spec.{Statement, Echo, Print, Begin, More, Less, Reject, End, Push, Pop, Cut, Whole, Head, Trail}
-use Rattle.lextab.specs.Checks.{literal_bytes}
-use Rattle.lexends.specs.Sink.{Appended, fault_count}
-use Rattle.lexends.specs.declared.sink.WriteFault.{WriteFault}
-use Rattle.lextab.specs.Table.{Condition, Rule, Row, Slot, Table}
-use Rattle.lextab.specs.Checks.{Each, Sizes, sizes_of, IsCondition, IsRule, IsRow, IsSlot, IsTable, any_reject, bases_of}
-use Rattle.lexfile.specs.File.{long, byte, statement_text, cut_text, condition_text, rule_text, row_text, slot_text, file_of}
+use Rattle.lex_semantics.specs.Text.{Among, Ascending}
+use Rattle.lex_semantics.specs.Spec.{Statement, Echo, Print, Begin, More, Less, Reject, End, Push, Pop, Cut, Whole, Head, Trail}
+use Rattle.lextab_packed.specs.Checks.{literal_bytes}
+use Rattle.lex_io.specs.Sink.{Appended, fault_count}
+use Rattle.lex_io.specs.declared.sink.WriteFault.{WriteFault}
+use Rattle.lextab_packed.specs.Table.{Condition, Rule, Row, Slot, Table}
+use Rattle.lextab_packed.specs.Checks.{Each, Sizes, sizes_of, IsCondition, IsRule, IsRow, IsSlot, IsTable, any_reject, bases_of}
+use Rattle.lextab_file.specs.File.{long, byte, statement_text, cut_text, condition_text, rule_text, row_text, slot_text, file_of}
 use Rattle.lexkit.specs.Counting.{Counts}
 
 -- k for each element

@@ -2,18 +2,18 @@
 use mathlib.Core.Logic.{∥∥₁_elim}
 use Rattle.std.proofs.Common.{◌≡◌, ℕ, ◌<◌, Bool, true, false, List, [], ◌++◌, length, Result, Ok, Err, refl, sym, ap, subst, ◌∙◌, ◌↔◌, arith}
 use Rattle.std.proofs.lemmas.List.{ext_get_or}
-use Rattle.lexmeaning.specs.Text.{flag}
-use Rattle.lexmeaning.specs.Spec.{Spec}
-use Rattle.lexmeaning.specs.Sound.{IsSound}
-use Rattle.lexmeaning.specs.Rules.{rules_of}
-use Rattle.lexmeaning.specs.Machine.{Machine, rules_of_machine}
-use Rattle.lexmeaning.specs.MachineLaws.{MachineLaws}
-use Rattle.lexmeaning.specs.TableFor.{TableFor}
-use Rattle.lexmeaning.specs.Acting.{Status}
+use Rattle.lex_semantics.specs.Text.{flag}
+use Rattle.lex_semantics.specs.Spec.{Spec}
+use Rattle.lex_semantics.specs.Sound.{IsSound}
+use Rattle.lex_semantics.specs.Rules.{rules_of}
+use Rattle.lex_semantics.specs.Machine.{Machine, rules_of_machine}
+use Rattle.lex_semantics.specs.MachineLaws.{MachineLaws}
+use Rattle.lex_semantics.specs.TableFor.{TableFor}
+use Rattle.lex_semantics.specs.Acting.{Status}
 use Rattle.lexscan.specs.declared.error.RunError.{RunError}
-use Rattle.lextab.specs.Table.{Table}
-use Rattle.lextab.specs.Steps.{machine_of_table}
-use Rattle.lextab.specs.Invariant.{GoesOn}
+use Rattle.lextab_packed.specs.Table.{Table}
+use Rattle.lextab_packed.specs.Steps.{machine_of_table}
+use Rattle.lextab_packed.specs.Invariant.{GoesOn}
 use Rattle.lexkit.specs.Headline.{Ran, max_reads}
 use Rattle.lexkit.proofs.Carried as Same
 

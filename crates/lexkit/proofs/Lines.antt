@@ -3,7 +3,7 @@ use Rattle.std.proofs.Common.{◌≡◌, ℕ, ◌+◌, ◌<◌, ◌≤◌, List,
 use Rattle.std.proofs.lemmas.List.{drop_more, drop_all}
 use Rattle.std.specs.Borrow.{Bor}
 use Rattle.lexkit.specs.Joined.{joined}
-use Rattle.lexends.specs.Sink.{Appended}
+use Rattle.lex_io.specs.Sink.{Appended}
 
 -- what follows the bytes that were to be written follows what was written of them
 pub longer : (bytes front rest more : List ℕ) → bytes ≡ front ++ rest → bytes ++ more ≡ front ++ (rest ++ more)

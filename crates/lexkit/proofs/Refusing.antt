@@ -1,11 +1,11 @@
 -- The builder's refusals, by their reasons.
 use Rattle.std.proofs.Common.{◌≡◌, ℕ, ◌<◌, Bool, List, refl, Err}
-use Rattle.lexmeaning.specs.Spec.{Spec}
-use Rattle.lexmeaning.specs.Subsets.{Subsets, all_positions}
+use Rattle.lex_semantics.specs.Spec.{Spec}
+use Rattle.lex_semantics.specs.Subsets.{Subsets, all_positions}
 use Rattle.lexauto.specs.declared.subsets.Limits.{Limits}
 use Rattle.lexauto.specs.declared.error.BuildError.{BuildError}
 use Rattle.lexauto.specs.declared.error.BuildError.TheVariants as builds
-use Rattle.lexdfa.specs.declared.dfa.Dfa.{Dfa}
+use Rattle.lexauto_dfa.specs.declared.dfa.Dfa.{Dfa}
 use Rattle.lexkit.specs.Headline.{BuildRefusal, IsWithin, ScansBy}
 use Rattle.lexkit.specs.Generated.{SpecRefusal, IsLeastOf}
 use Rattle.lexkit.specs.declared.errors.GenError.{GenError}

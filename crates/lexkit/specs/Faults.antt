@@ -14,8 +14,8 @@ use Rattle.lexauto.specs.declared.error.BuildError.{BuildError}
 use Rattle.lexauto.specs.declared.error.BuildError.TheVariants as builds
 use Rattle.lexscan.specs.declared.error.RunError.{RunError}
 use Rattle.lexscan.specs.declared.error.RunError.TheVariants as runs
-use Rattle.lexfile.specs.declared.error.TableError.{TableError}
-use Rattle.lexfile.specs.declared.error.TableError.TheVariants as tables
+use Rattle.lextab_file.specs.declared.error.TableError.{TableError}
+use Rattle.lextab_file.specs.declared.error.TableError.TheVariants as tables
 use Rattle.lexkit.specs.declared.errors.GenError.{GenError}
 use Rattle.lexkit.specs.declared.errors.GenError.TheVariants as gens
 use Rattle.lexkit.specs.declared.errors.ScanError.{ScanError}

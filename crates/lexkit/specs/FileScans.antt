@@ -1,17 +1,17 @@
 -- A scan by the table file of a specification is a scan by the specification. (POSIX, lex: the scanner that is made does what
 -- the specification says.)
 use Rattle.std.specs.Prelude.{ℕ, Bool, List, Result, Ok}
-use Rattle.lexmeaning.specs.Spec.{Spec}
-use Rattle.lexmeaning.specs.Text.{flag}
-use Rattle.lexmeaning.specs.Rules.{rules_of}
-use Rattle.lexmeaning.specs.Machine.{rules_of_machine}
+use Rattle.lex_semantics.specs.Spec.{Spec}
+use Rattle.lex_semantics.specs.Text.{flag}
+use Rattle.lex_semantics.specs.Rules.{rules_of}
+use Rattle.lex_semantics.specs.Machine.{rules_of_machine}
 use Rattle.lexspec.specs.Files.{SpellsSpec}
 use Rattle.lexscan.specs.declared.error.RunError.{RunError}
-use Rattle.lextab.specs.Table.{Table}
-use Rattle.lextab.specs.Steps.{machine_of_table}
-use Rattle.lextab.specs.Invariant.{GoesOn}
-use Rattle.lextab.specs.Views.{table_of}
-use Rattle.lexfile.specs.File.{IsFileOf, file_of}
+use Rattle.lextab_packed.specs.Table.{Table}
+use Rattle.lextab_packed.specs.Steps.{machine_of_table}
+use Rattle.lextab_packed.specs.Invariant.{GoesOn}
+use Rattle.lextab_packed.specs.Views.{table_of}
+use Rattle.lextab_file.specs.File.{IsFileOf, file_of}
 use Rattle.lexkit.specs.Headline.{Ran, reading}
 use Rattle.lexkit.specs.Generated.{Makes}
 use Rattle.lexkit.specs.declared.options.Options.{Options}

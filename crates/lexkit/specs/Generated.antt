@@ -2,28 +2,28 @@
 -- Scanner Options: -b; the least automaton, its tables and the counts are this project's.)
 use Rattle.std.specs.Prelude.{◌≡◌, ◌↔◌, ℕ, ◌≤◌, List, ◌++◌, length, map, Result, Ok, Err, ⊤}
 use Rattle.std.specs.List.Sorted.{IsPermutation}
-use Rattle.lexmeaning.specs.Text.{Ascending, Among}
-use Rattle.lexmeaning.specs.Spec.{Spec}
-use Rattle.lexmeaning.specs.Sound.{IsSound}
-use Rattle.lexmeaning.specs.MachineLaws.{MachineLaws}
-use Rattle.lexmeaning.specs.TableFor.{TableFor}
-use Rattle.lexmeaning.specs.Reports.{Useless}
-use Rattle.lexmeaning.specs.Subsets.{Subsets, all_positions}
+use Rattle.lex_semantics.specs.Text.{Ascending, Among}
+use Rattle.lex_semantics.specs.Spec.{Spec}
+use Rattle.lex_semantics.specs.Sound.{IsSound}
+use Rattle.lex_semantics.specs.MachineLaws.{MachineLaws}
+use Rattle.lex_semantics.specs.TableFor.{TableFor}
+use Rattle.lex_semantics.specs.Reports.{Useless}
+use Rattle.lex_semantics.specs.Subsets.{Subsets, all_positions}
 use Rattle.lexspec.specs.Files.{SpellsSpec}
-use Rattle.lexdfa.specs.Automata.{conditions_of, states_of, next_of, machine_of}
-use Rattle.lexdfa.specs.declared.dfa.Dfa.{Dfa}
-use Rattle.lexleast.specs.Least.{IsLeast, IsNumbered}
+use Rattle.lexauto_dfa.specs.Automata.{conditions_of, states_of, next_of, machine_of}
+use Rattle.lexauto_dfa.specs.declared.dfa.Dfa.{Dfa}
+use Rattle.lexauto_minimise.specs.Least.{IsLeast, IsNumbered}
 use Rattle.lexauto.specs.declared.subsets.Limits.{Limits}
-use Rattle.lexreport.specs.BackWords.{IsFirstWord, IsAfterBackWord, states_in}
-use Rattle.lexreport.specs.Warned.{of_code, of_rule, AreInOrder}
-use Rattle.lexreport.specs.declared.backup.BackUp.{BackUp}
-use Rattle.lexreport.specs.declared.warned.Warning.{Warning}
-use Rattle.lextab.specs.Table.{Table}
-use Rattle.lextab.specs.Views.{table_of}
-use Rattle.lextab.specs.Machines.{machine_of as table_machine}
-use Rattle.lexpack.specs.Packing.{IsPacked}
-use Rattle.lexpack.specs.Tables.{packing_in}
-use Rattle.lexfile.specs.File.{file_of}
+use Rattle.lexauto_reports.specs.BackWords.{IsFirstWord, IsAfterBackWord, states_in}
+use Rattle.lexauto_reports.specs.Warned.{of_code, of_rule, AreInOrder}
+use Rattle.lexauto_reports.specs.declared.backup.BackUp.{BackUp}
+use Rattle.lexauto_reports.specs.declared.warned.Warning.{Warning}
+use Rattle.lextab_packed.specs.Table.{Table}
+use Rattle.lextab_packed.specs.Views.{table_of}
+use Rattle.lextab_packed.specs.Machines.{machine_of as table_machine}
+use Rattle.lextab_packing.specs.Packing.{IsPacked}
+use Rattle.lextab_packing.specs.Tables.{packing_in}
+use Rattle.lextab_file.specs.File.{file_of}
 use Rattle.lexcanon.specs.Canonical.{IsCanonical}
 use Rattle.lexkit.specs.Headline.{BuildRefusal, Refusal, reading}
 use Rattle.lexkit.specs.declared.options.Options.{Options}

@@ -1,23 +1,23 @@
 -- What a scan by the text of a specification leaves. (What is written is that of POSIX and flex; what is taken from the source,
 -- the limits and the refusals are this project's.)
 use Rattle.std.specs.Prelude.{◌≡◌, ℕ, ◌<◌, ◌≤◌, Bool, false, List, Result, Ok, Err, ⊤}
-use Rattle.lexmeaning.specs.Spec.{Spec}
-use Rattle.lexmeaning.specs.Text.{flag}
-use Rattle.lexmeaning.specs.Rules.{Rules, rules_of}
-use Rattle.lexmeaning.specs.Machine.{rules_of_machine}
-use Rattle.lextab.specs.Table.{Table}
-use Rattle.lextab.specs.Steps.{machine_of_table}
-use Rattle.lextab.specs.Invariant.{GoesOn}
-use Rattle.lexfile.specs.File.{IsFileOf}
-use Rattle.lexfile.specs.Refusals.{is_out_of_memory}
-use Rattle.lexfile.specs.declared.error.TableError.{TableError}
-use Rattle.lexmeaning.specs.Subsets.{Subsets, all_positions}
+use Rattle.lex_semantics.specs.Spec.{Spec}
+use Rattle.lex_semantics.specs.Text.{flag}
+use Rattle.lex_semantics.specs.Rules.{Rules, rules_of}
+use Rattle.lex_semantics.specs.Machine.{rules_of_machine}
+use Rattle.lextab_packed.specs.Table.{Table}
+use Rattle.lextab_packed.specs.Steps.{machine_of_table}
+use Rattle.lextab_packed.specs.Invariant.{GoesOn}
+use Rattle.lextab_file.specs.File.{IsFileOf}
+use Rattle.lextab_file.specs.Refusals.{is_out_of_memory}
+use Rattle.lextab_file.specs.declared.error.TableError.{TableError}
+use Rattle.lex_semantics.specs.Subsets.{Subsets, all_positions}
 use Rattle.lexspec.specs.Outcome.{UnlessMemory}
 use Rattle.lexspec.specs.Files.{SpellsSpec, ReadOptions}
 use Rattle.lexauto.specs.declared.subsets.Limits.{Limits}
 use Rattle.lexauto.specs.declared.error.BuildError.{BuildError}
 use Rattle.lexauto.specs.declared.error.BuildError.TheVariants as builds
-use Rattle.lexmeaning.specs.Acting.{Status}
+use Rattle.lex_semantics.specs.Acting.{Status}
 use Rattle.lexscan.specs.Stands.{RanTo}
 use Rattle.lexscan.specs.Runs.{RanInto}
 use Rattle.lexscan.specs.declared.error.RunError.{RunError}

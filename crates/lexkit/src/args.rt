@@ -82,7 +82,7 @@ impl From<clap::Error> for ArgsError {
 pub fn read_args(alloc: Global, words: &[String]) -> Result<Job, ArgsError>
     ensures { IfOk result IsNamed }
 {
-    let command = known(alloc)?;
+    let command = command(alloc)?;
     let matches = command.try_get_matches_from(words)?;
     match (matches.get_str("scan-spec"), matches.get_str("scan-table")) {
         (None, None) => generating(alloc, &matches),
@@ -98,7 +98,7 @@ fn flag<'a>(alloc: Global, id: &'a str, letter: char) -> Arg<'a> {
 }
 
 /// The words that the program knows.
-fn known<'a>(alloc: Global) -> Result<Command<'a>, AllocError> {
+fn command<'a>(alloc: Global) -> Result<Command<'a>, AllocError> {
     let command = Command::new(alloc, "lex").no_binary_name(true);
     let command = with_flags(alloc, command)?;
     with_names(alloc, command)

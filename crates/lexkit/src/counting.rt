@@ -1,12 +1,12 @@
 //! How long a table file is.
 ghost use Rattle.std.specs.Prelude.{◌≡◌, ℕ, ◌+◌, ◌-◌, ◌^◌, ◌<◌, List, length};
-ghost use Rattle.lextab.specs.Views.{table_of};
-ghost use Rattle.lexfile.specs.File.{file_of};
+ghost use Rattle.lextab_packed.specs.Views.{table_of};
+ghost use Rattle.lextab_file.specs.File.{file_of};
 ghost use Rattle.lexkit.specs.Counting.{Counts, counts_none, counts_more};
 
-use lexends::{Sink, WriteFault};
-use lexfile::write_tables;
-use lextab::Tables;
+use lex_io::{Sink, WriteFault};
+use lextab_file::write_tables;
+use lextab_packed::Tables;
 
 /// Counts the bytes that are put, while their number fits.
 #[derive(Drop)]

@@ -3,10 +3,10 @@
 ghost use Rattle.std.specs.Prelude.{◌≡◌};
 
 use lexauto::BuildError;
-use lexdfa::OutOfMemory;
-use lexfile::TableError;
+use lexauto_dfa::OutOfMemory;
 use lexscan::RunError;
 use lexspec::SpecError;
+use lextab_file::TableError;
 use thiserror::Error;
 
 /// Why a specification is not scanned with, or why its scan stopped.

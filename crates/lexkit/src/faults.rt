@@ -1,6 +1,6 @@
 //! The line on standard error, and the exit status.
 ghost use Rattle.std.specs.Prelude.{◌≡◌, ℕ, ◌+◌, ◌-◌, ◌^◌, ◌<◌, ◌≤◌, List, ◌++◌};
-ghost use Rattle.lexends.specs.Sink.{Appended, fault_count};
+ghost use Rattle.lex_io.specs.Sink.{Appended, fault_count};
 ghost use Rattle.lexkit.specs.Joined.{joined};
 ghost use Rattle.lexkit.specs.Faults.{line_of, fault_words, scan_words, gen_words, gen_status, table_words, table_status, args_status, scan_status, run_status, build_words, spec_words, lacks_memory, run_words, args_words};
 
@@ -8,11 +8,11 @@ use crate::args::ArgsError;
 use crate::errors::{GenError, ScanError};
 use crate::writing::put_all;
 use itoa::Buffer;
+use lex_io::{Sink, WriteFault};
 use lexauto::BuildError;
-use lexends::{Sink, WriteFault};
-use lexfile::TableError;
 use lexscan::RunError;
 use lexspec::{PatternError, PatternErrorKind, SpecError, SpecErrorKind};
+use lextab_file::TableError;
 
 /// What ended the program before its work was done.
 #[derive(Clone, Copy, Debug)]

@@ -2,18 +2,18 @@
 ghost use Rattle.std.specs.Prelude.{◌≡◌, ◌≤◌, IfOk, IfErr};
 ghost use Rattle.lexspec.specs.Views.{spec_of};
 ghost use Rattle.lexkit.specs.Generated.{IsLeastOf, IsMadeOf, SpecRefusal, MakesBy, Makes};
-ghost use Rattle.lexmeaning.specs.Limits.{max_positions, max_states};
+ghost use Rattle.lex_semantics.specs.Limits.{max_positions, max_states};
 
 use crate::errors::GenError;
 use crate::options::Options;
 use crate::stats::{Stats, stats_of};
 use lexauto::{Limits, build};
-use lexdfa::{Dfa, OutOfMemory};
-use lexleast::minimise;
-use lexpack::pack;
-use lexreport::{BackUp, Warning, backing_up, useless_rules, warnings};
+use lexauto_dfa::{Dfa, OutOfMemory};
+use lexauto_minimise::minimise;
+use lexauto_reports::{BackUp, Warning, backing_up, useless_rules, warnings};
 use lexspec::{ReadOptions, Spec, read_spec, tested_specifications};
-use lextab::Tables;
+use lextab_packed::Tables;
+use lextab_packing::pack;
 use std::alloc::Global;
 
 /// What is made of a specification.

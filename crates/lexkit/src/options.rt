@@ -1,9 +1,9 @@
 //! How a specification is read, and how large its automaton may be.
 ghost use Rattle.std.specs.Prelude.{◌≡◌, false};
-ghost use Rattle.lexmeaning.specs.Limits.{max_positions, max_states};
+ghost use Rattle.lex_semantics.specs.Limits.{max_positions, max_states};
 
+use lex_semantics::{MAX_POSITIONS, MAX_STATES};
 use lexauto::Limits;
-use lexmeaning::{MAX_POSITIONS, MAX_STATES};
 
 /// What a caller may choose about a specification.
 #[derive(Clone, Copy, Debug, PartialEq, Eq)]

@@ -3,18 +3,18 @@ ghost use Rattle.std.specs.Prelude.{◌≡◌, ℕ, ◌+◌, ◌-◌, ◌^◌, �
 ghost use Rattle.lexspec.specs.Views.{spec_of};
 ghost use Rattle.lexkit.specs.Headline.{Headline, ScansBy, TableHeadline};
 ghost use Rattle.lexkit.specs.ScanCounts.{read_fault_count, write_fault_count};
-ghost use Rattle.lexmeaning.specs.Limits.{max_positions, max_states};
+ghost use Rattle.lex_semantics.specs.Limits.{max_positions, max_states};
 
 use crate::errors::{GenError, ScanError};
 use crate::making::least_automaton;
 use crate::options::Options;
+use lex_io::{Sink, Source};
 use lexauto::Limits;
-use lexends::{Sink, Source};
-use lexfile::{TableError, read_tables};
-use lexpack::pack;
 use lexscan::run;
 use lexspec::{ReadOptions, Spec, read_spec};
-use lextab::Flat;
+use lextab_file::{TableError, read_tables};
+use lextab_packed::Flat;
+use lextab_packing::pack;
 use std::alloc::Global;
 
 /// How many reads a scan makes at most: 2^40.

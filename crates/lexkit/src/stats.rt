@@ -1,19 +1,19 @@
 //! Counts of what is made of a specification.
 ghost use Rattle.std.specs.Prelude.{◌≡◌, ℕ, ◌+◌, ◌-◌, ◌^◌, ◌<◌, ◌≤◌, length};
-ghost use Rattle.lexends.specs.Sink.{Appended, fault_count};
+ghost use Rattle.lex_io.specs.Sink.{Appended, fault_count};
 ghost use Rattle.lexspec.specs.Views.{spec_of, rules_in};
-ghost use Rattle.lexmeaning.specs.Subsets.{all_positions};
-ghost use Rattle.lextab.specs.Views.{table_of};
+ghost use Rattle.lex_semantics.specs.Subsets.{all_positions};
+ghost use Rattle.lextab_packed.specs.Views.{table_of};
 ghost use Rattle.lexkit.specs.Generated.{AreCounts};
 ghost use Rattle.lexkit.specs.Statistics.{stats_lines};
 
 use crate::counting::file_length;
 use crate::writing::put_all;
 use itoa::Buffer;
+use lex_io::{Sink, WriteFault};
 use lexauto::{Limits, count_positions};
-use lexends::{Sink, WriteFault};
 use lexspec::Spec;
-use lextab::Tables;
+use lextab_packed::Tables;
 
 /// The counts that `-v` writes.
 #[derive(Clone, Copy, Debug, PartialEq, Eq)]

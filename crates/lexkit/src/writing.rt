@@ -1,9 +1,9 @@
 //! Texts put one after the other.
 ghost use Rattle.std.specs.Prelude.{◌≡◌, ℕ, ◌+◌, ◌-◌, ◌^◌, ◌<◌};
-ghost use Rattle.lexends.specs.Sink.{Appended, fault_count};
+ghost use Rattle.lex_io.specs.Sink.{Appended, fault_count};
 ghost use Rattle.lexkit.specs.Joined.{joined};
 
-use lexends::{Sink, WriteFault};
+use lex_io::{Sink, WriteFault};
 
 /// Puts the parts.
 pub(crate) fn put_all<K: Sink>(sink: &mut K, parts: &[&str]) -> Result<(), WriteFault>

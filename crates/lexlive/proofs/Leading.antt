@@ -3,7 +3,7 @@ use Rattle.std.proofs.Common.{◌≡◌, ℕ, ◌+◌, ◌*◌, ◌<◌, ◌≤�
 use Rattle.std.specs.Prelude.{slice_index}
 use Rattle.std.proofs.Props.{props}
 use mathlib.Core.Logic.{∥∥₁_elim}
-use Rattle.lexmeaning.specs.Text.{IsText, flag}
+use Rattle.lex_semantics.specs.Text.{IsText, flag}
 use Rattle.lexlive.specs.Live.{go, after, GoesTo, LeadsOn, AreLive}
 use Rattle.lexlive.specs.Sources.{Has}
 use Rattle.lexlive.specs.Spreading.{Spreads}

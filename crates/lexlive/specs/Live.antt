@@ -1,6 +1,6 @@
 -- Live states: those from which some text that is not empty leads to a state that accepts. (This project's.)
 use Rattle.std.specs.Prelude.{◌≡◌, ◌↔◌, ℕ, ◌+◌, ◌*◌, ◌<◌, ◌≤◌, Bool, true, List, [], ◌∷◌, length, slice_index}
-use Rattle.lexmeaning.specs.Text.{IsText, flag}
+use Rattle.lex_semantics.specs.Text.{IsText, flag}
 
 -- the state after one byte more, where each state has a row of 256 targets
 abbrev pub go : List ℕ → ℕ → ℕ → ℕ

@@ -1,6 +1,6 @@
 -- How liveness spreads from states to those that go to them.
 use Rattle.std.specs.Prelude.{◌≡◌, ◌⊎◌, ℕ, suc, ◌+◌, ◌≤◌, Bool, true, false, List, [], ◌∷◌, length}
-use Rattle.lexmeaning.specs.Text.{flag}
+use Rattle.lex_semantics.specs.Text.{flag}
 use Rattle.lexlive.specs.Sources.{Has}
 
 -- how many flags are not set

@@ -1,7 +1,7 @@
 //! Which states are live.
 ghost use Rattle.std.specs.Prelude.{◌≡◌, ℕ, ◌*◌, ◌<◌, ◌≤◌, Bool, true, length, slice_index, IfOk, OnOk};
-ghost use Rattle.lexmeaning.specs.Limits.{max_states};
-ghost use Rattle.lexmeaning.specs.Text.{flag};
+ghost use Rattle.lex_semantics.specs.Limits.{max_states};
+ghost use Rattle.lex_semantics.specs.Text.{flag};
 ghost use Rattle.lexlive.specs.Live.{AreLive, GoesTo};
 ghost use Rattle.lexlive.specs.Sources.{Has};
 ghost use Rattle.lexlive.specs.Spreading.{Spreads};

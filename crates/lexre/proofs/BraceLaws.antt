@@ -1,9 +1,9 @@
 -- What stands between braces.
 use Rattle.std.proofs.Common.{◌≡◌, ℕ, List, length, Option, Some, refl}
 use Rattle.std.specs.Prelude.{codes}
-use Rattle.lexmeaning.specs.Reading.{goes_on_name, take_up_to, ◌>>=◌}
-use Rattle.lexclass.specs.Lexical.{after_word, name_at}
-use Rattle.lexclass.specs.Symbols.{Symbol, name}
+use Rattle.lex_semantics.specs.Reading.{goes_on_name, take_up_to, ◌>>=◌}
+use Rattle.lexre_bytes.specs.Lexical.{after_word, name_at}
+use Rattle.lexre_bytes.specs.Symbols.{Symbol, name}
 
 pub name_then : (t letters rest : List ℕ) (o : Option (List ℕ)) → ◌≡◌ {A = List ℕ × List ℕ} (take_up_to (length t) goes_on_name t) (letters, rest)
     → after_word (codes "}") rest ≡ o → ◌≡◌ {A = Option (Symbol × List ℕ)} (name_at t) (o >>= λ after. Some (name letters, after))

@@ -1,6 +1,6 @@
 -- The reader of a rule's pattern, against whole texts.
 use Rattle.std.proofs.Common.{◌≡◌, ℕ, zero, suc, ◌+◌, ◌-◌, ◌<◌, ◌≤◌, Bool, true, false, List, [], ◌∷◌, length, Option, Some, None, refl, sym, ap, ◌∙◌, subst, arith}
-use Rattle.lexmeaning.specs.Reading.{◌>>=◌}
+use Rattle.lex_semantics.specs.Reading.{◌>>=◌}
 use Rattle.lexre.specs.Cutting.{Piece, opens, closes, slash, dollar, other, piece_at, slashes, ends_with_dollar, is_dollar, first_of, has_two, IsEnd, IsPieces, IsCutting}
 use Rattle.lexre.specs.CuttingSoFar.{Ending, ending, first_with, two_with, special_with}
 use Rattle.lexre.specs.declared.cutting.CuttingSoFar.{CuttingSoFar}

@@ -2,18 +2,18 @@
 use Rattle.std.proofs.Common.{◌≡◌, ℕ, zero, suc, ◌+◌, ◌-◌, ◌<◌, ◌≤◌, Bool, true, ◌||◌, nat_eq, List, [], ◌∷◌, ◌++◌, map, length, take, Vec, Option, Some, None, ◌⊎◌, inl, inr, refl, sym, ap, ◌∙◌, subst, arith}
 use Rattle.std.proofs.lemmas.Bool.{and_parts, or_cases, eqb-true}
 use Rattle.std.specs.FinMap.{get}
-use Rattle.lexclass.specs.Lexical.{symbol_at}
-use Rattle.lexclass.specs.Symbols.{Symbol, Sign, item, name, opening, closing, bar, sign, interval, Lexer, IsCut}
-use Rattle.lexmeaning.specs.ByteSets.{is_word}
-use Rattle.lexmeaning.specs.Text.{Among}
-use Rattle.lexmeaning.specs.Tree.{Tree}
+use Rattle.lexre_bytes.specs.Lexical.{symbol_at}
+use Rattle.lexre_bytes.specs.Symbols.{Symbol, Sign, item, name, opening, closing, bar, sign, interval, Lexer, IsCut}
+use Rattle.lex_semantics.specs.ByteSets.{is_word}
+use Rattle.lex_semantics.specs.Text.{Among}
+use Rattle.lex_semantics.specs.Tree.{Tree}
 use Rattle.lexre.specs.Cycles.{LeadsTo, LeadsToText, AllLead, AllLeadToText, AllLeadToSymbol}
 use Rattle.lexre.specs.Definitions.{Definitions}
 use Rattle.lexre.specs.Grammar.{choice_tree, Signs, IsItem, IsSeries, IsPattern, alone, group, defines, first, next, repeated, counted, only, choice, SpellsWithin}
 use Rattle.lexre.specs.Reading.{SpellsIn, StandsIn, NoneWithin, is_among}
 use Rattle.lexre.specs.Running.{Stands}
 use Rattle.lexre.specs.declared.options.ReadOptions.{ReadOptions}
-use Rattle.lexmeaning.proofs.Fronts.{among_append}
+use Rattle.lex_semantics.proofs.Fronts.{among_append}
 use Rattle.lexre.proofs.OneTree.{pair_is}
 use Rattle.lexre.proofs.ReaderLaws.{nothing_at}
 
@@ -128,55 +128,55 @@ module _ (posix : Bool) (symbol_at : Lexer) (defined : List ℕ → Option (List
 
 -- Names that lead to others.
 
-leads_front : (how : ReadOptions) (defs : Definitions) (m text rest after n : List ℕ) → LeadsToText how defs m text
-    → EndsWith how.posix (symbol_at how.fold) (get defs) text rest → symbol_at how.fold rest ≡ Some (name n, after) → LeadsTo how defs m n
-leads_front how defs m text rest after n leads ends here d t stands =
+leads_front : (how : ReadOptions) (definitions : Definitions) (m text rest after n : List ℕ) → LeadsToText how definitions m text
+    → EndsWith how.posix (symbol_at how.fold) (get definitions) text rest → symbol_at how.fold rest ≡ Some (name n, after) → LeadsTo how definitions m n
+leads_front how definitions m text rest after n leads ends here d t stands =
     let (below, u, less, spells) = leads d t stands in
-    let (under, v, less', stands') = text_named how.posix (symbol_at how.fold) (get defs) (nothing_at how.fold) below text rest after n u ends here spells in
+    let (under, v, less', stands') = text_named how.posix (symbol_at how.fold) (get definitions) (nothing_at how.fold) below text rest after n u ends here spells in
     (suc under, v, omega arith, stands')
 
-pub all_lead_front : (how : ReadOptions) (defs : Definitions) (ns : List (List ℕ)) (text rest after : List ℕ) (s : Symbol) → AllLeadToText how defs ns text
-    → EndsWith how.posix (symbol_at how.fold) (get defs) text rest → symbol_at how.fold rest ≡ Some (s, after) → AllLeadToSymbol how defs ns s
-all_lead_front how defs ns text rest after (item t) lead ends here = tt
-all_lead_front how defs ns text rest after (name n) lead ends here = λ m among. leads_front how defs m text rest after n (lead m among) ends here
-all_lead_front how defs ns text rest after opening lead ends here = tt
-all_lead_front how defs ns text rest after closing lead ends here = tt
-all_lead_front how defs ns text rest after bar lead ends here = tt
-all_lead_front how defs ns text rest after (sign s) lead ends here = tt
-all_lead_front how defs ns text rest after (interval k m) lead ends here = tt
+pub all_lead_front : (how : ReadOptions) (definitions : Definitions) (ns : List (List ℕ)) (text rest after : List ℕ) (s : Symbol) → AllLeadToText how definitions ns text
+    → EndsWith how.posix (symbol_at how.fold) (get definitions) text rest → symbol_at how.fold rest ≡ Some (s, after) → AllLeadToSymbol how definitions ns s
+all_lead_front how definitions ns text rest after (item t) lead ends here = tt
+all_lead_front how definitions ns text rest after (name n) lead ends here = λ m among. leads_front how definitions m text rest after n (lead m among) ends here
+all_lead_front how definitions ns text rest after opening lead ends here = tt
+all_lead_front how definitions ns text rest after closing lead ends here = tt
+all_lead_front how definitions ns text rest after bar lead ends here = tt
+all_lead_front how definitions ns text rest after (sign s) lead ends here = tt
+all_lead_front how definitions ns text rest after (interval k m) lead ends here = tt
 
 -- a name leads to its own text
-own_text : (how : ReadOptions) (defs : Definitions) (n text : List ℕ) → get defs n ≡ Some text → LeadsToText how defs n text
-own_text how defs n text found zero t stands = absurd stands
-own_text how defs n text found (suc d) t (text', found', spells) =
+own_text : (how : ReadOptions) (definitions : Definitions) (n text : List ℕ) → get definitions n ≡ Some text → LeadsToText how definitions n text
+own_text how definitions n text found zero t stands = absurd stands
+own_text how definitions n text found (suc d) t (text', found', spells) =
     let same : text' ≡ text = cc in
-    let P : List ℕ → Type 0 = λ x. SpellsIn how defs d x t in
+    let P : List ℕ → Type 0 = λ x. SpellsIn how definitions d x t in
     (d, t, omega arith, subst P same spells)
 
-on_to_text : (how : ReadOptions) (defs : Definitions) (m n text : List ℕ) → get defs n ≡ Some text → LeadsTo how defs m n → LeadsToText how defs m text
-on_to_text how defs m n text found leads d t stands =
+on_to_text : (how : ReadOptions) (definitions : Definitions) (m n text : List ℕ) → get definitions n ≡ Some text → LeadsTo how definitions m n → LeadsToText how definitions m text
+on_to_text how definitions m n text found leads d t stands =
     let (below, u, less, stands') = leads d t stands in
-    let (under, v, less', spells) = own_text how defs n text found below u stands' in
+    let (under, v, less', spells) = own_text how definitions n text found below u stands' in
     (under, v, omega arith, spells)
 
-pub all_lead_on : (how : ReadOptions) (defs : Definitions) (ns : List (List ℕ)) (n text : List ℕ) → get defs n ≡ Some text → AllLead how defs ns n
-    → AllLeadToText how defs (ns ++ n ∷ []) text
-all_lead_on how defs ns n text found lead m among = go (among_append ns (n ∷ []) m among)
+pub all_lead_on : (how : ReadOptions) (definitions : Definitions) (ns : List (List ℕ)) (n text : List ℕ) → get definitions n ≡ Some text → AllLead how definitions ns n
+    → AllLeadToText how definitions (ns ++ n ∷ []) text
+all_lead_on how definitions ns n text found lead m among = go (among_append ns (n ∷ []) m among)
   where
-    go : Among ns m ⊎ Among (n ∷ []) m → LeadsToText how defs m text
-    go (inl before) = on_to_text how defs m n text found (lead m before)
-    go (inr (inl here)) = (let P : List ℕ → Type 0 = λ x. LeadsToText how defs x text in subst P (sym here) (own_text how defs n text found))
+    go : Among ns m ⊎ Among (n ∷ []) m → LeadsToText how definitions m text
+    go (inl before) = on_to_text how definitions m n text found (lead m before)
+    go (inr (inl here)) = (let P : List ℕ → Type 0 = λ x. LeadsToText how definitions x text in subst P (sym here) (own_text how definitions n text found))
     go (inr (inr more)) = absurd more
 
-pub none_lead : (how : ReadOptions) (defs : Definitions) (text : List ℕ) → AllLeadToText how defs [] text
-none_lead how defs text m among = absurd among
+pub none_lead : (how : ReadOptions) (definitions : Definitions) (text : List ℕ) → AllLeadToText how definitions [] text
+none_lead how definitions text m among = absurd among
 
 -- a name that leads to itself stands for no tree
-no_tree : (how : ReadOptions) (defs : Definitions) (n : List ℕ) → LeadsTo how defs n n → (most d : ℕ) (t : Tree) → d ≤ most → StandsIn how defs d n t → ⊥
-no_tree how defs n leads zero d t h stands = let (below, u, less, stands') = leads d t stands in omega arith
-no_tree how defs n leads (suc most) d t h stands =
+no_tree : (how : ReadOptions) (definitions : Definitions) (n : List ℕ) → LeadsTo how definitions n n → (most d : ℕ) (t : Tree) → d ≤ most → StandsIn how definitions d n t → ⊥
+no_tree how definitions n leads zero d t h stands = let (below, u, less, stands') = leads d t stands in omega arith
+no_tree how definitions n leads (suc most) d t h stands =
     let (below, u, less, stands') = leads d t stands in
-    no_tree how defs n leads most below u (omega arith) stands'
+    no_tree how definitions n leads most below u (omega arith) stands'
 
 word_is : (v w : List ℕ) → is_word v w ≡ true → v ≡ w
 word_is [] [] e = refl
@@ -193,6 +193,6 @@ among_open n (v ∷ vs) e = elim (or_cases (is_word v.items n) (is_among n vs) e
   | inr more ↦ inr (among_open n vs more)
 ]
 
-pub refused_cycle : (how : ReadOptions) (defs : Definitions) (room left : ℕ) (ns : List (List ℕ)) (n : List ℕ) → AllLead how defs ns n → Among ns n
-    → NoneWithin room (StandsIn how defs left n)
-refused_cycle how defs room left ns n lead among t stands few = no_tree how defs n (lead n among) left left t (omega arith) stands
+pub refused_cycle : (how : ReadOptions) (definitions : Definitions) (room left : ℕ) (ns : List (List ℕ)) (n : List ℕ) → AllLead how definitions ns n → Among ns n
+    → NoneWithin room (StandsIn how definitions left n)
+refused_cycle how definitions room left ns n lead among t stands few = no_tree how definitions n (lead n among) left left t (omega arith) stands

@@ -1,8 +1,8 @@
 -- The faults of texts in quotes and of classes are faults of cutting.
 use Rattle.std.proofs.Common.{◌≡◌, sym, subst}
-use Rattle.lexclass.specs.declared.error.PatternErrorKind.{PatternErrorKind}
-use Rattle.lexclass.specs.declared.error.PatternErrorKind.TheVariants.{UnclosedQuote, UnclosedClass, BadEscape, MisplacedSlash}
-use Rattle.lexclass.specs.Faults.{IsByteFault}
+use Rattle.lexre_bytes.specs.declared.error.PatternErrorKind.{PatternErrorKind}
+use Rattle.lexre_bytes.specs.declared.error.PatternErrorKind.TheVariants.{UnclosedQuote, UnclosedClass, BadEscape, MisplacedSlash}
+use Rattle.lexre_bytes.specs.Faults.{IsByteFault}
 use Rattle.lexre.specs.Cutting.{IsQuoteFault, IsCuttingFault}
 
 pub quote_fault_of_cutting : (kind : PatternErrorKind) → IsQuoteFault kind → IsCuttingFault kind

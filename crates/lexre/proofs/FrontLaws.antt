@@ -1,14 +1,14 @@
 -- What begins a text is at least a byte.
 use Rattle.std.proofs.Common.{◌≡◌, ℕ, zero, suc, ◌<◌, ◌≤◌, Bool, true, false, not, ◌&&◌, ◌||◌, ◌==◌, nat_le, if◌then◌else◌, List, [], ◌∷◌, length, drop, length-drop, Option, Some, None, refl, ap, subst, arith}
 use Rattle.std.specs.Prelude.{codes}
-use Rattle.lexmeaning.specs.ByteSets.{single, complement, is_alpha, is_alnum, is_digit}
-use Rattle.lexmeaning.specs.Tree.{Set}
-use Rattle.lexmeaning.specs.Reading.{◌>>=◌, begins, is_empty, take_up_to, value}
-use Rattle.lexclass.specs.Lexical.{Element, after_quotes, after_word, bounded, braces_at, class_at, class_set, elements_at, element_at, escape_at, folded, interval_at, is_ordinary, name_at, symbol_at, class_front, escape_front, quoted_bytes, quoted_front}
-use Rattle.lexclass.specs.Symbols.{Symbol, item, name, opening, closing, bar, sign, interval, any_times, once_or_more, at_most_once}
-use Rattle.lexclass.proofs.PassingLaws.{quotes_shorter}
-use Rattle.lexclass.proofs.QuoteLaws.{take_up_to_within, escape_shorter}
-use Rattle.lexclass.proofs.ShorterLaws.{element_takes}
+use Rattle.lex_semantics.specs.ByteSets.{single, complement, is_alpha, is_alnum, is_digit}
+use Rattle.lex_semantics.specs.Tree.{Set}
+use Rattle.lex_semantics.specs.Reading.{◌>>=◌, begins, is_empty, take_up_to, value}
+use Rattle.lexre_bytes.specs.Lexical.{Element, after_quotes, after_word, bounded, braces_at, class_at, class_set, elements_at, element_at, escape_at, folded, interval_at, is_ordinary, name_at, symbol_at, class_front, escape_front, quoted_bytes, quoted_front}
+use Rattle.lexre_bytes.specs.Symbols.{Symbol, item, name, opening, closing, bar, sign, interval, any_times, once_or_more, at_most_once}
+use Rattle.lexre_bytes.proofs.PassingLaws.{quotes_shorter}
+use Rattle.lexre_bytes.proofs.QuoteLaws.{take_up_to_within, escape_shorter}
+use Rattle.lexre_bytes.proofs.ShorterLaws.{element_takes}
 
 abbrev Front : Type 0
 Front = Option (Symbol × List ℕ)

@@ -1,8 +1,8 @@
 -- The grammar and the reading from the left say the same.
 use Rattle.std.proofs.Common.{◌≡◌, ℕ, zero, suc, ◌<◌, Bool, true, false, nat_lt, if◌then◌else◌, List, [], ◌∷◌, ◌++◌, Option, Some, None, refl, sym, ap, ◌∙◌, subst, append_assoc, append-nil, ◌⊎◌, inl, inr}
 use Rattle.std.proofs.lemmas.Bool.{lt-ltb, ltb-true}
-use Rattle.lexmeaning.specs.Tree.{Tree, Repeat}
-use Rattle.lexclass.specs.Symbols.{Symbol, Sign, item, name, opening, closing, bar, sign, interval, signed, Lexer}
+use Rattle.lex_semantics.specs.Tree.{Tree, Repeat}
+use Rattle.lexre_bytes.specs.Symbols.{Symbol, Sign, item, name, opening, closing, bar, sign, interval, signed, Lexer}
 use Rattle.lexre.specs.Grammar.{series_tree, choice_tree, Signs, on_item, how_many, one_more, parts_before, operand, operand_signs, IsItem, IsSeries, IsPattern, alone, group, defines, first, next, repeated, counted, only, choice, SpellsWithin}
 use Rattle.lexre.specs.Running.{Frame, frame, fresh, State, state, pushed, onto_last, gathered, finished, Stands, Steps, Runs, RunsText}
 

@@ -1,9 +1,9 @@
 -- Where more may be opened, and where fewer.
 use Rattle.std.proofs.Common.{◌≡◌, ℕ, zero, suc, ◌-◌, ◌≤◌, Bool, true, false, nat_lt, if◌then◌else◌, List, [], ◌∷◌, Option, Some, None, ap, ◌∙◌, refl, subst, arith}
 use Rattle.std.specs.FinMap.{get}
-use Rattle.lexmeaning.specs.Tree.{Tree, Repeat}
-use Rattle.lexclass.specs.Lexical.{symbol_at}
-use Rattle.lexclass.specs.Symbols.{Symbol, item, name, opening, closing, bar, sign, interval, signed, Lexer}
+use Rattle.lex_semantics.specs.Tree.{Tree, Repeat}
+use Rattle.lexre_bytes.specs.Lexical.{symbol_at}
+use Rattle.lexre_bytes.specs.Symbols.{Symbol, item, name, opening, closing, bar, sign, interval, signed, Lexer}
 use Rattle.lexre.specs.Definitions.{Definitions}
 use Rattle.lexre.specs.Grammar.{series_tree, choice_tree, Signs, how_many, one_more, IsItem, IsSeries, IsPattern, alone, group, defines, first, next, repeated, counted, only, choice, SpellsWithin}
 use Rattle.lexre.specs.Reading.{SpellsIn, StandsIn, StepsIn, lowered}
@@ -38,20 +38,20 @@ module _ (posix : Bool) (symbol_at : Lexer) (defined : List ℕ → Option (List
   pub spelled_rises : (d e : ℕ) (text : List ℕ) (t : Tree) → SpellsWithin posix symbol_at defined d text t → d ≤ e → SpellsWithin posix symbol_at defined e text t
   spelled_rises d e text t (ss, ts, last, cut, is, same) h = (ss, ts, last, cut, pattern_rises d e ss ts last is h, same)
 
-pub stands_rises : (how : ReadOptions) (defs : Definitions) (d e : ℕ) (n : List ℕ) (t : Tree) → StandsIn how defs d n t → d ≤ e → StandsIn how defs e n t
-stands_rises how defs zero e n t stands h = absurd stands
-stands_rises how defs (suc d) zero n t stands h = absurd (omega arith)
-stands_rises how defs (suc d) (suc e) n t (text, found, spells) h =
-    (text, found, spelled_rises how.posix (symbol_at how.fold) (get defs) d e text t spells (omega arith))
+pub stands_rises : (how : ReadOptions) (definitions : Definitions) (d e : ℕ) (n : List ℕ) (t : Tree) → StandsIn how definitions d n t → d ≤ e → StandsIn how definitions e n t
+stands_rises how definitions zero e n t stands h = absurd stands
+stands_rises how definitions (suc d) zero n t stands h = absurd (omega arith)
+stands_rises how definitions (suc d) (suc e) n t (text, found, spells) h =
+    (text, found, spelled_rises how.posix (symbol_at how.fold) (get definitions) d e text t spells (omega arith))
 
 -- a name needs one more than its substitute
-pub spared_name : (how : ReadOptions) (defs : Definitions) (left spare : ℕ) (n sub : List ℕ) (t : Tree) → (left ≡ 0 → ⊥) → spare ≤ left - 1 → get defs n ≡ Some sub
-    → SpellsIn how defs (left - 1 - spare) sub t → StandsIn how defs (left - spare) n t
-spared_name how defs left spare n sub t some fits found spells =
+pub spared_name : (how : ReadOptions) (definitions : Definitions) (left spare : ℕ) (n sub : List ℕ) (t : Tree) → (left ≡ 0 → ⊥) → spare ≤ left - 1 → get definitions n ≡ Some sub
+    → SpellsIn how definitions (left - 1 - spare) sub t → StandsIn how definitions (left - spare) n t
+spared_name how definitions left spare n sub t some fits found spells =
     let some' : left - spare ≡ 0 → ⊥ = λ e. some (omega arith) in
     let same : left - 1 - spare ≡ left - spare - 1 = omega arith in
-    let P : ℕ → Type 0 = λ x. SpellsIn how defs x sub t in
-    stands_in how defs (left - spare) n sub t some' found (subst P same spells)
+    let P : ℕ → Type 0 = λ x. SpellsIn how definitions x sub t in
+    stands_in how definitions (left - spare) n sub t some' found (subst P same spells)
 
 -- A state where fewer may be opened.
 
@@ -97,8 +97,8 @@ step_lower posix e (sign s) st after h h' is = onto_lower e (signed s) st after 
 step_lower posix e (interval m n) st after h h' is =
     ap (onto_last (λ t. Repeat t m n)) (gathered_lower e posix st) ∙ onto_lower e (λ t. Repeat t m n) (gathered posix st) after is
 
-pub name_lower : (how : ReadOptions) (defs : Definitions) (e spare : ℕ) (st after : State) (n : List ℕ) (t : Tree) → e ≤ spare
-    → StandsIn how defs (left_of st - spare) n t → Some (push t st) ≡ Some after → StepsIn how defs (lowered e st) (name n) (lowered e after)
-name_lower how defs e spare (state here outer d) after n t h stands is =
-    steps_name how defs (state here outer (d - e)) (lowered e after) n t (stands_rises how defs (d - spare) (d - e) n t stands (omega arith))
+pub name_lower : (how : ReadOptions) (definitions : Definitions) (e spare : ℕ) (st after : State) (n : List ℕ) (t : Tree) → e ≤ spare
+    → StandsIn how definitions (left_of st - spare) n t → Some (push t st) ≡ Some after → StepsIn how definitions (lowered e st) (name n) (lowered e after)
+name_lower how definitions e spare (state here outer d) after n t h stands is =
+    steps_name how definitions (state here outer (d - e)) (lowered e after) n t (stands_rises how definitions (d - spare) (d - e) n t stands (omega arith))
     (ap (λ x. Some (lowered e x)) (some_is _ _ is))

@@ -1,12 +1,12 @@
 -- Texts in quotes, read byte by byte.
 use Rattle.std.proofs.Common.{◌≡◌, ℕ, suc, ◌<◌, ◌≤◌, ◌==◌, Bool, true, false, if◌then◌else◌, List, [], ◌∷◌, ◌++◌, length, map, Option, Some, None, refl, sym, ap, ◌∙◌, append_assoc, append-nil, arith}
-use Rattle.lexmeaning.specs.Escapes.{until_quote}
-use Rattle.lexmeaning.specs.ByteSets.{single}
-use Rattle.lexmeaning.specs.Shapes.{nodes, nodes_of}
-use Rattle.lexmeaning.specs.Tree.{Tree, Set, Cat, trees}
-use Rattle.lexmeaning.specs.Reading.{◌>>=◌}
-use Rattle.lexclass.specs.Lexical.{escape_at, folded, quoted_at, quoted_tree, literal_byte_at, quoted_bytes}
-use Rattle.lexclass.proofs.QuoteLaws.{differs, enough, escape_shorter}
+use Rattle.lex_semantics.specs.Escapes.{until_quote}
+use Rattle.lex_semantics.specs.ByteSets.{single}
+use Rattle.lex_semantics.specs.Shapes.{nodes, nodes_of}
+use Rattle.lex_semantics.specs.Tree.{Tree, Set, Cat, trees}
+use Rattle.lex_semantics.specs.Reading.{◌>>=◌}
+use Rattle.lexre_bytes.specs.Lexical.{escape_at, folded, quoted_at, quoted_tree, literal_byte_at, quoted_bytes}
+use Rattle.lexre_bytes.proofs.QuoteLaws.{differs, enough, escape_shorter}
 
 abbrev Found : Type 0
 Found = Option (ℕ × List ℕ)

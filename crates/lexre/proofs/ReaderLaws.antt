@@ -1,18 +1,18 @@
 -- Steps of the reader, against whole texts.
 use Rattle.std.proofs.Common.{◌≡◌, ℕ, zero, suc, ◌+◌, ◌-◌, ◌<◌, ◌≤◌, Bool, List, [], ◌∷◌, length, Option, Some, None, refl, sym, ap, ◌∙◌, subst, arith}
 use Rattle.std.specs.FinMap.{get}
-use Rattle.lexmeaning.specs.Shapes.{nodes}
-use Rattle.lexmeaning.specs.Tree.{Tree}
+use Rattle.lex_semantics.specs.Shapes.{nodes}
+use Rattle.lex_semantics.specs.Tree.{Tree}
 use Rattle.lexre.specs.Counting.{state_nodes, adds, item_adds, capped_nodes}
 use Rattle.lexre.specs.Definitions.{Definitions}
 use Rattle.lexre.specs.Grammar.{SpellsWithin}
-use Rattle.lexclass.specs.Lexical.{symbol_at}
+use Rattle.lexre_bytes.specs.Lexical.{symbol_at}
 use Rattle.lexre.specs.Outcome.{UnlessMemory, IsRefused}
 use Rattle.lexre.specs.Reading.{SpellsIn, StandsIn, StepsIn, NoneWithin}
 use Rattle.lexre.specs.Running.{State, state, fresh, push, pushed, finished, step_of, IsPlain, Stands, Steps, RunsText}
-use Rattle.lexclass.specs.Symbols.{Symbol, item, name, opening, closing, bar, sign, interval, Lexer, IsCut}
-use Rattle.lexclass.specs.declared.error.PatternErrorKind.{PatternErrorKind}
-use Rattle.lexclass.specs.declared.error.PatternErrorKind.TheVariants.{OutOfMemory}
+use Rattle.lexre_bytes.specs.Symbols.{Symbol, item, name, opening, closing, bar, sign, interval, Lexer, IsCut}
+use Rattle.lexre_bytes.specs.declared.error.PatternErrorKind.{PatternErrorKind}
+use Rattle.lexre_bytes.specs.declared.error.PatternErrorKind.TheVariants.{OutOfMemory}
 use Rattle.lexre.specs.declared.options.ReadOptions.{ReadOptions}
 use Rattle.lexre.proofs.CountLaws.{step_grows, step_nodes, steps_grow, runs_grow, finished_nodes, push_grows}
 use Rattle.lexre.proofs.GrammarLaws.{spelled_runs, runs_spelled}
@@ -145,84 +145,84 @@ pub nothing_at : (fold : Bool) → symbol_at fold [] ≡ None
 unfolding symbol_at
 nothing_at fold = refl
 
-pub stands_in : (how : ReadOptions) (defs : Definitions) (left : ℕ) (n sub : List ℕ) (t : Tree) → (left ≡ 0 → ⊥) → get defs n ≡ Some sub → SpellsIn how defs (left - 1) sub t
-    → StandsIn how defs left n t
-stands_in how defs zero n sub t some found spells = some refl
-stands_in how defs (suc d) n sub t some found spells =
+pub stands_in : (how : ReadOptions) (definitions : Definitions) (left : ℕ) (n sub : List ℕ) (t : Tree) → (left ≡ 0 → ⊥) → get definitions n ≡ Some sub → SpellsIn how definitions (left - 1) sub t
+    → StandsIn how definitions left n t
+stands_in how definitions zero n sub t some found spells = some refl
+stands_in how definitions (suc d) n sub t some found spells =
     let e : suc d - 1 ≡ d = omega arith in
-    let P : ℕ → Type 0 = λ x. SpellsIn how defs x sub t in
+    let P : ℕ → Type 0 = λ x. SpellsIn how definitions x sub t in
     (sub, found, subst P e spells)
 
-pub undefined_name : (how : ReadOptions) (defs : Definitions) (room left : ℕ) (n : List ℕ) → get defs n ≡ None → NoneWithin room (StandsIn how defs left n)
-undefined_name how defs room zero n e t stands few = stands
-undefined_name how defs room (suc d) n e t (sub, found, spells) few = cc
+pub undefined_name : (how : ReadOptions) (definitions : Definitions) (room left : ℕ) (n : List ℕ) → get definitions n ≡ None → NoneWithin room (StandsIn how definitions left n)
+undefined_name how definitions room zero n e t stands few = stands
+undefined_name how definitions room (suc d) n e t (sub, found, spells) few = cc
 
-pub none_left : (how : ReadOptions) (defs : Definitions) (room left : ℕ) (n : List ℕ) → left ≡ 0 → NoneWithin room (StandsIn how defs left n)
-none_left how defs room zero n e t stands few = stands
-none_left how defs room (suc d) n e t stands few = absurd (omega arith)
+pub none_left : (how : ReadOptions) (definitions : Definitions) (room left : ℕ) (n : List ℕ) → left ≡ 0 → NoneWithin room (StandsIn how definitions left n)
+none_left how definitions room zero n e t stands few = stands
+none_left how definitions room (suc d) n e t stands few = absurd (omega arith)
 
-pub no_substitute : (how : ReadOptions) (defs : Definitions) (room left : ℕ) (n sub : List ℕ) → get defs n ≡ Some sub → NoneWithin room (SpellsIn how defs (left - 1) sub)
-    → NoneWithin room (StandsIn how defs left n)
-no_substitute how defs room zero n sub found h t stands few = stands
-no_substitute how defs room (suc d) n sub found h t (sub', found', spells) few =
+pub no_substitute : (how : ReadOptions) (definitions : Definitions) (room left : ℕ) (n sub : List ℕ) → get definitions n ≡ Some sub → NoneWithin room (SpellsIn how definitions (left - 1) sub)
+    → NoneWithin room (StandsIn how definitions left n)
+no_substitute how definitions room zero n sub found h t stands few = stands
+no_substitute how definitions room (suc d) n sub found h t (sub', found', spells) few =
     let same : sub' ≡ sub = cc in
     let back : d ≡ suc d - 1 = omega arith in
-    let P : List ℕ → Type 0 = λ x. SpellsIn how defs d x t in
-    let Q : ℕ → Type 0 = λ x. SpellsIn how defs x sub t in
+    let P : List ℕ → Type 0 = λ x. SpellsIn how definitions d x t in
+    let Q : ℕ → Type 0 = λ x. SpellsIn how definitions x sub t in
     h t (subst Q back (subst P same spells)) few
 
 -- Steps.
 
-pub steps_from : (how : ReadOptions) (defs : Definitions) (s : Symbol) (st after : State) → IsPlain s → step_of how.posix s st ≡ Some after → StepsIn how defs st s after
-steps_from how defs (item t) st after plain e = e
-steps_from how defs (name n) st after plain e = absurd plain
-steps_from how defs opening st after plain e = e
-steps_from how defs closing st after plain e = e
-steps_from how defs bar st after plain e = e
-steps_from how defs (sign s) st after plain e = e
-steps_from how defs (interval m n) st after plain e = e
+pub steps_from : (how : ReadOptions) (definitions : Definitions) (s : Symbol) (st after : State) → IsPlain s → step_of how.posix s st ≡ Some after → StepsIn how definitions st s after
+steps_from how definitions (item t) st after plain e = e
+steps_from how definitions (name n) st after plain e = absurd plain
+steps_from how definitions opening st after plain e = e
+steps_from how definitions closing st after plain e = e
+steps_from how definitions bar st after plain e = e
+steps_from how definitions (sign s) st after plain e = e
+steps_from how definitions (interval m n) st after plain e = e
 
-steps_to : (how : ReadOptions) (defs : Definitions) (s : Symbol) (st after : State) → IsPlain s → StepsIn how defs st s after → step_of how.posix s st ≡ Some after
-steps_to how defs (item t) st after plain e = e
-steps_to how defs (name n) st after plain e = absurd plain
-steps_to how defs opening st after plain e = e
-steps_to how defs closing st after plain e = e
-steps_to how defs bar st after plain e = e
-steps_to how defs (sign s) st after plain e = e
-steps_to how defs (interval m n) st after plain e = e
+steps_to : (how : ReadOptions) (definitions : Definitions) (s : Symbol) (st after : State) → IsPlain s → StepsIn how definitions st s after → step_of how.posix s st ≡ Some after
+steps_to how definitions (item t) st after plain e = e
+steps_to how definitions (name n) st after plain e = absurd plain
+steps_to how definitions opening st after plain e = e
+steps_to how definitions closing st after plain e = e
+steps_to how definitions bar st after plain e = e
+steps_to how definitions (sign s) st after plain e = e
+steps_to how definitions (interval m n) st after plain e = e
 
 -- how many more may be opened
 abbrev pub left_of : State → ℕ
 left_of (state here outer d) = d
 
-pub steps_name : (how : ReadOptions) (defs : Definitions) (st after : State) (n : List ℕ) (t : Tree) → StandsIn how defs (left_of st) n t
-    → Some (push t st) ≡ Some after → StepsIn how defs st (name n) after
-steps_name how defs (state here outer zero) after n t stands e = stands
-steps_name how defs (state here outer (suc d)) after n t stands e = (t, stands, sym (some_is _ _ e))
+pub steps_name : (how : ReadOptions) (definitions : Definitions) (st after : State) (n : List ℕ) (t : Tree) → StandsIn how definitions (left_of st) n t
+    → Some (push t st) ≡ Some after → StepsIn how definitions st (name n) after
+steps_name how definitions (state here outer zero) after n t stands e = stands
+steps_name how definitions (state here outer (suc d)) after n t stands e = (t, stands, sym (some_is _ _ e))
 
 abbrev NoStepIn : ReadOptions → Definitions → ℕ → State → Symbol → Type 0
-NoStepIn how defs most st s = (after : State) → StepsIn how defs st s after → state_nodes after ≤ most → ⊥
+NoStepIn how definitions most st s = (after : State) → StepsIn how definitions st s after → state_nodes after ≤ most → ⊥
 
-pub no_plain_step : (how : ReadOptions) (defs : Definitions) (kind : PatternErrorKind) (most : ℕ) (st : State) (s : Symbol) → IsPlain s → UnlessMemory kind (step_of how.posix s st ≡ None)
-    → UnlessMemory kind (NoStepIn how defs most st s)
-no_plain_step how defs kind most st s plain h =
-    unless_weaker kind _ (NoStepIn how defs most st s) (λ e after step few. let f = steps_to how defs s st after plain step in absurd (never after e f)) h
+pub no_plain_step : (how : ReadOptions) (definitions : Definitions) (kind : PatternErrorKind) (most : ℕ) (st : State) (s : Symbol) → IsPlain s → UnlessMemory kind (step_of how.posix s st ≡ None)
+    → UnlessMemory kind (NoStepIn how definitions most st s)
+no_plain_step how definitions kind most st s plain h =
+    unless_weaker kind _ (NoStepIn how definitions most st s) (λ e after step few. let f = steps_to how definitions s st after plain step in absurd (never after e f)) h
   where
     never : (after : State) → step_of how.posix s st ≡ None → step_of how.posix s st ≡ Some after → ⊥
     never after e f = cc
 
-pub no_push : (how : ReadOptions) (defs : Definitions) (kind : PatternErrorKind) (most : ℕ) (st : State) (s : Symbol) (t : Tree) → UnlessMemory kind (Some (push t st) ≡ None)
-    → UnlessMemory kind (NoStepIn how defs most st s)
-no_push how defs kind most st s t h = unless_weaker kind _ (NoStepIn how defs most st s) (λ e. absurd (never e)) h
+pub no_push : (how : ReadOptions) (definitions : Definitions) (kind : PatternErrorKind) (most : ℕ) (st : State) (s : Symbol) (t : Tree) → UnlessMemory kind (Some (push t st) ≡ None)
+    → UnlessMemory kind (NoStepIn how definitions most st s)
+no_push how definitions kind most st s t h = unless_weaker kind _ (NoStepIn how definitions most st s) (λ e. absurd (never e)) h
   where
     never : Some (push t st) ≡ None → ⊥
     never e = cc
 
-pub no_name_step : (how : ReadOptions) (defs : Definitions) (kind : PatternErrorKind) (room : ℕ) (st : State) (n : List ℕ)
-    → UnlessMemory kind (NoneWithin room (StandsIn how defs (left_of st) n)) → UnlessMemory kind (NoStepIn how defs (state_nodes st + room) st (name n))
-no_name_step how defs kind room st n h = unless_weaker kind _ (NoStepIn how defs (state_nodes st + room) st (name n)) (go st) h
+pub no_name_step : (how : ReadOptions) (definitions : Definitions) (kind : PatternErrorKind) (room : ℕ) (st : State) (n : List ℕ)
+    → UnlessMemory kind (NoneWithin room (StandsIn how definitions (left_of st) n)) → UnlessMemory kind (NoStepIn how definitions (state_nodes st + room) st (name n))
+no_name_step how definitions kind room st n h = unless_weaker kind _ (NoStepIn how definitions (state_nodes st + room) st (name n)) (go st) h
   where
-    go : (st : State) → NoneWithin room (StandsIn how defs (left_of st) n) → NoStepIn how defs (state_nodes st + room) st (name n)
+    go : (st : State) → NoneWithin room (StandsIn how definitions (left_of st) n) → NoStepIn how definitions (state_nodes st + room) st (name n)
     go (state here outer zero) h after step few = step
     go (state here outer (suc d)) h after (t, stands, e) few =
         let k = ap state_nodes e in
@@ -238,23 +238,23 @@ plain_of posix bar st after e = tt
 plain_of posix (sign s) st after e = tt
 plain_of posix (interval m n) st after e = tt
 
-pub too_many_plain : (how : ReadOptions) (defs : Definitions) (room n : ℕ) (st there : State) (s : Symbol) → step_of how.posix s st ≡ Some there → n ≡ adds s st → room < n
-    → NoStepIn how defs (state_nodes st + room) st s
-too_many_plain how defs room n st there s is e big after step few = omega (arith, step_grows how.posix s st after (steps_to how defs s st after (plain_of how.posix s st there is) step))
+pub too_many_plain : (how : ReadOptions) (definitions : Definitions) (room n : ℕ) (st there : State) (s : Symbol) → step_of how.posix s st ≡ Some there → n ≡ adds s st → room < n
+    → NoStepIn how definitions (state_nodes st + room) st s
+too_many_plain how definitions room n st there s is e big after step few = omega (arith, step_grows how.posix s st after (steps_to how definitions s st after (plain_of how.posix s st there is) step))
 
 pub counted_plain : (posix : Bool) (room n : ℕ) (st there : State) (s : Symbol) → step_of posix s st ≡ Some there → n ≡ adds s st → n ≤ room → room ≤ 65536 → state_nodes there ≡ state_nodes st + n
 counted_plain posix room n st there s is e few small = step_nodes posix s st there is (omega arith) ∙ ap (λ k. state_nodes st + k) (sym e)
 
-pub one_stands : (how : ReadOptions) (defs : Definitions) (d : ℕ) (n : List ℕ) (t u : Tree) → Stands how.posix (symbol_at how.fold) (get defs) d n t → Stands how.posix (symbol_at how.fold) (get defs) d n u → t ≡ u
-one_stands how defs d n t u (sub, found, spells) (sub', found', spells') =
+pub one_stands : (how : ReadOptions) (definitions : Definitions) (d : ℕ) (n : List ℕ) (t u : Tree) → Stands how.posix (symbol_at how.fold) (get definitions) d n t → Stands how.posix (symbol_at how.fold) (get definitions) d n u → t ≡ u
+one_stands how definitions d n t u (sub, found, spells) (sub', found', spells') =
     let same : sub' ≡ sub = cc in
-    let P : List ℕ → Type 0 = λ x. SpellsIn how defs d x u in
-    one_tree how.posix (symbol_at how.fold) (get defs) (nothing_at how.fold) d sub t u spells (subst P same spells')
+    let P : List ℕ → Type 0 = λ x. SpellsIn how definitions d x u in
+    one_tree how.posix (symbol_at how.fold) (get definitions) (nothing_at how.fold) d sub t u spells (subst P same spells')
 
-pub too_many_named : (how : ReadOptions) (defs : Definitions) (room k : ℕ) (st : State) (n : List ℕ) (t : Tree) → StandsIn how defs (left_of st) n t → k ≡ item_adds t st → room < k
-    → NoStepIn how defs (state_nodes st + room) st (name n)
-too_many_named how defs room k (state here outer zero) n t stands e big after step few = stands
-too_many_named how defs room k (state here outer (suc d)) n t stands e big after (u, stands', f) few =
-    let same : u ≡ t = one_stands how defs d n u t stands' stands in
+pub too_many_named : (how : ReadOptions) (definitions : Definitions) (room k : ℕ) (st : State) (n : List ℕ) (t : Tree) → StandsIn how definitions (left_of st) n t → k ≡ item_adds t st → room < k
+    → NoStepIn how definitions (state_nodes st + room) st (name n)
+too_many_named how definitions room k (state here outer zero) n t stands e big after step few = stands
+too_many_named how definitions room k (state here outer (suc d)) n t stands e big after (u, stands', f) few =
+    let same : u ≡ t = one_stands how definitions d n u t stands' stands in
     let there : after ≡ state (pushed t here) outer (suc d) = f ∙ ap (λ x. state (pushed x here) outer (suc d)) same in
     omega (arith, step_grows how.posix (item t) (state here outer (suc d)) after (ap Some (sym there)))

@@ -1,17 +1,17 @@
 -- Sets with a byte, and sound trees.
 use Rattle.std.proofs.Common.{◌≡◌, ℕ, zero, suc, ◌<◌, Bool, true, false, not, ◌==◌, nat_lt, List, [], ◌∷◌, ◌++◌, get_or, map, Some, None, ap, subst, arith}
-use Rattle.lexmeaning.specs.ByteSets.{has, set_of, single, complement}
-use Rattle.lexmeaning.specs.Shapes.{IsSoundTree, AreSoundTrees}
-use Rattle.lexmeaning.specs.Tree.{Tree, Set, Repeat, trees}
+use Rattle.lex_semantics.specs.ByteSets.{has, set_of, single, complement}
+use Rattle.lex_semantics.specs.Shapes.{IsSoundTree, AreSoundTrees}
+use Rattle.lex_semantics.specs.Tree.{Tree, Set, Repeat, trees}
 use Rattle.lexre.specs.Grammar.{series_tree, choice_tree, how_many, one_more}
-use Rattle.lexclass.specs.Lexical.{folded, quoted_tree}
+use Rattle.lexre_bytes.specs.Lexical.{folded, quoted_tree}
 use Rattle.lexre.specs.Running.{Frame, frame, fresh, State, state, pushed, onto_last, gathered, finished, step_of}
 use Rattle.lexre.specs.Soundness.{IsSoundSymbol, IsSoundFrame, IsSoundState}
-use Rattle.lexclass.specs.Symbols.{Symbol, Sign, item, name, opening, closing, bar, sign, interval, any_times, once_or_more, at_most_once, signed}
+use Rattle.lexre_bytes.specs.Symbols.{Symbol, Sign, item, name, opening, closing, bar, sign, interval, any_times, once_or_more, at_most_once, signed}
 use Rattle.lexre.proofs.GrammarLaws.{chosen}
 use Rattle.lexre.proofs.OneTree.{some_is}
-use Rattle.lexclass.proofs.SetLaws.{has-set_of}
-use Rattle.lexclass.proofs.MemberLaws.{passing_byte, single_some, folded_some}
+use Rattle.lexre_bytes.proofs.SetLaws.{has-set_of}
+use Rattle.lexre_bytes.proofs.MemberLaws.{passing_byte, single_some, folded_some}
 
 pub sound_byte : (fold : Bool) (b : ℕ) → b < 256 → IsSoundTree (Set (folded fold (single b)))
 sound_byte fold b h = folded_some fold (single b) (single_some b h)

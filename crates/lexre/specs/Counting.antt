@@ -1,8 +1,8 @@
 -- How many nodes the tree of a pattern will have at least, by what was read of it.
 use Rattle.std.specs.Prelude.{ℕ, ◌+◌, List, [], ◌∷◌, Option, Some, None}
-use Rattle.lexmeaning.specs.Shapes.{nodes, nodes_of}
-use Rattle.lexmeaning.specs.Tree.{Tree, trees}
-use Rattle.lexclass.specs.Symbols.{Symbol, item, name, opening, closing, bar, sign, interval}
+use Rattle.lex_semantics.specs.Shapes.{nodes, nodes_of}
+use Rattle.lex_semantics.specs.Tree.{Tree, trees}
+use Rattle.lexre_bytes.specs.Symbols.{Symbol, item, name, opening, closing, bar, sign, interval}
 use Rattle.lexre.specs.Lengths.{capped}
 use Rattle.lexre.specs.Running.{Frame, frame, State, state}
 

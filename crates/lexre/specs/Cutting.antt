@@ -1,9 +1,9 @@
 -- Where the pattern of a rule ends, and what stands at its end. (POSIX, lex, Rules in lex; flex, Patterns: `r/s`, `r$`.)
 use Rattle.std.specs.Prelude.{◌≡◌, ℕ, zero, suc, ◌+◌, ◌-◌, Bool, true, false, ◌==◌, if◌then◌else◌, List, [], ◌∷◌, length, Option, Some, None, ⊤}
-use Rattle.lexmeaning.specs.Reading.{◌>>=◌, Reader, is_white}
-use Rattle.lexclass.specs.Lexical.{escape_at, after_quotes, class_at}
-use Rattle.lexclass.specs.declared.error.PatternErrorKind.{PatternErrorKind}
-use Rattle.lexclass.specs.declared.error.PatternErrorKind.TheVariants.{UnclosedQuote, UnclosedClass, BadEscape, MisplacedSlash}
+use Rattle.lex_semantics.specs.Reading.{◌>>=◌, Reader, is_white}
+use Rattle.lexre_bytes.specs.Lexical.{escape_at, after_quotes, class_at}
+use Rattle.lexre_bytes.specs.declared.error.PatternErrorKind.{PatternErrorKind}
+use Rattle.lexre_bytes.specs.declared.error.PatternErrorKind.TheVariants.{UnclosedQuote, UnclosedClass, BadEscape, MisplacedSlash}
 
 -- what the text of a pattern is made of, as far as cutting it goes
 pub data Piece : Type 0 where

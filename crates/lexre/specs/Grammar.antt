@@ -3,8 +3,8 @@
 -- its left. (POSIX, lex, Regular Expressions in lex: under `posix` its precedences; flex, Patterns. The bounds are this
 -- project's.)
 use Rattle.std.specs.Prelude.{◌≡◌, ℕ, suc, ◌<◌, Bool, if◌then◌else◌, List, [], ◌∷◌, ◌++◌, Option, Some}
-use Rattle.lexmeaning.specs.Tree.{Tree, trees, Cat, Alt, Repeat}
-use Rattle.lexclass.specs.Symbols.{Symbol, Sign, item, name, opening, closing, bar, sign, interval, signed, Lexer, IsCut}
+use Rattle.lex_semantics.specs.Tree.{Tree, trees, Cat, Alt, Repeat}
+use Rattle.lexre_bytes.specs.Symbols.{Symbol, Sign, item, name, opening, closing, bar, sign, interval, signed, Lexer, IsCut}
 use Rattle.lexre.specs.Limits.{max_signs}
 
 -- the tree of a series, by its parts, of which the last stands apart: a part alone is itself

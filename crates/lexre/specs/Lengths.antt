@@ -1,7 +1,7 @@
 -- The lengths of a tree's words, by cases on the tree. (This project's; that they are those of its language is proved.)
 use Rattle.std.specs.Prelude.{ℕ, zero, suc, ◌+◌, ◌*◌, ◌^◌, ◌≤◌, min, max, Option, Some, None, unwrap_or, option_map, IsSomeAnd, ◌⊎◌}
-use Rattle.lexmeaning.specs.Tree.{Tree, Trees, Empty, Set, Cat, Alt, Star, Repeat, no_trees, tree, In}
-use Rattle.lexmeaning.specs.Shapes.{HasLengths}
+use Rattle.lex_semantics.specs.Tree.{Tree, Trees, Empty, Set, Cat, Alt, Star, Repeat, no_trees, tree, In}
+use Rattle.lex_semantics.specs.Shapes.{HasLengths}
 
 -- Of two greatest lengths, None where there is none: their sum.
 abbrev pub plus : Option ℕ → Option ℕ → Option ℕ

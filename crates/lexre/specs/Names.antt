@@ -3,8 +3,8 @@ use Rattle.std.specs.Prelude.{◌≡◌, ℕ, nat_le, if◌then◌else◌, List,
 use Rattle.std.specs.Cmp.Lexicographic.{slice_cmp}
 use Rattle.std.specs.FinMap.{FinMap, get}
 use Rattle.std.specs.Ordering.{nat_cmp}
-use Rattle.lexmeaning.specs.Shapes.{IsSoundTree}
-use Rattle.lexmeaning.specs.Tree.{Tree}
+use Rattle.lex_semantics.specs.Shapes.{IsSoundTree}
+use Rattle.lex_semantics.specs.Tree.{Tree}
 use Rattle.lexre.specs.Definitions.{Definitions}
 use Rattle.lexre.specs.Entries.{map_of}
 use Rattle.lexre.specs.Reading.{StandsIn}
@@ -34,4 +34,4 @@ usable left (Some k) = if nat_le k.1 left then Some k else None
 
 -- each name stands for the tree that is kept of it, which is sound
 abbrev pub AreKnown : ReadOptions → Definitions → Trees → Type 0
-AreKnown how defs trees = (n : List ℕ) (t : Tree) (needed : ℕ) → get trees n ≡ Some (t, needed) → StandsIn how defs needed n t × IsSoundTree t
+AreKnown how definitions trees = (n : List ℕ) (t : Tree) (needed : ℕ) → get trees n ≡ Some (t, needed) → StandsIn how definitions needed n t × IsSoundTree t

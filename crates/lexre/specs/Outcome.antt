@@ -1,8 +1,8 @@
 -- What a refusal means.
 use Rattle.std.specs.Prelude.{◌≡◌, ℕ, ◌<◌, List, Option, Some}
-use Rattle.lexmeaning.specs.Shapes.{nodes}
-use Rattle.lexclass.specs.Symbols.{Symbol, item}
-pub use Rattle.lexclass.specs.PatternMemory.{UnlessMemory}
+use Rattle.lex_semantics.specs.Shapes.{nodes}
+use Rattle.lexre_bytes.specs.Symbols.{Symbol, item}
+pub use Rattle.lexre_bytes.specs.PatternMemory.{UnlessMemory}
 use Rattle.lexre.specs.Limits.{max_nodes}
 
 -- how many nodes the tree of a symbol has

@@ -1,28 +1,28 @@
 -- What the reader of patterns reads, by how many parentheses and names may be open.
 use Rattle.std.specs.Prelude.{ℕ, zero, suc, ◌-◌, ◌≤◌, Bool, false, ◌||◌, ◌&&◌, ◌==◌, List, [], ◌∷◌, Vec}
 use Rattle.std.specs.FinMap.{get}
-use Rattle.lexmeaning.specs.ByteSets.{is_digit, is_word}
-use Rattle.lexmeaning.specs.Tree.{Tree}
-use Rattle.lexmeaning.specs.Shapes.{nodes}
+use Rattle.lex_semantics.specs.ByteSets.{is_digit, is_word}
+use Rattle.lex_semantics.specs.Tree.{Tree}
+use Rattle.lex_semantics.specs.Shapes.{nodes}
 use Rattle.lexre.specs.Definitions.{Definitions}
 use Rattle.lexre.specs.Grammar.{SpellsWithin}
-use Rattle.lexclass.specs.Lexical.{symbol_at}
+use Rattle.lexre_bytes.specs.Lexical.{symbol_at}
 use Rattle.lexre.specs.Running.{State, state, Stands, Steps}
-use Rattle.lexclass.specs.Symbols.{Symbol}
+use Rattle.lexre_bytes.specs.Symbols.{Symbol}
 use Rattle.lexre.specs.declared.options.ReadOptions.{ReadOptions}
 
 -- the text is a pattern, and this is its tree
 abbrev pub SpellsIn : ReadOptions → Definitions → ℕ → List ℕ → Tree → Type 0
-SpellsIn how defs d text t = SpellsWithin how.posix (symbol_at how.fold) (get defs) d text t
+SpellsIn how definitions d text t = SpellsWithin how.posix (symbol_at how.fold) (get definitions) d text t
 
 -- the name may be opened, and this is its tree
 abbrev pub StandsIn : ReadOptions → Definitions → ℕ → List ℕ → Tree → Type 0
-StandsIn how defs zero n t = ⊥
-StandsIn how defs (suc d) n t = Stands how.posix (symbol_at how.fold) (get defs) d n t
+StandsIn how definitions zero n t = ⊥
+StandsIn how definitions (suc d) n t = Stands how.posix (symbol_at how.fold) (get definitions) d n t
 
 -- the state after a symbol
 abbrev pub StepsIn : ReadOptions → Definitions → State → Symbol → State → Type 0
-StepsIn how defs st s after = Steps how.posix (symbol_at how.fold) (get defs) st s after
+StepsIn how definitions st s after = Steps how.posix (symbol_at how.fold) (get definitions) st s after
 
 -- the state where so many fewer may be opened
 abbrev pub lowered : ℕ → State → State

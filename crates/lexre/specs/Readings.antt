@@ -1,7 +1,7 @@
 -- Which positions a reading uses. (This project's; readings number the places of POSIX's patterns.)
 use Rattle.std.specs.Prelude.{ℕ, ◌≤◌, ◌<◌, List}
-use Rattle.lexmeaning.specs.Positions.{Cell}
-use Rattle.lexmeaning.specs.Text.{Among}
+use Rattle.lex_semantics.specs.Positions.{Cell}
+use Rattle.lex_semantics.specs.Text.{Among}
 
 -- each position that reads a byte is `from` or more, and less than `end`
 abbrev pub UsesFrom : ℕ → ℕ → List Cell → Type 0

@@ -1,8 +1,8 @@
 -- Reading the symbols of a pattern from the left, with a stack of what is open. The grammar does not mention it: that it
 -- answers as the grammar says is proved.
 use Rattle.std.specs.Prelude.{◌≡◌, ℕ, zero, suc, nat_lt, Bool, if◌then◌else◌, List, [], ◌∷◌, ◌++◌, Option, Some, None}
-use Rattle.lexmeaning.specs.Tree.{Tree, Repeat}
-use Rattle.lexclass.specs.Symbols.{Symbol, item, name, opening, closing, bar, sign, interval, signed, Lexer, IsCut}
+use Rattle.lex_semantics.specs.Tree.{Tree, Repeat}
+use Rattle.lexre_bytes.specs.Symbols.{Symbol, item, name, opening, closing, bar, sign, interval, signed, Lexer, IsCut}
 use Rattle.lexre.specs.Grammar.{series_tree, choice_tree, Signs, on_item, how_many, one_more, series_count, parts_before, operand, operand_signs, SpellsWithin}
 use Rattle.lexre.specs.Limits.{max_signs}
 

@@ -1,9 +1,9 @@
 -- Which symbols and states lead to sound trees.
 use Rattle.std.specs.Prelude.{◌≤◌, List, [], ◌∷◌, IfSome, ⊤}
-use Rattle.lexmeaning.specs.Shapes.{IsSoundTree, AreSoundTrees}
-use Rattle.lexmeaning.specs.Tree.{trees}
+use Rattle.lex_semantics.specs.Shapes.{IsSoundTree, AreSoundTrees}
+use Rattle.lex_semantics.specs.Tree.{trees}
 use Rattle.lexre.specs.Running.{Frame, frame, State, state}
-use Rattle.lexclass.specs.Symbols.{Symbol, item, name, opening, closing, bar, sign, interval}
+use Rattle.lexre_bytes.specs.Symbols.{Symbol, item, name, opening, closing, bar, sign, interval}
 
 -- its tree is sound, or its bounds are in order, the greater at least 1
 abbrev pub IsSoundSymbol : Symbol → Type 0

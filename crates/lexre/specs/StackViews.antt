@@ -6,7 +6,7 @@ use Rattle.lexre.specs.Grammar.{on_item, on_series}
 use Rattle.lexre.specs.Running.{State, frame, state}
 use Rattle.lexre.specs.Running as run
 use Rattle.lexre.specs.Views.{tree_of}
-use Rattle.lexclass.specs.declared.error.PatternErrorKind.{PatternErrorKind}
+use Rattle.lexre_bytes.specs.declared.error.PatternErrorKind.{PatternErrorKind}
 use Rattle.lexre.specs.declared.frames.Frame.{Frame}
 use Rattle.lexre.specs.declared.frames.Signs.{Signs}
 use Rattle.lexre.specs.declared.frames.Signs.TheVariants.{OnItem, OnSeries}

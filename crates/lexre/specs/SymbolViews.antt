@@ -1,7 +1,7 @@
 -- What a `Symbol` stands for.
 use Rattle.std.specs.Prelude.{ℕ, List, Option}
-use Rattle.lexclass.specs.Symbols.{item, name, opening, closing, bar, sign, interval, any_times, once_or_more, at_most_once}
-use Rattle.lexclass.specs.Symbols as symbols
+use Rattle.lexre_bytes.specs.Symbols.{item, name, opening, closing, bar, sign, interval, any_times, once_or_more, at_most_once}
+use Rattle.lexre_bytes.specs.Symbols as symbols
 use Rattle.lexre.specs.Views.{tree_of}
 use Rattle.lexre.specs.declared.symbols.Sign.{Sign}
 use Rattle.lexre.specs.declared.symbols.Sign.TheVariants.{AnyTimes, OnceOrMore, AtMostOnce}

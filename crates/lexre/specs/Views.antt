@@ -1,5 +1,5 @@
 -- What a `Pattern` stands for: a tree.
-use Rattle.lexmeaning.specs.Tree.{Tree, Empty, Set, Cat, Alt, Star, Repeat, trees}
+use Rattle.lex_semantics.specs.Tree.{Tree, Empty, Set, Cat, Alt, Star, Repeat, trees}
 use Rattle.lexre.specs.declared.pattern.Pattern.{Pattern}
 use Rattle.lexre.specs.declared.pattern.Pattern.TheOpen.{Pattern-F}
 use Rattle.lexre.specs.declared.pattern.Pattern.TheFolds.{fold-Pattern}

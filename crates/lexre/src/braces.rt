@@ -1,14 +1,14 @@
 //! What stands between braces. (POSIX, lex, Definitions in lex; flex, Patterns.)
 ghost use Rattle.std.specs.Prelude.{◌≡◌, List, ℕ, Option, Some, None, MatchResult, IfOk, IfSome, ◌≤◌, length, option_map};
-ghost use Rattle.lexmeaning.specs.ByteSets.{is_digit};
+ghost use Rattle.lex_semantics.specs.ByteSets.{is_digit};
 ghost use Rattle.lexre.specs.Soundness.{IsSoundSymbol};
 ghost use Rattle.lexre.specs.SymbolViews.{Front, symbol_of};
-ghost use Rattle.lexmeaning.specs.Reading.{goes_on_name, take_up_to};
-ghost use Rattle.lexclass.specs.Lexical.{bounded, braces_at, interval_at, name_at};
-ghost use Rattle.lexclass.specs.Symbols.{interval, name};
+ghost use Rattle.lex_semantics.specs.Reading.{goes_on_name, take_up_to};
+ghost use Rattle.lexre_bytes.specs.Lexical.{bounded, braces_at, interval_at, name_at};
+ghost use Rattle.lexre_bytes.specs.Symbols.{interval, name};
 
 use crate::symbols::Symbol;
-use lexclass::{
+use lexre_bytes::{
     Class, FaultAt, PatternErrorKind, capped_value, goes_on_name, skip_word, starts_name,
     take_up_to,
 };
@@ -50,7 +50,7 @@ fn digits_at(text: &[u8]) -> (&[u8], &[u8])
 }
 
 /// The two counts, where they are in order and the greatest is from 1 to 255.
-#[tactic(auto, unfolding(lexclass::specs::Lexical::bounded))]
+#[tactic(auto, unfolding(lexre_bytes::specs::Lexical::bounded))]
 fn counts(least: u32, most: u32) -> Option<(u8, Option<u8>)>
     ensures front { (rest : List ℕ) → ◌≡◌ {A = Front} (bounded least most rest) (option_map (λ x. (interval x.0 x.1, rest)) result) }
     ensures sound { IfSome result (λ x. IfSome x.1 (λ n. (x.0 ≤ n) × (1 ≤ n))) }
@@ -64,7 +64,7 @@ fn counts(least: u32, most: u32) -> Option<(u8, Option<u8>)>
 }
 
 /// What stands after an opening brace, and what follows the closing one. `braces` is the text from the opening brace on.
-#[tactic(auto, unfolding(lexclass::specs::Lexical::braces_at))]
+#[tactic(auto, unfolding(lexre_bytes::specs::Lexical::braces_at))]
 pub(crate) fn braces_at<'a>(
     braces: &'a [u8],
     text: &'a [u8],

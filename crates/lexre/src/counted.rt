@@ -26,10 +26,10 @@ impl Counted {
     }
 
     /// The same tree again, whose parts are not copied.
-    pub(crate) fn shared(&self) -> Result<Counted, AllocError>
+    pub(crate) fn share(&self) -> Result<Counted, AllocError>
         ensures { IfOk result (λ c. tree_of c.pattern ≡ tree_of self.now.pattern) }
     {
-        let pattern = self.pattern.shared()?;
+        let pattern = self.pattern.share()?;
         Ok(Counted {
             pattern,
             nodes: self.nodes,

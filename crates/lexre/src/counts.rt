@@ -1,8 +1,8 @@
 //! The positions of a pattern: the places of it that read a byte.
 ghost use Rattle.std.specs.Prelude.{◌≡◌, ◌<◌, ◌≤◌, ◌^◌, min, map, IfSome, IfNone};
-ghost use Rattle.lexmeaning.specs.Positions.{positions, positions_of};
-ghost use Rattle.lexmeaning.specs.Shapes.{nodes_of};
-ghost use Rattle.lexmeaning.specs.Tree.{trees};
+ghost use Rattle.lex_semantics.specs.Positions.{positions, positions_of};
+ghost use Rattle.lex_semantics.specs.Shapes.{nodes_of};
+ghost use Rattle.lex_semantics.specs.Tree.{trees};
 ghost use Rattle.lexre.specs.Counting.{capped_nodes};
 ghost use Rattle.lexre.specs.Views.{tree_of};
 

@@ -1,11 +1,11 @@
 //! Where the pattern of a rule ends. (POSIX, lex, Rules in lex; flex, Patterns: `r/s`, `r$`.)
 ghost use Rattle.std.specs.Prelude.{◌≡◌, ◌+◌, ◌^◌, ◌<◌, ◌≤◌, ℕ, Bool, ◌∷◌, List, length, Option, Some, None, IfOk, IfErr, IfSome, OnErr, MatchOption, MatchResult};
 ghost use Rattle.lexre.specs.Cutting.{piece_at, slash, IsCutting, IsCuttingFault, IsEnd, Piece};
-ghost use Rattle.lexclass.specs.declared.error.PatternErrorKind.TheVariants.{MisplacedSlash};
+ghost use Rattle.lexre_bytes.specs.declared.error.PatternErrorKind.TheVariants.{MisplacedSlash};
 ghost use Rattle.lexre.specs.CuttingSoFar.{ending, piece_of, Ending};
 
 use crate::quotes::skip_quoted;
-use lexclass::{FaultAt, PatternError, PatternErrorKind, escape_at, skip_class};
+use lexre_bytes::{FaultAt, PatternError, PatternErrorKind, escape_at, skip_class};
 
 /// Where the pattern of a rule ends, and what stands at its end.
 #[derive(Clone, Copy, PartialEq, Eq, Debug)]
@@ -141,7 +141,7 @@ impl CuttingSoFar {
 }
 
 /// The piece at the front of the text, which stands at this place, and what follows it. None at the end of the pattern.
-#[tactic(auto, unfolding(crate::specs::Cutting::piece_at, lexmeaning::specs::ByteSets::is_blank), using(crate::proofs::FaultLaws::quote_fault_of_cutting, crate::proofs::FaultLaws::byte_fault_of_cutting))]
+#[tactic(auto, unfolding(crate::specs::Cutting::piece_at, lex_semantics::specs::ByteSets::is_blank), using(crate::proofs::FaultLaws::quote_fault_of_cutting, crate::proofs::FaultLaws::byte_fault_of_cutting))]
 fn piece_at(text: &[u8], at: usize) -> Result<Option<(Kind, &[u8])>, PatternError>
     requires { at + length text.now < 2 ^ 64 }
     ensures found { IfOk result (λ found. MatchOption found
@@ -163,11 +163,11 @@ fn piece_at(text: &[u8], at: usize) -> Result<Option<(Kind, &[u8])>, PatternErro
         b'$' => Ok(Some((Kind::Dollar, after))),
         b'"' => match skip_quoted(text) {
             Ok(rest) => Ok(Some((Kind::Other, rest))),
-            Err(fault) => Err(placed(fault, text, at)),
+            Err(fault) => Err(fault_at(fault, text, at)),
         },
         b'[' => match skip_class(text, after) {
             Ok(rest) => Ok(Some((Kind::Other, rest))),
-            Err(fault) => Err(placed(fault, text, at)),
+            Err(fault) => Err(fault_at(fault, text, at)),
         },
         b'\\' => match escape_at(after) {
             Some((_byte, rest)) => Ok(Some((Kind::Other, rest))),
@@ -181,7 +181,7 @@ fn piece_at(text: &[u8], at: usize) -> Result<Option<(Kind, &[u8])>, PatternErro
 }
 
 /// The fault, by its place: the text, of which the fault has a part, stands at the place `at`.
-fn placed(fault: FaultAt, text: &[u8], at: usize) -> PatternError
+fn fault_at(fault: FaultAt, text: &[u8], at: usize) -> PatternError
     requires { at + length text.now < 2 ^ 64 }
     ensures { result.kind ≡ fault.entry.kind }
 {

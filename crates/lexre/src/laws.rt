@@ -1,7 +1,7 @@
 //! Laws over the definitions.
 ghost use Rattle.std.specs.Prelude.{◌≡◌, ℕ, ◌+◌, Bool, List, Option};
-ghost use Rattle.lexmeaning.specs.Positions.{Cell, Reads, positions};
-ghost use Rattle.lexmeaning.specs.Tree.{Tree};
+ghost use Rattle.lex_semantics.specs.Positions.{Cell, Reads, positions};
+ghost use Rattle.lex_semantics.specs.Tree.{Tree};
 ghost use Rattle.lexre.specs.Cutting.{IsCutting};
 ghost use Rattle.lexre.specs.Definitions.{Definitions};
 ghost use Rattle.lexre.specs.Readings.{UsesFrom};
@@ -15,8 +15,8 @@ pub fn readings_use_own_positions()
 
 /// A text spells at most one tree, however patterns are read.
 pub fn one_tree()
-    ensures { (options : ReadOptions) (defs : Definitions) (text : List ℕ) (t u : Tree)
-        → Spells options defs text t → Spells options defs text u → t ≡ u }
+    ensures { (options : ReadOptions) (definitions : Definitions) (text : List ℕ) (t u : Tree)
+        → Spells options definitions text t → Spells options definitions text u → t ≡ u }
 {}
 
 /// A text has at most one cutting.

@@ -24,7 +24,7 @@ pub use counts::positions;
 pub use cutting::{Cutting, cut_pattern};
 pub use definitions::{Defs, DefsError};
 pub use laws::{one_cutting, one_tree, readings_use_own_positions};
-pub use lexclass::{ByteSet, PatternError, PatternErrorKind};
+pub use lexre_bytes::{ByteSet, PatternError, PatternErrorKind};
 pub use measures::lengths;
 pub use names::Names;
 pub use options::ReadOptions;

@@ -1,7 +1,7 @@
 //! The lengths of the texts that a pattern matches.
 ghost use Rattle.std.specs.Prelude.{◌≡◌, ℕ, Option, ◌^◌, min, map, option_map, IfSome, IfNone};
-ghost use Rattle.lexmeaning.specs.Shapes.{HasLengths, IsSoundTree};
-ghost use Rattle.lexmeaning.specs.Tree.{In, trees};
+ghost use Rattle.lex_semantics.specs.Shapes.{HasLengths, IsSoundTree};
+ghost use Rattle.lex_semantics.specs.Tree.{In, trees};
 ghost use Rattle.lexre.specs.Lengths.{least, least_of_each, least_of_some, greatest, greatest_of_each, greatest_of_some, capped, unbounded, repeated, PassesLimit};
 ghost use Rattle.lexre.specs.Views.{tree_of};
 

@@ -2,7 +2,7 @@
 ghost use Rattle.std.specs.Prelude.{◌≡◌, IfOk};
 ghost use Rattle.lexre.specs.Views.{tree_of};
 
-use lexclass::ByteSet;
+use lexre_bytes::ByteSet;
 use std::alloc::AllocError;
 use std::rc::Rc;
 
@@ -27,7 +27,7 @@ pub enum Pattern {
 
 impl Pattern {
     /// The same tree again, whose parts are not copied.
-    pub(crate) fn shared(&self) -> Result<Pattern, AllocError>
+    pub(crate) fn share(&self) -> Result<Pattern, AllocError>
         ensures { IfOk result (λ p. tree_of p ≡ tree_of self.now) }
     {
         match self {

@@ -1,16 +1,16 @@
 //! Texts in quotes. (POSIX, lex, Regular Expressions in lex.)
 ghost use Rattle.std.specs.Prelude.{◌≡◌, ◌<◌, ℕ, List, Option, Some, None, MatchResult, IfOk, IfErr, drop};
-ghost use Rattle.lexmeaning.specs.ByteSets.{single};
-ghost use Rattle.lexmeaning.specs.Shapes.{IsSoundTree, nodes};
-ghost use Rattle.lexmeaning.specs.Tree.{Set};
-ghost use Rattle.lexclass.specs.Lexical.{after_quotes, folded, quoted_tree, quoted_bytes};
+ghost use Rattle.lex_semantics.specs.ByteSets.{single};
+ghost use Rattle.lex_semantics.specs.Shapes.{IsSoundTree, nodes};
+ghost use Rattle.lex_semantics.specs.Tree.{Set};
+ghost use Rattle.lexre_bytes.specs.Lexical.{after_quotes, folded, quoted_tree, quoted_bytes};
 ghost use Rattle.lexre.specs.Cutting.{IsQuoteFault};
 ghost use Rattle.lexre.specs.Outcome.{UnlessMemory};
 ghost use Rattle.lexre.specs.Views.{tree_of};
 ghost use Rattle.lexre.specs.Limits.{max_nodes};
 
 use crate::pattern::Pattern;
-use lexclass::{ByteSet, FaultAt, PatternErrorKind, escape_at, folded, literal_byte_at};
+use lexre_bytes::{ByteSet, FaultAt, PatternErrorKind, escape_at, fold_if, literal_byte_at};
 use std::alloc::Global;
 use std::rc::Rc;
 
@@ -97,11 +97,11 @@ pub(crate) fn byte_pattern(byte: u8, fold: bool) -> Pattern
     ensures tree { tree_of result ≡ Set (folded fold (single byte)) }
     ensures sound { IsSoundTree (tree_of result) }
 {
-    Pattern::Set(folded(fold, ByteSet::of(byte)))
+    Pattern::Set(fold_if(fold, ByteSet::of(byte)))
 }
 
 /// The pattern of the bytes of a text in quotes. More nodes than a pattern may have are `TooBig`.
-#[tactic(auto, unfolding(lexclass::specs::Lexical::quoted_tree))]
+#[tactic(auto, unfolding(lexre_bytes::specs::Lexical::quoted_tree))]
 pub(crate) fn quoted_pattern(
     alloc: Global,
     bytes: &[u8],

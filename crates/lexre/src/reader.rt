@@ -1,7 +1,7 @@
 //! Reads patterns. (POSIX, lex, Regular Expressions in lex; flex, Patterns. The bounds are this project's.)
 ghost use Rattle.std.specs.Prelude.{◌≡◌, ◌+◌, ◌-◌, ◌≤◌, ℕ, IfOk, IfErr, OnOk};
-ghost use Rattle.lexmeaning.specs.Shapes.{IsSoundTree, nodes};
-ghost use Rattle.lexmeaning.specs.Tree.{Tree};
+ghost use Rattle.lex_semantics.specs.Shapes.{IsSoundTree, nodes};
+ghost use Rattle.lex_semantics.specs.Tree.{Tree};
 ghost use Rattle.lexre.specs.Counting.{state_nodes};
 ghost use Rattle.lexre.specs.Cycles.{AllLead, AllLeadToSymbol, AllLeadToText};
 ghost use Rattle.lexre.specs.Names.{AreKnown, open_of, trees_of};
@@ -13,7 +13,7 @@ ghost use Rattle.lexre.specs.Spelling.{Spells};
 ghost use Rattle.lexre.specs.StackViews.{state_of};
 ghost use Rattle.lexre.specs.SymbolViews.{symbol_of};
 ghost use Rattle.lexre.specs.Views.{tree_of};
-ghost use Rattle.lexclass.specs.declared.error.PatternErrorKind.TheVariants.{OutOfMemory};
+ghost use Rattle.lexre_bytes.specs.declared.error.PatternErrorKind.TheVariants.{OutOfMemory};
 ghost use Rattle.lexre.specs.Limits.{max_open, max_nodes};
 
 use crate::counted::Counted;
@@ -24,7 +24,7 @@ use crate::names::Names;
 use crate::options::ReadOptions;
 use crate::pattern::Pattern;
 use crate::symbols::Symbol;
-use lexclass::{Class, FaultAt, PatternError, PatternErrorKind};
+use lexre_bytes::{Class, FaultAt, PatternError, PatternErrorKind};
 use std::alloc::Global;
 
 /// The most parentheses and names that may be open at one place.
@@ -45,7 +45,7 @@ fn begins_interval(text: &[u8]) -> bool
 
 /// What is reported of a fault in the text that stands at this place: an interval that is bad in itself is reported after what
 /// lacks to its left.
-fn told(stack: &Stack, fault: FaultAt, text: &[u8], at: usize, posix: bool) -> PatternError
+fn reported(stack: &Stack, fault: FaultAt, text: &[u8], at: usize, posix: bool) -> PatternError
     ensures { fault.entry.kind ≡ OutOfMemory → result.kind ≡ OutOfMemory }
 {
     let kind = match fault.kind {
@@ -64,7 +64,7 @@ fn told(stack: &Stack, fault: FaultAt, text: &[u8], at: usize, posix: bool) -> P
 /// What a text is read under.
 #[derive(Clone, Copy)]
 struct Scope<'a> {
-    defs: &'a Defs,
+    definitions: &'a Defs,
     options: ReadOptions,
 }
 
@@ -97,26 +97,26 @@ fn read_name(
 ) -> Result<Read, PatternErrorKind>
     requires left { left ≤ max_open }
     requires room { room ≤ max_nodes }
-    requires known_so_far { AreKnown scope.options scope.defs.now (trees_of names.old) }
-    requires lead { AllLead scope.options scope.defs.now (open_of names.old) name.now }
-    ensures found { IfOk result (λ r. StandsIn scope.entry.options scope.entry.defs.now (left - r.spare) name.now (tree_of r.tree.pattern)) }
+    requires known_so_far { AreKnown scope.options scope.definitions.now (trees_of names.old) }
+    requires lead { AllLead scope.options scope.definitions.now (open_of names.old) name.now }
+    ensures found { IfOk result (λ r. StandsIn scope.entry.options scope.entry.definitions.now (left - r.spare) name.now (tree_of r.tree.pattern)) }
     ensures spare { IfOk result (λ r. r.spare ≤ left) }
     ensures few { IfOk result (λ r. nodes (tree_of r.tree.pattern) ≤ room) }
     ensures sound { IfOk result (λ r. IsSoundTree (tree_of r.tree.pattern)) }
-    ensures known { OnOk result (AreKnown scope.entry.options scope.entry.defs.now (trees_of names.new)) }
+    ensures known { OnOk result (AreKnown scope.entry.options scope.entry.definitions.now (trees_of names.new)) }
     ensures same_open { OnOk result (open_of names.new ≡ open_of names.old) }
-    ensures none { IfErr result (λ e. UnlessMemory e (NoneWithin room (StandsIn scope.entry.options scope.entry.defs.now left name.now))) }
+    ensures none { IfErr result (λ e. UnlessMemory e (NoneWithin room (StandsIn scope.entry.options scope.entry.definitions.now left name.now))) }
 {
     if let Some(kept) = names.find(name, left) {
         if kept.tree.nodes > room {
             return Err(PatternErrorKind::TooBig);
         }
         return Ok(Read {
-            tree: kept.tree.shared()?,
+            tree: kept.tree.share()?,
             spare: left - kept.needed,
         });
     }
-    let Some(substitute) = scope.defs.find(name) else {
+    let Some(substitute) = scope.definitions.find(name) else {
         return Err(PatternErrorKind::UndefinedName);
     };
     if names.is_open(name) {
@@ -129,7 +129,7 @@ fn read_name(
     match read_within(alloc, substitute, scope, left - 1, room, names) {
         Ok(Read { tree, spare }) => {
             names.leave();
-            names.keep(name, left - spare, tree.shared()?)?;
+            names.keep(name, left - spare, tree.share()?)?;
             Ok(Read { tree, spare })
         }
         Err(error) => Err(error.kind),
@@ -149,19 +149,19 @@ fn step(
     requires room { room ≤ max_nodes }
     requires sound { IsSoundSymbol (symbol_of symbol) }
     requires sound_so_far { IsSoundState (state_of stack.old) }
-    requires known_so_far { AreKnown scope.options scope.defs.now (trees_of names.old) }
-    requires lead { AllLeadToSymbol scope.options scope.defs.now (open_of names.old) (symbol_of symbol) }
-    ensures found { IfOk result (λ a. StepsIn scope.entry.options scope.entry.defs.now (state_of stack.old) (symbol_of symbol.entry) (state_of stack.new)) }
+    requires known_so_far { AreKnown scope.options scope.definitions.now (trees_of names.old) }
+    requires lead { AllLeadToSymbol scope.options scope.definitions.now (open_of names.old) (symbol_of symbol) }
+    ensures found { IfOk result (λ a. StepsIn scope.entry.options scope.entry.definitions.now (state_of stack.old) (symbol_of symbol.entry) (state_of stack.new)) }
     ensures spare { IfOk result (λ a. a.spare ≤ stack.new.left) }
     ensures lowered { IfOk result (λ a. (e : ℕ) → e ≤ stack.old.left → e ≤ a.spare
-        → StepsIn scope.entry.options scope.entry.defs.now (lowered e (state_of stack.old)) (symbol_of symbol.entry) (lowered e (state_of stack.new))) }
+        → StepsIn scope.entry.options scope.entry.definitions.now (lowered e (state_of stack.old)) (symbol_of symbol.entry) (lowered e (state_of stack.new))) }
     ensures few { IfOk result (λ a. a.nodes ≤ room) }
     ensures sound { IfOk result (λ a. IsSoundState (state_of stack.new)) }
-    ensures known { OnOk result (AreKnown scope.entry.options scope.entry.defs.now (trees_of names.new)) }
+    ensures known { OnOk result (AreKnown scope.entry.options scope.entry.definitions.now (trees_of names.new)) }
     ensures same_open { OnOk result (open_of names.new ≡ open_of names.old) }
     ensures counted { IfOk result (λ a. state_nodes (state_of stack.new) ≡ state_nodes (state_of stack.old) + a.nodes) }
     ensures none { IfErr result (λ e. UnlessMemory e
-        ((after : State) → StepsIn scope.entry.options scope.entry.defs.now (state_of stack.old) (symbol_of symbol.entry) after → state_nodes after ≤ state_nodes (state_of stack.old) + room → ⊥)) }
+        ((after : State) → StepsIn scope.entry.options scope.entry.definitions.now (state_of stack.old) (symbol_of symbol.entry) after → state_nodes after ≤ state_nodes (state_of stack.old) + room → ⊥)) }
 {
     let taken = match symbol {
         Symbol::Name(name) => {
@@ -203,15 +203,15 @@ fn read_within(
 ) -> Result<Read, PatternError>
     requires left { left ≤ max_open }
     requires room { room ≤ max_nodes }
-    requires known_so_far { AreKnown scope.options scope.defs.now (trees_of names.old) }
-    requires lead { AllLeadToText scope.options scope.defs.now (open_of names.old) text.now }
-    ensures found { IfOk result (λ r. SpellsIn scope.entry.options scope.entry.defs.now (left - r.spare) text.now (tree_of r.tree.pattern)) }
+    requires known_so_far { AreKnown scope.options scope.definitions.now (trees_of names.old) }
+    requires lead { AllLeadToText scope.options scope.definitions.now (open_of names.old) text.now }
+    ensures found { IfOk result (λ r. SpellsIn scope.entry.options scope.entry.definitions.now (left - r.spare) text.now (tree_of r.tree.pattern)) }
     ensures spare { IfOk result (λ r. r.spare ≤ left) }
     ensures few { IfOk result (λ r. nodes (tree_of r.tree.pattern) ≤ room) }
     ensures sound { IfOk result (λ r. IsSoundTree (tree_of r.tree.pattern)) }
-    ensures known { OnOk result (AreKnown scope.entry.options scope.entry.defs.now (trees_of names.new)) }
+    ensures known { OnOk result (AreKnown scope.entry.options scope.entry.definitions.now (trees_of names.new)) }
     ensures same_open { OnOk result (open_of names.new ≡ open_of names.old) }
-    ensures none { IfErr result (λ e. UnlessMemory e.kind (NoneWithin room (SpellsIn scope.entry.options scope.entry.defs.now left text.now))) }
+    ensures none { IfErr result (λ e. UnlessMemory e.kind (NoneWithin room (SpellsIn scope.entry.options scope.entry.definitions.now left text.now))) }
 {
     let mut stack = Stack::new(alloc, left);
     let mut nodes = 0;
@@ -221,7 +221,7 @@ fn read_within(
         let at = text.len().saturating_sub(rest.len());
         let (symbol, after) = match symbol_at(alloc, rest, scope.options.fold) {
             Ok(found) => found,
-            Err(fault) => return Err(told(&stack, fault, rest, at, scope.options.posix)),
+            Err(fault) => return Err(reported(&stack, fault, rest, at, scope.options.posix)),
         };
         match step(&mut stack, symbol, at, scope, room - nodes, names) {
             Ok(taken) => {
@@ -257,15 +257,15 @@ fn read_within(
 pub fn read_pattern(
     alloc: Global,
     text: &[u8],
-    defs: &Defs,
+    definitions: &Defs,
     options: ReadOptions,
 ) -> Result<Pattern, PatternError>
-    ensures found { IfOk result (λ p. Spells options defs.now text.now (tree_of p)) }
+    ensures found { IfOk result (λ p. Spells options definitions.now text.now (tree_of p)) }
     ensures sound { IfOk result (λ p. IsSoundTree (tree_of p)) }
-    ensures none { IfErr result (λ e. UnlessMemory e.kind ((t : Tree) → Spells options defs.now text.now t → ⊥)) }
+    ensures none { IfErr result (λ e. UnlessMemory e.kind ((t : Tree) → Spells options definitions.now text.now t → ⊥)) }
 {
     let mut names = Names::new(alloc);
-    read_with_names(alloc, text, defs, options, &mut names)
+    read_with_names(alloc, text, definitions, options, &mut names)
 }
 
 /// Reads a pattern as `read_pattern` does, by what is kept of names, and keeps those that it reads. So the patterns of one
@@ -273,17 +273,20 @@ pub fn read_pattern(
 pub fn read_with_names(
     alloc: Global,
     text: &[u8],
-    defs: &Defs,
+    definitions: &Defs,
     options: ReadOptions,
     names: &mut Names,
 ) -> Result<Pattern, PatternError>
-    requires known_so_far { AreKnown options defs.now (trees_of names.old) }
-    ensures found { IfOk result (λ p. Spells options defs.now text.now (tree_of p)) }
+    requires known_so_far { AreKnown options definitions.now (trees_of names.old) }
+    ensures found { IfOk result (λ p. Spells options definitions.now text.now (tree_of p)) }
     ensures sound { IfOk result (λ p. IsSoundTree (tree_of p)) }
-    ensures known { OnOk result (AreKnown options defs.now (trees_of names.new)) }
-    ensures none { IfErr result (λ e. UnlessMemory e.kind ((t : Tree) → Spells options defs.now text.now t → ⊥)) }
+    ensures known { OnOk result (AreKnown options definitions.now (trees_of names.new)) }
+    ensures none { IfErr result (λ e. UnlessMemory e.kind ((t : Tree) → Spells options definitions.now text.now t → ⊥)) }
 {
-    let scope = Scope { defs, options };
+    let scope = Scope {
+        definitions,
+        options,
+    };
     names.begin();
     match read_within(alloc, text, scope, MAX_OPEN, MAX_NODES, names) {
         Ok(Read { tree, .. }) => {

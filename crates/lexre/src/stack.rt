@@ -1,22 +1,22 @@
 //! A pattern as far as it was read. (POSIX, lex, Regular Expressions in lex; flex, Patterns.)
 ghost use Rattle.std.specs.Prelude.{◌≡◌, ◌+◌, ◌≤◌, ◌<◌, ℕ, List, Option, [], Some, None, map, MatchResult, IfOk, IfErr, IfSome, IfNone, IsSome};
-ghost use Rattle.lexmeaning.specs.Tree.{Repeat, Tree};
+ghost use Rattle.lex_semantics.specs.Tree.{Repeat, Tree};
 ghost use Rattle.lexre.specs.Counting.{adds, closing_adds, extra, item_adds};
 ghost use Rattle.lexre.specs.Grammar.{choice_tree, how_many, on_item, one_more, operand, operand_signs, parts_before, series_count, series_tree};
 ghost use Rattle.lexre.specs.Outcome.{UnlessMemory};
 ghost use Rattle.lexre.specs.Running.{State, closed, finished, fresh, gathered, onto_last, opened, parted, push, pushed, state, step_of};
 ghost use Rattle.lexre.specs.StackViews.{StepsTo, frame_of, signs_of, state_of};
 ghost use Rattle.lexre.specs.SymbolViews.{sign_of, symbol_of};
-ghost use Rattle.lexclass.specs.Symbols.{signed};
+ghost use Rattle.lexre_bytes.specs.Symbols.{signed};
 ghost use Rattle.lexre.specs.Views.{tree_of};
-ghost use Rattle.lexclass.specs.declared.error.PatternErrorKind.TheVariants.{OutOfMemory};
+ghost use Rattle.lexre_bytes.specs.declared.error.PatternErrorKind.TheVariants.{OutOfMemory};
 ghost use Rattle.lexre.specs.Limits.{max_open, max_signs};
 
 use crate::counted::Counted;
 use crate::frames::{Frame, Signs, Stack};
 use crate::pattern::Pattern;
 use crate::symbols::{Sign, Symbol};
-use lexclass::{PatternError, PatternErrorKind};
+use lexre_bytes::{PatternError, PatternErrorKind};
 use std::alloc::Global;
 use std::mem;
 use std::rc::Rc;

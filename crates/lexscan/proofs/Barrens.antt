@@ -5,12 +5,12 @@ use Rattle.std.specs.Prelude.{IfOk, OnOk, OnErr, IsErrOf, filter_map, ◌==◌}
 use Rattle.std.proofs.lemmas.List.{append-nil, length-append, length-drop, length-take-le, drop-append-le, drop-drop, nil_from_length}
 use Rattle.std.proofs.Math.Seq.{drop-cons}
 use Rattle.std.proofs.lemmas.Bool.{cases_lt, eqb-true}
-use Rattle.lexmeaning.specs.Text.{Among}
-use Rattle.lexmeaning.specs.Machine.{Machine, walk}
-use Rattle.lexmeaning.specs.MachineLaws.{MachineLaws, LeadsToAccept}
-use Rattle.lexmeaning.specs.PlainMachine.{match_of}
-use Rattle.lexmeaning.specs.Plain.{default_match}
-use Rattle.lexmeaning.specs.Trail.{falling}
+use Rattle.lex_semantics.specs.Text.{Among}
+use Rattle.lex_semantics.specs.Machine.{Machine, walk}
+use Rattle.lex_semantics.specs.MachineLaws.{MachineLaws, LeadsToAccept}
+use Rattle.lex_semantics.specs.PlainMachine.{match_of}
+use Rattle.lex_semantics.specs.Plain.{default_match}
+use Rattle.lex_semantics.specs.Trail.{falling}
 use Rattle.lexscan.specs.declared.back.Settled.{Settled}
 use Rattle.lexscan.specs.declared.memo.Mark.{Mark}
 use Rattle.lexscan.specs.declared.state.Reading.{Reading}

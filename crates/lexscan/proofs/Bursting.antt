@@ -2,22 +2,22 @@
 use Rattle.std.proofs.Common.{◌≡◌, ℕ, suc, ◌+◌, ◌-◌, ◌≤◌, ◌<◌, Bool, true, false, List, [], ◌∷◌, ◌++◌, length, take, drop, get_or, ◌⊎◌, inl, inr, Some, None, refl, sym, ◌∙◌, ap, subst, arith}
 use Rattle.std.specs.Prelude.{max, nat_eq, filter_map, ⊤}
 use Rattle.std.proofs.lemmas.List.{append-nil, append_assoc, length-drop, length-take-le, get_or-take, take-take, take-append-drop, drop-take, drop-append-le, drop-drop, drop_all}
-use Rattle.lexmeaning.specs.Text.{IsText, Among, BeginsWith}
-use Rattle.lexmeaning.specs.Spec as S
-use Rattle.lexmeaning.specs.Candidates.{Candidate}
-use Rattle.lexmeaning.specs.Acting as Scan
-use Rattle.lexmeaning.specs.Acting.{act, settle}
-use Rattle.lexmeaning.specs.Machine.{Machine, walk}
-use Rattle.lexmeaning.specs.MachineLaws.{MachineLaws}
-use Rattle.lexmeaning.specs.PlainMachine.{kept_by, match_of}
-use Rattle.lexmeaning.specs.Plain.{default_match}
-use Rattle.lexmeaning.specs.Trail.{falling}
-use Rattle.lexmeaning.proofs.Texts.{is_text_take, is_text_drop}
-use Rattle.lexmeaning.proofs.Actions.{BeginsBelow, begins_below}
-use Rattle.lexmachine.specs.declared.glance.Way.{Way}
-use Rattle.lexmachine.specs.declared.glance.Gist.{Gist}
-use Rattle.lexmachine.specs.declared.glance.Gist.TheVariants.{Any, NoRule, Silent, Echo, Print, Begin}
-use Rattle.lexmachine.specs.Glances.{Leads, FirstDoes, Gists}
+use Rattle.lex_semantics.specs.Text.{IsText, Among, BeginsWith}
+use Rattle.lex_semantics.specs.Spec as S
+use Rattle.lex_semantics.specs.Candidates.{Candidate}
+use Rattle.lex_semantics.specs.Acting as Scan
+use Rattle.lex_semantics.specs.Acting.{act, settle}
+use Rattle.lex_semantics.specs.Machine.{Machine, walk}
+use Rattle.lex_semantics.specs.MachineLaws.{MachineLaws}
+use Rattle.lex_semantics.specs.PlainMachine.{kept_by, match_of}
+use Rattle.lex_semantics.specs.Plain.{default_match}
+use Rattle.lex_semantics.specs.Trail.{falling}
+use Rattle.lex_semantics.proofs.Texts.{is_text_take, is_text_drop}
+use Rattle.lex_semantics.proofs.Actions.{BeginsBelow, begins_below}
+use Rattle.lextab_machine.specs.declared.glance.Way.{Way}
+use Rattle.lextab_machine.specs.declared.glance.Gist.{Gist}
+use Rattle.lextab_machine.specs.declared.glance.Gist.TheVariants.{Any, NoRule, Silent, Echo, Print, Begin}
+use Rattle.lextab_machine.specs.Glances.{Leads, FirstDoes, Gists}
 use Rattle.lexscan.specs.declared.state.State.{State}
 use Rattle.lexscan.specs.declared.state.Reading.{Reading}
 use Rattle.lexscan.specs.declared.state.Spot.{Spot}

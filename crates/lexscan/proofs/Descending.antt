@@ -5,23 +5,23 @@ use Rattle.std.specs.List.{cons_option}
 use Rattle.std.proofs.lemmas.List.{append-nil, append_assoc, drop_more, length-take-le, length-drop}
 use Rattle.std.proofs.lemmas.Bool.{cond-true, cond-false, lt-ltb, le-ltb}
 use Rattle.std.proofs.Math.Seq.{take-add}
-use Rattle.lexmeaning.specs.Text.{Among, BeginsWith}
-use Rattle.lexmeaning.specs.Spec.{Statement, Echo}
-use Rattle.lexmeaning.specs.Rules.{statements_of}
-use Rattle.lexmeaning.specs.Candidates.{Candidate}
-use Rattle.lexmeaning.specs.Acting as Scan
-use Rattle.lexmeaning.specs.Acting.{Ending, Status, Matched, Went, Done, Again, Over, act, settle, perform}
-use Rattle.lexmeaning.specs.Machine.{Machine, rules_of_machine}
-use Rattle.lexmeaning.specs.PlainMachine.{kept_by, match_of}
-use Rattle.lexmeaning.specs.Trail.{falling}
-use Rattle.lexmeaning.proofs.Falling.{settle_adds, perform_adds, acting_after, falling-snoc}
+use Rattle.lex_semantics.specs.Text.{Among, BeginsWith}
+use Rattle.lex_semantics.specs.Spec.{Statement, Echo}
+use Rattle.lex_semantics.specs.Rules.{statements_of}
+use Rattle.lex_semantics.specs.Candidates.{Candidate}
+use Rattle.lex_semantics.specs.Acting as Scan
+use Rattle.lex_semantics.specs.Acting.{Ending, Status, Matched, ActionResult, Done, Again, Over, act, settle, perform}
+use Rattle.lex_semantics.specs.Machine.{Machine, rules_of_machine}
+use Rattle.lex_semantics.specs.PlainMachine.{kept_by, match_of}
+use Rattle.lex_semantics.specs.Trail.{falling}
+use Rattle.lex_semantics.proofs.Falling.{settle_adds, perform_adds, acting_after, falling-snoc}
 use Rattle.lexscan.specs.declared.act.Acting.{Acting}
 use Rattle.lexscan.specs.declared.act.Finish.{Finish}
 use Rattle.lexscan.specs.declared.act.Step.{Step}
 use Rattle.lexscan.specs.Acts.{acting_of, after_step, written_of, Carried, CutShort}
 use Rattle.lexscan.specs.Descends.{Conditions, conditions_of, conditions_in, outcome, matches_of, Passed, Tried, CutOff, CutAll, Performed, finished_of}
 use Rattle.lexscan.proofs.Growing.{take_one_more}
-use Rattle.lexmeaning.specs.Plain.{default_match}
+use Rattle.lex_semantics.specs.Plain.{default_match}
 
 -- a match and those after it
 pub one_match : (M : Machine) (n i k : ℕ) (is : List ℕ) → kept_by (M.cut i) n ≡ Some k → filter_map (match_of M n) (i ∷ is) ≡ record { len = n; rule = i; keep = k } ∷ filter_map (match_of M n) is
@@ -30,7 +30,7 @@ one_match M n i k is e = ap (λ o. cons_option (option_map (λ j. record { len =
 pub no_match : (M : Machine) (n i : ℕ) (is : List ℕ) → kept_by (M.cut i) n ≡ None → filter_map (match_of M n) (i ∷ is) ≡ filter_map (match_of M n) is
 no_match M n i is e = ap (λ o. cons_option (option_map (λ j. record { len = n; rule = i; keep = j }) o) (filter_map (match_of M n) is)) e
 
-written_same : (w : Went) → (acting_after w).written ≡ written_of w
+written_same : (w : ActionResult) → (acting_after w).written ≡ written_of w
 written_same (Done a) = refl
 written_same (Again a) = refl
 written_same (Over a e) = refl
@@ -114,7 +114,7 @@ module _ {K : Type 0} (M : Machine) (wrote : K → List ℕ → K → Type 0) (n
       (λ a p. perform_adds (rules_of_machine M) (take at w) (drop at w) ms a.written a.condition a.stack o p)
       (ap (λ l. settle (act l (acting_of w (start_of at m.keep d) before)) (λ a. outcome M w at ms a.written (conditions_in a))) same ∙ sym (head_outcome M w at m ms before d) ∙ e)
     where
-      went : Went
+      went : ActionResult
       went = act ss (acting_of w (start_of at m.keep d) before)
 
   pub cut_here : (s t u : K) (all : List Candidate) (rules : List ℕ) (i len keep : ℕ) (c d : Conditions) (ss : List Statement) → i < length rules → get_or rules i 0 < M.count →

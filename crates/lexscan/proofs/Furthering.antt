@@ -2,10 +2,10 @@
 use Rattle.std.proofs.Common.{◌≡◌, ℕ, ◌+◌, ◌-◌, ◌≤◌, Bool, true, false, List, [], ◌++◌, length, take, drop, None, sym, ◌∙◌, ap, subst, arith}
 use Rattle.std.proofs.lemmas.List.{append-nil, length-append, length-take-le, take-take}
 use Rattle.std.proofs.Math.Seq.{take-append_seam, drop-append_seam}
-use Rattle.lexmeaning.specs.Text.{at_line_start}
-use Rattle.lexmeaning.specs.Scanned.{Scanned}
-use Rattle.lexmeaning.specs.Machine.{Machine, rules_of_machine}
-use Rattle.lexmeaning.proofs.Texts.{take_past}
+use Rattle.lex_semantics.specs.Text.{at_line_start}
+use Rattle.lex_semantics.specs.Scanned.{Scanned}
+use Rattle.lex_semantics.specs.Machine.{Machine, rules_of_machine}
+use Rattle.lex_semantics.proofs.Texts.{take_past}
 use Rattle.lexscan.specs.declared.state.State.{State}
 use Rattle.lexscan.specs.declared.error.RunError.TheVariants.{Write}
 use Rattle.lexscan.specs.Descends.{ending_of}

@@ -1,12 +1,12 @@
 -- The states after the bytes that a match has asked for, while the window grows.
 use Rattle.std.proofs.Common.{◌≡◌, ℕ, suc, zero, ◌+◌, ◌-◌, ◌≤◌, ◌<◌, Bool, true, false, List, [], ◌∷◌, ◌++◌, length, take, drop, get_or, ◌⊎◌, inl, inr, refl, sym, ◌∙◌, ap, subst, arith}
 use Rattle.std.proofs.lemmas.List.{take-append-le, length-append, append_assoc, length-drop, drop-append-le, get_or-drop}
-use Rattle.lexmeaning.specs.Text.{Among}
-use Rattle.lexmeaning.specs.Machine.{Machine, walk, state_after}
-use Rattle.lexmeaning.specs.Trail.{trail_from}
-use Rattle.lexmeaning.proofs.MachineLaws.{walk-append}
-use Rattle.lexmeaning.proofs.Texts.{is_text_append}
-use Rattle.lexmeaning.proofs.Fronts.{among_append}
+use Rattle.lex_semantics.specs.Text.{Among}
+use Rattle.lex_semantics.specs.Machine.{Machine, walk, state_after}
+use Rattle.lex_semantics.specs.Trail.{trail_from}
+use Rattle.lex_semantics.proofs.MachineLaws.{walk-append}
+use Rattle.lex_semantics.proofs.Texts.{is_text_append}
+use Rattle.lex_semantics.proofs.Fronts.{among_append}
 use Rattle.lexscan.specs.declared.state.Reading.{Reading}
 use Rattle.lexscan.specs.declared.state.Spot.{Spot}
 use Rattle.lexscan.specs.Reads.{Took, end_step}

@@ -4,14 +4,14 @@ use Rattle.std.specs.Prelude.{nat_lt}
 use Rattle.std.proofs.lemmas.Nat.{mul-le}
 use Rattle.std.proofs.lemmas.Bool.{lt-ltb, ltb-true}
 use Rattle.std.proofs.lemmas.List.{length-drop}
-use Rattle.lexmeaning.specs.Acting.{Status}
-use Rattle.lexmeaning.specs.Demand.{Consistent}
-use Rattle.lexmeaning.specs.Machine.{Machine, rules_of_machine}
-use Rattle.lexmeaning.specs.MachineLaws.{MachineLaws}
-use Rattle.lexmeaning.proofs.MachineLaws.{machine_laws}
-use Rattle.lexmeaning.proofs.MachineRun.{machine_candidates_exist}
-use Rattle.lexmeaning.proofs.Ends.{Grows}
-use Rattle.lexmeaning.proofs.Growth.{turns_grow, falls}
+use Rattle.lex_semantics.specs.Acting.{Status}
+use Rattle.lex_semantics.specs.Demand.{Consistent}
+use Rattle.lex_semantics.specs.Machine.{Machine, rules_of_machine}
+use Rattle.lex_semantics.specs.MachineLaws.{MachineLaws}
+use Rattle.lex_semantics.proofs.MachineLaws.{machine_laws}
+use Rattle.lex_semantics.proofs.MachineRun.{machine_candidates_exist}
+use Rattle.lex_semantics.proofs.Ends.{Grows}
+use Rattle.lex_semantics.proofs.Growth.{turns_grow, falls}
 use Rattle.lexscan.specs.declared.state.State.{State}
 use Rattle.lexscan.specs.declared.error.RunError.{RunError}
 use Rattle.lexscan.specs.declared.error.RunError.TheVariants.{TooManyReads}
@@ -42,7 +42,7 @@ turn_falls M laws m n given got out wrote old new h k none going few few' =
     let consistent : Consistent g new.reading.at_end g = (k.text, just_these g new.reading.at_end) in
     let before : Consistent given old.reading.at_end g = (k.text, earlier given got old.reading.at_end new.reading.at_end g (λ e. (none e).0) (λ e. (none e).1) consistent.1) in
     let grows : Grows (state_of out h.start old).place (state_of (out ++ wrote) k.start new).place =
-    turns_grow (rules_of_machine M) (machine_laws M laws) laws.legal (λ c bol y. machine_candidates_exist M laws c bol y) g n (state_of out h.start old) (state_of (out ++ wrote) k.start new)
+    turns_grow (rules_of_machine M) (machine_laws M laws) laws.legal (λ c line_start y. machine_candidates_exist M laws c line_start y) g n (state_of out h.start old) (state_of (out ++ wrote) k.start new)
     (h.scanned g before).turns (k.scanned g consistent).turns (ap ending_of going) in
     let less = falls m (state_of out h.start old).place (state_of (out ++ wrote) k.start new).place (omega arith) (omega (arith, h.covered, h.taken)) (omega arith) (omega (arith, k.covered, k.taken)) grows in
     let a : start_of old ≡ h.start = start_is M n given out old h in

@@ -1,8 +1,8 @@
 -- How a turn leaves the plain state.
 use Rattle.std.proofs.Common.{◌≡◌, ℕ, List, inl, inr, Result, Ok, Err, sym, ◌∙◌, ap, subst}
 use Rattle.std.specs.Prelude.{IfOk, IfErr, OnErr, IsErrOf}
-use Rattle.lexends.specs.Sink.{Appended}
-use Rattle.lexmeaning.specs.Machine.{Machine}
+use Rattle.lex_io.specs.Sink.{Appended}
+use Rattle.lex_semantics.specs.Machine.{Machine}
 use Rattle.lexscan.specs.declared.state.Reading.{Reading}
 use Rattle.lexscan.specs.declared.state.State.{State}
 use Rattle.lexscan.specs.declared.turn.Turn.{Turn}

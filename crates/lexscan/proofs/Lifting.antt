@@ -1,15 +1,15 @@
 -- What a match does to the plain state is the turn of every consistent input.
 use Rattle.std.proofs.Common.{◌≡◌, ℕ, zero, suc, ◌+◌, ◌-◌, ◌≤◌, ◌<◌, true, false, List, [], ◌++◌, length, take, drop, Some, inl, inr, refl, sym, ◌∙◌, ap, subst, arith}
 use Rattle.std.proofs.lemmas.List.{length-append, length-drop, drop-drop}
-use Rattle.lexmeaning.specs.Text.{part, at_line_start}
-use Rattle.lexmeaning.specs.Candidates.{Candidates}
-use Rattle.lexmeaning.specs.Acting.{Matched, perform}
-use Rattle.lexmeaning.specs.Demand.{AsksAt}
-use Rattle.lexmeaning.specs.Scanned.{Seen}
-use Rattle.lexmeaning.specs.Machine.{Machine, rules_of_machine, state_after}
-use Rattle.lexmeaning.specs.MachineLaws.{MachineLaws}
-use Rattle.lexmeaning.proofs.Texts.{line_start_front}
-use Rattle.lexmeaning.proofs.Wanted.{WantsMore}
+use Rattle.lex_semantics.specs.Text.{part, at_line_start}
+use Rattle.lex_semantics.specs.Candidates.{Candidates}
+use Rattle.lex_semantics.specs.Acting.{Matched, perform}
+use Rattle.lex_semantics.specs.Demand.{AsksAt}
+use Rattle.lex_semantics.specs.Scanned.{Seen}
+use Rattle.lex_semantics.specs.Machine.{Machine, rules_of_machine, state_after}
+use Rattle.lex_semantics.specs.MachineLaws.{MachineLaws}
+use Rattle.lex_semantics.proofs.Texts.{line_start_front}
+use Rattle.lex_semantics.proofs.Wanted.{WantsMore}
 use Rattle.lexscan.specs.declared.state.Reading.{Reading}
 use Rattle.lexscan.specs.declared.state.Spot.{Spot}
 use Rattle.lexscan.specs.Sees.{SoFar, GoesOnAfter, Wants}

@@ -1,8 +1,8 @@
 -- The marks of a table.
 use Rattle.std.proofs.Common.{◌≡◌, ℕ, zero, suc, ◌<◌, Bool, true, false, List, [], ◌∷◌, ◌++◌, length, get_or, set, take, ◌⊎◌, inl, inr, refl, ◌∙◌, ap, subst, arith}
 use Rattle.std.specs.Prelude.{replicate, if◌then◌else◌}
-use Rattle.lexmeaning.specs.Text.{Among}
-use Rattle.lexmeaning.proofs.Fronts.{among_append, among_left, among_right}
+use Rattle.lex_semantics.specs.Text.{Among}
+use Rattle.lex_semantics.proofs.Fronts.{among_append, among_left, among_right}
 use Rattle.lexscan.specs.declared.cell.Cell.{Cell}
 use Rattle.lexscan.specs.declared.memo.Mark.{Mark}
 use Rattle.lexscan.specs.Memos.{marks_of, marks_in, unmarked}

@@ -2,32 +2,32 @@
 use Rattle.std.proofs.Common.{◌≡◌, ℕ, ◌≤◌, ◌<◌, false, List, [], ◌∷◌, ◌++◌, length, take, drop, ◌⊎◌, inl, inr, Option, Some, None, refl, sym, ◌∙◌, ap, subst, arith}
 use Rattle.std.proofs.lemmas.List.{length-take-le, take-take}
 use Rattle.std.proofs.lemmas.Bool.{cases_lt}
-use Rattle.lexmeaning.specs.Text.{Among}
-use Rattle.lexmeaning.specs.Legal.{IsLegal}
-use Rattle.lexmeaning.specs.Rules.{Rules, statements_of}
-use Rattle.lexmeaning.specs.Candidates.{Candidate, Candidates}
-use Rattle.lexmeaning.specs.Acting as Scan
-use Rattle.lexmeaning.specs.Acting.{Matched, Went, Done, Again, Over, act, settle, perform}
-use Rattle.lexmeaning.specs.Machine.{Machine, rules_of_machine}
-use Rattle.lexmeaning.specs.MachineLaws.{MachineLaws}
-use Rattle.lexmeaning.specs.Plain.{default_match}
-use Rattle.lexmeaning.specs.Trail.{trail_from, falling}
-use Rattle.lexmeaning.proofs.Actions.{begins_below}
-use Rattle.lexmeaning.proofs.Table.{Below, WentBelow, act_below}
-use Rattle.lexmeaning.proofs.MachineLaws.{machine_laws}
-use Rattle.lexmeaning.proofs.MachineRun.{machine_candidates_exist}
-use Rattle.lexmeaning.proofs.Fronts.{among_right}
-use Rattle.lexmeaning.proofs.Local.{same_performed, keep_inside}
-use Rattle.lexmeaning.proofs.Falling.{falling_candidates}
-use Rattle.lexmeaning.proofs.Ends.{GoodMatch, perform_good, keep_bounds, legal_of}
-use Rattle.lexmeaning.proofs.Once.{some_inj}
+use Rattle.lex_semantics.specs.Text.{Among}
+use Rattle.lex_semantics.specs.Legal.{IsLegal}
+use Rattle.lex_semantics.specs.Rules.{Rules, statements_of}
+use Rattle.lex_semantics.specs.Candidates.{Candidate, Candidates}
+use Rattle.lex_semantics.specs.Acting as Scan
+use Rattle.lex_semantics.specs.Acting.{Matched, ActionResult, Done, Again, Over, act, settle, perform}
+use Rattle.lex_semantics.specs.Machine.{Machine, rules_of_machine}
+use Rattle.lex_semantics.specs.MachineLaws.{MachineLaws}
+use Rattle.lex_semantics.specs.Plain.{default_match}
+use Rattle.lex_semantics.specs.Trail.{trail_from, falling}
+use Rattle.lex_semantics.proofs.Actions.{begins_below}
+use Rattle.lex_semantics.proofs.Table.{Below, ResultBelow, act_below}
+use Rattle.lex_semantics.proofs.MachineLaws.{machine_laws}
+use Rattle.lex_semantics.proofs.MachineRun.{machine_candidates_exist}
+use Rattle.lex_semantics.proofs.Fronts.{among_right}
+use Rattle.lex_semantics.proofs.Local.{same_performed, keep_inside}
+use Rattle.lex_semantics.proofs.Falling.{falling_candidates}
+use Rattle.lex_semantics.proofs.Ends.{GoodMatch, perform_good, keep_bounds, legal_of}
+use Rattle.lex_semantics.proofs.Once.{some_inj}
 use Rattle.lexscan.specs.declared.state.Spot.{Spot}
 use Rattle.lexscan.specs.Sees.{SoFar}
 use Rattle.lexscan.specs.Descends.{Conditions, outcome, matches_of}
 use Rattle.lexscan.proofs.Descending.{default_one}
 
 -- the conditions stay in range
-settle_below : (n : ℕ) (w : Went) (f : Scan.Acting → Option Matched) (o : Matched) → WentBelow n w → ((a : Scan.Acting) → Below n a.condition a.stack → f a ≡ Some o → Below n o.after.condition o.after.stack) → settle w f ≡ Some o →
+settle_below : (n : ℕ) (w : ActionResult) (f : Scan.Acting → Option Matched) (o : Matched) → ResultBelow n w → ((a : Scan.Acting) → Below n a.condition a.stack → f a ≡ Some o → Below n o.after.condition o.after.stack) → settle w f ≡ Some o →
     Below n o.after.condition o.after.stack
 settle_below n (Done a) f o h later e = subst (λ (z : Matched). Below n z.after.condition z.after.stack) (some_inj (record { after = a; ended = None }) o e) h
 settle_below n (Again a) f o h later e = later a h e
@@ -81,7 +81,7 @@ module _ (M : Machine) (laws : MachineLaws M) (p : Spot) (w : List ℕ) (reach s
   pub good : (out : List ℕ) (c : Conditions) → GoodMatch (length (take p.at w)) (length seen) (perform (rules_of_machine M) (take p.at w) seen seen_matches out c.next c.stack)
   good out c =
       perform_good (rules_of_machine M) laws.legal (take p.at w) seen seen_matches out c.next c.stack
-      (λ m a. keep_bounds (rules_of_machine M) (machine_laws M laws) laws.legal (λ c bol y. machine_candidates_exist M laws c bol y) w p.condition p.line_start seen m ((all_seen.members m).0 a))
+      (λ m a. keep_bounds (rules_of_machine M) (machine_laws M laws) laws.legal (λ c line_start y. machine_candidates_exist M laws c line_start y) w p.condition p.line_start seen m ((all_seen.members m).0 a))
       (record { len = 1; rule = M.count; keep = 1 })
       (among_right (falling M 0 (trail_from M (M.start p.condition p.line_start) seen)) (default_match M.count seen) (record { len = 1; rule = M.count; keep = 1 })
       (subst (λ l. Among l (record { len = 1; rule = M.count; keep = 1 })) (sym (default_one M seen (omega (arith, some, size)))) (inl refl)))

@@ -2,17 +2,17 @@
 use Rattle.std.proofs.Common.{◌≡◌, ℕ, suc, ◌+◌, ◌-◌, ◌≤◌, ◌<◌, false, true, List, [], ◌∷◌, ◌++◌, length, take, drop, get_or, Option, Some, None, sym, ◌∙◌, ap, subst, arith}
 use Rattle.std.specs.Prelude.{Bool, filter_map, IfSome, if◌then◌else◌}
 use Rattle.std.proofs.lemmas.List.{length-take-le, length-drop, get_or-drop}
-use Rattle.lexmeaning.specs.Spec.{Statement, Echo, Print, Begin, More, Less, Reject, End, Push, Pop, has_reject}
-use Rattle.lexmeaning.specs.Candidates.{Candidate}
-use Rattle.lexmeaning.specs.Acting as Scan
-use Rattle.lexmeaning.specs.Acting.{Matched, Went, Over, StackFault, act, has_room, popped, settle}
-use Rattle.lexmeaning.specs.Machine.{Machine, walk}
-use Rattle.lexmeaning.specs.PlainMachine.{match_of}
-use Rattle.lexmeaning.specs.Plain.{default_match}
-use Rattle.lexmeaning.specs.Trail.{trail_from, falling}
-use Rattle.lexmeaning.proofs.Falling.{falling-snoc}
-use Rattle.lexmeaning.proofs.MachineLaws.{walk-append}
-use Rattle.lexmeaning.specs.MachineLaws.{NoReject}
+use Rattle.lex_semantics.specs.Spec.{Statement, Echo, Print, Begin, More, Less, Reject, End, Push, Pop, has_reject}
+use Rattle.lex_semantics.specs.Candidates.{Candidate}
+use Rattle.lex_semantics.specs.Acting as Scan
+use Rattle.lex_semantics.specs.Acting.{Matched, ActionResult, Over, StackFault, act, has_room, popped, settle}
+use Rattle.lex_semantics.specs.Machine.{Machine, walk}
+use Rattle.lex_semantics.specs.PlainMachine.{match_of}
+use Rattle.lex_semantics.specs.Plain.{default_match}
+use Rattle.lex_semantics.specs.Trail.{trail_from, falling}
+use Rattle.lex_semantics.proofs.Falling.{falling-snoc}
+use Rattle.lex_semantics.proofs.MachineLaws.{walk-append}
+use Rattle.lex_semantics.specs.MachineLaws.{NoReject}
 use Rattle.lexscan.specs.declared.act.Acting.{Acting}
 use Rattle.lexscan.specs.declared.act.Step.{Step}
 use Rattle.lexscan.specs.declared.state.Spot.{Spot}
@@ -71,11 +71,11 @@ falling_last M p w n some le =
     (falling_more M p w (n - 1) (omega (arith, some, le)))
 
 -- a fault of the stack does not go to the next match
-full_never : (r : Bool) (a : Scan.Acting) (w : Went) (b : Scan.Acting) → (w ≡ Scan.Again b → ⊥) → (if r then w else Over a StackFault) ≡ Scan.Again b → ⊥
+full_never : (r : Bool) (a : Scan.Acting) (w : ActionResult) (b : Scan.Acting) → (w ≡ Scan.Again b → ⊥) → (if r then w else Over a StackFault) ≡ Scan.Again b → ⊥
 full_never true a w b h e = h e
 full_never false a w b h e = cc
 
-empty_never : (cs : List ℕ) (a : Scan.Acting) (next : ℕ → List ℕ → Went) (b : Scan.Acting) → ((c : ℕ) (rest : List ℕ) → next c rest ≡ Scan.Again b → ⊥) → popped cs a next ≡ Scan.Again b → ⊥
+empty_never : (cs : List ℕ) (a : Scan.Acting) (next : ℕ → List ℕ → ActionResult) (b : Scan.Acting) → ((c : ℕ) (rest : List ℕ) → next c rest ≡ Scan.Again b → ⊥) → popped cs a next ≡ Scan.Again b → ⊥
 empty_never [] a next b h e = cc
 empty_never (c ∷ cs) a next b h e = h c cs e
 

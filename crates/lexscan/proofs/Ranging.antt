@@ -1,8 +1,8 @@
 -- The conditions stay in range.
 use Rattle.std.proofs.Common.{ℕ, List, [], inl, inr, Ok, sym, subst}
-use Rattle.lexmeaning.specs.Machine.{Machine, rules_of_machine}
-use Rattle.lexmeaning.specs.MachineLaws.{MachineLaws}
-use Rattle.lexmeaning.proofs.Table.{Below}
+use Rattle.lex_semantics.specs.Machine.{Machine, rules_of_machine}
+use Rattle.lex_semantics.specs.MachineLaws.{MachineLaws}
+use Rattle.lex_semantics.proofs.Table.{Below}
 use Rattle.lexscan.specs.declared.state.State.{State}
 use Rattle.lexscan.specs.declared.turn.Turn.{Turn}
 use Rattle.lexscan.specs.Acts.{acting_of}

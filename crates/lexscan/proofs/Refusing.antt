@@ -1,24 +1,24 @@
 -- What a turn that was refused leaves.
 use Rattle.std.proofs.Common.{◌≡◌, ℕ, zero, suc, ◌+◌, ◌-◌, ◌≤◌, ◌<◌, Bool, true, false, List, [], ◌++◌, length, drop, ◌⊎◌, inl, inr, Some, None, refl, sym, ◌∙◌, ap, subst, arith}
 use Rattle.std.proofs.lemmas.List.{append-nil, append_assoc, length-append, length-drop, drop-append-le, drop_all, nil_from_length}
-use Rattle.lexmeaning.specs.Text.{IsText, BeginsWith}
-use Rattle.lexmeaning.specs.Rules.{Rules}
-use Rattle.lexmeaning.specs.Acting as Scan
-use Rattle.lexmeaning.specs.Acting.{Ending, Status, StackFault}
-use Rattle.lexmeaning.specs.Run as Run
-use Rattle.lexmeaning.specs.Run.{Place, Turn, Turns}
-use Rattle.lexmeaning.specs.Demand.{AsksAt, FarFrom, Far, Consistent, GoesOnFrom}
-use Rattle.lexmeaning.specs.Scanned.{AfterTurns, seen_turn}
-use Rattle.lexmeaning.specs.Machine.{Machine, rules_of_machine}
-use Rattle.lexmeaning.specs.MachineLaws.{MachineLaws}
-use Rattle.lexmeaning.proofs.MachineLaws.{machine_laws}
-use Rattle.lexmeaning.proofs.Once.{one_state}
-use Rattle.lexmeaning.proofs.Both.{one_far}
-use Rattle.lexmeaning.proofs.Prefix.{asks_front}
-use Rattle.lexmeaning.proofs.Step.{seen_match}
-use Rattle.lexmeaning.proofs.Texts.{is_text_append}
-use Rattle.lexmeaning.proofs.Wanted.{WantsMore, wanted_far, wanted_end}
-use Rattle.lexmeaning.proofs.Written.{run_begins, part_begins}
+use Rattle.lex_semantics.specs.Text.{IsText, BeginsWith}
+use Rattle.lex_semantics.specs.Rules.{Rules}
+use Rattle.lex_semantics.specs.Acting as Scan
+use Rattle.lex_semantics.specs.Acting.{Ending, Status, StackFault}
+use Rattle.lex_semantics.specs.Run as Run
+use Rattle.lex_semantics.specs.Run.{Place, Turn, Turns}
+use Rattle.lex_semantics.specs.Demand.{AsksAt, FarFrom, Far, Consistent, GoesOnFrom}
+use Rattle.lex_semantics.specs.Scanned.{AfterTurns, seen_turn}
+use Rattle.lex_semantics.specs.Machine.{Machine, rules_of_machine}
+use Rattle.lex_semantics.specs.MachineLaws.{MachineLaws}
+use Rattle.lex_semantics.proofs.MachineLaws.{machine_laws}
+use Rattle.lex_semantics.proofs.Once.{one_state}
+use Rattle.lex_semantics.proofs.Both.{one_far}
+use Rattle.lex_semantics.proofs.Prefix.{asks_front}
+use Rattle.lex_semantics.proofs.Step.{seen_match}
+use Rattle.lex_semantics.proofs.Texts.{is_text_append}
+use Rattle.lex_semantics.proofs.Wanted.{WantsMore, wanted_far, wanted_end}
+use Rattle.lex_semantics.proofs.Written.{run_begins, part_begins}
 use Rattle.lexscan.specs.declared.state.State.{State}
 use Rattle.lexscan.specs.declared.error.RunError.{RunError}
 use Rattle.lexscan.specs.declared.error.RunError.TheVariants.{TooManyReads, Stack}

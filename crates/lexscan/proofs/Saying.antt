@@ -2,14 +2,14 @@
 use Rattle.std.proofs.Common.{◌≡◌, ℕ, ◌+◌, ◌<◌, true, List, [], ◌∷◌, ◌++◌, length, take, drop, refl, sym, ◌∙◌, ap, subst}
 use Rattle.std.proofs.lemmas.List.{append-nil, append_assoc, drop_more}
 use Rattle.std.specs.Prelude.{Bool, false, map, get_or, if◌then◌else◌}
-use Rattle.lexmeaning.specs.Text.{BeginsWith}
-use Rattle.lexmeaning.specs.Spec.{Statement, Echo, Print, Begin, More, Less, Reject, End, Push, Pop}
-use Rattle.lexmeaning.specs.Acting as Scan
-use Rattle.lexmeaning.specs.Acting.{Went, Over, StackFault, act, has_room, popped}
+use Rattle.lex_semantics.specs.Text.{BeginsWith}
+use Rattle.lex_semantics.specs.Spec.{Statement, Echo, Print, Begin, More, Less, Reject, End, Push, Pop}
+use Rattle.lex_semantics.specs.Acting as Scan
+use Rattle.lex_semantics.specs.Acting.{ActionResult, Over, StackFault, act, has_room, popped}
 use Rattle.lexscan.specs.declared.act.Acting.{Acting}
 use Rattle.lexscan.specs.declared.act.Step.{Step}
-use Rattle.lexmachine.specs.declared.action.Statement.{Statement as Item}
-use Rattle.lexmachine.specs.Views.{statement_of}
+use Rattle.lextab_machine.specs.declared.action.Statement.{Statement as Item}
+use Rattle.lextab_machine.specs.Views.{statement_of}
 use Rattle.lexscan.specs.Acts.{acting_of, said, after_step, Steps, written_of, Carried, CutShort, CarriedTo}
 
 abbrev pub IsPrefixOf : List ℕ → List ℕ → Type 0
@@ -25,11 +25,11 @@ pub prefix_same : (a : List ℕ) → IsPrefixOf a a
 prefix_same a = ([], sym (append-nil a))
 
 -- a fault of the stack leaves what was written
-full_grows : (b : Bool) (a : Scan.Acting) (w : Went) → IsPrefixOf a.written (written_of w) → IsPrefixOf a.written (written_of (if b then w else Over a StackFault))
+full_grows : (b : Bool) (a : Scan.Acting) (w : ActionResult) → IsPrefixOf a.written (written_of w) → IsPrefixOf a.written (written_of (if b then w else Over a StackFault))
 full_grows true a w h = h
 full_grows false a w h = prefix_same a.written
 
-empty_grows : (cs : List ℕ) (a : Scan.Acting) (next : ℕ → List ℕ → Went) → ((c : ℕ) (rest : List ℕ) → IsPrefixOf a.written (written_of (next c rest))) → IsPrefixOf a.written (written_of (popped cs a next))
+empty_grows : (cs : List ℕ) (a : Scan.Acting) (next : ℕ → List ℕ → ActionResult) → ((c : ℕ) (rest : List ℕ) → IsPrefixOf a.written (written_of (next c rest))) → IsPrefixOf a.written (written_of (popped cs a next))
 empty_grows [] a next h = prefix_same a.written
 empty_grows (c ∷ cs) a next h = h c cs
 

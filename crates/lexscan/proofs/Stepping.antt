@@ -2,17 +2,17 @@
 use Rattle.std.proofs.Common.{◌≡◌, ℕ, zero, suc, ◌+◌, ◌-◌, ◌≤◌, Bool, true, false, List, [], ◌∷◌, ◌++◌, length, take, drop, get_or, ◌⊎◌, inl, inr, Option, Some, None, refl, sym, ◌∙◌, ap, subst, arith}
 use Rattle.std.specs.Prelude.{nat_eq}
 use Rattle.std.proofs.lemmas.List.{append-nil, length-append, length-take-le, length-drop, drop-append-le, drop-drop, get_or-drop, nil_from_length}
-use Rattle.lexmeaning.specs.Text.{at_line_start, byte_at}
-use Rattle.lexmeaning.specs.Acting as Scan
-use Rattle.lexmeaning.specs.Acting.{Ending, Status, StackFault}
-use Rattle.lexmeaning.specs.Run as Run
-use Rattle.lexmeaning.specs.Run.{Place, EndTurn, next_start}
-use Rattle.lexmeaning.specs.Scanned.{Scanned, Seen, seen_turn, then_turn}
-use Rattle.lexmeaning.specs.Machine.{Machine, rules_of_machine}
-use Rattle.lexmeaning.specs.MachineLaws.{MachineLaws}
-use Rattle.lexmeaning.proofs.MachineLaws.{machine_laws}
-use Rattle.lexmeaning.proofs.Texts.{is_text_append}
-use Rattle.lexmeaning.proofs.Step.{scanned_match, scanned_match_end, scanned_end, scanned_ended, scanned_first}
+use Rattle.lex_semantics.specs.Text.{at_line_start, byte_at}
+use Rattle.lex_semantics.specs.Acting as Scan
+use Rattle.lex_semantics.specs.Acting.{Ending, Status, StackFault}
+use Rattle.lex_semantics.specs.Run as Run
+use Rattle.lex_semantics.specs.Run.{Place, EndTurn, next_start}
+use Rattle.lex_semantics.specs.Scanned.{Scanned, Seen, seen_turn, then_turn}
+use Rattle.lex_semantics.specs.Machine.{Machine, rules_of_machine}
+use Rattle.lex_semantics.specs.MachineLaws.{MachineLaws}
+use Rattle.lex_semantics.proofs.MachineLaws.{machine_laws}
+use Rattle.lex_semantics.proofs.Texts.{is_text_append}
+use Rattle.lex_semantics.proofs.Step.{scanned_match, scanned_match_end, scanned_end, scanned_ended, scanned_first}
 use Rattle.lexscan.specs.declared.state.Spot.{Spot}
 use Rattle.lexscan.specs.declared.state.State.{State}
 use Rattle.lexscan.specs.declared.turn.Turn.{Turn}

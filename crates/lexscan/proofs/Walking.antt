@@ -3,9 +3,9 @@ use Rattle.std.proofs.Common.{◌≡◌, ℕ, ◌+◌, ◌-◌, ◌≤◌, ◌<�
 use Rattle.std.proofs.lemmas.Bool.{cases_lt}
 use Rattle.std.proofs.Math.Seq.{take-append-add}
 use Rattle.std.proofs.lemmas.List.{take-append-le, take-take, length-append, length-take, take_all, drop-append-le}
-use Rattle.lexmeaning.specs.Machine.{Machine, walk}
-use Rattle.lexmeaning.proofs.MachineLaws.{walk-append}
-use Rattle.lexmeaning.proofs.Texts.{is_text_append}
+use Rattle.lex_semantics.specs.Machine.{Machine, walk}
+use Rattle.lex_semantics.proofs.MachineLaws.{walk-append}
+use Rattle.lex_semantics.proofs.Texts.{is_text_append}
 use Rattle.lexscan.specs.declared.window.Stop.{Stop}
 use Rattle.lexscan.specs.declared.window.Walk.{Walk}
 use Rattle.lexscan.specs.Walks.{Walked, Filled, StopsAt}

@@ -1,9 +1,9 @@
 -- What the statements of an action do.
 use Rattle.std.specs.Prelude.{◌≡◌, ℕ, List, [], ◌∷◌, ◌++◌, take}
-use Rattle.lexmeaning.specs.Text.{BeginsWith}
-use Rattle.lexmeaning.specs.Spec.{Statement, Echo, Print, Begin, More, Less, Reject, End, Push, Pop}
-use Rattle.lexmeaning.specs.Acting as Scan
-use Rattle.lexmeaning.specs.Acting.{Ending, Status, StackFault, Went, Done, Over, act}
+use Rattle.lex_semantics.specs.Text.{BeginsWith}
+use Rattle.lex_semantics.specs.Spec.{Statement, Echo, Print, Begin, More, Less, Reject, End, Push, Pop}
+use Rattle.lex_semantics.specs.Acting as Scan
+use Rattle.lex_semantics.specs.Acting.{Ending, Status, StackFault, ActionResult, Done, Over, act}
 use Rattle.lexscan.specs.declared.act.Acting.{Acting}
 use Rattle.lexscan.specs.declared.act.Finish.{Finish}
 use Rattle.lexscan.specs.declared.act.Step.{Step}
@@ -29,7 +29,7 @@ finish_of (Finish.Status s) = Status s
 finish_of Finish.StackFault = StackFault
 
 -- what follows, where these statements are left
-abbrev pub after_step : Step → List Statement → Scan.Acting → Went
+abbrev pub after_step : Step → List Statement → Scan.Acting → ActionResult
 after_step Step.Next rest a = act rest a
 after_step Step.Again rest a = Scan.Again a
 after_step (Step.Over f) rest a = Over a (finish_of f)
@@ -38,7 +38,7 @@ abbrev pub Steps : List ℕ → Statement → Acting → Acting → Step → Typ
 Steps w st old new step = (before : List ℕ) (rest : List Statement) → act (st ∷ rest) (acting_of w old before) ≡ after_step step rest (acting_of w new (before ++ said st (take old.end w)))
 
 -- what was written by the end of an action
-abbrev pub written_of : Went → List ℕ
+abbrev pub written_of : ActionResult → List ℕ
 written_of (Done a) = a.written
 written_of (Scan.Again a) = a.written
 written_of (Over a e) = a.written

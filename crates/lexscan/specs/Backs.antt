@@ -1,6 +1,6 @@
 -- What the bytes held tell of a match.
 use Rattle.std.specs.Prelude.{◌≡◌, ℕ, ◌+◌, ◌-◌, ◌≤◌, ◌<◌, true, length, drop}
-use Rattle.lexmeaning.specs.Machine.{Machine}
+use Rattle.lex_semantics.specs.Machine.{Machine}
 use Rattle.lexscan.specs.declared.back.Ahead.{Ahead}
 use Rattle.lexscan.specs.declared.back.Settled.{Settled}
 use Rattle.lexscan.specs.declared.pick.Seen.{Seen}

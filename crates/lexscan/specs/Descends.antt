@@ -1,12 +1,12 @@
 -- How the matches at a place are tried, one after another.
 use Rattle.std.specs.Prelude.{◌≡◌, ℕ, ◌≤◌, List, [], ◌++◌, length, take, drop, Option, Some, None}
-use Rattle.lexmeaning.specs.Text.{BeginsWith}
-use Rattle.lexmeaning.specs.Candidates.{Candidate}
-use Rattle.lexmeaning.specs.Acting as Scan
-use Rattle.lexmeaning.specs.Acting.{Ending, Status, StackFault, Matched, settle, perform}
-use Rattle.lexmeaning.specs.Machine.{Machine, rules_of_machine}
-use Rattle.lexmeaning.specs.Plain.{default_match}
-use Rattle.lexmeaning.specs.Trail.{falling}
+use Rattle.lex_semantics.specs.Text.{BeginsWith}
+use Rattle.lex_semantics.specs.Candidates.{Candidate}
+use Rattle.lex_semantics.specs.Acting as Scan
+use Rattle.lex_semantics.specs.Acting.{Ending, Status, StackFault, Matched, settle, perform}
+use Rattle.lex_semantics.specs.Machine.{Machine, rules_of_machine}
+use Rattle.lex_semantics.specs.Plain.{default_match}
+use Rattle.lex_semantics.specs.Trail.{falling}
 use Rattle.lexscan.specs.declared.act.Acting.{Acting}
 use Rattle.lexscan.specs.declared.act.Finish.{Finish}
 use Rattle.lexscan.specs.declared.act.Step.{Step}

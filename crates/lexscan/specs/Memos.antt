@@ -2,8 +2,8 @@
 use Rattle.std.specs.Prelude.{◌≡◌, ℕ, ◌+◌, ◌≤◌, Bool, true, List, [], ◌∷◌, ◌++◌, length, drop}
 use Rattle.std.specs.Coded.{×_prop, le_prop}
 use Rattle.std.proofs.Props.{props}
-use Rattle.lexmeaning.specs.Text.{Among}
-use Rattle.lexmeaning.specs.Machine.{Machine}
+use Rattle.lex_semantics.specs.Text.{Among}
+use Rattle.lex_semantics.specs.Machine.{Machine}
 use Rattle.lexscan.specs.declared.cell.Cell.{Cell}
 use Rattle.lexscan.specs.declared.memo.Mark.{Mark}
 use Rattle.lexscan.specs.declared.state.Reading.{Reading}

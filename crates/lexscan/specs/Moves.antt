@@ -1,7 +1,7 @@
 -- What a turn does to the plain state.
 use Rattle.std.specs.Prelude.{◌≡◌, ℕ, ◌-◌, ◌≤◌, ◌<◌, Bool, true, false, List, [], length, drop, ◌⊎◌, Option, Some, None, Result, Ok, Err, nat_eq, get_or}
-use Rattle.lexmeaning.specs.Text.{BeginsWith}
-use Rattle.lexmeaning.specs.Machine.{Machine}
+use Rattle.lex_semantics.specs.Text.{BeginsWith}
+use Rattle.lex_semantics.specs.Machine.{Machine}
 use Rattle.lexscan.specs.declared.state.Reading.{Reading}
 use Rattle.lexscan.specs.declared.state.Spot.{Spot}
 use Rattle.lexscan.specs.declared.state.State.{State}

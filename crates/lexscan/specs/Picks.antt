@@ -1,9 +1,9 @@
 -- The first of the matches at a place.
 use Rattle.std.specs.Prelude.{◌≡◌, ℕ, ◌-◌, ◌+◌, ◌≤◌, ◌<◌, List, [], ◌∷◌, take, drop, length, map, Option, Some, None}
-use Rattle.lexmeaning.specs.Candidates.{Candidate}
-use Rattle.lexmeaning.specs.Machine.{Machine, state_after}
-use Rattle.lexmeaning.specs.Trail.{trail_from}
-use Rattle.lexmachine.specs.Views.{statement_of}
+use Rattle.lex_semantics.specs.Candidates.{Candidate}
+use Rattle.lex_semantics.specs.Machine.{Machine, state_after}
+use Rattle.lex_semantics.specs.Trail.{trail_from}
+use Rattle.lextab_machine.specs.Views.{statement_of}
 use Rattle.lexscan.specs.declared.state.Spot.{Spot}
 use Rattle.lexscan.specs.declared.state.Reading.{Reading}
 use Rattle.lexscan.specs.declared.pick.Pick.{Pick}

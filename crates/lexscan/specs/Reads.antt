@@ -1,6 +1,6 @@
 -- What a scanner takes from its source.
 use Rattle.std.specs.Prelude.{◌≡◌, ℕ, ◌+◌, ◌<◌, max, Bool, true, false, List, [], ◌++◌, length, Option, Some, None, Result, Ok, Err}
-use Rattle.lexmeaning.specs.Text.{IsText}
+use Rattle.lex_semantics.specs.Text.{IsText}
 use Rattle.lexscan.specs.declared.state.Reading.{Reading}
 use Rattle.lexscan.specs.declared.error.RunError.{RunError}
 use Rattle.lexscan.specs.declared.error.RunError.TheVariants.{Read, Write}

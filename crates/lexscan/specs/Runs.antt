@@ -1,8 +1,8 @@
 -- What a whole run leaves.
 use Rattle.std.specs.Prelude.{◌≡◌, ℕ, Bool, List, ◌++◌, length, Result, Ok, Err}
-use Rattle.lexmeaning.specs.Rules.{Rules}
-use Rattle.lexmeaning.specs.Acting.{Status, StackFault}
-use Rattle.lexmeaning.specs.Machine.{Machine}
+use Rattle.lex_semantics.specs.Rules.{Rules}
+use Rattle.lex_semantics.specs.Acting.{Status, StackFault}
+use Rattle.lex_semantics.specs.Machine.{Machine}
 use Rattle.lexscan.specs.declared.state.State.{State}
 use Rattle.lexscan.specs.declared.error.RunError.{RunError}
 use Rattle.lexscan.specs.declared.error.RunError.TheVariants.{TooManyReads, Stack}

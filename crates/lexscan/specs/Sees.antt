@@ -1,7 +1,7 @@
 -- What a match has seen.
 use Rattle.std.specs.Prelude.{◌≡◌, ℕ, ◌+◌, ◌≤◌, ◌<◌, max, Bool, true, false, List, length, take, drop, ◌⊎◌}
-use Rattle.lexmeaning.specs.Machine.{Machine, state_after}
-use Rattle.lexmeaning.specs.Trail.{trail_from}
+use Rattle.lex_semantics.specs.Machine.{Machine, state_after}
+use Rattle.lex_semantics.specs.Trail.{trail_from}
 use Rattle.lexscan.specs.declared.state.Reading.{Reading}
 use Rattle.lexscan.specs.declared.state.Spot.{Spot}
 

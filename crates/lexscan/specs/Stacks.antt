@@ -1,7 +1,7 @@
 -- There is one proof at most that the conditions of a stack are in range, so a type may keep it.
 use Rattle.std.specs.Prelude.{ℕ, List, [], ◌∷◌}
 use Rattle.std.specs.Coded.{×_prop, Unit-prop, le_prop}
-use Rattle.lexmeaning.specs.Text.{AllBelow}
+use Rattle.lex_semantics.specs.Text.{AllBelow}
 
 pub AllBelow-prop : (n : ℕ) (cs : List ℕ) → IsProp (AllBelow n cs)
 AllBelow-prop n [] = Unit-prop

@@ -1,13 +1,13 @@
 -- What is known of a scanner after some turns.
 use Rattle.std.specs.Prelude.{◌≡◌, ℕ, suc, ◌+◌, ◌≤◌, Bool, true, false, List, [], ◌++◌, length, drop, Some, None, Result, Ok, Err}
-use Rattle.lexmeaning.specs.Text.{IsText, BeginsWith, at_line_start}
-use Rattle.lexmeaning.specs.Rules.{Rules}
-use Rattle.lexmeaning.specs.Acting.{Ending, StackFault}
-use Rattle.lexmeaning.specs.Run as Scan
-use Rattle.lexmeaning.specs.Run.{Turns, Run}
-use Rattle.lexmeaning.specs.Demand.{Consistent}
-use Rattle.lexmeaning.specs.Scanned.{AfterTurns, Scanned}
-use Rattle.lexmeaning.specs.Machine.{Machine, rules_of_machine}
+use Rattle.lex_semantics.specs.Text.{IsText, BeginsWith, at_line_start}
+use Rattle.lex_semantics.specs.Rules.{Rules}
+use Rattle.lex_semantics.specs.Acting.{Ending, StackFault}
+use Rattle.lex_semantics.specs.Run as Scan
+use Rattle.lex_semantics.specs.Run.{Turns, Run}
+use Rattle.lex_semantics.specs.Demand.{Consistent}
+use Rattle.lex_semantics.specs.Scanned.{AfterTurns, Scanned}
+use Rattle.lex_semantics.specs.Machine.{Machine, rules_of_machine}
 use Rattle.lexscan.specs.declared.state.State.{State}
 use Rattle.lexscan.specs.declared.turn.Turn.{Turn}
 use Rattle.lexscan.specs.declared.error.RunError.{RunError}

@@ -1,7 +1,7 @@
 -- What a walk of a machine over bytes of the source did.
 use Rattle.std.specs.Prelude.{◌≡◌, ℕ, ◌-◌, ◌≤◌, ◌<◌, Bool, true, false, List, ◌++◌, length, take}
-use Rattle.lexmeaning.specs.Text.{IsText}
-use Rattle.lexmeaning.specs.Machine.{Machine, walk}
+use Rattle.lex_semantics.specs.Text.{IsText}
+use Rattle.lex_semantics.specs.Machine.{Machine, walk}
 use Rattle.lexscan.specs.declared.window.Stop.{Stop}
 use Rattle.lexscan.specs.declared.window.Stop.TheVariants.{Done, Full, End, Fault}
 use Rattle.lexscan.specs.declared.window.Walk.{Walk}

@@ -1,6 +1,6 @@
 //! A few marks of one place of the source.
 ghost use Rattle.std.specs.Prelude.{◌≡◌, ◌⊎◌, true};
-ghost use Rattle.lexmeaning.specs.Text.{Among};
+ghost use Rattle.lex_semantics.specs.Text.{Among};
 ghost use Rattle.lexscan.specs.Memos.{marks_of};
 ghost use Rattle.lexscan.specs.declared.memo.Mark.{Mark};
 

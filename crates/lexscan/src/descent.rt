@@ -1,8 +1,8 @@
 //! The matches at a place, from the longest down.
 ghost use Rattle.std.specs.Prelude.{◌≡◌, ℕ, ◌+◌, ◌-◌, ◌^◌, ◌<◌, ◌≤◌, List, [], length, filter_map, true, false, OnOk, OnErr, IfOk, IfErr, IfSome};
-ghost use Rattle.lexmeaning.specs.Text.{Among};
-ghost use Rattle.lexmeaning.specs.PlainMachine.{kept_by, match_of};
-ghost use Rattle.lexmachine.specs.Views.{cut_of};
+ghost use Rattle.lex_semantics.specs.Text.{Among};
+ghost use Rattle.lex_semantics.specs.PlainMachine.{kept_by, match_of};
+ghost use Rattle.lextab_machine.specs.Views.{cut_of};
 ghost use Rattle.lexscan.specs.Reads.{write_fault_count};
 ghost use Rattle.lexscan.specs.Descends.{matches_of, conditions_of, finished_of, Tried, CutOff, CutAll, Performed};
 
@@ -11,8 +11,8 @@ use crate::error::RunError;
 use crate::intake::Outlet;
 use crate::trail::Trail;
 use crate::window::Window;
-use lexends::Sink;
-use lexmachine::{Cut, Machine};
+use lex_io::Sink;
+use lextab_machine::{Cut, Machine};
 
 /// What a cut keeps of a match of this many bytes, if it fits.
 pub fn kept(cut: Cut, len: usize) -> Option<usize>

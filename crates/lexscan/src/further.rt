@@ -1,7 +1,7 @@
 //! Several turns of a scan in one go.
 ghost use Rattle.std.specs.Prelude.{◌≡◌, ℕ, ◌+◌, ◌-◌, ◌^◌, ◌<◌, ◌≤◌, Bool, List, [], ◌++◌, length, take, drop, true, false, None, OnOk, OnErr, IfOk, IfErr};
-ghost use Rattle.lexmeaning.specs.Text.{AllBelow};
-ghost use Rattle.lexmeaning.specs.MachineLaws.{NoReject};
+ghost use Rattle.lex_semantics.specs.Text.{AllBelow};
+ghost use Rattle.lex_semantics.specs.MachineLaws.{NoReject};
 ghost use Rattle.lexscan.specs.Reads.{write_fault_count};
 ghost use Rattle.lexscan.specs.Stands.{NoneAfterEnd};
 ghost use Rattle.lexscan.specs.Bursts.{GoesFurther, NoEarlier};
@@ -12,8 +12,8 @@ use crate::burst::{Burst, burst_over};
 use crate::error::RunError;
 use crate::intake::{Intake, Outlet};
 use crate::state::{Spot, State};
-use lexends::{Sink, Source};
-use lexmachine::Machine;
+use lex_io::{Sink, Source};
+use lextab_machine::Machine;
 
 /// Goes to the place after some turns over the bytes held and those shown after them.
 #[inline(always)]

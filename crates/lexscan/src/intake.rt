@@ -1,10 +1,10 @@
 //! The two ends of a scan, each with what is known of its count of failures.
 ghost use Rattle.std.specs.Prelude.{◌≡◌, ℕ, ◌+◌, ◌-◌, ◌^◌, ◌<◌, ◌≤◌, List, [], ◌++◌, length, take, true, false, is_ok, OnOk, OnErr};
-ghost use Rattle.lexends.specs.Source.{given, end_count};
-ghost use Rattle.lexends.specs.Sink.{Appended, fault_count};
+ghost use Rattle.lex_io.specs.Source.{given, end_count};
+ghost use Rattle.lex_io.specs.Sink.{Appended, fault_count};
 ghost use Rattle.lexscan.specs.Answer.{gives_byte};
 
-use lexends::{ReadFault, Sink, Source, WriteFault};
+use lex_io::{ReadFault, Sink, Source, WriteFault};
 
 /// A source that may be called until it has failed or ended.
 #[derive(Drop)]

@@ -1,7 +1,7 @@
 //! What is known of walks over bytes that are held: Reps's table of pairs of a state and a place that lead to no match, kept
 //! for some places alone. (Reps, Maximal-munch tokenization in linear time, 1998.)
 ghost use Rattle.std.specs.Prelude.{◌≡◌, ℕ, ◌+◌, ◌-◌, ◌<◌, ◌≤◌, [], length, ◌⊎◌, true, IfSome};
-ghost use Rattle.lexmeaning.specs.Text.{Among};
+ghost use Rattle.lex_semantics.specs.Text.{Among};
 ghost use Rattle.lexscan.specs.Memos.{unmarked};
 
 use crate::cell::Cell;

@@ -1,9 +1,9 @@
 //! The longest match at a place, without the states before its last two.
 ghost use Rattle.std.specs.Prelude.{◌≡◌, ℕ, ◌+◌, ◌-◌, ◌^◌, ◌<◌, ◌≤◌, List, [], length, filter_map, Some, true, false, OnOk, OnErr, IfOk, IfErr, IfSome};
-ghost use Rattle.lexmeaning.specs.Text.{Among};
-ghost use Rattle.lexmeaning.specs.PlainMachine.{match_of};
-ghost use Rattle.lexmeaning.specs.Trail.{falling};
-ghost use Rattle.lexmeaning.specs.MachineLaws.{NoReject};
+ghost use Rattle.lex_semantics.specs.Text.{Among};
+ghost use Rattle.lex_semantics.specs.PlainMachine.{match_of};
+ghost use Rattle.lex_semantics.specs.Trail.{falling};
+ghost use Rattle.lex_semantics.specs.MachineLaws.{NoReject};
 ghost use Rattle.lexscan.specs.Reads.{write_fault_count};
 ghost use Rattle.lexscan.specs.Descends.{matches_of, CutAll, Performed, conditions_of, finished_of};
 ghost use Rattle.lexscan.specs.Picks.{IsFirst, HasStatements, Tells, trail_of};
@@ -14,8 +14,8 @@ use crate::error::RunError;
 use crate::intake::Outlet;
 use crate::state::Spot;
 use crate::window::Window;
-use lexends::Sink;
-use lexmachine::{Machine, Statement};
+use lex_io::Sink;
+use lextab_machine::{Machine, Statement};
 
 /// How many bytes a match asked for, the state after them, and the one before the last of them.
 #[derive(Clone, Copy)]

@@ -1,7 +1,7 @@
 //! What a scanner keeps of its source.
 ghost use Rattle.std.specs.Prelude.{◌≡◌, ℕ, ◌+◌, ◌-◌, ◌^◌, ◌<◌, ◌≤◌, List, [], ◌∷◌, ◌++◌, length, true, false, OnOk, OnErr, IfOk, IfErr, IsErrOf, ◌⊎◌, if◌then◌else◌};
-ghost use Rattle.lexends.specs.Source.{given};
-ghost use Rattle.lexmeaning.specs.Text.{IsText};
+ghost use Rattle.lex_io.specs.Source.{given};
+ghost use Rattle.lex_semantics.specs.Text.{IsText};
 ghost use Rattle.lexscan.specs.Walks.{Grown, end_of_stop, fault_of_stop, ends_at, goes};
 ghost use Rattle.lexscan.specs.Reads.{Took, IsThere, IsWanted, IsShort, is_end, read_fault_count, end_step};
 
@@ -10,8 +10,8 @@ use crate::intake::Intake;
 use crate::state::Reading;
 use crate::trail::Trail;
 use crate::window::{Stop, Walk};
-use lexends::Source;
-use lexmachine::Machine;
+use lex_io::Source;
+use lextab_machine::Machine;
 
 /// Takes the next byte into the window, or learns that there is none.
 #[inline]

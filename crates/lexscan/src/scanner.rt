@@ -1,6 +1,6 @@
 //! A scanner.
 ghost use Rattle.std.specs.Prelude.{◌≡◌, ℕ, ◌+◌, ◌-◌, ◌^◌, ◌<◌, ◌≤◌, List, [], ◌++◌, length, true, false, Some, None, Ok, Err, IsErrOf};
-ghost use Rattle.lexmeaning.specs.Text.{AllBelow};
+ghost use Rattle.lex_semantics.specs.Text.{AllBelow};
 ghost use Rattle.lexscan.specs.Reads.{read_fault_count, write_fault_count, end_step};
 ghost use Rattle.lexscan.specs.Memos.{AreTrue, AreTrue-prop};
 ghost use Rattle.lexscan.specs.Stacks.{AllBelow-prop};
@@ -12,8 +12,8 @@ use crate::memo::Memo;
 use crate::state::State;
 use crate::trail::Trail;
 use crate::turn::{Turn, turn_of};
-use lexends::{Sink, Source};
-use lexmachine::Machine;
+use lex_io::{Sink, Source};
+use lextab_machine::Machine;
 use std::alloc::Global;
 
 /// A scan of a source by a machine, to a sink.

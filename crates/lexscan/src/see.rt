@@ -1,6 +1,6 @@
 //! One match, which takes bytes from the source as it asks for them.
 ghost use Rattle.std.specs.Prelude.{◌≡◌, ℕ, ◌+◌, ◌-◌, ◌^◌, ◌<◌, ◌≤◌, List, [], length, true, false, OnOk, OnErr, IfOk, IfErr, IsErrOf, IfSome, drop, ◌⊎◌};
-ghost use Rattle.lexmeaning.specs.Text.{Among};
+ghost use Rattle.lex_semantics.specs.Text.{Among};
 ghost use Rattle.lexscan.specs.Reads.{Took, read_fault_count, end_step};
 ghost use Rattle.lexscan.specs.Sees.{SawOr, SoFar, Wants, Unmet};
 ghost use Rattle.lexscan.specs.Picks.{SawSome, Tells, trail_of, state_at};
@@ -12,8 +12,8 @@ use crate::reading::{fetch, fill};
 use crate::state::{Reading, Spot};
 use crate::trail::Trail;
 use crate::window::{Stop, Walk};
-use lexends::Source;
-use lexmachine::Machine;
+use lex_io::Source;
+use lextab_machine::Machine;
 
 /// Takes the bytes that a match asks for, and keeps the states after them. Answers false where there is none.
 pub fn see<M: Machine, S: Source>(

@@ -1,9 +1,9 @@
 //! The stack of start conditions.
 ghost use Rattle.std.specs.Prelude.{◌≡◌, List, [], ◌∷◌, true, false, IfSome, IfNone};
-ghost use Rattle.lexmeaning.specs.Acting.{has_room};
+ghost use Rattle.lex_semantics.specs.Acting.{has_room};
 
 use arrayvec::ArrayVec;
-use lexmeaning::MAX_STACK;
+use lex_semantics::MAX_STACK;
 use std::marker::Model;
 
 /// The conditions that pushes have put there, in an array of fixed capacity.

@@ -1,13 +1,13 @@
 //! A scan, one turn at a time, over the parts of a scanner.
 ghost use Rattle.std.specs.Prelude.{◌≡◌, ℕ, ◌+◌, ◌-◌, ◌^◌, ◌<◌, ◌≤◌, List, [], ◌∷◌, ◌++◌, length, true, false, Some, None, Ok, Err, OnOk, OnErr, IfOk, IfErr, IfSome, IsErrOf, nat_eq, get_or, ◌⊎◌};
-ghost use Rattle.lexends.specs.Sink.{Appended};
-ghost use Rattle.lexmeaning.specs.Text.{Among, AllBelow};
+ghost use Rattle.lex_io.specs.Sink.{Appended};
+ghost use Rattle.lex_semantics.specs.Text.{Among, AllBelow};
 ghost use Rattle.lexscan.specs.Reads.{read_fault_count, write_fault_count, end_step};
 ghost use Rattle.lexscan.specs.Sees.{Wants};
 ghost use Rattle.lexscan.specs.Descends.{matches_of, conditions_at, CutAll, Faulted};
-ghost use Rattle.lexmeaning.specs.MachineLaws.{NoReject};
+ghost use Rattle.lex_semantics.specs.MachineLaws.{NoReject};
 ghost use Rattle.lexscan.specs.Picks.{IsFirst, HasStatements, Tells, trail_of};
-ghost use Rattle.lexmeaning.specs.Trail.{falling};
+ghost use Rattle.lex_semantics.specs.Trail.{falling};
 ghost use Rattle.lexscan.specs.Backs.{IsOpen};
 ghost use Rattle.lexscan.specs.declared.memo.Mark.{Mark};
 ghost use Rattle.lexscan.specs.Memos.{AreTrue};
@@ -24,8 +24,8 @@ use crate::pick::{Pick, Seen, carry_pick, near_end, walk_again};
 use crate::see::{see, see_last, see_more};
 use crate::state::State;
 use crate::trail::Trail;
-use lexends::{Sink, Source};
-use lexmachine::Machine;
+use lex_io::{Sink, Source};
+use lextab_machine::Machine;
 
 /// How many bytes a match goes over again at most, before what was known of walks over them is kept.
 const BACKLOG: usize = 128;

@@ -1,8 +1,8 @@
 //! A whole run.
 ghost use Rattle.std.specs.Prelude.{◌≡◌, ℕ, ◌+◌, ◌-◌, ◌^◌, ◌<◌, ◌≤◌, List, [], length, true, false, None, IsErrOf, nat_lt};
-ghost use Rattle.lexmeaning.specs.Machine.{rules_of_machine};
-ghost use Rattle.lexmeaning.specs.MachineLaws.{NoReject};
-ghost use Rattle.lexmeaning.specs.Text.{AllBelow};
+ghost use Rattle.lex_semantics.specs.Machine.{rules_of_machine};
+ghost use Rattle.lex_semantics.specs.MachineLaws.{NoReject};
+ghost use Rattle.lex_semantics.specs.Text.{AllBelow};
 ghost use Rattle.lexscan.specs.Memos.{AreTrue};
 ghost use Rattle.lexscan.specs.Reads.{read_fault_count, write_fault_count};
 ghost use Rattle.lexscan.specs.Stands.{Stands};
@@ -15,8 +15,8 @@ use crate::memo::Memo;
 use crate::state::State;
 use crate::trail::Trail;
 use crate::turn::{Turn, back_turn, has_backlog, quiet_turn, told_turn};
-use lexends::{Sink, Source};
-use lexmachine::Machine;
+use lex_io::{Sink, Source};
+use lextab_machine::Machine;
 use std::alloc::Global;
 
 /// How many bytes of the source are shown at once, at most and at least.

@@ -3,8 +3,8 @@ ghost use Rattle.std.specs.Prelude.{◌≡◌, ℕ, ◌+◌, ◌-◌, ◌<◌, �
 ghost use Rattle.lexscan.specs.Walks.{Filled, end_of_stop, fault_of_stop, goes};
 
 use crate::intake::Intake;
-use lexends::Source;
-use lexmachine::Machine;
+use lex_io::Source;
+use lextab_machine::Machine;
 use std::alloc::{AllocError, Global};
 use std::marker::Model;
 

@@ -2,8 +2,8 @@
 use Rattle.std.proofs.Common.{◌≡◌, ℕ, ◌+◌, ◌≤◌, ◌<◌, Bool, true, false, List, [], ◌∷◌, map, length, inl, inr, refl, sym, ap, subst, ◌∙◌, arith, length-append}
 use Rattle.std.specs.Prelude.{codes}
 use Rattle.std.proofs.lemmas.List.{length-map}
-use Rattle.lexmeaning.specs.Spec as S
-use Rattle.lexmeaning.specs.Reading.{take_up_to, begins}
+use Rattle.lex_semantics.specs.Spec as S
+use Rattle.lex_semantics.specs.Reading.{take_up_to, begins}
 use Rattle.lexspec.specs.Items.{Trailing, Subject, at_end, matching, Action, bar, spelled, Item, skipped, skipped_line, skipped_block, rule, IsSubject, IsItem, AreItems, starts_rule, action_of}
 use Rattle.lexspec.specs.RuleItems.{EndRule, AreRules}
 use Rattle.lexspec.specs.RuleReads.{acting, first_statements}
@@ -11,17 +11,17 @@ use Rattle.lexspec.specs.Keeping.{HasRoom}
 use Rattle.lexspec.specs.EndOpenings.{opens_end, begins_end}
 use Rattle.lexspec.specs.RuleViews.{rule_of}
 use Rattle.lexspec.specs.ItemReads.{names_in, ReadsFront, NoneLeft}
-use Rattle.lexlines.specs.declared.declarations.Declarations.{Declarations}
+use Rattle.lexspec_lines.specs.declared.declarations.Declarations.{Declarations}
 use Rattle.lexspec.specs.declared.rule_text.Front.{Front}
 use Rattle.lexspec.specs.declared.rule_text.Front.TheVariants as F
 use Rattle.lexspec.specs.declared.rules_so_far.RulesSoFar.{RulesSoFar}
-use Rattle.lexlines.proofs.OneSection.{no_true, two_percents}
+use Rattle.lexspec_lines.proofs.OneSection.{no_true, two_percents}
 use Rattle.lexspec.proofs.OneItems.{both_ways, AllBlank, StartsBlank, OpensBlock, tests_of, rule_tests, not_caret}
 use Rattle.lexspec.proofs.RulesLaws.{ActsAs, invert}
-use Rattle.lexmeaning.specs.Limits.{max_rules}
+use Rattle.lex_semantics.specs.Limits.{max_rules}
 
 module _ (d : Declarations) where
-  no_action : (w : List S.Rule) (s : Subject) (u v : List ℕ) (action : Action) → (w ≡ [] → ⊥) → IsSubject u s v → begins (codes "<<EOF>>") u ≡ true → ActsAs (names_in d) d.options d.stack d.defs w s action → ⊥
+  no_action : (w : List S.Rule) (s : Subject) (u v : List ℕ) (action : Action) → (w ≡ [] → ⊥) → IsSubject u s v → begins (codes "<<EOF>>") u ≡ true → ActsAs (names_in d) d.options d.stack d.definitions w s action → ⊥
   no_action w at_end u v bar some is on acts = acts
   no_action w at_end u v (spelled text) some is on (empty, e, spells) = some empty
   no_action w (matching true head after) u v action some (caret, not_end, p) on acts = both_ways (begins (codes "^") u) caret (not_caret u on)
@@ -29,12 +29,12 @@ module _ (d : Declarations) where
 
   pub end_refused : (s : RulesSoFar) (n : ℕ) (t : List ℕ) → starts_rule t ≡ true → begins_end t ≡ true → (length s.waiting.items ≡ 0 → ⊥) → NoneLeft d s n t
   end_refused s n t starts on some R E left may =
-      let h = invert (names_in d) d.options d.stack d.defs n t (map rule_of s.waiting.items) R E starts left in
+      let h = invert (names_in d) d.options d.stack d.definitions n t (map rule_of s.waiting.items) R E starts left in
       no_action (map rule_of s.waiting.items) h.subject h.u h.v (action_of h.text) (λ empty. some (sym (length-map s.waiting.items rule_of) ∙ ap length empty)) h.cut (sym (ap opens_end h.list) ∙ on) h.acts
 
   -- a text that begins with another rule spells one rule at least
   some_later : (n : ℕ) (t : List ℕ) (later : List S.Rule) (E : List EndRule) (items : List (ℕ × Item)) → starts_rule t ≡ true → begins_end t ≡ false → AreItems n t items
-      → AreRules (names_in d) d.options d.stack d.defs items later E → 1 ≤ length later
+      → AreRules (names_in d) d.options d.stack d.definitions items later E → 1 ≤ length later
   unfolding take_up_to
   some_later n t later E [] starts off (inl e) are = no_true (sym (ap starts_rule e) ∙ starts)
   some_later n t later E [] starts off (inr e) are = let p = two_percents t e in no_true (sym (rule_tests (37 ∷ 37 ∷ p.0) (subst (λ z. starts_rule z ≡ true) p.1 starts)).2)

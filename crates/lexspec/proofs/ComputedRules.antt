@@ -1,7 +1,7 @@
 -- The worked examples of condition lists and actions, computed.
 use Rattle.std.proofs.Common.{refl}
-use Rattle.lexmeaning.specs.ByteSets.{is_blank}
-use Rattle.lexmeaning.specs.Reading.{take_up_to}
+use Rattle.lex_semantics.specs.ByteSets.{is_blank}
+use Rattle.lex_semantics.specs.Reading.{take_up_to}
 use Rattle.lexspec.specs.Items.{conditions_at}
 use Rattle.lexspec.specs.RuleExamples.{ConditionLists, Actions}
 

@@ -2,15 +2,15 @@
 use Rattle.std.proofs.Common.{◌≡◌, ℕ, ◌≤◌, ◌==◌, ◌&&◌, Bool, true, false, length, Option, Some, None, refl, sym, ap, subst, ◌∙◌, arith, rules}
 use Rattle.std.specs.Prelude.{IfSome, IfNone, nat_le, not}
 use Rattle.std.proofs.lemmas.Bool.{and_parts, and_from, eq-eqb, eqb-true, leb-true}
-use Rattle.lexmeaning.specs.Shapes.{Language, LongestIs, HasLengths, IsSoundTree}
-use Rattle.lexmeaning.specs.Tree.{Tree, In}
-use Rattle.lexmeaning.specs.Spec.{Cut, Whole, Head, Trail}
+use Rattle.lex_semantics.specs.Shapes.{Language, LongestIs, HasLengths, IsSoundTree}
+use Rattle.lex_semantics.specs.Tree.{Tree, In}
+use Rattle.lex_semantics.specs.Spec.{Cut, Whole, Head, Trail}
 use Rattle.lexre.specs.Lengths.{least, greatest}
 use Rattle.lexre.proofs.LengthLaws.{has_lengths}
-use Rattle.lexmeaning.specs.Sound.{HasFixed, IsCutOf}
+use Rattle.lex_semantics.specs.Sound.{HasFixed, IsCutOf}
 use Rattle.lexspec.specs.RuleItems.{is_number}
 use Rattle.lexspec.specs.Tests.{has_length, has_fixed, is_fixed, is_whole, cut_fits}
-use Rattle.lexmeaning.specs.Limits.{max_fixed_length}
+use Rattle.lex_semantics.specs.Limits.{max_fixed_length}
 
 one_least : (L : Language) (m n : ℕ) (g h : Option ℕ) → HasLengths L m g → HasLengths L n h → m ≡ n
 one_least L m n g h a b =

@@ -1,13 +1,13 @@
 -- What follows an item of the rules section is the end of its text.
 use Rattle.std.proofs.Common.{◌≡◌, ℕ, zero, suc, ◌+◌, ◌==◌, ◌&&◌, ◌||◌, Bool, true, false, not, if◌then◌else◌, List, [], ◌∷◌, length, drop, Option, Some, None, refl, ap, subst, sym}
 use Rattle.std.specs.Prelude.{codes}
-use Rattle.lexmeaning.specs.ByteSets.{is_word, is_blank}
-use Rattle.lexmeaning.specs.Reading.{after_blanks, begins, take_up_to}
-use Rattle.lexaction.specs.Comments as C
-use Rattle.lexaction.specs.Comments.{slash, block, star, line, after_byte}
-use Rattle.lexlines.specs.Lines.{line_in, blanks}
+use Rattle.lex_semantics.specs.ByteSets.{is_word, is_blank}
+use Rattle.lex_semantics.specs.Reading.{after_blanks, begins, take_up_to}
+use Rattle.lexspec_actions.specs.Comments as C
+use Rattle.lexspec_actions.specs.Comments.{slash, block, star, line, after_byte}
+use Rattle.lexspec_lines.specs.Lines.{line_in, blanks}
 use Rattle.lexspec.specs.Items.{Place, code, outside, string, escaped, action_in, with_byte, next_place, depth_after, Conditions, unlisted, every, only, parts_at, before_sign, conditions_at, Subject, at_end, matching, IsSubject, Item, skipped, skipped_line, skipped_block, rule, IsItem}
-use Rattle.lexlines.proofs.SectionLaws.{EndsWith, ends_on, after_line, after_block_ends, dropped, Each, each_some, each_none, each_if, each_bind}
+use Rattle.lexspec_lines.proofs.SectionLaws.{EndsWith, ends_on, after_line, after_block_ends, dropped, Each, each_some, each_none, each_if, each_bind}
 use Rattle.lexspec.proofs.OneItems.{line_text}
 
 abbrev Split : Type 0

@@ -8,12 +8,12 @@ use Rattle.std.proofs.lemmas.List.Sums.{sum_by-cons, sum_by-append}
 use Rattle.lexspec.specs.Files.{lists_number, is_unlisted, AreSingle}
 use Rattle.lexspec.specs.Items.{Conditions, unlisted, every, only}
 use Rattle.lexspec.specs.RuleItems.{EndRule, all_numbered, is_number, numbers_of}
-use Rattle.lexmeaning.specs.Text.{listed}
+use Rattle.lex_semantics.specs.Text.{listed}
 use Rattle.lexspec.specs.EndRules.{end_rule_of}
 use Rattle.lexspec.specs.declared.endings.EndRule.{EndRule as EndRuleKept}
 use Rattle.lexspec.specs.Tests.{ascend_from, sound_list}
 use Rattle.lexspec.specs.Endings.{numbers_kept, clashes, any_clashes}
-use Rattle.lexlines.proofs.OneSection.{no_true}
+use Rattle.lexspec_lines.proofs.OneSection.{no_true}
 
 -- counts
 

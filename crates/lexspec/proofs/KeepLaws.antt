@@ -1,15 +1,15 @@
 -- What the rules that are read so far keep to, after one rule more.
 use Rattle.std.proofs.Common.{◌≡◌, ℕ, ◌+◌, List, [], ◌∷◌, ◌++◌, map, length, refl, sym, ap, subst, ◌∙◌, arith, length-append}
 use Rattle.std.proofs.lemmas.List.{map-append, length-map}
-use Rattle.lexmeaning.specs.Spec as S
+use Rattle.lex_semantics.specs.Spec as S
 use Rattle.lexspec.specs.Files.{AreSingle}
 use Rattle.lexspec.specs.EndRules.{end_rule_of}
 use Rattle.lexspec.specs.RuleReads.{acting}
 use Rattle.lexspec.specs.RuleViews.{rule_of}
 use Rattle.lexspec.specs.Keeping.{HasRoom, Keeps}
 use Rattle.lexspec.specs.SoundSides.{HasSoundFront}
-use Rattle.lexmeaning.specs.Sound.{HaveSoundSides}
-use Rattle.lexlines.specs.declared.declarations.Declarations.{Declarations}
+use Rattle.lex_semantics.specs.Sound.{HaveSoundSides}
+use Rattle.lexspec_lines.specs.declared.declarations.Declarations.{Declarations}
 use Rattle.lexspec.specs.declared.endings.EndRule.{EndRule}
 use Rattle.lexspec.specs.declared.rule_text.Front.TheVariants as F
 use Rattle.lexspec.specs.declared.rule.Rule.{Rule}

@@ -3,13 +3,13 @@ use Rattle.std.proofs.Common.{◌≡◌, ℕ, zero, suc, ◌+◌, ◌-◌, ◌<�
 use Rattle.std.specs.Prelude.{replicate, slice_set, IfNone}
 use Rattle.std.proofs.lemmas.Bool.{eqb-true, eqb-false}
 use Rattle.std.specs.List.{list_any}
-use Rattle.lexmeaning.specs.Reading.{take_up_to}
-use Rattle.lexlines.specs.Runs.{split_before}
+use Rattle.lex_semantics.specs.Reading.{take_up_to}
+use Rattle.lexspec_lines.specs.Runs.{split_before}
 use Rattle.lexspec.specs.Items.{parts_at}
 use Rattle.lexspec.specs.RuleItems.{all_numbered, is_number}
-use Rattle.lexmeaning.specs.Text.{listed}
+use Rattle.lex_semantics.specs.Text.{listed}
 use Rattle.lexspec.specs.SubjectViews.{parts}
-use Rattle.lexmeaning.specs.Limits.{max_conditions}
+use Rattle.lex_semantics.specs.Limits.{max_conditions}
 
 abbrev Split : Type 0
 Split = List ℕ × List ℕ

@@ -4,11 +4,11 @@ use Rattle.std.specs.Prelude.{codes, nat_eq, not, ◌&&◌, ◌||◌}
 use Rattle.std.specs.List.{list_any}
 use Rattle.std.proofs.lemmas.Bool.{and_parts, or_parts, eqb-true}
 use Rattle.lexre.specs.Cutting.{IsCutting}
-use Rattle.lexmeaning.specs.Reading.{after_blanks, begins, take_up_to}
-use Rattle.lexmeaning.specs.ByteSets.{is_blank}
-use Rattle.lexlines.specs.Lines.{line_in, line_at, newlines, is_all_blank}
+use Rattle.lex_semantics.specs.Reading.{after_blanks, begins, take_up_to}
+use Rattle.lex_semantics.specs.ByteSets.{is_blank}
+use Rattle.lexspec_lines.specs.Lines.{line_in, line_at, newlines, is_all_blank}
 use Rattle.lexspec.specs.Items.{Conditions, Trailing, Subject, at_end, matching, Action, Item, skipped, skipped_line, skipped_block, rule, action_in, outside, action_of, sides, starts_rule, IsPattern, IsSubject, IsItem, AreItems}
-use Rattle.lexlines.proofs.OneSection.{no_true, two_percents, some_pair}
+use Rattle.lexspec_lines.proofs.OneSection.{no_true, two_percents, some_pair}
 
 pub both_ways : {A : Type 0} (b : Bool) → b ≡ true → b ≡ false → A
 both_ways b h k = no_true (sym k ∙ h)

@@ -2,24 +2,24 @@
 use Rattle.std.proofs.Common.{◌≡◌, ℕ, ◌+◌, ◌-◌, ◌≤◌, Bool, List, [], ◌∷◌, length, Option, Some, None, sym, ◌∙◌, ap, subst, arith}
 use Rattle.std.specs.Prelude.{codes, ◌||◌}
 use Rattle.std.specs.FinMap.{from_entries}
-use Rattle.lexmeaning.specs.Tree.{Tree, In}
-use Rattle.lexmeaning.specs.Shapes.{Language, HasLengths}
-use Rattle.lexmeaning.specs.Spec.{Spec, EndAction, Statement, Cut, Whole, Head, Trail, Rule}
+use Rattle.lex_semantics.specs.Tree.{Tree, In}
+use Rattle.lex_semantics.specs.Shapes.{Language, HasLengths}
+use Rattle.lex_semantics.specs.Spec.{Spec, EndAction, Statement, Cut, Whole, Head, Trail, Rule}
 use Rattle.lexre.specs.Definitions.{Definitions}
 use Rattle.lexre.specs.Spelling.{Spells}
 use Rattle.lexre.specs.Cutting.{IsCutting}
-use Rattle.lexaction.specs.Names.{Known, known_in}
-use Rattle.lexaction.specs.Actions.{SpellsEndAction, end_of}
-use Rattle.lexaction.proofs.OneAction.{one_statements}
-use Rattle.lexlines.specs.Lines.{without_returns, line_in, newlines}
-use Rattle.lexlines.specs.DefinitionLines.{definition_at, all_conditions, names_of, has_name, substitutes_of, all_options}
+use Rattle.lexspec_actions.specs.Names.{Known, known_in}
+use Rattle.lexspec_actions.specs.Actions.{SpellsEndAction, end_of}
+use Rattle.lexspec_actions.proofs.OneAction.{one_statements}
+use Rattle.lexspec_lines.specs.Lines.{without_returns, line_in, newlines}
+use Rattle.lexspec_lines.specs.DefinitionLines.{definition_at, all_conditions, names_of, has_name, substitutes_of, all_options}
 use Rattle.lexspec.specs.Items.{Conditions, Trailing, no_trail, line_end, pattern_after, at_end, matching, Action, bar, spelled, Item, skipped, skipped_line, skipped_block, rule, AreItems}
-use Rattle.lexmeaning.specs.Sound.{HasFixed, IsCutOf}
+use Rattle.lex_semantics.specs.Sound.{HasFixed, IsCutOf}
 use Rattle.lexspec.specs.RuleItems.{IsTrail, EndRule, IsActionOf, IsRule, AreRules}
 use Rattle.lexspec.specs.Files.{conditions_with, SpellsSpec}
-use Rattle.lexlines.proofs.OneSection.{one_up_to, separator_ends}
+use Rattle.lexspec_lines.proofs.OneSection.{one_up_to, separator_ends}
 use Rattle.lexspec.proofs.OneItems.{one_items}
-use Rattle.lexlines.specs.Folding.{with_fold}
+use Rattle.lexspec_lines.specs.Folding.{with_fold}
 use Rattle.lexre.specs.declared.options.ReadOptions.{ReadOptions}
 
 -- lengths are determined
@@ -45,27 +45,27 @@ one_cut head (Some t) a Whole h k = absurd k
 pub some_is : {A : Type 0} (x y : A) → Some x ≡ Some y → x ≡ y
 some_is x y e = cc
 
-module _ (tree_once : (how : ReadOptions) (defs : Definitions) (text : List ℕ) (t u : Tree) → Spells how defs text t → Spells how defs text u → t ≡ u) where
-  pub one_trail : (how : ReadOptions) (defs : Definitions) (after : Trailing) (t u : Option Tree) → IsTrail how defs after t → IsTrail how defs after u → t ≡ u
-  one_trail how defs no_trail t u h k = h ∙ sym k
-  one_trail how defs line_end t u h k = h ∙ sym k
-  one_trail how defs (pattern_after text) None u h k = absurd h
-  one_trail how defs (pattern_after text) (Some t) None h k = absurd k
-  one_trail how defs (pattern_after text) (Some t) (Some u) h k = ap Some (tree_once how defs text t u h k)
+module _ (tree_once : (how : ReadOptions) (definitions : Definitions) (text : List ℕ) (t u : Tree) → Spells how definitions text t → Spells how definitions text u → t ≡ u) where
+  pub one_trail : (how : ReadOptions) (definitions : Definitions) (after : Trailing) (t u : Option Tree) → IsTrail how definitions after t → IsTrail how definitions after u → t ≡ u
+  one_trail how definitions no_trail t u h k = h ∙ sym k
+  one_trail how definitions line_end t u h k = h ∙ sym k
+  one_trail how definitions (pattern_after text) None u h k = absurd h
+  one_trail how definitions (pattern_after text) (Some t) None h k = absurd k
+  one_trail how definitions (pattern_after text) (Some t) (Some u) h k = ap Some (tree_once how definitions text t u h k)
 
   one_action : (known : Known) (action : Action) (rules : List Rule) (ss tt : List Statement) → IsActionOf known action rules ss → IsActionOf known action rules tt → ss ≡ tt
   one_action known (spelled text) rules ss tt h k = one_statements known text ss tt h.0 k.0
   one_action known bar [] ss tt h k = absurd h
   one_action known bar (r ∷ rules) ss tt h k = h ∙ sym k
 
-  pub one_rule : (names : List (List ℕ)) (how : ReadOptions) (stack : Bool) (defs : Definitions) (n : ℕ) (asked : Conditions) (anchored : Bool) (head : List ℕ) (after : Trailing) (action : Action) (is : List (ℕ × Item)) (rules : List Rule) (q r : Rule) →
-      IsRule names how stack defs n asked anchored head after action is rules q → IsRule names how stack defs n asked anchored head after action is rules r → q ≡ r
-  one_rule names how stack defs n asked anchored head after action is rules q r h k =
+  pub one_rule : (names : List (List ℕ)) (how : ReadOptions) (stack : Bool) (definitions : Definitions) (n : ℕ) (asked : Conditions) (anchored : Bool) (head : List ℕ) (after : Trailing) (action : Action) (is : List (ℕ × Item)) (rules : List Rule) (q r : Rule) →
+      IsRule names how stack definitions n asked anchored head after action is rules q → IsRule names how stack definitions n asked anchored head after action is rules r → q ≡ r
+  one_rule names how stack definitions n asked anchored head after action is rules q r h k =
       let line : q.line ≡ r.line = h.front.line_is ∙ sym k.front.line_is in
       let conditions : q.conditions ≡ r.conditions = some_is q.conditions r.conditions (sym h.front.listed ∙ k.front.listed) in
       let anchor : q.anchored ≡ r.anchored = h.front.anchor ∙ sym k.front.anchor in
-      let same_head : q.head ≡ r.head = tree_once how defs head q.head r.head h.front.head_is k.front.head_is in
-      let same_trail : q.trail ≡ r.trail = one_trail how defs after q.trail r.trail h.front.trail_is k.front.trail_is in
+      let same_head : q.head ≡ r.head = tree_once how definitions head q.head r.head h.front.head_is k.front.head_is in
+      let same_trail : q.trail ≡ r.trail = one_trail how definitions after q.trail r.trail h.front.trail_is k.front.trail_is in
       let cut : q.cut ≡ r.cut = one_cut r.head r.trail q.cut r.cut (subst (λ z. IsCutOf r.head z q.cut) same_trail (subst (λ z. IsCutOf z q.trail q.cut) same_head h.front.cut_is)) k.front.cut_is in
       let statements : q.statements ≡ r.statements = one_action (known_in names stack) action rules q.statements r.statements h.statements_are k.statements_are in
       λ i. record { line = line i; conditions = conditions i; anchored = anchor i; head = same_head i; trail = same_trail i; cut = cut i; statements = statements i }
@@ -76,26 +76,26 @@ module _ (tree_once : (how : ReadOptions) (defs : Definitions) (text : List ℕ)
       some_is e f (sym is ∙ ap end_of same ∙ is')
 
   -- the rules and the ends of items are determined
-  one_rules : (names : List (List ℕ)) (how : ReadOptions) (stack : Bool) (defs : Definitions) (is : List (ℕ × Item)) (qs rs : List Rule) (es fs : List EndRule) →
-      AreRules names how stack defs is qs es → AreRules names how stack defs is rs fs → (qs ≡ rs) × (es ≡ fs)
-  one_rules names how stack defs [] qs rs es fs h k = (h.0 ∙ sym k.0, h.1 ∙ sym k.1)
-  one_rules names how stack defs ((n, skipped) ∷ is) qs rs es fs h k = one_rules names how stack defs is qs rs es fs h k
-  one_rules names how stack defs ((n, skipped_line) ∷ is) qs rs es fs h k = one_rules names how stack defs is qs rs es fs h k
-  one_rules names how stack defs ((n, skipped_block) ∷ is) qs rs es fs h k = one_rules names how stack defs is qs rs es fs h k
-  one_rules names how stack defs ((n, rule asked at_end bar) ∷ is) qs rs es fs h k = absurd h
-  one_rules names how stack defs ((n, rule asked at_end (spelled text)) ∷ is) qs rs es fs (numbers, e, others, listed, spells, all, more) (numbers', e', others', listed', spells', all', more') =
+  one_rules : (names : List (List ℕ)) (how : ReadOptions) (stack : Bool) (definitions : Definitions) (is : List (ℕ × Item)) (qs rs : List Rule) (es fs : List EndRule) →
+      AreRules names how stack definitions is qs es → AreRules names how stack definitions is rs fs → (qs ≡ rs) × (es ≡ fs)
+  one_rules names how stack definitions [] qs rs es fs h k = (h.0 ∙ sym k.0, h.1 ∙ sym k.1)
+  one_rules names how stack definitions ((n, skipped) ∷ is) qs rs es fs h k = one_rules names how stack definitions is qs rs es fs h k
+  one_rules names how stack definitions ((n, skipped_line) ∷ is) qs rs es fs h k = one_rules names how stack definitions is qs rs es fs h k
+  one_rules names how stack definitions ((n, skipped_block) ∷ is) qs rs es fs h k = one_rules names how stack definitions is qs rs es fs h k
+  one_rules names how stack definitions ((n, rule asked at_end bar) ∷ is) qs rs es fs h k = absurd h
+  one_rules names how stack definitions ((n, rule asked at_end (spelled text)) ∷ is) qs rs es fs (numbers, e, others, listed, spells, all, more) (numbers', e', others', listed', spells', all', more') =
       let same : numbers ≡ numbers' = some_is numbers numbers' (sym listed ∙ listed') in
       let end : e ≡ e' = one_end (known_in names stack) text e e' spells spells' in
-      let later = one_rules names how stack defs is qs rs others others' more more' in
+      let later = one_rules names how stack definitions is qs rs others others' more more' in
       let pair : ◌≡◌ {A = EndRule} (numbers, e) (numbers', e') = ap (λ z. (z, e)) same ∙ ap (λ z. (numbers', z)) end in
       (later.0, all ∙ ap (λ z. z ∷ others) pair ∙ ap (λ z. (numbers', e') ∷ z) later.1 ∙ sym all')
-  one_rules names how stack defs ((n, rule asked (matching anchored head after) (spelled text)) ∷ is) qs rs es fs (q, others, all, one, more) (r, others', all', one', more') =
-      let later = one_rules names how stack defs is others others' es fs more more' in
-      let same : q ≡ r = one_rule names how stack defs n asked anchored head after (spelled text) is others' q r (subst (λ z. IsRule names how stack defs n asked anchored head after (spelled text) is z q) later.0 one) one' in
+  one_rules names how stack definitions ((n, rule asked (matching anchored head after) (spelled text)) ∷ is) qs rs es fs (q, others, all, one, more) (r, others', all', one', more') =
+      let later = one_rules names how stack definitions is others others' es fs more more' in
+      let same : q ≡ r = one_rule names how stack definitions n asked anchored head after (spelled text) is others' q r (subst (λ z. IsRule names how stack definitions n asked anchored head after (spelled text) is z q) later.0 one) one' in
       (all ∙ ap (λ z. z ∷ others) same ∙ ap (λ z. r ∷ z) later.0 ∙ sym all', later.1)
-  one_rules names how stack defs ((n, rule asked (matching anchored head after) bar) ∷ is) qs rs es fs (q, others, all, one, more) (r, others', all', one', more') =
-      let later = one_rules names how stack defs is others others' es fs more more' in
-      let same : q ≡ r = one_rule names how stack defs n asked anchored head after bar is others' q r (subst (λ z. IsRule names how stack defs n asked anchored head after bar is z q) later.0 one) one' in
+  one_rules names how stack definitions ((n, rule asked (matching anchored head after) bar) ∷ is) qs rs es fs (q, others, all, one, more) (r, others', all', one', more') =
+      let later = one_rules names how stack definitions is others others' es fs more more' in
+      let same : q ≡ r = one_rule names how stack definitions n asked anchored head after bar is others' q r (subst (λ z. IsRule names how stack definitions n asked anchored head after bar is z q) later.0 one) one' in
       (all ∙ ap (λ z. z ∷ others) same ∙ ap (λ z. r ∷ z) later.0 ∙ sym all', later.1)
 
   module _ (cut_once : (t : List ℕ) (stop stop' : ℕ) (at at' : Option ℕ) (two two' special special' : Bool) → IsCutting t stop at two special → IsCutting t stop' at' two' special' →

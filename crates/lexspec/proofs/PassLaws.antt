@@ -3,29 +3,29 @@ use Rattle.std.proofs.Common.{◌≡◌, ℕ, suc, ◌≤◌, Bool, true, false,
 use Rattle.std.specs.Prelude.{nat_le, sum_by}
 use Rattle.std.proofs.lemmas.Bool.{and_parts, and_from, le-leb, leb-true}
 use Rattle.std.proofs.lemmas.List.{length-map}
-use Rattle.lexmeaning.specs.Shapes.{IsSoundTree}
-use Rattle.lexmeaning.specs.Tree.{Tree}
-use Rattle.lexmeaning.specs.Legal.{all_in_range, ends_last, are_joined, are_compatible}
-use Rattle.lexmeaning.specs.Spec.{Rule, Statement, Print, End, EndAction, Condition}
+use Rattle.lex_semantics.specs.Shapes.{IsSoundTree}
+use Rattle.lex_semantics.specs.Tree.{Tree}
+use Rattle.lex_semantics.specs.Legal.{all_in_range, ends_last, are_joined, are_compatible}
+use Rattle.lex_semantics.specs.Spec.{Rule, Statement, Print, End, EndAction, Condition}
 use Rattle.lexre.specs.Definitions.{Definitions}
-use Rattle.lexaction.specs.Names.{number_from, known_in}
-use Rattle.lexaction.specs.Actions.{are_few, end_of, SpellsAction}
-use Rattle.lexaction.specs.Statements.{literal_bytes}
-use Rattle.lexaction.proofs.NormalLemmas.{legal_action, end_status}
-use Rattle.lexlines.specs.DefinitionLines.{Declared, names_of}
+use Rattle.lexspec_actions.specs.Names.{number_from, known_in}
+use Rattle.lexspec_actions.specs.Actions.{are_few, end_of, SpellsAction}
+use Rattle.lexspec_actions.specs.Statements.{literal_bytes}
+use Rattle.lexspec_actions.proofs.NormalLemmas.{legal_action, end_status}
+use Rattle.lexspec_lines.specs.DefinitionLines.{Declared, names_of}
 use Rattle.lexspec.specs.Files.{lists_number, unlisted_end, end_in, conditions_with}
 use Rattle.lexspec.specs.Items.{Conditions, Trailing, at_end, matching, Action, bar, spelled, Item, skipped, skipped_line, skipped_block, rule}
 use Rattle.lexspec.specs.RuleItems.{EndRule, IsActionOf, IsRule, AreRules}
-use Rattle.lexlines.specs.Declaring.{declared_of}
+use Rattle.lexspec_lines.specs.Declaring.{declared_of}
 use Rattle.lexspec.specs.ItemReads.{names_in}
-use Rattle.lexlines.specs.declared.declarations.Declarations.{Declarations}
-use Rattle.lexmeaning.specs.Sound.{HaveSoundSides, HasSoundSides}
+use Rattle.lexspec_lines.specs.declared.declarations.Declarations.{Declarations}
+use Rattle.lex_semantics.specs.Sound.{HaveSoundSides, HasSoundSides}
 use Rattle.lexspec.specs.Tests.{sound_tree, sound_trail, cut_fits, sound_list, legal_action as legal_test, sound_rule, sound_rules, sound_end, sound_conditions, is_sound}
 use Rattle.lexspec.proofs.CutLaws.{cut_is_tested}
-use Rattle.lexlines.proofs.DeclaringLaws.{names_kept}
+use Rattle.lexspec_lines.proofs.DeclaringLaws.{names_kept}
 use Rattle.lexspec.proofs.EndingLaws.{numbers_ordered}
 use Rattle.lexspec.proofs.TestLaws.{sound_is_tested}
-use Rattle.lexmeaning.specs.Limits.{max_conditions, max_statements, max_literal_bytes, max_status, max_rules}
+use Rattle.lex_semantics.specs.Limits.{max_conditions, max_statements, max_literal_bytes, max_status, max_rules}
 use Rattle.lexre.specs.declared.options.ReadOptions.{ReadOptions}
 
 -- rules

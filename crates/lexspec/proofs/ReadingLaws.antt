@@ -5,37 +5,37 @@ use Rattle.std.specs.FinMap.{from_entries}
 use Rattle.std.proofs.lemmas.List.{length-map}
 use Rattle.std.proofs.lemmas.List.Sums.{sum_by-cons}
 use Rattle.std.proofs.lemmas.Bool.{and_parts, eqb-true}
-use Rattle.lexmeaning.specs.Spec.{Spec}
-use Rattle.lexmeaning.specs.Reading.{begins}
-use Rattle.lexlines.specs.Lines.{without_returns, line_in, newlines}
-use Rattle.lexlines.specs.DefinitionLines.{Definition, definition_at, IsUpTo, all_conditions, names_of, has_name, substitutes_of, all_options}
-use Rattle.lexlines.specs.Declaring.{declared_of, AreAllowed}
+use Rattle.lex_semantics.specs.Spec.{Spec}
+use Rattle.lex_semantics.specs.Reading.{begins}
+use Rattle.lexspec_lines.specs.Lines.{without_returns, line_in, newlines}
+use Rattle.lexspec_lines.specs.DefinitionLines.{Definition, definition_at, IsUpTo, all_conditions, names_of, has_name, substitutes_of, all_options}
+use Rattle.lexspec_lines.specs.Declaring.{declared_of, AreAllowed}
 use Rattle.lexspec.specs.Items.{AreItems}
 use Rattle.lexspec.specs.RuleItems.{AreRules}
 use Rattle.lexspec.specs.Files.{AreSingle, conditions_with, SpellsSpec}
 use Rattle.lexspec.specs.ItemReads.{names_in}
 use Rattle.lexspec.specs.RulesReads.{HasRules}
-use Rattle.lexlines.specs.Sections.{HasSection}
+use Rattle.lexspec_lines.specs.Sections.{HasSection}
 use Rattle.lexspec.specs.Readings.{of_sections, SpellsRest}
 use Rattle.lexspec.specs.EndRules.{end_rule_of}
 use Rattle.lexspec.specs.RuleViews.{rule_of}
-use Rattle.lexlines.specs.Outcome.{UnlessMemory}
+use Rattle.lexspec_lines.specs.Outcome.{UnlessMemory}
 use Rattle.lexspec.specs.Tests.{is_sound}
 use Rattle.lexspec.specs.Views.{spec_of}
-use Rattle.lexclass.specs.declared.refusals.SpecError.{SpecError}
-use Rattle.lexclass.specs.declared.refusals.SpecErrorKind.{SpecErrorKind}
+use Rattle.lexre_bytes.specs.declared.refusals.SpecError.{SpecError}
+use Rattle.lexre_bytes.specs.declared.refusals.SpecErrorKind.{SpecErrorKind}
 use Rattle.lexspec.specs.declared.spec.Spec.{Spec as SpecOfCode}
-use Rattle.lexlines.specs.declared.declarations.Declarations.{Declarations}
+use Rattle.lexspec_lines.specs.declared.declarations.Declarations.{Declarations}
 use Rattle.lexspec.specs.declared.rules_section.RulesSection.{RulesSection}
-use Rattle.lexlines.specs.declared.section.Section.{Section}
-use Rattle.lexlines.proofs.DeclaringLaws.{names_kept}
-use Rattle.lexlines.proofs.OneSection.{separator_ends, one_up_to}
-use Rattle.lexclass.proofs.MemoryLaws.{unless_memory}
+use Rattle.lexspec_lines.specs.declared.section.Section.{Section}
+use Rattle.lexspec_lines.proofs.DeclaringLaws.{names_kept}
+use Rattle.lexspec_lines.proofs.OneSection.{separator_ends, one_up_to}
+use Rattle.lexre_bytes.proofs.MemoryLaws.{unless_memory}
 use Rattle.lexspec.proofs.PassLaws.{kept_passes, length_with}
 use Rattle.lexspec.proofs.RestLaws.{newlines_few}
-use Rattle.lexlines.proofs.SectionLaws.{EndsWith, ends_on, definition_ends}
-use Rattle.lexmeaning.specs.Limits.{max_conditions, max_file_bytes, max_rules}
-use Rattle.lexlines.specs.Folding.{with_fold}
+use Rattle.lexspec_lines.proofs.SectionLaws.{EndsWith, ends_on, definition_ends}
+use Rattle.lex_semantics.specs.Limits.{max_conditions, max_file_bytes, max_rules}
+use Rattle.lexspec_lines.specs.Folding.{with_fold}
 use Rattle.lexre.specs.declared.options.ReadOptions.{ReadOptions}
 
 -- without carriage returns
@@ -90,7 +90,7 @@ line_few how t s h = omega (arith, h.line, newlines_few t)
 
 pub sections_pass : (d : Declarations) (n : ℕ) (t : List ℕ) (x : RulesSection) → 1 ≤ length d.conditions.items → length d.conditions.items ≤ max_conditions → HasRules d n t x → is_sound (of_sections d x) ≡ true
 sections_pass d n t x some few h =
-    kept_passes d d.options d.stack d.defs h.items (map rule_of x.rules.items) (map end_rule_of x.ends.items) _ some few (subst (λ z. z ≤ max_rules) (sym (length-map x.rules.items rule_of)) h.few) h.are h.sound refl
+    kept_passes d d.options d.stack d.definitions h.items (map rule_of x.rules.items) (map end_rule_of x.ends.items) _ some few (subst (λ z. z ≤ max_rules) (sym (length-map x.rules.items rule_of)) h.few) h.are h.sound refl
 
 -- both
 
@@ -118,7 +118,7 @@ spelled how file s S short h r =
       rules = subst (λ z. AreRules z (with_fold how (has_name (all_options h.definitions) (codes "case-insensitive"))) (has_name (all_options h.definitions) (codes "stack")) (from_entries (substitutes_of h.definitions)) r.items S.rules r.ends) names
           (subst (λ z. AreRules (names_in d) z (has_name (all_options h.definitions) (codes "stack")) (from_entries (substitutes_of h.definitions)) r.items S.rules r.ends) h.declares.reads
           (subst (λ z. AreRules (names_in d) d.options z (from_entries (substitutes_of h.definitions)) r.items S.rules r.ends) h.declares.stacks
-          (subst (λ z. AreRules (names_in d) d.options d.stack z r.items S.rules r.ends) h.declares.defs r.are)));
+          (subst (λ z. AreRules (names_in d) d.options d.stack z r.items S.rules r.ends) h.declares.definitions r.are)));
       one_end = subst (λ z. AreSingle z r.ends) count r.one_end;
       conditions = conditions;
       few_conditions = omega (arith, ap length conditions, length_with 0 (all_conditions h.definitions) r.ends);
@@ -137,7 +137,7 @@ rest_of how file s S h k =
       items = k.items;
       here = subst (λ z. AreItems z (line_in s.rest.now).1 k.items) line (subst (λ z. AreItems (2 + newlines file - newlines z) (line_in z).1 k.items) same.1 k.second_section);
       ends = k.ends;
-      are = subst (λ z. AreRules (names_in d) d.options d.stack z k.items S.rules k.ends) (sym h.declares.defs)
+      are = subst (λ z. AreRules (names_in d) d.options d.stack z k.items S.rules k.ends) (sym h.declares.definitions)
           (subst (λ z. AreRules (names_in d) d.options z (from_entries (substitutes_of h.definitions)) k.items S.rules k.ends) (sym h.declares.stacks)
           (subst (λ z. AreRules (names_in d) z (has_name (all_options h.definitions) (codes "stack")) (from_entries (substitutes_of h.definitions)) k.items S.rules k.ends) (sym h.declares.reads)
           (subst (λ z. AreRules z (with_fold how (has_name (all_options h.definitions) (codes "case-insensitive"))) (has_name (all_options h.definitions) (codes "stack")) (from_entries (substitutes_of h.definitions)) k.items S.rules k.ends) names are)));

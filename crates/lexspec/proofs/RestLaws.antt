@@ -3,10 +3,10 @@ use Rattle.std.proofs.Common.{◌≡◌, ℕ, ◌+◌, ◌-◌, ◌≤◌, ◌==
 use Rattle.std.specs.Prelude.{codes, ◌⊎◌, Result, Ok, Err, IfOk, IfErr}
 use Rattle.std.proofs.lemmas.List.{append-nil, length-map}
 use Rattle.std.proofs.lemmas.List.Sums.{count_by-le-length}
-use Rattle.lexmeaning.specs.Spec as S
-use Rattle.lexmeaning.specs.Reading.{begins}
+use Rattle.lex_semantics.specs.Spec as S
+use Rattle.lex_semantics.specs.Reading.{begins}
 use Rattle.lexspec.specs.Items.{Item, AreItems}
-use Rattle.lexlines.specs.Lines.{newlines}
+use Rattle.lexspec_lines.specs.Lines.{newlines}
 use Rattle.lexspec.specs.RuleItems.{EndRule, AreRules}
 use Rattle.lexspec.specs.RuleReads.{Left, may_wait}
 use Rattle.lexspec.specs.RuleViews.{rule_of}
@@ -15,20 +15,20 @@ use Rattle.lexspec.specs.ItemReads.{names_in, NoneLeft}
 use Rattle.lexspec.specs.Agreeing.{Agrees}
 use Rattle.lexspec.specs.Files.{AreSingle}
 use Rattle.lexspec.specs.Keeping.{Keeps}
-use Rattle.lexmeaning.specs.Sound.{HaveSoundSides}
+use Rattle.lex_semantics.specs.Sound.{HaveSoundSides}
 use Rattle.lexspec.specs.RulesReads.{HasRules, NoSuchRules}
-use Rattle.lexlines.specs.Outcome.{UnlessMemory}
-use Rattle.lexlines.specs.declared.declarations.Declarations.{Declarations}
-use Rattle.lexclass.specs.declared.refusals.SpecError.{SpecError}
-use Rattle.lexclass.specs.declared.refusals.SpecErrorKind.{SpecErrorKind}
+use Rattle.lexspec_lines.specs.Outcome.{UnlessMemory}
+use Rattle.lexspec_lines.specs.declared.declarations.Declarations.{Declarations}
+use Rattle.lexre_bytes.specs.declared.refusals.SpecError.{SpecError}
+use Rattle.lexre_bytes.specs.declared.refusals.SpecErrorKind.{SpecErrorKind}
 use Rattle.lexspec.specs.declared.rule.Rule.{Rule}
 use Rattle.lexspec.specs.declared.rules_section.RulesSection.{RulesSection}
 use Rattle.lexspec.specs.declared.rules_so_far.RulesSoFar.{RulesSoFar}
-use Rattle.lexlines.proofs.OneSection.{no_true}
+use Rattle.lexspec_lines.proofs.OneSection.{no_true}
 use Rattle.lexspec.proofs.OneItems.{no_item_at_end}
-use Rattle.lexclass.proofs.MemoryLaws.{unless_memory, always}
+use Rattle.lexre_bytes.proofs.MemoryLaws.{unless_memory, always}
 use Rattle.lexspec.proofs.RulesLaws.{agree_first}
-use Rattle.lexmeaning.specs.Limits.{max_rules}
+use Rattle.lex_semantics.specs.Limits.{max_rules}
 
 -- where the section ends
 abbrev pub IsOver : List ℕ → Type 0
@@ -45,14 +45,14 @@ no_elements (x ∷ xs) h = absurd (omega arith)
 module _ (d : Declarations) where
   pub agrees_first : (s : RulesSoFar) (n : ℕ) (t : List ℕ) → s.rules.items ≡ [] → s.waiting.items ≡ [] → s.ends.items ≡ [] → Agrees d n t s n t
   agrees_first s n t e f g =
-      let a = agree_first (names_in d) d.options d.stack d.defs n t in
+      let a = agree_first (names_in d) d.options d.stack d.definitions n t in
       record {
         back = (λ R E left. rw (e, g) (a.back R E (rw f at left)));
         on = (λ R E left. rw (e, f, g) (a.on R E left));
       }
 
-  left_of : (n : ℕ) (t : List ℕ) (items : List (ℕ × Item)) (R : List S.Rule) (E : List EndRule) → AreItems n t items → AreRules (names_in d) d.options d.stack d.defs items R E
-      → Left (names_in d) d.options d.stack d.defs n t [] R E
+  left_of : (n : ℕ) (t : List ℕ) (items : List (ℕ × Item)) (R : List S.Rule) (E : List EndRule) → AreItems n t items → AreRules (names_in d) d.options d.stack d.definitions items R E
+      → Left (names_in d) d.options d.stack d.definitions n t [] R E
   left_of n t items R E here are = record { items = items; here = here; later = R; are = are; next = refl; whole = refl }
 
   -- what is not spelled from a place on is not spelled from the first line on
@@ -77,14 +77,14 @@ module _ (d : Declarations) where
       → x.rules.items ≡ s.rules.items → x.ends.items ≡ s.ends.items → x.rest.now ≡ t → HasRules d start whole x
   all_read start n whole t s x a keeps over none rules ends rest =
       let nobody : s.waiting.items ≡ [] = no_elements s.waiting.items none in
-      let last : Left (names_in d) d.options d.stack d.defs n t (map rule_of s.waiting.items) [] [] = rw nobody (left_of n t [] [] [] over (refl, refl)) in
+      let last : Left (names_in d) d.options d.stack d.definitions n t (map rule_of s.waiting.items) [] [] = rw nobody (left_of n t [] [] [] over (refl, refl)) in
       let all = a.back [] [] last in
       let R : all.later ≡ map rule_of s.rules.items = sym all.whole ∙ append-nil (map rule_of s.rules.items) in
       record {
         items = all.items;
         here = all.here;
-        are = rw (rules, ends) (subst (λ z. AreRules (names_in d) d.options d.stack d.defs all.items z (map end_rule_of s.ends.items)) R
-            (subst (λ z. AreRules (names_in d) d.options d.stack d.defs all.items all.later z) (append-nil (map end_rule_of s.ends.items)) all.are));
+        are = rw (rules, ends) (subst (λ z. AreRules (names_in d) d.options d.stack d.definitions all.items z (map end_rule_of s.ends.items)) R
+            (subst (λ z. AreRules (names_in d) d.options d.stack d.definitions all.items all.later z) (append-nil (map end_rule_of s.ends.items)) all.are));
         stops = subst IsOver (sym rest) over;
         sound = subst (λ z. HaveSoundSides (map rule_of z)) (sym rules) keeps.sound.0;
         single = subst (λ z. AreSingle (length d.conditions.items) (map end_rule_of z)) (sym ends) keeps.single;

@@ -2,30 +2,30 @@
 use Rattle.std.proofs.Common.{◌≡◌, ℕ, ◌+◌, ◌-◌, Bool, true, false, List, [], ◌∷◌, ◌++◌, map, length, inl, inr, Option, Some, None, refl, sym, ap, subst, ◌∙◌, append_assoc}
 use Rattle.std.specs.FinMap.{get}
 use Rattle.std.proofs.lemmas.List.{map-append}
-use Rattle.lexmeaning.specs.Tree.{Tree}
-use Rattle.lexmeaning.specs.Spec.{Statement, EndAction, Cut, Rule}
+use Rattle.lex_semantics.specs.Tree.{Tree}
+use Rattle.lex_semantics.specs.Spec.{Statement, EndAction, Cut, Rule}
 use Rattle.lexre.specs.Definitions.{Definitions}
-use Rattle.lexclass.specs.Lexical.{symbol_at}
+use Rattle.lexre_bytes.specs.Lexical.{symbol_at}
 use Rattle.lexre.specs.Spelling.{Spells}
 use Rattle.lexre.specs.Cutting.{IsCutting}
 use Rattle.lexre.proofs.CuttingLaws.{one_cutting}
 use Rattle.lexre.proofs.OneTree.{one_tree}
-use Rattle.lexaction.specs.Names.{number_from, known_in}
-use Rattle.lexaction.specs.Actions.{SpellsAction, SpellsEndAction}
-use Rattle.lexmeaning.specs.Reading.{after_blanks, take_up_to}
+use Rattle.lexspec_actions.specs.Names.{number_from, known_in}
+use Rattle.lexspec_actions.specs.Actions.{SpellsAction, SpellsEndAction}
+use Rattle.lex_semantics.specs.Reading.{after_blanks, take_up_to}
 use Rattle.lexspec.specs.Items.{Conditions, Trailing, Subject, at_end, matching, Action, bar, spelled, Item, skipped, skipped_line, skipped_block, rule, conditions_at, IsSubject, action_in, outside, action_of, starts_rule, IsItem, AreItems}
-use Rattle.lexlines.specs.Lines.{newlines}
-use Rattle.lexmeaning.specs.Sound.{IsCutOf}
+use Rattle.lexspec_lines.specs.Lines.{newlines}
+use Rattle.lex_semantics.specs.Sound.{IsCutOf}
 use Rattle.lexspec.specs.RuleItems.{numbers_of, IsTrail, EndRule, IsActionOf, goes_to_rule, IsRule, AreRules, HasHead}
 use Rattle.lexspec.specs.RuleReads.{acting, first_statements, filled, may_wait, Left}
-use Rattle.lexlines.proofs.OneSection.{no_true, two_percents, some_pair}
+use Rattle.lexspec_lines.proofs.OneSection.{no_true, two_percents, some_pair}
 use Rattle.lexspec.proofs.OneItems.{both_ways, AllBlank, StartsBlank, OpensBlock, tests_of, rule_tests, no_item_at_end, one_item, one_subject}
 use Rattle.lexspec.proofs.OneSpec.{one_rule, one_end, some_is}
 use Rattle.lexre.specs.declared.options.ReadOptions.{ReadOptions}
 
-pub tree_once : (how : ReadOptions) (defs : Definitions) (text : List ℕ) (t u : Tree) → Spells how defs text t → Spells how defs text u → t ≡ u
+pub tree_once : (how : ReadOptions) (definitions : Definitions) (text : List ℕ) (t u : Tree) → Spells how definitions text t → Spells how definitions text u → t ≡ u
 unfolding symbol_at
-tree_once how defs text t u h k = one_tree how.posix (symbol_at how.fold) (get defs) refl 64 text t u h.0 k.0
+tree_once how definitions text t u h k = one_tree how.posix (symbol_at how.fold) (get definitions) refl 64 text t u h.0 k.0
 
 cut_once : (t : List ℕ) (stop stop' : ℕ) (at at' : Option ℕ) (two two' special special' : Bool) → IsCutting t stop at two special → IsCutting t stop' at' two' special' →
     (stop ≡ stop') × (at ≡ at') × (special ≡ special')

@@ -1,11 +1,11 @@
 -- Rules with sound trees on their sides, one after another.
 use Rattle.std.proofs.Common.{◌≡◌, List, [], ◌∷◌, ◌++◌, map, sym, ap, subst, ◌∙◌}
 use Rattle.std.proofs.lemmas.List.{map-append}
-use Rattle.lexmeaning.specs.Spec as S
+use Rattle.lex_semantics.specs.Spec as S
 use Rattle.lexspec.specs.RuleReads.{acting}
 use Rattle.lexspec.specs.RuleViews.{rule_of}
 use Rattle.lexspec.specs.SoundSides.{HasSoundFront}
-use Rattle.lexmeaning.specs.Sound.{HaveSoundSides}
+use Rattle.lex_semantics.specs.Sound.{HaveSoundSides}
 use Rattle.lexspec.specs.declared.rule_text.Front.{Front}
 use Rattle.lexspec.specs.declared.rule_text.Front.TheVariants as F
 use Rattle.lexspec.specs.declared.rule.Rule.{Rule}

@@ -1,11 +1,11 @@
 -- Lines of the rules section that are no rules.
 use Rattle.std.proofs.Common.{◌≡◌, ℕ, suc, ◌<◌, Bool, true, List, [], ◌∷◌, length, Option, Some, None, sym, ap, ◌∙◌, arith}
 use Rattle.std.specs.Prelude.{codes}
-use Rattle.lexmeaning.specs.Reading.{begins}
-use Rattle.lexlines.specs.Lines.{line_in, after_block}
+use Rattle.lex_semantics.specs.Reading.{begins}
+use Rattle.lexspec_lines.specs.Lines.{line_in, after_block}
 use Rattle.lexspec.specs.Items.{Item, skipped, skipped_line, skipped_block, rule, IsItem}
 use Rattle.lexspec.proofs.OneItems.{both_ways, AllBlank, StartsBlank, OpensBlock, tests_of, block_tests}
-use Rattle.lexlines.proofs.SkipLaws.{line_shorter, block_same}
+use Rattle.lexspec_lines.proofs.SkipLaws.{line_shorter, block_same}
 
 abbrev Split : Type 0
 Split = List ℕ × List ℕ

@@ -2,14 +2,14 @@
 use Rattle.std.proofs.Common.{◌≡◌, ℕ, ◌+◌, ◌-◌, Bool, true, false, ◌&&◌, if◌then◌else◌, List, [], ◌∷◌, ◌++◌, map, length, drop, Option, Some, Global, refl, sym, ap, subst, ◌∙◌, arith}
 use Rattle.std.specs.Prelude.{codes, option_map, Vec}
 use Rattle.std.proofs.lemmas.List.{map-append, length-map}
-use Rattle.lexmeaning.specs.Spec as S
-use Rattle.lexaction.specs.Names.{number_from, names_of, known_in}
-use Rattle.lexaction.specs.Views.{end_action_of}
-use Rattle.lexaction.specs.Actions.{SpellsAction, SpellsEndAction}
-use Rattle.lexaction.specs.declared.condition.Condition.{Condition}
-use Rattle.lexmeaning.specs.Reading.{begins}
+use Rattle.lex_semantics.specs.Spec as S
+use Rattle.lexspec_actions.specs.Names.{number_from, names_of, known_in}
+use Rattle.lexspec_actions.specs.Views.{end_action_of}
+use Rattle.lexspec_actions.specs.Actions.{SpellsAction, SpellsEndAction}
+use Rattle.lexspec_actions.specs.declared.condition.Condition.{Condition}
+use Rattle.lex_semantics.specs.Reading.{begins}
 use Rattle.lexspec.specs.Items.{Action, bar, spelled, at_end, matching, rule, action_of, IsItem}
-use Rattle.lexlines.specs.Lines.{newlines, is_all_blank}
+use Rattle.lexspec_lines.specs.Lines.{newlines, is_all_blank}
 use Rattle.lexspec.specs.RuleItems.{numbers_of, EndRule}
 use Rattle.lexspec.specs.RuleReads.{acting, Left}
 use Rattle.lexspec.specs.RuleViews.{rule_of}
@@ -19,14 +19,14 @@ use Rattle.lexspec.specs.Agreeing.{Agrees, GoesOn}
 use Rattle.lexspec.specs.Endings.{numbers_kept}
 use Rattle.lexspec.specs.Files.{AreSingle}
 use Rattle.lexspec.specs.Tests.{sound_list}
-use Rattle.lexclass.proofs.MemoryLaws.{unless_memory}
-use Rattle.lexlines.specs.Outcome.{UnlessMemory}
-use Rattle.lexlines.specs.declared.declarations.Declarations.{Declarations}
+use Rattle.lexre_bytes.proofs.MemoryLaws.{unless_memory}
+use Rattle.lexspec_lines.specs.Outcome.{UnlessMemory}
+use Rattle.lexspec_lines.specs.declared.declarations.Declarations.{Declarations}
 use Rattle.lexspec.specs.declared.rule_text.Front.TheVariants as F
 use Rattle.lexspec.specs.declared.endings.EndRule.{EndRule as EndRuleKept}
 use Rattle.lexspec.specs.declared.rule.Rule.{Rule}
 use Rattle.lexspec.specs.declared.rules_so_far.RulesSoFar.{RulesSoFar}
-use Rattle.lexclass.specs.declared.refusals.SpecErrorKind.{SpecErrorKind}
+use Rattle.lexre_bytes.specs.declared.refusals.SpecErrorKind.{SpecErrorKind}
 use Rattle.lexspec.proofs.EndingLaws.{numbers_ordered}
 use Rattle.lexspec.proofs.RulesLaws.{Agree, end_on, agree_end, agree_rule, agree_bar, ActsAs, IsSpelled, acts_of}
 
@@ -40,7 +40,7 @@ action_spelled a b e h = ap (λ z. if z then bar else spelled a) (sym e ∙ h)
 
 module _ (d : Declarations) where
   abbrev Now : ℕ → List ℕ → List S.Rule → List EndRule → List S.Rule → ℕ → List ℕ → Type 0
-  Now start whole done ends w n t = Agree (names_in d) d.options d.stack d.defs start whole done ends w n t
+  Now start whole done ends w n t = Agree (names_in d) d.options d.stack d.definitions start whole done ends w n t
 
   to : (start : ℕ) (whole : List ℕ) (s : RulesSoFar) (n : ℕ) (t : List ℕ) → Agrees d start whole s n t → Now start whole (map rule_of s.rules.items) (map end_rule_of s.ends.items) (map rule_of s.waiting.items) n t
   to start whole s n t a = record { back = a.back; on = a.on }
@@ -58,7 +58,7 @@ module _ (d : Declarations) where
   bar_taken r action s s' is rules ends waiting start n whole t rest h a =
       from start whole s' (n + (newlines t - newlines rest)) rest (map rule_of s.rules.items) (map end_rule_of s.ends.items) (map rule_of s.waiting.items ++ rule_of r ∷ [])
       (ap (map rule_of) rules) (ap (map end_rule_of) ends) (ap (map rule_of) waiting ∙ map-append rule_of s.waiting.items (r ∷ []))
-      (agree_bar (names_in d) d.options d.stack d.defs start whole (map rule_of s.rules.items) (map end_rule_of s.ends.items) (map rule_of s.waiting.items) n t h.asked h.anchored h.head h.after rest (rule_of r)
+      (agree_bar (names_in d) d.options d.stack d.definitions start whole (map rule_of s.rules.items) (map end_rule_of s.ends.items) (map rule_of s.waiting.items) n t h.asked h.anchored h.head h.after rest (rule_of r)
       (subst (λ z. IsItem t (rule h.asked (matching h.anchored h.head h.after) z) rest) is h.item) h.has_head (to start whole s n t a))
 
   pub rule_taken : (r : Rule) (action : List ℕ) (ss : List S.Statement) (cs : List Condition) (s s' : RulesSoFar) → action_of action ≡ spelled action
@@ -68,7 +68,7 @@ module _ (d : Declarations) where
   rule_taken r action ss cs s s' is same acts rules ends waiting start n whole t rest h a =
       from start whole s' (n + (newlines t - newlines rest)) rest (map rule_of s.rules.items ++ (map (acting ss) (map rule_of s.waiting.items) ++ acting ss (rule_of r) ∷ []))
       (map end_rule_of s.ends.items) [] rules (ap (map end_rule_of) ends) (ap (map rule_of) waiting)
-      (agree_rule (names_in d) d.options d.stack d.defs start whole (map rule_of s.rules.items) (map end_rule_of s.ends.items) (map rule_of s.waiting.items) n t h.asked h.anchored h.head h.after action rest
+      (agree_rule (names_in d) d.options d.stack d.definitions start whole (map rule_of s.rules.items) (map end_rule_of s.ends.items) (map rule_of s.waiting.items) n t h.asked h.anchored h.head h.after action rest
       (rule_of r) ss (subst (λ z. IsItem t (rule h.asked (matching h.anchored h.head h.after) z) rest) is h.item) h.has_head
       (subst (λ z. SpellsAction (known_in (names_of z) d.stack) action ss) same acts) (to start whole s n t a))
 
@@ -79,20 +79,20 @@ module _ (d : Declarations) where
       unless_memory kind ((ss : List S.Statement) → SpellsAction (known_in (names_of cs) d.stack) action ss → ⊥) (NoRulesAfter d s (F.Matching r) action) (λ none_is n t rest R E reads left may.
       act none_is (acting_here n t rest R E reads left)) none
     where
-      acting_here : (n : ℕ) (t rest : List ℕ) (R : List S.Rule) (E : List EndRule) → ReadsFront d n t action rest (F.Matching r) → Left (names_in d) d.options d.stack d.defs n t (map rule_of s.waiting.items) R E
-          → IsSpelled (names_in d) d.options d.stack d.defs (spelled action)
+      acting_here : (n : ℕ) (t rest : List ℕ) (R : List S.Rule) (E : List EndRule) → ReadsFront d n t action rest (F.Matching r) → Left (names_in d) d.options d.stack d.definitions n t (map rule_of s.waiting.items) R E
+          → IsSpelled (names_in d) d.options d.stack d.definitions (spelled action)
       acting_here n t rest R E h left =
-          let acts = acts_of (names_in d) d.options d.stack d.defs n t h.asked (matching h.anchored h.head h.after) (action_of action) rest (map rule_of s.waiting.items) R E h.item left in
-          subst (IsSpelled (names_in d) d.options d.stack d.defs) is acts.4
+          let acts = acts_of (names_in d) d.options d.stack d.definitions n t h.asked (matching h.anchored h.head h.after) (action_of action) rest (map rule_of s.waiting.items) R E h.item left in
+          subst (IsSpelled (names_in d) d.options d.stack d.definitions) is acts.4
 
-      act : ((ss : List S.Statement) → SpellsAction (known_in (names_of cs) d.stack) action ss → ⊥) → IsSpelled (names_in d) d.options d.stack d.defs (spelled action) → ⊥
+      act : ((ss : List S.Statement) → SpellsAction (known_in (names_of cs) d.stack) action ss → ⊥) → IsSpelled (names_in d) d.options d.stack d.definitions (spelled action) → ⊥
       act none_is (ss, spells) = none_is ss (subst (λ z. SpellsAction (known_in (names_of z) d.stack) action ss) (sym same) spells)
 
   -- `<<EOF>>` rules
 
   end_acts : (numbers : Option (Vec ℕ Global)) (action : List ℕ) (n : ℕ) (t rest : List ℕ) (w R : List S.Rule) (E : List EndRule) → ReadsFront d n t action rest (F.AtEnd numbers)
-      → Left (names_in d) d.options d.stack d.defs n t w R E → ActsAs (names_in d) d.options d.stack d.defs w at_end (action_of action)
-  end_acts numbers action n t rest w R E h left = acts_of (names_in d) d.options d.stack d.defs n t h.asked at_end (action_of action) rest w R E h.item left
+      → Left (names_in d) d.options d.stack d.definitions n t w R E → ActsAs (names_in d) d.options d.stack d.definitions w at_end (action_of action)
+  end_acts numbers action n t rest w R E h left = acts_of (names_in d) d.options d.stack d.definitions n t h.asked at_end (action_of action) rest w R E h.item left
 
   no_items : {X : Type 0} (xs : List X) → length xs ≡ 0 → xs ≡ []
   no_items [] h = refl
@@ -105,7 +105,7 @@ module _ (d : Declarations) where
       let none : map rule_of s.waiting.items ≡ [] = ap (map rule_of) (no_items s.waiting.items empty) in
       from start whole s' (n + (newlines t - newlines rest)) rest (map rule_of s.rules.items) (map end_rule_of s.ends.items ++ end_rule_of e ∷ []) []
       (ap (map rule_of) rules) (ap (map end_rule_of) ends ∙ map-append end_rule_of s.ends.items (e ∷ [])) (ap (map rule_of) waiting ∙ none)
-      (agree_end (names_in d) d.options d.stack d.defs start whole (map rule_of s.rules.items) (map end_rule_of s.ends.items) n t h.asked action rest (option_map (λ v. v.items) e.conditions) (end_action_of e.action)
+      (agree_end (names_in d) d.options d.stack d.definitions start whole (map rule_of s.rules.items) (map end_rule_of s.ends.items) n t h.asked action rest (option_map (λ v. v.items) e.conditions) (end_action_of e.action)
       (subst (λ z. IsItem t (rule h.asked at_end z) rest) is h.item)
       (subst (λ z. numbers_of (number_from 0 (names_in d)) (length (names_in d)) h.asked ≡ Some (option_map (λ (v : Vec ℕ Global). v.items) z)) (sym listed) h.numbered)
       (subst (λ z. SpellsEndAction (known_in (names_of z) d.stack) action (end_action_of e.action)) same acts)
@@ -116,19 +116,19 @@ module _ (d : Declarations) where
       → UnlessMemory kind ((e : S.EndAction) → SpellsEndAction (known_in (names_of cs) d.stack) action e → ⊥) → UnlessMemory kind (NoRulesAfter d s (F.AtEnd numbers) action)
   end_refused numbers action kind cs s is same none =
       unless_memory kind ((e : S.EndAction) → SpellsEndAction (known_in (names_of cs) d.stack) action e → ⊥) (NoRulesAfter d s (F.AtEnd numbers) action) (λ none_is n t rest R E reads left may.
-      act none_is (subst (ActsAs (names_in d) d.options d.stack d.defs (map rule_of s.waiting.items) at_end) is (end_acts numbers action n t rest (map rule_of s.waiting.items) R E reads left))) none
+      act none_is (subst (ActsAs (names_in d) d.options d.stack d.definitions (map rule_of s.waiting.items) at_end) is (end_acts numbers action n t rest (map rule_of s.waiting.items) R E reads left))) none
     where
-      act : ((e : S.EndAction) → SpellsEndAction (known_in (names_of cs) d.stack) action e → ⊥) → ActsAs (names_in d) d.options d.stack d.defs (map rule_of s.waiting.items) at_end (spelled action) → ⊥
+      act : ((e : S.EndAction) → SpellsEndAction (known_in (names_of cs) d.stack) action e → ⊥) → ActsAs (names_in d) d.options d.stack d.definitions (map rule_of s.waiting.items) at_end (spelled action) → ⊥
       act none_is (empty, e, spells) = none_is e (subst (λ z. SpellsEndAction (known_in (names_of z) d.stack) action e) (sym same) spells)
 
   pub end_bar_refused : (numbers : Option (Vec ℕ Global)) (action : List ℕ) (s : RulesSoFar) → action_of action ≡ bar → NoRulesAfter d s (F.AtEnd numbers) action
   end_bar_refused numbers action s is n t rest R E reads left may =
-      subst (ActsAs (names_in d) d.options d.stack d.defs (map rule_of s.waiting.items) at_end) is (end_acts numbers action n t rest (map rule_of s.waiting.items) R E reads left)
+      subst (ActsAs (names_in d) d.options d.stack d.definitions (map rule_of s.waiting.items) at_end) is (end_acts numbers action n t rest (map rule_of s.waiting.items) R E reads left)
 
   pub end_awaited : (numbers : Option (Vec ℕ Global)) (action : List ℕ) (s : RulesSoFar) → (length s.waiting.items ≡ 0 → ⊥) → NoRulesAfter d s (F.AtEnd numbers) action
   end_awaited numbers action s some n t rest R E reads left may = act (action_of action) s.waiting.items some (end_acts numbers action n t rest (map rule_of s.waiting.items) R E reads left)
     where
-      act : (action : Action) (ws : List Rule) → (length ws ≡ 0 → ⊥) → ActsAs (names_in d) d.options d.stack d.defs (map rule_of ws) at_end action → ⊥
+      act : (action : Action) (ws : List Rule) → (length ws ≡ 0 → ⊥) → ActsAs (names_in d) d.options d.stack d.definitions (map rule_of ws) at_end action → ⊥
       act bar ws none h = h
       act (spelled text) [] none h = none refl
       act (spelled text) (w ∷ ws) none (empty, e, spells) = no_list empty
@@ -144,10 +144,10 @@ module _ (d : Declarations) where
   end_twice numbers action e old cs s kept listed is same acts empty twice n t rest R E h left may =
       let none : map rule_of s.waiting.items ≡ [] = ap (map rule_of) (no_items s.waiting.items empty) in
       let numbered = subst (λ z. numbers_of (number_from 0 (names_in d)) (length (names_in d)) h.asked ≡ Some (option_map (λ (v : Vec ℕ Global). v.items) z)) (sym listed) h.numbered in
-      let (F, all, more) = end_on (names_in d) d.options d.stack d.defs n t h.asked action rest (option_map (λ v. v.items) e.conditions) (end_action_of e.action) R E
+      let (F, all, more) = end_on (names_in d) d.options d.stack d.definitions n t h.asked action rest (option_map (λ v. v.items) e.conditions) (end_action_of e.action) R E
       (subst (λ z. IsItem t (rule h.asked at_end z) rest) is h.item) numbered
       (subst (λ z. SpellsEndAction (known_in (names_of z) d.stack) action (end_action_of e.action)) same acts)
-      (subst (λ z. Left (names_in d) d.options d.stack d.defs n t z R E) none left) in
+      (subst (λ z. Left (names_in d) d.options d.stack d.definitions n t z R E) none left) in
       let count : length (names_in d) ≡ length d.conditions.items = length-map d.conditions.items _ in
       twice (length d.conditions.items) F (subst (λ z. sound_list z (numbers_kept e) ≡ true) count
       (numbers_ordered (number_from 0 (names_in d)) (length (names_in d)) h.asked (numbers_kept e) numbered))

@@ -1,26 +1,26 @@
 -- One item of the rules section more.
 use Rattle.std.proofs.Common.{◌≡◌, ℕ, suc, ◌+◌, ◌-◌, ◌<◌, ◌==◌, ◌&&◌, Bool, true, false, if◌then◌else◌, List, [], ◌∷◌, map, length, take, Option, Some, None, inl, inr, refl, sym, ap, arith, length-append}
 use Rattle.std.specs.Prelude.{codes}
-use Rattle.lexmeaning.specs.Reading.{after_blanks, begins, take_up_to}
+use Rattle.lex_semantics.specs.Reading.{after_blanks, begins, take_up_to}
 use Rattle.lexspec.specs.Items.{outside, action_in, with_byte, next_place, depth_after, action_of, at_end, matching, Item, skipped, skipped_line, skipped_block, rule, starts_rule, IsItem, AreItems}
-use Rattle.lexlines.specs.Lines.{newlines}
+use Rattle.lexspec_lines.specs.Lines.{newlines}
 use Rattle.lexspec.specs.RuleViews.{rule_of}
 use Rattle.lexspec.specs.ItemReads.{names_in, ReadsFront, ReadsItem, NoRules, NoRulesAfter, NoneLeft}
 use Rattle.lexspec.specs.Agreeing.{Agrees}
 use Rattle.lexspec.specs.SkipViews.{item_of}
-use Rattle.lexlines.specs.Outcome.{UnlessMemory}
-use Rattle.lexlines.specs.declared.declarations.Declarations.{Declarations}
-use Rattle.lexclass.specs.declared.refusals.SpecErrorKind.{SpecErrorKind}
+use Rattle.lexspec_lines.specs.Outcome.{UnlessMemory}
+use Rattle.lexspec_lines.specs.declared.declarations.Declarations.{Declarations}
+use Rattle.lexre_bytes.specs.declared.refusals.SpecErrorKind.{SpecErrorKind}
 use Rattle.lexspec.specs.declared.rule_text.Front.{Front}
 use Rattle.lexspec.specs.declared.rule_text.Front.TheVariants as F
 use Rattle.lexspec.specs.declared.rule_text.RuleText.{RuleText}
 use Rattle.lexspec.specs.declared.skips.Skip.{Skip}
 use Rattle.lexspec.specs.declared.skips.Skip.TheVariants.{Blank, Code, Block}
 use Rattle.lexspec.specs.declared.rules_so_far.RulesSoFar.{RulesSoFar}
-use Rattle.lexlines.proofs.OneSection.{no_true, some_pair}
+use Rattle.lexspec_lines.proofs.OneSection.{no_true, some_pair}
 use Rattle.lexspec.proofs.OneItems.{both_ways}
-use Rattle.lexclass.proofs.MemoryLaws.{unless_memory, always}
-use Rattle.lexlines.proofs.SectionLaws.{EndsWith, ends_on, each_some, each_none, each_if, newlines_front}
+use Rattle.lexre_bytes.proofs.MemoryLaws.{unless_memory, always}
+use Rattle.lexspec_lines.proofs.SectionLaws.{EndsWith, ends_on, each_some, each_none, each_if, newlines_front}
 use Rattle.lexspec.proofs.EndLaws.{Ends, action_ends, blanks_end, conditions_end, subject_ends, item_ends}
 use Rattle.lexspec.proofs.RulesLaws.{agree_plain, is_plain}
 
@@ -56,7 +56,7 @@ starts_some [] h = no_true h
 starts_some (c ∷ t) h = omega arith
 
 -- the rest of a rule is shorter than its text
-rule_shorter : (d : Declarations) (n : ℕ) (t : List ℕ) (i : Item) (rest : List ℕ) → is_plain (names_in d) d.options d.stack d.defs i ≡ false → IsItem t i rest → length rest < length t
+rule_shorter : (d : Declarations) (n : ℕ) (t : List ℕ) (i : Item) (rest : List ℕ) → is_plain (names_in d) d.options d.stack d.definitions i ≡ false → IsItem t i rest → length rest < length t
 rule_shorter d n t skipped rest h item = no_true (sym h)
 rule_shorter d n t skipped_line rest h item = no_true (sym h)
 rule_shorter d n t skipped_block rest h item = no_true (sym h)
@@ -65,7 +65,7 @@ rule_shorter d n t (rule asked subject action) rest h (starts, u, v, text, list,
     action_shorter (after_blanks v) text rest (length t) ends (not_longer t (after_blanks v) front) (starts_some t starts)
 
 module _ (d : Declarations) where
-  reads_item : (n : ℕ) (t action rest : List ℕ) (f : Front) → ReadsFront d n t action rest f → (i : Item) × (is_plain (names_in d) d.options d.stack d.defs i ≡ false) × IsItem t i rest
+  reads_item : (n : ℕ) (t action rest : List ℕ) (f : Front) → ReadsFront d n t action rest f → (i : Item) × (is_plain (names_in d) d.options d.stack d.definitions i ≡ false) × IsItem t i rest
   reads_item n t action rest (F.Matching r) h = (rule h.asked (matching h.anchored h.head h.after) (action_of action), refl, h.item)
   reads_item n t action rest (F.AtEnd numbers) h = (rule h.asked at_end (action_of action), refl, h.item)
 
@@ -75,7 +75,7 @@ module _ (d : Declarations) where
   pub reads_counts : (n : ℕ) (t : List ℕ) (x : RuleText) → ReadsItem d n t x → newlines (take (length t - length x.rest.now) t) + newlines x.rest.now ≡ newlines t
   reads_counts n t x h = let (i, plain, item) = reads_item n t x.action.now x.rest.now x.front h in newlines_front t x.rest.now (item_ends t i x.rest.now item)
 
-  plain_is : (k : Skip) → is_plain (names_in d) d.options d.stack d.defs (item_of k) ≡ true
+  plain_is : (k : Skip) → is_plain (names_in d) d.options d.stack d.definitions (item_of k) ≡ true
   plain_is Blank = refl
   plain_is Code = refl
   plain_is Block = refl
@@ -83,7 +83,7 @@ module _ (d : Declarations) where
   pub plain_agrees : (s : RulesSoFar) (start n : ℕ) (whole t : List ℕ) (k : Skip) (rest : List ℕ) → IsItem t (item_of k) rest → Agrees d start whole s n t
       → Agrees d start whole s (n + (newlines t - newlines rest)) rest
   plain_agrees s start n whole t k rest item a =
-      let b = agree_plain (names_in d) d.options d.stack d.defs start whole (map rule_of s.rules.items) _ (map rule_of s.waiting.items) n t (item_of k) rest (plain_is k) item (record { back = a.back; on = a.on }) in
+      let b = agree_plain (names_in d) d.options d.stack d.definitions start whole (map rule_of s.rules.items) _ (map rule_of s.waiting.items) n t (item_of k) rest (plain_is k) item (record { back = a.back; on = a.on }) in
       record { back = b.back; on = b.on }
 
   -- where there is no item, and the section does not end, nothing is spelled

@@ -1,14 +1,14 @@
 -- What stands before the action of a rule.
 use Rattle.std.proofs.Common.{◌≡◌, ℕ, zero, suc, ◌+◌, ◌-◌, ◌==◌, ◌||◌, Bool, true, false, not, if◌then◌else◌, List, [], ◌∷◌, length, take, drop, Option, Some, None, refl, sym, ap, subst, ◌∙◌, arith}
 use Rattle.std.specs.Prelude.{codes}
-use Rattle.lexmeaning.specs.ByteSets.{is_word}
-use Rattle.lexmeaning.specs.Reading.{◌>>=◌, begins, take_up_to}
-use Rattle.lexlines.specs.Lines.{line_in}
-use Rattle.lexlines.specs.Runs.{split_before}
+use Rattle.lex_semantics.specs.ByteSets.{is_word}
+use Rattle.lex_semantics.specs.Reading.{◌>>=◌, begins, take_up_to}
+use Rattle.lexspec_lines.specs.Lines.{line_in}
+use Rattle.lexspec_lines.specs.Runs.{split_before}
 use Rattle.lexre.specs.Cutting.{IsCutting}
 use Rattle.lexre.proofs.CuttingLaws.{one_cutting}
 use Rattle.lexspec.specs.Items.{Conditions, unlisted, every, only, parts_at, before_sign, conditions_at, Trailing, pattern_after, sides, Subject, at_end, matching, IsPattern, IsSubject}
-use Rattle.lexlines.proofs.OneSection.{no_true}
+use Rattle.lexspec_lines.proofs.OneSection.{no_true}
 use Rattle.lexspec.specs.SubjectViews.{parts}
 
 abbrev Split : Type 0

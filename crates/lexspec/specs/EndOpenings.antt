@@ -1,6 +1,6 @@
 -- Texts that begin with an `<<EOF>>` rule. (flex, End-of-File Rules.)
 use Rattle.std.specs.Prelude.{ℕ, Bool, false, List, Option, Some, None, codes}
-use Rattle.lexmeaning.specs.Reading.{begins}
+use Rattle.lex_semantics.specs.Reading.{begins}
 use Rattle.lexspec.specs.Items.{Conditions, conditions_at}
 
 -- what follows a condition list opens an `<<EOF>>` rule

@@ -1,6 +1,6 @@
 -- What an `<<EOF>>` rule of the code stands for.
 use Rattle.std.specs.Prelude.{option_map}
-use Rattle.lexaction.specs.Views.{end_action_of}
+use Rattle.lexspec_actions.specs.Views.{end_action_of}
 use Rattle.lexspec.specs.RuleItems.{EndRule}
 use Rattle.lexspec.specs.declared.endings.EndRule.{EndRule as EndRuleKept}
 

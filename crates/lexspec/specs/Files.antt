@@ -2,15 +2,15 @@
 -- project's.)
 use Rattle.std.specs.Prelude.{◌≡◌, ℕ, suc, ◌+◌, ◌-◌, ◌≤◌, ◌<◌, Bool, true, false, if◌then◌else◌, List, [], ◌∷◌, map, length, count_by, Option, Some, None, codes}
 use Rattle.std.specs.FinMap.{from_entries}
-use Rattle.lexmeaning.specs.Spec.{Spec, Condition, EndAction}
-use Rattle.lexmeaning.specs.Active.{lists}
-use Rattle.lexmeaning.specs.Reading.{begins}
-use Rattle.lexlines.specs.Lines.{without_returns, line_in, newlines}
-use Rattle.lexlines.specs.DefinitionLines.{Definition, Declared, definition_at, IsUpTo, all_conditions, names_of, has_name, are_distinct, substitutes_of, all_options, are_known}
+use Rattle.lex_semantics.specs.Spec.{Spec, Condition, EndAction}
+use Rattle.lex_semantics.specs.Active.{lists}
+use Rattle.lex_semantics.specs.Reading.{begins}
+use Rattle.lexspec_lines.specs.Lines.{without_returns, line_in, newlines}
+use Rattle.lexspec_lines.specs.DefinitionLines.{Definition, Declared, definition_at, IsUpTo, all_conditions, names_of, has_name, are_distinct, substitutes_of, all_options, are_known}
 use Rattle.lexspec.specs.Items.{Item, AreItems}
 use Rattle.lexspec.specs.RuleItems.{EndRule, AreRules}
-use Rattle.lexmeaning.specs.Limits.{max_conditions, max_file_bytes, max_rules}
-use Rattle.lexlines.specs.Folding.{with_fold}
+use Rattle.lex_semantics.specs.Limits.{max_conditions, max_file_bytes, max_rules}
+use Rattle.lexspec_lines.specs.Folding.{with_fold}
 pub use Rattle.lexre.specs.declared.options.ReadOptions.{ReadOptions}
 
 -- no condition has two ends, and without a list there is one at most

@@ -1,16 +1,16 @@
 -- What the reader of a rule answers.
 use Rattle.std.specs.Prelude.{◌≡◌, ℕ, Bool, List, map, length, Option, Some, option_map}
-use Rattle.lexmeaning.specs.Spec.{Cut, Rule}
-use Rattle.lexmeaning.specs.Tree.{Tree}
+use Rattle.lex_semantics.specs.Spec.{Cut, Rule}
+use Rattle.lex_semantics.specs.Tree.{Tree}
 use Rattle.lexre.specs.Spelling.{Spells}
-use Rattle.lexaction.specs.Names.{number_from, names_of}
+use Rattle.lexspec_actions.specs.Names.{number_from, names_of}
 use Rattle.lexspec.specs.Items.{Conditions, Trailing, at_end, matching, rule, action_of, IsItem}
-use Rattle.lexmeaning.specs.Sound.{IsCutOf}
+use Rattle.lex_semantics.specs.Sound.{IsCutOf}
 use Rattle.lexspec.specs.RuleItems.{numbers_of, IsTrail, EndRule, HasHead}
 use Rattle.lexspec.specs.RuleReads.{Left}
 use Rattle.lexspec.specs.RuleViews.{rule_of}
 use Rattle.lexspec.specs.Keeping.{MayFollow}
-use Rattle.lexlines.specs.declared.declarations.Declarations.{Declarations}
+use Rattle.lexspec_lines.specs.declared.declarations.Declarations.{Declarations}
 use Rattle.lexspec.specs.declared.rule_text.Front.{Front}
 use Rattle.lexspec.specs.declared.rule_text.Front.TheVariants as F
 use Rattle.lexspec.specs.declared.rule_text.RuleText.{RuleText}
@@ -22,11 +22,11 @@ names_in d = names_of d.conditions.items
 
 -- the text spells no rules from there on
 abbrev pub NoRules : Declarations → List ℕ → Type 0
-NoRules d t = (n : ℕ) (w R : List Rule) (E : List EndRule) → Left (names_in d) d.options d.stack d.defs n t w R E → ⊥
+NoRules d t = (n : ℕ) (w R : List Rule) (E : List EndRule) → Left (names_in d) d.options d.stack d.definitions n t w R E → ⊥
 
 -- the sides of a pattern have no trees, or neither gives a cut
 abbrev pub NoSides : Declarations → List ℕ → Trailing → Type 0
-NoSides d head after = (h : Tree) (t : Option Tree) (cut : Cut) → Spells d.options d.defs head h → IsTrail d.options d.defs after t → IsCutOf h t cut → ⊥
+NoSides d head after = (h : Tree) (t : Option Tree) (cut : Cut) → Spells d.options d.definitions head h → IsTrail d.options d.definitions after t → IsCutOf h t cut → ⊥
 
 -- a rule with a pattern begins the text t, at the line n
 pub record ReadsRule (d : Declarations) (n : ℕ) (t action rest : List ℕ) (r : Rule) : Type 0 where
@@ -35,7 +35,7 @@ pub record ReadsRule (d : Declarations) (n : ℕ) (t action rest : List ℕ) (r 
   pub head : List ℕ
   pub after : Trailing
   pub item : IsItem t (rule asked (matching anchored head after) (action_of action)) rest
-  pub has_head : HasHead (names_in d) d.options d.stack d.defs n asked anchored head after r
+  pub has_head : HasHead (names_in d) d.options d.stack d.definitions n asked anchored head after r
 
 -- an `<<EOF>>` rule begins it
 pub record ReadsEnd (d : Declarations) (t action rest : List ℕ) (numbers : Option (List ℕ)) : Type 0 where
@@ -53,8 +53,8 @@ ReadsItem d n t x = ReadsFront d n t x.action.now x.rest.now x.front
 -- nothing that may follow is spelled from a rule on, where these rules wait
 abbrev pub NoRulesAfter : Declarations → RulesSoFar → Front → List ℕ → Type 0
 NoRulesAfter d s front action = (n : ℕ) (t rest : List ℕ) (R : List Rule) (E : List EndRule) → ReadsFront d n t action rest front
-    → Left (names_in d) d.options d.stack d.defs n t (map rule_of s.waiting.items) R E → MayFollow d s R E → ⊥
+    → Left (names_in d) d.options d.stack d.definitions n t (map rule_of s.waiting.items) R E → MayFollow d s R E → ⊥
 
 -- the text spells nothing that may follow from the line n on, where these rules wait
 abbrev pub NoneLeft : Declarations → RulesSoFar → ℕ → List ℕ → Type 0
-NoneLeft d s n t = (R : List Rule) (E : List EndRule) → Left (names_in d) d.options d.stack d.defs n t (map rule_of s.waiting.items) R E → MayFollow d s R E → ⊥
+NoneLeft d s n t = (R : List Rule) (E : List EndRule) → Left (names_in d) d.options d.stack d.definitions n t (map rule_of s.waiting.items) R E → MayFollow d s R E → ⊥

@@ -2,12 +2,12 @@
 -- (POSIX, lex, Rules in lex; flex, Patterns, Start Conditions, End-of-File Rules.)
 use Rattle.std.specs.Prelude.{◌≡◌, ℕ, zero, suc, ◌+◌, ◌-◌, Bool, true, false, not, ◌&&◌, ◌||◌, ◌==◌, if◌then◌else◌, List, [], ◌∷◌, length, take, drop, Option, Some, None, codes, ◌⊎◌}
 use Rattle.std.specs.List.{list_any}
-use Rattle.lexaction.specs.Comments as Comments
-use Rattle.lexaction.specs.Comments.{slash, line, after_byte}
+use Rattle.lexspec_actions.specs.Comments as Comments
+use Rattle.lexspec_actions.specs.Comments.{slash, line, after_byte}
 use Rattle.lexre.specs.Cutting.{IsCutting}
-use Rattle.lexmeaning.specs.ByteSets.{is_word, is_blank}
-use Rattle.lexmeaning.specs.Reading.{◌>>=◌, Reader, after_blanks, begins, is_white}
-use Rattle.lexlines.specs.Lines.{line_in, line_at, is_all_blank, newlines, after_block}
+use Rattle.lex_semantics.specs.ByteSets.{is_word, is_blank}
+use Rattle.lex_semantics.specs.Reading.{◌>>=◌, Reader, after_blanks, begins, is_white}
+use Rattle.lexspec_lines.specs.Lines.{line_in, line_at, is_all_blank, newlines, after_block}
 
 -- the condition list: none, `<*>`, or names
 pub data Conditions : Type 0 where

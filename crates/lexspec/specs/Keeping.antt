@@ -1,15 +1,15 @@
 -- What the rules that are read so far keep to.
 use Rattle.std.specs.Prelude.{◌+◌, ◌<◌, ◌≤◌, List, ◌++◌, map, length}
-use Rattle.lexmeaning.specs.Spec.{Rule}
+use Rattle.lex_semantics.specs.Spec.{Rule}
 use Rattle.lexspec.specs.Files.{AreSingle}
 use Rattle.lexspec.specs.RuleItems.{EndRule}
 use Rattle.lexspec.specs.SoundSides.{HasSoundRules}
 use Rattle.lexspec.specs.EndRules.{end_rule_of}
-use Rattle.lexlines.specs.declared.declarations.Declarations.{Declarations}
+use Rattle.lexspec_lines.specs.declared.declarations.Declarations.{Declarations}
 use Rattle.lexspec.specs.declared.rule_text.Front.{Front}
 use Rattle.lexspec.specs.declared.rule_text.Front.TheVariants as F
 use Rattle.lexspec.specs.declared.rules_so_far.RulesSoFar.{RulesSoFar}
-use Rattle.lexmeaning.specs.Limits.{max_rules}
+use Rattle.lex_semantics.specs.Limits.{max_rules}
 
 -- there is room for one rule more; an `<<EOF>>` rule needs none
 abbrev pub HasRoom : Front → RulesSoFar → Type 0

@@ -1,8 +1,8 @@
 -- What is kept of names while the rules of a file are read.
-use Rattle.lexlines.specs.declared.declarations.Declarations.{Declarations}
+use Rattle.lexspec_lines.specs.declared.declarations.Declarations.{Declarations}
 use Rattle.lexre.specs.Names.{AreKnown, trees_of}
 use Rattle.lexre.specs.declared.names.Names.{Names}
 
 -- each name stands for the tree that is kept of it, under these declarations
 abbrev pub AreKept : Declarations → Names → Type 0
-AreKept d names = AreKnown d.options d.defs (trees_of names)
+AreKept d names = AreKnown d.options d.definitions (trees_of names)

@@ -21,4 +21,4 @@ pub mod KeptNames
 pub mod Readings
 pub mod RuleExamples
 pub mod Refusals
-pub use Rattle.lexlines.specs.Outcome
+pub use Rattle.lexspec_lines.specs.Outcome

@@ -1,20 +1,20 @@
 -- What the reader of files makes of the parts of a file.
 use Rattle.std.specs.Prelude.{◌≡◌, ℕ, ◌+◌, ◌≤◌, Bool, not, List, map, length}
 use Rattle.std.specs.List.{list_any}
-use Rattle.lexmeaning.specs.Spec.{Spec}
-use Rattle.lexmeaning.specs.Reading.{is_white}
-use Rattle.lexlines.specs.Lines.{line_in}
+use Rattle.lex_semantics.specs.Spec.{Spec}
+use Rattle.lex_semantics.specs.Reading.{is_white}
+use Rattle.lexspec_lines.specs.Lines.{line_in}
 use Rattle.lexspec.specs.Items.{Item, AreItems}
 use Rattle.lexspec.specs.RuleItems.{EndRule, AreRules}
 use Rattle.lexspec.specs.RuleViews.{rule_of}
 use Rattle.lexspec.specs.EndRules.{end_rule_of}
 use Rattle.lexspec.specs.Files.{AreSingle, conditions_with}
-use Rattle.lexlines.specs.Declaring.{declared_of}
+use Rattle.lexspec_lines.specs.Declaring.{declared_of}
 use Rattle.lexspec.specs.ItemReads.{names_in}
-use Rattle.lexlines.specs.declared.declarations.Declarations.{Declarations}
+use Rattle.lexspec_lines.specs.declared.declarations.Declarations.{Declarations}
 use Rattle.lexspec.specs.declared.rules_section.RulesSection.{RulesSection}
-use Rattle.lexlines.specs.declared.section.Section.{Section}
-use Rattle.lexmeaning.specs.Limits.{max_rules}
+use Rattle.lexspec_lines.specs.declared.section.Section.{Section}
+use Rattle.lex_semantics.specs.Limits.{max_rules}
 
 -- a byte that is neither a blank nor a newline
 abbrev pub has_text : List ℕ → Bool
@@ -29,7 +29,7 @@ pub record SpellsRest (s : Section) (S : Spec) : Type 0 where
   pub items : List (ℕ × Item)
   pub here : AreItems (s.line + 1) (line_in s.rest.now).1 items
   pub ends : List EndRule
-  pub are : AreRules (names_in s.declarations) s.declarations.options s.declarations.stack s.declarations.defs items S.rules ends
+  pub are : AreRules (names_in s.declarations) s.declarations.options s.declarations.stack s.declarations.definitions items S.rules ends
   pub one_end : AreSingle (length s.declarations.conditions.items) ends
   pub conditions : S.conditions ≡ conditions_with 0 (map declared_of s.declarations.conditions.items) ends
   pub few_rules : length S.rules ≤ max_rules

@@ -2,15 +2,15 @@
 -- (POSIX, lex, Rules in lex and Actions in lex; flex, Patterns: trailing context, End-of-File Rules.)
 use Rattle.std.specs.Prelude.{◌≡◌, ℕ, Bool, true, false, ◌==◌, ◌&&◌, if◌then◌else◌, List, [], ◌∷◌, length, Option, Some, None, is_some}
 use Rattle.std.specs.List.{list_any}
-use Rattle.lexmeaning.specs.Text.{listed}
-use Rattle.lexmeaning.specs.ByteSets.{single}
-use Rattle.lexmeaning.specs.Tree.{Tree, Set}
-use Rattle.lexmeaning.specs.Spec.{EndAction, Statement, Rule}
-use Rattle.lexmeaning.specs.Sound.{IsCutOf}
+use Rattle.lex_semantics.specs.Text.{listed}
+use Rattle.lex_semantics.specs.ByteSets.{single}
+use Rattle.lex_semantics.specs.Tree.{Tree, Set}
+use Rattle.lex_semantics.specs.Spec.{EndAction, Statement, Rule}
+use Rattle.lex_semantics.specs.Sound.{IsCutOf}
 use Rattle.lexre.specs.Definitions.{Definitions}
 use Rattle.lexre.specs.Spelling.{Spells}
-use Rattle.lexaction.specs.Names.{number_from, Known, known_in}
-use Rattle.lexaction.specs.Actions.{SpellsAction, SpellsEndAction}
+use Rattle.lexspec_actions.specs.Names.{number_from, Known, known_in}
+use Rattle.lexspec_actions.specs.Actions.{SpellsAction, SpellsEndAction}
 use Rattle.lexspec.specs.Items.{Conditions, unlisted, every, only, Trailing, no_trail, line_end, pattern_after, at_end, matching, Action, bar, spelled, Item, rule}
 use Rattle.lexre.specs.declared.options.ReadOptions.{ReadOptions}
 

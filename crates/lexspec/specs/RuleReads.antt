@@ -1,6 +1,6 @@
 -- Rules that are read one after another, some of which wait for the action of the next one.
 use Rattle.std.specs.Prelude.{◌≡◌, ℕ, Bool, true, List, [], ◌∷◌, ◌++◌, map}
-use Rattle.lexmeaning.specs.Spec.{Statement, Rule}
+use Rattle.lex_semantics.specs.Spec.{Statement, Rule}
 use Rattle.lexre.specs.Definitions.{Definitions}
 use Rattle.lexspec.specs.Items.{bar, Item, AreItems}
 use Rattle.lexspec.specs.RuleItems.{EndRule, goes_to_rule, AreRules}

@@ -1,9 +1,9 @@
 -- What the rules of the code stand for.
 use Rattle.std.specs.Prelude.{map, option_map}
-use Rattle.lexmeaning.specs.Spec as S
+use Rattle.lex_semantics.specs.Spec as S
 use Rattle.lexre.specs.Views.{tree_of}
-use Rattle.lexaction.specs.Views.{statement_of}
-pub use Rattle.lexmachine.specs.Views.{cut_of}
+use Rattle.lexspec_actions.specs.Views.{statement_of}
+pub use Rattle.lextab_machine.specs.Views.{cut_of}
 use Rattle.lexspec.specs.declared.rule.Rule.{Rule}
 
 abbrev pub rule_of : Rule → S.Rule

@@ -1,6 +1,6 @@
 -- Rules that are read so far, with sound trees on their sides.
 use Rattle.std.specs.Prelude.{map}
-use Rattle.lexmeaning.specs.Sound.{HasSoundSides, HaveSoundSides}
+use Rattle.lex_semantics.specs.Sound.{HasSoundSides, HaveSoundSides}
 use Rattle.lexspec.specs.RuleViews.{rule_of}
 use Rattle.lexspec.specs.declared.rules_so_far.RulesSoFar.{RulesSoFar}
 use Rattle.lexspec.specs.declared.rule_text.Front.{Front}

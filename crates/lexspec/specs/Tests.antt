@@ -1,14 +1,14 @@
 -- What a specification keeps to, as tests that compute: an invariant states them, and a law says that they are what
 -- soundness means. (This project's.)
 use Rattle.std.specs.Prelude.{ℕ, zero, suc, Bool, true, false, not, ◌&&◌, ◌||◌, ◌==◌, nat_le, nat_lt, List, [], ◌∷◌, length, Option, Some, None}
-use Rattle.lexmeaning.specs.ByteSets.{has}
-use Rattle.lexmeaning.specs.Tree.{Tree, Trees, Empty, Set, Cat, Alt, Star, Repeat, no_trees, tree}
-use Rattle.lexmeaning.specs.Spec.{Spec, Rule, Condition, EndAction, Cut, Whole, Head, Trail, Statement}
-use Rattle.lexmeaning.specs.Legal.{all_in_range, ends_last, are_joined, are_compatible}
+use Rattle.lex_semantics.specs.ByteSets.{has}
+use Rattle.lex_semantics.specs.Tree.{Tree, Trees, Empty, Set, Cat, Alt, Star, Repeat, no_trees, tree}
+use Rattle.lex_semantics.specs.Spec.{Spec, Rule, Condition, EndAction, Cut, Whole, Head, Trail, Statement}
+use Rattle.lex_semantics.specs.Legal.{all_in_range, ends_last, are_joined, are_compatible}
 use Rattle.lexre.specs.Lengths.{least, greatest}
-use Rattle.lexaction.specs.Actions.{are_few}
+use Rattle.lexspec_actions.specs.Actions.{are_few}
 use Rattle.lexspec.specs.RuleItems.{is_number}
-use Rattle.lexmeaning.specs.Limits.{max_conditions, max_literal_bytes, max_status, max_rules, max_fixed_length}
+use Rattle.lex_semantics.specs.Limits.{max_conditions, max_literal_bytes, max_status, max_rules, max_fixed_length}
 
 -- some number below n passes
 unfoldable pub any_below : ℕ → (ℕ → Bool) → Bool

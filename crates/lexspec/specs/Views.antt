@@ -1,7 +1,7 @@
 -- What a specification of the code stands for.
 use Rattle.std.specs.Prelude.{ℕ, List, map}
-use Rattle.lexmeaning.specs.Spec as S
-use Rattle.lexaction.specs.Views.{condition_of}
+use Rattle.lex_semantics.specs.Spec as S
+use Rattle.lexspec_actions.specs.Views.{condition_of}
 use Rattle.lexspec.specs.RuleViews.{rule_of}
 use Rattle.lexspec.specs.declared.spec.Spec.{Spec}
 

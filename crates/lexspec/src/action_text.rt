@@ -1,13 +1,13 @@
 //! Where the action of a rule ends. (POSIX, lex, Rules in lex.)
 ghost use Rattle.std.specs.Prelude.{◌≡◌, ◌+◌, ◌<◌, ◌^◌, ◌&&◌, ◌==◌, if◌then◌else◌, ℕ, List, [], Option, Some, None, option_map, drop, codes};
-ghost use Rattle.lexmeaning.specs.Reading.{begins};
-ghost use Rattle.lexlines.specs.Lines.{is_all_blank};
-ghost use Rattle.lexaction.specs.Comments.{slash};
+ghost use Rattle.lex_semantics.specs.Reading.{begins};
+ghost use Rattle.lexspec_lines.specs.Lines.{is_all_blank};
+ghost use Rattle.lexspec_actions.specs.Comments.{slash};
 ghost use Rattle.lexspec.specs.Items.{action_in, code, outside};
 ghost use Rattle.lexspec.specs.ActionViews.{place_of, IsStep, MostOpen};
 
-use lexclass::skip_first;
-use lexlines::is_all_blank;
+use lexre_bytes::skip_first;
+use lexspec_lines::is_all_blank;
 
 /// Where the text of an action stands.
 #[derive(Clone, Copy)]

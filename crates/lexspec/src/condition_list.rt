@@ -1,18 +1,18 @@
 //! The conditions of a rule, by number. (POSIX, lex, Rules in lex; flex, Start Conditions.)
 ghost use Rattle.std.specs.Prelude.{◌≡◌, ◌≤◌, ◌<◌, ℕ, List, Bool, true, false, Option, Some, None, option_map, length, slice_index_or, IfOk, IfErr, IfSome, IfNone};
 ghost use Rattle.std.specs.List.{list_any};
-ghost use Rattle.lexaction.specs.Names.{number_from, names_of};
+ghost use Rattle.lexspec_actions.specs.Names.{number_from, names_of};
 ghost use Rattle.lexspec.specs.RuleItems.{all_numbered, is_number, numbers_of};
-ghost use Rattle.lexmeaning.specs.Text.{listed};
+ghost use Rattle.lex_semantics.specs.Text.{listed};
 ghost use Rattle.lexspec.specs.SubjectViews.{conditions_of, parts};
-ghost use Rattle.lexlines.specs.Outcome.{UnlessMemory};
-ghost use Rattle.lexmeaning.specs.Limits.{max_conditions};
+ghost use Rattle.lexspec_lines.specs.Outcome.{UnlessMemory};
+ghost use Rattle.lex_semantics.specs.Limits.{max_conditions};
 
 use crate::subject::Conditions;
-use lexaction::{Condition, number_of};
-use lexclass::skip_first;
-use lexlines::{SpecErrorKind, split_before};
-use lexmeaning::MAX_CONDITIONS;
+use lex_semantics::MAX_CONDITIONS;
+use lexre_bytes::skip_first;
+use lexspec_actions::{Condition, number_of};
+use lexspec_lines::{SpecErrorKind, split_before};
 use std::alloc::{AllocError, Global};
 
 /// The conditions that the names between commas list, each as a flag at its number. None where a name is not declared.

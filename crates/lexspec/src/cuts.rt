@@ -1,14 +1,14 @@
 //! How much of a match is the text. (flex, Patterns: `r/s`. The bound is this project's.)
 ghost use Rattle.std.specs.Prelude.{ℕ, Option, Some, None, option_map, IfSome, IfNone};
-ghost use Rattle.lexmeaning.specs.Shapes.{IsSoundTree};
+ghost use Rattle.lex_semantics.specs.Shapes.{IsSoundTree};
 ghost use Rattle.lexre.specs.Views.{tree_of};
-ghost use Rattle.lexmeaning.specs.Sound.{HasFixed, IsCutOf};
+ghost use Rattle.lex_semantics.specs.Sound.{HasFixed, IsCutOf};
 ghost use Rattle.lexspec.specs.RuleViews.{cut_of};
-ghost use Rattle.lexmeaning.specs.Spec.{Cut as Meant};
+ghost use Rattle.lex_semantics.specs.Spec.{Cut as Meant};
 
-use lexmachine::Cut;
-use lexmeaning::MAX_FIXED_LENGTH;
+use lex_semantics::MAX_FIXED_LENGTH;
 use lexre::{Pattern, lengths};
+use lextab_machine::Cut;
 
 /// The length of each word of the pattern, where they have one length that is not too great.
 fn fixed_length(pattern: &Pattern) -> Option<u16>

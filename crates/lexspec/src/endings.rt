@@ -2,15 +2,15 @@
 ghost use Rattle.std.specs.Prelude.{◌≡◌, ◌==◌, ◌≤◌, ℕ, true, false, List, [], ◌∷◌, ◌++◌, map, length, IfOk};
 ghost use Rattle.std.specs.List.{list_any};
 ghost use Rattle.lexspec.specs.Endings.{numbers_kept, clashes};
-ghost use Rattle.lexaction.specs.Views.{condition_of, end_action_of};
-ghost use Rattle.lexlines.specs.Declaring.{declared_of};
+ghost use Rattle.lexspec_actions.specs.Views.{condition_of, end_action_of};
+ghost use Rattle.lexspec_lines.specs.Declaring.{declared_of};
 ghost use Rattle.lexspec.specs.Files.{lists_number, unlisted_end as unlisted_end_in, end_in, conditions_with, AreSingle};
 ghost use Rattle.lexspec.specs.EndRules.{end_rule_of};
 ghost use Rattle.lexspec.specs.RuleItems.{EndRule as EndRuleMeant};
 ghost use Rattle.lexspec.specs.Tests.{sound_list};
-ghost use Rattle.lexmeaning.specs.Limits.{max_conditions};
+ghost use Rattle.lex_semantics.specs.Limits.{max_conditions};
 
-use lexaction::{Condition, EndAction};
+use lexspec_actions::{Condition, EndAction};
 use std::alloc::{AllocError, Global};
 
 /// An `<<EOF>>` rule, by the numbers of its conditions: None without a list.

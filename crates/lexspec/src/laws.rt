@@ -1,18 +1,18 @@
 //! Laws over the definitions.
 ghost use Rattle.std.specs.Prelude.{◌≡◌, ◌≤◌, ℕ, ◌↔◌, Bool, true, List, length};
-ghost use Rattle.lexmeaning.specs.Tree.{Tree};
-ghost use Rattle.lexmeaning.specs.Shapes.{IsSoundTree};
-ghost use Rattle.lexmeaning.specs.Spec.{Rule, Spec};
+ghost use Rattle.lex_semantics.specs.Tree.{Tree};
+ghost use Rattle.lex_semantics.specs.Shapes.{IsSoundTree};
+ghost use Rattle.lex_semantics.specs.Spec.{Rule, Spec};
 ghost use Rattle.lexre.specs.Definitions.{Definitions};
-ghost use Rattle.lexlines.specs.DefinitionLines.{Declared, names_of};
+ghost use Rattle.lexspec_lines.specs.DefinitionLines.{Declared, names_of};
 ghost use Rattle.lexspec.specs.Items.{Item};
 ghost use Rattle.lexspec.specs.RuleItems.{EndRule, AreRules};
-ghost use Rattle.lexmeaning.specs.Sound.{HaveSoundSides, IsSound};
+ghost use Rattle.lex_semantics.specs.Sound.{HaveSoundSides, IsSound};
 ghost use Rattle.lexspec.specs.Files.{conditions_with, SpellsSpec};
 ghost use Rattle.lexre.specs.declared.options.ReadOptions.{ReadOptions};
 ghost use Rattle.lexspec.specs.Tests.{is_sound, sound_tree};
 ghost use Rattle.lexspec.specs.RuleExamples.{ConditionLists, Actions};
-ghost use Rattle.lexmeaning.specs.Limits.{max_conditions, max_rules};
+ghost use Rattle.lex_semantics.specs.Limits.{max_conditions, max_rules};
 
 /// A tree passes the test exactly if it is sound.
 pub fn tested_trees()

@@ -1,15 +1,15 @@
 //! What callers read of a specification.
 ghost use Rattle.std.specs.Prelude.{◌≡◌, true, map};
-ghost use Rattle.lexmeaning.specs.Spec.{rejects};
-ghost use Rattle.lexaction.specs.Views.{condition_of};
+ghost use Rattle.lex_semantics.specs.Spec.{rejects};
+ghost use Rattle.lexspec_actions.specs.Views.{condition_of};
 ghost use Rattle.lexspec.specs.RuleViews.{rule_of};
 ghost use Rattle.lexspec.specs.Views.{spec_of, skipped_in, conditions_in, rules_in};
 ghost use Rattle.lexspec.specs.Tests.{is_sound};
 
 use crate::rule::Rule;
 use crate::spec::Spec;
-use lexaction::Condition;
-use lexmachine::has_reject;
+use lexspec_actions::Condition;
+use lextab_machine::has_reject;
 
 impl Spec {
     /// A specification of these conditions and rules. `skipped` has the lines of skipped code.

@@ -1,23 +1,23 @@
 //! Specification files. (POSIX, lex, Input Files; flex, Format of the Input File.)
 ghost use Rattle.std.specs.Prelude.{◌≡◌, ◌≤◌, ◌+◌, true, length, IfOk, IfErr};
-ghost use Rattle.lexmeaning.specs.Spec.{Spec as Meant};
+ghost use Rattle.lex_semantics.specs.Spec.{Spec as Meant};
 ghost use Rattle.lexspec.specs.Files.{SpellsSpec};
-ghost use Rattle.lexlines.specs.Outcome.{UnlessMemory};
+ghost use Rattle.lexspec_lines.specs.Outcome.{UnlessMemory};
 ghost use Rattle.lexspec.specs.Readings.{has_text, of_sections, SpellsRest};
 ghost use Rattle.lexspec.specs.Tests.{is_sound};
 ghost use Rattle.lexspec.specs.Views.{spec_of};
-ghost use Rattle.lexclass.specs.declared.refusals.SpecErrorKind.TheVariants.{OutOfMemory};
-ghost use Rattle.lexmeaning.specs.Limits.{max_conditions, max_file_bytes};
+ghost use Rattle.lexre_bytes.specs.declared.refusals.SpecErrorKind.TheVariants.{OutOfMemory};
+ghost use Rattle.lex_semantics.specs.Limits.{max_conditions, max_file_bytes};
 
 use crate::endings::with_ends;
 use crate::rules_section::{RulesSection, read_rules};
 use crate::spec::Spec;
-use lexlines::{
+use lex_semantics::MAX_FILE_BYTES;
+use lexre::{Names, ReadOptions};
+use lexspec_lines::{
     Declarations, Section, Skipped, SpecError, SpecErrorKind, is_blank, read_section, split_line,
     without_returns,
 };
-use lexmeaning::MAX_FILE_BYTES;
-use lexre::{Names, ReadOptions};
 use std::alloc::Global;
 
 /// Whether a text has a byte other than blanks and newlines.
@@ -28,7 +28,7 @@ fn has_text(text: &[u8]) -> bool
 }
 
 /// The specification of what the two sections declare and spell. `skipped` has the lines of skipped code in the second.
-fn joined(
+fn join(
     alloc: Global,
     declarations: Declarations,
     found: RulesSection<'_>,
@@ -80,7 +80,7 @@ fn read_on(alloc: Global, section: Section<'_>) -> Result<Spec, SpecError>
         text,
         line + 1,
     ) {
-        Ok(found) => joined(alloc, declarations, found, skipped),
+        Ok(found) => join(alloc, declarations, found, skipped),
         Err(fault) => Err(fault),
     }
 }

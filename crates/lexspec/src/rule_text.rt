@@ -1,31 +1,31 @@
 //! The rules of a file, but for their actions. (POSIX, lex, Rules in lex; flex, Patterns, End-of-File Rules.)
 ghost use Rattle.std.specs.Prelude.{◌≡◌, ℕ, ◌≤◌, true, List, length, Option, Some, None, option_map, IfOk, IfErr, IfSome, OnErr, OnOk};
-ghost use Rattle.lexmeaning.specs.Tree.{Tree};
-ghost use Rattle.lexmeaning.specs.Shapes.{IsSoundTree};
+ghost use Rattle.lex_semantics.specs.Tree.{Tree};
+ghost use Rattle.lex_semantics.specs.Shapes.{IsSoundTree};
 ghost use Rattle.lexre.specs.Views.{tree_of};
 ghost use Rattle.lexre.specs.Spelling.{Spells};
-ghost use Rattle.lexmeaning.specs.Reading.{after_blanks};
+ghost use Rattle.lex_semantics.specs.Reading.{after_blanks};
 ghost use Rattle.lexspec.specs.Items.{starts_rule, action_in, outside};
-ghost use Rattle.lexmeaning.specs.Sound.{IsCutOf};
+ghost use Rattle.lex_semantics.specs.Sound.{IsCutOf};
 ghost use Rattle.lexspec.specs.RuleItems.{IsTrail};
 ghost use Rattle.lexspec.specs.RuleViews.{cut_of};
 ghost use Rattle.lexspec.specs.SubjectViews.{trailing_of};
 ghost use Rattle.lexspec.specs.ItemReads.{NoRules, NoSides, ReadsItem};
 ghost use Rattle.lexspec.specs.KeptNames.{AreKept};
 ghost use Rattle.lexspec.specs.SoundSides.{HasSoundFront};
-ghost use Rattle.lexmeaning.specs.Sound.{AreSoundSides};
-ghost use Rattle.lexlines.specs.Outcome.{UnlessMemory};
-ghost use Rattle.lexclass.specs.declared.refusals.SpecErrorKind.TheVariants.{Unclosed};
-ghost use Rattle.lexmeaning.specs.Limits.{max_conditions};
+ghost use Rattle.lex_semantics.specs.Sound.{AreSoundSides};
+ghost use Rattle.lexspec_lines.specs.Outcome.{UnlessMemory};
+ghost use Rattle.lexre_bytes.specs.declared.refusals.SpecErrorKind.TheVariants.{Unclosed};
+ghost use Rattle.lex_semantics.specs.Limits.{max_conditions};
 
 use crate::action_text::split_action;
 use crate::condition_list::condition_numbers;
 use crate::cuts::cut_by;
 use crate::rule::Rule;
 use crate::subject::{Subject, Trailing, conditions_at, subject_at};
-use lexlines::{Declarations, SpecErrorKind, skip_blanks};
-use lexmachine::Cut;
 use lexre::{ByteSet, Names, Pattern, PatternError, read_with_names};
+use lexspec_lines::{Declarations, SpecErrorKind, skip_blanks};
+use lextab_machine::Cut;
 use std::alloc::Global;
 
 /// A rule without its statements, or the conditions of an `<<EOF>>` rule.
@@ -60,13 +60,17 @@ fn read_side(
     at: usize,
 ) -> Result<Pattern, SpecErrorKind>
     requires known_so_far { AreKept declarations.now names.old }
-    ensures found { IfOk result (λ p. Spells declarations.now.options declarations.now.defs text.now (tree_of p)) }
+    ensures found { IfOk result (λ p. Spells declarations.now.options declarations.now.definitions text.now (tree_of p)) }
     ensures sound { IfOk result (λ p. IsSoundTree (tree_of p)) }
     ensures known { OnOk result (AreKept declarations.now names.new) }
-    ensures none { IfErr result (λ e. UnlessMemory e ((t : Tree) → Spells declarations.now.options declarations.now.defs text.now t → ⊥)) }
+    ensures none { IfErr result (λ e. UnlessMemory e ((t : Tree) → Spells declarations.now.options declarations.now.definitions text.now t → ⊥)) }
 {
-    let Declarations { options, defs, .. } = declarations;
-    match read_with_names(alloc, text, defs, *options, names) {
+    let Declarations {
+        options,
+        definitions,
+        ..
+    } = declarations;
+    match read_with_names(alloc, text, definitions, *options, names) {
         Ok(pattern) => Ok(pattern),
         Err(fault) => Err(SpecErrorKind::Pattern(PatternError {
             kind: fault.kind,
@@ -84,10 +88,10 @@ fn read_trail(
     at: usize,
 ) -> Result<Option<Pattern>, SpecErrorKind>
     requires known_so_far { AreKept declarations.now names.old }
-    ensures found { IfOk result (λ t. IsTrail declarations.now.options declarations.now.defs (trailing_of trail.entry) (option_map tree_of t)) }
+    ensures found { IfOk result (λ t. IsTrail declarations.now.options declarations.now.definitions (trailing_of trail.entry) (option_map tree_of t)) }
     ensures sound { IfOk result (λ t. IfSome t (λ p. IsSoundTree (tree_of p))) }
     ensures known { OnOk result (AreKept declarations.now names.new) }
-    ensures none { IfErr result (λ e. UnlessMemory e ((t : Option Tree) → IsTrail declarations.now.options declarations.now.defs (trailing_of trail.entry) t → ⊥)) }
+    ensures none { IfErr result (λ e. UnlessMemory e ((t : Option Tree) → IsTrail declarations.now.options declarations.now.definitions (trailing_of trail.entry) t → ⊥)) }
 {
     match trail {
         Trailing::None => Ok(None),
@@ -110,8 +114,8 @@ fn read_sides(
     at: usize,
 ) -> Result<Sides, SpecErrorKind>
     requires known_so_far { AreKept declarations.now names.old }
-    ensures head { IfOk result (λ s. Spells declarations.now.options declarations.now.defs head.now (tree_of s.head)) }
-    ensures trail { IfOk result (λ s. IsTrail declarations.now.options declarations.now.defs (trailing_of trail.entry) (option_map tree_of s.trail)) }
+    ensures head { IfOk result (λ s. Spells declarations.now.options declarations.now.definitions head.now (tree_of s.head)) }
+    ensures trail { IfOk result (λ s. IsTrail declarations.now.options declarations.now.definitions (trailing_of trail.entry) (option_map tree_of s.trail)) }
     ensures cut { IfOk result (λ s. IsCutOf (tree_of s.head) (option_map tree_of s.trail) (cut_of s.cut)) }
     ensures sound { IfOk result (λ s. AreSoundSides (tree_of s.head) (option_map tree_of s.trail)) }
     ensures known { OnOk result (AreKept declarations.now names.new) }

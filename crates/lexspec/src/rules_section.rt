@@ -1,7 +1,7 @@
 //! The rules section, item by item. (POSIX, lex, Rules in lex; flex, Format of the Input File.)
 ghost use Rattle.std.specs.Prelude.{◌≡◌, ℕ, ◌+◌, ◌-◌, ◌<◌, ◌≤◌, ◌^◌, List, [], false, length, take, codes, IfOk, IfErr, OnOk};
-ghost use Rattle.lexmeaning.specs.Reading.{begins};
-ghost use Rattle.lexlines.specs.Lines.{newlines};
+ghost use Rattle.lex_semantics.specs.Reading.{begins};
+ghost use Rattle.lexspec_lines.specs.Lines.{newlines};
 ghost use Rattle.lexspec.specs.ItemReads.{NoneLeft};
 ghost use Rattle.lexspec.specs.Agreeing.{Agrees};
 ghost use Rattle.lexspec.specs.Keeping.{Keeps};
@@ -9,10 +9,10 @@ ghost use Rattle.lexspec.specs.KeptNames.{AreKept};
 ghost use Rattle.lexspec.specs.SkipViews.{lines_with};
 ghost use Rattle.lexspec.specs.EndOpenings.{begins_end};
 ghost use Rattle.lexspec.specs.RulesReads.{HasRules, NoSuchRules, line_of_last};
-ghost use Rattle.lexlines.specs.Outcome.{UnlessMemory};
-ghost use Rattle.lexlines.specs.Skips.{next_in};
-ghost use Rattle.lexclass.specs.declared.refusals.SpecErrorKind.TheVariants.{DanglingBar};
-ghost use Rattle.lexmeaning.specs.Limits.{max_conditions, max_file_bytes, max_rules};
+ghost use Rattle.lexspec_lines.specs.Outcome.{UnlessMemory};
+ghost use Rattle.lexspec_lines.specs.Skips.{next_in};
+ghost use Rattle.lexre_bytes.specs.declared.refusals.SpecErrorKind.TheVariants.{DanglingBar};
+ghost use Rattle.lex_semantics.specs.Limits.{max_conditions, max_file_bytes, max_rules};
 
 use crate::endings::EndRule;
 use crate::rule::Rule;
@@ -20,9 +20,9 @@ use crate::rule_text::read_rule_text;
 use crate::rules_so_far::RulesSoFar;
 use crate::skips::{Skip, skip_at};
 use crate::subject::conditions_at;
-use lexlines::{Declarations, Skipped, SpecError, SpecErrorKind, newlines_before};
-use lexmeaning::MAX_RULES;
+use lex_semantics::MAX_RULES;
 use lexre::Names;
+use lexspec_lines::{Declarations, Skipped, SpecError, SpecErrorKind, newlines_before};
 use std::alloc::{AllocError, Global};
 
 /// What the rules section has, and what follows it.
@@ -136,7 +136,7 @@ impl RulesSoFar {
 
     /// The rules of a section that ends with this rest, at this line. If rules still wait for an
     /// action, the last of them is a `DanglingBar`.
-    fn ended(self, rest: &[u8], line: u32) -> Result<RulesSection<'_>, SpecError>
+    fn finish(self, rest: &[u8], line: u32) -> Result<RulesSection<'_>, SpecError>
         ensures waiting { IfOk result (λ s. length self.waiting.items ≡ 0) }
         ensures rules { IfOk result (λ s. s.rules.items ≡ self.rules.items) }
         ensures ends { IfOk result (λ s. s.ends.items ≡ self.ends.items) }
@@ -211,5 +211,5 @@ pub(crate) fn read_rules<'a>(
         progress = next;
         rest = after;
     }
-    progress.ended(rest, line)
+    progress.finish(rest, line)
 }

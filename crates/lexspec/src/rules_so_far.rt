@@ -3,18 +3,18 @@ ghost use Rattle.std.specs.Prelude.{◌≤◌, length, IfOk, IfErr};
 ghost use Rattle.lexspec.specs.ItemReads.{NoRulesAfter};
 ghost use Rattle.lexspec.specs.Agreeing.{GoesOn};
 ghost use Rattle.lexspec.specs.Keeping.{HasRoom, Keeps};
-ghost use Rattle.lexlines.specs.Outcome.{UnlessMemory};
+ghost use Rattle.lexspec_lines.specs.Outcome.{UnlessMemory};
 ghost use Rattle.lexspec.specs.SoundSides.{HasSoundFront};
 ghost use Rattle.lexspec.specs.declared.rule_text.Front.TheVariants.{Matching, AtEnd};
-ghost use Rattle.lexmeaning.specs.Limits.{max_conditions};
+ghost use Rattle.lex_semantics.specs.Limits.{max_conditions};
 
 use crate::action_text::is_bar;
 use crate::endings::{EndRule, may_join};
 use crate::rule::Rule;
 use crate::rule_text::{Front, RuleText};
-use crate::statements::finished;
-use lexaction::{read_action, read_end_action};
-use lexlines::{Declarations, SpecErrorKind};
+use crate::statements::finish;
+use lexspec_actions::{read_action, read_end_action};
+use lexspec_lines::{Declarations, SpecErrorKind};
 use std::alloc::Global;
 
 /// The rules that are read so far.
@@ -56,7 +56,7 @@ impl RulesSoFar {
         }
         match read_action(alloc, &declarations.conditions, declarations.stack, action) {
             Ok(statements) => {
-                let rules = finished(alloc, rules, waiting, rule, statements)?;
+                let rules = finish(alloc, rules, waiting, rule, statements)?;
                 Ok(RulesSoFar {
                     rules,
                     waiting: Vec::new(alloc),

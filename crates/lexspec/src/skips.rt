@@ -1,11 +1,11 @@
 //! Lines of the rules section that are no rules. (POSIX, lex, Rules in lex; flex, Format of the Input File.)
 ghost use Rattle.std.specs.Prelude.{◌≡◌, ℕ, ◌<◌, List, true, false, length, codes, IfOk, IfErr, IfSome, IfNone, OnErr};
-ghost use Rattle.lexmeaning.specs.Reading.{begins};
+ghost use Rattle.lex_semantics.specs.Reading.{begins};
 ghost use Rattle.lexspec.specs.Items.{Item, IsItem, starts_rule};
 ghost use Rattle.lexspec.specs.SkipViews.{item_of};
-ghost use Rattle.lexclass.specs.declared.refusals.SpecErrorKind.TheVariants.{Unclosed};
+ghost use Rattle.lexre_bytes.specs.declared.refusals.SpecErrorKind.TheVariants.{Unclosed};
 
-use lexlines::{SpecErrorKind, is_all_blank, skip_block, split_line, starts_blank};
+use lexspec_lines::{SpecErrorKind, is_all_blank, skip_block, split_line, starts_blank};
 
 /// What is skipped.
 #[derive(Clone, Copy)]

@@ -1,11 +1,11 @@
 //! Specifications.
 ghost use Rattle.std.specs.Prelude.{◌≡◌, true, map};
-ghost use Rattle.lexaction.specs.Views.{condition_of};
+ghost use Rattle.lexspec_actions.specs.Views.{condition_of};
 ghost use Rattle.lexspec.specs.RuleViews.{rule_of};
 ghost use Rattle.lexspec.specs.Tests.{is_sound};
 
 use crate::rule::Rule;
-use lexaction::Condition;
+use lexspec_actions::Condition;
 
 /// A specification: conditions, of which the first is INITIAL, and rules in the order of the file.
 /// (POSIX, lex, Definitions in lex and Rules in lex.)

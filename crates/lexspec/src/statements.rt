@@ -1,11 +1,11 @@
 //! Rules with their actions. (POSIX, lex, Actions in lex.)
 ghost use Rattle.std.specs.Prelude.{◌≡◌, ◌++◌, ◌∷◌, [], map, IfOk};
-ghost use Rattle.lexaction.specs.Views.{statement_of};
+ghost use Rattle.lexspec_actions.specs.Views.{statement_of};
 ghost use Rattle.lexspec.specs.RuleReads.{acting};
 ghost use Rattle.lexspec.specs.RuleViews.{rule_of};
 
 use crate::rule::Rule;
-use lexmachine::{Statement, copy_statements};
+use lextab_machine::{Statement, copy_statements};
 use std::alloc::{AllocError, Global};
 
 /// The rule with these statements.
@@ -18,7 +18,7 @@ fn with_statements(rule: Rule, statements: Vec<Statement>) -> Rule
 }
 
 /// The rules with one more that has these statements, and before it those that wait for them.
-pub(crate) fn finished(
+pub(crate) fn finish(
     alloc: Global,
     done: Vec<Rule>,
     waiting: Vec<Rule>,

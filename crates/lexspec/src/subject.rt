@@ -5,9 +5,9 @@ ghost use Rattle.lexspec.specs.Items.{Conditions as AskedFor, Subject as Subject
 ghost use Rattle.lexspec.specs.SubjectFaults.{IsSubjectFault};
 ghost use Rattle.lexspec.specs.SubjectViews.{conditions_of, trailing_of, subject_of};
 
-use lexclass::skip_first;
-use lexlines::{SpecErrorKind, is_blank, split_before, split_line};
 use lexre::{Cutting, PatternError, cut_pattern};
+use lexre_bytes::skip_first;
+use lexspec_lines::{SpecErrorKind, is_blank, split_before, split_line};
 
 /// The condition list of a rule.
 #[derive(Clone, Copy)]

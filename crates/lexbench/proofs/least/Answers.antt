@@ -1,5 +1,5 @@
 use Rattle.std.proofs.Common.{◌∙◌}
-use Rattle.lexmeaning.specs.Spec.{Spec}
+use Rattle.lex_semantics.specs.Spec.{Spec}
 use Rattle.lexspec.specs.Views.{spec_of}
 use Rattle.lexbench.proofs.least.Goals as goal
 

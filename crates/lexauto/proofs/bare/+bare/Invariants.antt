@@ -1,6 +1,6 @@
 use Rattle.std.proofs.Common.{◌≡◌, map, drop}
-use Rattle.lexmeaning.specs.Positions.{positions_of}
-use Rattle.lexmeaning.specs.Tree.{trees}
+use Rattle.lex_semantics.specs.Positions.{positions_of}
+use Rattle.lex_semantics.specs.Tree.{trees}
 use Rattle.lexre.specs.Views.{tree_of}
 use Rattle.lexauto.proofs.bare.+bare.Given as goal
 

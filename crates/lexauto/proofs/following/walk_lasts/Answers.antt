@@ -1,7 +1,7 @@
 use Rattle.std.proofs.Common.{◌≡◌, ◌<◌, ℕ, Bool, List, length, map, refl, ap, ◌∙◌, arith}
 use Rattle.std.specs.Prelude.{slice_index}
-use Rattle.lexmeaning.specs.Active.{lists}
-use Rattle.lexmeaning.specs.Subsets.{all_positions}
+use Rattle.lex_semantics.specs.Active.{lists}
+use Rattle.lex_semantics.specs.Subsets.{all_positions}
 use Rattle.lexspec.specs.Views.{spec_of, rules_in}
 use Rattle.lexauto.specs.Facts.{chosen}
 use Rattle.lexauto.specs.Laid.{shape_of}

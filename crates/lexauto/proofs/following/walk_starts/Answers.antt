@@ -1,8 +1,8 @@
 use Rattle.std.proofs.Common.{rules, ◌≡◌, ℕ, Bool, true, false, List, [], length, map, refl, sym, ap, ◌∙◌}
 use Rattle.std.proofs.Math.Path.{fun_ext}
-use Rattle.lexmeaning.specs.Spec.{rejects}
-use Rattle.lexmeaning.specs.Subsets.{all_positions}
-use Rattle.lexmeaning.specs.Text.{flag}
+use Rattle.lex_semantics.specs.Spec.{rejects}
+use Rattle.lex_semantics.specs.Subsets.{all_positions}
+use Rattle.lex_semantics.specs.Text.{flag}
 use Rattle.lexspec.specs.Views.{spec_of, rules_in}
 use Rattle.lexauto.specs.Facts.{chosen}
 use Rattle.lexauto.specs.Laid.{shape_of}

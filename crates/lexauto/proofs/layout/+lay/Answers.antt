@@ -1,6 +1,6 @@
 use Rattle.std.proofs.Common.{rules, ◌≡◌, ◌+◌, ◌≤◌, ◌++◌, ◌∷◌, List, length, map, drop, arith, sym, ap, subst, ◌∙◌}
-use Rattle.lexmeaning.specs.Positions.{positions, positions_of}
-use Rattle.lexmeaning.specs.Tree.{Tree, trees, Cat, Alt, Star, Repeat}
+use Rattle.lex_semantics.specs.Positions.{positions, positions_of}
+use Rattle.lex_semantics.specs.Tree.{Tree, trees, Cat, Alt, Star, Repeat}
 use Rattle.lexre.specs.Views.{tree_of}
 use Rattle.lexauto.specs.Alike.{Alike, choice_of}
 use Rattle.lexauto.specs.Plans.{plan_of, tree_in, trees_laid}

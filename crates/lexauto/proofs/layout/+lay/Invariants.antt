@@ -1,7 +1,7 @@
 use Rattle.std.proofs.Common.{◌≡◌, ◌+◌, ◌++◌, drop, map}
-use Rattle.lexmeaning.specs.Tree.{trees, Cat, Alt}
-use Rattle.lexmeaning.specs.Shapes.{AreSoundTrees}
-use Rattle.lexmeaning.specs.Positions.{positions_of}
+use Rattle.lex_semantics.specs.Tree.{trees, Cat, Alt}
+use Rattle.lex_semantics.specs.Shapes.{AreSoundTrees}
+use Rattle.lex_semantics.specs.Positions.{positions_of}
 use Rattle.lexre.specs.Views.{tree_of}
 use Rattle.lexauto.specs.Alike.{Alike, choice_of}
 use Rattle.lexauto.specs.Plans.{plan_of, plans, trees_in, trees_laid, AreSized}

@@ -1,5 +1,5 @@
 use Rattle.std.proofs.Common.{Bool, true, sym, subst}
-use Rattle.lexmeaning.specs.Tree.{trees, Alt}
+use Rattle.lex_semantics.specs.Tree.{trees, Alt}
 use Rattle.lexauto.specs.Alike.{Alike, choice_of}
 use Rattle.lexauto.specs.Signs.{signed}
 use Rattle.lexauto.specs.Plans.{plan_of, tree_in, trees_laid}

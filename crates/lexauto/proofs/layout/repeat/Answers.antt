@@ -1,5 +1,5 @@
 use Rattle.std.proofs.Common.{None}
-use Rattle.lexmeaning.specs.Tree.{Star, Repeat}
+use Rattle.lex_semantics.specs.Tree.{Star, Repeat}
 use Rattle.lexauto.specs.Alike.{Alike}
 use Rattle.lexauto.specs.Plans.{plan_of, tree_in}
 use Rattle.lexauto.proofs.AlikeLaws.{alike_on, if_ok_by}

@@ -1,5 +1,5 @@
 use Rattle.std.proofs.Common.{rules, ◌≡◌, List, map, sym, subst}
-use Rattle.lexmeaning.specs.Tree.{Trees, trees, Cat}
+use Rattle.lex_semantics.specs.Tree.{Trees, trees, Cat}
 use Rattle.lexauto.specs.Alike.{Alike}
 use Rattle.lexauto.specs.Plans.{plan_of, plans, trees_in, trees_laid}
 use Rattle.lexauto.specs.declared.layout.Part.{Part}

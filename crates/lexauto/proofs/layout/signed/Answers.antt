@@ -1,5 +1,5 @@
 use Rattle.std.proofs.Common.{rules, ◌≡◌, sym, subst}
-use Rattle.lexmeaning.specs.Tree.{Tree, Star}
+use Rattle.lex_semantics.specs.Tree.{Tree, Star}
 use Rattle.lexauto.specs.Alike.{Alike}
 use Rattle.lexauto.specs.Plans.{plan_of, tree_in}
 use Rattle.lexauto.specs.Signs.{signed}

@@ -2,8 +2,8 @@ use Rattle.std.proofs.Common.{rules, ◌≡◌, ◌+◌, ◌<◌, ℕ, suc, List
 use Rattle.std.proofs.lemmas.Grind.{common_steps}
 use Rattle.std.specs.Prelude.{slice_get}
 use Rattle.std.proofs.lemmas.List.{drop_more}
-use Rattle.lexmeaning.specs.Spec.{Rule}
-use Rattle.lexmeaning.specs.Subsets.{positions_of_rule, all_positions, base_of}
+use Rattle.lex_semantics.specs.Spec.{Rule}
+use Rattle.lex_semantics.specs.Subsets.{positions_of_rule, all_positions, base_of}
 use Rattle.lexauto.specs.Laid.{shape_of, HaveSized}
 use Rattle.lexauto.specs.Owners.{AreOwners}
 use Rattle.lexauto.specs.declared.owners.Owner.{Owner}

@@ -1,5 +1,5 @@
 use Rattle.std.proofs.Common.{◌≡◌, ◌+◌, drop, length, map}
-use Rattle.lexmeaning.specs.Subsets.{all_positions, base_of}
+use Rattle.lex_semantics.specs.Subsets.{all_positions, base_of}
 use Rattle.lexauto.specs.Laid.{shape_of, HaveSized}
 use Rattle.lexauto.specs.Owners.{AreOwners}
 use Rattle.lexauto.proofs.owners.owners_of.Given as goal

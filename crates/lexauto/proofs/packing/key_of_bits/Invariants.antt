@@ -1,5 +1,5 @@
 use Rattle.std.proofs.Common.{◌≡◌, ◌++◌, ◌-◌, ◌∷◌}
-use Rattle.lexmeaning.specs.Text.{listed}
+use Rattle.lex_semantics.specs.Text.{listed}
 use Rattle.lexauto.specs.Packing.{bit_at, bit_count}
 use Rattle.lexauto.proofs.packing.key_of_bits.Given as goal
 

@@ -1,8 +1,8 @@
 use Rattle.std.proofs.Common.{rules, arith, ◌≡◌, ◌+◌, ◌-◌, ◌<◌, ◌||◌, ◌++◌, ◌∷◌, [], Bool, List, length, sym, ◌∙◌, ap}
 use Rattle.std.proofs.lemmas.Grind.{common_steps}
-use Rattle.lexmeaning.specs.Positions.{positions}
-use Rattle.lexmeaning.specs.ByteSets.{ByteSet}
-use Rattle.lexmeaning.specs.Tree.{Set}
+use Rattle.lex_semantics.specs.Positions.{positions}
+use Rattle.lex_semantics.specs.ByteSets.{ByteSet}
+use Rattle.lex_semantics.specs.Tree.{Set}
 use Rattle.lexauto.specs.declared.layout.Part.TheFolds as L
 use Rattle.lexauto.specs.Letters.{reads_at}
 use Rattle.lexauto.specs.Plans.{plan_of, tree_in}

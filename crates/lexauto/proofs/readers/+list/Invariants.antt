@@ -1,5 +1,5 @@
 use Rattle.std.proofs.Common.{◌≡◌, ℕ, ◌+◌, ◌-◌, ◌*◌, ◌||◌, drop, map, length}
-use Rattle.lexmeaning.specs.Positions.{positions, positions_of}
+use Rattle.lex_semantics.specs.Positions.{positions, positions_of}
 use Rattle.lexauto.specs.Letters.{reads_at}
 use Rattle.lexauto.specs.Plans.{plan_of, plans, tree_in, trees_in}
 use Rattle.lexauto.specs.RuleFlow.{copies_read, reads, each_read}

@@ -1,8 +1,8 @@
 use Rattle.std.proofs.Common.{◌≡◌, ◌+◌, ◌≤◌, ◌||◌, ℕ, Bool, [], refl, sym, ap, ◌∙◌, arith}
 use Rattle.std.proofs.Math.Path.{fun_ext}
-use Rattle.lexmeaning.specs.Active.{lists}
-use Rattle.lexmeaning.specs.Positions.{positions}
-use Rattle.lexmeaning.specs.Subsets.{positions_of_rule}
+use Rattle.lex_semantics.specs.Active.{lists}
+use Rattle.lex_semantics.specs.Positions.{positions}
+use Rattle.lex_semantics.specs.Subsets.{positions_of_rule}
 use Rattle.lexauto.specs.Flow.{enters}
 use Rattle.lexauto.specs.Laid.{shape_of}
 use Rattle.lexauto.proofs.CursorLaws.{front_wider}

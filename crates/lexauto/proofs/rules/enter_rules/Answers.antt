@@ -1,9 +1,9 @@
 use Rattle.std.proofs.Common.{rules, ◌≡◌, ◌≤◌, ◌+◌, ◌||◌, ℕ, Bool, false, List, [], length, map, drop, arith, sym, subst, ◌∙◌}
 use Rattle.std.proofs.lemmas.Grind.{common_steps}
-use Rattle.lexmeaning.specs.Active.{lists}
-use Rattle.lexmeaning.specs.Spec.{Rule}
-use Rattle.lexmeaning.specs.Subsets.{all_positions}
-use Rattle.lexmeaning.specs.Text.{flag}
+use Rattle.lex_semantics.specs.Active.{lists}
+use Rattle.lex_semantics.specs.Spec.{Rule}
+use Rattle.lex_semantics.specs.Subsets.{all_positions}
+use Rattle.lex_semantics.specs.Text.{flag}
 use Rattle.lexauto.specs.Cursors.{IsFront}
 use Rattle.lexauto.specs.Laid.{shape_of}
 use Rattle.lexauto.specs.RuleFlow.{rules_enter}

@@ -1,7 +1,7 @@
 use Rattle.std.proofs.Common.{◌≡◌, ℕ, ◌+◌, ◌||◌, false, drop, map}
-use Rattle.lexmeaning.specs.Active.{lists}
-use Rattle.lexmeaning.specs.Subsets.{all_positions}
-use Rattle.lexmeaning.specs.Text.{flag}
+use Rattle.lex_semantics.specs.Active.{lists}
+use Rattle.lex_semantics.specs.Subsets.{all_positions}
+use Rattle.lex_semantics.specs.Text.{flag}
 use Rattle.lexauto.specs.Cursors.{IsFront}
 use Rattle.lexauto.specs.Laid.{shape_of, HaveSized}
 use Rattle.lexauto.specs.RuleFlow.{rules_enter}

@@ -1,5 +1,5 @@
 use Rattle.std.proofs.Common.{rules, ◌≡◌, ◌+◌, ◌++◌, ◌∷◌, [], List, map, drop, sym, subst}
-use Rattle.lexmeaning.specs.Spec.{Rule}
+use Rattle.lex_semantics.specs.Spec.{Rule}
 use Rattle.lexspec.specs.RuleViews.{rule_of}
 use Rattle.lexauto.specs.Laid.{shape_of, AlikeRules, HaveSized}
 use Rattle.lexauto.specs.declared.rules.LaidRule.{LaidRule}

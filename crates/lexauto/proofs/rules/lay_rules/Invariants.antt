@@ -1,6 +1,6 @@
 use Rattle.std.proofs.Common.{◌<◌, ◌++◌, ◌^◌, drop, map}
-use Rattle.lexmeaning.specs.Sound.{HaveSoundSides}
-use Rattle.lexmeaning.specs.Subsets.{all_positions}
+use Rattle.lex_semantics.specs.Sound.{HaveSoundSides}
+use Rattle.lex_semantics.specs.Subsets.{all_positions}
 use Rattle.lexspec.specs.RuleViews.{rule_of}
 use Rattle.lexauto.specs.Laid.{shape_of, AlikeRules, HaveSized}
 use Rattle.lexauto.proofs.rules.lay_rules.Given as goal

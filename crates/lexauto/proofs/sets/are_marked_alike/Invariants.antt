@@ -1,6 +1,6 @@
 use Rattle.std.proofs.Common.{◌≡◌, ◌<◌, ℕ}
 use Rattle.std.specs.Prelude.{slice_index}
-use Rattle.lexmeaning.specs.Text.{flag}
+use Rattle.lex_semantics.specs.Text.{flag}
 use Rattle.lexauto.proofs.sets.are_marked_alike.Given as goal
 
 abbrev pub invariant-loop-number : goal.invariant-loop-number

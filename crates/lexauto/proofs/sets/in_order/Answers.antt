@@ -1,6 +1,6 @@
 use Rattle.std.proofs.Common.{rules, ◌≡◌, ℕ, ◌<◌, Bool, List, length, true, arith, sym, ap, subst, ◌∙◌}
-use Rattle.lexmeaning.specs.Active.{lists}
-use Rattle.lexmeaning.specs.Text.{flag, listed}
+use Rattle.lex_semantics.specs.Active.{lists}
+use Rattle.lex_semantics.specs.Text.{flag, listed}
 use Rattle.lexauto.specs.Cursors.{Increases}
 use Rattle.lexauto.specs.Sets.{marked}
 use Rattle.lexauto.proofs.CursorLaws.{increases, all_marked, listed_flags}

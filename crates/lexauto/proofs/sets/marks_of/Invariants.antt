@@ -1,5 +1,5 @@
 use Rattle.std.proofs.Common.{◌≡◌, ℕ, ◌||◌, drop, length}
-use Rattle.lexmeaning.specs.Text.{flag}
+use Rattle.lex_semantics.specs.Text.{flag}
 use Rattle.lexauto.specs.Sets.{marked}
 use Rattle.lexauto.proofs.sets.marks_of.Given as goal
 

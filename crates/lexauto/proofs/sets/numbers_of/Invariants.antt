@@ -1,5 +1,5 @@
 use Rattle.std.proofs.Common.{◌≡◌, ◌++◌, ◌-◌, length}
-use Rattle.lexmeaning.specs.Text.{flag, listed}
+use Rattle.lex_semantics.specs.Text.{flag, listed}
 use Rattle.lexauto.proofs.sets.numbers_of.Given as goal
 
 abbrev pub invariant-loop-i : goal.invariant-loop-i

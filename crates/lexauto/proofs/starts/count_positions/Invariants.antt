@@ -1,5 +1,5 @@
 use Rattle.std.proofs.Common.{◌≡◌, ◌≤◌, ◌+◌, drop, map}
-use Rattle.lexmeaning.specs.Subsets.{all_positions}
+use Rattle.lex_semantics.specs.Subsets.{all_positions}
 use Rattle.lexspec.specs.RuleViews.{rule_of}
 use Rattle.lexauto.proofs.starts.count_positions.Given as goal
 

@@ -1,5 +1,5 @@
 use Rattle.std.proofs.Common.{◌≡◌, drop}
-use Rattle.lexmeaning.specs.Active.{lists}
+use Rattle.lex_semantics.specs.Active.{lists}
 use Rattle.lexauto.proofs.starts.lists.Given as goal
 
 abbrev pub invariant-loop-other : goal.invariant-loop-other

@@ -1,12 +1,12 @@
 use Rattle.std.proofs.Common.{rules, ◌≡◌, ◌<◌, ◌-◌, ◌++◌, ◌∷◌, [], ℕ, List, length, map, slice_get, Option, Some, IfOk, Vec, Global, ◌&&◌, ◌||◌, not, arith, refl, sym, ap, subst, ◌∙◌}
-use Rattle.lexmeaning.specs.Spec as M
-use Rattle.lexmeaning.specs.Active.{serves}
-use Rattle.lexaction.specs.Views.{condition_of}
+use Rattle.lex_semantics.specs.Spec as M
+use Rattle.lex_semantics.specs.Active.{serves}
+use Rattle.lexspec_actions.specs.Views.{condition_of}
 use Rattle.lexspec.specs.RuleViews.{rule_of}
 use Rattle.lexspec.specs.Views.{spec_of, conditions_in, rules_in}
 use Rattle.lexauto.specs.RuleAutomaton.{is_on, is_active}
 use Rattle.lexauto.specs.Sets.{tagged}
-use Rattle.lexmeaning.specs.Text.{listed}
+use Rattle.lex_semantics.specs.Text.{listed}
 use Rattle.lexauto.proofs.Numbers.{number_in, number_out}
 use Rattle.lexauto.proofs.StepLemmas.{item_at, length_map}
 use Rattle.lexauto.proofs.starts.start_key.Goals.{then-is_active+in_ok-push, else-is_active}
@@ -16,7 +16,7 @@ pub loop-i-preserved : goal.loop-i-preserved
 loop-i-preserved c =
     let S = spec_of c.args.spec.now in
     let number = c.args.number in
-    let bol = c.args.bol in
+    let line_start = c.args.line_start in
     let i = c.loop-i.i in
     let rules_are : map rule_of c.rules-rule-items.result.now ≡ rules_in S = c.rules-rule-items.ensures.rules in
     let conditions_are : map condition_of c.conditions.result.now ≡ conditions_in S = c.conditions.ensures.conditions in
@@ -29,20 +29,20 @@ loop-i-preserved c =
     let there : slice_get (conditions_in S) number ≡ Some (condition_of c.index-conditions-number.result) =
     ap (λ (cs : List M.Condition). slice_get cs number) (sym conditions_are) ∙ item_at condition_of c.conditions.result.now number c.index-conditions-number.result low c.index-conditions-number.is in
     let rule = rule_of c.rule-item.result in
-    let test : is_active S number bol i ≡ c.is_active.result =
-    ap (is_on S number bol) here ∙ ap (λ (k : Option M.Condition). serves rule.conditions number k && (not rule.anchored || bol)) there ∙ sym c.is_active.ensures in
+    let test : is_active S number line_start i ≡ c.is_active.result =
+    ap (is_on S number line_start) here ∙ ap (λ (k : Option M.Condition). serves rule.conditions number k && (not rule.anchored || line_start)) there ∙ sym c.is_active.ensures in
     let below : i < length (rules_in S) = omega (arith, count, lt) in
     elim c.if-is_active.branch [
       | then-is_active+in_ok-push w ↦
-          number_in (is_active S number bol) c.loop-i.numbers.items c.if-is_active.numbers.items i (length (rules_in S)) below (test ∙ w.if-is_active.true) (ap (λ (v : Vec ℕ Global). v.items) w.numbers-is ∙ w.in_ok-push.ensures.items) ∙ c.loop-i.invariant
+          number_in (is_active S number line_start) c.loop-i.numbers.items c.if-is_active.numbers.items i (length (rules_in S)) below (test ∙ w.if-is_active.true) (ap (λ (v : Vec ℕ Global). v.items) w.numbers-is ∙ w.in_ok-push.ensures.items) ∙ c.loop-i.invariant
       | else-is_active w ↦
-          number_out (is_active S number bol) c.loop-i.numbers.items c.if-is_active.numbers.items i (length (rules_in S)) below (test ∙ w.if-is_active.false) (ap (λ (v : Vec ℕ Global). v.items) w.numbers-is) ∙ c.loop-i.invariant
+          number_out (is_active S number line_start) c.loop-i.numbers.items c.if-is_active.numbers.items i (length (rules_in S)) below (test ∙ w.if-is_active.false) (ap (λ (v : Vec ℕ Global). v.items) w.numbers-is) ∙ c.loop-i.invariant
     ]
 
 pub returns : goal.returns
 returns c =
     let S = spec_of c.args.spec.now in
-    let test = is_active S c.args.number c.args.bol in
+    let test = is_active S c.args.number c.args.line_start in
     let rules_are : map rule_of c.rules-rule-items.result.now ≡ rules_in S = c.rules-rule-items.ensures.rules in
     let count : length (rules_in S) ≡ length c.rules-rule-items.result.now = sym (ap length rules_are) ∙ length_map rule_of c.rules-rule-items.result.now in
     let done : length c.rules-rule-items.result.now ≡ c.loop-i.i = search rules in

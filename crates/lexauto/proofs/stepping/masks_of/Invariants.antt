@@ -1,7 +1,7 @@
 use Rattle.std.proofs.Common.{◌≡◌, ℕ, ◌<◌, length}
 use Rattle.lexauto.specs.Laid.{shape_of}
 use Rattle.std.specs.Prelude.{map}
-use Rattle.lexmeaning.specs.Text.{flag}
+use Rattle.lex_semantics.specs.Text.{flag}
 use Rattle.lexauto.specs.RuleFlow.{rules_read}
 use Rattle.lexauto.specs.Moving.{masks_in, mask_at}
 use Rattle.lexauto.proofs.stepping.masks_of.Given as goal

@@ -1,12 +1,12 @@
 use Rattle.std.proofs.Common.{◌<◌, ◌≡◌, ℕ, length, arith, refl, sym, ap, subst, ◌∙◌, Err}
 use Rattle.std.proofs.lemmas.Result.{err_from_is_err_and}
-use Rattle.lexmeaning.specs.Subsets.{Subsets}
-use Rattle.lexmeaning.specs.TableFor.{TableFor}
-use Rattle.lexmeaning.specs.MachineLaws.{MachineLaws}
-use Rattle.lexdfa.specs.declared.dfa.Parts.{Parts}
-use Rattle.lexdfa.specs.Parts.{conditions, states}
-use Rattle.lexdfa.specs.Machines.{IsReached}
-use Rattle.lexdfa.specs.Automata.{machine_in}
+use Rattle.lex_semantics.specs.Subsets.{Subsets}
+use Rattle.lex_semantics.specs.TableFor.{TableFor}
+use Rattle.lex_semantics.specs.MachineLaws.{MachineLaws}
+use Rattle.lexauto_dfa.specs.declared.dfa.Parts.{Parts}
+use Rattle.lexauto_dfa.specs.Parts.{conditions, states}
+use Rattle.lexauto_dfa.specs.Machines.{IsReached}
+use Rattle.lexauto_dfa.specs.Automata.{machine_in}
 use Rattle.lexspec.specs.declared.spec.Spec.{Spec}
 use Rattle.lexspec.specs.Views.{spec_of}
 use Rattle.lexspec.proofs.TestLaws.{spec_is_sound}

@@ -1,7 +1,7 @@
 use Rattle.std.proofs.Common.{◌≡◌, ℕ, ap, sym, ◌∙◌, Err, not}
 use Rattle.std.proofs.lemmas.Result.{err_from_is_err_and}
 use Rattle.lexspec.specs.Views.{spec_of, rules_in}
-use Rattle.lexmeaning.specs.Reading.{is_empty}
+use Rattle.lex_semantics.specs.Reading.{is_empty}
 use Rattle.lexauto.specs.Moving.{followers_in}
 use Rattle.lexspec.proofs.TestLaws.{spec_is_sound}
 use Rattle.lexauto.specs.declared.explore.ExploreError.TheVariants.{TooMany}

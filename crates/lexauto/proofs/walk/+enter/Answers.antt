@@ -1,7 +1,7 @@
 use Rattle.std.proofs.Common.{◌≡◌, ℕ, Bool, ◌+◌, ◌-◌, ◌<◌, ◌≤◌, ◌⊎◌, ◌||◌, ◌&&◌, false, length, sym, ap, subst, ◌∙◌}
 use Rattle.std.specs.Prelude.{slice_index}
-use Rattle.lexmeaning.specs.Active.{lists}
-use Rattle.lexmeaning.specs.Positions.{positions}
+use Rattle.lex_semantics.specs.Active.{lists}
+use Rattle.lex_semantics.specs.Positions.{positions}
 use Rattle.lexauto.specs.Flow.{is_zero, comes, exits, enters}
 use Rattle.lexauto.specs.Plans.{plan_of, tree_in}
 use Rattle.lexauto.proofs.Copies.{passes_step, comes_step, copy_place, or_false, and_false, or_assoc, and_assoc, left_before, left_here, not_left}

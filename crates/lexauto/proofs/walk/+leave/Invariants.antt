@@ -1,6 +1,6 @@
 use Rattle.std.proofs.Common.{◌≡◌, ◌+◌, ◌-◌, ◌*◌, ◌||◌, false, drop, map}
-use Rattle.lexmeaning.specs.Active.{lists}
-use Rattle.lexmeaning.specs.Positions.{positions, positions_of}
+use Rattle.lex_semantics.specs.Active.{lists}
+use Rattle.lex_semantics.specs.Positions.{positions, positions_of}
 use Rattle.lexauto.specs.Cursors.{IsCursor}
 use Rattle.lexauto.specs.Flow.{passes, exits, exits_each, exits_some}
 use Rattle.lexauto.specs.Plans.{plan_of, plans, tree_in, trees_in, AreSized}

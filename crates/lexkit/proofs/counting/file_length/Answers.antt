@@ -1,6 +1,6 @@
 use Rattle.std.proofs.Common.{rules, ◌<◌, ◌^◌, arith}
-use Rattle.lextab.specs.Views.{table_of}
-use Rattle.lexfile.specs.File.{file_of}
+use Rattle.lextab_packed.specs.Views.{table_of}
+use Rattle.lextab_file.specs.File.{file_of}
 use Rattle.lexkit.proofs.FileBound.{file_short, counted}
 use Rattle.lexkit.proofs.counting.file_length.Goals as goal
 

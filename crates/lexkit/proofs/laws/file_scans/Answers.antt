@@ -1,11 +1,11 @@
 use Rattle.std.proofs.Common.{◌≡◌, Bool, ℕ, List, [], ◌++◌, sym, ap, subst, ◌∙◌}
-use Rattle.lexmeaning.specs.Text.{flag}
-use Rattle.lexmeaning.specs.Machine.{Machine, rules_of_machine}
-use Rattle.lexdfa.specs.Automata.{machine_of}
-use Rattle.lextab.specs.Table.{Table}
-use Rattle.lextab.specs.Steps.{machine_of_table}
-use Rattle.lextab.specs.Invariant.{GoesOn}
-use Rattle.lextab.specs.Views.{table_of}
+use Rattle.lex_semantics.specs.Text.{flag}
+use Rattle.lex_semantics.specs.Machine.{Machine, rules_of_machine}
+use Rattle.lexauto_dfa.specs.Automata.{machine_of}
+use Rattle.lextab_packed.specs.Table.{Table}
+use Rattle.lextab_packed.specs.Steps.{machine_of_table}
+use Rattle.lextab_packed.specs.Invariant.{GoesOn}
+use Rattle.lextab_packed.specs.Views.{table_of}
 use Rattle.lexkit.specs.Headline.{Ran}
 use Rattle.lexkit.proofs.FileScanned.{one_list_of_flags, same_machine, ran}
 use Rattle.lexkit.proofs.laws.file_scans.Goals as goal

@@ -1,6 +1,6 @@
 use Rattle.std.proofs.Common.{◌≤◌, ◌∙◌, ap, sym, subst, Err}
-use Rattle.lexmeaning.specs.Spec.{Spec}
-use Rattle.lexmeaning.specs.Subsets.{Subsets}
+use Rattle.lex_semantics.specs.Spec.{Spec}
+use Rattle.lex_semantics.specs.Subsets.{Subsets}
 use Rattle.lexspec.specs.Views.{spec_of}
 use Rattle.lexkit.proofs.Refusing.{by_reason}
 use Rattle.lexkit.proofs.making.least_automaton.Goals as goal

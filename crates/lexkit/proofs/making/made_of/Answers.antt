@@ -1,9 +1,9 @@
 use Rattle.std.proofs.Common.{◌++◌, ℕ, List, map, subst, refl}
-use Rattle.lexmeaning.specs.Text.{flag}
-use Rattle.lextab.specs.Views.{table_of}
+use Rattle.lex_semantics.specs.Text.{flag}
+use Rattle.lextab_packed.specs.Views.{table_of}
 use Rattle.std.specs.List.Sorted.{IsPermutation}
-use Rattle.lexreport.specs.Warned.{of_code, of_rule}
-use Rattle.lexmeaning.specs.Spec.{Spec}
+use Rattle.lexauto_reports.specs.Warned.{of_code, of_rule}
+use Rattle.lex_semantics.specs.Spec.{Spec}
 use Rattle.lexspec.specs.Views.{spec_of, skipped_in, rules_in}
 use Rattle.lexkit.proofs.making.made_of.Goals as goal
 

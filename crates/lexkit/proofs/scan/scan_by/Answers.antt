@@ -1,13 +1,13 @@
 use Rattle.std.proofs.Common.{◌≡◌, ◌∙◌, Bool, subst}
 use Rattle.std.specs.Prelude.{nat_lt}
-use Rattle.lexmeaning.specs.Spec.{Spec}
-use Rattle.lexmeaning.specs.Sound.{IsSound}
-use Rattle.lexmeaning.specs.Machine.{Machine, rules_of_machine}
+use Rattle.lex_semantics.specs.Spec.{Spec}
+use Rattle.lex_semantics.specs.Sound.{IsSound}
+use Rattle.lex_semantics.specs.Machine.{Machine, rules_of_machine}
 use Rattle.lexspec.specs.Views.{spec_of}
 use Rattle.lexspec.proofs.TestLaws.{spec_is_sound}
-use Rattle.lexdfa.specs.Automata.{machine_of}
-use Rattle.lextab.specs.Machines.{machine_of as table_machine}
-use Rattle.lexmeaning.specs.Acting.{Status}
+use Rattle.lexauto_dfa.specs.Automata.{machine_of}
+use Rattle.lextab_packed.specs.Machines.{machine_of as table_machine}
+use Rattle.lex_semantics.specs.Acting.{Status}
 use Rattle.lexscan.specs.Stands.{RanTo}
 use Rattle.lexscan.specs.Runs.{RanInto}
 use Rattle.lexkit.specs.Headline.{max_reads}

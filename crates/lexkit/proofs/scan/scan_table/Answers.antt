@@ -1,8 +1,8 @@
 use Rattle.std.proofs.Common.{Bool, subst}
 use Rattle.std.specs.Prelude.{nat_lt}
-use Rattle.lexmeaning.specs.Machine.{rules_of_machine}
-use Rattle.lextab.specs.Views.{table_of}
-use Rattle.lexmeaning.specs.Acting.{Status}
+use Rattle.lex_semantics.specs.Machine.{rules_of_machine}
+use Rattle.lextab_packed.specs.Views.{table_of}
+use Rattle.lex_semantics.specs.Acting.{Status}
 use Rattle.lexscan.specs.Stands.{RanTo}
 use Rattle.lexscan.specs.Runs.{RanInto}
 use Rattle.lexkit.specs.Headline.{max_reads}

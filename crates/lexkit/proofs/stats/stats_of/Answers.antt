@@ -1,11 +1,11 @@
 use Rattle.std.proofs.Common.{rules, ◌≡◌, ◌≤◌, ◌<◌, ◌^◌, ◌∙◌, length, map, min, arith, ap, refl, sym, subst}
-use Rattle.lexmeaning.specs.Subsets.{all_positions}
+use Rattle.lex_semantics.specs.Subsets.{all_positions}
 use Rattle.std.proofs.lemmas.List.{length-map}
 use Rattle.lexspec.specs.RuleViews.{rule_of}
 use Rattle.lexspec.specs.Views.{spec_of, rules_in}
-use Rattle.lextab.specs.Views.{row_of}
-use Rattle.lextab.specs.declared.parts.TableParts.{TableParts}
-use Rattle.lexfile.proofs.Columns.{slots_length}
+use Rattle.lextab_packed.specs.Views.{row_of}
+use Rattle.lextab_packed.specs.declared.parts.TableParts.{TableParts}
+use Rattle.lextab_file.proofs.Columns.{slots_length}
 use Rattle.lexkit.proofs.FileBound.{found_count}
 use Rattle.lexkit.proofs.stats.stats_of.Goals as goal
 

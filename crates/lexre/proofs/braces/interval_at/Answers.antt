@@ -1,6 +1,6 @@
 use Rattle.std.proofs.Common.{◌∙◌, sym, None}
-use Rattle.lexmeaning.proofs.ReadingLaws.{empty_test}
-use Rattle.lexclass.proofs.IntervalLaws.{exactly, at_least, at_least_too_many, no_comma, comma_unclosed, comma_no_digit, between}
+use Rattle.lex_semantics.proofs.ReadingLaws.{empty_test}
+use Rattle.lexre_bytes.proofs.IntervalLaws.{exactly, at_least, at_least_too_many, no_comma, comma_unclosed, comma_no_digit, between}
 use Rattle.lexre.proofs.braces.interval_at.Goals as goal
 
 pub returns-in_err-counts-clause-front : goal.returns-in_err-counts-clause-front

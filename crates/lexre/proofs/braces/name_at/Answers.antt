@@ -1,4 +1,4 @@
-use Rattle.lexmeaning.specs.Reading.{goes_on_name}
+use Rattle.lex_semantics.specs.Reading.{goes_on_name}
 use Rattle.std.proofs.Common.{rules, None, Some}
 use Rattle.lexre.proofs.BraceLaws.{name_then}
 use Rattle.lexre.proofs.braces.name_at.Goals as goal

@@ -1,6 +1,6 @@
 use Rattle.std.proofs.Common.{◌≡◌, ◌+◌, ◌≤◌, ◌^◌, min, map, drop}
-use Rattle.lexmeaning.specs.Shapes.{nodes_of}
-use Rattle.lexmeaning.specs.Tree.{trees}
+use Rattle.lex_semantics.specs.Shapes.{nodes_of}
+use Rattle.lex_semantics.specs.Tree.{trees}
 use Rattle.lexre.specs.Views.{tree_of}
 use Rattle.lexre.proofs.counts.+nodes.Given as goal
 

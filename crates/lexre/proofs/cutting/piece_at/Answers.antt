@@ -1,6 +1,6 @@
 use Rattle.std.proofs.Common.{arith, length-drop}
-use Rattle.lexclass.proofs.PassingLaws.{quotes_shorter}
-use Rattle.lexclass.proofs.QuoteLaws.{escape_shorter}
+use Rattle.lexre_bytes.proofs.PassingLaws.{quotes_shorter}
+use Rattle.lexre_bytes.proofs.QuoteLaws.{escape_shorter}
 use Rattle.lexre.proofs.cutting.piece_at.Goals as goal
 
 pub returns-in-Ok-clause-shorter : goal.returns-in-Ok-clause-shorter

@@ -1,5 +1,5 @@
 use Rattle.std.proofs.Common.{◌≡◌, ◌≤◌, ◌^◌, map, drop, Some, option_map}
-use Rattle.lexmeaning.specs.Tree.{trees}
+use Rattle.lex_semantics.specs.Tree.{trees}
 use Rattle.lexre.specs.Lengths.{plus, larger, greatest_of_each, greatest_of_some, capped}
 use Rattle.lexre.specs.Views.{tree_of}
 use Rattle.lexre.proofs.measures.+greatest.Given as goal

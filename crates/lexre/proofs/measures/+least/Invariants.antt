@@ -1,5 +1,5 @@
 use Rattle.std.proofs.Common.{◌≡◌, ◌+◌, ◌≤◌, ◌^◌, map, drop, option_map, IfSome}
-use Rattle.lexmeaning.specs.Tree.{trees}
+use Rattle.lex_semantics.specs.Tree.{trees}
 use Rattle.lexre.specs.Lengths.{least_of_each, least_of_some, capped, lesser}
 use Rattle.lexre.specs.Views.{tree_of}
 use Rattle.lexre.proofs.measures.+least.Given as goal

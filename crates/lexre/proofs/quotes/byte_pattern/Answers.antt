@@ -1,6 +1,6 @@
 use Rattle.std.proofs.Common.{rules, arith}
-use Rattle.lexmeaning.specs.Shapes.{IsSoundTree}
-use Rattle.lexmeaning.specs.Tree.{Set}
+use Rattle.lex_semantics.specs.Shapes.{IsSoundTree}
+use Rattle.lex_semantics.specs.Tree.{Set}
 use Rattle.lexre.specs.declared.pattern.Pattern.TheFolds.{the_lemmas}
 use Rattle.lexre.proofs.SoundLaws.{sound_byte}
 use Rattle.lexre.proofs.quotes.byte_pattern.Goals as goal

@@ -1,7 +1,7 @@
 use Rattle.std.proofs.Common.{◌≡◌, ◌≤◌, ◌∙◌, length, map, take, take_all, rules, sym, ap, subst, arith}
-use Rattle.lexmeaning.specs.Shapes.{IsSoundTree}
-use Rattle.lexmeaning.specs.Tree.{Cat, trees}
-use Rattle.lexclass.specs.Lexical.{quoted_tree}
+use Rattle.lex_semantics.specs.Shapes.{IsSoundTree}
+use Rattle.lex_semantics.specs.Tree.{Cat, trees}
+use Rattle.lexre_bytes.specs.Lexical.{quoted_tree}
 use Rattle.lexre.specs.Views.{tree_of}
 use Rattle.lexre.specs.declared.pattern.Pattern.TheFolds.{the_lemmas}
 use Rattle.lexre.proofs.QuotedLaws.{many_bytes, tree_of_many, byte_trees}

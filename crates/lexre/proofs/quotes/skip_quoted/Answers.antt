@@ -1,5 +1,5 @@
 use Rattle.std.proofs.Common.{arith}
-use Rattle.lexclass.proofs.QuoteLaws.{escape_shorter, closing_at, newline_at, nothing_at, bad_escape_at, escape_passed, other_passed}
+use Rattle.lexre_bytes.proofs.QuoteLaws.{escape_shorter, closing_at, newline_at, nothing_at, bad_escape_at, escape_passed, other_passed}
 use Rattle.lexre.proofs.quotes.skip_quoted.Goals as goal
 use Rattle.lexre.proofs.quotes.skip_quoted.Goals.{in-Some+else-byte-eq34+then-byte-eq10, in_default}
 

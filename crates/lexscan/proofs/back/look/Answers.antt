@@ -1,5 +1,5 @@
 use Rattle.std.proofs.Common.{◌≡◌, ◌+◌, ◌≤◌, ◌<◌, true, [], length, drop, sym, ◌∙◌, ap, arith}
-use Rattle.lexmeaning.specs.Machine.{Machine}
+use Rattle.lex_semantics.specs.Machine.{Machine}
 use Rattle.lexscan.specs.declared.state.Reading.{Reading}
 use Rattle.lexscan.proofs.Barrens as Look
 use Rattle.lexscan.proofs.Barrens.{LookedAt}

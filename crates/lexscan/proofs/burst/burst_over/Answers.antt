@@ -1,12 +1,12 @@
 use Rattle.std.proofs.Common.{◌≡◌, ℕ, ◌+◌, ◌-◌, ◌<◌, ◌≤◌, List, length, get_or, take, drop, take_all, length-drop, Bool, true, refl, sym, ap, subst, ◌∙◌, arith}
 use Rattle.std.specs.Prelude.{nat_eq, max}
-use Rattle.lexmeaning.specs.Text.{IsText}
-use Rattle.lexmeaning.specs.Machine.{Machine}
-use Rattle.lexmeaning.specs.MachineLaws.{MachineLaws}
-use Rattle.lexmachine.specs.declared.glance.Way.{Way}
+use Rattle.lex_semantics.specs.Text.{IsText}
+use Rattle.lex_semantics.specs.Machine.{Machine}
+use Rattle.lex_semantics.specs.MachineLaws.{MachineLaws}
+use Rattle.lextab_machine.specs.declared.glance.Way.{Way}
 use Rattle.lexscan.specs.declared.burst.Told.{Told}
-use Rattle.lexmachine.proofs.Growing.{is_text_from}
-use Rattle.lexmachine.specs.Glances.{Leads}
+use Rattle.lextab_machine.proofs.Growing.{is_text_from}
+use Rattle.lextab_machine.specs.Glances.{Leads}
 use Rattle.lexscan.specs.Bursts.{Went, Broke, is_told}
 use Rattle.lexscan.proofs.Bursting as Burst
 use Rattle.lexscan.proofs.burst.burst_over.Goals as goal

@@ -1,9 +1,9 @@
 use Rattle.std.proofs.Common.{◌≡◌, ℕ, ◌+◌, ◌-◌, ◌<◌, List, length, take, ap, subst, ◌∙◌, arith}
 use Rattle.std.specs.Prelude.{filter_map}
-use Rattle.lexmeaning.specs.Machine.{Machine}
-use Rattle.lexmeaning.specs.PlainMachine.{match_of}
-use Rattle.lexmeaning.specs.Trail.{falling}
-use Rattle.lexmeaning.specs.Text.{BeginsWith}
+use Rattle.lex_semantics.specs.Machine.{Machine}
+use Rattle.lex_semantics.specs.PlainMachine.{match_of}
+use Rattle.lex_semantics.specs.Trail.{falling}
+use Rattle.lex_semantics.specs.Text.{BeginsWith}
 use Rattle.lexscan.specs.declared.act.Step.TheVariants as Step
 use Rattle.lexscan.specs.Descends.{conditions_of, Passed, Tried, CutOff}
 use Rattle.lexscan.proofs.Descending as Down

@@ -1,5 +1,5 @@
 use Rattle.std.proofs.Common.{◌≡◌, ◌≤◌, length, take, true}
-use Rattle.lexmeaning.specs.Trail.{falling}
+use Rattle.lex_semantics.specs.Trail.{falling}
 use Rattle.lexscan.specs.Descends.{conditions_of, Passed}
 use Rattle.lexscan.proofs.descent.descend.Given as goal
 

@@ -1,6 +1,6 @@
 use Rattle.std.proofs.Common.{◌≡◌, ◌≤◌, length, drop, true}
 use Rattle.std.specs.Prelude.{filter_map}
-use Rattle.lexmeaning.specs.PlainMachine.{match_of}
+use Rattle.lex_semantics.specs.PlainMachine.{match_of}
 use Rattle.lexscan.specs.Descends.{conditions_of, Passed}
 use Rattle.lexscan.proofs.descent.try_rules.Given as goal
 

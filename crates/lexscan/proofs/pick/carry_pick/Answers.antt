@@ -1,8 +1,8 @@
 use Rattle.std.proofs.Common.{◌≡◌, ℕ, ◌+◌, ◌-◌, List, take, ap, subst, ◌∙◌, arith}
 use Rattle.std.specs.Prelude.{map}
-use Rattle.lexmachine.specs.Views.{statement_of}
-use Rattle.lexmeaning.specs.Text.{BeginsWith}
-use Rattle.lexmeaning.specs.Machine.{Machine}
+use Rattle.lextab_machine.specs.Views.{statement_of}
+use Rattle.lex_semantics.specs.Text.{BeginsWith}
+use Rattle.lex_semantics.specs.Machine.{Machine}
 use Rattle.lexscan.specs.declared.act.Step.TheVariants as Step
 use Rattle.lexscan.specs.Picks.{trail_of}
 use Rattle.lexscan.specs.Descends.{conditions_of}

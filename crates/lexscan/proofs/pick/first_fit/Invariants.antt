@@ -1,6 +1,6 @@
 use Rattle.std.proofs.Common.{◌≡◌, drop}
 use Rattle.std.specs.Prelude.{filter_map}
-use Rattle.lexmeaning.specs.PlainMachine.{match_of}
+use Rattle.lex_semantics.specs.PlainMachine.{match_of}
 use Rattle.lexscan.proofs.pick.first_fit.Given as goal
 
 abbrev pub invariant-loop-rule : goal.invariant-loop-rule

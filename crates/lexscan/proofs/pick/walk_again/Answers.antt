@@ -1,8 +1,8 @@
 use Rattle.std.proofs.Common.{◌≡◌, ℕ, ◌+◌, ◌<◌, List, length, get_or, Some, None, ap, subst, ◌∙◌, arith}
 use Rattle.std.specs.Prelude.{filter_map}
-use Rattle.lexmeaning.specs.Machine.{Machine}
-use Rattle.lexmeaning.specs.PlainMachine.{match_of}
-use Rattle.lexmeaning.specs.Trail.{falling}
+use Rattle.lex_semantics.specs.Machine.{Machine}
+use Rattle.lex_semantics.specs.PlainMachine.{match_of}
+use Rattle.lex_semantics.specs.Trail.{falling}
 use Rattle.lexscan.specs.declared.state.Spot.{Spot}
 use Rattle.lexscan.specs.Picks.{IsFirst, trail_of, state_at}
 use Rattle.lexscan.proofs.Picking as Pick

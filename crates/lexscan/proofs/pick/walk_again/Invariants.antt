@@ -1,6 +1,6 @@
 use Rattle.std.proofs.Common.{◌≡◌, ◌≤◌, ◌<◌, ◌-◌}
 use Rattle.std.specs.Prelude.{IfSome}
-use Rattle.lexmeaning.specs.Trail.{falling}
+use Rattle.lex_semantics.specs.Trail.{falling}
 use Rattle.lexscan.specs.Picks.{IsFirst, HasStatements, trail_of, state_at}
 use Rattle.lexscan.proofs.pick.walk_again.Given as goal
 

@@ -1,6 +1,6 @@
 use Rattle.std.proofs.Common.{◌≡◌, ◌+◌, ◌≤◌, ◌++◌, ◌∷◌, [], true, length, get_or, sym, ap, subst, ◌∙◌, arith}
 use Rattle.std.proofs.lemmas.List.{length-append}
-use Rattle.lexmeaning.specs.Machine.{Machine}
+use Rattle.lex_semantics.specs.Machine.{Machine}
 use Rattle.lexscan.specs.Reads.{IsThere}
 use Rattle.lexscan.proofs.Growing as Grow
 use Rattle.lexscan.proofs.see.see.Goals as goal

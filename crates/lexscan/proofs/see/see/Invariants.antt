@@ -1,5 +1,5 @@
 use Rattle.std.proofs.Common.{◌≡◌, ℕ, ◌+◌, ◌-◌, ◌<◌, length, max, drop, true, false}
-use Rattle.lexmeaning.specs.Text.{Among}
+use Rattle.lex_semantics.specs.Text.{Among}
 use Rattle.lexscan.specs.Reads.{Took}
 use Rattle.lexscan.specs.Sees.{SoFar}
 use Rattle.lexscan.proofs.see.see.Given as goal

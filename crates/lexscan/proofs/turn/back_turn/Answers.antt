@@ -1,8 +1,8 @@
 use Rattle.std.proofs.Common.{◌≡◌, ℕ, ◌++◌, suc, true, false, List, [], ◌⊎◌, inl, inr, Some, Ok, Err, refl, sym, ap, subst, ◌∙◌}
-use Rattle.lexmeaning.specs.Machine.{Machine}
-use Rattle.lexmeaning.specs.MachineLaws.{MachineLaws}
+use Rattle.lex_semantics.specs.Machine.{Machine}
+use Rattle.lex_semantics.specs.MachineLaws.{MachineLaws}
 use Rattle.lexscan.specs.declared.state.State.{State}
-use Rattle.lexmeaning.specs.Acting.{StackFault}
+use Rattle.lex_semantics.specs.Acting.{StackFault}
 use Rattle.lexscan.specs.declared.error.RunError.{RunError}
 use Rattle.lexscan.specs.declared.error.RunError.TheVariants.{Read, TooManyReads, Write, OutOfMemory, Stack, Failed}
 use Rattle.lexscan.specs.Descends.{conditions_at, matches_of, CutAll}

@@ -1,6 +1,6 @@
 use Rattle.std.proofs.Common.{List, ℕ, ◌≡◌, ap, subst, ◌∙◌}
-use Rattle.lexmeaning.specs.Machine.{Machine}
-use Rattle.lexmeaning.specs.Spec.{EndAction}
+use Rattle.lex_semantics.specs.Machine.{Machine}
+use Rattle.lex_semantics.specs.Spec.{EndAction}
 use Rattle.lexscan.proofs.Saying.{prefix_same}
 use Rattle.lexscan.proofs.Descending.{wrote_flushed}
 use Rattle.lexscan.proofs.turn.end_turn.Goals as goal

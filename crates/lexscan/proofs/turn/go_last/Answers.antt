@@ -1,4 +1,4 @@
-use Rattle.lexmeaning.specs.Machine.{Machine}
+use Rattle.lex_semantics.specs.Machine.{Machine}
 use Rattle.lexscan.specs.Picks.{trail_of}
 use Rattle.lexscan.proofs.Leaving.{matched_moved, finished_moved}
 use Rattle.lexscan.proofs.turn.go_last.Goals as goal

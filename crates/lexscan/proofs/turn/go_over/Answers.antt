@@ -1,4 +1,4 @@
-use Rattle.lexmeaning.specs.Machine.{Machine}
+use Rattle.lex_semantics.specs.Machine.{Machine}
 use Rattle.lexscan.proofs.Barrens as Look
 use Rattle.lexscan.proofs.turn.go_over.Goals as goal
 

@@ -1,5 +1,5 @@
 use Rattle.std.proofs.Common.{subst}
-use Rattle.lexmeaning.specs.Machine.{Machine}
+use Rattle.lex_semantics.specs.Machine.{Machine}
 use Rattle.lexscan.specs.Sees.{SawOr, Saw, SawEnd}
 use Rattle.lexscan.proofs.Leaving.{matched_moved, finished_moved}
 use Rattle.lexscan.proofs.turn.go_told.Goals as goal

@@ -1,6 +1,6 @@
 use Rattle.std.proofs.Common.{ℕ, List, refl, Some}
-use Rattle.lexmeaning.specs.Machine.{Machine}
-use Rattle.lexmeaning.specs.Acting.{StackFault}
+use Rattle.lex_semantics.specs.Machine.{Machine}
+use Rattle.lex_semantics.specs.Acting.{StackFault}
 use Rattle.lexscan.specs.declared.act.Finish.TheVariants as Finish
 use Rattle.lexscan.specs.Descends.{conditions_at, finished_of, matches_of}
 use Rattle.lexscan.proofs.Descending.{performed_flushed, performed_cut}

@@ -1,7 +1,7 @@
 use Rattle.std.proofs.Common.{◌≡◌, ℕ, false, suc, ◌+◌, ◌<◌, ◌++◌, ◌≤◌, Err, sym, ap, subst, ◌∙◌, append_assoc, arith}
 use Rattle.lexscan.specs.Reads.{end_step}
 use Rattle.std.specs.Prelude.{nat_lt}
-use Rattle.lexmeaning.specs.Machine.{rules_of_machine}
+use Rattle.lex_semantics.specs.Machine.{rules_of_machine}
 use Rattle.lexscan.specs.Runs.{RanInto}
 use Rattle.lexscan.specs.declared.error.RunError.{RunError}
 use Rattle.lexscan.specs.declared.error.RunError.TheVariants.{Write, TooManyReads}

@@ -1,5 +1,5 @@
 use Rattle.std.proofs.Common.{◌≡◌, ◌+◌, ◌<◌, ◌≤◌, length, None, false, true}
-use Rattle.lexmeaning.specs.Text.{AllBelow}
+use Rattle.lex_semantics.specs.Text.{AllBelow}
 use Rattle.lexscan.specs.Memos.{AreTrue}
 use Rattle.lexscan.specs.Reads.{end_step}
 use Rattle.lexscan.specs.Runs.{Running}

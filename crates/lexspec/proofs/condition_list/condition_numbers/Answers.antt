@@ -1,6 +1,6 @@
 use Rattle.std.proofs.Common.{ap, sym, Some, ◌∙◌, true, length}
 use Rattle.lexspec.specs.SubjectViews.{conditions_of}
-use Rattle.lexaction.specs.Names.{number_from, names_of}
+use Rattle.lexspec_actions.specs.Names.{number_from, names_of}
 use Rattle.lexspec.specs.RuleItems.{numbers_of}
 use Rattle.lexspec.proofs.ListedLaws.{every_flag}
 use Rattle.lexspec.proofs.condition_list.condition_numbers.Goals as goal

@@ -1,5 +1,5 @@
 use Rattle.std.proofs.Common.{rules, arith, ◌==◌, ◌≡◌, [], length, sym}
-use Rattle.lexaction.specs.Names.{number_from, names_of}
+use Rattle.lexspec_actions.specs.Names.{number_from, names_of}
 use Rattle.lexspec.specs.SubjectViews.{parts}
 use Rattle.lexspec.proofs.ListedLaws.{marks_first, marks_next, marks_all, marks_none, last_part, next_part, parts_first, if_none_any}
 use Rattle.lexspec.proofs.condition_list.listed.Goals as goal

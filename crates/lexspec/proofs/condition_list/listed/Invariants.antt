@@ -1,5 +1,5 @@
 use Rattle.std.proofs.Common.{length}
-use Rattle.lexaction.specs.Names.{number_from, names_of}
+use Rattle.lexspec_actions.specs.Names.{number_from, names_of}
 use Rattle.lexspec.specs.SubjectViews.{parts}
 use Rattle.lexspec.proofs.ListedLaws.{Marks}
 use Rattle.lexspec.proofs.condition_list.listed.Given as goal

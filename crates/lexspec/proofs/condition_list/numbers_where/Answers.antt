@@ -1,5 +1,5 @@
 use Rattle.std.proofs.Common.{arith, ◌++◌, ◌∷◌, [], ◌+◌, ◌-◌, ◌≡◌, true, false, sym, ap, ◌∙◌, append_assoc}
-use Rattle.lexmeaning.specs.Text.{listed}
+use Rattle.lex_semantics.specs.Text.{listed}
 use Rattle.lexspec.proofs.ListedLaws.{number_here, number_not}
 use Rattle.lexspec.proofs.condition_list.numbers_where.Goals as goal
 use Rattle.lexspec.proofs.condition_list.numbers_where.Goals.{then-flags-number+in_ok-push, else-flags-number}

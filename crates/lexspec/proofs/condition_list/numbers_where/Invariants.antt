@@ -1,8 +1,8 @@
 use Rattle.std.proofs.Common.{◌≡◌, ℕ, ◌<◌, ◌++◌, ◌-◌, Bool, false}
 use Rattle.std.specs.Prelude.{slice_index_or}
-use Rattle.lexmeaning.specs.Text.{listed}
+use Rattle.lex_semantics.specs.Text.{listed}
 use Rattle.lexspec.proofs.condition_list.numbers_where.Given as goal
-use Rattle.lexmeaning.specs.Limits.{max_conditions}
+use Rattle.lex_semantics.specs.Limits.{max_conditions}
 
 abbrev pub invariant-loop-number : goal.invariant-loop-number
 invariant-loop-number l = (test : ℕ → Bool) → ((c : ℕ) → c < max_conditions → slice_index_or l.flags c false ≡ test c)

@@ -1,7 +1,7 @@
 use Rattle.std.proofs.Common.{rules, ◌≤◌, ◌∙◌, length, arith}
 use Rattle.lexspec.proofs.ReadingLaws.{kept_short, rest_short, line_few, read_found, read_none, section_none}
 use Rattle.lexspec.proofs.reading.read_spec.Goals as goal
-use Rattle.lexmeaning.specs.Limits.{max_file_bytes}
+use Rattle.lex_semantics.specs.Limits.{max_file_bytes}
 
 pub read_section-requires : goal.read_section-requires
 read_section-requires c =

@@ -1,7 +1,7 @@
 use Rattle.std.proofs.Common.{Some, ap, rules, arith}
-use Rattle.lexmeaning.specs.Tree.{Set}
+use Rattle.lex_semantics.specs.Tree.{Set}
 use Rattle.lexre.specs.declared.pattern.Pattern.TheFolds.{the_lemmas}
-use Rattle.lexclass.proofs.SetLaws.{sound_single}
+use Rattle.lexre_bytes.proofs.SetLaws.{sound_single}
 use Rattle.lexspec.specs.RuleItems.{newline}
 use Rattle.lexspec.specs.SubjectViews.{trailing_of}
 use Rattle.lexspec.proofs.rule_text.read_trail.Goals as goal

@@ -44,7 +44,7 @@ items-preserved c = record {
   shorter = omega (arith, c.items.invariant.shorter, c.in-Ok.ensures.shorter);
 }
 
-is_over : (c : goal.After-ended) → IsOver c.items.rest.now
+is_over : (c : goal.After-finish) → IsOver c.items.rest.now
 is_over c = elim c.items-test.branch [
   | then-items-test+else-not-starts_with w ↦ inr (sym w.starts_with.ensures.value ∙ w.if-not-starts_with.false)
   | else-items-test w ↦ over_empty c.items.rest.now (eqb-true (length c.items.rest.now) 0 (sym c.is_empty.ensures ∙ w.items-test.false))

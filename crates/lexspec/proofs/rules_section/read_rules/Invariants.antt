@@ -1,5 +1,5 @@
 use Rattle.std.proofs.Common.{◌≡◌, ◌+◌, ◌≤◌, length}
-use Rattle.lexlines.specs.Lines.{newlines}
+use Rattle.lexspec_lines.specs.Lines.{newlines}
 use Rattle.lexspec.specs.Agreeing.{Agrees}
 use Rattle.lexspec.specs.Keeping.{Keeps}
 use Rattle.lexspec.specs.KeptNames.{AreKept}

@@ -1,6 +1,6 @@
 use Rattle.std.proofs.Common.{rules, ◌∙◌, ◌==◌, ◌≡◌, length, sym, ap}
-use Rattle.lexmeaning.specs.ByteSets.{is_word}
-use Rattle.lexlines.specs.Lines.{line_in}
+use Rattle.lex_semantics.specs.ByteSets.{is_word}
+use Rattle.lexspec_lines.specs.Lines.{line_in}
 use Rattle.lexspec.proofs.SubjectLaws.{list_open, list_every, list_only}
 use Rattle.lexspec.proofs.subject.conditions_at.Goals as goal
 

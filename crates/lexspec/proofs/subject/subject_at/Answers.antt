@@ -1,6 +1,6 @@
 use Rattle.std.proofs.Common.{sym, ◌∙◌}
 use Rattle.std.proofs.lemmas.Result.{err_from_is_err_and}
-use Rattle.lexlines.proofs.OutcomeLaws.{on_err}
+use Rattle.lexspec_lines.proofs.OutcomeLaws.{on_err}
 use Rattle.lexspec.proofs.SubjectLaws.{bare_refused, anchored_refused}
 use Rattle.lexspec.proofs.subject.subject_at.Goals as goal
 

@@ -1,5 +1,5 @@
 use Rattle.std.proofs.Common.{rules, ◌≡◌, ◌==◌, not, Bool, [], ◌∷◌, ◌++◌, length, ap, ◌∙◌}
-use Rattle.lexmeaning.specs.Reading.{is_empty}
+use Rattle.lex_semantics.specs.Reading.{is_empty}
 use Rattle.lexauto.specs.Explored.{goes_by}
 use Rattle.lexauto.specs.Keys.{Key, keys_in}
 use Rattle.lexauto.specs.Packing.{unpacked}

@@ -1,6 +1,6 @@
 use Rattle.std.proofs.Common.{◌+◌, ◌++◌, List, map, sym, ap, subst, ◌∙◌}
-use Rattle.lexmeaning.specs.Positions.{positions_of}
-use Rattle.lexmeaning.specs.Tree.{trees, Cat}
+use Rattle.lex_semantics.specs.Positions.{positions_of}
+use Rattle.lex_semantics.specs.Tree.{trees, Cat}
 use Rattle.lexauto.specs.Alike.{Alike, choice_of}
 use Rattle.lexauto.specs.Plans.{plan_of, plans, trees_in, trees_laid, AreSized}
 use Rattle.lexauto.specs.declared.layout.Part.{Part}

@@ -1,5 +1,5 @@
 use Rattle.std.proofs.Common.{◌<◌, ◌^◌, List, length, map, sym, ap, subst, ◌∙◌, arith}
-use Rattle.lexmeaning.specs.Subsets.{all_positions}
+use Rattle.lex_semantics.specs.Subsets.{all_positions}
 use Rattle.lexspec.specs.Views.{spec_of}
 use Rattle.lexauto.specs.Laid.{shape_of}
 use Rattle.lexauto.specs.Owners.{AreOwners}

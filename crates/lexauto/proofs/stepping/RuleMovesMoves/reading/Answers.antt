@@ -1,7 +1,7 @@
 use Rattle.std.proofs.Common.{◌≡◌, ◌<◌, ℕ, Bool, List, map, IfOk, ap, subst, ◌∙◌, arith}
 use Rattle.lexauto.specs.RuleFlow.{rules_read}
 use Rattle.lexspec.specs.RuleViews.{rule_of}
-use Rattle.lexmeaning.specs.Text.{flag}
+use Rattle.lex_semantics.specs.Text.{flag}
 use Rattle.lexauto.proofs.StepLemmas.{reading_is, mask_tells}
 use Rattle.lexauto.proofs.stepping.RuleMovesMoves.reading.Goals as goal
 

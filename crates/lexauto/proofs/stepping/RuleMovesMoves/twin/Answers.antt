@@ -1,7 +1,7 @@
 use Rattle.std.proofs.Common.{◌≡◌, ◌<◌, ◌≤◌, length, map, slice_index, sym, ap, ◌∙◌, arith, List, Bool}
 use Rattle.std.proofs.lemmas.Grind.{get_or_default_zero}
 use Rattle.lexspec.specs.RuleViews.{rule_of}
-use Rattle.lexmeaning.specs.Text.{flag}
+use Rattle.lex_semantics.specs.Text.{flag}
 use Rattle.lexauto.specs.Moving.{masks_in, mask_at}
 use Rattle.lexauto.proofs.StepLemmas.{reading_alike}
 use Rattle.lexauto.proofs.stepping.RuleMovesMoves.twin.Goals as goal

@@ -1,5 +1,5 @@
 use Rattle.std.proofs.Common.{rules, ◌<◌, length, sym, subst}
-use Rattle.lexmeaning.specs.Text.{Among}
+use Rattle.lex_semantics.specs.Text.{Among}
 use Rattle.lexscan.specs.Memos.{marks_of}
 use Rattle.lexscan.proofs.Marks.{among_at, in_cells}
 use Rattle.lexscan.proofs.memo.Memo.has.Goals as goal

@@ -1,5 +1,5 @@
 use Rattle.std.proofs.Common.{rules, ◌≡◌, ◌<◌, ◌⊎◌, length, inl, inr, ap, ◌∙◌, subst}
-use Rattle.lexmeaning.specs.Text.{Among}
+use Rattle.lex_semantics.specs.Text.{Among}
 use Rattle.lexscan.specs.declared.memo.Mark.{Mark}
 use Rattle.lexscan.specs.Memos.{marks_of}
 use Rattle.lexscan.proofs.Marks.{marked_in}

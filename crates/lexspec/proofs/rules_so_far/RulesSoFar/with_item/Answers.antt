@@ -1,14 +1,14 @@
 use Rattle.std.proofs.Common.{rules, sym, ◌∙◌, ◌≡◌, ◌+◌, ◌<◌, false, length}
 use Rattle.lexspec.specs.EndOpenings.{begins_end}
-use Rattle.lexlines.proofs.OneSection.{no_true}
+use Rattle.lexspec_lines.proofs.OneSection.{no_true}
 use Rattle.lexspec.specs.SkipViews.{item_of}
-use Rattle.lexlines.proofs.SectionLaws.{newlines_front}
+use Rattle.lexspec_lines.proofs.SectionLaws.{newlines_front}
 use Rattle.lexspec.proofs.EndLaws.{item_ends}
 use Rattle.lexspec.proofs.AwaitingLaws.{end_refused, full_refused, has_room}
 use Rattle.lexspec.proofs.StepLaws.{reads_shorter, reads_counts, plain_agrees, plain_refused, text_refused, rule_refused}
 use Rattle.lexspec.proofs.rules_so_far.RulesSoFar.with_item.Goals.{then-begins_end+else-not-is_empty, else-begins_end+else-len-ge-MAX_RULES}
 use Rattle.lexspec.proofs.rules_so_far.RulesSoFar.with_item.Goals as goal
-use Rattle.lexmeaning.specs.Limits.{max_rules}
+use Rattle.lex_semantics.specs.Limits.{max_rules}
 
 pub returns-in-Err-clause-none : goal.returns-in-Err-clause-none
 returns-in-Err-clause-none c = plain_refused c.args.declarations.now c.args.self c.args.line c.args.text.now c.in-Err.kind c.requires.some c.requires.no_end c.in-Err.ensures.none

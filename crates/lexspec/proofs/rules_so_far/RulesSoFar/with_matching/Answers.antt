@@ -1,6 +1,6 @@
 use Rattle.std.proofs.Common.{refl}
 use Rattle.std.specs.Prelude.{map}
-use Rattle.lexaction.specs.Views.{statement_of}
+use Rattle.lexspec_actions.specs.Views.{statement_of}
 use Rattle.lexspec.proofs.KeepLaws.{keeps_bar, keeps_rule}
 use Rattle.lexspec.proofs.SoFarLaws.{action_bar, action_spelled, bar_taken, rule_taken, rule_refused}
 use Rattle.lexspec.proofs.rules_so_far.RulesSoFar.with_matching.Goals as goal

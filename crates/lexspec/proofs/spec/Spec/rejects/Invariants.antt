@@ -1,5 +1,5 @@
 use Rattle.std.proofs.Common.{◌≡◌, drop, map}
-use Rattle.lexmeaning.specs.Spec.{any_reject}
+use Rattle.lex_semantics.specs.Spec.{any_reject}
 use Rattle.lexspec.specs.RuleViews.{rule_of}
 use Rattle.lexspec.proofs.spec.Spec.rejects.Given as goal
 

@@ -1,0 +1,377 @@
+//! A writer with a buffer, made for short writes.
+ghost use Rattle.std.specs.Prelude.{◌≡◌, ◌+◌, ◌-◌, ◌≤◌, [], ◌++◌, length, take, drop, IfOk, OnOk, OnErr, IfSome, IfNone, IsSome, MatchOption, vec_len};
+ghost use Rattle.std.specs.Io.{WritesAtMost};
+ghost use Rattle.std.specs.Io.KnownBytes.{Appends, Keeps, WriteAppends};
+
+use crate::buffer;
+use std::alloc::{AllocError, Global};
+use std::io;
+use std::io::Write;
+
+/// Up to this length bytes are copied one by one.
+const SHORT: usize = 16;
+
+/// The bytes that wait: those of the buffer up to `end`.
+#[derive(Drop)]
+struct Held {
+    buffer: Vec<u8>,
+    end: usize,
+    ghost in_bounds: { end ≤ vec_len buffer },
+}
+
+impl Held {
+    /// How many more bytes there is room for.
+    #[inline(always)]
+    fn room(&self) -> usize
+        ensures { result ≡ vec_len self.now.buffer - self.now.end }
+    {
+        self.buffer.len() - self.end
+    }
+
+    fn as_slice(&self) -> &[u8]
+        ensures { result.now ≡ take self.now.end self.now.buffer.items }
+    {
+        &self.buffer[..self.end]
+    }
+
+    /// Holds more bytes.
+    #[inline(always)]
+    fn push(&mut self, bytes: &[u8])
+        requires { self.old.end + length bytes.now ≤ vec_len self.old.buffer }
+        ensures { take self.new.end self.new.buffer.items ≡ take self.old.end self.old.buffer.items ++ bytes.now }
+    {
+        let begin = self.end;
+        let end = begin + bytes.len();
+        copy_to(&mut self.buffer[begin..end], bytes);
+        self.end = end;
+    }
+
+    /// Drops this many bytes from the front.
+    fn drop_front(&mut self, count: usize)
+        requires { count ≤ self.old.end }
+        ensures bytes { take self.new.end self.new.buffer.items ≡ drop count (take self.old.end self.old.buffer.items) }
+        ensures end { self.new.end ≡ self.old.end - count }
+        ensures room { vec_len self.new.buffer ≡ vec_len self.old.buffer }
+    {
+        self.buffer.copy_within(count..self.end, 0);
+        self.end -= count;
+    }
+}
+
+/// Holds bytes in a buffer, so that a short write is mostly a short copy.
+///
+/// What is held is poured into the writer behind it where it is full, in a flush and in a drop. Where that fails, the error is
+/// told, what was not taken stays held, and a later call goes on with it: no byte is lost, and none is written twice.
+pub struct ByteWriter<W: Write + Drop> {
+    held: Held,
+    error: Option<io::Error>,
+    writer: W,
+}
+
+impl<W: Write + Drop> ByteWriter<W> {
+    ghost use Rattle.lex_io.specs.ByteWriters.{writer_behind, bytes_held, bytes_written, room_in, EndsWith};
+
+    /// Over this writer, with nothing held. All its memory is taken here.
+    pub fn new(alloc: Global, writer: W) -> Result<ByteWriter<W>, AllocError>
+        ensures writer { IfOk result (λ made. writer_behind made ≡ writer) }
+        ensures empty { IfOk result (λ made. bytes_held made ≡ []) }
+        ensures room { IfOk result (λ made. room_in made ≡ 65536) }
+    {
+        ByteWriter::with_capacity(alloc, buffer::CAPACITY, writer)
+    }
+
+    fn with_capacity(alloc: Global, capacity: usize, writer: W) -> Result<ByteWriter<W>, AllocError>
+        ensures writer { IfOk result (λ made. made.writer ≡ writer) }
+        ensures empty { IfOk result (λ made. bytes_held made ≡ []) }
+        ensures room { IfOk result (λ made. room_in made ≡ capacity) }
+    {
+        let buffer = buffer::make(alloc, capacity)?;
+        let held = Held { buffer, end: 0 };
+        Ok(ByteWriter {
+            held,
+            error: None,
+            writer,
+        })
+    }
+
+    /// Writes what is held to the writer behind it. What it does not take stays held.
+    fn pour(&mut self) -> io::Result<()>
+        ensures bytes { Keeps (bytes_written W.contents self.old) (bytes_written W.contents self.new) }
+        ensures poured { OnOk result (self.new.held.end ≡ 0) }
+        ensures rest { EndsWith (bytes_held self.old) (bytes_held self.new) }
+        ensures room { vec_len self.new.held.buffer ≡ vec_len self.old.held.buffer }
+    {
+        let (written, result) = write_out(self.held.as_slice(), &mut self.writer);
+        self.held.drop_front(written);
+        result
+    }
+
+    /// Pours, and then holds the bytes, or hands them on where there are more than may be held. Where it answers nothing, the
+    /// error waits.
+    #[cold]
+    #[inline(never)]
+    fn pour_and_write(&mut self, bytes: &[u8]) -> Option<usize>
+        ensures bound { IfSome result (λ count. count ≤ length bytes.now) }
+        ensures bytes { MatchOption result (Keeps (bytes_written W.contents self.old) (bytes_written W.contents self.new))
+            (λ count. Appends (bytes_written W.contents self.old) (bytes_written W.contents self.new) (take count bytes.now)) }
+        ensures rest { IfNone result (EndsWith (bytes_held self.old) (bytes_held self.new)) }
+        ensures error { IfNone result (IsSome self.new.error) }
+    {
+        if let Err(error) = self.pour() {
+            self.error = Some(error);
+            return None;
+        }
+        if bytes.len() <= self.held.room() {
+            self.held.push(bytes);
+            return Some(bytes.len());
+        }
+        match self.writer.write(bytes) {
+            Ok(count) => Some(count),
+            Err(error) => {
+                self.error = Some(error);
+                None
+            }
+        }
+    }
+
+    #[cold]
+    fn take_error(&mut self) -> io::Error
+        requires { IsSome self.old.error }
+        ensures error { self.old.error ≡ Some result }
+        ensures writer { self.new.writer ≡ self.old.writer }
+        ensures held { self.new.held ≡ self.old.held }
+    {
+        let Some(error) = self.error.take() else {
+            unreachable!()
+        };
+        error
+    }
+}
+
+impl<W: Write + Drop> Write for ByteWriter<W> {
+    ghost use Rattle.lex_io.specs.ByteWriters.{bytes_held, bytes_written, room_in, Holds, EndsWith};
+
+    ghost contents = { bytes_written W.contents };
+
+    /// Holds the bytes where there is room for them. At an error none of them is held or written.
+    #[inline(always)]
+    fn write(&mut self, buf: &[u8]) -> io::Result<usize>
+        ensures bound { WritesAtMost result buf.now }
+        ensures bytes { WriteAppends (bytes_written W.contents self.old) (bytes_written W.contents self.new) result buf.now }
+        ensures fits { length buf.now ≤ room_in self.old → (result ≡ Ok (length buf.now)) × Holds self.old self.new buf.now }
+        ensures rest { OnErr result (EndsWith (bytes_held self.old) (bytes_held self.new)) }
+    {
+        if buf.len() <= self.held.room() {
+            self.held.push(buf);
+            return Ok(buf.len());
+        }
+        match self.pour_and_write(buf) {
+            Some(count) => Ok(count),
+            None => Err(self.take_error()),
+        }
+    }
+
+    /// Pours what is held, and flushes the writer behind it.
+    fn flush(&mut self) -> io::Result<()>
+        ensures bytes { Keeps (bytes_written W.contents self.old) (bytes_written W.contents self.new) }
+        ensures poured { OnOk result (bytes_held self.new ≡ []) }
+        ensures rest { EndsWith (bytes_held self.old) (bytes_held self.new) }
+    {
+        self.pour()?;
+        self.writer.flush()
+    }
+}
+
+impl<W: Write + Drop> Drop for ByteWriter<W> {
+    fn drop(mut self) {
+        let _ = self.pour();
+        let ByteWriter {
+            held: _,
+            error: _,
+            writer: _writer,
+        } = self;
+    }
+}
+
+/// Makes the one slice the other.
+#[inline(always)]
+fn copy_to(place: &mut [u8], bytes: &[u8])
+    requires { length place.old ≡ length bytes.now }
+    ensures { place.new ≡ bytes.now }
+{
+    if bytes.len() > SHORT {
+        copy_many(place, bytes);
+        return;
+    }
+    for (index, byte) in bytes.iter().enumerate() {
+        place[index] = *byte;
+    }
+}
+
+#[inline(never)]
+fn copy_many(place: &mut [u8], bytes: &[u8])
+    requires { length place.old ≡ length bytes.now }
+    ensures { place.new ≡ bytes.now }
+{
+    place.copy_from_slice(bytes);
+}
+
+/// Writes until all is written or a write fails, and tells how many bytes were written. A write that takes none has failed.
+fn write_out<W: Write>(bytes: &[u8], writer: &mut W) -> (usize, io::Result<()>)
+    ensures bound { result.0 ≤ length bytes.now }
+    ensures all { OnOk result.1 (result.0 ≡ length bytes.now) }
+    ensures bytes { Appends (W.contents writer.old) (W.contents writer.new) (take result.0 bytes.now) }
+{
+    let mut written = 0;
+    while written < bytes.len() {
+        match writer.write(&bytes[written..]) {
+            Ok(0) => return (written, Err(io::Error::from(io::ErrorKind::WriteZero))),
+            Ok(count) => written += count,
+            Err(error) => return (written, Err(error)),
+        }
+    }
+    (written, Ok(()))
+}
+
+#[cfg(test)]
+mod tests {
+    use super::*;
+    use std::io::{Error, ErrorKind};
+    use std::test::Fail;
+
+    /// Takes at most three bytes in one write, and no more than it has room for. Then it answers this kind of error, or else
+    /// that it took nothing.
+    #[derive(Drop)]
+    struct Drip {
+        taken: Vec<u8>,
+        room: usize,
+        full: Option<ErrorKind>,
+        flushes: u8,
+    }
+
+    impl Write for Drip {
+        fn write(&mut self, buf: &[u8]) -> io::Result<usize> {
+            let count = buf.len().min(self.room).min(3);
+            if count == 0 {
+                return match self.full {
+                    None => Ok(0),
+                    Some(kind) => Err(Error::from(kind)),
+                };
+            }
+            self.taken.extend_from_slice(&buf[..count])?;
+            self.room -= count;
+            Ok(count)
+        }
+
+        fn flush(&mut self) -> io::Result<()> {
+            self.flushes = self.flushes.saturating_add(1);
+            Ok(())
+        }
+    }
+
+    fn dripping(alloc: Global, room: usize, full: Option<ErrorKind>) -> Drip {
+        Drip {
+            taken: Vec::new(alloc),
+            room,
+            full,
+            flushes: 0,
+        }
+    }
+
+    /// A writer with room for this many bytes, over one that drips.
+    fn held_before(
+        alloc: Global,
+        capacity: usize,
+        drip: Drip,
+    ) -> Result<ByteWriter<Drip>, AllocError> {
+        ByteWriter::with_capacity(alloc, capacity, drip)
+    }
+
+    /// Whether this many of the bytes are written.
+    fn writes(writer: &mut ByteWriter<Drip>, bytes: &[u8], want: usize) -> bool {
+        match writer.write(bytes) {
+            Ok(count) => count == want,
+            Err(_) => false,
+        }
+    }
+
+    /// Whether a write fails so.
+    fn refuses(writer: &mut ByteWriter<Drip>, bytes: &[u8], want: ErrorKind) -> bool {
+        match writer.write(bytes) {
+            Ok(_) => false,
+            Err(error) => error.kind() == want,
+        }
+    }
+
+    /// Whether a flush answers this.
+    fn flushes(writer: &mut ByteWriter<Drip>, want: Result<(), ErrorKind>) -> bool {
+        match writer.flush() {
+            Ok(()) => want.is_ok(),
+            Err(error) => want == Err(error.kind()),
+        }
+    }
+
+    /// Whether these bytes are poured so far.
+    fn has_poured(writer: &ByteWriter<Drip>, bytes: &[u8]) -> bool {
+        writer.writer.taken.as_slice() == bytes
+    }
+
+    // Bytes, how many of them are written, and what is poured then.
+    const ROWS: &[(&[u8], usize, &[u8])] = &[
+        (b"abc", 3, b""),
+        (b"", 0, b""),
+        (b"d", 1, b""),
+        (b"ef", 2, b"abcd"),
+        (b"ghijk", 3, b"abcdefghi"),
+    ];
+
+    #[test]
+    fn pours_when_it_is_full_and_in_a_flush(rt: HostRuntime) -> Result<(), Fail> {
+        let mut writer = held_before(rt.alloc(), 4, dripping(rt.alloc(), 99, None))?;
+        for &(bytes, count, poured) in ROWS {
+            assert!(rt; writes(&mut writer, bytes, count));
+            assert!(rt; has_poured(&writer, poured));
+        }
+        assert!(rt; writes(&mut writer, b"j", 1));
+        assert!(rt; flushes(&mut writer, Ok(())));
+        assert!(rt; has_poured(&writer, b"abcdefghij"));
+        assert_eq!(rt; writer.writer.flushes, 1);
+        Ok(())
+    }
+
+    // What a full writer answers, and what is told.
+    const FAULTS: &[(Option<ErrorKind>, ErrorKind)] = &[
+        (None, ErrorKind::WriteZero),
+        (Some(ErrorKind::Interrupted), ErrorKind::Interrupted),
+        (Some(ErrorKind::Other), ErrorKind::Other),
+    ];
+
+    /// What the writer behind it does not take stays held, and is poured later.
+    #[test]
+    fn loses_and_repeats_nothing_at_a_fault(rt: HostRuntime) -> Result<(), Fail> {
+        for &(full, want) in FAULTS {
+            let mut writer = held_before(rt.alloc(), 8, dripping(rt.alloc(), 5, full))?;
+            assert!(rt; writes(&mut writer, b"abcdefg", 7));
+            assert!(rt; refuses(&mut writer, b"hij", want));
+            assert!(rt; has_poured(&writer, b"abcde"));
+            assert!(rt; flushes(&mut writer, Err(want)));
+            assert!(rt; writes(&mut writer, b"hij", 3));
+            writer.writer.room = 99;
+            assert!(rt; flushes(&mut writer, Ok(())));
+            assert!(rt; has_poured(&writer, b"abcdefghij"));
+        }
+        Ok(())
+    }
+
+    const TEXT: &[u8] = b"a text of more than sixteen bytes";
+
+    #[test]
+    fn pours_when_it_is_dropped(rt: HostRuntime) -> Result<(), Fail> {
+        let mut taken: Vec<u8> = Vec::new(rt.alloc());
+        let mut writer = ByteWriter::new(rt.alloc(), &mut taken)?;
+        assert!(rt; writer.write(TEXT)? == 33);
+        drop(writer);
+        assert!(rt; taken.as_slice() == TEXT);
+        Ok(())
+    }
+}

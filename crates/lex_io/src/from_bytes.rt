@@ -1,0 +1,97 @@
+//! A source over a reader with a buffer, which shows the bytes ahead.
+ghost use Rattle.std.specs.Prelude.{◌≡◌, ℕ, ◌+◌, ◌-◌, ◌^◌, ◌<◌, ◌≤◌, List, [], ◌++◌, length, take};
+ghost use Rattle.lex_io.specs.ByteReaders.{bytes_ahead, bytes_left};
+ghost use Rattle.lex_io.specs.Source.{given, end_count, Gives};
+ghost use Rattle.lex_io.specs.Sink.{fault_count};
+ghost use Rattle.lex_io.specs.SourceLaws.{Gives-nil, Gives-trans};
+
+use crate::byte_reader::ByteReader;
+use crate::source::{ReadFault, Source};
+use std::io::Read;
+
+/// Reads one byte in each call of `next`, as `FromRead` does, and shows what the reader has read ahead.
+#[derive(Drop)]
+pub struct FromBytes<R> {
+    reader: ByteReader<R>,
+    ends: u64,
+    failures: u64,
+}
+
+impl<R: Read> FromBytes<R> {
+    ghost use Rattle.lex_io.specs.Adapters.{byte_reader_of};
+
+    /// A source over this reader, with no end and no failure counted yet.
+    pub fn new(reader: ByteReader<R>) -> FromBytes<R>
+        ensures reader { byte_reader_of result ≡ reader }
+        ensures ends { ⟦<FromBytes<R> as Source>⟧.ends result ≡ 0 }
+        ensures failures { ⟦<FromBytes<R> as Source>⟧.failures result ≡ 0 }
+    {
+        FromBytes {
+            reader,
+            ends: 0,
+            failures: 0,
+        }
+    }
+}
+
+impl<R: Read> Source for FromBytes<R> {
+    ghost gave = { λ s xs t. Gives (bytes_left R.remaining s.reader) (bytes_left R.remaining t.reader) s.ends t.ends xs };
+
+    ghost ends = { λ s. s.ends };
+
+    ghost failures = { λ s. s.failures };
+
+    ghost ready = { λ s. bytes_ahead s.reader };
+
+    #[inline(always)]
+    fn next(&mut self) -> Result<Option<u8>, ReadFault> {
+        let mut one = [0u8; 1];
+        match self.reader.read(&mut one) {
+            Ok(0) => {
+                self.ends += 1;
+                Ok(None)
+            }
+            Ok(_) => Ok(Some(one[0])),
+            Err(_) => {
+                self.failures += 1;
+                Err(ReadFault)
+            }
+        }
+    }
+
+    #[inline(always)]
+    fn ahead(&self) -> &[u8] {
+        self.reader.ahead()
+    }
+
+    #[inline(always)]
+    fn give(&mut self, count: usize) {
+        self.reader.skip(count);
+    }
+
+    ghost gave_none = { λ s. Gives-nil (bytes_left R.remaining s.reader) s.ends };
+
+    ghost gave_more = { λ s t u xs ys p q. Gives-trans (bytes_left R.remaining s.reader) (bytes_left R.remaining t.reader) (bytes_left R.remaining u.reader) s.ends t.ends u.ends xs ys p q };
+}
+
+#[cfg(test)]
+mod tests {
+    use super::*;
+    use std::test::Fail;
+
+    /// What is read ahead is shown, and given once: by `give`, or by `next`.
+    #[test]
+    fn shows_what_is_read_ahead(rt: HostRuntime) -> Result<(), Fail> {
+        let mut source = FromBytes::new(ByteReader::new(rt.alloc(), b"abcde".as_slice())?);
+        assert!(rt; source.ahead().is_empty());
+        assert!(rt; source.next() == Ok(Some(b'a')));
+        assert!(rt; source.ahead() == b"bcde".as_slice());
+        if 2 <= source.ahead().len() {
+            source.give(2);
+        }
+        assert!(rt; source.ahead() == b"de".as_slice());
+        assert!(rt; source.next() == Ok(Some(b'd')));
+        assert!(rt; source.ahead() == b"e".as_slice());
+        Ok(())
+    }
+}

@@ -1,0 +1,165 @@
+//! A sink over memory that fails once, at a stated place, for tests.
+ghost use Rattle.std.specs.Prelude.{◌≡◌, ℕ, ◌+◌, ◌-◌, ◌^◌, ◌<◌, ◌≤◌, true, false, List, [], ◌++◌, length, None, Some, OnOk, ◌↔◌};
+ghost use Rattle.std.specs.Result.{IsErr};
+ghost use Rattle.lex_io.specs.Sink.{Appended, fault_count};
+ghost use Rattle.lex_io.specs.Growing.{Grows, Grows-nil, Grows-trans};
+
+use crate::sink::{Sink, WriteFault};
+use std::alloc::Global;
+
+/// Keeps the bytes that it is given.
+///
+/// It may fail once, at a place among the bytes or in a flush. What a caller puts after that is kept.
+#[derive(Drop)]
+pub struct MemorySink {
+    written: Vec<u8>,
+    room: Option<usize>,
+    flush_fails: bool,
+    failures: u64,
+}
+
+impl MemorySink {
+    ghost use Rattle.lex_io.specs.MemorySinks.{written_of, room_of, flush_fails, fitting};
+
+    /// Fails only where memory runs out.
+    pub fn new(alloc: Global) -> MemorySink
+        ensures empty { written_of result ≡ [] }
+        ensures room { room_of result ≡ None }
+        ensures flush { flush_fails result ≡ false }
+        ensures failures { ⟦<MemorySink as Sink>⟧.failures result ≡ 0 }
+    {
+        MemorySink {
+            written: Vec::new(alloc),
+            room: None,
+            flush_fails: false,
+            failures: 0,
+        }
+    }
+
+    /// Takes this many bytes, and fails in the call that gives one more.
+    pub fn failing_after(alloc: Global, count: usize) -> MemorySink
+        ensures empty { written_of result ≡ [] }
+        ensures room { room_of result ≡ Some count }
+        ensures flush { flush_fails result ≡ false }
+        ensures failures { ⟦<MemorySink as Sink>⟧.failures result ≡ 0 }
+    {
+        MemorySink {
+            written: Vec::new(alloc),
+            room: Some(count),
+            flush_fails: false,
+            failures: 0,
+        }
+    }
+
+    /// Fails in its first flush.
+    pub fn failing_flush(alloc: Global) -> MemorySink
+        ensures empty { written_of result ≡ [] }
+        ensures room { room_of result ≡ None }
+        ensures flush { flush_fails result ≡ true }
+        ensures failures { ⟦<MemorySink as Sink>⟧.failures result ≡ 0 }
+    {
+        MemorySink {
+            written: Vec::new(alloc),
+            room: None,
+            flush_fails: true,
+            failures: 0,
+        }
+    }
+
+    /// How many of this many bytes the next `put` takes.
+    fn room_for(&self, count: usize) -> usize
+        ensures { result ≡ fitting (room_of self.now) count }
+    {
+        match self.room {
+            None => count,
+            Some(room) => count.min(room),
+        }
+    }
+
+    /// All that was appended so far.
+    pub fn written(&self) -> &[u8]
+        ensures { result.now ≡ written_of self.now }
+    {
+        self.written.as_slice()
+    }
+}
+
+impl Sink for MemorySink {
+    ghost use Rattle.lex_io.specs.MemorySinks.{room_of, flush_fails, left};
+
+    ghost wrote = { λ s xs t. Grows s.written.items t.written.items xs };
+
+    ghost failures = { λ s. s.failures };
+
+    /// Fails where the bytes pass the room that is left, or where memory runs out.
+    fn put(&mut self, bytes: &[u8]) -> Result<(), WriteFault>
+        requires { self.old.failures < 2 ^ 64 - 1 }
+        ensures bytes { Appended (λ xs. Grows self.old.written.items self.new.written.items xs) bytes.now result }
+        ensures failures { self.new.failures ≡ self.old.failures + fault_count result }
+        ensures full { OnOk result ((room : ℕ) → room_of self.old ≡ Some room → length bytes.now ≤ room) }
+        ensures room { OnOk result (room_of self.new ≡ left (room_of self.old) (length bytes.now)) }
+    {
+        let count = self.room_for(bytes.len());
+        if self.written.extend_from_slice(&bytes[..count]).is_err() {
+            self.failures += 1;
+            return Err(WriteFault);
+        }
+        if count < bytes.len() {
+            self.room = None;
+            self.failures += 1;
+            return Err(WriteFault);
+        }
+        self.room = self.room.map(|room| room.saturating_sub(count));
+        Ok(())
+    }
+
+    /// Fails exactly in the first flush, where the sink was made so.
+    fn flush(&mut self) -> Result<(), WriteFault>
+        requires { self.old.failures < 2 ^ 64 - 1 }
+        ensures bytes { Grows self.old.written.items self.new.written.items [] }
+        ensures failures { self.new.failures ≡ self.old.failures + fault_count result }
+        ensures fails { IsErr result ↔ flush_fails self.old ≡ true }
+        ensures once { flush_fails self.new ≡ false }
+    {
+        if !self.flush_fails {
+            return Ok(());
+        }
+        self.flush_fails = false;
+        self.failures += 1;
+        Err(WriteFault)
+    }
+
+    ghost wrote_none = { λ s. Grows-nil s.written.items };
+
+    ghost wrote_more = { λ s t u xs ys p q. Grows-trans s.written.items t.written.items u.written.items xs ys p q };
+}
+
+#[cfg(test)]
+mod tests {
+    use super::*;
+
+    /// Whether all of the bytes are taken.
+    fn takes(sink: &mut MemorySink, bytes: &[u8]) -> bool {
+        sink.failures < u64::MAX && sink.put(bytes).is_ok()
+    }
+
+    fn flushes(sink: &mut MemorySink) -> bool {
+        sink.failures < u64::MAX && sink.flush().is_ok()
+    }
+
+    #[test]
+    fn a_sink_fails_once(rt: HostRuntime) {
+        let mut full = MemorySink::failing_after(rt.alloc(), 3);
+        assert!(rt; takes(&mut full, b"ab"));
+        assert!(rt; !takes(&mut full, b"cd"));
+        assert!(rt; takes(&mut full, b"e"));
+        assert_eq!(rt; full.written(), b"abce".as_slice());
+        let mut unflushed = MemorySink::failing_flush(rt.alloc());
+        assert!(rt; !flushes(&mut unflushed));
+        assert!(rt; flushes(&mut unflushed));
+        let mut whole = MemorySink::new(rt.alloc());
+        assert!(rt; takes(&mut whole, b"ab"));
+        assert!(rt; flushes(&mut whole));
+        assert_eq!(rt; whole.written(), b"ab".as_slice());
+    }
+}

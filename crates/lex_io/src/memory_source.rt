@@ -1,0 +1,227 @@
+//! A source over memory that pauses once, at a stated place, for tests.
+ghost use Rattle.std.specs.Prelude.{◌≡◌, refl, ℕ, ◌+◌, ◌-◌, ◌^◌, ◌<◌, ◌≤◌, min, List, [], ◌++◌, length, take, None, Some, ◌⊎◌, ◌↔◌};
+ghost use Rattle.lex_io.specs.Sink.{fault_count};
+ghost use Rattle.lex_io.specs.Source.{given, end_count};
+ghost use Rattle.lex_io.specs.Taking.{Takes, Takes-trans};
+
+use crate::source::{ReadFault, Source};
+
+/// What a source over memory answers once in place of a byte, after this many bytes.
+#[derive(Clone, Copy, PartialEq, Eq)]
+enum Pause {
+    Fault(usize),
+    End(usize),
+}
+
+/// Gives the bytes of a slice, and then its end in each call.
+///
+/// It may fail once, or answer its end once, before they are all given. A caller that goes on after
+/// that is given the rest.
+#[derive(Drop)]
+pub struct MemorySource<'a> {
+    rest: &'a [u8],
+    pause: Option<Pause>,
+    calls: u64,
+    ends: u64,
+    failures: u64,
+}
+
+impl<'a> MemorySource<'a> {
+    ghost use Rattle.lex_io.specs.MemorySources.{rest_of, call_count, pause_of};
+    ghost use Rattle.lex_io.specs.declared.memory_source.Pause.TheVariants.{Fault, End};
+
+    /// Gives these bytes, and then its end.
+    pub fn new(bytes: &'a [u8]) -> MemorySource<'a>
+        ensures bytes { rest_of result ≡ bytes.entry.now }
+        ensures pause { pause_of result ≡ None }
+        ensures calls { call_count result ≡ 0 }
+        ensures ends { ⟦<MemorySource<'a> as Source>⟧.ends result ≡ 0 }
+        ensures failures { ⟦<MemorySource<'a> as Source>⟧.failures result ≡ 0 }
+    {
+        MemorySource::pausing(bytes, None)
+    }
+
+    /// Gives this many of the bytes, then fails once, then gives the others.
+    pub fn failing_after(bytes: &'a [u8], count: usize) -> MemorySource<'a>
+        ensures bytes { rest_of result ≡ bytes.entry.now }
+        ensures pause { pause_of result ≡ Some (Fault count) }
+        ensures calls { call_count result ≡ 0 }
+        ensures ends { ⟦<MemorySource<'a> as Source>⟧.ends result ≡ 0 }
+        ensures failures { ⟦<MemorySource<'a> as Source>⟧.failures result ≡ 0 }
+    {
+        MemorySource::pausing(bytes, Some(Pause::Fault(count)))
+    }
+
+    /// Gives this many of the bytes, then answers its end once, then gives the others.
+    pub fn ending_after(bytes: &'a [u8], count: usize) -> MemorySource<'a>
+        ensures bytes { rest_of result ≡ bytes.entry.now }
+        ensures pause { pause_of result ≡ Some (End count) }
+        ensures calls { call_count result ≡ 0 }
+        ensures ends { ⟦<MemorySource<'a> as Source>⟧.ends result ≡ 0 }
+        ensures failures { ⟦<MemorySource<'a> as Source>⟧.failures result ≡ 0 }
+    {
+        MemorySource::pausing(bytes, Some(Pause::End(count)))
+    }
+
+    fn pausing(bytes: &'a [u8], pause: Option<Pause>) -> MemorySource<'a>
+        ensures bytes { result.rest.now ≡ bytes.entry.now }
+        ensures pause { result.pause ≡ pause }
+        ensures calls { result.calls ≡ 0 }
+        ensures ends { result.ends ≡ 0 }
+        ensures failures { result.failures ≡ 0 }
+    {
+        MemorySource {
+            rest: bytes,
+            pause,
+            calls: 0,
+            ends: 0,
+            failures: 0,
+        }
+    }
+
+    /// How often `next` was called, at most `u64::MAX`.
+    pub fn calls(&self) -> u64
+        ensures { result ≡ call_count self.now }
+    {
+        self.calls
+    }
+}
+
+impl Source for MemorySource<'_> {
+    ghost use Rattle.lex_io.specs.MemorySources.{rest_of, call_count, pause_of, nearer, nearer_by, shown_of, IsFault, IsEnd};
+    ghost use Rattle.lex_io.specs.declared.memory_source.Pause.TheVariants.{Fault, End};
+
+    ghost gave = { λ s xs t. Takes s.rest.now t.rest.now xs };
+
+    ghost ends = { λ s. s.ends };
+
+    ghost failures = { λ s. s.failures };
+
+    ghost ready = { λ s. shown_of s };
+
+    /// The next byte. It fails exactly where it pauses with a fault, and answers the end where it pauses with one or has
+    /// no byte left.
+    fn next(&mut self) -> Result<Option<u8>, ReadFault>
+        requires few_ends { self.old.ends < 2 ^ 64 - 1 }
+        requires few_failures { self.old.failures < 2 ^ 64 - 1 }
+        ensures byte { Takes self.old.rest.now self.new.rest.now (given result) }
+        ensures ends { self.new.ends ≡ self.old.ends + end_count result }
+        ensures failures { self.new.failures ≡ self.old.failures + fault_count result }
+        ensures fault { IsFault result ↔ pause_of self.old ≡ Some (Fault 0) }
+        ensures end { IsEnd result ↔ ((pause_of self.old ≡ Some (End 0)) ⊎ ((rest_of self.old ≡ []) × (pause_of self.old ≡ Some (Fault 0) → ⊥))) }
+        ensures pause { pause_of self.new ≡ nearer (pause_of self.old) }
+        ensures calls { call_count self.new ≡ min (call_count self.old + 1) (2 ^ 64 - 1) }
+    {
+        self.calls = self.calls.saturating_add(1);
+        match self.pause {
+            Some(Pause::Fault(0)) => {
+                self.pause = None;
+                self.failures += 1;
+                return Err(ReadFault);
+            }
+            Some(Pause::End(0)) => {
+                self.pause = None;
+                self.ends += 1;
+                return Ok(None);
+            }
+            Some(Pause::Fault(count)) => self.pause = Some(Pause::Fault(count - 1)),
+            Some(Pause::End(count)) => self.pause = Some(Pause::End(count - 1)),
+            None => {}
+        }
+        match self.rest.split_first() {
+            None => {
+                self.ends += 1;
+                Ok(None)
+            }
+            Some((byte, rest)) => {
+                self.rest = rest;
+                Ok(Some(*byte))
+            }
+        }
+    }
+
+    /// The bytes before it pauses, or all that are left.
+    fn ahead(&self) -> &[u8] {
+        let shown = match self.pause {
+            None => self.rest.len(),
+            Some(Pause::Fault(count) | Pause::End(count)) => count.min(self.rest.len()),
+        };
+        &self.rest[..shown]
+    }
+
+    /// Gives as many of these bytes. It counts as that many calls of `next`.
+    fn give(&mut self, count: usize)
+        requires { count ≤ length (shown_of self.old) }
+        ensures bytes { Takes self.old.rest.now self.new.rest.now (take count (shown_of self.old)) }
+        ensures ends { self.new.ends ≡ self.old.ends }
+        ensures failures { self.new.failures ≡ self.old.failures }
+        ensures pause { pause_of self.new ≡ nearer_by count (pause_of self.old) }
+        ensures calls { call_count self.new ≡ min (call_count self.old + count) (2 ^ 64 - 1) }
+    {
+        self.calls = self.calls.saturating_add(count as u64);
+        self.pause = match self.pause {
+            None => None,
+            Some(Pause::Fault(left)) => Some(Pause::Fault(left - count)),
+            Some(Pause::End(left)) => Some(Pause::End(left - count)),
+        };
+        self.rest = &self.rest[count..];
+    }
+
+    ghost gave_none = { λ s. refl };
+
+    ghost gave_more = { λ s t u xs ys p q. Takes-trans s.rest.now t.rest.now u.rest.now xs ys p q };
+}
+
+#[cfg(test)]
+mod tests {
+    use super::*;
+
+    /// What one call answers.
+    type Answer = Result<Option<u8>, ReadFault>;
+
+    /// Whether these are the answers to as many calls.
+    fn answers(source: &mut MemorySource<'_>, wants: &[Answer]) -> bool {
+        for &want in wants {
+            let may_ask = source.ends < u64::MAX && source.failures < u64::MAX;
+            if !may_ask || source.next() != want {
+                return false;
+            }
+        }
+        true
+    }
+
+    const FAILING: &[Answer] = &[Ok(Some(97)), Err(ReadFault), Ok(Some(98)), Ok(None)];
+
+    const ENDING: &[Answer] = &[Ok(Some(97)), Ok(None), Ok(Some(98))];
+
+    const PAUSED: &[Answer] = &[Err(ReadFault)];
+
+    const WHOLE: &[Answer] = &[Ok(Some(97)), Ok(None)];
+
+    #[test]
+    fn a_source_pauses_once(rt: HostRuntime) {
+        let mut failing = MemorySource::failing_after(b"ab", 1);
+        assert!(rt; answers(&mut failing, FAILING));
+        assert_eq!(rt; failing.calls(), 4);
+        let mut ending = MemorySource::ending_after(b"ab", 1);
+        assert!(rt; answers(&mut ending, ENDING));
+        let mut whole = MemorySource::new(b"a");
+        assert!(rt; answers(&mut whole, WHOLE));
+    }
+
+    /// What is shown ends where the source pauses.
+    #[test]
+    fn a_source_shows_what_it_gives_before_it_pauses(rt: HostRuntime) {
+        assert!(rt; MemorySource::new(b"abc").ahead() == b"abc".as_slice());
+        assert!(rt; MemorySource::ending_after(b"abc", 5).ahead() == b"abc".as_slice());
+        let mut failing = MemorySource::failing_after(b"abc", 2);
+        assert!(rt; failing.ahead() == b"ab".as_slice());
+        if 2 <= failing.ahead().len() {
+            failing.give(2);
+        }
+        assert!(rt; failing.ahead().is_empty());
+        assert!(rt; answers(&mut failing, PAUSED));
+        assert!(rt; failing.ahead() == b"c".as_slice());
+        assert_eq!(rt; failing.calls(), 3);
+    }
+}

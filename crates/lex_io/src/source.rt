@@ -1,0 +1,193 @@
+//! Where the bytes of a scan come from.
+ghost use Rattle.std.specs.Prelude.{◌≡◌, ℕ, ◌+◌, ◌-◌, ◌^◌, ◌<◌, ◌≤◌, List, [], ◌++◌, length, take, IfOk, slice_get};
+ghost use Rattle.lex_io.specs.Source.{given, end_count, Gives};
+ghost use Rattle.lex_io.specs.Sink.{fault_count};
+ghost use Rattle.lex_io.specs.SourceLaws.{Gives-nil, Gives-trans};
+
+use std::io::Read;
+use thiserror::Error;
+
+/// The source failed.
+#[derive(Clone, Copy, Debug, PartialEq, Eq, Error)]
+#[error("read fault")]
+pub struct ReadFault;
+
+/// Gives bytes one at a time, and tells of each call what it gave.
+pub trait Source {
+    /// The calls on the way from the first state to the second gave these bytes.
+    ghost gave: { Self → List ℕ → Self → Type 0 };
+
+    /// How often the end was answered.
+    ghost ends: { Self → ℕ };
+
+    /// How often the source failed.
+    ghost failures: { Self → ℕ };
+
+    /// The bytes that it can give without asking for them.
+    ghost ready: { Self → List ℕ };
+
+    /// The next byte, or `None` at the end.
+    fn next(&mut self) -> Result<Option<u8>, ReadFault>
+        requires few_ends { ends self.old < 2 ^ 64 - 1 }
+        requires few_failures { failures self.old < 2 ^ 64 - 1 }
+        ensures byte { gave self.old (given result) self.new }
+        ensures ends { ends self.new ≡ ends self.old + end_count result }
+        ensures failures { failures self.new ≡ failures self.old + fault_count result };
+
+    /// Bytes that it can give without asking for them. They are not given yet.
+    fn ahead(&self) -> &[u8]
+        ensures { result.now ≡ ready self.now };
+
+    /// Gives as many of these bytes.
+    fn give(&mut self, count: usize)
+        requires { count ≤ length (ready self.old) }
+        ensures bytes { gave self.old (take count (ready self.old)) self.new }
+        ensures ends { ends self.new ≡ ends self.old }
+        ensures failures { failures self.new ≡ failures self.old };
+
+    ghost gave_none: { (s : Self) → gave s [] s };
+
+    ghost gave_more: { (s t u : Self) (xs ys : List ℕ) → gave s xs t → gave t ys u → gave s (xs ++ ys) u };
+}
+
+/// Reads one byte in each call of `next`: no byte is the end, and any error is a fault.
+#[derive(Drop)]
+pub struct FromRead<R> {
+    reader: R,
+    ends: u64,
+    failures: u64,
+}
+
+impl<R: Read> FromRead<R> {
+    ghost use Rattle.lex_io.specs.Adapters.{reader_of};
+
+    /// A source over this reader, with no end and no failure counted yet.
+    pub fn new(reader: R) -> FromRead<R>
+        ensures reader { reader_of result ≡ reader }
+        ensures ends { ⟦<FromRead<R> as Source>⟧.ends result ≡ 0 }
+        ensures failures { ⟦<FromRead<R> as Source>⟧.failures result ≡ 0 }
+    {
+        FromRead {
+            reader,
+            ends: 0,
+            failures: 0,
+        }
+    }
+}
+
+impl<R: Read> Source for FromRead<R> {
+    ghost gave = { λ s xs t. Gives (R.remaining s.reader) (R.remaining t.reader) s.ends t.ends xs };
+
+    ghost ends = { λ s. s.ends };
+
+    ghost failures = { λ s. s.failures };
+
+    ghost ready = { λ s. [] };
+
+    #[inline(always)]
+    fn next(&mut self) -> Result<Option<u8>, ReadFault> {
+        let mut one = [0u8; 1];
+        match self.reader.read(&mut one) {
+            Ok(0) => {
+                self.ends += 1;
+                Ok(None)
+            }
+            Ok(_) => Ok(Some(one[0])),
+            Err(_) => {
+                self.failures += 1;
+                Err(ReadFault)
+            }
+        }
+    }
+
+    fn ahead(&self) -> &[u8] {
+        &[]
+    }
+
+    fn give(&mut self, count: usize) {
+        let _count = count;
+    }
+
+    ghost gave_none = { λ s. Gives-nil (R.remaining s.reader) s.ends };
+
+    ghost gave_more = { λ s t u xs ys p q. Gives-trans (R.remaining s.reader) (R.remaining t.reader) (R.remaining u.reader) s.ends t.ends u.ends xs ys p q };
+}
+
+#[cfg(test)]
+mod tests {
+    use super::*;
+    use std::io;
+
+    /// What a reader answers to one read.
+    #[derive(Clone, Copy)]
+    enum Answer {
+        Byte(u8),
+        End,
+        Fault,
+    }
+
+    /// Gives these answers in turn, and then its end.
+    #[derive(Drop)]
+    struct Script<'a> {
+        answers: &'a [Answer],
+    }
+
+    impl Read for Script<'_> {
+        fn read(&mut self, buf: &mut [u8]) -> io::Result<usize> {
+            let Some((answer, rest)) = self.answers.split_first() else {
+                return Ok(0);
+            };
+            self.answers = rest;
+            match (*answer, buf.first_mut()) {
+                (Answer::Byte(byte), Some(place)) => {
+                    *place = byte;
+                    Ok(1)
+                }
+                (Answer::Fault, _) => Err(io::Error::from(io::ErrorKind::Interrupted)),
+                _ => Ok(0),
+            }
+        }
+    }
+
+    const ANSWERS: &[Answer] = &[
+        Answer::Byte(97),
+        Answer::Fault,
+        Answer::Byte(98),
+        Answer::End,
+        Answer::Byte(99),
+    ];
+
+    const WANTS: &[Result<Option<u8>, ReadFault>] = &[
+        Ok(Some(97)),
+        Err(ReadFault),
+        Ok(Some(98)),
+        Ok(None),
+        Ok(Some(99)),
+    ];
+
+    /// Whether this is the answer to one call.
+    fn answers(source: &mut FromRead<Script<'_>>, want: Result<Option<u8>, ReadFault>) -> bool {
+        source.ends < u64::MAX && source.failures < u64::MAX && source.next() == want
+    }
+
+    #[test]
+    fn asks_the_reader_once_a_call(rt: HostRuntime) {
+        let mut source = FromRead::new(Script { answers: ANSWERS });
+        for &want in WANTS {
+            assert!(rt; answers(&mut source, want));
+        }
+    }
+
+    /// Over a slice, whose bytes are known, the byte that is given is the first.
+    fn first_of(bytes: &[u8]) -> Result<Option<u8>, ReadFault>
+        ensures { IfOk result (λ first. first ≡ slice_get bytes.now 0) }
+    {
+        FromRead::new(bytes).next()
+    }
+
+    #[test]
+    fn gives_the_bytes_of_a_slice(rt: HostRuntime) {
+        assert!(rt; first_of(b"ab") == Ok(Some(97)));
+        assert!(rt; first_of(b"") == Ok(None));
+    }
+}

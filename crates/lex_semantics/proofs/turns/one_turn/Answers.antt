@@ -1,0 +1,10 @@
+use Rattle.lex_semantics.proofs.Once as Once
+use Rattle.lex_semantics.specs.Rules.{rules_of}
+use Rattle.lex_semantics.specs.Machine.{rules_of_machine}
+use Rattle.lex_semantics.proofs.turns.one_turn.Goals as goal
+
+pub returns-clause-specification : goal.returns-clause-specification
+returns-clause-specification c = λ S x p s t h k. Once.one_turn (rules_of S) x p s t h k
+
+pub returns-clause-machine : goal.returns-clause-machine
+returns-clause-machine c = λ M x p s t h k. Once.one_turn (rules_of_machine M) x p s t h k

@@ -1,0 +1,73 @@
+-- What the actions of a specification or a machine keep to.
+-- (POSIX, lex, Actions in lex; what may not stand in one action is this project's.)
+use Rattle.std.specs.Prelude.{◌≡◌, ℕ, suc, Bool, true, false, not, ◌&&◌, ◌||◌, List, [], ◌∷◌, length, nat_le, nat_lt, if◌then◌else◌}
+use Rattle.lex_semantics.specs.Limits.{max_kept, max_status}
+use Rattle.lex_semantics.specs.Spec.{Statement, Print, Begin, More, Less, Reject, End, Push, has_reject}
+
+-- what a statement names: a condition, one of n; a count of bytes, from 1 to 65,535; a status, up to 63. A literal has
+-- a byte.
+abbrev pub in_range : ℕ → Statement → Bool
+in_range n (Print s) = nat_le 1 (length s)
+in_range n (Begin d) = nat_lt d n
+in_range n (Less k) = nat_le 1 k && nat_le k max_kept
+in_range n (End s) = nat_le s max_status
+in_range n (Push d) = nat_lt d n
+in_range n _ = true
+
+abbrev pub all_in_range : ℕ → List Statement → Bool
+all_in_range n [] = true
+all_in_range n (s ∷ ss) = in_range n s && all_in_range n ss
+
+-- REJECT, yyterminate and exit
+abbrev pub ends_action : Statement → Bool
+ends_action Reject = true
+ends_action (End s) = true
+ends_action _ = false
+
+-- each of these stands last
+abbrev pub ends_last : List Statement → Bool
+ends_last [] = true
+ends_last (s ∷ []) = true
+ends_last (s ∷ t ∷ ss) = not (ends_action s) && ends_last (t ∷ ss)
+
+abbrev pub is_literal : Statement → Bool
+is_literal (Print s) = true
+is_literal _ = false
+
+-- no two literals are neighbours
+abbrev pub are_joined : List Statement → Bool
+are_joined [] = true
+are_joined (s ∷ []) = true
+are_joined (s ∷ t ∷ ss) = not (is_literal s && is_literal t) && are_joined (t ∷ ss)
+
+abbrev pub is_yyless : Statement → Bool
+is_yyless (Less n) = true
+is_yyless _ = false
+
+abbrev pub is_yymore : Statement → Bool
+is_yymore More = true
+is_yymore _ = false
+
+abbrev pub count_less : List Statement → ℕ
+count_less [] = 0
+count_less (s ∷ ss) = if is_yyless s then suc (count_less ss) else count_less ss
+
+abbrev pub has_less : List Statement → Bool
+has_less [] = false
+has_less (s ∷ ss) = is_yyless s || has_less ss
+
+abbrev pub has_more : List Statement → Bool
+has_more [] = false
+has_more (s ∷ ss) = is_yymore s || has_more ss
+
+-- no REJECT with yymore or yyless, no yyless with yymore, and at most one yyless
+abbrev pub are_compatible : List Statement → Bool
+are_compatible ss =
+    not (has_reject ss && (has_more ss || has_less ss)) && not (has_less ss && has_more ss) && nat_le (count_less ss) 1
+
+-- an action that is legal and in normal form, where there are n conditions
+pub record IsLegal (n : ℕ) (ss : List Statement) : Type 0 where
+  pub ranges : all_in_range n ss ≡ true
+  pub last : ends_last ss ≡ true
+  pub joined : are_joined ss ≡ true
+  pub compatible : are_compatible ss ≡ true

@@ -1,0 +1,66 @@
+-- Positions of a tree, and readings: which position reads each byte of a word.
+-- (This project's; the words are POSIX's, lex, Regular Expressions in lex.)
+use Rattle.std.specs.Prelude.{◌≡◌, ℕ, zero, suc, ◌+◌, ◌*◌, ◌-◌, ◌≤◌, min, max, List, [], ◌∷◌, ◌++◌, map, ◌⊎◌, Option, Some, None}
+use Rattle.lex_semantics.specs.ByteSets.{IsIn}
+use Rattle.lex_semantics.specs.Tree.{Tree, Trees, Empty, Set, Cat, Alt, Star, Repeat, no_trees, tree, UpTo}
+
+-- how many copies of its inner tree a repetition counts
+abbrev pub copies : ℕ → Option ℕ → ℕ
+copies m None = max m 1
+copies m (Some n) = n
+
+-- how many positions a tree has: one for each set, in each copy of a repetition
+abbrev mutual
+  pub positions : Tree → ℕ
+  positions Empty = 0
+  positions (Set s) = 1
+  positions (Cat ts) = positions_of ts
+  positions (Alt ts) = positions_of ts
+  positions (Star t) = positions t
+  positions (Repeat t m n) = copies m n * positions t
+
+  pub positions_of : Trees → ℕ
+  positions_of no_trees = 0
+  positions_of (tree t ts) = positions t + positions_of ts
+
+-- a byte, and the position that reads it
+abbrev pub Cell : Type 0
+Cell = ℕ × ℕ
+
+-- a set of readings
+abbrev pub Readings : Type 1
+Readings = List Cell → Type 0
+
+-- the word that is read
+abbrev pub bytes_of : List Cell → List ℕ
+bytes_of rs = map (λ c. c.0) rs
+
+-- the word has a reading
+abbrev pub ReadsWord : Readings → List ℕ → Type 0
+ReadsWord R w = (rs : List Cell) × (bytes_of rs ≡ w) × R rs
+
+-- k passes one after another, counted from pass j on
+abbrev pub Passes : (ℕ → Readings) → ℕ → ℕ → Readings
+Passes R j zero rs = rs ≡ []
+Passes R j (suc k) rs = (us : List Cell) × (vs : List Cell) × (rs ≡ us ++ vs) × R j us × Passes R (suc j) k vs
+
+-- the tree, whose positions are numbered from `base` on, reads these bytes by these positions
+abbrev mutual
+  pub Reads : Tree → ℕ → Readings
+  Reads Empty base rs = rs ≡ []
+  Reads (Set s) base rs = (b : ℕ) × (rs ≡ (b, base) ∷ []) × IsIn s b
+  Reads (Cat ts) base rs = ReadsEach ts base rs
+  Reads (Alt ts) base rs = ReadsSome ts base rs
+  Reads (Star t) base rs = (k : ℕ) × Passes (λ j. Reads t base) 0 k rs
+  -- pass j uses copy j, and past the last copy the last again
+  Reads (Repeat t m n) base rs =
+      (k : ℕ) × (m ≤ k) × UpTo n k × Passes (λ j. Reads t (base + min j (copies m n - 1) * positions t)) 0 k rs
+
+  pub ReadsEach : Trees → ℕ → Readings
+  ReadsEach no_trees base rs = rs ≡ []
+  ReadsEach (tree t ts) base rs =
+      (us : List Cell) × (vs : List Cell) × (rs ≡ us ++ vs) × Reads t base us × ReadsEach ts (base + positions t) vs
+
+  pub ReadsSome : Trees → ℕ → Readings
+  ReadsSome no_trees base rs = ⊥
+  ReadsSome (tree t ts) base rs = Reads t base rs ⊎ ReadsSome ts (base + positions t) rs

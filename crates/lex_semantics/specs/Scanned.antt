@@ -1,0 +1,41 @@
+-- What is known of a scanner that sees one byte at a time. (This project's.)
+use Rattle.std.specs.Prelude.{◌≡◌, ℕ, ◌+◌, ◌≤◌, ◌<◌, Bool, true, List, [], ◌++◌, length, take, drop, ◌↔◌, Some}
+use Rattle.lex_semantics.specs.Text.{part, at_line_start}
+use Rattle.lex_semantics.specs.Rules.{Rules}
+use Rattle.lex_semantics.specs.Candidates.{Candidate, Candidates}
+use Rattle.lex_semantics.specs.Acting.{Matched, perform}
+use Rattle.lex_semantics.specs.Run.{Place, State, Turns, next_place}
+use Rattle.lex_semantics.specs.Demand.{AsksAt, Far, EndAsked, Consistent}
+
+-- After n turns over x the scan stands so. They ask for just the first `far` bytes, and for the end or not.
+pub record AfterTurns (R : Rules) (x : List ℕ) (n : ℕ) (s : State) (far : ℕ) (end_asked : Bool) : Type 0 where
+  pub turns : Turns R x n s
+  pub reaches : Far R x n far
+  pub end : (end_asked ≡ true) ↔ EndAsked R x n
+
+-- The source has given these bytes, and answered its end or not. Whatever input that is the beginning of, n turns
+-- over it have written these bytes and led to this place, and they ask for just what the source has told.
+abbrev pub Scanned : Rules → (given : List ℕ) → (at_end : Bool) → (n : ℕ) → State → Type 0
+Scanned R given at_end n s = (x : List ℕ) → Consistent given at_end x → AfterTurns R x n s (length given) at_end
+
+-- the scan after a turn that wrote and led so
+abbrev pub then_turn : State → State → State
+then_turn s t = record { written = s.written ++ t.written; place = t.place; ended = t.ended }
+
+-- What a match has seen: the first r bytes from its place, all of them asked for, among those that the source gave.
+pub record Seen (R : Rules) (given : List ℕ) (p : Place) (r : ℕ) : Type 0 where
+  pub inside : p.at + r ≤ length given
+  pub some : 1 ≤ r
+  pub asked : (i : ℕ) → i < r → AsksAt R given p i
+  pub matches : List Candidate
+  pub all : Candidates R p.condition (at_line_start given p.at) (take r (drop p.at given)) matches
+  pub outcome : Matched
+  pub performed : perform R (part given p.start p.at) (take r (drop p.at given)) matches [] p.condition p.stack ≡ Some outcome
+
+abbrev pub seen_turn : (p : Place) → Matched → State
+seen_turn p o = record { written = o.after.written; place = next_place p o; ended = o.ended }
+
+-- the place is in order, and not past f
+pub record Covered (p : Place) (f : ℕ) : Type 0 where
+  pub ordered : p.start ≤ p.at
+  pub covered : p.at ≤ f

@@ -1,0 +1,50 @@
+-- What a specification that was read keeps to.
+-- (POSIX, lex, Definitions in lex and Actions in lex; flex, Patterns: trailing context.)
+use Rattle.std.specs.Prelude.{◌≡◌, ℕ, ◌≤◌, ◌<◌, List, [], ◌∷◌, length, Option, Some, None, IfSome, slice_get, ⊤}
+use Rattle.lex_semantics.specs.Limits.{max_fixed_length, max_status, max_literal_bytes}
+use Rattle.lex_semantics.specs.Text.{Among, Ascending}
+use Rattle.lex_semantics.specs.Tree.{Tree, In}
+use Rattle.lex_semantics.specs.Shapes.{IsSoundTree, HasLengths}
+use Rattle.lex_semantics.specs.Spec.{Spec, Rule, Condition, Cut, Whole, Head, Trail}
+use Rattle.lex_semantics.specs.Legal.{IsLegal}
+
+-- each word of the tree has n bytes, and n is at most 65,535
+abbrev pub HasFixed : Tree → ℕ → Type 0
+HasFixed t n = HasLengths (In t) n (Some n) × (n ≤ max_fixed_length)
+
+-- A side of such a fixed length gives the cut: the head if it is one, and else the trailing context. Without trailing
+-- context the cut is the whole.
+abbrev pub IsCutOf : Tree → Option Tree → Cut → Type 0
+IsCutOf head None cut = cut ≡ Whole
+IsCutOf head (Some after) (Head m) = HasFixed head m
+IsCutOf head (Some after) (Trail n) = ((m : ℕ) → HasFixed head m → ⊥) × HasFixed after n
+IsCutOf head (Some after) Whole = ⊥
+
+-- a list of condition numbers: in order, each that of one of n conditions
+abbrev pub IsConditionList : ℕ → List ℕ → Type 0
+IsConditionList n cs = Ascending cs × ((c : ℕ) → Among cs c → c < n)
+
+-- the sides of a rule are sound trees
+abbrev pub AreSoundSides : Tree → Option Tree → Type 0
+AreSoundSides head trail = IsSoundTree head × IfSome trail IsSoundTree
+
+abbrev pub HasSoundSides : Rule → Type 0
+HasSoundSides r = AreSoundSides r.head r.trail
+
+abbrev pub HaveSoundSides : List Rule → Type 0
+HaveSoundSides [] = ⊤
+HaveSoundSides (r ∷ rs) = HasSoundSides r × HaveSoundSides rs
+
+-- a rule, where there are n conditions
+pub record IsSoundRule (n : ℕ) (r : Rule) : Type 0 where
+  pub listed : IfSome r.conditions (IsConditionList n)
+  pub head : IsSoundTree r.head
+  pub trail : IfSome r.trail IsSoundTree
+  pub cut : IsCutOf r.head r.trail r.cut
+  pub legal : IsLegal n r.statements
+
+pub record IsSound (S : Spec) : Type 0 where
+  pub some_condition : 1 ≤ length S.conditions
+  pub ends : (c : ℕ) (k : Condition) → slice_get S.conditions c ≡ Some k → k.end.status ≤ max_status
+  pub prints : (c : ℕ) (k : Condition) → slice_get S.conditions c ≡ Some k → length k.end.print ≤ max_literal_bytes
+  pub rules : (i : ℕ) (r : Rule) → slice_get S.rules i ≡ Some r → IsSoundRule (length S.conditions) r

@@ -1,0 +1,85 @@
+-- The positions that words read last, and how many subsets of them there are: the states of the automaton before
+-- minimising. (This project's.)
+use Rattle.std.specs.Prelude.{◌≡◌, ◌≢◌, ℕ, zero, suc, ◌+◌, ◌≤◌, ◌<◌, Bool, true, List, [], ◌∷◌, ◌++◌, length, ◌↔◌, ⊤, Option, Some, None, slice_get}
+use Rattle.lex_semantics.specs.Text.{IsText, Among, Ascending}
+use Rattle.lex_semantics.specs.Tree.{Tree}
+use Rattle.lex_semantics.specs.Positions.{positions, Cell, Readings, bytes_of, Reads}
+use Rattle.lex_semantics.specs.Spec.{Spec, Rule}
+use Rattle.lex_semantics.specs.Active.{active}
+
+abbrev pub positions_of_trail : Option Tree → ℕ
+positions_of_trail None = 0
+positions_of_trail (Some t) = positions t
+
+-- the positions of a rule, those of its trail after those of its head
+abbrev pub positions_of_rule : Rule → ℕ
+positions_of_rule r = positions r.head + positions_of_trail r.trail
+
+-- all the positions of the rules
+abbrev pub all_positions : List Rule → ℕ
+all_positions [] = 0
+all_positions (r ∷ rs) = positions_of_rule r + all_positions rs
+
+-- where the positions of rule i begin, when those of the first of these rules begin at `base`
+abbrev pub base_of : List Rule → ℕ → ℕ → ℕ
+base_of [] base i = base
+base_of (r ∷ rs) base zero = base
+base_of (r ∷ rs) base (suc i) = base_of rs (base + positions_of_rule r) i
+
+abbrev pub ReadsTrail : Option Tree → ℕ → Readings
+ReadsTrail None base rs = rs ≡ []
+ReadsTrail (Some t) base rs = Reads t base rs
+
+-- a word of the head that is not empty, and then a word of the trail
+abbrev pub ReadsRule : Rule → ℕ → Readings
+ReadsRule r base rs =
+    (us : List Cell) × (vs : List Cell) × (rs ≡ us ++ vs) × (Reads r.head base us × (us ≢ [])) × ReadsTrail r.trail (base + positions r.head) vs
+
+-- a reading of an active rule
+abbrev pub ReadsActive : Spec → ℕ → Bool → Readings
+ReadsActive S c line_start rs =
+    (i : ℕ) × (r : Rule) × (slice_get S.rules i ≡ Some r) × (active S c line_start r ≡ true) × ReadsRule r (base_of S.rules 0 i) rs
+
+-- the last byte is read at p
+abbrev pub EndsAt : ℕ → Readings
+EndsAt p [] = ⊥
+EndsAt p (c ∷ []) = c.1 ≡ p
+EndsAt p (c ∷ d ∷ rs) = EndsAt p (d ∷ rs)
+
+-- some reading begins with the word, and reads its last byte at p
+abbrev pub IsLast : Readings → List ℕ → ℕ → Type 0
+IsLast R w p = (rs : List Cell) × (zs : List Cell) × (bytes_of rs ≡ w) × EndsAt p rs × R (rs ++ zs)
+
+-- rule i is active
+abbrev pub IsActive : Spec → ℕ → Bool → ℕ → Type 0
+IsActive S c line_start i = (r : Rule) × (slice_get S.rules i ≡ Some r) × (active S c line_start r ≡ true)
+
+-- the list has each member of the set and nothing else, in order
+abbrev pub ListsSet : List ℕ → (ℕ → Type 0) → Type 0
+ListsSet l P = Ascending l × ((i : ℕ) → Among l i ↔ P i)
+
+-- no list comes twice
+abbrev pub Distinct : List (List ℕ) → Type 0
+Distinct [] = ⊤
+Distinct (l ∷ ls) = (Among ls l → ⊥) × Distinct ls
+
+-- the sets of active rules that are not empty, each once
+pub record AreStarts (S : Spec) (ls : List (List ℕ)) : Type 0 where
+  pub distinct : Distinct ls
+  pub listed : (c : ℕ) (line_start : Bool) (l : List ℕ) → c < length S.conditions → ListsSet l (IsActive S c line_start) → 1 ≤ length l → Among ls l
+  pub only : (l : List ℕ) → Among ls l → (c : ℕ) × (line_start : Bool) × (c < length S.conditions) × (1 ≤ length l) × ListsSet l (IsActive S c line_start)
+
+-- the sets of last positions that are not empty, each once
+pub record AreLasts (S : Spec) (ls : List (List ℕ)) : Type 0 where
+  pub distinct : Distinct ls
+  pub listed : (c : ℕ) (line_start : Bool) (w l : List ℕ) → c < length S.conditions → IsText w → 1 ≤ length w → ListsSet l (IsLast (ReadsActive S c line_start) w) → 1 ≤ length l → Among ls l
+  pub only : (l : List ℕ) → Among ls l →
+      (c : ℕ) × (line_start : Bool) × (w : List ℕ) × (c < length S.conditions) × IsText w × (1 ≤ length w) × (1 ≤ length l) × ListsSet l (IsLast (ReadsActive S c line_start) w)
+
+-- how many states there are before minimising: the dead one, one for each start, and one for each set of last positions
+pub record Subsets (S : Spec) (n : ℕ) : Type 0 where
+  pub starts : List (List ℕ)
+  pub lasts : List (List ℕ)
+  pub are_starts : AreStarts S starts
+  pub are_lasts : AreLasts S lasts
+  pub total : n ≡ 1 + length starts + length lasts

@@ -1,0 +1,57 @@
+-- Patterns as trees, and the words that they match. (POSIX, lex, Regular Expressions in lex.)
+use Rattle.std.specs.Prelude.{◌≡◌, ℕ, zero, suc, ◌≤◌, List, [], ◌∷◌, ◌++◌, ◌⊎◌, Option, Some, None, ⊤}
+use Rattle.lex_semantics.specs.ByteSets.{ByteSet, IsIn}
+
+mutual
+  pub data Tree : Type 0 where
+    -- no bytes
+    Empty : Tree
+    -- one byte of the set
+    Set : ByteSet → Tree
+    -- the parts in order
+    Cat : Trees → Tree
+    -- one of the parts
+    Alt : Trees → Tree
+    -- any number of times
+    Star : Tree → Tree
+    -- at least m times, and at most n times where there is an n
+    Repeat : Tree → ℕ → Option ℕ → Tree
+
+  pub data Trees : Type 0 where
+    no_trees : Trees
+    tree : Tree → Trees → Trees
+
+-- the parts of a list
+abbrev pub trees : List Tree → Trees
+trees [] = no_trees
+trees (t ∷ ts) = tree t (trees ts)
+
+-- the joining of k words of P
+abbrev pub Joined : (List ℕ → Type 0) → ℕ → List ℕ → Type 0
+Joined P zero w = w ≡ []
+Joined P (suc k) w = (u : List ℕ) × (v : List ℕ) × (w ≡ u ++ v) × P u × Joined P k v
+
+-- no more than the bound, where there is one
+abbrev pub UpTo : Option ℕ → ℕ → Type 0
+UpTo None k = ⊤
+UpTo (Some n) k = k ≤ n
+
+-- a word of the tree's language
+abbrev mutual
+  pub In : Tree → List ℕ → Type 0
+  In Empty w = w ≡ []
+  In (Set s) w = (b : ℕ) × (w ≡ b ∷ []) × IsIn s b
+  In (Cat ts) w = InEach ts w
+  In (Alt ts) w = InSome ts w
+  In (Star t) w = (k : ℕ) × Joined (In t) k w
+  In (Repeat t m n) w = (k : ℕ) × (m ≤ k) × UpTo n k × Joined (In t) k w
+
+  -- the joining of words of the trees, in order
+  pub InEach : Trees → List ℕ → Type 0
+  InEach no_trees w = w ≡ []
+  InEach (tree t ts) w = (u : List ℕ) × (v : List ℕ) × (w ≡ u ++ v) × In t u × InEach ts v
+
+  -- a word of one of the trees
+  pub InSome : Trees → List ℕ → Type 0
+  InSome no_trees w = ⊥
+  InSome (tree t ts) w = In t w ⊎ InSome ts w

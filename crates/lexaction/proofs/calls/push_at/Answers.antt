@@ -1,6 +1,0 @@
-use Rattle.std.proofs.Common.{sym}
-use Rattle.lexaction.proofs.CallLemmas.{push_closed}
-use Rattle.lexaction.proofs.calls.push_at.Goals as goal
-
-pub returns-in-Some-clause-spelled : goal.returns-in-Some-clause-spelled
-returns-in-Some-clause-spelled c = push_closed _ _ _ _ _ _ (sym c.in-Some.ensures.next) c.in_ok-number.ensures.spelled c.pushes.ensures

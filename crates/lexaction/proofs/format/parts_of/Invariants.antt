@@ -1,8 +1,0 @@
-use Rattle.std.proofs.Common.{◌≡◌, false, drop}
-use Rattle.lexaction.specs.Actions.{parts_in}
-use Rattle.lexaction.specs.Formats.{read_on}
-use Rattle.lexaction.specs.Views.{format_view}
-use Rattle.lexaction.proofs.format.parts_of.Given as goal
-
-abbrev pub invariant-loop-byte : goal.invariant-loop-byte
-invariant-loop-byte l = read_on (format_view l.format) (drop l.byte-index l.text) ≡ parts_in false l.text

@@ -1,5 +1,0 @@
-use Rattle.lexaction.proofs.NormalLemmas.{end_status}
-use Rattle.lexaction.proofs.laws.end_statuses.Goals as goal
-
-pub returns : goal.returns
-returns c = λ names text e some h. end_status names text e some h

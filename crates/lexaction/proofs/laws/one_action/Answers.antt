@@ -1,5 +1,0 @@
-use Rattle.lexaction.proofs.OneAction.{one_statements}
-use Rattle.lexaction.proofs.laws.one_action.Goals as goal
-
-pub returns : goal.returns
-returns c = λ condition text ss ss' h k. one_statements condition text ss ss' h.0 k.0

@@ -1,7 +1,0 @@
-use Rattle.std.proofs.Common.{◌≡◌, drop, map}
-use Rattle.lexmeaning.specs.Legal.{has_more}
-use Rattle.lexaction.specs.Views.{statement_of}
-use Rattle.lexaction.proofs.legal.has_more.Given as goal
-
-abbrev pub invariant-loop-statement : goal.invariant-loop-statement
-invariant-loop-statement l = has_more (map statement_of (drop l.statement-index l.statements)) ≡ has_more (map statement_of l.statements)

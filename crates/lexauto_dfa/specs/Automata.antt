@@ -1,0 +1,34 @@
+-- What a `Dfa` tells, and the machine that it is with a specification's actions. (This project's.)
+use Rattle.std.specs.Prelude.{ℕ, Bool, List}
+use Rattle.lex_semantics.specs.Spec.{Spec}
+use Rattle.lex_semantics.specs.Machine.{Machine}
+use Rattle.lexauto_dfa.specs.Machines.{machine_with}
+use Rattle.lexauto_dfa.specs.Parts.{conditions, states, start, next, accepts, goes_on}
+use Rattle.lexauto_dfa.specs.declared.dfa.Dfa.{Dfa}
+use Rattle.lexauto_dfa.specs.declared.dfa.Parts.{Parts}
+
+abbrev pub conditions_of : Dfa → ℕ
+conditions_of d = conditions d.parts
+
+abbrev pub states_of : Dfa → ℕ
+states_of d = states d.parts
+
+abbrev pub start_of : Dfa → ℕ → Bool → ℕ
+start_of d = start d.parts
+
+abbrev pub next_of : Dfa → ℕ → ℕ → ℕ
+next_of d = next d.parts
+
+abbrev pub accepts_of : Dfa → ℕ → List ℕ
+accepts_of d = accepts d.parts
+
+abbrev pub goes_on_of : Dfa → ℕ → Bool
+goes_on_of d = goes_on d.parts
+
+-- the lists' states, with the actions of a specification
+abbrev pub machine_in : Parts → Spec → Machine
+machine_in p S = machine_with S (start p) (next p) (accepts p) (goes_on p)
+
+-- the automaton's states, with the actions of a specification
+abbrev pub machine_of : Dfa → Spec → Machine
+machine_of d S = machine_in d.parts S

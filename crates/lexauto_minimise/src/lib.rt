@@ -1,0 +1,21 @@
+//! The least automaton, by partition refinement in which the smaller half of a block waits, with canonical numbers.
+#![tactic(auto)]
+
+mod blocks;
+mod columns;
+mod futures;
+mod interleaving;
+mod labels;
+mod laws;
+mod letters;
+mod lists;
+mod marking;
+mod minimising;
+mod numbering;
+mod refining;
+mod sources;
+mod splitting;
+mod tables;
+
+pub use laws::one_automaton;
+pub use minimising::minimise;

@@ -1,0 +1,20 @@
+//! Words with the states that they are the first to lead to. The words stand in one text, where a word may be the front of
+//! the next one.
+ghost use Rattle.std.specs.Prelude.{length};
+ghost use Rattle.lexauto_reports.specs.Stretches.{AreWithin, AreWithin-prop};
+
+/// Where a word stands, and the states that it is the first to lead to.
+#[derive(Drop)]
+pub(crate) struct Group {
+    pub start: usize,
+    pub end: usize,
+    pub states: Vec<u32>,
+}
+
+/// Groups in the order of their words, and the text of these.
+#[derive(Drop)]
+pub(crate) struct Groups {
+    pub text: Vec<u8>,
+    pub groups: Vec<Group>,
+    ghost within: { AreWithin (length text.items) groups.items } by { AreWithin-prop (length text.items) groups.items },
+}

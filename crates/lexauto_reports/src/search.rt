@@ -1,0 +1,150 @@
+//! The first word that leads to each state, with how many bytes were read: words in order of length and then of bytes, and
+//! the states of equal words together.
+ghost use Rattle.std.specs.Prelude.{◌≡◌, ◌⊎◌, ◌↔◌, ℕ, ◌+◌, ◌*◌, ◌<◌, ◌≤◌, [], ◌∷◌, ◌++◌, None, Some, length, IfOk, OnOk};
+ghost use Rattle.lex_semantics.specs.Text.{Among};
+ghost use Rattle.lexauto_dfa.specs.Automata.{states_of};
+ghost use Rattle.lexauto_reports.specs.Counting.{step, IsStart};
+ghost use Rattle.lexauto_reports.specs.Searching.{place_of, words_of, states_of_groups, unfound, IsAt, IsUpTo, AreFound};
+
+use crate::groups::Groups;
+use lexauto_dfa::Dfa;
+use std::alloc::{AllocError, Global};
+
+/// Groups in the order of their words, and for each state the place of the group that it is in.
+#[derive(Drop)]
+pub(crate) struct Found {
+    pub groups: Groups,
+    pub places: Vec<Option<usize>>,
+}
+
+/// The states that are reached, each with its first word.
+pub(crate) fn search(alloc: Global, dfa: &Dfa) -> Result<Found, AllocError>
+    ensures { IfOk result (λ f. AreFound dfa.now.parts (words_of f.groups) f.places.items) }
+{
+    let mut places = vec![in alloc; None; 3 * dfa.len() as usize]?;
+    let mut groups = first_group(alloc, dfa, &mut places)?;
+    let mut place = 0;
+    while place < groups.groups.len() {
+        expand(alloc, dfa, &mut groups, &mut places, place)?;
+        place += 1;
+    }
+    Ok(Found { groups, places })
+}
+
+/// The group of the empty word: the starts.
+fn first_group(
+    alloc: Global,
+    dfa: &Dfa,
+    places: &mut Vec<Option<usize>>,
+) -> Result<Groups, AllocError>
+    requires len { length places.old.items ≡ 3 * states_of dfa.now }
+    requires none { (x : ℕ) → place_of places.old.items x ≡ None }
+    ensures { IfOk result (λ g. IsUpTo dfa.now.parts (words_of g) (states_of_groups g) places.new.items 0) }
+{
+    let states = starts(alloc, dfa)?;
+    put_first(places, &states);
+    let groups = Groups::first(alloc, states)?;
+    Ok(groups)
+}
+
+/// Gives some states the first place.
+fn put_first(places: &mut Vec<Option<usize>>, states: &[u32])
+    requires known { (x : ℕ) → Among states.now x → x < length places.old.items }
+    ensures len { length places.new.items ≡ length places.old.items }
+    ensures first { (x : ℕ) → Among states.now x → place_of places.new.items x ≡ Some 0 }
+    ensures only { (x j : ℕ) → place_of places.new.items x ≡ Some j → (place_of places.old.items x ≡ Some j) ⊎ ((j ≡ 0) × Among states.now x) }
+{
+    for state in states {
+        places[*state as usize] = Some(0);
+    }
+}
+
+/// The states before any byte.
+fn starts(alloc: Global, dfa: &Dfa) -> Result<Vec<u32>, AllocError>
+    ensures { IfOk result (λ v. (x : ℕ) → Among v.items x ↔ IsStart dfa.now.parts x) }
+{
+    let mut starts = Vec::new(alloc);
+    for cond in 0..dfa.parts().starts.len() {
+        starts.push(3 * dfa.start(cond, false))?;
+        starts.push(3 * dfa.start(cond, true))?;
+    }
+    Ok(starts)
+}
+
+/// Adds the groups of the words that are a group's word with one byte more.
+fn expand(
+    alloc: Global,
+    dfa: &Dfa,
+    groups: &mut Groups,
+    places: &mut Vec<Option<usize>>,
+    place: usize,
+) -> Result<(), AllocError>
+    requires here { IsAt dfa.now.parts (words_of groups.old) (states_of_groups groups.old) places.old.items place 0 }
+    ensures up_to { OnOk result (IsUpTo dfa.now.parts (words_of groups.new) (states_of_groups groups.new) places.new.items (place + 1)) }
+    ensures fewer { OnOk result (length groups.new.groups.items + unfound places.new.items ≤ length groups.old.groups.items + unfound places.old.items) }
+{
+    for byte in 0..256u32 {
+        visit(alloc, dfa, groups, places, place, byte as u8)?;
+    }
+    Ok(())
+}
+
+/// Adds the group of the word that is a group's word with this byte more, if it is the first word of some states.
+fn visit(
+    alloc: Global,
+    dfa: &Dfa,
+    groups: &mut Groups,
+    places: &mut Vec<Option<usize>>,
+    place: usize,
+    byte: u8,
+) -> Result<(), AllocError>
+    requires here { IsAt dfa.now.parts (words_of groups.old) (states_of_groups groups.old) places.old.items place byte }
+    ensures next { OnOk result (IsAt dfa.now.parts (words_of groups.new) (states_of_groups groups.new) places.new.items place (byte + 1)) }
+    ensures fewer { OnOk result (length groups.new.groups.items + unfound places.new.items ≤ length groups.old.groups.items + unfound places.old.items) }
+{
+    let next = groups.groups.len();
+    let states = unseen(alloc, dfa, &groups.groups[place].states, byte, places, next)?;
+    if states.is_empty() {
+        return Ok(());
+    }
+    groups.add(alloc, place, byte, states)?;
+    Ok(())
+}
+
+/// Where some states go by a byte, of those that have no place yet. They get this one.
+fn unseen(
+    alloc: Global,
+    dfa: &Dfa,
+    states: &[u32],
+    byte: u8,
+    places: &mut Vec<Option<usize>>,
+    place: usize,
+) -> Result<Vec<u32>, AllocError>
+    requires len { length places.old.items ≡ 3 * states_of dfa.now }
+    requires known { (x : ℕ) → Among states.now x → x < 3 * states_of dfa.now }
+    ensures len { OnOk result (length places.new.items ≡ length places.old.items) }
+    ensures kept { OnOk result ((x j : ℕ) → place_of places.old.items x ≡ Some j → place_of places.new.items x ≡ Some j) }
+    ensures only { IfOk result (λ v. (x j : ℕ) → place_of places.new.items x ≡ Some j → (place_of places.old.items x ≡ Some j) ⊎ ((j ≡ place) × Among v.items x)) }
+    ensures seen { IfOk result (λ v. (x : ℕ) → Among v.items x → (x < 3 * states_of dfa.now) × (y : ℕ) × Among states.now y × (step dfa.now.parts y byte ≡ x)) }
+    ensures all { OnOk result ((y : ℕ) → Among states.now y → (j : ℕ) × (place_of places.new.items (step dfa.now.parts y byte) ≡ Some j)) }
+    ensures fewer { IfOk result (λ v. length v.items + unfound places.new.items ≡ unfound places.old.items) }
+{
+    let mut unseen = Vec::new(alloc);
+    for state in states {
+        let target = next(dfa, *state, byte);
+        if places[target as usize].is_none() {
+            places[target as usize] = Some(place);
+            unseen.push(target)?;
+        }
+    }
+    Ok(unseen)
+}
+
+/// The state after one byte more, with how many bytes were read.
+fn next(dfa: &Dfa, state: u32, byte: u8) -> u32
+    requires { state < 3 * states_of dfa.now }
+    ensures state { result ≡ step dfa.now.parts state byte }
+    ensures known { result < 3 * states_of dfa.now }
+{
+    3 * dfa.next(state / 3, byte) + (state % 3 + 1).min(2)
+}

@@ -1,7 +1,0 @@
-use Rattle.std.proofs.Common.{◌≡◌, min, take}
-use Rattle.lexmeaning.specs.Reading.{value}
-use Rattle.lexclass.proofs.digits.capped_value.Given as goal
-use Rattle.lexclass.specs.Limits.{number_cap}
-
-abbrev pub invariant-loop-digit : goal.invariant-loop-digit
-invariant-loop-digit l = l.number ≡ min number_cap (value l.radix (take l.digit-index l.digits))

@@ -1,6 +1,0 @@
-use Rattle.std.proofs.Common.{arith}
-use Rattle.lexclass.proofs.MemberLaws.{range_some}
-use Rattle.lexclass.proofs.expressions.span.Goals as goal
-
-pub returns-clause-some : goal.returns-clause-some
-returns-clause-some c = rw c.range.ensures (range_some c.args.low c.args.high c.requires (omega arith))

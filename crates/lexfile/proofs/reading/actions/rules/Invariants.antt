@@ -1,9 +1,0 @@
-use Rattle.std.proofs.Common.{◌≡◌, ◌-◌, map}
-use Rattle.lextab.specs.Views.{rule_of}
-use Rattle.lexfile.specs.Seen.{following}
-use Rattle.lexfile.specs.Reading.{many, rule_at}
-use Rattle.lexfile.proofs.Loops.{with_front}
-use Rattle.lexfile.proofs.reading.actions.rules.Given as goal
-
-abbrev pub invariant-loop-i : goal.invariant-loop-i
-invariant-loop-i l = with_front (map rule_of l.read.items) (many (λ i. rule_at l.conditions l.stack) following (l.count - l.i) l.i l.rest) ≡ many (λ i. rule_at l.conditions l.stack) following l.count 0 l.bytes

@@ -1,9 +1,0 @@
-use Rattle.std.proofs.Common.{◌≡◌, ◌-◌, map}
-use Rattle.lextab.specs.Views.{condition_of}
-use Rattle.lexfile.specs.Seen.{following}
-use Rattle.lexfile.specs.Reading.{many, condition_at}
-use Rattle.lexfile.proofs.Loops.{with_front}
-use Rattle.lexfile.proofs.reading.conditions.conditions.Given as goal
-
-abbrev pub invariant-loop-i : goal.invariant-loop-i
-invariant-loop-i l = with_front (map condition_of l.read.items) (many (λ i. condition_at l.states) following (l.count - l.i) l.i l.rest) ≡ many (λ i. condition_at l.states) following l.count 0 l.bytes

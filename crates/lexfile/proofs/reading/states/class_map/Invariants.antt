@@ -1,8 +1,0 @@
-use Rattle.std.proofs.Common.{◌≡◌, ◌-◌}
-use Rattle.lexfile.specs.Seen.{following}
-use Rattle.lexfile.specs.Reading.{many, class_at}
-use Rattle.lexfile.proofs.Loops.{with_front}
-use Rattle.lexfile.proofs.reading.states.class_map.Given as goal
-
-abbrev pub invariant-loop-i : goal.invariant-loop-i
-invariant-loop-i l = with_front l.read.items (many (class_at l.classes) following (256 - l.i) l.i l.rest) ≡ many (class_at l.classes) following 256 0 l.bytes

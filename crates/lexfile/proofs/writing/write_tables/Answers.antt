@@ -1,7 +1,0 @@
-use Rattle.std.proofs.Common.{sym, subst}
-use Rattle.lexfile.specs.Fitting.{FitsParts}
-use Rattle.lexfile.proofs.Texts.{parts_fit}
-use Rattle.lexfile.proofs.writing.write_tables.Goals as goal
-
-pub put_parts-requires-clause-fits : goal.put_parts-requires-clause-fits
-put_parts-requires-clause-fits g c = subst FitsParts (sym c.parts.ensures) (parts_fit c.args.tables.now.parts c.args.tables.now.lawful)

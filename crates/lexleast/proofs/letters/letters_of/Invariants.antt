@@ -1,5 +1,0 @@
-use Rattle.lexleast.specs.Columns.{HaveLetters}
-use Rattle.lexleast.proofs.letters.letters_of.Given as goal
-
-abbrev pub invariant-loop-byte : goal.invariant-loop-byte
-invariant-loop-byte l = HaveLetters l.next l.firsts.items l.states l.letters.items l.byte

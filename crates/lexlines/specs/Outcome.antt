@@ -1,2 +1,0 @@
--- What a refusal means.
-pub use Rattle.lexclass.specs.Memory.{UnlessMemory}

@@ -1,7 +1,0 @@
-use Rattle.std.proofs.Common.{◌≡◌, drop, map}
-use Rattle.lexmeaning.specs.Spec.{has_reject}
-use Rattle.lexmachine.specs.Views.{statement_of}
-use Rattle.lexmachine.proofs.action.has_reject.Given as goal
-
-abbrev pub invariant-loop-statement : goal.invariant-loop-statement
-invariant-loop-statement l = has_reject (map statement_of (drop l.statement-index l.statements)) ≡ has_reject (map statement_of l.statements)

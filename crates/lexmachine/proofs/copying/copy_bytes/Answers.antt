@@ -1,7 +1,0 @@
-use Rattle.std.proofs.Common.{sym, subst, arith}
-use Rattle.lexmeaning.specs.Text.{IsText}
-use Rattle.lexmachine.proofs.Growing.{is_text_from}
-use Rattle.lexmachine.proofs.copying.copy_bytes.Goals as goal
-
-pub returns-clause-text : goal.returns-clause-text
-returns-clause-text c = subst IsText (sym c.in_ok-copy.ensures.items) (is_text_from c.args.bytes.now (λ k. let f = c.type_inv.bytes k in omega (arith, f)))

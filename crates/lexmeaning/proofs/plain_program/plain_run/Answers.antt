@@ -1,9 +1,0 @@
-use Rattle.lexmeaning.proofs.PlainRun.{run_is}
-use Rattle.lexmeaning.proofs.MachineRun.{machine_run_is}
-use Rattle.lexmeaning.proofs.plain_program.plain_run.Goals as goal
-
-pub returns-clause-specification : goal.returns-clause-specification
-returns-clause-specification c = λ S x n w d e. run_is S x n w d e
-
-pub returns-clause-machine : goal.returns-clause-machine
-returns-clause-machine c = λ M laws x n w d e. machine_run_is M laws x n w d e

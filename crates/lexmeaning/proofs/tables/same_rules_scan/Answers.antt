@@ -1,5 +1,0 @@
-use Rattle.lexmeaning.proofs.SameRules.{same_over}
-use Rattle.lexmeaning.proofs.tables.same_rules_scan.Goals as goal
-
-pub returns : goal.returns
-returns c = λ S T sound sound' same x text. same_over S T sound sound' same x text

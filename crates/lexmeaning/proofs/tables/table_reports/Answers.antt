@@ -1,8 +1,0 @@
-use Rattle.lexmeaning.proofs.TableReports.{useless_is, back_word_is}
-use Rattle.lexmeaning.proofs.tables.table_reports.Goals as goal
-
-pub returns-clause-useless : goal.returns-clause-useless
-returns-clause-useless c = λ M S table i lt. useless_is M S table i lt
-
-pub returns-clause-back_words : goal.returns-clause-back_words
-returns-clause-back_words c = λ M S table d bol w cond text. back_word_is M S table d bol w cond text

@@ -1,9 +1,0 @@
-use Rattle.lexmeaning.proofs.SpecRun.{spec_run_exists}
-use Rattle.lexmeaning.proofs.MachineRun.{machine_run_exists}
-use Rattle.lexmeaning.proofs.turns.some_run.Goals as goal
-
-pub returns-clause-specification : goal.returns-clause-specification
-returns-clause-specification c = λ S sound x. spec_run_exists S sound x
-
-pub returns-clause-machine : goal.returns-clause-machine
-returns-clause-machine c = λ M laws x. machine_run_exists M laws x

@@ -1,5 +1,0 @@
-use Rattle.lexmeaning.proofs.Counted as Counted
-use Rattle.lexmeaning.proofs.words.never_no_count.Goals as goal
-
-pub returns : goal.returns
-returns c = λ S none. Counted.never_no_count S none

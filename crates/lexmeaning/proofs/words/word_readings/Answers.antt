@@ -1,5 +1,0 @@
-use Rattle.lexmeaning.proofs.WordReadings as Words
-use Rattle.lexmeaning.proofs.words.word_readings.Goals as goal
-
-pub returns : goal.returns
-returns c = λ t base w. Words.word_readings t base w

@@ -1,5 +1,0 @@
-use Rattle.lexpack.proofs.Lifted.{packed_to}
-use Rattle.lexpack.proofs.laws.packing_of_same_moves.Goals as goal
-
-pub returns : goal.returns
-returns c = packed_to

@@ -1,5 +1,0 @@
-use Rattle.lexpack.specs.Searching.{AreEntries}
-use Rattle.lexpack.proofs.rows.entries_of.Given as goal
-
-abbrev pub invariant-loop-k : goal.invariant-loop-k
-invariant-loop-k l = AreEntries l.row l.default l.k l.entries.items

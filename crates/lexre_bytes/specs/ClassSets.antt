@@ -1,0 +1,17 @@
+-- A class as one set, and what follows it. None where the class is not closed, or has an element that may not stand.
+use Rattle.std.specs.Prelude.{ℕ, Bool, Some}
+use Rattle.lex_semantics.specs.ByteSets.{ByteSet}
+use Rattle.lex_semantics.specs.Reading.{◌>>=◌, Reader}
+use Rattle.lexre_bytes.specs.Lexical.{element_at, element_set, elements_at, union_set, class_at, class_set}
+
+-- the set of the element at the front of the text
+abbrev pub member_at : Reader ByteSet
+member_at t = element_at t >>= λ (e, rest). element_set e >>= λ s. Some (s, rest)
+
+-- the bytes of the elements up to the closing bracket
+abbrev pub members_at : ℕ → Bool → Reader ByteSet
+members_at n first t = elements_at n first t >>= λ (es, rest). union_set es >>= λ s. Some (s, rest)
+
+-- after the opening bracket
+abbrev pub class_set_at : Bool → Reader ByteSet
+class_set_at fold t = class_at t >>= λ (negated, es, rest). class_set fold negated es >>= λ s. Some (s, rest)

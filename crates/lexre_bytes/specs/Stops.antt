@@ -1,0 +1,8 @@
+-- Where the next closing bracket or newline stands.
+use Rattle.std.specs.Prelude.{ℕ, List}
+use Rattle.lex_semantics.specs.Reading.{after_run}
+use Rattle.lexre_bytes.specs.Lexical.{inside}
+
+-- the text from its first closing bracket or newline on, or its end
+abbrev pub stop_of : List ℕ → List ℕ
+stop_of t = after_run inside t

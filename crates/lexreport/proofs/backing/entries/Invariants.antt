@@ -1,5 +1,0 @@
-use Rattle.lexreport.proofs.Entered.{AreEntries}
-use Rattle.lexreport.proofs.backing.entries.Given as goal
-
-abbrev pub invariant-loop-state : goal.invariant-loop-state
-invariant-loop-state l = AreEntries l.dfa.parts l.entries.items l.state

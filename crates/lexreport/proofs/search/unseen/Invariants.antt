@@ -1,5 +1,0 @@
-use Rattle.lexreport.specs.Searching.{AreSeen}
-use Rattle.lexreport.proofs.search.unseen.Given as goal
-
-abbrev pub invariant-loop-state : goal.invariant-loop-state
-invariant-loop-state l = AreSeen l.dfa.parts l.states l.state-index l.byte l.place l.fn.places.items l.places.items l.unseen.items

@@ -1,0 +1,31 @@
+-- What the definitions section declares, as the code keeps it.
+use Rattle.std.specs.Prelude.{◌≡◌, ℕ, ◌≤◌, Bool, true, List, map, length, codes}
+use Rattle.std.specs.FinMap.{from_entries}
+use Rattle.lexspec_actions.specs.declared.condition.Condition.{Condition}
+use Rattle.lexspec_lines.specs.DefinitionLines.{Definition, Declared, all_conditions, names_of, has_name, are_distinct, substitutes_of, all_options, are_known}
+use Rattle.lexspec_lines.specs.declared.declarations.Declarations.{Declarations}
+use Rattle.lex_semantics.specs.Limits.{max_conditions}
+use Rattle.lexspec_lines.specs.Folding.{with_fold}
+use Rattle.lexre.specs.declared.options.ReadOptions.{ReadOptions}
+
+abbrev pub declared_of : Condition → Declared
+declared_of c = record { exclusive = c.exclusive; name = c.name.items }
+
+-- the names of a declaration, each as a condition
+abbrev pub with_kind : Bool → List (List ℕ) → List Declared
+with_kind exclusive names = map (λ n. record { exclusive = exclusive; name = n }) names
+
+-- no condition is declared twice, and there are not too many
+abbrev pub AreGood : List Declared → Type 0
+AreGood cs = (are_distinct (names_of cs) ≡ true) × (length cs ≤ max_conditions)
+
+-- no condition and no name is declared twice, conditions are few, and options are known
+abbrev pub AreAllowed : List Definition → Type 0
+AreAllowed ds = AreGood (all_conditions ds) × (are_distinct (map (λ (d : List ℕ × List ℕ). d.0) (substitutes_of ds)) ≡ true) × (are_known (all_options ds) ≡ true)
+
+-- what the lines declare is what the code keeps
+pub record Declares (how : ReadOptions) (ds : List Definition) (d : Declarations) : Type 0 where
+  pub conditions : map declared_of d.conditions.items ≡ all_conditions ds
+  pub definitions : d.definitions ≡ from_entries (substitutes_of ds)
+  pub reads : d.options ≡ with_fold how (has_name (all_options ds) (codes "case-insensitive"))
+  pub stacks : d.stack ≡ has_name (all_options ds) (codes "stack")

@@ -1,0 +1,29 @@
+-- What the reader of the definitions section answers.
+use Rattle.std.specs.Prelude.{◌≡◌, ℕ, ◌+◌, true, List, codes, is_some, if◌then◌else◌}
+use Rattle.std.specs.FinMap.{get}
+use Rattle.lexre.specs.Definitions.{Definitions}
+use Rattle.lexre.specs.declared.options.ReadOptions.{ReadOptions}
+use Rattle.lexspec_lines.specs.declared.definition.DefinitionFault.{DefinitionFault}
+use Rattle.lexspec_lines.specs.declared.definition.DefinitionFault.TheVariants.{BadLine, Unclosed, Anchored}
+use Rattle.lexre_bytes.specs.declared.refusals.SpecErrorKind.{SpecErrorKind}
+use Rattle.lexre_bytes.specs.declared.refusals.SpecErrorKind.TheVariants as K
+use Rattle.lex_semantics.specs.Reading.{begins}
+use Rattle.lexspec_lines.specs.DefinitionLines.{Definition, definition_at, IsUpTo}
+use Rattle.lexspec_lines.specs.Lines.{newlines}
+use Rattle.lexspec_lines.specs.Declaring.{AreAllowed, Declares}
+use Rattle.lexspec_lines.specs.declared.section.Section.{Section}
+
+-- the lines before the one that begins with `%%`, what they declare, and the number of that line
+pub record HasSection (how : ReadOptions) (text : List ℕ) (s : Section) : Type 0 where
+  pub definitions : List Definition
+  pub lines : IsUpTo definition_at text definitions s.rest.now
+  pub separator : begins (codes "%%") s.rest.now ≡ true
+  pub declares : Declares how definitions s.declarations
+  pub allowed : AreAllowed definitions
+  pub line : s.line + newlines s.rest.now ≡ 1 + newlines text
+
+-- the reason that is reported for a fault of a line, where these names are defined before it
+abbrev pub reported_kind : Definitions → DefinitionFault → SpecErrorKind
+reported_kind defined BadLine = K.BadDefinitionLine
+reported_kind defined Unclosed = K.Unclosed
+reported_kind defined (Anchored name) = if is_some (get defined name.now) then K.DuplicateName else K.AnchoredDefinition

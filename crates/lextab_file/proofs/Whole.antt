@@ -1,0 +1,229 @@
+-- Each table has one file, and each file at most one table.
+use Rattle.std.proofs.Common.{◌≡◌, ℕ, suc, ◌<◌, ◌≤◌, Bool, true, false, ◌⊎◌, inl, inr, List, [], ◌∷◌, ◌++◌, length, Option, Some, None, refl, sym, ap, subst, ◌∙◌, arith}
+use Rattle.std.specs.Prelude.{◌==◌, ◌||◌, if◌then◌else◌}
+use Rattle.std.specs.Int.{w16, w32, to_be_bytes}
+use Rattle.std.specs.List.{flat_map}
+use Rattle.std.proofs.lemmas.Bool.Decides.{nat_tests}
+use Rattle.std.proofs.lemmas.Option.{same_Some}
+use Rattle.std.proofs.lemmas.List.{append-nil, nil_from_length}
+use Rattle.lex_semantics.specs.Text.{IsText}
+use Rattle.lextab_packed.specs.Table.{Condition, Rule, Row, Slot, Table}
+use Rattle.lextab_packed.specs.Checks.{Each, Sizes, sizes_of, AreSizes, IsCondition, IsRule, any_reject, IsRow, bases_of, IsSlot, IsTable}
+use Rattle.lextab_file.specs.File.{byte, condition_text, rule_text, row_text, slot_text, sizes_text, magic, version_of, file_of, IsFileOf, has_stack, any_stack}
+use Rattle.lextab_file.specs.Seen.{following}
+use Rattle.lextab_file.specs.Reading.{only_if, both, many, number_at, bytes_at, condition_at, rule_at, class_at, row_at, slot_at, is_magic, sizes_from, sizes_at, Parts, table_from, table_at}
+use Rattle.lextab_file.proofs.Forms.{IsReader, reads_both, reads_if, reads_as, reads_like, reads_places, reads_bytes, reads_short}
+use Rattle.lextab_file.proofs.Actions.{and_is}
+use Rattle.lextab_file.proofs.Fields.{reads_within, reads_byte_below, reads_condition, IsRuleBy, reads_rule, reads_row, reads_slot, tag_is}
+
+reads_sizes : IsReader sizes_text AreSizes sizes_at
+unfolding sizes_at
+reads_sizes = reads_like sizes_text
+    (λ z. ((1 ≤ z.conditions) × (z.conditions ≤ 255)) × (((0 ≤ z.rules) × (z.rules ≤ 4096)) × (((1 ≤ z.states) × (z.states ≤ 8192)) × (((1 ≤ z.classes) × (z.classes ≤ 256)) × ((z.classes ≤ z.slots) × (z.slots ≤ 2097152))))))
+    AreSizes _
+    (reads_as (λ (p : ℕ × (ℕ × (ℕ × (ℕ × ℕ)))). to_be_bytes w32 p.0 ++ (to_be_bytes w32 p.1.0 ++ (to_be_bytes w32 p.1.1.0 ++ (to_be_bytes w32 p.1.1.1.0 ++ to_be_bytes w32 p.1.1.1.1))))
+    (λ p. ((1 ≤ p.0) × (p.0 ≤ 255)) × (((0 ≤ p.1.0) × (p.1.0 ≤ 4096)) × (((1 ≤ p.1.1.0) × (p.1.1.0 ≤ 8192)) × (((1 ≤ p.1.1.1.0) × (p.1.1.1.0 ≤ 256)) × ((p.1.1.1.0 ≤ p.1.1.1.1) × (p.1.1.1.1 ≤ 2097152))))))
+    _ sizes_from (λ z. (z.conditions, (z.rules, (z.states, (z.classes, z.slots)))))
+    (reads_both (to_be_bytes w32) (λ n. (1 ≤ n) × (n ≤ 255)) _ (λ n (p : ℕ × (ℕ × (ℕ × ℕ))). to_be_bytes w32 p.0 ++ (to_be_bytes w32 p.1.0 ++ (to_be_bytes w32 p.1.1.0 ++ to_be_bytes w32 p.1.1.1)))
+    (λ n p. ((0 ≤ p.0) × (p.0 ≤ 4096)) × (((1 ≤ p.1.0) × (p.1.0 ≤ 8192)) × (((1 ≤ p.1.1.0) × (p.1.1.0 ≤ 256)) × ((p.1.1.0 ≤ p.1.1.1) × (p.1.1.1 ≤ 2097152))))) _
+    (reads_within 1 255 (omega arith)) (λ n l.
+    reads_both (to_be_bytes w32) (λ n. (0 ≤ n) × (n ≤ 4096)) _ (λ n (p : ℕ × (ℕ × ℕ)). to_be_bytes w32 p.0 ++ (to_be_bytes w32 p.1.0 ++ to_be_bytes w32 p.1.1))
+    (λ n p. ((1 ≤ p.0) × (p.0 ≤ 8192)) × (((1 ≤ p.1.0) × (p.1.0 ≤ 256)) × ((p.1.0 ≤ p.1.1) × (p.1.1 ≤ 2097152)))) _
+    (reads_within 0 4096 (omega arith)) (λ n l.
+    reads_both (to_be_bytes w32) (λ n. (1 ≤ n) × (n ≤ 8192)) _ (λ n (p : ℕ × ℕ). to_be_bytes w32 p.0 ++ to_be_bytes w32 p.1)
+    (λ n p. ((1 ≤ p.0) × (p.0 ≤ 256)) × ((p.0 ≤ p.1) × (p.1 ≤ 2097152))) _
+    (reads_within 1 8192 (omega arith)) (λ n l.
+    reads_both (to_be_bytes w32) (λ n. (1 ≤ n) × (n ≤ 256)) _ (λ n. to_be_bytes w32) (λ k n. (k ≤ n) × (n ≤ 2097152)) _
+    (reads_within 1 256 (omega arith)) (λ k l. reads_within k 2097152 (omega arith))))))
+    (λ z. refl) (λ p l. refl))
+    (λ z l. record {
+      some_condition = l.0.0;
+      conditions = l.0.1;
+      rules = l.1.0.1;
+      some_state = l.1.1.0.0;
+      states = l.1.1.0.1;
+      some_class = l.1.1.1.0.0;
+      classes = l.1.1.1.0.1;
+      slots_for_each_class = l.1.1.1.1.0;
+      slots = l.1.1.1.1.1;
+    })
+    (λ z l. ((l.some_condition, l.conditions), ((omega arith, l.rules), ((l.some_state, l.states), ((l.some_class, l.classes), (l.slots_for_each_class, l.slots))))))
+
+magic_is : (xs : List ℕ) → length xs ≡ 6 → is_magic xs ≡ true → xs ≡ magic
+magic_is (a ∷ b ∷ c ∷ d ∷ e ∷ f ∷ []) len h =
+    let p0 = and_is (a == 76) _ h in
+    let p1 = and_is (b == 69) _ p0.1 in
+    let p2 = and_is (c == 88) _ p1.1 in
+    let p3 = and_is (d == 84) _ p2.1 in
+    let p4 = and_is (e == 65) _ p3.1 in
+    rw (tag_is a 76 p0.0, tag_is b 69 p1.0, tag_is c 88 p2.0, tag_is d 84 p3.0, tag_is e 65 p4.0, tag_is f 66 p4.1) refl
+magic_is [] len h = absurd (omega arith)
+magic_is (a ∷ []) len h = absurd (omega arith)
+magic_is (a ∷ b ∷ []) len h = absurd (omega arith)
+magic_is (a ∷ b ∷ c ∷ []) len h = absurd (omega arith)
+magic_is (a ∷ b ∷ c ∷ d ∷ []) len h = absurd (omega arith)
+magic_is (a ∷ b ∷ c ∷ d ∷ e ∷ []) len h = absurd (omega arith)
+magic_is (a ∷ b ∷ c ∷ d ∷ e ∷ f ∷ g ∷ xs) len h = absurd (omega arith)
+
+magic_bytes : IsText magic
+magic_bytes = (omega arith, (omega arith, (omega arith, (omega arith, (omega arith, (omega arith, tt))))))
+
+reads_magic : IsReader (λ xs. xs) (λ xs. xs ≡ magic) (only_if is_magic (bytes_at 6))
+reads_magic = reads_if (λ xs. xs) (λ xs. (length xs ≡ 6) × IsText xs) (λ xs. xs ≡ magic) is_magic (bytes_at 6) (reads_bytes 6)
+    (λ xs l e. magic_is xs l.0 e) (λ xs l. (ap is_magic l, (ap length l, subst IsText (sym l) magic_bytes)))
+
+abbrev IsVersion : ℕ → Type 0
+IsVersion v = (v ≡ 1) ⊎ (v ≡ 2)
+
+version_is : (v : ℕ) (b : Bool) → (v == 1) ≡ b → (b || v == 2) ≡ true → IsVersion v
+version_is v true e h = inl (tag_is v 1 e)
+version_is v false e h = inr (tag_is v 2 h)
+
+is_version : (v : ℕ) → IsVersion v → ((v == 1 || v == 2) ≡ true) × (v < 65536)
+is_version v (inl e) = (rw e refl, omega (arith, e))
+is_version v (inr e) = (rw e refl, omega (arith, e))
+
+needed : (b : Bool) → IsVersion (if b then 2 else 1)
+needed true = inr refl
+needed false = inl refl
+
+reads_version : IsReader (to_be_bytes w16) IsVersion (only_if (λ v. v == 1 || v == 2) (number_at w16))
+reads_version = reads_if (to_be_bytes w16) (λ n. n < 65536) IsVersion (λ v. v == 1 || v == 2) (number_at w16) reads_short
+    (λ v l e. version_is v (v == 1) refl e) (λ v l. is_version v l)
+
+-- rules need just the version that has their statements
+none_needed : (b : Bool) (v : ℕ) → (if b then 2 else 1) ≡ v → (v == 2) ≡ false → b ≡ false
+none_needed false v e h = refl
+none_needed true v e h = absurd (two (ap (λ n. n == 2) e ∙ h))
+  where
+    two : true ≡ false → ⊥
+    two p = absurd cc
+
+no_stack : (b c : Bool) → (b || c) ≡ false → (b ≡ false) × (c ≡ false)
+no_stack true c e = absurd cc
+no_stack false c e = (refl, e)
+
+each_by : (z : Sizes) (stack : Bool) (i : ℕ) (rs : List Rule) → (stack ≡ false → any_stack rs ≡ false) → Each (IsRule z) i rs → Each (IsRuleBy z stack) i rs
+each_by z stack i [] none l = tt
+each_by z stack i (r ∷ rs) none l =
+    ((l.0, λ e. (no_stack (has_stack r.statements) (any_stack rs) (none e)).0), each_by z stack (suc i) rs (λ e. (no_stack (has_stack r.statements) (any_stack rs) (none e)).1) l.1)
+
+by_each : (z : Sizes) (stack : Bool) (i : ℕ) (rs : List Rule) → Each (IsRuleBy z stack) i rs → Each (IsRule z) i rs
+by_each z stack i [] l = tt
+by_each z stack i (r ∷ rs) l = (l.0.0, by_each z stack (suc i) rs l.1)
+
+-- ---- the parts after the sizes
+
+abbrev Body : Type 0
+Body = List Condition × (List Rule × (List ℕ × (List Row × List Slot)))
+
+abbrev body_text : Body → List ℕ
+body_text p = flat_map condition_text p.0 ++ (flat_map rule_text p.1.0 ++ (flat_map byte p.1.1.0 ++ (flat_map row_text p.1.1.1.0 ++ flat_map slot_text p.1.1.1.1)))
+
+abbrev IsBody : ℕ → Sizes → Body → Type 0
+IsBody v z p =
+    ((length p.0 ≡ z.conditions) × Each (IsCondition z) 0 p.0)
+    × ((((length p.1.0 ≡ z.rules) × Each (IsRule z) 0 p.1.0) × (version_of p.1.0 ≡ v))
+    × (((length p.1.1.0 ≡ 256) × Each (λ b k. k < z.classes) 0 p.1.1.0)
+    × (((length p.1.1.1.0 ≡ z.states) × Each (IsRow z (any_reject p.1.0)) 0 p.1.1.1.0)
+    × ((length p.1.1.1.1 ≡ z.slots) × Each (IsSlot z (bases_of p.1.1.1.0)) 0 p.1.1.1.1))))
+
+abbrev body_at : ℕ → Sizes → List ℕ → Option (Body × List ℕ)
+body_at v z = both (many (λ i. condition_at z.states) following z.conditions 0) (λ cs.
+    both (only_if (λ rs. version_of rs == v) (many (λ i. rule_at z.conditions (v == 2)) following z.rules 0)) (λ rs.
+    both (many (class_at z.classes) following 256 0) (λ ks.
+    both (many (row_at z (any_reject rs)) following z.states 0) (λ rows.
+    many (slot_at z (bases_of rows)) following z.slots 0))))
+
+reads_body : (v : ℕ) (z : Sizes) → AreSizes z → IsReader body_text (IsBody v z) (body_at v z)
+reads_body v z ok =
+    let rows_low : z.states < 4294967296 = let le = ok.states in omega arith in
+    let slots_low : z.slots < 4294967296 = let le = ok.slots in omega arith in
+    let rules_low : z.rules < 4294967296 = let le = ok.rules in omega arith in
+    let classes_low : z.classes ≤ 256 = ok.classes in
+    let conditions_low : z.conditions ≤ 256 = let le = ok.conditions in omega arith in
+    reads_both (flat_map condition_text) (λ xs. (length xs ≡ z.conditions) × Each (IsCondition z) 0 xs) _
+    (λ cs (p : List Rule × (List ℕ × (List Row × List Slot))). flat_map rule_text p.0 ++ (flat_map byte p.1.0 ++ (flat_map row_text p.1.1.0 ++ flat_map slot_text p.1.1.1)))
+    (λ cs p. (((length p.0 ≡ z.rules) × Each (IsRule z) 0 p.0) × (version_of p.0 ≡ v)) × (((length p.1.0 ≡ 256) × Each (λ b k. k < z.classes) 0 p.1.0) × (((length p.1.1.0 ≡ z.states) × Each (IsRow z (any_reject p.0)) 0 p.1.1.0) × ((length p.1.1.1 ≡ z.slots) × Each (IsSlot z (bases_of p.1.1.0)) 0 p.1.1.1)))) _
+    (reads_places condition_text (IsCondition z) (λ i. condition_at z.states) (λ i. reads_condition z i rows_low) z.conditions)
+    (λ cs l.
+    reads_both (flat_map rule_text) (λ xs. ((length xs ≡ z.rules) × Each (IsRule z) 0 xs) × (version_of xs ≡ v)) _
+    (λ rs (p : List ℕ × (List Row × List Slot)). flat_map byte p.0 ++ (flat_map row_text p.1.0 ++ flat_map slot_text p.1.1))
+    (λ rs p. ((length p.0 ≡ 256) × Each (λ b k. k < z.classes) 0 p.0) × (((length p.1.0 ≡ z.states) × Each (IsRow z (any_reject rs)) 0 p.1.0) × ((length p.1.1 ≡ z.slots) × Each (IsSlot z (bases_of p.1.0)) 0 p.1.1))) _
+    (reads_if (flat_map rule_text) (λ xs. (length xs ≡ z.rules) × Each (IsRuleBy z (v == 2)) 0 xs) (λ xs. ((length xs ≡ z.rules) × Each (IsRule z) 0 xs) × (version_of xs ≡ v)) (λ rs. version_of rs == v) _
+    (reads_places rule_text (IsRuleBy z (v == 2)) (λ i. rule_at z.conditions (v == 2)) (λ i. reads_rule z (v == 2) i conditions_low) z.rules)
+    (λ rs l e. ((l.0, by_each z (v == 2) 0 rs l.1), tag_is _ v e)) (λ rs l. (rw l.1 (same_tag v), (l.0.0, each_by z (v == 2) 0 rs (none_needed (any_stack rs) v l.1) l.0.1))))
+    (λ rs l.
+    reads_both (flat_map byte) (λ xs. (length xs ≡ 256) × Each (λ b k. k < z.classes) 0 xs) _
+    (λ ks (p : List Row × List Slot). flat_map row_text p.0 ++ flat_map slot_text p.1)
+    (λ ks p. ((length p.0 ≡ z.states) × Each (IsRow z (any_reject rs)) 0 p.0) × ((length p.1 ≡ z.slots) × Each (IsSlot z (bases_of p.0)) 0 p.1)) _
+    (reads_places byte (λ b k. k < z.classes) (class_at z.classes) (λ i. reads_byte_below z.classes classes_low) 256)
+    (λ ks l.
+    reads_both (flat_map row_text) (λ xs. (length xs ≡ z.states) × Each (IsRow z (any_reject rs)) 0 xs) _
+    (λ rows. flat_map slot_text) (λ rows xs. (length xs ≡ z.slots) × Each (IsSlot z (bases_of rows)) 0 xs) _
+    (reads_places row_text (IsRow z (any_reject rs)) (row_at z (any_reject rs)) (λ i. reads_row z (any_reject rs) i rows_low slots_low rules_low) z.states)
+    (λ rows l. reads_places slot_text (IsSlot z (bases_of rows)) (slot_at z (bases_of rows)) (λ i. reads_slot z (bases_of rows) i ok.some_state rows_low) z.slots))))
+  where
+    same_tag : (v : ℕ) → (v == v) ≡ true
+    same_tag v = grind (arith, nat_tests)
+
+-- ---- the whole
+
+sizes_same : (z : Sizes) (c r n e : ℕ) → c ≡ z.conditions → r ≡ z.rules → n ≡ z.states → e ≡ z.slots → ◌≡◌ {A = Sizes} (record { conditions = c; rules = r; states = n; classes = z.classes; slots = e }) z
+sizes_same z c r n e h k l m = rw (h, k, l, m) refl
+
+abbrev parts_of : Table → Parts
+parts_of t = (magic, (version_of t.rules, (sizes_of t, (t.conditions, (t.rules, (t.class_of, (t.rows, t.slots)))))))
+
+abbrev IsParts : Parts → Type 0
+IsParts p = (p.0 ≡ magic) × (IsVersion p.1.0 × (AreSizes p.1.1.0 × IsBody p.1.0 p.1.1.0 p.1.1.1))
+
+parts_back : (p : Parts) → IsParts p → parts_of (table_from p) ≡ p
+parts_back p l =
+    let b = l.1.1.1 in
+    let sizes : sizes_of (table_from p) ≡ p.1.1.0 = sizes_same p.1.1.0 _ _ _ _ b.0.0 b.1.0.0.0 b.1.1.1.0.0 b.1.1.1.1.0 in
+    ap (λ (m : List ℕ). (m, (version_of p.1.1.1.1.0, (sizes_of (table_from p), p.1.1.1)))) (sym l.0)
+    ∙ ap (λ (v : ℕ). (p.0, (v, (sizes_of (table_from p), p.1.1.1)))) b.1.0.1
+    ∙ ap (λ (z : Sizes). (p.0, (p.1.0, (z, p.1.1.1)))) sizes
+
+pub reads_table : IsReader file_of IsTable table_at
+unfolding table_at
+reads_table = reads_like file_of (λ t. IsParts (parts_of t)) IsTable _
+    (reads_as (λ (p : Parts). p.0 ++ (to_be_bytes w16 p.1.0 ++ (sizes_text p.1.1.0 ++ body_text p.1.1.1))) IsParts _ table_from parts_of
+    (reads_both (λ xs. xs) (λ xs. xs ≡ magic) _ (λ m (p : ℕ × (Sizes × Body)). to_be_bytes w16 p.0 ++ (sizes_text p.1.0 ++ body_text p.1.1)) (λ m p. IsVersion p.0 × (AreSizes p.1.0 × IsBody p.0 p.1.0 p.1.1)) _
+    reads_magic (λ m l.
+    reads_both (to_be_bytes w16) IsVersion _ (λ v (p : Sizes × Body). sizes_text p.0 ++ body_text p.1) (λ v p. AreSizes p.0 × IsBody v p.0 p.1) _
+    reads_version (λ v l.
+    reads_both sizes_text AreSizes sizes_at (λ z. body_text) (λ z. IsBody v z) (λ z. body_at v z)
+    reads_sizes (λ z l. reads_body v z l))))
+    (λ t. refl) parts_back)
+    (λ t l. let b = l.1.1.1 in record { sizes = l.1.1.0; conditions = b.0.1; rules = b.1.0.0.1; bytes = b.1.1.0.0; class_of = b.1.1.0.1; rows = b.1.1.1.0.1; slots = b.1.1.1.1.1 })
+    (λ t l. (refl, (needed (any_stack t.rules), (l.sizes, ((refl, l.conditions), (((refl, l.rules), refl), ((l.bytes, l.class_of), ((refl, l.rows), (refl, l.slots)))))))))
+
+-- the front of the bytes is a table file
+pub front_again : (t : Table) (rest : List ℕ) → IsTable t → table_at (file_of t ++ rest) ≡ Some (t, rest)
+front_again t rest h = reads_table.again t rest h
+
+pair_parts : {A B : Type 0} (a x : A) (b y : B) → ◌≡◌ {A = Option (A × B)} (Some (a, b)) (Some (x, y)) → (a ≡ x) × (b ≡ y)
+pair_parts a x b y e = let s = same_Some (a, b) (x, y) e in (ap (λ p. p.0) s, ap (λ p. p.1) s)
+
+-- a file with anything after it is the file of one table with one rest
+pub one_table : (t u : Table) (x y : List ℕ) → IsTable t → IsTable u → file_of t ++ x ≡ file_of u ++ y → (t ≡ u) × (x ≡ y)
+one_table t u x y h k e = pair_parts t u x y (sym (front_again t x h) ∙ ap table_at e ∙ front_again u y k)
+
+pub file_taken : (bytes : List ℕ) (t : Table) (rest : List ℕ) → IsText bytes → table_at bytes ≡ Some (t, rest) → length rest ≡ 0 → IsFileOf t bytes
+file_taken bytes t rest fits e none =
+    let u = reads_table.takes bytes t rest fits e in
+    (u.1.1, u.0 ∙ ap (λ (r : List ℕ). file_of t ++ r) (nil_from_length rest none) ∙ append-nil (file_of t))
+
+file_read : (bytes : List ℕ) (t : Table) → IsFileOf t bytes → table_at bytes ≡ Some (t, [])
+file_read bytes t f = ap table_at (f.1 ∙ sym (append-nil (file_of t))) ∙ reads_table.again t [] f.0
+
+pub no_file : (bytes : List ℕ) → table_at bytes ≡ None → (t : Table) → IsFileOf t bytes → ⊥
+no_file bytes e t f = let g = file_read bytes t f in absurd cc
+
+pub no_file_more : (bytes : List ℕ) (u : Table) (rest : List ℕ) → table_at bytes ≡ Some (u, rest) → 0 < length rest → (t : Table) → IsFileOf t bytes → ⊥
+no_file_more bytes u rest e more t f = let p = pair_parts t u [] rest (sym (file_read bytes t f) ∙ e) in let l = ap length p.1 in omega (arith, l)
+
+pub front_taken : (bytes : List ℕ) (u : Table) (rest : List ℕ) → IsText bytes → table_at bytes ≡ Some (u, rest) → 0 < length rest → (t : Table) × (rest : List ℕ) × IsTable t × (bytes ≡ file_of t ++ rest) × (0 < length rest)
+front_taken bytes u rest fits e more = let v = reads_table.takes bytes u rest fits e in (u, rest, v.1.1, v.0, more)

@@ -1,0 +1,92 @@
+-- The file of a table: its parts in order, numbers with the greatest byte first. (This project's.)
+use Rattle.std.specs.Prelude.{◌≡◌, ℕ, Bool, true, false, ◌||◌, if◌then◌else◌, List, [], ◌∷◌, ◌++◌, length}
+use Rattle.std.specs.Int.{w16, w32, to_be_bytes}
+use Rattle.std.specs.List.{flat_map}
+use Rattle.lex_semantics.specs.Spec.{Statement, Echo, Print, Begin, More, Less, Reject, End, Push, Pop, EndAction, Cut, Whole, Head, Trail}
+use Rattle.lextab_packed.specs.Table.{Condition, Rule, Row, Slot, Table}
+use Rattle.lextab_packed.specs.Checks.{Sizes, sizes_of, IsTable}
+
+-- two and four bytes
+abbrev pub short : ℕ → List ℕ
+short n = to_be_bytes w16 n
+
+abbrev pub long : ℕ → List ℕ
+long n = to_be_bytes w32 n
+
+abbrev pub byte : ℕ → List ℕ
+byte b = b ∷ []
+
+-- the length and the bytes
+abbrev pub string : List ℕ → List ℕ
+string bytes = long (length bytes) ++ bytes
+
+-- the tag and the number
+abbrev pub cut_text : Cut → List ℕ
+cut_text Whole = 0 ∷ long 0
+cut_text (Head n) = 1 ∷ long n
+cut_text (Trail n) = 2 ∷ long n
+
+-- the tag and what it says more
+abbrev pub statement_text : Statement → List ℕ
+statement_text Echo = byte 0
+statement_text (Print bytes) = 1 ∷ string bytes
+statement_text (Begin c) = 2 ∷ byte c
+statement_text More = byte 3
+statement_text (Less n) = 4 ∷ short n
+statement_text Reject = byte 5
+statement_text (End status) = 6 ∷ byte status
+statement_text (Push c) = 7 ∷ byte c
+statement_text Pop = byte 8
+
+abbrev pub end_text : EndAction → List ℕ
+end_text e = string e.print ++ byte e.status
+
+abbrev pub condition_text : Condition → List ℕ
+condition_text c = long c.start ++ (long c.line_start ++ end_text c.end)
+
+abbrev pub rule_text : Rule → List ℕ
+rule_text r = cut_text r.cut ++ (long (length r.statements) ++ flat_map statement_text r.statements)
+
+abbrev pub row_text : Row → List ℕ
+row_text r = long r.default_target ++ (long r.base ++ (long (length r.rules) ++ flat_map long r.rules))
+
+abbrev pub slot_text : Slot → List ℕ
+slot_text s = long s.check ++ long s.next
+
+-- LEXTAB
+abbrev pub magic : List ℕ
+magic = 76 ∷ 69 ∷ 88 ∷ 84 ∷ 65 ∷ 66 ∷ []
+
+-- a statement of the stack of conditions
+abbrev pub is_stack : Statement → Bool
+is_stack (Push c) = true
+is_stack Pop = true
+is_stack _ = false
+
+abbrev pub has_stack : List Statement → Bool
+has_stack [] = false
+has_stack (s ∷ ss) = is_stack s || has_stack ss
+
+abbrev pub any_stack : List Rule → Bool
+any_stack [] = false
+any_stack (r ∷ rs) = has_stack r.statements || any_stack rs
+
+-- the version that these rules need: 2 where one has a statement of the stack
+abbrev pub version_of : List Rule → ℕ
+version_of rules = if any_stack rules then 2 else 1
+
+abbrev pub sizes_text : Sizes → List ℕ
+sizes_text z = long z.conditions ++ (long z.rules ++ (long z.states ++ (long z.classes ++ long z.slots)))
+
+abbrev pub file_of : Table → List ℕ
+file_of t =
+    magic ++ (short (version_of t.rules) ++ (sizes_text (sizes_of t)
+    ++ (flat_map condition_text t.conditions
+    ++ (flat_map rule_text t.rules
+    ++ (flat_map byte t.class_of
+    ++ (flat_map row_text t.rows
+    ++ flat_map slot_text t.slots))))))
+
+-- the bytes are the file of the table, which keeps to what tables keep to
+abbrev pub IsFileOf : Table → List ℕ → Type 0
+IsFileOf t bytes = IsTable t × (bytes ≡ file_of t)

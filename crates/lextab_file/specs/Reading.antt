@@ -1,0 +1,195 @@
+-- Reading a table from its bytes, from left to right: a value and the bytes after it, or nothing. (A device of the reader.)
+use Rattle.std.specs.Prelude.{ℕ, zero, suc, ◌+◌, ◌-◌, Bool, true, false, not, ◌&&◌, ◌||◌, cond, if◌then◌else◌, nat_lt, nat_le, ◌==◌, List, [], ◌∷◌, length, take, drop, Option, Some, None, slice_index}
+use Rattle.std.specs.Int.{Width, w16, w32, byte_len, from_be_bytes}
+use Rattle.lex_semantics.specs.Spec.{Statement, Echo, Print, Begin, More, Less, Reject, End, Push, Pop, EndAction, Cut, Whole, Head, Trail}
+use Rattle.lextab_packed.specs.Table.{Condition, Rule, Row, Slot, Table}
+use Rattle.lextab_packed.specs.Checks.{Sizes, any_reject, bases_of}
+use Rattle.lextab_file.specs.File.{version_of}
+use Rattle.lextab_file.specs.Seen.{Seen, unseen, seen_after, following}
+use Rattle.lex_semantics.specs.Limits.{max_conditions, max_rules, max_states, max_classes, max_slots, max_literal_bytes, max_status, max_fixed_length, max_statements}
+
+infixl 10 ◌>>=◌
+abbrev pub ◌>>=◌ : {A B : Type 0} → Option A → (A → Option B) → Option B
+(Some x) >>= f = f x
+None >>= f = None
+
+-- ---- ways to read
+
+abbrev pub only_if : {A : Type 0} → (A → Bool) → (List ℕ → Option (A × List ℕ)) → List ℕ → Option (A × List ℕ)
+only_if test r bytes = r bytes >>= λ x. if test x.0 then Some x else None
+
+abbrev pub both : {A B : Type 0} → (List ℕ → Option (A × List ℕ)) → (A → List ℕ → Option (B × List ℕ)) → List ℕ → Option ((A × B) × List ℕ)
+both r s bytes = r bytes >>= λ x. s x.0 x.1 >>= λ y. Some ((x.0, y.0), y.1)
+
+abbrev pub seen_as : {A B : Type 0} → (A → B) → (List ℕ → Option (A × List ℕ)) → List ℕ → Option (B × List ℕ)
+seen_as f r bytes = r bytes >>= λ x. Some (f x.0, x.1)
+
+-- so many, each at the state that those before it left
+unfoldable pub many : {A S : Type 0} → (S → List ℕ → Option (A × List ℕ)) → (S → A → S) → ℕ → S → List ℕ → Option (List A × List ℕ)
+many r next zero s bytes = Some ([], bytes)
+many r next (suc n) s bytes = r s bytes >>= λ x. many r next n (next s x.0) x.1 >>= λ xs. Some (x.0 ∷ xs.0, xs.1)
+
+-- ---- fields
+
+abbrev pub byte_at : List ℕ → Option (ℕ × List ℕ)
+byte_at [] = None
+byte_at (b ∷ bytes) = Some (b, bytes)
+
+abbrev pub number_at : Width → List ℕ → Option (ℕ × List ℕ)
+number_at w bytes = if nat_lt (length bytes) (byte_len w) then None else Some (from_be_bytes w (take (byte_len w) bytes), drop (byte_len w) bytes)
+
+abbrev pub bytes_at : ℕ → List ℕ → Option (List ℕ × List ℕ)
+bytes_at n bytes = if nat_lt (length bytes) n then None else Some (take n bytes, drop n bytes)
+
+abbrev pub within : ℕ → ℕ → ℕ → Bool
+within least most n = nat_le least n && nat_le n most
+
+-- a number of four bytes within bounds
+abbrev pub long_at : ℕ → ℕ → List ℕ → Option (ℕ × List ℕ)
+long_at least most = only_if (within least most) (number_at w32)
+
+abbrev pub below : ℕ → ℕ → Bool
+below limit n = nat_lt n limit
+
+abbrev pub string_at : ℕ → ℕ → List ℕ → Option (List ℕ × List ℕ)
+string_at least most = seen_as (λ p. p.1) (both (long_at least most) (λ n. bytes_at n))
+
+-- a number of two bytes that is not 0
+abbrev pub positive_at : List ℕ → Option (ℕ × List ℕ)
+positive_at = only_if (λ n. nat_lt 0 n) (number_at w16)
+
+-- ---- the header
+
+abbrev pub is_magic : List ℕ → Bool
+is_magic xs = slice_index xs 0 == 76 && (slice_index xs 1 == 69 && (slice_index xs 2 == 88 && (slice_index xs 3 == 84 && (slice_index xs 4 == 65 && slice_index xs 5 == 66))))
+
+abbrev pub sizes_from : ℕ × (ℕ × (ℕ × (ℕ × ℕ))) → Sizes
+sizes_from p = record { conditions = p.0; rules = p.1.0; states = p.1.1.0; classes = p.1.1.1.0; slots = p.1.1.1.1 }
+
+unfoldable pub sizes_at : List ℕ → Option (Sizes × List ℕ)
+sizes_at = seen_as sizes_from (both (long_at 1 max_conditions) (λ c. both (long_at 0 max_rules) (λ r. both (long_at 1 max_states) (λ n. both (long_at 1 max_classes) (λ k. long_at k max_slots)))))
+
+-- ---- conditions
+
+abbrev pub end_from : List ℕ × ℕ → EndAction
+end_from p = record { print = p.0; status = p.1 }
+
+unfoldable pub end_at : List ℕ → Option (EndAction × List ℕ)
+end_at = seen_as end_from (both (string_at 0 max_literal_bytes) (λ p. only_if (below (max_status + 1)) byte_at))
+
+abbrev pub condition_from : ℕ × (ℕ × EndAction) → Condition
+condition_from p = record { start = p.0; line_start = p.1.0; end = p.1.1 }
+
+unfoldable pub condition_at : ℕ → List ℕ → Option (Condition × List ℕ)
+condition_at states = seen_as condition_from (both (only_if (below states) (number_at w32)) (λ s. both (only_if (below states) (number_at w32)) (λ l. end_at)))
+
+-- ---- rules
+
+abbrev pub whole_of : ℕ → Cut
+whole_of n = Whole
+
+abbrev pub cut_number : ℕ → List ℕ → Option (Cut × List ℕ)
+cut_number k bytes =
+    if k == 0 then seen_as whole_of (only_if (below 1) (number_at w32)) bytes
+    else if k == 1 then seen_as Head (only_if (below (max_fixed_length + 1)) (number_at w32)) bytes
+    else if k == 2 then seen_as Trail (only_if (below (max_fixed_length + 1)) (number_at w32)) bytes
+    else None
+
+unfoldable pub cut_at : List ℕ → Option (Cut × List ℕ)
+cut_at bytes = byte_at bytes >>= λ k. cut_number k.0 k.1
+
+-- a statement with this tag may not stand there
+abbrev pub bars : Seen → ℕ → Bool
+bars s k =
+    if k == 1 then s.printed
+    else if k == 3 then s.less
+    else if k == 4 then s.less || s.more
+    else if k == 5 then (s.less || s.more) || nat_lt 1 s.left
+    else if k == 6 then nat_lt 1 s.left
+    else if k == 7 then not s.stack
+    else if k == 8 then not s.stack
+    else false
+
+abbrev pub arguments : ℕ → Seen → ℕ → List ℕ → Option (Statement × List ℕ)
+arguments conditions s k bytes =
+    if k == 0 then Some (Echo, bytes)
+    else if k == 1 then seen_as Print (string_at 1 (max_literal_bytes - s.literal)) bytes
+    else if k == 2 then seen_as Begin (only_if (below conditions) byte_at) bytes
+    else if k == 3 then Some (More, bytes)
+    else if k == 4 then seen_as Less positive_at bytes
+    else if k == 5 then Some (Reject, bytes)
+    else if k == 6 then seen_as End (only_if (below (max_status + 1)) byte_at) bytes
+    else if k == 7 then seen_as Push (only_if (below conditions) byte_at) bytes
+    else if k == 8 then Some (Pop, bytes)
+    else None
+
+unfoldable pub statement_at : ℕ → Seen → List ℕ → Option (Statement × List ℕ)
+statement_at conditions s bytes = byte_at bytes >>= λ k. if bars s k.0 then None else arguments conditions s k.0 k.1
+
+-- a count, and so many
+abbrev pub statements_at : ℕ → Bool → List ℕ → Option (List Statement × List ℕ)
+statements_at conditions stack = seen_as (λ p. p.1) (both (long_at 0 max_statements) (λ n. many (statement_at conditions) seen_after n (unseen stack n)))
+
+abbrev pub rule_from : Cut × List Statement → Rule
+rule_from p = record { cut = p.0; statements = p.1 }
+
+unfoldable pub rule_at : ℕ → Bool → List ℕ → Option (Rule × List ℕ)
+rule_at conditions stack = seen_as rule_from (both cut_at (λ c. statements_at conditions stack))
+
+-- ---- classes
+
+abbrev pub class_at : ℕ → ℕ → List ℕ → Option (ℕ × List ℕ)
+class_at classes i = only_if (below classes) byte_at
+
+-- ---- states
+
+abbrev pub above : ℕ → ℕ → ℕ
+above low r = r + 1
+
+abbrev pub between : ℕ → ℕ → ℕ → Bool
+between low count r = nat_le low r && nat_lt r count
+
+abbrev pub accepted_at : ℕ → ℕ → List ℕ → Option (ℕ × List ℕ)
+accepted_at count low = only_if (between low count) (number_at w32)
+
+-- 0 where the state is 0
+abbrev pub none_at_0 : ℕ → ℕ → Bool
+none_at_0 s n = cond (s == 0) (n == 0) true
+
+abbrev pub row_from : ℕ × (ℕ × List ℕ) → Row
+row_from p = record { default_target = p.0; base = p.1.0; rules = p.1.1 }
+
+abbrev pub few : Bool → ℕ → ℕ → Bool
+few rejects s n = cond rejects true (nat_le n 1) && none_at_0 s n
+
+unfoldable pub row_at : Sizes → Bool → ℕ → List ℕ → Option (Row × List ℕ)
+row_at z rejects s = seen_as row_from (both (only_if (λ n. nat_lt n z.states && none_at_0 s n) (number_at w32)) (λ d.
+    both (only_if (λ n. nat_le (n + z.classes) z.slots && none_at_0 s n) (number_at w32)) (λ b.
+    seen_as (λ p. p.1) (both (only_if (few rejects s) (number_at w32)) (λ n. many (accepted_at z.rules) above n 0)))))
+
+-- ---- slots
+
+abbrev pub slot_from : ℕ × ℕ → Slot
+slot_from p = record { check = p.0; next = p.1 }
+
+abbrev pub good_check : Sizes → List ℕ → ℕ → ℕ → Bool
+good_check z bases i check = cond (check == 0) true (nat_lt check z.states && (nat_le (slice_index bases check) i && nat_lt i (slice_index bases check + z.classes)))
+
+unfoldable pub slot_at : Sizes → List ℕ → ℕ → List ℕ → Option (Slot × List ℕ)
+slot_at z bases i = seen_as slot_from (both (only_if (good_check z bases i) (number_at w32)) (λ check. only_if (λ n. nat_lt n z.states && none_at_0 check n) (number_at w32)))
+
+-- ---- the whole
+
+abbrev pub Parts : Type 0
+Parts = List ℕ × (ℕ × (Sizes × (List Condition × (List Rule × (List ℕ × (List Row × List Slot))))))
+
+abbrev pub table_from : Parts → Table
+table_from p = record { conditions = p.1.1.1.0; rules = p.1.1.1.1.0; classes = p.1.1.0.classes; class_of = p.1.1.1.1.1.0; rows = p.1.1.1.1.1.1.0; slots = p.1.1.1.1.1.1.1 }
+
+unfoldable pub table_at : List ℕ → Option (Table × List ℕ)
+table_at = seen_as table_from (both (only_if is_magic (bytes_at 6)) (λ m. both (only_if (λ v. v == 1 || v == 2) (number_at w16)) (λ v. both sizes_at (λ z.
+    both (many (λ i. condition_at z.states) following z.conditions 0) (λ cs.
+    both (only_if (λ rs. version_of rs == v) (many (λ i. rule_at z.conditions (v == 2)) following z.rules 0)) (λ rs.
+    both (many (class_at z.classes) following 256 0) (λ ks.
+    both (many (row_at z (any_reject rs)) following z.states 0) (λ rows.
+    many (slot_at z (bases_of rows)) following z.slots 0))))))))

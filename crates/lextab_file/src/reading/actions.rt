@@ -1,0 +1,242 @@
+//! Reads the rules: their cuts and their actions.
+ghost use Rattle.std.specs.Prelude.{◌≡◌, ◌≤◌, ◌-◌, ◌+◌, IfOk, map, length};
+ghost use Rattle.lextab_machine.specs.Literals.{literal_bytes};
+ghost use Rattle.lextab_machine.specs.Views.{statement_of, cut_of};
+ghost use Rattle.lextab_packed.specs.Checks.{any_reject};
+ghost use Rattle.lextab_packed.specs.Views.{rule_of};
+ghost use Rattle.lextab_file.specs.Seen.{following, unseen, seen_after};
+ghost use Rattle.lextab_file.specs.Reading.{many, string_at, cut_at, bars, statement_at, statements_at, rule_at};
+ghost use Rattle.lextab_file.specs.Views.{Gives, seen_of};
+ghost use Rattle.lex_semantics.specs.Limits.{max_literal_bytes};
+
+use super::fields::{byte, byte_below, long, long_below, long_within, positive, text};
+use crate::error::ReadError;
+use lex_semantics::{MAX_FIXED_LENGTH, MAX_LITERAL_BYTES, MAX_STATEMENTS, MAX_STATUS};
+use lextab_machine::{Cut, Statement, has_reject};
+use lextab_packed::TableRule;
+use std::alloc::Global;
+
+/// What stood before a statement in its action: the bytes of its literals, and whether a literal stands directly
+/// before, a yymore and a yyless. And how many statements there are from this one on.
+#[derive(Clone, Copy)]
+pub struct Before {
+    pub literal: u32,
+    pub printed: bool,
+    pub more: bool,
+    pub less: bool,
+    pub left: u32,
+    /// Whether the file's version has statements of the stack.
+    pub stack: bool,
+}
+
+impl Before {
+    /// Whether a statement with this tag may not stand here.
+    fn bars(self, tag: u8) -> bool
+        ensures { result ≡ bars (seen_of self) tag }
+    {
+        match tag {
+            1 => self.printed,
+            3 => self.less,
+            4 => self.less || self.more,
+            5 => self.less || self.more || self.left > 1,
+            6 => self.left > 1,
+            7 => !self.stack,
+            8 => !self.stack,
+            _ => false,
+        }
+    }
+
+    /// The same with this statement.
+    fn and(self, statement: &Statement) -> Before
+        requires short { self.literal + literal_bytes (statement_of statement.now) ≤ max_literal_bytes }
+        requires left { 1 ≤ self.left }
+        ensures { seen_of result ≡ seen_after (seen_of self) (statement_of statement.now) }
+    {
+        let mut now = self;
+        now.printed = false;
+        now.left -= 1;
+        match statement {
+            Statement::Print(bytes) => {
+                now.printed = true;
+                now.literal += bytes.len() as u32;
+            }
+            Statement::More => now.more = true,
+            Statement::Less(_) => now.less = true,
+            Statement::Echo
+            | Statement::Begin(_)
+            | Statement::Reject
+            | Statement::End(_)
+            | Statement::Push(_)
+            | Statement::Pop => {}
+        }
+        now
+    }
+}
+
+#[tactic(auto, unfolding(crate::specs::Reading::cut_at))]
+fn cut(bytes: &[u8]) -> Result<(Cut, &[u8]), ReadError>
+    ensures gives { Gives (λ x. (cut_of x.0, x.1.now)) result (cut_at bytes.now) }
+{
+    let (tag, rest) = byte(bytes)?;
+    match tag {
+        0 => {
+            let (_, rest) = long_below(rest, 1)?;
+            Ok((Cut::Whole, rest))
+        }
+        1 => {
+            let (number, rest) = long_below(rest, MAX_FIXED_LENGTH + 1)?;
+            Ok((Cut::Head(number as u16), rest))
+        }
+        2 => {
+            let (number, rest) = long_below(rest, MAX_FIXED_LENGTH + 1)?;
+            Ok((Cut::Trail(number as u16), rest))
+        }
+        _ => Err(ReadError::BadField(bytes.len())),
+    }
+}
+
+/// A literal of at most `room` bytes. A longer one of at most 4,096 is a fault of the field that has `left` bytes from
+/// its start to the end.
+fn literal(
+    alloc: Global,
+    bytes: &[u8],
+    room: u32,
+    left: usize,
+) -> Result<(Vec<u8>, &[u8]), ReadError>
+    requires { room ≤ max_literal_bytes }
+    ensures gives { Gives (λ x. (x.0.items, x.1.now)) result (string_at 1 room bytes.now) }
+    ensures length { IfOk result (λ x. length x.0.items ≤ room) }
+{
+    let (count, rest) = long(bytes)?;
+    if count < 1 || MAX_LITERAL_BYTES < count as usize {
+        return Err(ReadError::BadField(bytes.len()));
+    }
+    if room < count {
+        return Err(ReadError::BadField(left));
+    }
+    text(alloc, rest, count)
+}
+
+#[tactic(auto, unfolding(crate::specs::Reading::statement_at))]
+fn statement(
+    alloc: Global,
+    bytes: &[u8],
+    conditions: u32,
+    before: Before,
+) -> Result<(Statement, &[u8]), ReadError>
+    requires { before.literal ≤ max_literal_bytes }
+    ensures gives { Gives (λ x. (statement_of x.0, x.1.now)) result (statement_at conditions (seen_of before) bytes.now) }
+    ensures literal { IfOk result (λ x. before.literal + literal_bytes (statement_of x.0) ≤ max_literal_bytes) }
+{
+    let left = bytes.len();
+    let (tag, rest) = byte(bytes)?;
+    if before.bars(tag) {
+        return Err(ReadError::BadField(left));
+    }
+    match tag {
+        0 => Ok((Statement::Echo, rest)),
+        1 => {
+            let (print, rest) = literal(
+                alloc,
+                rest,
+                MAX_LITERAL_BYTES as u32 - before.literal,
+                left,
+            )?;
+            Ok((Statement::Print(print), rest))
+        }
+        2 => {
+            let (condition, rest) = byte_below(rest, conditions)?;
+            Ok((Statement::Begin(condition), rest))
+        }
+        3 => Ok((Statement::More, rest)),
+        4 => {
+            let (count, rest) = positive(rest)?;
+            Ok((Statement::Less(count), rest))
+        }
+        5 => Ok((Statement::Reject, rest)),
+        6 => {
+            let (status, rest) = byte_below(rest, MAX_STATUS + 1)?;
+            Ok((Statement::End(status), rest))
+        }
+        7 => {
+            let (condition, rest) = byte_below(rest, conditions)?;
+            Ok((Statement::Push(condition), rest))
+        }
+        8 => Ok((Statement::Pop, rest)),
+        _ => Err(ReadError::BadField(left)),
+    }
+}
+
+fn statements(
+    alloc: Global,
+    bytes: &[u8],
+    count: u32,
+    conditions: u32,
+    stack: bool,
+) -> Result<(Vec<Statement>, &[u8]), ReadError>
+    ensures { Gives (λ x. (map statement_of x.0.items, x.1.now)) result (many (statement_at conditions) seen_after count (unseen stack count) bytes.now) }
+{
+    let mut read = Vec::new(alloc);
+    let mut rest = bytes;
+    let mut before = Before {
+        literal: 0,
+        printed: false,
+        more: false,
+        less: false,
+        left: count,
+        stack,
+    };
+    for i in 0..count {
+        let (one, after) = statement(alloc, rest, conditions, before)?;
+        before = before.and(&one);
+        read.push(one)?;
+        rest = after;
+    }
+    Ok((read, rest))
+}
+
+#[tactic(auto, unfolding(crate::specs::Reading::rule_at))]
+fn rule(
+    alloc: Global,
+    bytes: &[u8],
+    conditions: u32,
+    stack: bool,
+) -> Result<(TableRule, &[u8]), ReadError>
+    ensures gives { Gives (λ x. (rule_of x.0, x.1.now)) result (rule_at conditions stack bytes.now) }
+{
+    let (cut, rest) = cut(bytes)?;
+    let (count, rest) = long_within(rest, 0, MAX_STATEMENTS as u32)?;
+    let (statements, rest) = statements(alloc, rest, count, conditions, stack)?;
+    Ok((TableRule { cut, statements }, rest))
+}
+
+pub fn rules(
+    alloc: Global,
+    bytes: &[u8],
+    count: u32,
+    conditions: u32,
+    stack: bool,
+) -> Result<(Vec<TableRule>, &[u8]), ReadError>
+    ensures { Gives (λ x. (map rule_of x.0.items, x.1.now)) result (many (λ i. rule_at conditions stack) following count 0 bytes.now) }
+{
+    let mut read = Vec::new(alloc);
+    let mut rest = bytes;
+    for i in 0..count {
+        let (one, after) = rule(alloc, rest, conditions, stack)?;
+        read.push(one)?;
+        rest = after;
+    }
+    Ok((read, rest))
+}
+
+/// Whether a rule has REJECT.
+pub fn rejects_in(rules: &[TableRule]) -> bool
+    ensures { result ≡ any_reject (map rule_of rules.now) }
+{
+    for rule in rules {
+        if has_reject(&rule.statements) {
+            return true;
+        }
+    }
+    false
+}

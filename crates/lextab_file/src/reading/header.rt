@@ -1,0 +1,70 @@
+//! Reads the header: the magic bytes, the version, and how many there are of each kind.
+ghost use Rattle.std.specs.Prelude.{◌≡◌, ◌≤◌, ◌==◌, ◌||◌, ◌⊎◌, IfOk};
+ghost use Rattle.std.specs.Int.{w16};
+ghost use Rattle.lextab_file.specs.Reading.{only_if, number_at, bytes_at, is_magic, sizes_at};
+ghost use Rattle.lextab_file.specs.Views.{Gives, sizes_in};
+ghost use Rattle.lex_semantics.specs.Limits.{max_classes};
+
+use super::fields::{long_within, short};
+use crate::error::ReadError;
+use lex_semantics::{MAX_CLASSES, MAX_CONDITIONS, MAX_RULES, MAX_SLOTS, MAX_STATES};
+
+/// How many there are of each kind.
+#[derive(Clone, Copy)]
+pub struct Counts {
+    pub conditions: u32,
+    pub rules: u32,
+    pub states: u32,
+    pub classes: u32,
+    pub slots: u32,
+}
+
+pub fn magic(bytes: &[u8]) -> Result<(&[u8], &[u8]), ReadError>
+    ensures { Gives (λ x. (x.0.now, x.1.now)) result (only_if is_magic (bytes_at 6) bytes.now) }
+{
+    if bytes.len() < 6 {
+        return Err(ReadError::Truncated);
+    }
+    let (front, rest) = bytes.split_at(6);
+    if front[0] == b'L'
+        && front[1] == b'E'
+        && front[2] == b'X'
+        && front[3] == b'T'
+        && front[4] == b'A'
+        && front[5] == b'B'
+    {
+        return Ok((front, rest));
+    }
+    Err(ReadError::BadMagic)
+}
+
+pub fn version(bytes: &[u8]) -> Result<(u16, &[u8]), ReadError>
+    ensures gives { Gives (λ x. (x.0, x.1.now)) result (only_if (λ v. v == 1 || v == 2) (number_at w16) bytes.now) }
+    ensures known { IfOk result (λ x. (x.0 ≡ 1) ⊎ (x.0 ≡ 2)) }
+{
+    let (version, rest) = short(bytes)?;
+    if version != 1 && version != 2 {
+        return Err(ReadError::BadVersion);
+    }
+    Ok((version, rest))
+}
+
+#[tactic(auto, unfolding(crate::specs::Reading::sizes_at))]
+pub fn sizes(bytes: &[u8]) -> Result<(Counts, &[u8]), ReadError>
+    ensures gives { Gives (λ x. (sizes_in x.0, x.1.now)) result (sizes_at bytes.now) }
+    ensures classes { IfOk result (λ x. x.0.classes ≤ max_classes) }
+{
+    let (conditions, rest) = long_within(bytes, 1, MAX_CONDITIONS as u32)?;
+    let (rules, rest) = long_within(rest, 0, MAX_RULES as u32)?;
+    let (states, rest) = long_within(rest, 1, MAX_STATES)?;
+    let (classes, rest) = long_within(rest, 1, MAX_CLASSES)?;
+    let (slots, rest) = long_within(rest, classes, MAX_SLOTS)?;
+    let counts = Counts {
+        conditions,
+        rules,
+        states,
+        classes,
+        slots,
+    };
+    Ok((counts, rest))
+}

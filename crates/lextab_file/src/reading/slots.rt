@@ -1,0 +1,95 @@
+//! Reads the slots.
+ghost use Rattle.std.specs.Prelude.{◌≡◌, ◌<◌, ◌&&◌, nat_lt, map, length, slice_index};
+ghost use Rattle.std.specs.Int.{w32};
+ghost use Rattle.lextab_packed.specs.Checks.{bases_of};
+ghost use Rattle.lextab_packed.specs.Views.{row_of, slots_of};
+ghost use Rattle.lextab_file.specs.Seen.{following};
+ghost use Rattle.lextab_file.specs.Reading.{many, only_if, number_at, good_check, none_at_0, slot_at, slot_from};
+ghost use Rattle.lextab_file.specs.Views.{Gives, sizes_in};
+
+use super::fields::long;
+use super::header::Counts;
+use crate::error::ReadError;
+use lextab_packed::Row;
+use std::alloc::Global;
+
+/// Where the targets of a state begin.
+#[tactic(auto, using(crate::proofs::Columns::base_at))]
+fn base(rows: &[Row], state: u32) -> u32
+    requires { state < length rows.now }
+    ensures { result ≡ slice_index (bases_of (map row_of rows.now)) state }
+{
+    rows[state as usize].base
+}
+
+/// The state that the slot at this place is for, or 0.
+fn check_of<'a>(
+    bytes: &'a [u8],
+    counts: Counts,
+    rows: &[Row],
+    place: u32,
+) -> Result<(u32, &'a [u8]), ReadError>
+    requires { length rows.now ≡ counts.states }
+    ensures { Gives (λ x. (x.0, x.1.now)) result (only_if (good_check (sizes_in counts) (bases_of (map row_of rows.now)) place) (number_at w32) bytes.now) }
+{
+    let (check, rest) = long(bytes)?;
+    if check == 0 {
+        return Ok((check, rest));
+    }
+    if check >= counts.states {
+        return Err(ReadError::BadField(bytes.len()));
+    }
+    let base = base(rows, check);
+    if place < base || u64::from(place) >= u64::from(base) + u64::from(counts.classes) {
+        return Err(ReadError::BadField(bytes.len()));
+    }
+    Ok((check, rest))
+}
+
+/// The target in a slot for this state.
+fn next_of(bytes: &[u8], states: u32, check: u32) -> Result<(u32, &[u8]), ReadError>
+    ensures { Gives (λ x. (x.0, x.1.now)) result (only_if (λ n. nat_lt n states && none_at_0 check n) (number_at w32) bytes.now) }
+{
+    let (next, rest) = long(bytes)?;
+    if next >= states || (check == 0 && next != 0) {
+        return Err(ReadError::BadField(bytes.len()));
+    }
+    Ok((next, rest))
+}
+
+#[tactic(auto, unfolding(crate::specs::Reading::slot_at))]
+fn slot<'a>(
+    bytes: &'a [u8],
+    counts: Counts,
+    rows: &[Row],
+    place: u32,
+) -> Result<((u32, u32), &'a [u8]), ReadError>
+    requires { length rows.now ≡ counts.states }
+    ensures gives { Gives (λ x. (slot_from (x.0.0, x.0.1), x.1.now)) result (slot_at (sizes_in counts) (bases_of (map row_of rows.now)) place bytes.now) }
+{
+    let (check, rest) = check_of(bytes, counts, rows, place)?;
+    let (next, rest) = next_of(rest, counts.states, check)?;
+    Ok(((check, next), rest))
+}
+
+/// The slots, as the column of their states and that of their targets.
+pub fn slots<'a>(
+    alloc: Global,
+    bytes: &'a [u8],
+    counts: Counts,
+    rows: &[Row],
+) -> Result<((Vec<u32>, Vec<u32>), &'a [u8]), ReadError>
+    requires { length rows.now ≡ counts.states }
+    ensures { Gives (λ x. (slots_of x.0.0.items x.0.1.items, x.1.now)) result (many (slot_at (sizes_in counts) (bases_of (map row_of rows.now))) following counts.slots 0 bytes.now) }
+{
+    let mut checks = Vec::new(alloc);
+    let mut nexts = Vec::new(alloc);
+    let mut rest = bytes;
+    for i in 0..counts.slots {
+        let ((check, next), after) = slot(rest, counts, rows, i)?;
+        checks.push(check)?;
+        nexts.push(next)?;
+        rest = after;
+    }
+    Ok(((checks, nexts), rest))
+}

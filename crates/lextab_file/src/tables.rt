@@ -1,0 +1,52 @@
+//! Reads packed tables.
+ghost use Rattle.std.specs.Prelude.{◌≡◌, ◌<◌, ℕ, List, length, map, nat_lt, ◌++◌, IfOk, IfErr, true, false};
+ghost use Rattle.lextab_packed.specs.Table.{Table};
+ghost use Rattle.lextab_packed.specs.Checks.{IsTable};
+ghost use Rattle.lextab_packed.specs.Invariant.{GoesOn};
+ghost use Rattle.lextab_packed.specs.Views.{table_of};
+ghost use Rattle.lextab_file.specs.File.{file_of, IsFileOf};
+ghost use Rattle.lextab_file.specs.Refusals.{is_out_of_memory, is_trailing};
+
+use crate::error::TableError;
+use crate::reading::read_parts;
+use lexlive::live_states;
+use lextab_packed::{Row, TableParts, Tables, flat_rows};
+use std::alloc::{AllocError, Global};
+
+/// For each state whether it accepts a rule.
+fn accepting(alloc: Global, rows: &[Row]) -> Result<Vec<bool>, AllocError>
+    ensures { IfOk result (λ v. v.items ≡ map (λ r. nat_lt 0 (length r.rules.items)) rows.now) }
+{
+    let mut flags = Vec::with_capacity(alloc, rows.len())?;
+    for row in rows {
+        flags.push(!row.rules.is_empty())?;
+    }
+    Ok(flags)
+}
+
+/// For each state whether some text of at least one byte leads from it to one that accepts a rule.
+fn going_on(alloc: Global, parts: &TableParts) -> Result<Vec<bool>, AllocError>
+    requires { IsTable (table_of parts.now) }
+    ensures { IfOk result (λ v. GoesOn (table_of parts.now) v.items) }
+{
+    let next = flat_rows(alloc, parts)?;
+    let accepting = accepting(alloc, &parts.rows)?;
+    live_states(alloc, &next, &accepting)
+}
+
+/// Reads a table file, in time and memory in proportion to its length.
+///
+/// `BadField` names the first field that is not as it must be, and the tag of a statement that may not stand there.
+/// A field that is cut short is `Truncated`, and bytes after the table are `TrailingBytes`.
+pub fn read_tables(alloc: Global, bytes: &[u8]) -> Result<Tables, TableError>
+    // The bytes are the table's file.
+    ensures found { IfOk result (λ tables. IsFileOf (table_of tables.parts) bytes.now) }
+    // Unless memory ran out, the bytes are no table's file.
+    ensures none { IfErr result (λ e. is_out_of_memory e ≡ false → (t : Table) → IsFileOf t bytes.now → ⊥) }
+    // A proper prefix of the bytes is a table's file.
+    ensures trailing { IfErr result (λ e. is_trailing e ≡ true → (t : Table) × (rest : List ℕ) × IsTable t × (bytes.now ≡ file_of t ++ rest) × (0 < length rest)) }
+{
+    let parts = read_parts(alloc, bytes)?;
+    let goes_on = going_on(alloc, &parts)?;
+    Ok(Tables::new(parts, goes_on))
+}

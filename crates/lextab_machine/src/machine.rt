@@ -1,0 +1,81 @@
+//! What a scan obeys.
+ghost use Rattle.std.specs.Prelude.{◌≡◌, ℕ, ◌<◌, map, true, false, IfSome};
+ghost use Rattle.lex_semantics.specs.Machine.{Machine as MachineModel};
+ghost use Rattle.lextab_machine.specs.Views.{statement_of, end_action_of, cut_of};
+ghost use Rattle.lextab_machine.specs.Glances.{Leads, Gists};
+ghost use Rattle.lex_semantics.specs.MachineLaws.{MachineLaws, StaysBelow, NoReject, SomeReject};
+
+use crate::action::{EndAction, Statement};
+use crate::cut::Cut;
+use crate::glance::{Gist, Way};
+
+/// States, the rules that they accept, and what these do.
+pub trait Machine {
+    ghost machine: { Self → MachineModel };
+
+    /// Its states are the numbers below this one.
+    ghost states: { Self → ℕ };
+
+    ghost laws: { (m : Self) → MachineLaws (machine m) };
+
+    ghost below: { (m : Self) → StaysBelow (machine m) (states m) };
+
+    /// The state where a match starts in a condition, at the start of a line or not.
+    fn start(&self, condition: u8, line_start: bool) -> u32
+        requires { condition < (machine self.now).conditions }
+        ensures state { result ≡ (machine self.now).start condition line_start }
+        ensures known { result < states self.now };
+
+    /// The state after one byte more.
+    fn step(&self, state: u32, byte: u8) -> u32
+        requires { state < states self.now }
+        ensures state { result ≡ (machine self.now).next state byte }
+        ensures known { result < states self.now };
+
+    /// Whether some word that is not empty leads from the state to one that accepts.
+    fn goes_on(&self, state: u32) -> bool
+        requires { state < states self.now }
+        ensures { result ≡ (machine self.now).goes_on state };
+
+    /// The rules that the state accepts, ascending.
+    fn accepts(&self, state: u32) -> &[u32]
+        requires { state < states self.now }
+        ensures { result.now ≡ (machine self.now).accepts state };
+
+    /// How much of a match of the rule is the text, and what is done.
+    fn rule(&self, rule: u32) -> (Cut, &[Statement])
+        requires { rule < (machine self.now).count }
+        ensures cut { cut_of result.0 ≡ (machine self.now).cut rule }
+        ensures statements { map statement_of result.1.now ≡ (machine self.now).statements rule };
+
+    /// What is done at the end of the input.
+    fn eof(&self, condition: u8) -> &EndAction
+        requires { condition < (machine self.now).conditions }
+        ensures { end_action_of result.now ≡ (machine self.now).ending condition };
+
+    /// Whether some rule has REJECT.
+    fn rejects(&self) -> bool
+        ensures no { result ≡ false → NoReject (machine self.now) }
+        ensures yes { result ≡ true → SomeReject (machine self.now) };
+
+    /// A walk over bytes up to the first after which the machine goes on no more, if it is found at a glance.
+    fn way(&self, first: u32, bytes: &[u8]) -> Option<Way>
+        requires { first < states self.now }
+        ensures way { IfSome result (Leads (machine self.now) first bytes.now) }
+        ensures known { IfSome result (λ way. way.state < states self.now) }
+        ensures known_before { IfSome result (λ way. way.before < states self.now) }
+    {
+        let _bytes = bytes;
+        let _first = first;
+        None
+    }
+
+    /// What is known of the first rule that the state accepts.
+    fn gist(&self, state: u32) -> Gist<'_>
+        requires { state < states self.now }
+        ensures { Gists (machine self.now) state result }
+    {
+        let _state = state;
+        Gist::Any
+    }
+}

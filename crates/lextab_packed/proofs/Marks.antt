@@ -1,0 +1,46 @@
+-- Marked targets.
+use Rattle.std.proofs.Common.{◌≡◌, ℕ, ◌+◌, ◌-◌, ◌*◌, ◌≤◌, ◌<◌, Bool, true, false, List, [], ◌∷◌, length, take, get_or, refl, sym, ap, subst, ◌∙◌, arith}
+use Rattle.std.proofs.lemmas.List.{length-map}
+use Rattle.lex_semantics.specs.Text.{flag}
+use Rattle.lex_semantics.specs.Machine.{Machine, walk}
+use Rattle.lextab_packed.specs.declared.tables.Tables.{Tables}
+use Rattle.lextab_packed.specs.Flats.{marked}
+use Rattle.lextab_packed.specs.Steps.{step_of}
+use Rattle.lextab_packed.specs.Views.{table_of, row_of}
+use Rattle.lextab_packed.specs.Machines.{machine_of, states_of}
+use Rattle.lextab_packed.proofs.Ways.{walk_more, asked_more, Asked}
+
+pub stopped : (f : Bool) (t r : ℕ) → r ≡ marked f t → t ≤ 8192 → 2147483648 ≤ r → (f ≡ false) × (r - 2147483648 ≡ t)
+stopped true t r e low high = absurd (omega (arith, e, low, high))
+stopped false t r e low high = (refl, omega (arith, e))
+
+pub gone : (f : Bool) (t r : ℕ) → r ≡ marked f t → r < 2147483648 → (f ≡ true) × (r ≡ 256 * t)
+gone true t r e less = (refl, e)
+gone false t r e less = absurd (omega (arith, e, less))
+
+module _ (t : Tables) where
+  pub few_states : states_of t ≤ 8192
+  few_states = let s = t.lawful.sizes.states in omega (arith, s, length-map t.parts.rows.items row_of)
+
+  -- a step from the state after some bytes
+  module _ (first n : ℕ) (bytes : List ℕ) (lt : n < length bytes) (small : get_or bytes n 0 < 256) (known : walk (machine_of t) first (take n bytes) < states_of t) where
+    abbrev M : Machine
+    M = machine_of t
+
+    abbrev s : ℕ
+    s = walk M first (take n bytes)
+
+    abbrev next : ℕ
+    next = step_of (table_of t.parts) s (get_or bytes n 0)
+
+    pub next_is : next ≡ walk M first (take (n + 1) bytes)
+    next_is = sym (walk_more M first bytes n lt)
+
+    pub next_below : next < states_of t
+    next_below = t.below.next s (get_or bytes n 0) known small
+
+    -- the machine goes on after it
+    pub goes_further : (r : ℕ) → r ≡ marked (flag t.goes_on.items next) next → r < 2147483648 → Asked M first bytes n → (r ≡ 256 * walk M first (take (n + 1) bytes)) × (walk M first (take (n + 1) bytes) < states_of t) × Asked M first bytes (n + 1)
+    goes_further r e less asked =
+        let g = gone (flag t.goes_on.items next) next r e less in
+        (g.1 ∙ ap (λ k. 256 * k) next_is, subst (λ k. k < states_of t) next_is next_below, asked_more M first bytes n asked (subst (λ k. M.goes_on k ≡ true) next_is g.0))

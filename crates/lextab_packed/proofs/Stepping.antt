@@ -1,0 +1,63 @@
+-- Steps over the columns of a table.
+use Rattle.std.proofs.Common.{◌≡◌, ℕ, zero, suc, ◌+◌, ◌<◌, cond, List, [], ◌∷◌, length, map, get_or, refl, sym, ap, subst, ◌∙◌, arith}
+use Rattle.std.specs.Prelude.{◌==◌, slice_index, slice_index_or}
+use Rattle.std.proofs.lemmas.Bool.{cond-true, cond-false, eq-eqb, ne_eqb}
+use Rattle.std.proofs.lemmas.List.{length-map}
+use Rattle.lextab_packed.specs.Table as T
+use Rattle.lextab_packed.specs.Checks.{IsTable}
+use Rattle.lextab_packed.specs.Steps.{no_row, no_slot, row_in, target, step_of}
+use Rattle.lextab_packed.specs.Views.{row_of, slots_of, table_of}
+use Rattle.lextab_packed.specs.declared.parts.Row.{Row}
+use Rattle.lextab_packed.specs.declared.parts.TableParts.{TableParts}
+use Rattle.lextab_packed.proofs.Places.{place_below, step_is}
+
+slots_low : (cs ns : List ℕ) (i : ℕ) → i < length (slots_of cs ns) → (i < length cs) × (i < length ns)
+slots_low [] ns i h = absurd (omega (arith, h))
+slots_low (c ∷ cs) [] i h = absurd (omega (arith, h))
+slots_low (c ∷ cs) (n ∷ ns) zero h = (omega arith, omega arith)
+slots_low (c ∷ cs) (n ∷ ns) (suc i) h = let k = slots_low cs ns i (omega (arith, h)) in (omega (arith, k.0), omega (arith, k.1))
+
+slots_at : (cs ns : List ℕ) (i : ℕ) → i < length (slots_of cs ns) → slice_index_or (slots_of cs ns) i no_slot ≡ record { check = slice_index cs i; next = slice_index ns i }
+slots_at [] ns i h = absurd (omega (arith, h))
+slots_at (c ∷ cs) [] i h = absurd (omega (arith, h))
+slots_at (c ∷ cs) (n ∷ ns) zero h = refl
+slots_at (c ∷ cs) (n ∷ ns) (suc i) h = slots_at cs ns i (omega (arith, h))
+
+pub row_at : (rows : List Row) (s : ℕ) (row : Row) → s < length rows → row ≡ get_or rows s row → slice_index_or (map row_of rows) s no_row ≡ row_of row
+row_at [] s row h e = absurd (omega (arith, h))
+row_at (r ∷ rows) zero row h e = ap row_of (sym e)
+row_at (r ∷ rows) (suc s) row h e = row_at rows s row (omega (arith, h)) e
+
+module _ (p : TableParts) (ok : IsTable (table_of p)) (s b : ℕ) (low : s < length p.rows.items) (byte : b < 256) (row : Row) (is : row ≡ get_or p.rows.items s row) where
+  low_row : s < length (map row_of p.rows.items)
+  low_row = let n = length-map p.rows.items row_of in omega (arith, low, n)
+
+  row_is : row_in (table_of p) s ≡ row_of row
+  row_is = row_at p.rows.items s row low is
+
+  place_low : row.base + slice_index p.class_of.items b < length (slots_of p.checks.items p.nexts.items)
+  place_low = subst (λ (r : T.Row). r.base + slice_index p.class_of.items b < length (slots_of p.checks.items p.nexts.items)) row_is (place_below (table_of p) ok s b low_row byte)
+
+  pub classes_len : b < length p.class_of.items
+  classes_len = let n = ok.bytes in omega (arith, n, byte)
+
+  pub check_low : row.base + slice_index p.class_of.items b < length p.checks.items
+  check_low = (slots_low p.checks.items p.nexts.items (row.base + slice_index p.class_of.items b) place_low).0
+
+  pub next_low : row.base + slice_index p.class_of.items b < length p.nexts.items
+  next_low = (slots_low p.checks.items p.nexts.items (row.base + slice_index p.class_of.items b) place_low).1
+
+  goes : step_of (table_of p) s b ≡ cond (slice_index p.checks.items (row.base + slice_index p.class_of.items b) == s) (slice_index p.nexts.items (row.base + slice_index p.class_of.items b)) row.default_target
+  goes =
+      let i = row.base + slice_index p.class_of.items b in
+      step_is (table_of p) ok s b low_row byte
+      ∙ ap (λ (r : T.Row). target r (slice_index_or (slots_of p.checks.items p.nexts.items) (r.base + slice_index p.class_of.items b) no_slot) s) row_is
+      ∙ ap (λ (l : T.Slot). target (row_of row) l s) (slots_at p.checks.items p.nexts.items i place_low)
+
+  -- the slot has the state's target
+  pub by_slot : slice_index p.checks.items (row.base + slice_index p.class_of.items b) ≡ s → slice_index p.nexts.items (row.base + slice_index p.class_of.items b) ≡ step_of (table_of p) s b
+  by_slot e = sym (goes ∙ cond-true (slice_index p.checks.items (row.base + slice_index p.class_of.items b) == s) (slice_index p.nexts.items (row.base + slice_index p.class_of.items b)) row.default_target (eq-eqb (slice_index p.checks.items (row.base + slice_index p.class_of.items b)) s e))
+
+  -- the slot has another state's
+  pub by_default : (slice_index p.checks.items (row.base + slice_index p.class_of.items b) ≡ s → ⊥) → row.default_target ≡ step_of (table_of p) s b
+  by_default n = sym (goes ∙ cond-false (slice_index p.checks.items (row.base + slice_index p.class_of.items b) == s) (slice_index p.nexts.items (row.base + slice_index p.class_of.items b)) row.default_target (ne_eqb (slice_index p.checks.items (row.base + slice_index p.class_of.items b)) s n))

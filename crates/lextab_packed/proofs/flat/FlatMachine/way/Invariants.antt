@@ -1,0 +1,33 @@
+use Rattle.std.proofs.Common.{length, take, ◌-◌, ◌*◌, ◌≡◌, ◌<◌, ◌≤◌, ℕ, true}
+use Rattle.lex_semantics.specs.Machine.{walk}
+use Rattle.lextab_packed.specs.Machines.{machine_of, states_of}
+use Rattle.lextab_packed.proofs.Ways.{Asked}
+use Rattle.lextab_packed.proofs.flat.FlatMachine.way.Given as goal
+
+abbrev pub invariant-bytes : goal.invariant-bytes
+invariant-bytes l =
+    let M = machine_of l.self.tables.now in
+    record {
+      inside : l.count ≤ length l.bytes;
+      place_is : l.place ≡ 256 * walk M l.first (take l.count l.bytes);
+      known : walk M l.first (take l.count l.bytes) < states_of l.self.tables.now;
+      asked : Asked M l.first l.bytes l.count;
+    }
+
+abbrev pub decreases-bytes : goal.decreases-bytes
+decreases-bytes l = length l.bytes - l.count
+
+abbrev pub invariant-run : goal.invariant-run
+invariant-run l =
+    let M = machine_of l.self.tables.now in
+    record {
+      some : 1 ≤ l.count;
+      further : l.initial.count ≤ l.count;
+      inside : l.count ≤ length l.bytes;
+      place_is : l.place ≡ 256 * walk M l.first (take l.count l.bytes);
+      known : walk M l.first (take l.count l.bytes) < states_of l.self.tables.now;
+      asked : Asked M l.first l.bytes l.count;
+    }
+
+abbrev pub decreases-run : goal.decreases-run
+decreases-run l = length l.bytes - l.count

@@ -1,0 +1,40 @@
+-- What the parts of tables stand for.
+use Rattle.std.specs.Prelude.{ℕ, Bool, List, [], ◌∷◌, map}
+use Rattle.lex_semantics.specs.Text.{flag}
+use Rattle.lex_semantics.specs.Machine.{Machine}
+use Rattle.lextab_machine.specs.Views.{statement_of, end_action_of, cut_of}
+use Rattle.lextab_packed.specs.Table as T
+use Rattle.lextab_packed.specs.Steps.{machine_of_table}
+use Rattle.lextab_packed.specs.declared.parts.TableCondition.{TableCondition}
+use Rattle.lextab_packed.specs.declared.parts.TableRule.{TableRule}
+use Rattle.lextab_packed.specs.declared.parts.Row.{Row}
+use Rattle.lextab_packed.specs.declared.parts.TableParts.{TableParts}
+
+abbrev pub condition_of : TableCondition → T.Condition
+condition_of c = record { start = c.start; line_start = c.line_start; end = end_action_of c.end }
+
+abbrev pub rule_of : TableRule → T.Rule
+rule_of r = record { cut = cut_of r.cut; statements = map statement_of r.statements.items }
+
+abbrev pub row_of : Row → T.Row
+row_of r = record { default_target = r.default_target; base = r.base; rules = r.rules.items }
+
+-- the slots of two columns
+abbrev pub slots_of : List ℕ → List ℕ → List T.Slot
+slots_of [] nexts = []
+slots_of (c ∷ checks) [] = []
+slots_of (c ∷ checks) (n ∷ nexts) = record { check = c; next = n } ∷ slots_of checks nexts
+
+abbrev pub table_of : TableParts → T.Table
+table_of p = record {
+  conditions = map condition_of p.conditions.items;
+  rules = map rule_of p.rules.items;
+  classes = p.classes;
+  class_of = p.class_of.items;
+  rows = map row_of p.rows.items;
+  slots = slots_of p.checks.items p.nexts.items;
+}
+
+-- the machine of these parts, where these states go on
+abbrev pub machine_in : TableParts → List Bool → Machine
+machine_in p flags = machine_of_table (table_of p) (λ s. flag flags s)

@@ -1,0 +1,50 @@
+//! What packed tables tell a scanner.
+ghost use Rattle.lextab_packed.specs.Machines.{machine_of, states_of};
+
+use crate::steps::target;
+use crate::tables::Tables;
+use lextab_machine::{Cut, EndAction, Machine, Statement};
+
+impl Machine for Tables {
+    ghost machine = { λ t. machine_of t };
+
+    ghost states = { λ t. states_of t };
+
+    ghost laws = { λ t. t.laws };
+
+    ghost below = { λ t. t.below };
+
+    fn start(&self, condition: u8, line_start: bool) -> u32 {
+        let condition = &self.parts.conditions[usize::from(condition)];
+        if line_start {
+            condition.line_start
+        } else {
+            condition.start
+        }
+    }
+
+    fn step(&self, state: u32, byte: u8) -> u32 {
+        target(&self.parts, state, byte)
+    }
+
+    fn goes_on(&self, state: u32) -> bool {
+        self.goes_on[state as usize]
+    }
+
+    fn accepts(&self, state: u32) -> &[u32] {
+        &self.parts.rows[state as usize].rules
+    }
+
+    fn rule(&self, rule: u32) -> (Cut, &[Statement]) {
+        let rule = &self.parts.rules[rule as usize];
+        (rule.cut, &rule.statements)
+    }
+
+    fn eof(&self, condition: u8) -> &EndAction {
+        &self.parts.conditions[usize::from(condition)].end
+    }
+
+    fn rejects(&self) -> bool {
+        self.rejects
+    }
+}

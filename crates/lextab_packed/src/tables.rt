@@ -1,0 +1,59 @@
+//! Packed tables.
+ghost use Rattle.std.specs.Prelude.{◌≡◌, map, length};
+ghost use Rattle.lex_semantics.specs.MachineLaws.{MachineLaws, MachineLaws-prop, StaysBelow, StaysBelow-prop};
+ghost use Rattle.lextab_packed.specs.Checks.{IsTable, any_reject};
+ghost use Rattle.lextab_packed.specs.Invariant.{GoesOn, GoesOn-prop, IsTable-prop};
+ghost use Rattle.lextab_packed.specs.Views.{rule_of, table_of, machine_in};
+
+use crate::parts::{TableParts, TableRule};
+use lextab_machine::has_reject;
+
+/// A packed table, which keeps to all that a table file is checked for. No reader takes memory.
+#[derive(Drop)]
+pub struct Tables {
+    pub(crate) parts: TableParts,
+    pub(crate) goes_on: Vec<bool>,
+    pub(crate) rejects: bool,
+    ghost lawful: { IsTable (table_of parts) } by { IsTable-prop (table_of parts) },
+    ghost leading: { GoesOn (table_of parts) goes_on.items } by { GoesOn-prop (table_of parts) goes_on.items },
+    ghost laws: { MachineLaws (machine_in parts goes_on.items) } by { MachineLaws-prop (machine_in parts goes_on.items) },
+    ghost below: { StaysBelow (machine_in parts goes_on.items) (length parts.rows.items) } by { StaysBelow-prop (machine_in parts goes_on.items) (length parts.rows.items) },
+    ghost rejecting: { rejects ≡ any_reject (map rule_of parts.rules.items) },
+}
+
+/// Whether some rule has REJECT.
+fn any_reject(rules: &[TableRule]) -> bool
+    ensures { result ≡ any_reject (map rule_of rules.now) }
+{
+    for rule in rules {
+        if has_reject(&rule.statements) {
+            return true;
+        }
+    }
+    false
+}
+
+impl Tables {
+    /// The table of these parts. The flags say of each state whether some text of at least one byte leads from it to a
+    /// state that accepts a rule.
+    pub fn new(parts: TableParts, goes_on: Vec<bool>) -> Tables
+        requires table { IsTable (table_of parts) }
+        requires flags { GoesOn (table_of parts) goes_on.items }
+        ensures parts { result.parts ≡ parts }
+        ensures flags { result.goes_on.items ≡ goes_on.items }
+    {
+        let rejects = any_reject(&parts.rules);
+        Tables {
+            parts,
+            goes_on,
+            rejects,
+        }
+    }
+
+    /// The parts of which it is made.
+    pub fn parts(&self) -> &TableParts
+        ensures { result.now ≡ self.now.parts }
+    {
+        &self.parts
+    }
+}
