@@ -20,3 +20,5 @@ pub mod Alike
 pub mod Signs
 pub mod Laid
 pub mod Owners
+pub use Rattle.lexauto_minimise.specs.Least
+pub use Rattle.lexauto_reports.specs.BackWords

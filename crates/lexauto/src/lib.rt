@@ -22,6 +22,8 @@ pub use laws::{
     first_positions, keys_of_words, live_positions, next_positions, one_count, one_step,
     one_step_of_rules, position_automaton, rules_that_fit, tables_of_keys, words_that_fit,
 };
-pub use lexauto_dfa::Dfa;
+pub use lexauto_dfa::{Dfa, OutOfMemory};
+pub use lexauto_minimise::{minimise, one_automaton};
+pub use lexauto_reports::{BackUp, backing_up, useless_rules};
 pub use starts::count_positions;
 pub use subsets::{Limits, build};

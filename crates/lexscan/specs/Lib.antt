@@ -13,3 +13,4 @@ pub mod Picks
 pub mod Bursts
 pub mod Memos
 pub mod Backs
+pub use Rattle.lex_io.specs.Source

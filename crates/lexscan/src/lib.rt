@@ -22,6 +22,7 @@ mod whole;
 mod window;
 
 pub use error::RunError;
+pub use lex_io::{ByteReader, FromBytes, FromRead, MemorySource, ReadFault, Source};
 pub use scanner::Scanner;
 pub use turn::Turn;
 pub use whole::run;

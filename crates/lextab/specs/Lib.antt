@@ -1,0 +1,12 @@
+pub use Rattle.lex_io.specs.Sink
+pub use Rattle.lextab_machine.specs.Glances
+pub use Rattle.lextab_packed.specs.Table
+pub use Rattle.lextab_packed.specs.Checks
+pub use Rattle.lextab_packed.specs.Steps
+pub use Rattle.lextab_packed.specs.Invariant
+pub use Rattle.lextab_packed.specs.Views
+pub use Rattle.lextab_packed.specs.Machines
+pub use Rattle.lextab_packing.specs.Packing
+pub use Rattle.lextab_packing.specs.Tables
+pub use Rattle.lextab_file.specs.File
+pub use Rattle.lextab_file.specs.Refusals
