@@ -22,3 +22,5 @@ pub mod Laid
 pub mod Owners
 pub use Rattle.lexauto_minimise.specs.Least
 pub use Rattle.lexauto_reports.specs.BackWords
+pub use Rattle.lex_semantics.specs.MachineLaws
+pub use Rattle.lex_semantics.specs.TableFor

@@ -14,10 +14,10 @@ use Rattle.lex_semantics.specs.Plain.{default_match}
 use Rattle.lex_semantics.specs.Trail.{falling}
 use Rattle.lex_semantics.proofs.Texts.{is_text_take, is_text_drop}
 use Rattle.lex_semantics.proofs.Actions.{BeginsBelow, begins_below}
-use Rattle.lextab_machine.specs.declared.glance.Way.{Way}
-use Rattle.lextab_machine.specs.declared.glance.Gist.{Gist}
-use Rattle.lextab_machine.specs.declared.glance.Gist.TheVariants.{Any, NoRule, Silent, Echo, Print, Begin}
-use Rattle.lextab_machine.specs.Glances.{Leads, FirstDoes, Gists}
+use Rattle.lex_machine.specs.declared.glance.Way.{Way}
+use Rattle.lex_machine.specs.declared.glance.Gist.{Gist}
+use Rattle.lex_machine.specs.declared.glance.Gist.TheVariants.{Any, NoRule, Silent, Echo, Print, Begin}
+use Rattle.lex_machine.specs.Glances.{Leads, FirstDoes, Gists}
 use Rattle.lexscan.specs.declared.state.State.{State}
 use Rattle.lexscan.specs.declared.state.Reading.{Reading}
 use Rattle.lexscan.specs.declared.state.Spot.{Spot}

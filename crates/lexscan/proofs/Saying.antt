@@ -8,8 +8,8 @@ use Rattle.lex_semantics.specs.Acting as Scan
 use Rattle.lex_semantics.specs.Acting.{ActionResult, Over, StackFault, act, has_room, popped}
 use Rattle.lexscan.specs.declared.act.Acting.{Acting}
 use Rattle.lexscan.specs.declared.act.Step.{Step}
-use Rattle.lextab_machine.specs.declared.action.Statement.{Statement as Item}
-use Rattle.lextab_machine.specs.Views.{statement_of}
+use Rattle.lex_machine.specs.declared.action.Statement.{Statement as Item}
+use Rattle.lex_machine.specs.Views.{statement_of}
 use Rattle.lexscan.specs.Acts.{acting_of, said, after_step, Steps, written_of, Carried, CutShort, CarriedTo}
 
 abbrev pub IsPrefixOf : List ℕ → List ℕ → Type 0

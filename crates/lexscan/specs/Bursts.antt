@@ -2,15 +2,15 @@
 use Rattle.std.specs.Prelude.{◌≡◌, ℕ, ◌+◌, ◌-◌, ◌≤◌, Bool, true, false, List, [], ◌∷◌, ◌++◌, length, take, drop, None, ◌<◌, ◌⊎◌, Result, Ok, Err}
 use Rattle.lex_semantics.specs.Spec as S
 use Rattle.lex_semantics.specs.Machine.{Machine}
-use Rattle.lextab_machine.specs.declared.glance.Gist.{Gist}
-use Rattle.lextab_machine.specs.declared.glance.Gist.TheVariants.{Any, NoRule, Silent, Echo, Print, Begin}
+use Rattle.lex_machine.specs.declared.glance.Gist.{Gist}
+use Rattle.lex_machine.specs.declared.glance.Gist.TheVariants.{Any, NoRule, Silent, Echo, Print, Begin}
 use Rattle.lexscan.specs.declared.state.State.{State}
 use Rattle.lexscan.specs.declared.error.RunError.{RunError}
 use Rattle.lexscan.specs.declared.error.RunError.TheVariants.{Write}
 use Rattle.lexscan.specs.declared.burst.Burst.{Burst}
 use Rattle.lexscan.specs.declared.burst.Told.{Told}
-use Rattle.lextab_machine.specs.declared.glance.Way.{Way}
-use Rattle.lextab_machine.specs.Glances.{Gists}
+use Rattle.lex_machine.specs.declared.glance.Way.{Way}
+use Rattle.lex_machine.specs.Glances.{Gists}
 use Rattle.lexscan.specs.Stands.{Stands, Fell}
 
 -- what is told of a rule

@@ -2,7 +2,7 @@
 ghost use Rattle.std.specs.Prelude.{◌≡◌, ℕ, ◌+◌, ◌-◌, ◌^◌, ◌<◌, ◌≤◌, List, [], length, take, map, true, false, OnOk, OnErr, IfOk, IfErr};
 ghost use Rattle.lex_io.specs.Sink.{Appended, fault_count};
 ghost use Rattle.lexscan.specs.Reads.{write_fault_count};
-ghost use Rattle.lextab_machine.specs.Views.{statement_of};
+ghost use Rattle.lex_machine.specs.Views.{statement_of};
 ghost use Rattle.lexscan.specs.Acts.{said, Steps, Carried, CutShort};
 
 use crate::error::RunError;
@@ -10,7 +10,7 @@ use crate::intake::Outlet;
 use crate::stack::Stack;
 use crate::window::Window;
 use lex_io::Sink;
-use lextab_machine::Statement;
+use lex_machine::Statement;
 
 /// The text's end in the window, the condition of the next match, the stack of conditions, and whether the next text is
 /// appended to this one.

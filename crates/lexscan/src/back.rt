@@ -6,7 +6,7 @@ ghost use Rattle.lexscan.specs.Memos.{AreTrue};
 use crate::memo::Memo;
 use crate::pick::Seen;
 use crate::state::{Reading, Spot};
-use lextab_machine::Machine;
+use lex_machine::Machine;
 
 /// A match of which no state accepts after its first `keep` bytes, the state after these and the one before it, and over how
 /// many bytes a walk showed it.

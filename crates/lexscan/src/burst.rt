@@ -1,7 +1,7 @@
 //! Several turns in one go, over bytes that the source has ready.
 ghost use Rattle.std.specs.Prelude.{◌≡◌, ℕ, ◌+◌, ◌-◌, ◌^◌, ◌<◌, ◌≤◌, Bool, List, [], length, take, drop, true, false, OnOk, OnErr, IfOk, IfErr, IfSome};
 ghost use Rattle.lex_io.specs.Sink.{Appended};
-ghost use Rattle.lextab_machine.specs.Glances.{Leads, Gists};
+ghost use Rattle.lex_machine.specs.Glances.{Leads, Gists};
 ghost use Rattle.lex_semantics.specs.MachineLaws.{NoReject};
 ghost use Rattle.lexscan.specs.Reads.{write_fault_count};
 ghost use Rattle.lexscan.specs.Bursts.{is_told, condition_after, written_by, Tells, BurstsBy, fault_of};
@@ -11,7 +11,7 @@ use crate::error::RunError;
 use crate::intake::Outlet;
 use crate::state::Spot;
 use lex_io::Sink;
-use lextab_machine::{Gist, Machine, Way};
+use lex_machine::{Gist, Machine, Way};
 
 /// Where some turns over a text led: how many bytes they are done with, how many they asked for, the start of a line and the
 /// condition there, and whether the sink failed in the next turn.

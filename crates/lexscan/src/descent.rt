@@ -2,7 +2,7 @@
 ghost use Rattle.std.specs.Prelude.{◌≡◌, ℕ, ◌+◌, ◌-◌, ◌^◌, ◌<◌, ◌≤◌, List, [], length, filter_map, true, false, OnOk, OnErr, IfOk, IfErr, IfSome};
 ghost use Rattle.lex_semantics.specs.Text.{Among};
 ghost use Rattle.lex_semantics.specs.PlainMachine.{kept_by, match_of};
-ghost use Rattle.lextab_machine.specs.Views.{cut_of};
+ghost use Rattle.lex_machine.specs.Views.{cut_of};
 ghost use Rattle.lexscan.specs.Reads.{write_fault_count};
 ghost use Rattle.lexscan.specs.Descends.{matches_of, conditions_of, finished_of, Tried, CutOff, CutAll, Performed};
 
@@ -12,7 +12,7 @@ use crate::intake::Outlet;
 use crate::trail::Trail;
 use crate::window::Window;
 use lex_io::Sink;
-use lextab_machine::{Cut, Machine};
+use lex_machine::{Cut, Machine};
 
 /// What a cut keeps of a match of this many bytes, if it fits.
 pub fn kept(cut: Cut, len: usize) -> Option<usize>

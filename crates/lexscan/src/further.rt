@@ -13,7 +13,7 @@ use crate::error::RunError;
 use crate::intake::{Intake, Outlet};
 use crate::state::{Spot, State};
 use lex_io::{Sink, Source};
-use lextab_machine::Machine;
+use lex_machine::Machine;
 
 /// Goes to the place after some turns over the bytes held and those shown after them.
 #[inline(always)]

@@ -15,7 +15,7 @@ use crate::intake::Outlet;
 use crate::state::Spot;
 use crate::window::Window;
 use lex_io::Sink;
-use lextab_machine::{Machine, Statement};
+use lex_machine::{Machine, Statement};
 
 /// How many bytes a match asked for, the state after them, and the one before the last of them.
 #[derive(Clone, Copy)]

@@ -11,7 +11,7 @@ use crate::state::Reading;
 use crate::trail::Trail;
 use crate::window::{Stop, Walk};
 use lex_io::Source;
-use lextab_machine::Machine;
+use lex_machine::Machine;
 
 /// Takes the next byte into the window, or learns that there is none.
 #[inline]

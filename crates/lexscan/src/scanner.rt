@@ -13,7 +13,7 @@ use crate::state::State;
 use crate::trail::Trail;
 use crate::turn::{Turn, turn_of};
 use lex_io::{Sink, Source};
-use lextab_machine::Machine;
+use lex_machine::Machine;
 use std::alloc::Global;
 
 /// A scan of a source by a machine, to a sink.

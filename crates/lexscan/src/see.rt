@@ -13,7 +13,7 @@ use crate::state::{Reading, Spot};
 use crate::trail::Trail;
 use crate::window::{Stop, Walk};
 use lex_io::Source;
-use lextab_machine::Machine;
+use lex_machine::Machine;
 
 /// Takes the bytes that a match asks for, and keeps the states after them. Answers false where there is none.
 pub fn see<M: Machine, S: Source>(

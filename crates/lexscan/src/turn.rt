@@ -25,7 +25,7 @@ use crate::see::{see, see_last, see_more};
 use crate::state::State;
 use crate::trail::Trail;
 use lex_io::{Sink, Source};
-use lextab_machine::Machine;
+use lex_machine::Machine;
 
 /// How many bytes a match goes over again at most, before what was known of walks over them is kept.
 const BACKLOG: usize = 128;

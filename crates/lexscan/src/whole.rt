@@ -16,7 +16,7 @@ use crate::state::State;
 use crate::trail::Trail;
 use crate::turn::{Turn, back_turn, has_backlog, quiet_turn, told_turn};
 use lex_io::{Sink, Source};
-use lextab_machine::Machine;
+use lex_machine::Machine;
 use std::alloc::Global;
 
 /// How many bytes of the source are shown at once, at most and at least.

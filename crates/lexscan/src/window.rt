@@ -4,7 +4,7 @@ ghost use Rattle.lexscan.specs.Walks.{Filled, end_of_stop, fault_of_stop, goes};
 
 use crate::intake::Intake;
 use lex_io::Source;
-use lextab_machine::Machine;
+use lex_machine::Machine;
 use std::alloc::{AllocError, Global};
 use std::marker::Model;
 

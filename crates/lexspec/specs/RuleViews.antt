@@ -3,7 +3,7 @@ use Rattle.std.specs.Prelude.{map, option_map}
 use Rattle.lex_semantics.specs.Spec as S
 use Rattle.lexre.specs.Views.{tree_of}
 use Rattle.lexspec_actions.specs.Views.{statement_of}
-pub use Rattle.lextab_machine.specs.Views.{cut_of}
+pub use Rattle.lex_machine.specs.Views.{cut_of}
 use Rattle.lexspec.specs.declared.rule.Rule.{Rule}
 
 abbrev pub rule_of : Rule → S.Rule

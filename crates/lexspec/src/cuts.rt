@@ -6,9 +6,9 @@ ghost use Rattle.lex_semantics.specs.Sound.{HasFixed, IsCutOf};
 ghost use Rattle.lexspec.specs.RuleViews.{cut_of};
 ghost use Rattle.lex_semantics.specs.Spec.{Cut as Meant};
 
+use lex_machine::Cut;
 use lex_semantics::MAX_FIXED_LENGTH;
 use lexre::{Pattern, lengths};
-use lextab_machine::Cut;
 
 /// The length of each word of the pattern, where they have one length that is not too great.
 fn fixed_length(pattern: &Pattern) -> Option<u16>

@@ -20,10 +20,10 @@ mod subject;
 pub use laws::{
     examples_of_rules, one_specification, sound_specifications, tested_specifications, tested_trees,
 };
+pub use lex_machine::Cut;
 pub use lexre::{PatternError, PatternErrorKind, ReadOptions};
 pub use lexspec_actions::{Condition, EndAction, Statement};
 pub use lexspec_lines::{SpecError, SpecErrorKind};
-pub use lextab_machine::Cut;
 pub use reading::read_spec;
 pub use rule::Rule;
 pub use spec::Spec;

@@ -8,8 +8,8 @@ ghost use Rattle.lexspec.specs.Tests.{is_sound};
 
 use crate::rule::Rule;
 use crate::spec::Spec;
+use lex_machine::has_reject;
 use lexspec_actions::Condition;
-use lextab_machine::has_reject;
 
 impl Spec {
     /// A specification of these conditions and rules. `skipped` has the lines of skipped code.

@@ -1,7 +1,7 @@
 //! Rules.
 
+use lex_machine::{Cut, Statement};
 use lexre::Pattern;
-use lextab_machine::{Cut, Statement};
 
 /// A rule of a specification. (POSIX, lex, Rules in lex.)
 #[derive(Drop)]

@@ -23,9 +23,9 @@ use crate::condition_list::condition_numbers;
 use crate::cuts::cut_by;
 use crate::rule::Rule;
 use crate::subject::{Subject, Trailing, conditions_at, subject_at};
+use lex_machine::Cut;
 use lexre::{ByteSet, Names, Pattern, PatternError, read_with_names};
 use lexspec_lines::{Declarations, SpecErrorKind, skip_blanks};
-use lextab_machine::Cut;
 use std::alloc::Global;
 
 /// A rule without its statements, or the conditions of an `<<EOF>>` rule.

@@ -5,7 +5,7 @@ ghost use Rattle.lexspec.specs.RuleReads.{acting};
 ghost use Rattle.lexspec.specs.RuleViews.{rule_of};
 
 use crate::rule::Rule;
-use lextab_machine::{Statement, copy_statements};
+use lex_machine::{Statement, copy_statements};
 use std::alloc::{AllocError, Global};
 
 /// The rule with these statements.

@@ -2,8 +2,8 @@
 use Rattle.std.proofs.Common.{◌≡◌, ℕ, List, [], ◌∷◌, ◌++◌, length, map, refl, sym, ap, ◌∙◌, Vec, Global}
 use Rattle.std.proofs.lemmas.List.{map_push}
 use Rattle.lexspec_actions.specs.Views.{statement_of}
-use Rattle.lextab_machine.specs.declared.action.Statement as Declared
-use Rattle.lextab_machine.specs.declared.action.Statement.TheVariants as R
+use Rattle.lex_machine.specs.declared.action.Statement as Declared
+use Rattle.lex_machine.specs.declared.action.Statement.TheVariants as R
 use Rattle.lex_semantics.specs.Spec.{Statement, Echo, Print, Begin, More, Less, Reject, End, Push, Pop}
 use Rattle.lexspec_actions.specs.Statements.{then_print}
 

@@ -1,7 +1,7 @@
 -- Actions in normal form: no literal is empty, and no two are neighbours. (This project's.)
 use Rattle.std.specs.Prelude.{ℕ, List, [], ◌∷◌, ◌++◌, length}
 use Rattle.lex_semantics.specs.Spec.{Statement, Print}
-pub use Rattle.lextab_machine.specs.Literals.{literal_bytes}
+pub use Rattle.lex_machine.specs.Literals.{literal_bytes}
 
 -- a literal after the statements: dropped where it is empty, and joined with one that stands last
 abbrev pub then_print : List Statement → List ℕ → List Statement

@@ -7,7 +7,7 @@ use Rattle.lexspec_actions.specs.declared.format.Format.{Format}
 use Rattle.lexspec_actions.specs.Formats.{State, state}
 use Rattle.lex_semantics.specs.Spec as S
 use Rattle.lexspec_actions.specs.Actions as A
-pub use Rattle.lextab_machine.specs.Views.{statement_of, end_action_of}
+pub use Rattle.lex_machine.specs.Views.{statement_of, end_action_of}
 use Rattle.lexspec_actions.specs.declared.statement.Said.{Said}
 
 abbrev pub said_of : Said → A.Said

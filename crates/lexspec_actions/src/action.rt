@@ -13,8 +13,8 @@ use crate::calls::statement_at;
 use crate::condition::Condition;
 use crate::legal::{are_few, check};
 use crate::statement::{Piece, say};
+use lex_machine::{EndAction, Statement};
 use lexre_bytes::SpecErrorKind;
-use lextab_machine::{EndAction, Statement};
 use std::alloc::Global;
 
 /// What an action is made of, at the front of a text that has neither blanks nor comments there.

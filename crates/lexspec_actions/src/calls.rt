@@ -12,9 +12,9 @@ use crate::bytes::{digits_at, literal_at, name_at, next, skip};
 use crate::condition::{Condition, number_of};
 use crate::format::parts_of;
 use crate::statement::{Called, Parts, Said};
+use lex_machine::Statement;
 use lex_semantics::{MAX_KEPT, MAX_STATUS};
 use lexre_bytes::{SpecErrorKind, capped_value};
-use lextab_machine::Statement;
 use std::alloc::Global;
 
 #[tactic(auto, unfolding(crate::specs::Actions::this_word))]

@@ -3,7 +3,7 @@ ghost use Rattle.std.specs.Prelude.{◌≡◌, ◌≤◌, ◌<◌, length, IfSom
 ghost use Rattle.lexspec_actions.specs.Names.{number_from, names_of};
 ghost use Rattle.lex_semantics.specs.Limits.{max_conditions};
 
-use lextab_machine::EndAction;
+use lex_machine::EndAction;
 
 /// A start condition: its name, whether it is exclusive, and its end action.
 /// (POSIX, lex, Definitions in lex.)

@@ -8,9 +8,9 @@ ghost use Rattle.lexspec_actions.specs.ActionFaults.{IsTogetherFault};
 ghost use Rattle.lexspec_actions.specs.Views.{statement_of};
 ghost use Rattle.lex_semantics.specs.Limits.{max_literal_bytes};
 
+use lex_machine::{Statement, has_reject};
 use lex_semantics::{MAX_LITERAL_BYTES, MAX_STATEMENTS};
 use lexre_bytes::SpecErrorKind;
-use lextab_machine::{Statement, has_reject};
 
 fn has_more(statements: &[Statement]) -> bool
     ensures { result ≡ has_more (map statement_of statements.now) }

@@ -13,4 +13,4 @@ mod statement;
 pub use action::{read_action, read_end_action};
 pub use condition::{Condition, number_of};
 pub use laws::{end_statuses, legal_actions, one_action, one_end_action};
-pub use lextab_machine::{EndAction, Statement};
+pub use lex_machine::{EndAction, Statement};

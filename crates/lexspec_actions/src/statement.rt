@@ -6,8 +6,8 @@ ghost use Rattle.lexspec_actions.specs.Views.{statement_of, said_of};
 ghost use Rattle.lexspec_actions.specs.Outcome.{UnlessMemory};
 ghost use Rattle.lexspec_actions.specs.ActionFaults.{IsActionFault};
 
+use lex_machine::Statement;
 use lexre_bytes::SpecErrorKind;
-use lextab_machine::Statement;
 
 /// What a statement of the text says.
 #[derive(Drop)]

@@ -1,5 +1,5 @@
 pub use Rattle.lex_io.specs.Sink
-pub use Rattle.lextab_machine.specs.Glances
+pub use Rattle.lex_machine.specs.Glances
 pub use Rattle.lextab_packed.specs.Table
 pub use Rattle.lextab_packed.specs.Checks
 pub use Rattle.lextab_packed.specs.Steps

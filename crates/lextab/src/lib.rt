@@ -2,7 +2,7 @@
 #![tactic(auto)]
 
 pub use lex_io::{ByteWriter, MemorySink, Sink, ToWrite, WriteFault};
+pub use lex_machine::{Cut, EndAction, Gist, Machine, Statement, Way};
 pub use lextab_file::{TableError, one_table, read_tables, write_tables};
-pub use lextab_machine::{Cut, EndAction, Gist, Machine, Statement, Way};
 pub use lextab_packed::{Flat, Tables};
 pub use lextab_packing::{Plain, pack};

@@ -6,7 +6,7 @@ use Rattle.std.proofs.lemmas.List.{nil_from_length}
 use Rattle.std.proofs.lemmas.List.Sums.{sum_by-cons}
 use Rattle.lex_semantics.specs.Spec.{Statement, Echo, Print, Begin, More, Less, Reject, End, Push, Pop, has_reject}
 use Rattle.lex_semantics.specs.Legal.{all_in_range, ends_action, ends_last, is_literal, are_joined, has_less, has_more, count_less, IsLegal}
-use Rattle.lextab_machine.specs.Literals.{literal_bytes}
+use Rattle.lex_machine.specs.Literals.{literal_bytes}
 use Rattle.lextab_packed.specs.Checks.{Each, HasText}
 use Rattle.lextab_file.specs.File.{has_stack}
 use Rattle.lextab_file.specs.Seen.{EachFrom, Seen, unseen, seen_after, MayStand}

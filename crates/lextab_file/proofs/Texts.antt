@@ -7,9 +7,9 @@ use Rattle.std.proofs.lemmas.List.{length-map}
 use Rattle.std.proofs.lemmas.List.Concat.{flat_map-cons}
 use Rattle.std.proofs.lemmas.List.Elements.{All-from_recursion}
 use Rattle.std.proofs.lemmas.List.Sums.{sum_by-cons}
-use Rattle.lextab_machine.specs.Literals.{literal_bytes}
-use Rattle.lextab_machine.specs.Views.{cut_of, statement_of}
-use Rattle.lextab_machine.specs.declared.action.Statement.{Statement}
+use Rattle.lex_machine.specs.Literals.{literal_bytes}
+use Rattle.lex_machine.specs.Views.{cut_of, statement_of}
+use Rattle.lex_machine.specs.declared.action.Statement.{Statement}
 use Rattle.lextab_packed.specs.Checks.{Each, Sizes, sizes_of, IsCondition, IsRule, IsRow, IsTable, any_reject}
 use Rattle.lextab_packed.specs.Views.{condition_of, rule_of, row_of, slots_of, table_of}
 use Rattle.lextab_packed.specs.declared.parts.TableCondition.{TableCondition}

@@ -1,8 +1,8 @@
 -- Parts whose lengths four bytes hold. (A device of the writer.)
 use Rattle.std.specs.Prelude.{◌≤◌, length, All}
-use Rattle.lextab_machine.specs.Views.{statement_of}
-use Rattle.lextab_machine.specs.Literals.{literal_bytes}
-use Rattle.lextab_machine.specs.declared.action.Statement.{Statement}
+use Rattle.lex_machine.specs.Views.{statement_of}
+use Rattle.lex_machine.specs.Literals.{literal_bytes}
+use Rattle.lex_machine.specs.declared.action.Statement.{Statement}
 use Rattle.lextab_packed.specs.Views.{slots_of}
 use Rattle.lextab_packed.specs.declared.parts.TableCondition.{TableCondition}
 use Rattle.lextab_packed.specs.declared.parts.TableRule.{TableRule}

@@ -1,10 +1,10 @@
 //! Which version of the table file rules need.
 ghost use Rattle.std.specs.Prelude.{◌≡◌, map};
-ghost use Rattle.lextab_machine.specs.Views.{statement_of};
+ghost use Rattle.lex_machine.specs.Views.{statement_of};
 ghost use Rattle.lextab_packed.specs.Views.{rule_of};
 ghost use Rattle.lextab_file.specs.File.{has_stack, version_of, any_stack};
 
-use lextab_machine::Statement;
+use lex_machine::Statement;
 use lextab_packed::TableRule;
 
 /// Whether one of the statements is of the stack of conditions.

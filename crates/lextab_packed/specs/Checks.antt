@@ -4,7 +4,7 @@ use Rattle.lex_semantics.specs.Limits.{max_conditions, max_rules, max_states, ma
 use Rattle.lex_semantics.specs.Text.{IsText, Ascending, Among}
 use Rattle.lex_semantics.specs.Spec.{Statement, Print, Cut, Whole, Head, Trail, has_reject}
 use Rattle.lex_semantics.specs.Legal.{IsLegal}
-pub use Rattle.lextab_machine.specs.Literals.{Each, HasText, literal_bytes}
+pub use Rattle.lex_machine.specs.Literals.{Each, HasText, literal_bytes}
 use Rattle.lextab_packed.specs.Table.{Condition, Rule, Row, Slot, Table}
 
 -- how many there are of each kind

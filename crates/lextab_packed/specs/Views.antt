@@ -2,7 +2,7 @@
 use Rattle.std.specs.Prelude.{ℕ, Bool, List, [], ◌∷◌, map}
 use Rattle.lex_semantics.specs.Text.{flag}
 use Rattle.lex_semantics.specs.Machine.{Machine}
-use Rattle.lextab_machine.specs.Views.{statement_of, end_action_of, cut_of}
+use Rattle.lex_machine.specs.Views.{statement_of, end_action_of, cut_of}
 use Rattle.lextab_packed.specs.Table as T
 use Rattle.lextab_packed.specs.Steps.{machine_of_table}
 use Rattle.lextab_packed.specs.declared.parts.TableCondition.{TableCondition}

@@ -1,6 +1,6 @@
 //! Packed tables with a row of 256 targets for each state, so that a step is one look-up.
 ghost use Rattle.std.specs.Prelude.{◌≡◌, ℕ, ◌+◌, ◌*◌, ◌<◌, ◌≤◌, true, false, length, slice_index, IfOk};
-ghost use Rattle.lextab_machine.specs.Glances.{Leads, Gists};
+ghost use Rattle.lex_machine.specs.Glances.{Leads, Gists};
 ghost use Rattle.lex_semantics.specs.Limits.{max_states};
 ghost use Rattle.lex_semantics.specs.Text.{flag};
 ghost use Rattle.lextab_packed.specs.Flats.{marked};
@@ -10,7 +10,7 @@ ghost use Rattle.lextab_packed.specs.Machines.{machine_of, states_of};
 
 use crate::steps::{STOP, marked_rows};
 use crate::tables::Tables;
-use lextab_machine::{Cut, EndAction, Gist, Machine, Statement, Way};
+use lex_machine::{Cut, EndAction, Gist, Machine, Statement, Way};
 use std::alloc::{AllocError, Global};
 
 /// Packed tables, and 1 KB of marked targets for each state. It is the same machine. No reader takes memory.

@@ -3,7 +3,7 @@ ghost use Rattle.lextab_packed.specs.Machines.{machine_of, states_of};
 
 use crate::steps::target;
 use crate::tables::Tables;
-use lextab_machine::{Cut, EndAction, Machine, Statement};
+use lex_machine::{Cut, EndAction, Machine, Statement};
 
 impl Machine for Tables {
     ghost machine = { λ t. machine_of t };

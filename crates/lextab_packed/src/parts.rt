@@ -1,5 +1,5 @@
 //! The parts of which a table is made.
-use lextab_machine::{Cut, EndAction, Statement};
+use lex_machine::{Cut, EndAction, Statement};
 
 /// Where matches start in a condition, and what is done at the end of the input.
 #[derive(Drop)]

@@ -6,7 +6,7 @@ ghost use Rattle.lextab_packed.specs.Invariant.{GoesOn, GoesOn-prop, IsTable-pro
 ghost use Rattle.lextab_packed.specs.Views.{rule_of, table_of, machine_in};
 
 use crate::parts::{TableParts, TableRule};
-use lextab_machine::has_reject;
+use lex_machine::has_reject;
 
 /// A packed table, which keeps to all that a table file is checked for. No reader takes memory.
 #[derive(Drop)]

@@ -6,7 +6,7 @@ use Rattle.lex_semantics.specs.Text.{IsText}
 use Rattle.lex_semantics.specs.Tree.{Tree}
 use Rattle.lex_semantics.specs.Spec as S
 use Rattle.lex_semantics.specs.Legal.{IsLegal, all_in_range, ends_last, are_joined, are_compatible}
-use Rattle.lextab_machine.specs.Literals.{literal_bytes}
+use Rattle.lex_machine.specs.Literals.{literal_bytes}
 use Rattle.lexspec_actions.specs.Actions.{are_few}
 use Rattle.lexspec.specs.Tests.{sound_tree, sound_trail, cut_fits, has_length, has_fixed, is_fixed, sound_list, legal_action, sound_rule, sound_rules, sound_end, sound_conditions}
 use Rattle.lexauto_dfa.specs.Machines as D

@@ -7,9 +7,9 @@ ghost use Rattle.lextab_packed.specs.Checks.{Each, HasText};
 ghost use Rattle.lextab_packed.specs.Views.{condition_of, rule_of, row_of};
 ghost use Rattle.lextab_packing.specs.Assembled.{start_in, conditions_with, action_in, rows_with};
 
+use lex_machine::{copy_end, copy_statements};
 use lexspec::Rule;
 use lexspec_actions::Condition;
-use lextab_machine::{copy_end, copy_statements};
 use lextab_packed::{Row, TableCondition, TableRule};
 use std::alloc::{AllocError, Global};
 

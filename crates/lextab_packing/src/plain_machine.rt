@@ -7,9 +7,9 @@ ghost use Rattle.lextab_packing.specs.Plain.{plain_machine};
 ghost use Rattle.lextab_packing.specs.Below.{below};
 
 use crate::plain::Plain;
+use lex_machine::{Cut, EndAction, Machine, Statement};
 use lexauto_dfa::Dfa;
 use lexspec::Spec;
-use lextab_machine::{Cut, EndAction, Machine, Statement};
 
 impl<'a> Plain<'a> {
     /// The machine of an automaton for this specification.

@@ -5,7 +5,7 @@ ghost use Rattle.lextab_packed.specs.Invariant.{GoesOn};
 ghost use Rattle.lextab_packed.specs.Views.{condition_of, row_of, table_of};
 ghost use Rattle.lextab_packed.specs.Machines.{machine_of, states_of};
 
-use lextab_machine::{Cut, EndAction, Machine, Statement};
+use lex_machine::{Cut, EndAction, Machine, Statement};
 use lextab_packed::{Flat, Row, TableCondition, TableParts, TableRule, Tables, flat_rows};
 use std::alloc::{AllocError, Global};
 use std::process::Abort;

@@ -1,6 +1,6 @@
 //! The machine of a small specification, call by call.
 use crate::building::{built, read};
-use lextab_machine::{Cut, Machine, Statement};
+use lex_machine::{Cut, Machine, Statement};
 use lextab_packing::Plain;
 use std::test::Fail;
 

@@ -1,7 +1,7 @@
 //! Automata, by lexauto.
 ghost use Rattle.std.specs.Prelude.{◌≡◌, length, IfOk};
-ghost use Rattle.lex_semantics.specs.MachineLaws.{MachineLaws};
-ghost use Rattle.lex_semantics.specs.TableFor.{TableFor};
+ghost use Rattle.lexauto.specs.MachineLaws.{MachineLaws};
+ghost use Rattle.lexauto.specs.TableFor.{TableFor};
 ghost use Rattle.lexauto.specs.Automata.{machine_of, conditions_of};
 ghost use Rattle.lexspec.specs.Views.{spec_of, conditions_in};
 

@@ -1,7 +1,7 @@
 //! Reads the rules: their cuts and their actions.
 ghost use Rattle.std.specs.Prelude.{◌≡◌, ◌≤◌, ◌-◌, ◌+◌, IfOk, map, length};
-ghost use Rattle.lextab_machine.specs.Literals.{literal_bytes};
-ghost use Rattle.lextab_machine.specs.Views.{statement_of, cut_of};
+ghost use Rattle.lex_machine.specs.Literals.{literal_bytes};
+ghost use Rattle.lex_machine.specs.Views.{statement_of, cut_of};
 ghost use Rattle.lextab_packed.specs.Checks.{any_reject};
 ghost use Rattle.lextab_packed.specs.Views.{rule_of};
 ghost use Rattle.lextab_file.specs.Seen.{following, unseen, seen_after};
@@ -11,8 +11,8 @@ ghost use Rattle.lex_semantics.specs.Limits.{max_literal_bytes};
 
 use super::fields::{byte, byte_below, long, long_below, long_within, positive, text};
 use crate::error::ReadError;
+use lex_machine::{Cut, Statement, has_reject};
 use lex_semantics::{MAX_FIXED_LENGTH, MAX_LITERAL_BYTES, MAX_STATEMENTS, MAX_STATUS};
-use lextab_machine::{Cut, Statement, has_reject};
 use lextab_packed::TableRule;
 use std::alloc::Global;
 

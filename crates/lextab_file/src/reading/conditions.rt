@@ -1,6 +1,6 @@
 //! Reads the conditions.
 ghost use Rattle.std.specs.Prelude.{◌≡◌, map};
-ghost use Rattle.lextab_machine.specs.Views.{end_action_of};
+ghost use Rattle.lex_machine.specs.Views.{end_action_of};
 ghost use Rattle.lextab_packed.specs.Views.{condition_of};
 ghost use Rattle.lextab_file.specs.Seen.{following};
 ghost use Rattle.lextab_file.specs.Reading.{many, end_at, condition_at};
@@ -8,8 +8,8 @@ ghost use Rattle.lextab_file.specs.Views.{Gives};
 
 use super::fields::{byte_below, long_below, long_within, text};
 use crate::error::ReadError;
+use lex_machine::EndAction;
 use lex_semantics::{MAX_LITERAL_BYTES, MAX_STATUS};
-use lextab_machine::EndAction;
 use lextab_packed::TableCondition;
 use std::alloc::Global;
 

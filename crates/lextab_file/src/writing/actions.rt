@@ -2,14 +2,14 @@
 ghost use Rattle.std.specs.Prelude.{◌≡◌, ◌+◌, ◌-◌, ◌^◌, ◌<◌, ◌≤◌, ◌∷◌, length, All};
 ghost use Rattle.std.specs.List.{flat_map};
 ghost use Rattle.lex_io.specs.Sink.{Appended, fault_count};
-ghost use Rattle.lextab_machine.specs.Views.{cut_of, statement_of};
+ghost use Rattle.lex_machine.specs.Views.{cut_of, statement_of};
 ghost use Rattle.lextab_packed.specs.Views.{rule_of};
 ghost use Rattle.lextab_file.specs.File.{long, cut_text, statement_text, rule_text};
 ghost use Rattle.lextab_file.specs.Fitting.{FitsStatement, FitsRule};
 
 use super::fields::{put_long, put_short, put_string};
 use lex_io::{Sink, WriteFault};
-use lextab_machine::{Cut, Statement};
+use lex_machine::{Cut, Statement};
 use lextab_packed::TableRule;
 
 /// The tag of a cut and its number.

@@ -2,7 +2,7 @@
 ghost use Rattle.std.specs.Prelude.{◌≡◌, ◌+◌, ◌-◌, ◌^◌, ◌<◌, ◌≤◌, length, All};
 ghost use Rattle.std.specs.List.{flat_map};
 ghost use Rattle.lex_io.specs.Sink.{Appended, fault_count};
-ghost use Rattle.lextab_machine.specs.Views.{end_action_of};
+ghost use Rattle.lex_machine.specs.Views.{end_action_of};
 ghost use Rattle.lextab_packed.specs.Views.{condition_of};
 ghost use Rattle.lextab_file.specs.File.{end_text, condition_text};
 ghost use Rattle.lextab_file.specs.Fitting.{FitsCondition};
@@ -10,7 +10,7 @@ ghost use Rattle.lex_semantics.specs.Limits.{max_literal_bytes};
 
 use super::fields::{put_long, put_string};
 use lex_io::{Sink, WriteFault};
-use lextab_machine::EndAction;
+use lex_machine::EndAction;
 use lextab_packed::TableCondition;
 
 fn put_end<K: Sink>(sink: &mut K, end: &EndAction) -> Result<(), WriteFault>

@@ -1,7 +1,7 @@
 use Rattle.std.proofs.Common.{◌+◌, drop, rules, ◌∙◌, ap, arith}
 use Rattle.std.proofs.lemmas.List.{drop_all}
 use Rattle.std.specs.Prelude.{map}
-use Rattle.lextab_machine.specs.Views.{statement_of}
+use Rattle.lex_machine.specs.Views.{statement_of}
 use Rattle.lexscan.proofs.Saying as Say
 use Rattle.lexscan.specs.declared.act.Step.{Step}
 use Rattle.lexscan.proofs.act.carry_out.Goals as goal

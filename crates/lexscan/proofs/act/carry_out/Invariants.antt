@@ -1,6 +1,6 @@
 use Rattle.std.proofs.Common.{◌≡◌, ◌≤◌, length, drop, true}
 use Rattle.std.specs.Prelude.{map}
-use Rattle.lextab_machine.specs.Views.{statement_of}
+use Rattle.lex_machine.specs.Views.{statement_of}
 use Rattle.lexscan.specs.Acts.{CarriedTo}
 use Rattle.lexscan.proofs.act.carry_out.Given as goal
 

@@ -3,10 +3,10 @@ use Rattle.std.specs.Prelude.{nat_eq, max}
 use Rattle.lex_semantics.specs.Text.{IsText}
 use Rattle.lex_semantics.specs.Machine.{Machine}
 use Rattle.lex_semantics.specs.MachineLaws.{MachineLaws}
-use Rattle.lextab_machine.specs.declared.glance.Way.{Way}
+use Rattle.lex_machine.specs.declared.glance.Way.{Way}
 use Rattle.lexscan.specs.declared.burst.Told.{Told}
-use Rattle.lextab_machine.proofs.Growing.{is_text_from}
-use Rattle.lextab_machine.specs.Glances.{Leads}
+use Rattle.lex_machine.proofs.Growing.{is_text_from}
+use Rattle.lex_machine.specs.Glances.{Leads}
 use Rattle.lexscan.specs.Bursts.{Went, Broke, is_told}
 use Rattle.lexscan.proofs.Bursting as Burst
 use Rattle.lexscan.proofs.burst.burst_over.Goals as goal

@@ -2,7 +2,7 @@ use Rattle.std.proofs.Common.{ℕ, sym, ap, ◌∙◌, arith}
 use Rattle.std.specs.Prelude.{map, filter_map}
 use Rattle.lex_semantics.specs.Machine.{Machine}
 use Rattle.lex_semantics.specs.PlainMachine.{kept_by, match_of}
-use Rattle.lextab_machine.specs.Views.{statement_of}
+use Rattle.lex_machine.specs.Views.{statement_of}
 use Rattle.lexscan.specs.declared.act.Step.TheVariants as Step
 use Rattle.lexscan.specs.Descends.{conditions_of}
 use Rattle.lexscan.proofs.Descending as Down

@@ -1,6 +1,6 @@
 use Rattle.std.proofs.Common.{◌≡◌, ℕ, ◌+◌, ◌-◌, List, take, ap, subst, ◌∙◌, arith}
 use Rattle.std.specs.Prelude.{map}
-use Rattle.lextab_machine.specs.Views.{statement_of}
+use Rattle.lex_machine.specs.Views.{statement_of}
 use Rattle.lex_semantics.specs.Text.{BeginsWith}
 use Rattle.lex_semantics.specs.Machine.{Machine}
 use Rattle.lexscan.specs.declared.act.Step.TheVariants as Step

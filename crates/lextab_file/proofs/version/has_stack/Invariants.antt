@@ -1,6 +1,6 @@
 use Rattle.std.proofs.Common.{◌≡◌, map, drop}
 use Rattle.lextab_file.specs.File.{has_stack}
-use Rattle.lextab_machine.specs.Views.{statement_of}
+use Rattle.lex_machine.specs.Views.{statement_of}
 use Rattle.lextab_file.proofs.version.has_stack.Given as goal
 
 abbrev pub invariant-loop-statement : goal.invariant-loop-statement

@@ -4,13 +4,13 @@ use Rattle.std.proofs.lemmas.List.{map_push}
 use Rattle.lex_semantics.specs.Spec.{EndAction}
 use Rattle.lex_semantics.specs.Text.{IsText}
 use Rattle.lexspec_actions.specs.Views.{condition_of as condition_in}
-use Rattle.lextab_machine.specs.Views.{end_action_of}
+use Rattle.lex_machine.specs.Views.{end_action_of}
 use Rattle.lextab_packed.specs.Table as T
 use Rattle.lextab_packed.specs.Checks.{Each}
 use Rattle.lextab_packed.specs.Views.{condition_of}
 use Rattle.lextab_packed.specs.declared.parts.TableCondition.{TableCondition}
 use Rattle.lextab_packing.specs.Assembled.{start_in, conditions_with}
-use Rattle.lextab_machine.proofs.Growing.{each_push}
+use Rattle.lex_machine.proofs.Growing.{each_push}
 use Rattle.lextab_packing.proofs.Pushes.{next_condition}
 use Rattle.lextab_packing.proofs.assembling.table_conditions.Goals as goal
 

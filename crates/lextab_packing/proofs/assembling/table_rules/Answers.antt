@@ -1,14 +1,14 @@
 use Rattle.std.proofs.Common.{◌≡◌, ℕ, ◌+◌, ◌∷◌, [], ◌++◌, ◌∙◌, map, drop, List, rules, sym, subst, ap, append_assoc}
 use Rattle.std.proofs.lemmas.List.{map_push}
 use Rattle.lex_semantics.specs.Spec as S
-use Rattle.lextab_machine.specs.Views.{statement_of, cut_of}
+use Rattle.lex_machine.specs.Views.{statement_of, cut_of}
 use Rattle.lexspec.specs.RuleViews.{rule_of as rule_in}
 use Rattle.lextab_packed.specs.Table as T
 use Rattle.lextab_packed.specs.Checks.{Each, HasText}
 use Rattle.lextab_packed.specs.Views.{rule_of}
 use Rattle.lextab_packed.specs.declared.parts.TableRule.{TableRule}
 use Rattle.lextab_packing.specs.Assembled.{action_in}
-use Rattle.lextab_machine.proofs.Growing.{each_push}
+use Rattle.lex_machine.proofs.Growing.{each_push}
 use Rattle.lextab_packing.proofs.Pushes.{next_rule}
 use Rattle.lextab_packing.proofs.assembling.table_rules.Goals as goal
 

@@ -1,8 +1,8 @@
 use Rattle.std.proofs.Common.{rules, ◌≡◌, true, false, List, [], ◌∷◌, map, refl, ap, sym, subst, ◌∙◌}
 use Rattle.lex_semantics.specs.Spec as S
-use Rattle.lextab_machine.specs.Views.{statement_of}
-use Rattle.lextab_machine.specs.declared.action.Statement.{Statement}
-use Rattle.lextab_machine.specs.declared.cut.Cut.{Cut}
+use Rattle.lex_machine.specs.Views.{statement_of}
+use Rattle.lex_machine.specs.declared.action.Statement.{Statement}
+use Rattle.lex_machine.specs.declared.cut.Cut.{Cut}
 use Rattle.lextab_packed.specs.Table as T
 use Rattle.lextab_packed.specs.Checks.{IsTable}
 use Rattle.lextab_packed.specs.Invariant.{GoesOn}

@@ -1,5 +1,5 @@
 use Rattle.std.proofs.Common.{◌≡◌, ◌++◌, ◌∷◌, [], map, rules}
-use Rattle.lextab_machine.specs.Views.{statement_of}
+use Rattle.lex_machine.specs.Views.{statement_of}
 use Rattle.lextab_file.specs.Views.{seen_of}
 use Rattle.lextab_file.specs.Seen.{seen_after, unseen}
 use Rattle.lextab_file.specs.Reading.{many, statement_at}

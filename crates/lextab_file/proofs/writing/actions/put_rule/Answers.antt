@@ -2,7 +2,7 @@ use Rattle.std.proofs.Common.{ℕ, List, refl, ap, subst, ◌++◌, length, rule
 use Rattle.std.specs.Int.{w32, to_be_bytes}
 use Rattle.std.specs.List.{flat_map}
 use Rattle.std.proofs.lemmas.Result.{err_from_is_err_and}
-use Rattle.lextab_machine.specs.Views.{cut_of, statement_of}
+use Rattle.lex_machine.specs.Views.{cut_of, statement_of}
 use Rattle.lextab_file.specs.File.{cut_text, statement_text}
 use Rattle.lex_io.specs.Sink.{Appended}
 use Rattle.lextab_file.proofs.Written.{Begun, begun_first, begun_then, appended_then}

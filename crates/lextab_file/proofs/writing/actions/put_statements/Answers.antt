@@ -1,6 +1,6 @@
 use Rattle.std.proofs.Common.{arith}
 use Rattle.std.proofs.lemmas.Result.{err_from_is_err_and}
-use Rattle.lextab_machine.specs.Views.{statement_of}
+use Rattle.lex_machine.specs.Views.{statement_of}
 use Rattle.lextab_file.specs.File.{statement_text}
 use Rattle.lextab_file.proofs.Written.{loop_more, loop_fails}
 use Rattle.lextab_file.proofs.writing.actions.put_statements.Goals as goal

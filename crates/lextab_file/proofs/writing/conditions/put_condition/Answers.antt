@@ -1,7 +1,7 @@
 use Rattle.std.proofs.Common.{refl, ◌++◌}
 use Rattle.std.specs.Int.{w32, to_be_bytes}
 use Rattle.std.proofs.lemmas.Result.{err_from_is_err_and}
-use Rattle.lextab_machine.specs.Views.{end_action_of}
+use Rattle.lex_machine.specs.Views.{end_action_of}
 use Rattle.lextab_file.specs.File.{end_text}
 use Rattle.lextab_file.proofs.Written.{begun_first, begun_then, appended_then}
 use Rattle.lextab_file.proofs.writing.conditions.put_condition.Goals as goal

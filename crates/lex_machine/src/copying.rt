@@ -1,8 +1,8 @@
 //! Copies of actions.
 ghost use Rattle.std.specs.Prelude.{◌≡◌, ℕ, map, IfOk};
 ghost use Rattle.lex_semantics.specs.Text.{IsText};
-ghost use Rattle.lextab_machine.specs.Literals.{Each, HasText};
-ghost use Rattle.lextab_machine.specs.Views.{statement_of, end_action_of};
+ghost use Rattle.lex_machine.specs.Literals.{Each, HasText};
+ghost use Rattle.lex_machine.specs.Views.{statement_of, end_action_of};
 
 use crate::action::{EndAction, Statement};
 use std::alloc::{AllocError, Global};

@@ -2,7 +2,7 @@
 use Rattle.std.proofs.Common.{◌≡◌, ℕ, suc, ◌+◌, ◌<◌, List, [], ◌∷◌, ◌++◌, length, subst, arith}
 use Rattle.std.specs.Prelude.{slice_index}
 use Rattle.lex_semantics.specs.Text.{IsText}
-use Rattle.lextab_machine.specs.Literals.{Each}
+use Rattle.lex_machine.specs.Literals.{Each}
 
 pub is_text_from : (xs : List ℕ) → ((k : ℕ) → slice_index xs k < 256) → IsText xs
 is_text_from [] h = tt

@@ -1,7 +1,7 @@
 use Rattle.std.proofs.Common.{◌≡◌, ◌++◌, map, drop}
-use Rattle.lextab_machine.specs.Views.{statement_of}
-use Rattle.lextab_machine.specs.Literals.{Each, HasText}
-use Rattle.lextab_machine.proofs.copying.copy_statements.Given as goal
+use Rattle.lex_machine.specs.Views.{statement_of}
+use Rattle.lex_machine.specs.Literals.{Each, HasText}
+use Rattle.lex_machine.proofs.copying.copy_statements.Given as goal
 
 abbrev pub invariant-loop-statement : goal.invariant-loop-statement
 invariant-loop-statement l =

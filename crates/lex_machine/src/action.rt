@@ -2,8 +2,8 @@
 ghost use Rattle.std.specs.Prelude.{◌≡◌, map};
 ghost use Rattle.lex_semantics.specs.Spec.{is_reject, has_reject};
 ghost use Rattle.lex_semantics.specs.Legal.{is_yyless, is_yymore, ends_action};
-ghost use Rattle.lextab_machine.specs.Literals.{literal_bytes};
-ghost use Rattle.lextab_machine.specs.Views.{statement_of};
+ghost use Rattle.lex_machine.specs.Literals.{literal_bytes};
+ghost use Rattle.lex_machine.specs.Views.{statement_of};
 
 /// A statement of an action in normal form. (POSIX and flex, Actions in lex.)
 #[derive(Drop)]

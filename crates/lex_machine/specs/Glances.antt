@@ -2,9 +2,9 @@
 use Rattle.std.specs.Prelude.{◌≡◌, ℕ, ◌-◌, ◌≤◌, ◌<◌, true, false, List, [], ◌∷◌, length, take, ⊤}
 use Rattle.lex_semantics.specs.Spec as S
 use Rattle.lex_semantics.specs.Machine.{Machine, walk}
-use Rattle.lextab_machine.specs.declared.glance.Way.{Way}
-use Rattle.lextab_machine.specs.declared.glance.Gist.{Gist}
-use Rattle.lextab_machine.specs.declared.glance.Gist.TheVariants.{Any, NoRule, Silent, Echo, Print, Begin}
+use Rattle.lex_machine.specs.declared.glance.Way.{Way}
+use Rattle.lex_machine.specs.declared.glance.Gist.{Gist}
+use Rattle.lex_machine.specs.declared.glance.Gist.TheVariants.{Any, NoRule, Silent, Echo, Print, Begin}
 
 -- The first of these bytes lead from a state to one from which the machine does not go on, and it goes on after each of them
 -- but the last.

@@ -1,9 +1,9 @@
 -- What the words of a machine stand for.
 use Rattle.lex_semantics.specs.Spec as S
-use Rattle.lextab_machine.specs.declared.action.Statement.{Statement}
-use Rattle.lextab_machine.specs.declared.action.Statement.TheVariants.{Echo, Print, Begin, More, Less, Reject, End, Push, Pop}
-use Rattle.lextab_machine.specs.declared.action.EndAction.{EndAction}
-use Rattle.lextab_machine.specs.declared.cut.Cut.{Cut}
+use Rattle.lex_machine.specs.declared.action.Statement.{Statement}
+use Rattle.lex_machine.specs.declared.action.Statement.TheVariants.{Echo, Print, Begin, More, Less, Reject, End, Push, Pop}
+use Rattle.lex_machine.specs.declared.action.EndAction.{EndAction}
+use Rattle.lex_machine.specs.declared.cut.Cut.{Cut}
 
 abbrev pub statement_of : Statement → S.Statement
 statement_of Echo = S.Echo

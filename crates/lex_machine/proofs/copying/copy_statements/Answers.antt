@@ -2,10 +2,10 @@ use Rattle.std.proofs.Common.{◌≡◌, ◌∷◌, [], ◌++◌, ◌∙◌, map
 use Rattle.std.proofs.lemmas.Grind.{common_steps}
 use Rattle.std.proofs.lemmas.List.{map_push}
 use Rattle.lex_semantics.specs.Spec as S
-use Rattle.lextab_machine.specs.Views.{statement_of}
-use Rattle.lextab_machine.specs.Literals.{Each, HasText}
-use Rattle.lextab_machine.proofs.Growing.{each_push}
-use Rattle.lextab_machine.proofs.copying.copy_statements.Goals as goal
+use Rattle.lex_machine.specs.Views.{statement_of}
+use Rattle.lex_machine.specs.Literals.{Each, HasText}
+use Rattle.lex_machine.proofs.Growing.{each_push}
+use Rattle.lex_machine.proofs.copying.copy_statements.Goals as goal
 
 pub loop-statement-preserved : goal.loop-statement-preserved
 loop-statement-preserved c =

@@ -1,8 +1,8 @@
 //! What a scan obeys.
 ghost use Rattle.std.specs.Prelude.{◌≡◌, ℕ, ◌<◌, map, true, false, IfSome};
 ghost use Rattle.lex_semantics.specs.Machine.{Machine as MachineModel};
-ghost use Rattle.lextab_machine.specs.Views.{statement_of, end_action_of, cut_of};
-ghost use Rattle.lextab_machine.specs.Glances.{Leads, Gists};
+ghost use Rattle.lex_machine.specs.Views.{statement_of, end_action_of, cut_of};
+ghost use Rattle.lex_machine.specs.Glances.{Leads, Gists};
 ghost use Rattle.lex_semantics.specs.MachineLaws.{MachineLaws, StaysBelow, NoReject, SomeReject};
 
 use crate::action::{EndAction, Statement};
