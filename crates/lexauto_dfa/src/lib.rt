@@ -4,7 +4,6 @@
 mod dfa;
 mod laws;
 mod memory;
-mod readers;
 
 pub use dfa::{Dfa, Parts};
 pub use laws::automata_are_machines;

@@ -6,7 +6,6 @@ mod condition_list;
 mod cuts;
 mod endings;
 mod laws;
-mod readers;
 mod reading;
 mod rule;
 mod rule_text;

@@ -5,6 +5,7 @@ ghost use Rattle.lexspec.specs.RuleViews.{rule_of};
 ghost use Rattle.lexspec.specs.Tests.{is_sound};
 
 use crate::rule::Rule;
+use lex_machine::has_reject;
 use lexspec_actions::Condition;
 
 /// A specification: conditions, of which the first is INITIAL, and rules in the order of the file.
@@ -16,4 +17,56 @@ pub struct Spec {
     pub(crate) skipped: Vec<u32>,
     // Its trees, cuts, lists and actions are sound, and it keeps to the limits.
     ghost sound: { is_sound (record { conditions = map condition_of conditions.items; rules = map rule_of rules.items }) ≡ true },
+}
+
+impl Spec {
+    ghost use Rattle.lex_semantics.specs.Spec.{rejects};
+    ghost use Rattle.lexspec.specs.Views.{spec_of, skipped_in, conditions_in, rules_in};
+
+    /// A specification of these conditions and rules. `skipped` has the lines of skipped code.
+    pub(crate) fn new(conditions: Vec<Condition>, rules: Vec<Rule>, skipped: Vec<u32>) -> Spec
+        requires { is_sound (record { conditions = map condition_of conditions.items; rules = map rule_of rules.items }) ≡ true }
+        ensures spec { spec_of result ≡ record { conditions = map condition_of conditions.items; rules = map rule_of rules.items } }
+    {
+        Spec {
+            conditions,
+            rules,
+            skipped,
+        }
+    }
+
+    /// The conditions, by number.
+    pub fn conditions(&self) -> &[Condition]
+        ensures conditions { map condition_of result.now ≡ conditions_in (spec_of self.now) }
+        ensures sound { is_sound (spec_of self.now) ≡ true }
+    {
+        &self.conditions
+    }
+
+    /// The rules, in the order of the file.
+    pub fn rules(&self) -> &[Rule]
+        ensures rules { map rule_of result.now ≡ rules_in (spec_of self.now) }
+        ensures sound { is_sound (spec_of self.now) ≡ true }
+    {
+        &self.rules
+    }
+
+    /// Whether some rule has REJECT.
+    pub fn rejects(&self) -> bool
+        ensures { result ≡ rejects (spec_of self.now) }
+    {
+        for i in 0..self.rules.len() {
+            if has_reject(&self.rules[i].statements) {
+                return true;
+            }
+        }
+        false
+    }
+
+    /// The lines where code was skipped, ascending.
+    pub fn skipped(&self) -> &[u32]
+        ensures { result.now ≡ skipped_in self.now }
+    {
+        &self.skipped
+    }
 }
