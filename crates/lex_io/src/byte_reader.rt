@@ -151,7 +151,8 @@ impl<R: Read> Read for ByteReader<R> {
     #[inline(always)]
     fn read(&mut self, buf: &mut [u8]) -> io::Result<usize>
         ensures bound { ReadsAtMost result buf.new }
-        ensures bytes { ReadConsumes (bytes_left R.remaining self.old) (bytes_left R.remaining self.new) result buf.new }
+        ensures bytes { ReadConsumes (bytes_left R.remaining self.old)
+            (bytes_left R.remaining self.new) result buf.new }
         ensures ahead { bytes_ahead self.old ≢ [] → GivesAhead self.old self.new result buf.new }
     {
         if self.start == self.buffer.len() {
@@ -173,7 +174,8 @@ impl<R: Read> Read for ByteReader<R> {
 fn read_over<R: Read>(reader: &mut R, buffer: &mut Vec<u8>) -> io::Result<usize>
     ensures len { vec_len buffer.new ≡ vec_len buffer.old }
     ensures bound { IfOk result (λ count. count ≤ vec_len buffer.new) }
-    ensures ok { IfOk result (λ count. Consumes (R.remaining reader.old) (R.remaining reader.new) (take count buffer.new.items)) }
+    ensures ok { IfOk result (λ count. Consumes (R.remaining reader.old) (R.remaining reader.new)
+        (take count buffer.new.items)) }
     ensures end { IfOk result (λ count. count ≡ 0 → 0 < vec_len buffer.old → IsAtEnd (R.remaining reader.new)) }
     ensures err { OnErr result (Keeps (R.remaining reader.old) (R.remaining reader.new)) }
 {

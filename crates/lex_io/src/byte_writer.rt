@@ -112,8 +112,10 @@ impl<W: Write + Drop> ByteWriter<W> {
     #[inline(never)]
     fn pour_and_write(&mut self, bytes: &[u8]) -> Option<usize>
         ensures bound { IfSome result (λ count. count ≤ length bytes.now) }
-        ensures bytes { MatchOption result (Keeps (bytes_written W.contents self.old) (bytes_written W.contents self.new))
-            (λ count. Appends (bytes_written W.contents self.old) (bytes_written W.contents self.new) (take count bytes.now)) }
+        ensures bytes { MatchOption result
+            (Keeps (bytes_written W.contents self.old) (bytes_written W.contents self.new))
+            (λ count. Appends (bytes_written W.contents self.old) (bytes_written W.contents self.new)
+            (take count bytes.now)) }
         ensures rest { IfNone result (EndsWith (bytes_held self.old) (bytes_held self.new)) }
         ensures error { IfNone result (IsSome self.new.error) }
     {
@@ -157,8 +159,10 @@ impl<W: Write + Drop> Write for ByteWriter<W> {
     #[inline(always)]
     fn write(&mut self, buf: &[u8]) -> io::Result<usize>
         ensures bound { WritesAtMost result buf.now }
-        ensures bytes { WriteAppends (bytes_written W.contents self.old) (bytes_written W.contents self.new) result buf.now }
-        ensures fits { length buf.now ≤ room_in self.old → (result ≡ Ok (length buf.now)) × Holds self.old self.new buf.now }
+        ensures bytes { WriteAppends (bytes_written W.contents self.old)
+            (bytes_written W.contents self.new) result buf.now }
+        ensures fits { length buf.now ≤ room_in self.old → (result ≡ Ok (length buf.now))
+            × Holds self.old self.new buf.now }
         ensures rest { OnErr result (EndsWith (bytes_held self.old) (bytes_held self.new)) }
     {
         if buf.len() <= self.held.room() {

@@ -108,7 +108,8 @@ impl Source for MemorySource<'_> {
         ensures ends { self.new.ends ≡ self.old.ends + end_count result }
         ensures failures { self.new.failures ≡ self.old.failures + fault_count result }
         ensures fault { IsFault result ↔ pause_of self.old ≡ Some (Fault 0) }
-        ensures end { IsEnd result ↔ ((pause_of self.old ≡ Some (End 0)) ⊎ ((rest_of self.old ≡ []) × (pause_of self.old ≡ Some (Fault 0) → ⊥))) }
+        ensures end { IsEnd result ↔ ((pause_of self.old ≡ Some (End 0)) ⊎ ((rest_of self.old ≡ [])
+            × (pause_of self.old ≡ Some (Fault 0) → ⊥))) }
         ensures pause { pause_of self.new ≡ nearer (pause_of self.old) }
         ensures calls { call_count self.new ≡ min (call_count self.old + 1) (2 ^ 64 - 1) }
     {

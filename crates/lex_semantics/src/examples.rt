@@ -65,10 +65,13 @@ pub fn examples_of_ends()
 pub fn examples_of_demand()
     ensures taken_by_exit { M.Tells M.exit_after_ab (codes "abXYZ") ((2, 2) ∷ []) }
     ensures taken_after_more { M.Tells M.exit_after_bs (codes "abXYZ") ((3, 2) ∷ []) }
-    ensures taken_by_keys { M.Tells M.keys (codes "if 42 x") ((2, 2) ∷ (3, 3) ∷ (5, 5) ∷ (6, 6) ∷ (7, 7) ∷ (7, 7) ∷ []) }
+    ensures taken_by_keys { M.Tells M.keys (codes "if 42 x") ((2, 2) ∷ (3, 3) ∷ (5, 5) ∷ (6, 6)
+        ∷ (7, 7) ∷ (7, 7) ∷ []) }
     ensures held_after_backing_up { M.Tells M.abc (codes "abab") ((3, 1) ∷ (3, 2) ∷ (4, 3) ∷ (4, 4) ∷ (4, 4) ∷ []) }
-    ensures held_context { M.Tells M.before_cd (codes "abcdab") ((4, 2) ∷ (4, 3) ∷ (4, 4) ∷ (6, 5) ∷ (6, 6) ∷ (6, 6) ∷ []) }
-    ensures held_one_by_one { M.Tells M.one_by_one (codes "aaaaa") ((5, 1) ∷ (5, 2) ∷ (5, 3) ∷ (5, 4) ∷ (5, 5) ∷ (5, 5) ∷ []) }
+    ensures held_context { M.Tells M.before_cd (codes "abcdab") ((4, 2) ∷ (4, 3) ∷ (4, 4) ∷ (6, 5)
+        ∷ (6, 6) ∷ (6, 6) ∷ []) }
+    ensures held_one_by_one { M.Tells M.one_by_one (codes "aaaaa") ((5, 1) ∷ (5, 2) ∷ (5, 3) ∷ (5, 4)
+        ∷ (5, 5) ∷ (5, 5) ∷ []) }
 {}
 
 /// Which specifications are sound: the cut is that of the head, if that has a fixed length, and an end prints at most 4,096 bytes.

@@ -13,7 +13,8 @@ ghost use Rattle.lex_semantics.specs.TableLaws.{TellsUseless, TellsBackWords, St
 
 /// A machine that is a table for a specification has its turns, its demand and its run, and no others.
 pub fn table_scan()
-    ensures { (M : Machine) (S : Spec) → MachineLaws M → IsSound S → TableFor M S → SameScan (rules_of_machine M) (rules_of S) }
+    ensures { (M : Machine) (S : Spec) → MachineLaws M → IsSound S → TableFor M S
+        → SameScan (rules_of_machine M) (rules_of S) }
 {}
 
 /// Specifications whose rules fit the same words and have the same actions have the same turns, demand and run.

@@ -52,7 +52,8 @@ fn digits_at(text: &[u8]) -> (&[u8], &[u8])
 /// The two counts, where they are in order and the greatest is from 1 to 255.
 #[tactic(auto, unfolding(lexre_bytes::specs::Lexical::bounded))]
 fn counts(least: u32, most: u32) -> Option<(u8, Option<u8>)>
-    ensures front { (rest : List ℕ) → ◌≡◌ {A = Front} (bounded least most rest) (option_map (λ x. (interval x.0 x.1, rest)) result) }
+    ensures front { (rest : List ℕ)
+        → ◌≡◌ {A = Front} (bounded least most rest) (option_map (λ x. (interval x.0 x.1, rest)) result) }
     ensures sound { IfSome result (λ x. IfSome x.1 (λ n. (x.0 ≤ n) × (1 ≤ n))) }
 {
     if least > most || most == 0 {

@@ -82,7 +82,8 @@ impl CuttingSoFar {
     fn past(self, kind: Kind, at: usize) -> Result<CuttingSoFar, PatternError>
         requires { self.depth + 1 < 2 ^ 64 }
         ensures ending { MatchResult result
-            (λ after. (ps : List (Piece × ℕ)) → ◌≡◌ {A = Ending} (ending self ((piece_of kind, at) ∷ ps)) (ending after ps))
+            (λ after. (ps : List (Piece × ℕ))
+            → ◌≡◌ {A = Ending} (ending self ((piece_of kind, at) ∷ ps)) (ending after ps))
             (λ _. (ps : List (Piece × ℕ)) → ◌≡◌ {A = Ending} (ending self ((piece_of kind, at) ∷ ps)) None) }
         ensures depth { IfOk result (λ after. after.depth ≤ self.depth + 1) }
         ensures fault { IfErr result (λ e. e.kind ≡ MisplacedSlash) }

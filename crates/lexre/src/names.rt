@@ -97,7 +97,8 @@ impl Names {
 
     /// Keeps the tree of a name, for which this many have to be opened.
     pub(crate) fn keep(&mut self, name: &[u8], needed: u8, tree: Counted) -> Result<(), AllocError>
-        ensures trees { OnOk result (trees_of self.new ≡ insert (trees_of self.old) name.now (tree_of tree.pattern, needed)) }
+        ensures trees { OnOk result (trees_of self.new
+            ≡ insert (trees_of self.old) name.now (tree_of tree.pattern, needed)) }
         ensures same_open { OnOk result (open_of self.new ≡ open_of self.old) }
     {
         let name = Vec::from_slice(self.alloc, name)?;

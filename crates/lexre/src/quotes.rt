@@ -20,7 +20,8 @@ const MAX_QUOTED_BYTES: usize = 65_535;
 /// What follows a text in quotes. The text handed in begins with the first quote, at which a quote that no other closes is
 /// reported.
 pub(crate) fn skip_quoted<'a>(text: &'a [u8]) -> Result<&'a [u8], FaultAt<'a>>
-    ensures found { MatchResult result (λ rest. after_quotes (drop 1 text.now) ≡ Some rest.now) (λ _. after_quotes (drop 1 text.now) ≡ None) }
+    ensures found { MatchResult result (λ rest. after_quotes (drop 1 text.now)
+        ≡ Some rest.now) (λ _. after_quotes (drop 1 text.now) ≡ None) }
     ensures fault { IfErr result (λ f. IsQuoteFault f.kind) }
 {
     let mut rest = text.get(1..).unwrap_or(text);

@@ -99,13 +99,15 @@ fn read_name(
     requires room { room ≤ max_nodes }
     requires known_so_far { AreKnown scope.options scope.definitions.now (trees_of names.old) }
     requires lead { AllLead scope.options scope.definitions.now (open_of names.old) name.now }
-    ensures found { IfOk result (λ r. StandsIn scope.entry.options scope.entry.definitions.now (left - r.spare) name.now (tree_of r.tree.pattern)) }
+    ensures found { IfOk result (λ r. StandsIn scope.entry.options scope.entry.definitions.now (left - r.spare) name.now
+        (tree_of r.tree.pattern)) }
     ensures spare { IfOk result (λ r. r.spare ≤ left) }
     ensures few { IfOk result (λ r. nodes (tree_of r.tree.pattern) ≤ room) }
     ensures sound { IfOk result (λ r. IsSoundTree (tree_of r.tree.pattern)) }
     ensures known { OnOk result (AreKnown scope.entry.options scope.entry.definitions.now (trees_of names.new)) }
     ensures same_open { OnOk result (open_of names.new ≡ open_of names.old) }
-    ensures none { IfErr result (λ e. UnlessMemory e (NoneWithin room (StandsIn scope.entry.options scope.entry.definitions.now left name.now))) }
+    ensures none { IfErr result (λ e. UnlessMemory e
+        (NoneWithin room (StandsIn scope.entry.options scope.entry.definitions.now left name.now))) }
 {
     if let Some(kept) = names.find(name, left) {
         if kept.tree.nodes > room {
@@ -151,17 +153,20 @@ fn step(
     requires sound_so_far { IsSoundState (state_of stack.old) }
     requires known_so_far { AreKnown scope.options scope.definitions.now (trees_of names.old) }
     requires lead { AllLeadToSymbol scope.options scope.definitions.now (open_of names.old) (symbol_of symbol) }
-    ensures found { IfOk result (λ a. StepsIn scope.entry.options scope.entry.definitions.now (state_of stack.old) (symbol_of symbol.entry) (state_of stack.new)) }
+    ensures found { IfOk result (λ a. StepsIn scope.entry.options scope.entry.definitions.now (state_of stack.old)
+        (symbol_of symbol.entry) (state_of stack.new)) }
     ensures spare { IfOk result (λ a. a.spare ≤ stack.new.left) }
     ensures lowered { IfOk result (λ a. (e : ℕ) → e ≤ stack.old.left → e ≤ a.spare
-        → StepsIn scope.entry.options scope.entry.definitions.now (lowered e (state_of stack.old)) (symbol_of symbol.entry) (lowered e (state_of stack.new))) }
+        → StepsIn scope.entry.options scope.entry.definitions.now (lowered e (state_of stack.old))
+        (symbol_of symbol.entry) (lowered e (state_of stack.new))) }
     ensures few { IfOk result (λ a. a.nodes ≤ room) }
     ensures sound { IfOk result (λ a. IsSoundState (state_of stack.new)) }
     ensures known { OnOk result (AreKnown scope.entry.options scope.entry.definitions.now (trees_of names.new)) }
     ensures same_open { OnOk result (open_of names.new ≡ open_of names.old) }
     ensures counted { IfOk result (λ a. state_nodes (state_of stack.new) ≡ state_nodes (state_of stack.old) + a.nodes) }
     ensures none { IfErr result (λ e. UnlessMemory e
-        ((after : State) → StepsIn scope.entry.options scope.entry.definitions.now (state_of stack.old) (symbol_of symbol.entry) after → state_nodes after ≤ state_nodes (state_of stack.old) + room → ⊥)) }
+        ((after : State) → StepsIn scope.entry.options scope.entry.definitions.now (state_of stack.old)
+        (symbol_of symbol.entry) after → state_nodes after ≤ state_nodes (state_of stack.old) + room → ⊥)) }
 {
     let taken = match symbol {
         Symbol::Name(name) => {
@@ -205,13 +210,15 @@ fn read_within(
     requires room { room ≤ max_nodes }
     requires known_so_far { AreKnown scope.options scope.definitions.now (trees_of names.old) }
     requires lead { AllLeadToText scope.options scope.definitions.now (open_of names.old) text.now }
-    ensures found { IfOk result (λ r. SpellsIn scope.entry.options scope.entry.definitions.now (left - r.spare) text.now (tree_of r.tree.pattern)) }
+    ensures found { IfOk result (λ r. SpellsIn scope.entry.options scope.entry.definitions.now (left - r.spare) text.now
+        (tree_of r.tree.pattern)) }
     ensures spare { IfOk result (λ r. r.spare ≤ left) }
     ensures few { IfOk result (λ r. nodes (tree_of r.tree.pattern) ≤ room) }
     ensures sound { IfOk result (λ r. IsSoundTree (tree_of r.tree.pattern)) }
     ensures known { OnOk result (AreKnown scope.entry.options scope.entry.definitions.now (trees_of names.new)) }
     ensures same_open { OnOk result (open_of names.new ≡ open_of names.old) }
-    ensures none { IfErr result (λ e. UnlessMemory e.kind (NoneWithin room (SpellsIn scope.entry.options scope.entry.definitions.now left text.now))) }
+    ensures none { IfErr result (λ e. UnlessMemory e.kind
+        (NoneWithin room (SpellsIn scope.entry.options scope.entry.definitions.now left text.now))) }
 {
     let mut stack = Stack::new(alloc, left);
     let mut nodes = 0;
@@ -262,7 +269,8 @@ pub fn read_pattern(
 ) -> Result<Pattern, PatternError>
     ensures found { IfOk result (λ p. Spells options definitions.now text.now (tree_of p)) }
     ensures sound { IfOk result (λ p. IsSoundTree (tree_of p)) }
-    ensures none { IfErr result (λ e. UnlessMemory e.kind ((t : Tree) → Spells options definitions.now text.now t → ⊥)) }
+    ensures none { IfErr result (λ e. UnlessMemory e.kind ((t : Tree)
+        → Spells options definitions.now text.now t → ⊥)) }
 {
     let mut names = Names::new(alloc);
     read_with_names(alloc, text, definitions, options, &mut names)
@@ -281,7 +289,8 @@ pub fn read_with_names(
     ensures found { IfOk result (λ p. Spells options definitions.now text.now (tree_of p)) }
     ensures sound { IfOk result (λ p. IsSoundTree (tree_of p)) }
     ensures known { OnOk result (AreKnown options definitions.now (trees_of names.new)) }
-    ensures none { IfErr result (λ e. UnlessMemory e.kind ((t : Tree) → Spells options definitions.now text.now t → ⊥)) }
+    ensures none { IfErr result (λ e. UnlessMemory e.kind ((t : Tree)
+        → Spells options definitions.now text.now t → ⊥)) }
 {
     let scope = Scope {
         definitions,

@@ -30,7 +30,8 @@ fn series(
     mut parts: Vec<Pattern>,
     last: Pattern,
 ) -> Result<Pattern, PatternErrorKind>
-    ensures { MatchResult result (λ p. tree_of p ≡ series_tree (map tree_of parts.items) (tree_of last)) (λ e. e ≡ OutOfMemory) }
+    ensures { MatchResult result (λ p. tree_of p
+        ≡ series_tree (map tree_of parts.items) (tree_of last)) (λ e. e ≡ OutOfMemory) }
 {
     if parts.is_empty() {
         return Ok(last);
@@ -41,7 +42,8 @@ fn series(
 
 /// The pattern of a choice: a series alone is itself.
 fn choice(alloc: Global, mut done: Vec<Pattern>, last: Pattern) -> Result<Pattern, PatternErrorKind>
-    ensures { MatchResult result (λ p. tree_of p ≡ choice_tree (map tree_of done.items) (tree_of last)) (λ e. e ≡ OutOfMemory) }
+    ensures { MatchResult result (λ p. tree_of p
+        ≡ choice_tree (map tree_of done.items) (tree_of last)) (λ e. e ≡ OutOfMemory) }
 {
     if done.is_empty() {
         return Ok(last);
@@ -57,7 +59,8 @@ fn operand(
     last: Pattern,
     posix: bool,
 ) -> Result<Pattern, PatternErrorKind>
-    ensures found { MatchResult result (λ p. tree_of p ≡ operand posix (map tree_of parts.old.items) (tree_of last)) (λ e. e ≡ OutOfMemory) }
+    ensures found { MatchResult result (λ p. tree_of p
+        ≡ operand posix (map tree_of parts.old.items) (tree_of last)) (λ e. e ≡ OutOfMemory) }
     ensures left { IfOk result (λ _. map tree_of parts.new.items ≡ parts_before posix (map tree_of parts.old.items)) }
 {
     if !posix {
@@ -160,7 +163,8 @@ impl Frame {
 
     /// Takes an item that begins at this place.
     fn push(&mut self, item: Pattern, start: usize) -> Result<(), PatternErrorKind>
-        ensures { MatchResult result (λ _. frame_of self.new ≡ pushed (tree_of item) (frame_of self.old)) (λ e. e ≡ OutOfMemory) }
+        ensures { MatchResult result (λ _. frame_of self.new
+            ≡ pushed (tree_of item) (frame_of self.old)) (λ e. e ≡ OutOfMemory) }
     {
         match self.last.take() {
             Some(last) => {
@@ -191,7 +195,8 @@ impl Stack {
 
     /// Takes an item that begins at this place, and answers how many nodes it brings.
     pub(crate) fn push(&mut self, item: Counted, start: usize) -> Result<u64, PatternErrorKind>
-        ensures { StepsTo result (Some (push (tree_of item.pattern) (state_of self.old))) (item_adds (tree_of item.pattern) (state_of self.old)) (state_of self.new) }
+        ensures { StepsTo result (Some (push (tree_of item.pattern) (state_of self.old)))
+            (item_adds (tree_of item.pattern) (state_of self.old)) (state_of self.new) }
     {
         let added = item.nodes + self.here.extra();
         self.here.push(item.pattern, start)?;
@@ -247,7 +252,8 @@ impl Stack {
 
     /// What the place lacks where an interval stands: something to its left, or room for one more on it.
     pub(crate) fn interval_fault(&self, posix: bool) -> Option<PatternErrorKind>
-        ensures never { IfSome result (λ kind. (f : Tree → Tree) → onto_last f (gathered posix (state_of self.now)) ≡ None) }
+        ensures never { IfSome result (λ kind. (f : Tree → Tree)
+            → onto_last f (gathered posix (state_of self.now)) ≡ None) }
         ensures memory { IfSome result (λ kind. kind ≡ OutOfMemory → ⊥) }
         ensures steps { IfNone result (IsSome (onto_last (λ t. t) (gathered posix (state_of self.now)))) }
     {
@@ -288,7 +294,8 @@ impl Stack {
         most: Option<u8>,
         posix: bool,
     ) -> Result<u64, PatternErrorKind>
-        ensures { StepsTo result (onto_last (λ t. Repeat t least most) (gathered posix (state_of self.old))) 1 (state_of self.new) }
+        ensures { StepsTo result (onto_last (λ t. Repeat t least most)
+            (gathered posix (state_of self.old))) 1 (state_of self.new) }
     {
         let Some(last) = self.here.last.take() else {
             return Err(PatternErrorKind::MissingOperand);
@@ -322,7 +329,8 @@ impl Stack {
         at: usize,
         posix: bool,
     ) -> Result<u64, PatternErrorKind>
-        ensures { StepsTo result (step_of posix (symbol_of symbol.entry) (state_of self.old)) (adds (symbol_of symbol.entry) (state_of self.old)) (state_of self.new) }
+        ensures { StepsTo result (step_of posix (symbol_of symbol.entry) (state_of self.old))
+            (adds (symbol_of symbol.entry) (state_of self.old)) (state_of self.new) }
     {
         if posix && matches!(symbol, Symbol::Sign(_) | Symbol::Interval(..)) {
             self.here.start = at;

@@ -13,7 +13,8 @@ use crate::error::{FaultAt, PatternErrorKind};
 #[tactic(auto, unfolding(crate::specs::Lexical::bracketed_at))]
 fn bracketed_at<'a>(text: &'a [u8], stop: &[u8]) -> Option<(Element<'a>, &'a [u8])>
     requires { stop.now ≡ stop_of text.now }
-    ensures found { ◌≡◌ {A = Option (Element × List ℕ)} (bracketed_at text.now) (option_map (λ x. (element_of x.0, x.1.now)) result) }
+    ensures found { ◌≡◌ {A = Option (Element
+        × List ℕ)} (bracketed_at text.now) (option_map (λ x. (element_of x.0, x.1.now)) result) }
     ensures refused { IfSome result (λ x. HasPartFault x.0) }
 {
     if let Some((letters, rest)) = named_at(text) {

@@ -62,7 +62,8 @@ fn member_at<'a>(
 /// The bytes of the elements up to the closing bracket, and what follows it. A bracket that comes first is an element.
 fn members_at<'a>(class: &'a [u8], text: &'a [u8]) -> Result<(ByteSet, &'a [u8]), FaultAt<'a>>
     ensures set { MatchResult result
-        (λ x. ◌≡◌ {A = Option (ByteSet × List ℕ)} (members_at (suc (length text.now)) true text.now) (Some (x.0, x.1.now)))
+        (λ x. ◌≡◌ {A = Option (ByteSet × List ℕ)}
+        (members_at (suc (length text.now)) true text.now) (Some (x.0, x.1.now)))
         (λ _. ◌≡◌ {A = Option (ByteSet × List ℕ)} (members_at (suc (length text.now)) true text.now) None) }
     ensures some { IfOk result (λ x. HasByte x.0) }
     ensures fault { IfErr result (λ f. IsClassFault f.kind) }

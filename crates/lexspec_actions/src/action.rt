@@ -26,7 +26,8 @@ fn piece_from<'a>(
     text: &'a [u8],
 ) -> Result<(Piece, &'a [u8]), SpecErrorKind>
     requires { length conditions.now ≤ max_conditions }
-    ensures spelled { Reads (λ x. (piece_of x.0, x.1.now)) result (piece_from (known_in (names_of conditions.now) stack) text.now) }
+    ensures spelled { Reads (λ x. (piece_of x.0, x.1.now)) result
+        (piece_from (known_in (names_of conditions.now) stack) text.now) }
     ensures shorter { IfOk result (λ x. length x.1.now < length text.now) }
     ensures fault { IfErr result (λ e. IsActionFault e) }
 {
@@ -55,9 +56,11 @@ fn read_statements(
 ) -> Result<Vec<Statement>, SpecErrorKind>
     requires { length conditions.now ≤ max_conditions }
     // What is read is spelled by the text.
-    ensures found { IfOk result (λ ss. SpellsStatements (known_in (names_of conditions.now) stack) text.now (map statement_of ss.items)) }
+    ensures found { IfOk result (λ ss. SpellsStatements (known_in (names_of conditions.now) stack) text.now
+        (map statement_of ss.items)) }
     // What is refused spells no statements, unless memory ran out.
-    ensures none { IfErr result (λ e. UnlessMemory e ((ss : List S.Statement) → SpellsStatements (known_in (names_of conditions.now) stack) text.now ss → ⊥)) }
+    ensures none { IfErr result (λ e. UnlessMemory e ((ss : List S.Statement)
+        → SpellsStatements (known_in (names_of conditions.now) stack) text.now ss → ⊥)) }
     ensures fault { IfErr result (λ e. IsActionFault e) }
 {
     let mut statements = Vec::new(alloc);
@@ -100,9 +103,11 @@ pub fn read_action(
 ) -> Result<Vec<Statement>, SpecErrorKind>
     requires { length conditions.now ≤ max_conditions }
     // What is read is spelled by the text.
-    ensures found { IfOk result (λ ss. SpellsAction (known_in (names_of conditions.now) stack) text.now (map statement_of ss.items)) }
+    ensures found { IfOk result (λ ss. SpellsAction (known_in (names_of conditions.now) stack) text.now
+        (map statement_of ss.items)) }
     // What is refused is no action, unless memory ran out.
-    ensures none { IfErr result (λ e. UnlessMemory e ((ss : List S.Statement) → SpellsAction (known_in (names_of conditions.now) stack) text.now ss → ⊥)) }
+    ensures none { IfErr result (λ e. UnlessMemory e ((ss : List S.Statement)
+        → SpellsAction (known_in (names_of conditions.now) stack) text.now ss → ⊥)) }
     ensures fault { IfErr result (λ e. IsActionFault e) }
 {
     let statements = read_statements(alloc, conditions, stack, text)?;
@@ -120,9 +125,11 @@ pub fn read_end_action(
 ) -> Result<EndAction, SpecErrorKind>
     requires { length conditions.now ≤ max_conditions }
     // What is read is spelled by the text.
-    ensures found { IfOk result (λ e. SpellsEndAction (known_in (names_of conditions.now) stack) text.now (end_action_of e)) }
+    ensures found { IfOk result (λ e. SpellsEndAction
+        (known_in (names_of conditions.now) stack) text.now (end_action_of e)) }
     // What is refused is no end action, unless memory ran out.
-    ensures none { IfErr result (λ e. UnlessMemory e ((a : S.EndAction) → SpellsEndAction (known_in (names_of conditions.now) stack) text.now a → ⊥)) }
+    ensures none { IfErr result (λ e. UnlessMemory e ((a : S.EndAction)
+        → SpellsEndAction (known_in (names_of conditions.now) stack) text.now a → ⊥)) }
     ensures fault { IfErr result (λ e. IsActionFault e) }
 {
     let statements = read_statements(alloc, conditions, stack, text)?;

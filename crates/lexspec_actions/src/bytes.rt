@@ -85,7 +85,8 @@ fn after_line(text: &[u8]) -> &[u8]
 
 /// What follows the comment that a slash before the text opens.
 fn after_comment(text: &[u8]) -> Option<&[u8]>
-    ensures { MatchOption result (skip_in slash text.now ≡ 47 ∷ text.now) (λ r. (skip_in slash text.now ≡ skip_in outside r.now) × (length r.now ≤ length text.now)) }
+    ensures { MatchOption result (skip_in slash text.now
+        ≡ 47 ∷ text.now) (λ r. (skip_in slash text.now ≡ skip_in outside r.now) × (length r.now ≤ length text.now)) }
 {
     let (first, after) = text.split_first()?;
     if *first == b'*' {

@@ -182,7 +182,8 @@ fn exit_at(text: &[u8]) -> Option<(Called, &[u8])>
 #[tactic(auto, unfolding(crate::specs::Actions::condition_at))]
 fn condition_at<'a>(conditions: &[Condition], text: &'a [u8]) -> Option<(Option<u8>, &'a [u8])>
     requires { length conditions.now ≤ max_conditions }
-    ensures spelled { ConditionReads (λ x. x.0) (λ x. x.1.now) result (condition_at (number_from 0 (names_of conditions.now)) text.now) }
+    ensures spelled { ConditionReads (λ x. x.0) (λ x. x.1.now) result
+        (condition_at (number_from 0 (names_of conditions.now)) text.now) }
     ensures shorter { IfSome result (λ x. length x.1.now ≤ length text.now) }
 {
     match name_at(skip(text)) {
@@ -201,7 +202,8 @@ fn condition_at<'a>(conditions: &[Condition], text: &'a [u8]) -> Option<(Option<
 #[tactic(auto, unfolding(crate::specs::Actions::closed_condition))]
 fn closed_condition<'a>(conditions: &[Condition], text: &'a [u8]) -> Option<(Option<u8>, &'a [u8])>
     requires { length conditions.now ≤ max_conditions }
-    ensures spelled { ConditionReads (λ x. x.0) (λ x. x.1.now) result (closed_condition (number_from 0 (names_of conditions.now)) text.now) }
+    ensures spelled { ConditionReads (λ x. x.0) (λ x. x.1.now) result
+        (closed_condition (number_from 0 (names_of conditions.now)) text.now) }
     ensures shorter { IfSome result (λ x. length x.1.now ≤ length text.now) }
 {
     let (number, rest) = condition_at(conditions, text)?;
@@ -222,7 +224,8 @@ fn begins(number: Option<u8>) -> Called
 #[tactic(auto, unfolding(crate::specs::Actions::begin_at))]
 fn begin_at<'a>(conditions: &[Condition], text: &'a [u8]) -> Option<(Called, &'a [u8])>
     requires { length conditions.now ≤ max_conditions }
-    ensures spelled { CallFinds (λ x. x.0) (λ x. x.1.now) result (begin_at (number_from 0 (names_of conditions.now)) text.now) }
+    ensures spelled { CallFinds (λ x. x.0) (λ x. x.1.now) result
+        (begin_at (number_from 0 (names_of conditions.now)) text.now) }
     ensures shorter { IfSome result (λ x. length x.1.now ≤ length text.now) }
 {
     if let Some(inside) = next(b'(', text) {
@@ -246,7 +249,8 @@ fn push_of(number: Option<u8>) -> Called
 #[tactic(auto, unfolding(crate::specs::Actions::push_at))]
 fn push_at<'a>(conditions: &[Condition], text: &'a [u8]) -> Option<(Called, &'a [u8])>
     requires { length conditions.now ≤ max_conditions }
-    ensures spelled { CallFinds (λ x. x.0) (λ x. x.1.now) result (push_at (number_from 0 (names_of conditions.now)) text.now) }
+    ensures spelled { CallFinds (λ x. x.0) (λ x. x.1.now) result
+        (push_at (number_from 0 (names_of conditions.now)) text.now) }
     ensures shorter { IfSome result (λ x. length x.1.now ≤ length text.now) }
 {
     if let Some(inside) = next(b'(', text) {
@@ -273,7 +277,8 @@ fn stack_word<'a>(
     text: &'a [u8],
 ) -> Option<(Called, &'a [u8])>
     requires { length conditions.now ≤ max_conditions }
-    ensures spelled { CallFinds (λ x. x.0) (λ x. x.1.now) result (stack_word (number_from 0 (names_of conditions.now)) word.now text.now) }
+    ensures spelled { CallFinds (λ x. x.0) (λ x. x.1.now) result
+        (stack_word (number_from 0 (names_of conditions.now)) word.now text.now) }
     ensures shorter { IfSome result (λ x. length x.1.now ≤ length text.now) }
 {
     if word == b"yy_push_state".as_slice() {
@@ -308,7 +313,8 @@ fn after_word<'a>(
     text: &'a [u8],
 ) -> Result<(Called, &'a [u8]), SpecErrorKind>
     requires { length conditions.now ≤ max_conditions }
-    ensures spelled { CallReads (λ x. x.0) (λ x. x.1.now) result (after_word (known_in (names_of conditions.now) stack) word.now text.now) }
+    ensures spelled { CallReads (λ x. x.0) (λ x. x.1.now) result
+        (after_word (known_in (names_of conditions.now) stack) word.now text.now) }
     ensures shorter { IfOk result (λ x. length x.1.now ≤ length text.now) }
     ensures fault { IfErr result (λ e. IsActionFault e) }
 {
@@ -347,7 +353,8 @@ pub(crate) fn statement_at<'a>(
     text: &'a [u8],
 ) -> Result<(Said, &'a [u8]), SpecErrorKind>
     requires { length conditions.now ≤ max_conditions }
-    ensures spelled { Reads (λ x. (said_of x.0, x.1.now)) result (statement_at (known_in (names_of conditions.now) stack) text.now) }
+    ensures spelled { Reads (λ x. (said_of x.0, x.1.now)) result
+        (statement_at (known_in (names_of conditions.now) stack) text.now) }
     ensures shorter { IfOk result (λ x. length x.1.now < length text.now) }
     ensures fault { IfErr result (λ e. IsActionFault e) }
 {

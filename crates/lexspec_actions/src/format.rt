@@ -23,8 +23,10 @@ pub(crate) struct Format {
 
 impl Format {
     fn take(&mut self, alloc: Global, byte: u8) -> Result<(), SpecErrorKind>
-        ensures ok { OnOk result ((t : List ℕ) → read_on (format_view self.new) t ≡ read_on (format_view self.old) (byte ∷ t)) }
-        ensures err { IfErr result (λ e. UnlessMemory e ((t : List ℕ) → read_on (format_view self.old) (byte ∷ t) ≡ None)) }
+        ensures ok { OnOk result ((t : List ℕ)
+            → read_on (format_view self.new) t ≡ read_on (format_view self.old) (byte ∷ t)) }
+        ensures err { IfErr result (λ e. UnlessMemory e ((t : List ℕ)
+            → read_on (format_view self.old) (byte ∷ t) ≡ None)) }
         ensures fault { IfErr result (λ e. IsActionFault e) }
     {
         if !self.percent {

@@ -8,20 +8,24 @@ ghost use Rattle.lex_semantics.specs.Limits.{max_status};
 
 /// A text spells at most one action, whatever numbers the conditions have.
 pub fn one_action()
-    ensures { (known : Known) (text : List ℕ) (ss tt : List Statement) → SpellsAction known text ss → SpellsAction known text tt → ss ≡ tt }
+    ensures { (known : Known) (text : List ℕ) (ss tt : List Statement) → SpellsAction known text ss
+        → SpellsAction known text tt → ss ≡ tt }
 {}
 
 /// A text spells at most one end action.
 pub fn one_end_action()
-    ensures { (known : Known) (text : List ℕ) (e f : EndAction) → SpellsEndAction known text e → SpellsEndAction known text f → e ≡ f }
+    ensures { (known : Known) (text : List ℕ) (e f : EndAction) → SpellsEndAction known text e
+        → SpellsEndAction known text f → e ≡ f }
 {}
 
 /// An action that is spelled is legal and in normal form.
 pub fn legal_actions()
-    ensures { (names : List (List ℕ)) (stack : Bool) (text : List ℕ) (ss : List Statement) → 1 ≤ length names → SpellsAction (known_in names stack) text ss → IsLegal (length names) ss }
+    ensures { (names : List (List ℕ)) (stack : Bool) (text : List ℕ) (ss : List Statement) → 1 ≤ length names
+        → SpellsAction (known_in names stack) text ss → IsLegal (length names) ss }
 {}
 
 /// The status of an end action that is spelled is one that exit may answer.
 pub fn end_statuses()
-    ensures { (names : List (List ℕ)) (stack : Bool) (text : List ℕ) (e : EndAction) → 1 ≤ length names → SpellsEndAction (known_in names stack) text e → e.status ≤ max_status }
+    ensures { (names : List (List ℕ)) (stack : Bool) (text : List ℕ) (e : EndAction) → 1 ≤ length names
+        → SpellsEndAction (known_in names stack) text e → e.status ≤ max_status }
 {}

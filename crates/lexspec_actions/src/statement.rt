@@ -47,7 +47,8 @@ pub(crate) struct Parts {
 
 /// Puts a literal at the end.
 fn print(statements: &mut Vec<Statement>, bytes: Vec<u8>) -> Result<(), SpecErrorKind>
-    ensures ok { OnOk result (map statement_of statements.new.items ≡ then_print (map statement_of statements.old.items) bytes.items) }
+    ensures ok { OnOk result (map statement_of statements.new.items
+        ≡ then_print (map statement_of statements.old.items) bytes.items) }
     ensures err { IfErr result (λ e. UnlessMemory e ⊥) }
     ensures fault { IfErr result (λ e. IsActionFault e) }
 {
@@ -77,7 +78,8 @@ fn print(statements: &mut Vec<Statement>, bytes: Vec<u8>) -> Result<(), SpecErro
 
 /// Puts what is said at the end, in normal form.
 pub(crate) fn say(statements: &mut Vec<Statement>, said: Said) -> Result<(), SpecErrorKind>
-    ensures ok { OnOk result (map statement_of statements.new.items ≡ then_all (map statement_of statements.old.items) (said_by (said_of said))) }
+    ensures ok { OnOk result (map statement_of statements.new.items
+        ≡ then_all (map statement_of statements.old.items) (said_by (said_of said))) }
     ensures err { IfErr result (λ e. UnlessMemory e ⊥) }
     ensures fault { IfErr result (λ e. IsActionFault e) }
 {

@@ -54,9 +54,11 @@ fn declare(
     names: &[u8],
 ) -> Result<(), SpecErrorKind>
     requires { AreGood (map declared_of conditions.old.items) }
-    ensures declared { OnOk result (map declared_of conditions.new.items ≡ map declared_of conditions.old.items ++ with_kind exclusive (words names.now)) }
+    ensures declared { OnOk result (map declared_of conditions.new.items
+        ≡ map declared_of conditions.old.items ++ with_kind exclusive (words names.now)) }
     ensures good { OnOk result (AreGood (map declared_of conditions.new.items)) }
-    ensures none { IfErr result (λ e. UnlessMemory e ((more : List Declared) → AreGood (map declared_of conditions.old.items ++ with_kind exclusive (words names.now) ++ more) → ⊥)) }
+    ensures none { IfErr result (λ e. UnlessMemory e ((more : List Declared)
+        → AreGood (map declared_of conditions.old.items ++ with_kind exclusive (words names.now) ++ more) → ⊥)) }
 {
     let mut rest = names;
     while let Some((name, after)) = next_word(rest) {
@@ -155,8 +157,10 @@ impl Declarations {
         requires good { AreGood (map declared_of self.old.conditions.items) }
         requires line { line + 1 < 2 ^ 32 }
         ensures found { OnOk result ((how : Reading) (ds : List Meant) → Declares how ds self.old → AreAllowed ds
-            → Declares how (ds ++ definition_of definition.entry ∷ []) self.new × AreAllowed (ds ++ definition_of definition.entry ∷ [])) }
-        ensures none { IfErr result (λ e. UnlessMemory e ((how : Reading) (ds more : List Meant) → Declares how ds self.old → AreAllowed (ds ++ definition_of definition.entry ∷ more) → ⊥)) }
+            → Declares how (ds ++ definition_of definition.entry ∷ []) self.new
+            × AreAllowed (ds ++ definition_of definition.entry ∷ [])) }
+        ensures none { IfErr result (λ e. UnlessMemory e ((how : Reading) (ds more : List Meant)
+            → Declares how ds self.old → AreAllowed (ds ++ definition_of definition.entry ∷ more) → ⊥)) }
     {
         match definition {
             Definition::Nothing => Ok(()),

@@ -128,7 +128,8 @@ fn declaration(exclusive: bool, names: &[u8]) -> Option<Definition<'_>>
 
 /// The options of a line, if there are some.
 fn options(text: &[u8]) -> Option<Definition<'_>>
-    ensures { ◌≡◌ {A = Option Meant} (option_map definition_of result) (if length (words text.now) == 0 then None else Some (options (words text.now))) }
+    ensures { ◌≡◌ {A = Option Meant} (option_map definition_of result)
+        (if length (words text.now) == 0 then None else Some (options (words text.now))) }
 {
     if next_word(text).is_none() {
         return None;
@@ -138,7 +139,8 @@ fn options(text: &[u8]) -> Option<Definition<'_>>
 
 /// A line without effect, if nothing but blanks follows its word.
 fn alone(text: &[u8]) -> Option<Definition<'_>>
-    ensures { ◌≡◌ {A = Option Meant} (option_map definition_of result) (if length (words text.now) == 0 then Some ignored else None) }
+    ensures { ◌≡◌ {A = Option Meant} (option_map definition_of result)
+        (if length (words text.now) == 0 then Some ignored else None) }
 {
     if next_word(text).is_some() {
         return None;
@@ -168,7 +170,8 @@ fn number(text: &[u8]) -> Option<Definition<'_>>
 
 /// Whether the word declares inclusive conditions.
 fn declares_inclusive(word: &[u8]) -> bool
-    ensures { result ≡ list_any (λ w. is_word word.now w) (codes "%s" ∷ codes "%S" ∷ codes "%start" ∷ codes "%Start" ∷ []) }
+    ensures { result ≡ list_any (λ w. is_word word.now w) (codes "%s" ∷ codes "%S" ∷ codes "%start"
+        ∷ codes "%Start" ∷ []) }
 {
     word == b"%s".as_slice()
         || word == b"%S".as_slice()
@@ -192,7 +195,8 @@ fn is_storage(word: &[u8]) -> bool
 
 /// Whether the word gives the size of a table.
 fn is_size(word: &[u8]) -> bool
-    ensures { result ≡ list_any (λ w. is_word word.now w) (codes "%p" ∷ codes "%n" ∷ codes "%a" ∷ codes "%e" ∷ codes "%k" ∷ codes "%o" ∷ []) }
+    ensures { result ≡ list_any (λ w. is_word word.now w) (codes "%p" ∷ codes "%n" ∷ codes "%a" ∷ codes "%e"
+        ∷ codes "%k" ∷ codes "%o" ∷ []) }
 {
     word == b"%p".as_slice()
         || word == b"%n".as_slice()
@@ -226,7 +230,8 @@ fn percent_line(line: &[u8]) -> Option<Definition<'_>>
 /// The definition that begins the text, which has no line that begins with `%%` there, and the text after it.
 #[tactic(auto, unfolding(crate::specs::DefinitionLines::definition_at))]
 pub(crate) fn definition_at(text: &[u8]) -> Result<(Definition<'_>, &[u8]), DefinitionFault<'_>>
-    ensures found { IfOk result (λ x. ◌≡◌ {A = Option (Meant × List ℕ)} (definition_at text.now) (Some (definition_of x.0, x.1.now))) }
+    ensures found { IfOk result (λ x. ◌≡◌ {A = Option (Meant
+        × List ℕ)} (definition_at text.now) (Some (definition_of x.0, x.1.now))) }
     ensures shorter { IfOk result (λ x. length x.1.now < length text.now) }
     ensures none { OnErr result (◌≡◌ {A = Option (Meant × List ℕ)} (definition_at text.now) None) }
 {
@@ -261,8 +266,11 @@ pub(crate) fn definition_at(text: &[u8]) -> Result<(Definition<'_>, &[u8]), Defi
 
 /// The definition of a line that opens neither a block nor a comment.
 fn definition_of_line(line: &[u8]) -> Result<Definition<'_>, DefinitionFault<'_>>
-    ensures found { IfOk result (λ d. ◌≡◌ {A = Option Meant} (if begins (codes "%") line.now then percent_line line.now else definition_in line.now) (Some (definition_of d))) }
-    ensures none { OnErr result (◌≡◌ {A = Option Meant} (if begins (codes "%") line.now then percent_line line.now else definition_in line.now) None) }
+    ensures found { IfOk result (λ d. ◌≡◌ {A = Option Meant}
+        (if begins (codes "%") line.now then percent_line line.now else definition_in line.now)
+        (Some (definition_of d))) }
+    ensures none { OnErr result (◌≡◌ {A = Option Meant}
+        (if begins (codes "%") line.now then percent_line line.now else definition_in line.now) None) }
 {
     if !line.starts_with(b"%") {
         return definition_in(line);

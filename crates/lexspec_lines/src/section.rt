@@ -34,7 +34,8 @@ pub fn read_section(
 ) -> Result<Section<'_>, SpecError>
     requires { length text.now ≤ max_file_bytes }
     ensures found { IfOk result (λ s. HasSection options text.now s) }
-    ensures none { IfErr result (λ e. UnlessMemory e.kind ((ds : List Meant) (after : List ℕ) → IsUpTo definition_at text.now ds after
+    ensures none { IfErr result (λ e. UnlessMemory e.kind ((ds : List Meant) (after : List ℕ)
+        → IsUpTo definition_at text.now ds after
         → begins (codes "%%") after ≡ true → AreAllowed ds → ⊥)) }
 {
     let mut declarations = Declarations::new(alloc, options)?;

@@ -28,7 +28,8 @@ impl Skipped {
     /// A line of code, which may go on with a run.
     pub fn add_line(&mut self, line: u32) -> Result<(), AllocError>
         requires { line + 1 < 2 ^ 32 }
-        ensures lines { OnOk result (self.new.lines.items ≡ (if next_in self.old == line then self.old.lines.items else self.old.lines.items ++ line ∷ [])) }
+        ensures lines { OnOk result (self.new.lines.items
+            ≡ (if next_in self.old == line then self.old.lines.items else self.old.lines.items ++ line ∷ [])) }
         ensures next { OnOk result (next_in self.new ≡ line + 1) }
     {
         if self.next != line {
