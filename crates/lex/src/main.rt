@@ -11,8 +11,8 @@ use crate::failure::Failure;
 use crate::generating::{Outputs, make, write_warnings_of};
 use crate::reading::{read_spec_file, read_specification, read_table_file};
 use lexkit::{
-    ArgsError, ByteReader, ByteWriter, FromBytes, Job, MAX_POSITIONS, MAX_STATES, Options, Sink,
-    ToWrite, read_args, scan_spec, scan_table, write_fault,
+    ArgsError, ByteReader, ByteWriter, FromBytes, Job, MAX_POSITIONS, MAX_STATES, Options,
+    ReadOptions, Sink, ToWrite, read_args, scan_spec, scan_table, write_fault,
 };
 use std::io::ErrorKind;
 use std::process::ExitCode;
@@ -33,20 +33,11 @@ fn job_of(rt: &HostRuntime) -> Result<Job, ArgsError> {
     read_args(rt.alloc(), words.as_slice())
 }
 
-/// How patterns are read.
-#[derive(Debug, Clone, Copy)]
-struct PatternOptions {
-    /// Letters stand for both cases.
-    fold: bool,
-    /// Intervals apply to series.
-    posix: bool,
-}
-
 /// What a scan goes by.
-#[derive(Debug, Clone, Copy)]
+#[derive(Clone, Copy)]
 enum By<'a> {
     /// The text of a specification, and how it is read.
-    Spec(&'a [u8], PatternOptions),
+    Spec(&'a [u8], ReadOptions),
     /// A table file.
     Table(&'a [u8]),
 }
@@ -75,11 +66,11 @@ fn scan(rt: &HostRuntime, by: By<'_>) -> Result<u8, Failure> {
 }
 
 /// How a specification is read, with the limits of the program.
-fn options_of(options: PatternOptions) -> Options
+fn options_of(options: ReadOptions) -> Options
     ensures few_positions { result.limits.positions ≤ MAX_POSITIONS }
     ensures few_states { result.limits.states ≤ MAX_STATES }
 {
-    let PatternOptions { fold, posix } = options;
+    let ReadOptions { fold, posix } = options;
     Options {
         fold,
         posix,
@@ -107,7 +98,7 @@ fn run(rt: &HostRuntime) -> Result<u8, Failure> {
                 backup,
                 quiet,
             };
-            let options = PatternOptions { fold, posix };
+            let options = ReadOptions { fold, posix };
             make(rt, text.as_slice(), options_of(options), &outputs)?;
             Ok(0)
         }
@@ -117,7 +108,7 @@ fn run(rt: &HostRuntime) -> Result<u8, Failure> {
             posix,
             quiet,
         } => {
-            let options = PatternOptions { fold, posix };
+            let options = ReadOptions { fold, posix };
             let text = read_spec_file(rt, file)?;
             if !quiet {
                 write_warnings_of(rt, text.as_slice(), options_of(options))?;

@@ -82,13 +82,48 @@ impl From<clap::Error> for ArgsError {
 pub fn read_args(alloc: Global, words: &[String]) -> Result<Job, ArgsError>
     ensures { IfOk result IsNamed }
 {
+    if has_value_behind_equals(words) {
+        return Err(ArgsError::Usage);
+    }
     let command = command(alloc)?;
     let matches = command.try_get_matches_from(words)?;
     match (matches.get_str("scan-spec"), matches.get_str("scan-table")) {
         (None, None) => generating(alloc, &matches),
+        _ if has_separator(words) => Err(ArgsError::Usage),
         (Some(file), None) => scanning_by_spec(alloc, &matches, file),
         (None, Some(file)) => scanning_by_table(alloc, &matches, file),
         (Some(_), Some(_)) => Err(ArgsError::Usage),
+    }
+}
+
+/// Whether some word is `--`, behind which each word is a file.
+fn has_separator(words: &[String]) -> bool {
+    words.iter().any(|word| word.as_str() == "--")
+}
+
+/// Whether some word before any `--` has its value behind a sign of equality, as `--scan-spec=FILE` or `-o=FILE`: that is none of
+/// the forms.
+fn has_value_behind_equals(words: &[String]) -> bool {
+    for word in words {
+        let text = word.as_str();
+        if text == "--" {
+            return false;
+        }
+        if (text.starts_with("--") && text.contains('=')) || is_out_with_equals(text.as_bytes()) {
+            return true;
+        }
+    }
+    false
+}
+
+/// Whether the word has flags up to an `o`, and `=` directly behind that.
+fn is_out_with_equals(word: &[u8]) -> bool {
+    if word.first() != Some(&b'-') {
+        return false;
+    }
+    match word.iter().position(|byte| *byte == b'o') {
+        Some(at) => word.get(at + 1) == Some(&b'='),
+        None => false,
     }
 }
 

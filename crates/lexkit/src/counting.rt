@@ -4,9 +4,7 @@ ghost use Rattle.lextab_packed.specs.Views.{table_of};
 ghost use Rattle.lextab_file.specs.File.{file_of};
 ghost use Rattle.lexkit.specs.Counting.{Counts, counts_none, counts_more};
 
-use lex_io::{Sink, WriteFault};
-use lextab_file::write_tables;
-use lextab_packed::Tables;
+use lextab::{Sink, Tables, WriteFault, write_tables};
 
 /// Counts the bytes that are put, while their number fits.
 #[derive(Drop)]

@@ -2,11 +2,10 @@
 
 ghost use Rattle.std.specs.Prelude.{◌≡◌};
 
-use lexauto::BuildError;
-use lexauto_dfa::OutOfMemory;
+use lexauto::{BuildError, OutOfMemory};
 use lexscan::RunError;
 use lexspec::SpecError;
-use lextab_file::TableError;
+use lextab::TableError;
 use thiserror::Error;
 
 /// Why a specification is not scanned with, or why its scan stopped.

@@ -8,11 +8,10 @@ use crate::args::ArgsError;
 use crate::errors::{GenError, ScanError};
 use crate::writing::put_all;
 use itoa::Buffer;
-use lex_io::{Sink, WriteFault};
 use lexauto::BuildError;
 use lexscan::RunError;
 use lexspec::{PatternError, PatternErrorKind, SpecError, SpecErrorKind};
-use lextab_file::TableError;
+use lextab::{Sink, TableError, WriteFault};
 
 /// What ended the program before its work was done.
 #[derive(Clone, Copy, Debug)]

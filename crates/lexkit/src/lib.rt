@@ -17,17 +17,20 @@ pub use args::{ArgsError, Job, read_args};
 pub use errors::{GenError, ScanError};
 pub use faults::{Fault, write_fault};
 pub use laws::file_scans;
-pub use lex_io::{
-    ByteReader, ByteWriter, FromBytes, FromRead, MemorySink, MemorySource, ReadFault, Sink, Source,
-    ToWrite, WriteFault,
-};
 pub use lex_semantics::{MAX_FILE_BYTES, MAX_POSITIONS, MAX_STATES};
-pub use lexauto::{BuildError, Limits};
-pub use lexauto_reports::{BackUp, Warning, write_backup, write_warnings};
-pub use lexscan::RunError;
-pub use lexspec::{PatternError, PatternErrorKind, SpecError, SpecErrorKind};
-pub use lextab_file::{TableError, read_tables, write_tables};
-pub use lextab_packed::Tables;
+pub use lexauto::{BackUp, BuildError, Limits};
+pub use lexauto_reports::{Warning, write_backup, write_warnings};
+pub use lexscan::{
+    ByteReader, FromBytes, FromRead, MemorySource, ReadFault, RunError, Scanner, Source, Turn,
+    Window, run,
+};
+pub use lexspec::{
+    PatternError, PatternErrorKind, ReadOptions, Spec, SpecError, SpecErrorKind, read_spec,
+};
+pub use lextab::{
+    ByteWriter, Cut, EndAction, Flat, Machine, MemorySink, Plain, Sink, Statement, TableError,
+    Tables, ToWrite, WriteFault, read_tables, write_tables,
+};
 pub use making::{Generated, generate};
 pub use options::Options;
 pub use scan::{scan_spec, scan_table};

@@ -7,13 +7,10 @@ ghost use Rattle.lex_semantics.specs.Limits.{max_positions, max_states};
 use crate::errors::GenError;
 use crate::options::Options;
 use crate::stats::{Stats, stats_of};
-use lexauto::{Limits, build};
-use lexauto_dfa::{Dfa, OutOfMemory};
-use lexauto_minimise::minimise;
-use lexauto_reports::{BackUp, Warning, backing_up, useless_rules, warnings};
+use lexauto::{BackUp, Dfa, Limits, OutOfMemory, backing_up, build, minimise, useless_rules};
+use lexauto_reports::{Warning, warnings};
 use lexspec::{ReadOptions, Spec, read_spec, tested_specifications};
-use lextab_packed::Tables;
-use lextab_packing::pack;
+use lextab::{Tables, pack};
 use std::alloc::Global;
 
 /// What is made of a specification.

@@ -8,13 +8,10 @@ ghost use Rattle.lex_semantics.specs.Limits.{max_positions, max_states};
 use crate::errors::{GenError, ScanError};
 use crate::making::least_automaton;
 use crate::options::Options;
-use lex_io::{Sink, Source};
 use lexauto::Limits;
-use lexscan::run;
+use lexscan::{Source, run};
 use lexspec::{ReadOptions, Spec, read_spec};
-use lextab_file::{TableError, read_tables};
-use lextab_packed::Flat;
-use lextab_packing::pack;
+use lextab::{Flat, Sink, TableError, pack, read_tables};
 use std::alloc::Global;
 
 /// How many reads a scan makes at most: 2^40.

@@ -10,10 +10,9 @@ ghost use Rattle.lexkit.specs.Statistics.{stats_lines};
 use crate::counting::file_length;
 use crate::writing::put_all;
 use itoa::Buffer;
-use lex_io::{Sink, WriteFault};
 use lexauto::{Limits, count_positions};
 use lexspec::Spec;
-use lextab_packed::Tables;
+use lextab::{Sink, Tables, WriteFault};
 
 /// The counts that `-v` writes.
 #[derive(Clone, Copy, Debug, PartialEq, Eq)]

@@ -3,7 +3,7 @@ ghost use Rattle.std.specs.Prelude.{◌≡◌, ℕ, ◌+◌, ◌-◌, ◌^◌, �
 ghost use Rattle.lex_io.specs.Sink.{Appended, fault_count};
 ghost use Rattle.lexkit.specs.Joined.{joined};
 
-use lex_io::{Sink, WriteFault};
+use lextab::{Sink, WriteFault};
 
 /// Puts the parts.
 pub(crate) fn put_all<K: Sink>(sink: &mut K, parts: &[&str]) -> Result<(), WriteFault>

@@ -44,8 +44,12 @@ fn reads_jobs(rt: HostRuntime) -> Result<(), Fail> {
             "Generate { files: [\"a\"], out: Some(\"-\"), stdout: false, stats: false, backup: false, fold: false, posix: false, quiet: false }",
         ),
         (
-            &["-to=x"],
-            "Generate { files: [], out: Some(\"x\"), stdout: true, stats: false, backup: false, fold: false, posix: false, quiet: false }",
+            &["-tox=y"],
+            "Generate { files: [], out: Some(\"x=y\"), stdout: true, stats: false, backup: false, fold: false, posix: false, quiet: false }",
+        ),
+        (
+            &["--", "-o=x"],
+            "Generate { files: [\"-o=x\"], out: None, stdout: false, stats: false, backup: false, fold: false, posix: false, quiet: false }",
         ),
         (
             &["-vo", "F"],
@@ -72,7 +76,7 @@ fn reads_jobs(rt: HostRuntime) -> Result<(), Fail> {
             "ScanSpec { file: \"a.l\", fold: false, posix: false, quiet: false }",
         ),
         (
-            &["--scan-spec=a.l", "-w"],
+            &["--scan-spec", "a.l", "-w"],
             "ScanSpec { file: \"a.l\", fold: false, posix: false, quiet: true }",
         ),
         (
@@ -105,6 +109,8 @@ fn refuses_all_else(rt: HostRuntime) -> Result<(), Fail> {
         &["--scan-spec", "a.l", "-t"],
         &["--scan-spec", "a.l", "-o", "b"],
         &["--scan-spec", "a.l", "-h"],
+        &["--scan-spec=a.l"],
+        &["--scan-spec", "a.l", "--"],
         &["--scan-table"],
         &["--scan-table", "-"],
         &["--scan-table", "a", "-i"],
@@ -113,6 +119,10 @@ fn refuses_all_else(rt: HostRuntime) -> Result<(), Fail> {
         &["--scan-table", "a", "-w"],
         &["--scan-table", "a", "b"],
         &["--scan-table", "a", "--scan-table", "b"],
+        &["--scan-table=a"],
+        &["--scan-table", "a", "--"],
+        &["-o=x"],
+        &["-to=x"],
         &["-o"],
         &["-o", "-t"],
         &["-o", "a", "-o", "b"],
