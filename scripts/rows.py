@@ -2,20 +2,33 @@
 """Writes the tables that the tests of lextest_product run: crates/lextest_product/src/examples.rt from examples/, and manual.rt from
 docs/MANUAL.md. A test reads no file, so the texts stand in it once more; run this where either changes, and then `rt fmt`.
 
-    scripts/rows.py          writes both
-    scripts/rows.py --flex   compares the rows of the manual with what flex 2.6.4 writes, by scripts/flex-output.sh
+    scripts/rows.py           writes both
+    scripts/rows.py --check   tells which of the two differ from what it would write, but for the layout, with a status of 1
+    scripts/rows.py --flex    compares the rows of the manual with what flex 2.6.4 writes, by scripts/flex-output.sh
 
-It is no part of the gate."""
+The gate (.ci/run) begins with --check."""
 import re
 import subprocess
 import sys
 import tempfile
 from pathlib import Path
+from typing import NamedTuple
 
 ROOT = Path(__file__).resolve().parent.parent
+TABLES = ROOT / "crates/lextest_product/src"
 PAIR = re.compile(
-    r"(?:`([^`]*)`|Empty input) gives (?:`([^`]*)`|nothing)( with `-i`)?(?: and status (\d+))?"
+    r"(?:`([^`]*)`|Empty input) gives (?:`([^`]*)`|nothing)(?: with `(-[iX])`)?(?: and status (\d+))?"
 )
+
+
+class Scan(NamedTuple):
+    """A scan that the manual shows: a specification, an input, what is written, the status, and the flag that it needs."""
+
+    spec: str
+    given: str
+    written: str
+    status: int = 0
+    flag: str = ""
 
 
 def plain(text):
@@ -43,8 +56,16 @@ def tables(text):
 def blocks(text):
     """Each specification of the manual that stands in a block, with the inputs below it."""
     for spec, below in re.findall(r"^```\n(.*?)^```\n\n(.*?)\n\n", text, re.M | re.S):
-        for given, written, fold, status in PAIR.findall(below):
-            yield spec, plain(given), plain(written), int(status or 0), bool(fold)
+        for given, written, flag, status in PAIR.findall(below):
+            yield Scan(spec, plain(given), plain(written), int(status or 0), flag)
+
+
+def intervals(row):
+    """What an interval stands for, with `-X` and without: each of the texts is matched whole."""
+    rules = "%%\n" + code(row["Pattern"]) + ' printf("X");\n'
+    for column, flag in (("Without `-X`", ""), ("With `-X`", "-X")):
+        texts = re.findall(r"`([^`]*)`", row[column])
+        yield Scan(rules, " ".join(texts), " ".join("X" for _ in texts), flag=flag)
 
 
 def manual(text):
@@ -54,10 +75,12 @@ def manual(text):
         for row in rows:
             if "By flex" in names:
                 whole = lines_of(row["Specification"])
-                others.append((whole, plain(code(row["Input"])), plain(code(row["Written"])), 0, False))
+                others.append(Scan(whole, plain(code(row["Input"])), plain(code(row["Written"]))))
+            elif "With `-X`" in names:
+                scans.extend(intervals(row))
             elif "Example" in names and row["Example"].strip():
                 rules = "%%\n" + lines_of(row["Example"])
-                scans.append((rules, plain(code(row["Input"])), plain(code(row["Written"])), 0, False))
+                scans.append(Scan(rules, plain(code(row["Input"])), plain(code(row["Written"]))))
             elif names[0] == "Line" and len(names) == 3:
                 head = "" if "Specification" in names else "%%\n"
                 refusals.append((head + lines_of(row[names[2]]), code(row["Line"]) + "\n"))
@@ -80,41 +103,61 @@ def table(name, kind, rows, above=""):
     return f"{above}pub(crate) const {name}: &[{kind}] = &[\n{''.join(rows)}];\n"
 
 
-def write_examples():
+def examples():
+    """The text of examples.rt."""
     rows = []
     for spec in sorted(ROOT.glob("examples/*.l")):
         status = spec.with_suffix(".status")
         texts = [spec.with_suffix(end).read_bytes().decode() for end in (".l", ".input", ".output")]
         status = int(status.read_text()) if status.exists() else 0
         rows.append(f"    // {spec.stem}\n" + row([*texts, status]))
-    (ROOT / "crates/lextest_product/src/examples.rt").write_text(
+    return (
         "//! The specifications of `examples/`, with what flex 2.6.4 writes: written by `scripts/rows.py`.\n"
         "use crate::row::Row;\n\n" + table("EXAMPLES", "Row", rows)
     )
 
 
-def write_manual(text):
+def examples_of_manual(text):
+    """The text of manual.rt."""
     scans, others, refusals = manual(text)
-    (ROOT / "crates/lextest_product/src/manual.rt").write_text(
+
+    def with_flag(flag):
+        return [row(scan[:4]) for scan in scans if scan.flag == flag]
+
+    return (
         "//! The examples of docs/MANUAL.md: written by `scripts/rows.py`.\n"
         "use crate::row::{Refusal, Row};\n\n"
-        + table("EXAMPLES", "Row", [row(scan[:4]) for scan in scans if not scan[4]])
-        + table("FOLDED", "Row", [row(scan[:4]) for scan in scans if scan[4]],
-                "\n/// Where letters stand for both cases.\n")
+        + table("EXAMPLES", "Row", with_flag(""))
+        + table("FOLDED", "Row", with_flag("-i"), "\n/// Where letters stand for both cases.\n")
+        + table("SERIES", "Row", with_flag("-X"), "\n/// Where intervals apply to series.\n")
         + table("DIFFERENCES", "Row", [row(other[:4]) for other in others],
                 "\n/// Where flex 2.6.4 does something else.\n")
         + table("REFUSALS", "Refusal", [row(refusal) for refusal in refusals], "\n")
     )
 
 
+def words(code):
+    """The words of a file of the source, without comments and layout."""
+    found = re.findall(r'"(?:[^"\\]|\\.)*"|\w+|[^\s\w]', re.sub(r"(?m)^\s*//.*$", "", code))
+    return [word for word, after in zip(found, [*found[1:], ""]) if word != "," or after not in ")]}"]
+
+
+def check(files):
+    """Tells which files are not what would be written."""
+    stale = [name for name, code in files.items() if words((TABLES / name).read_text()) != words(code)]
+    for name in stale:
+        print(f"{name} is not what scripts/rows.py writes")
+    return 1 if stale else 0
+
+
 def flex(scan):
     """What flex writes for a row, and its status."""
-    spec, given, _, _, fold = scan
+    spec, given, _, _, flag = scan
     with tempfile.TemporaryDirectory() as folder:
         folder = Path(folder)
         (folder / "spec.l").write_text(spec)
         (folder / "input").write_text(given)
-        command = [ROOT / "scripts/flex-output.sh", folder / "spec.l", folder / "input", *(["-i"] if fold else [])]
+        command = [ROOT / "scripts/flex-output.sh", folder / "spec.l", folder / "input", *([flag] if flag else [])]
         done = subprocess.run(command, stdout=subprocess.PIPE, stderr=subprocess.DEVNULL)
         return done.stdout[:200].decode(), done.returncode
 
@@ -122,7 +165,8 @@ def flex(scan):
 def compare(text):
     scans, others, _ = manual(text)
     for scan in scans:
-        if flex(scan) != (scan[2], scan[3]):
+        # flex has the other reading of intervals by another flag, and warns of it.
+        if scan.flag != "-X" and flex(scan) != (scan.written, scan.status):
             print("flex differs:", scan, flex(scan))
     for other in others:
         print("difference:", other[:3], flex(other))
@@ -133,5 +177,8 @@ text = (ROOT / "docs/MANUAL.md").read_text()
 if sys.argv[1:] == ["--flex"]:
     compare(text)
 else:
-    write_examples()
-    write_manual(text)
+    files = {"examples.rt": examples(), "manual.rt": examples_of_manual(text)}
+    if sys.argv[1:] == ["--check"]:
+        sys.exit(check(files))
+    for name, code in files.items():
+        (TABLES / name).write_text(code)

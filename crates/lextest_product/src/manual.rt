@@ -46,6 +46,7 @@ pub(crate) const EXAMPLES: &[Row] = &[
         "XY",
         0,
     ),
+    ("%%\nab{2}  printf(\"X\");\n", "abbabab", "Xabab", 0),
     (
         "%x COMMENT\n%%\n\"/*\"            BEGIN(COMMENT);\n<COMMENT>\"*/\"   BEGIN(INITIAL);\n<COMMENT>.|\\n   ;\n",
         "a/*b*/c/*d",
@@ -180,9 +181,6 @@ pub(crate) const EXAMPLES: &[Row] = &[
     ("%%\nab+ printf(\"X\");\n", "a abb", "a X", 0),
     ("%%\nab? printf(\"X\");\n", "abb", "Xb", 0),
     ("%%\nab{2} printf(\"X\");\n", "abbabab", "Xabab", 0),
-    ("%%\nab{2}c printf(\"X\");\n", "abbc", "X", 0),
-    ("%%\na{2}b{3} printf(\"X\");\n", "aabbb", "X", 0),
-    ("%%\na|bc{2} printf(\"X\");\n", "a bcc", "X X", 0),
     ("%%\na{2,3} printf(\"X\");\n", "aaaa a", "Xa a", 0),
     ("%%\na{2,} printf(\"X\");\n", "a aaaa", "a X", 0),
     ("%%\n(ab)+ printf(\"X\");\n", "abab a", "X a", 0),
@@ -196,6 +194,11 @@ pub(crate) const EXAMPLES: &[Row] = &[
     ),
     ("%%\n[ \\t]+$ ;\n", "a  \nb  ", "a\nb  ", 0),
     ("%%\n^a printf(\"A\");\n", "aa\na", "Aa\nA", 0),
+    ("%%\nab{2} printf(\"X\");\n", "abb", "X", 0),
+    ("%%\nab{2}c printf(\"X\");\n", "abbc", "X", 0),
+    ("%%\na{2}b{3} printf(\"X\");\n", "aabbb", "X", 0),
+    ("%%\na|bc{2} printf(\"X\");\n", "a bcc", "X X", 0),
+    ("%%\n(ab){2} printf(\"X\");\n", "abab", "X", 0),
     ("%%\na\nb ;\n", "abc", "c", 0),
     ("%%\na ECHO; ECHO;\n", "ab", "aab", 0),
     ("%%\na printf(\"1%%\\t\");\n", "ab", "1%\tb", 0),
@@ -232,9 +235,10 @@ pub(crate) const EXAMPLES: &[Row] = &[
 /// Where letters stand for both cases.
 pub(crate) const FOLDED: &[Row] = &[("%%\nif  printf(\"K\");\n", "iF", "K", 0)];
 
-/// With `-X`.
+/// Where intervals apply to series.
 pub(crate) const SERIES: &[Row] = &[
     ("%%\nab{2}  printf(\"X\");\n", "abbabab", "abbX", 0),
+    ("%%\nab{2} printf(\"X\");\n", "abab", "X", 0),
     ("%%\nab{2}c printf(\"X\");\n", "ababc", "X", 0),
     ("%%\na{2}b{3} printf(\"X\");\n", "aabaabaab", "X", 0),
     ("%%\na|bc{2} printf(\"X\");\n", "a bcbc", "X X", 0),
