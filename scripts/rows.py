@@ -81,7 +81,7 @@ def manual(text):
             elif "Example" in names and row["Example"].strip():
                 rules = "%%\n" + lines_of(row["Example"])
                 scans.append(Scan(rules, plain(code(row["Input"])), plain(code(row["Written"]))))
-            elif names[0] == "Line" and len(names) == 3:
+            elif names[0] == "Line" and len(names) in (3, 4):
                 head = "" if "Specification" in names else "%%\n"
                 refusals.append((head + lines_of(row[names[2]]), code(row["Line"]) + "\n"))
     return scans, others, refusals

@@ -170,6 +170,37 @@ pub(crate) const EXAMPLES: &[Row] = &[
         "in C\n",
         0,
     ),
+    (
+        "%%\nif|else|while      printf(\"keyword %s\\n\", yytext);\n[a-z_][a-z0-9_]*   printf(\"name %s\\n\", yytext);\n[0-9]+             printf(\"number %s\\n\", yytext);\n[ \\t\\n]+           ;\n.                  printf(\"sign %s\\n\", yytext);\n",
+        "while x1",
+        "keyword while\nname x1\n",
+        0,
+    ),
+    (
+        "%%\nif|else|while      printf(\"keyword %s\\n\", yytext);\n[a-z_][a-z0-9_]*   printf(\"name %s\\n\", yytext);\n[0-9]+             printf(\"number %s\\n\", yytext);\n[ \\t\\n]+           ;\n.                  printf(\"sign %s\\n\", yytext);\n",
+        "(7",
+        "sign (\nnumber 7\n",
+        0,
+    ),
+    (
+        "%%\n([a-z]|[\\xc2-\\xdf][\\x80-\\xbf]|[\\xe0-\\xef][\\x80-\\xbf]{2})+   printf(\"<%s>\", yytext);\n",
+        "né en été",
+        "<né> <en> <été>",
+        0,
+    ),
+    (
+        "%x INDENT\n%%\n^\"  \"            printf(\">\"); BEGIN(INDENT);\n<INDENT>\"  \"     printf(\">\");\n<INDENT>.|\\n     ECHO; BEGIN(INITIAL);\n",
+        "a\n    b\n",
+        "a\n>>b\n",
+        0,
+    ),
+    (
+        "%%\n[a-z]+   puts(\"word\");\n.|\\n     ;\n",
+        "a bc\nd",
+        "word\nword\nword\n",
+        0,
+    ),
+    ("%%\n^.*secret.*\\n   ;\n", "a\nsecret b\nc\n", "a\nc\n", 0),
     ("%%\na printf(\"X\");\n", "ab", "Xb", 0),
     ("%%\n. printf(\"X\");\n", "ab\n", "XX\n", 0),
     ("%%\n[^a-c] printf(\"X\");\n", "abd", "abX", 0),
@@ -233,7 +264,15 @@ pub(crate) const EXAMPLES: &[Row] = &[
 ];
 
 /// Where letters stand for both cases.
-pub(crate) const FOLDED: &[Row] = &[("%%\nif  printf(\"K\");\n", "iF", "K", 0)];
+pub(crate) const FOLDED: &[Row] = &[
+    ("%%\nif  printf(\"K\");\n", "iF", "K", 0),
+    (
+        "%%\nselect|from   printf(\"<%s>\", yytext);\n[a-z_]+       ECHO;\n",
+        "SELECT a From b",
+        "<SELECT> a <From> b",
+        0,
+    ),
+];
 
 /// Where intervals apply to series.
 pub(crate) const SERIES: &[Row] = &[
@@ -341,4 +380,79 @@ pub(crate) const REFUSALS: &[Refusal] = &[
     ("%%\n*a ;\n", "lex: line 2: MissingOperand at 0\n"),
     ("%%\n(a/b) ;\n", "lex: line 2: MisplacedSlash at 2\n"),
     ("%%\n{x} ;\n", "lex: line 2: UndefinedName at 0\n"),
+    (
+        "%%\n<INITIAL>{\nb ECHO;\n}\n",
+        "lex: line 2: BadInterval at 9\n",
+    ),
+    ("%%\n(?i:ab) ECHO;\n", "lex: line 2: MissingOperand at 1\n"),
+    (
+        "%%\n[a-z]{-}[aeiou] ECHO;\n",
+        "lex: line 2: BadInterval at 5\n",
+    ),
+    (
+        "%%\n[a-z]{+}[0-9] ECHO;\n",
+        "lex: line 2: BadInterval at 5\n",
+    ),
+    (
+        "%%\n[[:^alpha:]] ECHO;\n",
+        "lex: line 2: UnsupportedBracket at 1\n",
+    ),
+    (
+        "%%\n[a-z]+/[ \\t]*= ECHO;\n",
+        "lex: line 2: VariableTrailing\n",
+    ),
+    ("%%\na return TOKEN;\n", "lex: line 2: UnknownStatement\n"),
+    ("%%\na puts(yytext);\n", "lex: line 2: UnknownStatement\n"),
+    (
+        "%%\na fprintf(yyout, \"%s\", yytext);\n",
+        "lex: line 2: UnknownStatement\n",
+    ),
+    (
+        "%%\na fprintf(stderr, \"x\");\n",
+        "lex: line 2: UnknownStatement\n",
+    ),
+    (
+        "%%\na printf(\"x\" \"y\");\n",
+        "lex: line 2: UnknownStatement\n",
+    ),
+    ("%%\n\\n ++lines;\n", "lex: line 2: UnknownStatement\n"),
+    ("%%\na yyless(0);\n", "lex: line 2: BadCount\n"),
+    (
+        "%%\nab yyless(yyleng-1);\n",
+        "lex: line 2: UnknownStatement\n",
+    ),
+    (
+        "%%\na BEGIN(YY_START);\n",
+        "lex: line 2: UnknownCondition\n",
+    ),
+    (
+        "%%\n<<EOF>> BEGIN(INITIAL);\n",
+        "lex: line 2: BadEofAction\n",
+    ),
+    ("%%\na unput('c');\n", "lex: line 2: UnknownStatement\n"),
+    ("%%\na %{ ECHO; %}\n", "lex: line 2: UnknownStatement\n"),
+    (
+        "%%\n/* words */\na ECHO;\n",
+        "lex: line 2: MissingOperand at 0\n",
+    ),
+    (
+        "%option nodefault\n%%\na ECHO;\n",
+        "lex: line 1: UnsupportedOption\n",
+    ),
+    (
+        "%option main\n%%\na ECHO;\n",
+        "lex: line 1: UnsupportedOption\n",
+    ),
+    (
+        "%option warn\n%%\na ECHO;\n",
+        "lex: line 1: UnsupportedOption\n",
+    ),
+    (
+        "%option debug\n%%\na ECHO;\n",
+        "lex: line 1: UnsupportedOption\n",
+    ),
+    (
+        "%top{\nint n;\n}\n%%\na ECHO;\n",
+        "lex: line 1: BadDefinitionLine\n",
+    ),
 ];
