@@ -1,8 +1,8 @@
--- What a `Element` of a class stands for.
+-- What a `ClassItem` of a class stands for.
 use Rattle.lexre_bytes.specs.Lexical.{Element, span, named, unsupported}
-use Rattle.lexre_bytes.specs.declared.class_element.Element.{Element}
+use Rattle.lexre_bytes.specs.declared.class_item.ClassItem.{ClassItem}
 
-abbrev pub element_of : Element → Element
-element_of (Element.Span lo hi) = span lo hi
-element_of (Element.Named letters) = named letters.now
-element_of (Element.Refused fault) = unsupported
+abbrev pub element_of : ClassItem → Element
+element_of (ClassItem.Span lo hi) = span lo hi
+element_of (ClassItem.Named letters) = named letters.now
+element_of (ClassItem.Refused fault) = unsupported

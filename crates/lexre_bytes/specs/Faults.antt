@@ -2,7 +2,7 @@
 use Rattle.std.specs.Prelude.{⊤}
 use Rattle.lexre_bytes.specs.declared.error.PatternErrorKind.{PatternErrorKind}
 use Rattle.lexre_bytes.specs.declared.error.PatternErrorKind.TheVariants.{UnclosedClass, BadRange, EmptyClass, UnknownClassName, UnsupportedBracket, BadEscape}
-use Rattle.lexre_bytes.specs.declared.class_element.Element.{Element}
+use Rattle.lexre_bytes.specs.declared.class_item.ClassItem.{ClassItem}
 
 -- the class is not closed, or an escape in it is none
 abbrev pub IsByteFault : PatternErrorKind → Type 0
@@ -27,7 +27,7 @@ IsClassFault BadEscape = ⊤
 IsClassFault _ = ⊥
 
 -- an element that may not stand in a class has a fault that says why
-abbrev pub HasPartFault : Element → Type 0
-HasPartFault (Element.Span low high) = ⊤
-HasPartFault (Element.Named letters) = ⊤
-HasPartFault (Element.Refused fault) = IsPartFault fault.kind
+abbrev pub HasPartFault : ClassItem → Type 0
+HasPartFault (ClassItem.Span low high) = ⊤
+HasPartFault (ClassItem.Named letters) = ⊤
+HasPartFault (ClassItem.Refused fault) = IsPartFault fault.kind

@@ -6,26 +6,26 @@ ghost use Rattle.lexre_bytes.specs.Faults.{IsByteFault, HasPartFault};
 ghost use Rattle.lexre_bytes.specs.Stops.{stop_of};
 
 use crate::brackets::{class_byte_at, named_at, next_stop, skip_unsupported};
-use crate::class_element::Element;
+use crate::class_item::ClassItem;
 use crate::error::{FaultAt, PatternErrorKind};
 
 /// `[:name:]`, or what is like it and not supported, and what follows it. `stop` is the text from its first `]` or newline on.
 #[tactic(auto, unfolding(crate::specs::Lexical::bracketed_at))]
-fn bracketed_at<'a>(text: &'a [u8], stop: &[u8]) -> Option<(Element<'a>, &'a [u8])>
+fn bracketed_at<'a>(text: &'a [u8], stop: &[u8]) -> Option<(ClassItem<'a>, &'a [u8])>
     requires { stop.now ≡ stop_of text.now }
     ensures found { ◌≡◌ {A = Option (Element
         × List ℕ)} (bracketed_at text.now) (option_map (λ x. (element_of x.0, x.1.now)) result) }
     ensures refused { IfSome result (λ x. HasPartFault x.0) }
 {
     if let Some((letters, rest)) = named_at(text) {
-        return Some((Element::Named(letters), rest));
+        return Some((ClassItem::Named(letters), rest));
     }
     let rest = skip_unsupported(text, stop)?;
     let fault = FaultAt {
         kind: PatternErrorKind::UnsupportedBracket,
         rest: text,
     };
-    Some((Element::Refused(fault), rest))
+    Some((ClassItem::Refused(fault), rest))
 }
 
 /// Whether a range goes on here: a `-` that is followed by anything but an unescaped `]`.
@@ -48,7 +48,7 @@ fn range_at<'a>(
     low: u8,
     text: &'a [u8],
     stop: &'a [u8],
-) -> Result<(Element<'a>, &'a [u8]), FaultAt<'a>>
+) -> Result<(ClassItem<'a>, &'a [u8]), FaultAt<'a>>
     requires { length stop.now ≤ length text.now → stop.now ≡ stop_of text.now }
     ensures found { MatchResult result
         (λ x. ◌≡◌ {A = Option (Element × List ℕ)} (range_at low text.now) (Some (element_of x.0, x.1.now)))
@@ -57,23 +57,23 @@ fn range_at<'a>(
     ensures fault { IfErr result (λ f. IsByteFault f.kind) }
 {
     match bracketed_at(text, next_stop(stop, text)) {
-        Some((Element::Named(_), rest)) => {
+        Some((ClassItem::Named(_), rest)) => {
             let fault = FaultAt {
                 kind: PatternErrorKind::BadRange,
                 rest: range,
             };
-            Ok((Element::Refused(fault), rest))
+            Ok((ClassItem::Refused(fault), rest))
         }
         Some((_, rest)) => {
             let fault = FaultAt {
                 kind: PatternErrorKind::UnsupportedBracket,
                 rest: text,
             };
-            Ok((Element::Refused(fault), rest))
+            Ok((ClassItem::Refused(fault), rest))
         }
         None => {
             let (high, rest) = class_byte_at(class, text)?;
-            Ok((Element::Span(low, high), rest))
+            Ok((ClassItem::Span(low, high), rest))
         }
     }
 }
@@ -85,7 +85,7 @@ pub(crate) fn element_at<'a>(
     class: &'a [u8],
     text: &'a [u8],
     stop: &'a [u8],
-) -> Result<(Element<'a>, &'a [u8]), FaultAt<'a>>
+) -> Result<(ClassItem<'a>, &'a [u8]), FaultAt<'a>>
     requires { stop.now ≡ stop_of text.now }
     ensures found { MatchResult result
         (λ x. ◌≡◌ {A = Option (Element × List ℕ)} (element_at text.now) (Some (element_of x.0, x.1.now)))
@@ -99,6 +99,6 @@ pub(crate) fn element_at<'a>(
     let (low, rest) = class_byte_at(class, text)?;
     match rest.split_first() {
         Some((_, after)) if is_range(rest) => range_at(class, text, low, after, stop),
-        _ => Ok((Element::Span(low, low), rest)),
+        _ => Ok((ClassItem::Span(low, low), rest)),
     }
 }

@@ -7,7 +7,7 @@ ghost use Rattle.lexre_bytes.specs.Lexical.{folded};
 ghost use Rattle.lexre_bytes.specs.Stops.{stop_of};
 
 use crate::brackets::{find_stop, next_stop};
-use crate::class_element::Element;
+use crate::class_item::ClassItem;
 use crate::elements::element_at;
 use crate::error::{FaultAt, PatternErrorKind};
 use crate::fronts::{skip_first, skip_word};
@@ -39,7 +39,7 @@ fn member_at<'a>(
 {
     let (part, rest) = element_at(class, text, stop)?;
     match part {
-        Element::Span(low, high) => {
+        ClassItem::Span(low, high) => {
             if low > high {
                 return Err(FaultAt {
                     kind: PatternErrorKind::BadRange,
@@ -48,14 +48,14 @@ fn member_at<'a>(
             }
             Ok((span(low, high), rest))
         }
-        Element::Named(name) => {
+        ClassItem::Named(name) => {
             let set = ByteSet::named(name).ok_or(FaultAt {
                 kind: PatternErrorKind::UnknownClassName,
                 rest: text,
             })?;
             Ok((set, rest))
         }
-        Element::Refused(fault) => Err(fault),
+        ClassItem::Refused(fault) => Err(fault),
     }
 }
 

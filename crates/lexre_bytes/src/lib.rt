@@ -3,7 +3,7 @@
 #![tactic(auto)]
 
 mod brackets;
-mod class_element;
+mod class_item;
 mod classes;
 mod digits;
 mod elements;

@@ -3,7 +3,7 @@ use crate::error::FaultAt;
 
 /// An element of a class.
 #[derive(Clone, Copy)]
-pub enum Element<'a> {
+pub enum ClassItem<'a> {
     /// The bytes from the first to the second.
     Span(u8, u8),
     /// `[:name:]`.
