@@ -14,16 +14,16 @@ use Rattle.lex_semantics.specs.Trail.{falling}
 use Rattle.lexscan.specs.declared.back.Settled.{Settled}
 use Rattle.lexscan.specs.declared.memo.Mark.{Mark}
 use Rattle.lexscan.specs.declared.state.Reading.{Reading}
-use Rattle.lexscan.specs.declared.state.Spot.{Spot}
+use Rattle.lexscan.specs.declared.state.TextPlace.{TextPlace}
 use Rattle.lexscan.specs.declared.state.State.{State}
 use Rattle.lexscan.specs.declared.turn.Turn.{Turn}
 use Rattle.lexscan.specs.declared.error.RunError.{RunError}
 use Rattle.lexscan.specs.declared.error.RunError.TheVariants.{Stack}
 use Rattle.lexscan.specs.Reads.{Took}
-use Rattle.lexscan.specs.Sees.{SoFar, Saw}
-use Rattle.lexscan.specs.Picks.{trail_of, state_at}
+use Rattle.lexscan.specs.Looks.{SoFar, Looked}
+use Rattle.lexscan.specs.Picks.{path_of, state_at}
 use Rattle.lexscan.specs.Descends.{Conditions, conditions_at, matches_of, ending_of, Performed, CutAll, Faulted}
-use Rattle.lexscan.specs.Moves.{Acted, Moved, Untouched, left_bytes, stays, is_over}
+use Rattle.lexscan.specs.Moves.{MatchLeft, Acted, Moved, Untouched, left_bytes, stays, is_over}
 use Rattle.lexscan.specs.Memos.{Barren, IsTrueMark, AreTrue, unmarked}
 use Rattle.lexscan.specs.Backs.{IsSettled}
 use Rattle.lexscan.proofs.Growing.{clash, step_more}
@@ -101,7 +101,7 @@ true_moved M gave wrote s s' t t' old new ms (Ok turn) (inl m) h = λ x a.
     true_left M m.mid new.reading (stays m.acted.acting.more (is_over m.acted.ended)) m.acted.acting.end x m.acted.inside m.acted.left.held m.acted.same.taken m.acted.same.at_end
     (true_grown M gave s s' old.reading m.mid x m.took (h x a))
 true_moved M gave wrote s s' t t' old new ms (Ok turn) (inr m) h = λ x a.
-    true_dropped M m.mid new.reading old.spot.at x (omega (arith, m.saw.all)) m.left.held m.left.same.taken m.left.same.at_end (true_grown M gave s s' old.reading m.mid x m.took (h x a))
+    true_dropped M m.mid new.reading old.place.at x (omega (arith, m.looked.all)) m.left.held m.left.same.taken m.left.same.at_end (true_grown M gave s s' old.reading m.mid x m.took (h x a))
 true_moved M gave wrote s s' t t' old new ms (Err e) m h = tt
 
 -- several turns in one go keep marks true: the window grows by the bytes asked for, and those that are done with are dropped
@@ -135,7 +135,7 @@ true_burst M old new text bytes ahead given h shown asked done ms size same ahea
     true_further M old new bytes (take (asked - h) ahead) (asked - h) done ms same (length-take-le (asked - h) ahead (omega (arith, whole, there, all, high))) (omega (arith, order, low, there)) held taken unended t
 
 -- a walk that is known from a place on, back to the last state that accepts
-module _ (M : Machine) (p : Spot) (w : List ℕ) (e : Bool) where
+module _ (M : Machine) (p : TextPlace) (w : List ℕ) (e : Bool) where
   abbrev BarrenFrom : ℕ → Type 0
   BarrenFrom k = Barren M e (state_at M p w k) (drop (p.at + k) w)
 
@@ -158,9 +158,9 @@ module _ (M : Machine) (p : Spot) (w : List ℕ) (e : Bool) where
       (barren_before m (k + 1) (omega (arith, le)) (λ j lt to. none j (omega (arith, lt)) (omega (arith, to))) (subst BarrenFrom same h))
 
 -- What a walk over the bytes held has shown so far.
-pub record LookedAt (M : Machine) (states : ℕ) (p : Spot) (r : Reading) (len state before : ℕ) (a : Settled) : Type 0 where
+pub record LookedAt (M : Machine) (states : ℕ) (p : TextPlace) (r : Reading) (len state before : ℕ) (a : Settled) : Type 0 where
   pub inside : p.at + len ≤ length r.window.bytes
-  pub so_far : SoFar M p (drop p.at r.window.bytes) len state (trail_of M p r.window.bytes len)
+  pub so_far : SoFar M p (drop p.at r.window.bytes) len state (path_of M p r.window.bytes len)
   pub before_is : 1 ≤ len → before ≡ state_at M p r.window.bytes (len - 1)
   pub state_known : state < states
   pub before_known : before < states
@@ -173,7 +173,7 @@ pub record LookedAt (M : Machine) (states : ℕ) (p : Spot) (r : Reading) (len s
   pub kept_before_known : a.before < states
   pub none : (k : ℕ) → a.keep < k → k ≤ len → M.accepts (state_at M p r.window.bytes k) ≡ []
 
-pub looked_more : (M : Machine) (states : ℕ) (p : Spot) (r : Reading) (len state before s : ℕ) (a b : Settled) → LookedAt M states p r len state before a → (1 ≤ len → M.goes_on state ≡ true) → p.at + len < length r.window.bytes →
+pub looked_more : (M : Machine) (states : ℕ) (p : TextPlace) (r : Reading) (len state before s : ℕ) (a b : Settled) → LookedAt M states p r len state before a → (1 ≤ len → M.goes_on state ≡ true) → p.at + len < length r.window.bytes →
     s ≡ M.next state (get_or r.window.bytes (p.at + len) 0) → s < states → (silent : Bool) → (silent ≡ true → M.accepts s ≡ []) → b.len ≡ len + 1 →
     ((b.keep ≡ len + 1) × (b.state ≡ s) × (b.before ≡ state)) ⊎ ((b.keep ≡ a.keep) × (b.state ≡ a.state) × (b.before ≡ a.before) × (0 < a.keep) × (silent ≡ true)) → LookedAt M states p r (len + 1) s state b
 looked_more M states p r len state before s a b h live lt stepped known silent quiet sized kept = record {
@@ -198,11 +198,11 @@ looked_more M states p r len state before s a b h live lt stepped known silent q
     le : p.at ≤ length w
     le = omega (arith, lt)
 
-    next : SoFar M p (drop p.at w) (len + 1) s (trail_of M p w len ++ s ∷ [])
-    next = step_more M p w w [] len state s (trail_of M p w len) (trail_of M p w len ++ s ∷ []) le (sym (append-nil w)) lt h.so_far live stepped refl
+    next : SoFar M p (drop p.at w) (len + 1) s (path_of M p w len ++ s ∷ [])
+    next = step_more M p w w [] len state s (path_of M p w len) (path_of M p w len ++ s ∷ []) le (sym (append-nil w)) lt h.so_far live stepped refl
 
-    so_far_next : SoFar M p (drop p.at w) (len + 1) s (trail_of M p w (len + 1))
-    so_far_next = subst (λ t. SoFar M p (drop p.at w) (len + 1) s t) next.trail_is next
+    so_far_next : SoFar M p (drop p.at w) (len + 1) s (path_of M p w (len + 1))
+    so_far_next = subst (λ t. SoFar M p (drop p.at w) (len + 1) s t) next.path_is next
 
     Kept : Type 0
     Kept = ((b.keep ≡ len + 1) × (b.state ≡ s) × (b.before ≡ state)) ⊎ ((b.keep ≡ a.keep) × (b.state ≡ a.state) × (b.before ≡ a.before) × (0 < a.keep) × (silent ≡ true))
@@ -242,16 +242,16 @@ looked_more M states p r len state before s a b h live lt stepped known silent q
     ]
 
 -- the front of what was seen so far
-so_far_front : (M : Machine) (p : Spot) (w : List ℕ) (len keep state : ℕ) → keep ≤ len → state ≡ state_at M p w keep → (s : ℕ) → SoFar M p (drop p.at w) len s (trail_of M p w len) → SoFar M p (drop p.at w) keep state (trail_of M p w keep)
+so_far_front : (M : Machine) (p : TextPlace) (w : List ℕ) (len keep state : ℕ) → keep ≤ len → state ≡ state_at M p w keep → (s : ℕ) → SoFar M p (drop p.at w) len s (path_of M p w len) → SoFar M p (drop p.at w) keep state (path_of M p w keep)
 so_far_front M p w len keep state le is s h = record {
   inside = (let i = h.inside in omega (arith, i, le));
   state_is = is;
   asked = λ i some lt. h.asked i some (omega (arith, lt, le));
-  trail_is = refl;
+  path_is = refl;
 }
 
 -- it shows where the longest text ends
-pub settled_at : (M : Machine) (states : ℕ) (p : Spot) (r : Reading) (len state before : ℕ) (a : Settled) → LookedAt M states p r len state before a → 1 ≤ len → Barren M r.at_end state (drop (p.at + len) r.window.bytes) →
+pub settled_at : (M : Machine) (states : ℕ) (p : TextPlace) (r : Reading) (len state before : ℕ) (a : Settled) → LookedAt M states p r len state before a → 1 ≤ len → Barren M r.at_end state (drop (p.at + len) r.window.bytes) →
     IsSettled M states p r a
 settled_at M states p r len state before a h one barren = record {
   some = h.some one;
@@ -266,46 +266,46 @@ settled_at M states p r len state before a h one barren = record {
 }
 
 -- what a match sees after a place from which the walk is barren
-record Further (M : Machine) (p : Spot) (r : Reading) (k : ℕ) : Type 0 where
+record Further (M : Machine) (p : TextPlace) (r : Reading) (k : ℕ) : Type 0 where
   reach : ℕ
-  saw : Saw M p r r (trail_of M p r.window.bytes reach)
-  same : falling M 0 (trail_of M p r.window.bytes k) ≡ falling M 0 (trail_of M p r.window.bytes reach)
+  looked : Looked M p r r (path_of M p r.window.bytes reach)
+  same : falling M 0 (path_of M p r.window.bytes k) ≡ falling M 0 (path_of M p r.window.bytes reach)
 
 more_left : (w : List ℕ) (n x : ℕ) (rest : List ℕ) → drop n w ≡ x ∷ rest → n < length w
 more_left w n x rest is =
     let some : length (drop n w) ≡ suc (length rest) = ap length is in
     omega (arith, some, length-drop n w)
 
-first_left : (M : Machine) (p : Spot) (w : List ℕ) (e : Bool) (k x : ℕ) (rest : List ℕ) → p.at + k < length w → drop (p.at + k) w ≡ x ∷ rest → get_or w (p.at + k) 0 ≡ x
+first_left : (M : Machine) (p : TextPlace) (w : List ℕ) (e : Bool) (k x : ℕ) (rest : List ℕ) → p.at + k < length w → drop (p.at + k) w ≡ x ∷ rest → get_or w (p.at + k) 0 ≡ x
 first_left M p w e k x rest lt is = ap (λ l. get_or l 0 0) (sym (split M p w e k lt) ∙ is)
 
-rest_left : (M : Machine) (p : Spot) (w : List ℕ) (e : Bool) (k x : ℕ) (rest : List ℕ) → p.at + k < length w → drop (p.at + k) w ≡ x ∷ rest → drop (p.at + (k + 1)) w ≡ rest
+rest_left : (M : Machine) (p : TextPlace) (w : List ℕ) (e : Bool) (k x : ℕ) (rest : List ℕ) → p.at + k < length w → drop (p.at + k) w ≡ x ∷ rest → drop (p.at + (k + 1)) w ≡ rest
 rest_left M p w e k x rest lt is = ap (λ l. drop 1 l) (sym (split M p w e k lt) ∙ is)
 
-so_far_next : (M : Machine) (p : Spot) (w : List ℕ) (k s x : ℕ) → p.at ≤ length w → p.at + k < length w → SoFar M p (drop p.at w) k s (trail_of M p w k) → M.goes_on s ≡ true → get_or w (p.at + k) 0 ≡ x →
-    SoFar M p (drop p.at w) (k + 1) (M.next s x) (trail_of M p w (k + 1))
+so_far_next : (M : Machine) (p : TextPlace) (w : List ℕ) (k s x : ℕ) → p.at ≤ length w → p.at + k < length w → SoFar M p (drop p.at w) k s (path_of M p w k) → M.goes_on s ≡ true → get_or w (p.at + k) 0 ≡ x →
+    SoFar M p (drop p.at w) (k + 1) (M.next s x) (path_of M p w (k + 1))
 so_far_next M p w k s x le lt h live byte =
-    let next : SoFar M p (drop p.at w) (k + 1) (M.next s x) (trail_of M p w k ++ M.next s x ∷ []) =
-    step_more M p w w [] k s (M.next s x) (trail_of M p w k) (trail_of M p w k ++ M.next s x ∷ []) le (sym (append-nil w)) lt h (λ _. live) (ap (M.next s) (sym byte)) refl in
-    subst (λ t. SoFar M p (drop p.at w) (k + 1) (M.next s x) t) next.trail_is next
+    let next : SoFar M p (drop p.at w) (k + 1) (M.next s x) (path_of M p w k ++ M.next s x ∷ []) =
+    step_more M p w w [] k s (M.next s x) (path_of M p w k) (path_of M p w k ++ M.next s x ∷ []) le (sym (append-nil w)) lt h (λ _. live) (ap (M.next s) (sym byte)) refl in
+    subst (λ t. SoFar M p (drop p.at w) (k + 1) (M.next s x) t) next.path_is next
 
-further_back : (M : Machine) (p : Spot) (r : Reading) (k : ℕ) → M.accepts (state_at M p r.window.bytes (k + 1)) ≡ [] → p.at + k < length r.window.bytes → Further M p r (k + 1) → Further M p r k
+further_back : (M : Machine) (p : TextPlace) (r : Reading) (k : ℕ) → M.accepts (state_at M p r.window.bytes (k + 1)) ≡ [] → p.at + k < length r.window.bytes → Further M p r (k + 1) → Further M p r k
 further_back M p r k none lt after = record {
   reach = after.reach;
-  saw = after.saw;
-  same = sym (falling_more M p r.window.bytes k lt ∙ ap (λ l. filter_map (match_of M (k + 1)) l ++ falling M 0 (trail_of M p r.window.bytes k)) none) ∙ after.same;
+  looked = after.looked;
+  same = sym (falling_more M p r.window.bytes k lt ∙ ap (λ l. filter_map (match_of M (k + 1)) l ++ falling M 0 (path_of M p r.window.bytes k)) none) ∙ after.same;
 }
 
-further : (M : Machine) (p : Spot) (r : Reading) → p.at ≤ length r.window.bytes → (rest : List ℕ) (k s : ℕ) (b : Bool) → M.goes_on s ≡ b → drop (p.at + k) r.window.bytes ≡ rest → 1 ≤ k →
-    SoFar M p (drop p.at r.window.bytes) k s (trail_of M p r.window.bytes k) → Barren M r.at_end s rest → Further M p r k
+further : (M : Machine) (p : TextPlace) (r : Reading) → p.at ≤ length r.window.bytes → (rest : List ℕ) (k s : ℕ) (b : Bool) → M.goes_on s ≡ b → drop (p.at + k) r.window.bytes ≡ rest → 1 ≤ k →
+    SoFar M p (drop p.at r.window.bytes) k s (path_of M p r.window.bytes k) → Barren M r.at_end s rest → Further M p r k
 further M p r le rest k s false stop is some h barren = record {
   reach = k;
-  saw = record { reach = k; some = some; state = s; so_far = h; size = (let i = h.inside in omega (arith, i, length-drop p.at r.window.bytes, le)); stops = inl (stop, refl) };
+  looked = record { reach = k; some = some; state = s; so_far = h; size = (let i = h.inside in omega (arith, i, length-drop p.at r.window.bytes, le)); stops = inl (stop, refl) };
   same = refl;
 }
 further M p r le [] k s true live is some h barren = record {
   reach = k;
-  saw = record {
+  looked = record {
     reach = k;
     some = some;
     state = s;
@@ -319,16 +319,16 @@ further M p r le (x ∷ rest) k s true live is some h barren =
     let lt : p.at + k < length r.window.bytes = more_left r.window.bytes (p.at + k) x rest is in
     let byte : get_or r.window.bytes (p.at + k) 0 ≡ x = first_left M p r.window.bytes r.at_end k x rest lt is in
     let left : drop (p.at + (k + 1)) r.window.bytes ≡ rest = rest_left M p r.window.bytes r.at_end k x rest lt is in
-    let next : SoFar M p (drop p.at r.window.bytes) (k + 1) (M.next s x) (trail_of M p r.window.bytes (k + 1)) = so_far_next M p r.window.bytes k s x le lt h live byte in
+    let next : SoFar M p (drop p.at r.window.bytes) (k + 1) (M.next s x) (path_of M p r.window.bytes (k + 1)) = so_far_next M p r.window.bytes k s x le lt h live byte in
     further_back M p r k (ap M.accepts (sym next.state_is) ∙ (barren live).0) lt
     (further M p r le rest (k + 1) (M.next s x) (M.goes_on (M.next s x)) refl left (omega arith) next (barren live).1)
 
 -- the same matches
-module _ {K : Type 0} (M : Machine) (wrote : K → List ℕ → K → Type 0) (t t' : K) (r : Reading) (p : Spot) (c : Conditions) (trail trail' : List ℕ) (same : falling M 0 trail ≡ falling M 0 trail') where
-  all_same : matches_of M r.window.bytes p.at trail ≡ matches_of M r.window.bytes p.at trail'
+module _ {K : Type 0} (M : Machine) (wrote : K → List ℕ → K → Type 0) (t t' : K) (r : Reading) (p : TextPlace) (c : Conditions) (path path' : List ℕ) (same : falling M 0 path ≡ falling M 0 path') where
+  all_same : matches_of M r.window.bytes p.at path ≡ matches_of M r.window.bytes p.at path'
   all_same = ap (λ ms. ms ++ default_match M.count (drop p.at r.window.bytes)) same
 
-  acted_same : (new : State) (result : Result Turn RunError) → IfOk result (λ turn. Acted M wrote t t' r p c trail new turn) → IfOk result (λ turn. Acted M wrote t t' r p c trail' new turn)
+  acted_same : (new : State) (result : Result Turn RunError) → IfOk result (λ turn. Acted M wrote t t' r p c path new turn) → IfOk result (λ turn. Acted M wrote t t' r p c path' new turn)
   acted_same new (Ok turn) a = record {
     acting = a.acting;
     ended = a.ended;
@@ -341,10 +341,10 @@ module _ {K : Type 0} (M : Machine) (wrote : K → List ℕ → K → Type 0) (t
   }
   acted_same new (Err e) a = a
 
-  cut_same : (result : Result Turn RunError) → OnErr result (CutAll M wrote t t' r.window.bytes p.at (matches_of M r.window.bytes p.at trail) c) → OnErr result (CutAll M wrote t t' r.window.bytes p.at (matches_of M r.window.bytes p.at trail') c)
+  cut_same : (result : Result Turn RunError) → OnErr result (CutAll M wrote t t' r.window.bytes p.at (matches_of M r.window.bytes p.at path) c) → OnErr result (CutAll M wrote t t' r.window.bytes p.at (matches_of M r.window.bytes p.at path') c)
   cut_same result h = subst (λ ms. OnErr result (CutAll M wrote t t' r.window.bytes p.at ms c)) all_same h
 
-  fault_same : Faulted M wrote t t' r.window.bytes p.at (matches_of M r.window.bytes p.at trail) c → Faulted M wrote t t' r.window.bytes p.at (matches_of M r.window.bytes p.at trail') c
+  fault_same : Faulted M wrote t t' r.window.bytes p.at (matches_of M r.window.bytes p.at path) c → Faulted M wrote t t' r.window.bytes p.at (matches_of M r.window.bytes p.at path') c
   fault_same h = subst (λ ms. Faulted M wrote t t' r.window.bytes p.at ms c) all_same h
 
 -- nothing was taken
@@ -361,25 +361,32 @@ took_none gave s r none = record {
 }
 
 -- a match whose longest text is known from the bytes held
-pub settled_moved : {S K : Type 0} (M : Machine) (states : ℕ) (gave : S → List ℕ → S → Type 0) (wrote : K → List ℕ → K → Type 0) (s : S) (t t' : K) (old new : State) (a : Settled) (result : Result Turn RunError) →
-    gave s [] s → IsSettled M states old.spot old.reading a →
-    IfOk result (λ turn. Acted M wrote t t' old.reading old.spot (conditions_at old) (trail_of M old.spot old.reading.window.bytes a.keep) new turn) →
-    OnErr result (CutAll M wrote t t' old.reading.window.bytes old.spot.at (matches_of M old.reading.window.bytes old.spot.at (trail_of M old.spot old.reading.window.bytes a.keep)) (conditions_at old)) →
-    (IsErrOf result Stack → Faulted M wrote t t' old.reading.window.bytes old.spot.at (matches_of M old.reading.window.bytes old.spot.at (trail_of M old.spot old.reading.window.bytes a.keep)) (conditions_at old)) →
-    OnErr result (Untouched old new) → Moved M gave wrote s s t t' old new result
-settled_moved M states gave wrote s t t' old new a result none h acted cut fault same =
-    matched_moved M gave wrote s s t t' old old.reading new (took_none gave s old.reading none) (trail_of M old.spot old.reading.window.bytes far.reach) result far.saw
-    (acted_same M wrote t t' old.reading old.spot (conditions_at old) (trail_of M old.spot old.reading.window.bytes a.keep) (trail_of M old.spot old.reading.window.bytes far.reach) far.same new result acted)
-    (cut_same M wrote t t' old.reading old.spot (conditions_at old) (trail_of M old.spot old.reading.window.bytes a.keep) (trail_of M old.spot old.reading.window.bytes far.reach) far.same result cut)
-    (λ is. fault_same M wrote t t' old.reading old.spot (conditions_at old) (trail_of M old.spot old.reading.window.bytes a.keep) (trail_of M old.spot old.reading.window.bytes far.reach) far.same (fault is)) same
+pub settled_moved : {S K : Type 0} (M : Machine) (states : ℕ) (gave : S → List ℕ → S → Type 0) (wrote : K → List ℕ → K → Type 0) (fails : K → ℕ) (s : S) (t t' : K) (live : Bool) (old new : State) (a : Settled) (result : Result Turn RunError) →
+    gave s [] s → IsSettled M states old.place old.reading a → MatchLeft M wrote fails t t' live old new (path_of M old.place old.reading.window.bytes a.keep) result → Moved M gave wrote s s t t' old new result
+settled_moved M states gave wrote fails s t t' live old new a result none h left =
+    let short : List ℕ = path_of M old.place old.reading.window.bytes a.keep in
+    let long : List ℕ = path_of M old.place old.reading.window.bytes far.reach in
+    matched_moved M gave wrote s s t t' old old.reading new (took_none gave s old.reading none) fails live long result far.looked
+    (record {
+      acted = acted_same M wrote t t' old.reading old.place (conditions_at old) short long far.same new result left.acted;
+      going = left.going;
+      cut_off = cut_same M wrote t t' old.reading old.place (conditions_at old) short long far.same result left.cut_off;
+      fault = λ is. fault_same M wrote t t' old.reading old.place (conditions_at old) short long far.same (left.fault is);
+      unchanged = left.unchanged;
+      refusals = left.refusals;
+      write_faults = left.write_faults;
+      may_write = left.may_write;
+      failed = left.failed;
+      max_reads = left.max_reads;
+    })
   where
-    kept : a.state ≡ state_at M old.spot old.reading.window.bytes a.keep
+    kept : a.state ≡ state_at M old.place old.reading.window.bytes a.keep
     kept = h.so_far.state_is
 
-    far : Further M old.spot old.reading a.keep
+    far : Further M old.place old.reading a.keep
     far =
-        further M old.spot old.reading (omega (arith, h.inside)) (drop (old.spot.at + a.keep) old.reading.window.bytes) a.keep a.state (M.goes_on a.state) refl refl h.some h.so_far
-        (subst (λ q. Barren M old.reading.at_end q (drop (old.spot.at + a.keep) old.reading.window.bytes)) (sym kept) (h.barren a.keep (omega arith) h.order))
+        further M old.place old.reading (omega (arith, h.inside)) (drop (old.place.at + a.keep) old.reading.window.bytes) a.keep a.state (M.goes_on a.state) refl refl h.some h.so_far
+        (subst (λ q. Barren M old.reading.at_end q (drop (old.place.at + a.keep) old.reading.window.bytes)) (sym kept) (h.barren a.keep (omega arith) h.order))
 
 pub none_in : (l : List ℕ) (b : Bool) → b ≡ (length l == 0) → b ≡ true → l ≡ []
 none_in l b e is = nil_from_length l (eqb-true (length l) 0 (sym e ∙ is))
@@ -400,10 +407,10 @@ pub none_left : (w : List ℕ) (n : ℕ) → length w ≤ n → drop n w ≡ []
 none_left w n le = nil_from_length (drop n w) (omega (arith, length-drop n w, le))
 
 -- before the first byte
-pub looked_first : (M : Machine) (states : ℕ) (p : Spot) (r : Reading) (s : ℕ) → p.at ≤ length r.window.bytes → s ≡ M.start p.condition p.line_start → s < states → LookedAt M states p r 0 s s (record { keep = 0; state = s; before = s; len = 0 })
+pub looked_first : (M : Machine) (states : ℕ) (p : TextPlace) (r : Reading) (s : ℕ) → p.at ≤ length r.window.bytes → s ≡ M.start p.condition p.line_start → s < states → LookedAt M states p r 0 s s (record { keep = 0; state = s; before = s; len = 0 })
 looked_first M states p r s le is known = record {
   inside = omega (arith, le);
-  so_far = record { inside = omega arith; state_is = is; asked = λ i some lt. absurd (omega (arith, some, lt)); trail_is = refl };
+  so_far = record { inside = omega arith; state_is = is; asked = λ i some lt. absurd (omega (arith, some, lt)); path_is = refl };
   before_is = λ some. absurd (omega (arith, some));
   state_known = known;
   before_known = known;

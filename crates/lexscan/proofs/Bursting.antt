@@ -20,19 +20,19 @@ use Rattle.lex_machine.specs.declared.glance.Gist.TheVariants.{Any, NoRule, Sile
 use Rattle.lex_machine.specs.Glances.{Leads, FirstDoes, Gists}
 use Rattle.lexscan.specs.declared.state.State.{State}
 use Rattle.lexscan.specs.declared.state.Reading.{Reading}
-use Rattle.lexscan.specs.declared.state.Spot.{Spot}
-use Rattle.lexscan.specs.declared.act.Acting.{Acting}
+use Rattle.lexscan.specs.declared.state.TextPlace.{TextPlace}
+use Rattle.lexscan.specs.declared.act.ActionState.{ActionState}
 use Rattle.lexscan.specs.declared.act.Step.{Step}
 use Rattle.lexscan.specs.declared.turn.Turn.{Turn}
 use Rattle.lexscan.specs.declared.burst.Told.{Told}
 use Rattle.lexscan.specs.declared.error.RunError.TheVariants.{Write, Stack, TooManyReads}
 use Rattle.lexscan.specs.Acts.{acting_of, after_step, written_of}
 use Rattle.lexscan.specs.Descends.{Conditions, conditions_in, outcome, matches_of, Performed, CutAll}
-use Rattle.lexscan.specs.Sees.{SoFar, Saw}
-use Rattle.lexscan.specs.Picks.{trail_of, state_at}
+use Rattle.lexscan.specs.Looks.{SoFar, Looked}
+use Rattle.lexscan.specs.Picks.{path_of, state_at}
 use Rattle.lexscan.specs.Moves.{Matched, Refused}
 use Rattle.lexscan.specs.Stands.{Stands, Fell}
-use Rattle.lexscan.specs.Bursts.{statements_in, is_told, condition_after, written_by, Between, AllStand, Went, Broke, Tells}
+use Rattle.lexscan.specs.Bursts.{statements_in, is_told, condition_after, written_by, Between, AllStand, TurnsMade, Broke, Tells}
 use Rattle.lexscan.proofs.Descending as Down
 use Rattle.lexscan.proofs.Descending.{one_match, start_of, head_outcome, statements_are, settled}
 use Rattle.lexscan.proofs.Picking.{falling_last}
@@ -77,11 +77,11 @@ gist_first M s (Print bytes) is h = h
 gist_first M s (Begin c) is h = h
 
 -- The match of a walk is the first of all, and its rule does what is told.
-pub record Heads (M : Machine) (trail : List ℕ) (gist : Gist) (keep : ℕ) : Type 0 where
+pub record Heads (M : Machine) (path : List ℕ) (gist : Gist) (keep : ℕ) : Type 0 where
   pub len : ℕ
   pub rule : ℕ
   pub others : List Candidate
-  pub first : falling M 0 trail ≡ record { len = len; rule = rule; keep = keep } ∷ others
+  pub first : falling M 0 path ≡ record { len = len; rule = rule; keep = keep } ∷ others
   pub below : rule < M.count
   pub does : statements_in gist ≡ M.statements rule
 
@@ -110,7 +110,7 @@ told_below M laws s (Begin d) c is h lt =
     (subst (λ ss. BeginsBelow M.conditions ss) h.does (begins_below M.conditions (M.statements h.rule) legal.ranges)).0
 
 -- where the action of what is told ends
-abbrev pub told_acting : Gist → ℕ → Conditions → Acting
+abbrev pub told_acting : Gist → ℕ → Conditions → ActionState
 told_acting g keep c = record { end = 0 + keep; condition = condition_after g c.next; stack = c.stack; more = false }
 
 -- the statements that are told, over a text
@@ -147,11 +147,11 @@ module _ (M : Machine) (laws : MachineLaws M) (text : List ℕ) (bytes : IsText 
   abbrev pub w : List ℕ
   w = drop c (take beyond text)
 
-  abbrev pub p : Spot
+  abbrev pub p : TextPlace
   p = record { at = 0; line_start = line; condition = cond }
 
-  abbrev pub trail : List ℕ
-  trail = trail_of M p w way.count
+  abbrev pub path : List ℕ
+  path = path_of M p w way.count
 
   reaches : c + way.count ≤ length text
   reaches = omega (arith, leads.inside, length-drop c text, leads.some, le, inside)
@@ -174,22 +174,22 @@ module _ (M : Machine) (laws : MachineLaws M) (text : List ℕ) (bytes : IsText 
   before_here : way.before ≡ state_at M p w (way.count - 1)
   before_here = leads.before_is ∙ ap (walk M (M.start cond line)) (sym (front_here (way.count - 1) (omega arith)))
 
-  so_far : SoFar M p (drop p.at w) way.count way.state trail
+  so_far : SoFar M p (drop p.at w) way.count way.state path
   so_far = record {
     inside = within;
     state_is = state_here;
     asked = λ i some less. subst (λ l. M.goes_on (walk M (M.start cond line) l) ≡ true) (sym (front_here i (omega (arith, less)))) (leads.asked i some less);
-    trail_is = refl;
+    path_is = refl;
   }
 
-  heads : Heads M trail told.gist told.keep
+  heads : Heads M path told.gist told.keep
   heads = from tells
     where
-      from : ((told.keep ≡ way.count) × Gists M way.state told.gist) ⊎ ((1 < way.count) × (told.keep + 1 ≡ way.count) × (M.accepts way.state ≡ []) × Gists M way.before told.gist) → Heads M trail told.gist told.keep
+      from : ((told.keep ≡ way.count) × Gists M way.state told.gist) ⊎ ((1 < way.count) × (told.keep + 1 ≡ way.count) × (M.accepts way.state ≡ []) × Gists M way.before told.gist) → Heads M path told.gist told.keep
       from (inl h) =
           let f : FirstDoes M way.state (statements_in told.gist) = gist_first M way.state told.gist is h.1 in
-          let last = falling_last M p w way.count leads.some (omega (arith, within)) ∙ ap (λ s. filter_map (match_of M way.count) (M.accepts s) ++ falling M 0 (trail_of M p w (way.count - 1))) (sym state_here) in
-          let first = first_here M way.count way.state told.gist (falling M 0 (trail_of M p w (way.count - 1))) laws f (falling M 0 trail) last in
+          let last = falling_last M p w way.count leads.some (omega (arith, within)) ∙ ap (λ s. filter_map (match_of M way.count) (M.accepts s) ++ falling M 0 (path_of M p w (way.count - 1))) (sym state_here) in
+          let first = first_here M way.count way.state told.gist (falling M 0 (path_of M p w (way.count - 1))) laws f (falling M 0 path) last in
           record {
             len = way.count;
             rule = f.rule;
@@ -203,10 +203,10 @@ module _ (M : Machine) (laws : MachineLaws M) (text : List ℕ) (bytes : IsText 
           let n : ℕ = way.count - 1 in
           let keeps : told.keep ≡ n = omega (arith, h.1) in
           let some : 1 ≤ n = omega (arith, h.0) in
-          let last = falling_last M p w way.count leads.some (omega (arith, within)) ∙ ap (λ s. filter_map (match_of M way.count) (M.accepts s) ++ falling M 0 (trail_of M p w n)) (sym state_here)
-          ∙ ap (λ a. filter_map (match_of M way.count) a ++ falling M 0 (trail_of M p w n)) h.2 in
-          let last' = last ∙ falling_last M p w n some (omega (arith, within)) ∙ ap (λ s. filter_map (match_of M n) (M.accepts s) ++ falling M 0 (trail_of M p w (n - 1))) (sym before_here) in
-          let first = first_here M n way.before told.gist (falling M 0 (trail_of M p w (n - 1))) laws f (falling M 0 trail) last' in
+          let last = falling_last M p w way.count leads.some (omega (arith, within)) ∙ ap (λ s. filter_map (match_of M way.count) (M.accepts s) ++ falling M 0 (path_of M p w n)) (sym state_here)
+          ∙ ap (λ a. filter_map (match_of M way.count) a ++ falling M 0 (path_of M p w n)) h.2 in
+          let last' = last ∙ falling_last M p w n some (omega (arith, within)) ∙ ap (λ s. filter_map (match_of M n) (M.accepts s) ++ falling M 0 (path_of M p w (n - 1))) (sym before_here) in
+          let first = first_here M n way.before told.gist (falling M 0 (path_of M p w (n - 1))) laws f (falling M 0 path) last' in
           record {
             len = n;
             rule = f.rule;
@@ -237,7 +237,7 @@ module _ (M : Machine) (laws : MachineLaws M) (text : List ℕ) (bytes : IsText 
     abbrev cs : Conditions
     cs = record { next = cond; stack = stack }
 
-    abbrev performed : wrote t (written_by told.gist (take told.keep (drop c text))) u → Performed M wrote t u w 0 (matches_of M w 0 trail) cs (told_acting told.gist told.keep cs) None
+    abbrev performed : wrote t (written_by told.gist (take told.keep (drop c text))) u → Performed M wrote t u w 0 (matches_of M w 0 path) cs (told_acting told.gist told.keep cs) None
     performed put =
         let out : List ℕ = written_by told.gist (take (0 + told.keep) w) in
         let rest : List Candidate = heads.others ++ default_match M.count (drop 0 w) in record {
@@ -252,7 +252,7 @@ module _ (M : Machine) (laws : MachineLaws M) (text : List ℕ) (bytes : IsText 
         }
 
     cut : (front : List ℕ) → BeginsWith (written_by told.gist (take told.keep (drop c text))) front → wrote t front u → (before : List ℕ) (o : Scan.Matched) →
-        outcome M w 0 (matches_of M w 0 trail) before cs ≡ Some o → BeginsWith o.after.written (before ++ front)
+        outcome M w 0 (matches_of M w 0 path) before cs ≡ Some o → BeginsWith o.after.written (before ++ front)
     cut front begins put before o e =
         let rest : List Candidate = heads.others ++ default_match M.count (drop 0 w) in
         Down.cut_front M wrote none join w 0 t u (record { len = heads.len; rule = heads.rule; keep = told.keep }) rest cs (statements_in told.gist) (heads.does ∙ sym (statements_are M heads.rule heads.below))
@@ -272,7 +272,7 @@ module _ (M : Machine) (laws : MachineLaws M) (text : List ℕ) (bytes : IsText 
     abbrev was : (v : State) (taken : ℕ) → taken ≤ v.reading.max_reads → State
     was v taken few = record v {
       reading = record v.reading { window = record { bytes = drop c (take far text); room = true; ahead = [] }; taken = taken; at_end = false; few_reads = few };
-      spot = p;
+      place = p;
       acting = record v.acting { stack = stack };
       ended = None;
       failed = false;
@@ -304,8 +304,8 @@ module _ (M : Machine) (laws : MachineLaws M) (text : List ℕ) (bytes : IsText 
             end_stays = never;
             max_reads = refl;
           };
-          trail = trail;
-          saw = record {
+          path = path;
+          looked = record {
             reach = way.count;
             some = leads.some;
             state = way.state;
@@ -345,18 +345,18 @@ module _ (M : Machine) (laws : MachineLaws M) (text : List ℕ) (bytes : IsText 
         let old : State = was v taken few in
         let h : Stands M n given before old = all old (record { bytes_are = refl; taken_is = refl; at_end = refl; at = refl; line_is = refl; condition_is = refl; stack_is = refl; going = refl }) refl in
         let size = grown_by text c far beyond le far_beyond inside_beyond in
-        let saw : Saw M p old.reading v.reading (trail_of M p v.reading.window.bytes way.count) = record {
+        let looked : Looked M p old.reading v.reading (path_of M p v.reading.window.bytes way.count) = record {
           reach = way.count;
           some = leads.some;
           state = way.state;
-          so_far = subst (λ z. SoFar M p (drop p.at z) way.count way.state (trail_of M p z way.count)) (sym b.bytes_are) so_far;
+          so_far = subst (λ z. SoFar M p (drop p.at z) way.count way.state (path_of M p z way.count)) (sym b.bytes_are) so_far;
           size = (let a = size_from text c far beyond le far_beyond inside_beyond in let z = size_before text c far beyond le far_beyond inside_beyond in let e = ap length b.bytes_are in omega (arith, a, z, e, le));
           stops = inl (leads.stops, b.at_end);
         } in
-        let short : CutAll M wrote t u v.reading.window.bytes 0 (matches_of M v.reading.window.bytes 0 (trail_of M p v.reading.window.bytes way.count)) cs = record {
+        let short : CutAll M wrote t u v.reading.window.bytes 0 (matches_of M v.reading.window.bytes 0 (path_of M p v.reading.window.bytes way.count)) cs = record {
           out = front;
           sink = put;
-          front = subst (λ z. (before : List ℕ) (o : Scan.Matched) → outcome M z 0 (matches_of M z 0 (trail_of M p z way.count)) before cs ≡ Some o → BeginsWith o.after.written (before ++ front)) (sym b.bytes_are) (cut front begins put);
+          front = subst (λ z. (before : List ℕ) (o : Scan.Matched) → outcome M z 0 (matches_of M z 0 (path_of M p z way.count)) before cs ≡ Some o → BeginsWith o.after.written (before ++ front)) (sym b.bytes_are) (cut front begins put);
         } in
         let m : Refused M Nothing wrote tt tt t u (record old { failed = true }) v Write = record {
           took = record {
@@ -369,13 +369,13 @@ module _ (M : Machine) (laws : MachineLaws M) (text : List ℕ) (bytes : IsText 
             end_stays = never;
             max_reads = refl;
           };
-          spot = λ i. record { at = b.at i; line_start = b.line_is i; condition = b.condition_is i };
-          why = inr (inl (trail_of M p v.reading.window.bytes way.count, saw, short));
+          place = λ i. record { at = b.at i; line_start = b.line_is i; condition = b.condition_is i };
+          why = inr (inl (path_of M p v.reading.window.bytes way.count, looked, short));
           fault = λ e. absurd (not_stack e);
         } in
         Fall.fell M laws Nothing wrote tt tt t u n given before old v Write refl h m bad (λ e. absurd (not_many e)) short.out
-        (Fall.match_front M laws Nothing wrote tt tt t u n given before old v Write refl h m (trail_of M p v.reading.window.bytes way.count) saw short)
-        (Fall.match_within M laws Nothing wrote tt tt t u n given before old v Write refl h m (trail_of M p v.reading.window.bytes way.count) saw) (λ e. absurd (not_stack e))
+        (Fall.match_front M laws Nothing wrote tt tt t u n given before old v Write refl h m (path_of M p v.reading.window.bytes way.count) looked short)
+        (Fall.match_within M laws Nothing wrote tt tt t u n given before old v Write refl h m (path_of M p v.reading.window.bytes way.count) looked) (λ e. absurd (not_stack e))
       where
         not_stack : Write ≡ Stack → ⊥
         not_stack e = cc
@@ -384,7 +384,7 @@ module _ (M : Machine) (laws : MachineLaws M) (text : List ℕ) (bytes : IsText 
         not_many e = cc
 
 -- no turn yet
-pub went_none : {K : Type 0} (M : Machine) (wrote : K → List ℕ → K → Type 0) (t : K) (text : List ℕ) (held cond : ℕ) (line : Bool) → held ≤ length text → wrote t [] t → Went M wrote t t text held cond line 0 held cond line
+pub went_none : {K : Type 0} (M : Machine) (wrote : K → List ℕ → K → Type 0) (t : K) (text : List ℕ) (held cond : ℕ) (line : Bool) → held ≤ length text → wrote t [] t → TurnsMade M wrote t t text held cond line 0 held cond line
 went_none M wrote t text held cond line inside none = record {
   turns = 0;
   out = [];
@@ -409,7 +409,7 @@ went_none M wrote t text held cond line inside none = record {
 
 module _ (M : Machine) (laws : MachineLaws M) (text : List ℕ) (bytes : IsText text) (held cond0 : ℕ) (line0 : Bool) (c far cond : ℕ) (line : Bool) (way : Way) (told : Told) (first : held ≤ far) (le : c ≤ far) (inside : far ≤ length text)
     (leads : Leads M (M.start cond line) (drop c text) way) (tells : Tells M way told) (is : is_told told.gist ≡ true)
-    {K : Type 0} (wrote : K → List ℕ → K → Type 0) (none : (s : K) → wrote s [] s) (join : (s t u : K) (xs ys : List ℕ) → wrote s xs t → wrote t ys u → wrote s (xs ++ ys) u) (s t u : K) (went : Went M wrote s t text held cond0 line0 c far cond line) where
+    {K : Type 0} (wrote : K → List ℕ → K → Type 0) (none : (s : K) → wrote s [] s) (join : (s t u : K) (xs ys : List ℕ) → wrote s xs t → wrote t ys u → wrote s (xs ++ ys) u) (s t u : K) (went : TurnsMade M wrote s t text held cond0 line0 c far cond line) where
   abbrev next : ℕ
   next = max far (c + way.count)
 
@@ -420,7 +420,7 @@ module _ (M : Machine) (laws : MachineLaws M) (text : List ℕ) (bytes : IsText 
 
   -- one turn more
   pub went_more : wrote t (written_by told.gist (take told.keep (drop c text))) u → (line' : Bool) → line' ≡ nat_eq (get_or (take told.keep (drop c text)) (told.keep - 1) 0) 10 →
-      Went M wrote s u text held cond0 line0 (c + told.keep) next (condition_after told.gist cond) line'
+      TurnsMade M wrote s u text held cond0 line0 (c + told.keep) next (condition_after told.gist cond) line'
   went_more put line' starts = record {
     turns = suc went.turns;
     out = went.out ++ written_by told.gist (take told.keep (drop c text));

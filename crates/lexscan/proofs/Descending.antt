@@ -15,7 +15,7 @@ use Rattle.lex_semantics.specs.Machine.{Machine, rules_of_machine}
 use Rattle.lex_semantics.specs.PlainMachine.{kept_by, match_of}
 use Rattle.lex_semantics.specs.Trail.{falling}
 use Rattle.lex_semantics.proofs.Falling.{settle_adds, perform_adds, acting_after, falling-snoc}
-use Rattle.lexscan.specs.declared.act.Acting.{Acting}
+use Rattle.lexscan.specs.declared.act.ActionState.{ActionState}
 use Rattle.lexscan.specs.declared.act.Finish.{Finish}
 use Rattle.lexscan.specs.declared.act.Step.{Step}
 use Rattle.lexscan.specs.Acts.{acting_of, after_step, written_of, Carried, CutShort}
@@ -41,7 +41,7 @@ settle_stop Step.Again a f g never = absurd (never refl)
 settle_stop (Step.Over s) a f g never = refl
 
 -- what the action of a match starts from
-abbrev pub start_of : (at keep : ℕ) → Conditions → Acting
+abbrev pub start_of : (at keep : ℕ) → Conditions → ActionState
 start_of at keep c = record { end = at + keep; condition = c.next; stack = c.stack; more = false }
 
 pub head_outcome : (M : Machine) (w : List ℕ) (at : ℕ) (m : Candidate) (ms : List Candidate) (before : List ℕ) (c : Conditions) →
@@ -72,7 +72,7 @@ module _ {K : Type 0} (M : Machine) (wrote : K → List ℕ → K → Type 0) (n
   left_match rules i len keep lt e = ap (filter_map (match_of M len)) (drop_more rules i 0 lt) ∙ one_match M len (get_or rules i 0) keep (drop (i + 1) rules) e
 
   -- the next match, where its action was carried out
-  acted : (s t u : K) (all : List Candidate) (rules : List ℕ) (i len keep : ℕ) (c d : Conditions) (ss : List Statement) (new : Acting) (step : Step) → i < length rules → get_or rules i 0 < M.count →
+  acted : (s t u : K) (all : List Candidate) (rules : List ℕ) (i len keep : ℕ) (c d : Conditions) (ss : List Statement) (new : ActionState) (step : Step) → i < length rules → get_or rules i 0 < M.count →
       kept_by (M.cut (get_or rules i 0)) len ≡ Some keep → ss ≡ M.statements (get_or rules i 0) → (h : Passed M wrote s t w at all (filter_map (match_of M len) (drop i rules)) c d) →
       (k : Carried wrote t u w ss (start_of at keep d) new step) → (before : List ℕ) (rest : List Candidate) →
       outcome M w at (all ++ rest) before c ≡ settle (after_step step [] (acting_of w new (before ++ (h.out ++ k.out)))) (λ a. outcome M w at (filter_map (match_of M len) (drop (i + 1) rules) ++ rest) a.written (conditions_in a))
@@ -86,7 +86,7 @@ module _ {K : Type 0} (M : Machine) (wrote : K → List ℕ → K → Type 0) (n
       f : Scan.Acting → Option Matched
       f a = outcome M w at (filter_map (match_of M len) (drop (i + 1) rules) ++ rest) a.written (conditions_in a)
 
-  pub passed_again : (s t u : K) (all : List Candidate) (rules : List ℕ) (i len keep : ℕ) (c d : Conditions) (ss : List Statement) (new : Acting) → i < length rules → get_or rules i 0 < M.count →
+  pub passed_again : (s t u : K) (all : List Candidate) (rules : List ℕ) (i len keep : ℕ) (c d : Conditions) (ss : List Statement) (new : ActionState) → i < length rules → get_or rules i 0 < M.count →
       kept_by (M.cut (get_or rules i 0)) len ≡ Some keep → ss ≡ M.statements (get_or rules i 0) → Passed M wrote s t w at all (filter_map (match_of M len) (drop i rules)) c d →
       Carried wrote t u w ss (start_of at keep d) new Step.Again → Passed M wrote s u w at all (filter_map (match_of M len) (drop (i + 1) rules)) c (conditions_of new)
   passed_again s t u all rules i len keep c d ss new lt below e same h k = record {
@@ -95,7 +95,7 @@ module _ {K : Type 0} (M : Machine) (wrote : K → List ℕ → K → Type 0) (n
     acts = λ before rest. acted s t u all rules i len keep c d ss new Step.Again lt below e same h k before rest;
   }
 
-  pub tried_stop : (s t u : K) (all : List Candidate) (rules : List ℕ) (i len keep : ℕ) (c d : Conditions) (ss : List Statement) (new : Acting) (step : Step) → (step ≡ Step.Again → ⊥) → i < length rules → get_or rules i 0 < M.count →
+  pub tried_stop : (s t u : K) (all : List Candidate) (rules : List ℕ) (i len keep : ℕ) (c d : Conditions) (ss : List Statement) (new : ActionState) (step : Step) → (step ≡ Step.Again → ⊥) → i < length rules → get_or rules i 0 < M.count →
       kept_by (M.cut (get_or rules i 0)) len ≡ Some keep → ss ≡ M.statements (get_or rules i 0) → Passed M wrote s t w at all (filter_map (match_of M len) (drop i rules)) c d →
       Carried wrote t u w ss (start_of at keep d) new step → Tried M wrote s u w at all c new step
   tried_stop s t u all rules i len keep c d ss new step never lt below e same h k = record {
@@ -145,85 +145,85 @@ settled Step.Again a f never = absurd (never refl)
 settled (Step.Over s) a f never = refl
 
 -- the matches that the last of some states tells, and the others
-falling_take : (M : Machine) (trail : List ℕ) (n : ℕ) → n < length trail → falling M 0 (take (n + 1) trail) ≡ filter_map (match_of M (n + 1)) (M.accepts (get_or trail n 0)) ++ falling M 0 (take n trail)
-falling_take M trail n lt =
-    let size : length (take n trail) ≡ n = length-take-le n trail (omega arith) in
-    let e : 0 + suc (length (take n trail)) ≡ n + 1 = omega (arith, size) in
-    ap (falling M 0) (take_one_more n trail lt) ∙ falling-snoc M 0 (get_or trail n 0) (take n trail) ∙ ap (λ k. filter_map (match_of M k) (M.accepts (get_or trail n 0)) ++ falling M 0 (take n trail)) e
+falling_take : (M : Machine) (path : List ℕ) (n : ℕ) → n < length path → falling M 0 (take (n + 1) path) ≡ filter_map (match_of M (n + 1)) (M.accepts (get_or path n 0)) ++ falling M 0 (take n path)
+falling_take M path n lt =
+    let size : length (take n path) ≡ n = length-take-le n path (omega arith) in
+    let e : 0 + suc (length (take n path)) ≡ n + 1 = omega (arith, size) in
+    ap (falling M 0) (take_one_more n path lt) ∙ falling-snoc M 0 (get_or path n 0) (take n path) ∙ ap (λ k. filter_map (match_of M k) (M.accepts (get_or path n 0)) ++ falling M 0 (take n path)) e
 
 pub default_one : (M : Machine) (y : List ℕ) → 1 ≤ length y → default_match M.count y ≡ record { len = 1; rule = M.count; keep = 1 } ∷ []
 default_one M [] lt = absurd (omega (arith, lt))
 default_one M (b ∷ y) lt = refl
 
-module _ {K : Type 0} (M : Machine) (wrote : K → List ℕ → K → Type 0) (join : (s t u : K) (xs ys : List ℕ) → wrote s xs t → wrote t ys u → wrote s (xs ++ ys) u) (w : List ℕ) (at : ℕ) (trail : List ℕ) where
+module _ {K : Type 0} (M : Machine) (wrote : K → List ℕ → K → Type 0) (join : (s t u : K) (xs ys : List ℕ) → wrote s xs t → wrote t ys u → wrote s (xs ++ ys) u) (w : List ℕ) (at : ℕ) (path : List ℕ) where
   -- the matches that end after n + 1 bytes
   abbrev pub here : ℕ → List Candidate
-  here n = filter_map (match_of M (n + 1)) (M.accepts (get_or trail n 0))
+  here n = filter_map (match_of M (n + 1)) (M.accepts (get_or path n 0))
 
-  state_acts : (s t u : K) (n : ℕ) (c d : Conditions) (new : Acting) (step : Step) → n < length trail → (h : Passed M wrote s t w at (falling M 0 trail) (falling M 0 (take (n + 1) trail)) c d) → (k : Tried M wrote t u w at (here n) d new step) →
-      (before : List ℕ) (rest : List Candidate) → outcome M w at (falling M 0 trail ++ rest) before c
-      ≡ settle (after_step step [] (acting_of w new (before ++ (h.out ++ k.out)))) (λ a. outcome M w at (falling M 0 (take n trail) ++ rest) a.written (conditions_in a))
+  state_acts : (s t u : K) (n : ℕ) (c d : Conditions) (new : ActionState) (step : Step) → n < length path → (h : Passed M wrote s t w at (falling M 0 path) (falling M 0 (take (n + 1) path)) c d) → (k : Tried M wrote t u w at (here n) d new step) →
+      (before : List ℕ) (rest : List Candidate) → outcome M w at (falling M 0 path ++ rest) before c
+      ≡ settle (after_step step [] (acting_of w new (before ++ (h.out ++ k.out)))) (λ a. outcome M w at (falling M 0 (take n path) ++ rest) a.written (conditions_in a))
   state_acts s t u n c d new step lt h k before rest =
-      h.acts before rest ∙ ap (λ l. outcome M w at (l ++ rest) (before ++ h.out) d) (falling_take M trail n lt) ∙ ap (λ l. outcome M w at l (before ++ h.out) d) (append_assoc (here n) (falling M 0 (take n trail)) rest)
-      ∙ k.acts (before ++ h.out) (falling M 0 (take n trail) ++ rest)
-      ∙ ap (λ z. settle (after_step step [] (acting_of w new z)) (λ a. outcome M w at (falling M 0 (take n trail) ++ rest) a.written (conditions_in a))) (append_assoc before h.out k.out)
+      h.acts before rest ∙ ap (λ l. outcome M w at (l ++ rest) (before ++ h.out) d) (falling_take M path n lt) ∙ ap (λ l. outcome M w at l (before ++ h.out) d) (append_assoc (here n) (falling M 0 (take n path)) rest)
+      ∙ k.acts (before ++ h.out) (falling M 0 (take n path) ++ rest)
+      ∙ ap (λ z. settle (after_step step [] (acting_of w new z)) (λ a. outcome M w at (falling M 0 (take n path) ++ rest) a.written (conditions_in a))) (append_assoc before h.out k.out)
 
-  pub state_passed : (s t u : K) (n : ℕ) (c d : Conditions) (new : Acting) → n < length trail → Passed M wrote s t w at (falling M 0 trail) (falling M 0 (take (n + 1) trail)) c d → Tried M wrote t u w at (here n) d new Step.Again →
-      Passed M wrote s u w at (falling M 0 trail) (falling M 0 (take n trail)) c (conditions_of new)
+  pub state_passed : (s t u : K) (n : ℕ) (c d : Conditions) (new : ActionState) → n < length path → Passed M wrote s t w at (falling M 0 path) (falling M 0 (take (n + 1) path)) c d → Tried M wrote t u w at (here n) d new Step.Again →
+      Passed M wrote s u w at (falling M 0 path) (falling M 0 (take n path)) c (conditions_of new)
   state_passed s t u n c d new lt h k = record {
     out = h.out ++ k.out;
     sink = join s t u h.out k.out h.sink k.sink;
     acts = λ before rest. state_acts s t u n c d new Step.Again lt h k before rest;
   }
 
-  pub state_stop : (s t u : K) (n : ℕ) (c d : Conditions) (new : Acting) (step : Step) → (step ≡ Step.Again → ⊥) → n < length trail → Passed M wrote s t w at (falling M 0 trail) (falling M 0 (take (n + 1) trail)) c d → Tried M wrote t u w at (here n) d new step →
-      Performed M wrote s u w at (matches_of M w at trail) c new (finished_of (ended_by step))
+  pub state_stop : (s t u : K) (n : ℕ) (c d : Conditions) (new : ActionState) (step : Step) → (step ≡ Step.Again → ⊥) → n < length path → Passed M wrote s t w at (falling M 0 path) (falling M 0 (take (n + 1) path)) c d → Tried M wrote t u w at (here n) d new step →
+      Performed M wrote s u w at (matches_of M w at path) c new (finished_of (ended_by step))
   state_stop s t u n c d new step never lt h k = record {
     out = h.out ++ k.out;
     sink = join s t u h.out k.out h.sink k.sink;
     acts = λ before. state_acts s t u n c d new step lt h k before (default_match M.count (drop at w))
-        ∙ settled step (acting_of w new (before ++ (h.out ++ k.out))) (λ a. outcome M w at (falling M 0 (take n trail) ++ default_match M.count (drop at w)) a.written (conditions_in a)) never;
+        ∙ settled step (acting_of w new (before ++ (h.out ++ k.out))) (λ a. outcome M w at (falling M 0 (take n path) ++ default_match M.count (drop at w)) a.written (conditions_in a)) never;
   }
 
-  pub state_cut : (s t u : K) (n : ℕ) (c d : Conditions) → n < length trail → Passed M wrote s t w at (falling M 0 trail) (falling M 0 (take (n + 1) trail)) c d → CutOff M wrote t u w at (here n) d → CutAll M wrote s u w at (matches_of M w at trail) c
+  pub state_cut : (s t u : K) (n : ℕ) (c d : Conditions) → n < length path → Passed M wrote s t w at (falling M 0 path) (falling M 0 (take (n + 1) path)) c d → CutOff M wrote t u w at (here n) d → CutAll M wrote s u w at (matches_of M w at path) c
   state_cut s t u n c d lt h k = record {
     out = h.out ++ k.out;
     sink = join s t u h.out k.out h.sink k.sink;
     front = λ before o is.
         let more : List Candidate = default_match M.count (drop at w) in
         subst (BeginsWith o.after.written) (append_assoc before h.out k.out)
-        (k.front (before ++ h.out) (falling M 0 (take n trail) ++ more) o
-        (ap (λ l. outcome M w at l (before ++ h.out) d) (sym (append_assoc (here n) (falling M 0 (take n trail)) more)) ∙ ap (λ l. outcome M w at (l ++ more) (before ++ h.out) d) (sym (falling_take M trail n lt))
+        (k.front (before ++ h.out) (falling M 0 (take n path) ++ more) o
+        (ap (λ l. outcome M w at l (before ++ h.out) d) (sym (append_assoc (here n) (falling M 0 (take n path)) more)) ∙ ap (λ l. outcome M w at (l ++ more) (before ++ h.out) d) (sym (falling_take M path n lt))
         ∙ sym (h.acts before more) ∙ is));
   }
 
   -- the default match
-  default_acts : (s t : K) (c d : Conditions) → at < length w → (h : Passed M wrote s t w at (falling M 0 trail) [] c d) → (before : List ℕ) (rest : List Candidate) →
-      outcome M w at ((falling M 0 trail ++ default_match M.count (drop at w)) ++ rest) before c ≡ Some (record { after = acting_of w (start_of at 1 d) (before ++ (h.out ++ take (at + 1) w)); ended = None })
+  default_acts : (s t : K) (c d : Conditions) → at < length w → (h : Passed M wrote s t w at (falling M 0 path) [] c d) → (before : List ℕ) (rest : List Candidate) →
+      outcome M w at ((falling M 0 path ++ default_match M.count (drop at w)) ++ rest) before c ≡ Some (record { after = acting_of w (start_of at 1 d) (before ++ (h.out ++ take (at + 1) w)); ended = None })
   default_acts s t c d lt h before rest =
       let some : 1 ≤ length (drop at w) = omega (arith, length-drop at w, lt) in
       let one : Candidate = record { len = 1; rule = M.count; keep = 1 } in
-      ap (λ l. outcome M w at l before c) (append_assoc (falling M 0 trail) (default_match M.count (drop at w)) rest)
+      ap (λ l. outcome M w at l before c) (append_assoc (falling M 0 path) (default_match M.count (drop at w)) rest)
       ∙ h.acts before (default_match M.count (drop at w) ++ rest)
       ∙ ap (λ l. outcome M w at (l ++ rest) (before ++ h.out) d) (default_one M (drop at w) some)
       ∙ head_outcome M w at one rest (before ++ h.out) d
       ∙ ap (λ l. settle (act l (acting_of w (start_of at 1 d) (before ++ h.out))) (λ a. outcome M w at rest a.written (conditions_in a))) (default_is M)
       ∙ ap (λ z. Some (record { after = acting_of w (start_of at 1 d) z; ended = None })) (append_assoc before h.out (take (at + 1) w))
 
-  pub default_stop : (s t u : K) (c d : Conditions) → at < length w → Passed M wrote s t w at (falling M 0 trail) [] c d → wrote t (take (at + 1) w) u → Performed M wrote s u w at (matches_of M w at trail) c (start_of at 1 d) None
+  pub default_stop : (s t u : K) (c d : Conditions) → at < length w → Passed M wrote s t w at (falling M 0 path) [] c d → wrote t (take (at + 1) w) u → Performed M wrote s u w at (matches_of M w at path) c (start_of at 1 d) None
   default_stop s t u c d lt h put = record {
     out = h.out ++ take (at + 1) w;
     sink = join s t u h.out (take (at + 1) w) h.sink put;
-    acts = λ before. ap (λ l. outcome M w at l before c) (sym (append-nil (falling M 0 trail ++ default_match M.count (drop at w)))) ∙ default_acts s t c d lt h before [];
+    acts = λ before. ap (λ l. outcome M w at l before c) (sym (append-nil (falling M 0 path ++ default_match M.count (drop at w)))) ∙ default_acts s t c d lt h before [];
   }
 
-  pub default_cut : (s t u : K) (c d : Conditions) → at < length w → Passed M wrote s t w at (falling M 0 trail) [] c d → ((front : List ℕ) × BeginsWith (take (at + 1) w) front × wrote t front u) → CutAll M wrote s u w at (matches_of M w at trail) c
+  pub default_cut : (s t u : K) (c d : Conditions) → at < length w → Passed M wrote s t w at (falling M 0 path) [] c d → ((front : List ℕ) × BeginsWith (take (at + 1) w) front × wrote t front u) → CutAll M wrote s u w at (matches_of M w at path) c
   default_cut s t u c d lt h (front, is_front, put) = record {
     out = h.out ++ front;
     sink = join s t u h.out front h.sink put;
     front = λ before o is.
         let same : Some (record { after = acting_of w (start_of at 1 d) (before ++ (h.out ++ take (at + 1) w)); ended = None }) ≡ Some o =
-        sym (default_acts s t c d lt h before []) ∙ ap (λ l. outcome M w at l before c) (append-nil (falling M 0 trail ++ default_match M.count (drop at w))) ∙ is in
+        sym (default_acts s t c d lt h before []) ∙ ap (λ l. outcome M w at l before c) (append-nil (falling M 0 path ++ default_match M.count (drop at w))) ∙ is in
         subst (λ (z : Matched). BeginsWith z.after.written (before ++ (h.out ++ front))) (some_same (record { after = acting_of w (start_of at 1 d) (before ++ (h.out ++ take (at + 1) w)); ended = None }) o same)
         (is_front.0, ap (λ z. before ++ (h.out ++ z)) is_front.1 ∙ ap (λ z. before ++ z) (sym (append_assoc h.out front is_front.0)) ∙ sym (append_assoc before (h.out ++ front) is_front.0));
   }
@@ -235,12 +235,12 @@ module _ {K : Type 0} (M : Machine) (wrote : K → List ℕ → K → Type 0) (j
 pub wrote_flushed : {K : Type 0} (wrote : K → List ℕ → K → Type 0) (s t u : K) (xs : List ℕ) → ((s t u : K) (xs ys : List ℕ) → wrote s xs t → wrote t ys u → wrote s (xs ++ ys) u) → wrote s xs t → wrote t [] u → wrote s xs u
 wrote_flushed wrote s t u xs join h k = subst (λ z. wrote s z u) (append-nil xs) (join s t u xs [] h k)
 
-pub performed_flushed : {K : Type 0} (M : Machine) (wrote : K → List ℕ → K → Type 0) (s t u : K) (w : List ℕ) (at : ℕ) (all : List Candidate) (c : Conditions) (new : Acting) (ended : Option Ending) → ((s t u : K) (xs ys : List ℕ) → wrote s xs t → wrote t ys u → wrote s (xs ++ ys) u) →
+pub performed_flushed : {K : Type 0} (M : Machine) (wrote : K → List ℕ → K → Type 0) (s t u : K) (w : List ℕ) (at : ℕ) (all : List Candidate) (c : Conditions) (new : ActionState) (ended : Option Ending) → ((s t u : K) (xs ys : List ℕ) → wrote s xs t → wrote t ys u → wrote s (xs ++ ys) u) →
     Performed M wrote s t w at all c new ended → wrote t [] u → Performed M wrote s u w at all c new ended
 performed_flushed M wrote s t u w at all c new ended join h k = record { out = h.out; sink = wrote_flushed wrote s t u h.out join h.sink k; acts = h.acts }
 
 -- the matches were tried, and a flush was refused
-pub performed_cut : {K : Type 0} (M : Machine) (wrote : K → List ℕ → K → Type 0) (s t u : K) (w : List ℕ) (at : ℕ) (all : List Candidate) (c : Conditions) (new : Acting) (ended : Option Ending) → ((s t u : K) (xs ys : List ℕ) → wrote s xs t → wrote t ys u → wrote s (xs ++ ys) u) →
+pub performed_cut : {K : Type 0} (M : Machine) (wrote : K → List ℕ → K → Type 0) (s t u : K) (w : List ℕ) (at : ℕ) (all : List Candidate) (c : Conditions) (new : ActionState) (ended : Option Ending) → ((s t u : K) (xs ys : List ℕ) → wrote s xs t → wrote t ys u → wrote s (xs ++ ys) u) →
     Performed M wrote s t w at all c new ended → wrote t [] u → CutAll M wrote s u w at all c
 performed_cut M wrote s t u w at all c new ended join h k = record {
   out = h.out;
@@ -254,7 +254,7 @@ performed_cut M wrote s t u w at all c new ended join h k = record {
     some_one a b e = cc
 
 -- the matches were tried
-pub performed_front : {K : Type 0} (M : Machine) (wrote : K → List ℕ → K → Type 0) (s t : K) (w : List ℕ) (at : ℕ) (all : List Candidate) (c : Conditions) (new : Acting) (ended : Option Ending) →
+pub performed_front : {K : Type 0} (M : Machine) (wrote : K → List ℕ → K → Type 0) (s t : K) (w : List ℕ) (at : ℕ) (all : List Candidate) (c : Conditions) (new : ActionState) (ended : Option Ending) →
     (h : Performed M wrote s t w at all c new ended) → (before : List ℕ) (o : Matched) → outcome M w at all before c ≡ Some o → BeginsWith o.after.written (before ++ h.out)
 performed_front M wrote s t w at all c new ended h before o is =
     let same : Some (record { after = acting_of w new (before ++ h.out); ended = ended }) ≡ Some o = sym (h.acts before) ∙ is in

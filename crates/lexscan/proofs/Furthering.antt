@@ -10,11 +10,11 @@ use Rattle.lexscan.specs.declared.state.State.{State}
 use Rattle.lexscan.specs.declared.error.RunError.TheVariants.{Write}
 use Rattle.lexscan.specs.Descends.{ending_of}
 use Rattle.lexscan.specs.Stands.{state_of, Stands, Fell}
-use Rattle.lexscan.specs.Bursts.{Between, AllStand, Went, Broke}
+use Rattle.lexscan.specs.Bursts.{Between, AllStand, TurnsMade, Broke}
 
 -- what is known of a state is known of each that stands as it does
-pub stands_all : (M : Machine) (n : ℕ) (given out : List ℕ) (old : State) (bytes : List ℕ) → old.reading.window.bytes ≡ bytes → old.reading.at_end ≡ false → old.spot.at ≡ 0 → old.ended ≡ None → Stands M n given out old →
-    AllStand M n given out bytes old.reading.taken old.spot.condition old.spot.line_start old.acting.stack
+pub stands_all : (M : Machine) (n : ℕ) (given out : List ℕ) (old : State) (bytes : List ℕ) → old.reading.window.bytes ≡ bytes → old.reading.at_end ≡ false → old.place.at ≡ 0 → old.ended ≡ None → Stands M n given out old →
+    AllStand M n given out bytes old.reading.taken old.place.condition old.place.line_start old.acting.stack
 stands_all M n given out old bytes held reading at going h v b works = record {
   works = works;
   start = h.start;
@@ -61,7 +61,7 @@ no_further M n given out s h = subst (λ l. Stands M (0 + n) l (out ++ []) s) (s
 -- the turns of a burst, over a state and the one after it
 module _ (M : Machine) (old new : State) (text ready : List ℕ) (h shown asked done condition : ℕ) (line : Bool) (size : h ≡ length old.reading.window.bytes) (is : text ≡ old.reading.window.bytes ++ take shown ready) (few : shown ≤ length ready)
     (low : h ≤ asked) (high : asked ≤ length text) (held_is : new.reading.window.bytes ≡ drop done (old.reading.window.bytes ++ take (asked - h) ready)) (taken_is : new.reading.taken ≡ old.reading.taken + (asked - h)) (reading : old.reading.at_end ≡ false)
-    (at_end : new.reading.at_end ≡ false) (begins : old.spot.at ≡ 0) (at : new.spot.at ≡ 0) (line_is : new.spot.line_start ≡ line) (condition_is : new.spot.condition ≡ condition) (stack_is : new.acting.stack ≡ old.acting.stack) (going : old.ended ≡ None)
+    (at_end : new.reading.at_end ≡ false) (begins : old.place.at ≡ 0) (at : new.place.at ≡ 0) (line_is : new.place.line_start ≡ line) (condition_is : new.place.condition ≡ condition) (stack_is : new.acting.stack ≡ old.acting.stack) (going : old.ended ≡ None)
     (goes : new.ended ≡ None) {K : Type 0} (wrote : K → List ℕ → K → Type 0) (t u : K) where
   abbrev bytes : List ℕ
   bytes = old.reading.window.bytes
@@ -90,12 +90,12 @@ module _ (M : Machine) (old new : State) (text ready : List ℕ) (h shown asked 
     going = goes;
   }
 
-  pub went_further : (went : Went M wrote t u text h old.spot.condition old.spot.line_start done asked condition line) → new.failed ≡ false → (n : ℕ) (given out : List ℕ) → Stands M n given out old →
+  pub went_further : (went : TurnsMade M wrote t u text h old.place.condition old.place.line_start done asked condition line) → new.failed ≡ false → (n : ℕ) (given out : List ℕ) → Stands M n given out old →
       Stands M (went.turns + n) (given ++ take (asked - h) ready) (out ++ went.out) new
   went_further went works n given out stands =
       subst (λ l. Stands M (went.turns + n) (given ++ l) (out ++ went.out) new) given_is
       (went.stand n given out old.reading.taken old.acting.stack (stands_all M n given out old (take h text) first_held reading begins going stands) new between works)
 
-  pub broke_further : (broke : Broke M wrote t u text h old.spot.condition old.spot.line_start done asked condition line) → new.failed ≡ true → (n : ℕ) (given out : List ℕ) → Stands M n given out old →
+  pub broke_further : (broke : Broke M wrote t u text h old.place.condition old.place.line_start done asked condition line) → new.failed ≡ true → (n : ℕ) (given out : List ℕ) → Stands M n given out old →
       Fell M (broke.turns + n) (given ++ drop h (take broke.before text)) (drop broke.before (take asked text)) (out ++ broke.out) new Write
   broke_further broke bad n given out stands = broke.fell n given out old.reading.taken old.acting.stack (stands_all M n given out old (take h text) first_held reading begins going stands) new between bad

@@ -8,12 +8,12 @@ use Rattle.lex_semantics.proofs.MachineLaws.{walk-append}
 use Rattle.lex_semantics.proofs.Texts.{is_text_append}
 use Rattle.lex_semantics.proofs.Fronts.{among_append}
 use Rattle.lexscan.specs.declared.state.Reading.{Reading}
-use Rattle.lexscan.specs.declared.state.Spot.{Spot}
+use Rattle.lexscan.specs.declared.state.TextPlace.{TextPlace}
 use Rattle.lexscan.specs.Reads.{Took, end_step}
-use Rattle.lexscan.specs.Sees.{SoFar, GoesOnAfter}
+use Rattle.lexscan.specs.Looks.{SoFar, GoesOnAfter}
 use Rattle.lexscan.specs.Walks.{Walked, Grown}
-use Rattle.lexscan.specs.declared.window.Walk.{Walk}
-use Rattle.lexscan.specs.Picks.{trail_of, state_at}
+use Rattle.lexscan.specs.declared.walk.Walk.{Walk}
+use Rattle.lexscan.specs.Picks.{path_of, state_at}
 use Rattle.std.proofs.lemmas.List.{take_all}
 use Rattle.std.proofs.Math.Seq.{take-append-add}
 use Rattle.std.proofs.lemmas.Bool.{cases_lt}
@@ -26,41 +26,41 @@ take_one_more (suc n) (b ∷ l) lt =
     let e : suc n + 1 ≡ suc (n + 1) = omega arith in
     ap (λ k. take k (b ∷ l)) e ∙ ap (λ z. b ∷ z) (take_one_more n l (omega (arith, lt)))
 
-pub trail_length : (M : Machine) (s : ℕ) (y : List ℕ) → length (trail_from M s y) ≡ length y
-trail_length M s [] = refl
-trail_length M s (b ∷ y) = ap suc (trail_length M (M.next s b) y)
+pub path_length : (M : Machine) (s : ℕ) (y : List ℕ) → length (trail_from M s y) ≡ length y
+path_length M s [] = refl
+path_length M s (b ∷ y) = ap suc (path_length M (M.next s b) y)
 
-pub trail_snoc : (M : Machine) (s b : ℕ) (y : List ℕ) → trail_from M s (y ++ b ∷ []) ≡ trail_from M s y ++ M.next (walk M s y) b ∷ []
-trail_snoc M s b [] = refl
-trail_snoc M s b (c ∷ y) = ap (λ z. M.next s c ∷ z) (trail_snoc M (M.next s c) b y)
+pub path_snoc : (M : Machine) (s b : ℕ) (y : List ℕ) → trail_from M s (y ++ b ∷ []) ≡ trail_from M s y ++ M.next (walk M s y) b ∷ []
+path_snoc M s b [] = refl
+path_snoc M s b (c ∷ y) = ap (λ z. M.next s c ∷ z) (path_snoc M (M.next s c) b y)
 
-pub so_far_longer : (M : Machine) (p : Spot) (w more : List ℕ) (reach state : ℕ) (trail : List ℕ) → SoFar M p w reach state trail → SoFar M p (w ++ more) reach state trail
-so_far_longer M p w more reach state trail h = record {
+pub so_far_longer : (M : Machine) (p : TextPlace) (w more : List ℕ) (reach state : ℕ) (path : List ℕ) → SoFar M p w reach state path → SoFar M p (w ++ more) reach state path
+so_far_longer M p w more reach state path h = record {
   inside = omega (arith, length-append w more, h.inside);
   state_is = h.state_is ∙ ap (state_after M p.condition p.line_start) (sym (take-append-le reach w more h.inside));
   asked = λ i some lt. ap (λ z. M.goes_on (state_after M p.condition p.line_start z)) (take-append-le i w more (omega (arith, h.inside))) ∙ h.asked i some lt;
-  trail_is = h.trail_is ∙ ap (trail_from M (M.start p.condition p.line_start)) (sym (take-append-le reach w more h.inside));
+  path_is = h.path_is ∙ ap (trail_from M (M.start p.condition p.line_start)) (sym (take-append-le reach w more h.inside));
 }
 
 -- over a window that has grown
-pub so_far_grown : (M : Machine) (p : Spot) (w w' more : List ℕ) (reach state : ℕ) (trail : List ℕ) → p.at ≤ length w → w' ≡ w ++ more → SoFar M p (drop p.at w) reach state trail → SoFar M p (drop p.at w') reach state trail
-so_far_grown M p w w' more reach state trail le e h =
-    subst (λ z. SoFar M p z reach state trail) (sym (ap (drop p.at) e ∙ drop-append-le p.at w more le)) (so_far_longer M p (drop p.at w) more reach state trail h)
+pub so_far_grown : (M : Machine) (p : TextPlace) (w w' more : List ℕ) (reach state : ℕ) (path : List ℕ) → p.at ≤ length w → w' ≡ w ++ more → SoFar M p (drop p.at w) reach state path → SoFar M p (drop p.at w') reach state path
+so_far_grown M p w w' more reach state path le e h =
+    subst (λ z. SoFar M p z reach state path) (sym (ap (drop p.at) e ∙ drop-append-le p.at w more le)) (so_far_longer M p (drop p.at w) more reach state path h)
 
-pub next_asked : (M : Machine) (p : Spot) (w : List ℕ) (reach state : ℕ) (trail : List ℕ) → SoFar M p w reach state trail → (1 ≤ reach → M.goes_on state ≡ true) →
+pub next_asked : (M : Machine) (p : TextPlace) (w : List ℕ) (reach state : ℕ) (path : List ℕ) → SoFar M p w reach state path → (1 ≤ reach → M.goes_on state ≡ true) →
     (i : ℕ) → 1 ≤ i → i < reach + 1 → (i < reach) ⊎ (reach ≤ i) → GoesOnAfter M p w i
-next_asked M p w reach state trail h live i some less (inl a) = h.asked i some a
-next_asked M p w reach state trail h live i some less (inr b) =
+next_asked M p w reach state path h live i some less (inl a) = h.asked i some a
+next_asked M p w reach state path h live i some less (inr b) =
     let same : i ≡ reach = omega arith in
     ap (λ j. M.goes_on (state_after M p.condition p.line_start (take j w))) same ∙ ap M.goes_on (sym h.state_is) ∙ live (omega arith)
 
-pub so_far_more : (M : Machine) (p : Spot) (w : List ℕ) (reach state : ℕ) (trail : List ℕ) → SoFar M p w reach state trail → reach < length w → (1 ≤ reach → M.goes_on state ≡ true) →
-    SoFar M p w (reach + 1) (M.next state (get_or w reach 0)) (trail ++ M.next state (get_or w reach 0) ∷ [])
-so_far_more M p w reach state trail h lt live = record {
+pub so_far_more : (M : Machine) (p : TextPlace) (w : List ℕ) (reach state : ℕ) (path : List ℕ) → SoFar M p w reach state path → reach < length w → (1 ≤ reach → M.goes_on state ≡ true) →
+    SoFar M p w (reach + 1) (M.next state (get_or w reach 0)) (path ++ M.next state (get_or w reach 0) ∷ [])
+so_far_more M p w reach state path h lt live = record {
   inside = omega arith;
   state_is = ap (λ s. M.next s b) h.state_is ∙ sym (walk-append M s0 (take reach w) (b ∷ [])) ∙ ap (walk M s0) (sym one);
-  asked = λ i some less. next_asked M p w reach state trail h live i some less (grind arith);
-  trail_is = ap (λ t. t ++ M.next state b ∷ []) h.trail_is ∙ ap (λ s. trail_from M s0 (take reach w) ++ M.next s b ∷ []) h.state_is ∙ sym (trail_snoc M s0 b (take reach w)) ∙ ap (trail_from M s0) (sym one);
+  asked = λ i some less. next_asked M p w reach state path h live i some less (grind arith);
+  path_is = ap (λ t. t ++ M.next state b ∷ []) h.path_is ∙ ap (λ s. trail_from M s0 (take reach w) ++ M.next s b ∷ []) h.state_is ∙ sym (path_snoc M s0 b (take reach w)) ∙ ap (trail_from M s0) (sym one);
 }
   where
     b : ℕ
@@ -73,18 +73,18 @@ so_far_more M p w reach state trail h lt live = record {
     one = take_one_more reach w lt
 
 -- the state after one byte more of the window
-pub step_more : (M : Machine) (p : Spot) (w w' more : List ℕ) (reach state s' : ℕ) (trail trail' : List ℕ) → p.at ≤ length w → w' ≡ w ++ more → p.at + reach < length w' →
-    SoFar M p (drop p.at w) reach state trail → (1 ≤ reach → M.goes_on state ≡ true) → s' ≡ M.next state (get_or w' (p.at + reach) 0) → trail' ≡ trail ++ s' ∷ [] →
-    SoFar M p (drop p.at w') (reach + 1) s' trail'
-step_more M p w w' more reach state s' trail trail' le e lt h live stepped pushed =
+pub step_more : (M : Machine) (p : TextPlace) (w w' more : List ℕ) (reach state s' : ℕ) (path path' : List ℕ) → p.at ≤ length w → w' ≡ w ++ more → p.at + reach < length w' →
+    SoFar M p (drop p.at w) reach state path → (1 ≤ reach → M.goes_on state ≡ true) → s' ≡ M.next state (get_or w' (p.at + reach) 0) → path' ≡ path ++ s' ∷ [] →
+    SoFar M p (drop p.at w') (reach + 1) s' path'
+step_more M p w w' more reach state s' path path' le e lt h live stepped pushed =
     let less : reach < length (drop p.at w') = omega (arith, length-drop p.at w', lt) in
     let here : s' ≡ M.next state (get_or (drop p.at w') reach 0) = stepped ∙ ap (M.next state) (sym (get_or-drop p.at w' reach 0)) in
-    let next : SoFar M p (drop p.at w') (reach + 1) (M.next state (get_or (drop p.at w') reach 0)) (trail ++ M.next state (get_or (drop p.at w') reach 0) ∷ []) =
-    so_far_more M p (drop p.at w') reach state trail (so_far_grown M p w w' more reach state trail le e h) less live in
-    subst (λ t. SoFar M p (drop p.at w') (reach + 1) s' t) (sym pushed) (subst (λ s. SoFar M p (drop p.at w') (reach + 1) s (trail ++ s ∷ [])) (sym here) next)
+    let next : SoFar M p (drop p.at w') (reach + 1) (M.next state (get_or (drop p.at w') reach 0)) (path ++ M.next state (get_or (drop p.at w') reach 0) ∷ []) =
+    so_far_more M p (drop p.at w') reach state path (so_far_grown M p w w' more reach state path le e h) less live in
+    subst (λ t. SoFar M p (drop p.at w') (reach + 1) s' t) (sym pushed) (subst (λ s. SoFar M p (drop p.at w') (reach + 1) s (path ++ s ∷ [])) (sym here) next)
 
-pub known_more : (n s : ℕ) (trail trail' : List ℕ) → trail' ≡ trail ++ s ∷ [] → s < n → ((t : ℕ) → Among trail t → t < n) → (t : ℕ) → Among trail' t → t < n
-known_more n s trail trail' e lt h t a = elim (among_append trail (s ∷ []) t (subst (λ l. Among l t) e a)) [ inl k ↦ h t k | inr k ↦ last k ]
+pub known_more : (n s : ℕ) (path path' : List ℕ) → path' ≡ path ++ s ∷ [] → s < n → ((t : ℕ) → Among path t → t < n) → (t : ℕ) → Among path' t → t < n
+known_more n s path path' e lt h t a = elim (among_append path (s ∷ []) t (subst (λ l. Among l t) e a)) [ inl k ↦ h t k | inr k ↦ last k ]
   where
     last : Among (s ∷ []) t → t < n
     last (inl k) = omega (arith, k, lt)
@@ -113,7 +113,7 @@ end_step_same false true e = absurd (no e)
 end_step_same false false e = refl
 
 -- a walk over bytes that follow those held
-module _ (M : Machine) (p : Spot) (w w' got : List ℕ) (n state : ℕ) (le : p.at ≤ length w) (all : p.at + n ≡ length w) (grown : w' ≡ w ++ got) where
+module _ (M : Machine) (p : TextPlace) (w w' got : List ℕ) (n state : ℕ) (le : p.at ≤ length w) (all : p.at + n ≡ length w) (grown : w' ≡ w ++ got) where
   abbrev y : List ℕ
   y = drop p.at w
 
@@ -133,15 +133,15 @@ module _ (M : Machine) (p : Spot) (w w' got : List ℕ) (n state : ℕ) (le : p.
   front : (j : ℕ) → take (n + j) (y ++ got) ≡ y ++ take j got
   front j = ap (λ m. take (m + j) (y ++ got)) (sym size) ∙ take-append-add y got j
 
-  state_after_front : (trail : List ℕ) → SoFar M p y n state trail → (j : ℕ) → walk M s0 (take (n + j) (y ++ got)) ≡ walk M state (take j got)
-  state_after_front trail h j =
+  state_after_front : (path : List ℕ) → SoFar M p y n state path → (j : ℕ) → walk M s0 (take (n + j) (y ++ got)) ≡ walk M state (take j got)
+  state_after_front path h j =
       ap (walk M s0) (front j) ∙ walk-append M s0 y (take j got) ∙ ap (λ s. walk M s (take j got)) (ap (walk M s0) (sym whole) ∙ sym h.state_is)
 
-  asked_on : (trail : List ℕ) → SoFar M p y n state trail → (1 ≤ n → M.goes_on state ≡ true) → (s' before : ℕ) → Walked M state got s' before →
+  asked_on : (path : List ℕ) → SoFar M p y n state path → (1 ≤ n → M.goes_on state ≡ true) → (s' before : ℕ) → Walked M state got s' before →
       (i : ℕ) → 1 ≤ i → i < n + length got → (i < n) ⊎ (n ≤ i) → GoesOnAfter M p (y ++ got) i
-  asked_on trail h live s' before k i some less (inl a) = ap (λ z. M.goes_on (walk M s0 z)) (take-append-le i y got (omega (arith, size, a))) ∙ h.asked i some a
-  asked_on trail h live s' before k i some less (inr b) =
-      ap (λ j. M.goes_on (walk M s0 (take j (y ++ got)))) (sym there) ∙ ap M.goes_on (state_after_front trail h (i - n)) ∙ here (i - n) (omega (arith, less, b)) refl
+  asked_on path h live s' before k i some less (inl a) = ap (λ z. M.goes_on (walk M s0 z)) (take-append-le i y got (omega (arith, size, a))) ∙ h.asked i some a
+  asked_on path h live s' before k i some less (inr b) =
+      ap (λ j. M.goes_on (walk M s0 (take j (y ++ got)))) (sym there) ∙ ap M.goes_on (state_after_front path h (i - n)) ∙ here (i - n) (omega (arith, less, b)) refl
     where
       there : n + (i - n) ≡ i
       there = omega (arith, b)
@@ -150,34 +150,34 @@ module _ (M : Machine) (p : Spot) (w w' got : List ℕ) (n state : ℕ) (le : p.
       here zero lt e = live (omega (arith, e, some, b))
       here (suc j) lt e = k.asked (suc j) (omega arith) lt
 
-  pub so_far_walked : (trail : List ℕ) → SoFar M p y n state trail → (1 ≤ n → M.goes_on state ≡ true) → (s' before : ℕ) → Walked M state got s' before →
+  pub so_far_walked : (path : List ℕ) → SoFar M p y n state path → (1 ≤ n → M.goes_on state ≡ true) → (s' before : ℕ) → Walked M state got s' before →
       SoFar M p (drop p.at w') (n + length got) s' (trail_from M s0 (take (n + length got) (drop p.at w')))
-  so_far_walked trail h live s' before k = subst (λ z. SoFar M p z (n + length got) s' (trail_from M s0 (take (n + length got) z))) (sym after) (record {
+  so_far_walked path h live s' before k = subst (λ z. SoFar M p z (n + length got) s' (trail_from M s0 (take (n + length got) z))) (sym after) (record {
     inside = omega (arith, length-append y got, size);
-    state_is = k.state_is ∙ ap (walk M state) (sym (take_all (length got) got (omega arith))) ∙ sym (state_after_front trail h (length got));
-    asked = λ i some less. asked_on trail h live s' before k i some less (elim (cases_lt i n) [ inl z ↦ inl z | inr z ↦ inr z ]);
-    trail_is = refl;
+    state_is = k.state_is ∙ ap (walk M state) (sym (take_all (length got) got (omega arith))) ∙ sym (state_after_front path h (length got));
+    asked = λ i some less. asked_on path h live s' before k i some less (elim (cases_lt i n) [ inl z ↦ inl z | inr z ↦ inr z ]);
+    path_is = refl;
   })
 
   -- the state before the last byte, where the walk took some
-  pub before_walked : (trail : List ℕ) → SoFar M p y n state trail → (s' before : ℕ) → Walked M state got s' before → 1 ≤ length got →
+  pub before_walked : (path : List ℕ) → SoFar M p y n state path → (s' before : ℕ) → Walked M state got s' before → 1 ≤ length got →
       before ≡ state_after M p.condition p.line_start (take (n + length got - 1) (drop p.at w'))
-  before_walked trail h s' before k some =
-      k.before_is some ∙ sym (state_after_front trail h (length got - 1)) ∙ ap (λ m. walk M s0 (take m (y ++ got))) (omega (arith, some)) ∙ ap (λ z. walk M s0 (take (n + length got - 1) z)) (sym after)
+  before_walked path h s' before k some =
+      k.before_is some ∙ sym (state_after_front path h (length got - 1)) ∙ ap (λ m. walk M s0 (take m (y ++ got))) (omega (arith, some)) ∙ ap (λ z. walk M s0 (take (n + length got - 1) z)) (sym after)
 
 -- what is known of a match after a walk, by its reach in the window
-pub walked_on : (M : Machine) (p : Spot) (old new : Reading) (n state before : ℕ) (k : Walk) → p.at + n ≡ length old.window.bytes →
-    SoFar M p (drop p.at old.window.bytes) n state (trail_of M p old.window.bytes n) → (1 ≤ n → M.goes_on state ≡ true) → Grown M old new state k → (reach : ℕ) → reach ≡ length new.window.bytes - p.at →
-    SoFar M p (drop p.at new.window.bytes) reach k.state (trail_of M p new.window.bytes reach)
+pub walked_on : (M : Machine) (p : TextPlace) (old new : Reading) (n state before : ℕ) (k : Walk) → p.at + n ≡ length old.window.bytes →
+    SoFar M p (drop p.at old.window.bytes) n state (path_of M p old.window.bytes n) → (1 ≤ n → M.goes_on state ≡ true) → Grown M old new state k → (reach : ℕ) → reach ≡ length new.window.bytes - p.at →
+    SoFar M p (drop p.at new.window.bytes) reach k.state (path_of M p new.window.bytes reach)
 walked_on M p old new n state before k place h live g reach e =
-    subst (λ r. SoFar M p (drop p.at new.window.bytes) r k.state (trail_of M p new.window.bytes r)) (omega (arith, e, place, sizes))
-    (so_far_walked M p old.window.bytes new.window.bytes g.got n state (omega (arith, place)) place g.held (trail_of M p old.window.bytes n) h live k.state k.before g.walked)
+    subst (λ r. SoFar M p (drop p.at new.window.bytes) r k.state (path_of M p new.window.bytes r)) (omega (arith, e, place, sizes))
+    (so_far_walked M p old.window.bytes new.window.bytes g.got n state (omega (arith, place)) place g.held (path_of M p old.window.bytes n) h live k.state k.before g.walked)
   where
     sizes : length new.window.bytes ≡ length old.window.bytes + length g.got
     sizes = ap length g.held ∙ length-append old.window.bytes g.got
 
-pub before_on : (M : Machine) (p : Spot) (old new : Reading) (n state before b : ℕ) (k : Walk) → p.at + n ≡ length old.window.bytes →
-    SoFar M p (drop p.at old.window.bytes) n state (trail_of M p old.window.bytes n) → (1 ≤ n → before ≡ state_at M p old.window.bytes (n - 1)) → (g : Grown M old new state k) →
+pub before_on : (M : Machine) (p : TextPlace) (old new : Reading) (n state before b : ℕ) (k : Walk) → p.at + n ≡ length old.window.bytes →
+    SoFar M p (drop p.at old.window.bytes) n state (path_of M p old.window.bytes n) → (1 ≤ n → before ≡ state_at M p old.window.bytes (n - 1)) → (g : Grown M old new state k) →
     (1 ≤ k.count → b ≡ k.before) → (k.count ≡ 0 → b ≡ before) → (reach : ℕ) → reach ≡ length new.window.bytes - p.at → 1 ≤ reach → b ≡ state_at M p new.window.bytes (reach - 1)
 before_on M p old new n state before b k place h was g taken none reach e some = by_count (cases_lt 0 k.count)
   where
@@ -192,7 +192,7 @@ before_on M p old new n state before b k place h was g taken none reach e some =
 
     by_count : (0 < k.count) ⊎ (k.count ≤ 0) → b ≡ state_at M p new.window.bytes (reach - 1)
     by_count (inl lt) =
-        taken (omega (arith, lt)) ∙ before_walked M p old.window.bytes new.window.bytes g.got n state le place g.held (trail_of M p old.window.bytes n) h k.state k.before g.walked (omega (arith, lt, g.count))
+        taken (omega (arith, lt)) ∙ before_walked M p old.window.bytes new.window.bytes g.got n state le place g.held (path_of M p old.window.bytes n) h k.state k.before g.walked (omega (arith, lt, g.count))
         ∙ ap (λ r. state_at M p new.window.bytes r) (omega (arith, reach_is))
     by_count (inr none_taken) =
         let nothing : length g.got ≡ 0 = omega (arith, none_taken, g.count) in
@@ -207,10 +207,10 @@ pub goes_after : (M : Machine) (n state reach : ℕ) (got : List ℕ) (s' before
 goes_after M n state reach [] s' before k stops live e some = ap M.goes_on k.state_is ∙ live (omega (arith, e, some))
 goes_after M n state reach (b ∷ got) s' before k stops live e some = stops (omega arith)
 
-pub all_asked : (M : Machine) (p : Spot) (w : List ℕ) (n state : ℕ) (trail : List ℕ) → SoFar M p (drop p.at w) n state trail → p.at + n ≡ length w → (1 ≤ n → M.goes_on state ≡ true) →
+pub all_asked : (M : Machine) (p : TextPlace) (w : List ℕ) (n state : ℕ) (path : List ℕ) → SoFar M p (drop p.at w) n state path → p.at + n ≡ length w → (1 ≤ n → M.goes_on state ≡ true) →
     (i : ℕ) → 1 ≤ i → p.at + i ≤ length w → GoesOnAfter M p (drop p.at w) i
-all_asked M p w n state trail h place live i some inside =
-    next_asked M p (drop p.at w) n state trail h live i some (omega (arith, place, inside)) (elim (cases_lt i n) [ inl a ↦ inl a | inr b ↦ inr b ])
+all_asked M p w n state path h place live i some inside =
+    next_asked M p (drop p.at w) n state path h live i some (omega (arith, place, inside)) (elim (cases_lt i n) [ inl a ↦ inl a | inr b ↦ inr b ])
 
 pub was_reading : (a b : Bool) → (a ≡ true → b ≡ true) → b ≡ false → a ≡ false
 was_reading true b h e = sym (h refl) ∙ e

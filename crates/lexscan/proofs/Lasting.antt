@@ -28,7 +28,7 @@ start_of s = s.reading.taken - length s.reading.window.bytes
 
 -- how much the turns may still go on, where at most m bytes are taken
 abbrev pub left_over : ℕ → State → ℕ
-left_over m s = (m - start_of s) * (m + 1) + (m - (start_of s + s.spot.at))
+left_over m s = (m - start_of s) * (m + 1) + (m - (start_of s + s.place.at))
 
 start_is : (M : Machine) (n : ℕ) (given out : List ℕ) (s : State) (h : Stands M n given out s) → start_of s ≡ h.start
 start_is M n given out s h =

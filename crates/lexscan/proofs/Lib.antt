@@ -15,3 +15,4 @@ pub mod Bursting
 pub mod Furthering
 pub mod Barrens
 pub mod Marks
+pub mod Making

@@ -11,13 +11,13 @@ use Rattle.lex_semantics.specs.MachineLaws.{MachineLaws}
 use Rattle.lex_semantics.proofs.Texts.{line_start_front}
 use Rattle.lex_semantics.proofs.Wanted.{WantsMore}
 use Rattle.lexscan.specs.declared.state.Reading.{Reading}
-use Rattle.lexscan.specs.declared.state.Spot.{Spot}
-use Rattle.lexscan.specs.Sees.{SoFar, GoesOnAfter, Wants}
+use Rattle.lexscan.specs.declared.state.TextPlace.{TextPlace}
+use Rattle.lexscan.specs.Looks.{SoFar, GoesOnAfter, Wants}
 use Rattle.lexscan.specs.Descends.{outcome, matches_of}
 use Rattle.lexscan.proofs.Outcomes.{seen_matches, all_seen, seen_outcome}
 
 -- where a match stands in the input
-module _ (M : Machine) (laws : MachineLaws M) (given got : List ℕ) (start : ℕ) (p : Spot) (cs w : List ℕ)
+module _ (M : Machine) (laws : MachineLaws M) (given got : List ℕ) (start : ℕ) (p : TextPlace) (cs w : List ℕ)
     (covered : start + p.at ≤ length given) (win : drop start (given ++ got) ≡ w) (line : p.line_start ≡ at_line_start given (start + p.at)) where
   from_here : drop (start + p.at) (given ++ got) ≡ drop p.at w
   from_here = sym (drop-drop p.at start (given ++ got)) ∙ ap (drop p.at) win
@@ -52,7 +52,7 @@ module _ (M : Machine) (laws : MachineLaws M) (given got : List ℕ) (start : �
       asks (suc i) le = inr (to_input (suc i) (subst (λ z. GoesOnAfter M p (drop p.at z) (suc i)) same (h.asked (suc i) (omega arith) (omega (arith, le, window_size, ap length same)))))
 
   -- what a match has seen
-  module _ (reach state : ℕ) (trail : List ℕ) (some : 1 ≤ reach) (h : SoFar M p (drop p.at w) reach state trail) where
+  module _ (reach state : ℕ) (path : List ℕ) (some : 1 ≤ reach) (h : SoFar M p (drop p.at w) reach state path) where
     pub inside_here : start + p.at + reach ≤ length (given ++ got)
     inside_here = omega (arith, h.inside, length-drop p.at w, window_size, some)
 
@@ -70,7 +70,7 @@ module _ (M : Machine) (laws : MachineLaws M) (given got : List ℕ) (start : �
     asks_here zero lt = inl refl
     asks_here (suc i) lt = inr (to_input (suc i) (h.asked (suc i) (omega arith) lt))
 
-    pub seen_here : (o : Matched) → outcome M w p.at (matches_of M w p.at trail) [] (record { next = p.condition; stack = cs }) ≡ Some o →
+    pub seen_here : (o : Matched) → outcome M w p.at (matches_of M w p.at path) [] (record { next = p.condition; stack = cs }) ≡ Some o →
         (s : Seen (rules_of_machine M) (given ++ got) (record { start = start; at = start + p.at; condition = p.condition; stack = cs }) reach) × (s.outcome ≡ o)
     seen_here o is =
         let yw : List ℕ = drop p.at w in
@@ -79,13 +79,13 @@ module _ (M : Machine) (laws : MachineLaws M) (given got : List ℕ) (start : �
             inside = inside_here;
             some = some;
             asked = asks_here;
-            matches = seen_matches M laws p w reach state trail some h;
-            all = subst (λ q. Candidates (rules_of_machine M) p.condition q (take reach y) (seen_matches M laws p w reach state trail some h)) (sym line_is)
-                (subst (λ z. Candidates (rules_of_machine M) p.condition p.line_start (take reach z) (seen_matches M laws p w reach state trail some h)) (sym from_here) (all_seen M laws p w reach state trail some h));
+            matches = seen_matches M laws p w reach state path some h;
+            all = subst (λ q. Candidates (rules_of_machine M) p.condition q (take reach y) (seen_matches M laws p w reach state path some h)) (sym line_is)
+                (subst (λ z. Candidates (rules_of_machine M) p.condition p.line_start (take reach z) (seen_matches M laws p w reach state path some h)) (sym from_here) (all_seen M laws p w reach state path some h));
             outcome = o;
-            performed = ap (λ k. perform (rules_of_machine M) k (take reach y) (seen_matches M laws p w reach state trail some h) [] p.condition cs) kept_is
-                ∙ ap (λ z. perform (rules_of_machine M) (take p.at w) (take reach z) (seen_matches M laws p w reach state trail some h) [] p.condition cs) from_here
-                ∙ sym (seen_outcome M laws p w reach state trail some h [] (record { next = p.condition; stack = cs })) ∙ is;
+            performed = ap (λ k. perform (rules_of_machine M) k (take reach y) (seen_matches M laws p w reach state path some h) [] p.condition cs) kept_is
+                ∙ ap (λ z. perform (rules_of_machine M) (take p.at w) (take reach z) (seen_matches M laws p w reach state path some h) [] p.condition cs) from_here
+                ∙ sym (seen_outcome M laws p w reach state path some h [] (record { next = p.condition; stack = cs })) ∙ is;
           },
           refl,
         )

@@ -21,8 +21,8 @@ use Rattle.lex_semantics.proofs.Local.{same_performed, keep_inside}
 use Rattle.lex_semantics.proofs.Falling.{falling_candidates}
 use Rattle.lex_semantics.proofs.Ends.{GoodMatch, perform_good, keep_bounds, legal_of}
 use Rattle.lex_semantics.proofs.Once.{some_inj}
-use Rattle.lexscan.specs.declared.state.Spot.{Spot}
-use Rattle.lexscan.specs.Sees.{SoFar}
+use Rattle.lexscan.specs.declared.state.TextPlace.{TextPlace}
+use Rattle.lexscan.specs.Looks.{SoFar}
 use Rattle.lexscan.specs.Descends.{Conditions, outcome, matches_of}
 use Rattle.lexscan.proofs.Descending.{default_one}
 
@@ -47,48 +47,48 @@ perform_below R legal kept y (m ∷ ms) out c cs o lt e =
     (act_below R.conditions (statements_of R m.rule) a lt (begins_below R.conditions (statements_of R m.rule) ok.ranges))
     (λ b less p. perform_below R legal kept y ms b.written b.condition b.stack o less p) e
 
-module _ (M : Machine) (laws : MachineLaws M) (p : Spot) (w : List ℕ) (reach state : ℕ) (trail : List ℕ) (some : 1 ≤ reach) (h : SoFar M p (drop p.at w) reach state trail) where
+module _ (M : Machine) (laws : MachineLaws M) (p : TextPlace) (w : List ℕ) (reach state : ℕ) (path : List ℕ) (some : 1 ≤ reach) (h : SoFar M p (drop p.at w) reach state path) where
   -- the bytes that the match has asked for
-  abbrev pub seen : List ℕ
-  seen = take reach (drop p.at w)
+  abbrev pub ahead : List ℕ
+  ahead = take reach (drop p.at w)
 
   -- all the matches among them
   abbrev pub seen_matches : List Candidate
-  seen_matches = falling M 0 (trail_from M (M.start p.condition p.line_start) seen) ++ default_match M.count seen
+  seen_matches = falling M 0 (trail_from M (M.start p.condition p.line_start) ahead) ++ default_match M.count ahead
 
-  pub size : length seen ≡ reach
+  pub size : length ahead ≡ reach
   size = length-take-le reach (drop p.at w) h.inside
 
-  pub matches_are : matches_of M w p.at trail ≡ seen_matches
+  pub matches_are : matches_of M w p.at path ≡ seen_matches
   matches_are =
-      ap (λ t. falling M 0 t ++ default_match M.count (drop p.at w)) h.trail_is
-      ∙ ap (λ l. falling M 0 (trail_from M (M.start p.condition p.line_start) seen) ++ l) (default_one M (drop p.at w) (omega (arith, some, h.inside)) ∙ sym (default_one M seen (omega (arith, some, size))))
+      ap (λ t. falling M 0 t ++ default_match M.count (drop p.at w)) h.path_is
+      ∙ ap (λ l. falling M 0 (trail_from M (M.start p.condition p.line_start) ahead) ++ l) (default_one M (drop p.at w) (omega (arith, some, h.inside)) ∙ sym (default_one M ahead (omega (arith, some, size))))
 
-  pub all_seen : Candidates (rules_of_machine M) p.condition p.line_start seen seen_matches
-  all_seen = falling_candidates M laws p.condition p.line_start seen
+  pub all_seen : Candidates (rules_of_machine M) p.condition p.line_start ahead seen_matches
+  all_seen = falling_candidates M laws p.condition p.line_start ahead
 
   -- over all bytes or over those asked for, the actions make the same of them
-  pub seen_outcome : (out : List ℕ) (c : Conditions) → outcome M w p.at (matches_of M w p.at trail) out c ≡ perform (rules_of_machine M) (take p.at w) seen seen_matches out c.next c.stack
+  pub seen_outcome : (out : List ℕ) (c : Conditions) → outcome M w p.at (matches_of M w p.at path) out c ≡ perform (rules_of_machine M) (take p.at w) ahead seen_matches out c.next c.stack
   seen_outcome out c =
       ap (λ l. outcome M w p.at l out c) matches_are
-      ∙ sym (same_performed (rules_of_machine M) (take p.at w) seen (drop p.at w) seen_matches out c.next c.stack
+      ∙ sym (same_performed (rules_of_machine M) (take p.at w) ahead (drop p.at w) seen_matches out c.next c.stack
       (λ m a. take-take m.keep reach (drop p.at w) (short m a)))
     where
       short : (m : Candidate) → Among seen_matches m → m.keep ≤ reach
-      short m a = let le = keep_inside (rules_of_machine M) (machine_laws M laws) p.condition p.line_start seen m ((all_seen.members m).0 a) in omega (arith, le, size)
+      short m a = let le = keep_inside (rules_of_machine M) (machine_laws M laws) p.condition p.line_start ahead m ((all_seen.members m).0 a) in omega (arith, le, size)
 
   -- there is an outcome
-  pub good : (out : List ℕ) (c : Conditions) → GoodMatch (length (take p.at w)) (length seen) (perform (rules_of_machine M) (take p.at w) seen seen_matches out c.next c.stack)
+  pub good : (out : List ℕ) (c : Conditions) → GoodMatch (length (take p.at w)) (length ahead) (perform (rules_of_machine M) (take p.at w) ahead seen_matches out c.next c.stack)
   good out c =
-      perform_good (rules_of_machine M) laws.legal (take p.at w) seen seen_matches out c.next c.stack
-      (λ m a. keep_bounds (rules_of_machine M) (machine_laws M laws) laws.legal (λ c line_start y. machine_candidates_exist M laws c line_start y) w p.condition p.line_start seen m ((all_seen.members m).0 a))
+      perform_good (rules_of_machine M) laws.legal (take p.at w) ahead seen_matches out c.next c.stack
+      (λ m a. keep_bounds (rules_of_machine M) (machine_laws M laws) laws.legal (λ c line_start y. machine_candidates_exist M laws c line_start y) w p.condition p.line_start ahead m ((all_seen.members m).0 a))
       (record { len = 1; rule = M.count; keep = 1 })
-      (among_right (falling M 0 (trail_from M (M.start p.condition p.line_start) seen)) (default_match M.count seen) (record { len = 1; rule = M.count; keep = 1 })
-      (subst (λ l. Among l (record { len = 1; rule = M.count; keep = 1 })) (sym (default_one M seen (omega (arith, some, size)))) (inl refl)))
+      (among_right (falling M 0 (trail_from M (M.start p.condition p.line_start) ahead)) (default_match M.count ahead) (record { len = 1; rule = M.count; keep = 1 })
+      (subst (λ l. Among l (record { len = 1; rule = M.count; keep = 1 })) (sym (default_one M ahead (omega (arith, some, size)))) (inl refl)))
       refl
 
   -- its text is not empty
-  pub some_text : (o : Matched) (out : List ℕ) (c : Conditions) → outcome M w p.at (matches_of M w p.at trail) out c ≡ Some o → 1 ≤ length o.after.text
+  pub some_text : (o : Matched) (out : List ℕ) (c : Conditions) → outcome M w p.at (matches_of M w p.at path) out c ≡ Some o → 1 ≤ length o.after.text
   some_text o out c e =
       let q = good out c in
       let same : q.0 ≡ o = some_inj q.0 o (sym q.1 ∙ sym (seen_outcome out c) ∙ e) in

@@ -13,14 +13,14 @@ use Rattle.lex_semantics.specs.Trail.{trail_from, falling}
 use Rattle.lex_semantics.proofs.Falling.{falling-snoc}
 use Rattle.lex_semantics.proofs.MachineLaws.{walk-append}
 use Rattle.lex_semantics.specs.MachineLaws.{NoReject}
-use Rattle.lexscan.specs.declared.act.Acting.{Acting}
+use Rattle.lexscan.specs.declared.act.ActionState.{ActionState}
 use Rattle.lexscan.specs.declared.act.Step.{Step}
-use Rattle.lexscan.specs.declared.state.Spot.{Spot}
+use Rattle.lexscan.specs.declared.state.TextPlace.{TextPlace}
 use Rattle.lexscan.specs.declared.pick.Pick.{Pick}
 use Rattle.lexscan.specs.Acts.{acting_of, Carried, CutShort}
 use Rattle.lexscan.specs.Descends.{Conditions, conditions_in, outcome, matches_of, finished_of, Passed, CutAll, Performed}
-use Rattle.lexscan.specs.Picks.{trail_of, IsFirst, state_at}
-use Rattle.lexscan.proofs.Growing.{take_one_more, trail_length, trail_snoc}
+use Rattle.lexscan.specs.Picks.{path_of, IsFirst, state_at}
+use Rattle.lexscan.proofs.Growing.{take_one_more, path_length, path_snoc}
 use Rattle.lexscan.proofs.Descending as Down
 use Rattle.lexscan.proofs.Descending.{ended_by, start_of, head_outcome, statements_are, settled}
 
@@ -38,7 +38,7 @@ keeps_more None n h = h
 keeps_more (Some p) n h = omega (arith, h)
 
 -- the state after one byte more
-pub state_more : (M : Machine) (p : Spot) (w : List ℕ) (n : ℕ) → p.at + n < length w → M.next (state_at M p w n) (get_or w (p.at + n) 0) ≡ state_at M p w (n + 1)
+pub state_more : (M : Machine) (p : TextPlace) (w : List ℕ) (n : ℕ) → p.at + n < length w → M.next (state_at M p w n) (get_or w (p.at + n) 0) ≡ state_at M p w (n + 1)
 state_more M p w n lt =
     let y : List ℕ = drop p.at w in
     let less : n < length y = omega (arith, length-drop p.at w, lt) in
@@ -46,8 +46,8 @@ state_more M p w n lt =
     ap (M.next (walk M s0 (take n y))) (sym (get_or-drop p.at w n 0)) ∙ sym (walk-append M s0 (take n y) (get_or y n 0 ∷ [])) ∙ ap (walk M s0) (sym (take_one_more n y less))
 
 -- the matches that end after one byte more come first
-pub falling_more : (M : Machine) (p : Spot) (w : List ℕ) (n : ℕ) → p.at + n < length w →
-    falling M 0 (trail_of M p w (n + 1)) ≡ filter_map (match_of M (n + 1)) (M.accepts (state_at M p w (n + 1))) ++ falling M 0 (trail_of M p w n)
+pub falling_more : (M : Machine) (p : TextPlace) (w : List ℕ) (n : ℕ) → p.at + n < length w →
+    falling M 0 (path_of M p w (n + 1)) ≡ filter_map (match_of M (n + 1)) (M.accepts (state_at M p w (n + 1))) ++ falling M 0 (path_of M p w n)
 falling_more M p w n lt =
     let y : List ℕ = drop p.at w in
     let less : n < length y = omega (arith, length-drop p.at w, lt) in
@@ -55,19 +55,19 @@ falling_more M p w n lt =
     let b : ℕ = get_or y n 0 in
     let s : ℕ = M.next (walk M s0 (take n y)) b in
     let same : s ≡ state_at M p w (n + 1) = sym (walk-append M s0 (take n y) (b ∷ [])) ∙ ap (walk M s0) (sym (take_one_more n y less)) in
-    let count : length (trail_of M p w n) ≡ n = trail_length M s0 (take n y) ∙ length-take-le n y (omega (arith, less)) in
-    let e : 0 + suc (length (trail_of M p w n)) ≡ n + 1 = omega (arith, count) in
-    ap (falling M 0) (ap (trail_from M s0) (take_one_more n y less) ∙ trail_snoc M s0 b (take n y))
-    ∙ falling-snoc M 0 s (trail_of M p w n)
-    ∙ ap (λ k. filter_map (match_of M k) (M.accepts s) ++ falling M 0 (trail_of M p w n)) e
-    ∙ ap (λ z. filter_map (match_of M (n + 1)) (M.accepts z) ++ falling M 0 (trail_of M p w n)) same
+    let count : length (path_of M p w n) ≡ n = path_length M s0 (take n y) ∙ length-take-le n y (omega (arith, less)) in
+    let e : 0 + suc (length (path_of M p w n)) ≡ n + 1 = omega (arith, count) in
+    ap (falling M 0) (ap (trail_from M s0) (take_one_more n y less) ∙ path_snoc M s0 b (take n y))
+    ∙ falling-snoc M 0 s (path_of M p w n)
+    ∙ ap (λ k. filter_map (match_of M k) (M.accepts s) ++ falling M 0 (path_of M p w n)) e
+    ∙ ap (λ z. filter_map (match_of M (n + 1)) (M.accepts z) ++ falling M 0 (path_of M p w n)) same
 
 -- the same, counted from the last
-pub falling_last : (M : Machine) (p : Spot) (w : List ℕ) (n : ℕ) → 1 ≤ n → p.at + n ≤ length w →
-    falling M 0 (trail_of M p w n) ≡ filter_map (match_of M n) (M.accepts (state_at M p w n)) ++ falling M 0 (trail_of M p w (n - 1))
+pub falling_last : (M : Machine) (p : TextPlace) (w : List ℕ) (n : ℕ) → 1 ≤ n → p.at + n ≤ length w →
+    falling M 0 (path_of M p w n) ≡ filter_map (match_of M n) (M.accepts (state_at M p w n)) ++ falling M 0 (path_of M p w (n - 1))
 falling_last M p w n some le =
     let e : n - 1 + 1 ≡ n = omega (arith, some) in
-    subst (λ k. falling M 0 (trail_of M p w k) ≡ filter_map (match_of M k) (M.accepts (state_at M p w k)) ++ falling M 0 (trail_of M p w (n - 1))) e
+    subst (λ k. falling M 0 (path_of M p w k) ≡ filter_map (match_of M k) (M.accepts (state_at M p w k)) ++ falling M 0 (path_of M p w (n - 1))) e
     (falling_more M p w (n - 1) (omega (arith, some, le)))
 
 -- a fault of the stack does not go to the next match
@@ -98,14 +98,14 @@ quiet_never (Pop ∷ ss) a b h e =
     empty_never a.stack a (λ c cs. act ss (record a { condition = c; stack = cs })) b (λ c cs p. quiet_never ss (record a { condition = c; stack = cs }) b h p) e
 
 module _ {K : Type 0} (M : Machine) (wrote : K → List ℕ → K → Type 0) (none : (s : K) → wrote s [] s) (join : (s t u : K) (xs ys : List ℕ) → wrote s xs t → wrote t ys u → wrote s (xs ++ ys) u) (w : List ℕ) (at : ℕ) where
-  pub never_again : (s t : K) (p : Pick) (c : Conditions) (ss : List Statement) (new : Acting) → NoReject M → p.rule < M.count → ss ≡ M.statements p.rule →
+  pub never_again : (s t : K) (p : Pick) (c : Conditions) (ss : List Statement) (new : ActionState) → NoReject M → p.rule < M.count → ss ≡ M.statements p.rule →
       Carried wrote s t w ss (start_of at p.keep c) new Step.Again → ⊥
   never_again s t p c ss new quiet below same k = quiet_never ss _ _ (ap has_reject same ∙ quiet p.rule below) (k.acts [])
 
   -- its action was carried out
-  pub picked : (s t : K) (trail : List ℕ) (p : Pick) (c : Conditions) (ss : List Statement) (new : Acting) (step : Step) → (step ≡ Step.Again → ⊥) → IsFirst (falling M 0 trail) (Some p) → p.rule < M.count → ss ≡ M.statements p.rule →
-      Carried wrote s t w ss (start_of at p.keep c) new step → Performed M wrote s t w at (matches_of M w at trail) c new (finished_of (ended_by step))
-  picked s t trail p c ss new step never (len, rest, e) below same k = record {
+  pub picked : (s t : K) (path : List ℕ) (p : Pick) (c : Conditions) (ss : List Statement) (new : ActionState) (step : Step) → (step ≡ Step.Again → ⊥) → IsFirst (falling M 0 path) (Some p) → p.rule < M.count → ss ≡ M.statements p.rule →
+      Carried wrote s t w ss (start_of at p.keep c) new step → Performed M wrote s t w at (matches_of M w at path) c new (finished_of (ended_by step))
+  picked s t path p c ss new step never (len, rest, e) below same k = record {
     out = k.out;
     sink = k.sink;
     acts = λ before.
@@ -117,9 +117,9 @@ module _ {K : Type 0} (M : Machine) (wrote : K → List ℕ → K → Type 0) (n
   }
 
   -- or cut short
-  pub picked_cut : (s t : K) (trail : List ℕ) (p : Pick) (c : Conditions) (ss : List Statement) → IsFirst (falling M 0 trail) (Some p) → p.rule < M.count → ss ≡ M.statements p.rule →
-      CutShort wrote s t w ss (start_of at p.keep c) → CutAll M wrote s t w at (matches_of M w at trail) c
-  picked_cut s t trail p c ss (len, rest, e) below same k = record {
+  pub picked_cut : (s t : K) (path : List ℕ) (p : Pick) (c : Conditions) (ss : List Statement) → IsFirst (falling M 0 path) (Some p) → p.rule < M.count → ss ≡ M.statements p.rule →
+      CutShort wrote s t w ss (start_of at p.keep c) → CutAll M wrote s t w at (matches_of M w at path) c
+  picked_cut s t path p c ss (len, rest, e) below same k = record {
     out = k.out;
     sink = k.sink;
     front = λ before o is.
@@ -128,5 +128,5 @@ module _ {K : Type 0} (M : Machine) (wrote : K → List ℕ → K → Type 0) (n
   }
 
   -- there is none but the default match
-  pub none_picked : (s : K) (trail : List ℕ) (c : Conditions) → falling M 0 trail ≡ [] → Passed M wrote s s w at (falling M 0 trail) [] c c
-  none_picked s trail c e = subst (λ l. Passed M wrote s s w at (falling M 0 trail) l c c) e (Down.passed_first M wrote none join w at s (falling M 0 trail) c)
+  pub none_picked : (s : K) (path : List ℕ) (c : Conditions) → falling M 0 path ≡ [] → Passed M wrote s s w at (falling M 0 path) [] c c
+  none_picked s path c e = subst (λ l. Passed M wrote s s w at (falling M 0 path) l c c) e (Down.passed_first M wrote none join w at s (falling M 0 path) c)

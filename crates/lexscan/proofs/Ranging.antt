@@ -12,11 +12,11 @@ use Rattle.lexscan.proofs.Outcomes.{perform_below}
 use Rattle.std.proofs.Common.{take, drop}
 
 pub conditions_below : {S K : Type 0} (M : Machine) (laws : MachineLaws M) (gave : S → List ℕ → S → Type 0) (wrote : K → List ℕ → K → Type 0) (s s' : S) (t t' : K) (old new : State) (turn : Turn) →
-    Moved M gave wrote s s' t t' old new (Ok turn) → Below M.conditions old.spot.condition old.acting.stack → Below M.conditions new.spot.condition new.acting.stack
+    Moved M gave wrote s s' t t' old new (Ok turn) → Below M.conditions old.place.condition old.acting.stack → Below M.conditions new.place.condition new.acting.stack
 conditions_below M laws gave wrote s s' t t' old new turn (inl m) lt =
-    subst (λ cs. Below M.conditions new.spot.condition cs) (sym m.acted.left.stack)
+    subst (λ cs. Below M.conditions new.place.condition cs) (sym m.acted.left.stack)
     (subst (λ c. Below M.conditions c m.acted.acting.stack) (sym m.acted.left.condition)
-    (perform_below (rules_of_machine M) laws.legal (take old.spot.at m.mid.window.bytes) (drop old.spot.at m.mid.window.bytes) (matches_of M m.mid.window.bytes old.spot.at m.trail) [] old.spot.condition old.acting.stack
+    (perform_below (rules_of_machine M) laws.legal (take old.place.at m.mid.window.bytes) (drop old.place.at m.mid.window.bytes) (matches_of M m.mid.window.bytes old.place.at m.path) [] old.place.condition old.acting.stack
     (record { after = acting_of m.mid.window.bytes m.acted.acting m.acted.performed.out; ended = ending_of m.acted.ended }) lt (m.acted.performed.acts [])))
 conditions_below M laws gave wrote s s' t t' old new turn (inr m) lt =
-    subst (λ cs. Below M.conditions new.spot.condition cs) (sym m.left.stack) (subst (λ c. Below M.conditions c old.acting.stack) (sym m.left.condition) lt)
+    subst (λ cs. Below M.conditions new.place.condition cs) (sym m.left.stack) (subst (λ c. Below M.conditions c old.acting.stack) (sym m.left.condition) lt)

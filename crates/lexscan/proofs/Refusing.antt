@@ -22,7 +22,7 @@ use Rattle.lex_semantics.proofs.Written.{run_begins, part_begins}
 use Rattle.lexscan.specs.declared.state.State.{State}
 use Rattle.lexscan.specs.declared.error.RunError.{RunError}
 use Rattle.lexscan.specs.declared.error.RunError.TheVariants.{TooManyReads, Stack}
-use Rattle.lexscan.specs.Sees.{Saw, SawEnd, Wants, Unmet}
+use Rattle.lexscan.specs.Looks.{Looked, LookedAtEnd, Wants, Unmet}
 use Rattle.lexscan.specs.Descends.{conditions_at, outcome, matches_of, CutAll, ending_of}
 use Rattle.lexscan.specs.Moves.{Refused}
 use Rattle.lexscan.specs.Stands.{state_of, Stands, Before, Fell, RanTo}
@@ -100,11 +100,11 @@ module _ {S K : Type 0} (M : Machine) (laws : MachineLaws M) (gave : S → List 
   abbrev pub Within : Type 0
   Within = (x : List ℕ) → Consistent (given ++ m.took.got) new.reading.at_end x → (t : Run.State) (far : ℕ) (asked : Bool) → AfterTurns (rules_of_machine M) x (suc n) t far asked → length (given ++ m.took.got) ≤ far
 
-  pub wants_end : Wants M old.spot new.reading → (old.reading.at_end ≡ false) × ((t : Run.State) (far : ℕ) (asked : Bool) → AfterTurns (rules_of_machine M) (given ++ m.took.got) (suc n) t far asked → asked ≡ true)
+  pub wants_end : Wants M old.place new.reading → (old.reading.at_end ≡ false) × ((t : Run.State) (far : ℕ) (asked : Bool) → AfterTurns (rules_of_machine M) (given ++ m.took.got) (suc n) t far asked → asked ≡ true)
   wants_end wants =
       let g : List ℕ = given ++ m.took.got in
-      let more : WantsMore (rules_of_machine M) g (record { start = h.start; at = h.start + old.spot.at; condition = old.spot.condition; stack = old.acting.stack }) =
-      wants_here M laws given m.took.got h.start old.spot old.acting.stack new.reading.window.bytes h.covered win h.line new.reading refl wants in
+      let more : WantsMore (rules_of_machine M) g (record { start = h.start; at = h.start + old.place.at; condition = old.place.condition; stack = old.acting.stack }) =
+      wants_here M laws given m.took.got h.start old.place old.acting.stack new.reading.window.bytes h.covered win h.line new.reading refl wants in
       let over = after_before g (is_text_append given m.took.got h.text m.took.text, just_these g new.reading.at_end) in
       (not_before old.reading.at_end refl, λ t far asked after. wanted_end (rules_of_machine M) g n (state_of out h.start old) t far asked over.turns (ap ending_of going) more after)
     where
@@ -126,75 +126,75 @@ module _ {S K : Type 0} (M : Machine) (laws : MachineLaws M) (gave : S → List 
       let le : length given ≤ far = no_less (rules_of_machine M) x n (state_of out h.start old) (length given) over.turns over.reaches (ap ending_of going) t far asked after in
       omega (arith, longer, took, ap length same, le))
 
-  pub unmet_within : Unmet M old.spot old.reading new.reading → Within
+  pub unmet_within : Unmet M old.place old.reading new.reading → Within
   unmet_within (inr same) = nothing_within same
   unmet_within (inl wants) = (λ x k t far asked after.
       let g : List ℕ = given ++ m.took.got in
       let split = with_rest g new.reading.at_end x k.1 in
-      let more : WantsMore (rules_of_machine M) g (record { start = h.start; at = h.start + old.spot.at; condition = old.spot.condition; stack = old.acting.stack }) =
-      wants_here M laws given m.took.got h.start old.spot old.acting.stack new.reading.window.bytes h.covered win h.line new.reading refl wants in
+      let more : WantsMore (rules_of_machine M) g (record { start = h.start; at = h.start + old.place.at; condition = old.place.condition; stack = old.acting.stack }) =
+      wants_here M laws given m.took.got h.start old.place old.acting.stack new.reading.window.bytes h.covered win h.line new.reading refl wants in
       wanted_far (rules_of_machine M) (machine_laws M laws) g split.0 (subst IsText split.1 k.0) n (state_of out h.start old) t far asked
       (subst (λ y. Turns (rules_of_machine M) y n (state_of out h.start old)) split.1 (after_before x k).turns) (ap ending_of going) more
       (subst (λ y. AfterTurns (rules_of_machine M) y (suc n) t far asked) split.1 after))
 
-  pub end_within : SawEnd old.spot old.reading new.reading → Within
-  end_within saw = nothing_within saw.same
+  pub end_within : LookedAtEnd old.place old.reading new.reading → Within
+  end_within looked = nothing_within looked.same
 
-  pub end_front : SawEnd old.spot old.reading new.reading → (w : List ℕ) → BeginsWith (M.ending old.spot.condition).print w → Fronts w
-  end_front saw w is = (λ x k v e run.
-      let whole : x ≡ given ++ m.took.got = subst (λ b. GoesOnFrom (given ++ m.took.got) b x) saw.at_end k.1 in
+  pub end_front : LookedAtEnd old.place old.reading new.reading → (w : List ℕ) → BeginsWith (M.ending old.place.condition).print w → Fronts w
+  end_front looked w is = (λ x k v e run.
+      let whole : x ≡ given ++ m.took.got = subst (λ b. GoesOnFrom (given ++ m.took.got) b x) looked.at_end k.1 in
       let last : Run.State = record {
-        written = (M.ending old.spot.condition).print;
-        place = record { start = h.start + old.spot.at; at = h.start + old.spot.at; condition = old.spot.condition; stack = old.acting.stack };
-        ended = Some (Status (M.ending old.spot.condition).status);
+        written = (M.ending old.place.condition).print;
+        place = record { start = h.start + old.place.at; at = h.start + old.place.at; condition = old.place.condition; stack = old.acting.stack };
+        ended = Some (Status (M.ending old.place.condition).status);
       } in
-      let at : h.start + old.spot.at ≡ length x = omega (arith, ap length whole, size, saw.all, longer, h.covered) in
+      let at : h.start + old.place.at ≡ length x = omega (arith, ap length whole, size, looked.all, longer, h.covered) in
       part_begins (rules_of_machine M) x n (state_of out h.start old) last w v e (after_before x k).turns (ap ending_of going) (inr (record { at_end = at; leaves = refl })) is run)
 
-  pub match_within : (trail : List ℕ) → Saw M old.spot old.reading new.reading trail → Within
-  match_within trail saw = (λ x k t far asked after.
+  pub match_within : (path : List ℕ) → Looked M old.place old.reading new.reading path → Within
+  match_within path looked = (λ x k t far asked after.
       let g : List ℕ = given ++ m.took.got in
-      let p : Place = record { start = h.start; at = h.start + old.spot.at; condition = old.spot.condition; stack = old.acting.stack } in
+      let p : Place = record { start = h.start; at = h.start + old.place.at; condition = old.place.condition; stack = old.acting.stack } in
       let split = with_rest g new.reading.at_end x k.1 in
       let over = after_before x k in
-      let fits : h.start + old.spot.at + saw.reach ≤ length g = inside_here M laws given m.took.got h.start old.spot old.acting.stack new.reading.window.bytes h.covered win h.line saw.reach saw.state trail saw.some saw.so_far in
+      let fits : h.start + old.place.at + looked.reach ≤ length g = inside_here M laws given m.took.got h.start old.place old.acting.stack new.reading.window.bytes h.covered win h.line looked.reach looked.state path looked.some looked.so_far in
       let whole : length x ≡ length g + length split.0 = ap length split.1 ∙ length-append g split.0 in
-      let asks : (i : ℕ) → i < saw.reach → AsksAt (rules_of_machine M) x p i =
+      let asks : (i : ℕ) → i < looked.reach → AsksAt (rules_of_machine M) x p i =
       λ i lt. subst (λ y. AsksAt (rules_of_machine M) y p i) (sym split.1) (asks_front (rules_of_machine M) g split.0 p i (omega (arith, fits, lt))
-      (asks_here M laws given m.took.got h.start old.spot old.acting.stack new.reading.window.bytes h.covered win h.line saw.reach saw.state trail saw.some saw.so_far i lt)) in
+      (asks_here M laws given m.took.got h.start old.place old.acting.stack new.reading.window.bytes h.covered win h.line looked.reach looked.state path looked.some looked.so_far i lt)) in
       let le : length given ≤ far = no_less (rules_of_machine M) x n (state_of out h.start old) (length given) over.turns over.reaches (ap ending_of going) t far asked after in
-      let reached : h.start + old.spot.at + saw.reach ≤ far = asked_far (rules_of_machine M) x n (state_of out h.start old) (length given) over.turns over.reaches (ap ending_of going) t far asked after saw.reach saw.some (omega (arith, fits, whole)) asks in
+      let reached : h.start + old.place.at + looked.reach ≤ far = asked_far (rules_of_machine M) x n (state_of out h.start old) (length given) over.turns over.reaches (ap ending_of going) t far asked after looked.reach looked.some (omega (arith, fits, whole)) asks in
       let before : length old.reading.window.bytes ≡ length given - h.start = ap length h.held ∙ length-drop h.start given in
-      omega (arith, size, before, saw.size, le, reached, longer, h.covered))
+      omega (arith, size, before, looked.size, le, reached, longer, h.covered))
 
-  pub match_front : (trail : List ℕ) → Saw M old.spot old.reading new.reading trail →
-      (cut : CutAll M wrote t t' new.reading.window.bytes old.spot.at (matches_of M new.reading.window.bytes old.spot.at trail) (conditions_at old)) → Fronts cut.out
-  match_front trail saw cut =
+  pub match_front : (path : List ℕ) → Looked M old.place old.reading new.reading path →
+      (cut : CutAll M wrote t t' new.reading.window.bytes old.place.at (matches_of M new.reading.window.bytes old.place.at path) (conditions_at old)) → Fronts cut.out
+  match_front path looked cut =
       let w : List ℕ = new.reading.window.bytes in
-      let q = good M laws old.spot w saw.reach saw.state trail saw.some saw.so_far [] (conditions_at old) in
-      let is : outcome M w old.spot.at (matches_of M w old.spot.at trail) [] (conditions_at old) ≡ Some q.0 = seen_outcome M laws old.spot w saw.reach saw.state trail saw.some saw.so_far [] (conditions_at old) ∙ q.1 in
-      let seen = seen_here M laws given m.took.got h.start old.spot old.acting.stack w h.covered win h.line saw.reach saw.state trail saw.some saw.so_far q.0 is in
-      let wrote_all : BeginsWith seen.0.outcome.after.written cut.out = subst (λ (z : Scan.Matched). BeginsWith z.after.written cut.out) (sym seen.1) (cut.front [] q.0 is) in
+      let q = good M laws old.place w looked.reach looked.state path looked.some looked.so_far [] (conditions_at old) in
+      let is : outcome M w old.place.at (matches_of M w old.place.at path) [] (conditions_at old) ≡ Some q.0 = seen_outcome M laws old.place w looked.reach looked.state path looked.some looked.so_far [] (conditions_at old) ∙ q.1 in
+      let ahead = seen_here M laws given m.took.got h.start old.place old.acting.stack w h.covered win h.line looked.reach looked.state path looked.some looked.so_far q.0 is in
+      let wrote_all : BeginsWith ahead.0.outcome.after.written cut.out = subst (λ (z : Scan.Matched). BeginsWith z.after.written cut.out) (sym ahead.1) (cut.front [] q.0 is) in
       (λ x k v e run.
       let split = with_rest (given ++ m.took.got) new.reading.at_end x k.1 in
-      part_begins (rules_of_machine M) x n (state_of out h.start old) (seen_turn (record { start = h.start; at = h.start + old.spot.at; condition = old.spot.condition; stack = old.acting.stack }) seen.0.outcome) cut.out v e (after_before x k).turns (ap ending_of going)
-      (inl (subst (λ y. Run.MatchTurn (rules_of_machine M) y (record { start = h.start; at = h.start + old.spot.at; condition = old.spot.condition; stack = old.acting.stack }) (seen_turn (record { start = h.start; at = h.start + old.spot.at; condition = old.spot.condition; stack = old.acting.stack }) seen.0.outcome)) (sym split.1)
-      (seen_match (rules_of_machine M) (machine_laws M laws) (given ++ m.took.got) split.0 (record { start = h.start; at = h.start + old.spot.at; condition = old.spot.condition; stack = old.acting.stack }) saw.reach seen.0 (subst IsText split.1 k.0)
-      (enough x k split.0 split.1 saw.stops)))) wrote_all run)
+      part_begins (rules_of_machine M) x n (state_of out h.start old) (seen_turn (record { start = h.start; at = h.start + old.place.at; condition = old.place.condition; stack = old.acting.stack }) ahead.0.outcome) cut.out v e (after_before x k).turns (ap ending_of going)
+      (inl (subst (λ y. Run.MatchTurn (rules_of_machine M) y (record { start = h.start; at = h.start + old.place.at; condition = old.place.condition; stack = old.acting.stack }) (seen_turn (record { start = h.start; at = h.start + old.place.at; condition = old.place.condition; stack = old.acting.stack }) ahead.0.outcome)) (sym split.1)
+      (seen_match (rules_of_machine M) (machine_laws M laws) (given ++ m.took.got) split.0 (record { start = h.start; at = h.start + old.place.at; condition = old.place.condition; stack = old.acting.stack }) looked.reach ahead.0 (subst IsText split.1 k.0)
+      (enough x k split.0 split.1 looked.stops)))) wrote_all run)
     where
       enough : (x : List ℕ) → Consistent (given ++ m.took.got) new.reading.at_end x → (rest : List ℕ) → x ≡ (given ++ m.took.got) ++ rest →
-          ((M.goes_on saw.state ≡ false) × (new.reading.at_end ≡ old.reading.at_end)) ⊎ ((M.goes_on saw.state ≡ true) × (old.spot.at + saw.reach ≡ length new.reading.window.bytes) × (new.reading.at_end ≡ true)) →
-          (drop saw.reach (drop (h.start + old.spot.at) (given ++ m.took.got)) ++ rest ≡ []) ⊎ (AsksAt (rules_of_machine M) (given ++ m.took.got) (record { start = h.start; at = h.start + old.spot.at; condition = old.spot.condition; stack = old.acting.stack }) saw.reach → ⊥)
-      enough x k rest e (inl q) = inr (dead_here M laws given m.took.got h.start old.spot old.acting.stack new.reading.window.bytes h.covered win h.line saw.reach saw.state trail saw.some saw.so_far q.0)
+          ((M.goes_on looked.state ≡ false) × (new.reading.at_end ≡ old.reading.at_end)) ⊎ ((M.goes_on looked.state ≡ true) × (old.place.at + looked.reach ≡ length new.reading.window.bytes) × (new.reading.at_end ≡ true)) →
+          (drop looked.reach (drop (h.start + old.place.at) (given ++ m.took.got)) ++ rest ≡ []) ⊎ (AsksAt (rules_of_machine M) (given ++ m.took.got) (record { start = h.start; at = h.start + old.place.at; condition = old.place.condition; stack = old.acting.stack }) looked.reach → ⊥)
+      enough x k rest e (inl q) = inr (dead_here M laws given m.took.got h.start old.place old.acting.stack new.reading.window.bytes h.covered win h.line looked.reach looked.state path looked.some looked.so_far q.0)
       enough x k rest e (inr q) =
           let g : List ℕ = given ++ m.took.got in
           let same : x ≡ g = subst (λ b. GoesOnFrom g b x) q.2 k.1 in
           let more : length (g ++ rest) ≡ length g + length rest = length-append g rest in
           let none : rest ≡ [] = nil_from_length rest (omega (arith, ap length (sym e ∙ same), more)) in
-          let left : length (drop (h.start + old.spot.at) g) ≡ length g - (h.start + old.spot.at) = length-drop (h.start + old.spot.at) g in
-          inl (ap (λ z. drop saw.reach (drop (h.start + old.spot.at) g) ++ z) none ∙ append-nil (drop saw.reach (drop (h.start + old.spot.at) g)) ∙ drop_all saw.reach (drop (h.start + old.spot.at) g) (omega (arith, size, left, q.1)))
+          let left : length (drop (h.start + old.place.at) g) ≡ length g - (h.start + old.place.at) = length-drop (h.start + old.place.at) g in
+          inl (ap (λ z. drop looked.reach (drop (h.start + old.place.at) g) ++ z) none ∙ append-nil (drop looked.reach (drop (h.start + old.place.at) g)) ∙ drop_all looked.reach (drop (h.start + old.place.at) g) (omega (arith, size, left, q.1)))
 
-  pub fell : new.failed ≡ true → (error ≡ TooManyReads → Wants M old.spot new.reading) → (w : List ℕ) → Fronts w → Within →
+  pub fell : new.failed ≡ true → (error ≡ TooManyReads → Wants M old.place new.reading) → (w : List ℕ) → Fronts w → Within →
       (error ≡ Stack → RanTo (rules_of_machine M) (given ++ m.took.got) (out ++ w) new.reading.at_end StackFault) → Fell M n given m.took.got (out ++ w) new error
   fell failed wants w front within fault = record {
     failed = failed;

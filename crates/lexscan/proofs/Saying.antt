@@ -6,7 +6,7 @@ use Rattle.lex_semantics.specs.Text.{BeginsWith}
 use Rattle.lex_semantics.specs.Spec.{Statement, Echo, Print, Begin, More, Less, Reject, End, Push, Pop}
 use Rattle.lex_semantics.specs.Acting as Scan
 use Rattle.lex_semantics.specs.Acting.{ActionResult, Over, StackFault, act, has_room, popped}
-use Rattle.lexscan.specs.declared.act.Acting.{Acting}
+use Rattle.lexscan.specs.declared.act.ActionState.{ActionState}
 use Rattle.lexscan.specs.declared.act.Step.{Step}
 use Rattle.lex_machine.specs.declared.action.Statement.{Statement as Item}
 use Rattle.lex_machine.specs.Views.{statement_of}
@@ -59,7 +59,7 @@ says_grows (Push d) ss a = subst (λ z. IsPrefixOf z (written_of (act (Push d �
 says_grows Pop ss a = subst (λ z. IsPrefixOf z (written_of (act (Pop ∷ ss) a))) (sym (append-nil a.written)) (act_grows (Pop ∷ ss) a)
 
 -- nothing said
-pub nothing_said : (w : List ℕ) (a : Acting) (before : List ℕ) → acting_of w a before ≡ acting_of w a (before ++ [])
+pub nothing_said : (w : List ℕ) (a : ActionState) (before : List ℕ) → acting_of w a before ≡ acting_of w a (before ++ [])
 nothing_said w a before = ap (acting_of w a) (sym (append-nil before))
 
 -- the statements that are left
@@ -67,10 +67,10 @@ pub left_is : (items : List Item) (i : ℕ) (item : Item) → i < length items �
 left_is items i item lt is = ap (map statement_of) (drop_more items i item lt) ∙ ap (λ z. statement_of z ∷ map statement_of (drop (i + 1) items)) (sym is)
 
 module _ {K : Type 0} (wrote : K → List ℕ → K → Type 0) (none : (s : K) → wrote s [] s) (join : (s t u : K) (xs ys : List ℕ) → wrote s xs t → wrote t ys u → wrote s (xs ++ ys) u) where
-  pub carried_first : (s : K) (w : List ℕ) (ss : List Statement) (old : Acting) → CarriedTo wrote s s w ss ss old old
+  pub carried_first : (s : K) (w : List ℕ) (ss : List Statement) (old : ActionState) → CarriedTo wrote s s w ss ss old old
   carried_first s w ss old = record { out = []; sink = none s; acts = λ before. ap (act ss) (nothing_said w old before) }
 
-  pub carried_next : (s t u : K) (w : List ℕ) (ss rest : List Statement) (st : Statement) (old mid new : Acting) (left : List Statement) → left ≡ st ∷ rest → CarriedTo wrote s t w ss left old mid →
+  pub carried_next : (s t u : K) (w : List ℕ) (ss rest : List Statement) (st : Statement) (old mid new : ActionState) (left : List Statement) → left ≡ st ∷ rest → CarriedTo wrote s t w ss left old mid →
       wrote t (said st (take mid.end w)) u → Steps w st mid new Step.Next → CarriedTo wrote s u w ss rest old new
   carried_next s t u w ss rest st old mid new left e h put steps = record {
     out = h.out ++ said st (take mid.end w);
@@ -78,11 +78,11 @@ module _ {K : Type 0} (wrote : K → List ℕ → K → Type 0) (none : (s : K) 
     acts = λ before. h.acts before ∙ ap (λ z. act z (acting_of w mid (before ++ h.out))) e ∙ steps (before ++ h.out) rest ∙ ap (λ z. act rest (acting_of w new z)) (append_assoc before h.out (said st (take mid.end w)));
   }
 
-  pub carried_last : (s t : K) (w : List ℕ) (ss left : List Statement) (old new : Acting) → left ≡ [] → CarriedTo wrote s t w ss left old new → Carried wrote s t w ss old new Step.Next
+  pub carried_last : (s t : K) (w : List ℕ) (ss left : List Statement) (old new : ActionState) → left ≡ [] → CarriedTo wrote s t w ss left old new → Carried wrote s t w ss old new Step.Next
   carried_last s t w ss left old new e h = record { out = h.out; sink = h.sink; acts = λ before. h.acts before ∙ ap (λ z. act z (acting_of w new (before ++ h.out))) e }
 
   -- a statement after which none follows
-  pub carried_stop : (s t u : K) (w : List ℕ) (ss rest : List Statement) (st : Statement) (old mid new : Acting) (left : List Statement) (step : Step) → (step ≡ Step.Next → ⊥) → left ≡ st ∷ rest → CarriedTo wrote s t w ss left old mid →
+  pub carried_stop : (s t u : K) (w : List ℕ) (ss rest : List Statement) (st : Statement) (old mid new : ActionState) (left : List Statement) (step : Step) → (step ≡ Step.Next → ⊥) → left ≡ st ∷ rest → CarriedTo wrote s t w ss left old mid →
       wrote t (said st (take mid.end w)) u → Steps w st mid new step → Carried wrote s u w ss old new step
   carried_stop s t u w ss rest st old mid new left step stops e h put steps = record {
     out = h.out ++ said st (take mid.end w);
@@ -97,7 +97,7 @@ module _ {K : Type 0} (wrote : K → List ℕ → K → Type 0) (none : (s : K) 
       no_rest (Step.Over s) stops a = refl
 
   -- a statement that was refused
-  pub cut_short : (s t u : K) (w : List ℕ) (ss rest : List Statement) (st : Statement) (old mid : Acting) (left : List Statement) → left ≡ st ∷ rest → CarriedTo wrote s t w ss left old mid →
+  pub cut_short : (s t u : K) (w : List ℕ) (ss rest : List Statement) (st : Statement) (old mid : ActionState) (left : List Statement) → left ≡ st ∷ rest → CarriedTo wrote s t w ss left old mid →
       ((front : List ℕ) × IsPrefixOf front (said st (take mid.end w)) × wrote t front u) → CutShort wrote s u w ss old
   cut_short s t u w ss rest st old mid left e h (front, is_front, put) = record {
     out = h.out ++ front;

@@ -13,14 +13,14 @@ use Rattle.lex_semantics.specs.MachineLaws.{MachineLaws}
 use Rattle.lex_semantics.proofs.MachineLaws.{machine_laws}
 use Rattle.lex_semantics.proofs.Texts.{is_text_append}
 use Rattle.lex_semantics.proofs.Step.{scanned_match, scanned_match_end, scanned_end, scanned_ended, scanned_first}
-use Rattle.lexscan.specs.declared.state.Spot.{Spot}
+use Rattle.lexscan.specs.declared.state.TextPlace.{TextPlace}
 use Rattle.lexscan.specs.declared.state.State.{State}
 use Rattle.lexscan.specs.declared.turn.Turn.{Turn}
 use Rattle.lexscan.specs.Acts.{acting_of}
 use Rattle.lexscan.specs.Descends.{conditions_at, ending_of, matches_of, Faulted}
 use Rattle.lexscan.specs.Moves.{is_over, stays, left_at, left_bytes, Says, Matched, Finished}
 use Rattle.lexscan.specs.Reads.{Took}
-use Rattle.lexscan.specs.Sees.{Saw}
+use Rattle.lexscan.specs.Looks.{Looked}
 use Rattle.lexscan.specs.Stands.{state_of, Stands, RanTo}
 use Rattle.lexscan.proofs.Outcomes.{some_text}
 use Rattle.lexscan.proofs.Lifting.{seen_here, dead_here, live_here}
@@ -67,7 +67,7 @@ module _ {S K : Type 0} (M : Machine) (laws : MachineLaws M) (gave : S → List 
   pub matched_stands : (m : Matched M gave wrote s s' t t' (record old { failed = true }) new turn) → new.ended ≡ m.acted.ended →
       Stands M (suc n) (given ++ m.took.got) (out ++ m.acted.performed.out) (record new { failed = false })
   matched_stands m ended =
-      let p : Spot = old.spot in
+      let p : TextPlace = old.place in
       let g : List ℕ = given ++ m.took.got in
       let w : List ℕ = m.mid.window.bytes in
       let len : ℕ = length (take m.acted.acting.end w) in
@@ -80,17 +80,17 @@ module _ {S K : Type 0} (M : Machine) (laws : MachineLaws M) (gave : S → List 
       let after : Scan.Acting = acting_of w m.acted.acting m.acted.performed.out in
       let o : Scan.Matched = record { after = after; ended = ending_of by } in
       let start : ℕ = next_start (ending_of by) m.acted.acting.more h.start (h.start + len) in
-      let place : start + new.spot.at ≡ h.start + len = left_place by m.acted.acting.more h.start len m.acted.acting.end new.spot.at same m.acted.left.at in
-      let seen = seen_here M laws given m.took.got h.start p old.acting.stack w h.covered win h.line m.saw.reach m.saw.state m.trail m.saw.some m.saw.so_far o (m.acted.performed.acts []) in
-      let nonempty : 1 ≤ len = some_text M laws p w m.saw.reach m.saw.state m.trail m.saw.some m.saw.so_far o [] (conditions_at old) (m.acted.performed.acts []) in
+      let place : start + new.place.at ≡ h.start + len = left_place by m.acted.acting.more h.start len m.acted.acting.end new.place.at same m.acted.left.at in
+      let ahead = seen_here M laws given m.took.got h.start p old.acting.stack w h.covered win h.line m.looked.reach m.looked.state m.path m.looked.some m.looked.so_far o (m.acted.performed.acts []) in
+      let nonempty : 1 ≤ len = some_text M laws p w m.looked.reach m.looked.state m.path m.looked.some m.looked.so_far o [] (conditions_at old) (m.acted.performed.acts []) in
       let some : 1 ≤ m.acted.acting.end = omega arith in
       record {
         works = refl;
         start = start;
         scanned = subst (Scanned (rules_of_machine M) g new.reading.at_end (suc n))
-            (ap (λ z. then_turn (state_of out h.start old) (seen_turn (record { start = h.start; at = h.start + p.at; condition = p.condition; stack = old.acting.stack }) z)) seen.1
-            ∙ state_same (out ++ m.acted.performed.out) start (h.start + len) (start + new.spot.at) m.acted.acting.condition new.spot.condition m.acted.acting.stack new.acting.stack (ending_of by) (ending_of new.ended) (sym place) (sym m.acted.left.condition) (sym m.acted.left.stack) (ap ending_of (sym ended)))
-            (over_all win size before longer seen.0 m.saw.stops);
+            (ap (λ z. then_turn (state_of out h.start old) (seen_turn (record { start = h.start; at = h.start + p.at; condition = p.condition; stack = old.acting.stack }) z)) ahead.1
+            ∙ state_same (out ++ m.acted.performed.out) start (h.start + len) (start + new.place.at) m.acted.acting.condition new.place.condition m.acted.acting.stack new.acting.stack (ending_of by) (ending_of new.ended) (sym place) (sym m.acted.left.condition) (sym m.acted.left.stack) (ap ending_of (sym ended)))
+            (over_all win size before longer ahead.0 m.looked.stops);
         text = is_text_append given m.took.got h.text m.took.text;
         covered = omega (arith, place, same, m.acted.inside, size, h.covered, longer);
         held = left_held by m.acted.acting.more h.start len m.acted.acting.end g w new.reading.window.bytes same win m.acted.left.held;
@@ -100,46 +100,46 @@ module _ {S K : Type 0} (M : Machine) (laws : MachineLaws M) (gave : S → List 
     where
       over_all : drop h.start (given ++ m.took.got) ≡ m.mid.window.bytes → length m.mid.window.bytes ≡ length (given ++ m.took.got) - h.start → length old.reading.window.bytes ≡ length given - h.start →
           length (given ++ m.took.got) ≡ length given + length m.took.got →
-          (seen : Seen (rules_of_machine M) (given ++ m.took.got) (record { start = h.start; at = h.start + old.spot.at; condition = old.spot.condition; stack = old.acting.stack }) m.saw.reach) →
-          ((M.goes_on m.saw.state ≡ false) × (m.mid.at_end ≡ old.reading.at_end)) ⊎ ((M.goes_on m.saw.state ≡ true) × (old.spot.at + m.saw.reach ≡ length m.mid.window.bytes) × (m.mid.at_end ≡ true)) →
-          Scanned (rules_of_machine M) (given ++ m.took.got) new.reading.at_end (suc n) (then_turn (state_of out h.start old) (seen_turn (record { start = h.start; at = h.start + old.spot.at; condition = old.spot.condition; stack = old.acting.stack }) seen.outcome))
-      over_all win size before longer seen (inl k) =
-          subst (λ e. Scanned (rules_of_machine M) (given ++ m.took.got) e (suc n) (then_turn (state_of out h.start old) (seen_turn (record { start = h.start; at = h.start + old.spot.at; condition = old.spot.condition; stack = old.acting.stack }) seen.outcome))) (sym (m.acted.same.at_end ∙ k.1))
-          (scanned_match (rules_of_machine M) (machine_laws M laws) given m.took.got old.reading.at_end n (state_of out h.start old) m.saw.reach (ap ending_of going) h.scanned m.took.nothing seen
-          (dead_here M laws given m.took.got h.start old.spot old.acting.stack m.mid.window.bytes h.covered win h.line m.saw.reach m.saw.state m.trail m.saw.some m.saw.so_far k.0)
-          (omega (arith, size, before, longer, m.saw.size, h.covered)))
-      over_all win size before longer seen (inr k) =
-          subst (λ e. Scanned (rules_of_machine M) (given ++ m.took.got) e (suc n) (then_turn (state_of out h.start old) (seen_turn (record { start = h.start; at = h.start + old.spot.at; condition = old.spot.condition; stack = old.acting.stack }) seen.outcome))) (sym (m.acted.same.at_end ∙ k.2))
-          (scanned_match_end (rules_of_machine M) (machine_laws M laws) given m.took.got old.reading.at_end n (state_of out h.start old) m.saw.reach (ap ending_of going) h.scanned m.took.nothing seen
-          (live_here M laws given m.took.got h.start old.spot old.acting.stack m.mid.window.bytes h.covered win h.line m.saw.reach m.saw.state m.trail m.saw.some m.saw.so_far k.0)
+          (ahead : Seen (rules_of_machine M) (given ++ m.took.got) (record { start = h.start; at = h.start + old.place.at; condition = old.place.condition; stack = old.acting.stack }) m.looked.reach) →
+          ((M.goes_on m.looked.state ≡ false) × (m.mid.at_end ≡ old.reading.at_end)) ⊎ ((M.goes_on m.looked.state ≡ true) × (old.place.at + m.looked.reach ≡ length m.mid.window.bytes) × (m.mid.at_end ≡ true)) →
+          Scanned (rules_of_machine M) (given ++ m.took.got) new.reading.at_end (suc n) (then_turn (state_of out h.start old) (seen_turn (record { start = h.start; at = h.start + old.place.at; condition = old.place.condition; stack = old.acting.stack }) ahead.outcome))
+      over_all win size before longer ahead (inl k) =
+          subst (λ e. Scanned (rules_of_machine M) (given ++ m.took.got) e (suc n) (then_turn (state_of out h.start old) (seen_turn (record { start = h.start; at = h.start + old.place.at; condition = old.place.condition; stack = old.acting.stack }) ahead.outcome))) (sym (m.acted.same.at_end ∙ k.1))
+          (scanned_match (rules_of_machine M) (machine_laws M laws) given m.took.got old.reading.at_end n (state_of out h.start old) m.looked.reach (ap ending_of going) h.scanned m.took.nothing ahead
+          (dead_here M laws given m.took.got h.start old.place old.acting.stack m.mid.window.bytes h.covered win h.line m.looked.reach m.looked.state m.path m.looked.some m.looked.so_far k.0)
+          (omega (arith, size, before, longer, m.looked.size, h.covered)))
+      over_all win size before longer ahead (inr k) =
+          subst (λ e. Scanned (rules_of_machine M) (given ++ m.took.got) e (suc n) (then_turn (state_of out h.start old) (seen_turn (record { start = h.start; at = h.start + old.place.at; condition = old.place.condition; stack = old.acting.stack }) ahead.outcome))) (sym (m.acted.same.at_end ∙ k.2))
+          (scanned_match_end (rules_of_machine M) (machine_laws M laws) given m.took.got old.reading.at_end n (state_of out h.start old) m.looked.reach (ap ending_of going) h.scanned m.took.nothing ahead
+          (live_here M laws given m.took.got h.start old.place old.acting.stack m.mid.window.bytes h.covered win h.line m.looked.reach m.looked.state m.path m.looked.some m.looked.so_far k.0)
           (omega (arith, size, longer, k.1, h.covered)))
 
   -- the end action
   pub finished_stands : (m : Finished M gave wrote s s' t t' (record old { failed = true }) new turn) →
-      Stands M (suc n) (given ++ m.took.got) (out ++ (M.ending old.spot.condition).print) (record new { failed = false })
+      Stands M (suc n) (given ++ m.took.got) (out ++ (M.ending old.place.condition).print) (record new { failed = false })
   finished_stands m =
       let size : length m.mid.window.bytes ≡ length old.reading.window.bytes + length m.took.got = ap length m.took.held ∙ length-append old.reading.window.bytes m.took.got in
       let before : length old.reading.window.bytes ≡ length given - h.start = ap length h.held ∙ length-drop h.start given in
-      let none : m.took.got ≡ [] = nil_from_length m.took.got (omega (arith, size, before, m.saw.all, h.covered)) in
-      let all : h.start + old.spot.at ≡ length given = omega (arith, size, before, m.saw.all, h.covered, ap length none) in
+      let none : m.took.got ≡ [] = nil_from_length m.took.got (omega (arith, size, before, m.looked.all, h.covered)) in
+      let all : h.start + old.place.at ≡ length given = omega (arith, size, before, m.looked.all, h.covered, ap length none) in
       let same : given ++ m.took.got ≡ given = ap (λ z. given ++ z) none ∙ append-nil given in
       let reads : m.mid.window.bytes ≡ drop h.start given = m.took.held ∙ ap (λ z. old.reading.window.bytes ++ z) none ∙ append-nil old.reading.window.bytes ∙ h.held in
       let last : Run.State = record {
-        written = (M.ending old.spot.condition).print;
-        place = record { start = h.start + old.spot.at; at = h.start + old.spot.at; condition = old.spot.condition; stack = old.acting.stack };
-        ended = Some (Status (M.ending old.spot.condition).status);
+        written = (M.ending old.place.condition).print;
+        place = record { start = h.start + old.place.at; at = h.start + old.place.at; condition = old.place.condition; stack = old.acting.stack };
+        ended = Some (Status (M.ending old.place.condition).status);
       } in
-      let zero : h.start + old.spot.at + new.spot.at ≡ h.start + old.spot.at = omega (arith, m.left.at) in
-      subst (λ g. Stands M (suc n) g (out ++ (M.ending old.spot.condition).print) (record new { failed = false })) (sym same) (record {
+      let zero : h.start + old.place.at + new.place.at ≡ h.start + old.place.at = omega (arith, m.left.at) in
+      subst (λ g. Stands M (suc n) g (out ++ (M.ending old.place.condition).print) (record new { failed = false })) (sym same) (record {
         works = refl;
-        start = h.start + old.spot.at;
-        scanned = subst (λ e. Scanned (rules_of_machine M) given e (suc n) (state_of (out ++ (M.ending old.spot.condition).print) (h.start + old.spot.at) new)) (sym (m.left.same.at_end ∙ m.saw.at_end))
+        start = h.start + old.place.at;
+        scanned = subst (λ e. Scanned (rules_of_machine M) given e (suc n) (state_of (out ++ (M.ending old.place.condition).print) (h.start + old.place.at) new)) (sym (m.left.same.at_end ∙ m.looked.at_end))
             (subst (Scanned (rules_of_machine M) given true (suc n))
-            (state_same (out ++ (M.ending old.spot.condition).print) (h.start + old.spot.at) (h.start + old.spot.at) (h.start + old.spot.at + new.spot.at) old.spot.condition new.spot.condition old.acting.stack new.acting.stack (Some (Status (M.ending old.spot.condition).status)) (ending_of new.ended) (sym zero) (sym m.left.condition) (sym m.left.stack) (sym (ap ending_of m.left.ended)))
+            (state_same (out ++ (M.ending old.place.condition).print) (h.start + old.place.at) (h.start + old.place.at) (h.start + old.place.at + new.place.at) old.place.condition new.place.condition old.acting.stack new.acting.stack (Some (Status (M.ending old.place.condition).status)) (ending_of new.ended) (sym zero) (sym m.left.condition) (sym m.left.stack) (sym (ap ending_of m.left.ended)))
             (scanned_end (rules_of_machine M) given old.reading.at_end n (state_of out h.start old) last (ap ending_of going) h.scanned all (record { at_end = all; leaves = refl })));
         text = h.text;
         covered = omega (arith, zero, all);
-        held = m.left.held ∙ ap (drop old.spot.at) reads ∙ drop-drop old.spot.at h.start given;
+        held = m.left.held ∙ ap (drop old.place.at) reads ∙ drop-drop old.place.at h.start given;
         line = m.left.line ∙ h.line ∙ ap (at_line_start given) (sym zero);
         taken = m.left.same.taken ∙ m.took.taken ∙ (let z : length m.took.got ≡ 0 = ap length none in omega (arith, h.taken));
       })
@@ -147,38 +147,38 @@ module _ {S K : Type 0} (M : Machine) (laws : MachineLaws M) (gave : S → List 
 -- a fault of the stack
 module _ {S K : Type 0} (M : Machine) (laws : MachineLaws M) (gave : S → List ℕ → S → Type 0) (wrote : K → List ℕ → K → Type 0) (s s' : S) (t t' : K) (n : ℕ) (given out : List ℕ) (old new : State)
     (going : old.ended ≡ None) (h : Stands M n given out old) (took : Took gave s s' old.reading new.reading) where
-  over_fault : drop h.start (given ++ took.got) ≡ new.reading.window.bytes → (trail : List ℕ) (saw : Saw M old.spot old.reading new.reading trail) →
-      (seen : Seen (rules_of_machine M) (given ++ took.got) (record { start = h.start; at = h.start + old.spot.at; condition = old.spot.condition; stack = old.acting.stack }) saw.reach) →
-      ((M.goes_on saw.state ≡ false) × (new.reading.at_end ≡ old.reading.at_end)) ⊎ ((M.goes_on saw.state ≡ true) × (old.spot.at + saw.reach ≡ length new.reading.window.bytes) × (new.reading.at_end ≡ true)) →
-      Scanned (rules_of_machine M) (given ++ took.got) new.reading.at_end (suc n) (then_turn (state_of out h.start old) (seen_turn (record { start = h.start; at = h.start + old.spot.at; condition = old.spot.condition; stack = old.acting.stack }) seen.outcome))
-  over_fault win trail saw seen (inl k) =
+  over_fault : drop h.start (given ++ took.got) ≡ new.reading.window.bytes → (path : List ℕ) (looked : Looked M old.place old.reading new.reading path) →
+      (ahead : Seen (rules_of_machine M) (given ++ took.got) (record { start = h.start; at = h.start + old.place.at; condition = old.place.condition; stack = old.acting.stack }) looked.reach) →
+      ((M.goes_on looked.state ≡ false) × (new.reading.at_end ≡ old.reading.at_end)) ⊎ ((M.goes_on looked.state ≡ true) × (old.place.at + looked.reach ≡ length new.reading.window.bytes) × (new.reading.at_end ≡ true)) →
+      Scanned (rules_of_machine M) (given ++ took.got) new.reading.at_end (suc n) (then_turn (state_of out h.start old) (seen_turn (record { start = h.start; at = h.start + old.place.at; condition = old.place.condition; stack = old.acting.stack }) ahead.outcome))
+  over_fault win path looked ahead (inl k) =
       let size : length new.reading.window.bytes ≡ length (given ++ took.got) - h.start = ap length (sym win) ∙ length-drop h.start (given ++ took.got) in
       let before : length old.reading.window.bytes ≡ length given - h.start = ap length h.held ∙ length-drop h.start given in
       let longer : length (given ++ took.got) ≡ length given + length took.got = length-append given took.got in
-      subst (λ e. Scanned (rules_of_machine M) (given ++ took.got) e (suc n) (then_turn (state_of out h.start old) (seen_turn (record { start = h.start; at = h.start + old.spot.at; condition = old.spot.condition; stack = old.acting.stack }) seen.outcome))) (sym k.1)
-      (scanned_match (rules_of_machine M) (machine_laws M laws) given took.got old.reading.at_end n (state_of out h.start old) saw.reach (ap ending_of going) h.scanned took.nothing seen
-      (dead_here M laws given took.got h.start old.spot old.acting.stack new.reading.window.bytes h.covered win h.line saw.reach saw.state trail saw.some saw.so_far k.0)
-      (omega (arith, size, before, longer, saw.size, h.covered)))
-  over_fault win trail saw seen (inr k) =
+      subst (λ e. Scanned (rules_of_machine M) (given ++ took.got) e (suc n) (then_turn (state_of out h.start old) (seen_turn (record { start = h.start; at = h.start + old.place.at; condition = old.place.condition; stack = old.acting.stack }) ahead.outcome))) (sym k.1)
+      (scanned_match (rules_of_machine M) (machine_laws M laws) given took.got old.reading.at_end n (state_of out h.start old) looked.reach (ap ending_of going) h.scanned took.nothing ahead
+      (dead_here M laws given took.got h.start old.place old.acting.stack new.reading.window.bytes h.covered win h.line looked.reach looked.state path looked.some looked.so_far k.0)
+      (omega (arith, size, before, longer, looked.size, h.covered)))
+  over_fault win path looked ahead (inr k) =
       let size : length new.reading.window.bytes ≡ length (given ++ took.got) - h.start = ap length (sym win) ∙ length-drop h.start (given ++ took.got) in
       let longer : length (given ++ took.got) ≡ length given + length took.got = length-append given took.got in
-      subst (λ e. Scanned (rules_of_machine M) (given ++ took.got) e (suc n) (then_turn (state_of out h.start old) (seen_turn (record { start = h.start; at = h.start + old.spot.at; condition = old.spot.condition; stack = old.acting.stack }) seen.outcome))) (sym k.2)
-      (scanned_match_end (rules_of_machine M) (machine_laws M laws) given took.got old.reading.at_end n (state_of out h.start old) saw.reach (ap ending_of going) h.scanned took.nothing seen
-      (live_here M laws given took.got h.start old.spot old.acting.stack new.reading.window.bytes h.covered win h.line saw.reach saw.state trail saw.some saw.so_far k.0)
+      subst (λ e. Scanned (rules_of_machine M) (given ++ took.got) e (suc n) (then_turn (state_of out h.start old) (seen_turn (record { start = h.start; at = h.start + old.place.at; condition = old.place.condition; stack = old.acting.stack }) ahead.outcome))) (sym k.2)
+      (scanned_match_end (rules_of_machine M) (machine_laws M laws) given took.got old.reading.at_end n (state_of out h.start old) looked.reach (ap ending_of going) h.scanned took.nothing ahead
+      (live_here M laws given took.got h.start old.place old.acting.stack new.reading.window.bytes h.covered win h.line looked.reach looked.state path looked.some looked.so_far k.0)
       (omega (arith, size, longer, k.1, h.covered)))
 
-  pub faulted_ran : (trail : List ℕ) (saw : Saw M old.spot old.reading new.reading trail) →
-      (fault : Faulted M wrote t t' new.reading.window.bytes old.spot.at (matches_of M new.reading.window.bytes old.spot.at trail) (conditions_at old)) →
+  pub faulted_ran : (path : List ℕ) (looked : Looked M old.place old.reading new.reading path) →
+      (fault : Faulted M wrote t t' new.reading.window.bytes old.place.at (matches_of M new.reading.window.bytes old.place.at path) (conditions_at old)) →
       RanTo (rules_of_machine M) (given ++ took.got) (out ++ fault.performed.out) new.reading.at_end StackFault
-  faulted_ran trail saw fault =
+  faulted_ran path looked fault =
       let w : List ℕ = new.reading.window.bytes in
       let win : drop h.start (given ++ took.got) ≡ w = drop-append-le h.start given took.got (omega (arith, h.covered)) ∙ ap (λ z. z ++ took.got) (sym h.held) ∙ sym took.held in
       let o : Scan.Matched = record { after = acting_of w fault.acting fault.performed.out; ended = Some StackFault } in
-      let seen = seen_here M laws given took.got h.start old.spot old.acting.stack w h.covered win h.line saw.reach saw.state trail saw.some saw.so_far o (fault.performed.acts []) in
-      let last : Run.State = then_turn (state_of out h.start old) (seen_turn (record { start = h.start; at = h.start + old.spot.at; condition = old.spot.condition; stack = old.acting.stack }) seen.0.outcome) in
-      let scanned : Scanned (rules_of_machine M) (given ++ took.got) new.reading.at_end (suc n) last = over_fault win trail saw seen.0 saw.stops in
-      let writes : last.written ≡ out ++ fault.performed.out = ap (λ (z : Scan.Matched). out ++ z.after.written) seen.1 in
-      let ends : last.ended ≡ Some StackFault = ap (λ (z : Scan.Matched). z.ended) seen.1 in
+      let ahead = seen_here M laws given took.got h.start old.place old.acting.stack w h.covered win h.line looked.reach looked.state path looked.some looked.so_far o (fault.performed.acts []) in
+      let last : Run.State = then_turn (state_of out h.start old) (seen_turn (record { start = h.start; at = h.start + old.place.at; condition = old.place.condition; stack = old.acting.stack }) ahead.0.outcome) in
+      let scanned : Scanned (rules_of_machine M) (given ++ took.got) new.reading.at_end (suc n) last = over_fault win path looked ahead.0 looked.stops in
+      let writes : last.written ≡ out ++ fault.performed.out = ap (λ (z : Scan.Matched). out ++ z.after.written) ahead.1 in
+      let ends : last.ended ≡ Some StackFault = ap (λ (z : Scan.Matched). z.ended) ahead.1 in
       record {
         turns = suc n;
         last = last;
@@ -202,15 +202,15 @@ stays_ended M n status given out s is h = rw (append-nil given, append-nil out) 
 })
 
 -- a scanner that has made no turn
-pub stands_first : (M : Machine) (s : State) → s.failed ≡ false → s.reading.window.bytes ≡ [] → s.reading.taken ≡ 0 → s.reading.at_end ≡ false → s.spot.at ≡ 0 → s.spot.line_start ≡ true → s.spot.condition ≡ 0 → s.acting.stack ≡ [] → s.ended ≡ None → Stands M 0 [] [] s
+pub stands_first : (M : Machine) (s : State) → s.failed ≡ false → s.reading.window.bytes ≡ [] → s.reading.taken ≡ 0 → s.reading.at_end ≡ false → s.place.at ≡ 0 → s.place.line_start ≡ true → s.place.condition ≡ 0 → s.acting.stack ≡ [] → s.ended ≡ None → Stands M 0 [] [] s
 stands_first M s works held taken reading at line condition stack going =
-    let zero : 0 ≡ 0 + s.spot.at = omega arith in
+    let zero : 0 ≡ 0 + s.place.at = omega arith in
     let nil : List ℕ = [] in
     record {
       works = works;
       start = 0;
       scanned = subst (λ e. Scanned (rules_of_machine M) [] e 0 (state_of [] 0 s)) (sym reading)
-          (subst (Scanned (rules_of_machine M) [] false 0) (state_same [] 0 0 (0 + s.spot.at) 0 s.spot.condition [] s.acting.stack None (ending_of s.ended) zero (sym condition) (sym stack) (sym (ap ending_of going))) (scanned_first (rules_of_machine M)));
+          (subst (Scanned (rules_of_machine M) [] false 0) (state_same [] 0 0 (0 + s.place.at) 0 s.place.condition [] s.acting.stack None (ending_of s.ended) zero (sym condition) (sym stack) (sym (ap ending_of going))) (scanned_first (rules_of_machine M)));
       text = tt;
       covered = omega (arith, at);
       held = held;

@@ -6,8 +6,8 @@ use Rattle.std.proofs.lemmas.List.{take-append-le, take-take, length-append, len
 use Rattle.lex_semantics.specs.Machine.{Machine, walk}
 use Rattle.lex_semantics.proofs.MachineLaws.{walk-append}
 use Rattle.lex_semantics.proofs.Texts.{is_text_append}
-use Rattle.lexscan.specs.declared.window.Stop.{Stop}
-use Rattle.lexscan.specs.declared.window.Walk.{Walk}
+use Rattle.lexscan.specs.declared.walk.Stop.{Stop}
+use Rattle.lexscan.specs.declared.walk.Walk.{Walk}
 use Rattle.lexscan.specs.Walks.{Walked, Filled, StopsAt}
 
 -- no bytes yet

@@ -41,9 +41,9 @@ pub record Between (v : State) (bytes : List ℕ) (taken condition : ℕ) (line 
   pub bytes_are : v.reading.window.bytes ≡ bytes
   pub taken_is : v.reading.taken ≡ taken
   pub at_end : v.reading.at_end ≡ false
-  pub at : v.spot.at ≡ 0
-  pub line_is : v.spot.line_start ≡ line
-  pub condition_is : v.spot.condition ≡ condition
+  pub at : v.place.at ≡ 0
+  pub line_is : v.place.line_start ≡ line
+  pub condition_is : v.place.condition ≡ condition
   pub stack_is : v.acting.stack ≡ stack
   pub going : v.ended ≡ None
 
@@ -53,7 +53,7 @@ AllStand M n given out bytes taken condition line stack = (v : State) → Betwee
 
 -- Some turns over a text, of which the first bytes are held: they were told from its first byte up to that at `done`, and asked for those
 -- up to `asked`.
-pub record Went {K : Type 0} (M : Machine) (wrote : K → List ℕ → K → Type 0) (t u : K) (text : List ℕ) (held condition : ℕ) (line : Bool) (done asked condition' : ℕ) (line' : Bool) : Type 0 where
+pub record TurnsMade {K : Type 0} (M : Machine) (wrote : K → List ℕ → K → Type 0) (t u : K) (text : List ℕ) (held condition : ℕ) (line : Bool) (done asked condition' : ℕ) (line' : Bool) : Type 0 where
   pub turns : ℕ
   pub out : List ℕ
   pub sink : wrote t out u
@@ -73,7 +73,7 @@ pub record Broke {K : Type 0} (M : Machine) (wrote : K → List ℕ → K → Ty
       Fell M (turns + n) (given ++ drop held (take before text)) (drop before (take asked text)) (had ++ out) v Write
 
 abbrev pub BurstsBy : {K : Type 0} → Bool → Machine → (K → List ℕ → K → Type 0) → K → K → List ℕ → ℕ → ℕ → Bool → Burst → Type 0
-BurstsBy false M wrote t u text held condition line b = Went M wrote t u text held condition line b.done b.asked b.condition b.line_start
+BurstsBy false M wrote t u text held condition line b = TurnsMade M wrote t u text held condition line b.done b.asked b.condition b.line_start
 BurstsBy true M wrote t u text held condition line b = Broke M wrote t u text held condition line b.done b.asked b.condition b.line_start
 
 -- What is told of the match of a walk: by its last state, or, where this one accepts nothing, by the one before it.
@@ -93,4 +93,4 @@ GoesFurther M old new got wrote (Err e) = (turns : ℕ) × (had more : List ℕ)
 -- The text starts no earlier, nor does the match.
 pub record NoEarlier (old new : State) : Type 0 where
   pub start : old.reading.taken - length old.reading.window.bytes ≤ new.reading.taken - length new.reading.window.bytes
-  pub place : old.reading.taken - length old.reading.window.bytes + old.spot.at ≤ new.reading.taken - length new.reading.window.bytes + new.spot.at
+  pub place : old.reading.taken - length old.reading.window.bytes + old.place.at ≤ new.reading.taken - length new.reading.window.bytes + new.place.at

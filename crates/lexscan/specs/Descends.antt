@@ -7,7 +7,7 @@ use Rattle.lex_semantics.specs.Acting.{Ending, Status, StackFault, Matched, sett
 use Rattle.lex_semantics.specs.Machine.{Machine, rules_of_machine}
 use Rattle.lex_semantics.specs.Plain.{default_match}
 use Rattle.lex_semantics.specs.Trail.{falling}
-use Rattle.lexscan.specs.declared.act.Acting.{Acting}
+use Rattle.lexscan.specs.declared.act.ActionState.{ActionState}
 use Rattle.lexscan.specs.declared.act.Finish.{Finish}
 use Rattle.lexscan.specs.declared.act.Step.{Step}
 use Rattle.lexscan.specs.declared.state.State.{State}
@@ -18,7 +18,7 @@ pub record Conditions : Type 0 where
   pub next : ℕ
   pub stack : List ℕ
 
-abbrev pub conditions_of : Acting → Conditions
+abbrev pub conditions_of : ActionState → Conditions
 conditions_of a = record { next = a.condition; stack = a.stack }
 
 abbrev pub conditions_in : Scan.Acting → Conditions
@@ -26,7 +26,7 @@ conditions_in a = record { next = a.condition; stack = a.stack }
 
 -- those with which a turn begins
 abbrev pub conditions_at : State → Conditions
-conditions_at s = record { next = s.spot.condition; stack = s.acting.stack }
+conditions_at s = record { next = s.place.condition; stack = s.acting.stack }
 
 -- what the actions of these matches make of the bytes w, where a match starts at a place in them
 abbrev pub outcome : Machine → List ℕ → ℕ → List Candidate → List ℕ → Conditions → Option Matched
@@ -34,7 +34,7 @@ outcome M w at ms before c = perform (rules_of_machine M) (take at w) (drop at w
 
 -- all the matches that these states tell
 abbrev pub matches_of : Machine → List ℕ → ℕ → List ℕ → List Candidate
-matches_of M w at trail = falling M 0 trail ++ default_match M.count (drop at w)
+matches_of M w at path = falling M 0 path ++ default_match M.count (drop at w)
 
 -- All matches up to some were rejected: these are left.
 pub record Passed {K : Type 0} (M : Machine) (wrote : K → List ℕ → K → Type 0) (s t : K) (w : List ℕ) (at : ℕ) (all left : List Candidate) (old new : Conditions) : Type 0 where
@@ -43,7 +43,7 @@ pub record Passed {K : Type 0} (M : Machine) (wrote : K → List ℕ → K → T
   pub acts : (before : List ℕ) (rest : List Candidate) → outcome M w at (all ++ rest) before old ≡ outcome M w at (left ++ rest) (before ++ out) new
 
 -- These matches were tried, and this is what follows.
-pub record Tried {K : Type 0} (M : Machine) (wrote : K → List ℕ → K → Type 0) (s t : K) (w : List ℕ) (at : ℕ) (all : List Candidate) (old : Conditions) (new : Acting) (step : Step) : Type 0 where
+pub record Tried {K : Type 0} (M : Machine) (wrote : K → List ℕ → K → Type 0) (s t : K) (w : List ℕ) (at : ℕ) (all : List Candidate) (old : Conditions) (new : ActionState) (step : Step) : Type 0 where
   pub out : List ℕ
   pub sink : wrote s out t
   pub acts : (before : List ℕ) (rest : List Candidate) →
@@ -70,13 +70,13 @@ finished_of None = None
 finished_of (Some f) = Some (finish_of f)
 
 -- One of the matches was not rejected.
-pub record Performed {K : Type 0} (M : Machine) (wrote : K → List ℕ → K → Type 0) (s t : K) (w : List ℕ) (at : ℕ) (all : List Candidate) (old : Conditions) (new : Acting) (ended : Option Ending) : Type 0 where
+pub record Performed {K : Type 0} (M : Machine) (wrote : K → List ℕ → K → Type 0) (s t : K) (w : List ℕ) (at : ℕ) (all : List Candidate) (old : Conditions) (new : ActionState) (ended : Option Ending) : Type 0 where
   pub out : List ℕ
   pub sink : wrote s out t
   pub acts : (before : List ℕ) → outcome M w at all before old ≡ Some (record { after = acting_of w new (before ++ out); ended = ended })
 
 -- One of them was not rejected, and the stack of conditions was at fault in it.
 pub record Faulted {K : Type 0} (M : Machine) (wrote : K → List ℕ → K → Type 0) (s t : K) (w : List ℕ) (at : ℕ) (all : List Candidate) (old : Conditions) : Type 0 where
-  pub acting : Acting
+  pub acting : ActionState
   pub performed : Performed M wrote s t w at all old acting (Some StackFault)
   pub inside : acting.end ≤ length w

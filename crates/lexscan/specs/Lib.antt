@@ -2,7 +2,7 @@ pub mod Window
 pub mod Walks
 pub mod Answer
 pub mod Reads
-pub mod Sees
+pub mod Looks
 pub mod Acts
 pub mod Descends
 pub mod Moves
@@ -14,3 +14,5 @@ pub mod Bursts
 pub mod Memos
 pub mod Backs
 pub use Rattle.lex_io.specs.Source
+pub mod Turns
+pub mod Ends

@@ -1,16 +1,17 @@
 -- What a turn does to the plain state.
-use Rattle.std.specs.Prelude.{◌≡◌, ℕ, ◌-◌, ◌≤◌, ◌<◌, Bool, true, false, List, [], length, drop, ◌⊎◌, Option, Some, None, Result, Ok, Err, nat_eq, get_or}
+use Rattle.std.specs.Prelude.{◌≡◌, ℕ, ◌+◌, ◌-◌, ◌≤◌, ◌<◌, Bool, true, false, List, [], length, drop, ◌⊎◌, Option, Some, None, Result, Ok, Err, OnOk, OnErr, IfOk, IfErr, IsErrOf, nat_eq, get_or}
 use Rattle.lex_semantics.specs.Text.{BeginsWith}
 use Rattle.lex_semantics.specs.Machine.{Machine}
 use Rattle.lexscan.specs.declared.state.Reading.{Reading}
-use Rattle.lexscan.specs.declared.state.Spot.{Spot}
+use Rattle.lexscan.specs.declared.state.TextPlace.{TextPlace}
 use Rattle.lexscan.specs.declared.state.State.{State}
-use Rattle.lexscan.specs.declared.act.Acting.{Acting}
+use Rattle.lexscan.specs.declared.act.ActionState.{ActionState}
+use Rattle.lexscan.specs.declared.act.Finish.{Finish}
 use Rattle.lexscan.specs.declared.turn.Turn.{Turn}
 use Rattle.lexscan.specs.declared.error.RunError.{RunError}
-use Rattle.lexscan.specs.Reads.{Took}
-use Rattle.lexscan.specs.Sees.{Saw, SawEnd, Unmet}
-use Rattle.lexscan.specs.declared.error.RunError.TheVariants.{Stack}
+use Rattle.lexscan.specs.Reads.{Took, write_fault_count}
+use Rattle.lexscan.specs.Looks.{Looked, LookedAtEnd, Unmet}
+use Rattle.lexscan.specs.declared.error.RunError.TheVariants.{Write, Stack}
 use Rattle.lexscan.specs.Descends.{Conditions, conditions_at, matches_of, ending_of, Performed, CutAll, Faulted}
 
 -- the next text starts where this one does
@@ -28,11 +29,11 @@ left_at true end = end
 left_at false end = 0
 
 -- The place of the next match.
-pub record Left (w : List ℕ) (a : Acting) (over : Bool) (new : State) : Type 0 where
+pub record Left (w : List ℕ) (a : ActionState) (over : Bool) (new : State) : Type 0 where
   pub held : new.reading.window.bytes ≡ left_bytes (stays a.more over) a.end w
-  pub at : new.spot.at ≡ left_at (stays a.more over) a.end
-  pub line : 0 < a.end → new.spot.line_start ≡ nat_eq (get_or w (a.end - 1) 0) 10
-  pub condition : new.spot.condition ≡ a.condition
+  pub at : new.place.at ≡ left_at (stays a.more over) a.end
+  pub line : 0 < a.end → new.place.line_start ≡ nat_eq (get_or w (a.end - 1) 0) 10
+  pub condition : new.place.condition ≡ a.condition
   pub stack : new.acting.stack ≡ a.stack
 
 abbrev pub is_over : Option ℕ → Bool
@@ -47,7 +48,7 @@ Says (Turn.Ended status) ended = ended ≡ Some status
 -- what stays where a turn is refused
 pub record Untouched (old new : State) : Type 0 where
   pub reading : new.reading ≡ old.reading
-  pub spot : new.spot ≡ old.spot
+  pub place : new.place ≡ old.place
 
 -- what stays of the source's side
 pub record SameReads (old : Reading) (new : State) : Type 0 where
@@ -55,22 +56,56 @@ pub record SameReads (old : Reading) (new : State) : Type 0 where
   pub at_end : new.reading.at_end ≡ old.at_end
 
 -- The action of a match was carried out, and the scan left its place.
-pub record Acted {K : Type 0} (M : Machine) (wrote : K → List ℕ → K → Type 0) (s t : K) (old : Reading) (p : Spot) (c : Conditions) (trail : List ℕ) (new : State) (turn : Turn) : Type 0 where
-  pub acting : Acting
+pub record Acted {K : Type 0} (M : Machine) (wrote : K → List ℕ → K → Type 0) (s t : K) (old : Reading) (p : TextPlace) (c : Conditions) (path : List ℕ) (new : State) (turn : Turn) : Type 0 where
+  pub acting : ActionState
   pub ended : Option ℕ
-  pub performed : Performed M wrote s t old.window.bytes p.at (matches_of M old.window.bytes p.at trail) c acting (ending_of ended)
+  pub performed : Performed M wrote s t old.window.bytes p.at (matches_of M old.window.bytes p.at path) c acting (ending_of ended)
   pub inside : acting.end ≤ length old.window.bytes
   pub left : Left old.window.bytes acting (is_over ended) new
   pub says : Says turn ended
   pub same : SameReads old new
   pub is_ended : (e : ℕ) → ended ≡ Some e → new.ended ≡ Some e
 
+-- An action has ended the scan with a status, and the scan left its place.
+pub record EndedBy (old new : State) (finish : Finish) (turn : Turn) : Type 0 where
+  pub status : ℕ
+  pub is : finish ≡ Finish.Status status
+  pub left : Left old.reading.window.bytes old.acting true new
+  pub same : SameReads old.reading new
+  pub says : turn ≡ Turn.Ended status
+  pub ended : new.ended ≡ Some status
+
+-- An action ends the scan, or was at fault: the sink was flushed; what is refused changes nothing.
+pub record EndsScan {K : Type 0} (wrote : K → List ℕ → K → Type 0) (fails : K → ℕ) (t t' : K) (live : Bool) (old new : State) (finish : Finish) (result : Result Turn RunError) : Type 0 where
+  pub sink : wrote t [] t'
+  pub write_faults : fails t' ≡ fails t + write_fault_count result
+  pub may_write : OnOk result (live ≡ true)
+  pub refusals : IfErr result (λ e. (e ≡ Write) ⊎ (e ≡ Stack))
+  pub ended : IfOk result (λ turn. EndedBy old new finish turn)
+  pub fault : IsErrOf result Stack → finish ≡ Finish.StackFault
+  pub unchanged : OnErr result (new ≡ old)
+  pub failed : new.failed ≡ old.failed
+  pub max_reads : new.reading.max_reads ≡ old.reading.max_reads
+
+-- What a match leaves, where these are the states after its bytes: its action was carried out, or was cut short.
+pub record MatchLeft {K : Type 0} (M : Machine) (wrote : K → List ℕ → K → Type 0) (fails : K → ℕ) (t t' : K) (live : Bool) (old new : State) (path : List ℕ) (result : Result Turn RunError) : Type 0 where
+  pub acted : IfOk result (λ turn. Acted M wrote t t' old.reading old.place (conditions_at old) path new turn)
+  pub going : result ≡ Ok Turn.Went → new.ended ≡ old.ended
+  pub cut_off : OnErr result (CutAll M wrote t t' old.reading.window.bytes old.place.at (matches_of M old.reading.window.bytes old.place.at path) (conditions_at old))
+  pub fault : IsErrOf result Stack → Faulted M wrote t t' old.reading.window.bytes old.place.at (matches_of M old.reading.window.bytes old.place.at path) (conditions_at old)
+  pub unchanged : OnErr result (Untouched old new)
+  pub refusals : IfErr result (λ e. (e ≡ Write) ⊎ (e ≡ Stack))
+  pub write_faults : fails t' ≡ fails t + write_fault_count result
+  pub may_write : OnOk result (live ≡ true)
+  pub failed : new.failed ≡ old.failed
+  pub max_reads : new.reading.max_reads ≡ old.reading.max_reads
+
 -- The end action was carried out.
-pub record EndLeft (M : Machine) (old : Reading) (p : Spot) (c : Conditions) (new : State) (turn : Turn) : Type 0 where
+pub record EndLeft (M : Machine) (old : Reading) (p : TextPlace) (c : Conditions) (new : State) (turn : Turn) : Type 0 where
   pub held : new.reading.window.bytes ≡ drop p.at old.window.bytes
-  pub at : new.spot.at ≡ 0
-  pub line : new.spot.line_start ≡ p.line_start
-  pub condition : new.spot.condition ≡ p.condition
+  pub at : new.place.at ≡ 0
+  pub line : new.place.line_start ≡ p.line_start
+  pub condition : new.place.condition ≡ p.condition
   pub stack : new.acting.stack ≡ c.stack
   pub same : SameReads old new
   pub ended : new.ended ≡ Some (M.ending p.condition).status
@@ -80,34 +115,34 @@ pub record EndLeft (M : Machine) (old : Reading) (p : Spot) (c : Conditions) (ne
 pub record Matched {S K : Type 0} (M : Machine) (gave : S → List ℕ → S → Type 0) (wrote : K → List ℕ → K → Type 0) (s s' : S) (t t' : K) (old new : State) (turn : Turn) : Type 0 where
   pub mid : Reading
   pub took : Took gave s s' old.reading mid
-  pub trail : List ℕ
-  pub saw : Saw M old.spot old.reading mid trail
-  pub acted : Acted M wrote t t' mid old.spot (conditions_at old) trail new turn
+  pub path : List ℕ
+  pub looked : Looked M old.place old.reading mid path
+  pub acted : Acted M wrote t t' mid old.place (conditions_at old) path new turn
 
 -- The source answered its end at the place of the next match.
 pub record Finished {S K : Type 0} (M : Machine) (gave : S → List ℕ → S → Type 0) (wrote : K → List ℕ → K → Type 0) (s s' : S) (t t' : K) (old new : State) (turn : Turn) : Type 0 where
   pub mid : Reading
   pub took : Took gave s s' old.reading mid
-  pub saw : SawEnd old.spot old.reading mid
-  pub sink : wrote t (M.ending old.spot.condition).print t'
-  pub left : EndLeft M mid old.spot (conditions_at old) new turn
+  pub looked : LookedAtEnd old.place old.reading mid
+  pub sink : wrote t (M.ending old.place.condition).print t'
+  pub left : EndLeft M mid old.place (conditions_at old) new turn
 
 -- Why a turn was refused: a byte was wanted, or the action was cut short, or the end action was.
 abbrev pub Why : {K : Type 0} → Machine → (K → List ℕ → K → Type 0) → K → K → State → State → Type 0
 Why M wrote t t' old new =
-    (Unmet M old.spot old.reading new.reading × wrote t [] t')
-    ⊎ ((trail : List ℕ) × Saw M old.spot old.reading new.reading trail × CutAll M wrote t t' new.reading.window.bytes old.spot.at (matches_of M new.reading.window.bytes old.spot.at trail) (conditions_at old))
-    ⊎ (SawEnd old.spot old.reading new.reading × (out : List ℕ) × BeginsWith (M.ending old.spot.condition).print out × wrote t out t')
+    (Unmet M old.place old.reading new.reading × wrote t [] t')
+    ⊎ ((path : List ℕ) × Looked M old.place old.reading new.reading path × CutAll M wrote t t' new.reading.window.bytes old.place.at (matches_of M new.reading.window.bytes old.place.at path) (conditions_at old))
+    ⊎ (LookedAtEnd old.place old.reading new.reading × (out : List ℕ) × BeginsWith (M.ending old.place.condition).print out × wrote t out t')
 
 -- The action of a match was carried out up to a fault of the stack.
 abbrev pub StackFaulted : {K : Type 0} → Machine → (K → List ℕ → K → Type 0) → K → K → State → State → Type 0
 StackFaulted M wrote t t' old new =
-    (trail : List ℕ) × Saw M old.spot old.reading new.reading trail × Faulted M wrote t t' new.reading.window.bytes old.spot.at (matches_of M new.reading.window.bytes old.spot.at trail) (conditions_at old)
+    (path : List ℕ) × Looked M old.place old.reading new.reading path × Faulted M wrote t t' new.reading.window.bytes old.place.at (matches_of M new.reading.window.bytes old.place.at path) (conditions_at old)
 
 -- The turn was refused: what was taken is held.
 pub record Refused {S K : Type 0} (M : Machine) (gave : S → List ℕ → S → Type 0) (wrote : K → List ℕ → K → Type 0) (s s' : S) (t t' : K) (old new : State) (e : RunError) : Type 0 where
   pub took : Took gave s s' old.reading new.reading
-  pub spot : new.spot ≡ old.spot
+  pub place : new.place ≡ old.place
   pub why : Why M wrote t t' old new
   pub fault : e ≡ Stack → StackFaulted M wrote t t' old new
 

@@ -1,11 +1,12 @@
 -- What a whole run leaves.
-use Rattle.std.specs.Prelude.{◌≡◌, ℕ, Bool, List, ◌++◌, length, Result, Ok, Err}
+use Rattle.std.specs.Prelude.{◌≡◌, ℕ, ◌+◌, ◌≤◌, Bool, List, ◌++◌, length, Result, Ok, Err, IsErrOf}
 use Rattle.lex_semantics.specs.Rules.{Rules}
 use Rattle.lex_semantics.specs.Acting.{Status, StackFault}
 use Rattle.lex_semantics.specs.Machine.{Machine}
 use Rattle.lexscan.specs.declared.state.State.{State}
 use Rattle.lexscan.specs.declared.error.RunError.{RunError}
-use Rattle.lexscan.specs.declared.error.RunError.TheVariants.{TooManyReads, Stack}
+use Rattle.lexscan.specs.declared.error.RunError.TheVariants.{TooManyReads, Stack, Failed}
+use Rattle.lexscan.specs.Reads.{read_fault_count, write_fault_count}
 use Rattle.lexscan.specs.Stands.{Stands, GaveUp, RanTo}
 
 -- After some turns these bytes were given and written.
@@ -32,3 +33,11 @@ pub record RanInto (R : Rules) (given out : List ℕ) (at_end : Bool) (max_reads
 abbrev pub Ran : Rules → List ℕ → List ℕ → Bool → ℕ → Result ℕ RunError → Type 0
 Ran R given out at_end max_reads (Ok status) = RanTo R given out at_end (Status status)
 Ran R given out at_end max_reads (Err e) = RanInto R given out at_end max_reads e
+
+-- What a run adds to the counts of the two ends.
+pub record RunCounts {S K : Type 0} (ends_of reads_of : S → ℕ) (writes_of : K → ℕ) (s s' : S) (t t' : K) (result : Result ℕ RunError) : Type 0 where
+  pub ends_stay : ends_of s ≤ ends_of s'
+  pub one_end : ends_of s' ≤ ends_of s + 1
+  pub read_faults : reads_of s' ≡ reads_of s + read_fault_count result
+  pub write_faults : writes_of t' ≡ writes_of t + write_fault_count result
+  pub not_failed : IsErrOf result Failed → ⊥

@@ -19,7 +19,7 @@ use Rattle.lexscan.specs.Moves.{Says}
 abbrev pub state_of : List ℕ → ℕ → State → Scan.State
 state_of out start s = record {
   written = out;
-  place = record { start = start; at = start + s.spot.at; condition = s.spot.condition; stack = s.acting.stack };
+  place = record { start = start; at = start + s.place.at; condition = s.place.condition; stack = s.acting.stack };
   ended = ending_of s.ended;
 }
 
@@ -31,9 +31,9 @@ pub record Stands (M : Machine) (n : ℕ) (given out : List ℕ) (s : State) : T
   pub start : ℕ
   pub scanned : Scanned (rules_of_machine M) given s.reading.at_end n (state_of out start s)
   pub text : IsText given
-  pub covered : start + s.spot.at ≤ length given
+  pub covered : start + s.place.at ≤ length given
   pub held : s.reading.window.bytes ≡ drop start given
-  pub line : s.spot.line_start ≡ at_line_start given (start + s.spot.at)
+  pub line : s.place.line_start ≡ at_line_start given (start + s.place.at)
   pub taken : s.reading.taken ≡ length given
 
 -- The turns before the refused one, over an input: they ask for just the bytes that the source had given.
@@ -82,3 +82,8 @@ NoneAfterEnd old new got = old.reading.at_end ≡ true → (got ≡ []) × (new.
 abbrev pub GoesOn : Machine → State → State → List ℕ → List ℕ → Result Turn RunError → Type 0
 GoesOn M old new got wrote (Ok turn) = Says turn new.ended × ((n : ℕ) (given out : List ℕ) → Stands M n given out old → Stands M (suc n) (given ++ got) (out ++ wrote) new)
 GoesOn M old new got wrote (Err e) = (n : ℕ) (given out : List ℕ) → Stands M n given out old → Fell M n given got (out ++ wrote) new e
+
+-- The source gave some bytes in a turn, and the sink was given some.
+abbrev pub MakesTurn : {S K : Type 0} → Machine → (S → List ℕ → S → Type 0) → (K → List ℕ → K → Type 0) → S → S → K → K → State → State → Result Turn RunError → Type 0
+MakesTurn M gave wrote s s' t t' old new result =
+    (got : List ℕ) × (put : List ℕ) × gave s got s' × wrote t put t' × NoneAfterEnd old new got × GoesOn M old new got put result

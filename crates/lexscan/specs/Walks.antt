@@ -2,9 +2,9 @@
 use Rattle.std.specs.Prelude.{◌≡◌, ℕ, ◌-◌, ◌≤◌, ◌<◌, Bool, true, false, List, ◌++◌, length, take}
 use Rattle.lex_semantics.specs.Text.{IsText}
 use Rattle.lex_semantics.specs.Machine.{Machine, walk}
-use Rattle.lexscan.specs.declared.window.Stop.{Stop}
-use Rattle.lexscan.specs.declared.window.Stop.TheVariants.{Done, Full, End, Fault}
-use Rattle.lexscan.specs.declared.window.Walk.{Walk}
+use Rattle.lexscan.specs.declared.walk.Stop.{Stop}
+use Rattle.lexscan.specs.declared.walk.Stop.TheVariants.{Done, Full, End, Fault}
+use Rattle.lexscan.specs.declared.walk.Walk.{Walk}
 use Rattle.lexscan.specs.declared.state.Reading.{Reading}
 
 -- These bytes led from a state to another, each of them but the first asked for.

@@ -8,6 +8,6 @@ pub record Held : Type 0 where
   pub ahead : List ℕ
 
 -- the states after each byte of a match, and whether there is room for one more
-pub record Told : Type 0 where
+pub record StatesKept : Type 0 where
   pub states : List ℕ
   pub room : Bool

@@ -2,6 +2,7 @@
 ghost use Rattle.std.specs.Prelude.{◌≡◌, ℕ, ◌+◌, ◌-◌, ◌^◌, ◌<◌, ◌≤◌, List, [], length, take, map, true, false, OnOk, OnErr, IfOk, IfErr};
 ghost use Rattle.lex_io.specs.Sink.{Appended, fault_count};
 ghost use Rattle.lexscan.specs.Reads.{write_fault_count};
+ghost use Rattle.lexscan.specs.Ends.{SinkLeft};
 ghost use Rattle.lex_machine.specs.Views.{statement_of};
 ghost use Rattle.lexscan.specs.Acts.{said, Steps, Carried, CutShort};
 
@@ -15,7 +16,7 @@ use lex_machine::Statement;
 /// The text's end in the window, the condition of the next match, the stack of conditions, and whether the next text is
 /// appended to this one.
 #[derive(Drop)]
-pub struct Acting {
+pub struct ActionState {
     pub end: usize,
     pub condition: u8,
     pub stack: Stack,
@@ -43,9 +44,7 @@ pub fn put<K: Sink>(outlet: &mut Outlet<'_, K>, bytes: &[u8]) -> Result<(), RunE
     requires { outlet.old.live ≡ true }
     ensures same { outlet.new.sink.ghost_name ≡ outlet.old.sink.ghost_name }
     ensures bytes { Appended (λ xs. K.wrote outlet.old.sink.now xs outlet.new.sink.now) bytes.now result }
-    ensures failures { K.failures outlet.new.sink.now ≡ K.failures outlet.old.sink.now + write_fault_count result }
-    ensures live { OnOk result (outlet.new.live ≡ true) }
-    ensures refusals { IfErr result (λ e. e ≡ RunError.Write) }
+    ensures sink { SinkLeft K.failures outlet.old.sink.now outlet.new.sink.now outlet.new.live result }
 {
     match outlet.put(bytes) {
         Err(_) => Err(RunError::Write),
@@ -59,19 +58,19 @@ pub fn carry_one<K: Sink>(
     outlet: &mut Outlet<'_, K>,
     window: &Window,
     statement: &Statement,
-    acting: &mut Acting,
+    acting: &mut ActionState,
 ) -> Result<Step, RunError>
     requires live { outlet.old.live ≡ true }
     requires inside { acting.old.end ≤ length window.now.bytes }
 
     ensures same { outlet.new.sink.ghost_name ≡ outlet.old.sink.ghost_name }
-    ensures bytes { Appended (λ xs. K.wrote outlet.old.sink.now xs outlet.new.sink.now) (said (statement_of statement.now) (take acting.old.end window.now.bytes)) result }
-    ensures failures { K.failures outlet.new.sink.now ≡ K.failures outlet.old.sink.now + write_fault_count result }
-    ensures live { OnOk result (outlet.new.live ≡ true) }
-    ensures refusals { IfErr result (λ e. e ≡ RunError.Write) }
+    ensures bytes { Appended (λ xs. K.wrote outlet.old.sink.now xs outlet.new.sink.now)
+        (said (statement_of statement.now) (take acting.old.end window.now.bytes)) result }
+    ensures sink { SinkLeft K.failures outlet.old.sink.now outlet.new.sink.now outlet.new.live result }
 
     ensures inside { acting.new.end ≤ length window.now.bytes }
-    ensures steps { IfOk result (λ step. Steps window.now.bytes (statement_of statement.now) acting.old acting.new step) }
+    ensures steps { IfOk result
+        (λ step. Steps window.now.bytes (statement_of statement.now) acting.old acting.new step) }
 {
     match statement {
         Statement::Echo => {
@@ -126,19 +125,19 @@ pub fn carry_out<K: Sink>(
     outlet: &mut Outlet<'_, K>,
     window: &Window,
     statements: &[Statement],
-    acting: &mut Acting,
+    acting: &mut ActionState,
 ) -> Result<Step, RunError>
     requires live { outlet.old.live ≡ true }
     requires inside { acting.old.end ≤ length window.now.bytes }
 
     ensures same { outlet.new.sink.ghost_name ≡ outlet.old.sink.ghost_name }
-    ensures failures { K.failures outlet.new.sink.now ≡ K.failures outlet.old.sink.now + write_fault_count result }
-    ensures live { OnOk result (outlet.new.live ≡ true) }
-    ensures refusals { IfErr result (λ e. e ≡ RunError.Write) }
+    ensures sink { SinkLeft K.failures outlet.old.sink.now outlet.new.sink.now outlet.new.live result }
 
     ensures inside { acting.new.end ≤ length window.now.bytes }
-    ensures carried { IfOk result (λ step. Carried K.wrote outlet.old.sink.now outlet.new.sink.now window.now.bytes (map statement_of statements.now) acting.old acting.new step) }
-    ensures cut_short { OnErr result (CutShort K.wrote outlet.old.sink.now outlet.new.sink.now window.now.bytes (map statement_of statements.now) acting.old) }
+    ensures carried { IfOk result (λ step. Carried K.wrote outlet.old.sink.now outlet.new.sink.now window.now.bytes
+        (map statement_of statements.now) acting.old acting.new step) }
+    ensures cut_short { OnErr result (CutShort K.wrote outlet.old.sink.now outlet.new.sink.now window.now.bytes
+        (map statement_of statements.now) acting.old) }
 {
     for statement in statements {
         match carry_one(outlet, window, statement, acting) {

@@ -4,8 +4,8 @@ ghost use Rattle.lexscan.specs.Backs.{LooksAhead, IsSettled};
 ghost use Rattle.lexscan.specs.Memos.{AreTrue};
 
 use crate::memo::Memo;
-use crate::pick::Seen;
-use crate::state::{Reading, Spot};
+use crate::pick::LookAhead;
+use crate::state::{Reading, TextPlace};
 use lex_machine::Machine;
 
 /// A match of which no state accepts after its first `keep` bytes, the state after these and the one before it, and over how
@@ -24,7 +24,7 @@ pub enum Ahead {
     /// All of it.
     Settled(Settled),
     /// The match asks for a byte that is not held.
-    Open(Seen),
+    Open(LookAhead),
 }
 
 /// The same after one byte more: it keeps all where this is the first byte or its state accepts.
@@ -32,7 +32,8 @@ pub enum Ahead {
 fn after(settled: Settled, len: usize, state: u32, before: u32, silent: bool) -> Settled
     ensures len { result.len ≡ len }
     ensures keep { ((result.keep ≡ len) × (result.state ≡ state) × (result.before ≡ before))
-        ⊎ ((result.keep ≡ settled.keep) × (result.state ≡ settled.state) × (result.before ≡ settled.before) × (0 < settled.keep) × (silent ≡ true)) }
+        ⊎ ((result.keep ≡ settled.keep) × (result.state ≡ settled.state) × (result.before ≡ settled.before)
+        × (0 < settled.keep) × (silent ≡ true)) }
 {
     if settled.keep == 0 || !silent {
         Settled {
@@ -47,17 +48,17 @@ fn after(settled: Settled, len: usize, state: u32, before: u32, silent: bool) ->
 }
 
 /// Walks over the bytes held, up to a place from which the walk is known to lead to no match.
-pub fn look<M: Machine>(machine: &M, reading: &Reading, memo: &Memo, spot: Spot) -> Ahead
-    requires condition { spot.condition < (M.machine machine.now).conditions }
-    requires place { spot.at < length reading.now.window.bytes }
+pub fn look<M: Machine>(machine: &M, reading: &Reading, memo: &Memo, place: TextPlace) -> Ahead
+    requires condition { place.condition < (M.machine machine.now).conditions }
+    requires inside { place.at < length reading.now.window.bytes }
     requires marks { AreTrue (M.machine machine.now) reading.now memo.now }
 
-    ensures { LooksAhead (M.machine machine.now) (M.states machine.now) spot reading.now result }
+    ensures { LooksAhead (M.machine machine.now) (M.states machine.now) place reading.now result }
 {
-    let held = reading.window.len() - spot.at;
+    let held = reading.window.len() - place.at;
     let stride = memo.stride();
     let mut due = memo.ahead(reading.taken.saturating_sub(held as u64));
-    let mut state = machine.start(spot.condition, spot.line_start);
+    let mut state = machine.start(place.condition, place.line_start);
     let mut before = state;
     let mut len = 0usize;
     let mut settled = Settled {
@@ -68,7 +69,7 @@ pub fn look<M: Machine>(machine: &M, reading: &Reading, memo: &Memo, spot: Spot)
     };
     'bytes: while len < held {
         before = state;
-        state = machine.step(state, reading.window.byte(spot.at + len));
+        state = machine.step(state, reading.window.byte(place.at + len));
         len += 1;
         settled = after(
             settled,
@@ -91,7 +92,7 @@ pub fn look<M: Machine>(machine: &M, reading: &Reading, memo: &Memo, spot: Spot)
     if reading.at_end {
         Ahead::Settled(settled)
     } else {
-        Ahead::Open(Seen {
+        Ahead::Open(LookAhead {
             reach: len,
             state,
             before,
@@ -104,10 +105,10 @@ pub fn note<M: Machine>(
     machine: &M,
     reading: &Reading,
     memo: &mut Memo,
-    spot: Spot,
+    place: TextPlace,
     settled: Settled,
 )
-    requires settled { IsSettled (M.machine machine.now) (M.states machine.now) spot reading.now settled }
+    requires settled { IsSettled (M.machine machine.now) (M.states machine.now) place reading.now settled }
     requires marks { AreTrue (M.machine machine.now) reading.now memo.old }
 
     ensures marks { AreTrue (M.machine machine.now) reading.now memo.new }
@@ -116,13 +117,13 @@ pub fn note<M: Machine>(
     if settled.len - settled.keep <= stride {
         return;
     }
-    let held = reading.window.len() - spot.at;
+    let held = reading.window.len() - place.at;
     let mut len = settled.keep;
     let first = (held - len) as u64;
     let mut due = len.saturating_add(memo.ahead(reading.taken.saturating_sub(first)));
     let mut state = settled.state;
     'bytes: while len < settled.len {
-        state = machine.step(state, reading.window.byte(spot.at + len));
+        state = machine.step(state, reading.window.byte(place.at + len));
         len += 1;
         if due <= len {
             due = due.saturating_add(stride);

@@ -4,12 +4,13 @@ ghost use Rattle.lex_io.specs.Sink.{Appended};
 ghost use Rattle.lex_machine.specs.Glances.{Leads, Gists};
 ghost use Rattle.lex_semantics.specs.MachineLaws.{NoReject};
 ghost use Rattle.lexscan.specs.Reads.{write_fault_count};
+ghost use Rattle.lexscan.specs.Ends.{SinkLeft};
 ghost use Rattle.lexscan.specs.Bursts.{is_told, condition_after, written_by, Tells, BurstsBy, fault_of};
 
 use crate::act::put;
 use crate::error::RunError;
 use crate::intake::Outlet;
-use crate::state::Spot;
+use crate::state::TextPlace;
 use lex_io::Sink;
 use lex_machine::{Gist, Machine, Way};
 
@@ -70,10 +71,9 @@ fn do_gist<K: Sink>(
 ) -> Result<u8, RunError>
     requires live { outlet.old.live ≡ true }
     ensures same { outlet.new.sink.ghost_name ≡ outlet.old.sink.ghost_name }
-    ensures bytes { Appended (λ xs. K.wrote outlet.old.sink.now xs outlet.new.sink.now) (written_by gist.entry text.now) result }
-    ensures failures { K.failures outlet.new.sink.now ≡ K.failures outlet.old.sink.now + write_fault_count result }
-    ensures live { OnOk result (outlet.new.live ≡ true) }
-    ensures refusals { IfErr result (λ e. e ≡ RunError.Write) }
+    ensures bytes { Appended (λ xs. K.wrote outlet.old.sink.now xs outlet.new.sink.now)
+        (written_by gist.entry text.now) result }
+    ensures sink { SinkLeft K.failures outlet.old.sink.now outlet.new.sink.now outlet.new.live result }
     ensures condition { IfOk result (λ after. after ≡ condition_after gist.entry condition) }
 {
     match gist {
@@ -98,14 +98,15 @@ pub fn burst_over<M: Machine, K: Sink>(
     outlet: &mut Outlet<'_, K>,
     text: &[u8],
     held: usize,
-    spot: Spot,
+    place: TextPlace,
 ) -> Burst
     requires live { outlet.old.live ≡ true }
-    requires condition { spot.condition < (M.machine machine.now).conditions }
+    requires condition { place.condition < (M.machine machine.now).conditions }
     requires held { held ≤ length text.now }
 
     ensures same { outlet.new.sink.ghost_name ≡ outlet.old.sink.ghost_name }
-    ensures bursts { BurstsBy result.fault (M.machine machine.now) K.wrote outlet.old.sink.now outlet.new.sink.now text.now held spot.condition spot.line_start result }
+    ensures bursts { BurstsBy result.fault (M.machine machine.now) K.wrote outlet.old.sink.now outlet.new.sink.now
+        text.now held place.condition place.line_start result }
     ensures failures { K.failures outlet.new.sink.now ≡ K.failures outlet.old.sink.now + fault_of result.fault }
     ensures live { result.fault ≡ false → outlet.new.live ≡ true }
     ensures condition { result.condition < (M.machine machine.now).conditions }
@@ -115,8 +116,8 @@ pub fn burst_over<M: Machine, K: Sink>(
 {
     let mut done = 0usize;
     let mut asked = held;
-    let mut line_start = spot.line_start;
-    let mut condition = spot.condition;
+    let mut line_start = place.line_start;
+    let mut condition = place.condition;
     'turns: while done < text.len() {
         let rest = &text[done..];
         let Some(way) = machine.way(machine.start(condition, line_start), rest) else {

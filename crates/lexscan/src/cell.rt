@@ -53,7 +53,8 @@ impl Cell {
     /// The same with this state, in place of one that stands more than once or else of the last one. All are dropped where it is
     /// about another place, and nothing is changed where it has the state.
     pub fn marked(self, place: u64, state: u16) -> Cell
-        ensures { (m : Mark) → Among (marks_of result) m → Among (marks_of self) m ⊎ (m ≡ record { place = place; state = state }) }
+        ensures { (m : Mark) → Among (marks_of result) m → Among (marks_of self) m
+            ⊎ (m ≡ record { place = place; state = state }) }
     {
         if self.place != place {
             Cell::new(place, state)

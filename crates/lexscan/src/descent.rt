@@ -4,12 +4,13 @@ ghost use Rattle.lex_semantics.specs.Text.{Among};
 ghost use Rattle.lex_semantics.specs.PlainMachine.{kept_by, match_of};
 ghost use Rattle.lex_machine.specs.Views.{cut_of};
 ghost use Rattle.lexscan.specs.Reads.{write_fault_count};
+ghost use Rattle.lexscan.specs.Ends.{SinkLeft};
 ghost use Rattle.lexscan.specs.Descends.{matches_of, conditions_of, finished_of, Tried, CutOff, CutAll, Performed};
 
-use crate::act::{Acting, Finish, Step, carry_out, put};
+use crate::act::{ActionState, Finish, Step, carry_out, put};
 use crate::error::RunError;
 use crate::intake::Outlet;
-use crate::trail::Trail;
+use crate::path::StatePath;
 use crate::window::Window;
 use lex_io::Sink;
 use lex_machine::{Cut, Machine};
@@ -44,7 +45,7 @@ fn try_rules<M: Machine, K: Sink>(
     rules: &[u32],
     at: usize,
     len: usize,
-    acting: &mut Acting,
+    acting: &mut ActionState,
 ) -> Result<Step, RunError>
     requires live { outlet.old.live ≡ true }
     requires place { at + len ≤ length window.now.bytes }
@@ -52,13 +53,14 @@ fn try_rules<M: Machine, K: Sink>(
     requires inside { acting.old.end ≤ length window.now.bytes }
 
     ensures same { outlet.new.sink.ghost_name ≡ outlet.old.sink.ghost_name }
-    ensures failures { K.failures outlet.new.sink.now ≡ K.failures outlet.old.sink.now + write_fault_count result }
-    ensures live { OnOk result (outlet.new.live ≡ true) }
-    ensures refusals { IfErr result (λ e. e ≡ RunError.Write) }
+    ensures sink { SinkLeft K.failures outlet.old.sink.now outlet.new.sink.now outlet.new.live result }
 
     ensures inside { acting.new.end ≤ length window.now.bytes }
-    ensures tried { IfOk result (λ step. Tried (M.machine machine.now) K.wrote outlet.old.sink.now outlet.new.sink.now window.now.bytes at (filter_map (match_of (M.machine machine.now) len) rules.now) (conditions_of acting.old) acting.new step) }
-    ensures cut_off { OnErr result (CutOff (M.machine machine.now) K.wrote outlet.old.sink.now outlet.new.sink.now window.now.bytes at (filter_map (match_of (M.machine machine.now) len) rules.now) (conditions_of acting.old)) }
+    ensures tried { IfOk result (λ step. Tried (M.machine machine.now) K.wrote outlet.old.sink.now outlet.new.sink.now
+        window.now.bytes at (filter_map (match_of (M.machine machine.now) len) rules.now) (conditions_of acting.old)
+        acting.new step) }
+    ensures cut_off { OnErr result (CutOff (M.machine machine.now) K.wrote outlet.old.sink.now outlet.new.sink.now
+        window.now.bytes at (filter_map (match_of (M.machine machine.now) len) rules.now) (conditions_of acting.old)) }
 {
     let held = window.len();
     for rule in rules {
@@ -84,28 +86,31 @@ pub fn descend<M: Machine, K: Sink>(
     machine: &M,
     outlet: &mut Outlet<'_, K>,
     window: &Window,
-    trail: &Trail,
+    path: &StatePath,
     at: usize,
-    acting: &mut Acting,
+    acting: &mut ActionState,
 ) -> Result<Option<Finish>, RunError>
     requires live { outlet.old.live ≡ true }
-    requires some { 1 ≤ length trail.now.states }
-    requires place { at + length trail.now.states ≤ length window.now.bytes }
-    requires known { (state : ℕ) → Among trail.now.states state → state < M.states machine.now }
+    requires some { 1 ≤ length path.now.states }
+    requires place { at + length path.now.states ≤ length window.now.bytes }
+    requires known { (state : ℕ) → Among path.now.states state → state < M.states machine.now }
     requires inside { acting.old.end ≤ length window.now.bytes }
 
     ensures same { outlet.new.sink.ghost_name ≡ outlet.old.sink.ghost_name }
-    ensures failures { K.failures outlet.new.sink.now ≡ K.failures outlet.old.sink.now + write_fault_count result }
-    ensures live { OnOk result (outlet.new.live ≡ true) }
-    ensures refusals { IfErr result (λ e. e ≡ RunError.Write) }
+    ensures sink { SinkLeft K.failures outlet.old.sink.now outlet.new.sink.now outlet.new.live result }
 
     ensures inside { acting.new.end ≤ length window.now.bytes }
-    ensures performed { IfOk result (λ ended. Performed (M.machine machine.now) K.wrote outlet.old.sink.now outlet.new.sink.now window.now.bytes at (matches_of (M.machine machine.now) window.now.bytes at trail.now.states) (conditions_of acting.old) acting.new (finished_of ended)) }
-    ensures cut_off { OnErr result (CutAll (M.machine machine.now) K.wrote outlet.old.sink.now outlet.new.sink.now window.now.bytes at (matches_of (M.machine machine.now) window.now.bytes at trail.now.states) (conditions_of acting.old)) }
+    ensures performed { IfOk result (λ ended. Performed (M.machine machine.now)
+        K.wrote outlet.old.sink.now outlet.new.sink.now window.now.bytes at
+        (matches_of (M.machine machine.now) window.now.bytes at path.now.states)
+        (conditions_of acting.old) acting.new (finished_of ended)) }
+    ensures cut_off { OnErr result (CutAll (M.machine machine.now)
+        K.wrote outlet.old.sink.now outlet.new.sink.now window.now.bytes at
+        (matches_of (M.machine machine.now) window.now.bytes at path.now.states) (conditions_of acting.old)) }
 {
-    let mut len = trail.len();
+    let mut len = path.len();
     'lengths: while 0 < len {
-        let rules = machine.accepts(trail.state(len - 1));
+        let rules = machine.accepts(path.state(len - 1));
         match try_rules(machine, outlet, window, rules, at, len, acting) {
             Err(e) => return Err(e),
             Ok(Step::Next) => return Ok(None),

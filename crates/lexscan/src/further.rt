@@ -4,6 +4,7 @@ ghost use Rattle.lex_semantics.specs.Text.{AllBelow};
 ghost use Rattle.lex_semantics.specs.MachineLaws.{NoReject};
 ghost use Rattle.lexscan.specs.Reads.{write_fault_count};
 ghost use Rattle.lexscan.specs.Stands.{NoneAfterEnd};
+ghost use Rattle.lexscan.specs.Turns.{MayMove};
 ghost use Rattle.lexscan.specs.Bursts.{GoesFurther, NoEarlier};
 ghost use Rattle.lexscan.specs.declared.memo.Mark.{Mark};
 ghost use Rattle.lexscan.specs.Memos.{AreTrue};
@@ -11,7 +12,7 @@ ghost use Rattle.lexscan.specs.Memos.{AreTrue};
 use crate::burst::{Burst, burst_over};
 use crate::error::RunError;
 use crate::intake::{Intake, Outlet};
-use crate::state::{Spot, State};
+use crate::state::{State, TextPlace};
 use lex_io::{Sink, Source};
 use lex_machine::Machine;
 
@@ -21,13 +22,14 @@ fn advance(state: &mut State, burst: Burst, got: usize)
     requires got { got ≤ length state.old.reading.window.ahead }
     requires few { state.old.reading.taken + got ≤ state.old.reading.max_reads }
     requires done { burst.done ≤ length state.old.reading.window.bytes + got }
-    ensures held { state.new.reading.window.bytes ≡ drop burst.done (state.old.reading.window.bytes ++ take got state.old.reading.window.ahead) }
+    ensures held { state.new.reading.window.bytes ≡ drop burst.done
+        (state.old.reading.window.bytes ++ take got state.old.reading.window.ahead) }
     ensures taken { state.new.reading.taken ≡ state.old.reading.taken + got }
     ensures at_end { state.new.reading.at_end ≡ state.old.reading.at_end }
     ensures max_reads { state.new.reading.max_reads ≡ state.old.reading.max_reads }
-    ensures at { state.new.spot.at ≡ 0 }
-    ensures line_start { state.new.spot.line_start ≡ burst.line_start }
-    ensures condition { state.new.spot.condition ≡ burst.condition }
+    ensures at { state.new.place.at ≡ 0 }
+    ensures line_start { state.new.place.line_start ≡ burst.line_start }
+    ensures condition { state.new.place.condition ≡ burst.condition }
     ensures stack { state.new.acting.stack ≡ state.old.acting.stack }
     ensures ended { state.new.ended ≡ state.old.ended }
     ensures failed { state.new.failed ≡ state.old.failed }
@@ -36,7 +38,7 @@ fn advance(state: &mut State, burst: Burst, got: usize)
     state.reading.taken += got as u64;
     state.reading.window.accept(got);
     state.reading.window.drop_front(burst.done);
-    state.spot = Spot {
+    state.place = TextPlace {
         at: 0,
         line_start: burst.line_start,
         condition: burst.condition,
@@ -54,16 +56,15 @@ pub fn go_further<M: Machine, S: Source, K: Sink>(
 ) -> Result<usize, RunError>
     requires working { state.old.failed ≡ false }
     requires going { state.old.ended ≡ None }
-    requires may_read { state.old.reading.at_end ≡ false → intake.old.live ≡ true }
-    requires may_write { outlet.old.live ≡ true }
-    requires condition { state.old.spot.condition < (M.machine machine.now).conditions }
-    requires inside { state.old.spot.at ≤ length state.old.reading.window.bytes }
+    requires ready { MayMove (M.machine machine.now) intake.old.live outlet.old.live state.old }
+    requires inside { state.old.place.at ≤ length state.old.reading.window.bytes }
 
     ensures same_source { intake.new.source.ghost_name ≡ intake.old.source.ghost_name }
     ensures same_sink { outlet.new.sink.ghost_name ≡ outlet.old.sink.ghost_name }
     ensures goes_on { (got : List ℕ) × (wrote : List ℕ) × S.gave intake.old.source.now got intake.new.source.now
         × K.wrote outlet.old.sink.now wrote outlet.new.sink.now
-        × NoneAfterEnd state.old state.new got × GoesFurther (M.machine machine.now) state.old state.new got wrote result }
+        × NoneAfterEnd state.old state.new got
+        × GoesFurther (M.machine machine.now) state.old state.new got wrote result }
     ensures ends { S.ends intake.new.source.now ≡ S.ends intake.old.source.now }
     ensures read_faults { S.failures intake.new.source.now ≡ S.failures intake.old.source.now }
     ensures write_faults { K.failures outlet.new.sink.now ≡ K.failures outlet.old.sink.now + write_fault_count result }
@@ -77,12 +78,13 @@ pub fn go_further<M: Machine, S: Source, K: Sink>(
     ensures working { OnOk result (state.new.failed ≡ false) }
     ensures may_read { state.new.reading.at_end ≡ false → intake.new.live ≡ true }
     ensures may_write { OnOk result (outlet.new.live ≡ true) }
-    ensures condition { state.new.spot.condition < (M.machine machine.now).conditions }
-    ensures inside { state.new.spot.at ≤ length state.new.reading.window.bytes }
+    ensures condition { state.new.place.condition < (M.machine machine.now).conditions }
+    ensures inside { state.new.place.at ≤ length state.new.reading.window.bytes }
     ensures stack { state.new.acting.stack ≡ state.old.acting.stack }
-    ensures marks { (ms : List Mark) → AreTrue (M.machine machine.now) state.old.reading ms → AreTrue (M.machine machine.now) state.new.reading ms }
+    ensures marks { (ms : List Mark) → AreTrue (M.machine machine.now) state.old.reading ms →
+        AreTrue (M.machine machine.now) state.new.reading ms }
 {
-    if state.reading.at_end || state.spot.at != 0 {
+    if state.reading.at_end || state.place.at != 0 {
         return Ok(0);
     }
     let left = state.reading.max_reads - state.reading.taken;
@@ -94,7 +96,7 @@ pub fn go_further<M: Machine, S: Source, K: Sink>(
     let held = state.reading.window.len();
     let shown = state.reading.window.show(intake.ahead(), most);
     let text = state.reading.window.text(shown);
-    let burst = burst_over(machine, outlet, text, held, state.spot);
+    let burst = burst_over(machine, outlet, text, held, state.place);
     let got = burst.asked - held;
     intake.give(got);
     advance(state, burst, got);

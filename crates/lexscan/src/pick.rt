@@ -5,21 +5,22 @@ ghost use Rattle.lex_semantics.specs.PlainMachine.{match_of};
 ghost use Rattle.lex_semantics.specs.Trail.{falling};
 ghost use Rattle.lex_semantics.specs.MachineLaws.{NoReject};
 ghost use Rattle.lexscan.specs.Reads.{write_fault_count};
+ghost use Rattle.lexscan.specs.Ends.{SinkLeft};
 ghost use Rattle.lexscan.specs.Descends.{matches_of, CutAll, Performed, conditions_of, finished_of};
-ghost use Rattle.lexscan.specs.Picks.{IsFirst, HasStatements, Tells, trail_of};
+ghost use Rattle.lexscan.specs.Picks.{IsFirst, IsLongest, HasStatements, Tells, path_of};
 
-use crate::act::{Acting, Finish, Step, carry_out, put};
+use crate::act::{ActionState, Finish, Step, carry_out, put};
 use crate::descent::kept;
 use crate::error::RunError;
 use crate::intake::Outlet;
-use crate::state::Spot;
+use crate::state::TextPlace;
 use crate::window::Window;
 use lex_io::Sink;
 use lex_machine::{Machine, Statement};
 
 /// How many bytes a match asked for, the state after them, and the one before the last of them.
 #[derive(Clone, Copy)]
-pub struct Seen {
+pub struct LookAhead {
     pub reach: usize,
     pub state: u32,
     pub before: u32,
@@ -35,7 +36,7 @@ pub struct Pick<'m> {
 
 /// The first of the rules whose cut fits a match of this many bytes.
 #[inline(always)]
-fn first_fit<'m, M: Machine>(machine: &'m M, rules: &[u32], len: usize) -> Option<Pick<'m>>
+fn first_candidate<'m, M: Machine>(machine: &'m M, rules: &[u32], len: usize) -> Option<Pick<'m>>
     requires known { (i : ℕ) → Among rules.now i → i < (M.machine machine.now).count }
 
     ensures first { IsFirst (filter_map (match_of (M.machine machine.now) len) rules.now) result }
@@ -60,26 +61,23 @@ fn first_fit<'m, M: Machine>(machine: &'m M, rules: &[u32], len: usize) -> Optio
 pub fn walk_again<'m, M: Machine>(
     machine: &'m M,
     window: &Window,
-    spot: Spot,
+    place: TextPlace,
     reach: usize,
 ) -> Option<Pick<'m>>
-    requires condition { spot.condition < (M.machine machine.now).conditions }
-    requires inside { spot.at + reach ≤ length window.now.bytes }
+    requires condition { place.condition < (M.machine machine.now).conditions }
+    requires inside { place.at + reach ≤ length window.now.bytes }
 
-    ensures first { IsFirst (falling (M.machine machine.now) 0 (trail_of (M.machine machine.now) spot window.now.bytes reach)) result }
-    ensures known { IfSome result (λ pick. pick.rule < (M.machine machine.now).count) }
-    ensures statements { IfSome result (HasStatements (M.machine machine.now)) }
-    ensures short { IfSome result (λ pick. pick.keep ≤ reach) }
+    ensures { IsLongest (M.machine machine.now) place window.now.bytes reach result }
 {
     let held = window.len();
-    let mut state = machine.start(spot.condition, spot.line_start);
+    let mut state = machine.start(place.condition, place.line_start);
     let mut best: Option<Pick<'m>> = None;
     let mut len = 0usize;
     'bytes: while len < reach {
-        prove!(spot.at <= held && len < held - spot.at);
-        state = machine.step(state, window.byte(spot.at + len));
+        prove!(place.at <= held && len < held - place.at);
+        state = machine.step(state, window.byte(place.at + len));
         len += 1;
-        match first_fit(machine, machine.accepts(state), len) {
+        match first_candidate(machine, machine.accepts(state), len) {
             Some(pick) => best = Some(pick),
             None => {}
         }
@@ -92,26 +90,30 @@ pub fn walk_again<'m, M: Machine>(
 pub fn near_end<'m, M: Machine>(
     machine: &'m M,
     window: &Window,
-    spot: Spot,
-    seen: Seen,
+    place: TextPlace,
+    ahead: LookAhead,
 ) -> Option<Pick<'m>>
-    requires condition { spot.condition < (M.machine machine.now).conditions }
-    requires tells { Tells (M.machine machine.now) (M.states machine.now) spot window.now.bytes seen }
+    requires condition { place.condition < (M.machine machine.now).conditions }
+    requires tells { Tells (M.machine machine.now) (M.states machine.now) place window.now.bytes ahead }
 
-    ensures first { IfSome result (λ pick. IsFirst (falling (M.machine machine.now) 0 (trail_of (M.machine machine.now) spot window.now.bytes seen.reach)) (Some pick)) }
-    ensures one { seen.reach ≡ 1 → IsFirst (falling (M.machine machine.now) 0 (trail_of (M.machine machine.now) spot window.now.bytes seen.reach)) result }
+    ensures first { IfSome result (λ pick. IsFirst
+        (falling (M.machine machine.now) 0 (path_of (M.machine machine.now) place window.now.bytes ahead.reach))
+        (Some pick)) }
+    ensures one { ahead.reach ≡ 1 → IsFirst
+        (falling (M.machine machine.now) 0 (path_of (M.machine machine.now) place window.now.bytes ahead.reach))
+        result }
     ensures known { IfSome result (λ pick. pick.rule < (M.machine machine.now).count) }
     ensures statements { IfSome result (HasStatements (M.machine machine.now)) }
-    ensures short { IfSome result (λ pick. pick.keep ≤ seen.reach) }
+    ensures short { IfSome result (λ pick. pick.keep ≤ ahead.reach) }
 {
-    let len = seen.reach;
-    if let Some(pick) = first_fit(machine, machine.accepts(seen.state), len) {
+    let len = ahead.reach;
+    if let Some(pick) = first_candidate(machine, machine.accepts(ahead.state), len) {
         return Some(pick);
     }
     if len == 1 {
         return None;
     }
-    if let Some(pick) = first_fit(machine, machine.accepts(seen.before), len - 1) {
+    if let Some(pick) = first_candidate(machine, machine.accepts(ahead.before), len - 1) {
         return Some(pick);
     }
     None
@@ -123,35 +125,38 @@ pub fn carry_pick<M: Machine, K: Sink>(
     machine: &M,
     outlet: &mut Outlet<'_, K>,
     window: &Window,
-    spot: Spot,
+    place: TextPlace,
     reach: usize,
     pick: Option<Pick<'_>>,
-    acting: &mut Acting,
+    acting: &mut ActionState,
 ) -> Result<Option<Finish>, RunError>
     requires live { outlet.old.live ≡ true }
     requires quiet { NoReject (M.machine machine.now) }
-    requires place { spot.at + reach ≤ length window.now.bytes }
+    requires inside { place.at + reach ≤ length window.now.bytes }
     requires some { 1 ≤ reach }
-    requires first { IsFirst (falling (M.machine machine.now) 0 (trail_of (M.machine machine.now) spot window.now.bytes reach)) pick }
-    requires known { IfSome pick (λ pick. pick.rule < (M.machine machine.now).count) }
-    requires statements { IfSome pick (HasStatements (M.machine machine.now)) }
-    requires short { IfSome pick (λ pick. pick.keep ≤ reach) }
+    requires longest { IsLongest (M.machine machine.now) place window.now.bytes reach pick }
 
     ensures same { outlet.new.sink.ghost_name ≡ outlet.old.sink.ghost_name }
-    ensures failures { K.failures outlet.new.sink.now ≡ K.failures outlet.old.sink.now + write_fault_count result }
-    ensures live { OnOk result (outlet.new.live ≡ true) }
-    ensures refusals { IfErr result (λ e. e ≡ RunError.Write) }
+    ensures sink { SinkLeft K.failures outlet.old.sink.now outlet.new.sink.now outlet.new.live result }
 
     ensures inside { acting.new.end ≤ length window.now.bytes }
-    ensures performed { IfOk result (λ ended. Performed (M.machine machine.now) K.wrote outlet.old.sink.now outlet.new.sink.now window.now.bytes spot.at (matches_of (M.machine machine.now) window.now.bytes spot.at (trail_of (M.machine machine.now) spot window.now.bytes reach)) (conditions_of acting.old) acting.new (finished_of ended)) }
-    ensures cut_off { OnErr result (CutAll (M.machine machine.now) K.wrote outlet.old.sink.now outlet.new.sink.now window.now.bytes spot.at (matches_of (M.machine machine.now) window.now.bytes spot.at (trail_of (M.machine machine.now) spot window.now.bytes reach)) (conditions_of acting.old)) }
+    ensures performed { IfOk result (λ ended. Performed (M.machine machine.now)
+        K.wrote outlet.old.sink.now outlet.new.sink.now window.now.bytes place.at
+        (matches_of (M.machine machine.now) window.now.bytes place.at
+        (path_of (M.machine machine.now) place window.now.bytes reach))
+        (conditions_of acting.old) acting.new (finished_of ended)) }
+    ensures cut_off { OnErr result (CutAll (M.machine machine.now)
+        K.wrote outlet.old.sink.now outlet.new.sink.now window.now.bytes place.at
+        (matches_of (M.machine machine.now) window.now.bytes place.at
+        (path_of (M.machine machine.now) place window.now.bytes reach))
+        (conditions_of acting.old)) }
 {
     let held = window.len();
     acting.more = false;
     match pick {
         Some(pick) => {
-            prove!(spot.at <= held && pick.keep <= held - spot.at);
-            acting.end = spot.at + pick.keep;
+            prove!(place.at <= held && pick.keep <= held - place.at);
+            acting.end = place.at + pick.keep;
             match carry_out(outlet, window, pick.statements, acting) {
                 Err(e) => Err(e),
                 Ok(Step::Next) => Ok(None),
@@ -160,9 +165,9 @@ pub fn carry_pick<M: Machine, K: Sink>(
             }
         }
         None => {
-            prove!(spot.at < held);
-            acting.end = spot.at + 1;
-            match put(outlet, window.slice(0, spot.at + 1)) {
+            prove!(place.at < held);
+            acting.end = place.at + 1;
+            match put(outlet, window.slice(0, place.at + 1)) {
                 Err(e) => Err(e),
                 Ok(()) => Ok(None),
             }

@@ -4,12 +4,13 @@ ghost use Rattle.lex_io.specs.Source.{given};
 ghost use Rattle.lex_semantics.specs.Text.{IsText};
 ghost use Rattle.lexscan.specs.Walks.{Grown, end_of_stop, fault_of_stop, ends_at, goes};
 ghost use Rattle.lexscan.specs.Reads.{Took, IsThere, IsWanted, IsShort, is_end, read_fault_count, end_step};
+ghost use Rattle.lexscan.specs.Ends.{SourceLeft};
 
 use crate::error::RunError;
 use crate::intake::Intake;
+use crate::path::StatePath;
 use crate::state::Reading;
-use crate::trail::Trail;
-use crate::window::{Stop, Walk};
+use crate::walk::{Stop, Walk};
 use lex_io::Source;
 use lex_machine::Machine;
 
@@ -63,7 +64,7 @@ fn take_plain<S: Source>(
 fn take_byte<S: Source>(
     intake: &mut Intake<'_, S>,
     reading: &mut Reading,
-    trail: &mut Trail,
+    path: &mut StatePath,
 ) -> Result<Option<u8>, RunError>
     requires live { intake.old.live ≡ true }
     requires more { reading.old.at_end ≡ false }
@@ -80,8 +81,8 @@ fn take_byte<S: Source>(
     ensures at_end { reading.new.at_end ≡ is_end result }
     ensures max_reads { reading.new.max_reads ≡ reading.old.max_reads }
 
-    ensures states { trail.new.states ≡ trail.old.states }
-    ensures room { OnOk result (trail.new.room ≡ true) }
+    ensures states { path.new.states ≡ path.old.states }
+    ensures room { OnOk result (path.new.room ≡ true) }
 
     ensures too_many { IsErrOf result RunError.TooManyReads → reading.old.taken ≡ reading.old.max_reads }
     ensures not_write { IsErrOf result RunError.Write → ⊥ }
@@ -91,7 +92,7 @@ fn take_byte<S: Source>(
     if reading.max_reads <= reading.taken {
         return Err(RunError::TooManyReads);
     }
-    if let Err(_) = trail.reserve() {
+    if let Err(_) = path.reserve() {
         return Err(RunError::OutOfMemory);
     }
     take_plain(intake, reading)
@@ -117,11 +118,14 @@ pub fn fill<M: Machine, S: Source>(
     ensures some { IfOk result (λ walk. walk.stop ≡ Stop.Full → 1 ≤ walk.count) }
     ensures known { IfOk result (λ walk. walk.state < M.states machine.now) }
     ensures known_before { IfOk result (λ walk. walk.before < M.states machine.now) }
-    ensures ends { IfOk result (λ walk. S.ends intake.new.source.now ≡ S.ends intake.old.source.now + end_of_stop walk.stop) }
-    ensures failures { IfOk result (λ walk. S.failures intake.new.source.now ≡ S.failures intake.old.source.now + fault_of_stop walk.stop) }
+    ensures ends { IfOk result
+        (λ walk. S.ends intake.new.source.now ≡ S.ends intake.old.source.now + end_of_stop walk.stop) }
+    ensures failures { IfOk result
+        (λ walk. S.failures intake.new.source.now ≡ S.failures intake.old.source.now + fault_of_stop walk.stop) }
     ensures live { IfOk result (λ walk. intake.new.live ≡ goes walk.stop) }
 
-    ensures unchanged { OnErr result ((reading.new.window.bytes ≡ reading.old.window.bytes) × (reading.new.at_end ≡ false) × (intake.new.source.now ≡ intake.old.source.now)) }
+    ensures unchanged { OnErr result ((reading.new.window.bytes ≡ reading.old.window.bytes)
+        × (reading.new.at_end ≡ false) × (intake.new.source.now ≡ intake.old.source.now)) }
     ensures refusals { IfErr result (λ e. (e ≡ RunError.TooManyReads) ⊎ (e ≡ RunError.OutOfMemory)) }
     ensures too_many { IsErrOf result RunError.TooManyReads → reading.new.taken ≡ reading.new.max_reads }
 {
@@ -140,12 +144,12 @@ pub fn fill<M: Machine, S: Source>(
     Ok(walk)
 }
 
-/// Makes sure that the window has a byte at this place, and the trail room for its state. Answers false where the source
+/// Makes sure that the window has a byte at this place, and the path room for its state. Answers false where the source
 /// has answered its end.
 pub fn fetch<S: Source>(
     intake: &mut Intake<'_, S>,
     reading: &mut Reading,
-    trail: &mut Trail,
+    path: &mut StatePath,
     next: usize,
 ) -> Result<bool, RunError>
     requires live { reading.old.at_end ≡ false → intake.old.live ≡ true }
@@ -155,21 +159,17 @@ pub fn fetch<S: Source>(
     ensures took { Took S.gave intake.old.source.now intake.new.source.now reading.old reading.new }
     ensures there { IfOk result (λ there. IsThere reading.old reading.new next there) }
     ensures wanted { OnErr result (IsWanted reading.old reading.new next ⊎ IsShort reading.old reading.new next) }
-    ensures ends { S.ends intake.new.source.now ≡ S.ends intake.old.source.now + end_step reading.old.at_end reading.new.at_end }
-    ensures failures { S.failures intake.new.source.now ≡ S.failures intake.old.source.now + read_fault_count result }
-    ensures live { OnOk result (reading.new.at_end ≡ false → intake.new.live ≡ true) }
+    ensures source { SourceLeft S.ends S.failures intake.old.source.now intake.new.source.now intake.new.live
+        reading.old reading.new result }
 
-    ensures still { reading.old.at_end ≡ true → intake.new.source.now ≡ intake.old.source.now }
-    ensures states { trail.new.states ≡ trail.old.states }
-    ensures room { IfOk result (λ there. there ≡ true → trail.new.room ≡ true) }
+    ensures states { path.new.states ≡ path.old.states }
+    ensures room { IfOk result (λ there. there ≡ true → path.new.room ≡ true) }
 
-    ensures too_many { IsErrOf result RunError.TooManyReads → (reading.new.taken ≡ reading.new.max_reads) × IsWanted reading.old reading.new next }
-    ensures not_write { IsErrOf result RunError.Write → ⊥ }
-    ensures not_failed { IsErrOf result RunError.Failed → ⊥ }
-    ensures not_stack { IsErrOf result RunError.Stack → ⊥ }
+    ensures too_many { IsErrOf result RunError.TooManyReads →
+        (reading.new.taken ≡ reading.new.max_reads) × IsWanted reading.old reading.new next }
 {
     if next < reading.window.len() {
-        return match trail.reserve() {
+        return match path.reserve() {
             Err(_) => Err(RunError::OutOfMemory),
             Ok(()) => Ok(true),
         };
@@ -178,7 +178,7 @@ pub fn fetch<S: Source>(
     if ended {
         return Ok(false);
     }
-    match take_byte(intake, reading, trail) {
+    match take_byte(intake, reading, path) {
         Err(e) => Err(e),
         Ok(None) => Ok(false),
         Ok(Some(_)) => Ok(true),

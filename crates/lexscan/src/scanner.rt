@@ -9,8 +9,8 @@ ghost use Rattle.lexscan.specs.Stands.{NoneAfterEnd, GoesOn, Stands};
 use crate::error::RunError;
 use crate::intake::{Intake, Outlet};
 use crate::memo::Memo;
+use crate::path::StatePath;
 use crate::state::State;
-use crate::trail::Trail;
 use crate::turn::{Turn, turn_of};
 use lex_io::{Sink, Source};
 use lex_machine::Machine;
@@ -22,13 +22,13 @@ pub struct Scanner<'a, M: Machine, S: Source, K: Sink> {
     machine: &'a M,
     intake: Intake<'a, S>,
     outlet: Outlet<'a, K>,
-    trail: Trail,
+    path: StatePath,
     memo: Memo,
     state: State,
     ghost may_read: { state.failed ≡ false → state.ended ≡ None → state.reading.at_end ≡ false → intake.live ≡ true },
     ghost may_write: { state.failed ≡ false → outlet.live ≡ true },
-    ghost condition: { state.spot.condition < (M.machine machine.now).conditions },
-    ghost inside: { state.spot.at ≤ length state.reading.window.bytes },
+    ghost condition: { state.place.condition < (M.machine machine.now).conditions },
+    ghost inside: { state.place.at ≤ length state.reading.window.bytes },
     ghost stack: { state.failed ≡ false → AllBelow (M.machine machine.now).conditions state.acting.stack } by { λ x y. λ k. λ e. AllBelow-prop (M.machine machine.now).conditions state.acting.stack (x e) (y e) k },
     ghost marks: { state.failed ≡ false → AreTrue (M.machine machine.now) state.reading memo } by { λ x y. λ k. λ e. AreTrue-prop (M.machine machine.now) state.reading memo (x e) (y e) k },
 }
@@ -59,7 +59,7 @@ impl<'a, M: Machine, S: Source, K: Sink> Scanner<'a, M, S, K> {
             machine,
             intake: Intake::new(source),
             outlet: Outlet::new(sink),
-            trail: Trail::new(alloc),
+            path: StatePath::new(alloc),
             memo: Memo::new(alloc),
             state: State::new(alloc, max_reads),
         }
@@ -70,27 +70,37 @@ impl<'a, M: Machine, S: Source, K: Sink> Scanner<'a, M, S, K> {
         ensures same_machine { self.new.machine.now ≡ self.old.machine.now }
         ensures same_source { self.new.intake.source.ghost_name ≡ self.old.intake.source.ghost_name }
         ensures same_sink { self.new.outlet.sink.ghost_name ≡ self.old.outlet.sink.ghost_name }
-        ensures goes_on { (got : List ℕ) × (wrote : List ℕ) × S.gave self.old.intake.source.now got self.new.intake.source.now
+        ensures goes_on { (got : List ℕ) × (wrote : List ℕ)
+            × S.gave self.old.intake.source.now got self.new.intake.source.now
             × K.wrote self.old.outlet.sink.now wrote self.new.outlet.sink.now
-            × NoneAfterEnd self.old.state self.new.state got × GoesOn (M.machine self.old.machine.now) self.old.state self.new.state got wrote result }
+            × NoneAfterEnd self.old.state self.new.state got
+            × GoesOn (M.machine self.old.machine.now) self.old.state self.new.state got wrote result }
 
         ensures still { self.old.state.reading.at_end ≡ true → self.new.intake.source.now ≡ self.old.intake.source.now }
-        ensures read_faults { S.failures self.new.intake.source.now ≡ S.failures self.old.intake.source.now + read_fault_count result }
-        ensures write_faults { K.failures self.new.outlet.sink.now ≡ K.failures self.old.outlet.sink.now + write_fault_count result }
-        ensures after_refusal { self.old.state.failed ≡ true → (result ≡ Err RunError.Failed) × (self.new.intake.source.now ≡ self.old.intake.source.now)
+        ensures read_faults { S.failures self.new.intake.source.now ≡
+            S.failures self.old.intake.source.now + read_fault_count result }
+        ensures write_faults { K.failures self.new.outlet.sink.now ≡
+            K.failures self.old.outlet.sink.now + write_fault_count result }
+        ensures after_refusal { self.old.state.failed ≡ true → (result ≡ Err RunError.Failed)
+            × (self.new.intake.source.now ≡ self.old.intake.source.now)
             × (self.new.outlet.sink.now ≡ self.old.outlet.sink.now) × (self.new.state ≡ self.old.state) }
         ensures refused { IsErrOf result RunError.Failed → self.old.state.failed ≡ true }
-        ensures after_end { (status : ℕ) → self.old.state.failed ≡ false → self.old.state.ended ≡ Some status → (result ≡ Ok (Turn.Ended status))
-            × (self.new.intake.source.now ≡ self.old.intake.source.now) × (self.new.outlet.sink.now ≡ self.old.outlet.sink.now) × (self.new.state ≡ self.old.state) }
+        ensures after_end { (status : ℕ) → self.old.state.failed ≡ false → self.old.state.ended ≡ Some status →
+            (result ≡ Ok (Turn.Ended status))
+            × (self.new.intake.source.now ≡ self.old.intake.source.now)
+            × (self.new.outlet.sink.now ≡ self.old.outlet.sink.now) × (self.new.state ≡ self.old.state) }
         ensures max_reads { self.new.state.reading.max_reads ≡ self.old.state.reading.max_reads }
-        ensures ends { S.ends self.new.intake.source.now ≡ S.ends self.old.intake.source.now + end_step self.old.state.reading.at_end self.new.state.reading.at_end }
-        ensures too_many { IsErrOf result RunError.TooManyReads → (self.new.state.reading.taken ≡ self.new.state.reading.max_reads) × (self.new.state.reading.at_end ≡ false) }
+        ensures ends { S.ends self.new.intake.source.now ≡
+            S.ends self.old.intake.source.now + end_step self.old.state.reading.at_end self.new.state.reading.at_end }
+        ensures too_many { IsErrOf result RunError.TooManyReads →
+            (self.new.state.reading.taken ≡ self.new.state.reading.max_reads)
+            × (self.new.state.reading.at_end ≡ false) }
     {
         turn_of(
             self.machine,
             &mut self.intake,
             &mut self.outlet,
-            &mut self.trail,
+            &mut self.path,
             &mut self.memo,
             &mut self.state,
         )

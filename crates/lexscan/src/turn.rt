@@ -3,27 +3,29 @@ ghost use Rattle.std.specs.Prelude.{◌≡◌, ℕ, ◌+◌, ◌-◌, ◌^◌, �
 ghost use Rattle.lex_io.specs.Sink.{Appended};
 ghost use Rattle.lex_semantics.specs.Text.{Among, AllBelow};
 ghost use Rattle.lexscan.specs.Reads.{read_fault_count, write_fault_count, end_step};
-ghost use Rattle.lexscan.specs.Sees.{Wants};
-ghost use Rattle.lexscan.specs.Descends.{matches_of, conditions_at, CutAll, Faulted};
+ghost use Rattle.lexscan.specs.Ends.{SinkLeft};
+ghost use Rattle.lexscan.specs.Looks.{Wants};
+ghost use Rattle.lexscan.specs.Descends.{conditions_at};
 ghost use Rattle.lex_semantics.specs.MachineLaws.{NoReject};
-ghost use Rattle.lexscan.specs.Picks.{IsFirst, HasStatements, Tells, trail_of};
-ghost use Rattle.lex_semantics.specs.Trail.{falling};
+ghost use Rattle.lexscan.specs.Picks.{IsLongest, Tells, path_of};
 ghost use Rattle.lexscan.specs.Backs.{IsOpen};
 ghost use Rattle.lexscan.specs.declared.memo.Mark.{Mark};
 ghost use Rattle.lexscan.specs.Memos.{AreTrue};
-ghost use Rattle.lexscan.specs.Stands.{NoneAfterEnd, GoesOn};
-ghost use Rattle.lexscan.specs.Moves.{stays, left_bytes, left_at, Left, Acted, EndLeft, Moved, Untouched};
+ghost use Rattle.lexscan.specs.Stands.{MakesTurn};
+ghost use Rattle.lexscan.specs.Turns.{TurnCounts, MoveLeft, MayMove, MayTurn};
+ghost use Rattle.lexscan.specs.Moves.{stays, left_bytes, left_at, Left, EndLeft, EndsScan, MatchLeft, Moved};
 
 use crate::act::{Finish, put};
 use crate::back::{Ahead, look, note};
 use crate::descent::descend;
 use crate::error::RunError;
 use crate::intake::{Intake, Outlet};
+use crate::last_states::{look_ahead_last, look_ahead_more};
+use crate::looking::look_ahead;
 use crate::memo::Memo;
-use crate::pick::{Pick, Seen, carry_pick, near_end, walk_again};
-use crate::see::{see, see_last, see_more};
+use crate::path::StatePath;
+use crate::pick::{LookAhead, Pick, carry_pick, near_end, walk_again};
 use crate::state::State;
-use crate::trail::Trail;
 use lex_io::{Sink, Source};
 use lex_machine::Machine;
 
@@ -40,10 +42,10 @@ pub enum Turn {
 /// Whether the next match has more bytes before it that are held than it may go over again.
 #[inline(always)]
 pub fn has_backlog(state: &State) -> bool
-    requires { state.now.spot.at ≤ length state.now.reading.window.bytes }
-    ensures { result ≡ true → state.now.spot.at < length state.now.reading.window.bytes }
+    requires { state.now.place.at ≤ length state.now.reading.window.bytes }
+    ensures { result ≡ true → state.now.place.at < length state.now.reading.window.bytes }
 {
-    BACKLOG < state.reading.window.len() - state.spot.at
+    BACKLOG < state.reading.window.len() - state.place.at
 }
 
 /// Flushes the sink.
@@ -51,9 +53,7 @@ fn flush<K: Sink>(outlet: &mut Outlet<'_, K>) -> Result<(), RunError>
     requires { outlet.old.live ≡ true }
     ensures same { outlet.new.sink.ghost_name ≡ outlet.old.sink.ghost_name }
     ensures bytes { K.wrote outlet.old.sink.now [] outlet.new.sink.now }
-    ensures failures { K.failures outlet.new.sink.now ≡ K.failures outlet.old.sink.now + write_fault_count result }
-    ensures live { OnOk result (outlet.new.live ≡ true) }
-    ensures refusals { IfErr result (λ e. e ≡ RunError.Write) }
+    ensures sink { SinkLeft K.failures outlet.old.sink.now outlet.new.sink.now outlet.new.live result }
 {
     match outlet.flush() {
         Err(_) => Err(RunError::Write),
@@ -73,14 +73,40 @@ fn leave(state: &mut State, over: bool)
 {
     let end = state.acting.end;
     if 0 < end {
-        state.spot.line_start = state.reading.window.byte(end - 1) == b'\n';
+        state.place.line_start = state.reading.window.byte(end - 1) == b'\n';
     }
-    state.spot.condition = state.acting.condition;
+    state.place.condition = state.acting.condition;
     if state.acting.more && !over {
-        state.spot.at = end;
+        state.place.at = end;
     } else {
         state.reading.window.drop_front(end);
-        state.spot.at = 0;
+        state.place.at = 0;
+    }
+}
+
+/// Flushes the sink after an action that ends the scan, and goes to the place after it; or tells the fault of the stack.
+fn finish_turn<K: Sink>(
+    outlet: &mut Outlet<'_, K>,
+    state: &mut State,
+    finish: Finish,
+) -> Result<Turn, RunError>
+    requires live { outlet.old.live ≡ true }
+    requires inside { state.old.acting.end ≤ length state.old.reading.window.bytes }
+
+    ensures same { outlet.new.sink.ghost_name ≡ outlet.old.sink.ghost_name }
+    ensures ends { EndsScan K.wrote K.failures outlet.old.sink.now outlet.new.sink.now outlet.new.live
+        state.old state.new finish result }
+{
+    match flush(outlet) {
+        Err(e) => Err(e),
+        Ok(()) => match finish {
+            Finish::StackFault => Err(RunError::Stack),
+            Finish::Status(status) => {
+                leave(state, true);
+                state.ended = Some(status);
+                Ok(Turn::Ended(status))
+            }
+        },
     }
 }
 
@@ -89,39 +115,28 @@ fn match_turn<M: Machine, K: Sink>(
     machine: &M,
     outlet: &mut Outlet<'_, K>,
     state: &mut State,
-    trail: &Trail,
+    path: &StatePath,
 ) -> Result<Turn, RunError>
     requires live { outlet.old.live ≡ true }
-    requires some { 1 ≤ length trail.now.states }
-    requires inside { state.old.spot.at + length trail.now.states ≤ length state.old.reading.window.bytes }
-    requires known { (s : ℕ) → Among trail.now.states s → s < M.states machine.now }
+    requires some { 1 ≤ length path.now.states }
+    requires inside { state.old.place.at + length path.now.states ≤ length state.old.reading.window.bytes }
+    requires known { (s : ℕ) → Among path.now.states s → s < M.states machine.now }
 
     ensures same { outlet.new.sink.ghost_name ≡ outlet.old.sink.ghost_name }
-    ensures failures { K.failures outlet.new.sink.now ≡ K.failures outlet.old.sink.now + write_fault_count result }
-    ensures live { OnOk result (outlet.new.live ≡ true) }
-    ensures refusals { IfErr result (λ e. (e ≡ RunError.Write) ⊎ (e ≡ RunError.Stack)) }
-    ensures failed { state.new.failed ≡ state.old.failed }
-    ensures max_reads { state.new.reading.max_reads ≡ state.old.reading.max_reads }
-
-    ensures acted { IfOk result (λ turn. Acted (M.machine machine.now) K.wrote outlet.old.sink.now outlet.new.sink.now state.old.reading state.old.spot (conditions_at state.old) trail.now.states state.new turn) }
-    ensures going { result ≡ Ok Turn.Went → state.new.ended ≡ state.old.ended }
-    ensures cut_off { OnErr result (CutAll (M.machine machine.now) K.wrote outlet.old.sink.now outlet.new.sink.now state.old.reading.window.bytes state.old.spot.at
-        (matches_of (M.machine machine.now) state.old.reading.window.bytes state.old.spot.at trail.now.states) (conditions_at state.old)) }
-    ensures fault { IsErrOf result RunError.Stack → Faulted (M.machine machine.now) K.wrote outlet.old.sink.now outlet.new.sink.now state.old.reading.window.bytes state.old.spot.at
-        (matches_of (M.machine machine.now) state.old.reading.window.bytes state.old.spot.at trail.now.states) (conditions_at state.old) }
-    ensures unchanged { OnErr result (Untouched state.old state.new) }
+    ensures left { MatchLeft (M.machine machine.now) K.wrote K.failures outlet.old.sink.now outlet.new.sink.now
+        outlet.new.live state.old state.new path.now.states result }
 {
     state.acting.end = 0;
-    state.acting.condition = state.spot.condition;
+    state.acting.condition = state.place.condition;
     state.acting.more = false;
-    let spot = state.spot;
+    let place = state.place;
     let reading = &state.reading;
     match descend(
         machine,
         outlet,
         &reading.window,
-        trail,
-        spot.at,
+        path,
+        place.at,
         &mut state.acting,
     ) {
         Err(e) => Err(e),
@@ -129,17 +144,7 @@ fn match_turn<M: Machine, K: Sink>(
             leave(state, false);
             Ok(Turn::Went)
         }
-        Ok(Some(finish)) => match flush(outlet) {
-            Err(e) => Err(e),
-            Ok(()) => match finish {
-                Finish::StackFault => Err(RunError::Stack),
-                Finish::Status(status) => {
-                    leave(state, true);
-                    state.ended = Some(status);
-                    Ok(Turn::Ended(status))
-                }
-            },
-        },
+        Ok(Some(finish)) => finish_turn(outlet, state, finish),
     }
 }
 
@@ -154,36 +159,23 @@ fn carry_turn<M: Machine, K: Sink>(
 ) -> Result<Turn, RunError>
     requires live { outlet.old.live ≡ true }
     requires quiet { NoReject (M.machine machine.now) }
-    requires place { state.old.spot.at + reach ≤ length state.old.reading.window.bytes }
+    requires place { state.old.place.at + reach ≤ length state.old.reading.window.bytes }
     requires some { 1 ≤ reach }
-    requires first { IsFirst (falling (M.machine machine.now) 0 (trail_of (M.machine machine.now) state.old.spot state.old.reading.window.bytes reach)) pick }
-    requires known { IfSome pick (λ pick. pick.rule < (M.machine machine.now).count) }
-    requires statements { IfSome pick (HasStatements (M.machine machine.now)) }
-    requires short { IfSome pick (λ pick. pick.keep ≤ reach) }
+    requires longest { IsLongest (M.machine machine.now) state.old.place state.old.reading.window.bytes reach pick }
 
     ensures same { outlet.new.sink.ghost_name ≡ outlet.old.sink.ghost_name }
-    ensures failures { K.failures outlet.new.sink.now ≡ K.failures outlet.old.sink.now + write_fault_count result }
-    ensures live { OnOk result (outlet.new.live ≡ true) }
-    ensures refusals { IfErr result (λ e. (e ≡ RunError.Write) ⊎ (e ≡ RunError.Stack)) }
-    ensures failed { state.new.failed ≡ state.old.failed }
-    ensures max_reads { state.new.reading.max_reads ≡ state.old.reading.max_reads }
-
-    ensures acted { IfOk result (λ turn. Acted (M.machine machine.now) K.wrote outlet.old.sink.now outlet.new.sink.now state.old.reading state.old.spot (conditions_at state.old) (trail_of (M.machine machine.now) state.old.spot state.old.reading.window.bytes reach) state.new turn) }
-    ensures going { result ≡ Ok Turn.Went → state.new.ended ≡ state.old.ended }
-    ensures cut_off { OnErr result (CutAll (M.machine machine.now) K.wrote outlet.old.sink.now outlet.new.sink.now state.old.reading.window.bytes state.old.spot.at
-        (matches_of (M.machine machine.now) state.old.reading.window.bytes state.old.spot.at (trail_of (M.machine machine.now) state.old.spot state.old.reading.window.bytes reach)) (conditions_at state.old)) }
-    ensures fault { IsErrOf result RunError.Stack → Faulted (M.machine machine.now) K.wrote outlet.old.sink.now outlet.new.sink.now state.old.reading.window.bytes state.old.spot.at
-        (matches_of (M.machine machine.now) state.old.reading.window.bytes state.old.spot.at (trail_of (M.machine machine.now) state.old.spot state.old.reading.window.bytes reach)) (conditions_at state.old) }
-    ensures unchanged { OnErr result (Untouched state.old state.new) }
+    ensures left { MatchLeft (M.machine machine.now) K.wrote K.failures outlet.old.sink.now outlet.new.sink.now
+        outlet.new.live state.old state.new
+        (path_of (M.machine machine.now) state.old.place state.old.reading.window.bytes reach) result }
 {
-    state.acting.condition = state.spot.condition;
-    let spot = state.spot;
+    state.acting.condition = state.place.condition;
+    let place = state.place;
     let reading = &state.reading;
     match carry_pick(
         machine,
         outlet,
         &reading.window,
-        spot,
+        place,
         reach,
         pick,
         &mut state.acting,
@@ -193,17 +185,7 @@ fn carry_turn<M: Machine, K: Sink>(
             leave(state, false);
             Ok(Turn::Went)
         }
-        Ok(Some(finish)) => match flush(outlet) {
-            Err(e) => Err(e),
-            Ok(()) => match finish {
-                Finish::StackFault => Err(RunError::Stack),
-                Finish::Status(status) => {
-                    leave(state, true);
-                    state.ended = Some(status);
-                    Ok(Turn::Ended(status))
-                }
-            },
-        },
+        Ok(Some(finish)) => finish_turn(outlet, state, finish),
     }
 }
 
@@ -218,26 +200,16 @@ fn far_turn<M: Machine, K: Sink>(
 ) -> Result<Turn, RunError>
     requires live { outlet.old.live ≡ true }
     requires quiet { NoReject (M.machine machine.now) }
-    requires condition { state.old.spot.condition < (M.machine machine.now).conditions }
-    requires place { state.old.spot.at + reach ≤ length state.old.reading.window.bytes }
+    requires condition { state.old.place.condition < (M.machine machine.now).conditions }
+    requires place { state.old.place.at + reach ≤ length state.old.reading.window.bytes }
     requires some { 1 ≤ reach }
 
     ensures same { outlet.new.sink.ghost_name ≡ outlet.old.sink.ghost_name }
-    ensures failures { K.failures outlet.new.sink.now ≡ K.failures outlet.old.sink.now + write_fault_count result }
-    ensures live { OnOk result (outlet.new.live ≡ true) }
-    ensures refusals { IfErr result (λ e. (e ≡ RunError.Write) ⊎ (e ≡ RunError.Stack)) }
-    ensures failed { state.new.failed ≡ state.old.failed }
-    ensures max_reads { state.new.reading.max_reads ≡ state.old.reading.max_reads }
-
-    ensures acted { IfOk result (λ turn. Acted (M.machine machine.now) K.wrote outlet.old.sink.now outlet.new.sink.now state.old.reading state.old.spot (conditions_at state.old) (trail_of (M.machine machine.now) state.old.spot state.old.reading.window.bytes reach) state.new turn) }
-    ensures going { result ≡ Ok Turn.Went → state.new.ended ≡ state.old.ended }
-    ensures cut_off { OnErr result (CutAll (M.machine machine.now) K.wrote outlet.old.sink.now outlet.new.sink.now state.old.reading.window.bytes state.old.spot.at
-        (matches_of (M.machine machine.now) state.old.reading.window.bytes state.old.spot.at (trail_of (M.machine machine.now) state.old.spot state.old.reading.window.bytes reach)) (conditions_at state.old)) }
-    ensures fault { IsErrOf result RunError.Stack → Faulted (M.machine machine.now) K.wrote outlet.old.sink.now outlet.new.sink.now state.old.reading.window.bytes state.old.spot.at
-        (matches_of (M.machine machine.now) state.old.reading.window.bytes state.old.spot.at (trail_of (M.machine machine.now) state.old.spot state.old.reading.window.bytes reach)) (conditions_at state.old) }
-    ensures unchanged { OnErr result (Untouched state.old state.new) }
+    ensures left { MatchLeft (M.machine machine.now) K.wrote K.failures outlet.old.sink.now outlet.new.sink.now
+        outlet.new.live state.old state.new
+        (path_of (M.machine machine.now) state.old.place state.old.reading.window.bytes reach) result }
 {
-    let pick = walk_again(machine, &state.reading.window, state.spot, reach);
+    let pick = walk_again(machine, &state.reading.window, state.place, reach);
     carry_turn(machine, outlet, state, reach, pick)
 }
 
@@ -247,35 +219,26 @@ fn last_turn<M: Machine, K: Sink>(
     machine: &M,
     outlet: &mut Outlet<'_, K>,
     state: &mut State,
-    seen: Seen,
+    ahead: LookAhead,
 ) -> Result<Turn, RunError>
     requires live { outlet.old.live ≡ true }
     requires quiet { NoReject (M.machine machine.now) }
-    requires condition { state.old.spot.condition < (M.machine machine.now).conditions }
-    requires tells { Tells (M.machine machine.now) (M.states machine.now) state.old.spot state.old.reading.window.bytes seen }
+    requires condition { state.old.place.condition < (M.machine machine.now).conditions }
+    requires tells { Tells (M.machine machine.now) (M.states machine.now) state.old.place
+        state.old.reading.window.bytes ahead }
 
     ensures same { outlet.new.sink.ghost_name ≡ outlet.old.sink.ghost_name }
-    ensures failures { K.failures outlet.new.sink.now ≡ K.failures outlet.old.sink.now + write_fault_count result }
-    ensures live { OnOk result (outlet.new.live ≡ true) }
-    ensures refusals { IfErr result (λ e. (e ≡ RunError.Write) ⊎ (e ≡ RunError.Stack)) }
-    ensures failed { state.new.failed ≡ state.old.failed }
-    ensures max_reads { state.new.reading.max_reads ≡ state.old.reading.max_reads }
-
-    ensures acted { IfOk result (λ turn. Acted (M.machine machine.now) K.wrote outlet.old.sink.now outlet.new.sink.now state.old.reading state.old.spot (conditions_at state.old) (trail_of (M.machine machine.now) state.old.spot state.old.reading.window.bytes seen.reach) state.new turn) }
-    ensures going { result ≡ Ok Turn.Went → state.new.ended ≡ state.old.ended }
-    ensures cut_off { OnErr result (CutAll (M.machine machine.now) K.wrote outlet.old.sink.now outlet.new.sink.now state.old.reading.window.bytes state.old.spot.at
-        (matches_of (M.machine machine.now) state.old.reading.window.bytes state.old.spot.at (trail_of (M.machine machine.now) state.old.spot state.old.reading.window.bytes seen.reach)) (conditions_at state.old)) }
-    ensures fault { IsErrOf result RunError.Stack → Faulted (M.machine machine.now) K.wrote outlet.old.sink.now outlet.new.sink.now state.old.reading.window.bytes state.old.spot.at
-        (matches_of (M.machine machine.now) state.old.reading.window.bytes state.old.spot.at (trail_of (M.machine machine.now) state.old.spot state.old.reading.window.bytes seen.reach)) (conditions_at state.old) }
-    ensures unchanged { OnErr result (Untouched state.old state.new) }
+    ensures left { MatchLeft (M.machine machine.now) K.wrote K.failures outlet.old.sink.now outlet.new.sink.now
+        outlet.new.live state.old state.new
+        (path_of (M.machine machine.now) state.old.place state.old.reading.window.bytes ahead.reach) result }
 {
-    if let Some(pick) = near_end(machine, &state.reading.window, state.spot, seen) {
-        return carry_turn(machine, outlet, state, seen.reach, Some(pick));
+    if let Some(pick) = near_end(machine, &state.reading.window, state.place, ahead) {
+        return carry_turn(machine, outlet, state, ahead.reach, Some(pick));
     }
-    if 1 < seen.reach {
-        return far_turn(machine, outlet, state, seen.reach);
+    if 1 < ahead.reach {
+        return far_turn(machine, outlet, state, ahead.reach);
     }
-    carry_turn(machine, outlet, state, seen.reach, None)
+    carry_turn(machine, outlet, state, ahead.reach, None)
 }
 
 /// The end action of the condition.
@@ -285,28 +248,28 @@ fn end_turn<M: Machine, K: Sink>(
     state: &mut State,
 ) -> Result<Turn, RunError>
     requires live { outlet.old.live ≡ true }
-    requires condition { state.old.spot.condition < (M.machine machine.now).conditions }
-    requires inside { state.old.spot.at ≤ length state.old.reading.window.bytes }
+    requires condition { state.old.place.condition < (M.machine machine.now).conditions }
+    requires inside { state.old.place.at ≤ length state.old.reading.window.bytes }
 
     ensures same { outlet.new.sink.ghost_name ≡ outlet.old.sink.ghost_name }
-    ensures failures { K.failures outlet.new.sink.now ≡ K.failures outlet.old.sink.now + write_fault_count result }
-    ensures live { OnOk result (outlet.new.live ≡ true) }
-    ensures refusals { IfErr result (λ e. e ≡ RunError.Write) }
+    ensures sink { SinkLeft K.failures outlet.old.sink.now outlet.new.sink.now outlet.new.live result }
     ensures failed { state.new.failed ≡ state.old.failed }
     ensures max_reads { state.new.reading.max_reads ≡ state.old.reading.max_reads }
 
-    ensures bytes { Appended (λ xs. K.wrote outlet.old.sink.now xs outlet.new.sink.now) ((M.machine machine.now).ending state.old.spot.condition).print result }
-    ensures left { IfOk result (λ turn. EndLeft (M.machine machine.now) state.old.reading state.old.spot (conditions_at state.old) state.new turn) }
+    ensures bytes { Appended (λ xs. K.wrote outlet.old.sink.now xs outlet.new.sink.now)
+        ((M.machine machine.now).ending state.old.place.condition).print result }
+    ensures left { IfOk result (λ turn. EndLeft (M.machine machine.now) state.old.reading state.old.place
+        (conditions_at state.old) state.new turn) }
     ensures unchanged { OnErr result (state.new ≡ state.old) }
 {
-    let action = machine.eof(state.spot.condition);
+    let action = machine.eof(state.place.condition);
     match put(outlet, action.print.as_slice()) {
         Err(e) => Err(e),
         Ok(()) => match flush(outlet) {
             Err(e) => Err(e),
             Ok(()) => {
-                state.reading.window.drop_front(state.spot.at);
-                state.spot.at = 0;
+                state.reading.window.drop_front(state.place.at);
+                state.place.at = 0;
                 state.ended = Some(action.status);
                 Ok(Turn::Ended(action.status))
             }
@@ -315,79 +278,57 @@ fn end_turn<M: Machine, K: Sink>(
 }
 
 /// One match with its actions, or the end action, by the states after each byte.
-fn go_told<M: Machine, S: Source, K: Sink>(
+fn go_with_reject<M: Machine, S: Source, K: Sink>(
     machine: &M,
     intake: &mut Intake<'_, S>,
     outlet: &mut Outlet<'_, K>,
-    trail: &mut Trail,
+    path: &mut StatePath,
     state: &mut State,
 ) -> Result<Turn, RunError>
-    requires may_read { state.old.reading.at_end ≡ false → intake.old.live ≡ true }
-    requires may_write { outlet.old.live ≡ true }
-    requires condition { state.old.spot.condition < (M.machine machine.now).conditions }
-    requires inside { state.old.spot.at ≤ length state.old.reading.window.bytes }
+    requires ready { MayMove (M.machine machine.now) intake.old.live outlet.old.live state.old }
+    requires inside { state.old.place.at ≤ length state.old.reading.window.bytes }
 
     ensures same_source { intake.new.source.ghost_name ≡ intake.old.source.ghost_name }
     ensures same_sink { outlet.new.sink.ghost_name ≡ outlet.old.sink.ghost_name }
-    ensures may_read { OnOk result (state.new.reading.at_end ≡ false → intake.new.live ≡ true) }
-    ensures may_write { OnOk result (outlet.new.live ≡ true) }
-    ensures failed { state.new.failed ≡ state.old.failed }
-    ensures max_reads { state.new.reading.max_reads ≡ state.old.reading.max_reads }
-    ensures ended { result ≡ Ok Turn.Went → state.new.ended ≡ state.old.ended }
-
-    ensures moved { Moved (M.machine machine.now) S.gave K.wrote intake.old.source.now intake.new.source.now outlet.old.sink.now outlet.new.sink.now state.old state.new result }
-
-    ensures still { state.old.reading.at_end ≡ true → intake.new.source.now ≡ intake.old.source.now }
-    ensures refused { IsErrOf result RunError.Failed → ⊥ }
-    ensures read_faults { S.failures intake.new.source.now ≡ S.failures intake.old.source.now + read_fault_count result }
-    ensures write_faults { K.failures outlet.new.sink.now ≡ K.failures outlet.old.sink.now + write_fault_count result }
-    ensures ends { S.ends intake.new.source.now ≡ S.ends intake.old.source.now + end_step state.old.reading.at_end state.new.reading.at_end }
-    ensures too_many { IsErrOf result RunError.TooManyReads → (state.new.reading.taken ≡ state.new.reading.max_reads) × Wants (M.machine machine.now) state.old.spot state.new.reading }
+    ensures moved { Moved (M.machine machine.now) S.gave K.wrote intake.old.source.now intake.new.source.now
+        outlet.old.sink.now outlet.new.sink.now state.old state.new result }
+    ensures left { MoveLeft (M.machine machine.now) intake.new.live outlet.new.live state.old state.new result }
+    ensures counts { TurnCounts S.ends S.failures K.failures intake.old.source.now intake.new.source.now
+        outlet.old.sink.now outlet.new.sink.now state.old.reading state.new.reading result }
 {
-    let spot = state.spot;
-    match see(machine, intake, &mut state.reading, trail, spot) {
+    let place = state.place;
+    match look_ahead(machine, intake, &mut state.reading, path, place) {
         Err(e) => Err(e),
         Ok(false) => end_turn(machine, outlet, state),
-        Ok(true) => match_turn(machine, outlet, state, trail),
+        Ok(true) => match_turn(machine, outlet, state, path),
     }
 }
 
 /// The same for a machine without REJECT, by the last two states.
 #[inline(always)]
-fn go_last<M: Machine, S: Source, K: Sink>(
+fn go_without_reject<M: Machine, S: Source, K: Sink>(
     machine: &M,
     intake: &mut Intake<'_, S>,
     outlet: &mut Outlet<'_, K>,
     state: &mut State,
 ) -> Result<Turn, RunError>
     requires quiet { NoReject (M.machine machine.now) }
-    requires may_read { state.old.reading.at_end ≡ false → intake.old.live ≡ true }
-    requires may_write { outlet.old.live ≡ true }
-    requires condition { state.old.spot.condition < (M.machine machine.now).conditions }
-    requires inside { state.old.spot.at ≤ length state.old.reading.window.bytes }
+    requires ready { MayMove (M.machine machine.now) intake.old.live outlet.old.live state.old }
+    requires inside { state.old.place.at ≤ length state.old.reading.window.bytes }
 
     ensures same_source { intake.new.source.ghost_name ≡ intake.old.source.ghost_name }
     ensures same_sink { outlet.new.sink.ghost_name ≡ outlet.old.sink.ghost_name }
-    ensures may_read { OnOk result (state.new.reading.at_end ≡ false → intake.new.live ≡ true) }
-    ensures may_write { OnOk result (outlet.new.live ≡ true) }
-    ensures failed { state.new.failed ≡ state.old.failed }
-    ensures max_reads { state.new.reading.max_reads ≡ state.old.reading.max_reads }
-    ensures ended { result ≡ Ok Turn.Went → state.new.ended ≡ state.old.ended }
-
-    ensures moved { Moved (M.machine machine.now) S.gave K.wrote intake.old.source.now intake.new.source.now outlet.old.sink.now outlet.new.sink.now state.old state.new result }
-
-    ensures still { state.old.reading.at_end ≡ true → intake.new.source.now ≡ intake.old.source.now }
-    ensures refused { IsErrOf result RunError.Failed → ⊥ }
-    ensures read_faults { S.failures intake.new.source.now ≡ S.failures intake.old.source.now + read_fault_count result }
-    ensures write_faults { K.failures outlet.new.sink.now ≡ K.failures outlet.old.sink.now + write_fault_count result }
-    ensures ends { S.ends intake.new.source.now ≡ S.ends intake.old.source.now + end_step state.old.reading.at_end state.new.reading.at_end }
-    ensures too_many { IsErrOf result RunError.TooManyReads → (state.new.reading.taken ≡ state.new.reading.max_reads) × Wants (M.machine machine.now) state.old.spot state.new.reading }
+    ensures moved { Moved (M.machine machine.now) S.gave K.wrote intake.old.source.now intake.new.source.now
+        outlet.old.sink.now outlet.new.sink.now state.old state.new result }
+    ensures left { MoveLeft (M.machine machine.now) intake.new.live outlet.new.live state.old state.new result }
+    ensures counts { TurnCounts S.ends S.failures K.failures intake.old.source.now intake.new.source.now
+        outlet.old.sink.now outlet.new.sink.now state.old.reading state.new.reading result }
 {
-    let spot = state.spot;
-    match see_last(machine, intake, &mut state.reading, spot) {
+    let place = state.place;
+    match look_ahead_last(machine, intake, &mut state.reading, place) {
         Err(e) => Err(e),
         Ok(None) => end_turn(machine, outlet, state),
-        Ok(Some(seen)) => last_turn(machine, outlet, state, seen),
+        Ok(Some(ahead)) => last_turn(machine, outlet, state, ahead),
     }
 }
 
@@ -397,36 +338,25 @@ fn go_past<M: Machine, S: Source, K: Sink>(
     intake: &mut Intake<'_, S>,
     outlet: &mut Outlet<'_, K>,
     state: &mut State,
-    seen: Seen,
+    ahead: LookAhead,
 ) -> Result<Turn, RunError>
     requires quiet { NoReject (M.machine machine.now) }
-    requires may_read { state.old.reading.at_end ≡ false → intake.old.live ≡ true }
-    requires may_write { outlet.old.live ≡ true }
-    requires condition { state.old.spot.condition < (M.machine machine.now).conditions }
-    requires open { IsOpen (M.machine machine.now) (M.states machine.now) state.old.spot state.old.reading seen }
+    requires ready { MayMove (M.machine machine.now) intake.old.live outlet.old.live state.old }
+    requires open { IsOpen (M.machine machine.now) (M.states machine.now) state.old.place state.old.reading ahead }
 
     ensures same_source { intake.new.source.ghost_name ≡ intake.old.source.ghost_name }
     ensures same_sink { outlet.new.sink.ghost_name ≡ outlet.old.sink.ghost_name }
-    ensures may_read { OnOk result (state.new.reading.at_end ≡ false → intake.new.live ≡ true) }
-    ensures may_write { OnOk result (outlet.new.live ≡ true) }
-    ensures failed { state.new.failed ≡ state.old.failed }
-    ensures max_reads { state.new.reading.max_reads ≡ state.old.reading.max_reads }
-    ensures ended { result ≡ Ok Turn.Went → state.new.ended ≡ state.old.ended }
-
-    ensures moved { Moved (M.machine machine.now) S.gave K.wrote intake.old.source.now intake.new.source.now outlet.old.sink.now outlet.new.sink.now state.old state.new result }
-
-    ensures still { state.old.reading.at_end ≡ true → intake.new.source.now ≡ intake.old.source.now }
-    ensures refused { IsErrOf result RunError.Failed → ⊥ }
-    ensures read_faults { S.failures intake.new.source.now ≡ S.failures intake.old.source.now + read_fault_count result }
-    ensures write_faults { K.failures outlet.new.sink.now ≡ K.failures outlet.old.sink.now + write_fault_count result }
-    ensures ends { S.ends intake.new.source.now ≡ S.ends intake.old.source.now + end_step state.old.reading.at_end state.new.reading.at_end }
-    ensures too_many { IsErrOf result RunError.TooManyReads → (state.new.reading.taken ≡ state.new.reading.max_reads) × Wants (M.machine machine.now) state.old.spot state.new.reading }
+    ensures moved { Moved (M.machine machine.now) S.gave K.wrote intake.old.source.now intake.new.source.now
+        outlet.old.sink.now outlet.new.sink.now state.old state.new result }
+    ensures left { MoveLeft (M.machine machine.now) intake.new.live outlet.new.live state.old state.new result }
+    ensures counts { TurnCounts S.ends S.failures K.failures intake.old.source.now intake.new.source.now
+        outlet.old.sink.now outlet.new.sink.now state.old.reading state.new.reading result }
 {
-    let spot = state.spot;
-    match see_more(machine, intake, &mut state.reading, spot, seen) {
+    let place = state.place;
+    match look_ahead_more(machine, intake, &mut state.reading, place, ahead) {
         Err(e) => Err(e),
         Ok(None) => end_turn(machine, outlet, state),
-        Ok(Some(seen)) => last_turn(machine, outlet, state, seen),
+        Ok(Some(ahead)) => last_turn(machine, outlet, state, ahead),
     }
 }
 
@@ -439,42 +369,31 @@ fn go_over<M: Machine, S: Source, K: Sink>(
     state: &mut State,
 ) -> Result<Turn, RunError>
     requires quiet { NoReject (M.machine machine.now) }
-    requires may_read { state.old.reading.at_end ≡ false → intake.old.live ≡ true }
-    requires may_write { outlet.old.live ≡ true }
-    requires condition { state.old.spot.condition < (M.machine machine.now).conditions }
-    requires inside { state.old.spot.at < length state.old.reading.window.bytes }
+    requires ready { MayMove (M.machine machine.now) intake.old.live outlet.old.live state.old }
+    requires inside { state.old.place.at < length state.old.reading.window.bytes }
     requires marks { AreTrue (M.machine machine.now) state.old.reading memo.old }
 
     ensures same_source { intake.new.source.ghost_name ≡ intake.old.source.ghost_name }
     ensures same_sink { outlet.new.sink.ghost_name ≡ outlet.old.sink.ghost_name }
-    ensures may_read { OnOk result (state.new.reading.at_end ≡ false → intake.new.live ≡ true) }
-    ensures may_write { OnOk result (outlet.new.live ≡ true) }
-    ensures failed { state.new.failed ≡ state.old.failed }
-    ensures max_reads { state.new.reading.max_reads ≡ state.old.reading.max_reads }
-    ensures ended { result ≡ Ok Turn.Went → state.new.ended ≡ state.old.ended }
-
-    ensures moved { Moved (M.machine machine.now) S.gave K.wrote intake.old.source.now intake.new.source.now outlet.old.sink.now outlet.new.sink.now state.old state.new result }
+    ensures moved { Moved (M.machine machine.now) S.gave K.wrote intake.old.source.now intake.new.source.now
+        outlet.old.sink.now outlet.new.sink.now state.old state.new result }
+    ensures left { MoveLeft (M.machine machine.now) intake.new.live outlet.new.live state.old state.new result }
+    ensures counts { TurnCounts S.ends S.failures K.failures intake.old.source.now intake.new.source.now
+        outlet.old.sink.now outlet.new.sink.now state.old.reading state.new.reading result }
     ensures marks { OnOk result (AreTrue (M.machine machine.now) state.new.reading memo.new) }
-
-    ensures still { state.old.reading.at_end ≡ true → intake.new.source.now ≡ intake.old.source.now }
-    ensures refused { IsErrOf result RunError.Failed → ⊥ }
-    ensures read_faults { S.failures intake.new.source.now ≡ S.failures intake.old.source.now + read_fault_count result }
-    ensures write_faults { K.failures outlet.new.sink.now ≡ K.failures outlet.old.sink.now + write_fault_count result }
-    ensures ends { S.ends intake.new.source.now ≡ S.ends intake.old.source.now + end_step state.old.reading.at_end state.new.reading.at_end }
-    ensures too_many { IsErrOf result RunError.TooManyReads → (state.new.reading.taken ≡ state.new.reading.max_reads) × Wants (M.machine machine.now) state.old.spot state.new.reading }
 {
-    let spot = state.spot;
-    memo.fit(state.reading.window.len() - spot.at);
-    match look(machine, &state.reading, memo, spot) {
-        Ahead::Open(seen) => go_past(machine, intake, outlet, state, seen),
+    let place = state.place;
+    memo.fit(state.reading.window.len() - place.at);
+    match look(machine, &state.reading, memo, place) {
+        Ahead::Open(ahead) => go_past(machine, intake, outlet, state, ahead),
         Ahead::Settled(settled) => {
-            note(machine, &state.reading, memo, spot, settled);
-            let seen = Seen {
+            note(machine, &state.reading, memo, place, settled);
+            let ahead = LookAhead {
                 reach: settled.keep,
                 state: settled.state,
                 before: settled.before,
             };
-            last_turn(machine, outlet, state, seen)
+            last_turn(machine, outlet, state, ahead)
         }
     }
 }
@@ -488,32 +407,21 @@ fn go_back<M: Machine, S: Source, K: Sink>(
     state: &mut State,
 ) -> Result<Turn, RunError>
     requires quiet { NoReject (M.machine machine.now) }
-    requires may_read { state.old.reading.at_end ≡ false → intake.old.live ≡ true }
-    requires may_write { outlet.old.live ≡ true }
-    requires condition { state.old.spot.condition < (M.machine machine.now).conditions }
-    requires inside { state.old.spot.at < length state.old.reading.window.bytes }
+    requires ready { MayMove (M.machine machine.now) intake.old.live outlet.old.live state.old }
+    requires inside { state.old.place.at < length state.old.reading.window.bytes }
     requires marks { AreTrue (M.machine machine.now) state.old.reading memo.old }
 
     ensures same_source { intake.new.source.ghost_name ≡ intake.old.source.ghost_name }
     ensures same_sink { outlet.new.sink.ghost_name ≡ outlet.old.sink.ghost_name }
-    ensures may_read { OnOk result (state.new.reading.at_end ≡ false → intake.new.live ≡ true) }
-    ensures may_write { OnOk result (outlet.new.live ≡ true) }
-    ensures failed { state.new.failed ≡ state.old.failed }
-    ensures max_reads { state.new.reading.max_reads ≡ state.old.reading.max_reads }
-    ensures ended { result ≡ Ok Turn.Went → state.new.ended ≡ state.old.ended }
-
-    ensures moved { Moved (M.machine machine.now) S.gave K.wrote intake.old.source.now intake.new.source.now outlet.old.sink.now outlet.new.sink.now state.old state.new result }
+    ensures moved { Moved (M.machine machine.now) S.gave K.wrote intake.old.source.now intake.new.source.now
+        outlet.old.sink.now outlet.new.sink.now state.old state.new result }
+    ensures left { MoveLeft (M.machine machine.now) intake.new.live outlet.new.live state.old state.new result }
+    ensures counts { TurnCounts S.ends S.failures K.failures intake.old.source.now intake.new.source.now
+        outlet.old.sink.now outlet.new.sink.now state.old.reading state.new.reading result }
     ensures marks { OnOk result (AreTrue (M.machine machine.now) state.new.reading memo.new) }
-
-    ensures still { state.old.reading.at_end ≡ true → intake.new.source.now ≡ intake.old.source.now }
-    ensures refused { IsErrOf result RunError.Failed → ⊥ }
-    ensures read_faults { S.failures intake.new.source.now ≡ S.failures intake.old.source.now + read_fault_count result }
-    ensures write_faults { K.failures outlet.new.sink.now ≡ K.failures outlet.old.sink.now + write_fault_count result }
-    ensures ends { S.ends intake.new.source.now ≡ S.ends intake.old.source.now + end_step state.old.reading.at_end state.new.reading.at_end }
-    ensures too_many { IsErrOf result RunError.TooManyReads → (state.new.reading.taken ≡ state.new.reading.max_reads) × Wants (M.machine machine.now) state.old.spot state.new.reading }
 {
     let result = go_over(machine, intake, outlet, memo, state);
-    if state.reading.window.len().saturating_sub(state.spot.at) <= BACKLOG {
+    if state.reading.window.len().saturating_sub(state.place.at) <= BACKLOG {
         memo.clear();
     }
     result
@@ -521,43 +429,33 @@ fn go_back<M: Machine, S: Source, K: Sink>(
 
 /// One turn of a scan that has neither failed nor ended, by the states after each byte.
 #[inline(always)]
-pub fn told_turn<M: Machine, S: Source, K: Sink>(
+pub fn turn_with_reject<M: Machine, S: Source, K: Sink>(
     machine: &M,
     intake: &mut Intake<'_, S>,
     outlet: &mut Outlet<'_, K>,
-    trail: &mut Trail,
+    path: &mut StatePath,
     state: &mut State,
 ) -> Result<Turn, RunError>
     requires working { state.old.failed ≡ false }
     requires going { state.old.ended ≡ None }
-    requires may_read { state.old.reading.at_end ≡ false → intake.old.live ≡ true }
-    requires may_write { outlet.old.live ≡ true }
-    requires condition { state.old.spot.condition < (M.machine machine.now).conditions }
-    requires inside { state.old.spot.at ≤ length state.old.reading.window.bytes }
-    requires stack { AllBelow (M.machine machine.now).conditions state.old.acting.stack }
+    requires ready { MayTurn (M.machine machine.now) intake.old.live outlet.old.live state.old }
+    requires inside { state.old.place.at ≤ length state.old.reading.window.bytes }
 
     ensures same_source { intake.new.source.ghost_name ≡ intake.old.source.ghost_name }
     ensures same_sink { outlet.new.sink.ghost_name ≡ outlet.old.sink.ghost_name }
-    ensures goes_on { (got : List ℕ) × (wrote : List ℕ) × S.gave intake.old.source.now got intake.new.source.now
-        × K.wrote outlet.old.sink.now wrote outlet.new.sink.now
-        × NoneAfterEnd state.old state.new got × GoesOn (M.machine machine.now) state.old state.new got wrote result }
-
-    ensures still { state.old.reading.at_end ≡ true → intake.new.source.now ≡ intake.old.source.now }
-    ensures read_faults { S.failures intake.new.source.now ≡ S.failures intake.old.source.now + read_fault_count result }
-    ensures write_faults { K.failures outlet.new.sink.now ≡ K.failures outlet.old.sink.now + write_fault_count result }
+    ensures goes_on { MakesTurn (M.machine machine.now) S.gave K.wrote intake.old.source.now intake.new.source.now
+        outlet.old.sink.now outlet.new.sink.now state.old state.new result }
+    ensures counts { TurnCounts S.ends S.failures K.failures intake.old.source.now intake.new.source.now
+        outlet.old.sink.now outlet.new.sink.now state.old.reading state.new.reading result }
     ensures refused { IsErrOf result RunError.Failed → ⊥ }
-    ensures max_reads { state.new.reading.max_reads ≡ state.old.reading.max_reads }
+    ensures too_many { IsErrOf result RunError.TooManyReads →
+        (state.new.reading.taken ≡ state.new.reading.max_reads) × (state.new.reading.at_end ≡ false) }
 
     // The next turn may be called.
-    ensures may_read { state.new.failed ≡ false → state.new.ended ≡ None → state.new.reading.at_end ≡ false → intake.new.live ≡ true }
-    ensures may_write { state.new.failed ≡ false → outlet.new.live ≡ true }
-    ensures condition { state.new.spot.condition < (M.machine machine.now).conditions }
-    ensures inside { state.new.spot.at ≤ length state.new.reading.window.bytes }
-    ensures stack { state.new.failed ≡ false → AllBelow (M.machine machine.now).conditions state.new.acting.stack }
-    ensures ends { S.ends intake.new.source.now ≡ S.ends intake.old.source.now + end_step state.old.reading.at_end state.new.reading.at_end }
-    ensures too_many { IsErrOf result RunError.TooManyReads → (state.new.reading.taken ≡ state.new.reading.max_reads) × (state.new.reading.at_end ≡ false) }
+    ensures next { MayTurn (M.machine machine.now) intake.new.live outlet.new.live state.new }
+    ensures inside { state.new.place.at ≤ length state.new.reading.window.bytes }
 {
-    match go_told(machine, intake, outlet, trail, state) {
+    match go_with_reject(machine, intake, outlet, path, state) {
         Ok(turn) => Ok(turn),
         Err(e) => {
             state.failed = true;
@@ -568,7 +466,7 @@ pub fn told_turn<M: Machine, S: Source, K: Sink>(
 
 /// The same for a machine without REJECT, by the last two states.
 #[inline(always)]
-pub fn quiet_turn<M: Machine, S: Source, K: Sink>(
+pub fn turn_without_reject<M: Machine, S: Source, K: Sink>(
     machine: &M,
     intake: &mut Intake<'_, S>,
     outlet: &mut Outlet<'_, K>,
@@ -577,35 +475,26 @@ pub fn quiet_turn<M: Machine, S: Source, K: Sink>(
     requires quiet { NoReject (M.machine machine.now) }
     requires working { state.old.failed ≡ false }
     requires going { state.old.ended ≡ None }
-    requires may_read { state.old.reading.at_end ≡ false → intake.old.live ≡ true }
-    requires may_write { outlet.old.live ≡ true }
-    requires condition { state.old.spot.condition < (M.machine machine.now).conditions }
-    requires inside { state.old.spot.at ≤ length state.old.reading.window.bytes }
-    requires stack { AllBelow (M.machine machine.now).conditions state.old.acting.stack }
+    requires ready { MayTurn (M.machine machine.now) intake.old.live outlet.old.live state.old }
+    requires inside { state.old.place.at ≤ length state.old.reading.window.bytes }
 
     ensures same_source { intake.new.source.ghost_name ≡ intake.old.source.ghost_name }
     ensures same_sink { outlet.new.sink.ghost_name ≡ outlet.old.sink.ghost_name }
-    ensures goes_on { (got : List ℕ) × (wrote : List ℕ) × S.gave intake.old.source.now got intake.new.source.now
-        × K.wrote outlet.old.sink.now wrote outlet.new.sink.now
-        × NoneAfterEnd state.old state.new got × GoesOn (M.machine machine.now) state.old state.new got wrote result }
-
-    ensures still { state.old.reading.at_end ≡ true → intake.new.source.now ≡ intake.old.source.now }
-    ensures read_faults { S.failures intake.new.source.now ≡ S.failures intake.old.source.now + read_fault_count result }
-    ensures write_faults { K.failures outlet.new.sink.now ≡ K.failures outlet.old.sink.now + write_fault_count result }
+    ensures goes_on { MakesTurn (M.machine machine.now) S.gave K.wrote intake.old.source.now intake.new.source.now
+        outlet.old.sink.now outlet.new.sink.now state.old state.new result }
+    ensures counts { TurnCounts S.ends S.failures K.failures intake.old.source.now intake.new.source.now
+        outlet.old.sink.now outlet.new.sink.now state.old.reading state.new.reading result }
     ensures refused { IsErrOf result RunError.Failed → ⊥ }
-    ensures max_reads { state.new.reading.max_reads ≡ state.old.reading.max_reads }
+    ensures too_many { IsErrOf result RunError.TooManyReads →
+        (state.new.reading.taken ≡ state.new.reading.max_reads) × (state.new.reading.at_end ≡ false) }
 
     // The next turn may be called.
-    ensures may_read { state.new.failed ≡ false → state.new.ended ≡ None → state.new.reading.at_end ≡ false → intake.new.live ≡ true }
-    ensures may_write { state.new.failed ≡ false → outlet.new.live ≡ true }
-    ensures condition { state.new.spot.condition < (M.machine machine.now).conditions }
-    ensures inside { state.new.spot.at ≤ length state.new.reading.window.bytes }
-    ensures stack { state.new.failed ≡ false → AllBelow (M.machine machine.now).conditions state.new.acting.stack }
-    ensures marks { (ms : List Mark) → AreTrue (M.machine machine.now) state.old.reading ms → state.new.failed ≡ false → AreTrue (M.machine machine.now) state.new.reading ms }
-    ensures ends { S.ends intake.new.source.now ≡ S.ends intake.old.source.now + end_step state.old.reading.at_end state.new.reading.at_end }
-    ensures too_many { IsErrOf result RunError.TooManyReads → (state.new.reading.taken ≡ state.new.reading.max_reads) × (state.new.reading.at_end ≡ false) }
+    ensures next { MayTurn (M.machine machine.now) intake.new.live outlet.new.live state.new }
+    ensures inside { state.new.place.at ≤ length state.new.reading.window.bytes }
+    ensures marks { (ms : List Mark) → AreTrue (M.machine machine.now) state.old.reading ms →
+        state.new.failed ≡ false → AreTrue (M.machine machine.now) state.new.reading ms }
 {
-    match go_last(machine, intake, outlet, state) {
+    match go_without_reject(machine, intake, outlet, state) {
         Ok(turn) => Ok(turn),
         Err(e) => {
             state.failed = true;
@@ -627,34 +516,24 @@ pub fn back_turn<M: Machine, S: Source, K: Sink>(
     requires quiet { NoReject (M.machine machine.now) }
     requires working { state.old.failed ≡ false }
     requires going { state.old.ended ≡ None }
-    requires may_read { state.old.reading.at_end ≡ false → intake.old.live ≡ true }
-    requires may_write { outlet.old.live ≡ true }
-    requires condition { state.old.spot.condition < (M.machine machine.now).conditions }
-    requires inside { state.old.spot.at < length state.old.reading.window.bytes }
-    requires stack { AllBelow (M.machine machine.now).conditions state.old.acting.stack }
+    requires ready { MayTurn (M.machine machine.now) intake.old.live outlet.old.live state.old }
+    requires inside { state.old.place.at < length state.old.reading.window.bytes }
     requires marks { AreTrue (M.machine machine.now) state.old.reading memo.old }
 
     ensures same_source { intake.new.source.ghost_name ≡ intake.old.source.ghost_name }
     ensures same_sink { outlet.new.sink.ghost_name ≡ outlet.old.sink.ghost_name }
-    ensures goes_on { (got : List ℕ) × (wrote : List ℕ) × S.gave intake.old.source.now got intake.new.source.now
-        × K.wrote outlet.old.sink.now wrote outlet.new.sink.now
-        × NoneAfterEnd state.old state.new got × GoesOn (M.machine machine.now) state.old state.new got wrote result }
-
-    ensures still { state.old.reading.at_end ≡ true → intake.new.source.now ≡ intake.old.source.now }
-    ensures read_faults { S.failures intake.new.source.now ≡ S.failures intake.old.source.now + read_fault_count result }
-    ensures write_faults { K.failures outlet.new.sink.now ≡ K.failures outlet.old.sink.now + write_fault_count result }
+    ensures goes_on { MakesTurn (M.machine machine.now) S.gave K.wrote intake.old.source.now intake.new.source.now
+        outlet.old.sink.now outlet.new.sink.now state.old state.new result }
+    ensures counts { TurnCounts S.ends S.failures K.failures intake.old.source.now intake.new.source.now
+        outlet.old.sink.now outlet.new.sink.now state.old.reading state.new.reading result }
     ensures refused { IsErrOf result RunError.Failed → ⊥ }
-    ensures max_reads { state.new.reading.max_reads ≡ state.old.reading.max_reads }
+    ensures too_many { IsErrOf result RunError.TooManyReads →
+        (state.new.reading.taken ≡ state.new.reading.max_reads) × (state.new.reading.at_end ≡ false) }
 
     // The next turn may be called.
-    ensures may_read { state.new.failed ≡ false → state.new.ended ≡ None → state.new.reading.at_end ≡ false → intake.new.live ≡ true }
-    ensures may_write { state.new.failed ≡ false → outlet.new.live ≡ true }
-    ensures condition { state.new.spot.condition < (M.machine machine.now).conditions }
-    ensures inside { state.new.spot.at ≤ length state.new.reading.window.bytes }
-    ensures stack { state.new.failed ≡ false → AllBelow (M.machine machine.now).conditions state.new.acting.stack }
+    ensures next { MayTurn (M.machine machine.now) intake.new.live outlet.new.live state.new }
+    ensures inside { state.new.place.at ≤ length state.new.reading.window.bytes }
     ensures marks { state.new.failed ≡ false → AreTrue (M.machine machine.now) state.new.reading memo.new }
-    ensures ends { S.ends intake.new.source.now ≡ S.ends intake.old.source.now + end_step state.old.reading.at_end state.new.reading.at_end }
-    ensures too_many { IsErrOf result RunError.TooManyReads → (state.new.reading.taken ≡ state.new.reading.max_reads) × (state.new.reading.at_end ≡ false) }
 {
     match go_back(machine, intake, outlet, memo, state) {
         Ok(turn) => Ok(turn),
@@ -670,48 +549,38 @@ fn turn_on<M: Machine, S: Source, K: Sink>(
     machine: &M,
     intake: &mut Intake<'_, S>,
     outlet: &mut Outlet<'_, K>,
-    trail: &mut Trail,
+    path: &mut StatePath,
     memo: &mut Memo,
     state: &mut State,
 ) -> Result<Turn, RunError>
     requires working { state.old.failed ≡ false }
     requires going { state.old.ended ≡ None }
-    requires may_read { state.old.reading.at_end ≡ false → intake.old.live ≡ true }
-    requires may_write { outlet.old.live ≡ true }
-    requires condition { state.old.spot.condition < (M.machine machine.now).conditions }
-    requires inside { state.old.spot.at ≤ length state.old.reading.window.bytes }
-    requires stack { AllBelow (M.machine machine.now).conditions state.old.acting.stack }
+    requires ready { MayTurn (M.machine machine.now) intake.old.live outlet.old.live state.old }
+    requires inside { state.old.place.at ≤ length state.old.reading.window.bytes }
     requires marks { AreTrue (M.machine machine.now) state.old.reading memo.old }
 
     ensures same_source { intake.new.source.ghost_name ≡ intake.old.source.ghost_name }
     ensures same_sink { outlet.new.sink.ghost_name ≡ outlet.old.sink.ghost_name }
-    ensures goes_on { (got : List ℕ) × (wrote : List ℕ) × S.gave intake.old.source.now got intake.new.source.now
-        × K.wrote outlet.old.sink.now wrote outlet.new.sink.now
-        × NoneAfterEnd state.old state.new got × GoesOn (M.machine machine.now) state.old state.new got wrote result }
-
-    ensures still { state.old.reading.at_end ≡ true → intake.new.source.now ≡ intake.old.source.now }
-    ensures read_faults { S.failures intake.new.source.now ≡ S.failures intake.old.source.now + read_fault_count result }
-    ensures write_faults { K.failures outlet.new.sink.now ≡ K.failures outlet.old.sink.now + write_fault_count result }
+    ensures goes_on { MakesTurn (M.machine machine.now) S.gave K.wrote intake.old.source.now intake.new.source.now
+        outlet.old.sink.now outlet.new.sink.now state.old state.new result }
+    ensures counts { TurnCounts S.ends S.failures K.failures intake.old.source.now intake.new.source.now
+        outlet.old.sink.now outlet.new.sink.now state.old.reading state.new.reading result }
     ensures refused { IsErrOf result RunError.Failed → ⊥ }
-    ensures max_reads { state.new.reading.max_reads ≡ state.old.reading.max_reads }
+    ensures too_many { IsErrOf result RunError.TooManyReads →
+        (state.new.reading.taken ≡ state.new.reading.max_reads) × (state.new.reading.at_end ≡ false) }
 
     // The next turn may be called.
-    ensures may_read { state.new.failed ≡ false → state.new.ended ≡ None → state.new.reading.at_end ≡ false → intake.new.live ≡ true }
-    ensures may_write { state.new.failed ≡ false → outlet.new.live ≡ true }
-    ensures condition { state.new.spot.condition < (M.machine machine.now).conditions }
-    ensures inside { state.new.spot.at ≤ length state.new.reading.window.bytes }
-    ensures stack { state.new.failed ≡ false → AllBelow (M.machine machine.now).conditions state.new.acting.stack }
+    ensures next { MayTurn (M.machine machine.now) intake.new.live outlet.new.live state.new }
+    ensures inside { state.new.place.at ≤ length state.new.reading.window.bytes }
     ensures marks { state.new.failed ≡ false → AreTrue (M.machine machine.now) state.new.reading memo.new }
-    ensures ends { S.ends intake.new.source.now ≡ S.ends intake.old.source.now + end_step state.old.reading.at_end state.new.reading.at_end }
-    ensures too_many { IsErrOf result RunError.TooManyReads → (state.new.reading.taken ≡ state.new.reading.max_reads) × (state.new.reading.at_end ≡ false) }
 {
     if machine.rejects() {
         memo.clear();
-        told_turn(machine, intake, outlet, trail, state)
+        turn_with_reject(machine, intake, outlet, path, state)
     } else if has_backlog(state) {
         back_turn(machine, intake, outlet, memo, state)
     } else {
-        quiet_turn(machine, intake, outlet, state)
+        turn_without_reject(machine, intake, outlet, state)
     }
 }
 
@@ -720,42 +589,35 @@ pub fn turn_of<M: Machine, S: Source, K: Sink>(
     machine: &M,
     intake: &mut Intake<'_, S>,
     outlet: &mut Outlet<'_, K>,
-    trail: &mut Trail,
+    path: &mut StatePath,
     memo: &mut Memo,
     state: &mut State,
 ) -> Result<Turn, RunError>
-    requires may_read { state.old.failed ≡ false → state.old.ended ≡ None → state.old.reading.at_end ≡ false → intake.old.live ≡ true }
-    requires may_write { state.old.failed ≡ false → outlet.old.live ≡ true }
-    requires condition { state.old.spot.condition < (M.machine machine.now).conditions }
-    requires inside { state.old.spot.at ≤ length state.old.reading.window.bytes }
-    requires stack { state.old.failed ≡ false → AllBelow (M.machine machine.now).conditions state.old.acting.stack }
+    requires ready { MayTurn (M.machine machine.now) intake.old.live outlet.old.live state.old }
+    requires inside { state.old.place.at ≤ length state.old.reading.window.bytes }
     requires marks { state.old.failed ≡ false → AreTrue (M.machine machine.now) state.old.reading memo.old }
 
     ensures same_source { intake.new.source.ghost_name ≡ intake.old.source.ghost_name }
     ensures same_sink { outlet.new.sink.ghost_name ≡ outlet.old.sink.ghost_name }
-    ensures goes_on { (got : List ℕ) × (wrote : List ℕ) × S.gave intake.old.source.now got intake.new.source.now
-        × K.wrote outlet.old.sink.now wrote outlet.new.sink.now
-        × NoneAfterEnd state.old state.new got × GoesOn (M.machine machine.now) state.old state.new got wrote result }
-
-    ensures still { state.old.reading.at_end ≡ true → intake.new.source.now ≡ intake.old.source.now }
-    ensures read_faults { S.failures intake.new.source.now ≡ S.failures intake.old.source.now + read_fault_count result }
-    ensures write_faults { K.failures outlet.new.sink.now ≡ K.failures outlet.old.sink.now + write_fault_count result }
-    ensures after_refusal { state.old.failed ≡ true → (result ≡ Err RunError.Failed) × (intake.new.source.now ≡ intake.old.source.now)
+    ensures goes_on { MakesTurn (M.machine machine.now) S.gave K.wrote intake.old.source.now intake.new.source.now
+        outlet.old.sink.now outlet.new.sink.now state.old state.new result }
+    ensures counts { TurnCounts S.ends S.failures K.failures intake.old.source.now intake.new.source.now
+        outlet.old.sink.now outlet.new.sink.now state.old.reading state.new.reading result }
+    ensures after_refusal { state.old.failed ≡ true → (result ≡ Err RunError.Failed)
+        × (intake.new.source.now ≡ intake.old.source.now)
         × (outlet.new.sink.now ≡ outlet.old.sink.now) × (state.new ≡ state.old) }
     ensures refused { IsErrOf result RunError.Failed → state.old.failed ≡ true }
-    ensures after_end { (status : ℕ) → state.old.failed ≡ false → state.old.ended ≡ Some status → (result ≡ Ok (Turn.Ended status))
-        × (intake.new.source.now ≡ intake.old.source.now) × (outlet.new.sink.now ≡ outlet.old.sink.now) × (state.new ≡ state.old) }
-    ensures max_reads { state.new.reading.max_reads ≡ state.old.reading.max_reads }
+    ensures after_end { (status : ℕ) → state.old.failed ≡ false → state.old.ended ≡ Some status →
+        (result ≡ Ok (Turn.Ended status))
+        × (intake.new.source.now ≡ intake.old.source.now)
+        × (outlet.new.sink.now ≡ outlet.old.sink.now) × (state.new ≡ state.old) }
+    ensures too_many { IsErrOf result RunError.TooManyReads →
+        (state.new.reading.taken ≡ state.new.reading.max_reads) × (state.new.reading.at_end ≡ false) }
 
     // The next turn may be called.
-    ensures may_read { state.new.failed ≡ false → state.new.ended ≡ None → state.new.reading.at_end ≡ false → intake.new.live ≡ true }
-    ensures may_write { state.new.failed ≡ false → outlet.new.live ≡ true }
-    ensures condition { state.new.spot.condition < (M.machine machine.now).conditions }
-    ensures inside { state.new.spot.at ≤ length state.new.reading.window.bytes }
-    ensures stack { state.new.failed ≡ false → AllBelow (M.machine machine.now).conditions state.new.acting.stack }
+    ensures next { MayTurn (M.machine machine.now) intake.new.live outlet.new.live state.new }
+    ensures inside { state.new.place.at ≤ length state.new.reading.window.bytes }
     ensures marks { state.new.failed ≡ false → AreTrue (M.machine machine.now) state.new.reading memo.new }
-    ensures ends { S.ends intake.new.source.now ≡ S.ends intake.old.source.now + end_step state.old.reading.at_end state.new.reading.at_end }
-    ensures too_many { IsErrOf result RunError.TooManyReads → (state.new.reading.taken ≡ state.new.reading.max_reads) × (state.new.reading.at_end ≡ false) }
 {
     if state.failed {
         return Err(RunError::Failed);
@@ -763,5 +625,5 @@ pub fn turn_of<M: Machine, S: Source, K: Sink>(
     if let Some(status) = state.ended {
         return Ok(Turn::Ended(status));
     }
-    turn_on(machine, intake, outlet, trail, memo, state)
+    turn_on(machine, intake, outlet, path, memo, state)
 }

@@ -6,15 +6,16 @@ ghost use Rattle.lex_semantics.specs.Text.{AllBelow};
 ghost use Rattle.lexscan.specs.Memos.{AreTrue};
 ghost use Rattle.lexscan.specs.Reads.{read_fault_count, write_fault_count};
 ghost use Rattle.lexscan.specs.Stands.{Stands};
-ghost use Rattle.lexscan.specs.Runs.{Ran};
+ghost use Rattle.lexscan.specs.Runs.{Ran, RunCounts};
+ghost use Rattle.lexscan.specs.Turns.{MayTurn};
 
 use crate::error::RunError;
 use crate::further::go_further;
 use crate::intake::{Intake, Outlet};
 use crate::memo::Memo;
+use crate::path::StatePath;
 use crate::state::State;
-use crate::trail::Trail;
-use crate::turn::{Turn, back_turn, has_backlog, quiet_turn, told_turn};
+use crate::turn::{Turn, back_turn, has_backlog, turn_with_reject, turn_without_reject};
 use lex_io::{Sink, Source};
 use lex_machine::Machine;
 use std::alloc::Global;
@@ -36,7 +37,8 @@ pub fn run<M: Machine, S: Source, K: Sink>(
     requires few_reads { S.failures source.old < 2 ^ 64 - 1 }
     requires few_writes { K.failures sink.old < 2 ^ 64 - 1 }
     ensures ran { (given : List ℕ) × (out : List ℕ) × S.gave source.old given source.new × K.wrote sink.old out sink.new
-        × Ran (rules_of_machine (M.machine machine.now)) given out (nat_lt (S.ends source.old) (S.ends source.new)) max_reads result }
+        × Ran (rules_of_machine (M.machine machine.now)) given out
+        (nat_lt (S.ends source.old) (S.ends source.new)) max_reads result }
     ensures ends_stay { S.ends source.old ≤ S.ends source.new }
     ensures one_end { S.ends source.new ≤ S.ends source.old + 1 }
     ensures read_faults { S.failures source.new ≡ S.failures source.old + read_fault_count result }
@@ -45,14 +47,14 @@ pub fn run<M: Machine, S: Source, K: Sink>(
 {
     let mut intake = Intake::new(source);
     let mut outlet = Outlet::new(sink);
-    let mut trail = Trail::new(alloc);
+    let mut path = StatePath::new(alloc);
     let mut memo = Memo::new(alloc);
     let mut state = State::new(alloc, max_reads);
     let result = run_turns(
         machine,
         &mut intake,
         &mut outlet,
-        &mut trail,
+        &mut path,
         &mut memo,
         &mut state,
     );
@@ -66,69 +68,59 @@ fn run_turns<M: Machine, S: Source, K: Sink>(
     machine: &M,
     intake: &mut Intake<'_, S>,
     outlet: &mut Outlet<'_, K>,
-    trail: &mut Trail,
+    path: &mut StatePath,
     memo: &mut Memo,
     state: &mut State,
 ) -> Result<u8, RunError>
     requires start { Stands (M.machine machine.now) 0 [] [] state.old }
     requires going { state.old.ended ≡ None }
     requires reading { state.old.reading.at_end ≡ false }
-    requires may_read { intake.old.live ≡ true }
-    requires may_write { outlet.old.live ≡ true }
-    requires condition { state.old.spot.condition < (M.machine machine.now).conditions }
-    requires inside { state.old.spot.at ≤ length state.old.reading.window.bytes }
-    requires stack { AllBelow (M.machine machine.now).conditions state.old.acting.stack }
+    requires ready { MayTurn (M.machine machine.now) intake.old.live outlet.old.live state.old }
+    requires inside { state.old.place.at ≤ length state.old.reading.window.bytes }
     requires marks { AreTrue (M.machine machine.now) state.old.reading memo.old }
 
     ensures same_source { intake.new.source.ghost_name ≡ intake.old.source.ghost_name }
     ensures same_sink { outlet.new.sink.ghost_name ≡ outlet.old.sink.ghost_name }
     ensures ran { (given : List ℕ) × (out : List ℕ) × S.gave intake.old.source.now given intake.new.source.now
         × K.wrote outlet.old.sink.now out outlet.new.sink.now
-        × Ran (rules_of_machine (M.machine machine.now)) given out (nat_lt (S.ends intake.old.source.now) (S.ends intake.new.source.now)) state.old.reading.max_reads result }
-    ensures ends_stay { S.ends intake.old.source.now ≤ S.ends intake.new.source.now }
-    ensures one_end { S.ends intake.new.source.now ≤ S.ends intake.old.source.now + 1 }
-    ensures read_faults { S.failures intake.new.source.now ≡ S.failures intake.old.source.now + read_fault_count result }
-    ensures write_faults { K.failures outlet.new.sink.now ≡ K.failures outlet.old.sink.now + write_fault_count result }
-    ensures not_failed { IsErrOf result RunError.Failed → ⊥ }
+        × Ran (rules_of_machine (M.machine machine.now)) given out
+        (nat_lt (S.ends intake.old.source.now) (S.ends intake.new.source.now)) state.old.reading.max_reads result }
+    ensures counts { RunCounts S.ends S.failures K.failures intake.old.source.now intake.new.source.now
+        outlet.old.sink.now outlet.new.sink.now result }
 {
     if machine.rejects() {
-        run_told(machine, intake, outlet, trail, state)
+        run_with_reject(machine, intake, outlet, path, state)
     } else {
-        run_quiet(machine, intake, outlet, memo, state)
+        run_without_reject(machine, intake, outlet, memo, state)
     }
 }
 
 /// The same for any machine.
 #[inline(never)]
-fn run_told<M: Machine, S: Source, K: Sink>(
+fn run_with_reject<M: Machine, S: Source, K: Sink>(
     machine: &M,
     intake: &mut Intake<'_, S>,
     outlet: &mut Outlet<'_, K>,
-    trail: &mut Trail,
+    path: &mut StatePath,
     state: &mut State,
 ) -> Result<u8, RunError>
     requires start { Stands (M.machine machine.now) 0 [] [] state.old }
     requires going { state.old.ended ≡ None }
     requires reading { state.old.reading.at_end ≡ false }
-    requires may_read { intake.old.live ≡ true }
-    requires may_write { outlet.old.live ≡ true }
-    requires condition { state.old.spot.condition < (M.machine machine.now).conditions }
-    requires inside { state.old.spot.at ≤ length state.old.reading.window.bytes }
-    requires stack { AllBelow (M.machine machine.now).conditions state.old.acting.stack }
+    requires ready { MayTurn (M.machine machine.now) intake.old.live outlet.old.live state.old }
+    requires inside { state.old.place.at ≤ length state.old.reading.window.bytes }
 
     ensures same_source { intake.new.source.ghost_name ≡ intake.old.source.ghost_name }
     ensures same_sink { outlet.new.sink.ghost_name ≡ outlet.old.sink.ghost_name }
     ensures ran { (given : List ℕ) × (out : List ℕ) × S.gave intake.old.source.now given intake.new.source.now
         × K.wrote outlet.old.sink.now out outlet.new.sink.now
-        × Ran (rules_of_machine (M.machine machine.now)) given out (nat_lt (S.ends intake.old.source.now) (S.ends intake.new.source.now)) state.old.reading.max_reads result }
-    ensures ends_stay { S.ends intake.old.source.now ≤ S.ends intake.new.source.now }
-    ensures one_end { S.ends intake.new.source.now ≤ S.ends intake.old.source.now + 1 }
-    ensures read_faults { S.failures intake.new.source.now ≡ S.failures intake.old.source.now + read_fault_count result }
-    ensures write_faults { K.failures outlet.new.sink.now ≡ K.failures outlet.old.sink.now + write_fault_count result }
-    ensures not_failed { IsErrOf result RunError.Failed → ⊥ }
+        × Ran (rules_of_machine (M.machine machine.now)) given out
+        (nat_lt (S.ends intake.old.source.now) (S.ends intake.new.source.now)) state.old.reading.max_reads result }
+    ensures counts { RunCounts S.ends S.failures K.failures intake.old.source.now intake.new.source.now
+        outlet.old.sink.now outlet.new.sink.now result }
 {
     'turns: loop {
-        match told_turn(machine, intake, outlet, trail, state) {
+        match turn_with_reject(machine, intake, outlet, path, state) {
             Err(e) => return Err(e),
             Ok(Turn::Ended(status)) => return Ok(status),
             Ok(Turn::Went) => {}
@@ -149,7 +141,7 @@ fn next_most(most: usize, done: usize) -> usize {
 
 /// The same for a machine without REJECT, so that no turn asks whether it has any. Turns that are told at a glance are made in one
 /// go, but for those over many bytes that an earlier match has asked for.
-fn run_quiet<M: Machine, S: Source, K: Sink>(
+fn run_without_reject<M: Machine, S: Source, K: Sink>(
     machine: &M,
     intake: &mut Intake<'_, S>,
     outlet: &mut Outlet<'_, K>,
@@ -160,23 +152,18 @@ fn run_quiet<M: Machine, S: Source, K: Sink>(
     requires start { Stands (M.machine machine.now) 0 [] [] state.old }
     requires going { state.old.ended ≡ None }
     requires reading { state.old.reading.at_end ≡ false }
-    requires may_read { intake.old.live ≡ true }
-    requires may_write { outlet.old.live ≡ true }
-    requires condition { state.old.spot.condition < (M.machine machine.now).conditions }
-    requires inside { state.old.spot.at ≤ length state.old.reading.window.bytes }
-    requires stack { AllBelow (M.machine machine.now).conditions state.old.acting.stack }
+    requires ready { MayTurn (M.machine machine.now) intake.old.live outlet.old.live state.old }
+    requires inside { state.old.place.at ≤ length state.old.reading.window.bytes }
     requires marks { AreTrue (M.machine machine.now) state.old.reading memo.old }
 
     ensures same_source { intake.new.source.ghost_name ≡ intake.old.source.ghost_name }
     ensures same_sink { outlet.new.sink.ghost_name ≡ outlet.old.sink.ghost_name }
     ensures ran { (given : List ℕ) × (out : List ℕ) × S.gave intake.old.source.now given intake.new.source.now
         × K.wrote outlet.old.sink.now out outlet.new.sink.now
-        × Ran (rules_of_machine (M.machine machine.now)) given out (nat_lt (S.ends intake.old.source.now) (S.ends intake.new.source.now)) state.old.reading.max_reads result }
-    ensures ends_stay { S.ends intake.old.source.now ≤ S.ends intake.new.source.now }
-    ensures one_end { S.ends intake.new.source.now ≤ S.ends intake.old.source.now + 1 }
-    ensures read_faults { S.failures intake.new.source.now ≡ S.failures intake.old.source.now + read_fault_count result }
-    ensures write_faults { K.failures outlet.new.sink.now ≡ K.failures outlet.old.sink.now + write_fault_count result }
-    ensures not_failed { IsErrOf result RunError.Failed → ⊥ }
+        × Ran (rules_of_machine (M.machine machine.now)) given out
+        (nat_lt (S.ends intake.old.source.now) (S.ends intake.new.source.now)) state.old.reading.max_reads result }
+    ensures counts { RunCounts S.ends S.failures K.failures intake.old.source.now intake.new.source.now
+        outlet.old.sink.now outlet.new.sink.now result }
 {
     let mut most = MOST_SHOWN;
     'turns: loop {
@@ -191,7 +178,7 @@ fn run_quiet<M: Machine, S: Source, K: Sink>(
                 Err(refused) => return Err(refused),
                 Ok(done) => most = next_most(most, done),
             }
-            match quiet_turn(machine, intake, outlet, state) {
+            match turn_without_reject(machine, intake, outlet, state) {
                 Err(e) => return Err(e),
                 Ok(Turn::Ended(answer)) => return Ok(answer),
                 Ok(Turn::Went) => {}

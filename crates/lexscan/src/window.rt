@@ -1,8 +1,10 @@
 //! The bytes that a scan holds.
 ghost use Rattle.std.specs.Prelude.{◌≡◌, ℕ, ◌+◌, ◌-◌, ◌<◌, ◌≤◌, List, [], ◌∷◌, ◌++◌, length, take, drop, true, false, OnOk, OnErr, vec_len, nat_lt, slice_range, get_or, ◌^◌};
+ghost use Rattle.lexscan.specs.declared.walk.Stop.{Stop};
 ghost use Rattle.lexscan.specs.Walks.{Filled, end_of_stop, fault_of_stop, goes};
 
 use crate::intake::Intake;
+use crate::walk::{Walk, walk_into};
 use lex_io::Source;
 use lex_machine::Machine;
 use std::alloc::{AllocError, Global};
@@ -10,82 +12,6 @@ use std::marker::Model;
 
 /// How many bytes there is room for at first.
 const FIRST_ROOM: usize = 8_192;
-
-/// Why a walk over bytes of the source stopped.
-#[derive(Clone, Copy, PartialEq, Eq)]
-pub enum Stop {
-    /// The machine asks for no more.
-    Done,
-    /// There is no room for one more, or no more may be read.
-    Full,
-    /// The source answered its end.
-    End,
-    /// The source failed.
-    Fault,
-}
-
-/// A walk over bytes of the source: how many it took, the state after them, and the one before the last of them.
-#[derive(Clone, Copy)]
-pub struct Walk {
-    pub count: usize,
-    pub state: u32,
-    pub before: u32,
-    pub stop: Stop,
-}
-
-impl Walk {
-    #[inline]
-    fn new(count: usize, state: u32, before: u32, stop: Stop) -> Walk
-        ensures { result ≡ record { count = count; state = state; before = before; stop = stop } }
-    {
-        Walk {
-            count,
-            state,
-            before,
-            stop,
-        }
-    }
-}
-
-/// Takes bytes of the source to a place, as long as there is room for them and the machine asks for one more.
-#[inline(always)]
-fn walk_into<M: Machine, S: Source>(
-    place: &mut [u8],
-    machine: &M,
-    intake: &mut Intake<'_, S>,
-    first: u32,
-) -> Walk
-    requires live { intake.old.live ≡ true }
-    requires known { first < M.states machine.now }
-    ensures same { intake.new.source.ghost_name ≡ intake.old.source.ghost_name }
-    ensures filled { Filled S.gave (M.machine machine.now) intake.old.source.now intake.new.source.now [] (take result.count place.new) first (length place.old) result }
-    ensures ends { S.ends intake.new.source.now ≡ S.ends intake.old.source.now + end_of_stop result.stop }
-    ensures failures { S.failures intake.new.source.now ≡ S.failures intake.old.source.now + fault_of_stop result.stop }
-    ensures live { intake.new.live ≡ goes result.stop }
-    ensures known { result.state < M.states machine.now }
-    ensures known_before { result.before < M.states machine.now }
-    ensures some { 1 ≤ length place.old → result.stop ≡ Stop.Full → 1 ≤ result.count }
-{
-    let mut count = 0usize;
-    let mut state = first;
-    let mut before = first;
-    'bytes: while count < place.len() {
-        match intake.next() {
-            Ok(Some(byte)) => {
-                place[count] = byte;
-                count += 1;
-                before = state;
-                state = machine.step(state, byte);
-                if !machine.goes_on(state) {
-                    return Walk::new(count, state, before, Stop::Done);
-                }
-            }
-            Ok(None) => return Walk::new(count, state, before, Stop::End),
-            Err(_) => return Walk::new(count, state, before, Stop::Fault),
-        }
-    }
-    Walk::new(count, state, before, Stop::Full)
-}
 
 /// A list of bytes that is used up from the front: those of the buffer from `start` to `end`. What follows is room. Up to
 /// `shown` it may show bytes that are not held yet.
@@ -184,9 +110,11 @@ impl Window {
         requires live { intake.old.live ≡ true }
         requires known { first < M.states machine.now }
         ensures same { intake.new.source.ghost_name ≡ intake.old.source.ghost_name }
-        ensures filled { Filled S.gave (M.machine machine.now) intake.old.source.now intake.new.source.now self.old.bytes self.new.bytes first most result }
+        ensures filled { Filled S.gave (M.machine machine.now) intake.old.source.now intake.new.source.now
+            self.old.bytes self.new.bytes first most result }
         ensures ends { S.ends intake.new.source.now ≡ S.ends intake.old.source.now + end_of_stop result.stop }
-        ensures failures { S.failures intake.new.source.now ≡ S.failures intake.old.source.now + fault_of_stop result.stop }
+        ensures failures { S.failures intake.new.source.now ≡
+            S.failures intake.old.source.now + fault_of_stop result.stop }
         ensures live { intake.new.live ≡ goes result.stop }
         ensures known { result.state < M.states machine.now }
         ensures known_before { result.before < M.states machine.now }

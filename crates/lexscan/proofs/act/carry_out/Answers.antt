@@ -40,8 +40,8 @@ loop-statement-preserved g c =
     let ens = rw c.in-Ok-Next.field-0-is at c.in-Ok-Next.ensures in
     record {
       same = ens.same ∙ c.loop-statement.invariant.same;
-      failures = omega (arith, ens.failures, c.loop-statement.invariant.failures);
-      live = ens.live;
+      failures = omega (arith, ens.sink.write_faults, c.loop-statement.invariant.failures);
+      live = ens.sink.may_write;
       inside = ens.inside;
       carried = Say.carried_next g.K.Sink.wrote g.met.K.Sink.wrote_none g.met.K.Sink.wrote_more _ _ _ c.args.window.now.bytes (map statement_of c.args.statements.now) (map statement_of (drop (c.loop-statement.statement-index + 1) c.args.statements.now))
           (statement_of c.statement-item.result) c.args.acting.now c.loop-statement.acting c.carry_one.new.acting (map statement_of (drop c.loop-statement.statement-index c.args.statements.now))

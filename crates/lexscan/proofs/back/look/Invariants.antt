@@ -6,7 +6,7 @@ abbrev pub invariant-bytes : goal.invariant-bytes
 invariant-bytes g l =
     let M = g.M.Machine.machine l.machine in
     record {
-      looked : LookedAt M (g.M.Machine.states l.machine) l.fn.spot l.reading l.len l.state l.before l.settled;
+      looked : LookedAt M (g.M.Machine.states l.machine) l.fn.place l.reading l.len l.state l.before l.settled;
       goes_on : 1 ≤ l.len → M.goes_on l.state ≡ true;
     }
 

@@ -11,12 +11,12 @@ pub bytes-preserved-then-left-reading : goal.bytes-preserved-then-left-reading
 bytes-preserved-then-left-reading g c =
     let M : Machine = g.M.Machine.machine c.args.machine.now in
     let r : Reading = c.args.reading.now in
-    let at : ℕ = c.args.spot.at in
+    let at : ℕ = c.args.place.at in
     let n : ℕ = c.bytes.len in
     let h = c.requires.settled in
     let lt : at + n < length r.window.bytes = omega (arith, h.inside, c.bytes-test.true) in
-    let stepped : c.step-state.result ≡ state_at M c.args.spot r.window.bytes (n + 1) =
-    c.step-state.ensures.state ∙ ap (M.next c.bytes.state) c.byte.ensures.value ∙ ap (λ s. M.next s (get_or r.window.bytes (at + n) 0)) c.bytes.invariant.state_is ∙ state_more M c.args.spot r.window.bytes n lt in
+    let stepped : c.step-state.result ≡ state_at M c.args.place r.window.bytes (n + 1) =
+    c.step-state.ensures.state ∙ ap (M.next c.bytes.state) c.byte.ensures.value ∙ ap (λ s. M.next s (get_or r.window.bytes (at + n) 0)) c.bytes.invariant.state_is ∙ state_more M c.args.place r.window.bytes n lt in
     record {
       low = omega (arith, c.bytes.invariant.low);
       high = omega (arith, c.bytes-test.true);
@@ -31,14 +31,14 @@ pub bytes-preserved-else-left-reading : goal.bytes-preserved-else-left-reading
 bytes-preserved-else-left-reading g c =
     let M : Machine = g.M.Machine.machine c.args.machine.now in
     let r : Reading = c.args.reading.now in
-    let at : ℕ = c.args.spot.at in
+    let at : ℕ = c.args.place.at in
     let n : ℕ = c.bytes.len in
     let h = c.requires.settled in
     let lt : at + n < length r.window.bytes = omega (arith, h.inside, c.bytes-test.true) in
     record {
       low = omega (arith, c.bytes.invariant.low);
       high = omega (arith, c.bytes-test.true);
-      state_is = c.step-state.ensures.state ∙ ap (M.next c.bytes.state) c.byte.ensures.value ∙ ap (λ s. M.next s (get_or r.window.bytes (at + n) 0)) c.bytes.invariant.state_is ∙ state_more M c.args.spot r.window.bytes n lt;
+      state_is = c.step-state.ensures.state ∙ ap (M.next c.bytes.state) c.byte.ensures.value ∙ ap (λ s. M.next s (get_or r.window.bytes (at + n) 0)) c.bytes.invariant.state_is ∙ state_more M c.args.place r.window.bytes n lt;
       known = c.step-state.ensures.known;
       marks = c.bytes.invariant.marks;
     }
@@ -47,14 +47,14 @@ pub bytes-preserved : goal.bytes-preserved
 bytes-preserved g c =
     let M : Machine = g.M.Machine.machine c.args.machine.now in
     let r : Reading = c.args.reading.now in
-    let at : ℕ = c.args.spot.at in
+    let at : ℕ = c.args.place.at in
     let n : ℕ = c.bytes.len in
     let h = c.requires.settled in
     let lt : at + n < length r.window.bytes = omega (arith, h.inside, c.bytes-test.true) in
     record {
       low = omega (arith, c.bytes.invariant.low);
       high = omega (arith, c.bytes-test.true);
-      state_is = c.step-state.ensures.state ∙ ap (M.next c.bytes.state) c.byte.ensures.value ∙ ap (λ s. M.next s (get_or r.window.bytes (at + n) 0)) c.bytes.invariant.state_is ∙ state_more M c.args.spot r.window.bytes n lt;
+      state_is = c.step-state.ensures.state ∙ ap (M.next c.bytes.state) c.byte.ensures.value ∙ ap (λ s. M.next s (get_or r.window.bytes (at + n) 0)) c.bytes.invariant.state_is ∙ state_more M c.args.place r.window.bytes n lt;
       known = c.step-state.ensures.known;
       marks = c.bytes.invariant.marks;
     }

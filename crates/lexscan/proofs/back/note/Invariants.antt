@@ -9,7 +9,7 @@ invariant-bytes g l =
     record {
       low : l.fn.settled.keep ≤ l.len;
       high : l.len ≤ l.fn.settled.len;
-      state_is : l.state ≡ state_at M l.fn.spot l.reading.window.bytes l.len;
+      state_is : l.state ≡ state_at M l.fn.place l.reading.window.bytes l.len;
       known : l.state < g.M.Machine.states l.machine;
       marks : AreTrue M l.reading l.memo;
     }

@@ -7,7 +7,7 @@ use Rattle.lex_machine.specs.declared.glance.Way.{Way}
 use Rattle.lexscan.specs.declared.burst.Told.{Told}
 use Rattle.lex_machine.proofs.Growing.{is_text_from}
 use Rattle.lex_machine.specs.Glances.{Leads}
-use Rattle.lexscan.specs.Bursts.{Went, Broke, is_told}
+use Rattle.lexscan.specs.Bursts.{TurnsMade, Broke, is_told}
 use Rattle.lexscan.proofs.Bursting as Burst
 use Rattle.lexscan.proofs.burst.burst_over.Goals as goal
 
@@ -18,7 +18,7 @@ rest_is n text = take_all (length text - n) (drop n text) (omega (arith, length-
 pub turns-init : goal.turns-init
 turns-init g c = record {
   same = refl;
-  went = Burst.went_none (g.M.Machine.machine c.args.machine.now) g.K.Sink.wrote _ c.args.text.now c.args.held c.args.spot.condition c.args.spot.line_start c.requires.held (g.met.K.Sink.wrote_none _);
+  went = Burst.went_none (g.M.Machine.machine c.args.machine.now) g.K.Sink.wrote _ c.args.text.now c.args.held c.args.place.condition c.args.place.line_start c.requires.held (g.met.K.Sink.wrote_none _);
   failures = refl;
   live = c.requires.live;
   condition = c.requires.condition;
@@ -32,8 +32,8 @@ returns-in-Err-clause-bursts g c =
     let text : List ℕ = c.args.text.now in
     let M : Machine = g.M.Machine.machine c.args.machine.now in
     let put = rw (rest_is c.turns.done text) at c.in-Err.ensures.bytes in
-    subst (λ k. Broke M g.K.Sink.wrote c.args.outlet.now.sink.now c.do_gist.new.outlet.sink.now text c.args.held c.args.spot.condition c.args.spot.line_start c.turns.done k c.turns.condition c.turns.line_start) (sym c.max-asked.ensures)
-    (Burst.broke_then M (g.M.Machine.laws c.args.machine.now) text (is_text_from text (λ k. let f = c.type_inv.text k in omega (arith, f))) c.args.held c.args.spot.condition c.args.spot.line_start c.turns.done c.turns.asked c.turns.condition c.turns.line_start
+    subst (λ k. Broke M g.K.Sink.wrote c.args.outlet.now.sink.now c.do_gist.new.outlet.sink.now text c.args.held c.args.place.condition c.args.place.line_start c.turns.done k c.turns.condition c.turns.line_start) (sym c.max-asked.ensures)
+    (Burst.broke_then M (g.M.Machine.laws c.args.machine.now) text (is_text_from text (λ k. let f = c.type_inv.text k in omega (arith, f))) c.args.held c.args.place.condition c.args.place.line_start c.turns.done c.turns.asked c.turns.condition c.turns.line_start
     c.in-Some.way c.told_of-told.result c.turns.invariant.held c.turns.invariant.done c.turns.invariant.asked
     (subst (λ s. Leads M s (drop c.turns.done text) c.in-Some.way) c.start.ensures.state (subst (λ l. Leads M c.start.result l c.in-Some.way) (rest_is c.turns.done text) c.in-Some.ensures.way))
     c.told_of-told.ensures (sym c.knows.ensures ∙ c.if-not-knows.false) g.K.Sink.wrote g.met.K.Sink.wrote_none g.met.K.Sink.wrote_more _ _ _ c.turns.invariant.went put.0 put.1 put.2)
@@ -41,13 +41,13 @@ returns-in-Err-clause-bursts g c =
 pub turns-preserved : goal.turns-preserved
 turns-preserved g c = record {
   same = c.in-Ok.ensures.same ∙ c.turns.invariant.same;
-  went = subst (λ k. Went M g.K.Sink.wrote c.args.outlet.now.sink.now c.do_gist.new.outlet.sink.now text c.args.held c.args.spot.condition c.args.spot.line_start (c.turns.done + told.keep) k c.in-Ok.after line) (sym c.max-asked.ensures)
-      (subst (λ k. Went M g.K.Sink.wrote c.args.outlet.now.sink.now c.do_gist.new.outlet.sink.now text c.args.held c.args.spot.condition c.args.spot.line_start (c.turns.done + told.keep) (max c.turns.asked (c.turns.done + way.count)) k line) (sym c.in-Ok.ensures.condition)
-      (Burst.went_more M laws text bytes c.args.held c.args.spot.condition c.args.spot.line_start c.turns.done c.turns.asked c.turns.condition c.turns.line_start way told
+  went = subst (λ k. TurnsMade M g.K.Sink.wrote c.args.outlet.now.sink.now c.do_gist.new.outlet.sink.now text c.args.held c.args.place.condition c.args.place.line_start (c.turns.done + told.keep) k c.in-Ok.after line) (sym c.max-asked.ensures)
+      (subst (λ k. TurnsMade M g.K.Sink.wrote c.args.outlet.now.sink.now c.do_gist.new.outlet.sink.now text c.args.held c.args.place.condition c.args.place.line_start (c.turns.done + told.keep) (max c.turns.asked (c.turns.done + way.count)) k line) (sym c.in-Ok.ensures.condition)
+      (Burst.went_more M laws text bytes c.args.held c.args.place.condition c.args.place.line_start c.turns.done c.turns.asked c.turns.condition c.turns.line_start way told
       c.turns.invariant.held c.turns.invariant.done c.turns.invariant.asked leads c.told_of-told.ensures known g.K.Sink.wrote g.met.K.Sink.wrote_none g.met.K.Sink.wrote_more _ _ _ c.turns.invariant.went
       (rw (rest_is c.turns.done text) at c.in-Ok.ensures.bytes) line (ap (λ l. nat_eq (get_or (take told.keep l) (told.keep - 1) 0) 10) (rest_is c.turns.done text))));
-  failures = omega (arith, c.in-Ok.ensures.failures, c.turns.invariant.failures);
-  live = c.in-Ok.ensures.live;
+  failures = omega (arith, c.in-Ok.ensures.sink.write_faults, c.turns.invariant.failures);
+  live = c.in-Ok.ensures.sink.may_write;
   condition = subst (λ k. k < M.conditions) (sym c.in-Ok.ensures.condition)
       (Burst.condition_below M laws text bytes c.turns.done c.turns.asked c.turns.condition c.turns.line_start way told c.turns.invariant.done c.turns.invariant.asked leads c.told_of-told.ensures known c.turns.invariant.condition);
   done = (let k = keeps.1 in omega (arith, c.max-asked.ensures, k));

@@ -10,90 +10,90 @@ use Rattle.lexscan.proofs.Descending as Down
 use Rattle.lexscan.proofs.descent.descend.Goals as goal
 
 pub accepts-rules-requires : goal.accepts-rules-requires
-accepts-rules-requires g c = c.requires.known _ (rw c.state.ensures (Down.among_get c.args.trail.now.states (c.lengths.len - 1) (omega (arith, c.lengths-test.true, c.lengths.invariant.short))))
+accepts-rules-requires g c = c.requires.known _ (rw c.state.ensures (Down.among_get c.args.path.now.states (c.lengths.len - 1) (omega (arith, c.lengths-test.true, c.lengths.invariant.short))))
 
 pub returns-in-Err-clause-cut_off : goal.returns-in-Err-clause-cut_off
 returns-in-Err-clause-cut_off g c =
     let M : Machine = g.M.Machine.machine c.args.machine.now in
-    let trail : List ℕ = c.args.trail.now.states in
+    let path : List ℕ = c.args.path.now.states in
     let n : ℕ = c.lengths.len - 1 in
     let e : c.lengths.len ≡ n + 1 = omega (arith, c.lengths-test.true) in
-    let lt : n < length trail = omega (arith, c.lengths-test.true, c.lengths.invariant.short) in
-    let here : filter_map (match_of M c.lengths.len) c.accepts-rules.result.now ≡ Down.here M g.K.Sink.wrote g.met.K.Sink.wrote_more c.args.window.now.bytes c.args.at trail n =
+    let lt : n < length path = omega (arith, c.lengths-test.true, c.lengths.invariant.short) in
+    let here : filter_map (match_of M c.lengths.len) c.accepts-rules.result.now ≡ Down.here M g.K.Sink.wrote g.met.K.Sink.wrote_more c.args.window.now.bytes c.args.at path n =
     ap (λ k. filter_map (match_of M k) c.accepts-rules.result.now) e ∙ ap (filter_map (match_of M (n + 1))) (c.accepts-rules.ensures ∙ ap M.accepts c.state.ensures) in
-    Down.state_cut M g.K.Sink.wrote g.met.K.Sink.wrote_more c.args.window.now.bytes c.args.at trail _ _ _ n (conditions_of c.args.acting.now) (conditions_of c.lengths.acting) lt
-    (subst (λ k. Passed M g.K.Sink.wrote c.args.outlet.now.sink.now c.lengths.outlet.sink.now c.args.window.now.bytes c.args.at (falling M 0 trail) (falling M 0 (take k trail)) (conditions_of c.args.acting.now) (conditions_of c.lengths.acting)) e c.lengths.invariant.passed)
+    Down.state_cut M g.K.Sink.wrote g.met.K.Sink.wrote_more c.args.window.now.bytes c.args.at path _ _ _ n (conditions_of c.args.acting.now) (conditions_of c.lengths.acting) lt
+    (subst (λ k. Passed M g.K.Sink.wrote c.args.outlet.now.sink.now c.lengths.outlet.sink.now c.args.window.now.bytes c.args.at (falling M 0 path) (falling M 0 (take k path)) (conditions_of c.args.acting.now) (conditions_of c.lengths.acting)) e c.lengths.invariant.passed)
     (subst (λ l. CutOff M g.K.Sink.wrote c.lengths.outlet.sink.now c.try_rules.new.outlet.sink.now c.args.window.now.bytes c.args.at l (conditions_of c.lengths.acting)) here c.in-Err.ensures.cut_off)
 
 pub returns-in-Ok-Next-clause-performed : goal.returns-in-Ok-Next-clause-performed
 returns-in-Ok-Next-clause-performed g c =
     let ens = rw c.in-Ok-Next.field-0-is at c.in-Ok-Next.ensures in
     let M : Machine = g.M.Machine.machine c.args.machine.now in
-    let trail : List ℕ = c.args.trail.now.states in
+    let path : List ℕ = c.args.path.now.states in
     let n : ℕ = c.lengths.len - 1 in
     let e : c.lengths.len ≡ n + 1 = omega (arith, c.lengths-test.true) in
-    let lt : n < length trail = omega (arith, c.lengths-test.true, c.lengths.invariant.short) in
-    let here : filter_map (match_of M c.lengths.len) c.accepts-rules.result.now ≡ Down.here M g.K.Sink.wrote g.met.K.Sink.wrote_more c.args.window.now.bytes c.args.at trail n =
+    let lt : n < length path = omega (arith, c.lengths-test.true, c.lengths.invariant.short) in
+    let here : filter_map (match_of M c.lengths.len) c.accepts-rules.result.now ≡ Down.here M g.K.Sink.wrote g.met.K.Sink.wrote_more c.args.window.now.bytes c.args.at path n =
     ap (λ k. filter_map (match_of M k) c.accepts-rules.result.now) e ∙ ap (filter_map (match_of M (n + 1))) (c.accepts-rules.ensures ∙ ap M.accepts c.state.ensures) in
-    Down.state_stop M g.K.Sink.wrote g.met.K.Sink.wrote_more c.args.window.now.bytes c.args.at trail _ _ _ n (conditions_of c.args.acting.now) (conditions_of c.lengths.acting) c.try_rules.new.acting Step.Next (λ p. cc) lt
-    (subst (λ k. Passed M g.K.Sink.wrote c.args.outlet.now.sink.now c.lengths.outlet.sink.now c.args.window.now.bytes c.args.at (falling M 0 trail) (falling M 0 (take k trail)) (conditions_of c.args.acting.now) (conditions_of c.lengths.acting)) e c.lengths.invariant.passed)
+    Down.state_stop M g.K.Sink.wrote g.met.K.Sink.wrote_more c.args.window.now.bytes c.args.at path _ _ _ n (conditions_of c.args.acting.now) (conditions_of c.lengths.acting) c.try_rules.new.acting Step.Next (λ p. cc) lt
+    (subst (λ k. Passed M g.K.Sink.wrote c.args.outlet.now.sink.now c.lengths.outlet.sink.now c.args.window.now.bytes c.args.at (falling M 0 path) (falling M 0 (take k path)) (conditions_of c.args.acting.now) (conditions_of c.lengths.acting)) e c.lengths.invariant.passed)
     (subst (λ l. Tried M g.K.Sink.wrote c.lengths.outlet.sink.now c.try_rules.new.outlet.sink.now c.args.window.now.bytes c.args.at l (conditions_of c.lengths.acting) c.try_rules.new.acting Step.Next) here ens.tried)
 
 pub returns-in-Ok-Over-clause-performed : goal.returns-in-Ok-Over-clause-performed
 returns-in-Ok-Over-clause-performed g c =
     let ens = rw c.in-Ok-Over.field-0-is at c.in-Ok-Over.ensures in
     let M : Machine = g.M.Machine.machine c.args.machine.now in
-    let trail : List ℕ = c.args.trail.now.states in
+    let path : List ℕ = c.args.path.now.states in
     let n : ℕ = c.lengths.len - 1 in
     let e : c.lengths.len ≡ n + 1 = omega (arith, c.lengths-test.true) in
-    let lt : n < length trail = omega (arith, c.lengths-test.true, c.lengths.invariant.short) in
-    let here : filter_map (match_of M c.lengths.len) c.accepts-rules.result.now ≡ Down.here M g.K.Sink.wrote g.met.K.Sink.wrote_more c.args.window.now.bytes c.args.at trail n =
+    let lt : n < length path = omega (arith, c.lengths-test.true, c.lengths.invariant.short) in
+    let here : filter_map (match_of M c.lengths.len) c.accepts-rules.result.now ≡ Down.here M g.K.Sink.wrote g.met.K.Sink.wrote_more c.args.window.now.bytes c.args.at path n =
     ap (λ k. filter_map (match_of M k) c.accepts-rules.result.now) e ∙ ap (filter_map (match_of M (n + 1))) (c.accepts-rules.ensures ∙ ap M.accepts c.state.ensures) in
-    Down.state_stop M g.K.Sink.wrote g.met.K.Sink.wrote_more c.args.window.now.bytes c.args.at trail _ _ _ n (conditions_of c.args.acting.now) (conditions_of c.lengths.acting) c.try_rules.new.acting (Step.Over c.in-Ok-Over.finish) (λ p. cc) lt
-    (subst (λ k. Passed M g.K.Sink.wrote c.args.outlet.now.sink.now c.lengths.outlet.sink.now c.args.window.now.bytes c.args.at (falling M 0 trail) (falling M 0 (take k trail)) (conditions_of c.args.acting.now) (conditions_of c.lengths.acting)) e c.lengths.invariant.passed)
+    Down.state_stop M g.K.Sink.wrote g.met.K.Sink.wrote_more c.args.window.now.bytes c.args.at path _ _ _ n (conditions_of c.args.acting.now) (conditions_of c.lengths.acting) c.try_rules.new.acting (Step.Over c.in-Ok-Over.finish) (λ p. cc) lt
+    (subst (λ k. Passed M g.K.Sink.wrote c.args.outlet.now.sink.now c.lengths.outlet.sink.now c.args.window.now.bytes c.args.at (falling M 0 path) (falling M 0 (take k path)) (conditions_of c.args.acting.now) (conditions_of c.lengths.acting)) e c.lengths.invariant.passed)
     (subst (λ l. Tried M g.K.Sink.wrote c.lengths.outlet.sink.now c.try_rules.new.outlet.sink.now c.args.window.now.bytes c.args.at l (conditions_of c.lengths.acting) c.try_rules.new.acting (Step.Over c.in-Ok-Over.finish)) here ens.tried)
 
 pub lengths-preserved : goal.lengths-preserved
 lengths-preserved g c =
     let ens = rw c.in-Ok-Again.field-0-is at c.in-Ok-Again.ensures in
     let M : Machine = g.M.Machine.machine c.args.machine.now in
-    let trail : List ℕ = c.args.trail.now.states in
+    let path : List ℕ = c.args.path.now.states in
     let n : ℕ = c.lengths.len - 1 in
     let e : c.lengths.len ≡ n + 1 = omega (arith, c.lengths-test.true) in
-    let lt : n < length trail = omega (arith, c.lengths-test.true, c.lengths.invariant.short) in
-    let here : filter_map (match_of M c.lengths.len) c.accepts-rules.result.now ≡ Down.here M g.K.Sink.wrote g.met.K.Sink.wrote_more c.args.window.now.bytes c.args.at trail n =
+    let lt : n < length path = omega (arith, c.lengths-test.true, c.lengths.invariant.short) in
+    let here : filter_map (match_of M c.lengths.len) c.accepts-rules.result.now ≡ Down.here M g.K.Sink.wrote g.met.K.Sink.wrote_more c.args.window.now.bytes c.args.at path n =
     ap (λ k. filter_map (match_of M k) c.accepts-rules.result.now) e ∙ ap (filter_map (match_of M (n + 1))) (c.accepts-rules.ensures ∙ ap M.accepts c.state.ensures) in
     record {
       short = omega (arith, c.lengths.invariant.short);
       same = ens.same ∙ c.lengths.invariant.same;
-      failures = omega (arith, ens.failures, c.lengths.invariant.failures);
-      live = ens.live;
+      failures = omega (arith, ens.sink.write_faults, c.lengths.invariant.failures);
+      live = ens.sink.may_write;
       inside = ens.inside;
-      passed = Down.state_passed M g.K.Sink.wrote g.met.K.Sink.wrote_more c.args.window.now.bytes c.args.at trail _ _ _ n (conditions_of c.args.acting.now) (conditions_of c.lengths.acting) c.try_rules.new.acting lt
-          (subst (λ k. Passed M g.K.Sink.wrote c.args.outlet.now.sink.now c.lengths.outlet.sink.now c.args.window.now.bytes c.args.at (falling M 0 trail) (falling M 0 (take k trail)) (conditions_of c.args.acting.now) (conditions_of c.lengths.acting)) e c.lengths.invariant.passed)
+      passed = Down.state_passed M g.K.Sink.wrote g.met.K.Sink.wrote_more c.args.window.now.bytes c.args.at path _ _ _ n (conditions_of c.args.acting.now) (conditions_of c.lengths.acting) c.try_rules.new.acting lt
+          (subst (λ k. Passed M g.K.Sink.wrote c.args.outlet.now.sink.now c.lengths.outlet.sink.now c.args.window.now.bytes c.args.at (falling M 0 path) (falling M 0 (take k path)) (conditions_of c.args.acting.now) (conditions_of c.lengths.acting)) e c.lengths.invariant.passed)
           (subst (λ l. Tried M g.K.Sink.wrote c.lengths.outlet.sink.now c.try_rules.new.outlet.sink.now c.args.window.now.bytes c.args.at l (conditions_of c.lengths.acting) c.try_rules.new.acting Step.Again) here ens.tried);
     }
 
 pub returns-in-Err-put-clause-cut_off : goal.returns-in-Err-put-clause-cut_off
 returns-in-Err-put-clause-cut_off g c =
     let M : Machine = g.M.Machine.machine c.args.machine.now in
-    let trail : List ℕ = c.args.trail.now.states in
+    let path : List ℕ = c.args.path.now.states in
     let w : List ℕ = c.args.window.now.bytes in
     let none : c.lengths.len ≡ 0 = omega (arith, c.lengths-test.false) in
     let count : c.args.at + 1 - 0 ≡ c.args.at + 1 = omega arith in
     let text : c.slice.result.now ≡ take (c.args.at + 1) w = c.slice.ensures ∙ ap (λ k. take k w) count in
-    Down.default_cut M g.K.Sink.wrote g.met.K.Sink.wrote_more w c.args.at trail _ _ _ (conditions_of c.args.acting.now) (conditions_of c.lengths.acting) (omega (arith, c.requires.place, c.requires.some))
-    (subst (λ k. Passed M g.K.Sink.wrote c.args.outlet.now.sink.now c.lengths.outlet.sink.now w c.args.at (falling M 0 trail) (falling M 0 (take k trail)) (conditions_of c.args.acting.now) (conditions_of c.lengths.acting)) none c.lengths.invariant.passed)
+    Down.default_cut M g.K.Sink.wrote g.met.K.Sink.wrote_more w c.args.at path _ _ _ (conditions_of c.args.acting.now) (conditions_of c.lengths.acting) (omega (arith, c.requires.place, c.requires.some))
+    (subst (λ k. Passed M g.K.Sink.wrote c.args.outlet.now.sink.now c.lengths.outlet.sink.now w c.args.at (falling M 0 path) (falling M 0 (take k path)) (conditions_of c.args.acting.now) (conditions_of c.lengths.acting)) none c.lengths.invariant.passed)
     (subst (λ (l : List ℕ). (front : List ℕ) × BeginsWith l front × g.K.Sink.wrote c.lengths.outlet.sink.now front c.put.new.outlet.sink.now) text c.in-Err-put.ensures.bytes)
 
 pub returns-in-Ok-clause-performed : goal.returns-in-Ok-clause-performed
 returns-in-Ok-clause-performed g c =
     let M : Machine = g.M.Machine.machine c.args.machine.now in
-    let trail : List ℕ = c.args.trail.now.states in
+    let path : List ℕ = c.args.path.now.states in
     let w : List ℕ = c.args.window.now.bytes in
     let none : c.lengths.len ≡ 0 = omega (arith, c.lengths-test.false) in
     let count : c.args.at + 1 - 0 ≡ c.args.at + 1 = omega arith in
     let text : c.slice.result.now ≡ take (c.args.at + 1) w = c.slice.ensures ∙ ap (λ k. take k w) count in
-    Down.default_stop M g.K.Sink.wrote g.met.K.Sink.wrote_more w c.args.at trail _ _ _ (conditions_of c.args.acting.now) (conditions_of c.lengths.acting) (omega (arith, c.requires.place, c.requires.some))
-    (subst (λ k. Passed M g.K.Sink.wrote c.args.outlet.now.sink.now c.lengths.outlet.sink.now w c.args.at (falling M 0 trail) (falling M 0 (take k trail)) (conditions_of c.args.acting.now) (conditions_of c.lengths.acting)) none c.lengths.invariant.passed)
+    Down.default_stop M g.K.Sink.wrote g.met.K.Sink.wrote_more w c.args.at path _ _ _ (conditions_of c.args.acting.now) (conditions_of c.lengths.acting) (omega (arith, c.requires.place, c.requires.some))
+    (subst (λ k. Passed M g.K.Sink.wrote c.args.outlet.now.sink.now c.lengths.outlet.sink.now w c.args.at (falling M 0 path) (falling M 0 (take k path)) (conditions_of c.args.acting.now) (conditions_of c.lengths.acting)) none c.lengths.invariant.passed)
     (subst (λ l. g.K.Sink.wrote c.lengths.outlet.sink.now l c.put.new.outlet.sink.now) text c.in-Ok.ensures.bytes)

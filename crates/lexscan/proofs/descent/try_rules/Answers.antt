@@ -53,8 +53,8 @@ loop-rule-preserved g c = elim c.match-kept.branch [
       c.loop-rule.invariant.passed ens.carried in
       rw (w.outlet-is, w.acting-is) (record {
         same = ens.same ∙ c.loop-rule.invariant.same;
-        failures = omega (arith, ens.failures, c.loop-rule.invariant.failures);
-        live = ens.live;
+        failures = omega (arith, ens.sink.write_faults, c.loop-rule.invariant.failures);
+        live = ens.sink.may_write;
         inside = ens.inside;
         passed = passed;
       }))

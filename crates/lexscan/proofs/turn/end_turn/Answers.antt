@@ -8,13 +8,13 @@ use Rattle.lexscan.proofs.turn.end_turn.Goals as goal
 pub returns-in-Err-flush-clause-bytes : goal.returns-in-Err-flush-clause-bytes
 returns-in-Err-flush-clause-bytes g c =
     let M : Machine = g.M.Machine.machine c.args.machine.now in
-    let print : List ℕ = (M.ending c.args.state.now.spot.condition).print in
+    let print : List ℕ = (M.ending c.args.state.now.place.condition).print in
     let same : c.as_slice.result.now ≡ print = c.as_slice.ensures.value ∙ ap (λ (z : EndAction). z.print) c.eof-action.ensures in
     (print, prefix_same print, wrote_flushed g.K.Sink.wrote _ _ _ print g.met.K.Sink.wrote_more (subst (λ z. g.K.Sink.wrote c.args.outlet.now.sink.now z c.put.new.outlet.sink.now) same c.in-Ok.ensures.bytes) c.in-Err-flush.ensures.bytes)
 
 pub returns-in-Ok-flush-clause-bytes : goal.returns-in-Ok-flush-clause-bytes
 returns-in-Ok-flush-clause-bytes g c =
     let M : Machine = g.M.Machine.machine c.args.machine.now in
-    let print : List ℕ = (M.ending c.args.state.now.spot.condition).print in
+    let print : List ℕ = (M.ending c.args.state.now.place.condition).print in
     let same : c.as_slice.result.now ≡ print = c.as_slice.ensures.value ∙ ap (λ (z : EndAction). z.print) c.eof-action.ensures in
     wrote_flushed g.K.Sink.wrote _ _ _ print g.met.K.Sink.wrote_more (subst (λ z. g.K.Sink.wrote c.args.outlet.now.sink.now z c.put.new.outlet.sink.now) same c.in-Ok.ensures.bytes) c.in-Ok-flush.ensures.bytes

@@ -17,14 +17,14 @@ returns-in-Open-clause-marks g c =
 pub returns-in-Settled-clause-moved : goal.returns-in-Settled-clause-moved
 returns-in-Settled-clause-moved g c =
     let M : Machine = g.M.Machine.machine c.args.machine.now in
-    Look.settled_moved M (g.M.Machine.states c.args.machine.now) g.S.Source.gave g.K.Sink.wrote _ _ _ c.args.state.now c.last_turn.new.state c.in-Settled.settled c.last_turn.result (g.met.S.Source.gave_none _) c.in-Settled.ensures
-    c.last_turn.ensures.acted c.last_turn.ensures.cut_off c.last_turn.ensures.fault c.last_turn.ensures.unchanged
+    Look.settled_moved M (g.M.Machine.states c.args.machine.now) g.S.Source.gave g.K.Sink.wrote g.K.Sink.failures _ _ _ _ c.args.state.now c.last_turn.new.state c.in-Settled.settled c.last_turn.result (g.met.S.Source.gave_none _) c.in-Settled.ensures
+    c.last_turn.ensures.left
 
 pub returns-in-Settled-clause-marks : goal.returns-in-Settled-clause-marks
 returns-in-Settled-clause-marks g c =
     let M : Machine = g.M.Machine.machine c.args.machine.now in
     Look.true_moved M g.S.Source.gave g.K.Sink.wrote _ _ _ _ c.args.state.now c.last_turn.new.state c.note.new.memo c.last_turn.result
-    (Look.settled_moved M (g.M.Machine.states c.args.machine.now) g.S.Source.gave g.K.Sink.wrote c.args.intake.now.source.now c.args.outlet.now.sink.now c.last_turn.new.outlet.sink.now c.args.state.now c.last_turn.new.state c.in-Settled.settled c.last_turn.result
+    (Look.settled_moved M (g.M.Machine.states c.args.machine.now) g.S.Source.gave g.K.Sink.wrote g.K.Sink.failures c.args.intake.now.source.now c.args.outlet.now.sink.now c.last_turn.new.outlet.sink.now c.last_turn.new.outlet.live c.args.state.now c.last_turn.new.state c.in-Settled.settled c.last_turn.result
     (g.met.S.Source.gave_none _) c.in-Settled.ensures
-    c.last_turn.ensures.acted c.last_turn.ensures.cut_off c.last_turn.ensures.fault c.last_turn.ensures.unchanged)
+    c.last_turn.ensures.left)
     c.note.ensures.marks

@@ -1,5 +1,5 @@
 use Rattle.lex_semantics.specs.Machine.{Machine}
-use Rattle.lexscan.specs.Picks.{trail_of}
+use Rattle.lexscan.specs.Picks.{path_of}
 use Rattle.lexscan.proofs.Leaving.{matched_moved, finished_moved}
 use Rattle.lexscan.proofs.turn.go_past.Goals as goal
 
@@ -7,12 +7,12 @@ pub returns-in-Ok-Some-clause-moved : goal.returns-in-Ok-Some-clause-moved
 returns-in-Ok-Some-clause-moved g c =
     let ens = rw c.in-Ok-Some.field-0-is at c.in-Ok-Some.ensures in
     let M : Machine = g.M.Machine.machine c.args.machine.now in
-    matched_moved M g.S.Source.gave g.K.Sink.wrote _ _ _ _ c.args.state.now c.see_more.new.reading c.last_turn.new.state c.see_more.ensures.took (trail_of M c.args.state.now.spot c.see_more.new.reading.window.bytes c.in-Ok-Some.seen.reach) c.last_turn.result ens.saw
-    c.last_turn.ensures.acted c.last_turn.ensures.cut_off c.last_turn.ensures.fault c.last_turn.ensures.unchanged
+    matched_moved M g.S.Source.gave g.K.Sink.wrote _ _ _ _ c.args.state.now c.look_ahead_more.new.reading c.last_turn.new.state c.look_ahead_more.ensures.took g.K.Sink.failures _ (path_of M c.args.state.now.place c.look_ahead_more.new.reading.window.bytes c.in-Ok-Some.ahead.reach) c.last_turn.result ens.looked
+    c.last_turn.ensures.left
 
 pub returns-in-Ok-None-clause-moved : goal.returns-in-Ok-None-clause-moved
 returns-in-Ok-None-clause-moved g c =
     let ens = rw c.in-Ok-None.field-0-is at c.in-Ok-None.ensures in
     let M : Machine = g.M.Machine.machine c.args.machine.now in
-    finished_moved M g.S.Source.gave g.K.Sink.wrote _ _ _ _ c.args.state.now c.see_more.new.reading c.end_turn.new.state c.see_more.ensures.took c.end_turn.result
-    ens.saw c.end_turn.ensures.bytes c.end_turn.ensures.left c.end_turn.ensures.refusals c.end_turn.ensures.unchanged
+    finished_moved M g.S.Source.gave g.K.Sink.wrote _ _ _ _ c.args.state.now c.look_ahead_more.new.reading c.end_turn.new.state c.look_ahead_more.ensures.took c.end_turn.result
+    ens.looked c.end_turn.ensures.bytes c.end_turn.ensures.left c.end_turn.ensures.sink.refusals c.end_turn.ensures.unchanged

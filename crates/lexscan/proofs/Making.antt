@@ -1,0 +1,140 @@
+-- What a turn makes of a match with its action, or of the end action.
+use Rattle.std.proofs.Common.{◌≡◌, ℕ, ◌++◌, suc, Bool, true, false, List, [], ◌⊎◌, inl, inr, Some, None, Ok, Err, refl, sym, ap, subst, ◌∙◌}
+use Rattle.lex_semantics.specs.Machine.{Machine}
+use Rattle.lex_semantics.specs.MachineLaws.{MachineLaws}
+use Rattle.lex_semantics.specs.Acting.{StackFault}
+use Rattle.lexscan.specs.declared.state.State.{State}
+use Rattle.lexscan.specs.declared.turn.Turn.{Turn}
+use Rattle.lexscan.specs.declared.error.RunError.{RunError}
+use Rattle.lexscan.specs.declared.error.RunError.TheVariants.{Read, TooManyReads, Write, OutOfMemory, Stack, Failed}
+use Rattle.lexscan.specs.Descends.{conditions_at, matches_of, CutAll}
+use Rattle.lexscan.specs.Looks.{Wants}
+use Rattle.lexscan.specs.Moves.{Matched, Finished, Refused, Why, StackFaulted, Says, Moved}
+use Rattle.lexscan.specs.Stands.{Stands, MakesTurn}
+use Rattle.lexscan.specs.Turns.{MoveLeft, MayTurn}
+use Rattle.lexscan.proofs.Descending.{performed_front}
+use Rattle.lexscan.proofs.Refusing as Fall
+use Rattle.lexscan.proofs.Ranging as Range
+use Rattle.lexscan.proofs.Stepping as Go
+
+is_fault : (e : RunError) → (e ≡ Stack) ⊎ (e ≡ Stack → ⊥)
+is_fault Stack = inl refl
+is_fault Read = inr (λ p. cc)
+is_fault TooManyReads = inr (λ p. cc)
+is_fault Write = inr (λ p. cc)
+is_fault OutOfMemory = inr (λ p. cc)
+is_fault Failed = inr (λ p. cc)
+
+module _ {S K : Type 0} (M : Machine) (laws : MachineLaws M) (gave : S → List ℕ → S → Type 0) (wrote : K → List ℕ → K → Type 0) (s s' : S) (t t' : K) (source_live sink_live : Bool) (old : State) where
+  pub turn_made : (new : State) (turn : Turn) → old.failed ≡ false → old.ended ≡ None → Moved M gave wrote s s' t t' old new (Ok turn) → MoveLeft M source_live sink_live old new (Ok turn) → MakesTurn M gave wrote s s' t t' old new (Ok turn)
+  turn_made new turn works going moved left = from moved
+    where
+      failed : new.failed ≡ false
+      failed = left.failed ∙ works
+
+      working : (n : ℕ) (given out : List ℕ) → Stands M n given out (record new { failed = false }) → Stands M n given out new
+      working n given out h = subst (λ f. Stands M n given out (record new { failed = f })) (sym failed) h
+
+      from : Matched M gave wrote s s' t t' old new turn
+          ⊎ Finished M gave wrote s s' t t' old new turn →
+          MakesTurn M gave wrote s s' t t' old new (Ok turn)
+      from (inl m) =
+          let ended : new.ended ≡ m.acted.ended = Go.ended_is m.acted.ended turn new.ended m.acted.says m.acted.is_ended (λ e. left.ended (ap Ok e) ∙ going) in (
+            m.took.got,
+            m.acted.performed.out,
+            m.took.source,
+            m.acted.performed.sink,
+            λ e. (m.took.nothing e, m.acted.same.at_end ∙ m.took.end_stays e),
+            (
+              subst (Says turn) (sym ended) m.acted.says,
+              λ n given out h. working (suc n) (given ++ m.took.got) (out ++ m.acted.performed.out)
+                  (Go.matched_stands M laws gave wrote _ _ _ _ n given out old new turn going h (record { mid = m.mid; took = m.took; path = m.path; looked = m.looked; acted = m.acted }) ended),
+            ),
+          )
+      from (inr m) = (
+        m.took.got,
+        (M.ending old.place.condition).print,
+        m.took.source,
+        m.sink,
+        λ e. (m.took.nothing e, m.left.same.at_end ∙ m.took.end_stays e),
+        (
+          m.left.says,
+          λ n given out h. working (suc n) (given ++ m.took.got) (out ++ (M.ending old.place.condition).print)
+              (Go.finished_stands M laws gave wrote _ _ _ _ n given out old new turn going h (record { mid = m.mid; took = m.took; looked = m.looked; sink = m.sink; left = m.left })),
+        ),
+      )
+
+  pub turn_refused : (mid : State) (e : RunError) → old.ended ≡ None → Moved M gave wrote s s' t t' old mid (Err e) → MoveLeft M source_live sink_live old mid (Err e) → MakesTurn M gave wrote s s' t t' old (record mid { failed = true }) (Err e)
+  turn_refused mid e going moved left = by_fault (is_fault e)
+    where
+      new : State
+      new = record mid { failed = true }
+
+      m : Refused M gave wrote s s' t t' (record old { failed = true }) new e
+      m = (let k = moved in record { took = k.took; place = k.place; why = k.why; fault = k.fault })
+
+      wants : e ≡ TooManyReads → Wants M old.place new.reading
+      wants is = (left.too_many (ap Err is)).1
+
+      from : (e ≡ Stack → ⊥) → Why M wrote t t' (record old { failed = true }) new →
+          MakesTurn M gave wrote s s' t t' old new (Err e)
+      from not (inl k) = (
+        m.took.got,
+        [],
+        m.took.source,
+        k.1,
+        λ is. (m.took.nothing is, m.took.end_stays is),
+        λ n given out h. Fall.fell M laws gave wrote _ _ _ _ n given out old new e going h m refl wants []
+            (Fall.wanted_front M laws gave wrote _ _ _ _ n given out old new e going h m)
+            (Fall.unmet_within M laws gave wrote _ _ _ _ n given out old new e going h m k.0) (λ is. absurd (not is)),
+      )
+      from not (inr (inl k)) = (
+        m.took.got,
+        k.2.out,
+        m.took.source,
+        k.2.sink,
+        λ is. (m.took.nothing is, m.took.end_stays is),
+        λ n given out h. Fall.fell M laws gave wrote _ _ _ _ n given out old new e going h m refl wants k.2.out
+            (Fall.match_front M laws gave wrote _ _ _ _ n given out old new e going h m k.0 k.1 k.2)
+            (Fall.match_within M laws gave wrote _ _ _ _ n given out old new e going h m k.0 k.1) (λ is. absurd (not is)),
+      )
+      from not (inr (inr k)) = (
+        m.took.got,
+        k.1,
+        m.took.source,
+        k.3,
+        λ is. (m.took.nothing is, m.took.end_stays is),
+        λ n given out h. Fall.fell M laws gave wrote _ _ _ _ n given out old new e going h m refl wants k.1
+            (Fall.end_front M laws gave wrote _ _ _ _ n given out old new e going h m k.0 k.1 k.2)
+            (Fall.end_within M laws gave wrote _ _ _ _ n given out old new e going h m k.0) (λ is. absurd (not is)),
+      )
+
+      fault : StackFaulted M wrote t t' (record old { failed = true }) new → e ≡ Stack →
+          MakesTurn M gave wrote s s' t t' old new (Err e)
+      fault k is =
+          let cut : CutAll M wrote t t' new.reading.window.bytes old.place.at (matches_of M new.reading.window.bytes old.place.at k.0) (conditions_at old) = record {
+            out = k.2.performed.out;
+            sink = k.2.performed.sink;
+            front = performed_front M wrote _ _ new.reading.window.bytes old.place.at (matches_of M new.reading.window.bytes old.place.at k.0) (conditions_at old) k.2.acting (Some StackFault) k.2.performed;
+          } in (
+            m.took.got,
+            k.2.performed.out,
+            m.took.source,
+            k.2.performed.sink,
+            λ is. (m.took.nothing is, m.took.end_stays is),
+            λ n given out h. Fall.fell M laws gave wrote _ _ _ _ n given out old new e going h m refl wants k.2.performed.out
+                (Fall.match_front M laws gave wrote _ _ _ _ n given out old new e going h m k.0 k.1 cut)
+                (Fall.match_within M laws gave wrote _ _ _ _ n given out old new e going h m k.0 k.1)
+                (λ _. Go.faulted_ran M laws gave wrote _ _ _ _ n given out old new going h m.took k.0 k.1 k.2),
+          )
+
+      by_fault : (e ≡ Stack) ⊎ (e ≡ Stack → ⊥) →
+          MakesTurn M gave wrote s s' t t' old new (Err e)
+      by_fault (inl is) = fault (m.fault is) is
+      by_fault (inr not) = from not m.why
+
+  -- the next turn may be made
+  pub turn_next : (old_source old_sink : Bool) (new : State) (turn : Turn) → old.failed ≡ false → MayTurn M old_source old_sink old → Moved M gave wrote s s' t t' old new (Ok turn) → MoveLeft M source_live sink_live old new (Ok turn) → MayTurn M source_live sink_live new
+  turn_next old_source old_sink new turn works ready moved left =
+      let below = Range.conditions_below M laws gave wrote s s' t t' old new turn moved (ready.condition, ready.stack works) in
+      record { may_read = λ _ _ e. left.may_read e; may_write = λ _. left.may_write; condition = below.0; stack = λ _. below.1 }
