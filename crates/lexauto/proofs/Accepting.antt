@@ -8,18 +8,18 @@ use Rattle.lex_semantics.specs.Reports.{HasFit}
 use Rattle.lex_semantics.specs.Sound.{IsSound}
 use Rattle.lex_semantics.specs.Active.{active}
 use Rattle.lex_semantics.specs.Subsets.{IsLast, ReadsActive, ReadsRule, all_positions, positions_of_rule, base_of}
-use Rattle.lexauto.specs.RuleAutomaton.{rule_quad}
-use Rattle.lexauto.specs.RuleFlow.{rule_exits, rules_left}
+use Rattle.lexauto_positions.specs.RuleAutomaton.{rule_quad}
+use Rattle.lexauto_positions.specs.RuleFlow.{rule_exits, rules_left}
 use Rattle.lexauto.specs.Sets.{marked, lasts_in}
 use Rattle.lexauto.specs.Keys.{Key}
 use Rattle.lexauto.specs.WordKeys.{LastKey}
-use Rattle.lexauto.proofs.FlowMeaning.{both, back, no_true}
-use Rattle.lexauto.proofs.RuleMeaning.{rule_exits_is}
-use Rattle.lexauto.proofs.Numbers.{marked_is, lasts_tagged}
-use Rattle.lexauto.proofs.ActiveRules.{AreSound, SoundRule, rule_is, rule_finishes, occurs_range}
-use Rattle.lexauto.proofs.Bases.{base_low}
-use Rattle.lexauto.proofs.LastPositions.{accepts_is, last_to_path, occurs}
-use Rattle.lexauto.proofs.Meaning.{fit_read, read_fit, sound_rules}
+use Rattle.lexauto_positions.proofs.FlowMeaning.{both, back, no_true}
+use Rattle.lexauto_positions.proofs.RuleMeaning.{rule_exits_is}
+use Rattle.lexauto_positions.proofs.ActiveRules.{AreSound, SoundRule, rule_is, rule_finishes, occurs_range}
+use Rattle.lexauto_positions.proofs.Bases.{base_low}
+use Rattle.lexauto_positions.proofs.LastPositions.{accepts_is, last_to_path, occurs}
+use Rattle.lexauto_positions.proofs.Meaning.{fit_read, read_fit, sound_rules}
+use Rattle.lexauto.proofs.KeyLaws.{marked_is, lasts_tagged}
 
 -- the positions of rules don't overlap
 

@@ -8,15 +8,15 @@ use Rattle.lex_semantics.specs.Spec.{Spec, Rule}
 use Rattle.lex_semantics.specs.Sound.{IsSound}
 use Rattle.lex_semantics.specs.Subsets.{IsLast, ReadsActive, IsActive, ListsSet, Distinct, AreStarts, AreLasts, Subsets}
 use Rattle.lex_semantics.proofs.Fronts.{among_left, among_right}
-use Rattle.lexauto.specs.RuleAutomaton.{is_on, is_active}
+use Rattle.lexauto_positions.specs.RuleAutomaton.{is_on, is_active}
 use Rattle.lexauto.specs.Sets.{tagged}
 use Rattle.lexauto.specs.Keys.{Key, At, Apart}
 use Rattle.lexauto.specs.Explored.{run, Reached, MoreThan}
 use Rattle.lexauto.specs.WordKeys.{start_key, step_in, LastKey, IsRoot, Surveys}
-use Rattle.lexauto.proofs.FlowMeaning.{no_true}
-use Rattle.lexauto.proofs.Numbers.{listed_is, listed_ascends, same_list}
+use Rattle.lexauto_positions.proofs.FlowMeaning.{no_true}
+use Rattle.lexauto_positions.proofs.Numbers.{listed_is, listed_ascends, same_list}
 use Rattle.lexauto.proofs.WordKeys.{word_key, dead_step}
-use Rattle.lexauto.proofs.StepLemmas.{length_map}
+use Rattle.lexauto_positions.proofs.Mapped.{length_map}
 
 abbrev pub StartOf : Spec → Key → Type 0
 StartOf S k = (l : List ℕ) × (k ≡ 0 ∷ l) × (1 ≤ length l) × ((c : ℕ) × (line_start : Bool) × (c < length S.conditions) × ListsSet l (IsActive S c line_start))

@@ -5,7 +5,7 @@ use Rattle.std.specs.Cmp.Lexicographic.{bytes_decides}
 use Rattle.std.specs.Str.{bytes_eq}
 use Rattle.std.proofs.lemmas.Bool.{cases_Bool, cond-true, cond-false}
 use Rattle.lexauto.specs.Keys.{Key}
-use Rattle.lexauto.specs.Packing.{unpacked, word_count, bits_of, packed, kept_in}
+use Rattle.lexauto.specs.KeyPacking.{unpacked, word_count, bits_of, packed, kept_in}
 
 both : (a b : Bool) → a ≡ true → b ≡ true → (a && b) ≡ true
 both a b h g = rw h g

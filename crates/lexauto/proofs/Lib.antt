@@ -1,20 +1,7 @@
-pub mod Parts
-pub mod Trimmed
-pub mod Glushkov
-pub mod LastPositions
-pub mod ActiveRules
-pub mod Flows
-pub mod Meaning
-pub mod Moves
-pub mod Copies
-pub mod FlowMeaning
 pub mod Places
 pub mod Kept
 pub mod Works
-pub mod LetterTests
-pub mod Listing
-pub mod RuleMeaning
-pub mod Numbers
+pub mod KeyLaws
 pub mod StepLemmas
 pub mod WordKeys
 pub mod Accepting
@@ -22,13 +9,4 @@ pub mod Roots
 pub mod Tables
 pub mod Counting
 pub mod Surveying
-mod Quiet
-pub mod AlikeLaws
-pub mod SignLaws
-pub mod RowLaws
-pub mod CursorLaws
-pub mod LaidLaws
 pub mod Built
-pub mod Bases
-pub mod Owning
-pub mod Passing

@@ -13,11 +13,12 @@ use Rattle.lex_semantics.specs.Spec.{Spec, Rule}
 use Rattle.lex_semantics.specs.Sound.{IsSoundRule, HaveSoundSides}
 use Rattle.lex_semantics.specs.Limits.{max_conditions, max_rules}
 use Rattle.lexspec.specs.Tests.{is_sound, sound_conditions, sound_rules}
-use Rattle.lexauto.proofs.FlowMeaning.{and_is}
+use Rattle.lexauto_positions.proofs.FlowMeaning.{and_is}
 use Rattle.lexspec.proofs.TestLaws.{spec_is_sound}
 use Rattle.lexauto.specs.Keys.{Key}
+use Rattle.lexauto_positions.proofs.Mapped.{length_map}
 use Rattle.lex_semantics.specs.Text.{flag, listed}
-use Rattle.lexauto.specs.RuleFlow.{rules_enter, rules_read}
+use Rattle.lexauto_positions.specs.RuleFlow.{rules_enter, rules_read}
 use Rattle.lexauto.specs.Sets.{marked, tagged, starts_in, lasts_in}
 use Rattle.lexauto.specs.Moving.{masks_in, mask_at, followers_in, reading_in}
 
@@ -32,10 +33,6 @@ pub mask_from : (vs : List (Vec Bool Global)) (i : ℕ) (v : Vec Bool Global) �
 mask_from [] i v h e = absurd (omega arith)
 mask_from (x ∷ vs) zero v h e = ap (λ (u : Vec Bool Global). u.items) (sym e)
 mask_from (x ∷ vs) (suc i) v h e = mask_from vs i v (omega arith) e
-
-pub length_map : {A B : Type 0} (f : A → B) (xs : List A) → length (map f xs) ≡ length xs
-length_map f [] = refl
-length_map f (x ∷ xs) = ap suc (length_map f xs)
 
 -- the mask of a byte that stands in a list of them
 pub mask_tells : (vs : List (Vec Bool Global)) (rules : List Rule) → length (masks_in vs) ≡ 256
@@ -96,11 +93,6 @@ pub flag_none : (n q : ℕ) → flag (replicate n false) q ≡ false
 flag_none zero q = refl
 flag_none (suc n) zero = refl
 flag_none (suc n) (suc q) = flag_none n q
-
-pub item_at : {A B : Type 0} (f : A → B) (xs : List A) (i : ℕ) (x : A) → i < length xs → x ≡ get_or xs i x → slice_get (map f xs) i ≡ Some (f x)
-item_at f [] i x h e = absurd (omega arith)
-item_at f (y ∷ xs) zero x h e = ap (λ z. Some (f z)) (sym e)
-item_at f (y ∷ xs) (suc i) x h e = item_at f xs i x (omega arith) e
 
 -- one more fact of a list of keys
 pub told_more : {A : Type 0} (none : A) (f : Key → A) (keys : List Key) (told : List A) (n : ℕ) (k : Key) (x : A) → length told ≡ n → slice_get keys n ≡ Some k → x ≡ f k

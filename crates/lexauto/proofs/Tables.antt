@@ -17,7 +17,7 @@ use Rattle.lex_semantics.specs.Sound.{IsSound}
 use Rattle.lex_semantics.specs.Subsets.{all_positions}
 use Rattle.lex_semantics.specs.Machine.{Machine, walk, state_after}
 use Rattle.lex_semantics.specs.TableFor.{TableFor, Accepted}
-use Rattle.lexauto.specs.RuleFlow.{rules_left}
+use Rattle.lexauto_positions.specs.RuleFlow.{rules_left, chosen}
 use Rattle.lexauto.specs.Sets.{marked, lasts_in}
 use Rattle.lexauto.specs.Moving.{followers_in}
 use Rattle.lexauto.specs.Keys.{Key, At}
@@ -25,9 +25,9 @@ use Rattle.lexauto.specs.Explored.{run, Reached, key_at}
 use Rattle.lexauto.specs.WordKeys.{start_key, step_in, Surveys}
 use Rattle.lex_semantics.specs.Reading.{is_empty}
 use Rattle.lexauto_dfa.specs.Machines.{machine_with, cut_at, moving, IsReached}
-use Rattle.lexauto.specs.Facts.{accepted_by, chosen, goes_on_by, AcceptedBy, GoOnBy}
-use Rattle.lexauto.proofs.FlowMeaning.{both, back, no_true}
-use Rattle.lexauto.proofs.RuleMeaning.{rule_exits_is}
+use Rattle.lexauto.specs.Facts.{accepted_by, goes_on_by, AcceptedBy, GoOnBy}
+use Rattle.lexauto_positions.proofs.FlowMeaning.{both, back, no_true}
+use Rattle.lexauto_positions.proofs.RuleMeaning.{rule_exits_is}
 use Rattle.lexauto.proofs.Counting.{dead_run}
 use Rattle.lexauto.proofs.WordKeys.{no_marks, dead_step, dead_followers, word_key, start_live, later_live, start_lasts}
 use Rattle.lexauto.proofs.Accepting.{rules_fit, rules_left_is, left_ascend, first_is}

@@ -11,20 +11,21 @@ use Rattle.lex_semantics.specs.Spec.{Spec, Rule}
 use Rattle.lex_semantics.specs.Rules.{Live}
 use Rattle.lex_semantics.specs.Sound.{IsSound}
 use Rattle.lex_semantics.specs.Subsets.{IsLast, ReadsActive, all_positions, positions_of_rule}
-use Rattle.lexauto.specs.PositionAutomaton.{Quad}
-use Rattle.lexauto.specs.RuleAutomaton.{rule_quad, gated, active_quad, every, is_on, is_active, active_automaton, automaton}
-use Rattle.lexauto.specs.RuleFlow.{rules_enter, rules_read}
+use Rattle.lexauto_positions.specs.PositionAutomaton.{Quad}
+use Rattle.lexauto_positions.specs.RuleAutomaton.{rule_quad, gated, active_quad, every, is_on, is_active, active_automaton, automaton}
+use Rattle.lexauto_positions.specs.RuleFlow.{rules_enter, rules_read}
 use Rattle.lexauto.specs.Sets.{marked, tagged, starts_in, lasts_in}
 use Rattle.lexauto.specs.Moving.{followers_in, reading_in}
 use Rattle.lexauto.specs.Keys.{Key}
 use Rattle.lexauto.specs.Explored.{run}
 use Rattle.lexauto.specs.WordKeys.{start_key, step_in, LastKey}
-use Rattle.lexauto.proofs.FlowMeaning.{no_true}
-use Rattle.lexauto.proofs.RuleMeaning.{rules_enter_is}
-use Rattle.lexauto.proofs.LetterTests.{rules_read_is}
-use Rattle.lexauto.proofs.Numbers.{listed_is, listed_ascends, filter_is, filter_ascends, marked_is, starts_tagged, no_starts_tagged, lasts_tagged, no_lasts_tagged}
-use Rattle.lexauto.proofs.ActiveRules.{active_is, shared_letter}
-use Rattle.lexauto.proofs.Moves.{first_move, move, live_after, live_first}
+use Rattle.lexauto_positions.proofs.FlowMeaning.{no_true}
+use Rattle.lexauto_positions.proofs.RuleMeaning.{rules_enter_is}
+use Rattle.lexauto_positions.proofs.LetterTests.{rules_read_is}
+use Rattle.lexauto_positions.proofs.Numbers.{listed_is, listed_ascends, filter_is, filter_ascends}
+use Rattle.lexauto_positions.proofs.ActiveRules.{active_is, shared_letter}
+use Rattle.lexauto_positions.proofs.Moves.{first_move, move, live_after, live_first}
+use Rattle.lexauto.proofs.KeyLaws.{marked_is, starts_tagged, no_starts_tagged, lasts_tagged, no_lasts_tagged}
 
 -- where no rule is entered, no position is first
 none_first : (on : ℕ → Bool) → ((i : ℕ) → on i ≡ true → ⊥) → (i base : ℕ) (rules : List Rule) (q : ℕ) → (active_quad on i base rules).first q → ⊥

@@ -1,17 +1,12 @@
 -- What a state's key tells of it. (This project's.)
-use Rattle.std.specs.Prelude.{◌≡◌, ℕ, Bool, true, false, not, List, [], take, slice_index_or}
+use Rattle.std.specs.Prelude.{◌≡◌, ℕ, Bool, false, not, List, [], slice_index_or}
 use Rattle.lex_semantics.specs.Spec.{Spec, rejects}
 use Rattle.lex_semantics.specs.Subsets.{all_positions}
-use Rattle.lexauto.specs.RuleFlow.{rules_left}
+use Rattle.lexauto_positions.specs.RuleFlow.{rules_left, chosen}
 use Rattle.lexauto.specs.Sets.{marked, lasts_in}
 use Rattle.lexauto.specs.Moving.{followers_in}
 use Rattle.lexauto.specs.Keys.{Key, At}
 use Rattle.lex_semantics.specs.Reading.{is_empty}
-
--- all of the rules, or the first of them alone
-abbrev pub chosen : Bool → List ℕ → List ℕ
-chosen true l = l
-chosen false l = take 1 l
 
 -- the rules that a state accepts
 abbrev pub accepted_by : Spec → Key → List ℕ

@@ -5,7 +5,7 @@ use Rattle.std.specs.List.{filter}
 use Rattle.lex_semantics.specs.Spec.{Rule}
 use Rattle.lexauto.specs.Keys.{Key}
 use Rattle.lex_semantics.specs.Text.{flag, listed}
-use Rattle.lexauto.specs.RuleFlow.{rules_enter, rules_read}
+use Rattle.lexauto_positions.specs.RuleFlow.{rules_enter, rules_read}
 use Rattle.lexauto.specs.Sets.{marked, tagged, starts_in, lasts_in}
 
 -- the positions that come next after a key, of `count` positions

@@ -3,7 +3,7 @@ use Rattle.std.specs.Prelude.{◌≡◌, ℕ, ◌<◌, ◌⊎◌, Bool, true, fa
 use Rattle.lex_semantics.specs.Text.{Among, listed}
 use Rattle.lex_semantics.specs.Spec.{Spec}
 use Rattle.lex_semantics.specs.Subsets.{IsLast, ReadsActive, all_positions, ListsSet}
-use Rattle.lexauto.specs.RuleAutomaton.{is_active}
+use Rattle.lexauto_positions.specs.RuleAutomaton.{is_active}
 use Rattle.lexauto.specs.Sets.{tagged}
 use Rattle.lexauto.specs.Moving.{followers_in, reading_in}
 use Rattle.lexauto.specs.Keys.{Key, At, Finds}

@@ -3,10 +3,10 @@ ghost use Rattle.std.specs.Prelude.{◌≡◌, ℕ, ◌<◌, ◌≤◌, List, []
 ghost use Rattle.lexauto.specs.declared.explore.ExploreError.TheVariants.{Memory};
 ghost use Rattle.lexauto.specs.Explored.{GoOn, IsAutomaton, MoreThan, Reached, Tells, goes_by, step_by};
 ghost use Rattle.lexauto.specs.Keys.{At, Absent, Found, Finds, keys_in};
-ghost use Rattle.lexauto.specs.Packing.{look_kept, kept_in, unpacked};
+ghost use Rattle.lexauto.specs.KeyPacking.{look_kept, kept_in, unpacked};
 
-use crate::packing::{packed, unpacked};
-use crate::rules::Walked;
+use crate::key_packing::{pack_key, unpack_key};
+use lexauto_positions::Walked;
 use std::alloc::{AllocError, AllocFailed, Global};
 use std::collections::BTreeMap;
 
@@ -53,7 +53,7 @@ pub(crate) fn intern(
     ensures room { OnOk result (length table.old.keys.items ≤ limit → length table.new.keys.items ≤ limit) }
     ensures full { IsErrOf result ExploreError.TooMany → Absent (kept_in table.old.keys.items) key.items × (limit ≤ length table.old.keys.items) }
 {
-    let kept = packed(alloc, &key)?;
+    let kept = pack_key(alloc, &key)?;
     if let Some(place) = table.places.get(&kept) {
         return Ok(*place);
     }
@@ -156,7 +156,7 @@ impl Told {
         ensures accepts { OnOk result (keys_in self.new.accepts.items ≡ keys_in self.old.accepts.items ++ M.accept moves.now (unpacked kept.now) ∷ []) }
         ensures goes_on { OnOk result (self.new.goes_on.items ≡ self.old.goes_on.items ++ goes_by (M.follow moves.now) (unpacked kept.now) ∷ []) }
     {
-        let key = unpacked(alloc, kept)?;
+        let key = unpack_key(alloc, kept)?;
         let walked = moves.walk(alloc, &key)?;
         self.accepts.push(walked.accepted)?;
         self.goes_on.push(!walked.followers.is_empty())?;

@@ -5,9 +5,9 @@ ghost use Rattle.lexauto.specs.Moving.{followers_in};
 ghost use Rattle.lexauto.specs.Sets.{starts_in, lasts_in};
 ghost use Rattle.lexauto.specs.Facts.{accepted_by};
 
-use crate::rules::{Walked, enter_rules, pass_rules};
 use crate::sets::{in_order, lasts_in, marks_of, starts_in};
 use crate::stepping::RuleMoves;
+use lexauto_positions::{Walked, enter_rules, pass_rules};
 use std::alloc::{AllocError, Global};
 
 /// What a start state's key tells. No rule is accepted there.

@@ -3,7 +3,7 @@ ghost use Rattle.std.specs.Prelude.{◌≡◌, ◌<◌, ◌≤◌, ◌^◌, ◌�
 ghost use Rattle.std.specs.List.{filter};
 ghost use Rattle.lex_semantics.specs.Text.{flag, listed};
 ghost use Rattle.lex_semantics.specs.Active.{lists};
-ghost use Rattle.lexauto.specs.Cursors.{Increases};
+ghost use Rattle.lexauto_positions.specs.Cursors.{Increases};
 ghost use Rattle.lexauto.specs.Sets.{marked, tagged, starts_in, lasts_in};
 
 use std::alloc::{AllocError, Global};
@@ -98,7 +98,7 @@ pub(crate) fn are_marked_alike(numbers: &[u32], marks: &[bool], others: &[bool])
 }
 
 /// The numbers of the list that are marked.
-fn kept(alloc: Global, numbers: &[u32], marks: &[bool]) -> Result<Vec<u32>, AllocError>
+fn keep_marked(alloc: Global, numbers: &[u32], marks: &[bool]) -> Result<Vec<u32>, AllocError>
     ensures { IfOk result (λ v. v.items ≡ filter (flag marks.now) numbers.now) }
 {
     numbers
@@ -128,7 +128,7 @@ pub(crate) fn last_key(
 ) -> Result<Vec<u32>, AllocError>
     ensures { IfOk result (λ v. v.items ≡ tagged 1 (filter (flag marks.now) numbers.now)) }
 {
-    let numbers = kept(alloc, numbers, marks)?;
+    let numbers = keep_marked(alloc, numbers, marks)?;
     key_of(alloc, LAST, &numbers)
 }
 

@@ -5,17 +5,15 @@ ghost use Rattle.lex_semantics.specs.Subsets.{all_positions};
 ghost use Rattle.lexspec.specs.Views.{spec_of, rules_in};
 ghost use Rattle.lex_semantics.specs.Text.{flag};
 ghost use Rattle.lexauto.specs.Facts.{accepted_by};
-ghost use Rattle.lexauto.specs.Laid.{shape_of, HaveSized, HaveSized-prop};
-ghost use Rattle.lexauto.specs.Owners.{AreOwners};
-ghost use Rattle.lexauto.specs.RuleFlow.{rules_enter, rules_left, rules_read};
+ghost use Rattle.lexauto_positions.specs.Laid.{shape_of, HaveSized, HaveSized-prop};
+ghost use Rattle.lexauto_positions.specs.Owners.{AreOwners};
+ghost use Rattle.lexauto_positions.specs.RuleFlow.{rules_enter, rules_left, rules_read};
 ghost use Rattle.lexauto.specs.Moving.{AreMasks, AreTwins, masks_in, mask_at, followers_in, reading_in};
 
 use crate::explore::Moves;
 use crate::following::walk;
-use crate::owners::{Owner, owners_of};
-use crate::readers::{letters_of, mask_of};
-use crate::rules::{LaidRule, Walked, lay_rules};
 use crate::sets::{are_marked_alike, last_key};
+use lexauto_positions::{LaidRule, Owner, Walked, lay_rules, letters_of, mask_of, owners_of};
 use lexspec::Spec;
 use std::alloc::{AllocError, Global};
 

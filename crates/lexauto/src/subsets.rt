@@ -6,7 +6,7 @@ ghost use Rattle.lex_semantics.specs.TableFor.{TableFor};
 ghost use Rattle.lex_semantics.specs.MachineLaws.{MachineLaws};
 ghost use Rattle.lexspec.specs.Views.{spec_of, rules_in, conditions_in};
 ghost use Rattle.lexauto.specs.Keys.{Key, At, keys_in};
-ghost use Rattle.lexauto.specs.Packing.{kept_in};
+ghost use Rattle.lexauto.specs.KeyPacking.{kept_in};
 ghost use Rattle.lexauto.specs.Explored.{MoreThan};
 ghost use Rattle.lexauto.specs.Facts.{AcceptedBy, GoOnBy};
 ghost use Rattle.lexauto.specs.WordKeys.{Surveys};
@@ -15,9 +15,10 @@ ghost use Rattle.lexauto_dfa.specs.Automata.{machine_of, states_of, conditions_o
 
 use crate::error::BuildError;
 use crate::explore::{ExploreError, explore};
-use crate::starts::{add_starts, count_positions, dead_root};
+use crate::starts::{add_starts, dead_root};
 use crate::stepping::RuleMoves;
 use lexauto_dfa::{Dfa, Parts};
+use lexauto_positions::count_positions;
 use lexspec::Spec;
 use std::alloc::Global;
 

@@ -4,7 +4,7 @@ use Rattle.lexauto.specs.declared.explore.ExploreError.TheVariants.{TooMany}
 use Rattle.std.proofs.lemmas.Result.{err_from_is_err_and}
 use Rattle.lexauto.specs.Keys.{Key, At, Absent, Found, keys_in}
 use Rattle.lexauto.specs.declared.explore.Told.{Told}
-use Rattle.lexauto.specs.Packing.{look_kept, kept_in, unpacked}
+use Rattle.lexauto.specs.KeyPacking.{look_kept, kept_in, unpacked}
 use Rattle.lexauto.proofs.Works.{ToldAt, advance, held_on, told_first, told_further, told_longer, told_done, finished, too_many}
 use Rattle.lexauto.proofs.Kept.{kept_length, kept_at}
 use Rattle.lexauto.proofs.explore.explore.Goals.{then-byte-eq0+in_ok-followers, else-byte-eq0}

@@ -1,7 +1,7 @@
 use Rattle.std.proofs.Common.{◌-◌, ◌*◌, false, [], length}
 use Rattle.lexauto.specs.Explored.{Exploring, Held, TellsSoFar, goes_by, step_by}
 use Rattle.lexauto.specs.Keys.{keys_in}
-use Rattle.lexauto.specs.Packing.{look_kept, kept_in}
+use Rattle.lexauto.specs.KeyPacking.{look_kept, kept_in}
 use Rattle.lexauto.proofs.explore.explore.Given as goal
 
 abbrev pub invariant-work : goal.invariant-work

@@ -3,7 +3,7 @@ use Rattle.std.specs.BTreeMap.{UpdatesBy}
 use Rattle.std.specs.Cmp.Lexicographic.{slice_cmp}
 use Rattle.std.specs.Ordering.{nat_cmp}
 use Rattle.lexauto.specs.Keys.{Key, At, Finds, look}
-use Rattle.lexauto.specs.Packing.{look_kept, kept_in, packed, unpacked}
+use Rattle.lexauto.specs.KeyPacking.{look_kept, kept_in, packed, unpacked}
 use Rattle.lexauto.proofs.Places.{look_after, absent, at_end, finds_more}
 use Rattle.lexauto.proofs.Kept.{kept_of_push, kept_length, kept_same, says}
 use Rattle.lexauto.proofs.explore.intern.Goals as goal

@@ -3,17 +3,14 @@ use Rattle.std.specs.Prelude.{slice_index}
 use Rattle.lex_semantics.specs.Active.{lists}
 use Rattle.lex_semantics.specs.Subsets.{all_positions}
 use Rattle.lexspec.specs.Views.{spec_of, rules_in}
-use Rattle.lexauto.specs.Facts.{chosen}
-use Rattle.lexauto.specs.Laid.{shape_of}
-use Rattle.lexauto.specs.RuleFlow.{rules_enter, rules_left}
+use Rattle.lexauto_positions.specs.Laid.{shape_of}
+use Rattle.lexauto_positions.specs.RuleFlow.{rules_enter, rules_left, chosen}
 use Rattle.lexauto.specs.Sets.{marked, lasts_in}
-use Rattle.lexauto.specs.declared.owners.Owner.{Owner}
-use Rattle.lexauto.specs.declared.rules.LaidRule.{LaidRule}
-use Rattle.lexauto.proofs.CursorLaws.{below_marked}
-use Rattle.lexauto.proofs.LaidLaws.{left_is}
-use Rattle.lexauto.proofs.Numbers.{none_marked}
-use Rattle.lexauto.proofs.Passing.{nowhere}
+use Rattle.lexauto_positions.specs.declared.owners.Owner.{Owner}
+use Rattle.lexauto_positions.specs.declared.rules.LaidRule.{LaidRule}
+use Rattle.lexauto_positions.proofs.Passing.{nowhere}
 use Rattle.lexauto.proofs.StepLemmas.{followers_is, listed_same}
+use Rattle.lexauto.proofs.KeyLaws.{below_marked, left_is, none_marked}
 use Rattle.lexauto.proofs.following.walk_lasts.Goals as goal
 
 pub pass_rules-requires-clause-within : goal.pass_rules-requires-clause-within

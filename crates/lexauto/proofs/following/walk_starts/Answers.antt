@@ -4,14 +4,13 @@ use Rattle.lex_semantics.specs.Spec.{rejects}
 use Rattle.lex_semantics.specs.Subsets.{all_positions}
 use Rattle.lex_semantics.specs.Text.{flag}
 use Rattle.lexspec.specs.Views.{spec_of, rules_in}
-use Rattle.lexauto.specs.Facts.{chosen}
-use Rattle.lexauto.specs.Laid.{shape_of}
-use Rattle.lexauto.specs.RuleFlow.{rules_enter, rules_left}
+use Rattle.lexauto_positions.specs.Laid.{shape_of}
+use Rattle.lexauto_positions.specs.RuleFlow.{rules_enter, rules_left, chosen}
 use Rattle.lexauto.specs.Sets.{marked, starts_in, lasts_in}
-use Rattle.lexauto.specs.declared.rules.LaidRule.{LaidRule}
-use Rattle.lexauto.proofs.Numbers.{none_marked}
-use Rattle.lexauto.proofs.Passing.{nowhere, none_gone}
+use Rattle.lexauto_positions.specs.declared.rules.LaidRule.{LaidRule}
+use Rattle.lexauto_positions.proofs.Passing.{nowhere, none_gone}
 use Rattle.lexauto.proofs.StepLemmas.{followers_is, listed_same}
+use Rattle.lexauto.proofs.KeyLaws.{none_marked}
 use Rattle.lexauto.proofs.following.walk_starts.Goals as goal
 
 none_chosen : (b : Bool) → [] ≡ chosen b []

@@ -1,10 +1,11 @@
 use Rattle.std.proofs.Common.{rules, ◌≡◌, ℕ, ◌<◌, Bool, List, length, true, arith, sym, ap, subst, ◌∙◌}
 use Rattle.lex_semantics.specs.Active.{lists}
 use Rattle.lex_semantics.specs.Text.{flag, listed}
-use Rattle.lexauto.specs.Cursors.{Increases}
+use Rattle.lexauto_positions.specs.Cursors.{Increases}
 use Rattle.lexauto.specs.Sets.{marked}
-use Rattle.lexauto.proofs.CursorLaws.{increases, all_marked, listed_flags}
-use Rattle.lexauto.proofs.Numbers.{listed_ascends, marked_is}
+use Rattle.lexauto_positions.proofs.CursorLaws.{increases}
+use Rattle.lexauto_positions.proofs.Numbers.{listed_ascends}
+use Rattle.lexauto.proofs.KeyLaws.{all_marked, listed_flags, marked_is}
 use Rattle.lexauto.proofs.sets.in_order.Goals as goal
 
 pub returns-then-is_in_order-clause-same : goal.returns-then-is_in_order-clause-same

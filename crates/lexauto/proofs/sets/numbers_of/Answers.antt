@@ -1,6 +1,6 @@
 use Rattle.std.proofs.Common.{rules, ◌≡◌, ℕ, ◌<◌, length, true, false, ◌∙◌, ap, Vec, Global}
 use Rattle.lex_semantics.specs.Text.{flag}
-use Rattle.lexauto.proofs.Numbers.{number_in, number_out}
+use Rattle.lexauto_positions.proofs.Numbers.{number_in, number_out}
 use Rattle.lexauto.proofs.sets.numbers_of.Goals.{then-is_in+in_ok-push, else-is_in}
 use Rattle.lexauto.proofs.sets.numbers_of.Goals as goal
 

@@ -4,11 +4,11 @@ use Rattle.lexspec_actions.specs.Views.{condition_of}
 use Rattle.lexspec.specs.Views.{spec_of, conditions_in}
 use Rattle.lexauto.specs.declared.explore.ExploreError.TheVariants.{TooMany}
 use Rattle.lexauto.specs.Keys.{Key, At}
-use Rattle.lexauto.specs.Packing.{look_kept, kept_in}
+use Rattle.lexauto.specs.KeyPacking.{look_kept, kept_in}
 use Rattle.lexauto.specs.WordKeys.{AreStartPlaces}
-use Rattle.lexauto.proofs.StepLemmas.{length_map}
 use Rattle.lexauto.proofs.Kept.{kept_length}
 use Rattle.lexauto.proofs.Roots.{grown, more_roots, more_places, too_many_roots}
+use Rattle.lexauto_positions.proofs.Mapped.{length_map}
 use Rattle.lexauto.proofs.starts.add_starts.Goals as goal
 
 pub returns-in_err-place-clause-too_many : goal.returns-in_err-place-clause-too_many

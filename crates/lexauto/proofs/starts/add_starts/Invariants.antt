@@ -1,6 +1,6 @@
 use Rattle.std.proofs.Common.{◌≡◌, ◌≤◌, length}
 use Rattle.lexspec.specs.Views.{spec_of}
-use Rattle.lexauto.specs.Packing.{look_kept, kept_in}
+use Rattle.lexauto.specs.KeyPacking.{look_kept, kept_in}
 use Rattle.lexauto.specs.WordKeys.{AreRoots, AreStartPlaces, Grows}
 use Rattle.lexauto.proofs.starts.add_starts.Given as goal
 

@@ -4,11 +4,11 @@ use Rattle.lex_semantics.specs.Active.{serves}
 use Rattle.lexspec_actions.specs.Views.{condition_of}
 use Rattle.lexspec.specs.RuleViews.{rule_of}
 use Rattle.lexspec.specs.Views.{spec_of, conditions_in, rules_in}
-use Rattle.lexauto.specs.RuleAutomaton.{is_on, is_active}
+use Rattle.lexauto_positions.specs.RuleAutomaton.{is_on, is_active}
 use Rattle.lexauto.specs.Sets.{tagged}
 use Rattle.lex_semantics.specs.Text.{listed}
-use Rattle.lexauto.proofs.Numbers.{number_in, number_out}
-use Rattle.lexauto.proofs.StepLemmas.{item_at, length_map}
+use Rattle.lexauto_positions.proofs.Numbers.{number_in, number_out}
+use Rattle.lexauto_positions.proofs.Mapped.{item_at, length_map}
 use Rattle.lexauto.proofs.starts.start_key.Goals.{then-is_active+in_ok-push, else-is_active}
 use Rattle.lexauto.proofs.starts.start_key.Goals as goal
 

@@ -1,6 +1,6 @@
 use Rattle.std.proofs.Common.{◌≡◌, ◌++◌, ◌-◌, length}
 use Rattle.lexspec.specs.Views.{spec_of, rules_in}
-use Rattle.lexauto.specs.RuleAutomaton.{is_active}
+use Rattle.lexauto_positions.specs.RuleAutomaton.{is_active}
 use Rattle.lex_semantics.specs.Text.{listed}
 use Rattle.lexauto.proofs.starts.start_key.Given as goal
 

@@ -1,8 +1,8 @@
 use Rattle.std.proofs.Common.{◌≡◌, ℕ, ◌<◌, length}
-use Rattle.lexauto.specs.Laid.{shape_of}
+use Rattle.lexauto_positions.specs.Laid.{shape_of}
 use Rattle.std.specs.Prelude.{map}
 use Rattle.lex_semantics.specs.Text.{flag}
-use Rattle.lexauto.specs.RuleFlow.{rules_read}
+use Rattle.lexauto_positions.specs.RuleFlow.{rules_read}
 use Rattle.lexauto.specs.Moving.{masks_in, mask_at}
 use Rattle.lexauto.proofs.stepping.masks_of.Given as goal
 

@@ -15,7 +15,7 @@ use Rattle.lexauto.specs.declared.explore.ExploreError.TheVariants.{TooMany, Mem
 use Rattle.lexauto.specs.declared.error.BuildError.TheVariants.{TooManyStates}
 use Rattle.lexauto.specs.Errors.{build_error}
 use Rattle.lexauto.specs.Keys.{keys_in}
-use Rattle.lexauto.specs.Packing.{kept_in}
+use Rattle.lexauto.specs.KeyPacking.{kept_in}
 use Rattle.lexauto.specs.WordKeys.{Surveys}
 use Rattle.lexauto.specs.Facts.{AcceptedBy, GoOnBy}
 use Rattle.lexauto.proofs.Kept.{kept_length}

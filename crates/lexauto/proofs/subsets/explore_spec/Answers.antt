@@ -5,7 +5,7 @@ use Rattle.lex_semantics.specs.Reading.{is_empty}
 use Rattle.lexauto.specs.Moving.{followers_in}
 use Rattle.lexspec.proofs.TestLaws.{spec_is_sound}
 use Rattle.lexauto.specs.declared.explore.ExploreError.TheVariants.{TooMany}
-use Rattle.lexauto.specs.Packing.{look_kept, kept_in}
+use Rattle.lexauto.specs.KeyPacking.{look_kept, kept_in}
 use Rattle.lexauto.proofs.Kept.{kept_length}
 use Rattle.lexauto.proofs.Places.{keys_length}
 use Rattle.lexauto.proofs.Surveying.{more_roots_than, more_keys_than, surveyed}

@@ -2,7 +2,7 @@ use Rattle.std.proofs.Common.{rules, ◌≡◌, ◌==◌, not, Bool, [], ◌∷�
 use Rattle.lex_semantics.specs.Reading.{is_empty}
 use Rattle.lexauto.specs.Explored.{goes_by}
 use Rattle.lexauto.specs.Keys.{Key, keys_in}
-use Rattle.lexauto.specs.Packing.{unpacked}
+use Rattle.lexauto.specs.KeyPacking.{unpacked}
 use Rattle.lexauto.proofs.Places.{keys_of_push}
 use Rattle.lexauto.proofs.Works.{some_is}
 use Rattle.lexauto.proofs.explore.Told.add.Goals as goal

@@ -1,12 +1,13 @@
 use Rattle.std.proofs.Common.{◌<◌, ◌^◌, List, length, map, sym, ap, subst, ◌∙◌, arith}
 use Rattle.lex_semantics.specs.Subsets.{all_positions}
 use Rattle.lexspec.specs.Views.{spec_of}
-use Rattle.lexauto.specs.Laid.{shape_of}
-use Rattle.lexauto.specs.Owners.{AreOwners}
-use Rattle.lexauto.specs.RuleFlow.{rules_enter, rules_left, rules_read}
-use Rattle.lexauto.specs.declared.rules.LaidRule.{LaidRule}
-use Rattle.lexauto.proofs.LaidLaws.{NextAll, LeftAll, Letters}
-use Rattle.lexauto.proofs.StepLemmas.{tested_rules, few_rules, length_map}
+use Rattle.lexauto_positions.specs.Laid.{shape_of}
+use Rattle.lexauto_positions.specs.Owners.{AreOwners}
+use Rattle.lexauto_positions.specs.RuleFlow.{rules_enter, rules_left, rules_read}
+use Rattle.lexauto_positions.specs.declared.rules.LaidRule.{LaidRule}
+use Rattle.lexauto_positions.proofs.LaidLaws.{NextAll, LeftAll, Letters}
+use Rattle.lexauto.proofs.StepLemmas.{tested_rules, few_rules}
+use Rattle.lexauto_positions.proofs.Mapped.{length_map}
 use Rattle.lexauto.proofs.stepping.RuleMoves.new.Goals as goal
 
 pub lay_rules-requires-clause-sound : goal.lay_rules-requires-clause-sound

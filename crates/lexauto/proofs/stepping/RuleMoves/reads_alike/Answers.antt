@@ -2,7 +2,7 @@ use Rattle.std.proofs.Common.{◌≡◌, ◌<◌, ℕ, Bool, List, map, sym, ap,
 use Rattle.std.specs.Prelude.{slice_index}
 use Rattle.lexspec.specs.RuleViews.{rule_of}
 use Rattle.lex_semantics.specs.Text.{flag}
-use Rattle.lexauto.specs.RuleFlow.{rules_read}
+use Rattle.lexauto_positions.specs.RuleFlow.{rules_read}
 use Rattle.lexauto.proofs.StepLemmas.{mask_tells, reading_alike}
 use Rattle.lexauto.proofs.stepping.RuleMoves.reads_alike.Goals as goal
 

@@ -1,5 +1,5 @@
 use Rattle.std.proofs.Common.{◌≡◌, ◌<◌, ℕ, Bool, List, map, IfOk, ap, subst, ◌∙◌, arith}
-use Rattle.lexauto.specs.RuleFlow.{rules_read}
+use Rattle.lexauto_positions.specs.RuleFlow.{rules_read}
 use Rattle.lexspec.specs.RuleViews.{rule_of}
 use Rattle.lex_semantics.specs.Text.{flag}
 use Rattle.lexauto.proofs.StepLemmas.{reading_is, mask_tells}

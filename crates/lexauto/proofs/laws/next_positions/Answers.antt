@@ -1,5 +1,0 @@
-use Rattle.lexauto.proofs.Moves.{move}
-use Rattle.lexauto.proofs.laws.next_positions.Goals as goal
-
-pub returns : goal.returns
-returns c = λ S sound c line_start w b q some. move S sound c line_start w b q some

@@ -1,5 +1,0 @@
-use Rattle.lexauto.proofs.Glushkov.{glushkov}
-use Rattle.lexauto.proofs.laws.position_automaton.Goals as goal
-
-pub returns : goal.returns
-returns c = λ t base rs. (let d = glushkov t base in (λ h. d.sound rs h, λ h. d.complete rs h))

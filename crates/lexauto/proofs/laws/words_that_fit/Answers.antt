@@ -1,5 +1,0 @@
-use Rattle.lexauto.proofs.Meaning.{active_fit}
-use Rattle.lexauto.proofs.laws.words_that_fit.Goals as goal
-
-pub returns : goal.returns
-returns c = λ S c line_start w. active_fit S c line_start w

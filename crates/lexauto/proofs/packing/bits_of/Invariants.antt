@@ -1,6 +1,0 @@
-use Rattle.std.proofs.Common.{◌≡◌, drop, replicate}
-use Rattle.lexauto.specs.Packing.{with_bits}
-use Rattle.lexauto.proofs.packing.bits_of.Given as goal
-
-abbrev pub invariant-loop-position : goal.invariant-loop-position
-invariant-loop-position l = with_bits l.words.items (drop l.position-index l.positions) ≡ with_bits (replicate l.count 0) l.positions

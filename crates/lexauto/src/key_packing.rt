@@ -1,0 +1,101 @@
+//! Keys as they are kept: a key of many positions as bits.
+ghost use Rattle.std.specs.Prelude.{◌≡◌, ℕ, ◌<◌, ◌*◌, ◌/◌, ◌%◌, ◌^◌, ◌∷◌, length, bit_or, IfOk};
+ghost use Rattle.std.proofs.Common.{replicate};
+ghost use Rattle.lexauto.specs.Sets.{lasts_in};
+ghost use Rattle.lex_semantics.specs.Text.{listed};
+ghost use Rattle.lexauto.specs.KeyPacking.{bit_at, with_bits, bit_count, unpacked, word_count, packed};
+
+use crate::sets::{LAST, lasts_in};
+use std::alloc::{AllocError, Global};
+
+/// What stands before the bits of positions.
+const BITS: u32 = 0;
+
+/// What stands before a key that is kept as it is.
+const PLAIN: u32 = 1;
+
+/// The most words of bits that are read: those of 16,384 positions.
+const MOST_WORDS: usize = 512;
+
+/// Whether the position's bit is set.
+fn has_bit(words: &[u32], position: usize) -> bool
+    requires { position < 32 * length words.now }
+    ensures { result ≡ bit_at words.now position }
+{
+    (words[position / 32] >> (position % 32)) % 2 == 1
+}
+
+/// The key of the positions whose bits are set.
+fn key_of_bits(alloc: Global, words: &[u32]) -> Result<Vec<u32>, AllocError>
+    ensures { IfOk result (λ v. v.items ≡ 1 ∷ listed (bit_at words.now) 0 (bit_count words.now)) }
+{
+    let mut key = Vec::new(alloc);
+    key.push(LAST)?;
+    for i in 0..words.len().min(MOST_WORDS) * 32 {
+        if has_bit(words, i) {
+            key.push(i as u32)?;
+        }
+    }
+    Ok(key)
+}
+
+/// This many words, with the bits of these positions.
+fn bits_of(alloc: Global, count: usize, positions: &[u32]) -> Result<Vec<u32>, AllocError>
+    ensures { IfOk result (λ v. v.items ≡ with_bits (replicate count 0) positions.now) }
+{
+    let mut words = vec![in alloc; 0u32; count]?;
+    for position in positions {
+        let at = *position as usize / 32;
+        if at < words.len() {
+            words[at] |= 1 << (*position % 32);
+        }
+    }
+    Ok(words)
+}
+
+/// How many words the bits of a key need.
+fn word_count(key: &[u32]) -> usize
+    ensures { result ≡ word_count key.now }
+{
+    if key.is_empty() {
+        return 1;
+    }
+    key[key.len() - 1] as usize / 32 + 1
+}
+
+/// These numbers with another before them.
+fn behind(alloc: Global, first: u32, numbers: &[u32]) -> Result<Vec<u32>, AllocError>
+    ensures { IfOk result (λ v. v.items ≡ first ∷ numbers.now) }
+{
+    let mut all = Vec::new(alloc);
+    all.push(first)?;
+    all.extend_from_slice(numbers)?;
+    Ok(all)
+}
+
+/// The key that is kept so.
+pub(crate) fn unpack_key(alloc: Global, kept: &[u32]) -> Result<Vec<u32>, AllocError>
+    ensures { IfOk result (λ v. v.items ≡ unpacked kept.now) }
+{
+    match kept.split_first() {
+        Some((form, words)) if *form == BITS => key_of_bits(alloc, words),
+        Some((_, key)) => Vec::from_slice(alloc, key),
+        None => Ok(Vec::new(alloc)),
+    }
+}
+
+/// How a key is kept: as bits where they are fewer and say the same.
+pub(crate) fn pack_key(alloc: Global, key: &[u32]) -> Result<Vec<u32>, AllocError>
+    ensures { IfOk result (λ v. v.items ≡ packed key.now) }
+{
+    let count = word_count(key);
+    if count < key.len() {
+        let words = bits_of(alloc, count, lasts_in(key))?;
+        let bits = behind(alloc, BITS, &words)?;
+        let again = unpack_key(alloc, &bits)?;
+        if again.as_slice() == key {
+            return Ok(bits);
+        }
+    }
+    behind(alloc, PLAIN, key)
+}

@@ -1,0 +1,74 @@
+use Rattle.std.proofs.Common.{◌≡◌, ℕ, Bool, ◌+◌, ◌-◌, ◌<◌, ◌≤◌, ◌⊎◌, ◌||◌, ◌&&◌, false, length, sym, ap, subst, ◌∙◌}
+use Rattle.std.specs.Prelude.{slice_index}
+use Rattle.lex_semantics.specs.Active.{lists}
+use Rattle.lex_semantics.specs.Positions.{positions}
+use Rattle.lexauto_positions.specs.Flow.{is_zero, comes, exits, enters}
+use Rattle.lexauto_positions.specs.Plans.{plan_of, tree_in}
+use Rattle.lexauto_positions.proofs.Copies.{passes_step, comes_step, copy_place, or_false, and_false, or_assoc, and_assoc, left_before, left_here, not_left}
+use Rattle.lexauto_positions.proofs.CursorLaws.{quiet_left, quiet_next}
+use Rattle.lexauto_positions.proofs.walk.+enter.Goals.{enter_copies-then-out, enter_copies-else-out+then-needed-eq0, enter_copies-else-out+else-needed-eq0}
+use Rattle.lexauto_positions.proofs.walk.+enter.Goals as goal
+
+pub enter-returns-then-is_quiet-clause-left : goal.enter-returns-then-is_quiet-clause-left
+enter-returns-then-is_quiet-clause-left t c =
+    let tree = tree_in (plan_of c.args.part.now) in
+    let last = c.args.last.now in
+    let quiet = subst (λ (n : ℕ). (length last ≤ c.args.at) ⊎ (c.args.base + n ≤ slice_index last c.args.at)) c.size.ensures (c.is_quiet.ensures.yes c.if-is_quiet.true) in
+    sym (ap (exits tree (lists last) c.args.base) c.if-not-entered.true ∙ quiet_left last c.args.at c.args.base c.requires.cursor tree quiet)
+
+pub enter-returns-then-is_quiet-clause-next : goal.enter-returns-then-is_quiet-clause-next
+enter-returns-then-is_quiet-clause-next t c = λ q.
+    let tree = tree_in (plan_of c.args.part.now) in
+    let last = c.args.last.now in
+    let quiet = subst (λ (n : ℕ). (length last ≤ c.args.at) ⊎ (c.args.base + n ≤ slice_index last c.args.at)) c.size.ensures (c.is_quiet.ensures.yes c.if-is_quiet.true) in
+    let none : enters tree (lists last) q c.args.base c.args.entered ≡ false = ap (enters tree (lists last) q c.args.base) c.if-not-entered.true ∙ quiet_next last c.args.at c.args.base c.requires.cursor tree quiet q in
+    sym (ap (λ (j : Bool). lists c.args.next.now.items q || j) none ∙ or_false (lists c.args.next.now.items q))
+
+pub enter_copy-returns-then-is_quiet-clause-left : goal.enter_copy-returns-then-is_quiet-clause-left
+enter_copy-returns-then-is_quiet-clause-left t c =
+    let tree = tree_in (plan_of c.args.inner.now) in
+    let last = c.args.last.now in
+    let quiet = subst (λ (n : ℕ). (length last ≤ c.args.at) ⊎ (c.args.base + n ≤ slice_index last c.args.at)) c.size.ensures (c.is_quiet.ensures.yes c.if-is_quiet.true) in
+    sym (ap (exits tree (lists last) c.args.base) c.if-not-entered.true ∙ quiet_left last c.args.at c.args.base c.requires.cursor tree quiet)
+
+pub enter_copy-returns-then-is_quiet-clause-next : goal.enter_copy-returns-then-is_quiet-clause-next
+enter_copy-returns-then-is_quiet-clause-next t c = λ q.
+    let tree = tree_in (plan_of c.args.inner.now) in
+    let last = c.args.last.now in
+    let quiet = subst (λ (n : ℕ). (length last ≤ c.args.at) ⊎ (c.args.base + n ≤ slice_index last c.args.at)) c.size.ensures (c.is_quiet.ensures.yes c.if-is_quiet.true) in
+    let again = exits tree (lists last) c.args.base false in
+    let stays : (c.args.entered || (c.args.loops && again)) ≡ false =
+    ap (λ (j : Bool). j || (c.args.loops && again)) c.if-not-entered.true ∙ ap (λ (j : Bool). c.args.loops && j) (quiet_left last c.args.at c.args.base c.requires.cursor tree quiet) ∙ and_false c.args.loops in
+    let none : enters tree (lists last) q c.args.base (c.args.entered || (c.args.loops && again)) ≡ false = ap (enters tree (lists last) q c.args.base) stays ∙ quiet_next last c.args.at c.args.base c.requires.cursor tree quiet q in
+    sym (ap (λ (j : Bool). lists c.args.next.now.items q || j) none ∙ or_false (lists c.args.next.now.items q))
+
+pub enter_copies-loop-k-preserved : goal.enter_copies-loop-k-preserved
+enter_copies-loop-k-preserved t c =
+    let tree = tree_in (plan_of c.args.inner.now) in
+    let S = lists c.args.last.now in
+    let count = c.args.copies.count in
+    let k = c.loop-k.k in
+    let step : c.size-step.result ≡ positions tree = c.size-step.ensures in
+    let lt : k < count = c.loop-k-test.true in
+    let own : Bool = exits tree S c.loop-k.after false in
+    let out : c.if-out.out ≡ (c.loop-k.out || (is_zero c.loop-k.needed && c.loop-k.left)) = elim c.if-out.branch [
+      | enter_copies-then-out w ↦ left_before c.loop-k.out c.loop-k.left c.if-out.out c.loop-k.needed w.if-out.true (w.out-is ∙ w.if-out.true)
+      | enter_copies-else-out+then-needed-eq0 w ↦ left_here c.loop-k.out c.loop-k.left c.if-out.out c.loop-k.needed w.if-out.false w.if-needed-eq0.true w.out-is
+      | enter_copies-else-out+else-needed-eq0 w ↦ not_left c.loop-k.out c.loop-k.left c.if-out.out c.loop-k.needed w.if-out.false w.out-is w.if-needed-eq0.false
+    ] in
+    let whole : (c.loop-k.left || (c.is_loop-loops.result && own)) ≡ (c.loop-k.left || (c.args.copies.loops && (is_zero (count - (k + 1)) && own))) =
+    ap (λ (j : Bool). c.loop-k.left || j) (ap (λ (j : Bool). j && own) c.is_loop-loops.ensures ∙ and_assoc c.args.copies.loops (is_zero (count - (k + 1))) own) in
+    record {
+      place = rw step (sym (copy_place c.loop-k.after count k (positions tree) lt) ∙ c.loop-k.invariant.place);
+      cursor = rw step c.in_ok-passed.ensures.cursor;
+      front = rw step c.in_ok-passed.ensures.front;
+      flow = rw (step, c.in_ok-passed.ensures.left, c.saturating_sub-needed.ensures, out)
+          (sym (passes_step (exits tree S) c.loop-k.after (positions tree) c.loop-k.needed c.loop-k.out c.loop-k.left count k lt) ∙ c.loop-k.invariant.flow);
+      told = λ q.
+          let rest = comes (enters tree S q) (exits tree S) c.args.copies.loops (c.loop-k.after + positions tree) (positions tree) (exits tree S c.loop-k.after c.loop-k.left) (count - (k + 1)) in
+          rw (step, c.in_ok-passed.ensures.left)
+          (ap (λ (j : Bool). j || rest) (c.in_ok-passed.ensures.next q ∙ ap (λ (h : Bool). lists c.loop-k.next.items q || enters tree S q c.loop-k.after h) whole)
+          ∙ or_assoc (lists c.loop-k.next.items q) (enters tree S q c.loop-k.after (c.loop-k.left || (c.args.copies.loops && (is_zero (count - (k + 1)) && own)))) rest
+          ∙ ap (λ (j : Bool). lists c.loop-k.next.items q || j) (sym (comes_step (enters tree S q) (exits tree S) c.args.copies.loops c.loop-k.after (positions tree) c.loop-k.left count k lt))
+          ∙ c.loop-k.invariant.told q);
+    }

@@ -1,0 +1,12 @@
+pub mod PositionAutomaton
+pub mod RuleAutomaton
+pub mod Flow
+pub mod Flows
+pub mod RuleFlow
+pub mod Letters
+pub mod Plans
+pub mod Cursors
+pub mod Alike
+pub mod Signs
+pub mod Laid
+pub mod Owners
