@@ -30,8 +30,8 @@ pub fn write_backup<K: Sink>(entries: &[BackUp], sink: &mut K) -> Result<(), Wri
         }
     }
     let mut count = Buffer::new();
-    let count = count.format(entries.len()).as_bytes();
-    put_all(sink, &[b"states that back up: ", count, b"\n"])
+    let count = count.format(entries.len());
+    put_all(sink, &["states that back up: ", count, "\n"])
 }
 
 fn write_entry<K: Sink>(entry: &BackUp, sink: &mut K) -> Result<(), WriteFault>
@@ -40,8 +40,8 @@ fn write_entry<K: Sink>(entry: &BackUp, sink: &mut K) -> Result<(), WriteFault>
     ensures failures { K.failures sink.new ≡ K.failures sink.old + fault_count result }
 {
     let mut state = Buffer::new();
-    let state = state.format(entry.state).as_bytes();
-    if let Err(fault) = put_all(sink, &[b"state ", state, b" after \""]) {
+    let state = state.format(entry.state);
+    if let Err(fault) = put_all(sink, &["state ", state, " after \""]) {
         return Err(fault);
     }
     if let Err(fault) = write_word(&entry.word, sink) {

@@ -16,3 +16,4 @@ pub use backup::{BackUp, write_backup};
 pub use merging::warnings;
 pub use useless::useless_rules;
 pub use warned::{Warning, write_warnings};
+pub use writing::put_all;

@@ -36,17 +36,17 @@ fn write_warning<K: Sink>(warning: Warning, sink: &mut K) -> Result<(), WriteFau
     ensures failures { K.failures sink.new ≡ K.failures sink.old + fault_count result }
 {
     let mut line = Buffer::new();
-    let line = line.format(warning.line).as_bytes();
+    let line = line.format(warning.line);
     let words = warning_text(warning.code);
-    put_all(sink, &[b"lex: line ", line, b": warning: ", words, b"\n"])
+    put_all(sink, &["lex: line ", line, ": warning: ", words, "\n"])
 }
 
-fn warning_text(code: bool) -> &'static [u8]
+fn warning_text(code: bool) -> &'static str
     ensures { result.now ≡ warning_words code }
 {
     if code {
-        b"code skipped"
+        "code skipped"
     } else {
-        b"rule cannot be matched"
+        "rule cannot be matched"
     }
 }

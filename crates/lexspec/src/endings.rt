@@ -10,6 +10,7 @@ ghost use Rattle.lexspec.specs.RuleItems.{EndRule as EndRuleMeant};
 ghost use Rattle.lexspec.specs.Tests.{sound_list};
 ghost use Rattle.lex_semantics.specs.Limits.{max_conditions};
 
+use lex_machine::copy_end;
 use lexspec_actions::{Condition, EndAction};
 use std::alloc::{AllocError, Global};
 
@@ -58,16 +59,6 @@ pub(crate) fn may_join(ends: &[EndRule], end: &EndRule) -> bool
         }
     }
     true
-}
-
-/// A copy of an end action.
-fn copy_end(alloc: Global, end: &EndAction) -> Result<EndAction, AllocError>
-    ensures { IfOk result (λ e. end_action_of e ≡ end_action_of end.now) }
-{
-    Ok(EndAction {
-        print: Vec::from_slice(alloc, &end.print)?,
-        status: end.status,
-    })
 }
 
 /// The end action of the conditions that no rule lists: that of the rule without a list, else nothing, with status 0.

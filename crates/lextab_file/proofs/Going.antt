@@ -12,7 +12,7 @@ use Rattle.lextab_packed.specs.Views.{row_of, table_of}
 use Rattle.lextab_packed.specs.declared.parts.Row.{Row}
 use Rattle.lextab_packed.specs.declared.parts.TableParts.{TableParts}
 use Rattle.lextab_packed.proofs.Places.{step_below}
-use Rattle.lexlive.specs.Live.{after, LeadsOn, AreLive}
+use Rattle.lextab_file.specs.Live.{after, LeadsOn, AreLive}
 
 abbrev pub accepts : Row → Bool
 accepts r = nat_lt 0 (length r.rules.items)

@@ -8,3 +8,7 @@ pub mod Columns
 pub mod Written
 pub mod Texts
 pub mod Going
+pub mod Spreads
+pub mod Leading
+pub mod Chained
+pub mod Linked

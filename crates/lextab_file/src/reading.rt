@@ -17,10 +17,10 @@ mod states;
 
 use crate::error::{ReadError, TableError};
 use crate::version::version_of;
-use actions::{rejects_in, rules};
+use actions::rules;
 use conditions::conditions;
 use header::{magic, sizes, version};
-use lextab_packed::TableParts;
+use lextab_packed::{TableParts, any_reject};
 use slots::slots;
 use states::{class_map, states};
 use std::alloc::Global;
@@ -37,7 +37,7 @@ fn table(alloc: Global, bytes: &[u8]) -> Result<(TableParts, &[u8]), ReadError>
     if version_of(&rules) != version {
         return Err(ReadError::BadField(after_magic.len()));
     }
-    let rejects = rejects_in(&rules);
+    let rejects = any_reject(&rules);
     let (class_of, rest) = class_map(alloc, rest, counts.classes)?;
     let (rows, rest) = states(alloc, rest, counts, rejects)?;
     let ((checks, nexts), rest) = slots(alloc, rest, counts, &rows)?;

@@ -8,8 +8,8 @@ ghost use Rattle.lextab_file.specs.File.{file_of, IsFileOf};
 ghost use Rattle.lextab_file.specs.Refusals.{is_out_of_memory, is_trailing};
 
 use crate::error::TableError;
+use crate::live::live_states;
 use crate::reading::read_parts;
-use lexlive::live_states;
 use lextab_packed::{Row, TableParts, Tables, flat_rows};
 use std::alloc::{AllocError, Global};
 

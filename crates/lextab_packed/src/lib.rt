@@ -10,4 +10,4 @@ mod tables;
 pub use flat::Flat;
 pub use parts::{Row, TableCondition, TableParts, TableRule};
 pub use steps::flat_rows;
-pub use tables::Tables;
+pub use tables::{Tables, any_reject};

@@ -22,7 +22,7 @@ pub struct Tables {
 }
 
 /// Whether some rule has REJECT.
-fn any_reject(rules: &[TableRule]) -> bool
+pub fn any_reject(rules: &[TableRule]) -> bool
     ensures { result ≡ any_reject (map rule_of rules.now) }
 {
     for rule in rules {

@@ -2,16 +2,17 @@
 ghost use Rattle.std.specs.Prelude.{◌≡◌, ◌≤◌, ◌-◌, ◌+◌, IfOk, map, length};
 ghost use Rattle.lex_machine.specs.Literals.{literal_bytes};
 ghost use Rattle.lex_machine.specs.Views.{statement_of, cut_of};
-ghost use Rattle.lextab_packed.specs.Checks.{any_reject};
 ghost use Rattle.lextab_packed.specs.Views.{rule_of};
 ghost use Rattle.lextab_file.specs.Seen.{following, unseen, seen_after};
-ghost use Rattle.lextab_file.specs.Reading.{many, string_at, cut_at, bars, statement_at, statements_at, rule_at};
+ghost use Rattle.lextab_file.specs.Reading.{many, string_at, cut_at, bars, arguments, statement_at, statements_at, rule_at};
+ghost use Rattle.lextab_file.specs.Tags.{statement_byte};
 ghost use Rattle.lextab_file.specs.Views.{Gives, seen_of};
 ghost use Rattle.lex_semantics.specs.Limits.{max_literal_bytes};
 
 use super::fields::{byte, byte_below, long, long_below, long_within, positive, text};
 use crate::error::ReadError;
-use lex_machine::{Cut, Statement, has_reject};
+use crate::tag::{CutTag, StatementTag};
+use lex_machine::{Cut, Statement};
 use lex_semantics::{MAX_FIXED_LENGTH, MAX_LITERAL_BYTES, MAX_STATEMENTS, MAX_STATUS};
 use lextab_packed::TableRule;
 use std::alloc::Global;
@@ -30,19 +31,18 @@ pub struct Before {
 }
 
 impl Before {
-    /// Whether a statement with this tag may not stand here.
-    fn bars(self, tag: u8) -> bool
-        ensures { result ≡ bars (seen_of self) tag }
+    /// Whether a statement of this kind may not stand here.
+    fn bars(self, tag: StatementTag) -> bool
+        ensures { result ≡ bars (seen_of self) (statement_byte tag) }
     {
         match tag {
-            1 => self.printed,
-            3 => self.less,
-            4 => self.less || self.more,
-            5 => self.less || self.more || self.left > 1,
-            6 => self.left > 1,
-            7 => !self.stack,
-            8 => !self.stack,
-            _ => false,
+            StatementTag::Echo | StatementTag::Begin => false,
+            StatementTag::Print => self.printed,
+            StatementTag::More => self.less,
+            StatementTag::Less => self.less || self.more,
+            StatementTag::Reject => self.less || self.more || self.left > 1,
+            StatementTag::End => self.left > 1,
+            StatementTag::Push | StatementTag::Pop => !self.stack,
         }
     }
 
@@ -77,21 +77,21 @@ impl Before {
 fn cut(bytes: &[u8]) -> Result<(Cut, &[u8]), ReadError>
     ensures gives { Gives (λ x. (cut_of x.0, x.1.now)) result (cut_at bytes.now) }
 {
-    let (tag, rest) = byte(bytes)?;
-    match tag {
-        0 => {
+    let (code, rest) = byte(bytes)?;
+    match CutTag::of(code) {
+        Some(CutTag::Whole) => {
             let (_, rest) = long_below(rest, 1)?;
             Ok((Cut::Whole, rest))
         }
-        1 => {
+        Some(CutTag::Head) => {
             let (number, rest) = long_below(rest, MAX_FIXED_LENGTH + 1)?;
             Ok((Cut::Head(number as u16), rest))
         }
-        2 => {
+        Some(CutTag::Trail) => {
             let (number, rest) = long_below(rest, MAX_FIXED_LENGTH + 1)?;
             Ok((Cut::Trail(number as u16), rest))
         }
-        _ => Err(ReadError::BadField(bytes.len())),
+        None => Err(ReadError::BadField(bytes.len())),
     }
 }
 
@@ -117,6 +117,49 @@ fn literal(
     text(alloc, rest, count)
 }
 
+/// A statement of this kind, without its tag. A literal that is too long for its place is a fault of the tag, which has
+/// `left` bytes from its start to the end.
+fn arguments(
+    alloc: Global,
+    bytes: &[u8],
+    conditions: u32,
+    before: Before,
+    tag: StatementTag,
+    left: usize,
+) -> Result<(Statement, &[u8]), ReadError>
+    requires { before.literal ≤ max_literal_bytes }
+    ensures gives { Gives (λ x. (statement_of x.0, x.1.now)) result (arguments conditions (seen_of before) (statement_byte tag) bytes.now) }
+    ensures literal { IfOk result (λ x. before.literal + literal_bytes (statement_of x.0) ≤ max_literal_bytes) }
+{
+    match tag {
+        StatementTag::Echo => Ok((Statement::Echo, bytes)),
+        StatementTag::Print => {
+            let room = MAX_LITERAL_BYTES as u32 - before.literal;
+            let (print, rest) = literal(alloc, bytes, room, left)?;
+            Ok((Statement::Print(print), rest))
+        }
+        StatementTag::Begin => {
+            let (condition, rest) = byte_below(bytes, conditions)?;
+            Ok((Statement::Begin(condition), rest))
+        }
+        StatementTag::More => Ok((Statement::More, bytes)),
+        StatementTag::Less => {
+            let (count, rest) = positive(bytes)?;
+            Ok((Statement::Less(count), rest))
+        }
+        StatementTag::Reject => Ok((Statement::Reject, bytes)),
+        StatementTag::End => {
+            let (status, rest) = byte_below(bytes, MAX_STATUS + 1)?;
+            Ok((Statement::End(status), rest))
+        }
+        StatementTag::Push => {
+            let (condition, rest) = byte_below(bytes, conditions)?;
+            Ok((Statement::Push(condition), rest))
+        }
+        StatementTag::Pop => Ok((Statement::Pop, bytes)),
+    }
+}
+
 #[tactic(auto, unfolding(crate::specs::Reading::statement_at))]
 fn statement(
     alloc: Global,
@@ -129,40 +172,9 @@ fn statement(
     ensures literal { IfOk result (λ x. before.literal + literal_bytes (statement_of x.0) ≤ max_literal_bytes) }
 {
     let left = bytes.len();
-    let (tag, rest) = byte(bytes)?;
-    if before.bars(tag) {
-        return Err(ReadError::BadField(left));
-    }
-    match tag {
-        0 => Ok((Statement::Echo, rest)),
-        1 => {
-            let (print, rest) = literal(
-                alloc,
-                rest,
-                MAX_LITERAL_BYTES as u32 - before.literal,
-                left,
-            )?;
-            Ok((Statement::Print(print), rest))
-        }
-        2 => {
-            let (condition, rest) = byte_below(rest, conditions)?;
-            Ok((Statement::Begin(condition), rest))
-        }
-        3 => Ok((Statement::More, rest)),
-        4 => {
-            let (count, rest) = positive(rest)?;
-            Ok((Statement::Less(count), rest))
-        }
-        5 => Ok((Statement::Reject, rest)),
-        6 => {
-            let (status, rest) = byte_below(rest, MAX_STATUS + 1)?;
-            Ok((Statement::End(status), rest))
-        }
-        7 => {
-            let (condition, rest) = byte_below(rest, conditions)?;
-            Ok((Statement::Push(condition), rest))
-        }
-        8 => Ok((Statement::Pop, rest)),
+    let (code, rest) = byte(bytes)?;
+    match StatementTag::of(code) {
+        Some(tag) if !before.bars(tag) => arguments(alloc, rest, conditions, before, tag, left),
         _ => Err(ReadError::BadField(left)),
     }
 }
@@ -227,16 +239,4 @@ pub fn rules(
         rest = after;
     }
     Ok((read, rest))
-}
-
-/// Whether a rule has REJECT.
-pub fn rejects_in(rules: &[TableRule]) -> bool
-    ensures { result ≡ any_reject (map rule_of rules.now) }
-{
-    for rule in rules {
-        if has_reject(&rule.statements) {
-            return true;
-        }
-    }
-    false
 }

@@ -1,24 +1,26 @@
 //! Writes the rules: their cuts and their actions.
-ghost use Rattle.std.specs.Prelude.{◌≡◌, ◌+◌, ◌-◌, ◌^◌, ◌<◌, ◌≤◌, ◌∷◌, length, All};
+ghost use Rattle.std.specs.Prelude.{◌≡◌, ◌+◌, ◌-◌, ◌^◌, ◌<◌, ◌≤◌, ◌∷◌, [], length, All};
 ghost use Rattle.std.specs.List.{flat_map};
 ghost use Rattle.lex_io.specs.Sink.{Appended, fault_count};
 ghost use Rattle.lex_machine.specs.Views.{cut_of, statement_of};
 ghost use Rattle.lextab_packed.specs.Views.{rule_of};
 ghost use Rattle.lextab_file.specs.File.{long, cut_text, statement_text, rule_text};
 ghost use Rattle.lextab_file.specs.Fitting.{FitsStatement, FitsRule};
+ghost use Rattle.lextab_file.specs.Tags.{cut_byte, statement_byte};
 
 use super::fields::{put_long, put_short, put_string};
+use crate::tag::{CutTag, StatementTag};
 use lex_io::{Sink, WriteFault};
 use lex_machine::{Cut, Statement};
 use lextab_packed::TableRule;
 
 /// The tag of a cut and its number.
-fn put_tagged<K: Sink>(sink: &mut K, tag: u8, number: u32) -> Result<(), WriteFault>
+fn put_tagged<K: Sink>(sink: &mut K, tag: CutTag, number: u32) -> Result<(), WriteFault>
     requires few { K.failures sink.old < 2 ^ 64 - 1 }
-    ensures bytes { Appended (λ xs. K.wrote sink.old xs sink.new) (tag ∷ long number) result }
+    ensures bytes { Appended (λ xs. K.wrote sink.old xs sink.new) (cut_byte tag ∷ long number) result }
     ensures failures { K.failures sink.new ≡ K.failures sink.old + fault_count result }
 {
-    sink.put(&[tag])?;
+    sink.put(&[tag.byte()])?;
     put_long(sink, number)
 }
 
@@ -28,10 +30,28 @@ fn put_cut<K: Sink>(sink: &mut K, cut: Cut) -> Result<(), WriteFault>
     ensures failures { K.failures sink.new ≡ K.failures sink.old + fault_count result }
 {
     match cut {
-        Cut::Whole => put_tagged(sink, 0, 0),
-        Cut::Head(number) => put_tagged(sink, 1, u32::from(number)),
-        Cut::Trail(number) => put_tagged(sink, 2, u32::from(number)),
+        Cut::Whole => put_tagged(sink, CutTag::Whole, 0),
+        Cut::Head(number) => put_tagged(sink, CutTag::Head, u32::from(number)),
+        Cut::Trail(number) => put_tagged(sink, CutTag::Trail, u32::from(number)),
     }
+}
+
+/// The tag of a statement.
+fn put_tag<K: Sink>(sink: &mut K, tag: StatementTag) -> Result<(), WriteFault>
+    requires few { K.failures sink.old < 2 ^ 64 - 1 }
+    ensures bytes { Appended (λ xs. K.wrote sink.old xs sink.new) (statement_byte tag ∷ []) result }
+    ensures failures { K.failures sink.new ≡ K.failures sink.old + fault_count result }
+{
+    sink.put(&[tag.byte()])
+}
+
+/// The tag of a statement and a byte.
+fn put_tag_with<K: Sink>(sink: &mut K, tag: StatementTag, byte: u8) -> Result<(), WriteFault>
+    requires few { K.failures sink.old < 2 ^ 64 - 1 }
+    ensures bytes { Appended (λ xs. K.wrote sink.old xs sink.new) (statement_byte tag ∷ byte ∷ []) result }
+    ensures failures { K.failures sink.new ≡ K.failures sink.old + fault_count result }
+{
+    sink.put(&[tag.byte(), byte])
 }
 
 fn put_statement<K: Sink>(sink: &mut K, statement: &Statement) -> Result<(), WriteFault>
@@ -41,21 +61,21 @@ fn put_statement<K: Sink>(sink: &mut K, statement: &Statement) -> Result<(), Wri
     ensures failures { K.failures sink.new ≡ K.failures sink.old + fault_count result }
 {
     match statement {
-        Statement::Echo => sink.put(&[0]),
+        Statement::Echo => put_tag(sink, StatementTag::Echo),
         Statement::Print(bytes) => {
-            sink.put(&[1])?;
+            put_tag(sink, StatementTag::Print)?;
             put_string(sink, bytes)
         }
-        Statement::Begin(condition) => sink.put(&[2, *condition]),
-        Statement::More => sink.put(&[3]),
+        Statement::Begin(condition) => put_tag_with(sink, StatementTag::Begin, *condition),
+        Statement::More => put_tag(sink, StatementTag::More),
         Statement::Less(count) => {
-            sink.put(&[4])?;
+            put_tag(sink, StatementTag::Less)?;
             put_short(sink, *count)
         }
-        Statement::Reject => sink.put(&[5]),
-        Statement::End(status) => sink.put(&[6, *status]),
-        Statement::Push(condition) => sink.put(&[7, *condition]),
-        Statement::Pop => sink.put(&[8]),
+        Statement::Reject => put_tag(sink, StatementTag::Reject),
+        Statement::End(status) => put_tag_with(sink, StatementTag::End, *status),
+        Statement::Push(condition) => put_tag_with(sink, StatementTag::Push, *condition),
+        Statement::Pop => put_tag(sink, StatementTag::Pop),
     }
 }
 

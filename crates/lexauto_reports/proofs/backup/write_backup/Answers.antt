@@ -24,10 +24,10 @@ pub returns-clause-bytes : goal.returns-clause-bytes
 returns-clause-bytes g c =
     let so_far = c.loop-entry.invariant.0 in
     let whole = no_part backup_line _ so_far.0 c.args.entries.now c.loop-entry.entry-index (omega (arith, c.loop-entry-test.false)) so_far.2 in
-    let n : decimal (length c.args.entries.now) ≡ c.as_bytes-count.result.now = sym (c.as_bytes-count.ensures.value ∙ c.format.ensures.text) in
+    let n : decimal (length c.args.entries.now) ≡ c.format-count.result.now = sym c.format-count.ensures.text in
     let before : List ℕ → Type 0 = λ xs. g.K.Sink.wrote c.args.sink.now xs c.put_all.new.sink in
     let after : List ℕ → Type 0 = λ xs. g.K.Sink.wrote c.loop-entry.sink xs c.put_all.new.sink in
     let join : (xs : List ℕ) → after xs → before (so_far.0 ++ xs) = λ xs. g.met.K.Sink.wrote_more _ _ c.put_all.new.sink so_far.0 xs so_far.1 in
-    let e : backup_lines c.args.entries.now ≡ so_far.0 ++ (codes "states that back up: " ++ (c.as_bytes-count.result.now ++ (10 ∷ []))) =
+    let e : backup_lines c.args.entries.now ≡ so_far.0 ++ (codes "states that back up: " ++ (c.format-count.result.now ++ (10 ∷ []))) =
     ap (λ l. l ++ count_line (length c.args.entries.now)) whole ∙ ap (λ l. so_far.0 ++ (codes "states that back up: " ++ (l ++ (10 ∷ [])))) n in
     rw e (appended_after before after so_far.0 _ c.put_all.result join c.put_all.ensures.bytes)

@@ -2,7 +2,7 @@ use Rattle.std.proofs.Common.{◌≡◌, ℕ, ◌<◌, Bool, List, length, map, 
 use Rattle.std.proofs.lemmas.List.{length-map}
 use Rattle.lextab_packed.specs.Invariant.{GoesOn}
 use Rattle.lextab_packed.specs.Views.{table_of}
-use Rattle.lexlive.specs.Live.{AreLive}
+use Rattle.lextab_file.specs.Live.{AreLive}
 use Rattle.lextab_file.proofs.Going.{accepts, targets_known, goes_on}
 use Rattle.lextab_file.proofs.tables.going_on.Goals as goal
 

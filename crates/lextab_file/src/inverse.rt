@@ -1,6 +1,6 @@
-//! The entries of a table by their targets.
+//! The inverse transitions of a table: its entries by their targets.
 ghost use Rattle.std.specs.Prelude.{◌≡◌, ◌^◌, ◌*◌, ℕ, ◌<◌, length, slice_index, IfOk};
-ghost use Rattle.lexlive.specs.Sources.{AreChains};
+ghost use Rattle.lextab_file.specs.Inverse.{AreChains};
 
 use std::alloc::{AllocError, Global};
 
@@ -12,9 +12,9 @@ pub(crate) struct Chains {
     pub before: Vec<u32>,
 }
 
-/// A table with its chains.
+/// A table with its inverse transitions, as chains.
 #[derive(Drop)]
-pub(crate) struct Sources<'a> {
+pub(crate) struct InverseTransitions<'a> {
     pub next: &'a [u32],
     pub chains: Chains,
     ghost rows: { length next.now ≡ 256 * length chains.last.items },
@@ -22,12 +22,12 @@ pub(crate) struct Sources<'a> {
     ghost chained: { AreChains next.now chains.last.items chains.before.items (length next.now) },
 }
 
-/// The table with its chains.
-pub(crate) fn sources_of(
+/// The table with its inverse transitions.
+pub(crate) fn inverse_transitions(
     alloc: Global,
     next: &[u32],
     targets: usize,
-) -> Result<Sources<'_>, AllocError>
+) -> Result<InverseTransitions<'_>, AllocError>
     requires rows { length next.now ≡ 256 * targets }
     requires few { length next.now < 2 ^ 32 }
     requires known { (x : ℕ) → x < length next.now → slice_index next.now x < targets }
@@ -35,7 +35,7 @@ pub(crate) fn sources_of(
     ensures targets { IfOk result (λ s. length s.chains.last.items ≡ targets) }
 {
     let chains = chains_of(alloc, next, targets)?;
-    Ok(Sources { next, chains })
+    Ok(InverseTransitions { next, chains })
 }
 
 /// The chains of a table over this many targets.

@@ -1,13 +1,13 @@
 use Rattle.std.proofs.Common.{rules, ◌≡◌, ℕ, List, [], ◌∷◌, ◌++◌, arith, inl, inr, sym, subst}
-use Rattle.lexlive.specs.Live.{GoesTo}
-use Rattle.lexlive.specs.Sources.{Has}
-use Rattle.lexlive.specs.Spreading.{Spreads}
-use Rattle.lexlive.proofs.Spreads.{flag_inside, has_none, has_more, has_less, has_last}
-use Rattle.lexlive.proofs.Leading.{round, closed}
-use Rattle.lexlive.proofs.live.live_states.Goals as goal
+use Rattle.lextab_file.specs.Live.{GoesTo}
+use Rattle.lextab_file.specs.Inverse.{Has}
+use Rattle.lextab_file.specs.Spreading.{Spreads}
+use Rattle.lextab_file.proofs.Spreads.{flag_inside, has_none, has_more, has_less, has_last}
+use Rattle.lextab_file.proofs.Leading.{round, closed}
+use Rattle.lextab_file.proofs.live.live_states.Goals as goal
 
-pub enliven_sources-requires-clause-target : goal.enliven_sources-requires-clause-target
-enliven_sources-requires-clause-target c =
+pub mark_sources-requires-clause-target : goal.mark_sources-requires-clause-target
+mark_sources-requires-clause-target c =
     let v = c.rounds.invariant in
     let one = v.one_each in
     let there : Has c.rounds.waiting.items c.in-Some.target = subst (λ (xs : List ℕ). Has xs c.in-Some.target) (sym c.in-Some.ensures.items) (has_last c.pop.new.self.items c.in-Some.target) in
@@ -19,11 +19,11 @@ enliven_sources-requires-clause-target c =
 pub rounds-preserved : goal.rounds-preserved
 rounds-preserved c =
     let items : c.rounds.waiting.items ≡ c.pop.new.self.items ++ c.in-Some.target ∷ [] = c.in-Some.ensures.items in
-    round c.args.next.now c.args.accepting.now c.requires.rows c.rounds.live.items c.enliven_sources.new.live.items c.rounds.waiting.items c.pop.new.self.items c.enliven_sources.new.waiting.items c.in-Some.target
+    round c.args.next.now c.args.accepting.now c.requires.rows c.rounds.live.items c.mark_sources.new.live.items c.rounds.waiting.items c.pop.new.self.items c.mark_sources.new.waiting.items c.in-Some.target
     (λ x h. has_less c.pop.new.self.items c.in-Some.target x (subst (λ (xs : List ℕ). Has xs x) items h))
     (λ x h. subst (λ (xs : List ℕ). Has xs x) (sym items) (has_more c.pop.new.self.items c.in-Some.target x h))
     (subst (λ (xs : List ℕ). Has xs c.in-Some.target) (sym items) (has_last c.pop.new.self.items c.in-Some.target))
-    (subst (λ (ns : List ℕ). Spreads (GoesTo ns c.in-Some.target) c.args.accepting.now c.rounds.live.items c.pop.new.self.items c.enliven_sources.new.live.items c.enliven_sources.new.waiting.items) c.in_ok-sources.ensures.next c.in_ok-enliven_sources.ensures)
+    (subst (λ (ns : List ℕ). Spreads (GoesTo ns c.in-Some.target) c.args.accepting.now c.rounds.live.items c.pop.new.self.items c.mark_sources.new.live.items c.mark_sources.new.waiting.items) c.in_ok-sources.ensures.next c.in_ok-mark_sources.ensures)
     c.rounds.invariant
 
 pub returns : goal.returns

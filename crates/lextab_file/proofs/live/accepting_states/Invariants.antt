@@ -1,7 +1,7 @@
 use Rattle.std.proofs.Common.{◌≡◌, ℕ, ◌<◌, true}
 use Rattle.lex_semantics.specs.Text.{flag}
-use Rattle.lexlive.specs.Sources.{Has}
-use Rattle.lexlive.proofs.live.accepting_states.Given as goal
+use Rattle.lextab_file.specs.Inverse.{Has}
+use Rattle.lextab_file.proofs.live.accepting_states.Given as goal
 
 abbrev pub invariant-loop-state : goal.invariant-loop-state
 invariant-loop-state l = record {

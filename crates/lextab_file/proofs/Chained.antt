@@ -1,10 +1,10 @@
 -- A walk over the entries with one target.
 use Rattle.std.proofs.Common.{◌≡◌, ℕ, suc, ◌+◌, ◌*◌, ◌<◌, ◌≤◌, ◌⊎◌, ◌-◌, ◌/◌, ◌%◌, Bool, List, length, refl, ap, sym, subst, ◌∙◌, inl, inr, arith}
 use Rattle.std.specs.Prelude.{slice_index}
-use Rattle.lexlive.specs.Live.{go, GoesTo}
-use Rattle.lexlive.specs.Sources.{AreChains}
-use Rattle.lexlive.specs.Spreading.{Spreads}
-use Rattle.lexlive.proofs.Spreads.{spreads_none, spreads_then, spreads_as}
+use Rattle.lextab_file.specs.Live.{go, GoesTo}
+use Rattle.lextab_file.specs.Inverse.{AreChains}
+use Rattle.lextab_file.specs.Spreading.{Spreads}
+use Rattle.lextab_file.proofs.Spreads.{spreads_none, spreads_then, spreads_as}
 
 -- some entry of the state x at this place or later has the target
 abbrev pub GoesFrom : List ℕ → ℕ → ℕ → ℕ → Type 0

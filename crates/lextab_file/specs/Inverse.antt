@@ -1,4 +1,4 @@
--- The entries of a table by their targets, as chains.
+-- The inverse transitions of a table: its entries by their targets, as chains.
 use Rattle.std.specs.Prelude.{◌≡◌, ℕ, suc, ◌<◌, ◌≤◌, List, length, slice_index}
 
 -- The chains of the first i entries. `last` has for each target the last entry with it, and `before` for

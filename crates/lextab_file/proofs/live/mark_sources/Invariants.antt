@@ -1,5 +1,5 @@
-use Rattle.lexlive.proofs.Chained.{Walked}
-use Rattle.lexlive.proofs.live.enliven_sources.Given as goal
+use Rattle.lextab_file.proofs.Chained.{Walked}
+use Rattle.lextab_file.proofs.live.mark_sources.Given as goal
 
 abbrev pub invariant-chain : goal.invariant-chain
 invariant-chain l = Walked l.sources.next.now l.target l.entry l.accepting l.fn.live.items l.fn.waiting.items l.live.items l.waiting.items

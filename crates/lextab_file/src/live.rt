@@ -2,15 +2,15 @@
 ghost use Rattle.std.specs.Prelude.{◌≡◌, ℕ, ◌*◌, ◌<◌, ◌≤◌, Bool, true, length, slice_index, IfOk, OnOk};
 ghost use Rattle.lex_semantics.specs.Limits.{max_states};
 ghost use Rattle.lex_semantics.specs.Text.{flag};
-ghost use Rattle.lexlive.specs.Live.{AreLive, GoesTo};
-ghost use Rattle.lexlive.specs.Sources.{Has};
-ghost use Rattle.lexlive.specs.Spreading.{Spreads};
+ghost use Rattle.lextab_file.specs.Live.{AreLive, GoesTo};
+ghost use Rattle.lextab_file.specs.Inverse.{Has};
+ghost use Rattle.lextab_file.specs.Spreading.{Spreads};
 
-use crate::sources::{Sources, sources_of};
+use crate::inverse::{InverseTransitions, inverse_transitions};
 use std::alloc::{AllocError, Global};
 
 /// Makes a state live. It waits, if it was not live and does not accept.
-fn enliven(
+fn mark_live(
     accepting: &[bool],
     live: &mut Vec<bool>,
     waiting: &mut Vec<u32>,
@@ -31,8 +31,8 @@ fn enliven(
 }
 
 /// Makes the states live that go to a target.
-fn enliven_sources(
-    sources: &Sources<'_>,
+fn mark_sources(
+    sources: &InverseTransitions<'_>,
     accepting: &[bool],
     live: &mut Vec<bool>,
     waiting: &mut Vec<u32>,
@@ -45,7 +45,7 @@ fn enliven_sources(
 {
     let mut entry = sources.chains.last[target as usize];
     'chain: while entry > 0 {
-        enliven(accepting, live, waiting, (entry - 1) / 256)?;
+        mark_live(accepting, live, waiting, (entry - 1) / 256)?;
         entry = sources.chains.before[(entry - 1) as usize];
     }
     Ok(())
@@ -74,11 +74,11 @@ pub fn live_states(alloc: Global, next: &[u32], accepting: &[bool]) -> Result<Ve
     requires known { (i : ℕ) → i < length next.now → slice_index next.now i < length accepting.now }
     ensures { IfOk result (λ live. AreLive next.now accepting.now live.items) }
 {
-    let sources = sources_of(alloc, next, accepting.len())?;
+    let sources = inverse_transitions(alloc, next, accepting.len())?;
     let mut waiting = accepting_states(alloc, accepting)?;
     let mut live = vec![in alloc; false; accepting.len()]?;
     'rounds: while let Some(target) = waiting.pop() {
-        enliven_sources(&sources, accepting, &mut live, &mut waiting, target)?;
+        mark_sources(&sources, accepting, &mut live, &mut waiting, target)?;
     }
     Ok(live)
 }

@@ -4,9 +4,9 @@ use Rattle.std.specs.Prelude.{slice_index}
 use Rattle.std.proofs.Props.{props}
 use mathlib.Core.Logic.{∥∥₁_elim}
 use Rattle.lex_semantics.specs.Text.{IsText, flag}
-use Rattle.lexlive.specs.Live.{go, after, GoesTo, LeadsOn, AreLive}
-use Rattle.lexlive.specs.Sources.{Has}
-use Rattle.lexlive.specs.Spreading.{Spreads}
+use Rattle.lextab_file.specs.Live.{go, after, GoesTo, LeadsOn, AreLive}
+use Rattle.lextab_file.specs.Inverse.{Has}
+use Rattle.lextab_file.specs.Spreading.{Spreads}
 
 -- So far just live states are live; each of those that wait accepts or is live; and each state that goes to one that
 -- accepts or is live is live itself, unless that one waits.

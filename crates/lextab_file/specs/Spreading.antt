@@ -1,7 +1,7 @@
 -- How liveness spreads from states to those that go to them.
 use Rattle.std.specs.Prelude.{◌≡◌, ◌⊎◌, ℕ, suc, ◌+◌, ◌≤◌, Bool, true, false, List, [], ◌∷◌, length}
 use Rattle.lex_semantics.specs.Text.{flag}
-use Rattle.lexlive.specs.Sources.{Has}
+use Rattle.lextab_file.specs.Inverse.{Has}
 
 -- how many flags are not set
 abbrev pub unset : List Bool → ℕ

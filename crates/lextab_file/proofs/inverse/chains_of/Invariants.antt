@@ -1,6 +1,6 @@
 use Rattle.std.proofs.Common.{◌≡◌, length}
-use Rattle.lexlive.specs.Sources.{AreChains}
-use Rattle.lexlive.proofs.sources.chains_of.Given as goal
+use Rattle.lextab_file.specs.Inverse.{AreChains}
+use Rattle.lextab_file.proofs.inverse.chains_of.Given as goal
 
 abbrev pub invariant-loop-x : goal.invariant-loop-x
 invariant-loop-x l = record {

@@ -1,7 +1,7 @@
 use Rattle.std.proofs.Common.{◌≡◌, ℕ, Bool, false, true, List, sym, subst, slice_index_or, slice_set}
-use Rattle.lexlive.specs.Spreading.{Spreads}
-use Rattle.lexlive.proofs.Spreads.{waits_now, has_waited}
-use Rattle.lexlive.proofs.live.enliven.Goals as goal
+use Rattle.lextab_file.specs.Spreading.{Spreads}
+use Rattle.lextab_file.proofs.Spreads.{waits_now, has_waited}
+use Rattle.lextab_file.proofs.live.mark_live.Goals as goal
 
 pub returns-in_ok-push : goal.returns-in_ok-push
 returns-in_ok-push c =

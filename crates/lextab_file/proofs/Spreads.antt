@@ -3,8 +3,8 @@ use Rattle.std.proofs.Common.{◌≡◌, ◌≢◌, ℕ, zero, suc, ◌+◌, ◌
 use Rattle.std.proofs.lemmas.List.{get_or_append_left, get_or-append-add}
 use Rattle.std.specs.Prelude.{slice_index}
 use Rattle.lex_semantics.specs.Text.{flag}
-use Rattle.lexlive.specs.Sources.{Has}
-use Rattle.lexlive.specs.Spreading.{unset, Spreads}
+use Rattle.lextab_file.specs.Inverse.{Has}
+use Rattle.lextab_file.specs.Spreading.{unset, Spreads}
 
 pub same_or_not : (x y : ℕ) → (x ≡ y) ⊎ (x ≢ y)
 same_or_not x y = grind arith

@@ -1,8 +1,8 @@
 use Rattle.std.proofs.Common.{rules, ◌≡◌, ℕ, ◌+◌, ◌<◌, ◌++◌, ◌∷◌, [], List, length, length-set, slice_index, slice_set, arith, refl, sym, subst, ap, ◌∙◌}
 use Rattle.std.proofs.lemmas.List.{get_or_read}
-use Rattle.lexlive.specs.Sources.{AreChains}
-use Rattle.lexlive.proofs.Linked.{one_more_chained}
-use Rattle.lexlive.proofs.sources.chains_of.Goals as goal
+use Rattle.lextab_file.specs.Inverse.{AreChains}
+use Rattle.lextab_file.proofs.Linked.{one_more_chained}
+use Rattle.lextab_file.proofs.inverse.chains_of.Goals as goal
 
 pub loop-x-preserved : goal.loop-x-preserved
 loop-x-preserved c =

@@ -1,7 +1,7 @@
 use Rattle.std.proofs.Common.{◌+◌, length}
-use Rattle.lexlive.specs.Spreading.{unset}
-use Rattle.lexlive.proofs.Leading.{Closing}
-use Rattle.lexlive.proofs.live.live_states.Given as goal
+use Rattle.lextab_file.specs.Spreading.{unset}
+use Rattle.lextab_file.proofs.Leading.{Closing}
+use Rattle.lextab_file.proofs.live.live_states.Given as goal
 
 abbrev pub invariant-rounds : goal.invariant-rounds
 invariant-rounds l = Closing l.next l.accepting l.live.items l.waiting.items

@@ -2,8 +2,8 @@
 use Rattle.std.proofs.Common.{◌≡◌, ◌≢◌, ℕ, suc, ◌+◌, ◌<◌, List, [], ◌∷◌, ◌++◌, length, set, ap, sym, ◌∙◌, inl, inr, arith, get_or-set_other, get_or-set_same, length-set, length-append}
 use Rattle.std.proofs.lemmas.List.{get_or_append_left, get_or_push}
 use Rattle.std.specs.Prelude.{slice_index}
-use Rattle.lexlive.specs.Sources.{AreChains}
-use Rattle.lexlive.proofs.Spreads.{same_or_not}
+use Rattle.lextab_file.specs.Inverse.{AreChains}
+use Rattle.lextab_file.proofs.Spreads.{same_or_not}
 
 -- the entry i is put before the chain of its target y
 module _ (next last before : List ℕ) (i y : ℕ) (c : AreChains next last before i) (low : y < length last) (is : slice_index next i ≡ y) where

@@ -1,4 +1,0 @@
-pub mod Spreads
-pub mod Leading
-pub mod Chained
-pub mod Linked
