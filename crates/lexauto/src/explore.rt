@@ -51,7 +51,8 @@ pub(crate) fn intern(
     ensures place { IfOk result (λ i. At (kept_in table.new.keys.items) i key.items) }
     ensures found { OnOk result (Found (kept_in table.old.keys.items) key.items (kept_in table.new.keys.items)) }
     ensures room { OnOk result (length table.old.keys.items ≤ limit → length table.new.keys.items ≤ limit) }
-    ensures full { IsErrOf result ExploreError.TooMany → Absent (kept_in table.old.keys.items) key.items × (limit ≤ length table.old.keys.items) }
+    ensures full { IsErrOf result ExploreError.TooMany → Absent (kept_in table.old.keys.items) key.items
+        × (limit ≤ length table.old.keys.items) }
 {
     let kept = pack_key(alloc, &key)?;
     if let Some(place) = table.places.get(&kept) {
@@ -103,9 +104,12 @@ fn read_target<M: Moves>(
     requires { Finds (look_kept table.old.places) (kept_in table.old.keys.items) }
     ensures finds { OnOk result (Finds (look_kept table.new.places) (kept_in table.new.keys.items)) }
     ensures place { IfOk result (λ i. At (kept_in table.new.keys.items) i (M.read moves.now followers.now byte)) }
-    ensures found { OnOk result (Found (kept_in table.old.keys.items) (M.read moves.now followers.now byte) (kept_in table.new.keys.items)) }
+    ensures found { OnOk result (Found (kept_in table.old.keys.items) (M.read moves.now followers.now byte)
+        (kept_in table.new.keys.items)) }
     ensures room { OnOk result (length table.old.keys.items ≤ limit → length table.new.keys.items ≤ limit) }
-    ensures full { IsErrOf result ExploreError.TooMany → Absent (kept_in table.old.keys.items) (M.read moves.now followers.now byte) × (limit ≤ length table.old.keys.items) }
+    ensures full { IsErrOf result ExploreError.TooMany
+        → Absent (kept_in table.old.keys.items) (M.read moves.now followers.now byte)
+        × (limit ≤ length table.old.keys.items) }
 {
     let key = moves.reading(alloc, followers, byte)?;
     intern(alloc, table, key, limit)
@@ -123,12 +127,16 @@ fn target<M: Moves>(
 ) -> Result<u32, ExploreError>
     requires finds { Finds (look_kept table.old.places) (kept_in table.old.keys.items) }
     requires len { length row.now ≡ byte }
-    requires row { (b : ℕ) → b < byte → At (kept_in table.old.keys.items) (slice_index row.now b) (M.read moves.now followers.now b) }
+    requires row { (b : ℕ) → b < byte
+        → At (kept_in table.old.keys.items) (slice_index row.now b) (M.read moves.now followers.now b) }
     ensures finds { OnOk result (Finds (look_kept table.new.places) (kept_in table.new.keys.items)) }
     ensures place { IfOk result (λ i. At (kept_in table.new.keys.items) i (M.read moves.now followers.now byte)) }
-    ensures found { OnOk result (Found (kept_in table.old.keys.items) (M.read moves.now followers.now byte) (kept_in table.new.keys.items)) }
+    ensures found { OnOk result (Found (kept_in table.old.keys.items) (M.read moves.now followers.now byte)
+        (kept_in table.new.keys.items)) }
     ensures room { OnOk result (length table.old.keys.items ≤ limit → length table.new.keys.items ≤ limit) }
-    ensures full { IsErrOf result ExploreError.TooMany → Absent (kept_in table.old.keys.items) (M.read moves.now followers.now byte) × (limit ≤ length table.old.keys.items) }
+    ensures full { IsErrOf result ExploreError.TooMany
+        → Absent (kept_in table.old.keys.items) (M.read moves.now followers.now byte)
+        × (limit ≤ length table.old.keys.items) }
 {
     let twin = moves.twin(followers, byte);
     if twin < byte {
@@ -153,8 +161,10 @@ impl Told {
         kept: &[u32],
     ) -> Result<Vec<u32>, AllocError>
         ensures followers { IfOk result (λ v. v.items ≡ M.follow moves.now (unpacked kept.now)) }
-        ensures accepts { OnOk result (keys_in self.new.accepts.items ≡ keys_in self.old.accepts.items ++ M.accept moves.now (unpacked kept.now) ∷ []) }
-        ensures goes_on { OnOk result (self.new.goes_on.items ≡ self.old.goes_on.items ++ goes_by (M.follow moves.now) (unpacked kept.now) ∷ []) }
+        ensures accepts { OnOk result (keys_in self.new.accepts.items
+            ≡ keys_in self.old.accepts.items ++ M.accept moves.now (unpacked kept.now) ∷ []) }
+        ensures goes_on { OnOk result (self.new.goes_on.items
+            ≡ self.old.goes_on.items ++ goes_by (M.follow moves.now) (unpacked kept.now) ∷ []) }
     {
         let key = unpack_key(alloc, kept)?;
         let walked = moves.walk(alloc, &key)?;
@@ -184,11 +194,14 @@ pub(crate) fn explore<M: Moves>(
 ) -> Result<Explored, ExploreError>
     requires finds { Finds (look_kept roots.places) (kept_in roots.keys.items) }
     requires room { length roots.keys.items ≤ limit }
-    ensures ok { IfOk result (λ t. IsAutomaton (step_by (M.follow moves.now) (M.read moves.now)) (kept_in roots.keys.items) (kept_in t.keys.items) t.next.items) }
+    ensures ok { IfOk result (λ t. IsAutomaton (step_by (M.follow moves.now) (M.read moves.now))
+        (kept_in roots.keys.items) (kept_in t.keys.items) t.next.items) }
     ensures room { IfOk result (λ t. length t.keys.items ≤ limit) }
-    ensures accepts { IfOk result (λ t. Tells [] (M.accept moves.now) (kept_in t.keys.items) (keys_in t.accepts.items)) }
+    ensures accepts { IfOk result (λ t. Tells [] (M.accept moves.now) (kept_in t.keys.items)
+        (keys_in t.accepts.items)) }
     ensures goes_on { IfOk result (λ t. GoOn (M.follow moves.now) (kept_in t.keys.items) t.goes_on.items) }
-    ensures too_many { IsErrOf result ExploreError.TooMany → MoreThan limit (Reached (step_by (M.follow moves.now) (M.read moves.now)) (kept_in roots.keys.items)) }
+    ensures too_many { IsErrOf result ExploreError.TooMany
+        → MoreThan limit (Reached (step_by (M.follow moves.now) (M.read moves.now)) (kept_in roots.keys.items)) }
 {
     let mut table = roots;
     let mut next: Vec<u32> = Vec::new(alloc);

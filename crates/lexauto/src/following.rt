@@ -13,7 +13,8 @@ use std::alloc::{AllocError, Global};
 /// What a start state's key tells. No rule is accepted there.
 fn walk_starts(alloc: Global, moves: &RuleMoves, key: &[u32]) -> Result<Walked, AllocError>
     requires { lasts_in key.now ≡ [] }
-    ensures followers { IfOk result (λ w. w.followers.items ≡ followers_in (rules_in (spec_of moves.now.spec.now)) moves.now.count key.now) }
+    ensures followers { IfOk result (λ w. w.followers.items
+        ≡ followers_in (rules_in (spec_of moves.now.spec.now)) moves.now.count key.now) }
     ensures accepted { IfOk result (λ w. w.accepted.items ≡ accepted_by (spec_of moves.now.spec.now) key.now) }
 {
     let on = marks_of(alloc, moves.rules.len(), starts_in(key))?;
@@ -28,7 +29,8 @@ fn walk_starts(alloc: Global, moves: &RuleMoves, key: &[u32]) -> Result<Walked, 
 /// if no rule has REJECT.
 fn walk_lasts(alloc: Global, moves: &RuleMoves, key: &[u32]) -> Result<Walked, AllocError>
     requires { starts_in key.now ≡ [] }
-    ensures followers { IfOk result (λ w. w.followers.items ≡ followers_in (rules_in (spec_of moves.now.spec.now)) moves.now.count key.now) }
+    ensures followers { IfOk result (λ w. w.followers.items
+        ≡ followers_in (rules_in (spec_of moves.now.spec.now)) moves.now.count key.now) }
     ensures accepted { IfOk result (λ w. w.accepted.items ≡ accepted_by (spec_of moves.now.spec.now) key.now) }
 {
     let last = in_order(alloc, moves.count, lasts_in(key))?;
@@ -39,7 +41,8 @@ fn walk_lasts(alloc: Global, moves: &RuleMoves, key: &[u32]) -> Result<Walked, A
 
 /// What a key tells.
 pub(crate) fn walk(alloc: Global, moves: &RuleMoves, key: &[u32]) -> Result<Walked, AllocError>
-    ensures followers { IfOk result (λ w. w.followers.items ≡ followers_in (rules_in (spec_of moves.now.spec.now)) moves.now.count key.now) }
+    ensures followers { IfOk result (λ w. w.followers.items
+        ≡ followers_in (rules_in (spec_of moves.now.spec.now)) moves.now.count key.now) }
     ensures accepted { IfOk result (λ w. w.accepted.items ≡ accepted_by (spec_of moves.now.spec.now) key.now) }
 {
     if starts_in(key).is_empty() {

@@ -15,20 +15,25 @@ ghost use Rattle.lexauto.specs.Facts.{AcceptedBy, GoOnBy};
 
 /// The key that a word leads to lists its last positions.
 pub fn keys_of_words()
-    ensures { (S : Spec) → IsSound S → (c : ℕ) (line_start : Bool) (b : ℕ) (w : List ℕ) → b < 256 → IsText w → LastKey S c line_start (b ∷ w) (run (step_in S) (start_key S c line_start) (b ∷ w)) }
+    ensures { (S : Spec) → IsSound S → (c : ℕ) (line_start : Bool) (b : ℕ) (w : List ℕ) → b < 256 → IsText w
+        → LastKey S c line_start (b ∷ w) (run (step_in S) (start_key S c line_start) (b ∷ w)) }
 {}
 
 /// The rules that are left at their ends after a word are those that fit it.
 pub fn rules_that_fit()
-    ensures { (S : Spec) → IsSound S → (c : ℕ) (line_start : Bool) (w : List ℕ) → w ≢ [] → (k : List ℕ) → LastKey S c line_start w k →
-        (i : ℕ) → Among (rules_left S.rules (marked (all_positions S.rules) (lasts_in k)) 0 0) i ↔ HasFit S c line_start w i }
+    ensures { (S : Spec) → IsSound S → (c : ℕ) (line_start : Bool) (w : List ℕ) → w ≢ [] → (k : List ℕ)
+        → LastKey S c line_start w k →
+        (i : ℕ) → Among (rules_left S.rules (marked (all_positions S.rules) (lasts_in k)) 0 0) i
+        ↔ HasFit S c line_start w i }
 {}
 
 /// States whose keys are those of words, and which tell what their keys do, are a table for their specification.
 pub fn tables_of_keys()
-    ensures { (S : Spec) → IsSound S → (keys : List (List ℕ)) (next starts line_starts : List ℕ) → Surveys S keys next starts line_starts →
+    ensures { (S : Spec) → IsSound S → (keys : List (List ℕ)) (next starts line_starts : List ℕ)
+        → Surveys S keys next starts line_starts →
         (accepts : List (List ℕ)) (goes : List Bool) → AcceptedBy S keys accepts → GoOnBy S keys goes →
-        TableFor (machine_with S (λ c line_start. cond line_start (slice_index line_starts c) (slice_index starts c)) (moving next) (λ p. slice_index_or accepts p []) (λ p. slice_index_or goes p false)) S }
+        TableFor (machine_with S (λ c line_start. cond line_start (slice_index line_starts c) (slice_index starts c))
+        (moving next) (λ p. slice_index_or accepts p []) (λ p. slice_index_or goes p false)) S }
 {}
 
 /// There is at most one count of subsets.

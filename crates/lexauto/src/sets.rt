@@ -86,7 +86,8 @@ pub(crate) fn in_order(alloc: Global, count: usize, numbers: &[u32]) -> Result<V
 
 /// Whether each number of the list is marked by both of these or by none of them.
 pub(crate) fn are_marked_alike(numbers: &[u32], marks: &[bool], others: &[bool]) -> bool
-    ensures { result ≡ true → (j : ℕ) → j < length numbers.now → flag marks.now (slice_index numbers.now j) ≡ flag others.now (slice_index numbers.now j) }
+    ensures { result ≡ true → (j : ℕ) → j < length numbers.now
+        → flag marks.now (slice_index numbers.now j) ≡ flag others.now (slice_index numbers.now j) }
 {
     for number in numbers {
         let i = *number as usize;

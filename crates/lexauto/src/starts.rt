@@ -29,7 +29,8 @@ fn lists(numbers: &[u8], number: usize) -> bool
 /// Whether a rule is active in the condition of this number, at the start of a line or not.
 /// (POSIX, lex, Definitions in lex and Regular Expressions in lex; flex, Start Conditions.)
 fn is_active(condition: &Condition, number: usize, line_start: bool, rule: &Rule) -> bool
-    ensures { result ≡ (serves (option_map (λ v. v.items) rule.now.conditions) number (Some (condition_of condition.now)) && (not rule.now.anchored || line_start)) }
+    ensures { result ≡ (serves (option_map (λ v. v.items) rule.now.conditions) number
+        (Some (condition_of condition.now)) && (not rule.now.anchored || line_start)) }
 {
     let serves = match &rule.conditions {
         None => !condition.exclusive,
@@ -82,9 +83,11 @@ pub(crate) fn add_starts(
     limit: u32,
 ) -> Result<Vec<u32>, ExploreError>
     requires { AreRoots (spec_of spec.now) (look_kept table.old.places) (kept_in table.old.keys.items) }
-    ensures roots { OnOk result (AreRoots (spec_of spec.now) (look_kept table.new.places) (kept_in table.new.keys.items)) }
+    ensures roots { OnOk result (AreRoots (spec_of spec.now) (look_kept table.new.places)
+        (kept_in table.new.keys.items)) }
     ensures grows { OnOk result (Grows (kept_in table.old.keys.items) (kept_in table.new.keys.items)) }
-    ensures places { IfOk result (λ v. AreStartPlaces (spec_of spec.now) line_start (kept_in table.new.keys.items) v.items) }
+    ensures places { IfOk result (λ v. AreStartPlaces (spec_of spec.now) line_start
+        (kept_in table.new.keys.items) v.items) }
     ensures len { IfOk result (λ v. length v.items ≡ length (conditions_in (spec_of spec.now))) }
     ensures room { OnOk result (length table.old.keys.items ≤ limit → length table.new.keys.items ≤ limit) }
     ensures too_many { IsErrOf result ExploreError.TooMany → MoreThan limit (IsRoot (spec_of spec.now)) }

@@ -110,7 +110,8 @@ impl<'a> RuleMoves<'a> {
 
     /// Whether just those of the positions that read the one byte read the other.
     fn reads_alike(&self, positions: &[u32], byte: u8, other: u8) -> bool
-        ensures { result ≡ true → reading_in (rules_in (spec_of self.now.spec.now)) positions.now byte ≡ reading_in (rules_in (spec_of self.now.spec.now)) positions.now other }
+        ensures { result ≡ true → reading_in (rules_in (spec_of self.now.spec.now)) positions.now byte
+            ≡ reading_in (rules_in (spec_of self.now.spec.now)) positions.now other }
     {
         let marks = &self.masks[byte as usize];
         let others = &self.masks[other as usize];

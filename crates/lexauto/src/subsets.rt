@@ -44,13 +44,16 @@ struct Survey {
 
 /// All keys that are reached from the starts of a specification.
 fn explore_spec(alloc: Global, moves: &RuleMoves, limit: u32) -> Result<Survey, ExploreError>
-    ensures ok { IfOk result (λ s. Surveys (spec_of moves.now.spec.now) (kept_in s.keys.items) s.next.items s.starts.items s.line_starts.items) }
+    ensures ok { IfOk result (λ s. Surveys (spec_of moves.now.spec.now)
+        (kept_in s.keys.items) s.next.items s.starts.items s.line_starts.items) }
     ensures room { IfOk result (λ s. length s.keys.items ≤ limit) }
     ensures accepts_len { IfOk result (λ s. length s.accepts.items ≡ length s.keys.items) }
-    ensures accepted { IfOk result (λ s. AcceptedBy (spec_of moves.now.spec.now) (kept_in s.keys.items) (keys_in s.accepts.items)) }
+    ensures accepted { IfOk result (λ s. AcceptedBy (spec_of moves.now.spec.now) (kept_in s.keys.items)
+        (keys_in s.accepts.items)) }
     ensures len { IfOk result (λ s. length s.goes_on.items ≡ length s.keys.items) }
     ensures goes_on { IfOk result (λ s. GoOnBy (spec_of moves.now.spec.now) (kept_in s.keys.items) s.goes_on.items) }
-    ensures too_many { IsErrOf result ExploreError.TooMany → (n : ℕ) → Subsets (spec_of moves.now.spec.now) n → limit < n }
+    ensures too_many { IsErrOf result ExploreError.TooMany → (n : ℕ)
+        → Subsets (spec_of moves.now.spec.now) n → limit < n }
 {
     let mut table = dead_root(alloc, limit)?;
     let starts = add_starts(alloc, moves.spec, false, &mut table, limit)?;
@@ -74,14 +77,18 @@ pub fn build(alloc: Global, spec: &Spec, limits: Limits) -> Result<Dfa, BuildErr
     requires states { limits.states ≤ max_states }
     ensures table { IfOk result (λ d. TableFor (machine_of d (spec_of spec.now)) (spec_of spec.now)) }
     ensures conditions { IfOk result (λ d. conditions_of d ≡ length (conditions_in (spec_of spec.now))) }
-    ensures reached { IfOk result (λ d. (p : ℕ) → p < states_of d → IsReached (machine_of d (spec_of spec.now)) (spec_of spec.now) p) }
+    ensures reached { IfOk result (λ d. (p : ℕ) → p < states_of d
+        → IsReached (machine_of d (spec_of spec.now)) (spec_of spec.now) p) }
     ensures laws { IfOk result (λ d. MachineLaws (machine_of d (spec_of spec.now))) }
     ensures states { IfOk result (λ d. Subsets (spec_of spec.now) (states_of d)) }
     ensures few_positions { IfOk result (λ d. all_positions (rules_in (spec_of spec.now)) ≤ limits.positions) }
     ensures few_states { IfOk result (λ d. states_of d ≤ limits.states) }
-    ensures too_many_positions { IsErrOf result BuildError.TooManyPositions → limits.positions < all_positions (rules_in (spec_of spec.now)) }
-    ensures refused { limits.positions < all_positions (rules_in (spec_of spec.now)) → IsErrOf result BuildError.TooManyPositions }
-    ensures too_many_states { IsErrOf result BuildError.TooManyStates → (n : ℕ) → Subsets (spec_of spec.now) n → limits.states < n }
+    ensures too_many_positions { IsErrOf result BuildError.TooManyPositions
+        → limits.positions < all_positions (rules_in (spec_of spec.now)) }
+    ensures refused { limits.positions < all_positions (rules_in (spec_of spec.now))
+        → IsErrOf result BuildError.TooManyPositions }
+    ensures too_many_states { IsErrOf result BuildError.TooManyStates → (n : ℕ)
+        → Subsets (spec_of spec.now) n → limits.states < n }
 {
     let count = match count_positions(spec.rules(), limits.positions) {
         Some(count) => count as usize,

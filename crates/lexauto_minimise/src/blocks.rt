@@ -25,7 +25,8 @@ pub(crate) fn mark(blocks: &mut Blocks, state: u32) -> bool
     ensures marks { IsMarked blocks.new state }
     ensures keeps { (x : ℕ) → x < states blocks.old → IsMarked blocks.old x → IsMarked blocks.new x }
     ensures only { (x : ℕ) → x < states blocks.old → IsMarked blocks.new x → IsMarked blocks.old x ⊎ (x ≡ state) }
-    ensures touches { (c : ℕ) → IsTouched blocks.new c → IsTouched blocks.old c ⊎ ((c ≡ block_of blocks.old state) × (result ≡ true)) }
+    ensures touches { (c : ℕ) → IsTouched blocks.new c
+        → IsTouched blocks.old c ⊎ ((c ≡ block_of blocks.old state) × (result ≡ true)) }
 {
     let place = blocks.place[state as usize] as usize;
     let number = blocks.block[state as usize] as usize;
@@ -48,7 +49,8 @@ fn rename(order: &[u32], block: &mut [u32], from: usize, to: usize, number: u32)
     requires to { to ≤ length order.now }
     requires known { (i : ℕ) → i < length order.now → slice_index order.now i < length block.old }
     ensures moved { (i : ℕ) → from ≤ i → i < to → slice_index block.new (slice_index order.now i) ≡ number }
-    ensures rest { (x : ℕ) → ((i : ℕ) → from ≤ i → i < to → slice_index order.now i ≢ x) → slice_index block.new x ≡ slice_index block.old x }
+    ensures rest { (x : ℕ) → ((i : ℕ) → from ≤ i → i < to → slice_index order.now i ≢ x)
+        → slice_index block.new x ≡ slice_index block.old x }
 {
     for i in from..to {
         block[order[i] as usize] = number;
@@ -71,17 +73,25 @@ fn divide(
 ) -> Result<(), AllocError>
     requires number { number < count blocks.old }
     requires arranged { Arranged blocks.old }
-    requires pieces { IsDivided (slice_index blocks.old.first.items number) (slice_index blocks.old.end.items number) kept.from kept.to piece.from piece.to }
+    requires pieces { IsDivided (slice_index blocks.old.first.items number)
+        (slice_index blocks.old.end.items number) kept.from kept.to piece.from piece.to }
     ensures arranged { OnOk result (Arranged blocks.new) }
     ensures order { OnOk result (blocks.new.order ≡ blocks.old.order) }
     ensures place { OnOk result (blocks.new.place ≡ blocks.old.place) }
     ensures states { OnOk result (states blocks.new ≡ states blocks.old) }
     ensures count { OnOk result (count blocks.new ≡ count blocks.old + 1) }
-    ensures piece_is { OnOk result ((slice_index blocks.new.first.items (count blocks.old) ≡ piece.from) × (slice_index blocks.new.end.items (count blocks.old) ≡ piece.to)) }
-    ensures moved { OnOk result ((x : ℕ) → x < states blocks.old → piece.from ≤ place_of blocks.old x → place_of blocks.old x < piece.to → block_of blocks.new x ≡ count blocks.old) }
-    ensures rest { OnOk result ((x : ℕ) → ((piece.from ≤ place_of blocks.old x) × (place_of blocks.old x < piece.to) → ⊥) → block_of blocks.new x ≡ block_of blocks.old x) }
-    ensures others { OnOk result ((c : ℕ) → c < count blocks.old → c ≢ number → (slice_index blocks.new.first.items c ≡ slice_index blocks.old.first.items c) × (slice_index blocks.new.middle.items c ≡ slice_index blocks.old.middle.items c)) }
-    ensures touched { OnOk result ((c : ℕ) → c < count blocks.new → IsTouched blocks.new c → (c < count blocks.old) × (c ≢ number) × IsTouched blocks.old c) }
+    ensures piece_is { OnOk result ((slice_index blocks.new.first.items (count blocks.old) ≡ piece.from)
+        × (slice_index blocks.new.end.items (count blocks.old) ≡ piece.to)) }
+    ensures moved { OnOk result ((x : ℕ) → x < states blocks.old → piece.from ≤ place_of blocks.old x
+        → place_of blocks.old x < piece.to → block_of blocks.new x ≡ count blocks.old) }
+    ensures rest { OnOk result ((x : ℕ)
+        → ((piece.from ≤ place_of blocks.old x) × (place_of blocks.old x < piece.to) → ⊥)
+        → block_of blocks.new x ≡ block_of blocks.old x) }
+    ensures others { OnOk result ((c : ℕ) → c < count blocks.old → c ≢ number
+        → (slice_index blocks.new.first.items c ≡ slice_index blocks.old.first.items c)
+        × (slice_index blocks.new.middle.items c ≡ slice_index blocks.old.middle.items c)) }
+    ensures touched { OnOk result ((c : ℕ) → c < count blocks.new → IsTouched blocks.new c → (c < count blocks.old)
+        × (c ≢ number) × IsTouched blocks.old c) }
 {
     let new = blocks.first.len() as u32;
     blocks.first[number] = kept.from;

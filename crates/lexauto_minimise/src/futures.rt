@@ -17,7 +17,8 @@ pub(crate) fn classes(alloc: Global, next: &[u32], labels: Vec<u32>) -> Result<V
     requires known { (i : ℕ) → i < length next.now → slice_index next.now i < length labels.items }
     ensures len { IfOk result (λ v. length v.items ≡ length labels.items) }
     ensures row { IfOk result (λ v. IsRow v.items) }
-    ensures coarsest { IfOk result (λ v. IsCoarsest (bytes_machine next.now labels.items) (λ x. slice_index v.items x)) }
+    ensures coarsest { IfOk result (λ v. IsCoarsest (bytes_machine next.now labels.items)
+        (λ x. slice_index v.items x)) }
 {
     let letters = letters_of(alloc, next, labels.len())?;
     let blocks = refine(alloc, &letters, labels)?;

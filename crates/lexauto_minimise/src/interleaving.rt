@@ -27,7 +27,8 @@ pub(crate) fn every_other(
     requires first { first < 2 }
     requires pairs { length both.now ≡ 2 * pairs }
     ensures len { IfOk result (λ v. length v.items ≡ pairs) }
-    ensures each { IfOk result (λ v. (i : ℕ) → i < pairs → slice_index v.items i ≡ slice_index both.now (2 * i + first)) }
+    ensures each { IfOk result (λ v. (i : ℕ) → i < pairs
+        → slice_index v.items i ≡ slice_index both.now (2 * i + first)) }
 {
     let mut some = Vec::new(alloc);
     for i in 0..pairs {

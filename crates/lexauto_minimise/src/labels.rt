@@ -59,7 +59,8 @@ fn split_by_labels(
     ensures arranged { OnOk result (Arranged blocks.new) }
     ensures same_states { OnOk result (states blocks.new ≡ states blocks.old) }
     ensures untouched { OnOk result ((c : ℕ) → c < count blocks.new → IsTouched blocks.new c → ⊥) }
-    ensures known { OnOk result ((i : ℕ) → i < length waiting.new.items → slice_index waiting.new.items i < count blocks.new) }
+    ensures known { OnOk result ((i : ℕ) → i < length waiting.new.items
+        → slice_index waiting.new.items i < count blocks.new) }
     ensures alike { OnOk result (AreAlike labels.now.row.items (states blocks.old) blocks.new waiting.new.items) }
 {
     let mut touched = Vec::new(alloc);

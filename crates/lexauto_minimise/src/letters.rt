@@ -11,7 +11,8 @@ fn column(alloc: Global, next: &[u32], states: usize, byte: usize) -> Result<Vec
     requires byte { byte < 256 }
     requires len { length next.now ≡ 256 * states }
     ensures len { IfOk result (λ v. length v.items ≡ states) }
-    ensures each { IfOk result (λ v. (x : ℕ) → x < states → slice_index v.items x ≡ slice_index next.now (x * 256 + byte)) }
+    ensures each { IfOk result (λ v. (x : ℕ) → x < states
+        → slice_index v.items x ≡ slice_index next.now (x * 256 + byte)) }
 {
     let mut column = Vec::with_capacity(alloc, states)?;
     for state in 0..states {

@@ -14,7 +14,8 @@ fn first_with(
 ) -> Result<u32, AllocError>
     ensures found { IfOk result (λ l. look firsts.new list.now.items ≡ Some l) }
     ensures keeps { OnOk result ((k : List ℕ) (i : ℕ) → look firsts.old k ≡ Some i → look firsts.new k ≡ Some i) }
-    ensures only { OnOk result ((k : List ℕ) (i : ℕ) → look firsts.new k ≡ Some i → (look firsts.old k ≡ Some i) ⊎ ((k ≡ list.now.items) × (i ≡ state))) }
+    ensures only { OnOk result ((k : List ℕ) (i : ℕ) → look firsts.new k ≡ Some i
+        → (look firsts.old k ≡ Some i) ⊎ ((k ≡ list.now.items) × (i ≡ state))) }
 {
     if let Some(first) = firsts.get(list) {
         return Ok(*first);

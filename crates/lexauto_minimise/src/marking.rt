@@ -29,7 +29,8 @@ fn note(blocks: &mut Blocks, touched: &mut Vec<u32>, state: u32) -> Result<(), A
 fn is_alone(blocks: &Blocks, state: u32) -> bool
     requires state { state < states blocks.now }
     requires arranged { Arranged blocks.now }
-    ensures { result ≡ true → slice_index blocks.now.first.items (block_of blocks.now state) + 1 ≡ slice_index blocks.now.end.items (block_of blocks.now state) }
+    ensures { result ≡ true → slice_index blocks.now.first.items (block_of blocks.now state) + 1
+        ≡ slice_index blocks.now.end.items (block_of blocks.now state) }
 {
     let number = blocks.block[state as usize] as usize;
     let first = blocks.first[number] as usize;
@@ -93,7 +94,8 @@ pub(crate) fn mark_all(
     requires notes { Notes touched.old.items blocks.old }
     ensures arranged { OnOk result (Arranged blocks.new) }
     ensures notes { OnOk result (Notes touched.new.items blocks.new) }
-    ensures marks { OnOk result (Marks blocks.old (λ x. Has targets.now (slice_index letter.now.row.items x)) blocks.new) }
+    ensures marks { OnOk result (Marks blocks.old
+        (λ x. Has targets.now (slice_index letter.now.row.items x)) blocks.new) }
 {
     for target in targets {
         mark_sources(blocks, letter, *target, touched)?;

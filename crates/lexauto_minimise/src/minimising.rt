@@ -25,7 +25,8 @@ use std::alloc::{AllocError, Global};
 fn lists_at(alloc: Global, lists: &[Vec<u32>], places: &[u32]) -> Result<Vec<Vec<u32>>, AllocError>
     requires places { (k : ℕ) → k < length places.now → slice_index places.now k < length lists.now }
     ensures len { IfOk result (λ v. length v.items ≡ length places.now) }
-    ensures each { IfOk result (λ v. (k : ℕ) → k < length places.now → list_at v.items k ≡ list_at lists.now (slice_index places.now k)) }
+    ensures each { IfOk result (λ v. (k : ℕ) → k < length places.now
+        → list_at v.items k ≡ list_at lists.now (slice_index places.now k)) }
 {
     let mut some = Vec::new(alloc);
     for i in 0..places.len() {
@@ -38,7 +39,8 @@ fn lists_at(alloc: Global, lists: &[Vec<u32>], places: &[u32]) -> Result<Vec<Vec
 fn flags_at(alloc: Global, flags: &[bool], places: &[u32]) -> Result<Vec<bool>, AllocError>
     requires places { (k : ℕ) → k < length places.now → slice_index places.now k < length flags.now }
     ensures len { IfOk result (λ v. length v.items ≡ length places.now) }
-    ensures each { IfOk result (λ v. (k : ℕ) → k < length places.now → slice_index_or v.items k false ≡ slice_index_or flags.now (slice_index places.now k) false) }
+    ensures each { IfOk result (λ v. (k : ℕ) → k < length places.now
+        → slice_index_or v.items k false ≡ slice_index_or flags.now (slice_index places.now k) false) }
 {
     let mut some = Vec::new(alloc);
     for i in 0..places.len() {
@@ -63,7 +65,9 @@ fn table_of(alloc: Global, parts: &Parts, classes: &[u32]) -> Result<ClassTable,
     requires automaton { IsAutomaton parts.now }
     requires len { length classes.now ≡ length parts.now.goes_on.items }
     requires row { IsRow classes.now }
-    ensures { IfOk result (λ t. AreMade classes.now (by_turns parts.now.starts.items parts.now.line_starts.items) parts.now.next.items t.members.items t.starts.items t.table.items) }
+    ensures { IfOk result (λ t. AreMade classes.now
+        (by_turns parts.now.starts.items parts.now.line_starts.items) parts.now.next.items t.members.items
+        t.starts.items t.table.items) }
 {
     let starts = interleave(alloc, &parts.starts, &parts.line_starts)?;
     let table = quotient(alloc, classes, &starts, &parts.next)?;

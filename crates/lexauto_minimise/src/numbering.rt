@@ -19,10 +19,12 @@ fn call(numbers: &mut Numbers, classes: &[u32], state: u32) -> Result<(), AllocE
     requires few { length classes.now < 2 ^ 32 }
     requires classes { IsRow classes.now }
     requires numbers { AreNumbers classes.now numbers.old }
-    requires none { length numbers.old.members.items ≤ slice_index numbers.old.of_class.items (slice_index classes.now state) }
+    requires none { length numbers.old.members.items
+        ≤ slice_index numbers.old.of_class.items (slice_index classes.now state) }
     ensures numbers { OnOk result (AreNumbers classes.now numbers.new) }
     ensures members { OnOk result (numbers.new.members.items ≡ numbers.old.members.items ++ state ∷ []) }
-    ensures number { OnOk result (slice_index numbers.new.of_class.items (slice_index classes.now state) ≡ length numbers.old.members.items) }
+    ensures number { OnOk result (slice_index numbers.new.of_class.items (slice_index classes.now state)
+        ≡ length numbers.old.members.items) }
 {
     let class = classes[state as usize] as usize;
     numbers.of_class[class] = numbers.members.len() as u32;
@@ -91,7 +93,8 @@ fn number_row(
     ensures numbers { OnOk result (AreNumbers classes.now numbers.new) }
     ensures len { OnOk result (length rows.new.items ≡ length rows.old.items + 256) }
     ensures rows { OnOk result (AreRows classes.now table.now numbers.new.members.items rows.new.items) }
-    ensures called { OnOk result ((starts : List ℕ) → AreCalled (length starts) numbers.old.members.items (starts ++ rows.old.items)
+    ensures called { OnOk result ((starts : List ℕ)
+        → AreCalled (length starts) numbers.old.members.items (starts ++ rows.old.items)
         → AreCalled (length starts) numbers.new.members.items (starts ++ rows.new.items)) }
     ensures keeps { OnOk result (Keeps numbers.old.members.items numbers.new.members.items) }
 {

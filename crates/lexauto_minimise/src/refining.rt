@@ -30,8 +30,10 @@ pub(crate) fn split(
     ensures arranged { OnOk result (Arranged blocks.new) }
     ensures untouched { OnOk result ((c : ℕ) → c < count blocks.new → IsTouched blocks.new c → ⊥) }
     ensures counts { OnOk result (Counts blocks.old waiting.old.items blocks.new waiting.new.items) }
-    ensures cuts { OnOk result ((m : ℕ → Bool) → ((x : ℕ) → x < states blocks.old → (m x ≡ true) ↔ Has targets.now (slice_index letter.now.row.items x))
-        → Cuts (states blocks.old) (block_of blocks.old) (block_of blocks.new) m (Has waiting.old.items) (Has waiting.new.items)) }
+    ensures cuts { OnOk result ((m : ℕ → Bool)
+        → ((x : ℕ) → x < states blocks.old → (m x ≡ true) ↔ Has targets.now (slice_index letter.now.row.items x))
+        → Cuts (states blocks.old) (block_of blocks.old) (block_of blocks.new) m (Has waiting.old.items)
+        (Has waiting.new.items)) }
 {
     touched.clear();
     mark_all(blocks, letter, targets, touched)?;
@@ -55,9 +57,11 @@ fn split_by_all(
     ensures arranged { OnOk result (Arranged blocks.new) }
     ensures untouched { OnOk result ((c : ℕ) → c < count blocks.new → IsTouched blocks.new c → ⊥) }
     ensures counts { OnOk result (Counts blocks.old waiting.old.items blocks.new waiting.new.items) }
-    ensures used { OnOk result ((labels : List ℕ) (coarse : ℕ → ℕ) (inside : ℕ → Bool) → length labels ≡ states blocks.old → Tells inside targets.now (states blocks.old)
+    ensures used { OnOk result ((labels : List ℕ) (coarse : ℕ → ℕ) (inside : ℕ → Bool)
+        → length labels ≡ states blocks.old → Tells inside targets.now (states blocks.old)
         → Using (machine letters.now labels) (block_of blocks.old) (Has waiting.old.items) coarse inside 0
-        → Using (machine letters.now labels) (block_of blocks.new) (Has waiting.new.items) coarse inside (length letters.now)) }
+        → Using (machine letters.now labels) (block_of blocks.new) (Has waiting.new.items) coarse inside
+        (length letters.now)) }
 {
     for letter in letters {
         split(blocks, letter, targets, touched, waiting)?;

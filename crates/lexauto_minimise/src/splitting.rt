@@ -17,7 +17,8 @@ fn split_one(blocks: &mut Blocks, number: u32, waiting: &mut Vec<u32>) -> Result
     requires known { (i : ℕ) → i < length waiting.old.items → slice_index waiting.old.items i < count blocks.old }
     ensures arranged { OnOk result (Arranged blocks.new) }
     ensures counts { OnOk result (Counts blocks.old waiting.old.items blocks.new waiting.new.items) }
-    ensures touched { OnOk result ((c : ℕ) → c < count blocks.new → IsTouched blocks.new c → (c < count blocks.old) × (c ≢ number) × IsTouched blocks.old c) }
+    ensures touched { OnOk result ((c : ℕ) → c < count blocks.new → IsTouched blocks.new c → (c < count blocks.old)
+        × (c ≢ number) × IsTouched blocks.old c) }
     ensures goes_on { OnOk result ((old : Blocks) (waited : List ℕ) (m : ℕ → Bool) → states blocks.old ≡ states old
         → Going old waited blocks.old waiting.old.items m → Going old waited blocks.new waiting.new.items m) }
 {
@@ -40,8 +41,10 @@ pub(crate) fn split_touched(
     ensures arranged { OnOk result (Arranged blocks.new) }
     ensures counts { OnOk result (Counts blocks.old waiting.old.items blocks.new waiting.new.items) }
     ensures untouched { OnOk result ((c : ℕ) → c < count blocks.new → IsTouched blocks.new c → ⊥) }
-    ensures cuts { OnOk result ((m : ℕ → Bool) → ((x : ℕ) → x < states blocks.old → IsMarked blocks.old x ↔ (m x ≡ true))
-        → Cuts (states blocks.old) (block_of blocks.old) (block_of blocks.new) m (Has waiting.old.items) (Has waiting.new.items)) }
+    ensures cuts { OnOk result ((m : ℕ → Bool)
+        → ((x : ℕ) → x < states blocks.old → IsMarked blocks.old x ↔ (m x ≡ true))
+        → Cuts (states blocks.old) (block_of blocks.old) (block_of blocks.new) m (Has waiting.old.items)
+        (Has waiting.new.items)) }
 {
     for number in touched {
         split_one(blocks, *number, waiting)?;

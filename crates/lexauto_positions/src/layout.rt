@@ -168,11 +168,14 @@ impl Row {
         requires few { self.old.size + positions (tree_in (plan_of part)) < 2 ^ 32 }
         ensures sized { OnOk result (AreSized (plans (map plan_of self.new.parts.items))) }
         ensures size { OnOk result (self.new.size ≡ self.old.size + positions (tree_in (plan_of part))) }
-        ensures count { OnOk result (self.old.size ≡ positions_of (trees_in (plans (map plan_of self.old.parts.items))) → self.new.size ≡ positions_of (trees_in (plans (map plan_of self.new.parts.items)))) }
+        ensures count { OnOk result (self.old.size ≡ positions_of (trees_in (plans (map plan_of self.old.parts.items)))
+            → self.new.size ≡ positions_of (trees_in (plans (map plan_of self.new.parts.items)))) }
         ensures series { OnOk result ((t : Tree) (rest : List Tree) (whole : Tree) → Alike (tree_in (plan_of part)) t
-            → Alike (Cat (trees (trees_laid self.old.parts.items ++ t ∷ rest))) whole → Alike (Cat (trees (trees_laid self.new.parts.items ++ rest))) whole) }
+            → Alike (Cat (trees (trees_laid self.old.parts.items ++ t ∷ rest))) whole
+            → Alike (Cat (trees (trees_laid self.new.parts.items ++ rest))) whole) }
         ensures choice { OnOk result ((t : Tree) (rest : List Tree) (whole : Tree) → Alike (tree_in (plan_of part)) t
-            → Alike (choice_of self.old.has_empty (trees (trees_laid self.old.parts.items ++ t ∷ rest))) whole → Alike (choice_of self.new.has_empty (trees (trees_laid self.new.parts.items ++ rest))) whole) }
+            → Alike (choice_of self.old.has_empty (trees (trees_laid self.old.parts.items ++ t ∷ rest))) whole
+            → Alike (choice_of self.new.has_empty (trees (trees_laid self.new.parts.items ++ rest))) whole) }
     {
         if part.is_nothing() {
             self.has_empty = true;
@@ -217,7 +220,8 @@ fn choice(alloc: Global, row: Row) -> Result<Part, AllocError>
     requires sized { AreSized (plans (map plan_of row.parts.items)) }
     requires size { row.size ≡ positions_of (trees_in (plans (map plan_of row.parts.items))) }
     ensures sized { IfOk result (λ p. IsSized (plan_of p)) }
-    ensures alike { IfOk result (λ p. Alike (tree_in (plan_of p)) (choice_of row.has_empty (trees (trees_laid row.parts.items)))) }
+    ensures alike { IfOk result (λ p. Alike (tree_in (plan_of p))
+        (choice_of row.has_empty (trees (trees_laid row.parts.items)))) }
 {
     let part = one_of(row.size, row.parts);
     if row.has_empty {
@@ -290,8 +294,10 @@ fn lay_all(alloc: Global, parts: &[Pattern]) -> Result<Row, AllocError>
     requires few { positions_of (trees (map tree_of parts.now)) < 2 ^ 32 }
     ensures sized { IfOk result (λ r. AreSized (plans (map plan_of r.parts.items))) }
     ensures size { IfOk result (λ r. r.size ≡ positions_of (trees_in (plans (map plan_of r.parts.items)))) }
-    ensures series { IfOk result (λ r. Alike (Cat (trees (trees_laid r.parts.items))) (Cat (trees (map tree_of parts.now)))) }
-    ensures choice { IfOk result (λ r. Alike (choice_of r.has_empty (trees (trees_laid r.parts.items))) (Alt (trees (map tree_of parts.now)))) }
+    ensures series { IfOk result (λ r. Alike (Cat (trees (trees_laid r.parts.items)))
+        (Cat (trees (map tree_of parts.now)))) }
+    ensures choice { IfOk result (λ r. Alike (choice_of r.has_empty (trees (trees_laid r.parts.items)))
+        (Alt (trees (map tree_of parts.now)))) }
 {
     let mut row = Row {
         parts: Vec::new(alloc),

@@ -17,8 +17,11 @@ use std::alloc::{AllocError, Global};
 /// Lists the bytes that each position of a part reads.
 #[cycle(list)]
 fn list(part: &Part, letters: &mut Vec<ByteSet>) -> Result<(), AllocError>
-    ensures count { OnOk result (length letters.new.items ≡ length letters.old.items + positions (tree_in (plan_of part.now))) }
-    ensures letters { OnOk result ((b q : ℕ) → reads_at letters.new.items b q 0 ≡ (reads_at letters.old.items b q 0 || reads (tree_in (plan_of part.now)) b q (length letters.old.items))) }
+    ensures count { OnOk result (length letters.new.items
+        ≡ length letters.old.items + positions (tree_in (plan_of part.now))) }
+    ensures letters { OnOk result ((b q : ℕ)
+        → reads_at letters.new.items b q 0
+        ≡ (reads_at letters.old.items b q 0 || reads (tree_in (plan_of part.now)) b q (length letters.old.items))) }
 {
     match part {
         Part::Nothing => {}
@@ -35,8 +38,12 @@ fn list(part: &Part, letters: &mut Vec<ByteSet>) -> Result<(), AllocError>
 
 #[cycle(list)]
 fn list_each(parts: &[Part], letters: &mut Vec<ByteSet>) -> Result<(), AllocError>
-    ensures count { OnOk result (length letters.new.items ≡ length letters.old.items + positions_of (trees_in (plans (map plan_of parts.now)))) }
-    ensures letters { OnOk result ((b q : ℕ) → reads_at letters.new.items b q 0 ≡ (reads_at letters.old.items b q 0 || each_read (trees_in (plans (map plan_of parts.now))) b q (length letters.old.items))) }
+    ensures count { OnOk result (length letters.new.items
+        ≡ length letters.old.items + positions_of (trees_in (plans (map plan_of parts.now)))) }
+    ensures letters { OnOk result ((b q : ℕ)
+        → reads_at letters.new.items b q 0
+        ≡ (reads_at letters.old.items b q 0 || each_read (trees_in (plans (map plan_of parts.now))) b q
+        (length letters.old.items))) }
 {
     for part in parts {
         list(part, letters)?;
@@ -46,9 +53,11 @@ fn list_each(parts: &[Part], letters: &mut Vec<ByteSet>) -> Result<(), AllocErro
 
 #[cycle(list)]
 fn list_copies(inner: &Part, count: u8, letters: &mut Vec<ByteSet>) -> Result<(), AllocError>
-    ensures count { OnOk result (length letters.new.items ≡ length letters.old.items + count * positions (tree_in (plan_of inner.now))) }
+    ensures count { OnOk result (length letters.new.items
+        ≡ length letters.old.items + count * positions (tree_in (plan_of inner.now))) }
     ensures letters { OnOk result ((b q : ℕ) → reads_at letters.new.items b q 0
-        ≡ (reads_at letters.old.items b q 0 || copies_read (reads (tree_in (plan_of inner.now)) b q) (length letters.old.items) (positions (tree_in (plan_of inner.now))) count)) }
+        ≡ (reads_at letters.old.items b q 0 || copies_read (reads (tree_in (plan_of inner.now)) b q)
+        (length letters.old.items) (positions (tree_in (plan_of inner.now))) count)) }
 {
     for k in 0..count {
         list(inner, letters)?;

@@ -89,7 +89,9 @@ fn pass_rule(
     ensures left { IfOk result (λ p. p.left ≡ rule_exits (shape_of rule.now) (lists last.now) base) }
     ensures cursor { IfOk result (λ p. IsCursor last.now p.at (base + positions_of_rule (shape_of rule.now))) }
     ensures front { IfOk result (λ _. IsFront next.new.items (base + positions_of_rule (shape_of rule.now))) }
-    ensures next { IfOk result (λ _. (q : ℕ) → lists next.new.items q ≡ (lists next.old.items q || rule_enters (shape_of rule.now) (lists last.now) q base false)) }
+    ensures next { IfOk result (λ _. (q : ℕ)
+        → lists next.new.items q ≡ (lists next.old.items q || rule_enters (shape_of rule.now)
+        (lists last.now) q base false)) }
 {
     let head = enter(&rule.head, last, at, base, false, next)?;
     match &rule.trail {
@@ -124,9 +126,15 @@ impl Walked {
         requires few { owner.base + positions_of_rule (shape_of rule.now) < 2 ^ 32 }
         requires front { IsFront self.old.followers.items owner.base }
         ensures cursor { IfOk result (λ n. IsCursor last.now n (owner.base + positions_of_rule (shape_of rule.now))) }
-        ensures front { IfOk result (λ _. IsFront self.new.followers.items (owner.base + positions_of_rule (shape_of rule.now))) }
-        ensures followers { IfOk result (λ _. (q : ℕ) → lists self.new.followers.items q ≡ (lists self.old.followers.items q || rule_enters (shape_of rule.now) (lists last.now) q owner.base false)) }
-        ensures accepted { IfOk result (λ _. self.new.accepted.items ≡ self.old.accepted.items ++ cond (rule_exits (shape_of rule.now) (lists last.now) owner.base) (owner.rule ∷ []) []) }
+        ensures front { IfOk result (λ _. IsFront self.new.followers.items
+            (owner.base + positions_of_rule (shape_of rule.now))) }
+        ensures followers { IfOk result (λ _. (q : ℕ)
+            → lists self.new.followers.items q
+            ≡ (lists self.old.followers.items q || rule_enters (shape_of rule.now)
+            (lists last.now) q owner.base false)) }
+        ensures accepted { IfOk result (λ _. self.new.accepted.items
+            ≡ self.old.accepted.items ++ cond (rule_exits (shape_of rule.now) (lists last.now) owner.base)
+            (owner.rule ∷ []) []) }
     {
         let passed = pass_rule(rule, last, at, owner.base as usize, &mut self.followers)?;
         if !passed.left {
@@ -160,7 +168,9 @@ pub fn pass_rules(
     requires owners { AreOwners (map shape_of rules.now) owners.now }
     requires cursor { IsCursor last.now 0 0 }
     requires within { (j : ℕ) → j < length last.now → slice_index last.now j < length owners.now }
-    ensures followers { IfOk result (λ w. w.followers.items ≡ listed (λ q. rules_enter (map shape_of rules.now) (λ _. false) (lists last.now) q 0 0) 0 (all_positions (map shape_of rules.now))) }
+    ensures followers { IfOk result (λ w. w.followers.items
+        ≡ listed (λ q. rules_enter (map shape_of rules.now) (λ _. false) (lists last.now) q 0 0) 0
+        (all_positions (map shape_of rules.now))) }
     ensures accepted { IfOk result (λ w. w.accepted.items ≡ rules_left (map shape_of rules.now) (lists last.now) 0 0) }
 {
     let mut walked = Walked {
@@ -186,7 +196,9 @@ fn enter_rule(
     requires few { base + positions_of_rule (shape_of rule.now) < 2 ^ 32 }
     requires front { IsFront next.old.items base }
     ensures front { IfOk result (λ _. IsFront next.new.items (base + positions_of_rule (shape_of rule.now))) }
-    ensures next { IfOk result (λ _. (q : ℕ) → lists next.new.items q ≡ (lists next.old.items q || rule_enters (shape_of rule.now) (λ _. false) q base entered)) }
+    ensures next { IfOk result (λ _. (q : ℕ)
+        → lists next.new.items q ≡ (lists next.old.items q || rule_enters (shape_of rule.now)
+        (λ _. false) q base entered)) }
 {
     enter(&rule.head, &[], 0, base, entered, next)?;
     Ok(())
@@ -197,7 +209,9 @@ pub fn enter_rules(alloc: Global, rules: &[LaidRule], on: &[bool]) -> Result<Vec
     requires sized { HaveSized rules.now }
     requires few { all_positions (map shape_of rules.now) < 2 ^ 32 }
     requires on { length on.now ≡ length rules.now }
-    ensures { IfOk result (λ v. v.items ≡ listed (λ q. rules_enter (map shape_of rules.now) (flag on.now) (λ _. false) q 0 0) 0 (all_positions (map shape_of rules.now))) }
+    ensures { IfOk result (λ v. v.items
+        ≡ listed (λ q. rules_enter (map shape_of rules.now) (flag on.now) (λ _. false) q 0 0) 0
+        (all_positions (map shape_of rules.now))) }
 {
     let mut next = Vec::new(alloc);
     let mut base = 0;

@@ -159,7 +159,8 @@ fn leave_copies(
     requires sized { IsSized (plan_of inner.now) }
     requires cursor { IsCursor last.now at base }
     requires few { base + copies.count * positions (tree_in (plan_of inner.now)) < 2 ^ 32 }
-    ensures left { result.left ≡ passes (exits (tree_in (plan_of inner.now)) (lists last.now)) base (positions (tree_in (plan_of inner.now))) copies.least false entered copies.count }
+    ensures left { result.left ≡ passes (exits (tree_in (plan_of inner.now)) (lists last.now)) base
+        (positions (tree_in (plan_of inner.now))) copies.least false entered copies.count }
     ensures cursor { IsCursor last.now result.at (base + copies.count * positions (tree_in (plan_of inner.now))) }
 {
     let step = inner.size() as usize;
@@ -196,7 +197,8 @@ fn enter_letter(
     ensures left { IfOk result (λ p. p.left ≡ lists last.now base) }
     ensures cursor { IfOk result (λ p. IsCursor last.now p.at (base + 1)) }
     ensures front { IfOk result (λ _. IsFront next.new.items (base + 1)) }
-    ensures next { IfOk result (λ _. (q : ℕ) → lists next.new.items q ≡ (lists next.old.items q || (entered && (q == base)))) }
+    ensures next { IfOk result (λ _. (q : ℕ)
+        → lists next.new.items q ≡ (lists next.old.items q || (entered && (q == base)))) }
 {
     if entered {
         next.push(base as u32)?;
@@ -221,7 +223,9 @@ pub(crate) fn enter(
     ensures left { IfOk result (λ p. p.left ≡ exits (tree_in (plan_of part.now)) (lists last.now) base entered) }
     ensures cursor { IfOk result (λ p. IsCursor last.now p.at (base + positions (tree_in (plan_of part.now)))) }
     ensures front { IfOk result (λ _. IsFront next.new.items (base + positions (tree_in (plan_of part.now)))) }
-    ensures next { IfOk result (λ _. (q : ℕ) → lists next.new.items q ≡ (lists next.old.items q || enters (tree_in (plan_of part.now)) (lists last.now) q base entered)) }
+    ensures next { IfOk result (λ _. (q : ℕ)
+        → lists next.new.items q ≡ (lists next.old.items q || enters (tree_in (plan_of part.now))
+        (lists last.now) q base entered)) }
 {
     if !entered && is_quiet(last, at, base + part.size() as usize) {
         return Ok(Passed { left: false, at });
@@ -260,10 +264,15 @@ fn enter_each(
     requires cursor { IsCursor last.now at base }
     requires few { base + positions_of (trees_in (plans (map plan_of parts.now))) < 2 ^ 32 }
     requires front { IsFront next.old.items base }
-    ensures left { IfOk result (λ p. p.left ≡ exits_each (trees_in (plans (map plan_of parts.now))) (lists last.now) base entered) }
-    ensures cursor { IfOk result (λ p. IsCursor last.now p.at (base + positions_of (trees_in (plans (map plan_of parts.now))))) }
-    ensures front { IfOk result (λ _. IsFront next.new.items (base + positions_of (trees_in (plans (map plan_of parts.now))))) }
-    ensures next { IfOk result (λ _. (q : ℕ) → lists next.new.items q ≡ (lists next.old.items q || enters_each (trees_in (plans (map plan_of parts.now))) (lists last.now) q base entered)) }
+    ensures left { IfOk result (λ p. p.left
+        ≡ exits_each (trees_in (plans (map plan_of parts.now))) (lists last.now) base entered) }
+    ensures cursor { IfOk result (λ p. IsCursor last.now p.at
+        (base + positions_of (trees_in (plans (map plan_of parts.now))))) }
+    ensures front { IfOk result (λ _. IsFront next.new.items
+        (base + positions_of (trees_in (plans (map plan_of parts.now))))) }
+    ensures next { IfOk result (λ _. (q : ℕ)
+        → lists next.new.items q ≡ (lists next.old.items q || enters_each (trees_in (plans (map plan_of parts.now)))
+        (lists last.now) q base entered)) }
 {
     let mut passed = Passed { left: entered, at };
     let mut after = base;
@@ -287,10 +296,15 @@ fn enter_some(
     requires cursor { IsCursor last.now at base }
     requires few { base + positions_of (trees_in (plans (map plan_of parts.now))) < 2 ^ 32 }
     requires front { IsFront next.old.items base }
-    ensures left { IfOk result (λ p. p.left ≡ exits_some (trees_in (plans (map plan_of parts.now))) (lists last.now) base entered) }
-    ensures cursor { IfOk result (λ p. IsCursor last.now p.at (base + positions_of (trees_in (plans (map plan_of parts.now))))) }
-    ensures front { IfOk result (λ _. IsFront next.new.items (base + positions_of (trees_in (plans (map plan_of parts.now))))) }
-    ensures next { IfOk result (λ _. (q : ℕ) → lists next.new.items q ≡ (lists next.old.items q || enters_some (trees_in (plans (map plan_of parts.now))) (lists last.now) q base entered)) }
+    ensures left { IfOk result (λ p. p.left
+        ≡ exits_some (trees_in (plans (map plan_of parts.now))) (lists last.now) base entered) }
+    ensures cursor { IfOk result (λ p. IsCursor last.now p.at
+        (base + positions_of (trees_in (plans (map plan_of parts.now))))) }
+    ensures front { IfOk result (λ _. IsFront next.new.items
+        (base + positions_of (trees_in (plans (map plan_of parts.now))))) }
+    ensures next { IfOk result (λ _. (q : ℕ)
+        → lists next.new.items q ≡ (lists next.old.items q || enters_some (trees_in (plans (map plan_of parts.now)))
+        (lists last.now) q base entered)) }
 {
     let mut left = false;
     let mut cursor = at;
@@ -318,10 +332,18 @@ fn enter_copies(
     requires cursor { IsCursor last.now at base }
     requires few { base + copies.count * positions (tree_in (plan_of inner.now)) < 2 ^ 32 }
     requires front { IsFront next.old.items base }
-    ensures left { IfOk result (λ p. p.left ≡ passes (exits (tree_in (plan_of inner.now)) (lists last.now)) base (positions (tree_in (plan_of inner.now))) copies.least false entered copies.count) }
-    ensures cursor { IfOk result (λ p. IsCursor last.now p.at (base + copies.count * positions (tree_in (plan_of inner.now)))) }
-    ensures front { IfOk result (λ _. IsFront next.new.items (base + copies.count * positions (tree_in (plan_of inner.now)))) }
-    ensures next { IfOk result (λ _. (q : ℕ) → lists next.new.items q ≡ (lists next.old.items q || comes (enters (tree_in (plan_of inner.now)) (lists last.now) q) (exits (tree_in (plan_of inner.now)) (lists last.now)) copies.loops base (positions (tree_in (plan_of inner.now))) entered copies.count)) }
+    ensures left { IfOk result (λ p. p.left
+        ≡ passes (exits (tree_in (plan_of inner.now)) (lists last.now)) base
+        (positions (tree_in (plan_of inner.now))) copies.least false entered copies.count) }
+    ensures cursor { IfOk result (λ p. IsCursor last.now p.at
+        (base + copies.count * positions (tree_in (plan_of inner.now)))) }
+    ensures front { IfOk result (λ _. IsFront next.new.items
+        (base + copies.count * positions (tree_in (plan_of inner.now)))) }
+    ensures next { IfOk result (λ _. (q : ℕ)
+        → lists next.new.items q ≡ (lists next.old.items q || comes
+        (enters (tree_in (plan_of inner.now)) (lists last.now) q)
+        (exits (tree_in (plan_of inner.now)) (lists last.now)) copies.loops base
+        (positions (tree_in (plan_of inner.now))) entered copies.count)) }
 {
     let step = inner.size() as usize;
     let mut left = entered;
@@ -362,7 +384,10 @@ fn enter_copy(
     ensures left { IfOk result (λ p. p.left ≡ exits (tree_in (plan_of inner.now)) (lists last.now) base entered) }
     ensures cursor { IfOk result (λ p. IsCursor last.now p.at (base + positions (tree_in (plan_of inner.now)))) }
     ensures front { IfOk result (λ _. IsFront next.new.items (base + positions (tree_in (plan_of inner.now)))) }
-    ensures next { IfOk result (λ _. (q : ℕ) → lists next.new.items q ≡ (lists next.old.items q || enters (tree_in (plan_of inner.now)) (lists last.now) q base (entered || (loops && exits (tree_in (plan_of inner.now)) (lists last.now) base false)))) }
+    ensures next { IfOk result (λ _. (q : ℕ)
+        → lists next.new.items q ≡ (lists next.old.items q || enters (tree_in (plan_of inner.now))
+        (lists last.now) q base (entered ||
+        (loops && exits (tree_in (plan_of inner.now)) (lists last.now) base false)))) }
 {
     if !entered && is_quiet(last, at, base + inner.size() as usize) {
         return Ok(Passed { left: false, at });

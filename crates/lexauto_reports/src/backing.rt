@@ -20,7 +20,9 @@ pub fn backing_up(alloc: Global, dfa: &Dfa) -> Result<Vec<BackUp>, OutOfMemory>
     ensures ascending { IfOk result (λ v. Ascending (states_in v.items)) }
     ensures states { IfOk result (λ v. (s : ℕ) → Among (states_in v.items) s ↔ BacksUp dfa.now.parts s) }
     ensures words { IfOk result (λ v. (e : BackUp) → Among v.items e → IsFirstWord dfa.now.parts e.state e.word.items) }
-    ensures back_words { IfOk result (λ v. (S : Spec) → conditions_of dfa.now ≡ length S.conditions → TableFor (machine_of dfa.now S) S → (s : ℕ) → Among (states_in v.items) s ↔ IsAfterBackWord (machine_of dfa.now S) S s) }
+    ensures back_words { IfOk result (λ v. (S : Spec) → conditions_of dfa.now ≡ length S.conditions
+        → TableFor (machine_of dfa.now S) S → (s : ℕ)
+        → Among (states_in v.items) s ↔ IsAfterBackWord (machine_of dfa.now S) S s) }
 {
     let found = search(alloc, dfa)?;
     let entries = entries(alloc, dfa, &found)?;

@@ -49,7 +49,8 @@ fn of_code(alloc: Global, lines: &[u32]) -> Result<Vec<Warning>, AllocError>
 /// Adds a warning for each of some rules.
 fn add_rules(warnings: &mut Vec<Warning>, rules: &[Rule], useless: &[u32]) -> Result<(), AllocError>
     requires known { (i : ℕ) → Among useless.now i → i < length rules.now }
-    ensures { OnOk result (warnings.new.items ≡ warnings.old.items ++ map (of_rule (map rule_of rules.now)) useless.now) }
+    ensures { OnOk result (warnings.new.items
+        ≡ warnings.old.items ++ map (of_rule (map rule_of rules.now)) useless.now) }
 {
     for rule in useless {
         warnings.push(Warning {

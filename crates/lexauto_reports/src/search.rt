@@ -52,7 +52,8 @@ fn put_first(places: &mut Vec<Option<usize>>, states: &[u32])
     requires known { (x : ℕ) → Among states.now x → x < length places.old.items }
     ensures len { length places.new.items ≡ length places.old.items }
     ensures first { (x : ℕ) → Among states.now x → place_of places.new.items x ≡ Some 0 }
-    ensures only { (x j : ℕ) → place_of places.new.items x ≡ Some j → (place_of places.old.items x ≡ Some j) ⊎ ((j ≡ 0) × Among states.now x) }
+    ensures only { (x j : ℕ) → place_of places.new.items x ≡ Some j
+        → (place_of places.old.items x ≡ Some j) ⊎ ((j ≡ 0) × Among states.now x) }
 {
     for state in states {
         places[*state as usize] = Some(0);
@@ -80,8 +81,10 @@ fn expand(
     place: usize,
 ) -> Result<(), AllocError>
     requires here { IsAt dfa.now.parts (words_of groups.old) (states_of_groups groups.old) places.old.items place 0 }
-    ensures up_to { OnOk result (IsUpTo dfa.now.parts (words_of groups.new) (states_of_groups groups.new) places.new.items (place + 1)) }
-    ensures fewer { OnOk result (length groups.new.groups.items + unfound places.new.items ≤ length groups.old.groups.items + unfound places.old.items) }
+    ensures up_to { OnOk result (IsUpTo dfa.now.parts (words_of groups.new)
+        (states_of_groups groups.new) places.new.items (place + 1)) }
+    ensures fewer { OnOk result (length groups.new.groups.items + unfound places.new.items
+        ≤ length groups.old.groups.items + unfound places.old.items) }
 {
     for byte in 0..256u32 {
         visit(alloc, dfa, groups, places, place, byte as u8)?;
@@ -99,8 +102,10 @@ fn visit(
     byte: u8,
 ) -> Result<(), AllocError>
     requires here { IsAt dfa.now.parts (words_of groups.old) (states_of_groups groups.old) places.old.items place byte }
-    ensures next { OnOk result (IsAt dfa.now.parts (words_of groups.new) (states_of_groups groups.new) places.new.items place (byte + 1)) }
-    ensures fewer { OnOk result (length groups.new.groups.items + unfound places.new.items ≤ length groups.old.groups.items + unfound places.old.items) }
+    ensures next { OnOk result (IsAt dfa.now.parts (words_of groups.new)
+        (states_of_groups groups.new) places.new.items place (byte + 1)) }
+    ensures fewer { OnOk result (length groups.new.groups.items + unfound places.new.items
+        ≤ length groups.old.groups.items + unfound places.old.items) }
 {
     let next = groups.groups.len();
     let states = unseen(alloc, dfa, &groups.groups[place].states, byte, places, next)?;
@@ -123,10 +128,14 @@ fn unseen(
     requires len { length places.old.items ≡ 3 * states_of dfa.now }
     requires known { (x : ℕ) → Among states.now x → x < 3 * states_of dfa.now }
     ensures len { OnOk result (length places.new.items ≡ length places.old.items) }
-    ensures kept { OnOk result ((x j : ℕ) → place_of places.old.items x ≡ Some j → place_of places.new.items x ≡ Some j) }
-    ensures only { IfOk result (λ v. (x j : ℕ) → place_of places.new.items x ≡ Some j → (place_of places.old.items x ≡ Some j) ⊎ ((j ≡ place) × Among v.items x)) }
-    ensures seen { IfOk result (λ v. (x : ℕ) → Among v.items x → (x < 3 * states_of dfa.now) × (y : ℕ) × Among states.now y × (step dfa.now.parts y byte ≡ x)) }
-    ensures all { OnOk result ((y : ℕ) → Among states.now y → (j : ℕ) × (place_of places.new.items (step dfa.now.parts y byte) ≡ Some j)) }
+    ensures kept { OnOk result ((x j : ℕ) → place_of places.old.items x ≡ Some j
+        → place_of places.new.items x ≡ Some j) }
+    ensures only { IfOk result (λ v. (x j : ℕ) → place_of places.new.items x ≡ Some j
+        → (place_of places.old.items x ≡ Some j) ⊎ ((j ≡ place) × Among v.items x)) }
+    ensures seen { IfOk result (λ v. (x : ℕ) → Among v.items x → (x < 3 * states_of dfa.now) × (y : ℕ)
+        × Among states.now y × (step dfa.now.parts y byte ≡ x)) }
+    ensures all { OnOk result ((y : ℕ) → Among states.now y → (j : ℕ)
+        × (place_of places.new.items (step dfa.now.parts y byte) ≡ Some j)) }
     ensures fewer { IfOk result (λ v. length v.items + unfound places.new.items ≡ unfound places.old.items) }
 {
     let mut unseen = Vec::new(alloc);

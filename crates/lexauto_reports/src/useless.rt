@@ -53,7 +53,8 @@ fn set(flags: &mut [bool], rules: &[u32])
 fn unset(alloc: Global, flags: &[bool]) -> Result<Vec<u32>, AllocError>
     requires few { length flags.now < 2 ^ 32 }
     ensures ascending { IfOk result (λ v. Ascending v.items) }
-    ensures unset { IfOk result (λ v. (i : ℕ) → Among v.items i ↔ ((i < length flags.now) × (flag flags.now i ≡ false))) }
+    ensures unset { IfOk result (λ v. (i : ℕ)
+        → Among v.items i ↔ ((i < length flags.now) × (flag flags.now i ≡ false))) }
 {
     let mut places = Vec::new(alloc);
     for place in 0..flags.len() {

@@ -39,7 +39,8 @@ impl Groups {
         states: Vec<u32>,
     ) -> Result<(), AllocError>
         requires { place < length (words_of self.old) }
-        ensures words { OnOk result (words_of self.new ≡ words_of self.old ++ (at (words_of self.old) place ++ byte ∷ []) ∷ []) }
+        ensures words { OnOk result (words_of self.new
+            ≡ words_of self.old ++ (at (words_of self.old) place ++ byte ∷ []) ∷ []) }
         ensures states { OnOk result (states_of_groups self.new ≡ states_of_groups self.old ++ states.items ∷ []) }
         ensures more { OnOk result (length self.new.groups.items ≡ length self.old.groups.items + 1) }
     {
@@ -64,7 +65,8 @@ fn lengthen(
     requires within { end ≤ length text.old.items }
     ensures grown { (xs : List ℕ) × (text.new.items ≡ text.old.items ++ xs) }
     ensures begins { IfOk result (λ i. i ≤ length text.new.items) }
-    ensures word { IfOk result (λ i. drop i text.new.items ≡ take (end - start) (drop start text.old.items) ++ byte ∷ []) }
+    ensures word { IfOk result (λ i. drop i text.new.items
+        ≡ take (end - start) (drop start text.old.items) ++ byte ∷ []) }
 {
     if end == text.len() {
         text.push(byte)?;

@@ -19,7 +19,15 @@ pub struct Options {
 impl Options {
     /// Patterns as they stand, and automata of at most 16,384 positions and 8,192 states.
     pub fn new() -> Options
-        ensures { result ≡ record { fold = false; posix = false; limits = record { positions = max_positions; states = max_states } } }
+        ensures { result ≡ record {
+          fold = false;
+          posix = false;
+          limits = record {
+            positions = max_positions;
+            states =
+                max_states;
+          };
+        } }
     {
         Options {
             fold: false,

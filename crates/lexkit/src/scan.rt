@@ -33,7 +33,8 @@ pub fn scan_spec<S: Source, K: Sink>(
     requires few_ends { S.ends source.old < 2 ^ 64 - 1 }
     requires few_read_faults { S.failures source.old < 2 ^ 64 - 1 }
     requires few_write_faults { K.failures sink.old < 2 ^ 64 - 1 }
-    ensures told { Headline S.gave K.wrote options text.now (nat_lt (S.ends source.old) (S.ends source.new)) source.old source.new sink.old sink.new result }
+    ensures told { Headline S.gave K.wrote options text.now
+        (nat_lt (S.ends source.old) (S.ends source.new)) source.old source.new sink.old sink.new result }
     ensures read_faults { S.failures source.new ≡ S.failures source.old + read_fault_count result }
     ensures write_faults { K.failures sink.new ≡ K.failures sink.old + write_fault_count result }
     ensures ends_stay { S.ends source.old ≤ S.ends source.new }
@@ -63,7 +64,8 @@ fn scan_by<S: Source, K: Sink>(
     requires few_ends { S.ends source.old < 2 ^ 64 - 1 }
     requires few_read_faults { S.failures source.old < 2 ^ 64 - 1 }
     requires few_write_faults { K.failures sink.old < 2 ^ 64 - 1 }
-    ensures told { ScansBy S.gave K.wrote limits (spec_of spec.now) (nat_lt (S.ends source.old) (S.ends source.new)) source.old source.new sink.old sink.new result }
+    ensures told { ScansBy S.gave K.wrote limits (spec_of spec.now)
+        (nat_lt (S.ends source.old) (S.ends source.new)) source.old source.new sink.old sink.new result }
     ensures read_faults { S.failures source.new ≡ S.failures source.old + read_fault_count result }
     ensures write_faults { K.failures sink.new ≡ K.failures sink.old + write_fault_count result }
     ensures ends_stay { S.ends source.old ≤ S.ends source.new }
@@ -99,7 +101,8 @@ pub fn scan_table<S: Source, K: Sink>(
     requires few_ends { S.ends source.old < 2 ^ 64 - 1 }
     requires few_read_faults { S.failures source.old < 2 ^ 64 - 1 }
     requires few_write_faults { K.failures sink.old < 2 ^ 64 - 1 }
-    ensures told { TableHeadline S.gave K.wrote bytes.now (nat_lt (S.ends source.old) (S.ends source.new)) source.old source.new sink.old sink.new result }
+    ensures told { TableHeadline S.gave K.wrote bytes.now
+        (nat_lt (S.ends source.old) (S.ends source.new)) source.old source.new sink.old sink.new result }
     ensures read_faults { S.failures source.new ≡ S.failures source.old + read_fault_count result }
     ensures write_faults { K.failures sink.new ≡ K.failures sink.old + write_fault_count result }
     ensures ends_stay { S.ends source.old ≤ S.ends source.new }

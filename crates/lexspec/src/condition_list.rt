@@ -18,8 +18,11 @@ use std::alloc::{AllocError, Global};
 /// The conditions that the names between commas list, each as a flag at its number. None where a name is not declared.
 fn listed(conditions: &[Condition], names: &[u8]) -> Option<[bool; MAX_CONDITIONS]>
     requires { length conditions.now ≤ max_conditions }
-    ensures numbered { IfSome result (λ _. all_numbered (number_from 0 (names_of conditions.now)) (parts names.now) ≡ true) }
-    ensures listed { IfSome result (λ flags. (c : ℕ) → c < max_conditions → slice_index_or flags c false ≡ list_any (λ name. is_number (number_from 0 (names_of conditions.now) name) c) (parts names.now)) }
+    ensures numbered { IfSome result
+        (λ _. all_numbered (number_from 0 (names_of conditions.now)) (parts names.now) ≡ true) }
+    ensures listed { IfSome result (λ flags. (c : ℕ) → c < max_conditions
+        → slice_index_or flags c false ≡ list_any
+        (λ name. is_number (number_from 0 (names_of conditions.now) name) c) (parts names.now)) }
     ensures none { IfNone result (all_numbered (number_from 0 (names_of conditions.now)) (parts names.now) ≡ false) }
 {
     let mut flags = [false; MAX_CONDITIONS];
@@ -38,7 +41,8 @@ fn listed(conditions: &[Condition], names: &[u8]) -> Option<[bool; MAX_CONDITION
 /// The numbers below the count at which a flag is set, ascending.
 fn numbers_where(alloc: Global, flags: &[bool], count: u8) -> Result<Vec<u8>, AllocError>
     requires { length flags.now ≡ max_conditions }
-    ensures { IfOk result (λ v. (test : ℕ → Bool) → ((c : ℕ) → c < max_conditions → slice_index_or flags.now c false ≡ test c) → v.items ≡ listed test 0 count) }
+    ensures { IfOk result (λ v. (test : ℕ → Bool)
+        → ((c : ℕ) → c < max_conditions → slice_index_or flags.now c false ≡ test c) → v.items ≡ listed test 0 count) }
 {
     let mut numbers = Vec::new(alloc);
     for number in 0..count {
@@ -57,8 +61,13 @@ pub(crate) fn condition_numbers(
     asked: Conditions<'_>,
 ) -> Result<Option<Vec<u8>>, SpecErrorKind>
     requires { length conditions.now ≤ max_conditions }
-    ensures found { IfOk result (λ v. ◌≡◌ {A = Option (Option (List ℕ))} (numbers_of (number_from 0 (names_of conditions.now)) (length conditions.now) (conditions_of asked.entry)) (Some (option_map (λ v. v.items) v))) }
-    ensures none { IfErr result (λ e. UnlessMemory e (◌≡◌ {A = Option (Option (List ℕ))} (numbers_of (number_from 0 (names_of conditions.now)) (length conditions.now) (conditions_of asked.entry)) None)) }
+    ensures found { IfOk result (λ v. ◌≡◌ {A = Option (Option (List ℕ))}
+        (numbers_of (number_from 0 (names_of conditions.now)) (length conditions.now) (conditions_of asked.entry))
+        (Some (option_map (λ v. v.items) v))) }
+    ensures none { IfErr result (λ e. UnlessMemory e
+        (◌≡◌ {A = Option (Option (List ℕ))}
+        (numbers_of (number_from 0 (names_of conditions.now)) (length conditions.now)
+        (conditions_of asked.entry)) None)) }
 {
     let count = conditions.len() as u8;
     match asked {

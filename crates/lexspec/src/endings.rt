@@ -50,8 +50,11 @@ fn clash(end: &EndRule, other: &EndRule) -> bool
 
 /// Whether a rule may join others: none of them has a condition of its list, or, if it has no list, each of them has one.
 pub(crate) fn may_join(ends: &[EndRule], end: &EndRule) -> bool
-    ensures found { result ≡ true → (count : ℕ) → AreSingle count (map end_rule_of ends.now) → AreSingle count (map end_rule_of ends.now ++ end_rule_of end.now ∷ []) }
-    ensures none { result ≡ false → (count : ℕ) (more : List EndRuleMeant) → sound_list count (numbers_kept end.now) ≡ true → AreSingle count (map end_rule_of ends.now ++ end_rule_of end.now ∷ more) → ⊥ }
+    ensures found { result ≡ true → (count : ℕ) → AreSingle count (map end_rule_of ends.now)
+        → AreSingle count (map end_rule_of ends.now ++ end_rule_of end.now ∷ []) }
+    ensures none { result ≡ false → (count : ℕ) (more : List EndRuleMeant)
+        → sound_list count (numbers_kept end.now) ≡ true
+        → AreSingle count (map end_rule_of ends.now ++ end_rule_of end.now ∷ more) → ⊥ }
 {
     for other in ends {
         if clash(other, end) {
@@ -100,7 +103,12 @@ fn end_of(alloc: Global, ends: &[EndRule], number: u8) -> Result<EndAction, Allo
 
 /// The condition with this end action.
 fn with_end(condition: Condition, end: EndAction) -> Condition
-    ensures { condition_of result ≡ record { name = condition.name.items; exclusive = condition.exclusive; end = end_action_of end } }
+    ensures { condition_of result ≡ record {
+      name = condition.name.items;
+      exclusive = condition.exclusive;
+      end =
+          end_action_of end;
+    } }
 {
     let mut ended = condition;
     ended.end = end;
@@ -114,7 +122,8 @@ pub(crate) fn with_ends(
     ends: &[EndRule],
 ) -> Result<Vec<Condition>, AllocError>
     requires { length conditions.items ≤ max_conditions }
-    ensures { IfOk result (λ cs. map condition_of cs.items ≡ conditions_with 0 (map declared_of conditions.items) (map end_rule_of ends.now)) }
+    ensures { IfOk result (λ cs. map condition_of cs.items
+        ≡ conditions_with 0 (map declared_of conditions.items) (map end_rule_of ends.now)) }
 {
     let mut ended = Vec::new(alloc);
     for condition in conditions {

@@ -32,8 +32,10 @@ pub fn one_specification()
 /// The rules that items spell, with the conditions and their ends, pass the test where each rule has sound sides, there
 /// are 1 to 255 conditions, and there are at most 4,096 rules.
 pub fn sound_specifications()
-    ensures { (cs : List Declared) (how : ReadOptions) (stack : Bool) (defined : Definitions) (items : List (ℕ × Item)) (rules : List Rule) (ends : List EndRule)
-        → 1 ≤ length cs → length cs ≤ max_conditions → length rules ≤ max_rules → AreRules (names_of cs) how stack defined items rules ends → HaveSoundSides rules
+    ensures { (cs : List Declared) (how : ReadOptions) (stack : Bool) (defined : Definitions) (items : List (ℕ
+        × Item)) (rules : List Rule) (ends : List EndRule)
+        → 1 ≤ length cs → length cs ≤ max_conditions → length rules ≤ max_rules
+        → AreRules (names_of cs) how stack defined items rules ends → HaveSoundSides rules
         → is_sound (record { conditions = conditions_with 0 cs ends; rules = rules }) ≡ true }
 {}
 

@@ -60,10 +60,12 @@ fn read_side(
     at: usize,
 ) -> Result<Pattern, SpecErrorKind>
     requires known_so_far { AreKept declarations.now names.old }
-    ensures found { IfOk result (λ p. Spells declarations.now.options declarations.now.definitions text.now (tree_of p)) }
+    ensures found { IfOk result (λ p. Spells declarations.now.options declarations.now.definitions text.now
+        (tree_of p)) }
     ensures sound { IfOk result (λ p. IsSoundTree (tree_of p)) }
     ensures known { OnOk result (AreKept declarations.now names.new) }
-    ensures none { IfErr result (λ e. UnlessMemory e ((t : Tree) → Spells declarations.now.options declarations.now.definitions text.now t → ⊥)) }
+    ensures none { IfErr result (λ e. UnlessMemory e ((t : Tree)
+        → Spells declarations.now.options declarations.now.definitions text.now t → ⊥)) }
 {
     let Declarations {
         options,
@@ -88,10 +90,12 @@ fn read_trail(
     at: usize,
 ) -> Result<Option<Pattern>, SpecErrorKind>
     requires known_so_far { AreKept declarations.now names.old }
-    ensures found { IfOk result (λ t. IsTrail declarations.now.options declarations.now.definitions (trailing_of trail.entry) (option_map tree_of t)) }
+    ensures found { IfOk result (λ t. IsTrail declarations.now.options declarations.now.definitions
+        (trailing_of trail.entry) (option_map tree_of t)) }
     ensures sound { IfOk result (λ t. IfSome t (λ p. IsSoundTree (tree_of p))) }
     ensures known { OnOk result (AreKept declarations.now names.new) }
-    ensures none { IfErr result (λ e. UnlessMemory e ((t : Option Tree) → IsTrail declarations.now.options declarations.now.definitions (trailing_of trail.entry) t → ⊥)) }
+    ensures none { IfErr result (λ e. UnlessMemory e ((t : Option Tree)
+        → IsTrail declarations.now.options declarations.now.definitions (trailing_of trail.entry) t → ⊥)) }
 {
     match trail {
         Trailing::None => Ok(None),
@@ -114,8 +118,10 @@ fn read_sides(
     at: usize,
 ) -> Result<Sides, SpecErrorKind>
     requires known_so_far { AreKept declarations.now names.old }
-    ensures head { IfOk result (λ s. Spells declarations.now.options declarations.now.definitions head.now (tree_of s.head)) }
-    ensures trail { IfOk result (λ s. IsTrail declarations.now.options declarations.now.definitions (trailing_of trail.entry) (option_map tree_of s.trail)) }
+    ensures head { IfOk result (λ s. Spells declarations.now.options declarations.now.definitions head.now
+        (tree_of s.head)) }
+    ensures trail { IfOk result (λ s. IsTrail declarations.now.options declarations.now.definitions
+        (trailing_of trail.entry) (option_map tree_of s.trail)) }
     ensures cut { IfOk result (λ s. IsCutOf (tree_of s.head) (option_map tree_of s.trail) (cut_of s.cut)) }
     ensures sound { IfOk result (λ s. AreSoundSides (tree_of s.head) (option_map tree_of s.trail)) }
     ensures known { OnOk result (AreKept declarations.now names.new) }
@@ -197,8 +203,10 @@ pub(crate) fn read_rule_text<'a>(
 /// The rule with the action that follows its pattern. An action that is left open is `Unclosed`.
 fn with_action(front: Front, after: &[u8]) -> Result<RuleText<'_>, SpecErrorKind>
     ensures front { IfOk result (λ x. x.front ≡ front) }
-    ensures action { IfOk result (λ x. ◌≡◌ {A = Option (List ℕ × List ℕ)} (action_in outside 0 (after_blanks after.now)) (Some (x.action.now, x.rest.now))) }
-    ensures none { OnErr result (◌≡◌ {A = Option (List ℕ × List ℕ)} (action_in outside 0 (after_blanks after.now)) None) }
+    ensures action { IfOk result (λ x. ◌≡◌ {A = Option (List ℕ
+        × List ℕ)} (action_in outside 0 (after_blanks after.now)) (Some (x.action.now, x.rest.now))) }
+    ensures none { OnErr result (◌≡◌ {A = Option (List ℕ
+        × List ℕ)} (action_in outside 0 (after_blanks after.now)) None) }
     ensures fault { IfErr result (λ e. e ≡ Unclosed) }
 {
     match split_action(skip_blanks(after)) {

@@ -49,7 +49,8 @@ fn begins_end(text: &[u8]) -> bool
 /// Keeps the line of what is skipped there, if it is code.
 fn add_skip(skipped: &mut Skipped, skip: Skip, line: u32) -> Result<(), AllocError>
     requires { line + 1 < 2 ^ 32 }
-    ensures { OnOk result (skipped.new.lines.items ≡ lines_with skip (next_in skipped.old) line skipped.old.lines.items) }
+    ensures { OnOk result (skipped.new.lines.items
+        ≡ lines_with skip (next_in skipped.old) line skipped.old.lines.items) }
 {
     match skip {
         Skip::Blank => Ok(()),
@@ -90,11 +91,13 @@ impl RulesSoFar {
         requires no_end { begins (codes "%%") text.now ≡ false }
         requires line { line + 1 < 2 ^ 32 }
         requires room { length self.rules.items + length self.waiting.items ≤ max_rules }
-        ensures found { IfOk result (λ x. (start : ℕ) (whole : List ℕ) → Agrees declarations.now start whole self line text.now
+        ensures found { IfOk result (λ x. (start : ℕ) (whole : List ℕ)
+            → Agrees declarations.now start whole self line text.now
             → Agrees declarations.now start whole x.0 (line + (newlines text.now - newlines x.1.now)) x.1.now) }
         ensures keeps { IfOk result (λ x. Keeps declarations.now self → Keeps declarations.now x.0) }
         ensures known { OnOk result (AreKept declarations.now names.new) }
-        ensures counts { IfOk result (λ x. newlines (take (length text.now - length x.1.now) text.now) + newlines x.1.now ≡ newlines text.now) }
+        ensures counts { IfOk result (λ x. newlines
+            (take (length text.now - length x.1.now) text.now) + newlines x.1.now ≡ newlines text.now) }
         ensures shorter { IfOk result (λ x. length x.1.now < length text.now) }
         ensures none { IfErr result (λ e. UnlessMemory e (NoneLeft declarations.now self line text.now)) }
     {
@@ -143,7 +146,8 @@ impl RulesSoFar {
         ensures rest { IfOk result (λ s. s.rest.now ≡ rest.now) }
         ensures line { IfOk result (λ s. s.line ≡ line) }
         ensures none { IfErr result (λ e. length self.waiting.items ≡ 0 → ⊥) }
-        ensures fault { IfErr result (λ e. e ≡ record { line = line_of_last line self.waiting.items; kind = DanglingBar }) }
+        ensures fault { IfErr result (λ e. e
+            ≡ record { line = line_of_last line self.waiting.items; kind = DanglingBar }) }
     {
         let RulesSoFar {
             rules,

@@ -37,8 +37,10 @@ impl RulesSoFar {
     ) -> Result<RulesSoFar, SpecErrorKind>
         requires { length declarations.now.conditions.items ≤ max_conditions }
         ensures found { IfOk result (λ s. GoesOn declarations.now (Matching rule) action.now self s) }
-        ensures keeps { IfOk result (λ s. HasSoundFront (Matching rule) → HasRoom (Matching rule) self → Keeps declarations.now self → Keeps declarations.now s) }
-        ensures none { IfErr result (λ e. UnlessMemory e (NoRulesAfter declarations.now self (Matching rule) action.now)) }
+        ensures keeps { IfOk result (λ s. HasSoundFront (Matching rule) → HasRoom (Matching rule) self
+            → Keeps declarations.now self → Keeps declarations.now s) }
+        ensures none { IfErr result (λ e. UnlessMemory e
+            (NoRulesAfter declarations.now self (Matching rule) action.now)) }
     {
         let RulesSoFar {
             rules,
@@ -79,7 +81,8 @@ impl RulesSoFar {
         requires { length declarations.now.conditions.items ≤ max_conditions }
         ensures found { IfOk result (λ s. GoesOn declarations.now (AtEnd conditions) action.now self s) }
         ensures keeps { IfOk result (λ s. Keeps declarations.now self → Keeps declarations.now s) }
-        ensures none { IfErr result (λ e. UnlessMemory e (NoRulesAfter declarations.now self (AtEnd conditions) action.now)) }
+        ensures none { IfErr result (λ e. UnlessMemory e
+            (NoRulesAfter declarations.now self (AtEnd conditions) action.now)) }
     {
         if !self.waiting.is_empty() {
             return Err(SpecErrorKind::DanglingBar);
@@ -110,8 +113,10 @@ impl RulesSoFar {
     ) -> Result<RulesSoFar, SpecErrorKind>
         requires { length declarations.now.conditions.items ≤ max_conditions }
         ensures found { IfOk result (λ s. GoesOn declarations.now text.entry.front text.entry.action.now self s) }
-        ensures keeps { IfOk result (λ s. HasSoundFront text.entry.front → HasRoom text.entry.front self → Keeps declarations.now self → Keeps declarations.now s) }
-        ensures none { IfErr result (λ e. UnlessMemory e (NoRulesAfter declarations.now self text.entry.front text.entry.action.now)) }
+        ensures keeps { IfOk result (λ s. HasSoundFront text.entry.front → HasRoom text.entry.front self
+            → Keeps declarations.now self → Keeps declarations.now s) }
+        ensures none { IfErr result (λ e. UnlessMemory e
+            (NoRulesAfter declarations.now self text.entry.front text.entry.action.now)) }
     {
         let RuleText {
             front,

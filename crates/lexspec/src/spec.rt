@@ -25,8 +25,13 @@ impl Spec {
 
     /// A specification of these conditions and rules. `skipped` has the lines of skipped code.
     pub(crate) fn new(conditions: Vec<Condition>, rules: Vec<Rule>, skipped: Vec<u32>) -> Spec
-        requires { is_sound (record { conditions = map condition_of conditions.items; rules = map rule_of rules.items }) ≡ true }
-        ensures spec { spec_of result ≡ record { conditions = map condition_of conditions.items; rules = map rule_of rules.items } }
+        requires { is_sound (record { conditions = map condition_of conditions.items; rules = map rule_of rules.items })
+            ≡ true }
+        ensures spec { spec_of result ≡ record {
+          conditions = map condition_of conditions.items;
+          rules = map rule_of
+              rules.items;
+        } }
     {
         Spec {
             conditions,

@@ -26,7 +26,8 @@ pub(crate) fn finish(
     statements: Vec<Statement>,
 ) -> Result<Vec<Rule>, AllocError>
     ensures { IfOk result (λ rs. map rule_of rs.items ≡ map rule_of done.items
-        ++ (map (acting (map statement_of statements.items)) (map rule_of waiting.items) ++ acting (map statement_of statements.items) (rule_of rule) ∷ [])) }
+        ++ (map (acting (map statement_of statements.items)) (map rule_of waiting.items)
+        ++ acting (map statement_of statements.items) (rule_of rule) ∷ [])) }
 {
     let mut rules = done;
     for waiter in waiting {

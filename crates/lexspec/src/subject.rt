@@ -59,7 +59,8 @@ fn without_bytes(text: &[u8], count: usize) -> &[u8]
 /// The condition list at the front of a rule, and what follows it. None where a list is not closed on its line.
 #[tactic(auto, unfolding(crate::specs::Items::conditions_at))]
 pub(crate) fn conditions_at(text: &[u8]) -> Option<(Conditions<'_>, &[u8])>
-    ensures { ◌≡◌ {A = Option (AskedFor × List ℕ)} (conditions_at text.now) (option_map (λ x. (conditions_of x.0, x.1.now)) result) }
+    ensures { ◌≡◌ {A = Option (AskedFor
+        × List ℕ)} (conditions_at text.now) (option_map (λ x. (conditions_of x.0, x.1.now)) result) }
 {
     if text.starts_with(b"<<EOF>>") || !text.starts_with(b"<") {
         return Some((Conditions::Unlisted, text));
@@ -78,7 +79,9 @@ pub(crate) fn conditions_at(text: &[u8]) -> Option<(Conditions<'_>, &[u8])>
 
 /// The head and the trailing context of a pattern that ends without a second slash.
 fn sides<'a>(text: &'a [u8], cutting: Cutting) -> Option<(&'a [u8], Trailing<'a>)>
-    ensures { ◌≡◌ {A = Option (List ℕ × TrailMeant)} (option_map (λ x. (x.0.now, trailing_of x.1)) result) (sides text.now cutting.end cutting.slash cutting.dollar) }
+    ensures { ◌≡◌ {A = Option (List ℕ
+        × TrailMeant)} (option_map (λ x. (x.0.now, trailing_of x.1)) result)
+        (sides text.now cutting.end cutting.slash cutting.dollar) }
 {
     match cutting.slash {
         None if cutting.dollar => Some((
@@ -102,7 +105,8 @@ fn sides<'a>(text: &'a [u8], cutting: Cutting) -> Option<(&'a [u8], Trailing<'a>
 /// `Pattern` fault where the text has no cutting, and `TwoTrailing` where it has two trailing contexts.
 fn pattern_at(text: &[u8], at: usize) -> Result<((&[u8], Trailing<'_>), &[u8]), SpecErrorKind>
     ensures found { IfOk result (λ x. IsPattern text.now x.0.0.now (trailing_of x.0.1) x.1.now) }
-    ensures none { OnErr result ((head : List ℕ) (after : TrailMeant) (rest : List ℕ) → IsPattern text.now head after rest → ⊥) }
+    ensures none { OnErr result ((head : List ℕ) (after : TrailMeant) (rest : List ℕ)
+        → IsPattern text.now head after rest → ⊥) }
     ensures fault { IfErr result (λ e. IsSubjectFault e) }
 {
     let cutting = match cut_pattern(text) {

@@ -7,5 +7,6 @@ ghost use Rattle.lextab_file.specs.File.{file_of};
 /// Bytes that begin with a table's file begin with no other table's file, and with it in one way: a file is one
 /// table's, and no file is a proper prefix of another.
 pub fn one_table()
-    ensures { (t u : Table) (x y : List ℕ) → IsTable t → IsTable u → file_of t ++ x ≡ file_of u ++ y → (t ≡ u) × (x ≡ y) }
+    ensures { (t u : Table) (x y : List ℕ) → IsTable t → IsTable u
+        → file_of t ++ x ≡ file_of u ++ y → (t ≡ u) × (x ≡ y) }
 {}

@@ -18,7 +18,8 @@ fn mark_live(
 ) -> Result<(), AllocError>
     requires state { state < length live.old.items }
     requires one_each { length live.old.items ≡ length accepting.now }
-    ensures { OnOk result (Spreads (λ x. x ≡ state) accepting.now live.old.items waiting.old.items live.new.items waiting.new.items) }
+    ensures { OnOk result (Spreads (λ x. x
+        ≡ state) accepting.now live.old.items waiting.old.items live.new.items waiting.new.items) }
 {
     if live[state as usize] {
         return Ok(());
@@ -41,7 +42,8 @@ fn mark_sources(
     requires target { target < length live.old.items }
     requires one_each { length live.old.items ≡ length accepting.now }
     requires targets { length sources.now.chains.last.items ≡ length live.old.items }
-    ensures { OnOk result (Spreads (GoesTo sources.now.next.now target) accepting.now live.old.items waiting.old.items live.new.items waiting.new.items) }
+    ensures { OnOk result (Spreads (GoesTo sources.now.next.now target) accepting.now live.old.items waiting.old.items
+        live.new.items waiting.new.items) }
 {
     let mut entry = sources.chains.last[target as usize];
     'chain: while entry > 0 {

@@ -44,7 +44,8 @@ pub fn read_tables(alloc: Global, bytes: &[u8]) -> Result<Tables, TableError>
     // Unless memory ran out, the bytes are no table's file.
     ensures none { IfErr result (λ e. is_out_of_memory e ≡ false → (t : Table) → IsFileOf t bytes.now → ⊥) }
     // A proper prefix of the bytes is a table's file.
-    ensures trailing { IfErr result (λ e. is_trailing e ≡ true → (t : Table) × (rest : List ℕ) × IsTable t × (bytes.now ≡ file_of t ++ rest) × (0 < length rest)) }
+    ensures trailing { IfErr result (λ e. is_trailing e ≡ true → (t : Table) × (rest : List ℕ) × IsTable t
+        × (bytes.now ≡ file_of t ++ rest) × (0 < length rest)) }
 {
     let parts = read_parts(alloc, bytes)?;
     let goes_on = going_on(alloc, &parts)?;

@@ -30,7 +30,8 @@ fn slot_count(parts: &TableParts) -> usize
 fn put_header<K: Sink>(sink: &mut K, parts: &TableParts) -> Result<(), WriteFault>
     requires few { K.failures sink.old < 2 ^ 64 - 1 }
     requires fits { FitsParts parts.now }
-    ensures bytes { Appended (λ xs. K.wrote sink.old xs sink.new) (magic ++ (short (version_of (table_of parts.now).rules) ++ sizes_text (sizes_of (table_of parts.now)))) result }
+    ensures bytes { Appended (λ xs. K.wrote sink.old xs sink.new) (magic
+        ++ (short (version_of (table_of parts.now).rules) ++ sizes_text (sizes_of (table_of parts.now)))) result }
     ensures failures { K.failures sink.new ≡ K.failures sink.old + fault_count result }
 {
     let version = version_of(parts.rules.as_slice());

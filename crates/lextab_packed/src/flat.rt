@@ -43,7 +43,9 @@ impl<'a> Flat<'a> {
     #[inline(always)]
     fn target(&self, place: u32, byte: u8) -> u32
         requires { (s : ℕ) × (s < states_of self.now.tables.now) × (place ≡ 256 * s) }
-        ensures { (s : ℕ) → place ≡ 256 * s → s < states_of self.now.tables.now → result ≡ marked (flag self.now.goes_on.now (step_of (table_of self.now.tables.now.parts) s byte)) (step_of (table_of self.now.tables.now.parts) s byte) }
+        ensures { (s : ℕ) → place ≡ 256 * s → s < states_of self.now.tables.now
+            → result ≡ marked (flag self.now.goes_on.now (step_of (table_of self.now.tables.now.parts) s byte))
+            (step_of (table_of self.now.tables.now.parts) s byte) }
     {
         self.rows[place as usize + usize::from(byte)]
     }

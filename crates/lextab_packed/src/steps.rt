@@ -30,7 +30,8 @@ pub(crate) fn target(parts: &TableParts, state: u32, byte: u8) -> u32
 pub fn flat_rows(alloc: Global, parts: &TableParts) -> Result<Vec<u32>, AllocError>
     requires { IsTable (table_of parts.now) }
     ensures len { IfOk result (λ v. length v.items ≡ 256 * length parts.now.rows.items) }
-    ensures each { IfOk result (λ v. (s b : ℕ) → s < length parts.now.rows.items → b < 256 → slice_index v.items (256 * s + b) ≡ step_of (table_of parts.now) s b) }
+    ensures each { IfOk result (λ v. (s b : ℕ) → s < length parts.now.rows.items → b < 256
+        → slice_index v.items (256 * s + b) ≡ step_of (table_of parts.now) s b) }
 {
     let places = 256 * parts.rows.len();
     let mut next = Vec::with_capacity(alloc, places)?;
@@ -60,7 +61,9 @@ pub(crate) fn marked_rows(
     requires table { IsTable (table_of parts.now) }
     requires flags { length goes_on.now ≡ length parts.now.rows.items }
     ensures len { IfOk result (λ v. length v.items ≡ 256 * length parts.now.rows.items) }
-    ensures each { IfOk result (λ v. (s b : ℕ) → s < length parts.now.rows.items → b < 256 → slice_index v.items (256 * s + b) ≡ marked (flag goes_on.now (step_of (table_of parts.now) s b)) (step_of (table_of parts.now) s b)) }
+    ensures each { IfOk result (λ v. (s b : ℕ) → s < length parts.now.rows.items → b < 256
+        → slice_index v.items (256 * s + b)
+        ≡ marked (flag goes_on.now (step_of (table_of parts.now) s b)) (step_of (table_of parts.now) s b)) }
 {
     let places = 256 * parts.rows.len();
     let mut rows = Vec::with_capacity(alloc, places)?;

@@ -22,7 +22,8 @@ pub(crate) fn table_conditions(
 ) -> Result<Vec<TableCondition>, AllocError>
     requires starts { length starts.now ≡ length conditions.now }
     requires line_starts { length line_starts.now ≡ length conditions.now }
-    ensures same { IfOk result (λ v. map condition_of v.items ≡ conditions_with (start_in starts.now line_starts.now) 0 (map condition_in conditions.now)) }
+    ensures same { IfOk result (λ v. map condition_of v.items
+        ≡ conditions_with (start_in starts.now line_starts.now) 0 (map condition_in conditions.now)) }
     ensures text { IfOk result (λ v. Each (λ i c. IsText c.end.print) 0 (map condition_of v.items)) }
 {
     let mut all = Vec::new(alloc);

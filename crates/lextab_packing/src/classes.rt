@@ -24,7 +24,8 @@ fn earliest(lead: &[u8], row: &[u32], byte: usize) -> u8
 fn split(row: &[u32], lead: &mut [u8])
     requires leads { length lead.old ≡ 256 }
     requires targets { length row.now ≡ 256 }
-    requires heads { (b : ℕ) → b < 256 → (slice_index lead.old b ≤ b) × (slice_index lead.old (slice_index lead.old b) ≡ slice_index lead.old b) }
+    requires heads { (b : ℕ) → b < 256 → (slice_index lead.old b ≤ b)
+        × (slice_index lead.old (slice_index lead.old b) ≡ slice_index lead.old b) }
     ensures { (b : ℕ) → b < 256 → IsSplit lead.old row.now b (slice_index lead.new b) }
 {
     for i in 0..256usize {
@@ -85,7 +86,8 @@ pub(crate) struct Classes {
 /// Numbers the classes in order of their first byte.
 fn numbered(alloc: Global, lead: &[u8]) -> Result<Classes, AllocError>
     requires len { length lead.now ≡ 256 }
-    requires heads { (b : ℕ) → b < 256 → (slice_index lead.now b ≤ b) × (slice_index lead.now (slice_index lead.now b) ≡ slice_index lead.now b) }
+    requires heads { (b : ℕ) → b < 256 → (slice_index lead.now b ≤ b)
+        × (slice_index lead.now (slice_index lead.now b) ≡ slice_index lead.now b) }
     ensures { IfOk result (λ c. AreNumbered lead.now c.class_of.items c.heads.items 256) }
 {
     let mut class_of: Vec<u8> = Vec::new(alloc);
@@ -107,7 +109,8 @@ fn numbered(alloc: Global, lead: &[u8]) -> Result<Classes, AllocError>
 pub(crate) fn classes_of(alloc: Global, next: &[u32], states: usize) -> Result<Classes, AllocError>
     requires { length next.now ≡ 256 * states }
     ensures map { IfOk result (λ c. IsClassMap states (moves next.now) c.class_of.items (length c.heads.items)) }
-    ensures heads { IfOk result (λ c. (k : ℕ) → k < length c.heads.items → (slice_index c.heads.items k < 256) × (slice_index c.class_of.items (slice_index c.heads.items k) ≡ k)) }
+    ensures heads { IfOk result (λ c. (k : ℕ) → k < length c.heads.items → (slice_index c.heads.items k < 256)
+        × (slice_index c.class_of.items (slice_index c.heads.items k) ≡ k)) }
     ensures all { IfOk result (λ c. AreAllBytes c.heads.items) }
     ensures few { IfOk result (λ c. (0 < length c.heads.items) × (length c.heads.items ≤ 256)) }
 {

@@ -52,11 +52,13 @@ fn fill_all(
     requires few { length heads.now ≤ 256 }
     requires all { AreAllBytes heads.now }
     requires defaults { length defaults.now ≡ length bases.now }
-    requires placed { (s : ℕ) → s < length bases.now → IsBase (by_head next.now heads.now) (length heads.now) defaults.now bases.now s (slice_index bases.now s) }
+    requires placed { (s : ℕ) → s < length bases.now
+        → IsBase (by_head next.now heads.now) (length heads.now) defaults.now bases.now s (slice_index bases.now s) }
     requires within { (s : ℕ) → s < length bases.now → slice_index bases.now s + length heads.now ≤ length check.old }
     requires same { length targets.old ≡ length check.old }
     requires zeros { (i : ℕ) → (slice_index check.old i ≡ 0) × (slice_index targets.old i ≡ 0) }
-    ensures { OnOk result (AreSlots (length bases.now) (by_head next.now heads.now) (length heads.now) defaults.now bases.now check.new targets.new) }
+    ensures { OnOk result (AreSlots (length bases.now) (by_head next.now heads.now)
+        (length heads.now) defaults.now bases.now check.new targets.new) }
 {
     let mut row = vec![in alloc; 0u32; heads.len()]?;
     for state in 0..bases.len() {
@@ -95,10 +97,13 @@ pub(crate) fn slots_of(
     requires few { length heads.now ≤ 256 }
     requires all { AreAllBytes heads.now }
     requires defaults { length defaults.now ≡ length bases.now }
-    requires placed { (s : ℕ) → s < length bases.now → IsBase (by_head next.now heads.now) (length heads.now) defaults.now bases.now s (slice_index bases.now s) }
+    requires placed { (s : ℕ) → s < length bases.now
+        → IsBase (by_head next.now heads.now) (length heads.now) defaults.now bases.now s (slice_index bases.now s) }
     ensures check { IfOk result (λ t. IsSize (length bases.now) (length heads.now) bases.now (length t.check.items)) }
-    ensures targets { IfOk result (λ t. IsSize (length bases.now) (length heads.now) bases.now (length t.targets.items)) }
-    ensures slots { IfOk result (λ t. AreSlots (length bases.now) (by_head next.now heads.now) (length heads.now) defaults.now bases.now t.check.items t.targets.items) }
+    ensures targets { IfOk result (λ t. IsSize (length bases.now) (length heads.now) bases.now
+        (length t.targets.items)) }
+    ensures slots { IfOk result (λ t. AreSlots (length bases.now) (by_head next.now heads.now)
+        (length heads.now) defaults.now bases.now t.check.items t.targets.items) }
 {
     let size = size_of(bases, heads.len());
     let mut check = vec![in alloc; 0u32; size]?;

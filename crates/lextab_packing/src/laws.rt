@@ -24,7 +24,8 @@ pub fn packing_has_ranges()
 
 /// Automata that go alike from their states have the same packing.
 pub fn packing_of_same_moves()
-    ensures { (n : ℕ) (go ho : ℕ → ℕ → ℕ) (p : Packing) → ((s b : ℕ) → s < n → b < 256 → go s b ≡ ho s b) → IsPacked n go p → IsPacked n ho p }
+    ensures { (n : ℕ) (go ho : ℕ → ℕ → ℕ) (p : Packing) → ((s b : ℕ) → s < n → b < 256 → go s b ≡ ho s b)
+        → IsPacked n go p → IsPacked n ho p }
 {}
 
 /// A table goes as what it has of a packing does.

@@ -47,7 +47,8 @@ pub(crate) fn bases_of(
     requires defaults { length defaults.now ≡ states }
     ensures len { IfOk result (λ v. length v.items ≡ states) }
     ensures small { IfOk result (λ v. (s : ℕ) → s < states → slice_index v.items s ≤ 320 * states) }
-    ensures each { IfOk result (λ v. (s : ℕ) → s < states → IsBase (by_head next.now heads.now) (length heads.now) defaults.now v.items s (slice_index v.items s)) }
+    ensures each { IfOk result (λ v. (s : ℕ) → s < states
+        → IsBase (by_head next.now heads.now) (length heads.now) defaults.now v.items s (slice_index v.items s)) }
 {
     let mut row = vec![in alloc; 0u32; heads.len()]?;
     let mut words: Vec<u64> = Vec::new(alloc);

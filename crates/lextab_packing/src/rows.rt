@@ -10,7 +10,8 @@ fn pick(block: &[u32], heads: &[u8], row: &mut [u32])
     requires block { length block.now ≡ 256 }
     requires len { length row.old ≡ length heads.now }
     ensures len { length row.new ≡ length heads.now }
-    ensures each { (k : ℕ) → k < length heads.now → slice_index row.new k ≡ slice_index block.now (slice_index heads.now k) }
+    ensures each { (k : ℕ) → k < length heads.now
+        → slice_index row.new k ≡ slice_index block.now (slice_index heads.now k) }
 {
     for (k, head) in heads.iter().enumerate() {
         row[k] = block[*head as usize];
@@ -50,7 +51,8 @@ fn most_often(row: &[u32], counts: &[u32]) -> u32
 /// Sets the counts of the targets back to 0.
 fn clear(row: &[u32], counts: &mut [u32])
     requires below { (k : ℕ) → k < length row.now → slice_index row.now k < length counts.old }
-    requires rest { (t : ℕ) → ((k : ℕ) → k < length row.now → slice_index row.now k ≢ t) → slice_index counts.old t ≡ 0 }
+    requires rest { (t : ℕ) → ((k : ℕ) → k < length row.now → slice_index row.now k ≢ t)
+        → slice_index counts.old t ≡ 0 }
     ensures { (t : ℕ) → slice_index counts.new t ≡ 0 }
 {
     for target in row {
@@ -119,7 +121,8 @@ pub(crate) fn defaults_of(
     requires counts { length counts.old ≡ states }
     requires none { (t : ℕ) → slice_index counts.old t ≡ 0 }
     ensures len { IfOk result (λ v. length v.items ≡ states) }
-    ensures each { IfOk result (λ v. (s : ℕ) → s < states → IsDefault (by_head next.now heads.now s) (length heads.now) (slice_index v.items s)) }
+    ensures each { IfOk result (λ v. (s : ℕ) → s < states
+        → IsDefault (by_head next.now heads.now s) (length heads.now) (slice_index v.items s)) }
 {
     let mut row = vec![in alloc; 0u32; heads.len()]?;
     let mut defaults = Vec::new(alloc);

@@ -31,7 +31,8 @@ pub fn filtered_by<R: Read + Drop, W: Write + Drop>(
     reader: R,
     writer: W,
 ) -> Result<W, RunError>
-    ensures { IfOk result (λ w. FilteredBy (rules_of_machine (machine_of tables.now)) (R.remaining reader) (W.contents writer) (W.contents w)) }
+    ensures { IfOk result (λ w. FilteredBy (rules_of_machine (machine_of tables.now)) (R.remaining reader)
+        (W.contents writer) (W.contents w)) }
 {
     let mut source = FromRead::new(reader);
     let mut sink = ToWrite::new(writer);

@@ -128,7 +128,8 @@ fn arguments(
     left: usize,
 ) -> Result<(Statement, &[u8]), ReadError>
     requires { before.literal ≤ max_literal_bytes }
-    ensures gives { Gives (λ x. (statement_of x.0, x.1.now)) result (arguments conditions (seen_of before) (statement_byte tag) bytes.now) }
+    ensures gives { Gives (λ x. (statement_of x.0, x.1.now)) result
+        (arguments conditions (seen_of before) (statement_byte tag) bytes.now) }
     ensures literal { IfOk result (λ x. before.literal + literal_bytes (statement_of x.0) ≤ max_literal_bytes) }
 {
     match tag {
@@ -168,7 +169,8 @@ fn statement(
     before: Before,
 ) -> Result<(Statement, &[u8]), ReadError>
     requires { before.literal ≤ max_literal_bytes }
-    ensures gives { Gives (λ x. (statement_of x.0, x.1.now)) result (statement_at conditions (seen_of before) bytes.now) }
+    ensures gives { Gives (λ x. (statement_of x.0, x.1.now)) result
+        (statement_at conditions (seen_of before) bytes.now) }
     ensures literal { IfOk result (λ x. before.literal + literal_bytes (statement_of x.0) ≤ max_literal_bytes) }
 {
     let left = bytes.len();
@@ -186,7 +188,8 @@ fn statements(
     conditions: u32,
     stack: bool,
 ) -> Result<(Vec<Statement>, &[u8]), ReadError>
-    ensures { Gives (λ x. (map statement_of x.0.items, x.1.now)) result (many (statement_at conditions) seen_after count (unseen stack count) bytes.now) }
+    ensures { Gives (λ x. (map statement_of x.0.items, x.1.now)) result
+        (many (statement_at conditions) seen_after count (unseen stack count) bytes.now) }
 {
     let mut read = Vec::new(alloc);
     let mut rest = bytes;
@@ -229,7 +232,8 @@ pub fn rules(
     conditions: u32,
     stack: bool,
 ) -> Result<(Vec<TableRule>, &[u8]), ReadError>
-    ensures { Gives (λ x. (map rule_of x.0.items, x.1.now)) result (many (λ i. rule_at conditions stack) following count 0 bytes.now) }
+    ensures { Gives (λ x. (map rule_of x.0.items, x.1.now)) result
+        (many (λ i. rule_at conditions stack) following count 0 bytes.now) }
 {
     let mut read = Vec::new(alloc);
     let mut rest = bytes;

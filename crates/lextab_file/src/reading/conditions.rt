@@ -46,7 +46,8 @@ pub fn conditions(
     count: u32,
     states: u32,
 ) -> Result<(Vec<TableCondition>, &[u8]), ReadError>
-    ensures { Gives (λ x. (map condition_of x.0.items, x.1.now)) result (many (λ i. condition_at states) following count 0 bytes.now) }
+    ensures { Gives (λ x. (map condition_of x.0.items, x.1.now)) result
+        (many (λ i. condition_at states) following count 0 bytes.now) }
 {
     let mut read = Vec::new(alloc);
     let mut rest = bytes;

@@ -30,7 +30,8 @@ fn check_of<'a>(
     place: u32,
 ) -> Result<(u32, &'a [u8]), ReadError>
     requires { length rows.now ≡ counts.states }
-    ensures { Gives (λ x. (x.0, x.1.now)) result (only_if (good_check (sizes_in counts) (bases_of (map row_of rows.now)) place) (number_at w32) bytes.now) }
+    ensures { Gives (λ x. (x.0, x.1.now)) result
+        (only_if (good_check (sizes_in counts) (bases_of (map row_of rows.now)) place) (number_at w32) bytes.now) }
 {
     let (check, rest) = long(bytes)?;
     if check == 0 {
@@ -48,7 +49,8 @@ fn check_of<'a>(
 
 /// The target in a slot for this state.
 fn next_of(bytes: &[u8], states: u32, check: u32) -> Result<(u32, &[u8]), ReadError>
-    ensures { Gives (λ x. (x.0, x.1.now)) result (only_if (λ n. nat_lt n states && none_at_0 check n) (number_at w32) bytes.now) }
+    ensures { Gives (λ x. (x.0, x.1.now)) result
+        (only_if (λ n. nat_lt n states && none_at_0 check n) (number_at w32) bytes.now) }
 {
     let (next, rest) = long(bytes)?;
     if next >= states || (check == 0 && next != 0) {
@@ -65,7 +67,8 @@ fn slot<'a>(
     place: u32,
 ) -> Result<((u32, u32), &'a [u8]), ReadError>
     requires { length rows.now ≡ counts.states }
-    ensures gives { Gives (λ x. (slot_from (x.0.0, x.0.1), x.1.now)) result (slot_at (sizes_in counts) (bases_of (map row_of rows.now)) place bytes.now) }
+    ensures gives { Gives (λ x. (slot_from (x.0.0, x.0.1), x.1.now)) result
+        (slot_at (sizes_in counts) (bases_of (map row_of rows.now)) place bytes.now) }
 {
     let (check, rest) = check_of(bytes, counts, rows, place)?;
     let (next, rest) = next_of(rest, counts.states, check)?;
@@ -80,7 +83,8 @@ pub fn slots<'a>(
     rows: &[Row],
 ) -> Result<((Vec<u32>, Vec<u32>), &'a [u8]), ReadError>
     requires { length rows.now ≡ counts.states }
-    ensures { Gives (λ x. (slots_of x.0.0.items x.0.1.items, x.1.now)) result (many (slot_at (sizes_in counts) (bases_of (map row_of rows.now))) following counts.slots 0 bytes.now) }
+    ensures { Gives (λ x. (slots_of x.0.0.items x.0.1.items, x.1.now)) result
+        (many (slot_at (sizes_in counts) (bases_of (map row_of rows.now))) following counts.slots 0 bytes.now) }
 {
     let mut checks = Vec::new(alloc);
     let mut nexts = Vec::new(alloc);

@@ -61,7 +61,8 @@ fn accepted(
 
 /// The state that a row turns to where no slot is its own.
 fn default_of(bytes: &[u8], states: u32, state: u32) -> Result<(u32, &[u8]), ReadError>
-    ensures gives { Gives (λ x. (x.0, x.1.now)) result (only_if (λ n. nat_lt n states && none_at_0 state n) (number_at w32) bytes.now) }
+    ensures gives { Gives (λ x. (x.0, x.1.now)) result
+        (only_if (λ n. nat_lt n states && none_at_0 state n) (number_at w32) bytes.now) }
 {
     let (default_target, rest) = long(bytes)?;
     if default_target >= states || (state == 0 && default_target != 0) {
@@ -72,7 +73,8 @@ fn default_of(bytes: &[u8], states: u32, state: u32) -> Result<(u32, &[u8]), Rea
 
 /// Where the slots of a row begin.
 fn base_of(bytes: &[u8], counts: Counts, state: u32) -> Result<(u32, &[u8]), ReadError>
-    ensures gives { Gives (λ x. (x.0, x.1.now)) result (only_if (λ n. nat_le (n + counts.classes) counts.slots && none_at_0 state n) (number_at w32) bytes.now) }
+    ensures gives { Gives (λ x. (x.0, x.1.now)) result
+        (only_if (λ n. nat_le (n + counts.classes) counts.slots && none_at_0 state n) (number_at w32) bytes.now) }
 {
     let (base, rest) = long(bytes)?;
     if u64::from(base) + u64::from(counts.classes) > u64::from(counts.slots)
@@ -127,7 +129,8 @@ pub fn states(
 ) -> Result<(Vec<Row>, &[u8]), ReadError>
     requires { counts.classes ≤ max_classes }
     ensures len { IfOk result (λ x. length x.0.items ≡ counts.states) }
-    ensures gives { Gives (λ x. (map row_of x.0.items, x.1.now)) result (many (row_at (sizes_in counts) rejects) following counts.states 0 bytes.now) }
+    ensures gives { Gives (λ x. (map row_of x.0.items, x.1.now)) result
+        (many (row_at (sizes_in counts) rejects) following counts.states 0 bytes.now) }
 {
     let mut read = Vec::new(alloc);
     let mut rest = bytes;

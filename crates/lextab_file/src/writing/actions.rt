@@ -82,7 +82,8 @@ fn put_statement<K: Sink>(sink: &mut K, statement: &Statement) -> Result<(), Wri
 fn put_statements<K: Sink>(sink: &mut K, statements: &[Statement]) -> Result<(), WriteFault>
     requires few { K.failures sink.old < 2 ^ 64 - 1 }
     requires fits { All FitsStatement statements.now }
-    ensures bytes { Appended (λ xs. K.wrote sink.old xs sink.new) (flat_map (λ s. statement_text (statement_of s)) statements.now) result }
+    ensures bytes { Appended (λ xs. K.wrote sink.old xs sink.new)
+        (flat_map (λ s. statement_text (statement_of s)) statements.now) result }
     ensures failures { K.failures sink.new ≡ K.failures sink.old + fault_count result }
 {
     for statement in statements {
@@ -105,7 +106,8 @@ fn put_rule<K: Sink>(sink: &mut K, rule: &TableRule) -> Result<(), WriteFault>
 pub fn put_rules<K: Sink>(sink: &mut K, rules: &[TableRule]) -> Result<(), WriteFault>
     requires few { K.failures sink.old < 2 ^ 64 - 1 }
     requires fits { All FitsRule rules.now }
-    ensures bytes { Appended (λ xs. K.wrote sink.old xs sink.new) (flat_map (λ r. rule_text (rule_of r)) rules.now) result }
+    ensures bytes { Appended (λ xs. K.wrote sink.old xs sink.new)
+        (flat_map (λ r. rule_text (rule_of r)) rules.now) result }
     ensures failures { K.failures sink.new ≡ K.failures sink.old + fault_count result }
 {
     for rule in rules {

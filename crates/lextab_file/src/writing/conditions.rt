@@ -40,7 +40,8 @@ pub fn put_conditions<K: Sink>(
 ) -> Result<(), WriteFault>
     requires few { K.failures sink.old < 2 ^ 64 - 1 }
     requires fits { All FitsCondition conditions.now }
-    ensures bytes { Appended (λ xs. K.wrote sink.old xs sink.new) (flat_map (λ c. condition_text (condition_of c)) conditions.now) result }
+    ensures bytes { Appended (λ xs. K.wrote sink.old xs sink.new)
+        (flat_map (λ c. condition_text (condition_of c)) conditions.now) result }
     ensures failures { K.failures sink.new ≡ K.failures sink.old + fault_count result }
 {
     for condition in conditions {

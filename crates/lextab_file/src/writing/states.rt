@@ -26,7 +26,8 @@ fn put_row<K: Sink>(sink: &mut K, row: &Row) -> Result<(), WriteFault>
 pub fn put_rows<K: Sink>(sink: &mut K, rows: &[Row]) -> Result<(), WriteFault>
     requires few { K.failures sink.old < 2 ^ 64 - 1 }
     requires fits { All FitsRow rows.now }
-    ensures bytes { Appended (λ xs. K.wrote sink.old xs sink.new) (flat_map (λ r. row_text (row_of r)) rows.now) result }
+    ensures bytes { Appended (λ xs. K.wrote sink.old xs sink.new)
+        (flat_map (λ r. row_text (row_of r)) rows.now) result }
     ensures failures { K.failures sink.new ≡ K.failures sink.old + fault_count result }
 {
     for row in rows {
@@ -47,7 +48,8 @@ fn put_slot<K: Sink>(sink: &mut K, check: u32, next: u32) -> Result<(), WriteFau
 /// The slots of these columns.
 pub fn put_slots<K: Sink>(sink: &mut K, checks: &[u32], nexts: &[u32]) -> Result<(), WriteFault>
     requires few { K.failures sink.old < 2 ^ 64 - 1 }
-    ensures bytes { Appended (λ xs. K.wrote sink.old xs sink.new) (flat_map slot_text (slots_of checks.now nexts.now)) result }
+    ensures bytes { Appended (λ xs. K.wrote sink.old xs sink.new)
+        (flat_map slot_text (slots_of checks.now nexts.now)) result }
     ensures failures { K.failures sink.new ≡ K.failures sink.old + fault_count result }
 {
     for i in 0..checks.len().min(nexts.len()) {
