@@ -24,7 +24,7 @@ use Rattle.lextab_packed.specs.Machines.{machine_of as table_machine}
 use Rattle.lextab_packing.specs.Packing.{IsPacked}
 use Rattle.lextab_packing.specs.Tables.{packing_in}
 use Rattle.lextab_file.specs.File.{file_of}
-use Rattle.lexcanon.specs.Canonical.{IsCanonical}
+use Rattle.lexkit.specs.Canonical.{IsCanonical}
 use Rattle.lexkit.specs.Headline.{BuildRefusal, Refusal, reading}
 use Rattle.lexkit.specs.declared.options.Options.{Options}
 use Rattle.lexkit.specs.declared.errors.GenError.{GenError}

@@ -1,9 +1,9 @@
 pub mod Args
 pub mod Faults
-pub mod Joined
 pub mod Refusal
 pub mod Headline
 pub mod ScanCounts
+pub mod Canonical
 pub mod Generated
 pub mod FileScans
 pub mod Statistics

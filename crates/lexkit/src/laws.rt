@@ -1,7 +1,25 @@
-//! The law that joins making and scanning.
+//! The laws of canonical files, and of making and scanning together.
+ghost use Rattle.std.specs.Prelude.{◌≡◌, ℕ, List};
+ghost use Rattle.lex_semantics.specs.Spec.{Spec};
+ghost use Rattle.lex_semantics.specs.SameRules.{SameRules};
+ghost use Rattle.lexkit.specs.Canonical.{IsCanonical};
 ghost use Rattle.lexkit.specs.FileScans.{FileScans};
 
+use lex_semantics::same_rules_answers;
+use lexauto::one_automaton;
 use lextab::one_table;
+use lextab_packing::{one_packing, packing_of_same_moves};
+
+/// Specifications with the same rules, however their patterns are written, have the same canonical file, and each has at
+/// most one.
+pub fn one_file()
+    ensures { (S T : Spec) (f g : List ℕ) → SameRules S T → IsCanonical S f → IsCanonical T g → f ≡ g }
+{
+    same_rules_answers();
+    one_automaton();
+    one_packing();
+    packing_of_same_moves();
+}
 
 /// A scan by the file of the tables that are made of a text is a scan by the specification that the text spells.
 pub fn file_scans()

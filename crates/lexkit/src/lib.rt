@@ -11,12 +11,11 @@ mod making;
 mod options;
 mod scan;
 mod stats;
-mod writing;
 
 pub use args::{ArgsError, Job, read_args};
 pub use errors::{GenError, ScanError};
 pub use faults::{Fault, write_fault};
-pub use laws::file_scans;
+pub use laws::{file_scans, one_file};
 pub use lex_semantics::{MAX_FILE_BYTES, MAX_POSITIONS, MAX_STATES};
 pub use lexauto::{BackUp, BuildError, Limits};
 pub use lexauto_reports::{Warning, write_backup, write_warnings};

@@ -8,9 +8,9 @@ ghost use Rattle.lexkit.specs.Generated.{AreCounts};
 ghost use Rattle.lexkit.specs.Statistics.{stats_lines};
 
 use crate::counting::file_length;
-use crate::writing::put_all;
 use itoa::Buffer;
 use lexauto::{Limits, count_positions};
+use lexauto_reports::put_all;
 use lexspec::Spec;
 use lextab::{Sink, Tables, WriteFault};
 

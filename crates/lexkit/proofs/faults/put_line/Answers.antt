@@ -1,6 +1,6 @@
 use Rattle.std.proofs.Common.{◌++◌, [], ◌∷◌, codes, sym, ap, ◌∙◌, append_assoc, List, ℕ}
-use Rattle.lexkit.specs.Joined.{joined}
-use Rattle.lexkit.proofs.Lines.{longer, appended_after}
+use Rattle.lexauto_reports.specs.Joined.{joined}
+use Rattle.lexauto_reports.proofs.Parts.{longer, appended_after}
 use Rattle.lexkit.proofs.faults.put_line.Goals as goal
 
 pub returns-in-Err-clause-bytes : goal.returns-in-Err-clause-bytes

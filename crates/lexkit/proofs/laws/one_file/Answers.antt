@@ -1,5 +1,5 @@
-use Rattle.lexcanon.proofs.SameTables.{parts, files}
-use Rattle.lexcanon.proofs.laws.one_file.Goals as goal
+use Rattle.lexkit.proofs.SameTables.{parts, files}
+use Rattle.lexkit.proofs.laws.one_file.Goals as goal
 
 pub returns : goal.returns
 returns c S T f g same a b =

@@ -24,8 +24,8 @@ use Rattle.lextab_packed.specs.Steps.{no_row, start_at, ending_at, cut_at, state
 use Rattle.lextab_packing.specs.Packing.{Packing, IsPacked}
 use Rattle.lextab_packing.specs.Tables.{packing_in}
 use Rattle.lextab_file.specs.File.{file_of}
-use Rattle.lexcanon.specs.Canonical.{IsCanonical}
-use Rattle.lexcanon.proofs.Ordered.{one_order, one_slots}
+use Rattle.lexkit.specs.Canonical.{IsCanonical}
+use Rattle.lexkit.proofs.Ordered.{one_order, one_slots}
 
 past : {A : Type 0} (xs : List A) (i : ℕ) (d : A) → length xs ≤ i → slice_index_or xs i d ≡ d
 past [] i d h = refl
