@@ -18,8 +18,8 @@ returns-clause-half c = λ t.
     let h = c.halves-pieces.ensures.half in
     omega (arith, f, e, p0, p1, h)
 
-pub returns-clause-split_block : goal.returns-clause-split_block
-returns-clause-split_block c =
+pub returns-clause-cut : goal.returns-clause-cut
+returns-clause-cut c =
     let b = c.args.blocks.now in
     let n = c.args.number in
     let a = c.requires.arranged in

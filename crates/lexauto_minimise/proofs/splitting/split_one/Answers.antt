@@ -20,7 +20,7 @@ returns-in_ok-push-clause-goes_on c = λ old waited m same g.
     let ws = c.args.waiting.now.items in
     let l : c.len-new.result ≡ length b.first.items = search rules in
     let items : c.push.new.self.items ≡ ws ++ length b.first.items ∷ [] = c.in_ok-push.ensures.items ∙ ap (λ (n : ℕ). ws ++ n ∷ []) l in
-    goes_on old b c.cut.new.blocks waited ws c.push.new.self.items m c.args.number c.in_ok-split_block.field-0 c.requires.arranged same c.requires.number c.in_ok-split_block.ensures.cut
+    goes_on old b c.split_block.new.blocks waited ws c.push.new.self.items m c.args.number c.in_ok-split_block.field-0 c.requires.arranged same c.requires.number c.in_ok-split_block.ensures.cut
     (λ d h. subst (λ (xs : List ℕ). Has xs d) (sym items) (has_more ws (length b.first.items) d h))
     (λ t. subst (λ (xs : List ℕ). Has xs (length b.first.items)) (sym items) (has_last ws (length b.first.items))) g
 
@@ -28,7 +28,7 @@ pub returns-else-branch-clause-goes_on : goal.returns-else-branch-clause-goes_on
 returns-else-branch-clause-goes_on c = λ old waited m same g.
     let b = c.args.blocks.now in
     let ws = c.args.waiting.now.items in
-    goes_on old b c.cut.new.blocks waited ws ws m c.args.number c.in_ok-split_block.field-0 c.requires.arranged same c.requires.number c.in_ok-split_block.ensures.cut
+    goes_on old b c.split_block.new.blocks waited ws ws m c.args.number c.in_ok-split_block.field-0 c.requires.arranged same c.requires.number c.in_ok-split_block.ensures.cut
     (λ d h. h) (λ t. absurd (clash c.in_ok-split_block.field-0 t c.if-branch.false)) g
   where
     clash : (b : Bool) → b ≡ true → b ≡ false → ⊥

@@ -39,7 +39,7 @@ read_name-returns-then-is_open-clause-none t c =
 
 pub read_within-returns-in-Err-clause-none : goal.read_within-returns-in-Err-clause-none
 read_within-returns-in-Err-clause-none t c =
-    retold c.in-Err.fault.kind _ _ c.told.ensures
+    retold c.in-Err.fault.kind _ _ c.reported.ensures
     (refused_front c.args.scope.options.posix (symbol_at c.args.scope.options.fold) (get c.args.scope.definitions.now) (nothing_at c.args.scope.options.fold) c.in-Err.fault.kind c.args.room c.args.left (state_of c.loop-rest.stack) c.loop-rest.rest.now c.args.text.now
     c.loop-rest.invariant.agree (something_left _ (search rules)) c.requires.room c.in-Err.ensures.front)
 

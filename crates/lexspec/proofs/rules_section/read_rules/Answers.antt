@@ -52,12 +52,12 @@ is_over c = elim c.items-test.branch [
 
 pub returns-clause-found : goal.returns-clause-found
 returns-clause-found c =
-    ended_found c.args.declarations.now c.ended.result c.args.first c.items.line c.args.text.now c.items.rest.now c.items.progress c.items.invariant.agrees c.items.invariant.keeps (is_over c)
-    c.ended.ensures.waiting c.ended.ensures.rules c.ended.ensures.ends c.ended.ensures.rest
+    ended_found c.args.declarations.now c.finish.result c.args.first c.items.line c.args.text.now c.items.rest.now c.items.progress c.items.invariant.agrees c.items.invariant.keeps (is_over c)
+    c.finish.ensures.waiting c.finish.ensures.rules c.finish.ensures.ends c.finish.ensures.rest
 
 pub returns-clause-line : goal.returns-clause-line
-returns-clause-line c = ended_line c.ended.result c.items.line _ c.items.rest.now c.ended.ensures.line c.ended.ensures.rest c.items.invariant.line
+returns-clause-line c = ended_line c.finish.result c.items.line _ c.items.rest.now c.finish.ensures.line c.finish.ensures.rest c.items.invariant.line
 
 pub returns-clause-none : goal.returns-clause-none
 returns-clause-none c =
-    ended_none c.args.declarations.now c.ended.result c.args.first c.items.line c.args.text.now c.items.rest.now c.items.progress c.items.invariant.agrees (is_over c) c.ended.ensures.none
+    ended_none c.args.declarations.now c.finish.result c.args.first c.items.line c.args.text.now c.items.rest.now c.items.progress c.items.invariant.agrees (is_over c) c.finish.ensures.none
