@@ -5,7 +5,7 @@
                                 to avoid, with its line
     scripts/prose.py --status   the same, and a status of 1 where there is such a sentence or word
 
-Headings, tables, code blocks, and what stands in backquotes are left out."""
+Headings, tables, code blocks, targets of links, and what stands in backquotes are left out."""
 import re
 import sys
 from pathlib import Path
@@ -54,7 +54,7 @@ def manual_text(lines):
 def prose(path):
     lines = path.read_text(encoding="utf-8").splitlines()
     text = "\n".join(page_text(lines) if path.suffix == ".md" else manual_text(lines))
-    return re.sub(r"`[^`\f]*`", lambda code: "\n" * code[0].count("\n"), text)
+    return re.sub(r"`[^`\f]*`|(?<=\])\([^)\f]*\)", lambda code: "\n" * code[0].count("\n"), text)
 
 
 def main():
