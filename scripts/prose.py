@@ -12,13 +12,13 @@ from pathlib import Path
 
 ROOT = Path(__file__).resolve().parent.parent
 MOST = 30
-# Words of this repository for which the field has others: out of memory, a prefix, re-exports, operators, the minimal DFA, says.
+# Words for which the field has others: out of memory, a prefix, re-exports, operators, the minimal DFA, says.
 AVOIDED = re.compile(
     r"want of\s+memory|a front of|giv(?:e|es|en|ing)(?: \w+)? on\b|both ends|\bsigns?\b|least\s+automat(?:on|a)"
     r"|\b(?:tells?|told|telling)\b(?!\s(?:\w+\s){0,3}(?:apart|from))",
     re.I,
 )
-# A sentence begins with no blank, keeps within its paragraph, and ends with a sign of its end or with the paragraph.
+# A sentence begins with no blank, keeps within its paragraph, and ends with a full stop or with the paragraph.
 SENTENCE = re.compile(r"[^\f\s][^\f]*?(?:[.?!][)\"*]*(?=\s)|(?=\f)|\Z)")
 WORD = re.compile(r"\w[\w'/.-]*")
 
