@@ -269,7 +269,7 @@ module _ (M : Machine) (laws : MachineLaws M) (text : List ℕ) (bytes : IsText 
         no q = cc
 
     -- the state before the match, made of one after it
-    abbrev was : (v : State) (taken : ℕ) → taken ≤ v.reading.max_reads → State
+    abbrev was : (v : State) (taken : ℕ) → taken + 0 ≤ v.reading.max_reads → State
     was v taken few = record v {
       reading = record v.reading { window = record { bytes = drop c (take far text); room = true; ahead = [] }; taken = taken; at_end = false; few_reads = few };
       place = p;
@@ -286,7 +286,7 @@ module _ (M : Machine) (laws : MachineLaws M) (text : List ℕ) (bytes : IsText 
         AllStand M n given before (drop c (take far text)) taken cond line stack →
         AllStand M (suc n) (given ++ drop far (take beyond text)) (before ++ written_by told.gist (take told.keep (drop c text))) (drop (c + told.keep) (take beyond text)) (taken + (beyond - far)) (condition_after told.gist cond) line' stack
     step put line' starts n taken given before all v b works =
-        let few : taken ≤ v.reading.max_reads = let all = v.reading.few_reads in omega (arith, all, b.taken_is) in
+        let few : taken + 0 ≤ v.reading.max_reads = let all = v.reading.few_reads in omega (arith, all, b.taken_is) in
         let old : State = was v taken few in
         let h : Stands M n given before old = all old (record { bytes_are = refl; taken_is = refl; at_end = refl; at = refl; line_is = refl; condition_is = refl; stack_is = refl; going = refl }) refl in
         let mid : Reading = record v.reading { window = record { bytes = w; room = true; ahead = [] } } in
@@ -341,7 +341,7 @@ module _ (M : Machine) (laws : MachineLaws M) (text : List ℕ) (bytes : IsText 
     pub broke : (front : List ℕ) → BeginsWith (written_by told.gist (take told.keep (drop c text))) front → wrote t front u → (n taken : ℕ) (given before : List ℕ) → AllStand M n given before (drop c (take far text)) taken cond line stack →
         (v : State) → Between v (drop c (take beyond text)) (taken + (beyond - far)) cond line stack → v.failed ≡ true → Fell M n given (drop far (take beyond text)) (before ++ front) v Write
     broke front begins put n taken given before all v b bad =
-        let few : taken ≤ v.reading.max_reads = let all = v.reading.few_reads in omega (arith, all, b.taken_is) in
+        let few : taken + 0 ≤ v.reading.max_reads = let all = v.reading.few_reads in omega (arith, all, b.taken_is) in
         let old : State = was v taken few in
         let h : Stands M n given before old = all old (record { bytes_are = refl; taken_is = refl; at_end = refl; at = refl; line_is = refl; condition_is = refl; stack_is = refl; going = refl }) refl in
         let size = grown_by text c far beyond le far_beyond inside_beyond in

@@ -15,6 +15,7 @@ use Rattle.lex_semantics.proofs.Growth.{turns_grow, falls}
 use Rattle.lexscan.specs.declared.state.State.{State}
 use Rattle.lexscan.specs.declared.error.RunError.{RunError}
 use Rattle.lexscan.specs.declared.error.RunError.TheVariants.{TooManyReads}
+use Rattle.lexscan.specs.Answer.{end_read}
 use Rattle.lexscan.specs.Reads.{end_step}
 use Rattle.lexscan.specs.Descends.{ending_of}
 use Rattle.lexscan.specs.Stands.{state_of, Stands, Fell, NoneAfterEnd, RanTo}
@@ -96,6 +97,13 @@ no_more_left m old new h =
     let few : (m - start_of new) * (m + 1) ≤ (m - start_of old) * (m + 1) = mul-le (m - start_of new) (m + 1) (m - start_of old) (m + 1) (omega (arith, h.start)) (omega arith) in
     omega (arith, few, h.place)
 
+-- the reads that were made, by what the source counts
+pub few_made : (given : List ℕ) (s : State) (m fault e e' f f' f'' : ℕ) → s.reading.taken ≡ length given → e' ≡ e + end_step false s.reading.at_end → f'' ≡ f' + fault → f' ≡ f →
+    s.reading.taken + end_read s.reading.at_end + fault ≤ s.reading.max_reads → s.reading.max_reads ≡ m → length given + (e' - e) + (f'' - f) ≤ m
+few_made given s m fault e e' f f' f'' taken ends more before few most =
+    let ended : e' ≡ e + end_read s.reading.at_end = ends in
+    omega (arith, taken, ended, more, before, few, most)
+
 -- at the end
 pub ran_to : (M : Machine) (n status e e' : ℕ) (given out : List ℕ) (s : State) → e' ≡ e + end_step false s.reading.at_end → s.ended ≡ Some status → Stands M n given out s → RanTo (rules_of_machine M) given out (nat_lt e e') (Status status)
 ran_to M n status e e' given out s ends over h =
@@ -111,7 +119,7 @@ ran_to M n status e e' given out s ends over h =
     })
 
 -- at a refusal
-pub ran_into : (M : Machine) (n e e' m : ℕ) (given got out : List ℕ) (s : State) (error : RunError) → e' ≡ e + end_step false s.reading.at_end → (error ≡ TooManyReads → s.reading.taken ≡ m) → Fell M n given got out s error → RanInto (rules_of_machine M) (given ++ got) out (nat_lt e e') m error
+pub ran_into : (M : Machine) (n e e' m : ℕ) (given got out : List ℕ) (s : State) (error : RunError) → e' ≡ e + end_step false s.reading.at_end → (error ≡ TooManyReads → (s.reading.taken ≡ m) × (s.reading.at_end ≡ false)) → Fell M n given got out s error → RanInto (rules_of_machine M) (given ++ got) out (nat_lt e e') m error
 ran_into M n e e' m given got out s error ends many h =
     let told : nat_lt e e' ≡ s.reading.at_end = answered e e' s.reading.at_end ends in
     subst (λ b. RanInto (rules_of_machine M) (given ++ got) out b m error) (sym told) (record {
@@ -121,6 +129,6 @@ ran_into M n e e' m given got out s error ends many h =
       got = got;
       all = refl;
       gave_up = h.gave_up;
-      too_many = λ is. sym h.taken ∙ many is;
+      too_many = λ is. (let all = many is in (sym h.taken ∙ all.0, all.1));
       fault = h.fault;
     })

@@ -8,7 +8,7 @@ use Rattle.lex_semantics.proofs.MachineLaws.{walk-append}
 use Rattle.lex_semantics.proofs.Texts.{is_text_append}
 use Rattle.lexscan.specs.declared.walk.Stop.{Stop}
 use Rattle.lexscan.specs.declared.walk.Walk.{Walk}
-use Rattle.lexscan.specs.Walks.{Walked, Filled, StopsAt}
+use Rattle.lexscan.specs.Walks.{Walked, Filled, StopsAt, end_of_stop, fault_of_stop}
 
 -- no bytes yet
 pub walked_none : (M : Machine) (first : ℕ) → Walked M first [] first first
@@ -46,7 +46,7 @@ walked_more M first got state before b small h live = record {
 
 -- a walk that has stopped, and the place that it filled from the front
 pub filled : {S : Type 0} (gave : S → List ℕ → S → Type 0) (M : Machine) (s t : S) (place : List ℕ) (first most count state before : ℕ) (stop : Stop) (got : List ℕ) →
-    gave s got t → count ≤ length place → count ≤ most → take count place ≡ [] ++ got → Walked M first got state before → StopsAt M got state stop →
+    gave s got t → count ≤ length place → count + end_of_stop stop + fault_of_stop stop ≤ most → take count place ≡ [] ++ got → Walked M first got state before → StopsAt M got state stop →
     Filled gave M s t [] (take count place) first most (record { count = count; state = state; before = before; stop = stop })
 filled gave M s t place first most count state before stop got source inside few held walked stops = record {
   got = got;

@@ -1,8 +1,9 @@
 -- What a call leaves of the source, and of the sink.
-use Rattle.std.specs.Prelude.{◌≡◌, ℕ, ◌+◌, Bool, true, false, Result, OnOk, IfErr, IsErrOf}
+use Rattle.std.specs.Prelude.{◌≡◌, ℕ, ◌+◌, ◌≤◌, Bool, true, false, Result, OnOk, IfErr, IsErrOf}
 use Rattle.lexscan.specs.declared.state.Reading.{Reading}
 use Rattle.lexscan.specs.declared.error.RunError.{RunError}
 use Rattle.lexscan.specs.declared.error.RunError.TheVariants.{Write, Stack, Failed}
+use Rattle.lexscan.specs.Answer.{end_read}
 use Rattle.lexscan.specs.Reads.{read_fault_count, write_fault_count, end_step}
 
 -- The sink may be called again where nothing was refused, and each refusal is one of its failures.
@@ -15,6 +16,7 @@ pub record SinkLeft {K T : Type 0} (fails : K → ℕ) (t t' : K) (live : Bool) 
 pub record SourceLeft {S T : Type 0} (ends_of reads_of : S → ℕ) (s s' : S) (live : Bool) (old new : Reading) (result : Result T RunError) : Type 0 where
   pub ends : ends_of s' ≡ ends_of s + end_step old.at_end new.at_end
   pub read_faults : reads_of s' ≡ reads_of s + read_fault_count result
+  pub few_reads : new.taken + end_read new.at_end + read_fault_count result ≤ new.max_reads
   pub may_read : OnOk result (new.at_end ≡ false → live ≡ true)
   pub still : old.at_end ≡ true → s' ≡ s
   pub not_write : IsErrOf result Write → ⊥

@@ -1,6 +1,7 @@
 -- What a scanner takes from its source.
 use Rattle.std.specs.Prelude.{◌≡◌, ℕ, ◌+◌, ◌<◌, max, Bool, true, false, List, [], ◌++◌, length, Option, Some, None, Result, Ok, Err}
 use Rattle.lex_semantics.specs.Text.{IsText}
+use Rattle.lexscan.specs.Answer.{end_read}
 use Rattle.lexscan.specs.declared.state.Reading.{Reading}
 use Rattle.lexscan.specs.declared.error.RunError.{RunError}
 use Rattle.lexscan.specs.declared.error.RunError.TheVariants.{Read, Write}
@@ -48,6 +49,5 @@ write_fault_count (Err other) = 0
 
 -- 1 where the end was answered in between
 abbrev pub end_step : Bool → Bool → ℕ
-end_step false true = 1
-end_step false false = 0
+end_step false new = end_read new
 end_step true new = 0

@@ -1,5 +1,5 @@
 -- What a whole run leaves.
-use Rattle.std.specs.Prelude.{◌≡◌, ℕ, ◌+◌, ◌≤◌, Bool, List, ◌++◌, length, Result, Ok, Err, IsErrOf}
+use Rattle.std.specs.Prelude.{◌≡◌, ℕ, ◌+◌, ◌-◌, ◌≤◌, Bool, false, List, ◌++◌, length, Result, Ok, Err, IsErrOf}
 use Rattle.lex_semantics.specs.Rules.{Rules}
 use Rattle.lex_semantics.specs.Acting.{Status, StackFault}
 use Rattle.lex_semantics.specs.Machine.{Machine}
@@ -27,12 +27,16 @@ pub record RanInto (R : Rules) (given out : List ℕ) (at_end : Bool) (max_reads
   pub got : List ℕ
   pub all : given ≡ had ++ got
   pub gave_up : GaveUp R turns start had got out at_end e
-  pub too_many : e ≡ TooManyReads → length given ≡ max_reads
+  pub too_many : e ≡ TooManyReads → (length given ≡ max_reads) × (at_end ≡ false)
   pub fault : e ≡ Stack → RanTo R given out at_end StackFault
 
 abbrev pub Ran : Rules → List ℕ → List ℕ → Bool → ℕ → Result ℕ RunError → Type 0
 Ran R given out at_end max_reads (Ok status) = RanTo R given out at_end (Status status)
 Ran R given out at_end max_reads (Err e) = RanInto R given out at_end max_reads e
+
+-- The bytes given, the answers of the end and the failed reads are together no more than this.
+abbrev pub FewReads : {S : Type 0} → (S → ℕ) → (S → ℕ) → S → S → List ℕ → ℕ → Type 0
+FewReads ends_of reads_of s s' given max_reads = length given + (ends_of s' - ends_of s) + (reads_of s' - reads_of s) ≤ max_reads
 
 -- What a run adds to the counts of the two ends.
 pub record RunCounts {S K : Type 0} (ends_of reads_of : S → ℕ) (writes_of : K → ℕ) (s s' : S) (t t' : K) (result : Result ℕ RunError) : Type 0 where

@@ -1,5 +1,5 @@
 -- What a turn asks, and what it leaves of the two ends.
-use Rattle.std.specs.Prelude.{◌≡◌, ℕ, ◌+◌, ◌<◌, Bool, true, false, None, Result, Ok, OnOk, IsErrOf}
+use Rattle.std.specs.Prelude.{◌≡◌, ℕ, ◌+◌, ◌<◌, ◌≤◌, Bool, true, false, None, Result, Ok, OnOk, IsErrOf}
 use Rattle.lex_semantics.specs.Text.{AllBelow}
 use Rattle.lex_semantics.specs.Machine.{Machine}
 use Rattle.lexscan.specs.declared.state.Reading.{Reading}
@@ -8,6 +8,7 @@ use Rattle.lexscan.specs.declared.turn.Turn.{Turn}
 use Rattle.lexscan.specs.declared.error.RunError.{RunError}
 use Rattle.lexscan.specs.declared.error.RunError.TheVariants.{TooManyReads, Failed}
 use Rattle.lexscan.specs.Looks.{Wants}
+use Rattle.lexscan.specs.Answer.{end_read}
 use Rattle.lexscan.specs.Reads.{read_fault_count, write_fault_count, end_step}
 
 -- A turn may be made, where the scan has neither failed nor ended: the source and the sink may be called, and the conditions are in range.
@@ -23,13 +24,15 @@ pub record MayMove (M : Machine) (source_live sink_live : Bool) (s : State) : Ty
   pub may_write : sink_live ≡ true
   pub condition : s.place.condition < M.conditions
 
--- What a turn adds to the counts of the two ends; and a source that has answered its end is not called.
+-- What a turn adds to the counts of the two ends; and a source that has answered its end is not called. The reads so far, one
+-- that failed and that of the end among them, are no more than are allowed.
 pub record TurnCounts {S K : Type 0} (ends_of reads_of : S → ℕ) (writes_of : K → ℕ) (s s' : S) (t t' : K) (old new : Reading) (result : Result Turn RunError) : Type 0 where
   pub still : old.at_end ≡ true → s' ≡ s
   pub read_faults : reads_of s' ≡ reads_of s + read_fault_count result
   pub write_faults : writes_of t' ≡ writes_of t + write_fault_count result
   pub ends : ends_of s' ≡ ends_of s + end_step old.at_end new.at_end
   pub max_reads : new.max_reads ≡ old.max_reads
+  pub few_reads : new.taken + end_read new.at_end + read_fault_count result ≤ new.max_reads
 
 -- What one match or the end action leaves, before a refusal is told.
 pub record MoveLeft (M : Machine) (source_live sink_live : Bool) (old new : State) (result : Result Turn RunError) : Type 0 where

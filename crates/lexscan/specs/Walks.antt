@@ -1,5 +1,5 @@
 -- What a walk of a machine over bytes of the source did.
-use Rattle.std.specs.Prelude.{◌≡◌, ℕ, ◌-◌, ◌≤◌, ◌<◌, Bool, true, false, List, ◌++◌, length, take}
+use Rattle.std.specs.Prelude.{◌≡◌, ℕ, ◌+◌, ◌-◌, ◌≤◌, ◌<◌, Bool, true, false, List, ◌++◌, length, take}
 use Rattle.lex_semantics.specs.Text.{IsText}
 use Rattle.lex_semantics.specs.Machine.{Machine, walk}
 use Rattle.lexscan.specs.declared.walk.Stop.{Stop}
@@ -40,13 +40,13 @@ abbrev pub ends_at : Stop → Bool
 ends_at End = true
 ends_at other = false
 
--- The source gave these bytes, and the walk took them after those held.
+-- The source gave these bytes, and the walk took them after those held. It made no more reads than are allowed.
 pub record Filled {S : Type 0} (gave : S → List ℕ → S → Type 0) (M : Machine) (s t : S) (old new : List ℕ) (first most : ℕ) (w : Walk) : Type 0 where
   pub got : List ℕ
   pub source : gave s got t
   pub held : new ≡ old ++ got
   pub count : w.count ≡ length got
-  pub few : length got ≤ most
+  pub few : length got + end_of_stop w.stop + fault_of_stop w.stop ≤ most
   pub walked : Walked M first got w.state w.before
   pub stops : StopsAt M got w.state w.stop
 

@@ -4,6 +4,7 @@ ghost use Rattle.lex_io.specs.Source.{given};
 ghost use Rattle.lex_semantics.specs.Text.{IsText};
 ghost use Rattle.lexscan.specs.Walks.{Grown, end_of_stop, fault_of_stop, ends_at, goes};
 ghost use Rattle.lexscan.specs.Reads.{Took, IsThere, IsWanted, IsShort, is_end, read_fault_count, end_step};
+ghost use Rattle.lexscan.specs.Answer.{end_read};
 ghost use Rattle.lexscan.specs.Ends.{SourceLeft};
 
 use crate::error::RunError;
@@ -34,6 +35,7 @@ fn take_plain<S: Source>(
     ensures taken { reading.new.taken ≡ reading.old.taken + length (given result) }
     ensures at_end { reading.new.at_end ≡ is_end result }
     ensures max_reads { reading.new.max_reads ≡ reading.old.max_reads }
+    ensures few_reads { reading.new.taken + end_read reading.new.at_end + read_fault_count result ≤ reading.new.max_reads }
 
     ensures too_many { IsErrOf result RunError.TooManyReads → reading.old.taken ≡ reading.old.max_reads }
     ensures not_write { IsErrOf result RunError.Write → ⊥ }
@@ -80,6 +82,7 @@ fn take_byte<S: Source>(
     ensures taken { reading.new.taken ≡ reading.old.taken + length (given result) }
     ensures at_end { reading.new.at_end ≡ is_end result }
     ensures max_reads { reading.new.max_reads ≡ reading.old.max_reads }
+    ensures few_reads { reading.new.taken + end_read reading.new.at_end + read_fault_count result ≤ reading.new.max_reads }
 
     ensures states { path.new.states ≡ path.old.states }
     ensures room { OnOk result (path.new.room ≡ true) }
@@ -116,6 +119,8 @@ pub fn fill<M: Machine, S: Source>(
     ensures grown { IfOk result (λ walk. Grown (M.machine machine.now) reading.old reading.new first walk) }
     ensures at_end { IfOk result (λ walk. reading.new.at_end ≡ ends_at walk.stop) }
     ensures some { IfOk result (λ walk. walk.stop ≡ Stop.Full → 1 ≤ walk.count) }
+    ensures few_reads { IfOk result (λ walk. reading.new.taken + end_read reading.new.at_end + fault_of_stop walk.stop
+        ≤ reading.new.max_reads) }
     ensures known { IfOk result (λ walk. walk.state < M.states machine.now) }
     ensures known_before { IfOk result (λ walk. walk.before < M.states machine.now) }
     ensures ends { IfOk result

@@ -1,6 +1,7 @@
 //! A scanner.
 ghost use Rattle.std.specs.Prelude.{◌≡◌, ℕ, ◌+◌, ◌-◌, ◌^◌, ◌<◌, ◌≤◌, List, [], ◌++◌, length, true, false, Some, None, Ok, Err, IsErrOf};
 ghost use Rattle.lex_semantics.specs.Text.{AllBelow};
+ghost use Rattle.lexscan.specs.Answer.{end_read};
 ghost use Rattle.lexscan.specs.Reads.{read_fault_count, write_fault_count, end_step};
 ghost use Rattle.lexscan.specs.Memos.{AreTrue, AreTrue-prop};
 ghost use Rattle.lexscan.specs.Stacks.{AllBelow-prop};
@@ -90,6 +91,8 @@ impl<'a, M: Machine, S: Source, K: Sink> Scanner<'a, M, S, K> {
             × (self.new.intake.source.now ≡ self.old.intake.source.now)
             × (self.new.outlet.sink.now ≡ self.old.outlet.sink.now) × (self.new.state ≡ self.old.state) }
         ensures max_reads { self.new.state.reading.max_reads ≡ self.old.state.reading.max_reads }
+        ensures few_reads { self.new.state.reading.taken + end_read self.new.state.reading.at_end
+            + read_fault_count result ≤ self.new.state.reading.max_reads }
         ensures ends { S.ends self.new.intake.source.now ≡
             S.ends self.old.intake.source.now + end_step self.old.state.reading.at_end self.new.state.reading.at_end }
         ensures too_many { IsErrOf result RunError.TooManyReads →

@@ -6,7 +6,7 @@ ghost use Rattle.lex_semantics.specs.Text.{AllBelow};
 ghost use Rattle.lexscan.specs.Memos.{AreTrue};
 ghost use Rattle.lexscan.specs.Reads.{read_fault_count, write_fault_count};
 ghost use Rattle.lexscan.specs.Stands.{Stands};
-ghost use Rattle.lexscan.specs.Runs.{Ran, RunCounts};
+ghost use Rattle.lexscan.specs.Runs.{Ran, FewReads, RunCounts};
 ghost use Rattle.lexscan.specs.Turns.{MayTurn};
 
 use crate::error::RunError;
@@ -25,7 +25,7 @@ const MOST_SHOWN: usize = 8_192;
 
 const LEAST_SHOWN: usize = 64;
 
-/// Turns until the end. Answers the status.
+/// Turns until the end. Answers the status. It makes at most `max_reads` reads.
 pub fn run<M: Machine, S: Source, K: Sink>(
     alloc: Global,
     machine: &M,
@@ -38,7 +38,8 @@ pub fn run<M: Machine, S: Source, K: Sink>(
     requires few_writes { K.failures sink.old < 2 ^ 64 - 1 }
     ensures ran { (given : List ℕ) × (out : List ℕ) × S.gave source.old given source.new × K.wrote sink.old out sink.new
         × Ran (rules_of_machine (M.machine machine.now)) given out
-        (nat_lt (S.ends source.old) (S.ends source.new)) max_reads result }
+        (nat_lt (S.ends source.old) (S.ends source.new)) max_reads result
+        × FewReads S.ends S.failures source.old source.new given max_reads }
     ensures ends_stay { S.ends source.old ≤ S.ends source.new }
     ensures one_end { S.ends source.new ≤ S.ends source.old + 1 }
     ensures read_faults { S.failures source.new ≡ S.failures source.old + read_fault_count result }
@@ -84,7 +85,8 @@ fn run_turns<M: Machine, S: Source, K: Sink>(
     ensures ran { (given : List ℕ) × (out : List ℕ) × S.gave intake.old.source.now given intake.new.source.now
         × K.wrote outlet.old.sink.now out outlet.new.sink.now
         × Ran (rules_of_machine (M.machine machine.now)) given out
-        (nat_lt (S.ends intake.old.source.now) (S.ends intake.new.source.now)) state.old.reading.max_reads result }
+        (nat_lt (S.ends intake.old.source.now) (S.ends intake.new.source.now)) state.old.reading.max_reads result
+        × FewReads S.ends S.failures intake.old.source.now intake.new.source.now given state.old.reading.max_reads }
     ensures counts { RunCounts S.ends S.failures K.failures intake.old.source.now intake.new.source.now
         outlet.old.sink.now outlet.new.sink.now result }
 {
@@ -115,7 +117,8 @@ fn run_with_reject<M: Machine, S: Source, K: Sink>(
     ensures ran { (given : List ℕ) × (out : List ℕ) × S.gave intake.old.source.now given intake.new.source.now
         × K.wrote outlet.old.sink.now out outlet.new.sink.now
         × Ran (rules_of_machine (M.machine machine.now)) given out
-        (nat_lt (S.ends intake.old.source.now) (S.ends intake.new.source.now)) state.old.reading.max_reads result }
+        (nat_lt (S.ends intake.old.source.now) (S.ends intake.new.source.now)) state.old.reading.max_reads result
+        × FewReads S.ends S.failures intake.old.source.now intake.new.source.now given state.old.reading.max_reads }
     ensures counts { RunCounts S.ends S.failures K.failures intake.old.source.now intake.new.source.now
         outlet.old.sink.now outlet.new.sink.now result }
 {
@@ -161,7 +164,8 @@ fn run_without_reject<M: Machine, S: Source, K: Sink>(
     ensures ran { (given : List ℕ) × (out : List ℕ) × S.gave intake.old.source.now given intake.new.source.now
         × K.wrote outlet.old.sink.now out outlet.new.sink.now
         × Ran (rules_of_machine (M.machine machine.now)) given out
-        (nat_lt (S.ends intake.old.source.now) (S.ends intake.new.source.now)) state.old.reading.max_reads result }
+        (nat_lt (S.ends intake.old.source.now) (S.ends intake.new.source.now)) state.old.reading.max_reads result
+        × FewReads S.ends S.failures intake.old.source.now intake.new.source.now given state.old.reading.max_reads }
     ensures counts { RunCounts S.ends S.failures K.failures intake.old.source.now intake.new.source.now
         outlet.old.sink.now outlet.new.sink.now result }
 {

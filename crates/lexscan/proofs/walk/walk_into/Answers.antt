@@ -61,7 +61,7 @@ returns-in-Ok-None-clause-filled g c =
     subst (λ w. Filled g.S.Source.gave M c.args.intake.now.source.now c.next.new.self.source.now [] (take w.count c.bytes.place) c.args.first (length c.args.place.now) w) (sym c.new-in-Ok-None.ensures)
     (filled g.S.Source.gave M c.args.intake.now.source.now c.next.new.self.source.now c.bytes.place c.args.first (length c.args.place.now) c.bytes.count c.bytes.state c.bytes.before Stop.End c.bytes.invariant.filling.got
     (subst (λ xs. g.S.Source.gave c.args.intake.now.source.now xs c.next.new.self.source.now) (append-nil c.bytes.invariant.filling.got) (g.met.S.Source.gave_more _ _ _ _ _ c.bytes.invariant.filling.source (rw c.in-Ok-None.field-0-is at c.in-Ok-None.ensures.byte)))
-    c.bytes.invariant.within (omega (arith, c.bytes.invariant.within, c.bytes.auto.place)) c.bytes.invariant.filling.held c.bytes.invariant.filling.walked c.bytes.invariant.filling.goes_on)
+    c.bytes.invariant.within (omega (arith, c.bytes-test.true, c.bytes.auto.place)) c.bytes.invariant.filling.held c.bytes.invariant.filling.walked c.bytes.invariant.filling.goes_on)
   where
     M : Machine
     M = g.M.Machine.machine c.args.machine.now
@@ -71,7 +71,7 @@ returns-in-Err-clause-filled g c =
     subst (λ w. Filled g.S.Source.gave M c.args.intake.now.source.now c.next.new.self.source.now [] (take w.count c.bytes.place) c.args.first (length c.args.place.now) w) (sym c.new-in-Err.ensures)
     (filled g.S.Source.gave M c.args.intake.now.source.now c.next.new.self.source.now c.bytes.place c.args.first (length c.args.place.now) c.bytes.count c.bytes.state c.bytes.before Stop.Fault c.bytes.invariant.filling.got
     (subst (λ xs. g.S.Source.gave c.args.intake.now.source.now xs c.next.new.self.source.now) (append-nil c.bytes.invariant.filling.got) (g.met.S.Source.gave_more _ _ _ _ _ c.bytes.invariant.filling.source c.in-Err.ensures.byte))
-    c.bytes.invariant.within (omega (arith, c.bytes.invariant.within, c.bytes.auto.place)) c.bytes.invariant.filling.held c.bytes.invariant.filling.walked c.bytes.invariant.filling.goes_on)
+    c.bytes.invariant.within (omega (arith, c.bytes-test.true, c.bytes.auto.place)) c.bytes.invariant.filling.held c.bytes.invariant.filling.walked c.bytes.invariant.filling.goes_on)
   where
     M : Machine
     M = g.M.Machine.machine c.args.machine.now

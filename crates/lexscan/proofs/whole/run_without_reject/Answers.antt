@@ -1,4 +1,4 @@
-use Rattle.std.proofs.Common.{◌≡◌, ℕ, false, suc, ◌+◌, ◌<◌, ◌++◌, ◌≤◌, Err, sym, ap, subst, ◌∙◌, append_assoc, arith}
+use Rattle.std.proofs.Common.{◌≡◌, ℕ, false, suc, ◌+◌, ◌<◌, ◌++◌, ◌≤◌, Err, sym, ap, subst, ◌∙◌, append_assoc, arith, length}
 use Rattle.lexscan.specs.Reads.{end_step}
 use Rattle.std.specs.Prelude.{nat_lt}
 use Rattle.lex_semantics.specs.Machine.{rules_of_machine}
@@ -19,15 +19,19 @@ returns-in-Err-clause-ran g c =
     let inv = c.turns.invariant in
     let h = inv.running in
     let now = c.in-Err.ensures in
-    let m = now.goes_on in (
+    let m = now.goes_on in
+    let fell = m.5 h.turns h.given h.out h.stands in
+    let ended : g.S.Source.ends c.back_turn.new.intake.source.now ≡ g.S.Source.ends c.args.intake.now.source.now + end_step false c.back_turn.new.state.reading.at_end =
+    omega (arith, now.counts.ends, inv.ends, Last.answered_once c.turns.state.reading.at_end c.back_turn.new.state.reading.at_end (λ e. (m.4 e).1)) in (
       h.given ++ m.0,
       h.out ++ m.1,
       g.met.S.Source.gave_more _ _ _ _ _ h.source m.2,
       g.met.K.Sink.wrote_more _ _ _ _ _ h.sink m.3,
       Last.ran_into _ h.turns _ _ _ h.given m.0 (h.out ++ m.1) c.back_turn.new.state c.in-Err.e
-          (omega (arith, now.counts.ends, inv.ends, Last.answered_once c.turns.state.reading.at_end c.back_turn.new.state.reading.at_end (λ e. (m.4 e).1)))
-          (λ is. (now.too_many (ap Err is)).0 ∙ now.counts.max_reads ∙ inv.max_reads)
-          (m.5 h.turns h.given h.out h.stands),
+          ended
+          (λ is. (let many = now.too_many (ap Err is) in (many.0 ∙ now.counts.max_reads ∙ inv.max_reads, many.1)))
+          fell,
+      Last.few_made _ c.back_turn.new.state _ _ _ _ _ _ _ fell.taken ended now.counts.read_faults (inv.read_faults) now.counts.few_reads (now.counts.max_reads ∙ inv.max_reads),
     )
 
 pub returns-in-Ok-Ended-clause-ran : goal.returns-in-Ok-Ended-clause-ran
@@ -35,14 +39,18 @@ returns-in-Ok-Ended-clause-ran g c =
     let inv = c.turns.invariant in
     let h = inv.running in
     let now = c.in-Ok-Ended.ensures in
-    let m = rw c.in-Ok-Ended.field-0-is at now.goes_on in (
+    let m = rw c.in-Ok-Ended.field-0-is at now.goes_on in
+    let after = m.5.1 h.turns h.given h.out h.stands in
+    let ended : g.S.Source.ends c.back_turn.new.intake.source.now ≡ g.S.Source.ends c.args.intake.now.source.now + end_step false c.back_turn.new.state.reading.at_end =
+    omega (arith, now.counts.ends, inv.ends, Last.answered_once c.turns.state.reading.at_end c.back_turn.new.state.reading.at_end (λ e. (m.4 e).1)) in (
       h.given ++ m.0,
       h.out ++ m.1,
       g.met.S.Source.gave_more _ _ _ _ _ h.source m.2,
       g.met.K.Sink.wrote_more _ _ _ _ _ h.sink m.3,
       Last.ran_to _ (suc h.turns) c.in-Ok-Ended.status _ _ (h.given ++ m.0) (h.out ++ m.1) c.back_turn.new.state
-          (omega (arith, now.counts.ends, inv.ends, Last.answered_once c.turns.state.reading.at_end c.back_turn.new.state.reading.at_end (λ e. (m.4 e).1)))
-          m.5.0 (m.5.1 h.turns h.given h.out h.stands),
+          ended
+          m.5.0 after,
+      Last.few_made _ c.back_turn.new.state _ _ _ _ _ _ _ after.taken ended now.counts.read_faults (inv.read_faults) now.counts.few_reads (now.counts.max_reads ∙ inv.max_reads),
     )
 
 pub turns-smaller-in-Ok-Went : goal.turns-smaller-in-Ok-Went
@@ -51,7 +59,7 @@ turns-smaller-in-Ok-Went g c =
     let h = inv.running in
     let now = c.in-Ok-Went.ensures in
     let m = rw c.in-Ok-Went.field-0-is at now.goes_on in
-    let few : c.turns.state.reading.taken ≤ c.turns.state.reading.max_reads = c.turns.state.reading.few_reads in
+    let few : c.turns.state.reading.taken ≤ c.turns.state.reading.max_reads = omega (arith, c.turns.state.reading.few_reads) in
     let few' : c.back_turn.new.state.reading.taken ≤ c.turns.state.reading.max_reads = omega (arith, c.back_turn.new.state.reading.few_reads, now.counts.max_reads) in
     subst (λ k. Last.left_over k c.back_turn.new.state < Last.left_over c.turns.state.reading.max_reads c.turns.state) (sym now.counts.max_reads)
     (Last.turn_falls (g.M.Machine.machine c.args.machine.now) (g.M.Machine.laws c.args.machine.now) c.turns.state.reading.max_reads h.turns h.given m.0 h.out m.1 c.turns.state c.back_turn.new.state h.stands (m.5.1 h.turns h.given h.out h.stands) m.4 m.5.0 few few')
@@ -86,17 +94,22 @@ returns-in-Err-go_further-clause-ran g c =
     let inv = c.turns.invariant in
     let h = inv.running in
     let now = c.in-Err-go_further.ensures in
-    let m = now.goes_on in (
+    let m = now.goes_on in
+    let fell = m.5.4 h.turns h.given h.out h.stands in
+    let all : (h.given ++ m.5.1) ++ m.5.2 ≡ h.given ++ m.0 = append_assoc h.given m.5.1 m.5.2 ∙ ap (λ l. h.given ++ l) (sym m.5.3) in
+    let ended : g.S.Source.ends c.go_further.new.intake.source.now ≡ g.S.Source.ends c.args.intake.now.source.now + end_step false c.go_further.new.state.reading.at_end =
+    now.ends ∙ inv.ends ∙ ap (λ b. g.S.Source.ends c.args.intake.now.source.now + end_step false b) (sym now.at_end) in (
       h.given ++ m.0,
       h.out ++ m.1,
       g.met.S.Source.gave_more _ _ _ _ _ h.source m.2,
       g.met.K.Sink.wrote_more _ _ _ _ _ h.sink m.3,
       subst (λ l. RanInto (rules_of_machine M) l (h.out ++ m.1) (nat_lt (g.S.Source.ends c.args.intake.now.source.now) (g.S.Source.ends c.go_further.new.intake.source.now)) c.args.state.now.reading.max_reads c.in-Err-go_further.refused)
-          (append_assoc h.given m.5.1 m.5.2 ∙ ap (λ l. h.given ++ l) (sym m.5.3))
+          all
           (Last.ran_into M (m.5.0 + h.turns) _ _ _ (h.given ++ m.5.1) m.5.2 (h.out ++ m.1) c.go_further.new.state c.in-Err-go_further.refused
-          (now.ends ∙ inv.ends ∙ ap (λ b. g.S.Source.ends c.args.intake.now.source.now + end_step false b) (sym now.at_end))
+          ended
           (λ is. absurd (no_write c.in-Err-go_further.refused now.refusals is))
-          (m.5.4 h.turns h.given h.out h.stands)),
+          fell),
+      Last.few_made _ c.go_further.new.state _ 0 _ _ _ _ _ (fell.taken ∙ ap length all) ended (omega (arith, now.read_faults)) inv.read_faults (omega (arith, c.go_further.new.state.reading.few_reads)) (now.max_reads ∙ inv.max_reads),
     )
 
 pub returns-in-Err-turn_without_reject-clause-ran : goal.returns-in-Err-turn_without_reject-clause-ran
@@ -109,15 +122,19 @@ returns-in-Err-turn_without_reject-clause-ran g c =
     let ends : g.S.Source.ends c.go_further.new.intake.source.now ≡ g.S.Source.ends c.args.intake.now.source.now + end_step false c.go_further.new.state.reading.at_end =
     first.ends ∙ inv.ends ∙ ap (λ b. g.S.Source.ends c.args.intake.now.source.now + end_step false b) (sym first.at_end) in
     let now = c.in-Err-turn_without_reject.ensures in
-    let m = now.goes_on in (
+    let m = now.goes_on in
+    let fell = m.5 h.turns h.given h.out h.stands in
+    let ended : g.S.Source.ends c.turn_without_reject.new.intake.source.now ≡ g.S.Source.ends c.args.intake.now.source.now + end_step false c.turn_without_reject.new.state.reading.at_end =
+    omega (arith, now.counts.ends, ends, Last.answered_once c.go_further.new.state.reading.at_end c.turn_without_reject.new.state.reading.at_end (λ e. (m.4 e).1)) in (
       h.given ++ m.0,
       h.out ++ m.1,
       g.met.S.Source.gave_more _ _ _ _ _ h.source m.2,
       g.met.K.Sink.wrote_more _ _ _ _ _ h.sink m.3,
       Last.ran_into _ h.turns _ _ _ h.given m.0 (h.out ++ m.1) c.turn_without_reject.new.state c.in-Err-turn_without_reject.e
-          (omega (arith, now.counts.ends, ends, Last.answered_once c.go_further.new.state.reading.at_end c.turn_without_reject.new.state.reading.at_end (λ e. (m.4 e).1)))
-          (λ is. (now.too_many (ap Err is)).0 ∙ now.counts.max_reads ∙ first.max_reads ∙ inv.max_reads)
-          (m.5 h.turns h.given h.out h.stands),
+          ended
+          (λ is. (let many = now.too_many (ap Err is) in (many.0 ∙ now.counts.max_reads ∙ first.max_reads ∙ inv.max_reads, many.1)))
+          fell,
+      Last.few_made _ c.turn_without_reject.new.state _ _ _ _ _ _ _ fell.taken ended now.counts.read_faults (first.read_faults ∙ inv.read_faults) now.counts.few_reads (now.counts.max_reads ∙ first.max_reads ∙ inv.max_reads),
     )
 
 pub returns-in-Ok-Ended-turn_without_reject-clause-ran : goal.returns-in-Ok-Ended-turn_without_reject-clause-ran
@@ -130,14 +147,18 @@ returns-in-Ok-Ended-turn_without_reject-clause-ran g c =
     let ends : g.S.Source.ends c.go_further.new.intake.source.now ≡ g.S.Source.ends c.args.intake.now.source.now + end_step false c.go_further.new.state.reading.at_end =
     first.ends ∙ inv.ends ∙ ap (λ b. g.S.Source.ends c.args.intake.now.source.now + end_step false b) (sym first.at_end) in
     let now = c.in-Ok-Ended-turn_without_reject.ensures in
-    let m = rw c.in-Ok-Ended-turn_without_reject.field-0-is at now.goes_on in (
+    let m = rw c.in-Ok-Ended-turn_without_reject.field-0-is at now.goes_on in
+    let after = m.5.1 h.turns h.given h.out h.stands in
+    let ended : g.S.Source.ends c.turn_without_reject.new.intake.source.now ≡ g.S.Source.ends c.args.intake.now.source.now + end_step false c.turn_without_reject.new.state.reading.at_end =
+    omega (arith, now.counts.ends, ends, Last.answered_once c.go_further.new.state.reading.at_end c.turn_without_reject.new.state.reading.at_end (λ e. (m.4 e).1)) in (
       h.given ++ m.0,
       h.out ++ m.1,
       g.met.S.Source.gave_more _ _ _ _ _ h.source m.2,
       g.met.K.Sink.wrote_more _ _ _ _ _ h.sink m.3,
       Last.ran_to _ (suc h.turns) c.in-Ok-Ended-turn_without_reject.answer _ _ (h.given ++ m.0) (h.out ++ m.1) c.turn_without_reject.new.state
-          (omega (arith, now.counts.ends, ends, Last.answered_once c.go_further.new.state.reading.at_end c.turn_without_reject.new.state.reading.at_end (λ e. (m.4 e).1)))
-          m.5.0 (m.5.1 h.turns h.given h.out h.stands),
+          ended
+          m.5.0 after,
+      Last.few_made _ c.turn_without_reject.new.state _ _ _ _ _ _ _ after.taken ended now.counts.read_faults (first.read_faults ∙ inv.read_faults) now.counts.few_reads (now.counts.max_reads ∙ first.max_reads ∙ inv.max_reads),
     )
 
 pub turns-smaller : goal.turns-smaller
@@ -152,7 +173,7 @@ turns-smaller g c =
     let now = c.in-Ok-Went-turn_without_reject.ensures in
     let m = rw c.in-Ok-Went-turn_without_reject.field-0-is at now.goes_on in
     let most : ℕ = c.go_further.new.state.reading.max_reads in
-    let few : c.go_further.new.state.reading.taken ≤ most = c.go_further.new.state.reading.few_reads in
+    let few : c.go_further.new.state.reading.taken ≤ most = omega (arith, c.go_further.new.state.reading.few_reads) in
     let few' : c.turn_without_reject.new.state.reading.taken ≤ most = omega (arith, c.turn_without_reject.new.state.reading.few_reads, now.counts.max_reads) in
     let falls : Last.left_over most c.turn_without_reject.new.state < Last.left_over most c.go_further.new.state =
     Last.turn_falls (g.M.Machine.machine c.args.machine.now) (g.M.Machine.laws c.args.machine.now) most h.turns h.given m.0 h.out m.1 c.go_further.new.state c.turn_without_reject.new.state h.stands (m.5.1 h.turns h.given h.out h.stands) m.4 m.5.0 few few' in
