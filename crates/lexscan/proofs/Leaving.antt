@@ -15,8 +15,13 @@ use Rattle.lexscan.specs.declared.act.ActionState.{ActionState}
 use Rattle.lexscan.specs.declared.act.Finish.{Finish}
 use Rattle.lexscan.specs.Acts.{finish_of}
 use Rattle.lexscan.specs.Descends.{conditions_at, matches_of, CutAll, Faulted, Performed}
+use Rattle.lexscan.specs.Ends.{IsEarly}
 use Rattle.lexscan.specs.Moves.{Left, Says, EndLeft, EndsScan, MatchLeft, Moved}
 use Rattle.lexscan.proofs.Descending.{performed_flushed, performed_cut}
+
+not_early : (e : RunError) → (e ≡ Write) ⊎ (e ≡ Stack) → IsEarly e → ⊥
+not_early e (inl is) early = subst IsEarly is early
+not_early e (inr is) early = subst IsEarly is early
 
 module _ {S K : Type 0} (M : Machine) (gave : S → List ℕ → S → Type 0) (wrote : K → List ℕ → K → Type 0) (s s' : S) (t t' : K) (old : State) (mid : Reading) (new : State) (took : Took gave s s' old.reading mid) where
   took_to : new ≡ record old { reading = mid } → Took gave s s' old.reading new.reading
@@ -37,6 +42,7 @@ module _ {S K : Type 0} (M : Machine) (gave : S → List ℕ → S → Type 0) (
           subst (λ z. Looked M old.place old.reading z path) back looked,
           subst (λ (z : Reading). CutAll M wrote t t' z.window.bytes old.place.at (matches_of M z.window.bytes old.place.at path) (conditions_at old)) back left.cut_off,
         ));
+        early = λ early. absurd (not_early e left.refusals early);
         fault = λ is. (
           path,
           subst (λ z. Looked M old.place old.reading z path) back looked,
@@ -54,6 +60,7 @@ module _ {S K : Type 0} (M : Machine) (gave : S → List ℕ → S → Type 0) (
         took = took_to same;
         place = ap (λ (z : State). z.place) same;
         why = inr (inr (subst (λ (z : Reading). LookedAtEnd old.place old.reading z) back looked, put.0, put.1, put.2));
+        early = λ early. absurd (not_early e (inl write) early);
         fault = λ is. absurd (no (sym write ∙ is));
       }
     where

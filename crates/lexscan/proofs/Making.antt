@@ -8,7 +8,8 @@ use Rattle.lexscan.specs.declared.turn.Turn.{Turn}
 use Rattle.lexscan.specs.declared.error.RunError.{RunError}
 use Rattle.lexscan.specs.declared.error.RunError.TheVariants.{Read, TooManyReads, Write, OutOfMemory, Stack, Failed}
 use Rattle.lexscan.specs.Descends.{conditions_at, matches_of, CutAll}
-use Rattle.lexscan.specs.Looks.{Wants}
+use Rattle.lexscan.specs.Ends.{IsEarly}
+use Rattle.lexscan.specs.Looks.{Wants, Unmet}
 use Rattle.lexscan.specs.Moves.{Matched, Finished, Refused, Why, StackFaulted, Says, Moved}
 use Rattle.lexscan.specs.Stands.{Stands, MakesTurn}
 use Rattle.lexscan.specs.Turns.{MoveLeft, MayTurn}
@@ -24,6 +25,14 @@ is_fault TooManyReads = inr (λ p. cc)
 is_fault Write = inr (λ p. cc)
 is_fault OutOfMemory = inr (λ p. cc)
 is_fault Failed = inr (λ p. cc)
+
+is_early : (e : RunError) → IsEarly e ⊎ (IsEarly e → ⊥)
+is_early Read = inl tt
+is_early TooManyReads = inl tt
+is_early OutOfMemory = inl tt
+is_early Failed = inl tt
+is_early Write = inr (λ p. p)
+is_early Stack = inr (λ p. p)
 
 module _ {S K : Type 0} (M : Machine) (laws : MachineLaws M) (gave : S → List ℕ → S → Type 0) (wrote : K → List ℕ → K → Type 0) (s s' : S) (t t' : K) (source_live sink_live : Bool) (old : State) where
   pub turn_made : (new : State) (turn : Turn) → old.failed ≡ false → old.ended ≡ None → Moved M gave wrote s s' t t' old new (Ok turn) → MoveLeft M source_live sink_live old new (Ok turn) → MakesTurn M gave wrote s s' t t' old new (Ok turn)
@@ -71,42 +80,54 @@ module _ {S K : Type 0} (M : Machine) (laws : MachineLaws M) (gave : S → List 
       new = record mid { failed = true }
 
       m : Refused M gave wrote s s' t t' (record old { failed = true }) new e
-      m = (let k = moved in record { took = k.took; place = k.place; why = k.why; fault = k.fault })
+      m = (let k = moved in record { took = k.took; place = k.place; why = k.why; early = k.early; fault = k.fault })
 
       wants : e ≡ TooManyReads → Wants M old.place new.reading
       wants is = (left.too_many (ap Err is)).1
 
-      from : (e ≡ Stack → ⊥) → Why M wrote t t' (record old { failed = true }) new →
-          MakesTurn M gave wrote s s' t t' old new (Err e)
-      from not (inl k) = (
+      unmet : (e ≡ Stack → ⊥) → Unmet M old.place old.reading new.reading × wrote t [] t' → MakesTurn M gave wrote s s' t t' old new (Err e)
+      unmet not k = (
         m.took.got,
         [],
         m.took.source,
         k.1,
         λ is. (m.took.nothing is, m.took.end_stays is),
-        λ n given out h. Fall.fell M laws gave wrote _ _ _ _ n given out old new e going h m refl wants []
-            (Fall.wanted_front M laws gave wrote _ _ _ _ n given out old new e going h m)
-            (Fall.unmet_within M laws gave wrote _ _ _ _ n given out old new e going h m k.0) (λ is. absurd (not is)),
+        (
+          λ _. refl,
+          λ n given out h. Fall.fell M laws gave wrote _ _ _ _ n given out old new e going h m refl wants []
+              (Fall.wanted_front M laws gave wrote _ _ _ _ n given out old new e going h m)
+              (Fall.unmet_within M laws gave wrote _ _ _ _ n given out old new e going h m k.0) (λ is. absurd (not is)) (λ _. refl),
+        ),
       )
-      from not (inr (inl k)) = (
+
+      from : (e ≡ Stack → ⊥) → (IsEarly e → ⊥) → Why M wrote t t' (record old { failed = true }) new →
+          MakesTurn M gave wrote s s' t t' old new (Err e)
+      from not late (inl k) = unmet not k
+      from not late (inr (inl k)) = (
         m.took.got,
         k.2.out,
         m.took.source,
         k.2.sink,
         λ is. (m.took.nothing is, m.took.end_stays is),
-        λ n given out h. Fall.fell M laws gave wrote _ _ _ _ n given out old new e going h m refl wants k.2.out
-            (Fall.match_front M laws gave wrote _ _ _ _ n given out old new e going h m k.0 k.1 k.2)
-            (Fall.match_within M laws gave wrote _ _ _ _ n given out old new e going h m k.0 k.1) (λ is. absurd (not is)),
+        (
+          λ early. absurd (late early),
+          λ n given out h. Fall.fell M laws gave wrote _ _ _ _ n given out old new e going h m refl wants k.2.out
+              (Fall.match_front M laws gave wrote _ _ _ _ n given out old new e going h m k.0 k.1 k.2)
+              (Fall.match_within M laws gave wrote _ _ _ _ n given out old new e going h m k.0 k.1) (λ is. absurd (not is)) (λ early. absurd (late early)),
+        ),
       )
-      from not (inr (inr k)) = (
+      from not late (inr (inr k)) = (
         m.took.got,
         k.1,
         m.took.source,
         k.3,
         λ is. (m.took.nothing is, m.took.end_stays is),
-        λ n given out h. Fall.fell M laws gave wrote _ _ _ _ n given out old new e going h m refl wants k.1
-            (Fall.end_front M laws gave wrote _ _ _ _ n given out old new e going h m k.0 k.1 k.2)
-            (Fall.end_within M laws gave wrote _ _ _ _ n given out old new e going h m k.0) (λ is. absurd (not is)),
+        (
+          λ early. absurd (late early),
+          λ n given out h. Fall.fell M laws gave wrote _ _ _ _ n given out old new e going h m refl wants k.1
+              (Fall.end_front M laws gave wrote _ _ _ _ n given out old new e going h m k.0 k.1 k.2)
+              (Fall.end_within M laws gave wrote _ _ _ _ n given out old new e going h m k.0) (λ is. absurd (not is)) (λ early. absurd (late early)),
+        ),
       )
 
       fault : StackFaulted M wrote t t' (record old { failed = true }) new → e ≡ Stack →
@@ -122,16 +143,25 @@ module _ {S K : Type 0} (M : Machine) (laws : MachineLaws M) (gave : S → List 
             m.took.source,
             k.2.performed.sink,
             λ is. (m.took.nothing is, m.took.end_stays is),
-            λ n given out h. Fall.fell M laws gave wrote _ _ _ _ n given out old new e going h m refl wants k.2.performed.out
-                (Fall.match_front M laws gave wrote _ _ _ _ n given out old new e going h m k.0 k.1 cut)
-                (Fall.match_within M laws gave wrote _ _ _ _ n given out old new e going h m k.0 k.1)
-                (λ _. Go.faulted_ran M laws gave wrote _ _ _ _ n given out old new going h m.took k.0 k.1 k.2),
+            (
+              λ early. absurd (subst IsEarly is early),
+              λ n given out h. Fall.fell M laws gave wrote _ _ _ _ n given out old new e going h m refl wants k.2.performed.out
+                  (Fall.match_front M laws gave wrote _ _ _ _ n given out old new e going h m k.0 k.1 cut)
+                  (Fall.match_within M laws gave wrote _ _ _ _ n given out old new e going h m k.0 k.1)
+                  (λ _. Go.faulted_ran M laws gave wrote _ _ _ _ n given out old new going h m.took k.0 k.1 k.2)
+                  (λ early. absurd (subst IsEarly is early)),
+            ),
           )
 
       by_fault : (e ≡ Stack) ⊎ (e ≡ Stack → ⊥) →
           MakesTurn M gave wrote s s' t t' old new (Err e)
       by_fault (inl is) = fault (m.fault is) is
-      by_fault (inr not) = from not m.why
+      by_fault (inr not) = by_order (is_early e)
+        where
+          by_order : IsEarly e ⊎ (IsEarly e → ⊥) →
+              MakesTurn M gave wrote s s' t t' old new (Err e)
+          by_order (inl early) = unmet not (m.early early)
+          by_order (inr late) = from not late m.why
 
   -- the next turn may be made
   pub turn_next : (old_source old_sink : Bool) (new : State) (turn : Turn) → old.failed ≡ false → MayTurn M old_source old_sink old → Moved M gave wrote s s' t t' old new (Ok turn) → MoveLeft M source_live sink_live old new (Ok turn) → MayTurn M source_live sink_live new

@@ -24,6 +24,7 @@ use Rattle.lexscan.specs.declared.error.RunError.{RunError}
 use Rattle.lexscan.specs.declared.error.RunError.TheVariants.{TooManyReads, Stack}
 use Rattle.lexscan.specs.Looks.{Looked, LookedAtEnd, Wants, Unmet}
 use Rattle.lexscan.specs.Descends.{conditions_at, outcome, matches_of, CutAll, ending_of}
+use Rattle.lexscan.specs.Ends.{IsEarly}
 use Rattle.lexscan.specs.Moves.{Refused}
 use Rattle.lexscan.specs.Stands.{state_of, Stands, Before, Fell, RanTo}
 use Rattle.lexscan.proofs.Outcomes.{good, seen_outcome}
@@ -195,11 +196,20 @@ module _ {S K : Type 0} (M : Machine) (laws : MachineLaws M) (gave : S → List 
           inl (ap (λ z. drop looked.reach (drop (h.start + old.place.at) g) ++ z) none ∙ append-nil (drop looked.reach (drop (h.start + old.place.at) g)) ∙ drop_all looked.reach (drop (h.start + old.place.at) g) (omega (arith, size, left, q.1)))
 
   pub fell : new.failed ≡ true → (error ≡ TooManyReads → Wants M old.place new.reading) → (w : List ℕ) → Fronts w → Within →
-      (error ≡ Stack → RanTo (rules_of_machine M) (given ++ m.took.got) (out ++ w) new.reading.at_end StackFault) → Fell M n given m.took.got (out ++ w) new error
-  fell failed wants w front within fault = record {
+      (error ≡ Stack → RanTo (rules_of_machine M) (given ++ m.took.got) (out ++ w) new.reading.at_end StackFault) → (IsEarly error → w ≡ []) → Fell M n given m.took.got (out ++ w) new error
+  unfolding before_is
+  fell failed wants w front within fault quiet = record {
     failed = failed;
     start = h.start;
-    gave_up = record { text = is_text_append given m.took.got h.text m.took.text; end_before = old.reading.at_end; before = before_is; front = front; within = within; asks_end = λ is. wants_end (wants is) };
+    gave_up = record {
+      text = is_text_append given m.took.got h.text m.took.text;
+      end_before = old.reading.at_end;
+      before = before_is;
+      front = front;
+      within = within;
+      asks_end = λ is. wants_end (wants is);
+      whole = λ early x k. sym (append-nil out) ∙ ap (λ z. out ++ z) (sym (quiet early));
+    };
     held = sym win;
     taken = m.took.taken ∙ ap (λ k. k + length m.took.got) h.taken ∙ sym longer;
     fault = fault;

@@ -1,10 +1,16 @@
 -- What a call leaves of the source, and of the sink.
-use Rattle.std.specs.Prelude.{◌≡◌, ℕ, ◌+◌, ◌≤◌, Bool, true, false, Result, OnOk, IfErr, IsErrOf}
+use Rattle.std.specs.Prelude.{◌≡◌, ℕ, ◌+◌, ◌≤◌, Bool, true, false, Result, OnOk, IfErr, IsErrOf, ⊤}
 use Rattle.lexscan.specs.declared.state.Reading.{Reading}
 use Rattle.lexscan.specs.declared.error.RunError.{RunError}
 use Rattle.lexscan.specs.declared.error.RunError.TheVariants.{Write, Stack, Failed}
 use Rattle.lexscan.specs.Answer.{end_read}
 use Rattle.lexscan.specs.Reads.{read_fault_count, write_fault_count, end_step}
+
+-- The refusals of a turn before its action: no byte was had, or no memory; or an earlier turn was refused.
+abbrev pub IsEarly : RunError → Type 0
+IsEarly Write = ⊥
+IsEarly Stack = ⊥
+IsEarly other = ⊤
 
 -- The sink may be called again where nothing was refused, and each refusal is one of its failures.
 pub record SinkLeft {K T : Type 0} (fails : K → ℕ) (t t' : K) (live : Bool) (result : Result T RunError) : Type 0 where

@@ -10,6 +10,7 @@ use Rattle.lexscan.specs.declared.act.Finish.{Finish}
 use Rattle.lexscan.specs.declared.turn.Turn.{Turn}
 use Rattle.lexscan.specs.declared.error.RunError.{RunError}
 use Rattle.lexscan.specs.Reads.{Took, write_fault_count}
+use Rattle.lexscan.specs.Ends.{IsEarly}
 use Rattle.lexscan.specs.Looks.{Looked, LookedAtEnd, Unmet}
 use Rattle.lexscan.specs.declared.error.RunError.TheVariants.{Write, Stack}
 use Rattle.lexscan.specs.Descends.{Conditions, conditions_at, matches_of, ending_of, Performed, CutAll, Faulted}
@@ -139,11 +140,12 @@ abbrev pub StackFaulted : {K : Type 0} → Machine → (K → List ℕ → K →
 StackFaulted M wrote t t' old new =
     (path : List ℕ) × Looked M old.place old.reading new.reading path × Faulted M wrote t t' new.reading.window.bytes old.place.at (matches_of M new.reading.window.bytes old.place.at path) (conditions_at old)
 
--- The turn was refused: what was taken is held.
+-- The turn was refused: what was taken is held. Before its action nothing was written.
 pub record Refused {S K : Type 0} (M : Machine) (gave : S → List ℕ → S → Type 0) (wrote : K → List ℕ → K → Type 0) (s s' : S) (t t' : K) (old new : State) (e : RunError) : Type 0 where
   pub took : Took gave s s' old.reading new.reading
   pub place : new.place ≡ old.place
   pub why : Why M wrote t t' old new
+  pub early : IsEarly e → Unmet M old.place old.reading new.reading × wrote t [] t'
   pub fault : e ≡ Stack → StackFaulted M wrote t t' old new
 
 abbrev pub Moved : {S K : Type 0} → Machine → (S → List ℕ → S → Type 0) → (K → List ℕ → K → Type 0) → S → S → K → K → State → State → Result Turn RunError → Type 0

@@ -13,6 +13,7 @@ use Rattle.lexscan.specs.declared.turn.Turn.{Turn}
 use Rattle.lexscan.specs.declared.error.RunError.{RunError}
 use Rattle.lexscan.specs.declared.error.RunError.TheVariants.{TooManyReads, Stack}
 use Rattle.lexscan.specs.Descends.{ending_of}
+use Rattle.lexscan.specs.Ends.{IsEarly}
 use Rattle.lexscan.specs.Moves.{Says}
 
 -- how the scan stands, where the text starts there
@@ -45,7 +46,7 @@ pub record Before (R : Rules) (n start : ℕ) (given : List ℕ) (end_asked : Bo
 
 -- The turn after n was refused. What was written is a front of what the run writes, and the bytes taken are no more than
 -- the turns ask for with this one. Where no more reads were allowed, it asks for the end, if the bytes given are all, and
--- the turns before do not.
+-- the turns before do not. Where the turn was refused before its action, what was written is what the turns before wrote.
 pub record GaveUp (R : Rules) (n start : ℕ) (given got out : List ℕ) (at_end : Bool) (e : RunError) : Type 0 where
   pub text : IsText (given ++ got)
   pub end_before : Bool
@@ -53,6 +54,7 @@ pub record GaveUp (R : Rules) (n start : ℕ) (given got out : List ℕ) (at_end
   pub front : (x : List ℕ) → Consistent (given ++ got) at_end x → (w : List ℕ) (d : Ending) → Run R x w d → BeginsWith w out
   pub within : (x : List ℕ) → Consistent (given ++ got) at_end x → (t : Scan.State) (far : ℕ) (asked : Bool) → AfterTurns R x (suc n) t far asked → length (given ++ got) ≤ far
   pub asks_end : e ≡ TooManyReads → (end_before ≡ false) × ((t : Scan.State) (far : ℕ) (asked : Bool) → AfterTurns R (given ++ got) (suc n) t far asked → asked ≡ true)
+  pub whole : IsEarly e → (x : List ℕ) (k : Consistent (given ++ got) at_end x) → (before x k).state.written ≡ out
 
 -- The scan has ended: this is the run of every consistent input, and the turns up to its end ask for just what the
 -- source has told.
@@ -79,9 +81,10 @@ abbrev pub NoneAfterEnd : State → State → List ℕ → Type 0
 NoneAfterEnd old new got = old.reading.at_end ≡ true → (got ≡ []) × (new.reading.at_end ≡ true)
 
 -- What a turn does: where the facts hold for n turns and two lists, they hold for n + 1 and the lists with its bytes appended.
+-- A turn that is refused before its action has written nothing.
 abbrev pub GoesOn : Machine → State → State → List ℕ → List ℕ → Result Turn RunError → Type 0
 GoesOn M old new got wrote (Ok turn) = Says turn new.ended × ((n : ℕ) (given out : List ℕ) → Stands M n given out old → Stands M (suc n) (given ++ got) (out ++ wrote) new)
-GoesOn M old new got wrote (Err e) = (n : ℕ) (given out : List ℕ) → Stands M n given out old → Fell M n given got (out ++ wrote) new e
+GoesOn M old new got wrote (Err e) = (IsEarly e → wrote ≡ []) × ((n : ℕ) (given out : List ℕ) → Stands M n given out old → Fell M n given got (out ++ wrote) new e)
 
 -- The source gave some bytes in a turn, and the sink was given some.
 abbrev pub MakesTurn : {S K : Type 0} → Machine → (S → List ℕ → S → Type 0) → (K → List ℕ → K → Type 0) → S → S → K → K → State → State → Result Turn RunError → Type 0

@@ -9,7 +9,7 @@ returns-then-state-clause-goes_on g c = (
   g.met.S.Source.gave_none _,
   g.met.K.Sink.wrote_none _,
   λ e. (refl, e),
-  λ n given out h. let works = h.works in cc,
+  (λ _. refl, λ n given out h. let works = h.works in cc),
 )
 
 pub returns-in-Some-clause-goes_on : goal.returns-in-Some-clause-goes_on

@@ -9,7 +9,7 @@ returns-in-Err-clause-ran g c =
     let h = inv.running in
     let now = c.in-Err.ensures in
     let m = now.goes_on in
-    let fell = m.5 h.turns h.given h.out h.stands in
+    let fell = m.5.1 h.turns h.given h.out h.stands in
     let ended : g.S.Source.ends c.turn_with_reject.new.intake.source.now ≡ g.S.Source.ends c.args.intake.now.source.now + end_step false c.turn_with_reject.new.state.reading.at_end =
     omega (arith, now.counts.ends, inv.ends, Last.answered_once c.turns.state.reading.at_end c.turn_with_reject.new.state.reading.at_end (λ e. (m.4 e).1)) in (
       h.given ++ m.0,
