@@ -35,9 +35,11 @@ fn take_plain<S: Source>(
     ensures taken { reading.new.taken ≡ reading.old.taken + length (given result) }
     ensures at_end { reading.new.at_end ≡ is_end result }
     ensures max_reads { reading.new.max_reads ≡ reading.old.max_reads }
-    ensures few_reads { reading.new.taken + end_read reading.new.at_end + read_fault_count result ≤ reading.new.max_reads }
+    ensures few_reads { reading.new.taken + end_read reading.new.at_end + read_fault_count result
+        ≤ reading.new.max_reads }
 
     ensures too_many { IsErrOf result RunError.TooManyReads → reading.old.taken ≡ reading.old.max_reads }
+    ensures at_limit { reading.old.taken ≡ reading.old.max_reads → IsErrOf result RunError.TooManyReads }
     ensures not_write { IsErrOf result RunError.Write → ⊥ }
     ensures not_failed { IsErrOf result RunError.Failed → ⊥ }
     ensures not_stack { IsErrOf result RunError.Stack → ⊥ }
@@ -82,12 +84,14 @@ fn take_byte<S: Source>(
     ensures taken { reading.new.taken ≡ reading.old.taken + length (given result) }
     ensures at_end { reading.new.at_end ≡ is_end result }
     ensures max_reads { reading.new.max_reads ≡ reading.old.max_reads }
-    ensures few_reads { reading.new.taken + end_read reading.new.at_end + read_fault_count result ≤ reading.new.max_reads }
+    ensures few_reads { reading.new.taken + end_read reading.new.at_end + read_fault_count result
+        ≤ reading.new.max_reads }
 
     ensures states { path.new.states ≡ path.old.states }
     ensures room { OnOk result (path.new.room ≡ true) }
 
     ensures too_many { IsErrOf result RunError.TooManyReads → reading.old.taken ≡ reading.old.max_reads }
+    ensures at_limit { reading.old.taken ≡ reading.old.max_reads → IsErrOf result RunError.TooManyReads }
     ensures not_write { IsErrOf result RunError.Write → ⊥ }
     ensures not_failed { IsErrOf result RunError.Failed → ⊥ }
     ensures not_stack { IsErrOf result RunError.Stack → ⊥ }
@@ -133,14 +137,15 @@ pub fn fill<M: Machine, S: Source>(
         × (reading.new.at_end ≡ false) × (intake.new.source.now ≡ intake.old.source.now)) }
     ensures refusals { IfErr result (λ e. (e ≡ RunError.TooManyReads) ⊎ (e ≡ RunError.OutOfMemory)) }
     ensures too_many { IsErrOf result RunError.TooManyReads → reading.new.taken ≡ reading.new.max_reads }
+    ensures at_limit { reading.old.taken ≡ reading.old.max_reads → IsErrOf result RunError.TooManyReads }
 {
-    if reading.max_reads <= reading.taken {
+    let most = reading.max_reads - reading.taken;
+    if most == 0 {
         return Err(RunError::TooManyReads);
     }
     if let Err(_) = reading.window.reserve() {
         return Err(RunError::OutOfMemory);
     }
-    let most = reading.max_reads - reading.taken;
     let walk = reading.window.fill(machine, intake, first, most);
     reading.taken += walk.count as u64;
     if matches!(walk.stop, Stop::End) {
