@@ -8,7 +8,7 @@ use Rattle.lextest_product.proofs.caller.filtered_by.Goals as goal
 
 pub returns : goal.returns
 returns g c =
-    let (given, out, gave, wrote, ran) = c.in_ok-run.ensures.ran in
+    let (given, out, gave, wrote, ran, few) = c.in_ok-run.ensures.ran in
     let s' = c.run.new.source in
     let source = subst (λ r. Gives (g.R.Read.remaining r) (g.R.Read.remaining s'.reader) c.new-source.result.ends s'.ends given) c.new-source.ensures.reader gave in
     let sink = subst (λ w. Appends (g.W.Write.contents w) (g.W.Write.contents c.run.new.sink.writer) out) c.new-sink.ensures.writer wrote in (
