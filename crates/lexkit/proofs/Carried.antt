@@ -1,5 +1,7 @@
 -- What is told of a machine's rules is told of those of its specification.
-use Rattle.std.proofs.Common.{ℕ, suc, Bool, List, ◌++◌}
+use Rattle.std.proofs.Common.{◌≡◌, ℕ, suc, ◌+◌, ◌-◌, ◌<◌, ◌≤◌, Bool, true, false, List, ◌++◌, length, refl, arith}
+use Rattle.std.specs.Prelude.{nat_lt}
+use Rattle.std.proofs.lemmas.Bool.{ltb-true}
 use Rattle.lex_semantics.specs.Spec.{Spec}
 use Rattle.lex_semantics.specs.Rules.{rules_of}
 use Rattle.lex_semantics.specs.Sound.{IsSound}
@@ -8,9 +10,18 @@ use Rattle.lex_semantics.specs.MachineLaws.{MachineLaws}
 use Rattle.lex_semantics.specs.TableFor.{TableFor}
 use Rattle.lex_semantics.specs.Acting.{Ending, StackFault}
 use Rattle.lex_semantics.proofs.Both.{same_after, same_run}
+use Rattle.lexscan.specs.Answer.{end_read}
 use Rattle.lexscan.specs.declared.error.RunError.{RunError}
 use Rattle.lexscan.specs.Stands.{RanTo}
 use Rattle.lexscan.specs.Runs.{RanInto}
+
+-- the reads of a scan, by whether its end was answered
+pub few_reads : (given : List ℕ) (m fault e e' f f' : ℕ) → length given + (e' - e) + (f' - f) ≤ m → f' ≡ f + fault → length given + end_read (nat_lt e e') + fault ≤ m
+few_reads given m fault e e' f f' few more = by_end (nat_lt e e') refl
+  where
+    by_end : (b : Bool) → nat_lt e e' ≡ b → length given + end_read b + fault ≤ m
+    by_end true q = let less : e < e' = ltb-true e e' q in omega (arith, few, more, less)
+    by_end false q = omega (arith, few, more)
 
 module _ (M : Machine) (laws : MachineLaws M) (S : Spec) (sound : IsSound S) (table : TableFor M S) where
   pub ran_to : (given out : List ℕ) (at_end : Bool) (d : Ending) → RanTo (rules_of_machine M) given out at_end d → RanTo (rules_of S) given out at_end d
@@ -41,6 +52,7 @@ module _ (M : Machine) (laws : MachineLaws M) (S : Spec) (sound : IsSound S) (ta
       });
       front = λ x k w d r. h.gave_up.front x k w d ((same_run M laws S sound table x k.0 w d).1 r);
       within = λ x k t far asked after. h.gave_up.within x k t far asked ((same_after M laws S sound table x k.0 (suc h.turns) t far asked).1 after);
+      whole = h.gave_up.whole;
       asks_end = λ is. (let q = h.gave_up.asks_end is in (q.0, λ t far asked after. q.1 t far asked ((same_after M laws S sound table (h.had ++ h.got) h.gave_up.text (suc h.turns) t far asked).1 after)));
     };
     too_many = h.too_many;

@@ -1,6 +1,6 @@
 -- What a scan by the text of a specification leaves. (What is written is that of POSIX and flex; what is taken from the source,
 -- the limits and the refusals are this project's.)
-use Rattle.std.specs.Prelude.{◌≡◌, ℕ, ◌<◌, ◌≤◌, Bool, false, List, Result, Ok, Err, ⊤}
+use Rattle.std.specs.Prelude.{◌≡◌, ℕ, ◌+◌, ◌<◌, ◌≤◌, Bool, false, List, length, Result, Ok, Err, ⊤}
 use Rattle.lex_semantics.specs.Spec.{Spec}
 use Rattle.lex_semantics.specs.Text.{flag}
 use Rattle.lex_semantics.specs.Rules.{Rules, rules_of}
@@ -18,6 +18,8 @@ use Rattle.lexauto.specs.declared.subsets.Limits.{Limits}
 use Rattle.lexauto.specs.declared.error.BuildError.{BuildError}
 use Rattle.lexauto.specs.declared.error.BuildError.TheVariants as builds
 use Rattle.lex_semantics.specs.Acting.{Status}
+use Rattle.lexscan.specs.Answer.{end_read}
+use Rattle.lexscan.specs.Reads.{read_fault_count}
 use Rattle.lexscan.specs.Stands.{RanTo}
 use Rattle.lexscan.specs.Runs.{RanInto}
 use Rattle.lexscan.specs.declared.error.RunError.{RunError}
@@ -62,13 +64,15 @@ abbrev pub Ran : Rules → List ℕ → List ℕ → Bool → Result ℕ RunErro
 Ran R given out at_end (Ok status) = RanTo R given out at_end (Status status)
 Ran R given out at_end (Err e) = RanInto R given out at_end max_reads e
 
--- the calls on the way from s to s' gave, and those from t to t' wrote, what the scan by the rules asks for
+-- the calls on the way from s to s' gave, and those from t to t' wrote, what the scan by the rules asks for; the bytes given,
+-- the answer of the end and a read that failed are no more than are allowed
 pub record Scans {A B : Type 0} (gave : A → List ℕ → A → Type 0) (wrote : B → List ℕ → B → Type 0) (R : Rules) (at_end : Bool) (s s' : A) (t t' : B) (answer : Result ℕ RunError) : Type 0 where
   pub given : List ℕ
   pub out : List ℕ
   pub source : gave s given s'
   pub sink : wrote t out t'
   pub ran : Ran R given out at_end answer
+  pub few_reads : length given + end_read at_end + read_fault_count answer ≤ max_reads
 
 -- what the scan by a specification answers: it came to its end or stopped, or no automaton was built
 abbrev pub ScansBy : {A B : Type 0} → (A → List ℕ → A → Type 0) → (B → List ℕ → B → Type 0) → Limits → Spec → Bool → A → A → B → B → Result ℕ ScanError → Type 0

@@ -1,6 +1,7 @@
 //! One scan, by a specification's text or a table file.
-ghost use Rattle.std.specs.Prelude.{◌≡◌, ℕ, ◌+◌, ◌-◌, ◌^◌, ◌<◌, ◌≤◌, List, nat_lt};
+ghost use Rattle.std.specs.Prelude.{◌≡◌, ℕ, ◌+◌, ◌-◌, ◌^◌, ◌<◌, ◌≤◌, List, nat_lt, IsErrOf};
 ghost use Rattle.lexspec.specs.Views.{spec_of};
+ghost use Rattle.lexscan.specs.declared.error.RunError.TheVariants.{Failed};
 ghost use Rattle.lexkit.specs.Headline.{Headline, ScansBy, TableHeadline};
 ghost use Rattle.lexkit.specs.ScanCounts.{read_fault_count, write_fault_count};
 ghost use Rattle.lex_semantics.specs.Limits.{max_positions, max_states};
@@ -39,6 +40,7 @@ pub fn scan_spec<S: Source, K: Sink>(
     ensures write_faults { K.failures sink.new ≡ K.failures sink.old + write_fault_count result }
     ensures ends_stay { S.ends source.old ≤ S.ends source.new }
     ensures one_end { S.ends source.new ≤ S.ends source.old + 1 }
+    ensures not_failed { IsErrOf result (ScanError.Run Failed) → ⊥ }
 {
     let read = ReadOptions {
         fold: options.fold,
@@ -70,6 +72,7 @@ fn scan_by<S: Source, K: Sink>(
     ensures write_faults { K.failures sink.new ≡ K.failures sink.old + write_fault_count result }
     ensures ends_stay { S.ends source.old ≤ S.ends source.new }
     ensures one_end { S.ends source.new ≤ S.ends source.old + 1 }
+    ensures not_failed { IsErrOf result (ScanError.Run Failed) → ⊥ }
 {
     let least = match least_automaton(alloc, spec, limits) {
         Err(error) => return Err(ScanError::Generate(error)),
@@ -107,6 +110,7 @@ pub fn scan_table<S: Source, K: Sink>(
     ensures write_faults { K.failures sink.new ≡ K.failures sink.old + write_fault_count result }
     ensures ends_stay { S.ends source.old ≤ S.ends source.new }
     ensures one_end { S.ends source.new ≤ S.ends source.old + 1 }
+    ensures not_failed { IsErrOf result (ScanError.Run Failed) → ⊥ }
 {
     let tables = match read_tables(alloc, bytes) {
         Err(error) => return Err(ScanError::Table(error)),

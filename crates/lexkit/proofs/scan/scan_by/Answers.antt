@@ -35,6 +35,7 @@ returns-in-Err-run-clause-told g c =
         sink = h.3;
         ran = Same.ran_into M l.laws S sound l.table h.0 h.1 b max_reads c.in-Err-run.fault
             (subst (λ N. RanInto (rules_of_machine N) h.0 h.1 b max_reads c.in-Err-run.fault) same h.4);
+        few_reads = Same.few_reads h.0 max_reads _ _ _ _ _ h.5 c.in-Err-run.ensures.read_faults;
       },
     )
 
@@ -55,5 +56,6 @@ returns-clause-told g c =
         sink = h.3;
         ran = Same.ran_to M l.laws S sound l.table h.0 h.1 b (Status c.in-Ok-run.status)
             (subst (λ N. RanTo (rules_of_machine N) h.0 h.1 b (Status c.in-Ok-run.status)) same h.4);
+        few_reads = Same.few_reads h.0 max_reads _ _ _ _ _ h.5 c.in-Ok-run.ensures.read_faults;
       },
     )

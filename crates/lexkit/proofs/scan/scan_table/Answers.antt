@@ -6,6 +6,7 @@ use Rattle.lex_semantics.specs.Acting.{Status}
 use Rattle.lexscan.specs.Stands.{RanTo}
 use Rattle.lexscan.specs.Runs.{RanInto}
 use Rattle.lexkit.specs.Headline.{max_reads}
+use Rattle.lexkit.proofs.Carried as Same
 use Rattle.lexkit.proofs.scan.scan_table.Goals as goal
 
 pub returns-in-Err-run-clause-told : goal.returns-in-Err-run-clause-told
@@ -23,6 +24,7 @@ returns-in-Err-run-clause-told g c =
         source = h.2;
         sink = h.3;
         ran = subst (λ N. RanInto (rules_of_machine N) h.0 h.1 b max_reads c.in-Err-run.error) c.in-Ok-new.ensures.machine h.4;
+        few_reads = Same.few_reads h.0 max_reads _ _ _ _ _ h.5 c.in-Err-run.ensures.read_faults;
       };
     }
 
@@ -41,5 +43,6 @@ returns-clause-told g c =
         source = h.2;
         sink = h.3;
         ran = subst (λ N. RanTo (rules_of_machine N) h.0 h.1 b (Status c.in-Ok-run.answer)) c.in-Ok-new.ensures.machine h.4;
+        few_reads = Same.few_reads h.0 max_reads _ _ _ _ _ h.5 c.in-Ok-run.ensures.read_faults;
       };
     }
