@@ -24,7 +24,7 @@ BLOCK = re.compile(r"(abbrev |unfoldable )*mutual$|module .* where$")
 CONSTRUCTOR = re.compile(rf"  ({NAME}) :")
 FUNCTION = re.compile(r"\s*(pub(?:\(\w+\))? )?(?:const )?fn (\w+)")
 HOLDER = re.compile(r"(?:impl(?:<.*?>)? (.* for )?(?:\w+::)*|pub (?:trait|struct|enum) )(\w+)")
-CLAUSE = re.compile(r"\s*(?:(?:requires|ensures)\b|ghost (?!use|laws =|below =))\s*(?:\w+)?")
+CLAUSE = re.compile(r"\s*(?:(?:requires|ensures)\b|ghost (?!use|laws =|below =|inverse_ok =))\s*(?:\w+)?")
 
 
 def read(*path):
@@ -166,7 +166,8 @@ def contracts(specs):
 
 def named():
     """The names on the page, as `Module.name`; in a cell a name without a module is of the module before it."""
-    for cell in re.findall(r"[^|]+", read(ROOT, "docs", "DEFINITIONS.md")):
+    page = read(ROOT, "docs", "DEFINITIONS.md")
+    for cell in (cell for line in page.split("\n") if line.startswith("|") for cell in line.split("|")):
         module = None
         for word in re.findall(r"`([A-Za-z_][\w'.-]*)`", cell):
             first, _, name = word.rpartition(".")
@@ -181,12 +182,27 @@ def listed(specs, targets):
     print(len(targets), "definitions in", sum(len(specs.lines[target]) for target in targets), "lines")
 
 
-def table(specs, direct, closure):
-    print("| Crate | Cited | With all that they name | Lines of these |\n|---|---|---|---|")
-    for crate in sorted({target[0] for target in closure}):
-        these = [target for target in closure if target[0] == crate]
-        print(f"| {crate} | {sum(target[0] == crate for target in direct)} | {len(these)} | {sum(len(specs.lines[t]) for t in these)} |")
-    print(f"| all | {len(direct)} | {len(closure)} | {sum(len(specs.lines[target]) for target in closure)} |")
+def table(specs, direct):
+    """The table at the end of the page."""
+    reached = specs.closure(direct)
+    rows = ["| Crate | Named by contracts | With all that they are made of | Lines |", "|---|---|---|---|"]
+    for crate in [*sorted({target[0] for target in reached}), "all"]:
+        these = [target for target in reached if crate in (target[0], "all")]
+        named_here = sum(crate in (target[0], "all") for target in direct)
+        rows.append(f"| {crate} | {named_here} | {len(these)} | {sum(len(specs.lines[target]) for target in these)} |")
+    return "\n".join(rows)
+
+
+def faults(specs, direct):
+    """What the page lacks, and what it has that is not so."""
+    on_page, there = set(named()), {".".join(target[1:]) for target in [*specs.lines, *specs.makers]}
+    for target in sorted(direct):
+        if ".".join(target[1:]) not in on_page:
+            yield "not in docs/DEFINITIONS.md: " + ".".join(target)
+    for name in sorted(on_page - there):
+        yield "no definition: " + name
+    if table(specs, direct) not in read(ROOT, "docs", "DEFINITIONS.md"):
+        yield "the table in docs/DEFINITIONS.md is another"
 
 
 def main():
@@ -197,15 +213,11 @@ def main():
         listed(specs, specs.closure(set().union(*(cited[word] for word in asked))))
         return 0
     direct = set().union(*cited.values())
-    table(specs, direct, specs.closure(direct))
-    print(f"\n{len(cited)} calls and types have contracts, of which {sum(map(bool, cited.values()))} cite definitions.")
-    on_page, there = set(named()), {".".join(target[1:]) for target in [*specs.lines, *specs.makers]}
-    missing = sorted(target for target in direct if ".".join(target[1:]) not in on_page)
-    for target in missing:
-        print("not in docs/DEFINITIONS.md:", ".".join(target))
-    for name in sorted(on_page - there):
-        print("no definition:", name)
-    return 1 if (missing or on_page - there) and "--status" in sys.argv else 0
+    print(table(specs, direct))
+    print(f"\n{len(cited)} calls and types have contracts, of which {sum(map(bool, cited.values()))} name definitions.")
+    found = list(faults(specs, direct))
+    print("\n".join(found), end="\n" * bool(found))
+    return 1 if found and "--status" in sys.argv else 0
 
 
 if __name__ == "__main__":
