@@ -99,7 +99,10 @@ class Specs:
         """The definitions that a text names, where `known` are its imports and `here` is its module."""
         for word in WORD.findall(re.sub(r"(--|//).*", "", text)):
             first, *rest = ("◌>>=◌" if word == ">>=" else word).split(".")
-            crate, module, name = known.get(first) or (*(here or (None, None)), first)
+            if first == "Rattle" and len(rest) > 3:
+                crate, _, module, name, *_ = rest
+            else:
+                crate, module, name = known.get(first) or (*(here or (None, None)), first)
             found = self.find(crate, module, name or (rest or [None])[0])
             if found:
                 yield found
