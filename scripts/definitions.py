@@ -1,11 +1,12 @@
 #!/usr/bin/env python3
-"""Tells which definitions the contracts of the public calls cite, and which of these docs/DEFINITIONS.md does not name.
+"""Prints which definitions the public contracts cite, and whether docs/DEFINITIONS.md names them.
 
-    scripts/definitions.py             how many there are, by crate, and the names that are missing
-    scripts/definitions.py --status    the same, and a status of 1 where a name that a contract cites is missing
-    scripts/definitions.py NAME ..     the definitions that the contracts of these functions lead to, with their lines
+    scripts/definitions.py             how many there are, by crate, and what is missing on the page
+    scripts/definitions.py --status    the same, and a status of 1 where something is missing
+    scripts/definitions.py NAME ..     the definitions that the contracts of these calls lead to, with their lines
 
-Public calls are what lexre, lexspec, lexauto, lextab, lexscan and lexkit give on: functions, and the methods of types and traits."""
+A public contract is a clause of a function, or of a method of a type or trait, that one of the crates of SURFACE gives its
+callers, or a ghost field of such a type or trait. Lemmas, whose names have a hyphen, are no definitions."""
 import collections
 import os
 import re
@@ -14,84 +15,95 @@ import sys
 ROOT = os.path.dirname(os.path.dirname(os.path.realpath(__file__)))
 CRATES = os.path.join(ROOT, "crates")
 SURFACE = ["lexre", "lexspec", "lexauto", "lextab", "lexscan", "lexkit"]
-WORD = re.compile(r"[A-Za-z_][\w'-]*(?:\.[A-Za-z_][\w'-]*)*")
-USE = re.compile(r"use Rattle\.(\w+)\.specs\.([\w.]+?)(?:\.\{([^}]*)\})?(?: as (\w+))?\s*;?\s*$")
+NAME = r"[A-Za-z_][\w'-]*"
+# A word and its path. A field of something in parentheses is none, nor is the name of a field of a record that is written.
+WORD = re.compile(rf"(?<![\w.'])({NAME}(?:\.{NAME})*|>>=)(?! = )")
+USE = re.compile(r"^\s*(?:ghost |pub )?use Rattle\.(\w+)\.specs\.([\w.]+?)(?:\.\{([^}]*)\})?(?: as (\w+))?;?$")
+DEFINITION = re.compile(r"(?:(?:abbrev|unfoldable|instance|pub|record|data) )+([^\s:]+)|(\S+) :")
+BLOCK = re.compile(r"(abbrev |unfoldable )*mutual$|module .* where$")
+CONSTRUCTOR = re.compile(rf"  ({NAME}) :")
+FUNCTION = re.compile(r"\s*(pub(?:\(\w+\))? )?(?:const )?fn (\w+)")
+HOLDER = re.compile(r"(?:impl(?:<.*?>)? (.* for )?(?:\w+::)*|pub (?:trait|struct|enum) )(\w+)")
+CLAUSE = re.compile(r"\s*(?:(?:requires|ensures)\b|ghost (?!use|laws =|below =|inverse_ok =))\s*(?:\w+)?")
 
 
-def read(path):
-    with open(path, encoding="utf-8") as file:
+def read(*path):
+    with open(os.path.join(*path), encoding="utf-8") as file:
         return file.read()
 
 
 def imports(lines):
-    """What the names of a file stand for: (crate, module, name), or (crate, module, None) for a module under another name."""
+    """What names of a file stand for: (crate, module, name), or (crate, module, None) for a module."""
     known = {}
-    for line in lines:
-        use = USE.search(line)
-        if use:
-            crate, module, names, other = use.groups()
-            for name in (names or "").split(","):
-                first, _, second = name.strip().partition(" as ")
-                if first:
-                    known[second or first] = (crate, module, first)
-            if names is None:
-                known[other or module.split(".")[-1]] = (crate, module, None)
+    for use in filter(None, map(USE.match, lines)):
+        crate, module, names, other = use.groups()
+        for name in (names or "").split(","):
+            first, _, second = name.strip().partition(" as ")
+            if first:
+                known[second or first] = (crate, module, first)
+        if names is None:
+            known[other or module.split(".")[-1]] = (crate, module, None)
     return known
 
 
-def parse(crate, module, path):
-    """The definitions of a file of specs/: name, lines, and the names in it."""
-    text = read(path)
-    known = imports(text.split("\n"))
-    found, name = {}, None
+def parse(text):
+    """The definitions of a file of specs/, each with its lines, and the type that each constructor makes."""
+    found, makers, name, level = {}, {}, None, 0
     for line in text.split("\n"):
-        head = re.match(r"(?:abbrev |unfoldable |instance )*(?:pub )?(?:(?:record|data) )?([A-Za-z_][\w']*)[^\n]*", line)
-        if head and not line.startswith(("use ", "pub use", "pub mod", "mod ", "--")):
-            name = head[1]
-            found.setdefault(name, [])
-        if not line.strip() or line.startswith("--") or line.startswith(("use ", "pub use", "pub mod")):
+        if not line.strip() or re.match(r"\s*--|(pub )?use |(pub )?mod |infix", line):
             continue
-        if name:
-            found[name].append(line)
-    return {name: (lines, known) for name, lines in found.items()}
-
-
-def specs():
-    """Each definition, by crate, module and name; and what crates give on of other crates' definitions."""
-    all_of, given = {}, {}
-    for crate in sorted(os.listdir(CRATES)):
-        folder = os.path.join(CRATES, crate, "specs")
-        for file in sorted(os.listdir(folder)) if os.path.isdir(folder) else []:
-            if file == "Lib.antt":
-                for other, module in re.findall(r"pub use Rattle\.(\w+)\.specs\.(\w+)", read(os.path.join(folder, file))):
-                    given[(crate, module)] = (other, module)
-            elif file.endswith(".antt"):
-                module = file[:-5]
-                for name, value in parse(crate, module, os.path.join(folder, file)).items():
-                    all_of[(crate, module, name)] = value
-    return all_of, given
+        level = min(level, len(line) - len(line.lstrip()))
+        line = line[level:]
+        if BLOCK.match(line):
+            level += 2
+            continue
+        head = DEFINITION.match(line)
+        if head and not line.startswith(" "):
+            name = head[1] or head[2]
+        elif name and CONSTRUCTOR.match(line) and re.match(r"(pub )?data ", found[name][0]):
+            makers[CONSTRUCTOR.match(line)[1]] = name
+        found.setdefault(name, []).append(line)
+    return {name: lines for name, lines in found.items() if "-" not in name}, makers
 
 
 class Specs:
-    def __init__(self):
-        self.all_of, self.given = specs()
+    """All definitions, by crate, module and name."""
 
-    def find(self, target):
-        crate, module, name = target
-        while (crate, module) in self.given:
-            crate, module = self.given[(crate, module)]
-        return (crate, module, name) if (crate, module, name) in self.all_of else None
+    def __init__(self):
+        self.lines, self.known, self.makers, self.moved = {}, {}, {}, {}
+        for crate in sorted(os.listdir(CRATES)):
+            folder = os.path.join(CRATES, crate, "specs")
+            for file in sorted(os.listdir(folder)) if os.path.isdir(folder) else []:
+                text, module = read(folder, file), file[:-5]
+                if file == "Lib.antt":
+                    for other, moved in re.findall(r"pub use Rattle\.(\w+)\.specs\.(\w+)", text):
+                        self.moved[(crate, moved)] = (other, moved)
+                    continue
+                found, makers = parse(text)
+                self.known[(crate, module)] = imports(text.split("\n"))
+                for name, lines in found.items():
+                    self.lines[(crate, module, name)] = lines
+                for maker, name in makers.items():
+                    self.makers[(crate, module, maker)] = (crate, module, name)
+
+    def find(self, crate, module, name):
+        while (crate, module) in self.moved:
+            crate, module = self.moved[(crate, module)]
+        target = (crate, module, name)
+        if target in self.lines or target in self.makers:
+            return self.makers.get(target, target)
+        other = self.known.get((crate, module), {}).get(name)
+        return self.find(*other) if other else None
 
     def cited(self, text, known, here=None):
-        """The definitions that a text names."""
-        for word in WORD.findall(re.sub(r"--.*", "", text)):
-            first, *rest = word.split(".")
-            target = known.get(first)
-            if target and target[2] is None and rest:
-                target = (target[0], target[1], rest[0])
-            elif target is None and here:
-                target = (*here, first)
-            found = target and target[2] and self.find(target)
+        """The definitions that a text names, where `known` are its imports and `here` is its module."""
+        for word in WORD.findall(re.sub(r"(--|//).*", "", text)):
+            first, *rest = ("◌>>=◌" if word == ">>=" else word).split(".")
+            if first == "Rattle" and len(rest) > 3:
+                crate, _, module, name, *_ = rest
+            else:
+                crate, module, name = known.get(first) or (*(here or (None, None)), first)
+            found = self.find(crate, module, name or (rest or [None])[0])
             if found:
                 yield found
 
@@ -99,91 +111,116 @@ class Specs:
         seen, waiting = set(names), list(names)
         while waiting:
             target = waiting.pop()
-            lines, known = self.all_of[target]
-            for other in self.cited("\n".join(lines), known, target[:2]):
-                if other not in seen:
-                    seen.add(other)
-                    waiting.append(other)
+            module = target[:2]
+            more = set(self.cited("\n".join(self.lines[target]), self.known[module], module)) - seen
+            seen |= more
+            waiting += more
         return seen
 
 
-def given_on(crate, names=None):
-    """The names that a crate gives on, each with the crate that has it."""
-    text = read(os.path.join(CRATES, crate, "src", "lib.rt"))
-    for module, group, one in re.findall(r"pub use ([\w:]+?)::(?:\{([^}]*)\}|(\w+));", text):
+def given(crate, names=None):
+    """The names that a crate gives its callers, each with the crate that has it."""
+    for module, group, one in re.findall(r"pub use ([\w:]+?)::(?:\{([^}]*)\}|(\w+));", read(CRATES, crate, "src", "lib.rt")):
         for name in re.findall(r"\w+", group or one):
             if names is None or name in names:
                 if os.path.isdir(os.path.join(CRATES, module)):
-                    yield from given_on(module, {name})
+                    yield from given(module, {name})
                 else:
                     yield crate, name
 
 
-CONTRACT = re.compile(r"^\s*(?:pub )?(?:const )?fn (\w+)")
-HOLDER = re.compile(r"^(?:unsafe )?(?:impl(?:<.*?>)? (?:.* for )?(?:\w+::)*(\w+)|pub trait (\w+))")
+def clauses(text, names):
+    """The lines of the public contracts of a file, each with the call or type that it is of."""
+    holder, of_trait, call, in_clause = "", False, None, False
+    for line in text.split("\n"):
+        if re.match(r"#\[cfg\(test\)\]", line):
+            return
+        held, function, clause = HOLDER.match(line), FUNCTION.match(line), CLAUSE.match(line)
+        if held:
+            holder, call, of_trait = held[2], held[2], bool(held[1]) or line.startswith("pub trait")
+        elif line.startswith("}"):
+            holder, call = "", None
+        elif function:
+            public = (function[1] == "pub " or of_trait) if holder else function[1] == "pub "
+            call = (f"{holder}::{function[2]}" if holder else function[2]) if public else None
+        if function or held or not line.strip() or line.strip() in ("{", "{}"):
+            in_clause = False
+        if clause:
+            in_clause = True
+            call = holder if line.lstrip().startswith("ghost") else call
+        if in_clause and call and (holder or call) in names:
+            yield call, line[clause.end():] if clause else line
 
 
 def contracts(specs):
-    """For each public function the definitions that its clauses name."""
-    public = collections.defaultdict(set)
+    """For each public call or type with a contract, the definitions that its clauses name."""
+    public, cited = collections.defaultdict(set), collections.defaultdict(set)
     for crate in SURFACE:
-        for home, name in given_on(crate):
+        for home, name in given(crate):
             public[home].add(name)
     for crate, names in public.items():
         for folder, _, files in os.walk(os.path.join(CRATES, crate, "src")):
-            for file in sorted(files):
-                if not file.endswith(".rt"):
-                    continue
-                lines = read(os.path.join(folder, file)).split("\n")
-                known, holder, function = imports(lines), "", None
-                for line in lines:
-                    held = HOLDER.match(line)
-                    if held:
-                        holder = held[1] or held[2]
-                    elif line.startswith("}"):
-                        holder = ""
-                    start = CONTRACT.match(line)
-                    if start:
-                        is_public = (holder in names) if holder else ("pub fn" in line and start[1] in names)
-                        function = (f"{holder}::{start[1]}" if holder else start[1]) if is_public else None
-                        clause = False
-                    if function and re.match(r"^\s*(requires|ensures)\b", line):
-                        clause = True
-                    if function and line.strip() in ("{", "{}"):
-                        function = None
-                    if function and clause:
-                        for target in specs.cited(line, known):
-                            yield function, target
+            for text in (read(folder, file) for file in sorted(files) if file.endswith(".rt")):
+                known = imports(text.split("\n"))
+                for call, line in clauses(text, names):
+                    cited[call].update(specs.cited(line, known))
+    return cited
+
+
+def named():
+    """The names on the page, as `Module.name`; in a cell a name without a module is of the module before it."""
+    page = read(ROOT, "docs", "DEFINITIONS.md")
+    for cell in (cell for line in page.split("\n") if line.startswith("|") for cell in line.split("|")):
+        module = None
+        for word in re.findall(r"`([A-Za-z_][\w'.-]*)`", cell):
+            first, _, name = word.rpartition(".")
+            module = first or module
+            if module and module[0].isupper():
+                yield f"{module}.{name}"
+
+
+def listed(specs, targets):
+    for target in sorted(targets):
+        print(".".join(target), len(specs.lines[target]))
+    print(len(targets), "definitions in", sum(len(specs.lines[target]) for target in targets), "lines")
+
+
+def table(specs, direct):
+    """The table at the end of the page."""
+    reached = specs.closure(direct)
+    rows = ["| Crate | Named by contracts | With all that they are made of | Lines |", "|---|---|---|---|"]
+    for crate in [*sorted({target[0] for target in reached}), "all"]:
+        these = [target for target in reached if crate in (target[0], "all")]
+        named_here = sum(crate in (target[0], "all") for target in direct)
+        rows.append(f"| {crate} | {named_here} | {len(these)} | {sum(len(specs.lines[target]) for target in these)} |")
+    return "\n".join(rows)
+
+
+def faults(specs, direct):
+    """What the page lacks, and what it has that is not so."""
+    on_page, there = set(named()), {".".join(target[1:]) for target in [*specs.lines, *specs.makers]}
+    for target in sorted(direct):
+        if ".".join(target[1:]) not in on_page:
+            yield "not in docs/DEFINITIONS.md: " + ".".join(target)
+    for name in sorted(on_page - there):
+        yield "no definition: " + name
+    if table(specs, direct) not in read(ROOT, "docs", "DEFINITIONS.md"):
+        yield "the table in docs/DEFINITIONS.md is another"
 
 
 def main():
     specs = Specs()
-    told = collections.defaultdict(set)
-    for function, target in contracts(specs):
-        told[function].add(target)
+    cited = contracts(specs)
     asked = [word for word in sys.argv[1:] if not word.startswith("--")]
     if asked:
-        names = set().union(*(told[word] for word in asked))
-        closure = specs.closure(names)
-        for target in sorted(closure):
-            print(".".join(target), len(specs.all_of[target][0]))
-        print(len(closure), "definitions in", sum(len(specs.all_of[target][0]) for target in closure), "lines")
+        listed(specs, specs.closure(set().union(*(cited[word] for word in asked))))
         return 0
-    direct = set().union(*told.values())
-    closure = specs.closure(direct)
-    lines = collections.Counter()
-    for target in closure:
-        lines[target[0]] += len(specs.all_of[target][0])
-    counts = collections.Counter(target[0] for target in closure)
-    for crate in sorted(lines):
-        print(f"{crate}: {counts[crate]} definitions in {lines[crate]} lines")
-    print(f"{len(told)} calls cite {len(direct)} definitions, which lead to {len(closure)} in {sum(lines.values())} lines")
-    page = read(os.path.join(ROOT, "docs", "DEFINITIONS.md"))
-    named = {word.split(".")[-1] for cell in re.findall(r"`([^`]+)`", page) for word in re.findall(r"[\w'.]+", cell)}
-    missing = sorted(target for target in direct if target[2] not in named)
-    for target in missing:
-        print("not in docs/DEFINITIONS.md:", ".".join(target))
-    return 1 if missing and "--status" in sys.argv else 0
+    direct = set().union(*cited.values())
+    print(table(specs, direct))
+    print(f"\n{len(cited)} calls and types have contracts, of which {sum(map(bool, cited.values()))} name definitions.")
+    found = list(faults(specs, direct))
+    print("\n".join(found), end="\n" * bool(found))
+    return 1 if found and "--status" in sys.argv else 0
 
 
 if __name__ == "__main__":
