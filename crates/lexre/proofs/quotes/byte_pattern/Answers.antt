@@ -7,5 +7,5 @@ use Rattle.lexre.proofs.quotes.byte_pattern.Goals as goal
 
 pub returns-clause-sound : goal.returns-clause-sound
 returns-clause-sound c =
-    let h : IsSoundTree (Set c.folded.result) = rw (c.folded.ensures, c.of.ensures) (sound_byte c.args.fold c.args.byte (omega arith)) in
+    let h : IsSoundTree (Set c.fold_if.result) = rw (c.fold_if.ensures, c.of.ensures) (sound_byte c.args.fold c.args.byte (omega arith)) in
     search (rules, the_lemmas, h)
