@@ -83,13 +83,15 @@ fn job_of(alloc: Global, line: &[&str]) -> Result<Result<Job, ArgsError>, AllocE
 
 #[test]
 fn words_of_a_command(rt: HostRuntime) -> Result<(), Fail> {
-    match job_of(rt.alloc(), &["--scan-table", "b"])? {
+    let scan = job_of(rt.alloc(), &["--scan-table", "b"])?;
+    match &scan {
         Ok(Job::ScanTable { file }) => assert!(rt; file.as_str() == "b"),
         _ => assert!(rt; false),
     }
-    match job_of(rt.alloc(), &["--scan-spec"])? {
+    let refused = job_of(rt.alloc(), &["--scan-spec"])?;
+    match &refused {
         Ok(_) => assert!(rt; false),
-        Err(error) => assert!(rt; error == ArgsError::Usage),
+        Err(error) => assert!(rt; *error == ArgsError::Usage),
     }
     Ok(())
 }
