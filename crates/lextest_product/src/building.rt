@@ -7,8 +7,10 @@ ghost use Rattle.lexspec.specs.Views.{spec_of, conditions_in};
 use crate::row::PLAIN;
 use lexauto::{BuildError, Limits, build};
 use lexauto_dfa::Dfa;
+use lexkit::{MemorySink, Options, TableError, Tables, generate, read_tables, write_tables};
 use lexspec::{Spec, SpecError, read_spec};
 use std::alloc::Global;
+use std::test::Fail;
 
 const MOST: Limits = Limits {
     positions: 16_384,
@@ -24,4 +26,20 @@ pub(crate) fn built(alloc: Global, spec: &Spec) -> Result<Dfa, BuildError>
 
 pub(crate) fn read(alloc: Global, text: &[u8]) -> Result<Spec, SpecError> {
     read_spec(alloc, text, PLAIN)
+}
+
+/// The table file of a specification. Where memory for its bytes is refused, that is told as of a table.
+pub(crate) fn made(alloc: Global, text: &[u8]) -> Result<MemorySink, Fail> {
+    let generated = generate(alloc, text, Options::new())?;
+    let mut file = MemorySink::new(alloc);
+    match write_tables(&generated.tables, &mut file) {
+        Ok(()) => Ok(file),
+        Err(_) => Err(TableError::OutOfMemory)?,
+    }
+}
+
+/// The tables of a specification, written to a file and read back, as a scan by a table file has them.
+pub(crate) fn read_back(alloc: Global, text: &[u8]) -> Result<Tables, Fail> {
+    let file = made(alloc, text)?;
+    Ok(read_tables(alloc, file.written())?)
 }

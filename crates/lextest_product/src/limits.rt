@@ -39,10 +39,11 @@ pub(crate) const REFUSED: &[(Long, &str)] = &[
     (("%%\na", "?", 65, " ;\n"), "lex: line 2: TooDeep at 65\n"),
 ];
 
-/// What an automaton may have: 16,384 positions; of states 4,098, since twice as many are 8,194.
+/// What an automaton may have: 16,384 positions, and 8,192 states.
 pub(crate) const BUILT: &[Long] = &[
     ("%%\n", "a|", 16_383, "a ;\n"),
     ("%%\n(a|b)*a", "(a|b)", 11, " ;\n"),
+    ("%%\n(a{255}){32}", "a{30}", 1, " ;\n"),
 ];
 
 pub(crate) const UNBUILT: &[(Long, &str)] = &[
@@ -52,5 +53,13 @@ pub(crate) const UNBUILT: &[(Long, &str)] = &[
         ("%%\nb*/(a{255}){255}", "a{255}", 2, " ;\n"),
         "lex: TooManyPositions\n",
     ),
+    (
+        ("%%\n(a{255}){255}", "a{255}", 2, "/b* ;\n"),
+        "lex: TooManyPositions\n",
+    ),
     (("%%\n(a|b)*a", "(a|b)", 12, " ;\n"), "lex: TooManyStates\n"),
+    (
+        ("%%\n(a{255}){32}", "a{31}", 1, " ;\n"),
+        "lex: TooManyStates\n",
+    ),
 ];

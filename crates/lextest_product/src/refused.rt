@@ -1,10 +1,13 @@
 //! What stays where memory is refused. No request is refused in these tests themselves: `scripts/refuse-memory.py` runs each of
 //! them with the first request refused, then the second, and so on. A run must then end well, or fail with the name of an
 //! error that says that memory ran out.
-use crate::building::{built, read};
-use lexkit::{ArgsError, MemorySink, MemorySource, RunError, Sink, read_args};
+use crate::building::{made, read_back};
+use lexkit::{
+    ArgsError, BuildError, Flat, GenError, MemorySink, MemorySource, Options, PatternErrorKind,
+    RunError, ScanError, Sink, SpecErrorKind, TableError, ToWrite, generate, read_args, scan_spec,
+    scan_table,
+};
 use lexscan::{Scanner, Turn, Window, run};
-use lextab_packing::Plain;
 use std::alloc::Global;
 use std::test::Fail;
 
@@ -18,9 +21,8 @@ const INPUT: &[u8] = b"abcdefghijklmnopqrstuvwxyzabcdefghijklmn";
 #[test]
 fn refused_turns(rt: HostRuntime) -> Result<(), Fail> {
     let alloc = rt.alloc();
-    let spec = read(alloc, LETTERS.as_bytes())?;
-    let automaton = built(alloc, &spec)?;
-    let machine = Plain::new(&automaton, &spec);
+    let tables = read_back(alloc, LETTERS.as_bytes())?;
+    let machine = Flat::new(alloc, &tables)?;
     let mut source = MemorySource::new(INPUT);
     let mut sink = MemorySink::new(alloc);
     let mut scanner = Scanner::new(alloc, &machine, &mut source, &mut sink, 10_000);
@@ -45,9 +47,8 @@ const ONE_OF_MANY: &str = "%%\na ;\na*b ;\n";
 #[test]
 fn refused_marks(rt: HostRuntime) -> Result<(), Fail> {
     let alloc = rt.alloc();
-    let spec = read(alloc, ONE_OF_MANY.as_bytes())?;
-    let automaton = built(alloc, &spec)?;
-    let machine = Plain::new(&automaton, &spec);
+    let tables = read_back(alloc, ONE_OF_MANY.as_bytes())?;
+    let machine = Flat::new(alloc, &tables)?;
     let letters = [b'a'; 1_000];
     let mut source = MemorySource::new(&letters);
     let mut sink = MemorySink::new(alloc);
@@ -66,9 +67,8 @@ fn refused_marks(rt: HostRuntime) -> Result<(), Fail> {
 #[test]
 fn refused_run(rt: HostRuntime) -> Result<(), Fail> {
     let alloc = rt.alloc();
-    let spec = read(alloc, LETTERS.as_bytes())?;
-    let automaton = built(alloc, &spec)?;
-    let machine = Plain::new(&automaton, &spec);
+    let tables = read_back(alloc, LETTERS.as_bytes())?;
+    let machine = Flat::new(alloc, &tables)?;
     let mut source = MemorySource::new(INPUT);
     let mut sink = MemorySink::new(alloc);
     let result = run(alloc, &machine, &mut source, &mut sink, 10_000);
@@ -78,6 +78,115 @@ fn refused_run(rt: HostRuntime) -> Result<(), Fail> {
     );
     assert_eq!(rt; sink.written(), b"".as_slice());
     Ok(())
+}
+
+/// A specification with REJECT, with conditions, with names, and one that is warned of: an input, what is written, and the status.
+const SCANS: &[(&[u8], &[u8], &[u8], u8)] = &[
+    (
+        b"%%\na |\nab |\nabc |\nabcd ECHO; REJECT;\n.|\\n ;\n",
+        b"abcd",
+        b"abcdabcaba",
+        0,
+    ),
+    (
+        b"%x C\n%%\n\"/*\" BEGIN(C);\n<C>\"*/\" BEGIN(INITIAL);\n<C>.|\\n ;\n<C><<EOF>> printf(\"open\"); exit(3);\n",
+        b"a/*b*/c/*d",
+        b"acopen",
+        3,
+    ),
+    (
+        b"N {D}+\nD [0-9]\n%%\n{N}\".\"{N} printf(\"F\");\n",
+        b"aa",
+        b"aa",
+        0,
+    ),
+    (
+        b"%{\nint n;\n%}\n%%\na+ ;\naa ;\n%%\nint main(){}\n",
+        b"aa",
+        b"",
+        0,
+    ),
+];
+
+/// Whether the fault of a specification says that memory ran out, in the words of its layer.
+fn is_want_of_memory(error: GenError) -> bool {
+    match error {
+        GenError::OutOfMemory | GenError::Build(BuildError::OutOfMemory) => true,
+        GenError::Build(_) => false,
+        GenError::Spec(fault) => match fault.kind {
+            SpecErrorKind::OutOfMemory => true,
+            SpecErrorKind::Pattern(fault) => fault.kind == PatternErrorKind::OutOfMemory,
+            _ => false,
+        },
+    }
+}
+
+/// Tables are made, or memory ran out.
+#[test]
+fn refused_generate(rt: HostRuntime) -> Result<(), Fail> {
+    for &(text, ..) in SCANS {
+        match generate(rt.alloc(), text, Options::new()) {
+            Ok(_) => {}
+            Err(error) => {
+                assert!(rt; is_want_of_memory(error), "{error:?}");
+                return Err(error)?;
+            }
+        }
+    }
+    Ok(())
+}
+
+/// A scan writes all, or memory ran out: before anything is read, or in the scan.
+#[test]
+fn refused_scan_spec(rt: HostRuntime) -> Result<(), Fail> {
+    let alloc = rt.alloc();
+    for &(text, input, want, status) in SCANS {
+        let mut source = MemorySource::new(input);
+        let mut sink = ToWrite::new(Vec::with_capacity(alloc, 16)?);
+        let got = scan_spec(alloc, text, Options::new(), &mut source, &mut sink);
+        let written = sink.into_inner();
+        assert!(rt; want.starts_with(&written));
+        match got {
+            Ok(answer) => assert!(rt; answer == status && written.len() == want.len()),
+            Err(error) => {
+                match error {
+                    ScanError::Generate(fault) => {
+                        assert!(rt; is_want_of_memory(fault) && source.calls() == 0);
+                        assert!(rt; written.is_empty());
+                    }
+                    other => assert!(rt; other == ScanError::Run(RunError::OutOfMemory)),
+                }
+                return Err(error)?;
+            }
+        }
+    }
+    Ok(())
+}
+
+/// The same by a table file.
+#[test]
+fn refused_scan_table(rt: HostRuntime) -> Result<(), Fail> {
+    let alloc = rt.alloc();
+    let file = made(alloc, b"%%\nif printf(\"K\");\n[a-z]+ printf(\"I\");\n")?;
+    let mut source = MemorySource::new(b"if iff");
+    let mut sink = ToWrite::new(Vec::with_capacity(alloc, 16)?);
+    let got = scan_table(alloc, file.written(), &mut source, &mut sink);
+    let written = sink.into_inner();
+    assert!(rt; b"K I".starts_with(&written));
+    match got {
+        Ok(answer) => {
+            assert!(rt; answer == 0 && written.len() == 3);
+            Ok(())
+        }
+        Err(error) => {
+            if error == ScanError::Table(TableError::OutOfMemory) {
+                assert!(rt; source.calls() == 0 && written.is_empty());
+            } else {
+                assert!(rt; error == ScanError::Run(RunError::OutOfMemory), "{error:?}");
+            }
+            Err(error)?
+        }
+    }
 }
 
 /// A window that was refused room holds what it held.

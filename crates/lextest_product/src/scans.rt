@@ -2,7 +2,7 @@
 ghost use Rattle.std.specs.Prelude.{◌≤◌};
 
 use crate::row::PLAIN;
-use crate::scanning::{Failing, scanned};
+use crate::scanning::{Failing, file_of, scanned, scanned_by_table};
 use lexkit::{
     BuildError, GenError, Limits, MemorySink, MemorySource, Options, PatternError,
     PatternErrorKind, RunError, ScanError, SpecError, SpecErrorKind, scan_spec,
@@ -11,7 +11,7 @@ use lexspec::ReadOptions;
 use std::alloc::Global;
 
 // Whether letters stand for both cases, a specification, an input, and what is written.
-const SCANS: [(bool, &[u8], &[u8], &[u8]); 26] = [
+const SCANS: [(bool, &[u8], &[u8], &[u8]); 30] = [
     (
         false,
         b"%%\nif printf(\"K\");\niffy printf(\"L\");\n",
@@ -72,6 +72,20 @@ const SCANS: [(bool, &[u8], &[u8], &[u8]); 26] = [
         b"XY",
     ),
     (true, b"%%\nif printf(\"K\");\n", b"iF", b"K"),
+    (
+        false,
+        b"%%\n\\a printf(\"A\");\n[\\b] printf(\"\\a\\b\");\n",
+        b"a\x07b\x08",
+        b"aAb\x07\x08",
+    ),
+    (false, b"D a\\\\$\n%%\n{D} printf(\"D\");\n", b"a\\$", b"D"),
+    (false, b"%%\n\"\"/a printf(\"X\");\n", b"ab", b"ab"),
+    (
+        false,
+        b"%%\n((a?b?){3})c printf(\"X\");\n",
+        b"bac bababac",
+        b"X bX",
+    ),
     (
         false,
         b"%%\n[a-z]+ printf(\"<%s>\", yytext);\n",
@@ -175,6 +189,13 @@ fn stops_at_faults_of_the_stack(rt: HostRuntime) {
     assert!(rt; scan.does(stack, b"xA"));
     let scan = scanned(rt.alloc(), POPS, PLAIN, b"a", Failing::Flush);
     assert!(rt; scan.answer == Err(ScanError::Run(RunError::Write)));
+    match file_of(rt.alloc(), POPS, PLAIN) {
+        Some(file) => {
+            let scan = scanned_by_table(rt.alloc(), file.written(), b"xa");
+            assert!(rt; scan.does(stack, b"xA"));
+        }
+        None => assert!(rt; false),
+    }
 }
 
 const PUSHES: &[u8] = b"%option stack\n%%\na yy_push_state(0);\n";
@@ -182,11 +203,12 @@ const PUSHES: &[u8] = b"%option stack\n%%\na yy_push_state(0);\n";
 const POPS: &[u8] = b"%option stack\n%%\na printf(\"A\"); yy_pop_state(); printf(\"B\");\n";
 
 // A text that is refused, the line, and what is reported of it.
-const REFUSALS: [(&[u8], u32, SpecErrorKind); 11] = [
+const REFUSALS: [(&[u8], u32, SpecErrorKind); 12] = [
     (b"", 1, SpecErrorKind::NoRulesSection),
     (b"\n\n", 3, SpecErrorKind::NoRulesSection),
     (b"\nD\n%%\n", 2, SpecErrorKind::BadDefinitionLine),
     (b"D [0-9]\nD a\n%%\n", 2, SpecErrorKind::DuplicateName),
+    (b"D a\\\\ \n%%\n{D} ;", 3, MISSING_OPERAND),
     (b"%%\na*/b* ;", 2, SpecErrorKind::VariableTrailing),
     (b"%%\na yyless(1); yymore();", 2, SpecErrorKind::LessAndMore),
     (b"%%\na ;\n\n[z-a] ;", 4, BAD_RANGE),
@@ -199,6 +221,11 @@ const REFUSALS: [(&[u8], u32, SpecErrorKind); 11] = [
 const BAD_RANGE: SpecErrorKind = SpecErrorKind::Pattern(PatternError {
     kind: PatternErrorKind::BadRange,
     at: 1,
+});
+
+const MISSING_OPERAND: SpecErrorKind = SpecErrorKind::Pattern(PatternError {
+    kind: PatternErrorKind::MissingOperand,
+    at: 0,
 });
 
 const BAD_INTERVAL: SpecErrorKind = SpecErrorKind::Pattern(PatternError {

@@ -1,6 +1,7 @@
 //! Table files byte for byte, and files that are none.
 use crate::row::PLAIN;
 use crate::scanning::{file_of, scanned_by_table};
+use crate::tests::conditions;
 use lexkit::{MemorySink, TableError, WriteFault, read_tables, write_tables};
 use std::alloc::{AllocError, Global};
 use std::test::Fail;
@@ -197,6 +198,48 @@ fn changed_fields_are_named(rt: HostRuntime) -> Result<(), Fail> {
         let bytes = changed(alloc, at, &[byte])?;
         assert_eq!(rt; refusal(alloc, &bytes), Some(want));
     }
+    let longest = changed(alloc, 41, b"\x01\0\0\xff\xff")?;
+    assert!(rt; is_rewritten(alloc, &longest));
+    let longer = changed(alloc, 41, b"\x01\0\x01\0\0")?;
+    assert_eq!(rt; refusal(alloc, &longer), Some(TableError::BadField(42)));
+    Ok(())
+}
+
+/// A specification of 255 conditions, of 4,096 rules, and of 256 bytes that no two rules read alike.
+fn greatest(alloc: Global) -> Result<Vec<u8>, AllocError> {
+    let mut text = conditions(alloc, 254)?;
+    for byte in 0..=255u8 {
+        text.extend_from_slice(b"\\x")?;
+        for digit in [byte / 16, byte % 16] {
+            text.push(if digit < 10 {
+                b'0' + digit
+            } else {
+                b'a' + (digit - 10)
+            })?;
+        }
+        text.extend_from_slice(b" ;\n")?;
+    }
+    for _ in 0..3_840 {
+        text.extend_from_slice(b"aa ;\n")?;
+    }
+    Ok(text)
+}
+
+/// The file of the most conditions, rules and classes of bytes is read back.
+#[test]
+fn the_greatest_counts_are_read(rt: HostRuntime) -> Result<(), Fail> {
+    let alloc = rt.alloc();
+    let text = greatest(alloc)?;
+    let sink = file_of(alloc, &text, PLAIN).ok_or("the file is written")?;
+    let file = sink.written();
+    let tables = read_tables(alloc, file)
+        .ok()
+        .ok_or("the file is a table's")?;
+    let parts = tables.parts();
+    assert_eq!(rt; parts.conditions.len(), 255);
+    assert_eq!(rt; parts.rules.len(), 4_096);
+    assert_eq!(rt; parts.classes, 256);
+    assert!(rt; is_rewritten(alloc, file));
     Ok(())
 }
 

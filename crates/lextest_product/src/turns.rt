@@ -1,10 +1,9 @@
 //! Worked scans turn by turn: what is taken, what is held, and what a fault leaves.
 ghost use Rattle.std.specs.Prelude.{◌-◌, ◌^◌, ◌<◌};
 
-use crate::building::{built, read};
-use lexkit::{MemorySink, MemorySource, RunError, Sink, Source};
+use crate::building::read_back;
+use lexkit::{Flat, MemorySink, MemorySource, RunError, Sink, Source};
 use lexscan::{Scanner, Turn, run};
-use lextab_packing::Plain;
 use std::alloc::Global;
 use std::test::Fail;
 
@@ -19,7 +18,8 @@ const TRAIL: &str = "%%\nab/cd printf(\"[%s]\", yytext);\n";
 const COMMENTS: &str =
     "%x C\n%%\n\"/*\" BEGIN(C);\n<C>\"*/\" BEGIN(INITIAL);\n<C>.|\\n ;\n<C><<EOF>> printf(\"open\"); exit(3);\n";
 
-/// Whether each turn goes on and leaves this many bytes taken and these held, and the next two turns end with this status.
+/// Whether each turn goes on and leaves this many bytes taken and these held, and the next two turns end with this status and
+/// leave nothing held.
 fn goes_so(
     alloc: Global,
     text: &str,
@@ -27,9 +27,8 @@ fn goes_so(
     after: &[(u64, &str)],
     status: u8,
 ) -> Result<bool, Fail> {
-    let spec = read(alloc, text.as_bytes())?;
-    let automaton = built(alloc, &spec)?;
-    let machine = Plain::new(&automaton, &spec);
+    let tables = read_back(alloc, text.as_bytes())?;
+    let machine = Flat::new(alloc, &tables)?;
     let mut source = MemorySource::new(input.as_bytes());
     let mut sink = MemorySink::new(alloc);
     let mut scanner = Scanner::new(alloc, &machine, &mut source, &mut sink, 10_000);
@@ -38,8 +37,10 @@ fn goes_so(
         so = scanner.turn() == Ok(Turn::Went) && so;
         so = scanner.taken() == taken && scanner.held() == held.as_bytes() && so;
     }
-    so = scanner.turn() == Ok(Turn::Ended(status)) && so;
-    so = scanner.turn() == Ok(Turn::Ended(status)) && so;
+    for _ in 0..2 {
+        so = scanner.turn() == Ok(Turn::Ended(status)) && so;
+        so = scanner.held().is_empty() && so;
+    }
     Ok(so)
 }
 
@@ -68,6 +69,12 @@ fn takes_and_holds_what_is_asked_for(rt: HostRuntime) -> Result<(), Fail> {
         ),
         ("%%\nab exit(7);\n", "abXYZ", &[], 7),
         (
+            "%%\na yymore();\nb yymore(); exit(3);\n",
+            "abc",
+            &[(1, "a")],
+            3,
+        ),
+        (
             "%%\naa yymore();\nb ECHO; yyless(1);\n",
             "aab",
             &[(2, "aa"), (3, "ab"), (3, "b"), (3, "")],
@@ -95,9 +102,8 @@ fn ends_so<'a, K: Sink>(
     requires few_reads { ⟦<MemorySource<'a> as Source>⟧.failures source.old < 2 ^ 64 - 1 }
     requires few_writes { K.failures sink.old < 2 ^ 64 - 1 }
 {
-    let spec = read(alloc, text.as_bytes())?;
-    let automaton = built(alloc, &spec)?;
-    let machine = Plain::new(&automaton, &spec);
+    let tables = read_back(alloc, text.as_bytes())?;
+    let machine = Flat::new(alloc, &tables)?;
     let result = run(alloc, &machine, source, sink, max_reads);
     Ok((result, source.calls()))
 }
@@ -133,6 +139,17 @@ fn asks_for_the_end_once(rt: HostRuntime) -> Result<(), Fail> {
     let got = ends_so(alloc, TRAIL, &mut source, &mut sink, 10_000)?;
     assert!(rt; got == (Ok(0), 7), "{got:?}");
     assert_eq!(rt; sink.written(), b"[ab]cdab".as_slice());
+
+    let tables = read_back(alloc, TRAIL.as_bytes())?;
+    let machine = Flat::new(alloc, &tables)?;
+    let mut source = MemorySource::ending_after(b"abcdabz", 6);
+    let mut sink = MemorySink::new(alloc);
+    let mut scanner = Scanner::new(alloc, &machine, &mut source, &mut sink, 10_000);
+    for _ in 0..5 {
+        assert!(rt; scanner.turn() == Ok(Turn::Went));
+    }
+    assert!(rt; scanner.turn() == Ok(Turn::Ended(0)));
+    assert!(rt; scanner.taken() == 6);
     Ok(())
 }
 
@@ -151,14 +168,20 @@ fn a_thousand_letters_are_returned_one_by_one(rt: HostRuntime) -> Result<(), Fai
         assert!(rt; got == (result, calls), "{got:?}");
         assert_eq!(rt; sink.written(), b"".as_slice());
     }
-    let spec = read(alloc, text.as_bytes())?;
-    let automaton = built(alloc, &spec)?;
-    let machine = Plain::new(&automaton, &spec);
+    let tables = read_back(alloc, text.as_bytes())?;
+    let machine = Flat::new(alloc, &tables)?;
     let mut source = MemorySource::new(&input);
     let mut sink = MemorySink::new(alloc);
     let mut scanner = Scanner::new(alloc, &machine, &mut source, &mut sink, 10_000);
     assert!(rt; scanner.turn() == Ok(Turn::Went));
     assert!(rt; scanner.taken() == 1_000 && scanner.held().len() == 999);
+    for _ in 0..999 {
+        assert!(rt; scanner.turn() == Ok(Turn::Went));
+    }
+    for _ in 0..2 {
+        assert!(rt; scanner.turn() == Ok(Turn::Ended(0)));
+        assert!(rt; scanner.taken() == 1_000 && scanner.held().is_empty());
+    }
     Ok(())
 }
 
@@ -170,9 +193,8 @@ fn two_turns(
     given: usize,
     room: usize,
 ) -> Result<[(Result<Turn, RunError>, u64, usize); 3], Fail> {
-    let spec = read(alloc, text.as_bytes())?;
-    let automaton = built(alloc, &spec)?;
-    let machine = Plain::new(&automaton, &spec);
+    let tables = read_back(alloc, text.as_bytes())?;
+    let machine = Flat::new(alloc, &tables)?;
     let mut source = MemorySource::failing_after(input.as_bytes(), given);
     let mut sink = MemorySink::failing_after(alloc, room);
     let mut scanner = Scanner::new(alloc, &machine, &mut source, &mut sink, 10_000);
@@ -230,33 +252,88 @@ fn a_refused_turn_holds_what_was_taken(rt: HostRuntime) -> Result<(), Fail> {
     Ok(())
 }
 
+/// Whether so many turns go on, the next one is refused so, and the one after it as each later one is.
+fn is_refused_so<'a>(
+    alloc: Global,
+    text: &str,
+    source: &mut MemorySource<'a>,
+    sink: &mut MemorySink,
+    went: usize,
+    error: RunError,
+) -> Result<bool, Fail>
+    requires few_ends { ⟦<MemorySource<'a> as Source>⟧.ends source.old < 2 ^ 64 - 1 }
+    requires few_reads { ⟦<MemorySource<'a> as Source>⟧.failures source.old < 2 ^ 64 - 1 }
+    requires few_writes { ⟦<MemorySink as Sink>⟧.failures sink.old < 2 ^ 64 - 1 }
+{
+    let tables = read_back(alloc, text.as_bytes())?;
+    let machine = Flat::new(alloc, &tables)?;
+    let mut scanner = Scanner::new(alloc, &machine, source, sink, 10_000);
+    let mut so = true;
+    for _ in 0..went {
+        so = scanner.turn() == Ok(Turn::Went) && so;
+    }
+    so = scanner.turn() == Err(error) && so;
+    so = scanner.turn() == Err(RunError::Failed) && so;
+    Ok(so)
+}
+
+/// A sink that takes 0 to 9 of the ten bytes of the first turn has the first ones.
 #[test]
-fn what_was_written_before_a_fault_is_a_front(rt: HostRuntime) -> Result<(), Fail> {
+fn a_sink_fails_after_each_byte(rt: HostRuntime) -> Result<(), Fail> {
     let alloc = rt.alloc();
     for room in 0..10usize {
         let mut source = MemorySource::new(b"abcd");
         let mut sink = MemorySink::failing_after(alloc, room);
-        let got = ends_so(alloc, FRONTS, &mut source, &mut sink, 10_000)?;
-        assert!(rt; got.0 == Err(RunError::Write), "{room}");
+        let so = is_refused_so(alloc, FRONTS, &mut source, &mut sink, 0, RunError::Write)?;
+        assert!(rt; so, "{room}");
         assert_eq!(rt; sink.written(), &b"abcdabcaba"[..room]);
     }
-    for &(given, written) in &[
-        (0usize, ""),
-        (1, "a"),
-        (4, "a"),
-        (6, "a"),
-        (7, "ac"),
-        (10, "ac"),
-    ] {
+    Ok(())
+}
+
+/// How many turns go on where the source gives 0 to 10 bytes, and what they write.
+const TURNS_BEFORE: &[(usize, &str)] = &[
+    (0, ""),
+    (1, "a"),
+    (1, "a"),
+    (2, "a"),
+    (3, "a"),
+    (3, "a"),
+    (4, "a"),
+    (5, "ac"),
+    (5, "ac"),
+    (6, "ac"),
+    (7, "ac"),
+];
+
+#[test]
+fn a_source_fails_after_each_byte(rt: HostRuntime) -> Result<(), Fail> {
+    let alloc = rt.alloc();
+    for (given, &(went, written)) in TURNS_BEFORE.iter().enumerate() {
         let mut source = MemorySource::failing_after(b"a/*b*/c/*d", given);
         let mut sink = MemorySink::new(alloc);
-        let got = ends_so(alloc, COMMENTS, &mut source, &mut sink, 10_000)?;
-        assert!(rt; got.0 == Err(RunError::Read), "{given}");
+        let so = is_refused_so(
+            alloc,
+            COMMENTS,
+            &mut source,
+            &mut sink,
+            went,
+            RunError::Read,
+        )?;
+        assert!(rt; so, "{given}");
         assert_eq!(rt; sink.written(), written.as_bytes());
     }
+    Ok(())
+}
+
+/// The flush at the end of an empty input fails.
+#[test]
+fn a_flush_fails(rt: HostRuntime) -> Result<(), Fail> {
+    let alloc = rt.alloc();
     let mut source = MemorySource::new(b"");
     let mut sink = MemorySink::failing_flush(alloc);
-    let got = ends_so(alloc, "%%\n", &mut source, &mut sink, 10_000)?;
-    assert!(rt; got.0 == Err(RunError::Write));
+    let so = is_refused_so(alloc, "%%\n", &mut source, &mut sink, 0, RunError::Write)?;
+    assert!(rt; so);
+    assert_eq!(rt; sink.written(), b"".as_slice());
     Ok(())
 }

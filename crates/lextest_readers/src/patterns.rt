@@ -264,6 +264,35 @@ fn counts_past_the_limit(rt: HostRuntime) -> Result<(), Fail> {
     Ok(())
 }
 
+/// The lengths and the positions of a text, where it is read.
+fn lengths_and_positions(
+    alloc: Global,
+    text: &[u8],
+    definitions: &Defs,
+) -> Option<(Option<Bounds>, Option<u32>)> {
+    match read_pattern(alloc, text, definitions, PLAIN) {
+        Ok(pattern) => Some((bounds_of(&pattern), positions(&pattern))),
+        Err(_) => None,
+    }
+}
+
+// A pattern of 4,294,967,295 letters, and one of a letter more.
+const MOST_LETTERS: &[u8] = b"(((a{255}a{4}){255}a{6}){255}a{4}){255}";
+
+const A_LETTER_MORE: &[u8] = b"(((a{255}a{4}){255}a{6}){255}a{4}){255}a";
+
+#[test]
+fn counts_up_to_the_limit(rt: HostRuntime) -> Result<(), Fail> {
+    const MOST: u32 = 4_294_967_295;
+    let alloc = rt.alloc();
+    let definitions = worked_definitions(alloc)?;
+    let most = lengths_and_positions(alloc, MOST_LETTERS, &definitions);
+    assert!(rt; most == Some((Some((MOST, Some(MOST))), Some(MOST))));
+    let more = lengths_and_positions(alloc, A_LETTER_MORE, &definitions);
+    assert!(rt; more == Some((None, None)));
+    Ok(())
+}
+
 // One more pair of parentheses: ((..)**..*a|b), with 64 signs
 fn nested(alloc: Global, inner: Pattern) -> Result<Pattern, AllocError>
     requires { IsSoundTree (tree_of inner) }

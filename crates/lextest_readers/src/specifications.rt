@@ -328,6 +328,22 @@ fn action_of(rule: &Rule) -> &'static str {
     }
 }
 
+/// The longest heads and trails: texts repeated, and the cut of the rule.
+#[test]
+fn longest_cuts(rt: HostRuntime) -> Result<(), Fail> {
+    let alloc = rt.alloc();
+    let rows = &[
+        ("%%\n(a{255}){255}", "/b* ;", Cut::Head(65_535)),
+        ("%%\nb*/(a{255}){255}", " ;", Cut::Trail(65_535)),
+    ];
+    for &(before, after, cut) in rows {
+        let text = repeated(alloc, before, "a{255}", 2, after)?;
+        let spec = read(alloc, &text)?;
+        assert_eq!(rt; spec.rules().first().map(|rule| rule.cut), Some(cut));
+    }
+    Ok(())
+}
+
 /// A rule's line, conditions, anchor, cut and action.
 fn row_of_rule(rule: &Rule) -> (u32, Option<&[u8]>, bool, Cut, &'static str) {
     (
@@ -452,7 +468,17 @@ const LARGE_LIMITS: &[Limit] = &[
     ("%%\na printf(\"", "x", 4_096, "\");", Ok(1)),
     ("%%\na printf(\"", "x", 4_097, "\");", Err((2, LONG))),
     ("%%\n", "a\n", 4_096, "<<EOF>> ;", Ok(4_096)),
+    ("%%\n<<EOF>> printf(\"", "x", 4_096, "\");", Ok(0)),
+    ("%%\n<<EOF>> printf(\"", "x", 4_097, "\");", Err((2, LONG))),
     ("%%\n", "a\n", 4_096, "<Z>a", Err((4_098, MANY))),
+    ("%%\n", "a\n", 4_096, "^<<EOF>> ;", Err((4_098, MANY))),
+    (
+        "%%\n",
+        "a\n",
+        4_095,
+        "^<<EOF>> ;",
+        Err((4_097, SpecErrorKind::BadEofRule)),
+    ),
     ("%%\n", "a\n", 4_095, "a |\na ;", Err((4_098, MANY))),
     ("%%\n", "a", 65_535, "", Ok(1)),
     ("%%\n", "a", 65_536, "", Err((2, BIG))),
@@ -462,6 +488,14 @@ const LARGE_LIMITS: &[Limit] = &[
         "a{255}",
         2,
         "a ;",
+        Err((2, SpecErrorKind::VariableTrailing)),
+    ),
+    ("%%\n(a{255}){255}", "a{255}", 2, "/b* ;", Ok(1)),
+    (
+        "%%\n(a{255}){255}",
+        "a{255}",
+        2,
+        "a/b* ;",
         Err((2, SpecErrorKind::VariableTrailing)),
     ),
     ("%%\n", "\n", 1_048_573, "", Ok(0)),
