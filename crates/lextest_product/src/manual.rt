@@ -72,6 +72,18 @@ pub(crate) const EXAMPLES: &[Row] = &[
         0,
     ),
     (
+        "%option stack\n%x COMMENT\n%%\n\"/*\"            yy_push_state(COMMENT);\n<COMMENT>\"/*\"   yy_push_state(COMMENT);\n<COMMENT>\"*/\"   yy_pop_state();\n<COMMENT>.|\\n   ;\n",
+        "a/*b/*c*/d*/e",
+        "ae",
+        0,
+    ),
+    (
+        "%option stack\n%x STRING CODE\n%%\n\\\"             printf(\"<\"); yy_push_state(STRING);\n<CODE>\\\"       printf(\"<\"); yy_push_state(STRING);\n<STRING>\\\"     printf(\">\"); yy_pop_state();\n<STRING>\"${\"   printf(\"(\"); yy_push_state(CODE);\n<CODE>\"}\"      printf(\")\"); yy_pop_state();\n",
+        "x\"a${b\"c\"}d\"y",
+        "x<a(b<c>)d>y",
+        0,
+    ),
+    (
         "%%\n[0-9]+/\" kg\"   printf(\"<%s>\", yytext);\n[0-9]+\" k\"     printf(\"k\");\n",
         "5 kg 7 km",
         "<5> kg km",
@@ -144,18 +156,6 @@ pub(crate) const EXAMPLES: &[Row] = &[
         "%x COMMENT\n%%\n\"/*\"               BEGIN(COMMENT);\n<COMMENT>\"*/\"      BEGIN(INITIAL);\n<COMMENT>.|\\n      ;\n<COMMENT><<EOF>>   printf(\"open\"); exit(3);\n",
         "a/*b*/c",
         "ac",
-        0,
-    ),
-    (
-        "%option stack\n%x COMMENT\n%%\n\"/*\"            yy_push_state(COMMENT);\n<COMMENT>\"/*\"   yy_push_state(COMMENT);\n<COMMENT>\"*/\"   yy_pop_state();\n<COMMENT>.|\\n   ;\n",
-        "a/*b/*c*/d*/e",
-        "ae",
-        0,
-    ),
-    (
-        "%option stack\n%x STRING CODE\n%%\n\\\"             printf(\"<\"); yy_push_state(STRING);\n<CODE>\\\"       printf(\"<\"); yy_push_state(STRING);\n<STRING>\\\"     printf(\">\"); yy_pop_state();\n<STRING>\"${\"   printf(\"(\"); yy_push_state(CODE);\n<CODE>\"}\"      printf(\")\"); yy_pop_state();\n",
-        "x\"a${b\"c\"}d\"y",
-        "x<a(b<c>)d>y",
         0,
     ),
     (
