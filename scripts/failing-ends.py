@@ -1,5 +1,6 @@
 #!/usr/bin/env python3
-"""Runs the program lex over ends that fail, and holds each run to the manual: its status, and the line that it tells.
+"""Runs the program lex over ends that fail and over odd words, and holds each run to the manual: its status, and the line that
+it writes on standard error.
 
     scripts/failing-ends.py LEX
 
@@ -55,6 +56,11 @@ def few():
     return os.open("few", os.O_RDONLY)
 
 
+def spec_given():
+    """A specification as standard input."""
+    return os.open("spec", os.O_RDONLY)
+
+
 # What a run is, the words after the program's name, standard input, output and error, the status, and the line that is told.
 # The program runs as nobody, so that a file of mode 0 may not be read.
 RUNS = [
@@ -84,6 +90,10 @@ RUNS = [
     ("a table that may not be read", ["--scan-table", "secret"], None, nothing, None, 66, "lex: cannot read secret\n"),
     ("a table file that may not be written", ["-o", "secret", "spec"], None, nothing, None, 74, WRITE),
     ("a report that cannot be written", ["-b", "-o", "made", "spec"], None, nothing, None, 74, WRITE),
+    ("a word that is not UTF-8", [b"\xff.l"], None, nothing, None, 64, "lex: usage\n"),
+    ("a file of an empty name", ["-t", ""], None, nothing, None, 66, "lex: cannot read \n"),
+    ("a file past the limit, and then one that is not there", ["-t", "long", "none"], None, nothing, None, 65, "lex: line 0: TooLong\n"),
+    ("standard input twice, of which the second has nothing", ["-o", "twice", "-", "-"], spec_given, nothing, None, 0, ""),
 ]
 
 NOBODY = 65_534
@@ -119,6 +129,7 @@ def main():
         Path("lex.backup").mkdir()
         Path("secret").write_text(SPEC)
         Path("secret").chmod(0)
+        Path("long").write_text("%%\n" + "\n" * 1_048_574)
         subprocess.run([lex, "-o", "table", "spec"], check=True)
         os.chmod(at, 0o777)
         for name, words, given, output, errors, status, line in RUNS:
@@ -126,6 +137,9 @@ def main():
             so = got == (status, line)
             faults += not so
             print(f"{name}: {got[0]}{'' if so else f', wanted {status} {line!r}, and told {got[1]!r}'}")
+        if Path("twice").read_bytes() != Path("table").read_bytes():
+            faults += 1
+            print("standard input twice is another table file than once")
         os.chdir("/")
     print(f"faults: {faults}")
     return 1 if faults else 0
