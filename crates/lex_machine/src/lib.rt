@@ -10,5 +10,5 @@ mod machine;
 pub use action::{EndAction, Statement, has_reject};
 pub use copying::{copy_end, copy_statements};
 pub use cut::Cut;
-pub use glance::{Gist, Way};
+pub use glance::{Gist, Way, are_simple};
 pub use machine::Machine;

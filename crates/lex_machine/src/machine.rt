@@ -59,7 +59,7 @@ pub trait Machine {
         ensures yes { result ≡ true → SomeReject (machine self.now) };
 
     /// A walk over bytes up to the first after which the machine goes on no more, if it is found at a glance.
-    fn way(&self, first: u32, bytes: &[u8]) -> Option<Way>
+    fn way(&self, first: u32, bytes: &[u8]) -> Option<Way<'_>>
         requires { first < states self.now }
         ensures way { IfSome result (Leads (machine self.now) first bytes.now) }
         ensures known { IfSome result (λ way. way.state < states self.now) }

@@ -1,13 +1,13 @@
 -- Turns over a text that the source has ready.
-use Rattle.std.proofs.Common.{◌≡◌, ℕ, suc, ◌+◌, ◌-◌, ◌≤◌, ◌<◌, Bool, true, false, List, [], ◌∷◌, ◌++◌, length, take, drop, get_or, ◌⊎◌, inl, inr, Some, None, refl, sym, ◌∙◌, ap, subst, arith}
-use Rattle.std.specs.Prelude.{max, nat_eq, filter_map, ⊤}
+use Rattle.std.proofs.Common.{◌≡◌, ℕ, zero, suc, ◌+◌, ◌-◌, ◌≤◌, ◌<◌, Bool, true, false, List, [], ◌∷◌, ◌++◌, length, take, drop, get_or, ◌⊎◌, inl, inr, Some, None, refl, sym, ◌∙◌, ap, subst, arith}
+use Rattle.std.specs.Prelude.{max, nat_eq, filter_map, map, ⊤}
 use Rattle.std.proofs.lemmas.List.{append-nil, append_assoc, length-drop, length-take-le, get_or-take, take-take, take-append-drop, drop-take, drop-append-le, drop-drop, drop_all}
 use Rattle.lex_semantics.specs.Text.{IsText, Among, BeginsWith}
 use Rattle.lex_semantics.specs.Spec as S
 use Rattle.lex_semantics.specs.Candidates.{Candidate}
 use Rattle.lex_semantics.specs.Acting as Scan
 use Rattle.lex_semantics.specs.Acting.{act, settle}
-use Rattle.lex_semantics.specs.Machine.{Machine, walk}
+use Rattle.lex_semantics.specs.Machine.{Machine, walk, rules_of_machine}
 use Rattle.lex_semantics.specs.MachineLaws.{MachineLaws}
 use Rattle.lex_semantics.specs.PlainMachine.{kept_by, match_of}
 use Rattle.lex_semantics.specs.Plain.{default_match}
@@ -16,8 +16,10 @@ use Rattle.lex_semantics.proofs.Texts.{is_text_take, is_text_drop}
 use Rattle.lex_semantics.proofs.Actions.{BeginsBelow, begins_below}
 use Rattle.lex_machine.specs.declared.glance.Way.{Way}
 use Rattle.lex_machine.specs.declared.glance.Gist.{Gist}
-use Rattle.lex_machine.specs.declared.glance.Gist.TheVariants.{Any, NoRule, Silent, Echo, Print, Begin}
-use Rattle.lex_machine.specs.Glances.{Leads, FirstDoes, Gists}
+use Rattle.lex_machine.specs.declared.glance.Gist.TheVariants.{Any, NoRule, Silent, Echo, Print, Begin, Several}
+use Rattle.lex_machine.specs.Glances.{Leads, FirstDoes, Gists, are_simple}
+use Rattle.lex_machine.specs.Views.{statement_of}
+use Rattle.lex_semantics.specs.Rules.{statements_of}
 use Rattle.lexscan.specs.declared.state.State.{State}
 use Rattle.lexscan.specs.declared.state.Reading.{Reading}
 use Rattle.lexscan.specs.declared.state.TextPlace.{TextPlace}
@@ -32,10 +34,11 @@ use Rattle.lexscan.specs.Looks.{SoFar, Looked}
 use Rattle.lexscan.specs.Picks.{path_of, state_at}
 use Rattle.lexscan.specs.Moves.{Matched, Refused}
 use Rattle.lexscan.specs.Stands.{Stands, Fell}
-use Rattle.lexscan.specs.Bursts.{statements_in, is_told, condition_after, written_by, Between, AllStand, TurnsMade, Broke, Tells}
+use Rattle.lexscan.specs.Bursts.{statements_in, is_told, condition_after, written_by, Between, AllStand, TurnsMade, Broke, NoneAfter, Tells}
 use Rattle.lexscan.proofs.Descending as Down
-use Rattle.lexscan.proofs.Descending.{one_match, start_of, head_outcome, statements_are, settled}
-use Rattle.lexscan.proofs.Picking.{falling_last}
+use Rattle.lexscan.proofs.Descending.{one_match, start_of, head_outcome, statements_are, default_is, default_one, settled}
+use Rattle.lexscan.proofs.Picking.{falling_last, falling_more}
+use Rattle.lexscan.proofs.Telling.{told_simple, act_all, begun_below}
 use Rattle.lexscan.proofs.Stepping as Go
 use Rattle.lexscan.proofs.Refusing as Fall
 
@@ -75,15 +78,16 @@ gist_first M s Silent is h = h
 gist_first M s Echo is h = h
 gist_first M s (Print bytes) is h = h
 gist_first M s (Begin c) is h = h
+gist_first M s (Several ss) is h = h.1
 
 -- The match of a walk is the first of all, and its rule does what is told.
-pub record Heads (M : Machine) (path : List ℕ) (gist : Gist) (keep : ℕ) : Type 0 where
+pub record Heads (M : Machine) (w path : List ℕ) (gist : Gist) (keep : ℕ) : Type 0 where
   pub len : ℕ
   pub rule : ℕ
   pub others : List Candidate
-  pub first : falling M 0 path ≡ record { len = len; rule = rule; keep = keep } ∷ others
-  pub below : rule < M.count
-  pub does : statements_in gist ≡ M.statements rule
+  pub first : matches_of M w 0 path ≡ record { len = len; rule = rule; keep = keep } ∷ others
+  pub does : statements_in gist ≡ statements_of (rules_of_machine M) rule
+  pub simple : are_simple (statements_in gist) ≡ true
 
 whole_kept : (M : Machine) (n i : ℕ) → M.cut i ≡ S.Whole → kept_by (M.cut i) n ≡ Some n
 whole_kept M n i e = ap (λ k. kept_by k n) e
@@ -105,6 +109,9 @@ told_below M laws s NoRule c is h lt = lt
 told_below M laws s Silent c is h lt = lt
 told_below M laws s Echo c is h lt = lt
 told_below M laws s (Print bytes) c is h lt = lt
+told_below M laws s (Several ss) c is (simple, h) lt =
+    let legal = laws.legal h.rule (rule_below M s (map statement_of ss.now) laws h) in
+    begun_below M.conditions (map statement_of ss.now) c (subst (λ l. BeginsBelow M.conditions l) h.does (begins_below M.conditions (M.statements h.rule) legal.ranges)) lt
 told_below M laws s (Begin d) c is h lt =
     let legal = laws.legal h.rule (rule_below M s (S.Begin d ∷ []) laws h) in
     (subst (λ ss. BeginsBelow M.conditions ss) h.does (begins_below M.conditions (M.statements h.rule) legal.ranges)).0
@@ -114,31 +121,42 @@ abbrev pub told_acting : Gist → ℕ → Conditions → ActionState
 told_acting g keep c = record { end = 0 + keep; condition = condition_after g c.next; stack = c.stack; more = false }
 
 -- the statements that are told, over a text
-act_told : (w : List ℕ) (g : Gist) (keep : ℕ) (c : Conditions) (before : List ℕ) → is_told g ≡ true →
+act_told : (w : List ℕ) (g : Gist) (keep : ℕ) (c : Conditions) (before : List ℕ) → is_told g ≡ true → are_simple (statements_in g) ≡ true →
     act (statements_in g) (acting_of w (start_of 0 keep c) before) ≡ after_step Step.Next [] (acting_of w (told_acting g keep c) (before ++ written_by g (take (0 + keep) w)))
-act_told w Any keep c before is = absurd (no is)
+act_told w Any keep c before is simple = absurd (no is)
   where
     no : false ≡ true → ⊥
     no e = cc
-act_told w NoRule keep c before is = absurd (no is)
+act_told w NoRule keep c before is simple = absurd (no is)
   where
     no : false ≡ true → ⊥
     no e = cc
-act_told w Silent keep c before is = ap (λ b. after_step Step.Next [] (acting_of w (start_of 0 keep c) b)) (sym (append-nil before))
-act_told w Echo keep c before is = refl
-act_told w (Print bytes) keep c before is = refl
-act_told w (Begin d) keep c before is = ap (λ b. after_step Step.Next [] (acting_of w (told_acting (Begin d) keep c) b)) (sym (append-nil before))
+act_told w Silent keep c before is simple = ap (λ b. after_step Step.Next [] (acting_of w (start_of 0 keep c) b)) (sym (append-nil before))
+act_told w Echo keep c before is simple = refl
+act_told w (Print bytes) keep c before is simple = refl
+act_told w (Begin d) keep c before is simple = ap (λ b. after_step Step.Next [] (acting_of w (told_acting (Begin d) keep c) b)) (sym (append-nil before))
+act_told w (Several ss) keep c before is simple = act_all w (map statement_of ss.now) (start_of 0 keep c) before simple
 
 -- what is written before a fault is a front of it
-said_front : (w : List ℕ) (g : Gist) (keep : ℕ) (c : Conditions) (before front : List ℕ) → is_told g ≡ true → BeginsWith (written_by g (take (0 + keep) w)) front →
+said_front : (w : List ℕ) (g : Gist) (keep : ℕ) (c : Conditions) (before front : List ℕ) → is_told g ≡ true → are_simple (statements_in g) ≡ true → BeginsWith (written_by g (take (0 + keep) w)) front →
     BeginsWith (written_of (act (statements_in g) (acting_of w (start_of 0 keep c) before))) (before ++ front)
-said_front w g keep c before front is (rest, e) = (
+said_front w g keep c before front is simple (rest, e) = (
   rest,
-  ap written_of (act_told w g keep c before is) ∙ ap (λ l. before ++ l) e ∙ sym (append_assoc before front rest),
+  ap written_of (act_told w g keep c before is simple) ∙ ap (λ l. before ++ l) e ∙ sym (append_assoc before front rest),
 )
 
+-- the matches of a path whose last states accept no rule
+falling_none : (M : Machine) (p : TextPlace) (w : List ℕ) (n more : ℕ) → p.at + (n + more) ≤ length w → ((i : ℕ) → n < i → i ≤ n + more → M.accepts (state_at M p w i) ≡ []) → falling M 0 (path_of M p w (n + more)) ≡ falling M 0 (path_of M p w n)
+falling_none M p w n zero le none = let e : n + zero ≡ n = omega arith in ap (λ k. falling M 0 (path_of M p w k)) e
+falling_none M p w n (suc more) le none =
+    let e : n + suc more ≡ n + more + 1 = omega arith in
+    ap (λ k. falling M 0 (path_of M p w k)) e
+    ∙ falling_more M p w (n + more) (omega (arith, le))
+    ∙ ap (λ a. filter_map (match_of M (n + more + 1)) a ++ falling M 0 (path_of M p w (n + more))) (none (n + more + 1) (omega arith) (omega arith))
+    ∙ falling_none M p w n more (omega (arith, le)) (λ i less few. none i less (omega (arith, few)))
+
 module _ (M : Machine) (laws : MachineLaws M) (text : List ℕ) (bytes : IsText text) (c far cond : ℕ) (line : Bool) (way : Way) (told : Told) (le : c ≤ far) (inside : far ≤ length text)
-    (leads : Leads M (M.start cond line) (drop c text) way) (tells : Tells M way told) (is : is_told told.gist ≡ true) where
+    (leads : Leads M (M.start cond line) (drop c text) way) (tells : Tells M (M.start cond line) (drop c text) way.count told) (is : is_told told.gist ≡ true) where
   -- how far is asked for then
   abbrev pub beyond : ℕ
   beyond = max far (c + way.count)
@@ -171,8 +189,14 @@ module _ (M : Machine) (laws : MachineLaws M) (text : List ℕ) (bytes : IsText 
   state_here : way.state ≡ state_at M p w way.count
   state_here = leads.state_is ∙ ap (walk M (M.start cond line)) (sym (front_here way.count (omega arith)))
 
-  before_here : way.before ≡ state_at M p w (way.count - 1)
-  before_here = leads.before_is ∙ ap (walk M (M.start cond line)) (sym (front_here (way.count - 1) (omega arith)))
+  accepts_none : (few : ℕ) → NoneAfter M (M.start cond line) (drop c text) few way.count → (i : ℕ) → few < i → i ≤ way.count → M.accepts (state_at M p w i) ≡ []
+  accepts_none few none i more le' = ap (λ l. M.accepts (walk M (M.start cond line) l)) (front_here i le') ∙ none i more le'
+
+  falling_to : (few : ℕ) → few ≤ way.count → NoneAfter M (M.start cond line) (drop c text) few way.count → falling M 0 path ≡ falling M 0 (path_of M p w few)
+  falling_to few le' none =
+      let e : few + (way.count - few) ≡ way.count = omega (arith, le') in
+      ap (λ k. falling M 0 (path_of M p w k)) (sym e)
+      ∙ falling_none M p w few (way.count - few) (omega (arith, within, le')) (λ i more most. accepts_none few none i more (omega (arith, most, le')))
 
   so_far : SoFar M p (drop p.at w) way.count way.state path
   so_far = record {
@@ -182,53 +206,57 @@ module _ (M : Machine) (laws : MachineLaws M) (text : List ℕ) (bytes : IsText 
     path_is = refl;
   }
 
-  heads : Heads M path told.gist told.keep
+  -- nothing is told where a rule is
+  untold : {P : Type 0} → told.gist ≡ Any → P
+  untold any = absurd (no (ap is_told (sym any) ∙ is))
+    where
+      no : false ≡ true → ⊥
+      no e = cc
+
+  heads : Heads M w path told.gist told.keep
   heads = from tells
     where
-      from : ((told.keep ≡ way.count) × Gists M way.state told.gist) ⊎ ((1 < way.count) × (told.keep + 1 ≡ way.count) × (M.accepts way.state ≡ []) × Gists M way.before told.gist) → Heads M path told.gist told.keep
-      from (inl h) =
-          let f : FirstDoes M way.state (statements_in told.gist) = gist_first M way.state told.gist is h.1 in
-          let last = falling_last M p w way.count leads.some (omega (arith, within)) ∙ ap (λ s. filter_map (match_of M way.count) (M.accepts s) ++ falling M 0 (path_of M p w (way.count - 1))) (sym state_here) in
-          let first = first_here M way.count way.state told.gist (falling M 0 (path_of M p w (way.count - 1))) laws f (falling M 0 path) last in
+      from : Tells M (M.start cond line) (drop c text) way.count told → Heads M w path told.gist told.keep
+      from (inl (some, few, none, known)) =
+          let s : ℕ = state_at M p w told.keep in
+          let gist : Gists M s told.gist = subst (λ l. Gists M (walk M (M.start cond line) l) told.gist) (sym (front_here told.keep few)) known in
+          let f : FirstDoes M s (statements_in told.gist) = gist_first M s told.gist is gist in
+          let last = falling_to told.keep few none ∙ falling_last M p w told.keep some (omega (arith, within, few)) in
+          let first = first_here M told.keep s told.gist (falling M 0 (path_of M p w (told.keep - 1))) laws f (falling M 0 path) last in
           record {
-            len = way.count;
+            len = told.keep;
             rule = f.rule;
-            others = first.0;
-            first = first.1 ∙ ap (λ k. record { len = way.count; rule = f.rule; keep = k } ∷ first.0) (sym h.0);
-            below = rule_below M way.state (statements_in told.gist) laws f;
-            does = sym f.does;
+            others = first.0 ++ default_match M.count (drop 0 w);
+            first = ap (λ l. l ++ default_match M.count (drop 0 w)) first.1;
+            does = sym f.does ∙ sym (statements_are M f.rule (rule_below M s (statements_in told.gist) laws f));
+            simple = told_simple M s told.gist is gist;
           }
-      from (inr h) =
-          let f : FirstDoes M way.before (statements_in told.gist) = gist_first M way.before told.gist is h.3 in
-          let n : ℕ = way.count - 1 in
-          let keeps : told.keep ≡ n = omega (arith, h.1) in
-          let some : 1 ≤ n = omega (arith, h.0) in
-          let last = falling_last M p w way.count leads.some (omega (arith, within)) ∙ ap (λ s. filter_map (match_of M way.count) (M.accepts s) ++ falling M 0 (path_of M p w n)) (sym state_here)
-          ∙ ap (λ a. filter_map (match_of M way.count) a ++ falling M 0 (path_of M p w n)) h.2 in
-          let last' = last ∙ falling_last M p w n some (omega (arith, within)) ∙ ap (λ s. filter_map (match_of M n) (M.accepts s) ++ falling M 0 (path_of M p w (n - 1))) (sym before_here) in
-          let first = first_here M n way.before told.gist (falling M 0 (path_of M p w (n - 1))) laws f (falling M 0 path) last' in
+      from (inr (inl (one, echo, none))) =
           record {
-            len = n;
-            rule = f.rule;
-            others = first.0;
-            first = first.1 ∙ ap (λ k. record { len = n; rule = f.rule; keep = k } ∷ first.0) (sym keeps);
-            below = rule_below M way.before (statements_in told.gist) laws f;
-            does = sym f.does;
+            len = 1;
+            rule = M.count;
+            others = [];
+            first = ap (λ l. l ++ default_match M.count (drop 0 w)) (falling_to 0 (omega arith) none) ∙ default_one M (drop 0 w) (omega (arith, within, leads.some)) ∙ ap (λ k. record { len = 1; rule = M.count; keep = k } ∷ []) (sym one);
+            does = ap statements_in echo ∙ sym (default_is M);
+            simple = ap (λ g. are_simple (statements_in g)) echo;
           }
+      from (inr (inr any)) = untold any
 
   pub keeps_some : (1 ≤ told.keep) × (told.keep ≤ way.count)
   keeps_some = from tells
     where
-      from : ((told.keep ≡ way.count) × Gists M way.state told.gist) ⊎ ((1 < way.count) × (told.keep + 1 ≡ way.count) × (M.accepts way.state ≡ []) × Gists M way.before told.gist) → (1 ≤ told.keep) × (told.keep ≤ way.count)
-      from (inl h) = (omega (arith, h.0, leads.some), omega (arith, h.0))
-      from (inr h) = (omega (arith, h.0, h.1), omega (arith, h.1))
+      from : Tells M (M.start cond line) (drop c text) way.count told → (1 ≤ told.keep) × (told.keep ≤ way.count)
+      from (inl (some, few, none, known)) = (some, few)
+      from (inr (inl (one, echo, none))) = (omega (arith, one), omega (arith, one, leads.some))
+      from (inr (inr any)) = untold any
 
   pub condition_below : cond < M.conditions → condition_after told.gist cond < M.conditions
   condition_below lt = from tells
     where
-      from : ((told.keep ≡ way.count) × Gists M way.state told.gist) ⊎ ((1 < way.count) × (told.keep + 1 ≡ way.count) × (M.accepts way.state ≡ []) × Gists M way.before told.gist) → condition_after told.gist cond < M.conditions
-      from (inl h) = told_below M laws way.state told.gist cond is h.1 lt
-      from (inr h) = told_below M laws way.before told.gist cond is h.3 lt
+      from : Tells M (M.start cond line) (drop c text) way.count told → condition_after told.gist cond < M.conditions
+      from (inl (some, few, none, known)) = told_below M laws (walk M (M.start cond line) (take told.keep (drop c text))) told.gist cond is known lt
+      from (inr (inl (one, echo, none))) = subst (λ g. condition_after g cond < M.conditions) (sym echo) lt
+      from (inr (inr any)) = untold any
 
   said_here : take (0 + told.keep) w ≡ take told.keep (drop c text)
   said_here = let e : 0 + told.keep ≡ told.keep = omega arith in ap (λ k. take k w) e ∙ front_here told.keep keeps_some.1
@@ -239,25 +267,23 @@ module _ (M : Machine) (laws : MachineLaws M) (text : List ℕ) (bytes : IsText 
 
     abbrev performed : wrote t (written_by told.gist (take told.keep (drop c text))) u → Performed M wrote t u w 0 (matches_of M w 0 path) cs (told_acting told.gist told.keep cs) None
     performed put =
-        let out : List ℕ = written_by told.gist (take (0 + told.keep) w) in
-        let rest : List Candidate = heads.others ++ default_match M.count (drop 0 w) in record {
+        let out : List ℕ = written_by told.gist (take (0 + told.keep) w) in record {
           out = out;
           sink = subst (λ l. wrote t (written_by told.gist l) u) (sym said_here) put;
           acts = λ before.
-              ap (λ l. outcome M w 0 (l ++ default_match M.count (drop 0 w)) before cs) heads.first
-              ∙ head_outcome M w 0 (record { len = heads.len; rule = heads.rule; keep = told.keep }) rest before cs
-              ∙ ap (λ l. settle (act l (acting_of w (start_of 0 told.keep cs) before)) (λ a. outcome M w 0 rest a.written (conditions_in a))) (statements_are M heads.rule heads.below ∙ sym heads.does)
-              ∙ ap (λ z. settle z (λ a. outcome M w 0 rest a.written (conditions_in a))) (act_told w told.gist told.keep cs before is)
-              ∙ settled Step.Next (acting_of w (told_acting told.gist told.keep cs) (before ++ out)) (λ a. outcome M w 0 rest a.written (conditions_in a)) (λ e. cc);
+              ap (λ l. outcome M w 0 l before cs) heads.first
+              ∙ head_outcome M w 0 (record { len = heads.len; rule = heads.rule; keep = told.keep }) heads.others before cs
+              ∙ ap (λ l. settle (act l (acting_of w (start_of 0 told.keep cs) before)) (λ a. outcome M w 0 heads.others a.written (conditions_in a))) (sym heads.does)
+              ∙ ap (λ z. settle z (λ a. outcome M w 0 heads.others a.written (conditions_in a))) (act_told w told.gist told.keep cs before is heads.simple)
+              ∙ settled Step.Next (acting_of w (told_acting told.gist told.keep cs) (before ++ out)) (λ a. outcome M w 0 heads.others a.written (conditions_in a)) (λ e. cc);
         }
 
     cut : (front : List ℕ) → BeginsWith (written_by told.gist (take told.keep (drop c text))) front → wrote t front u → (before : List ℕ) (o : Scan.Matched) →
         outcome M w 0 (matches_of M w 0 path) before cs ≡ Some o → BeginsWith o.after.written (before ++ front)
     cut front begins put before o e =
-        let rest : List Candidate = heads.others ++ default_match M.count (drop 0 w) in
-        Down.cut_front M wrote none join w 0 t u (record { len = heads.len; rule = heads.rule; keep = told.keep }) rest cs (statements_in told.gist) (heads.does ∙ sym (statements_are M heads.rule heads.below))
-        (record { out = front; sink = put; front = λ b. said_front w told.gist told.keep cs b front is (subst (λ l. BeginsWith (written_by told.gist l) front) (sym said_here) begins) }) before o
-        (ap (λ l. outcome M w 0 (l ++ default_match M.count (drop 0 w)) before cs) (sym heads.first) ∙ e)
+        Down.cut_front M wrote none join w 0 t u (record { len = heads.len; rule = heads.rule; keep = told.keep }) heads.others cs (statements_in told.gist) heads.does
+        (record { out = front; sink = put; front = λ b. said_front w told.gist told.keep cs b front is heads.simple (subst (λ l. BeginsWith (written_by told.gist l) front) (sym said_here) begins) }) before o
+        (ap (λ l. outcome M w 0 l before cs) (sym heads.first) ∙ e)
 
     abbrev Nothing : ⊤ → List ℕ → ⊤ → Type 0
     Nothing a xs b = ⊤
@@ -409,7 +435,7 @@ went_none M wrote t text held cond line inside none = record {
 }
 
 module _ (M : Machine) (laws : MachineLaws M) (text : List ℕ) (bytes : IsText text) (held cond0 : ℕ) (line0 : Bool) (c far cond : ℕ) (line : Bool) (way : Way) (told : Told) (first : held ≤ far) (le : c ≤ far) (inside : far ≤ length text)
-    (leads : Leads M (M.start cond line) (drop c text) way) (tells : Tells M way told) (is : is_told told.gist ≡ true)
+    (leads : Leads M (M.start cond line) (drop c text) way) (tells : Tells M (M.start cond line) (drop c text) way.count told) (is : is_told told.gist ≡ true)
     {K : Type 0} (wrote : K → List ℕ → K → Type 0) (none : (s : K) → wrote s [] s) (join : (s t u : K) (xs ys : List ℕ) → wrote s xs t → wrote t ys u → wrote s (xs ++ ys) u) (s t u : K) (went : TurnsMade M wrote s t text held cond0 line0 c far cond line) where
   abbrev next : ℕ
   next = max far (c + way.count)

@@ -11,6 +11,7 @@ pub mod Stepping
 pub mod Picking
 pub mod Walking
 pub mod Showing
+pub mod Telling
 pub mod Bursting
 pub mod Furthering
 pub mod Barrens

@@ -1,24 +1,26 @@
 -- What several turns in one go do.
-use Rattle.std.specs.Prelude.{◌≡◌, ℕ, ◌+◌, ◌-◌, ◌≤◌, Bool, true, false, List, [], ◌∷◌, ◌++◌, length, take, drop, None, ◌<◌, ◌⊎◌, Result, Ok, Err}
+use Rattle.std.specs.Prelude.{◌≡◌, ℕ, ◌+◌, ◌-◌, ◌≤◌, Bool, true, false, List, [], ◌∷◌, ◌++◌, length, map, take, drop, None, ◌<◌, ◌⊎◌, Result, Ok, Err}
 use Rattle.lex_semantics.specs.Spec as S
-use Rattle.lex_semantics.specs.Machine.{Machine}
+use Rattle.lex_semantics.specs.Machine.{Machine, walk}
 use Rattle.lex_machine.specs.declared.glance.Gist.{Gist}
-use Rattle.lex_machine.specs.declared.glance.Gist.TheVariants.{Any, NoRule, Silent, Echo, Print, Begin}
+use Rattle.lex_machine.specs.declared.glance.Gist.TheVariants.{Any, NoRule, Silent, Echo, Print, Begin, Several}
 use Rattle.lexscan.specs.declared.state.State.{State}
 use Rattle.lexscan.specs.declared.error.RunError.{RunError}
 use Rattle.lexscan.specs.declared.error.RunError.TheVariants.{Write}
 use Rattle.lexscan.specs.declared.burst.Burst.{Burst}
 use Rattle.lexscan.specs.declared.burst.Told.{Told}
-use Rattle.lex_machine.specs.declared.glance.Way.{Way}
 use Rattle.lex_machine.specs.Glances.{Gists}
+use Rattle.lex_machine.specs.Views.{statement_of}
+use Rattle.lexscan.specs.Acts.{said}
 use Rattle.lexscan.specs.Stands.{Stands, Fell}
 
--- what is told of a rule
+-- the statements that are told
 abbrev pub statements_in : Gist → List S.Statement
 statements_in Silent = []
 statements_in Echo = S.Echo ∷ []
 statements_in (Print bytes) = S.Print bytes.now ∷ []
 statements_in (Begin c) = S.Begin c ∷ []
+statements_in (Several ss) = map statement_of ss.now
 statements_in other = []
 
 -- whether anything is told
@@ -27,13 +29,30 @@ is_told Any = false
 is_told NoRule = false
 is_told other = true
 
+-- the condition after a statement that changes no stack (flex, Actions: BEGIN)
+abbrev pub begun : S.Statement → ℕ → ℕ
+begun (S.Begin c) old = c
+begun other old = old
+
+-- the condition after some of them
+abbrev pub all_begun : List S.Statement → ℕ → ℕ
+all_begun [] old = old
+all_begun (s ∷ ss) old = all_begun ss (begun s old)
+
+-- what they write of a text
+abbrev pub all_said : List S.Statement → List ℕ → List ℕ
+all_said [] text = []
+all_said (s ∷ ss) text = said s text ++ all_said ss text
+
 abbrev pub condition_after : Gist → ℕ → ℕ
 condition_after (Begin c) old = c
+condition_after (Several ss) old = all_begun (map statement_of ss.now) old
 condition_after other old = old
 
 abbrev pub written_by : Gist → List ℕ → List ℕ
 written_by Echo text = text
 written_by (Print bytes) text = bytes.now
+written_by (Several ss) text = all_said (map statement_of ss.now) text
 written_by other text = []
 
 -- A state that stands between two turns, with these bytes held and so many taken.
@@ -76,9 +95,17 @@ abbrev pub BurstsBy : {K : Type 0} → Bool → Machine → (K → List ℕ → 
 BurstsBy false M wrote t u text held condition line b = TurnsMade M wrote t u text held condition line b.done b.asked b.condition b.line_start
 BurstsBy true M wrote t u text held condition line b = Broke M wrote t u text held condition line b.done b.asked b.condition b.line_start
 
--- What is told of the match of a walk: by its last state, or, where this one accepts nothing, by the one before it.
-abbrev pub Tells : Machine → Way → Told → Type 0
-Tells M way told = ((told.keep ≡ way.count) × Gists M way.state told.gist) ⊎ ((1 < way.count) × (told.keep + 1 ≡ way.count) × (M.accepts way.state ≡ []) × Gists M way.before told.gist)
+-- No rule is accepted after any of the first bytes, from more than so many up to so many of them.
+abbrev pub NoneAfter : Machine → ℕ → List ℕ → ℕ → ℕ → Type 0
+NoneAfter M first bytes few many = (i : ℕ) → few < i → i ≤ many → M.accepts (walk M first (take i bytes)) ≡ []
+
+-- What is told of the match of the first bytes, so many of them: by the state after the longest part of them after which a rule is
+-- accepted; or that the default rule writes one byte (POSIX, lex, Rules: unmatched input is copied); or nothing.
+abbrev pub Tells : Machine → ℕ → List ℕ → ℕ → Told → Type 0
+Tells M first bytes count told =
+    ((1 ≤ told.keep) × (told.keep ≤ count) × NoneAfter M first bytes told.keep count × Gists M (walk M first (take told.keep bytes)) told.gist)
+    ⊎ ((told.keep ≡ 1) × (told.gist ≡ Echo) × NoneAfter M first bytes 0 count)
+    ⊎ (told.gist ≡ Any)
 
 abbrev pub fault_of : Bool → ℕ
 fault_of true = 1

@@ -1,18 +1,20 @@
 //! Several turns in one go, over bytes that the source has ready.
-ghost use Rattle.std.specs.Prelude.{◌≡◌, ℕ, ◌+◌, ◌-◌, ◌^◌, ◌<◌, ◌≤◌, Bool, List, [], length, take, drop, true, false, OnOk, OnErr, IfOk, IfErr, IfSome};
+ghost use Rattle.std.specs.Prelude.{◌≡◌, ℕ, ◌+◌, ◌-◌, ◌^◌, ◌<◌, ◌≤◌, Bool, List, [], length, take, drop, true, false, map, OnOk, OnErr, IfOk, IfErr, IfSome};
 ghost use Rattle.lex_io.specs.Sink.{Appended};
 ghost use Rattle.lex_machine.specs.Glances.{Leads, Gists};
 ghost use Rattle.lex_semantics.specs.MachineLaws.{NoReject};
 ghost use Rattle.lexscan.specs.Reads.{write_fault_count};
 ghost use Rattle.lexscan.specs.Ends.{SinkLeft};
-ghost use Rattle.lexscan.specs.Bursts.{is_told, condition_after, written_by, Tells, BurstsBy, fault_of};
+ghost use Rattle.lex_machine.specs.Views.{statement_of};
+ghost use Rattle.lexscan.specs.Acts.{said};
+ghost use Rattle.lexscan.specs.Bursts.{is_told, begun, all_said, all_begun, condition_after, written_by, Tells, BurstsBy, fault_of};
 
 use crate::act::put;
 use crate::error::RunError;
 use crate::intake::Outlet;
 use crate::state::TextPlace;
 use lex_io::Sink;
-use lex_machine::{Gist, Machine, Way};
+use lex_machine::{Gist, Machine, Statement, Way};
 
 /// Where some turns over a text led: how many bytes they are done with, how many they asked for, the start of a line and the
 /// condition there, and whether the sink failed in the next turn.
@@ -32,24 +34,69 @@ struct Told<'m> {
     keep: usize,
 }
 
-/// What is told of the match of a walk: by its last state, or else by the one before it.
-#[inline(always)]
-fn told_of<'m, M: Machine>(machine: &'m M, way: Way) -> Told<'m>
-    requires known { way.state < M.states machine.now }
-    requires known_before { way.before < M.states machine.now }
-    requires some { 1 ≤ way.count }
-    ensures { Tells (M.machine machine.now) way result }
+/// How many bytes a walk has at most that is gone over again.
+const FEW: usize = 128;
+
+/// What is told of the match of a walk that is gone over again: by the last state that accepts a rule, or else of the default
+/// rule, which writes one byte.
+#[inline(never)]
+fn told_again<'m, M: Machine>(machine: &'m M, first: u32, bytes: &[u8]) -> Told<'m>
+    requires first { first < M.states machine.now }
+    ensures { Tells (M.machine machine.now) first bytes.now (length bytes.now) result }
 {
-    let gist = machine.gist(way.state);
-    if matches!(gist, Gist::NoRule) && 1 < way.count {
+    let mut state = first;
+    let mut told = Told {
+        gist: Gist::Echo,
+        keep: 1,
+    };
+    let mut count = 0usize;
+    'bytes: while count < bytes.len() {
+        state = machine.step(state, bytes[count]);
+        count += 1;
+        let gist = machine.gist(state);
+        if !matches!(gist, Gist::NoRule) {
+            told = Told { gist, keep: count };
+        }
+    }
+    told
+}
+
+/// What is told of the match of a walk: by its last state, by the one before it, or, where it is a short one, by going over it
+/// again.
+#[inline(always)]
+fn told_of<'m, M: Machine>(machine: &'m M, first: u32, bytes: &[u8], way: Way<'m>) -> Told<'m>
+    requires first { first < M.states machine.now }
+    requires known_before { way.before < M.states machine.now }
+    requires leads { Leads (M.machine machine.now) first bytes.now way }
+    ensures { Tells (M.machine machine.now) first bytes.now way.entry.count result }
+{
+    if !matches!(way.gist, Gist::NoRule) {
         return Told {
-            gist: machine.gist(way.before),
-            keep: way.count - 1,
+            gist: way.gist,
+            keep: way.count,
         };
     }
+    if 1 < way.count {
+        let gist = machine.gist(way.before);
+        if !matches!(gist, Gist::NoRule) {
+            return Told {
+                gist,
+                keep: way.count - 1,
+            };
+        }
+        if FEW < way.count {
+            return Told {
+                gist: Gist::Any,
+                keep: way.count,
+            };
+        }
+        if 2 < way.count {
+            return told_again(machine, first, &bytes[..way.count]);
+        }
+    }
     Told {
-        gist,
-        keep: way.count,
+        gist: Gist::Echo,
+        keep: 1,
     }
 }
 
@@ -59,6 +106,65 @@ fn knows(gist: Gist<'_>) -> bool
     ensures { result ≡ is_told gist.entry }
 {
     !matches!(gist, Gist::Any | Gist::NoRule)
+}
+
+/// Carries out statements that each write the text or a literal, or set the condition; others do nothing. Answers the condition of
+/// the next match.
+fn do_several<K: Sink>(
+    outlet: &mut Outlet<'_, K>,
+    statements: &[Statement],
+    text: &[u8],
+    condition: u8,
+) -> Result<u8, RunError>
+    requires live { outlet.old.live ≡ true }
+    ensures same { outlet.new.sink.ghost_name ≡ outlet.old.sink.ghost_name }
+    ensures bytes { Appended (λ xs. K.wrote outlet.old.sink.now xs outlet.new.sink.now)
+        (all_said (map statement_of statements.now) text.now) result }
+    ensures sink { SinkLeft K.failures outlet.old.sink.now outlet.new.sink.now outlet.new.live result }
+    ensures condition { IfOk result (λ after. after ≡ all_begun (map statement_of statements.now) condition) }
+{
+    let mut after = condition;
+    for statement in statements {
+        match do_one(outlet, statement, text, after) {
+            Err(e) => return Err(e),
+            Ok(next) => after = next,
+        }
+    }
+    Ok(after)
+}
+
+/// Carries out one such statement.
+#[inline(always)]
+fn do_one<K: Sink>(
+    outlet: &mut Outlet<'_, K>,
+    statement: &Statement,
+    text: &[u8],
+    condition: u8,
+) -> Result<u8, RunError>
+    requires live { outlet.old.live ≡ true }
+    ensures same { outlet.new.sink.ghost_name ≡ outlet.old.sink.ghost_name }
+    ensures bytes { Appended (λ xs. K.wrote outlet.old.sink.now xs outlet.new.sink.now)
+        (said (statement_of statement.now) text.now) result }
+    ensures sink { SinkLeft K.failures outlet.old.sink.now outlet.new.sink.now outlet.new.live result }
+    ensures condition { IfOk result (λ after. after ≡ begun (statement_of statement.now) condition) }
+{
+    match statement {
+        Statement::Echo => match put(outlet, text) {
+            Err(e) => Err(e),
+            Ok(()) => Ok(condition),
+        },
+        Statement::Print(bytes) => match put(outlet, bytes.as_slice()) {
+            Err(e) => Err(e),
+            Ok(()) => Ok(condition),
+        },
+        Statement::Begin(after) => Ok(*after),
+        Statement::More
+        | Statement::Less(_)
+        | Statement::Reject
+        | Statement::End(_)
+        | Statement::Push(_)
+        | Statement::Pop => Ok(condition),
+    }
 }
 
 /// Does what is told of a rule, over the text of its match. Answers the condition of the next match.
@@ -86,6 +192,10 @@ fn do_gist<K: Sink>(
             Ok(()) => Ok(condition),
         },
         Gist::Begin(after) => Ok(after),
+        Gist::Several(statements) => match do_several(outlet, statements, text, condition) {
+            Err(e) => Err(e),
+            Ok(after) => Ok(after),
+        },
         Gist::Silent | Gist::Any | Gist::NoRule => Ok(condition),
     }
 }
@@ -120,10 +230,11 @@ pub fn burst_over<M: Machine, K: Sink>(
     let mut condition = place.condition;
     'turns: while done < text.len() {
         let rest = &text[done..];
-        let Some(way) = machine.way(machine.start(condition, line_start), rest) else {
+        let first = machine.start(condition, line_start);
+        let Some(way) = machine.way(first, rest) else {
             break 'turns;
         };
-        let told = told_of(machine, way);
+        let told = told_of(machine, first, rest, way);
         if !knows(told.gist) {
             break 'turns;
         }

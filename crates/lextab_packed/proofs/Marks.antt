@@ -1,22 +1,43 @@
 -- Marked targets.
-use Rattle.std.proofs.Common.{◌≡◌, ℕ, ◌+◌, ◌-◌, ◌*◌, ◌≤◌, ◌<◌, Bool, true, false, List, [], ◌∷◌, length, take, get_or, refl, sym, ap, subst, ◌∙◌, arith}
+use Rattle.std.proofs.Common.{◌≡◌, ℕ, ◌+◌, ◌-◌, ◌*◌, ◌%◌, ◌≤◌, ◌<◌, Bool, true, false, List, [], ◌∷◌, length, take, get_or, refl, sym, ap, subst, ◌∙◌, arith}
 use Rattle.std.proofs.lemmas.List.{length-map}
 use Rattle.lex_semantics.specs.Text.{flag}
 use Rattle.lex_semantics.specs.Machine.{Machine, walk}
 use Rattle.lextab_packed.specs.declared.tables.Tables.{Tables}
-use Rattle.lextab_packed.specs.Flats.{marked}
+use Rattle.lextab_packed.specs.Flats.{marked, stop_of, kind_of}
+use Rattle.lextab_packed.specs.declared.kinds.Kind.{Kind}
+use Rattle.lextab_packed.specs.declared.kinds.Kind.TheVariants.{Any, NoRule, Silent, Echo, Print, Begin, Several}
 use Rattle.lextab_packed.specs.Steps.{step_of}
 use Rattle.lextab_packed.specs.Views.{table_of, row_of}
 use Rattle.lextab_packed.specs.Machines.{machine_of, states_of}
 use Rattle.lextab_packed.proofs.Ways.{walk_more, asked_more, Asked}
 
-pub stopped : (f : Bool) (t r : ℕ) → r ≡ marked f t → t ≤ 8192 → 2147483648 ≤ r → (f ≡ false) × (r - 2147483648 ≡ t)
-stopped true t r e low high = absurd (omega (arith, e, low, high))
-stopped false t r e low high = (refl, omega (arith, e))
+stop_least : (k : Kind) → 2147483648 ≤ stop_of k
+stop_least Any = omega arith
+stop_least NoRule = omega arith
+stop_least Silent = omega arith
+stop_least Echo = omega arith
+stop_least (Print rule) = omega arith
+stop_least (Begin c) = omega arith
+stop_least (Several rule) = omega arith
 
-pub gone : (f : Bool) (t r : ℕ) → r ≡ marked f t → r < 2147483648 → (f ≡ true) × (r ≡ 256 * t)
-gone true t r e less = (refl, e)
-gone false t r e less = absurd (omega (arith, e, less))
+pub stopped : (f : Bool) (k : Kind) (t r : ℕ) → r ≡ marked f k t → t ≤ 8192 → 2147483648 ≤ r → (f ≡ false) × (r ≡ marked false k t)
+stopped true k t r e low high = absurd (omega (arith, e, low, high))
+stopped false k t r e low high = (refl, e)
+
+pub gone : (f : Bool) (k : Kind) (t r : ℕ) → r ≡ marked f k t → r < 2147483648 → (f ≡ true) × (r ≡ 256 * t)
+gone true k t r e less = (refl, e)
+gone false k t r e less = let s = stop_least k in absurd (omega (arith, e, less, s))
+
+-- the state of a mark
+pub state_in : (k : Kind) (t r : ℕ) → r ≡ marked false k t → t ≤ 8192 → r % 1048576 ≡ t
+state_in Any t r e low = omega (arith, e, low)
+state_in NoRule t r e low = omega (arith, e, low)
+state_in Silent t r e low = omega (arith, e, low)
+state_in Echo t r e low = omega (arith, e, low)
+state_in (Print rule) t r e low = omega (arith, e, low)
+state_in (Begin c) t r e low = omega (arith, e, low)
+state_in (Several rule) t r e low = omega (arith, e, low)
 
 module _ (t : Tables) where
   pub few_states : states_of t ≤ 8192
@@ -40,7 +61,7 @@ module _ (t : Tables) where
     next_below = t.below.next s (get_or bytes n 0) known small
 
     -- the machine goes on after it
-    pub goes_further : (r : ℕ) → r ≡ marked (flag t.goes_on.items next) next → r < 2147483648 → Asked M first bytes n → (r ≡ 256 * walk M first (take (n + 1) bytes)) × (walk M first (take (n + 1) bytes) < states_of t) × Asked M first bytes (n + 1)
+    pub goes_further : (r : ℕ) → r ≡ marked (flag t.goes_on.items next) (kind_of M next) next → r < 2147483648 → Asked M first bytes n → (r ≡ 256 * walk M first (take (n + 1) bytes)) × (walk M first (take (n + 1) bytes) < states_of t) × Asked M first bytes (n + 1)
     goes_further r e less asked =
-        let g = gone (flag t.goes_on.items next) next r e less in
+        let g = gone (flag t.goes_on.items next) (kind_of M next) next r e less in
         (g.1 ∙ ap (λ k. 256 * k) next_is, subst (λ k. k < states_of t) next_is next_below, asked_more M first bytes n asked (subst (λ k. M.goes_on k ≡ true) next_is g.0))

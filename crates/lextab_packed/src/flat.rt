@@ -1,14 +1,16 @@
 //! Packed tables with a row of 256 targets for each state, so that a step is one look-up.
-ghost use Rattle.std.specs.Prelude.{◌≡◌, ℕ, ◌+◌, ◌*◌, ◌<◌, ◌≤◌, true, false, length, slice_index, IfOk};
+ghost use Rattle.std.specs.Prelude.{◌≡◌, ℕ, ◌+◌, ◌*◌, ◌<◌, ◌≤◌, true, false, length, slice_index, slice_get, Some, IfOk};
 ghost use Rattle.lex_machine.specs.Glances.{Leads, Gists};
 ghost use Rattle.lex_semantics.specs.Limits.{max_states};
 ghost use Rattle.lex_semantics.specs.Text.{flag};
-ghost use Rattle.lextab_packed.specs.Flats.{marked};
+ghost use Rattle.lextab_packed.specs.Flats.{marked, kind_of};
+ghost use Rattle.lextab_packed.specs.declared.kinds.Kind.{Kind};
 ghost use Rattle.lextab_packed.specs.Steps.{step_of};
 ghost use Rattle.lextab_packed.specs.Views.{table_of};
 ghost use Rattle.lextab_packed.specs.Machines.{machine_of, states_of};
 
-use crate::steps::{STOP, marked_rows};
+use crate::kinds::{Kind, kinds_of};
+use crate::steps::{STOP, STOP_ECHO, STOP_OTHER, STOP_SILENT, marked_rows};
 use crate::tables::Tables;
 use lex_machine::{Cut, EndAction, Gist, Machine, Statement, Way};
 use std::alloc::{AllocError, Global};
@@ -18,9 +20,12 @@ use std::alloc::{AllocError, Global};
 pub struct Flat<'a> {
     pub(crate) tables: &'a Tables,
     rows: Vec<u32>,
+    kinds: Vec<Kind>,
     goes_on: &'a [bool],
     ghost sizes: { length rows.items ≡ 256 * length tables.now.parts.rows.items },
-    ghost targets: { (s b : ℕ) → s < length tables.now.parts.rows.items → b < 256 → slice_index rows.items (256 * s + b) ≡ marked (flag goes_on.now (step_of (table_of tables.now.parts) s b)) (step_of (table_of tables.now.parts) s b) },
+    ghost targets: { (s b : ℕ) → s < length tables.now.parts.rows.items → b < 256 → slice_index rows.items (256 * s + b) ≡ marked (flag goes_on.now (step_of (table_of tables.now.parts) s b)) (kind_of (machine_of tables.now) (step_of (table_of tables.now.parts) s b)) (step_of (table_of tables.now.parts) s b) },
+    ghost column: { length kinds.items ≡ length tables.now.parts.rows.items },
+    ghost told: { (s : ℕ) → s < length tables.now.parts.rows.items → slice_get kinds.items s ≡ Some (kind_of (machine_of tables.now) s) },
     ghost flags: { goes_on.now ≡ tables.now.goes_on.items },
 }
 
@@ -31,10 +36,12 @@ impl<'a> Flat<'a> {
         ensures states { IfOk result (λ f. states_of f.tables.now ≡ states_of tables.now) }
     {
         let goes_on = tables.goes_on.as_slice();
-        let rows = marked_rows(alloc, &tables.parts, goes_on)?;
+        let kinds = kinds_of(alloc, tables)?;
+        let rows = marked_rows(alloc, tables, &kinds)?;
         Ok(Flat {
             tables,
             rows,
+            kinds,
             goes_on,
         })
     }
@@ -45,22 +52,43 @@ impl<'a> Flat<'a> {
         requires { (s : ℕ) × (s < states_of self.now.tables.now) × (place ≡ 256 * s) }
         ensures { (s : ℕ) → place ≡ 256 * s → s < states_of self.now.tables.now
             → result ≡ marked (flag self.now.goes_on.now (step_of (table_of self.now.tables.now.parts) s byte))
+            (kind_of (machine_of self.now.tables.now) (step_of (table_of self.now.tables.now.parts) s byte))
             (step_of (table_of self.now.tables.now.parts) s byte) }
     {
         self.rows[place as usize + usize::from(byte)]
+    }
+
+    /// What is told of the state that a marked target is, at which the machine stops.
+    #[inline(always)]
+    fn gist_at(&self, target: u32) -> Gist<'_>
+        requires { (s : ℕ) × (s < states_of self.now.tables.now)
+            × (target ≡ marked false (kind_of (machine_of self.now.tables.now) s) s) }
+        ensures { (s : ℕ) → s < states_of self.now.tables.now
+            → target ≡ marked false (kind_of (machine_of self.now.tables.now) s) s
+            → Gists (machine_of self.now.tables.now) s result }
+    {
+        if target < STOP_SILENT {
+            Gist::NoRule
+        } else if target < STOP_ECHO {
+            Gist::Silent
+        } else if target < STOP_OTHER {
+            Gist::Echo
+        } else {
+            gist_of(self.tables, self.kinds[(target - STOP_OTHER) as usize])
+        }
     }
 }
 
 /// The state that a marked target is.
 #[inline(always)]
 fn state_of(target: u32) -> u32
-    ensures goes { (s : ℕ) → s ≤ max_states → target ≡ marked true s → result ≡ s }
-    ensures stops { (s : ℕ) → target ≡ marked false s → result ≡ s }
+    ensures goes { (kind : Kind) (s : ℕ) → s ≤ max_states → target ≡ marked true kind s → result ≡ s }
+    ensures stops { (kind : Kind) (s : ℕ) → s ≤ max_states → target ≡ marked false kind s → result ≡ s }
 {
     if target < STOP {
         target / 256
     } else {
-        target - STOP
+        target % 1_048_576
     }
 }
 
@@ -102,7 +130,7 @@ impl Machine for Flat<'_> {
     }
 
     #[inline(always)]
-    fn way(&self, first: u32, bytes: &[u8]) -> Option<Way> {
+    fn way(&self, first: u32, bytes: &[u8]) -> Option<Way<'_>> {
         let mut place = 256 * first;
         let mut count = 0usize;
         'bytes: while count < bytes.len() {
@@ -111,8 +139,9 @@ impl Machine for Flat<'_> {
             if STOP <= next {
                 return Some(Way {
                     count,
-                    state: next - STOP,
+                    state: state_of(next),
                     before: place / 256,
+                    gist: self.gist_at(next),
                 });
             }
             if next == place {
@@ -127,28 +156,26 @@ impl Machine for Flat<'_> {
 
     #[inline(always)]
     fn gist(&self, state: u32) -> Gist<'_> {
-        gist_of(self.tables, state)
+        gist_of(self.tables, self.kinds[state as usize])
     }
 }
 
-/// What is told of the first rule that the state accepts.
+/// What this tells of a state's first rule.
 #[inline(always)]
-fn gist_of(tables: &Tables, state: u32) -> Gist<'_>
-    requires { state < states_of tables.now }
-    ensures { Gists (machine_of tables.now) state result }
+fn gist_of(tables: &Tables, kind: Kind) -> Gist<'_>
+    requires { (s : ℕ) × (kind ≡ kind_of (machine_of tables.now) s) }
+    ensures { (s : ℕ) → kind ≡ kind_of (machine_of tables.now) s → Gists (machine_of tables.now) s result }
 {
-    let Some(rule) = tables.accepts(state).first() else {
-        return Gist::NoRule;
-    };
-    let (cut, statements) = tables.rule(*rule);
-    if !matches!(cut, Cut::Whole) || 1 < statements.len() {
-        return Gist::Any;
-    }
-    match statements.first() {
-        None => Gist::Silent,
-        Some(Statement::Echo) => Gist::Echo,
-        Some(Statement::Print(bytes)) => Gist::Print(bytes.as_slice()),
-        Some(Statement::Begin(condition)) => Gist::Begin(*condition),
-        Some(_) => Gist::Any,
+    match kind {
+        Kind::Any => Gist::Any,
+        Kind::NoRule => Gist::NoRule,
+        Kind::Silent => Gist::Silent,
+        Kind::Echo => Gist::Echo,
+        Kind::Begin(condition) => Gist::Begin(condition),
+        Kind::Print(rule) => match tables.rule(rule).1.first() {
+            Some(Statement::Print(bytes)) => Gist::Print(bytes.as_slice()),
+            _ => Gist::Any,
+        },
+        Kind::Several(rule) => Gist::Several(tables.rule(rule).1),
     }
 }

@@ -2,6 +2,7 @@
 #![tactic(auto)]
 
 mod flat;
+mod kinds;
 mod machine;
 mod parts;
 mod steps;

@@ -1,13 +1,16 @@
 //! How a table goes from state to state.
-ghost use Rattle.std.specs.Prelude.{◌≡◌, ℕ, ◌+◌, ◌*◌, ◌^◌, ◌<◌, ◌≤◌, length, slice_index, IfOk};
+ghost use Rattle.std.specs.Prelude.{◌≡◌, ℕ, ◌+◌, ◌*◌, ◌^◌, ◌<◌, ◌≤◌, length, slice_index, slice_get, Some, IfOk};
 ghost use Rattle.lex_semantics.specs.Limits.{max_states};
 ghost use Rattle.lex_semantics.specs.Text.{flag};
-ghost use Rattle.lextab_packed.specs.Flats.{marked};
+ghost use Rattle.lextab_packed.specs.Flats.{marked, stop_of, kind_of};
+ghost use Rattle.lextab_packed.specs.Machines.{machine_of, states_of};
 ghost use Rattle.lextab_packed.specs.Checks.{IsTable};
 ghost use Rattle.lextab_packed.specs.Steps.{step_of};
 ghost use Rattle.lextab_packed.specs.Views.{table_of};
 
+use crate::kinds::Kind;
 use crate::parts::TableParts;
+use crate::tables::Tables;
 use std::alloc::{AllocError, Global};
 
 /// The state after one byte more.
@@ -41,35 +44,64 @@ pub fn flat_rows(alloc: Global, parts: &TableParts) -> Result<Vec<u32>, AllocErr
     Ok(next)
 }
 
-/// The mark of a target from which the machine does not go on.
+/// The least mark of a target at which the machine stops: no rule is accepted there.
 pub(crate) const STOP: u32 = 2_147_483_648;
 
-/// A target with its mark.
-fn mark(state: u32, goes_on: bool) -> u32
-    requires { state ≤ max_states }
-    ensures { result ≡ marked goes_on state }
+/// The mark of a stop where the first rule that is accepted does nothing.
+pub(crate) const STOP_SILENT: u32 = 2_148_532_224;
+
+/// The mark of a stop where it writes the text.
+pub(crate) const STOP_ECHO: u32 = 2_149_580_800;
+
+/// The mark of a stop where it does anything else.
+pub(crate) const STOP_OTHER: u32 = 2_150_629_376;
+
+/// The mark of a stop, by what is known of the first rule that is accepted there.
+fn stop_of(kind: Kind) -> u32
+    ensures { result ≡ stop_of kind }
 {
-    if goes_on { 256 * state } else { STOP + state }
+    match kind {
+        Kind::NoRule => STOP,
+        Kind::Silent => STOP_SILENT,
+        Kind::Echo => STOP_ECHO,
+        Kind::Any | Kind::Print(_) | Kind::Begin(_) | Kind::Several(_) => STOP_OTHER,
+    }
+}
+
+/// A target with its mark.
+fn mark(state: u32, kind: Kind, goes_on: bool) -> u32
+    requires { state ≤ max_states }
+    ensures { result ≡ marked goes_on kind state }
+{
+    if goes_on {
+        256 * state
+    } else {
+        stop_of(kind) + state
+    }
 }
 
 /// The marked state after each byte, 256 to a state: the row of state 0, then that of state 1, and so on.
 pub(crate) fn marked_rows(
     alloc: Global,
-    parts: &TableParts,
-    goes_on: &[bool],
+    tables: &Tables,
+    kinds: &[Kind],
 ) -> Result<Vec<u32>, AllocError>
-    requires table { IsTable (table_of parts.now) }
-    requires flags { length goes_on.now ≡ length parts.now.rows.items }
-    ensures len { IfOk result (λ v. length v.items ≡ 256 * length parts.now.rows.items) }
-    ensures each { IfOk result (λ v. (s b : ℕ) → s < length parts.now.rows.items → b < 256
+    requires kinds { length kinds.now ≡ states_of tables.now }
+    requires told { (s : ℕ) → s < states_of tables.now → slice_get kinds.now s ≡ Some (kind_of (machine_of tables.now) s) }
+    ensures len { IfOk result (λ v. length v.items ≡ 256 * length tables.now.parts.rows.items) }
+    ensures each { IfOk result (λ v. (s b : ℕ) → s < length tables.now.parts.rows.items → b < 256
         → slice_index v.items (256 * s + b)
-        ≡ marked (flag goes_on.now (step_of (table_of parts.now) s b)) (step_of (table_of parts.now) s b)) }
+        ≡ marked (flag tables.now.goes_on.items (step_of (table_of tables.now.parts) s b))
+        (kind_of (machine_of tables.now) (step_of (table_of tables.now.parts) s b))
+        (step_of (table_of tables.now.parts) s b)) }
 {
+    let parts = &tables.parts;
     let places = 256 * parts.rows.len();
     let mut rows = Vec::with_capacity(alloc, places)?;
     for place in 0..places {
         let state = target(parts, (place / 256) as u32, (place % 256) as u8);
-        rows.push(mark(state, goes_on[state as usize]))?;
+        let goes_on = tables.goes_on[state as usize];
+        rows.push(mark(state, kinds[state as usize], goes_on))?;
     }
     Ok(rows)
 }

@@ -7,13 +7,19 @@ use Rattle.lex_machine.specs.declared.glance.Way.{Way}
 use Rattle.lexscan.specs.declared.burst.Told.{Told}
 use Rattle.lex_machine.proofs.Growing.{is_text_from}
 use Rattle.lex_machine.specs.Glances.{Leads}
-use Rattle.lexscan.specs.Bursts.{TurnsMade, Broke, is_told}
+use Rattle.lexscan.specs.Bursts.{TurnsMade, Broke, Tells, is_told}
 use Rattle.lexscan.proofs.Bursting as Burst
 use Rattle.lexscan.proofs.burst.burst_over.Goals as goal
 
 -- all the rest
 rest_is : (n : ℕ) (text : List ℕ) → take (length text - n) (drop n text) ≡ drop n text
 rest_is n text = take_all (length text - n) (drop n text) (omega (arith, length-drop n text))
+
+-- what is told of all the rest, from the state where a match starts
+tells_from : (M : Machine) (condition : ℕ) (line : Bool) (first done : ℕ) (text : List ℕ) (count : ℕ) (told : Told) → first ≡ M.start condition line → Tells M first (take (length text - done) (drop done text)) count told →
+    Tells M (M.start condition line) (drop done text) count told
+tells_from M condition line first done text count told is h =
+    subst (λ s. Tells M s (drop done text) count told) is (subst (λ l. Tells M first l count told) (rest_is done text) h)
 
 pub turns-init : goal.turns-init
 turns-init g c = record {
@@ -35,8 +41,8 @@ returns-in-Err-clause-bursts g c =
     subst (λ k. Broke M g.K.Sink.wrote c.args.outlet.now.sink.now c.do_gist.new.outlet.sink.now text c.args.held c.args.place.condition c.args.place.line_start c.turns.done k c.turns.condition c.turns.line_start) (sym c.max-asked.ensures)
     (Burst.broke_then M (g.M.Machine.laws c.args.machine.now) text (is_text_from text (λ k. let f = c.type_inv.text k in omega (arith, f))) c.args.held c.args.place.condition c.args.place.line_start c.turns.done c.turns.asked c.turns.condition c.turns.line_start
     c.in-Some.way c.told_of-told.result c.turns.invariant.held c.turns.invariant.done c.turns.invariant.asked
-    (subst (λ s. Leads M s (drop c.turns.done text) c.in-Some.way) c.start.ensures.state (subst (λ l. Leads M c.start.result l c.in-Some.way) (rest_is c.turns.done text) c.in-Some.ensures.way))
-    c.told_of-told.ensures (sym c.knows.ensures ∙ c.if-not-knows.false) g.K.Sink.wrote g.met.K.Sink.wrote_none g.met.K.Sink.wrote_more _ _ _ c.turns.invariant.went put.0 put.1 put.2)
+    (subst (λ s. Leads M s (drop c.turns.done text) c.in-Some.way) c.start-first.ensures.state (subst (λ l. Leads M c.start-first.result l c.in-Some.way) (rest_is c.turns.done text) c.in-Some.ensures.way))
+    (tells_from M c.turns.condition c.turns.line_start c.start-first.result c.turns.done text c.in-Some.way.count c.told_of-told.result c.start-first.ensures.state c.told_of-told.ensures) (sym c.knows.ensures ∙ c.if-not-knows.false) g.K.Sink.wrote g.met.K.Sink.wrote_none g.met.K.Sink.wrote_more _ _ _ c.turns.invariant.went put.0 put.1 put.2)
 
 pub turns-preserved : goal.turns-preserved
 turns-preserved g c = record {
@@ -44,15 +50,15 @@ turns-preserved g c = record {
   went = subst (λ k. TurnsMade M g.K.Sink.wrote c.args.outlet.now.sink.now c.do_gist.new.outlet.sink.now text c.args.held c.args.place.condition c.args.place.line_start (c.turns.done + told.keep) k c.in-Ok.after line) (sym c.max-asked.ensures)
       (subst (λ k. TurnsMade M g.K.Sink.wrote c.args.outlet.now.sink.now c.do_gist.new.outlet.sink.now text c.args.held c.args.place.condition c.args.place.line_start (c.turns.done + told.keep) (max c.turns.asked (c.turns.done + way.count)) k line) (sym c.in-Ok.ensures.condition)
       (Burst.went_more M laws text bytes c.args.held c.args.place.condition c.args.place.line_start c.turns.done c.turns.asked c.turns.condition c.turns.line_start way told
-      c.turns.invariant.held c.turns.invariant.done c.turns.invariant.asked leads c.told_of-told.ensures known g.K.Sink.wrote g.met.K.Sink.wrote_none g.met.K.Sink.wrote_more _ _ _ c.turns.invariant.went
+      c.turns.invariant.held c.turns.invariant.done c.turns.invariant.asked leads tells known g.K.Sink.wrote g.met.K.Sink.wrote_none g.met.K.Sink.wrote_more _ _ _ c.turns.invariant.went
       (rw (rest_is c.turns.done text) at c.in-Ok.ensures.bytes) line (ap (λ l. nat_eq (get_or (take told.keep l) (told.keep - 1) 0) 10) (rest_is c.turns.done text))));
   failures = omega (arith, c.in-Ok.ensures.sink.write_faults, c.turns.invariant.failures);
   live = c.in-Ok.ensures.sink.may_write;
   condition = subst (λ k. k < M.conditions) (sym c.in-Ok.ensures.condition)
-      (Burst.condition_below M laws text bytes c.turns.done c.turns.asked c.turns.condition c.turns.line_start way told c.turns.invariant.done c.turns.invariant.asked leads c.told_of-told.ensures known c.turns.invariant.condition);
+      (Burst.condition_below M laws text bytes c.turns.done c.turns.asked c.turns.condition c.turns.line_start way told c.turns.invariant.done c.turns.invariant.asked leads tells known c.turns.invariant.condition);
   done = (let k = keeps.1 in omega (arith, c.max-asked.ensures, k));
   held = omega (arith, c.max-asked.ensures, c.turns.invariant.held);
-  asked = (let k = Burst.inside_beyond M laws text bytes c.turns.done c.turns.asked c.turns.condition c.turns.line_start way told c.turns.invariant.done c.turns.invariant.asked leads c.told_of-told.ensures known in omega (arith, c.max-asked.ensures, k));
+  asked = (let k = Burst.inside_beyond M laws text bytes c.turns.done c.turns.asked c.turns.condition c.turns.line_start way told c.turns.invariant.done c.turns.invariant.asked leads tells known in omega (arith, c.max-asked.ensures, k));
 }
   where
     M : Machine
@@ -80,7 +86,10 @@ turns-preserved g c = record {
     known = sym c.knows.ensures ∙ c.if-not-knows.false
 
     leads : Leads M (M.start c.turns.condition c.turns.line_start) (drop c.turns.done text) way
-    leads = subst (λ s. Leads M s (drop c.turns.done text) way) c.start.ensures.state (subst (λ l. Leads M c.start.result l way) (rest_is c.turns.done text) c.in-Some.ensures.way)
+    leads = subst (λ s. Leads M s (drop c.turns.done text) way) c.start-first.ensures.state (subst (λ l. Leads M c.start-first.result l way) (rest_is c.turns.done text) c.in-Some.ensures.way)
+
+    tells : Tells M (M.start c.turns.condition c.turns.line_start) (drop c.turns.done text) way.count told
+    tells = tells_from M c.turns.condition c.turns.line_start c.start-first.result c.turns.done text way.count told c.start-first.ensures.state c.told_of-told.ensures
 
     keeps : (1 ≤ told.keep) × (told.keep ≤ way.count)
-    keeps = Burst.keeps_some M laws text bytes c.turns.done c.turns.asked c.turns.condition c.turns.line_start way told c.turns.invariant.done c.turns.invariant.asked leads c.told_of-told.ensures known
+    keeps = Burst.keeps_some M laws text bytes c.turns.done c.turns.asked c.turns.condition c.turns.line_start way told c.turns.invariant.done c.turns.invariant.asked leads tells known

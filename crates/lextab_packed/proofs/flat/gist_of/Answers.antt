@@ -1,8 +1,24 @@
-use Rattle.std.proofs.Common.{ap, ◌∙◌}
-use Rattle.std.specs.Prelude.{slice_get}
-use Rattle.lextab_packed.proofs.Ways.{among_first}
+use Rattle.std.proofs.Common.{◌≡◌, [], ◌∷◌, map, sym, ap, ◌∙◌}
+use Rattle.lex_semantics.specs.Spec as S
+use Rattle.lex_semantics.specs.Machine.{Machine}
+use Rattle.lex_machine.specs.Views.{statement_of}
+use Rattle.lex_machine.specs.Glances.{are_simple}
+use Rattle.lextab_packed.specs.Machines.{machine_of}
+use Rattle.lextab_packed.specs.declared.kinds.Kind.TheVariants.{Print, Several}
+use Rattle.lextab_packed.proofs.Columns.{knows, first_does, only_is}
 use Rattle.lextab_packed.proofs.flat.gist_of.Goals as goal
 
-pub rule-cut-requires : goal.rule-cut-requires
-rule-cut-requires c =
-    c.args.tables.now.laws.in_range c.args.state c.in-Some.rule.now (among_first _ c.in-Some.rule.now (c.in-Some.ensures.value ∙ ap (λ l. slice_get l 0) c.accepts.ensures))
+pub returns-in-Some-Print : goal.returns-in-Some-Print
+returns-in-Some-Print c = λ s e.
+    let M : Machine = machine_of c.args.tables.now in
+    let k = knows M s (Print c.in-Print.rule) (sym c.in-Print.is ∙ e) in
+    first_does M s c.in-Print.rule (S.Print c.as_slice.result.now ∷ []) k.0
+    (sym c.rule.ensures.statements ∙ only_is c.rule.result.1.now c.in-Some-Print.field-0.now (S.Print c.as_slice.result.now) (S.Print k.1.0) c.in-Some-Print.ensures.value
+    (ap statement_of c.in-Some-Print.field-0-is ∙ ap S.Print (sym c.as_slice.ensures.value)) (c.rule.ensures.statements ∙ k.1.1))
+
+pub returns-in-Several : goal.returns-in-Several
+returns-in-Several c = λ s e.
+    let M : Machine = machine_of c.args.tables.now in
+    let k = knows M s (Several c.in-Several.rule) (sym c.in-Several.is ∙ e) in
+    let does = c.rule-in-Several.ensures.statements in
+    (ap are_simple does ∙ k.1, first_does M s c.in-Several.rule (map statement_of c.rule-in-Several.result.1.now) k.0 (sym does))

@@ -1,0 +1,16 @@
+use Rattle.std.proofs.Common.{◌≡◌, ◌≤◌, get_or, ap, ◌∙◌, arith}
+use Rattle.std.proofs.lemmas.Option.{get_or_from_slice_get}
+use Rattle.lex_semantics.specs.Machine.{Machine}
+use Rattle.lextab_packed.specs.Flats.{kind_of}
+use Rattle.lextab_packed.specs.Machines.{machine_of}
+use Rattle.lextab_packed.proofs.Columns.{marks_other}
+use Rattle.lextab_packed.proofs.Marks.{few_states}
+use Rattle.lextab_packed.proofs.flat.Flat.gist_at.Goals as goal
+
+pub returns-else-target-lt-STOP_OTHER : goal.returns-else-target-lt-STOP_OTHER
+returns-else-target-lt-STOP_OTHER c = λ s lt m.
+    let t = c.args.self.now.tables.now in
+    let M : Machine = machine_of t in
+    let at = marks_other M s c.args.target (omega (arith, lt, few_states t)) (kind_of M s) m (omega (arith, c.if-target-lt-STOP_OTHER.false)) in
+    let kinds = c.args.self.now.kinds.items in
+    c.gist_of.ensures s (c.index.ensures ∙ ap (λ k. get_or kinds k c.index.result.now) at ∙ get_or_from_slice_get kinds s (kind_of M s) c.index.result.now (c.args.self.now.told s lt))
