@@ -2,7 +2,7 @@
 use crate::row::PLAIN;
 use crate::scanning::{file_of, scanned_by_table};
 use crate::tests::conditions;
-use lexkit::{MemorySink, TableError, WriteFault, read_tables, write_tables};
+use lexkit::{MemorySink, ScanError, TableError, WriteFault, read_tables, write_tables};
 use std::alloc::{AllocError, Global};
 use std::test::Fail;
 
@@ -81,8 +81,12 @@ fn changed(alloc: Global, at: usize, new: &[u8]) -> Result<Vec<u8>, AllocError> 
     Ok(bytes)
 }
 
+/// Why the bytes are no table file, where a scan by them is refused for it too, and touches nothing.
 fn refusal(alloc: Global, bytes: &[u8]) -> Option<TableError> {
-    read_tables(alloc, bytes).err()
+    let error = read_tables(alloc, bytes).err()?;
+    let scan = scanned_by_table(alloc, bytes, b"a");
+    let refused = scan.answer == Err(ScanError::Table(error)) && scan.touches_nothing();
+    if refused { Some(error) } else { None }
 }
 
 /// Whether a scan of `if iff` by these bytes writes this, with status 0.

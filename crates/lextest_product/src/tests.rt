@@ -3,7 +3,7 @@ use crate::scanning::{Failing, file_of, scanned, scanned_by_table};
 use crate::{examples, limits, manual, worked};
 use lexkit::{
     ArgsError, Fault, GenError, MemorySink, MemorySource, Options, RunError, ScanError, Source,
-    scan_spec, write_fault,
+    generate, scan_spec, write_fault,
 };
 use lexspec::ReadOptions;
 use std::alloc::{AllocError, Global};
@@ -42,12 +42,18 @@ pub(crate) fn is_told(alloc: Global, fault: Fault<'_>, status: u8, line: &str) -
     written && sink.written() == line.as_bytes() && fault.status() == status
 }
 
-/// Whether the specification is refused by this line, before anything is read or written.
+/// Whether the specification is refused by this line, before anything is read or written, and no tables are made of it for
+/// the same reason.
 fn is_refused(alloc: Global, text: &[u8], line: &str) -> bool {
     let scan = scanned(alloc, text, PLAIN, b"a", Failing::Never);
-    match scan.answer {
-        Ok(_) => false,
-        Err(error) => { scan.touches_nothing() && is_told(alloc, Fault::Scan(error), 65, line) }
+    let made = generate(alloc, text, Options::new());
+    match (scan.answer, made.err()) {
+        (Err(error), Some(reason)) => {
+            error == ScanError::Generate(reason)
+                && scan.touches_nothing()
+                && is_told(alloc, Fault::Scan(error), 65, line)
+        }
+        _ => false,
     }
 }
 
