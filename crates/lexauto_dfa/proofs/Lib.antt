@@ -1,1 +1,2 @@
 pub mod Machinery
+pub mod Leads

@@ -3,3 +3,4 @@ pub mod Parts
 pub mod Invariant
 pub mod Automata
 pub mod Laws
+pub mod Alike

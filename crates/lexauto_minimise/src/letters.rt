@@ -2,8 +2,8 @@
 ghost use Rattle.std.specs.Prelude.{◌≡◌, ◌^◌, ℕ, ◌+◌, ◌*◌, ◌<◌, length, slice_index, IfOk, OnOk};
 ghost use Rattle.lexauto_minimise.specs.Columns.{AreBytes, HaveLetters};
 
-use crate::columns::first_bytes;
 use crate::sources::{Letter, chain};
+use lexauto_dfa::first_bytes;
 use std::alloc::{AllocError, Global};
 
 /// Where each state goes by one byte.

@@ -2,7 +2,6 @@
 #![tactic(auto)]
 
 mod blocks;
-mod columns;
 mod futures;
 mod interleaving;
 mod labels;

@@ -23,7 +23,7 @@ use Rattle.lextab_packed.proofs.Places.{each_of}
 use Rattle.lextab_packing.specs.Below.{below}
 use Rattle.lextab_packing.specs.Assembled.{start_in, action_in, assembled, HasTexts}
 use Rattle.lextab_packing.specs.Packing.{Packing, IsPacked, HasRanges}
-use Rattle.lextab_packing.specs.Searching.{moves}
+use Rattle.lexauto_dfa.specs.Alike.{moves}
 use Rattle.lextab_packing.specs.Tables.{packing_in}
 use Rattle.lextab_packing.proofs.Unique.{same_size}
 use Rattle.lextab_packing.proofs.Steps.{goes_as}

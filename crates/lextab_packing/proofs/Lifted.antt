@@ -1,7 +1,8 @@
 -- Automata that go alike from their states pack alike.
 use Rattle.std.specs.Prelude.{◌≡◌, ℕ, ◌<◌, List}
 use Rattle.std.proofs.Common.{sym, ◌∙◌, arith}
-use Rattle.lextab_packing.specs.Classes.{Alike, IsClassMap, first_of}
+use Rattle.lexauto_dfa.specs.Alike.{Alike}
+use Rattle.lextab_packing.specs.Classes.{IsClassMap, first_of}
 use Rattle.lextab_packing.specs.Packing.{Packing, by_class, IsPacked}
 use Rattle.lextab_packing.proofs.Steps.{first_is}
 use Rattle.lextab_packing.proofs.Fills.{rows_to}

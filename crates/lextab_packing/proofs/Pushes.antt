@@ -1,12 +1,10 @@
 -- The parts of a table one after another.
-use Rattle.std.proofs.Common.{◌≡◌, ℕ, zero, suc, ◌+◌, ◌<◌, List, [], ◌∷◌, ◌++◌, length, map, get_or, drop, sym, ap, subst, ◌∙◌, arith}
-use Rattle.std.specs.Prelude.{Bool, slice_index}
-use Rattle.lex_semantics.specs.Text.{IsText}
+use Rattle.std.proofs.Common.{◌≡◌, ℕ, zero, suc, ◌+◌, ◌<◌, List, [], ◌∷◌, length, map, get_or, drop, sym, ap, ◌∙◌, arith}
+use Rattle.std.specs.Prelude.{Bool}
 use Rattle.lexspec_actions.specs.Views.{condition_of as condition_in}
 use Rattle.lexspec_actions.specs.declared.condition.Condition.{Condition}
 use Rattle.lexspec.specs.RuleViews.{rule_of as rule_in}
 use Rattle.lexspec.specs.declared.rule.Rule.{Rule}
-use Rattle.lextab_packed.specs.Checks.{Each}
 use Rattle.lextab_packing.specs.Assembled.{conditions_with}
 
 -- the condition at a place goes over to those that are done

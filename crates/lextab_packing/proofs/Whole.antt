@@ -3,7 +3,8 @@ use Rattle.std.specs.Prelude.{◌≡◌, ℕ, ◌<◌, List, length, slice_index
 use Rattle.std.proofs.Common.{sym, ap, subst, arith}
 use Rattle.lextab_packing.specs.Classes.{IsClassMap}
 use Rattle.lextab_packing.specs.Packing.{IsDefault, IsBase, IsSize, AreSlots, AreRows, by_class, IsPacked}
-use Rattle.lextab_packing.specs.Searching.{moves, by_head}
+use Rattle.lexauto_dfa.specs.Alike.{moves}
+use Rattle.lextab_packing.specs.Searching.{by_head}
 use Rattle.lextab_packing.proofs.Steps.{class_target}
 use Rattle.lextab_packing.proofs.Fills.{rows_to}
 

@@ -1,9 +1,6 @@
 -- Bytes that no state tells apart. (This project's.)
 use Rattle.std.specs.Prelude.{◌≡◌, ℕ, suc, ◌<◌, ◌==◌, cond, List, [], ◌∷◌, length, slice_index}
-
--- two bytes are alike where each of n states has the same target for both
-abbrev pub Alike : ℕ → (ℕ → ℕ → ℕ) → ℕ → ℕ → Type 0
-Alike n go b c = (s : ℕ) → s < n → go s b ≡ go s c
+use Rattle.lexauto_dfa.specs.Alike.{Alike}
 
 -- The class of each byte: alike bytes have one class, and the classes are numbered from 0 in order of their first byte.
 pub record IsClassMap (n : ℕ) (go : ℕ → ℕ → ℕ) (class_of : List ℕ) (count : ℕ) : Type 0 where

@@ -1,24 +1,8 @@
 -- What the steps of packing answer, over rows and words. (This project's.)
 use Rattle.std.specs.Prelude.{◌≡◌, ◌≢◌, ℕ, ◌+◌, ◌*◌, ◌/◌, ◌%◌, ◌<◌, ◌≤◌, ◌⊎◌, List, length, slice_index}
 use Rattle.std.specs.Int.{bit_at}
-use Rattle.lextab_packing.specs.Classes.{Alike}
+use Rattle.lexauto_dfa.specs.Alike.{moves}
 use Rattle.lextab_packing.specs.Packing.{IsBase, IsTaken}
-
--- l is the first byte that is alike with b
-pub record IsLead (n : ℕ) (go : ℕ → ℕ → ℕ) (b l : ℕ) : Type 0 where
-  pub at_most : l ≤ b
-  pub alike : Alike n go l b
-  pub least : (c : ℕ) → c < l → Alike n go c b → ⊥
-
-abbrev pub AreLeads : ℕ → (ℕ → ℕ → ℕ) → List ℕ → Type 0
-AreLeads n go lead = (b : ℕ) → b < 256 → IsLead n go b (slice_index lead b)
-
--- l is the first byte that has the lead and the target of b
-pub record IsSplit (leads row : List ℕ) (b l : ℕ) : Type 0 where
-  pub at_most : l ≤ b
-  pub lead : slice_index leads l ≡ slice_index leads b
-  pub target : slice_index row l ≡ slice_index row b
-  pub least : (c : ℕ) → c < l → slice_index leads c ≡ slice_index leads b → slice_index row c ≡ slice_index row b → ⊥
 
 -- those of the first n classes of a row whose target is not d
 pub record AreEntries (row : List ℕ) (d n : ℕ) (ks : List ℕ) : Type 0 where
@@ -46,10 +30,6 @@ pub record IsMarked (old ks : List ℕ) (b n : ℕ) (new : List ℕ) : Type 0 wh
   pub kept : (i : ℕ) → slot_bit old i ≡ 1 → slot_bit new i ≡ 1
   pub set : (j : ℕ) → j < n → slot_bit new (b + slice_index ks j) ≡ 1
   pub only : (i : ℕ) → slot_bit new i ≡ 1 → (slot_bit old i ≡ 1) ⊎ ((j : ℕ) × (j < n) × (b + slice_index ks j ≡ i))
-
--- the target of each state and byte, 256 to a state
-abbrev pub moves : List ℕ → ℕ → ℕ → ℕ
-moves next s b = slice_index next (256 * s + b)
 
 -- of as many classes as there are bytes each byte is the first of its own
 abbrev pub AreAllBytes : List ℕ → Type 0

@@ -1,7 +1,7 @@
 //! Packing.
 ghost use Rattle.std.specs.Prelude.{◌≡◌, ℕ, ◌*◌, ◌<◌, ◌≤◌, length, slice_index, IfOk};
 ghost use Rattle.lextab_packing.specs.Packing.{IsPacked};
-ghost use Rattle.lextab_packing.specs.Searching.{moves};
+ghost use Rattle.lexauto_dfa.specs.Alike.{moves};
 ghost use Rattle.lextab_packing.specs.Views.{packing_of};
 ghost use Rattle.lex_semantics.specs.Limits.{max_states};
 

@@ -8,5 +8,5 @@ returns c =
     let firsts = c.in_ok-firsts.firsts.items in
     let letters = c.loop-byte.letters.items in
     let end : c.loop-byte.byte ≡ 256 = search rules in
-    every_byte c.args.next.now firsts c.args.states letters c.in_ok-firsts.ensures
+    every_byte c.args.next.now firsts c.args.states letters c.in_ok-firsts.ensures.leads
     (subst (λ (m : ℕ). HaveLetters c.args.next.now firsts c.args.states letters m) end c.loop-byte.invariant)

@@ -1,4 +1,4 @@
-use Rattle.std.proofs.Common.{rules, ◌≡◌, ℕ, List, length, slice_index, arith, sym, refl, subst, set, get_or-set_same}
+use Rattle.std.proofs.Common.{rules, ◌≡◌, ℕ, List, length, slice_index, arith, sym, refl, subst, set}
 use Rattle.lexauto_minimise.specs.Numbers.{Numbering}
 use Rattle.lexauto_minimise.proofs.Numbered.{one_number_more, few_numbers}
 use Rattle.lexauto_minimise.proofs.numbering.call.Goals as goal

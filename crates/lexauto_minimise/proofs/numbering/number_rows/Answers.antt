@@ -1,4 +1,4 @@
-use Rattle.std.proofs.Common.{rules, ◌≡◌, ℕ, ◌<◌, ◌+◌, ◌-◌, ◌*◌, ◌/◌, length, arith}
+use Rattle.std.proofs.Common.{rules, ◌≡◌, ◌<◌, ◌+◌, ◌-◌, ◌*◌, ◌/◌, length, arith}
 use Rattle.lexauto_minimise.proofs.Numbered.{few_numbers}
 use Rattle.lexauto_minimise.proofs.numbering.number_rows.Goals as goal
 

@@ -1,6 +1,7 @@
 use Rattle.std.proofs.Common.{ℕ, List, subst, sym}
-use Rattle.lextab_packing.specs.Searching.{moves, AreLeads}
-use Rattle.lextab_packing.proofs.Leads.{lead_heads, class_map}
+use Rattle.lexauto_dfa.specs.Alike.{moves, AreLeads}
+use Rattle.lexauto_dfa.proofs.Leads.{lead_heads}
+use Rattle.lextab_packing.proofs.Leads.{class_map}
 use Rattle.lextab_packing.proofs.classes.classes_of.Goals as goal
 
 pub numbered-requires-clause-heads : goal.numbered-requires-clause-heads

@@ -11,7 +11,7 @@ use Rattle.lextab_packed.specs.Invariant.{GoesOn}
 use Rattle.lextab_packed.specs.declared.parts.TableParts.{TableParts}
 use Rattle.lextab_packing.specs.Assembled.{assembled, HasTexts}
 use Rattle.lextab_packing.specs.Packing.{Packing, IsPacked}
-use Rattle.lextab_packing.specs.Searching.{moves}
+use Rattle.lexauto_dfa.specs.Alike.{moves}
 use Rattle.lextab_packing.specs.Tables.{packing_in}
 use Rattle.lextab_packing.specs.Views.{packing_of}
 use Rattle.lextab_packing.proofs.Bounds.{class_count_low}

@@ -1,7 +1,7 @@
 use Rattle.std.proofs.Common.{rules, ◌<◌, ◌+◌, ◌*◌, ◌-◌, take, drop, arith}
-use Rattle.lextab_packing.specs.Searching.{moves}
-use Rattle.lextab_packing.proofs.Leads.{lead_heads, more_leads, still_alone, block_at}
-use Rattle.lextab_packing.proofs.classes.split_all.Goals as goal
+use Rattle.lexauto_dfa.specs.Alike.{moves}
+use Rattle.lexauto_dfa.proofs.Leads.{lead_heads, more_leads, still_alone, block_at}
+use Rattle.lexauto_dfa.proofs.alike.split_all.Goals as goal
 
 pub split-requires-clause-heads : goal.split-requires-clause-heads
 split-requires-clause-heads c = lead_heads c.loop-state.state (moves c.args.next.now) c.loop-state.lead c.loop-state.invariant

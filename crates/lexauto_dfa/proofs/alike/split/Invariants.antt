@@ -1,6 +1,6 @@
 use Rattle.std.proofs.Common.{◌≡◌, ℕ, ◌+◌, ◌<◌, ◌≤◌, slice_index}
-use Rattle.lextab_packing.specs.Searching.{IsSplit}
-use Rattle.lextab_packing.proofs.classes.split.Given as goal
+use Rattle.lexauto_dfa.specs.Alike.{IsSplit}
+use Rattle.lexauto_dfa.proofs.alike.split.Given as goal
 
 abbrev pub invariant-loop-i : goal.invariant-loop-i
 invariant-loop-i l = record {

@@ -1,5 +1,5 @@
-use Rattle.lextab_packing.specs.Searching.{AreLeads, moves}
-use Rattle.lextab_packing.proofs.classes.split_all.Given as goal
+use Rattle.lexauto_dfa.specs.Alike.{AreLeads, moves}
+use Rattle.lexauto_dfa.proofs.alike.split_all.Given as goal
 
 abbrev pub invariant-loop-state : goal.invariant-loop-state
 invariant-loop-state l = AreLeads l.state (moves l.next) l.lead
