@@ -6,14 +6,13 @@ use Rattle.lex_semantics.specs.Text.{Among}
 use Rattle.lex_semantics.specs.Spec as S
 use Rattle.lex_semantics.specs.Machine.{Machine}
 use Rattle.lex_semantics.specs.MachineLaws.{MachineLaws}
-use Rattle.lex_semantics.proofs.Once.{some_inj}
 use Rattle.lex_machine.specs.declared.action.Statement.{Statement as Item}
 use Rattle.lex_machine.specs.declared.glance.Gist.TheVariants as Gist
 use Rattle.lex_machine.specs.Views.{statement_of}
 use Rattle.lex_machine.specs.Glances.{FirstDoes, Gists, are_simple}
 use Rattle.lextab_packed.specs.declared.kinds.Kind.{Kind}
 use Rattle.lextab_packed.specs.declared.kinds.Kind.TheVariants.{Any, NoRule, Silent, Echo, Print, Begin, Several}
-use Rattle.lextab_packed.specs.Flats.{kind_doing, kind_keeping, kind_first, kind_of, stop_of, marked}
+use Rattle.lextab_packed.specs.Flats.{kind_doing, kind_keeping, kind_first, kind_of, marked}
 
 -- an element more
 slice_get_before : {A : Type 0} (xs : List A) (y : A) (s : ℕ) → s < length xs → slice_get (xs ++ y ∷ []) s ≡ slice_get xs s

@@ -1,4 +1,4 @@
-use Rattle.std.proofs.Common.{◌≡◌, [], ◌∷◌, map, sym, ap, ◌∙◌}
+use Rattle.std.proofs.Common.{[], ◌∷◌, map, sym, ap, ◌∙◌}
 use Rattle.lex_semantics.specs.Spec as S
 use Rattle.lex_semantics.specs.Machine.{Machine}
 use Rattle.lex_machine.specs.Views.{statement_of}

@@ -1,4 +1,4 @@
-use Rattle.std.proofs.Common.{◌≡◌, ℕ, ◌≤◌, ◌<◌, Bool, true, false, refl, arith, subst, sym, ◌∙◌}
+use Rattle.std.proofs.Common.{◌≡◌, ℕ, ◌≤◌, Bool, true, false, refl, arith}
 use Rattle.lex_semantics.specs.Text.{flag}
 use Rattle.lextab_packed.specs.Flats.{marked, kind_of}
 use Rattle.lextab_packed.specs.Machines.{machine_of}

@@ -1,4 +1,4 @@
-use Rattle.std.proofs.Common.{◌≡◌, ℕ, ◌+◌, ◌-◌, ◌*◌, ◌/◌, ◌≤◌, ◌<◌, true, false, List, length, take, get_or, sym, ap, subst, ◌∙◌, arith}
+use Rattle.std.proofs.Common.{◌≡◌, ℕ, ◌+◌, ◌-◌, ◌/◌, ◌<◌, length, take, get_or, sym, ap, subst, ◌∙◌, arith}
 use Rattle.std.proofs.Math.Nat.{mul-div_cancel_left}
 use Rattle.lex_semantics.specs.Text.{flag}
 use Rattle.lex_semantics.specs.Machine.{Machine, walk}
@@ -7,8 +7,7 @@ use Rattle.lex_machine.specs.Glances.{Gists}
 use Rattle.lextab_packed.specs.Flats.{marked, kind_of}
 use Rattle.lextab_packed.specs.Steps.{step_of}
 use Rattle.lextab_packed.specs.Views.{table_of}
-use Rattle.lextab_packed.specs.Machines.{machine_of, states_of}
-use Rattle.lextab_packed.proofs.Ways.{Asked}
+use Rattle.lextab_packed.specs.Machines.{machine_of}
 use Rattle.lextab_packed.proofs.Marks as Mark
 use Rattle.lextab_packed.proofs.flat.FlatMachine.way.Goals as goal
 

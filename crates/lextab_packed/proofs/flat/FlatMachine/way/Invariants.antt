@@ -1,4 +1,4 @@
-use Rattle.std.proofs.Common.{length, take, ◌-◌, ◌*◌, ◌≡◌, ◌<◌, ◌≤◌, ℕ, true}
+use Rattle.std.proofs.Common.{length, take, ◌-◌, ◌*◌, ◌≡◌, ◌<◌, ◌≤◌}
 use Rattle.lex_semantics.specs.Machine.{walk}
 use Rattle.lextab_packed.specs.Machines.{machine_of, states_of}
 use Rattle.lextab_packed.proofs.Ways.{Asked}
