@@ -1,0 +1,118 @@
+/* Runs a specification over an input by liblex, and compares with what is stored.
+
+   test FILE.l FILE.input FILE.output STATUS */
+#include "lex.h"
+
+#include <stdio.h>
+#include <stdlib.h>
+#include <string.h>
+
+struct bytes {
+    uint8_t *at;
+    size_t len;
+};
+
+static struct bytes read_file(const char *name)
+{
+    struct bytes file = {NULL, 0};
+    size_t room = 1 << 16, got;
+    FILE *stream = fopen(name, "rb");
+    if (stream == NULL) {
+        perror(name);
+        exit(2);
+    }
+    file.at = malloc(room);
+    while (file.at != NULL && (got = fread(file.at + file.len, 1, room - file.len, stream)) > 0) {
+        file.len += got;
+        if (file.len == room)
+            file.at = realloc(file.at, room *= 2);
+    }
+    fclose(stream);
+    if (file.at == NULL)
+        exit(2);
+    return file;
+}
+
+static int same(struct bytes a, const uint8_t *at, size_t len)
+{
+    return a.len == len && memcmp(a.at, at, len) == 0;
+}
+
+static int fail(const char *what, int answer)
+{
+    fprintf(stderr, "%s: %d\n", what, answer);
+    return 1;
+}
+
+/* The table file, by a first call that tells how large it is. */
+static int make(struct bytes text, struct bytes *table)
+{
+    struct lex_fault fault;
+    uint8_t none[1];
+    int answer = lex_generate(text.at, text.len, 0, none, 1, &table->len, &fault);
+    if (answer != LEX_TOO_SMALL)
+        return answer;
+    table->at = malloc(table->len);
+    if (table->at == NULL)
+        exit(2);
+    return lex_generate(text.at, text.len, 0, table->at, table->len, &table->len, &fault);
+}
+
+/* The whole input at once. */
+static int scan(struct bytes table, struct bytes input, struct bytes wanted, int status)
+{
+    size_t count, room = wanted.len + 1;
+    uint8_t ended, *out = malloc(room);
+    int answer;
+    if (out == NULL)
+        exit(2);
+    answer = lex_scan_table(table.at, table.len, input.at, input.len, out, room, &count, &ended);
+    if (answer != LEX_OK || ended != status || !same(wanted, out, count))
+        return fail("whole input", answer);
+    if (wanted.len > 0) {
+        answer = lex_scan_table(table.at, table.len, input.at, input.len, out, wanted.len - 1, &count, &ended);
+        if (answer != LEX_TOO_SMALL || count != wanted.len || memcmp(out, wanted.at, wanted.len - 1) != 0)
+            return fail("buffer too small", answer);
+    }
+    free(out);
+    return 0;
+}
+
+/* Refusals, each by its number. */
+static int refusals(void)
+{
+    static const char text[] = "%%\na(b ECHO;\n", line[] = "lex: line 2: UnbalancedParen at 1\n";
+    struct lex_fault fault;
+    uint8_t out[64], status;
+    size_t count;
+    int answer = lex_generate((const uint8_t *)text, strlen(text), 0, out, sizeof out, &count, &fault);
+    if (answer != LEX_REFUSED || fault.line != 2 || fault.kind != LEX_KIND_UNBALANCED_PAREN || fault.place != 1)
+        return fail("refused text", answer);
+    if (count != strlen(line) || memcmp(out, line, count) != 0)
+        return fail("line of a refusal", answer);
+    answer = lex_scan_table((const uint8_t *)text, strlen(text), out, 1, out + 8, 8, &count, &status);
+    return answer == LEX_REFUSED && count == 0 && status == 0 ? 0 : fail("refused table", answer);
+}
+
+int main(int argc, char **argv)
+{
+    struct bytes text, input, wanted, table = {NULL, 0};
+    int answer, status;
+    if (argc != 5)
+        return 2;
+    text = read_file(argv[1]);
+    input = read_file(argv[2]);
+    wanted = read_file(argv[3]);
+    status = atoi(argv[4]);
+    answer = make(text, &table);
+    if (answer == LEX_OUT_OF_MEMORY)
+        return LEX_OUT_OF_MEMORY;
+    if (answer != LEX_OK)
+        return fail(argv[1], answer);
+    answer = scan(table, input, wanted, status) || refusals();
+    free(text.at);
+    free(input.at);
+    free(wanted.at);
+    free(table.at);
+    return answer;
+}

@@ -1,0 +1,124 @@
+/* lex.h: scanners made of specifications, and run, by a program in C.
+
+   liblex.a has all that is declared here. Link it alone: it takes memory by malloc, realloc and free of the C library, and
+   needs nothing else. docs/C.md has an example.
+
+   A specification is the text of a lex file (docs/MANUAL.md). Its table file is what a scan is made of. Both are bytes, and none
+   is kept after a call.
+
+   What holds for each call:
+
+   - A pointer and the length after it are the bytes of one buffer. They may be read, and those of `out` written, for the whole
+     call. Where the length is 0 the pointer must still not be null.
+   - No other pointer of the call leads to what `out`, `count`, `fault` or `status` points to: buffers that are written do not
+     overlap another.
+   - Nothing is global, so calls in several threads do not meet, as long as none writes what another uses.
+   - No call is made from a signal handler, or in the child of a fork of a process with threads.
+   - No call ends the process. Memory that is refused is told by LEX_OUT_OF_MEMORY.
+
+   All this is up to the caller, and is not checked. What the calls do where it holds is proved (docs/PROVED.md). */
+#ifndef LEX_H
+#define LEX_H
+
+#include <stddef.h>
+#include <stdint.h>
+
+#ifdef __cplusplus
+extern "C" {
+#endif
+
+/* What a call answers. From 65 on the numbers are statuses of the program lex. */
+enum lex_answer {
+    LEX_OK = 0,              /* all is done */
+    LEX_TOO_SMALL = 1,       /* the buffer has no room for all the bytes; *count says how many there are */
+    LEX_REFUSED = 65,        /* the text is no specification, its automaton is too large, or the bytes are no table file */
+    LEX_STACK = 70,          /* the rules push more than 255 conditions, or pop where there is none: the scan ends so */
+    LEX_OUT_OF_MEMORY = 71,  /* a request for memory was refused */
+    LEX_TOO_MANY_READS = 74  /* the scan would read more than 2^40 bytes */
+};
+
+/* How a specification is read: none of these, or some of them added. Other bits count for nothing. */
+enum lex_flags {
+    LEX_FOLD = 1,  /* letters of patterns stand for both cases, as with the program's --fold */
+    LEX_POSIX = 2  /* an interval applies to the whole series to its left, as with the program's --posix */
+};
+
+/* Why a specification is refused. The names are those of docs/MANUAL.md. */
+enum lex_kind {
+    LEX_KIND_NO_RULES_SECTION = 1,
+    LEX_KIND_BAD_DEFINITION_LINE = 2,
+    LEX_KIND_DUPLICATE_NAME = 3,
+    LEX_KIND_DUPLICATE_CONDITION = 4,
+    LEX_KIND_UNKNOWN_CONDITION = 5,
+    LEX_KIND_VARIABLE_TRAILING = 6,
+    LEX_KIND_TWO_TRAILING = 7,
+    LEX_KIND_ANCHORED_DEFINITION = 8,
+    LEX_KIND_BAD_EOF_RULE = 9,
+    LEX_KIND_DUPLICATE_EOF = 10,
+    LEX_KIND_UNKNOWN_STATEMENT = 11,
+    LEX_KIND_LESS_AND_MORE = 12,
+    LEX_KIND_REJECT_COMBINATION = 13,
+    LEX_KIND_NOT_LAST = 14,
+    LEX_KIND_BAD_EOF_ACTION = 15,
+    LEX_KIND_BAD_COUNT = 16,
+    LEX_KIND_BAD_STATUS = 17,
+    LEX_KIND_UNCLOSED = 18,
+    LEX_KIND_DANGLING_BAR = 19,
+    LEX_KIND_UNSUPPORTED_OPTION = 20,
+    LEX_KIND_TOO_MANY_RULES = 21,
+    LEX_KIND_TOO_MANY_CONDITIONS = 22,
+    LEX_KIND_TOO_LONG = 23,
+    LEX_KIND_UNCLOSED_QUOTE = 101,
+    LEX_KIND_UNCLOSED_CLASS = 102,
+    LEX_KIND_BAD_RANGE = 103,
+    LEX_KIND_EMPTY_CLASS = 104,
+    LEX_KIND_UNKNOWN_CLASS_NAME = 105,
+    LEX_KIND_UNSUPPORTED_BRACKET = 106,
+    LEX_KIND_BAD_ESCAPE = 107,
+    LEX_KIND_BAD_INTERVAL = 108,
+    LEX_KIND_UNBALANCED_PAREN = 109,
+    LEX_KIND_MISSING_OPERAND = 110,
+    LEX_KIND_UNDEFINED_NAME = 111,
+    LEX_KIND_DEFINITION_CYCLE = 112,
+    LEX_KIND_TOO_DEEP = 113,
+    LEX_KIND_TOO_BIG = 114,
+    LEX_KIND_MISPLACED_SLASH = 115,
+    LEX_KIND_TOO_MANY_POSITIONS = 201,
+    LEX_KIND_TOO_MANY_STATES = 202
+};
+
+/* Where and why a specification is refused. All are 0 where nothing is refused. */
+struct lex_fault {
+    uint32_t line;  /* the line, from 1; 0 where it is the whole file or its automaton */
+    uint32_t kind;  /* one of enum lex_kind */
+    size_t place;   /* for a kind from 101 to 199 the place in the rule's pattern, from 0 */
+};
+
+/* Makes the table file of the specification in `text`, by the flags of enum lex_flags, into `out`. *count is how many bytes it has.
+
+   LEX_OK: out[0] to out[*count - 1] are the file. It is the same for each text with the same rules.
+   LEX_TOO_SMALL: `out` has the first out_len bytes of it. Call again with *count bytes of room.
+   LEX_REFUSED: *fault says why. `out` has the line that the program lex writes of it, with its newline, as "lex: line 2:
+   BadDefinitionLine\n", of *count bytes; of a longer one the first out_len bytes.
+   LEX_OUT_OF_MEMORY: *count is 0, and `out` is as it was.
+
+   What stands in `out` after these bytes is as it was. */
+int32_t lex_generate(const uint8_t *text, size_t text_len, uint32_t flags, uint8_t *out, size_t out_len, size_t *count,
+                     struct lex_fault *fault);
+
+/* Scans all of `input` by a table file, and puts what its rules write into `out`. *count is how many bytes these are.
+
+   LEX_OK: out[0] to out[*count - 1] are what the rules write for this input, and *status is what they end with, 0 to 63.
+   LEX_TOO_SMALL: `out` has the first out_len bytes of it, and *status is set. Call again with *count bytes of room.
+   LEX_STACK: `out` has what the rules write up to the fault of the stack, as much as there is room for.
+   LEX_REFUSED, LEX_OUT_OF_MEMORY, LEX_TOO_MANY_READS: *count is 0, and `out` is as it was.
+
+   *status is 0 but after LEX_OK and LEX_TOO_SMALL. */
+int32_t lex_scan_table(const uint8_t *file, size_t file_len, const uint8_t *input, size_t input_len, uint8_t *out,
+                       size_t out_len, size_t *count, uint8_t *status);
+
+#ifdef __cplusplus
+}
+#endif
+
+#endif
