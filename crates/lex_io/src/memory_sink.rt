@@ -1,5 +1,5 @@
 //! A sink over memory that fails once, at a stated place, for tests.
-ghost use Rattle.std.specs.Prelude.{◌≡◌, ℕ, ◌+◌, ◌-◌, ◌^◌, ◌<◌, ◌≤◌, true, false, List, [], ◌++◌, length, None, Some, OnOk, ◌↔◌};
+ghost use Rattle.std.specs.Prelude.{◌≡◌, ℕ, ◌+◌, ◌-◌, ◌^◌, ◌<◌, ◌≤◌, Bool, true, false, List, [], ◌++◌, length, None, Some, OnOk, ◌↔◌};
 ghost use Rattle.std.specs.Result.{IsErr};
 ghost use Rattle.lex_io.specs.Sink.{Appended, fault_count};
 ghost use Rattle.lex_io.specs.Growing.{Grows, Grows-nil, Grows-trans};
@@ -16,10 +16,11 @@ pub struct MemorySink {
     room: Option<usize>,
     flush_fails: bool,
     failures: u64,
+    flushed: bool,
 }
 
 impl MemorySink {
-    ghost use Rattle.lex_io.specs.MemorySinks.{written_of, room_of, flush_fails, fitting};
+    ghost use Rattle.lex_io.specs.MemorySinks.{written_of, room_of, flush_fails, is_flushed, fitting};
 
     /// Fails only where memory runs out.
     pub fn new(alloc: Global) -> MemorySink
@@ -33,6 +34,7 @@ impl MemorySink {
             room: None,
             flush_fails: false,
             failures: 0,
+            flushed: false,
         }
     }
 
@@ -48,6 +50,7 @@ impl MemorySink {
             room: Some(count),
             flush_fails: false,
             failures: 0,
+            flushed: false,
         }
     }
 
@@ -63,6 +66,7 @@ impl MemorySink {
             room: None,
             flush_fails: true,
             failures: 0,
+            flushed: false,
         }
     }
 
@@ -82,14 +86,23 @@ impl MemorySink {
     {
         self.written.as_slice()
     }
+
+    /// Whether a flush was answered since the last `put`, or since the sink was made.
+    pub fn is_flushed(&self) -> bool
+        ensures { result ≡ is_flushed self.now }
+    {
+        self.flushed
+    }
 }
 
 impl Sink for MemorySink {
-    ghost use Rattle.lex_io.specs.MemorySinks.{room_of, flush_fails, left};
+    ghost use Rattle.lex_io.specs.MemorySinks.{room_of, flush_fails, is_flushed, left};
 
     ghost wrote = { λ s xs t. Grows s.written.items t.written.items xs };
 
     ghost failures = { λ s. s.failures };
+
+    ghost flushed = { λ s. s.flushed };
 
     /// Fails where the bytes pass the room that is left, or where memory runs out.
     fn put(&mut self, bytes: &[u8]) -> Result<(), WriteFault>
@@ -98,7 +111,9 @@ impl Sink for MemorySink {
         ensures failures { self.new.failures ≡ self.old.failures + fault_count result }
         ensures full { OnOk result ((room : ℕ) → room_of self.old ≡ Some room → length bytes.now ≤ room) }
         ensures room { OnOk result (room_of self.new ≡ left (room_of self.old) (length bytes.now)) }
+        ensures unflushed { is_flushed self.new ≡ false }
     {
+        self.flushed = false;
         let count = self.room_for(bytes.len());
         if self.written.extend_from_slice(&bytes[..count]).is_err() {
             self.failures += 1;
@@ -120,8 +135,10 @@ impl Sink for MemorySink {
         ensures failures { self.new.failures ≡ self.old.failures + fault_count result }
         ensures fails { IsErr result ↔ flush_fails self.old ≡ true }
         ensures once { flush_fails self.new ≡ false }
+        ensures flushed { OnOk result (self.new.flushed ≡ true) }
     {
         if !self.flush_fails {
+            self.flushed = true;
             return Ok(());
         }
         self.flush_fails = false;
@@ -156,7 +173,9 @@ mod tests {
         assert_eq!(rt; full.written(), b"abce".as_slice());
         let mut unflushed = MemorySink::failing_flush(rt.alloc());
         assert!(rt; !flushes(&mut unflushed));
+        assert!(rt; !unflushed.is_flushed());
         assert!(rt; flushes(&mut unflushed));
+        assert!(rt; unflushed.is_flushed());
         let mut whole = MemorySink::new(rt.alloc());
         assert!(rt; takes(&mut whole, b"ab"));
         assert!(rt; flushes(&mut whole));
