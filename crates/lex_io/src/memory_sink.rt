@@ -6,6 +6,7 @@ ghost use Rattle.lex_io.specs.Growing.{Grows, Grows-nil, Grows-trans};
 
 use crate::sink::{Sink, WriteFault};
 use std::alloc::Global;
+use std::mem;
 
 /// Keeps the bytes that it is given.
 ///
@@ -92,6 +93,26 @@ impl MemorySink {
         ensures { result ≡ is_flushed self.now }
     {
         self.flushed
+    }
+
+    /// All that was appended so far, without a copy.
+    pub fn into_bytes(self) -> Vec<u8>
+        ensures { result.items ≡ written_of self }
+    {
+        let MemorySink { written, .. } = self;
+        written
+    }
+
+    /// All that was appended so far, without a copy. The sink goes on with none, and fails as before.
+    pub fn take_bytes(&mut self, alloc: Global) -> Vec<u8>
+        ensures bytes { result.items ≡ written_of self.old }
+        ensures empty { written_of self.new ≡ [] }
+        ensures room { room_of self.new ≡ room_of self.old }
+        ensures flush { flush_fails self.new ≡ flush_fails self.old }
+        ensures flushed { is_flushed self.new ≡ is_flushed self.old }
+        ensures failures { ⟦<MemorySink as Sink>⟧.failures self.new ≡ ⟦<MemorySink as Sink>⟧.failures self.old }
+    {
+        mem::replace(&mut self.written, Vec::new(alloc))
     }
 }
 
@@ -180,5 +201,8 @@ mod tests {
         assert!(rt; takes(&mut whole, b"ab"));
         assert!(rt; flushes(&mut whole));
         assert_eq!(rt; whole.written(), b"ab".as_slice());
+        assert_eq!(rt; whole.take_bytes(rt.alloc()).as_slice(), b"ab".as_slice());
+        assert!(rt; takes(&mut whole, b"c"));
+        assert_eq!(rt; whole.into_bytes().as_slice(), b"c".as_slice());
     }
 }

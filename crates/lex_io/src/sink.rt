@@ -43,7 +43,7 @@ pub trait Sink {
 
 /// Calls `write` until all is written: an error or a count of 0 is a fault.
 #[inline]
-pub fn write_whole<W: Write>(writer: &mut W, bytes: &[u8]) -> Result<(), WriteFault>
+pub(crate) fn write_whole<W: Write>(writer: &mut W, bytes: &[u8]) -> Result<(), WriteFault>
     ensures { Appended (λ xs. Appends (W.contents writer.old) (W.contents writer.new) xs) bytes.now result }
 {
     let mut rest = bytes;
