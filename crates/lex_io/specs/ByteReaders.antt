@@ -17,8 +17,8 @@ bytes_ahead r = drop r.start r.buffer.items
 abbrev pub is_none : List ℕ → Bool
 is_none bytes = nat_eq (length bytes) 0
 
-pub is_none_nil : (bytes : List ℕ) → is_none bytes ≡ true → bytes ≡ []
-is_none_nil bytes e = nil_from_length bytes (eqb-true (length bytes) 0 e)
+pub is_none-nil : (bytes : List ℕ) → is_none bytes ≡ true → bytes ≡ []
+is_none-nil bytes e = nil_from_length bytes (eqb-true (length bytes) 0 e)
 
 -- the bytes ahead and then those that are left in the reader behind, where they are known
 abbrev pub bytes_left : {R : Type 0} → (R → Option (List ℕ)) → ByteReader R → Option (List ℕ)

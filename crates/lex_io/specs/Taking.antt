@@ -10,8 +10,8 @@ pub Takes-trans : (a b c : List ℕ) (xs ys : List ℕ) → Takes a b xs → Tak
 Takes-trans a b c xs ys p q = p ∙ ap (λ l. xs ++ l) q ∙ sym (append_assoc xs ys c)
 
 -- a source that never waits may have bytes ready
-pub never_waits : (ready : List ℕ) → false ≡ true → ready ≡ []
-never_waits ready e = absurd (no e)
+pub never-waits : (ready : List ℕ) → false ≡ true → ready ≡ []
+never-waits ready e = absurd (no e)
   where
     no : false ≡ true → ⊥
     no p = cc

@@ -1,6 +1,6 @@
 //! A source over a reader with a buffer, which shows the bytes ahead.
 ghost use Rattle.std.specs.Prelude.{◌≡◌, ℕ, ◌+◌, ◌-◌, ◌^◌, ◌<◌, ◌≤◌, Bool, true, List, [], ◌++◌, length, take};
-ghost use Rattle.lex_io.specs.ByteReaders.{bytes_ahead, bytes_left, is_none, is_none_nil};
+ghost use Rattle.lex_io.specs.ByteReaders.{bytes_ahead, bytes_left, is_none, is_none-nil};
 ghost use Rattle.lex_io.specs.Source.{given, end_count, Gives};
 ghost use Rattle.lex_io.specs.Sink.{fault_count};
 ghost use Rattle.lex_io.specs.SourceLaws.{Gives-nil, Gives-trans};
@@ -81,7 +81,7 @@ impl<R: Read> Source for FromBytes<R> {
 
     ghost gave_more = { λ s t u xs ys p q. Gives-trans (bytes_left R.remaining s.reader) (bytes_left R.remaining t.reader) (bytes_left R.remaining u.reader) s.ends t.ends u.ends xs ys p q };
 
-    ghost none_ready = { λ s. is_none_nil (bytes_ahead s.reader) };
+    ghost none_ready = { λ s. is_none-nil (bytes_ahead s.reader) };
 }
 
 #[cfg(test)]

@@ -2,7 +2,7 @@
 ghost use Rattle.std.specs.Prelude.{◌≡◌, refl, ℕ, ◌+◌, ◌-◌, ◌^◌, ◌<◌, ◌≤◌, min, Bool, true, false, List, [], ◌++◌, length, take, None, Some, ◌⊎◌, ◌↔◌};
 ghost use Rattle.lex_io.specs.Sink.{fault_count};
 ghost use Rattle.lex_io.specs.Source.{given, end_count};
-ghost use Rattle.lex_io.specs.Taking.{Takes, Takes-trans, never_waits};
+ghost use Rattle.lex_io.specs.Taking.{Takes, Takes-trans, never-waits};
 
 use crate::source::{ReadFault, Source};
 
@@ -179,7 +179,7 @@ impl Source for MemorySource<'_> {
 
     ghost gave_more = { λ s t u xs ys p q. Takes-trans s.rest.now t.rest.now u.rest.now xs ys p q };
 
-    ghost none_ready = { λ s. never_waits (shown_of s) };
+    ghost none_ready = { λ s. never-waits (shown_of s) };
 }
 
 #[cfg(test)]

@@ -2,7 +2,7 @@
 ghost use Rattle.std.specs.Prelude.{◌≡◌, refl, ℕ, ◌+◌, ◌-◌, ◌^◌, ◌<◌, ◌≤◌, Bool, List, [], ◌++◌, length, take, true, false};
 ghost use Rattle.lex_io.specs.Sink.{Appended, fault_count};
 ghost use Rattle.lex_io.specs.Source.{given, end_count};
-ghost use Rattle.lex_io.specs.Taking.{never_waits};
+ghost use Rattle.lex_io.specs.Taking.{never-waits};
 ghost use Rattle.liblex_calls.specs.Ends.{Kept, Kept-nil, Kept-trans, Gave, Gave-nil, Gave-trans};
 
 use lexkit::{ReadFault, Sink, Source, WriteFault};
@@ -74,7 +74,7 @@ impl Source for Slice<'_> {
 
     ghost gave_more = { λ s t u xs ys p q. Gave-trans s.rest.now t.rest.now u.rest.now s.ends t.ends u.ends s.failures t.failures u.failures xs ys p q };
 
-    ghost none_ready = { λ s. never_waits s.rest.now };
+    ghost none_ready = { λ s. never-waits s.rest.now };
 }
 
 /// Keeps what it is given. It fails only where memory is refused.
