@@ -14,6 +14,10 @@ room_of sink = sink.room
 abbrev pub flush_fails : MemorySink → Bool
 flush_fails sink = sink.flush_fails
 
+-- a flush was answered since the last `put`
+abbrev pub is_flushed : MemorySink → Bool
+is_flushed sink = sink.flushed
+
 -- how many of n bytes the room takes
 abbrev pub fitting : Option ℕ → ℕ → ℕ
 fitting None n = n

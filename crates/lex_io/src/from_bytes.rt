@@ -1,6 +1,6 @@
 //! A source over a reader with a buffer, which shows the bytes ahead.
-ghost use Rattle.std.specs.Prelude.{◌≡◌, ℕ, ◌+◌, ◌-◌, ◌^◌, ◌<◌, ◌≤◌, List, [], ◌++◌, length, take};
-ghost use Rattle.lex_io.specs.ByteReaders.{bytes_ahead, bytes_left};
+ghost use Rattle.std.specs.Prelude.{◌≡◌, ℕ, ◌+◌, ◌-◌, ◌^◌, ◌<◌, ◌≤◌, Bool, true, List, [], ◌++◌, length, take};
+ghost use Rattle.lex_io.specs.ByteReaders.{bytes_ahead, bytes_left, is_none, is_none-nil};
 ghost use Rattle.lex_io.specs.Source.{given, end_count, Gives};
 ghost use Rattle.lex_io.specs.Sink.{fault_count};
 ghost use Rattle.lex_io.specs.SourceLaws.{Gives-nil, Gives-trans};
@@ -43,6 +43,8 @@ impl<R: Read> Source for FromBytes<R> {
 
     ghost ready = { λ s. bytes_ahead s.reader };
 
+    ghost waits = { λ s. is_none (bytes_ahead s.reader) };
+
     #[inline(always)]
     fn next(&mut self) -> Result<Option<u8>, ReadFault> {
         let mut one = [0u8; 1];
@@ -69,9 +71,17 @@ impl<R: Read> Source for FromBytes<R> {
         self.reader.skip(count);
     }
 
+    /// Where no byte is ahead, the reader is asked.
+    #[inline(always)]
+    fn may_wait(&self) -> bool {
+        self.reader.ahead().is_empty()
+    }
+
     ghost gave_none = { λ s. Gives-nil (bytes_left R.remaining s.reader) s.ends };
 
     ghost gave_more = { λ s t u xs ys p q. Gives-trans (bytes_left R.remaining s.reader) (bytes_left R.remaining t.reader) (bytes_left R.remaining u.reader) s.ends t.ends u.ends xs ys p q };
+
+    ghost none_ready = { λ s. is_none-nil (bytes_ahead s.reader) };
 }
 
 #[cfg(test)]
@@ -92,6 +102,18 @@ mod tests {
         assert!(rt; source.ahead() == b"de".as_slice());
         assert!(rt; source.next() == Ok(Some(b'd')));
         assert!(rt; source.ahead() == b"e".as_slice());
+        Ok(())
+    }
+
+    /// It may wait only where the reader is asked.
+    #[test]
+    fn waits_where_no_byte_is_ahead(rt: HostRuntime) -> Result<(), Fail> {
+        let mut source = FromBytes::new(ByteReader::new(rt.alloc(), b"ab".as_slice())?);
+        assert!(rt; source.may_wait());
+        assert!(rt; source.next() == Ok(Some(b'a')));
+        assert!(rt; !source.may_wait());
+        assert!(rt; source.next() == Ok(Some(b'b')));
+        assert!(rt; source.may_wait());
         Ok(())
     }
 }

@@ -9,6 +9,7 @@ mod memory_sink;
 mod memory_source;
 mod sink;
 mod source;
+mod to_bytes;
 
 pub use byte_reader::ByteReader;
 pub use byte_writer::ByteWriter;
@@ -17,3 +18,4 @@ pub use memory_sink::MemorySink;
 pub use memory_source::MemorySource;
 pub use sink::{Sink, ToWrite, WriteFault};
 pub use source::{FromRead, ReadFault, Source};
+pub use to_bytes::ToBytes;

@@ -1,11 +1,12 @@
 //! A sink over memory that fails once, at a stated place, for tests.
-ghost use Rattle.std.specs.Prelude.{◌≡◌, ℕ, ◌+◌, ◌-◌, ◌^◌, ◌<◌, ◌≤◌, true, false, List, [], ◌++◌, length, None, Some, OnOk, ◌↔◌};
+ghost use Rattle.std.specs.Prelude.{◌≡◌, ℕ, ◌+◌, ◌-◌, ◌^◌, ◌<◌, ◌≤◌, Bool, true, false, List, [], ◌++◌, length, None, Some, OnOk, ◌↔◌};
 ghost use Rattle.std.specs.Result.{IsErr};
 ghost use Rattle.lex_io.specs.Sink.{Appended, fault_count};
 ghost use Rattle.lex_io.specs.Growing.{Grows, Grows-nil, Grows-trans};
 
 use crate::sink::{Sink, WriteFault};
 use std::alloc::Global;
+use std::mem;
 
 /// Keeps the bytes that it is given.
 ///
@@ -16,10 +17,11 @@ pub struct MemorySink {
     room: Option<usize>,
     flush_fails: bool,
     failures: u64,
+    flushed: bool,
 }
 
 impl MemorySink {
-    ghost use Rattle.lex_io.specs.MemorySinks.{written_of, room_of, flush_fails, fitting};
+    ghost use Rattle.lex_io.specs.MemorySinks.{written_of, room_of, flush_fails, is_flushed, fitting};
 
     /// Fails only where memory runs out.
     pub fn new(alloc: Global) -> MemorySink
@@ -33,6 +35,7 @@ impl MemorySink {
             room: None,
             flush_fails: false,
             failures: 0,
+            flushed: false,
         }
     }
 
@@ -48,6 +51,7 @@ impl MemorySink {
             room: Some(count),
             flush_fails: false,
             failures: 0,
+            flushed: false,
         }
     }
 
@@ -63,6 +67,7 @@ impl MemorySink {
             room: None,
             flush_fails: true,
             failures: 0,
+            flushed: false,
         }
     }
 
@@ -82,14 +87,43 @@ impl MemorySink {
     {
         self.written.as_slice()
     }
+
+    /// Whether a flush was answered since the last `put`, or since the sink was made.
+    pub fn is_flushed(&self) -> bool
+        ensures { result ≡ is_flushed self.now }
+    {
+        self.flushed
+    }
+
+    /// All that was appended so far, without a copy.
+    pub fn into_bytes(self) -> Vec<u8>
+        ensures { result.items ≡ written_of self }
+    {
+        let MemorySink { written, .. } = self;
+        written
+    }
+
+    /// All that was appended so far, without a copy. The sink goes on with none, and fails as before.
+    pub fn take_bytes(&mut self, alloc: Global) -> Vec<u8>
+        ensures bytes { result.items ≡ written_of self.old }
+        ensures empty { written_of self.new ≡ [] }
+        ensures room { room_of self.new ≡ room_of self.old }
+        ensures flush { flush_fails self.new ≡ flush_fails self.old }
+        ensures flushed { is_flushed self.new ≡ is_flushed self.old }
+        ensures failures { ⟦<MemorySink as Sink>⟧.failures self.new ≡ ⟦<MemorySink as Sink>⟧.failures self.old }
+    {
+        mem::replace(&mut self.written, Vec::new(alloc))
+    }
 }
 
 impl Sink for MemorySink {
-    ghost use Rattle.lex_io.specs.MemorySinks.{room_of, flush_fails, left};
+    ghost use Rattle.lex_io.specs.MemorySinks.{room_of, flush_fails, is_flushed, left};
 
     ghost wrote = { λ s xs t. Grows s.written.items t.written.items xs };
 
     ghost failures = { λ s. s.failures };
+
+    ghost flushed = { λ s. s.flushed };
 
     /// Fails where the bytes pass the room that is left, or where memory runs out.
     fn put(&mut self, bytes: &[u8]) -> Result<(), WriteFault>
@@ -98,7 +132,9 @@ impl Sink for MemorySink {
         ensures failures { self.new.failures ≡ self.old.failures + fault_count result }
         ensures full { OnOk result ((room : ℕ) → room_of self.old ≡ Some room → length bytes.now ≤ room) }
         ensures room { OnOk result (room_of self.new ≡ left (room_of self.old) (length bytes.now)) }
+        ensures unflushed { is_flushed self.new ≡ false }
     {
+        self.flushed = false;
         let count = self.room_for(bytes.len());
         if self.written.extend_from_slice(&bytes[..count]).is_err() {
             self.failures += 1;
@@ -120,8 +156,10 @@ impl Sink for MemorySink {
         ensures failures { self.new.failures ≡ self.old.failures + fault_count result }
         ensures fails { IsErr result ↔ flush_fails self.old ≡ true }
         ensures once { flush_fails self.new ≡ false }
+        ensures flushed { OnOk result (self.new.flushed ≡ true) }
     {
         if !self.flush_fails {
+            self.flushed = true;
             return Ok(());
         }
         self.flush_fails = false;
@@ -156,10 +194,15 @@ mod tests {
         assert_eq!(rt; full.written(), b"abce".as_slice());
         let mut unflushed = MemorySink::failing_flush(rt.alloc());
         assert!(rt; !flushes(&mut unflushed));
+        assert!(rt; !unflushed.is_flushed());
         assert!(rt; flushes(&mut unflushed));
+        assert!(rt; unflushed.is_flushed());
         let mut whole = MemorySink::new(rt.alloc());
         assert!(rt; takes(&mut whole, b"ab"));
         assert!(rt; flushes(&mut whole));
         assert_eq!(rt; whole.written(), b"ab".as_slice());
+        assert_eq!(rt; whole.take_bytes(rt.alloc()).as_slice(), b"ab".as_slice());
+        assert!(rt; takes(&mut whole, b"c"));
+        assert_eq!(rt; whole.into_bytes().as_slice(), b"c".as_slice());
     }
 }

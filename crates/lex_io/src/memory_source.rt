@@ -1,8 +1,8 @@
 //! A source over memory that pauses once, at a stated place, for tests.
-ghost use Rattle.std.specs.Prelude.{◌≡◌, refl, ℕ, ◌+◌, ◌-◌, ◌^◌, ◌<◌, ◌≤◌, min, List, [], ◌++◌, length, take, None, Some, ◌⊎◌, ◌↔◌};
+ghost use Rattle.std.specs.Prelude.{◌≡◌, refl, ℕ, ◌+◌, ◌-◌, ◌^◌, ◌<◌, ◌≤◌, min, Bool, true, false, List, [], ◌++◌, length, take, None, Some, ◌⊎◌, ◌↔◌};
 ghost use Rattle.lex_io.specs.Sink.{fault_count};
 ghost use Rattle.lex_io.specs.Source.{given, end_count};
-ghost use Rattle.lex_io.specs.Taking.{Takes, Takes-trans};
+ghost use Rattle.lex_io.specs.Taking.{Takes, Takes-trans, never-waits};
 
 use crate::source::{ReadFault, Source};
 
@@ -99,6 +99,8 @@ impl Source for MemorySource<'_> {
 
     ghost ready = { λ s. shown_of s };
 
+    ghost waits = { λ s. false };
+
     /// The next byte. It fails exactly where it pauses with a fault, and answers the end where it pauses with one or has
     /// no byte left.
     fn next(&mut self) -> Result<Option<u8>, ReadFault>
@@ -168,9 +170,16 @@ impl Source for MemorySource<'_> {
         self.rest = &self.rest[count..];
     }
 
+    /// Memory is there at once.
+    fn may_wait(&self) -> bool {
+        false
+    }
+
     ghost gave_none = { λ s. refl };
 
     ghost gave_more = { λ s t u xs ys p q. Takes-trans s.rest.now t.rest.now u.rest.now xs ys p q };
+
+    ghost none_ready = { λ s. never-waits (shown_of s) };
 }
 
 #[cfg(test)]

@@ -1,5 +1,5 @@
 //! Where the bytes of a scan go.
-ghost use Rattle.std.specs.Prelude.{◌≡◌, ℕ, ◌+◌, ◌-◌, ◌^◌, ◌<◌, ◌≤◌, List, [], ◌++◌, length, IfOk};
+ghost use Rattle.std.specs.Prelude.{◌≡◌, ℕ, ◌+◌, ◌-◌, ◌^◌, ◌<◌, ◌≤◌, Bool, true, false, List, [], ◌++◌, length, IfOk, OnOk};
 ghost use Rattle.lex_io.specs.Sink.{Appended, fault_count};
 ghost use Rattle.std.specs.Io.KnownBytes.{Appends};
 ghost use Rattle.std.proofs.KnownBytes.{Appends-nil, Appends-trans};
@@ -20,6 +20,9 @@ pub trait Sink {
     /// How often the sink failed.
     ghost failures: { Self → ℕ };
 
+    /// All that was appended has been handed on.
+    ghost flushed: { Self → Bool };
+
     /// Appends the bytes. At `Err` a prefix of them was appended.
     fn put(&mut self, bytes: &[u8]) -> Result<(), WriteFault>
         requires { failures self.old < 2 ^ 64 - 1 }
@@ -30,7 +33,8 @@ pub trait Sink {
     fn flush(&mut self) -> Result<(), WriteFault>
         requires { failures self.old < 2 ^ 64 - 1 }
         ensures bytes { wrote self.old [] self.new }
-        ensures failures { failures self.new ≡ failures self.old + fault_count result };
+        ensures failures { failures self.new ≡ failures self.old + fault_count result }
+        ensures flushed { OnOk result (flushed self.new ≡ true) };
 
     ghost wrote_none: { (s : Self) → wrote s [] s };
 
@@ -38,10 +42,28 @@ pub trait Sink {
 }
 
 /// Calls `write` until all is written: an error or a count of 0 is a fault.
+#[inline]
+pub(crate) fn write_whole<W: Write>(writer: &mut W, bytes: &[u8]) -> Result<(), WriteFault>
+    ensures { Appended (λ xs. Appends (W.contents writer.old) (W.contents writer.new) xs) bytes.now result }
+{
+    let mut rest = bytes;
+    while !rest.is_empty() {
+        match writer.write(rest) {
+            Ok(0) | Err(_) => return Err(WriteFault),
+            Ok(count) => rest = &rest[count..],
+        }
+    }
+    Ok(())
+}
+
+/// Calls `write` until all is written: an error or a count of 0 is a fault.
+///
+/// It keeps whether `flush` of the writer was answered since bytes were put: no contract of a writer says what a flush does.
 #[derive(Drop)]
 pub struct ToWrite<W> {
     writer: W,
     failures: u64,
+    flushed: bool,
 }
 
 impl<W: Write> ToWrite<W> {
@@ -55,6 +77,7 @@ impl<W: Write> ToWrite<W> {
         ToWrite {
             writer,
             failures: 0,
+            flushed: false,
         }
     }
 
@@ -71,24 +94,26 @@ impl<W: Write> Sink for ToWrite<W> {
 
     ghost failures = { λ s. s.failures };
 
+    ghost flushed = { λ s. s.flushed };
+
     #[inline]
     fn put(&mut self, bytes: &[u8]) -> Result<(), WriteFault> {
-        let mut rest = bytes;
-        while !rest.is_empty() {
-            match self.writer.write(rest) {
-                Ok(0) | Err(_) => {
-                    self.failures += 1;
-                    return Err(WriteFault);
-                }
-                Ok(count) => rest = &rest[count..],
+        self.flushed = false;
+        match write_whole(&mut self.writer, bytes) {
+            Ok(()) => Ok(()),
+            Err(fault) => {
+                self.failures += 1;
+                Err(fault)
             }
         }
-        Ok(())
     }
 
     fn flush(&mut self) -> Result<(), WriteFault> {
         match self.writer.flush() {
-            Ok(()) => Ok(()),
+            Ok(()) => {
+                self.flushed = true;
+                Ok(())
+            }
             Err(_) => {
                 self.failures += 1;
                 Err(WriteFault)

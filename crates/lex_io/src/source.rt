@@ -1,5 +1,5 @@
 //! Where the bytes of a scan come from.
-ghost use Rattle.std.specs.Prelude.{◌≡◌, ℕ, ◌+◌, ◌-◌, ◌^◌, ◌<◌, ◌≤◌, List, [], ◌++◌, length, take, IfOk, slice_get};
+ghost use Rattle.std.specs.Prelude.{◌≡◌, refl, ℕ, ◌+◌, ◌-◌, ◌^◌, ◌<◌, ◌≤◌, Bool, true, false, List, [], ◌++◌, length, take, IfOk, slice_get};
 ghost use Rattle.lex_io.specs.Source.{given, end_count, Gives};
 ghost use Rattle.lex_io.specs.Sink.{fault_count};
 ghost use Rattle.lex_io.specs.SourceLaws.{Gives-nil, Gives-trans};
@@ -26,6 +26,9 @@ pub trait Source {
     /// The bytes that it can give without asking for them.
     ghost ready: { Self → List ℕ };
 
+    /// The next call of `next` may have to wait.
+    ghost waits: { Self → Bool };
+
     /// The next byte, or `None` at the end.
     fn next(&mut self) -> Result<Option<u8>, ReadFault>
         requires few_ends { ends self.old < 2 ^ 64 - 1 }
@@ -45,9 +48,16 @@ pub trait Source {
         ensures ends { ends self.new ≡ ends self.old }
         ensures failures { failures self.new ≡ failures self.old };
 
+    /// Whether the next call of `next` may have to wait, as for a line that is still to be typed. So what was written before
+    /// is to be seen first.
+    fn may_wait(&self) -> bool
+        ensures { result ≡ waits self.now };
+
     ghost gave_none: { (s : Self) → gave s [] s };
 
     ghost gave_more: { (s t u : Self) (xs ys : List ℕ) → gave s xs t → gave t ys u → gave s (xs ++ ys) u };
+
+    ghost none_ready: { (s : Self) → waits s ≡ true → ready s ≡ [] };
 }
 
 /// Reads one byte in each call of `next`: no byte is the end, and any error is a fault.
@@ -84,6 +94,8 @@ impl<R: Read> Source for FromRead<R> {
 
     ghost ready = { λ s. [] };
 
+    ghost waits = { λ s. true };
+
     #[inline(always)]
     fn next(&mut self) -> Result<Option<u8>, ReadFault> {
         let mut one = [0u8; 1];
@@ -108,9 +120,16 @@ impl<R: Read> Source for FromRead<R> {
         let _count = count;
     }
 
+    /// Each call of `next` asks the reader.
+    fn may_wait(&self) -> bool {
+        true
+    }
+
     ghost gave_none = { λ s. Gives-nil (R.remaining s.reader) s.ends };
 
     ghost gave_more = { λ s t u xs ys p q. Gives-trans (R.remaining s.reader) (R.remaining t.reader) (R.remaining u.reader) s.ends t.ends u.ends xs ys p q };
+
+    ghost none_ready = { λ s e. refl };
 }
 
 #[cfg(test)]

@@ -1,5 +1,5 @@
 //! How long a table file is.
-ghost use Rattle.std.specs.Prelude.{◌≡◌, ℕ, ◌+◌, ◌-◌, ◌^◌, ◌<◌, List, length};
+ghost use Rattle.std.specs.Prelude.{◌≡◌, ℕ, ◌+◌, ◌-◌, ◌^◌, ◌<◌, Bool, true, List, length};
 ghost use Rattle.lextab_packed.specs.Views.{table_of};
 ghost use Rattle.lextab_file.specs.File.{file_of};
 ghost use Rattle.lexkit.specs.Counting.{Counts, counts_none, counts_more};
@@ -16,6 +16,8 @@ impl Sink for Counter {
     ghost wrote = { λ before bytes after. Counts before.bytes bytes after.bytes };
 
     ghost failures = { λ counter. 0 };
+
+    ghost flushed = { λ counter. true };
 
     ghost wrote_none = { λ counter. counts_none counter.bytes };
 

@@ -107,6 +107,13 @@ impl<'a, K: Sink> Outlet<'a, K> {
         sink
     }
 
+    /// A look at the sink.
+    pub fn sink(&self) -> &K
+        ensures { result.now ≡ self.now.sink.now }
+    {
+        self.sink
+    }
+
     #[inline]
     pub fn put(&mut self, bytes: &[u8]) -> Result<(), WriteFault>
         requires { self.old.live ≡ true }

@@ -123,4 +123,11 @@ impl<'a, M: Machine, S: Source, K: Sink> Scanner<'a, M, S, K> {
     {
         self.state.reading.taken
     }
+
+    /// The sink, for a look at what was written between two turns.
+    pub fn sink(&self) -> &K
+        ensures { result.now ≡ self.now.outlet.sink.now }
+    {
+        self.outlet.sink()
+    }
 }

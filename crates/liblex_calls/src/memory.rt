@@ -1,7 +1,8 @@
 //! The two ends of a scan between slices: a source that gives the bytes of a slice, and a sink that keeps what it is given.
-ghost use Rattle.std.specs.Prelude.{◌≡◌, refl, ℕ, ◌+◌, ◌-◌, ◌^◌, ◌<◌, ◌≤◌, List, [], ◌++◌, length, take, true, false};
+ghost use Rattle.std.specs.Prelude.{◌≡◌, refl, ℕ, ◌+◌, ◌-◌, ◌^◌, ◌<◌, ◌≤◌, Bool, List, [], ◌++◌, length, take, true, false};
 ghost use Rattle.lex_io.specs.Sink.{Appended, fault_count};
 ghost use Rattle.lex_io.specs.Source.{given, end_count};
+ghost use Rattle.lex_io.specs.Taking.{never-waits};
 ghost use Rattle.liblex_calls.specs.Ends.{Kept, Kept-nil, Kept-trans, Gave, Gave-nil, Gave-trans};
 
 use lexkit::{ReadFault, Sink, Source, WriteFault};
@@ -38,6 +39,8 @@ impl Source for Slice<'_> {
 
     ghost ready = { λ s. s.rest.now };
 
+    ghost waits = { λ s. false };
+
     #[inline]
     fn next(&mut self) -> Result<Option<u8>, ReadFault> {
         match self.rest.split_first() {
@@ -62,9 +65,16 @@ impl Source for Slice<'_> {
         self.rest = &self.rest[count..];
     }
 
+    #[inline]
+    fn may_wait(&self) -> bool {
+        false
+    }
+
     ghost gave_none = { λ s. Gave-nil s.rest.now s.ends s.failures };
 
     ghost gave_more = { λ s t u xs ys p q. Gave-trans s.rest.now t.rest.now u.rest.now s.ends t.ends u.ends s.failures t.failures u.failures xs ys p q };
+
+    ghost none_ready = { λ s. never-waits s.rest.now };
 }
 
 /// Keeps what it is given. It fails only where memory is refused.
@@ -90,6 +100,8 @@ impl Sink for Kept {
     ghost wrote = { λ s xs t. Kept s.bytes.items t.bytes.items xs };
 
     ghost failures = { λ s. s.failures };
+
+    ghost flushed = { λ s. true };
 
     #[inline]
     fn put(&mut self, bytes: &[u8]) -> Result<(), WriteFault> {

@@ -1,0 +1,115 @@
+//! A sink over a writer with a buffer, which knows whether the buffer is empty.
+ghost use Rattle.std.specs.Prelude.{◌≡◌, ℕ, ◌+◌, ◌-◌, ◌^◌, ◌<◌, Bool, true, List, [], ◌++◌, OnOk};
+ghost use Rattle.std.specs.Io.KnownBytes.{Appends};
+ghost use Rattle.std.proofs.KnownBytes.{Appends-nil, Appends-trans};
+ghost use Rattle.lex_io.specs.ByteReaders.{is_none};
+ghost use Rattle.lex_io.specs.ByteWriters.{bytes_held, bytes_written};
+ghost use Rattle.lex_io.specs.Sink.{Appended, fault_count};
+
+use crate::byte_writer::ByteWriter;
+use crate::sink::{Sink, WriteFault, write_whole};
+use std::io::Write;
+
+/// Puts bytes as `ToWrite` does. It is flushed where the writer holds none of them back.
+#[derive(Drop)]
+pub struct ToBytes<W: Write + Drop> {
+    writer: ByteWriter<W>,
+    failures: u64,
+}
+
+impl<W: Write + Drop> ToBytes<W> {
+    ghost use Rattle.lex_io.specs.Adapters.{byte_writer_of};
+
+    /// A sink over this writer, with no failure counted yet.
+    pub fn new(writer: ByteWriter<W>) -> ToBytes<W>
+        ensures writer { byte_writer_of result ≡ writer }
+        ensures failures { ⟦<ToBytes<W> as Sink>⟧.failures result ≡ 0 }
+    {
+        ToBytes {
+            writer,
+            failures: 0,
+        }
+    }
+}
+
+impl<W: Write + Drop> Sink for ToBytes<W> {
+    ghost wrote = { λ s xs t. Appends (bytes_written W.contents s.writer) (bytes_written W.contents t.writer) xs };
+
+    ghost failures = { λ s. s.failures };
+
+    ghost flushed = { λ s. is_none (bytes_held s.writer) };
+
+    #[inline]
+    fn put(&mut self, bytes: &[u8]) -> Result<(), WriteFault> {
+        match write_whole(&mut self.writer, bytes) {
+            Ok(()) => Ok(()),
+            Err(fault) => {
+                self.failures += 1;
+                Err(fault)
+            }
+        }
+    }
+
+    fn flush(&mut self) -> Result<(), WriteFault> {
+        match self.writer.flush() {
+            Ok(()) => Ok(()),
+            Err(_) => {
+                self.failures += 1;
+                Err(WriteFault)
+            }
+        }
+    }
+
+    ghost wrote_none = { λ s. Appends-nil (bytes_written W.contents s.writer) };
+
+    ghost wrote_more = { λ s t u xs ys p q. Appends-trans (bytes_written W.contents s.writer) (bytes_written W.contents t.writer) (bytes_written W.contents u.writer) xs ys p q };
+}
+
+#[cfg(test)]
+mod tests {
+    use super::*;
+    use std::io;
+    use std::io::{Error, ErrorKind};
+    use std::test::Fail;
+
+    /// Can't be flushed.
+    #[derive(Drop)]
+    struct Stuck;
+
+    impl Write for Stuck {
+        fn write(&mut self, buf: &[u8]) -> io::Result<usize> {
+            Ok(buf.len())
+        }
+
+        fn flush(&mut self) -> io::Result<()> {
+            Err(Error::from(ErrorKind::Other))
+        }
+    }
+
+    /// Whether the bytes are put, and then flushed.
+    fn hands_on<W: Write + Drop>(sink: &mut ToBytes<W>, bytes: &[u8]) -> bool {
+        sink.failures < u64::MAX
+            && sink.put(bytes).is_ok()
+            && sink.failures < u64::MAX
+            && sink.flush().is_ok()
+    }
+
+    #[test]
+    fn hands_on_what_was_put(rt: HostRuntime) -> Result<(), Fail> {
+        let mut taken = Vec::new(rt.alloc());
+        {
+            let mut sink = ToBytes::new(ByteWriter::new(rt.alloc(), &mut taken)?);
+            assert!(rt; hands_on(&mut sink, b"ab"));
+            assert!(rt; hands_on(&mut sink, b"c"));
+        }
+        assert_eq!(rt; taken.as_slice(), b"abc".as_slice());
+        Ok(())
+    }
+
+    #[test]
+    fn tells_a_failed_flush(rt: HostRuntime) -> Result<(), Fail> {
+        let mut sink = ToBytes::new(ByteWriter::new(rt.alloc(), Stuck)?);
+        assert!(rt; !hands_on(&mut sink, b"a"));
+        Ok(())
+    }
+}
