@@ -15,6 +15,8 @@ pub struct FromBytes<R> {
     reader: ByteReader<R>,
     ends: u64,
     failures: u64,
+    ghost ends_bound: { ends < 2 ^ 64 },
+    ghost failures_bound: { failures < 2 ^ 64 },
 }
 
 impl<R: Read> FromBytes<R> {
@@ -82,6 +84,10 @@ impl<R: Read> Source for FromBytes<R> {
     ghost gave_more = { λ s t u xs ys p q. Gives-trans (bytes_left R.remaining s.reader) (bytes_left R.remaining t.reader) (bytes_left R.remaining u.reader) s.ends t.ends u.ends xs ys p q };
 
     ghost none_ready = { λ s. is_none-nil (bytes_ahead s.reader) };
+
+    ghost ends_bound = { λ s. s.ends_bound };
+
+    ghost failures_bound = { λ s. s.failures_bound };
 }
 
 #[cfg(test)]

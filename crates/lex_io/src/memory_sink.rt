@@ -18,6 +18,7 @@ pub struct MemorySink {
     flush_fails: bool,
     failures: u64,
     flushed: bool,
+    ghost failures_bound: { failures < 2 ^ 64 },
 }
 
 impl MemorySink {
@@ -170,6 +171,8 @@ impl Sink for MemorySink {
     ghost wrote_none = { λ s. Grows-nil s.written.items };
 
     ghost wrote_more = { λ s t u xs ys p q. Grows-trans s.written.items t.written.items u.written.items xs ys p q };
+
+    ghost failures_bound = { λ s. s.failures_bound };
 }
 
 #[cfg(test)]

@@ -24,6 +24,8 @@ pub struct MemorySource<'a> {
     calls: u64,
     ends: u64,
     failures: u64,
+    ghost ends_bound: { ends < 2 ^ 64 },
+    ghost failures_bound: { failures < 2 ^ 64 },
 }
 
 impl<'a> MemorySource<'a> {
@@ -180,6 +182,10 @@ impl Source for MemorySource<'_> {
     ghost gave_more = { λ s t u xs ys p q. Takes-trans s.rest.now t.rest.now u.rest.now xs ys p q };
 
     ghost none_ready = { λ s. never-waits (shown_of s) };
+
+    ghost ends_bound = { λ s. s.ends_bound };
+
+    ghost failures_bound = { λ s. s.failures_bound };
 }
 
 #[cfg(test)]

@@ -17,7 +17,7 @@ pub trait Sink {
     /// The calls on the way from the first state to the second appended these bytes.
     ghost wrote: { Self → List ℕ → Self → Type 0 };
 
-    /// How often the sink failed.
+    /// How often the sink failed: a count of 64 bits.
     ghost failures: { Self → ℕ };
 
     /// All that was appended has been handed on.
@@ -39,6 +39,8 @@ pub trait Sink {
     ghost wrote_none: { (s : Self) → wrote s [] s };
 
     ghost wrote_more: { (s t u : Self) (xs ys : List ℕ) → wrote s xs t → wrote t ys u → wrote s (xs ++ ys) u };
+
+    ghost failures_bound: { (s : Self) → failures s < 2 ^ 64 };
 }
 
 /// Calls `write` until all is written: an error or a count of 0 is a fault.
@@ -64,6 +66,7 @@ pub struct ToWrite<W> {
     writer: W,
     failures: u64,
     flushed: bool,
+    ghost failures_bound: { failures < 2 ^ 64 },
 }
 
 impl<W: Write> ToWrite<W> {
@@ -124,6 +127,8 @@ impl<W: Write> Sink for ToWrite<W> {
     ghost wrote_none = { λ s. Appends-nil (W.contents s.writer) };
 
     ghost wrote_more = { λ s t u xs ys p q. Appends-trans (W.contents s.writer) (W.contents t.writer) (W.contents u.writer) xs ys p q };
+
+    ghost failures_bound = { λ s. s.failures_bound };
 }
 
 #[cfg(test)]

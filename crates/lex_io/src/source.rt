@@ -17,10 +17,10 @@ pub trait Source {
     /// The calls on the way from the first state to the second gave these bytes.
     ghost gave: { Self → List ℕ → Self → Type 0 };
 
-    /// How often the end was answered.
+    /// How often the end was answered: a count of 64 bits.
     ghost ends: { Self → ℕ };
 
-    /// How often the source failed.
+    /// How often the source failed: a count of 64 bits.
     ghost failures: { Self → ℕ };
 
     /// The bytes that it can give without asking for them.
@@ -58,6 +58,10 @@ pub trait Source {
     ghost gave_more: { (s t u : Self) (xs ys : List ℕ) → gave s xs t → gave t ys u → gave s (xs ++ ys) u };
 
     ghost none_ready: { (s : Self) → waits s ≡ true → ready s ≡ [] };
+
+    ghost ends_bound: { (s : Self) → ends s < 2 ^ 64 };
+
+    ghost failures_bound: { (s : Self) → failures s < 2 ^ 64 };
 }
 
 /// Reads one byte in each call of `next`: no byte is the end, and any error is a fault.
@@ -66,6 +70,8 @@ pub struct FromRead<R> {
     reader: R,
     ends: u64,
     failures: u64,
+    ghost ends_bound: { ends < 2 ^ 64 },
+    ghost failures_bound: { failures < 2 ^ 64 },
 }
 
 impl<R: Read> FromRead<R> {
@@ -130,6 +136,10 @@ impl<R: Read> Source for FromRead<R> {
     ghost gave_more = { λ s t u xs ys p q. Gives-trans (R.remaining s.reader) (R.remaining t.reader) (R.remaining u.reader) s.ends t.ends u.ends xs ys p q };
 
     ghost none_ready = { λ s e. refl };
+
+    ghost ends_bound = { λ s. s.ends_bound };
+
+    ghost failures_bound = { λ s. s.failures_bound };
 }
 
 #[cfg(test)]

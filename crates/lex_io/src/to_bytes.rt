@@ -10,11 +10,18 @@ use crate::byte_writer::ByteWriter;
 use crate::sink::{Sink, WriteFault, write_whole};
 use std::io::Write;
 
+/// How often a sink failed.
+#[derive(Drop)]
+struct Failures {
+    count: u64,
+    ghost bound: { count < 2 ^ 64 },
+}
+
 /// Puts bytes as `ToWrite` does. It is flushed where the writer holds none of them back.
 #[derive(Drop)]
 pub struct ToBytes<W: Write + Drop> {
     writer: ByteWriter<W>,
-    failures: u64,
+    failures: Failures,
 }
 
 impl<W: Write + Drop> ToBytes<W> {
@@ -27,7 +34,7 @@ impl<W: Write + Drop> ToBytes<W> {
     {
         ToBytes {
             writer,
-            failures: 0,
+            failures: Failures { count: 0 },
         }
     }
 }
@@ -35,7 +42,7 @@ impl<W: Write + Drop> ToBytes<W> {
 impl<W: Write + Drop> Sink for ToBytes<W> {
     ghost wrote = { λ s xs t. Appends (bytes_written W.contents s.writer) (bytes_written W.contents t.writer) xs };
 
-    ghost failures = { λ s. s.failures };
+    ghost failures = { λ s. s.failures.count };
 
     ghost flushed = { λ s. is_none (bytes_held s.writer) };
 
@@ -44,7 +51,7 @@ impl<W: Write + Drop> Sink for ToBytes<W> {
         match write_whole(&mut self.writer, bytes) {
             Ok(()) => Ok(()),
             Err(fault) => {
-                self.failures += 1;
+                self.failures.count += 1;
                 Err(fault)
             }
         }
@@ -54,7 +61,7 @@ impl<W: Write + Drop> Sink for ToBytes<W> {
         match self.writer.flush() {
             Ok(()) => Ok(()),
             Err(_) => {
-                self.failures += 1;
+                self.failures.count += 1;
                 Err(WriteFault)
             }
         }
@@ -63,6 +70,8 @@ impl<W: Write + Drop> Sink for ToBytes<W> {
     ghost wrote_none = { λ s. Appends-nil (bytes_written W.contents s.writer) };
 
     ghost wrote_more = { λ s t u xs ys p q. Appends-trans (bytes_written W.contents s.writer) (bytes_written W.contents t.writer) (bytes_written W.contents u.writer) xs ys p q };
+
+    ghost failures_bound = { λ s. s.failures.bound };
 }
 
 #[cfg(test)]
@@ -88,9 +97,9 @@ mod tests {
 
     /// Whether the bytes are put, and then flushed.
     fn hands_on<W: Write + Drop>(sink: &mut ToBytes<W>, bytes: &[u8]) -> bool {
-        sink.failures < u64::MAX
+        sink.failures.count < u64::MAX
             && sink.put(bytes).is_ok()
-            && sink.failures < u64::MAX
+            && sink.failures.count < u64::MAX
             && sink.flush().is_ok()
     }
 

@@ -3,7 +3,7 @@ use Rattle.std.proofs.Common.{◌≡◌, ℕ, ◌≤◌, ◌<◌, Bool, true, fa
 use Rattle.std.specs.Prelude.{not, ◌&&◌, ◌||◌, nat_le, ⊤}
 use Rattle.std.proofs.lemmas.Bool.{ltb-true, leb-true, and_parts}
 use Rattle.lex_semantics.specs.Spec.{Statement, Echo, Print, Begin, More, Less, Reject, End, Push, Pop, has_reject}
-use Rattle.lex_semantics.specs.Legal.{in_range, all_in_range, has_less, has_more, count_less, IsLegal}
+use Rattle.lex_semantics.specs.Legal.{in_range, all_in_range, has_less, has_more, count_less, IsAction, IsLegal}
 
 -- each yyless keeps at least one byte
 abbrev pub LessFromOne : List Statement → Type 0
@@ -70,13 +70,17 @@ not_both true true h = absurd (no h)
 not_both true false h = inr refl
 not_both false b h = inl refl
 
+-- an action in normal form is an action
+pub action_of : (n : ℕ) (ss : List Statement) → IsLegal n ss → IsAction n ss
+action_of n ss legal = record { ranges = legal.ranges; last = legal.last; compatible = legal.compatible }
+
 -- yyless and yymore don't stand in one action
-pub apart : (n : ℕ) (ss : List Statement) → IsLegal n ss → (has_less ss ≡ false) ⊎ (has_more ss ≡ false)
+pub apart : (n : ℕ) (ss : List Statement) → IsAction n ss → (has_less ss ≡ false) ⊎ (has_more ss ≡ false)
 apart n ss h =
     let first = and_parts (not (has_reject ss && (has_more ss || has_less ss)) && not (has_less ss && has_more ss)) (nat_le (count_less ss) 1) h.compatible in
     let second = and_parts (not (has_reject ss && (has_more ss || has_less ss))) (not (has_less ss && has_more ss)) first.0 in
     not_both (has_less ss) (has_more ss) second.1
 
--- the default rule's action is legal
-pub echo_legal : (n : ℕ) → IsLegal n (Echo ∷ [])
-echo_legal n = record { ranges = refl; last = refl; joined = refl; compatible = refl }
+-- the default rule's action is one
+pub echo_legal : (n : ℕ) → IsAction n (Echo ∷ [])
+echo_legal n = record { ranges = refl; last = refl; compatible = refl }

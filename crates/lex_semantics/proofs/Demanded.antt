@@ -6,7 +6,7 @@ use Rattle.lex_semantics.specs.Text.{IsText}
 use Rattle.lex_semantics.specs.Spec.{Spec, rejects}
 use Rattle.lex_semantics.specs.Rules.{Rules, rules_of}
 use Rattle.lex_semantics.specs.Laws.{Laws}
-use Rattle.lex_semantics.specs.Legal.{IsLegal}
+use Rattle.lex_semantics.specs.Legal.{IsAction}
 use Rattle.lex_semantics.specs.Candidates.{Candidate, Candidates}
 use Rattle.lex_semantics.specs.Run.{Place, State, Turns, NextFrom, first_state}
 use Rattle.lex_semantics.specs.Demand.{AsksAt, Reach, AsksForEnd, FarFrom}
@@ -33,7 +33,7 @@ use Rattle.lex_semantics.proofs.Table.{table_alike, reach_to}
 first_alive : (x : List ℕ) → Alive x first_state
 first_alive x = inr (refl, record { ordered = omega arith; fits = omega arith })
 
-module _ (R : Rules) (l : Laws R) (legal : (i : ℕ) → i < R.count → IsLegal R.conditions (R.statements i))
+module _ (R : Rules) (l : Laws R) (legal : (i : ℕ) → i < R.count → IsAction R.conditions (R.statements i))
     (exist : (c : ℕ) (line_start : Bool) (y : List ℕ) → (ms : List Candidate) × Candidates R c line_start y ms) (x : List ℕ) where
   alive_after : (s t : State) → Moves x s.place t → Alive x (then_turn s t)
   alive_after s t (inl end) = inl end

@@ -7,7 +7,7 @@ use Rattle.lex_semantics.specs.Text.{Among, part, at_line_start}
 use Rattle.lex_semantics.specs.Spec.{Statement, Echo, Print, Begin, More, Less, Reject, End, Push, Pop}
 use Rattle.lex_semantics.specs.Rules.{Rules, Full, statements_of}
 use Rattle.lex_semantics.specs.Laws.{Laws}
-use Rattle.lex_semantics.specs.Legal.{has_less, has_more, IsLegal}
+use Rattle.lex_semantics.specs.Legal.{has_less, has_more, IsAction}
 use Rattle.lex_semantics.proofs.Actions.{LessFromOne, less_from_one, apart, echo_legal}
 use Rattle.lex_semantics.specs.Candidates.{Candidate, IsCandidate, Candidates}
 use Rattle.lex_semantics.specs.Acting.{Ending, Status, StackFault, Acting, Matched, ActionResult, Done, Again, Over, act, has_room, popped, settle, perform}
@@ -109,7 +109,7 @@ on_went P Q S (Done a) h k f = f a h k
 on_went P Q S (Again a) h k f = tt
 on_went P Q S (Over a e) h k f = f a h k
 
-act_goes_on : (n kept left : ℕ) (ss : List Statement) (a : Acting) → IsLegal n ss → a.more ≡ false → kept < length a.text → length a.text ≤ kept + left → Leaves (GoesOn kept left) (act ss a)
+act_goes_on : (n kept left : ℕ) (ss : List Statement) (a : Acting) → IsAction n ss → a.more ≡ false → kept < length a.text → length a.text ≤ kept + left → Leaves (GoesOn kept left) (act ss a)
 act_goes_on n kept left ss a legal more some inside = from (apart n ss legal)
   where
     size : Leaves (λ b. length b.text ≤ kept + left) (act ss a)
@@ -133,10 +133,10 @@ settle_good kept left (Done a) f h later = (record { after = a; ended = None }, 
 settle_good kept left (Again a) f h later = later a refl
 settle_good kept left (Over a e) f h later = (record { after = a; ended = Some e }, refl, h)
 
-module _ (R : Rules) (legal : (i : ℕ) → i < R.count → IsLegal R.conditions (R.statements i)) where
-  pub legal_of : (i : ℕ) → (i < R.count) ⊎ (R.count ≤ i) → IsLegal R.conditions (statements_of R i)
-  legal_of i (inl lt) = subst (IsLegal R.conditions) (sym (cond-true (nat_lt i R.count) (R.statements i) (Echo ∷ []) (lt-ltb i R.count lt))) (legal i lt)
-  legal_of i (inr le) = subst (IsLegal R.conditions) (sym (cond-false (nat_lt i R.count) (R.statements i) (Echo ∷ []) (le-ltb i R.count le))) (echo_legal R.conditions)
+module _ (R : Rules) (legal : (i : ℕ) → i < R.count → IsAction R.conditions (R.statements i)) where
+  pub legal_of : (i : ℕ) → (i < R.count) ⊎ (R.count ≤ i) → IsAction R.conditions (statements_of R i)
+  legal_of i (inl lt) = subst (IsAction R.conditions) (sym (cond-true (nat_lt i R.count) (R.statements i) (Echo ∷ []) (lt-ltb i R.count lt))) (legal i lt)
+  legal_of i (inr le) = subst (IsAction R.conditions) (sym (cond-false (nat_lt i R.count) (R.statements i) (Echo ∷ []) (le-ltb i R.count le))) (echo_legal R.conditions)
 
   pub default_echoes : (i : ℕ) → i ≡ R.count → statements_of R i ≡ Echo ∷ []
   default_echoes i e = cond-false (nat_lt i R.count) (R.statements i) (Echo ∷ []) (le-ltb i R.count (omega arith))
@@ -200,7 +200,7 @@ moves_from x p o h g None is =
     let end : ℕ = p.start + length o.after.text in
     let r = place_from x p o.after h g o.after.more refl (next_place p o) (ap (λ z. record { start = next_start z o.after.more p.start end; at = end; condition = o.after.condition; stack = o.after.stack }) is) in inr (is, r.0, r.1)
 
-module _ (R : Rules) (l : Laws R) (legal : (i : ℕ) → i < R.count → IsLegal R.conditions (R.statements i))
+module _ (R : Rules) (l : Laws R) (legal : (i : ℕ) → i < R.count → IsAction R.conditions (R.statements i))
     (exist : (c : ℕ) (line_start : Bool) (y : List ℕ) → (ms : List Candidate) × Candidates R c line_start y ms) (x : List ℕ) where
   pub keep_bounds : (c : ℕ) (line_start : Bool) (y : List ℕ) (m : Candidate) → IsCandidate R c line_start y m → (1 ≤ m.keep) × (m.keep ≤ length y)
   keep_bounds c line_start y m h = from h.fits

@@ -1,9 +1,11 @@
 -- The worked examples of machines.
+use mathlib.Core.Logic.{∥∥₁_elim}
+use Rattle.std.proofs.Props.{props}
 use Rattle.std.proofs.Common.{◌≡◌, ℕ, ◌<◌, Bool, true, false, if◌then◌else◌, [], ◌∷◌, refl, inl, arith}
 use Rattle.std.specs.Prelude.{nat_eq}
 use Rattle.std.proofs.lemmas.Bool.{eqb-true}
 use Rattle.lex_semantics.specs.Text.{Among}
-use Rattle.lex_semantics.specs.MachineLaws.{StaysBelow, Rejects}
+use Rattle.lex_semantics.specs.MachineLaws.{MachineLaws, StaysBelow, Rejects}
 use Rattle.lex_semantics.specs.MachineExamples as M
 
 below_if : (n a b : ℕ) (t : Bool) → a < n → b < n → (if t then a else b) < n
@@ -48,3 +50,17 @@ not_none h = other (h 0 (omega arith))
   where
     other : true ≡ false → ⊥
     other p = cc
+
+same_bool : (a b : Bool) → IsProp (a ≡ b)
+same_bool a b = Prim.hlevel props
+
+pub prints_twice : MachineLaws M.prints_twice
+prints_twice = record {
+  some_condition = omega arith;
+  in_range = λ s i among. absurd among;
+  ascending = λ s. tt;
+  dead_stays = λ b. refl;
+  dead_accepts = refl;
+  goes_on = λ s. (λ go. absurd (no_both go), λ leads. ∥∥₁_elim leads (same_bool false true) (λ (u, text, some, i, among). absurd among));
+  legal = λ i lt. record { ranges = refl; last = refl; compatible = refl };
+}

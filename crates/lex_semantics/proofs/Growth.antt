@@ -2,7 +2,7 @@
 use Rattle.std.proofs.Common.{◌≡◌, ℕ, zero, suc, ◌+◌, ◌-◌, ◌*◌, ◌≤◌, ◌<◌, Bool, List, inl, inr, Option, Some, None, refl, sym, ◌∙◌, ap, subst, arith}
 use Rattle.lex_semantics.specs.Rules.{Rules}
 use Rattle.lex_semantics.specs.Laws.{Laws}
-use Rattle.lex_semantics.specs.Legal.{IsLegal}
+use Rattle.lex_semantics.specs.Legal.{IsAction}
 use Rattle.lex_semantics.specs.Candidates.{Candidate, Candidates}
 use Rattle.lex_semantics.specs.Acting.{Ending}
 use Rattle.lex_semantics.specs.Run.{Place, State, Turn, NextFrom, Turns}
@@ -15,7 +15,7 @@ no_both o e p q = absurd (no (sym p ∙ q))
     no : Some e ≡ None → ⊥
     no h = cc
 
-module _ (R : Rules) (l : Laws R) (legal : (i : ℕ) → i < R.count → IsLegal R.conditions (R.statements i))
+module _ (R : Rules) (l : Laws R) (legal : (i : ℕ) → i < R.count → IsAction R.conditions (R.statements i))
     (exist : (c : ℕ) (line_start : Bool) (y : List ℕ) → (ms : List Candidate) × Candidates R c line_start y ms) (x : List ℕ) where
   moved : (s t : State) → Inside x s.place → (e : Option Ending) → s.ended ≡ e → NextFrom R x s e t → s.ended ≡ None → t.ended ≡ None → Inside x t.place × Grows s.place t.place
   moved s t h (Some d) is next going goes = no_both s.ended d is going

@@ -65,7 +65,13 @@ abbrev pub are_compatible : List Statement → Bool
 are_compatible ss =
     not (has_reject ss && (has_more ss || has_less ss)) && not (has_less ss && has_more ss) && nat_le (count_less ss) 1
 
--- an action that is legal and in normal form, where there are n conditions
+-- an action, where there are n conditions
+pub record IsAction (n : ℕ) (ss : List Statement) : Type 0 where
+  pub ranges : all_in_range n ss ≡ true
+  pub last : ends_last ss ≡ true
+  pub compatible : are_compatible ss ≡ true
+
+-- an action in normal form
 pub record IsLegal (n : ℕ) (ss : List Statement) : Type 0 where
   pub ranges : all_in_range n ss ≡ true
   pub last : ends_last ss ≡ true

@@ -40,6 +40,10 @@ nothing = record {
   ending = λ c. record { print = []; status = 0 };
 }
 
+-- no match, and an action of two literals
+abbrev pub prints_twice : Machine
+prints_twice = machine 1 (λ s b. 0) (λ s. []) (λ s. false) whole (λ i. Print (codes "a") ∷ Print (codes "b") ∷ [])
+
 -- 1 is the start, 2 after a, 3 after ab
 abbrev pub exit_after_ab : Machine
 exit_after_ab = machine 1 (λ s b. if nat_eq s 1 && nat_eq b 97 then 2 else (if nat_eq s 2 && nat_eq b 98 then 3 else 0))

@@ -5,7 +5,7 @@ use Rattle.std.proofs.Props.{props}
 use Rattle.lex_semantics.specs.Text.{IsText, Among, Ascending}
 use Rattle.lex_semantics.specs.Spec.{has_reject}
 use Rattle.lex_semantics.specs.Machine.{Machine, walk}
-use Rattle.lex_semantics.specs.Legal.{IsLegal}
+use Rattle.lex_semantics.specs.Legal.{IsAction}
 
 -- some word that is not empty leads from the state to one that accepts
 abbrev pub LeadsToAccept : Machine → ℕ → Type 0
@@ -19,7 +19,7 @@ pub record MachineLaws (M : Machine) : Type 0 where
   pub dead_stays : (b : ℕ) → M.next 0 b ≡ 0
   pub dead_accepts : M.accepts 0 ≡ []
   pub goes_on : (s : ℕ) → (M.goes_on s ≡ true) ↔ ∥ LeadsToAccept M s ∥₁
-  pub legal : (i : ℕ) → i < M.count → IsLegal M.conditions (M.statements i)
+  pub legal : (i : ℕ) → i < M.count → IsAction M.conditions (M.statements i)
 
 -- The machine's states are the numbers below n: the dead one, those in which matches start, and those that a byte leads to
 -- from one of them. No other number accepts.
@@ -55,7 +55,7 @@ MachineLaws-prop M x y = λ k. record {
   dead_stays = λ b. (let p : IsProp (M.next 0 b ≡ 0) = Prim.hlevel props in p) (x.dead_stays b) (y.dead_stays b) k;
   dead_accepts = (let p : IsProp (M.accepts 0 ≡ []) = Prim.hlevel props in p) x.dead_accepts y.dead_accepts k;
   goes_on = λ s. (let p : IsProp ((M.goes_on s ≡ true) ↔ ∥ LeadsToAccept M s ∥₁) = Prim.hlevel props in p) (x.goes_on s) (y.goes_on s) k;
-  legal = λ i h. (let p : IsProp (IsLegal M.conditions (M.statements i)) = Prim.hlevel props in p) (x.legal i h) (y.legal i h) k;
+  legal = λ i h. (let p : IsProp (IsAction M.conditions (M.statements i)) = Prim.hlevel props in p) (x.legal i h) (y.legal i h) k;
 }
 
 pub StaysBelow-prop : (M : Machine) (n : ℕ) → IsProp (StaysBelow M n)

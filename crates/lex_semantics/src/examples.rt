@@ -5,7 +5,7 @@ ghost use Rattle.lex_semantics.specs.Spec.{Head, Trail};
 ghost use Rattle.lex_semantics.specs.Sound.{IsSound};
 ghost use Rattle.lex_semantics.specs.Reports.{Useless, BackWord};
 ghost use Rattle.lex_semantics.specs.SameRules.{SameRules};
-ghost use Rattle.lex_semantics.specs.MachineLaws.{StaysBelow, Rejects};
+ghost use Rattle.lex_semantics.specs.MachineLaws.{MachineLaws, StaysBelow, Rejects};
 ghost use Rattle.lex_semantics.specs.Examples as E;
 ghost use Rattle.lex_semantics.specs.MachineExamples as M;
 
@@ -99,7 +99,7 @@ pub fn examples_of_reports()
     ensures no_condition { (line_start : Bool) → BackWord E.abc 1 line_start (codes "ab") → ⊥ }
 {}
 
-/// How many states machines have, and whether their rules have REJECT.
+/// How many states machines have, whether their rules have REJECT, and that an action of a machine may print twice.
 pub fn examples_of_machines()
     ensures five_states { StaysBelow M.abc 5 }
     ensures no_fewer { StaysBelow M.abc 4 → ⊥ }
@@ -108,6 +108,7 @@ pub fn examples_of_machines()
     ensures not_some { Rejects M.abc true → ⊥ }
     ensures some_reject { Rejects M.many_or_two true }
     ensures not_none { Rejects M.many_or_two false → ⊥ }
+    ensures prints_twice { MachineLaws M.prints_twice }
 {}
 
 /// Which specifications have the same rules.

@@ -8,7 +8,8 @@ use Rattle.std.proofs.lemmas.Bool.{cases_Bool, cases_lt, cond-true, cond-false, 
 use Rattle.lex_semantics.specs.Text.{IsText, Among, Ascending}
 use Rattle.lex_semantics.specs.Spec.{Spec, Rule, rejects, statements_at}
 use Rattle.lex_semantics.specs.Rules.{Live}
-use Rattle.lex_semantics.specs.Legal.{IsLegal}
+use Rattle.lex_semantics.specs.Legal.{IsAction}
+use Rattle.lex_semantics.proofs.Actions.{action_of}
 use Rattle.lex_semantics.specs.MachineLaws.{MachineLaws, LeadsToAccept}
 use Rattle.lex_semantics.proofs.MachineLaws.{walk-append}
 use Rattle.lex_semantics.proofs.Texts.{is_text_append}
@@ -284,12 +285,12 @@ module _ (S : Spec) (sound : IsSound S) (keys : List Key) (next starts line_star
         nowhere p h [] some i a = omega (arith, some)
         nowhere p h (b ∷ u) some i a = nothing_at_dead u i (subst (λ (q : ℕ). Among (M.accepts (walk M q u)) i) (past_next p b h) a)
 
-    statements_legal : (i : ℕ) → i < length S.rules → IsLegal (length S.conditions) (statements_at (slice_get S.rules i))
+    statements_legal : (i : ℕ) → i < length S.rules → IsAction (length S.conditions) (statements_at (slice_get S.rules i))
     statements_legal i h = found (slice_get S.rules i) refl
       where
-        found : (o : Option Rule) → slice_get S.rules i ≡ o → IsLegal (length S.conditions) (statements_at o)
+        found : (o : Option Rule) → slice_get S.rules i ≡ o → IsAction (length S.conditions) (statements_at o)
         found None e = absurd (slice_get_some S.rules i h e)
-        found (Some r) e = (sound.rules i r e).legal
+        found (Some r) e = action_of (length S.conditions) r.statements (sound.rules i r e).legal
 
     laws : MachineLaws M
     unfolding M

@@ -1,2 +1,3 @@
 pub mod Machinery
 pub mod Leads
+pub mod Fitting

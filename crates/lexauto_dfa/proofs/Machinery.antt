@@ -8,7 +8,8 @@ use Rattle.std.proofs.lemmas.List.{length-map}
 use Rattle.lex_semantics.specs.Text.{Among, Ascending}
 use Rattle.lex_semantics.specs.Spec.{Spec, Rule, statements_at}
 use Rattle.lex_semantics.specs.Sound.{IsSound}
-use Rattle.lex_semantics.specs.Legal.{IsLegal}
+use Rattle.lex_semantics.specs.Legal.{IsAction}
+use Rattle.lex_semantics.proofs.Actions.{action_of}
 use Rattle.lex_semantics.specs.Machine.{walk}
 use Rattle.lex_semantics.specs.MachineLaws.{MachineLaws, LeadsToAccept}
 use Rattle.lexauto_dfa.specs.Machines as M
@@ -114,7 +115,7 @@ module _ (p : Parts) (a : IsAutomaton p) where
 
   -- an automaton that accepts rules of a specification, with legal actions, is a machine
   pub machine_laws : (S : Spec) → 1 ≤ length S.conditions → ((s i : ℕ) → s < states p → Among (accepts p s) i → i < length S.rules)
-      → ((i : ℕ) → i < length S.rules → IsLegal (length S.conditions) (statements_at (slice_get S.rules i))) → MachineLaws (machine_in p S)
+      → ((i : ℕ) → i < length S.rules → IsAction (length S.conditions) (statements_at (slice_get S.rules i))) → MachineLaws (machine_in p S)
   machine_laws S some known legal = record {
     some_condition = some;
     in_range = λ s i among. elim (cases_lt s (states p)) [
@@ -134,6 +135,6 @@ module _ (p : Parts) (a : IsAutomaton p) where
   pub sound_machine_laws : (S : Spec) → IsSound S → ((s i : ℕ) → s < states p → Among (accepts p s) i → i < length S.rules) → MachineLaws (machine_in p S)
   sound_machine_laws S sound known = machine_laws S sound.some_condition known (λ i h. statements_legal i h (slice_get S.rules i) refl)
     where
-      statements_legal : (i : ℕ) → i < length S.rules → (o : Option Rule) → slice_get S.rules i ≡ o → IsLegal (length S.conditions) (statements_at o)
+      statements_legal : (i : ℕ) → i < length S.rules → (o : Option Rule) → slice_get S.rules i ≡ o → IsAction (length S.conditions) (statements_at o)
       statements_legal i h None e = absurd (there_is S.rules i h e)
-      statements_legal i h (Some r) e = (sound.rules i r e).legal
+      statements_legal i h (Some r) e = action_of (length S.conditions) r.statements (sound.rules i r e).legal

@@ -26,6 +26,7 @@ few_reads given m fault e e' f f' few more = by_end (nat_lt e e') refl
 module _ (M : Machine) (laws : MachineLaws M) (S : Spec) (sound : IsSound S) (table : TableFor M S) where
   pub ran_to : (given out : List ℕ) (at_end : Bool) (d : Ending) → RanTo (rules_of_machine M) given out at_end d → RanTo (rules_of S) given out at_end d
   ran_to given out at_end d h = record {
+    text = h.text;
     turns = h.turns;
     last = h.last;
     scanned = λ x k. (same_after M laws S sound table x k.0 h.turns h.last _ at_end).0 (h.scanned x k);

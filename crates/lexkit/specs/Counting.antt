@@ -14,3 +14,6 @@ counts_more a b c xs ys f g h =
     let first = f (omega (arith, l, h)) in
     let second = g (omega (arith, l, h, first)) in
     omega (arith, l, first, second)
+
+pub none_failed : 0 < 2 ^ 64
+none_failed = omega arith

@@ -1,7 +1,8 @@
--- How often the ends of a scan failed, by its answer.
-use Rattle.std.specs.Prelude.{ℕ, Result, Ok, Err}
+-- How often the ends of a scan failed, and what was handed on, by its answer.
+use Rattle.std.specs.Prelude.{◌≡◌, ℕ, Bool, true, Result, Ok, Err, ⊤}
 use Rattle.lexscan.specs.declared.error.RunError.{RunError}
 use Rattle.lexscan.specs.declared.error.RunError.TheVariants as runs
+use Rattle.lexscan.specs.Ties.{HandedOnAfter}
 use Rattle.lexkit.specs.declared.errors.ScanError.{ScanError}
 use Rattle.lexkit.specs.declared.errors.ScanError.TheVariants.{Generate, Table, Run}
 
@@ -26,3 +27,10 @@ write_fault_count (Ok v) = 0
 write_fault_count (Err (Generate e)) = 0
 write_fault_count (Err (Table e)) = 0
 write_fault_count (Err (Run e)) = write_fault_of e
+
+-- where the scan has ended, or the stack of conditions was at fault, what was written has been handed on
+abbrev pub HandedOn : Bool → Result ℕ ScanError → Type 0
+HandedOn flushed (Ok status) = flushed ≡ true
+HandedOn flushed (Err (Generate e)) = ⊤
+HandedOn flushed (Err (Table e)) = ⊤
+HandedOn flushed (Err (Run e)) = HandedOnAfter flushed e

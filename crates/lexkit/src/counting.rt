@@ -2,7 +2,7 @@
 ghost use Rattle.std.specs.Prelude.{◌≡◌, ℕ, ◌+◌, ◌-◌, ◌^◌, ◌<◌, Bool, true, List, length};
 ghost use Rattle.lextab_packed.specs.Views.{table_of};
 ghost use Rattle.lextab_file.specs.File.{file_of};
-ghost use Rattle.lexkit.specs.Counting.{Counts, counts_none, counts_more};
+ghost use Rattle.lexkit.specs.Counting.{Counts, counts_none, counts_more, none_failed};
 
 use lextab::{Sink, Tables, WriteFault, write_tables};
 
@@ -22,6 +22,8 @@ impl Sink for Counter {
     ghost wrote_none = { λ counter. counts_none counter.bytes };
 
     ghost wrote_more = { λ a b c xs ys. counts_more a.bytes b.bytes c.bytes xs ys };
+
+    ghost failures_bound = { λ counter. none_failed };
 
     fn put(&mut self, bytes: &[u8]) -> Result<(), WriteFault> {
         self.bytes = self.bytes.saturating_add(bytes.len() as u64);

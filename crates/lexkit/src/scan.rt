@@ -3,7 +3,7 @@ ghost use Rattle.std.specs.Prelude.{◌≡◌, ℕ, ◌+◌, ◌-◌, ◌^◌, �
 ghost use Rattle.lexspec.specs.Views.{spec_of};
 ghost use Rattle.lexscan.specs.declared.error.RunError.TheVariants.{Failed};
 ghost use Rattle.lexkit.specs.Headline.{Headline, ScansBy, TableHeadline};
-ghost use Rattle.lexkit.specs.ScanCounts.{read_fault_count, write_fault_count};
+ghost use Rattle.lexkit.specs.ScanCounts.{HandedOn, read_fault_count, write_fault_count};
 ghost use Rattle.lex_semantics.specs.Limits.{max_positions, max_states};
 
 use crate::errors::{GenError, ScanError};
@@ -21,7 +21,7 @@ const MAX_READS: u64 = 1_099_511_627_776;
 /// Scans the source by the specification that a text spells, and writes to the sink. It answers the status that the
 /// specification ends with, 0 to 63, and takes no byte of the source that no rule asks for. A text that spells no
 /// specification, or one whose automaton passes the limits, is refused, and then neither the source nor the sink is
-/// touched.
+/// touched. What was written is flushed at the end, and before a byte is asked for that the source does not have ready.
 pub fn scan_spec<S: Source, K: Sink>(
     alloc: Global,
     text: &[u8],
@@ -41,6 +41,7 @@ pub fn scan_spec<S: Source, K: Sink>(
     ensures ends_stay { S.ends source.old ≤ S.ends source.new }
     ensures one_end { S.ends source.new ≤ S.ends source.old + 1 }
     ensures not_failed { IsErrOf result (ScanError.Run Failed) → ⊥ }
+    ensures handed_on { HandedOn (K.flushed sink.new) result }
 {
     let read = ReadOptions {
         fold: options.fold,
@@ -73,6 +74,7 @@ fn scan_by<S: Source, K: Sink>(
     ensures ends_stay { S.ends source.old ≤ S.ends source.new }
     ensures one_end { S.ends source.new ≤ S.ends source.old + 1 }
     ensures not_failed { IsErrOf result (ScanError.Run Failed) → ⊥ }
+    ensures handed_on { HandedOn (K.flushed sink.new) result }
 {
     let least = match least_automaton(alloc, spec, limits) {
         Err(error) => return Err(ScanError::Generate(error)),
@@ -111,6 +113,7 @@ pub fn scan_table<S: Source, K: Sink>(
     ensures ends_stay { S.ends source.old ≤ S.ends source.new }
     ensures one_end { S.ends source.new ≤ S.ends source.old + 1 }
     ensures not_failed { IsErrOf result (ScanError.Run Failed) → ⊥ }
+    ensures handed_on { HandedOn (K.flushed sink.new) result }
 {
     let tables = match read_tables(alloc, bytes) {
         Err(error) => return Err(ScanError::Table(error)),

@@ -1,5 +1,5 @@
 //! The names that are met while patterns are read.
-ghost use Rattle.std.specs.Prelude.{◌≡◌, ◌-◌, false, OnOk, option_map, [], ◌∷◌, ◌++◌, length, take};
+ghost use Rattle.std.specs.Prelude.{◌≡◌, ◌-◌, false, OnOk, OnErr, option_map, [], ◌∷◌, ◌++◌, length, take};
 ghost use Rattle.std.specs.FinMap.{empty, get, insert};
 ghost use Rattle.lexre.specs.Names.{open_of, tree_kept, trees_of, usable};
 ghost use Rattle.lexre.specs.Reading.{is_among};
@@ -95,10 +95,11 @@ impl Names {
         }
     }
 
-    /// Keeps the tree of a name, for which this many have to be opened.
+    /// Keeps the tree of a name, for which this many have to be opened. Where memory is refused, what was kept is kept.
     pub(crate) fn keep(&mut self, name: &[u8], needed: u8, tree: Counted) -> Result<(), AllocError>
         ensures trees { OnOk result (trees_of self.new
             ≡ insert (trees_of self.old) name.now (tree_of tree.pattern, needed)) }
+        ensures no_memory { OnErr result (trees_of self.new ≡ trees_of self.old) }
         ensures same_open { OnOk result (open_of self.new ≡ open_of self.old) }
     {
         let name = Vec::from_slice(self.alloc, name)?;

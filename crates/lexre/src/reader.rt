@@ -104,7 +104,7 @@ fn read_name(
     ensures spare { IfOk result (λ r. r.spare ≤ left) }
     ensures few { IfOk result (λ r. nodes (tree_of r.tree.pattern) ≤ room) }
     ensures sound { IfOk result (λ r. IsSoundTree (tree_of r.tree.pattern)) }
-    ensures known { OnOk result (AreKnown scope.entry.options scope.entry.definitions.now (trees_of names.new)) }
+    ensures known { AreKnown scope.entry.options scope.entry.definitions.now (trees_of names.new) }
     ensures same_open { OnOk result (open_of names.new ≡ open_of names.old) }
     ensures none { IfErr result (λ e. UnlessMemory e
         (NoneWithin room (StandsIn scope.entry.options scope.entry.definitions.now left name.now))) }
@@ -161,7 +161,7 @@ fn step(
         (symbol_of symbol.entry) (lowered e (state_of stack.new))) }
     ensures few { IfOk result (λ a. a.nodes ≤ room) }
     ensures sound { IfOk result (λ a. IsSoundState (state_of stack.new)) }
-    ensures known { OnOk result (AreKnown scope.entry.options scope.entry.definitions.now (trees_of names.new)) }
+    ensures known { AreKnown scope.entry.options scope.entry.definitions.now (trees_of names.new) }
     ensures same_open { OnOk result (open_of names.new ≡ open_of names.old) }
     ensures counted { IfOk result (λ a. state_nodes (state_of stack.new) ≡ state_nodes (state_of stack.old) + a.nodes) }
     ensures none { IfErr result (λ e. UnlessMemory e
@@ -215,7 +215,7 @@ fn read_within(
     ensures spare { IfOk result (λ r. r.spare ≤ left) }
     ensures few { IfOk result (λ r. nodes (tree_of r.tree.pattern) ≤ room) }
     ensures sound { IfOk result (λ r. IsSoundTree (tree_of r.tree.pattern)) }
-    ensures known { OnOk result (AreKnown scope.entry.options scope.entry.definitions.now (trees_of names.new)) }
+    ensures known { AreKnown scope.entry.options scope.entry.definitions.now (trees_of names.new) }
     ensures same_open { OnOk result (open_of names.new ≡ open_of names.old) }
     ensures none { IfErr result (λ e. UnlessMemory e.kind
         (NoneWithin room (SpellsIn scope.entry.options scope.entry.definitions.now left text.now))) }
@@ -288,7 +288,7 @@ pub fn read_with_names(
     requires known_so_far { AreKnown options definitions.now (trees_of names.old) }
     ensures found { IfOk result (λ p. Spells options definitions.now text.now (tree_of p)) }
     ensures sound { IfOk result (λ p. IsSoundTree (tree_of p)) }
-    ensures known { OnOk result (AreKnown options definitions.now (trees_of names.new)) }
+    ensures known { AreKnown options definitions.now (trees_of names.new) }
     ensures none { IfErr result (λ e. UnlessMemory e.kind ((t : Tree)
         → Spells options definitions.now text.now t → ⊥)) }
 {

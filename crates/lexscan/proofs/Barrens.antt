@@ -1,7 +1,7 @@
 -- Walks over bytes that are held, and lead to no match.
 use mathlib.Core.Logic.{∥∥₁_elim}
 use Rattle.std.proofs.Common.{◌≡◌, ℕ, zero, suc, ◌+◌, ◌-◌, ◌≤◌, ◌<◌, Bool, true, false, List, [], ◌∷◌, ◌++◌, length, take, drop, get_or, ◌⊎◌, inl, inr, Result, Ok, Err, refl, sym, ◌∙◌, ap, subst, arith}
-use Rattle.std.specs.Prelude.{IfOk, OnOk, OnErr, IsErrOf, filter_map, ◌==◌}
+use Rattle.std.specs.Prelude.{IfOk, OnOk, OnErr, filter_map, ◌==◌}
 use Rattle.std.proofs.lemmas.List.{append-nil, length-append, length-drop, length-take-le, drop-append-le, drop-drop, nil_from_length}
 use Rattle.std.proofs.Math.Seq.{drop-cons}
 use Rattle.std.proofs.lemmas.Bool.{cases_lt, eqb-true}
@@ -18,12 +18,11 @@ use Rattle.lexscan.specs.declared.state.TextPlace.{TextPlace}
 use Rattle.lexscan.specs.declared.state.State.{State}
 use Rattle.lexscan.specs.declared.turn.Turn.{Turn}
 use Rattle.lexscan.specs.declared.error.RunError.{RunError}
-use Rattle.lexscan.specs.declared.error.RunError.TheVariants.{Stack}
 use Rattle.lexscan.specs.Reads.{Took}
 use Rattle.lexscan.specs.Looks.{SoFar, Looked}
 use Rattle.lexscan.specs.Picks.{path_of, state_at}
 use Rattle.lexscan.specs.Descends.{Conditions, conditions_at, matches_of, ending_of, Performed, CutAll, Faulted}
-use Rattle.lexscan.specs.Moves.{MatchLeft, Acted, Moved, Untouched, left_bytes, stays, is_over}
+use Rattle.lexscan.specs.Moves.{MatchLeft, Acted, Moved, left_bytes, stays, is_over}
 use Rattle.lexscan.specs.Memos.{Barren, IsTrueMark, AreTrue, unmarked}
 use Rattle.lexscan.specs.Backs.{IsSettled}
 use Rattle.lexscan.proofs.Growing.{clash, step_more}

@@ -110,6 +110,7 @@ ran_to M n status e e' given out s ends over h =
     let told : nat_lt e e' ≡ s.reading.at_end = answered e e' s.reading.at_end ends in
     let ended : (state_of out h.start s).ended ≡ Some (Status status) = ap ending_of over in
     subst (λ b. RanTo (rules_of_machine M) given out b (Status status)) (sym told) (record {
+      text = h.text;
       turns = n;
       last = state_of out h.start s;
       scanned = h.scanned;

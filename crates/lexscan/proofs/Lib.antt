@@ -17,3 +17,4 @@ pub mod Furthering
 pub mod Barrens
 pub mod Marks
 pub mod Making
+pub mod Tying

@@ -3,7 +3,7 @@ use Rattle.std.proofs.Common.{◌≡◌, ℕ, ◌≤◌, ◌<◌, false, List, [
 use Rattle.std.proofs.lemmas.List.{length-take-le, take-take}
 use Rattle.std.proofs.lemmas.Bool.{cases_lt}
 use Rattle.lex_semantics.specs.Text.{Among}
-use Rattle.lex_semantics.specs.Legal.{IsLegal}
+use Rattle.lex_semantics.specs.Legal.{IsAction}
 use Rattle.lex_semantics.specs.Rules.{Rules, statements_of}
 use Rattle.lex_semantics.specs.Candidates.{Candidate, Candidates}
 use Rattle.lex_semantics.specs.Acting as Scan
@@ -33,7 +33,7 @@ settle_below n (Done a) f o h later e = subst (λ (z : Matched). Below n z.after
 settle_below n (Again a) f o h later e = later a h e
 settle_below n (Over a d) f o h later e = subst (λ (z : Matched). Below n z.after.condition z.after.stack) (some_inj (record { after = a; ended = Some d }) o e) h
 
-pub perform_below : (R : Rules) → ((i : ℕ) → i < R.count → IsLegal R.conditions (R.statements i)) → (kept y : List ℕ) (ms : List Candidate) (out : List ℕ) (c : ℕ) (cs : List ℕ) (o : Matched) → Below R.conditions c cs →
+pub perform_below : (R : Rules) → ((i : ℕ) → i < R.count → IsAction R.conditions (R.statements i)) → (kept y : List ℕ) (ms : List Candidate) (out : List ℕ) (c : ℕ) (cs : List ℕ) (o : Matched) → Below R.conditions c cs →
     perform R kept y ms out c cs ≡ Some o → Below R.conditions o.after.condition o.after.stack
 unfolding perform
 perform_below R legal kept y [] out c cs o lt e = absurd (no e)
@@ -42,7 +42,7 @@ perform_below R legal kept y [] out c cs o lt e = absurd (no e)
     no p = cc
 perform_below R legal kept y (m ∷ ms) out c cs o lt e =
     let a : Scan.Acting = record { text = kept ++ take m.keep y; written = out; condition = c; stack = cs; more = false } in
-    let ok : IsLegal R.conditions (statements_of R m.rule) = legal_of R legal m.rule (cases_lt m.rule R.count) in
+    let ok : IsAction R.conditions (statements_of R m.rule) = legal_of R legal m.rule (cases_lt m.rule R.count) in
     settle_below R.conditions (act (statements_of R m.rule) a) (λ b. perform R kept y ms b.written b.condition b.stack) o
     (act_below R.conditions (statements_of R m.rule) a lt (begins_below R.conditions (statements_of R m.rule) ok.ranges))
     (λ b less p. perform_below R legal kept y ms b.written b.condition b.stack o less p) e

@@ -180,6 +180,7 @@ module _ {S K : Type 0} (M : Machine) (laws : MachineLaws M) (gave : S → List 
       let writes : last.written ≡ out ++ fault.performed.out = ap (λ (z : Scan.Matched). out ++ z.after.written) ahead.1 in
       let ends : last.ended ≡ Some StackFault = ap (λ (z : Scan.Matched). z.ended) ahead.1 in
       record {
+        text = is_text_append given took.got h.text took.text;
         turns = suc n;
         last = last;
         scanned = scanned;

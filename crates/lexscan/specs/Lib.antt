@@ -16,3 +16,4 @@ pub mod Backs
 pub use Rattle.lex_io.specs.Source
 pub mod Turns
 pub mod Ends
+pub mod Ties

@@ -56,9 +56,10 @@ pub record GaveUp (R : Rules) (n start : ℕ) (given got out : List ℕ) (at_end
   pub asks_end : e ≡ TooManyReads → (end_before ≡ false) × ((t : Scan.State) (far : ℕ) (asked : Bool) → AfterTurns R (given ++ got) (suc n) t far asked → asked ≡ true)
   pub whole : IsEarly e → (x : List ℕ) (k : Consistent (given ++ got) at_end x) → (before x k).state.written ≡ out
 
--- The scan has ended: this is the run of every consistent input, and the turns up to its end ask for just what the
--- source has told.
+-- The scan has ended: the bytes given are a text, this is the run of every consistent input, and the turns up to its end
+-- ask for just what the source has told.
 pub record RanTo (R : Rules) (given out : List ℕ) (at_end : Bool) (ending : Ending) : Type 0 where
+  pub text : IsText given
   pub turns : ℕ
   pub last : Scan.State
   pub scanned : Scanned R given at_end turns last

@@ -85,6 +85,9 @@ impl<'a, S: Source> Intake<'a, S> {
 pub struct Outlet<'a, K: Sink> {
     sink: &'a mut K,
     live: bool,
+    /// Something may have been put that no flush has handed on.
+    pending: bool,
+    ghost handed_on: { pending ≡ false → K.flushed sink.now ≡ true },
     ghost few_failures: { live ≡ true → K.failures sink.now < 2 ^ 64 - 1 },
 }
 
@@ -95,7 +98,11 @@ impl<'a, K: Sink> Outlet<'a, K> {
         ensures value { result.sink.now ≡ sink.old }
         ensures live { result.live ≡ true }
     {
-        Outlet { sink, live: true }
+        Outlet {
+            sink,
+            live: true,
+            pending: true,
+        }
     }
 
     /// Gives the sink back.
@@ -123,6 +130,7 @@ impl<'a, K: Sink> Outlet<'a, K> {
         ensures live { self.new.live ≡ is_ok result }
     {
         self.live = false;
+        self.pending = true;
         let result = self.sink.put(bytes);
         self.live = result.is_ok();
         result
@@ -134,10 +142,21 @@ impl<'a, K: Sink> Outlet<'a, K> {
         ensures bytes { K.wrote self.old.sink.now [] self.new.sink.now }
         ensures failures { K.failures self.new.sink.now ≡ K.failures self.old.sink.now + fault_count result }
         ensures live { self.new.live ≡ is_ok result }
+        ensures flushed { OnOk result (K.flushed self.new.sink.now ≡ true) }
     {
         self.live = false;
+        self.pending = true;
         let result = self.sink.flush();
         self.live = result.is_ok();
+        self.pending = result.is_err();
         result
+    }
+
+    /// Whether something may have been put that no flush has handed on.
+    #[inline(always)]
+    pub fn is_pending(&self) -> bool
+        ensures { result ≡ false → K.flushed self.now.sink.now ≡ true }
+    {
+        self.pending
     }
 }

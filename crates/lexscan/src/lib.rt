@@ -18,6 +18,7 @@ mod reading;
 mod scanner;
 mod stack;
 mod state;
+mod tie;
 mod turn;
 mod walk;
 mod whole;

@@ -5,6 +5,7 @@ ghost use Rattle.lexscan.specs.Answer.{end_read};
 ghost use Rattle.lexscan.specs.Reads.{read_fault_count, write_fault_count, end_step};
 ghost use Rattle.lexscan.specs.Memos.{AreTrue, AreTrue-prop};
 ghost use Rattle.lexscan.specs.Stacks.{AllBelow-prop};
+ghost use Rattle.lexscan.specs.Ties.{HandedOn};
 ghost use Rattle.lexscan.specs.Stands.{NoneAfterEnd, GoesOn, Stands};
 
 use crate::error::RunError;
@@ -66,7 +67,7 @@ impl<'a, M: Machine, S: Source, K: Sink> Scanner<'a, M, S, K> {
         }
     }
 
-    /// One match with its actions, or the end action.
+    /// One match with its actions, or the end action. Where the scan ends, the sink has been flushed.
     pub fn turn(&mut self) -> Result<Turn, RunError>
         ensures same_machine { self.new.machine.now ≡ self.old.machine.now }
         ensures same_source { self.new.intake.source.ghost_name ≡ self.old.intake.source.ghost_name }
@@ -82,6 +83,8 @@ impl<'a, M: Machine, S: Source, K: Sink> Scanner<'a, M, S, K> {
             S.failures self.old.intake.source.now + read_fault_count result }
         ensures write_faults { K.failures self.new.outlet.sink.now ≡
             K.failures self.old.outlet.sink.now + write_fault_count result }
+        ensures handed_on { self.old.state.failed ≡ false → self.old.state.ended ≡ None
+            → HandedOn (K.flushed self.new.outlet.sink.now) result }
         ensures after_refusal { self.old.state.failed ≡ true → (result ≡ Err RunError.Failed)
             × (self.new.intake.source.now ≡ self.old.intake.source.now)
             × (self.new.outlet.sink.now ≡ self.old.outlet.sink.now) × (self.new.state ≡ self.old.state) }

@@ -12,6 +12,7 @@ ghost use Rattle.lexscan.specs.Backs.{IsOpen};
 ghost use Rattle.lexscan.specs.declared.memo.Mark.{Mark};
 ghost use Rattle.lexscan.specs.Memos.{AreTrue};
 ghost use Rattle.lexscan.specs.Stands.{MakesTurn};
+ghost use Rattle.lexscan.specs.Ties.{HandedOn};
 ghost use Rattle.lexscan.specs.Turns.{TurnCounts, MoveLeft, MayMove, MayTurn};
 ghost use Rattle.lexscan.specs.Moves.{stays, left_bytes, left_at, Left, EndLeft, EndsScan, MatchLeft, Moved};
 
@@ -26,6 +27,7 @@ use crate::memo::Memo;
 use crate::path::StatePath;
 use crate::pick::{LookAhead, Pick, carry_pick, near_end, walk_again};
 use crate::state::State;
+use crate::tie::{flush, tie, tie_walk};
 use lex_io::{Sink, Source};
 use lex_machine::Machine;
 
@@ -46,19 +48,6 @@ pub fn has_backlog(state: &State) -> bool
     ensures { result ≡ true → state.now.place.at < length state.now.reading.window.bytes }
 {
     BACKLOG < state.reading.window.len() - state.place.at
-}
-
-/// Flushes the sink.
-fn flush<K: Sink>(outlet: &mut Outlet<'_, K>) -> Result<(), RunError>
-    requires { outlet.old.live ≡ true }
-    ensures same { outlet.new.sink.ghost_name ≡ outlet.old.sink.ghost_name }
-    ensures bytes { K.wrote outlet.old.sink.now [] outlet.new.sink.now }
-    ensures sink { SinkLeft K.failures outlet.old.sink.now outlet.new.sink.now outlet.new.live result }
-{
-    match outlet.flush() {
-        Err(_) => Err(RunError::Write),
-        Ok(()) => Ok(()),
-    }
 }
 
 /// Goes to the place of the next match.
@@ -94,6 +83,7 @@ fn finish_turn<K: Sink>(
     requires inside { state.old.acting.end ≤ length state.old.reading.window.bytes }
 
     ensures same { outlet.new.sink.ghost_name ≡ outlet.old.sink.ghost_name }
+    ensures handed_on { HandedOn (K.flushed outlet.new.sink.now) result }
     ensures ends { EndsScan K.wrote K.failures outlet.old.sink.now outlet.new.sink.now outlet.new.live
         state.old state.new finish result }
 {
@@ -123,6 +113,7 @@ fn match_turn<M: Machine, K: Sink>(
     requires known { (s : ℕ) → Among path.now.states s → s < M.states machine.now }
 
     ensures same { outlet.new.sink.ghost_name ≡ outlet.old.sink.ghost_name }
+    ensures handed_on { HandedOn (K.flushed outlet.new.sink.now) result }
     ensures left { MatchLeft (M.machine machine.now) K.wrote K.failures outlet.old.sink.now outlet.new.sink.now
         outlet.new.live state.old state.new path.now.states result }
 {
@@ -164,6 +155,7 @@ fn carry_turn<M: Machine, K: Sink>(
     requires longest { IsLongest (M.machine machine.now) state.old.place state.old.reading.window.bytes reach pick }
 
     ensures same { outlet.new.sink.ghost_name ≡ outlet.old.sink.ghost_name }
+    ensures handed_on { HandedOn (K.flushed outlet.new.sink.now) result }
     ensures left { MatchLeft (M.machine machine.now) K.wrote K.failures outlet.old.sink.now outlet.new.sink.now
         outlet.new.live state.old state.new
         (path_of (M.machine machine.now) state.old.place state.old.reading.window.bytes reach) result }
@@ -205,6 +197,7 @@ fn far_turn<M: Machine, K: Sink>(
     requires some { 1 ≤ reach }
 
     ensures same { outlet.new.sink.ghost_name ≡ outlet.old.sink.ghost_name }
+    ensures handed_on { HandedOn (K.flushed outlet.new.sink.now) result }
     ensures left { MatchLeft (M.machine machine.now) K.wrote K.failures outlet.old.sink.now outlet.new.sink.now
         outlet.new.live state.old state.new
         (path_of (M.machine machine.now) state.old.place state.old.reading.window.bytes reach) result }
@@ -228,6 +221,7 @@ fn last_turn<M: Machine, K: Sink>(
         state.old.reading.window.bytes ahead }
 
     ensures same { outlet.new.sink.ghost_name ≡ outlet.old.sink.ghost_name }
+    ensures handed_on { HandedOn (K.flushed outlet.new.sink.now) result }
     ensures left { MatchLeft (M.machine machine.now) K.wrote K.failures outlet.old.sink.now outlet.new.sink.now
         outlet.new.live state.old state.new
         (path_of (M.machine machine.now) state.old.place state.old.reading.window.bytes ahead.reach) result }
@@ -252,6 +246,7 @@ fn end_turn<M: Machine, K: Sink>(
     requires inside { state.old.place.at ≤ length state.old.reading.window.bytes }
 
     ensures same { outlet.new.sink.ghost_name ≡ outlet.old.sink.ghost_name }
+    ensures handed_on { HandedOn (K.flushed outlet.new.sink.now) result }
     ensures sink { SinkLeft K.failures outlet.old.sink.now outlet.new.sink.now outlet.new.live result }
     ensures failed { state.new.failed ≡ state.old.failed }
     ensures max_reads { state.new.reading.max_reads ≡ state.old.reading.max_reads }
@@ -290,6 +285,7 @@ fn go_with_reject<M: Machine, S: Source, K: Sink>(
 
     ensures same_source { intake.new.source.ghost_name ≡ intake.old.source.ghost_name }
     ensures same_sink { outlet.new.sink.ghost_name ≡ outlet.old.sink.ghost_name }
+    ensures handed_on { HandedOn (K.flushed outlet.new.sink.now) result }
     ensures moved { Moved (M.machine machine.now) S.gave K.wrote intake.old.source.now intake.new.source.now
         outlet.old.sink.now outlet.new.sink.now state.old state.new result }
     ensures left { MoveLeft (M.machine machine.now) intake.new.live outlet.new.live state.old state.new result }
@@ -297,10 +293,13 @@ fn go_with_reject<M: Machine, S: Source, K: Sink>(
         outlet.old.sink.now outlet.new.sink.now state.old.reading state.new.reading result }
 {
     let place = state.place;
-    match look_ahead(machine, intake, &mut state.reading, path, place) {
-        Err(e) => Err(e),
-        Ok(false) => end_turn(machine, outlet, state),
-        Ok(true) => match_turn(machine, outlet, state, path),
+    match tie(machine, intake, outlet, state) {
+        Err(fault) => Err(fault),
+        Ok(()) => match look_ahead(machine, intake, &mut state.reading, path, place) {
+            Err(e) => Err(e),
+            Ok(false) => end_turn(machine, outlet, state),
+            Ok(true) => match_turn(machine, outlet, state, path),
+        },
     }
 }
 
@@ -318,6 +317,7 @@ fn go_without_reject<M: Machine, S: Source, K: Sink>(
 
     ensures same_source { intake.new.source.ghost_name ≡ intake.old.source.ghost_name }
     ensures same_sink { outlet.new.sink.ghost_name ≡ outlet.old.sink.ghost_name }
+    ensures handed_on { HandedOn (K.flushed outlet.new.sink.now) result }
     ensures moved { Moved (M.machine machine.now) S.gave K.wrote intake.old.source.now intake.new.source.now
         outlet.old.sink.now outlet.new.sink.now state.old state.new result }
     ensures left { MoveLeft (M.machine machine.now) intake.new.live outlet.new.live state.old state.new result }
@@ -325,10 +325,13 @@ fn go_without_reject<M: Machine, S: Source, K: Sink>(
         outlet.old.sink.now outlet.new.sink.now state.old.reading state.new.reading result }
 {
     let place = state.place;
-    match look_ahead_last(machine, intake, &mut state.reading, place) {
-        Err(e) => Err(e),
-        Ok(None) => end_turn(machine, outlet, state),
-        Ok(Some(ahead)) => last_turn(machine, outlet, state, ahead),
+    match tie(machine, intake, outlet, state) {
+        Err(fault) => Err(fault),
+        Ok(()) => match look_ahead_last(machine, intake, &mut state.reading, place) {
+            Err(e) => Err(e),
+            Ok(None) => end_turn(machine, outlet, state),
+            Ok(Some(ahead)) => last_turn(machine, outlet, state, ahead),
+        },
     }
 }
 
@@ -346,6 +349,7 @@ fn go_past<M: Machine, S: Source, K: Sink>(
 
     ensures same_source { intake.new.source.ghost_name ≡ intake.old.source.ghost_name }
     ensures same_sink { outlet.new.sink.ghost_name ≡ outlet.old.sink.ghost_name }
+    ensures handed_on { HandedOn (K.flushed outlet.new.sink.now) result }
     ensures moved { Moved (M.machine machine.now) S.gave K.wrote intake.old.source.now intake.new.source.now
         outlet.old.sink.now outlet.new.sink.now state.old state.new result }
     ensures left { MoveLeft (M.machine machine.now) intake.new.live outlet.new.live state.old state.new result }
@@ -353,10 +357,13 @@ fn go_past<M: Machine, S: Source, K: Sink>(
         outlet.old.sink.now outlet.new.sink.now state.old.reading state.new.reading result }
 {
     let place = state.place;
-    match look_ahead_more(machine, intake, &mut state.reading, place, ahead) {
-        Err(e) => Err(e),
-        Ok(None) => end_turn(machine, outlet, state),
-        Ok(Some(ahead)) => last_turn(machine, outlet, state, ahead),
+    match tie_walk(machine, intake, outlet, state.reading.at_end, ahead.state) {
+        Err(fault) => Err(fault),
+        Ok(()) => match look_ahead_more(machine, intake, &mut state.reading, place, ahead) {
+            Err(e) => Err(e),
+            Ok(None) => end_turn(machine, outlet, state),
+            Ok(Some(ahead)) => last_turn(machine, outlet, state, ahead),
+        },
     }
 }
 
@@ -375,6 +382,7 @@ fn go_over<M: Machine, S: Source, K: Sink>(
 
     ensures same_source { intake.new.source.ghost_name ≡ intake.old.source.ghost_name }
     ensures same_sink { outlet.new.sink.ghost_name ≡ outlet.old.sink.ghost_name }
+    ensures handed_on { HandedOn (K.flushed outlet.new.sink.now) result }
     ensures moved { Moved (M.machine machine.now) S.gave K.wrote intake.old.source.now intake.new.source.now
         outlet.old.sink.now outlet.new.sink.now state.old state.new result }
     ensures left { MoveLeft (M.machine machine.now) intake.new.live outlet.new.live state.old state.new result }
@@ -413,6 +421,7 @@ fn go_back<M: Machine, S: Source, K: Sink>(
 
     ensures same_source { intake.new.source.ghost_name ≡ intake.old.source.ghost_name }
     ensures same_sink { outlet.new.sink.ghost_name ≡ outlet.old.sink.ghost_name }
+    ensures handed_on { HandedOn (K.flushed outlet.new.sink.now) result }
     ensures moved { Moved (M.machine machine.now) S.gave K.wrote intake.old.source.now intake.new.source.now
         outlet.old.sink.now outlet.new.sink.now state.old state.new result }
     ensures left { MoveLeft (M.machine machine.now) intake.new.live outlet.new.live state.old state.new result }
@@ -443,6 +452,7 @@ pub fn turn_with_reject<M: Machine, S: Source, K: Sink>(
 
     ensures same_source { intake.new.source.ghost_name ≡ intake.old.source.ghost_name }
     ensures same_sink { outlet.new.sink.ghost_name ≡ outlet.old.sink.ghost_name }
+    ensures handed_on { HandedOn (K.flushed outlet.new.sink.now) result }
     ensures goes_on { MakesTurn (M.machine machine.now) S.gave K.wrote intake.old.source.now intake.new.source.now
         outlet.old.sink.now outlet.new.sink.now state.old state.new result }
     ensures counts { TurnCounts S.ends S.failures K.failures intake.old.source.now intake.new.source.now
@@ -480,6 +490,7 @@ pub fn turn_without_reject<M: Machine, S: Source, K: Sink>(
 
     ensures same_source { intake.new.source.ghost_name ≡ intake.old.source.ghost_name }
     ensures same_sink { outlet.new.sink.ghost_name ≡ outlet.old.sink.ghost_name }
+    ensures handed_on { HandedOn (K.flushed outlet.new.sink.now) result }
     ensures goes_on { MakesTurn (M.machine machine.now) S.gave K.wrote intake.old.source.now intake.new.source.now
         outlet.old.sink.now outlet.new.sink.now state.old state.new result }
     ensures counts { TurnCounts S.ends S.failures K.failures intake.old.source.now intake.new.source.now
@@ -522,6 +533,7 @@ pub fn back_turn<M: Machine, S: Source, K: Sink>(
 
     ensures same_source { intake.new.source.ghost_name ≡ intake.old.source.ghost_name }
     ensures same_sink { outlet.new.sink.ghost_name ≡ outlet.old.sink.ghost_name }
+    ensures handed_on { HandedOn (K.flushed outlet.new.sink.now) result }
     ensures goes_on { MakesTurn (M.machine machine.now) S.gave K.wrote intake.old.source.now intake.new.source.now
         outlet.old.sink.now outlet.new.sink.now state.old state.new result }
     ensures counts { TurnCounts S.ends S.failures K.failures intake.old.source.now intake.new.source.now
@@ -561,6 +573,7 @@ fn turn_on<M: Machine, S: Source, K: Sink>(
 
     ensures same_source { intake.new.source.ghost_name ≡ intake.old.source.ghost_name }
     ensures same_sink { outlet.new.sink.ghost_name ≡ outlet.old.sink.ghost_name }
+    ensures handed_on { HandedOn (K.flushed outlet.new.sink.now) result }
     ensures goes_on { MakesTurn (M.machine machine.now) S.gave K.wrote intake.old.source.now intake.new.source.now
         outlet.old.sink.now outlet.new.sink.now state.old state.new result }
     ensures counts { TurnCounts S.ends S.failures K.failures intake.old.source.now intake.new.source.now
@@ -603,6 +616,8 @@ pub fn turn_of<M: Machine, S: Source, K: Sink>(
         outlet.old.sink.now outlet.new.sink.now state.old state.new result }
     ensures counts { TurnCounts S.ends S.failures K.failures intake.old.source.now intake.new.source.now
         outlet.old.sink.now outlet.new.sink.now state.old.reading state.new.reading result }
+    ensures handed_on { state.old.failed ≡ false → state.old.ended ≡ None
+        → HandedOn (K.flushed outlet.new.sink.now) result }
     ensures after_refusal { state.old.failed ≡ true → (result ≡ Err RunError.Failed)
         × (intake.new.source.now ≡ intake.old.source.now)
         × (outlet.new.sink.now ≡ outlet.old.sink.now) × (state.new ≡ state.old) }

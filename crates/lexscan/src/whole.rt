@@ -6,6 +6,7 @@ ghost use Rattle.lex_semantics.specs.Text.{AllBelow};
 ghost use Rattle.lexscan.specs.Memos.{AreTrue};
 ghost use Rattle.lexscan.specs.Reads.{read_fault_count, write_fault_count};
 ghost use Rattle.lexscan.specs.Stands.{Stands};
+ghost use Rattle.lexscan.specs.Ties.{RunHandedOn};
 ghost use Rattle.lexscan.specs.Runs.{Ran, FewReads, RunCounts};
 ghost use Rattle.lexscan.specs.Turns.{MayTurn};
 
@@ -25,7 +26,7 @@ const MOST_SHOWN: usize = 8_192;
 
 const LEAST_SHOWN: usize = 64;
 
-/// Turns until the end. Answers the status. It makes at most `max_reads` reads.
+/// Turns until the end. Answers the status, with the sink flushed. It makes at most `max_reads` reads.
 pub fn run<M: Machine, S: Source, K: Sink>(
     alloc: Global,
     machine: &M,
@@ -45,6 +46,7 @@ pub fn run<M: Machine, S: Source, K: Sink>(
     ensures read_faults { S.failures source.new ≡ S.failures source.old + read_fault_count result }
     ensures write_faults { K.failures sink.new ≡ K.failures sink.old + write_fault_count result }
     ensures not_failed { IsErrOf result RunError.Failed → ⊥ }
+    ensures handed_on { RunHandedOn (K.flushed sink.new) result }
 {
     let mut intake = Intake::new(source);
     let mut outlet = Outlet::new(sink);
@@ -89,6 +91,7 @@ fn run_turns<M: Machine, S: Source, K: Sink>(
         × FewReads S.ends S.failures intake.old.source.now intake.new.source.now given state.old.reading.max_reads }
     ensures counts { RunCounts S.ends S.failures K.failures intake.old.source.now intake.new.source.now
         outlet.old.sink.now outlet.new.sink.now result }
+    ensures handed_on { RunHandedOn (K.flushed outlet.new.sink.now) result }
 {
     if machine.rejects() {
         run_with_reject(machine, intake, outlet, path, state)
@@ -121,6 +124,7 @@ fn run_with_reject<M: Machine, S: Source, K: Sink>(
         × FewReads S.ends S.failures intake.old.source.now intake.new.source.now given state.old.reading.max_reads }
     ensures counts { RunCounts S.ends S.failures K.failures intake.old.source.now intake.new.source.now
         outlet.old.sink.now outlet.new.sink.now result }
+    ensures handed_on { RunHandedOn (K.flushed outlet.new.sink.now) result }
 {
     'turns: loop {
         match turn_with_reject(machine, intake, outlet, path, state) {
@@ -168,6 +172,7 @@ fn run_without_reject<M: Machine, S: Source, K: Sink>(
         × FewReads S.ends S.failures intake.old.source.now intake.new.source.now given state.old.reading.max_reads }
     ensures counts { RunCounts S.ends S.failures K.failures intake.old.source.now intake.new.source.now
         outlet.old.sink.now outlet.new.sink.now result }
+    ensures handed_on { RunHandedOn (K.flushed outlet.new.sink.now) result }
 {
     let mut most = MOST_SHOWN;
     'turns: loop {

@@ -1,5 +1,5 @@
 //! The lines where code was skipped.
-ghost use Rattle.std.specs.Prelude.{◌≡◌, ◌<◌, ◌+◌, ◌^◌, ◌==◌, if◌then◌else◌, [], ◌∷◌, ◌++◌, OnOk};
+ghost use Rattle.std.specs.Prelude.{◌≡◌, ◌<◌, ◌+◌, ◌^◌, ◌==◌, if◌then◌else◌, [], ◌∷◌, ◌++◌, OnOk, OnErr};
 ghost use Rattle.lexspec_lines.specs.Skips.{next_in};
 
 use std::alloc::{AllocError, Global};
@@ -25,12 +25,13 @@ impl Skipped {
         }
     }
 
-    /// A line of code, which may go on with a run.
+    /// A line of code, which may go on with a run. Where memory is refused, nothing is added.
     pub fn add_line(&mut self, line: u32) -> Result<(), AllocError>
         requires { line + 1 < 2 ^ 32 }
         ensures lines { OnOk result (self.new.lines.items
             ≡ (if next_in self.old == line then self.old.lines.items else self.old.lines.items ++ line ∷ [])) }
         ensures next { OnOk result (next_in self.new ≡ line + 1) }
+        ensures refused { OnErr result ((self.new.lines.items ≡ self.old.lines.items) × (next_in self.new ≡ next_in self.old)) }
     {
         if self.next != line {
             self.lines.push(line)?;
@@ -39,10 +40,11 @@ impl Skipped {
         Ok(())
     }
 
-    /// A block, or the user section, which begins at the line.
+    /// A block, or the user section, which begins at the line. Where memory is refused, nothing is added.
     pub fn add_block(&mut self, line: u32) -> Result<(), AllocError>
         ensures lines { OnOk result (self.new.lines.items ≡ self.old.lines.items ++ line ∷ []) }
         ensures next { next_in self.new ≡ next_in self.old }
+        ensures refused { OnErr result (self.new.lines.items ≡ self.old.lines.items) }
     {
         self.lines.push(line)?;
         Ok(())

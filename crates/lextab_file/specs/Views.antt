@@ -1,5 +1,5 @@
 -- What the reader's values stand for, and what it gives.
-use Rattle.std.specs.Prelude.{◌≡◌, Bool, true, false, Option, Some, None, Result, Ok, Err}
+use Rattle.std.specs.Prelude.{◌≡◌, ℕ, Bool, true, false, Option, Some, None, Result, Ok, Err}
 use Rattle.lextab_packed.specs.Checks.{Sizes}
 use Rattle.lextab_file.specs.Seen.{Seen}
 use Rattle.lextab_file.specs.declared.reading.actions.Before.{Before}
@@ -16,6 +16,11 @@ sizes_in c = record { conditions = c.conditions; rules = c.rules; states = c.sta
 abbrev pub is_memory : ReadError → Bool
 is_memory errors.OutOfMemory = true
 is_memory _ = false
+
+-- how many bytes stand from the start of the field that is refused to the end
+abbrev pub left_at : ReadError → Option ℕ
+left_at (errors.BadField left) = Some left
+left_at _ = None
 
 -- nothing is read, unless memory ran out
 abbrev pub Fails : {Y : Type 0} → ReadError → Option Y → Type 0

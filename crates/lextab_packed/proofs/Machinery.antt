@@ -5,7 +5,8 @@ use Rattle.std.proofs.Common.{◌≡◌, ◌↔◌, ℕ, zero, suc, ◌<◌, Boo
 use Rattle.std.specs.Prelude.{slice_get}
 use Rattle.std.proofs.lemmas.Bool.{cases_lt, both_ways}
 use Rattle.lex_semantics.specs.Text.{Among, Ascending, flag}
-use Rattle.lex_semantics.specs.Legal.{IsLegal}
+use Rattle.lex_semantics.specs.Legal.{IsAction}
+use Rattle.lex_semantics.proofs.Actions.{action_of}
 use Rattle.lex_semantics.specs.Machine.{Machine, walk}
 use Rattle.lex_semantics.specs.MachineLaws.{MachineLaws, LeadsToAccept, StaysBelow}
 use Rattle.lextab_packed.specs.Table.{Table, Condition, Rule}
@@ -17,9 +18,9 @@ use Rattle.lextab_packed.proofs.Places.{past_end, row_is, step_below, step_dead,
 same_bool : (a b : Bool) → IsProp (a ≡ b)
 same_bool a b = Prim.hlevel props
 
-legal_from : (z : Sizes) (n : ℕ) (rs : List Rule) (i : ℕ) → Each (IsRule z) n rs → i < length rs → IsLegal z.conditions (statements_at (slice_get rs i))
+legal_from : (z : Sizes) (n : ℕ) (rs : List Rule) (i : ℕ) → Each (IsRule z) n rs → i < length rs → IsAction z.conditions (statements_at (slice_get rs i))
 legal_from z n [] i h lt = absurd (omega (arith, lt))
-legal_from z n (r ∷ rs) zero h lt = h.0.legal
+legal_from z n (r ∷ rs) zero h lt = action_of z.conditions r.statements h.0.legal
 legal_from z n (r ∷ rs) (suc i) h lt = legal_from z (suc n) rs i h.1 (omega (arith, lt))
 
 start_of : (n : ℕ) (c : Condition) (line_start : Bool) → c.start < n → c.line_start < n → start_at (Some c) line_start < n

@@ -1,6 +1,5 @@
 //! The packed tables of an automaton, with the actions of its specification.
 ghost use Rattle.std.specs.Prelude.{◌≡◌, ℕ, ◌≤◌, length, IfOk};
-ghost use Rattle.lex_semantics.specs.MachineLaws.{MachineLaws};
 ghost use Rattle.lex_semantics.specs.TableFor.{TableFor};
 ghost use Rattle.lexauto_dfa.specs.Parts.{conditions, states, lists_in};
 ghost use Rattle.lexauto_dfa.specs.Invariant.{IsAutomaton};
@@ -52,7 +51,6 @@ fn table_parts(
 /// The packed tables of an automaton that is one for the specification: its byte classes, defaults, bases and slots are
 /// those of first fit in order of state number, and the machine is the automaton's with the specification's actions.
 pub fn pack(alloc: Global, dfa: &Dfa, spec: &Spec) -> Result<Tables, OutOfMemory>
-    requires laws { MachineLaws (machine_of dfa.now (spec_of spec.now)) }
     requires conditions { conditions_of dfa.now ≡ length (conditions_in (spec_of spec.now)) }
     requires table { TableFor (machine_of dfa.now (spec_of spec.now)) (spec_of spec.now) }
     ensures packed { IfOk result (λ t. IsPacked (states_of dfa.now) (next_of dfa.now) (packing_in (table_of t.parts))) }

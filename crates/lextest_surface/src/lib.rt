@@ -14,3 +14,5 @@ mod scans;
 mod specifications;
 #[cfg(test)]
 mod tables;
+#[cfg(test)]
+mod words;

@@ -14,6 +14,8 @@ pub(crate) struct Slice<'a> {
     pub(crate) rest: &'a [u8],
     ends: u64,
     failures: u64,
+    ghost ends_bound: { ends < 2 ^ 64 },
+    ghost failures_bound: { failures < 2 ^ 64 },
 }
 
 impl<'a> Slice<'a> {
@@ -75,6 +77,10 @@ impl Source for Slice<'_> {
     ghost gave_more = { λ s t u xs ys p q. Gave-trans s.rest.now t.rest.now u.rest.now s.ends t.ends u.ends s.failures t.failures u.failures xs ys p q };
 
     ghost none_ready = { λ s. never-waits s.rest.now };
+
+    ghost ends_bound = { λ s. s.ends_bound };
+
+    ghost failures_bound = { λ s. s.failures_bound };
 }
 
 /// Keeps what it is given. It fails only where memory is refused.
@@ -82,6 +88,7 @@ impl Source for Slice<'_> {
 pub(crate) struct Kept {
     pub(crate) bytes: Vec<u8>,
     failures: u64,
+    ghost failures_bound: { failures < 2 ^ 64 },
 }
 
 impl Kept {
@@ -122,4 +129,6 @@ impl Sink for Kept {
     ghost wrote_none = { λ s. Kept-nil s.bytes.items };
 
     ghost wrote_more = { λ s t u xs ys p q. Kept-trans s.bytes.items t.bytes.items u.bytes.items xs ys p q };
+
+    ghost failures_bound = { λ s. s.failures_bound };
 }

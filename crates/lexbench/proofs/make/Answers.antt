@@ -6,9 +6,6 @@ useless_rules-requires-clause-conditions c = c.requires.conditions
 pub useless_rules-requires-clause-table : goal.useless_rules-requires-clause-table
 useless_rules-requires-clause-table c = c.requires.table
 
-pub pack-requires-clause-laws : goal.pack-requires-clause-laws
-pack-requires-clause-laws c = c.requires.laws
-
 pub pack-requires-clause-conditions : goal.pack-requires-clause-conditions
 pack-requires-clause-conditions c = c.requires.conditions
 

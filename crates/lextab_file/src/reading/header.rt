@@ -1,8 +1,8 @@
 //! Reads the header: the magic bytes, the version, and how many there are of each kind.
-ghost use Rattle.std.specs.Prelude.{◌≡◌, ◌≤◌, ◌==◌, ◌||◌, ◌⊎◌, IfOk};
+ghost use Rattle.std.specs.Prelude.{◌≡◌, ◌≤◌, ◌==◌, ◌||◌, ◌⊎◌, false, IfOk, IfErr};
 ghost use Rattle.std.specs.Int.{w16};
 ghost use Rattle.lextab_file.specs.Reading.{only_if, number_at, bytes_at, is_magic, sizes_at};
-ghost use Rattle.lextab_file.specs.Views.{Gives, sizes_in};
+ghost use Rattle.lextab_file.specs.Views.{Gives, sizes_in, is_memory};
 ghost use Rattle.lex_semantics.specs.Limits.{max_classes};
 
 use super::fields::{long_within, short};
@@ -20,7 +20,8 @@ pub struct Counts {
 }
 
 pub fn magic(bytes: &[u8]) -> Result<(&[u8], &[u8]), ReadError>
-    ensures { Gives (λ x. (x.0.now, x.1.now)) result (only_if is_magic (bytes_at 6) bytes.now) }
+    ensures gives { Gives (λ x. (x.0.now, x.1.now)) result (only_if is_magic (bytes_at 6) bytes.now) }
+    ensures no_memory { IfErr result (λ e. is_memory e ≡ false) }
 {
     if bytes.len() < 6 {
         return Err(ReadError::Truncated);

@@ -21,3 +21,6 @@ returns-clause-some_reject c = Example.some_reject
 
 pub returns-clause-not_none : goal.returns-clause-not_none
 returns-clause-not_none c = Example.not_none
+
+pub returns-clause-prints_twice : goal.returns-clause-prints_twice
+returns-clause-prints_twice c = Example.prints_twice

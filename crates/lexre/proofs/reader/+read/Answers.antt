@@ -121,7 +121,7 @@ read_within-returns-in-Err-finish t c = record {
   spare = tt;
   few = tt;
   sound = tt;
-  known = tt;
+  known = c.loop-rest.invariant.known;
   same_open = tt;
   none = refused_end c.args.scope.options.posix (symbol_at c.args.scope.options.fold) (get c.args.scope.definitions.now) (nothing_at c.args.scope.options.fold) c.in-Err-finish.kind c.args.room c.args.left (state_of c.loop-rest.stack) c.loop-rest.rest.now c.args.text.now
       c.loop-rest.invariant.agree (nothing_left _ (search rules)) c.in-Err-finish.ensures;
@@ -153,6 +153,20 @@ read_name-read_within-requires t c =
         ),
       ),
     )
+
+pub read_name-returns-in_err-enter-clause-known : goal.read_name-returns-in_err-enter-clause-known
+read_name-returns-in_err-enter-clause-known t c =
+    let P : Trees → Type 0 = λ x. AreKnown c.args.scope.options c.args.scope.definitions.now x in subst P (sym c.enter.ensures.trees) c.requires.known_so_far
+
+pub read_name-returns-in_err-share-in-Ok-clause-known : goal.read_name-returns-in_err-share-in-Ok-clause-known
+read_name-returns-in_err-share-in-Ok-clause-known t c =
+    let P : Trees → Type 0 = λ x. AreKnown c.args.scope.options c.args.scope.definitions.now x in subst P (sym c.leave.ensures.trees) c.in-Ok.ensures.known
+
+pub read_name-returns-in_err-keep-in-Ok-clause-known : goal.read_name-returns-in_err-keep-in-Ok-clause-known
+read_name-returns-in_err-keep-in-Ok-clause-known t c =
+    let P : Trees → Type 0 = λ x. AreKnown c.args.scope.options c.args.scope.definitions.now x in
+    let closed : P (trees_of c.leave.new.self) = subst P (sym c.leave.ensures.trees) c.in-Ok.ensures.known in
+    subst P (sym c.in_err-keep-in-Ok.ensures.no_memory) closed
 
 pub read_name-returns-in_ok-keep-in-Ok-clause-known : goal.read_name-returns-in_ok-keep-in-Ok-clause-known
 read_name-returns-in_ok-keep-in-Ok-clause-known t c =
@@ -239,6 +253,12 @@ step-returns-clause-sound t c = elim c.match-symbol.branch [
 
 pub step-returns-clause-known : goal.step-returns-clause-known
 step-returns-clause-known t c = elim c.match-symbol.branch [
+  | step-in-Name+in_ok-tree-in-Name+in_ok-nodes-in-Name w ↦ rw w.names-is w.in_ok-tree-in-Name.ensures.known
+  | step-in_default+in_ok-nodes-in_default w ↦ rw w.names-is c.requires.known_so_far
+]
+
+pub step-returns-then-taken-room-clause-known : goal.step-returns-then-taken-room-clause-known
+step-returns-then-taken-room-clause-known t c = elim c.match-symbol.branch [
   | step-in-Name+in_ok-tree-in-Name+in_ok-nodes-in-Name w ↦ rw w.names-is w.in_ok-tree-in-Name.ensures.known
   | step-in_default+in_ok-nodes-in_default w ↦ rw w.names-is c.requires.known_so_far
 ]

@@ -1,6 +1,5 @@
-use Rattle.std.proofs.Common.{◌≡◌, ◌+◌, List, drop, sym, ◌∙◌, arith}
+use Rattle.std.proofs.Common.{◌+◌, drop, ◌∙◌, arith}
 use Rattle.std.specs.Prelude.{map}
-use Rattle.lex_semantics.specs.Spec.{Statement}
 use Rattle.lex_machine.specs.Views.{statement_of}
 use Rattle.lexscan.proofs.Saying.{left_is}
 use Rattle.lexscan.proofs.Telling as Tell

@@ -1,4 +1,4 @@
-use Rattle.std.proofs.Common.{◌≡◌, ℕ, List, length, take, subst}
+use Rattle.std.proofs.Common.{ℕ, List, take, subst}
 use Rattle.std.proofs.lemmas.List.{length-take-le}
 use Rattle.lex_semantics.specs.Machine.{Machine}
 use Rattle.lexscan.specs.Bursts.{Tells}

@@ -1,5 +1,6 @@
 use Rattle.lex_semantics.specs.Machine.{Machine}
 use Rattle.lexscan.proofs.Leaving.{match_cut, match_done, match_ended}
+use Rattle.lexscan.proofs.Tying.{write_only}
 use Rattle.lexscan.proofs.turn.match_turn.Goals as goal
 
 pub returns-in-Err-clause-left : goal.returns-in-Err-clause-left
@@ -20,3 +21,9 @@ returns-in-Ok-Some-clause-left g c =
     let M : Machine = g.M.Machine.machine c.args.machine.now in
     match_ended M g.K.Sink.wrote g.K.Sink.failures _ _ _ c.args.state.now c.args.path.now.states _ c.descend.new.acting c.finish_turn.new.state c.in-Ok-Some.finish c.finish_turn.result g.met.K.Sink.wrote_more
     ens.performed ens.inside ens.sink.write_faults c.finish_turn.ensures.ends
+
+pub returns-in-Err-clause-handed_on : goal.returns-in-Err-clause-handed_on
+returns-in-Err-clause-handed_on g c = write_only _ c.in-Err.e c.in-Err.ensures.sink.refusals
+
+pub returns-in-Ok-None-clause-handed_on : goal.returns-in-Ok-None-clause-handed_on
+returns-in-Ok-None-clause-handed_on g c = tt

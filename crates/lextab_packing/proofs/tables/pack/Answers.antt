@@ -1,6 +1,7 @@
 use Rattle.std.proofs.Common.{◌≡◌, ℕ, Bool, List, rules, sym, ap, subst, ◌∙◌}
 use Rattle.lex_semantics.specs.Text.{flag}
 use Rattle.lexspec.specs.Views.{spec_of}
+use Rattle.lexspec.proofs.TestLaws.{spec_is_sound}
 use Rattle.lexauto_dfa.specs.Parts.{states, next}
 use Rattle.lexauto_dfa.specs.declared.dfa.Parts.{Parts}
 use Rattle.lextab_packed.specs.Table.{Table}
@@ -14,6 +15,7 @@ use Rattle.lextab_packing.specs.Packing.{Packing, IsPacked}
 use Rattle.lexauto_dfa.specs.Alike.{moves}
 use Rattle.lextab_packing.specs.Tables.{packing_in}
 use Rattle.lextab_packing.specs.Views.{packing_of}
+use Rattle.lexauto_dfa.proofs.Fitting.{fitting_laws}
 use Rattle.lextab_packing.proofs.Bounds.{class_count_low}
 use Rattle.lextab_packing.proofs.Firsts.{first_alone}
 use Rattle.lextab_packing.proofs.Lawful.{is_table, goes_on, same_machine, packed_as, has_packing}
@@ -37,7 +39,7 @@ new-requires-clause-table c =
     let len : c.len.result ≡ states c.parts-parts.result.now = search rules in
     let packed = packed_of p c.parts-parts.result.now c.len.result c.deref.result.now q c.parts-parts.ensures len c.deref.ensures.value c.in_ok-packed.ensures in
     let is : table_of c.in_ok-table.table ≡ assembled p spec q = c.in_ok-table.ensures.table ∙ ap (λ (x : Parts). assembled x spec q) c.parts-parts.ensures in
-    subst IsTable (sym is) (is_table p a spec c.requires.laws c.requires.conditions c.args.spec.now.sound q packed
+    subst IsTable (sym is) (is_table p a spec (fitting_laws p a spec (spec_is_sound spec c.args.spec.now.sound) c.requires.conditions c.requires.table) c.requires.conditions c.args.spec.now.sound q packed
     (λ none. first_alone p a spec c.requires.conditions c.requires.table none)
     (subst HasTexts is c.in_ok-table.ensures.texts))
 
@@ -52,7 +54,7 @@ new-requires-clause-flags c =
     let is : table_of c.in_ok-table.table ≡ assembled p spec q = c.in_ok-table.ensures.table ∙ ap (λ (x : Parts). assembled x spec q) c.parts-parts.ensures in
     let flags : c.in_ok-goes_on.goes_on.items ≡ p.goes_on.items = c.in_ok-goes_on.ensures.items ∙ c.deref-2.ensures.value ∙ ap (λ (x : Parts). x.goes_on.items) c.parts-parts.ensures in
     subst (λ (t : Table). GoesOn t c.in_ok-goes_on.goes_on.items) (sym is)
-    (subst (λ (l : List Bool). GoesOn (assembled p spec q) l) (sym flags) (goes_on p a spec c.requires.laws c.requires.conditions c.args.spec.now.sound q packed))
+    (subst (λ (l : List Bool). GoesOn (assembled p spec q) l) (sym flags) (goes_on p a spec (fitting_laws p a spec (spec_is_sound spec c.args.spec.now.sound) c.requires.conditions c.requires.table) c.requires.conditions c.args.spec.now.sound q packed))
 
 pub returns-clause-packed : goal.returns-clause-packed
 returns-clause-packed c =
@@ -64,9 +66,9 @@ returns-clause-packed c =
     let packed = packed_of p c.parts-parts.result.now c.len.result c.deref.result.now q c.parts-parts.ensures len c.deref.ensures.value c.in_ok-packed.ensures in
     let is : table_of c.new.result.parts ≡ assembled p spec q =
     ap (λ (x : TableParts). table_of x) c.new.ensures.parts ∙ c.in_ok-table.ensures.table ∙ ap (λ (x : Parts). assembled x spec q) c.parts-parts.ensures in
-    let same = has_packing p a spec c.requires.laws c.requires.conditions c.args.spec.now.sound q packed in
+    let same = has_packing p a spec (fitting_laws p a spec (spec_is_sound spec c.args.spec.now.sound) c.requires.conditions c.requires.table) c.requires.conditions c.args.spec.now.sound q packed in
     subst (λ (r : Packing). IsPacked (states p) (next p) r) (sym (ap (λ (t : Table). packing_in t) is ∙ same))
-    (packed_as p a spec c.requires.laws c.requires.conditions c.args.spec.now.sound q packed)
+    (packed_as p a spec (fitting_laws p a spec (spec_is_sound spec c.args.spec.now.sound) c.requires.conditions c.requires.table) c.requires.conditions c.args.spec.now.sound q packed)
 
 pub returns-clause-machine : goal.returns-clause-machine
 returns-clause-machine c =
@@ -81,4 +83,4 @@ returns-clause-machine c =
     let flags : c.new.result.goes_on.items ≡ p.goes_on.items = c.new.ensures.flags ∙ c.in_ok-goes_on.ensures.items ∙ c.deref-2.ensures.value ∙ ap (λ (x : Parts). x.goes_on.items) c.parts-parts.ensures in
     ap (λ (t : Table). machine_of_table t (λ s. flag c.new.result.goes_on.items s)) is
     ∙ ap (λ (l : List Bool). machine_of_table (assembled p spec q) (λ s. flag l s)) flags
-    ∙ same_machine p a spec c.requires.laws c.requires.conditions c.args.spec.now.sound q packed
+    ∙ same_machine p a spec (fitting_laws p a spec (spec_is_sound spec c.args.spec.now.sound) c.requires.conditions c.requires.table) c.requires.conditions c.args.spec.now.sound q packed

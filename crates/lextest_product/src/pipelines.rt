@@ -1,0 +1,157 @@
+//! Scans whose input comes a piece at a time: what was written has been handed on before the next piece is asked for.
+use crate::building::made;
+use lexkit::{
+    ByteReader, ByteWriter, FromBytes, Options, RunError, ScanError, ToWrite, scan_spec, scan_table,
+};
+use std::cell::Cell;
+use std::io::{self, Error, ErrorKind, Read, Write};
+use std::test::Fail;
+
+/// A piece of an input, and how many bytes have to be written before the next one is asked for.
+type Piece = (&'static [u8], usize);
+
+/// Gives a piece a read, and notes whether something was still to be written then.
+#[derive(Drop)]
+struct Pieces<'a> {
+    left: &'static [Piece],
+    wanted: usize,
+    written: &'a Cell<usize>,
+    late: &'a Cell<bool>,
+}
+
+impl Read for Pieces<'_> {
+    fn read(&mut self, buf: &mut [u8]) -> io::Result<usize> {
+        if self.written.get() != self.wanted {
+            self.late.set(true);
+        }
+        let Some(((bytes, wanted), left)) = self.left.split_first() else {
+            return Ok(0);
+        };
+        self.left = left;
+        self.wanted = *wanted;
+        let mut count = 0;
+        for (place, byte) in buf.iter_mut().zip(bytes.iter()) {
+            *place = *byte;
+            count += 1;
+        }
+        Ok(count)
+    }
+}
+
+/// Counts the bytes that have arrived.
+#[derive(Drop)]
+struct Arrived<'a> {
+    written: &'a Cell<usize>,
+}
+
+impl Write for Arrived<'_> {
+    fn write(&mut self, buf: &[u8]) -> io::Result<usize> {
+        self.written
+            .set(self.written.get().saturating_add(buf.len()));
+        Ok(buf.len())
+    }
+
+    fn flush(&mut self) -> io::Result<()> {
+        Ok(())
+    }
+}
+
+/// Takes bytes, and can't hand them on.
+#[derive(Drop)]
+struct Stuck;
+
+impl Write for Stuck {
+    fn write(&mut self, buf: &[u8]) -> io::Result<usize> {
+        Ok(buf.len())
+    }
+
+    fn flush(&mut self) -> io::Result<()> {
+        Err(Error::from(ErrorKind::Other))
+    }
+}
+
+const LINES: &[Piece] = &[(b"ab\n", 3), (b"c\n", 6), (b"d\ne\n", 12)];
+
+const PARTS: &[Piece] = &[
+    (b"ab", 0),
+    (b"c\nde", 3),
+    (b"f", 3),
+    (b"\ng\nh", 9),
+    (b"\n", 12),
+];
+
+/// Each line is answered by three bytes: by a rule that is told at a glance, by REJECT, by yyless, and in another condition.
+const FILTERS: &[&[u8]] = &[
+    b"%%\n[a-z]+\\n printf(\"ok\\n\");\n",
+    b"%%\n[a-z]+\\n REJECT;\n[a-z]+\\n printf(\"ok\\n\");\n",
+    b"%x L\n%%\n[a-z] yyless(1); BEGIN(L);\n<L>[a-z]*\\n printf(\"ok\\n\"); BEGIN(INITIAL);\n",
+];
+
+/// Whether some piece was asked for before all was written that the pieces before it bring.
+fn is_late(
+    rt: &HostRuntime,
+    filter: &[u8],
+    pieces: &'static [Piece],
+    by_table: bool,
+) -> Result<bool, Fail> {
+    let written = Cell::new(0);
+    let late = Cell::new(false);
+    let reader = Pieces {
+        left: pieces,
+        wanted: 0,
+        written: &written,
+        late: &late,
+    };
+    let mut source = FromBytes::new(ByteReader::new(rt.alloc(), reader)?);
+    let writer = Arrived { written: &written };
+    let mut sink = ToWrite::new(ByteWriter::new(rt.alloc(), writer)?);
+    let status = if by_table {
+        let file = made(rt.alloc(), filter)?;
+        scan_table(rt.alloc(), file.written(), &mut source, &mut sink)?
+    } else {
+        scan_spec(rt.alloc(), filter, Options::new(), &mut source, &mut sink)?
+    };
+    Ok(late.get() || status != 0)
+}
+
+#[test]
+fn answers_a_line_before_it_asks_for_more(rt: HostRuntime) -> Result<(), Fail> {
+    for &filter in FILTERS {
+        assert!(rt; !is_late(&rt, filter, LINES, false)?);
+        assert!(rt; !is_late(&rt, filter, LINES, true)?);
+    }
+    Ok(())
+}
+
+#[test]
+fn answers_a_line_before_it_asks_for_the_rest_of_the_next(rt: HostRuntime) -> Result<(), Fail> {
+    for &filter in FILTERS {
+        assert!(rt; !is_late(&rt, filter, PARTS, false)?);
+    }
+    Ok(())
+}
+
+/// What can't be handed on is a write fault, and no byte is asked for after it.
+#[test]
+fn tells_what_cannot_be_handed_on(rt: HostRuntime) -> Result<(), Fail> {
+    let written = Cell::new(0);
+    let late = Cell::new(false);
+    let reader = Pieces {
+        left: LINES,
+        wanted: 0,
+        written: &written,
+        late: &late,
+    };
+    let mut source = FromBytes::new(ByteReader::new(rt.alloc(), reader)?);
+    let mut sink = ToWrite::new(Stuck);
+    let got = scan_spec(
+        rt.alloc(),
+        FILTERS[0],
+        Options::new(),
+        &mut source,
+        &mut sink,
+    );
+    assert!(rt; got == Err(ScanError::Run(RunError::Write)), "{got:?}");
+    assert!(rt; !late.get());
+    Ok(())
+}
