@@ -10,6 +10,7 @@ use Rattle.lex_semantics.specs.TableFor.{TableFor}
 use Rattle.lex_semantics.specs.Reports.{Useless}
 use Rattle.lex_semantics.specs.Subsets.{Subsets, all_positions}
 use Rattle.lexspec.specs.Files.{SpellsSpec}
+use Rattle.lexspec.specs.Skipped.{AreSkipped}
 use Rattle.lexauto_dfa.specs.Automata.{conditions_of, states_of, next_of, machine_of}
 use Rattle.lexauto_dfa.specs.declared.dfa.Dfa.{Dfa}
 use Rattle.lexauto_minimise.specs.Least.{IsLeast, IsNumbered}
@@ -60,10 +61,10 @@ pub record AreCounts (S : Spec) (subsets : ℕ) (t : Table) (z : Stats) : Type 0
   pub slots : z.slots ≡ length t.slots
   pub bytes : z.bytes ≡ length (file_of t)
 
--- one warning for each of some lines of skipped code and for each useless rule, in order of line
-abbrev pub AreWarnings : Spec → List Warning → Type 0
-AreWarnings S ws =
-    AreInOrder ws × ((skipped useless : List ℕ) × Ascending useless × ((i : ℕ) → Among useless i ↔ Useless S i)
+-- one warning for each line of skipped code and for each useless rule, in order of line
+abbrev pub AreWarnings : Spec → List ℕ → List Warning → Type 0
+AreWarnings S skipped ws =
+    AreInOrder ws × ((useless : List ℕ) × Ascending useless × ((i : ℕ) → Among useless i ↔ Useless S i)
     × IsPermutation (map of_code skipped ++ map (of_rule S.rules) useless) ws)
 
 -- the states after back words, ascending, each with its first word
@@ -72,8 +73,8 @@ pub record AreBackUps (d : Dfa) (S : Spec) (entries : List BackUp) : Type 0 wher
   pub states : (s : ℕ) → Among (states_in entries) s ↔ IsAfterBackWord (machine_of d S) S s
   pub words : (e : BackUp) → Among entries e → IsFirstWord d.parts e.state e.word.items
 
--- the packed tables of the least automaton, whose file is the canonical one, with warnings, back words and counts
-pub record IsMadeOf (limits : Limits) (S : Spec) (g : Generated) : Type 0 where
+-- the packed tables of the least automaton, whose file is the canonical one, with warnings, back words and counts; `skipped` are the lines of skipped code
+pub record IsMadeOf (limits : Limits) (S : Spec) (skipped : List ℕ) (g : Generated) : Type 0 where
   pub sound : IsSound S
   pub automaton : Dfa
   pub subsets : ℕ
@@ -81,16 +82,16 @@ pub record IsMadeOf (limits : Limits) (S : Spec) (g : Generated) : Type 0 where
   pub packed : IsPacked (states_of automaton) (next_of automaton) (packing_in (table_of g.tables.parts))
   pub machine : table_machine g.tables ≡ machine_of automaton S
   pub canonical : IsCanonical S (file_of (table_of g.tables.parts))
-  pub warnings : AreWarnings S g.warnings.items
+  pub warnings : AreWarnings S skipped g.warnings.items
   pub backup : AreBackUps automaton S g.backup.items
   pub stats : AreCounts S subsets (table_of g.tables.parts) g.stats
 
--- what is made by a specification
-abbrev pub MakesBy : Limits → Spec → Result Generated GenError → Type 0
-MakesBy limits S (Ok g) = IsMadeOf limits S g
-MakesBy limits S (Err e) = SpecRefusal limits S e
+-- what is made by a specification with these lines of skipped code
+abbrev pub MakesBy : Limits → Spec → List ℕ → Result Generated GenError → Type 0
+MakesBy limits S skipped (Ok g) = IsMadeOf limits S skipped g
+MakesBy limits S skipped (Err e) = SpecRefusal limits S e
 
 -- what is made of a text
 abbrev pub Makes : Options → List ℕ → Result Generated GenError → Type 0
-Makes options text (Ok g) = (S : Spec) × SpellsSpec (reading options) text S × IsMadeOf options.limits S g
+Makes options text (Ok g) = (S : Spec) × SpellsSpec (reading options) text S × (skipped : List ℕ) × AreSkipped text skipped × IsMadeOf options.limits S skipped g
 Makes options text (Err e) = Refusal options text e

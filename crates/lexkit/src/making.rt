@@ -1,6 +1,6 @@
 //! What is made of the text of a specification.
 ghost use Rattle.std.specs.Prelude.{◌≡◌, ◌≤◌, IfOk, IfErr};
-ghost use Rattle.lexspec.specs.Views.{spec_of};
+ghost use Rattle.lexspec.specs.Views.{spec_of, skipped_in};
 ghost use Rattle.lexkit.specs.Generated.{IsLeastOf, IsMadeOf, SpecRefusal, MakesBy, Makes};
 ghost use Rattle.lex_semantics.specs.Limits.{max_positions, max_states};
 
@@ -55,7 +55,7 @@ pub fn generate(alloc: Global, text: &[u8], options: Options) -> Result<Generate
 fn generate_by(alloc: Global, spec: &Spec, limits: Limits) -> Result<Generated, GenError>
     requires few_positions { limits.positions ≤ max_positions }
     requires few_states { limits.states ≤ max_states }
-    ensures { MakesBy limits (spec_of spec.now) result }
+    ensures { MakesBy limits (spec_of spec.now) (skipped_in spec.now) result }
 {
     let least = match least_automaton(alloc, spec, limits) {
         Err(error) => return Err(error),
@@ -95,7 +95,7 @@ fn made_of(
     least: &Least,
 ) -> Result<Generated, OutOfMemory>
     requires least { IsLeastOf limits (spec_of spec.now) least.now.subsets least.now.automaton }
-    ensures { IfOk result (IsMadeOf limits (spec_of spec.now)) }
+    ensures { IfOk result (IsMadeOf limits (spec_of spec.now) (skipped_in spec.now)) }
 {
     tested_specifications();
     let useless = useless_rules(alloc, spec, &least.automaton)?;

@@ -1,6 +1,6 @@
 -- A file spells at most one specification.
 use Rattle.std.proofs.Common.{◌≡◌, ℕ, ◌+◌, ◌-◌, ◌≤◌, Bool, List, [], ◌∷◌, length, Option, Some, None, sym, ◌∙◌, ap, subst, arith}
-use Rattle.std.specs.Prelude.{codes, ◌||◌}
+use Rattle.std.specs.Prelude.{codes}
 use Rattle.std.specs.FinMap.{from_entries}
 use Rattle.lex_semantics.specs.Tree.{Tree, In}
 use Rattle.lex_semantics.specs.Shapes.{Language, HasLengths}

@@ -1,5 +1,5 @@
 -- Whole files, from their sections.
-use Rattle.std.proofs.Common.{◌≡◌, ℕ, ◌+◌, ◌-◌, ◌≤◌, ◌==◌, ◌&&◌, ◌||◌, Bool, true, false, if◌then◌else◌, List, [], ◌∷◌, map, length, refl, sym, ap, subst, ◌∙◌, arith, length-append}
+use Rattle.std.proofs.Common.{◌≡◌, ℕ, ◌+◌, ◌-◌, ◌≤◌, ◌==◌, ◌&&◌, Bool, true, false, if◌then◌else◌, List, [], ◌∷◌, ◌++◌, map, length, refl, sym, ap, subst, ◌∙◌, arith, length-append}
 use Rattle.std.specs.Prelude.{cond, codes, Result, Ok, Err, IfOk, IfErr}
 use Rattle.std.specs.FinMap.{from_entries}
 use Rattle.std.proofs.lemmas.List.{length-map}
@@ -10,24 +10,29 @@ use Rattle.lex_semantics.specs.Reading.{begins}
 use Rattle.lexspec_lines.specs.Lines.{without_returns, line_in, newlines}
 use Rattle.lexspec_lines.specs.DefinitionLines.{Definition, definition_at, IsUpTo, all_conditions, names_of, has_name, substitutes_of, all_options}
 use Rattle.lexspec_lines.specs.Declaring.{declared_of, AreAllowed}
-use Rattle.lexspec.specs.Items.{AreItems}
+use Rattle.lexspec.specs.Items.{IsItem, AreItems}
+use Rattle.lexspec.specs.Skipped.{code_of_item, user_section, EndsRules, AreSkipped}
 use Rattle.lexspec.specs.RuleItems.{AreRules}
 use Rattle.lexspec.specs.Files.{AreSingle, conditions_with, SpellsSpec}
 use Rattle.lexspec.specs.ItemReads.{names_in}
 use Rattle.lexspec.specs.RulesReads.{HasRules}
 use Rattle.lexspec_lines.specs.Sections.{HasSection}
-use Rattle.lexspec.specs.Readings.{of_sections, SpellsRest}
+use Rattle.lexspec.specs.Readings.{of_sections, SpellsRest, SkipsRest}
 use Rattle.lexspec.specs.EndRules.{end_rule_of}
 use Rattle.lexspec.specs.RuleViews.{rule_of}
 use Rattle.lexspec_lines.specs.Outcome.{UnlessMemory}
 use Rattle.lexspec.specs.Tests.{is_sound}
-use Rattle.lexspec.specs.Views.{spec_of}
+use Rattle.lexspec.specs.Views.{spec_of, skipped_in}
 use Rattle.lexre_bytes.specs.declared.refusals.SpecError.{SpecError}
 use Rattle.lexre_bytes.specs.declared.refusals.SpecErrorKind.{SpecErrorKind}
 use Rattle.lexspec.specs.declared.spec.Spec.{Spec as SpecOfCode}
 use Rattle.lexspec_lines.specs.declared.declarations.Declarations.{Declarations}
 use Rattle.lexspec.specs.declared.rules_section.RulesSection.{RulesSection}
 use Rattle.lexspec_lines.specs.declared.section.Section.{Section}
+use Rattle.lexspec_lines.specs.declared.skipped.Skipped.{Skipped}
+use Rattle.lexspec_lines.specs.SkippedCode.{told_lines, code_of_definition, AreFrom, code_in}
+use Rattle.lexspec_lines.specs.Skips.{TellsPieces}
+use Rattle.lexspec_lines.proofs.CodeLaws.{lines_told}
 use Rattle.lexspec_lines.proofs.DeclaringLaws.{names_kept}
 use Rattle.lexspec_lines.proofs.OneSection.{separator_ends, one_up_to}
 use Rattle.lexre_bytes.proofs.MemoryLaws.{unless_memory}
@@ -175,3 +180,45 @@ pub section_none : (how : ReadOptions) (file kept : File) (kind : SpecErrorKind)
 section_none how file kept kind is h =
     unless_memory kind ((ds : List Definition) (after : List ℕ) → IsUpTo definition_at kept ds after → begins (codes "%%") after ≡ true → AreAllowed ds → ⊥) ((S : Spec) → SpellsSpec how file S → ⊥)
     (λ none. no_section how file (λ ds after up. none ds after (subst (λ z. IsUpTo definition_at z ds after) (sym is) up))) h
+
+-- the lines at which code was skipped
+
+pub rest_skipped : (r : Result SpecOfCode SpecError) (s : Section) (x : RulesSection) (k : Skipped) (text : List ℕ) → text ≡ (line_in s.rest.now).1 → TellsPieces [] IsItem code_of_item (s.line + 1 + newlines text) text x.rest.now k → EndsRules x.rest.now
+    → x.line + newlines x.rest.now ≡ s.line + 1 + newlines text
+    → IfOk r (λ o. skipped_in o ≡ s.declarations.skipped.lines.items ++ k.lines.items ++ user_section x.line x.rest.now) → IfOk r (λ o. SkipsRest s (skipped_in o))
+rest_skipped (Err e) s x k text is told over line lines = tt
+rest_skipped (Ok o) s x k text is told over line lines =
+    let items = told.pieces in
+    let counts : newlines text ≡ newlines (line_in s.rest.now).1 = ap newlines is in
+    let place : x.line ≡ s.line + 1 + newlines (line_in s.rest.now).1 - newlines x.rest.now = omega (arith, line, counts) in
+    record {
+      items = items;
+      rest = x.rest.now;
+      pieces = subst (λ z. AreFrom IsItem (s.line + 1) z items x.rest.now) is told.numbered;
+      stops = over;
+      lines_are = lines ∙ ap (λ z. s.declarations.skipped.lines.items ++ z ++ user_section x.line x.rest.now) (lines_told (code_in code_of_item items) k told.told)
+          ∙ ap (λ z. s.declarations.skipped.lines.items ++ told_lines 0 (code_in code_of_item items) ++ user_section z x.rest.now) place;
+    }
+
+skipped_all : (how : ReadOptions) (file lines : List ℕ) (s : Section) → HasSection how (without_returns file) s → SkipsRest s lines → AreSkipped file lines
+skipped_all how file lines s h r =
+    let definitions = h.code.pieces in
+    let line : s.line + 1 ≡ 2 + newlines file - newlines s.rest.now = omega (arith, h.line, newlines_kept file) in
+    record {
+      definitions = definitions;
+      after = s.rest.now;
+      first_section = h.code.numbered;
+      separator = h.separator;
+      items = r.items;
+      rest = r.rest;
+      second_section = subst (λ z. AreFrom IsItem z (line_in s.rest.now).1 r.items r.rest) line r.pieces;
+      stops = r.stops;
+      lines_are = r.lines_are ∙ ap (λ z. z ++ told_lines 0 (code_in code_of_item r.items) ++ user_section (s.line + 1 + newlines (line_in s.rest.now).1 - newlines r.rest) r.rest)
+          (lines_told (code_in code_of_definition definitions) s.declarations.skipped h.code.told)
+          ∙ ap (λ z. told_lines 0 (code_in code_of_definition definitions) ++ told_lines 0 (code_in code_of_item r.items) ++ user_section (z + newlines (line_in s.rest.now).1 - newlines r.rest) r.rest) line;
+    }
+
+pub all_skipped : (r : Result SpecOfCode SpecError) (how : ReadOptions) (file kept : File) (s : Section) → kept ≡ without_returns file → HasSection how kept s
+    → IfOk r (λ x. SkipsRest s (skipped_in x)) → IfOk r (λ x. AreSkipped file (skipped_in x))
+all_skipped (Err e) how file kept s is h rest = tt
+all_skipped (Ok x) how file kept s is h rest = skipped_all how file (skipped_in x) s (subst (λ z. HasSection how z s) is h) rest

@@ -1,12 +1,15 @@
 -- The rules section, from its first line to its last.
 use Rattle.std.proofs.Common.{◌≡◌, ℕ, ◌+◌, ◌-◌, ◌≤◌, ◌==◌, true, List, [], ◌∷◌, map, length, take, inl, refl, sym, ap, subst, ◌∙◌, arith, length-append}
-use Rattle.std.specs.Prelude.{codes, ◌⊎◌, Result, Ok, Err, IfOk, IfErr}
+use Rattle.std.specs.Prelude.{Result, Ok, Err, IfOk, IfErr}
 use Rattle.std.proofs.lemmas.List.{append-nil, length-map}
 use Rattle.std.proofs.lemmas.List.Sums.{count_by-le-length}
 use Rattle.lex_semantics.specs.Spec as S
-use Rattle.lex_semantics.specs.Reading.{begins}
-use Rattle.lexspec.specs.Items.{Item, AreItems}
+use Rattle.lexspec.specs.Items.{Item, IsItem, AreItems}
+use Rattle.lexspec.specs.Skipped.{EndsRules, code_of_item}
 use Rattle.lexspec_lines.specs.Lines.{newlines}
+use Rattle.lexspec_lines.specs.SkippedCode.{Code}
+use Rattle.lexspec_lines.specs.Skips.{TellsCode, TellsPieces}
+use Rattle.lexspec_lines.specs.declared.skipped.Skipped.{Skipped}
 use Rattle.lexspec.specs.RuleItems.{EndRule, AreRules}
 use Rattle.lexspec.specs.RuleReads.{Left, may_wait}
 use Rattle.lexspec.specs.RuleViews.{rule_of}
@@ -28,13 +31,11 @@ use Rattle.lexspec_lines.proofs.OneSection.{no_true}
 use Rattle.lexspec.proofs.OneItems.{no_item_at_end}
 use Rattle.lexre_bytes.proofs.MemoryLaws.{unless_memory, always}
 use Rattle.lexspec.proofs.RulesLaws.{agree_first}
+use Rattle.lexspec_lines.proofs.CodeLaws.{tells_more}
+use Rattle.lexspec.specs.SkipViews.{TakesItem}
 use Rattle.lex_semantics.specs.Limits.{max_rules}
 
--- where the section ends
-abbrev pub IsOver : List ℕ → Type 0
-IsOver t = (t ≡ []) ⊎ (begins (codes "%%") t ≡ true)
-
-pub over_empty : (t : List ℕ) → length t ≡ 0 → IsOver t
+pub over_empty : (t : List ℕ) → length t ≡ 0 → EndsRules t
 over_empty [] h = inl refl
 over_empty (c ∷ t) h = absurd (omega arith)
 
@@ -65,7 +66,7 @@ module _ (d : Declarations) where
       none T F left (room, subst (AreSingle (length d.conditions.items)) q single)) h
 
   -- no rule waits at the end
-  pub end_waits : (n : ℕ) (t : List ℕ) (s : RulesSoFar) (e : SpecErrorKind) → IsOver t → (length s.waiting.items ≡ 0 → ⊥) → UnlessMemory e (NoneLeft d s n t)
+  pub end_waits : (n : ℕ) (t : List ℕ) (s : RulesSoFar) (e : SpecErrorKind) → EndsRules t → (length s.waiting.items ≡ 0 → ⊥) → UnlessMemory e (NoneLeft d s n t)
   end_waits n t s e over some = always e (NoneLeft d s n t) (λ R E left may. from s.waiting.items some left.items left.here left.next)
     where
       from : (ws : List Rule) → (length ws ≡ 0 → ⊥) → (is : List (ℕ × Item)) → AreItems n t is → may_wait (map rule_of ws) is ≡ true → ⊥
@@ -73,7 +74,7 @@ module _ (d : Declarations) where
       from (w ∷ ws) h [] here next = no_true next
       from (w ∷ ws) h (i ∷ is) (rest, first, item, more) next = no_item_at_end t i.1 rest over item
 
-  pub all_read : (start n : ℕ) (whole t : List ℕ) (s : RulesSoFar) (x : RulesSection) → Agrees d start whole s n t → Keeps d s → IsOver t → length s.waiting.items ≡ 0
+  pub all_read : (start n : ℕ) (whole t : List ℕ) (s : RulesSoFar) (x : RulesSection) → Agrees d start whole s n t → Keeps d s → EndsRules t → length s.waiting.items ≡ 0
       → x.rules.items ≡ s.rules.items → x.ends.items ≡ s.ends.items → x.rest.now ≡ t → HasRules d start whole x
   all_read start n whole t s x a keeps over none rules ends rest =
       let nobody : s.waiting.items ≡ [] = no_elements s.waiting.items none in
@@ -85,7 +86,7 @@ module _ (d : Declarations) where
         here = all.here;
         are = rw (rules, ends) (subst (λ z. AreRules (names_in d) d.options d.stack d.definitions all.items z (map end_rule_of s.ends.items)) R
             (subst (λ z. AreRules (names_in d) d.options d.stack d.definitions all.items all.later z) (append-nil (map end_rule_of s.ends.items)) all.are));
-        stops = subst IsOver (sym rest) over;
+        stops = subst EndsRules (sym rest) over;
         sound = subst (λ z. HaveSoundSides (map rule_of z)) (sym rules) keeps.sound.0;
         single = subst (λ z. AreSingle (length d.conditions.items) (map end_rule_of z)) (sym ends) keeps.single;
         few = omega (arith, keeps.few, ap length rules);
@@ -100,12 +101,12 @@ module _ (d : Declarations) where
       let same : newlines t - newlines rest ≡ more = omega (arith, counts, e) in
       subst (λ z. Agrees d start whole s' (line + z) rest) same (on start whole a)
 
-  pub ended_found : (r : Result RulesSection SpecError) (start n : ℕ) (whole t : List ℕ) (s : RulesSoFar) → Agrees d start whole s n t → Keeps d s → IsOver t → IfOk r (λ x. length s.waiting.items ≡ 0)
+  pub ended_found : (r : Result RulesSection SpecError) (start n : ℕ) (whole t : List ℕ) (s : RulesSoFar) → Agrees d start whole s n t → Keeps d s → EndsRules t → IfOk r (λ x. length s.waiting.items ≡ 0)
       → IfOk r (λ x. x.rules.items ≡ s.rules.items) → IfOk r (λ x. x.ends.items ≡ s.ends.items) → IfOk r (λ x. x.rest.now ≡ t) → IfOk r (λ x. HasRules d start whole x)
   ended_found (Err e) start n whole t s a keeps over none rules ends rest = tt
   ended_found (Ok x) start n whole t s a keeps over none rules ends rest = all_read start n whole t s x a keeps over none rules ends rest
 
-  pub ended_none : (r : Result RulesSection SpecError) (start n : ℕ) (whole t : List ℕ) (s : RulesSoFar) → Agrees d start whole s n t → IsOver t → IfErr r (λ e. length s.waiting.items ≡ 0 → ⊥)
+  pub ended_none : (r : Result RulesSection SpecError) (start n : ℕ) (whole t : List ℕ) (s : RulesSoFar) → Agrees d start whole s n t → EndsRules t → IfErr r (λ e. length s.waiting.items ≡ 0 → ⊥)
       → IfErr r (λ e. UnlessMemory e.kind (NoSuchRules d start whole))
   ended_none (Ok x) start n whole t s a over some = tt
   ended_none (Err e) start n whole t s a over some = section_refused start n whole t s e.kind a (end_waits n t s e.kind over some)
@@ -118,3 +119,14 @@ ended_line (Ok x) line all t here rest h = ap (λ z. z + newlines x.rest.now) he
 -- there are no more newlines than bytes
 pub newlines_few : (t : List ℕ) → newlines t ≤ length t
 newlines_few t = count_by-le-length (λ c. c == 10) t
+
+-- the code of the items
+
+pub item_told : (before : List Code) (end line : ℕ) (whole t rest : List ℕ) (s s' : Skipped) → TellsPieces before IsItem code_of_item end whole t s → line + newlines t ≡ end → TakesItem line t rest s s'
+    → TellsPieces before IsItem code_of_item end whole rest s'
+item_told before end line whole t rest s s' told at takes = tells_more IsItem code_of_item before end whole t rest line takes.item s s' told at takes.here takes.code
+
+pub ended_code : (r : Result RulesSection SpecError) (end : ℕ) (whole t : List ℕ) (old s : Skipped) → ((before : List Code) → TellsCode before old → TellsPieces before IsItem code_of_item end whole t s)
+    → IfOk r (λ x. x.rest.now ≡ t) → IfOk r (λ x. (before : List Code) → TellsCode before old → TellsPieces before IsItem code_of_item end whole x.rest.now s)
+ended_code (Err e) end whole t old s told rest = tt
+ended_code (Ok x) end whole t old s told rest = λ before h. subst (λ z. TellsPieces before IsItem code_of_item end whole z s) (sym rest) (told before h)

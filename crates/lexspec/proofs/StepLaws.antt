@@ -7,10 +7,12 @@ use Rattle.lexspec_lines.specs.Lines.{newlines}
 use Rattle.lexspec.specs.RuleViews.{rule_of}
 use Rattle.lexspec.specs.ItemReads.{names_in, ReadsFront, ReadsItem, NoRules, NoRulesAfter, NoneLeft}
 use Rattle.lexspec.specs.Agreeing.{Agrees}
-use Rattle.lexspec.specs.SkipViews.{item_of}
+use Rattle.lexspec.specs.SkipViews.{item_of, TakesItem}
 use Rattle.lexspec_lines.specs.Outcome.{UnlessMemory}
 use Rattle.lexspec_lines.specs.declared.declarations.Declarations.{Declarations}
 use Rattle.lexre_bytes.specs.declared.refusals.SpecErrorKind.{SpecErrorKind}
+use Rattle.lexspec_lines.specs.declared.skipped.Skipped.{Skipped}
+use Rattle.lexspec_lines.proofs.CodeLaws.{adds_same}
 use Rattle.lexspec.specs.declared.rule_text.Front.{Front}
 use Rattle.lexspec.specs.declared.rule_text.Front.TheVariants as F
 use Rattle.lexspec.specs.declared.rule_text.RuleText.{RuleText}
@@ -74,6 +76,13 @@ module _ (d : Declarations) where
 
   pub reads_counts : (n : ℕ) (t : List ℕ) (x : RuleText) → ReadsItem d n t x → newlines (take (length t - length x.rest.now) t) + newlines x.rest.now ≡ newlines t
   reads_counts n t x h = let (i, plain, item) = reads_item n t x.action.now x.rest.now x.front h in newlines_front t x.rest.now (item_ends t i x.rest.now item)
+
+  pub reads_code : (n : ℕ) (t : List ℕ) (x : RuleText) (s : Skipped) → ReadsItem d n t x → TakesItem n t x.rest.now s s
+  reads_code n t x s h = from x.action.now x.rest.now x.front h
+    where
+      from : (action rest : List ℕ) (f : Front) → ReadsFront d n t action rest f → TakesItem n t rest s s
+      from action rest (F.Matching r) h = record { item = rule h.asked (matching h.anchored h.head h.after) (action_of action); here = h.item; code = adds_same s }
+      from action rest (F.AtEnd numbers) h = record { item = rule h.asked at_end (action_of action); here = h.item; code = adds_same s }
 
   plain_is : (k : Skip) → is_plain (names_in d) d.options d.stack d.definitions (item_of k) ≡ true
   plain_is Blank = refl

@@ -1,18 +1,15 @@
 -- The tests say what soundness means.
-use Rattle.std.proofs.Common.{◌≡◌, ℕ, zero, suc, ◌≤◌, ◌<◌, ◌==◌, Bool, true, false, List, [], ◌∷◌, length, ◌⊎◌, inl, inr, Option, Some, None, IfSome, refl, sym, ◌∙◌, ap, subst, arith}
+use Rattle.std.proofs.Common.{◌≡◌, ℕ, zero, suc, ◌≤◌, ◌<◌, Bool, true, false, List, [], ◌∷◌, length, ◌⊎◌, inl, inr, Option, Some, None, IfSome, refl, sym, ◌∙◌, ap, subst, arith}
 use Rattle.std.specs.Prelude.{◌&&◌, ◌||◌, nat_le, nat_lt, slice_get}
-use Rattle.std.proofs.lemmas.Bool.{and_parts, and_from, leb-true, le-leb, ltb-true, eqb-true}
+use Rattle.std.proofs.lemmas.Bool.{and_parts, and_from, leb-true, le-leb, ltb-true}
 use Rattle.lex_semantics.specs.Text.{Among, Ascending}
 use Rattle.lex_semantics.specs.ByteSets.{has}
-use Rattle.lex_semantics.specs.Tree.{Tree, Trees, Empty, Set, Cat, Alt, Star, Repeat, no_trees, tree, In}
-use Rattle.lex_semantics.specs.Shapes.{IsSoundTree, AreSoundTrees, HasPart, HasLengths}
-use Rattle.lex_semantics.specs.Spec.{Spec, Rule, Condition, Cut, Whole, Head, Trail, Statement}
+use Rattle.lex_semantics.specs.Tree.{Tree, Trees, Empty, Set, Cat, Alt, Star, Repeat, no_trees, tree}
+use Rattle.lex_semantics.specs.Shapes.{IsSoundTree, AreSoundTrees, HasPart}
+use Rattle.lex_semantics.specs.Spec.{Spec, Rule, Condition, Statement}
 use Rattle.lex_semantics.specs.Legal.{all_in_range, ends_last, are_joined, are_compatible, IsLegal}
 use Rattle.lex_semantics.specs.Sound.{IsConditionList, IsSoundRule, IsSound}
-use Rattle.lexre.specs.Lengths.{least, greatest}
 use Rattle.lexspec_actions.specs.Actions.{are_few}
-use Rattle.lexre.proofs.LengthLaws.{has_lengths}
-use Rattle.lexspec.specs.RuleItems.{is_number}
 use Rattle.lexspec.specs.Tests.{any_below, are_bounds, has_part, sound_tree, sound_trees, sound_trail, cut_fits, ascend_from, sound_list, legal_action, sound_rule, sound_rules, sound_end, sound_conditions, is_sound}
 use Rattle.lexspec.proofs.CutLaws.{cut_is_fit}
 use Rattle.lex_semantics.specs.Limits.{max_conditions, max_literal_bytes, max_status, max_rules}

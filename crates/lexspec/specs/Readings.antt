@@ -1,10 +1,10 @@
 -- What the reader of files makes of the parts of a file.
-use Rattle.std.specs.Prelude.{◌≡◌, ℕ, ◌+◌, ◌≤◌, Bool, not, List, map, length}
-use Rattle.std.specs.List.{list_any}
+use Rattle.std.specs.Prelude.{◌≡◌, ℕ, ◌+◌, ◌-◌, ◌≤◌, List, ◌++◌, map, length}
 use Rattle.lex_semantics.specs.Spec.{Spec}
-use Rattle.lex_semantics.specs.Reading.{is_white}
-use Rattle.lexspec_lines.specs.Lines.{line_in}
-use Rattle.lexspec.specs.Items.{Item, AreItems}
+use Rattle.lexspec_lines.specs.Lines.{line_in, newlines}
+use Rattle.lexspec_lines.specs.SkippedCode.{told_lines, AreFrom, code_in}
+use Rattle.lexspec.specs.Items.{Item, IsItem, AreItems}
+use Rattle.lexspec.specs.Skipped.{code_of_item, user_section, EndsRules}
 use Rattle.lexspec.specs.RuleItems.{EndRule, AreRules}
 use Rattle.lexspec.specs.RuleViews.{rule_of}
 use Rattle.lexspec.specs.EndRules.{end_rule_of}
@@ -15,10 +15,6 @@ use Rattle.lexspec_lines.specs.declared.declarations.Declarations.{Declarations}
 use Rattle.lexspec.specs.declared.rules_section.RulesSection.{RulesSection}
 use Rattle.lexspec_lines.specs.declared.section.Section.{Section}
 use Rattle.lex_semantics.specs.Limits.{max_rules}
-
--- a byte that is neither a blank nor a newline
-abbrev pub has_text : List ℕ → Bool
-has_text t = list_any (λ c. not (is_white c)) t
 
 -- the specification of what the two sections declare and spell
 abbrev pub of_sections : Declarations → RulesSection → Spec
@@ -33,3 +29,11 @@ pub record SpellsRest (s : Section) (S : Spec) : Type 0 where
   pub one_end : AreSingle (length s.declarations.conditions.items) ends
   pub conditions : S.conditions ≡ conditions_with 0 (map declared_of s.declarations.conditions.items) ends
   pub few_rules : length S.rules ≤ max_rules
+
+-- the lines at which code was skipped are those of the first section, and of what follows it
+pub record SkipsRest (s : Section) (lines : List ℕ) : Type 0 where
+  pub items : List (ℕ × Item)
+  pub rest : List ℕ
+  pub pieces : AreFrom IsItem (s.line + 1) (line_in s.rest.now).1 items rest
+  pub stops : EndsRules rest
+  pub lines_are : lines ≡ s.declarations.skipped.lines.items ++ told_lines 0 (code_in code_of_item items) ++ user_section (s.line + 1 + newlines (line_in s.rest.now).1 - newlines rest) rest

@@ -1,8 +1,8 @@
 -- What the reader of the rules section answers.
-use Rattle.std.specs.Prelude.{◌≡◌, ℕ, ◌≤◌, ◌-◌, true, Some, None, slice_get, List, [], map, length, codes, ◌⊎◌}
+use Rattle.std.specs.Prelude.{ℕ, ◌≤◌, ◌-◌, Some, None, slice_get, List, map, length}
 use Rattle.lex_semantics.specs.Spec.{Rule}
-use Rattle.lex_semantics.specs.Reading.{begins}
 use Rattle.lexspec.specs.Items.{Item, AreItems}
+use Rattle.lexspec.specs.Skipped.{EndsRules}
 use Rattle.lexspec.specs.RuleItems.{EndRule, AreRules}
 use Rattle.lexspec.specs.RuleViews.{rule_of}
 use Rattle.lexspec.specs.EndRules.{end_rule_of}
@@ -19,7 +19,7 @@ pub record HasRules (d : Declarations) (n : ℕ) (text : List ℕ) (s : RulesSec
   pub items : List (ℕ × Item)
   pub here : AreItems n text items
   pub are : AreRules (names_in d) d.options d.stack d.definitions items (map rule_of s.rules.items) (map end_rule_of s.ends.items)
-  pub stops : (s.rest.now ≡ []) ⊎ (begins (codes "%%") s.rest.now ≡ true)
+  pub stops : EndsRules s.rest.now
   pub sound : HaveSoundSides (map rule_of s.rules.items)
   pub single : AreSingle (length d.conditions.items) (map end_rule_of s.ends.items)
   pub few : length s.rules.items ≤ max_rules

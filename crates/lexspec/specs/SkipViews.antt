@@ -1,6 +1,9 @@
 -- What skipped lines of the code stand for.
-use Rattle.std.specs.Prelude.{ℕ, ◌==◌, if◌then◌else◌, List, [], ◌∷◌, ◌++◌}
+use Rattle.std.specs.Prelude.{ℕ, List}
 use Rattle.lexspec.specs.Items as I
+use Rattle.lexspec.specs.Skipped.{code_of_item}
+use Rattle.lexspec_lines.specs.Skips.{AddsCode}
+use Rattle.lexspec_lines.specs.declared.skipped.Skipped.{Skipped}
 use Rattle.lexspec.specs.declared.skips.Skip.{Skip}
 use Rattle.lexspec.specs.declared.skips.Skip.TheVariants.{Blank, Code, Block}
 
@@ -9,8 +12,8 @@ item_of Blank = I.skipped
 item_of Code = I.skipped_line
 item_of Block = I.skipped_block
 
--- the lines of warnings with that of what is skipped at a line, where a run of code goes on at the line `next`
-abbrev pub lines_with : Skip → ℕ → ℕ → List ℕ → List ℕ
-lines_with Blank next line ls = ls
-lines_with Code next line ls = if next == line then ls else ls ++ line ∷ []
-lines_with Block next line ls = ls ++ line ∷ []
+-- a piece of the rules section begins the text, at the line n, and its code is told
+pub record TakesItem (n : ℕ) (t rest : List ℕ) (s s' : Skipped) : Type 0 where
+  pub item : I.Item
+  pub here : I.IsItem t item rest
+  pub code : AddsCode s (code_of_item n item) s'

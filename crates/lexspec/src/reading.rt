@@ -1,11 +1,12 @@
 //! Specification files. (POSIX, lex, Input Files; flex, Format of the Input File.)
-ghost use Rattle.std.specs.Prelude.{◌≡◌, ◌≤◌, ◌+◌, true, length, IfOk, IfErr};
+ghost use Rattle.std.specs.Prelude.{◌≡◌, ◌≤◌, ◌+◌, ◌++◌, true, length, IfOk, IfErr};
 ghost use Rattle.lex_semantics.specs.Spec.{Spec as Meant};
 ghost use Rattle.lexspec.specs.Files.{SpellsSpec};
 ghost use Rattle.lexspec_lines.specs.Outcome.{UnlessMemory};
-ghost use Rattle.lexspec.specs.Readings.{has_text, of_sections, SpellsRest};
+ghost use Rattle.lexspec.specs.Readings.{of_sections, SpellsRest, SkipsRest};
+ghost use Rattle.lexspec.specs.Skipped.{has_text, user_section, AreSkipped};
 ghost use Rattle.lexspec.specs.Tests.{is_sound};
-ghost use Rattle.lexspec.specs.Views.{spec_of};
+ghost use Rattle.lexspec.specs.Views.{spec_of, skipped_in};
 ghost use Rattle.lexre_bytes.specs.declared.refusals.SpecErrorKind.TheVariants.{OutOfMemory};
 ghost use Rattle.lex_semantics.specs.Limits.{max_conditions, max_file_bytes};
 
@@ -37,6 +38,8 @@ fn join(
     requires few { length declarations.conditions.items ≤ max_conditions }
     requires sound { is_sound (of_sections declarations found) ≡ true }
     ensures found { IfOk result (λ s. spec_of s ≡ of_sections declarations found.entry) }
+    ensures skipped { IfOk result (λ s. skipped_in s
+        ≡ declarations.skipped.lines.items ++ skipped.lines.items ++ user_section found.entry.line found.entry.rest.now) }
     ensures none { IfErr result (λ e. e.kind ≡ OutOfMemory) }
 {
     let RulesSection {
@@ -62,6 +65,7 @@ fn read_on(alloc: Global, section: Section<'_>) -> Result<Spec, SpecError>
     requires short { length section.rest.now ≤ max_file_bytes }
     requires line { section.line ≤ max_file_bytes + 1 }
     ensures found { IfOk result (λ s. SpellsRest section.entry (spec_of s)) }
+    ensures skipped { IfOk result (λ s. SkipsRest section.entry (skipped_in s)) }
     ensures none { IfErr result (λ e. UnlessMemory e.kind ((S : Meant) → SpellsRest section.entry S → ⊥)) }
 {
     let Section {
@@ -89,6 +93,7 @@ fn read_on(alloc: Global, section: Section<'_>) -> Result<Spec, SpecError>
 /// The first faulty line is reported, for a rule that of its pattern; `TooLong` of the whole file is reported at line 0.
 pub fn read_spec(alloc: Global, text: &[u8], options: ReadOptions) -> Result<Spec, SpecError>
     ensures found { IfOk result (λ s. SpellsSpec options text.now (spec_of s)) }
+    ensures skipped { IfOk result (λ s. AreSkipped text.now (skipped_in s)) }
     ensures none { IfErr result (λ e. UnlessMemory e.kind ((S : Meant) → SpellsSpec options text.now S → ⊥)) }
 {
     if text.len() > MAX_FILE_BYTES {

@@ -6,11 +6,14 @@ ghost use Rattle.lexspec.specs.ItemReads.{NoneLeft};
 ghost use Rattle.lexspec.specs.Agreeing.{Agrees};
 ghost use Rattle.lexspec.specs.Keeping.{Keeps};
 ghost use Rattle.lexspec.specs.KeptNames.{AreKept};
-ghost use Rattle.lexspec.specs.SkipViews.{lines_with};
+ghost use Rattle.lexspec.specs.Items.{IsItem};
+ghost use Rattle.lexspec.specs.Skipped.{code_of_item};
+ghost use Rattle.lexspec.specs.SkipViews.{item_of, TakesItem};
 ghost use Rattle.lexspec.specs.EndOpenings.{begins_end};
 ghost use Rattle.lexspec.specs.RulesReads.{HasRules, NoSuchRules, line_of_last};
 ghost use Rattle.lexspec_lines.specs.Outcome.{UnlessMemory};
-ghost use Rattle.lexspec_lines.specs.Skips.{next_in};
+ghost use Rattle.lexspec_lines.specs.SkippedCode.{Code};
+ghost use Rattle.lexspec_lines.specs.Skips.{TellsCode, AddsCode, TellsPieces};
 ghost use Rattle.lexre_bytes.specs.declared.refusals.SpecErrorKind.TheVariants.{DanglingBar};
 ghost use Rattle.lex_semantics.specs.Limits.{max_conditions, max_file_bytes, max_rules};
 
@@ -49,8 +52,7 @@ fn begins_end(text: &[u8]) -> bool
 /// Keeps the line of what is skipped there, if it is code.
 fn add_skip(skipped: &mut Skipped, skip: Skip, line: u32) -> Result<(), AllocError>
     requires { line + 1 < 2 ^ 32 }
-    ensures { OnOk result (skipped.new.lines.items
-        ≡ lines_with skip (next_in skipped.old) line skipped.old.lines.items) }
+    ensures { OnOk result (AddsCode skipped.old (code_of_item line (item_of skip)) skipped.new) }
 {
     match skip {
         Skip::Blank => Ok(()),
@@ -96,6 +98,7 @@ impl RulesSoFar {
             → Agrees declarations.now start whole x.0 (line + (newlines text.now - newlines x.1.now)) x.1.now) }
         ensures keeps { IfOk result (λ x. Keeps declarations.now self → Keeps declarations.now x.0) }
         ensures known { OnOk result (AreKept declarations.now names.new) }
+        ensures code { IfOk result (λ x. TakesItem line text.now x.1.now skipped.old skipped.new) }
         ensures counts { IfOk result (λ x. newlines
             (take (length text.now - length x.1.now) text.now) + newlines x.1.now ≡ newlines text.now) }
         ensures shorter { IfOk result (λ x. length x.1.now < length text.now) }
@@ -186,6 +189,8 @@ pub(crate) fn read_rules<'a>(
     requires first { first ≤ max_file_bytes + 2 }
     ensures found { IfOk result (λ s. HasRules declarations.now first text.now s) }
     ensures line { IfOk result (λ s. s.line + newlines s.rest.now ≡ first + newlines text.now) }
+    ensures code { IfOk result (λ s. (before : List Code) → TellsCode before skipped.old
+        → TellsPieces before IsItem code_of_item (first + newlines text.now) text.now s.rest.now skipped.new) }
     ensures none { IfErr result (λ e. UnlessMemory e.kind (NoSuchRules declarations.now first text.now)) }
 {
     let mut progress = RulesSoFar::new(alloc);

@@ -32,6 +32,7 @@ impl Spec {
           rules = map rule_of
               rules.items;
         } }
+        ensures skipped { skipped_in result ≡ skipped.items }
     {
         Spec {
             conditions,

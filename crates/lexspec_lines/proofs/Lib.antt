@@ -1,5 +1,6 @@
 pub mod RunLaws
 pub mod SkipLaws
+pub mod CodeLaws
 pub mod TextLaws
 pub mod OneSection
 pub mod ComputedLines

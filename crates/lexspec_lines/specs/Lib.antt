@@ -6,5 +6,6 @@ pub mod DefinitionViews
 pub mod LineExamples
 pub mod Outcome
 pub mod Declaring
-pub mod Sections
+pub mod SkippedCode
 pub mod Skips
+pub mod Sections

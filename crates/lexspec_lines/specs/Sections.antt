@@ -1,5 +1,5 @@
 -- What the reader of the definitions section answers.
-use Rattle.std.specs.Prelude.{◌≡◌, ℕ, ◌+◌, true, List, codes, is_some, if◌then◌else◌}
+use Rattle.std.specs.Prelude.{◌≡◌, ℕ, ◌+◌, true, List, [], codes, is_some, if◌then◌else◌}
 use Rattle.std.specs.FinMap.{get}
 use Rattle.lexre.specs.Definitions.{Definitions}
 use Rattle.lexre.specs.declared.options.ReadOptions.{ReadOptions}
@@ -11,9 +11,11 @@ use Rattle.lex_semantics.specs.Reading.{begins}
 use Rattle.lexspec_lines.specs.DefinitionLines.{Definition, definition_at, IsUpTo}
 use Rattle.lexspec_lines.specs.Lines.{newlines}
 use Rattle.lexspec_lines.specs.Declaring.{AreAllowed, Declares}
+use Rattle.lexspec_lines.specs.SkippedCode.{IsDefinition, code_of_definition}
+use Rattle.lexspec_lines.specs.Skips.{TellsPieces}
 use Rattle.lexspec_lines.specs.declared.section.Section.{Section}
 
--- the lines before the one that begins with `%%`, what they declare, and the number of that line
+-- the lines before the one that begins with `%%`, what they declare, the code among them, and the number of that line
 pub record HasSection (how : ReadOptions) (text : List ℕ) (s : Section) : Type 0 where
   pub definitions : List Definition
   pub lines : IsUpTo definition_at text definitions s.rest.now
@@ -21,6 +23,7 @@ pub record HasSection (how : ReadOptions) (text : List ℕ) (s : Section) : Type
   pub declares : Declares how definitions s.declarations
   pub allowed : AreAllowed definitions
   pub line : s.line + newlines s.rest.now ≡ 1 + newlines text
+  pub code : TellsPieces [] IsDefinition code_of_definition (1 + newlines text) text s.rest.now s.declarations.skipped
 
 -- the reason that is reported for a fault of a line, where these names are defined before it
 abbrev pub reported_kind : Definitions → DefinitionFault → SpecErrorKind

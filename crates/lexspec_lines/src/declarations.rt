@@ -4,6 +4,8 @@ ghost use Rattle.lexspec_lines.specs.Lines.{words};
 ghost use Rattle.lexspec_lines.specs.DefinitionLines.{Definition as Meant, has_name, known_options, are_known, Declared};
 ghost use Rattle.lexspec_lines.specs.DefinitionViews.{definition_of};
 ghost use Rattle.lexspec_lines.specs.Declaring.{declared_of, with_kind, AreGood, AreAllowed, Declares};
+ghost use Rattle.lexspec_lines.specs.SkippedCode.{code_of_definition};
+ghost use Rattle.lexspec_lines.specs.Skips.{TellsCode, AddsCode};
 ghost use Rattle.lexspec_lines.specs.Outcome.{UnlessMemory};
 ghost use Rattle.lexre.specs.declared.options.ReadOptions.{ReadOptions as Reading};
 
@@ -133,7 +135,8 @@ fn with_stack(stack: bool, text: &[u8]) -> bool
 impl Declarations {
     /// INITIAL alone, which is inclusive.
     pub(crate) fn new(alloc: Global, options: ReadOptions) -> Result<Declarations, AllocError>
-        ensures { IfOk result (λ d. Declares options [] d) }
+        ensures declares { IfOk result (λ d. Declares options [] d) }
+        ensures code { IfOk result (λ d. TellsCode [] d.skipped) }
     {
         let initial = condition(alloc, b"INITIAL".as_slice(), false)?;
         let conditions: Vec<Condition> = vec![in alloc; initial]?;
@@ -159,6 +162,7 @@ impl Declarations {
         ensures found { OnOk result ((how : Reading) (ds : List Meant) → Declares how ds self.old → AreAllowed ds
             → Declares how (ds ++ definition_of definition.entry ∷ []) self.new
             × AreAllowed (ds ++ definition_of definition.entry ∷ [])) }
+        ensures code { OnOk result (AddsCode self.old.skipped (code_of_definition line (definition_of definition.entry)) self.new.skipped) }
         ensures none { IfErr result (λ e. UnlessMemory e ((how : Reading) (ds more : List Meant)
             → Declares how ds self.old → AreAllowed (ds ++ definition_of definition.entry ∷ more) → ⊥)) }
     {

@@ -11,7 +11,7 @@ use Rattle.lexkit.proofs.FileScanned.{one_list_of_flags, same_machine, ran}
 use Rattle.lexkit.proofs.laws.file_scans.Goals as goal
 
 pub returns : goal.returns
-returns c options text g (S, spells, made) = (
+returns c options text g (S, spells, skipped, lines, made) = (
   S,
   spells,
   λ t flags file leads given out at_end answer h. (

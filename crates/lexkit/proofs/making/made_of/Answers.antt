@@ -30,7 +30,7 @@ returns c =
         packed = c.in_ok-tables.ensures.packed;
         file = (c.in_ok-tables.tables.lawful, refl);
       };
-      warnings = (c.in_ok-warnings.ensures.in_order, (skipped_in c.args.spec.now, c.in_ok-useless.useless.items, c.in_ok-useless.ensures.ascending, c.in_ok-useless.ensures.useless, subst (λ (xs : List ℕ). IsPermutation (map of_code (skipped_in c.args.spec.now) ++ map (of_rule (rules_in S)) xs) c.in_ok-warnings.warnings.items) c.deref.ensures.value c.in_ok-warnings.ensures.all));
+      warnings = (c.in_ok-warnings.ensures.in_order, (c.in_ok-useless.useless.items, c.in_ok-useless.ensures.ascending, c.in_ok-useless.ensures.useless, subst (λ (xs : List ℕ). IsPermutation (map of_code (skipped_in c.args.spec.now) ++ map (of_rule (rules_in S)) xs) c.in_ok-warnings.warnings.items) c.deref.ensures.value c.in_ok-warnings.ensures.all));
       backup = record {
         ascending = c.in_ok-backup.ensures.ascending;
         states = c.in_ok-backup.ensures.back_words S l.conditions l.table;

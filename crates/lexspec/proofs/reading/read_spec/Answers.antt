@@ -1,5 +1,5 @@
 use Rattle.std.proofs.Common.{rules, ◌≤◌, ◌∙◌, length, arith}
-use Rattle.lexspec.proofs.ReadingLaws.{kept_short, rest_short, line_few, read_found, read_none, section_none}
+use Rattle.lexspec.proofs.ReadingLaws.{kept_short, rest_short, line_few, read_found, all_skipped, read_none, section_none}
 use Rattle.lexspec.proofs.reading.read_spec.Goals as goal
 use Rattle.lex_semantics.specs.Limits.{max_file_bytes}
 
@@ -24,6 +24,10 @@ pub returns-in-Ok-clause-found : goal.returns-in-Ok-clause-found
 returns-in-Ok-clause-found c =
     let few : length c.args.text.now ≤ max_file_bytes = search rules in
     read_found c.read_on.result c.args.options c.args.text.now c.deref.result.now c.in-Ok.section few (c.deref.ensures.value ∙ c.in_ok-kept.ensures) c.in-Ok.ensures.found c.read_on.ensures.found
+
+pub returns-in-Ok-clause-skipped : goal.returns-in-Ok-clause-skipped
+returns-in-Ok-clause-skipped c =
+    all_skipped c.read_on.result c.args.options c.args.text.now c.deref.result.now c.in-Ok.section (c.deref.ensures.value ∙ c.in_ok-kept.ensures) c.in-Ok.ensures.found c.read_on.ensures.skipped
 
 pub returns-in-Ok-clause-none : goal.returns-in-Ok-clause-none
 returns-in-Ok-clause-none c =

@@ -1,7 +1,10 @@
 use Rattle.std.proofs.Common.{sym, ◌∙◌, length, arith, refl, inr}
 use Rattle.std.proofs.lemmas.Bool.{eqb-true}
 use Rattle.lexspec.proofs.KeepLaws.{keeps_first}
-use Rattle.lexspec.proofs.RestLaws.{IsOver, over_empty, agrees_first, section_refused, item_read, ended_found, ended_line, ended_none, newlines_few}
+use Rattle.lexspec.specs.Items.{IsItem}
+use Rattle.lexspec.specs.Skipped.{EndsRules, code_of_item}
+use Rattle.lexspec_lines.proofs.CodeLaws.{tells_none}
+use Rattle.lexspec.proofs.RestLaws.{over_empty, agrees_first, section_refused, item_read, ended_found, ended_line, ended_none, item_told, ended_code, newlines_few}
 use Rattle.lexspec.proofs.rules_section.read_rules.Goals.{then-items-test+else-not-starts_with, else-items-test}
 use Rattle.lexspec.proofs.rules_section.read_rules.Goals as goal
 
@@ -10,6 +13,7 @@ items-init c = record {
   agrees = agrees_first c.args.declarations.now c.new-progress.result c.args.first c.args.text.now c.new-progress.ensures.rules c.new-progress.ensures.waiting c.new-progress.ensures.ends;
   keeps = keeps_first c.args.declarations.now c.new-progress.result c.new-progress.ensures.rules c.new-progress.ensures.waiting c.new-progress.ensures.ends;
   known = c.requires.known_so_far;
+  code = (λ before told. tells_none IsItem code_of_item before _ c.args.text.now _ told);
   line = refl;
   shorter = omega arith;
 }
@@ -40,11 +44,12 @@ items-preserved c = record {
       c.in-Ok.ensures.found c.in-Ok.ensures.counts c.newlines_before-line.ensures c.items.invariant.agrees;
   keeps = c.in-Ok.ensures.keeps c.items.invariant.keeps;
   known = c.in-Ok.ensures.known;
+  code = (λ before told. item_told before _ c.items.line c.args.text.now c.items.rest.now _ _ _ (c.items.invariant.code before told) c.items.invariant.line c.in-Ok.ensures.code);
   line = omega (arith, c.items.invariant.line, c.in-Ok.ensures.counts, c.newlines_before-line.ensures);
   shorter = omega (arith, c.items.invariant.shorter, c.in-Ok.ensures.shorter);
 }
 
-is_over : (c : goal.After-finish) → IsOver c.items.rest.now
+is_over : (c : goal.After-finish) → EndsRules c.items.rest.now
 is_over c = elim c.items-test.branch [
   | then-items-test+else-not-starts_with w ↦ inr (sym w.starts_with.ensures.value ∙ w.if-not-starts_with.false)
   | else-items-test w ↦ over_empty c.items.rest.now (eqb-true (length c.items.rest.now) 0 (sym c.is_empty.ensures ∙ w.items-test.false))
@@ -57,6 +62,9 @@ returns-clause-found c =
 
 pub returns-clause-line : goal.returns-clause-line
 returns-clause-line c = ended_line c.finish.result c.items.line _ c.items.rest.now c.finish.ensures.line c.finish.ensures.rest c.items.invariant.line
+
+pub returns-clause-code : goal.returns-clause-code
+returns-clause-code c = ended_code c.finish.result _ c.args.text.now c.items.rest.now _ _ c.items.invariant.code c.finish.ensures.rest
 
 pub returns-clause-none : goal.returns-clause-none
 returns-clause-none c =

@@ -1,8 +1,12 @@
-use Rattle.std.proofs.Common.{◌≡◌, ◌+◌, ◌≤◌, length}
+use Rattle.std.proofs.Common.{◌≡◌, ◌+◌, ◌≤◌, List, length}
 use Rattle.lexspec_lines.specs.Lines.{newlines}
 use Rattle.lexspec.specs.Agreeing.{Agrees}
 use Rattle.lexspec.specs.Keeping.{Keeps}
 use Rattle.lexspec.specs.KeptNames.{AreKept}
+use Rattle.lexspec_lines.specs.SkippedCode.{Code}
+use Rattle.lexspec_lines.specs.Skips.{TellsCode, TellsPieces}
+use Rattle.lexspec.specs.Items.{IsItem}
+use Rattle.lexspec.specs.Skipped.{code_of_item}
 use Rattle.lexspec.proofs.rules_section.read_rules.Given as goal
 
 abbrev pub invariant-items : goal.invariant-items
@@ -10,6 +14,7 @@ invariant-items l = record {
   agrees : Agrees l.declarations l.first l.text l.progress l.line l.rest;
   keeps : Keeps l.declarations l.progress;
   known : AreKept l.declarations l.names;
+  code : (before : List Code) → TellsCode before l.fn.skipped → TellsPieces before IsItem code_of_item (l.first + newlines l.text) l.text l.rest l.skipped;
   line : l.line + newlines l.rest ≡ l.first + newlines l.text;
   shorter : length l.rest ≤ length l.text;
 }

@@ -1,10 +1,12 @@
-use Rattle.std.proofs.Common.{rules, arith, sym, ◌∙◌, ◌≡◌, length}
+use Rattle.std.proofs.Common.{rules, arith, sym, ◌∙◌, ◌≡◌, [], length}
 use Rattle.lexre_bytes.proofs.MemoryLaws.{always}
 use Rattle.lexspec_lines.proofs.SectionLaws.{no_line, taking_refused, no_definition_at_end, no_separator_at_end, begin_reading, good_kept, read_line, line_counts}
+use Rattle.lexspec_lines.specs.SkippedCode.{IsDefinition, code_of_definition}
+use Rattle.lexspec_lines.proofs.CodeLaws.{tells_none, tells_more}
 use Rattle.lexspec_lines.proofs.section.read_section.Goals as goal
 
 pub lines-init : goal.lines-init
-lines-init c = record { read = begin_reading c.args.options c.args.text.now _ c.in_ok-declarations.ensures; line = search rules; shorter = omega arith }
+lines-init c = record { read = begin_reading c.args.options c.args.text.now _ c.in_ok-declarations.ensures.declares; line = search rules; code = tells_none IsDefinition code_of_definition [] _ c.args.text.now _ c.in_ok-declarations.ensures.code; shorter = omega arith }
 
 pub take-requires-clause-good : goal.take-requires-clause-good
 take-requires-clause-good c = good_kept c.args.options c.args.text.now c.lines.rest.now _ c.lines.invariant.read
@@ -27,5 +29,6 @@ pub lines-preserved : goal.lines-preserved
 lines-preserved c = record {
   read = read_line c.args.options c.args.text.now c.lines.rest.now _ _ _ _ c.lines.invariant.read c.in-Ok.ensures.found c.in-Ok-take.ensures.found;
   line = line_counts c.lines.rest.now _ _ c.lines.line _ _ c.in-Ok.ensures.found c.lines.invariant.line c.newlines_before-line.ensures;
+  code = tells_more IsDefinition code_of_definition [] _ c.args.text.now c.lines.rest.now _ c.lines.line _ _ _ c.lines.invariant.code c.lines.invariant.line c.in-Ok.ensures.found c.in-Ok-take.ensures.code;
   shorter = omega (arith, c.in-Ok.ensures.shorter, c.lines.invariant.shorter);
 }

@@ -5,7 +5,7 @@ use Rattle.lexspec.specs.SkipViews.{item_of}
 use Rattle.lexspec_lines.proofs.SectionLaws.{newlines_front}
 use Rattle.lexspec.proofs.EndLaws.{item_ends}
 use Rattle.lexspec.proofs.AwaitingLaws.{end_refused, full_refused, has_room}
-use Rattle.lexspec.proofs.StepLaws.{reads_shorter, reads_counts, plain_agrees, plain_refused, text_refused, rule_refused}
+use Rattle.lexspec.proofs.StepLaws.{reads_shorter, reads_counts, reads_code, plain_agrees, plain_refused, text_refused, rule_refused}
 use Rattle.lexspec.proofs.rules_so_far.RulesSoFar.with_item.Goals.{then-begins_end+else-not-is_empty, else-begins_end+else-len-ge-MAX_RULES}
 use Rattle.lexspec.proofs.rules_so_far.RulesSoFar.with_item.Goals as goal
 use Rattle.lex_semantics.specs.Limits.{max_rules}
@@ -16,6 +16,12 @@ returns-in-Err-clause-none c = plain_refused c.args.declarations.now c.args.self
 pub returns-in-Some-clause-found : goal.returns-in-Some-clause-found
 returns-in-Some-clause-found c = λ start whole a.
     plain_agrees c.args.declarations.now c.args.self start c.args.line whole c.args.text.now c.in-Some.skip c.in-Some.rest.now (rw c.in-Some.is at c.in-Ok.ensures.found) a
+
+pub returns-in-Some-clause-code : goal.returns-in-Some-clause-code
+returns-in-Some-clause-code c = record { item = item_of c.in-Some.skip; here = rw c.in-Some.is at c.in-Ok.ensures.found; code = c.in_ok-add_skip.ensures }
+
+pub returns-in-Ok-with_rule-clause-code : goal.returns-in-Ok-with_rule-clause-code
+returns-in-Ok-with_rule-clause-code c = reads_code c.args.declarations.now c.args.line c.args.text.now c.in-Ok-read_rule_text.found c.args.skipped.now c.in-Ok-read_rule_text.ensures.found
 
 pub returns-in-Some-clause-counts : goal.returns-in-Some-clause-counts
 returns-in-Some-clause-counts c = newlines_front c.args.text.now c.in-Some.rest.now (item_ends c.args.text.now (item_of c.in-Some.skip) c.in-Some.rest.now (rw c.in-Some.is at c.in-Ok.ensures.found))

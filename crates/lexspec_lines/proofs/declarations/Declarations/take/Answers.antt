@@ -7,6 +7,7 @@ use Rattle.lexspec_lines.specs.DefinitionLines.{nothing, ignored, code_line, cod
 use Rattle.lexspec_lines.specs.DefinitionViews.{definition_of}
 use Rattle.lexspec_lines.proofs.OutcomeLaws.{on_ok, if_err}
 use Rattle.lexspec_lines.proofs.TakingLaws.{adds_nothing, adds_conditions, refused_conditions, adds_options, refused_options, adds_name, refused_name}
+use Rattle.lexspec_lines.proofs.CodeLaws.{adds_same, adds_line, adds_block}
 use Rattle.lexspec_lines.proofs.declarations.Declarations.take.Goals as goal
 
 differs : ◌≡◌ {A = Result (Unit {0}) DefsError} (Ok tt) (Err Duplicate) → ⊥
@@ -52,3 +53,27 @@ pub returns-in-Err-Duplicate-clause-none : goal.returns-in-Err-Duplicate-clause-
 returns-in-Err-Duplicate-clause-none c = λ how ds more h k.
     let told = rw c.in-Err-Duplicate.field-0-is at c.in-Err-Duplicate.ensures in
     refused_name c.in-Defines.name.now c.in-Defines.text.now c.args.self.now (told.duplicate.0 refl) how ds more h (rw (ap definition_of c.in-Defines.is) at k)
+
+pub returns-in-Nothing-clause-code : goal.returns-in-Nothing-clause-code
+returns-in-Nothing-clause-code c = rw (ap definition_of c.in-Nothing.is) (adds_same c.args.self.now.skipped)
+
+pub returns-in-Ignored-clause-code : goal.returns-in-Ignored-clause-code
+returns-in-Ignored-clause-code c = rw (ap definition_of c.in-Ignored.is) (adds_same c.args.self.now.skipped)
+
+pub returns-in_ok-add_line-in-CodeLine-clause-code : goal.returns-in_ok-add_line-in-CodeLine-clause-code
+returns-in_ok-add_line-in-CodeLine-clause-code c =
+    rw (ap definition_of c.in-CodeLine.is) (adds_line c.args.self.now.skipped _ c.args.line c.in_ok-add_line-in-CodeLine.ensures.lines c.in_ok-add_line-in-CodeLine.ensures.next)
+
+pub returns-in_ok-add_block-in-CodeBlock-clause-code : goal.returns-in_ok-add_block-in-CodeBlock-clause-code
+returns-in_ok-add_block-in-CodeBlock-clause-code c =
+    rw (ap definition_of c.in-CodeBlock.is) (adds_block c.args.self.now.skipped _ c.args.line c.in_ok-add_block-in-CodeBlock.ensures.lines c.in_ok-add_block-in-CodeBlock.ensures.next)
+
+pub returns-in-Declares-clause-code : goal.returns-in-Declares-clause-code
+returns-in-Declares-clause-code c =
+    on_ok c.declare.result _ _ _ (λ same good. rw (ap definition_of c.in-Declares.is) (adds_same c.args.self.now.skipped)) c.declare.ensures.declared c.declare.ensures.good
+
+pub returns-in-Some-clause-code : goal.returns-in-Some-clause-code
+returns-in-Some-clause-code c = rw (ap definition_of c.in-Options.is) (adds_same c.args.self.now.skipped)
+
+pub returns-in-Ok-clause-code : goal.returns-in-Ok-clause-code
+returns-in-Ok-clause-code c = rw (ap definition_of c.in-Defines.is) (adds_same c.args.self.now.skipped)
