@@ -53,11 +53,13 @@ name_rules = letter_rule (codes "out") 111
     ∷ words_rule (codes "file")
     ∷ []
 
--- the command line of the program, whose words begin after its name
+-- the words begin after the program's name
+abbrev pub no_rules : App
+no_rules = on_top (λ s. record s { no_binary_name = true }) (new_app (codes "lex"))
+
+-- the program's command line
 abbrev pub lex_app : App
-lex_app =
-    fold with_rule (fold with_rule (on_top (λ s. record s { no_binary_name = true }) (new_app (codes "lex"))) flag_rules)
-    name_rules
+lex_app = fold with_rule (fold with_rule no_rules flag_rules) name_rules
 
 -- ---- words that are in none of the forms, though clap takes them
 
