@@ -1,4 +1,6 @@
 pub mod Args
+pub mod CommandLine
+pub mod CommandExamples
 pub mod Faults
 pub mod Refusal
 pub mod Headline

@@ -1,6 +1,13 @@
 //! What a command line asks for.
-ghost use Rattle.std.specs.Prelude.{◌≡◌, ◌≢◌, IfOk, codes, string_bytes};
+ghost use Rattle.std.specs.Prelude.{◌≡◌, ◌≢◌, ◌⊎◌, IfErr, IfOk, codes, false, fold, map, option_map, string_bytes};
+ghost use Rattle.std.specs.Prelude.{true};
+ghost use Rattle.clap.specs.Words.{all_of, app_of, first_of, found_of, rows_of, rule_of, with_rule};
 ghost use Rattle.lexkit.specs.Args.{IsNamed};
+ghost use Rattle.lexkit.specs.CommandLine.{AsksFor, IsJobOf, Makes, ScansBySpec, ScansByTable, files_of};
+ghost use Rattle.lexkit.specs.CommandLine.{flag_rule, flag_rules, has, has_byte_at, has_separator};
+ghost use Rattle.lexkit.specs.CommandLine.{has_value_behind_equals, is_long_with_equals, is_out_with_equals};
+ghost use Rattle.lexkit.specs.CommandLine.{letter_rule, lex_app};
+ghost use Rattle.lexkit.specs.CommandLine.{makes_tables, name_rules, reads_patterns, word_rule, words_rule};
 
 use clap::error::ErrorKind;
 use clap::{Arg, ArgAction, ArgMatches, Command};
@@ -77,105 +84,154 @@ impl From<clap::Error> for ArgsError {
     }
 }
 
-/// Reads the words after the program's name: `[-t] [-n] [-v] [-b] [-i] [-X] [-w] [-o FILE] [FILE..]`, or `--scan-spec FILE`
-/// with `-i`, `-X` or `-w`, or `--scan-table FILE` alone. Flags may be repeated. `-` is no FILE of a scan.
+/// Reads the words after the program's name: `[-t] [-n] [-v] [-b] [-i] [-X] [-w] [-o FILE] [FILE..]`, or
+/// `--scan-spec FILE` with `-i`, `-X` or `-w`, or `--scan-table FILE` alone. Flags may be repeated. `-` is no FILE of a
+/// scan. Words that it refuses by `Usage` ask for no job.
 pub fn read_args(alloc: Global, words: &[String]) -> Result<Job, ArgsError>
-    ensures { IfOk result IsNamed }
+    ensures named { IfOk result IsNamed }
+    ensures asked { IfOk result (AsksFor (map string_bytes words.now)) }
+    ensures refused { IfErr result (λ e. e ≡ ArgsError.Usage
+        → (job : Job) → AsksFor (map string_bytes words.now) job → ⊥) }
 {
     if has_value_behind_equals(words) {
         return Err(ArgsError::Usage);
     }
     let command = command(alloc)?;
     let matches = command.try_get_matches_from(words)?;
-    match (matches.get_str("scan-spec"), matches.get_str("scan-table")) {
-        (None, None) => generating(alloc, &matches),
-        _ if has_separator(words) => Err(ArgsError::Usage),
-        (Some(file), None) => scanning_by_spec(alloc, &matches, file),
-        (None, Some(file)) => scanning_by_table(alloc, &matches, file),
-        (Some(_), Some(_)) => Err(ArgsError::Usage),
+    job_of(alloc, &matches, has_separator(words))
+}
+
+/// The job of what was met, where `separated` says that some word is `--`: a scan has none.
+fn job_of(alloc: Global, matches: &ArgMatches<'_>, separated: bool) -> Result<Job, ArgsError>
+    ensures named { IfOk result IsNamed }
+    ensures asked { IfOk result (IsJobOf (rows_of (found_of matches.now)) separated) }
+    ensures refused { IfErr result (λ e. e ≡ ArgsError.Usage
+        → (job : Job) → IsJobOf (rows_of (found_of matches.now)) separated job → ⊥) }
+{
+    let spec = value_of(matches, "scan-spec");
+    let table = value_of(matches, "scan-table");
+    match (spec, table, separated) {
+        (None, None, _) => generating(alloc, matches),
+        (Some(file), None, false) => scanning_by_spec(alloc, matches, file),
+        (None, Some(file), false) => scanning_by_table(alloc, matches, file),
+        (Some(_), None, true) | (None, Some(_), true) | (Some(_), Some(_), _) => {
+            Err(ArgsError::Usage)
+        }
     }
 }
 
 /// Whether some word is `--`, behind which each word is a file.
-fn has_separator(words: &[String]) -> bool {
+fn has_separator(words: &[String]) -> bool
+    ensures { result ≡ has_separator (map string_bytes words.now) }
+{
     words.iter().any(|word| word.as_str() == "--")
 }
 
-/// Whether some word before any `--` has its value behind a sign of equality, as `--scan-spec=FILE` or `-o=FILE`: that is none of
-/// the forms.
-fn has_value_behind_equals(words: &[String]) -> bool {
+/// Whether some word before any `--` has its value behind a sign of equality, as `--scan-spec=FILE` or `-o=FILE`: that
+/// is none of the forms.
+fn has_value_behind_equals(words: &[String]) -> bool
+    ensures { result ≡ has_value_behind_equals (map string_bytes words.now) }
+{
     for word in words {
         let text = word.as_str();
         if text == "--" {
             return false;
         }
-        if (text.starts_with("--") && text.contains('=')) || is_out_with_equals(text.as_bytes()) {
+        if is_long_with_equals(text.as_bytes()) || is_out_with_equals(text.as_bytes()) {
             return true;
         }
     }
     false
 }
 
+/// Whether the word begins with `--`, and has `=`.
+fn is_long_with_equals(word: &[u8]) -> bool
+    ensures { result ≡ is_long_with_equals word.now }
+{
+    word.starts_with(b"--") && word.contains(&b'=')
+}
+
 /// Whether the word has flags up to an `o`, and `=` directly behind that.
-fn is_out_with_equals(word: &[u8]) -> bool {
-    if word.first() != Some(&b'-') {
+fn is_out_with_equals(word: &[u8]) -> bool
+    ensures { result ≡ is_out_with_equals word.now }
+{
+    if !has_byte_at(word, 0, b'-') {
         return false;
     }
     match word.iter().position(|byte| *byte == b'o') {
-        Some(at) => word.get(at + 1) == Some(&b'='),
+        Some(at) => has_byte_at(word, at + 1, b'='),
         None => false,
     }
 }
 
+/// Whether the byte stands at the place.
+fn has_byte_at(word: &[u8], at: usize, byte: u8) -> bool
+    ensures { result ≡ has_byte_at word.now at byte }
+{
+    word.get(at) == Some(&byte)
+}
+
 /// A flag, which may be repeated.
-fn flag<'a>(alloc: Global, id: &'a str, letter: char) -> Arg<'a> {
+fn flag<'a>(alloc: Global, id: &'a str, letter: char) -> Arg<'a>
+    ensures rule { rule_of result ≡ flag_rule id.entry.now letter }
+    ensures global { result.global ≡ false }
+{
     Arg::new(alloc, id).short(letter).action(ArgAction::Count)
 }
 
 /// The words that the program knows.
-fn command<'a>(alloc: Global) -> Result<Command<'a>, AllocError> {
+fn command<'a>(alloc: Global) -> Result<Command<'a>, AllocError>
+    ensures { IfOk result (λ c. app_of c ≡ lex_app) }
+{
     let command = Command::new(alloc, "lex").no_binary_name(true);
     let command = with_flags(alloc, command)?;
     with_names(alloc, command)
 }
 
 /// The command with the flags.
-fn with_flags<'a>(alloc: Global, command: Command<'a>) -> Result<Command<'a>, AllocError> {
-    let flags = &[
-        ("stdout", 't'),
-        ("no-stats", 'n'),
-        ("stats", 'v'),
-        ("backup", 'b'),
-        ("fold", 'i'),
-        ("posix", 'X'),
-        ("quiet", 'w'),
-    ];
-    let mut with = command;
-    for &(name, letter) in flags {
-        with = with.arg(flag(alloc, name, letter))?;
-    }
-    Ok(with)
+fn with_flags<'a>(alloc: Global, command: Command<'a>) -> Result<Command<'a>, AllocError>
+    ensures { IfOk result (λ c. app_of c ≡ fold with_rule (app_of command.entry) flag_rules) }
+{
+    command
+        .arg(flag(alloc, "stdout", 't'))?
+        .arg(flag(alloc, "no-stats", 'n'))?
+        .arg(flag(alloc, "stats", 'v'))?
+        .arg(flag(alloc, "backup", 'b'))?
+        .arg(flag(alloc, "fold", 'i'))?
+        .arg(flag(alloc, "posix", 'X'))?
+        .arg(flag(alloc, "quiet", 'w'))
 }
 
 /// The word that names the table's file.
-fn out_word<'a>(alloc: Global) -> Arg<'a> {
+fn out_word<'a>(alloc: Global) -> Arg<'a>
+    ensures rule { rule_of result ≡ letter_rule (codes "out") 111 }
+    ensures global { result.global ≡ false }
+{
     Arg::new(alloc, "out").short('o').action(ArgAction::Set)
 }
 
 /// A long word that names a file.
-fn long_word<'a>(alloc: Global, name: &'a str) -> Arg<'a> {
+fn long_word<'a>(alloc: Global, name: &'a str) -> Arg<'a>
+    ensures rule { rule_of result ≡ word_rule name.entry.now }
+    ensures global { result.global ≡ false }
+{
     Arg::new(alloc, name).long(name).action(ArgAction::Set)
 }
 
 /// The words that name specifications.
-fn file_words<'a>(alloc: Global) -> Arg<'a> {
+fn file_words<'a>(alloc: Global) -> Arg<'a>
+    ensures rule { rule_of result ≡ words_rule (codes "file") }
+    ensures global { result.global ≡ false }
+{
     Arg::new(alloc, "file")
         .num_args(1..)
         .action(ArgAction::Append)
 }
 
 /// The command with the words that name files.
-fn with_names<'a>(alloc: Global, command: Command<'a>) -> Result<Command<'a>, AllocError> {
+fn with_names<'a>(alloc: Global, command: Command<'a>) -> Result<Command<'a>, AllocError>
+    ensures { IfOk result (λ c. app_of c ≡ fold with_rule (app_of command.entry) name_rules) }
+{
     command
         .arg(out_word(alloc))?
         .arg(long_word(alloc, "scan-spec"))?
@@ -184,29 +240,52 @@ fn with_names<'a>(alloc: Global, command: Command<'a>) -> Result<Command<'a>, Al
 }
 
 /// Whether the flag stands there.
-fn has(matches: &ArgMatches<'_>, flag: &str) -> bool {
+fn has(matches: &ArgMatches<'_>, flag: &str) -> bool
+    ensures { result ≡ has flag.now (rows_of (found_of matches.now)) }
+{
     matches.get_count(flag) > 0
 }
 
+/// The value of the name, where one stands there.
+fn value_of<'a>(matches: &ArgMatches<'a>, name: &str) -> Option<&'a str>
+    ensures { option_map (λ s. s.now) result ≡ first_of name.now (rows_of (found_of matches.now)) }
+{
+    matches.get_str(name)
+}
+
+/// The values of the name, where some stand there.
+fn values_of<'m, 'a>(matches: &'m ArgMatches<'a>, name: &str) -> Option<&'m [&'a str]>
+    ensures { option_map (λ s. map (λ v. v.now) s.now) result ≡ all_of name.now (rows_of (found_of matches.now)) }
+{
+    matches.get_strs(name)
+}
+
 /// Whether something stands there that only making tables takes: `-t`, `-n`, `-v`, `-b`, `-o` or a file.
-fn makes_tables(matches: &ArgMatches<'_>) -> bool {
+fn makes_tables(matches: &ArgMatches<'_>) -> bool
+    ensures { result ≡ makes_tables (rows_of (found_of matches.now)) }
+{
     has(matches, "stdout")
         || has(matches, "no-stats")
         || has(matches, "stats")
         || has(matches, "backup")
-        || matches.get_str("out").is_some()
-        || matches.get_str("file").is_some()
+        || value_of(matches, "out").is_some()
+        || value_of(matches, "file").is_some()
 }
 
-/// Whether something stands there that only reading patterns takes: `-i` or `-X`.
-fn reads_patterns(matches: &ArgMatches<'_>) -> bool {
-    has(matches, "fold") || has(matches, "posix")
-}
-
-fn generating(alloc: Global, matches: &ArgMatches<'_>) -> Result<Job, ArgsError>
-    ensures { IfOk result IsNamed }
+/// Whether something stands there that only reading patterns takes: `-i`, `-X` or `-w`.
+fn reads_patterns(matches: &ArgMatches<'_>) -> bool
+    ensures { result ≡ reads_patterns (rows_of (found_of matches.now)) }
 {
-    let out = match matches.get_str("out") {
+    has(matches, "fold") || has(matches, "posix") || has(matches, "quiet")
+}
+
+/// The making of tables, with what was met.
+fn generating(alloc: Global, matches: &ArgMatches<'_>) -> Result<Job, ArgsError>
+    ensures named { IfOk result IsNamed }
+    ensures made { IfOk result (Makes (rows_of (found_of matches.now))) }
+    ensures memory { IfErr result (λ e. e ≡ ArgsError.OutOfMemory) }
+{
+    let out = match value_of(matches, "out") {
         None => None,
         Some(name) => Some(String::from_str(alloc, name)?),
     };
@@ -222,18 +301,33 @@ fn generating(alloc: Global, matches: &ArgMatches<'_>) -> Result<Job, ArgsError>
     })
 }
 
-fn files_of(alloc: Global, matches: &ArgMatches<'_>) -> Result<Vec<String>, AllocError> {
-    let mut files = Vec::new(alloc);
-    if let Some(names) = matches.get_strs("file") {
-        for name in names {
-            files.push(String::from_str(alloc, *name)?)?;
-        }
+/// The files that were met.
+fn files_of(alloc: Global, matches: &ArgMatches<'_>) -> Result<Vec<String>, AllocError>
+    ensures { IfOk result (λ v. map string_bytes v.items ≡ files_of (rows_of (found_of matches.now))) }
+{
+    match values_of(matches, "file") {
+        None => Ok(Vec::new(alloc)),
+        Some(names) => copied(alloc, names),
     }
-    Ok(files)
 }
 
+/// The names, as texts of their own.
+fn copied(alloc: Global, names: &[&str]) -> Result<Vec<String>, AllocError>
+    ensures { IfOk result (λ v. map string_bytes v.items ≡ map (λ n. n.now) names.now) }
+{
+    let mut copies = Vec::new(alloc);
+    for name in names {
+        copies.push(String::from_str(alloc, *name)?)?;
+    }
+    Ok(copies)
+}
+
+/// The scan by the specification in the file.
 fn scanning_by_spec(alloc: Global, matches: &ArgMatches<'_>, file: &str) -> Result<Job, ArgsError>
-    ensures { IfOk result IsNamed }
+    ensures named { IfOk result IsNamed }
+    ensures scans { IfOk result (ScansBySpec (rows_of (found_of matches.now)) file.now) }
+    ensures refused { IfErr result (λ e. e ≡ ArgsError.Usage
+        → (makes_tables (rows_of (found_of matches.now)) ≡ true) ⊎ (file.now ≡ codes "-")) }
 {
     if makes_tables(matches) || file == "-" {
         return Err(ArgsError::Usage);
@@ -246,10 +340,15 @@ fn scanning_by_spec(alloc: Global, matches: &ArgMatches<'_>, file: &str) -> Resu
     })
 }
 
+/// The scan by the table in the file.
 fn scanning_by_table(alloc: Global, matches: &ArgMatches<'_>, file: &str) -> Result<Job, ArgsError>
-    ensures { IfOk result IsNamed }
+    ensures named { IfOk result IsNamed }
+    ensures scans { IfOk result (ScansByTable (rows_of (found_of matches.now)) file.now) }
+    ensures refused { IfErr result (λ e. e ≡ ArgsError.Usage
+        → (makes_tables (rows_of (found_of matches.now)) ≡ true)
+        ⊎ ((reads_patterns (rows_of (found_of matches.now)) ≡ true) ⊎ (file.now ≡ codes "-"))) }
 {
-    if makes_tables(matches) || reads_patterns(matches) || has(matches, "quiet") || file == "-" {
+    if makes_tables(matches) || reads_patterns(matches) || file == "-" {
         return Err(ArgsError::Usage);
     }
     Ok(Job::ScanTable {

@@ -15,7 +15,7 @@ mod stats;
 pub use args::{ArgsError, Job, read_args};
 pub use errors::{GenError, ScanError};
 pub use faults::{Fault, write_fault};
-pub use laws::{file_scans, one_file};
+pub use laws::{command_lines, file_scans, one_file};
 pub use lex_semantics::{MAX_FILE_BYTES, MAX_POSITIONS, MAX_STATES};
 pub use lexauto::{BackUp, BuildError, Limits};
 pub use lexauto_reports::{Warning, write_backup, write_warnings};
