@@ -22,7 +22,7 @@ def owner(line):
     head = re.sub(r"^\s*(?:unsafe\s+)?impl\s*|\s*\{?\s*$|\'\w+", "", line)
     own = re.match(r"<((?:[^<>]|<[^<>]*>)*)>", head)
     hidden = set(re.findall(r"(?:^|,)\s*(\w+)", own[1])) if own else set()
-    head = re.sub(r"\w+::", "", head[own.end() :] if own else head)
+    head = re.sub(r"(\w)(\w*)::", lambda it: it[1].upper() + it[2], head[own.end() :] if own else head)
     behind, _, kind = head.rpartition(" for ")
     words = [word for word in re.findall(r"\w+", f"{kind} {behind}") if word not in hidden | {"_"}]
     return "".join(words), bool(behind)

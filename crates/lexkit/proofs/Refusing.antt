@@ -1,13 +1,17 @@
 -- The builder's refusals, by their reasons.
-use Rattle.std.proofs.Common.{◌≡◌, ℕ, ◌<◌, Bool, List, refl, Err}
+use Rattle.std.proofs.Common.{◌≡◌, ℕ, ◌<◌, Bool, List, refl, Result, Ok, Err}
 use Rattle.lex_semantics.specs.Spec.{Spec}
 use Rattle.lex_semantics.specs.Subsets.{Subsets, all_positions}
 use Rattle.lexauto.specs.declared.subsets.Limits.{Limits}
 use Rattle.lexauto.specs.declared.error.BuildError.{BuildError}
 use Rattle.lexauto.specs.declared.error.BuildError.TheVariants as builds
 use Rattle.lexauto_dfa.specs.declared.dfa.Dfa.{Dfa}
-use Rattle.lexkit.specs.Headline.{BuildRefusal, IsWithin, ScansBy}
-use Rattle.lexkit.specs.Generated.{SpecRefusal, IsLeastOf}
+use Rattle.lexspec.specs.Files.{SpellsSpec}
+use Rattle.lexspec.specs.Skipped.{AreSkipped}
+use Rattle.lexkit.specs.Headline.{BuildRefusal, IsWithin, ScansBy, reading}
+use Rattle.lexkit.specs.Generated.{SpecRefusal, IsLeastOf, MakesBy, Makes}
+use Rattle.lexkit.specs.declared.making.Generated.{Generated}
+use Rattle.lexkit.specs.declared.options.Options.{Options}
 use Rattle.lexkit.specs.declared.errors.GenError.{GenError}
 use Rattle.lexkit.specs.declared.errors.GenError.TheVariants as gens
 use Rattle.lexkit.specs.declared.errors.ScanError.TheVariants.{Generate}
@@ -26,3 +30,11 @@ told_of gave wrote limits S at_end s t (gens.Spec e) h = absurd h
 
 pub within : (limits : Limits) (S : Spec) (subsets : ℕ) (d : Dfa) → IsLeastOf limits S subsets d → IsWithin limits S
 within limits S subsets d l = record { few_positions = l.few_positions; states = subsets; subsets = l.subsets_are; few_states = l.few_states }
+
+-- what is made by the specification that a text spells, and by its lines of skipped code, is made of the text
+pub made_of_text : (options : Options) (text : List ℕ) (S : Spec) (skipped : List ℕ) → SpellsSpec (reading options) text S → AreSkipped text skipped → (r : Result Generated GenError) → MakesBy options.limits S skipped r
+    → Makes options text r
+made_of_text options text S skipped spells lines (Ok g) made = (S, spells, skipped, lines, made)
+made_of_text options text S skipped spells lines (Err (gens.Build e)) refused = (S, spells, refused)
+made_of_text options text S skipped spells lines (Err gens.OutOfMemory) refused = tt
+made_of_text options text S skipped spells lines (Err (gens.Spec e)) refused = absurd refused

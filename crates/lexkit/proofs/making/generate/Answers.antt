@@ -1,1 +1,7 @@
--- Each goal is found by search.
+use Rattle.lexspec.specs.Views.{spec_of, skipped_in}
+use Rattle.lexkit.proofs.Refusing.{made_of_text}
+use Rattle.lexkit.proofs.making.generate.Goals as goal
+
+pub returns : goal.returns
+returns c =
+    made_of_text c.args.options c.args.text.now (spec_of c.in-Ok.spec) (skipped_in c.in-Ok.spec) c.in-Ok.ensures.found c.in-Ok.ensures.skipped c.generate_by.result c.generate_by.ensures
