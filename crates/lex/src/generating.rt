@@ -55,13 +55,18 @@ pub fn make(
     Ok(())
 }
 
-/// Writes the warnings of a specification to standard error.
-pub fn write_warnings_of(rt: &HostRuntime, text: &[u8], options: Options) -> Result<(), Failure>
+/// What is made of a specification, whose warnings go to standard error.
+pub fn make_with_warnings(
+    rt: &HostRuntime,
+    text: &[u8],
+    options: Options,
+) -> Result<Generated, Failure>
     requires few_positions { options.limits.positions ≤ MAX_POSITIONS }
     requires few_states { options.limits.states ≤ MAX_STATES }
 {
     let made = generate(rt.alloc(), text, options)?;
-    warn(rt, &made.warnings)
+    warn(rt, &made.warnings)?;
+    Ok(made)
 }
 
 fn warn(rt: &HostRuntime, warnings: &[Warning]) -> Result<(), Failure> {

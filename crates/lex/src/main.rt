@@ -8,11 +8,11 @@ mod generating;
 mod reading;
 
 use crate::failure::Failure;
-use crate::generating::{Outputs, make, write_warnings_of};
+use crate::generating::{Outputs, make, make_with_warnings};
 use crate::reading::{read_spec_file, read_specification, read_table_file};
 use lexkit::{
-    ArgsError, ByteReader, ByteWriter, FromBytes, Job, MAX_POSITIONS, MAX_STATES, Options,
-    ReadOptions, Sink, ToWrite, read_args, scan_spec, scan_table, write_fault,
+    ArgsError, ByteReader, ByteWriter, FromBytes, Generated, Job, MAX_POSITIONS, MAX_STATES,
+    Options, ReadOptions, Sink, ToWrite, read_args, scan_made, scan_spec, scan_table, write_fault,
 };
 use std::io::ErrorKind;
 use std::process::ExitCode;
@@ -38,6 +38,8 @@ fn job_of(rt: &HostRuntime) -> Result<Job, ArgsError> {
 enum By<'a> {
     /// The text of a specification, and how it is read.
     Spec(&'a [u8], ReadOptions),
+    /// What was made of a specification.
+    Made(&'a Generated),
     /// A table file.
     Table(&'a [u8]),
 }
@@ -56,6 +58,7 @@ fn scan(rt: &HostRuntime, by: By<'_>) -> Result<u8, Failure> {
                 &mut sink,
             )
         }
+        By::Made(made) => scan_made(rt.alloc(), made, &mut source, &mut sink),
         By::Table(bytes) => scan_table(rt.alloc(), bytes, &mut source, &mut sink),
     };
     if result.is_err() {
@@ -110,10 +113,11 @@ fn run(rt: &HostRuntime) -> Result<u8, Failure> {
         } => {
             let options = ReadOptions { fold, posix };
             let text = read_spec_file(rt, file)?;
-            if !quiet {
-                write_warnings_of(rt, text.as_slice(), options_of(options))?;
+            if quiet {
+                return scan(rt, By::Spec(text.as_slice(), options));
             }
-            scan(rt, By::Spec(text.as_slice(), options))
+            let made = make_with_warnings(rt, text.as_slice(), options_of(options))?;
+            scan(rt, By::Made(&made))
         }
         Job::ScanTable { file } => {
             let bytes = read_table_file(rt, file)?;

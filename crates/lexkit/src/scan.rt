@@ -1,13 +1,15 @@
 //! One scan, by a specification's text or a table file.
-ghost use Rattle.std.specs.Prelude.{◌≡◌, ℕ, ◌+◌, ◌-◌, ◌^◌, ◌<◌, ◌≤◌, List, nat_lt, IsErrOf};
+ghost use Rattle.std.specs.Prelude.{◌≡◌, ℕ, ◌+◌, ◌-◌, ◌^◌, ◌<◌, ◌≤◌, List, Ok, nat_lt, IsErrOf};
 ghost use Rattle.lexspec.specs.Views.{spec_of};
 ghost use Rattle.lexscan.specs.declared.error.RunError.TheVariants.{Failed};
 ghost use Rattle.lexkit.specs.Headline.{Headline, ScansBy, TableHeadline};
+ghost use Rattle.lexkit.specs.Generated.{Makes};
+ghost use Rattle.lexkit.specs.declared.options.Options.{Options as Asked};
 ghost use Rattle.lexkit.specs.ScanCounts.{HandedOn, read_fault_count, write_fault_count};
 ghost use Rattle.lex_semantics.specs.Limits.{max_positions, max_states};
 
 use crate::errors::{GenError, ScanError};
-use crate::making::least_automaton;
+use crate::making::{Generated, least_automaton};
 use crate::options::Options;
 use lexauto::Limits;
 use lexscan::{Source, run};
@@ -91,6 +93,36 @@ fn scan_by<S: Source, K: Sink>(
     match run(alloc, &machine, source, sink, MAX_READS) {
         Err(fault) => Err(ScanError::Run(fault)),
         Ok(status) => Ok(status),
+    }
+}
+
+/// Scans the source by what `generate` made of a text, and writes to the sink, as `scan_spec` does by the text: the tables are
+/// not made once more. Out of memory in laying them flat comes before the source or the sink is touched.
+pub fn scan_made<S: Source, K: Sink>(
+    alloc: Global,
+    made: &Generated,
+    source: &mut S,
+    sink: &mut K,
+) -> Result<u8, ScanError>
+    requires few_ends { S.ends source.old < 2 ^ 64 - 1 }
+    requires few_read_faults { S.failures source.old < 2 ^ 64 - 1 }
+    requires few_write_faults { K.failures sink.old < 2 ^ 64 - 1 }
+    ensures told { (options : Asked) (text : List ℕ) → Makes options text (Ok made.now) → Headline S.gave K.wrote options text
+        (nat_lt (S.ends source.old) (S.ends source.new)) source.old source.new sink.old sink.new result }
+    ensures read_faults { S.failures source.new ≡ S.failures source.old + read_fault_count result }
+    ensures write_faults { K.failures sink.new ≡ K.failures sink.old + write_fault_count result }
+    ensures ends_stay { S.ends source.old ≤ S.ends source.new }
+    ensures one_end { S.ends source.new ≤ S.ends source.old + 1 }
+    ensures not_failed { IsErrOf result (ScanError.Run Failed) → ⊥ }
+    ensures handed_on { HandedOn (K.flushed sink.new) result }
+{
+    let laid = match Flat::new(alloc, &made.tables) {
+        Err(_) => return Err(ScanError::Generate(GenError::OutOfMemory)),
+        Ok(laid) => laid,
+    };
+    match run(alloc, &laid, source, sink, MAX_READS) {
+        Err(fault) => Err(ScanError::Run(fault)),
+        Ok(ended) => Ok(ended),
     }
 }
 

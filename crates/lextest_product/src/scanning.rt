@@ -1,6 +1,7 @@
 //! Scans over memory. What they promise is left out, so that what calls them is proved in less time.
 use lexkit::{
-    MemorySink, MemorySource, Options, ScanError, generate, scan_spec, scan_table, write_tables,
+    MemorySink, MemorySource, Options, ScanError, generate, scan_made, scan_spec, scan_table,
+    write_tables,
 };
 use lexspec::ReadOptions;
 use std::alloc::Global;
@@ -42,12 +43,6 @@ pub(crate) fn scanned(
     input: &[u8],
     failing: Failing,
 ) -> Scan {
-    let ReadOptions { fold, posix } = how;
-    let options = Options {
-        fold,
-        posix,
-        ..Options::new()
-    };
     let mut source = match failing {
         Failing::Read(given) => MemorySource::failing_after(input, given),
         _ => MemorySource::new(input),
@@ -57,7 +52,7 @@ pub(crate) fn scanned(
         Failing::Flush => MemorySink::failing_flush(alloc),
         _ => MemorySink::new(alloc),
     };
-    let answer = scan_spec(alloc, text, options, &mut source, &mut sink);
+    let answer = scan_spec(alloc, text, options_of(how), &mut source, &mut sink);
     Scan {
         answer,
         sink,
@@ -77,15 +72,37 @@ pub(crate) fn scanned_by_table(alloc: Global, file: &[u8], input: &[u8]) -> Scan
     }
 }
 
-/// The table file of a specification, where it has one.
-pub(crate) fn file_of(alloc: Global, text: &[u8], how: ReadOptions) -> Option<MemorySink> {
+/// The options that read patterns so, with the greatest limits.
+fn options_of(how: ReadOptions) -> Options {
     let ReadOptions { fold, posix } = how;
-    let options = Options {
+    Options {
         fold,
         posix,
         ..Options::new()
-    };
-    let made = generate(alloc, text, options).ok()?;
+    }
+}
+
+/// A scan by what is made of a specification, where something is.
+pub(crate) fn scanned_as_made(
+    alloc: Global,
+    text: &[u8],
+    how: ReadOptions,
+    input: &[u8],
+) -> Option<Scan> {
+    let made = generate(alloc, text, options_of(how)).ok()?;
+    let mut source = MemorySource::new(input);
+    let mut sink = MemorySink::new(alloc);
+    let answer = scan_made(alloc, &made, &mut source, &mut sink);
+    Some(Scan {
+        answer,
+        sink,
+        calls: source.calls(),
+    })
+}
+
+/// The table file of a specification, where it has one.
+pub(crate) fn file_of(alloc: Global, text: &[u8], how: ReadOptions) -> Option<MemorySink> {
+    let made = generate(alloc, text, options_of(how)).ok()?;
     let mut file = MemorySink::new(alloc);
     write_tables(&made.tables, &mut file).ok()?;
     Some(file)

@@ -1,5 +1,5 @@
 use crate::row::{FOLD, Long, PLAIN, POSIX, Row};
-use crate::scanning::{Failing, file_of, scanned, scanned_by_table};
+use crate::scanning::{Failing, file_of, scanned, scanned_as_made, scanned_by_table};
 use crate::{examples, limits, manual, worked};
 use lexkit::{
     ArgsError, Fault, GenError, MemorySink, MemorySource, Options, RunError, ScanError, Source,
@@ -31,6 +31,15 @@ fn holds_by_table(alloc: Global, how: ReadOptions, row: &Row) -> bool {
             let scan = scanned_by_table(alloc, file.written(), input.as_bytes());
             scan.does(Ok(status), want.as_bytes())
         }
+        None => false,
+    }
+}
+
+/// Whether a scan by what is made of the specification does as the row says.
+fn holds_as_made(alloc: Global, how: ReadOptions, row: &Row) -> bool {
+    let (text, input, want, status) = *row;
+    match scanned_as_made(alloc, text.as_bytes(), how, input.as_bytes()) {
+        Some(scan) => scan.does(Ok(status), want.as_bytes()),
         None => false,
     }
 }
@@ -77,6 +86,7 @@ fn assert_rows(rt: &impl Abort, alloc: Global, how: ReadOptions, rows: &[Row]) {
             "{}, by its table file",
             row.0
         );
+        assert!(rt; holds_as_made(alloc, how, row), "{}, as made", row.0);
     }
 }
 
