@@ -8,12 +8,21 @@ use std::io::{self, Error, ErrorKind, Read, Write};
 use std::test::Fail;
 
 /// A piece of an input, and how many bytes have to be written before the next one is asked for.
-type Piece = (&'static [u8], usize);
+#[derive(Clone, Copy)]
+struct Piece {
+    bytes: &'static [u8],
+    wanted: usize,
+}
+
+/// A piece of an input.
+const fn given(bytes: &'static [u8], wanted: usize) -> Piece {
+    Piece { bytes, wanted }
+}
 
 /// Gives a piece a read, and notes whether something was still to be written then.
 #[derive(Drop)]
 struct Pieces<'a> {
-    left: &'static [Piece],
+    left: &'a [Piece],
     wanted: usize,
     written: &'a Cell<usize>,
     late: &'a Cell<bool>,
@@ -24,17 +33,13 @@ impl Read for Pieces<'_> {
         if self.written.get() != self.wanted {
             self.late.set(true);
         }
-        let Some(((bytes, wanted), left)) = self.left.split_first() else {
+        let Some((piece, left)) = self.left.split_first() else {
             return Ok(0);
         };
         self.left = left;
-        self.wanted = *wanted;
-        let mut count = 0;
-        for (place, byte) in buf.iter_mut().zip(bytes.iter()) {
-            *place = *byte;
-            count += 1;
-        }
-        Ok(count)
+        let Piece { mut bytes, wanted } = *piece;
+        self.wanted = wanted;
+        bytes.read(buf)
     }
 }
 
@@ -70,14 +75,14 @@ impl Write for Stuck {
     }
 }
 
-const LINES: &[Piece] = &[(b"ab\n", 3), (b"c\n", 6), (b"d\ne\n", 12)];
+const LINES: &[Piece] = &[given(b"ab\n", 3), given(b"c\n", 6), given(b"d\ne\n", 12)];
 
 const PARTS: &[Piece] = &[
-    (b"ab", 0),
-    (b"c\nde", 3),
-    (b"f", 3),
-    (b"\ng\nh", 9),
-    (b"\n", 12),
+    given(b"ab", 0),
+    given(b"c\nde", 3),
+    given(b"f", 3),
+    given(b"\ng\nh", 9),
+    given(b"\n", 12),
 ];
 
 /// Each line is answered by three bytes: by a rule that is told at a glance, by REJECT, by yyless, and in another condition.

@@ -1,7 +1,9 @@
 //! Scans over memory. What they promise is left out, so that what calls them is proved in less time.
+ghost use Rattle.std.specs.Prelude.{◌≤◌};
+
 use lexkit::{
-    MemorySink, MemorySource, Options, ScanError, generate, scan_made, scan_spec, scan_table,
-    write_tables,
+    MAX_POSITIONS, MAX_STATES, MemorySink, MemorySource, Options, ScanError, generate, scan_made,
+    scan_spec, scan_table, write_tables,
 };
 use lexspec::ReadOptions;
 use std::alloc::Global;
@@ -73,7 +75,10 @@ pub(crate) fn scanned_by_table(alloc: Global, file: &[u8], input: &[u8]) -> Scan
 }
 
 /// The options that read patterns so, with the greatest limits.
-fn options_of(how: ReadOptions) -> Options {
+fn options_of(how: ReadOptions) -> Options
+    ensures few_positions { result.limits.positions ≤ MAX_POSITIONS }
+    ensures few_states { result.limits.states ≤ MAX_STATES }
+{
     let ReadOptions { fold, posix } = how;
     Options {
         fold,
