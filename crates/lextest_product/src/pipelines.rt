@@ -14,11 +14,6 @@ struct Piece {
     wanted: usize,
 }
 
-/// A piece of an input.
-const fn given(bytes: &'static [u8], wanted: usize) -> Piece {
-    Piece { bytes, wanted }
-}
-
 /// Gives a piece a read, and notes whether something was still to be written then.
 #[derive(Drop)]
 struct Pieces<'a> {
@@ -75,14 +70,42 @@ impl Write for Stuck {
     }
 }
 
-const LINES: &[Piece] = &[given(b"ab\n", 3), given(b"c\n", 6), given(b"d\ne\n", 12)];
+const LINES: &[Piece] = &[
+    Piece {
+        bytes: b"ab\n",
+        wanted: 3,
+    },
+    Piece {
+        bytes: b"c\n",
+        wanted: 6,
+    },
+    Piece {
+        bytes: b"d\ne\n",
+        wanted: 12,
+    },
+];
 
 const PARTS: &[Piece] = &[
-    given(b"ab", 0),
-    given(b"c\nde", 3),
-    given(b"f", 3),
-    given(b"\ng\nh", 9),
-    given(b"\n", 12),
+    Piece {
+        bytes: b"ab",
+        wanted: 0,
+    },
+    Piece {
+        bytes: b"c\nde",
+        wanted: 3,
+    },
+    Piece {
+        bytes: b"f",
+        wanted: 3,
+    },
+    Piece {
+        bytes: b"\ng\nh",
+        wanted: 9,
+    },
+    Piece {
+        bytes: b"\n",
+        wanted: 12,
+    },
 ];
 
 /// Each line is answered by three bytes: by a rule that is told at a glance, by REJECT, by yyless, and in another condition.
