@@ -2,6 +2,7 @@
 use crate::automata::{built, read};
 use lexscan::{FromRead, MemorySource, RunError, Scanner, Source, Turn, Window, run};
 use lextab::{MemorySink, Plain};
+use std::alloc::Global;
 use std::test::Fail;
 
 #[test]
@@ -55,9 +56,32 @@ fn a_run(rt: HostRuntime) -> Result<(), Fail> {
     let mut source = MemorySource::new(b"abc");
     assert!(rt; run(alloc, &machine, &mut source, &mut sink, 4) == Ok(0));
     assert!(rt; sink.written() == b"I".as_slice());
-    let mut again = MemorySource::new(b"abc");
-    let mut other = MemorySink::new(alloc);
-    let stopped = run(alloc, &machine, &mut again, &mut other, 3);
-    assert!(rt; stopped == Err(RunError::TooManyReads));
+    Ok(())
+}
+
+/// A rule that is told at a glance, one that gives its match up, and one that gives bytes back. Over three letters each asks for
+/// four reads, that of the end with them.
+const ASKING: &[&[u8]] = &[
+    b"%%\n[a-z]+ printf(\"I\");\n",
+    b"%%\n[a-z]+ REJECT;\n.|\\n ;\n",
+    b"%%\n[a-z]+ yyless(1);\n",
+];
+
+/// What a run over three letters answers, where so many reads are allowed.
+fn run_within(alloc: Global, text: &[u8], max_reads: u64) -> Result<Result<u8, RunError>, Fail> {
+    let spec = read(alloc, text)?;
+    let automaton = built(alloc, &spec)?;
+    let machine = Plain::new(&automaton, &spec);
+    let mut source = MemorySource::new(b"abc");
+    let mut sink = MemorySink::new(alloc);
+    Ok(run(alloc, &machine, &mut source, &mut sink, max_reads))
+}
+
+#[test]
+fn too_many_reads(rt: HostRuntime) -> Result<(), Fail> {
+    for &text in ASKING {
+        assert!(rt; run_within(rt.alloc(), text, 4)? == Ok(0));
+        assert!(rt; run_within(rt.alloc(), text, 3)? == Err(RunError::TooManyReads));
+    }
     Ok(())
 }
