@@ -1,15 +1,15 @@
 -- A turn whose output was handed on before it.
-use Rattle.std.proofs.Common.{◌≡◌, Bool, ℕ, List, [], ◌++◌, inl, inr, Ok, Err, refl, sym, subst, ◌∙◌, arith}
+use Rattle.std.proofs.Common.{◌≡◌, Bool, ℕ, List, [], ◌++◌, inl, inr, Ok, Err, refl, sym, subst, ◌∙◌}
 use Rattle.std.specs.Prelude.{Result}
 use Rattle.lex_semantics.specs.Machine.{Machine}
 use Rattle.lexscan.specs.declared.state.State.{State}
 use Rattle.lexscan.specs.declared.turn.Turn.{Turn}
 use Rattle.lexscan.specs.declared.error.RunError.{RunError}
 use Rattle.lexscan.specs.declared.error.RunError.TheVariants.{Read, TooManyReads, Write, OutOfMemory, Stack, Failed}
-use Rattle.lexscan.specs.Ends.{IsEarly}
+use Rattle.lexscan.specs.Reads.{Took}
+use Rattle.lexscan.specs.Looks.{Unmet}
 use Rattle.lexscan.specs.Ties.{HandedOnAfter}
 use Rattle.lexscan.specs.Moves.{Why, StackFaulted, Moved}
-use Rattle.std.proofs.lemmas.List.{append-nil}
 
 module _ {S K : Type 0} (M : Machine) (gave : S → List ℕ → S → Type 0) (wrote : K → List ℕ → K → Type 0) (s s' : S) (t u t' : K) (old new : State)
     (more : (a b c : K) (xs ys : List ℕ) → wrote a xs b → wrote b ys c → wrote a (xs ++ ys) c) (flushed : wrote t [] u) where
@@ -58,21 +58,16 @@ module _ {S K : Type 0} (M : Machine) (gave : S → List ℕ → S → Type 0) (
     fault = λ is. fault_on (m.fault is);
   }
 
--- nothing was taken, since the output could not be handed on
-pub untied : {S K : Type 0} (M : Machine) (gave : S → List ℕ → S → Type 0) (wrote : K → List ℕ → K → Type 0) (s : S) (t t' : K) (old : State) → gave s [] s → wrote t [] t' → (e : RunError) → e ≡ Write → Moved M gave wrote s s t t' old old (Err e)
-untied M gave wrote s t t' old none flushed e is = record {
-  took = record { got = []; source = none; text = tt; held = sym (append-nil old.reading.window.bytes); taken = omega arith; nothing = λ h. refl; end_stays = λ h. h; max_reads = refl };
-  place = refl;
-  why = inl (inr refl, flushed);
-  early = λ early. absurd (not_early early);
-  fault = λ stack. absurd (no (sym is ∙ stack));
+-- no byte was had, or no memory, or what was written could not be handed on: nothing was put
+pub stopped : {S K : Type 0} (M : Machine) (gave : S → List ℕ → S → Type 0) (wrote : K → List ℕ → K → Type 0) (s s' : S) (t t' : K) (old new : State) → Took gave s s' old.reading new.reading → new.place ≡ old.place →
+    Unmet M old.place old.reading new.reading → wrote t [] t' → (e : RunError) → (e ≡ Stack → ⊥) → Moved M gave wrote s s' t t' old new (Err e)
+stopped M gave wrote s s' t t' old new took place unmet none e other = record {
+  took = took;
+  place = place;
+  why = inl (unmet, none);
+  early = λ early. (unmet, none);
+  fault = λ is. absurd (other is);
 }
-  where
-    not_early : IsEarly e → ⊥
-    not_early early = subst IsEarly is early
-
-    no : Write ≡ Stack → ⊥
-    no p = cc
 
 -- a refusal that is none of the stack asks nothing
 pub no_stack : (flushed : Bool) (e : RunError) → (e ≡ Stack → ⊥) → HandedOnAfter flushed e

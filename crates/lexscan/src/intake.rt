@@ -63,6 +63,14 @@ impl<'a, S: Source> Intake<'a, S> {
         self.source.ahead()
     }
 
+    /// Whether the next byte may have to be waited for.
+    #[inline(always)]
+    pub fn may_wait(&self) -> bool
+        ensures { result ≡ S.waits self.now.source.now }
+    {
+        self.source.may_wait()
+    }
+
     /// Has the source give as many of these bytes.
     #[inline(always)]
     pub fn give(&mut self, count: usize)

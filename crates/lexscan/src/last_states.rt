@@ -1,32 +1,36 @@
 //! One match, which takes bytes from the source as it asks for them, by its last two states.
 ghost use Rattle.std.specs.Prelude.{◌≡◌, ℕ, ◌+◌, ◌-◌, ◌^◌, ◌<◌, ◌≤◌, List, [], length, true, false, OnOk, OnErr, IfOk, IsErrOf, IfSome, drop, ◌⊎◌};
 ghost use Rattle.lexscan.specs.Reads.{Took, read_fault_count, end_step};
-ghost use Rattle.lexscan.specs.Ends.{SourceLeft};
+ghost use Rattle.lexscan.specs.Ends.{SourceLeft, NothingPut};
 ghost use Rattle.lexscan.specs.Looks.{SoFar, Wants};
 ghost use Rattle.lexscan.specs.Picks.{LookedSome, Tells, path_of, state_at};
 
 use crate::error::RunError;
-use crate::intake::Intake;
+use crate::intake::{Intake, Outlet};
 use crate::pick::LookAhead;
 use crate::reading::fill;
 use crate::state::{Reading, TextPlace};
 use crate::walk::{Stop, Walk};
-use lex_io::Source;
+use lex_io::{Sink, Source};
 use lex_machine::Machine;
 
 /// Takes the bytes that a match asks for, and keeps the last two states. Answers nothing where there is none.
 #[inline(always)]
-pub fn look_ahead_last<M: Machine, S: Source>(
+pub fn look_ahead_last<M: Machine, S: Source, K: Sink>(
     machine: &M,
     intake: &mut Intake<'_, S>,
+    outlet: &mut Outlet<'_, K>,
     reading: &mut Reading,
     place: TextPlace,
 ) -> Result<Option<LookAhead>, RunError>
     requires live { reading.old.at_end ≡ false → intake.old.live ≡ true }
+    requires sink { outlet.old.live ≡ true }
     requires inside { place.at ≤ length reading.old.window.bytes }
     requires condition { place.condition < (M.machine machine.now).conditions }
 
     ensures same { intake.new.source.ghost_name ≡ intake.old.source.ghost_name }
+    ensures same_sink { outlet.new.sink.ghost_name ≡ outlet.old.sink.ghost_name }
+    ensures put { NothingPut K.wrote K.failures outlet.old.sink.now outlet.new.sink.now outlet.new.live result }
     ensures took { Took S.gave intake.old.source.now intake.new.source.now reading.old reading.new }
     ensures looked { IfOk result (λ ahead. LookedSome (M.machine machine.now) place reading.old reading.new ahead) }
     ensures tells { IfOk result
@@ -56,6 +60,7 @@ pub fn look_ahead_last<M: Machine, S: Source>(
     look_ahead_more(
         machine,
         intake,
+        outlet,
         reading,
         place,
         LookAhead {
@@ -79,14 +84,16 @@ fn before_last(before: u32, walk: Walk) -> u32
 /// Goes on with a match that has asked for all the bytes held, and asks for one more: takes bytes of the source, and keeps the
 /// last two states. Answers nothing where there is no byte.
 #[inline(always)]
-pub fn look_ahead_more<M: Machine, S: Source>(
+pub fn look_ahead_more<M: Machine, S: Source, K: Sink>(
     machine: &M,
     intake: &mut Intake<'_, S>,
+    outlet: &mut Outlet<'_, K>,
     reading: &mut Reading,
     place: TextPlace,
     ahead: LookAhead,
 ) -> Result<Option<LookAhead>, RunError>
     requires live { reading.old.at_end ≡ false → intake.old.live ≡ true }
+    requires sink { outlet.old.live ≡ true }
     requires inside { place.at + ahead.reach ≡ length reading.old.window.bytes }
     requires so_far { SoFar (M.machine machine.now) place (drop place.at reading.old.window.bytes) ahead.reach
         ahead.state (path_of (M.machine machine.now) place reading.old.window.bytes ahead.reach) }
@@ -97,6 +104,8 @@ pub fn look_ahead_more<M: Machine, S: Source>(
     requires known_before { ahead.before < M.states machine.now }
 
     ensures same { intake.new.source.ghost_name ≡ intake.old.source.ghost_name }
+    ensures same_sink { outlet.new.sink.ghost_name ≡ outlet.old.sink.ghost_name }
+    ensures put { NothingPut K.wrote K.failures outlet.old.sink.now outlet.new.sink.now outlet.new.live result }
     ensures took { Took S.gave intake.old.source.now intake.new.source.now reading.old reading.new }
     ensures looked { IfOk result (λ ahead. LookedSome (M.machine machine.now) place reading.old reading.new ahead) }
     ensures tells { IfOk result
@@ -109,7 +118,7 @@ pub fn look_ahead_more<M: Machine, S: Source>(
 {
     let mut now = ahead;
     'fills: while !reading.at_end {
-        let walk = match fill(machine, intake, reading, now.state) {
+        let walk = match fill(machine, intake, outlet, reading, now.state) {
             Err(e) => return Err(e),
             Ok(walk) => walk,
         };

@@ -2,30 +2,34 @@
 ghost use Rattle.std.specs.Prelude.{◌≡◌, ℕ, ◌+◌, ◌-◌, ◌^◌, ◌<◌, ◌≤◌, List, [], length, true, false, OnOk, OnErr, IfOk, IsErrOf};
 ghost use Rattle.lex_semantics.specs.Text.{Among};
 ghost use Rattle.lexscan.specs.Reads.{Took, read_fault_count, end_step};
-ghost use Rattle.lexscan.specs.Ends.{SourceLeft};
+ghost use Rattle.lexscan.specs.Ends.{SourceLeft, NothingPut};
 ghost use Rattle.lexscan.specs.Looks.{LookedOrAtEnd, Wants, Unmet};
 
 use crate::error::RunError;
-use crate::intake::Intake;
+use crate::intake::{Intake, Outlet};
 use crate::path::StatePath;
 use crate::reading::fetch;
 use crate::state::{Reading, TextPlace};
-use lex_io::Source;
+use lex_io::{Sink, Source};
 use lex_machine::Machine;
 
 /// Takes the bytes that a match asks for, and keeps the states after them. Answers false where there is none.
-pub fn look_ahead<M: Machine, S: Source>(
+pub fn look_ahead<M: Machine, S: Source, K: Sink>(
     machine: &M,
     intake: &mut Intake<'_, S>,
+    outlet: &mut Outlet<'_, K>,
     reading: &mut Reading,
     path: &mut StatePath,
     place: TextPlace,
 ) -> Result<bool, RunError>
     requires live { reading.old.at_end ≡ false → intake.old.live ≡ true }
+    requires sink { outlet.old.live ≡ true }
     requires inside { place.at ≤ length reading.old.window.bytes }
     requires condition { place.condition < (M.machine machine.now).conditions }
 
     ensures same { intake.new.source.ghost_name ≡ intake.old.source.ghost_name }
+    ensures same_sink { outlet.new.sink.ghost_name ≡ outlet.old.sink.ghost_name }
+    ensures put { NothingPut K.wrote K.failures outlet.old.sink.now outlet.new.sink.now outlet.new.live result }
     ensures took { Took S.gave intake.old.source.now intake.new.source.now reading.old reading.new }
     ensures looked { IfOk result (λ some. LookedOrAtEnd (M.machine machine.now) place reading.old reading.new
         path.new.states some) }
@@ -47,7 +51,7 @@ pub fn look_ahead<M: Machine, S: Source>(
         if 0 < len && !machine.goes_on(state) {
             return Ok(true);
         }
-        match fetch(intake, reading, path, next) {
+        match fetch(intake, outlet, reading, path, next) {
             Err(e) => return Err(e),
             Ok(false) => return Ok(0 < len),
             Ok(true) => {}

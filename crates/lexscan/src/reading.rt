@@ -1,30 +1,36 @@
 //! What a scanner keeps of its source.
-ghost use Rattle.std.specs.Prelude.{◌≡◌, ℕ, ◌+◌, ◌-◌, ◌^◌, ◌<◌, ◌≤◌, List, [], ◌∷◌, ◌++◌, length, true, false, OnOk, OnErr, IfOk, IfErr, IsErrOf, ◌⊎◌, if◌then◌else◌};
+ghost use Rattle.std.specs.Prelude.{◌≡◌, ℕ, ◌+◌, ◌-◌, ◌^◌, ◌<◌, ◌≤◌, List, [], ◌∷◌, ◌++◌, length, max, true, false, OnOk, OnErr, IfOk, IfErr, IsErrOf, ◌⊎◌, if◌then◌else◌};
 ghost use Rattle.lex_io.specs.Source.{given};
 ghost use Rattle.lex_semantics.specs.Text.{IsText};
 ghost use Rattle.lexscan.specs.Walks.{Grown, end_of_stop, fault_of_stop, ends_at, goes};
 ghost use Rattle.lexscan.specs.Reads.{Took, IsThere, IsWanted, IsShort, is_end, read_fault_count, end_step};
 ghost use Rattle.lexscan.specs.Answer.{end_read};
-ghost use Rattle.lexscan.specs.Ends.{SourceLeft};
+ghost use Rattle.lexscan.specs.Ends.{SourceLeft, NothingPut};
 
 use crate::error::RunError;
-use crate::intake::Intake;
+use crate::intake::{Intake, Outlet};
 use crate::path::StatePath;
 use crate::state::Reading;
+use crate::tie::tie;
 use crate::walk::{Stop, Walk};
-use lex_io::Source;
+use lex_io::{Sink, Source};
 use lex_machine::Machine;
 
 /// Takes the next byte into the window, or learns that there is none.
 #[inline]
-fn take_plain<S: Source>(
+fn take_plain<S: Source, K: Sink>(
     intake: &mut Intake<'_, S>,
+    outlet: &mut Outlet<'_, K>,
     reading: &mut Reading,
 ) -> Result<Option<u8>, RunError>
     requires live { intake.old.live ≡ true }
+    requires sink { outlet.old.live ≡ true }
     requires more { reading.old.at_end ≡ false }
 
     ensures same { intake.new.source.ghost_name ≡ intake.old.source.ghost_name }
+    ensures same_sink { outlet.new.sink.ghost_name ≡ outlet.old.sink.ghost_name }
+    ensures put { NothingPut K.wrote K.failures outlet.old.sink.now outlet.new.sink.now outlet.new.live result }
+    ensures tied { OnOk result (S.waits intake.old.source.now ≡ true → K.flushed outlet.new.sink.now ≡ true) }
     ensures byte { S.gave intake.old.source.now (given result) intake.new.source.now }
     ensures text { IsText (given result) }
     ensures ends { S.ends intake.new.source.now ≡ S.ends intake.old.source.now + (if is_end result then 1 else 0) }
@@ -40,7 +46,6 @@ fn take_plain<S: Source>(
 
     ensures too_many { IsErrOf result RunError.TooManyReads → reading.old.taken ≡ reading.old.max_reads }
     ensures at_limit { reading.old.taken ≡ reading.old.max_reads → IsErrOf result RunError.TooManyReads }
-    ensures not_write { IsErrOf result RunError.Write → ⊥ }
     ensures not_failed { IsErrOf result RunError.Failed → ⊥ }
     ensures not_stack { IsErrOf result RunError.Stack → ⊥ }
 {
@@ -49,6 +54,9 @@ fn take_plain<S: Source>(
     }
     if let Err(_) = reading.window.reserve() {
         return Err(RunError::OutOfMemory);
+    }
+    if let Err(fault) = tie(intake, outlet) {
+        return Err(fault);
     }
     match intake.next() {
         Err(_) => Err(RunError::Read),
@@ -65,15 +73,20 @@ fn take_plain<S: Source>(
 }
 
 /// Takes the next byte into the window, or learns that there is none. There is room for its state before it is read.
-fn take_byte<S: Source>(
+fn take_byte<S: Source, K: Sink>(
     intake: &mut Intake<'_, S>,
+    outlet: &mut Outlet<'_, K>,
     reading: &mut Reading,
     path: &mut StatePath,
 ) -> Result<Option<u8>, RunError>
     requires live { intake.old.live ≡ true }
+    requires sink { outlet.old.live ≡ true }
     requires more { reading.old.at_end ≡ false }
 
     ensures same { intake.new.source.ghost_name ≡ intake.old.source.ghost_name }
+    ensures same_sink { outlet.new.sink.ghost_name ≡ outlet.old.sink.ghost_name }
+    ensures put { NothingPut K.wrote K.failures outlet.old.sink.now outlet.new.sink.now outlet.new.live result }
+    ensures tied { OnOk result (S.waits intake.old.source.now ≡ true → K.flushed outlet.new.sink.now ≡ true) }
     ensures byte { S.gave intake.old.source.now (given result) intake.new.source.now }
     ensures text { IsText (given result) }
     ensures ends { S.ends intake.new.source.now ≡ S.ends intake.old.source.now + (if is_end result then 1 else 0) }
@@ -92,7 +105,6 @@ fn take_byte<S: Source>(
 
     ensures too_many { IsErrOf result RunError.TooManyReads → reading.old.taken ≡ reading.old.max_reads }
     ensures at_limit { reading.old.taken ≡ reading.old.max_reads → IsErrOf result RunError.TooManyReads }
-    ensures not_write { IsErrOf result RunError.Write → ⊥ }
     ensures not_failed { IsErrOf result RunError.Failed → ⊥ }
     ensures not_stack { IsErrOf result RunError.Stack → ⊥ }
 {
@@ -102,23 +114,29 @@ fn take_byte<S: Source>(
     if let Err(_) = path.reserve() {
         return Err(RunError::OutOfMemory);
     }
-    take_plain(intake, reading)
+    take_plain(intake, outlet, reading)
 }
 
-/// Takes bytes of the source into the window as long as the machine asks for one more, at least one where nothing is
-/// refused and the source has not ended. What is refused is refused before a byte is read.
+/// Takes bytes that the source has ready into the window as long as the machine asks for one more; or one byte, where none is
+/// ready. What is refused is refused before a byte is read.
 #[inline(always)]
-pub fn fill<M: Machine, S: Source>(
+pub fn fill<M: Machine, S: Source, K: Sink>(
     machine: &M,
     intake: &mut Intake<'_, S>,
+    outlet: &mut Outlet<'_, K>,
     reading: &mut Reading,
     first: u32,
 ) -> Result<Walk, RunError>
     requires live { intake.old.live ≡ true }
+    requires sink { outlet.old.live ≡ true }
     requires more { reading.old.at_end ≡ false }
     requires known { first < M.states machine.now }
 
     ensures same { intake.new.source.ghost_name ≡ intake.old.source.ghost_name }
+    ensures same_sink { outlet.new.sink.ghost_name ≡ outlet.old.sink.ghost_name }
+    ensures put { NothingPut K.wrote K.failures outlet.old.sink.now outlet.new.sink.now outlet.new.live result }
+    ensures tied { OnOk result (S.waits intake.old.source.now ≡ true → K.flushed outlet.new.sink.now ≡ true) }
+    ensures ready { IfOk result (λ walk. walk.count ≤ max 1 (length (S.ready intake.old.source.now))) }
     ensures took { Took S.gave intake.old.source.now intake.new.source.now reading.old reading.new }
     ensures grown { IfOk result (λ walk. Grown (M.machine machine.now) reading.old reading.new first walk) }
     ensures at_end { IfOk result (λ walk. reading.new.at_end ≡ ends_at walk.stop) }
@@ -135,7 +153,8 @@ pub fn fill<M: Machine, S: Source>(
 
     ensures unchanged { OnErr result ((reading.new.window.bytes ≡ reading.old.window.bytes)
         × (reading.new.at_end ≡ false) × (intake.new.source.now ≡ intake.old.source.now)) }
-    ensures refusals { IfErr result (λ e. (e ≡ RunError.TooManyReads) ⊎ (e ≡ RunError.OutOfMemory)) }
+    ensures refusals { IfErr result
+        (λ e. (e ≡ RunError.TooManyReads) ⊎ (e ≡ RunError.OutOfMemory) ⊎ (e ≡ RunError.Write)) }
     ensures too_many { IsErrOf result RunError.TooManyReads → reading.new.taken ≡ reading.new.max_reads }
     ensures at_limit { reading.old.taken ≡ reading.old.max_reads → IsErrOf result RunError.TooManyReads }
 {
@@ -146,7 +165,13 @@ pub fn fill<M: Machine, S: Source>(
     if let Err(_) = reading.window.reserve() {
         return Err(RunError::OutOfMemory);
     }
-    let walk = reading.window.fill(machine, intake, first, most);
+    if let Err(refused) = tie(intake, outlet) {
+        return Err(refused);
+    }
+    let ready = intake.ahead().len().max(1);
+    let walk = reading
+        .window
+        .fill(machine, intake, first, most.min(ready as u64));
     reading.taken += walk.count as u64;
     if matches!(walk.stop, Stop::End) {
         reading.at_end = true;
@@ -156,16 +181,20 @@ pub fn fill<M: Machine, S: Source>(
 
 /// Makes sure that the window has a byte at this place, and the path room for its state. Answers false where the source
 /// has answered its end.
-pub fn fetch<S: Source>(
+pub fn fetch<S: Source, K: Sink>(
     intake: &mut Intake<'_, S>,
+    outlet: &mut Outlet<'_, K>,
     reading: &mut Reading,
     path: &mut StatePath,
     next: usize,
 ) -> Result<bool, RunError>
     requires live { reading.old.at_end ≡ false → intake.old.live ≡ true }
+    requires sink { outlet.old.live ≡ true }
     requires place { next ≤ length reading.old.window.bytes }
 
     ensures same { intake.new.source.ghost_name ≡ intake.old.source.ghost_name }
+    ensures same_sink { outlet.new.sink.ghost_name ≡ outlet.old.sink.ghost_name }
+    ensures put { NothingPut K.wrote K.failures outlet.old.sink.now outlet.new.sink.now outlet.new.live result }
     ensures took { Took S.gave intake.old.source.now intake.new.source.now reading.old reading.new }
     ensures there { IfOk result (λ there. IsThere reading.old reading.new next there) }
     ensures wanted { OnErr result (IsWanted reading.old reading.new next ⊎ IsShort reading.old reading.new next) }
@@ -188,7 +217,7 @@ pub fn fetch<S: Source>(
     if ended {
         return Ok(false);
     }
-    match take_byte(intake, reading, path) {
+    match take_byte(intake, outlet, reading, path) {
         Err(e) => Err(e),
         Ok(None) => Ok(false),
         Ok(Some(_)) => Ok(true),

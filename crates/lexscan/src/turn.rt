@@ -27,7 +27,7 @@ use crate::memo::Memo;
 use crate::path::StatePath;
 use crate::pick::{LookAhead, Pick, carry_pick, near_end, walk_again};
 use crate::state::State;
-use crate::tie::{flush, tie, tie_walk};
+use crate::tie::flush;
 use lex_io::{Sink, Source};
 use lex_machine::Machine;
 
@@ -293,13 +293,10 @@ fn go_with_reject<M: Machine, S: Source, K: Sink>(
         outlet.old.sink.now outlet.new.sink.now state.old.reading state.new.reading result }
 {
     let place = state.place;
-    match tie(machine, intake, outlet, state) {
-        Err(fault) => Err(fault),
-        Ok(()) => match look_ahead(machine, intake, &mut state.reading, path, place) {
-            Err(e) => Err(e),
-            Ok(false) => end_turn(machine, outlet, state),
-            Ok(true) => match_turn(machine, outlet, state, path),
-        },
+    match look_ahead(machine, intake, outlet, &mut state.reading, path, place) {
+        Err(e) => Err(e),
+        Ok(false) => end_turn(machine, outlet, state),
+        Ok(true) => match_turn(machine, outlet, state, path),
     }
 }
 
@@ -325,13 +322,10 @@ fn go_without_reject<M: Machine, S: Source, K: Sink>(
         outlet.old.sink.now outlet.new.sink.now state.old.reading state.new.reading result }
 {
     let place = state.place;
-    match tie(machine, intake, outlet, state) {
-        Err(fault) => Err(fault),
-        Ok(()) => match look_ahead_last(machine, intake, &mut state.reading, place) {
-            Err(e) => Err(e),
-            Ok(None) => end_turn(machine, outlet, state),
-            Ok(Some(ahead)) => last_turn(machine, outlet, state, ahead),
-        },
+    match look_ahead_last(machine, intake, outlet, &mut state.reading, place) {
+        Err(e) => Err(e),
+        Ok(None) => end_turn(machine, outlet, state),
+        Ok(Some(ahead)) => last_turn(machine, outlet, state, ahead),
     }
 }
 
@@ -357,13 +351,10 @@ fn go_past<M: Machine, S: Source, K: Sink>(
         outlet.old.sink.now outlet.new.sink.now state.old.reading state.new.reading result }
 {
     let place = state.place;
-    match tie_walk(machine, intake, outlet, state.reading.at_end, ahead.state) {
-        Err(fault) => Err(fault),
-        Ok(()) => match look_ahead_more(machine, intake, &mut state.reading, place, ahead) {
-            Err(e) => Err(e),
-            Ok(None) => end_turn(machine, outlet, state),
-            Ok(Some(ahead)) => last_turn(machine, outlet, state, ahead),
-        },
+    match look_ahead_more(machine, intake, outlet, &mut state.reading, place, ahead) {
+        Err(e) => Err(e),
+        Ok(None) => end_turn(machine, outlet, state),
+        Ok(Some(ahead)) => last_turn(machine, outlet, state, ahead),
     }
 }
 

@@ -16,6 +16,20 @@ returns-in-Done-clause-took g c = Grow.took_more g.S.Source.gave _ _ _ _ _ _ g.m
 pub returns-in-Fault-clause-took : goal.returns-in-Fault-clause-took
 returns-in-Fault-clause-took g c = Grow.took_more g.S.Source.gave _ _ _ _ _ _ g.met.S.Source.gave_more c.fills.invariant.took c.in-Ok.ensures.took
 
+pub returns-in-Done-clause-put : goal.returns-in-Done-clause-put
+returns-in-Done-clause-put g c = record {
+  sink = g.met.K.Sink.wrote_more _ _ _ _ _ c.fills.invariant.put c.in-Ok.ensures.put.sink;
+  write_faults = omega (arith, c.in-Ok.ensures.put.write_faults, c.fills.invariant.write_faults);
+  may_write = c.in-Ok.ensures.put.may_write;
+}
+
+pub returns-in-Fault-clause-put : goal.returns-in-Fault-clause-put
+returns-in-Fault-clause-put g c = record {
+  sink = g.met.K.Sink.wrote_more _ _ _ _ _ c.fills.invariant.put c.in-Ok.ensures.put.sink;
+  write_faults = omega (arith, c.in-Ok.ensures.put.write_faults, c.fills.invariant.write_faults);
+  may_write = tt;
+}
+
 pub returns-in-Done-clause-looked : goal.returns-in-Done-clause-looked
 returns-in-Done-clause-looked g c = record {
   reach = reach;
@@ -194,6 +208,10 @@ fills-preserved-in-End g c = record {
   ends = omega (arith, c.in-Ok.ensures.ends, ap end_of_stop c.in-End.is, c.fills.invariant.ends, Grow.end_step_same c.args.reading.now.at_end old.at_end (going ∙ sym reading), Grow.end_step_ended c.args.reading.now.at_end new.at_end reading ended);
   failures = omega (arith, c.in-Ok.ensures.failures, ap fault_of_stop c.in-End.is, c.fills.invariant.failures);
   live = λ e. absurd (Grow.clash new.at_end ended e);
+  sink_same = c.in-Ok.ensures.same_sink ∙ c.fills.invariant.sink_same;
+  put = g.met.K.Sink.wrote_more _ _ _ _ _ c.fills.invariant.put c.in-Ok.ensures.put.sink;
+  write_faults = omega (arith, c.in-Ok.ensures.put.write_faults, c.fills.invariant.write_faults);
+  may_write = c.in-Ok.ensures.put.may_write;
   still = λ e. absurd (Grow.clash c.args.reading.now.at_end e reading);
 }
   where
@@ -259,6 +277,10 @@ fills-preserved g c = record {
   ends = omega (arith, c.in-Ok.ensures.ends, ap end_of_stop c.in-Full.is, c.fills.invariant.ends, Grow.end_step_same c.args.reading.now.at_end old.at_end (going ∙ sym reading), Grow.end_step_same c.args.reading.now.at_end new.at_end (on ∙ sym reading));
   failures = omega (arith, c.in-Ok.ensures.failures, ap fault_of_stop c.in-Full.is, c.fills.invariant.failures);
   live = λ e. c.in-Ok.ensures.live ∙ ap goes c.in-Full.is;
+  sink_same = c.in-Ok.ensures.same_sink ∙ c.fills.invariant.sink_same;
+  put = g.met.K.Sink.wrote_more _ _ _ _ _ c.fills.invariant.put c.in-Ok.ensures.put.sink;
+  write_faults = omega (arith, c.in-Ok.ensures.put.write_faults, c.fills.invariant.write_faults);
+  may_write = c.in-Ok.ensures.put.may_write;
   still = λ e. absurd (Grow.clash c.args.reading.now.at_end e reading);
 }
   where

@@ -1,4 +1,4 @@
-use Rattle.std.proofs.Common.{◌≡◌, ◌+◌, ◌-◌, ◌<◌, ◌≤◌, length, drop, true, false}
+use Rattle.std.proofs.Common.{◌≡◌, ◌+◌, ◌-◌, ◌<◌, ◌≤◌, [], length, drop, true, false}
 use Rattle.std.specs.Prelude.{if◌then◌else◌}
 use Rattle.lexscan.specs.Reads.{Took, end_step}
 use Rattle.lexscan.specs.Looks.{SoFar}
@@ -20,6 +20,10 @@ invariant-fills g l =
       ends : g.S.Source.ends l.intake.source.now ≡ g.S.Source.ends l.fn.intake.source.now + end_step l.fn.reading.at_end l.reading.at_end;
       failures : g.S.Source.failures l.intake.source.now ≡ g.S.Source.failures l.fn.intake.source.now;
       live : l.reading.at_end ≡ false → l.intake.live ≡ true;
+      sink_same : l.outlet.sink.ghost_name ≡ l.fn.outlet.sink.ghost_name;
+      put : g.K.Sink.wrote l.fn.outlet.sink.now [] l.outlet.sink.now;
+      write_faults : g.K.Sink.failures l.outlet.sink.now ≡ g.K.Sink.failures l.fn.outlet.sink.now;
+      may_write : l.outlet.live ≡ true;
       still : l.fn.reading.at_end ≡ true → l.intake.source.now ≡ l.fn.intake.source.now;
     }
 

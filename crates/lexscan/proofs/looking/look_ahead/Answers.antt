@@ -21,6 +21,10 @@ bytes-preserved g c = record {
   live = c.in-Ok-true.ensures.source.may_read;
   still = λ e. c.in-Ok-true.ensures.source.still (c.bytes.invariant.end_same ∙ e) ∙ c.bytes.invariant.still e;
   size = omega (arith, has.1, c.bytes.invariant.size, c.bytes.invariant.place);
+  sink_same = c.in-Ok-true.ensures.same_sink ∙ c.bytes.invariant.sink_same;
+  put = g.met.K.Sink.wrote_more _ _ _ _ _ c.bytes.invariant.put c.in-Ok-true.ensures.put.sink;
+  write_faults = omega (arith, c.in-Ok-true.ensures.put.write_faults, c.bytes.invariant.write_faults);
+  may_write = c.in-Ok-true.ensures.put.may_write;
   end_same = has.2 ∙ c.bytes.invariant.end_same;
 }
   where

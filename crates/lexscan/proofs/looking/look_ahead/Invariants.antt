@@ -1,4 +1,4 @@
-use Rattle.std.proofs.Common.{◌≡◌, ℕ, ◌+◌, ◌-◌, ◌<◌, length, max, drop, true, false}
+use Rattle.std.proofs.Common.{◌≡◌, ℕ, ◌+◌, ◌-◌, ◌<◌, [], length, max, drop, true, false}
 use Rattle.lex_semantics.specs.Text.{Among}
 use Rattle.lexscan.specs.Reads.{Took}
 use Rattle.lexscan.specs.Looks.{SoFar}
@@ -20,6 +20,10 @@ invariant-bytes g l =
       live : l.reading.at_end ≡ false → l.intake.live ≡ true;
       still : l.fn.reading.at_end ≡ true → l.intake.source.now ≡ l.fn.intake.source.now;
       size : length l.reading.window.bytes ≡ max (length l.fn.reading.window.bytes) (l.fn.place.at + l.len);
+      sink_same : l.outlet.sink.ghost_name ≡ l.fn.outlet.sink.ghost_name;
+      put : g.K.Sink.wrote l.fn.outlet.sink.now [] l.outlet.sink.now;
+      write_faults : g.K.Sink.failures l.outlet.sink.now ≡ g.K.Sink.failures l.fn.outlet.sink.now;
+      may_write : l.outlet.live ≡ true;
       end_same : l.reading.at_end ≡ l.fn.reading.at_end;
     }
 

@@ -2,7 +2,7 @@ use Rattle.std.proofs.Common.{ap, Err, subst}
 use Rattle.lex_semantics.specs.Machine.{Machine}
 use Rattle.lexscan.specs.Looks.{LookedOrAtEnd, Looked, LookedAtEnd}
 use Rattle.lexscan.proofs.Leaving.{matched_moved, finished_moved}
-use Rattle.lexscan.proofs.Tying.{tied_moved, untied, no_stack, write_only}
+use Rattle.lexscan.proofs.Tying.{tied_moved, no_stack}
 use Rattle.lexscan.proofs.turn.go_with_reject.Goals as goal
 
 pub returns-in-Ok-true-clause-moved : goal.returns-in-Ok-true-clause-moved
@@ -10,7 +10,7 @@ returns-in-Ok-true-clause-moved g c =
     let M : Machine = g.M.Machine.machine c.args.machine.now in
     let looked : Looked M c.args.state.now.place c.args.state.now.reading c.look_ahead.new.reading c.look_ahead.new.path.states =
     subst (LookedOrAtEnd M c.args.state.now.place c.args.state.now.reading c.look_ahead.new.reading c.look_ahead.new.path.states) c.in-Ok-true.field-0-test c.in-Ok-true.ensures.looked in
-    tied_moved M g.S.Source.gave g.K.Sink.wrote _ _ _ _ _ c.args.state.now _ g.met.K.Sink.wrote_more c.tie.ensures.bytes _ (matched_moved M g.S.Source.gave g.K.Sink.wrote _ _ _ _ c.args.state.now c.look_ahead.new.reading c.match_turn.new.state c.look_ahead.ensures.took g.K.Sink.failures _ c.look_ahead.new.path.states c.match_turn.result looked
+    tied_moved M g.S.Source.gave g.K.Sink.wrote _ _ _ _ _ c.args.state.now _ g.met.K.Sink.wrote_more c.look_ahead.ensures.put.sink _ (matched_moved M g.S.Source.gave g.K.Sink.wrote _ _ _ _ c.args.state.now c.look_ahead.new.reading c.match_turn.new.state c.look_ahead.ensures.took g.K.Sink.failures _ c.look_ahead.new.path.states c.match_turn.result looked
     c.match_turn.ensures.left)
 
 pub returns-in-Ok-false-clause-moved : goal.returns-in-Ok-false-clause-moved
@@ -18,14 +18,8 @@ returns-in-Ok-false-clause-moved g c =
     let M : Machine = g.M.Machine.machine c.args.machine.now in
     let looked : LookedAtEnd c.args.state.now.place c.args.state.now.reading c.look_ahead.new.reading =
     subst (LookedOrAtEnd M c.args.state.now.place c.args.state.now.reading c.look_ahead.new.reading c.look_ahead.new.path.states) c.in-Ok-false.field-0-test c.in-Ok-false.ensures.looked in
-    tied_moved M g.S.Source.gave g.K.Sink.wrote _ _ _ _ _ c.args.state.now _ g.met.K.Sink.wrote_more c.tie.ensures.bytes _ (finished_moved M g.S.Source.gave g.K.Sink.wrote _ _ _ _ c.args.state.now c.look_ahead.new.reading c.end_turn.new.state c.look_ahead.ensures.took c.end_turn.result
+    tied_moved M g.S.Source.gave g.K.Sink.wrote _ _ _ _ _ c.args.state.now _ g.met.K.Sink.wrote_more c.look_ahead.ensures.put.sink _ (finished_moved M g.S.Source.gave g.K.Sink.wrote _ _ _ _ c.args.state.now c.look_ahead.new.reading c.end_turn.new.state c.look_ahead.ensures.took c.end_turn.result
     looked c.end_turn.ensures.bytes c.end_turn.ensures.left c.end_turn.ensures.sink.refusals c.end_turn.ensures.unchanged)
 
-pub returns-in-Err-clause-moved : goal.returns-in-Err-clause-moved
-returns-in-Err-clause-moved g c = untied (g.M.Machine.machine c.args.machine.now) g.S.Source.gave g.K.Sink.wrote _ _ _ c.args.state.now (g.met.S.Source.gave_none _) c.tie.ensures.bytes c.in-Err.fault c.in-Err.ensures.sink.refusals
-
 pub returns-in-Err-clause-handed_on : goal.returns-in-Err-clause-handed_on
-returns-in-Err-clause-handed_on g c = write_only _ c.in-Err.fault c.in-Err.ensures.sink.refusals
-
-pub returns-in-Err-look_ahead-clause-handed_on : goal.returns-in-Err-look_ahead-clause-handed_on
-returns-in-Err-look_ahead-clause-handed_on g c = no_stack _ c.in-Err-look_ahead.e (λ is. c.in-Err-look_ahead.ensures.source.not_stack (ap Err is))
+returns-in-Err-clause-handed_on g c = no_stack _ c.in-Err.e (λ is. c.in-Err.ensures.source.not_stack (ap Err is))
