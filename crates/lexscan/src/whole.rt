@@ -100,7 +100,18 @@ fn run_turns<M: Machine, S: Source, K: Sink>(
     }
 }
 
-/// The same for any machine.
+/// How many bytes are shown next, where so many were, and the turns over them were done with so many: what is shown in vain is
+/// no more than a part of what is done.
+#[inline]
+fn next_most(most: usize, done: usize) -> usize {
+    if done < most / 2 {
+        (most / 2).max(LEAST_SHOWN)
+    } else {
+        most.saturating_mul(2).min(MOST_SHOWN)
+    }
+}
+
+/// The same for any machine. Turns that are told at a glance are made in one go.
 #[inline(never)]
 fn run_with_reject<M: Machine, S: Source, K: Sink>(
     machine: &M,
@@ -126,23 +137,17 @@ fn run_with_reject<M: Machine, S: Source, K: Sink>(
         outlet.old.sink.now outlet.new.sink.now result }
     ensures handed_on { RunHandedOn (K.flushed outlet.new.sink.now) result }
 {
+    let mut most = MOST_SHOWN;
     'turns: loop {
+        match go_further(machine, intake, outlet, state, most) {
+            Err(refused) => return Err(refused),
+            Ok(done) => most = next_most(most, done),
+        }
         match turn_with_reject(machine, intake, outlet, path, state) {
             Err(e) => return Err(e),
             Ok(Turn::Ended(status)) => return Ok(status),
             Ok(Turn::Went) => {}
         }
-    }
-}
-
-/// How many bytes are shown next, where so many were, and the turns over them were done with so many: what is shown in vain is
-/// no more than a part of what is done.
-#[inline]
-fn next_most(most: usize, done: usize) -> usize {
-    if done < most / 2 {
-        (most / 2).max(LEAST_SHOWN)
-    } else {
-        most.saturating_mul(2).min(MOST_SHOWN)
     }
 }
 

@@ -1,37 +1,82 @@
-use Rattle.std.proofs.Common.{◌≡◌, ◌+◌, false, suc, ◌<◌, ◌++◌, ◌≤◌, Err, sym, ap, subst, ◌∙◌, arith}
+use Rattle.std.proofs.Common.{◌≡◌, ℕ, false, suc, ◌+◌, ◌<◌, ◌++◌, ◌≤◌, Err, sym, ap, subst, ◌∙◌, append_assoc, arith, length}
 use Rattle.lexscan.specs.Reads.{end_step}
+use Rattle.std.specs.Prelude.{nat_lt}
+use Rattle.lex_semantics.specs.Machine.{rules_of_machine}
+use Rattle.lexscan.specs.Runs.{RanInto}
+use Rattle.lexscan.specs.declared.error.RunError.{RunError}
+use Rattle.lexscan.specs.declared.error.RunError.TheVariants.{Write, TooManyReads}
 use Rattle.lexscan.proofs.Lasting as Last
 use Rattle.lexscan.proofs.whole.run_with_reject.Goals as goal
 
+no_write : (e : RunError) → e ≡ Write → e ≡ TooManyReads → ⊥
+no_write e is not = no (sym is ∙ not)
+  where
+    no : Write ≡ TooManyReads → ⊥
+    no p = cc
+
 pub returns-in-Err-clause-ran : goal.returns-in-Err-clause-ran
 returns-in-Err-clause-ran g c =
+    let M = g.M.Machine.machine c.args.machine.now in
     let inv = c.turns.invariant in
     let h = inv.running in
     let now = c.in-Err.ensures in
     let m = now.goes_on in
-    let fell = m.5.1 h.turns h.given h.out h.stands in
-    let ended : g.S.Source.ends c.turn_with_reject.new.intake.source.now ≡ g.S.Source.ends c.args.intake.now.source.now + end_step false c.turn_with_reject.new.state.reading.at_end =
-    omega (arith, now.counts.ends, inv.ends, Last.answered_once c.turns.state.reading.at_end c.turn_with_reject.new.state.reading.at_end (λ e. (m.4 e).1)) in (
+    let fell = m.5.4 h.turns h.given h.out h.stands in
+    let all : (h.given ++ m.5.1) ++ m.5.2 ≡ h.given ++ m.0 = append_assoc h.given m.5.1 m.5.2 ∙ ap (λ l. h.given ++ l) (sym m.5.3) in
+    let ended : g.S.Source.ends c.go_further.new.intake.source.now ≡ g.S.Source.ends c.args.intake.now.source.now + end_step false c.go_further.new.state.reading.at_end =
+    now.ends ∙ inv.ends ∙ ap (λ b. g.S.Source.ends c.args.intake.now.source.now + end_step false b) (sym now.at_end) in (
       h.given ++ m.0,
       h.out ++ m.1,
       g.met.S.Source.gave_more _ _ _ _ _ h.source m.2,
       g.met.K.Sink.wrote_more _ _ _ _ _ h.sink m.3,
-      Last.ran_into _ h.turns _ _ _ h.given m.0 (h.out ++ m.1) c.turn_with_reject.new.state c.in-Err.e
+      subst (λ l. RanInto (rules_of_machine M) l (h.out ++ m.1) (nat_lt (g.S.Source.ends c.args.intake.now.source.now) (g.S.Source.ends c.go_further.new.intake.source.now)) c.args.state.now.reading.max_reads c.in-Err.refused)
+          all
+          (Last.ran_into M (m.5.0 + h.turns) _ _ _ (h.given ++ m.5.1) m.5.2 (h.out ++ m.1) c.go_further.new.state c.in-Err.refused
           ended
-          (λ is. (let many = now.too_many (ap Err is) in (many.0 ∙ now.counts.max_reads ∙ inv.max_reads, many.1)))
+          (λ is. absurd (no_write c.in-Err.refused now.refusals is))
+          fell),
+      Last.few_made _ c.go_further.new.state _ 0 _ _ _ _ _ (fell.taken ∙ ap length all) ended (omega (arith, now.read_faults)) inv.read_faults (omega (arith, c.go_further.new.state.reading.few_reads)) (now.max_reads ∙ inv.max_reads),
+    )
+
+pub returns-in-Err-turn_with_reject-clause-ran : goal.returns-in-Err-turn_with_reject-clause-ran
+returns-in-Err-turn_with_reject-clause-ran g c =
+    let inv = c.turns.invariant in
+    let first = c.in-Ok.ensures in
+    let k = first.goes_on in
+    let h = Last.running_further (g.M.Machine.machine c.args.machine.now) g.S.Source.gave g.K.Sink.wrote _ _ _ _ _ _ c.turns.state c.go_further.new.state k.5.0 k.0 k.1 g.met.S.Source.gave_more g.met.K.Sink.wrote_more inv.running k.2 k.3
+    (k.5.1 inv.running.turns inv.running.given inv.running.out inv.running.stands) in
+    let ends : g.S.Source.ends c.go_further.new.intake.source.now ≡ g.S.Source.ends c.args.intake.now.source.now + end_step false c.go_further.new.state.reading.at_end =
+    first.ends ∙ inv.ends ∙ ap (λ b. g.S.Source.ends c.args.intake.now.source.now + end_step false b) (sym first.at_end) in
+    let now = c.in-Err-turn_with_reject.ensures in
+    let m = now.goes_on in
+    let fell = m.5.1 h.turns h.given h.out h.stands in
+    let ended : g.S.Source.ends c.turn_with_reject.new.intake.source.now ≡ g.S.Source.ends c.args.intake.now.source.now + end_step false c.turn_with_reject.new.state.reading.at_end =
+    omega (arith, now.counts.ends, ends, Last.answered_once c.go_further.new.state.reading.at_end c.turn_with_reject.new.state.reading.at_end (λ e. (m.4 e).1)) in (
+      h.given ++ m.0,
+      h.out ++ m.1,
+      g.met.S.Source.gave_more _ _ _ _ _ h.source m.2,
+      g.met.K.Sink.wrote_more _ _ _ _ _ h.sink m.3,
+      Last.ran_into _ h.turns _ _ _ h.given m.0 (h.out ++ m.1) c.turn_with_reject.new.state c.in-Err-turn_with_reject.e
+          ended
+          (λ is. (let many = now.too_many (ap Err is) in (many.0 ∙ now.counts.max_reads ∙ first.max_reads ∙ inv.max_reads, many.1)))
           fell,
-      Last.few_made _ c.turn_with_reject.new.state _ _ _ _ _ _ _ fell.taken ended now.counts.read_faults (inv.read_faults) now.counts.few_reads (now.counts.max_reads ∙ inv.max_reads),
+      Last.few_made _ c.turn_with_reject.new.state _ _ _ _ _ _ _ fell.taken ended now.counts.read_faults (first.read_faults ∙ inv.read_faults) now.counts.few_reads (now.counts.max_reads ∙ first.max_reads ∙ inv.max_reads),
     )
 
 pub returns-in-Ok-Ended-clause-ran : goal.returns-in-Ok-Ended-clause-ran
 returns-in-Ok-Ended-clause-ran g c =
     let inv = c.turns.invariant in
-    let h = inv.running in
+    let first = c.in-Ok.ensures in
+    let k = first.goes_on in
+    let h = Last.running_further (g.M.Machine.machine c.args.machine.now) g.S.Source.gave g.K.Sink.wrote _ _ _ _ _ _ c.turns.state c.go_further.new.state k.5.0 k.0 k.1 g.met.S.Source.gave_more g.met.K.Sink.wrote_more inv.running k.2 k.3
+    (k.5.1 inv.running.turns inv.running.given inv.running.out inv.running.stands) in
+    let ends : g.S.Source.ends c.go_further.new.intake.source.now ≡ g.S.Source.ends c.args.intake.now.source.now + end_step false c.go_further.new.state.reading.at_end =
+    first.ends ∙ inv.ends ∙ ap (λ b. g.S.Source.ends c.args.intake.now.source.now + end_step false b) (sym first.at_end) in
     let now = c.in-Ok-Ended.ensures in
     let m = rw c.in-Ok-Ended.field-0-is at now.goes_on in
     let after = m.5.1 h.turns h.given h.out h.stands in
     let ended : g.S.Source.ends c.turn_with_reject.new.intake.source.now ≡ g.S.Source.ends c.args.intake.now.source.now + end_step false c.turn_with_reject.new.state.reading.at_end =
-    omega (arith, now.counts.ends, inv.ends, Last.answered_once c.turns.state.reading.at_end c.turn_with_reject.new.state.reading.at_end (λ e. (m.4 e).1)) in (
+    omega (arith, now.counts.ends, ends, Last.answered_once c.go_further.new.state.reading.at_end c.turn_with_reject.new.state.reading.at_end (λ e. (m.4 e).1)) in (
       h.given ++ m.0,
       h.out ++ m.1,
       g.met.S.Source.gave_more _ _ _ _ _ h.source m.2,
@@ -39,39 +84,56 @@ returns-in-Ok-Ended-clause-ran g c =
       Last.ran_to _ (suc h.turns) c.in-Ok-Ended.status _ _ (h.given ++ m.0) (h.out ++ m.1) c.turn_with_reject.new.state
           ended
           m.5.0 after,
-      Last.few_made _ c.turn_with_reject.new.state _ _ _ _ _ _ _ after.taken ended now.counts.read_faults (inv.read_faults) now.counts.few_reads (now.counts.max_reads ∙ inv.max_reads),
+      Last.few_made _ c.turn_with_reject.new.state _ _ _ _ _ _ _ after.taken ended now.counts.read_faults (first.read_faults ∙ inv.read_faults) now.counts.few_reads (now.counts.max_reads ∙ first.max_reads ∙ inv.max_reads),
     )
 
 pub turns-smaller : goal.turns-smaller
 turns-smaller g c =
     let inv = c.turns.invariant in
-    let h = inv.running in
+    let first = c.in-Ok.ensures in
+    let k = first.goes_on in
+    let h = Last.running_further (g.M.Machine.machine c.args.machine.now) g.S.Source.gave g.K.Sink.wrote _ _ _ _ _ _ c.turns.state c.go_further.new.state k.5.0 k.0 k.1 g.met.S.Source.gave_more g.met.K.Sink.wrote_more inv.running k.2 k.3
+    (k.5.1 inv.running.turns inv.running.given inv.running.out inv.running.stands) in
+    let ends : g.S.Source.ends c.go_further.new.intake.source.now ≡ g.S.Source.ends c.args.intake.now.source.now + end_step false c.go_further.new.state.reading.at_end =
+    first.ends ∙ inv.ends ∙ ap (λ b. g.S.Source.ends c.args.intake.now.source.now + end_step false b) (sym first.at_end) in
     let now = c.in-Ok-Went.ensures in
     let m = rw c.in-Ok-Went.field-0-is at now.goes_on in
-    let few : c.turns.state.reading.taken ≤ c.turns.state.reading.max_reads = omega (arith, c.turns.state.reading.few_reads) in
-    let few' : c.turn_with_reject.new.state.reading.taken ≤ c.turns.state.reading.max_reads = omega (arith, c.turn_with_reject.new.state.reading.few_reads, now.counts.max_reads) in
+    let most : ℕ = c.go_further.new.state.reading.max_reads in
+    let few : c.go_further.new.state.reading.taken ≤ most = omega (arith, c.go_further.new.state.reading.few_reads) in
+    let few' : c.turn_with_reject.new.state.reading.taken ≤ most = omega (arith, c.turn_with_reject.new.state.reading.few_reads, now.counts.max_reads) in
+    let falls : Last.left_over most c.turn_with_reject.new.state < Last.left_over most c.go_further.new.state =
+    Last.turn_falls (g.M.Machine.machine c.args.machine.now) (g.M.Machine.laws c.args.machine.now) most h.turns h.given m.0 h.out m.1 c.go_further.new.state c.turn_with_reject.new.state h.stands (m.5.1 h.turns h.given h.out h.stands) m.4 m.5.0 few few' in
+    let less : Last.left_over most c.go_further.new.state ≤ Last.left_over most c.turns.state = Last.no_more_left most c.turns.state c.go_further.new.state first.no_earlier in
     subst (λ k. Last.left_over k c.turn_with_reject.new.state < Last.left_over c.turns.state.reading.max_reads c.turns.state) (sym now.counts.max_reads)
-    (Last.turn_falls (g.M.Machine.machine c.args.machine.now) (g.M.Machine.laws c.args.machine.now) c.turns.state.reading.max_reads h.turns h.given m.0 h.out m.1 c.turns.state c.turn_with_reject.new.state h.stands (m.5.1 h.turns h.given h.out h.stands) m.4 m.5.0 few few')
+    (subst (λ k. Last.left_over most c.turn_with_reject.new.state < Last.left_over k c.turns.state) first.max_reads (less_than (Last.left_over most c.turn_with_reject.new.state) (Last.left_over most c.go_further.new.state) (Last.left_over most c.turns.state) falls less))
+  where
+    less_than : (a b d : ℕ) → a < b → b ≤ d → a < d
+    less_than a b d p q = omega (arith, p, q)
 
 pub turns-preserved : goal.turns-preserved
 turns-preserved g c =
     let inv = c.turns.invariant in
-    let h = inv.running in
+    let first = c.in-Ok.ensures in
+    let k = first.goes_on in
+    let h = Last.running_further (g.M.Machine.machine c.args.machine.now) g.S.Source.gave g.K.Sink.wrote _ _ _ _ _ _ c.turns.state c.go_further.new.state k.5.0 k.0 k.1 g.met.S.Source.gave_more g.met.K.Sink.wrote_more inv.running k.2 k.3
+    (k.5.1 inv.running.turns inv.running.given inv.running.out inv.running.stands) in
+    let ends : g.S.Source.ends c.go_further.new.intake.source.now ≡ g.S.Source.ends c.args.intake.now.source.now + end_step false c.go_further.new.state.reading.at_end =
+    first.ends ∙ inv.ends ∙ ap (λ b. g.S.Source.ends c.args.intake.now.source.now + end_step false b) (sym first.at_end) in
     let now = c.in-Ok-Went.ensures in
     let m = rw c.in-Ok-Went.field-0-is at now.goes_on in
     let after = m.5.1 h.turns h.given h.out h.stands in
     record {
-      same_source = now.same_source ∙ inv.same_source;
-      same_sink = now.same_sink ∙ inv.same_sink;
+      same_source = now.same_source ∙ first.same_source ∙ inv.same_source;
+      same_sink = now.same_sink ∙ first.same_sink ∙ inv.same_sink;
       going = m.5.0;
       may_read = now.next.may_read after.works m.5.0;
       may_write = now.next.may_write after.works;
       condition = now.next.condition;
       inside = now.inside;
       stack = now.next.stack after.works;
-      max_reads = now.counts.max_reads ∙ inv.max_reads;
-      running = Last.running_on (g.M.Machine.machine c.args.machine.now) g.S.Source.gave g.K.Sink.wrote _ _ _ _ _ _ c.turns.state c.turn_with_reject.new.state m.0 m.1 g.met.S.Source.gave_more g.met.K.Sink.wrote_more h m.2 m.3 after;
-      ends = omega (arith, now.counts.ends, inv.ends, Last.answered_once c.turns.state.reading.at_end c.turn_with_reject.new.state.reading.at_end (λ e. (m.4 e).1));
-      read_faults = omega (arith, now.counts.read_faults, inv.read_faults);
-      write_faults = omega (arith, now.counts.write_faults, inv.write_faults);
+      max_reads = now.counts.max_reads ∙ first.max_reads ∙ inv.max_reads;
+      running = Last.running_on (g.M.Machine.machine c.args.machine.now) g.S.Source.gave g.K.Sink.wrote _ _ _ _ _ _ c.go_further.new.state c.turn_with_reject.new.state m.0 m.1 g.met.S.Source.gave_more g.met.K.Sink.wrote_more h m.2 m.3 after;
+      ends = omega (arith, now.counts.ends, ends, Last.answered_once c.go_further.new.state.reading.at_end c.turn_with_reject.new.state.reading.at_end (λ e. (m.4 e).1));
+      read_faults = omega (arith, now.counts.read_faults, first.read_faults, inv.read_faults);
+      write_faults = omega (arith, now.counts.write_faults, first.write_faults, inv.write_faults);
     }
