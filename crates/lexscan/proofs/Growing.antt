@@ -218,8 +218,3 @@ was_reading false b h e = refl
 
 pub clash : (b : Bool) → b ≡ true → b ≡ false → ⊥
 clash b t f = absurd cc
-
-pub end_step_ended : (a b : Bool) → a ≡ false → b ≡ true → end_step a b ≡ 1
-end_step_ended true b f t = absurd (clash true refl f)
-end_step_ended false true f t = refl
-end_step_ended false false f t = absurd (clash false t refl)

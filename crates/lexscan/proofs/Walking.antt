@@ -1,14 +1,13 @@
 -- A walk of a machine, byte by byte.
-use Rattle.std.proofs.Common.{◌≡◌, ℕ, ◌+◌, ◌-◌, ◌≤◌, ◌<◌, ◌⊎◌, inl, inr, true, List, [], ◌∷◌, ◌++◌, length, take, drop, refl, sym, ◌∙◌, ap, arith}
+use Rattle.std.proofs.Common.{◌≡◌, ℕ, ◌+◌, ◌-◌, ◌≤◌, ◌<◌, ◌⊎◌, inl, inr, true, List, [], ◌∷◌, ◌++◌, length, take, drop, get_or, refl, sym, ◌∙◌, ap, subst, arith}
 use Rattle.std.proofs.lemmas.Bool.{cases_lt}
 use Rattle.std.proofs.Math.Seq.{take-append-add}
-use Rattle.std.proofs.lemmas.List.{take-append-le, take-take, length-append, length-take, take_all, drop-append-le}
+use Rattle.std.proofs.lemmas.List.{take_more, take-append-le, take-take, length-append, length-take, take_all, drop-append-le}
 use Rattle.lex_semantics.specs.Machine.{Machine, walk}
 use Rattle.lex_semantics.proofs.MachineLaws.{walk-append}
 use Rattle.lex_semantics.proofs.Texts.{is_text_append}
-use Rattle.lexscan.specs.declared.walk.Stop.{Stop}
 use Rattle.lexscan.specs.declared.walk.Walk.{Walk}
-use Rattle.lexscan.specs.Walks.{Walked, Filled, StopsAt, end_of_stop, fault_of_stop}
+use Rattle.lexscan.specs.Walks.{Walked, Filled}
 
 -- no bytes yet
 pub walked_none : (M : Machine) (first : ℕ) → Walked M first [] first first
@@ -44,24 +43,12 @@ walked_more M first got state before b small h live = record {
     asked i some (inr e) =
         ap (λ w. M.goes_on (walk M first w)) (ap (λ n. take n (got ++ b ∷ [])) e ∙ front_of got b) ∙ ap M.goes_on (sym h.state_is) ∙ live (omega (arith, some, e))
 
--- a walk that has stopped, and the place that it filled from the front
-pub filled : {S : Type 0} (gave : S → List ℕ → S → Type 0) (M : Machine) (s t : S) (place : List ℕ) (first most count state before : ℕ) (stop : Stop) (got : List ℕ) →
-    gave s got t → count ≤ length place → count + end_of_stop stop + fault_of_stop stop ≤ most → take count place ≡ [] ++ got → Walked M first got state before → StopsAt M got state stop →
-    Filled gave M s t [] (take count place) first most (record { count = count; state = state; before = before; stop = stop })
-filled gave M s t place first most count state before stop got source inside few held walked stops = record {
-  got = got;
-  source = source;
-  held = held;
-  count = size;
-  few = omega (arith, size, few);
-  walked = walked;
-  stops = stops;
-}
-  where
-    size : count ≡ length got
-    size =
-        let sizes : length (take count place) ≡ length got = ap length held in
-        omega (arith, sizes, length-take count place, inside)
+-- one more of the bytes that are ready
+pub walked_ready : (M : Machine) (first : ℕ) (ready : List ℕ) (count state before b : ℕ) → count < length ready → b < 256 → b ≡ get_or ready count 0 → Walked M first (take count ready) state before → (1 ≤ count → M.goes_on state ≡ true) →
+    Walked M first (take (count + 1) ready) (M.next state b) state
+walked_ready M first ready count state before b inside small is h live =
+    subst (λ l. Walked M first l (M.next state b) state) (sym (take_more ready count 0 inside ∙ ap (λ z. take count ready ++ z ∷ []) (sym is)))
+    (walked_more M first (take count ready) state before b small h (λ some. live (omega (arith, some, length-take count ready))))
 
 -- the front of a buffer after a write into its middle
 front_after : (n count room : ℕ) (old place post rest : List ℕ) → n ≤ length old → n + count ≤ room → count ≤ length place →
@@ -75,23 +62,19 @@ front_after n count room old place post rest in_old in_room in_place =
     size = omega (arith, length-take n old, in_old)
 
 -- a place in the window that a walk has filled, and the window after it
-pub filled_on : {S : Type 0} (gave : S → List ℕ → S → Type 0) (M : Machine) (s t : S) (start begin size room most first : ℕ) (old items place post rest bytes : List ℕ) (w : Walk) →
-    Filled gave M s t [] (take w.count place) first size w → old ≡ items → start ≤ begin → begin ≤ length items → begin + size ≤ room → size ≤ length place → size ≤ most →
-    bytes ≡ drop start (take begin items) → Filled gave M s t bytes (drop start (take (begin + w.count) (take room ((take begin old ++ (place ++ post)) ++ rest)))) first most w
-filled_on gave M s t start begin size room most first old items place post rest bytes w f same low in_old in_room in_place few view = record {
-  got = f.got;
-  source = f.source;
-  held = ap (drop start) (front_after begin w.count room old place post rest (omega (arith, in_old, lengths)) (omega (arith, counted, in_room)) (omega (arith, counted, in_place)))
+pub filled_on : (M : Machine) (start begin size room most first : ℕ) (old items place post rest bytes ready : List ℕ) (w : Walk) →
+    Filled M ready [] (take w.count place) first size w → old ≡ items → start ≤ begin → begin ≤ length items → begin + size ≤ room → size ≤ length place → size ≤ most →
+    bytes ≡ drop start (take begin items) → Filled M ready bytes (drop start (take (begin + w.count) (take room ((take begin old ++ (place ++ post)) ++ rest)))) first most w
+filled_on M start begin size room most first old items place post rest bytes ready w f same low in_old in_room in_place few view = record {
+  held = ap (drop start) (front_after begin w.count room old place post rest (omega (arith, in_old, lengths)) (omega (arith, f.few, in_room)) (omega (arith, f.few, in_place)))
       ∙ drop-append-le start (take begin old) (take w.count place) (omega (arith, length-take begin old, low, in_old, lengths))
       ∙ ap (λ z. z ++ take w.count place) (ap (λ z. drop start (take begin z)) same ∙ sym view) ∙ ap (λ z. bytes ++ z) f.held;
-  count = f.count;
+  inside = f.inside;
   few = omega (arith, f.few, few);
   walked = f.walked;
   stops = f.stops;
+  reading = f.reading;
 }
   where
     lengths : length old ≡ length items
     lengths = ap length same
-
-    counted : w.count ≤ size
-    counted = omega (arith, f.count, f.few)

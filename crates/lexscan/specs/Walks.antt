@@ -1,9 +1,9 @@
--- What a walk of a machine over bytes of the source did.
+-- What a walk of a machine over bytes did.
 use Rattle.std.specs.Prelude.{◌≡◌, ℕ, ◌+◌, ◌-◌, ◌≤◌, ◌<◌, Bool, true, false, List, ◌++◌, length, take}
 use Rattle.lex_semantics.specs.Text.{IsText}
 use Rattle.lex_semantics.specs.Machine.{Machine, walk}
 use Rattle.lexscan.specs.declared.walk.Stop.{Stop}
-use Rattle.lexscan.specs.declared.walk.Stop.TheVariants.{Done, Full, End, Fault}
+use Rattle.lexscan.specs.declared.walk.Stop.TheVariants.{Done, Full, End}
 use Rattle.lexscan.specs.declared.walk.Walk.{Walk}
 use Rattle.lexscan.specs.declared.state.Reading.{Reading}
 
@@ -19,44 +19,19 @@ abbrev pub StopsAt : Machine → List ℕ → ℕ → Stop → Type 0
 StopsAt M got state Done = (1 ≤ length got) × (M.goes_on state ≡ false)
 StopsAt M got state other = 1 ≤ length got → M.goes_on state ≡ true
 
--- 1 where the source answered its end, or failed
-abbrev pub end_of_stop : Stop → ℕ
-end_of_stop End = 1
-end_of_stop other = 0
-
-abbrev pub fault_of_stop : Stop → ℕ
-fault_of_stop Fault = 1
-fault_of_stop other = 0
-
--- whether the source may be called again
-abbrev pub goes : Stop → Bool
-goes Done = true
-goes Full = true
-goes End = false
-goes Fault = false
-
 -- whether the source answered its end
 abbrev pub ends_at : Stop → Bool
 ends_at End = true
 ends_at other = false
 
--- The source gave these bytes, and the walk took them after those held. It made no more reads than are allowed.
-pub record Filled {S : Type 0} (gave : S → List ℕ → S → Type 0) (M : Machine) (s t : S) (old new : List ℕ) (first most : ℕ) (w : Walk) : Type 0 where
-  pub got : List ℕ
-  pub source : gave s got t
-  pub held : new ≡ old ++ got
-  pub count : w.count ≡ length got
-  pub few : length got + end_of_stop w.stop + fault_of_stop w.stop ≤ most
-  pub walked : Walked M first got w.state w.before
-  pub stops : StopsAt M got w.state w.stop
-
--- The same while the walk goes on.
-pub record Filling {S : Type 0} (gave : S → List ℕ → S → Type 0) (M : Machine) (s t : S) (old new : List ℕ) (first state before : ℕ) : Type 0 where
-  pub got : List ℕ
-  pub source : gave s got t
-  pub held : new ≡ old ++ got
-  pub walked : Walked M first got state before
-  pub goes_on : 1 ≤ length got → M.goes_on state ≡ true
+-- The walk took the first of the bytes that were ready after those held. They are no more than are allowed.
+pub record Filled (M : Machine) (ready old new : List ℕ) (first most : ℕ) (w : Walk) : Type 0 where
+  pub held : new ≡ old ++ take w.count ready
+  pub inside : w.count ≤ length ready
+  pub few : w.count ≤ most
+  pub walked : Walked M first (take w.count ready) w.state w.before
+  pub stops : StopsAt M (take w.count ready) w.state w.stop
+  pub reading : ends_at w.stop ≡ false
 
 -- The window has grown by the bytes of a walk.
 pub record Grown (M : Machine) (old new : Reading) (first : ℕ) (w : Walk) : Type 0 where

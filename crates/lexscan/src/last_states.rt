@@ -134,7 +134,6 @@ pub fn look_ahead_more<M: Machine, S: Source, K: Sink>(
                     ..now
                 }));
             }
-            Stop::Fault => return Err(RunError::Read),
             Stop::End => {}
             Stop::Full => {}
         }

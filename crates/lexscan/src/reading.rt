@@ -1,8 +1,8 @@
 //! What a scanner keeps of its source.
-ghost use Rattle.std.specs.Prelude.{◌≡◌, ℕ, ◌+◌, ◌-◌, ◌^◌, ◌<◌, ◌≤◌, List, [], ◌∷◌, ◌++◌, length, max, true, false, OnOk, OnErr, IfOk, IfErr, IsErrOf, ◌⊎◌, if◌then◌else◌};
+ghost use Rattle.std.specs.Prelude.{◌≡◌, ℕ, ◌+◌, ◌-◌, ◌^◌, ◌<◌, ◌≤◌, List, [], ◌∷◌, ◌++◌, length, max, true, false, OnOk, OnErr, IfOk, IsErrOf, ◌⊎◌, if◌then◌else◌};
 ghost use Rattle.lex_io.specs.Source.{given};
 ghost use Rattle.lex_semantics.specs.Text.{IsText};
-ghost use Rattle.lexscan.specs.Walks.{Grown, end_of_stop, fault_of_stop, ends_at, goes};
+ghost use Rattle.lexscan.specs.Walks.{Grown, Walked, StopsAt, ends_at};
 ghost use Rattle.lexscan.specs.Reads.{Took, IsThere, IsWanted, IsShort, is_end, read_fault_count, end_step};
 ghost use Rattle.lexscan.specs.Answer.{end_read};
 ghost use Rattle.lexscan.specs.Ends.{SourceLeft, NothingPut};
@@ -117,8 +117,28 @@ fn take_byte<S: Source, K: Sink>(
     take_plain(intake, outlet, reading)
 }
 
-/// Takes bytes that the source has ready into the window as long as the machine asks for one more; or one byte, where none is
-/// ready. What is refused is refused before a byte is read.
+/// A walk over one byte.
+#[inline(always)]
+fn walk_one<M: Machine>(machine: &M, first: u32, byte: u8) -> Walk
+    requires known { first < M.states machine.now }
+    ensures count { result.count ≡ 1 }
+    ensures walked { Walked (M.machine machine.now) first (byte ∷ []) result.state result.before }
+    ensures stops { StopsAt (M.machine machine.now) (byte ∷ []) result.state result.stop }
+    ensures reading { ends_at result.stop ≡ false }
+    ensures known { result.state < M.states machine.now }
+    ensures known_before { result.before < M.states machine.now }
+{
+    let state = machine.step(first, byte);
+    let stop = if machine.goes_on(state) {
+        Stop::Full
+    } else {
+        Stop::Done
+    };
+    Walk::new(1, state, first, stop)
+}
+
+/// Takes bytes that the source has ready into the window as long as the machine asks for one more; or reads one byte, where none
+/// is ready. What is refused is refused before a byte is taken.
 #[inline(always)]
 pub fn fill<M: Machine, S: Source, K: Sink>(
     machine: &M,
@@ -138,26 +158,26 @@ pub fn fill<M: Machine, S: Source, K: Sink>(
     ensures tied { OnOk result (S.waits intake.old.source.now ≡ true → K.flushed outlet.new.sink.now ≡ true) }
     ensures ready { IfOk result (λ walk. walk.count ≤ max 1 (length (S.ready intake.old.source.now))) }
     ensures took { Took S.gave intake.old.source.now intake.new.source.now reading.old reading.new }
+    ensures source { SourceLeft S.ends S.failures intake.old.source.now intake.new.source.now intake.new.live
+        reading.old reading.new result }
     ensures grown { IfOk result (λ walk. Grown (M.machine machine.now) reading.old reading.new first walk) }
     ensures at_end { IfOk result (λ walk. reading.new.at_end ≡ ends_at walk.stop) }
-    ensures some { IfOk result (λ walk. walk.stop ≡ Stop.Full → 1 ≤ walk.count) }
-    ensures few_reads { IfOk result (λ walk. reading.new.taken + end_read reading.new.at_end + fault_of_stop walk.stop
-        ≤ reading.new.max_reads) }
+    ensures some { IfOk result (λ walk. ends_at walk.stop ≡ false → 1 ≤ walk.count) }
     ensures known { IfOk result (λ walk. walk.state < M.states machine.now) }
     ensures known_before { IfOk result (λ walk. walk.before < M.states machine.now) }
-    ensures ends { IfOk result
-        (λ walk. S.ends intake.new.source.now ≡ S.ends intake.old.source.now + end_of_stop walk.stop) }
-    ensures failures { IfOk result
-        (λ walk. S.failures intake.new.source.now ≡ S.failures intake.old.source.now + fault_of_stop walk.stop) }
-    ensures live { IfOk result (λ walk. intake.new.live ≡ goes walk.stop) }
 
     ensures unchanged { OnErr result ((reading.new.window.bytes ≡ reading.old.window.bytes)
-        × (reading.new.at_end ≡ false) × (intake.new.source.now ≡ intake.old.source.now)) }
-    ensures refusals { IfErr result
-        (λ e. (e ≡ RunError.TooManyReads) ⊎ (e ≡ RunError.OutOfMemory) ⊎ (e ≡ RunError.Write)) }
+        × (reading.new.at_end ≡ false)) }
     ensures too_many { IsErrOf result RunError.TooManyReads → reading.new.taken ≡ reading.new.max_reads }
     ensures at_limit { reading.old.taken ≡ reading.old.max_reads → IsErrOf result RunError.TooManyReads }
 {
+    if intake.ahead().is_empty() {
+        return match take_plain(intake, outlet, reading) {
+            Err(e) => Err(e),
+            Ok(None) => Ok(Walk::new(0, first, first, Stop::End)),
+            Ok(Some(byte)) => Ok(walk_one(machine, first, byte)),
+        };
+    }
     let most = reading.max_reads - reading.taken;
     if most == 0 {
         return Err(RunError::TooManyReads);
@@ -165,17 +185,9 @@ pub fn fill<M: Machine, S: Source, K: Sink>(
     if let Err(_) = reading.window.reserve() {
         return Err(RunError::OutOfMemory);
     }
-    if let Err(refused) = tie(intake, outlet) {
-        return Err(refused);
-    }
-    let ready = intake.ahead().len().max(1);
-    let walk = reading
-        .window
-        .fill(machine, intake, first, most.min(ready as u64));
+    let walk = reading.window.fill(machine, intake.ahead(), first, most);
+    intake.give(walk.count);
     reading.taken += walk.count as u64;
-    if matches!(walk.stop, Stop::End) {
-        reading.at_end = true;
-    }
     Ok(walk)
 }
 

@@ -1,25 +1,21 @@
-//! A walk of a machine over bytes of the source: the loop that most of a scan is spent in.
+//! A walk of a machine over bytes that are ready.
 ghost use Rattle.std.specs.Prelude.{◌≡◌, ℕ, ◌+◌, ◌-◌, ◌^◌, ◌<◌, ◌≤◌, List, [], ◌++◌, length, take, true, false};
-ghost use Rattle.lexscan.specs.Walks.{Filled, end_of_stop, fault_of_stop, goes};
+ghost use Rattle.lexscan.specs.Walks.{Filled};
 
-use crate::intake::Intake;
-use lex_io::Source;
 use lex_machine::Machine;
 
-/// Why a walk over bytes of the source stopped.
+/// Why a walk stopped.
 #[derive(Clone, Copy, PartialEq, Eq)]
 pub enum Stop {
     /// The machine asks for no more.
     Done,
-    /// There is no room for one more, or no more may be read.
+    /// The bytes that were ready are used up, or there is no room for more of them, or no more may be read.
     Full,
     /// The source answered its end.
     End,
-    /// The source failed.
-    Fault,
 }
 
-/// A walk over bytes of the source: how many it took, the state after them, and the one before the last of them.
+/// A walk over bytes: how many it took, the state after them, and the one before the last of them.
 #[derive(Clone, Copy)]
 pub struct Walk {
     pub count: usize,
@@ -30,7 +26,7 @@ pub struct Walk {
 
 impl Walk {
     #[inline]
-    fn new(count: usize, state: u32, before: u32, stop: Stop) -> Walk
+    pub fn new(count: usize, state: u32, before: u32, stop: Stop) -> Walk
         ensures { result ≡ record { count = count; state = state; before = before; stop = stop } }
     {
         Walk {
@@ -42,42 +38,28 @@ impl Walk {
     }
 }
 
-/// Takes bytes of the source to a place, as long as there is room for them and the machine asks for one more.
+/// Takes bytes to a place of no more bytes, as long as there is room for them and the machine asks for one more.
 #[inline(always)]
-pub fn walk_into<M: Machine, S: Source>(
-    place: &mut [u8],
-    machine: &M,
-    intake: &mut Intake<'_, S>,
-    first: u32,
-) -> Walk
-    requires live { intake.old.live ≡ true }
+pub fn walk_into<M: Machine>(place: &mut [u8], machine: &M, ready: &[u8], first: u32) -> Walk
     requires known { first < M.states machine.now }
-    ensures same { intake.new.source.ghost_name ≡ intake.old.source.ghost_name }
-    ensures filled { Filled S.gave (M.machine machine.now) intake.old.source.now intake.new.source.now []
-        (take result.count place.new) first (length place.old) result }
-    ensures ends { S.ends intake.new.source.now ≡ S.ends intake.old.source.now + end_of_stop result.stop }
-    ensures failures { S.failures intake.new.source.now ≡ S.failures intake.old.source.now + fault_of_stop result.stop }
-    ensures live { intake.new.live ≡ goes result.stop }
+    requires room { length place.old ≤ length ready.now }
+    ensures filled { Filled (M.machine machine.now) ready.now [] (take result.count place.new) first
+        (length place.old) result }
     ensures known { result.state < M.states machine.now }
     ensures known_before { result.before < M.states machine.now }
-    ensures some { 1 ≤ length place.old → result.stop ≡ Stop.Full → 1 ≤ result.count }
+    ensures some { 1 ≤ length place.old → 1 ≤ result.count }
 {
     let mut count = 0usize;
     let mut state = first;
     let mut before = first;
     'bytes: while count < place.len() {
-        match intake.next() {
-            Ok(Some(byte)) => {
-                place[count] = byte;
-                count += 1;
-                before = state;
-                state = machine.step(state, byte);
-                if !machine.goes_on(state) {
-                    return Walk::new(count, state, before, Stop::Done);
-                }
-            }
-            Ok(None) => return Walk::new(count, state, before, Stop::End),
-            Err(_) => return Walk::new(count, state, before, Stop::Fault),
+        let byte = ready[count];
+        place[count] = byte;
+        count += 1;
+        before = state;
+        state = machine.step(state, byte);
+        if !machine.goes_on(state) {
+            return Walk::new(count, state, before, Stop::Done);
         }
     }
     Walk::new(count, state, before, Stop::Full)

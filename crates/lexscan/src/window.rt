@@ -1,11 +1,8 @@
 //! The bytes that a scan holds.
 ghost use Rattle.std.specs.Prelude.{◌≡◌, ℕ, ◌+◌, ◌-◌, ◌<◌, ◌≤◌, List, [], ◌∷◌, ◌++◌, length, take, drop, true, false, OnOk, OnErr, vec_len, nat_lt, slice_range, get_or, ◌^◌};
-ghost use Rattle.lexscan.specs.declared.walk.Stop.{Stop};
-ghost use Rattle.lexscan.specs.Walks.{Filled, end_of_stop, fault_of_stop, goes};
+ghost use Rattle.lexscan.specs.Walks.{Filled};
 
-use crate::intake::Intake;
 use crate::walk::{Walk, walk_into};
-use lex_io::Source;
 use lex_machine::Machine;
 use std::alloc::{AllocError, Global};
 use std::marker::Model;
@@ -98,37 +95,24 @@ impl Window {
         self.end += 1;
     }
 
-    /// Takes bytes of the source, at most this many, as long as there is room for them and the machine asks for one more.
+    /// Takes the first of these bytes, at most this many, as long as there is room for them and the machine asks for one more.
     #[inline(always)]
-    pub fn fill<M: Machine, S: Source>(
-        &mut self,
-        machine: &M,
-        intake: &mut Intake<'_, S>,
-        first: u32,
-        most: u64,
-    ) -> Walk
-        requires live { intake.old.live ≡ true }
+    pub fn fill<M: Machine>(&mut self, machine: &M, ready: &[u8], first: u32, most: u64) -> Walk
         requires known { first < M.states machine.now }
-        ensures same { intake.new.source.ghost_name ≡ intake.old.source.ghost_name }
-        ensures filled { Filled S.gave (M.machine machine.now) intake.old.source.now intake.new.source.now
-            self.old.bytes self.new.bytes first most result }
-        ensures ends { S.ends intake.new.source.now ≡ S.ends intake.old.source.now + end_of_stop result.stop }
-        ensures failures { S.failures intake.new.source.now ≡
-            S.failures intake.old.source.now + fault_of_stop result.stop }
-        ensures live { intake.new.live ≡ goes result.stop }
+        ensures filled { Filled (M.machine machine.now) ready.now self.old.bytes self.new.bytes first most result }
         ensures known { result.state < M.states machine.now }
         ensures known_before { result.before < M.states machine.now }
-        ensures some { self.old.room ≡ true → 1 ≤ most → result.stop ≡ Stop.Full → 1 ≤ result.count }
+        ensures some { self.old.room ≡ true → 1 ≤ most → 1 ≤ length ready.now → 1 ≤ result.count }
     {
         let begin = self.end;
-        let room = self.buffer.len() - begin;
+        let room = (self.buffer.len() - begin).min(ready.len());
         let limit = begin
             + if most < room as u64 {
                 most as usize
             } else {
                 room
             };
-        let walk = walk_into(&mut self.buffer[begin..limit], machine, intake, first);
+        let walk = walk_into(&mut self.buffer[begin..limit], machine, ready, first);
         self.end = begin + walk.count;
         walk
     }

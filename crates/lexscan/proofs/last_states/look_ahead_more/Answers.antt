@@ -6,28 +6,19 @@ use Rattle.lexscan.specs.declared.state.Reading.{Reading}
 use Rattle.lexscan.specs.declared.walk.Stop.TheVariants as Stop
 use Rattle.lexscan.specs.Looks.{SoFar}
 use Rattle.lexscan.specs.Picks.{path_of, state_at}
-use Rattle.lexscan.specs.Walks.{Grown, StopsAt, ends_at, end_of_stop, fault_of_stop, goes}
+use Rattle.lexscan.specs.Reads.{end_step}
+use Rattle.lexscan.specs.Walks.{Grown, StopsAt, ends_at}
 use Rattle.lexscan.proofs.Growing as Grow
 use Rattle.lexscan.proofs.last_states.look_ahead_more.Goals as goal
 
 pub returns-in-Done-clause-took : goal.returns-in-Done-clause-took
 returns-in-Done-clause-took g c = Grow.took_more g.S.Source.gave _ _ _ _ _ _ g.met.S.Source.gave_more c.fills.invariant.took c.in-Ok.ensures.took
 
-pub returns-in-Fault-clause-took : goal.returns-in-Fault-clause-took
-returns-in-Fault-clause-took g c = Grow.took_more g.S.Source.gave _ _ _ _ _ _ g.met.S.Source.gave_more c.fills.invariant.took c.in-Ok.ensures.took
-
 pub returns-in-Done-clause-put : goal.returns-in-Done-clause-put
 returns-in-Done-clause-put g c = record {
   sink = g.met.K.Sink.wrote_more _ _ _ _ _ c.fills.invariant.put c.in-Ok.ensures.put.sink;
   write_faults = omega (arith, c.in-Ok.ensures.put.write_faults, c.fills.invariant.write_faults);
   may_write = c.in-Ok.ensures.put.may_write;
-}
-
-pub returns-in-Fault-clause-put : goal.returns-in-Fault-clause-put
-returns-in-Fault-clause-put g c = record {
-  sink = g.met.K.Sink.wrote_more _ _ _ _ _ c.fills.invariant.put c.in-Ok.ensures.put.sink;
-  write_faults = omega (arith, c.in-Ok.ensures.put.write_faults, c.fills.invariant.write_faults);
-  may_write = tt;
 }
 
 pub returns-in-Done-clause-looked : goal.returns-in-Done-clause-looked
@@ -141,60 +132,6 @@ returns-in-Done-clause-tells g c = record {
     some : 1 ≤ reach
     some = omega (arith, reach_is, c.fills.invariant.place, sizes, stops.0)
 
-pub returns-in-Fault-clause-unmet : goal.returns-in-Fault-clause-unmet
-returns-in-Fault-clause-unmet g c = record {
-  inside = omega (arith, c.fills.invariant.place, sizes);
-  asked = Grow.all_asked M p new.window.bytes reach c.in-Ok.walk.state (path_of M p new.window.bytes reach) so_far (omega (arith, reach_is, c.fills.invariant.place, sizes))
-      (Grow.goes_after M c.fills.now.reach c.fills.now.state reach grown.got c.in-Ok.walk.state c.in-Ok.walk.before grown.walked stops c.fills.invariant.goes_on (omega (arith, reach_is, c.fills.invariant.place, sizes)));
-  reading = c.in-Ok.ensures.at_end ∙ ap ends_at c.in-Fault.is;
-}
-  where
-    M : Machine
-    M = g.M.Machine.machine c.args.machine.now
-
-    p : TextPlace
-    p = c.args.place
-
-    old : Reading
-    old = c.fills.reading
-
-    new : Reading
-    new = c.fill.new.reading
-
-    grown : Grown M old new c.fills.now.state c.in-Ok.walk
-    grown = c.in-Ok.ensures.grown
-
-    sizes : length new.window.bytes ≡ length old.window.bytes + length grown.got
-    sizes = ap length grown.held ∙ length-append old.window.bytes grown.got
-
-    reach : ℕ
-    reach = c.len.result - p.at
-
-    reach_is : reach ≡ length new.window.bytes - p.at
-    reach_is = ap (λ k. k - p.at) c.len.ensures
-
-    so_far : SoFar M p (drop p.at new.window.bytes) reach c.in-Ok.walk.state (path_of M p new.window.bytes reach)
-    so_far = Grow.walked_on M p old new c.fills.now.reach c.fills.now.state c.fills.now.before c.in-Ok.walk c.fills.invariant.place c.fills.invariant.so_far c.fills.invariant.goes_on grown reach reach_is
-
-    before_is : 1 ≤ reach → c.before_last.result ≡ state_at M p new.window.bytes (reach - 1)
-    before_is = Grow.before_on M p old new c.fills.now.reach c.fills.now.state c.fills.now.before c.before_last.result c.in-Ok.walk c.fills.invariant.place c.fills.invariant.so_far c.fills.invariant.before_is grown
-        c.before_last.ensures.some c.before_last.ensures.none reach reach_is
-
-    known_before : c.before_last.result < g.M.Machine.states c.args.machine.now
-    known_before = elim c.before_last.ensures.one [
-      | inl e ↦ subst (λ n. n < g.M.Machine.states c.args.machine.now) (sym e) c.in-Ok.ensures.known_before
-      | inr e ↦ subst (λ n. n < g.M.Machine.states c.args.machine.now) (sym e) c.fills.invariant.before_known
-    ]
-
-    going : old.at_end ≡ false
-    going = c.fills-test.true
-
-    reading : c.args.reading.now.at_end ≡ false
-    reading = Grow.was_reading c.args.reading.now.at_end old.at_end c.fills.invariant.took.end_stays going
-
-    stops : 1 ≤ length grown.got → M.goes_on c.in-Ok.walk.state ≡ true
-    stops = subst (StopsAt M grown.got c.in-Ok.walk.state) c.in-Fault.is grown.stops
-
 pub fills-preserved-in-End : goal.fills-preserved-in-End
 fills-preserved-in-End g c = record {
   place = omega (arith, reach_is, c.fills.invariant.place, sizes);
@@ -205,8 +142,8 @@ fills-preserved-in-End g c = record {
   before_known = known_before;
   took = Grow.took_more g.S.Source.gave _ _ _ _ _ _ g.met.S.Source.gave_more c.fills.invariant.took c.in-Ok.ensures.took;
   same = c.in-Ok.ensures.same ∙ c.fills.invariant.same;
-  ends = omega (arith, c.in-Ok.ensures.ends, ap end_of_stop c.in-End.is, c.fills.invariant.ends, Grow.end_step_same c.args.reading.now.at_end old.at_end (going ∙ sym reading), Grow.end_step_ended c.args.reading.now.at_end new.at_end reading ended);
-  failures = omega (arith, c.in-Ok.ensures.failures, ap fault_of_stop c.in-End.is, c.fills.invariant.failures);
+  ends = omega (arith, c.in-Ok.ensures.source.ends, c.fills.invariant.ends, Grow.end_step_same c.args.reading.now.at_end old.at_end (going ∙ sym reading), ap (λ b. end_step b new.at_end) (going ∙ sym reading));
+  failures = omega (arith, c.in-Ok.ensures.source.read_faults, c.fills.invariant.failures);
   live = λ e. absurd (Grow.clash new.at_end ended e);
   sink_same = c.in-Ok.ensures.same_sink ∙ c.fills.invariant.sink_same;
   put = g.met.K.Sink.wrote_more _ _ _ _ _ c.fills.invariant.put c.in-Ok.ensures.put.sink;
@@ -274,9 +211,9 @@ fills-preserved g c = record {
   before_known = known_before;
   took = Grow.took_more g.S.Source.gave _ _ _ _ _ _ g.met.S.Source.gave_more c.fills.invariant.took c.in-Ok.ensures.took;
   same = c.in-Ok.ensures.same ∙ c.fills.invariant.same;
-  ends = omega (arith, c.in-Ok.ensures.ends, ap end_of_stop c.in-Full.is, c.fills.invariant.ends, Grow.end_step_same c.args.reading.now.at_end old.at_end (going ∙ sym reading), Grow.end_step_same c.args.reading.now.at_end new.at_end (on ∙ sym reading));
-  failures = omega (arith, c.in-Ok.ensures.failures, ap fault_of_stop c.in-Full.is, c.fills.invariant.failures);
-  live = λ e. c.in-Ok.ensures.live ∙ ap goes c.in-Full.is;
+  ends = omega (arith, c.in-Ok.ensures.source.ends, c.fills.invariant.ends, Grow.end_step_same c.args.reading.now.at_end old.at_end (going ∙ sym reading), ap (λ b. end_step b new.at_end) (going ∙ sym reading));
+  failures = omega (arith, c.in-Ok.ensures.source.read_faults, c.fills.invariant.failures);
+  live = λ e. c.in-Ok.ensures.source.may_read e;
   sink_same = c.in-Ok.ensures.same_sink ∙ c.fills.invariant.sink_same;
   put = g.met.K.Sink.wrote_more _ _ _ _ _ c.fills.invariant.put c.in-Ok.ensures.put.sink;
   write_faults = omega (arith, c.in-Ok.ensures.put.write_faults, c.fills.invariant.write_faults);

@@ -1,5 +1,5 @@
-use Rattle.std.proofs.Common.{◌≡◌, ◌-◌, ◌<◌, ◌≤◌, [], length, take, true}
-use Rattle.lexscan.specs.Walks.{Filling}
+use Rattle.std.proofs.Common.{◌≡◌, ◌-◌, ◌<◌, ◌≤◌, length, take, true}
+use Rattle.lexscan.specs.Walks.{Walked}
 use Rattle.lexscan.proofs.walk.walk_into.Given as goal
 
 abbrev pub invariant-bytes : goal.invariant-bytes
@@ -7,11 +7,9 @@ invariant-bytes g l =
     let M = g.M.Machine.machine l.machine in
     record {
       within : l.count ≤ length l.place;
-      filling : Filling g.S.Source.gave M l.fn.intake.source.now l.intake.source.now [] (take l.count l.place) l.first l.state l.before;
-      same : l.intake.source.ghost_name ≡ l.fn.intake.source.ghost_name;
-      ends : g.S.Source.ends l.intake.source.now ≡ g.S.Source.ends l.fn.intake.source.now;
-      failures : g.S.Source.failures l.intake.source.now ≡ g.S.Source.failures l.fn.intake.source.now;
-      live : l.intake.live ≡ true;
+      held : take l.count l.place ≡ take l.count l.ready;
+      walked : Walked M l.first (take l.count l.ready) l.state l.before;
+      goes_on : 1 ≤ l.count → M.goes_on l.state ≡ true;
       known : l.state < g.M.Machine.states l.machine;
       known_before : l.before < g.M.Machine.states l.machine;
     }

@@ -6,7 +6,7 @@ use Rattle.lexscan.proofs.window.Window.fill.Goals.{then-most-room, else-most-ro
 
 pub returns-clause-filled : goal.returns-clause-filled
 returns-clause-filled g c =
-    filled_on g.S.Source.gave (g.M.Machine.machine c.args.machine.now) _ _ c.self.inside.start c.self.inside.end _ _ c.args.most c.args.first _ c.self.inside.buffer.items c.walk_into-walk.new.place _ _ c.args.self.now.bytes c.walk_into-walk.result
+    filled_on (g.M.Machine.machine c.args.machine.now) c.self.inside.start c.self.inside.end _ _ c.args.most c.args.first _ c.self.inside.buffer.items c.walk_into-walk.new.place _ _ c.args.self.now.bytes c.args.ready.now c.walk_into-walk.result
     c.walk_into-walk.ensures.filled c.deref_mut.ensures.value c.self.invariant.0 (omega (arith, c.self.invariant.1, c.self.inside.buffer.ok)) (omega (arith, sizes, inside)) (omega (arith, c.walk_into-walk.auto.place)) (omega (arith, sizes, few))
     (sym (ap (λ v. v.bytes) c.self.view_is))
   where
