@@ -182,6 +182,9 @@ fn do_gist<K: Sink>(
     ensures sink { SinkLeft K.failures outlet.old.sink.now outlet.new.sink.now outlet.new.live result }
     ensures condition { IfOk result (λ after. after ≡ condition_after gist.entry condition) }
 {
+    if matches!(gist, Gist::Silent) {
+        return Ok(condition);
+    }
     match gist {
         Gist::Echo => match put(outlet, text) {
             Err(e) => Err(e),
