@@ -1,11 +1,14 @@
 -- A walk of a machine, byte by byte.
-use Rattle.std.proofs.Common.{◌≡◌, ℕ, ◌+◌, ◌-◌, ◌≤◌, ◌<◌, ◌⊎◌, inl, inr, true, List, [], ◌∷◌, ◌++◌, length, take, drop, get_or, refl, sym, ◌∙◌, ap, subst, arith}
+use Rattle.std.proofs.Common.{◌≡◌, ℕ, ◌+◌, ◌-◌, ◌≤◌, ◌<◌, ◌⊎◌, inl, inr, true, false, List, [], ◌∷◌, ◌++◌, length, take, drop, get_or, refl, sym, ◌∙◌, ap, subst, arith}
 use Rattle.std.proofs.lemmas.Bool.{cases_lt}
 use Rattle.std.proofs.Math.Seq.{take-append-add}
-use Rattle.std.proofs.lemmas.List.{take_more, take-append-le, take-take, length-append, length-take, take_all, drop-append-le}
+use Rattle.std.proofs.lemmas.List.{take_more, take-append-le, take-take, length-append, length-take, length-take-le, take_all, drop-append-le}
 use Rattle.lex_semantics.specs.Machine.{Machine, walk}
 use Rattle.lex_semantics.proofs.MachineLaws.{walk-append}
-use Rattle.lex_semantics.proofs.Texts.{is_text_append}
+use Rattle.lex_semantics.specs.Text.{IsText}
+use Rattle.lex_semantics.proofs.Texts.{is_text_append, is_text_take}
+use Rattle.lex_machine.specs.declared.glance.Way.{Way}
+use Rattle.lex_machine.specs.Glances.{Leads}
 use Rattle.lexscan.specs.declared.walk.Walk.{Walk}
 use Rattle.lexscan.specs.Walks.{Walked, Filled}
 
@@ -49,6 +52,31 @@ pub walked_ready : (M : Machine) (first : ℕ) (ready : List ℕ) (count state b
 walked_ready M first ready count state before b inside small is h live =
     subst (λ l. Walked M first l (M.next state b) state) (sym (take_more ready count 0 inside ∙ ap (λ z. take count ready ++ z ∷ []) (sym is)))
     (walked_more M first (take count ready) state before b small h (λ some. live (omega (arith, some, length-take count ready))))
+
+-- a walk to the first of the bytes after which the machine goes on no more
+module _ (M : Machine) (first n : ℕ) (ready : List ℕ) (way : Way) (text : IsText ready) (leads : Leads M first (take n ready) way) where
+  pub fits : way.count ≤ n
+  fits = omega (arith, leads.inside, length-take n ready)
+
+  pub within : way.count ≤ length ready
+  within = omega (arith, leads.inside, length-take n ready)
+
+  size : length (take way.count ready) ≡ way.count
+  size = length-take-le way.count ready within
+
+  front : (i : ℕ) → i ≤ way.count → take i (take way.count ready) ≡ take i (take n ready)
+  front i le = take-take i way.count ready le ∙ sym (take-take i n ready (omega (arith, le, fits)))
+
+  pub led : Walked M first (take way.count ready) way.state way.before
+  led = record {
+    text = is_text_take way.count ready text;
+    state_is = leads.state_is ∙ ap (walk M first) (take-take way.count n ready fits);
+    before_is = λ some. leads.before_is ∙ ap (walk M first) (sym (ap (λ k. take (k - 1) (take way.count ready)) size ∙ front (way.count - 1) (omega arith)));
+    asked = λ i some less. ap (λ w. M.goes_on (walk M first w)) (front i (omega (arith, less, size))) ∙ leads.asked i some (omega (arith, less, size));
+  }
+
+  pub stops : (1 ≤ length (take way.count ready)) × (M.goes_on way.state ≡ false)
+  stops = (omega (arith, size, leads.some), leads.stops)
 
 -- the front of a buffer after a write into its middle
 front_after : (n count room : ℕ) (old place post rest : List ℕ) → n ≤ length old → n + count ≤ room → count ≤ length place →

@@ -100,6 +100,25 @@ fn told_of<'m, M: Machine>(machine: &'m M, first: u32, bytes: &[u8], way: Way<'m
     }
 }
 
+/// How many bytes of a walk a rule keeps that does nothing, where the last state of the walk tells it or the one before it.
+#[inline(always)]
+fn silent_part<M: Machine>(machine: &M, way: Way<'_>) -> Option<usize>
+    requires known_before { way.before < M.states machine.now }
+    ensures { IfSome result (λ keep. (first : ℕ) (bytes : List ℕ) → Leads (M.machine machine.now) first bytes way.entry
+        → Tells (M.machine machine.now) first bytes way.entry.count (record { gist = Gist.Silent; keep = keep })) }
+{
+    if matches!(way.gist, Gist::Silent) {
+        return Some(way.count);
+    }
+    if matches!(way.gist, Gist::NoRule)
+        && 1 < way.count
+        && matches!(machine.gist(way.before), Gist::Silent)
+    {
+        return Some(way.count - 1);
+    }
+    None
+}
+
 /// Whether a rule is told.
 #[inline(always)]
 fn knows(gist: Gist<'_>) -> bool
@@ -182,9 +201,6 @@ fn do_gist<K: Sink>(
     ensures sink { SinkLeft K.failures outlet.old.sink.now outlet.new.sink.now outlet.new.live result }
     ensures condition { IfOk result (λ after. after ≡ condition_after gist.entry condition) }
 {
-    if matches!(gist, Gist::Silent) {
-        return Ok(condition);
-    }
     match gist {
         Gist::Echo => match put(outlet, text) {
             Err(e) => Err(e),
@@ -237,6 +253,12 @@ pub fn burst_over<M: Machine, K: Sink>(
         let Some(way) = machine.way(first, rest) else {
             break 'turns;
         };
+        if let Some(keep) = silent_part(machine, way) {
+            asked = asked.max(done + way.count);
+            line_start = rest[keep - 1] == b'\n';
+            done += keep;
+            continue 'turns;
+        }
         let told = told_of(machine, first, rest, way);
         if !knows(told.gist) {
             break 'turns;

@@ -38,7 +38,8 @@ impl Walk {
     }
 }
 
-/// Takes bytes to a place of no more bytes, as long as there is room for them and the machine asks for one more.
+/// Takes bytes to a place of no more bytes, as long as there is room for them and the machine asks for one more. Where the machine
+/// finds the last of them at a glance, it takes them at once.
 #[inline(always)]
 pub fn walk_into<M: Machine>(place: &mut [u8], machine: &M, ready: &[u8], first: u32) -> Walk
     requires known { first < M.states machine.now }
@@ -49,6 +50,10 @@ pub fn walk_into<M: Machine>(place: &mut [u8], machine: &M, ready: &[u8], first:
     ensures known_before { result.before < M.states machine.now }
     ensures some { 1 ≤ length place.old → 1 ≤ result.count }
 {
+    if let Some(way) = machine.way(first, &ready[..place.len()]) {
+        place[..way.count].copy_from_slice(&ready[..way.count]);
+        return Walk::new(way.count, way.state, way.before, Stop::Done);
+    }
     let mut count = 0usize;
     let mut state = first;
     let mut before = first;

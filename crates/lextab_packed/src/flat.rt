@@ -166,9 +166,6 @@ fn gist_of(tables: &Tables, kind: Kind) -> Gist<'_>
     requires { (s : ℕ) × (kind ≡ kind_of (machine_of tables.now) s) }
     ensures { (s : ℕ) → kind ≡ kind_of (machine_of tables.now) s → Gists (machine_of tables.now) s result }
 {
-    if matches!(kind, Kind::Silent) {
-        return Gist::Silent;
-    }
     match kind {
         Kind::Any => Gist::Any,
         Kind::NoRule => Gist::NoRule,

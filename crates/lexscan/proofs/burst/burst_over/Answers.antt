@@ -1,11 +1,13 @@
 use Rattle.std.proofs.Common.{◌≡◌, ℕ, ◌+◌, ◌-◌, ◌<◌, ◌≤◌, List, length, get_or, take, drop, take_all, length-drop, Bool, true, refl, sym, ap, subst, ◌∙◌, arith}
 use Rattle.std.specs.Prelude.{nat_eq, max}
+use Rattle.std.proofs.lemmas.List.{get_or-take}
 use Rattle.lex_semantics.specs.Text.{IsText}
 use Rattle.lex_semantics.specs.Machine.{Machine}
 use Rattle.lex_semantics.specs.MachineLaws.{MachineLaws}
 use Rattle.lex_machine.specs.declared.glance.Way.{Way}
 use Rattle.lexscan.specs.declared.burst.Told.{Told}
 use Rattle.lex_machine.proofs.Growing.{is_text_from}
+use Rattle.lex_machine.specs.declared.glance.Gist.TheVariants.{Silent}
 use Rattle.lex_machine.specs.Glances.{Leads}
 use Rattle.lexscan.specs.Bursts.{TurnsMade, Broke, Tells, is_told}
 use Rattle.lexscan.proofs.Bursting as Burst
@@ -38,7 +40,7 @@ returns-in-Err-clause-bursts g c =
     let text : List ℕ = c.args.text.now in
     let M : Machine = g.M.Machine.machine c.args.machine.now in
     let put = rw (rest_is c.turns.done text) at c.in-Err.ensures.bytes in
-    subst (λ k. Broke M g.K.Sink.wrote c.args.outlet.now.sink.now c.do_gist.new.outlet.sink.now text c.args.held c.args.place.condition c.args.place.line_start c.turns.done k c.turns.condition c.turns.line_start) (sym c.max-asked.ensures)
+    subst (λ k. Broke M g.K.Sink.wrote c.args.outlet.now.sink.now c.do_gist.new.outlet.sink.now text c.args.held c.args.place.condition c.args.place.line_start c.turns.done k c.turns.condition c.turns.line_start) (sym c.max-asked-in-turns.ensures)
     (Burst.broke_then M (g.M.Machine.laws c.args.machine.now) text (is_text_from text (λ k. let f = c.type_inv.text k in omega (arith, f))) c.args.held c.args.place.condition c.args.place.line_start c.turns.done c.turns.asked c.turns.condition c.turns.line_start
     c.in-Some.way c.told_of-told.result c.turns.invariant.held c.turns.invariant.done c.turns.invariant.asked
     (subst (λ s. Leads M s (drop c.turns.done text) c.in-Some.way) c.start-first.ensures.state (subst (λ l. Leads M c.start-first.result l c.in-Some.way) (rest_is c.turns.done text) c.in-Some.ensures.way))
@@ -47,7 +49,7 @@ returns-in-Err-clause-bursts g c =
 pub turns-preserved : goal.turns-preserved
 turns-preserved g c = record {
   same = c.in-Ok.ensures.same ∙ c.turns.invariant.same;
-  went = subst (λ k. TurnsMade M g.K.Sink.wrote c.args.outlet.now.sink.now c.do_gist.new.outlet.sink.now text c.args.held c.args.place.condition c.args.place.line_start (c.turns.done + told.keep) k c.in-Ok.after line) (sym c.max-asked.ensures)
+  went = subst (λ k. TurnsMade M g.K.Sink.wrote c.args.outlet.now.sink.now c.do_gist.new.outlet.sink.now text c.args.held c.args.place.condition c.args.place.line_start (c.turns.done + told.keep) k c.in-Ok.after line) (sym c.max-asked-in-turns.ensures)
       (subst (λ k. TurnsMade M g.K.Sink.wrote c.args.outlet.now.sink.now c.do_gist.new.outlet.sink.now text c.args.held c.args.place.condition c.args.place.line_start (c.turns.done + told.keep) (max c.turns.asked (c.turns.done + way.count)) k line) (sym c.in-Ok.ensures.condition)
       (Burst.went_more M laws text bytes c.args.held c.args.place.condition c.args.place.line_start c.turns.done c.turns.asked c.turns.condition c.turns.line_start way told
       c.turns.invariant.held c.turns.invariant.done c.turns.invariant.asked leads tells known g.K.Sink.wrote g.met.K.Sink.wrote_none g.met.K.Sink.wrote_more _ _ _ c.turns.invariant.went
@@ -56,9 +58,9 @@ turns-preserved g c = record {
   live = c.in-Ok.ensures.sink.may_write;
   condition = subst (λ k. k < M.conditions) (sym c.in-Ok.ensures.condition)
       (Burst.condition_below M laws text bytes c.turns.done c.turns.asked c.turns.condition c.turns.line_start way told c.turns.invariant.done c.turns.invariant.asked leads tells known c.turns.invariant.condition);
-  done = (let k = keeps.1 in omega (arith, c.max-asked.ensures, k));
-  held = omega (arith, c.max-asked.ensures, c.turns.invariant.held);
-  asked = (let k = Burst.inside_beyond M laws text bytes c.turns.done c.turns.asked c.turns.condition c.turns.line_start way told c.turns.invariant.done c.turns.invariant.asked leads tells known in omega (arith, c.max-asked.ensures, k));
+  done = (let k = keeps.1 in omega (arith, c.max-asked-in-turns.ensures, k));
+  held = omega (arith, c.max-asked-in-turns.ensures, c.turns.invariant.held);
+  asked = (let k = Burst.inside_beyond M laws text bytes c.turns.done c.turns.asked c.turns.condition c.turns.line_start way told c.turns.invariant.done c.turns.invariant.asked leads tells known in omega (arith, c.max-asked-in-turns.ensures, k));
 }
   where
     M : Machine
@@ -93,3 +95,52 @@ turns-preserved g c = record {
 
     keeps : (1 ≤ told.keep) × (told.keep ≤ way.count)
     keeps = Burst.keeps_some M laws text bytes c.turns.done c.turns.asked c.turns.condition c.turns.line_start way told c.turns.invariant.done c.turns.invariant.asked leads tells known
+
+pub turns-preserved-in-Some-silent_part : goal.turns-preserved-in-Some-silent_part
+turns-preserved-in-Some-silent_part g c = record {
+  same = c.turns.invariant.same;
+  went = subst (λ k. TurnsMade M g.K.Sink.wrote c.args.outlet.now.sink.now c.turns.outlet.sink.now text c.args.held c.args.place.condition c.args.place.line_start (c.turns.done + told.keep) k c.turns.condition line) (sym c.max-asked.ensures)
+      (Burst.went_more M laws text bytes c.args.held c.args.place.condition c.args.place.line_start c.turns.done c.turns.asked c.turns.condition c.turns.line_start way told
+      c.turns.invariant.held c.turns.invariant.done c.turns.invariant.asked leads tells refl g.K.Sink.wrote g.met.K.Sink.wrote_none g.met.K.Sink.wrote_more _ _ _ c.turns.invariant.went
+      (g.met.K.Sink.wrote_none _) line
+      (ap (λ n. nat_eq n 10) (sym (get_or-take told.keep rest (told.keep - 1) 0 (let k = keeps.0 in omega (arith, k)))) ∙ ap (λ l. nat_eq (get_or (take told.keep l) (told.keep - 1) 0) 10) (rest_is c.turns.done text)));
+  failures = c.turns.invariant.failures;
+  live = c.turns.invariant.live;
+  condition = c.turns.invariant.condition;
+  done = (let k = keeps.1 in omega (arith, c.max-asked.ensures, k));
+  held = omega (arith, c.max-asked.ensures, c.turns.invariant.held);
+  asked = (let k = Burst.inside_beyond M laws text bytes c.turns.done c.turns.asked c.turns.condition c.turns.line_start way told c.turns.invariant.done c.turns.invariant.asked leads tells refl in omega (arith, c.max-asked.ensures, k));
+}
+  where
+    M : Machine
+    M = g.M.Machine.machine c.args.machine.now
+
+    laws : MachineLaws M
+    laws = g.M.Machine.laws c.args.machine.now
+
+    text : List ℕ
+    text = c.args.text.now
+
+    bytes : IsText text
+    bytes = is_text_from text (λ k. let f = c.type_inv.text k in omega (arith, f))
+
+    way : Way
+    way = c.in-Some.way
+
+    told : Told
+    told = record { gist = Silent; keep = c.in-Some-silent_part.keep }
+
+    rest : List ℕ
+    rest = take (length text - c.turns.done) (drop c.turns.done text)
+
+    line : Bool
+    line = nat_eq (get_or rest (told.keep - 1) 0) 10
+
+    leads : Leads M (M.start c.turns.condition c.turns.line_start) (drop c.turns.done text) way
+    leads = subst (λ s. Leads M s (drop c.turns.done text) way) c.start-first.ensures.state (subst (λ l. Leads M c.start-first.result l way) (rest_is c.turns.done text) c.in-Some.ensures.way)
+
+    tells : Tells M (M.start c.turns.condition c.turns.line_start) (drop c.turns.done text) way.count told
+    tells = c.in-Some-silent_part.ensures (M.start c.turns.condition c.turns.line_start) (drop c.turns.done text) leads
+
+    keeps : (1 ≤ told.keep) × (told.keep ≤ way.count)
+    keeps = Burst.keeps_some M laws text bytes c.turns.done c.turns.asked c.turns.condition c.turns.line_start way told c.turns.invariant.done c.turns.invariant.asked leads tells refl
