@@ -103,6 +103,36 @@ def table(name, kind, rows, above=""):
     return f"{above}pub(crate) const {name}: &[{kind}] = &[\n{''.join(rows)}];\n"
 
 
+# The names of the parts of a long table, and the most that a part has: its proof takes a time that grows with the square of both.
+PARTS = ["first", "second", "third", "fourth", "fifth", "sixth", "seventh", "eighth", "ninth", "tenth"]
+MOST_ROWS = 20
+MOST_CHARACTERS = 3_200
+
+
+def parts(rows):
+    """The rows in their order, as the parts of a long table."""
+    found = [[]]
+    for text in rows:
+        if len(found[-1]) == MOST_ROWS or sum(map(len, [*found[-1], text])) > MOST_CHARACTERS and found[-1]:
+            found.append([])
+        found[-1].append(text)
+    assert len(found) <= len(PARTS), "a long table has more parts than there are names"
+    return dict(zip(PARTS, found))
+
+
+def long_table(name, kind, rows):
+    """A function for each part, and one that answers them all."""
+    whole = parts(rows)
+    functions = [
+        f"fn {part}() -> &'static [{kind}] {{\n    &[\n{''.join(texts)}    ]\n}}\n\n" for part, texts in whole.items()
+    ]
+    calls = ", ".join(f"{part}()" for part in whole)
+    return (
+        "".join(functions)
+        + f"/// All rows, part by part.\npub(crate) fn {name}() -> [&'static [{kind}]; {len(whole)}] {{\n    [{calls}]\n}}\n"
+    )
+
+
 def examples():
     """The text of examples.rt."""
     rows = []
@@ -113,7 +143,7 @@ def examples():
         rows.append(f"    // {spec.stem}\n" + row([*texts, status]))
     return (
         "//! The specifications of `examples/`, with what flex 2.6.4 writes: written by `scripts/rows.py`.\n"
-        "use crate::row::Row;\n\n" + table("EXAMPLES", "Row", rows)
+        "use crate::row::Row;\n\n" + long_table("examples", "Row", rows)
     )
 
 
@@ -127,7 +157,7 @@ def examples_of_manual(text):
     return (
         "//! The examples of docs/MANUAL.md: written by `scripts/rows.py`.\n"
         "use crate::row::{Refusal, Row};\n\n"
-        + table("EXAMPLES", "Row", with_flag(""))
+        + long_table("examples", "Row", with_flag(""))
         + table("FOLDED", "Row", with_flag("-i"), "\n/// Where letters stand for both cases.\n")
         + table("SERIES", "Row", with_flag("-X"), "\n/// Where intervals apply to series.\n")
         + table("DIFFERENCES", "Row", [row(other[:4]) for other in others],

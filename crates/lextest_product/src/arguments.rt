@@ -3,7 +3,8 @@ use lexkit::{ArgsError, Job, read_args};
 use std::alloc::{AllocError, Global};
 use std::test::Fail;
 
-fn job_of(alloc: Global, line: &[&str]) -> Result<Result<Job, ArgsError>, AllocError> {
+/// What the words of a line ask for.
+pub(crate) fn job_of(alloc: Global, line: &[&str]) -> Result<Result<Job, ArgsError>, AllocError> {
     let mut words = Vec::new(alloc);
     for word in line {
         words.push(String::from_str(alloc, *word)?)?;
@@ -11,9 +12,17 @@ fn job_of(alloc: Global, line: &[&str]) -> Result<Result<Job, ArgsError>, AllocE
     Ok(read_args(alloc, words.as_slice()))
 }
 
-/// What the line asks for, in the form that the debugger writes.
+/// Whether the line asks for this, in the form that the debugger writes.
+fn asks_for(alloc: Global, line: &[&str], want: &str) -> Result<bool, Fail> {
+    let told = match job_of(alloc, line)? {
+        Ok(job) => format!(in alloc; "{job:?}")?,
+        Err(error) => format!(in alloc; "{error:?}")?,
+    };
+    Ok(told.as_str() == want)
+}
+
 #[test]
-fn reads_jobs(rt: HostRuntime) -> Result<(), Fail> {
+fn reads_jobs_with_flags(rt: HostRuntime) -> Result<(), Fail> {
     let lines: &[(&[&str], &str)] = &[
         (
             &["-tv", "a.l"],
@@ -35,6 +44,16 @@ fn reads_jobs(rt: HostRuntime) -> Result<(), Fail> {
             &["-vvn", "-w"],
             "Generate { files: [], out: None, stdout: false, stats: false, backup: false, fold: false, posix: false, quiet: true }",
         ),
+    ];
+    for &(line, want) in lines {
+        assert!(rt; asks_for(rt.alloc(), line, want)?, "{want}");
+    }
+    Ok(())
+}
+
+#[test]
+fn reads_jobs_with_a_file_to_write(rt: HostRuntime) -> Result<(), Fail> {
+    let lines: &[(&[&str], &str)] = &[
         (
             &["-oFILE", "a"],
             "Generate { files: [\"a\"], out: Some(\"FILE\"), stdout: false, stats: false, backup: false, fold: false, posix: false, quiet: false }",
@@ -59,6 +78,16 @@ fn reads_jobs(rt: HostRuntime) -> Result<(), Fail> {
             &["--", "-t"],
             "Generate { files: [\"-t\"], out: None, stdout: false, stats: false, backup: false, fold: false, posix: false, quiet: false }",
         ),
+    ];
+    for &(line, want) in lines {
+        assert!(rt; asks_for(rt.alloc(), line, want)?, "{want}");
+    }
+    Ok(())
+}
+
+#[test]
+fn reads_jobs_with_series_and_scans(rt: HostRuntime) -> Result<(), Fail> {
+    let lines: &[(&[&str], &str)] = &[
         (
             &["-X", "a", "-X"],
             "Generate { files: [\"a\"], out: None, stdout: false, stats: false, backup: false, fold: false, posix: true, quiet: false }",
@@ -86,12 +115,7 @@ fn reads_jobs(rt: HostRuntime) -> Result<(), Fail> {
         (&["--scan-table", "b"], "ScanTable { file: \"b\" }"),
     ];
     for &(line, want) in lines {
-        let got = job_of(rt.alloc(), line)?;
-        let told = match &got {
-            Ok(job) => format!(in rt.alloc(); "{job:?}")?,
-            Err(error) => format!(in rt.alloc(); "{error:?}")?,
-        };
-        assert_eq!(rt; told.as_str(), want);
+        assert!(rt; asks_for(rt.alloc(), line, want)?, "{want}");
     }
     Ok(())
 }

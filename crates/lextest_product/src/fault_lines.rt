@@ -1,19 +1,10 @@
 //! The lines and statuses of faults.
+use crate::tests::is_told;
 use lexkit::{
     ArgsError, BuildError, Fault, GenError, MemorySink, PatternError, PatternErrorKind, RunError,
     ScanError, SpecError, SpecErrorKind, TableError, WriteFault, write_fault,
 };
 use std::alloc::Global;
-use std::process::Abort;
-
-/// Holds a fault to its line and its status.
-fn assert_told(rt: &impl Abort, alloc: Global, fault: Fault<'_>, status: u8, line: &str) {
-    let mut sink = MemorySink::new(alloc);
-    let got = write_fault(fault, &mut sink);
-    assert!(rt; got == Ok(()), "{line}: {got:?}");
-    assert_eq!(rt; sink.written(), line.as_bytes());
-    assert_eq!(rt; fault.status(), status, "{line}");
-}
 
 #[test]
 fn tells_each_fault(rt: HostRuntime) {
@@ -64,7 +55,7 @@ fn tells_each_fault(rt: HostRuntime) {
         (Fault::Output, 74, "lex: write fault\n"),
     ];
     for &(fault, status, line) in rows {
-        assert_told(&rt, rt.alloc(), fault, status, line);
+        assert!(rt; is_told(rt.alloc(), fault, status, line), "{line}");
     }
 }
 
@@ -80,7 +71,7 @@ fn tells_each_fault_of_a_run(rt: HostRuntime) {
     ];
     for &(error, status, line) in rows {
         let fault = Fault::Scan(ScanError::Run(error));
-        assert_told(&rt, rt.alloc(), fault, status, line);
+        assert!(rt; is_told(rt.alloc(), fault, status, line), "{line}");
     }
 }
 
@@ -135,21 +126,26 @@ fn tells_each_fault_of_a_specification(rt: HostRuntime) {
     for &(line, kind, status, told) in rows {
         let error = SpecError { line, kind };
         let fault = Fault::Scan(ScanError::Generate(GenError::Spec(error)));
-        assert_told(&rt, rt.alloc(), fault, status, told);
+        assert!(rt; is_told(rt.alloc(), fault, status, told), "{told}");
     }
+}
+
+/// Whether a sink of this room refuses the line, and has these bytes of it.
+fn is_told_within(alloc: Global, room: usize, written: &str) -> bool {
+    let mut sink = MemorySink::failing_after(alloc, room);
+    let got = write_fault(Fault::File("a.l"), &mut sink);
+    got == Err(WriteFault) && sink.written() == written.as_bytes()
 }
 
 #[test]
 fn stops_at_a_write_fault(rt: HostRuntime) {
-    for &(room, written) in &[
-        (0usize, ""),
+    let rows: &[(usize, &str)] = &[
+        (0, ""),
         (3, "lex"),
         (9, "lex: cann"),
         (17, "lex: cannot read "),
-    ] {
-        let mut sink = MemorySink::failing_after(rt.alloc(), room);
-        let got = write_fault(Fault::File("a.l"), &mut sink);
-        assert!(rt; got == Err(WriteFault), "{got:?}");
-        assert_eq!(rt; sink.written(), written.as_bytes(), "room {room}");
+    ];
+    for &(room, written) in rows {
+        assert!(rt; is_told_within(rt.alloc(), room, written), "room {room}");
     }
 }

@@ -1,52 +1,29 @@
 //! What is made of specifications, and table files that are refused.
+use crate::building::made;
+use crate::row::{PLAIN, POSIX};
+use crate::scanning::file_of;
 use crate::tests::is_told;
 use lexkit::{
     Fault, GenError, MemorySink, MemorySource, Options, ScanError, TableError, generate,
     scan_table, write_backup, write_stats, write_tables, write_warnings,
 };
-use std::alloc::Global;
+use lexspec::ReadOptions;
+use std::alloc::{AllocError, Global};
 use std::test::Fail;
-
-/// What is written of a specification.
-#[derive(Drop)]
-struct Outputs {
-    file: MemorySink,
-    warnings: MemorySink,
-    backup: MemorySink,
-    stats: MemorySink,
-}
-
-/// The table file and the reports of a specification.
-fn made(alloc: Global, text: &str) -> Result<Outputs, GenError> {
-    made_by(alloc, text, false)
-}
-
-/// The same, with intervals over series or not.
-fn made_by(alloc: Global, text: &str, posix: bool) -> Result<Outputs, GenError> {
-    let options = Options {
-        posix,
-        ..Options::new()
-    };
-    let generated = generate(alloc, text.as_bytes(), options)?;
-    let mut file = MemorySink::new(alloc);
-    let mut warnings = MemorySink::new(alloc);
-    let mut backup = MemorySink::new(alloc);
-    let mut stats = MemorySink::new(alloc);
-    let _ = write_tables(&generated.tables, &mut file);
-    let _ = write_warnings(&generated.warnings, &mut warnings);
-    let _ = write_backup(&generated.backup, &mut backup);
-    let _ = write_stats(&generated.stats, &mut stats);
-    Ok(Outputs {
-        file,
-        warnings,
-        backup,
-        stats,
-    })
-}
 
 const KEYS: &str = "%%\nif printf(\"K\");\n[a-z]+ printf(\"I\");\n";
 
 const NONE_BACKS_UP: &str = "states that back up: 0\n";
+
+/// Whether these are the warnings of a specification, and its states that back up.
+fn reports_so(alloc: Global, text: &str, warnings: &str, backup: &str) -> Result<bool, GenError> {
+    let made = generate(alloc, text.as_bytes(), Options::new())?;
+    let mut warned = MemorySink::new(alloc);
+    let mut backed = MemorySink::new(alloc);
+    let _ = write_warnings(&made.warnings, &mut warned);
+    let _ = write_backup(&made.backup, &mut backed);
+    Ok(warned.written() == warnings.as_bytes() && backed.written() == backup.as_bytes())
+}
 
 /// Warnings, and the states that back up.
 #[test]
@@ -95,11 +72,19 @@ fn reports_as_worked(rt: HostRuntime) -> Result<(), Fail> {
         ),
     ];
     for &(text, warnings, backup) in rows {
-        let made = made(rt.alloc(), text)?;
-        assert_eq!(rt; made.warnings.written(), warnings.as_bytes(), "{text}");
-        assert_eq!(rt; made.backup.written(), backup.as_bytes(), "{text}");
+        assert!(rt; reports_so(rt.alloc(), text, warnings, backup)?, "{text}");
     }
     Ok(())
+}
+
+/// Whether the table file of a specification has this many bytes, and its counts are these.
+fn counts_so(alloc: Global, text: &str, bytes: usize, stats: &str) -> Result<bool, GenError> {
+    let made = generate(alloc, text.as_bytes(), Options::new())?;
+    let mut file = MemorySink::new(alloc);
+    let mut counts = MemorySink::new(alloc);
+    let _ = write_tables(&made.tables, &mut file);
+    let _ = write_stats(&made.stats, &mut counts);
+    Ok(file.written().len() == bytes && counts.written() == stats.as_bytes())
 }
 
 #[test]
@@ -117,16 +102,21 @@ fn counts_as_worked(rt: HostRuntime) -> Result<(), Fail> {
         ),
     ];
     for &(text, bytes, stats) in rows {
-        let made = made(rt.alloc(), text)?;
-        assert_eq!(rt; made.file.written().len(), bytes, "{text}");
-        assert_eq!(rt; made.stats.written(), stats.as_bytes(), "{text}");
+        assert!(rt; counts_so(rt.alloc(), text, bytes, stats)?, "{text}");
     }
     Ok(())
 }
 
+/// Whether two specifications have the same file, where they have one and the second is read so.
+fn have_equal_files(alloc: Global, text: &str, again: &str, how: ReadOptions) -> Option<bool> {
+    let first = file_of(alloc, text.as_bytes(), PLAIN)?;
+    let second = file_of(alloc, again.as_bytes(), how)?;
+    Some(first.written() == second.written())
+}
+
 /// The two of a row have equal rules.
 #[test]
-fn equal_rules_have_equal_files(rt: HostRuntime) -> Result<(), Fail> {
+fn equal_rules_have_equal_files(rt: HostRuntime) {
     let rows = &[
         ("%%\na+ ECHO;\n", "%%\naa* { ECHO; }\n"),
         (
@@ -146,17 +136,26 @@ fn equal_rules_have_equal_files(rt: HostRuntime) -> Result<(), Fail> {
         ),
     ];
     for &(text, again) in rows {
-        let first = made(rt.alloc(), text)?;
-        let second = made(rt.alloc(), again)?;
-        assert_eq!(rt; first.file.written(), second.file.written(), "{text}");
+        let equal = have_equal_files(rt.alloc(), text, again, PLAIN);
+        assert!(rt; equal == Some(true), "{text}");
     }
-    let first = made(rt.alloc(), "%%\nabab ECHO;\n")?;
-    let second = made_by(rt.alloc(), "%%\nab{2} ECHO;\n", true)?;
-    assert_eq!(rt; first.file.written(), second.file.written());
-    let first = made(rt.alloc(), "%%\na ;\nb ECHO;\n")?;
-    let second = made(rt.alloc(), "%%\nb ECHO;\na ;\n")?;
-    assert!(rt; first.file.written() != second.file.written());
-    Ok(())
+}
+
+#[test]
+fn equal_series_have_equal_files(rt: HostRuntime) {
+    let equal = have_equal_files(rt.alloc(), "%%\nabab ECHO;\n", "%%\nab{2} ECHO;\n", POSIX);
+    assert!(rt; equal == Some(true));
+}
+
+#[test]
+fn other_rules_have_another_file(rt: HostRuntime) {
+    let equal = have_equal_files(
+        rt.alloc(),
+        "%%\na ;\nb ECHO;\n",
+        "%%\nb ECHO;\na ;\n",
+        PLAIN,
+    );
+    assert!(rt; equal == Some(false));
 }
 
 /// What a scan of `if iff` by these bytes answers, and whether it then read nothing and wrote nothing.
@@ -167,10 +166,27 @@ fn scanned(alloc: Global, bytes: &[u8]) -> (Result<u8, ScanError>, bool) {
     (got, source.calls() == 0 && sink.written().is_empty())
 }
 
+/// The bytes of a file with another byte at this place, or with one more.
+fn changed(alloc: Global, file: &[u8], at: usize, byte: u8) -> Result<Vec<u8>, AllocError> {
+    let mut bytes = Vec::new(alloc);
+    for (place, old) in file.iter().enumerate() {
+        bytes.push(if place == at { byte } else { *old })?;
+    }
+    if at == bytes.len() {
+        bytes.push(byte)?;
+    }
+    Ok(bytes)
+}
+
+/// Whether a scan by these bytes is refused so, and touches nothing.
+fn is_refused(alloc: Global, bytes: &[u8], error: TableError, line: &str) -> bool {
+    let error = ScanError::Table(error);
+    scanned(alloc, bytes) == (Err(error), true) && is_told(alloc, Fault::Scan(error), 65, line)
+}
+
 #[test]
 fn refuses_files_that_are_no_tables(rt: HostRuntime) -> Result<(), Fail> {
-    let alloc = rt.alloc();
-    let made = made(alloc, KEYS)?;
+    let file = made(rt.alloc(), KEYS.as_bytes())?;
     let rows = &[
         (0, b'l', TableError::BadMagic, "lex: table: BadMagic\n"),
         (7, 3, TableError::BadVersion, "lex: table: BadVersion\n"),
@@ -194,34 +210,26 @@ fn refuses_files_that_are_no_tables(rt: HostRuntime) -> Result<(), Fail> {
         ),
     ];
     for &(at, byte, error, line) in rows {
-        let mut bytes = Vec::new(alloc);
-        for (place, old) in made.file.written().iter().enumerate() {
-            bytes.push(if place == at { byte } else { *old })?;
-        }
-        if at == bytes.len() {
-            bytes.push(byte)?;
-        }
-        let error = ScanError::Table(error);
-        assert!(rt; scanned(alloc, &bytes) == (Err(error), true), "{line}");
-        assert!(rt; is_told(alloc, Fault::Scan(error), 65, line), "{line}");
+        let bytes = changed(rt.alloc(), file.written(), at, byte)?;
+        assert!(rt; is_refused(rt.alloc(), &bytes, error, line), "{line}");
     }
     Ok(())
 }
 
+/// Whether a scan by these bytes finds them cut short, and touches nothing.
+fn is_cut_short(alloc: Global, bytes: &[u8]) -> bool {
+    scanned(alloc, bytes) == (Err(ScanError::Table(TableError::Truncated)), true)
+}
+
 #[test]
 fn refuses_a_file_that_is_cut_short(rt: HostRuntime) -> Result<(), Fail> {
-    let alloc = rt.alloc();
-    let made = made(alloc, KEYS)?;
-    let file = made.file.written();
-    let truncated = ScanError::Table(TableError::Truncated);
+    let made = made(rt.alloc(), KEYS.as_bytes())?;
+    let file = made.written();
     for (count, _) in file.iter().enumerate() {
-        assert!(rt;
-            scanned(alloc, &file[..count]) == (Err(truncated), true),
-            "{count}"
-        );
+        assert!(rt; is_cut_short(rt.alloc(), &file[..count]), "{count}");
     }
-    let line = "lex: table: Truncated\n";
-    assert!(rt; is_told(alloc, Fault::Scan(truncated), 65, line));
-    assert!(rt; scanned(alloc, file) == (Ok(0), false));
+    assert!(rt; scanned(rt.alloc(), file) == (Ok(0), false));
+    let fault = Fault::Scan(ScanError::Table(TableError::Truncated));
+    assert!(rt; is_told(rt.alloc(), fault, 65, "lex: table: Truncated\n"));
     Ok(())
 }

@@ -1,4 +1,6 @@
 //! The machine of a small specification, call by call.
+ghost use Rattle.std.specs.Prelude.{◌<◌};
+
 use crate::building::{built, read};
 use lex_machine::{Cut, Machine, Statement};
 use lextab_packing::Plain;
@@ -6,6 +8,33 @@ use std::test::Fail;
 
 const TEXT: &[u8] =
     b"%x C\n%%\nab/c ECHO; exit(3);\n^a BEGIN(C);\n<C><<EOF>> puts(\"open\"); exit(2);\n";
+
+/// Whether the states of the first condition, at the start of a line, go on and accept as the rules say.
+fn goes_along_so<M: Machine>(machine: &M) -> bool
+    requires { 0 < (M.machine machine.now).conditions }
+{
+    let start = machine.start(0, true);
+    let one = machine.step(start, b'a');
+    let two = machine.step(one, b'b');
+    let three = machine.step(two, b'c');
+    machine.goes_on(start)
+        && machine.accepts(start).is_empty()
+        && machine.accepts(one) == &[1u32][..]
+        && machine.accepts(three) == &[0u32][..]
+        && !machine.goes_on(three)
+}
+
+/// Whether nothing is accepted inside a line, and the second condition has no rule but its end action.
+fn tells_the_others<M: Machine>(machine: &M) -> bool
+    requires { 1 < (M.machine machine.now).conditions }
+{
+    let inside = machine.step(machine.start(0, false), b'a');
+    let end = machine.eof(1);
+    machine.accepts(inside).is_empty()
+        && !machine.goes_on(machine.start(1, true))
+        && end.status == 2
+        && end.print.as_slice() == b"open\n".as_slice()
+}
 
 #[test]
 fn tells_of_the_automaton_and_the_actions(rt: HostRuntime) -> Result<(), Fail> {
@@ -15,23 +44,24 @@ fn tells_of_the_automaton_and_the_actions(rt: HostRuntime) -> Result<(), Fail> {
     let machine = Plain::new(&automaton, &spec);
     assert!(rt; !machine.rejects());
     if spec.conditions().len() == 2 {
-        let start = machine.start(0, true);
-        assert!(rt; machine.goes_on(start) && machine.accepts(start).is_empty());
-        let one = machine.step(start, b'a');
-        assert_eq!(rt; machine.accepts(one), &[1u32][..]);
-        let two = machine.step(one, b'b');
-        let three = machine.step(two, b'c');
-        assert_eq!(rt; machine.accepts(three), &[0u32][..]);
-        assert!(rt; !machine.goes_on(three));
-        let inside = machine.step(machine.start(0, false), b'a');
-        assert!(rt; machine.accepts(inside).is_empty());
-        assert!(rt; !machine.goes_on(machine.start(1, true)));
-        assert!(rt; machine.eof(1).status == 2);
-        assert_eq!(rt; machine.eof(1).print.as_slice(), b"open\n".as_slice());
+        assert!(rt; goes_along_so(&machine));
+        assert!(rt; tells_the_others(&machine));
     } else {
         assert!(rt; false);
     }
     Ok(())
+}
+
+/// Whether the two rules are told with their cuts and statements.
+fn tells_the_rules<M: Machine>(machine: &M) -> bool
+    requires { 1 < (M.machine machine.now).count }
+{
+    let (head, two) = machine.rule(0);
+    let (whole, one) = machine.rule(1);
+    head == Cut::Head(2)
+        && two.len() == 2
+        && whole == Cut::Whole
+        && matches!(one.first(), Some(Statement::Begin(1)))
 }
 
 #[test]
@@ -41,14 +71,19 @@ fn tells_of_rules(rt: HostRuntime) -> Result<(), Fail> {
     let automaton = built(alloc, &spec)?;
     let machine = Plain::new(&automaton, &spec);
     if spec.rules().len() == 2 {
-        let (cut, statements) = machine.rule(0);
-        assert!(rt; cut == Cut::Head(2) && statements.len() == 2);
-        let (cut, statements) = machine.rule(1);
-        assert!(rt; cut == Cut::Whole && matches!(statements.first(), Some(Statement::Begin(1))));
+        assert!(rt; tells_the_rules(&machine));
     } else {
         assert!(rt; false);
     }
     Ok(())
+}
+
+/// Whether a start in the first condition leads nowhere, and the input ends with status 0.
+fn goes_nowhere<M: Machine>(machine: &M) -> bool
+    requires { 0 < (M.machine machine.now).conditions }
+{
+    let start = machine.start(0, false);
+    !machine.goes_on(start) && machine.accepts(start).is_empty() && machine.eof(0).status == 0
 }
 
 #[test]
@@ -58,9 +93,7 @@ fn a_machine_may_have_no_rules(rt: HostRuntime) -> Result<(), Fail> {
     let automaton = built(alloc, &spec)?;
     let machine = Plain::new(&automaton, &spec);
     if spec.conditions().len() == 1 {
-        let start = machine.start(0, false);
-        assert!(rt; !machine.goes_on(start) && machine.accepts(start).is_empty());
-        assert_eq!(rt; machine.eof(0).status, 0);
+        assert!(rt; goes_nowhere(&machine));
     } else {
         assert!(rt; false);
     }

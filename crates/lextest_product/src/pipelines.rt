@@ -115,12 +115,13 @@ const FILTERS: &[&[u8]] = &[
     b"%x L\n%%\n[a-z] yyless(1); BEGIN(L);\n<L>[a-z]*\\n printf(\"ok\\n\"); BEGIN(INITIAL);\n",
 ];
 
-/// Whether some piece was asked for before all was written that the pieces before it bring.
+/// Whether some piece was asked for before all was written that the pieces before it bring. A table file, if there is one, is
+/// used in the place of the filter that it was made of.
 fn is_late(
     rt: &HostRuntime,
     filter: &[u8],
     pieces: &'static [Piece],
-    by_table: bool,
+    file: Option<&[u8]>,
 ) -> Result<bool, Fail> {
     let written = Cell::new(0);
     let late = Cell::new(false);
@@ -133,11 +134,9 @@ fn is_late(
     let mut source = FromBytes::new(ByteReader::new(rt.alloc(), reader)?);
     let writer = Arrived { written: &written };
     let mut sink = ToWrite::new(ByteWriter::new(rt.alloc(), writer)?);
-    let status = if by_table {
-        let file = made(rt.alloc(), filter)?;
-        scan_table(rt.alloc(), file.written(), &mut source, &mut sink)?
-    } else {
-        scan_spec(rt.alloc(), filter, Options::new(), &mut source, &mut sink)?
+    let status = match file {
+        Some(file) => scan_table(rt.alloc(), file, &mut source, &mut sink)?,
+        None => scan_spec(rt.alloc(), filter, Options::new(), &mut source, &mut sink)?,
     };
     Ok(late.get() || status != 0)
 }
@@ -145,8 +144,9 @@ fn is_late(
 #[test]
 fn answers_a_line_before_it_asks_for_more(rt: HostRuntime) -> Result<(), Fail> {
     for &filter in FILTERS {
-        assert!(rt; !is_late(&rt, filter, LINES, false)?);
-        assert!(rt; !is_late(&rt, filter, LINES, true)?);
+        assert!(rt; !is_late(&rt, filter, LINES, None)?);
+        let file = made(rt.alloc(), filter)?;
+        assert!(rt; !is_late(&rt, filter, LINES, Some(file.written()))?);
     }
     Ok(())
 }
@@ -154,7 +154,7 @@ fn answers_a_line_before_it_asks_for_more(rt: HostRuntime) -> Result<(), Fail> {
 #[test]
 fn answers_a_line_before_it_asks_for_the_rest_of_the_next(rt: HostRuntime) -> Result<(), Fail> {
     for &filter in FILTERS {
-        assert!(rt; !is_late(&rt, filter, PARTS, false)?);
+        assert!(rt; !is_late(&rt, filter, PARTS, None)?);
     }
     Ok(())
 }

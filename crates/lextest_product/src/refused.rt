@@ -1,14 +1,15 @@
 //! What stays where memory is refused. No request is refused in these tests themselves: `scripts/refuse-memory.py` runs each of
 //! them with the first request refused, then the second, and so on. A run must then end well, or fail with the name of an
 //! error that says that memory ran out.
+use crate::arguments::job_of;
 use crate::building::{made, read_back};
+use crate::turns::{Turns, go_on};
 use lexkit::{
     ArgsError, BuildError, Flat, GenError, MemorySink, MemorySource, Options, PatternErrorKind,
-    RunError, ScanError, Sink, SpecErrorKind, TableError, ToWrite, generate, read_args, scan_spec,
-    scan_table,
+    RunError, ScanError, Sink, SpecErrorKind, TableError, ToWrite, generate, scan_spec, scan_table,
 };
 use lexscan::{Scanner, Turn, Window, run};
-use std::alloc::Global;
+use std::alloc::{AllocError, Global};
 use std::test::Fail;
 
 /// Each match is given back but for a letter.
@@ -16,72 +17,87 @@ const LETTERS: &str = "%%\n[a-z]+ yyless(1);\n";
 
 const INPUT: &[u8] = b"abcdefghijklmnopqrstuvwxyzabcdefghijklmn";
 
+/// Whether all that was taken from the start of the text on is held after a refused turn, and no turn is taken any more.
+fn holds_all(scanner: &mut Turns<'_, '_>, start: usize, turn: Result<Turn, RunError>) -> bool {
+    let taken = scanner.taken() as usize;
+    turn == Err(RunError::OutOfMemory)
+        && INPUT.get(start..taken) == Some(scanner.held())
+        && scanner.turn() == Err(RunError::Failed)
+}
+
+/// Whether all turns are taken, or one is refused and holds what it has to.
+fn goes_through(alloc: Global, machine: &Flat<'_>) -> bool {
+    let mut source = MemorySource::new(INPUT);
+    let mut sink = MemorySink::new(alloc);
+    let mut scanner = Scanner::new(alloc, machine, &mut source, &mut sink, 10_000);
+    for start in 0..40usize {
+        let turn = scanner.turn();
+        if turn != Ok(Turn::Went) {
+            return holds_all(&mut scanner, start, turn);
+        }
+    }
+    scanner.turn() == Ok(Turn::Ended(0))
+}
+
 /// Goes through all turns. After a refused turn all that was taken from the start of the text on is held, and no turn is
 /// taken any more.
 #[test]
 fn refused_turns(rt: HostRuntime) -> Result<(), Fail> {
-    let alloc = rt.alloc();
-    let tables = read_back(alloc, LETTERS.as_bytes())?;
-    let machine = Flat::new(alloc, &tables)?;
-    let mut source = MemorySource::new(INPUT);
-    let mut sink = MemorySink::new(alloc);
-    let mut scanner = Scanner::new(alloc, &machine, &mut source, &mut sink, 10_000);
-    for start in 0..40usize {
-        let turn = scanner.turn();
-        if turn != Ok(Turn::Went) {
-            assert!(rt; turn == Err(RunError::OutOfMemory), "{turn:?}");
-            let taken = scanner.taken() as usize;
-            assert!(rt; INPUT.get(start..taken) == Some(scanner.held()));
-            assert!(rt; scanner.turn() == Err(RunError::Failed));
-            return Ok(());
-        }
-    }
-    assert!(rt; scanner.turn() == Ok(Turn::Ended(0)));
+    let tables = read_back(rt.alloc(), LETTERS.as_bytes())?;
+    let machine = Flat::new(rt.alloc(), &tables)?;
+    assert!(rt; goes_through(rt.alloc(), &machine));
     Ok(())
 }
 
 /// Each match asks for all the letters, and keeps one.
 const ONE_OF_MANY: &str = "%%\na ;\na*b ;\n";
 
+const THOUSAND: &[u8] = &[b'a'; 1_000];
+
+/// Whether each turn is taken once all bytes are, or the first one is refused.
+fn takes_each_turn(alloc: Global, machine: &Flat<'_>) -> bool {
+    let mut source = MemorySource::new(THOUSAND);
+    let mut sink = MemorySink::new(alloc);
+    let mut scanner = Scanner::new(alloc, machine, &mut source, &mut sink, 10_000);
+    if scanner.turn() == Err(RunError::OutOfMemory) {
+        return true;
+    }
+    let went = go_on(&mut scanner, 999);
+    scanner.turn() == Ok(Turn::Ended(0)) && went
+}
+
 /// Where memory for marks of walks in vain is refused, that is not told: once all bytes are taken, each turn is taken.
 #[test]
 fn refused_marks(rt: HostRuntime) -> Result<(), Fail> {
-    let alloc = rt.alloc();
-    let tables = read_back(alloc, ONE_OF_MANY.as_bytes())?;
-    let machine = Flat::new(alloc, &tables)?;
-    let letters = [b'a'; 1_000];
-    let mut source = MemorySource::new(&letters);
-    let mut sink = MemorySink::new(alloc);
-    let mut scanner = Scanner::new(alloc, &machine, &mut source, &mut sink, 10_000);
-    if scanner.turn() == Err(RunError::OutOfMemory) {
-        return Ok(());
-    }
-    for _ in 0..999 {
-        assert!(rt; scanner.turn() == Ok(Turn::Went));
-    }
-    assert!(rt; scanner.turn() == Ok(Turn::Ended(0)));
+    let tables = read_back(rt.alloc(), ONE_OF_MANY.as_bytes())?;
+    let machine = Flat::new(rt.alloc(), &tables)?;
+    assert!(rt; takes_each_turn(rt.alloc(), &machine));
     Ok(())
+}
+
+/// Whether a run ends well or tells that memory ran out, and nothing is written by it.
+fn runs_well(alloc: Global, machine: &Flat<'_>) -> bool {
+    let mut source = MemorySource::new(INPUT);
+    let mut sink = MemorySink::new(alloc);
+    let result = run(alloc, machine, &mut source, &mut sink, 10_000);
+    let told = result == Ok(0) || result == Err(RunError::OutOfMemory);
+    told && sink.written().is_empty()
 }
 
 /// A run ends well, or tells that memory ran out; nothing is written by it.
 #[test]
 fn refused_run(rt: HostRuntime) -> Result<(), Fail> {
-    let alloc = rt.alloc();
-    let tables = read_back(alloc, LETTERS.as_bytes())?;
-    let machine = Flat::new(alloc, &tables)?;
-    let mut source = MemorySource::new(INPUT);
-    let mut sink = MemorySink::new(alloc);
-    let result = run(alloc, &machine, &mut source, &mut sink, 10_000);
-    assert!(rt;
-        result == Ok(0) || result == Err(RunError::OutOfMemory),
-        "{result:?}"
-    );
-    assert_eq!(rt; sink.written(), b"".as_slice());
+    let tables = read_back(rt.alloc(), LETTERS.as_bytes())?;
+    let machine = Flat::new(rt.alloc(), &tables)?;
+    assert!(rt; runs_well(rt.alloc(), &machine));
     Ok(())
 }
 
-/// A specification with REJECT, with conditions, with names, and one that is warned of: an input, what is written, and the status.
-const SCANS: &[(&[u8], &[u8], &[u8], u8)] = &[
+/// A specification, an input, what is written, and the status.
+type Scan = (&'static [u8], &'static [u8], &'static [u8], u8);
+
+/// Scans with REJECT, with conditions, with names, and one that is warned of.
+const SCANS: &[Scan] = &[
     (
         b"%%\na |\nab |\nabc |\nabcd ECHO; REJECT;\n.|\\n ;\n",
         b"abcd",
@@ -136,57 +152,73 @@ fn refused_generate(rt: HostRuntime) -> Result<(), Fail> {
     Ok(())
 }
 
+/// Whether the fault of a scan says that memory ran out: before anything is read or written, or in the scan.
+fn is_want_in_a_scan(error: ScanError, calls: u64, written: &[u8]) -> bool {
+    match error {
+        ScanError::Generate(fault) => {
+            is_want_of_memory(fault) && calls == 0 && written.is_empty()
+        }
+        other => other == ScanError::Run(RunError::OutOfMemory),
+    }
+}
+
+/// What a scan answers, and whether it wrote all, or a beginning of it where memory ran out.
+type Scanned = (Result<u8, ScanError>, bool);
+
+fn scanned(alloc: Global, row: &Scan) -> Result<Scanned, AllocError> {
+    let (text, input, want, status) = *row;
+    let mut source = MemorySource::new(input);
+    let mut sink = ToWrite::new(Vec::with_capacity(alloc, 16)?);
+    let got = scan_spec(alloc, text, Options::new(), &mut source, &mut sink);
+    let written = sink.into_inner();
+    let so = match got {
+        Ok(answer) => answer == status && written.len() == want.len(),
+        Err(error) => is_want_in_a_scan(error, source.calls(), &written),
+    };
+    Ok((got, so && want.starts_with(&written)))
+}
+
 /// A scan writes all, or memory ran out: before anything is read, or in the scan.
 #[test]
 fn refused_scan_spec(rt: HostRuntime) -> Result<(), Fail> {
-    let alloc = rt.alloc();
-    for &(text, input, want, status) in SCANS {
-        let mut source = MemorySource::new(input);
-        let mut sink = ToWrite::new(Vec::with_capacity(alloc, 16)?);
-        let got = scan_spec(alloc, text, Options::new(), &mut source, &mut sink);
-        let written = sink.into_inner();
-        assert!(rt; want.starts_with(&written));
-        match got {
-            Ok(answer) => assert!(rt; answer == status && written.len() == want.len()),
-            Err(error) => {
-                match error {
-                    ScanError::Generate(fault) => {
-                        assert!(rt; is_want_of_memory(fault) && source.calls() == 0);
-                        assert!(rt; written.is_empty());
-                    }
-                    other => assert!(rt; other == ScanError::Run(RunError::OutOfMemory)),
-                }
-                return Err(error)?;
-            }
-        }
+    for row in SCANS {
+        let (got, so) = scanned(rt.alloc(), row)?;
+        assert!(rt; so, "{got:?}");
+        got?;
     }
     Ok(())
+}
+
+/// The same of the fault of a scan by a table file.
+fn is_want_by_table(error: ScanError, calls: u64, written: &[u8]) -> bool {
+    if error == ScanError::Table(TableError::OutOfMemory) {
+        calls == 0 && written.is_empty()
+    } else {
+        error == ScanError::Run(RunError::OutOfMemory)
+    }
+}
+
+fn scanned_by_table(alloc: Global, file: &[u8]) -> Result<Scanned, AllocError> {
+    let mut source = MemorySource::new(b"if iff");
+    let mut sink = ToWrite::new(Vec::with_capacity(alloc, 16)?);
+    let got = scan_table(alloc, file, &mut source, &mut sink);
+    let written = sink.into_inner();
+    let so = match got {
+        Ok(answer) => answer == 0 && written.len() == 3,
+        Err(error) => is_want_by_table(error, source.calls(), &written),
+    };
+    Ok((got, so && b"K I".starts_with(&written)))
 }
 
 /// The same by a table file.
 #[test]
 fn refused_scan_table(rt: HostRuntime) -> Result<(), Fail> {
-    let alloc = rt.alloc();
-    let file = made(alloc, b"%%\nif printf(\"K\");\n[a-z]+ printf(\"I\");\n")?;
-    let mut source = MemorySource::new(b"if iff");
-    let mut sink = ToWrite::new(Vec::with_capacity(alloc, 16)?);
-    let got = scan_table(alloc, file.written(), &mut source, &mut sink);
-    let written = sink.into_inner();
-    assert!(rt; b"K I".starts_with(&written));
-    match got {
-        Ok(answer) => {
-            assert!(rt; answer == 0 && written.len() == 3);
-            Ok(())
-        }
-        Err(error) => {
-            if error == ScanError::Table(TableError::OutOfMemory) {
-                assert!(rt; source.calls() == 0 && written.is_empty());
-            } else {
-                assert!(rt; error == ScanError::Run(RunError::OutOfMemory), "{error:?}");
-            }
-            Err(error)?
-        }
-    }
+    let text = b"%%\nif printf(\"K\");\n[a-z]+ printf(\"I\");\n";
+    let file = made(rt.alloc(), text)?;
+    let (got, so) = scanned_by_table(rt.alloc(), file.written())?;
+    assert!(rt; so, "{got:?}");
+    got?;
+    Ok(())
 }
 
 /// A window that was refused room holds what it held.
@@ -207,7 +239,6 @@ fn refused_room(rt: HostRuntime) -> Result<(), Fail> {
 /// The words of a command line are read, or memory ran out.
 #[test]
 fn refused_words(rt: HostRuntime) -> Result<(), Fail> {
-    let alloc = rt.alloc();
     let lines: &[(&[&str], bool)] = &[
         (&["-tv", "a.l"], true),
         (&["--scan-spec"], false),
@@ -215,11 +246,7 @@ fn refused_words(rt: HostRuntime) -> Result<(), Fail> {
         (&["--scan-table", "b"], true),
     ];
     for &(line, is_read) in lines {
-        let mut words = Vec::new(alloc);
-        for word in line {
-            words.push(String::from_str(alloc, *word)?)?;
-        }
-        match read_args(alloc, words.as_slice()) {
+        match job_of(rt.alloc(), line)? {
             Ok(_) => assert!(rt; is_read, "{line:?}"),
             Err(ArgsError::Usage) => assert!(rt; !is_read, "{line:?}"),
             Err(ArgsError::OutOfMemory) => {}

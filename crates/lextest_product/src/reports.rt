@@ -1,6 +1,23 @@
 //! The lines of the reports.
 use lexkit::{BackUp, MemorySink, Warning, WriteFault, write_backup, write_warnings};
+use std::alloc::{AllocError, Global};
 use std::test::Fail;
+
+/// The warnings of these lines, each of skipped code or not.
+fn warnings_of(alloc: Global, warned: &[(u32, bool)]) -> Result<Vec<Warning>, AllocError> {
+    let mut warnings = Vec::new(alloc);
+    for &(line, code) in warned {
+        warnings.push(Warning { line, code })?;
+    }
+    Ok(warnings)
+}
+
+/// Whether the warnings are written so.
+fn are_warned(alloc: Global, warnings: &[Warning], lines: &str) -> bool {
+    let mut sink = MemorySink::new(alloc);
+    let got = write_warnings(warnings, &mut sink);
+    got == Ok(()) && sink.written() == lines.as_bytes()
+}
 
 #[test]
 fn tells_warnings(rt: HostRuntime) -> Result<(), Fail> {
@@ -16,16 +33,27 @@ fn tells_warnings(rt: HostRuntime) -> Result<(), Fail> {
         ),
     ];
     for &(warned, lines) in rows {
-        let mut warnings = Vec::new(rt.alloc());
-        for &(line, code) in warned {
-            warnings.push(Warning { line, code })?;
-        }
-        let mut sink = MemorySink::new(rt.alloc());
-        let got = write_warnings(&warnings, &mut sink);
-        assert!(rt; got == Ok(()), "{got:?}");
-        assert_eq!(rt; sink.written(), lines.as_bytes());
+        let warnings = warnings_of(rt.alloc(), warned)?;
+        assert!(rt; are_warned(rt.alloc(), &warnings, lines), "{lines}");
     }
     Ok(())
+}
+
+/// The entries of these states, each with its word.
+fn entries_of(alloc: Global, told: &[(u32, &[u8])]) -> Result<Vec<BackUp>, AllocError> {
+    let mut entries = Vec::new(alloc);
+    for &(state, word) in told {
+        let word = Vec::from_slice(alloc, word)?;
+        entries.push(BackUp { state, word })?;
+    }
+    Ok(entries)
+}
+
+/// Whether the entries are written so.
+fn are_listed(alloc: Global, entries: &[BackUp], lines: &str) -> bool {
+    let mut sink = MemorySink::new(alloc);
+    let got = write_backup(entries, &mut sink);
+    got == Ok(()) && sink.written() == lines.as_bytes()
 }
 
 #[test]
@@ -42,27 +70,30 @@ fn tells_states_that_back_up(rt: HostRuntime) -> Result<(), Fail> {
         ),
     ];
     for &(told, lines) in rows {
-        let mut entries = Vec::new(rt.alloc());
-        for &(state, word) in told {
-            let word = Vec::from_slice(rt.alloc(), word)?;
-            entries.push(BackUp { state, word })?;
-        }
-        let mut sink = MemorySink::new(rt.alloc());
-        let got = write_backup(&entries, &mut sink);
-        assert!(rt; got == Ok(()), "{got:?}");
-        assert_eq!(rt; sink.written(), lines.as_bytes());
+        let entries = entries_of(rt.alloc(), told)?;
+        assert!(rt; are_listed(rt.alloc(), &entries, lines), "{lines}");
     }
     Ok(())
 }
 
+/// Whether a sink of this room refuses the warnings, and has these bytes of them.
+fn are_warned_within(alloc: Global, warnings: &[Warning], room: usize, written: &str) -> bool {
+    let mut sink = MemorySink::failing_after(alloc, room);
+    let got = write_warnings(warnings, &mut sink);
+    got == Err(WriteFault) && sink.written() == written.as_bytes()
+}
+
+/// Whether a sink of this room refuses the entries, and has these bytes of them.
+fn are_listed_within(alloc: Global, entries: &[BackUp], room: usize, written: &str) -> bool {
+    let mut sink = MemorySink::failing_after(alloc, room);
+    let got = write_backup(entries, &mut sink);
+    got == Err(WriteFault) && sink.written() == written.as_bytes()
+}
+
 #[test]
 fn stops_at_a_write_fault(rt: HostRuntime) -> Result<(), Fail> {
-    let warnings = [Warning {
-        line: 6,
-        code: false,
-    }];
-    let word = Vec::from_slice(rt.alloc(), b"ab")?;
-    let entries = [BackUp { state: 3, word }];
+    let warnings = warnings_of(rt.alloc(), &[(6, false)])?;
+    let entries = entries_of(rt.alloc(), &[(3, b"ab")])?;
     let rows: &[(usize, &str, &str)] = &[
         (0, "", ""),
         (7, "lex: li", "state 3"),
@@ -70,14 +101,14 @@ fn stops_at_a_write_fault(rt: HostRuntime) -> Result<(), Fail> {
         (20, "lex: line 6: warning", "state 3 after \"ab\"\ns"),
     ];
     for &(room, warned, backed) in rows {
-        let mut sink = MemorySink::failing_after(rt.alloc(), room);
-        let got = write_warnings(&warnings, &mut sink);
-        assert!(rt; got == Err(WriteFault), "{got:?}");
-        assert_eq!(rt; sink.written(), warned.as_bytes());
-        let mut sink = MemorySink::failing_after(rt.alloc(), room);
-        let got = write_backup(&entries, &mut sink);
-        assert!(rt; got == Err(WriteFault), "{got:?}");
-        assert_eq!(rt; sink.written(), backed.as_bytes());
+        assert!(rt;
+            are_warned_within(rt.alloc(), &warnings, room, warned),
+            "{room}"
+        );
+        assert!(rt;
+            are_listed_within(rt.alloc(), &entries, room, backed),
+            "{room}"
+        );
     }
     Ok(())
 }

@@ -10,8 +10,11 @@ use lexkit::{
 use lexspec::ReadOptions;
 use std::alloc::Global;
 
-// Whether letters stand for both cases, a specification, an input, and what is written.
-const SCANS: [(bool, &[u8], &[u8], &[u8]); 30] = [
+/// Whether letters stand for both cases, a specification, an input, and what is written.
+type Scanned = (bool, &'static [u8], &'static [u8], &'static [u8]);
+
+// Of patterns.
+const PATTERNS: &[Scanned] = &[
     (
         false,
         b"%%\nif printf(\"K\");\niffy printf(\"L\");\n",
@@ -86,6 +89,10 @@ const SCANS: [(bool, &[u8], &[u8], &[u8]); 30] = [
         b"bac bababac",
         b"X bX",
     ),
+];
+
+// Of actions and of whole files.
+const FILES: &[Scanned] = &[
     (
         false,
         b"%%\n[a-z]+ printf(\"<%s>\", yytext);\n",
@@ -129,12 +136,24 @@ const SCANS: [(bool, &[u8], &[u8], &[u8]); 30] = [
     ),
 ];
 
+/// Whether a scan writes what the row says.
+fn scans_so(alloc: Global, row: &Scanned) -> bool {
+    let (fold, text, input, want) = *row;
+    let how = ReadOptions { fold, ..PLAIN };
+    scanned(alloc, text, how, input, Failing::Never).does(Ok(0), want)
+}
+
 #[test]
-fn scans_by_a_text(rt: HostRuntime) {
-    for &(fold, text, input, want) in &SCANS {
-        let how = ReadOptions { fold, ..PLAIN };
-        let scan = scanned(rt.alloc(), text, how, input, Failing::Never);
-        assert!(rt; scan.does(Ok(0), want));
+fn scans_by_patterns(rt: HostRuntime) {
+    for row in PATTERNS {
+        assert!(rt; scans_so(rt.alloc(), row), "{:?}", row.1);
+    }
+}
+
+#[test]
+fn scans_by_files(rt: HostRuntime) {
+    for row in FILES {
+        assert!(rt; scans_so(rt.alloc(), row), "{:?}", row.1);
     }
 }
 
@@ -176,23 +195,33 @@ fn stops_at_faults(rt: HostRuntime) {
     assert!(rt; scan.does(Err(ScanError::Run(RunError::Write)), b"K"));
 }
 
-/// The stack holds 255 conditions; a push past them ends the scan, and so does a pop where there is none.
+const NO_STACK: Result<u8, ScanError> = Err(ScanError::Run(RunError::Stack));
+
+/// The stack holds 255 conditions; a push past them ends the scan.
 #[test]
-fn stops_at_faults_of_the_stack(rt: HostRuntime) {
+fn stops_at_a_push_past_the_stack(rt: HostRuntime) {
     const LETTERS: [u8; 256] = [b'a'; 256];
-    let stack = Err(ScanError::Run(RunError::Stack));
     let scan = scanned(rt.alloc(), PUSHES, PLAIN, &LETTERS[..255], Failing::Never);
     assert!(rt; scan.does(Ok(0), b""));
     let scan = scanned(rt.alloc(), PUSHES, PLAIN, &LETTERS, Failing::Never);
-    assert!(rt; scan.does(stack, b""));
+    assert!(rt; scan.does(NO_STACK, b""));
+}
+
+/// A pop where the stack has none ends the scan.
+#[test]
+fn stops_at_a_pop_of_an_empty_stack(rt: HostRuntime) {
     let scan = scanned(rt.alloc(), POPS, PLAIN, b"xa", Failing::Never);
-    assert!(rt; scan.does(stack, b"xA"));
+    assert!(rt; scan.does(NO_STACK, b"xA"));
     let scan = scanned(rt.alloc(), POPS, PLAIN, b"a", Failing::Flush);
     assert!(rt; scan.answer == Err(ScanError::Run(RunError::Write)));
+}
+
+#[test]
+fn stops_at_such_a_pop_by_a_table_file(rt: HostRuntime) {
     match file_of(rt.alloc(), POPS, PLAIN) {
         Some(file) => {
             let scan = scanned_by_table(rt.alloc(), file.written(), b"xa");
-            assert!(rt; scan.does(stack, b"xA"));
+            assert!(rt; scan.does(NO_STACK, b"xA"));
         }
         None => assert!(rt; false),
     }
@@ -203,7 +232,7 @@ const PUSHES: &[u8] = b"%option stack\n%%\na yy_push_state(0);\n";
 const POPS: &[u8] = b"%option stack\n%%\na printf(\"A\"); yy_pop_state(); printf(\"B\");\n";
 
 // A text that is refused, the line, and what is reported of it.
-const REFUSALS: [(&[u8], u32, SpecErrorKind); 12] = [
+const REFUSALS: &[(&[u8], u32, SpecErrorKind)] = &[
     (b"", 1, SpecErrorKind::NoRulesSection),
     (b"\n\n", 3, SpecErrorKind::NoRulesSection),
     (b"\nD\n%%\n", 2, SpecErrorKind::BadDefinitionLine),
@@ -235,7 +264,7 @@ const BAD_INTERVAL: SpecErrorKind = SpecErrorKind::Pattern(PatternError {
 
 #[test]
 fn refuses_by_line(rt: HostRuntime) {
-    for &(text, line, kind) in &REFUSALS {
+    for &(text, line, kind) in REFUSALS {
         let scan = scanned(rt.alloc(), text, PLAIN, b"a", Failing::Never);
         let error = GenError::Spec(SpecError { line, kind });
         assert!(rt; scan.answer == Err(ScanError::Generate(error)));

@@ -2,7 +2,7 @@
 use crate::row::PLAIN;
 use crate::scanning::{file_of, scanned_by_table};
 use crate::tests::conditions;
-use lexkit::{MemorySink, ScanError, TableError, WriteFault, read_tables, write_tables};
+use lexkit::{MemorySink, ScanError, TableError, Tables, WriteFault, read_tables, write_tables};
 use std::alloc::{AllocError, Global};
 use std::test::Fail;
 
@@ -112,32 +112,34 @@ fn rewritten(alloc: Global, bytes: &[u8]) -> Result<MemorySink, TableError> {
     }
 }
 
+/// Whether a table has so many conditions, rules and classes.
+fn counts(tables: &Tables, conditions: usize, rules: usize, classes: u32) -> bool {
+    let parts = tables.parts();
+    parts.conditions.len() == conditions && parts.rules.len() == rules && parts.classes == classes
+}
+
+/// Whether a table has so many rows, and these two columns of slots.
+fn has_slots(tables: &Tables, rows: usize, checks: &[u32], nexts: &[u32]) -> bool {
+    let parts = tables.parts();
+    parts.rows.len() == rows && parts.checks.as_slice() == checks && parts.nexts.as_slice() == nexts
+}
+
+#[test]
+fn a_file_is_read(rt: HostRuntime) -> Result<(), Fail> {
+    let worked = worked(rt.alloc())?;
+    let tables = read_tables(rt.alloc(), &worked)?;
+    assert!(rt; counts(&tables, 1, 2, 4));
+    let checks = [1, 2, 3, 1, 3, 4, 0, 0, 0];
+    assert!(rt; has_slots(&tables, 5, &checks, &[0, 0, 0, 3, 4, 0, 0, 0, 0]));
+    Ok(())
+}
+
 #[test]
 fn files_are_read_and_written(rt: HostRuntime) -> Result<(), Fail> {
-    let alloc = rt.alloc();
-    let worked = worked(alloc)?;
-    assert_eq!(rt; worked.len(), 471);
-    let tables = read_tables(alloc, &worked)
-        .ok()
-        .ok_or("the file is a table's")?;
-    let parts = tables.parts();
-    assert_eq!(rt; parts.conditions.len(), 1);
-    assert_eq!(rt; parts.rules.len(), 2);
-    assert_eq!(rt; parts.classes, 4);
-    assert_eq!(rt; parts.rows.len(), 5);
-    assert_eq!(rt;
-        parts.checks.as_slice(),
-        [1, 2, 3, 1, 3, 4, 0, 0, 0].as_slice()
-    );
-    assert_eq!(rt;
-        parts.nexts.as_slice(),
-        [0, 0, 0, 3, 4, 0, 0, 0, 0].as_slice()
-    );
-    assert!(rt; is_rewritten(alloc, &worked));
-
-    let empty = plain(alloc, 0, b"")?;
-    assert_eq!(rt; empty.len(), 317);
-    assert!(rt; is_rewritten(alloc, &empty));
+    let worked = worked(rt.alloc())?;
+    assert!(rt; worked.len() == 471 && is_rewritten(rt.alloc(), &worked));
+    let empty = plain(rt.alloc(), 0, b"")?;
+    assert!(rt; empty.len() == 317 && is_rewritten(rt.alloc(), &empty));
     Ok(())
 }
 
@@ -153,9 +155,14 @@ fn no_file_is_a_prefix_of_another(rt: HostRuntime) -> Result<(), Fail> {
     Ok(())
 }
 
+/// Whether the file of the two rules is refused so, with other bytes from this offset on.
+fn is_refused(alloc: Global, at: usize, new: &[u8], error: TableError) -> Result<bool, AllocError> {
+    let bytes = changed(alloc, at, new)?;
+    Ok(refusal(alloc, &bytes) == Some(error))
+}
+
 #[test]
-fn changed_fields_are_named(rt: HostRuntime) -> Result<(), Fail> {
-    let alloc = rt.alloc();
+fn changed_numbers_are_named(rt: HostRuntime) -> Result<(), Fail> {
     let numbers: &[(usize, u32)] = &[
         (8, 0),
         (8, 256),
@@ -185,9 +192,19 @@ fn changed_fields_are_named(rt: HostRuntime) -> Result<(), Fail> {
         (451, 1),
     ];
     for &(at, number) in numbers {
-        let bytes = changed(alloc, at, &number.to_be_bytes())?;
-        assert_eq!(rt; refusal(alloc, &bytes), Some(TableError::BadField(at)));
+        let refused = is_refused(
+            rt.alloc(),
+            at,
+            &number.to_be_bytes(),
+            TableError::BadField(at),
+        )?;
+        assert!(rt; refused, "{number} at {at}");
     }
+    Ok(())
+}
+
+#[test]
+fn changed_fields_are_named(rt: HostRuntime) -> Result<(), Fail> {
     let single: &[(usize, u8, TableError)] = &[
         (0, b'l', TableError::BadMagic),
         (7, 3, TableError::BadVersion),
@@ -199,13 +216,21 @@ fn changed_fields_are_named(rt: HostRuntime) -> Result<(), Fail> {
         (100, 4, TableError::BadField(100)),
     ];
     for &(at, byte, want) in single {
-        let bytes = changed(alloc, at, &[byte])?;
-        assert_eq!(rt; refusal(alloc, &bytes), Some(want));
+        assert!(rt;
+            is_refused(rt.alloc(), at, &[byte], want)?,
+            "{byte} at {at}"
+        );
     }
-    let longest = changed(alloc, 41, b"\x01\0\0\xff\xff")?;
-    assert!(rt; is_rewritten(alloc, &longest));
-    let longer = changed(alloc, 41, b"\x01\0\x01\0\0")?;
-    assert_eq!(rt; refusal(alloc, &longer), Some(TableError::BadField(42)));
+    Ok(())
+}
+
+/// The greatest number that a cut may have, and one more.
+#[test]
+fn a_cut_has_a_greatest_number(rt: HostRuntime) -> Result<(), Fail> {
+    let longest = changed(rt.alloc(), 41, b"\x01\0\0\xff\xff")?;
+    assert!(rt; is_rewritten(rt.alloc(), &longest));
+    let error = TableError::BadField(42);
+    assert!(rt; is_refused(rt.alloc(), 41, b"\x01\0\x01\0\0", error)?);
     Ok(())
 }
 
@@ -236,13 +261,8 @@ fn the_greatest_counts_are_read(rt: HostRuntime) -> Result<(), Fail> {
     let text = greatest(alloc)?;
     let sink = file_of(alloc, &text, PLAIN).ok_or("the file is written")?;
     let file = sink.written();
-    let tables = read_tables(alloc, file)
-        .ok()
-        .ok_or("the file is a table's")?;
-    let parts = tables.parts();
-    assert_eq!(rt; parts.conditions.len(), 255);
-    assert_eq!(rt; parts.rules.len(), 4_096);
-    assert_eq!(rt; parts.classes, 256);
+    let tables = read_tables(alloc, file)?;
+    assert!(rt; counts(&tables, 255, 4_096, 256));
     assert!(rt; is_rewritten(alloc, file));
     Ok(())
 }
@@ -271,15 +291,15 @@ fn the_first_fault_is_named(rt: HostRuntime) -> Result<(), Fail> {
     assert_eq!(rt; refusal(alloc, b""), Some(TableError::Truncated));
     assert_eq!(rt; refusal(alloc, b"XYZ"), Some(TableError::Truncated));
     assert_eq!(rt; refusal(alloc, b"XYZXYZ"), Some(TableError::BadMagic));
-    let bytes = changed(alloc, 100, &[4])?;
-    for (n, _) in bytes.iter().enumerate() {
-        if n == 200 {
-            assert_eq!(rt;
-                refusal(alloc, &bytes[..n]),
-                Some(TableError::BadField(100))
-            );
-        }
-    }
+    Ok(())
+}
+
+/// A fault before the place where the file is cut short is the one that is named.
+#[test]
+fn the_fault_before_the_end_is_named(rt: HostRuntime) -> Result<(), Fail> {
+    let bytes = changed(rt.alloc(), 100, &[4])?;
+    let front = bytes.get(..200).ok_or("the file is longer")?;
+    assert_eq!(rt; refusal(rt.alloc(), front), Some(TableError::BadField(100)));
     Ok(())
 }
 
@@ -394,17 +414,18 @@ fn accepted_rules_ascend(rt: HostRuntime) -> Result<(), Fail> {
     Ok(())
 }
 
+/// Whether a sink that takes just these bytes refuses the table, and has them.
+fn fills_a_sink(alloc: Global, tables: &Tables, prefix: &[u8]) -> bool {
+    let mut sink = MemorySink::failing_after(alloc, prefix.len());
+    write_tables(tables, &mut sink) == Err(WriteFault) && sink.written() == prefix
+}
+
 #[test]
 fn a_prefix_is_written(rt: HostRuntime) -> Result<(), Fail> {
-    let alloc = rt.alloc();
-    let worked = worked(alloc)?;
-    let tables = read_tables(alloc, &worked)
-        .ok()
-        .ok_or("the file is a table's")?;
+    let worked = worked(rt.alloc())?;
+    let tables = read_tables(rt.alloc(), &worked)?;
     for (n, _) in worked.iter().enumerate() {
-        let mut sink = MemorySink::failing_after(alloc, n);
-        assert!(rt; write_tables(&tables, &mut sink) == Err(WriteFault));
-        assert_eq!(rt; sink.written(), &worked[..n]);
+        assert!(rt; fills_a_sink(rt.alloc(), &tables, &worked[..n]), "{n}");
     }
     Ok(())
 }

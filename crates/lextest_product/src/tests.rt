@@ -98,12 +98,20 @@ fn scans_as_worked(rt: HostRuntime) {
 
 #[test]
 fn scans_as_flex_does(rt: HostRuntime) {
-    assert_rows(&rt, rt.alloc(), PLAIN, examples::EXAMPLES);
+    for &rows in &examples::examples() {
+        assert_rows(&rt, rt.alloc(), PLAIN, rows);
+    }
 }
 
 #[test]
 fn scans_as_the_manual_says(rt: HostRuntime) {
-    assert_rows(&rt, rt.alloc(), PLAIN, manual::EXAMPLES);
+    for &rows in &manual::examples() {
+        assert_rows(&rt, rt.alloc(), PLAIN, rows);
+    }
+}
+
+#[test]
+fn scans_as_the_manual_says_of_flags_and_of_flex(rt: HostRuntime) {
     assert_rows(&rt, rt.alloc(), PLAIN, manual::DIFFERENCES);
     assert_rows(&rt, rt.alloc(), FOLD, manual::FOLDED);
     assert_rows(&rt, rt.alloc(), POSIX, manual::SERIES);
