@@ -1,2 +1,3 @@
 pub mod Lists
 pub mod Asked
+pub mod Starting

@@ -1,6 +1,6 @@
 -- Two lists that are gone over side by side.
-use Rattle.std.proofs.Common.{◌≡◌, ℕ, ◌+◌, ◌<◌, List, [], ◌∷◌, ◌++◌, length, take, get_or, sym, ◌∙◌, ap, arith}
-use Rattle.std.specs.Prelude.{map}
+use Rattle.std.proofs.Common.{◌≡◌, ℕ, zero, suc, ◌+◌, ◌<◌, ◌⊎◌, inl, inr, Some, List, [], ◌∷◌, ◌++◌, length, take, get_or, refl, sym, ◌∙◌, ap, arith}
+use Rattle.std.specs.Prelude.{map, slice_get}
 use Rattle.std.proofs.lemmas.List.{take_more, get_or-map, length-map}
 
 module _ {X Y Z : Type 0} (f : X → Z) (g : Y → Z) (xs : List X) (ys : List Y) (i : ℕ) (d : X) (e : Y) (in_xs : i < length xs) (in_ys : i < length ys) where
@@ -13,3 +13,26 @@ module _ {X Y Z : Type 0} (f : X → Z) (g : Y → Z) (xs : List X) (ys : List Y
   -- equal lists have equal elements
   pub same_at : map f xs ≡ map g ys → f (get_or xs i d) ≡ g (get_or ys i e)
   same_at same = sym (get_or-map f xs i d (f d) in_xs) ∙ ap (λ l. get_or l i (f d)) same ∙ get_or-map g ys i e (f d) in_ys
+
+-- an element of a list that has grown by one
+pub before_last : {X : Type 0} (xs : List X) (y : X) (i : ℕ) (x : X) → slice_get xs i ≡ Some x → slice_get (xs ++ y ∷ []) i ≡ Some x
+before_last [] y i x at = absurd cc
+before_last (z ∷ xs) y zero x at = at
+before_last (z ∷ xs) y (suc i) x at = before_last xs y i x at
+
+pub at_last : {X : Type 0} (xs : List X) (y : X) → slice_get (xs ++ y ∷ []) (length xs) ≡ Some y
+at_last [] y = refl
+at_last (z ∷ xs) y = at_last xs y
+
+pub last_or_before : {X : Type 0} (xs : List X) (y : X) (i : ℕ) (x : X) → slice_get (xs ++ y ∷ []) i ≡ Some x → (slice_get xs i ≡ Some x) ⊎ ((i ≡ length xs) × (x ≡ y))
+last_or_before [] y zero x at = inr (refl, cc)
+last_or_before [] y (suc i) x at = absurd cc
+last_or_before (z ∷ xs) y zero x at = inl at
+last_or_before (z ∷ xs) y (suc i) x at = elim (last_or_before xs y i x at) [ inl a ↦ inl a | inr b ↦ inr (ap suc b.0, b.1) ]
+
+-- one element at a place
+pub one_at : {X : Type 0} (xs : List X) (i : ℕ) (x y : X) → slice_get xs i ≡ Some x → slice_get xs i ≡ Some y → x ≡ y
+one_at xs i x y p q = some_same (sym p ∙ q)
+  where
+    some_same : Some x ≡ Some y → x ≡ y
+    some_same e = cc
