@@ -36,3 +36,9 @@ one_at xs i x y p q = some_same (sym p ∙ q)
   where
     some_same : Some x ≡ Some y → x ≡ y
     some_same e = cc
+
+-- inside of a list no default is used
+pub any_default : {X : Type 0} (xs : List X) (i : ℕ) (d e : X) → i < length xs → get_or xs i d ≡ get_or xs i e
+any_default [] i d e lt = absurd (omega (arith, lt))
+any_default (x ∷ xs) zero d e lt = refl
+any_default (x ∷ xs) (suc i) d e lt = any_default xs i d e (omega (arith, lt))

@@ -90,3 +90,42 @@ fn next_pair<A: Machine, B: Machine>(
         from: From::Byte { before, byte },
     }
 }
+
+/// Finds the pairs to which each byte leads from the pair at this place. Answers the first byte after which the machines do not do
+/// the same, where there is one.
+pub(crate) fn widen<A: Machine, B: Machine>(
+    left: &A,
+    right: &B,
+    all: bool,
+    width: usize,
+    pairs: &mut Vec<Pair>,
+    seen: &mut Vec<bool>,
+    place: usize,
+) -> Result<Option<u8>, AllocError>
+    requires place { place < length pairs.old.items }
+    requires width { width ≡ B.states right.now }
+    requires searched { Searched all (A.machine left.now) (B.machine right.now) (A.states left.now) (B.states right.now)
+        pairs.old.items seen.old.items place 0 }
+    ensures longer { OnOk result (length pairs.old.items ≤ length pairs.new.items) }
+    ensures fewer { OnOk result (unseen seen.new.items + length pairs.new.items
+        ≤ unseen seen.old.items + length pairs.old.items) }
+    ensures none { IfOk result (λ found. found ≡ None → Searched all (A.machine left.now) (B.machine right.now)
+        (A.states left.now) (B.states right.now) pairs.new.items seen.new.items place 256) }
+    ensures some { IfOk result (λ found. IfSome found (λ byte. Searched all (A.machine left.now) (B.machine right.now)
+        (A.states left.now) (B.states right.now) pairs.new.items seen.new.items place byte
+        × DifferAt all (A.machine left.now) (B.machine right.now) pairs.new.items place byte)) }
+{
+    let pair = pairs[place];
+    'bytes: for byte in 0..256u32 {
+        let next = next_pair(left, right, pair, place, byte as u8);
+        let at = next.left as usize * width + next.right as usize;
+        if !seen[at] {
+            if !agree(left, right, all, next.left, next.right) {
+                return Ok(Some(byte as u8));
+            }
+            seen[at] = true;
+            pairs.push(next)?;
+        }
+    }
+    Ok(None)
+}
