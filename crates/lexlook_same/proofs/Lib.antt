@@ -2,3 +2,4 @@ pub mod Lists
 pub mod Asked
 pub mod Starting
 pub mod Widening
+pub mod Telling

@@ -42,3 +42,9 @@ pub any_default : {X : Type 0} (xs : List X) (i : ℕ) (d e : X) → i < length 
 any_default [] i d e lt = absurd (omega (arith, lt))
 any_default (x ∷ xs) zero d e lt = refl
 any_default (x ∷ xs) (suc i) d e lt = any_default xs i d e (omega (arith, lt))
+
+-- an element by its place
+pub at_place : {X : Type 0} (xs : List X) (i : ℕ) (d : X) → i < length xs → slice_get xs i ≡ Some (get_or xs i d)
+at_place [] i d lt = absurd (omega (arith, lt))
+at_place (x ∷ xs) zero d lt = refl
+at_place (x ∷ xs) (suc i) d lt = at_place xs i d (omega (arith, lt))

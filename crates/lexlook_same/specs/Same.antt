@@ -3,6 +3,7 @@ use Rattle.std.specs.Prelude.{◌≡◌, ℕ, ◌≤◌, ◌<◌, Bool, true, fa
 use Rattle.lex_semantics.specs.Text.{IsText}
 use Rattle.lex_semantics.specs.Spec.{Cut, Statement}
 use Rattle.lex_semantics.specs.Machine.{Machine, state_after}
+use Rattle.lexlook_same.specs.declared.differing.Difference.{Difference}
 
 -- what a rule does with its match: how much of it is the text, and the statements (POSIX, lex, Actions in lex)
 pub record Deed : Type 0 where
@@ -31,3 +32,11 @@ AreSame all M N = (c : ℕ) (line : Bool) (w : List ℕ) → c < M.conditions �
 -- of each match of fewer bytes than this
 abbrev pub AgreeBelow : Bool → Machine → Machine → ℕ → Type 0
 AgreeBelow all M N n = (c : ℕ) (line : Bool) (w : List ℕ) → c < M.conditions → IsText w → 1 ≤ length w → length w < n → Agree all M N c line w
+
+-- A shortest text of which they do not do the same.
+pub record Differs (all : Bool) (M N : Machine) (d : Difference) : Type 0 where
+  pub condition : d.condition < M.conditions
+  pub text : IsText d.text.items
+  pub some : 1 ≤ length d.text.items
+  pub differ : Agree all M N d.condition d.line_start d.text.items → ⊥
+  pub shortest : AgreeBelow all M N (length d.text.items)

@@ -1,11 +1,12 @@
 -- A search over pairs of states, one of each machine, from those in which matches start. (This project's.)
-use Rattle.std.specs.Prelude.{◌≡◌, ℕ, suc, ◌+◌, ◌*◌, ◌≤◌, ◌<◌, Bool, true, false, List, [], ◌∷◌, length, Some, ◌⊎◌, slice_get, slice_index_or}
+use Rattle.std.specs.Prelude.{◌≡◌, ℕ, suc, ◌+◌, ◌*◌, ◌≤◌, ◌<◌, Bool, true, false, List, [], ◌∷◌, length, reverse, Some, ◌⊎◌, slice_get, slice_index_or, ⊤}
 use Rattle.lex_semantics.specs.Text.{IsText}
-use Rattle.lex_semantics.specs.Machine.{Machine, state_after}
+use Rattle.lex_semantics.specs.Machine.{Machine, state_after, walk}
 use Rattle.lexlook_same.specs.Same.{deeds_at}
 use Rattle.lexlook_same.specs.declared.pairs.From.{From}
 use Rattle.lexlook_same.specs.declared.pairs.From.TheVariants.{Start, Byte}
 use Rattle.lexlook_same.specs.declared.pairs.Pair.{Pair}
+use Rattle.lexlook_same.specs.declared.differing.Difference.{Difference}
 
 abbrev pub HasAt : List Pair → ℕ → Pair → Type 0
 HasAt ps i p = slice_get ps i ≡ Some p
@@ -76,3 +77,26 @@ DifferAt all M N ps at b = (p : Pair) → HasAt ps at p → deeds_at all M (M.ne
 -- one list goes on where the other ends
 abbrev pub GoesOn : List Pair → List Pair → Type 0
 GoesOn old new = (i : ℕ) (p : Pair) → HasAt old i p → HasAt new i p
+
+-- a pair was come to from an earlier one
+abbrev pub IsBefore : ℕ → From → Type 0
+IsBefore i (Start c line) = ⊤
+IsBefore i (Byte j b) = j < i
+
+abbrev pub LeadBack : List Pair → Type 0
+LeadBack ps = (i : ℕ) (p : Pair) → HasAt ps i p → IsBefore i p.from
+
+-- The text leads to where the byte leads from the pair p, from the condition in which its match starts.
+pub record IsTextOf (M N : Machine) (p : Pair) (b : ℕ) (d : Difference) : Type 0 where
+  pub condition : d.condition < M.conditions
+  pub text : IsText d.text.items
+  pub left : state_after M d.condition d.line_start d.text.items ≡ M.next p.left b
+  pub right : state_after N d.condition d.line_start d.text.items ≡ N.next p.right b
+  pub size : length d.text.items ≡ suc p.far
+
+-- the same of the text so far, last byte first, from the pair q on
+pub record IsSuffixOf (M N : Machine) (p : Pair) (b : ℕ) (q : Pair) (t : List ℕ) : Type 0 where
+  pub text : IsText t
+  pub left : walk M q.left (reverse t) ≡ M.next p.left b
+  pub right : walk N q.right (reverse t) ≡ N.next p.right b
+  pub size : length t + q.far ≡ suc p.far

@@ -2,4 +2,7 @@
 #![tactic(auto)]
 
 mod deeds;
+mod differing;
 mod pairs;
+
+pub use differing::{Difference, Sizes};
