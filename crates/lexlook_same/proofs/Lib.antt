@@ -3,3 +3,4 @@ pub mod Asked
 pub mod Starting
 pub mod Widening
 pub mod Telling
+pub mod Ending

@@ -56,3 +56,33 @@ fn text_to(alloc: Global, pairs: &[Pair], place: usize, byte: u8) -> Result<Diff
         }
     }
 }
+
+/// A shortest text of which two machines do not do the same, from some condition on: of which their first accepted rules differ in
+/// what they do, or, where `all` says so, any of those that REJECT goes on to. Nothing where they do the same of each text. It takes
+/// a byte of memory for each pair of states, and 32 for each pair that a text leads to.
+pub fn tell_apart<A: Machine, B: Machine>(
+    alloc: Global,
+    left: &A,
+    right: &B,
+    all: bool,
+    sizes: Sizes,
+) -> Result<Option<Difference>, AllocError>
+    requires left_states { sizes.left ≡ A.states left.now }
+    requires right_states { sizes.right ≡ B.states right.now }
+    requires left_conditions { sizes.conditions ≡ (A.machine left.now).conditions }
+    requires right_conditions { sizes.conditions ≡ (B.machine right.now).conditions }
+    ensures same { IfOk result (λ found. found ≡ None → AreSame all (A.machine left.now) (B.machine right.now)) }
+    ensures differ { IfOk result (λ found. IfSome found (Differs all (A.machine left.now) (B.machine right.now))) }
+{
+    let width = usize::from(sizes.right);
+    let mut pairs = starts(alloc, left, right, sizes.conditions)?;
+    let mut seen = vec![in alloc; false; usize::from(sizes.left) * width]?;
+    let mut place = 0usize;
+    'pairs: while place < pairs.len() {
+        match widen(left, right, all, width, &mut pairs, &mut seen, place)? {
+            None => place += 1,
+            Some(byte) => return Ok(Some(text_to(alloc, pairs.as_slice(), place, byte)?)),
+        }
+    }
+    Ok(None)
+}

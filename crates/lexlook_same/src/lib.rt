@@ -5,4 +5,4 @@ mod deeds;
 mod differing;
 mod pairs;
 
-pub use differing::{Difference, Sizes};
+pub use differing::{Difference, Sizes, tell_apart};

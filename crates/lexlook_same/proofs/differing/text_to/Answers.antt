@@ -7,7 +7,6 @@ use Rattle.lexlook_same.proofs.Lists.{at_place, one_at}
 use Rattle.lexlook_same.proofs.Telling.{step_back, whole_text}
 use Rattle.lexlook_same.proofs.differing.text_to.Goals as goal
 
-
 pub returns-in-Start : goal.returns-in-Start
 returns-in-Start c = λ M N p linked at. whole_text M N c.args.pairs.now c.pairs.at p q c.args.byte c.pairs.text.items linked here (c.pairs.invariant.suffix M N p q linked at here) _ c.in-Start.is c.reverse.ensures.items
   where
