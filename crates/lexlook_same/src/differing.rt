@@ -20,8 +20,8 @@ pub struct Difference {
 /// How many states two machines have, and how many conditions both.
 #[derive(Clone, Copy)]
 pub struct Sizes {
-    pub left: u16,
-    pub right: u16,
+    pub left: u32,
+    pub right: u32,
     pub conditions: u8,
 }
 
@@ -74,9 +74,9 @@ pub fn tell_apart<A: Machine, B: Machine>(
     ensures same { IfOk result (λ found. found ≡ None → AreSame all (A.machine left.now) (B.machine right.now)) }
     ensures differ { IfOk result (λ found. IfSome found (Differs all (A.machine left.now) (B.machine right.now))) }
 {
-    let width = usize::from(sizes.right);
+    let width = sizes.right as usize;
     let mut pairs = starts(alloc, left, right, sizes.conditions)?;
-    let mut seen = vec![in alloc; false; usize::from(sizes.left) * width]?;
+    let mut seen = vec![in alloc; false; sizes.left as usize * width]?;
     let mut place = 0usize;
     'pairs: while place < pairs.len() {
         match widen(left, right, all, width, &mut pairs, &mut seen, place)? {

@@ -4,5 +4,7 @@
 mod deeds;
 mod differing;
 mod pairs;
+mod tables;
 
 pub use differing::{Difference, Sizes, tell_apart};
+pub use tables::{Comparison, compare};
