@@ -1,0 +1,6 @@
+pub mod Lists
+pub mod Asked
+pub mod Starting
+pub mod Widening
+pub mod Telling
+pub mod Ending

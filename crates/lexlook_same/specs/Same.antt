@@ -1,0 +1,42 @@
+-- When two machines do the same. (This project's.)
+use Rattle.std.specs.Prelude.{◌≡◌, ℕ, ◌≤◌, ◌<◌, Bool, true, false, List, length, map, take}
+use Rattle.lex_semantics.specs.Text.{IsText}
+use Rattle.lex_semantics.specs.Spec.{Cut, Statement}
+use Rattle.lex_semantics.specs.Machine.{Machine, state_after}
+use Rattle.lexlook_same.specs.declared.differing.Difference.{Difference}
+
+-- what a rule does with its match: how much of it is the text, and the statements (POSIX, lex, Actions in lex)
+pub record Deed : Type 0 where
+  pub cut : Cut
+  pub statements : List Statement
+
+abbrev pub deed_of : Machine → ℕ → Deed
+deed_of M i = record { cut = M.cut i; statements = M.statements i }
+
+-- the rules of which a match that ends in this state asks: the first; or all, where REJECT may go on to the next (flex, REJECT)
+abbrev pub rules_at : Bool → Machine → ℕ → List ℕ
+rules_at true M s = M.accepts s
+rules_at false M s = take 1 (M.accepts s)
+
+abbrev pub deeds_at : Bool → Machine → ℕ → List Deed
+deeds_at all M s = map (deed_of M) (rules_at all M s)
+
+-- both do the same of a match of this text, from its condition on
+abbrev pub Agree : Bool → Machine → Machine → ℕ → Bool → List ℕ → Type 0
+Agree all M N c line w = deeds_at all M (state_after M c line w) ≡ deeds_at all N (state_after N c line w)
+
+-- of each match
+abbrev pub AreSame : Bool → Machine → Machine → Type 0
+AreSame all M N = (c : ℕ) (line : Bool) (w : List ℕ) → c < M.conditions → IsText w → 1 ≤ length w → Agree all M N c line w
+
+-- of each match of fewer bytes than this
+abbrev pub AgreeBelow : Bool → Machine → Machine → ℕ → Type 0
+AgreeBelow all M N n = (c : ℕ) (line : Bool) (w : List ℕ) → c < M.conditions → IsText w → 1 ≤ length w → length w < n → Agree all M N c line w
+
+-- A shortest text of which they do not do the same.
+pub record Differs (all : Bool) (M N : Machine) (d : Difference) : Type 0 where
+  pub condition : d.condition < M.conditions
+  pub text : IsText d.text.items
+  pub some : 1 ≤ length d.text.items
+  pub differ : Agree all M N d.condition d.line_start d.text.items → ⊥
+  pub shortest : AgreeBelow all M N (length d.text.items)

@@ -1,0 +1,106 @@
+//! Whether two rules do the same.
+ghost use Rattle.std.specs.Prelude.{◌≡◌, ℕ, ◌<◌, true, false, map};
+ghost use Rattle.lexlook_same.specs.Same.{deed_of, rules_at, deeds_at};
+ghost use Rattle.lex_machine.specs.Views.{statement_of, cut_of};
+
+use lex_machine::{Cut, Machine, Statement};
+
+/// Whether these are the same statement.
+fn is_same(statement: &Statement, other: &Statement) -> bool
+    ensures yes { result ≡ true → statement_of statement.now ≡ statement_of other.now }
+    ensures no { result ≡ false → statement_of statement.now ≡ statement_of other.now → ⊥ }
+{
+    match statement {
+        Statement::Echo => matches!(other, Statement::Echo),
+        Statement::Print(bytes) => match other {
+            Statement::Print(others) => bytes.as_slice() == others.as_slice(),
+            _ => false,
+        },
+        Statement::Begin(condition) => match other {
+            Statement::Begin(another) => condition == another,
+            _ => false,
+        },
+        Statement::More => matches!(other, Statement::More),
+        Statement::Less(count) => match other {
+            Statement::Less(another) => count == another,
+            _ => false,
+        },
+        Statement::Reject => matches!(other, Statement::Reject),
+        Statement::End(status) => match other {
+            Statement::End(another) => status == another,
+            _ => false,
+        },
+        Statement::Push(condition) => match other {
+            Statement::Push(another) => condition == another,
+            _ => false,
+        },
+        Statement::Pop => matches!(other, Statement::Pop),
+    }
+}
+
+/// Whether these are the same statements, one after another.
+fn are_same(statements: &[Statement], others: &[Statement]) -> bool
+    ensures yes { result ≡ true → map statement_of statements.now ≡ map statement_of others.now }
+    ensures no { result ≡ false → map statement_of statements.now ≡ map statement_of others.now → ⊥ }
+{
+    if statements.len() != others.len() {
+        return false;
+    }
+    let mut at = 0usize;
+    'places: while at < statements.len() {
+        if !is_same(&statements[at], &others[at]) {
+            return false;
+        }
+        at += 1;
+    }
+    true
+}
+
+/// Whether the two rules do the same.
+fn do_same<A: Machine, B: Machine>(left: &A, rule: u32, right: &B, other: u32) -> bool
+    requires rule { rule < (A.machine left.now).count }
+    requires other { other < (B.machine right.now).count }
+    ensures yes { result ≡ true → deed_of (A.machine left.now) rule ≡ deed_of (B.machine right.now) other }
+    ensures no { result ≡ false → deed_of (A.machine left.now) rule ≡ deed_of (B.machine right.now) other → ⊥ }
+{
+    let (cut, statements) = left.rule(rule);
+    let (other_cut, others) = right.rule(other);
+    cut == other_cut && are_same(statements, others)
+}
+
+/// The rules of which a match that ends in this state asks.
+fn rules_at<M: Machine>(machine: &M, all: bool, state: u32) -> &[u32]
+    requires { state < M.states machine.now }
+    ensures { result.now ≡ rules_at all (M.machine machine.now) state }
+{
+    let rules = machine.accepts(state);
+    if all || rules.is_empty() {
+        rules
+    } else {
+        &rules[..1]
+    }
+}
+
+/// Whether both do the same of a match that ends in these states.
+pub fn agree<A: Machine, B: Machine>(left: &A, right: &B, all: bool, state: u32, other: u32) -> bool
+    requires state { state < A.states left.now }
+    requires other { other < B.states right.now }
+    ensures yes { result ≡ true
+        → deeds_at all (A.machine left.now) state ≡ deeds_at all (B.machine right.now) other }
+    ensures no { result ≡ false
+        → deeds_at all (A.machine left.now) state ≡ deeds_at all (B.machine right.now) other → ⊥ }
+{
+    let rules = rules_at(left, all, state);
+    let others = rules_at(right, all, other);
+    if rules.len() != others.len() {
+        return false;
+    }
+    let mut at = 0usize;
+    'places: while at < rules.len() {
+        if !do_same(left, rules[at], right, others[at]) {
+            return false;
+        }
+        at += 1;
+    }
+    true
+}

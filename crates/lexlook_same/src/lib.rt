@@ -1,0 +1,10 @@
+//! Says whether two machines do the same of each match, and else shows a shortest text on which they do not.
+#![tactic(auto)]
+
+mod deeds;
+mod differing;
+mod pairs;
+mod tables;
+
+pub use differing::{Difference, Sizes, tell_apart};
+pub use tables::{Comparison, compare};

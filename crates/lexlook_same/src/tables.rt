@@ -1,0 +1,78 @@
+//! Whether two tables do the same.
+ghost use Rattle.std.specs.Prelude.{◌≡◌, ℕ, ◌<◌, ◌≤◌, true, false, length, IfOk};
+ghost use Rattle.lex_machine.specs.Views.{end_action_of};
+ghost use Rattle.lextab_packed.specs.Machines.{machine_of};
+ghost use Rattle.lexlook_same.specs.Comparing.{Compares, Counts, HaveEnds};
+
+use crate::differing::{Difference, Sizes, tell_apart};
+use lex_machine::{EndAction, Machine};
+use lextab_packed::Tables;
+use std::alloc::{AllocError, Global};
+
+/// What is told of two tables.
+#[derive(Drop)]
+pub enum Comparison {
+    /// They do the same of each match, and at the end of the input.
+    Same,
+    /// One has more conditions than the other.
+    Conditions,
+    /// At the end of the input they do not do the same, in this condition.
+    Ends(u8),
+    /// Of this text they do not do the same.
+    Texts(Difference),
+}
+
+/// Whether the end actions are the same.
+fn is_end(end: &EndAction, other: &EndAction) -> bool
+    ensures yes { result ≡ true → end_action_of end.now ≡ end_action_of other.now }
+    ensures no { result ≡ false → end_action_of end.now ≡ end_action_of other.now → ⊥ }
+{
+    end.print.as_slice() == other.print.as_slice() && end.status == other.status
+}
+
+/// The first condition whose end actions are not the same.
+fn other_end(left: &Tables, right: &Tables, conditions: u8) -> Option<u8>
+    requires left { conditions ≡ (machine_of left.now).conditions }
+    requires right { conditions ≡ (machine_of right.now).conditions }
+    ensures { HaveEnds (machine_of left.now) (machine_of right.now) result }
+{
+    for condition in 0..conditions {
+        if !is_end(left.eof(condition), right.eof(condition)) {
+            return Some(condition);
+        }
+    }
+    None
+}
+
+/// Whether all rules that a state accepts count, since some rule has REJECT.
+fn counts_all(left: &Tables, right: &Tables) -> bool
+    ensures { Counts result (machine_of left.now) (machine_of right.now) }
+{
+    left.rejects() || right.rejects()
+}
+
+/// Says whether two tables do the same of each match, from each condition on, and at the end of the input. The conditions are
+/// taken in their order. Where they do not, it shows a condition, and a shortest text.
+pub fn compare(alloc: Global, left: &Tables, right: &Tables) -> Result<Comparison, AllocError>
+    ensures { IfOk result (λ told. Compares (machine_of left.now) (machine_of right.now) told) }
+{
+    let conditions = left.parts().conditions.len();
+    if conditions != right.parts().conditions.len() {
+        return Ok(Comparison::Conditions);
+    }
+    let sizes = Sizes {
+        left: left.parts().rows.len() as u32,
+        right: right.parts().rows.len() as u32,
+        conditions: conditions as u8,
+    };
+    match other_end(left, right, sizes.conditions) {
+        Some(condition) => Ok(Comparison::Ends(condition)),
+        None => {
+            let all = counts_all(left, right);
+            match tell_apart(alloc, left, right, all, sizes)? {
+                None => Ok(Comparison::Same),
+                Some(difference) => Ok(Comparison::Texts(difference)),
+            }
+        }
+    }
+}
