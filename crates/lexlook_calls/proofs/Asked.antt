@@ -6,7 +6,7 @@ use Rattle.clap.specs.declared.error.kind.ErrorKind.TheVariants as kind
 use Rattle.clap.specs.declared.parser.matches.ArgMatches.{ArgMatches}
 use Rattle.lexkit.specs.Refusal.{refusal_of}
 use Rattle.lexkit.specs.declared.args.ArgsError.TheVariants.{Usage}
-use Rattle.lexlook_calls.specs.CommandLine.{AsksFor, IsLookOf, has_help, lexlook_app}
+use Rattle.lexlook_calls.specs.LookLine.{AsksFor, IsLookOf, has_help, lexlook_app}
 use Rattle.lexlook_calls.specs.declared.args.Look.{Look}
 use Rattle.lexlook_calls.specs.declared.args.Look.TheVariants.{Help, Picture}
 

@@ -1,3 +1,3 @@
-pub mod CommandLine
+pub mod LookLine
 pub mod Errors
 pub mod Looks

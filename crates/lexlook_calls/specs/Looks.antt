@@ -44,3 +44,7 @@ Draws wrote options text s t (Ok v) = Drew wrote options text s t (Ok v)
 Draws wrote options text s t (Err (Refused e)) = Refusal options text e × (t ≡ s)
 Draws wrote options text s t (Err OutOfMemory) = Drew wrote options text s t (Err OutOfMemory)
 Draws wrote options text s t (Err Write) = Drew wrote options text s t (Err Write)
+
+-- a specification has one picture at most
+abbrev pub OnePicture : Type 0
+OnePicture = (limits limits' : Limits) (S : Spec) (a b : List ℕ) → IsPictureOf limits S a → IsPictureOf limits' S b → a ≡ b

@@ -2,7 +2,7 @@
 ghost use Rattle.std.specs.Prelude.{◌≡◌, IfErr, IfOk, None, codes, false, map, option_map, string_bytes};
 ghost use Rattle.clap.specs.Words.{app_of, first_of, found_of, rows_of, rule_of, subcommand_rows_of};
 ghost use Rattle.lexkit.specs.CommandLine.{flag_rule, has};
-ghost use Rattle.lexlook_calls.specs.CommandLine.{AsksFor, AsksToDraw, IsLookOf, has_help, lexlook_app, needed_rule};
+ghost use Rattle.lexlook_calls.specs.LookLine.{AsksFor, AsksToDraw, IsLookOf, has_help, lexlook_app, needed_rule};
 
 use clap::{Arg, ArgAction, ArgMatches, Command};
 use lexkit::ArgsError;

@@ -114,7 +114,7 @@ fn write_states<K: Sink>(
 }
 
 /// Writes the picture of an automaton in DOT. `names` has the name of each condition, and `lines` the line of each rule in the
-/// file. The dead state and the edges to it are left out. After a fault a front of the picture was written.
+/// file. The dead state and the edges to it are left out. After a fault a prefix of the picture was written.
 pub fn write_picture<K: Sink>(
     alloc: Global,
     dfa: &Dfa,

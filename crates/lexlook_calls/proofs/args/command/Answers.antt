@@ -2,7 +2,7 @@ use Rattle.std.proofs.Common.{◌≡◌, ◌∙◌, ap, ap₂, codes, rules}
 use Rattle.std.proofs.lemmas.Result.{IfOk-weaker}
 use Rattle.clap.specs.Words.{App, app_of, new_app, with_subcommand}
 use Rattle.lexkit.proofs.CommandLine.{adds_rule}
-use Rattle.lexlook_calls.specs.CommandLine.{no_subcommand, picture_app, without_help}
+use Rattle.lexlook_calls.specs.LookLine.{no_subcommand, picture_app, without_help}
 use Rattle.lexlook_calls.proofs.args.command.Goals as goal
 
 pub returns : goal.returns

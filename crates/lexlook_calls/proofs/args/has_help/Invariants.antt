@@ -1,6 +1,6 @@
 use Rattle.std.proofs.Common.{◌≡◌, drop, map}
 use Rattle.std.specs.Prelude.{string_bytes}
-use Rattle.lexlook_calls.specs.CommandLine.{has_help}
+use Rattle.lexlook_calls.specs.LookLine.{has_help}
 use Rattle.lexlook_calls.proofs.args.has_help.Given as goal
 
 abbrev pub invariant-loop-word : goal.invariant-loop-word

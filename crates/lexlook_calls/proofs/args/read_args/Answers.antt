@@ -3,7 +3,7 @@ use Rattle.std.specs.Prelude.{string_bytes}
 use Rattle.std.proofs.lemmas.Result.{IfErr-weaker, IfOk-weaker}
 use Rattle.clap.specs.Words.{app_of, is_simple_and_free}
 use Rattle.lexkit.proofs.CommandLine.{err_told}
-use Rattle.lexlook_calls.specs.CommandLine.{has_help, lexlook_app}
+use Rattle.lexlook_calls.specs.LookLine.{has_help, lexlook_app}
 use Rattle.lexlook_calls.proofs.Asked.{asked_by, asks_by, asks_for_none, lexlook_is_free}
 use Rattle.lexlook_calls.proofs.args.read_args.Goals as goal
 
