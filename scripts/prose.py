@@ -59,7 +59,8 @@ def prose(path):
 
 def main():
     found = []
-    for path in [ROOT / "README.md", *sorted((ROOT / "docs").iterdir())]:
+    pages = (page for page in sorted((ROOT / "docs").iterdir()) if page.suffix != ".svg")
+    for path in [ROOT / "README.md", *pages]:
         text, name = prose(path), path.relative_to(ROOT)
 
         def at(place):

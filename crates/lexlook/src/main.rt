@@ -1,0 +1,86 @@
+//! The program: it shows what a specification of lex does.
+#![tactic(auto)]
+
+ghost use Rattle.std.specs.Prelude.{◌≡◌, ◌≤◌};
+
+mod failure;
+mod reading;
+
+use crate::failure::Failure;
+use crate::reading::read_spec_file;
+use lexkit::{
+    ArgsError, ByteWriter, MAX_POSITIONS, MAX_STATES, Options, Sink, ToWrite, write_fault,
+};
+use lexlook_calls::{Look, draw, read_args, write_help};
+use std::io::ErrorKind;
+use std::process::ExitCode;
+use std::{env, io};
+
+/// What the command line asks for. A word that is no text is refused.
+fn look_of(rt: &HostRuntime) -> Result<Look, ArgsError> {
+    let words = match env::args(rt) {
+        Ok(words) => words,
+        Err(error) => {
+            return Err(match error.kind() {
+                ErrorKind::OutOfMemory => ArgsError::OutOfMemory,
+                _ => ArgsError::Usage,
+            });
+        }
+    };
+    let words: Vec<String> = words.skip(1).collect(rt.alloc())?;
+    read_args(rt.alloc(), words.as_slice())
+}
+
+/// How a specification is read, with the limits of lex.
+fn options_of(fold: bool, posix: bool) -> Options
+    ensures few_positions { result.limits.positions ≤ MAX_POSITIONS }
+    ensures few_states { result.limits.states ≤ MAX_STATES }
+    ensures fold { result.fold ≡ fold }
+    ensures posix { result.posix ≡ posix }
+{
+    Options {
+        fold,
+        posix,
+        ..Options::new()
+    }
+}
+
+/// Writes the help to standard output.
+fn show_help(rt: &HostRuntime) -> Result<(), Failure> {
+    let mut sink = ToWrite::new(io::writer(rt));
+    write_help(&mut sink)?;
+    sink.flush()?;
+    Ok(())
+}
+
+/// Writes the picture of a specification to standard output.
+fn show_picture(rt: &HostRuntime, text: &[u8], options: Options) -> Result<(), Failure>
+    requires few_positions { options.limits.positions ≤ MAX_POSITIONS }
+    requires few_states { options.limits.states ≤ MAX_STATES }
+{
+    let mut sink = ToWrite::new(ByteWriter::new(rt.alloc(), io::writer(rt))?);
+    draw(rt.alloc(), text, options, &mut sink)?;
+    sink.flush()?;
+    Ok(())
+}
+
+fn run(rt: &HostRuntime) -> Result<(), Failure> {
+    match look_of(rt)? {
+        Look::Help => show_help(rt),
+        Look::Picture { file, fold, posix } => {
+            let text = read_spec_file(rt, file)?;
+            show_picture(rt, text.as_slice(), options_of(fold, posix))
+        }
+    }
+}
+
+fn main(rt: HostRuntime) -> ExitCode {
+    match run(&rt) {
+        Ok(()) => ExitCode::SUCCESS,
+        Err(failure) => {
+            let fault = failure.fault();
+            let _ = write_fault(fault, &mut ToWrite::new(rt.stderr()));
+            ExitCode::from(fault.status())
+        }
+    }
+}

@@ -1,0 +1,47 @@
+//! The file that the program reads.
+ghost use Rattle.std.specs.Prelude.{◌≡◌, ◌⊎◌, IfErr};
+ghost use Rattle.lexlook.specs.Faults.{out_of_memory};
+ghost use Rattle.lexlook.specs.declared.failure.Failure.{Failure};
+
+use crate::failure::Failure;
+use lexkit::MAX_FILE_BYTES;
+use std::alloc::AllocError;
+use std::fs::File;
+use std::io;
+use std::io::{ErrorKind, Read};
+
+/// The bytes that are read of a specification at most: one more than it may have.
+const SPEC_BYTES: u64 = MAX_FILE_BYTES as u64 + 1;
+
+/// The bytes of a file, to the bound. `-` is standard input.
+fn read_file(rt: &HostRuntime, name: &str) -> io::Result<Vec<u8>> {
+    let mut text = Vec::new(rt.alloc());
+    if name == "-" {
+        rt.reader().take(SPEC_BYTES).read_to_end(&mut text)?;
+    } else {
+        File::open(rt, name)?
+            .take(SPEC_BYTES)
+            .read_to_end(&mut text)?;
+    }
+    Ok(text)
+}
+
+/// The failure that is reported for a file that cannot be read.
+fn reading_failure(error: ErrorKind, name: String) -> Failure
+    ensures { (result ≡ out_of_memory) ⊎ (result ≡ Failure.File name) }
+{
+    match error {
+        ErrorKind::OutOfMemory => Failure::from(AllocError),
+        _ => Failure::File(name),
+    }
+}
+
+/// The text of a specification file. Of a longer one than a specification may be it is one byte more.
+pub fn read_spec_file(rt: &HostRuntime, name: String) -> Result<Vec<u8>, Failure>
+    ensures { IfErr result (λ failure. (failure ≡ out_of_memory) ⊎ (failure ≡ Failure.File name)) }
+{
+    match read_file(rt, name.as_str()) {
+        Ok(text) => Ok(text),
+        Err(error) => Err(reading_failure(error.kind(), name)),
+    }
+}

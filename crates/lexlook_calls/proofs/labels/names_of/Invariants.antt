@@ -1,0 +1,7 @@
+use Rattle.std.proofs.Common.{◌≡◌, map, take}
+use Rattle.lexspec_actions.specs.Views.{condition_of}
+use Rattle.lexlook_calls.specs.Looks.{names_of}
+use Rattle.lexlook_calls.proofs.labels.names_of.Given as goal
+
+abbrev pub invariant-loop-condition : goal.invariant-loop-condition
+invariant-loop-condition l = map (λ n. n.now) l.names.items ≡ names_of (map condition_of (take l.condition-index l.conditions))

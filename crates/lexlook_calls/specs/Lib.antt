@@ -1,0 +1,3 @@
+pub mod LookLine
+pub mod Errors
+pub mod Looks

@@ -1,0 +1,63 @@
+-- What the words of the program's command line ask for.
+use Rattle.std.specs.Prelude.{◌≡◌, ℕ, ◌&&◌, ◌||◌, Bool, true, false, not, List, [], ◌∷◌, Option, Some, None, fold, codes, string_bytes}
+use Rattle.std.specs.Str.{bytes_eq}
+use Rattle.clap.specs.Words.{App, Row, Rule, Shape, Text, fault_of, first_of, new_app, new_rule, subcommand_of, with_rule, with_subcommand}
+use Rattle.clap.specs.Simple.{on_top}
+use Rattle.clap.specs.declared.builder.action.ArgAction.TheVariants.{Set}
+use Rattle.lexkit.specs.CommandLine.{flag_rule, has, is_separator}
+use Rattle.lexlook_calls.specs.declared.args.Look.{Look}
+use Rattle.lexlook_calls.specs.declared.args.Look.TheVariants.{Help, Picture}
+
+-- ---- the program's command line, in clap's terms
+
+-- a word that has to stand there
+abbrev pub needed_rule : Text → Rule
+needed_rule name = record (new_rule name) { action = Some Set; required = true }
+
+-- `-i` (105) and `-X` (88), and the file
+abbrev pub picture_rules : List Rule
+picture_rules = flag_rule (codes "fold") 105 ∷ flag_rule (codes "posix") 88 ∷ needed_rule (codes "file") ∷ []
+
+abbrev pub without_help : App → App
+without_help a = on_top (λ s. record s { disable_help_flag = true }) a
+
+-- `picture`, with what stands behind it
+abbrev pub picture_app : App
+picture_app = fold with_rule (without_help (new_app (codes "picture"))) picture_rules
+
+-- the words begin after the program's name, and name a subcommand; clap knows no help
+abbrev pub no_subcommand : App
+no_subcommand =
+    on_top (λ s. record s { no_binary_name = true; disable_help_flag = true; disable_help_subcommand = true; subcommand_required = true })
+    (new_app (codes "lexlook"))
+
+-- the program's command line
+abbrev pub lexlook_app : App
+lexlook_app = with_subcommand no_subcommand picture_app.top
+
+-- ---- what is asked for
+
+-- a word before any `--` is `--help`
+abbrev pub has_help : List Text → Bool
+has_help [] = false
+has_help (word ∷ rest) = not (is_separator word) && (bytes_eq word (codes "--help") || has_help rest)
+
+-- the picture of what is in the file, with `-i` and `-X` as they stand there
+abbrev pub AsksToDraw : List Row → Look → Type 0
+AsksToDraw met (Picture file folds series) = (Some (string_bytes file) ≡ first_of (codes "file") met)
+    × (folds ≡ has (codes "fold") met)
+    × (series ≡ has (codes "posix") met)
+AsksToDraw met Help = ⊥
+
+-- what a subcommand asks for, by its name and what stands behind it
+abbrev pub IsLookOf : Option (Text × List Row) → Look → Type 0
+IsLookOf None look = ⊥
+IsLookOf (Some p) look = (p.0 ≡ codes "picture") × AsksToDraw p.1 look
+
+-- The words ask for the help if one of them is `--help`. Else they are a line of the program's, and ask for what the
+-- subcommand does.
+abbrev pub AsksFor : List Text → Look → Type 0
+AsksFor words Help = has_help words ≡ true
+AsksFor words (Picture file folds series) = (has_help words ≡ false)
+    × (fault_of lexlook_app words ≡ [])
+    × IsLookOf (subcommand_of lexlook_app words) (Picture file folds series)

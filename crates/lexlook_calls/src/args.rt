@@ -1,0 +1,133 @@
+//! What a command line asks for.
+ghost use Rattle.std.specs.Prelude.{◌≡◌, IfErr, IfOk, None, codes, false, map, option_map, string_bytes};
+ghost use Rattle.clap.specs.Words.{app_of, first_of, found_of, rows_of, rule_of, subcommand_rows_of};
+ghost use Rattle.lexkit.specs.CommandLine.{flag_rule, has};
+ghost use Rattle.lexlook_calls.specs.LookLine.{AsksFor, AsksToDraw, IsLookOf, has_help, lexlook_app, needed_rule};
+
+use clap::{Arg, ArgAction, ArgMatches, Command};
+use lexkit::ArgsError;
+use std::alloc::{AllocError, Global};
+
+/// What the program is to show.
+#[derive(Debug, Drop)]
+pub enum Look {
+    /// How the program is called.
+    Help,
+    /// The picture of the automaton of the specification in this file. `-` is standard input.
+    Picture {
+        file: String,
+        /// Letters of patterns stand for both cases.
+        fold: bool,
+        /// Intervals apply to series.
+        posix: bool,
+    },
+}
+
+/// Reads the words after the program's name: `picture FILE` with `-i` or `-X` or without, or any words with `--help`. Flags
+/// may be repeated. Words that it refuses by `Usage` ask for nothing.
+pub fn read_args(alloc: Global, words: &[String]) -> Result<Look, ArgsError>
+    ensures asked { IfOk result (AsksFor (map string_bytes words.now)) }
+    ensures refused { IfErr result (λ e. e ≡ ArgsError.Usage
+        → (look : Look) → AsksFor (map string_bytes words.now) look → ⊥) }
+{
+    if has_help(words) {
+        return Ok(Look::Help);
+    }
+    let command = command(alloc)?;
+    let matches = command.try_get_matches_from(words)?;
+    look_of(alloc, &matches)
+}
+
+/// Whether some word before any `--` is `--help`.
+fn has_help(words: &[String]) -> bool
+    ensures { result ≡ has_help (map string_bytes words.now) }
+{
+    for word in words {
+        let text = word.as_str();
+        if text == "--" {
+            return false;
+        }
+        if text == "--help" {
+            return true;
+        }
+    }
+    false
+}
+
+/// The words that the program knows.
+fn command<'a>(alloc: Global) -> Result<Command<'a>, AllocError>
+    ensures { IfOk result (λ c. app_of c ≡ lexlook_app) }
+{
+    let picture = Command::new(alloc, "picture")
+        .disable_help_flag(true)
+        .arg(flag(alloc, "fold", 'i'))?
+        .arg(flag(alloc, "posix", 'X'))?
+        .arg(file_word(alloc))?;
+    Command::new(alloc, "lexlook")
+        .no_binary_name(true)
+        .disable_help_flag(true)
+        .disable_help_subcommand(true)
+        .subcommand_required(true)
+        .subcommand(picture)
+}
+
+/// A flag, which may be repeated.
+fn flag<'a>(alloc: Global, id: &'a str, letter: char) -> Arg<'a>
+    ensures rule { rule_of result ≡ flag_rule id.entry.now letter }
+    ensures global { result.global ≡ false }
+{
+    Arg::new(alloc, id).short(letter).action(ArgAction::Count)
+}
+
+/// The word that names the file.
+fn file_word<'a>(alloc: Global) -> Arg<'a>
+    ensures rule { rule_of result ≡ needed_rule (codes "file") }
+    ensures global { result.global ≡ false }
+{
+    Arg::new(alloc, "file")
+        .required(true)
+        .action(ArgAction::Set)
+}
+
+/// What the matches ask for.
+fn look_of(alloc: Global, matches: &ArgMatches<'_>) -> Result<Look, ArgsError>
+    ensures asked { IfOk result (IsLookOf (subcommand_rows_of matches.now)) }
+    ensures refused { IfErr result (λ e. e ≡ ArgsError.Usage
+        → (look : Look) → IsLookOf (subcommand_rows_of matches.now) look → ⊥) }
+{
+    match matches.subcommand() {
+        Some((name, found)) if name == "picture" => picture_look(alloc, found),
+        _ => Err(ArgsError::Usage),
+    }
+}
+
+/// The picture that the matches behind its name ask for.
+fn picture_look(alloc: Global, found: &ArgMatches<'_>) -> Result<Look, ArgsError>
+    ensures asked { IfOk result (AsksToDraw (rows_of (found_of found.now))) }
+    ensures refused { IfErr result (λ e. e ≡ ArgsError.Usage
+        → first_of (codes "file") (rows_of (found_of found.now)) ≡ None) }
+{
+    let file = match file_of(found) {
+        None => return Err(ArgsError::Usage),
+        Some(file) => file,
+    };
+    Ok(Look::Picture {
+        file: String::from_str(alloc, file)?,
+        fold: has(found, "fold"),
+        posix: has(found, "posix"),
+    })
+}
+
+/// Whether the flag stands there.
+fn has(found: &ArgMatches<'_>, flag: &str) -> bool
+    ensures { result ≡ has flag.now (rows_of (found_of found.now)) }
+{
+    found.get_count(flag) > 0
+}
+
+/// The file that is named there.
+fn file_of<'a>(found: &ArgMatches<'a>) -> Option<&'a str>
+    ensures { option_map (λ s. s.now) result ≡ first_of (codes "file") (rows_of (found_of found.now)) }
+{
+    found.get_str("file")
+}

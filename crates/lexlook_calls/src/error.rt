@@ -1,0 +1,34 @@
+//! Why nothing is shown, or not all.
+
+ghost use Rattle.std.specs.Prelude.{◌≡◌};
+
+use lexkit::GenError;
+use lexlook_pictures::PictureError;
+use thiserror::Error;
+
+/// Why nothing is shown, or not all.
+#[derive(Clone, Copy, Debug, PartialEq, Eq, Error)]
+pub enum LookError {
+    /// No automaton was made, and nothing was written.
+    #[error("{0}")]
+    Refused(GenError),
+    /// Memory ran out while it was written.
+    #[error("out of memory")]
+    OutOfMemory,
+    /// It could not be written.
+    #[error("write fault")]
+    Write,
+}
+
+impl From<PictureError> for LookError {
+    ghost use Rattle.lexlook_calls.specs.Errors.{told_of};
+
+    ghost from_gives = { λ e told. told ≡ told_of e };
+
+    fn from(error: PictureError) -> LookError {
+        match error {
+            PictureError::OutOfMemory => LookError::OutOfMemory,
+            PictureError::Write => LookError::Write,
+        }
+    }
+}

@@ -1,0 +1,21 @@
+//! How the program is called.
+ghost use Rattle.std.specs.Prelude.{◌≡◌, ◌+◌, ◌-◌, ◌^◌, ◌<◌};
+ghost use Rattle.lex_io.specs.Sink.{Appended, fault_count};
+
+use lexkit::{Sink, WriteFault};
+
+/// The subcommands, a line each.
+const HELP: &str = "lexlook shows what a specification of lex does.\n\n\
+    lexlook picture FILE [-i] [-X]\n    \
+    the automaton of the specification, as a picture for dot\n\n\
+    FILE may be - for standard input. With -i letters stand for both cases. With -X an interval\n\
+    applies to the whole series to its left.\n";
+
+/// Writes the lines of the help. It takes no memory.
+pub fn write_help<K: Sink>(sink: &mut K) -> Result<(), WriteFault>
+    requires { K.failures sink.old < 2 ^ 64 - 1 }
+    ensures bytes { Appended (λ xs. K.wrote sink.old xs sink.new) HELP.now result }
+    ensures failures { K.failures sink.new ≡ K.failures sink.old + fault_count result }
+{
+    sink.put(HELP.as_bytes())
+}

@@ -1,0 +1,19 @@
+//! What the program lexlook calls: what its command line asks for, and what is written.
+#![tactic(auto)]
+
+mod args;
+mod drawing;
+mod error;
+mod help;
+mod labels;
+mod laws;
+mod least;
+
+pub use args::{Look, read_args};
+pub use drawing::draw;
+pub use error::LookError;
+pub use help::write_help;
+pub use laws::one_picture;
+
+#[cfg(test)]
+mod tests;

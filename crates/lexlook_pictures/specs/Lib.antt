@@ -1,0 +1,4 @@
+pub mod Classes
+pub mod Sets
+pub mod Pictures
+pub mod Faults

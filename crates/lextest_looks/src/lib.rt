@@ -1,0 +1,5 @@
+//! Tests over what is told of tables. Expected texts are worked by hand.
+#![tactic(auto)]
+
+#[cfg(test)]
+mod comparing;
