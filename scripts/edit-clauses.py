@@ -36,21 +36,21 @@ def clause_of(goal):
 
 
 def edits(log):
-    """For each edit its crate, its name, the function that is refused, and the clause."""
+    """For each edit its crate, its name, the file and the function that are refused, and the clause."""
     with open(log, encoding="utf-8", errors="replace") as lines:
         found = [REFUSED.search(line) for line in lines]
     for crate, name, message in sorted({it.groups() for it in found if it}):
         place, goal = PLACE.search(message), GOAL.search(message)
         function = function_at(crate, place[1], int(place[2])) if place else ""
-        yield crate, name, function, clause_of(goal[1]) if goal else message[:60]
+        yield crate, name, place[1] if place else "", function, clause_of(goal[1]) if goal else message[:60]
 
 
 def main():
     log, ways = sys.argv[1], sys.argv[2:]
     rows = list(edits(log))
-    count = collections.Counter((crate, function, clause) for crate, _, function, clause in rows if function)
-    for crate, name, function, clause in rows:
-        if "--twice" not in ways or count[crate, function, clause] > 1:
+    count = collections.Counter((crate, file, function, clause) for crate, _, file, function, clause in rows if function)
+    for crate, name, file, function, clause in rows:
+        if "--twice" not in ways or count[crate, file, function, clause] > 1:
             print(f"{crate}\t{name}\t{function}\t{clause}")
 
 
