@@ -1,5 +1,5 @@
 -- Pictures that were written, whole or not.
-use Rattle.std.proofs.Common.{◌≡◌, ℕ, List, Ok, Err, refl}
+use Rattle.std.proofs.Common.{ℕ, List, Ok, Err, refl}
 use Rattle.lex_io.specs.Sink.{Appended}
 use Rattle.lex_semantics.specs.Spec.{Spec}
 use Rattle.lexspec.specs.Files.{SpellsSpec}

@@ -1,5 +1,5 @@
 -- Pictures of a specification are the same.
-use Rattle.std.proofs.Common.{◌≡◌, ℕ, zero, suc, ◌<◌, ◌≤◌, ◌-◌, Bool, true, false, List, [], ◌∷◌, ◌++◌, length, map, inl, inr, refl, sym, ap, subst, ◌∙◌, arith, codes, flat_map}
+use Rattle.std.proofs.Common.{◌≡◌, ℕ, zero, suc, ◌<◌, ◌≤◌, ◌-◌, Bool, true, false, List, [], ◌∷◌, ◌++◌, length, map, inl, inr, refl, sym, ap, ◌∙◌, arith, codes, flat_map}
 use Rattle.std.specs.Prelude.{slice_index, slice_index_or}
 use Rattle.std.specs.List.{range_with_len}
 use Rattle.std.proofs.lemmas.Bool.{cases_lt}
@@ -16,7 +16,7 @@ use Rattle.lexkit.specs.Generated.{IsLeastOf}
 use Rattle.lexkit.proofs.Ordered.{one_order}
 use Rattle.lexkit.proofs.SameTables.{accepted, ordered}
 use Rattle.lexlook_pictures.specs.Pictures.{edges, head, node_line, picture, starts}
-use Rattle.lexlook_calls.specs.Looks.{OnePicture, picture_of}
+use Rattle.lexlook_calls.specs.Looks.{OnePicture}
 
 past : (xs : List ℕ) (i : ℕ) → length xs ≤ i → slice_index xs i ≡ 0
 past [] i h = refl

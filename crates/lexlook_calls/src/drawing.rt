@@ -1,5 +1,5 @@
 //! The picture of the automaton of a specification.
-ghost use Rattle.std.specs.Prelude.{◌≡◌, ◌≤◌, ◌+◌, ◌-◌, ◌^◌, ◌<◌, ℕ, List, length};
+ghost use Rattle.std.specs.Prelude.{◌≡◌, ◌≤◌, ◌+◌, ◌-◌, ◌^◌, ◌<◌, ℕ, length};
 ghost use Rattle.lex_io.specs.Sink.{Appended};
 ghost use Rattle.lex_semantics.specs.Limits.{max_positions, max_states};
 ghost use Rattle.lex_semantics.specs.Text.{Among};

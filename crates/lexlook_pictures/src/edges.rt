@@ -1,5 +1,5 @@
 //! The edges of a state.
-ghost use Rattle.std.specs.Prelude.{◌≡◌, ℕ, ◌+◌, ◌<◌, ◌≤◌, ◌==◌, false, ◌++◌, length, slice_index, OnOk};
+ghost use Rattle.std.specs.Prelude.{◌≡◌, ℕ, ◌+◌, ◌<◌, ◌≤◌, ◌==◌, ◌++◌, length, slice_index, OnOk};
 ghost use Rattle.lexlook_pictures.specs.Pictures.{edge, edge_at, edges, leads_below};
 
 use crate::adding::{add, add_number};

@@ -9,8 +9,10 @@ use thiserror::Error;
 /// Why a picture is not written to its end.
 #[derive(Clone, Copy, Debug, PartialEq, Eq, Error)]
 pub enum PictureError {
+    /// The sink failed.
     #[error("write fault")]
     Write,
+    /// Memory ran out.
     #[error("out of memory")]
     OutOfMemory,
 }

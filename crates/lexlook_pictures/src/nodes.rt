@@ -1,5 +1,5 @@
 //! The nodes of a picture.
-ghost use Rattle.std.specs.Prelude.{◌≡◌, ◌≢◌, ℕ, ◌+◌, ◌<◌, ◌==◌, Bool, true, false, ◌++◌, length, slice_index, OnOk, flat_map};
+ghost use Rattle.std.specs.Prelude.{◌≡◌, ℕ, ◌+◌, ◌<◌, ◌==◌, true, false, ◌++◌, length, OnOk, flat_map};
 ghost use Rattle.lex_semantics.specs.Text.{Among};
 ghost use Rattle.lexlook_pictures.specs.Pictures.{accepting_line, arrow, entry, node_line, node_of, rule_label, starts};
 

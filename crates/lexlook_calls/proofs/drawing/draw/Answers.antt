@@ -1,4 +1,3 @@
-use Rattle.std.proofs.Common.{sym}
 use Rattle.lexspec.specs.Views.{spec_of}
 use Rattle.lexlook_calls.proofs.Drawn.{drawn_in_part}
 use Rattle.lexlook_calls.proofs.drawing.draw.Goals as goal
