@@ -21,7 +21,7 @@ use Rattle.lexscan.specs.declared.error.RunError.{RunError}
 use Rattle.lexscan.specs.Reads.{Took}
 use Rattle.lexscan.specs.Looks.{SoFar, Looked}
 use Rattle.lexscan.specs.Picks.{path_of, state_at}
-use Rattle.lexscan.specs.Descends.{Conditions, conditions_at, matches_of, ending_of, Performed, CutAll, Faulted}
+use Rattle.lexscan.specs.Descends.{Conditions, conditions_at, matches_of, ending_of, Performed, CutAll, Faulted, Takes}
 use Rattle.lexscan.specs.Moves.{MatchLeft, Acted, Moved, left_bytes, stays, is_over}
 use Rattle.lexscan.specs.Memos.{Barren, IsTrueMark, AreTrue, unmarked}
 use Rattle.lexscan.specs.Backs.{IsSettled}
@@ -337,6 +337,7 @@ module _ {K : Type 0} (M : Machine) (wrote : K → List ℕ → K → Type 0) (t
     says = a.says;
     same = a.same;
     is_ended = a.is_ended;
+    takes = subst (λ ms. Takes M r.window.bytes p.at ms c new.matched) all_same a.takes;
   }
   acted_same new (Err e) a = a
 

@@ -1,5 +1,5 @@
 -- Turns over a text that the source has ready.
-use Rattle.std.proofs.Common.{◌≡◌, ℕ, zero, suc, ◌+◌, ◌-◌, ◌≤◌, ◌<◌, Bool, true, false, List, [], ◌∷◌, ◌++◌, length, take, drop, get_or, inl, inr, Some, None, refl, sym, ◌∙◌, ap, subst, arith}
+use Rattle.std.proofs.Common.{◌≡◌, ℕ, zero, suc, ◌+◌, ◌-◌, ◌≤◌, ◌<◌, Bool, true, false, List, [], ◌∷◌, ◌++◌, length, take, drop, get_or, inl, inr, Option, Some, None, refl, sym, ◌∙◌, ap, subst, arith}
 use Rattle.std.specs.Prelude.{max, nat_eq, filter_map, map, ⊤}
 use Rattle.std.proofs.lemmas.List.{append-nil, append_assoc, length-drop, length-take-le, get_or-take, take-take, take-append-drop, drop-take, drop-append-le, drop-drop, drop_all}
 use Rattle.lex_semantics.specs.Text.{IsText, Among, BeginsWith}
@@ -21,6 +21,8 @@ use Rattle.lex_machine.specs.Glances.{Leads, FirstDoes, Gists, are_simple}
 use Rattle.lex_machine.specs.Views.{statement_of}
 use Rattle.lex_semantics.specs.Rules.{statements_of}
 use Rattle.lexscan.specs.declared.state.State.{State}
+use Rattle.lexscan.specs.declared.matched.MatchedRule.{MatchedRule}
+use Rattle.lexscan.specs.declared.matched.MatchedRule.TheVariants.{Numbered, Default}
 use Rattle.lexscan.specs.declared.state.Reading.{Reading}
 use Rattle.lexscan.specs.declared.state.TextPlace.{TextPlace}
 use Rattle.lexscan.specs.declared.act.ActionState.{ActionState}
@@ -29,7 +31,7 @@ use Rattle.lexscan.specs.declared.turn.Turn.{Turn}
 use Rattle.lexscan.specs.declared.burst.Told.{Told}
 use Rattle.lexscan.specs.declared.error.RunError.TheVariants.{Write, Stack, TooManyReads}
 use Rattle.lexscan.specs.Acts.{acting_of, after_step, written_of}
-use Rattle.lexscan.specs.Descends.{Conditions, conditions_in, outcome, matches_of, Performed, CutAll}
+use Rattle.lexscan.specs.Descends.{Conditions, conditions_in, outcome, matches_of, Performed, CutAll, IsRule, Takes}
 use Rattle.lexscan.specs.Looks.{SoFar, Looked}
 use Rattle.lexscan.specs.Picks.{path_of, state_at}
 use Rattle.lexscan.specs.Moves.{Matched, Refused}
@@ -86,6 +88,8 @@ pub record Heads (M : Machine) (w path : List ℕ) (gist : Gist) (keep : ℕ) : 
   pub rule : ℕ
   pub others : List Candidate
   pub first : matches_of M w 0 path ≡ record { len = len; rule = rule; keep = keep } ∷ others
+  pub number : Option MatchedRule
+  pub is : IsRule M.count number rule
   pub does : statements_in gist ≡ statements_of (rules_of_machine M) rule
   pub simple : are_simple (statements_in gist) ≡ true
 
@@ -228,6 +232,8 @@ module _ (M : Machine) (laws : MachineLaws M) (text : List ℕ) (bytes : IsText 
             rule = f.rule;
             others = first.0 ++ default_match M.count (drop 0 w);
             first = ap (λ l. l ++ default_match M.count (drop 0 w)) first.1;
+            number = Some (Numbered f.rule);
+            is = (refl, rule_below M s (statements_in told.gist) laws f);
             does = sym f.does ∙ sym (statements_are M f.rule (rule_below M s (statements_in told.gist) laws f));
             simple = told_simple M s told.gist is gist;
           }
@@ -237,6 +243,8 @@ module _ (M : Machine) (laws : MachineLaws M) (text : List ℕ) (bytes : IsText 
             rule = M.count;
             others = [];
             first = ap (λ l. l ++ default_match M.count (drop 0 w)) (falling_to 0 (omega arith) none) ∙ default_one M (drop 0 w) (omega (arith, within, leads.some)) ∙ ap (λ k. record { len = 1; rule = M.count; keep = k } ∷ []) (sym one);
+            number = Some Default;
+            is = refl;
             does = ap statements_in echo ∙ sym (default_is M);
             simple = ap (λ g. are_simple (statements_in g)) echo;
           }
@@ -278,6 +286,25 @@ module _ (M : Machine) (laws : MachineLaws M) (text : List ℕ) (bytes : IsText 
               ∙ settled Step.Next (acting_of w (told_acting told.gist told.keep cs) (before ++ out)) (λ a. outcome M w 0 heads.others a.written (conditions_in a)) (λ e. cc);
         }
 
+    -- the match that is told is the one carried out
+    takes : Takes M w 0 (matches_of M w 0 path) cs heads.number
+    takes = record {
+      passed = [];
+      taken = record { len = heads.len; rule = heads.rule; keep = told.keep };
+      left = heads.others;
+      in_order = heads.first;
+      rule_is = heads.is;
+      rejected = λ before. Down.no_outcome M w 0 before cs;
+      carried = λ before. (
+        record { after = acting_of w (told_acting told.gist told.keep cs) (before ++ written_by told.gist (take (0 + told.keep) w)); ended = None },
+        λ rest.
+            head_outcome M w 0 (record { len = heads.len; rule = heads.rule; keep = told.keep }) rest before cs
+            ∙ ap (λ l. settle (act l (acting_of w (start_of 0 told.keep cs) before)) (λ a. outcome M w 0 rest a.written (conditions_in a))) (sym heads.does)
+            ∙ ap (λ z. settle z (λ a. outcome M w 0 rest a.written (conditions_in a))) (act_told w told.gist told.keep cs before is heads.simple)
+            ∙ settled Step.Next (acting_of w (told_acting told.gist told.keep cs) (before ++ written_by told.gist (take (0 + told.keep) w))) (λ a. outcome M w 0 rest a.written (conditions_in a)) (λ e. cc),
+      );
+    }
+
     cut : (front : List ℕ) → BeginsWith (written_by told.gist (take told.keep (drop c text))) front → wrote t front u → (before : List ℕ) (o : Scan.Matched) →
         outcome M w 0 (matches_of M w 0 path) before cs ≡ Some o → BeginsWith o.after.written (before ++ front)
     cut front begins put before o e =
@@ -318,7 +345,8 @@ module _ (M : Machine) (laws : MachineLaws M) (text : List ℕ) (bytes : IsText 
         let mid : Reading = record v.reading { window = record { bytes = w; room = true; ahead = [] } } in
         let size = grown_by text c far beyond le far_beyond inside_beyond in
         let did = performed put in
-        let m : Matched M Nothing wrote tt tt t u (record old { failed = true }) v Turn.Went = record {
+        let now : State = record v { acting = record v.acting { end = 0 + told.keep }; matched = heads.number } in
+        let m : Matched M Nothing wrote tt tt t u (record old { failed = true }) now Turn.Went = record {
           mid = mid;
           took = record {
             got = got;
@@ -350,14 +378,25 @@ module _ (M : Machine) (laws : MachineLaws M) (text : List ℕ) (bytes : IsText 
               line = λ some. b.line_is ∙ starts ∙ (let e : told.keep - 1 ≡ 0 + told.keep - 1 = omega arith in ap (λ k. nat_eq (get_or (take told.keep (drop c text)) k 0) 10) e ∙ last_byte);
               condition = b.condition_is;
               stack = b.stack_is;
+              end = refl;
             };
             says = refl;
             same = record { taken = refl; at_end = refl };
             is_ended = λ e h. b.going ∙ h;
+            takes = takes;
           };
         } in
-        let stands : Stands M (suc n) (given ++ got) (before ++ did.out) (record v { failed = false }) = Go.matched_stands M laws Nothing wrote tt tt t u n given before old v Turn.Went refl h m b.going in
-        let stands' : Stands M (suc n) (given ++ got) (before ++ did.out) v = subst (λ f. Stands M (suc n) (given ++ got) (before ++ did.out) (record v { failed = f })) (sym works) stands in
+        let stands : Stands M (suc n) (given ++ got) (before ++ did.out) (record now { failed = false }) = Go.matched_stands M laws Nothing wrote tt tt t u n given before old now Turn.Went refl h m b.going in
+        let stands' : Stands M (suc n) (given ++ got) (before ++ did.out) v = record {
+          works = works;
+          start = stands.start;
+          scanned = stands.scanned;
+          text = stands.text;
+          covered = stands.covered;
+          held = stands.held;
+          line = stands.line;
+          taken = stands.taken;
+        } in
         subst (λ l. Stands M (suc n) (given ++ got) (before ++ written_by told.gist l) v) said_here stands'
       where
         last_byte : nat_eq (get_or (take told.keep (drop c text)) (0 + told.keep - 1) 0) 10 ≡ nat_eq (get_or w (0 + told.keep - 1) 0) 10

@@ -19,7 +19,9 @@ use Rattle.lexscan.specs.declared.act.ActionState.{ActionState}
 use Rattle.lexscan.specs.declared.act.Finish.{Finish}
 use Rattle.lexscan.specs.declared.act.Step.{Step}
 use Rattle.lexscan.specs.Acts.{acting_of, after_step, written_of, Carried, CutShort}
-use Rattle.lexscan.specs.Descends.{Conditions, conditions_of, conditions_in, outcome, matches_of, Passed, Tried, CutOff, CutAll, Performed, finished_of}
+use Rattle.lexscan.specs.declared.matched.MatchedRule.{MatchedRule}
+use Rattle.lexscan.specs.declared.matched.MatchedRule.TheVariants.{Numbered, Default}
+use Rattle.lexscan.specs.Descends.{Conditions, conditions_of, conditions_in, outcome, matches_of, Passed, Tried, CutOff, CutAll, Performed, finished_of, IsRule, Takes}
 use Rattle.lexscan.proofs.Growing.{take_one_more}
 use Rattle.lex_semantics.specs.Plain.{default_match}
 
@@ -57,9 +59,58 @@ statements_are M i lt = cond-true (nat_lt i M.count) (M.statements i) (Echo ∷ 
 pub default_is : (M : Machine) → statements_of (rules_of_machine M) M.count ≡ Echo ∷ []
 default_is M = cond-false (nat_lt M.count M.count) (M.statements M.count) (Echo ∷ []) (le-ltb M.count M.count (omega arith))
 
+abbrev pub ended_by : Step → Option Finish
+ended_by Step.Next = None
+ended_by Step.Again = None
+ended_by (Step.Over f) = Some f
+
+pub settled : (step : Step) (a : Scan.Acting) (f : Scan.Acting → Option Matched) → (step ≡ Step.Again → ⊥) → settle (after_step step [] a) f ≡ Some (record { after = a; ended = finished_of (ended_by step) })
+settled Step.Next a f never = refl
+settled Step.Again a f never = absurd (never refl)
+settled (Step.Over s) a f never = refl
+
+-- no match makes nothing of it
+pub no_outcome : (M : Machine) (w : List ℕ) (at : ℕ) (before : List ℕ) (c : Conditions) → outcome M w at [] before c ≡ None
+unfolding perform
+no_outcome M w at before c = refl
+
+-- what all matches make of it is what those left do
+passed_acts : {K : Type 0} {M : Machine} {wrote : K → List ℕ → K → Type 0} {s t : K} {w : List ℕ} {at : ℕ} {all left : List Candidate} {c d : Conditions} → (h : Passed M wrote s t w at all left c d) → (before : List ℕ) (rest : List Candidate) →
+    outcome M w at (all ++ rest) before c ≡ outcome M w at (left ++ rest) (before ++ h.out) d
+passed_acts {M = M} {w = w} {at = at} {left = left} {c = c} h before rest =
+    ap (λ l. outcome M w at (l ++ rest) before c) h.in_order ∙ ap (λ l. outcome M w at l before c) (append_assoc h.gone left rest) ∙ h.acts before (left ++ rest)
+
+-- one of those left was carried out
+takes_after : {K : Type 0} {M : Machine} {wrote : K → List ℕ → K → Type 0} {s t : K} {w : List ℕ} {at : ℕ} {all left : List Candidate} {c d : Conditions} {rule : Option MatchedRule} →
+    Passed M wrote s t w at all left c d → Takes M w at left d rule → Takes M w at all c rule
+takes_after {M = M} {w = w} {at = at} {c = c} h k = record {
+  passed = h.gone ++ k.passed;
+  taken = k.taken;
+  left = k.left;
+  in_order = h.in_order ∙ ap (λ l. h.gone ++ l) k.in_order ∙ sym (append_assoc h.gone k.passed (k.taken ∷ k.left));
+  rule_is = k.rule_is;
+  rejected = λ before. h.acts before k.passed ∙ k.rejected (before ++ h.out);
+  carried = λ before. (
+    (k.carried (before ++ h.out)).0,
+    λ rest. ap (λ l. outcome M w at l before c) (append_assoc h.gone k.passed (k.taken ∷ rest)) ∙ h.acts before (k.passed ++ k.taken ∷ rest) ∙ (k.carried (before ++ h.out)).1 rest,
+  );
+}
+
+-- others stand after it
+pub takes_more : {M : Machine} {w : List ℕ} {at : ℕ} {all : List Candidate} {c : Conditions} {rule : Option MatchedRule} → (more : List Candidate) → Takes M w at all c rule → Takes M w at (all ++ more) c rule
+takes_more more k = record {
+  passed = k.passed;
+  taken = k.taken;
+  left = k.left ++ more;
+  in_order = ap (λ l. l ++ more) k.in_order ∙ append_assoc k.passed (k.taken ∷ k.left) more;
+  rule_is = k.rule_is;
+  rejected = k.rejected;
+  carried = k.carried;
+}
+
 module _ {K : Type 0} (M : Machine) (wrote : K → List ℕ → K → Type 0) (none : (s : K) → wrote s [] s) (join : (s t u : K) (xs ys : List ℕ) → wrote s xs t → wrote t ys u → wrote s (xs ++ ys) u) (w : List ℕ) (at : ℕ) where
   pub passed_first : (s : K) (all : List Candidate) (c : Conditions) → Passed M wrote s s w at all all c c
-  passed_first s all c = record { out = []; sink = none s; acts = λ before rest. ap (λ z. outcome M w at (all ++ rest) z c) (sym (append-nil before)) }
+  passed_first s all c = record { out = []; sink = none s; gone = []; in_order = refl; acts = λ before rest. ap (λ z. outcome M w at rest z c) (sym (append-nil before)) }
 
   -- a rule whose cut does not fit
   pub passed_skip : (s t : K) (all : List Candidate) (rules : List ℕ) (i len : ℕ) (c d : Conditions) → i < length rules → kept_by (M.cut (get_or rules i 0)) len ≡ None →
@@ -71,20 +122,40 @@ module _ {K : Type 0} (M : Machine) (wrote : K → List ℕ → K → Type 0) (n
       filter_map (match_of M len) (drop i rules) ≡ record { len = len; rule = get_or rules i 0; keep = keep } ∷ filter_map (match_of M len) (drop (i + 1) rules)
   left_match rules i len keep lt e = ap (filter_map (match_of M len)) (drop_more rules i 0 lt) ∙ one_match M len (get_or rules i 0) keep (drop (i + 1) rules) e
 
+  -- what the first match does
+  pub did : (t u : K) (m : Candidate) (rest : List Candidate) (d : Conditions) (ss : List Statement) (new : ActionState) (step : Step) → ss ≡ statements_of (rules_of_machine M) m.rule →
+      (k : Carried wrote t u w ss (start_of at m.keep d) new step) → (before : List ℕ) →
+      outcome M w at (m ∷ rest) before d ≡ settle (after_step step [] (acting_of w new (before ++ k.out))) (λ a. outcome M w at rest a.written (conditions_in a))
+  did t u m rest d ss new step same k before =
+      head_outcome M w at m rest before d
+      ∙ ap (λ l. settle (act l (acting_of w (start_of at m.keep d) before)) (λ a. outcome M w at rest a.written (conditions_in a))) (sym same)
+      ∙ ap (λ z. settle z (λ a. outcome M w at rest a.written (conditions_in a))) (k.acts before)
+
+  -- the first match was carried out
+  pub takes_first : (t u : K) (m : Candidate) (ms : List Candidate) (d : Conditions) (ss : List Statement) (new : ActionState) (step : Step) (rule : Option MatchedRule) → (step ≡ Step.Again → ⊥) → ss ≡ statements_of (rules_of_machine M) m.rule →
+      Carried wrote t u w ss (start_of at m.keep d) new step → IsRule M.count rule m.rule → Takes M w at (m ∷ ms) d rule
+  takes_first t u m ms d ss new step rule never same k is = record {
+    passed = [];
+    taken = m;
+    left = ms;
+    in_order = refl;
+    rule_is = is;
+    rejected = λ before. no_outcome M w at before d;
+    carried = λ before. (
+      record { after = acting_of w new (before ++ k.out); ended = finished_of (ended_by step) },
+      λ rest. did t u m rest d ss new step same k before ∙ settled step (acting_of w new (before ++ k.out)) (λ a. outcome M w at rest a.written (conditions_in a)) never,
+    );
+  }
+
   -- the next match, where its action was carried out
   acted : (s t u : K) (all : List Candidate) (rules : List ℕ) (i len keep : ℕ) (c d : Conditions) (ss : List Statement) (new : ActionState) (step : Step) → i < length rules → get_or rules i 0 < M.count →
       kept_by (M.cut (get_or rules i 0)) len ≡ Some keep → ss ≡ M.statements (get_or rules i 0) → (h : Passed M wrote s t w at all (filter_map (match_of M len) (drop i rules)) c d) →
       (k : Carried wrote t u w ss (start_of at keep d) new step) → (before : List ℕ) (rest : List Candidate) →
       outcome M w at (all ++ rest) before c ≡ settle (after_step step [] (acting_of w new (before ++ (h.out ++ k.out)))) (λ a. outcome M w at (filter_map (match_of M len) (drop (i + 1) rules) ++ rest) a.written (conditions_in a))
   acted s t u all rules i len keep c d ss new step lt below e same h k before rest =
-      h.acts before rest ∙ ap (λ l. outcome M w at (l ++ rest) (before ++ h.out) d) (left_match rules i len keep lt e)
-      ∙ head_outcome M w at (record { len = len; rule = get_or rules i 0; keep = keep }) (filter_map (match_of M len) (drop (i + 1) rules) ++ rest) (before ++ h.out) d
-      ∙ ap (λ l. settle (act l (acting_of w (start_of at keep d) (before ++ h.out))) f) (statements_are M (get_or rules i 0) below ∙ sym same)
-      ∙ ap (λ z. settle z f) (k.acts (before ++ h.out))
-      ∙ ap (λ z. settle (after_step step [] (acting_of w new z)) f) (append_assoc before h.out k.out)
-    where
-      f : Scan.Acting → Option Matched
-      f a = outcome M w at (filter_map (match_of M len) (drop (i + 1) rules) ++ rest) a.written (conditions_in a)
+      passed_acts h before rest ∙ ap (λ l. outcome M w at (l ++ rest) (before ++ h.out) d) (left_match rules i len keep lt e)
+      ∙ did t u (record { len = len; rule = get_or rules i 0; keep = keep }) (filter_map (match_of M len) (drop (i + 1) rules) ++ rest) d ss new step (same ∙ sym (statements_are M (get_or rules i 0) below)) k (before ++ h.out)
+      ∙ ap (λ z. settle (after_step step [] (acting_of w new z)) (λ a. outcome M w at (filter_map (match_of M len) (drop (i + 1) rules) ++ rest) a.written (conditions_in a))) (append_assoc before h.out k.out)
 
   pub passed_again : (s t u : K) (all : List Candidate) (rules : List ℕ) (i len keep : ℕ) (c d : Conditions) (ss : List Statement) (new : ActionState) → i < length rules → get_or rules i 0 < M.count →
       kept_by (M.cut (get_or rules i 0)) len ≡ Some keep → ss ≡ M.statements (get_or rules i 0) → Passed M wrote s t w at all (filter_map (match_of M len) (drop i rules)) c d →
@@ -92,8 +163,25 @@ module _ {K : Type 0} (M : Machine) (wrote : K → List ℕ → K → Type 0) (n
   passed_again s t u all rules i len keep c d ss new lt below e same h k = record {
     out = h.out ++ k.out;
     sink = join s t u h.out k.out h.sink k.sink;
-    acts = λ before rest. acted s t u all rules i len keep c d ss new Step.Again lt below e same h k before rest;
+    gone = h.gone ++ m ∷ [];
+    in_order = h.in_order ∙ ap (λ l. h.gone ++ l) (left_match rules i len keep lt e) ∙ sym (append_assoc h.gone (m ∷ []) (filter_map (match_of M len) (drop (i + 1) rules)));
+    acts = λ before rest.
+        ap (λ l. outcome M w at l before c) (append_assoc h.gone (m ∷ []) rest) ∙ h.acts before (m ∷ rest)
+        ∙ did t u m rest d ss new Step.Again (same ∙ sym (statements_are M (get_or rules i 0) below)) k (before ++ h.out)
+        ∙ ap (λ z. outcome M w at rest z (conditions_of new)) (append_assoc before h.out k.out);
   }
+    where
+      m : Candidate
+      m = record { len = len; rule = get_or rules i 0; keep = keep }
+
+  -- it was the one that was carried out
+  pub takes_next : (s t u : K) (all : List Candidate) (rules : List ℕ) (i len keep : ℕ) (c d : Conditions) (ss : List Statement) (new : ActionState) (step : Step) → (step ≡ Step.Again → ⊥) → i < length rules → get_or rules i 0 < M.count →
+      kept_by (M.cut (get_or rules i 0)) len ≡ Some keep → ss ≡ M.statements (get_or rules i 0) → Passed M wrote s t w at all (filter_map (match_of M len) (drop i rules)) c d →
+      Carried wrote t u w ss (start_of at keep d) new step → (rule : ℕ) → rule ≡ get_or rules i 0 → Takes M w at all c (Some (Numbered rule))
+  takes_next s t u all rules i len keep c d ss new step never lt below e same h k rule is =
+      takes_after h
+      (subst (λ l. Takes M w at l d (Some (Numbered rule))) (sym (left_match rules i len keep lt e))
+      (takes_first t u (record { len = len; rule = get_or rules i 0; keep = keep }) (filter_map (match_of M len) (drop (i + 1) rules)) d ss new step (Some (Numbered rule)) never (same ∙ sym (statements_are M (get_or rules i 0) below)) k (is, below)))
 
   pub tried_stop : (s t u : K) (all : List Candidate) (rules : List ℕ) (i len keep : ℕ) (c d : Conditions) (ss : List Statement) (new : ActionState) (step : Step) → (step ≡ Step.Again → ⊥) → i < length rules → get_or rules i 0 < M.count →
       kept_by (M.cut (get_or rules i 0)) len ≡ Some keep → ss ≡ M.statements (get_or rules i 0) → Passed M wrote s t w at all (filter_map (match_of M len) (drop i rules)) c d →
@@ -126,23 +214,13 @@ module _ {K : Type 0} (M : Machine) (wrote : K → List ℕ → K → Type 0) (n
     front = λ before rest o is.
         subst (BeginsWith o.after.written) (append_assoc before h.out k.out)
         (cut_front t u (record { len = len; rule = get_or rules i 0; keep = keep }) (filter_map (match_of M len) (drop (i + 1) rules) ++ rest) d ss (same ∙ sym (statements_are M (get_or rules i 0) below)) k (before ++ h.out) o
-        (ap (λ l. outcome M w at (l ++ rest) (before ++ h.out) d) (sym (left_match rules i len keep lt e)) ∙ sym (h.acts before rest) ∙ is));
+        (ap (λ l. outcome M w at (l ++ rest) (before ++ h.out) d) (sym (left_match rules i len keep lt e)) ∙ sym (passed_acts h before rest) ∙ is));
   }
 
 pub among_get : (l : List ℕ) (i : ℕ) → i < length l → Among l (get_or l i 0)
 among_get [] i lt = absurd (omega (arith, lt))
 among_get (b ∷ l) zero lt = inl refl
 among_get (b ∷ l) (suc i) lt = inr (among_get l i (omega (arith, lt)))
-
-abbrev pub ended_by : Step → Option Finish
-ended_by Step.Next = None
-ended_by Step.Again = None
-ended_by (Step.Over f) = Some f
-
-pub settled : (step : Step) (a : Scan.Acting) (f : Scan.Acting → Option Matched) → (step ≡ Step.Again → ⊥) → settle (after_step step [] a) f ≡ Some (record { after = a; ended = finished_of (ended_by step) })
-settled Step.Next a f never = refl
-settled Step.Again a f never = absurd (never refl)
-settled (Step.Over s) a f never = refl
 
 -- the matches that the last of some states tells, and the others
 falling_take : (M : Machine) (path : List ℕ) (n : ℕ) → n < length path → falling M 0 (take (n + 1) path) ≡ filter_map (match_of M (n + 1)) (M.accepts (get_or path n 0)) ++ falling M 0 (take n path)
@@ -155,6 +233,25 @@ pub default_one : (M : Machine) (y : List ℕ) → 1 ≤ length y → default_ma
 default_one M [] lt = absurd (omega (arith, lt))
 default_one M (b ∷ y) lt = refl
 
+-- it is the default match
+pub takes_default : (M : Machine) (w : List ℕ) (at : ℕ) (c : Conditions) → at < length w → Takes M w at (default_match M.count (drop at w)) c (Some Default)
+takes_default M w at c lt = record {
+  passed = [];
+  taken = one;
+  left = [];
+  in_order = default_one M (drop at w) (omega (arith, length-drop at w, lt));
+  rule_is = refl;
+  rejected = λ before. no_outcome M w at before c;
+  carried = λ before. (
+    record { after = acting_of w (start_of at 1 c) (before ++ take (at + 1) w); ended = None },
+    λ rest. head_outcome M w at one rest before c
+        ∙ ap (λ l. settle (act l (acting_of w (start_of at 1 c) before)) (λ a. outcome M w at rest a.written (conditions_in a))) (default_is M),
+  );
+}
+  where
+    one : Candidate
+    one = record { len = 1; rule = M.count; keep = 1 }
+
 module _ {K : Type 0} (M : Machine) (wrote : K → List ℕ → K → Type 0) (join : (s t u : K) (xs ys : List ℕ) → wrote s xs t → wrote t ys u → wrote s (xs ++ ys) u) (w : List ℕ) (at : ℕ) (path : List ℕ) where
   -- the matches that end after n + 1 bytes
   abbrev pub here : ℕ → List Candidate
@@ -164,7 +261,7 @@ module _ {K : Type 0} (M : Machine) (wrote : K → List ℕ → K → Type 0) (j
       (before : List ℕ) (rest : List Candidate) → outcome M w at (falling M 0 path ++ rest) before c
       ≡ settle (after_step step [] (acting_of w new (before ++ (h.out ++ k.out)))) (λ a. outcome M w at (falling M 0 (take n path) ++ rest) a.written (conditions_in a))
   state_acts s t u n c d new step lt h k before rest =
-      h.acts before rest ∙ ap (λ l. outcome M w at (l ++ rest) (before ++ h.out) d) (falling_take M path n lt) ∙ ap (λ l. outcome M w at l (before ++ h.out) d) (append_assoc (here n) (falling M 0 (take n path)) rest)
+      passed_acts h before rest ∙ ap (λ l. outcome M w at (l ++ rest) (before ++ h.out) d) (falling_take M path n lt) ∙ ap (λ l. outcome M w at l (before ++ h.out) d) (append_assoc (here n) (falling M 0 (take n path)) rest)
       ∙ k.acts (before ++ h.out) (falling M 0 (take n path) ++ rest)
       ∙ ap (λ z. settle (after_step step [] (acting_of w new z)) (λ a. outcome M w at (falling M 0 (take n path) ++ rest) a.written (conditions_in a))) (append_assoc before h.out k.out)
 
@@ -173,7 +270,11 @@ module _ {K : Type 0} (M : Machine) (wrote : K → List ℕ → K → Type 0) (j
   state_passed s t u n c d new lt h k = record {
     out = h.out ++ k.out;
     sink = join s t u h.out k.out h.sink k.sink;
-    acts = λ before rest. state_acts s t u n c d new Step.Again lt h k before rest;
+    gone = h.gone ++ here n;
+    in_order = h.in_order ∙ ap (λ l. h.gone ++ l) (falling_take M path n lt) ∙ sym (append_assoc h.gone (here n) (falling M 0 (take n path)));
+    acts = λ before rest.
+        ap (λ l. outcome M w at l before c) (append_assoc h.gone (here n) rest) ∙ h.acts before (here n ++ rest) ∙ k.acts (before ++ h.out) rest
+        ∙ ap (λ z. outcome M w at rest z (conditions_of new)) (append_assoc before h.out k.out);
   }
 
   pub state_stop : (s t u : K) (n : ℕ) (c d : Conditions) (new : ActionState) (step : Step) → (step ≡ Step.Again → ⊥) → n < length path → Passed M wrote s t w at (falling M 0 path) (falling M 0 (take (n + 1) path)) c d → Tried M wrote t u w at (here n) d new step →
@@ -194,8 +295,27 @@ module _ {K : Type 0} (M : Machine) (wrote : K → List ℕ → K → Type 0) (j
         subst (BeginsWith o.after.written) (append_assoc before h.out k.out)
         (k.front (before ++ h.out) (falling M 0 (take n path) ++ more) o
         (ap (λ l. outcome M w at l (before ++ h.out) d) (sym (append_assoc (here n) (falling M 0 (take n path)) more)) ∙ ap (λ l. outcome M w at (l ++ more) (before ++ h.out) d) (sym (falling_take M path n lt))
-        ∙ sym (h.acts before more) ∙ is));
+        ∙ sym (passed_acts h before more) ∙ is));
   }
+
+  -- one of them was carried out
+  pub state_takes : (s t : K) (n : ℕ) (c d : Conditions) (rule : Option MatchedRule) → n < length path → Passed M wrote s t w at (falling M 0 path) (falling M 0 (take (n + 1) path)) c d → Takes M w at (here n) d rule →
+      Takes M w at (matches_of M w at path) c rule
+  state_takes s t n c d rule lt h k =
+      takes_more (default_match M.count (drop at w)) (takes_after h (subst (λ l. Takes M w at l d rule) (sym (falling_take M path n lt)) (takes_more (falling M 0 (take n path)) k)))
+
+  -- all were rejected but the default match
+  pub default_takes : (s t : K) (c d : Conditions) → at < length w → Passed M wrote s t w at (falling M 0 path) [] c d → Takes M w at (matches_of M w at path) c (Some Default)
+  default_takes s t c d lt h = takes_after (all_passed h) (takes_default M w at d lt)
+    where
+      all_passed : Passed M wrote s t w at (falling M 0 path) [] c d → Passed M wrote s t w at (matches_of M w at path) (default_match M.count (drop at w)) c d
+      all_passed h = record {
+        out = h.out;
+        sink = h.sink;
+        gone = h.gone;
+        in_order = ap (λ l. l ++ default_match M.count (drop at w)) h.in_order ∙ append_assoc h.gone [] (default_match M.count (drop at w));
+        acts = h.acts;
+      }
 
   -- the default match
   default_acts : (s t : K) (c d : Conditions) → at < length w → (h : Passed M wrote s t w at (falling M 0 path) [] c d) → (before : List ℕ) (rest : List Candidate) →
@@ -204,7 +324,7 @@ module _ {K : Type 0} (M : Machine) (wrote : K → List ℕ → K → Type 0) (j
       let some : 1 ≤ length (drop at w) = omega (arith, length-drop at w, lt) in
       let one : Candidate = record { len = 1; rule = M.count; keep = 1 } in
       ap (λ l. outcome M w at l before c) (append_assoc (falling M 0 path) (default_match M.count (drop at w)) rest)
-      ∙ h.acts before (default_match M.count (drop at w) ++ rest)
+      ∙ passed_acts h before (default_match M.count (drop at w) ++ rest)
       ∙ ap (λ l. outcome M w at (l ++ rest) (before ++ h.out) d) (default_one M (drop at w) some)
       ∙ head_outcome M w at one rest (before ++ h.out) d
       ∙ ap (λ l. settle (act l (acting_of w (start_of at 1 d) (before ++ h.out))) (λ a. outcome M w at rest a.written (conditions_in a))) (default_is M)

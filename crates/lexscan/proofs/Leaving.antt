@@ -5,6 +5,7 @@ use Rattle.lex_io.specs.Sink.{Appended}
 use Rattle.lex_semantics.specs.Machine.{Machine}
 use Rattle.lexscan.specs.declared.state.Reading.{Reading}
 use Rattle.lexscan.specs.declared.state.State.{State}
+use Rattle.lexscan.specs.declared.matched.MatchedRule.{MatchedRule}
 use Rattle.lexscan.specs.declared.turn.Turn.{Turn}
 use Rattle.lexscan.specs.declared.error.RunError.{RunError}
 use Rattle.lexscan.specs.Reads.{Took, write_fault_count}
@@ -13,7 +14,7 @@ use Rattle.lexscan.specs.declared.error.RunError.TheVariants.{Read, TooManyReads
 use Rattle.lexscan.specs.declared.act.ActionState.{ActionState}
 use Rattle.lexscan.specs.declared.act.Finish.{Finish}
 use Rattle.lexscan.specs.Acts.{finish_of}
-use Rattle.lexscan.specs.Descends.{conditions_at, matches_of, CutAll, Faulted, Performed}
+use Rattle.lexscan.specs.Descends.{conditions_at, matches_of, CutAll, Faulted, Performed, Takes}
 use Rattle.lexscan.specs.Ends.{IsEarly}
 use Rattle.lexscan.specs.Moves.{Left, Says, EndLeft, EndsScan, MatchLeft, Moved}
 use Rattle.lexscan.proofs.Descending.{performed_flushed, performed_cut}
@@ -86,9 +87,9 @@ not_went turn status is p = cc
 -- what a match leaves
 module _ {K : Type 0} (M : Machine) (wrote : K → List ℕ → K → Type 0) (fails : K → ℕ) (t t' : K) (live : Bool) (old : State) (path : List ℕ) where
   -- its action was cut short
-  pub match_cut : (a : ActionState) (e : RunError) → CutAll M wrote t t' old.reading.window.bytes old.place.at (matches_of M old.reading.window.bytes old.place.at path) (conditions_at old) → e ≡ Write →
-      fails t' ≡ fails t + write_fault_count {T = Option Finish} (Err e) → MatchLeft M wrote fails t t' live old (record old { acting = a }) path (Err e)
-  match_cut a e cut is faults = record {
+  pub match_cut : (a : ActionState) (r : Option MatchedRule) (e : RunError) → CutAll M wrote t t' old.reading.window.bytes old.place.at (matches_of M old.reading.window.bytes old.place.at path) (conditions_at old) → e ≡ Write →
+      fails t' ≡ fails t + write_fault_count {T = Option Finish} (Err e) → MatchLeft M wrote fails t t' live old (record old { acting = a; matched = r }) path (Err e)
+  match_cut a r e cut is faults = record {
     acted = tt;
     going = λ p. absurd (not_err Turn.Went e (sym p));
     cut_off = cut;
@@ -104,8 +105,9 @@ module _ {K : Type 0} (M : Machine) (wrote : K → List ℕ → K → Type 0) (f
   -- its action was carried out, and the scan goes on
   pub match_done : (a : ActionState) (new : State) → Performed M wrote t t' old.reading.window.bytes old.place.at (matches_of M old.reading.window.bytes old.place.at path) (conditions_at old) a None → a.end ≤ length old.reading.window.bytes →
       fails t' ≡ fails t + 0 → live ≡ true → Left old.reading.window.bytes a false new → new.reading.taken ≡ old.reading.taken → new.reading.at_end ≡ old.reading.at_end → new.reading.max_reads ≡ old.reading.max_reads →
-      new.ended ≡ old.ended → new.failed ≡ old.failed → MatchLeft M wrote fails t t' live old new path (Ok Turn.Went)
-  match_done a new h inside faults may left taken at_end max_reads ended failed = record {
+      new.ended ≡ old.ended → new.failed ≡ old.failed → (r : Option MatchedRule) → new.matched ≡ r → Takes M old.reading.window.bytes old.place.at (matches_of M old.reading.window.bytes old.place.at path) (conditions_at old) r →
+      MatchLeft M wrote fails t t' live old new path (Ok Turn.Went)
+  match_done a new h inside faults may left taken at_end max_reads ended failed r is takes = record {
     acted = record {
       acting = a;
       ended = None;
@@ -115,6 +117,7 @@ module _ {K : Type 0} (M : Machine) (wrote : K → List ℕ → K → Type 0) (f
       says = refl;
       same = record { taken = taken; at_end = at_end };
       is_ended = λ x p. absurd (no x p);
+      takes = subst (λ z. Takes M old.reading.window.bytes old.place.at (matches_of M old.reading.window.bytes old.place.at path) (conditions_at old) z) (sym is) takes;
     };
     going = λ p. ended;
     cut_off = tt;
@@ -131,10 +134,11 @@ module _ {K : Type 0} (M : Machine) (wrote : K → List ℕ → K → Type 0) (f
       no x p = cc
 
   -- its action ended the scan, or was at fault
-  pub match_ended : (u : K) (a : ActionState) (new : State) (finish : Finish) (result : Result Turn RunError) → ((s t u : K) (xs ys : List ℕ) → wrote s xs t → wrote t ys u → wrote s (xs ++ ys) u) →
+  pub match_ended : (u : K) (a : ActionState) (r : Option MatchedRule) (new : State) (finish : Finish) (result : Result Turn RunError) → ((s t u : K) (xs ys : List ℕ) → wrote s xs t → wrote t ys u → wrote s (xs ++ ys) u) →
       Performed M wrote t u old.reading.window.bytes old.place.at (matches_of M old.reading.window.bytes old.place.at path) (conditions_at old) a (Some (finish_of finish)) → a.end ≤ length old.reading.window.bytes → fails u ≡ fails t + 0 →
-      EndsScan wrote fails u t' live (record old { acting = a }) new finish result → MatchLeft M wrote fails t t' live old new path result
-  match_ended u a new finish (Ok turn) join h inside none ends =
+      EndsScan wrote fails u t' live (record old { acting = a; matched = r }) new finish result →
+      Takes M old.reading.window.bytes old.place.at (matches_of M old.reading.window.bytes old.place.at path) (conditions_at old) r → MatchLeft M wrote fails t t' live old new path result
+  match_ended u a r new finish (Ok turn) join h inside none ends takes =
       let by = ends.ended in
       record {
         acted = record {
@@ -147,6 +151,7 @@ module _ {K : Type 0} (M : Machine) (wrote : K → List ℕ → K → Type 0) (f
           says = subst (λ z. Says z (Some by.status)) (sym by.says) refl;
           same = record { taken = by.same.taken; at_end = by.same.at_end };
           is_ended = λ x p. by.ended ∙ p;
+          takes = subst (λ z. Takes M old.reading.window.bytes old.place.at (matches_of M old.reading.window.bytes old.place.at path) (conditions_at old) z) (sym by.matched) takes;
         };
         going = λ p. absurd (not_went turn by.status by.says p);
         cut_off = tt;
@@ -158,7 +163,7 @@ module _ {K : Type 0} (M : Machine) (wrote : K → List ℕ → K → Type 0) (f
         failed = ends.failed;
         max_reads = ends.max_reads;
       }
-  match_ended u a new finish (Err e) join h inside none ends = record {
+  match_ended u a r new finish (Err e) join h inside none ends takes = record {
     acted = tt;
     going = λ p. absurd (not_err Turn.Went e (sym p));
     cut_off = performed_cut M wrote t u t' old.reading.window.bytes old.place.at (matches_of M old.reading.window.bytes old.place.at path) (conditions_at old) a (Some (finish_of finish)) join h ends.sink;

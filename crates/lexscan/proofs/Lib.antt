@@ -18,3 +18,4 @@ pub mod Barrens
 pub mod Marks
 pub mod Making
 pub mod Tying
+pub mod Taking

@@ -17,6 +17,7 @@ use Rattle.lexscan.proofs.Descending.{performed_front}
 use Rattle.lexscan.proofs.Refusing as Fall
 use Rattle.lexscan.proofs.Ranging as Range
 use Rattle.lexscan.proofs.Stepping as Go
+use Rattle.lexscan.proofs.Taking as Take
 
 is_fault : (e : RunError) → (e ≡ Stack) ⊎ (e ≡ Stack → ⊥)
 is_fault Stack = inl refl
@@ -58,6 +59,7 @@ module _ {S K : Type 0} (M : Machine) (laws : MachineLaws M) (gave : S → List 
               subst (Says turn) (sym ended) m.acted.says,
               λ n given out h. working (suc n) (given ++ m.took.got) (out ++ m.acted.performed.out)
                   (Go.matched_stands M laws gave wrote _ _ _ _ n given out old new turn going h (record { mid = m.mid; took = m.took; path = m.path; looked = m.looked; acted = m.acted }) ended),
+              λ _ n given out h. Take.tells_working _ _ _ _ new failed (Take.match_tells M laws gave wrote _ _ _ _ n given out old new turn h (record { mid = m.mid; took = m.took; path = m.path; looked = m.looked; acted = m.acted })),
             ),
           )
       from (inr m) = (
@@ -70,6 +72,7 @@ module _ {S K : Type 0} (M : Machine) (laws : MachineLaws M) (gave : S → List 
           m.left.says,
           λ n given out h. working (suc n) (given ++ m.took.got) (out ++ (M.ending old.place.condition).print)
               (Go.finished_stands M laws gave wrote _ _ _ _ n given out old new turn going h (record { mid = m.mid; took = m.took; looked = m.looked; sink = m.sink; left = m.left })),
+          λ _ n given out h. Take.tells_working _ _ _ _ new failed (Take.end_tells M laws gave wrote _ _ _ _ n given out old new turn h (record { mid = m.mid; took = m.took; looked = m.looked; sink = m.sink; left = m.left })),
         ),
       )
 

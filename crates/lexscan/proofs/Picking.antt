@@ -1,12 +1,13 @@
 -- The first match at a place, and what its action does.
-use Rattle.std.proofs.Common.{◌≡◌, ℕ, suc, ◌+◌, ◌-◌, ◌≤◌, ◌<◌, false, true, List, [], ◌∷◌, ◌++◌, length, take, drop, get_or, Option, Some, None, sym, ◌∙◌, ap, subst, arith}
+use Rattle.std.proofs.Common.{◌≡◌, ℕ, suc, ◌+◌, ◌-◌, ◌≤◌, ◌<◌, false, true, List, [], ◌∷◌, ◌++◌, length, take, drop, get_or, Option, Some, None, refl, sym, ◌∙◌, ap, subst, arith}
 use Rattle.std.specs.Prelude.{Bool, filter_map, IfSome, if◌then◌else◌}
 use Rattle.std.proofs.lemmas.List.{length-take-le, length-drop, get_or-drop}
 use Rattle.lex_semantics.specs.Spec.{Statement, Echo, Print, Begin, More, Less, Reject, End, Push, Pop, has_reject}
 use Rattle.lex_semantics.specs.Candidates.{Candidate}
 use Rattle.lex_semantics.specs.Acting as Scan
-use Rattle.lex_semantics.specs.Acting.{Matched, ActionResult, Over, StackFault, act, has_room, popped, settle}
-use Rattle.lex_semantics.specs.Machine.{Machine, walk}
+use Rattle.lex_semantics.specs.Acting.{Matched, ActionResult, Done, Over, StackFault, act, has_room, popped, settle}
+use Rattle.lex_semantics.specs.Machine.{Machine, walk, rules_of_machine}
+use Rattle.lex_semantics.specs.Rules.{statements_of}
 use Rattle.lex_semantics.specs.PlainMachine.{match_of}
 use Rattle.lex_semantics.specs.Plain.{default_match}
 use Rattle.lex_semantics.specs.Trail.{trail_from, falling}
@@ -18,8 +19,8 @@ use Rattle.lexscan.specs.declared.act.Step.{Step}
 use Rattle.lexscan.specs.declared.state.TextPlace.{TextPlace}
 use Rattle.lexscan.specs.declared.pick.Pick.{Pick}
 use Rattle.lexscan.specs.Acts.{acting_of, Carried, CutShort}
-use Rattle.lexscan.specs.Descends.{Conditions, conditions_in, outcome, matches_of, finished_of, Passed, CutAll, Performed}
-use Rattle.lexscan.specs.Picks.{path_of, IsFirst, state_at}
+use Rattle.lexscan.specs.Descends.{Conditions, conditions_in, outcome, matches_of, finished_of, Passed, CutAll, Performed, Takes}
+use Rattle.lexscan.specs.Picks.{path_of, IsFirst, state_at, rule_in}
 use Rattle.lexscan.proofs.Growing.{take_one_more, path_length, path_snoc}
 use Rattle.lexscan.proofs.Descending as Down
 use Rattle.lexscan.proofs.Descending.{ended_by, start_of, head_outcome, statements_are, settled}
@@ -130,3 +131,35 @@ module _ {K : Type 0} (M : Machine) (wrote : K → List ℕ → K → Type 0) (n
   -- there is none but the default match
   pub none_picked : (s : K) (path : List ℕ) (c : Conditions) → falling M 0 path ≡ [] → Passed M wrote s s w at (falling M 0 path) [] c c
   none_picked s path c e = subst (λ l. Passed M wrote s s w at (falling M 0 path) l c c) e (Down.passed_first M wrote none join w at s (falling M 0 path) c)
+
+-- what is not rejected has an outcome, whatever follows
+settle_some : (r : ActionResult) → ((b : Scan.Acting) → r ≡ Scan.Again b → ⊥) → (o : Matched) × ((f : Scan.Acting → Option Matched) → settle r f ≡ Some o)
+settle_some (Done a) never = (record { after = a; ended = None }, λ f. refl)
+settle_some (Scan.Again a) never = absurd (never a refl)
+settle_some (Over a e) never = (record { after = a; ended = Some e }, λ f. refl)
+
+-- where no rule has REJECT the first match is carried out, or the default match
+pub picked_takes : (M : Machine) (w : List ℕ) (at : ℕ) (path : List ℕ) (pick : Option Pick) (c : Conditions) → NoReject M → at < length w → IsFirst (falling M 0 path) pick → IfSome pick (λ p. p.rule < M.count) →
+    Takes M w at (matches_of M w at path) c (Some (rule_in pick))
+picked_takes M w at path None c quiet lt e known = subst (λ l. Takes M w at (l ++ default_match M.count (drop at w)) c (Some (rule_in None))) (sym e) (Down.takes_default M w at c lt)
+picked_takes M w at path (Some p) c quiet lt (len, rest, e) known =
+    subst (λ l. Takes M w at (l ++ default_match M.count (drop at w)) c (Some (rule_in (Some p)))) (sym e) (record {
+      passed = [];
+      taken = m;
+      left = rest ++ default_match M.count (drop at w);
+      in_order = refl;
+      rule_is = (refl, known);
+      rejected = λ before. Down.no_outcome M w at before c;
+      carried = λ before. (
+        (went before).0,
+        λ more. head_outcome M w at m more before c ∙ (went before).1 (λ a. outcome M w at more a.written (conditions_in a)),
+      );
+    })
+  where
+    m : Candidate
+    m = record { len = len; rule = p.rule; keep = p.keep }
+
+    went : (before : List ℕ) → (o : Matched) × ((f : Scan.Acting → Option Matched) → settle (act (statements_of (rules_of_machine M) p.rule) (acting_of w (start_of at p.keep c) before)) f ≡ Some o)
+    went before =
+        settle_some (act (statements_of (rules_of_machine M) p.rule) (acting_of w (start_of at p.keep c) before))
+        (λ b. quiet_never (statements_of (rules_of_machine M) p.rule) (acting_of w (start_of at p.keep c) before) b (ap has_reject (statements_are M p.rule known) ∙ quiet p.rule known))

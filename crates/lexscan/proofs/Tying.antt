@@ -47,6 +47,7 @@ module _ {S K : Type 0} (M : Machine) (gave : S → List ℕ → S → Type 0) (
           says = a.says;
           same = a.same;
           is_ended = a.is_ended;
+          takes = a.takes;
         };
       })
   tied_moved (Ok turn) (inr m) = inr (record { mid = m.mid; took = m.took; looked = m.looked; sink = on (M.ending old.place.condition).print m.sink; left = m.left })

@@ -1,5 +1,5 @@
 -- How the matches at a place are tried, one after another.
-use Rattle.std.specs.Prelude.{◌≡◌, ℕ, ◌≤◌, List, [], ◌++◌, length, take, drop, Option, Some, None}
+use Rattle.std.specs.Prelude.{◌≡◌, ℕ, ◌≤◌, ◌<◌, List, [], ◌∷◌, ◌++◌, length, take, drop, Option, Some, None, ⊤}
 use Rattle.lex_semantics.specs.Text.{BeginsWith}
 use Rattle.lex_semantics.specs.Candidates.{Candidate}
 use Rattle.lex_semantics.specs.Acting as Scan
@@ -11,6 +11,8 @@ use Rattle.lexscan.specs.declared.act.ActionState.{ActionState}
 use Rattle.lexscan.specs.declared.act.Finish.{Finish}
 use Rattle.lexscan.specs.declared.act.Step.{Step}
 use Rattle.lexscan.specs.declared.state.State.{State}
+use Rattle.lexscan.specs.declared.matched.MatchedRule.{MatchedRule}
+use Rattle.lexscan.specs.declared.matched.MatchedRule.TheVariants.{Numbered, Default}
 use Rattle.lexscan.specs.Acts.{acting_of, after_step, finish_of}
 
 -- the condition of the next match, and the stack of conditions
@@ -36,11 +38,13 @@ outcome M w at ms before c = perform (rules_of_machine M) (take at w) (drop at w
 abbrev pub matches_of : Machine → List ℕ → ℕ → List ℕ → List Candidate
 matches_of M w at path = falling M 0 path ++ default_match M.count (drop at w)
 
--- All matches up to some were rejected: these are left.
+-- All matches up to some were rejected: those are gone, and these are left.
 pub record Passed {K : Type 0} (M : Machine) (wrote : K → List ℕ → K → Type 0) (s t : K) (w : List ℕ) (at : ℕ) (all left : List Candidate) (old new : Conditions) : Type 0 where
   pub out : List ℕ
   pub sink : wrote s out t
-  pub acts : (before : List ℕ) (rest : List Candidate) → outcome M w at (all ++ rest) before old ≡ outcome M w at (left ++ rest) (before ++ out) new
+  pub gone : List Candidate
+  pub in_order : all ≡ gone ++ left
+  pub acts : (before : List ℕ) (rest : List Candidate) → outcome M w at (gone ++ rest) before old ≡ outcome M w at rest (before ++ out) new
 
 -- These matches were tried, and this is what follows.
 pub record Tried {K : Type 0} (M : Machine) (wrote : K → List ℕ → K → Type 0) (s t : K) (w : List ℕ) (at : ℕ) (all : List Candidate) (old : Conditions) (new : ActionState) (step : Step) : Type 0 where
@@ -80,3 +84,24 @@ pub record Faulted {K : Type 0} (M : Machine) (wrote : K → List ℕ → K → 
   pub acting : ActionState
   pub performed : Performed M wrote s t w at all old acting (Some StackFault)
   pub inside : acting.end ≤ length w
+
+-- The rule is told by its number, which is below the count of rules, or as the default rule.
+abbrev pub IsRule : ℕ → Option MatchedRule → ℕ → Type 0
+IsRule count None i = ⊥
+IsRule count (Some (Numbered n)) i = (n ≡ i) × (i < count)
+IsRule count (Some Default) i = i ≡ count
+
+-- One of these matches was carried out, those before it were rejected, and this is its rule.
+pub record Takes (M : Machine) (w : List ℕ) (at : ℕ) (all : List Candidate) (old : Conditions) (rule : Option MatchedRule) : Type 0 where
+  pub passed : List Candidate
+  pub taken : Candidate
+  pub left : List Candidate
+  pub in_order : all ≡ passed ++ taken ∷ left
+  pub rule_is : IsRule M.count rule taken.rule
+  pub rejected : (before : List ℕ) → outcome M w at passed before old ≡ None
+  pub carried : (before : List ℕ) → (o : Matched) × ((rest : List Candidate) → outcome M w at (passed ++ taken ∷ rest) before old ≡ Some o)
+
+-- unless all were rejected
+abbrev pub TakesUnlessAgain : Machine → List ℕ → ℕ → List Candidate → Conditions → Option MatchedRule → Step → Type 0
+TakesUnlessAgain M w at all old rule Step.Again = ⊤
+TakesUnlessAgain M w at all old rule other = Takes M w at all old rule

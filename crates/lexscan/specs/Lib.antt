@@ -17,3 +17,4 @@ pub use Rattle.lex_io.specs.Source
 pub mod Turns
 pub mod Ends
 pub mod Ties
+pub mod Matches

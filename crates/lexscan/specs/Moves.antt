@@ -13,7 +13,7 @@ use Rattle.lexscan.specs.Reads.{Took, write_fault_count}
 use Rattle.lexscan.specs.Ends.{IsEarly}
 use Rattle.lexscan.specs.Looks.{Looked, LookedAtEnd, Unmet}
 use Rattle.lexscan.specs.declared.error.RunError.TheVariants.{Write, Stack}
-use Rattle.lexscan.specs.Descends.{Conditions, conditions_at, matches_of, ending_of, Performed, CutAll, Faulted}
+use Rattle.lexscan.specs.Descends.{Conditions, conditions_at, matches_of, ending_of, Performed, CutAll, Faulted, Takes}
 
 -- the next text starts where this one does
 abbrev pub stays : Bool → Bool → Bool
@@ -36,6 +36,7 @@ pub record Left (w : List ℕ) (a : ActionState) (over : Bool) (new : State) : T
   pub line : 0 < a.end → new.place.line_start ≡ nat_eq (get_or w (a.end - 1) 0) 10
   pub condition : new.place.condition ≡ a.condition
   pub stack : new.acting.stack ≡ a.stack
+  pub end : new.acting.end ≡ a.end
 
 abbrev pub is_over : Option ℕ → Bool
 is_over None = false
@@ -66,6 +67,7 @@ pub record Acted {K : Type 0} (M : Machine) (wrote : K → List ℕ → K → Ty
   pub says : Says turn ended
   pub same : SameReads old new
   pub is_ended : (e : ℕ) → ended ≡ Some e → new.ended ≡ Some e
+  pub takes : Takes M old.window.bytes p.at (matches_of M old.window.bytes p.at path) c new.matched
 
 -- An action has ended the scan with a status, and the scan left its place.
 pub record EndedBy (old new : State) (finish : Finish) (turn : Turn) : Type 0 where
@@ -75,6 +77,7 @@ pub record EndedBy (old new : State) (finish : Finish) (turn : Turn) : Type 0 wh
   pub same : SameReads old.reading new
   pub says : turn ≡ Turn.Ended status
   pub ended : new.ended ≡ Some status
+  pub matched : new.matched ≡ old.matched
 
 -- An action ends the scan, or was at fault: the sink was flushed; what is refused changes nothing.
 pub record EndsScan {K : Type 0} (wrote : K → List ℕ → K → Type 0) (fails : K → ℕ) (t t' : K) (live : Bool) (old new : State) (finish : Finish) (result : Result Turn RunError) : Type 0 where
@@ -111,6 +114,7 @@ pub record EndLeft (M : Machine) (old : Reading) (p : TextPlace) (c : Conditions
   pub same : SameReads old new
   pub ended : new.ended ≡ Some (M.ending p.condition).status
   pub says : Says turn new.ended
+  pub matched : new.matched ≡ None
 
 -- A match was seen, and its action carried out.
 pub record Matched {S K : Type 0} (M : Machine) (gave : S → List ℕ → S → Type 0) (wrote : K → List ℕ → K → Type 0) (s s' : S) (t t' : K) (old new : State) (turn : Turn) : Type 0 where

@@ -6,6 +6,8 @@ use Rattle.lex_semantics.specs.Trail.{trail_from, falling}
 use Rattle.lex_machine.specs.Views.{statement_of}
 use Rattle.lexscan.specs.declared.state.TextPlace.{TextPlace}
 use Rattle.lexscan.specs.declared.state.Reading.{Reading}
+use Rattle.lexscan.specs.declared.matched.MatchedRule.{MatchedRule}
+use Rattle.lexscan.specs.declared.matched.MatchedRule.TheVariants.{Numbered, Default}
 use Rattle.lexscan.specs.declared.pick.Pick.{Pick}
 use Rattle.lexscan.specs.declared.pick.LookAhead.{LookAhead}
 use Rattle.lexscan.specs.Looks.{Looked, LookedAtEnd}
@@ -45,3 +47,8 @@ pub record Tells (M : Machine) (states : ℕ) (p : TextPlace) (w : List ℕ) (ah
 abbrev pub LookedSome : Machine → TextPlace → Reading → Reading → Option LookAhead → Type 0
 LookedSome M p old new None = LookedAtEnd p old new
 LookedSome M p old new (Some ahead) = Looked M p old new (path_of M p new.window.bytes ahead.reach)
+
+-- the rule of a match, or of the default match where there is none
+abbrev pub rule_in : Option Pick → MatchedRule
+rule_in None = Default
+rule_in (Some p) = Numbered p.rule

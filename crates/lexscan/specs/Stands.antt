@@ -15,6 +15,7 @@ use Rattle.lexscan.specs.declared.error.RunError.TheVariants.{TooManyReads, Stac
 use Rattle.lexscan.specs.Descends.{ending_of}
 use Rattle.lexscan.specs.Ends.{IsEarly}
 use Rattle.lexscan.specs.Moves.{Says}
+use Rattle.lexscan.specs.Matches.{match_in, TellsMatch}
 
 -- how the scan stands, where the text starts there
 abbrev pub state_of : List ℕ → ℕ → State → Scan.State
@@ -81,10 +82,15 @@ pub record Fell (M : Machine) (n : ℕ) (given got out : List ℕ) (s : State) (
 abbrev pub NoneAfterEnd : State → State → List ℕ → Type 0
 NoneAfterEnd old new got = old.reading.at_end ≡ true → (got ≡ []) × (new.reading.at_end ≡ true)
 
--- What a turn does: where the facts hold for n turns and two lists, they hold for n + 1 and the lists with its bytes appended.
+-- What a turn tells of its match, where the facts hold for some turns before it.
+abbrev pub TurnTells : Machine → State → State → List ℕ → Type 0
+TurnTells M old new got = old.ended ≡ None → (n : ℕ) (given out : List ℕ) → (h : Stands M n given out old) →
+    TellsMatch (rules_of_machine M) (given ++ got) new.reading.at_end (state_of out h.start old).place (match_in new)
+
+-- What a turn does: where the facts hold for n turns and two lists, they hold for n + 1 and the lists with its bytes appended; and it tells its match.
 -- A turn that is refused before its action has written nothing.
 abbrev pub GoesOn : Machine → State → State → List ℕ → List ℕ → Result Turn RunError → Type 0
-GoesOn M old new got wrote (Ok turn) = Says turn new.ended × ((n : ℕ) (given out : List ℕ) → Stands M n given out old → Stands M (suc n) (given ++ got) (out ++ wrote) new)
+GoesOn M old new got wrote (Ok turn) = Says turn new.ended × ((n : ℕ) (given out : List ℕ) → Stands M n given out old → Stands M (suc n) (given ++ got) (out ++ wrote) new) × TurnTells M old new got
 GoesOn M old new got wrote (Err e) = (IsEarly e → wrote ≡ []) × ((n : ℕ) (given out : List ℕ) → Stands M n given out old → Fell M n given got (out ++ wrote) new e)
 
 -- The source gave some bytes in a turn, and the sink was given some.

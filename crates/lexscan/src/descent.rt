@@ -5,11 +5,12 @@ ghost use Rattle.lex_semantics.specs.PlainMachine.{kept_by, match_of};
 ghost use Rattle.lex_machine.specs.Views.{cut_of};
 ghost use Rattle.lexscan.specs.Reads.{write_fault_count};
 ghost use Rattle.lexscan.specs.Ends.{SinkLeft};
-ghost use Rattle.lexscan.specs.Descends.{matches_of, conditions_of, finished_of, Tried, CutOff, CutAll, Performed};
+ghost use Rattle.lexscan.specs.Descends.{matches_of, conditions_of, finished_of, Tried, CutOff, CutAll, Performed, Takes, TakesUnlessAgain};
 
 use crate::act::{ActionState, Finish, Step, carry_out, put};
 use crate::error::RunError;
 use crate::intake::Outlet;
+use crate::matched::MatchedRule;
 use crate::path::StatePath;
 use crate::window::Window;
 use lex_io::Sink;
@@ -46,6 +47,7 @@ fn try_rules<M: Machine, K: Sink>(
     at: usize,
     len: usize,
     acting: &mut ActionState,
+    matched: &mut Option<MatchedRule>,
 ) -> Result<Step, RunError>
     requires live { outlet.old.live ≡ true }
     requires place { at + len ≤ length window.now.bytes }
@@ -59,6 +61,8 @@ fn try_rules<M: Machine, K: Sink>(
     ensures tried { IfOk result (λ step. Tried (M.machine machine.now) K.wrote outlet.old.sink.now outlet.new.sink.now
         window.now.bytes at (filter_map (match_of (M.machine machine.now) len) rules.now) (conditions_of acting.old)
         acting.new step) }
+    ensures takes { IfOk result (TakesUnlessAgain (M.machine machine.now) window.now.bytes at
+        (filter_map (match_of (M.machine machine.now) len) rules.now) (conditions_of acting.old) matched.new) }
     ensures cut_off { OnErr result (CutOff (M.machine machine.now) K.wrote outlet.old.sink.now outlet.new.sink.now
         window.now.bytes at (filter_map (match_of (M.machine machine.now) len) rules.now) (conditions_of acting.old)) }
 {
@@ -69,6 +73,7 @@ fn try_rules<M: Machine, K: Sink>(
             prove!(keep <= held - at);
             acting.end = at + keep;
             acting.more = false;
+            *matched = Some(MatchedRule::Numbered(*rule));
             match carry_out(outlet, window, statements, acting) {
                 Err(e) => return Err(e),
                 Ok(Step::Next) => return Ok(Step::Next),
@@ -89,6 +94,7 @@ pub fn descend<M: Machine, K: Sink>(
     path: &StatePath,
     at: usize,
     acting: &mut ActionState,
+    matched: &mut Option<MatchedRule>,
 ) -> Result<Option<Finish>, RunError>
     requires live { outlet.old.live ≡ true }
     requires some { 1 ≤ length path.now.states }
@@ -104,6 +110,8 @@ pub fn descend<M: Machine, K: Sink>(
         K.wrote outlet.old.sink.now outlet.new.sink.now window.now.bytes at
         (matches_of (M.machine machine.now) window.now.bytes at path.now.states)
         (conditions_of acting.old) acting.new (finished_of ended)) }
+    ensures takes { OnOk result (Takes (M.machine machine.now) window.now.bytes at
+        (matches_of (M.machine machine.now) window.now.bytes at path.now.states) (conditions_of acting.old) matched.new) }
     ensures cut_off { OnErr result (CutAll (M.machine machine.now)
         K.wrote outlet.old.sink.now outlet.new.sink.now window.now.bytes at
         (matches_of (M.machine machine.now) window.now.bytes at path.now.states) (conditions_of acting.old)) }
@@ -111,7 +119,7 @@ pub fn descend<M: Machine, K: Sink>(
     let mut len = path.len();
     'lengths: while 0 < len {
         let rules = machine.accepts(path.state(len - 1));
-        match try_rules(machine, outlet, window, rules, at, len, acting) {
+        match try_rules(machine, outlet, window, rules, at, len, acting, matched) {
             Err(e) => return Err(e),
             Ok(Step::Next) => return Ok(None),
             Ok(Step::Again) => {}
@@ -123,6 +131,7 @@ pub fn descend<M: Machine, K: Sink>(
     prove!(at < held);
     acting.end = at + 1;
     acting.more = false;
+    *matched = Some(MatchedRule::Default);
     match put(outlet, window.slice(0, at + 1)) {
         Err(e) => Err(e),
         Ok(()) => Ok(None),

@@ -11,6 +11,7 @@ mod further;
 mod intake;
 mod last_states;
 mod looking;
+mod matched;
 mod memo;
 mod path;
 mod pick;
@@ -26,6 +27,7 @@ mod window;
 
 pub use error::RunError;
 pub use lex_io::{ByteReader, FromBytes, FromRead, MemorySource, ReadFault, Source};
+pub use matched::{Match, MatchedRule};
 pub use scanner::Scanner;
 pub use turn::Turn;
 pub use whole::run;

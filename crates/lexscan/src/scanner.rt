@@ -1,15 +1,17 @@
 //! A scanner.
-ghost use Rattle.std.specs.Prelude.{◌≡◌, ℕ, ◌+◌, ◌-◌, ◌^◌, ◌<◌, ◌≤◌, List, [], ◌++◌, length, true, false, Some, None, Ok, Err, IsErrOf};
+ghost use Rattle.std.specs.Prelude.{◌≡◌, ℕ, ◌+◌, ◌-◌, ◌^◌, ◌<◌, ◌≤◌, List, [], ◌++◌, length, true, false, Some, None, Ok, Err, IfSome, IsErrOf};
 ghost use Rattle.lex_semantics.specs.Text.{AllBelow};
 ghost use Rattle.lexscan.specs.Answer.{end_read};
 ghost use Rattle.lexscan.specs.Reads.{read_fault_count, write_fault_count, end_step};
 ghost use Rattle.lexscan.specs.Memos.{AreTrue, AreTrue-prop};
 ghost use Rattle.lexscan.specs.Stacks.{AllBelow-prop};
 ghost use Rattle.lexscan.specs.Ties.{HandedOn};
+ghost use Rattle.lexscan.specs.Matches.{match_in};
 ghost use Rattle.lexscan.specs.Stands.{NoneAfterEnd, GoesOn, Stands};
 
 use crate::error::RunError;
 use crate::intake::{Intake, Outlet};
+use crate::matched::Match;
 use crate::memo::Memo;
 use crate::path::StatePath;
 use crate::state::State;
@@ -118,6 +120,34 @@ impl<'a, M: Machine, S: Source, K: Sink> Scanner<'a, M, S, K> {
     {
         let window = &self.state.reading.window;
         window.slice(0, window.len())
+    }
+
+    /// The start condition of the next match.
+    pub fn condition(&self) -> u8
+        ensures { result ≡ self.now.state.place.condition }
+    {
+        self.state.place.condition
+    }
+
+    /// The match that the last turn carried out: the longest of the earliest rule, or after REJECT the one that was not
+    /// rejected. There is none before the first turn, after an end action, and after a refused turn.
+    pub fn matched(&self) -> Option<Match>
+        ensures told { result ≡ match_in self.now.state }
+        ensures small { IfSome result (λ m. m.start + m.length < 2 ^ 64) }
+    {
+        if self.state.failed {
+            return None;
+        }
+        let rule = self.state.matched?;
+        let window = &self.state.reading.window;
+        let end = self.state.acting.end;
+        let before = self.state.reading.taken.saturating_sub(window.len() as u64);
+        let place = before + self.state.place.at as u64;
+        Some(Match {
+            rule,
+            start: place.saturating_sub(end as u64),
+            length: end,
+        })
     }
 
     /// How many bytes the source gave.

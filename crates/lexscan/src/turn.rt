@@ -7,7 +7,7 @@ ghost use Rattle.lexscan.specs.Ends.{SinkLeft};
 ghost use Rattle.lexscan.specs.Looks.{Wants};
 ghost use Rattle.lexscan.specs.Descends.{conditions_at};
 ghost use Rattle.lex_semantics.specs.MachineLaws.{NoReject};
-ghost use Rattle.lexscan.specs.Picks.{IsLongest, Tells, path_of};
+ghost use Rattle.lexscan.specs.Picks.{IsLongest, Tells, path_of, rule_in};
 ghost use Rattle.lexscan.specs.Backs.{IsOpen};
 ghost use Rattle.lexscan.specs.declared.memo.Mark.{Mark};
 ghost use Rattle.lexscan.specs.Memos.{AreTrue};
@@ -23,6 +23,7 @@ use crate::error::RunError;
 use crate::intake::{Intake, Outlet};
 use crate::last_states::{look_ahead_last, look_ahead_more};
 use crate::looking::look_ahead;
+use crate::matched::MatchedRule;
 use crate::memo::Memo;
 use crate::path::StatePath;
 use crate::pick::{LookAhead, Pick, carry_pick, near_end, walk_again};
@@ -59,6 +60,7 @@ fn leave(state: &mut State, over: bool)
     ensures max_reads { state.new.reading.max_reads ≡ state.old.reading.max_reads }
     ensures ended { state.new.ended ≡ state.old.ended }
     ensures failed { state.new.failed ≡ state.old.failed }
+    ensures matched { state.new.matched ≡ state.old.matched }
 {
     let end = state.acting.end;
     if 0 < end {
@@ -129,6 +131,7 @@ fn match_turn<M: Machine, K: Sink>(
         path,
         place.at,
         &mut state.acting,
+        &mut state.matched,
     ) {
         Err(e) => Err(e),
         Ok(None) => {
@@ -136,6 +139,17 @@ fn match_turn<M: Machine, K: Sink>(
             Ok(Turn::Went)
         }
         Ok(Some(finish)) => finish_turn(outlet, state, finish),
+    }
+}
+
+/// The rule of the longest match, or of the default match where there is none.
+#[inline(always)]
+fn rule_of(pick: Option<Pick<'_>>) -> MatchedRule
+    ensures { result ≡ rule_in pick.entry }
+{
+    match pick {
+        Some(pick) => MatchedRule::Numbered(pick.rule),
+        None => MatchedRule::Default,
     }
 }
 
@@ -161,6 +175,7 @@ fn carry_turn<M: Machine, K: Sink>(
         (path_of (M.machine machine.now) state.old.place state.old.reading.window.bytes reach) result }
 {
     state.acting.condition = state.place.condition;
+    state.matched = Some(rule_of(pick));
     let place = state.place;
     let reading = &state.reading;
     match carry_pick(
@@ -266,6 +281,7 @@ fn end_turn<M: Machine, K: Sink>(
                 state.reading.window.drop_front(state.place.at);
                 state.place.at = 0;
                 state.ended = Some(action.status);
+                state.matched = None;
                 Ok(Turn::Ended(action.status))
             }
         },

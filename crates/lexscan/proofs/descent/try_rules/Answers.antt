@@ -1,4 +1,4 @@
-use Rattle.std.proofs.Common.{ℕ, sym, ap, ◌∙◌, arith}
+use Rattle.std.proofs.Common.{ℕ, refl, sym, ap, ◌∙◌, arith}
 use Rattle.std.specs.Prelude.{map, filter_map}
 use Rattle.lex_semantics.specs.Machine.{Machine}
 use Rattle.lex_semantics.specs.PlainMachine.{kept_by, match_of}
@@ -72,3 +72,34 @@ loop-rule-preserved g c = elim c.match-kept.branch [
         passed = passed;
       }))
 ]
+
+pub returns-in-Ok-Next-clause-takes : goal.returns-in-Ok-Next-clause-takes
+returns-in-Ok-Next-clause-takes g c =
+    let ens = rw c.in-Ok-Next.field-0-is at c.in-Ok-Next.ensures in
+    let M : Machine = g.M.Machine.machine c.args.machine.now in
+    let i : ℕ = c.loop-rule.rule-index in
+    Down.takes_next M g.K.Sink.wrote g.met.K.Sink.wrote_none g.met.K.Sink.wrote_more c.args.window.now.bytes c.args.at _ _ _
+    (filter_map (match_of M c.args.len) c.args.rules.now) c.args.rules.now i c.args.len c.in-Some.keep (conditions_of c.args.acting.now) (conditions_of c.loop-rule.acting) (map statement_of c.rule-cut.result.1.now) c.carry_out.new.acting Step.Next (λ e. cc)
+    c.loop-rule-test.true (c.requires.known _ (Down.among_get c.args.rules.now i c.loop-rule-test.true)) (ap (λ k. kept_by k c.args.len) (sym c.rule-cut.ensures.cut) ∙ sym c.in-Some.ensures.keep) c.rule-cut.ensures.statements
+    c.loop-rule.invariant.passed ens.carried _ refl
+
+pub returns-in-Ok-Over-clause-takes : goal.returns-in-Ok-Over-clause-takes
+returns-in-Ok-Over-clause-takes g c =
+    let ens = rw c.in-Ok-Over.field-0-is at c.in-Ok-Over.ensures in
+    let M : Machine = g.M.Machine.machine c.args.machine.now in
+    let i : ℕ = c.loop-rule.rule-index in
+    Down.takes_next M g.K.Sink.wrote g.met.K.Sink.wrote_none g.met.K.Sink.wrote_more c.args.window.now.bytes c.args.at _ _ _
+    (filter_map (match_of M c.args.len) c.args.rules.now) c.args.rules.now i c.args.len c.in-Some.keep (conditions_of c.args.acting.now) (conditions_of c.loop-rule.acting) (map statement_of c.rule-cut.result.1.now) c.carry_out.new.acting (Step.Over c.in-Ok-Over.finish) (λ e. cc)
+    c.loop-rule-test.true (c.requires.known _ (Down.among_get c.args.rules.now i c.loop-rule-test.true)) (ap (λ k. kept_by k c.args.len) (sym c.rule-cut.ensures.cut) ∙ sym c.in-Some.ensures.keep) c.rule-cut.ensures.statements
+    c.loop-rule.invariant.passed ens.carried _ refl
+
+pub loop-rule-init : goal.loop-rule-init
+loop-rule-init g c =
+    let M : Machine = g.M.Machine.machine c.args.machine.now in
+    record {
+      same = refl;
+      failures = refl;
+      live = c.requires.live;
+      inside = c.requires.inside;
+      passed = Down.passed_first M g.K.Sink.wrote g.met.K.Sink.wrote_none g.met.K.Sink.wrote_more c.args.window.now.bytes c.args.at _ (filter_map (match_of M c.args.len) c.args.rules.now) (conditions_of c.args.acting.now);
+    }
