@@ -1,16 +1,16 @@
 -- The match that a turn carries out is that of every consistent input.
-use Rattle.std.proofs.Common.{◌≡◌, ℕ, ◌+◌, ◌-◌, ◌≤◌, ◌<◌, Bool, true, false, List, [], ◌∷◌, ◌++◌, length, take, drop, ◌⊎◌, inl, inr, Option, Some, None, refl, sym, ◌∙◌, ap, subst, arith}
+use Rattle.std.proofs.Common.{◌≡◌, ℕ, ◌+◌, ◌-◌, ◌≤◌, Bool, true, false, List, [], ◌∷◌, ◌++◌, length, take, drop, ◌⊎◌, inl, inr, Option, Some, None, refl, sym, ◌∙◌, ap, subst, arith}
 use Rattle.std.specs.Prelude.{if◌then◌else◌}
 use Rattle.std.proofs.lemmas.List.{append-nil, append_assoc, length-append, length-take-le, length-drop, drop-append-le, drop-drop, drop_all, take-append-le, take-append-drop}
 use Rattle.lex_semantics.specs.Text.{Among, IsText, part, at_line_start}
 use Rattle.lex_semantics.specs.Rules.{Rules}
 use Rattle.lex_semantics.specs.Candidates.{Candidate, Candidates}
-use Rattle.lex_semantics.specs.Acting.{Ending, Matched as Outcome, perform}
+use Rattle.lex_semantics.specs.Acting.{Matched as Outcome, perform}
 use Rattle.lex_semantics.specs.Demand.{Consistent, GoesOnFrom}
 use Rattle.lex_semantics.specs.Run.{Place}
 use Rattle.lex_semantics.specs.Machine.{Machine, rules_of_machine, state_after}
 use Rattle.lex_semantics.specs.MachineLaws.{MachineLaws}
-use Rattle.lex_semantics.proofs.Fronts.{among_left, among_right}
+use Rattle.lex_semantics.proofs.Fronts.{among_left}
 use Rattle.lex_semantics.proofs.Local.{more_input, keep_inside, same_performed}
 use Rattle.lex_semantics.proofs.MachineLaws.{machine_laws}
 use Rattle.lex_semantics.proofs.Once.{some_inj}
@@ -20,7 +20,7 @@ use Rattle.lexscan.specs.declared.state.State.{State}
 use Rattle.lexscan.specs.declared.state.TextPlace.{TextPlace}
 use Rattle.lexscan.specs.declared.turn.Turn.{Turn}
 use Rattle.lexscan.specs.Acts.{acting_of}
-use Rattle.lexscan.specs.Descends.{Conditions, conditions_at, outcome, matches_of, ending_of, IsRule, Takes}
+use Rattle.lexscan.specs.Descends.{conditions_at, outcome, matches_of, ending_of, IsRule, Takes}
 use Rattle.lexscan.specs.Matches.{text_start, match_by, match_in, CarriesOut, TellsMatch}
 use Rattle.lexscan.specs.Moves.{stays, left_bytes, left_at, is_over, Matched, Finished}
 use Rattle.lexscan.specs.Stands.{Stands, state_of}

@@ -1,0 +1,82 @@
+//! The tokens of a whole input.
+ghost use Rattle.std.specs.Prelude.{◌≡◌, ◌+◌, ◌^◌, ◌<◌, List, ◌++◌, IfOk, IfSome, OnOk};
+ghost use Rattle.lex_semantics.specs.Acting.{Status};
+ghost use Rattle.lex_semantics.specs.Machine.{rules_of_machine};
+ghost use Rattle.lexscan_tokens.specs.declared.listing.Token.{Token as TokenModel};
+ghost use Rattle.lexscan_tokens.specs.Tokens.{Tokenised, token_by, tokens_by};
+
+use crate::discard::Discard;
+use lex_machine::Machine;
+use lexscan::{ByteReader, FromBytes, Match, MatchedRule, RunError, Scanner, Turn};
+use std::alloc::Global;
+
+/// A match in a text: its rule, where its text begins and ends, counted in bytes, and the start condition in which it was made.
+/// The text begins with what yymore kept before it, and ends after trailing context and yyless.
+#[derive(Clone, Copy, Debug, PartialEq, Eq)]
+pub struct Token {
+    pub rule: MatchedRule,
+    pub start: usize,
+    pub end: usize,
+    pub condition: u8,
+}
+
+/// The token that a match is.
+fn token_of(matched: Match, condition: u8) -> Token
+    requires { matched.start + matched.length < 2 ^ 64 }
+    ensures { result ≡ token_by matched condition }
+{
+    let start = matched.start as usize;
+    Token {
+        rule: matched.rule,
+        start,
+        end: start + matched.length,
+        condition,
+    }
+}
+
+/// Appends the token of a match, where there is one.
+fn append(list: &mut Vec<Token>, matched: Option<Match>, condition: u8) -> Result<(), RunError>
+    requires { IfSome matched (λ m. m.start + m.length < 2 ^ 64) }
+    ensures { OnOk result (list.new.items ≡ list.old.items ++ tokens_by matched condition) }
+{
+    match matched {
+        None => Ok(()),
+        Some(matched) => match list.push(token_of(matched, condition)) {
+            Ok(()) => Ok(()),
+            Err(_) => Err(RunError::OutOfMemory),
+        },
+    }
+}
+
+/// Appends the tokens of an input to a list: the match of each turn of its scan, in order. Answers the status with which the scan
+/// ends. Nothing is written. It is refused where memory runs out, and as `Stack` where a push finds the stack of start conditions
+/// full or a pop finds it empty.
+pub fn tokens<M: Machine>(
+    alloc: Global,
+    machine: &M,
+    input: &[u8],
+    list: &mut Vec<Token>,
+) -> Result<u8, RunError>
+    ensures { IfOk result (λ status. (us : List TokenModel) × (list.new.items ≡ list.old.items ++ us)
+        × Tokenised (rules_of_machine (M.machine machine.now)) input.now us (Status status)) }
+{
+    let reader = match ByteReader::new(alloc, input) {
+        Ok(reader) => reader,
+        Err(_) => return Err(RunError::OutOfMemory),
+    };
+    let mut source = FromBytes::new(reader);
+    let mut sink = Discard {};
+    let mut scanner = Scanner::new(alloc, machine, &mut source, &mut sink, u64::MAX);
+    'turns: loop {
+        let condition = scanner.condition();
+        let turn = match scanner.turn() {
+            Ok(turn) => turn,
+            Err(fault) => return Err(fault),
+        };
+        append(list, scanner.matched(), condition)?;
+        match turn {
+            Turn::Went => {}
+            Turn::Ended(status) => return Ok(status),
+        }
+    }
+}
