@@ -20,9 +20,10 @@ pub use lex_semantics::{MAX_FILE_BYTES, MAX_POSITIONS, MAX_STATES};
 pub use lexauto::{BackUp, BuildError, Limits};
 pub use lexauto_reports::{Warning, write_backup, write_warnings};
 pub use lexscan::{
-    ByteReader, FromBytes, FromRead, MemorySource, ReadFault, RunError, Scanner, Source, Turn,
-    Window, run,
+    ByteReader, FromBytes, FromRead, Match, MatchedRule, MemorySource, ReadFault, RunError,
+    Scanner, Source, Turn, Window, run,
 };
+pub use lexscan_tokens::{Token, tokens};
 pub use lexspec::{
     PatternError, PatternErrorKind, ReadOptions, Spec, SpecError, SpecErrorKind, read_spec,
 };
