@@ -51,6 +51,17 @@ pub more_leads : (n : ℕ) (go : ℕ → ℕ → ℕ) (old row new : List ℕ) �
     → ((b : ℕ) → b < 256 → IsSplit old row b (slice_index new b)) → AreLeads (n + 1) go new
 more_leads n go old row new x is y b h = one_more_lead n go old row x is b (slice_index new b) h (y b h)
 
+-- a row that has one target for each byte and its lead splits nothing
+pub split_none : (leads row : List ℕ) → ((b : ℕ) → b < 256 → (slice_index leads b ≤ b) × (slice_index leads (slice_index leads b) ≡ slice_index leads b))
+    → ((b : ℕ) → b < 256 → slice_index row (slice_index leads b) ≡ slice_index row b)
+    → (b : ℕ) → b < 256 → IsSplit leads row b (slice_index leads b)
+split_none leads row heads same b h = record {
+  at_most = (heads b h).0;
+  lead = (heads b h).1;
+  target = same b h;
+  least = λ c less e f. (let low = (heads b h).0 in let x = (heads c (omega arith)).0 in omega arith);
+}
+
 -- bytes that are each their own lead stay so
 pub still_alone : (n m : ℕ) (go : ℕ → ℕ → ℕ) (leads : List ℕ) → n ≤ m → AreLeads n go leads → ((b : ℕ) → b < 256 → slice_index leads b ≡ b) → AreLeads m go leads
 still_alone n m go leads le x own b h = record {

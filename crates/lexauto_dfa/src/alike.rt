@@ -19,6 +19,20 @@ fn earliest(lead: &[u8], row: &[u32], byte: usize) -> u8
     byte as u8
 }
 
+/// Whether a row has the same target for each byte and its lead.
+fn keeps_classes(row: &[u32], lead: &[u8]) -> bool
+    requires leads { length lead.now ≡ 256 }
+    requires targets { length row.now ≡ 256 }
+    ensures { result ≡ true → (b : ℕ) → b < 256 → slice_index row.now (slice_index lead.now b) ≡ slice_index row.now b }
+{
+    for (byte, first) in lead.iter().enumerate() {
+        if row[*first as usize] != row[byte] {
+            return false;
+        }
+    }
+    true
+}
+
 /// Splits classes by the row of one more state.
 fn split(row: &[u32], lead: &mut [u8])
     requires leads { length lead.old ≡ 256 }
@@ -27,6 +41,9 @@ fn split(row: &[u32], lead: &mut [u8])
         × (slice_index lead.old (slice_index lead.old b) ≡ slice_index lead.old b) }
     ensures { (b : ℕ) → b < 256 → IsSplit lead.old row.now b (slice_index lead.new b) }
 {
+    if keeps_classes(row, lead) {
+        return;
+    }
     for i in 0..256usize {
         let byte = 255 - i;
         if row[byte] != row[lead[byte] as usize] {

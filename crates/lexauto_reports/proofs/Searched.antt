@@ -1,10 +1,12 @@
 -- The steps of a search.
 use Rattle.std.proofs.Common.{◌≡◌, ◌⊎◌, ◌<◌, ◌≤◌, ◌+◌, ◌*◌, ℕ, zero, suc, List, [], ◌∷◌, ◌++◌, length, get_or, set, map, take, Option, Some, None, true, false, inl, inr, sym, ap, refl, ◌∙◌, subst, arith, append_assoc, append-nil}
 use Rattle.std.specs.Option.{is_some}
-use Rattle.std.proofs.lemmas.Bool.{cases_lt, cases_eq}
-use Rattle.std.proofs.lemmas.List.{length_push, length-set, get_or_append_left, get_or_push, get_or-set_same, get_or-set_other, take_more}
+use Rattle.std.specs.Prelude.{◌/◌, ◌%◌, min, nat_lt, slice_index}
+use Rattle.std.proofs.lemmas.Bool.{cases_lt, cases_eq, cond-true, lt-ltb}
+use Rattle.std.proofs.lemmas.List.{length_push, length-set, get_or_append_left, get_or_push, get_or-set_same, get_or-set_other, get_or_past, take_more}
 use Rattle.lex_semantics.specs.Text.{IsText, Among}
-use Rattle.lexauto_dfa.specs.Parts.{states}
+use Rattle.lexauto_dfa.specs.Alike.{Alike, AreLeads, moves}
+use Rattle.lexauto_dfa.specs.Parts.{states, next}
 use Rattle.lexauto_dfa.specs.declared.dfa.Parts.{Parts}
 use Rattle.lexauto_reports.specs.BackWords.{Before, NotAfter}
 use Rattle.lexauto_reports.specs.Counting.{step, walk, IsStart, LeadsTo}
@@ -148,6 +150,41 @@ module _ (p : Parts) (words found words' found' : List (List ℕ)) (places place
     here = here;
     before = before;
   }
+
+-- a byte by which each state goes as by an earlier one leads to nothing new
+pub passed_over : (p : Parts) (words found : List (List ℕ)) (places : List (Option ℕ)) (k b lead : ℕ) → IsAt p words found places k b → b < 256 → lead < b
+    → ((x : ℕ) → step p x lead ≡ step p x b) → IsAt p words found places k (b + 1)
+passed_over p words found places k b lead a low less alike =
+    visited p words found words found places places [] k b a low (record {
+      len = refl;
+      kept = λ x j e. e;
+      only = λ x j e. inl e;
+      seen = λ x m. absurd m;
+      all = λ y m. (let h = a.here y lead m less in (h.0, ap (place_of places) (sym (alike y)) ∙ h.1));
+    }) (extends_not words found (at words k ++ b ∷ []) [] a.sound.each refl)
+
+-- each state goes by a byte as by the first one that is alike with it
+pub steps_alike : (p : Parts) (leads : List ℕ) (b : ℕ) → length p.next.items ≡ 256 * states p → AreLeads (states p) (moves p.next.items) leads → b < 256
+    → (slice_index leads b ≤ b) × ((x : ℕ) → step p x (slice_index leads b) ≡ step p x b)
+steps_alike p leads b rows are low =
+    let l = are b low in
+    let le = l.at_most in
+    let first : slice_index leads b < 256 = omega arith in (
+      le,
+      λ x. ap (λ n. 3 * n + min (x % 3 + 1) 2) (at_byte (slice_index leads b) (x / 3) first ∙ same (x / 3) l.alike ∙ sym (at_byte b (x / 3) low)),
+    )
+  where
+    at_byte : (c s : ℕ) → c < 256 → next p s c ≡ slice_index p.next.items (s * 256 + c)
+    at_byte c s h = cond-true (nat_lt c 256) (slice_index p.next.items (s * 256 + c)) 0 (lt-ltb c 256 h)
+
+    same : (s : ℕ) → Alike (states p) (moves p.next.items) (slice_index leads b) b → slice_index p.next.items (s * 256 + slice_index leads b) ≡ slice_index p.next.items (s * 256 + b)
+    same s alike = elim (cases_lt s (states p)) [
+      | inl lt ↦
+          (let e : s * 256 + slice_index leads b ≡ 256 * s + slice_index leads b = omega arith in
+          let f : 256 * s + b ≡ s * 256 + b = omega arith in
+          ap (slice_index p.next.items) e ∙ alike s lt ∙ ap (slice_index p.next.items) f)
+      | inr ge ↦ get_or_past p.next.items (s * 256 + slice_index leads b) 0 (omega (arith, rows, ge)) ∙ sym (get_or_past p.next.items (s * 256 + b) 0 (omega (arith, rows, ge)))
+    ]
 
 -- a group is past once all bytes are
 pub expanded : (p : Parts) (words found : List (List ℕ)) (places : List (Option ℕ)) (k : ℕ) → IsAt p words found places k 256 → IsUpTo p words found places (k + 1)

@@ -2,12 +2,13 @@
 //! the states of equal words together.
 ghost use Rattle.std.specs.Prelude.{◌≡◌, ◌⊎◌, ◌↔◌, ℕ, ◌+◌, ◌*◌, ◌<◌, ◌≤◌, [], ◌∷◌, ◌++◌, None, Some, length, IfOk, OnOk};
 ghost use Rattle.lex_semantics.specs.Text.{Among};
+ghost use Rattle.lexauto_dfa.specs.Alike.{AreLeads, moves};
 ghost use Rattle.lexauto_dfa.specs.Automata.{states_of};
 ghost use Rattle.lexauto_reports.specs.Counting.{step, IsStart};
 ghost use Rattle.lexauto_reports.specs.Searching.{place_of, words_of, states_of_groups, unfound, IsAt, IsUpTo, AreFound};
 
 use crate::groups::Groups;
-use lexauto_dfa::Dfa;
+use lexauto_dfa::{Dfa, first_bytes};
 use std::alloc::{AllocError, Global};
 
 /// Groups in the order of their words, and for each state the place of the group that it is in.
@@ -23,9 +24,10 @@ pub(crate) fn search(alloc: Global, dfa: &Dfa) -> Result<Found, AllocError>
 {
     let mut places = vec![in alloc; None; 3 * dfa.len() as usize]?;
     let mut groups = first_group(alloc, dfa, &mut places)?;
+    let leads = first_bytes(alloc, &dfa.parts().next, dfa.len() as usize)?;
     let mut place = 0;
     while place < groups.groups.len() {
-        expand(alloc, dfa, &mut groups, &mut places, place)?;
+        expand(alloc, dfa, &leads, &mut groups, &mut places, place)?;
         place += 1;
     }
     Ok(Found { groups, places })
@@ -76,10 +78,13 @@ fn starts(alloc: Global, dfa: &Dfa) -> Result<Vec<u32>, AllocError>
 fn expand(
     alloc: Global,
     dfa: &Dfa,
+    leads: &[u8],
     groups: &mut Groups,
     places: &mut Vec<Option<usize>>,
     place: usize,
 ) -> Result<(), AllocError>
+    requires len { length leads.now ≡ 256 }
+    requires leads { AreLeads (states_of dfa.now) (moves dfa.now.parts.next.items) leads.now }
     requires here { IsAt dfa.now.parts (words_of groups.old) (states_of_groups groups.old) places.old.items place 0 }
     ensures up_to { OnOk result (IsUpTo dfa.now.parts (words_of groups.new)
         (states_of_groups groups.new) places.new.items (place + 1)) }
@@ -87,12 +92,21 @@ fn expand(
         ≤ length groups.old.groups.items + unfound places.old.items) }
 {
     for byte in 0..256u32 {
-        visit(alloc, dfa, groups, places, place, byte as u8)?;
+        visit(
+            alloc,
+            dfa,
+            groups,
+            places,
+            place,
+            byte as u8,
+            leads[byte as usize],
+        )?;
     }
     Ok(())
 }
 
-/// Adds the group of the word that is a group's word with this byte more, if it is the first word of some states.
+/// Adds the group of the word that is a group's word with this byte more, if it is the first word of some states. Where each
+/// state goes as by an earlier byte, `lead`, it is not.
 fn visit(
     alloc: Global,
     dfa: &Dfa,
@@ -100,15 +114,21 @@ fn visit(
     places: &mut Vec<Option<usize>>,
     place: usize,
     byte: u8,
+    lead: u8,
 ) -> Result<(), AllocError>
+    requires lead { lead ≤ byte }
+    requires alike { (x : ℕ) → step dfa.now.parts x lead ≡ step dfa.now.parts x byte }
     requires here { IsAt dfa.now.parts (words_of groups.old) (states_of_groups groups.old) places.old.items place byte }
     ensures next { OnOk result (IsAt dfa.now.parts (words_of groups.new)
         (states_of_groups groups.new) places.new.items place (byte + 1)) }
     ensures fewer { OnOk result (length groups.new.groups.items + unfound places.new.items
         ≤ length groups.old.groups.items + unfound places.old.items) }
 {
-    let next = groups.groups.len();
-    let states = unseen(alloc, dfa, &groups.groups[place].states, byte, places, next)?;
+    if lead < byte {
+        return Ok(());
+    }
+    let new = groups.groups.len();
+    let states = unseen(alloc, dfa, &groups.groups[place].states, byte, places, new)?;
     if states.is_empty() {
         return Ok(());
     }

@@ -103,3 +103,12 @@ no_fit_here ws ks w bad e taken before c h = elim (less_or_not c (64 * w)) [
   | inr ge ↦ (let s : 64 * w + (c - 64 * w) ≡ c = omega arith in
       subst (λ (i : ℕ). Hits ws ks i) s (taken (c - 64 * w) (omega arith) (ap (λ (m : ℕ). bit_at m (c - 64 * w)) e ∙ bit_at_ones 64 (c - 64 * w) (omega arith))))
 ]
+
+-- no place before the one at which the search starts fits
+pub before_start : (ws ks : List ℕ) (full from past start : ℕ) → 0 < length ks → ((i : ℕ) → i < 64 * full → slot_bit ws i ≡ 1)
+    → ((c : ℕ) → c < from → Hits ws ks c) → past ≡ 64 * full - slice_index ks 0 → 64 * start ≤ max past from
+    → (c : ℕ) → c < 64 * start → Hits ws ks c
+before_start ws ks full from past start some all hits is low c h = elim (less_or_not c from) [
+  | inl lt ↦ hits c lt
+  | inr ge ↦ (let g : c < past = omega arith in (0, some, all (c + slice_index ks 0) (omega arith)))
+]

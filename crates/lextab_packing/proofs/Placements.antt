@@ -1,11 +1,11 @@
 -- Placing one state after another.
-use Rattle.std.specs.Prelude.{◌≡◌, ℕ, ◌+◌, ◌-◌, ◌*◌, ◌/◌, ◌%◌, ◌<◌, ◌≤◌, List, [], ◌∷◌, ◌++◌, length, slice_index}
+use Rattle.std.specs.Prelude.{◌≡◌, ◌≢◌, ℕ, zero, suc, ◌+◌, ◌-◌, ◌*◌, ◌/◌, ◌%◌, ◌<◌, ◌≤◌, ◌⊎◌, List, [], ◌∷◌, ◌++◌, length, slice_index}
 use Rattle.std.proofs.Common.{inl, inr, refl, sym, ◌∙◌, ap, subst, arith, take, drop, replicate}
 use Rattle.std.proofs.lemmas.List.{length-replicate}
 use Rattle.std.specs.Int.{bit_at}
 use Rattle.std.proofs.lemmas.List.{get_or_push, get_or_append_left, get_or-append_right, get_or-replicate, get_or_past, take-append-le, take_all}
 use Rattle.lextab_packing.specs.Packing.{IsEntry, IsTaken, IsBase}
-use Rattle.lextab_packing.specs.Searching.{AreEntries, slot_bit, IsFirstFit, IsMarked, ArePlaced}
+use Rattle.lextab_packing.specs.Searching.{AreEntries, slot_bit, Hits, IsFirstFit, IsMarked, IsEarlier, ArePlaced}
 use Rattle.lextab_packing.proofs.Orders.{same_or_not, less_or_not}
 use Rattle.lextab_packing.proofs.Counts.{length_append_one}
 use Rattle.lextab_packing.proofs.Unique.{moved}
@@ -108,3 +108,37 @@ one_more_placed to count ds bases words full s row ks b new full2 x len is ents 
       least = λ c h f. (let w = fit.first c h in
           f (slice_index ks w.0) (entry_is w.0 w.1) (x.bits (c + slice_index ks w.0) w.2));
     })
+
+-- whether one of the first n entries placed from c falls on a bit that is set
+hits_or_not : (ws ks : List ℕ) (c n : ℕ) → ((j : ℕ) × (j < n) × (slot_bit ws (c + slice_index ks j) ≡ 1))
+    ⊎ ((j : ℕ) → j < n → slot_bit ws (c + slice_index ks j) ≢ 1)
+hits_or_not ws ks c zero = inr (λ j h. absurd (omega arith))
+hits_or_not ws ks c (suc n) = elim (hits_or_not ws ks c n) [
+  | inl w ↦ inl (w.0, (let l = w.1 in omega arith), w.2)
+  | inr none ↦ elim (same_or_not (slot_bit ws (c + slice_index ks n)) 1) [
+    | inl e ↦ inl (n, omega arith, e)
+    | inr d ↦ inr (λ j h. elim (same_or_not j n) [
+      | inl q ↦ (λ e. d (ap (λ (m : ℕ). slot_bit ws (c + slice_index ks m)) (sym q) ∙ e))
+      | inr o ↦ none j (omega arith)
+    ])
+  ]
+]
+
+-- where an earlier state fitted nowhere before its base, a row with all of its entries does not fit either
+pub starts_late : (to : ℕ → ℕ → ℕ) (count : ℕ) (ds bases words : List ℕ) (full s : ℕ) (row ks : List ℕ) (d b : ℕ)
+    → ArePlaced to count ds bases words full s → AreEntries row d (length row) ks → length row ≡ count
+    → IsEarlier to count ds bases row d b → (c : ℕ) → c < b → Hits words ks c
+starts_late to count ds bases words full s row ks d b x ents len earlier c h = elim earlier [
+  | inl z ↦ absurd (omega arith)
+  | inr w ↦ (
+      let r = w.0 in
+      let low : r < s = (let l = w.1 in let n = x.len in omega arith) in
+      let lt : c < slice_index bases r = (let e = w.2 in omega arith) in
+      elim (hits_or_not words ks c (length ks)) [
+        | inl hit ↦ hit
+        | inr none ↦ absurd ((x.base r low).least c lt (λ k e t.
+            (let j = ents.all k (let l = e.class in omega arith) (w.3 k e) in
+            let set = x.taken (c + k) (record { state = t.state; class = t.class; before = (let l = t.before in omega arith); entry = t.entry; here = t.here }) in
+            none j.0 j.1 (ap (λ (n : ℕ). slot_bit words (c + n)) j.2 ∙ set))))
+      ])
+]

@@ -2,7 +2,7 @@
 use Rattle.std.specs.Prelude.{◌≡◌, ◌≢◌, ℕ, ◌+◌, ◌*◌, ◌/◌, ◌%◌, ◌<◌, ◌≤◌, ◌⊎◌, List, length, slice_index}
 use Rattle.std.specs.Int.{bit_at}
 use Rattle.lexauto_dfa.specs.Alike.{moves}
-use Rattle.lextab_packing.specs.Packing.{IsBase, IsTaken}
+use Rattle.lextab_packing.specs.Packing.{IsBase, IsEntry, IsTaken}
 
 -- those of the first n classes of a row whose target is not d
 pub record AreEntries (row : List ℕ) (d n : ℕ) (ks : List ℕ) : Type 0 where
@@ -49,6 +49,11 @@ pub record AreNumbered (leads class_of heads : List ℕ) (i : ℕ) : Type 0 wher
 -- the target of a state by a class: by the byte that stands for it
 abbrev pub by_head : List ℕ → List ℕ → ℕ → ℕ → ℕ
 by_head next heads s k = moves next s (slice_index heads k)
+
+-- b is 0, or the base of a placed state of which each entry is one of the row whose default is d
+abbrev pub IsEarlier : (ℕ → ℕ → ℕ) → ℕ → List ℕ → List ℕ → List ℕ → ℕ → ℕ → Type 0
+IsEarlier to count ds bases row d b = (b ≡ 0) ⊎ ((r : ℕ) × (r < length bases) × (slice_index bases r ≡ b)
+    × ((k : ℕ) → IsEntry to count ds r k → slice_index row k ≢ d))
 
 -- the first s states are placed, and the words have their slots
 pub record ArePlaced (to : ℕ → ℕ → ℕ) (count : ℕ) (ds bases words : List ℕ) (full s : ℕ) : Type 0 where

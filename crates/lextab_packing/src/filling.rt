@@ -4,7 +4,7 @@ ghost use Rattle.lextab_packing.specs.Packing.{IsBase, IsSize, AreSlots};
 ghost use Rattle.lextab_packing.specs.Searching.{by_head, AreAllBytes, AreFilled};
 ghost use Rattle.lex_semantics.specs.Limits.{max_states};
 
-use crate::rows::{entries_of, read_row};
+use crate::rows::{read_entries, read_row};
 use std::alloc::{AllocError, Global};
 
 /// The number of slots: the greatest base and the number of classes.
@@ -61,9 +61,10 @@ fn fill_all(
         (length heads.now) defaults.now bases.now check.new targets.new) }
 {
     let mut row = vec![in alloc; 0u32; heads.len()]?;
+    let mut entries = Vec::new(alloc);
     for state in 0..bases.len() {
         read_row(next, state, heads, &mut row);
-        let entries = entries_of(alloc, &row, defaults[state])?;
+        read_entries(&row, defaults[state], &mut entries)?;
         fill(
             &entries,
             &row,

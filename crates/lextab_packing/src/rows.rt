@@ -1,5 +1,5 @@
 //! Rows of targets, class by class.
-ghost use Rattle.std.specs.Prelude.{◌≡◌, ℕ, ◌≢◌, ◌+◌, ◌*◌, ◌<◌, ◌≤◌, ◌^◌, ◌⊎◌, length, slice_index, map, IfOk};
+ghost use Rattle.std.specs.Prelude.{◌≡◌, ℕ, ◌≢◌, ◌+◌, ◌*◌, ◌<◌, ◌≤◌, ◌^◌, ◌⊎◌, length, slice_index, map, OnOk, IfOk};
 ghost use Rattle.lextab_packing.specs.Packing.{often, IsDefault};
 ghost use Rattle.lextab_packing.specs.Searching.{AreAllBytes, AreEntries, by_head};
 
@@ -75,18 +75,22 @@ pub(crate) fn default_of(row: &[u32], counts: &mut [u32]) -> u32
     best
 }
 
-/// The classes whose target is another.
-pub(crate) fn entries_of(alloc: Global, row: &[u32], default: u32) -> Result<Vec<u32>, AllocError>
+/// Writes the classes whose target is another.
+pub(crate) fn read_entries(
+    row: &[u32],
+    default: u32,
+    entries: &mut Vec<u32>,
+) -> Result<(), AllocError>
     requires { length row.now < 2 ^ 32 }
-    ensures { IfOk result (λ v. AreEntries row.now default (length row.now) v.items) }
+    ensures { OnOk result (AreEntries row.now default (length row.now) entries.new.items) }
 {
-    let mut entries = Vec::new(alloc);
+    entries.clear();
     for (k, target) in row.iter().enumerate() {
         if *target != default {
             entries.push(k as u32)?;
         }
     }
-    Ok(entries)
+    Ok(())
 }
 
 /// Writes the targets of a state's classes.

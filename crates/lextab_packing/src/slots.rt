@@ -37,16 +37,19 @@ fn blocked(words: &[u64], entries: &[u32], at: usize) -> u64
     bad
 }
 
-/// The first place at which no entry falls on a taken slot. The first `full` words are all taken.
-pub(crate) fn first_fit(words: &[u64], entries: &[u32], full: usize) -> usize
+/// The first place at which no entry falls on a taken slot. The first `full` words are all taken, and at each place before
+/// `from` some entry does.
+pub(crate) fn first_fit(words: &[u64], entries: &[u32], full: usize, from: usize) -> usize
     requires few { length words.now < 2 ^ 30 }
     requires some { 0 < length entries.now }
     requires within { full ≤ length words.now }
     requires full { (i : ℕ) → i < 64 * full → slot_bit words.now i ≡ 1 }
+    requires from { (c : ℕ) → c < from → Hits words.now entries.now c }
     ensures within { result ≤ 64 * length words.now }
     ensures first { IsFirstFit words.now entries.now result }
 {
-    let start = (64 * full).saturating_sub(entries[0] as usize) / 64;
+    let past_full = (64 * full).saturating_sub(entries[0] as usize);
+    let start = (past_full.max(from) / 64).min(words.len());
     for w in start..words.len() {
         let bad = blocked(words, entries, 64 * w);
         if bad != u64::MAX {

@@ -17,7 +17,7 @@ loop-state-preserved c =
     let e2 : c.deref-in-loop-state-2.result.now ≡ row = c.deref-in-loop-state-2.ensures.value in
     let ents : AreEntries row (slice_index ds s) (length row) ks =
     subst (λ (l : List ℕ). AreEntries row (slice_index ds s) (length row) l) (sym c.deref-in-loop-state.ensures.value)
-    (subst (λ (l : List ℕ). AreEntries l (slice_index ds s) (length l) c.in_ok-entries.entries.items) e1 c.in_ok-entries.ensures) in
+    (subst (λ (l : List ℕ). AreEntries l (slice_index ds s) (length l) c.read_entries.new.entries.items) e1 c.in_ok-read_entries.ensures) in
     let filled : AreFilled ks row (slice_index bs s) s (length ks) c.loop-state.check c.loop-state.targets c.fill.new.check c.fill.new.next =
     subst (λ (l : List ℕ). AreFilled ks l (slice_index bs s) s (length ks) c.loop-state.check c.loop-state.targets c.fill.new.check c.fill.new.next) e2 c.fill.ensures in
     record {

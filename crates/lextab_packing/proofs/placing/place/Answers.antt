@@ -1,5 +1,5 @@
-use Rattle.std.proofs.Common.{rules, ◌≡◌, ℕ, List, ◌-◌, ◌+◌, ◌/◌, ◌++◌, length, ap, subst, sym, ◌∙◌, take, drop, Vec, Global}
-use Rattle.lextab_packing.specs.Searching.{IsMarked, slot_bit}
+use Rattle.std.proofs.Common.{rules, ◌≡◌, ℕ, ◌<◌, List, ◌-◌, ◌+◌, ◌/◌, ◌++◌, length, ap, subst, sym, ◌∙◌, take, drop, Vec, Global}
+use Rattle.lextab_packing.specs.Searching.{Hits, IsMarked, slot_bit}
 use Rattle.lextab_packing.proofs.Placements.{written_back, bit_resized, marked_from}
 use Rattle.lextab_packing.proofs.placing.place.Goals.{then-len-need+in_ok-resize, else-len-need}
 use Rattle.lextab_packing.proofs.placing.place.Goals as goal
@@ -20,3 +20,6 @@ returns-clause-marked c =
     subst (λ (l : List ℕ). IsMarked l c.args.entries.now c.first_fit-base.result (length c.args.entries.now) c.mark.new.words) c.deref_mut.ensures.value c.mark.ensures in
     subst (λ (l : List ℕ). IsMarked old c.args.entries.now c.first_fit-base.result (length c.args.entries.now) l) (sym back)
     (marked_from old mid c.mark.new.words c.args.entries.now c.first_fit-base.result (length c.args.entries.now) bits m)
+
+pub first_fit-base-requires-clause-from : goal.first_fit-base-requires-clause-from
+first_fit-base-requires-clause-from c = subst (λ (l : List ℕ). (i : ℕ) → i < c.args.from → Hits l c.args.entries.now i) (sym c.deref.ensures.value) c.requires.from

@@ -1,7 +1,7 @@
-use Rattle.std.proofs.Common.{◌≡◌, ℕ, ◌<◌, arith, subst, sym, w64}
+use Rattle.std.proofs.Common.{rules, ◌≡◌, ℕ, ◌<◌, arith, subst, sym, w64}
 use Rattle.std.proofs.lemmas.Nat.Bits.{bit_at-trailing_ones}
 use Rattle.std.specs.Int.{bit_at}
-use Rattle.lextab_packing.proofs.Bits.{fits_here, no_fit_here}
+use Rattle.lextab_packing.proofs.Bits.{before_start, fits_here, no_fit_here}
 use Rattle.lextab_packing.proofs.slots.first_fit.Goals as goal
 
 pub returns-then-bad-clause-first : goal.returns-then-bad-clause-first
@@ -14,3 +14,7 @@ returns-then-bad-clause-first c =
 
 pub loop-w-preserved : goal.loop-w-preserved
 loop-w-preserved c = no_fit_here c.args.words.now c.args.entries.now c.loop-w.w c.blocked-bad.result c.if-bad.false c.blocked-bad.ensures.taken c.loop-w.invariant
+
+pub loop-w-init : goal.loop-w-init
+loop-w-init c = before_start c.args.words.now c.args.entries.now c.args.full c.args.from c.saturating_sub-past_full.result c.min-start.result
+    c.requires.some c.requires.full c.requires.from (search rules) (let m = c.max.ensures in let n = c.min-start.ensures in omega arith)

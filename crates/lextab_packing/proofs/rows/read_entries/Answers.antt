@@ -1,8 +1,8 @@
 use Rattle.std.proofs.Common.{◌≡◌, ◌++◌, ◌∷◌, [], ℕ, List, ◌+◌, ap, subst, sym, ◌∙◌, Vec, Global}
 use Rattle.lextab_packing.specs.Searching.{AreEntries}
 use Rattle.lextab_packing.proofs.Counts.{more_entries, same_entries}
-use Rattle.lextab_packing.proofs.rows.entries_of.Goals.{then-target-default+in_ok-push, else-target-default}
-use Rattle.lextab_packing.proofs.rows.entries_of.Goals as goal
+use Rattle.lextab_packing.proofs.rows.read_entries.Goals.{then-target-default+in_ok-push, else-target-default}
+use Rattle.lextab_packing.proofs.rows.read_entries.Goals as goal
 
 pub loop-k-preserved : goal.loop-k-preserved
 loop-k-preserved c =

@@ -1,0 +1,1 @@
+-- The goal is found by search.
