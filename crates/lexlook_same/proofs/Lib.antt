@@ -1,3 +1,4 @@
+pub mod Numbering
 pub mod Lists
 pub mod Asked
 pub mod Starting

@@ -9,6 +9,7 @@ use Rattle.lexlook_same.specs.declared.differing.Difference.{Difference}
 use Rattle.lexlook_same.specs.declared.pairs.From.{From}
 use Rattle.lexlook_same.specs.declared.pairs.From.TheVariants.{Start, Byte}
 use Rattle.lexlook_same.specs.declared.pairs.Pair.{Pair}
+use Rattle.lexlook_same.specs.Same.{number_in}
 use Rattle.lexlook_same.specs.Searching.{HasAt, IsFrom, AreLinked, IsTextOf, IsSuffixOf}
 use Rattle.lexlook_same.proofs.Lists.{one_at}
 
@@ -16,11 +17,11 @@ is_text_reverse : (t : List ℕ) → IsText t → IsText (reverse t)
 is_text_reverse [] h = tt
 is_text_reverse (b ∷ t) h = subst IsText (sym (reverse-append (b ∷ []) t)) (is_text_append (reverse t) (b ∷ []) (is_text_reverse t h.1) (h.0, tt))
 
-module _ (M N : Machine) (ps : List Pair) (i : ℕ) (p q : Pair) (b : ℕ) (t : List ℕ) (linked : AreLinked M N ps) (at : HasAt ps i q) (h : IsSuffixOf M N p b q t) where
+module _ (order : List ℕ) (M N : Machine) (ps : List Pair) (i : ℕ) (p q : Pair) (b : ℕ) (t : List ℕ) (linked : AreLinked order M N ps) (at : HasAt ps i q) (h : IsSuffixOf M N p b q t) where
   -- the byte by which the pair was come to stands before the text so far
   pub step_back : (r : Pair) (j c : ℕ) → q.from ≡ Byte j c → HasAt ps j r → IsSuffixOf M N p b r (t ++ c ∷ [])
   step_back r j c from has =
-      let w : IsFrom M N ps i q (Byte j c) = subst (IsFrom M N ps i q) from (linked i q at) in
+      let w : IsFrom order M N ps i q (Byte j c) = subst (IsFrom order M N ps i q) from (linked i q at) in
       let same : r ≡ w.2 = one_at ps j r w.2 has w.3 in
       let left : q.left ≡ M.next r.left c = w.4.left ∙ ap (λ (z : Pair). M.next z.left c) (sym same) in
       let right : q.right ≡ N.next r.right c = w.4.right ∙ ap (λ (z : Pair). N.next z.right c) (sym same) in
@@ -33,13 +34,13 @@ module _ (M N : Machine) (ps : List Pair) (i : ℕ) (p q : Pair) (b : ℕ) (t : 
       }
 
   -- where a match starts, it is the whole text
-  pub whole_text : (d : Difference) → q.from ≡ Start d.condition d.line_start → d.text.items ≡ reverse t → IsTextOf M N p b d
+  pub whole_text : (d : Difference) → q.from ≡ Start d.condition d.line_start → d.text.items ≡ reverse t → IsTextOf order M N p b d
   whole_text d from text =
-      let w : IsFrom M N ps i q (Start d.condition d.line_start) = subst (IsFrom M N ps i q) from (linked i q at) in
+      let w : IsFrom order M N ps i q (Start d.condition d.line_start) = subst (IsFrom order M N ps i q) from (linked i q at) in
       record {
         condition = w.0;
         text = subst IsText (sym text) (is_text_reverse t h.text);
         left = ap (walk M (M.start d.condition d.line_start)) text ∙ ap (λ s. walk M s (reverse t)) (sym w.1.left) ∙ h.left;
-        right = ap (walk N (N.start d.condition d.line_start)) text ∙ ap (λ s. walk N s (reverse t)) (sym w.1.right) ∙ h.right;
+        right = ap (walk N (N.start (number_in order d.condition) d.line_start)) text ∙ ap (λ s. walk N s (reverse t)) (sym w.1.right) ∙ h.right;
         size = (let far = w.1.far in omega (arith, ap length text, length-reverse t, far, h.size));
       }

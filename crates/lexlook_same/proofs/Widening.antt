@@ -7,7 +7,7 @@ use Rattle.std.proofs.lemmas.Option.{slice_get_within}
 use Rattle.std.proofs.lemmas.Grind.{get_or-set_at}
 use Rattle.std.proofs.lemmas.List.{length-set, get_or-set_other}
 use Rattle.lex_semantics.specs.Machine.{Machine}
-use Rattle.lexlook_same.specs.Same.{deeds_at}
+use Rattle.lexlook_same.specs.Same.{deeds_at, deeds_in}
 use Rattle.lexlook_same.specs.declared.pairs.From.{From}
 use Rattle.lexlook_same.specs.declared.pairs.From.TheVariants.{Start, Byte}
 use Rattle.lexlook_same.specs.declared.pairs.Pair.{Pair}
@@ -34,14 +34,14 @@ unseen_less (false ∷ seen) zero lt e = refl
 unseen_less (true ∷ seen) (suc k) lt e = unseen_less seen k (omega (arith, lt)) e
 unseen_less (false ∷ seen) (suc k) lt e = ap suc (unseen_less seen k (omega (arith, lt)) e)
 
-module _ (all : Bool) (M N : Machine) (m n : ℕ) (ps : List Pair) (seen : List Bool) (place b : ℕ) (p x : Pair) (h : Searched all M N m n ps seen place b) (at : HasAt ps place p) (next : IsNext M N p b x) where
+module _ (order : List ℕ) (all : Bool) (M N : Machine) (m n : ℕ) (ps : List Pair) (seen : List Bool) (place b : ℕ) (p x : Pair) (h : Searched order all M N m n ps seen place b) (at : HasAt ps place p) (next : IsNext M N p b x) where
   -- the byte at hand, or one before it
   byte_is : (i c : ℕ) → (i < place) ⊎ ((i ≡ place) × (c < b + 1)) → ((i < place) ⊎ ((i ≡ place) × (c < b))) ⊎ ((i ≡ place) × (c ≡ b))
   byte_is i c (inl less) = inl (inl less)
   byte_is i c (inr here) = elim (cases_lt c b) [ inl less ↦ inl (inr (here.0, less)) | inr more ↦ (let k = here.1 in inr (here.0, omega (arith, more, k))) ]
 
   -- where the pair was seen before
-  pub seen_before : (x.left < m) → (x.right < n) → IsSeen seen n x.left x.right → Searched all M N m n ps seen place (b + 1)
+  pub seen_before : (x.left < m) → (x.right < n) → IsSeen seen n x.left x.right → Searched order all M N m n ps seen place (b + 1)
   seen_before in_m in_n was = record {
     linked = h.linked;
     within = h.within;
@@ -73,7 +73,7 @@ module _ (all : Bool) (M N : Machine) (m n : ℕ) (ps : List Pair) (seen : List 
           }))
 
   -- where it is a new one
-  module _ (in_m : x.left < m) (in_n : x.right < n) (from : x.from ≡ Byte place b) (small : b < 256) (same : deeds_at all M x.left ≡ deeds_at all N x.right) (inside : x.left * n + x.right < length seen) where
+  module _ (in_m : x.left < m) (in_n : x.right < n) (from : x.from ≡ Byte place b) (small : b < 256) (same : deeds_in order all M x.left ≡ deeds_at all N x.right) (inside : x.left * n + x.right < length seen) where
     abbrev pub k : ℕ
     k = x.left * n + x.right
 
@@ -115,14 +115,14 @@ module _ (all : Bool) (M N : Machine) (m n : ℕ) (ps : List Pair) (seen : List 
       was_seen = stays_seen f.pair.left f.pair.right f.was_seen;
     }
 
-    from_before : (i : ℕ) (q : Pair) (f : From) → IsFrom M N ps i q f → IsFrom M N ps' i q f
+    from_before : (i : ℕ) (q : Pair) (f : From) → IsFrom order M N ps i q f → IsFrom order M N ps' i q f
     from_before i q (Start c line) w = w
     from_before i q (Byte j c) w = (w.0, w.1, w.2, before_last ps x j w.2 w.3, w.4)
 
-    linked : (i : ℕ) (q : Pair) → HasAt ps' i q → IsFrom M N ps' i q q.from
+    linked : (i : ℕ) (q : Pair) → HasAt ps' i q → IsFrom order M N ps' i q q.from
     linked i q has = elim (last_or_before ps x i q has) [
       | inl old ↦ from_before i q q.from (h.linked i q old)
-      | inr new ↦ subst (λ (z : Pair). IsFrom M N ps' i z z.from) (sym new.1) (subst (IsFrom M N ps' i x) (sym from) (small, (let e = new.0 in omega (arith, e, placed)), p, before_last ps x place p at, next))
+      | inr new ↦ subst (λ (z : Pair). IsFrom order M N ps' i z z.from) (sym new.1) (subst (IsFrom order M N ps' i x) (sym from) (small, (let e = new.0 in omega (arith, e, placed)), p, before_last ps x place p at, next))
     ]
 
     within : (i : ℕ) (q : Pair) → HasAt ps' i q → (q.left < m) × (q.right < n)
@@ -164,10 +164,10 @@ module _ (all : Bool) (M N : Machine) (m n : ℕ) (ps : List Pair) (seen : List 
       | inr new ↦ (length ps, x, at_last ps x, new.0, new.1)
     ]
 
-    agrees : (s t : ℕ) → s < m → t < n → IsSeen seen' n s t → deeds_at all M s ≡ deeds_at all N t
+    agrees : (s t : ℕ) → s < m → t < n → IsSeen seen' n s t → deeds_in order all M s ≡ deeds_at all N t
     agrees s t sm tn was = elim (seen_then s t tn was) [
       | inl old ↦ h.agree s t sm tn old
-      | inr new ↦ ap (deeds_at all M) (sym new.0) ∙ same ∙ ap (deeds_at all N) new.1
+      | inr new ↦ ap (deeds_in order all M) (sym new.0) ∙ same ∙ ap (deeds_at all N) new.1
     ]
 
     found_new : IsFound M N n ps' seen' p b
@@ -194,7 +194,7 @@ module _ (all : Bool) (M N : Machine) (m n : ℕ) (ps : List Pair) (seen : List 
         past_it i e (inl less) = omega (arith, e, less, placed)
         past_it i e (inr here) = (let f = here.0 in omega (arith, e, f, placed))
 
-    pub seen_now : Searched all M N m n ps' seen' place (b + 1)
+    pub seen_now : Searched order all M N m n ps' seen' place (b + 1)
     seen_now = record {
       linked = linked;
       within = within;

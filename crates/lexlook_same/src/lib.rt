@@ -6,5 +6,6 @@ mod differing;
 mod pairs;
 mod tables;
 
+pub use deeds::number_in;
 pub use differing::{Difference, Sizes, tell_apart};
 pub use tables::{Comparison, compare};

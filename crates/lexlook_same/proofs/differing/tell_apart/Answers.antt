@@ -8,8 +8,11 @@ use Rattle.lexlook_same.proofs.Ending as End
 use Rattle.lexlook_same.proofs.differing.tell_apart.Goals as goal
 
 pub returns-in-Some-clause-differ : goal.returns-in-Some-clause-differ
-returns-in-Some-clause-differ g c = End.differs c.args.all M N m n ps _ c.pairs.place c.in-Some.byte found.0 p c.in_ok-text_to-in-Some.field-0 at found.1 (c.in_ok-text_to-in-Some.ensures M N p (subst (AreLinked M N) (sym c.as_slice.ensures.value) found.0.linked) (subst (λ l. HasAt l c.pairs.place p) (sym c.as_slice.ensures.value) at))
+returns-in-Some-clause-differ g c = End.differs order c.args.all M N m n ps _ c.pairs.place c.in-Some.byte found.0 p c.in_ok-text_to-in-Some.field-0 at found.1 (c.in_ok-text_to-in-Some.ensures order M N p (subst (AreLinked order M N) (sym c.as_slice.ensures.value) found.0.linked) (subst (λ l. HasAt l c.pairs.place p) (sym c.as_slice.ensures.value) at))
   where
+    order : List ℕ
+    order = c.args.order.now
+
     M : Machine
     M = g.A.Machine.machine c.args.left.now
 
@@ -25,7 +28,7 @@ returns-in-Some-clause-differ g c = End.differs c.args.all M N m n ps _ c.pairs.
     ps : List Pair
     ps = c.widen.new.pairs.items
 
-    found : Searched c.args.all M N m n ps c.widen.new.seen.items c.pairs.place c.in-Some.byte × DifferAt c.args.all M N ps c.pairs.place c.in-Some.byte
+    found : Searched order c.args.all M N m n ps c.widen.new.seen.items c.pairs.place c.in-Some.byte × DifferAt order c.args.all M N ps c.pairs.place c.in-Some.byte
     found = rw c.in-Some.is at c.in_ok-widen.ensures.some
 
     p : Pair
@@ -35,7 +38,7 @@ returns-in-Some-clause-differ g c = End.differs c.args.all M N m n ps _ c.pairs.
     at = at_place ps c.pairs.place _ (omega (arith, c.pairs-test.true, c.in_ok-widen.ensures.longer))
 
 pub pairs-preserved : goal.pairs-preserved
-pairs-preserved g c = End.searched_next c.args.all (g.A.Machine.machine c.args.left.now) (g.B.Machine.machine c.args.right.now) _ _ _ _ c.pairs.place 256 (c.in_ok-widen.ensures.none c.in-None.is) refl
+pairs-preserved g c = End.searched_next c.args.order.now c.args.all (g.A.Machine.machine c.args.left.now) (g.B.Machine.machine c.args.right.now) _ _ _ _ c.pairs.place 256 (c.in_ok-widen.ensures.none c.in-None.is) refl
 
 pub returns-clause-same : goal.returns-clause-same
-returns-clause-same g c = λ _. End.are_same c.args.all (g.A.Machine.machine c.args.left.now) (g.B.Machine.machine c.args.right.now) _ _ _ _ c.pairs.place 0 c.pairs.invariant (omega (arith, c.pairs-test.false))
+returns-clause-same g c = λ _. End.are_same c.args.order.now c.args.all (g.A.Machine.machine c.args.left.now) (g.B.Machine.machine c.args.right.now) _ _ _ _ c.pairs.place 0 c.pairs.invariant (omega (arith, c.pairs-test.false))

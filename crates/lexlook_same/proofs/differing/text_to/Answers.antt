@@ -8,7 +8,7 @@ use Rattle.lexlook_same.proofs.Telling.{step_back, whole_text}
 use Rattle.lexlook_same.proofs.differing.text_to.Goals as goal
 
 pub returns-in-Start : goal.returns-in-Start
-returns-in-Start c = λ M N p linked at. whole_text M N c.args.pairs.now c.pairs.at p q c.args.byte c.pairs.text.items linked here (c.pairs.invariant.suffix M N p q linked at here) _ c.in-Start.is c.reverse.ensures.items
+returns-in-Start c = λ order M N p linked at. whole_text order M N c.args.pairs.now c.pairs.at p q c.args.byte c.pairs.text.items linked here (c.pairs.invariant.suffix order M N p q linked at here) _ c.in-Start.is c.reverse.ensures.items
   where
     q : Pair
     q = get_or c.args.pairs.now c.pairs.at (record { left = 0; right = 0; far = 0; from = Start 0 false })
@@ -22,8 +22,8 @@ pairs-smaller c = subst (IsBefore c.pairs.at) c.in-Byte.is (c.requires.back c.pa
 pub pairs-preserved : goal.pairs-preserved
 pairs-preserved c = record {
   within = omega (arith, back, c.pairs.invariant.within);
-  suffix = λ M N p r linked at has. subst (λ t. IsSuffixOf M N p c.args.byte r t) (sym c.in_ok-push-in-Byte.ensures.items)
-      (step_back M N c.args.pairs.now c.pairs.at p q c.args.byte c.pairs.text.items linked here (c.pairs.invariant.suffix M N p q linked at here) r c.in-Byte.before c.in-Byte.byte c.in-Byte.is has);
+  suffix = λ order M N p r linked at has. subst (λ t. IsSuffixOf M N p c.args.byte r t) (sym c.in_ok-push-in-Byte.ensures.items)
+      (step_back order M N c.args.pairs.now c.pairs.at p q c.args.byte c.pairs.text.items linked here (c.pairs.invariant.suffix order M N p q linked at here) r c.in-Byte.before c.in-Byte.byte c.in-Byte.is has);
 }
   where
     q : Pair
