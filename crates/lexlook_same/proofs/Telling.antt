@@ -1,17 +1,17 @@
 -- The text that leads to a pair, from its last byte back.
-use Rattle.std.proofs.Common.{◌≡◌, ℕ, suc, ◌+◌, ◌<◌, Bool, List, [], ◌∷◌, ◌++◌, length, refl, sym, ◌∙◌, ap, subst, arith}
+use Rattle.std.proofs.Common.{◌≡◌, ℕ, suc, ◌<◌, Bool, List, [], ◌∷◌, ◌++◌, length, sym, ◌∙◌, ap, subst, arith}
 use Rattle.std.specs.Prelude.{reverse}
-use Rattle.std.proofs.lemmas.List.{reverse-append, length-reverse, length-append}
+use Rattle.std.proofs.lemmas.List.{reverse-append, length-reverse, length-append, append_assoc}
 use Rattle.lex_semantics.specs.Text.{IsText}
 use Rattle.lex_semantics.specs.Machine.{Machine, walk}
 use Rattle.lex_semantics.proofs.Texts.{is_text_append}
 use Rattle.lexlook_same.specs.declared.differing.Difference.{Difference}
-use Rattle.lexlook_same.specs.declared.pairs.From.{From}
 use Rattle.lexlook_same.specs.declared.pairs.From.TheVariants.{Start, Byte}
 use Rattle.lexlook_same.specs.declared.pairs.Pair.{Pair}
+use Rattle.lexlook_same.specs.Ordering.{key}
 use Rattle.lexlook_same.specs.Same.{number_in}
-use Rattle.lexlook_same.specs.Searching.{HasAt, IsFrom, AreLinked, IsTextOf, IsSuffixOf}
-use Rattle.lexlook_same.proofs.Lists.{one_at}
+use Rattle.lexlook_same.specs.Searching.{HasAt, KeyAt, IsKey, AreKeyed, IsFrom, AreLinked, IsTextOf, IsSuffixOf}
+use Rattle.lexlook_same.proofs.Lists.{one_at, some_at}
 
 is_text_reverse : (t : List ℕ) → IsText t → IsText (reverse t)
 is_text_reverse [] h = tt
@@ -44,3 +44,21 @@ module _ (order : List ℕ) (M N : Machine) (ps : List Pair) (i : ℕ) (p q : Pa
         right = ap (walk N (N.start (number_in order d.condition) d.line_start)) text ∙ ap (λ s. walk N s (reverse t)) (sym w.1.right) ∙ h.right;
         size = (let far = w.1.far in omega (arith, ap length text, length-reverse t, far, h.size));
       }
+
+module _ (keys : List (List ℕ)) (ps : List Pair) (i : ℕ) (q : Pair) (t whole : List ℕ) (keyed : AreKeyed keys ps) (sized : length keys ≡ length ps) (lt : i < length ps) (at : HasAt ps i q)
+    (h : (u : List ℕ) → KeyAt keys i u → u ++ reverse t ≡ whole) where
+  mine : (u : List ℕ) × KeyAt keys i u
+  mine = some_at keys i (omega (arith, lt, sized))
+
+  -- so does it with the key of the pair before
+  pub key_back : (j c : ℕ) (s : List ℕ) → q.from ≡ Byte j c → KeyAt keys j s → s ++ reverse (t ++ c ∷ []) ≡ whole
+  key_back j c s from is =
+      let w : IsKey keys mine.0 (Byte j c) = subst (IsKey keys mine.0) from (keyed i q mine.0 at mine.1) in
+      let e : mine.0 ≡ s ++ c ∷ [] = w.2 ∙ ap (λ z. z ++ c ∷ []) (one_at keys j w.0 s w.1 is) in
+      ap (λ z. s ++ z) (reverse-append t (c ∷ [])) ∙ sym (append_assoc s (c ∷ []) (reverse t)) ∙ ap (λ z. z ++ reverse t) (sym e) ∙ h mine.0 mine.1
+
+  -- where a match starts, it is the key of the text
+  pub key_whole : (c : ℕ) (line : Bool) (text : List ℕ) → q.from ≡ Start c line → text ≡ reverse t → key c line text ≡ whole
+  key_whole c line text from is =
+      let w : IsKey keys mine.0 (Start c line) = subst (IsKey keys mine.0) from (keyed i q mine.0 at mine.1) in
+      ap (key c line) is ∙ ap (λ z. z ++ reverse t) (sym w) ∙ h mine.0 mine.1

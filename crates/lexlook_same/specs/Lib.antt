@@ -1,3 +1,4 @@
+pub mod Ordering
 pub mod Same
 pub mod Searching
 pub mod Comparing

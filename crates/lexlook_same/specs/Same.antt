@@ -3,6 +3,7 @@ use Rattle.std.specs.Prelude.{◌≡◌, ℕ, ◌≤◌, ◌<◌, Bool, true, fa
 use Rattle.lex_semantics.specs.Text.{IsText}
 use Rattle.lex_semantics.specs.Spec.{Cut, Statement, Echo, Print, Begin, More, Less, Reject, End, Push, Pop}
 use Rattle.lex_semantics.specs.Machine.{Machine, state_after}
+use Rattle.lexlook_same.specs.Ordering.{Smaller, key}
 use Rattle.lexlook_same.specs.declared.differing.Difference.{Difference}
 
 -- the number that a condition of the first machine has in the second, by a list of such numbers; without one it keeps its own
@@ -56,10 +57,13 @@ AreSame order all M N = (c : ℕ) (line : Bool) (w : List ℕ) → c < M.conditi
 abbrev pub AgreeBelow : List ℕ → Bool → Machine → Machine → ℕ → Type 0
 AgreeBelow order all M N n = (c : ℕ) (line : Bool) (w : List ℕ) → c < M.conditions → IsText w → 1 ≤ length w → length w < n → Agree order all M N c line w
 
--- A shortest text of which they do not do the same.
+-- Of the texts of which they do not do the same the first: a shortest one; of these one in the first condition, not at the start of a
+-- line rather than there; and of these the first in byte order.
 pub record Differs (order : List ℕ) (all : Bool) (M N : Machine) (d : Difference) : Type 0 where
   pub condition : d.condition < M.conditions
   pub text : IsText d.text.items
   pub some : 1 ≤ length d.text.items
   pub differ : Agree order all M N d.condition d.line_start d.text.items → ⊥
   pub shortest : AgreeBelow order all M N (length d.text.items)
+  pub first : (c : ℕ) (line : Bool) (w : List ℕ) → c < M.conditions → IsText w → length w ≡ length d.text.items
+      → Smaller (key c line w) (key d.condition d.line_start d.text.items) → Agree order all M N c line w

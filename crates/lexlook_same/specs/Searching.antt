@@ -1,8 +1,9 @@
 -- A search over pairs of states, one of each machine, from those in which matches start. (This project's.)
-use Rattle.std.specs.Prelude.{◌≡◌, ℕ, suc, ◌+◌, ◌*◌, ◌≤◌, ◌<◌, Bool, true, false, List, [], ◌∷◌, length, reverse, Some, ◌⊎◌, slice_get, slice_index_or, ⊤}
+use Rattle.std.specs.Prelude.{◌≡◌, ℕ, suc, ◌+◌, ◌*◌, ◌≤◌, ◌<◌, Bool, true, false, List, [], ◌∷◌, ◌++◌, length, reverse, Some, ◌⊎◌, slice_get, slice_index_or, ⊤}
 use Rattle.lex_semantics.specs.Text.{IsText}
 use Rattle.lex_semantics.specs.Machine.{Machine, state_after, walk}
 use Rattle.lexlook_same.specs.Same.{deeds_at, deeds_in, number_in}
+use Rattle.lexlook_same.specs.Ordering.{Before, NotAfter, key}
 use Rattle.lexlook_same.specs.declared.pairs.From.{From}
 use Rattle.lexlook_same.specs.declared.pairs.From.TheVariants.{Start, Byte}
 use Rattle.lexlook_same.specs.declared.pairs.Pair.{Pair}
@@ -31,6 +32,21 @@ IsFrom order M N ps i p (Byte j b) = (b < 256) × (j < i) × (q : Pair) × HasAt
 abbrev pub AreLinked : List ℕ → Machine → Machine → List Pair → Type 0
 AreLinked order M N ps = (i : ℕ) (p : Pair) → HasAt ps i p → IsFrom order M N ps i p p.from
 
+-- each pair has a key, that of the text by which it was come to
+abbrev pub KeyAt : List (List ℕ) → ℕ → List ℕ → Type 0
+KeyAt keys i u = slice_get keys i ≡ Some u
+
+abbrev pub IsKey : List (List ℕ) → List ℕ → From → Type 0
+IsKey keys u (Start c line) = u ≡ key c line []
+IsKey keys u (Byte j b) = (t : List ℕ) × KeyAt keys j t × (u ≡ t ++ b ∷ [])
+
+abbrev pub AreKeyed : List (List ℕ) → List Pair → Type 0
+AreKeyed keys ps = (i : ℕ) (p : Pair) (u : List ℕ) → HasAt ps i p → KeyAt keys i u → IsKey keys u p.from
+
+abbrev pub start_key : From → List ℕ
+start_key (Start c line) = key c line []
+start_key (Byte j b) = []
+
 -- the pair of these states was seen, where the second machine has n states
 abbrev pub IsSeen : List Bool → ℕ → ℕ → ℕ → Type 0
 IsSeen seen n s t = slice_index_or seen (s * n + t) false ≡ true
@@ -41,8 +57,8 @@ unseen [] = 0
 unseen (true ∷ seen) = unseen seen
 unseen (false ∷ seen) = suc (unseen seen)
 
--- a pair that a byte leads to from another was found
-pub record IsFound (M N : Machine) (n : ℕ) (ps : List Pair) (seen : List Bool) (p : Pair) (b : ℕ) : Type 0 where
+-- a pair that a byte leads to from the one at this place was found, by a text that is not after
+pub record IsFound (M N : Machine) (n : ℕ) (ps : List Pair) (keys : List (List ℕ)) (seen : List Bool) (i : ℕ) (p : Pair) (b : ℕ) : Type 0 where
   pub place : ℕ
   pub pair : Pair
   pub at : HasAt ps place pair
@@ -50,6 +66,7 @@ pub record IsFound (M N : Machine) (n : ℕ) (ps : List Pair) (seen : List Bool)
   pub right : pair.right ≡ N.next p.right b
   pub far : pair.far ≤ suc p.far
   pub was_seen : IsSeen seen n pair.left pair.right
+  pub first : (t u : List ℕ) → KeyAt keys i t → KeyAt keys place u → NotAfter u (t ++ b ∷ [])
 
 -- The pairs found so far, where those before this place were widened by each byte, and the one at this place by the bytes below b.
 pub record Searched (order : List ℕ) (all : Bool) (M N : Machine) (m n : ℕ) (ps : List Pair) (seen : List Bool) (at b : ℕ) : Type 0 where
@@ -58,17 +75,23 @@ pub record Searched (order : List ℕ) (all : Bool) (M N : Machine) (m n : ℕ) 
   pub few : (i : ℕ) (p : Pair) → HasAt ps i p → p.far ≤ i
   pub rising : (i j : ℕ) (p q : Pair) → HasAt ps i p → HasAt ps j q → i ≤ j → p.far ≤ q.far
   pub near : (j : ℕ) (p q : Pair) → HasAt ps at p → HasAt ps j q → q.far ≤ suc p.far
-  pub starts : (c : ℕ) (line : Bool) → c < M.conditions → (i : ℕ) × (p : Pair) × HasAt ps i p × IsStart order M N c line p
+  pub keys : List (List ℕ)
+  pub sized : length keys ≡ length ps
+  pub keyed : AreKeyed keys ps
+  pub ascending : (i j : ℕ) (u v : List ℕ) → KeyAt keys i u → KeyAt keys j v → i < j → Before u v
+  pub ahead : (t : List ℕ) (j : ℕ) (u : List ℕ) → KeyAt keys at t → KeyAt keys j u → Before u (t ++ b ∷ [])
+  pub starts : (c : ℕ) (line : Bool) → c < M.conditions → (i : ℕ) × (p : Pair) × HasAt ps i p × IsStart order M N c line p × KeyAt keys i (key c line [])
   pub size : length seen ≡ m * n
   pub known : (s t : ℕ) → s < m → t < n → IsSeen seen n s t → (i : ℕ) × (p : Pair) × HasAt ps i p × (p.left ≡ s) × (p.right ≡ t)
   pub agree : (s t : ℕ) → s < m → t < n → IsSeen seen n s t → deeds_in order all M s ≡ deeds_at all N t
-  pub closed : (i : ℕ) (p : Pair) (c : ℕ) → HasAt ps i p → c < 256 → (i < at) ⊎ ((i ≡ at) × (c < b)) → IsFound M N n ps seen p c
+  pub closed : (i : ℕ) (p : Pair) (c : ℕ) → HasAt ps i p → c < 256 → (i < at) ⊎ ((i ≡ at) × (c < b)) → IsFound M N n ps keys seen i p c
 
 -- the pairs in which matches start, in the first k conditions
 pub record AreStarts (order : List ℕ) (M N : Machine) (m n : ℕ) (ps : List Pair) (k : ℕ) : Type 0 where
-  pub each : (i : ℕ) (p : Pair) → HasAt ps i p → (c : ℕ) × (line : Bool) × (p.from ≡ Start c line) × (c < M.conditions) × IsStart order M N c line p
+  pub each : (i : ℕ) (p : Pair) → HasAt ps i p → (c : ℕ) × (line : Bool) × (p.from ≡ Start c line) × (c < k) × IsStart order M N c line p
   pub within : (i : ℕ) (p : Pair) → HasAt ps i p → (p.left < m) × (p.right < n)
-  pub all : (c : ℕ) (line : Bool) → c < k → (i : ℕ) × (p : Pair) × HasAt ps i p × IsStart order M N c line p
+  pub all : (c : ℕ) (line : Bool) → c < k → (i : ℕ) × (p : Pair) × HasAt ps i p × IsStart order M N c line p × (p.from ≡ Start c line)
+  pub ascending : (i j : ℕ) (p q : Pair) → HasAt ps i p → HasAt ps j q → i < j → Before (start_key p.from) (start_key q.from)
 
 -- of a match that the byte ends, after a text that leads to the pair at this place, they do not do the same
 abbrev pub DifferAt : List ℕ → Bool → Machine → Machine → List Pair → ℕ → ℕ → Type 0

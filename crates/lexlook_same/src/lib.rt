@@ -1,4 +1,4 @@
-//! Says whether two machines do the same of each match, and else shows a shortest text on which they do not.
+//! Says whether two machines do the same of each match, and else shows the first of the shortest texts of which they do not.
 #![tactic(auto)]
 
 mod deeds;

@@ -1,8 +1,7 @@
-use Rattle.std.proofs.Common.{◌≡◌, ℕ, ◌<◌, ◌≤◌, ◌+◌, List, Bool, true, false, length, get_or, sym, ap, subst, ◌∙◌, arith}
-use Rattle.std.specs.Prelude.{take, map}
+use Rattle.std.proofs.Common.{sym, ap, ◌∙◌, arith}
+use Rattle.std.specs.Prelude.{map}
 use Rattle.lex_semantics.specs.Machine.{Machine}
-use Rattle.lex_semantics.specs.MachineLaws.{MachineLaws}
-use Rattle.lexlook_same.specs.Same.{deed_of, deed_in, rules_at}
+use Rattle.lexlook_same.specs.Same.{deed_of, deed_in}
 use Rattle.lexlook_same.proofs.Lists.{one_more, same_at}
 use Rattle.lexlook_same.proofs.Asked.{in_count}
 use Rattle.lexlook_same.proofs.deeds.agree.Goals as goal

@@ -1,4 +1,4 @@
-use Rattle.std.proofs.Common.{◌≡◌, ◌+◌, ◌≤◌, length}
+use Rattle.std.proofs.Common.{◌+◌, ◌≤◌, length}
 use Rattle.lexlook_same.specs.Searching.{HasAt, Searched, unseen}
 use Rattle.lexlook_same.proofs.pairs.widen.Given as goal
 
