@@ -6,13 +6,14 @@ use Rattle.std.proofs.lemmas.List.{take_more, take_all, length-append, length-ma
 use Rattle.lex_semantics.specs.Text.{IsText}
 use Rattle.lex_semantics.specs.Machine.{Machine, walk, state_after}
 use Rattle.lex_semantics.proofs.MachineLaws.{walk-append}
-use Rattle.lexlook_same.specs.Same.{deeds_at, deeds_in, number_in, Agree, AreSame, Differs}
+use Rattle.lexlook_same.specs.Same.{deeds_at, deeds_in, number_in, Agree, AreSame, Differs, key}
 use Rattle.lexlook_same.specs.declared.differing.Difference.{Difference}
 use Rattle.lexlook_same.specs.declared.pairs.From.{From}
 use Rattle.lexlook_same.specs.declared.pairs.From.TheVariants.{Start, Byte}
 use Rattle.lexlook_same.specs.declared.pairs.Pair.{Pair}
 use Rattle.lexlook_same.specs.Searching.{HasAt, KeyAt, IsKey, start_key, IsFrom, IsBefore, LeadBack, IsSeen, AreStarts, Searched, DifferAt, IsTextOf}
-use Rattle.lexlook_same.specs.Ordering.{Before, NotAfter, Smaller, key}
+use Rattle.lexauto_reports.specs.BackWords.{Before, NotAfter, Smaller}
+use Rattle.lexauto_reports.proofs.Orders as Words
 use Rattle.lexlook_same.proofs.Orders as Order
 use Rattle.lexlook_same.proofs.Lists.{one_at, in_map, from_map, some_at}
 
@@ -102,7 +103,7 @@ module _ (order : List ℕ) (all : Bool) (M N : Machine) (m n : ℕ) (ps : List 
       ahead : (t : List ℕ) (j : ℕ) (u : List ℕ) → KeyAt h.keys (place + 1) t → KeyAt h.keys j u → Before u (t ++ 0 ∷ [])
       ahead t j u at_t at_u =
           let s = some_at h.keys place (let l = slice_get_within h.keys (place + 1) t at_t in omega (arith, l)) in
-          Order.before_trans u (s.0 ++ b ∷ []) (t ++ 0 ∷ []) (h.ahead s.0 j u s.1 at_u) (Order.before_longer s.0 t b 0 (h.ascending place (place + 1) s.0 t s.1 at_t (omega arith)))
+          Words.before_trans u (s.0 ++ b ∷ []) (t ++ 0 ∷ []) (h.ahead s.0 j u s.1 at_u) (Words.before_longer s.0 t b 0 (h.ascending place (place + 1) s.0 t s.1 at_t (omega arith)))
 
       before : (i c : ℕ) → c < 256 → (i < place + 1) ⊎ ((i ≡ place + 1) × (c < 0)) → (i < place) ⊎ ((i ≡ place) × (c < b))
       before i c below (inl less) = elim (cases_lt i place) [ inl l ↦ inl l | inr g ↦ inr (omega (arith, less, g), omega (arith, below, each)) ]
@@ -137,8 +138,8 @@ module _ (order : List ℕ) (all : Bool) (M N : Machine) (m n : ℕ) (ps : List 
           λ some. f.was_seen,
           v.0,
           v.1,
-          Order.not_after_trans v.0 (r.7 ++ get_or w k 0 ∷ []) (key c line (take (suc k) w)) (f.first r.7 v.0 r.8 v.1)
-              (subst (NotAfter (r.7 ++ get_or w k 0 ∷ [])) (ap (key c line) (sym (take_more w k 0 (omega (arith, in_w))) ∙ ap (λ i. take i w) more)) (Order.not_after_longer r.7 (key c line (take k w)) (get_or w k 0) r.9)),
+          Words.not_after_trans v.0 (r.7 ++ get_or w k 0 ∷ []) (key c line (take (suc k) w)) (f.first r.7 v.0 r.8 v.1)
+              (subst (NotAfter (r.7 ++ get_or w k 0 ∷ [])) (ap (key c line) (sym (take_more w k 0 (omega (arith, in_w))) ∙ ap (λ i. take i w) more)) (Words.not_after_longer r.7 (key c line (take k w)) (get_or w k 0) r.9)),
         )
 
     pub agrees : 1 ≤ length w → length w ≤ far → Agree order all M N c line w

@@ -6,7 +6,7 @@ use Rattle.std.proofs.lemmas.Option.{slice_get_within}
 use Rattle.lex_semantics.specs.Machine.{Machine}
 use Rattle.lexlook_same.specs.declared.pairs.From.TheVariants.{Start}
 use Rattle.lexlook_same.specs.declared.pairs.Pair.{Pair}
-use Rattle.lexlook_same.specs.Ordering.{Before}
+use Rattle.lexauto_reports.specs.BackWords.{Before}
 use Rattle.lexlook_same.specs.Searching.{HasAt, IsStart, AreStarts, start_key}
 use Rattle.lexlook_same.proofs.Lists.{before_last, at_last, last_or_before}
 

@@ -8,8 +8,7 @@ use Rattle.lex_semantics.proofs.Texts.{is_text_append}
 use Rattle.lexlook_same.specs.declared.differing.Difference.{Difference}
 use Rattle.lexlook_same.specs.declared.pairs.From.TheVariants.{Start, Byte}
 use Rattle.lexlook_same.specs.declared.pairs.Pair.{Pair}
-use Rattle.lexlook_same.specs.Ordering.{key}
-use Rattle.lexlook_same.specs.Same.{number_in}
+use Rattle.lexlook_same.specs.Same.{number_in, key}
 use Rattle.lexlook_same.specs.Searching.{HasAt, KeyAt, IsKey, AreKeyed, IsFrom, AreLinked, IsTextOf, IsSuffixOf}
 use Rattle.lexlook_same.proofs.Lists.{one_at, some_at}
 

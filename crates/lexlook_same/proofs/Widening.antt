@@ -6,13 +6,13 @@ use Rattle.std.proofs.lemmas.Option.{slice_get_within}
 use Rattle.std.proofs.lemmas.Grind.{get_or-set_at}
 use Rattle.std.proofs.lemmas.List.{length-set, get_or-set_other, length-append}
 use Rattle.lex_semantics.specs.Machine.{Machine}
-use Rattle.lexlook_same.specs.Same.{deeds_at, deeds_in}
+use Rattle.lexlook_same.specs.Same.{deeds_at, deeds_in, key}
 use Rattle.lexlook_same.specs.declared.pairs.From.{From}
 use Rattle.lexlook_same.specs.declared.pairs.From.TheVariants.{Start, Byte}
 use Rattle.lexlook_same.specs.declared.pairs.Pair.{Pair}
 use Rattle.lexlook_same.specs.Searching.{HasAt, KeyAt, IsKey, AreKeyed, IsNext, IsFrom, IsSeen, IsFound, Searched, unseen}
-use Rattle.lexlook_same.specs.Ordering.{Before, key}
-use Rattle.lexlook_same.proofs.Orders as Order
+use Rattle.lexauto_reports.specs.BackWords.{Before}
+use Rattle.lexauto_reports.proofs.Orders as Words
 use Rattle.lexlook_same.proofs.Lists.{before_last, at_last, last_or_before, one_at, some_at}
 
 -- the place of a pair of states is inside
@@ -57,7 +57,7 @@ module _ (order : List ℕ) (all : Bool) (M N : Machine) (m n : ℕ) (ps : List 
     sized = h.sized;
     keyed = h.keyed;
     ascending = h.ascending;
-    ahead = λ t j u at_t at_u. Order.before_trans u (t ++ b ∷ []) (t ++ (b + 1) ∷ []) (h.ahead t j u at_t at_u) (Order.before_last t b (b + 1) (omega arith));
+    ahead = λ t j u at_t at_u. Words.before_trans u (t ++ b ∷ []) (t ++ (b + 1) ∷ []) (h.ahead t j u at_t at_u) (Words.before_last t b (b + 1) (omega arith));
     starts = h.starts;
     size = h.size;
     known = h.known;
@@ -144,9 +144,9 @@ module _ (order : List ℕ) (all : Bool) (M N : Machine) (m n : ℕ) (ps : List 
     ahead : (t : List ℕ) (j : ℕ) (u : List ℕ) → KeyAt keys' place t → KeyAt keys' j u → Before u (t ++ (b + 1) ∷ [])
     ahead t j u at_t at_u =
         let same : here.0 ≡ t = one_at h.keys place here.0 t here.1 (old_key place t placed at_t) in
-        let next_byte : Before (here.0 ++ b ∷ []) (t ++ (b + 1) ∷ []) = subst (λ z. Before (z ++ b ∷ []) (t ++ (b + 1) ∷ [])) (sym same) (Order.before_last t b (b + 1) (omega arith)) in
+        let next_byte : Before (here.0 ++ b ∷ []) (t ++ (b + 1) ∷ []) = subst (λ z. Before (z ++ b ∷ []) (t ++ (b + 1) ∷ [])) (sym same) (Words.before_last t b (b + 1) (omega arith)) in
         elim (last_or_before h.keys (here.0 ++ b ∷ []) j u at_u) [
-          | inl old ↦ Order.before_trans u (here.0 ++ b ∷ []) (t ++ (b + 1) ∷ []) (h.ahead here.0 j u here.1 old) next_byte
+          | inl old ↦ Words.before_trans u (here.0 ++ b ∷ []) (t ++ (b + 1) ∷ []) (h.ahead here.0 j u here.1 old) next_byte
           | inr new ↦ subst (λ z. Before z (t ++ (b + 1) ∷ [])) (sym new.1) next_byte
         ]
 

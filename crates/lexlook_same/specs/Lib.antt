@@ -1,4 +1,3 @@
-pub mod Ordering
 pub mod Same
 pub mod Searching
 pub mod Comparing

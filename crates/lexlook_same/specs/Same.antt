@@ -1,9 +1,9 @@
 -- When two machines do the same. (This project's.)
-use Rattle.std.specs.Prelude.{◌≡◌, ℕ, ◌≤◌, ◌<◌, Bool, true, false, List, length, map, take, slice_index_or}
+use Rattle.std.specs.Prelude.{◌≡◌, ℕ, ◌≤◌, ◌<◌, Bool, true, false, List, length, map, take, slice_index_or, cond, ◌∷◌}
 use Rattle.lex_semantics.specs.Text.{IsText}
 use Rattle.lex_semantics.specs.Spec.{Cut, Statement, Echo, Print, Begin, More, Less, Reject, End, Push, Pop}
 use Rattle.lex_semantics.specs.Machine.{Machine, state_after}
-use Rattle.lexlook_same.specs.Ordering.{Smaller, key}
+use Rattle.lexauto_reports.specs.BackWords.{Smaller}
 use Rattle.lexlook_same.specs.declared.differing.Difference.{Difference}
 
 -- the number that a condition of the first machine has in the second, by a list of such numbers; without one it keeps its own
@@ -56,6 +56,10 @@ AreSame order all M N = (c : ℕ) (line : Bool) (w : List ℕ) → c < M.conditi
 -- of each match of fewer bytes than this
 abbrev pub AgreeBelow : List ℕ → Bool → Machine → Machine → ℕ → Type 0
 AgreeBelow order all M N n = (c : ℕ) (line : Bool) (w : List ℕ) → c < M.conditions → IsText w → 1 ≤ length w → length w < n → Agree order all M N c line w
+
+-- a text behind its condition and whether it is at the start of a line; so these count before its bytes
+abbrev pub key : ℕ → Bool → List ℕ → List ℕ
+key c line w = c ∷ cond line 1 0 ∷ w
 
 -- Of the texts of which they do not do the same the first: a shortest one; of these one in the first condition, not at the start of a
 -- line rather than there; and of these the first in byte order.

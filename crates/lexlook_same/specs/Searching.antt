@@ -2,8 +2,8 @@
 use Rattle.std.specs.Prelude.{◌≡◌, ℕ, suc, ◌+◌, ◌*◌, ◌≤◌, ◌<◌, Bool, true, false, List, [], ◌∷◌, ◌++◌, length, reverse, Some, ◌⊎◌, slice_get, slice_index_or, ⊤}
 use Rattle.lex_semantics.specs.Text.{IsText}
 use Rattle.lex_semantics.specs.Machine.{Machine, state_after, walk}
-use Rattle.lexlook_same.specs.Same.{deeds_at, deeds_in, number_in}
-use Rattle.lexlook_same.specs.Ordering.{Before, NotAfter, key}
+use Rattle.lexlook_same.specs.Same.{deeds_at, deeds_in, number_in, key}
+use Rattle.lexauto_reports.specs.BackWords.{Before, NotAfter}
 use Rattle.lexlook_same.specs.declared.pairs.From.{From}
 use Rattle.lexlook_same.specs.declared.pairs.From.TheVariants.{Start, Byte}
 use Rattle.lexlook_same.specs.declared.pairs.Pair.{Pair}

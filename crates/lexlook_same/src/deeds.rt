@@ -1,5 +1,6 @@
 //! Whether two rules do the same.
 ghost use Rattle.std.specs.Prelude.{◌≡◌, ℕ, ◌<◌, true, false, map};
+ghost use Rattle.lex_semantics.specs.Machine.{state_after};
 ghost use Rattle.lexlook_same.specs.Same.{deed_of, deed_in, rules_at, deeds_at, deeds_in, number_in, renumbered};
 ghost use Rattle.lex_machine.specs.Views.{statement_of, cut_of};
 
@@ -50,8 +51,10 @@ fn is_same(order: &[u8], statement: &Statement, other: &Statement) -> bool
 
 /// Whether these are the same statements, one after another.
 fn are_same(order: &[u8], statements: &[Statement], others: &[Statement]) -> bool
-    ensures yes { result ≡ true → map (renumbered order.now) (map statement_of statements.now) ≡ map statement_of others.now }
-    ensures no { result ≡ false → map (renumbered order.now) (map statement_of statements.now) ≡ map statement_of others.now → ⊥ }
+    ensures yes { result ≡ true
+        → map (renumbered order.now) (map statement_of statements.now) ≡ map statement_of others.now }
+    ensures no { result ≡ false
+        → map (renumbered order.now) (map statement_of statements.now) ≡ map statement_of others.now → ⊥ }
 {
     if statements.len() != others.len() {
         return false;
@@ -71,7 +74,8 @@ fn do_same<A: Machine, B: Machine>(order: &[u8], left: &A, rule: u32, right: &B,
     requires rule { rule < (A.machine left.now).count }
     requires other { other < (B.machine right.now).count }
     ensures yes { result ≡ true → deed_in order.now (A.machine left.now) rule ≡ deed_of (B.machine right.now) other }
-    ensures no { result ≡ false → deed_in order.now (A.machine left.now) rule ≡ deed_of (B.machine right.now) other → ⊥ }
+    ensures no { result ≡ false
+        → deed_in order.now (A.machine left.now) rule ≡ deed_of (B.machine right.now) other → ⊥ }
 {
     let (cut, statements) = left.rule(rule);
     let (other_cut, others) = right.rule(other);
@@ -120,4 +124,32 @@ pub fn agree<A: Machine, B: Machine>(
         at += 1;
     }
     true
+}
+
+/// The state after a text, from a condition on, at the start of a line or not.
+fn state_after<M: Machine>(machine: &M, condition: u8, line_start: bool, text: &[u8]) -> u32
+    requires { condition < (M.machine machine.now).conditions }
+    ensures state { result ≡ state_after (M.machine machine.now) condition line_start text.now }
+    ensures known { result < M.states machine.now }
+{
+    let mut state = machine.start(condition, line_start);
+    for byte in text {
+        state = machine.step(state, *byte);
+    }
+    state
+}
+
+/// The rules of which a match of this text asks, from a condition on, at the start of a line or not.
+pub fn rules_after<'a, M: Machine>(
+    machine: &'a M,
+    all: bool,
+    condition: u8,
+    line_start: bool,
+    text: &[u8],
+) -> &'a [u32]
+    requires { condition < (M.machine machine.now).conditions }
+    ensures { result.now ≡ rules_at all (M.machine machine.now)
+        (state_after (M.machine machine.now) condition line_start text.now) }
+{
+    rules_at(machine, all, state_after(machine, condition, line_start, text))
 }

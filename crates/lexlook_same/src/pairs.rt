@@ -99,8 +99,8 @@ fn next_pair<A: Machine, B: Machine>(
     }
 }
 
-/// Finds the pairs to which each byte leads from the pair at this place. Answers the first byte after which the machines do not do
-/// the same, where there is one.
+/// Finds the pairs to which each byte leads from the pair at this place. Answers the first byte after which the machines
+/// do not do the same, where there is one.
 pub(crate) fn widen<A: Machine, B: Machine>(
     order: &[u8],
     left: &A,
@@ -113,14 +113,16 @@ pub(crate) fn widen<A: Machine, B: Machine>(
 ) -> Result<Option<u8>, AllocError>
     requires place { place < length pairs.old.items }
     requires width { width ≡ B.states right.now }
-    requires searched { Searched order.now all (A.machine left.now) (B.machine right.now) (A.states left.now) (B.states right.now)
-        pairs.old.items seen.old.items place 0 }
+    requires searched { Searched order.now all (A.machine left.now) (B.machine right.now)
+        (A.states left.now) (B.states right.now) pairs.old.items seen.old.items place 0 }
     ensures longer { OnOk result (length pairs.old.items ≤ length pairs.new.items) }
     ensures fewer { OnOk result (unseen seen.new.items + length pairs.new.items
         ≤ unseen seen.old.items + length pairs.old.items) }
-    ensures none { IfOk result (λ found. found ≡ None → Searched order.now all (A.machine left.now) (B.machine right.now)
+    ensures none { IfOk result (λ found. found ≡ None
+        → Searched order.now all (A.machine left.now) (B.machine right.now)
         (A.states left.now) (B.states right.now) pairs.new.items seen.new.items place 256) }
-    ensures some { IfOk result (λ found. IfSome found (λ byte. Searched order.now all (A.machine left.now) (B.machine right.now)
+    ensures some { IfOk result (λ found. IfSome found (λ byte.
+        Searched order.now all (A.machine left.now) (B.machine right.now)
         (A.states left.now) (B.states right.now) pairs.new.items seen.new.items place byte
         × DifferAt order.now all (A.machine left.now) (B.machine right.now) pairs.new.items place byte)) }
 {
