@@ -1,3 +1,5 @@
+pub mod Numbering
+pub mod Orders
 pub mod Lists
 pub mod Asked
 pub mod Starting

@@ -48,3 +48,20 @@ pub at_place : {X : Type 0} (xs : List X) (i : ℕ) (d : X) → i < length xs �
 at_place [] i d lt = absurd (omega (arith, lt))
 at_place (x ∷ xs) zero d lt = refl
 at_place (x ∷ xs) (suc i) d lt = at_place xs i d (omega (arith, lt))
+
+-- an element of a list that is gone over
+pub in_map : {X Y : Type 0} (f : X → Y) (xs : List X) (i : ℕ) (x : X) → slice_get xs i ≡ Some x → slice_get (map f xs) i ≡ Some (f x)
+in_map f [] i x at = absurd cc
+in_map f (y ∷ xs) zero x at = (let e : y ≡ x = cc in ap (λ z. Some (f z)) e)
+in_map f (y ∷ xs) (suc i) x at = in_map f xs i x at
+
+pub from_map : {X Y : Type 0} (f : X → Y) (xs : List X) (i : ℕ) (y : Y) → slice_get (map f xs) i ≡ Some y → (x : X) × (slice_get xs i ≡ Some x) × (y ≡ f x)
+from_map f [] i y at = absurd cc
+from_map f (x ∷ xs) zero y at = (x, refl, cc)
+from_map f (x ∷ xs) (suc i) y at = from_map f xs i y at
+
+-- each place below the length has an element
+pub some_at : {X : Type 0} (xs : List X) (i : ℕ) → i < length xs → (x : X) × (slice_get xs i ≡ Some x)
+some_at [] i lt = absurd (omega (arith, lt))
+some_at (x ∷ xs) zero lt = (x, refl)
+some_at (x ∷ xs) (suc i) lt = some_at xs i (omega (arith, lt))

@@ -1,10 +1,10 @@
 -- What is told of two machines. (This project's.)
-use Rattle.std.specs.Prelude.{◌≡◌, ℕ, ◌<◌, Bool, true, false, Option, Some, None, ◌⊎◌}
+use Rattle.std.specs.Prelude.{◌≡◌, ℕ, ◌<◌, Bool, true, false, Option, Some, None, List, ◌⊎◌}
 use Rattle.lex_semantics.specs.Machine.{Machine}
 use Rattle.lex_semantics.specs.MachineLaws.{NoReject, SomeReject}
 use Rattle.lexlook_same.specs.declared.tables.Comparison.{Comparison}
 use Rattle.lexlook_same.specs.declared.tables.Comparison.TheVariants.{Same, Conditions, Ends, Texts}
-use Rattle.lexlook_same.specs.Same.{AreSame, Differs}
+use Rattle.lexlook_same.specs.Same.{AreSame, Differs, number_in}
 
 -- all rules that a state accepts count where some rule has REJECT, and else the first alone
 abbrev pub Counts : Bool → Machine → Machine → Type 0
@@ -12,12 +12,12 @@ Counts true M N = SomeReject M ⊎ SomeReject N
 Counts false M N = NoReject M × NoReject N
 
 -- at the end of the input both do the same in each condition, or they do not in this one
-abbrev pub HaveEnds : Machine → Machine → Option ℕ → Type 0
-HaveEnds M N None = (c : ℕ) → c < M.conditions → M.ending c ≡ N.ending c
-HaveEnds M N (Some c) = (c < M.conditions) × (M.ending c ≡ N.ending c → ⊥)
+abbrev pub HaveEnds : List ℕ → Machine → Machine → Option ℕ → Type 0
+HaveEnds order M N None = (c : ℕ) → c < M.conditions → M.ending c ≡ N.ending (number_in order c)
+HaveEnds order M N (Some c) = (c < M.conditions) × (M.ending c ≡ N.ending (number_in order c) → ⊥)
 
-abbrev pub Compares : Machine → Machine → Comparison → Type 0
-Compares M N Same = (M.conditions ≡ N.conditions) × HaveEnds M N None × (all : Bool) × Counts all M N × AreSame all M N
-Compares M N Conditions = M.conditions ≡ N.conditions → ⊥
-Compares M N (Ends c) = (M.conditions ≡ N.conditions) × HaveEnds M N (Some c)
-Compares M N (Texts d) = (M.conditions ≡ N.conditions) × HaveEnds M N None × (all : Bool) × Counts all M N × Differs all M N d
+abbrev pub Compares : List ℕ → Machine → Machine → Comparison → Type 0
+Compares order M N Same = (M.conditions ≡ N.conditions) × HaveEnds order M N None × (all : Bool) × Counts all M N × AreSame order all M N
+Compares order M N Conditions = M.conditions ≡ N.conditions → ⊥
+Compares order M N (Ends c) = (M.conditions ≡ N.conditions) × HaveEnds order M N (Some c)
+Compares order M N (Texts d) = (M.conditions ≡ N.conditions) × HaveEnds order M N None × (all : Bool) × Counts all M N × Differs order all M N d

@@ -1,4 +1,5 @@
-//! Says whether two machines do the same of each match, and else shows a shortest text on which they do not.
+//! Says whether two machines do the same of each match, and else shows the first of the shortest texts of which they
+//! do not.
 #![tactic(auto)]
 
 mod deeds;
@@ -6,5 +7,6 @@ mod differing;
 mod pairs;
 mod tables;
 
+pub use deeds::{number_in, rules_after};
 pub use differing::{Difference, Sizes, tell_apart};
-pub use tables::{Comparison, compare};
+pub use tables::{Comparison, compare, counts_all};

@@ -1,9 +1,10 @@
 //! Pairs of states, one of each machine, in the order in which texts lead to them: shorter texts first.
 ghost use Rattle.std.specs.Prelude.{◌≡◌, ◌+◌, ◌*◌, ◌^◌, ◌<◌, ◌≤◌, ℕ, length, slice_get, Some, None, IfOk, IfSome, OnOk};
 ghost use Rattle.lexlook_same.specs.declared.pairs.From.{From};
+ghost use Rattle.lexlook_same.specs.Same.{number_in};
 ghost use Rattle.lexlook_same.specs.Searching.{HasAt, IsNext, AreStarts, Searched, DifferAt, GoesOn, unseen};
 
-use crate::deeds::agree;
+use crate::deeds::{agree, number_in};
 use lex_machine::Machine;
 use std::alloc::{AllocError, Global};
 
@@ -26,11 +27,17 @@ pub(crate) struct Pair {
 }
 
 /// Both machines where a match starts.
-fn start_at<A: Machine, B: Machine>(left: &A, right: &B, condition: u8, line_start: bool) -> Pair
+fn start_at<A: Machine, B: Machine>(
+    order: &[u8],
+    left: &A,
+    right: &B,
+    condition: u8,
+    line_start: bool,
+) -> Pair
     requires left { condition < (A.machine left.now).conditions }
-    requires right { condition < (B.machine right.now).conditions }
+    requires right { number_in order.now condition < (B.machine right.now).conditions }
     ensures left { result.left ≡ (A.machine left.now).start condition line_start }
-    ensures right { result.right ≡ (B.machine right.now).start condition line_start }
+    ensures right { result.right ≡ (B.machine right.now).start (number_in order.now condition) line_start }
     ensures far { result.far ≡ 0 }
     ensures from { result.from ≡ From.Start condition line_start }
     ensures known_left { result.left < A.states left.now }
@@ -38,7 +45,7 @@ fn start_at<A: Machine, B: Machine>(left: &A, right: &B, condition: u8, line_sta
 {
     Pair {
         left: left.start(condition, line_start),
-        right: right.start(condition, line_start),
+        right: right.start(number_in(order, condition), line_start),
         far: 0,
         from: From::Start {
             condition,
@@ -50,19 +57,20 @@ fn start_at<A: Machine, B: Machine>(left: &A, right: &B, condition: u8, line_sta
 /// The pairs in which matches start.
 pub(crate) fn starts<A: Machine, B: Machine>(
     alloc: Global,
+    order: &[u8],
     left: &A,
     right: &B,
     conditions: u8,
 ) -> Result<Vec<Pair>, AllocError>
     requires left { conditions ≡ (A.machine left.now).conditions }
-    requires right { conditions ≡ (B.machine right.now).conditions }
-    ensures { IfOk result (λ v. AreStarts (A.machine left.now) (B.machine right.now)
+    requires right { (c : ℕ) → c < conditions → number_in order.now c < (B.machine right.now).conditions }
+    ensures { IfOk result (λ v. AreStarts order.now (A.machine left.now) (B.machine right.now)
         (A.states left.now) (B.states right.now) v.items conditions) }
 {
     let mut pairs = Vec::new(alloc);
     for condition in 0..conditions {
-        pairs.push(start_at(left, right, condition, false))?;
-        pairs.push(start_at(left, right, condition, true))?;
+        pairs.push(start_at(order, left, right, condition, false))?;
+        pairs.push(start_at(order, left, right, condition, true))?;
     }
     Ok(pairs)
 }
@@ -91,9 +99,10 @@ fn next_pair<A: Machine, B: Machine>(
     }
 }
 
-/// Finds the pairs to which each byte leads from the pair at this place. Answers the first byte after which the machines do not do
-/// the same, where there is one.
+/// Finds the pairs to which each byte leads from the pair at this place. Answers the first byte after which the machines
+/// do not do the same, where there is one.
 pub(crate) fn widen<A: Machine, B: Machine>(
+    order: &[u8],
     left: &A,
     right: &B,
     all: bool,
@@ -104,23 +113,25 @@ pub(crate) fn widen<A: Machine, B: Machine>(
 ) -> Result<Option<u8>, AllocError>
     requires place { place < length pairs.old.items }
     requires width { width ≡ B.states right.now }
-    requires searched { Searched all (A.machine left.now) (B.machine right.now) (A.states left.now) (B.states right.now)
-        pairs.old.items seen.old.items place 0 }
+    requires searched { Searched order.now all (A.machine left.now) (B.machine right.now)
+        (A.states left.now) (B.states right.now) pairs.old.items seen.old.items place 0 }
     ensures longer { OnOk result (length pairs.old.items ≤ length pairs.new.items) }
     ensures fewer { OnOk result (unseen seen.new.items + length pairs.new.items
         ≤ unseen seen.old.items + length pairs.old.items) }
-    ensures none { IfOk result (λ found. found ≡ None → Searched all (A.machine left.now) (B.machine right.now)
+    ensures none { IfOk result (λ found. found ≡ None
+        → Searched order.now all (A.machine left.now) (B.machine right.now)
         (A.states left.now) (B.states right.now) pairs.new.items seen.new.items place 256) }
-    ensures some { IfOk result (λ found. IfSome found (λ byte. Searched all (A.machine left.now) (B.machine right.now)
+    ensures some { IfOk result (λ found. IfSome found (λ byte.
+        Searched order.now all (A.machine left.now) (B.machine right.now)
         (A.states left.now) (B.states right.now) pairs.new.items seen.new.items place byte
-        × DifferAt all (A.machine left.now) (B.machine right.now) pairs.new.items place byte)) }
+        × DifferAt order.now all (A.machine left.now) (B.machine right.now) pairs.new.items place byte)) }
 {
     let pair = pairs[place];
     'bytes: for byte in 0..256u32 {
         let next = next_pair(left, right, pair, place, byte as u8);
         let at = next.left as usize * width + next.right as usize;
         if !seen[at] {
-            if !agree(left, right, all, next.left, next.right) {
+            if !agree(order, left, right, all, next.left, next.right) {
                 return Ok(Some(byte as u8));
             }
             seen[at] = true;

@@ -2,8 +2,10 @@
 ghost use Rattle.std.specs.Prelude.{◌≡◌, ℕ, ◌<◌, ◌≤◌, true, false, length, IfOk};
 ghost use Rattle.lex_machine.specs.Views.{end_action_of};
 ghost use Rattle.lextab_packed.specs.Machines.{machine_of};
+ghost use Rattle.lexlook_same.specs.Same.{number_in};
 ghost use Rattle.lexlook_same.specs.Comparing.{Compares, Counts, HaveEnds};
 
+use crate::deeds::number_in;
 use crate::differing::{Difference, Sizes, tell_apart};
 use lex_machine::{EndAction, Machine};
 use lextab_packed::Tables;
@@ -31,13 +33,13 @@ fn is_end(end: &EndAction, other: &EndAction) -> bool
 }
 
 /// The first condition whose end actions are not the same.
-fn other_end(left: &Tables, right: &Tables, conditions: u8) -> Option<u8>
+fn other_end(order: &[u8], left: &Tables, right: &Tables, conditions: u8) -> Option<u8>
     requires left { conditions ≡ (machine_of left.now).conditions }
-    requires right { conditions ≡ (machine_of right.now).conditions }
-    ensures { HaveEnds (machine_of left.now) (machine_of right.now) result }
+    requires right { (c : ℕ) → c < conditions → number_in order.now c < (machine_of right.now).conditions }
+    ensures { HaveEnds order.now (machine_of left.now) (machine_of right.now) result }
 {
     for condition in 0..conditions {
-        if !is_end(left.eof(condition), right.eof(condition)) {
+        if !is_end(left.eof(condition), right.eof(number_in(order, condition))) {
             return Some(condition);
         }
     }
@@ -45,16 +47,24 @@ fn other_end(left: &Tables, right: &Tables, conditions: u8) -> Option<u8>
 }
 
 /// Whether all rules that a state accepts count, since some rule has REJECT.
-fn counts_all(left: &Tables, right: &Tables) -> bool
+pub fn counts_all(left: &Tables, right: &Tables) -> bool
     ensures { Counts result (machine_of left.now) (machine_of right.now) }
 {
     left.rejects() || right.rejects()
 }
 
-/// Says whether two tables do the same of each match, from each condition on, and at the end of the input. The conditions are
-/// taken in their order. Where they do not, it shows a condition, and a shortest text.
-pub fn compare(alloc: Global, left: &Tables, right: &Tables) -> Result<Comparison, AllocError>
-    ensures { IfOk result (λ told. Compares (machine_of left.now) (machine_of right.now) told) }
+/// Says whether two tables do the same of each match, from each condition on, and at the end of the input. A condition of
+/// the left one has the number in the right one that stands at its place in `order`, or else its own. Where they do not,
+/// it shows a condition, and the first text, as `tell_apart` does.
+pub fn compare(
+    alloc: Global,
+    order: &[u8],
+    left: &Tables,
+    right: &Tables,
+) -> Result<Comparison, AllocError>
+    requires { (machine_of left.now).conditions ≡ (machine_of right.now).conditions
+        → (c : ℕ) → c < (machine_of left.now).conditions → number_in order.now c < (machine_of right.now).conditions }
+    ensures { IfOk result (λ told. Compares order.now (machine_of left.now) (machine_of right.now) told) }
 {
     let conditions = left.parts().conditions.len();
     if conditions != right.parts().conditions.len() {
@@ -65,11 +75,11 @@ pub fn compare(alloc: Global, left: &Tables, right: &Tables) -> Result<Compariso
         right: right.parts().rows.len() as u32,
         conditions: conditions as u8,
     };
-    match other_end(left, right, sizes.conditions) {
+    match other_end(order, left, right, sizes.conditions) {
         Some(condition) => Ok(Comparison::Ends(condition)),
         None => {
             let all = counts_all(left, right);
-            match tell_apart(alloc, left, right, all, sizes)? {
+            match tell_apart(alloc, order, left, right, all, sizes)? {
                 None => Ok(Comparison::Same),
                 Some(difference) => Ok(Comparison::Texts(difference)),
             }

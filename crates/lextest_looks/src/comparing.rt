@@ -122,7 +122,7 @@ fn is_at(difference: &Difference, condition: u8, text: Text) -> bool {
 
 /// Whether this is told of the two tables.
 fn is_told(alloc: Global, left: &Generated, right: &Generated, told: Told) -> bool {
-    match (compare(alloc, &left.tables, &right.tables), told) {
+    match (compare(alloc, &[], &left.tables, &right.tables), told) {
         (Ok(Comparison::Same), Told::Same) => true,
         (Ok(Comparison::Conditions), Told::Conditions) => true,
         (Ok(Comparison::Ends(condition)), Told::Ends(wanted)) => condition == wanted,

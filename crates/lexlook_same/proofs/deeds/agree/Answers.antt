@@ -1,8 +1,7 @@
-use Rattle.std.proofs.Common.{◌≡◌, ℕ, ◌<◌, ◌≤◌, ◌+◌, List, Bool, true, false, length, get_or, sym, ap, subst, ◌∙◌, arith}
-use Rattle.std.specs.Prelude.{take, map}
+use Rattle.std.proofs.Common.{sym, ap, ◌∙◌, arith}
+use Rattle.std.specs.Prelude.{map}
 use Rattle.lex_semantics.specs.Machine.{Machine}
-use Rattle.lex_semantics.specs.MachineLaws.{MachineLaws}
-use Rattle.lexlook_same.specs.Same.{deed_of, rules_at}
+use Rattle.lexlook_same.specs.Same.{deed_of, deed_in}
 use Rattle.lexlook_same.proofs.Lists.{one_more, same_at}
 use Rattle.lexlook_same.proofs.Asked.{in_count}
 use Rattle.lexlook_same.proofs.deeds.agree.Goals as goal
@@ -19,12 +18,12 @@ returns-then-not-do_same-clause-no g c = λ no same.
     let M : Machine = g.A.Machine.machine c.args.left.now in
     let N : Machine = g.B.Machine.machine c.args.right.now in
     c.do_same.ensures.no c.if-not-do_same.true
-    (same_at (deed_of M) (deed_of N) c.rules_at-rules.result.now c.rules_at-others.result.now c.places.at 0 0 (omega (arith, c.places-test.true)) (omega (arith, c.places-test.true, c.if-rules-others.false))
-    (ap (map (deed_of M)) c.rules_at-rules.ensures ∙ same ∙ sym (ap (map (deed_of N)) c.rules_at-others.ensures)))
+    (same_at (deed_in c.args.order.now M) (deed_of N) c.rules_at-rules.result.now c.rules_at-others.result.now c.places.at 0 0 (omega (arith, c.places-test.true)) (omega (arith, c.places-test.true, c.if-rules-others.false))
+    (ap (map (deed_in c.args.order.now M)) c.rules_at-rules.ensures ∙ same ∙ sym (ap (map (deed_of N)) c.rules_at-others.ensures)))
 
 pub places-preserved : goal.places-preserved
 places-preserved g c = record {
   within = omega (arith, c.places-test.true);
-  same = one_more (deed_of (g.A.Machine.machine c.args.left.now)) (deed_of (g.B.Machine.machine c.args.right.now)) c.rules_at-rules.result.now c.rules_at-others.result.now c.places.at 0 0 (omega (arith, c.places-test.true)) (omega (arith, c.places-test.true, c.if-rules-others.false)) c.places.invariant.same
+  same = one_more (deed_in c.args.order.now (g.A.Machine.machine c.args.left.now)) (deed_of (g.B.Machine.machine c.args.right.now)) c.rules_at-rules.result.now c.rules_at-others.result.now c.places.at 0 0 (omega (arith, c.places-test.true)) (omega (arith, c.places-test.true, c.if-rules-others.false)) c.places.invariant.same
       (c.do_same.ensures.yes c.if-not-do_same.false);
 }

@@ -1,4 +1,4 @@
-use Rattle.std.proofs.Common.{◌≡◌, ℕ, ◌≤◌, ◌<◌, ◌+◌, ◌*◌, List, Bool, [], ◌∷◌, ◌++◌, length, true, false, get_or, refl, sym, ap, subst, ◌∙◌, arith}
+use Rattle.std.proofs.Common.{◌≡◌, ℕ, ◌<◌, ◌+◌, ◌*◌, List, Bool, [], ◌∷◌, ◌++◌, length, true, false, get_or, sym, ap, subst, ◌∙◌, arith}
 use Rattle.std.proofs.Math.ListN.{set}
 use Rattle.std.proofs.lemmas.List.{length-append}
 use Rattle.lex_semantics.specs.Machine.{Machine}
@@ -18,10 +18,10 @@ bytes-preserved g c = elim c.if-not-index.branch [
         here = subst (λ l. HasAt l c.args.place p) (sym pairs) (before_last ps x c.args.place p c.bytes.invariant.here);
         longer = omega (arith, ap length pairs, length-append ps (x ∷ []), c.bytes.invariant.longer);
         fewer = (let less = Widen.unseen_less seen k inside fresh in omega (arith, less, ap unseen seen', ap length pairs, length-append ps (x ∷ []), c.bytes.invariant.fewer));
-        searched = subst (λ l. Searched all M N m (g.B.Machine.states c.args.right.now) l c.if-not-index.seen.items c.args.place (b + 1)) (sym pairs)
-            (subst (λ l. Searched all M N m (g.B.Machine.states c.args.right.now) (ps ++ x ∷ []) l c.args.place (b + 1)) (sym seen')
-            (subst (λ z. Searched all M N m z (ps ++ x ∷ []) (set seen k true) c.args.place (b + 1)) c.requires.width
-            (Widen.seen_now all M N m n ps seen c.args.place b p x h c.bytes.invariant.here c.next_pair-next.ensures.next c.next_pair-next.ensures.known_left in_n c.next_pair-next.ensures.from small (w.agree.ensures.yes w.if-not-agree.false) inside)));
+        searched = subst (λ l. Searched order all M N m (g.B.Machine.states c.args.right.now) l c.if-not-index.seen.items c.args.place (b + 1)) (sym pairs)
+            (subst (λ l. Searched order all M N m (g.B.Machine.states c.args.right.now) (ps ++ x ∷ []) l c.args.place (b + 1)) (sym seen')
+            (subst (λ z. Searched order all M N m z (ps ++ x ∷ []) (set seen k true) c.args.place (b + 1)) c.requires.width
+            (Widen.seen_now order all M N m n ps seen c.args.place b p x h c.bytes.invariant.here c.next_pair-next.ensures.next c.next_pair-next.ensures.known_left in_n c.next_pair-next.ensures.from small (w.agree.ensures.yes w.if-not-agree.false) inside)));
       })
   | else-not-index w ↦ (let pairs : c.if-not-index.pairs.items ≡ ps = ap (λ v. v.items) w.pairs-is in
       let seen' : c.if-not-index.seen.items ≡ seen = ap (λ v. v.items) w.seen-is in
@@ -29,13 +29,16 @@ bytes-preserved g c = elim c.if-not-index.branch [
         here = subst (λ l. HasAt l c.args.place p) (sym pairs) c.bytes.invariant.here;
         longer = omega (arith, ap length pairs, c.bytes.invariant.longer);
         fewer = omega (arith, ap unseen seen', ap length pairs, c.bytes.invariant.fewer);
-        searched = subst (λ l. Searched all M N m (g.B.Machine.states c.args.right.now) l c.if-not-index.seen.items c.args.place (b + 1)) (sym pairs)
-            (subst (λ l. Searched all M N m (g.B.Machine.states c.args.right.now) ps l c.args.place (b + 1)) (sym seen')
-            (subst (λ z. Searched all M N m z ps seen c.args.place (b + 1)) c.requires.width
-            (Widen.seen_before all M N m n ps seen c.args.place b p x h c.bytes.invariant.here c.next_pair-next.ensures.next c.next_pair-next.ensures.known_left in_n (sym told ∙ w.if-not-index.false))));
+        searched = subst (λ l. Searched order all M N m (g.B.Machine.states c.args.right.now) l c.if-not-index.seen.items c.args.place (b + 1)) (sym pairs)
+            (subst (λ l. Searched order all M N m (g.B.Machine.states c.args.right.now) ps l c.args.place (b + 1)) (sym seen')
+            (subst (λ z. Searched order all M N m z ps seen c.args.place (b + 1)) c.requires.width
+            (Widen.seen_before order all M N m n ps seen c.args.place b p x h c.bytes.invariant.here c.next_pair-next.ensures.next c.next_pair-next.ensures.known_left in_n (sym told ∙ w.if-not-index.false))));
       })
 ]
   where
+    order : List ℕ
+    order = c.args.order.now
+
     M : Machine
     M = g.A.Machine.machine c.args.left.now
 
@@ -72,8 +75,8 @@ bytes-preserved g c = elim c.if-not-index.branch [
     k : ℕ
     k = x.left * n + x.right
 
-    h : Searched all M N m n ps seen c.args.place b
-    h = subst (λ z. Searched all M N m z ps seen c.args.place b) (sym c.requires.width) c.bytes.invariant.searched
+    h : Searched order all M N m n ps seen c.args.place b
+    h = subst (λ z. Searched order all M N m z ps seen c.args.place b) (sym c.requires.width) c.bytes.invariant.searched
 
     in_n : x.right < n
     in_n = subst (λ z. x.right < z) (sym c.requires.width) c.next_pair-next.ensures.known_right
