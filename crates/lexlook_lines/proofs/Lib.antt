@@ -1,0 +1,6 @@
+pub mod Does
+pub mod Settles
+pub mod Newlines
+pub mod Homes
+pub mod Shifts
+pub mod Apart
