@@ -5,7 +5,6 @@ use Rattle.lex_semantics.specs.Text.{Among}
 use Rattle.lex_semantics.specs.Spec.{Statement, Echo, Print, Begin, More, Less, Reject, End, Push, Pop}
 use Rattle.lex_semantics.specs.Acting.{Acting, ActionResult, Done, Again, Over, act}
 use Rattle.lex_semantics.proofs.Actions.{BeginsBelow}
-use Rattle.lexlook_lines.specs.Lines.{IsSteady}
 
 -- what statements leave of what was there before them
 pub record Leaves (n : ℕ) (ss : List Statement) (a b : Acting) : Type 0 where

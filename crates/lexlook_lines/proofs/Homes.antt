@@ -2,7 +2,7 @@
 use Rattle.std.proofs.Common.{◌≡◌, ℕ, zero, suc, ◌+◌, ◌-◌, ◌≤◌, ◌<◌, Bool, true, false, List, [], ◌∷◌, ◌++◌, length, take, drop, ◌⊎◌, inl, inr, Option, Some, None, refl, sym, ◌∙◌, ap, subst, arith}
 use Rattle.std.specs.Prelude.{nat_eq, nat_lt, if◌then◌else◌, ⊤}
 use Rattle.std.proofs.lemmas.List.{length-append, length-take-le, length-drop, drop_all, append-nil}
-use Rattle.std.proofs.lemmas.Bool.{cond-true, cond-false, lt-ltb, le-ltb, cases_lt, eqb-true}
+use Rattle.std.proofs.lemmas.Bool.{cond-true, cond-false, lt-ltb, le-ltb, cases_lt, eqb-true, eq-eqb}
 use Rattle.lex_semantics.specs.Text.{IsText, Among, part, byte_at, at_line_start}
 use Rattle.lex_semantics.specs.Spec.{Cut, Whole, Head, Trail, Statement, Echo, Begin, More, Reject, End, Push, Pop}
 use Rattle.lex_semantics.specs.Rules.{Rules, Full, statements_of}
@@ -18,7 +18,8 @@ use Rattle.lex_semantics.proofs.Actions.{less_from_one, begins_below}
 use Rattle.lex_semantics.proofs.Ends as E
 use Rattle.lex_semantics.proofs.Local.{keep_inside}
 use Rattle.lex_semantics.proofs.Texts.{is_text_take, is_text_drop}
-use Rattle.lexlook_lines.specs.Lines.{MayKeepLast, IsSteady, EndsLine, after_line, TakesLine, KeepsLines}
+use Rattle.lexlook_lines.specs.Lines.{may_keep_last, after_line, TakesLine, KeepsLines}
+use Rattle.lexlook_lines.proofs.Deeds.{IsSteady, EndsLine, steady_of, ends_of, stays}
 use Rattle.lexlook_lines.proofs.Does.{Leaves, Does, does}
 use Rattle.lexlook_lines.proofs.Settles.{Settles, settles, begin}
 use Rattle.lexlook_lines.proofs.Newlines.{split_at, byte_at_take, byte_at_drop, last_alone}
@@ -44,10 +45,10 @@ echo_steady = record { no_end = λ e at. elim at [ inl is ↦ absurd cc | inr at
     not (inr at) = at
 
 -- the whole of a match may have its last byte in its text
-may_keep : (c : Cut) (n k : ℕ) → Keeps c n k → k ≡ n → MayKeepLast c
-may_keep Whole n k h e = tt
-may_keep (Head m) n k h e = tt
-may_keep (Trail t) n k h e = omega (arith, h.0, e)
+may_keep : (c : Cut) (n k : ℕ) → Keeps c n k → k ≡ n → may_keep_last c ≡ true
+may_keep Whole n k h e = refl
+may_keep (Head m) n k h e = refl
+may_keep (Trail t) n k h e = eq-eqb t 0 (omega (arith, h.0, e))
 
 no_more_in_echo : Among (Echo ∷ []) More → ⊥
 no_more_in_echo (inl is) = absurd cc
@@ -75,7 +76,7 @@ module _ (M : Machine) (laws : MachineLaws M) (keeps : KeepsLines M) where
 
   pub steady : (i : ℕ) → IsSteady (statements_of R i)
   steady i = elim (cases_lt i M.count) [
-    | inl lt ↦ subst IsSteady (sym (own_statements i lt)) (keeps.steady i lt)
+    | inl lt ↦ subst IsSteady (sym (own_statements i lt)) (steady_of (M.statements i) (keeps.steady i lt))
     | inr le ↦ subst IsSteady (sym (default_statements i le)) echo_steady
   ]
 
@@ -159,7 +160,7 @@ module _ (M : Machine) (laws : MachineLaws M) (keeps : KeepsLines M) where
         home_by ends = (left.home ends.home ends.begins, λ e. elim (left.more e) [ inl was ↦ no_true was | inr at ↦ ends.no_more at ])
 
         from : Full R p.condition line_start w m.rule m.keep → (b.condition ≡ 0) × (b.more ≡ true → ⊥)
-        from (inl f) = home_by (subst (EndsLine p.condition) (sym (own_statements m.rule f.0)) (keeps.ends p.condition line_start (take j w) h.condition (is_text_take j w w_text) m.rule accepted may))
+        from (inl f) = home_by (subst (EndsLine p.condition) (sym (own_statements m.rule f.0)) (ends_of p.condition (M.statements m.rule) (keeps.ends p.condition line_start (take j w) h.condition (is_text_take j w w_text) m.rule accepted may)))
           where
             w_text : IsText w
             w_text = is_text_take m.len y (is_text_drop p.at x text)
@@ -177,7 +178,7 @@ module _ (M : Machine) (laws : MachineLaws M) (keeps : KeepsLines M) where
             accepted : Among (M.accepts (after_line M p.condition line_start (take j w))) m.rule
             accepted = subst (λ v. Among (M.accepts (state_after M p.condition line_start v)) m.rule) whole f.1.accepted
 
-            may : MayKeepLast (M.cut m.rule)
+            may : may_keep_last (M.cut m.rule) ≡ true
             may = may_keep (M.cut m.rule) (length w) m.keep f.1.keeps (omega (arith, end, lt, keep_fits, w_size))
         from (inr f) = (left.same (λ d at. no_begin_in_echo d (subst (λ z. Among z (Begin d)) echoes at)) ∙ initial p.condition refl, λ e. elim (left.more e) [ inl was ↦ no_true was | inr at ↦ no_more_in_echo (subst (λ z. Among z More) echoes at) ])
           where
@@ -196,7 +197,7 @@ module _ (M : Machine) (laws : MachineLaws M) (keeps : KeepsLines M) where
 
             initial : (c : ℕ) → p.condition ≡ c → p.condition ≡ 0
             initial zero e = e
-            initial (suc c) e = absurd (t.stays (subst (λ z. Among z Reject) (own_statements t.rule below) rejected))
+            initial (suc c) e = absurd (stays (M.statements t.rule) t.stays (subst (λ z. Among z Reject) (own_statements t.rule below) rejected))
               where
                 t : TakesLine M p.condition line_start
                 t = keeps.takes p.condition line_start (omega (arith, e)) h.condition

@@ -5,7 +5,7 @@ use Rattle.lex_semantics.specs.Spec.{Statement, Begin, Reject}
 use Rattle.lex_semantics.specs.Rules.{Rules, statements_of}
 use Rattle.lex_semantics.specs.Candidates.{Candidate, Before, InOrder}
 use Rattle.lex_semantics.specs.Acting.{Acting, Matched, ActionResult, Done, Again, Over, act, settle, perform}
-use Rattle.lexlook_lines.specs.Lines.{IsSteady}
+use Rattle.lexlook_lines.proofs.Deeds.{IsSteady}
 use Rattle.lexlook_lines.proofs.Does.{Does, does}
 
 -- where an action begins

@@ -1,7 +1,8 @@
 -- When an input may be cut after any newline, and its pieces scanned apart. (This project's.)
-use Rattle.std.specs.Prelude.{◌≡◌, ℕ, ◌≤◌, ◌<◌, Bool, false, List, [], ◌∷◌, ◌++◌, ◌⊎◌, ⊤}
+use Rattle.std.specs.Prelude.{◌≡◌, ℕ, ◌≤◌, ◌<◌, Bool, true, false, not, ◌&&◌, ◌||◌, nat_eq, List, [], ◌∷◌, ◌++◌}
+use Rattle.std.specs.List.{list_any}
 use Rattle.lex_semantics.specs.Text.{IsText, Among}
-use Rattle.lex_semantics.specs.Spec.{Cut, Whole, Head, Trail, Statement, Begin, More, Reject, End, Push, Pop}
+use Rattle.lex_semantics.specs.Spec.{Cut, Whole, Trail, Statement, Begin, More, End, Push, Pop, has_reject}
 use Rattle.lex_semantics.specs.Rules.{Rules}
 use Rattle.lex_semantics.specs.Machine.{Machine, state_after}
 use Rattle.lex_semantics.specs.Acting.{Ending}
@@ -13,22 +14,39 @@ abbrev pub ScansApart : Rules → Type 0
 ScansApart R = (x y v w : List ℕ) (d e : Ending) → IsText x → IsText y → Run R (x ++ 10 ∷ []) v d → Run R y w e → Run R ((x ++ 10 ∷ []) ++ y) (v ++ w) e
 
 -- the last byte of a match may be one of its text (flex, Patterns: trailing context)
-abbrev pub MayKeepLast : Cut → Type 0
-MayKeepLast (Trail n) = n ≡ 0
-MayKeepLast other = ⊤
+abbrev pub may_keep_last : Cut → Bool
+may_keep_last (Trail n) = nat_eq n 0
+may_keep_last other = true
+
+-- it ends the scan, or uses the stack of conditions (flex, Actions and Start Conditions)
+abbrev pub is_unsteady : Statement → Bool
+is_unsteady (End status) = true
+is_unsteady (Push d) = true
+is_unsteady Pop = true
+is_unsteady other = false
+
+abbrev pub is_begin : Statement → Bool
+is_begin (Begin d) = true
+is_begin other = false
+
+-- it begins INITIAL
+abbrev pub is_home : Statement → Bool
+is_home (Begin d) = nat_eq d 0
+is_home other = false
+
+-- it begins another condition, or keeps the text for the next match
+abbrev pub strays : Statement → Bool
+strays (Begin d) = not (nat_eq d 0)
+strays More = true
+strays other = false
 
 -- An action neither ends the scan nor uses the stack of conditions, and sets no condition where it has REJECT.
-pub record IsSteady (ss : List Statement) : Type 0 where
-  pub no_end : (status : ℕ) → Among ss (End status) → ⊥
-  pub no_push : (d : ℕ) → Among ss (Push d) → ⊥
-  pub no_pop : Among ss Pop → ⊥
-  pub rejects : Among ss Reject → (d : ℕ) → Among ss (Begin d) → ⊥
+abbrev pub is_steady : List Statement → Bool
+is_steady ss = not (list_any is_unsteady ss) && not (list_any is_begin ss && has_reject ss)
 
 -- An action that takes a newline in condition c leaves the scan in INITIAL, with no text kept by yymore.
-pub record EndsLine (c : ℕ) (ss : List Statement) : Type 0 where
-  pub home : (d : ℕ) → Among ss (Begin d) → d ≡ 0
-  pub begins : (c ≡ 0) ⊎ Among ss (Begin 0)
-  pub no_more : Among ss More → ⊥
+abbrev pub ends_line : ℕ → List Statement → Bool
+ends_line c ss = (nat_eq c 0 || list_any is_home ss) && not (list_any strays ss)
 
 -- after the newline that ends this text
 abbrev pub after_line : Machine → ℕ → Bool → List ℕ → ℕ
@@ -36,18 +54,18 @@ after_line M c line w = state_after M c line (w ++ 10 ∷ [])
 
 -- each rule that takes the newline after this text leaves the scan in INITIAL
 abbrev pub EndsLineAfter : Machine → ℕ → Bool → List ℕ → Type 0
-EndsLineAfter M c line w = (i : ℕ) → Among (M.accepts (after_line M c line w)) i → MayKeepLast (M.cut i) → EndsLine c (M.statements i)
+EndsLineAfter M c line w = (i : ℕ) → Among (M.accepts (after_line M c line w)) i → may_keep_last (M.cut i) ≡ true → ends_line c (M.statements i) ≡ true
 
 -- a newline alone is taken by some rule, and not by the default rule (POSIX, lex, Rules)
 pub record TakesLine (M : Machine) (c : ℕ) (line : Bool) : Type 0 where
   pub rule : ℕ
   pub accepted : Among (M.accepts (after_line M c line [])) rule
   pub whole : M.cut rule ≡ Whole
-  pub stays : Among (M.statements rule) Reject → ⊥
+  pub stays : has_reject (M.statements rule) ≡ false
 
 -- Each line is scanned for itself.
 pub record KeepsLines (M : Machine) : Type 0 where
-  pub steady : (i : ℕ) → i < M.count → IsSteady (M.statements i)
+  pub steady : (i : ℕ) → i < M.count → is_steady (M.statements i) ≡ true
   -- no match goes on after a newline
   pub stops : (c : ℕ) (line : Bool) (w : List ℕ) → c < M.conditions → IsText w → M.goes_on (after_line M c line w) ≡ false
   pub ends : (c : ℕ) (line : Bool) (w : List ℕ) → c < M.conditions → IsText w → EndsLineAfter M c line w
