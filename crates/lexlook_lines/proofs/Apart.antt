@@ -14,7 +14,7 @@ use Rattle.lex_semantics.proofs.MachineLaws.{machine_laws}
 use Rattle.lex_semantics.proofs.Prefix.{match_turn}
 use Rattle.lex_semantics.proofs.Texts.{is_text_append, is_text_drop, line_start_front, part_front}
 use Rattle.lexlook_lines.specs.Lines.{ScansApart, after_line, KeepsLines}
-use Rattle.lexlook_lines.proofs.Newlines.{byte_at_past}
+use Rattle.lexlook_lines.proofs.Bytes.{byte_at_past}
 use Rattle.lexlook_lines.proofs.Homes as H
 use Rattle.lexlook_lines.proofs.Homes.{Home}
 use Rattle.lexlook_lines.proofs.Shifts as S
@@ -68,7 +68,7 @@ module _ (M : Machine) (laws : MachineLaws M) (keeps : KeepsLines M) (x y : List
 
       stops : M.goes_on (state_after M p.condition (at_line_start (g ++ y) p.at) (drop p.at g)) ≡ false
       stops = subst (λ w. M.goes_on (state_after M p.condition (at_line_start (g ++ y) p.at) w) ≡ false) (sym (drop-append-le p.at x (10 ∷ []) (omega (arith, m.before_end, g_size))))
-          (keeps.stops p.condition (at_line_start (g ++ y) p.at) (drop p.at x) h.condition (is_text_drop p.at x x_text))
+          ((keeps.lines p.condition h.condition).stops (at_line_start (g ++ y) p.at) (drop p.at x) (is_text_drop p.at x x_text))
 
   abbrev Both : ℕ → State → Type 0
   Both n s = Turns R (g ++ y) n s × Home M g s.place

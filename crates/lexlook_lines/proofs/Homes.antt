@@ -22,7 +22,7 @@ use Rattle.lexlook_lines.specs.Lines.{may_keep_last, after_line, TakesLine, Keep
 use Rattle.lexlook_lines.proofs.Deeds.{IsSteady, EndsLine, steady_of, ends_of, stays}
 use Rattle.lexlook_lines.proofs.Does.{Leaves, Does, does}
 use Rattle.lexlook_lines.proofs.Settles.{Settles, settles, begin}
-use Rattle.lexlook_lines.proofs.Newlines.{split_at, byte_at_take, byte_at_drop, last_alone}
+use Rattle.lexlook_lines.proofs.Bytes.{split_at, byte_at_take, byte_at_drop, last_alone}
 
 -- The text so far has no newline, and where a line starts the scan is in INITIAL.
 pub record Home (M : Machine) (x : List ℕ) (p : Place) : Type 0 where
@@ -160,13 +160,13 @@ module _ (M : Machine) (laws : MachineLaws M) (keeps : KeepsLines M) where
         home_by ends = (left.home ends.home ends.begins, λ e. elim (left.more e) [ inl was ↦ no_true was | inr at ↦ ends.no_more at ])
 
         from : Full R p.condition line_start w m.rule m.keep → (b.condition ≡ 0) × (b.more ≡ true → ⊥)
-        from (inl f) = home_by (subst (EndsLine p.condition) (sym (own_statements m.rule f.0)) (ends_of p.condition (M.statements m.rule) (keeps.ends p.condition line_start (take j w) h.condition (is_text_take j w w_text) m.rule accepted may)))
+        from (inl f) = home_by (subst (EndsLine p.condition) (sym (own_statements m.rule f.0)) (ends_of p.condition (M.statements m.rule) ((keeps.lines p.condition h.condition).ends line_start (take j w) (is_text_take j w w_text) m.rule accepted may)))
           where
             w_text : IsText w
             w_text = is_text_take m.len y (is_text_drop p.at x text)
 
             last : (suc j < length w) ⊎ (length w ≤ suc j) → suc j ≡ length w
-            last (inl less) = absurd (last_alone M laws p.condition line_start w m.rule (λ v v_text. keeps.stops p.condition line_start v h.condition v_text) w_text f.1.accepted j less here)
+            last (inl less) = absurd (last_alone M laws p.condition line_start w m.rule (λ v v_text. (keeps.lines p.condition h.condition).stops line_start v v_text) w_text f.1.accepted j less here)
             last (inr more) = omega (arith, more, w_size, lt, keep_fits)
 
             end : suc j ≡ length w
@@ -200,7 +200,7 @@ module _ (M : Machine) (laws : MachineLaws M) (keeps : KeepsLines M) where
             initial (suc c) e = absurd (stays (M.statements t.rule) t.stays (subst (λ z. Among z Reject) (own_statements t.rule below) rejected))
               where
                 t : TakesLine M p.condition line_start
-                t = keeps.takes p.condition line_start (omega (arith, e)) h.condition
+                t = (keeps.lines p.condition h.condition).takes line_start (omega (arith, e))
 
                 below : t.rule < M.count
                 below = laws.in_range (after_line M p.condition line_start []) t.rule t.accepted

@@ -9,7 +9,7 @@ use Rattle.lex_semantics.specs.Rules.{Rules}
 use Rattle.lex_semantics.specs.Candidates.{Candidate, Candidates}
 use Rattle.lex_semantics.specs.Acting.{Ending, Matched, perform}
 use Rattle.lex_semantics.specs.Run.{Place, State, MatchTurn, EndTurn, Turn, NextFrom, Next, Turns, next_place, next_start}
-use Rattle.lexlook_lines.proofs.Newlines.{byte_at_past}
+use Rattle.lexlook_lines.proofs.Bytes.{byte_at_past}
 
 module _ (R : Rules) (x y : List ℕ) (k : ℕ) (size : length x ≡ suc k) (newline : byte_at x k ≡ 10) where
   abbrev n : ℕ

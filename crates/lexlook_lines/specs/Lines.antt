@@ -63,12 +63,15 @@ pub record TakesLine (M : Machine) (c : ℕ) (line : Bool) : Type 0 where
   pub whole : M.cut rule ≡ Whole
   pub stays : has_reject (M.statements rule) ≡ false
 
+-- In a condition no match goes on after a newline, and where a rule takes one the scan is in INITIAL then.
+pub record LinesEnd (M : Machine) (c : ℕ) : Type 0 where
+  pub stops : (line : Bool) (w : List ℕ) → IsText w → M.goes_on (after_line M c line w) ≡ false
+  pub ends : (line : Bool) (w : List ℕ) → IsText w → EndsLineAfter M c line w
+  pub takes : (line : Bool) → 1 ≤ c → TakesLine M c line
+
 -- Each line is scanned for itself.
 pub record KeepsLines (M : Machine) : Type 0 where
   pub steady : (i : ℕ) → i < M.count → is_steady (M.statements i) ≡ true
-  -- no match goes on after a newline
-  pub stops : (c : ℕ) (line : Bool) (w : List ℕ) → c < M.conditions → IsText w → M.goes_on (after_line M c line w) ≡ false
-  pub ends : (c : ℕ) (line : Bool) (w : List ℕ) → c < M.conditions → IsText w → EndsLineAfter M c line w
-  pub takes : (c : ℕ) (line : Bool) → 1 ≤ c → c < M.conditions → TakesLine M c line
+  pub lines : (c : ℕ) → c < M.conditions → LinesEnd M c
   -- at the end of a piece nothing is written (flex, End-of-File Rules)
   pub silent : (M.ending 0).print ≡ []

@@ -2,4 +2,8 @@
 #![tactic(auto)]
 
 mod actions;
+mod cutting;
+mod newlines;
 mod reaching;
+
+pub use cutting::{Obstacle, Sizes, find_obstacle};
