@@ -1,19 +1,18 @@
 -- A scan of two pieces, the first of which ends with a newline.
-use Rattle.std.proofs.Common.{zero-add, ◌≡◌, ℕ, zero, suc, ◌+◌, ◌-◌, ◌≤◌, ◌<◌, Bool, true, false, List, [], ◌∷◌, ◌++◌, length, take, drop, ◌⊎◌, inl, inr, Option, Some, None, refl, sym, ◌∙◌, ap, subst, arith}
-use Rattle.std.specs.Prelude.{nat_eq}
-use Rattle.std.proofs.lemmas.List.{length-append, append_assoc, append-nil, drop-append-le, length-drop}
+use Rattle.std.proofs.Common.{◌≡◌, ℕ, zero, suc, ◌+◌, ◌≤◌, ◌<◌, true, false, List, [], ◌∷◌, ◌++◌, length, drop, ◌⊎◌, inl, inr, Option, Some, None, refl, sym, ◌∙◌, ap, subst, arith}
+use Rattle.std.proofs.lemmas.List.{length-append, append-nil, drop-append-le, length-drop}
 use Rattle.std.proofs.lemmas.Bool.{cases_lt, eq-eqb}
-use Rattle.lex_semantics.specs.Text.{IsText, part, byte_at, at_line_start}
+use Rattle.lex_semantics.specs.Text.{IsText, byte_at, at_line_start}
 use Rattle.lex_semantics.specs.Candidates.{Candidates}
-use Rattle.lex_semantics.specs.Acting.{Ending, Status, Matched, perform}
-use Rattle.lex_semantics.specs.Run.{Place, State, MatchTurn, EndTurn, Turn, NextFrom, Turns, Run, first_place, first_state}
+use Rattle.lex_semantics.specs.Acting.{Ending, Status, perform}
+use Rattle.lex_semantics.specs.Run.{Place, State, MatchTurn, EndTurn, NextFrom, Turns, Run, first_place, first_state}
 use Rattle.lex_semantics.specs.Rules.{Rules}
 use Rattle.lex_semantics.specs.Machine.{Machine, state_after, rules_of_machine}
 use Rattle.lex_semantics.specs.MachineLaws.{MachineLaws}
 use Rattle.lex_semantics.proofs.MachineLaws.{machine_laws}
 use Rattle.lex_semantics.proofs.Prefix.{match_turn}
 use Rattle.lex_semantics.proofs.Texts.{is_text_append, is_text_drop, line_start_front, part_front}
-use Rattle.lexlook_lines.specs.Lines.{ScansApart, after_line, KeepsLines}
+use Rattle.lexlook_lines.specs.Lines.{ScansApart, KeepsLines}
 use Rattle.lexlook_lines.proofs.Bytes.{byte_at_past}
 use Rattle.lexlook_lines.proofs.Homes as H
 use Rattle.lexlook_lines.proofs.Homes.{Home}

@@ -1,8 +1,8 @@
 -- Where the newlines of a match are.
-use Rattle.std.proofs.Common.{zero-add, ◌≡◌, ℕ, zero, suc, ◌+◌, ◌-◌, ◌≤◌, ◌<◌, Bool, true, false, List, [], ◌∷◌, ◌++◌, length, take, drop, ◌⊎◌, inl, inr, refl, sym, ◌∙◌, ap, subst, arith}
-use Rattle.std.proofs.lemmas.List.{append_assoc, length-drop}
-use Rattle.lex_semantics.specs.Text.{IsText, Among, byte_at, at_line_start}
-use Rattle.lex_semantics.specs.Machine.{Machine, walk, state_after}
+use Rattle.std.proofs.Common.{zero-add, ◌≡◌, ℕ, zero, suc, ◌+◌, ◌<◌, Bool, true, false, List, [], ◌∷◌, ◌++◌, length, take, drop, refl, sym, ◌∙◌, ap, subst, arith}
+use Rattle.std.proofs.lemmas.List.{length-drop}
+use Rattle.lex_semantics.specs.Text.{IsText, Among, byte_at}
+use Rattle.lex_semantics.specs.Machine.{Machine, state_after}
 use Rattle.lex_semantics.specs.MachineLaws.{MachineLaws, LeadsToAccept}
 use Rattle.lex_semantics.proofs.MachineLaws.{walk-append}
 use Rattle.lex_semantics.proofs.Texts.{is_text_take, is_text_drop}

@@ -1,18 +1,18 @@
 -- One element more of a list that is gone over, and the words that lead to a rule.
-use Rattle.std.proofs.Common.{◌≡◌, ℕ, zero, suc, ◌+◌, ◌≤◌, ◌<◌, Bool, true, false, List, [], ◌∷◌, ◌++◌, length, take, ◌⊎◌, inl, inr, Option, None, Some, refl, sym, ◌∙◌, ap, subst, get_or, arith}
+use Rattle.std.proofs.Common.{◌≡◌, ℕ, ◌+◌, ◌≤◌, ◌<◌, Bool, true, false, List, [], ◌∷◌, ◌++◌, length, take, ◌⊎◌, inl, inr, Option, None, Some, refl, sym, ◌∙◌, ap, subst, get_or, arith}
 use mathlib.Core.Logic.{∥∥₁_elim}
 use Rattle.std.proofs.lemmas.List.{take_more, take_all, length-append}
 use Rattle.lex_semantics.specs.Text.{IsText, Among}
 use Rattle.lex_semantics.specs.Machine.{Machine, walk, state_after}
-use Rattle.lex_semantics.specs.MachineLaws.{MachineLaws, LeadsToAccept}
+use Rattle.lex_semantics.specs.MachineLaws.{MachineLaws}
 use Rattle.lex_semantics.proofs.MachineLaws.{walk-append}
 use Rattle.lex_semantics.proofs.Texts.{is_text_append}
-use Rattle.lexlook_lines.specs.Lines.{ends_line, after_line, LinesEnd, EndsLineAfter, TakesLine}
+use Rattle.lexlook_lines.specs.Lines.{ends_line, after_line, LinesEnd, TakesLine}
 use Rattle.lexlook_lines.specs.Reaching.{IsReached}
-use Rattle.lexlook_lines.specs.Obstacles.{RuleBeyond, StraysAt, LineEndsAt, HindersAt, Hinders}
+use Rattle.lexlook_lines.specs.Obstacles.{RuleBeyond, LineEndsAt, HindersAt, Hinders}
 use Rattle.lexlook_lines.specs.declared.cutting.Obstacle.{Obstacle}
 use Rattle.lexlook_lines.specs.declared.cutting.Obstacle.TheVariants.{Unsteady, Crosses, Strays, Copies, Writes}
-use Rattle.lexlook_lines.proofs.Searches.{among_either, among_at}
+use Rattle.lexlook_lines.proofs.Searches.{among_either}
 
 pub among_front : (xs : List ℕ) (k x : ℕ) → k < length xs → Among (take (k + 1) xs) x → Among (take k xs) x ⊎ (x ≡ get_or xs k 0)
 among_front xs k x lt at = among_either (take k xs) (get_or xs k 0) x (subst (λ l. Among l x) (take_more xs k 0 lt) at)
@@ -77,13 +77,26 @@ module _ (M : Machine) (n c : ℕ) (found : List ℕ) (r : IsReached M n (M.star
 
   pub hinders : c < M.conditions → (s : ℕ) (o : Obstacle) → Among found s → HindersAt M c s o → Hinders M o
   hinders below s (Crosses d i) at h =
-      let f = from_start s at in
-      (subst (λ z. z < M.conditions) (sym h.0) below, f.0, f.1, h.1.0, f.2, h.1.1, h.1.2,
-      subst (λ z. Among (M.accepts z) i) (ap (λ z. walk M (M.next z 10) h.1.0) f.3 ∙ ap (λ z. walk M z h.1.0) (sym (newline f.0 f.1)) ∙ sym (walk-append M (M.start c f.0) (f.1 ++ 10 ∷ []) h.1.0) ∙ ap (λ z. state_after M z f.0 ((f.1 ++ 10 ∷ []) ++ h.1.0)) (sym h.0)) h.1.3)
+      let f = from_start s at in (
+        subst (λ z. z < M.conditions) (sym h.0) below,
+        f.0,
+        f.1,
+        h.1.0,
+        f.2,
+        h.1.1,
+        h.1.2,
+        subst (λ z. Among (M.accepts z) i) (ap (λ z. walk M (M.next z 10) h.1.0) f.3 ∙ ap (λ z. walk M z h.1.0) (sym (newline f.0 f.1)) ∙ sym (walk-append M (M.start c f.0) (f.1 ++ 10 ∷ []) h.1.0) ∙ ap (λ z. state_after M z f.0 ((f.1 ++ 10 ∷ []) ++ h.1.0)) (sym h.0)) h.1.3,
+      )
   hinders below s (Strays d i) at h =
-      let f = from_start s at in
-      (subst (λ z. z < M.conditions) (sym h.0) below, f.0, f.1, f.2, subst (λ z. Among (M.accepts z) i) (ap (λ z. M.next z 10) f.3 ∙ sym (newline f.0 f.1) ∙ ap (λ z. after_line M z f.0 f.1) (sym h.0)) h.1.0, h.1.1,
-      ap (λ z. ends_line z (M.statements i)) h.0 ∙ h.1.2)
+      let f = from_start s at in (
+        subst (λ z. z < M.conditions) (sym h.0) below,
+        f.0,
+        f.1,
+        f.2,
+        subst (λ z. Among (M.accepts z) i) (ap (λ z. M.next z 10) f.3 ∙ sym (newline f.0 f.1) ∙ ap (λ z. after_line M z f.0 f.1) (sym h.0)) h.1.0,
+        h.1.1,
+        ap (λ z. ends_line z (M.statements i)) h.0 ∙ h.1.2,
+      )
   hinders below s (Unsteady i) at h = absurd h
   hinders below s (Copies d) at h = absurd h
   hinders below s Writes at h = absurd h

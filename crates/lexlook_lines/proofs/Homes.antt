@@ -1,22 +1,21 @@
 -- Where a scan stands between two turns that scans each line for itself.
-use Rattle.std.proofs.Common.{◌≡◌, ℕ, zero, suc, ◌+◌, ◌-◌, ◌≤◌, ◌<◌, Bool, true, false, List, [], ◌∷◌, ◌++◌, length, take, drop, ◌⊎◌, inl, inr, Option, Some, None, refl, sym, ◌∙◌, ap, subst, arith}
-use Rattle.std.specs.Prelude.{nat_eq, nat_lt, if◌then◌else◌, ⊤}
+use Rattle.std.proofs.Common.{◌≡◌, ℕ, zero, suc, ◌+◌, ◌-◌, ◌≤◌, ◌<◌, Bool, true, false, List, [], ◌∷◌, ◌++◌, length, take, drop, ◌⊎◌, inl, inr, None, refl, sym, ◌∙◌, ap, subst, arith}
+use Rattle.std.specs.Prelude.{nat_lt, if◌then◌else◌}
 use Rattle.std.proofs.lemmas.List.{length-append, length-take-le, length-drop, drop_all, append-nil}
 use Rattle.std.proofs.lemmas.Bool.{cond-true, cond-false, lt-ltb, le-ltb, cases_lt, eqb-true, eq-eqb}
 use Rattle.lex_semantics.specs.Text.{IsText, Among, part, byte_at, at_line_start}
-use Rattle.lex_semantics.specs.Spec.{Cut, Whole, Head, Trail, Statement, Echo, Begin, More, Reject, End, Push, Pop}
+use Rattle.lex_semantics.specs.Spec.{Cut, Whole, Head, Trail, Statement, Echo, Begin, More, Reject, Pop}
 use Rattle.lex_semantics.specs.Rules.{Rules, Full, statements_of}
 use Rattle.lex_semantics.specs.Laws.{Laws}
 use Rattle.lex_semantics.specs.Legal.{IsAction}
-use Rattle.lex_semantics.specs.Candidates.{Candidate, IsCandidate, Before}
-use Rattle.lex_semantics.specs.Acting.{Ending, Acting, Matched, ActionResult, Done, Again, Over, act}
+use Rattle.lex_semantics.specs.Candidates.{Candidate, IsCandidate}
+use Rattle.lex_semantics.specs.Acting.{Acting}
 use Rattle.lex_semantics.specs.Run.{Place, State, MatchTurn, next_place, next_start}
 use Rattle.lex_semantics.specs.Machine.{Machine, MachineFits, Keeps, state_after, rules_of_machine}
 use Rattle.lex_semantics.specs.MachineLaws.{MachineLaws}
 use Rattle.lex_semantics.proofs.MachineLaws.{machine_laws}
 use Rattle.lex_semantics.proofs.Actions.{less_from_one, begins_below}
 use Rattle.lex_semantics.proofs.Ends as E
-use Rattle.lex_semantics.proofs.Local.{keep_inside}
 use Rattle.lex_semantics.proofs.Texts.{is_text_take, is_text_drop}
 use Rattle.lexlook_lines.specs.Lines.{may_keep_last, after_line, TakesLine, KeepsLines}
 use Rattle.lexlook_lines.proofs.Deeds.{IsSteady, EndsLine, steady_of, ends_of, stays}

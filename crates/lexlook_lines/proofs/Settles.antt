@@ -1,7 +1,7 @@
 -- Which of the matches at a place is carried out, where no action ends the scan or uses the stack of conditions.
-use Rattle.std.proofs.Common.{◌≡◌, ℕ, ◌≤◌, ◌<◌, Bool, true, false, List, [], ◌∷◌, ◌++◌, length, take, ◌⊎◌, inl, inr, Option, Some, None, refl, sym, ◌∙◌, ap, subst, arith}
+use Rattle.std.proofs.Common.{◌≡◌, ℕ, false, List, [], ◌∷◌, ◌++◌, take, inl, inr, Option, Some, None, refl, sym, ◌∙◌, ap, subst, arith}
 use Rattle.lex_semantics.specs.Text.{Among}
-use Rattle.lex_semantics.specs.Spec.{Statement, Begin, Reject}
+use Rattle.lex_semantics.specs.Spec.{Statement, Reject}
 use Rattle.lex_semantics.specs.Rules.{Rules, statements_of}
 use Rattle.lex_semantics.specs.Candidates.{Candidate, Before, InOrder}
 use Rattle.lex_semantics.specs.Acting.{Acting, Matched, ActionResult, Done, Again, Over, act, settle, perform}

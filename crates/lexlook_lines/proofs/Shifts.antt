@@ -1,14 +1,13 @@
 -- A scan over an input, and the same turns over that input behind others.
-use Rattle.std.proofs.Common.{zero-add, ◌≡◌, ℕ, zero, suc, ◌+◌, ◌-◌, ◌≤◌, ◌<◌, Bool, true, false, List, [], ◌∷◌, ◌++◌, length, take, drop, ◌⊎◌, inl, inr, Option, Some, None, refl, sym, ◌∙◌, ap, subst, arith}
+use Rattle.std.proofs.Common.{zero-add, ◌≡◌, ℕ, zero, suc, ◌+◌, ◌-◌, ◌<◌, Bool, true, false, List, [], ◌∷◌, ◌++◌, length, take, drop, inl, inr, Option, Some, None, refl, sym, ◌∙◌, ap, subst, arith}
 use Rattle.std.specs.Prelude.{nat_eq}
 use Rattle.std.proofs.Math.Seq.{drop-append-add}
 use Rattle.std.proofs.lemmas.List.{length-append, append_assoc}
-use Rattle.std.proofs.lemmas.Bool.{eq-eqb}
 use Rattle.lex_semantics.specs.Text.{part, byte_at, at_line_start}
 use Rattle.lex_semantics.specs.Rules.{Rules}
-use Rattle.lex_semantics.specs.Candidates.{Candidate, Candidates}
+use Rattle.lex_semantics.specs.Candidates.{Candidates}
 use Rattle.lex_semantics.specs.Acting.{Ending, Matched, perform}
-use Rattle.lex_semantics.specs.Run.{Place, State, MatchTurn, EndTurn, Turn, NextFrom, Next, Turns, next_place, next_start}
+use Rattle.lex_semantics.specs.Run.{Place, State, Turn, NextFrom, Turns, next_place, next_start}
 use Rattle.lexlook_lines.proofs.Bytes.{byte_at_past}
 
 module _ (R : Rules) (x y : List ℕ) (k : ℕ) (size : length x ≡ suc k) (newline : byte_at x k ≡ 10) where
@@ -60,8 +59,11 @@ module _ (R : Rules) (x y : List ℕ) (k : ℕ) (size : length x ≡ suc k) (new
 
   next_behind : (v : List ℕ) (s t : State) (e : Option Ending) → NextFrom R y s e t → NextFrom R (x ++ y) (behind v s) e (behind v t)
   next_behind v s t (Some d) is = ap (behind v) is
-  next_behind v s t None h = (record { written = h.0.written; place = shift h.0.place; ended = h.0.ended }, turn_behind s.place h.0 h.1,
-      ap (behind v) h.2 ∙ ap (λ w. record { written = w; place = shift h.0.place; ended = h.0.ended }) (sym (append_assoc v s.written h.0.written)))
+  next_behind v s t None h = (
+    record { written = h.0.written; place = shift h.0.place; ended = h.0.ended },
+    turn_behind s.place h.0 h.1,
+    ap (behind v) h.2 ∙ ap (λ w. record { written = w; place = shift h.0.place; ended = h.0.ended }) (sym (append_assoc v s.written h.0.written)),
+  )
 
   -- m turns more, from where the second piece begins
   pub turns_behind : (v : List ℕ) (first : State) (before : ℕ) → Turns R (x ++ y) before (behind v first) → first ≡ record { written = []; place = record { start = 0; at = 0; condition = 0; stack = [] }; ended = None } →

@@ -1,4 +1,4 @@
-use Rattle.std.proofs.Common.{◌≡◌, ℕ, ◌<◌}
+use Rattle.std.proofs.Common.{ℕ, ◌<◌}
 use Rattle.lexlook_lines.specs.Lines.{LinesEnd}
 use Rattle.lexlook_lines.proofs.cutting.find_obstacle.Given as goal
 

@@ -1,5 +1,4 @@
-use Rattle.std.proofs.Common.{◌≡◌, ℕ, ◌+◌, ◌<◌, Some, None, length, get_or, inl, inr, refl, sym, ◌∙◌, subst, arith}
-use Rattle.lex_semantics.specs.Text.{Among}
+use Rattle.std.proofs.Common.{get_or, inl, inr, sym, subst, arith}
 use Rattle.lexlook_lines.specs.Obstacles.{LineEndsAt, HindersAt}
 use Rattle.lexlook_lines.proofs.Searches.{among_at}
 use Rattle.lexlook_lines.proofs.Fronts.{among_front}

@@ -1,4 +1,4 @@
-use Rattle.std.proofs.Common.{◌≡◌, ℕ, take}
+use Rattle.std.proofs.Common.{ℕ, take}
 use Rattle.lex_semantics.specs.Text.{Among}
 use Rattle.lexlook_lines.specs.Obstacles.{LineEndsAt}
 use Rattle.lexlook_lines.proofs.cutting.obstacle_among.Given as goal

@@ -1,9 +1,9 @@
-use Rattle.std.proofs.Common.{◌≡◌, ℕ, ◌≤◌, ◌<◌, Bool, true, false, List, [], ◌∷◌, Some, None, refl, sym, ◌∙◌, ap, subst, arith}
+use Rattle.std.proofs.Common.{◌≡◌, ℕ, ◌≤◌, Bool, true, false, List, [], ◌∷◌, sym, ◌∙◌, ap, subst, arith}
 use Rattle.lex_semantics.specs.Text.{Among}
 use Rattle.lex_semantics.specs.Machine.{Machine}
 use Rattle.lexlook_lines.specs.Lines.{TakesLine}
 use Rattle.lexlook_lines.specs.Reaching.{IsReached}
-use Rattle.lexlook_lines.specs.Obstacles.{LineEndsAt, HindersAt}
+use Rattle.lexlook_lines.specs.Obstacles.{HindersAt}
 use Rattle.lexlook_lines.proofs.Fronts.{lines_end, hinders}
 use Rattle.lexlook_lines.proofs.cutting.obstacle_in.Goals as goal
 use Rattle.lexlook_lines.proofs.cutting.obstacle_in.Goals.{else-condition-ne0-via-then-condition-ne0+else-not-takes_line, then-takes_line, else-takes_line, else-condition-ne0-via-else-condition-ne0}

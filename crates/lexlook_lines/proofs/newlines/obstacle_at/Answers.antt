@@ -1,4 +1,4 @@
-use Rattle.std.proofs.Common.{◌≡◌, ℕ, Bool, true, false, Some, None, refl, sym, ◌∙◌, ap, subst}
+use Rattle.std.proofs.Common.{◌≡◌, false, None, refl, sym, ◌∙◌, subst}
 use Rattle.lex_semantics.specs.Machine.{Machine}
 use Rattle.lexlook_lines.specs.Obstacles.{RuleBeyond, StraysAt}
 use Rattle.lexlook_lines.proofs.Fronts.{stops}

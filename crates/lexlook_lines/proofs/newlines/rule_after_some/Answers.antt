@@ -1,6 +1,5 @@
-use Rattle.std.proofs.Common.{◌≡◌, ℕ, ◌+◌, ◌<◌, [], Some, None, length, get_or, inl, inr, refl, sym, ◌∙◌, ap, subst, arith}
+use Rattle.std.proofs.Common.{ℕ, ◌<◌, get_or, inl, inr, ◌∙◌, ap, arith}
 use Rattle.lex_semantics.specs.Text.{Among}
-use Rattle.lex_semantics.specs.Machine.{Machine}
 use Rattle.lexlook_lines.proofs.Searches.{among_at}
 use Rattle.lexlook_lines.proofs.Fronts.{among_front}
 use Rattle.lexlook_lines.proofs.newlines.rule_after_some.Goals as goal

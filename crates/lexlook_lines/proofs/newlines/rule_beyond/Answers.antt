@@ -1,4 +1,4 @@
-use Rattle.std.proofs.Common.{◌≡◌, ℕ, ◌<◌, List, [], ◌∷◌, Some, None, refl, sym, ◌∙◌, ap, subst}
+use Rattle.std.proofs.Common.{◌≡◌, ℕ, ◌<◌, List, [], ◌∷◌, Some, sym, subst}
 use Rattle.lex_semantics.specs.Text.{Among}
 use Rattle.lex_semantics.specs.Machine.{Machine}
 use Rattle.lexlook_lines.specs.Reaching.{IsReached}

@@ -1,7 +1,6 @@
-use Rattle.std.proofs.Common.{◌≡◌, ℕ, ◌+◌, ◌<◌, true, false, List, length, get_or, inl, inr, refl, sym, ◌∙◌, ap, subst, arith}
+use Rattle.std.proofs.Common.{◌≡◌, ℕ, ◌<◌, true, false, List, length, get_or, inl, inr, sym, ◌∙◌, ap, subst, arith}
 use Rattle.lex_semantics.specs.Text.{Among}
 use Rattle.lex_semantics.specs.Machine.{Machine}
-use Rattle.lex_machine.specs.Views.{statement_of, cut_of}
 use Rattle.lexlook_lines.specs.Lines.{may_keep_last, ends_line}
 use Rattle.lexlook_lines.proofs.Searches.{among_at}
 use Rattle.lexlook_lines.proofs.Fronts.{among_front}

@@ -1,4 +1,4 @@
-use Rattle.std.proofs.Common.{◌≡◌, ℕ, true, false, take, []}
+use Rattle.std.proofs.Common.{◌≡◌, ℕ, false, take, []}
 use Rattle.lex_semantics.specs.Text.{Among}
 use Rattle.lex_semantics.specs.Spec.{Whole, has_reject}
 use Rattle.lexlook_lines.specs.Lines.{after_line}

@@ -1,4 +1,4 @@
-use Rattle.std.proofs.Common.{◌≡◌, ℕ, ◌+◌, ◌<◌, ◌≤◌, ◌∷◌, [], ◌++◌, take, length, List, refl, sym, ◌∙◌, ap, subst, get_or, arith}
+use Rattle.std.proofs.Common.{ℕ, ◌<◌, take, length, List, refl, sym, subst, get_or, arith}
 use Rattle.std.proofs.lemmas.List.{take_more}
 use Rattle.lex_semantics.specs.Machine.{Machine}
 use Rattle.lexlook_lines.specs.Reaching.{Found}

@@ -1,4 +1,4 @@
-use Rattle.std.proofs.Common.{◌≡◌, ℕ, ◌+◌, ◌<◌, ◌≤◌, length, List, Bool, refl, sym, ◌∙◌, ap, subst, get_or, arith}
+use Rattle.std.proofs.Common.{◌≡◌, ℕ, ◌<◌, length, List, Bool, sym, ◌∙◌, ap, subst, get_or, arith}
 use Rattle.lex_semantics.specs.Machine.{Machine}
 use Rattle.lexlook_lines.specs.Reaching.{Found, Added}
 use Rattle.lexlook_lines.proofs.Searches.{among_at, any_default, no_more, longer, same_size, same_place, followed}

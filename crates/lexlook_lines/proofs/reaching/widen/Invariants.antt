@@ -1,5 +1,4 @@
-use Rattle.std.proofs.Common.{◌≡◌, ℕ, ◌+◌, ◌≤◌, ◌<◌, List, length, get_or}
-use Rattle.lex_semantics.specs.Text.{Among}
+use Rattle.std.proofs.Common.{◌≡◌, ℕ, ◌+◌, ◌≤◌, List, length, get_or}
 use Rattle.lexlook_lines.specs.Reaching.{Found, unmarked}
 use Rattle.lexlook_lines.proofs.reaching.widen.Given as goal
 
