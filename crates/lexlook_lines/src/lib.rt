@@ -1,0 +1,9 @@
+//! Says whether an input may be cut after any newline, and its pieces scanned apart.
+#![tactic(auto)]
+
+mod actions;
+mod cutting;
+mod newlines;
+mod reaching;
+
+pub use cutting::{Obstacle, Sizes, find_obstacle};
