@@ -12,9 +12,10 @@ use Rattle.lexkit.specs.declared.faults.Fault.TheVariants as faults
 abbrev pub out_of_memory : Failure
 out_of_memory = Look looks.OutOfMemory
 
--- a refused specification is told as in a scan
+-- a refused specification or table file is told as in a scan
 abbrev pub told_of_look : LookError → Fault
 told_of_look (looks.Refused e) = faults.Scan (scans.Generate e)
+told_of_look (looks.Table e) = faults.Scan (scans.Table e)
 told_of_look looks.OutOfMemory = faults.Scan (scans.Generate gens.OutOfMemory)
 told_of_look looks.Write = faults.Output
 

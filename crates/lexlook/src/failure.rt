@@ -35,6 +35,7 @@ fn fault_of_look(error: LookError) -> Fault<'static>
 {
     match error {
         LookError::Refused(error) => Fault::Scan(ScanError::Generate(error)),
+        LookError::Table(error) => Fault::Scan(ScanError::Table(error)),
         LookError::OutOfMemory => Fault::Scan(ScanError::Generate(GenError::OutOfMemory)),
         LookError::Write => Fault::Output,
     }

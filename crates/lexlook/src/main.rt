@@ -7,11 +7,11 @@ mod failure;
 mod reading;
 
 use crate::failure::Failure;
-use crate::reading::read_spec_file;
+use crate::reading::{read_compared_file, read_spec_file};
 use lexkit::{
     ArgsError, ByteWriter, MAX_POSITIONS, MAX_STATES, Options, Sink, ToWrite, write_fault,
 };
-use lexlook_calls::{Look, draw, read_args, write_help};
+use lexlook_calls::{Given, Look, draw, read_args, tell_same, write_help};
 use std::io::ErrorKind;
 use std::process::ExitCode;
 use std::{env, io};
@@ -64,19 +64,56 @@ fn show_picture(rt: &HostRuntime, text: &[u8], options: Options) -> Result<(), F
     Ok(())
 }
 
-fn run(rt: &HostRuntime) -> Result<(), Failure> {
+/// Says on standard output what two files do not do the same.
+fn show_same(
+    rt: &HostRuntime,
+    left: &str,
+    right: &str,
+    options: Options,
+) -> Result<ExitCode, Failure>
+    requires few_positions { options.limits.positions ≤ MAX_POSITIONS }
+    requires few_states { options.limits.states ≤ MAX_STATES }
+{
+    let bytes = read_compared_file(rt, left)?;
+    let others = read_compared_file(rt, right)?;
+    let this = Given {
+        name: left,
+        bytes: bytes.as_slice(),
+    };
+    let that = Given {
+        name: right,
+        bytes: others.as_slice(),
+    };
+    let mut sink = ToWrite::new(ByteWriter::new(rt.alloc(), io::writer(rt))?);
+    let same = tell_same(rt.alloc(), this, that, options, &mut sink)?;
+    sink.flush()?;
+    Ok(if same {
+        ExitCode::SUCCESS
+    } else {
+        ExitCode::from(1)
+    })
+}
+
+fn run(rt: &HostRuntime) -> Result<ExitCode, Failure> {
     match look_of(rt)? {
-        Look::Help => show_help(rt),
+        Look::Help => show_help(rt)?,
         Look::Picture { file, fold, posix } => {
             let text = read_spec_file(rt, file)?;
-            show_picture(rt, text.as_slice(), options_of(fold, posix))
+            show_picture(rt, text.as_slice(), options_of(fold, posix))?;
         }
+        Look::Same {
+            left,
+            right,
+            fold,
+            posix,
+        } => return show_same(rt, left.as_str(), right.as_str(), options_of(fold, posix)),
     }
+    Ok(ExitCode::SUCCESS)
 }
 
 fn main(rt: HostRuntime) -> ExitCode {
     match run(&rt) {
-        Ok(()) => ExitCode::SUCCESS,
+        Ok(status) => status,
         Err(failure) => {
             let fault = failure.fault();
             let _ = write_fault(fault, &mut ToWrite::new(rt.stderr()));

@@ -1,3 +1,5 @@
+pub mod Joined
+pub mod Sided
 pub mod Asked
 pub mod Drawn
 pub mod SamePictures

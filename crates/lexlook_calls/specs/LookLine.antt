@@ -1,12 +1,12 @@
 -- What the words of the program's command line ask for.
-use Rattle.std.specs.Prelude.{◌≡◌, ◌&&◌, ◌||◌, Bool, true, false, not, List, [], ◌∷◌, Option, Some, None, fold, codes, string_bytes}
+use Rattle.std.specs.Prelude.{◌≡◌, ◌⊎◌, ◌&&◌, ◌||◌, Bool, true, false, not, List, [], ◌∷◌, Option, Some, None, fold, codes, string_bytes}
 use Rattle.std.specs.Str.{bytes_eq}
 use Rattle.clap.specs.Words.{App, Row, Rule, Text, fault_of, first_of, new_app, new_rule, subcommand_of, with_rule, with_subcommand}
 use Rattle.clap.specs.Simple.{on_top}
 use Rattle.clap.specs.declared.builder.action.ArgAction.TheVariants.{Set}
 use Rattle.lexkit.specs.CommandLine.{flag_rule, has, is_separator}
 use Rattle.lexlook_calls.specs.declared.args.Look.{Look}
-use Rattle.lexlook_calls.specs.declared.args.Look.TheVariants.{Help, Picture}
+use Rattle.lexlook_calls.specs.declared.args.Look.TheVariants.{Help, Picture, Same}
 
 -- ---- the program's command line, in clap's terms
 
@@ -25,6 +25,14 @@ without_help a = on_top (λ s. record s { disable_help_flag = true }) a
 abbrev pub picture_app : App
 picture_app = fold with_rule (without_help (new_app (codes "picture"))) picture_rules
 
+-- the same two flags, and two files
+abbrev pub same_rules : List Rule
+same_rules = flag_rule (codes "fold") 105 ∷ flag_rule (codes "posix") 88 ∷ needed_rule (codes "left") ∷ needed_rule (codes "right") ∷ []
+
+-- `same`, with what stands behind it
+abbrev pub same_app : App
+same_app = fold with_rule (without_help (new_app (codes "same"))) same_rules
+
 -- the words begin after the program's name, and name a subcommand; clap knows no help
 abbrev pub no_subcommand : App
 no_subcommand =
@@ -33,7 +41,7 @@ no_subcommand =
 
 -- the program's command line
 abbrev pub lexlook_app : App
-lexlook_app = with_subcommand no_subcommand picture_app.top
+lexlook_app = with_subcommand (with_subcommand no_subcommand picture_app.top) same_app.top
 
 -- ---- what is asked for
 
@@ -48,11 +56,21 @@ AsksToDraw met (Picture file folds series) = (Some (string_bytes file) ≡ first
     × (folds ≡ has (codes "fold") met)
     × (series ≡ has (codes "posix") met)
 AsksToDraw met Help = ⊥
+AsksToDraw met (Same left right folds series) = ⊥
+
+-- whether what is in the two files does the same
+abbrev pub AsksToCompare : List Row → Look → Type 0
+AsksToCompare met (Same left right folds series) = (Some (string_bytes left) ≡ first_of (codes "left") met)
+    × (Some (string_bytes right) ≡ first_of (codes "right") met)
+    × (folds ≡ has (codes "fold") met)
+    × (series ≡ has (codes "posix") met)
+AsksToCompare met Help = ⊥
+AsksToCompare met (Picture file folds series) = ⊥
 
 -- what a subcommand asks for, by its name and what stands behind it
 abbrev pub IsLookOf : Option (Text × List Row) → Look → Type 0
 IsLookOf None look = ⊥
-IsLookOf (Some p) look = (p.0 ≡ codes "picture") × AsksToDraw p.1 look
+IsLookOf (Some p) look = ((p.0 ≡ codes "picture") × AsksToDraw p.1 look) ⊎ ((p.0 ≡ codes "same") × AsksToCompare p.1 look)
 
 -- The words ask for the help if one of them is `--help`. Else they are a line of the program's, and ask for what the
 -- subcommand does.
@@ -61,3 +79,6 @@ AsksFor words Help = has_help words ≡ true
 AsksFor words (Picture file folds series) = (has_help words ≡ false)
     × (fault_of lexlook_app words ≡ [])
     × IsLookOf (subcommand_of lexlook_app words) (Picture file folds series)
+AsksFor words (Same left right folds series) = (has_help words ≡ false)
+    × (fault_of lexlook_app words ≡ [])
+    × IsLookOf (subcommand_of lexlook_app words) (Same left right folds series)

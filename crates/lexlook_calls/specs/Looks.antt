@@ -10,7 +10,7 @@ use Rattle.lexkit.specs.Headline.{Refusal, reading}
 use Rattle.lexkit.specs.declared.options.Options.{Options}
 use Rattle.lexlook_pictures.specs.Pictures.{picture}
 use Rattle.lexlook_calls.specs.declared.error.LookError.{LookError}
-use Rattle.lexlook_calls.specs.declared.error.LookError.TheVariants.{Refused, OutOfMemory, Write}
+use Rattle.lexlook_calls.specs.declared.error.LookError.TheVariants.{Refused, Table, OutOfMemory, Write}
 
 abbrev pub names_of : List Condition → List (List ℕ)
 names_of conditions = map (λ c. c.name) conditions
@@ -42,6 +42,7 @@ pub record Drew {K : Type 0} (wrote : K → List ℕ → K → Type 0) (options 
 abbrev pub Draws : {K : Type 0} → (K → List ℕ → K → Type 0) → Options → List ℕ → K → K → Result (Unit {0}) LookError → Type 0
 Draws wrote options text s t (Ok v) = Drew wrote options text s t (Ok v)
 Draws wrote options text s t (Err (Refused e)) = Refusal options text e × (t ≡ s)
+Draws wrote options text s t (Err (Table e)) = ⊥
 Draws wrote options text s t (Err OutOfMemory) = Drew wrote options text s t (Err OutOfMemory)
 Draws wrote options text s t (Err Write) = Drew wrote options text s t (Err Write)
 

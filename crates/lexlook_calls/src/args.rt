@@ -1,8 +1,9 @@
 //! What a command line asks for.
-ghost use Rattle.std.specs.Prelude.{◌≡◌, IfErr, IfOk, None, codes, false, map, option_map, string_bytes};
+ghost use Rattle.std.specs.Prelude.{◌≡◌, ◌⊎◌, IfErr, IfOk, None, codes, false, map, option_map, string_bytes};
 ghost use Rattle.clap.specs.Words.{app_of, first_of, found_of, rows_of, rule_of, subcommand_rows_of};
 ghost use Rattle.lexkit.specs.CommandLine.{flag_rule, has};
-ghost use Rattle.lexlook_calls.specs.LookLine.{AsksFor, AsksToDraw, IsLookOf, has_help, lexlook_app, needed_rule};
+ghost use Rattle.lexlook_calls.specs.LookLine.{AsksFor, AsksToCompare, AsksToDraw, IsLookOf};
+ghost use Rattle.lexlook_calls.specs.LookLine.{has_help, lexlook_app, needed_rule, picture_app, same_app};
 
 use clap::{Arg, ArgAction, ArgMatches, Command};
 use lexkit::ArgsError;
@@ -21,10 +22,19 @@ pub enum Look {
         /// Intervals apply to series.
         posix: bool,
     },
+    /// Whether these two files do the same on every input. `-` is standard input.
+    Same {
+        left: String,
+        right: String,
+        /// Letters of patterns stand for both cases.
+        fold: bool,
+        /// Intervals apply to series.
+        posix: bool,
+    },
 }
 
-/// Reads the words after the program's name: `picture FILE` with `-i` or `-X` or without, or any words with `--help`. Flags
-/// may be repeated. Words that it refuses by `Usage` ask for nothing.
+/// Reads the words after the program's name: `picture FILE` or `same FILE FILE`, with `-i` or `-X` or without, or any
+/// words with `--help`. Flags may be repeated. Words that it refuses by `Usage` ask for nothing.
 pub fn read_args(alloc: Global, words: &[String]) -> Result<Look, ArgsError>
     ensures asked { IfOk result (AsksFor (map string_bytes words.now)) }
     ensures refused { IfErr result (λ e. e ≡ ArgsError.Usage
@@ -54,21 +64,42 @@ fn has_help(words: &[String]) -> bool
     false
 }
 
+/// The words of a picture.
+fn picture_command<'a>(alloc: Global) -> Result<Command<'a>, AllocError>
+    ensures { IfOk result (λ c. app_of c ≡ picture_app) }
+{
+    Command::new(alloc, "picture")
+        .disable_help_flag(true)
+        .arg(flag(alloc, "fold", 'i'))?
+        .arg(flag(alloc, "posix", 'X'))?
+        .arg(needed_word(alloc, "file"))
+}
+
+/// The words of a comparison.
+fn same_command<'a>(alloc: Global) -> Result<Command<'a>, AllocError>
+    ensures { IfOk result (λ c. app_of c ≡ same_app) }
+{
+    Command::new(alloc, "same")
+        .disable_help_flag(true)
+        .arg(flag(alloc, "fold", 'i'))?
+        .arg(flag(alloc, "posix", 'X'))?
+        .arg(needed_word(alloc, "left"))?
+        .arg(needed_word(alloc, "right"))
+}
+
 /// The words that the program knows.
 fn command<'a>(alloc: Global) -> Result<Command<'a>, AllocError>
     ensures { IfOk result (λ c. app_of c ≡ lexlook_app) }
 {
-    let picture = Command::new(alloc, "picture")
-        .disable_help_flag(true)
-        .arg(flag(alloc, "fold", 'i'))?
-        .arg(flag(alloc, "posix", 'X'))?
-        .arg(file_word(alloc))?;
+    let picture = picture_command(alloc)?;
+    let same = same_command(alloc)?;
     Command::new(alloc, "lexlook")
         .no_binary_name(true)
         .disable_help_flag(true)
         .disable_help_subcommand(true)
         .subcommand_required(true)
-        .subcommand(picture)
+        .subcommand(picture)?
+        .subcommand(same)
 }
 
 /// A flag, which may be repeated.
@@ -79,14 +110,12 @@ fn flag<'a>(alloc: Global, id: &'a str, letter: char) -> Arg<'a>
     Arg::new(alloc, id).short(letter).action(ArgAction::Count)
 }
 
-/// The word that names the file.
-fn file_word<'a>(alloc: Global) -> Arg<'a>
-    ensures rule { rule_of result ≡ needed_rule (codes "file") }
+/// A word that names a file.
+fn needed_word<'a>(alloc: Global, id: &'a str) -> Arg<'a>
+    ensures rule { rule_of result ≡ needed_rule id.entry.now }
     ensures global { result.global ≡ false }
 {
-    Arg::new(alloc, "file")
-        .required(true)
-        .action(ArgAction::Set)
+    Arg::new(alloc, id).required(true).action(ArgAction::Set)
 }
 
 /// What the matches ask for.
@@ -97,6 +126,7 @@ fn look_of(alloc: Global, matches: &ArgMatches<'_>) -> Result<Look, ArgsError>
 {
     match matches.subcommand() {
         Some((name, found)) if name == "picture" => picture_look(alloc, found),
+        Some((name, found)) if name == "same" => same_look(alloc, found),
         _ => Err(ArgsError::Usage),
     }
 }
@@ -107,12 +137,35 @@ fn picture_look(alloc: Global, found: &ArgMatches<'_>) -> Result<Look, ArgsError
     ensures refused { IfErr result (λ e. e ≡ ArgsError.Usage
         → first_of (codes "file") (rows_of (found_of found.now)) ≡ None) }
 {
-    let file = match file_of(found) {
+    let file = match file_of(found, "file") {
         None => return Err(ArgsError::Usage),
         Some(file) => file,
     };
     Ok(Look::Picture {
         file: String::from_str(alloc, file)?,
+        fold: has(found, "fold"),
+        posix: has(found, "posix"),
+    })
+}
+
+/// The comparison that the matches behind its name ask for.
+fn same_look(alloc: Global, found: &ArgMatches<'_>) -> Result<Look, ArgsError>
+    ensures asked { IfOk result (AsksToCompare (rows_of (found_of found.now))) }
+    ensures refused { IfErr result (λ e. e ≡ ArgsError.Usage
+        → (first_of (codes "left") (rows_of (found_of found.now)) ≡ None)
+        ⊎ (first_of (codes "right") (rows_of (found_of found.now)) ≡ None)) }
+{
+    let left = match file_of(found, "left") {
+        None => return Err(ArgsError::Usage),
+        Some(file) => file,
+    };
+    let right = match file_of(found, "right") {
+        None => return Err(ArgsError::Usage),
+        Some(file) => file,
+    };
+    Ok(Look::Same {
+        left: String::from_str(alloc, left)?,
+        right: String::from_str(alloc, right)?,
         fold: has(found, "fold"),
         posix: has(found, "posix"),
     })
@@ -125,9 +178,9 @@ fn has(found: &ArgMatches<'_>, flag: &str) -> bool
     found.get_count(flag) > 0
 }
 
-/// The file that is named there.
-fn file_of<'a>(found: &ArgMatches<'a>) -> Option<&'a str>
-    ensures { option_map (λ s. s.now) result ≡ first_of (codes "file") (rows_of (found_of found.now)) }
+/// The file that is named there, by this word.
+fn file_of<'a>(found: &ArgMatches<'a>, id: &str) -> Option<&'a str>
+    ensures { option_map (λ s. s.now) result ≡ first_of id.now (rows_of (found_of found.now)) }
 {
-    found.get_str("file")
+    found.get_str(id)
 }

@@ -2,7 +2,7 @@
 
 ghost use Rattle.std.specs.Prelude.{◌≡◌};
 
-use lexkit::GenError;
+use lexkit::{GenError, TableError};
 use lexlook_pictures::PictureError;
 use thiserror::Error;
 
@@ -12,6 +12,9 @@ pub enum LookError {
     /// No automaton was made, and nothing was written.
     #[error("{0}")]
     Refused(GenError),
+    /// The bytes are no table file, and nothing was written.
+    #[error("{0}")]
+    Table(TableError),
     /// Memory ran out while it was written.
     #[error("out of memory")]
     OutOfMemory,

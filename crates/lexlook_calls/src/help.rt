@@ -7,7 +7,9 @@ use lexkit::{Sink, WriteFault};
 /// The subcommands, a line each.
 const HELP: &str = "lexlook shows what a specification of lex does.\n\n\
     lexlook picture FILE [-i] [-X]\n    \
-    the automaton of the specification, as a picture for dot\n\n\
+    the automaton of the specification, as a picture for dot\n\
+    lexlook same FILE FILE [-i] [-X]\n    \
+    whether two specifications or table files do the same, with status 1 and where they do not\n\n\
     FILE may be - for standard input. With -i letters stand for both cases. With -X an interval\n\
     applies to the whole series to its left.\n";
 

@@ -2,14 +2,19 @@
 #![tactic(auto)]
 
 mod args;
+mod comparing;
 mod drawing;
 mod error;
 mod help;
 mod labels;
 mod laws;
 mod least;
+mod naming;
+mod sides;
+mod telling;
 
 pub use args::{Look, read_args};
+pub use comparing::{Given, tell_same};
 pub use drawing::draw;
 pub use error::LookError;
 pub use help::write_help;

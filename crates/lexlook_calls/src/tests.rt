@@ -140,7 +140,12 @@ const REFUSED: &[&str] = &[
     "picture a.l -q",
     "paint a.l",
     "picture -h",
+    "same",
+    "same a.l",
+    "same a.l b.l c.l",
 ];
+
+const COMPARED: &[&str] = &["same a.l b.l -X", "same -X a.l -- b.l"];
 
 const HELPED: &[&str] = &["--help", "picture --help", "paint --help"];
 
@@ -152,6 +157,24 @@ fn reads_command_lines(rt: HostRuntime) {
                 assert!(rt; file.as_str() == "a.l", "{line}");
                 assert!(rt; fold, "{line}");
                 assert!(rt; !posix, "{line}");
+            }
+            _ => assert!(rt; false, "{line}"),
+        }
+    }
+    for line in COMPARED {
+        match asked(rt.alloc(), *line) {
+            Ok(
+                Look::Same {
+                    left,
+                    right,
+                    fold,
+                    posix,
+                },
+            ) => {
+                assert!(rt; left.as_str() == "a.l", "{line}");
+                assert!(rt; right.as_str() == "b.l", "{line}");
+                assert!(rt; !fold, "{line}");
+                assert!(rt; posix, "{line}");
             }
             _ => assert!(rt; false, "{line}"),
         }

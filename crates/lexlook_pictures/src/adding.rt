@@ -6,7 +6,7 @@ use itoa::Buffer;
 use std::alloc::AllocError;
 
 /// Appends bytes.
-pub(crate) fn add(text: &mut Vec<u8>, bytes: &[u8]) -> Result<(), AllocError>
+pub fn add(text: &mut Vec<u8>, bytes: &[u8]) -> Result<(), AllocError>
     ensures { OnOk result (text.new.items ≡ text.old.items ++ bytes.now) }
 {
     text.extend_from_slice(bytes)
@@ -33,7 +33,7 @@ pub(crate) fn add_quoted(text: &mut Vec<u8>, bytes: &[u8]) -> Result<(), AllocEr
 }
 
 /// Appends a number, in decimal.
-pub(crate) fn add_number(text: &mut Vec<u8>, number: u32) -> Result<(), AllocError>
+pub fn add_number(text: &mut Vec<u8>, number: u32) -> Result<(), AllocError>
     ensures { OnOk result (text.new.items ≡ text.old.items ++ decimal number) }
 {
     let mut digits = Buffer::new();

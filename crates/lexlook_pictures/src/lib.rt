@@ -8,5 +8,6 @@ mod error;
 mod nodes;
 mod picture;
 
+pub use adding::{add, add_number};
 pub use error::PictureError;
 pub use picture::write_picture;

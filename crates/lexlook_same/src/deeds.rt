@@ -151,5 +151,9 @@ pub fn rules_after<'a, M: Machine>(
     ensures { result.now ≡ rules_at all (M.machine machine.now)
         (state_after (M.machine machine.now) condition line_start text.now) }
 {
-    rules_at(machine, all, state_after(machine, condition, line_start, text))
+    rules_at(
+        machine,
+        all,
+        state_after(machine, condition, line_start, text),
+    )
 }

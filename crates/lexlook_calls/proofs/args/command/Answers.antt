@@ -1,16 +1,20 @@
-use Rattle.std.proofs.Common.{◌≡◌, ◌∙◌, ap, ap₂, codes, rules}
+use Rattle.std.proofs.Common.{◌≡◌, ◌∙◌, ◌&&◌, not, Bool, true, false, ap, ap₂, refl, rules}
 use Rattle.std.proofs.lemmas.Result.{IfOk-weaker}
-use Rattle.clap.specs.Words.{App, app_of, new_app, with_subcommand}
-use Rattle.lexkit.proofs.CommandLine.{adds_rule}
-use Rattle.lexlook_calls.specs.LookLine.{no_subcommand, picture_app, without_help}
+use Rattle.clap.specs.Words.{App, app_of, with_subcommand}
+use Rattle.lexlook_calls.specs.LookLine.{no_subcommand, picture_app}
 use Rattle.lexlook_calls.proofs.args.command.Goals as goal
+
+-- the third of some flags is off
+third_off : (a b g rest : Bool) → (a && (not b && (not g && rest))) ≡ true → g ≡ false
+third_off true false false rest e = refl
+third_off true false true rest e = absurd cc
+third_off true true g rest e = absurd cc
+third_off false b g rest e = absurd cc
 
 pub returns : goal.returns
 returns c =
-    let none : app_of c.disable_help_flag.result ≡ without_help (new_app (codes "picture")) = search rules in
-    let one = adds_rule _ _ _ _ _ c.in_ok-arg.ensures c.flag.ensures.global none c.flag.ensures.rule in
-    let two = adds_rule _ _ _ _ _ c.in_ok-arg-2.ensures c.flag-2.ensures.global one c.flag-2.ensures.rule in
-    let picture : app_of c.in_ok-picture.picture ≡ picture_app = adds_rule _ _ _ _ _ c.in_ok-picture.ensures c.file_word.ensures.global two c.file_word.ensures.rule in
     let top : app_of c.subcommand_required.result ≡ no_subcommand = search rules in
-    IfOk-weaker c.subcommand.result _ _
-    (λ new h. h.shape (search rules) ∙ ap₂ with_subcommand top (ap (λ (a : App). a.top) picture)) c.subcommand.ensures
+    let first : app_of c.in_ok-subcommand.field-0 ≡ with_subcommand no_subcommand picture_app.top =
+    c.in_ok-subcommand.ensures.shape (third_off _ _ _ _ (ap (λ (a : App). a.top.is_plain) c.in_ok-picture.ensures)) ∙ ap₂ with_subcommand top (ap (λ (a : App). a.top) c.in_ok-picture.ensures) in
+    IfOk-weaker c.subcommand-2.result _ _
+    (λ new h. h.shape (third_off _ _ _ _ (ap (λ (a : App). a.top.is_plain) c.in_ok-same.ensures)) ∙ ap₂ with_subcommand first (ap (λ (a : App). a.top) c.in_ok-same.ensures)) c.subcommand-2.ensures

@@ -1,0 +1,66 @@
+-- Conditions that are paired, and rules that have lines.
+use Rattle.std.proofs.Common.{◌⊎◌, ◌++◌, zero, suc, get_or, refl, inl, inr, Bool, true, false, ◌∷◌, take, ◌≡◌, ℕ, ◌<◌, ◌∙◌, List, [], length, map, ap, sym, subst, Some, None, Option, arith}
+use Rattle.std.specs.Prelude.{slice_get, IfSome}
+use Rattle.std.proofs.lemmas.List.{length-map}
+use Rattle.std.proofs.lemmas.Option.{slice_get_within}
+use Rattle.lex_semantics.specs.Spec.{Spec, Condition}
+use Rattle.lex_semantics.specs.Machine.{Machine}
+use Rattle.lex_semantics.specs.MachineLaws.{MachineLaws}
+use Rattle.lex_semantics.specs.Text.{Among}
+use Rattle.lexkit.specs.declared.options.Options.{Options}
+use Rattle.lexlook_same.specs.Same.{number_in, rules_at}
+use Rattle.lexlook_same.proofs.Lists.{some_at}
+use Rattle.lexlook_calls.specs.Looks.{names_of}
+use Rattle.lexlook_calls.specs.Lines.{Side, IsLabelled}
+use Rattle.lexlook_calls.specs.Naming.{AreNamed, ArePaired}
+use Rattle.lexlook_calls.specs.Sides.{StandsFor}
+
+-- what a file stands for has a name for each condition, and a line for each rule
+pub labelled : (options : Options) (bytes name : List ℕ) (M : Machine) (given : Option Spec) → StandsFor options bytes M given → IsLabelled (record { name = name; machine = M; given = given })
+labelled options bytes name M None h = tt
+labelled options bytes name M (Some S) h = (let t = h.4.table in (sym (ap (λ (N : Machine). N.conditions) h.5 ∙ t.conditions), sym (ap (λ (N : Machine). N.count) h.5 ∙ t.count)))
+
+-- a condition of the first has one of the second, where there are as many
+pub paired_within : (a b : Side) (order : List ℕ) → IsLabelled a → IsLabelled b → ArePaired a.given b.given order → a.machine.conditions ≡ b.machine.conditions → (c : ℕ) → c < a.machine.conditions → number_in order c < b.machine.conditions
+paired_within a b order labels labels' paired same c lt = by a.given b.given labels labels' paired
+  where
+    M : ℕ
+    M = a.machine.conditions
+
+    none : order ≡ [] → number_in order c < b.machine.conditions
+    none e = subst (λ o. number_in o c < b.machine.conditions) (sym e) (omega (arith, lt, same))
+
+    by : (g h : Option Spec) → IsLabelled (record { name = a.name; machine = a.machine; given = g }) → IsLabelled (record { name = b.name; machine = b.machine; given = h }) → ArePaired g h order → number_in order c < b.machine.conditions
+    by (Some S) (Some T) l k p =
+        let x = some_at (names_of S.conditions) c (omega (arith, lt, l.0, length-map S.conditions (λ (z : Condition). z.name))) in
+        let y = slice_get_within (names_of T.conditions) (number_in order c) x.0 (p.named c (omega (arith, lt, l.0, length-map S.conditions (λ (z : Condition). z.name))) ∙ x.1) in
+        omega (arith, y, k.0, length-map T.conditions (λ (z : Condition). z.name))
+    by (Some S) None l k p = none p
+    by None h l k p = none p
+
+first_is : (xs : List ℕ) (x : ℕ) → Among (take 1 xs) x → Among xs x
+first_is [] x a = a
+first_is (y ∷ xs) x (inl e) = inl e
+first_is (y ∷ xs) x (inr a) = absurd a
+
+-- a rule of which a match asks has a line
+pub taken_labelled : (a : Side) → MachineLaws a.machine → IsLabelled a → (all : Bool) (s i : ℕ) → Among (rules_at all a.machine s) i → IfSome a.given (λ S. i < length S.rules)
+taken_labelled a laws labels all s i among = by a.given labels (counted all among)
+  where
+    counted : (all : Bool) → Among (rules_at all a.machine s) i → i < a.machine.count
+    counted true m = laws.in_range s i m
+    counted false m = laws.in_range s i (first_is (a.machine.accepts s) i m)
+
+    by : (g : Option Spec) → IsLabelled (record { name = a.name; machine = a.machine; given = g }) → i < a.machine.count → IfSome g (λ S. i < length S.rules)
+    by None l lt = tt
+    by (Some S) l lt = (let e = l.1 in omega (arith, e, lt))
+
+-- an element of a list that has grown by one, and the last one
+pub left_of : (xs : List ℕ) (y i d : ℕ) → i < length xs → get_or (xs ++ y ∷ []) i d ≡ get_or xs i d
+left_of [] y i d lt = absurd (omega (arith, lt))
+left_of (x ∷ xs) y zero d lt = refl
+left_of (x ∷ xs) y (suc i) d lt = left_of xs y i d (omega (arith, lt))
+
+pub last_of : (xs : List ℕ) (y d : ℕ) → get_or (xs ++ y ∷ []) (length xs) d ≡ y
+last_of [] y d = refl
+last_of (x ∷ xs) y d = last_of xs y d

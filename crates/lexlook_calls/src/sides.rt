@@ -1,0 +1,82 @@
+//! What a file that is compared stands for.
+ghost use Rattle.std.specs.Prelude.{◌≡◌, ◌≤◌, true, false, IfOk, IfErr};
+ghost use Rattle.lex_semantics.specs.Limits.{max_positions, max_states};
+ghost use Rattle.lextab_packed.specs.Machines.{machine_of};
+ghost use Rattle.lexlook_calls.specs.Sides.{StandsFor, IsRefused, is_table_file, read_as};
+
+use crate::error::LookError;
+use crate::least::least_automaton;
+use lexkit::{GenError, Options, ReadOptions, Tables, read_spec, read_tables};
+use lexspec::Spec;
+use lextab_packing::pack;
+use std::alloc::Global;
+
+/// The tables of a file, and the specification if it is one.
+#[derive(Drop)]
+pub(crate) struct Side {
+    pub tables: Tables,
+    pub spec: Option<Spec>,
+}
+
+/// Whether the bytes are taken for those of a table file.
+fn is_table_file(bytes: &[u8]) -> bool
+    ensures { result ≡ is_table_file bytes.now }
+{
+    bytes.starts_with(b"LEXTAB\0")
+}
+
+/// What a table file stands for.
+fn side_of_table(alloc: Global, bytes: &[u8], options: Options) -> Result<Side, LookError>
+    requires { is_table_file bytes.now ≡ true }
+    ensures stands { IfOk result (λ s. StandsFor options bytes.now (machine_of s.tables) (read_as s.spec)) }
+    ensures refused { IfErr result (IsRefused options bytes.now) }
+{
+    let _options = options;
+    match read_tables(alloc, bytes) {
+        Err(error) => Err(LookError::Table(error)),
+        Ok(tables) => Ok(Side { tables, spec: None }),
+    }
+}
+
+/// What a specification stands for.
+fn side_of_spec(alloc: Global, text: &[u8], options: Options) -> Result<Side, LookError>
+    requires few_positions { options.limits.positions ≤ max_positions }
+    requires few_states { options.limits.states ≤ max_states }
+    requires spec { is_table_file text.now ≡ false }
+    ensures stands { IfOk result (λ s. StandsFor options text.now (machine_of s.tables) (read_as s.spec)) }
+    ensures refused { IfErr result (IsRefused options text.now) }
+{
+    let read = ReadOptions {
+        fold: options.fold,
+        posix: options.posix,
+    };
+    let spec = match read_spec(alloc, text, read) {
+        Err(error) => return Err(LookError::Refused(GenError::Spec(error))),
+        Ok(spec) => spec,
+    };
+    let automaton = match least_automaton(alloc, &spec, options.limits) {
+        Err(error) => return Err(LookError::Refused(error)),
+        Ok(automaton) => automaton,
+    };
+    match pack(alloc, &automaton, &spec) {
+        Err(_) => Err(LookError::OutOfMemory),
+        Ok(tables) => Ok(Side {
+            tables,
+            spec: Some(spec),
+        }),
+    }
+}
+
+/// What the bytes of a file stand for.
+pub(crate) fn side_of(alloc: Global, bytes: &[u8], options: Options) -> Result<Side, LookError>
+    requires few_positions { options.limits.positions ≤ max_positions }
+    requires few_states { options.limits.states ≤ max_states }
+    ensures stands { IfOk result (λ s. StandsFor options bytes.now (machine_of s.tables) (read_as s.spec)) }
+    ensures refused { IfErr result (IsRefused options bytes.now) }
+{
+    if is_table_file(bytes) {
+        side_of_table(alloc, bytes, options)
+    } else {
+        side_of_spec(alloc, bytes, options)
+    }
+}
