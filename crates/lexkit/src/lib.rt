@@ -20,8 +20,8 @@ pub use lex_semantics::{MAX_FILE_BYTES, MAX_POSITIONS, MAX_STATES};
 pub use lexauto::{BackUp, BuildError, Limits};
 pub use lexauto_reports::{Warning, write_backup, write_warnings};
 pub use lexscan::{
-    ByteReader, FromBytes, FromRead, Match, MatchedRule, MemorySource, ReadFault, RunError,
-    Scanner, Source, Turn, Window, run,
+    ByteReader, Candidate, FromBytes, FromRead, Match, MatchedRule, MemorySource, ReadFault,
+    RunError, Scanner, Source, Turn, Window, accepted, longest, run,
 };
 pub use lexscan_tokens::{Token, tokens};
 pub use lexspec::{

@@ -19,3 +19,4 @@ pub mod Marks
 pub mod Making
 pub mod Tying
 pub mod Taking
+pub mod Fronting

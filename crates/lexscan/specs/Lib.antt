@@ -18,3 +18,4 @@ pub mod Turns
 pub mod Ends
 pub mod Ties
 pub mod Matches
+pub mod Fronts

@@ -7,6 +7,7 @@ mod burst;
 mod cell;
 mod descent;
 mod error;
+mod front;
 mod further;
 mod intake;
 mod last_states;
@@ -26,8 +27,9 @@ mod whole;
 mod window;
 
 pub use error::RunError;
+pub use front::{accepted, longest};
 pub use lex_io::{ByteReader, FromBytes, FromRead, MemorySource, ReadFault, Source};
-pub use matched::{Match, MatchedRule};
+pub use matched::{Candidate, Match, MatchedRule};
 pub use scanner::Scanner;
 pub use turn::Turn;
 pub use whole::run;

@@ -16,3 +16,12 @@ pub struct Match {
     pub start: u64,
     pub length: usize,
 }
+
+/// A match at the front of a text: its rule, how many bytes it takes, and how many of these are its text, which ends before trailing
+/// context.
+#[derive(Clone, Copy, Debug, PartialEq, Eq)]
+pub struct Candidate {
+    pub rule: MatchedRule,
+    pub length: usize,
+    pub text: usize,
+}

@@ -36,7 +36,11 @@ pub struct Pick<'m> {
 
 /// The first of the rules whose cut fits a match of this many bytes.
 #[inline(always)]
-fn first_candidate<'m, M: Machine>(machine: &'m M, rules: &[u32], len: usize) -> Option<Pick<'m>>
+pub fn first_candidate<'m, M: Machine>(
+    machine: &'m M,
+    rules: &[u32],
+    len: usize,
+) -> Option<Pick<'m>>
     requires known { (i : ℕ) → Among rules.now i → i < (M.machine machine.now).count }
 
     ensures first { IsFirst (filter_map (match_of (M.machine machine.now) len) rules.now) result }

@@ -3,7 +3,7 @@ use crate::caller::tokens_by;
 use crate::rows::{
     AN_END, C_TOKENS, JSON, Listing, NO_INPUT, REJECT, Row, TRAILING_CONTEXT, YYLESS, YYMORE,
 };
-use lexkit::{MatchedRule, Options, Token, generate};
+use lexkit::{Candidate, MatchedRule, Options, Token, generate, longest};
 use std::alloc::Global;
 use std::test::Fail;
 
@@ -67,5 +67,38 @@ fn lists_what_is_left_of_a_match(rt: HostRuntime) -> Result<(), Fail> {
         let same = is_listed(rt.alloc(), listing)?;
         assert!(rt; same, "{}", listing.spec);
     }
+    Ok(())
+}
+
+/// Whether the longest match at the front of a text is of this rule, takes so many bytes, and has so many in its text.
+fn is_longest(alloc: Global, text: &[u8], wanted: Option<Candidate>) -> Result<bool, Fail> {
+    let rules = b"%%\nif ;\n[a-z]+ ;\n[0-9]+/\"kg\" ;\n";
+    let made = generate(alloc, rules, Options::new())?;
+    let some = !made.tables.parts().conditions.is_empty();
+    Ok(some && longest(&made.tables, 0, true, text) == wanted)
+}
+
+#[test]
+fn finds_the_longest_match(rt: HostRuntime) -> Result<(), Fail> {
+    let rows: &[(&[u8], MatchedRule, usize, usize)] = &[
+        (b"if x", MatchedRule::Numbered(0), 2, 2),
+        (b"iffy", MatchedRule::Numbered(1), 4, 4),
+        (b"12kg", MatchedRule::Numbered(2), 4, 2),
+        (b"12g", MatchedRule::Default, 1, 1),
+    ];
+    for &(text, rule, length, kept) in rows {
+        let same = is_longest(
+            rt.alloc(),
+            text,
+            Some(Candidate {
+                rule,
+                length,
+                text: kept,
+            }),
+        )?;
+        assert!(rt; same);
+    }
+    let none = is_longest(rt.alloc(), b"", None)?;
+    assert!(rt; none);
     Ok(())
 }
