@@ -3,3 +3,5 @@
 
 #[cfg(test)]
 mod comparing;
+#[cfg(test)]
+mod lines;
