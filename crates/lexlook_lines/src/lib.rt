@@ -5,5 +5,7 @@ mod actions;
 mod cutting;
 mod newlines;
 mod reaching;
+mod tables;
 
 pub use cutting::{Obstacle, Sizes, find_obstacle};
+pub use tables::find_obstacle_in;
