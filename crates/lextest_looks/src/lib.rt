@@ -4,4 +4,6 @@
 #[cfg(test)]
 mod comparing;
 #[cfg(test)]
+mod lines;
+#[cfg(test)]
 mod telling;

@@ -1,0 +1,11 @@
+//! Says whether an input may be cut after any newline, and its pieces scanned apart.
+#![tactic(auto)]
+
+mod actions;
+mod cutting;
+mod newlines;
+mod reaching;
+mod tables;
+
+pub use cutting::{Obstacle, Sizes, find_obstacle};
+pub use tables::find_obstacle_in;
