@@ -11,7 +11,7 @@ use crate::reading::{read_compared_file, read_spec_file};
 use lexkit::{
     ArgsError, ByteWriter, MAX_POSITIONS, MAX_STATES, Options, Sink, ToWrite, write_fault,
 };
-use lexlook_calls::{Given, Look, draw, read_args, tell_same, write_help};
+use lexlook_calls::{Given, Look, draw, read_args, tell_lines, tell_same, write_help};
 use std::io::ErrorKind;
 use std::process::ExitCode;
 use std::{env, io};
@@ -87,11 +87,28 @@ fn show_same(
     let mut sink = ToWrite::new(ByteWriter::new(rt.alloc(), io::writer(rt))?);
     let same = tell_same(rt.alloc(), this, that, options, &mut sink)?;
     sink.flush()?;
-    Ok(if same {
+    Ok(status_of(same))
+}
+
+/// Says on standard output what stands against cuts of an input at its newlines.
+fn show_lines(rt: &HostRuntime, name: &str, options: Options) -> Result<ExitCode, Failure>
+    requires few_positions { options.limits.positions ≤ MAX_POSITIONS }
+    requires few_states { options.limits.states ≤ MAX_STATES }
+{
+    let bytes = read_compared_file(rt, name)?;
+    let mut sink = ToWrite::new(ByteWriter::new(rt.alloc(), io::writer(rt))?);
+    let may = tell_lines(rt.alloc(), bytes.as_slice(), options, &mut sink)?;
+    sink.flush()?;
+    Ok(status_of(may))
+}
+
+/// The status of an answer: 0 for yes, 1 for no.
+fn status_of(yes: bool) -> ExitCode {
+    if yes {
         ExitCode::SUCCESS
     } else {
         ExitCode::from(1)
-    })
+    }
 }
 
 fn run(rt: &HostRuntime) -> Result<ExitCode, Failure> {
@@ -107,6 +124,9 @@ fn run(rt: &HostRuntime) -> Result<ExitCode, Failure> {
             fold,
             posix,
         } => return show_same(rt, left.as_str(), right.as_str(), options_of(fold, posix)),
+        Look::Lines { file, fold, posix } => {
+            return show_lines(rt, file.as_str(), options_of(fold, posix));
+        }
     }
     Ok(ExitCode::SUCCESS)
 }

@@ -3,3 +3,4 @@ pub mod Sided
 pub mod Asked
 pub mod Drawn
 pub mod SamePictures
+pub mod Cutting

@@ -5,3 +5,4 @@ pub mod Sides
 pub mod Naming
 pub mod Lines
 pub mod Compared
+pub mod Cuts

@@ -6,7 +6,7 @@ use Rattle.clap.specs.Simple.{on_top}
 use Rattle.clap.specs.declared.builder.action.ArgAction.TheVariants.{Set}
 use Rattle.lexkit.specs.CommandLine.{flag_rule, has, is_separator}
 use Rattle.lexlook_calls.specs.declared.args.Look.{Look}
-use Rattle.lexlook_calls.specs.declared.args.Look.TheVariants.{Help, Picture, Same}
+use Rattle.lexlook_calls.specs.declared.args.Look.TheVariants.{Help, Picture, Same, Lines}
 
 -- ---- the program's command line, in clap's terms
 
@@ -33,6 +33,10 @@ same_rules = flag_rule (codes "fold") 105 ∷ flag_rule (codes "posix") 88 ∷ n
 abbrev pub same_app : App
 same_app = fold with_rule (without_help (new_app (codes "same"))) same_rules
 
+-- `lines`, with the same two flags, and a file
+abbrev pub lines_app : App
+lines_app = fold with_rule (without_help (new_app (codes "lines"))) picture_rules
+
 -- the words begin after the program's name, and name a subcommand; clap knows no help
 abbrev pub no_subcommand : App
 no_subcommand =
@@ -41,7 +45,7 @@ no_subcommand =
 
 -- the program's command line
 abbrev pub lexlook_app : App
-lexlook_app = with_subcommand (with_subcommand no_subcommand picture_app.top) same_app.top
+lexlook_app = with_subcommand (with_subcommand (with_subcommand no_subcommand picture_app.top) same_app.top) lines_app.top
 
 -- ---- what is asked for
 
@@ -57,6 +61,7 @@ AsksToDraw met (Picture file folds series) = (Some (string_bytes file) ≡ first
     × (series ≡ has (codes "posix") met)
 AsksToDraw met Help = ⊥
 AsksToDraw met (Same left right folds series) = ⊥
+AsksToDraw met (Lines file folds series) = ⊥
 
 -- whether what is in the two files does the same
 abbrev pub AsksToCompare : List Row → Look → Type 0
@@ -66,11 +71,23 @@ AsksToCompare met (Same left right folds series) = (Some (string_bytes left) ≡
     × (series ≡ has (codes "posix") met)
 AsksToCompare met Help = ⊥
 AsksToCompare met (Picture file folds series) = ⊥
+AsksToCompare met (Lines file folds series) = ⊥
+
+-- whether an input of what is in the file may be cut at its newlines
+abbrev pub AsksToCut : List Row → Look → Type 0
+AsksToCut met (Lines file folds series) = (Some (string_bytes file) ≡ first_of (codes "file") met)
+    × (folds ≡ has (codes "fold") met)
+    × (series ≡ has (codes "posix") met)
+AsksToCut met Help = ⊥
+AsksToCut met (Picture file folds series) = ⊥
+AsksToCut met (Same left right folds series) = ⊥
 
 -- what a subcommand asks for, by its name and what stands behind it
 abbrev pub IsLookOf : Option (Text × List Row) → Look → Type 0
 IsLookOf None look = ⊥
-IsLookOf (Some p) look = ((p.0 ≡ codes "picture") × AsksToDraw p.1 look) ⊎ ((p.0 ≡ codes "same") × AsksToCompare p.1 look)
+IsLookOf (Some p) look = ((p.0 ≡ codes "picture") × AsksToDraw p.1 look)
+    ⊎ ((p.0 ≡ codes "same") × AsksToCompare p.1 look)
+    ⊎ ((p.0 ≡ codes "lines") × AsksToCut p.1 look)
 
 -- The words ask for the help if one of them is `--help`. Else they are a line of the program's, and ask for what the
 -- subcommand does.
@@ -82,3 +99,6 @@ AsksFor words (Picture file folds series) = (has_help words ≡ false)
 AsksFor words (Same left right folds series) = (has_help words ≡ false)
     × (fault_of lexlook_app words ≡ [])
     × IsLookOf (subcommand_of lexlook_app words) (Same left right folds series)
+AsksFor words (Lines file folds series) = (has_help words ≡ false)
+    × (fault_of lexlook_app words ≡ [])
+    × IsLookOf (subcommand_of lexlook_app words) (Lines file folds series)

@@ -1,9 +1,9 @@
 //! What a command line asks for.
-ghost use Rattle.std.specs.Prelude.{◌≡◌, ◌⊎◌, IfErr, IfOk, None, codes, false, map, option_map, string_bytes};
+ghost use Rattle.std.specs.Prelude.{◌≡◌, ◌⊎◌, IfErr, IfOk, None, Some, codes, false, map, option_map, string_bytes};
 ghost use Rattle.clap.specs.Words.{app_of, first_of, found_of, rows_of, rule_of, subcommand_rows_of};
 ghost use Rattle.lexkit.specs.CommandLine.{flag_rule, has};
-ghost use Rattle.lexlook_calls.specs.LookLine.{AsksFor, AsksToCompare, AsksToDraw, IsLookOf};
-ghost use Rattle.lexlook_calls.specs.LookLine.{has_help, lexlook_app, needed_rule, picture_app, same_app};
+ghost use Rattle.lexlook_calls.specs.LookLine.{AsksFor, AsksToCompare, AsksToCut, AsksToDraw, IsLookOf};
+ghost use Rattle.lexlook_calls.specs.LookLine.{has_help, lexlook_app, lines_app, needed_rule, picture_app, same_app};
 
 use clap::{Arg, ArgAction, ArgMatches, Command};
 use lexkit::ArgsError;
@@ -31,10 +31,18 @@ pub enum Look {
         /// Intervals apply to series.
         posix: bool,
     },
+    /// Whether an input of what this file stands for may be cut after any newline. `-` is standard input.
+    Lines {
+        file: String,
+        /// Letters of patterns stand for both cases.
+        fold: bool,
+        /// Intervals apply to series.
+        posix: bool,
+    },
 }
 
-/// Reads the words after the program's name: `picture FILE` or `same FILE FILE`, with `-i` or `-X` or without, or any
-/// words with `--help`. Flags may be repeated. Words that it refuses by `Usage` ask for nothing.
+/// Reads the words after the program's name: `picture FILE`, `same FILE FILE` or `lines FILE`, with `-i` or `-X` or
+/// without, or any words with `--help`. Flags may be repeated. Words that it refuses by `Usage` ask for nothing.
 pub fn read_args(alloc: Global, words: &[String]) -> Result<Look, ArgsError>
     ensures asked { IfOk result (AsksFor (map string_bytes words.now)) }
     ensures refused { IfErr result (λ e. e ≡ ArgsError.Usage
@@ -87,19 +95,32 @@ fn same_command<'a>(alloc: Global) -> Result<Command<'a>, AllocError>
         .arg(needed_word(alloc, "right"))
 }
 
+/// The words of cuts at newlines.
+fn lines_command<'a>(alloc: Global) -> Result<Command<'a>, AllocError>
+    ensures { IfOk result (λ c. app_of c ≡ lines_app) }
+{
+    Command::new(alloc, "lines")
+        .disable_help_flag(true)
+        .arg(flag(alloc, "fold", 'i'))?
+        .arg(flag(alloc, "posix", 'X'))?
+        .arg(needed_word(alloc, "file"))
+}
+
 /// The words that the program knows.
 fn command<'a>(alloc: Global) -> Result<Command<'a>, AllocError>
     ensures { IfOk result (λ c. app_of c ≡ lexlook_app) }
 {
     let picture = picture_command(alloc)?;
     let same = same_command(alloc)?;
+    let lines = lines_command(alloc)?;
     Command::new(alloc, "lexlook")
         .no_binary_name(true)
         .disable_help_flag(true)
         .disable_help_subcommand(true)
         .subcommand_required(true)
         .subcommand(picture)?
-        .subcommand(same)
+        .subcommand(same)?
+        .subcommand(lines)
 }
 
 /// A flag, which may be repeated.
@@ -127,7 +148,23 @@ fn look_of(alloc: Global, matches: &ArgMatches<'_>) -> Result<Look, ArgsError>
     match matches.subcommand() {
         Some((name, found)) if name == "picture" => picture_look(alloc, found),
         Some((name, found)) if name == "same" => same_look(alloc, found),
+        Some((name, found)) if name == "lines" => lines_look(alloc, found),
         _ => Err(ArgsError::Usage),
+    }
+}
+
+/// The file that the matches name.
+fn file_there(alloc: Global, found: &ArgMatches<'_>) -> Result<String, ArgsError>
+    ensures named { IfOk result (λ s. Some (string_bytes s) ≡ first_of (codes "file") (rows_of (found_of found.now))) }
+    ensures refused { IfErr result (λ e. e ≡ ArgsError.Usage
+        → first_of (codes "file") (rows_of (found_of found.now)) ≡ None) }
+{
+    match file_of(found, "file") {
+        None => Err(ArgsError::Usage),
+        Some(file) => {
+            let name = String::from_str(alloc, file)?;
+            Ok(name)
+        }
     }
 }
 
@@ -137,12 +174,9 @@ fn picture_look(alloc: Global, found: &ArgMatches<'_>) -> Result<Look, ArgsError
     ensures refused { IfErr result (λ e. e ≡ ArgsError.Usage
         → first_of (codes "file") (rows_of (found_of found.now)) ≡ None) }
 {
-    let file = match file_of(found, "file") {
-        None => return Err(ArgsError::Usage),
-        Some(file) => file,
-    };
+    let file = file_there(alloc, found)?;
     Ok(Look::Picture {
-        file: String::from_str(alloc, file)?,
+        file,
         fold: has(found, "fold"),
         posix: has(found, "posix"),
     })
@@ -166,6 +200,20 @@ fn same_look(alloc: Global, found: &ArgMatches<'_>) -> Result<Look, ArgsError>
     Ok(Look::Same {
         left: String::from_str(alloc, left)?,
         right: String::from_str(alloc, right)?,
+        fold: has(found, "fold"),
+        posix: has(found, "posix"),
+    })
+}
+
+/// The cuts that the matches behind its name ask for.
+fn lines_look(alloc: Global, found: &ArgMatches<'_>) -> Result<Look, ArgsError>
+    ensures asked { IfOk result (AsksToCut (rows_of (found_of found.now))) }
+    ensures refused { IfErr result (λ e. e ≡ ArgsError.Usage
+        → first_of (codes "file") (rows_of (found_of found.now)) ≡ None) }
+{
+    let file = file_there(alloc, found)?;
+    Ok(Look::Lines {
+        file,
         fold: has(found, "fold"),
         posix: has(found, "posix"),
     })

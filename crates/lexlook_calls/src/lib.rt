@@ -3,6 +3,7 @@
 
 mod args;
 mod comparing;
+mod cuts;
 mod drawing;
 mod error;
 mod help;
@@ -15,6 +16,7 @@ mod telling;
 
 pub use args::{Look, read_args};
 pub use comparing::{Given, tell_same};
+pub use cuts::tell_lines;
 pub use drawing::draw;
 pub use error::LookError;
 pub use help::write_help;

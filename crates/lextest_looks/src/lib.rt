@@ -6,4 +6,6 @@ mod comparing;
 #[cfg(test)]
 mod lines;
 #[cfg(test)]
+mod sayings;
+#[cfg(test)]
 mod telling;
