@@ -75,7 +75,11 @@ fn line_of(spec: &Spec, rule: u32) -> u32
 }
 
 /// Appends what a condition is called.
-pub(crate) fn add_condition(text: &mut Vec<u8>, given: &Option<Spec>, condition: u8) -> Result<(), AllocError>
+pub(crate) fn add_condition(
+    text: &mut Vec<u8>,
+    given: &Option<Spec>,
+    condition: u8,
+) -> Result<(), AllocError>
     requires { IfSome (read_as given.now) (λ S. condition < length (conditions_in S)) }
     ensures { OnOk result (text.new.items ≡ text.old.items ++ condition_words (read_as given.now) condition) }
 {
@@ -89,7 +93,11 @@ pub(crate) fn add_condition(text: &mut Vec<u8>, given: &Option<Spec>, condition:
 }
 
 /// Appends what a rule is called.
-pub(crate) fn add_rule(text: &mut Vec<u8>, given: &Option<Spec>, rule: u32) -> Result<(), AllocError>
+pub(crate) fn add_rule(
+    text: &mut Vec<u8>,
+    given: &Option<Spec>,
+    rule: u32,
+) -> Result<(), AllocError>
     requires { IfSome (read_as given.now) (λ S. rule < length (rules_in S)) }
     ensures { OnOk result (text.new.items ≡ text.old.items ++ rule_words (read_as given.now) rule) }
 {
