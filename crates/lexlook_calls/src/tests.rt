@@ -131,7 +131,63 @@ fn asked(alloc: Global, line: &str) -> Result<Look, ArgsError> {
     read_args(alloc, words.as_slice())
 }
 
+/// Whether the words of a line ask for the picture of a.l, with these flags.
+fn asks_to_draw(alloc: Global, line: &str, folds: bool, series: bool) -> bool {
+    let answer = asked(alloc, line);
+    match &answer {
+        Ok(Look::Picture { file, fold, posix }) => {
+            file.as_str() == "a.l" && *fold == folds && *posix == series
+        }
+        _ => false,
+    }
+}
+
+/// Whether the words of a line ask for a comparison of a.l with b.l, with these flags.
+fn asks_to_compare(alloc: Global, line: &str, folds: bool, series: bool) -> bool {
+    let answer = asked(alloc, line);
+    match &answer {
+        Ok(
+            Look::Same {
+                left,
+                right,
+                fold,
+                posix,
+            },
+        ) => {
+            left.as_str() == "a.l" && right.as_str() == "b.l" && *fold == folds && *posix == series
+        }
+        _ => false,
+    }
+}
+
+/// Whether the words of a line ask for cuts of an input of a.l, with these flags.
+fn asks_to_cut(alloc: Global, line: &str, folds: bool, series: bool) -> bool {
+    let answer = asked(alloc, line);
+    match &answer {
+        Ok(Look::Lines { file, fold, posix }) => {
+            file.as_str() == "a.l" && *fold == folds && *posix == series
+        }
+        _ => false,
+    }
+}
+
+/// Whether the words of a line ask for the help.
+fn asks_for_help(alloc: Global, line: &str) -> bool {
+    let answer = asked(alloc, line);
+    matches!(&answer, Ok(Look::Help))
+}
+
+/// Whether the words of a line are refused.
+fn is_refused(alloc: Global, line: &str) -> bool {
+    let answer = asked(alloc, line);
+    matches!(&answer, Err(ArgsError::Usage))
+}
+
 const FOLDED: &[&str] = &["picture a.l -i", "picture -i a.l", "picture -ii -- a.l"];
+
+const COMPARED: &[&str] = &["same a.l b.l -X", "same -X a.l -- b.l"];
+
+const CUT: &[&str] = &["lines a.l", "lines -- a.l"];
 
 const REFUSED: &[&str] = &[
     "",
@@ -143,52 +199,31 @@ const REFUSED: &[&str] = &[
     "same",
     "same a.l",
     "same a.l b.l c.l",
+    "lines",
+    "lines a.l b.l",
 ];
-
-const COMPARED: &[&str] = &["same a.l b.l -X", "same -X a.l -- b.l"];
 
 const HELPED: &[&str] = &["--help", "picture --help", "paint --help"];
 
 #[test]
 fn reads_command_lines(rt: HostRuntime) {
     for line in FOLDED {
-        match asked(rt.alloc(), *line) {
-            Ok(Look::Picture { file, fold, posix }) => {
-                assert!(rt; file.as_str() == "a.l", "{line}");
-                assert!(rt; fold, "{line}");
-                assert!(rt; !posix, "{line}");
-            }
-            _ => assert!(rt; false, "{line}"),
-        }
+        assert!(rt; asks_to_draw(rt.alloc(), *line, true, false), "{line}");
     }
     for line in COMPARED {
-        match asked(rt.alloc(), *line) {
-            Ok(
-                Look::Same {
-                    left,
-                    right,
-                    fold,
-                    posix,
-                },
-            ) => {
-                assert!(rt; left.as_str() == "a.l", "{line}");
-                assert!(rt; right.as_str() == "b.l", "{line}");
-                assert!(rt; !fold, "{line}");
-                assert!(rt; posix, "{line}");
-            }
-            _ => assert!(rt; false, "{line}"),
-        }
+        assert!(rt; asks_to_compare(rt.alloc(), *line, false, true), "{line}");
     }
+    for line in CUT {
+        assert!(rt; asks_to_cut(rt.alloc(), *line, false, false), "{line}");
+    }
+}
+
+#[test]
+fn refuses_other_command_lines(rt: HostRuntime) {
     for line in REFUSED {
-        assert!(rt;
-            matches!(asked(rt.alloc(), *line), Err(ArgsError::Usage)),
-            "{line}"
-        );
+        assert!(rt; is_refused(rt.alloc(), *line), "{line}");
     }
     for line in HELPED {
-        assert!(rt;
-            matches!(asked(rt.alloc(), *line), Ok(Look::Help)),
-            "{line}"
-        );
+        assert!(rt; asks_for_help(rt.alloc(), *line), "{line}");
     }
 }
