@@ -20,7 +20,7 @@ pub use cuts::tell_lines;
 pub use drawing::draw;
 pub use error::LookError;
 pub use help::write_help;
-pub use laws::one_picture;
+pub use laws::{equal_are_same, one_picture, same_scan_alike};
 
 #[cfg(test)]
 mod tests;
