@@ -1,11 +1,14 @@
 -- The tokens of a scan over a whole input. (POSIX, lex, Rules in lex and Actions in lex; flex, How the Input Is Matched; the list is
 -- this project's.)
-use Rattle.std.specs.Prelude.{◌≡◌, ℕ, zero, suc, ◌+◌, List, [], ◌∷◌, ◌++◌, length, ◌⊎◌, Option, Some, None}
+use Rattle.std.specs.Prelude.{◌≡◌, ℕ, zero, suc, ◌+◌, ◌≤◌, List, [], ◌∷◌, ◌++◌, length, ◌⊎◌, Option, Some, None, Result, Ok, Err, ⊤}
+use Rattle.lex_semantics.specs.Text.{IsText}
 use Rattle.lex_semantics.specs.Rules.{Rules}
 use Rattle.lex_semantics.specs.Candidates.{Candidate}
-use Rattle.lex_semantics.specs.Acting.{Ending, Matched}
+use Rattle.lex_semantics.specs.Acting.{Ending, Status, StackFault, Matched}
 use Rattle.lex_semantics.specs.Run.{Place, State, Turns}
 use Rattle.lexscan.specs.declared.matched.Match.{Match}
+use Rattle.lexscan.specs.declared.error.RunError.{RunError}
+use Rattle.lexscan.specs.declared.error.RunError.TheVariants.{OutOfMemory, Stack}
 use Rattle.lexscan.specs.Descends.{IsRule}
 use Rattle.lexscan.specs.Matches.{CarriesOut}
 use Rattle.lexscan_tokens.specs.declared.listing.Token.{Token}
@@ -44,3 +47,28 @@ pub record Tokenised (R : Rules) (x : List ℕ) (us : List Token) (ending : Endi
   pub reached : Turns R x turns last
   pub ends : last.ended ≡ Some ending
   pub tokens : TokensOf R x turns us
+
+-- The tokens of the turns before a refusal: memory ran out, or the next turn finds the stack of conditions full at a push or empty at a
+-- pop, which ends the scan. (flex, Start Conditions, has no bound; this one is own.)
+pub record Stopped (R : Rules) (x : List ℕ) (us : List Token) (e : RunError) : Type 0 where
+  pub turns : ℕ
+  pub last : State
+  pub reached : Turns R x turns last
+  pub going : last.ended ≡ None
+  pub tokens : TokensOf R x turns us
+  pub why : (e ≡ OutOfMemory) ⊎ ((e ≡ Stack) × (t : State) × Turns R x (suc turns) t × (t.ended ≡ Some StackFault))
+
+-- what is listed of an input: all tokens where it answers a status, and those up to a refusal else
+abbrev pub ListedBy : Rules → List ℕ → List Token → Result ℕ RunError → Type 0
+ListedBy R x us (Ok status) = Tokenised R x us (Status status)
+ListedBy R x us (Err e) = Stopped R x us e
+
+-- The tokens lie among so many bytes. Each ends no earlier than it begins, and begins at a place or later, and no earlier than the one
+-- before it.
+abbrev pub LieIn : ℕ → ℕ → List Token → Type 0
+LieIn size from [] = ⊤
+LieIn size from (t ∷ ts) = (from ≤ t.start) × (t.start ≤ t.end) × (t.end ≤ size) × LieIn size t.start ts
+
+-- What is known of the tokens by these rules is known of those by the others.
+abbrev pub SameTokens : Rules → Rules → Type 0
+SameTokens R Q = (x : List ℕ) (us : List Token) (ending : Ending) → IsText x → Tokenised R x us ending → Tokenised Q x us ending

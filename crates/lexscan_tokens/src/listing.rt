@@ -1,13 +1,13 @@
 //! The tokens of a whole input.
-ghost use Rattle.std.specs.Prelude.{◌≡◌, ◌+◌, ◌^◌, ◌<◌, List, ◌++◌, IfOk, IfSome, OnOk};
-ghost use Rattle.lex_semantics.specs.Acting.{Status};
+ghost use Rattle.std.specs.Prelude.{◌≡◌, ◌+◌, ◌^◌, ◌<◌, List, ◌++◌, length, IfErr, IfSome, OnOk, OnErr};
 ghost use Rattle.lex_semantics.specs.Machine.{rules_of_machine};
 ghost use Rattle.lexscan_tokens.specs.declared.listing.Token.{Token as TokenModel};
-ghost use Rattle.lexscan_tokens.specs.Tokens.{Tokenised, token_by, tokens_by};
+ghost use Rattle.lexscan_tokens.specs.Tokens.{LieIn, ListedBy, token_by, tokens_by};
 
 use crate::discard::Discard;
+use crate::input::InputBytes;
 use lex_machine::Machine;
-use lexscan::{ByteReader, FromBytes, Match, MatchedRule, RunError, Scanner, Turn};
+use lexscan::{Match, MatchedRule, RunError, Scanner, Turn};
 use std::alloc::Global;
 
 /// A match in a text: its rule, where its text begins and ends, counted in bytes, and the start condition in which it was made.
@@ -37,7 +37,9 @@ fn token_of(matched: Match, condition: u8) -> Token
 /// Appends the token of a match, where there is one.
 fn append(list: &mut Vec<Token>, matched: Option<Match>, condition: u8) -> Result<(), RunError>
     requires { IfSome matched (λ m. m.start + m.length < 2 ^ 64) }
-    ensures { OnOk result (list.new.items ≡ list.old.items ++ tokens_by matched condition) }
+    ensures appended { OnOk result (list.new.items ≡ list.old.items ++ tokens_by matched condition) }
+    ensures unchanged { OnErr result (list.new.items ≡ list.old.items) }
+    ensures memory { IfErr result (λ e. e ≡ RunError.OutOfMemory) }
 {
     match matched {
         None => Ok(()),
@@ -49,22 +51,19 @@ fn append(list: &mut Vec<Token>, matched: Option<Match>, condition: u8) -> Resul
 }
 
 /// Appends the tokens of an input to a list: the match of each turn of its scan, in order. Answers the status with which the scan
-/// ends. Nothing is written. It is refused where memory runs out, and as `Stack` where a push finds the stack of start conditions
-/// full or a pop finds it empty.
+/// ends. Nothing is written. It is refused only where memory runs out, and as `Stack` where a push finds the stack of start
+/// conditions full or a pop finds it empty. Then the tokens of the turns before are in the list. Each token lies in the input, and
+/// begins no earlier than the one before it.
 pub fn tokens<M: Machine>(
     alloc: Global,
     machine: &M,
     input: &[u8],
     list: &mut Vec<Token>,
 ) -> Result<u8, RunError>
-    ensures { IfOk result (λ status. (us : List TokenModel) × (list.new.items ≡ list.old.items ++ us)
-        × Tokenised (rules_of_machine (M.machine machine.now)) input.now us (Status status)) }
+    ensures { (us : List TokenModel) × (list.new.items ≡ list.old.items ++ us) × LieIn (length input.now) 0 us
+        × ListedBy (rules_of_machine (M.machine machine.now)) input.now us result }
 {
-    let reader = match ByteReader::new(alloc, input) {
-        Ok(reader) => reader,
-        Err(_) => return Err(RunError::OutOfMemory),
-    };
-    let mut source = FromBytes::new(reader);
+    let mut source = InputBytes::new(input);
     let mut sink = Discard {};
     let mut scanner = Scanner::new(alloc, machine, &mut source, &mut sink, u64::MAX);
     'turns: loop {
