@@ -1,6 +1,7 @@
 //! The tokens of a whole input.
-ghost use Rattle.std.specs.Prelude.{◌≡◌, ◌+◌, ◌^◌, ◌<◌, List, ◌++◌, length, IfErr, IfSome, OnOk, OnErr};
+ghost use Rattle.std.specs.Prelude.{◌≡◌, ◌+◌, ◌^◌, ◌<◌, ◌≤◌, List, ◌++◌, length, IfErr, IfSome, OnOk, OnErr};
 ghost use Rattle.lex_semantics.specs.Machine.{rules_of_machine};
+ghost use Rattle.lex_semantics.specs.Text.{part};
 ghost use Rattle.lexscan_tokens.specs.declared.listing.Token.{Token as TokenModel};
 ghost use Rattle.lexscan_tokens.specs.Tokens.{LieIn, ListedBy, token_by, tokens_by};
 
@@ -18,6 +19,17 @@ pub struct Token {
     pub start: usize,
     pub end: usize,
     pub condition: u8,
+}
+
+impl Token {
+    /// Its text, where it is a token of this input.
+    pub fn text<'a>(&self, input: &'a [u8]) -> &'a [u8]
+        requires order { self.now.start ≤ self.now.end }
+        requires inside { self.now.end ≤ length input.now }
+        ensures { result.now ≡ part input.now self.now.start self.now.end }
+    {
+        &input[self.start..self.end]
+    }
 }
 
 /// The token that a match is.
