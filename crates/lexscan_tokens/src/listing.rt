@@ -1,5 +1,5 @@
 //! The tokens of a whole input.
-ghost use Rattle.std.specs.Prelude.{◌≡◌, ◌+◌, ◌^◌, ◌<◌, ◌≤◌, List, ◌++◌, length, IfErr, IfSome, OnOk, OnErr};
+ghost use Rattle.std.specs.Prelude.{◌≡◌, ◌+◌, ◌^◌, ◌<◌, ◌≤◌, List, ◌++◌, length, map, IfOk, IfErr, IfSome, OnOk, OnErr};
 ghost use Rattle.lex_semantics.specs.Machine.{rules_of_machine};
 ghost use Rattle.lex_semantics.specs.Text.{part};
 ghost use Rattle.lexscan_tokens.specs.declared.listing.Token.{Token as TokenModel};
@@ -9,7 +9,7 @@ use crate::discard::Discard;
 use crate::input::InputBytes;
 use lex_machine::Machine;
 use lexscan::{Match, MatchedRule, RunError, Scanner, Turn};
-use std::alloc::Global;
+use std::alloc::{AllocError, Global};
 
 /// A match in a text: its rule, where its text begins and ends, counted in bytes, and the start condition in which it was made.
 /// The text begins with what yymore kept before it, and ends after trailing context and yyless.
@@ -90,4 +90,20 @@ pub fn tokens<M: Machine>(
             Turn::Ended(status) => return Ok(status),
         }
     }
+}
+
+/// The texts of tokens that lie in an input, one after another.
+pub fn texts_of<'a>(
+    alloc: Global,
+    input: &'a [u8],
+    tokens: &[Token],
+) -> Result<Vec<&'a [u8]>, AllocError>
+    requires { LieIn (length input.now) 0 tokens.now }
+    ensures { IfOk result (λ texts. map (λ s. s.now) texts.items ≡ map (λ t. part input.now t.start t.end) tokens.now) }
+{
+    let mut texts = Vec::new(alloc);
+    for token in tokens {
+        texts.push(token.text(input))?;
+    }
+    Ok(texts)
 }
