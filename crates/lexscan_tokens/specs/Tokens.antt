@@ -1,10 +1,10 @@
 -- The tokens of a scan over a whole input. (POSIX, lex, Rules in lex and Actions in lex; flex, How the Input Is Matched; the list is
 -- this project's.)
-use Rattle.std.specs.Prelude.{◌≡◌, ℕ, zero, suc, ◌+◌, ◌≤◌, List, [], ◌∷◌, ◌++◌, length, ◌⊎◌, Option, Some, None, Result, Ok, Err, ⊤}
+use Rattle.std.specs.Prelude.{◌≡◌, ℕ, zero, suc, ◌+◌, ◌≤◌, List, [], ◌∷◌, ◌++◌, length, ◌⊎◌, Option, Some, None, ⊤}
 use Rattle.lex_semantics.specs.Text.{IsText, part}
 use Rattle.lex_semantics.specs.Rules.{Rules}
 use Rattle.lex_semantics.specs.Candidates.{Candidate}
-use Rattle.lex_semantics.specs.Acting.{Ending, Status, StackFault, Matched}
+use Rattle.lex_semantics.specs.Acting.{Ending, StackFault, Matched}
 use Rattle.lex_semantics.specs.Run.{Place, State, Turns}
 use Rattle.lexscan.specs.declared.matched.Match.{Match}
 use Rattle.lexscan.specs.declared.error.RunError.{RunError}
@@ -59,11 +59,6 @@ pub record Stopped (R : Rules) (x : List ℕ) (us : List Token) (e : RunError) :
   pub going : last.ended ≡ None
   pub tokens : TokensOf R x turns us
   pub why : (e ≡ OutOfMemory) ⊎ ((e ≡ Stack) × (t : State) × Turns R x (suc turns) t × (t.ended ≡ Some StackFault))
-
--- what is listed of an input: all tokens where it answers a status, and those up to a refusal else
-abbrev pub ListedBy : Rules → List ℕ → List Token → Result ℕ RunError → Type 0
-ListedBy R x us (Ok status) = Tokenised R x us (Status status)
-ListedBy R x us (Err e) = Stopped R x us e
 
 -- The tokens lie among so many bytes. Each ends no earlier than it begins, and begins at a place or later, and no earlier than the one
 -- before it.

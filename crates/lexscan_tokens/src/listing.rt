@@ -1,9 +1,10 @@
 //! The tokens of a whole input.
-ghost use Rattle.std.specs.Prelude.{◌≡◌, ◌+◌, ◌^◌, ◌<◌, ◌≤◌, List, ◌++◌, length, map, IfOk, IfErr, IfSome, OnOk, OnErr};
+ghost use Rattle.std.specs.Prelude.{◌≡◌, ◌+◌, ◌^◌, ◌<◌, ◌≤◌, List, ◌++◌, length, drop, map, IfOk, IfErr, IfSome, OnOk, OnErr};
+ghost use Rattle.lex_semantics.specs.Acting.{Status};
 ghost use Rattle.lex_semantics.specs.Machine.{rules_of_machine};
 ghost use Rattle.lex_semantics.specs.Text.{part};
 ghost use Rattle.lexscan_tokens.specs.declared.listing.Token.{Token as TokenModel};
-ghost use Rattle.lexscan_tokens.specs.Tokens.{LieIn, ListedBy, token_by, tokens_by};
+ghost use Rattle.lexscan_tokens.specs.Tokens.{LieIn, Stopped, Tokenised, token_by, tokens_by};
 
 use crate::discard::Discard;
 use crate::input::InputBytes;
@@ -72,8 +73,11 @@ pub fn tokens<M: Machine>(
     input: &[u8],
     list: &mut Vec<Token>,
 ) -> Result<u8, RunError>
-    ensures { (us : List TokenModel) × (list.new.items ≡ list.old.items ++ us) × LieIn (length input.now) 0 us
-        × ListedBy (rules_of_machine (M.machine machine.now)) input.now us result }
+    ensures listed { IfOk result (λ status. (us : List TokenModel) × (list.new.items ≡ list.old.items ++ us)
+        × Tokenised (rules_of_machine (M.machine machine.now)) input.now us (Status status)) }
+    ensures refused { IfErr result (λ e. (us : List TokenModel) × (list.new.items ≡ list.old.items ++ us)
+        × Stopped (rules_of_machine (M.machine machine.now)) input.now us e) }
+    ensures inside { LieIn (length input.now) 0 (drop (length list.old.items) list.new.items) }
 {
     let mut source = InputBytes::new(input);
     let mut sink = Discard {};
