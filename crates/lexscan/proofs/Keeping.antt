@@ -1,5 +1,5 @@
 -- The bytes kept behind, and the text of a match at their end.
-use Rattle.std.proofs.Common.{◌≡◌, ℕ, ◌+◌, ◌-◌, ◌≤◌, List, [], ◌++◌, length, take, drop, take-add, refl, sym, ap, ◌∙◌, append-nil, arith}
+use Rattle.std.proofs.Common.{◌≡◌, ℕ, ◌+◌, ◌-◌, ◌≤◌, List, ◌++◌, length, take, drop, take-add, sym, ap, ◌∙◌, append-nil, arith}
 use Rattle.std.proofs.Math.Seq.{drop-append_seam}
 use Rattle.std.proofs.lemmas.List.{take-take, length-append, length-take-le, length-drop, drop-take}
 use Rattle.lexscan.specs.Window.{last_of}
@@ -14,7 +14,7 @@ behind_more start end n items le =
     let size : start + (end - start) ≡ end = omega (arith, le) in
     take-add start n items
     ∙ ap (λ l. take start items ++ l)
-        (sym (take-take n (end - start) (drop start items) (omega (arith, le))) ∙ ap (take n) (sym (drop-take start (end - start) items) ∙ ap (λ m. drop start (take m items)) size))
+    (sym (take-take n (end - start) (drop start items) (omega (arith, le))) ∙ ap (take n) (sym (drop-take start (end - start) items) ∙ ap (λ m. drop start (take m items)) size))
 
 -- a slice before a place
 pub slice_before : (start end at count s : ℕ) (items : List ℕ) → start + at ≤ end → end ≤ length items → s ≡ start + at - count →

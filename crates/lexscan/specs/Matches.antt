@@ -44,7 +44,8 @@ text_of None s = []
 text_of (Some m) s = last_of m.length (kept_before s)
 
 -- Over every input that is consistent with the bytes given, a match of this rule is carried out at the place. Its text begins and is as
--- long as is told, with what yymore kept before it, after trailing context and yyless. It is this text, and lies in the bytes given.
+-- long as is told, with what yymore kept before it, after trailing context and yyless. It is this text, which is a part of
+-- the bytes given.
 pub record MatchedBy (R : Rules) (given : List ℕ) (at_end : Bool) (p : Place) (told : Match) (text : List ℕ) : Type 0 where
   pub taken : Candidate
   pub outcome : Matched
@@ -54,6 +55,7 @@ pub record MatchedBy (R : Rules) (given : List ℕ) (at_end : Bool) (p : Place) 
   pub length_is : told.length ≡ length outcome.after.text
   pub text_is : text ≡ outcome.after.text
   pub inside : told.start + told.length ≤ length given
+  pub part_is : part given told.start (told.start + told.length) ≡ outcome.after.text
 
 -- A turn tells its match and the text of it; or the place is at the end of the input, and it tells none.
 abbrev pub TellsMatch : Rules → List ℕ → Bool → Place → Option Match → List ℕ → Type 0

@@ -1,7 +1,7 @@
 -- The tokens that a scan has told so far.
 use Rattle.std.proofs.Common.{◌≡◌, ℕ, suc, ◌+◌, ◌≤◌, ◌<◌, Bool, true, false, List, [], ◌∷◌, ◌++◌, length, inl, inr, Option, Some, None, Ok, Err, refl, sym, ◌∙◌, ap, subst, append_assoc, append-nil, length-append, arith}
 use Rattle.std.specs.Io.KnownBytes.{Consumes}
-use Rattle.lex_semantics.specs.Text.{IsText}
+use Rattle.lex_semantics.specs.Text.{IsText, part}
 use Rattle.lex_semantics.specs.Acting.{Status, StackFault}
 use Rattle.lex_semantics.specs.Demand.{Consistent, GoesOnFrom}
 use Rattle.lex_semantics.specs.Machine.{Machine, rules_of_machine}
@@ -10,6 +10,7 @@ use Rattle.lex_semantics.specs.Run.{Place, Turns}
 use Rattle.lex_semantics.proofs.Ends.{Grows}
 use Rattle.lex_semantics.proofs.Growth.{turns_grow}
 use Rattle.lex_semantics.proofs.MachineLaws.{machine_laws}
+use Rattle.lex_semantics.proofs.Texts.{part_front}
 use Rattle.lex_semantics.proofs.MachineRun.{machine_candidates_exist}
 use Rattle.lex_io.specs.Source.{Gives}
 use Rattle.lex_io.specs.SourceLaws.{Gives-nil, Gives-trans}
@@ -38,6 +39,11 @@ goes x given known ends ends' false e h = front x given known h.taken
 no_shorter : (x given : List ℕ) (b : Bool) → GoesOnFrom given b x → length given ≤ length x
 no_shorter x given true h = omega (arith, ap length h)
 no_shorter x given false h = omega (arith, ap length h.1, length-append given h.0)
+
+-- and has the same parts among them
+same_part : (x given : List ℕ) (b : Bool) (i j : ℕ) → GoesOnFrom given b x → j ≤ length given → part x i j ≡ part given i j
+same_part x given true i j h le = ap (λ z. part z i j) h
+same_part x given false i j h le = ap (λ z. part z i j) h.1 ∙ part_front given h.0 i j le
 
 -- where the last of some tokens begins
 abbrev pub last_start : ℕ → List Token → ℕ
@@ -137,6 +143,7 @@ module _ (M : Machine) (laws : MachineLaws M) (x : List ℕ) (text : IsText x) (
           start_is = t.start_is;
           end_is = ap (λ a. a + m.length) t.start_is ∙ ap (λ b. h.stands.start + b) t.length_is;
           condition_is = refl;
+          text_is = same_part x (h.given ++ got) new.reading.at_end m.start (m.start + m.length) goes_on t.inside ∙ t.part_is;
         },
         refl,
       )

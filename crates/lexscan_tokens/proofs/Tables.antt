@@ -149,6 +149,7 @@ module _ (all : Bool) (R Q : Rules) (alike : Alike all R Q) (x : List ℕ) (text
     start_is = k.start_is;
     end_is = k.end_is;
     condition_is = k.condition_is;
+    text_is = k.text_is;
   }
 
   appends_to : (p : Place) (ts us : List Token) → p.condition < Q.conditions → Appends R x p ts us → Appends Q x p ts us

@@ -1,10 +1,10 @@
 -- The tokens of a scan over a whole input. (POSIX, lex, Rules in lex and Actions in lex; flex, How the Input Is Matched; the list is
 -- this project's.)
-use Rattle.std.specs.Prelude.{◌≡◌, ℕ, zero, suc, ◌+◌, ◌≤◌, List, [], ◌∷◌, ◌++◌, length, ◌⊎◌, Option, Some, None, Result, Ok, Err, ⊤}
-use Rattle.lex_semantics.specs.Text.{IsText}
+use Rattle.std.specs.Prelude.{◌≡◌, ℕ, zero, suc, ◌+◌, ◌≤◌, List, [], ◌∷◌, ◌++◌, length, ◌⊎◌, Option, Some, None, ⊤}
+use Rattle.lex_semantics.specs.Text.{IsText, part}
 use Rattle.lex_semantics.specs.Rules.{Rules}
 use Rattle.lex_semantics.specs.Candidates.{Candidate}
-use Rattle.lex_semantics.specs.Acting.{Ending, Status, StackFault, Matched}
+use Rattle.lex_semantics.specs.Acting.{Ending, StackFault, Matched}
 use Rattle.lex_semantics.specs.Run.{Place, State, Turns}
 use Rattle.lexscan.specs.declared.matched.Match.{Match}
 use Rattle.lexscan.specs.declared.error.RunError.{RunError}
@@ -21,7 +21,8 @@ abbrev pub tokens_by : Option Match → ℕ → List Token
 tokens_by None condition = []
 tokens_by (Some m) condition = token_by m condition ∷ []
 
--- The token of a turn at a place: the rule of the match that is carried out, where its text begins and ends, and the condition.
+-- The token of a turn at a place: the rule of the match that is carried out, where its text begins and ends, and the condition. The text is
+-- that part of the input.
 pub record IsToken (R : Rules) (x : List ℕ) (p : Place) (t : Token) : Type 0 where
   pub taken : Candidate
   pub outcome : Matched
@@ -30,6 +31,7 @@ pub record IsToken (R : Rules) (x : List ℕ) (p : Place) (t : Token) : Type 0 w
   pub start_is : t.start ≡ p.start
   pub end_is : t.end ≡ p.start + length outcome.after.text
   pub condition_is : t.condition ≡ p.condition
+  pub text_is : part x t.start t.end ≡ outcome.after.text
 
 -- A turn appends its token. At the end of the input there is none.
 abbrev pub Appends : Rules → List ℕ → Place → List Token → List Token → Type 0
@@ -57,11 +59,6 @@ pub record Stopped (R : Rules) (x : List ℕ) (us : List Token) (e : RunError) :
   pub going : last.ended ≡ None
   pub tokens : TokensOf R x turns us
   pub why : (e ≡ OutOfMemory) ⊎ ((e ≡ Stack) × (t : State) × Turns R x (suc turns) t × (t.ended ≡ Some StackFault))
-
--- what is listed of an input: all tokens where it answers a status, and those up to a refusal else
-abbrev pub ListedBy : Rules → List ℕ → List Token → Result ℕ RunError → Type 0
-ListedBy R x us (Ok status) = Tokenised R x us (Status status)
-ListedBy R x us (Err e) = Stopped R x us e
 
 -- The tokens lie among so many bytes. Each ends no earlier than it begins, and begins at a place or later, and no earlier than the one
 -- before it.

@@ -7,4 +7,4 @@ mod laws;
 mod listing;
 
 pub use laws::table_tokens;
-pub use listing::{Token, tokens};
+pub use listing::{Token, texts_of, tokens};

@@ -1,14 +1,16 @@
 //! The tokens of a whole input.
-ghost use Rattle.std.specs.Prelude.{◌≡◌, ◌+◌, ◌^◌, ◌<◌, List, ◌++◌, length, IfErr, IfSome, OnOk, OnErr};
+ghost use Rattle.std.specs.Prelude.{◌≡◌, ◌+◌, ◌^◌, ◌<◌, ◌≤◌, List, ◌++◌, length, drop, map, IfOk, IfErr, IfSome, OnOk, OnErr};
+ghost use Rattle.lex_semantics.specs.Acting.{Status};
 ghost use Rattle.lex_semantics.specs.Machine.{rules_of_machine};
+ghost use Rattle.lex_semantics.specs.Text.{part};
 ghost use Rattle.lexscan_tokens.specs.declared.listing.Token.{Token as TokenModel};
-ghost use Rattle.lexscan_tokens.specs.Tokens.{LieIn, ListedBy, token_by, tokens_by};
+ghost use Rattle.lexscan_tokens.specs.Tokens.{LieIn, Stopped, Tokenised, token_by, tokens_by};
 
 use crate::discard::Discard;
 use crate::input::InputBytes;
 use lex_machine::Machine;
 use lexscan::{Match, MatchedRule, RunError, Scanner, Turn};
-use std::alloc::Global;
+use std::alloc::{AllocError, Global};
 
 /// A match in a text: its rule, where its text begins and ends, counted in bytes, and the start condition in which it was made.
 /// The text begins with what yymore kept before it, and ends after trailing context and yyless.
@@ -18,6 +20,17 @@ pub struct Token {
     pub start: usize,
     pub end: usize,
     pub condition: u8,
+}
+
+impl Token {
+    /// Its text, where it is a token of this input.
+    pub fn text<'a>(&self, input: &'a [u8]) -> &'a [u8]
+        requires order { self.now.start ≤ self.now.end }
+        requires inside { self.now.end ≤ length input.now }
+        ensures { result.now ≡ part input.now self.now.start self.now.end }
+    {
+        &input[self.start..self.end]
+    }
 }
 
 /// The token that a match is.
@@ -60,8 +73,11 @@ pub fn tokens<M: Machine>(
     input: &[u8],
     list: &mut Vec<Token>,
 ) -> Result<u8, RunError>
-    ensures { (us : List TokenModel) × (list.new.items ≡ list.old.items ++ us) × LieIn (length input.now) 0 us
-        × ListedBy (rules_of_machine (M.machine machine.now)) input.now us result }
+    ensures listed { IfOk result (λ status. (us : List TokenModel) × (list.new.items ≡ list.old.items ++ us)
+        × Tokenised (rules_of_machine (M.machine machine.now)) input.now us (Status status)) }
+    ensures refused { IfErr result (λ e. (us : List TokenModel) × (list.new.items ≡ list.old.items ++ us)
+        × Stopped (rules_of_machine (M.machine machine.now)) input.now us e) }
+    ensures inside { LieIn (length input.now) 0 (drop (length list.old.items) list.new.items) }
 {
     let mut source = InputBytes::new(input);
     let mut sink = Discard {};
@@ -78,4 +94,20 @@ pub fn tokens<M: Machine>(
             Turn::Ended(status) => return Ok(status),
         }
     }
+}
+
+/// The texts of tokens that lie in an input, one after another.
+pub fn texts_of<'a>(
+    alloc: Global,
+    input: &'a [u8],
+    tokens: &[Token],
+) -> Result<Vec<&'a [u8]>, AllocError>
+    requires { LieIn (length input.now) 0 tokens.now }
+    ensures { IfOk result (λ texts. map (λ s. s.now) texts.items ≡ map (λ t. part input.now t.start t.end) tokens.now) }
+{
+    let mut texts = Vec::new(alloc);
+    for token in tokens {
+        texts.push(token.text(input))?;
+    }
+    Ok(texts)
 }

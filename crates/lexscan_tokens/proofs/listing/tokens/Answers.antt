@@ -1,3 +1,4 @@
+use Rattle.std.specs.Prelude.{IfOk, IfErr}
 use Rattle.std.proofs.Common.{◌≡◌, ℕ, ◌+◌, ◌++◌, ◌<◌, ◌^◌, length, Ok, Err, List, Some, None, false, sym, ap, subst, ◌∙◌, arith}
 use Rattle.lex_machine.proofs.Growing.{is_text_from}
 use Rattle.lex_semantics.specs.Text.{IsText}
@@ -8,8 +9,11 @@ use Rattle.lexscan.specs.Stands.{GoesOn}
 use Rattle.lexscan.proofs.Lasting as Last
 use Rattle.lex_semantics.specs.Machine.{rules_of_machine}
 use Rattle.lexscan.specs.declared.error.RunError.TheVariants.{OutOfMemory}
-use Rattle.lexscan_tokens.specs.Tokens.{tokens_by, ListedBy}
+use Rattle.lexscan_tokens.specs.declared.listing.Token.{Token}
+use Rattle.lex_semantics.specs.Acting.{Status}
+use Rattle.lexscan_tokens.specs.Tokens.{tokens_by, Stopped, Tokenised}
 use Rattle.std.proofs.lemmas.Result.{err_from_is_err_and}
+use Rattle.lexscan_tokens.proofs.Lying.{lie_after}
 use Rattle.lexscan_tokens.proofs.SoFar.{Listed, listed_more, listed_all, stopped_at, stopped_by_memory}
 use Rattle.lexscan_tokens.proofs.listing.tokens.Goals as goal
 
@@ -67,12 +71,12 @@ returns-in-Ended g c =
     let listed = subst (λ l. Listed (g.M.Machine.machine c.args.machine.now) input (Some c.turn.new.self.intake.source.now.rest.now) 0 c.turn.new.self.intake.source.now.ends c.args.list.now.items l new) (sym appended)
     (listed_more (g.M.Machine.machine c.args.machine.now) (g.M.Machine.laws c.args.machine.now) input text (Some c.turns.scanner.intake.source.now.rest.now) (Some c.turn.new.self.intake.source.now.rest.now) 0 c.turns.scanner.intake.source.now.ends c.turn.new.self.intake.source.now.ends c.args.list.now.items c.turns.list.items old new
     inv.listed inv.going inv.ends ends c.in-Ok.turn m.0 m.1 m.2 k) in
-    let over : new.ended ≡ Some c.in-Ended.status = subst (λ t. Says t new.ended) c.in-Ended.is k.0 in (
-      listed.tokens,
-      listed.appended,
-      listed.lie,
-      listed_all (g.M.Machine.machine c.args.machine.now) input (Some c.turn.new.self.intake.source.now.rest.now) 0 c.turn.new.self.intake.source.now.ends c.in-Ended.status c.args.list.now.items c.append.new.list.items new text ends over listed,
-    )
+    let over : new.ended ≡ Some c.in-Ended.status = subst (λ t. Says t new.ended) c.in-Ended.is k.0 in
+    record {
+      listed = (listed.tokens, listed.appended, listed_all (g.M.Machine.machine c.args.machine.now) input (Some c.turn.new.self.intake.source.now.rest.now) 0 c.turn.new.self.intake.source.now.ends c.in-Ended.status c.args.list.now.items c.append.new.list.items new text ends over listed);
+      refused = tt;
+      inside = lie_after (length input) c.args.list.now.items c.append.new.list.items listed.tokens listed.appended listed.lie;
+    }
 
 pub returns-in-Err : goal.returns-in-Err
 returns-in-Err g c =
@@ -85,14 +89,18 @@ returns-in-Err g c =
     let text : IsText input = is_text_from input (λ i. omega (arith, c.type_inv.input i)) in
     let k : GoesOn (g.M.Machine.machine c.args.machine.now) old new m.0 m.1 (Err c.in-Err.fault) = subst (λ z. GoesOn (g.M.Machine.machine z) old new m.0 m.1 (Err c.in-Err.fault)) inv.same_machine m.5 in
     let ends : c.turn.new.self.intake.source.now.ends ≡ 0 + end_step false new.reading.at_end = omega (arith, now.ends, inv.ends, Last.answered_once old.reading.at_end new.reading.at_end (λ e. (m.4 e).1)) in
-    let few : length input < 2 ^ 63 = c.new-source.ensures.small in (
-      inv.listed.tokens,
-      inv.listed.appended,
-      inv.listed.lie,
-      stopped_at (g.M.Machine.machine c.args.machine.now) (g.M.Machine.laws c.args.machine.now) input text (Some c.turns.scanner.intake.source.now.rest.now) (Some c.turn.new.self.intake.source.now.rest.now) 0 c.turns.scanner.intake.source.now.ends c.turn.new.self.intake.source.now.ends c.args.list.now.items c.turns.list.items old new
-          inv.listed inv.going inv.ends ends c.in-Err.fault m.0 m.1 m.2 k now.read_faults now.write_faults
-          (λ is. omega (arith, few, (now.too_many (ap Err is)).0, now.max_reads, inv.most)) (λ is. now.refused (ap Err is)),
-    )
+    let few : length input < 2 ^ 63 = c.new-source.ensures.small in
+    record {
+      listed = tt;
+      refused = (
+        inv.listed.tokens,
+        inv.listed.appended,
+        stopped_at (g.M.Machine.machine c.args.machine.now) (g.M.Machine.laws c.args.machine.now) input text (Some c.turns.scanner.intake.source.now.rest.now) (Some c.turn.new.self.intake.source.now.rest.now) 0 c.turns.scanner.intake.source.now.ends c.turn.new.self.intake.source.now.ends c.args.list.now.items c.turns.list.items old new
+            inv.listed inv.going inv.ends ends c.in-Err.fault m.0 m.1 m.2 k now.read_faults now.write_faults
+            (λ is. omega (arith, few, (now.too_many (ap Err is)).0, now.max_reads, inv.most)) (λ is. now.refused (ap Err is)),
+      );
+      inside = lie_after (length input) c.args.list.now.items c.turns.list.items inv.listed.tokens (inv.listed.appended) inv.listed.lie;
+    }
 
 pub returns-in_err-append : goal.returns-in_err-append
 returns-in_err-append g c =
@@ -105,11 +113,14 @@ returns-in_err-append g c =
     let text : IsText input = is_text_from input (λ i. omega (arith, c.type_inv.input i)) in
     let ends : c.turn.new.self.intake.source.now.ends ≡ 0 + end_step false new.reading.at_end = omega (arith, now.ends, inv.ends, Last.answered_once old.reading.at_end new.reading.at_end (λ e. (m.4 e).1)) in
     let p = err_from_is_err_and c.from_residual.result c.from_residual.ensures.1 in
-    let full : c.from_residual.result ≡ Err OutOfMemory = p.1 ∙ ap Err (p.2 ∙ c.in_err-append.ensures.memory) in (
-      inv.listed.tokens,
-      c.in_err-append.ensures.unchanged ∙ inv.listed.appended,
-      inv.listed.lie,
-      subst (λ r. ListedBy (rules_of_machine (g.M.Machine.machine c.args.machine.now)) input inv.listed.tokens r) (sym full)
-          (stopped_by_memory (g.M.Machine.machine c.args.machine.now) (g.M.Machine.laws c.args.machine.now) input text (Some c.turns.scanner.intake.source.now.rest.now) (Some c.turn.new.self.intake.source.now.rest.now) 0 c.turns.scanner.intake.source.now.ends c.turn.new.self.intake.source.now.ends c.args.list.now.items c.turns.list.items old new
-          inv.listed inv.going inv.ends ends),
-    )
+    let full : c.from_residual.result ≡ Err OutOfMemory = p.1 ∙ ap Err (p.2 ∙ c.in_err-append.ensures.memory) in
+    record {
+      listed = subst (λ r. IfOk r (λ status. (us : List Token) × (c.append.new.list.items ≡ c.args.list.now.items ++ us) × Tokenised (rules_of_machine (g.M.Machine.machine c.args.machine.now)) input us (Status status))) (sym full) tt;
+      refused = subst (λ r. IfErr r (λ e. (us : List Token) × (c.append.new.list.items ≡ c.args.list.now.items ++ us) × Stopped (rules_of_machine (g.M.Machine.machine c.args.machine.now)) input us e)) (sym full) (
+        inv.listed.tokens,
+        c.in_err-append.ensures.unchanged ∙ inv.listed.appended,
+        (stopped_by_memory (g.M.Machine.machine c.args.machine.now) (g.M.Machine.laws c.args.machine.now) input text (Some c.turns.scanner.intake.source.now.rest.now) (Some c.turn.new.self.intake.source.now.rest.now) 0 c.turns.scanner.intake.source.now.ends c.turn.new.self.intake.source.now.ends c.args.list.now.items c.turns.list.items old new
+            inv.listed inv.going inv.ends ends),
+      );
+      inside = lie_after (length input) c.args.list.now.items c.append.new.list.items inv.listed.tokens (c.in_err-append.ensures.unchanged ∙ inv.listed.appended) inv.listed.lie;
+    }
