@@ -36,15 +36,15 @@ module _ (t : Tables) (none : NoReject (machine_of t)) where
   ]
 
   pub first_is_all : (s : ℕ) → rules_at false (machine_of t) s ≡ (machine_of t).accepts s
-  first_is_all s = take_all ((machine_of t).accepts s) 1 (one_at_most s)
+  first_is_all s = take_all 1 ((machine_of t).accepts s) (one_at_most s)
 
 -- so two tables do the same of all rules of a state
 all_same : (order : List ℕ) (all : Bool) (t u : Tables) → Counts all (machine_of t) (machine_of u) → AreSame order all (machine_of t) (machine_of u) → AreSame order true (machine_of t) (machine_of u)
 all_same order true t u counts same = same
-all_same order false t u counts same c line w lt text some =
+all_same order false t u counts same = λ c line w lt text some. (
     let s = state_after (machine_of t) c line w in
     let r = state_after (machine_of u) (number_in order c) line w in
-    ap (map (deed_in order (machine_of t))) (sym (first_is_all t counts.0 s)) ∙ same c line w lt text some ∙ ap (map (deed_of (machine_of u))) (first_is_all u counts.1 r)
+    ap (map (deed_in order (machine_of t))) (sym (first_is_all t counts.0 s)) ∙ same c line w lt text some ∙ ap (map (deed_of (machine_of u))) (first_is_all u counts.1 r))
 
 pub tables_scan_alike : (order : List ℕ) (all : Bool) (t u : Tables) → Counts all (machine_of t) (machine_of u) → AreSame order all (machine_of t) (machine_of u) → HaveEnds order (machine_of t) (machine_of u) None → BeginTogether order → ScanAlike (machine_of t) (machine_of u)
 tables_scan_alike order all t u counts same ends = scan_alike order (machine_of t) (machine_of u) t.laws u.laws (all_same order all t u counts same) ends
