@@ -2,7 +2,7 @@ use Rattle.std.proofs.Common.{rules, ◌≡◌, ◌≤◌, length, arith, subst}
 use Rattle.std.proofs.lemmas.List.{length-map}
 use Rattle.lexauto_reports.specs.Searching.{word_in, words_of, states_of_groups, IsUpTo}
 use Rattle.lexauto_reports.proofs.Searched.{all_found}
-use Rattle.lexauto_reports.proofs.search.search.Goals as goal
+use Rattle.lexauto_reports.proofs.search.first_words.Goals as goal
 
 pub returns : goal.returns
 returns c =
