@@ -57,19 +57,14 @@ impl Spec {
         &self.rules
     }
 
-    /// The conditions by number, the rules in their order, and the lines where code was skipped, to be had for its own.
+    /// The conditions by number, the rules in their order, and the lines where code was skipped, each by value.
     pub fn into_parts(self) -> (Vec<Condition>, Vec<Rule>, Vec<u32>)
         ensures conditions { map condition_of result.0.items ≡ conditions_in (spec_of self) }
         ensures rules { map rule_of result.1.items ≡ rules_in (spec_of self) }
         ensures skipped { result.2.items ≡ skipped_in self }
         ensures sound { is_sound (spec_of self) ≡ true }
     {
-        let Spec {
-            conditions,
-            rules,
-            skipped,
-        } = self;
-        (conditions, rules, skipped)
+        (self.conditions, self.rules, self.skipped)
     }
 
     /// Whether some rule has REJECT.
