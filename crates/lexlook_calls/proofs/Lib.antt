@@ -4,3 +4,6 @@ pub mod Asked
 pub mod Drawn
 pub mod SamePictures
 pub mod Cutting
+pub mod Matching
+pub mod Alike
+pub mod Shown
