@@ -11,7 +11,7 @@ use crate::reading::{read_compared_file, read_spec_file};
 use lexkit::{
     ArgsError, ByteWriter, MAX_POSITIONS, MAX_STATES, Options, Sink, ToWrite, write_fault,
 };
-use lexlook_calls::{Given, Look, draw, read_args, tell_lines, tell_same, write_help};
+use lexlook_calls::{Given, Look, draw, read_args, tell_lines, tell_same, tell_words, write_help};
 use std::io::ErrorKind;
 use std::process::ExitCode;
 use std::{env, io};
@@ -60,6 +60,17 @@ fn show_picture(rt: &HostRuntime, text: &[u8], options: Options) -> Result<(), F
 {
     let mut sink = ToWrite::new(ByteWriter::new(rt.alloc(), io::writer(rt))?);
     draw(rt.alloc(), text, options, &mut sink)?;
+    sink.flush()?;
+    Ok(())
+}
+
+/// Writes to standard output the texts that the rules of a specification take.
+fn show_words(rt: &HostRuntime, text: &[u8], options: Options) -> Result<(), Failure>
+    requires few_positions { options.limits.positions ≤ MAX_POSITIONS }
+    requires few_states { options.limits.states ≤ MAX_STATES }
+{
+    let mut sink = ToWrite::new(ByteWriter::new(rt.alloc(), io::writer(rt))?);
+    tell_words(rt.alloc(), text, options, &mut sink)?;
     sink.flush()?;
     Ok(())
 }
@@ -117,6 +128,10 @@ fn run(rt: &HostRuntime) -> Result<ExitCode, Failure> {
         Look::Picture { file, fold, posix } => {
             let text = read_spec_file(rt, file)?;
             show_picture(rt, text.as_slice(), options_of(fold, posix))?;
+        }
+        Look::Words { file, fold, posix } => {
+            let text = read_spec_file(rt, file)?;
+            show_words(rt, text.as_slice(), options_of(fold, posix))?;
         }
         Look::Same {
             left,

@@ -7,3 +7,4 @@ pub mod Lines
 pub mod Compared
 pub mod Cuts
 pub mod SameFiles
+pub mod Words
