@@ -4,3 +4,4 @@ pub mod Asked
 pub mod Drawn
 pub mod SamePictures
 pub mod Cutting
+pub mod Traced

@@ -6,3 +6,4 @@ pub mod Naming
 pub mod Lines
 pub mod Compared
 pub mod Cuts
+pub mod Tracing

@@ -13,6 +13,7 @@ mod least;
 mod naming;
 mod sides;
 mod telling;
+mod tracing;
 
 pub use args::{Look, read_args};
 pub use comparing::{Given, tell_same};
@@ -21,6 +22,7 @@ pub use drawing::draw;
 pub use error::LookError;
 pub use help::write_help;
 pub use laws::one_picture;
+pub use tracing::trace;
 
 #[cfg(test)]
 mod tests;

@@ -9,3 +9,5 @@ mod lines;
 mod sayings;
 #[cfg(test)]
 mod telling;
+#[cfg(test)]
+mod traces;
