@@ -8,3 +8,4 @@ pub mod SameFiles
 pub mod Matching
 pub mod Alike
 pub mod Shown
+pub mod Traced

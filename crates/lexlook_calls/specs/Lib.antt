@@ -8,3 +8,4 @@ pub mod Compared
 pub mod Cuts
 pub mod SameFiles
 pub mod Words
+pub mod Tracing

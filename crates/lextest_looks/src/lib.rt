@@ -10,4 +10,6 @@ mod sayings;
 #[cfg(test)]
 mod telling;
 #[cfg(test)]
+mod traces;
+#[cfg(test)]
 mod words;
