@@ -22,7 +22,7 @@ told : {A B : Type 0} (gave : A → List ℕ → A → Type 0) (wrote : B → Li
     SpellsWithRoom options text S → TellsTurns S → TellsRuns S → ScansBy gave wrote options.limits (traced S) at_end s s' t t' answer → Traces gave wrote options text at_end s s' t t' answer
 told gave wrote options text at_end s s' t t' S (Ok status) spells turns runs h = record { spec = S; spells = spells; within = h.0; scans = h.1; turns = turns; runs = runs }
 told gave wrote options text at_end s s' t t' S (Err (scans.Run e)) spells turns runs h = record { spec = S; spells = spells; within = h.0; scans = h.1; turns = turns; runs = runs }
-told gave wrote options text at_end s s' t t' S (Err (scans.Generate (gens.Build e))) spells turns runs h = ((S, spells, h.0), h.1.0, h.1.1)
+told gave wrote options text at_end s s' t t' S (Err (scans.Generate (gens.Build e))) spells turns runs h = ((S, spells, h.0), h.1, h.2)
 told gave wrote options text at_end s s' t t' S (Err (scans.Generate gens.OutOfMemory)) spells turns runs h = (tt, h.0, h.1)
 told gave wrote options text at_end s s' t t' S (Err (scans.Generate (gens.Spec e))) spells turns runs h = absurd h
 told gave wrote options text at_end s s' t t' S (Err (scans.Table e)) spells turns runs h = absurd h

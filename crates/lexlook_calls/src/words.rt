@@ -31,12 +31,12 @@ struct Found {
 }
 
 /// Appends at which line a rule is.
-fn add_line(text: &mut Vec<u8>, lines: &[u32], rule: u32) -> Result<(), AllocError>
+fn add_line(text: &mut Vec<u8>, lines: &[u32], rule: usize) -> Result<(), AllocError>
     requires { rule < length lines.now }
     ensures { OnOk result (text.new.items ≡ text.old.items ++ line_words lines.now rule) }
 {
     add(text, b" line ")?;
-    add_number(text, lines[rule as usize])
+    add_number(text, lines[rule])
 }
 
 /// The name of a condition.
@@ -70,7 +70,7 @@ fn add_takers(text: &mut Vec<u8>, lines: &[u32], rules: &[u32]) -> Result<(), Al
     }
     add(text, b": rule cannot be matched, its texts are taken at")?;
     for rule in rules {
-        add_line(text, lines, *rule)?;
+        add_line(text, lines, *rule as usize)?;
     }
     add(text, b"\n")?;
     Ok(())
@@ -81,7 +81,7 @@ fn add_word(
     text: &mut Vec<u8>,
     names: &[&[u8]],
     lines: &[u32],
-    rule: u32,
+    rule: usize,
     word: &Word,
 ) -> Result<(), AllocError>
     requires rule { rule < length lines.now }
@@ -123,7 +123,7 @@ fn word_lines(
 {
     let mut text = Vec::new(alloc);
     for rule in 0..words.rules.len() {
-        add_word(&mut text, names, lines, rule as u32, &words.rules[rule])?;
+        add_word(&mut text, names, lines, rule, &words.rules[rule])?;
     }
     add_default(&mut text, names, &words.default)?;
     Ok(text)
