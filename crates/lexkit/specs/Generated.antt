@@ -3,7 +3,7 @@
 use Rattle.std.specs.Prelude.{◌≡◌, ◌↔◌, ℕ, ◌≤◌, List, ◌++◌, length, map, Result, Ok, Err, ⊤}
 use Rattle.std.specs.List.Sorted.{IsPermutation}
 use Rattle.lex_semantics.specs.Text.{Ascending, Among}
-use Rattle.lex_semantics.specs.Spec.{Spec}
+use Rattle.lex_semantics.specs.Spec.{Spec, Rule}
 use Rattle.lex_semantics.specs.Sound.{IsSound}
 use Rattle.lex_semantics.specs.MachineLaws.{MachineLaws}
 use Rattle.lex_semantics.specs.TableFor.{TableFor}
@@ -50,6 +50,10 @@ SpecRefusal limits S (gens.Build e) = BuildRefusal limits S e
 SpecRefusal limits S gens.OutOfMemory = ⊤
 SpecRefusal limits S (gens.Spec e) = ⊥
 
+-- the line of the pattern of each rule
+abbrev pub lines_of : List Rule → List ℕ
+lines_of rules = map (λ r. r.line) rules
+
 -- the counts of the statistics
 pub record AreCounts (S : Spec) (subsets : ℕ) (t : Table) (z : Stats) : Type 0 where
   pub rules : z.rules ≡ length S.rules
@@ -73,7 +77,7 @@ pub record AreBackUps (d : Dfa) (S : Spec) (entries : List BackUp) : Type 0 wher
   pub states : (s : ℕ) → Among (states_in entries) s ↔ IsAfterBackWord (machine_of d S) S s
   pub words : (e : BackUp) → Among entries e → IsFirstWord d.parts e.state e.word.items
 
--- the packed tables of the least automaton, whose file is the canonical one, with warnings, back words and counts; `skipped` are the lines of skipped code
+-- the packed tables of the least automaton, whose file is the canonical one, with the lines of the rules, warnings, back words and counts; `skipped` are the lines of skipped code
 pub record IsMadeOf (limits : Limits) (S : Spec) (skipped : List ℕ) (g : Generated) : Type 0 where
   pub sound : IsSound S
   pub automaton : Dfa
@@ -82,6 +86,7 @@ pub record IsMadeOf (limits : Limits) (S : Spec) (skipped : List ℕ) (g : Gener
   pub packed : IsPacked (states_of automaton) (next_of automaton) (packing_in (table_of g.tables.parts))
   pub machine : table_machine g.tables ≡ machine_of automaton S
   pub canonical : IsCanonical S (file_of (table_of g.tables.parts))
+  pub rule_lines : g.rule_lines.items ≡ lines_of S.rules
   pub warnings : AreWarnings S skipped g.warnings.items
   pub backup : AreBackUps automaton S g.backup.items
   pub stats : AreCounts S subsets (table_of g.tables.parts) g.stats

@@ -1,7 +1,8 @@
 //! What is made of the text of a specification.
-ghost use Rattle.std.specs.Prelude.{◌≡◌, ◌≤◌, IfOk, IfErr};
+ghost use Rattle.std.specs.Prelude.{◌≡◌, ◌≤◌, IfOk, IfErr, map};
+ghost use Rattle.lexspec.specs.RuleViews.{rule_of};
 ghost use Rattle.lexspec.specs.Views.{spec_of, skipped_in};
-ghost use Rattle.lexkit.specs.Generated.{IsLeastOf, IsMadeOf, SpecRefusal, MakesBy, Makes};
+ghost use Rattle.lexkit.specs.Generated.{lines_of, IsLeastOf, IsMadeOf, SpecRefusal, MakesBy, Makes};
 ghost use Rattle.lex_semantics.specs.Limits.{max_positions, max_states};
 
 use crate::errors::GenError;
@@ -9,15 +10,17 @@ use crate::options::Options;
 use crate::stats::{Stats, stats_of};
 use lexauto::{BackUp, Dfa, Limits, OutOfMemory, backing_up, build, minimise, useless_rules};
 use lexauto_reports::{Warning, warnings};
-use lexspec::{ReadOptions, Spec, read_spec, tested_specifications};
+use lexspec::{ReadOptions, Rule, Spec, read_spec, tested_specifications};
 use lextab::{Tables, pack};
-use std::alloc::Global;
+use std::alloc::{AllocError, Global};
 
 /// What is made of a specification.
 #[derive(Drop)]
 pub struct Generated {
     /// The packed tables of its least automaton.
     pub tables: Tables,
+    /// The line of each rule's pattern, from 1, in the order of the file.
+    pub rule_lines: Vec<u32>,
     /// Skipped code and rules that cannot be matched, in order of line.
     pub warnings: Vec<Warning>,
     pub stats: Stats,
@@ -87,6 +90,17 @@ pub(crate) fn least_automaton(alloc: Global, spec: &Spec, limits: Limits) -> Res
     }
 }
 
+/// The lines of rules in the file.
+pub fn lines_of(alloc: Global, rules: &[Rule]) -> Result<Vec<u32>, AllocError>
+    ensures { IfOk result (λ lines. lines.items ≡ lines_of (map rule_of rules.now)) }
+{
+    let mut lines = Vec::new(alloc);
+    for rule in rules {
+        lines.push(rule.line)?;
+    }
+    Ok(lines)
+}
+
 /// The reports and tables of a least automaton.
 fn made_of(
     alloc: Global,
@@ -99,12 +113,14 @@ fn made_of(
 {
     tested_specifications();
     let useless = useless_rules(alloc, spec, &least.automaton)?;
+    let rule_lines = lines_of(alloc, spec.rules())?;
     let warnings = warnings(alloc, spec, &useless)?;
     let backup = backing_up(alloc, &least.automaton)?;
     let tables = pack(alloc, &least.automaton, spec)?;
     let stats = stats_of(spec, limits, least.subsets, &tables);
     Ok(Generated {
         tables,
+        rule_lines,
         warnings,
         stats,
         backup,
