@@ -71,12 +71,14 @@ fn made_of(
     }
     let Generated {
         tables,
+        rule_lines,
         warnings,
         stats,
         backup,
     } = generate(rt.alloc(), text, options)?;
     let made = Made {
         tables,
+        rule_lines,
         warnings,
         stats,
     };
