@@ -33,5 +33,5 @@ pub use lextab::{
 };
 pub use making::{Generated, Made, generate, generate_tables, lines_of};
 pub use options::Options;
-pub use scan::{scan_made, scan_spec, scan_table};
+pub use scan::{scan_by, scan_made, scan_spec, scan_table};
 pub use stats::{Stats, write_stats};

@@ -56,8 +56,9 @@ pub fn scan_spec<S: Source, K: Sink>(
     scan_by(alloc, &spec, options.limits, source, sink)
 }
 
-/// Scans the source by a specification: makes its tables, and runs the scanner over them.
-fn scan_by<S: Source, K: Sink>(
+/// Scans the source by a specification, as `scan_spec` does by its text: makes its tables, and runs the scanner over them. One
+/// whose automaton passes the limits is refused, and then neither the source nor the sink is touched.
+pub fn scan_by<S: Source, K: Sink>(
     alloc: Global,
     spec: &Spec,
     limits: Limits,
