@@ -4,8 +4,8 @@ ghost use Rattle.std.specs.Prelude.{◌≤◌};
 use crate::failure::Failure;
 use lexkit::{
     BackUp, ByteWriter, Generated, MAX_POSITIONS, MAX_STATES, Made, Options, Sink, Stats, Tables,
-    ToWrite, Warning, WriteFault, generate, generate_tables, write_backup, write_stats, write_tables,
-    write_warnings,
+    ToWrite, Warning, WriteFault, generate, generate_tables, write_backup, write_stats,
+    write_tables, write_warnings,
 };
 use std::fs::File;
 use std::io;
@@ -71,12 +71,14 @@ fn made_of(
     }
     let Generated {
         tables,
+        rule_lines,
         warnings,
         stats,
         backup,
     } = generate(rt.alloc(), text, options)?;
     let made = Made {
         tables,
+        rule_lines,
         warnings,
         stats,
     };
@@ -84,11 +86,7 @@ fn made_of(
 }
 
 /// What is made of a specification, whose warnings go to standard error.
-pub fn make_with_warnings(
-    rt: &HostRuntime,
-    text: &[u8],
-    options: Options,
-) -> Result<Made, Failure>
+pub fn make_with_warnings(rt: &HostRuntime, text: &[u8], options: Options) -> Result<Made, Failure>
     requires few_positions { options.limits.positions ≤ MAX_POSITIONS }
     requires few_states { options.limits.states ≤ MAX_STATES }
 {

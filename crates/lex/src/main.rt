@@ -11,8 +11,8 @@ use crate::failure::Failure;
 use crate::generating::{Outputs, make, make_with_warnings};
 use crate::reading::{read_spec_file, read_specification, read_table_file};
 use lexkit::{
-    ArgsError, ByteReader, ByteWriter, FromBytes, Job, MAX_POSITIONS, MAX_STATES,
-    Options, ReadOptions, Sink, Tables, ToWrite, read_args, scan_made, scan_spec, scan_table, write_fault,
+    ArgsError, ByteReader, ByteWriter, FromBytes, Job, MAX_POSITIONS, MAX_STATES, Options,
+    ReadOptions, Sink, Tables, ToWrite, read_args, scan_made, scan_spec, scan_table, write_fault,
 };
 use std::io::ErrorKind;
 use std::process::ExitCode;

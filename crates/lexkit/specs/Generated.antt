@@ -3,7 +3,7 @@
 use Rattle.std.specs.Prelude.{◌≡◌, ◌↔◌, ℕ, ◌≤◌, List, ◌++◌, length, map, Result, Ok, Err, ⊤}
 use Rattle.std.specs.List.Sorted.{IsPermutation}
 use Rattle.lex_semantics.specs.Text.{Ascending, Among}
-use Rattle.lex_semantics.specs.Spec.{Spec}
+use Rattle.lex_semantics.specs.Spec.{Spec, Rule}
 use Rattle.lex_semantics.specs.Sound.{IsSound}
 use Rattle.lex_semantics.specs.MachineLaws.{MachineLaws}
 use Rattle.lex_semantics.specs.TableFor.{TableFor}
@@ -52,6 +52,10 @@ SpecRefusal limits S (gens.Build e) = BuildRefusal limits S e
 SpecRefusal limits S gens.OutOfMemory = ⊤
 SpecRefusal limits S (gens.Spec e) = ⊥
 
+-- the line of the pattern of each rule
+abbrev pub lines_of : List Rule → List ℕ
+lines_of rules = map (λ r. r.line) rules
+
 -- the counts of the statistics
 pub record AreCounts (S : Spec) (subsets : ℕ) (t : Table) (z : Stats) : Type 0 where
   pub rules : z.rules ≡ length S.rules
@@ -83,9 +87,10 @@ pub record AreTablesOf (limits : Limits) (S : Spec) (subsets : ℕ) (d : Dfa) (t
   pub machine : table_machine t ≡ machine_of d S
   pub canonical : IsCanonical S (file_of (table_of t.parts))
 
--- such tables with warnings and counts; `skipped` are the lines of skipped code
+-- such tables with the lines of the rules, warnings and counts; `skipped` are the lines of skipped code
 pub record AreMadeOf (limits : Limits) (S : Spec) (skipped : List ℕ) (subsets : ℕ) (d : Dfa) (m : Made) : Type 0 where
   pub tables : AreTablesOf limits S subsets d m.tables
+  pub rule_lines : m.rule_lines.items ≡ lines_of S.rules
   pub warnings : AreWarnings S skipped m.warnings.items
   pub stats : AreCounts S subsets (table_of m.tables.parts) m.stats
 
@@ -94,6 +99,7 @@ pub record IsMadeOf (limits : Limits) (S : Spec) (skipped : List ℕ) (g : Gener
   pub automaton : Dfa
   pub subsets : ℕ
   pub tables : AreTablesOf limits S subsets automaton g.tables
+  pub rule_lines : g.rule_lines.items ≡ lines_of S.rules
   pub warnings : AreWarnings S skipped g.warnings.items
   pub backup : AreBackUps automaton S g.backup.items
   pub stats : AreCounts S subsets (table_of g.tables.parts) g.stats

@@ -1,10 +1,11 @@
 //! What is made of the text of a specification.
-ghost use Rattle.std.specs.Prelude.{◌≡◌, ◌≤◌, IfOk, IfErr};
+ghost use Rattle.std.specs.Prelude.{◌≡◌, ◌≤◌, IfOk, IfErr, map};
 ghost use Rattle.lexspec.specs.Files.{SpellsSpec};
+ghost use Rattle.lexspec.specs.RuleViews.{rule_of};
 ghost use Rattle.lexspec.specs.Skipped.{AreSkipped};
 ghost use Rattle.lexspec.specs.Views.{spec_of, skipped_in};
 ghost use Rattle.lexkit.specs.Headline.{Refusal, reading};
-ghost use Rattle.lexkit.specs.Generated.{AreMadeOf, IsLeastOf, IsMadeOf, SpecRefusal, MakesBy, MakesTablesBy, Makes, MakesTables};
+ghost use Rattle.lexkit.specs.Generated.{lines_of, AreMadeOf, IsLeastOf, IsMadeOf, SpecRefusal, MakesBy, MakesTablesBy, Makes, MakesTables};
 ghost use Rattle.lex_semantics.specs.Limits.{max_positions, max_states};
 
 use crate::errors::GenError;
@@ -12,15 +13,17 @@ use crate::options::Options;
 use crate::stats::{Stats, stats_of};
 use lexauto::{BackUp, Dfa, Limits, OutOfMemory, backing_up, build, minimise, useless_rules};
 use lexauto_reports::{Warning, warnings};
-use lexspec::{ReadOptions, Spec, SpecError, read_spec, tested_specifications};
+use lexspec::{ReadOptions, Rule, Spec, SpecError, read_spec, tested_specifications};
 use lextab::{Tables, pack};
-use std::alloc::Global;
+use std::alloc::{AllocError, Global};
 
 /// What is made of a specification.
 #[derive(Drop)]
 pub struct Generated {
     /// The packed tables of its least automaton.
     pub tables: Tables,
+    /// The line of each rule's pattern, from 1, in the order of the file.
+    pub rule_lines: Vec<u32>,
     /// Skipped code and rules that cannot be matched, in order of line.
     pub warnings: Vec<Warning>,
     pub stats: Stats,
@@ -33,6 +36,8 @@ pub struct Generated {
 pub struct Made {
     /// The packed tables of its least automaton.
     pub tables: Tables,
+    /// The line of each rule's pattern, from 1, in the order of the file.
+    pub rule_lines: Vec<u32>,
     /// Skipped code and rules that cannot be matched, in order of line.
     pub warnings: Vec<Warning>,
     pub stats: Stats,
@@ -137,6 +142,17 @@ pub(crate) fn least_automaton(alloc: Global, spec: &Spec, limits: Limits) -> Res
     }
 }
 
+/// The lines of rules in the file.
+pub fn lines_of(alloc: Global, rules: &[Rule]) -> Result<Vec<u32>, AllocError>
+    ensures { IfOk result (λ lines. lines.items ≡ lines_of (map rule_of rules.now)) }
+{
+    let mut lines = Vec::new(alloc);
+    for rule in rules {
+        lines.push(rule.line)?;
+    }
+    Ok(lines)
+}
+
 /// The tables of a least automaton, and the reports but for that of states that back up.
 fn made_of(alloc: Global, spec: &Spec, limits: Limits, least: &Least) -> Result<Made, OutOfMemory>
     requires least { IsLeastOf limits (spec_of spec.now) least.now.subsets least.now.automaton }
@@ -145,11 +161,13 @@ fn made_of(alloc: Global, spec: &Spec, limits: Limits, least: &Least) -> Result<
 {
     tested_specifications();
     let useless = useless_rules(alloc, spec, &least.automaton)?;
+    let rule_lines = lines_of(alloc, spec.rules())?;
     let warnings = warnings(alloc, spec, &useless)?;
     let tables = pack(alloc, &least.automaton, spec)?;
     let stats = stats_of(spec, limits, least.subsets, &tables);
     Ok(Made {
         tables,
+        rule_lines,
         warnings,
         stats,
     })
@@ -168,11 +186,13 @@ fn all_of(
     let backup = backing_up(alloc, &least.automaton)?;
     let Made {
         tables,
+        rule_lines,
         warnings,
         stats,
     } = made_of(alloc, spec, limits, least)?;
     Ok(Generated {
         tables,
+        rule_lines,
         warnings,
         stats,
         backup,

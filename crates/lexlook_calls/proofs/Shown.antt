@@ -14,6 +14,7 @@ use Rattle.lexauto.specs.declared.subsets.Limits.{Limits}
 use Rattle.lexauto_dfa.specs.Automata.{conditions_of, machine_in, machine_of, states_of}
 use Rattle.lexauto_dfa.specs.declared.dfa.Dfa.{Dfa}
 use Rattle.lexkit.proofs.Refusing.{by_reason}
+use Rattle.lexkit.specs.Generated.{lines_of}
 use Rattle.lexkit.specs.Headline.{BuildRefusal}
 use Rattle.lexauto_dfa.specs.Parts.{conditions, start, after, accepts}
 use Rattle.lexauto_dfa.specs.declared.dfa.Parts.{Parts}
@@ -26,7 +27,7 @@ use Rattle.lexlook_words.specs.declared.finding.Word.{Word}
 use Rattle.lexlook_words.specs.declared.finding.Word.TheVariants.{Taken, Never}
 use Rattle.lexlook_words.specs.declared.finding.Words.{Words}
 use Rattle.lex_semantics.specs.Spec.{has_reject, statements_at}
-use Rattle.lexlook_calls.specs.Looks.{lines_of, names_of}
+use Rattle.lexlook_calls.specs.Looks.{names_of}
 use Rattle.lexlook_calls.specs.Words.{AreLabelled, AreWordsOf, HasLabels, word_lines}
 use Rattle.lexlook_calls.proofs.Matching.{AreAlike, words_alike}
 use Rattle.lexlook_calls.proofs.Alike.{fits_accepted, positions_same, subsets_from, subsets_to}

@@ -6,6 +6,7 @@ use Rattle.lex_semantics.specs.Spec.{Spec}
 use Rattle.lex_semantics.specs.Text.{Among}
 use Rattle.lexspec.specs.Files.{SpellsSpec}
 use Rattle.lexauto.specs.declared.subsets.Limits.{Limits}
+use Rattle.lexkit.specs.Generated.{lines_of}
 use Rattle.lexkit.specs.Headline.{IsWithin, Refusal, reading}
 use Rattle.lexkit.specs.declared.options.Options.{Options}
 use Rattle.lexlook_words.specs.Matches.{matches_of}
@@ -14,7 +15,7 @@ use Rattle.lexlook_words.specs.declared.finding.Place.{Place}
 use Rattle.lexlook_words.specs.declared.finding.Word.{Word}
 use Rattle.lexlook_words.specs.declared.finding.Word.TheVariants.{Taken, Never}
 use Rattle.lexlook_words.specs.declared.finding.Words.{Words}
-use Rattle.lexlook_calls.specs.Looks.{lines_of, names_of}
+use Rattle.lexlook_calls.specs.Looks.{names_of}
 use Rattle.lexlook_calls.specs.Lines.{in_quotes, start_words}
 use Rattle.lexlook_calls.specs.declared.error.LookError.{LookError}
 use Rattle.lexlook_calls.specs.declared.error.LookError.TheVariants.{Refused, Table, OutOfMemory, Write}

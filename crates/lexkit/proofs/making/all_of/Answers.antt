@@ -11,6 +11,7 @@ returns c =
       automaton = c.args.least.now.automaton;
       subsets = c.args.least.now.subsets;
       tables = m.tables;
+      rule_lines = m.rule_lines;
       warnings = m.warnings;
       backup = record {
         ascending = c.in_ok-backup.ensures.ascending;

@@ -1,10 +1,11 @@
-use Rattle.std.proofs.Common.{◌++◌, ℕ, List, map, subst, refl}
+use Rattle.std.proofs.Common.{◌++◌, ◌∙◌, ℕ, List, map, ap, subst, refl}
 use Rattle.lex_semantics.specs.Text.{flag}
 use Rattle.lextab_packed.specs.Views.{table_of}
 use Rattle.std.specs.List.Sorted.{IsPermutation}
 use Rattle.lexauto_reports.specs.Warned.{of_code, of_rule}
 use Rattle.lex_semantics.specs.Spec.{Spec}
 use Rattle.lexspec.specs.Views.{spec_of, skipped_in, rules_in}
+use Rattle.lexkit.specs.Generated.{lines_of}
 use Rattle.lexkit.proofs.making.made_of.Goals as goal
 
 pub returns : goal.returns
@@ -30,6 +31,7 @@ returns c =
           file = (c.in_ok-tables.tables.lawful, refl);
         };
       };
+      rule_lines = c.in_ok-rule_lines.ensures ∙ ap lines_of c.rules.ensures.rules;
       warnings = (c.in_ok-warnings.ensures.in_order, (c.in_ok-useless.useless.items, c.in_ok-useless.ensures.ascending, c.in_ok-useless.ensures.useless, subst (λ (xs : List ℕ). IsPermutation (map of_code (skipped_in c.args.spec.now) ++ map (of_rule (rules_in S)) xs) c.in_ok-warnings.warnings.items) c.deref.ensures.value c.in_ok-warnings.ensures.all));
       stats = c.stats_of-stats.ensures;
     }

@@ -2,7 +2,8 @@ use Rattle.std.proofs.Common.{◌≡◌, ◌∙◌, ℕ, List, map, ap}
 use Rattle.std.specs.Borrow.{Bor}
 use Rattle.std.proofs.lemmas.Result.{IfOk-weaker}
 use Rattle.lexspec.specs.Views.{conditions_in, rules_in, spec_of}
-use Rattle.lexlook_calls.specs.Looks.{lines_of, names_of}
+use Rattle.lexkit.specs.Generated.{lines_of}
+use Rattle.lexlook_calls.specs.Looks.{names_of}
 use Rattle.lexlook_calls.specs.Words.{word_lines}
 use Rattle.lexlook_calls.proofs.words.found_lines.Goals as goal
 

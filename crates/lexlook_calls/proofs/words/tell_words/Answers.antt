@@ -1,7 +1,8 @@
 use Rattle.std.proofs.Common.{◌≡◌, ◌∙◌, ℕ, List, Err, subst}
 use Rattle.lex_io.specs.Sink.{Appended}
 use Rattle.lexspec.specs.Views.{conditions_in, rules_in, spec_of}
-use Rattle.lexlook_calls.specs.Looks.{lines_of, names_of}
+use Rattle.lexkit.specs.Generated.{lines_of}
+use Rattle.lexlook_calls.specs.Looks.{names_of}
 use Rattle.lexlook_calls.specs.Words.{word_lines}
 use Rattle.lexlook_calls.specs.declared.error.LookError.TheVariants.{Write}
 use Rattle.lexlook_calls.proofs.Shown.{labelled_by, lines_shown}
