@@ -7,3 +7,5 @@ pub mod Lines
 pub mod Compared
 pub mod Cuts
 pub mod SameFiles
+pub mod Words
+pub mod Tracing

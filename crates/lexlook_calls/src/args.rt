@@ -2,8 +2,8 @@
 ghost use Rattle.std.specs.Prelude.{◌≡◌, ◌⊎◌, IfErr, IfOk, None, Some, codes, false, map, option_map, string_bytes};
 ghost use Rattle.clap.specs.Words.{app_of, first_of, found_of, rows_of, rule_of, subcommand_rows_of};
 ghost use Rattle.lexkit.specs.CommandLine.{flag_rule, has};
-ghost use Rattle.lexlook_calls.specs.LookLine.{AsksFor, AsksToCompare, AsksToCut, AsksToDraw, IsLookOf};
-ghost use Rattle.lexlook_calls.specs.LookLine.{has_help, lexlook_app, lines_app, needed_rule, picture_app, same_app};
+ghost use Rattle.lexlook_calls.specs.LookLine.{AsksFor, AsksToCompare, AsksToCut, AsksToDraw, AsksToFind, AsksToTrace, IsLookOf};
+ghost use Rattle.lexlook_calls.specs.LookLine.{has_help, lexlook_app, lines_app, needed_rule, picture_app, same_app, trace_app, words_app};
 
 use clap::{Arg, ArgAction, ArgMatches, Command};
 use lexkit::ArgsError;
@@ -39,10 +39,26 @@ pub enum Look {
         /// Intervals apply to series.
         posix: bool,
     },
+    /// The texts that the rules of the specification in this file take. `-` is standard input.
+    Words {
+        file: String,
+        /// Letters of patterns stand for both cases.
+        fold: bool,
+        /// Intervals apply to series.
+        posix: bool,
+    },
+    /// The lines of the matches of a scan by the specification in this file. `-` is standard input.
+    Trace {
+        file: String,
+        /// Letters of patterns stand for both cases.
+        fold: bool,
+        /// Intervals apply to series.
+        posix: bool,
+    },
 }
 
-/// Reads the words after the program's name: `picture FILE`, `same FILE FILE` or `lines FILE`, with `-i` or `-X` or
-/// without, or any words with `--help`. Flags may be repeated. Words that it refuses by `Usage` ask for nothing.
+/// Reads the words after the program's name: `picture FILE`, `same FILE FILE`, `lines FILE`, `words FILE` or `trace FILE`, with
+/// `-i` or `-X` or without, or any words with `--help`. Flags may be repeated. Words that it refuses by `Usage` ask for nothing.
 pub fn read_args(alloc: Global, words: &[String]) -> Result<Look, ArgsError>
     ensures asked { IfOk result (AsksFor (map string_bytes words.now)) }
     ensures refused { IfErr result (λ e. e ≡ ArgsError.Usage
@@ -106,6 +122,28 @@ fn lines_command<'a>(alloc: Global) -> Result<Command<'a>, AllocError>
         .arg(needed_word(alloc, "file"))
 }
 
+/// The words of texts that rules take.
+fn words_command<'a>(alloc: Global) -> Result<Command<'a>, AllocError>
+    ensures { IfOk result (λ c. app_of c ≡ words_app) }
+{
+    Command::new(alloc, "words")
+        .disable_help_flag(true)
+        .arg(flag(alloc, "fold", 'i'))?
+        .arg(flag(alloc, "posix", 'X'))?
+        .arg(needed_word(alloc, "file"))
+}
+
+/// The words of a trace.
+fn trace_command<'a>(alloc: Global) -> Result<Command<'a>, AllocError>
+    ensures { IfOk result (λ c. app_of c ≡ trace_app) }
+{
+    Command::new(alloc, "trace")
+        .disable_help_flag(true)
+        .arg(flag(alloc, "fold", 'i'))?
+        .arg(flag(alloc, "posix", 'X'))?
+        .arg(needed_word(alloc, "file"))
+}
+
 /// The words that the program knows.
 fn command<'a>(alloc: Global) -> Result<Command<'a>, AllocError>
     ensures { IfOk result (λ c. app_of c ≡ lexlook_app) }
@@ -113,6 +151,8 @@ fn command<'a>(alloc: Global) -> Result<Command<'a>, AllocError>
     let picture = picture_command(alloc)?;
     let same = same_command(alloc)?;
     let lines = lines_command(alloc)?;
+    let words = words_command(alloc)?;
+    let trace = trace_command(alloc)?;
     Command::new(alloc, "lexlook")
         .no_binary_name(true)
         .disable_help_flag(true)
@@ -120,7 +160,9 @@ fn command<'a>(alloc: Global) -> Result<Command<'a>, AllocError>
         .subcommand_required(true)
         .subcommand(picture)?
         .subcommand(same)?
-        .subcommand(lines)
+        .subcommand(lines)?
+        .subcommand(words)?
+        .subcommand(trace)
 }
 
 /// A flag, which may be repeated.
@@ -149,6 +191,8 @@ fn look_of(alloc: Global, matches: &ArgMatches<'_>) -> Result<Look, ArgsError>
         Some((name, found)) if name == "picture" => picture_look(alloc, found),
         Some((name, found)) if name == "same" => same_look(alloc, found),
         Some((name, found)) if name == "lines" => lines_look(alloc, found),
+        Some((name, found)) if name == "words" => words_look(alloc, found),
+        Some((name, found)) if name == "trace" => trace_look(alloc, found),
         _ => Err(ArgsError::Usage),
     }
 }
@@ -213,6 +257,34 @@ fn lines_look(alloc: Global, found: &ArgMatches<'_>) -> Result<Look, ArgsError>
 {
     let file = file_there(alloc, found)?;
     Ok(Look::Lines {
+        file,
+        fold: has(found, "fold"),
+        posix: has(found, "posix"),
+    })
+}
+
+/// The texts that the matches behind its name ask for.
+fn words_look(alloc: Global, found: &ArgMatches<'_>) -> Result<Look, ArgsError>
+    ensures asked { IfOk result (AsksToFind (rows_of (found_of found.now))) }
+    ensures refused { IfErr result (λ e. e ≡ ArgsError.Usage
+        → first_of (codes "file") (rows_of (found_of found.now)) ≡ None) }
+{
+    let file = file_there(alloc, found)?;
+    Ok(Look::Words {
+        file,
+        fold: has(found, "fold"),
+        posix: has(found, "posix"),
+    })
+}
+
+/// The trace that the matches behind its name ask for.
+fn trace_look(alloc: Global, found: &ArgMatches<'_>) -> Result<Look, ArgsError>
+    ensures asked { IfOk result (AsksToTrace (rows_of (found_of found.now))) }
+    ensures refused { IfErr result (λ e. e ≡ ArgsError.Usage
+        → first_of (codes "file") (rows_of (found_of found.now)) ≡ None) }
+{
+    let file = file_there(alloc, found)?;
+    Ok(Look::Trace {
         file,
         fold: has(found, "fold"),
         posix: has(found, "posix"),

@@ -50,7 +50,7 @@ fn add_in_quotes(text: &mut Vec<u8>, byte: u8) -> Result<(), AllocError>
 }
 
 /// Appends bytes as they are spelled in a quoted string of a pattern.
-fn add_string(text: &mut Vec<u8>, bytes: &[u8]) -> Result<(), AllocError>
+pub(crate) fn add_string(text: &mut Vec<u8>, bytes: &[u8]) -> Result<(), AllocError>
     ensures { OnOk result (text.new.items ≡ text.old.items ++ flat_map in_quotes bytes.now) }
 {
     for byte in bytes {
@@ -143,7 +143,7 @@ fn add_side(
 }
 
 /// Appends whether a match is at the start of a line.
-fn add_start(text: &mut Vec<u8>, line_start: bool) -> Result<(), AllocError>
+pub(crate) fn add_start(text: &mut Vec<u8>, line_start: bool) -> Result<(), AllocError>
     ensures { OnOk result (text.new.items ≡ text.old.items ++ start_words line_start) }
 {
     if line_start {
