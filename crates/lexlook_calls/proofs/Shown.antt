@@ -40,12 +40,12 @@ automaton_alike S p rejects count table len flags = record {
   conditions = count;
   count = len;
   fits = λ c line w i h.
-    let low = h.condition in
-    let known : c < length S.conditions = omega (arith, low, count) in
-    let e = table.accepts c line w i known h.text in
-    let walked = walk_after p (rejecting S) (start p c line) w in
-    let back = fits_accepted S c line w i in
-    (λ a. back.0 (e.0 (subst (λ (s : ℕ). Among (accepts p s) i) (sym walked) a)), λ f. subst (λ (s : ℕ). Among (accepts p s) i) walked (e.1 (back.1 f)));
+      let low = h.condition in
+      let known : c < length S.conditions = omega (arith, low, count) in
+      let e = table.accepts c line w i known h.text in
+      let walked = walk_after p (rejecting S) (start p c line) w in
+      let back = fits_accepted S c line w i in
+      (λ a. back.0 (e.0 (subst (λ (s : ℕ). Among (accepts p s) i) (sym walked) a)), λ f. subst (λ (s : ℕ). Among (accepts p s) i) walked (e.1 (back.1 f)));
   gives_up = flags;
 }
 
@@ -105,7 +105,7 @@ words_shown limits S T d rejects v is table count subsets positions states len f
     few_states = states;
   };
   words = words_alike (matches_in d.parts rejects) (matches_of S)
-  (automaton_alike S d.parts rejects (count ∙ ap (λ (U : Spec). length U.conditions) is) (subst (λ (U : Spec). TableFor (machine_in d.parts U) U) is table) len flags) v words;
+      (automaton_alike S d.parts rejects (count ∙ ap (λ (U : Spec). length U.conditions) is) (subst (λ (U : Spec). TableFor (machine_in d.parts U) U) is table) len flags) v words;
 }
 
 -- it has the names and lines of the one

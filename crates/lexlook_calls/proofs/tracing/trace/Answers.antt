@@ -11,7 +11,7 @@ use Rattle.lexlook_calls.proofs.tracing.trace.Goals as goal
 pub returns-in-Err-clause-told : goal.returns-in-Err-clause-told
 returns-in-Err-clause-told g c = (
   unless_memory c.in-Err.error.kind ((S : Spec) → SpellsSpec (reading c.args.options) c.args.text.now S → ⊥)
-    ((S : Spec) → SpellsWithRoom c.args.options c.args.text.now S → ⊥) (λ none S h. none S h.0) c.in-Err.ensures.none,
+      ((S : Spec) → SpellsWithRoom c.args.options c.args.text.now S → ⊥) (λ none S h. none S h.0) c.in-Err.ensures.none,
   refl,
   refl,
 )
@@ -19,7 +19,7 @@ returns-in-Err-clause-told g c = (
 pub returns-in-Err-traced-clause-told : goal.returns-in-Err-traced-clause-told
 returns-in-Err-traced-clause-told g c = (
   unless_memory c.in-Err-traced.error.kind _ ((S : Spec) → SpellsWithRoom c.args.options c.args.text.now S → ⊥)
-    (λ full. none_with_room c.args.options c.args.text.now (spec_of c.in-Ok.spec) c.in-Ok.ensures.found full) c.in-Err-traced.ensures.refused,
+      (λ full. none_with_room c.args.options c.args.text.now (spec_of c.in-Ok.spec) c.in-Ok.ensures.found full) c.in-Err-traced.ensures.refused,
   refl,
   refl,
 )
