@@ -6,7 +6,7 @@ pub returns : goal.returns
 returns c =
     let S : Spec = spec_of c.args.spec.now in
     let l = c.requires.least in
-    let m = c.in_ok-made_of.ensures in
+    let m = c.in_ok-tables.ensures in
     record {
       automaton = c.args.least.now.automaton;
       subsets = c.args.least.now.subsets;
