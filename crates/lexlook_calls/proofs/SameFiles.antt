@@ -37,7 +37,7 @@ names_with : (k : ℕ) (cs : List Declared) (ends : List EndRule) → names_of (
 names_with k [] ends = refl
 names_with k (c ∷ cs) ends = ap (λ l. c.name ∷ l) (names_with (suc k) cs ends)
 
-initial : List ℕ
+abbrev initial : List ℕ
 initial = codes "INITIAL"
 
 is_itself : is_word initial initial ≡ true
@@ -101,7 +101,7 @@ same_as_itself : (M : Machine) (told : Comparison) → Compares [] M M told → 
 same_as_itself M Same c other = refl
 same_as_itself M Conditions c other = absurd (other refl)
 same_as_itself M (Ends d) c other = absurd (c.1.1 refl)
-same_as_itself M (Texts d) c other = absurd (c.3.1.differ (own_deeds M (rules_at c.2 M (state_after M d.condition d.line_start d.text.items))))
+same_as_itself M (Texts d) c other = absurd (c.4.differ (own_deeds M (rules_at c.2 M (state_after M d.condition d.line_start d.text.items))))
 
 module _ (one_table : (t u : Table) (x y : List ℕ) → IsTable t → IsTable u → file_of t ++ x ≡ file_of u ++ y → (t ≡ u) × (x ≡ y)) where
   -- the bytes of a table file stand for one machine
