@@ -1,14 +1,12 @@
 -- A specification in which each action is REJECT has the same texts that fit its rules, and as many states before minimising.
-use Rattle.std.proofs.Common.{◌≡◌, ◌↔◌, ◌<◌, ℕ, zero, suc, ◌+◌, Bool, true, false, List, [], ◌∷◌, ◌++◌, length, map, Option, Some, None, refl, sym, ap, subst, ◌∙◌, arith}
+use Rattle.std.proofs.Common.{◌≡◌, ◌↔◌, ℕ, zero, suc, ◌+◌, Bool, true, List, [], ◌∷◌, ◌++◌, length, map, Some, refl, sym, ap, subst, arith}
 use Rattle.std.specs.Prelude.{slice_get}
-use Rattle.std.proofs.lemmas.List.{length-map}
-use Rattle.lex_semantics.specs.Text.{IsText, Among}
 use Rattle.lex_semantics.specs.Tree.{In}
 use Rattle.lex_semantics.specs.Spec.{Spec, Rule, Condition, rejects}
 use Rattle.lex_semantics.specs.Active.{active}
-use Rattle.lex_semantics.specs.Fits.{Fits, InTrail}
+use Rattle.lex_semantics.specs.Fits.{InTrail}
 use Rattle.lex_semantics.specs.Reports.{HasFit}
-use Rattle.lex_semantics.specs.TableFor.{TableFor, Accepted}
+use Rattle.lex_semantics.specs.TableFor.{Accepted}
 use Rattle.lex_semantics.specs.Positions.{Cell, Readings}
 use Rattle.lex_semantics.specs.Subsets.{all_positions, positions_of_rule, base_of, AreLasts, AreStarts, IsActive, IsLast, ListsSet, ReadsActive, ReadsRule, Subsets}
 use Rattle.lexlook_words.specs.Rejecting.{rejecting, rejecting_rule}

@@ -1,10 +1,8 @@
 -- What is told of rules depends on the texts that fit them alone.
-use Rattle.std.proofs.Common.{◌≡◌, ◌↔◌, ◌<◌, ◌≤◌, ℕ, Bool, true, false, List, length, take, Option, Some, None, sym, subst, ◌∙◌, arith}
-use Rattle.std.specs.Prelude.{slice_get}
+use Rattle.std.proofs.Common.{◌≡◌, ◌↔◌, ◌≤◌, ℕ, Bool, List, length, take, Option, Some, None, sym, ◌∙◌, arith}
 use Rattle.std.proofs.lemmas.List.{length-take-le}
-use Rattle.lex_semantics.specs.Text.{IsText, Among}
 use Rattle.lex_semantics.proofs.Texts.{is_text_take}
-use Rattle.lexlook_words.specs.Matches.{Matches, IsInput, IsCopied, IsGivenUp, Takes, TakesOf}
+use Rattle.lexlook_words.specs.Matches.{Matches, IsInput, IsCopied, Takes}
 use Rattle.lexlook_words.specs.Words.{AreTakers, AreWords, IsFirst, Tells, TellsDefault}
 use Rattle.lexlook_words.specs.declared.finding.Place.{Place}
 use Rattle.lexlook_words.specs.declared.finding.Word.{Word}

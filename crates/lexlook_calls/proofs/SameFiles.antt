@@ -1,36 +1,31 @@
 -- What it says of two files that nothing is told of them, and of which files nothing is told.
-use Rattle.std.proofs.Common.{◌≡◌, ℕ, zero, suc, ◌+◌, ◌<◌, Bool, true, false, ◌&&◌, List, [], ◌∷◌, ◌++◌, length, map, take, ◌⊎◌, inl, inr, Option, Some, None, refl, sym, ◌∙◌, ap, subst, arith, codes}
+use Rattle.std.proofs.Common.{◌≡◌, ℕ, zero, suc, ◌<◌, Bool, true, false, ◌&&◌, List, [], ◌∷◌, ◌++◌, length, map, Option, Some, None, refl, sym, ◌∙◌, ap, subst, arith, codes}
 use Rattle.std.specs.Prelude.{not, slice_get}
-use Rattle.std.proofs.lemmas.Bool.{and_parts}
 use Rattle.std.proofs.lemmas.Map.Keys.{any_passes_from_place}
 use Rattle.lex_semantics.specs.ByteSets.{is_word}
-use Rattle.lex_semantics.specs.Spec.{Spec, Condition, Statement, Echo, Print, Begin, More, Less, Reject, End, Push, Pop}
+use Rattle.lex_semantics.specs.Spec.{Spec, Statement, Echo, Print, Begin, More, Less, Reject, End, Push, Pop}
 use Rattle.lex_semantics.specs.Machine.{Machine, state_after}
-use Rattle.lex_semantics.specs.Text.{flag}
 use Rattle.lexspec.specs.Files.{conditions_with, SpellsSpec}
 use Rattle.lexspec.specs.RuleItems.{EndRule}
 use Rattle.lexspec_lines.specs.DefinitionLines as D
 use Rattle.lexspec_lines.specs.DefinitionLines.{Declared, has_name, are_distinct, all_conditions}
 use Rattle.lextab_packed.specs.Table.{Table}
-use Rattle.lextab_packed.specs.Steps.{machine_of_table}
 use Rattle.lextab_packed.specs.Checks.{IsTable}
 use Rattle.lextab_packed.specs.Invariant.{GoesOn}
 use Rattle.lextab_file.specs.File.{file_of}
 use Rattle.lexkit.specs.Headline.{reading}
 use Rattle.lexkit.specs.declared.options.Options.{Options}
 use Rattle.lexkit.proofs.FileScanned.{one_list_of_flags, same_machine}
-use Rattle.lexlook_same.specs.Same.{number_in, renumbered, Deed, deed_of, deed_in, deeds_at, deeds_in, rules_at, Agree}
+use Rattle.lexlook_same.specs.Same.{number_in, renumbered, deed_of, deed_in, rules_at}
 use Rattle.lexlook_same.specs.Comparing.{Compares}
 use Rattle.lexlook_same.specs.Scans.{BeginTogether}
 use Rattle.lexlook_same.specs.declared.tables.Comparison.{Comparison}
 use Rattle.lexlook_same.specs.declared.tables.Comparison.TheVariants.{Same, Conditions, Ends, Texts}
-use Rattle.lexlook_calls.specs.Compared.{IsSideOf, Holds}
-use Rattle.lexlook_calls.specs.Lines.{Side}
+use Rattle.lexlook_calls.specs.Compared.{Holds}
 use Rattle.lexlook_calls.specs.Looks.{names_of}
 use Rattle.lexlook_calls.specs.Naming.{AreNamed, ArePaired}
 use Rattle.lexlook_calls.specs.SameFiles.{SameScanAlike, EqualAreSame}
 use Rattle.lexlook_calls.specs.Sides.{StandsFor, is_table_file}
-use Rattle.lexlook_calls.specs.declared.comparing.Given.{Given}
 
 -- the names of a specification's conditions are those that it declares
 names_with : (k : ℕ) (cs : List Declared) (ends : List EndRule) → names_of (conditions_with k cs ends) ≡ D.names_of cs

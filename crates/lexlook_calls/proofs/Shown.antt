@@ -1,11 +1,9 @@
 -- What is told of a specification by the one in which each action is REJECT: it holds of it, and has names and lines.
-use Rattle.std.proofs.Common.{◌≡◌, ◌<◌, ◌≤◌, ℕ, zero, suc, Bool, List, [], ◌∷◌, length, map, Option, Some, None, Result, Ok, Err, refl, sym, ap, subst, ◌∙◌, arith}
+use Rattle.std.proofs.Common.{◌≡◌, ◌<◌, ◌≤◌, ℕ, zero, suc, Bool, List, [], ◌∷◌, length, map, Option, Some, None, refl, sym, ap, subst, ◌∙◌, arith}
 use Rattle.std.specs.Prelude.{slice_get}
-use Rattle.std.proofs.lemmas.Bool.{cases_lt}
 use Rattle.std.proofs.lemmas.List.{length-map}
 use Rattle.lex_semantics.specs.Spec.{Spec, Rule}
 use Rattle.lex_semantics.specs.Text.{Among, flag}
-use Rattle.lex_semantics.specs.Machine.{state_after}
 use Rattle.lex_semantics.specs.TableFor.{TableFor}
 use Rattle.lex_semantics.specs.Subsets.{Subsets, all_positions}
 use Rattle.lexauto.specs.declared.error.BuildError.{BuildError}
@@ -16,7 +14,7 @@ use Rattle.lexauto_dfa.specs.declared.dfa.Dfa.{Dfa}
 use Rattle.lexkit.proofs.Refusing.{by_reason}
 use Rattle.lexkit.specs.Generated.{lines_of}
 use Rattle.lexkit.specs.Headline.{BuildRefusal}
-use Rattle.lexauto_dfa.specs.Parts.{conditions, start, after, accepts}
+use Rattle.lexauto_dfa.specs.Parts.{conditions, start, accepts}
 use Rattle.lexauto_dfa.specs.declared.dfa.Parts.{Parts}
 use Rattle.lexauto_dfa.proofs.Machinery.{walk_after}
 use Rattle.lexlook_words.specs.Matches.{matches_in, matches_of}

@@ -1,7 +1,6 @@
 -- What a scan leaves by the specification that tells its matches.
 use Rattle.std.proofs.Common.{◌≡◌, ℕ, refl, Bool, true, false, List, Result, Ok, Err, sym, ◌∙◌, ap, subst}
 use Rattle.lex_semantics.specs.Spec.{Spec}
-use Rattle.lex_semantics.specs.Reading.{begins}
 use Rattle.std.specs.FinMap.{get}
 use Rattle.lexre_bytes.specs.Lexical.{symbol_at}
 use Rattle.lexre.proofs.CuttingLaws.{one_cutting}

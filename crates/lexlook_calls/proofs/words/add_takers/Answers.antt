@@ -1,5 +1,4 @@
-use Rattle.std.proofs.Common.{rules, ◌≡◌, ◌<◌, ◌≤◌, ◌∙◌, ℕ, List, Bool, false, [], ◌∷◌, ◌++◌, length, take, codes, flat_map, refl, ap, sym, arith}
-use Rattle.std.specs.List.{concat}
+use Rattle.std.proofs.Common.{rules, ◌≡◌, ◌<◌, ◌∙◌, ℕ, List, [], ◌∷◌, ◌++◌, length, codes, flat_map, refl, ap, arith}
 use Rattle.std.proofs.lemmas.List.{take_all}
 use Rattle.lexlook_pictures.proofs.Joining.{among_read, in_three}
 use Rattle.lexlook_calls.specs.Words.{line_words, never_words}

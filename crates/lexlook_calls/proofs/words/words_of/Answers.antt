@@ -1,4 +1,4 @@
-use Rattle.std.proofs.Common.{◌∙◌, Err, ap, subst}
+use Rattle.std.proofs.Common.{Err, ap, subst}
 use Rattle.lexspec.specs.Views.{spec_of}
 use Rattle.lexlook_words.specs.Matches.{matches_in}
 use Rattle.lexlook_words.specs.Words.{AreWords}
