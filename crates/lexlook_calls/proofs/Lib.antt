@@ -9,3 +9,4 @@ pub mod Matching
 pub mod Alike
 pub mod Shown
 pub mod Traced
+pub mod Subcommands

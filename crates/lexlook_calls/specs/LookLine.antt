@@ -15,15 +15,15 @@ abbrev pub needed_rule : Text → Rule
 needed_rule name = record (new_rule name) { action = Some Set; required = true }
 
 -- `-i` (105) and `-X` (88), and the file
-abbrev pub picture_rules : List Rule
-picture_rules = flag_rule (codes "fold") 105 ∷ flag_rule (codes "posix") 88 ∷ needed_rule (codes "file") ∷ []
+abbrev pub file_rules : List Rule
+file_rules = flag_rule (codes "fold") 105 ∷ flag_rule (codes "posix") 88 ∷ needed_rule (codes "file") ∷ []
 
 abbrev pub without_help : App → App
 without_help a = on_top (λ s. record s { disable_help_flag = true }) a
 
--- `picture`, with what stands behind it
-abbrev pub picture_app : App
-picture_app = fold with_rule (without_help (new_app (codes "picture"))) picture_rules
+-- a subcommand of this name, with what stands behind it
+abbrev pub file_app : Text → App
+file_app name = fold with_rule (without_help (new_app name)) file_rules
 
 -- the same two flags, and two files
 abbrev pub same_rules : List Rule
@@ -33,18 +33,6 @@ same_rules = flag_rule (codes "fold") 105 ∷ flag_rule (codes "posix") 88 ∷ n
 abbrev pub same_app : App
 same_app = fold with_rule (without_help (new_app (codes "same"))) same_rules
 
--- `lines`, with the same two flags, and a file
-abbrev pub lines_app : App
-lines_app = fold with_rule (without_help (new_app (codes "lines"))) picture_rules
-
--- `words`, with the same
-abbrev pub words_app : App
-words_app = fold with_rule (without_help (new_app (codes "words"))) picture_rules
-
--- `trace`, with the same
-abbrev pub trace_app : App
-trace_app = fold with_rule (without_help (new_app (codes "trace"))) picture_rules
-
 -- the words begin after the program's name, and name a subcommand; clap knows no help
 abbrev pub no_subcommand : App
 no_subcommand =
@@ -53,7 +41,8 @@ no_subcommand =
 
 -- the program's command line
 abbrev pub lexlook_app : App
-lexlook_app = fold with_subcommand no_subcommand (picture_app.top ∷ same_app.top ∷ lines_app.top ∷ words_app.top ∷ trace_app.top ∷ [])
+lexlook_app = fold with_subcommand no_subcommand (
+    (file_app (codes "picture")).top ∷ same_app.top ∷ (file_app (codes "lines")).top ∷ (file_app (codes "words")).top ∷ (file_app (codes "trace")).top ∷ [])
 
 -- ---- what is asked for
 

@@ -1,9 +1,9 @@
 //! What a command line asks for.
 ghost use Rattle.std.specs.Prelude.{◌≡◌, ◌⊎◌, IfErr, IfOk, None, Some, codes, false, map, option_map, string_bytes};
-ghost use Rattle.clap.specs.Words.{app_of, first_of, found_of, rows_of, rule_of, subcommand_rows_of};
+ghost use Rattle.clap.specs.Words.{app_of, first_of, found_of, rows_of, rule_of, subcommand_rows_of, with_subcommand};
 ghost use Rattle.lexkit.specs.CommandLine.{flag_rule, has};
 ghost use Rattle.lexlook_calls.specs.LookLine.{AsksFor, AsksToCompare, AsksToCut, AsksToDraw, AsksToFind, AsksToTrace, IsLookOf};
-ghost use Rattle.lexlook_calls.specs.LookLine.{has_help, lexlook_app, lines_app, needed_rule, picture_app, same_app, trace_app, words_app};
+ghost use Rattle.lexlook_calls.specs.LookLine.{file_app, has_help, lexlook_app, needed_rule, same_app};
 
 use clap::{Arg, ArgAction, ArgMatches, Command};
 use lexkit::ArgsError;
@@ -88,11 +88,11 @@ fn has_help(words: &[String]) -> bool
     false
 }
 
-/// The words of a picture.
-fn picture_command<'a>(alloc: Global) -> Result<Command<'a>, AllocError>
-    ensures { IfOk result (λ c. app_of c ≡ picture_app) }
+/// The words of a subcommand that takes one file.
+fn file_command<'a>(alloc: Global, name: &'a str) -> Result<Command<'a>, AllocError>
+    ensures { IfOk result (λ c. app_of c ≡ file_app name.entry.now) }
 {
-    Command::new(alloc, "picture")
+    Command::new(alloc, name)
         .disable_help_flag(true)
         .arg(flag(alloc, "fold", 'i'))?
         .arg(flag(alloc, "posix", 'X'))?
@@ -111,58 +111,34 @@ fn same_command<'a>(alloc: Global) -> Result<Command<'a>, AllocError>
         .arg(needed_word(alloc, "right"))
 }
 
-/// The words of cuts at newlines.
-fn lines_command<'a>(alloc: Global) -> Result<Command<'a>, AllocError>
-    ensures { IfOk result (λ c. app_of c ≡ lines_app) }
+/// The words with one subcommand more, which takes one file.
+fn with_file<'a>(alloc: Global, top: Command<'a>, name: &'a str) -> Result<Command<'a>, AllocError>
+    ensures { IfOk result (λ c. app_of c ≡ with_subcommand (app_of top.entry) (file_app name.entry.now).top) }
 {
-    Command::new(alloc, "lines")
-        .disable_help_flag(true)
-        .arg(flag(alloc, "fold", 'i'))?
-        .arg(flag(alloc, "posix", 'X'))?
-        .arg(needed_word(alloc, "file"))
+    top.subcommand(file_command(alloc, name)?)
 }
 
-/// The words of texts that rules take.
-fn words_command<'a>(alloc: Global) -> Result<Command<'a>, AllocError>
-    ensures { IfOk result (λ c. app_of c ≡ words_app) }
+/// The words with a comparison more.
+fn with_same<'a>(alloc: Global, top: Command<'a>) -> Result<Command<'a>, AllocError>
+    ensures { IfOk result (λ c. app_of c ≡ with_subcommand (app_of top.entry) same_app.top) }
 {
-    Command::new(alloc, "words")
-        .disable_help_flag(true)
-        .arg(flag(alloc, "fold", 'i'))?
-        .arg(flag(alloc, "posix", 'X'))?
-        .arg(needed_word(alloc, "file"))
-}
-
-/// The words of a trace.
-fn trace_command<'a>(alloc: Global) -> Result<Command<'a>, AllocError>
-    ensures { IfOk result (λ c. app_of c ≡ trace_app) }
-{
-    Command::new(alloc, "trace")
-        .disable_help_flag(true)
-        .arg(flag(alloc, "fold", 'i'))?
-        .arg(flag(alloc, "posix", 'X'))?
-        .arg(needed_word(alloc, "file"))
+    top.subcommand(same_command(alloc)?)
 }
 
 /// The words that the program knows.
 fn command<'a>(alloc: Global) -> Result<Command<'a>, AllocError>
     ensures { IfOk result (λ c. app_of c ≡ lexlook_app) }
 {
-    let picture = picture_command(alloc)?;
-    let same = same_command(alloc)?;
-    let lines = lines_command(alloc)?;
-    let words = words_command(alloc)?;
-    let trace = trace_command(alloc)?;
-    Command::new(alloc, "lexlook")
+    let top = Command::new(alloc, "lexlook")
         .no_binary_name(true)
         .disable_help_flag(true)
         .disable_help_subcommand(true)
-        .subcommand_required(true)
-        .subcommand(picture)?
-        .subcommand(same)?
-        .subcommand(lines)?
-        .subcommand(words)?
-        .subcommand(trace)
+        .subcommand_required(true);
+    let top = with_file(alloc, top, "picture")?;
+    let top = with_same(alloc, top)?;
+    let top = with_file(alloc, top, "lines")?;
+    let top = with_file(alloc, top, "words")?;
+    with_file(alloc, top, "trace")
 }
 
 /// A flag, which may be repeated.
