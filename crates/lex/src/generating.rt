@@ -3,9 +3,9 @@ ghost use Rattle.std.specs.Prelude.{◌≤◌};
 
 use crate::failure::Failure;
 use lexkit::{
-    BackUp, ByteWriter, Generated, MAX_POSITIONS, MAX_STATES, Options, Sink, Stats, Tables,
-    ToWrite, Warning, WriteFault, generate, write_backup, write_stats, write_tables,
-    write_warnings,
+    BackUp, ByteWriter, Generated, MAX_POSITIONS, MAX_STATES, Made, Options, Sink, Stats, Tables,
+    ToWrite, Warning, WriteFault, generate, generate_tables, write_backup, write_stats,
+    write_tables, write_warnings,
 };
 use std::fs::File;
 use std::io;
@@ -41,13 +41,13 @@ pub fn make(
     requires few_positions { options.limits.positions ≤ MAX_POSITIONS }
     requires few_states { options.limits.states ≤ MAX_STATES }
 {
-    let made = generate(rt.alloc(), text, options)?;
+    let (made, backup) = made_of(rt, text, options, outputs.backup)?;
     if !outputs.quiet {
         warn(rt, &made.warnings)?;
     }
     write_table(rt, &made.tables, outputs)?;
     if outputs.backup {
-        report(rt, &made.backup)?;
+        report(rt, &backup)?;
     }
     if outputs.stats {
         count(rt, &made.stats, outputs.to_stdout)?;
@@ -55,16 +55,42 @@ pub fn make(
     Ok(())
 }
 
-/// What is made of a specification, whose warnings go to standard error.
-pub fn make_with_warnings(
+/// What is made of a specification, and the states that back up if they are asked for.
+fn made_of(
     rt: &HostRuntime,
     text: &[u8],
     options: Options,
-) -> Result<Generated, Failure>
+    with_backup: bool,
+) -> Result<(Made, Vec<BackUp>), Failure>
     requires few_positions { options.limits.positions ≤ MAX_POSITIONS }
     requires few_states { options.limits.states ≤ MAX_STATES }
 {
-    let made = generate(rt.alloc(), text, options)?;
+    if !with_backup {
+        let made = generate_tables(rt.alloc(), text, options)?;
+        return Ok((made, Vec::new(rt.alloc())));
+    }
+    let Generated {
+        tables,
+        rule_lines,
+        warnings,
+        stats,
+        backup,
+    } = generate(rt.alloc(), text, options)?;
+    let made = Made {
+        tables,
+        rule_lines,
+        warnings,
+        stats,
+    };
+    Ok((made, backup))
+}
+
+/// What is made of a specification, whose warnings go to standard error.
+pub fn make_with_warnings(rt: &HostRuntime, text: &[u8], options: Options) -> Result<Made, Failure>
+    requires few_positions { options.limits.positions ≤ MAX_POSITIONS }
+    requires few_states { options.limits.states ≤ MAX_STATES }
+{
+    let made = generate_tables(rt.alloc(), text, options)?;
     warn(rt, &made.warnings)?;
     Ok(made)
 }

@@ -11,8 +11,8 @@ use crate::failure::Failure;
 use crate::generating::{Outputs, make, make_with_warnings};
 use crate::reading::{read_spec_file, read_specification, read_table_file};
 use lexkit::{
-    ArgsError, ByteReader, ByteWriter, FromBytes, Generated, Job, MAX_POSITIONS, MAX_STATES,
-    Options, ReadOptions, Sink, ToWrite, read_args, scan_made, scan_spec, scan_table, write_fault,
+    ArgsError, ByteReader, ByteWriter, FromBytes, Job, MAX_POSITIONS, MAX_STATES, Options,
+    ReadOptions, Sink, Tables, ToWrite, read_args, scan_made, scan_spec, scan_table, write_fault,
 };
 use std::io::ErrorKind;
 use std::process::ExitCode;
@@ -38,8 +38,8 @@ fn job_of(rt: &HostRuntime) -> Result<Job, ArgsError> {
 enum By<'a> {
     /// The text of a specification, and how it is read.
     Spec(&'a [u8], ReadOptions),
-    /// What was made of a specification.
-    Made(&'a Generated),
+    /// The tables that were made of a specification.
+    Made(&'a Tables),
     /// A table file.
     Table(&'a [u8]),
 }
@@ -58,7 +58,7 @@ fn scan(rt: &HostRuntime, by: By<'_>) -> Result<u8, Failure> {
                 &mut sink,
             )
         }
-        By::Made(made) => scan_made(rt.alloc(), made, &mut source, &mut sink),
+        By::Made(tables) => scan_made(rt.alloc(), tables, &mut source, &mut sink),
         By::Table(bytes) => scan_table(rt.alloc(), bytes, &mut source, &mut sink),
     };
     if result.is_err() {
@@ -117,7 +117,7 @@ fn run(rt: &HostRuntime) -> Result<u8, Failure> {
                 return scan(rt, By::Spec(text.as_slice(), options));
             }
             let made = make_with_warnings(rt, text.as_slice(), options_of(options))?;
-            scan(rt, By::Made(&made))
+            scan(rt, By::Made(&made.tables))
         }
         Job::ScanTable { file } => {
             let bytes = read_table_file(rt, file)?;

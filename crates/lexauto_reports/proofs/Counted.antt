@@ -20,7 +20,7 @@ walk_is p s n (b ∷ w) low =
     let e : min (min (n + 1) 2 + length w) 2 ≡ min (n + length (b ∷ w)) 2 = omega arith in
     ap (λ (x : ℕ). walk p x w) (step_is p s n b low) ∙ walk_is p (next p s b) (min (n + 1) 2) w m ∙ ap (λ (k : ℕ). 3 * after p (next p s b) w + k) e
 
-from_start : (p : Parts) (s : ℕ) (w : List ℕ) → walk p (3 * s) w ≡ 3 * after p s w + min (length w) 2
+pub from_start : (p : Parts) (s : ℕ) (w : List ℕ) → walk p (3 * s) w ≡ 3 * after p s w + min (length w) 2
 from_start p s w =
     let e : 3 * s ≡ 3 * s + 0 = omega arith in
     let n : min (0 + length w) 2 ≡ min (length w) 2 = omega arith in

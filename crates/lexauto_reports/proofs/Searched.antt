@@ -217,6 +217,7 @@ module _ (p : Parts) (words found : List (List ℕ)) (places : List (Option ℕ)
     all = u.sound.all;
     known = λ x j is. (let m = u.sound.placed x j is in (m.0, (u.sound.leads j x m.0 m.1).1));
     least = λ x w l. subst (λ y. IsPlaced words places y w) l.3 (walks l.0 [] (0, u.sound.starts l.0 l.1, inl u.sound.first) w l.2);
+    rising = u.sound.rising;
   }
 
 -- a state that is found leaves fewer

@@ -74,6 +74,7 @@ pub record AreFound (p : Parts) (words : List (List ℕ)) (places : List (Option
   pub all : length places ≡ 3 * states p
   pub known : (x j : ℕ) → place_of places x ≡ Some j → (j < length words) × LeadsTo p (at words j) x
   pub least : (x : ℕ) (w : List ℕ) → LeadsTo p w x → IsPlaced words places x w
+  pub rising : (i j : ℕ) → i < j → j < length words → Before (at words i) (at words j)
 
 -- Where the first i of some states go by a byte was looked at: those that had no place got the place n.
 pub record AreSeen (p : Parts) (from : List ℕ) (i b n : ℕ) (old places : List (Option ℕ)) (fresh : List ℕ) : Type 0 where

@@ -9,7 +9,7 @@ ghost use Rattle.lexauto_reports.specs.Searching.{words_of, AreFound};
 ghost use Rattle.lexauto_reports.specs.declared.backup.BackUp.{BackUp};
 
 use crate::backup::BackUp;
-use crate::search::{Found, search};
+use crate::search::{Found, first_words};
 use lexauto_dfa::{Dfa, OutOfMemory};
 use std::alloc::{AllocError, Global};
 
@@ -24,7 +24,7 @@ pub fn backing_up(alloc: Global, dfa: &Dfa) -> Result<Vec<BackUp>, OutOfMemory>
         → TableFor (machine_of dfa.now S) S → (s : ℕ)
         → Among (states_in v.items) s ↔ IsAfterBackWord (machine_of dfa.now S) S s) }
 {
-    let found = search(alloc, dfa)?;
+    let found = first_words(alloc, dfa)?;
     let entries = entries(alloc, dfa, &found)?;
     Ok(entries)
 }

@@ -5,7 +5,7 @@ ghost use Rattle.lexauto_reports.specs.Stretches.{AreWithin, AreWithin-prop};
 
 /// Where a word stands, and the states that it is the first to lead to.
 #[derive(Drop)]
-pub(crate) struct Group {
+pub struct Group {
     pub start: usize,
     pub end: usize,
     pub states: Vec<u32>,
@@ -13,7 +13,7 @@ pub(crate) struct Group {
 
 /// Groups in the order of their words, and the text of these.
 #[derive(Drop)]
-pub(crate) struct Groups {
+pub struct Groups {
     pub text: Vec<u8>,
     pub groups: Vec<Group>,
     ghost within: { AreWithin (length text.items) groups.items } by { AreWithin-prop (length text.items) groups.items },

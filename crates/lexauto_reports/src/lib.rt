@@ -13,7 +13,9 @@ mod writing;
 
 pub use backing::backing_up;
 pub use backup::{BackUp, write_backup};
+pub use groups::{Group, Groups};
 pub use merging::warnings;
-pub use useless::useless_rules;
+pub use search::{Found, first_words};
+pub use useless::{unset, useless_rules};
 pub use warned::{Warning, write_warnings};
 pub use writing::put_all;

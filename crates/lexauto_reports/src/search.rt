@@ -13,13 +13,13 @@ use std::alloc::{AllocError, Global};
 
 /// Groups in the order of their words, and for each state the place of the group that it is in.
 #[derive(Drop)]
-pub(crate) struct Found {
+pub struct Found {
     pub groups: Groups,
     pub places: Vec<Option<usize>>,
 }
 
-/// The states that are reached, each with its first word.
-pub(crate) fn search(alloc: Global, dfa: &Dfa) -> Result<Found, AllocError>
+/// The states that are reached, each with its first word. It takes memory for each group, its word and its states.
+pub fn first_words(alloc: Global, dfa: &Dfa) -> Result<Found, AllocError>
     ensures { IfOk result (λ f. AreFound dfa.now.parts (words_of f.groups) f.places.items) }
 {
     let mut places = vec![in alloc; None; 3 * dfa.len() as usize]?;

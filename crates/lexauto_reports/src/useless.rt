@@ -49,8 +49,8 @@ fn set(flags: &mut [bool], rules: &[u32])
     }
 }
 
-/// The places of the flags that are not set.
-fn unset(alloc: Global, flags: &[bool]) -> Result<Vec<u32>, AllocError>
+/// The places of the flags that are not set, ascending.
+pub fn unset(alloc: Global, flags: &[bool]) -> Result<Vec<u32>, AllocError>
     requires few { length flags.now < 2 ^ 32 }
     ensures ascending { IfOk result (λ v. Ascending v.items) }
     ensures unset { IfOk result (λ v. (i : ℕ)

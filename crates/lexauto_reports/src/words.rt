@@ -22,7 +22,7 @@ impl Groups {
     }
 
     /// The word of a group.
-    pub(crate) fn word(&self, place: usize) -> &[u8]
+    pub fn word(&self, place: usize) -> &[u8]
         requires { place < length (words_of self.now) }
         ensures { result.now ≡ at (words_of self.now) place }
     {

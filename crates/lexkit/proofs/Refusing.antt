@@ -9,8 +9,9 @@ use Rattle.lexauto_dfa.specs.declared.dfa.Dfa.{Dfa}
 use Rattle.lexspec.specs.Files.{SpellsSpec}
 use Rattle.lexspec.specs.Skipped.{AreSkipped}
 use Rattle.lexkit.specs.Headline.{BuildRefusal, IsWithin, ScansBy, reading}
-use Rattle.lexkit.specs.Generated.{SpecRefusal, IsLeastOf, MakesBy, Makes}
+use Rattle.lexkit.specs.Generated.{SpecRefusal, IsLeastOf, MakesBy, Makes, MakesTablesBy, MakesTables}
 use Rattle.lexkit.specs.declared.making.Generated.{Generated}
+use Rattle.lexkit.specs.declared.making.Made.{Made}
 use Rattle.lexkit.specs.declared.options.Options.{Options}
 use Rattle.lexkit.specs.declared.errors.GenError.{GenError}
 use Rattle.lexkit.specs.declared.errors.GenError.TheVariants as gens
@@ -38,3 +39,10 @@ made_of_text options text S skipped spells lines (Ok g) made = (S, spells, skipp
 made_of_text options text S skipped spells lines (Err (gens.Build e)) refused = (S, spells, refused)
 made_of_text options text S skipped spells lines (Err gens.OutOfMemory) refused = tt
 made_of_text options text S skipped spells lines (Err (gens.Spec e)) refused = absurd refused
+
+pub tables_of_text : (options : Options) (text : List ℕ) (S : Spec) (skipped : List ℕ) → SpellsSpec (reading options) text S → AreSkipped text skipped → (r : Result Made GenError) → MakesTablesBy options.limits S skipped r
+    → MakesTables options text r
+tables_of_text options text S skipped spells lines (Ok m) made = (S, spells, skipped, lines, made)
+tables_of_text options text S skipped spells lines (Err (gens.Build e)) refused = (S, spells, refused)
+tables_of_text options text S skipped spells lines (Err gens.OutOfMemory) refused = tt
+tables_of_text options text S skipped spells lines (Err (gens.Spec e)) refused = absurd refused

@@ -3,7 +3,7 @@
 use Rattle.std.specs.Prelude.{◌≡◌, ◌↔◌, ℕ, ◌≤◌, List, ◌++◌, length, map, Result, Ok, Err, ⊤}
 use Rattle.std.specs.List.Sorted.{IsPermutation}
 use Rattle.lex_semantics.specs.Text.{Ascending, Among}
-use Rattle.lex_semantics.specs.Spec.{Spec}
+use Rattle.lex_semantics.specs.Spec.{Spec, Rule}
 use Rattle.lex_semantics.specs.Sound.{IsSound}
 use Rattle.lex_semantics.specs.MachineLaws.{MachineLaws}
 use Rattle.lex_semantics.specs.TableFor.{TableFor}
@@ -21,6 +21,7 @@ use Rattle.lexauto_reports.specs.declared.backup.BackUp.{BackUp}
 use Rattle.lexauto_reports.specs.declared.warned.Warning.{Warning}
 use Rattle.lextab_packed.specs.Table.{Table}
 use Rattle.lextab_packed.specs.Views.{table_of}
+use Rattle.lextab_packed.specs.declared.tables.Tables.{Tables}
 use Rattle.lextab_packed.specs.Machines.{machine_of as table_machine}
 use Rattle.lextab_packing.specs.Packing.{IsPacked}
 use Rattle.lextab_packing.specs.Tables.{packing_in}
@@ -31,6 +32,7 @@ use Rattle.lexkit.specs.declared.options.Options.{Options}
 use Rattle.lexkit.specs.declared.errors.GenError.{GenError}
 use Rattle.lexkit.specs.declared.errors.GenError.TheVariants as gens
 use Rattle.lexkit.specs.declared.making.Generated.{Generated}
+use Rattle.lexkit.specs.declared.making.Made.{Made}
 use Rattle.lexkit.specs.declared.stats.Stats.{Stats}
 
 -- the least automaton of a specification, whose automaton had so many states before and is within the limits
@@ -49,6 +51,10 @@ abbrev pub SpecRefusal : Limits → Spec → GenError → Type 0
 SpecRefusal limits S (gens.Build e) = BuildRefusal limits S e
 SpecRefusal limits S gens.OutOfMemory = ⊤
 SpecRefusal limits S (gens.Spec e) = ⊥
+
+-- the line of the pattern of each rule
+abbrev pub lines_of : List Rule → List ℕ
+lines_of rules = map (λ r. r.line) rules
 
 -- the counts of the statistics
 pub record AreCounts (S : Spec) (subsets : ℕ) (t : Table) (z : Stats) : Type 0 where
@@ -73,15 +79,27 @@ pub record AreBackUps (d : Dfa) (S : Spec) (entries : List BackUp) : Type 0 wher
   pub states : (s : ℕ) → Among (states_in entries) s ↔ IsAfterBackWord (machine_of d S) S s
   pub words : (e : BackUp) → Among entries e → IsFirstWord d.parts e.state e.word.items
 
--- the packed tables of the least automaton, whose file is the canonical one, with warnings, back words and counts; `skipped` are the lines of skipped code
-pub record IsMadeOf (limits : Limits) (S : Spec) (skipped : List ℕ) (g : Generated) : Type 0 where
+-- the packed tables of the least automaton of a specification, whose file is the canonical one
+pub record AreTablesOf (limits : Limits) (S : Spec) (subsets : ℕ) (d : Dfa) (t : Tables) : Type 0 where
   pub sound : IsSound S
+  pub least : IsLeastOf limits S subsets d
+  pub packed : IsPacked (states_of d) (next_of d) (packing_in (table_of t.parts))
+  pub machine : table_machine t ≡ machine_of d S
+  pub canonical : IsCanonical S (file_of (table_of t.parts))
+
+-- such tables with the lines of the rules, warnings and counts; `skipped` are the lines of skipped code
+pub record AreMadeOf (limits : Limits) (S : Spec) (skipped : List ℕ) (subsets : ℕ) (d : Dfa) (m : Made) : Type 0 where
+  pub tables : AreTablesOf limits S subsets d m.tables
+  pub rule_lines : m.rule_lines.items ≡ lines_of S.rules
+  pub warnings : AreWarnings S skipped m.warnings.items
+  pub stats : AreCounts S subsets (table_of m.tables.parts) m.stats
+
+-- the same with the back words
+pub record IsMadeOf (limits : Limits) (S : Spec) (skipped : List ℕ) (g : Generated) : Type 0 where
   pub automaton : Dfa
   pub subsets : ℕ
-  pub least : IsLeastOf limits S subsets automaton
-  pub packed : IsPacked (states_of automaton) (next_of automaton) (packing_in (table_of g.tables.parts))
-  pub machine : table_machine g.tables ≡ machine_of automaton S
-  pub canonical : IsCanonical S (file_of (table_of g.tables.parts))
+  pub tables : AreTablesOf limits S subsets automaton g.tables
+  pub rule_lines : g.rule_lines.items ≡ lines_of S.rules
   pub warnings : AreWarnings S skipped g.warnings.items
   pub backup : AreBackUps automaton S g.backup.items
   pub stats : AreCounts S subsets (table_of g.tables.parts) g.stats
@@ -91,7 +109,19 @@ abbrev pub MakesBy : Limits → Spec → List ℕ → Result Generated GenError 
 MakesBy limits S skipped (Ok g) = IsMadeOf limits S skipped g
 MakesBy limits S skipped (Err e) = SpecRefusal limits S e
 
+abbrev pub MakesTablesBy : Limits → Spec → List ℕ → Result Made GenError → Type 0
+MakesTablesBy limits S skipped (Ok m) = (automaton : Dfa) × (subsets : ℕ) × AreMadeOf limits S skipped subsets automaton m
+MakesTablesBy limits S skipped (Err e) = SpecRefusal limits S e
+
 -- what is made of a text
 abbrev pub Makes : Options → List ℕ → Result Generated GenError → Type 0
 Makes options text (Ok g) = (S : Spec) × SpellsSpec (reading options) text S × (skipped : List ℕ) × AreSkipped text skipped × IsMadeOf options.limits S skipped g
 Makes options text (Err e) = Refusal options text e
+
+abbrev pub MakesTables : Options → List ℕ → Result Made GenError → Type 0
+MakesTables options text (Ok m) = (S : Spec) × SpellsSpec (reading options) text S × (skipped : List ℕ) × AreSkipped text skipped × MakesTablesBy options.limits S skipped (Ok m)
+MakesTables options text (Err e) = Refusal options text e
+
+-- the tables are those of the specification that the text spells
+abbrev pub HasTables : Options → List ℕ → Tables → Type 0
+HasTables options text t = (S : Spec) × SpellsSpec (reading options) text S × (automaton : Dfa) × (subsets : ℕ) × AreTablesOf options.limits S subsets automaton t

@@ -8,5 +8,7 @@ pub mod ScanCounts
 pub mod Canonical
 pub mod Generated
 pub mod FileScans
+pub mod Filtered
+pub mod TextTokens
 pub mod Statistics
 pub mod Counting

@@ -5,9 +5,11 @@ ghost use Rattle.lex_semantics.specs.SameRules.{SameRules};
 ghost use Rattle.lexkit.specs.Canonical.{IsCanonical};
 ghost use Rattle.lexkit.specs.CommandExamples.{AsksForA, Making, Nothing, ScanningBy};
 ghost use Rattle.lexkit.specs.FileScans.{FileScans};
+ghost use Rattle.lexkit.specs.TextTokens.{TextTokens};
 
 use lex_semantics::same_rules_answers;
 use lexauto::one_automaton;
+use lexscan_tokens::table_tokens;
 use lextab::one_table;
 use lextab_packing::{one_packing, packing_of_same_moves};
 
@@ -27,6 +29,14 @@ pub fn file_scans()
     ensures { FileScans }
 {
     one_table();
+}
+
+/// The tokens by the tables that are made of a text are those of the specification that the text spells, and the lines of its rules
+/// are told.
+pub fn text_tokens()
+    ensures { TextTokens }
+{
+    table_tokens();
 }
 
 /// What some command lines ask for.

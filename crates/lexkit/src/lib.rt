@@ -15,7 +15,7 @@ mod stats;
 pub use args::{ArgsError, Job, read_args};
 pub use errors::{GenError, ScanError};
 pub use faults::{Fault, write_fault};
-pub use laws::{command_lines, file_scans, one_file};
+pub use laws::{command_lines, file_scans, one_file, text_tokens};
 pub use lex_semantics::{MAX_FILE_BYTES, MAX_POSITIONS, MAX_STATES};
 pub use lexauto::{BackUp, BuildError, Limits};
 pub use lexauto_reports::{Warning, write_backup, write_warnings};
@@ -23,15 +23,15 @@ pub use lexscan::{
     ByteReader, Candidate, FromBytes, FromRead, Match, MatchedRule, MemorySource, ReadFault,
     RunError, Scanner, Source, Turn, Window, accepted, longest, run,
 };
-pub use lexscan_tokens::{Token, tokens};
+pub use lexscan_tokens::{Token, table_tokens, texts_of, tokens};
 pub use lexspec::{
-    PatternError, PatternErrorKind, ReadOptions, Spec, SpecError, SpecErrorKind, read_spec,
+    PatternError, PatternErrorKind, ReadOptions, Rule, Spec, SpecError, SpecErrorKind, read_spec,
 };
 pub use lextab::{
     ByteWriter, Cut, EndAction, Flat, Machine, MemorySink, Plain, Sink, Statement, TableError,
     Tables, ToWrite, WriteFault, read_tables, write_tables,
 };
-pub use making::{Generated, generate};
+pub use making::{Generated, Made, generate, generate_tables, lines_of};
 pub use options::Options;
-pub use scan::{scan_made, scan_spec, scan_table};
+pub use scan::{scan_by, scan_made, scan_spec, scan_table};
 pub use stats::{Stats, write_stats};

@@ -1,7 +1,11 @@
 //! What is made of the text of a specification.
-ghost use Rattle.std.specs.Prelude.{◌≡◌, ◌≤◌, IfOk, IfErr};
+ghost use Rattle.std.specs.Prelude.{◌≡◌, ◌≤◌, IfOk, IfErr, map};
+ghost use Rattle.lexspec.specs.Files.{SpellsSpec};
+ghost use Rattle.lexspec.specs.RuleViews.{rule_of};
+ghost use Rattle.lexspec.specs.Skipped.{AreSkipped};
 ghost use Rattle.lexspec.specs.Views.{spec_of, skipped_in};
-ghost use Rattle.lexkit.specs.Generated.{IsLeastOf, IsMadeOf, SpecRefusal, MakesBy, Makes};
+ghost use Rattle.lexkit.specs.Headline.{Refusal, reading};
+ghost use Rattle.lexkit.specs.Generated.{lines_of, AreMadeOf, IsLeastOf, IsMadeOf, SpecRefusal, MakesBy, MakesTablesBy, Makes, MakesTables};
 ghost use Rattle.lex_semantics.specs.Limits.{max_positions, max_states};
 
 use crate::errors::GenError;
@@ -9,20 +13,34 @@ use crate::options::Options;
 use crate::stats::{Stats, stats_of};
 use lexauto::{BackUp, Dfa, Limits, OutOfMemory, backing_up, build, minimise, useless_rules};
 use lexauto_reports::{Warning, warnings};
-use lexspec::{ReadOptions, Spec, read_spec, tested_specifications};
+use lexspec::{ReadOptions, Rule, Spec, SpecError, read_spec, tested_specifications};
 use lextab::{Tables, pack};
-use std::alloc::Global;
+use std::alloc::{AllocError, Global};
 
 /// What is made of a specification.
 #[derive(Drop)]
 pub struct Generated {
     /// The packed tables of its least automaton.
     pub tables: Tables,
+    /// The line of each rule's pattern, from 1, in the order of the file.
+    pub rule_lines: Vec<u32>,
     /// Skipped code and rules that cannot be matched, in order of line.
     pub warnings: Vec<Warning>,
     pub stats: Stats,
     /// The states that back up, ascending, each with its first word.
     pub backup: Vec<BackUp>,
+}
+
+/// What is made of a specification but for the states that back up.
+#[derive(Drop)]
+pub struct Made {
+    /// The packed tables of its least automaton.
+    pub tables: Tables,
+    /// The line of each rule's pattern, from 1, in the order of the file.
+    pub rule_lines: Vec<u32>,
+    /// Skipped code and rules that cannot be matched, in order of line.
+    pub warnings: Vec<Warning>,
+    pub stats: Stats,
 }
 
 /// The least automaton of a specification.
@@ -41,21 +59,58 @@ pub fn generate(alloc: Global, text: &[u8], options: Options) -> Result<Generate
     requires few_states { options.limits.states ≤ max_states }
     ensures { Makes options text.now result }
 {
-    let read = ReadOptions {
-        fold: options.fold,
-        posix: options.posix,
-    };
-    let spec = match read_spec(alloc, text, read) {
+    let spec = match read(alloc, text, options) {
         Err(error) => return Err(GenError::Spec(error)),
         Ok(spec) => spec,
     };
     generate_by(alloc, &spec, options.limits)
 }
 
+/// Makes of a text what `generate` does, but for the states that back up: they are not looked for. It refuses the same texts.
+pub fn generate_tables(alloc: Global, text: &[u8], options: Options) -> Result<Made, GenError>
+    requires few_positions { options.limits.positions ≤ max_positions }
+    requires few_states { options.limits.states ≤ max_states }
+    ensures { MakesTables options text.now result }
+{
+    let spec = match read(alloc, text, options) {
+        Err(error) => return Err(GenError::Spec(error)),
+        Ok(spec) => spec,
+    };
+    tables_by(alloc, &spec, options.limits)
+}
+
+/// Reads a specification.
+fn read(alloc: Global, text: &[u8], options: Options) -> Result<Spec, SpecError>
+    ensures found { IfOk result (λ s. SpellsSpec (reading options) text.now (spec_of s)) }
+    ensures skipped { IfOk result (λ s. AreSkipped text.now (skipped_in s)) }
+    ensures none { IfErr result (λ e. Refusal options text.now (GenError.Spec e)) }
+{
+    let read = ReadOptions {
+        fold: options.fold,
+        posix: options.posix,
+    };
+    read_spec(alloc, text, read)
+}
+
 fn generate_by(alloc: Global, spec: &Spec, limits: Limits) -> Result<Generated, GenError>
     requires few_positions { limits.positions ≤ max_positions }
     requires few_states { limits.states ≤ max_states }
     ensures { MakesBy limits (spec_of spec.now) (skipped_in spec.now) result }
+{
+    let least = match least_automaton(alloc, spec, limits) {
+        Err(error) => return Err(error),
+        Ok(least) => least,
+    };
+    match all_of(alloc, spec, limits, &least) {
+        Err(_) => Err(GenError::OutOfMemory),
+        Ok(all) => Ok(all),
+    }
+}
+
+fn tables_by(alloc: Global, spec: &Spec, limits: Limits) -> Result<Made, GenError>
+    requires few_positions { limits.positions ≤ max_positions }
+    requires few_states { limits.states ≤ max_states }
+    ensures { MakesTablesBy limits (spec_of spec.now) (skipped_in spec.now) result }
 {
     let least = match least_automaton(alloc, spec, limits) {
         Err(error) => return Err(error),
@@ -87,8 +142,39 @@ pub(crate) fn least_automaton(alloc: Global, spec: &Spec, limits: Limits) -> Res
     }
 }
 
-/// The reports and tables of a least automaton.
-fn made_of(
+/// The lines of rules in the file.
+pub fn lines_of(alloc: Global, rules: &[Rule]) -> Result<Vec<u32>, AllocError>
+    ensures { IfOk result (λ lines. lines.items ≡ lines_of (map rule_of rules.now)) }
+{
+    let mut lines = Vec::new(alloc);
+    for rule in rules {
+        lines.push(rule.line)?;
+    }
+    Ok(lines)
+}
+
+/// The tables of a least automaton, and the reports but for that of states that back up.
+fn made_of(alloc: Global, spec: &Spec, limits: Limits, least: &Least) -> Result<Made, OutOfMemory>
+    requires least { IsLeastOf limits (spec_of spec.now) least.now.subsets least.now.automaton }
+    ensures { IfOk result (AreMadeOf limits (spec_of spec.now) (skipped_in spec.now) least.now.subsets
+        least.now.automaton) }
+{
+    tested_specifications();
+    let useless = useless_rules(alloc, spec, &least.automaton)?;
+    let rule_lines = lines_of(alloc, spec.rules())?;
+    let warnings = warnings(alloc, spec, &useless)?;
+    let tables = pack(alloc, &least.automaton, spec)?;
+    let stats = stats_of(spec, limits, least.subsets, &tables);
+    Ok(Made {
+        tables,
+        rule_lines,
+        warnings,
+        stats,
+    })
+}
+
+/// The tables of a least automaton, and all reports.
+fn all_of(
     alloc: Global,
     spec: &Spec,
     limits: Limits,
@@ -97,14 +183,16 @@ fn made_of(
     requires least { IsLeastOf limits (spec_of spec.now) least.now.subsets least.now.automaton }
     ensures { IfOk result (IsMadeOf limits (spec_of spec.now) (skipped_in spec.now)) }
 {
-    tested_specifications();
-    let useless = useless_rules(alloc, spec, &least.automaton)?;
-    let warnings = warnings(alloc, spec, &useless)?;
     let backup = backing_up(alloc, &least.automaton)?;
-    let tables = pack(alloc, &least.automaton, spec)?;
-    let stats = stats_of(spec, limits, least.subsets, &tables);
+    let Made {
+        tables,
+        rule_lines,
+        warnings,
+        stats,
+    } = made_of(alloc, spec, limits, least)?;
     Ok(Generated {
         tables,
+        rule_lines,
         warnings,
         stats,
         backup,

@@ -3,18 +3,18 @@ ghost use Rattle.std.specs.Prelude.{◌≡◌, ℕ, ◌+◌, ◌-◌, ◌^◌, �
 ghost use Rattle.lexspec.specs.Views.{spec_of};
 ghost use Rattle.lexscan.specs.declared.error.RunError.TheVariants.{Failed};
 ghost use Rattle.lexkit.specs.Headline.{Headline, ScansBy, TableHeadline};
-ghost use Rattle.lexkit.specs.Generated.{Makes};
+ghost use Rattle.lexkit.specs.Generated.{HasTables};
 ghost use Rattle.lexkit.specs.declared.options.Options.{Options as Asked};
 ghost use Rattle.lexkit.specs.ScanCounts.{HandedOn, read_fault_count, write_fault_count};
 ghost use Rattle.lex_semantics.specs.Limits.{max_positions, max_states};
 
 use crate::errors::{GenError, ScanError};
-use crate::making::{Generated, least_automaton};
+use crate::making::least_automaton;
 use crate::options::Options;
 use lexauto::Limits;
 use lexscan::{Source, run};
 use lexspec::{ReadOptions, Spec, read_spec};
-use lextab::{Flat, Sink, TableError, pack, read_tables};
+use lextab::{Flat, Sink, TableError, Tables, pack, read_tables};
 use std::alloc::Global;
 
 /// How many reads a scan makes at most: 2^40.
@@ -56,8 +56,9 @@ pub fn scan_spec<S: Source, K: Sink>(
     scan_by(alloc, &spec, options.limits, source, sink)
 }
 
-/// Scans the source by a specification: makes its tables, and runs the scanner over them.
-fn scan_by<S: Source, K: Sink>(
+/// Scans the source by a specification, as `scan_spec` does by its text: makes its tables, and runs the scanner over them. One
+/// whose automaton passes the limits is refused, and then neither the source nor the sink is touched.
+pub fn scan_by<S: Source, K: Sink>(
     alloc: Global,
     spec: &Spec,
     limits: Limits,
@@ -96,18 +97,18 @@ fn scan_by<S: Source, K: Sink>(
     }
 }
 
-/// Scans the source by what `generate` made of a text, and writes to the sink, as `scan_spec` does by the text: the tables are
+/// Scans the source by the tables that were made of a text, and writes to the sink, as `scan_spec` does by the text: they are
 /// not made once more. Out of memory in laying them flat comes before the source or the sink is touched.
 pub fn scan_made<S: Source, K: Sink>(
     alloc: Global,
-    made: &Generated,
+    tables: &Tables,
     source: &mut S,
     sink: &mut K,
 ) -> Result<u8, ScanError>
     requires few_ends { S.ends source.old < 2 ^ 64 - 1 }
     requires few_read_faults { S.failures source.old < 2 ^ 64 - 1 }
     requires few_write_faults { K.failures sink.old < 2 ^ 64 - 1 }
-    ensures told { (options : Asked) (text : List ℕ) → Makes options text (Ok made.now) → Headline S.gave K.wrote options text
+    ensures told { (options : Asked) (text : List ℕ) → HasTables options text tables.now → Headline S.gave K.wrote options text
         (nat_lt (S.ends source.old) (S.ends source.new)) source.old source.new sink.old sink.new result }
     ensures read_faults { S.failures source.new ≡ S.failures source.old + read_fault_count result }
     ensures write_faults { K.failures sink.new ≡ K.failures sink.old + write_fault_count result }
@@ -116,7 +117,7 @@ pub fn scan_made<S: Source, K: Sink>(
     ensures not_failed { IsErrOf result (ScanError.Run Failed) → ⊥ }
     ensures handed_on { HandedOn (K.flushed sink.new) result }
 {
-    let laid = match Flat::new(alloc, &made.tables) {
+    let laid = match Flat::new(alloc, tables) {
         Err(_) => return Err(ScanError::Generate(GenError::OutOfMemory)),
         Ok(laid) => laid,
     };

@@ -1,7 +1,7 @@
 -- What is told of a failure of the program. (This project's.)
 use Rattle.std.specs.Prelude.{◌≡◌, string_bytes}
 use Rattle.lexlook.specs.declared.failure.Failure.{Failure}
-use Rattle.lexlook.specs.declared.failure.Failure.TheVariants.{Args, Look, File, Output}
+use Rattle.lexlook.specs.declared.failure.Failure.TheVariants.{Args, Look, Scan, File, Output}
 use Rattle.lexlook_calls.specs.declared.error.LookError.{LookError}
 use Rattle.lexlook_calls.specs.declared.error.LookError.TheVariants as looks
 use Rattle.lexkit.specs.declared.errors.GenError.TheVariants as gens
@@ -23,6 +23,7 @@ told_of_look looks.Write = faults.Output
 abbrev pub Tells : Failure → Fault → Type 0
 Tells (Args e) fault = fault ≡ faults.Args e
 Tells (Look e) fault = fault ≡ told_of_look e
+Tells (Scan e) fault = fault ≡ faults.Scan e
 Tells (File name) (faults.File told) = told.now ≡ string_bytes name
 Tells (File name) other = ⊥
 Tells Output fault = fault ≡ faults.Output

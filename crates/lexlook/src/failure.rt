@@ -11,6 +11,7 @@ use std::alloc::AllocError;
 pub enum Failure {
     Args(ArgsError),
     Look(LookError),
+    Scan(ScanError),
     File(String),
     Output,
 }
@@ -23,6 +24,7 @@ impl Failure {
         match self {
             Failure::Args(error) => Fault::Args(*error),
             Failure::Look(error) => fault_of_look(*error),
+            Failure::Scan(error) => Fault::Scan(*error),
             Failure::File(name) => Fault::File(name.as_str()),
             Failure::Output => Fault::Output,
         }
@@ -58,6 +60,16 @@ impl From<LookError> for Failure {
 
     fn from(error: LookError) -> Failure {
         Failure::Look(error)
+    }
+}
+
+impl From<ScanError> for Failure {
+    ghost use Rattle.lexlook.specs.declared.failure.Failure.{Failure};
+
+    ghost from_gives = { λ error failure. failure ≡ Failure.Scan error };
+
+    fn from(error: ScanError) -> Failure {
+        Failure::Scan(error)
     }
 }
 

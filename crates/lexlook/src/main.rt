@@ -9,9 +9,12 @@ mod reading;
 use crate::failure::Failure;
 use crate::reading::{read_compared_file, read_spec_file};
 use lexkit::{
-    ArgsError, ByteWriter, MAX_POSITIONS, MAX_STATES, Options, Sink, ToWrite, write_fault,
+    ArgsError, ByteReader, ByteWriter, FromBytes, MAX_POSITIONS, MAX_STATES, Options, Sink,
+    ToWrite, write_fault,
 };
-use lexlook_calls::{Given, Look, draw, read_args, tell_lines, tell_same, write_help};
+use lexlook_calls::{
+    Given, Look, draw, read_args, tell_lines, tell_same, tell_words, trace, write_help,
+};
 use std::io::ErrorKind;
 use std::process::ExitCode;
 use std::{env, io};
@@ -64,6 +67,17 @@ fn show_picture(rt: &HostRuntime, text: &[u8], options: Options) -> Result<(), F
     Ok(())
 }
 
+/// Writes to standard output the texts that the rules of a specification take.
+fn show_words(rt: &HostRuntime, text: &[u8], options: Options) -> Result<(), Failure>
+    requires few_positions { options.limits.positions ≤ MAX_POSITIONS }
+    requires few_states { options.limits.states ≤ MAX_STATES }
+{
+    let mut sink = ToWrite::new(ByteWriter::new(rt.alloc(), io::writer(rt))?);
+    tell_words(rt.alloc(), text, options, &mut sink)?;
+    sink.flush()?;
+    Ok(())
+}
+
 /// Says on standard output what two files do not do the same.
 fn show_same(
     rt: &HostRuntime,
@@ -102,6 +116,21 @@ fn show_lines(rt: &HostRuntime, name: &str, options: Options) -> Result<ExitCode
     Ok(status_of(may))
 }
 
+/// Writes a line for each match of a scan of standard input. It is flushed before a read that may wait.
+fn show_trace(rt: &HostRuntime, text: &[u8], options: Options) -> Result<ExitCode, Failure>
+    requires few_positions { options.limits.positions ≤ MAX_POSITIONS }
+    requires few_states { options.limits.states ≤ MAX_STATES }
+{
+    let mut source = FromBytes::new(ByteReader::new(rt.alloc(), rt.reader())?);
+    let mut sink = ToWrite::new(ByteWriter::new(rt.alloc(), io::writer(rt))?);
+    let result = trace(rt.alloc(), text, options, &mut source, &mut sink);
+    if result.is_err() {
+        // What was written before the fault is still to be seen, and the fault is reported in any case.
+        let _ = sink.flush();
+    }
+    Ok(ExitCode::from(result?))
+}
+
 /// The status of an answer: 0 for yes, 1 for no.
 fn status_of(yes: bool) -> ExitCode {
     if yes {
@@ -118,6 +147,10 @@ fn run(rt: &HostRuntime) -> Result<ExitCode, Failure> {
             let text = read_spec_file(rt, file)?;
             show_picture(rt, text.as_slice(), options_of(fold, posix))?;
         }
+        Look::Words { file, fold, posix } => {
+            let text = read_spec_file(rt, file)?;
+            show_words(rt, text.as_slice(), options_of(fold, posix))?;
+        }
         Look::Same {
             left,
             right,
@@ -126,6 +159,10 @@ fn run(rt: &HostRuntime) -> Result<ExitCode, Failure> {
         } => return show_same(rt, left.as_str(), right.as_str(), options_of(fold, posix)),
         Look::Lines { file, fold, posix } => {
             return show_lines(rt, file.as_str(), options_of(fold, posix));
+        }
+        Look::Trace { file, fold, posix } => {
+            let text = read_spec_file(rt, file)?;
+            return show_trace(rt, text.as_slice(), options_of(fold, posix));
         }
     }
     Ok(ExitCode::SUCCESS)

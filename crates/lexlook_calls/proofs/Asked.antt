@@ -8,7 +8,7 @@ use Rattle.lexkit.specs.Refusal.{refusal_of}
 use Rattle.lexkit.specs.declared.args.ArgsError.TheVariants.{Usage}
 use Rattle.lexlook_calls.specs.LookLine.{AsksFor, IsLookOf, has_help, lexlook_app}
 use Rattle.lexlook_calls.specs.declared.args.Look.{Look}
-use Rattle.lexlook_calls.specs.declared.args.Look.TheVariants.{Help, Picture, Same, Lines}
+use Rattle.lexlook_calls.specs.declared.args.Look.TheVariants.{Help, Picture, Same, Lines, Words, Trace}
 
 lexlook_is_simple : is_simple lexlook_app ≡ true
 lexlook_is_simple = refl
@@ -24,7 +24,9 @@ no_help_look : (r : Option (Text × List Row)) → IsLookOf r Help → ⊥
 no_help_look None h = h
 no_help_look (Some p) (inl h) = h.1
 no_help_look (Some p) (inr (inl h)) = h.1
-no_help_look (Some p) (inr (inr h)) = h.1
+no_help_look (Some p) (inr (inr (inl h))) = h.1
+no_help_look (Some p) (inr (inr (inr (inl h)))) = h.1
+no_help_look (Some p) (inr (inr (inr (inr h)))) = h.1
 
 rows_are : (words : List Text) (a : App) (m : ArgMatches) → a ≡ lexlook_app → HasMatchesOf a words m → subcommand_rows_of m ≡ subcommand_of lexlook_app words
 rows_are words a m is matches = (matches (ap is_simple is ∙ lexlook_is_simple)).1 ∙ ap (λ (b : App). subcommand_of b words) is
@@ -48,6 +50,16 @@ asked_by words a m (Lines file folds series) is plain matches fault h = (
   ap (λ (b : App). fault_of b words) (sym is) ∙ fault,
   subst (λ (r : Option (Text × List Row)). IsLookOf r (Lines file folds series)) (rows_are words a m is matches) h,
 )
+asked_by words a m (Words file folds series) is plain matches fault h = (
+  plain,
+  ap (λ (b : App). fault_of b words) (sym is) ∙ fault,
+  subst (λ (r : Option (Text × List Row)). IsLookOf r (Words file folds series)) (rows_are words a m is matches) h,
+)
+asked_by words a m (Trace file folds series) is plain matches fault h = (
+  plain,
+  ap (λ (b : App). fault_of b words) (sym is) ∙ fault,
+  subst (λ (r : Option (Text × List Row)). IsLookOf r (Trace file folds series)) (rows_are words a m is matches) h,
+)
 
 -- and what the words ask for is what the matches ask for
 pub asks_by : (words : List Text) (a : App) (m : ArgMatches) (look : Look) → a ≡ lexlook_app → has_help words ≡ false
@@ -59,12 +71,18 @@ asks_by words a m (Same left right folds series) is plain matches h =
     subst (λ (r : Option (Text × List Row)). IsLookOf r (Same left right folds series)) (sym (rows_are words a m is matches)) h.2
 asks_by words a m (Lines file folds series) is plain matches h =
     subst (λ (r : Option (Text × List Row)). IsLookOf r (Lines file folds series)) (sym (rows_are words a m is matches)) h.2
+asks_by words a m (Words file folds series) is plain matches h =
+    subst (λ (r : Option (Text × List Row)). IsLookOf r (Words file folds series)) (sym (rows_are words a m is matches)) h.2
+asks_by words a m (Trace file folds series) is plain matches h =
+    subst (λ (r : Option (Text × List Row)). IsLookOf r (Trace file folds series)) (sym (rows_are words a m is matches)) h.2
 
 none_fault : (words : List Text) (a : App) (look : Look) → a ≡ lexlook_app → has_help words ≡ false → AsksFor words look → fault_of a words ≡ []
 none_fault words a Help is plain h = absurd (clash (has_help words) h plain)
 none_fault words a (Picture file folds series) is plain h = ap (λ (b : App). fault_of b words) is ∙ h.1
 none_fault words a (Same left right folds series) is plain h = ap (λ (b : App). fault_of b words) is ∙ h.1
 none_fault words a (Lines file folds series) is plain h = ap (λ (b : App). fault_of b words) is ∙ h.1
+none_fault words a (Words file folds series) is plain h = ap (λ (b : App). fault_of b words) is ∙ h.1
+none_fault words a (Trace file folds series) is plain h = ap (λ (b : App). fault_of b words) is ∙ h.1
 
 -- words that are refused as no line of the program's ask for nothing
 pub asks_for_none : (words : List Text) (a : App) (e : Error) (look : Look) → a ≡ lexlook_app → has_help words ≡ false → HasKind (fault_of a words) e

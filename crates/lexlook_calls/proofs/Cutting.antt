@@ -1,5 +1,5 @@
 -- What stands against cuts has names and lines.
-use Rattle.std.proofs.Common.{◌≡◌, ℕ, ◌<◌, List, [], Bool, Result, Ok, Err, Option, Some, None, length, sym, subst, ap, arith}
+use Rattle.std.proofs.Common.{ℕ, ◌<◌, List, Bool, Result, Ok, Err, Option, Some, None, arith}
 use Rattle.std.specs.Prelude.{IfSome}
 use Rattle.lex_semantics.specs.Spec.{Spec}
 use Rattle.lex_semantics.specs.Machine.{Machine}

@@ -4,3 +4,9 @@ pub mod Asked
 pub mod Drawn
 pub mod SamePictures
 pub mod Cutting
+pub mod SameFiles
+pub mod Matching
+pub mod Alike
+pub mod Shown
+pub mod Traced
+pub mod Subcommands

@@ -7,7 +7,7 @@ use Rattle.lex_semantics.specs.Text.{IsText}
 use Rattle.lex_semantics.specs.Spec.{Spec}
 use Rattle.lexauto_dfa.specs.Invariant.{IsAutomaton}
 use Rattle.lexauto_dfa.specs.Machines.{moving}
-use Rattle.lexauto_dfa.specs.Parts.{conditions, start, next, accepts, after, lists_in}
+use Rattle.lexauto_dfa.specs.Parts.{conditions, start, accepts, after, lists_in}
 use Rattle.lexauto_dfa.specs.declared.dfa.Dfa.{Dfa}
 use Rattle.lexauto_dfa.specs.declared.dfa.Parts.{Parts}
 use Rattle.lexauto_minimise.specs.Least.{AcceptsAs, AreSame, OneAutomaton}

@@ -1,6 +1,6 @@
 -- Conditions that are paired, and rules that have lines.
-use Rattle.std.proofs.Common.{◌⊎◌, ◌++◌, zero, suc, get_or, refl, inl, inr, Bool, true, false, ◌∷◌, take, ◌≡◌, ℕ, ◌<◌, ◌∙◌, List, [], length, map, ap, sym, subst, Some, None, Option, arith}
-use Rattle.std.specs.Prelude.{slice_get, IfSome}
+use Rattle.std.proofs.Common.{◌++◌, zero, suc, get_or, refl, inl, inr, Bool, true, false, ◌∷◌, take, ◌≡◌, ℕ, ◌<◌, ◌∙◌, List, [], length, ap, sym, subst, Some, None, Option, arith}
+use Rattle.std.specs.Prelude.{IfSome}
 use Rattle.std.proofs.lemmas.List.{length-map}
 use Rattle.std.proofs.lemmas.Option.{slice_get_within}
 use Rattle.lex_semantics.specs.Spec.{Spec, Condition}
@@ -12,7 +12,7 @@ use Rattle.lexlook_same.specs.Same.{number_in, rules_at}
 use Rattle.lexlook_same.proofs.Lists.{some_at}
 use Rattle.lexlook_calls.specs.Looks.{names_of}
 use Rattle.lexlook_calls.specs.Lines.{Side, IsLabelled}
-use Rattle.lexlook_calls.specs.Naming.{AreNamed, ArePaired}
+use Rattle.lexlook_calls.specs.Naming.{ArePaired}
 use Rattle.lexlook_calls.specs.Sides.{StandsFor}
 
 -- what a file stands for has a name for each condition, and a line for each rule

@@ -6,3 +6,6 @@ pub mod Naming
 pub mod Lines
 pub mod Compared
 pub mod Cuts
+pub mod SameFiles
+pub mod Words
+pub mod Tracing

@@ -10,7 +10,8 @@ use Rattle.lexlook_same.specs.declared.differing.Difference.{Difference}
 use Rattle.lexlook_same.specs.declared.tables.Comparison.{Comparison}
 use Rattle.lexlook_same.specs.declared.tables.Comparison.TheVariants.{Same, Conditions, Ends, Texts}
 use Rattle.lextab_packed.specs.Machines.{machine_of}
-use Rattle.lexlook_calls.specs.Looks.{lines_of, names_of}
+use Rattle.lexkit.specs.Generated.{lines_of}
+use Rattle.lexlook_calls.specs.Looks.{names_of}
 use Rattle.lexlook_calls.specs.Sides.{read_as}
 use Rattle.lexlook_calls.specs.declared.sides.Side.{Side as Made}
 

@@ -1,11 +1,11 @@
 -- What is shown of a specification. (This project's.)
 use Rattle.std.specs.Prelude.{◌≡◌, ℕ, List, map, Result, Ok, Err}
 use Rattle.lex_io.specs.Sink.{Appended}
-use Rattle.lex_semantics.specs.Spec.{Spec, Condition, Rule}
+use Rattle.lex_semantics.specs.Spec.{Spec, Condition}
 use Rattle.lexspec.specs.Files.{SpellsSpec}
 use Rattle.lexauto_dfa.specs.declared.dfa.Dfa.{Dfa}
 use Rattle.lexauto.specs.declared.subsets.Limits.{Limits}
-use Rattle.lexkit.specs.Generated.{IsLeastOf}
+use Rattle.lexkit.specs.Generated.{lines_of, IsLeastOf}
 use Rattle.lexkit.specs.Headline.{Refusal, reading}
 use Rattle.lexkit.specs.declared.options.Options.{Options}
 use Rattle.lexlook_pictures.specs.Pictures.{picture}
@@ -14,10 +14,6 @@ use Rattle.lexlook_calls.specs.declared.error.LookError.TheVariants.{Refused, Ta
 
 abbrev pub names_of : List Condition → List (List ℕ)
 names_of conditions = map (λ c. c.name) conditions
-
--- the lines of rules in the file
-abbrev pub lines_of : List Rule → List ℕ
-lines_of rules = map (λ r. r.line) rules
 
 -- the picture of an automaton, with the names and lines of a specification
 abbrev pub picture_of : Dfa → Spec → List ℕ

@@ -1,5 +1,5 @@
 -- What a file that is compared stands for. (This project's.)
-use Rattle.std.specs.Prelude.{◌≡◌, ◌==◌, ℕ, Bool, true, false, List, [], ◌∷◌, ◌++◌, length, Option, Some, None, option_map, ⊤}
+use Rattle.std.specs.Prelude.{◌≡◌, ◌==◌, ℕ, Bool, true, false, List, [], ◌∷◌, ◌++◌, Option, Some, None, option_map, ⊤}
 use Rattle.std.specs.List.{starts_with}
 use Rattle.lex_semantics.specs.Text.{flag}
 use Rattle.lex_semantics.specs.Spec.{Spec}

@@ -1,9 +1,9 @@
 //! What a command line asks for.
 ghost use Rattle.std.specs.Prelude.{◌≡◌, ◌⊎◌, IfErr, IfOk, None, Some, codes, false, map, option_map, string_bytes};
-ghost use Rattle.clap.specs.Words.{app_of, first_of, found_of, rows_of, rule_of, subcommand_rows_of};
+ghost use Rattle.clap.specs.Words.{app_of, first_of, found_of, rows_of, rule_of, subcommand_rows_of, with_subcommand};
 ghost use Rattle.lexkit.specs.CommandLine.{flag_rule, has};
-ghost use Rattle.lexlook_calls.specs.LookLine.{AsksFor, AsksToCompare, AsksToCut, AsksToDraw, IsLookOf};
-ghost use Rattle.lexlook_calls.specs.LookLine.{has_help, lexlook_app, lines_app, needed_rule, picture_app, same_app};
+ghost use Rattle.lexlook_calls.specs.LookLine.{AsksFor, AsksToCompare, AsksToCut, AsksToDraw, AsksToFind, AsksToTrace, IsLookOf};
+ghost use Rattle.lexlook_calls.specs.LookLine.{file_app, has_help, lexlook_app, needed_rule, same_app};
 
 use clap::{Arg, ArgAction, ArgMatches, Command};
 use lexkit::ArgsError;
@@ -39,10 +39,26 @@ pub enum Look {
         /// Intervals apply to series.
         posix: bool,
     },
+    /// The texts that the rules of the specification in this file take. `-` is standard input.
+    Words {
+        file: String,
+        /// Letters of patterns stand for both cases.
+        fold: bool,
+        /// Intervals apply to series.
+        posix: bool,
+    },
+    /// The lines of the matches of a scan by the specification in this file. `-` is standard input.
+    Trace {
+        file: String,
+        /// Letters of patterns stand for both cases.
+        fold: bool,
+        /// Intervals apply to series.
+        posix: bool,
+    },
 }
 
-/// Reads the words after the program's name: `picture FILE`, `same FILE FILE` or `lines FILE`, with `-i` or `-X` or
-/// without, or any words with `--help`. Flags may be repeated. Words that it refuses by `Usage` ask for nothing.
+/// Reads the words after the program's name: `picture FILE`, `same FILE FILE`, `lines FILE`, `words FILE` or `trace FILE`, with
+/// `-i` or `-X` or without, or any words with `--help`. Flags may be repeated. Words that it refuses by `Usage` ask for nothing.
 pub fn read_args(alloc: Global, words: &[String]) -> Result<Look, ArgsError>
     ensures asked { IfOk result (AsksFor (map string_bytes words.now)) }
     ensures refused { IfErr result (λ e. e ≡ ArgsError.Usage
@@ -72,11 +88,11 @@ fn has_help(words: &[String]) -> bool
     false
 }
 
-/// The words of a picture.
-fn picture_command<'a>(alloc: Global) -> Result<Command<'a>, AllocError>
-    ensures { IfOk result (λ c. app_of c ≡ picture_app) }
+/// The words of a subcommand that takes one file.
+fn file_command<'a>(alloc: Global, name: &'a str) -> Result<Command<'a>, AllocError>
+    ensures { IfOk result (λ c. app_of c ≡ file_app name.entry.now) }
 {
-    Command::new(alloc, "picture")
+    Command::new(alloc, name)
         .disable_help_flag(true)
         .arg(flag(alloc, "fold", 'i'))?
         .arg(flag(alloc, "posix", 'X'))?
@@ -95,32 +111,34 @@ fn same_command<'a>(alloc: Global) -> Result<Command<'a>, AllocError>
         .arg(needed_word(alloc, "right"))
 }
 
-/// The words of cuts at newlines.
-fn lines_command<'a>(alloc: Global) -> Result<Command<'a>, AllocError>
-    ensures { IfOk result (λ c. app_of c ≡ lines_app) }
+/// The words with one subcommand more, which takes one file.
+fn with_file<'a>(alloc: Global, top: Command<'a>, name: &'a str) -> Result<Command<'a>, AllocError>
+    ensures { IfOk result (λ c. app_of c ≡ with_subcommand (app_of top.entry) (file_app name.entry.now).top) }
 {
-    Command::new(alloc, "lines")
-        .disable_help_flag(true)
-        .arg(flag(alloc, "fold", 'i'))?
-        .arg(flag(alloc, "posix", 'X'))?
-        .arg(needed_word(alloc, "file"))
+    top.subcommand(file_command(alloc, name)?)
+}
+
+/// The words with a comparison more.
+fn with_same<'a>(alloc: Global, top: Command<'a>) -> Result<Command<'a>, AllocError>
+    ensures { IfOk result (λ c. app_of c ≡ with_subcommand (app_of top.entry) same_app.top) }
+{
+    top.subcommand(same_command(alloc)?)
 }
 
 /// The words that the program knows.
 fn command<'a>(alloc: Global) -> Result<Command<'a>, AllocError>
     ensures { IfOk result (λ c. app_of c ≡ lexlook_app) }
 {
-    let picture = picture_command(alloc)?;
-    let same = same_command(alloc)?;
-    let lines = lines_command(alloc)?;
-    Command::new(alloc, "lexlook")
+    let top = Command::new(alloc, "lexlook")
         .no_binary_name(true)
         .disable_help_flag(true)
         .disable_help_subcommand(true)
-        .subcommand_required(true)
-        .subcommand(picture)?
-        .subcommand(same)?
-        .subcommand(lines)
+        .subcommand_required(true);
+    let top = with_file(alloc, top, "picture")?;
+    let top = with_same(alloc, top)?;
+    let top = with_file(alloc, top, "lines")?;
+    let top = with_file(alloc, top, "words")?;
+    with_file(alloc, top, "trace")
 }
 
 /// A flag, which may be repeated.
@@ -149,6 +167,8 @@ fn look_of(alloc: Global, matches: &ArgMatches<'_>) -> Result<Look, ArgsError>
         Some((name, found)) if name == "picture" => picture_look(alloc, found),
         Some((name, found)) if name == "same" => same_look(alloc, found),
         Some((name, found)) if name == "lines" => lines_look(alloc, found),
+        Some((name, found)) if name == "words" => words_look(alloc, found),
+        Some((name, found)) if name == "trace" => trace_look(alloc, found),
         _ => Err(ArgsError::Usage),
     }
 }
@@ -213,6 +233,34 @@ fn lines_look(alloc: Global, found: &ArgMatches<'_>) -> Result<Look, ArgsError>
 {
     let file = file_there(alloc, found)?;
     Ok(Look::Lines {
+        file,
+        fold: has(found, "fold"),
+        posix: has(found, "posix"),
+    })
+}
+
+/// The texts that the matches behind its name ask for.
+fn words_look(alloc: Global, found: &ArgMatches<'_>) -> Result<Look, ArgsError>
+    ensures asked { IfOk result (AsksToFind (rows_of (found_of found.now))) }
+    ensures refused { IfErr result (λ e. e ≡ ArgsError.Usage
+        → first_of (codes "file") (rows_of (found_of found.now)) ≡ None) }
+{
+    let file = file_there(alloc, found)?;
+    Ok(Look::Words {
+        file,
+        fold: has(found, "fold"),
+        posix: has(found, "posix"),
+    })
+}
+
+/// The trace that the matches behind its name ask for.
+fn trace_look(alloc: Global, found: &ArgMatches<'_>) -> Result<Look, ArgsError>
+    ensures asked { IfOk result (AsksToTrace (rows_of (found_of found.now))) }
+    ensures refused { IfErr result (λ e. e ≡ ArgsError.Usage
+        → first_of (codes "file") (rows_of (found_of found.now)) ≡ None) }
+{
+    let file = file_there(alloc, found)?;
+    Ok(Look::Trace {
         file,
         fold: has(found, "fold"),
         posix: has(found, "posix"),

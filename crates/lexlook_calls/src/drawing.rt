@@ -10,10 +10,10 @@ ghost use Rattle.lexlook_calls.specs.Errors.{write_fault_count};
 ghost use Rattle.lexlook_calls.specs.Looks.{Draws, picture_of};
 
 use crate::error::LookError;
-use crate::labels::{lines_of, names_of};
+use crate::labels::names_of;
 use crate::least::least_automaton;
 use lexauto::Dfa;
-use lexkit::{GenError, Options, ReadOptions, Sink, read_spec};
+use lexkit::{GenError, Options, ReadOptions, Sink, lines_of, read_spec};
 use lexlook_pictures::{PictureError, write_picture};
 use lexspec::Spec;
 use std::alloc::Global;

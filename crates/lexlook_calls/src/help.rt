@@ -11,7 +11,11 @@ const HELP: &str = "lexlook shows what a specification of lex does.\n\n\
     lexlook same FILE FILE [-i] [-X]\n    \
     whether two specifications or table files do the same, with status 1 and where they do not\n\
     lexlook lines FILE [-i] [-X]\n    \
-    whether an input may be cut after any newline and its pieces scanned apart, with status 1 and why not\n\n\
+    whether an input may be cut after any newline and its pieces scanned apart, with status 1 and why not\n\
+    lexlook words FILE [-i] [-X]\n    \
+    for each rule the shortest text that it takes, or by which rules its texts are taken\n\
+    lexlook trace FILE [-i] [-X]\n    \
+    a line for each match of a scan of standard input by a specification, and the scan's status\n\n\
     FILE may be - for standard input. With -i letters stand for both cases. With -X an interval\n\
     applies to the whole series to its left.\n";
 

@@ -1,10 +1,9 @@
 //! What labels the picture of a specification's automaton.
 ghost use Rattle.std.specs.Prelude.{◌≡◌, map, IfOk};
 ghost use Rattle.lexspec_actions.specs.Views.{condition_of};
-ghost use Rattle.lexspec.specs.RuleViews.{rule_of};
-ghost use Rattle.lexlook_calls.specs.Looks.{lines_of, names_of};
+ghost use Rattle.lexlook_calls.specs.Looks.{names_of};
 
-use lexspec::{Condition, Rule};
+use lexspec::Condition;
 use std::alloc::{AllocError, Global};
 
 /// The names of conditions.
@@ -16,15 +15,4 @@ pub(crate) fn names_of(alloc: Global, conditions: &[Condition]) -> Result<Vec<&[
         names.push(condition.name.as_slice())?;
     }
     Ok(names)
-}
-
-/// The lines of rules in the file.
-pub(crate) fn lines_of(alloc: Global, rules: &[Rule]) -> Result<Vec<u32>, AllocError>
-    ensures { IfOk result (λ lines. lines.items ≡ lines_of (map rule_of rules.now)) }
-{
-    let mut lines = Vec::new(alloc);
-    for rule in rules {
-        lines.push(rule.line)?;
-    }
-    Ok(lines)
 }

@@ -13,6 +13,8 @@ mod least;
 mod naming;
 mod sides;
 mod telling;
+mod tracing;
+mod words;
 
 pub use args::{Look, read_args};
 pub use comparing::{Given, tell_same};
@@ -20,7 +22,9 @@ pub use cuts::tell_lines;
 pub use drawing::draw;
 pub use error::LookError;
 pub use help::write_help;
-pub use laws::one_picture;
+pub use laws::{equal_are_same, one_picture, same_scan_alike};
+pub use tracing::trace;
+pub use words::tell_words;
 
 #[cfg(test)]
 mod tests;

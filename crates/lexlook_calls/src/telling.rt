@@ -5,7 +5,8 @@ ghost use Rattle.std.specs.List.{flat_map};
 ghost use Rattle.lex_semantics.specs.Text.{Among};
 ghost use Rattle.lextab_packed.specs.Machines.{machine_of};
 ghost use Rattle.lexspec.specs.Views.{conditions_in, rules_in, spec_of};
-ghost use Rattle.lexlook_calls.specs.Looks.{lines_of, names_of};
+ghost use Rattle.lexkit.specs.Generated.{lines_of};
+ghost use Rattle.lexlook_calls.specs.Looks.{names_of};
 ghost use Rattle.lexlook_calls.specs.Lines.{in_quotes, condition_words, rule_words, taken, taken_by, start_words};
 ghost use Rattle.lexlook_calls.specs.Lines.{naming, text_place, both, side_words, told_line, side_as, IsLabelled};
 ghost use Rattle.lexlook_calls.specs.Compared.{Holds};
@@ -49,7 +50,7 @@ fn add_in_quotes(text: &mut Vec<u8>, byte: u8) -> Result<(), AllocError>
 }
 
 /// Appends bytes as they are spelled in a quoted string of a pattern.
-fn add_string(text: &mut Vec<u8>, bytes: &[u8]) -> Result<(), AllocError>
+pub(crate) fn add_string(text: &mut Vec<u8>, bytes: &[u8]) -> Result<(), AllocError>
     ensures { OnOk result (text.new.items ≡ text.old.items ++ flat_map in_quotes bytes.now) }
 {
     for byte in bytes {
@@ -142,7 +143,7 @@ fn add_side(
 }
 
 /// Appends whether a match is at the start of a line.
-fn add_start(text: &mut Vec<u8>, line_start: bool) -> Result<(), AllocError>
+pub(crate) fn add_start(text: &mut Vec<u8>, line_start: bool) -> Result<(), AllocError>
     ensures { OnOk result (text.new.items ≡ text.old.items ++ start_words line_start) }
 {
     if line_start {

@@ -171,6 +171,28 @@ fn asks_to_cut(alloc: Global, line: &str, folds: bool, series: bool) -> bool {
     }
 }
 
+/// Whether the words of a line ask for the texts that the rules of a.l take, with these flags.
+fn asks_to_find(alloc: Global, line: &str, folds: bool, series: bool) -> bool {
+    let answer = asked(alloc, line);
+    match &answer {
+        Ok(Look::Words { file, fold, posix }) => {
+            file.as_str() == "a.l" && *fold == folds && *posix == series
+        }
+        _ => false,
+    }
+}
+
+/// Whether the words of a line ask for a trace of an input of a.l, with these flags.
+fn asks_to_trace(alloc: Global, line: &str, folds: bool, series: bool) -> bool {
+    let answer = asked(alloc, line);
+    match &answer {
+        Ok(Look::Trace { file, fold, posix }) => {
+            file.as_str() == "a.l" && *fold == folds && *posix == series
+        }
+        _ => false,
+    }
+}
+
 /// Whether the words of a line ask for the help.
 fn asks_for_help(alloc: Global, line: &str) -> bool {
     let answer = asked(alloc, line);
@@ -189,6 +211,10 @@ const COMPARED: &[&str] = &["same a.l b.l -X", "same -X a.l -- b.l"];
 
 const CUT: &[&str] = &["lines a.l", "lines -- a.l"];
 
+const FOUND: &[&str] = &["words a.l -i", "words -i -- a.l"];
+
+const TRACED: &[&str] = &["trace a.l -X", "trace -X -- a.l"];
+
 const REFUSED: &[&str] = &[
     "",
     "picture",
@@ -201,6 +227,10 @@ const REFUSED: &[&str] = &[
     "same a.l b.l c.l",
     "lines",
     "lines a.l b.l",
+    "words",
+    "words a.l b.l",
+    "trace",
+    "trace a.l b.l",
 ];
 
 const HELPED: &[&str] = &["--help", "picture --help", "paint --help"];
@@ -215,6 +245,12 @@ fn reads_command_lines(rt: HostRuntime) {
     }
     for line in CUT {
         assert!(rt; asks_to_cut(rt.alloc(), *line, false, false), "{line}");
+    }
+    for line in FOUND {
+        assert!(rt; asks_to_find(rt.alloc(), *line, true, false), "{line}");
+    }
+    for line in TRACED {
+        assert!(rt; asks_to_trace(rt.alloc(), *line, false, true), "{line}");
     }
 }
 

@@ -6,3 +6,5 @@ pub mod Starting
 pub mod Widening
 pub mod Telling
 pub mod Ending
+pub mod Scanning
+pub mod Alone

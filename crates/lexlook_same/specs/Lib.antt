@@ -1,3 +1,4 @@
 pub mod Same
 pub mod Searching
+pub mod Scans
 pub mod Comparing

@@ -40,6 +40,7 @@ use Rattle.lexscan.specs.Bursts.{statements_in, is_told, condition_after, writte
 use Rattle.lexscan.proofs.Descending as Down
 use Rattle.lexscan.proofs.Descending.{one_match, start_of, head_outcome, statements_are, default_is, default_one, settled}
 use Rattle.lexscan.proofs.Picking.{falling_last, falling_more}
+use Rattle.lexscan.proofs.Keeping.{text_dropped}
 use Rattle.lexscan.proofs.Telling.{told_simple, act_all, begun_below}
 use Rattle.lexscan.proofs.Stepping as Go
 use Rattle.lexscan.proofs.Refusing as Fall
@@ -324,7 +325,7 @@ module _ (M : Machine) (laws : MachineLaws M) (text : List ℕ) (bytes : IsText 
     -- the state before the match, made of one after it
     abbrev was : (v : State) (taken : ℕ) → taken + 0 ≤ v.reading.max_reads → State
     was v taken few = record v {
-      reading = record v.reading { window = record { bytes = drop c (take far text); room = true; ahead = [] }; taken = taken; at_end = false; few_reads = few };
+      reading = record v.reading { window = record { bytes = drop c (take far text); room = true; ahead = []; behind = [] }; taken = taken; at_end = false; few_reads = few };
       place = p;
       acting = record v.acting { stack = stack };
       ended = None;
@@ -342,10 +343,15 @@ module _ (M : Machine) (laws : MachineLaws M) (text : List ℕ) (bytes : IsText 
         let few : taken + 0 ≤ v.reading.max_reads = let all = v.reading.few_reads in omega (arith, all, b.taken_is) in
         let old : State = was v taken few in
         let h : Stands M n given before old = all old (record { bytes_are = refl; taken_is = refl; at_end = refl; at = refl; line_is = refl; condition_is = refl; stack_is = refl; going = refl }) refl in
-        let mid : Reading = record v.reading { window = record { bytes = w; room = true; ahead = [] } } in
+        let mid : Reading = record v.reading { window = record { bytes = w; room = true; ahead = []; behind = [] } } in
         let size = grown_by text c far beyond le far_beyond inside_beyond in
         let did = performed put in
-        let now : State = record v { acting = record v.acting { end = 0 + told.keep }; matched = heads.number } in
+        let kept : List ℕ = take (0 + told.keep) w in
+        let now : State = record v {
+          reading = record v.reading { window = record v.reading.window { behind = kept } };
+          acting = record v.acting { end = 0 + told.keep };
+          matched = heads.number;
+        } in
         let m : Matched M Nothing wrote tt tt t u (record old { failed = true }) now Turn.Went = record {
           mid = mid;
           took = record {
@@ -379,6 +385,7 @@ module _ (M : Machine) (laws : MachineLaws M) (text : List ℕ) (bytes : IsText 
               condition = b.condition_is;
               stack = b.stack_is;
               end = refl;
+              text = text_dropped [] kept w v.reading.window.bytes (0 + told.keep) v.place.at (omega (arith, within, keeps_some.1)) refl b.at;
             };
             says = refl;
             same = record { taken = refl; at_end = refl };

@@ -1,5 +1,6 @@
 pub mod Descending
 pub mod Growing
+pub mod Keeping
 pub mod Lasting
 pub mod Leaving
 pub mod Lifting

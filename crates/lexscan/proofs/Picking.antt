@@ -81,7 +81,7 @@ empty_never [] a next b h e = cc
 empty_never (c ∷ cs) a next b h e = h c cs e
 
 -- an action without REJECT does not go to the next match
-quiet_never : (ss : List Statement) (a b : Scan.Acting) → has_reject ss ≡ false → act ss a ≡ Scan.Again b → ⊥
+pub quiet_never : (ss : List Statement) (a b : Scan.Acting) → has_reject ss ≡ false → act ss a ≡ Scan.Again b → ⊥
 quiet_never [] a b h e = cc
 quiet_never (Echo ∷ ss) a b h e = quiet_never ss (record a { written = a.written ++ a.text }) b h e
 quiet_never (Print s ∷ ss) a b h e = quiet_never ss (record a { written = a.written ++ s }) b h e

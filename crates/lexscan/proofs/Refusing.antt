@@ -196,7 +196,7 @@ module _ {S K : Type 0} (M : Machine) (laws : MachineLaws M) (gave : S → List 
           inl (ap (λ z. drop looked.reach (drop (h.start + old.place.at) g) ++ z) none ∙ append-nil (drop looked.reach (drop (h.start + old.place.at) g)) ∙ drop_all looked.reach (drop (h.start + old.place.at) g) (omega (arith, size, left, q.1)))
 
   pub fell : new.failed ≡ true → (error ≡ TooManyReads → Wants M old.place new.reading) → (w : List ℕ) → Fronts w → Within →
-      (error ≡ Stack → RanTo (rules_of_machine M) (given ++ m.took.got) (out ++ w) new.reading.at_end StackFault) → (IsEarly error → w ≡ []) → Fell M n given m.took.got (out ++ w) new error
+      (error ≡ Stack → (r : RanTo (rules_of_machine M) (given ++ m.took.got) (out ++ w) new.reading.at_end StackFault) × (r.turns ≡ suc n)) → (IsEarly error → w ≡ []) → Fell M n given m.took.got (out ++ w) new error
   unfolding before_is
   fell failed wants w front within fault quiet = record {
     failed = failed;
@@ -212,5 +212,6 @@ module _ {S K : Type 0} (M : Machine) (laws : MachineLaws M) (gave : S → List 
     };
     held = sym win;
     taken = m.took.taken ∙ ap (λ k. k + length m.took.got) h.taken ∙ sym longer;
-    fault = fault;
+    fault = λ is. (fault is).0;
+    at_once = λ is. (fault is).1;
   }

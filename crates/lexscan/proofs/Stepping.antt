@@ -169,7 +169,7 @@ module _ {S K : Type 0} (M : Machine) (laws : MachineLaws M) (gave : S → List 
 
   pub faulted_ran : (path : List ℕ) (looked : Looked M old.place old.reading new.reading path) →
       (fault : Faulted M wrote t t' new.reading.window.bytes old.place.at (matches_of M new.reading.window.bytes old.place.at path) (conditions_at old)) →
-      RanTo (rules_of_machine M) (given ++ took.got) (out ++ fault.performed.out) new.reading.at_end StackFault
+      (r : RanTo (rules_of_machine M) (given ++ took.got) (out ++ fault.performed.out) new.reading.at_end StackFault) × (r.turns ≡ suc n)
   faulted_ran path looked fault =
       let w : List ℕ = new.reading.window.bytes in
       let win : drop h.start (given ++ took.got) ≡ w = drop-append-le h.start given took.got (omega (arith, h.covered)) ∙ ap (λ z. z ++ took.got) (sym h.held) ∙ sym took.held in
@@ -178,16 +178,18 @@ module _ {S K : Type 0} (M : Machine) (laws : MachineLaws M) (gave : S → List 
       let last : Run.State = then_turn (state_of out h.start old) (seen_turn (record { start = h.start; at = h.start + old.place.at; condition = old.place.condition; stack = old.acting.stack }) ahead.0.outcome) in
       let scanned : Scanned (rules_of_machine M) (given ++ took.got) new.reading.at_end (suc n) last = over_fault win path looked ahead.0 looked.stops in
       let writes : last.written ≡ out ++ fault.performed.out = ap (λ (z : Scan.Matched). out ++ z.after.written) ahead.1 in
-      let ends : last.ended ≡ Some StackFault = ap (λ (z : Scan.Matched). z.ended) ahead.1 in
-      record {
-        text = is_text_append given took.got h.text took.text;
-        turns = suc n;
-        last = last;
-        scanned = scanned;
-        writes = writes;
-        ends = ends;
-        run = λ x k. record { turns = suc n; last = last; reached = (scanned x k).turns; writes = writes; ends = ends };
-      }
+      let ends : last.ended ≡ Some StackFault = ap (λ (z : Scan.Matched). z.ended) ahead.1 in (
+        record {
+          text = is_text_append given took.got h.text took.text;
+          turns = suc n;
+          last = last;
+          scanned = scanned;
+          writes = writes;
+          ends = ends;
+          run = λ x k. record { turns = suc n; last = last; reached = (scanned x k).turns; writes = writes; ends = ends };
+        },
+        refl,
+      )
 
 -- a turn after the end
 pub stays_ended : (M : Machine) (n status : ℕ) (given out : List ℕ) (s : State) → s.ended ≡ Some status → Stands M n given out s → Stands M (suc n) (given ++ []) (out ++ []) s

@@ -21,9 +21,10 @@ use Rattle.lexscan.specs.declared.state.TextPlace.{TextPlace}
 use Rattle.lexscan.specs.declared.turn.Turn.{Turn}
 use Rattle.lexscan.specs.Acts.{acting_of}
 use Rattle.lexscan.specs.Descends.{conditions_at, outcome, matches_of, ending_of, IsRule, Takes}
-use Rattle.lexscan.specs.Matches.{text_start, match_by, match_in, CarriesOut, TellsMatch}
+use Rattle.lexscan.specs.Matches.{text_start, match_by, match_in, text_of, kept_before, CarriesOut, TellsMatch}
 use Rattle.lexscan.specs.Moves.{stays, left_bytes, left_at, is_over, Matched, Finished}
 use Rattle.lexscan.specs.Stands.{Stands, state_of}
+use Rattle.lexscan.specs.Window.{last_of}
 use Rattle.lexscan.proofs.Outcomes.{seen_matches, matches_are, all_seen}
 
 -- an input is the bytes given and a rest
@@ -36,9 +37,11 @@ with_rest given false x h = (h.0, h.1, λ e. absurd (no e))
 
 -- what is told of a match
 tells_by : (R : Rules) (given : List ℕ) (at_end : Bool) (p : Place) (rule : Option MatchedRule) (new : State) (m : Candidate) (o : Outcome) → IsRule R.count rule m.rule → text_start new ≡ p.start → new.acting.end ≡ length o.after.text →
-    ((x : List ℕ) → Consistent given at_end x → CarriesOut R x p m o) → TellsMatch R given at_end p (match_by rule new)
-tells_by R given at_end p None new m o is start long carries = absurd is
-tells_by R given at_end p (Some rule) new m o is start long carries = record { taken = m; outcome = o; carries = carries; rule_is = is; start_is = start; length_is = long }
+    last_of new.acting.end (kept_before new) ≡ o.after.text → text_start new + new.acting.end ≤ length given → part given (text_start new) (text_start new + new.acting.end) ≡ o.after.text →
+    ((x : List ℕ) → Consistent given at_end x → CarriesOut R x p m o) → TellsMatch R given at_end p (match_by rule new) (text_of (match_by rule new) new)
+tells_by R given at_end p None new m o is start long text inside here carries = absurd is
+tells_by R given at_end p (Some rule) new m o is start long text inside here carries =
+    record { taken = m; outcome = o; carries = carries; rule_is = is; start_is = start; length_is = long; text_is = text; inside = inside; part_is = here }
 
 -- where the text begins, by the bytes that are held after it
 begins_at : (over : Bool) (w held : List ℕ) (n start end at : ℕ) → held ≡ left_bytes over end w → at ≡ left_at over end → start ≤ n → length w ≡ n - start → end ≤ length w → n - length held + at - end ≡ start
@@ -47,8 +50,10 @@ begins_at false w held n start end at is place le size inside = omega (arith, ap
 
 module _ {S K : Type 0} (M : Machine) (laws : MachineLaws M) (gave : S → List ℕ → S → Type 0) (wrote : K → List ℕ → K → Type 0) (s s' : S) (t t' : K) (n : ℕ) (given out : List ℕ) (old new : State) (turn : Turn) (h : Stands M n given out old) where
   pub match_tells : (m : Matched M gave wrote s s' t t' (record old { failed = true }) new turn) →
-      TellsMatch (rules_of_machine M) (given ++ m.took.got) new.reading.at_end (state_of out h.start old).place (match_by new.matched new)
-  match_tells m = tells_by R g new.reading.at_end q new.matched new k.taken o k.rule_is start (m.acted.left.end ∙ sym same) (λ x consistent. carries x consistent.0 (with_rest g new.reading.at_end x consistent.1))
+      TellsMatch (rules_of_machine M) (given ++ m.took.got) new.reading.at_end (state_of out h.start old).place (match_by new.matched new) (text_of (match_by new.matched new) new)
+  match_tells m = tells_by R g new.reading.at_end q new.matched new k.taken o k.rule_is start (m.acted.left.end ∙ sym same)
+      (ap (λ e. last_of e (kept_before new)) m.acted.left.end ∙ m.acted.left.text) (omega (arith, start, m.acted.left.end, m.acted.inside, ap length win, length-drop h.start g, inside))
+      here (λ x consistent. carries x consistent.0 (with_rest g new.reading.at_end x consistent.1))
     where
       R : Rules
       R = rules_of_machine M
@@ -95,6 +100,11 @@ module _ {S K : Type 0} (M : Machine) (laws : MachineLaws M) (gave : S → List 
           (m.acted.left.held ∙ ap (λ e. left_bytes (stays m.acted.acting.more (is_over m.acted.ended)) e w) (sym m.acted.left.end))
           (m.acted.left.at ∙ ap (left_at (stays m.acted.acting.more (is_over m.acted.ended))) (sym m.acted.left.end))
           (omega (arith, taken_all, longer, h.covered)) (ap length (sym win) ∙ length-drop h.start g ∙ ap (λ z. z - h.start) (sym taken_all)) (omega (arith, m.acted.left.end, m.acted.inside))
+
+      here : part g (text_start new) (text_start new + new.acting.end) ≡ o.after.text
+      here =
+          let size : h.start + m.acted.acting.end - h.start ≡ m.acted.acting.end = omega arith in
+          ap (λ i. part g i (i + new.acting.end)) start ∙ ap (λ e. part g h.start (h.start + e)) m.acted.left.end ∙ ap (λ k. take k (drop h.start g)) size ∙ ap (take m.acted.acting.end) win
 
       -- all the matches among the bytes that were asked for
       ms : List Candidate
@@ -177,8 +187,8 @@ module _ {S K : Type 0} (M : Machine) (laws : MachineLaws M) (gave : S → List 
 
   -- at the end of the input there is none
   pub end_tells : (m : Finished M gave wrote s s' t t' (record old { failed = true }) new turn) →
-      TellsMatch (rules_of_machine M) (given ++ m.took.got) new.reading.at_end (state_of out h.start old).place (match_by new.matched new)
-  end_tells m = subst (λ r. TellsMatch (rules_of_machine M) (given ++ m.took.got) new.reading.at_end (state_of out h.start old).place (match_by r new)) (sym m.left.matched) here
+      TellsMatch (rules_of_machine M) (given ++ m.took.got) new.reading.at_end (state_of out h.start old).place (match_by new.matched new) (text_of (match_by new.matched new) new)
+  end_tells m = subst (λ r. TellsMatch (rules_of_machine M) (given ++ m.took.got) new.reading.at_end (state_of out h.start old).place (match_by r new) (text_of (match_by r new) new)) (sym m.left.matched) here
     where
       here : (x : List ℕ) → Consistent (given ++ m.took.got) new.reading.at_end x → (state_of out h.start old).place.at ≡ length x
       here x consistent =
@@ -189,5 +199,5 @@ module _ {S K : Type 0} (M : Machine) (laws : MachineLaws M) (gave : S → List 
           omega (arith, all, ap length win, length-drop h.start (given ++ m.took.got), m.looked.all, h.covered, length-append given m.took.got)
 
 -- it is told where the scan has not failed
-pub tells_working : (R : Rules) (given : List ℕ) (at_end : Bool) (p : Place) (s : State) → s.failed ≡ false → TellsMatch R given at_end p (match_by s.matched s) → TellsMatch R given at_end p (match_in s)
-tells_working R given at_end p s works h = subst (λ f. TellsMatch R given at_end p (if f then None else match_by s.matched s)) (sym works) h
+pub tells_working : (R : Rules) (given : List ℕ) (at_end : Bool) (p : Place) (s : State) → s.failed ≡ false → TellsMatch R given at_end p (match_by s.matched s) (text_of (match_by s.matched s) s) → TellsMatch R given at_end p (match_in s) (text_of (match_in s) s)
+tells_working R given at_end p s works h = subst (λ f. TellsMatch R given at_end p (if f then None else match_by s.matched s) (text_of (if f then None else match_by s.matched s) s)) (sym works) h

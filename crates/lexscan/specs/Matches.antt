@@ -1,5 +1,5 @@
 -- What a turn tells of its match. (POSIX, lex, Actions in lex: the longest match, then the earliest rule, REJECT goes on to the next.)
-use Rattle.std.specs.Prelude.{◌≡◌, ℕ, ◌+◌, ◌-◌, ◌<◌, Bool, List, [], ◌∷◌, ◌++◌, length, drop, Option, Some, None, if◌then◌else◌}
+use Rattle.std.specs.Prelude.{◌≡◌, ℕ, ◌+◌, ◌-◌, ◌<◌, ◌≤◌, Bool, List, [], ◌∷◌, ◌++◌, length, take, drop, Option, Some, None, if◌then◌else◌}
 use Rattle.lex_semantics.specs.Text.{part, at_line_start}
 use Rattle.lex_semantics.specs.Rules.{Rules}
 use Rattle.lex_semantics.specs.Candidates.{Candidate, Candidates}
@@ -10,6 +10,7 @@ use Rattle.lexscan.specs.declared.matched.Match.{Match}
 use Rattle.lexscan.specs.declared.matched.MatchedRule.{MatchedRule}
 use Rattle.lexscan.specs.declared.state.State.{State}
 use Rattle.lexscan.specs.Descends.{IsRule}
+use Rattle.lexscan.specs.Window.{last_of}
 
 -- The match m is carried out at a place, with this outcome: those before it go on to the next one, and it does not.
 pub record CarriesOut (R : Rules) (x : List ℕ) (p : Place) (m : Candidate) (o : Matched) : Type 0 where
@@ -33,17 +34,30 @@ match_by (Some rule) s = Some (record { rule = rule; start = text_start s; lengt
 abbrev pub match_in : State → Option Match
 match_in s = if s.failed then None else match_by s.matched s
 
+-- the bytes that are kept before the place of the next match
+abbrev pub kept_before : State → List ℕ
+kept_before s = s.reading.window.behind ++ take s.place.at s.reading.window.bytes
+
+-- The text of a match that is told: it ends at the place of the next one. (POSIX, lex, Actions in lex: yytext.)
+abbrev pub text_of : Option Match → State → List ℕ
+text_of None s = []
+text_of (Some m) s = last_of m.length (kept_before s)
+
 -- Over every input that is consistent with the bytes given, a match of this rule is carried out at the place. Its text begins and is as
--- long as is told, with what yymore kept before it, after trailing context and yyless.
-pub record MatchedBy (R : Rules) (given : List ℕ) (at_end : Bool) (p : Place) (told : Match) : Type 0 where
+-- long as is told, with what yymore kept before it, after trailing context and yyless. It is this text, which is a part of
+-- the bytes given.
+pub record MatchedBy (R : Rules) (given : List ℕ) (at_end : Bool) (p : Place) (told : Match) (text : List ℕ) : Type 0 where
   pub taken : Candidate
   pub outcome : Matched
   pub carries : (x : List ℕ) → Consistent given at_end x → CarriesOut R x p taken outcome
   pub rule_is : IsRule R.count (Some told.rule) taken.rule
   pub start_is : told.start ≡ p.start
   pub length_is : told.length ≡ length outcome.after.text
+  pub text_is : text ≡ outcome.after.text
+  pub inside : told.start + told.length ≤ length given
+  pub part_is : part given told.start (told.start + told.length) ≡ outcome.after.text
 
--- A turn tells its match; or the place is at the end of the input, and it tells none.
-abbrev pub TellsMatch : Rules → List ℕ → Bool → Place → Option Match → Type 0
-TellsMatch R given at_end p None = (x : List ℕ) → Consistent given at_end x → p.at ≡ length x
-TellsMatch R given at_end p (Some told) = MatchedBy R given at_end p told
+-- A turn tells its match and the text of it; or the place is at the end of the input, and it tells none.
+abbrev pub TellsMatch : Rules → List ℕ → Bool → Place → Option Match → List ℕ → Type 0
+TellsMatch R given at_end p None text = (x : List ℕ) → Consistent given at_end x → p.at ≡ length x
+TellsMatch R given at_end p (Some told) text = MatchedBy R given at_end p told text

@@ -1,5 +1,5 @@
 -- What a turn does to the plain state.
-use Rattle.std.specs.Prelude.{◌≡◌, ℕ, ◌+◌, ◌-◌, ◌≤◌, ◌<◌, Bool, true, false, List, [], length, drop, ◌⊎◌, Option, Some, None, Result, Ok, Err, OnOk, OnErr, IfOk, IfErr, IsErrOf, nat_eq, get_or}
+use Rattle.std.specs.Prelude.{◌≡◌, ℕ, ◌+◌, ◌-◌, ◌≤◌, ◌<◌, Bool, true, false, List, [], length, take, drop, ◌⊎◌, Option, Some, None, Result, Ok, Err, OnOk, OnErr, IfOk, IfErr, IsErrOf, nat_eq, get_or}
 use Rattle.lex_semantics.specs.Text.{BeginsWith}
 use Rattle.lex_semantics.specs.Machine.{Machine}
 use Rattle.lexscan.specs.declared.state.Reading.{Reading}
@@ -11,6 +11,8 @@ use Rattle.lexscan.specs.declared.turn.Turn.{Turn}
 use Rattle.lexscan.specs.declared.error.RunError.{RunError}
 use Rattle.lexscan.specs.Reads.{Took, write_fault_count}
 use Rattle.lexscan.specs.Ends.{IsEarly}
+use Rattle.lexscan.specs.Window.{last_of}
+use Rattle.lexscan.specs.Matches.{kept_before}
 use Rattle.lexscan.specs.Looks.{Looked, LookedAtEnd, Unmet}
 use Rattle.lexscan.specs.declared.error.RunError.TheVariants.{Write, Stack}
 use Rattle.lexscan.specs.Descends.{Conditions, conditions_at, matches_of, ending_of, Performed, CutAll, Faulted, Takes}
@@ -29,7 +31,7 @@ abbrev pub left_at : Bool → ℕ → ℕ
 left_at true end = end
 left_at false end = 0
 
--- The place of the next match.
+-- The place of the next match. The text of this one is kept before it.
 pub record Left (w : List ℕ) (a : ActionState) (over : Bool) (new : State) : Type 0 where
   pub held : new.reading.window.bytes ≡ left_bytes (stays a.more over) a.end w
   pub at : new.place.at ≡ left_at (stays a.more over) a.end
@@ -37,6 +39,7 @@ pub record Left (w : List ℕ) (a : ActionState) (over : Bool) (new : State) : T
   pub condition : new.place.condition ≡ a.condition
   pub stack : new.acting.stack ≡ a.stack
   pub end : new.acting.end ≡ a.end
+  pub text : last_of a.end (kept_before new) ≡ take a.end w
 
 abbrev pub is_over : Option ℕ → Bool
 is_over None = false

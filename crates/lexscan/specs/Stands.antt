@@ -15,7 +15,7 @@ use Rattle.lexscan.specs.declared.error.RunError.TheVariants.{TooManyReads, Stac
 use Rattle.lexscan.specs.Descends.{ending_of}
 use Rattle.lexscan.specs.Ends.{IsEarly}
 use Rattle.lexscan.specs.Moves.{Says}
-use Rattle.lexscan.specs.Matches.{match_in, TellsMatch}
+use Rattle.lexscan.specs.Matches.{match_in, text_of, TellsMatch}
 
 -- how the scan stands, where the text starts there
 abbrev pub state_of : List ℕ → ℕ → State → Scan.State
@@ -69,7 +69,7 @@ pub record RanTo (R : Rules) (given out : List ℕ) (at_end : Bool) (ending : En
   pub run : (x : List ℕ) → Consistent given at_end x → Run R x out ending
 
 -- The bytes held are those from the text's start on, as the refused turn found it. The stack was at fault where the run
--- ends so, with what was written.
+-- ends so in this turn, with what was written.
 pub record Fell (M : Machine) (n : ℕ) (given got out : List ℕ) (s : State) (e : RunError) : Type 0 where
   pub failed : s.failed ≡ true
   pub start : ℕ
@@ -77,6 +77,7 @@ pub record Fell (M : Machine) (n : ℕ) (given got out : List ℕ) (s : State) (
   pub held : s.reading.window.bytes ≡ drop start (given ++ got)
   pub taken : s.reading.taken ≡ length (given ++ got)
   pub fault : e ≡ Stack → RanTo (rules_of_machine M) (given ++ got) out s.reading.at_end StackFault
+  pub at_once : (is : e ≡ Stack) → (fault is).turns ≡ suc n
 
 -- Once the source has answered its end, it gives nothing more.
 abbrev pub NoneAfterEnd : State → State → List ℕ → Type 0
@@ -85,7 +86,7 @@ NoneAfterEnd old new got = old.reading.at_end ≡ true → (got ≡ []) × (new.
 -- What a turn tells of its match, where the facts hold for some turns before it.
 abbrev pub TurnTells : Machine → State → State → List ℕ → Type 0
 TurnTells M old new got = old.ended ≡ None → (n : ℕ) (given out : List ℕ) → (h : Stands M n given out old) →
-    TellsMatch (rules_of_machine M) (given ++ got) new.reading.at_end (state_of out h.start old).place (match_in new)
+    TellsMatch (rules_of_machine M) (given ++ got) new.reading.at_end (state_of out h.start old).place (match_in new) (text_of (match_in new) new)
 
 -- What a turn does: where the facts hold for n turns and two lists, they hold for n + 1 and the lists with its bytes appended; and it tells its match.
 -- A turn that is refused before its action has written nothing.

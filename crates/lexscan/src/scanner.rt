@@ -6,7 +6,7 @@ ghost use Rattle.lexscan.specs.Reads.{read_fault_count, write_fault_count, end_s
 ghost use Rattle.lexscan.specs.Memos.{AreTrue, AreTrue-prop};
 ghost use Rattle.lexscan.specs.Stacks.{AllBelow-prop};
 ghost use Rattle.lexscan.specs.Ties.{HandedOn};
-ghost use Rattle.lexscan.specs.Matches.{match_in};
+ghost use Rattle.lexscan.specs.Matches.{match_in, text_of};
 ghost use Rattle.lexscan.specs.Stands.{NoneAfterEnd, GoesOn, Stands};
 
 use crate::error::RunError;
@@ -148,6 +148,20 @@ impl<'a, M: Machine, S: Source, K: Sink> Scanner<'a, M, S, K> {
             start: place.saturating_sub(end as u64),
             length: end,
         })
+    }
+
+    /// The text of the match that `matched` tells, as it stands in the buffer, or nothing where that tells none. The next turn ends
+    /// the borrow.
+    pub fn text(&self) -> &[u8]
+        ensures { result.now ≡ text_of (match_in self.now.state) self.now.state }
+    {
+        match self.matched() {
+            None => &[],
+            Some(matched) => {
+                let state = &self.state;
+                state.reading.window.before(state.place.at, matched.length)
+            }
+        }
     }
 
     /// How many bytes the source gave.

@@ -52,6 +52,7 @@ pub fn has_backlog(state: &State) -> bool
 }
 
 /// Goes to the place of the next match.
+#[tactic(auto, using(crate::proofs::Keeping::text_stays, crate::proofs::Keeping::text_dropped))]
 fn leave(state: &mut State, over: bool)
     requires { state.old.acting.end ≤ length state.old.reading.window.bytes }
     ensures left { Left state.old.reading.window.bytes state.old.acting over state.new }

@@ -1,6 +1,7 @@
 //! The bytes that a scan holds.
 ghost use Rattle.std.specs.Prelude.{◌≡◌, ℕ, ◌+◌, ◌-◌, ◌<◌, ◌≤◌, List, [], ◌∷◌, ◌++◌, length, take, drop, true, false, OnOk, OnErr, vec_len, nat_lt, slice_range, get_or, ◌^◌};
 ghost use Rattle.lexscan.specs.Walks.{Filled};
+ghost use Rattle.lexscan.specs.Window.{last_of};
 
 use crate::walk::{Walk, walk_into};
 use lex_machine::Machine;
@@ -26,7 +27,7 @@ impl Model for Window {
 
     ghost Value = { Held };
 
-    ghost view = { λ w. record { bytes = drop w.start (take w.end w.buffer.items); room = nat_lt w.end (vec_len w.buffer); ahead = take (w.shown - w.end) (drop w.end w.buffer.items) } };
+    ghost view = { λ w. record { bytes = drop w.start (take w.end w.buffer.items); room = nat_lt w.end (vec_len w.buffer); ahead = take (w.shown - w.end) (drop w.end w.buffer.items); behind = take w.start w.buffer.items } };
 
     ghost invariant = { λ w. (w.start ≤ w.end) × (w.end ≤ vec_len w.buffer) };
 }
@@ -122,6 +123,7 @@ impl Window {
         requires { n ≤ length self.old.bytes }
         ensures bytes { self.new.bytes ≡ drop n self.old.bytes }
         ensures room { self.new.room ≡ self.old.room }
+        ensures behind { self.new.behind ≡ self.old.behind ++ take n self.old.bytes }
     {
         self.start += n;
     }
@@ -134,6 +136,15 @@ impl Window {
     {
         let held = &self.buffer[..self.end];
         &held[self.start + i..self.start + j]
+    }
+
+    /// The last bytes before a place, so many of them, of what is held and what is still kept of the bytes before.
+    pub fn before(&self, at: usize, count: usize) -> &[u8]
+        requires { at ≤ length self.now.bytes }
+        ensures { result.now ≡ last_of count (self.now.behind ++ take at self.now.bytes) }
+    {
+        let end = self.start + at;
+        &self.buffer[end.saturating_sub(count)..end]
     }
 
     /// The byte at a place.

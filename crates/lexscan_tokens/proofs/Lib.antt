@@ -1,1 +1,3 @@
+pub mod Lying
 pub mod SoFar
+pub mod Tables

@@ -2,6 +2,9 @@
 #![tactic(auto)]
 
 mod discard;
+mod input;
+mod laws;
 mod listing;
 
-pub use listing::{Token, tokens};
+pub use laws::table_tokens;
+pub use listing::{Token, texts_of, tokens};

@@ -23,8 +23,8 @@ impl Spec {
     ghost use Rattle.lex_semantics.specs.Spec.{rejects};
     ghost use Rattle.lexspec.specs.Views.{spec_of, skipped_in, conditions_in, rules_in};
 
-    /// A specification of these conditions and rules. `skipped` has the lines of skipped code.
-    pub(crate) fn new(conditions: Vec<Condition>, rules: Vec<Rule>, skipped: Vec<u32>) -> Spec
+    /// A specification of these conditions and rules, which keep to its tests. `skipped` has the lines of skipped code.
+    pub fn new(conditions: Vec<Condition>, rules: Vec<Rule>, skipped: Vec<u32>) -> Spec
         requires { is_sound (record { conditions = map condition_of conditions.items; rules = map rule_of rules.items })
             ≡ true }
         ensures spec { spec_of result ≡ record {
@@ -55,6 +55,16 @@ impl Spec {
         ensures sound { is_sound (spec_of self.now) ≡ true }
     {
         &self.rules
+    }
+
+    /// The conditions by number, the rules in their order, and the lines where code was skipped, each by value.
+    pub fn into_parts(self) -> (Vec<Condition>, Vec<Rule>, Vec<u32>)
+        ensures conditions { map condition_of result.0.items ≡ conditions_in (spec_of self) }
+        ensures rules { map rule_of result.1.items ≡ rules_in (spec_of self) }
+        ensures skipped { result.2.items ≡ skipped_in self }
+        ensures sound { is_sound (spec_of self) ≡ true }
+    {
+        (self.conditions, self.rules, self.skipped)
     }
 
     /// Whether some rule has REJECT.

@@ -9,3 +9,7 @@ mod lines;
 mod sayings;
 #[cfg(test)]
 mod telling;
+#[cfg(test)]
+mod traces;
+#[cfg(test)]
+mod words;

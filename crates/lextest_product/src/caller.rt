@@ -2,7 +2,7 @@
 ghost use Rattle.std.specs.Prelude.{IfOk};
 ghost use Rattle.lex_semantics.specs.Machine.{rules_of_machine};
 ghost use Rattle.lextab_packed.specs.Machines.{machine_of};
-ghost use Rattle.lextest_product.specs.Filtered.{Filtered, FilteredBy};
+ghost use Rattle.lexkit.specs.Filtered.{Filtered, FilteredBy};
 
 use lexkit::{FromRead, Options, RunError, ScanError, Tables, ToWrite, scan_spec};
 use lexscan::run;

@@ -1,8 +1,9 @@
 //! The whole product, by lexkit.
+use crate::specifications::PLAIN;
 use lexkit::{
     ArgsError, Fault, GenError, Generated, Job, MemorySink, MemorySource, Options, generate,
-    read_args, scan_spec, scan_table, write_backup, write_fault, write_stats, write_tables,
-    write_warnings,
+    read_args, read_spec, scan_by, scan_spec, scan_table, write_backup, write_fault, write_stats,
+    write_tables, write_warnings,
 };
 use std::alloc::{AllocError, Global};
 use std::test::Fail;
@@ -16,6 +17,18 @@ fn a_scan_by_a_specification(rt: HostRuntime) {
     let answer = scan_spec(rt.alloc(), WORDS, Options::new(), &mut source, &mut sink);
     assert!(rt; answer == Ok(0));
     assert!(rt; sink.written() == b"K I".as_slice());
+}
+
+#[test]
+fn a_scan_by_a_specification_that_was_read(rt: HostRuntime) -> Result<(), Fail> {
+    let options = Options::new();
+    let spec = read_spec(rt.alloc(), WORDS, PLAIN)?;
+    let mut source = MemorySource::new(b"if iff");
+    let mut sink = MemorySink::new(rt.alloc());
+    let answer = scan_by(rt.alloc(), &spec, options.limits, &mut source, &mut sink);
+    assert!(rt; answer == Ok(0));
+    assert!(rt; sink.written() == b"K I".as_slice());
+    Ok(())
 }
 
 #[test]

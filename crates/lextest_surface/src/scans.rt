@@ -1,7 +1,11 @@
 //! Sources, windows and scans, by lexscan.
 use crate::automata::{built, read};
-use lexscan::{FromRead, MemorySource, RunError, Scanner, Source, Turn, Window, run};
-use lextab::{MemorySink, Plain};
+use lexkit::{Options, generate};
+use lexscan::{
+    Candidate, FromRead, MatchedRule, MemorySource, RunError, Scanner, Source, Turn, Window,
+    accepted, longest, run,
+};
+use lextab::{Machine, MemorySink, Plain};
 use std::alloc::Global;
 use std::test::Fail;
 
@@ -41,8 +45,46 @@ fn turns(rt: HostRuntime) -> Result<(), Fail> {
     let mut scanner = Scanner::new(alloc, &machine, &mut source, &mut sink, 4);
     assert!(rt; scanner.turn() == Ok(Turn::Went));
     assert!(rt; scanner.taken() == 3 && scanner.held() == b"bc".as_slice());
+    assert!(rt; scanner.text() == b"a".as_slice() && scanner.condition() == 0);
     assert!(rt; scanner.turn() == Ok(Turn::Went) && scanner.turn() == Ok(Turn::Went));
     assert!(rt; scanner.turn() == Ok(Turn::Ended(0)) && scanner.turn() == Ok(Turn::Ended(0)));
+    assert!(rt; scanner.text().is_empty() && scanner.matched().is_none());
+    Ok(())
+}
+
+/// Words, of which one has a rule of its own, and numbers before a unit.
+const LONGEST: &[u8] = b"%%\nif ;\n[a-z]+ ;\n[0-9]+/\"kg\" ;\n";
+
+/// What the longest match at the front of a text is, and which rules its first byte leads to.
+fn first_match(alloc: Global, text: &[u8]) -> Result<(Option<Candidate>, Vec<u32>), Fail> {
+    let made = generate(alloc, LONGEST, Options::new())?;
+    let mut rules = Vec::new(alloc);
+    if made.tables.parts().conditions.is_empty() {
+        return Ok((None, rules));
+    }
+    if let Some(byte) = text.first() {
+        let state = made.tables.step(made.tables.start(0, true), *byte);
+        rules.extend_from_slice(accepted(&made.tables, state))?;
+    }
+    Ok((longest(&made.tables, 0, true, text), rules))
+}
+
+#[test]
+fn the_longest_match(rt: HostRuntime) -> Result<(), Fail> {
+    let rows: &[(&[u8], MatchedRule, usize, usize, &[u32])] = &[
+        (b"iffy ", MatchedRule::Numbered(1), 4, 4, &[1]),
+        (b"12kg", MatchedRule::Numbered(2), 4, 2, &[]),
+        (b"12", MatchedRule::Default, 1, 1, &[]),
+    ];
+    for &(text, rule, length, kept, first) in rows {
+        let (found, rules) = first_match(rt.alloc(), text)?;
+        let wanted = Candidate {
+            rule,
+            length,
+            text: kept,
+        };
+        assert!(rt; found == Some(wanted) && rules.as_slice() == first);
+    }
     Ok(())
 }
 

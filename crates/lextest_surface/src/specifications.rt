@@ -1,5 +1,5 @@
 //! Specifications, by lexspec.
-use lexspec::{Cut, ReadOptions, SpecError, SpecErrorKind, Statement, read_spec};
+use lexspec::{Cut, ReadOptions, Spec, SpecError, SpecErrorKind, Statement, read_spec};
 use std::test::Fail;
 
 pub(crate) const PLAIN: ReadOptions = ReadOptions {
@@ -34,6 +34,16 @@ fn a_specification(rt: HostRuntime) -> Result<(), Fail> {
         }
         _ => assert!(rt; false),
     }
+    Ok(())
+}
+
+#[test]
+fn parts_of_a_specification(rt: HostRuntime) -> Result<(), Fail> {
+    let spec = read_spec(rt.alloc(), b"%x C\n%%\n<C>ab ECHO;\n", PLAIN)?;
+    let (conditions, rules, skipped) = spec.into_parts();
+    assert!(rt; conditions.len() == 2 && rules.len() == 1 && skipped.is_empty());
+    let again = Spec::new(conditions, rules, skipped);
+    assert!(rt; again.rules().len() == 1 && !again.rejects());
     Ok(())
 }
 

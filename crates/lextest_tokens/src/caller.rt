@@ -1,16 +1,17 @@
 //! A caller of lexkit that lists tokens: that of its CALLING.md.
-ghost use Rattle.std.specs.Prelude.{IfOk};
+ghost use Rattle.std.specs.Prelude.{IfOk, length};
 ghost use Rattle.lex_semantics.specs.Acting.{Status};
 ghost use Rattle.lex_semantics.specs.Machine.{rules_of_machine};
 ghost use Rattle.lextab_packed.specs.Machines.{machine_of};
-ghost use Rattle.lexscan_tokens.specs.Tokens.{Tokenised};
+ghost use Rattle.lexscan_tokens.specs.Tokens.{LieIn, Tokenised};
 
 use lexkit::{RunError, Tables, Token, tokens};
 use std::alloc::Global;
 
 /// The tokens of an input by tables, and the status that the scan of it ends with.
 pub fn tokens_by(alloc: Global, tables: &Tables, input: &[u8]) -> Result<(Vec<Token>, u8), RunError>
-    ensures { IfOk result (λ (list, status). Tokenised (rules_of_machine (machine_of tables.now)) input.now list.items (Status status)) }
+    ensures listed { IfOk result (λ (list, status). Tokenised (rules_of_machine (machine_of tables.now)) input.now list.items (Status status)) }
+    ensures inside { IfOk result (λ (list, status). LieIn (length input.now) 0 list.items) }
 {
     let mut list = Vec::new(alloc);
     let status = tokens(alloc, tables, input, &mut list)?;

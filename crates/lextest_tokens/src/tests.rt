@@ -3,7 +3,10 @@ use crate::caller::tokens_by;
 use crate::rows::{
     AN_END, C_TOKENS, JSON, Listing, NO_INPUT, REJECT, Row, TRAILING_CONTEXT, YYLESS, YYMORE,
 };
-use lexkit::{Candidate, MatchedRule, Options, Token, generate, longest};
+use lexkit::{
+    Candidate, Machine, MatchedRule, MemorySink, MemorySource, Options, Scanner, Token, Turn,
+    generate, longest, texts_of,
+};
 use std::alloc::Global;
 use std::test::Fail;
 
@@ -26,10 +29,10 @@ fn number_of(rule: MatchedRule) -> Option<u32> {
 }
 
 /// Whether a token is that of a row.
-fn is_row(token: &Token, given: &[u8], row: &Row) -> bool {
-    let (number, condition, line, text) = *row;
-    let same = given.get(token.start..token.end) == Some(text.as_bytes());
-    same && number_of(token.rule) == number
+fn is_row(token: &Token, text: &[u8], given: &[u8], row: &Row) -> bool {
+    let (number, condition, line, wanted) = *row;
+    text == wanted.as_bytes()
+        && number_of(token.rule) == number
         && token.condition == condition
         && line_of(given, token.start) == line
 }
@@ -39,9 +42,10 @@ fn is_listed(alloc: Global, listing: &Listing) -> Result<bool, Fail> {
     let made = generate(alloc, listing.spec.as_bytes(), Options::new())?;
     let given = listing.given.as_bytes();
     let (tokens, status) = tokens_by(alloc, &made.tables, given)?;
+    let texts = texts_of(alloc, given, &tokens)?;
     let mut same = status == listing.status && tokens.len() == listing.tokens.len();
-    for (token, row) in tokens.iter().zip(listing.tokens) {
-        same = is_row(token, given, row) && same;
+    for ((token, text), row) in tokens.iter().zip(&texts).zip(listing.tokens) {
+        same = is_row(token, text, given, row) && same;
     }
     Ok(same)
 }
@@ -67,6 +71,70 @@ fn lists_what_is_left_of_a_match(rt: HostRuntime) -> Result<(), Fail> {
         let same = is_listed(rt.alloc(), listing)?;
         assert!(rt; same, "{}", listing.spec);
     }
+    Ok(())
+}
+
+/// Whether a scanner tells a row after a turn in a condition, or nothing where there is none.
+fn is_told<M: Machine>(
+    scanner: &Scanner<'_, M, MemorySource<'_>, MemorySink>,
+    condition: u8,
+    row: Option<&Row>,
+) -> bool {
+    match (scanner.matched(), row) {
+        (None, None) => scanner.text().is_empty(),
+        (Some(matched), Some(&(number, wanted, _, text))) => {
+            number_of(matched.rule) == number
+                && condition == wanted
+                && scanner.text() == text.as_bytes()
+        }
+        _ => false,
+    }
+}
+
+/// Whether the turns of a scanner tell the matches of a listing, each with its text.
+fn are_told(alloc: Global, listing: &Listing) -> Result<bool, Fail> {
+    let made = generate(alloc, listing.spec.as_bytes(), Options::new())?;
+    let mut source = MemorySource::new(listing.given.as_bytes());
+    let mut sink = MemorySink::new(alloc);
+    let mut scanner = Scanner::new(alloc, &made.tables, &mut source, &mut sink, u64::MAX);
+    let mut rows = listing.tokens.iter();
+    for _ in 0..u64::MAX {
+        let condition = scanner.condition();
+        let turn = scanner.turn();
+        let row = rows.next();
+        if !is_told(&scanner, condition, row) {
+            return Ok(false);
+        }
+        if turn != Ok(Turn::Went) {
+            break;
+        }
+    }
+    Ok(rows.next().is_none())
+}
+
+#[test]
+fn tells_the_text_after_each_turn(rt: HostRuntime) -> Result<(), Fail> {
+    for listing in [
+        &C_TOKENS,
+        &JSON,
+        &YYLESS,
+        &TRAILING_CONTEXT,
+        &REJECT,
+        &YYMORE,
+        &AN_END,
+        &NO_INPUT,
+    ] {
+        let same = are_told(rt.alloc(), listing)?;
+        assert!(rt; same, "{}", listing.spec);
+    }
+    Ok(())
+}
+
+#[test]
+fn tells_the_lines_of_rules(rt: HostRuntime) -> Result<(), Fail> {
+    let rules = b"%x A\n%%\n\na  ;\n<A>b  |\nc  ;\n";
+    let made = generate(rt.alloc(), rules, Options::new())?;
+    assert!(rt; made.rule_lines.as_slice() == [4, 5, 6].as_slice());
     Ok(())
 }
 

@@ -11,7 +11,7 @@ use crate::buffers::hand_out;
 use crate::kinds::{build_number, kind_number};
 use crate::memory::Kept;
 use lexkit::{
-    GenError, Options, ScanError, SpecError, SpecErrorKind, Tables, WriteFault, generate,
+    GenError, Options, ScanError, SpecError, SpecErrorKind, Tables, WriteFault, generate_tables,
     write_fault, write_tables,
 };
 use std::alloc::Global;
@@ -120,7 +120,7 @@ pub fn generate_into(
 {
     *count = 0;
     *fault = NONE;
-    match generate(alloc, text, options) {
+    match generate_tables(alloc, text, options) {
         Err(error) => refuse(alloc, error, buffer, count, fault),
         Ok(made) => match file_bytes(alloc, &made.tables) {
             Err(_) => Answer::OutOfMemory,

@@ -11,14 +11,14 @@ use Rattle.lexkit.proofs.FileScanned.{one_list_of_flags, same_machine, ran}
 use Rattle.lexkit.proofs.laws.file_scans.Goals as goal
 
 pub returns : goal.returns
-returns c options text g (S, spells, skipped, lines, made) = (
+returns c options text g (S, spells, automaton, subsets, made) = (
   S,
   spells,
   λ t flags file leads given out at_end answer h. (
-      let u : Table = table_of g.tables.parts in
-      let e : t ≡ u = (c.one_table.ensures t u [] [] file.0 g.tables.lawful (ap (λ (xs : List ℕ). xs ++ []) (sym file.1))).0 in
-      let f : flags ≡ g.tables.goes_on.items = one_list_of_flags u flags g.tables.goes_on.items (subst (λ x. GoesOn x flags) e leads) g.tables.leading in
-      let same : machine_of_table t (λ s. flag flags s) ≡ machine_of made.automaton S = same_machine t u flags g.tables.goes_on.items e f ∙ made.machine in
-      ran (machine_of made.automaton S) made.least.laws S made.sound made.least.table given out at_end answer
+      let u : Table = table_of g.parts in
+      let e : t ≡ u = (c.one_table.ensures t u [] [] file.0 g.lawful (ap (λ (xs : List ℕ). xs ++ []) (sym file.1))).0 in
+      let f : flags ≡ g.goes_on.items = one_list_of_flags u flags g.goes_on.items (subst (λ x. GoesOn x flags) e leads) g.leading in
+      let same : machine_of_table t (λ s. flag flags s) ≡ machine_of automaton S = same_machine t u flags g.goes_on.items e f ∙ made.machine in
+      ran (machine_of automaton S) made.least.laws S made.sound made.least.table given out at_end answer
       (subst (λ M. Ran (rules_of_machine M) given out at_end answer) same h)),
 )

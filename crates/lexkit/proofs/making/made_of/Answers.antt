@@ -1,10 +1,11 @@
-use Rattle.std.proofs.Common.{◌++◌, ℕ, List, map, subst, refl}
+use Rattle.std.proofs.Common.{◌++◌, ◌∙◌, ℕ, List, map, ap, subst, refl}
 use Rattle.lex_semantics.specs.Text.{flag}
 use Rattle.lextab_packed.specs.Views.{table_of}
 use Rattle.std.specs.List.Sorted.{IsPermutation}
 use Rattle.lexauto_reports.specs.Warned.{of_code, of_rule}
 use Rattle.lex_semantics.specs.Spec.{Spec}
 use Rattle.lexspec.specs.Views.{spec_of, skipped_in, rules_in}
+use Rattle.lexkit.specs.Generated.{lines_of}
 use Rattle.lexkit.proofs.making.made_of.Goals as goal
 
 pub returns : goal.returns
@@ -12,29 +13,25 @@ returns c =
     let S : Spec = spec_of c.args.spec.now in
     let l = c.requires.least in
     record {
-      sound = c.tested_specifications.ensures S c.args.spec.now.sound;
-      automaton = c.args.least.now.automaton;
-      subsets = c.args.least.now.subsets;
-      least = l;
-      packed = c.in_ok-tables.ensures.packed;
-      machine = c.in_ok-tables.ensures.machine;
-      canonical = record {
-        automaton = c.args.least.now.automaton;
-        conditions = l.conditions;
-        table_for = l.table;
-        least = l.least;
-        numbered = l.numbered;
-        table = table_of c.in_ok-tables.tables.parts;
-        goes_on = λ s. flag c.in_ok-tables.tables.goes_on.items s;
-        machine = c.in_ok-tables.ensures.machine;
+      tables = record {
+        sound = c.tested_specifications.ensures S c.args.spec.now.sound;
+        least = l;
         packed = c.in_ok-tables.ensures.packed;
-        file = (c.in_ok-tables.tables.lawful, refl);
+        machine = c.in_ok-tables.ensures.machine;
+        canonical = record {
+          automaton = c.args.least.now.automaton;
+          conditions = l.conditions;
+          table_for = l.table;
+          least = l.least;
+          numbered = l.numbered;
+          table = table_of c.in_ok-tables.tables.parts;
+          goes_on = λ s. flag c.in_ok-tables.tables.goes_on.items s;
+          machine = c.in_ok-tables.ensures.machine;
+          packed = c.in_ok-tables.ensures.packed;
+          file = (c.in_ok-tables.tables.lawful, refl);
+        };
       };
+      rule_lines = c.in_ok-rule_lines.ensures ∙ ap lines_of c.rules.ensures.rules;
       warnings = (c.in_ok-warnings.ensures.in_order, (c.in_ok-useless.useless.items, c.in_ok-useless.ensures.ascending, c.in_ok-useless.ensures.useless, subst (λ (xs : List ℕ). IsPermutation (map of_code (skipped_in c.args.spec.now) ++ map (of_rule (rules_in S)) xs) c.in_ok-warnings.warnings.items) c.deref.ensures.value c.in_ok-warnings.ensures.all));
-      backup = record {
-        ascending = c.in_ok-backup.ensures.ascending;
-        states = c.in_ok-backup.ensures.back_words S l.conditions l.table;
-        words = c.in_ok-backup.ensures.words;
-      };
       stats = c.stats_of-stats.ensures;
     }

@@ -12,14 +12,14 @@ use Rattle.lexkit.proofs.Refusing.{within}
 use Rattle.lexkit.proofs.scan.scan_made.Goals as goal
 
 pub returns-in-Err-run-clause-told : goal.returns-in-Err-run-clause-told
-returns-in-Err-run-clause-told g c options text (S, spells, skipped, lines, made) =
-    let M : Machine = machine_of made.automaton S in
+returns-in-Err-run-clause-told g c options text (S, spells, automaton, subsets, made) =
+    let M : Machine = machine_of automaton S in
     let same : table_machine c.in-Ok.laid.tables.now ≡ M = c.in-Ok.ensures.machine ∙ made.machine in
     let h = c.in-Err-run.ensures.ran in
     let b : Bool = nat_lt (g.S.Source.ends c.args.source.now) (g.S.Source.ends c.run.new.source) in (
       S,
       spells,
-      within options.limits S made.subsets made.automaton made.least,
+      within options.limits S subsets automaton made.least,
       record {
         given = h.0;
         out = h.1;
@@ -32,14 +32,14 @@ returns-in-Err-run-clause-told g c options text (S, spells, skipped, lines, made
     )
 
 pub returns-clause-told : goal.returns-clause-told
-returns-clause-told g c options text (S, spells, skipped, lines, made) =
-    let M : Machine = machine_of made.automaton S in
+returns-clause-told g c options text (S, spells, automaton, subsets, made) =
+    let M : Machine = machine_of automaton S in
     let same : table_machine c.in-Ok.laid.tables.now ≡ M = c.in-Ok.ensures.machine ∙ made.machine in
     let h = c.in-Ok-run.ensures.ran in
     let b : Bool = nat_lt (g.S.Source.ends c.args.source.now) (g.S.Source.ends c.run.new.source) in (
       S,
       spells,
-      within options.limits S made.subsets made.automaton made.least,
+      within options.limits S subsets automaton made.least,
       record {
         given = h.0;
         out = h.1;

@@ -1,4 +1,4 @@
-use Rattle.std.proofs.Common.{◌≡◌, List, [], sym, subst}
+use Rattle.std.proofs.Common.{[], sym, subst}
 use Rattle.lexlook_calls.specs.Lines.{side_as}
 use Rattle.lexlook_calls.specs.Naming.{ArePaired}
 use Rattle.lexlook_calls.specs.Sides.{read_as}

@@ -1,7 +1,7 @@
-use Rattle.std.proofs.Common.{◌≡◌, ◌∙◌, List, ℕ, Bool, Err, sym, subst}
+use Rattle.std.proofs.Common.{◌∙◌, Bool, Err, sym, subst}
 use Rattle.lex_io.specs.Sink.{Appended}
 use Rattle.lexlook_calls.specs.Compared.{Holds}
-use Rattle.lexlook_calls.specs.Lines.{side_as, told_line}
+use Rattle.lexlook_calls.specs.Lines.{side_as}
 use Rattle.lexlook_calls.specs.declared.error.LookError.{LookError}
 use Rattle.lexlook_calls.specs.declared.error.LookError.TheVariants.{Write}
 use Rattle.lexlook_calls.proofs.comparing.tell.Goals as goal

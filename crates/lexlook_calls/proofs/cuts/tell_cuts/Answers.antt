@@ -1,4 +1,4 @@
-use Rattle.std.proofs.Common.{◌≡◌, ◌∙◌, List, [], sym, subst}
+use Rattle.std.proofs.Common.{◌∙◌, [], subst}
 use Rattle.lexlook_calls.specs.Lines.{side_as}
 use Rattle.lexlook_calls.proofs.Cutting.{can_tell_some}
 use Rattle.lexlook_calls.proofs.cuts.tell_cuts.Goals as goal

@@ -3,7 +3,8 @@ use Rattle.std.specs.Borrow.{Bor}
 use Rattle.lex_io.specs.Sink.{Appended}
 use Rattle.lexspec.specs.Views.{conditions_in, rules_in, spec_of}
 use Rattle.lexlook_pictures.specs.Pictures.{picture}
-use Rattle.lexlook_calls.specs.Looks.{lines_of, names_of}
+use Rattle.lexkit.specs.Generated.{lines_of}
+use Rattle.lexlook_calls.specs.Looks.{names_of}
 use Rattle.lexlook_calls.proofs.drawing.draw_automaton.Goals as goal
 
 pub returns-clause-bytes : goal.returns-clause-bytes

@@ -1,4 +1,4 @@
-use Rattle.std.proofs.Common.{◌≡◌, ℕ, ◌<◌, List, length, map}
+use Rattle.std.proofs.Common.{◌≡◌, ℕ, ◌<◌, length, map}
 use Rattle.std.specs.Prelude.{slice_get, get_or}
 use Rattle.lexlook_calls.proofs.naming.order_of.Given as goal
 

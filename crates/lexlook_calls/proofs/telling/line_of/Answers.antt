@@ -1,10 +1,10 @@
-use Rattle.std.proofs.Common.{◌≡◌, ◌<◌, ◌∙◌, ℕ, List, length, map, ap, sym, arith}
+use Rattle.std.proofs.Common.{◌<◌, ◌∙◌, List, length, map, ap, sym, arith}
 use Rattle.std.specs.Prelude.{slice_index}
 use Rattle.std.proofs.lemmas.List.{get_or-map, length-map}
 use Rattle.lex_semantics.specs.Spec.{Rule}
 use Rattle.lexspec.specs.RuleViews.{rule_of}
 use Rattle.lexspec.specs.declared.rule.Rule.{Rule as Made}
-use Rattle.lexlook_calls.specs.Looks.{lines_of}
+use Rattle.lexkit.specs.Generated.{lines_of}
 use Rattle.lexlook_calls.proofs.telling.line_of.Goals as goal
 
 pub returns : goal.returns

@@ -1,4 +1,4 @@
-use Rattle.std.proofs.Common.{◌≡◌, ◌<◌, ◌∙◌, ℕ, List, [], length, map, ap, sym, arith}
+use Rattle.std.proofs.Common.{◌<◌, ◌∙◌, List, [], length, map, ap, sym, arith}
 use Rattle.std.specs.Prelude.{slice_index_or}
 use Rattle.std.proofs.lemmas.List.{get_or-map, length-map}
 use Rattle.lex_semantics.specs.Spec.{Condition}

@@ -1,0 +1,7 @@
+use Rattle.lexspec.specs.Views.{spec_of, skipped_in}
+use Rattle.lexkit.proofs.Refusing.{tables_of_text}
+use Rattle.lexkit.proofs.making.generate_tables.Goals as goal
+
+pub returns : goal.returns
+returns c =
+    tables_of_text c.args.options c.args.text.now (spec_of c.in-Ok.spec) (skipped_in c.in-Ok.spec) c.in-Ok.ensures.found c.in-Ok.ensures.skipped c.tables_by.result c.tables_by.ensures

@@ -1,0 +1,148 @@
+-- A specification in which each action is REJECT has the same texts that fit its rules, and as many states before minimising.
+use Rattle.std.proofs.Common.{◌≡◌, ◌↔◌, ℕ, zero, suc, ◌+◌, Bool, true, List, [], ◌∷◌, ◌++◌, length, map, Some, refl, sym, ap, subst, arith}
+use Rattle.std.specs.Prelude.{slice_get}
+use Rattle.lex_semantics.specs.Tree.{In}
+use Rattle.lex_semantics.specs.Spec.{Spec, Rule, Condition, rejects}
+use Rattle.lex_semantics.specs.Active.{active}
+use Rattle.lex_semantics.specs.Fits.{InTrail}
+use Rattle.lex_semantics.specs.Reports.{HasFit}
+use Rattle.lex_semantics.specs.TableFor.{Accepted}
+use Rattle.lex_semantics.specs.Positions.{Cell, Readings}
+use Rattle.lex_semantics.specs.Subsets.{all_positions, positions_of_rule, base_of, AreLasts, AreStarts, IsActive, IsLast, ListsSet, ReadsActive, ReadsRule, Subsets}
+use Rattle.lexlook_words.specs.Rejecting.{rejecting, rejecting_rule}
+
+pub got_map : (rs : List Rule) (i : ℕ) (r : Rule) → slice_get rs i ≡ Some r → slice_get (map rejecting_rule rs) i ≡ Some (rejecting_rule r)
+got_map [] i r e = absurd cc
+got_map (q ∷ rs) zero r e = (let same : q ≡ r = cc in ap (λ (x : Rule). Some (rejecting_rule x)) same)
+got_map (q ∷ rs) (suc i) r e = got_map rs i r e
+
+pub got_back : (rs : List Rule) (i : ℕ) (r : Rule) → slice_get (map rejecting_rule rs) i ≡ Some r → (q : Rule) × (slice_get rs i ≡ Some q) × (r ≡ rejecting_rule q)
+got_back [] i r e = absurd cc
+got_back (q ∷ rs) zero r e = (q, refl, (let same : rejecting_rule q ≡ r = cc in sym same))
+got_back (q ∷ rs) (suc i) r e = got_back rs i r e
+
+-- the same texts fit
+
+fits_to : (S : Spec) (c : ℕ) (line : Bool) (w : List ℕ) (i : ℕ) → HasFit (rejecting S) c line w i → HasFit S c line w i
+fits_to S c line w i (k, f) =
+    let g = got_back S.rules i f.rule f.at in (
+      k,
+      record {
+        rule = g.0;
+        at = g.1;
+        is_active = subst (λ (q : Rule). active (rejecting S) c line q ≡ true) g.2 f.is_active;
+        text = f.text;
+        trail = f.trail;
+        splits = f.splits;
+        length_is = f.length_is;
+        not_empty = f.not_empty;
+        in_head = subst (λ (q : Rule). In q.head f.text) g.2 f.in_head;
+        in_trail = subst (λ (q : Rule). InTrail q.trail f.trail) g.2 f.in_trail;
+      },
+    )
+
+fits_from : (S : Spec) (c : ℕ) (line : Bool) (w : List ℕ) (i : ℕ) → HasFit S c line w i → HasFit (rejecting S) c line w i
+fits_from S c line w i (k, f) = (
+  k,
+  record {
+    rule = rejecting_rule f.rule;
+    at = got_map S.rules i f.rule f.at;
+    is_active = f.is_active;
+    text = f.text;
+    trail = f.trail;
+    splits = f.splits;
+    length_is = f.length_is;
+    not_empty = f.not_empty;
+    in_head = f.in_head;
+    in_trail = f.in_trail;
+  },
+)
+
+no_fit : (ks : List Condition) (c : ℕ) (line : Bool) (w : List ℕ) (i : ℕ) → HasFit (record { conditions = ks; rules = [] }) c line w i → ⊥
+no_fit ks c line w i (k, f) = (let e = f.at in cc)
+
+-- all rules that fit are accepted
+accepted_is : (ks : List Condition) (rs : List Rule) (c : ℕ) (line : Bool) (w : List ℕ) (i : ℕ)
+    → Accepted (rejects (record { conditions = ks; rules = map rejecting_rule rs })) (record { conditions = ks; rules = map rejecting_rule rs }) c line w i
+    ↔ HasFit (record { conditions = ks; rules = map rejecting_rule rs }) c line w i
+accepted_is ks [] c line w i = (λ h. h.0, λ f. absurd (no_fit ks c line w i f))
+accepted_is ks (r ∷ rs) c line w i = (λ h. h, λ f. f)
+
+pub fits_accepted : (S : Spec) (c : ℕ) (line : Bool) (w : List ℕ) (i : ℕ) → Accepted (rejects (rejecting S)) (rejecting S) c line w i ↔ HasFit S c line w i
+fits_accepted S c line w i =
+    let e = accepted_is S.conditions S.rules c line w i in
+    (λ h. fits_to S c line w i (e.0 h), λ f. e.1 (fits_from S c line w i f))
+
+-- as many positions
+
+pub positions_same : (rs : List Rule) → all_positions (map rejecting_rule rs) ≡ all_positions rs
+positions_same [] = refl
+positions_same (r ∷ rs) = ap (λ (n : ℕ). positions_of_rule r + n) (positions_same rs)
+
+base_same : (rs : List Rule) (b i : ℕ) → base_of (map rejecting_rule rs) b i ≡ base_of rs b i
+base_same [] b i = refl
+base_same (r ∷ rs) b zero = refl
+base_same (r ∷ rs) b (suc i) = base_same rs (b + positions_of_rule r) i
+
+active_same : (S : Spec) (c : ℕ) (line : Bool) (i : ℕ) → IsActive (rejecting S) c line i ↔ IsActive S c line i
+active_same S c line i = (
+  λ h. (let g = got_back S.rules i h.0 h.1 in (g.0, g.1, subst (λ (q : Rule). active (rejecting S) c line q ≡ true) g.2 h.2)),
+  λ h. (rejecting_rule h.0, got_map S.rules i h.0 h.1, h.2),
+)
+
+reads_same : (S : Spec) (c : ℕ) (line : Bool) (rs : List Cell) → ReadsActive (rejecting S) c line rs ↔ ReadsActive S c line rs
+reads_same S c line rs = (
+  λ h.
+      let g = got_back S.rules h.0 h.1 h.2 in
+      let read = subst (λ (q : Rule). ReadsRule q (base_of (map rejecting_rule S.rules) 0 h.0) rs) g.2 h.4 in
+      (h.0, g.0, g.1, subst (λ (q : Rule). active (rejecting S) c line q ≡ true) g.2 h.3, subst (λ (b : ℕ). ReadsRule g.0 b rs) (base_same S.rules 0 h.0) read),
+  λ h. (h.0, rejecting_rule h.1, got_map S.rules h.0 h.1 h.2, h.3, subst (λ (b : ℕ). ReadsRule h.1 b rs) (sym (base_same S.rules 0 h.0)) h.4),
+)
+
+lists_alike : (l : List ℕ) (P Q : ℕ → Type 0) → ((i : ℕ) → P i ↔ Q i) → ListsSet l P → ListsSet l Q
+lists_alike l P Q same h = (h.0, λ i. (λ a. (same i).0 ((h.1 i).0 a), λ q. (h.1 i).1 ((same i).1 q)))
+
+last_alike : (R Q : Readings) → ((rs : List Cell) → R rs ↔ Q rs) → (w : List ℕ) (p : ℕ) → IsLast R w p ↔ IsLast Q w p
+last_alike R Q same w p = (
+  λ h. (h.0, h.1, h.2, h.3, (same (h.0 ++ h.1)).0 h.4),
+  λ h. (h.0, h.1, h.2, h.3, (same (h.0 ++ h.1)).1 h.4),
+)
+
+swap : {P Q : Type 0} → P ↔ Q → Q ↔ P
+swap e = (e.1, e.0)
+
+-- sets of active rules and of last positions that are the same
+module _ (S T : Spec) (count : length S.conditions ≡ length T.conditions)
+    (active_is : (c : ℕ) (line : Bool) (i : ℕ) → IsActive S c line i ↔ IsActive T c line i)
+    (reads_are : (c : ℕ) (line : Bool) (rs : List Cell) → ReadsActive S c line rs ↔ ReadsActive T c line rs) where
+  starts_alike : (ls : List (List ℕ)) → AreStarts S ls → AreStarts T ls
+  starts_alike ls a = record {
+    distinct = a.distinct;
+    listed = λ c line l low set some. a.listed c line l (omega (arith, low, count)) (lists_alike l (IsActive T c line) (IsActive S c line) (λ i. swap (active_is c line i)) set) some;
+    only = λ l m. (let r = a.only l m in let low = r.2 in (r.0, r.1, (omega (arith, low, count)), r.3, lists_alike l (IsActive S r.0 r.1) (IsActive T r.0 r.1) (active_is r.0 r.1) r.4));
+  }
+
+  lasts_are : (c : ℕ) (line : Bool) (w : List ℕ) (p : ℕ) → IsLast (ReadsActive S c line) w p ↔ IsLast (ReadsActive T c line) w p
+  lasts_are c line w p = last_alike (ReadsActive S c line) (ReadsActive T c line) (reads_are c line) w p
+
+  lasts_alike : (ls : List (List ℕ)) → AreLasts S ls → AreLasts T ls
+  lasts_alike ls a = record {
+    distinct = a.distinct;
+    listed = λ c line w l low text more set some. a.listed c line w l (omega (arith, low, count)) text more (lists_alike l (IsLast (ReadsActive T c line) w) (IsLast (ReadsActive S c line) w) (λ p. swap (lasts_are c line w p)) set) some;
+    only = λ l m. (let r = a.only l m in let low = r.3 in (r.0, r.1, r.2, (omega (arith, low, count)), r.4, r.5, r.6, lists_alike l (IsLast (ReadsActive S r.0 r.1) r.2) (IsLast (ReadsActive T r.0 r.1) r.2) (lasts_are r.0 r.1 r.2) r.7));
+  }
+
+  pub subsets_alike : (n : ℕ) → Subsets S n → Subsets T n
+  subsets_alike n a = record {
+    starts = a.starts;
+    lasts = a.lasts;
+    are_starts = starts_alike a.starts a.are_starts;
+    are_lasts = lasts_alike a.lasts a.are_lasts;
+    total = a.total;
+  }
+
+pub subsets_to : (S : Spec) (n : ℕ) → Subsets (rejecting S) n → Subsets S n
+subsets_to S n = subsets_alike (rejecting S) S refl (active_same S) (reads_same S) n
+
+pub subsets_from : (S : Spec) (n : ℕ) → Subsets S n → Subsets (rejecting S) n
+subsets_from S n = subsets_alike S (rejecting S) refl (λ c line i. swap (active_same S c line i)) (λ c line rs. swap (reads_same S c line rs)) n

@@ -1,0 +1,75 @@
+-- What is told of rules depends on the texts that fit them alone.
+use Rattle.std.proofs.Common.{◌≡◌, ◌↔◌, ◌≤◌, ℕ, Bool, List, length, take, Option, Some, None, sym, ◌∙◌, arith}
+use Rattle.std.proofs.lemmas.List.{length-take-le}
+use Rattle.lex_semantics.proofs.Texts.{is_text_take}
+use Rattle.lexlook_words.specs.Matches.{Matches, IsInput, IsCopied, Takes}
+use Rattle.lexlook_words.specs.Words.{AreTakers, AreWords, IsFirst, Tells, TellsDefault}
+use Rattle.lexlook_words.specs.declared.finding.Place.{Place}
+use Rattle.lexlook_words.specs.declared.finding.Word.{Word}
+use Rattle.lexlook_words.specs.declared.finding.Word.TheVariants.{Taken, Never}
+use Rattle.lexlook_words.specs.declared.finding.Words.{Words}
+
+-- the same texts fit the same rules, and the same rules give them up
+pub record AreAlike (m n : Matches) : Type 0 where
+  pub conditions : m.conditions ≡ n.conditions
+  pub count : m.count ≡ n.count
+  pub fits : (c : ℕ) (line : Bool) (w : List ℕ) (i : ℕ) → IsInput m c w → m.fits c line w i ↔ n.fits c line w i
+  pub gives_up : (i : ℕ) → m.gives_up i ≡ n.gives_up i
+
+module _ (m n : Matches) (a : AreAlike m n) where
+  to_input : (c : ℕ) (w : List ℕ) → IsInput m c w → IsInput n c w
+  to_input c w h = record { condition = (let e = a.conditions in let low = h.condition in omega (arith, e, low)); text = h.text; some = h.some }
+
+  from_input : (c : ℕ) (w : List ℕ) → IsInput n c w → IsInput m c w
+  from_input c w h = record { condition = (let e = a.conditions in let low = h.condition in omega (arith, e, low)); text = h.text; some = h.some }
+
+  to_takes : (c : ℕ) (line : Bool) (w : List ℕ) (i : ℕ) → IsInput m c w → Takes m c line w i → Takes n c line w i
+  to_takes c line w i h t = ((a.fits c line w i h).0 t.0, λ j low f. sym (a.gives_up j) ∙ t.1 j low ((a.fits c line w j h).1 f))
+
+  from_takes : (c : ℕ) (line : Bool) (w : List ℕ) (i : ℕ) → IsInput m c w → Takes n c line w i → Takes m c line w i
+  from_takes c line w i h t = ((a.fits c line w i h).1 t.0, λ j low f. a.gives_up j ∙ t.1 j low ((a.fits c line w j h).0 f))
+
+  front_input : (c k : ℕ) (y : List ℕ) → IsInput m c y → 1 ≤ k → k ≤ length y → IsInput m c (take k y)
+  front_input c k y h some few = record {
+    condition = h.condition;
+    text = is_text_take k y h.text;
+    some = (let e = length-take-le k y few in omega (arith, e, some));
+  }
+
+  to_copied : (c : ℕ) (line : Bool) (y : List ℕ) → IsInput m c y → IsCopied m c line y → IsCopied n c line y
+  to_copied c line y h copied = λ k some few i f. sym (a.gives_up i) ∙ copied k some few i ((a.fits c line (take k y) i (front_input c k y h some few)).1 f)
+
+  from_copied : (c : ℕ) (line : Bool) (y : List ℕ) → IsInput m c y → IsCopied n c line y → IsCopied m c line y
+  from_copied c line y h copied = λ k some few i f. a.gives_up i ∙ copied k some few i ((a.fits c line (take k y) i (front_input c k y h some few)).0 f)
+
+  to_first : (P Q : ℕ → Bool → List ℕ → Type 0) → ((c : ℕ) (line : Bool) (w : List ℕ) → IsInput m c w → P c line w ↔ Q c line w) → (q : Place) → IsFirst m P q → IsFirst n Q q
+  to_first P Q same q f = record {
+    input = to_input q.condition q.text.items f.input;
+    holds = (same q.condition q.line_start q.text.items f.input).0 f.holds;
+    first = λ c line w h t. f.first c line w (from_input c w h) ((same c line w (from_input c w h)).1 t);
+  }
+
+  to_takers : (i : ℕ) (js : List ℕ) → AreTakers m i js → AreTakers n i js
+  to_takers i js t = record {
+    none = λ c line w h f. t.none c line w (from_input c w h) (from_takes c line w i (from_input c w h) f);
+    ascending = t.ascending;
+    takers = λ j. (
+      λ b. (let r = (t.takers j).0 b in (r.0, r.1, r.2, to_input r.0 r.2 r.3, (a.fits r.0 r.1 r.2 i r.3).0 r.4, to_takes r.0 r.1 r.2 j r.3 r.5, sym (a.gives_up j) ∙ r.6)),
+      λ r. (t.takers j).1 (r.0, r.1, r.2, from_input r.0 r.2 r.3, (a.fits r.0 r.1 r.2 i (from_input r.0 r.2 r.3)).1 r.4, from_takes r.0 r.1 r.2 j (from_input r.0 r.2 r.3) r.5, a.gives_up j ∙ r.6),
+    );
+  }
+
+  to_tells : (i : ℕ) (x : Word) → Tells m i x → Tells n i x
+  to_tells i (Taken q) t = to_first (λ c line w. Takes m c line w i) (λ c line w. Takes n c line w i) (λ c line w h. (to_takes c line w i h, from_takes c line w i h)) q t
+  to_tells i (Never js) t = to_takers i js.items t
+
+  to_default : (o : Option Place) → TellsDefault m o → TellsDefault n o
+  to_default None none = λ c line w h copied. none c line w (from_input c w h) (from_copied c line w (from_input c w h) copied)
+  to_default (Some q) t = (to_first (IsCopied m) (IsCopied n) (λ c line w h. (to_copied c line w h, from_copied c line w h)) q t.0, t.1)
+
+  pub words_alike : (v : Words) → AreWords m v → AreWords n v
+  words_alike v t = record {
+    each = t.each ∙ a.count;
+    rules = λ i x e. to_tells i x (t.rules i x e);
+    default = to_default v.default t.default;
+  }

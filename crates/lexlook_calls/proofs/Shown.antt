@@ -1,0 +1,118 @@
+-- What is told of a specification by the one in which each action is REJECT: it holds of it, and has names and lines.
+use Rattle.std.proofs.Common.{◌≡◌, ◌<◌, ◌≤◌, ℕ, zero, suc, Bool, List, [], ◌∷◌, length, map, Option, Some, None, refl, sym, ap, subst, ◌∙◌, arith}
+use Rattle.std.specs.Prelude.{slice_get}
+use Rattle.std.proofs.lemmas.List.{length-map}
+use Rattle.lex_semantics.specs.Spec.{Spec, Rule}
+use Rattle.lex_semantics.specs.Text.{Among, flag}
+use Rattle.lex_semantics.specs.TableFor.{TableFor}
+use Rattle.lex_semantics.specs.Subsets.{Subsets, all_positions}
+use Rattle.lexauto.specs.declared.error.BuildError.{BuildError}
+use Rattle.lexauto.specs.declared.error.BuildError.TheVariants as builds
+use Rattle.lexauto.specs.declared.subsets.Limits.{Limits}
+use Rattle.lexauto_dfa.specs.Automata.{conditions_of, machine_in, machine_of, states_of}
+use Rattle.lexauto_dfa.specs.declared.dfa.Dfa.{Dfa}
+use Rattle.lexkit.proofs.Refusing.{by_reason}
+use Rattle.lexkit.specs.Generated.{lines_of}
+use Rattle.lexkit.specs.Headline.{BuildRefusal}
+use Rattle.lexauto_dfa.specs.Parts.{conditions, start, accepts}
+use Rattle.lexauto_dfa.specs.declared.dfa.Parts.{Parts}
+use Rattle.lexauto_dfa.proofs.Machinery.{walk_after}
+use Rattle.lexlook_words.specs.Matches.{matches_in, matches_of}
+use Rattle.lexlook_words.specs.Rejecting.{rejecting, rejecting_rule}
+use Rattle.lexlook_words.specs.Words.{AreWords, Tells, TellsDefault}
+use Rattle.lexlook_words.specs.declared.finding.Place.{Place}
+use Rattle.lexlook_words.specs.declared.finding.Word.{Word}
+use Rattle.lexlook_words.specs.declared.finding.Word.TheVariants.{Taken, Never}
+use Rattle.lexlook_words.specs.declared.finding.Words.{Words}
+use Rattle.lex_semantics.specs.Spec.{has_reject, statements_at}
+use Rattle.lexlook_calls.specs.Looks.{names_of}
+use Rattle.lexlook_calls.specs.Words.{AreLabelled, AreWordsOf, HasLabels, word_lines}
+use Rattle.lexlook_calls.proofs.Matching.{AreAlike, words_alike}
+use Rattle.lexlook_calls.proofs.Alike.{fits_accepted, positions_same, subsets_from, subsets_to}
+
+-- the automaton of the specification in which each action is REJECT tells which texts fit
+pub automaton_alike : (S : Spec) (p : Parts) (rejects : List Bool) → conditions p ≡ length S.conditions → TableFor (machine_in p (rejecting S)) (rejecting S)
+    → length rejects ≡ length S.rules → ((i : ℕ) → flag rejects i ≡ has_reject (statements_at (slice_get S.rules i)))
+    → AreAlike (matches_in p rejects) (matches_of S)
+automaton_alike S p rejects count table len flags = record {
+  conditions = count;
+  count = len;
+  fits = λ c line w i h.
+      let low = h.condition in
+      let known : c < length S.conditions = omega (arith, low, count) in
+      let e = table.accepts c line w i known h.text in
+      let walked = walk_after p (rejecting S) (start p c line) w in
+      let back = fits_accepted S c line w i in
+      (λ a. back.0 (e.0 (subst (λ (s : ℕ). Among (accepts p s) i) (sym walked) a)), λ f. subst (λ (s : ℕ). Among (accepts p s) i) walked (e.1 (back.1 f)));
+  gives_up = flags;
+}
+
+known_rule : (rs : List Rule) (i : ℕ) (r : Rule) → slice_get rs i ≡ Some r → i < length rs
+known_rule [] i r e = absurd cc
+known_rule (q ∷ rs) zero r e = omega arith
+known_rule (q ∷ rs) (suc i) r e = let low = known_rule rs i r e in omega (arith, low)
+
+pub labelled : (S : Spec) (v : Words) → AreWords (matches_of S) v → AreLabelled (names_of S.conditions) (lines_of S.rules) v
+labelled S v a = record {
+  each = a.each ∙ sym (length-map S.rules (λ (r : Rule). r.line));
+  rules = λ i x e. label i x (a.rules i x e);
+  default = λ p e. of_default v.default p e a.default;
+}
+  where
+    n : length (names_of S.conditions) ≡ length S.conditions
+    n = length-map S.conditions (λ k. k.name)
+
+    m : length (lines_of S.rules) ≡ length S.rules
+    m = length-map S.rules (λ (r : Rule). r.line)
+
+    label : (i : ℕ) (x : Word) → Tells (matches_of S) i x → HasLabels (names_of S.conditions) (lines_of S.rules) x
+    label i (Taken q) t = (let low = t.input.condition in omega (arith, low, n))
+    label i (Never js) t = λ j b. (let r = (t.takers j).0 b in let low = known_rule S.rules j (r.5.0.1).rule (r.5.0.1).at in omega (arith, low, m))
+
+    of_default : (o : Option Place) (p : Place) → o ≡ Some p → TellsDefault (matches_of S) o → p.condition < length (names_of S.conditions)
+    of_default None p e t = absurd cc
+    of_default (Some q) p e t = (let same : q ≡ p = cc in let low = t.0.input.condition in let lt : q.condition < length (names_of S.conditions) = omega (arith, low, n) in subst (λ (k : Place). k.condition < length (names_of S.conditions)) same lt)
+
+-- the names and lines stay as they were
+pub names_same : (S T : Spec) → T ≡ rejecting S → names_of T.conditions ≡ names_of S.conditions
+names_same S T e = ap (λ (U : Spec). names_of U.conditions) e
+
+lines_map : (rs : List Rule) → lines_of (map rejecting_rule rs) ≡ lines_of rs
+lines_map [] = refl
+lines_map (r ∷ rs) = ap (λ (ls : List ℕ). r.line ∷ ls) (lines_map rs)
+
+pub lines_same : (S T : Spec) → T ≡ rejecting S → lines_of T.rules ≡ lines_of S.rules
+lines_same S T e = ap (λ (U : Spec). lines_of U.rules) e ∙ lines_map S.rules
+
+-- what is refused of one is refused of the other
+pub refused_alike : (limits : Limits) (S T : Spec) (e : BuildError) → T ≡ rejecting S → (e ≡ builds.TooManyPositions → limits.positions < all_positions T.rules) → (e ≡ builds.TooManyStates → (n : ℕ) → Subsets T n → limits.states < n)
+    → BuildRefusal limits S e
+refused_alike limits S T e is positions states =
+    by_reason limits S e (λ many. subst (λ (n : ℕ). limits.positions < n) (ap (λ (U : Spec). all_positions U.rules) is ∙ positions_same S.rules) (positions many))
+    (λ many n h. states many n (subst (λ (U : Spec). Subsets U n) (sym is) (subsets_from S n h)))
+
+-- what is found by the automaton of the one is told of the other
+pub words_shown : (limits : Limits) (S T : Spec) (d : Dfa) (rejects : List Bool) (v : Words) → T ≡ rejecting S → TableFor (machine_of d T) T → conditions_of d ≡ length T.conditions → Subsets T (states_of d)
+    → all_positions T.rules ≤ limits.positions → states_of d ≤ limits.states → length rejects ≡ length S.rules → ((i : ℕ) → flag rejects i ≡ has_reject (statements_at (slice_get S.rules i)))
+    → AreWords (matches_in d.parts rejects) v → AreWordsOf limits S v
+words_shown limits S T d rejects v is table count subsets positions states len flags words = record {
+  within = record {
+    few_positions = subst (λ (n : ℕ). n ≤ limits.positions) (ap (λ (U : Spec). all_positions U.rules) is ∙ positions_same S.rules) positions;
+    states = states_of d;
+    subsets = subsets_to S (states_of d) (subst (λ (U : Spec). Subsets U (states_of d)) is subsets);
+    few_states = states;
+  };
+  words = words_alike (matches_in d.parts rejects) (matches_of S)
+      (automaton_alike S d.parts rejects (count ∙ ap (λ (U : Spec). length U.conditions) is) (subst (λ (U : Spec). TableFor (machine_in d.parts U) U) is table) len flags) v words;
+}
+
+-- it has the names and lines of the one
+pub labelled_by : (S T : Spec) (v : Words) → T ≡ rejecting S → AreWords (matches_of S) v → AreLabelled (names_of T.conditions) (lines_of T.rules) v
+labelled_by S T v is words =
+    subst (λ (ns : List (List ℕ)). AreLabelled ns (lines_of T.rules) v) (sym (names_same S T is))
+    (subst (λ (ls : List ℕ). AreLabelled (names_of S.conditions) ls v) (sym (lines_same S T is)) (labelled S v words))
+
+-- so its lines are those of the other
+pub lines_shown : (S T : Spec) (v : Words) → T ≡ rejecting S → word_lines (names_of T.conditions) (lines_of T.rules) v ≡ word_lines (names_of S.conditions) (lines_of S.rules) v
+lines_shown S T v is =
+    ap (λ (ns : List (List ℕ)). word_lines ns (lines_of T.rules) v) (names_same S T is) ∙ ap (λ (ls : List ℕ). word_lines (names_of S.conditions) ls v) (lines_same S T is)

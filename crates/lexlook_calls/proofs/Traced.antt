@@ -1,0 +1,47 @@
+-- What a scan leaves by the specification that tells its matches.
+use Rattle.std.proofs.Common.{◌≡◌, ℕ, refl, Bool, true, false, List, Result, Ok, Err, sym, ◌∙◌, ap, subst}
+use Rattle.lex_semantics.specs.Spec.{Spec}
+use Rattle.std.specs.FinMap.{get}
+use Rattle.lexre_bytes.specs.Lexical.{symbol_at}
+use Rattle.lexre.proofs.CuttingLaws.{one_cutting}
+use Rattle.lexre.proofs.OneTree.{one_tree}
+use Rattle.lexspec.proofs.OneSpec.{one_specification}
+use Rattle.lexspec.specs.Files.{SpellsSpec}
+use Rattle.lexkit.specs.Headline.{ScansBy, reading}
+use Rattle.lexkit.specs.declared.errors.GenError.TheVariants as gens
+use Rattle.lexkit.specs.declared.errors.ScanError.{ScanError}
+use Rattle.lexkit.specs.declared.errors.ScanError.TheVariants as scans
+use Rattle.lexkit.specs.declared.options.Options.{Options}
+use Rattle.lexlook_calls.specs.Tracing.{SpellsWithRoom, Traces}
+use Rattle.lexlook_trace.specs.Traced.{has_room, traced}
+use Rattle.lexlook_trace.specs.TraceLaw.{TellsRuns, TellsTurns}
+
+-- a scan by it is a trace
+told : {A B : Type 0} (gave : A → List ℕ → A → Type 0) (wrote : B → List ℕ → B → Type 0) (options : Options) (text : List ℕ) (at_end : Bool) (s s' : A) (t t' : B) (S : Spec) (answer : Result ℕ ScanError) →
+    SpellsWithRoom options text S → TellsTurns S → TellsRuns S → ScansBy gave wrote options.limits (traced S) at_end s s' t t' answer → Traces gave wrote options text at_end s s' t t' answer
+told gave wrote options text at_end s s' t t' S (Ok status) spells turns runs h = record { spec = S; spells = spells; within = h.0; scans = h.1; turns = turns; runs = runs }
+told gave wrote options text at_end s s' t t' S (Err (scans.Run e)) spells turns runs h = record { spec = S; spells = spells; within = h.0; scans = h.1; turns = turns; runs = runs }
+told gave wrote options text at_end s s' t t' S (Err (scans.Generate (gens.Build e))) spells turns runs h = ((S, spells, h.0), h.1, h.2)
+told gave wrote options text at_end s s' t t' S (Err (scans.Generate gens.OutOfMemory)) spells turns runs h = (tt, h.0, h.1)
+told gave wrote options text at_end s s' t t' S (Err (scans.Generate (gens.Spec e))) spells turns runs h = absurd h
+told gave wrote options text at_end s s' t t' S (Err (scans.Table e)) spells turns runs h = absurd h
+
+pub told_by : {A B : Type 0} (gave : A → List ℕ → A → Type 0) (wrote : B → List ℕ → B → Type 0) (options : Options) (text : List ℕ) (at_end : Bool) (s s' : A) (t t' : B) (S T : Spec) (answer : Result ℕ ScanError) →
+    T ≡ traced S → SpellsWithRoom options text S → TellsTurns S → TellsRuns S → ScansBy gave wrote options.limits T at_end s s' t t' answer → Traces gave wrote options text at_end s s' t t' answer
+told_by gave wrote options text at_end s s' t t' S T answer is spells turns runs h =
+    told gave wrote options text at_end s s' t t' S answer spells turns runs (subst (λ (z : Spec). ScansBy gave wrote options.limits z at_end s s' t t' answer) is h)
+
+-- a text spells one specification at most
+one_spec : (options : Options) (text : List ℕ) (S T : Spec) → SpellsSpec (reading options) text S → SpellsSpec (reading options) text T → S ≡ T
+unfolding symbol_at
+one_spec options = one_specification
+    (λ how definitions text t u h k. one_tree how.posix (symbol_at how.fold) (get definitions) refl 64 text t u h.0 k.0)
+    (λ t stop stop' at at' two two' special special' h k. let same = one_cutting t stop stop' at at' two two' special special' h k in (same.0, same.1, same.3))
+    (reading options)
+
+no_true : false ≡ true → ⊥
+no_true e = cc
+
+-- so where that one has no room, it spells none that has
+pub none_with_room : (options : Options) (text : List ℕ) (S : Spec) → SpellsSpec (reading options) text S → has_room S ≡ false → (T : Spec) → SpellsWithRoom options text T → ⊥
+none_with_room options text S spells full T h = no_true (sym full ∙ ap has_room (one_spec options text S T spells h.0) ∙ h.1)

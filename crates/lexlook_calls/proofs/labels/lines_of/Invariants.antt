@@ -1,7 +1,0 @@
-use Rattle.std.proofs.Common.{◌≡◌, map, take}
-use Rattle.lexspec.specs.RuleViews.{rule_of}
-use Rattle.lexlook_calls.specs.Looks.{lines_of}
-use Rattle.lexlook_calls.proofs.labels.lines_of.Given as goal
-
-abbrev pub invariant-loop-rule : goal.invariant-loop-rule
-invariant-loop-rule l = l.lines.items ≡ lines_of (map rule_of (take l.rule-index l.rules))

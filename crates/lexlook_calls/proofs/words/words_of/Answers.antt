@@ -1,0 +1,16 @@
+use Rattle.std.proofs.Common.{Err, ap, subst}
+use Rattle.lexspec.specs.Views.{spec_of}
+use Rattle.lexlook_words.specs.Matches.{matches_in}
+use Rattle.lexlook_words.specs.Words.{AreWords}
+use Rattle.lexlook_calls.proofs.Shown.{refused_alike, words_shown}
+use Rattle.lexlook_calls.proofs.words.words_of.Goals as goal
+
+pub returns-in-Err-build-clause-refused : goal.returns-in-Err-build-clause-refused
+returns-in-Err-build-clause-refused c =
+    refused_alike c.args.limits (spec_of c.args.spec) (spec_of c.in-Ok-rejecting.spec) c.in-Err-build.error c.in-Ok-rejecting.ensures (λ e. c.in-Err-build.ensures.too_many_positions (ap Err e)) (λ e. c.in-Err-build.ensures.too_many_states (ap Err e))
+
+pub returns-clause-words : goal.returns-clause-words
+returns-clause-words c =
+    let b = c.in-Ok-build.ensures in
+    words_shown c.args.limits (spec_of c.args.spec) (spec_of c.in-Ok-rejecting.spec) c.in-Ok-build.automaton c.in-Ok.rejects.items c.in-Ok-find_words.words c.in-Ok-rejecting.ensures b.table b.conditions b.states b.few_positions b.few_states
+    c.in-Ok.ensures.len c.in-Ok.ensures.flags (subst (λ l. AreWords (matches_in c.in-Ok-build.automaton.parts l) c.in-Ok-find_words.words) c.deref.ensures.value c.in-Ok-find_words.ensures)

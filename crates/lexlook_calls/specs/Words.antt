@@ -1,0 +1,86 @@
+-- What is told of the texts that rules take. (flex tells of a rule that cannot be matched, and by -s of a default rule that can be.)
+use Rattle.std.specs.Prelude.{◌≡◌, ℕ, ◌<◌, List, [], ◌∷◌, ◌++◌, length, Option, Some, None, Result, Ok, Err, codes, decimal, slice_get, slice_index, slice_index_or}
+use Rattle.std.specs.List.{concat, flat_map, range_with_len}
+use Rattle.lex_io.specs.Sink.{Appended}
+use Rattle.lex_semantics.specs.Spec.{Spec}
+use Rattle.lex_semantics.specs.Text.{Among}
+use Rattle.lexspec.specs.Files.{SpellsSpec}
+use Rattle.lexauto.specs.declared.subsets.Limits.{Limits}
+use Rattle.lexkit.specs.Generated.{lines_of}
+use Rattle.lexkit.specs.Headline.{IsWithin, Refusal, reading}
+use Rattle.lexkit.specs.declared.options.Options.{Options}
+use Rattle.lexlook_words.specs.Matches.{matches_of}
+use Rattle.lexlook_words.specs.Words.{AreWords}
+use Rattle.lexlook_words.specs.declared.finding.Place.{Place}
+use Rattle.lexlook_words.specs.declared.finding.Word.{Word}
+use Rattle.lexlook_words.specs.declared.finding.Word.TheVariants.{Taken, Never}
+use Rattle.lexlook_words.specs.declared.finding.Words.{Words}
+use Rattle.lexlook_calls.specs.Looks.{names_of}
+use Rattle.lexlook_calls.specs.Lines.{in_quotes, start_words}
+use Rattle.lexlook_calls.specs.declared.error.LookError.{LookError}
+use Rattle.lexlook_calls.specs.declared.error.LookError.TheVariants.{Refused, Table, OutOfMemory, Write}
+
+-- a rule by its line in the file
+abbrev pub line_words : List ℕ → ℕ → List ℕ
+line_words lines i = codes " line " ++ decimal (slice_index lines i)
+
+-- a text, in which condition, and where a match of it is at the start of a line
+abbrev pub place_words : List (List ℕ) → Place → List ℕ
+place_words names p = concat (
+    codes ": \"" ∷ flat_map in_quotes p.text.items ∷ codes "\" in " ∷ slice_index_or names p.condition [] ∷ start_words p.line_start
+    ∷ codes "\n" ∷ [])
+
+-- why a rule takes no text
+abbrev pub never_words : List ℕ → List ℕ → List ℕ
+never_words lines [] = codes ": rule cannot be matched, no text fits it\n"
+never_words lines (j ∷ js) = concat (codes ": rule cannot be matched, its texts are taken at" ∷ flat_map (line_words lines) (j ∷ js) ∷ codes "\n" ∷ [])
+
+abbrev pub told_words : List (List ℕ) → List ℕ → Word → List ℕ
+told_words names lines (Taken p) = place_words names p
+told_words names lines (Never js) = never_words lines js.items
+
+-- the line of a rule
+abbrev pub word_line : List (List ℕ) → List ℕ → ℕ → Option Word → List ℕ
+word_line names lines i None = []
+word_line names lines i (Some x) = concat (codes "at" ∷ line_words lines i ∷ told_words names lines x ∷ [])
+
+-- the line of the default rule
+abbrev pub default_line : List (List ℕ) → Option Place → List ℕ
+default_line names None = codes "default rule cannot be matched\n"
+default_line names (Some p) = codes "default rule" ++ place_words names p
+
+-- a line for each rule, in the order of the file, and that of the default rule
+abbrev pub word_lines : List (List ℕ) → List ℕ → Words → List ℕ
+word_lines names lines v = flat_map (λ i. word_line names lines i (slice_get v.rules.items i)) (range_with_len 0 (length v.rules.items))
+    ++ default_line names v.default
+
+-- the texts that the rules of a specification take, whose automaton is within the limits
+pub record AreWordsOf (limits : Limits) (S : Spec) (v : Words) : Type 0 where
+  pub within : IsWithin limits S
+  pub words : AreWords (matches_of S) v
+
+-- the lines of the specification that the text spells were written: all of them at `Ok`, a front of them at `Err`
+pub record WordsTold {K : Type 0} (wrote : K → List ℕ → K → Type 0) (options : Options) (text : List ℕ) (s t : K) (answer : Result (Unit {0}) LookError) : Type 0 where
+  pub spec : Spec
+  pub spells : SpellsSpec (reading options) text spec
+  pub found : Words
+  pub are_words : AreWordsOf options.limits spec found
+  pub written : Appended (λ xs. wrote s xs t) (word_lines (names_of spec.conditions) (lines_of spec.rules) found) answer
+
+-- What was told of a text. One that is refused leaves the sink as it was, and so does want of memory.
+abbrev pub TellsWords : {K : Type 0} → (K → List ℕ → K → Type 0) → Options → List ℕ → K → K → Result (Unit {0}) LookError → Type 0
+TellsWords wrote options text s t (Ok v) = WordsTold wrote options text s t (Ok v)
+TellsWords wrote options text s t (Err Write) = WordsTold wrote options text s t (Err Write)
+TellsWords wrote options text s t (Err OutOfMemory) = t ≡ s
+TellsWords wrote options text s t (Err (Refused e)) = Refusal options text e × (t ≡ s)
+TellsWords wrote options text s t (Err (Table e)) = ⊥
+
+-- what is named has a name, and what is at a line has one
+abbrev pub HasLabels : List (List ℕ) → List ℕ → Word → Type 0
+HasLabels names lines (Taken p) = p.condition < length names
+HasLabels names lines (Never js) = (j : ℕ) → Among js.items j → j < length lines
+
+pub record AreLabelled (names : List (List ℕ)) (lines : List ℕ) (v : Words) : Type 0 where
+  pub each : length v.rules.items ≡ length lines
+  pub rules : (i : ℕ) (x : Word) → slice_get v.rules.items i ≡ Some x → HasLabels names lines x
+  pub default : (p : Place) → v.default ≡ Some p → p.condition < length names

@@ -1,0 +1,50 @@
+//! The lines of the matches of a scan.
+ghost use Rattle.std.specs.Prelude.{◌≡◌, ◌+◌, ◌-◌, ◌^◌, ◌<◌, ◌≤◌, nat_lt, IsErrOf};
+ghost use Rattle.lex_semantics.specs.Limits.{max_positions, max_states};
+ghost use Rattle.lexkit.specs.ScanCounts.{HandedOn, read_fault_count, write_fault_count};
+ghost use Rattle.lexlook_calls.specs.Tracing.{Traces};
+ghost use Rattle.lexscan.specs.declared.error.RunError.TheVariants.{Failed};
+
+use lexkit::{GenError, Options, ReadOptions, ScanError, Sink, Source, read_spec, scan_by};
+use lexlook_trace::traced;
+use std::alloc::Global;
+
+/// Scans the source by the specification that a text spells, and writes to the sink, in place of what its actions write, a line for
+/// each match, in the words of flex's `-d`. It answers the status that the scan ends with, 0 to 63, and takes no byte of the source
+/// that no rule asks for. A text that spells no specification, or one that has no room for the lines (`TooManyRules`, `TooLong`) or
+/// whose automaton passes the limits, is refused, and then neither the source nor the sink is touched.
+pub fn trace<S: Source, K: Sink>(
+    alloc: Global,
+    text: &[u8],
+    options: Options,
+    source: &mut S,
+    sink: &mut K,
+) -> Result<u8, ScanError>
+    requires few_positions { options.limits.positions ≤ max_positions }
+    requires few_states { options.limits.states ≤ max_states }
+    requires few_ends { S.ends source.old < 2 ^ 64 - 1 }
+    requires few_read_faults { S.failures source.old < 2 ^ 64 - 1 }
+    requires few_write_faults { K.failures sink.old < 2 ^ 64 - 1 }
+    ensures told { Traces S.gave K.wrote options text.now
+        (nat_lt (S.ends source.old) (S.ends source.new)) source.old source.new sink.old sink.new result }
+    ensures read_faults { S.failures source.new ≡ S.failures source.old + read_fault_count result }
+    ensures write_faults { K.failures sink.new ≡ K.failures sink.old + write_fault_count result }
+    ensures ends_stay { S.ends source.old ≤ S.ends source.new }
+    ensures one_end { S.ends source.new ≤ S.ends source.old + 1 }
+    ensures not_failed { IsErrOf result (ScanError.Run Failed) → ⊥ }
+    ensures handed_on { HandedOn (K.flushed sink.new) result }
+{
+    let read = ReadOptions {
+        fold: options.fold,
+        posix: options.posix,
+    };
+    let spec = match read_spec(alloc, text, read) {
+        Err(error) => return Err(ScanError::Generate(GenError::Spec(error))),
+        Ok(spec) => spec,
+    };
+    let telling = match traced(alloc, spec) {
+        Err(error) => return Err(ScanError::Generate(GenError::Spec(error))),
+        Ok(telling) => telling,
+    };
+    scan_by(alloc, &telling, options.limits, source, sink)
+}

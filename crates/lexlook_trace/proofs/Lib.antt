@@ -1,0 +1,4 @@
+pub mod Sounding
+pub mod Acts
+pub mod Matching
+pub mod Turning

@@ -1,0 +1,5 @@
+pub mod Takers
+pub mod Led
+pub mod Places
+pub mod Told
+pub mod Sounding

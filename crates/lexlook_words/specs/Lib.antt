@@ -1,0 +1,4 @@
+pub mod Matches
+pub mod Words
+pub mod Placing
+pub mod Rejecting
