@@ -4,7 +4,7 @@ use Rattle.lex_semantics.specs.Machine.{Machine}
 use Rattle.lex_machine.specs.Views.{statement_of}
 use Rattle.lex_machine.specs.Glances.{are_simple}
 use Rattle.lextab_packed.specs.Machines.{machine_of}
-use Rattle.lextab_packed.specs.declared.kinds.Kind.TheVariants.{Print, Several}
+use Rattle.lextab_packed.specs.declared.kinds.Kind.TheVariants.{NoRule, Silent, Echo, Print, Begin, Several}
 use Rattle.lextab_packed.proofs.Columns.{knows, first_does, only_is}
 use Rattle.lextab_packed.proofs.flat.gist_of.Goals as goal
 
@@ -22,3 +22,18 @@ returns-in-Several c = λ s e.
     let k = knows M s (Several c.in-Several.rule) (sym c.in-Several.is ∙ e) in
     let does = c.rule-in-Several.ensures.statements in
     (ap are_simple does ∙ k.1, first_does M s c.in-Several.rule (map statement_of c.rule-in-Several.result.1.now) k.0 (sym does))
+
+pub returns-in-Any : goal.returns-in-Any
+returns-in-Any c = λ s e. tt
+
+pub returns-in-NoRule : goal.returns-in-NoRule
+returns-in-NoRule c = λ s e. knows (machine_of c.args.tables.now) s NoRule (sym c.in-NoRule.is ∙ e)
+
+pub returns-in-Silent : goal.returns-in-Silent
+returns-in-Silent c = λ s e. knows (machine_of c.args.tables.now) s Silent (sym c.in-Silent.is ∙ e)
+
+pub returns-in-Echo : goal.returns-in-Echo
+returns-in-Echo c = λ s e. knows (machine_of c.args.tables.now) s Echo (sym c.in-Echo.is ∙ e)
+
+pub returns-in-Begin : goal.returns-in-Begin
+returns-in-Begin c = λ s e. knows (machine_of c.args.tables.now) s (Begin c.in-Begin.condition) (sym c.in-Begin.is ∙ e)

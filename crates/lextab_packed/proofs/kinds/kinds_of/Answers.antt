@@ -1,9 +1,10 @@
-use Rattle.std.proofs.Common.{◌≡◌, ◌+◌, [], ◌∷◌, ◌++◌, length, ap, ◌∙◌}
+use Rattle.std.proofs.Common.{◌≡◌, ◌+◌, [], ◌∷◌, ◌++◌, length, ap, ◌∙◌, arith}
 use Rattle.std.specs.Prelude.{slice_get}
 use Rattle.std.proofs.lemmas.List.{length-append}
 use Rattle.lextab_packed.specs.Flats.{kind_of}
 use Rattle.lextab_packed.specs.Machines.{machine_of}
 use Rattle.lextab_packed.proofs.Columns.{each_more}
+use Rattle.lextab_packed.proofs.Marks.{few_states}
 use Rattle.lextab_packed.proofs.kinds.kinds_of.Goals as goal
 
 pub loop-state-preserved : goal.loop-state-preserved
@@ -14,3 +15,6 @@ loop-state-preserved c =
       ap length items ∙ length-append c.loop-state.kinds.items (kind_of (machine_of c.args.tables.now) c.loop-state.state ∷ []) ∙ ap (λ n. n + 1) c.loop-state.invariant.0,
       λ s lt. ap (λ l. slice_get l s) items ∙ more s lt,
     )
+
+pub overflow_cast-state : goal.overflow_cast-state
+overflow_cast-state c = omega (arith, c.len-states.ensures, c.loop-state-test.true, few_states c.args.tables.now)

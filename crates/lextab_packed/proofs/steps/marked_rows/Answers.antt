@@ -10,6 +10,7 @@ use Rattle.lextab_packed.specs.Machines.{machine_of}
 use Rattle.lextab_packed.specs.Steps.{step_of}
 use Rattle.lextab_packed.specs.Views.{table_of, row_of}
 use Rattle.lextab_packed.proofs.Columns.{index_more}
+use Rattle.lextab_packed.proofs.Marks.{few_states}
 use Rattle.lextab_packed.proofs.steps.marked_rows.Goals as goal
 
 pub loop-place-preserved : goal.loop-place-preserved
@@ -44,3 +45,17 @@ loop-place-preserved c = (
     here =
         c.mark.ensures ∙ ap (λ k. marked c.index-goes_on.result.now k s) kind ∙ ap (λ (b : Bool). marked b (kind_of M s) s) goes
         ∙ ap (λ n. marked (flag c.args.tables.now.goes_on.items n) (kind_of M n) n) c.target-state.ensures.state
+
+pub overflow_mul-places : goal.overflow_mul-places
+overflow_mul-places c = omega (arith, c.len-places.ensures, few_states c.args.tables.now)
+
+pub overflow_cast-place : goal.overflow_cast-place
+overflow_cast-place c = omega (arith, c.len-places.ensures, c.loop-place-test.true, few_states c.args.tables.now)
+
+pub index-goes_on-requires : goal.index-goes_on-requires
+index-goes_on-requires c =
+    let rows = length-map c.args.tables.now.parts.rows.items row_of in
+    omega (arith, rows, c.args.tables.now.leading.len, c.target-state.ensures.known)
+
+pub mark-requires : goal.mark-requires
+mark-requires c = omega (arith, c.target-state.ensures.known, few_states c.args.tables.now)

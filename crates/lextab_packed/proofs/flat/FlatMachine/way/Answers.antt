@@ -106,3 +106,6 @@ bytes-preserved c =
     let r : c.target-next.result ≡ marked (flag t.goes_on.items next) (kind_of (machine_of t) next) next = subst (λ fs. c.target-next.result ≡ marked (flag fs next) (kind_of (machine_of t) next) next) c.args.self.now.flags (c.target-next.ensures (walk M c.args.first (take c.bytes.count c.args.bytes.now)) c.bytes.invariant.place_is c.bytes.invariant.known) in
     let k = Mark.goes_further t c.args.first c.bytes.count c.args.bytes.now lt small c.bytes.invariant.known c.target-next.result r (omega (arith, c.if-next-ge-STOP.false)) c.bytes.invariant.asked in
     record { inside = omega (arith, lt); place_is = k.0; known = k.1; asked = k.2 }
+
+pub overflow_mul-place : goal.overflow_mul-place
+overflow_mul-place c = omega (arith, c.requires, Mark.few_states c.args.self.now.tables.now)
