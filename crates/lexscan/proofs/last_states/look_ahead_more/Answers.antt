@@ -1,5 +1,6 @@
-use Rattle.std.proofs.Common.{◌≡◌, ℕ, ◌+◌, ◌-◌, ◌≤◌, ◌<◌, true, refl, false, length, drop, inl, inr, sym, ap, subst, ◌∙◌, arith}
+use Rattle.std.proofs.Common.{◌≡◌, ℕ, ◌+◌, ◌-◌, ◌≤◌, ◌<◌, true, refl, false, length, drop, inl, inr, sym, ap, subst, ◌∙◌, arith, Bool, List, [], ◌∷◌, ◌++◌, append-nil}
 use Rattle.std.proofs.lemmas.List.{length-append}
+use Rattle.std.specs.Prelude.{if◌then◌else◌}
 use Rattle.lex_semantics.specs.Machine.{Machine}
 use Rattle.lexscan.specs.declared.state.TextPlace.{TextPlace}
 use Rattle.lexscan.specs.declared.state.Reading.{Reading}
@@ -269,3 +270,59 @@ fills-preserved g c = record {
 
     on : new.at_end ≡ false
     on = c.in-Ok.ensures.at_end ∙ ap ends_at c.in-Full.is
+
+none_of : (l : List ℕ) → length l ≡ 0 → l ≡ []
+none_of [] e = refl
+none_of (x ∷ l) e = absurd (omega (arith, e))
+
+pub returns-in-Err-clause-took : goal.returns-in-Err-clause-took
+returns-in-Err-clause-took g c = Grow.took_more g.S.Source.gave _ _ _ _ _ _ g.met.S.Source.gave_more c.fills.invariant.took c.in-Err.ensures.took
+
+pub returns-in-Err-clause-put : goal.returns-in-Err-clause-put
+returns-in-Err-clause-put g c = record {
+  sink = g.met.K.Sink.wrote_more _ _ _ _ _ c.fills.invariant.put c.in-Err.ensures.put.sink;
+  write_faults = omega (arith, c.in-Err.ensures.put.write_faults, c.fills.invariant.write_faults);
+  may_write = tt;
+}
+
+pub overflow_sub-now : goal.overflow_sub-now
+overflow_sub-now g c =
+    let grown = c.in-Ok.ensures.grown in
+    let sizes = ap length grown.held ∙ length-append c.fills.reading.window.bytes grown.got in
+    omega (arith, c.len.ensures, c.fills.invariant.place, sizes)
+
+pub fills-smaller : goal.fills-smaller
+fills-smaller g c =
+    let took = c.in-Ok.ensures.took in
+    let grown = c.in-Ok.ensures.grown in
+    let sizes = ap length grown.held ∙ length-append c.fills.reading.window.bytes grown.got in
+    let sizes_too = ap length took.held ∙ length-append c.fills.reading.window.bytes took.got in
+    let some = c.in-Ok.ensures.some (ap ends_at c.in-Full.is) in
+    let before = ap {B = ℕ} (λ (b : Bool). if b then 0 else 1) c.fills-test.true in
+    let after = ap {B = ℕ} (λ (b : Bool). if b then 0 else 1) (c.in-Ok.ensures.at_end ∙ ap ends_at c.in-Full.is) in
+    omega (arith, sizes, sizes_too, some, grown.count, took.taken, took.max_reads, c.in-Ok.ensures.source.few_reads, before, after)
+
+pub returns-then-now-eq0-clause-looked : goal.returns-then-now-eq0-clause-looked
+returns-then-now-eq0-clause-looked g c =
+    let took = c.fills.invariant.took in
+    let sizes = ap length took.held ∙ length-append c.args.reading.now.window.bytes took.got in
+    let none = none_of took.got (omega (arith, sizes, c.fills.invariant.place, c.if-now-eq0.true, c.requires.inside)) in
+    record {
+      same = took.held ∙ ap (λ l. c.args.reading.now.window.bytes ++ l) none ∙ append-nil c.args.reading.now.window.bytes;
+      all = omega (arith, c.fills.invariant.place, c.if-now-eq0.true);
+      at_end = c.fills-test.false;
+    }
+
+pub returns-else-now-eq0-clause-looked : goal.returns-else-now-eq0-clause-looked
+returns-else-now-eq0-clause-looked g c =
+    let took = c.fills.invariant.took in
+    let sizes = ap length took.held ∙ length-append c.args.reading.now.window.bytes took.got in
+    let some : 1 ≤ c.fills.now.reach = omega (arith, c.if-now-eq0.false) in
+    record {
+      reach = c.fills.now.reach;
+      some = some;
+      state = c.fills.now.state;
+      so_far = c.fills.invariant.so_far;
+      size = omega (arith, sizes, c.fills.invariant.place, c.requires.inside);
+      stops = inr (c.fills.invariant.goes_on some, c.fills.invariant.place, c.fills-test.false);
+    }

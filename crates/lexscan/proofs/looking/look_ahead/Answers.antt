@@ -3,6 +3,7 @@ use Rattle.std.proofs.lemmas.List.{length-append}
 use Rattle.lex_semantics.specs.Machine.{Machine}
 use Rattle.lexscan.specs.Reads.{IsThere}
 use Rattle.lexscan.proofs.Growing as Grow
+use Rattle.lexscan.specs.Reads.{end_step}
 use Rattle.lexscan.proofs.looking.look_ahead.Goals as goal
 use Rattle.lexscan.proofs.looking.look_ahead.Goals.{else-len-gt0-via-then-len-gt0+else-not-goes_on, else-len-gt0-via-else-len-gt0}
 
@@ -45,3 +46,45 @@ bytes-preserved g c = record {
 
     pushed : c.push.new.self.states ≡ c.bytes.path.states ++ c.step-state.result ∷ []
     pushed = c.push.ensures ∙ ap (λ t. t ++ c.step-state.result ∷ []) c.in-Ok-true.ensures.states
+
+pub returns-in-Err-clause-took : goal.returns-in-Err-clause-took
+returns-in-Err-clause-took g c = Grow.took_more g.S.Source.gave _ _ _ _ _ _ g.met.S.Source.gave_more c.bytes.invariant.took c.in-Err.ensures.took
+
+pub returns-in-Err-clause-put : goal.returns-in-Err-clause-put
+returns-in-Err-clause-put g c = record {
+  sink = g.met.K.Sink.wrote_more _ _ _ _ _ c.bytes.invariant.put c.in-Err.ensures.put.sink;
+  write_faults = omega (arith, c.in-Err.ensures.put.write_faults, c.bytes.invariant.write_faults);
+  may_write = tt;
+}
+
+pub returns-in-Ok-false-clause-took : goal.returns-in-Ok-false-clause-took
+returns-in-Ok-false-clause-took g c = Grow.took_more g.S.Source.gave _ _ _ _ _ _ g.met.S.Source.gave_more c.bytes.invariant.took c.in-Ok-false.ensures.took
+
+pub returns-in-Ok-false-clause-put : goal.returns-in-Ok-false-clause-put
+returns-in-Ok-false-clause-put g c = record {
+  sink = g.met.K.Sink.wrote_more _ _ _ _ _ c.bytes.invariant.put c.in-Ok-false.ensures.put.sink;
+  write_faults = omega (arith, c.in-Ok-false.ensures.put.write_faults, c.bytes.invariant.write_faults);
+  may_write = c.in-Ok-false.ensures.put.may_write;
+}
+
+pub returns-in-Err-clause-source : goal.returns-in-Err-clause-source
+returns-in-Err-clause-source g c = record {
+  ends = omega (arith, c.in-Err.ensures.source.ends, c.bytes.invariant.ends, ap (λ b. end_step b c.fetch.new.reading.at_end) c.bytes.invariant.end_same);
+  read_faults = omega (arith, c.in-Err.ensures.source.read_faults, c.bytes.invariant.failures);
+  few_reads = c.in-Err.ensures.source.few_reads;
+  may_read = tt;
+  still = λ e. c.in-Err.ensures.source.still (c.bytes.invariant.end_same ∙ e) ∙ c.bytes.invariant.still e;
+  not_failed = c.in-Err.ensures.source.not_failed;
+  not_stack = c.in-Err.ensures.source.not_stack;
+}
+
+pub returns-in-Ok-false-clause-source : goal.returns-in-Ok-false-clause-source
+returns-in-Ok-false-clause-source g c = record {
+  ends = omega (arith, c.in-Ok-false.ensures.source.ends, c.bytes.invariant.ends, ap (λ b. end_step b c.fetch.new.reading.at_end) c.bytes.invariant.end_same);
+  read_faults = omega (arith, c.in-Ok-false.ensures.source.read_faults, c.bytes.invariant.failures);
+  few_reads = c.in-Ok-false.ensures.source.few_reads;
+  may_read = c.in-Ok-false.ensures.source.may_read;
+  still = λ e. c.in-Ok-false.ensures.source.still (c.bytes.invariant.end_same ∙ e) ∙ c.bytes.invariant.still e;
+  not_failed = λ e. cc;
+  not_stack = λ e. cc;
+}
