@@ -1,9 +1,8 @@
 -- The longest match at the front of a text, byte after byte.
-use Rattle.std.proofs.Common.{◌≡◌, ℕ, ◌+◌, ◌≤◌, ◌<◌, Bool, true, false, List, [], ◌∷◌, ◌++◌, length, take, drop, Option, Some, None, refl, sym, ◌∙◌, ap, subst, arith}
+use Rattle.std.proofs.Common.{◌≡◌, ℕ, ◌+◌, ◌≤◌, ◌<◌, true, false, List, [], ◌∷◌, ◌++◌, length, take, drop, Option, Some, None, refl, sym, ◌∙◌, ap, subst, arith}
 use Rattle.std.specs.Prelude.{filter_map}
 use Rattle.std.proofs.lemmas.List.{length-take-le, length-drop, take_all, take-append-drop}
 use Rattle.lex_semantics.specs.Text.{IsText}
-use Rattle.lex_semantics.specs.Rules.{Rules}
 use Rattle.lex_semantics.specs.Candidates as Scan
 use Rattle.lex_semantics.specs.Candidates.{Candidates}
 use Rattle.lex_semantics.specs.Machine.{Machine, rules_of_machine}

@@ -1,4 +1,4 @@
-use Rattle.std.proofs.Common.{◌≤◌, [], length, sym, ap, subst, ◌∷◌, arith, rules}
+use Rattle.std.proofs.Common.{[], sym, subst, ◌∷◌, arith, rules}
 use Rattle.lex_semantics.specs.Machine.{Machine}
 use Rattle.lexscan.specs.Walks.{Walked}
 use Rattle.lexscan.proofs.Walking.{walked_none, walked_more}

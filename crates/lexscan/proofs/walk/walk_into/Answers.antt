@@ -1,8 +1,7 @@
-use Rattle.std.proofs.Common.{◌≡◌, ℕ, ◌+◌, ◌<◌, ◌≤◌, List, [], ◌∷◌, ◌++◌, length, take, drop, get_or, refl, sym, ap, subst, ◌∙◌, arith, rules}
+use Rattle.std.proofs.Common.{◌≡◌, ℕ, ◌+◌, ◌<◌, List, [], ◌∷◌, ◌++◌, length, take, drop, get_or, refl, sym, ap, subst, ◌∙◌, arith, rules}
 use Rattle.std.specs.Prelude.{slice_set}
 use Rattle.std.proofs.lemmas.List.{take_more, take_more_set, length-set, length-take, length-take-le, take-append-le, take_all}
 use Rattle.lex_semantics.specs.Machine.{Machine}
-use Rattle.lexscan.specs.declared.walk.Stop.TheVariants as Stop
 use Rattle.lexscan.specs.Walks.{Walked, Filled}
 use Rattle.lexscan.proofs.Walking as Walk
 use Rattle.lexscan.proofs.Walking.{walked_none, walked_ready}
