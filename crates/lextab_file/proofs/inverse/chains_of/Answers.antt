@@ -22,3 +22,21 @@ loop-x-preserved c =
       chains = subst (λ (xs : List ℕ). AreChains next (slice_set last (slice_index next x) (x + 1)) xs (x + 1)) (sym items)
           (one_more_chained next last before x (slice_index next x) v.chains low refl);
     }
+
+pub index-requires : goal.index-requires
+index-requires c =
+    let known = c.requires.known c.loop-x.x (omega (arith, c.loop-x-test.true)) in
+    let targets = c.loop-x.invariant.targets in
+    omega (arith, known, targets)
+
+pub index_mut-requires : goal.index_mut-requires
+index_mut-requires c =
+    let known = c.requires.known c.loop-x.x (omega (arith, c.loop-x-test.true)) in
+    let targets = c.loop-x.invariant.targets in
+    omega (arith, known, targets)
+
+pub overflow_cast-x : goal.overflow_cast-x
+overflow_cast-x c = omega (arith, c.loop-x-test.true, c.requires.few)
+
+pub overflow_add-x : goal.overflow_add-x
+overflow_add-x c = omega (arith, c.loop-x-test.true, c.requires.few)

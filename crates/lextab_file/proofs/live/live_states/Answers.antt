@@ -1,9 +1,10 @@
-use Rattle.std.proofs.Common.{rules, ◌≡◌, ℕ, List, [], ◌∷◌, ◌++◌, arith, inl, inr, sym, subst}
+use Rattle.std.proofs.Common.{rules, ◌≡◌, ℕ, List, [], ◌∷◌, ◌++◌, arith, inl, inr, sym, subst, length, ap, ◌∙◌}
 use Rattle.lextab_file.specs.Live.{GoesTo}
 use Rattle.lextab_file.specs.Inverse.{Has}
 use Rattle.lextab_file.specs.Spreading.{Spreads}
 use Rattle.lextab_file.proofs.Spreads.{flag_inside, has_none, has_more, has_less, has_last}
 use Rattle.lextab_file.proofs.Leading.{round, closed}
+use Rattle.std.proofs.lemmas.List.{length-append}
 use Rattle.lextab_file.proofs.live.live_states.Goals as goal
 
 pub mark_sources-requires-clause-target : goal.mark_sources-requires-clause-target
@@ -30,3 +31,12 @@ pub returns : goal.returns
 returns c =
     let none : c.rounds.waiting.items ≡ [] = search (rules, c.in_default.ensures.cases) in
     closed c.args.next.now c.args.accepting.now c.requires.rows c.requires.known c.rounds.live.items c.rounds.waiting.items (λ x h. has_none c.rounds.waiting.items x none h) c.rounds.invariant
+
+pub inverse_transitions-requires-clause-few : goal.inverse_transitions-requires-clause-few
+inverse_transitions-requires-clause-few c = omega (arith, c.requires.rows, c.requires.few)
+
+pub rounds-smaller : goal.rounds-smaller
+rounds-smaller c =
+    let size = ap length c.in-Some.ensures.items ∙ length-append c.pop.new.self.items (c.in-Some.target ∷ []) in
+    let fewer = c.in_ok-mark_sources.ensures.fewer in
+    omega (arith, size, fewer)
