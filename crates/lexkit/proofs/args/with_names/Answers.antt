@@ -1,6 +1,5 @@
 use Rattle.std.proofs.Common.{◌≡◌, arith}
 use Rattle.std.proofs.lemmas.Result.{IfOk-weaker}
-use Rattle.clap.specs.Words.{app_of}
 use Rattle.lexkit.proofs.CommandLine.{adds_row, adds_rule}
 use Rattle.lexkit.proofs.args.with_names.Goals as goal
 

@@ -1,4 +1,4 @@
-use Rattle.std.proofs.Common.{◌≡◌, ◌∙◌, ap, codes, fold, rules}
+use Rattle.std.proofs.Common.{◌≡◌, ◌∙◌, ap, fold, rules}
 use Rattle.std.proofs.lemmas.Result.{IfOk-weaker}
 use Rattle.clap.specs.Words.{App, app_of, new_app, with_rule}
 use Rattle.lexlook_calls.specs.LookLine.{file_rules, without_help}
