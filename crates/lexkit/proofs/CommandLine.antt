@@ -1,5 +1,7 @@
 -- The program's command line: what it is made of, what its matches ask for, and what it refuses.
-use Rattle.std.proofs.Common.{◌≡◌, ◌∙◌, ◌+◌, ◌&&◌, ◌==◌, ap, ap₂, sym, subst, refl, inl, inr, ℕ, Bool, true, false, List, [], Some, None}
+use Rattle.std.proofs.Common.{◌≡◌, ◌∙◌, ◌+◌, ◌<◌, ◌≤◌, ◌&&◌, ◌==◌, ap, ap₂, sym, subst, refl, inl, inr, ℕ, Bool, true, false, List, [], ◌∷◌, Some, None, fold, get_or, length, map, take}
+use Rattle.std.proofs.lemmas.List.{map_more, take_all}
+use Rattle.std.proofs.lemmas.List.Sums.{fold-append}
 use Rattle.std.specs.Prelude.{IfErr, IsErrAnd, Result, Ok, Err}
 use Rattle.std.specs.List.{position}
 use Rattle.clap.specs.Words.{AddsArg, App, HasKind, HasMatchesOf, IsAmong, Row, Rule, Text, app_of, fault_of, found_of, is_simple_and_free, kind_of, matches_of, rows_of, rule_of, with_rule}
@@ -18,6 +20,26 @@ use Rattle.lexkit.specs.declared.args.Job.{Job}
 pub adds_rule : (old new : Command) (a : Arg) (s : App) (r : Rule) → AddsArg old a new → a.global ≡ false → app_of old ≡ s → rule_of a ≡ r
     → app_of new ≡ with_rule s r
 adds_rule old new a s r added global is rule = added.shape global ∙ ap₂ with_rule is rule
+
+-- one row more of a table, each of which adds something
+pub fold_row : {R A B : Type 0} (f : B → A → B) (row : R → A) (rows : List R) (d : R) (old new s : B) (i : ℕ) → i < length rows
+    → old ≡ fold f s (map row (take i rows)) → new ≡ f old (row (get_or rows i d)) → new ≡ fold f s (map row (take (i + 1) rows))
+fold_row f row rows d old new s i within is more =
+    more
+    ∙ ap (λ b. f b (row (get_or rows i d))) is
+    ∙ sym (ap (fold f s) (map_more row rows i d within) ∙ fold-append f s (map row (take i rows)) (row (get_or rows i d) ∷ []))
+
+-- the same for a command with one more argument
+pub adds_row : {R : Type 0} (row : R → Rule) (rows : List R) (d : R) (old new : Command) (a : Arg) (s : App) (i : ℕ) → i < length rows
+    → AddsArg old a new → a.global ≡ false → app_of old ≡ fold with_rule s (map row (take i rows)) → rule_of a ≡ row (get_or rows i d)
+    → app_of new ≡ fold with_rule s (map row (take (i + 1) rows))
+adds_row row rows d old new a s i within added global is rule =
+    fold_row with_rule row rows d (app_of old) (app_of new) s i within is (adds_rule old new a _ _ added global refl rule)
+
+-- and where the first rows are all of them
+pub all_rows : {R : Type 0} (row : R → Rule) (rows : List R) (a s : App) (i : ℕ) → length rows ≤ i → a ≡ fold with_rule s (map row (take i rows))
+    → a ≡ fold with_rule s (map row rows)
+all_rows {R} row rows a s i all is = is ∙ ap (λ (l : List R). fold with_rule s (map row l)) (take_all i rows all)
 
 pub lex_is_simple : is_simple lex_app ≡ true
 lex_is_simple = refl

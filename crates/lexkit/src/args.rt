@@ -6,8 +6,8 @@ ghost use Rattle.lexkit.specs.Args.{IsNamed};
 ghost use Rattle.lexkit.specs.CommandLine.{AsksFor, IsJobOf, Makes, ScansBySpec, ScansByTable, files_of};
 ghost use Rattle.lexkit.specs.CommandLine.{flag_rule, flag_rules, has, has_byte_at, has_separator};
 ghost use Rattle.lexkit.specs.CommandLine.{has_value_behind_equals, is_long_with_equals, is_out_with_equals};
-ghost use Rattle.lexkit.specs.CommandLine.{letter_rule, lex_app};
-ghost use Rattle.lexkit.specs.CommandLine.{makes_tables, name_rules, reads_patterns, word_rule, words_rule};
+ghost use Rattle.lexkit.specs.CommandLine.{lex_app, value_rule};
+ghost use Rattle.lexkit.specs.CommandLine.{makes_tables, name_rules, reads_patterns, words_rule};
 
 use clap::error::ErrorKind;
 use clap::{Arg, ArgAction, ArgMatches, Command};
@@ -192,30 +192,32 @@ fn command<'a>(alloc: Global) -> Result<Command<'a>, AllocError>
 fn with_flags<'a>(alloc: Global, command: Command<'a>) -> Result<Command<'a>, AllocError>
     ensures { IfOk result (λ c. app_of c ≡ fold with_rule (app_of command.entry) flag_rules) }
 {
-    command
-        .arg(flag(alloc, "stdout", 't'))?
-        .arg(flag(alloc, "no-stats", 'n'))?
-        .arg(flag(alloc, "stats", 'v'))?
-        .arg(flag(alloc, "backup", 'b'))?
-        .arg(flag(alloc, "fold", 'i'))?
-        .arg(flag(alloc, "posix", 'X'))?
-        .arg(flag(alloc, "quiet", 'w'))
+    let flags = &[
+        ("stdout", 't'),
+        ("no-stats", 'n'),
+        ("stats", 'v'),
+        ("backup", 'b'),
+        ("fold", 'i'),
+        ("posix", 'X'),
+        ("quiet", 'w'),
+    ];
+    let mut with = command;
+    for &(name, letter) in flags {
+        with = with.arg(flag(alloc, name, letter))?;
+    }
+    Ok(with)
 }
 
-/// The word that names the table's file.
-fn out_word<'a>(alloc: Global) -> Arg<'a>
-    ensures rule { rule_of result ≡ letter_rule (codes "out") 111 }
+/// A word that has a value: by its letter, or else by its long name.
+fn value_word<'a>(alloc: Global, name: &'a str, letter: Option<char>) -> Arg<'a>
+    ensures rule { rule_of result ≡ value_rule name.entry.now letter }
     ensures global { result.global ≡ false }
 {
-    Arg::new(alloc, "out").short('o').action(ArgAction::Set)
-}
-
-/// A long word that names a file.
-fn long_word<'a>(alloc: Global, name: &'a str) -> Arg<'a>
-    ensures rule { rule_of result ≡ word_rule name.entry.now }
-    ensures global { result.global ≡ false }
-{
-    Arg::new(alloc, name).long(name).action(ArgAction::Set)
+    let word = Arg::new(alloc, name).action(ArgAction::Set);
+    match letter {
+        Some(letter) => word.short(letter),
+        None => word.long(name),
+    }
 }
 
 /// The words that name specifications.
@@ -232,11 +234,16 @@ fn file_words<'a>(alloc: Global) -> Arg<'a>
 fn with_names<'a>(alloc: Global, command: Command<'a>) -> Result<Command<'a>, AllocError>
     ensures { IfOk result (λ c. app_of c ≡ fold with_rule (app_of command.entry) name_rules) }
 {
-    command
-        .arg(out_word(alloc))?
-        .arg(long_word(alloc, "scan-spec"))?
-        .arg(long_word(alloc, "scan-table"))?
-        .arg(file_words(alloc))
+    let words = &[
+        ("out", Some('o')),
+        ("scan-spec", None),
+        ("scan-table", None),
+    ];
+    let mut with = command;
+    for &(name, letter) in words {
+        with = with.arg(value_word(alloc, name, letter))?;
+    }
+    with.arg(file_words(alloc))
 }
 
 /// Whether the flag stands there.

@@ -1,5 +1,5 @@
 -- What the words of the program's command line ask for.
-use Rattle.std.specs.Prelude.{◌≡◌, ◌⊎◌, ◌&&◌, ◌||◌, Bool, true, false, not, List, [], ◌∷◌, Option, Some, None, fold, codes, string_bytes}
+use Rattle.std.specs.Prelude.{◌≡◌, ◌⊎◌, ◌&&◌, ◌||◌, ℕ, Bool, true, false, not, List, [], ◌∷◌, Option, Some, None, fold, codes, string_bytes}
 use Rattle.std.specs.Str.{bytes_eq}
 use Rattle.clap.specs.Words.{App, Row, Rule, Text, fault_of, first_of, new_app, new_rule, subcommand_of, with_rule, with_subcommand}
 use Rattle.clap.specs.Simple.{on_top}
@@ -13,6 +13,11 @@ use Rattle.lexlook_calls.specs.declared.args.Look.TheVariants.{Help, Picture, Sa
 -- a word that has to stand there
 abbrev pub needed_rule : Text → Rule
 needed_rule name = record (new_rule name) { action = Some Set; required = true }
+
+-- a flag by its letter, or else a word that has to stand there
+abbrev pub look_rule : Text → Option ℕ → Rule
+look_rule name (Some letter) = flag_rule name letter
+look_rule name None = needed_rule name
 
 -- `-i` (105) and `-X` (88), and the file
 abbrev pub file_rules : List Rule

@@ -1,9 +1,9 @@
 //! What a command line asks for.
-ghost use Rattle.std.specs.Prelude.{◌≡◌, ◌⊎◌, IfErr, IfOk, None, Some, codes, false, map, option_map, string_bytes};
-ghost use Rattle.clap.specs.Words.{app_of, first_of, found_of, rows_of, rule_of, subcommand_rows_of, with_subcommand};
+ghost use Rattle.std.specs.Prelude.{◌≡◌, ◌⊎◌, IfErr, IfOk, None, Some, codes, false, fold, map, option_map, string_bytes};
+ghost use Rattle.clap.specs.Words.{app_of, first_of, found_of, rows_of, rule_of, subcommand_rows_of, with_rule, with_subcommand};
 ghost use Rattle.lexkit.specs.CommandLine.{flag_rule, has};
 ghost use Rattle.lexlook_calls.specs.LookLine.{AsksFor, AsksToCompare, AsksToCut, AsksToDraw, AsksToFind, AsksToTrace, IsLookOf};
-ghost use Rattle.lexlook_calls.specs.LookLine.{file_app, has_help, lexlook_app, needed_rule, same_app};
+ghost use Rattle.lexlook_calls.specs.LookLine.{file_app, has_help, lexlook_app, look_rule, needed_rule, same_app};
 
 use clap::{Arg, ArgAction, ArgMatches, Command};
 use lexkit::ArgsError;
@@ -88,27 +88,43 @@ fn has_help(words: &[String]) -> bool
     false
 }
 
+/// The command with these words more: flags by their letters, and words that name files.
+fn with_words<'a>(
+    alloc: Global,
+    command: Command<'a>,
+    words: &[(&'a str, Option<char>)],
+) -> Result<Command<'a>, AllocError>
+    ensures { IfOk result (λ c. app_of c
+        ≡ fold with_rule (app_of command.entry) (map (λ (id, letter). look_rule id.now letter) words.now)) }
+{
+    let mut with = command;
+    for &(id, letter) in words {
+        with = with.arg(word(alloc, id, letter))?;
+    }
+    Ok(with)
+}
+
 /// The words of a subcommand that takes one file.
 fn file_command<'a>(alloc: Global, name: &'a str) -> Result<Command<'a>, AllocError>
     ensures { IfOk result (λ c. app_of c ≡ file_app name.entry.now) }
 {
-    Command::new(alloc, name)
-        .disable_help_flag(true)
-        .arg(flag(alloc, "fold", 'i'))?
-        .arg(flag(alloc, "posix", 'X'))?
-        .arg(needed_word(alloc, "file"))
+    let command = Command::new(alloc, name).disable_help_flag(true);
+    let words = &[("fold", Some('i')), ("posix", Some('X')), ("file", None)];
+    with_words(alloc, command, words)
 }
 
 /// The words of a comparison.
 fn same_command<'a>(alloc: Global) -> Result<Command<'a>, AllocError>
     ensures { IfOk result (λ c. app_of c ≡ same_app) }
 {
-    Command::new(alloc, "same")
-        .disable_help_flag(true)
-        .arg(flag(alloc, "fold", 'i'))?
-        .arg(flag(alloc, "posix", 'X'))?
-        .arg(needed_word(alloc, "left"))?
-        .arg(needed_word(alloc, "right"))
+    let command = Command::new(alloc, "same").disable_help_flag(true);
+    let words = &[
+        ("fold", Some('i')),
+        ("posix", Some('X')),
+        ("left", None),
+        ("right", None),
+    ];
+    with_words(alloc, command, words)
 }
 
 /// The words with one subcommand more, which takes one file.
@@ -155,6 +171,17 @@ fn needed_word<'a>(alloc: Global, id: &'a str) -> Arg<'a>
     ensures global { result.global ≡ false }
 {
     Arg::new(alloc, id).required(true).action(ArgAction::Set)
+}
+
+/// A flag by its letter, or else a word that names a file.
+fn word<'a>(alloc: Global, id: &'a str, letter: Option<char>) -> Arg<'a>
+    ensures rule { rule_of result ≡ look_rule id.entry.now letter }
+    ensures global { result.global ≡ false }
+{
+    match letter {
+        Some(letter) => flag(alloc, id, letter),
+        None => needed_word(alloc, id),
+    }
 }
 
 /// What the matches ask for.

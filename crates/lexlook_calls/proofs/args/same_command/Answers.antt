@@ -1,14 +1,10 @@
-use Rattle.std.proofs.Common.{◌≡◌, codes, rules}
+use Rattle.std.proofs.Common.{◌≡◌, ◌∙◌, ap, codes, fold, rules}
 use Rattle.std.proofs.lemmas.Result.{IfOk-weaker}
-use Rattle.clap.specs.Words.{app_of, new_app}
-use Rattle.lexkit.proofs.CommandLine.{adds_rule}
-use Rattle.lexlook_calls.specs.LookLine.{without_help}
+use Rattle.clap.specs.Words.{App, app_of, new_app, with_rule}
+use Rattle.lexlook_calls.specs.LookLine.{same_rules, without_help}
 use Rattle.lexlook_calls.proofs.args.same_command.Goals as goal
 
 pub returns : goal.returns
 returns c =
-    let none : app_of c.disable_help_flag.result ≡ without_help (new_app (codes "same")) = search rules in
-    let one = adds_rule _ _ _ _ _ c.in_ok-arg.ensures c.flag.ensures.global none c.flag.ensures.rule in
-    let two = adds_rule _ _ _ _ _ c.in_ok-arg-2.ensures c.flag-2.ensures.global one c.flag-2.ensures.rule in
-    let three = adds_rule _ _ _ _ _ c.in_ok-arg-3.ensures c.needed_word.ensures.global two c.needed_word.ensures.rule in
-    IfOk-weaker c.arg-4.result _ _ (λ new h. adds_rule _ _ _ _ _ h c.needed_word-2.ensures.global three c.needed_word-2.ensures.rule) c.arg-4.ensures
+    let none : app_of c.disable_help_flag-command.result ≡ without_help (new_app (codes "same")) = search rules in
+    IfOk-weaker c.with_words.result _ _ (λ new h. h ∙ ap (λ (a : App). fold with_rule a same_rules) none) c.with_words.ensures
