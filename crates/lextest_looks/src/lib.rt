@@ -6,7 +6,11 @@ mod comparing;
 #[cfg(test)]
 mod lines;
 #[cfg(test)]
+mod manual;
+#[cfg(test)]
 mod sayings;
+#[cfg(test)]
+mod shown;
 #[cfg(test)]
 mod telling;
 #[cfg(test)]
