@@ -13,6 +13,3 @@ pub use answer::Answer;
 pub use flags::options_of;
 pub use generating::{Fault, generate_into};
 pub use scanning::scan_into;
-
-#[cfg(test)]
-mod tests;

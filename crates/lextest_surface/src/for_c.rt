@@ -1,5 +1,5 @@
-//! The calls, once each on their happy path, and refused.
-use crate::{Answer, Fault, generate_into, options_of, scan_into};
+//! What a program in C calls, by liblex_calls: once each on its happy path, and refused.
+use liblex_calls::{Answer, Fault, generate_into, options_of, scan_into};
 use std::alloc::Global;
 
 const TEXT: &[u8] = b"%%\n[0-9]+ printf(\"N\");\nstop exit(3);\n";
