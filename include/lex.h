@@ -39,8 +39,8 @@ enum lex_answer {
 
 /* How a specification is read: none of these, or some of them added. Other bits count for nothing. */
 enum lex_flags {
-    LEX_FOLD = 1,  /* letters of patterns stand for both cases, as with the program's --fold */
-    LEX_POSIX = 2  /* an interval applies to the whole series to its left, as with the program's --posix */
+    LEX_FOLD = 1,  /* letters of patterns stand for both cases, as with the program's -i */
+    LEX_POSIX = 2  /* an interval applies to the whole series to its left, as with the program's -X */
 };
 
 /* Why a specification is refused. The names are those of docs/MANUAL.md. */
