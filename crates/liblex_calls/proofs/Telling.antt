@@ -72,7 +72,7 @@ module _ (file input old new : List ℕ) (count : ℕ) (s s' : Slice) (t t' : Si
         is_file = h.file;
         goes_on = h.goes_on;
         leads = h.leads;
-        run = subst (λ l. Run R input l ending) (sym (kept_all h.scans.out h.scans.sink)) (whole_run R input h.scans.given h.scans.out s'.rest.now s.ends s'.ends s.failures s'.failures ending text (gave_input h.scans.given h.scans.source) ran);
+        holds = subst (λ l. Run R input l ending) (sym (kept_all h.scans.out h.scans.sink)) (whole_run R input h.scans.given h.scans.out s'.rest.now s.ends s'.ends s.failures s'.failures ending text (gave_input h.scans.given h.scans.source) ran);
       }
 
   -- the scan came to its end
