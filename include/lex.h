@@ -8,10 +8,10 @@
 
    What holds for each call:
 
-   - A pointer and the length after it are the bytes of one buffer. They may be read, and those of `out` written, for the whole
-     call. Where the length is 0 the pointer must still not be null.
-   - No other pointer of the call leads to what `out`, `count`, `fault` or `status` points to: buffers that are written do not
-     overlap another.
+   - A pointer and the length after it are one buffer, with so many bytes, or items. They may be read, and those of `out`, `tokens`
+     and `lines` written, for the whole call. Where the length is 0 the pointer must still not be null.
+   - No other pointer of the call leads to what `out`, `tokens`, `lines`, `count`, `fault` or `status` points to: buffers that are
+     written do not overlap another.
    - Nothing is global, so calls in several threads do not meet, as long as none writes what another uses.
    - No call is made from a signal handler, or in the child of a fork of a process with threads.
    - No call ends the process. Memory that is refused is told by LEX_OUT_OF_MEMORY.
@@ -39,8 +39,8 @@ enum lex_answer {
 
 /* How a specification is read: none of these, or some of them added. Other bits count for nothing. */
 enum lex_flags {
-    LEX_FOLD = 1,  /* letters of patterns stand for both cases, as with the program's --fold */
-    LEX_POSIX = 2  /* an interval applies to the whole series to its left, as with the program's --posix */
+    LEX_FOLD = 1,  /* letters of patterns stand for both cases, as with the program's -i */
+    LEX_POSIX = 2  /* an interval applies to the whole series to its left, as with the program's -X */
 };
 
 /* Why a specification is refused. The names are those of docs/MANUAL.md. */
@@ -116,6 +116,38 @@ int32_t lex_generate(const uint8_t *text, size_t text_len, uint32_t flags, uint8
    *status is 0 but after LEX_OK and LEX_TOO_SMALL. */
 int32_t lex_scan_table(const uint8_t *file, size_t file_len, const uint8_t *input, size_t input_len, uint8_t *out,
                        size_t out_len, size_t *count, uint8_t *status);
+
+/* A match of a scan. */
+struct lex_token {
+    size_t start;        /* where its text begins in the input, with what yymore kept before it */
+    size_t end;          /* where its text ends, after trailing context and yyless */
+    uint32_t rule;       /* its rule, from 0 on in the order of the file, or LEX_DEFAULT_RULE */
+    uint32_t condition;  /* the start condition in which it was made, 0 for INITIAL, then in the order of the file */
+};
+
+/* The rule that takes a byte where no other one matches. */
+#define LEX_DEFAULT_RULE UINT32_MAX
+
+/* Lists the tokens of all of `input` by a table file into `tokens`: the match of each turn of the scan, in order. What the rules write
+   is written nowhere. *count is how many tokens there are.
+
+   LEX_OK: tokens[0] to tokens[*count - 1] are they, and *status is what the rules end with, 0 to 63.
+   LEX_TOO_SMALL: `tokens` has the first tokens_len of them, and *status is set. Call again with room for *count.
+   LEX_STACK: `tokens` has those before the fault of the stack, as many as there is room for.
+   LEX_REFUSED, LEX_OUT_OF_MEMORY: *count is 0, and `tokens` is as it was.
+
+   Each lies in the input, and begins no earlier than the one before it. A match that REJECT gives up is no token. *status is 0 but after
+   LEX_OK and LEX_TOO_SMALL. While it runs, the call takes memory in proportion to the tokens. */
+int32_t lex_tokens(const uint8_t *file, size_t file_len, const uint8_t *input, size_t input_len, struct lex_token *tokens,
+                   size_t tokens_len, size_t *count, uint8_t *status);
+
+/* Tells the line of each rule of the specification in `text`, by the flags of enum lex_flags, into `lines`: that of rule 0 first. A table
+   file keeps no lines. *count is how many rules there are.
+
+   LEX_OK: lines[0] to lines[*count - 1] are they, from 1.
+   LEX_TOO_SMALL: `lines` has the first lines_len of them. Call again with room for *count.
+   LEX_REFUSED, LEX_OUT_OF_MEMORY: *count is 0, and `lines` is as it was. lex_generate tells why a text is refused. */
+int32_t lex_rule_lines(const uint8_t *text, size_t text_len, uint32_t flags, uint32_t *lines, size_t lines_len, size_t *count);
 
 #ifdef __cplusplus
 }

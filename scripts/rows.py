@@ -1,9 +1,10 @@
 #!/usr/bin/env python3
-"""Writes the tables that the tests of lextest_product run: crates/lextest_product/src/examples.rt from examples/, and manual.rt from
-docs/MANUAL.md. A test reads no file, so the texts stand in it once more; run this where either changes, and then `rt fmt`.
+"""Writes the tables that tests run: of lextest_product examples.rt from examples/, and manual.rt from docs/MANUAL.md; of lextest_looks
+manual.rt, from the chapters of the manual on lexlook. A test reads no file, so the texts stand in it once more; run this where one of
+them changes, and then `rt fmt`.
 
-    scripts/rows.py           writes both
-    scripts/rows.py --check   tells which of the two differ from what it would write, but for the layout, with a status of 1
+    scripts/rows.py           writes all three
+    scripts/rows.py --check   tells which of them differ from what it would write, but for the layout, with a status of 1
     scripts/rows.py --flex    compares the rows of the manual with what flex 2.6.4 writes, by scripts/flex-output.sh
 
 The gate (.ci/run) begins with --check."""
@@ -15,7 +16,7 @@ from pathlib import Path
 from typing import NamedTuple
 
 ROOT = Path(__file__).resolve().parent.parent
-TABLES = ROOT / "crates/lextest_product/src"
+CRATES = ROOT / "crates"
 PAIR = re.compile(
     r"(?:`([^`]*)`|Empty input) gives (?:`([^`]*)`|nothing)(?: with `(-[iX])`)?(?: and status (\d+))?"
 )
@@ -166,6 +167,46 @@ def examples_of_manual(text):
     )
 
 
+def chapter(text, title):
+    """The chapter of the manual that has this title."""
+    return re.search(rf"^## {re.escape(title)}\n(.*?)(?=^## |\Z)", text, re.M | re.S)[1]
+
+
+def indented(text):
+    """The blocks of a chapter that stand four blanks to the right."""
+    return [re.sub(r"(?m)^    ", "", block) for block in re.findall(r"(?:^    .*\n)+", text, re.M)]
+
+
+def after(text, words):
+    """The first block below these words."""
+    return indented(text[text.index(words):])[0]
+
+
+def examples_of_lexlook(text):
+    """The text of manual.rt of lextest_looks: what lexlook writes in the chapters on it."""
+    small = after(text, "Say that `small.l` is this specification:")
+    pictures, comparing, cutting, taken, traced = (
+        chapter(text, title)
+        for title in ("Pictures", "Comparing", "Cutting at newlines", "Texts that rules take", "Lines of matches")
+    )
+    words = after(comparing, "Say that `words.l` is this:")
+    given = re.search(r"`printf '([^']*)' \| lexlook trace a\.l`", traced)[1]
+    cuts = [line for names, rows in tables(cutting) for line in rows if "As in" in names]
+    return (
+        "//! The examples of lexlook in docs/MANUAL.md: written by `scripts/rows.py`.\n\n"
+        + table("DRAWN", "(&str, &str)", [row([small, after(pictures, "Then this is written:")])],
+                "/// A specification, and its picture.\n")
+        + table("COMPARED", "(&str, &str, &str)", [row([small, words, after(comparing, "Then `lexlook same small.l words.l`")])],
+                "\n/// `small.l` and `words.l`, and the line of what they do not do the same.\n")
+        + table("CUT", "(&str, &str)", [row([lines_of(cut["As in"]), code(cut["What is written"]) + "\n"]) for cut in cuts],
+                "\n/// A specification, and the line of what stands against cuts at newlines.\n")
+        + table("TAKEN", "(&str, &str)", [row([after(taken, "Of this one"), after(taken, "it writes\n")])],
+                "\n/// A specification, and the lines of the texts that its rules take.\n")
+        + table("TRACED", "(&str, &str, &str)", [row([after(traced, "Say that `a.l` is this:"), given, after(traced, "Then `printf")])],
+                "\n/// A specification, an input, and the lines of its matches.\n")
+    )
+
+
 def words(code):
     """The words of a file of the source, without comments and layout."""
     found = re.findall(r'"(?:[^"\\]|\\.)*"|\w+|[^\s\w]', re.sub(r"(?m)^\s*//.*$", "", code))
@@ -174,7 +215,7 @@ def words(code):
 
 def check(files):
     """Tells which files are not what would be written."""
-    stale = [name for name, code in files.items() if words((TABLES / name).read_text()) != words(code)]
+    stale = [name for name, code in files.items() if words((CRATES / name).read_text()) != words(code)]
     for name in stale:
         print(f"{name} is not what scripts/rows.py writes")
     return 1 if stale else 0
@@ -207,8 +248,12 @@ text = (ROOT / "docs/MANUAL.md").read_text()
 if sys.argv[1:] == ["--flex"]:
     compare(text)
 else:
-    files = {"examples.rt": examples(), "manual.rt": examples_of_manual(text)}
+    files = {
+        "lextest_product/src/examples.rt": examples(),
+        "lextest_product/src/manual.rt": examples_of_manual(text),
+        "lextest_looks/src/manual.rt": examples_of_lexlook(text),
+    }
     if sys.argv[1:] == ["--check"]:
         sys.exit(check(files))
     for name, code in files.items():
-        (TABLES / name).write_text(code)
+        (CRATES / name).write_text(code)

@@ -94,6 +94,40 @@ static int refusals(void)
     return answer == LEX_REFUSED && count == 0 && status == 0 ? 0 : fail("refused table", answer);
 }
 
+/* The tokens of an input that was worked by hand, with a buffer that is too small first; and the lines of the rules. */
+static int tokens(void)
+{
+    static const char text[] = "%x C\n%%\n[0-9]+ printf(\"N\");\n\n[a-z]+/! yyless(1); BEGIN(C);\n<C>.|\n ;\n", input[] = "12 ab!";
+    static const struct lex_token wanted[] = {
+        {0, 2, 0, 0}, {2, 3, LEX_DEFAULT_RULE, 0}, {3, 4, 1, 0}, {4, 5, 2, 1}, {5, 6, 2, 1}};
+    struct bytes table;
+    struct lex_token found[8];
+    uint32_t lines[3];
+    uint8_t status;
+    size_t count, i;
+    int answer = make((struct bytes){(uint8_t *)text, strlen(text)}, &table);
+    if (answer != LEX_OK)
+        return fail("table of tokens", answer);
+    answer = lex_tokens(table.at, table.len, (const uint8_t *)input, strlen(input), found, 2, &count, &status);
+    if (answer != LEX_TOO_SMALL || count != 5 || memcmp(found, wanted, sizeof wanted[0]) != 0)
+        return fail("few tokens", answer);
+    answer = lex_tokens(table.at, table.len, (const uint8_t *)input, strlen(input), found, 8, &count, &status);
+    if (answer != LEX_OK || count != 5 || status != 0)
+        return fail("tokens", answer);
+    for (i = 0; i < 5; i++)
+        if (found[i].start != wanted[i].start || found[i].end != wanted[i].end || found[i].rule != wanted[i].rule ||
+            found[i].condition != wanted[i].condition)
+            return fail("token", (int)i);
+    answer = lex_rule_lines((const uint8_t *)text, strlen(text), 0, lines, 3, &count);
+    if (answer != LEX_OK || count != 3 || lines[0] != 3 || lines[1] != 5 || lines[2] != 6)
+        return fail("lines of rules", answer);
+    answer = lex_tokens((const uint8_t *)text, strlen(text), (const uint8_t *)input, 1, found, 8, &count, &status);
+    if (answer != LEX_REFUSED || count != 0)
+        return fail("tokens by a refused table", answer);
+    free(table.at);
+    return 0;
+}
+
 int main(int argc, char **argv)
 {
     struct bytes text, input, wanted, table = {NULL, 0};
@@ -109,7 +143,7 @@ int main(int argc, char **argv)
         return LEX_OUT_OF_MEMORY;
     if (answer != LEX_OK)
         return fail(argv[1], answer);
-    answer = scan(table, input, wanted, status) || refusals();
+    answer = scan(table, input, wanted, status) || refusals() || tokens();
     free(text.at);
     free(input.at);
     free(wanted.at);

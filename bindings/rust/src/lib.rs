@@ -6,6 +6,15 @@ use std::fmt;
 /// What is declared in include/lex.h.
 mod ffi {
     #[repr(C)]
+    #[derive(Clone, Copy, Default)]
+    pub struct Token {
+        pub start: usize,
+        pub end: usize,
+        pub rule: u32,
+        pub condition: u32,
+    }
+
+    #[repr(C)]
     #[derive(Default)]
     pub struct Fault {
         pub line: u32,
@@ -22,6 +31,26 @@ mod ffi {
             out_len: usize,
             count: *mut usize,
             fault: *mut Fault,
+        ) -> i32;
+
+        pub fn lex_tokens(
+            file: *const u8,
+            file_len: usize,
+            input: *const u8,
+            input_len: usize,
+            tokens: *mut Token,
+            tokens_len: usize,
+            count: *mut usize,
+            status: *mut u8,
+        ) -> i32;
+
+        pub fn lex_rule_lines(
+            text: *const u8,
+            text_len: usize,
+            flags: u32,
+            lines: *mut u32,
+            lines_len: usize,
+            count: *mut usize,
         ) -> i32;
 
         pub fn lex_scan_table(
@@ -76,6 +105,8 @@ pub enum LexError {
     Table,
     /// The stack of conditions was at fault, after these bytes were written.
     Stack(Vec<u8>),
+    /// The stack of conditions was at fault, after these tokens.
+    StackAfter(Vec<Token>),
     /// A request for memory was refused.
     OutOfMemory,
     /// The scan would read more than 2^40 bytes.
@@ -87,7 +118,7 @@ impl fmt::Display for LexError {
         match self {
             LexError::Specification { message, .. } => f.write_str(message.trim_end()),
             LexError::Table => f.write_str("no table file"),
-            LexError::Stack(_) => f.write_str("condition stack"),
+            LexError::Stack(_) | LexError::StackAfter(_) => f.write_str("condition stack"),
             LexError::OutOfMemory => f.write_str("out of memory"),
             LexError::TooManyReads => f.write_str("too many reads"),
         }
@@ -103,23 +134,43 @@ pub struct Scanned {
     pub status: u8,
 }
 
-/// What a call answered, with the bytes that it handed out.
-struct Handed {
-    answer: i32,
-    bytes: Vec<u8>,
+/// A match of a scan.
+#[derive(Clone, Copy, Debug, PartialEq, Eq)]
+pub struct Token {
+    /// Where its text begins in the input, with what yymore kept before it.
+    pub start: usize,
+    /// Where its text ends, after trailing context and yyless.
+    pub end: usize,
+    /// Its rule, from 0 on in the order of the file, or none where the default rule takes a byte.
+    pub rule: Option<u32>,
+    /// The start condition in which it was made: 0 for INITIAL, then in the order of the file.
+    pub condition: u32,
 }
 
-/// Calls with a buffer of `room` bytes, and once more with one that is large enough where it was too small.
-fn with_buffer(room: usize, mut call: impl FnMut(&mut [u8], &mut usize) -> i32) -> Handed {
-    let mut bytes = vec![0; room.max(1)];
+/// The tokens of an input, and the status that the rules ended with.
+#[derive(Clone, Debug, PartialEq, Eq)]
+pub struct Listed {
+    pub tokens: Vec<Token>,
+    pub status: u8,
+}
+
+/// What a call answered, with the items that it handed out.
+struct Handed<T> {
+    answer: i32,
+    items: Vec<T>,
+}
+
+/// Calls with a buffer of `room` items, and once more with one that is large enough where it was too small.
+fn with_buffer<T: Copy + Default>(room: usize, mut call: impl FnMut(&mut [T], &mut usize) -> i32) -> Handed<T> {
+    let mut items = vec![T::default(); room.max(1)];
     let mut count = 0;
-    let mut answer = call(&mut bytes, &mut count);
-    if count > bytes.len() {
-        bytes.resize(count, 0);
-        answer = call(&mut bytes, &mut count);
+    let mut answer = call(&mut items, &mut count);
+    if count > items.len() {
+        items.resize(count, T::default());
+        answer = call(&mut items, &mut count);
     }
-    bytes.truncate(count);
-    Handed { answer, bytes }
+    items.truncate(count);
+    Handed { answer, items }
 }
 
 /// The table file of the specification that a text spells.
@@ -140,12 +191,12 @@ pub fn generate(text: &[u8], options: Options) -> Result<Vec<u8>, LexError> {
         }
     });
     match handed.answer {
-        OK => Ok(handed.bytes),
+        OK => Ok(handed.items),
         REFUSED => Err(LexError::Specification {
             line: fault.line,
             kind: fault.kind,
             place: fault.place,
-            message: String::from_utf8_lossy(&handed.bytes).into_owned(),
+            message: String::from_utf8_lossy(&handed.items).into_owned(),
         }),
         _ => Err(LexError::OutOfMemory),
     }
@@ -171,12 +222,75 @@ pub fn scan(file: &[u8], input: &[u8]) -> Result<Scanned, LexError> {
     });
     match handed.answer {
         OK | TOO_SMALL => Ok(Scanned {
-            output: handed.bytes,
+            output: handed.items,
             status,
         }),
         REFUSED => Err(LexError::Table),
-        STACK => Err(LexError::Stack(handed.bytes)),
+        STACK => Err(LexError::Stack(handed.items)),
         OUT_OF_MEMORY => Err(LexError::OutOfMemory),
         _ => Err(LexError::TooManyReads),
+    }
+}
+
+impl From<&ffi::Token> for Token {
+    fn from(token: &ffi::Token) -> Token {
+        Token {
+            start: token.start,
+            end: token.end,
+            rule: Some(token.rule).filter(|&rule| rule != u32::MAX),
+            condition: token.condition,
+        }
+    }
+}
+
+/// The tokens of a whole input by a table file: the match of each turn of the scan, in order.
+pub fn tokens(file: &[u8], input: &[u8]) -> Result<Listed, LexError> {
+    let mut status = 0;
+    let handed = with_buffer(input.len() / 4, |out, count| {
+        // Safety: the slices and references do not overlap, and live through the call.
+        unsafe {
+            ffi::lex_tokens(
+                file.as_ptr(),
+                file.len(),
+                input.as_ptr(),
+                input.len(),
+                out.as_mut_ptr(),
+                out.len(),
+                count,
+                &mut status,
+            )
+        }
+    });
+    let tokens = handed.items.iter().map(Token::from).collect();
+    match handed.answer {
+        OK | TOO_SMALL => Ok(Listed { tokens, status }),
+        REFUSED => Err(LexError::Table),
+        STACK => Err(LexError::StackAfter(tokens)),
+        _ => Err(LexError::OutOfMemory),
+    }
+}
+
+/// The line of each rule of the specification that a text spells, from 1. `generate` tells why a text is refused.
+pub fn rule_lines(text: &[u8], options: Options) -> Result<Vec<u32>, LexError> {
+    let handed = with_buffer(64, |out, count| {
+        // Safety: the slices and references do not overlap, and live through the call.
+        unsafe {
+            ffi::lex_rule_lines(
+                text.as_ptr(),
+                text.len(),
+                options.flags(),
+                out.as_mut_ptr(),
+                out.len(),
+                count,
+            )
+        }
+    });
+    match handed.answer {
+        OK | TOO_SMALL => Ok(handed.items),
+        REFUSED => match generate(text, options) {
+            Err(refusal) => Err(refusal),
+            Ok(_) => Err(LexError::Table),
+        },
+        _ => Err(LexError::OutOfMemory),
     }
 }

@@ -1,6 +1,6 @@
 //! Each file of examples/, and refusals.
 
-use liblex::{generate, scan, LexError, Options};
+use liblex::{generate, rule_lines, scan, tokens, LexError, Options, Token};
 use std::fs;
 use std::path::Path;
 
@@ -36,4 +36,16 @@ fn letters_stand_for_both_cases() {
     let options = Options { fold: true, ..Options::default() };
     let table = generate(b"%%\nab printf(\"x\");\n", options).unwrap();
     assert_eq!(scan(&table, b"aB").unwrap().output, b"x");
+}
+
+#[test]
+fn tokens_that_were_worked_by_hand() {
+    let text = b"%%\n[0-9]+ printf(\"N\");\n\n[a-z]+/! yyless(1);\n";
+    let table = generate(text, Options::default()).unwrap();
+    let token = |start, end, rule| Token { start, end, rule, condition: 0 };
+    let wanted = [token(0, 2, Some(0)), token(2, 3, None), token(3, 4, Some(1)), token(4, 5, Some(1)), token(5, 6, None)];
+    assert_eq!(tokens(&table, b"12 ab!").unwrap().tokens, wanted);
+    assert_eq!(tokens(b"nothing", b"a"), Err(LexError::Table));
+    assert_eq!(rule_lines(text, Options::default()), Ok(vec![2, 4]));
+    assert!(matches!(rule_lines(b"%%\n[z-a] ;\n", Options::default()), Err(LexError::Specification { line: 2, .. })));
 }

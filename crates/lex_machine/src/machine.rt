@@ -20,6 +20,14 @@ pub trait Machine {
 
     ghost below: { (m : Self) → StaysBelow (machine m) (states m) };
 
+    /// How many start conditions there are: they are the numbers below this one.
+    fn conditions(&self) -> usize
+        ensures { result ≡ (machine self.now).conditions };
+
+    /// How many rules there are, the default rule not counted: they are the numbers below this one.
+    fn rules(&self) -> usize
+        ensures { result ≡ (machine self.now).count };
+
     /// The state where a match starts in a condition, at the start of a line or not.
     fn start(&self, condition: u8, line_start: bool) -> u32
         requires { condition < (machine self.now).conditions }

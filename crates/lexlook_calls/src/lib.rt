@@ -25,6 +25,3 @@ pub use help::write_help;
 pub use laws::{equal_are_same, one_picture, same_scan_alike};
 pub use tracing::trace;
 pub use words::tell_words;
-
-#[cfg(test)]
-mod tests;

@@ -101,6 +101,14 @@ impl Machine for Flat<'_> {
 
     ghost below = { λ f. f.tables.now.below };
 
+    fn conditions(&self) -> usize {
+        self.tables.conditions()
+    }
+
+    fn rules(&self) -> usize {
+        self.tables.rules()
+    }
+
     fn start(&self, condition: u8, line_start: bool) -> u32 {
         self.tables.start(condition, line_start)
     }

@@ -14,6 +14,14 @@ impl Machine for Tables {
 
     ghost below = { λ t. t.below };
 
+    fn conditions(&self) -> usize {
+        self.parts.conditions.len()
+    }
+
+    fn rules(&self) -> usize {
+        self.parts.rules.len()
+    }
+
     fn start(&self, condition: u8, line_start: bool) -> u32 {
         let condition = &self.parts.conditions[usize::from(condition)];
         if line_start {

@@ -35,6 +35,14 @@ impl Machine for Plain<'_> {
 
     ghost below = { λ p. below p.dfa.now.parts p.dfa.now.lawful (spec_of p.spec.now) p.conditions };
 
+    fn conditions(&self) -> usize {
+        self.spec.conditions().len()
+    }
+
+    fn rules(&self) -> usize {
+        self.spec.rules().len()
+    }
+
     fn start(&self, condition: u8, line_start: bool) -> u32 {
         self.dfa.start(usize::from(condition), line_start)
     }

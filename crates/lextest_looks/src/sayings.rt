@@ -15,7 +15,7 @@ fn said(alloc: Global, bytes: &[u8], mut sink: MemorySink) -> (Result<bool, Look
 }
 
 /// Whether this is said of a file: nothing where its inputs may be cut.
-fn is_said(alloc: Global, bytes: &[u8], line: &str) -> bool {
+pub(crate) fn is_said(alloc: Global, bytes: &[u8], line: &str) -> bool {
     let (answer, written) = said(alloc, bytes, MemorySink::new(alloc));
     match answer {
         Ok(may) => may == line.is_empty() && written.as_slice() == line.as_bytes(),

@@ -25,7 +25,7 @@ fn traced(
 }
 
 /// Whether these lines are written, and the scan ends with this status.
-fn is_traced(alloc: Global, text: &[u8], given: &[u8], status: u8, lines: &str) -> bool {
+pub(crate) fn is_traced(alloc: Global, text: &[u8], given: &[u8], status: u8, lines: &str) -> bool {
     let (answer, bytes) = traced(alloc, text, given, MemorySink::new(alloc));
     matches!(answer, Ok(ended) if ended == status) && bytes.as_slice() == lines.as_bytes()
 }

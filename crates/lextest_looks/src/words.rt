@@ -15,7 +15,7 @@ fn said(alloc: Global, text: &[u8], mut sink: MemorySink) -> (Result<(), LookErr
 }
 
 /// Whether these lines are written for a specification.
-fn is_said(alloc: Global, text: &[u8], lines: &str) -> bool {
+pub(crate) fn is_said(alloc: Global, text: &[u8], lines: &str) -> bool {
     let (answer, written) = said(alloc, text, MemorySink::new(alloc));
     answer.is_ok() && written.as_slice() == lines.as_bytes()
 }

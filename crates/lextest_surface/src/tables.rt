@@ -14,7 +14,7 @@ fn a_machine(rt: HostRuntime) -> Result<(), Fail> {
     let automaton = built(alloc, &spec)?;
     let machine = Plain::new(&automaton, &spec);
     assert!(rt; !machine.rejects());
-    if spec.conditions().len() == 1 && spec.rules().len() == 2 {
+    if machine.conditions() == 1 && machine.rules() == 2 {
         let i = machine.step(machine.start(0, false), b'i');
         let both = machine.step(i, b'f');
         assert!(rt; machine.goes_on(both));

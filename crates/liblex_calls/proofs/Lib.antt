@@ -1,1 +1,3 @@
 pub mod Telling
+mod Refused
+mod Listed

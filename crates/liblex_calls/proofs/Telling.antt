@@ -1,5 +1,5 @@
 -- What a call hands out, by what it answers.
-use Rattle.std.proofs.Common.{◌≡◌, ℕ, ◌+◌, ◌<◌, ◌≤◌, Bool, true, false, List, [], ◌++◌, length, Result, Ok, Err, refl, sym, ap, subst, ◌∙◌, append-nil, length-append, arith}
+use Rattle.std.proofs.Common.{◌≡◌, ℕ, ◌≤◌, Bool, true, false, List, [], ◌++◌, length, Result, Ok, Err, refl, sym, ap, subst, ◌∙◌, append-nil, length-append, arith}
 use Rattle.std.specs.Prelude.{nat_lt}
 use Rattle.std.proofs.lemmas.Bool.{ltb-true}
 use Rattle.lex_semantics.specs.Text.{IsText, flag}
@@ -13,16 +13,13 @@ use Rattle.lexspec.specs.Files.{SpellsSpec}
 use Rattle.lextab_packed.specs.Table.{Table}
 use Rattle.lextab_file.specs.File.{IsFileOf}
 use Rattle.lextab_packed.specs.Steps.{machine_of_table}
-use Rattle.lextab_file.specs.declared.error.TableError.{TableError}
 use Rattle.lextab_file.specs.declared.error.TableError.TheVariants as tables
 use Rattle.lexscan.specs.Stands.{RanTo}
 use Rattle.lexscan.specs.declared.error.RunError.{RunError}
 use Rattle.lexscan.specs.declared.error.RunError.TheVariants as runs
 use Rattle.lexkit.specs.Canonical.{IsCanonical}
-use Rattle.lexkit.specs.Headline.{reading, TableHeadline, ScansTable, TableRefusal, max_reads}
+use Rattle.lexkit.specs.Headline.{reading, TableHeadline, ScansTable, max_reads}
 use Rattle.lexkit.specs.declared.options.Options.{Options}
-use Rattle.lexkit.specs.declared.errors.GenError.{GenError}
-use Rattle.lexkit.specs.declared.errors.GenError.TheVariants as gens
 use Rattle.lexkit.specs.declared.errors.ScanError.{ScanError}
 use Rattle.lexkit.specs.declared.errors.ScanError.TheVariants as scans
 use Rattle.liblex_calls.specs.Buffers.{HandedOut, Fits, NothingOut}
@@ -72,7 +69,7 @@ module _ (file input old new : List ℕ) (count : ℕ) (s s' : Slice) (t t' : Si
         is_file = h.file;
         goes_on = h.goes_on;
         leads = h.leads;
-        run = subst (λ l. Run R input l ending) (sym (kept_all h.scans.out h.scans.sink)) (whole_run R input h.scans.given h.scans.out s'.rest.now s.ends s'.ends s.failures s'.failures ending text (gave_input h.scans.given h.scans.source) ran);
+        holds = subst (λ l. Run R input l ending) (sym (kept_all h.scans.out h.scans.sink)) (whole_run R input h.scans.given h.scans.out s'.rest.now s.ends s'.ends s.failures s'.failures ending text (gave_input h.scans.given h.scans.source) ran);
       }
 
   -- the scan came to its end

@@ -3,18 +3,18 @@ use Rattle.std.specs.Prelude.{◌≡◌, ℕ, ◌<◌, ◌≤◌, List, ◌++◌
 use Rattle.liblex_calls.specs.declared.answer.Answer.{Answer}
 use Rattle.liblex_calls.specs.declared.answer.Answer.TheVariants as answers
 
--- the bytes stand at the front, as many as there is room for, and the rest of the buffer is as it was; how many bytes there are is told
-pub record HandedOut (bytes old new : List ℕ) (count : ℕ) : Type 0 where
-  pub buffer : new ≡ take (length old) bytes ++ drop (length bytes) old
-  pub count_is : count ≡ length bytes
+-- the items stand at the front, as many as there is room for, and the rest of the buffer is as it was; how many items there are is told
+pub record HandedOut {A : Type 0} (items old new : List A) (count : ℕ) : Type 0 where
+  pub buffer : new ≡ take (length old) items ++ drop (length items) old
+  pub count_is : count ≡ length items
 
 -- the answer says whether there is room for all
-abbrev pub Fits : List ℕ → List ℕ → Answer → Type 0
-Fits bytes buffer answers.Done = length bytes ≤ length buffer
-Fits bytes buffer answers.TooSmall = length buffer < length bytes
-Fits bytes buffer other = ⊥
+abbrev pub Fits : {A : Type 0} → List A → List A → Answer → Type 0
+Fits items buffer answers.Done = length items ≤ length buffer
+Fits items buffer answers.TooSmall = length buffer < length items
+Fits items buffer other = ⊥
 
 -- nothing was handed out
-pub record NothingOut (old new : List ℕ) (count : ℕ) : Type 0 where
+pub record NothingOut {A : Type 0} (old new : List A) (count : ℕ) : Type 0 where
   pub buffer : new ≡ old
   pub count_is : count ≡ 0

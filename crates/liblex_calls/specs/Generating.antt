@@ -1,10 +1,9 @@
 -- What a table file made into a buffer of the caller is. (Own.)
-use Rattle.std.specs.Prelude.{◌≡◌, ℕ, List, Bool, false}
+use Rattle.std.specs.Prelude.{◌≡◌, ℕ, List}
 use Rattle.lex_semantics.specs.Spec.{Spec}
 use Rattle.lexspec.specs.Files.{SpellsSpec}
 use Rattle.lexre_bytes.specs.declared.refusals.SpecErrorKind.{SpecErrorKind}
 use Rattle.lexre_bytes.specs.declared.refusals.SpecErrorKind.TheVariants as kinds
-use Rattle.lexauto.specs.declared.error.BuildError.{BuildError}
 use Rattle.lexkit.specs.Canonical.{IsCanonical}
 use Rattle.lexkit.specs.Headline.{Refusal, reading}
 use Rattle.lexkit.specs.Faults.{line_of, gen_words, gen_status}

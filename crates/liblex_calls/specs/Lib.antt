@@ -2,6 +2,8 @@ pub mod Numbers
 pub mod Kinds
 pub mod Flags
 pub mod Buffers
+pub mod Files
 pub mod Generating
 pub mod Scanning
+pub mod Listing
 pub mod Ends

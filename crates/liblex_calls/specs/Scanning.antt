@@ -1,12 +1,8 @@
 -- What a scan of a whole input into a buffer of the caller leaves. (What is written is that of POSIX and flex; the rest is own.)
-use Rattle.std.specs.Prelude.{◌≡◌, ℕ, ◌≤◌, List, Bool, length}
-use Rattle.lex_semantics.specs.Text.{flag}
+use Rattle.std.specs.Prelude.{◌≡◌, ℕ, ◌≤◌, List, length}
 use Rattle.lex_semantics.specs.Acting.{Ending, Status, StackFault}
 use Rattle.lex_semantics.specs.Run.{Run}
-use Rattle.lex_semantics.specs.Machine.{rules_of_machine}
 use Rattle.lextab_packed.specs.Table.{Table}
-use Rattle.lextab_packed.specs.Steps.{machine_of_table}
-use Rattle.lextab_packed.specs.Invariant.{GoesOn}
 use Rattle.lextab_file.specs.File.{IsFileOf}
 use Rattle.lexkit.specs.Headline.{max_reads}
 use Rattle.lextab_file.specs.declared.error.TableError.{TableError}
@@ -16,16 +12,13 @@ use Rattle.lexscan.specs.declared.error.RunError.TheVariants as runs
 use Rattle.lexkit.specs.declared.errors.ScanError.{ScanError}
 use Rattle.lexkit.specs.declared.errors.ScanError.TheVariants as scans
 use Rattle.liblex_calls.specs.Buffers.{HandedOut, Fits, NothingOut}
+use Rattle.liblex_calls.specs.Files.{ByFile}
 use Rattle.liblex_calls.specs.declared.answer.Answer.{Answer}
 use Rattle.liblex_calls.specs.declared.answer.Answer.TheVariants as answers
 
--- The file is that of a table, whose rules write these bytes for the input and end so.
-pub record RunsByFile (file input out : List ℕ) (ending : Ending) : Type 0 where
-  pub table : Table
-  pub is_file : IsFileOf table file
-  pub goes_on : List Bool
-  pub leads : GoesOn table goes_on
-  pub run : Run (rules_of_machine (machine_of_table table (λ state. flag goes_on state))) input out ending
+-- The rules of the table file write these bytes for the input and end so.
+abbrev pub RunsByFile : List ℕ → List ℕ → List ℕ → Ending → Type 0
+RunsByFile file input out ending = ByFile file (λ R. Run R input out ending)
 
 -- The run of the input was handed out, with the status that it ends with.
 pub record RunHandedOut (file input old new : List ℕ) (count status : ℕ) (answer : Answer) : Type 0 where

@@ -4,15 +4,15 @@ ghost use Rattle.liblex_calls.specs.Buffers.{HandedOut, Fits};
 
 use crate::answer::Answer;
 
-/// Copies the bytes to the front of a buffer, as many as it has room for, and tells how many there are.
-pub(crate) fn hand_out(bytes: &[u8], buffer: &mut [u8], count: &mut usize) -> Answer
-    ensures handed { HandedOut bytes.now buffer.old buffer.new count.new }
-    ensures fits { Fits bytes.now buffer.old result }
+/// Copies the items to the front of a buffer, as many as it has room for, and tells how many there are.
+pub(crate) fn hand_out<T: Copy>(items: &[T], buffer: &mut [T], count: &mut usize) -> Answer
+    ensures handed { HandedOut items.now buffer.old buffer.new count.new }
+    ensures fits { Fits items.now buffer.old result }
 {
-    *count = bytes.len();
-    let room = bytes.len().min(buffer.len());
-    buffer[..room].copy_from_slice(&bytes[..room]);
-    if bytes.len() <= buffer.len() {
+    *count = items.len();
+    let room = items.len().min(buffer.len());
+    buffer[..room].copy_from_slice(&items[..room]);
+    if items.len() <= buffer.len() {
         Answer::Done
     } else {
         Answer::TooSmall

@@ -1,0 +1,118 @@
+//! The tokens of whole inputs and the lines of rules, into a buffer of the caller.
+ghost use Rattle.std.specs.Prelude.{◌≡◌, map, IfOk};
+ghost use Rattle.liblex_calls.specs.Listing.{ListsInto, TellsLines, rule_number, shown};
+
+use crate::answer::Answer;
+use crate::buffers::hand_out;
+use crate::kinds::kind_number;
+use lexkit::{
+    Flat, MatchedRule, Options, ReadOptions, RunError, TableError, Token, lines_of, read_spec,
+    read_tables, tokens,
+};
+use std::alloc::{AllocError, Global};
+
+/// A match of a scan: where its text begins and ends in the input, the number of its rule, from 0 on in the order of the file, or
+/// 4,294,967,295 for the default rule, and the number of the start condition in which it was made.
+#[repr(C)]
+#[derive(Clone, Copy, Debug, PartialEq, Eq)]
+pub struct TextToken {
+    pub start: usize,
+    pub end: usize,
+    pub rule: u32,
+    pub condition: u32,
+}
+
+/// The number of a rule. The default rule has the greatest.
+fn rule_number(rule: MatchedRule) -> u32
+    ensures { result ≡ rule_number rule }
+{
+    match rule {
+        MatchedRule::Numbered(rule) => rule,
+        MatchedRule::Default => u32::MAX,
+    }
+}
+
+/// The tokens, with numbers for their rules.
+fn shown_of(alloc: Global, list: &[Token]) -> Result<Vec<TextToken>, AllocError>
+    ensures { IfOk result (λ tokens. tokens.items ≡ map shown list.now) }
+{
+    let mut tokens = Vec::new(alloc);
+    for token in list {
+        tokens.push(TextToken {
+            start: token.start,
+            end: token.end,
+            rule: rule_number(token.rule),
+            condition: u32::from(token.condition),
+        })?;
+    }
+    Ok(tokens)
+}
+
+/// Lists the tokens of an input by a table file, and hands them out into the buffer. How many there are is told in `count`, also where
+/// the buffer is too small, and the status that the scan ends with in `status`.
+pub fn tokens_into(
+    alloc: Global,
+    file: &[u8],
+    input: &[u8],
+    buffer: &mut [TextToken],
+    count: &mut usize,
+    status: &mut u8,
+) -> Answer
+    ensures { ListsInto file.now input.now buffer.old buffer.new count.new status.new result }
+{
+    *count = 0;
+    *status = 0;
+    let tables = match read_tables(alloc, file) {
+        Err(TableError::OutOfMemory) => return Answer::OutOfMemory,
+        Err(_) => return Answer::Refused,
+        Ok(tables) => tables,
+    };
+    let flat = match Flat::new(alloc, &tables) {
+        Err(_) => return Answer::OutOfMemory,
+        Ok(flat) => flat,
+    };
+    let mut list = Vec::new(alloc);
+    let ended = tokens(alloc, &flat, input, &mut list);
+    let shown = match shown_of(alloc, &list) {
+        Err(_) => return Answer::OutOfMemory,
+        Ok(shown) => shown,
+    };
+    match ended {
+        Ok(end) => {
+            *status = end;
+            hand_out(&shown, buffer, count)
+        }
+        Err(RunError::Stack) => {
+            hand_out(&shown, buffer, count);
+            Answer::Stack
+        }
+        Err(_) => Answer::OutOfMemory,
+    }
+}
+
+/// Hands out the lines of the rules of the specification that a text spells, in their order. How many rules there are is told in
+/// `count`, also where the buffer is too small.
+pub fn rule_lines_into(
+    alloc: Global,
+    text: &[u8],
+    options: Options,
+    buffer: &mut [u32],
+    count: &mut usize,
+) -> Answer
+    ensures { TellsLines options text.now buffer.old buffer.new count.new result }
+{
+    *count = 0;
+    let read = ReadOptions {
+        fold: options.fold,
+        posix: options.posix,
+    };
+    let spec = match read_spec(alloc, text, read) {
+        Err(error) if kind_number(error.kind) == 0 => return Answer::OutOfMemory,
+        Err(_) => return Answer::Refused,
+        Ok(spec) => spec,
+    };
+    match lines_of(alloc, spec.rules()) {
+        Err(_) => Answer::OutOfMemory,
+        Ok(lines) => hand_out(&lines, buffer, count),
+    }
+}
