@@ -38,15 +38,17 @@ pub returns-in-Err-Stack : goal.returns-in-Err-Stack
 returns-in-Err-Stack c =
     let stopped : c.tokens-ended.result ≡ Err runs.Stack = search rules in
     let (us, appended, tokens) = refused_by _ c.tokens-ended.result stopped c.tokens-ended.ensures.refused in
-    let all = c.deref-in-Err-Stack.ensures.value ∙ c.in-Ok-shown_of.ensures ∙ ap (λ l. map shown l) (c.deref.ensures.value ∙ filled c.new-list.result.items c.tokens-ended.new.list.items us c.new-list.ensures.items appended) in
-    (record {
-      tokens = us;
-      listed = record {
-        table = table_of c.in-Ok.tables.parts;
-        is_file = c.in-Ok.ensures.found;
-        goes_on = c.in-Ok.tables.goes_on.items;
-        leads = c.in-Ok.tables.leading;
-        holds = subst (λ N. Stopped (rules_of_machine N) c.args.input.now us runs.Stack) c.in-Ok-new.ensures.machine tokens;
-      };
-      handed = subst (λ l. HandedOut l c.args.buffer.now c.hand_out-in-Err-Stack.new.buffer c.hand_out-in-Err-Stack.new.count) all c.hand_out-in-Err-Stack.ensures.handed;
-    }, refl)
+    let all = c.deref-in-Err-Stack.ensures.value ∙ c.in-Ok-shown_of.ensures ∙ ap (λ l. map shown l) (c.deref.ensures.value ∙ filled c.new-list.result.items c.tokens-ended.new.list.items us c.new-list.ensures.items appended) in (
+      record {
+        tokens = us;
+        listed = record {
+          table = table_of c.in-Ok.tables.parts;
+          is_file = c.in-Ok.ensures.found;
+          goes_on = c.in-Ok.tables.goes_on.items;
+          leads = c.in-Ok.tables.leading;
+          holds = subst (λ N. Stopped (rules_of_machine N) c.args.input.now us runs.Stack) c.in-Ok-new.ensures.machine tokens;
+        };
+        handed = subst (λ l. HandedOut l c.args.buffer.now c.hand_out-in-Err-Stack.new.buffer c.hand_out-in-Err-Stack.new.count) all c.hand_out-in-Err-Stack.ensures.handed;
+      },
+      refl,
+    )
