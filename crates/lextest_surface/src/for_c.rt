@@ -85,7 +85,7 @@ fn refuses_bytes_that_are_no_table(rt: HostRuntime) {
 }
 
 /// A token of INITIAL.
-const fn token(start: usize, end: usize, rule: u32) -> TextToken {
+fn token(start: usize, end: usize, rule: u32) -> TextToken {
     TextToken {
         start,
         end,
@@ -94,7 +94,12 @@ const fn token(start: usize, end: usize, rule: u32) -> TextToken {
     }
 }
 
-const NO_TOKEN: TextToken = token(0, 0, 0);
+const NO_TOKEN: TextToken = TextToken {
+    start: 0,
+    end: 0,
+    rule: 0,
+    condition: 0,
+};
 
 #[test]
 fn lists_tokens(rt: HostRuntime) {
