@@ -97,7 +97,7 @@ static int refusals(void)
 /* The tokens of an input that was worked by hand, with a buffer that is too small first; and the lines of the rules. */
 static int tokens(void)
 {
-    static const char text[] = "%x C\n%%\n[0-9]+ printf(\"N\");\n\n[a-z]+/! yyless(1); BEGIN(C);\n<C>.|\n ;\n", input[] = "12 ab!";
+    static const char text[] = "%x C\n%%\n[0-9]+ printf(\"N\");\n\n[a-z]+/! yyless(1); BEGIN(C);\n<C>.|\\n ;\n", input[] = "12 ab!";
     static const struct lex_token wanted[] = {
         {0, 2, 0, 0}, {2, 3, LEX_DEFAULT_RULE, 0}, {3, 4, 1, 0}, {4, 5, 2, 1}, {5, 6, 2, 1}};
     struct bytes table;
