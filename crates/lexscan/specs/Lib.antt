@@ -19,3 +19,4 @@ pub mod Ends
 pub mod Ties
 pub mod Matches
 pub mod Fronts
+pub mod Scanners

@@ -38,6 +38,8 @@ pub struct Scanner<'a, M: Machine, S: Source, K: Sink> {
 }
 
 impl<'a, M: Machine, S: Source, K: Sink> Scanner<'a, M, S, K> {
+    ghost use Rattle.lexscan.specs.Scanners.{scanner_machine, scanner_source, scanner_sink, scanner_state};
+
     /// A scanner that has made no turn, and takes at most this many bytes.
     pub fn new(
         alloc: Global,
@@ -51,13 +53,13 @@ impl<'a, M: Machine, S: Source, K: Sink> Scanner<'a, M, S, K> {
         requires few_writes { K.failures sink.old < 2 ^ 64 - 1 }
         ensures same_source { result.intake.source.ghost_name ≡ source.entry.ghost_name }
         ensures same_sink { result.outlet.sink.ghost_name ≡ sink.entry.ghost_name }
-        ensures source { result.intake.source.now ≡ source.old }
-        ensures sink { result.outlet.sink.now ≡ sink.old }
-        ensures machine { result.machine.now ≡ machine.now }
-        ensures max_reads { result.state.reading.max_reads ≡ max_reads }
-        ensures going { result.state.ended ≡ None }
-        ensures reading { result.state.reading.at_end ≡ false }
-        ensures stands { Stands (M.machine machine.now) 0 [] [] result.state }
+        ensures source { scanner_source result ≡ source.old }
+        ensures sink { scanner_sink result ≡ sink.old }
+        ensures machine { scanner_machine result ≡ machine.now }
+        ensures max_reads { (scanner_state result).reading.max_reads ≡ max_reads }
+        ensures going { (scanner_state result).ended ≡ None }
+        ensures reading { (scanner_state result).reading.at_end ≡ false }
+        ensures stands { Stands (M.machine machine.now) 0 [] [] (scanner_state result) }
     {
         Scanner {
             machine,
@@ -71,38 +73,43 @@ impl<'a, M: Machine, S: Source, K: Sink> Scanner<'a, M, S, K> {
 
     /// One match with its actions, or the end action. Where the scan ends, the sink has been flushed.
     pub fn turn(&mut self) -> Result<Turn, RunError>
-        ensures same_machine { self.new.machine.now ≡ self.old.machine.now }
+        ensures same_machine { scanner_machine self.new ≡ scanner_machine self.old }
         ensures same_source { self.new.intake.source.ghost_name ≡ self.old.intake.source.ghost_name }
         ensures same_sink { self.new.outlet.sink.ghost_name ≡ self.old.outlet.sink.ghost_name }
         ensures goes_on { (got : List ℕ) × (wrote : List ℕ)
-            × S.gave self.old.intake.source.now got self.new.intake.source.now
-            × K.wrote self.old.outlet.sink.now wrote self.new.outlet.sink.now
-            × NoneAfterEnd self.old.state self.new.state got
-            × GoesOn (M.machine self.old.machine.now) self.old.state self.new.state got wrote result }
+            × S.gave (scanner_source self.old) got (scanner_source self.new)
+            × K.wrote (scanner_sink self.old) wrote (scanner_sink self.new)
+            × NoneAfterEnd (scanner_state self.old) (scanner_state self.new) got
+            × GoesOn (M.machine (scanner_machine self.old)) (scanner_state self.old) (scanner_state self.new)
+            got wrote result }
 
-        ensures still { self.old.state.reading.at_end ≡ true → self.new.intake.source.now ≡ self.old.intake.source.now }
-        ensures read_faults { S.failures self.new.intake.source.now ≡
-            S.failures self.old.intake.source.now + read_fault_count result }
-        ensures write_faults { K.failures self.new.outlet.sink.now ≡
-            K.failures self.old.outlet.sink.now + write_fault_count result }
-        ensures handed_on { self.old.state.failed ≡ false → self.old.state.ended ≡ None
-            → HandedOn (K.flushed self.new.outlet.sink.now) result }
-        ensures after_refusal { self.old.state.failed ≡ true → (result ≡ Err RunError.Failed)
-            × (self.new.intake.source.now ≡ self.old.intake.source.now)
-            × (self.new.outlet.sink.now ≡ self.old.outlet.sink.now) × (self.new.state ≡ self.old.state) }
-        ensures refused { IsErrOf result RunError.Failed → self.old.state.failed ≡ true }
-        ensures after_end { (status : ℕ) → self.old.state.failed ≡ false → self.old.state.ended ≡ Some status →
+        ensures still { (scanner_state self.old).reading.at_end ≡ true
+            → scanner_source self.new ≡ scanner_source self.old }
+        ensures read_faults { S.failures (scanner_source self.new) ≡
+            S.failures (scanner_source self.old) + read_fault_count result }
+        ensures write_faults { K.failures (scanner_sink self.new) ≡
+            K.failures (scanner_sink self.old) + write_fault_count result }
+        ensures handed_on { (scanner_state self.old).failed ≡ false → (scanner_state self.old).ended ≡ None
+            → HandedOn (K.flushed (scanner_sink self.new)) result }
+        ensures after_refusal { (scanner_state self.old).failed ≡ true → (result ≡ Err RunError.Failed)
+            × (scanner_source self.new ≡ scanner_source self.old)
+            × (scanner_sink self.new ≡ scanner_sink self.old) × (scanner_state self.new ≡ scanner_state self.old) }
+        ensures refused { IsErrOf result RunError.Failed → (scanner_state self.old).failed ≡ true }
+        ensures after_end { (status : ℕ) → (scanner_state self.old).failed ≡ false
+            → (scanner_state self.old).ended ≡ Some status →
             (result ≡ Ok (Turn.Ended status))
-            × (self.new.intake.source.now ≡ self.old.intake.source.now)
-            × (self.new.outlet.sink.now ≡ self.old.outlet.sink.now) × (self.new.state ≡ self.old.state) }
-        ensures max_reads { self.new.state.reading.max_reads ≡ self.old.state.reading.max_reads }
-        ensures few_reads { self.new.state.reading.taken + end_read self.new.state.reading.at_end
-            + read_fault_count result ≤ self.new.state.reading.max_reads }
-        ensures ends { S.ends self.new.intake.source.now ≡
-            S.ends self.old.intake.source.now + end_step self.old.state.reading.at_end self.new.state.reading.at_end }
+            × (scanner_source self.new ≡ scanner_source self.old)
+            × (scanner_sink self.new ≡ scanner_sink self.old) × (scanner_state self.new ≡ scanner_state self.old) }
+        ensures max_reads { (scanner_state self.new).reading.max_reads ≡
+            (scanner_state self.old).reading.max_reads }
+        ensures few_reads { (scanner_state self.new).reading.taken + end_read (scanner_state self.new).reading.at_end
+            + read_fault_count result ≤ (scanner_state self.new).reading.max_reads }
+        ensures ends { S.ends (scanner_source self.new) ≡
+            S.ends (scanner_source self.old)
+            + end_step (scanner_state self.old).reading.at_end (scanner_state self.new).reading.at_end }
         ensures too_many { IsErrOf result RunError.TooManyReads →
-            (self.new.state.reading.taken ≡ self.new.state.reading.max_reads)
-            × (self.new.state.reading.at_end ≡ false) }
+            ((scanner_state self.new).reading.taken ≡ (scanner_state self.new).reading.max_reads)
+            × ((scanner_state self.new).reading.at_end ≡ false) }
     {
         turn_of(
             self.machine,
@@ -116,7 +123,7 @@ impl<'a, M: Machine, S: Source, K: Sink> Scanner<'a, M, S, K> {
 
     /// The bytes from the start of the text to the last byte taken.
     pub fn held(&self) -> &[u8]
-        ensures { result.now ≡ self.now.state.reading.window.bytes }
+        ensures { result.now ≡ (scanner_state self.now).reading.window.bytes }
     {
         let window = &self.state.reading.window;
         window.slice(0, window.len())
@@ -124,7 +131,7 @@ impl<'a, M: Machine, S: Source, K: Sink> Scanner<'a, M, S, K> {
 
     /// The start condition of the next match.
     pub fn condition(&self) -> u8
-        ensures { result ≡ self.now.state.place.condition }
+        ensures { result ≡ (scanner_state self.now).place.condition }
     {
         self.state.place.condition
     }
@@ -132,7 +139,7 @@ impl<'a, M: Machine, S: Source, K: Sink> Scanner<'a, M, S, K> {
     /// The match that the last turn carried out: the longest of the earliest rule, or after REJECT the one that was not
     /// rejected. There is none before the first turn, after an end action, and after a refused turn.
     pub fn matched(&self) -> Option<Match>
-        ensures told { result ≡ match_in self.now.state }
+        ensures told { result ≡ match_in (scanner_state self.now) }
         ensures small { IfSome result (λ m. m.start + m.length < 2 ^ 64) }
     {
         if self.state.failed {
@@ -153,7 +160,7 @@ impl<'a, M: Machine, S: Source, K: Sink> Scanner<'a, M, S, K> {
     /// The text of the match that `matched` tells, as it stands in the buffer, or nothing where that tells none. The next turn ends
     /// the borrow.
     pub fn text(&self) -> &[u8]
-        ensures { result.now ≡ text_of (match_in self.now.state) self.now.state }
+        ensures { result.now ≡ text_of (match_in (scanner_state self.now)) (scanner_state self.now) }
     {
         match self.matched() {
             None => &[],
@@ -166,14 +173,14 @@ impl<'a, M: Machine, S: Source, K: Sink> Scanner<'a, M, S, K> {
 
     /// How many bytes the source gave.
     pub fn taken(&self) -> u64
-        ensures { result ≡ self.now.state.reading.taken }
+        ensures { result ≡ (scanner_state self.now).reading.taken }
     {
         self.state.reading.taken
     }
 
     /// The sink, for a look at what was written between two turns.
     pub fn sink(&self) -> &K
-        ensures { result.now ≡ self.now.outlet.sink.now }
+        ensures { result.now ≡ scanner_sink self.now }
     {
         self.outlet.sink()
     }

@@ -27,7 +27,12 @@ impl Model for Window {
 
     ghost Value = { Held };
 
-    ghost view = { λ w. record { bytes = drop w.start (take w.end w.buffer.items); room = nat_lt w.end (vec_len w.buffer); ahead = take (w.shown - w.end) (drop w.end w.buffer.items); behind = take w.start w.buffer.items } };
+    ghost view = { λ w. record {
+      bytes = drop w.start (take w.end w.buffer.items);
+      room = nat_lt w.end (vec_len w.buffer);
+      ahead = take (w.shown - w.end) (drop w.end w.buffer.items);
+      behind = take w.start w.buffer.items;
+    } };
 
     ghost invariant = { λ w. (w.start ≤ w.end) × (w.end ≤ vec_len w.buffer) };
 }

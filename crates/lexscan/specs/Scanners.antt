@@ -1,0 +1,23 @@
+-- What a scanner is made of, as the calls so far have left it.
+use Rattle.lex_machine.specs.declared.machine.Machine as Machine
+use Rattle.lex_io.specs.declared.source.Source as Source
+use Rattle.lex_io.specs.declared.sink.Sink as Sink
+use Rattle.lexscan.specs.declared.scanner.Scanner.{Scanner}
+use Rattle.lexscan.specs.declared.state.State.{State}
+
+module _ {M S K : Type 0} {of_machine : Machine.Ghosts M} {of_source : Source.Ghosts S} {of_sink : Sink.Ghosts K} where
+  -- the machine that it goes by
+  abbrev pub scanner_machine : Scanner M S K of_machine of_source of_sink → M
+  scanner_machine s = s.machine.now
+
+  -- its source
+  abbrev pub scanner_source : Scanner M S K of_machine of_source of_sink → S
+  scanner_source s = s.intake.source.now
+
+  -- its sink
+  abbrev pub scanner_sink : Scanner M S K of_machine of_source of_sink → K
+  scanner_sink s = s.outlet.sink.now
+
+  -- what it keeps beside these
+  abbrev pub scanner_state : Scanner M S K of_machine of_source of_sink → State
+  scanner_state s = s.state
