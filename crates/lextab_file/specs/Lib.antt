@@ -8,3 +8,4 @@ pub mod Refusals
 pub mod Live
 pub mod Inverse
 pub mod Spreading
+pub mod FileExamples

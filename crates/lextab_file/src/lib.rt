@@ -13,7 +13,7 @@ mod version;
 mod writing;
 
 pub use error::TableError;
-pub use laws::one_table;
+pub use laws::{examples_of_files, one_table};
 pub use live::live_states;
 pub use tables::read_tables;
 pub use writing::write_tables;
