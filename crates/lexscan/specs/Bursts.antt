@@ -1,5 +1,5 @@
 -- What several turns in one go do.
-use Rattle.std.specs.Prelude.{◌≡◌, ℕ, ◌+◌, ◌-◌, ◌≤◌, Bool, true, false, List, [], ◌∷◌, ◌++◌, length, map, take, drop, None, ◌<◌, ◌⊎◌, Result, Ok, Err}
+use Rattle.std.specs.Prelude.{◌≡◌, ℕ, ◌+◌, ◌-◌, ◌≤◌, Bool, true, false, List, [], ◌∷◌, ◌++◌, length, map, take, drop, get_or, ◌==◌, if◌then◌else◌, None, ◌<◌, ◌⊎◌, Result, Ok, Err}
 use Rattle.lex_semantics.specs.Spec as S
 use Rattle.lex_semantics.specs.Machine.{Machine, walk}
 use Rattle.lex_machine.specs.declared.glance.Gist.{Gist}
@@ -54,6 +54,10 @@ written_by Echo text = text
 written_by (Print bytes) text = bytes.now
 written_by (Several ss) text = all_said (map statement_of ss.now) text
 written_by other text = []
+
+-- whether a line starts after so many bytes of a text, where one starts at its front or not (flex, Patterns: `^`)
+abbrev pub starts_line : Bool → List ℕ → ℕ → Bool
+starts_line line text count = if count == 0 then line else get_or text (count - 1) 0 == 10
 
 -- A state that stands between two turns, with these bytes held and so many taken.
 pub record Between (v : State) (bytes : List ℕ) (taken condition : ℕ) (line : Bool) (stack : List ℕ) : Type 0 where

@@ -7,7 +7,7 @@ ghost use Rattle.lexscan.specs.Reads.{write_fault_count};
 ghost use Rattle.lexscan.specs.Ends.{SinkLeft};
 ghost use Rattle.lex_machine.specs.Views.{statement_of};
 ghost use Rattle.lexscan.specs.Acts.{said};
-ghost use Rattle.lexscan.specs.Bursts.{is_told, begun, all_said, all_begun, condition_after, written_by, Tells, BurstsBy, fault_of};
+ghost use Rattle.lexscan.specs.Bursts.{is_told, begun, all_said, all_begun, condition_after, written_by, starts_line, Tells, BurstsBy, fault_of};
 
 use crate::act::put;
 use crate::error::RunError;
@@ -219,6 +219,18 @@ fn do_gist<K: Sink>(
     }
 }
 
+/// Whether a line starts after so many bytes of a text, where one starts at its front or not.
+fn starts_line(line_start: bool, text: &[u8], count: usize) -> bool
+    requires { count ≤ length text.now }
+    ensures { result ≡ starts_line line_start text.now count }
+{
+    if count == 0 {
+        line_start
+    } else {
+        text[count - 1] == b'\n'
+    }
+}
+
 /// Turns over a text, of which the first bytes are held and the others are those that the source has ready, as long as each
 /// match ends in the text and its rule is told at a glance.
 #[inline(never)]
@@ -245,17 +257,16 @@ pub fn burst_over<M: Machine, K: Sink>(
 {
     let mut done = 0usize;
     let mut asked = held;
-    let mut line_start = place.line_start;
     let mut condition = place.condition;
+    let mut first = machine.start(condition, place.line_start);
     'turns: while done < text.len() {
         let rest = &text[done..];
-        let first = machine.start(condition, line_start);
         let Some(way) = machine.way(first, rest) else {
             break 'turns;
         };
         if let Some(keep) = silent_part(machine, way) {
             asked = asked.max(done + way.count);
-            line_start = rest[keep - 1] == b'\n';
+            first = machine.start(condition, rest[keep - 1] == b'\n');
             done += keep;
             continue 'turns;
         }
@@ -270,20 +281,20 @@ pub fn burst_over<M: Machine, K: Sink>(
                 return Burst {
                     done,
                     asked,
-                    line_start,
+                    line_start: starts_line(place.line_start, text, done),
                     condition,
                     fault: true,
                 };
             }
             Ok(after) => condition = after,
         }
-        line_start = said[told.keep - 1] == b'\n';
+        first = machine.start(condition, said[told.keep - 1] == b'\n');
         done += told.keep;
     }
     Burst {
         done,
         asked,
-        line_start,
+        line_start: starts_line(place.line_start, text, done),
         condition,
         fault: false,
     }

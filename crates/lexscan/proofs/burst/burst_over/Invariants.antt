@@ -1,5 +1,5 @@
 use Rattle.std.proofs.Common.{length, ◌-◌, ◌≡◌, ◌<◌, ◌≤◌, true}
-use Rattle.lexscan.specs.Bursts.{TurnsMade}
+use Rattle.lexscan.specs.Bursts.{starts_line, TurnsMade}
 use Rattle.lexscan.proofs.burst.burst_over.Given as goal
 
 abbrev pub invariant-turns : goal.invariant-turns
@@ -7,7 +7,9 @@ invariant-turns g l =
     let M = g.M.Machine.machine l.machine in
     record {
       same : l.outlet.sink.ghost_name ≡ l.fn.outlet.sink.ghost_name;
-      went : TurnsMade M g.K.Sink.wrote l.fn.outlet.sink.now l.outlet.sink.now l.text l.held l.fn.place.condition l.fn.place.line_start l.done l.asked l.condition l.line_start;
+      went : TurnsMade M g.K.Sink.wrote l.fn.outlet.sink.now l.outlet.sink.now l.text l.held l.fn.place.condition l.fn.place.line_start l.done l.asked l.condition (starts_line l.fn.place.line_start l.text l.done);
+      first : l.first ≡ M.start l.condition (starts_line l.fn.place.line_start l.text l.done);
+      known : l.first < g.M.Machine.states l.machine;
       failures : g.K.Sink.failures l.outlet.sink.now ≡ g.K.Sink.failures l.fn.outlet.sink.now;
       live : l.outlet.live ≡ true;
       condition : l.condition < M.conditions;
