@@ -19,3 +19,5 @@ pub mod Ends
 pub mod Ties
 pub mod Matches
 pub mod Fronts
+pub mod Waits
+pub mod Pushes

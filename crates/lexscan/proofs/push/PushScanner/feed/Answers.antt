@@ -1,0 +1,32 @@
+use Rattle.std.proofs.Common.{◌≡◌, []}
+use Rattle.lexscan.specs.declared.error.RunError.TheVariants.{TooManyReads, OutOfMemory, Stack}
+use Rattle.lexscan.proofs.Pushing as Push
+use Rattle.lexscan.proofs.push.PushScanner.feed.Goals as goal
+
+pub returns-in-Some-clause-fed : goal.returns-in-Some-clause-fed
+returns-in-Some-clause-fed g c =
+    let s = c.args.self.now in ([], g.met.K.Sink.wrote_none _, λ fed out h. Push.fed_over (g.M.Machine.machine s.machine) fed out s.state s.waiting.items h c.args.piece.now c.in-Some.status c.in-Some.is)
+
+too_many : TooManyReads ≡ Stack → ⊥
+too_many e = cc
+
+no_memory : OutOfMemory ≡ Stack → ⊥
+no_memory e = cc
+
+pub returns-in_default-count_with-clause-fed : goal.returns-in_default-count_with-clause-fed
+returns-in_default-count_with-clause-fed g c =
+    let s = c.args.self.now in ([], g.met.K.Sink.wrote_none _, λ fed out h. (Push.fed_first (g.M.Machine.machine s.machine) fed out s.state s.waiting.items h c.args.piece.now, λ e. absurd (too_many e)))
+
+pub returns-in-Err-clause-fed : goal.returns-in-Err-clause-fed
+returns-in-Err-clause-fed g c =
+    let s = c.args.self.now in ([], g.met.K.Sink.wrote_none _, λ fed out h. (Push.fed_first (g.M.Machine.machine s.machine) fed out s.state s.waiting.items h c.args.piece.now, λ e. absurd (no_memory e)))
+
+pub scan_waiting-requires-clause-stood : goal.scan_waiting-requires-clause-stood
+scan_waiting-requires-clause-stood g c = let s = c.args.self.now in Push.standing_limit (g.M.Machine.machine s.machine) s.state _ _ (s.stood c.if-self.false)
+
+pub returns-clause-fed : goal.returns-clause-fed
+returns-clause-fed g c =
+    let s = c.args.self.now in
+    let M = g.M.Machine.machine s.machine in
+    let k = c.scan_waiting.ensures.fed in
+    (k.0, k.1, λ fed out h. k.2 _ out (Push.fed_more M fed out _ s.waiting.items c.args.piece.now _ (Push.fed_limit M fed out s.state s.waiting.items _ _ h) c.in-Ok.ensures.items))
