@@ -1,8 +1,8 @@
 -- Scans by pieces.
 use Rattle.std.proofs.Common.{◌≡◌, ℕ, suc, ◌+◌, ◌-◌, ◌<◌, ◌≤◌, inl, inr, Bool, true, false, List, [], ◌++◌, length, take, drop, Option, Some, None, Result, Ok, Err, refl, sym, ap, subst, ◌∙◌, append_assoc, append-nil, arith}
-use Rattle.std.specs.Prelude.{IsErrOf}
+use Rattle.std.specs.Prelude.{IsErrOf, IfSome}
 use Rattle.std.proofs.lemmas.Bool.{cases_lt, cases_eq, cases_Bool}
-use Rattle.std.proofs.lemmas.List.{length-append, drop-append-le, nil_from_length}
+use Rattle.std.proofs.lemmas.List.{length-append, drop-append-le, nil_from_length, take-append-le, length-drop}
 use Rattle.std.proofs.Math.Seq.{take-append_seam, drop-append_seam}
 use Rattle.lex_semantics.specs.Text.{IsText, BeginsWith, at_line_start}
 use Rattle.lex_semantics.specs.Acting.{Ending, Status}
@@ -11,7 +11,7 @@ use Rattle.lex_semantics.specs.Run.{Run}
 use Rattle.lex_semantics.specs.Demand.{Consistent, GoesOnFrom}
 use Rattle.lex_semantics.specs.Scanned.{Scanned}
 use Rattle.lex_semantics.specs.Rules.{Rules}
-use Rattle.lex_semantics.specs.Machine.{Machine, rules_of_machine}
+use Rattle.lex_semantics.specs.Machine.{Machine, walk, rules_of_machine}
 use Rattle.lex_semantics.proofs.Once.{one_state}
 use Rattle.lex_semantics.proofs.Written.{run_begins}
 use Rattle.lexscan.specs.declared.state.State.{State}
@@ -22,8 +22,15 @@ use Rattle.lexscan.specs.Answer.{end_read}
 use Rattle.lexscan.specs.Reads.{read_fault_count, end_step}
 use Rattle.lexscan.specs.Descends.{ending_of}
 use Rattle.lexscan.specs.Stands.{state_of, Stands, Fell, NoneAfterEnd}
-use Rattle.lexscan.specs.Pushes.{AsksForMore, Standing, MadeTurns, Pauses, Fed, RunsTo, WritesFirst, AfterFeed, AfterFinish}
+use Rattle.lexscan.specs.Pushes.{AsksForMore, Standing, MadeTurns, Pauses, Fed, RunsTo, WritesFirst, AfterFeed, AfterFinish, GoesOnOver, WalksOn, IsAsking}
 use Rattle.lexscan.specs.Waits.{GivesWaiting}
+use Rattle.lex_semantics.specs.MachineLaws.{MachineLaws}
+use Rattle.lex_semantics.proofs.MachineLaws.{walk-append}
+use Rattle.lex_semantics.proofs.Texts.{take_past}
+use Rattle.lex_semantics.proofs.Wanted.{WantsMore, wanted_end}
+use Rattle.lexscan.specs.declared.state.Reading.{Reading}
+use Rattle.lexscan.specs.Looks.{Wants}
+use Rattle.lexscan.proofs.Lifting.{wants_here}
 use Rattle.lexscan.proofs.Refusing.{earlier, just_these}
 use Rattle.lexscan.proofs.Furthering.{no_further}
 
@@ -217,7 +224,7 @@ module _ (M : Machine) (old new : State) (waiting : List ℕ) (fed out : List �
           waits = λ _. sym (dropped ∙ ap (λ k. drop k waiting) size ∙ ap (drop (length got)) first.taken ∙ drop-append_seam got left);
         },
         p.going,
-        subst (AsksForMore R (p.turns + h.turns)) (sym (fed_is got left first.taken ∙ ap (λ l. (h.given ++ got) ++ l) all)) asks.0,
+        λ _. subst (AsksForMore R (p.turns + h.turns)) (sym (fed_is got left first.taken ∙ ap (λ l. (h.given ++ got) ++ l) all)) asks.0,
       )
 
   -- the taken bytes, by what was given
@@ -350,3 +357,63 @@ module _ (M : Machine) (fed out : List ℕ) (s : State) (waiting : List ℕ) (h 
 
   pub end_runs : (status : ℕ) → s.ended ≡ Some status → IsText fed → Run (rules_of_machine M) fed (out ++ []) (Status status)
   end_runs status ended text = fed_runs [] status ended fed text ([], sym (append-nil (fed ++ []) ∙ append-nil fed))
+
+-- a walk over bytes, and then over others
+pub goes_further : (M : Machine) (first mid last : ℕ) (v w : List ℕ) → GoesOnOver M first v mid → GoesOnOver M mid w last → GoesOnOver M first (v ++ w) last
+goes_further M first mid last v w (at, goes) (at', goes') = (at' ∙ ap (λ s. walk M s w) at ∙ sym (walk-append M first v w), over)
+  where
+    over : (i : ℕ) → 1 ≤ i → i ≤ length (v ++ w) → M.goes_on (walk M first (take i (v ++ w))) ≡ true
+    over i some le = elim (cases_lt (length v) i) [
+      | inr few ↦ ap (λ l. M.goes_on (walk M first l)) (take-append-le i v w few) ∙ goes i some few
+      | inl more ↦ (let size : length (v ++ w) ≡ length v + length w = length-append v w in
+          let e : i ≡ length v + (i - length v) = omega (arith, more) in
+          let split : take i (v ++ w) ≡ v ++ take (i - length v) w = ap (λ k. take k (v ++ w)) e ∙ take_past v w (i - length v) in
+          ap (λ l. M.goes_on (walk M first l)) split ∙ ap M.goes_on (walk-append M first v (take (i - length v) w) ∙ ap (λ s. walk M s (take (i - length v) w)) (sym at)) ∙ goes' (i - length v) (omega (arith, more)) (omega (arith, le, size)))
+    ]
+
+-- The match that asks for all the bytes asks for a piece more.
+pub asking_more : (M : Machine) (s : State) (waiting piece waiting' : List ℕ) (first last : ℕ) → s.place.at ≤ length s.reading.window.bytes → waiting' ≡ waiting ++ piece →
+    GoesOnOver M (M.start s.place.condition s.place.line_start) (drop s.place.at (s.reading.window.bytes ++ waiting)) first → GoesOnOver M first piece last →
+    GoesOnOver M (M.start s.place.condition s.place.line_start) (drop s.place.at (s.reading.window.bytes ++ waiting')) last
+asking_more M s waiting piece waiting' first last inside is h k =
+    let w : List ℕ = s.reading.window.bytes in
+    let size : length (w ++ waiting) ≡ length w + length waiting = length-append w waiting in
+    let all : drop s.place.at (w ++ waiting') ≡ drop s.place.at (w ++ waiting) ++ piece = ap (λ l. drop s.place.at (w ++ l)) is ∙ ap (drop s.place.at) (sym (append_assoc w waiting piece)) ∙ drop-append-le s.place.at (w ++ waiting) piece (omega (arith, inside, size)) in
+    subst (λ l. GoesOnOver M (M.start s.place.condition s.place.line_start) l last) (sym all) (goes_further M (M.start s.place.condition s.place.line_start) first last (drop s.place.at (w ++ waiting)) piece h k)
+
+-- Where the match goes on over all the bytes, the next turn asks for more.
+pub asks_still : (M : Machine) → MachineLaws M → (fed out : List ℕ) (s : State) (waiting : List ℕ) (last : ℕ) (h : Fed M fed out s waiting) → s.ended ≡ None → s.place.at ≤ length s.reading.window.bytes →
+    GoesOnOver M (M.start s.place.condition s.place.line_start) (drop s.place.at (s.reading.window.bytes ++ waiting)) last → IsText fed → AsksForMore (rules_of_machine M) h.turns fed
+asks_still M laws fed out s waiting last h going inside goes text t far asked after =
+    let k = h.stands in
+    let w : List ℕ = s.reading.window.bytes ++ waiting in
+    let size : length w ≡ length s.reading.window.bytes + length waiting = length-append s.reading.window.bytes waiting in
+    let all : fed ≡ h.given ++ waiting = h.all ∙ ap (λ l. h.given ++ l) (h.waits going) in
+    let win : drop k.start (h.given ++ waiting) ≡ w = drop-append-le k.start h.given waiting (omega (arith, k.covered)) ∙ ap (λ l. l ++ waiting) (sym k.held) in
+    let reading : Reading = record s.reading { window = record s.reading.window { bytes = w } } in
+    let left : length (drop s.place.at w) ≡ length w - s.place.at = length-drop s.place.at w in
+    let wants : Wants M s.place reading = record { inside = omega (arith, inside, size); asked = λ i some le. goes.1 i some (omega (arith, left, le)); reading = h.reading } in
+    let more : WantsMore (rules_of_machine M) (h.given ++ waiting) (record { start = k.start; at = k.start + s.place.at; condition = s.place.condition; stack = s.acting.stack }) =
+    wants_here M laws h.given waiting k.start s.place s.acting.stack w k.covered win k.line reading refl wants in
+    let turns = (k.scanned fed (text, subst (λ b. GoesOnFrom h.given b fed) (sym h.reading) (waiting, all))).turns in
+    wanted_end (rules_of_machine M) fed h.turns (state_of out k.start s) t far asked turns (ap ending_of going) (subst (λ l. WantsMore (rules_of_machine M) l (record { start = k.start; at = k.start + s.place.at; condition = s.place.condition; stack = s.acting.stack })) (sym all) more) after
+
+-- what two walks tell, and one more
+pub asking_all : (M : Machine) (states : ℕ) (s : State) (waiting : List ℕ) (held : ℕ) (o : Option ℕ) → s.place.at ≤ length s.reading.window.bytes → GoesOnOver M (M.start s.place.condition s.place.line_start) (drop s.place.at s.reading.window.bytes) held →
+    IfSome o (λ last. last < states) → IfSome o (GoesOnOver M held waiting) → IsAsking M states s waiting o
+asking_all M states s waiting held None inside h known k = tt
+asking_all M states s waiting held (Some last) inside h known k = (
+  known,
+  subst (λ l. GoesOnOver M (M.start s.place.condition s.place.line_start) l last) (sym (drop-append-le s.place.at s.reading.window.bytes waiting inside)) (goes_further M (M.start s.place.condition s.place.line_start) held last (drop s.place.at s.reading.window.bytes) waiting h k),
+)
+
+pub asking_on : (M : Machine) (states : ℕ) (s : State) (waiting piece waiting' : List ℕ) (asking : Option ℕ) (last : ℕ) → s.place.at ≤ length s.reading.window.bytes → waiting' ≡ waiting ++ piece → IsAsking M states s waiting asking → last < states → WalksOn M asking piece last → IsAsking M states s waiting' (Some last)
+asking_on M states s waiting piece waiting' None last inside is h known k = absurd k
+asking_on M states s waiting piece waiting' (Some first) last inside is h known k = (known, asking_more M s waiting piece waiting' first last inside is h.1 k)
+
+-- Some bytes more wait, and the next turn asks for more.
+pub fed_quiet : (M : Machine) → MachineLaws M → (states : ℕ) (fed out : List ℕ) (s : State) (waiting piece waiting' : List ℕ) (last : ℕ) → Fed M fed out s waiting → waiting' ≡ waiting ++ piece → s.ended ≡ None → s.place.at ≤ length s.reading.window.bytes → IsAsking M states s waiting' (Some last) →
+    AfterFeed M (fed ++ piece) (out ++ []) s waiting' (Ok Turn.Went)
+fed_quiet M laws states fed out s waiting piece waiting' last h is going inside asking =
+    let more : Fed M (fed ++ piece) (out ++ []) s waiting' = fed_more M fed (out ++ []) s waiting piece waiting' (subst (λ l. Fed M fed l s waiting) (sym (append-nil out)) h) is in
+    (more, going, asks_still M laws (fed ++ piece) (out ++ []) s waiting' last more going inside asking.1)

@@ -1,5 +1,6 @@
 -- Scans by pieces.
-use Rattle.std.specs.Prelude.{◌≡◌, ℕ, suc, ◌+◌, ◌<◌, Bool, true, false, List, [], ◌++◌, length, Option, Some, None, Result, Ok, Err, ⊤}
+use Rattle.std.specs.Prelude.{◌≡◌, ℕ, suc, ◌+◌, ◌<◌, ◌≤◌, Bool, true, false, List, [], ◌++◌, length, take, drop, Option, Some, None, Result, Ok, Err, ⊤}
+use Rattle.std.specs.Coded.{×_prop, le_prop}
 use Rattle.std.proofs.Props.{props}
 use Rattle.lex_semantics.specs.Text.{AllBelow, IsText, BeginsWith}
 use Rattle.lex_semantics.specs.Rules.{Rules}
@@ -7,7 +8,7 @@ use Rattle.lex_semantics.specs.Acting.{Ending, Status, StackFault}
 use Rattle.lex_semantics.specs.Run as Scan
 use Rattle.lex_semantics.specs.Run.{Run}
 use Rattle.lex_semantics.specs.Scanned.{AfterTurns}
-use Rattle.lex_semantics.specs.Machine.{Machine, rules_of_machine}
+use Rattle.lex_semantics.specs.Machine.{Machine, walk, rules_of_machine}
 use Rattle.lexscan.specs.declared.state.State.{State}
 use Rattle.lexscan.specs.declared.turn.Turn.{Turn}
 use Rattle.lexscan.specs.declared.error.RunError.{RunError}
@@ -93,7 +94,7 @@ WritesFirst R fed out = (x : List ℕ) → IsText x → BeginsWith x fed → (w 
 
 -- After a feed these bytes were fed, and these were written: the next turn asks for more, or the scan has ended, or a turn was refused.
 abbrev pub AfterFeed : Machine → List ℕ → List ℕ → State → List ℕ → Result Turn RunError → Type 0
-AfterFeed M fed out s waiting (Ok Turn.Went) = (h : Fed M fed out s waiting) × (s.ended ≡ None) × AsksForMore (rules_of_machine M) h.turns fed
+AfterFeed M fed out s waiting (Ok Turn.Went) = (h : Fed M fed out s waiting) × (s.ended ≡ None) × (IsText fed → AsksForMore (rules_of_machine M) h.turns fed)
 AfterFeed M fed out s waiting (Ok (Turn.Ended status)) = Fed M fed out s waiting × (s.ended ≡ Some status) × RunsTo (rules_of_machine M) fed out (Status status)
 AfterFeed M fed out s waiting (Err e) = WritesFirst (rules_of_machine M) fed out × (e ≡ Stack → RunsTo (rules_of_machine M) fed out StackFault)
 
@@ -105,3 +106,21 @@ AfterFinish R fed out (Err e) = IsText fed → ((w : List ℕ) (ending : Ending)
 -- There is one proof at most of a denial.
 pub Standing-prop : (M : Machine) (s : State) → IsProp (Standing M s)
 Standing-prop M s = λ x y. λ k. λ h. (let p : IsProp ⊥ = Prim.hlevel props in p) (x h) (y h) k
+
+-- The machine goes on after each of these bytes, and is in this state after them.
+abbrev pub GoesOnOver : Machine → ℕ → List ℕ → ℕ → Type 0
+GoesOnOver M first bytes last = (last ≡ walk M first bytes) × ((i : ℕ) → 1 ≤ i → i ≤ length bytes → M.goes_on (walk M first (take i bytes)) ≡ true)
+
+abbrev pub WalksOn : Machine → Option ℕ → List ℕ → ℕ → Type 0
+WalksOn M None bytes last = ⊥
+WalksOn M (Some first) bytes last = GoesOnOver M first bytes last
+
+-- The next match asks for all the bytes that are held and all that wait, and for one more: the state after them, if it is told.
+abbrev pub IsAsking : Machine → ℕ → State → List ℕ → Option ℕ → Type 0
+IsAsking M states s waiting None = ⊤
+IsAsking M states s waiting (Some last) = (last < states) × GoesOnOver M (M.start s.place.condition s.place.line_start) (drop s.place.at (s.reading.window.bytes ++ waiting)) last
+
+-- There is one proof of it at most.
+pub IsAsking-prop : (M : Machine) (states : ℕ) (s : State) (waiting : List ℕ) (asking : Option ℕ) → IsProp (IsAsking M states s waiting asking)
+IsAsking-prop M states s waiting None = Prim.hlevel props
+IsAsking-prop M states s waiting (Some last) = ×_prop (λ x y. le_prop x y) (×_prop (Prim.hlevel props) (λ x y. λ k. λ i a b. (let p : IsProp (M.goes_on (walk M (M.start s.place.condition s.place.line_start) (take i (drop s.place.at (s.reading.window.bytes ++ waiting)))) ≡ true) = Prim.hlevel props in p) (x i a b) (y i a b) k))

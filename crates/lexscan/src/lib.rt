@@ -2,6 +2,7 @@
 #![tactic(auto)]
 
 mod act;
+mod asking;
 mod attempt;
 mod back;
 mod burst;

@@ -6,8 +6,9 @@ ghost use Rattle.lexscan.specs.Memos.{AreTrue, AreTrue-prop};
 ghost use Rattle.lexscan.specs.Reads.{write_fault_count};
 ghost use Rattle.lexscan.specs.Stacks.{AllBelow-prop};
 ghost use Rattle.lexscan.specs.Ties.{HandedOn, RunHandedOn};
-ghost use Rattle.lexscan.specs.Pushes.{Standing, Standing-prop, Fed, AfterFeed, AfterFinish};
+ghost use Rattle.lexscan.specs.Pushes.{Standing, Standing-prop, IsAsking, IsAsking-prop, Fed, AfterFeed, AfterFinish};
 
+use crate::asking::{walk_all, walk_on};
 use crate::attempt::turns_between;
 use crate::error::RunError;
 use crate::memo::Memo;
@@ -50,6 +51,7 @@ fn scan_waiting<M: Machine, K: Sink>(
     memo: &mut Memo,
     state: &mut State,
     waiting: &mut Vec<u8>,
+    asking: &mut Option<u32>,
     sink: &mut K,
 ) -> Result<Turn, RunError>
     requires working { state.old.failed ≡ false }
@@ -80,7 +82,9 @@ fn scan_waiting<M: Machine, K: Sink>(
     ensures marks { state.new.failed ≡ false → AreTrue (M.machine machine.now) state.new.reading memo.new }
     ensures stood { state.new.failed ≡ false → Standing (M.machine machine.now) state.new }
     ensures reading { state.new.failed ≡ false → state.new.ended ≡ None → state.new.reading.at_end ≡ false }
+    ensures asking { IsAsking (M.machine machine.now) (M.states machine.now) state.new waiting.new.items asking.new }
 {
+    *asking = None;
     let before = state.reading.taken;
     let mut source = Waiting::new(waiting.as_slice());
     match turns_between(machine, &mut source, sink, path, memo, state) {
@@ -88,6 +92,7 @@ fn scan_waiting<M: Machine, K: Sink>(
         Ok(Turn::Ended(status)) => Ok(Turn::Ended(status)),
         Ok(Turn::Went) => {
             drop_front(waiting, (state.reading.taken - before) as usize);
+            *asking = walk_all(machine, state, waiting);
             Ok(Turn::Went)
         }
     }
@@ -147,12 +152,15 @@ pub struct PushScanner<M: Machine> {
     state: State,
     /// The bytes that were fed and that no turn has asked for.
     waiting: Vec<u8>,
+    /// The machine's state after all of them, where the next match asks for more.
+    asking: Option<u32>,
     ghost reading: { state.failed ≡ false → state.ended ≡ None → state.reading.at_end ≡ false },
     ghost condition: { state.place.condition < (M.machine machine).conditions },
     ghost inside: { state.place.at ≤ length state.reading.window.bytes },
     ghost stack: { state.failed ≡ false → AllBelow (M.machine machine).conditions state.acting.stack } by { λ x y. λ k. λ e. AllBelow-prop (M.machine machine).conditions state.acting.stack (x e) (y e) k },
     ghost marks: { state.failed ≡ false → AreTrue (M.machine machine) state.reading memo } by { λ x y. λ k. λ e. AreTrue-prop (M.machine machine) state.reading memo (x e) (y e) k },
     ghost stood: { state.failed ≡ false → Standing (M.machine machine) state } by { λ x y. λ k. λ e. Standing-prop (M.machine machine) state (x e) (y e) k },
+    ghost asking_more: { IsAsking (M.machine machine) (M.states machine) state waiting.items asking } by { λ x y. IsAsking-prop (M.machine machine) (M.states machine) state waiting.items asking x y },
 }
 
 impl<M: Machine> PushScanner<M> {
@@ -168,6 +176,7 @@ impl<M: Machine> PushScanner<M> {
             memo: Memo::new(alloc),
             state: State::new(alloc, 0),
             waiting: Vec::new(alloc),
+            asking: None,
         }
     }
 
@@ -205,8 +214,9 @@ impl<M: Machine> PushScanner<M> {
         if self.state.failed {
             return Err(RunError::Failed);
         }
-        if let Some(status) = self.state.ended {
-            return Ok(Turn::Ended(status));
+        match self.state.ended {
+            Some(status) => return Ok(Turn::Ended(status)),
+            None => {}
         }
         let Some(count) = count_with(self.state.reading.taken, self.waiting.len(), piece.len())
         else {
@@ -216,6 +226,10 @@ impl<M: Machine> PushScanner<M> {
             Err(_) => return Err(RunError::OutOfMemory),
             Ok(()) => {}
         }
+        if let Some(last) = walk_on(&self.machine, self.asking, piece) {
+            self.asking = Some(last);
+            return Ok(Turn::Went);
+        }
         self.state.reading.max_reads = count;
         scan_waiting(
             &self.machine,
@@ -223,6 +237,7 @@ impl<M: Machine> PushScanner<M> {
             &mut self.memo,
             &mut self.state,
             &mut self.waiting,
+            &mut self.asking,
             sink,
         )
     }
@@ -258,6 +273,7 @@ impl<M: Machine> PushScanner<M> {
             return Err(RunError::TooManyReads);
         };
         self.state.reading.max_reads = count + 1;
+        self.asking = None;
         scan_to_end(
             &self.machine,
             &mut self.path,
