@@ -180,13 +180,6 @@ impl<M: Machine> PushScanner<M> {
         }
     }
 
-    /// The machine.
-    pub fn machine(&self) -> &M
-        ensures { result.now ≡ self.now.machine }
-    {
-        &self.machine
-    }
-
     /// Scans on with a piece more, as far as the bytes fed so far decide it. `Turn::Went` says that the next match asks for more of them.
     /// Where the piece is refused before a turn, for memory or for too many bytes, nothing has changed.
     pub fn feed<K: Sink>(&mut self, piece: &[u8], sink: &mut K) -> Result<Turn, RunError>
