@@ -21,3 +21,4 @@ pub mod Making
 pub mod Tying
 pub mod Taking
 pub mod Fronting
+pub mod Pushing

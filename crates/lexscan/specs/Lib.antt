@@ -20,3 +20,5 @@ pub mod Ties
 pub mod Matches
 pub mod Fronts
 pub mod Scanners
+pub mod Waits
+pub mod Pushes

@@ -2,6 +2,8 @@
 #![tactic(auto)]
 
 mod act;
+mod asking;
+mod attempt;
 mod back;
 mod burst;
 mod cell;
@@ -16,12 +18,14 @@ mod matched;
 mod memo;
 mod path;
 mod pick;
+mod push;
 mod reading;
 mod scanner;
 mod stack;
 mod state;
 mod tie;
 mod turn;
+mod waiting;
 mod walk;
 mod whole;
 mod window;
@@ -30,6 +34,7 @@ pub use error::RunError;
 pub use front::{accepted, longest};
 pub use lex_io::{ByteReader, FromBytes, FromRead, MemorySource, ReadFault, Source};
 pub use matched::{Candidate, Match, MatchedRule};
+pub use push::PushScanner;
 pub use scanner::Scanner;
 pub use turn::Turn;
 pub use whole::run;

@@ -44,6 +44,14 @@ impl Stack {
         true
     }
 
+    /// Becomes a copy of another stack.
+    pub fn copy_from(&mut self, other: &Stack)
+        ensures { self.new ≡ other.now }
+    {
+        self.kept.clear();
+        let _ = self.kept.try_extend_from_slice(other.kept.as_slice());
+    }
+
     /// Takes the condition on top, if there is one.
     pub fn pop(&mut self) -> Option<u8>
         ensures top { IfSome result (λ condition. self.old ≡ condition ∷ self.new) }

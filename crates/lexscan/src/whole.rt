@@ -22,7 +22,7 @@ use lex_machine::Machine;
 use std::alloc::Global;
 
 /// How many bytes of the source are shown at once, at most and at least.
-const MOST_SHOWN: usize = 8_192;
+pub const MOST_SHOWN: usize = 8_192;
 
 const LEAST_SHOWN: usize = 64;
 
@@ -103,7 +103,7 @@ fn run_turns<M: Machine, S: Source, K: Sink>(
 /// How many bytes are shown next, where so many were, and the turns over them were done with so many: what is shown in vain is
 /// no more than a part of what is done.
 #[inline]
-fn next_most(most: usize, done: usize) -> usize {
+pub fn next_most(most: usize, done: usize) -> usize {
     if done < most / 2 {
         (most / 2).max(LEAST_SHOWN)
     } else {

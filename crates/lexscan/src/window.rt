@@ -133,6 +133,15 @@ impl Window {
         self.start += n;
     }
 
+    /// Keeps the first bytes alone, so many of them.
+    pub fn truncate(&mut self, count: usize)
+        ensures { self.new.bytes ≡ take count self.old.bytes }
+    {
+        if count < self.end - self.start {
+            self.end = self.start + count;
+        }
+    }
+
     /// The bytes from one place up to another.
     pub fn slice(&self, i: usize, j: usize) -> &[u8]
         requires order { i ≤ j }

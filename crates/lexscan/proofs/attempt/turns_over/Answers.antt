@@ -1,0 +1,217 @@
+use Rattle.std.proofs.Common.{◌≡◌, ℕ, ◌+◌, ◌<◌, ◌≤◌, false, List, [], ◌++◌, refl, sym, ap, subst, ◌∙◌, append_assoc, append-nil, arith}
+use Rattle.lex_semantics.specs.Machine.{Machine}
+use Rattle.lexscan.specs.Reads.{end_step}
+use Rattle.lexscan.specs.Stands.{Stands}
+use Rattle.lexscan.specs.declared.state.State.{State}
+use Rattle.lexscan.proofs.Lasting as Last
+use Rattle.lexscan.proofs.Pushing as Push
+use Rattle.lexscan.proofs.attempt.turns_over.Goals as goal
+
+pub turns-init : goal.turns-init
+turns-init g c =
+    let ready = c.requires.ready in
+    let none : end_step false c.args.state.now.reading.at_end ≡ 0 = ap (end_step false) c.requires.reading in
+    record {
+      same_source = refl;
+      same_sink = refl;
+      working = c.requires.working;
+      going = c.requires.going;
+      may_read = ready.may_read c.requires.working c.requires.going;
+      may_write = ready.may_write c.requires.working;
+      condition = ready.condition;
+      inside = c.requires.inside;
+      stack = ready.stack c.requires.working;
+      marks = c.requires.marks;
+      max_reads = refl;
+      stood = c.requires.stood;
+      onward = record { turns = 0; got = []; put = []; source = g.met.S.Source.gave_none _; sink = g.met.K.Sink.wrote_none _; made = Push.made_none (g.M.Machine.machine c.args.machine.now) c.args.state.now };
+      ends = omega (arith, none);
+      read_faults = refl;
+      write_faults = refl;
+    }
+
+pub returns-in-Err-clause-ran : goal.returns-in-Err-clause-ran
+returns-in-Err-clause-ran g c =
+    let M = g.M.Machine.machine c.args.machine.now in
+    let on = c.turns.invariant.onward in
+    let m = c.in-Err.ensures.goes_on in (
+      on.got ++ m.0,
+      on.put ++ m.1,
+      c.go_further_unless_behind.new.intake.source.now,
+      g.met.S.Source.gave_more _ _ _ _ _ on.source m.2,
+      g.met.K.Sink.wrote_more _ _ _ _ _ on.sink m.3,
+      (
+        m.5.0 + on.turns,
+        refl,
+        on.got ++ m.5.1,
+        m.5.2,
+        ap (λ l. on.got ++ l) m.5.3 ∙ sym (append_assoc on.got m.5.1 m.5.2),
+        Push.fell_after M c.args.state.now c.turns.state c.go_further_unless_behind.new.state c.in-Err.refused on.turns m.5.0 on.got on.put m.5.1 m.5.2 m.1 on.made m.5.4,
+      ),
+    )
+
+pub returns-in-Err-clause-failed : goal.returns-in-Err-clause-failed
+returns-in-Err-clause-failed g c =
+    let inv = c.turns.invariant in
+    let m = c.in-Err.ensures.goes_on in
+    Push.certain_true c.go_further_unless_behind.new.state.failed (λ denied. inv.stood (λ n given out h. denied (let fell = m.5.4 n given out h in fell.failed)))
+
+pub attempt-requires-clause-stood : goal.attempt-requires-clause-stood
+attempt-requires-clause-stood g c =
+    let k = c.in-Ok.ensures.goes_on in
+    Push.standing_on (g.M.Machine.machine c.args.machine.now) c.turns.state c.go_further_unless_behind.new.state k.5.0 k.0 k.1 c.turns.invariant.stood k.5.1
+
+pub returns-in-Err-attempt-clause-ran : goal.returns-in-Err-attempt-clause-ran
+returns-in-Err-attempt-clause-ran g c =
+    let M = g.M.Machine.machine c.args.machine.now in
+    let k = c.in-Ok.ensures.goes_on in
+    let on = Push.onward_more M g.S.Source.gave g.K.Sink.wrote g.met.S.Source.gave_more g.met.K.Sink.wrote_more _ _ _ _ _ _ c.args.state.now c.turns.state c.go_further_unless_behind.new.state k.5.0 k.0 k.1 c.turns.invariant.onward k.2 k.3 k.5.1 in
+    let m = c.in-Err-attempt.ensures.attempts in (
+      on.got ++ m.0,
+      on.put ++ m.1,
+      c.attempt.new.intake.source.now,
+      g.met.S.Source.gave_more _ _ _ _ _ on.source m.2,
+      g.met.K.Sink.wrote_more _ _ _ _ _ on.sink m.3,
+      (
+        on.turns,
+        refl,
+        on.got,
+        m.0,
+        refl,
+        Push.fell_at M c.args.state.now c.go_further_unless_behind.new.state c.attempt.new.state c.in-Err-attempt.e on.turns on.got on.put m.0 m.1 on.made m.5.1,
+      ),
+    )
+
+pub returns-in-Err-attempt-clause-ends : goal.returns-in-Err-attempt-clause-ends
+returns-in-Err-attempt-clause-ends g c =
+    let inv = c.turns.invariant in
+    let first = c.in-Ok.ensures in
+    let ends : g.S.Source.ends c.go_further_unless_behind.new.intake.source.now ≡ g.S.Source.ends c.args.intake.now.source.now + end_step false c.go_further_unless_behind.new.state.reading.at_end =
+    first.ends ∙ inv.ends ∙ ap (λ b. g.S.Source.ends c.args.intake.now.source.now + end_step false b) (sym first.at_end) in
+    let now = c.in-Err-attempt.ensures in
+    let m = now.attempts in
+    omega (arith, now.ends, ends, Last.answered_once c.go_further_unless_behind.new.state.reading.at_end c.attempt.new.state.reading.at_end (λ e. (m.4 e).1))
+
+pub returns-in-Ok-None-clause-ran : goal.returns-in-Ok-None-clause-ran
+returns-in-Ok-None-clause-ran g c =
+    let M = g.M.Machine.machine c.args.machine.now in
+    let inv = c.turns.invariant in
+    let first = c.in-Ok.ensures in
+    let k = first.goes_on in
+    let on = Push.onward_more M g.S.Source.gave g.K.Sink.wrote g.met.S.Source.gave_more g.met.K.Sink.wrote_more _ _ _ _ _ _ c.args.state.now c.turns.state c.go_further_unless_behind.new.state k.5.0 k.0 k.1 inv.onward k.2 k.3 k.5.1 in
+    let now = c.in-Ok-None.ensures in
+    let m = rw c.in-Ok-None.field-0-is at now.attempts in
+    let nothing : on.put ++ m.1 ≡ on.put = ap (λ l. on.put ++ l) m.5.0 ∙ append-nil on.put in (
+      on.got,
+      on.put,
+      c.go_further_unless_behind.new.intake.source.now,
+      on.source,
+      subst (λ l. g.K.Sink.wrote c.args.outlet.now.sink.now l c.attempt.new.outlet.sink.now) nothing (g.met.K.Sink.wrote_more _ _ _ _ _ on.sink m.3),
+      record {
+        turns = on.turns;
+        more = m.0;
+        source = m.2;
+        going = m.5.1;
+        at_end = m.5.2;
+        made = λ n given out h. (m.5.4 (on.turns + n) (given ++ on.got) (out ++ on.put) (on.made n given out h)).0;
+        asks = λ n given out h. (let s = m.5.4 (on.turns + n) (given ++ on.got) (out ++ on.put) (on.made n given out h) in (s.1, s.2 ∙ first.max_reads ∙ inv.max_reads));
+      },
+    )
+
+pub returns-in-Ok-None-clause-ends : goal.returns-in-Ok-None-clause-ends
+returns-in-Ok-None-clause-ends g c =
+    let inv = c.turns.invariant in
+    let first = c.in-Ok.ensures in
+    let ends : g.S.Source.ends c.go_further_unless_behind.new.intake.source.now ≡ g.S.Source.ends c.args.intake.now.source.now + end_step false c.go_further_unless_behind.new.state.reading.at_end =
+    first.ends ∙ inv.ends ∙ ap (λ b. g.S.Source.ends c.args.intake.now.source.now + end_step false b) (sym first.at_end) in
+    let now = c.in-Ok-None.ensures in
+    let m = rw c.in-Ok-None.field-0-is at now.attempts in
+    omega (arith, now.ends, ends, Last.answered_once c.go_further_unless_behind.new.state.reading.at_end c.attempt.new.state.reading.at_end (λ e. (m.4 e).1))
+
+pub returns-in-Ok-Some-Ended-clause-ran : goal.returns-in-Ok-Some-Ended-clause-ran
+returns-in-Ok-Some-Ended-clause-ran g c =
+    let M = g.M.Machine.machine c.args.machine.now in
+    let k = c.in-Ok.ensures.goes_on in
+    let on = Push.onward_more M g.S.Source.gave g.K.Sink.wrote g.met.S.Source.gave_more g.met.K.Sink.wrote_more _ _ _ _ _ _ c.args.state.now c.turns.state c.go_further_unless_behind.new.state k.5.0 k.0 k.1 c.turns.invariant.onward k.2 k.3 k.5.1 in
+    let m = rw (c.in-Ok-Some-Ended.field-0-is, c.in-Ok-Some-Ended.field-0-0-is) at c.in-Ok-Some-Ended.ensures.attempts in
+    let one = Push.made_one M c.go_further_unless_behind.new.state c.attempt.new.state m.0 m.1 m.5.1 in
+    let last = Push.onward_more M g.S.Source.gave g.K.Sink.wrote g.met.S.Source.gave_more g.met.K.Sink.wrote_more _ _ _ _ _ _ c.args.state.now c.go_further_unless_behind.new.state c.attempt.new.state 1 m.0 m.1 on m.2 m.3 one in (
+      last.got,
+      last.put,
+      c.attempt.new.intake.source.now,
+      last.source,
+      last.sink,
+      (last.turns, refl, m.5.0, last.made),
+    )
+
+pub turns-smaller : goal.turns-smaller
+turns-smaller g c =
+    let inv = c.turns.invariant in
+    Push.certain_less (Last.left_over new.reading.max_reads new) (Last.left_over old.reading.max_reads old) (λ denied. inv.stood (λ n given out h. denied (falls n given out h)))
+  where
+    M : Machine
+    M = g.M.Machine.machine c.args.machine.now
+
+    old : State
+    old = c.turns.state
+
+    mid : State
+    mid = c.go_further_unless_behind.new.state
+
+    new : State
+    new = c.attempt.new.state
+
+    less_than : (a b d : ℕ) → a < b → b ≤ d → a < d
+    less_than a b d p q = omega (arith, p, q)
+
+    falls : (n : ℕ) (given out : List ℕ) → Stands M n given out old → Last.left_over new.reading.max_reads new < Last.left_over old.reading.max_reads old
+    falls n given out h =
+        let first = c.in-Ok.ensures in
+        let k = first.goes_on in
+        let now = c.in-Ok-Some-Went.ensures in
+        let m = rw (c.in-Ok-Some-Went.field-0-is, c.in-Ok-Some-Went.field-0-0-is) at now.attempts in
+        let here : Stands M (k.5.0 + n) (given ++ k.0) (out ++ k.1) mid = k.5.1 n given out h in
+        let most : ℕ = mid.reading.max_reads in
+        let few : mid.reading.taken ≤ most = omega (arith, mid.reading.few_reads) in
+        let few' : new.reading.taken ≤ most = omega (arith, new.reading.few_reads, now.max_reads) in
+        let lower : Last.left_over most new < Last.left_over most mid =
+        Last.turn_falls M (g.M.Machine.laws c.args.machine.now) most (k.5.0 + n) (given ++ k.0) m.0 (out ++ k.1) m.1 mid new here (m.5.1 (k.5.0 + n) (given ++ k.0) (out ++ k.1) here) m.4 m.5.0 few few' in
+        let less : Last.left_over most mid ≤ Last.left_over most old = Last.no_more_left most old mid first.no_earlier in
+        subst (λ l. Last.left_over l new < Last.left_over old.reading.max_reads old) (sym now.max_reads)
+        (subst (λ l. Last.left_over most new < Last.left_over l old) first.max_reads (less_than (Last.left_over most new) (Last.left_over most mid) (Last.left_over most old) lower less))
+
+pub turns-preserved : goal.turns-preserved
+turns-preserved g c =
+    let M = g.M.Machine.machine c.args.machine.now in
+    let inv = c.turns.invariant in
+    let first = c.in-Ok.ensures in
+    let k = first.goes_on in
+    let mid : State = c.go_further_unless_behind.new.state in
+    let new : State = c.attempt.new.state in
+    let on = Push.onward_more M g.S.Source.gave g.K.Sink.wrote g.met.S.Source.gave_more g.met.K.Sink.wrote_more _ _ _ _ _ _ c.args.state.now c.turns.state mid k.5.0 k.0 k.1 inv.onward k.2 k.3 k.5.1 in
+    let stood = Push.standing_on M c.turns.state mid k.5.0 k.0 k.1 inv.stood k.5.1 in
+    let ends : g.S.Source.ends c.go_further_unless_behind.new.intake.source.now ≡ g.S.Source.ends c.args.intake.now.source.now + end_step false mid.reading.at_end =
+    first.ends ∙ inv.ends ∙ ap (λ b. g.S.Source.ends c.args.intake.now.source.now + end_step false b) (sym first.at_end) in
+    let now = c.in-Ok-Some-Went.ensures in
+    let m = rw (c.in-Ok-Some-Went.field-0-is, c.in-Ok-Some-Went.field-0-0-is) at now.attempts in
+    let next = rw c.in-Ok-Some-Went.field-0-is at now.next in
+    let one = Push.made_one M mid new m.0 m.1 m.5.1 in
+    let works = Push.made_working M mid new 1 m.0 m.1 stood one in
+    record {
+      same_source = now.same_source ∙ first.same_source ∙ inv.same_source;
+      same_sink = now.same_sink ∙ first.same_sink ∙ inv.same_sink;
+      working = works;
+      going = m.5.0;
+      may_read = next.may_read works m.5.0;
+      may_write = next.may_write works;
+      condition = next.condition;
+      inside = now.inside;
+      stack = next.stack works;
+      marks = now.marks works;
+      max_reads = now.max_reads ∙ first.max_reads ∙ inv.max_reads;
+      stood = Push.standing_on M mid new 1 m.0 m.1 stood one;
+      onward = Push.onward_more M g.S.Source.gave g.K.Sink.wrote g.met.S.Source.gave_more g.met.K.Sink.wrote_more _ _ _ _ _ _ c.args.state.now mid new 1 m.0 m.1 on m.2 m.3 one;
+      ends = omega (arith, now.ends, ends, Last.answered_once mid.reading.at_end new.reading.at_end (λ e. (m.4 e).1));
+      read_faults = omega (arith, now.read_faults, first.read_faults, inv.read_faults);
+      write_faults = omega (arith, now.write_faults, first.write_faults, inv.write_faults);
+    }
