@@ -7,6 +7,7 @@ pub mod Flows
 pub mod Meaning
 pub mod Moves
 pub mod Copies
+pub mod LetterCopyLaws
 pub mod FlowMeaning
 pub mod LetterTests
 pub mod Listing

@@ -4,6 +4,7 @@ pub mod Flow
 pub mod Flows
 pub mod RuleFlow
 pub mod Letters
+pub mod LetterCopies
 pub mod Plans
 pub mod Cursors
 pub mod Alike

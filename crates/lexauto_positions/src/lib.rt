@@ -6,6 +6,7 @@ mod bare;
 mod counting;
 mod laws;
 mod layout;
+mod letter_copies;
 mod letters;
 mod owners;
 mod rules;

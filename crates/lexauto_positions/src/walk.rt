@@ -7,6 +7,7 @@ ghost use Rattle.lexauto_positions.specs.Flow.{is_zero, is_none, passes, comes, 
 ghost use Rattle.lexauto_positions.specs.Plans.{plan_of, plans, tree_in, trees_in, IsSized, AreSized};
 
 use crate::layout::Part;
+use crate::letter_copies::{enter_letters, optional_letter};
 use std::alloc::AllocError;
 
 /// What is known behind a part of a pattern.
@@ -49,7 +50,7 @@ pub(crate) fn copies_of(least: u8, most: Option<u8>) -> Copies
 }
 
 /// Whether copy k is the last one, and may be repeated.
-fn is_loop(copies: Copies, k: u8) -> bool
+pub(crate) fn is_loop(copies: Copies, k: u8) -> bool
     requires { k < copies.count }
     ensures { result ≡ (copies.loops && is_zero (copies.count - (k + 1))) }
 {
@@ -65,7 +66,7 @@ fn is_quiet(last: &[u32], at: usize, end: usize) -> bool
 }
 
 /// Whether the position `base` is a last one.
-fn leave_letter(last: &[u32], at: usize, base: usize) -> Passed
+pub(crate) fn leave_letter(last: &[u32], at: usize, base: usize) -> Passed
     requires cursor { IsCursor last.now at base }
     requires few { base + 1 < 2 ^ 32 }
     ensures left { result.left ≡ lists last.now base }
@@ -345,6 +346,9 @@ fn enter_copies(
         (exits (tree_in (plan_of inner.now)) (lists last.now)) copies.loops base
         (positions (tree_in (plan_of inner.now))) entered copies.count)) }
 {
+    if let Some(skips) = optional_letter(inner) {
+        return enter_letters(skips, last, at, base, copies, entered, next);
+    }
     let step = inner.size() as usize;
     let mut left = entered;
     let mut out = false;

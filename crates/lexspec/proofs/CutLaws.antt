@@ -12,13 +12,13 @@ use Rattle.lexspec.specs.RuleItems.{is_number}
 use Rattle.lexspec.specs.Tests.{has_length, has_fixed, is_fixed, is_whole, cut_fits}
 use Rattle.lex_semantics.specs.Limits.{max_fixed_length}
 
-one_least : (L : Language) (m n : ℕ) (g h : Option ℕ) → HasLengths L m g → HasLengths L n h → m ≡ n
+pub one_least : (L : Language) (m n : ℕ) (g h : Option ℕ) → HasLengths L m g → HasLengths L n h → m ≡ n
 one_least L m n g h a b =
     let low : n ≤ length a.shortest.0 = b.none_shorter a.shortest.0 a.shortest.1 in
     let high : m ≤ length b.shortest.0 = a.none_shorter b.shortest.0 b.shortest.1 in
     omega (arith, a.shortest.2, b.shortest.2)
 
-one_longest : (L : Language) (g h : Option ℕ) → LongestIs L g → LongestIs L h → g ≡ h
+pub one_longest : (L : Language) (g h : Option ℕ) → LongestIs L g → LongestIs L h → g ≡ h
 one_longest L None None a b = refl
 one_longest L None (Some n) a b = let more = a n in absurd (let less : length more.0 ≤ n = b.1 more.0 more.1 in omega (arith, more.2))
 one_longest L (Some m) None a b = let more = b m in absurd (let less : length more.0 ≤ m = a.1 more.0 more.1 in omega (arith, more.2))
@@ -27,12 +27,6 @@ one_longest L (Some m) (Some n) a b =
     let high : length b.0.0 ≤ m = a.1 b.0.0 b.0.1 in
     let same : m ≡ n = omega (arith, a.0.2, b.0.2) in
     ap Some same
-
--- lengths that differ are not fixed
-pub not_fixed : (t : Tree) (m : ℕ) (g : Option ℕ) → HasLengths (In t) m g → (g ≡ Some m → ⊥) → (n : ℕ) → HasFixed t n → ⊥
-not_fixed t m g has differ n (fixed, few) =
-    let same : m ≡ n = one_least (In t) m n g (Some n) has fixed in
-    differ (one_longest (In t) g (Some n) has.longest fixed.longest ∙ ap Some (sym same))
 
 -- a fixed length passes the test
 fixed_is_tested : (t : Tree) (n : ℕ) → IsSoundTree t → HasFixed t n → has_fixed t n ≡ true

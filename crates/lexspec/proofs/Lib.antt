@@ -5,6 +5,7 @@ pub mod ActionLaws
 pub mod SubjectLaws
 pub mod ListedLaws
 pub mod CutLaws
+pub mod FixedLaws
 pub mod RulesLaws
 pub mod ItemLaws
 pub mod SoFarLaws

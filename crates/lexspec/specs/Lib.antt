@@ -5,6 +5,7 @@ pub mod Items
 pub mod Skipped
 pub mod RuleItems
 pub mod Files
+pub mod Fixed
 pub mod ActionViews
 pub mod SubjectViews
 pub mod SubjectFaults

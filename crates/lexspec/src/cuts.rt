@@ -6,9 +6,9 @@ ghost use Rattle.lex_semantics.specs.Sound.{HasFixed, IsCutOf};
 ghost use Rattle.lexspec.specs.RuleViews.{cut_of};
 ghost use Rattle.lex_semantics.specs.Spec.{Cut as Meant};
 
+use crate::fixed::one_length;
 use lex_machine::Cut;
-use lex_semantics::MAX_FIXED_LENGTH;
-use lexre::{Pattern, lengths};
+use lexre::Pattern;
 
 /// The length of each word of the pattern, where they have one length that is not too great.
 fn fixed_length(pattern: &Pattern) -> Option<u16>
@@ -16,12 +16,7 @@ fn fixed_length(pattern: &Pattern) -> Option<u16>
     ensures found { IfSome result (λ n. HasFixed (tree_of pattern.now) n) }
     ensures none { IfNone result ((n : ℕ) → HasFixed (tree_of pattern.now) n → ⊥) }
 {
-    let found = lengths(pattern)?;
-    let max = found.max?;
-    if max != found.min || max > MAX_FIXED_LENGTH {
-        return None;
-    }
-    Some(max as u16)
+    one_length(pattern)
 }
 
 /// The cut of a rule without trailing context, or by a side of fixed length, the head if it is such a side. None where

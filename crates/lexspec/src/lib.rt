@@ -5,6 +5,7 @@ mod action_text;
 mod condition_list;
 mod cuts;
 mod endings;
+mod fixed;
 mod laws;
 mod reading;
 mod rule;

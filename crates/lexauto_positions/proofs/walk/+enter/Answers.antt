@@ -6,6 +6,10 @@ use Rattle.lexauto_positions.specs.Flow.{is_zero, comes, exits, enters}
 use Rattle.lexauto_positions.specs.Plans.{plan_of, tree_in}
 use Rattle.lexauto_positions.proofs.Copies.{passes_step, comes_step, copy_place, or_false, and_false, or_assoc, and_assoc, left_before, left_here, not_left}
 use Rattle.lexauto_positions.proofs.CursorLaws.{quiet_left, quiet_next}
+use Rattle.lexauto_positions.proofs.AlikeLaws.{if_ok_by}
+use Rattle.lexauto_positions.proofs.LetterCopyLaws.{letters_pass, letters_come}
+use Rattle.lexauto_positions.specs.LetterCopies.{letter_exits, letter_enters}
+use Rattle.lexauto_positions.specs.Flow.{passes}
 use Rattle.lexauto_positions.proofs.walk.+enter.Goals.{enter_copies-then-out, enter_copies-else-out+then-needed-eq0, enter_copies-else-out+else-needed-eq0}
 use Rattle.lexauto_positions.proofs.walk.+enter.Goals as goal
 
@@ -41,6 +45,31 @@ enter_copy-returns-then-is_quiet-clause-next t c = λ q.
     ap (λ (j : Bool). j || (c.args.loops && again)) c.if-not-entered.true ∙ ap (λ (j : Bool). c.args.loops && j) (quiet_left last c.args.at c.args.base c.requires.cursor tree quiet) ∙ and_false c.args.loops in
     let none : enters tree (lists last) q c.args.base (c.args.entered || (c.args.loops && again)) ≡ false = ap (enters tree (lists last) q c.args.base) stays ∙ quiet_next last c.args.at c.args.base c.requires.cursor tree quiet q in
     sym (ap (λ (j : Bool). lists c.args.next.now.items q || j) none ∙ or_false (lists c.args.next.now.items q))
+
+pub enter_copies-returns-in-Some-clause-left : goal.enter_copies-returns-in-Some-clause-left
+enter_copies-returns-in-Some-clause-left t c =
+    let tree = tree_in (plan_of c.args.inner.now) in
+    let S = lists c.args.last.now in
+    let skips = c.in-Some.skips in
+    let same = letters_pass tree skips c.in-Some.ensures.size c.in-Some.ensures.left S c.args.base c.args.entered c.args.copies.count c.args.copies.least false in
+    if_ok_by c.enter_letters.result (λ p. p.left ≡ passes (letter_exits skips S) c.args.base 1 c.args.copies.least false c.args.entered c.args.copies.count)
+    (λ p. p.left ≡ passes (exits tree S) c.args.base (positions tree) c.args.copies.least false c.args.entered c.args.copies.count)
+    (λ p h. h ∙ same) c.enter_letters.ensures.left
+
+pub enter_copies-returns-in-Some-clause-next : goal.enter_copies-returns-in-Some-clause-next
+enter_copies-returns-in-Some-clause-next t c =
+    let tree = tree_in (plan_of c.args.inner.now) in
+    let S = lists c.args.last.now in
+    let skips = c.in-Some.skips in
+    let before = c.args.next.now.items in
+    let after = c.enter_letters.new.next.items in
+    let loops = c.args.copies.loops in
+    let count = c.args.copies.count in
+    if_ok_by c.enter_letters.result (λ p. (q : ℕ) → lists after q ≡ (lists before q || comes (letter_enters q) (letter_exits skips S) loops c.args.base 1 c.args.entered count))
+    (λ p. (q : ℕ) → lists after q ≡ (lists before q || comes (enters tree S q) (exits tree S) loops c.args.base (positions tree) c.args.entered count))
+    (λ p h q. h q ∙ ap (λ (j : Bool). lists before q || j)
+    (letters_come tree skips c.in-Some.ensures.size c.in-Some.ensures.left S c.args.base c.args.entered count q loops (c.in-Some.ensures.next S q)))
+    c.enter_letters.ensures.next
 
 pub enter_copies-loop-k-preserved : goal.enter_copies-loop-k-preserved
 enter_copies-loop-k-preserved t c =

@@ -1,0 +1,105 @@
+//! Copies of one letter: a walk over them goes from position to position, and looks at no part.
+ghost use Rattle.std.specs.Prelude.{◌≡◌, ℕ, ◌+◌, ◌<◌, ◌^◌, ◌||◌, ◌&&◌, ◌==◌, Bool, false, IfSome, IfOk, OnOk};
+ghost use Rattle.lex_semantics.specs.Active.{lists};
+ghost use Rattle.lex_semantics.specs.Positions.{positions};
+ghost use Rattle.lexauto_positions.specs.Cursors.{IsCursor, IsFront};
+ghost use Rattle.lexauto_positions.specs.Flow.{is_zero, passes, comes, exits, enters};
+ghost use Rattle.lexauto_positions.specs.LetterCopies.{letter_exits, letter_enters};
+ghost use Rattle.lexauto_positions.specs.Plans.{plan_of, tree_in};
+
+use crate::layout::Part;
+use crate::walk::{Copies, Passed, is_loop, leave_letter};
+use std::alloc::AllocError;
+
+/// Of a letter whether it may be left out. None of any other part.
+pub(crate) fn optional_letter(part: &Part) -> Option<bool>
+    ensures size { IfSome result (λ _. positions (tree_in (plan_of part.now)) ≡ 1) }
+    ensures left { IfSome result (λ skips. exits (tree_in (plan_of part.now)) ≡ letter_exits skips) }
+    ensures next { IfSome result (λ _. (S : ℕ → Bool) (q : ℕ)
+        → enters (tree_in (plan_of part.now)) S q ≡ letter_enters q) }
+{
+    match part {
+        Part::Letter(_) => Some(false),
+        Part::Repeat(_, inner, 0, Some(1)) => match &**inner {
+            Part::Letter(_) => Some(true),
+            _ => None,
+        },
+        _ => None,
+    }
+}
+
+/// Whether copies are left by now: earlier ones, or these, where no more of them are needed.
+fn is_out(out: bool, needed: u8, left: bool) -> bool
+    ensures { result ≡ (out || (is_zero needed && left)) }
+{
+    out || (needed == 0 && left)
+}
+
+/// Whether a letter is left, where it is entered or not, and is a last position or not.
+fn is_left(skips: bool, entered: bool, last: bool) -> bool
+    ensures { result ≡ ((skips && entered) || last) }
+{
+    (skips && entered) || last
+}
+
+/// Whether a letter is entered, from outside or from its own end.
+fn is_entered(outside: bool, loops: bool, last: bool) -> bool
+    ensures { result ≡ (outside || (loops && last)) }
+{
+    outside || (loops && last)
+}
+
+/// Adds the position `base` to those that come next if it is entered.
+fn add_letter(base: usize, entered: bool, next: &mut Vec<u32>) -> Result<(), AllocError>
+    requires few { base + 1 < 2 ^ 32 }
+    requires front { IsFront next.old.items base }
+    ensures front { OnOk result (IsFront next.new.items (base + 1)) }
+    ensures next { OnOk result ((q : ℕ)
+        → lists next.new.items q ≡ (lists next.old.items q || (entered && (q == base)))) }
+{
+    if entered {
+        next.push(base as u32)?;
+    }
+    Ok(())
+}
+
+/// Adds the positions that come next, where copies of a letter are entered or not, and these are the last ones.
+pub(crate) fn enter_letters(
+    skips: bool,
+    last: &[u32],
+    at: usize,
+    base: usize,
+    copies: Copies,
+    entered: bool,
+    next: &mut Vec<u32>,
+) -> Result<Passed, AllocError>
+    requires cursor { IsCursor last.now at base }
+    requires few { base + copies.count < 2 ^ 32 }
+    requires front { IsFront next.old.items base }
+    ensures left { IfOk result (λ p. p.left
+        ≡ passes (letter_exits skips (lists last.now)) base 1 copies.least false entered copies.count) }
+    ensures cursor { IfOk result (λ p. IsCursor last.now p.at (base + copies.count)) }
+    ensures front { IfOk result (λ _. IsFront next.new.items (base + copies.count)) }
+    ensures next { IfOk result (λ _. (q : ℕ)
+        → lists next.new.items q ≡ (lists next.old.items q || comes (letter_enters q)
+        (letter_exits skips (lists last.now)) copies.loops base 1 entered copies.count)) }
+{
+    let mut left = entered;
+    let mut out = false;
+    let mut cursor = at;
+    let mut needed = copies.least;
+    for k in 0..copies.count {
+        out = is_out(out, needed, left);
+        let position = base + usize::from(k);
+        let here = leave_letter(last, cursor, position);
+        let loops = is_loop(copies, k);
+        add_letter(position, is_entered(left, loops, here.left), next)?;
+        left = is_left(skips, left, here.left);
+        cursor = here.at;
+        needed = needed.saturating_sub(1);
+    }
+    Ok(Passed {
+        left: is_out(out, needed, left),
+        at: cursor,
+    })
+}
