@@ -255,32 +255,32 @@ pub fn burst_over<M: Machine, K: Sink>(
     ensures held { held ≤ result.asked }
     ensures asked { result.asked ≤ length text.now }
 {
-    let mut done = 0usize;
-    let mut asked = held;
+    let mut rest = text;
+    let mut unasked = text.len() - held;
     let mut condition = place.condition;
     let mut first = machine.start(condition, place.line_start);
-    'turns: while done < text.len() {
-        let rest = &text[done..];
+    'turns: while !rest.is_empty() {
         let Some(way) = machine.way(first, rest) else {
             break 'turns;
         };
         if let Some(keep) = silent_part(machine, way) {
-            asked = asked.max(done + way.count);
+            unasked = unasked.min(rest.len() - way.count);
             first = machine.start(condition, rest[keep - 1] == b'\n');
-            done += keep;
+            rest = &rest[keep..];
             continue 'turns;
         }
         let told = told_of(machine, first, rest, way);
         if !knows(told.gist) {
             break 'turns;
         }
-        asked = asked.max(done + way.count);
+        unasked = unasked.min(rest.len() - way.count);
         let said = &rest[..told.keep];
         match do_gist(outlet, told.gist, said, condition) {
             Err(_) => {
+                let done = text.len() - rest.len();
                 return Burst {
                     done,
-                    asked,
+                    asked: text.len() - unasked,
                     line_start: starts_line(place.line_start, text, done),
                     condition,
                     fault: true,
@@ -289,11 +289,12 @@ pub fn burst_over<M: Machine, K: Sink>(
             Ok(after) => condition = after,
         }
         first = machine.start(condition, said[told.keep - 1] == b'\n');
-        done += told.keep;
+        rest = &rest[told.keep..];
     }
+    let done = text.len() - rest.len();
     Burst {
         done,
-        asked,
+        asked: text.len() - unasked,
         line_start: starts_line(place.line_start, text, done),
         condition,
         fault: false,
