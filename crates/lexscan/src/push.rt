@@ -1,5 +1,5 @@
 //! A scan that is fed its input piece by piece.
-ghost use Rattle.std.specs.Prelude.{◌≡◌, ℕ, ◌+◌, ◌-◌, ◌^◌, ◌<◌, ◌≤◌, List, [], ◌++◌, length, drop, vec_len, true, false, None, Some, Ok, Err, OnOk, OnErr, IfSome, IfNone, IsErrOf};
+ghost use Rattle.std.specs.Prelude.{◌≡◌, ℕ, ◌+◌, ◌-◌, ◌^◌, ◌<◌, ◌≤◌, List, [], ◌++◌, length, drop, vec_len, true, false, None, Some, Ok, Err, OnErr, IfSome, IfNone, IsErrOf};
 ghost use Rattle.lex_semantics.specs.Machine.{rules_of_machine};
 ghost use Rattle.lex_semantics.specs.Text.{AllBelow};
 ghost use Rattle.lexscan.specs.Memos.{AreTrue, AreTrue-prop};
@@ -246,7 +246,7 @@ impl<M: Machine> PushScanner<M> {
         ensures write_faults { K.failures sink.new ≡ K.failures sink.old + write_fault_count result }
         ensures not_read { IsErrOf result RunError.Read → ⊥ }
         ensures handed_on { self.old.state.failed ≡ false → self.old.state.ended ≡ None
-            → OnOk result (K.flushed sink.new ≡ true) }
+            → RunHandedOn (K.flushed sink.new) result }
         ensures too_many { IsErrOf result RunError.TooManyReads →
             2 ^ 64 - 1 ≤ self.old.state.reading.taken + length self.old.waiting.items }
         ensures refused { IsErrOf result RunError.Failed → self.old.state.failed ≡ true }
