@@ -11,7 +11,7 @@ use Rattle.lexauto_positions.specs.RuleFlow.{rules_left}
 use Rattle.lexauto.specs.Keys.{Key}
 use Rattle.lexauto.specs.Sets.{marked, tagged, starts_in, lasts_in}
 use Rattle.lexauto_positions.proofs.CursorLaws.{among_at, at_among}
-use Rattle.lexauto_positions.proofs.FlowMeaning.{both, either, and_is, no_true}
+use Rattle.lexauto_positions.proofs.FlowMeaning.{both, and_is, no_true}
 use Rattle.lexauto_positions.proofs.Numbers.{lists_is, listed_is}
 use Rattle.lexauto_positions.proofs.Quiet.{not_true}
 

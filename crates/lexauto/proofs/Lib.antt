@@ -1,5 +1,6 @@
 pub mod Places
 pub mod Kept
+pub mod KeyBits
 pub mod Works
 pub mod KeyLaws
 pub mod StepLemmas

@@ -105,3 +105,12 @@ told_more none f keys told n k x len here is before i q lt at =
           let key : k ≡ q = (let e : Some k ≡ Some q = sym here ∙ ap (slice_get keys) (sym same) ∙ at in cc) in
           rw (same, get_or_push told x none n len) (is ∙ ap f key))
     ]
+
+-- where nothing is marked no key is read
+pub none_marked : (marks : List Bool) → length marks ≡ 0 → (l : List ℕ) → tagged 1 (filter (flag marks) l) ≡ []
+none_marked [] h l = ap (tagged 1) (none l)
+  where
+    none : (l : List ℕ) → filter (flag []) l ≡ []
+    none [] = refl
+    none (x ∷ l) = none l
+none_marked (b ∷ marks) h l = absurd (omega (arith, h))

@@ -12,6 +12,10 @@ use Rattle.lex_semantics.specs.Text.{listed}
 abbrev pub bit_at : List ℕ → ℕ → Bool
 bit_at words p = slice_index words (p / 32) / 2 ^ (p % 32) % 2 == 1
 
+-- how many positions a word has
+unfoldable pub word_bits : ℕ
+word_bits = 32
+
 abbrev pub with_bit : List ℕ → ℕ → List ℕ
 with_bit words p = slice_set words (p / 32) (bit_or (slice_index words (p / 32)) (2 ^ (p % 32)))
 

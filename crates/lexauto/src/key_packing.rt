@@ -1,9 +1,9 @@
 //! Keys as they are kept: a key of many positions as bits.
-ghost use Rattle.std.specs.Prelude.{◌≡◌, ℕ, ◌<◌, ◌*◌, ◌/◌, ◌%◌, ◌^◌, ◌∷◌, length, bit_or, IfOk};
+ghost use Rattle.std.specs.Prelude.{◌≡◌, ℕ, ◌<◌, ◌*◌, ◌/◌, ◌%◌, ◌^◌, ◌∷◌, ◌++◌, length, bit_or, IfOk, OnOk};
 ghost use Rattle.std.proofs.Common.{replicate};
 ghost use Rattle.lexauto.specs.Sets.{lasts_in};
 ghost use Rattle.lex_semantics.specs.Text.{listed};
-ghost use Rattle.lexauto.specs.KeyPacking.{bit_at, with_bits, bit_count, unpacked, word_count, packed};
+ghost use Rattle.lexauto.specs.KeyPacking.{bit_at, word_bits, with_bits, bit_count, unpacked, word_count, packed};
 
 use crate::sets::{LAST, lasts_in};
 use std::alloc::{AllocError, Global};
@@ -17,12 +17,22 @@ const PLAIN: u32 = 1;
 /// The most words of bits that are read: those of 16,384 positions.
 const MOST_WORDS: usize = 512;
 
-/// Whether the position's bit is set.
-fn has_bit(words: &[u32], position: usize) -> bool
-    requires { position < 32 * length words.now }
-    ensures { result ≡ bit_at words.now position }
+/// Adds the positions whose bits are set in one of the words.
+fn add_word(words: &[u32], at: usize, key: &mut Vec<u32>) -> Result<(), AllocError>
+    requires within { at < length words.now }
+    requires few { at < 512 }
+    ensures { OnOk result (key.new.items ≡ key.old.items ++ listed (bit_at words.now) (at * 32) word_bits) }
 {
-    (words[position / 32] >> (position % 32)) % 2 == 1
+    let word = words[at];
+    if word == 0 {
+        return Ok(());
+    }
+    for bit in 0..32usize {
+        if (word >> bit) % 2 == 1 {
+            key.push((at * 32 + bit) as u32)?;
+        }
+    }
+    Ok(())
 }
 
 /// The key of the positions whose bits are set.
@@ -31,10 +41,8 @@ fn key_of_bits(alloc: Global, words: &[u32]) -> Result<Vec<u32>, AllocError>
 {
     let mut key = Vec::new(alloc);
     key.push(LAST)?;
-    for i in 0..words.len().min(MOST_WORDS) * 32 {
-        if has_bit(words, i) {
-            key.push(i as u32)?;
-        }
+    for at in 0..words.len().min(MOST_WORDS) {
+        add_word(words, at, &mut key)?;
     }
     Ok(key)
 }

@@ -129,6 +129,9 @@ pub(crate) fn last_key(
 ) -> Result<Vec<u32>, AllocError>
     ensures { IfOk result (λ v. v.items ≡ tagged 1 (filter (flag marks.now) numbers.now)) }
 {
+    if marks.is_empty() {
+        return Ok(Vec::new(alloc));
+    }
     let numbers = keep_marked(alloc, numbers, marks)?;
     key_of(alloc, LAST, &numbers)
 }

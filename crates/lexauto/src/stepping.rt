@@ -43,6 +43,16 @@ pub(crate) struct RuleMoves<'a> {
     ghost alike: { AreTwins (masks_in masks.items) twins.items },
 }
 
+/// The marks, or none where nothing is marked.
+fn marks_or_none(alloc: Global, marks: Vec<bool>) -> Vec<bool>
+    ensures { (q : ℕ) → flag result.items q ≡ flag marks.items q }
+{
+    if marks.iter().any(|is_marked| *is_marked) {
+        return marks;
+    }
+    Vec::new(alloc)
+}
+
 /// For each byte the positions that read it.
 fn masks_of(alloc: Global, rules: &[LaidRule]) -> Result<Vec<Vec<bool>>, AllocError>
     ensures { IfOk result (λ v. AreMasks (map shape_of rules.now) (masks_in v.items)) }
@@ -51,23 +61,42 @@ fn masks_of(alloc: Global, rules: &[LaidRule]) -> Result<Vec<Vec<bool>>, AllocEr
     let mut masks = Vec::new(alloc);
     for byte in 0..256usize {
         let mask = mask_of(alloc, &letters, byte as u8)?;
-        masks.push(mask)?;
+        masks.push(marks_or_none(alloc, mask))?;
     }
     Ok(masks)
 }
 
+/// A number that equal masks have in common, and others mostly not: the sum of what is marked.
+fn digest_of(mask: &[bool]) -> u64 {
+    let mut sum: u64 = 0;
+    for (i, is_marked) in mask.iter().enumerate() {
+        if *is_marked {
+            sum = sum.wrapping_add(i as u64);
+        }
+    }
+    sum
+}
+
 /// The first of the masks that is the one of this byte.
-fn first_like(masks: &[Vec<bool>], byte: usize) -> usize
-    requires { byte < length masks.now }
+fn first_like(masks: &[Vec<bool>], digests: &[u64], byte: usize) -> usize
+    requires within { byte < length masks.now }
+    requires digests { length digests.now ≡ length masks.now }
     ensures first { result ≤ byte }
     ensures same { mask_at (masks_in masks.now) result ≡ mask_at (masks_in masks.now) byte }
 {
     for other in 0..byte {
-        if masks[other] == masks[byte] {
+        if digests[other] == digests[byte] && masks[other] == masks[byte] {
             return other;
         }
     }
     byte
+}
+
+/// The digest of each of the masks.
+fn digests_of(alloc: Global, masks: &[Vec<bool>]) -> Result<Vec<u64>, AllocError>
+    ensures { IfOk result (λ v. length v.items ≡ length masks.now) }
+{
+    masks.iter().map(|mask| digest_of(mask)).collect(alloc)
 }
 
 /// For each byte the first one that the same positions read.
@@ -75,9 +104,10 @@ fn twins_of(alloc: Global, masks: &[Vec<bool>]) -> Result<Vec<u8>, AllocError>
     requires { length (masks_in masks.now) ≡ 256 }
     ensures { IfOk result (λ v. AreTwins (masks_in masks.now) v.items) }
 {
+    let digests = digests_of(alloc, masks)?;
     let mut twins = Vec::new(alloc);
     for byte in 0..256usize {
-        twins.push(first_like(masks, byte) as u8)?;
+        twins.push(first_like(masks, &digests, byte) as u8)?;
     }
     Ok(twins)
 }

@@ -89,6 +89,22 @@ module _ (l : List ℕ) (at base : ℕ) (c : IsCursor l at base) where
       above = λ j g k. let m = c.increases at j (omega (arith, g)) k in let e = here in omega (arith, m, e);
     }
 
+-- all before `at` is less than `hi`, and nothing from there on
+pub cursor_at : (l : List ℕ) (at hi : ℕ) → Increases l → at ≤ length l → ((j : ℕ) → j < at → slice_index l j < hi)
+    → (length l ≤ at) ⊎ (hi ≤ slice_index l at) → IsCursor l at hi
+cursor_at l at hi inc within below quiet = record {
+  increases = inc;
+  within = within;
+  below = below;
+  above = λ j g k. elim quiet [
+    | inl e ↦ absurd (omega (arith, e, g, k))
+    | inr e ↦ elim (let d : (at ≡ j) ⊎ (at < j) = grind (arith, g) in d) [
+      | inl s ↦ (let same : slice_index l at ≡ slice_index l j = ap (slice_index l) s in omega (arith, same, e))
+      | inr lt ↦ (let m = inc at j lt k in omega (arith, m, e))
+    ]
+  ];
+}
+
 -- the list of what comes next grows
 
 among_end : (l : List ℕ) (b j : ℕ) → Among (l ++ b ∷ []) j → Among l j ⊎ (j ≡ b)

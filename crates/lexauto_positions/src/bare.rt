@@ -29,7 +29,7 @@ fn are_bare(parts: &[Pattern], levels: u8) -> bool
     ensures { result ≡ true → positions_of (trees (map tree_of parts.now)) ≡ 0 }
 {
     for part in parts {
-        if !is_bare(part, levels) {
+        if !matches!(part, Pattern::Empty) && !is_bare(part, levels) {
             return false;
         }
     }

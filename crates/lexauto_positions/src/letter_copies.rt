@@ -1,5 +1,5 @@
 //! Copies of one letter: a walk over them goes from position to position, and looks at no part.
-ghost use Rattle.std.specs.Prelude.{◌≡◌, ℕ, ◌+◌, ◌<◌, ◌^◌, ◌||◌, ◌&&◌, ◌==◌, Bool, false, IfSome, IfOk, OnOk};
+ghost use Rattle.std.specs.Prelude.{◌≡◌, ℕ, ◌+◌, ◌<◌, ◌≤◌, ◌^◌, ◌||◌, ◌&&◌, ◌==◌, Bool, true, false, IfSome, IfOk, OnOk};
 ghost use Rattle.lex_semantics.specs.Active.{lists};
 ghost use Rattle.lex_semantics.specs.Positions.{positions};
 ghost use Rattle.lexauto_positions.specs.Cursors.{IsCursor, IsFront};
@@ -8,7 +8,7 @@ ghost use Rattle.lexauto_positions.specs.LetterCopies.{letter_exits, letter_ente
 ghost use Rattle.lexauto_positions.specs.Plans.{plan_of, tree_in};
 
 use crate::layout::Part;
-use crate::walk::{Copies, Passed, is_loop, leave_letter};
+use crate::walk::{Copies, Passed, is_loop, is_quiet, leave_letter};
 use std::alloc::AllocError;
 
 /// Of a letter whether it may be left out. None of any other part.
@@ -63,6 +63,61 @@ fn add_letter(base: usize, entered: bool, next: &mut Vec<u32>) -> Result<(), All
     Ok(())
 }
 
+/// Adds so many positions, of which `base` is the first.
+fn add_all(base: usize, count: u8, next: &mut Vec<u32>) -> Result<(), AllocError>
+    requires few { base + count < 2 ^ 32 }
+    requires front { IsFront next.old.items base }
+    ensures front { OnOk result (IsFront next.new.items (base + count)) }
+    ensures next { OnOk result ((S : ℕ → Bool) (loops : Bool) (q : ℕ)
+        → lists next.new.items q ≡ (lists next.old.items q || comes (letter_enters q)
+        (letter_exits true S) loops base 1 true count)) }
+{
+    for k in 0..count {
+        add_letter(base + usize::from(k), true, next)?;
+    }
+    Ok(())
+}
+
+/// Where the last positions from `end` on begin.
+fn skip_last(last: &[u32], at: usize, base: usize, end: usize) -> usize
+    requires cursor { IsCursor last.now at base }
+    requires order { base ≤ end }
+    ensures { IsCursor last.now result end }
+{
+    let mut cursor = at;
+    while !is_quiet(last, cursor, end) {
+        cursor += 1;
+    }
+    cursor
+}
+
+/// Adds all positions of copies of a letter that may be left out, where the first one is entered, and so each other.
+fn enter_all(
+    last: &[u32],
+    at: usize,
+    base: usize,
+    copies: Copies,
+    next: &mut Vec<u32>,
+) -> Result<Passed, AllocError>
+    requires cursor { IsCursor last.now at base }
+    requires few { base + copies.count < 2 ^ 32 }
+    requires front { IsFront next.old.items base }
+    ensures left { IfOk result (λ p. p.left
+        ≡ passes (letter_exits true (lists last.now)) base 1 copies.least false true copies.count) }
+    ensures cursor { IfOk result (λ p. IsCursor last.now p.at (base + copies.count)) }
+    ensures front { IfOk result (λ _. IsFront next.new.items (base + copies.count)) }
+    ensures next { IfOk result (λ _. (q : ℕ)
+        → lists next.new.items q ≡ (lists next.old.items q || comes (letter_enters q)
+        (letter_exits true (lists last.now)) copies.loops base 1 true copies.count)) }
+{
+    add_all(base, copies.count, next)?;
+    let end = base + usize::from(copies.count);
+    Ok(Passed {
+        left: copies.least <= copies.count,
+        at: skip_last(last, at, base, end),
+    })
+}
+
 /// Adds the positions that come next, where copies of a letter are entered or not, and these are the last ones.
 pub(crate) fn enter_letters(
     skips: bool,
@@ -84,6 +139,9 @@ pub(crate) fn enter_letters(
         → lists next.new.items q ≡ (lists next.old.items q || comes (letter_enters q)
         (letter_exits skips (lists last.now)) copies.loops base 1 entered copies.count)) }
 {
+    if skips && entered {
+        return enter_all(last, at, base, copies, next);
+    }
     let mut left = entered;
     let mut out = false;
     let mut cursor = at;

@@ -58,7 +58,7 @@ pub(crate) fn is_loop(copies: Copies, k: u8) -> bool
 }
 
 /// Whether none of the last positions from `at` on comes before `end`.
-fn is_quiet(last: &[u32], at: usize, end: usize) -> bool
+pub(crate) fn is_quiet(last: &[u32], at: usize, end: usize) -> bool
     ensures yes { result ≡ true → (length last.now ≤ at) ⊎ (end ≤ slice_index last.now at) }
     ensures no { result ≡ false → (at < length last.now) × (slice_index last.now at < end) }
 {

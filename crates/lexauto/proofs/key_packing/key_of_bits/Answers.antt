@@ -1,20 +1,26 @@
-use Rattle.std.proofs.Common.{rules, ◌≡◌, ℕ, ◌<◌, true, false, ◌∙◌, ap, Vec, Global}
-use Rattle.lexauto.specs.KeyPacking.{bit_at, bit_count}
-use Rattle.lexauto_positions.proofs.Numbers.{number_in, number_out}
-use Rattle.lexauto.proofs.key_packing.key_of_bits.Goals.{then-has_bit+in_ok-push-2, else-has_bit}
+use Rattle.std.proofs.Common.{rules, ℕ, ◌+◌, ◌-◌, ◌*◌, ◌<◌, ◌≤◌, ◌++◌, List, min, length, sym, ap, ◌∙◌, arith}
+use Rattle.std.proofs.lemmas.List.{append-nil, append_assoc}
+use Rattle.lex_semantics.specs.Text.{listed}
+use Rattle.lexauto.specs.KeyPacking.{bit_at, word_bits}
+use Rattle.lexauto.proofs.KeyBits.{word_more, none_left}
 use Rattle.lexauto.proofs.key_packing.key_of_bits.Goals as goal
 
-pub loop-i-preserved : goal.loop-i-preserved
-loop-i-preserved c =
+pub loop-at-preserved : goal.loop-at-preserved
+loop-at-preserved c =
     let test = bit_at c.args.words.now in
-    let n = bit_count c.args.words.now in
-    let i = c.loop-i.i in
-    let lt : i < n = search rules in
-    elim c.if-has_bit.branch [
-      | then-has_bit+in_ok-push-2 w ↦
-          (let t : test i ≡ true = (let f = w.if-has_bit.true in search (rules, f)) in
-          number_in test c.loop-i.key.items c.if-has_bit.key.items i n lt t (ap (λ (v : Vec ℕ Global). v.items) w.key-is ∙ w.in_ok-push-2.ensures.items) ∙ c.loop-i.invariant)
-      | else-has_bit w ↦
-          (let t : test i ≡ false = (let f = w.if-has_bit.false in search (rules, f)) in
-          number_out test c.loop-i.key.items c.if-has_bit.key.items i n lt t (ap (λ (v : Vec ℕ Global). v.items) w.key-is) ∙ c.loop-i.invariant)
-    ]
+    let n = min (length c.args.words.now) 512 in
+    let at = c.loop-at.at in
+    let lt : at < n = search rules in
+    let rest = listed test ((at + 1) * 32) ((n - (at + 1)) * 32) in
+    ap (λ (l : List ℕ). l ++ rest) c.in_ok-add_word.ensures
+    ∙ append_assoc c.loop-at.key.items (listed test (at * 32) word_bits) rest
+    ∙ ap (λ (l : List ℕ). c.loop-at.key.items ++ l) (word_more test at n lt) ∙ c.loop-at.invariant
+
+pub returns : goal.returns
+returns c =
+    let test = bit_at c.args.words.now in
+    let n = min (length c.args.words.now) 512 in
+    let key = c.loop-at.key.items in
+    let over : n ≤ c.loop-at.at = search rules in
+    let none = none_left test (c.loop-at.at * 32) ((n - c.loop-at.at) * 32) (omega (arith, over)) in
+    sym (append-nil key) ∙ sym (ap (λ (l : List ℕ). key ++ l) none) ∙ c.loop-at.invariant

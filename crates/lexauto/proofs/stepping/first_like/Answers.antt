@@ -11,4 +11,4 @@ returns-then-eq-clause-same c =
     let same : c.index-masks-other.result.items ≡ c.index-masks-byte.result.items =
     same_flags c.index-masks-other.result.items c.index-masks-byte.result.items c.eq.result c.eq.ensures c.if-eq.true in
     mask_from masks other c.index-masks-other.result low c.index-masks-other.is ∙ same
-    ∙ sym (mask_from masks byte c.index-masks-byte.result c.requires c.index-masks-byte.is)
+    ∙ sym (mask_from masks byte c.index-masks-byte.result c.requires.within c.index-masks-byte.is)
