@@ -19,8 +19,16 @@ fn are_warned(alloc: Global, warnings: &[Warning], lines: &str) -> bool {
     got == Ok(()) && sink.written() == lines.as_bytes()
 }
 
+/// Whether the warnings of these lines are written so.
+fn lines_are_warned(alloc: Global, warned: &[(u32, bool)], lines: &str) -> bool {
+    match warnings_of(alloc, warned) {
+        Ok(warnings) => are_warned(alloc, &warnings, lines),
+        Err(_) => false,
+    }
+}
+
 #[test]
-fn tells_warnings(rt: HostRuntime) -> Result<(), Fail> {
+fn tells_warnings(rt: HostRuntime) {
     let rows: &[(&[(u32, bool)], &str)] = &[
         (&[], ""),
         (
@@ -33,10 +41,8 @@ fn tells_warnings(rt: HostRuntime) -> Result<(), Fail> {
         ),
     ];
     for &(warned, lines) in rows {
-        let warnings = warnings_of(rt.alloc(), warned)?;
-        assert!(rt; are_warned(rt.alloc(), &warnings, lines), "{lines}");
+        assert!(rt; lines_are_warned(rt.alloc(), warned, lines), "{lines}");
     }
-    Ok(())
 }
 
 /// The entries of these states, each with its word.
@@ -56,8 +62,16 @@ fn are_listed(alloc: Global, entries: &[BackUp], lines: &str) -> bool {
     got == Ok(()) && sink.written() == lines.as_bytes()
 }
 
+/// Whether the entries of these states are written so.
+fn states_are_listed(alloc: Global, told: &[(u32, &[u8])], lines: &str) -> bool {
+    match entries_of(alloc, told) {
+        Ok(entries) => are_listed(alloc, &entries, lines),
+        Err(_) => false,
+    }
+}
+
 #[test]
-fn tells_states_that_back_up(rt: HostRuntime) -> Result<(), Fail> {
+fn tells_states_that_back_up(rt: HostRuntime) {
     let rows: &[(&[(u32, &[u8])], &str)] = &[
         (&[], "states that back up: 0\n"),
         (
@@ -70,10 +84,8 @@ fn tells_states_that_back_up(rt: HostRuntime) -> Result<(), Fail> {
         ),
     ];
     for &(told, lines) in rows {
-        let entries = entries_of(rt.alloc(), told)?;
-        assert!(rt; are_listed(rt.alloc(), &entries, lines), "{lines}");
+        assert!(rt; states_are_listed(rt.alloc(), told, lines), "{lines}");
     }
-    Ok(())
 }
 
 /// Whether a sink of this room refuses the warnings, and has these bytes of them.

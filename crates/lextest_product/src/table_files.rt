@@ -1,4 +1,6 @@
 //! Table files byte for byte, and files that are none.
+ghost use Rattle.std.specs.Prelude.{◌<◌};
+
 use crate::row::PLAIN;
 use crate::scanning::{file_of, scanned_by_table};
 use crate::tests::conditions;
@@ -156,13 +158,15 @@ fn no_file_is_a_prefix_of_another(rt: HostRuntime) -> Result<(), Fail> {
 }
 
 /// Whether the file of the two rules is refused so, with other bytes from this offset on.
-fn is_refused(alloc: Global, at: usize, new: &[u8], error: TableError) -> Result<bool, AllocError> {
-    let bytes = changed(alloc, at, new)?;
-    Ok(refusal(alloc, &bytes) == Some(error))
+fn is_refused(alloc: Global, at: usize, new: &[u8], error: TableError) -> bool {
+    match changed(alloc, at, new) {
+        Ok(bytes) => refusal(alloc, &bytes) == Some(error),
+        Err(_) => false,
+    }
 }
 
 #[test]
-fn changed_numbers_are_named(rt: HostRuntime) -> Result<(), Fail> {
+fn changed_numbers_are_named(rt: HostRuntime) {
     let numbers: &[(usize, u32)] = &[
         (8, 0),
         (8, 256),
@@ -192,19 +196,14 @@ fn changed_numbers_are_named(rt: HostRuntime) -> Result<(), Fail> {
         (451, 1),
     ];
     for &(at, number) in numbers {
-        let refused = is_refused(
-            rt.alloc(),
-            at,
-            &number.to_be_bytes(),
-            TableError::BadField(at),
-        )?;
+        let error = TableError::BadField(at);
+        let refused = is_refused(rt.alloc(), at, &number.to_be_bytes(), error);
         assert!(rt; refused, "{number} at {at}");
     }
-    Ok(())
 }
 
 #[test]
-fn changed_fields_are_named(rt: HostRuntime) -> Result<(), Fail> {
+fn changed_fields_are_named(rt: HostRuntime) {
     let single: &[(usize, u8, TableError)] = &[
         (0, b'l', TableError::BadMagic),
         (7, 3, TableError::BadVersion),
@@ -216,12 +215,8 @@ fn changed_fields_are_named(rt: HostRuntime) -> Result<(), Fail> {
         (100, 4, TableError::BadField(100)),
     ];
     for &(at, byte, want) in single {
-        assert!(rt;
-            is_refused(rt.alloc(), at, &[byte], want)?,
-            "{byte} at {at}"
-        );
+        assert!(rt; is_refused(rt.alloc(), at, &[byte], want), "{byte} at {at}");
     }
-    Ok(())
 }
 
 /// The greatest number that a cut may have, and one more.
@@ -230,23 +225,40 @@ fn a_cut_has_a_greatest_number(rt: HostRuntime) -> Result<(), Fail> {
     let longest = changed(rt.alloc(), 41, b"\x01\0\0\xff\xff")?;
     assert!(rt; is_rewritten(rt.alloc(), &longest));
     let error = TableError::BadField(42);
-    assert!(rt; is_refused(rt.alloc(), 41, b"\x01\0\x01\0\0", error)?);
+    assert!(rt; is_refused(rt.alloc(), 41, b"\x01\0\x01\0\0", error));
     Ok(())
+}
+
+/// The number of a digit, as a letter of a number to the base 16.
+fn digit_of(digit: u8) -> u8
+    requires { digit < 16 }
+{
+    if digit < 10 {
+        b'0' + digit
+    } else {
+        b'a' + (digit - 10)
+    }
+}
+
+/// Adds a rule of this byte.
+fn add_byte(text: &mut Vec<u8>, byte: u8) -> Result<(), AllocError> {
+    let rule = [
+        b'\\',
+        b'x',
+        digit_of(byte / 16),
+        digit_of(byte % 16),
+        b' ',
+        b';',
+        b'\n',
+    ];
+    text.extend_from_slice(&rule)
 }
 
 /// A specification of 255 conditions, of 4,096 rules, and of 256 bytes that no two rules read alike.
 fn greatest(alloc: Global) -> Result<Vec<u8>, AllocError> {
     let mut text = conditions(alloc, 254)?;
     for byte in 0..=255u8 {
-        text.extend_from_slice(b"\\x")?;
-        for digit in [byte / 16, byte % 16] {
-            text.push(if digit < 10 {
-                b'0' + digit
-            } else {
-                b'a' + (digit - 10)
-            })?;
-        }
-        text.extend_from_slice(b" ;\n")?;
+        add_byte(&mut text, byte)?;
     }
     for _ in 0..3_840 {
         text.extend_from_slice(b"aa ;\n")?;
@@ -303,19 +315,23 @@ fn the_fault_before_the_end_is_named(rt: HostRuntime) -> Result<(), Fail> {
     Ok(())
 }
 
+/// Whether the file of the two rules, with other bytes from this offset on, is a table's, by which a scan writes this.
+fn is_changed_to(alloc: Global, at: usize, new: &[u8], scanned: &str) -> bool {
+    match changed(alloc, at, new) {
+        Ok(bytes) => is_rewritten(alloc, &bytes) && writes(alloc, &bytes, scanned),
+        Err(_) => false,
+    }
+}
+
 #[test]
-fn changed_tables_are_read(rt: HostRuntime) -> Result<(), Fail> {
-    let alloc = rt.alloc();
+fn changed_tables_are_read(rt: HostRuntime) {
     let rows: &[(usize, &[u8], &str)] = &[
         (399, b"\0\0\0\0\0\0\0\0", "KI"),
         (41, b"\x01\0\0\0\x03", "II I"),
     ];
     for &(at, new, scanned) in rows {
-        let bytes = changed(alloc, at, new)?;
-        assert!(rt; is_rewritten(alloc, &bytes));
-        assert!(rt; writes(alloc, &bytes, scanned));
+        assert!(rt; is_changed_to(rt.alloc(), at, new, scanned));
     }
-    Ok(())
 }
 
 /// Whether a specification has this file.
@@ -338,9 +354,16 @@ fn action(alloc: Global, count: u8, statements: &[u8]) -> Result<Vec<u8>, AllocE
     plain(alloc, 1, &text)
 }
 
+/// Whether the file of a rule of these statements is a table's.
+fn is_action(alloc: Global, count: u8, statements: &[u8]) -> bool {
+    match action(alloc, count, statements) {
+        Ok(bytes) => is_rewritten(alloc, &bytes),
+        Err(_) => false,
+    }
+}
+
 #[test]
-fn actions_are_read(rt: HostRuntime) -> Result<(), Fail> {
-    let alloc = rt.alloc();
+fn actions_are_read(rt: HostRuntime) {
     let rows: &[(u8, &[u8])] = &[
         (5, b"\0\x01\0\0\0\x02ab\x02\0\x03\x06\x3f"),
         (2, b"\0\x04\xff\xff"),
@@ -348,15 +371,20 @@ fn actions_are_read(rt: HostRuntime) -> Result<(), Fail> {
         (0, b""),
     ];
     for &(count, statements) in rows {
-        let bytes = action(alloc, count, statements)?;
-        assert!(rt; is_rewritten(alloc, &bytes));
+        assert!(rt; is_action(rt.alloc(), count, statements));
     }
-    Ok(())
+}
+
+/// Whether the file of a rule of these statements is refused at this offset.
+fn is_no_action(alloc: Global, count: u8, statements: &[u8], at: usize) -> bool {
+    match action(alloc, count, statements) {
+        Ok(bytes) => refusal(alloc, &bytes) == Some(TableError::BadField(at)),
+        Err(_) => false,
+    }
 }
 
 #[test]
-fn the_tag_of_a_statement_is_named(rt: HostRuntime) -> Result<(), Fail> {
-    let alloc = rt.alloc();
+fn the_tag_of_a_statement_is_named(rt: HostRuntime) {
     let rows: &[(u8, &[u8], usize)] = &[
         // REJECT and the end of a scan before another statement
         (2, b"\x05\0", 50),
@@ -378,10 +406,8 @@ fn the_tag_of_a_statement_is_named(rt: HostRuntime) -> Result<(), Fail> {
         (1, b"\x07", 50),
     ];
     for &(count, statements, at) in rows {
-        let bytes = action(alloc, count, statements)?;
-        assert_eq!(rt; refusal(alloc, &bytes), Some(TableError::BadField(at)));
+        assert!(rt; is_no_action(rt.alloc(), count, statements, at), "{at}");
     }
-    Ok(())
 }
 
 /// Two rules, of which the first has REJECT, and a state that accepts these two.
@@ -402,14 +428,21 @@ fn accepting(alloc: Global, first: u8, second: u8) -> Result<Vec<u8>, AllocError
     )
 }
 
+/// Why the file of a state that accepts these rules is refused, where it is.
+fn refusal_of(alloc: Global, first: u8, second: u8) -> Option<TableError> {
+    match accepting(alloc, first, second) {
+        Ok(bytes) => refusal(alloc, &bytes),
+        Err(_) => None,
+    }
+}
+
 #[test]
 fn accepted_rules_ascend(rt: HostRuntime) -> Result<(), Fail> {
-    let alloc = rt.alloc();
-    let bytes = accepting(alloc, 0, 1)?;
-    assert!(rt; is_rewritten(alloc, &bytes));
+    let bytes = accepting(rt.alloc(), 0, 1)?;
+    assert!(rt; is_rewritten(rt.alloc(), &bytes));
     for &(first, second) in &[(1, 0), (0, 2), (1, 1)] {
-        let bytes = accepting(alloc, first, second)?;
-        assert_eq!(rt; refusal(alloc, &bytes), Some(TableError::BadField(344)));
+        let error = TableError::BadField(344);
+        assert!(rt; refusal_of(rt.alloc(), first, second) == Some(error));
     }
     Ok(())
 }
@@ -430,9 +463,16 @@ fn a_prefix_is_written(rt: HostRuntime) -> Result<(), Fail> {
     Ok(())
 }
 
+/// Whether the error is shown so.
+fn is_shown(alloc: Global, error: TableError, words: &str) -> bool {
+    match format!(in alloc; "{error}") {
+        Ok(shown) => shown.as_str() == words,
+        Err(_) => false,
+    }
+}
+
 #[test]
-fn refusals_are_told(rt: HostRuntime) -> Result<(), Fail> {
-    let alloc = rt.alloc();
+fn refusals_are_told(rt: HostRuntime) {
     let rows = &[
         (TableError::BadMagic, "BadMagic"),
         (TableError::BadVersion, "BadVersion"),
@@ -442,8 +482,6 @@ fn refusals_are_told(rt: HostRuntime) -> Result<(), Fail> {
         (TableError::OutOfMemory, "OutOfMemory"),
     ];
     for &(error, words) in rows {
-        let told = format!(in alloc; "{error}")?;
-        assert_eq!(rt; told.as_str(), words);
+        assert!(rt; is_shown(rt.alloc(), error, words), "{words}");
     }
-    Ok(())
 }

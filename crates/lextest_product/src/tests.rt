@@ -211,43 +211,54 @@ fn ends_as_the_manual_says(rt: HostRuntime) {
     }
 }
 
-/// Scans nothing by each of these.
-fn assert_accepted(rt: &impl Abort, alloc: Global, rows: &[Long]) -> Result<(), Fail> {
-    for long in rows {
-        let text = text_of(alloc, long)?;
-        let scan = scanned(alloc, &text, PLAIN, b"", Failing::Never);
-        assert!(rt; scan.answer == Ok(0), "{} {}", long.1, long.2);
+/// Whether nothing is scanned by a long specification.
+fn is_accepted(alloc: Global, long: &Long) -> bool {
+    match text_of(alloc, long) {
+        Ok(text) => scanned(alloc, &text, PLAIN, b"", Failing::Never).answer == Ok(0),
+        Err(_) => false,
     }
-    Ok(())
+}
+
+/// Whether a long specification is refused by this line.
+fn is_long_refused(alloc: Global, long: &Long, line: &str) -> bool {
+    match text_of(alloc, long) {
+        Ok(text) => is_refused(alloc, &text, line),
+        Err(_) => false,
+    }
+}
+
+/// Scans nothing by each of these.
+fn assert_accepted(rt: &impl Abort, alloc: Global, rows: &[Long]) {
+    for long in rows {
+        assert!(rt; is_accepted(alloc, long), "{} {}", long.1, long.2);
+    }
 }
 
 /// Holds each of these to the line that refuses it.
-fn assert_refused(rt: &impl Abort, alloc: Global, rows: &[(Long, &str)]) -> Result<(), Fail> {
+fn assert_refused(rt: &impl Abort, alloc: Global, rows: &[(Long, &str)]) {
     for (long, line) in rows {
-        let text = text_of(alloc, long)?;
-        assert!(rt; is_refused(alloc, &text, line), "{line}");
+        assert!(rt; is_long_refused(alloc, long, line), "{line}");
     }
-    Ok(())
 }
 
 #[test]
-fn reads_up_to_the_limits(rt: HostRuntime) -> Result<(), Fail> {
-    assert_accepted(&rt, rt.alloc(), limits::ACCEPTED)
+fn reads_up_to_the_limits(rt: HostRuntime) {
+    assert_accepted(&rt, rt.alloc(), limits::ACCEPTED);
 }
 
 #[test]
-fn refuses_past_the_limits(rt: HostRuntime) -> Result<(), Fail> {
-    assert_refused(&rt, rt.alloc(), limits::REFUSED)
+fn refuses_past_the_limits(rt: HostRuntime) {
+    assert_refused(&rt, rt.alloc(), limits::REFUSED);
 }
 
 #[test]
-fn builds_up_to_the_limits(rt: HostRuntime) -> Result<(), Fail> {
-    assert_accepted(&rt, rt.alloc(), limits::BUILT)
+fn builds_up_to_the_limits(rt: HostRuntime) {
+    assert_accepted(&rt, rt.alloc(), limits::BUILT);
 }
 
 #[test]
-fn builds_nothing_past_the_limits(rt: HostRuntime) -> Result<(), Fail> {
-    assert_refused(&rt, rt.alloc(), limits::UNBUILT)
+fn builds_nothing_past_the_limits(rt: HostRuntime) {
+    assert_refused(&rt, rt.alloc(), limits::UNBUILT);
 }
 
 /// `%x` and this many names: of one letter, of two, and so on.

@@ -51,6 +51,22 @@ fn end_so(scanner: &mut Turns<'_, '_>, status: u8) -> bool {
 /// Whether the turns over an input go on so, and then end so.
 fn goes_so(
     alloc: Global,
+    machine: &Flat<'_>,
+    input: &str,
+    after: &[(u64, &str)],
+    status: u8,
+) -> bool {
+    let mut source = MemorySource::new(input.as_bytes());
+    let mut sink = MemorySink::new(alloc);
+    let mut scanner = Scanner::new(alloc, machine, &mut source, &mut sink, 10_000);
+    let went = go_on_so(&mut scanner, after);
+    let ended = end_so(&mut scanner, status);
+    went && ended
+}
+
+/// Whether they do by this specification.
+fn goes_so_by(
+    alloc: Global,
     text: &str,
     input: &str,
     after: &[(u64, &str)],
@@ -58,12 +74,7 @@ fn goes_so(
 ) -> Result<bool, Fail> {
     let tables = read_back(alloc, text.as_bytes())?;
     let machine = Flat::new(alloc, &tables)?;
-    let mut source = MemorySource::new(input.as_bytes());
-    let mut sink = MemorySink::new(alloc);
-    let mut scanner = Scanner::new(alloc, &machine, &mut source, &mut sink, 10_000);
-    let went = go_on_so(&mut scanner, after);
-    let ended = end_so(&mut scanner, status);
-    Ok(went && ended)
+    Ok(goes_so(alloc, &machine, input, after, status))
 }
 
 #[test]
@@ -105,7 +116,7 @@ fn takes_and_holds_what_is_asked_for(rt: HostRuntime) -> Result<(), Fail> {
     ];
     for &(text, input, after, status) in rows {
         assert!(rt;
-            goes_so(rt.alloc(), text, input, after, status)?,
+            goes_so_by(rt.alloc(), text, input, after, status)?,
             "{text} on {input}"
         );
     }
@@ -122,15 +133,20 @@ type Run = (
     &'static [u8],
 );
 
-/// Whether the run ends so.
-fn ends_so(alloc: Global, row: &Run) -> Result<bool, Fail> {
-    let (text, input, max_reads, want, calls, written) = *row;
-    let tables = read_back(alloc, text.as_bytes())?;
-    let machine = Flat::new(alloc, &tables)?;
+/// Whether the run by this machine ends so.
+fn ends_so_by(alloc: Global, machine: &Flat<'_>, row: &Run) -> bool {
+    let (_, input, max_reads, want, calls, written) = *row;
     let mut source = MemorySource::new(input);
     let mut sink = MemorySink::new(alloc);
-    let got = run(alloc, &machine, &mut source, &mut sink, max_reads);
-    Ok(got == want && source.calls() == calls && sink.written() == written)
+    let got = run(alloc, machine, &mut source, &mut sink, max_reads);
+    got == want && source.calls() == calls && sink.written() == written
+}
+
+/// Whether the run ends so.
+fn ends_so(alloc: Global, row: &Run) -> Result<bool, Fail> {
+    let tables = read_back(alloc, row.0.as_bytes())?;
+    let machine = Flat::new(alloc, &tables)?;
+    Ok(ends_so_by(alloc, &machine, row))
 }
 
 const LETTERS: &str = "%%\n[a-z]+ printf(\"I\");\n";

@@ -1,3 +1,5 @@
+ghost use Rattle.std.specs.Prelude.{◌≡◌, length, IfOk};
+
 use lexre_bytes::SpecErrorKind;
 use lexspec_actions::{Condition, EndAction, Statement, read_action, read_end_action};
 use std::alloc::Global;
@@ -14,29 +16,50 @@ fn condition(alloc: Global, name: &str) -> Result<Condition, SpecErrorKind> {
 }
 
 /// INITIAL and C.
-fn conditions(alloc: Global) -> Result<[Condition; 2], SpecErrorKind> {
-    Ok([condition(alloc, "INITIAL")?, condition(alloc, "C")?])
+fn conditions(alloc: Global) -> Result<Vec<Condition>, SpecErrorKind>
+    ensures { IfOk result (λ v. length v.items ≡ 2) }
+{
+    let mut conditions = Vec::new(alloc);
+    conditions.push(condition(alloc, "INITIAL")?)?;
+    conditions.push(condition(alloc, "C")?)?;
+    Ok(conditions)
+}
+
+/// The letter of a statement, and its number where it has one.
+fn mark_of(statement: &Statement) -> (&'static str, Option<u32>) {
+    match statement {
+        Statement::Echo => ("E", None),
+        Statement::Print(_) => ("P", None),
+        Statement::Begin(number) => ("B", Some(u32::from(*number))),
+        Statement::More => ("M", None),
+        Statement::Less(count) => ("L", Some(u32::from(*count))),
+        Statement::Reject => ("R", None),
+        Statement::End(status) => ("X", Some(u32::from(*status))),
+        Statement::Push(number) => ("U", Some(u32::from(*number))),
+        Statement::Pop => ("O", None),
+    }
+}
+
+/// What is printed, in parentheses.
+fn show_bytes(bytes: &[u8], out: &mut String) -> Result<(), SpecErrorKind> {
+    out.push_str("(")?;
+    for byte in bytes {
+        out.push(*byte as char)?;
+    }
+    out.push_str(")")?;
+    Ok(())
 }
 
 fn show(alloc: Global, statement: &Statement, out: &mut String) -> Result<(), SpecErrorKind> {
-    match statement {
-        Statement::Echo => out.push_str("E")?,
-        Statement::Print(bytes) => {
-            out.push_str("P(")?;
-            for byte in bytes {
-                out.push(*byte as char)?;
-            }
-            out.push_str(")")?;
-        }
-        Statement::Begin(c) => out.push_str(&format!(in alloc; "B{c}")?)?,
-        Statement::More => out.push_str("M")?,
-        Statement::Less(n) => out.push_str(&format!(in alloc; "L{n}")?)?,
-        Statement::Reject => out.push_str("R")?,
-        Statement::End(status) => out.push_str(&format!(in alloc; "X{status}")?)?,
-        Statement::Push(c) => out.push_str(&format!(in alloc; "U{c}")?)?,
-        Statement::Pop => out.push_str("O")?,
+    let (mark, number) = mark_of(statement);
+    out.push_str(mark)?;
+    if let Some(number) = number {
+        out.push_str(&format!(in alloc; "{number}")?)?;
     }
-    Ok(())
+    match statement {
+        Statement::Print(bytes) => show_bytes(bytes, out),
+        _ => Ok(()),
+    }
 }
 
 fn read(alloc: Global, text: &str) -> Result<String, SpecErrorKind> {
@@ -208,8 +231,16 @@ fn repeated(
     Ok(text)
 }
 
-// What stands before a part, the part, what stands after it, how often it stands, and what is reported.
-const LIMITS: &[(&str, &str, &str, usize, Option<SpecErrorKind>)] = &[
+/// What stands before a part, the part, what stands after it, how often it stands, and what is reported.
+type Limit = (
+    &'static str,
+    &'static str,
+    &'static str,
+    usize,
+    Option<SpecErrorKind>,
+);
+
+const LIMITS: &[Limit] = &[
     ("", "ECHO;", "", 256, None),
     ("", "ECHO;", "", 257, Some(SpecErrorKind::TooLong)),
     ("printf(\"", "a", "\")", 4096, None),
@@ -217,15 +248,29 @@ const LIMITS: &[(&str, &str, &str, usize, Option<SpecErrorKind>)] = &[
     ("REJECT;", "ECHO;", "", 256, Some(SpecErrorKind::TooLong)),
 ];
 
+/// Whether this is reported of an action with a part repeated.
+fn is_limited(alloc: Global, row: &Limit) -> bool {
+    let &(before, part, after, count, want) = row;
+    match repeated(alloc, before, part, after, count) {
+        Ok(text) => refusal(alloc, &text) == want,
+        Err(_) => false,
+    }
+}
+
+/// Whether an action of this many passes is too long for an end.
+fn is_no_end(alloc: Global, count: usize) -> bool {
+    match repeated(alloc, "", "ECHO;", "", count) {
+        Ok(text) => end_refusal(alloc, &text) == Some(SpecErrorKind::TooLong),
+        Err(_) => false,
+    }
+}
+
 #[test]
 fn limits(rt: HostRuntime) {
-    let alloc = rt.alloc();
-    for &(before, part, after, count, want) in LIMITS {
-        let text = repeated(alloc, before, part, after, count).expect(&rt, "memory");
-        assert_eq!(rt; refusal(alloc, &text), want);
+    for row in LIMITS {
+        assert!(rt; is_limited(rt.alloc(), row), "{} times {}", row.3, row.1);
     }
-    let passes = repeated(alloc, "", "ECHO;", "", 257).expect(&rt, "memory");
-    assert_eq!(rt; end_refusal(alloc, &passes), Some(SpecErrorKind::TooLong));
+    assert!(rt; is_no_end(rt.alloc(), 257));
 }
 
 /// Without the option there are no statements of the stack.

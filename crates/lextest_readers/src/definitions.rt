@@ -2,8 +2,8 @@ use crate::patterns::PLAIN;
 use lex_semantics::MAX_FILE_BYTES;
 use lexspec_actions::{Condition, number_of};
 use lexspec_lines::{
-    Skipped, SpecErrorKind, is_all_blank, is_blank, newlines_before, read_section, skip_blanks,
-    skip_block, split_before, split_line, starts_blank, without_returns,
+    Declarations, Section, Skipped, SpecErrorKind, is_all_blank, is_blank, newlines_before,
+    read_section, skip_blanks, skip_block, split_before, split_line, starts_blank, without_returns,
 };
 use std::alloc::{AllocError, Global};
 use std::test::Fail;
@@ -20,9 +20,17 @@ fn fault_of(alloc: Global, text: &str) -> Result<Option<(u32, SpecErrorKind)>, A
     }
 }
 
+/// Whether a definitions section has this fault.
+fn has_fault(alloc: Global, text: &str, fault: Option<(u32, SpecErrorKind)>) -> bool {
+    match fault_of(alloc, text) {
+        Ok(found) => found == fault,
+        Err(_) => false,
+    }
+}
+
 /// Definitions sections with their faults. (POSIX, lex, Definitions in lex.)
 #[test]
-fn faults_of_definitions(rt: HostRuntime) -> Result<(), Fail> {
+fn faults_of_definitions(rt: HostRuntime) {
     let alloc = rt.alloc();
     let rows = &[
         ("", 1, SpecErrorKind::NoRulesSection),
@@ -66,9 +74,8 @@ fn faults_of_definitions(rt: HostRuntime) -> Result<(), Fail> {
         ("D a$\nfoo\n%%\n", 1, SpecErrorKind::AnchoredDefinition),
     ];
     for &(text, line, kind) in rows {
-        assert_eq!(rt; fault_of(alloc, text)?, Some((line, kind)));
+        assert!(rt; has_fault(alloc, text, Some((line, kind))), "{text}");
     }
-    Ok(())
 }
 
 /// A line that declares `count` conditions, and then others.
@@ -83,10 +90,18 @@ fn many_conditions(alloc: Global, count: u32, others: &str) -> Result<String, Al
     Ok(text)
 }
 
+/// Whether a section of 254 conditions and these others has this fault.
+fn many_have_fault(alloc: Global, others: &str, fault: Option<(u32, SpecErrorKind)>) -> bool {
+    match many_conditions(alloc, 254, others) {
+        Ok(text) => has_fault(alloc, &text, fault),
+        Err(_) => false,
+    }
+}
+
 /// With INITIAL there may be 255 conditions. A name that is declared already is reported as such, also where there may be
 /// no more.
 #[test]
-fn counts_of_conditions(rt: HostRuntime) -> Result<(), Fail> {
+fn counts_of_conditions(rt: HostRuntime) {
     let alloc = rt.alloc();
     let rows = &[
         ("", None),
@@ -94,28 +109,36 @@ fn counts_of_conditions(rt: HostRuntime) -> Result<(), Fail> {
         (" c0", Some((1, SpecErrorKind::DuplicateCondition))),
     ];
     for &(others, fault) in rows {
-        assert_eq!(rt;
-            fault_of(alloc, &many_conditions(alloc, 254, others)?)?,
-            fault
-        );
+        assert!(rt; many_have_fault(alloc, others, fault), "{others}");
     }
-    Ok(())
+}
+
+const DECLARING: &[u8] =
+    b"%s A\n%x B\n%option case-insensitive\nD [0-9]\n%{\nint n;\n%}\n%%\na ;\n";
+
+/// Whether a section ends before line 8.
+fn ends_at_the_rules(section: &Section<'_>) -> bool {
+    section.line == 8 && section.rest == b"%%\na ;\n".as_slice()
+}
+
+/// Whether the section declares what it should.
+fn declares_all(declared: &Declarations) -> bool {
+    are_declared(&declared.conditions)
+        && declared.definitions.find(b"D").is_some()
+        && declared.options.fold
+        && declared.skipped.lines.as_slice() == [5].as_slice()
 }
 
 /// What a definitions section declares, and where it ends. (POSIX, lex, Definitions in lex; flex, Start Conditions.)
 #[test]
-fn declarations_of_a_section(rt: HostRuntime) -> Result<(), Fail> {
-    let text =
-        b"%s A\n%x B\n%option case-insensitive\nD [0-9]\n%{\nint n;\n%}\n%%\na ;\n".as_slice();
-    let section = read_section(rt.alloc(), text, PLAIN)?;
-    assert_eq!(rt; section.line, 8);
-    assert!(rt; section.rest == b"%%\na ;\n".as_slice());
-    let declared = &section.declarations;
-    assert!(rt; are_declared(&declared.conditions));
-    assert!(rt; declared.definitions.find(b"D").is_some());
-    assert!(rt; declared.options.fold);
-    assert!(rt; declared.skipped.lines.as_slice() == [5].as_slice());
-    Ok(())
+fn declarations_of_a_section(rt: HostRuntime) {
+    match read_section(rt.alloc(), DECLARING, PLAIN) {
+        Ok(section) => {
+            assert!(rt; ends_at_the_rules(&section));
+            assert!(rt; declares_all(&section.declarations));
+        }
+        Err(_) => assert!(rt; false),
+    }
 }
 
 /// Whether the conditions are INITIAL, A and B, of which the last is exclusive and has the number 2.
@@ -131,21 +154,31 @@ fn are_declared(conditions: &[Condition]) -> bool {
         && number_of(conditions, b"C").is_none()
 }
 
+/// Whether texts are split at a newline and before a byte.
+fn splits() -> bool {
+    let (line, rest) = split_line(b"a b\nc".as_slice());
+    let (front, back) = split_before(|byte| byte == b':', b"ab:c".as_slice());
+    line == b"a b".as_slice()
+        && rest == b"c".as_slice()
+        && front == b"ab".as_slice()
+        && back == b":c".as_slice()
+}
+
+/// Whether blanks are told from other bytes.
+fn tells_blanks() -> bool {
+    let bytes = is_blank(b'\t') && is_blank(b' ') && !is_blank(b'\n');
+    let texts = is_all_blank(b" \t".as_slice()) && !is_all_blank(b" \n".as_slice());
+    let starts = starts_blank(b" a".as_slice()) && !starts_blank(b"a ".as_slice());
+    bytes && texts && starts && skip_blanks(b" \t a ".as_slice()) == b"a ".as_slice()
+}
+
 /// Lines and blanks of a text.
 #[test]
 fn lines_and_blanks(rt: HostRuntime) {
-    let (line, rest) = split_line(b"a b\nc".as_slice());
-    assert_eq!(rt; line, b"a b".as_slice());
-    assert_eq!(rt; rest, b"c".as_slice());
-    let (front, back) = split_before(|byte| byte == b':', b"ab:c".as_slice());
-    assert_eq!(rt; front, b"ab".as_slice());
-    assert_eq!(rt; back, b":c".as_slice());
-    assert!(rt; is_blank(b'\t') && is_blank(b' ') && !is_blank(b'\n'));
-    assert_eq!(rt; skip_blanks(b" \t a ".as_slice()), b"a ".as_slice());
-    assert!(rt; is_all_blank(b" \t".as_slice()) && !is_all_blank(b" \n".as_slice()));
-    assert!(rt; starts_blank(b" a".as_slice()) && !starts_blank(b"a ".as_slice()));
-    assert_eq!(rt; newlines_before(b"a\nb\nc".as_slice(), b"c".as_slice()), 2);
-    assert_eq!(rt; skip_block(b"a\n%} b\nc".as_slice()), Some(b"c".as_slice()));
+    assert!(rt; splits());
+    assert!(rt; tells_blanks());
+    assert!(rt; newlines_before(b"a\nb\nc".as_slice(), b"c".as_slice()) == 2);
+    assert!(rt; skip_block(b"a\n%} b\nc".as_slice()) == Some(b"c".as_slice()));
     assert!(rt; skip_block(b"a\n".as_slice()).is_none());
 }
 

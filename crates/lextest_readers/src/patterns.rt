@@ -154,7 +154,7 @@ fn sets(rt: HostRuntime) {
 }
 
 // The first and the last byte of each class of the POSIX locale, and how many bytes it has.
-const CLASSES: [(&[u8], u8, u8, u32); 12] = [
+const CLASSES: &[(&[u8], u8, u8, u32)] = &[
     (b"alpha", b'A', b'z', 52),
     (b"digit", b'0', b'9', 10),
     (b"alnum", b'0', b'z', 62),
@@ -170,7 +170,7 @@ const CLASSES: [(&[u8], u8, u8, u32); 12] = [
 ];
 
 // Words that name no class.
-const NO_CLASSES: [&[u8]; 4] = [b"word", b"Alpha", b"", b"alphas"];
+const NO_CLASSES: &[&[u8]] = &[b"word", b"Alpha", b"", b"alphas"];
 
 /// Whether a class has this many bytes, all from the first to the last, and both of them.
 fn has_members(name: &[u8], first: u8, last: u8, count: u32) -> bool {
@@ -191,10 +191,10 @@ fn has_members(name: &[u8], first: u8, last: u8, count: u32) -> bool {
 
 #[test]
 fn classes(rt: HostRuntime) {
-    for &(name, first, last, count) in &CLASSES {
+    for &(name, first, last, count) in CLASSES {
         assert!(rt; has_members(name, first, last, count));
     }
-    for name in &NO_CLASSES {
+    for name in NO_CLASSES {
         assert!(rt; ByteSet::named(name).is_none());
     }
 }
@@ -264,15 +264,17 @@ fn counts_past_the_limit(rt: HostRuntime) -> Result<(), Fail> {
     Ok(())
 }
 
-/// The lengths and the positions of a text, where it is read.
-fn lengths_and_positions(
+/// Whether a text is read, with these lengths and positions.
+fn is_measured(
     alloc: Global,
     text: &[u8],
     definitions: &Defs,
-) -> Option<(Option<Bounds>, Option<u32>)> {
+    bounds: Option<Bounds>,
+    count: Option<u32>,
+) -> bool {
     match read_pattern(alloc, text, definitions, PLAIN) {
-        Ok(pattern) => Some((bounds_of(&pattern), positions(&pattern))),
-        Err(_) => None,
+        Ok(pattern) => measures(&pattern, bounds, count),
+        Err(_) => false,
     }
 }
 
@@ -286,10 +288,9 @@ fn counts_up_to_the_limit(rt: HostRuntime) -> Result<(), Fail> {
     const MOST: u32 = 4_294_967_295;
     let alloc = rt.alloc();
     let definitions = worked_definitions(alloc)?;
-    let most = lengths_and_positions(alloc, MOST_LETTERS, &definitions);
-    assert!(rt; most == Some((Some((MOST, Some(MOST))), Some(MOST))));
-    let more = lengths_and_positions(alloc, A_LETTER_MORE, &definitions);
-    assert!(rt; more == Some((None, None)));
+    let bounds = Some((MOST, Some(MOST)));
+    assert!(rt; is_measured(alloc, MOST_LETTERS, &definitions, bounds, Some(MOST)));
+    assert!(rt; is_measured(alloc, A_LETTER_MORE, &definitions, None, None));
     Ok(())
 }
 
@@ -342,17 +343,20 @@ fn has_text(definitions: &Defs, name: &[u8], text: &[u8]) -> bool {
     definitions.find(name).is_some_and(|found| found == text)
 }
 
+/// Whether two names are added, one of them once more in vain.
+fn adds_names(definitions: &mut Defs) -> bool {
+    let both = definitions.add(b"D", b"[0-9]").is_ok() && definitions.add(b"N", b"{D}+").is_ok();
+    both && definitions.add(b"D", b"x") == Err(DefsError::Duplicate)
+}
+
 #[test]
-fn definitions(rt: HostRuntime) -> Result<(), Fail> {
+fn definitions(rt: HostRuntime) {
     let mut definitions = Defs::new(rt.alloc());
     assert!(rt; definitions.find(b"D").is_none());
-    definitions.add(b"D", b"[0-9]")?;
-    definitions.add(b"N", b"{D}+")?;
-    assert!(rt; definitions.add(b"D", b"x") == Err(DefsError::Duplicate));
+    assert!(rt; adds_names(&mut definitions));
     assert!(rt; has_text(&definitions, b"D", b"[0-9]"));
     assert!(rt; has_text(&definitions, b"N", b"{D}+"));
     assert!(rt; definitions.find(b"d").is_none());
-    Ok(())
 }
 
 /// A name that finds no room is not added, and those before it stay (`scripts/refuse-memory.py` refuses the room).
@@ -375,7 +379,7 @@ fn refused_definitions(rt: HostRuntime) -> Result<(), Fail> {
 }
 
 // A text, where its pattern ends, the first slash, whether there is a second, and whether a special `$` ends it.
-const CUTTINGS: [(&[u8], usize, Option<usize>, bool, bool); 16] = [
+const CUTTINGS: &[(&[u8], usize, Option<usize>, bool, bool)] = &[
     (b"", 0, None, false, false),
     (b" a", 0, None, false, false),
     (b"a/b$ ;", 4, Some(1), false, true),
@@ -413,13 +417,13 @@ fn cut(text: &[u8]) -> Cut {
 
 #[test]
 fn cuttings(rt: HostRuntime) {
-    for &(text, end, slash, two, dollar) in &CUTTINGS {
+    for &(text, end, slash, two, dollar) in CUTTINGS {
         assert!(rt; cut(text) == Ok((end, slash, two, dollar)));
     }
 }
 
 // A text that has no cutting, what is reported of it, and where.
-const FAULTS: [(&[u8], PatternErrorKind, usize); 14] = [
+const FAULTS: &[(&[u8], PatternErrorKind, usize)] = &[
     (b"\"a", PatternErrorKind::UnclosedQuote, 0),
     (b"[a]\"b", PatternErrorKind::UnclosedQuote, 3),
     (b"a\"b\n\"", PatternErrorKind::UnclosedQuote, 1),
@@ -438,7 +442,7 @@ const FAULTS: [(&[u8], PatternErrorKind, usize); 14] = [
 
 #[test]
 fn cutting_faults(rt: HostRuntime) {
-    for &(text, kind, at) in &FAULTS {
+    for &(text, kind, at) in FAULTS {
         assert!(rt; cut(text) == Err((kind, at)));
     }
 }
@@ -462,7 +466,7 @@ fn cuttings_of_long_texts(rt: HostRuntime) -> Result<(), Fail> {
 }
 
 // A class, what it lists, and whether these bytes are its own or are all but its own.
-const LISTED: [(&[u8], &[u8], bool); 6] = [
+const LISTED: &[(&[u8], &[u8], bool)] = &[
     (b"[]a]", b"]a", true),
     (b"[a-]", b"a-", true),
     (b"[-a]", b"a-", true),
@@ -489,14 +493,14 @@ fn folds_others() -> bool {
 
 #[test]
 fn classes_as_sets(rt: HostRuntime) {
-    for &(text, members, inside) in &LISTED {
+    for &(text, members, inside) in LISTED {
         assert!(rt; is_class_of(text, members, inside));
     }
     assert!(rt; folds_others());
 }
 
 // A text that is no class, what is reported of it, and the text from there on.
-const REFUSED_CLASSES: [(&[u8], PatternErrorKind, &[u8]); 10] = [
+const REFUSED_CLASSES: &[(&[u8], PatternErrorKind, &[u8])] = &[
     (b"[a", PatternErrorKind::UnclosedClass, b"[a"),
     (b"[]", PatternErrorKind::UnclosedClass, b"[]"),
     (b"[z-a]", PatternErrorKind::BadRange, b"z-a]"),
@@ -531,13 +535,13 @@ fn is_no_class(text: &[u8], kind: PatternErrorKind, rest: &[u8]) -> bool {
 
 #[test]
 fn classes_that_are_refused(rt: HostRuntime) {
-    for &(text, kind, rest) in &REFUSED_CLASSES {
+    for &(text, kind, rest) in REFUSED_CLASSES {
         assert!(rt; is_no_class(text, kind, rest));
     }
 }
 
 // A pattern with an interval, and the least and the greatest length of what it matches.
-const INTERVALS: [(&[u8], u32, Option<u32>); 4] = [
+const INTERVALS: &[(&[u8], u32, Option<u32>)] = &[
     (b"a{2,3}b", 3, Some(4)),
     (b"a{255}b", 256, Some(256)),
     (b"a{0,}b", 1, None),
@@ -545,7 +549,7 @@ const INTERVALS: [(&[u8], u32, Option<u32>); 4] = [
 ];
 
 // Patterns whose brace begins no interval.
-const NO_INTERVALS: [&[u8]; 7] = [
+const NO_INTERVALS: &[&[u8]] = &[
     b"a{2,1}",
     b"a{256}",
     b"a{65538}",
@@ -559,10 +563,10 @@ const NO_INTERVALS: [&[u8]; 7] = [
 fn intervals(rt: HostRuntime) -> Result<(), Fail> {
     let alloc = rt.alloc();
     let definitions = worked_definitions(alloc)?;
-    for &(text, min, max) in &INTERVALS {
+    for &(text, min, max) in INTERVALS {
         assert!(rt; has_bounds(alloc, text, &definitions, PLAIN, (min, max)));
     }
-    for text in &NO_INTERVALS {
+    for text in NO_INTERVALS {
         let fault = Some((PatternErrorKind::BadInterval, 1));
         assert!(rt; told(alloc, *text, &definitions, PLAIN) == fault);
     }
@@ -621,7 +625,7 @@ fn after_trees<'a>(patterns: &[Pattern], nodes: &'a [Node]) -> Option<&'a [Node]
 }
 
 // A name and its text.
-const DEFINITIONS: [(&[u8], &[u8]); 24] = [
+const DEFINITIONS: &[(&[u8], &[u8])] = &[
     (b"D", b"[0-9]"),
     (b"N", b"{D}+"),
     (b"Or", b"a|b"),
@@ -653,14 +657,14 @@ const DEFINITIONS: [(&[u8], &[u8]); 24] = [
 
 fn worked_definitions(alloc: Global) -> Result<Defs, DefsError> {
     let mut definitions = Defs::new(alloc);
-    for &(name, text) in &DEFINITIONS {
+    for &(name, text) in DEFINITIONS {
         definitions.add(name, text)?;
     }
     Ok(definitions)
 }
 
 // A text, whether it is read with fold, and its tree.
-const TREES: [(&[u8], bool, &[Node]); 31] = [
+const TREES: &[(&[u8], bool, &[Node])] = &[
     (b"[]a]", false, &[Node::Bytes(b"]a")]),
     (b"[a-]", false, &[Node::Bytes(b"a-")]),
     (b"[-a]", false, &[Node::Bytes(b"a-")]),
@@ -807,7 +811,7 @@ const TREES: [(&[u8], bool, &[Node]); 31] = [
 fn patterns(rt: HostRuntime) -> Result<(), Fail> {
     let alloc = rt.alloc();
     let definitions = worked_definitions(alloc)?;
-    for &(text, fold, nodes) in &TREES {
+    for &(text, fold, nodes) in TREES {
         let options = ReadOptions { fold, ..PLAIN };
         assert!(rt; has_tree(alloc, text, &definitions, options, nodes));
     }
@@ -815,7 +819,7 @@ fn patterns(rt: HostRuntime) -> Result<(), Fail> {
 }
 
 // A text that is no pattern, what is reported of it, and where.
-const REFUSALS: [(&[u8], PatternErrorKind, usize); 60] = [
+const REFUSALS: &[(&[u8], PatternErrorKind, usize)] = &[
     (b"\"a", PatternErrorKind::UnclosedQuote, 0),
     (b"b\"a\n\"", PatternErrorKind::UnclosedQuote, 1),
     (b"b{quote}", PatternErrorKind::UnclosedQuote, 1),
@@ -882,7 +886,7 @@ const REFUSALS: [(&[u8], PatternErrorKind, usize); 60] = [
 fn patterns_that_are_refused(rt: HostRuntime) -> Result<(), Fail> {
     let alloc = rt.alloc();
     let definitions = worked_definitions(alloc)?;
-    for &(text, kind, at) in &REFUSALS {
+    for &(text, kind, at) in REFUSALS {
         assert!(rt; told(alloc, text, &definitions, PLAIN) == Some((kind, at)));
     }
     Ok(())
@@ -891,14 +895,29 @@ fn patterns_that_are_refused(rt: HostRuntime) -> Result<(), Fail> {
 /// What begins a text, a part, how often that stands, and what follows.
 pub(crate) type Long = (&'static [u8], &'static [u8], usize, &'static [u8]);
 
-pub(crate) fn text_of(alloc: Global, long: Long) -> Result<Vec<u8>, AllocError> {
-    let (start, part, count, end) = long;
-    let mut text = Vec::from_slice(alloc, start)?;
-    for _ in 0..count {
-        text.extend_from_slice(part)?;
+/// A text of these parts, each as often as is said.
+fn text_of(alloc: Global, parts: &[(&[u8], usize)]) -> Result<Vec<u8>, AllocError> {
+    let mut text = Vec::new(alloc);
+    for &(part, count) in parts {
+        for _ in 0..count {
+            text.extend_from_slice(part)?;
+        }
     }
-    text.extend_from_slice(end)?;
     Ok(text)
+}
+
+/// Whether this is reported of a text of such parts.
+pub(crate) fn is_told(
+    alloc: Global,
+    parts: &[(&[u8], usize)],
+    definitions: &Defs,
+    options: ReadOptions,
+    wanted: Told,
+) -> bool {
+    match text_of(alloc, parts) {
+        Ok(text) => told(alloc, &text, definitions, options) == wanted,
+        Err(_) => false,
+    }
 }
 
 const CLOSED: &[u8] = b"a))))))))))))))))))))))))))))))))))))))))))))))))))))))))))))))))";
@@ -906,7 +925,7 @@ const CLOSED: &[u8] = b"a)))))))))))))))))))))))))))))))))))))))))))))))))))))))
 // What a text begins with, a part, how often that stands, what follows, and what is reported of the text, where it is refused.
 type LongRow = (&'static [u8], &'static [u8], usize, &'static [u8], Told);
 
-const LONG: [LongRow; 27] = [
+const LONG: &[LongRow] = &[
     (b"", b"a", 65535, b"", None),
     (
         b"",
@@ -1036,24 +1055,15 @@ const LONG: [LongRow; 27] = [
 fn long_patterns(rt: HostRuntime) -> Result<(), Fail> {
     let alloc = rt.alloc();
     let definitions = worked_definitions(alloc)?;
-    for &(start, part, count, end, refused) in &LONG {
-        let text = text_of(alloc, (start, part, count, end))?;
-        assert!(rt; told(alloc, &text, &definitions, PLAIN) == refused);
+    for &(start, part, count, end, refused) in LONG {
+        let parts = &[(start, 1), (part, count), (end, 1)];
+        assert!(rt; is_told(alloc, parts, &definitions, PLAIN, refused));
     }
     Ok(())
 }
 
-// A text, as many times as given
-fn repeated(alloc: Global, part: &[u8], count: usize) -> Result<Vec<u8>, AllocError> {
-    let mut text = Vec::new(alloc);
-    for _ in 0..count {
-        text.extend_from_slice(part)?;
-    }
-    Ok(text)
-}
-
 // A name and its text.
-const SHORT_NAMES: [(&[u8], &[u8]); 8] = [
+const SHORT_NAMES: &[(&[u8], &[u8])] = &[
     (b"pair", b"({c})({c})"),
     (b"p", b"{c}{c}"),
     (b"q", b"{p}{p}{p}{p}"),
@@ -1064,66 +1074,65 @@ const SHORT_NAMES: [(&[u8], &[u8]); 8] = [
     (b"round", b"{c}{round}"),
 ];
 
+/// Adds a name for a text of these parts.
+fn add_long(
+    alloc: Global,
+    definitions: &mut Defs,
+    name: &[u8],
+    parts: &[(&[u8], usize)],
+) -> Result<(), DefsError> {
+    let text = text_of(alloc, parts)?;
+    definitions.add(name, &text)
+}
+
 // Names of long texts that have few nodes, and of their texts
 fn long_definitions(alloc: Global) -> Result<Defs, DefsError> {
     let mut definitions = Defs::new(alloc);
-    let mut class = repeated(alloc, b"a", 499_998)?;
-    class.insert(0, b'[')?;
-    class.push(b']')?;
-    definitions.add(b"c", &class)?;
-    let quotes = repeated(alloc, b"\"a\"", 40_000)?;
-    definitions.add(b"wide", &quotes)?;
-    for &(name, text) in &SHORT_NAMES {
+    add_long(
+        alloc,
+        &mut definitions,
+        b"c",
+        &[(b"[", 1), (b"a", 499_998), (b"]", 1)],
+    )?;
+    add_long(alloc, &mut definitions, b"wide", &[(b"\"a\"", 40_000)])?;
+    for &(name, text) in SHORT_NAMES {
         definitions.add(name, text)?;
     }
     Ok(definitions)
 }
 
 // A text that stands many times, how often, how many sets that gives, and where it is too big once more.
-const OFTEN: [(&[u8], usize, u32, usize); 4] = [
+const OFTEN: &[(&[u8], usize, u32, usize)] = &[
     (b"{c}", 65_535, 65_535, 196_605),
     (b"{pair}", 21_845, 43_690, 131_070),
     (b"{r}", 2427, 38_832, 7281),
     (b"({pair}|{c})", 13_107, 39_321, 157_285),
 ];
 
+/// Whether a text that stands so often gives so many sets.
+fn fills(alloc: Global, definitions: &Defs, part: &[u8], count: usize, sets: u32) -> bool {
+    match text_of(alloc, &[(part, count)]) {
+        Ok(text) => positions_of(alloc, &text, definitions, PLAIN) == Some(sets),
+        Err(_) => false,
+    }
+}
+
 #[test]
 fn long_texts_of_names(rt: HostRuntime) -> Result<(), Fail> {
     let alloc = rt.alloc();
     let definitions = long_definitions(alloc)?;
-    for &(part, count, sets, at) in &OFTEN {
-        let mut text = repeated(alloc, part, count)?;
-        assert!(rt; positions_of(alloc, &text, &definitions, PLAIN) == Some(sets));
-        text.extend_from_slice(part)?;
+    for &(part, count, sets, at) in OFTEN {
+        assert!(rt; fills(alloc, &definitions, part, count, sets));
         let fault = Some((PatternErrorKind::TooBig, at));
-        assert!(rt; told(alloc, &text, &definitions, PLAIN) == fault);
+        let more = &[(part, count), (part, 1)];
+        assert!(rt; is_told(alloc, more, &definitions, PLAIN, fault));
     }
     Ok(())
 }
 
-// A text inside this many parentheses, between two texts
-fn within(
-    alloc: Global,
-    first: &[u8],
-    depth: usize,
-    inside: &[u8],
-    last: &[u8],
-) -> Result<Vec<u8>, AllocError> {
-    let mut text = Vec::from_slice(alloc, first)?;
-    for _ in 0..depth {
-        text.push(b'(')?;
-    }
-    text.extend_from_slice(inside)?;
-    for _ in 0..depth {
-        text.push(b')')?;
-    }
-    text.extend_from_slice(last)?;
-    Ok(text)
-}
-
 // A text, in how many parentheses the next stands, the last, and what is reported. Of these names the first takes three of
 // what may be opened, and the second four.
-const DEEP: [(&[u8], usize, &[u8], &[u8], Option<usize>); 7] = [
+const DEEP: &[(&[u8], usize, &[u8], &[u8], Option<usize>)] = &[
     (b"{three}", 61, b"{three}", b"{three}", None),
     (b"", 61, b"{three}", b"{three}", None),
     (b"{three}", 62, b"{three}", b"", Some(69)),
@@ -1137,34 +1146,34 @@ const DEEP: [(&[u8], usize, &[u8], &[u8], Option<usize>); 7] = [
 fn names_in_parentheses(rt: HostRuntime) -> Result<(), Fail> {
     let alloc = rt.alloc();
     let definitions = long_definitions(alloc)?;
-    for &(first, depth, inside, last, refused) in &DEEP {
-        let text = within(alloc, first, depth, inside, last)?;
+    for &(first, depth, inside, last, refused) in DEEP {
         let fault = refused.map(|at| (PatternErrorKind::TooDeep, at));
-        assert!(rt; told(alloc, &text, &definitions, PLAIN) == fault);
+        let parts = &[
+            (first, 1),
+            (b"(".as_slice(), depth),
+            (inside, 1),
+            (b")".as_slice(), depth),
+            (last, 1),
+        ];
+        assert!(rt; is_told(alloc, parts, &definitions, PLAIN, fault));
     }
     Ok(())
 }
 
-// `{c}(` as many times as given, `{c}`, and `)` as many times
-fn opened(alloc: Global, depth: usize) -> Result<Vec<u8>, AllocError> {
-    let mut text = repeated(alloc, b"{c}(", depth)?;
-    text.extend_from_slice(b"{c}")?;
-    for _ in 0..depth {
-        text.push(b')')?;
-    }
-    Ok(text)
-}
-
-// A depth, and what is reported there.
-const INSIDE: [(usize, Told); 2] = [(63, None), (64, Some((PatternErrorKind::TooDeep, 256)))];
+// How often `{c}(` stands before `{c}`, with as many `)` behind it, and what is reported.
+const INSIDE: &[(usize, Told)] = &[(63, None), (64, Some((PatternErrorKind::TooDeep, 256)))];
 
 #[test]
 fn names_inside_more_and_more(rt: HostRuntime) -> Result<(), Fail> {
     let alloc = rt.alloc();
     let definitions = long_definitions(alloc)?;
-    for &(depth, fault) in &INSIDE {
-        let text = opened(alloc, depth)?;
-        assert!(rt; told(alloc, &text, &definitions, PLAIN) == fault);
+    for &(depth, fault) in INSIDE {
+        let parts = &[
+            (b"{c}(".as_slice(), depth),
+            (b"{c}".as_slice(), 1),
+            (b")".as_slice(), depth),
+        ];
+        assert!(rt; is_told(alloc, parts, &definitions, PLAIN, fault));
     }
     Ok(())
 }
@@ -1197,7 +1206,7 @@ fn names_in_a_round(rt: HostRuntime) -> Result<(), Fail> {
 }
 
 // A text with names that stand more than once, and what is reported of it, where it is refused.
-const TWICE: [(&[u8], Option<(PatternErrorKind, usize)>); 7] = [
+const TWICE: &[(&[u8], Option<(PatternErrorKind, usize)>)] = &[
     (b"{c}{wide}{c}", None),
     (b"{wide}{wide}", Some((PatternErrorKind::TooBig, 6))),
     (b"{c}{wide}({wide}", Some((PatternErrorKind::TooBig, 10))),
@@ -1220,7 +1229,7 @@ const TWICE: [(&[u8], Option<(PatternErrorKind, usize)>); 7] = [
 fn names_that_stand_twice(rt: HostRuntime) -> Result<(), Fail> {
     let alloc = rt.alloc();
     let definitions = long_definitions(alloc)?;
-    for &(text, refused) in &TWICE {
+    for &(text, refused) in TWICE {
         assert!(rt; told(alloc, text, &definitions, PLAIN) == refused);
     }
     Ok(())

@@ -1,6 +1,6 @@
 //! Intervals over items, and over series. (POSIX, lex, Regular Expressions in lex.)
 
-use crate::patterns::{Long, Node, PLAIN, Told, has_bounds, has_tree, positions_of, text_of, told};
+use crate::patterns::{Long, Node, PLAIN, Told, has_bounds, has_tree, is_told, positions_of, told};
 use lexre::{Defs, DefsError, PatternErrorKind, ReadOptions};
 use std::alloc::Global;
 use std::test::Fail;
@@ -18,7 +18,7 @@ const B: Node = Node::Bytes(b"b");
 const C: Node = Node::Bytes(b"c");
 
 // A text, the least and the greatest length of its words where intervals apply to items, and where they apply to series.
-const LENGTHS: [(&[u8], (u32, Option<u32>), (u32, Option<u32>)); 10] = [
+const LENGTHS: &[(&[u8], (u32, Option<u32>), (u32, Option<u32>))] = &[
     (b"abc{1,3}", (3, Some(5)), (3, Some(9))),
     (b"ab{2}c", (4, Some(4)), (5, Some(5))),
     (b"a{2}b{3}", (5, Some(5)), (9, Some(9))),
@@ -32,7 +32,7 @@ const LENGTHS: [(&[u8], (u32, Option<u32>), (u32, Option<u32>)); 10] = [
 ];
 
 // A text, its tree where intervals apply to series, and how many positions that has.
-const TREES: [(&[u8], &[Node], u32); 12] = [
+const TREES: &[(&[u8], &[Node], u32)] = &[
     (
         b"abc{1,3}",
         &[Node::Repeat(1, Some(3)), Node::Cat(3), A, B, C],
@@ -166,7 +166,7 @@ fn definitions(alloc: Global) -> Result<Defs, DefsError> {
 fn both_readings(rt: HostRuntime) -> Result<(), Fail> {
     let alloc = rt.alloc();
     let definitions = definitions(alloc)?;
-    for &(text, plain, posix) in &LENGTHS {
+    for &(text, plain, posix) in LENGTHS {
         assert!(rt; has_bounds(alloc, text, &definitions, PLAIN, plain));
         assert!(rt; has_bounds(alloc, text, &definitions, POSIX, posix));
     }
@@ -177,7 +177,7 @@ fn both_readings(rt: HostRuntime) -> Result<(), Fail> {
 fn trees_of_series(rt: HostRuntime) -> Result<(), Fail> {
     let alloc = rt.alloc();
     let definitions = definitions(alloc)?;
-    for &(text, nodes, count) in &TREES {
+    for &(text, nodes, count) in TREES {
         assert!(rt; has_tree(alloc, text, &definitions, POSIX, nodes));
         assert!(rt; positions_of(alloc, text, &definitions, POSIX) == Some(count));
     }
@@ -185,7 +185,7 @@ fn trees_of_series(rt: HostRuntime) -> Result<(), Fail> {
 }
 
 // A text, and where an operand is missing in it.
-const NOTHING: [(&[u8], usize); 5] = [
+const NOTHING: &[(&[u8], usize)] = &[
     (b"{2}", 0),
     (b"a|{2}", 2),
     (b"a({2})", 2),
@@ -197,7 +197,7 @@ const NOTHING: [(&[u8], usize); 5] = [
 fn intervals_on_nothing(rt: HostRuntime) -> Result<(), Fail> {
     let alloc = rt.alloc();
     let definitions = definitions(alloc)?;
-    for &(text, at) in &NOTHING {
+    for &(text, at) in NOTHING {
         let fault = Some((PatternErrorKind::MissingOperand, at));
         assert!(rt; told(alloc, text, &definitions, PLAIN) == fault);
         assert!(rt; told(alloc, text, &definitions, POSIX) == fault);
@@ -212,7 +212,7 @@ const BIG: PatternErrorKind = PatternErrorKind::TooBig;
 const BAD: PatternErrorKind = PatternErrorKind::BadInterval;
 
 // What is reported where intervals apply to items, and where they apply to series.
-const MANY: [(Long, Told, Told); 14] = [
+const MANY: &[(Long, Told, Told)] = &[
     ((b"", b"a{1}", 64, b"a"), None, None),
     ((b"", b"a{1}", 65, b""), None, Some((DEEP, 257))),
     ((b"a", b"{1}", 64, b""), None, None),
@@ -253,10 +253,10 @@ const MANY: [(Long, Told, Told); 14] = [
 fn many_signs(rt: HostRuntime) -> Result<(), Fail> {
     let alloc = rt.alloc();
     let definitions = definitions(alloc)?;
-    for &(long, plain, posix) in &MANY {
-        let text = text_of(alloc, long)?;
-        assert!(rt; told(alloc, &text, &definitions, PLAIN) == plain);
-        assert!(rt; told(alloc, &text, &definitions, POSIX) == posix);
+    for &((start, part, count, end), plain, posix) in MANY {
+        let parts = &[(start, 1), (part, count), (end, 1)];
+        assert!(rt; is_told(alloc, parts, &definitions, PLAIN, plain));
+        assert!(rt; is_told(alloc, parts, &definitions, POSIX, posix));
     }
     Ok(())
 }

@@ -32,15 +32,17 @@ fn of_rule(alloc: Global, rule: &str) -> Result<String, AllocError> {
 }
 
 /// Whether a file of one rule is refused so, at that rule.
-fn is_refused(alloc: Global, rule: &str, kind: SpecErrorKind) -> Result<bool, AllocError> {
-    let text = of_rule(alloc, rule)?;
-    Ok(rules_or_fault(alloc, &text) == Err((2, kind)))
+fn is_refused(alloc: Global, rule: &str, kind: SpecErrorKind) -> bool {
+    match of_rule(alloc, rule) {
+        Ok(text) => rules_or_fault(alloc, &text) == Err((2, kind)),
+        Err(_) => false,
+    }
 }
 
 /// Rules with their faults, each at the first line of its section, line 2 of the file. (POSIX, lex, Rules in lex and
 /// Actions in lex; flex, Patterns.)
 #[test]
-fn faults_of_rules(rt: HostRuntime) -> Result<(), Fail> {
+fn faults_of_rules(rt: HostRuntime) {
     let alloc = rt.alloc();
     let rows = &[
         ("<Z>a ;", SpecErrorKind::UnknownCondition),
@@ -77,14 +79,13 @@ fn faults_of_rules(rt: HostRuntime) -> Result<(), Fail> {
         ),
     ];
     for &(rule, kind) in rows {
-        assert!(rt; is_refused(alloc, rule, kind)?, "at {rule}");
+        assert!(rt; is_refused(alloc, rule, kind), "at {rule}");
     }
-    Ok(())
 }
 
 /// Rules whose patterns have a fault, by the offset of the fault in the rule's line.
 #[test]
-fn faults_of_patterns(rt: HostRuntime) -> Result<(), Fail> {
+fn faults_of_patterns(rt: HostRuntime) {
     let alloc = rt.alloc();
     let rows = &[
         ("[z-a] ;", PatternErrorKind::BadRange, 1),
@@ -95,14 +96,13 @@ fn faults_of_patterns(rt: HostRuntime) -> Result<(), Fail> {
         ("a{0} ;", PatternErrorKind::BadInterval, 1),
     ];
     for &(rule, kind, at) in rows {
-        assert!(rt; is_refused(alloc, rule, pattern(kind, at))?, "at {rule}");
+        assert!(rt; is_refused(alloc, rule, pattern(kind, at)), "at {rule}");
     }
-    Ok(())
 }
 
 /// Of two faults of a rule the one that is reported.
 #[test]
-fn first_of_two_faults(rt: HostRuntime) -> Result<(), Fail> {
+fn first_of_two_faults(rt: HostRuntime) {
     let alloc = rt.alloc();
     let rows = &[
         ("<Z><<EOF>>x ;", SpecErrorKind::UnknownCondition),
@@ -127,14 +127,13 @@ fn first_of_two_faults(rt: HostRuntime) -> Result<(), Fail> {
         ("a return 1;\n<Z>a ;", SpecErrorKind::UnknownStatement),
     ];
     for &(rule, kind) in rows {
-        assert!(rt; is_refused(alloc, rule, kind)?, "at {rule}");
+        assert!(rt; is_refused(alloc, rule, kind), "at {rule}");
     }
-    Ok(())
 }
 
 /// Of two faults of a rule the one that is reported, where it is a pattern's.
 #[test]
-fn first_of_two_faults_of_patterns(rt: HostRuntime) -> Result<(), Fail> {
+fn first_of_two_faults_of_patterns(rt: HostRuntime) {
     let alloc = rt.alloc();
     let rows = &[
         ("a/b/\"c", PatternErrorKind::UnclosedQuote, 4),
@@ -142,9 +141,8 @@ fn first_of_two_faults_of_patterns(rt: HostRuntime) -> Result<(), Fail> {
         ("[z-a]*/b* ;", PatternErrorKind::BadRange, 1),
     ];
     for &(rule, kind, at) in rows {
-        assert!(rt; is_refused(alloc, rule, pattern(kind, at))?, "at {rule}");
+        assert!(rt; is_refused(alloc, rule, pattern(kind, at)), "at {rule}");
     }
-    Ok(())
 }
 
 /// Files whose faults stand at later lines.
@@ -257,9 +255,17 @@ fn ends_of_actions(rt: HostRuntime) {
     }
 }
 
+/// Whether code is skipped at these lines.
+fn skips(alloc: Global, text: &str, lines: &[u32]) -> bool {
+    match read(alloc, text) {
+        Ok(spec) => spec.skipped() == lines,
+        Err(_) => false,
+    }
+}
+
 /// The lines where code is skipped: blocks, runs of lines, and a user section that has text.
 #[test]
-fn skipped_lines(rt: HostRuntime) -> Result<(), Fail> {
+fn skipped_lines(rt: HostRuntime) {
     let alloc = rt.alloc();
     let rows: &[(&str, &[u32])] = &[
         ("%%\n", &[]),
@@ -274,9 +280,8 @@ fn skipped_lines(rt: HostRuntime) -> Result<(), Fail> {
         ("/* a */\n%%\na { \n ;\n}\n", &[]),
     ];
     for &(text, lines) in rows {
-        assert_eq!(rt; read(alloc, text)?.skipped(), lines);
+        assert!(rt; skips(alloc, text, lines), "{text}");
     }
-    Ok(())
 }
 
 const WHOLE: &str =
@@ -328,6 +333,17 @@ fn action_of(rule: &Rule) -> &'static str {
     }
 }
 
+/// Whether the first rule of a text is cut so.
+fn has_cut(alloc: Global, text: &str, cut: Cut) -> bool {
+    match read(alloc, text) {
+        Ok(spec) => match spec.rules().first() {
+            Some(rule) => rule.cut == cut,
+            None => false,
+        },
+        Err(_) => false,
+    }
+}
+
 /// The longest heads and trails: texts repeated, and the cut of the rule.
 #[test]
 fn longest_cuts(rt: HostRuntime) -> Result<(), Fail> {
@@ -338,8 +354,7 @@ fn longest_cuts(rt: HostRuntime) -> Result<(), Fail> {
     ];
     for &(before, after, cut) in rows {
         let text = repeated(alloc, before, "a{255}", 2, after)?;
-        let spec = read(alloc, &text)?;
-        assert_eq!(rt; spec.rules().first().map(|rule| rule.cut), Some(cut));
+        assert!(rt; has_cut(alloc, &text, cut), "{before}");
     }
     Ok(())
 }
@@ -502,27 +517,27 @@ const LARGE_LIMITS: &[Limit] = &[
     ("%%\n", "\n", 1_048_574, "", Err((0, LONG))),
 ];
 
-/// The number of rules of a file with a part repeated, or why it is refused and at which line.
-fn repeated_rules_or_fault(alloc: Global, limit: &Limit) -> Result<Answer, AllocError> {
-    let &(before, word, count, after, _) = limit;
-    let text = repeated(alloc, before, word, count, after)?;
-    Ok(rules_or_fault(alloc, &text))
+/// Whether a file with a part repeated is answered so.
+fn is_answered(alloc: Global, limit: &Limit) -> bool {
+    let &(before, word, count, after, wanted) = limit;
+    match repeated(alloc, before, word, count, after) {
+        Ok(text) => rules_or_fault(alloc, &text) == wanted,
+        Err(_) => false,
+    }
 }
 
 /// Limits on the parts of a file, passed by one: texts repeated, and what follows.
 #[test]
-fn limits(rt: HostRuntime) -> Result<(), Fail> {
+fn limits(rt: HostRuntime) {
     for limit in LIMITS {
-        assert_eq!(rt; repeated_rules_or_fault(rt.alloc(), limit)?, limit.4);
+        assert!(rt; is_answered(rt.alloc(), limit), "{} {}", limit.1, limit.2);
     }
-    Ok(())
 }
 
 /// Limits on literals, lengths, rules and bytes, passed by one: texts repeated, and what follows.
 #[test]
-fn large_limits(rt: HostRuntime) -> Result<(), Fail> {
+fn large_limits(rt: HostRuntime) {
     for limit in LARGE_LIMITS {
-        assert_eq!(rt; repeated_rules_or_fault(rt.alloc(), limit)?, limit.4);
+        assert!(rt; is_answered(rt.alloc(), limit), "{} {}", limit.1, limit.2);
     }
-    Ok(())
 }

@@ -19,29 +19,38 @@ fn made(alloc: Global, text: &[u8], buffer: &mut [u8], fault: &mut Fault) -> (An
     (answer, count)
 }
 
-#[test]
-fn makes_and_scans(rt: HostRuntime) {
-    let mut buffer = [0u8; 4096];
+/// How many bytes a table file takes that is made into this buffer, without a fault.
+fn made_whole(alloc: Global, buffer: &mut [u8]) -> usize {
     let mut fault = NONE;
-    let (answer, count) = made(rt.alloc(), TEXT, &mut buffer, &mut fault);
-    assert_eq!(rt; answer, Answer::Done);
-    assert!(rt; count <= 4096);
-    assert_eq!(rt; fault, NONE);
+    let (answer, count) = made(alloc, TEXT, buffer, &mut fault);
+    if answer == Answer::Done && fault == NONE {
+        count
+    } else {
+        0
+    }
+}
+
+/// Whether numbers are scanned by a table file.
+fn scans_numbers(alloc: Global, file: &[u8]) -> bool {
     let mut out = [0u8; 8];
     let mut written = 0;
     let mut status = 9;
-    let answer = scan_into(
-        rt.alloc(),
-        &buffer[..count],
-        b"a1 b22\n",
-        &mut out,
-        &mut written,
-        &mut status,
-    );
-    assert_eq!(rt; answer, Answer::Done);
-    assert_eq!(rt; written, 6);
-    assert!(rt; out.as_slice() == b"aN bN\n\0\0".as_slice());
-    assert_eq!(rt; status, 0);
+    let input = b"a1 b22\n";
+    let answer = scan_into(alloc, file, input, &mut out, &mut written, &mut status);
+    answer == Answer::Done
+        && written == 6
+        && out.as_slice() == b"aN bN\n\0\0".as_slice()
+        && status == 0
+}
+
+#[test]
+fn makes_and_scans(rt: HostRuntime) {
+    let mut buffer = [0u8; 4096];
+    let count = made_whole(rt.alloc(), &mut buffer);
+    match buffer.get(..count) {
+        Some(file) => assert!(rt; scans_numbers(rt.alloc(), file)),
+        None => assert!(rt; false),
+    }
 }
 
 #[test]
@@ -49,39 +58,41 @@ fn tells_the_count_that_is_needed(rt: HostRuntime) {
     let mut buffer = [0u8; 8];
     let mut fault = NONE;
     let (answer, count) = made(rt.alloc(), TEXT, &mut buffer, &mut fault);
-    assert_eq!(rt; answer, Answer::TooSmall);
+    assert!(rt; answer == Answer::TooSmall);
     assert!(rt; 8 < count);
+}
+
+/// Whether a text is refused with this line and this fault.
+fn is_refused(alloc: Global, text: &[u8], line: &[u8], wanted: Fault) -> bool {
+    let mut buffer = [0u8; 40];
+    let mut fault = NONE;
+    let (answer, count) = made(alloc, text, &mut buffer, &mut fault);
+    answer == Answer::Refused && fault == wanted && buffer.get(..count) == Some(line)
 }
 
 #[test]
 fn tells_a_refusal(rt: HostRuntime) {
-    let mut buffer = [0u8; 40];
-    let mut fault = NONE;
-    let (answer, count) = made(rt.alloc(), b"%%\na(b ECHO;\n", &mut buffer, &mut fault);
-    assert_eq!(rt; answer, Answer::Refused);
-    assert!(rt; count <= 40);
-    assert!(rt; &buffer[..count] == b"lex: line 2: UnbalancedParen at 1\n".as_slice());
-    assert_eq!(rt; fault.line, 2);
-    assert_eq!(rt; fault.kind, 109);
-    assert_eq!(rt; fault.place, 1);
+    let fault = Fault {
+        line: 2,
+        kind: 109,
+        place: 1,
+    };
+    let line = b"lex: line 2: UnbalancedParen at 1\n";
+    assert!(rt; is_refused(rt.alloc(), b"%%\na(b ECHO;\n", line, fault));
+}
+
+/// Whether bytes that are no table file are refused, and nothing is written.
+fn scans_nothing(alloc: Global, bytes: &[u8]) -> bool {
+    let mut out = [0u8; 8];
+    let mut written = 5;
+    let mut status = 9;
+    let answer = scan_into(alloc, bytes, b"a", &mut out, &mut written, &mut status);
+    answer == Answer::Refused && written == 0 && status == 0
 }
 
 #[test]
 fn refuses_bytes_that_are_no_table(rt: HostRuntime) {
-    let mut out = [0u8; 8];
-    let mut written = 5;
-    let mut status = 9;
-    let answer = scan_into(
-        rt.alloc(),
-        b"nothing",
-        b"a",
-        &mut out,
-        &mut written,
-        &mut status,
-    );
-    assert_eq!(rt; answer, Answer::Refused);
-    assert_eq!(rt; written, 0);
-    assert_eq!(rt; status, 0);
+    assert!(rt; scans_nothing(rt.alloc(), b"nothing"));
 }
 
 /// A token of INITIAL.
@@ -101,58 +112,52 @@ const NO_TOKEN: TextToken = TextToken {
     condition: 0,
 };
 
-#[test]
-fn lists_tokens(rt: HostRuntime) {
-    let mut buffer = [0u8; 4096];
-    let mut fault = NONE;
-    let (answer, size) = made(rt.alloc(), TEXT, &mut buffer, &mut fault);
-    assert_eq!(rt; answer, Answer::Done);
-    assert!(rt; size <= 4096);
-    let file = &buffer[..size];
+/// Whether these are the tokens of a number and a stop.
+fn are_listed(tokens: &[TextToken; 4]) -> bool {
+    tokens[0] == token(0, 1, u32::MAX) && tokens[1] == token(1, 3, 0) && tokens[2] == token(3, 7, 1)
+}
+
+/// Whether three tokens are listed by a table file, with status 3.
+fn lists_three(alloc: Global, file: &[u8]) -> bool {
     let mut tokens = [NO_TOKEN; 4];
     let mut count = 0;
     let mut status = 9;
-    let answer = tokens_into(
-        rt.alloc(),
-        file,
-        b"a12stop!",
-        &mut tokens,
-        &mut count,
-        &mut status,
-    );
-    assert_eq!(rt; answer, Answer::Done);
-    assert_eq!(rt; count, 3);
-    assert_eq!(rt; status, 3);
-    assert_eq!(rt; tokens[0], token(0, 1, u32::MAX));
-    assert_eq!(rt; tokens[1], token(1, 3, 0));
-    assert_eq!(rt; tokens[2], token(3, 7, 1));
-    let answer = tokens_into(
-        rt.alloc(),
-        b"nothing",
-        b"a",
-        &mut tokens,
-        &mut count,
-        &mut status,
-    );
-    assert_eq!(rt; answer, Answer::Refused);
-    assert_eq!(rt; count, 0);
+    let input = b"a12stop!";
+    let answer = tokens_into(alloc, file, input, &mut tokens, &mut count, &mut status);
+    answer == Answer::Done && count == 3 && status == 3 && are_listed(&tokens)
+}
+
+/// Whether bytes that are no table file are refused, and nothing is listed.
+fn lists_nothing(alloc: Global, bytes: &[u8]) -> bool {
+    let mut tokens = [NO_TOKEN; 4];
+    let mut count = 3;
+    let mut status = 3;
+    let answer = tokens_into(alloc, bytes, b"a", &mut tokens, &mut count, &mut status);
+    answer == Answer::Refused && count == 0
+}
+
+#[test]
+fn lists_tokens(rt: HostRuntime) {
+    let mut buffer = [0u8; 4096];
+    let count = made_whole(rt.alloc(), &mut buffer);
+    match buffer.get(..count) {
+        Some(file) => assert!(rt; lists_three(rt.alloc(), file)),
+        None => assert!(rt; false),
+    }
+    assert!(rt; lists_nothing(rt.alloc(), b"nothing"));
+}
+
+/// What is answered of the lines of rules where there is room for one, how many there are, and the first.
+fn rule_lines(alloc: Global, text: &[u8]) -> (Answer, usize, u32) {
+    let mut lines = [0u32; 1];
+    let mut count = 2;
+    let answer = rule_lines_into(alloc, text, options_of(0), &mut lines, &mut count);
+    (answer, count, lines[0])
 }
 
 #[test]
 fn tells_the_lines_of_rules(rt: HostRuntime) {
-    let mut lines = [0u32; 1];
-    let mut count = 0;
-    let answer = rule_lines_into(rt.alloc(), TEXT, options_of(0), &mut lines, &mut count);
-    assert_eq!(rt; answer, Answer::TooSmall);
-    assert_eq!(rt; count, 2);
-    assert_eq!(rt; lines[0], 2);
-    let answer = rule_lines_into(
-        rt.alloc(),
-        b"%%\n[z-a] ;\n",
-        options_of(0),
-        &mut lines,
-        &mut count,
-    );
-    assert_eq!(rt; answer, Answer::Refused);
-    assert_eq!(rt; count, 0);
+    assert!(rt; rule_lines(rt.alloc(), TEXT) == (Answer::TooSmall, 2, 2));
+    let (answer, count, _) = rule_lines(rt.alloc(), b"%%\n[z-a] ;\n");
+    assert!(rt; answer == Answer::Refused && count == 0);
 }

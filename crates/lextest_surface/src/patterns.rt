@@ -3,7 +3,7 @@ use lexre::{
     ByteSet, Cutting, Defs, DefsError, Lengths, PatternError, PatternErrorKind, ReadOptions,
     cut_pattern, lengths, positions, read_pattern,
 };
-use std::test::Fail;
+use std::alloc::Global;
 
 const PLAIN: ReadOptions = ReadOptions {
     fold: false,
@@ -21,22 +21,54 @@ fn sets_of_bytes(rt: HostRuntime) {
     assert!(rt; ByteSet::named(b"digits").is_none());
 }
 
-#[test]
-fn named_definitions(rt: HostRuntime) -> Result<(), Fail> {
-    let mut definitions = Defs::new(rt.alloc());
-    definitions.add(b"N", b"{D}+")?;
-    definitions.add(b"D", b"[0-9]")?;
-    assert!(rt; definitions.add(b"D", b"x") == Err(DefsError::Duplicate));
-    assert!(rt; definitions.find(b"D") == Some(b"[0-9]".as_slice()));
-    assert!(rt; definitions.find(b"E").is_none());
-    let number = read_pattern(rt.alloc(), b"{N}\".\"{N}", &definitions, PLAIN)?;
-    assert!(rt; positions(&number) == Some(3));
-    assert!(rt; lengths(&number) == Some(Lengths { min: 3, max: None }));
-    Ok(())
+/// Whether a name is defined once, and found.
+fn defines_once(definitions: &mut Defs) -> bool {
+    let first = definitions.add(b"N", b"{D}+").is_ok() && definitions.add(b"D", b"[0-9]").is_ok();
+    let again = definitions.add(b"D", b"x") == Err(DefsError::Duplicate);
+    let found = definitions.find(b"D") == Some(b"[0-9]".as_slice());
+    first && again && found && definitions.find(b"E").is_none()
+}
+
+/// Whether a text is read with these lengths and positions.
+fn measures(
+    alloc: Global,
+    text: &[u8],
+    definitions: &Defs,
+    min: u32,
+    max: Option<u32>,
+    count: u32,
+) -> bool {
+    match read_pattern(alloc, text, definitions, PLAIN) {
+        Ok(pattern) => {
+            lengths(&pattern) == Some(Lengths { min, max }) && positions(&pattern) == Some(count)
+        }
+        Err(_) => false,
+    }
 }
 
 #[test]
-fn patterns(rt: HostRuntime) -> Result<(), Fail> {
+fn named_definitions(rt: HostRuntime) {
+    let mut definitions = Defs::new(rt.alloc());
+    assert!(rt; defines_once(&mut definitions));
+    assert!(rt; measures(rt.alloc(), b"{N}\".\"{N}", &definitions, 3, None, 3));
+}
+
+/// Whether a text is refused so.
+fn is_refused(
+    alloc: Global,
+    text: &[u8],
+    definitions: &Defs,
+    kind: PatternErrorKind,
+    at: usize,
+) -> bool {
+    match read_pattern(alloc, text, definitions, PLAIN) {
+        Ok(_) => false,
+        Err(error) => error == PatternError { kind, at },
+    }
+}
+
+#[test]
+fn patterns(rt: HostRuntime) {
     let none = Defs::new(rt.alloc());
     let cut = Cutting {
         end: 5,
@@ -45,19 +77,6 @@ fn patterns(rt: HostRuntime) -> Result<(), Fail> {
         dollar: false,
     };
     assert!(rt; cut_pattern(b"ab/cd ECHO;") == Ok(cut));
-    let pattern = read_pattern(rt.alloc(), b"ab{2}", &none, PLAIN)?;
-    let three = Lengths {
-        min: 3,
-        max: Some(3),
-    };
-    assert!(rt; lengths(&pattern) == Some(three) && positions(&pattern) == Some(3));
-    let refused = PatternError {
-        kind: PatternErrorKind::BadRange,
-        at: 1,
-    };
-    match read_pattern(rt.alloc(), b"[z-a]", &none, PLAIN) {
-        Ok(_) => assert!(rt; false),
-        Err(error) => assert!(rt; error == refused),
-    }
-    Ok(())
+    assert!(rt; measures(rt.alloc(), b"ab{2}", &none, 3, Some(3), 3));
+    assert!(rt; is_refused(rt.alloc(), b"[z-a]", &none, PatternErrorKind::BadRange, 1));
 }

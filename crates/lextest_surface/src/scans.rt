@@ -5,7 +5,7 @@ use lexscan::{
     Candidate, FromRead, MatchedRule, MemorySource, RunError, Scanner, Source, Turn, Window,
     accepted, longest, run,
 };
-use lextab::{Machine, MemorySink, Plain};
+use lextab::{Machine, MemorySink, Plain, Tables};
 use std::alloc::Global;
 use std::test::Fail;
 
@@ -16,21 +16,54 @@ fn a_reader_as_a_source(rt: HostRuntime) {
     assert!(rt; source.next() == Ok(None));
 }
 
-#[test]
-fn a_window(rt: HostRuntime) -> Result<(), Fail> {
-    let mut window = Window::new(rt.alloc());
+/// Whether the letters go into a window, and the first one out of it.
+fn holds_letters(window: &mut Window) -> bool {
     for &byte in b"abc" {
-        window.reserve()?;
-        assert!(rt; window.has_room());
+        if window.reserve().is_err() || !window.has_room() {
+            return false;
+        }
         window.push(byte);
     }
-    if window.len() == 3 {
-        window.drop_front(1);
-        assert!(rt; window.slice(0, window.len()) == b"bc".as_slice());
-    } else {
-        assert!(rt; false);
+    if window.len() != 3 {
+        return false;
     }
-    Ok(())
+    window.drop_front(1);
+    window.slice(0, window.len()) == b"bc".as_slice()
+}
+
+#[test]
+fn a_window(rt: HostRuntime) {
+    let mut window = Window::new(rt.alloc());
+    assert!(rt; holds_letters(&mut window));
+}
+
+/// A scanner over memory.
+type Turns<'a, 'b> = Scanner<'a, Plain<'b>, MemorySource<'b>, MemorySink>;
+
+/// Whether the first turn takes all letters, and keeps one.
+fn keeps_a_letter(scanner: &mut Turns<'_, '_>) -> bool {
+    let went = scanner.turn() == Ok(Turn::Went);
+    went && scanner.taken() == 3
+        && scanner.held() == b"bc".as_slice()
+        && scanner.text() == b"a".as_slice()
+        && scanner.condition() == 0
+}
+
+/// Whether two more turns are taken, and the next two end.
+fn goes_to_the_end(scanner: &mut Turns<'_, '_>) -> bool {
+    let mut so = true;
+    for want in [Turn::Went, Turn::Went, Turn::Ended(0), Turn::Ended(0)] {
+        so = scanner.turn() == Ok(want) && so;
+    }
+    so && scanner.text().is_empty() && scanner.matched().is_none()
+}
+
+/// Whether the turns over three letters are as worked out.
+fn turns_by(alloc: Global, machine: &Plain<'_>) -> bool {
+    let mut source = MemorySource::new(b"abc");
+    let mut sink = MemorySink::new(alloc);
+    let mut scanner = Scanner::new(alloc, machine, &mut source, &mut sink, 4);
+    keeps_a_letter(&mut scanner) && goes_to_the_end(&mut scanner)
 }
 
 /// Each turn keeps one letter of all, and gives the others back.
@@ -39,91 +72,87 @@ fn turns(rt: HostRuntime) -> Result<(), Fail> {
     let alloc = rt.alloc();
     let spec = read(alloc, b"%%\n[a-z]+ yyless(1);\n")?;
     let automaton = built(alloc, &spec)?;
-    let machine = Plain::new(&automaton, &spec);
-    let mut source = MemorySource::new(b"abc");
-    let mut sink = MemorySink::new(alloc);
-    let mut scanner = Scanner::new(alloc, &machine, &mut source, &mut sink, 4);
-    assert!(rt; scanner.turn() == Ok(Turn::Went));
-    assert!(rt; scanner.taken() == 3 && scanner.held() == b"bc".as_slice());
-    assert!(rt; scanner.text() == b"a".as_slice() && scanner.condition() == 0);
-    assert!(rt; scanner.turn() == Ok(Turn::Went) && scanner.turn() == Ok(Turn::Went));
-    assert!(rt; scanner.turn() == Ok(Turn::Ended(0)) && scanner.turn() == Ok(Turn::Ended(0)));
-    assert!(rt; scanner.text().is_empty() && scanner.matched().is_none());
+    assert!(rt; turns_by(alloc, &Plain::new(&automaton, &spec)));
     Ok(())
 }
 
 /// Words, of which one has a rule of its own, and numbers before a unit.
 const LONGEST: &[u8] = b"%%\nif ;\n[a-z]+ ;\n[0-9]+/\"kg\" ;\n";
 
-/// What the longest match at the front of a text is, and which rules its first byte leads to.
-fn first_match(alloc: Global, text: &[u8]) -> Result<(Option<Candidate>, Vec<u32>), Fail> {
-    let made = generate(alloc, LONGEST, Options::new())?;
-    let mut rules = Vec::new(alloc);
-    if made.tables.parts().conditions.is_empty() {
-        return Ok((None, rules));
+/// Whether this is the longest match at the front of a text, and its first byte leads to these rules.
+fn begins_with(tables: &Tables, text: &[u8], wanted: Candidate, rules: &[u32]) -> bool {
+    if tables.parts().conditions.is_empty() {
+        return false;
     }
-    if let Some(byte) = text.first() {
-        let state = made.tables.step(made.tables.start(0, true), *byte);
-        rules.extend_from_slice(accepted(&made.tables, state))?;
+    match text.first() {
+        Some(byte) => {
+            let state = tables.step(tables.start(0, true), *byte);
+            accepted(tables, state) == rules && longest(tables, 0, true, text) == Some(wanted)
+        }
+        None => false,
     }
-    Ok((longest(&made.tables, 0, true, text), rules))
 }
 
 #[test]
 fn the_longest_match(rt: HostRuntime) -> Result<(), Fail> {
+    let made = generate(rt.alloc(), LONGEST, Options::new())?;
     let rows: &[(&[u8], MatchedRule, usize, usize, &[u32])] = &[
         (b"iffy ", MatchedRule::Numbered(1), 4, 4, &[1]),
         (b"12kg", MatchedRule::Numbered(2), 4, 2, &[]),
         (b"12", MatchedRule::Default, 1, 1, &[]),
     ];
     for &(text, rule, length, kept, first) in rows {
-        let (found, rules) = first_match(rt.alloc(), text)?;
         let wanted = Candidate {
             rule,
             length,
             text: kept,
         };
-        assert!(rt; found == Some(wanted) && rules.as_slice() == first);
+        assert!(rt; begins_with(&made.tables, text, wanted, first));
     }
     Ok(())
 }
 
-#[test]
-fn a_run(rt: HostRuntime) -> Result<(), Fail> {
-    let alloc = rt.alloc();
-    let spec = read(alloc, b"%%\n[a-z]+ printf(\"I\");\n")?;
-    let automaton = built(alloc, &spec)?;
+/// Whether a run over three letters by a specification, with so many reads, answers this and writes this.
+fn runs_so(
+    alloc: Global,
+    text: &[u8],
+    max_reads: u64,
+    answer: Result<u8, RunError>,
+    written: &[u8],
+) -> bool {
+    let Ok(spec) = read(alloc, text) else {
+        return false;
+    };
+    let Ok(automaton) = built(alloc, &spec) else {
+        return false;
+    };
     let machine = Plain::new(&automaton, &spec);
-    let mut sink = MemorySink::new(alloc);
     let mut source = MemorySource::new(b"abc");
-    assert!(rt; run(alloc, &machine, &mut source, &mut sink, 4) == Ok(0));
-    assert!(rt; sink.written() == b"I".as_slice());
-    Ok(())
+    let mut sink = MemorySink::new(alloc);
+    let got = run(alloc, &machine, &mut source, &mut sink, max_reads);
+    got == answer && sink.written() == written
+}
+
+const LETTERS: &[u8] = b"%%\n[a-z]+ printf(\"I\");\n";
+
+#[test]
+fn a_run(rt: HostRuntime) {
+    assert!(rt; runs_so(rt.alloc(), LETTERS, 4, Ok(0), b"I"));
 }
 
 /// A rule that is told at a glance, one that gives its match up, and one that gives bytes back. Over three letters each asks for
 /// four reads, that of the end with them.
-const ASKING: &[&[u8]] = &[
-    b"%%\n[a-z]+ printf(\"I\");\n",
-    b"%%\n[a-z]+ REJECT;\n.|\\n ;\n",
-    b"%%\n[a-z]+ yyless(1);\n",
+const ASKING: &[(&[u8], &[u8])] = &[
+    (LETTERS, b"I"),
+    (b"%%\n[a-z]+ REJECT;\n.|\\n ;\n", b""),
+    (b"%%\n[a-z]+ yyless(1);\n", b""),
 ];
 
-/// What a run over three letters answers, where so many reads are allowed.
-fn run_within(alloc: Global, text: &[u8], max_reads: u64) -> Result<Result<u8, RunError>, Fail> {
-    let spec = read(alloc, text)?;
-    let automaton = built(alloc, &spec)?;
-    let machine = Plain::new(&automaton, &spec);
-    let mut source = MemorySource::new(b"abc");
-    let mut sink = MemorySink::new(alloc);
-    Ok(run(alloc, &machine, &mut source, &mut sink, max_reads))
-}
-
 #[test]
-fn too_many_reads(rt: HostRuntime) -> Result<(), Fail> {
-    for &text in ASKING {
-        assert!(rt; run_within(rt.alloc(), text, 4)? == Ok(0));
-        assert!(rt; run_within(rt.alloc(), text, 3)? == Err(RunError::TooManyReads));
+fn too_many_reads(rt: HostRuntime) {
+    let too_many = Err(RunError::TooManyReads);
+    for &(text, written) in ASKING {
+        assert!(rt; runs_so(rt.alloc(), text, 4, Ok(0), written));
+        assert!(rt; runs_so(rt.alloc(), text, 3, too_many, b""));
     }
-    Ok(())
 }
