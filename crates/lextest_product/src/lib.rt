@@ -20,6 +20,8 @@ mod machines;
 #[cfg(test)]
 mod manual;
 #[cfg(test)]
+mod pieces;
+#[cfg(test)]
 mod pipelines;
 #[cfg(test)]
 mod refused;

@@ -1,0 +1,79 @@
+//! Worked scans by pieces: what each feed writes, and what the end.
+use crate::building::read_back;
+use lexkit::{Flat, MemorySink, RunError};
+use lexscan::{PushScanner, Turn};
+use std::alloc::Global;
+use std::test::Fail;
+
+/// Whether each piece writes this, and the end writes the rest with this status.
+fn feeds_so(
+    alloc: Global,
+    text: &str,
+    pieces: &[(&str, &str)],
+    rest: &str,
+    status: u8,
+) -> Result<bool, Fail> {
+    let tables = read_back(alloc, text.as_bytes())?;
+    let machine = Flat::new(alloc, &tables)?;
+    let mut scanner = PushScanner::new(alloc, machine);
+    let mut so = true;
+    for &(piece, written) in pieces {
+        let mut sink = MemorySink::new(alloc);
+        so = scanner.feed(piece.as_bytes(), &mut sink) == Ok(Turn::Went) && so;
+        so = sink.written() == written.as_bytes() && so;
+    }
+    let mut sink = MemorySink::new(alloc);
+    so = scanner.finish(&mut sink) == Ok(status) && so;
+    Ok(sink.written() == rest.as_bytes() && so)
+}
+
+#[test]
+fn writes_what_the_bytes_so_far_decide(rt: HostRuntime) -> Result<(), Fail> {
+    let rows: &[(&str, &[(&str, &str)], &str, u8)] = &[
+        (
+            "%%\nif printf(\"K\");\n[0-9][0-9] printf(\"N\");\n",
+            &[("i", ""), ("f 4", "K "), ("", ""), ("2 x", "N x")],
+            "",
+            0,
+        ),
+        (
+            "%%\nab/cd printf(\"[%s]\", yytext);\n",
+            &[("abc", ""), ("da", "[ab]cd"), ("b", "")],
+            "ab",
+            0,
+        ),
+        (
+            "%%\na |\nab |\nabc |\nabcd ECHO; REJECT;\n.|\\n ;\n",
+            &[("ab", ""), ("c", ""), ("d", "abcdabcaba")],
+            "",
+            0,
+        ),
+        (
+            "%x C\n%%\n\"/*\" BEGIN(C);\n<C>\"*/\" BEGIN(INITIAL);\n<C>.|\\n ;\n<C><<EOF>> printf(\"open\"); exit(3);\n",
+            &[("a/", "a"), ("* x", "")],
+            "open",
+            3,
+        ),
+    ];
+    for &(text, pieces, rest, status) in rows {
+        assert!(rt; feeds_so(rt.alloc(), text, pieces, rest, status)?, "{text}");
+    }
+    Ok(())
+}
+
+/// One feed, to a sink of its own.
+fn feed(alloc: Global, scanner: &mut PushScanner<Flat<'_>>, piece: &str) -> Result<Turn, RunError> {
+    let mut sink = MemorySink::new(alloc);
+    scanner.feed(piece.as_bytes(), &mut sink)
+}
+
+#[test]
+fn an_ended_scan_stays_ended(rt: HostRuntime) -> Result<(), Fail> {
+    let tables = read_back(rt.alloc(), b"%%\nab exit(7);\n")?;
+    let machine = Flat::new(rt.alloc(), &tables)?;
+    let mut scanner = PushScanner::new(rt.alloc(), machine);
+    assert!(rt; feed(rt.alloc(), &mut scanner, "a") == Ok(Turn::Went));
+    assert!(rt; feed(rt.alloc(), &mut scanner, "bXY") == Ok(Turn::Ended(7)));
+    assert!(rt; feed(rt.alloc(), &mut scanner, "Z") == Ok(Turn::Ended(7)));
+    Ok(())
+}
