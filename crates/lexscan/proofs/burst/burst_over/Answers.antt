@@ -339,7 +339,7 @@ turns-smaller-in-Some-silent_part g c = (let s = rest_size text rest done told.k
 
 pub start-first-requires-in-turns : goal.start-first-requires-in-turns
 start-first-requires-in-turns g c = subst (λ k. k < M.conditions) (sym c.in-Ok.ensures.condition)
-      (Burst.condition_below M laws text bytes done asked c.turns.condition here way told before inside leads tells known c.turns.invariant.condition)
+    (Burst.condition_below M laws text bytes done asked c.turns.condition here way told before inside leads tells known c.turns.invariant.condition)
   where
     M : Machine
     M = g.M.Machine.machine c.args.machine.now
