@@ -34,12 +34,12 @@ fn job_of(rt: &HostRuntime) -> Result<Job, ArgsError> {
 }
 
 /// What a scan goes by.
-#[derive(Clone, Copy)]
+#[derive(Drop)]
 enum By<'a> {
     /// The text of a specification, and how it is read.
     Spec(&'a [u8], ReadOptions),
     /// The tables that were made of a specification.
-    Made(&'a Tables),
+    Made(Tables),
     /// A table file.
     Table(&'a [u8]),
 }
@@ -117,7 +117,7 @@ fn run(rt: &HostRuntime) -> Result<u8, Failure> {
                 return scan(rt, By::Spec(text.as_slice(), options));
             }
             let made = make_with_warnings(rt, text.as_slice(), options_of(options))?;
-            scan(rt, By::Made(&made.tables))
+            scan(rt, By::Made(made.tables))
         }
         Job::ScanTable { file } => {
             let bytes = read_table_file(rt, file)?;

@@ -87,7 +87,7 @@ pub fn scan_by<S: Source, K: Sink>(
         Err(_) => return Err(ScanError::Generate(GenError::OutOfMemory)),
         Ok(tables) => tables,
     };
-    let machine = match Flat::new(alloc, &tables) {
+    let machine = match Flat::new(alloc, tables) {
         Err(_) => return Err(ScanError::Generate(GenError::OutOfMemory)),
         Ok(machine) => machine,
     };
@@ -101,14 +101,14 @@ pub fn scan_by<S: Source, K: Sink>(
 /// not made once more. Out of memory in laying them flat comes before the source or the sink is touched.
 pub fn scan_made<S: Source, K: Sink>(
     alloc: Global,
-    tables: &Tables,
+    tables: Tables,
     source: &mut S,
     sink: &mut K,
 ) -> Result<u8, ScanError>
     requires few_ends { S.ends source.old < 2 ^ 64 - 1 }
     requires few_read_faults { S.failures source.old < 2 ^ 64 - 1 }
     requires few_write_faults { K.failures sink.old < 2 ^ 64 - 1 }
-    ensures told { (options : Asked) (text : List ℕ) → HasTables options text tables.now → Headline S.gave K.wrote options text
+    ensures told { (options : Asked) (text : List ℕ) → HasTables options text tables → Headline S.gave K.wrote options text
         (nat_lt (S.ends source.old) (S.ends source.new)) source.old source.new sink.old sink.new result }
     ensures read_faults { S.failures source.new ≡ S.failures source.old + read_fault_count result }
     ensures write_faults { K.failures sink.new ≡ K.failures sink.old + write_fault_count result }
@@ -152,7 +152,7 @@ pub fn scan_table<S: Source, K: Sink>(
         Err(error) => return Err(ScanError::Table(error)),
         Ok(tables) => tables,
     };
-    let flat = match Flat::new(alloc, &tables) {
+    let flat = match Flat::new(alloc, tables) {
         Err(_) => return Err(ScanError::Table(TableError::OutOfMemory)),
         Ok(flat) => flat,
     };

@@ -1,8 +1,8 @@
 -- What a table keeps to. (This project's; what actions keep to: POSIX and flex, Actions.)
-use Rattle.std.specs.Prelude.{◌≡◌, ℕ, suc, ◌+◌, ◌<◌, ◌≤◌, Bool, false, ◌||◌, List, [], ◌∷◌, length, map, sum_by, slice_index, ⊤}
+use Rattle.std.specs.Prelude.{◌≡◌, ℕ, ◌+◌, ◌<◌, ◌≤◌, Bool, false, ◌||◌, List, [], ◌∷◌, length, map, sum_by, slice_index, ⊤}
 use Rattle.lex_semantics.specs.Limits.{max_conditions, max_rules, max_states, max_classes, max_slots, max_literal_bytes, max_status, max_fixed_length, max_statements}
 use Rattle.lex_semantics.specs.Text.{IsText, Ascending, Among}
-use Rattle.lex_semantics.specs.Spec.{Statement, Print, Cut, Whole, Head, Trail, has_reject}
+use Rattle.lex_semantics.specs.Spec.{Cut, Whole, Head, Trail, has_reject}
 use Rattle.lex_semantics.specs.Legal.{IsLegal}
 pub use Rattle.lex_machine.specs.Literals.{Each, HasText, literal_bytes}
 use Rattle.lextab_packed.specs.Table.{Condition, Rule, Row, Slot, Table}

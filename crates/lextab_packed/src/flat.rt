@@ -17,43 +17,39 @@ use std::alloc::{AllocError, Global};
 
 /// Packed tables, and 1 KB of marked targets for each state. It is the same machine. No reader takes memory.
 #[derive(Drop)]
-pub struct Flat<'a> {
-    pub(crate) tables: &'a Tables,
+pub struct Flat {
+    pub(crate) tables: Tables,
     rows: Vec<u32>,
     kinds: Vec<Kind>,
-    goes_on: &'a [bool],
-    ghost sizes: { length rows.items ≡ 256 * length tables.now.parts.rows.items },
-    ghost targets: { (s b : ℕ) → s < length tables.now.parts.rows.items → b < 256 → slice_index rows.items (256 * s + b) ≡ marked (flag goes_on.now (step_of (table_of tables.now.parts) s b)) (kind_of (machine_of tables.now) (step_of (table_of tables.now.parts) s b)) (step_of (table_of tables.now.parts) s b) },
-    ghost column: { length kinds.items ≡ length tables.now.parts.rows.items },
-    ghost told: { (s : ℕ) → s < length tables.now.parts.rows.items → slice_get kinds.items s ≡ Some (kind_of (machine_of tables.now) s) },
-    ghost flags: { goes_on.now ≡ tables.now.goes_on.items },
+    ghost sizes: { length rows.items ≡ 256 * length tables.parts.rows.items },
+    ghost targets: { (s b : ℕ) → s < length tables.parts.rows.items → b < 256 → slice_index rows.items (256 * s + b) ≡ marked (flag tables.goes_on.items (step_of (table_of tables.parts) s b)) (kind_of (machine_of tables) (step_of (table_of tables.parts) s b)) (step_of (table_of tables.parts) s b) },
+    ghost column: { length kinds.items ≡ length tables.parts.rows.items },
+    ghost told: { (s : ℕ) → s < length tables.parts.rows.items → slice_get kinds.items s ≡ Some (kind_of (machine_of tables) s) },
 }
 
-impl<'a> Flat<'a> {
+impl Flat {
     /// The same machine, by rows.
-    pub fn new(alloc: Global, tables: &'a Tables) -> Result<Flat<'a>, AllocError>
-        ensures machine { IfOk result (λ f. machine_of f.tables.now ≡ machine_of tables.now) }
-        ensures states { IfOk result (λ f. states_of f.tables.now ≡ states_of tables.now) }
+    pub fn new(alloc: Global, tables: Tables) -> Result<Flat, AllocError>
+        ensures machine { IfOk result (λ f. machine_of f.tables ≡ machine_of tables) }
+        ensures states { IfOk result (λ f. states_of f.tables ≡ states_of tables) }
     {
-        let goes_on = tables.goes_on.as_slice();
-        let kinds = kinds_of(alloc, tables)?;
-        let rows = marked_rows(alloc, tables, &kinds)?;
+        let kinds = kinds_of(alloc, &tables)?;
+        let rows = marked_rows(alloc, &tables, &kinds)?;
         Ok(Flat {
             tables,
             rows,
             kinds,
-            goes_on,
         })
     }
 
     /// The marked state after one byte more, from the state whose row is at this place.
     #[inline(always)]
     fn target(&self, place: u32, byte: u8) -> u32
-        requires { (s : ℕ) × (s < states_of self.now.tables.now) × (place ≡ 256 * s) }
-        ensures { (s : ℕ) → place ≡ 256 * s → s < states_of self.now.tables.now
-            → result ≡ marked (flag self.now.goes_on.now (step_of (table_of self.now.tables.now.parts) s byte))
-            (kind_of (machine_of self.now.tables.now) (step_of (table_of self.now.tables.now.parts) s byte))
-            (step_of (table_of self.now.tables.now.parts) s byte) }
+        requires { (s : ℕ) × (s < states_of self.now.tables) × (place ≡ 256 * s) }
+        ensures { (s : ℕ) → place ≡ 256 * s → s < states_of self.now.tables
+            → result ≡ marked (flag self.now.tables.goes_on.items (step_of (table_of self.now.tables.parts) s byte))
+            (kind_of (machine_of self.now.tables) (step_of (table_of self.now.tables.parts) s byte))
+            (step_of (table_of self.now.tables.parts) s byte) }
     {
         self.rows[place as usize + usize::from(byte)]
     }
@@ -61,11 +57,11 @@ impl<'a> Flat<'a> {
     /// What is told of the state that a marked target is, at which the machine stops.
     #[inline(always)]
     fn gist_at(&self, target: u32) -> Gist<'_>
-        requires { (s : ℕ) × (s < states_of self.now.tables.now)
-            × (target ≡ marked false (kind_of (machine_of self.now.tables.now) s) s) }
-        ensures { (s : ℕ) → s < states_of self.now.tables.now
-            → target ≡ marked false (kind_of (machine_of self.now.tables.now) s) s
-            → Gists (machine_of self.now.tables.now) s result }
+        requires { (s : ℕ) × (s < states_of self.now.tables)
+            × (target ≡ marked false (kind_of (machine_of self.now.tables) s) s) }
+        ensures { (s : ℕ) → s < states_of self.now.tables
+            → target ≡ marked false (kind_of (machine_of self.now.tables) s) s
+            → Gists (machine_of self.now.tables) s result }
     {
         if target < STOP_SILENT {
             Gist::NoRule
@@ -74,7 +70,7 @@ impl<'a> Flat<'a> {
         } else if target < STOP_OTHER {
             Gist::Echo
         } else {
-            gist_of(self.tables, self.kinds[(target - STOP_OTHER) as usize])
+            gist_of(&self.tables, self.kinds[(target - STOP_OTHER) as usize])
         }
     }
 }
@@ -92,14 +88,14 @@ fn state_of(target: u32) -> u32
     }
 }
 
-impl Machine for Flat<'_> {
-    ghost machine = { λ f. machine_of f.tables.now };
+impl Machine for Flat {
+    ghost machine = { λ f. machine_of f.tables };
 
-    ghost states = { λ f. states_of f.tables.now };
+    ghost states = { λ f. states_of f.tables };
 
-    ghost laws = { λ f. f.tables.now.laws };
+    ghost laws = { λ f. f.tables.laws };
 
-    ghost below = { λ f. f.tables.now.below };
+    ghost below = { λ f. f.tables.below };
 
     fn conditions(&self) -> usize {
         self.tables.conditions()
@@ -118,7 +114,7 @@ impl Machine for Flat<'_> {
     }
 
     fn goes_on(&self, state: u32) -> bool {
-        self.goes_on[state as usize]
+        self.tables.goes_on[state as usize]
     }
 
     fn accepts(&self, state: u32) -> &[u32] {
@@ -164,7 +160,7 @@ impl Machine for Flat<'_> {
 
     #[inline(always)]
     fn gist(&self, state: u32) -> Gist<'_> {
-        gist_of(self.tables, self.kinds[state as usize])
+        gist_of(&self.tables, self.kinds[state as usize])
     }
 }
 

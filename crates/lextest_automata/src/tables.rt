@@ -130,7 +130,7 @@ fn steps(rt: HostRuntime) -> Result<(), Fail> {
 #[test]
 fn flat_steps(rt: HostRuntime) -> Result<(), Fail> {
     let tables = tables(rt.alloc())?;
-    let flat = Flat::new(rt.alloc(), &tables)?;
+    let flat = Flat::new(rt.alloc(), tables)?;
     check(&rt, &flat)
 }
 

@@ -14,7 +14,7 @@ fn feeds_so(
     status: u8,
 ) -> Result<bool, Fail> {
     let tables = read_back(alloc, text.as_bytes())?;
-    let machine = Flat::new(alloc, &tables)?;
+    let machine = Flat::new(alloc, tables)?;
     let mut scanner = PushScanner::new(alloc, machine);
     let mut so = true;
     for &(piece, written) in pieces {
@@ -62,7 +62,7 @@ fn writes_what_the_bytes_so_far_decide(rt: HostRuntime) -> Result<(), Fail> {
 }
 
 /// One feed, to a sink of its own.
-fn feed(alloc: Global, scanner: &mut PushScanner<Flat<'_>>, piece: &str) -> Result<Turn, RunError> {
+fn feed(alloc: Global, scanner: &mut PushScanner<Flat>, piece: &str) -> Result<Turn, RunError> {
     let mut sink = MemorySink::new(alloc);
     scanner.feed(piece.as_bytes(), &mut sink)
 }
@@ -70,7 +70,7 @@ fn feed(alloc: Global, scanner: &mut PushScanner<Flat<'_>>, piece: &str) -> Resu
 #[test]
 fn an_ended_scan_stays_ended(rt: HostRuntime) -> Result<(), Fail> {
     let tables = read_back(rt.alloc(), b"%%\nab exit(7);\n")?;
-    let machine = Flat::new(rt.alloc(), &tables)?;
+    let machine = Flat::new(rt.alloc(), tables)?;
     let mut scanner = PushScanner::new(rt.alloc(), machine);
     assert!(rt; feed(rt.alloc(), &mut scanner, "a") == Ok(Turn::Went));
     assert!(rt; feed(rt.alloc(), &mut scanner, "bXY") == Ok(Turn::Ended(7)));

@@ -26,7 +26,7 @@ fn holds_all(scanner: &mut Turns<'_, '_>, start: usize, turn: Result<Turn, RunEr
 }
 
 /// Whether all turns are taken, or one is refused and holds what it has to.
-fn goes_through(alloc: Global, machine: &Flat<'_>) -> bool {
+fn goes_through(alloc: Global, machine: &Flat) -> bool {
     let mut source = MemorySource::new(INPUT);
     let mut sink = MemorySink::new(alloc);
     let mut scanner = Scanner::new(alloc, machine, &mut source, &mut sink, 10_000);
@@ -44,7 +44,7 @@ fn goes_through(alloc: Global, machine: &Flat<'_>) -> bool {
 #[test]
 fn refused_turns(rt: HostRuntime) -> Result<(), Fail> {
     let tables = read_back(rt.alloc(), LETTERS.as_bytes())?;
-    let machine = Flat::new(rt.alloc(), &tables)?;
+    let machine = Flat::new(rt.alloc(), tables)?;
     assert!(rt; goes_through(rt.alloc(), &machine));
     Ok(())
 }
@@ -55,7 +55,7 @@ const ONE_OF_MANY: &str = "%%\na ;\na*b ;\n";
 const THOUSAND: &[u8] = &[b'a'; 1_000];
 
 /// Whether each turn is taken once all bytes are, or the first one is refused.
-fn takes_each_turn(alloc: Global, machine: &Flat<'_>) -> bool {
+fn takes_each_turn(alloc: Global, machine: &Flat) -> bool {
     let mut source = MemorySource::new(THOUSAND);
     let mut sink = MemorySink::new(alloc);
     let mut scanner = Scanner::new(alloc, machine, &mut source, &mut sink, 10_000);
@@ -70,13 +70,13 @@ fn takes_each_turn(alloc: Global, machine: &Flat<'_>) -> bool {
 #[test]
 fn refused_marks(rt: HostRuntime) -> Result<(), Fail> {
     let tables = read_back(rt.alloc(), ONE_OF_MANY.as_bytes())?;
-    let machine = Flat::new(rt.alloc(), &tables)?;
+    let machine = Flat::new(rt.alloc(), tables)?;
     assert!(rt; takes_each_turn(rt.alloc(), &machine));
     Ok(())
 }
 
 /// Whether a run ends well or tells that memory ran out, and nothing is written by it.
-fn runs_well(alloc: Global, machine: &Flat<'_>) -> bool {
+fn runs_well(alloc: Global, machine: &Flat) -> bool {
     let mut source = MemorySource::new(INPUT);
     let mut sink = MemorySink::new(alloc);
     let result = run(alloc, machine, &mut source, &mut sink, 10_000);
@@ -88,7 +88,7 @@ fn runs_well(alloc: Global, machine: &Flat<'_>) -> bool {
 #[test]
 fn refused_run(rt: HostRuntime) -> Result<(), Fail> {
     let tables = read_back(rt.alloc(), LETTERS.as_bytes())?;
-    let machine = Flat::new(rt.alloc(), &tables)?;
+    let machine = Flat::new(rt.alloc(), tables)?;
     assert!(rt; runs_well(rt.alloc(), &machine));
     Ok(())
 }

@@ -97,7 +97,7 @@ pub(crate) fn scanned_as_made(
     let made = generate(alloc, text, options_of(how)).ok()?;
     let mut source = MemorySource::new(input);
     let mut sink = MemorySink::new(alloc);
-    let answer = scan_made(alloc, &made.tables, &mut source, &mut sink);
+    let answer = scan_made(alloc, made.tables, &mut source, &mut sink);
     Some(Scan {
         answer,
         sink,

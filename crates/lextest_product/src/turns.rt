@@ -17,7 +17,7 @@ const COMMENTS: &str =
     "%x C\n%%\n\"/*\" BEGIN(C);\n<C>\"*/\" BEGIN(INITIAL);\n<C>.|\\n ;\n<C><<EOF>> printf(\"open\"); exit(3);\n";
 
 /// A scanner over memory.
-pub(crate) type Turns<'a, 'b> = Scanner<'a, Flat<'b>, MemorySource<'b>, MemorySink>;
+pub(crate) type Turns<'a, 'b> = Scanner<'a, Flat, MemorySource<'b>, MemorySink>;
 
 /// Whether so many turns go on.
 pub(crate) fn go_on(scanner: &mut Turns<'_, '_>, count: usize) -> bool {
@@ -49,13 +49,7 @@ fn end_so(scanner: &mut Turns<'_, '_>, status: u8) -> bool {
 }
 
 /// Whether the turns over an input go on so, and then end so.
-fn goes_so(
-    alloc: Global,
-    machine: &Flat<'_>,
-    input: &str,
-    after: &[(u64, &str)],
-    status: u8,
-) -> bool {
+fn goes_so(alloc: Global, machine: &Flat, input: &str, after: &[(u64, &str)], status: u8) -> bool {
     let mut source = MemorySource::new(input.as_bytes());
     let mut sink = MemorySink::new(alloc);
     let mut scanner = Scanner::new(alloc, machine, &mut source, &mut sink, 10_000);
@@ -73,7 +67,7 @@ fn goes_so_by(
     status: u8,
 ) -> Result<bool, Fail> {
     let tables = read_back(alloc, text.as_bytes())?;
-    let machine = Flat::new(alloc, &tables)?;
+    let machine = Flat::new(alloc, tables)?;
     Ok(goes_so(alloc, &machine, input, after, status))
 }
 
@@ -134,7 +128,7 @@ type Run = (
 );
 
 /// Whether the run by this machine ends so.
-fn ends_so_by(alloc: Global, machine: &Flat<'_>, row: &Run) -> bool {
+fn ends_so_by(alloc: Global, machine: &Flat, row: &Run) -> bool {
     let (_, input, max_reads, want, calls, written) = *row;
     let mut source = MemorySource::new(input);
     let mut sink = MemorySink::new(alloc);
@@ -145,7 +139,7 @@ fn ends_so_by(alloc: Global, machine: &Flat<'_>, row: &Run) -> bool {
 /// Whether the run ends so.
 fn ends_so(alloc: Global, row: &Run) -> Result<bool, Fail> {
     let tables = read_back(alloc, row.0.as_bytes())?;
-    let machine = Flat::new(alloc, &tables)?;
+    let machine = Flat::new(alloc, tables)?;
     Ok(ends_so_by(alloc, &machine, row))
 }
 
@@ -168,7 +162,7 @@ fn calls_the_source_as_often_as_a_byte_is_asked_for(rt: HostRuntime) -> Result<(
 }
 
 /// Whether a run over a source that answers its end after six bytes calls it no more.
-fn runs_to_an_end(alloc: Global, machine: &Flat<'_>) -> bool {
+fn runs_to_an_end(alloc: Global, machine: &Flat) -> bool {
     let mut source = MemorySource::ending_after(b"abcdabz", 6);
     let mut sink = MemorySink::new(alloc);
     let got = run(alloc, machine, &mut source, &mut sink, 10_000);
@@ -176,7 +170,7 @@ fn runs_to_an_end(alloc: Global, machine: &Flat<'_>) -> bool {
 }
 
 /// Whether the turns over such a source end with six bytes taken.
-fn turns_to_an_end(alloc: Global, machine: &Flat<'_>) -> bool {
+fn turns_to_an_end(alloc: Global, machine: &Flat) -> bool {
     let mut source = MemorySource::ending_after(b"abcdabz", 6);
     let mut sink = MemorySink::new(alloc);
     let mut scanner = Scanner::new(alloc, machine, &mut source, &mut sink, 10_000);
@@ -189,7 +183,7 @@ fn turns_to_an_end(alloc: Global, machine: &Flat<'_>) -> bool {
 #[test]
 fn asks_for_the_end_once(rt: HostRuntime) -> Result<(), Fail> {
     let tables = read_back(rt.alloc(), TRAIL.as_bytes())?;
-    let machine = Flat::new(rt.alloc(), &tables)?;
+    let machine = Flat::new(rt.alloc(), tables)?;
     assert!(rt; runs_to_an_end(rt.alloc(), &machine));
     assert!(rt; turns_to_an_end(rt.alloc(), &machine));
     Ok(())
@@ -201,7 +195,7 @@ const ONE_BY_ONE: &str = "%%\n[a-z]+ yyless(1);\n";
 const THOUSAND: &[u8] = &[b'a'; 1_000];
 
 /// Whether a thousand letters are taken in the first turn, and returned one by one.
-fn returns_one_by_one(alloc: Global, machine: &Flat<'_>) -> bool {
+fn returns_one_by_one(alloc: Global, machine: &Flat) -> bool {
     let mut source = MemorySource::new(THOUSAND);
     let mut sink = MemorySink::new(alloc);
     let mut scanner = Scanner::new(alloc, machine, &mut source, &mut sink, 10_000);
@@ -226,7 +220,7 @@ fn a_thousand_letters_are_returned_one_by_one(rt: HostRuntime) -> Result<(), Fai
         assert!(rt; ends_so(rt.alloc(), row)?, "{} reads", row.2);
     }
     let tables = read_back(rt.alloc(), ONE_BY_ONE.as_bytes())?;
-    let machine = Flat::new(rt.alloc(), &tables)?;
+    let machine = Flat::new(rt.alloc(), tables)?;
     assert!(rt; returns_one_by_one(rt.alloc(), &machine));
     Ok(())
 }
@@ -251,7 +245,7 @@ type Refused = (&'static str, &'static str, usize, usize, &'static [Told]);
 fn turns_are_told(alloc: Global, row: &Refused) -> Result<bool, Fail> {
     let (text, input, given, room, told) = *row;
     let tables = read_back(alloc, text.as_bytes())?;
-    let machine = Flat::new(alloc, &tables)?;
+    let machine = Flat::new(alloc, tables)?;
     let mut source = MemorySource::failing_after(input.as_bytes(), given);
     let mut sink = MemorySink::failing_after(alloc, room);
     let mut scanner = Scanner::new(alloc, &machine, &mut source, &mut sink, 10_000);
@@ -316,7 +310,7 @@ fn is_refused_so(scanner: &mut Turns<'_, '_>, went: usize, error: RunError) -> b
 }
 
 /// Whether the sink that fails after so many bytes has just these.
-fn fills_a_sink(alloc: Global, machine: &Flat<'_>, room: usize) -> bool {
+fn fills_a_sink(alloc: Global, machine: &Flat, room: usize) -> bool {
     let mut source = MemorySource::new(b"abcd");
     let mut sink = MemorySink::failing_after(alloc, room);
     let mut scanner = Scanner::new(alloc, machine, &mut source, &mut sink, 10_000);
@@ -328,7 +322,7 @@ fn fills_a_sink(alloc: Global, machine: &Flat<'_>, room: usize) -> bool {
 #[test]
 fn a_sink_fails_after_each_byte(rt: HostRuntime) -> Result<(), Fail> {
     let tables = read_back(rt.alloc(), FRONTS.as_bytes())?;
-    let machine = Flat::new(rt.alloc(), &tables)?;
+    let machine = Flat::new(rt.alloc(), tables)?;
     for room in 0..10usize {
         assert!(rt; fills_a_sink(rt.alloc(), &machine, room), "{room}");
     }
@@ -351,13 +345,7 @@ const TURNS_BEFORE: &[(usize, &str)] = &[
 ];
 
 /// Whether a source that fails after so many bytes lets so many turns go on, which write this.
-fn ends_a_source(
-    alloc: Global,
-    machine: &Flat<'_>,
-    given: usize,
-    went: usize,
-    written: &str,
-) -> bool {
+fn ends_a_source(alloc: Global, machine: &Flat, given: usize, went: usize, written: &str) -> bool {
     let mut source = MemorySource::failing_after(b"a/*b*/c/*d", given);
     let mut sink = MemorySink::new(alloc);
     let mut scanner = Scanner::new(alloc, machine, &mut source, &mut sink, 10_000);
@@ -368,7 +356,7 @@ fn ends_a_source(
 #[test]
 fn a_source_fails_after_each_byte(rt: HostRuntime) -> Result<(), Fail> {
     let tables = read_back(rt.alloc(), COMMENTS.as_bytes())?;
-    let machine = Flat::new(rt.alloc(), &tables)?;
+    let machine = Flat::new(rt.alloc(), tables)?;
     for (given, &(went, written)) in TURNS_BEFORE.iter().enumerate() {
         let so = ends_a_source(rt.alloc(), &machine, given, went, written);
         assert!(rt; so, "{given}");
@@ -377,7 +365,7 @@ fn a_source_fails_after_each_byte(rt: HostRuntime) -> Result<(), Fail> {
 }
 
 /// Whether a sink that fails in its flush refuses the first turn over an empty input, and has nothing.
-fn fails_in_a_flush(alloc: Global, machine: &Flat<'_>) -> bool {
+fn fails_in_a_flush(alloc: Global, machine: &Flat) -> bool {
     let mut source = MemorySource::new(b"");
     let mut sink = MemorySink::failing_flush(alloc);
     let mut scanner = Scanner::new(alloc, machine, &mut source, &mut sink, 10_000);
@@ -389,7 +377,7 @@ fn fails_in_a_flush(alloc: Global, machine: &Flat<'_>) -> bool {
 #[test]
 fn a_flush_fails(rt: HostRuntime) -> Result<(), Fail> {
     let tables = read_back(rt.alloc(), b"%%\n")?;
-    let machine = Flat::new(rt.alloc(), &tables)?;
+    let machine = Flat::new(rt.alloc(), tables)?;
     assert!(rt; fails_in_a_flush(rt.alloc(), &machine));
     Ok(())
 }

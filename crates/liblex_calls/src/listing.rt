@@ -67,7 +67,7 @@ pub fn tokens_into(
         Err(_) => return Answer::Refused,
         Ok(tables) => tables,
     };
-    let flat = match Flat::new(alloc, &tables) {
+    let flat = match Flat::new(alloc, tables) {
         Err(_) => return Answer::OutOfMemory,
         Ok(flat) => flat,
     };

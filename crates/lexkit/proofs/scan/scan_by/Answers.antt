@@ -24,7 +24,7 @@ returns-in-Err-run-clause-told g c =
     let l = c.in-Ok.ensures.made in
     let M : Machine = machine_of c.in-Ok.least.automaton S in
     let sound : IsSound S = spec_is_sound S c.args.spec.now.sound in
-    let same : table_machine c.in-Ok-new.machine.tables.now ≡ M = c.in-Ok-new.ensures.machine ∙ c.in-Ok-pack.ensures.machine in
+    let same : table_machine c.in-Ok-new.machine.tables ≡ M = c.in-Ok-new.ensures.machine ∙ c.in-Ok-pack.ensures.machine in
     let h = c.in-Err-run.ensures.ran in
     let b : Bool = nat_lt (g.S.Source.ends c.args.source.now) (g.S.Source.ends c.run.new.source) in (
       within c.args.limits S c.in-Ok.least.subsets c.in-Ok.least.automaton l,
@@ -45,7 +45,7 @@ returns-clause-told g c =
     let l = c.in-Ok.ensures.made in
     let M : Machine = machine_of c.in-Ok.least.automaton S in
     let sound : IsSound S = spec_is_sound S c.args.spec.now.sound in
-    let same : table_machine c.in-Ok-new.machine.tables.now ≡ M = c.in-Ok-new.ensures.machine ∙ c.in-Ok-pack.ensures.machine in
+    let same : table_machine c.in-Ok-new.machine.tables ≡ M = c.in-Ok-new.ensures.machine ∙ c.in-Ok-pack.ensures.machine in
     let h = c.in-Ok-run.ensures.ran in
     let b : Bool = nat_lt (g.S.Source.ends c.args.source.now) (g.S.Source.ends c.run.new.source) in (
       within c.args.limits S c.in-Ok.least.subsets c.in-Ok.least.automaton l,

@@ -14,7 +14,7 @@ use Rattle.lexkit.proofs.scan.scan_made.Goals as goal
 pub returns-in-Err-run-clause-told : goal.returns-in-Err-run-clause-told
 returns-in-Err-run-clause-told g c options text (S, spells, automaton, subsets, made) =
     let M : Machine = machine_of automaton S in
-    let same : table_machine c.in-Ok.laid.tables.now ≡ M = c.in-Ok.ensures.machine ∙ made.machine in
+    let same : table_machine c.in-Ok.laid.tables ≡ M = c.in-Ok.ensures.machine ∙ made.machine in
     let h = c.in-Err-run.ensures.ran in
     let b : Bool = nat_lt (g.S.Source.ends c.args.source.now) (g.S.Source.ends c.run.new.source) in (
       S,
@@ -34,7 +34,7 @@ returns-in-Err-run-clause-told g c options text (S, spells, automaton, subsets, 
 pub returns-clause-told : goal.returns-clause-told
 returns-clause-told g c options text (S, spells, automaton, subsets, made) =
     let M : Machine = machine_of automaton S in
-    let same : table_machine c.in-Ok.laid.tables.now ≡ M = c.in-Ok.ensures.machine ∙ made.machine in
+    let same : table_machine c.in-Ok.laid.tables ≡ M = c.in-Ok.ensures.machine ∙ made.machine in
     let h = c.in-Ok-run.ensures.ran in
     let b : Bool = nat_lt (g.S.Source.ends c.args.source.now) (g.S.Source.ends c.run.new.source) in (
       S,

@@ -9,7 +9,7 @@ use Rattle.lextab_packed.proofs.flat.Flat.gist_at.Goals as goal
 
 pub returns-else-target-lt-STOP_OTHER : goal.returns-else-target-lt-STOP_OTHER
 returns-else-target-lt-STOP_OTHER c = λ s lt m.
-    let t = c.args.self.now.tables.now in
+    let t = c.args.self.now.tables in
     let M : Machine = machine_of t in
     let at = marks_other M s c.args.target (omega (arith, lt, few_states t)) (kind_of M s) m (omega (arith, c.if-target-lt-STOP_OTHER.false)) in
     let kinds = c.args.self.now.kinds.items in
@@ -17,18 +17,18 @@ returns-else-target-lt-STOP_OTHER c = λ s lt m.
 
 pub returns-then-target-lt-STOP_SILENT : goal.returns-then-target-lt-STOP_SILENT
 returns-then-target-lt-STOP_SILENT c = λ s lt m.
-    let t = c.args.self.now.tables.now in
+    let t = c.args.self.now.tables in
     let M : Machine = machine_of t in
     marks_none M s c.args.target (omega (arith, lt, few_states t)) (kind_of M s) refl m (omega (arith, c.if-target-lt-STOP_SILENT.true))
 
 pub returns-then-target-lt-STOP_ECHO : goal.returns-then-target-lt-STOP_ECHO
 returns-then-target-lt-STOP_ECHO c = λ s lt m.
-    let t = c.args.self.now.tables.now in
+    let t = c.args.self.now.tables in
     let M : Machine = machine_of t in
     marks_silent M s c.args.target (omega (arith, lt, few_states t)) (kind_of M s) refl m (omega (arith, c.if-target-lt-STOP_SILENT.false)) (omega (arith, c.if-target-lt-STOP_ECHO.true))
 
 pub returns-then-target-lt-STOP_OTHER : goal.returns-then-target-lt-STOP_OTHER
 returns-then-target-lt-STOP_OTHER c = λ s lt m.
-    let t = c.args.self.now.tables.now in
+    let t = c.args.self.now.tables in
     let M : Machine = machine_of t in
     marks_echo M s c.args.target (omega (arith, lt, few_states t)) (kind_of M s) refl m (omega (arith, c.if-target-lt-STOP_ECHO.false)) (omega (arith, c.if-target-lt-STOP_OTHER.true))

@@ -14,13 +14,13 @@ unmarked false k t r x e low goes stops = stops k t low e
 
 pub returns-clause-state : goal.returns-clause-state
 returns-clause-state c =
-    let t = c.args.self.now.tables.now in
+    let t = c.args.self.now.tables in
     let next : ℕ = step_of (table_of t.parts) c.args.state c.args.byte in
     let below = t.below.next c.args.state c.args.byte c.requires (omega arith) in
-    unmarked (flag c.args.self.now.goes_on.now next) (kind_of (machine_of t) next) next c.state_of.result c.target.result (c.target.ensures c.args.state refl c.requires) (omega (arith, below, few_states t)) c.state_of.ensures.goes c.state_of.ensures.stops
+    unmarked (flag c.args.self.now.tables.goes_on.items next) (kind_of (machine_of t) next) next c.state_of.result c.target.result (c.target.ensures c.args.state refl c.requires) (omega (arith, below, few_states t)) c.state_of.ensures.goes c.state_of.ensures.stops
 
 pub returns-clause-known : goal.returns-clause-known
 returns-clause-known c =
-    let t = c.args.self.now.tables.now in
+    let t = c.args.self.now.tables in
     let below = t.below.next c.args.state c.args.byte c.requires (omega arith) in
     omega (arith, returns-clause-state c, below)

@@ -13,14 +13,14 @@ use Rattle.lextab_packed.proofs.flat.FlatMachine.way.Goals as goal
 
 pub returns-then-next-ge-STOP-clause-way : goal.returns-then-next-ge-STOP-clause-way
 returns-then-next-ge-STOP-clause-way c =
-    let t : Tables = c.args.self.now.tables.now in
+    let t : Tables = c.args.self.now.tables in
     let M : Machine = machine_of t in
     let lt : c.bytes.count < length c.args.bytes.now = omega (arith, c.bytes-test.true) in
     let small : get_or c.args.bytes.now c.bytes.count 0 < 256 = let f = c.type_inv.bytes c.bytes.count in omega (arith, f) in
     let next : ℕ = step_of (table_of t.parts) (walk M c.args.first (take c.bytes.count c.args.bytes.now)) (get_or c.args.bytes.now c.bytes.count 0) in
     let below = Mark.next_below t c.args.first c.bytes.count c.args.bytes.now lt small c.bytes.invariant.known in
     let is = Mark.next_is t c.args.first c.bytes.count c.args.bytes.now lt small c.bytes.invariant.known in
-    let r : c.target-next.result ≡ marked (flag t.goes_on.items next) (kind_of (machine_of t) next) next = subst (λ fs. c.target-next.result ≡ marked (flag fs next) (kind_of (machine_of t) next) next) c.args.self.now.flags (c.target-next.ensures (walk M c.args.first (take c.bytes.count c.args.bytes.now)) c.bytes.invariant.place_is c.bytes.invariant.known) in
+    let r : c.target-next.result ≡ marked (flag t.goes_on.items next) (kind_of (machine_of t) next) next = c.target-next.ensures (walk M c.args.first (take c.bytes.count c.args.bytes.now)) c.bytes.invariant.place_is c.bytes.invariant.known in
     let k = Mark.stopped (flag t.goes_on.items next) (kind_of M next) next c.target-next.result r (omega (arith, below, Mark.few_states t)) (omega (arith, c.if-next-ge-STOP.true)) in
     let state = c.state_of.ensures.stops (kind_of M next) next (omega (arith, below, Mark.few_states t)) k.1 in
     record {
@@ -36,37 +36,37 @@ returns-then-next-ge-STOP-clause-way c =
 
 pub returns-then-next-ge-STOP-clause-known : goal.returns-then-next-ge-STOP-clause-known
 returns-then-next-ge-STOP-clause-known c =
-    let t : Tables = c.args.self.now.tables.now in
+    let t : Tables = c.args.self.now.tables in
     let M : Machine = machine_of t in
     let lt : c.bytes.count < length c.args.bytes.now = omega (arith, c.bytes-test.true) in
     let small : get_or c.args.bytes.now c.bytes.count 0 < 256 = let f = c.type_inv.bytes c.bytes.count in omega (arith, f) in
     let next : ℕ = step_of (table_of t.parts) (walk M c.args.first (take c.bytes.count c.args.bytes.now)) (get_or c.args.bytes.now c.bytes.count 0) in
     let below = Mark.next_below t c.args.first c.bytes.count c.args.bytes.now lt small c.bytes.invariant.known in
-    let r : c.target-next.result ≡ marked (flag t.goes_on.items next) (kind_of (machine_of t) next) next = subst (λ fs. c.target-next.result ≡ marked (flag fs next) (kind_of (machine_of t) next) next) c.args.self.now.flags (c.target-next.ensures (walk M c.args.first (take c.bytes.count c.args.bytes.now)) c.bytes.invariant.place_is c.bytes.invariant.known) in
+    let r : c.target-next.result ≡ marked (flag t.goes_on.items next) (kind_of (machine_of t) next) next = c.target-next.ensures (walk M c.args.first (take c.bytes.count c.args.bytes.now)) c.bytes.invariant.place_is c.bytes.invariant.known in
     let k = Mark.stopped (flag t.goes_on.items next) (kind_of M next) next c.target-next.result r (omega (arith, below, Mark.few_states t)) (omega (arith, c.if-next-ge-STOP.true)) in
     let state = c.state_of.ensures.stops (kind_of M next) next (omega (arith, below, Mark.few_states t)) k.1 in
     omega (arith, state, below)
 
 pub gist_at-requires : goal.gist_at-requires
 gist_at-requires c =
-    let t : Tables = c.args.self.now.tables.now in
+    let t : Tables = c.args.self.now.tables in
     let M : Machine = machine_of t in
     let lt : c.bytes.count < length c.args.bytes.now = omega (arith, c.bytes-test.true) in
     let small : get_or c.args.bytes.now c.bytes.count 0 < 256 = let f = c.type_inv.bytes c.bytes.count in omega (arith, f) in
     let next : ℕ = step_of (table_of t.parts) (walk M c.args.first (take c.bytes.count c.args.bytes.now)) (get_or c.args.bytes.now c.bytes.count 0) in
     let below = Mark.next_below t c.args.first c.bytes.count c.args.bytes.now lt small c.bytes.invariant.known in
-    let r : c.target-next.result ≡ marked (flag t.goes_on.items next) (kind_of (machine_of t) next) next = subst (λ fs. c.target-next.result ≡ marked (flag fs next) (kind_of (machine_of t) next) next) c.args.self.now.flags (c.target-next.ensures (walk M c.args.first (take c.bytes.count c.args.bytes.now)) c.bytes.invariant.place_is c.bytes.invariant.known) in
+    let r : c.target-next.result ≡ marked (flag t.goes_on.items next) (kind_of (machine_of t) next) next = c.target-next.ensures (walk M c.args.first (take c.bytes.count c.args.bytes.now)) c.bytes.invariant.place_is c.bytes.invariant.known in
     let k = Mark.stopped (flag t.goes_on.items next) (kind_of M next) next c.target-next.result r (omega (arith, below, Mark.few_states t)) (omega (arith, c.if-next-ge-STOP.true)) in
     (next, below, k.1)
 
 pub run-init : goal.run-init
 run-init c =
-    let t : Tables = c.args.self.now.tables.now in
+    let t : Tables = c.args.self.now.tables in
     let M : Machine = machine_of t in
     let lt : c.bytes.count < length c.args.bytes.now = omega (arith, c.bytes-test.true) in
     let small : get_or c.args.bytes.now c.bytes.count 0 < 256 = let f = c.type_inv.bytes c.bytes.count in omega (arith, f) in
     let next : ℕ = step_of (table_of t.parts) (walk M c.args.first (take c.bytes.count c.args.bytes.now)) (get_or c.args.bytes.now c.bytes.count 0) in
-    let r : c.target-next.result ≡ marked (flag t.goes_on.items next) (kind_of (machine_of t) next) next = subst (λ fs. c.target-next.result ≡ marked (flag fs next) (kind_of (machine_of t) next) next) c.args.self.now.flags (c.target-next.ensures (walk M c.args.first (take c.bytes.count c.args.bytes.now)) c.bytes.invariant.place_is c.bytes.invariant.known) in
+    let r : c.target-next.result ≡ marked (flag t.goes_on.items next) (kind_of (machine_of t) next) next = c.target-next.ensures (walk M c.args.first (take c.bytes.count c.args.bytes.now)) c.bytes.invariant.place_is c.bytes.invariant.known in
     let k = Mark.goes_further t c.args.first c.bytes.count c.args.bytes.now lt small c.bytes.invariant.known c.target-next.result r (omega (arith, c.if-next-ge-STOP.false)) c.bytes.invariant.asked in
     record {
       some = omega arith;
@@ -79,12 +79,12 @@ run-init c =
 
 pub run-preserved : goal.run-preserved
 run-preserved c =
-    let t : Tables = c.args.self.now.tables.now in
+    let t : Tables = c.args.self.now.tables in
     let M : Machine = machine_of t in
     let lt : c.run.count < length c.args.bytes.now = omega (arith, c.run-test.true) in
     let small : get_or c.args.bytes.now c.run.count 0 < 256 = let f = c.type_inv.bytes c.run.count in omega (arith, f) in
     let next : ℕ = step_of (table_of t.parts) (walk M c.args.first (take c.run.count c.args.bytes.now)) (get_or c.args.bytes.now c.run.count 0) in
-    let r : c.target.result ≡ marked (flag t.goes_on.items next) (kind_of (machine_of t) next) next = subst (λ fs. c.target.result ≡ marked (flag fs next) (kind_of (machine_of t) next) next) c.args.self.now.flags (c.target.ensures (walk M c.args.first (take c.run.count c.args.bytes.now)) c.run.invariant.place_is c.run.invariant.known) in
+    let r : c.target.result ≡ marked (flag t.goes_on.items next) (kind_of (machine_of t) next) next = c.target.ensures (walk M c.args.first (take c.run.count c.args.bytes.now)) c.run.invariant.place_is c.run.invariant.known in
     let low : c.target.result < 2147483648 = omega (arith, c.if-target-place.true, c.run.invariant.place_is, c.run.invariant.known, Mark.few_states t) in
     let k = Mark.goes_further t c.args.first c.run.count c.args.bytes.now lt small c.run.invariant.known c.target.result r low c.run.invariant.asked in
     record {
@@ -98,14 +98,14 @@ run-preserved c =
 
 pub bytes-preserved : goal.bytes-preserved
 bytes-preserved c =
-    let t : Tables = c.args.self.now.tables.now in
+    let t : Tables = c.args.self.now.tables in
     let M : Machine = machine_of t in
     let lt : c.bytes.count < length c.args.bytes.now = omega (arith, c.bytes-test.true) in
     let small : get_or c.args.bytes.now c.bytes.count 0 < 256 = let f = c.type_inv.bytes c.bytes.count in omega (arith, f) in
     let next : ℕ = step_of (table_of t.parts) (walk M c.args.first (take c.bytes.count c.args.bytes.now)) (get_or c.args.bytes.now c.bytes.count 0) in
-    let r : c.target-next.result ≡ marked (flag t.goes_on.items next) (kind_of (machine_of t) next) next = subst (λ fs. c.target-next.result ≡ marked (flag fs next) (kind_of (machine_of t) next) next) c.args.self.now.flags (c.target-next.ensures (walk M c.args.first (take c.bytes.count c.args.bytes.now)) c.bytes.invariant.place_is c.bytes.invariant.known) in
+    let r : c.target-next.result ≡ marked (flag t.goes_on.items next) (kind_of (machine_of t) next) next = c.target-next.ensures (walk M c.args.first (take c.bytes.count c.args.bytes.now)) c.bytes.invariant.place_is c.bytes.invariant.known in
     let k = Mark.goes_further t c.args.first c.bytes.count c.args.bytes.now lt small c.bytes.invariant.known c.target-next.result r (omega (arith, c.if-next-ge-STOP.false)) c.bytes.invariant.asked in
     record { inside = omega (arith, lt); place_is = k.0; known = k.1; asked = k.2 }
 
 pub overflow_mul-place : goal.overflow_mul-place
-overflow_mul-place c = omega (arith, c.requires, Mark.few_states c.args.self.now.tables.now)
+overflow_mul-place c = omega (arith, c.requires, Mark.few_states c.args.self.now.tables)

@@ -6,11 +6,11 @@ use Rattle.lextab_packed.proofs.flat.FlatMachine.way.Given as goal
 
 abbrev pub invariant-bytes : goal.invariant-bytes
 invariant-bytes l =
-    let M = machine_of l.self.tables.now in
+    let M = machine_of l.self.tables in
     record {
       inside : l.count ≤ length l.bytes;
       place_is : l.place ≡ 256 * walk M l.first (take l.count l.bytes);
-      known : walk M l.first (take l.count l.bytes) < states_of l.self.tables.now;
+      known : walk M l.first (take l.count l.bytes) < states_of l.self.tables;
       asked : Asked M l.first l.bytes l.count;
     }
 
@@ -19,13 +19,13 @@ decreases-bytes l = length l.bytes - l.count
 
 abbrev pub invariant-run : goal.invariant-run
 invariant-run l =
-    let M = machine_of l.self.tables.now in
+    let M = machine_of l.self.tables in
     record {
       some : 1 ≤ l.count;
       further : l.initial.count ≤ l.count;
       inside : l.count ≤ length l.bytes;
       place_is : l.place ≡ 256 * walk M l.first (take l.count l.bytes);
-      known : walk M l.first (take l.count l.bytes) < states_of l.self.tables.now;
+      known : walk M l.first (take l.count l.bytes) < states_of l.self.tables;
       asked : Asked M l.first l.bytes l.count;
     }
 
