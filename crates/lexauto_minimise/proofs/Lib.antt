@@ -21,3 +21,4 @@ pub mod Assembled
 pub mod OneLeast
 pub mod Joined
 pub mod SameTable
+pub mod ComputedLeast

@@ -1,4 +1,5 @@
 pub mod Least
+pub mod LeastExamples
 pub mod Futures
 pub mod Splits
 pub mod Arranged

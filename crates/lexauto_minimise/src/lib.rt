@@ -16,5 +16,5 @@ mod sources;
 mod splitting;
 mod tables;
 
-pub use laws::one_automaton;
+pub use laws::{examples_of_least, one_automaton};
 pub use minimising::minimise;

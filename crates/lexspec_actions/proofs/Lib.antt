@@ -9,3 +9,4 @@ pub mod LegalLemmas
 pub mod ReadLemmas
 pub mod RangeLemmas
 pub mod NormalLemmas
+pub mod ComputedActions

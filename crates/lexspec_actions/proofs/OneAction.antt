@@ -1,5 +1,5 @@
 -- A text spells at most one list of statements.
-use Rattle.std.proofs.Common.{◌≡◌, ℕ, List, [], ◌∷◌, Option, Some, refl, sym, ap, ◌∙◌, subst}
+use Rattle.std.proofs.Common.{◌≡◌, ℕ, List, [], ◌∷◌, Some, refl, sym, ap, ◌∙◌, subst}
 use Rattle.lex_semantics.specs.Reading.{Reader, IsCut}
 use Rattle.lex_semantics.specs.Spec.{Statement}
 use Rattle.lexspec_actions.specs.Statements.{normal}

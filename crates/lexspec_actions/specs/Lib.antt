@@ -1,4 +1,5 @@
 pub mod Actions
+pub mod ActionExamples
 pub mod ActionFaults
 pub mod Bytes
 pub mod Calls

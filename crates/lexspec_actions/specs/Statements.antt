@@ -1,5 +1,5 @@
 -- Actions in normal form: no literal is empty, and no two are neighbours. (This project's.)
-use Rattle.std.specs.Prelude.{ℕ, List, [], ◌∷◌, ◌++◌, length}
+use Rattle.std.specs.Prelude.{ℕ, List, [], ◌∷◌, ◌++◌}
 use Rattle.lex_semantics.specs.Spec.{Statement, Print}
 pub use Rattle.lex_machine.specs.Literals.{literal_bytes}
 

@@ -4,6 +4,7 @@ ghost use Rattle.lex_semantics.specs.Spec.{EndAction, Statement};
 ghost use Rattle.lex_semantics.specs.Legal.{IsLegal};
 ghost use Rattle.lexspec_actions.specs.Names.{Known, known_in};
 ghost use Rattle.lexspec_actions.specs.Actions.{SpellsAction, SpellsEndAction};
+ghost use Rattle.lexspec_actions.specs.ActionExamples.{EachStatement, SeveralStatements, NoActions, EndActions};
 ghost use Rattle.lex_semantics.specs.Limits.{max_status};
 
 /// A text spells at most one action, whatever numbers the conditions have.
@@ -28,4 +29,12 @@ pub fn legal_actions()
 pub fn end_statuses()
     ensures { (names : List (List ℕ)) (stack : Bool) (text : List ℕ) (e : EndAction) → 1 ≤ length names
         → SpellsEndAction (known_in names stack) text e → e.status ≤ max_status }
+{}
+
+/// Worked examples of actions: what each statement spells, several of them, texts that are no action, and an end action.
+pub fn examples_of_actions()
+    ensures each { EachStatement }
+    ensures several { SeveralStatements }
+    ensures none { NoActions }
+    ensures ends { EndActions }
 {}

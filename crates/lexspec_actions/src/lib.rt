@@ -12,5 +12,5 @@ mod statement;
 
 pub use action::{read_action, read_end_action};
 pub use condition::{Condition, number_of};
-pub use laws::{end_statuses, legal_actions, one_action, one_end_action};
+pub use laws::{end_statuses, examples_of_actions, legal_actions, one_action, one_end_action};
 pub use lex_machine::{EndAction, Statement};
