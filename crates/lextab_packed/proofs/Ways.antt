@@ -1,7 +1,6 @@
 -- Walks over bytes, one more at a time.
-use Rattle.std.proofs.Common.{◌≡◌, ℕ, suc, ◌+◌, ◌-◌, ◌≤◌, ◌<◌, true, List, [], ◌∷◌, length, take, drop, get_or, inl, inr, Some, None, sym, ap, subst, ◌∙◌, arith}
+use Rattle.std.proofs.Common.{◌≡◌, ℕ, suc, ◌+◌, ◌≤◌, ◌<◌, true, List, [], ◌∷◌, length, take, get_or, inl, inr, Some, None, ap, subst, ◌∙◌, arith}
 use Rattle.std.proofs.Math.Seq.{take-suc}
-use Rattle.std.proofs.lemmas.List.{take_all, length-drop, get_or-drop, drop_more}
 use Rattle.std.proofs.lemmas.Bool.{cases_lt}
 use Rattle.std.specs.Prelude.{slice_get}
 use Rattle.lex_semantics.specs.Text.{Among}
@@ -31,26 +30,3 @@ among_first [] x e = absurd (no e)
     no : Some x ≡ None → ⊥
     no p = cc
 among_first (y ∷ l) x e = inl (some_inj x y e)
-
--- the first of the bytes that are left, and those after it
-module _ (bytes rest : List ℕ) (inside : length rest ≤ length bytes) (is : rest ≡ drop (length bytes - length rest) bytes) (some : 1 ≤ length rest) where
-  abbrev pub gone : ℕ
-  gone = length bytes - length rest
-
-  abbrev pub others : List ℕ
-  others = take (length rest - 1) (drop 1 rest)
-
-  others_follow : others ≡ drop 1 rest
-  others_follow = take_all (length rest - 1) (drop 1 rest) (omega (arith, length-drop 1 rest))
-
-  pub others_length : length others ≡ length rest - 1
-  others_length = ap (λ l. length l) others_follow ∙ length-drop 1 rest
-
-  pub one_more : length bytes - length others ≡ gone + 1
-  one_more = omega (arith, others_length, inside, some)
-
-  pub first_is : get_or rest 0 0 ≡ get_or bytes gone 0
-  first_is = ap (λ l. get_or l 0 0) is ∙ get_or-drop gone bytes 0 0 ∙ (let e : gone + 0 ≡ gone = omega arith in ap (λ k. get_or bytes k 0) e)
-
-  pub others_are : others ≡ drop (length bytes - length others) bytes
-  others_are = others_follow ∙ ap (λ l. drop 1 l) (is ∙ drop_more bytes gone 0 (omega (arith, inside, some))) ∙ sym (ap (λ k. drop k bytes) one_more)

@@ -136,21 +136,21 @@ impl Machine for Flat {
     #[inline(always)]
     fn way(&self, first: u32, bytes: &[u8]) -> Option<Way<'_>> {
         let mut place = 256 * first;
-        let mut rest = bytes;
-        'bytes: while !rest.is_empty() {
-            let next = self.target(place, rest[0]);
-            rest = &rest[1..];
+        let mut count = 0usize;
+        'bytes: while count < bytes.len() {
+            let next = self.target(place, bytes[count]);
+            count += 1;
             if STOP <= next {
                 return Some(Way {
-                    count: bytes.len() - rest.len(),
+                    count,
                     state: state_of(next),
                     before: place / 256,
                     gist: self.gist_at(next),
                 });
             }
             if next == place {
-                'run: while !rest.is_empty() && self.target(place, rest[0]) == place {
-                    rest = &rest[1..];
+                'run: while count < bytes.len() && self.target(place, bytes[count]) == place {
+                    count += 1;
                 }
             }
             place = next;
