@@ -1,3 +1,4 @@
 pub mod Machinery
 pub mod Leads
 pub mod Fitting
+pub mod Below

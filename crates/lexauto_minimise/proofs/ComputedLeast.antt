@@ -1,9 +1,10 @@
 -- The worked examples of least automata, computed.
-use Rattle.std.proofs.Common.{◌≡◌, ℕ, zero, suc, ◌-◌, ◌<◌, Bool, true, false, ◌&&◌, List, [], ◌∷◌, ◌++◌, length, inl, inr, refl, sym, ap, subst, ◌∙◌, arith}
+use Rattle.std.proofs.Common.{◌≡◌, ℕ, zero, suc, ◌-◌, ◌<◌, Bool, true, false, List, [], ◌∷◌, ◌++◌, length, inl, inr, refl, sym, ap, subst, ◌∙◌, arith}
 use Rattle.std.specs.Prelude.{◌==◌, nat_le, slice_index, slice_index_or, if◌then◌else◌, ◌≢◌}
-use Rattle.std.proofs.lemmas.Bool.{leb-true, eqb-true, cond-true, cond-false, cases_Bool, cases_eq, and_parts}
+use Rattle.std.proofs.lemmas.Bool.{leb-true, eqb-true, cond-true, cond-false, cases_Bool}
 use Rattle.lex_semantics.specs.Text.{IsText}
 use Rattle.lexauto_dfa.specs.Machines.{moving}
+use Rattle.lexauto_dfa.proofs.Below.{holds}
 use Rattle.lexauto_dfa.specs.Parts.{states, next, after, accepts, IsReached}
 use Rattle.lexauto_dfa.specs.declared.dfa.Parts.{Parts}
 use Rattle.lexauto_minimise.specs.Least.{AreToldApart, InOrder, by_turns, calls}
@@ -80,18 +81,6 @@ least_of_a p is = (record { reached = reached p is; apart = apart p is }, subst 
   where
     called : calls p ≡ 1 ∷ 1 ∷ table
     called = ap (λ xs. by_turns xs p.line_starts.items ++ p.next.items) is.starts ∙ ap (λ ys. by_turns (1 ∷ []) ys ++ p.next.items) is.line_starts ∙ ap (λ n. 1 ∷ 1 ∷ n) is.next
-
--- whether the test holds of each number below n
-abbrev holds_below : ℕ → (ℕ → Bool) → Bool
-holds_below zero test = true
-holds_below (suc n) test = test n && holds_below n test
-
-holds : (n : ℕ) (test : ℕ → Bool) → holds_below n test ≡ true → (k : ℕ) → k < n → test k ≡ true
-holds zero test all k lt = absurd (omega (arith, lt))
-holds (suc n) test all k lt = elim (cases_eq k n) [
-  | inl e ↦ ap test e ∙ (and_parts _ _ all).0
-  | inr other ↦ holds n test (and_parts _ _ all).1 k (omega (arith, lt, other))
-]
 
 module _ (p : Parts) (is : IsOfATwice p) where
   abbrev twice : List ℕ

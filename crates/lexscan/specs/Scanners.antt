@@ -3,7 +3,9 @@ use Rattle.lex_machine.specs.declared.machine.Machine as Machine
 use Rattle.lex_io.specs.declared.source.Source as Source
 use Rattle.lex_io.specs.declared.sink.Sink as Sink
 use Rattle.lexscan.specs.declared.scanner.Scanner.{Scanner}
+use Rattle.lexscan.specs.declared.push.PushScanner.{PushScanner}
 use Rattle.lexscan.specs.declared.state.State.{State}
+use Rattle.std.specs.Prelude.{ℕ, List}
 
 module _ {M S K : Type 0} {of_machine : Machine.Ghosts M} {of_source : Source.Ghosts S} {of_sink : Sink.Ghosts K} where
   -- the machine that it goes by
@@ -21,3 +23,16 @@ module _ {M S K : Type 0} {of_machine : Machine.Ghosts M} {of_source : Source.Gh
   -- what it keeps beside these
   abbrev pub scanner_state : Scanner M S K of_machine of_source of_sink → State
   scanner_state s = s.state
+
+module _ {M : Type 0} {of_machine : Machine.Ghosts M} where
+  -- of a scanner that is fed pieces: the machine that it goes by
+  abbrev pub push_machine : PushScanner M of_machine → M
+  push_machine s = s.machine
+
+  -- the bytes that were fed and that no turn has asked for
+  abbrev pub push_waiting : PushScanner M of_machine → List ℕ
+  push_waiting s = s.waiting.items
+
+  -- what it keeps beside these
+  abbrev pub push_state : PushScanner M of_machine → State
+  push_state s = s.state

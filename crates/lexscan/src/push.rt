@@ -164,11 +164,13 @@ pub struct PushScanner<M: Machine> {
 }
 
 impl<M: Machine> PushScanner<M> {
+    ghost use Rattle.lexscan.specs.Scanners.{push_machine, push_state, push_waiting};
+
     /// A scanner that was fed nothing.
     pub fn new(alloc: Global, machine: M) -> PushScanner<M>
-        ensures machine { result.machine ≡ machine }
-        ensures going { result.state.ended ≡ None }
-        ensures fed { Fed (M.machine machine) [] [] result.state result.waiting.items }
+        ensures machine { push_machine result ≡ machine }
+        ensures going { (push_state result).ended ≡ None }
+        ensures fed { Fed (M.machine machine) [] [] (push_state result) (push_waiting result) }
     {
         PushScanner {
             machine,
@@ -184,25 +186,28 @@ impl<M: Machine> PushScanner<M> {
     /// Where the piece is refused before a turn, for memory or for too many bytes, nothing has changed.
     pub fn feed<K: Sink>(&mut self, piece: &[u8], sink: &mut K) -> Result<Turn, RunError>
         requires few_writes { K.failures sink.old < 2 ^ 64 - 1 }
-        ensures machine { self.new.machine ≡ self.old.machine }
+        ensures machine { push_machine self.new ≡ push_machine self.old }
         ensures fed { (put : List ℕ) × K.wrote sink.old put sink.new
-            × ((fed out : List ℕ) → Fed (M.machine self.old.machine) fed out self.old.state self.old.waiting.items →
-            AfterFeed (M.machine self.old.machine) (fed ++ piece.now) (out ++ put) self.new.state
-            self.new.waiting.items result) }
+            × ((fed out : List ℕ)
+            → Fed (M.machine (push_machine self.old)) fed out (push_state self.old) (push_waiting self.old) →
+            AfterFeed (M.machine (push_machine self.old)) (fed ++ piece.now) (out ++ put) (push_state self.new)
+            (push_waiting self.new) result) }
 
         ensures write_faults { K.failures sink.new ≡ K.failures sink.old + write_fault_count result }
         ensures not_read { IsErrOf result RunError.Read → ⊥ }
-        ensures handed_on { self.old.state.failed ≡ false → self.old.state.ended ≡ None
+        ensures handed_on { (push_state self.old).failed ≡ false → (push_state self.old).ended ≡ None
             → HandedOn (K.flushed sink.new) result }
         ensures too_many { IsErrOf result RunError.TooManyReads →
-            2 ^ 64 - 1 ≤ self.old.state.reading.taken + length self.old.waiting.items + length piece.now }
-        ensures kept { self.new.state.failed ≡ false → OnErr result ((self.new.state ≡ self.old.state)
-            × (self.new.waiting.items ≡ self.old.waiting.items)) }
-        ensures refused { IsErrOf result RunError.Failed → self.old.state.failed ≡ true }
-        ensures after_refusal { self.old.state.failed ≡ true → (result ≡ Err RunError.Failed)
+            2 ^ 64 - 1 ≤ (push_state self.old).reading.taken + length (push_waiting self.old) + length piece.now }
+        ensures kept { (push_state self.new).failed ≡ false
+            → OnErr result ((push_state self.new ≡ push_state self.old)
+            × (push_waiting self.new ≡ push_waiting self.old)) }
+        ensures refused { IsErrOf result RunError.Failed → (push_state self.old).failed ≡ true }
+        ensures after_refusal { (push_state self.old).failed ≡ true → (result ≡ Err RunError.Failed)
             × (sink.new ≡ sink.old) × (self.new ≡ self.old) }
-        ensures after_end { (status : ℕ) → self.old.state.failed ≡ false → self.old.state.ended ≡ Some status →
-            (result ≡ Ok (Turn.Ended status)) × (sink.new ≡ sink.old) × (self.new ≡ self.old) }
+        ensures after_end { (status : ℕ) → (push_state self.old).failed ≡ false
+            → (push_state self.old).ended ≡ Some status
+            → (result ≡ Ok (Turn.Ended status)) × (sink.new ≡ sink.old) × (self.new ≡ self.old) }
     {
         if self.state.failed {
             return Err(RunError::Failed);
@@ -238,23 +243,25 @@ impl<M: Machine> PushScanner<M> {
     /// Scans to the end of what was fed.
     pub fn finish<K: Sink>(&mut self, sink: &mut K) -> Result<u8, RunError>
         requires few_writes { K.failures sink.old < 2 ^ 64 - 1 }
-        ensures machine { self.new.machine ≡ self.old.machine }
+        ensures machine { push_machine self.new ≡ push_machine self.old }
         ensures finished { (put : List ℕ) × K.wrote sink.old put sink.new
-            × ((fed out : List ℕ) → Fed (M.machine self.old.machine) fed out self.old.state self.old.waiting.items →
-            AfterFinish (rules_of_machine (M.machine self.old.machine)) fed (out ++ put) result) }
+            × ((fed out : List ℕ)
+            → Fed (M.machine (push_machine self.old)) fed out (push_state self.old) (push_waiting self.old) →
+            AfterFinish (rules_of_machine (M.machine (push_machine self.old))) fed (out ++ put) result) }
 
         ensures write_faults { K.failures sink.new ≡ K.failures sink.old + write_fault_count result }
         ensures not_read { IsErrOf result RunError.Read → ⊥ }
-        ensures handed_on { self.old.state.failed ≡ false → self.old.state.ended ≡ None
+        ensures handed_on { (push_state self.old).failed ≡ false → (push_state self.old).ended ≡ None
             → RunHandedOn (K.flushed sink.new) result }
         ensures too_many { IsErrOf result RunError.TooManyReads →
-            2 ^ 64 - 1 ≤ self.old.state.reading.taken + length self.old.waiting.items }
-        ensures refused { IsErrOf result RunError.Failed → self.old.state.failed ≡ true }
-        ensures after_refusal { self.old.state.failed ≡ true → (result ≡ Err RunError.Failed)
+            2 ^ 64 - 1 ≤ (push_state self.old).reading.taken + length (push_waiting self.old) }
+        ensures refused { IsErrOf result RunError.Failed → (push_state self.old).failed ≡ true }
+        ensures after_refusal { (push_state self.old).failed ≡ true → (result ≡ Err RunError.Failed)
             × (sink.new ≡ sink.old) × (self.new ≡ self.old) }
-        ensures ended { (status : ℕ) → result ≡ Ok status → self.new.state.ended ≡ Some status }
-        ensures after_end { (status : ℕ) → self.old.state.failed ≡ false → self.old.state.ended ≡ Some status →
-            (result ≡ Ok status) × (sink.new ≡ sink.old) × (self.new ≡ self.old) }
+        ensures ended { (status : ℕ) → result ≡ Ok status → (push_state self.new).ended ≡ Some status }
+        ensures after_end { (status : ℕ) → (push_state self.old).failed ≡ false
+            → (push_state self.old).ended ≡ Some status
+            → (result ≡ Ok status) × (sink.new ≡ sink.old) × (self.new ≡ self.old) }
     {
         if self.state.failed {
             return Err(RunError::Failed);

@@ -15,3 +15,4 @@ pub mod Columns
 pub mod Actions
 pub mod Lawful
 pub mod Firsts
+pub mod ComputedPacking

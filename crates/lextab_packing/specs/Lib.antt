@@ -2,6 +2,7 @@ pub mod Plain
 pub mod Below
 pub mod Classes
 pub mod Packing
+pub mod PackingExamples
 pub mod Searching
 pub mod Views
 pub mod Assembled

@@ -4,6 +4,7 @@ ghost use Rattle.lextab_packed.specs.Table.{Table};
 ghost use Rattle.lextab_packed.specs.Steps.{step_of};
 ghost use Rattle.lextab_packing.specs.Tables.{packing_in};
 ghost use Rattle.lextab_packing.specs.Packing.{Packing, IsPacked, packed_step, HasRanges};
+ghost use Rattle.lextab_packing.specs.PackingExamples.{TwiceA};
 
 /// An automaton has at most one packing.
 pub fn one_packing()
@@ -31,4 +32,9 @@ pub fn packing_of_same_moves()
 /// A table goes as what it has of a packing does.
 pub fn tables_step_as_packed()
     ensures { (t : Table) (s b : ℕ) → s < length t.rows → b < 256 → step_of t s b ≡ packed_step (packing_in t) s b }
+{}
+
+/// A worked example: the packing of an automaton of four states, of which two have an entry each.
+pub fn examples_of_packings()
+    ensures { TwiceA }
 {}

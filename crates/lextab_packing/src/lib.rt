@@ -14,7 +14,8 @@ mod slots;
 mod tables;
 
 pub use laws::{
-    one_packing, packed_step_is, packing_has_ranges, packing_of_same_moves, tables_step_as_packed,
+    examples_of_packings, one_packing, packed_step_is, packing_has_ranges, packing_of_same_moves,
+    tables_step_as_packed,
 };
 pub use plain::Plain;
 pub use tables::pack;
