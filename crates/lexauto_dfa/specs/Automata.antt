@@ -7,6 +7,10 @@ use Rattle.lexauto_dfa.specs.Parts.{conditions, states, start, next, accepts, go
 use Rattle.lexauto_dfa.specs.declared.dfa.Dfa.{Dfa}
 use Rattle.lexauto_dfa.specs.declared.dfa.Parts.{Parts}
 
+-- the lists of which it is made
+abbrev pub lists_of : Dfa → Parts
+lists_of d = d.parts
+
 abbrev pub conditions_of : Dfa → ℕ
 conditions_of d = conditions d.parts
 
