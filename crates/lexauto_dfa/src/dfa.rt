@@ -22,7 +22,7 @@ pub struct Parts {
 #[derive(Drop)]
 pub struct Dfa {
     pub(crate) parts: Parts,
-    ghost lawful: { Rattle.lexauto_dfa.specs.Invariant.IsAutomaton parts } by { Rattle.lexauto_dfa.specs.Invariant.IsAutomaton-prop parts },
+    ghost lawful: { IsAutomaton parts } by { IsAutomaton-prop parts },
 }
 
 impl Dfa {

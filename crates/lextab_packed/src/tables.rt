@@ -16,8 +16,10 @@ pub struct Tables {
     pub(crate) rejects: bool,
     ghost lawful: { IsTable (table_of parts) } by { IsTable-prop (table_of parts) },
     ghost leading: { GoesOn (table_of parts) goes_on.items } by { GoesOn-prop (table_of parts) goes_on.items },
-    ghost laws: { MachineLaws (machine_in parts goes_on.items) } by { MachineLaws-prop (machine_in parts goes_on.items) },
-    ghost below: { StaysBelow (machine_in parts goes_on.items) (length parts.rows.items) } by { StaysBelow-prop (machine_in parts goes_on.items) (length parts.rows.items) },
+    ghost laws: { MachineLaws (machine_in parts goes_on.items) } by { MachineLaws-prop
+        (machine_in parts goes_on.items) },
+    ghost below: { StaysBelow (machine_in parts goes_on.items) (length parts.rows.items) } by { StaysBelow-prop
+        (machine_in parts goes_on.items) (length parts.rows.items) },
     ghost rejecting: { rejects ≡ any_reject (map rule_of parts.rules.items) },
 }
 
