@@ -108,8 +108,7 @@ pub fn scan_made<S: Source, K: Sink>(
     requires few_ends { S.ends source.old < 2 ^ 64 - 1 }
     requires few_read_faults { S.failures source.old < 2 ^ 64 - 1 }
     requires few_write_faults { K.failures sink.old < 2 ^ 64 - 1 }
-    ensures told { (options : Asked) (text : List ℕ) → HasTables options text tables.now
-        → Headline S.gave K.wrote options text
+    ensures told { (options : Asked) (text : List ℕ) → HasTables options text tables.now → Headline S.gave K.wrote options text
         (nat_lt (S.ends source.old) (S.ends source.new)) source.old source.new sink.old sink.new result }
     ensures read_faults { S.failures source.new ≡ S.failures source.old + read_fault_count result }
     ensures write_faults { K.failures sink.new ≡ K.failures sink.old + write_fault_count result }
