@@ -18,6 +18,10 @@ flush_fails sink = sink.flush_fails
 abbrev pub is_flushed : MemorySink → Bool
 is_flushed sink = sink.flushed
 
+-- how often it failed
+abbrev pub failures_of : MemorySink → ℕ
+failures_of sink = sink.failures
+
 -- how many of n bytes the room takes
 abbrev pub fitting : Option ℕ → ℕ → ℕ
 fitting None n = n

@@ -12,6 +12,13 @@ rest_of source = source.rest.now
 abbrev pub call_count : MemorySource → ℕ
 call_count source = source.calls
 
+-- how often it answered the end, and failed
+abbrev pub ends_of : MemorySource → ℕ
+ends_of source = source.ends
+
+abbrev pub failures_of : MemorySource → ℕ
+failures_of source = source.failures
+
 -- where it will pause, counted in calls
 abbrev pub pause_of : MemorySource → Option Pause
 pause_of source = source.pause

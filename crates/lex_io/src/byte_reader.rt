@@ -123,7 +123,7 @@ impl<R: Read> ByteReader<R> {
     #[inline(always)]
     pub fn skip(&mut self, count: usize)
         requires { count ≤ length (bytes_ahead self.old) }
-        ensures reader { self.new.reader ≡ self.old.reader }
+        ensures reader { reader_behind self.new ≡ reader_behind self.old }
         ensures ahead { bytes_ahead self.new ≡ drop count (bytes_ahead self.old) }
     {
         self.start += count;

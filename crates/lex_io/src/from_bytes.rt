@@ -37,15 +37,18 @@ impl<R: Read> FromBytes<R> {
 }
 
 impl<R: Read> Source for FromBytes<R> {
-    ghost gave = { λ s xs t. Gives (bytes_left R.remaining s.reader) (bytes_left R.remaining t.reader) s.ends t.ends xs };
+    ghost use Rattle.lex_io.specs.Adapters.{byte_reader_of, byte_reader_ends, byte_reader_failures};
 
-    ghost ends = { λ s. s.ends };
+    ghost gave = { λ s xs t. Gives (bytes_left R.remaining (byte_reader_of s))
+        (bytes_left R.remaining (byte_reader_of t)) (byte_reader_ends s) (byte_reader_ends t) xs };
 
-    ghost failures = { λ s. s.failures };
+    ghost ends = { λ s. byte_reader_ends s };
 
-    ghost ready = { λ s. bytes_ahead s.reader };
+    ghost failures = { λ s. byte_reader_failures s };
 
-    ghost waits = { λ s. is_none (bytes_ahead s.reader) };
+    ghost ready = { λ s. bytes_ahead (byte_reader_of s) };
+
+    ghost waits = { λ s. is_none (bytes_ahead (byte_reader_of s)) };
 
     #[inline(always)]
     fn next(&mut self) -> Result<Option<u8>, ReadFault> {
@@ -81,7 +84,8 @@ impl<R: Read> Source for FromBytes<R> {
 
     ghost gave_none = { λ s. Gives-nil (bytes_left R.remaining s.reader) s.ends };
 
-    ghost gave_more = { λ s t u xs ys p q. Gives-trans (bytes_left R.remaining s.reader) (bytes_left R.remaining t.reader) (bytes_left R.remaining u.reader) s.ends t.ends u.ends xs ys p q };
+    ghost gave_more = { λ s t u xs ys p q. Gives-trans (bytes_left R.remaining s.reader)
+        (bytes_left R.remaining t.reader) (bytes_left R.remaining u.reader) s.ends t.ends u.ends xs ys p q };
 
     ghost none_ready = { λ s. is_none-nil (bytes_ahead s.reader) };
 

@@ -118,19 +118,19 @@ impl MemorySink {
 }
 
 impl Sink for MemorySink {
-    ghost use Rattle.lex_io.specs.MemorySinks.{room_of, flush_fails, is_flushed, left};
+    ghost use Rattle.lex_io.specs.MemorySinks.{written_of, room_of, flush_fails, is_flushed, failures_of, left};
 
-    ghost wrote = { λ s xs t. Grows s.written.items t.written.items xs };
+    ghost wrote = { λ s xs t. Grows (written_of s) (written_of t) xs };
 
-    ghost failures = { λ s. s.failures };
+    ghost failures = { λ s. failures_of s };
 
-    ghost flushed = { λ s. s.flushed };
+    ghost flushed = { λ s. is_flushed s };
 
     /// Fails where the bytes pass the room that is left, or where memory runs out.
     fn put(&mut self, bytes: &[u8]) -> Result<(), WriteFault>
-        requires { self.old.failures < 2 ^ 64 - 1 }
-        ensures bytes { Appended (λ xs. Grows self.old.written.items self.new.written.items xs) bytes.now result }
-        ensures failures { self.new.failures ≡ self.old.failures + fault_count result }
+        requires { failures_of self.old < 2 ^ 64 - 1 }
+        ensures bytes { Appended (λ xs. Grows (written_of self.old) (written_of self.new) xs) bytes.now result }
+        ensures failures { failures_of self.new ≡ failures_of self.old + fault_count result }
         ensures full { OnOk result ((room : ℕ) → room_of self.old ≡ Some room → length bytes.now ≤ room) }
         ensures room { OnOk result (room_of self.new ≡ left (room_of self.old) (length bytes.now)) }
         ensures unflushed { is_flushed self.new ≡ false }
@@ -152,12 +152,12 @@ impl Sink for MemorySink {
 
     /// Fails exactly in the first flush, where the sink was made so.
     fn flush(&mut self) -> Result<(), WriteFault>
-        requires { self.old.failures < 2 ^ 64 - 1 }
-        ensures bytes { Grows self.old.written.items self.new.written.items [] }
-        ensures failures { self.new.failures ≡ self.old.failures + fault_count result }
+        requires { failures_of self.old < 2 ^ 64 - 1 }
+        ensures bytes { Grows (written_of self.old) (written_of self.new) [] }
+        ensures failures { failures_of self.new ≡ failures_of self.old + fault_count result }
         ensures fails { IsErr result ↔ flush_fails self.old ≡ true }
         ensures once { flush_fails self.new ≡ false }
-        ensures flushed { OnOk result (self.new.flushed ≡ true) }
+        ensures flushed { OnOk result (is_flushed self.new ≡ true) }
     {
         if !self.flush_fails {
             self.flushed = true;

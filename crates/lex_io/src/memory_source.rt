@@ -90,14 +90,15 @@ impl<'a> MemorySource<'a> {
 }
 
 impl Source for MemorySource<'_> {
-    ghost use Rattle.lex_io.specs.MemorySources.{rest_of, call_count, pause_of, nearer, nearer_by, shown_of, IsFault, IsEnd};
+    ghost use Rattle.lex_io.specs.MemorySources.{rest_of, ends_of, failures_of, call_count, pause_of};
+    ghost use Rattle.lex_io.specs.MemorySources.{nearer, nearer_by, shown_of, IsFault, IsEnd};
     ghost use Rattle.lex_io.specs.declared.memory_source.Pause.TheVariants.{Fault, End};
 
-    ghost gave = { λ s xs t. Takes s.rest.now t.rest.now xs };
+    ghost gave = { λ s xs t. Takes (rest_of s) (rest_of t) xs };
 
-    ghost ends = { λ s. s.ends };
+    ghost ends = { λ s. ends_of s };
 
-    ghost failures = { λ s. s.failures };
+    ghost failures = { λ s. failures_of s };
 
     ghost ready = { λ s. shown_of s };
 
@@ -106,11 +107,11 @@ impl Source for MemorySource<'_> {
     /// The next byte. It fails exactly where it pauses with a fault, and answers the end where it pauses with one or has
     /// no byte left.
     fn next(&mut self) -> Result<Option<u8>, ReadFault>
-        requires few_ends { self.old.ends < 2 ^ 64 - 1 }
-        requires few_failures { self.old.failures < 2 ^ 64 - 1 }
-        ensures byte { Takes self.old.rest.now self.new.rest.now (given result) }
-        ensures ends { self.new.ends ≡ self.old.ends + end_count result }
-        ensures failures { self.new.failures ≡ self.old.failures + fault_count result }
+        requires few_ends { ends_of self.old < 2 ^ 64 - 1 }
+        requires few_failures { failures_of self.old < 2 ^ 64 - 1 }
+        ensures byte { Takes (rest_of self.old) (rest_of self.new) (given result) }
+        ensures ends { ends_of self.new ≡ ends_of self.old + end_count result }
+        ensures failures { failures_of self.new ≡ failures_of self.old + fault_count result }
         ensures fault { IsFault result ↔ pause_of self.old ≡ Some (Fault 0) }
         ensures end { IsEnd result ↔ ((pause_of self.old ≡ Some (End 0)) ⊎ ((rest_of self.old ≡ [])
             × (pause_of self.old ≡ Some (Fault 0) → ⊥))) }
@@ -157,9 +158,9 @@ impl Source for MemorySource<'_> {
     /// Gives as many of these bytes. It counts as that many calls of `next`.
     fn give(&mut self, count: usize)
         requires { count ≤ length (shown_of self.old) }
-        ensures bytes { Takes self.old.rest.now self.new.rest.now (take count (shown_of self.old)) }
-        ensures ends { self.new.ends ≡ self.old.ends }
-        ensures failures { self.new.failures ≡ self.old.failures }
+        ensures bytes { Takes (rest_of self.old) (rest_of self.new) (take count (shown_of self.old)) }
+        ensures ends { ends_of self.new ≡ ends_of self.old }
+        ensures failures { failures_of self.new ≡ failures_of self.old }
         ensures pause { pause_of self.new ≡ nearer_by count (pause_of self.old) }
         ensures calls { call_count self.new ≡ min (call_count self.old + count) (2 ^ 64 - 1) }
     {

@@ -93,11 +93,13 @@ impl<W: Write> ToWrite<W> {
 }
 
 impl<W: Write> Sink for ToWrite<W> {
-    ghost wrote = { λ s xs t. Appends (W.contents s.writer) (W.contents t.writer) xs };
+    ghost use Rattle.lex_io.specs.Adapters.{writer_of, writer_failures, writer_flushed};
 
-    ghost failures = { λ s. s.failures };
+    ghost wrote = { λ s xs t. Appends (W.contents (writer_of s)) (W.contents (writer_of t)) xs };
 
-    ghost flushed = { λ s. s.flushed };
+    ghost failures = { λ s. writer_failures s };
+
+    ghost flushed = { λ s. writer_flushed s };
 
     #[inline]
     fn put(&mut self, bytes: &[u8]) -> Result<(), WriteFault> {
@@ -126,7 +128,8 @@ impl<W: Write> Sink for ToWrite<W> {
 
     ghost wrote_none = { λ s. Appends-nil (W.contents s.writer) };
 
-    ghost wrote_more = { λ s t u xs ys p q. Appends-trans (W.contents s.writer) (W.contents t.writer) (W.contents u.writer) xs ys p q };
+    ghost wrote_more = { λ s t u xs ys p q. Appends-trans (W.contents s.writer) (W.contents t.writer)
+        (W.contents u.writer) xs ys p q };
 
     ghost failures_bound = { λ s. s.failures_bound };
 }

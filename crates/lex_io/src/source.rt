@@ -92,11 +92,14 @@ impl<R: Read> FromRead<R> {
 }
 
 impl<R: Read> Source for FromRead<R> {
-    ghost gave = { λ s xs t. Gives (R.remaining s.reader) (R.remaining t.reader) s.ends t.ends xs };
+    ghost use Rattle.lex_io.specs.Adapters.{reader_of, reader_ends, reader_failures};
 
-    ghost ends = { λ s. s.ends };
+    ghost gave = { λ s xs t. Gives (R.remaining (reader_of s)) (R.remaining (reader_of t))
+        (reader_ends s) (reader_ends t) xs };
 
-    ghost failures = { λ s. s.failures };
+    ghost ends = { λ s. reader_ends s };
+
+    ghost failures = { λ s. reader_failures s };
 
     ghost ready = { λ s. [] };
 
@@ -133,7 +136,8 @@ impl<R: Read> Source for FromRead<R> {
 
     ghost gave_none = { λ s. Gives-nil (R.remaining s.reader) s.ends };
 
-    ghost gave_more = { λ s t u xs ys p q. Gives-trans (R.remaining s.reader) (R.remaining t.reader) (R.remaining u.reader) s.ends t.ends u.ends xs ys p q };
+    ghost gave_more = { λ s t u xs ys p q. Gives-trans (R.remaining s.reader) (R.remaining t.reader)
+        (R.remaining u.reader) s.ends t.ends u.ends xs ys p q };
 
     ghost none_ready = { λ s e. refl };
 

@@ -40,11 +40,14 @@ impl<W: Write + Drop> ToBytes<W> {
 }
 
 impl<W: Write + Drop> Sink for ToBytes<W> {
-    ghost wrote = { λ s xs t. Appends (bytes_written W.contents s.writer) (bytes_written W.contents t.writer) xs };
+    ghost use Rattle.lex_io.specs.Adapters.{byte_writer_of, byte_writer_failures};
 
-    ghost failures = { λ s. s.failures.count };
+    ghost wrote = { λ s xs t. Appends (bytes_written W.contents (byte_writer_of s))
+        (bytes_written W.contents (byte_writer_of t)) xs };
 
-    ghost flushed = { λ s. is_none (bytes_held s.writer) };
+    ghost failures = { λ s. byte_writer_failures s };
+
+    ghost flushed = { λ s. is_none (bytes_held (byte_writer_of s)) };
 
     #[inline]
     fn put(&mut self, bytes: &[u8]) -> Result<(), WriteFault> {
@@ -69,7 +72,8 @@ impl<W: Write + Drop> Sink for ToBytes<W> {
 
     ghost wrote_none = { λ s. Appends-nil (bytes_written W.contents s.writer) };
 
-    ghost wrote_more = { λ s t u xs ys p q. Appends-trans (bytes_written W.contents s.writer) (bytes_written W.contents t.writer) (bytes_written W.contents u.writer) xs ys p q };
+    ghost wrote_more = { λ s t u xs ys p q. Appends-trans (bytes_written W.contents s.writer)
+        (bytes_written W.contents t.writer) (bytes_written W.contents u.writer) xs ys p q };
 
     ghost failures_bound = { λ s. s.failures.bound };
 }

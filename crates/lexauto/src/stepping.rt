@@ -32,14 +32,17 @@ pub(crate) struct RuleMoves<'a> {
     ghost sized: { HaveSized rules.items } by { HaveSized-prop rules.items },
     ghost number: { length rules.items ≡ length (rules_in (spec_of spec.now)) },
     ghost size: { all_positions (map shape_of rules.items) ≡ count },
-    ghost next: { (on last : ℕ → Bool) (q : ℕ) → rules_enter (map shape_of rules.items) on last q 0 0 ≡ rules_enter (rules_in (spec_of spec.now)) on last q 0 0 },
-    ghost left: { (last : ℕ → Bool) → rules_left (map shape_of rules.items) last 0 0 ≡ rules_left (rules_in (spec_of spec.now)) last 0 0 },
+    ghost next: { (on last : ℕ → Bool) (q : ℕ) → rules_enter (map shape_of rules.items) on last q 0 0
+        ≡ rules_enter (rules_in (spec_of spec.now)) on last q 0 0 },
+    ghost left: { (last : ℕ → Bool) → rules_left (map shape_of rules.items) last 0 0
+        ≡ rules_left (rules_in (spec_of spec.now)) last 0 0 },
     ghost few: { count < 2 ^ 32 },
     ghost whole: { accepts_all ≡ rejects (spec_of spec.now) },
     ghost owned: { length owners.items ≡ count },
     ghost owners_are: { AreOwners (map shape_of rules.items) owners.items },
     ghost all: { length (masks_in masks.items) ≡ 256 },
-    ghost each: { (b q : ℕ) → b < 256 → flag (mask_at (masks_in masks.items) b) q ≡ rules_read (rules_in (spec_of spec.now)) b q 0 },
+    ghost each: { (b q : ℕ) → b < 256 → flag (mask_at (masks_in masks.items) b) q
+        ≡ rules_read (rules_in (spec_of spec.now)) b q 0 },
     ghost alike: { AreTwins (masks_in masks.items) twins.items },
 }
 

@@ -2,10 +2,19 @@
 use Rattle.std.specs.Prelude.{ℕ, Bool, List}
 use Rattle.lex_semantics.specs.Spec.{Spec}
 use Rattle.lex_semantics.specs.Machine.{Machine}
+use Rattle.lexauto_dfa.specs.Invariant.{IsAutomaton}
 use Rattle.lexauto_dfa.specs.Machines.{machine_with}
 use Rattle.lexauto_dfa.specs.Parts.{conditions, states, start, next, accepts, goes_on}
 use Rattle.lexauto_dfa.specs.declared.dfa.Dfa.{Dfa}
 use Rattle.lexauto_dfa.specs.declared.dfa.Parts.{Parts}
+
+-- the lists of which it is made
+abbrev pub lists_of : Dfa → Parts
+lists_of d = d.parts
+
+-- what it keeps to
+abbrev pub lawful_of : (d : Dfa) → IsAutomaton (lists_of d)
+lawful_of d = d.lawful
 
 abbrev pub conditions_of : Dfa → ℕ
 conditions_of d = conditions d.parts

@@ -22,14 +22,16 @@ pub struct Parts {
 #[derive(Drop)]
 pub struct Dfa {
     pub(crate) parts: Parts,
-    ghost lawful: { Rattle.lexauto_dfa.specs.Invariant.IsAutomaton parts } by { Rattle.lexauto_dfa.specs.Invariant.IsAutomaton-prop parts },
+    ghost lawful: { IsAutomaton parts } by { IsAutomaton-prop parts },
 }
 
 impl Dfa {
+    ghost use Rattle.lexauto_dfa.specs.Automata.{lists_of};
+
     /// The automaton of these lists.
     pub fn new(parts: Parts) -> Dfa
         requires { IsAutomaton parts }
-        ensures { result.parts ≡ parts }
+        ensures { lists_of result ≡ parts }
     {
         Dfa { parts }
     }
@@ -39,11 +41,11 @@ impl Dfa {
     ghost use Rattle.lex_semantics.specs.Limits.{max_states};
     ghost use Rattle.lex_semantics.specs.Text.{Ascending};
     ghost use Rattle.lexauto_dfa.specs.Parts.{IsReached, LeadsOn};
-    ghost use Rattle.lexauto_dfa.specs.Automata.{conditions_of, states_of, start_of, next_of, accepts_of, goes_on_of};
+    ghost use Rattle.lexauto_dfa.specs.Automata.{lists_of, conditions_of, states_of, start_of, next_of, accepts_of, goes_on_of};
 
     /// The lists of which it is made.
     pub fn parts(&self) -> &Parts
-        ensures { result.now ≡ self.now.parts }
+        ensures { result.now ≡ lists_of self.now }
     {
         &self.parts
     }
@@ -86,7 +88,7 @@ impl Dfa {
     pub fn goes_on(&self, state: u32) -> bool
         requires { state < states_of self.now }
         ensures flag { result ≡ goes_on_of self.now state }
-        ensures leads { IsTrue result ↔ ∥ LeadsOn self.now.parts state ∥₁ }
+        ensures leads { IsTrue result ↔ ∥ LeadsOn (lists_of self.now) state ∥₁ }
     {
         self.parts.goes_on[state as usize]
     }
@@ -96,7 +98,7 @@ impl Dfa {
         ensures states { result ≡ states_of self.now }
         ensures some { 1 ≤ result }
         ensures few { result ≤ max_states }
-        ensures reached { (s : ℕ) → s < result → s ≢ 0 → ∥ IsReached self.now.parts s ∥₁ }
+        ensures reached { (s : ℕ) → s < result → s ≢ 0 → ∥ IsReached (lists_of self.now) s ∥₁ }
     {
         self.parts.goes_on.len() as u32
     }

@@ -1,7 +1,8 @@
 -- The least automaton of those that accept alike, and the canonical numbers of its states. (This project's.)
 use Rattle.std.specs.Prelude.{◌≡◌, ◌≢◌, ◌⊎◌, ℕ, suc, ◌-◌, ◌<◌, ◌≤◌, Bool, List, [], ◌∷◌, ◌++◌}
 use Rattle.lex_semantics.specs.Text.{IsText}
-use Rattle.lexauto_dfa.specs.Parts.{conditions, states, start, accepts, goes_on, after, lists_in, IsReached}
+use Rattle.lexauto_dfa.specs.Automata.{conditions_of, lists_of}
+use Rattle.lexauto_dfa.specs.Parts.{states, start, accepts, goes_on, after, lists_in, IsReached}
 use Rattle.lexauto_dfa.specs.declared.dfa.Parts.{Parts}
 use Rattle.lexauto_dfa.specs.declared.dfa.Dfa.{Dfa}
 
@@ -56,5 +57,5 @@ pub record AreSame (p q : Parts) : Type 0 where
 
 -- the law by which there is one least automaton, and so one file, for each specification
 abbrev pub OneAutomaton : Type 0
-OneAutomaton = (d e : Dfa) → IsLeast d.parts → IsLeast e.parts → IsNumbered d.parts → IsNumbered e.parts
-    → conditions d.parts ≡ conditions e.parts → AcceptsAs d.parts e.parts → AreSame d.parts e.parts
+OneAutomaton = (d e : Dfa) → IsLeast (lists_of d) → IsLeast (lists_of e) → IsNumbered (lists_of d) → IsNumbered (lists_of e)
+    → conditions_of d ≡ conditions_of e → AcceptsAs (lists_of d) (lists_of e) → AreSame (lists_of d) (lists_of e)

@@ -4,7 +4,7 @@ ghost use Rattle.lex_semantics.specs.Spec.{Spec};
 ghost use Rattle.lex_semantics.specs.MachineLaws.{MachineLaws};
 ghost use Rattle.lex_semantics.specs.TableFor.{TableFor};
 ghost use Rattle.lexauto_dfa.specs.Invariant.{IsAutomaton};
-ghost use Rattle.lexauto_dfa.specs.Automata.{conditions_of, machine_of};
+ghost use Rattle.lexauto_dfa.specs.Automata.{conditions_of, lists_of, machine_of};
 ghost use Rattle.lexauto_minimise.specs.Building.{ArePartsOf, FitsTable};
 ghost use Rattle.lexauto_minimise.specs.Least.{AcceptsAs, GoesOnAs, IsLeast, IsNumbered};
 ghost use Rattle.lexauto_minimise.specs.Lists.{list_at};
@@ -99,10 +99,10 @@ fn parts_of(alloc: Global, parts: &Parts, classes: ClassTable) -> Result<Parts, 
 /// then by the states in order of number, byte by byte. A specification's machine stays one, and its table too.
 pub fn minimise(alloc: Global, dfa: &Dfa) -> Result<Dfa, OutOfMemory>
     ensures conditions { IfOk result (λ e. conditions_of e ≡ conditions_of dfa.now) }
-    ensures accepts { IfOk result (λ e. AcceptsAs dfa.now.parts e.parts) }
-    ensures goes_on { IfOk result (λ e. GoesOnAs dfa.now.parts e.parts) }
-    ensures least { IfOk result (λ e. IsLeast e.parts) }
-    ensures numbered { IfOk result (λ e. IsNumbered e.parts) }
+    ensures accepts { IfOk result (λ e. AcceptsAs (lists_of dfa.now) (lists_of e)) }
+    ensures goes_on { IfOk result (λ e. GoesOnAs (lists_of dfa.now) (lists_of e)) }
+    ensures least { IfOk result (λ e. IsLeast (lists_of e)) }
+    ensures numbered { IfOk result (λ e. IsNumbered (lists_of e)) }
     ensures laws { IfOk result (λ e. (S : Spec) → MachineLaws (machine_of dfa.now S) → MachineLaws (machine_of e S)) }
     ensures table { IfOk result (λ e. (S : Spec) → TableFor (machine_of dfa.now S) S → TableFor (machine_of e S) S) }
 {

@@ -18,7 +18,8 @@ pub(crate) struct Letter {
     pub row: Vec<u32>,
     pub chains: Chains,
     ghost row_known: { Rattle.lexauto_minimise.specs.Sources.IsRow row.items },
-    ghost chained: { Rattle.lexauto_minimise.specs.Sources.AreChains row.items chains.last.items chains.before.items (length row.items) },
+    ghost chained: { Rattle.lexauto_minimise.specs.Sources.AreChains row.items
+        chains.last.items chains.before.items (length row.items) },
 }
 
 /// The chains of a row.

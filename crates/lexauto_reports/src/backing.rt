@@ -3,7 +3,7 @@ ghost use Rattle.std.specs.Prelude.{◌≡◌, ◌<◌, ◌↔◌, ℕ, length, 
 ghost use Rattle.lex_semantics.specs.Text.{Among, Ascending};
 ghost use Rattle.lex_semantics.specs.Spec.{Spec};
 ghost use Rattle.lex_semantics.specs.TableFor.{TableFor};
-ghost use Rattle.lexauto_dfa.specs.Automata.{conditions_of, states_of, machine_of};
+ghost use Rattle.lexauto_dfa.specs.Automata.{conditions_of, lists_of, machine_of, states_of};
 ghost use Rattle.lexauto_reports.specs.BackWords.{states_in, BacksUp, IsAfterBackWord, IsEntry, IsFirstWord};
 ghost use Rattle.lexauto_reports.specs.Searching.{words_of, AreFound};
 ghost use Rattle.lexauto_reports.specs.declared.backup.BackUp.{BackUp};
@@ -18,8 +18,9 @@ use std::alloc::{AllocError, Global};
 /// the states after its back words.
 pub fn backing_up(alloc: Global, dfa: &Dfa) -> Result<Vec<BackUp>, OutOfMemory>
     ensures ascending { IfOk result (λ v. Ascending (states_in v.items)) }
-    ensures states { IfOk result (λ v. (s : ℕ) → Among (states_in v.items) s ↔ BacksUp dfa.now.parts s) }
-    ensures words { IfOk result (λ v. (e : BackUp) → Among v.items e → IsFirstWord dfa.now.parts e.state e.word.items) }
+    ensures states { IfOk result (λ v. (s : ℕ) → Among (states_in v.items) s ↔ BacksUp (lists_of dfa.now) s) }
+    ensures words { IfOk result (λ v. (e : BackUp) → Among v.items e
+        → IsFirstWord (lists_of dfa.now) e.state e.word.items) }
     ensures back_words { IfOk result (λ v. (S : Spec) → conditions_of dfa.now ≡ length S.conditions
         → TableFor (machine_of dfa.now S) S → (s : ℕ)
         → Among (states_in v.items) s ↔ IsAfterBackWord (machine_of dfa.now S) S s) }
@@ -31,10 +32,11 @@ pub fn backing_up(alloc: Global, dfa: &Dfa) -> Result<Vec<BackUp>, OutOfMemory>
 
 /// The states that go on and accept nothing, of those that were found after two bytes or more.
 fn entries(alloc: Global, dfa: &Dfa, found: &Found) -> Result<Vec<BackUp>, AllocError>
-    requires { AreFound dfa.now.parts (words_of found.now.groups) found.now.places.items }
+    requires { AreFound (lists_of dfa.now) (words_of found.now.groups) found.now.places.items }
     ensures ascending { IfOk result (λ v. Ascending (states_in v.items)) }
-    ensures states { IfOk result (λ v. (s : ℕ) → Among (states_in v.items) s ↔ BacksUp dfa.now.parts s) }
-    ensures words { IfOk result (λ v. (e : BackUp) → Among v.items e → IsFirstWord dfa.now.parts e.state e.word.items) }
+    ensures states { IfOk result (λ v. (s : ℕ) → Among (states_in v.items) s ↔ BacksUp (lists_of dfa.now) s) }
+    ensures words { IfOk result (λ v. (e : BackUp) → Among v.items e
+        → IsFirstWord (lists_of dfa.now) e.state e.word.items) }
 {
     let mut entries = Vec::new(alloc);
     for state in 0..dfa.len() {
@@ -47,9 +49,9 @@ fn entries(alloc: Global, dfa: &Dfa, found: &Found) -> Result<Vec<BackUp>, Alloc
 
 /// The entry of a state, if it backs up.
 fn entry(alloc: Global, dfa: &Dfa, found: &Found, state: u32) -> Result<Option<BackUp>, AllocError>
-    requires found { AreFound dfa.now.parts (words_of found.now.groups) found.now.places.items }
+    requires found { AreFound (lists_of dfa.now) (words_of found.now.groups) found.now.places.items }
     requires known { state < states_of dfa.now }
-    ensures { IfOk result (λ o. IsEntry dfa.now.parts state o) }
+    ensures { IfOk result (λ o. IsEntry (lists_of dfa.now) state o) }
 {
     if !dfa.goes_on(state) || !dfa.accepts(state).is_empty() {
         return Ok(None);

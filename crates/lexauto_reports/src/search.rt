@@ -3,7 +3,7 @@
 ghost use Rattle.std.specs.Prelude.{◌≡◌, ◌⊎◌, ◌↔◌, ℕ, ◌+◌, ◌*◌, ◌<◌, ◌≤◌, [], ◌∷◌, ◌++◌, None, Some, length, IfOk, OnOk};
 ghost use Rattle.lex_semantics.specs.Text.{Among};
 ghost use Rattle.lexauto_dfa.specs.Alike.{AreLeads, moves};
-ghost use Rattle.lexauto_dfa.specs.Automata.{states_of};
+ghost use Rattle.lexauto_dfa.specs.Automata.{lists_of, states_of};
 ghost use Rattle.lexauto_reports.specs.Counting.{step, IsStart};
 ghost use Rattle.lexauto_reports.specs.Searching.{place_of, words_of, states_of_groups, unfound, IsAt, IsUpTo, AreFound};
 
@@ -20,7 +20,7 @@ pub struct Found {
 
 /// The states that are reached, each with its first word. It takes memory for each group, its word and its states.
 pub fn first_words(alloc: Global, dfa: &Dfa) -> Result<Found, AllocError>
-    ensures { IfOk result (λ f. AreFound dfa.now.parts (words_of f.groups) f.places.items) }
+    ensures { IfOk result (λ f. AreFound (lists_of dfa.now) (words_of f.groups) f.places.items) }
 {
     let mut places = vec![in alloc; None; 3 * dfa.len() as usize]?;
     let mut groups = first_group(alloc, dfa, &mut places)?;
@@ -41,7 +41,7 @@ fn first_group(
 ) -> Result<Groups, AllocError>
     requires len { length places.old.items ≡ 3 * states_of dfa.now }
     requires none { (x : ℕ) → place_of places.old.items x ≡ None }
-    ensures { IfOk result (λ g. IsUpTo dfa.now.parts (words_of g) (states_of_groups g) places.new.items 0) }
+    ensures { IfOk result (λ g. IsUpTo (lists_of dfa.now) (words_of g) (states_of_groups g) places.new.items 0) }
 {
     let states = starts(alloc, dfa)?;
     put_first(places, &states);
@@ -64,7 +64,7 @@ fn put_first(places: &mut Vec<Option<usize>>, states: &[u32])
 
 /// The states before any byte.
 fn starts(alloc: Global, dfa: &Dfa) -> Result<Vec<u32>, AllocError>
-    ensures { IfOk result (λ v. (x : ℕ) → Among v.items x ↔ IsStart dfa.now.parts x) }
+    ensures { IfOk result (λ v. (x : ℕ) → Among v.items x ↔ IsStart (lists_of dfa.now) x) }
 {
     let mut starts = Vec::new(alloc);
     for cond in 0..dfa.parts().starts.len() {
@@ -84,9 +84,10 @@ fn expand(
     place: usize,
 ) -> Result<(), AllocError>
     requires len { length leads.now ≡ 256 }
-    requires leads { AreLeads (states_of dfa.now) (moves dfa.now.parts.next.items) leads.now }
-    requires here { IsAt dfa.now.parts (words_of groups.old) (states_of_groups groups.old) places.old.items place 0 }
-    ensures up_to { OnOk result (IsUpTo dfa.now.parts (words_of groups.new)
+    requires leads { AreLeads (states_of dfa.now) (moves (lists_of dfa.now).next.items) leads.now }
+    requires here { IsAt (lists_of dfa.now) (words_of groups.old)
+        (states_of_groups groups.old) places.old.items place 0 }
+    ensures up_to { OnOk result (IsUpTo (lists_of dfa.now) (words_of groups.new)
         (states_of_groups groups.new) places.new.items (place + 1)) }
     ensures fewer { OnOk result (length groups.new.groups.items + unfound places.new.items
         ≤ length groups.old.groups.items + unfound places.old.items) }
@@ -117,9 +118,10 @@ fn visit(
     lead: u8,
 ) -> Result<(), AllocError>
     requires lead { lead ≤ byte }
-    requires alike { (x : ℕ) → step dfa.now.parts x lead ≡ step dfa.now.parts x byte }
-    requires here { IsAt dfa.now.parts (words_of groups.old) (states_of_groups groups.old) places.old.items place byte }
-    ensures next { OnOk result (IsAt dfa.now.parts (words_of groups.new)
+    requires alike { (x : ℕ) → step (lists_of dfa.now) x lead ≡ step (lists_of dfa.now) x byte }
+    requires here { IsAt (lists_of dfa.now) (words_of groups.old)
+        (states_of_groups groups.old) places.old.items place byte }
+    ensures next { OnOk result (IsAt (lists_of dfa.now) (words_of groups.new)
         (states_of_groups groups.new) places.new.items place (byte + 1)) }
     ensures fewer { OnOk result (length groups.new.groups.items + unfound places.new.items
         ≤ length groups.old.groups.items + unfound places.old.items) }
@@ -153,9 +155,9 @@ fn unseen(
     ensures only { IfOk result (λ v. (x j : ℕ) → place_of places.new.items x ≡ Some j
         → (place_of places.old.items x ≡ Some j) ⊎ ((j ≡ place) × Among v.items x)) }
     ensures seen { IfOk result (λ v. (x : ℕ) → Among v.items x → (x < 3 * states_of dfa.now) × (y : ℕ)
-        × Among states.now y × (step dfa.now.parts y byte ≡ x)) }
+        × Among states.now y × (step (lists_of dfa.now) y byte ≡ x)) }
     ensures all { OnOk result ((y : ℕ) → Among states.now y → (j : ℕ)
-        × (place_of places.new.items (step dfa.now.parts y byte) ≡ Some j)) }
+        × (place_of places.new.items (step (lists_of dfa.now) y byte) ≡ Some j)) }
     ensures fewer { IfOk result (λ v. length v.items + unfound places.new.items ≡ unfound places.old.items) }
 {
     let mut unseen = Vec::new(alloc);
@@ -172,7 +174,7 @@ fn unseen(
 /// The state after one byte more, with how many bytes were read.
 fn next(dfa: &Dfa, state: u32, byte: u8) -> u32
     requires { state < 3 * states_of dfa.now }
-    ensures state { result ≡ step dfa.now.parts state byte }
+    ensures state { result ≡ step (lists_of dfa.now) state byte }
     ensures known { result < 3 * states_of dfa.now }
 {
     3 * dfa.next(state / 3, byte) + (state % 3 + 1).min(2)

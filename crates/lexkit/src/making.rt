@@ -97,10 +97,7 @@ fn generate_by(alloc: Global, spec: &Spec, limits: Limits) -> Result<Generated, 
     requires few_states { limits.states ≤ max_states }
     ensures { MakesBy limits (spec_of spec.now) (skipped_in spec.now) result }
 {
-    let least = match least_automaton(alloc, spec, limits) {
-        Err(error) => return Err(error),
-        Ok(least) => least,
-    };
+    let least = least_automaton(alloc, spec, limits)?;
     match all_of(alloc, spec, limits, &least) {
         Err(_) => Err(GenError::OutOfMemory),
         Ok(all) => Ok(all),
@@ -112,10 +109,7 @@ fn tables_by(alloc: Global, spec: &Spec, limits: Limits) -> Result<Made, GenErro
     requires few_states { limits.states ≤ max_states }
     ensures { MakesTablesBy limits (spec_of spec.now) (skipped_in spec.now) result }
 {
-    let least = match least_automaton(alloc, spec, limits) {
-        Err(error) => return Err(error),
-        Ok(least) => least,
-    };
+    let least = least_automaton(alloc, spec, limits)?;
     match made_of(alloc, spec, limits, &least) {
         Err(_) => Err(GenError::OutOfMemory),
         Ok(made) => Ok(made),

@@ -61,7 +61,8 @@ fn obstacle_among<M: Machine>(
 ) -> Result<Option<Obstacle>, AllocError>
     requires states { states ≡ M.states machine.now }
     requires found { (s : ℕ) → Among found.now s → s < M.states machine.now }
-    ensures none { IfOk result (λ o. o ≡ None → (s : ℕ) → Among found.now s → LineEndsAt (M.machine machine.now) condition s) }
+    ensures none { IfOk result (λ o. o ≡ None → (s : ℕ) → Among found.now s
+        → LineEndsAt (M.machine machine.now) condition s) }
     ensures some { IfOk result (λ o. IfSome o (λ obstacle. (s : ℕ) × Among found.now s
         × HindersAt (M.machine machine.now) condition s obstacle)) }
 {

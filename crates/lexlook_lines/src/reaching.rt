@@ -51,7 +51,8 @@ pub(crate) fn reached<M: Machine>(
 ) -> Result<Vec<u32>, AllocError>
     requires states { states ≡ M.states machine.now }
     requires starts { (s : ℕ) → Among starts.now s → s < M.states machine.now }
-    ensures { IfOk result (λ v. IsReached (M.machine machine.now) (M.states machine.now) starts.now starts.now v.items) }
+    ensures { IfOk result (λ v. IsReached (M.machine machine.now) (M.states machine.now)
+        starts.now starts.now v.items) }
 {
     let mut found = Vec::new(alloc);
     let mut marks = vec![in alloc; false; states as usize]?;

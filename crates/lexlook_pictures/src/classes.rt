@@ -112,7 +112,8 @@ fn opening(others: bool) -> &'static [u8]
 /// Appends the class of the bytes by which a row leads to a target.
 pub(crate) fn add_class(text: &mut Vec<u8>, row: &[u32], target: u32) -> Result<(), AllocError>
     requires { length row.now ≡ 256 }
-    ensures { OnOk result (text.new.items ≡ text.old.items ++ quoted (class_of (λ b. slice_index row.now b == target))) }
+    ensures { OnOk result (text.new.items ≡ text.old.items
+        ++ quoted (class_of (λ b. slice_index row.now b == target))) }
 {
     let others = is_mostly_full(row, target);
     add(text, opening(others))?;

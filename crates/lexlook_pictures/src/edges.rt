@@ -9,7 +9,8 @@ use std::alloc::AllocError;
 /// Appends the edge to a target.
 fn add_edge(text: &mut Vec<u8>, state: u32, row: &[u32], target: u32) -> Result<(), AllocError>
     requires { length row.now ≡ 256 }
-    ensures { OnOk result (text.new.items ≡ text.old.items ++ edge state target (λ c. slice_index row.now c == target)) }
+    ensures { OnOk result (text.new.items ≡ text.old.items
+        ++ edge state target (λ c. slice_index row.now c == target)) }
 {
     add(text, b"  ")?;
     add_number(text, state)?;

@@ -25,24 +25,10 @@ pub(crate) fn telling_rules(alloc: Global, rules: Vec<Rule>) -> Result<Vec<Rule>
 fn telling_rule(alloc: Global, rule: Rule) -> Result<Rule, AllocError>
     ensures { IfOk result (λ r. rule_of r ≡ traced_rule (rule_of rule)) }
 {
-    let Rule {
-        line,
-        conditions,
-        anchored,
-        head,
-        trail,
-        cut,
-        statements,
-    } = rule;
-    let front = rule_front(alloc, line)?;
+    let front = rule_front(alloc, rule.line)?;
     Ok(Rule {
-        line,
-        conditions,
-        anchored,
-        head,
-        trail,
-        cut,
-        statements: telling(alloc, front, statements)?,
+        statements: telling(alloc, front, rule.statements)?,
+        ..rule
     })
 }
 

@@ -14,23 +14,9 @@ use std::alloc::{AllocError, Global};
 fn rejecting_rule(alloc: Global, rule: Rule) -> Result<Rule, AllocError>
     ensures { IfOk result (λ r. rule_of r ≡ rejecting_rule (rule_of rule)) }
 {
-    let Rule {
-        line,
-        conditions,
-        anchored,
-        head,
-        trail,
-        cut,
-        statements: _,
-    } = rule;
     Ok(Rule {
-        line,
-        conditions,
-        anchored,
-        head,
-        trail,
-        cut,
         statements: vec![in alloc; Statement::Reject]?,
+        ..rule
     })
 }
 

@@ -1,7 +1,7 @@
 //! What the default rule copies.
 ghost use Rattle.std.specs.Prelude.{◌<◌, ◌≤◌, ℕ, length, IfOk};
 ghost use Rattle.lex_semantics.specs.Text.{Among};
-ghost use Rattle.lexauto_dfa.specs.Automata.{accepts_of, conditions_of, states_of};
+ghost use Rattle.lexauto_dfa.specs.Automata.{accepts_of, conditions_of, lists_of, states_of};
 ghost use Rattle.lexlook_words.specs.Matches.{matches_in};
 ghost use Rattle.lexlook_words.specs.Words.{TellsDefault};
 
@@ -18,7 +18,7 @@ pub(crate) fn first_copied(
 ) -> Result<Option<Place>, AllocError>
     requires conditions { conditions_of dfa.now ≤ 255 }
     requires rules { (s i : ℕ) → s < states_of dfa.now → Among (accepts_of dfa.now s) i → i < length rejects.now }
-    ensures { IfOk result (TellsDefault (matches_in dfa.now.parts rejects.now)) }
+    ensures { IfOk result (TellsDefault (matches_in (lists_of dfa.now) rejects.now)) }
 {
     let conditions = dfa.parts().starts.len() as u8;
     for byte in 0..256u32 {

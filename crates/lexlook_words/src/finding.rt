@@ -1,7 +1,7 @@
 //! The texts that rules take.
 ghost use Rattle.std.specs.Prelude.{◌≡◌, ◌<◌, ◌≤◌, ◌^◌, ℕ, length, IfOk};
 ghost use Rattle.lex_semantics.specs.Text.{Among};
-ghost use Rattle.lexauto_dfa.specs.Automata.{accepts_of, conditions_of, states_of};
+ghost use Rattle.lexauto_dfa.specs.Automata.{accepts_of, conditions_of, lists_of, states_of};
 ghost use Rattle.lexauto_reports.specs.Searching.{words_of, AreFound};
 ghost use Rattle.lexlook_words.specs.Matches.{matches_in};
 ghost use Rattle.lexlook_words.specs.Placing.{IsLeastOf, TakesAt};
@@ -66,9 +66,10 @@ fn word_of(
     requires conditions { conditions_of dfa.now ≤ 255 }
     requires rules { (s i : ℕ) → s < states_of dfa.now → Among (accepts_of dfa.now s) i → i < length rejects.now }
     requires few { length rejects.now < 2 ^ 32 }
-    requires found { AreFound dfa.now.parts (words_of found.now.groups) found.now.places.items }
-    requires first { IsLeastOf (TakesAt dfa.now.parts rejects.now found.now.places.items (states_of dfa.now) rule) first }
-    ensures { IfOk result (Tells (matches_in dfa.now.parts rejects.now) rule) }
+    requires found { AreFound (lists_of dfa.now) (words_of found.now.groups) found.now.places.items }
+    requires first { IsLeastOf
+        (TakesAt (lists_of dfa.now) rejects.now found.now.places.items (states_of dfa.now) rule) first }
+    ensures { IfOk result (Tells (matches_in (lists_of dfa.now) rejects.now) rule) }
 {
     if let Some(place) = first {
         let conditions = dfa.parts().starts.len() as u8;
@@ -88,7 +89,7 @@ pub fn find_words(alloc: Global, dfa: &Dfa, rejects: &[bool]) -> Result<Words, A
     requires conditions { conditions_of dfa.now ≤ 255 }
     requires rules { (s i : ℕ) → s < states_of dfa.now → Among (accepts_of dfa.now s) i → i < length rejects.now }
     requires few { length rejects.now < 2 ^ 32 }
-    ensures { IfOk result (AreWords (matches_in dfa.now.parts rejects.now)) }
+    ensures { IfOk result (AreWords (matches_in (lists_of dfa.now) rejects.now)) }
 {
     let found = first_words(alloc, dfa)?;
     let firsts = first_places(alloc, dfa, rejects, &found.places)?;

@@ -1,7 +1,7 @@
 //! At which of the words that a search found each rule takes a text, and by which rules texts are taken.
 ghost use Rattle.std.specs.Prelude.{◌≡◌, ◌⊎◌, ◌↔◌, ◌+◌, ◌*◌, ◌<◌, ◌^◌, ℕ, true, false, length, IfOk};
 ghost use Rattle.lex_semantics.specs.Text.{Among, Ascending, flag};
-ghost use Rattle.lexauto_dfa.specs.Automata.{accepts_of, states_of};
+ghost use Rattle.lexauto_dfa.specs.Automata.{accepts_of, lists_of, states_of};
 ghost use Rattle.lexauto_reports.specs.Searching.{place_of};
 ghost use Rattle.lexlook_words.specs.Placing.{IsLeastOf, TakesAt, TakesBelow, least_place, takers};
 
@@ -54,7 +54,7 @@ pub(crate) fn first_places(
     requires rules { (s i : ℕ) → s < states_of dfa.now → Among (accepts_of dfa.now s) i → i < length rejects.now }
     ensures len { IfOk result (λ v. length v.items ≡ length rejects.now) }
     ensures least { IfOk result (λ v. (i : ℕ) → IsLeastOf
-        (TakesAt dfa.now.parts rejects.now places.now (states_of dfa.now) i) (place_of v.items i)) }
+        (TakesAt (lists_of dfa.now) rejects.now places.now (states_of dfa.now) i) (place_of v.items i)) }
 {
     let mut firsts = vec![in alloc; None; rejects.len()]?;
     for state in 0..dfa.len() {
@@ -92,7 +92,7 @@ pub(crate) fn takers(
     requires few { length rejects.now < 2 ^ 32 }
     ensures ascending { IfOk result (λ v. Ascending v.items) }
     ensures takers { IfOk result (λ v. (j : ℕ) → Among v.items j
-        ↔ TakesBelow dfa.now.parts rejects.now places.now (states_of dfa.now) rule j) }
+        ↔ TakesBelow (lists_of dfa.now) rejects.now places.now (states_of dfa.now) rule j) }
 {
     let mut free = vec![in alloc; true; rejects.len()]?;
     for state in 0..dfa.len() {

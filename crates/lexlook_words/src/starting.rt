@@ -1,7 +1,7 @@
 //! From which start a text leads to what is wished.
 ghost use Rattle.std.specs.Prelude.{◌≡◌, ◌<◌, ℕ, true, false, length};
 ghost use Rattle.lex_semantics.specs.Text.{Among, flag};
-ghost use Rattle.lexauto_dfa.specs.Automata.{accepts_of, conditions_of, start_of, states_of};
+ghost use Rattle.lexauto_dfa.specs.Automata.{accepts_of, conditions_of, lists_of, start_of, states_of};
 ghost use Rattle.lexauto_dfa.specs.Parts.{after};
 ghost use Rattle.lexlook_words.specs.Placing.{IsFirstStart, Meets, MeetsAfter};
 
@@ -39,7 +39,7 @@ fn meets(rejects: &[bool], rules: &[u32], wish: Wish) -> bool
 /// The state after a text.
 fn state_after(dfa: &Dfa, start: Start, text: &[u8]) -> u32
     requires { start.condition < conditions_of dfa.now }
-    ensures state { result ≡ after dfa.now.parts (start_of dfa.now start.condition start.line_start) text.now }
+    ensures state { result ≡ after (lists_of dfa.now) (start_of dfa.now start.condition start.line_start) text.now }
     ensures known { result < states_of dfa.now }
 {
     let mut state = dfa.start(start.condition as usize, start.line_start);
@@ -53,9 +53,10 @@ fn state_after(dfa: &Dfa, start: Start, text: &[u8]) -> u32
 fn meets_after(dfa: &Dfa, rejects: &[bool], text: &[u8], wish: Wish, start: Start) -> bool
     requires condition { start.condition < conditions_of dfa.now }
     requires rules { (s i : ℕ) → s < states_of dfa.now → Among (accepts_of dfa.now s) i → i < length rejects.now }
-    ensures yes { result ≡ true → MeetsAfter dfa.now.parts rejects.now text.now wish start.condition start.line_start }
+    ensures yes { result ≡ true
+        → MeetsAfter (lists_of dfa.now) rejects.now text.now wish start.condition start.line_start }
     ensures no { result ≡ false
-        → MeetsAfter dfa.now.parts rejects.now text.now wish start.condition start.line_start → ⊥ }
+        → MeetsAfter (lists_of dfa.now) rejects.now text.now wish start.condition start.line_start → ⊥ }
 {
     let state = state_after(dfa, start, text);
     meets(rejects, dfa.accepts(state), wish)
@@ -72,7 +73,7 @@ pub(crate) fn first_start(
 ) -> Option<Start>
     requires conditions { conditions ≡ conditions_of dfa.now }
     requires rules { (s i : ℕ) → s < states_of dfa.now → Among (accepts_of dfa.now s) i → i < length rejects.now }
-    ensures { IsFirstStart dfa.now.parts rejects.now text.now wish conditions result }
+    ensures { IsFirstStart (lists_of dfa.now) rejects.now text.now wish conditions result }
 {
     for condition in 0..conditions {
         let within = Start {

@@ -17,10 +17,12 @@ pub struct InputBytes<'a> {
 }
 
 impl<'a> InputBytes<'a> {
+    ghost use Rattle.lexscan_tokens.specs.Inputs.{rest_of, ends_of};
+
     /// Gives these bytes, and has answered no end yet.
     pub fn new(bytes: &'a [u8]) -> InputBytes<'a>
-        ensures bytes { result.rest.now ≡ bytes.entry.now }
-        ensures ends { result.ends ≡ 0 }
+        ensures bytes { rest_of result ≡ bytes.entry.now }
+        ensures ends { ends_of result ≡ 0 }
         ensures small { length bytes.entry.now < 2 ^ 63 }
     {
         InputBytes {
@@ -31,13 +33,15 @@ impl<'a> InputBytes<'a> {
 }
 
 impl Source for InputBytes<'_> {
-    ghost gave = { λ s xs t. Gives (Some s.rest.now) (Some t.rest.now) s.ends t.ends xs };
+    ghost use Rattle.lexscan_tokens.specs.Inputs.{rest_of, ends_of};
 
-    ghost ends = { λ s. s.ends };
+    ghost gave = { λ s xs t. Gives (Some (rest_of s)) (Some (rest_of t)) (ends_of s) (ends_of t) xs };
+
+    ghost ends = { λ s. ends_of s };
 
     ghost failures = { λ s. 0 };
 
-    ghost ready = { λ s. s.rest.now };
+    ghost ready = { λ s. rest_of s };
 
     ghost waits = { λ s. false };
 
@@ -69,7 +73,8 @@ impl Source for InputBytes<'_> {
 
     ghost gave_none = { λ s. Gives-nil (Some s.rest.now) s.ends };
 
-    ghost gave_more = { λ s t u xs ys p q. Gives-trans (Some s.rest.now) (Some t.rest.now) (Some u.rest.now) s.ends t.ends u.ends xs ys p q };
+    ghost gave_more = { λ s t u xs ys p q. Gives-trans (Some s.rest.now) (Some t.rest.now) (Some u.rest.now)
+        s.ends t.ends u.ends xs ys p q };
 
     ghost none_ready = { λ s. never-waits s.rest.now };
 

@@ -39,7 +39,8 @@ fn join(
     requires sound { is_sound (of_sections declarations found) ≡ true }
     ensures found { IfOk result (λ s. spec_of s ≡ of_sections declarations found.entry) }
     ensures skipped { IfOk result (λ s. skipped_in s
-        ≡ declarations.skipped.lines.items ++ skipped.lines.items ++ user_section found.entry.line found.entry.rest.now) }
+        ≡ declarations.skipped.lines.items ++ skipped.lines.items
+        ++ user_section found.entry.line found.entry.rest.now) }
     ensures none { IfErr result (λ e. e.kind ≡ OutOfMemory) }
 {
     let RulesSection {

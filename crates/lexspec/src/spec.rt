@@ -16,7 +16,8 @@ pub struct Spec {
     pub(crate) rules: Vec<Rule>,
     pub(crate) skipped: Vec<u32>,
     // Its trees, cuts, lists and actions are sound, and it keeps to the limits.
-    ghost sound: { is_sound (record { conditions = map condition_of conditions.items; rules = map rule_of rules.items }) ≡ true },
+    ghost sound: { is_sound (record { conditions = map condition_of conditions.items; rules = map rule_of rules.items })
+        ≡ true },
 }
 
 impl Spec {

@@ -162,7 +162,8 @@ impl Declarations {
         ensures found { OnOk result ((how : Reading) (ds : List Meant) → Declares how ds self.old → AreAllowed ds
             → Declares how (ds ++ definition_of definition.entry ∷ []) self.new
             × AreAllowed (ds ++ definition_of definition.entry ∷ [])) }
-        ensures code { OnOk result (AddsCode self.old.skipped (code_of_definition line (definition_of definition.entry)) self.new.skipped) }
+        ensures code { OnOk result (AddsCode self.old.skipped (code_of_definition line (definition_of definition.entry))
+            self.new.skipped) }
         ensures none { IfErr result (λ e. UnlessMemory e ((how : Reading) (ds more : List Meant)
             → Declares how ds self.old → AreAllowed (ds ++ definition_of definition.entry ∷ more) → ⊥)) }
     {

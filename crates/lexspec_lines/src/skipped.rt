@@ -31,7 +31,8 @@ impl Skipped {
         ensures lines { OnOk result (self.new.lines.items
             ≡ (if next_in self.old == line then self.old.lines.items else self.old.lines.items ++ line ∷ [])) }
         ensures next { OnOk result (next_in self.new ≡ line + 1) }
-        ensures refused { OnErr result ((self.new.lines.items ≡ self.old.lines.items) × (next_in self.new ≡ next_in self.old)) }
+        ensures refused { OnErr result ((self.new.lines.items ≡ self.old.lines.items)
+            × (next_in self.new ≡ next_in self.old)) }
     {
         if self.next != line {
             self.lines.push(line)?;

@@ -1,5 +1,5 @@
 //! What packed tables tell a scanner.
-ghost use Rattle.lextab_packed.specs.Machines.{machine_of, states_of};
+ghost use Rattle.lextab_packed.specs.Machines.{below_of, laws_of, machine_of, states_of};
 
 use crate::steps::target;
 use crate::tables::Tables;
@@ -10,9 +10,9 @@ impl Machine for Tables {
 
     ghost states = { λ t. states_of t };
 
-    ghost laws = { λ t. t.laws };
+    ghost laws = { λ t. laws_of t };
 
-    ghost below = { λ t. t.below };
+    ghost below = { λ t. below_of t };
 
     fn conditions(&self) -> usize {
         self.parts.conditions.len()

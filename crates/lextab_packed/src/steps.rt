@@ -87,7 +87,8 @@ pub(crate) fn marked_rows(
     kinds: &[Kind],
 ) -> Result<Vec<u32>, AllocError>
     requires kinds { length kinds.now ≡ states_of tables.now }
-    requires told { (s : ℕ) → s < states_of tables.now → slice_get kinds.now s ≡ Some (kind_of (machine_of tables.now) s) }
+    requires told { (s : ℕ) → s < states_of tables.now
+        → slice_get kinds.now s ≡ Some (kind_of (machine_of tables.now) s) }
     ensures len { IfOk result (λ v. length v.items ≡ 256 * length tables.now.parts.rows.items) }
     ensures each { IfOk result (λ v. (s b : ℕ) → s < length tables.now.parts.rows.items → b < 256
         → slice_index v.items (256 * s + b)

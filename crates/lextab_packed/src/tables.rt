@@ -16,8 +16,10 @@ pub struct Tables {
     pub(crate) rejects: bool,
     ghost lawful: { IsTable (table_of parts) } by { IsTable-prop (table_of parts) },
     ghost leading: { GoesOn (table_of parts) goes_on.items } by { GoesOn-prop (table_of parts) goes_on.items },
-    ghost laws: { MachineLaws (machine_in parts goes_on.items) } by { MachineLaws-prop (machine_in parts goes_on.items) },
-    ghost below: { StaysBelow (machine_in parts goes_on.items) (length parts.rows.items) } by { StaysBelow-prop (machine_in parts goes_on.items) (length parts.rows.items) },
+    ghost laws: { MachineLaws (machine_in parts goes_on.items) } by { MachineLaws-prop
+        (machine_in parts goes_on.items) },
+    ghost below: { StaysBelow (machine_in parts goes_on.items) (length parts.rows.items) } by { StaysBelow-prop
+        (machine_in parts goes_on.items) (length parts.rows.items) },
     ghost rejecting: { rejects ≡ any_reject (map rule_of parts.rules.items) },
 }
 
@@ -34,13 +36,15 @@ pub fn any_reject(rules: &[TableRule]) -> bool
 }
 
 impl Tables {
+    ghost use Rattle.lextab_packed.specs.Machines.{parts_of, flags_of};
+
     /// The table of these parts. The flags say of each state whether some text of at least one byte leads from it to a
     /// state that accepts a rule.
     pub fn new(parts: TableParts, goes_on: Vec<bool>) -> Tables
         requires table { IsTable (table_of parts) }
         requires flags { GoesOn (table_of parts) goes_on.items }
-        ensures parts { result.parts ≡ parts }
-        ensures flags { result.goes_on.items ≡ goes_on.items }
+        ensures parts { parts_of result ≡ parts }
+        ensures flags { flags_of result ≡ goes_on.items }
     {
         let rejects = any_reject(&parts.rules);
         Tables {
@@ -52,7 +56,7 @@ impl Tables {
 
     /// The parts of which it is made.
     pub fn parts(&self) -> &TableParts
-        ensures { result.now ≡ self.now.parts }
+        ensures { result.now ≡ parts_of self.now }
     {
         &self.parts
     }

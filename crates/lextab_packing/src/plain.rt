@@ -14,7 +14,8 @@ pub struct Plain<'a> {
     pub(crate) dfa: &'a Dfa,
     pub(crate) spec: &'a Spec,
     pub(crate) rejects: bool,
-    ghost lawful: { MachineLaws (machine_of dfa.now (spec_of spec.now)) } by { MachineLaws-prop (machine_of dfa.now (spec_of spec.now)) },
+    ghost lawful: { MachineLaws (machine_of dfa.now (spec_of spec.now)) } by { MachineLaws-prop
+        (machine_of dfa.now (spec_of spec.now)) },
     ghost conditions: { conditions_of dfa.now ≡ length (conditions_in (spec_of spec.now)) },
     ghost rejecting: { rejects ≡ some_reject (spec_of spec.now) },
 }

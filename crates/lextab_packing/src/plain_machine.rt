@@ -1,10 +1,9 @@
 //! What the automaton as it was built tells.
 ghost use Rattle.std.specs.Prelude.{◌≡◌, ℕ, ◌<◌, length};
 ghost use Rattle.lex_semantics.specs.MachineLaws.{MachineLaws};
-ghost use Rattle.lexauto_dfa.specs.Automata.{machine_of, conditions_of, states_of};
+ghost use Rattle.lexauto_dfa.specs.Automata.{machine_of, conditions_of};
 ghost use Rattle.lexspec.specs.Views.{spec_of, conditions_in};
-ghost use Rattle.lextab_packing.specs.Plain.{plain_machine};
-ghost use Rattle.lextab_packing.specs.Below.{below};
+ghost use Rattle.lextab_packing.specs.Plain.{plain_below, plain_laws, plain_machine, plain_states};
 
 use crate::plain::Plain;
 use lex_machine::{Cut, EndAction, Machine, Statement};
@@ -29,11 +28,11 @@ impl<'a> Plain<'a> {
 impl Machine for Plain<'_> {
     ghost machine = { λ p. plain_machine p };
 
-    ghost states = { λ p. states_of p.dfa.now };
+    ghost states = { λ p. plain_states p };
 
-    ghost laws = { λ p. p.lawful };
+    ghost laws = { λ p. plain_laws p };
 
-    ghost below = { λ p. below p.dfa.now.parts p.dfa.now.lawful (spec_of p.spec.now) p.conditions };
+    ghost below = { λ p. plain_below p };
 
     fn conditions(&self) -> usize {
         self.spec.conditions().len()

@@ -6,7 +6,7 @@ ghost use Rattle.lexauto_dfa.specs.Invariant.{IsAutomaton};
 ghost use Rattle.lexauto_dfa.specs.Automata.{machine_of, conditions_of, states_of, next_of};
 ghost use Rattle.lexspec.specs.Views.{spec_of, conditions_in};
 ghost use Rattle.lextab_packed.specs.Views.{table_of};
-ghost use Rattle.lextab_packed.specs.Machines.{machine_of as table_machine};
+ghost use Rattle.lextab_packed.specs.Machines.{machine_of as table_machine, parts_of};
 ghost use Rattle.lextab_packing.specs.Assembled.{assembled, HasTexts};
 ghost use Rattle.lextab_packing.specs.Packing.{IsPacked};
 ghost use Rattle.lextab_packing.specs.Tables.{packing_in};
@@ -53,7 +53,8 @@ fn table_parts(
 pub fn pack(alloc: Global, dfa: &Dfa, spec: &Spec) -> Result<Tables, OutOfMemory>
     requires conditions { conditions_of dfa.now ≡ length (conditions_in (spec_of spec.now)) }
     requires table { TableFor (machine_of dfa.now (spec_of spec.now)) (spec_of spec.now) }
-    ensures packed { IfOk result (λ t. IsPacked (states_of dfa.now) (next_of dfa.now) (packing_in (table_of t.parts))) }
+    ensures packed { IfOk result (λ t. IsPacked (states_of dfa.now) (next_of dfa.now)
+        (packing_in (table_of (parts_of t)))) }
     ensures machine { IfOk result (λ t. table_machine t ≡ machine_of dfa.now (spec_of spec.now)) }
 {
     let parts = dfa.parts();
