@@ -8,14 +8,10 @@ ghost use Rattle.lexauto_positions.specs.Alike.{Alike, choice_of};
 ghost use Rattle.lexauto_positions.specs.Signs.{skips, repeats, signed};
 ghost use Rattle.lexauto_positions.specs.Plans.{plan_of, plans, tree_in, trees_in, trees_laid, IsSized, AreSized};
 
-use crate::bare::is_bare;
 use crate::walk::copies_of;
 use lexre::Pattern;
 use lexre_bytes::ByteSet;
 use std::alloc::{AllocError, Global};
-
-/// How deep a part is searched for positions before it is laid out.
-const LEVELS: u8 = 4;
 
 /// A pattern laid out. No part of another is without positions.
 #[derive(Drop)]
@@ -256,11 +252,17 @@ fn lay_node(alloc: Global, pattern: &Pattern) -> Result<Part, AllocError>
         Pattern::Empty => Ok(Part::Nothing),
         Pattern::Set(set) => Ok(Part::Letter(*set)),
         Pattern::Cat(parts) => {
-            let row = lay_all(alloc, parts)?;
+            if parts.is_bare() {
+                return Ok(Part::Nothing);
+            }
+            let row = lay_all(alloc, parts.items())?;
             Ok(series(row))
         }
         Pattern::Alt(parts) => {
-            let row = lay_all(alloc, parts)?;
+            if parts.is_bare() {
+                return Ok(Part::Nothing);
+            }
+            let row = lay_all(alloc, parts.items())?;
             choice(alloc, row)
         }
         Pattern::Star(inner) => {
@@ -272,20 +274,6 @@ fn lay_node(alloc: Global, pattern: &Pattern) -> Result<Part, AllocError>
             repeat(alloc, part, *least, *most)
         }
     }
-}
-
-/// A part laid out. Small parts without positions are not looked at further.
-#[cycle(lay)]
-fn lay_part(alloc: Global, pattern: &Pattern) -> Result<Part, AllocError>
-    requires sound { IsSoundTree (tree_of pattern.now) }
-    requires few { positions (tree_of pattern.now) < 2 ^ 32 }
-    ensures sized { IfOk result (λ p. IsSized (plan_of p)) }
-    ensures alike { IfOk result (λ p. Alike (tree_in (plan_of p)) (tree_of pattern.now)) }
-{
-    if is_bare(pattern, LEVELS) {
-        return Ok(Part::Nothing);
-    }
-    lay(alloc, pattern)
 }
 
 #[cycle(lay)]
@@ -305,7 +293,7 @@ fn lay_all(alloc: Global, parts: &[Pattern]) -> Result<Row, AllocError>
         has_empty: false,
     };
     for part in parts {
-        let part = lay_part(alloc, part)?;
+        let part = lay(alloc, part)?;
         row.add(part)?;
     }
     Ok(row)

@@ -2,7 +2,6 @@
 //! and follow one another, and one step of the automaton without a table of what follows what.
 #![tactic(auto)]
 
-mod bare;
 mod counting;
 mod laws;
 mod layout;

@@ -1,3 +1,4 @@
+pub mod BareLaws
 pub mod BraceLaws
 pub mod CountLaws
 pub mod CuttingLaws
@@ -11,6 +12,8 @@ pub mod LengthLaws
 pub mod LowerLaws
 pub mod NameLaws
 pub mod OneTree
+pub mod PatternTries
+pub mod PatternsComputed
 pub mod QuotedLaws
 pub mod ReaderLaws
 pub mod ReadingLaws

@@ -4,9 +4,9 @@ ghost use Rattle.lex_semantics.specs.Positions.{positions, positions_of};
 ghost use Rattle.lex_semantics.specs.Shapes.{nodes_of};
 ghost use Rattle.lex_semantics.specs.Tree.{trees};
 ghost use Rattle.lexre.specs.Counting.{capped_nodes};
-ghost use Rattle.lexre.specs.Views.{tree_of};
+ghost use Rattle.lexre.specs.Views.{parts_of, tree_of};
 
-use crate::pattern::Pattern;
+use crate::pattern::{Parts, Pattern};
 
 /// A count above this is as good as this.
 const CAP: u64 = 1 << 32;
@@ -27,8 +27,8 @@ fn capped_positions(pattern: &Pattern) -> u64
     match pattern {
         Pattern::Empty => 0,
         Pattern::Set(_) => 1,
-        Pattern::Cat(parts) => capped_positions_of(parts),
-        Pattern::Alt(parts) => capped_positions_of(parts),
+        Pattern::Cat(parts) => positions_in(parts),
+        Pattern::Alt(parts) => positions_in(parts),
         Pattern::Star(inner) => capped_positions(inner),
         Pattern::Repeat(inner, least, most) => {
             let copies = match most {
@@ -38,6 +38,17 @@ fn capped_positions(pattern: &Pattern) -> u64
             (u64::from(copies) * capped_positions(inner)).min(CAP)
         }
     }
+}
+
+/// Parts without sets are not looked at.
+#[cycle(positions)]
+fn positions_in(parts: &Parts<Pattern>) -> u64
+    ensures { result ≡ min (2 ^ 32) (positions_of (parts_of parts.now)) }
+{
+    if parts.is_bare() {
+        return 0;
+    }
+    capped_positions_of(parts.items())
 }
 
 #[cycle(positions)]
@@ -58,8 +69,8 @@ pub(crate) fn capped_nodes(pattern: &Pattern) -> u64
 {
     match pattern {
         Pattern::Empty | Pattern::Set(_) => 1,
-        Pattern::Cat(parts) => (1 + capped_nodes_of(parts)).min(CAP),
-        Pattern::Alt(parts) => (1 + capped_nodes_of(parts)).min(CAP),
+        Pattern::Cat(parts) => (1 + capped_nodes_of(parts.items())).min(CAP),
+        Pattern::Alt(parts) => (1 + capped_nodes_of(parts.items())).min(CAP),
         Pattern::Star(inner) => (1 + capped_nodes(inner)).min(CAP),
         Pattern::Repeat(inner, _, _) => (1 + capped_nodes(inner)).min(CAP),
     }

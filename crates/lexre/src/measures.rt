@@ -34,8 +34,18 @@ fn capped_least(pattern: &Pattern) -> u64
     match pattern {
         Pattern::Empty => 0,
         Pattern::Set(_) => 1,
-        Pattern::Cat(parts) => capped_least_of_each(parts),
-        Pattern::Alt(parts) => capped_least_of_some(parts).unwrap_or(0),
+        Pattern::Cat(parts) => {
+            if parts.is_bare() {
+                return 0;
+            }
+            capped_least_of_each(parts.items())
+        }
+        Pattern::Alt(parts) => {
+            if parts.is_bare() {
+                return 0;
+            }
+            capped_least_of_some(parts.items()).unwrap_or(0)
+        }
         Pattern::Star(_) => 0,
         Pattern::Repeat(inner, times, _) => (u64::from(*times) * capped_least(inner)).min(CAP),
     }
@@ -70,8 +80,18 @@ fn capped_greatest(pattern: &Pattern) -> Option<u64>
     match pattern {
         Pattern::Empty => Some(0),
         Pattern::Set(_) => Some(1),
-        Pattern::Cat(parts) => capped_greatest_of_each(parts),
-        Pattern::Alt(parts) => capped_greatest_of_some(parts),
+        Pattern::Cat(parts) => {
+            if parts.is_bare() {
+                return Some(0);
+            }
+            capped_greatest_of_each(parts.items())
+        }
+        Pattern::Alt(parts) => {
+            if parts.is_bare() {
+                return Some(0);
+            }
+            capped_greatest_of_some(parts.items())
+        }
         Pattern::Star(inner) => unbounded(capped_greatest(inner)),
         Pattern::Repeat(inner, _, times) => repeated(*times, capped_greatest(inner)),
     }

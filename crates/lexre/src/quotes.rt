@@ -12,7 +12,6 @@ ghost use Rattle.lexre.specs.Limits.{max_nodes};
 use crate::pattern::Pattern;
 use lexre_bytes::{ByteSet, FaultAt, PatternErrorKind, escape_at, fold_if, literal_byte_at};
 use std::alloc::Global;
-use std::rc::Rc;
 
 /// The most bytes of a text in quotes: their series has as many nodes as a pattern may have.
 const MAX_QUOTED_BYTES: usize = 65_535;
@@ -124,7 +123,7 @@ pub(crate) fn quoted_pattern(
             for byte in bytes {
                 parts.push(byte_pattern(*byte, fold))?;
             }
-            Ok(Pattern::Cat(Rc::new(alloc, parts)?))
+            Ok(Pattern::series(alloc, parts)?)
         }
     }
 }

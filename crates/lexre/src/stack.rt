@@ -37,7 +37,7 @@ fn series(
         return Ok(last);
     }
     parts.push(last)?;
-    Ok(Pattern::Cat(Rc::new(alloc, parts)?))
+    Ok(Pattern::series(alloc, parts)?)
 }
 
 /// The pattern of a choice: a series alone is itself.
@@ -49,7 +49,7 @@ fn choice(alloc: Global, mut done: Vec<Pattern>, last: Pattern) -> Result<Patter
         return Ok(last);
     }
     done.push(last)?;
-    Ok(Pattern::Alt(Rc::new(alloc, done)?))
+    Ok(Pattern::choice(alloc, done)?)
 }
 
 /// What an interval applies to: the last part, or under `posix` the whole series, whose parts before the last are taken.

@@ -16,8 +16,18 @@ pub(crate) fn one_length(pattern: &Pattern) -> Option<u16>
     match pattern {
         Pattern::Empty => Some(0),
         Pattern::Set(_) => Some(1),
-        Pattern::Cat(parts) => joined_length(parts),
-        Pattern::Alt(parts) => common_length(parts),
+        Pattern::Cat(parts) => {
+            if parts.is_bare() {
+                return Some(0);
+            }
+            joined_length(parts.items())
+        }
+        Pattern::Alt(parts) => {
+            if parts.is_bare() {
+                return Some(0);
+            }
+            common_length(parts.items())
+        }
         Pattern::Star(inner) => repeated_length(one_length(inner), 0, None),
         Pattern::Repeat(inner, least, most) => repeated_length(one_length(inner), *least, *most),
     }

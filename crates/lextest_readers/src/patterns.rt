@@ -47,7 +47,7 @@ fn cat(alloc: Global, first: Pattern, second: Pattern) -> Result<Pattern, AllocE
     ensures { IfOk result (λ p. IsSoundTree (tree_of p)) }
 {
     let parts = vec![in alloc; first, second]?;
-    Ok(Pattern::Cat(Rc::new(alloc, parts)?))
+    Ok(Pattern::series(alloc, parts)?)
 }
 
 fn alt(alloc: Global, first: Pattern, second: Pattern) -> Result<Pattern, AllocError>
@@ -56,7 +56,7 @@ fn alt(alloc: Global, first: Pattern, second: Pattern) -> Result<Pattern, AllocE
     ensures { IfOk result (λ p. IsSoundTree (tree_of p)) }
 {
     let parts = vec![in alloc; first, second]?;
-    Ok(Pattern::Alt(Rc::new(alloc, parts)?))
+    Ok(Pattern::choice(alloc, parts)?)
 }
 
 /// How long the words of a pattern are, at least and at most.
@@ -327,7 +327,7 @@ fn lengthened(alloc: Global, first: Pattern, bytes: u32) -> Result<Pattern, Allo
     for _ in 0..bytes {
         parts.push(byte(b'a'))?;
     }
-    Ok(Pattern::Cat(Rc::new(alloc, parts)?))
+    Ok(Pattern::series(alloc, parts)?)
 }
 
 #[test]
@@ -605,8 +605,12 @@ pub(crate) fn after_tree<'a>(pattern: &Pattern, nodes: &'a [Node]) -> Option<&'a
         (Pattern::Empty, Node::Empty) => Some(rest),
         (Pattern::Set(set), Node::Bytes(members)) if is_set_of(*set, members, true) => Some(rest),
         (Pattern::Set(set), Node::AllBut(others)) if is_set_of(*set, others, false) => Some(rest),
-        (Pattern::Cat(parts), Node::Cat(count)) if parts.len() == count => after_trees(parts, rest),
-        (Pattern::Alt(parts), Node::Alt(count)) if parts.len() == count => after_trees(parts, rest),
+        (Pattern::Cat(parts), Node::Cat(count)) if parts.items().len() == count => {
+            after_trees(parts.items(), rest)
+        }
+        (Pattern::Alt(parts), Node::Alt(count)) if parts.items().len() == count => {
+            after_trees(parts.items(), rest)
+        }
         (Pattern::Star(inner), Node::Star) => after_tree(inner, rest),
         (Pattern::Repeat(inner, m, n), Node::Repeat(least, most)) if *m == least && *n == most => {
             after_tree(inner, rest)

@@ -1,9 +1,10 @@
 //! Byte sets, patterns and named definitions, by lexre.
 use lexre::{
-    ByteSet, Cutting, Defs, DefsError, Lengths, PatternError, PatternErrorKind, ReadOptions,
-    cut_pattern, lengths, positions, read_pattern,
+    ByteSet, Cutting, Defs, DefsError, Lengths, Pattern, PatternError, PatternErrorKind,
+    ReadOptions, cut_pattern, lengths, positions, read_pattern,
 };
-use std::alloc::Global;
+use std::alloc::{AllocError, Global};
+use std::test::Fail;
 
 const PLAIN: ReadOptions = ReadOptions {
     fold: false,
@@ -19,6 +20,31 @@ fn sets_of_bytes(rt: HostRuntime) {
     assert!(rt; ByteSet::empty().is_empty() && !letters.is_empty());
     assert!(rt; ByteSet::named(b"digit") == Some(ByteSet::range(b'0', b'9')));
     assert!(rt; ByteSet::named(b"digits").is_none());
+}
+
+/// Whether a series or choice has two parts, and is bare or not.
+fn is_pair(pattern: &Pattern, bare: bool) -> bool {
+    match pattern {
+        Pattern::Cat(parts) => parts.items().len() == 2 && parts.is_bare() == bare,
+        Pattern::Alt(parts) => parts.items().len() == 2 && parts.is_bare() == bare,
+        _ => false,
+    }
+}
+
+fn pair(alloc: Global, first: Pattern, second: Pattern) -> Result<Vec<Pattern>, AllocError> {
+    let parts = vec![in alloc; first, second]?;
+    Ok(parts)
+}
+
+#[test]
+fn parts_of_patterns(rt: HostRuntime) -> Result<(), Fail> {
+    let nothing = pair(rt.alloc(), Pattern::Empty, Pattern::Empty)?;
+    let nothing = Pattern::series(rt.alloc(), nothing)?;
+    assert!(rt; is_pair(&nothing, true) && positions(&nothing) == Some(0));
+    let letter = pair(rt.alloc(), nothing, Pattern::Set(ByteSet::of(b'a')))?;
+    let letter = Pattern::choice(rt.alloc(), letter)?;
+    assert!(rt; is_pair(&letter, false) && positions(&letter) == Some(1));
+    Ok(())
 }
 
 /// Whether a name is defined once, and found.

@@ -6,6 +6,7 @@ use Rattle.lexauto_positions.specs.Alike.{Alike, choice_of}
 use Rattle.lexauto_positions.specs.Plans.{plan_of, tree_in, trees_laid}
 use Rattle.lexauto_positions.proofs.AlikeLaws.{none_after, drop_one, drop_none, alike_nothing, alike_on, alike_star, alike_repeat, if_ok_by}
 use Rattle.lexre.specs.declared.pattern.Pattern.TheFolds as P
+use Rattle.lexre.proofs.BareLaws.{marked_positions, series_tree_of, choice_tree_of}
 use Rattle.lexauto_positions.specs.declared.layout.Part.TheFolds as L
 use Rattle.lexauto_positions.proofs.layout.+lay.Goals as goal
 
@@ -54,7 +55,7 @@ lay_all-returns-clause-choice t c =
 pub lay_node-returns-in_ok-row-in-Cat-clause-alike : goal.lay_node-returns-in_ok-row-in-Cat-clause-alike
 lay_node-returns-in_ok-row-in-Cat-clause-alike t c =
     let laid = Cat (trees (trees_laid c.in_ok-row-in-Cat.row.parts.items)) in
-    let all = trees (map tree_of c.deref-in-Cat.result.now) in
+    let all = trees (map tree_of c.items.result.now) in
     let is : Cat all ≡ tree_of c.args.pattern.now = search (rules, P.the_lemmas) in
     subst (λ (u : Tree). Alike (tree_in (plan_of c.series.result)) u) is
     (alike_on (tree_in (plan_of c.series.result)) laid (Cat all) c.series.ensures.alike c.in_ok-row-in-Cat.ensures.series)
@@ -62,7 +63,7 @@ lay_node-returns-in_ok-row-in-Cat-clause-alike t c =
 pub lay_node-returns-in_ok-row-in-Alt-clause-alike : goal.lay_node-returns-in_ok-row-in-Alt-clause-alike
 lay_node-returns-in_ok-row-in-Alt-clause-alike t c =
     let laid = choice_of c.in_ok-row-in-Alt.row.has_empty (trees (trees_laid c.in_ok-row-in-Alt.row.parts.items)) in
-    let all = trees (map tree_of c.deref-in-Alt-2.result.now) in
+    let all = trees (map tree_of c.items-in-Alt.result.now) in
     let is : Alt all ≡ tree_of c.args.pattern.now = search (rules, P.the_lemmas) in
     if_ok_by c.choice.result (λ p. Alike (tree_in (plan_of p)) laid) (λ p. Alike (tree_in (plan_of p)) (tree_of c.args.pattern.now))
     (λ p h. subst (λ (u : Tree). Alike (tree_in (plan_of p)) u) is (alike_on (tree_in (plan_of p)) laid (Alt all) h c.in_ok-row-in-Alt.ensures.choice)) c.choice.ensures.alike
@@ -70,7 +71,7 @@ lay_node-returns-in_ok-row-in-Alt-clause-alike t c =
 pub lay_node-returns-in_ok-part-in-Star-clause-alike : goal.lay_node-returns-in_ok-part-in-Star-clause-alike
 lay_node-returns-in_ok-part-in-Star-clause-alike t c =
     let own = tree_in (plan_of c.in_ok-part-in-Star.part) in
-    let inner = tree_of c.deref-in-Star.result.now in
+    let inner = tree_of c.deref.result.now in
     let is : Star inner ≡ tree_of c.args.pattern.now = search (rules, P.the_lemmas) in
     let alike : Alike (Star own) (tree_of c.args.pattern.now) = subst (λ (u : Tree). Alike (Star own) u) is (alike_star own inner c.in_ok-part-in-Star.ensures.alike) in
     if_ok_by c.sign_part.result (λ p. Alike (tree_in (plan_of p)) (Star own)) (λ p. Alike (tree_in (plan_of p)) (tree_of c.args.pattern.now))
@@ -87,7 +88,16 @@ lay_node-returns-in_ok-part-in-Repeat-clause-alike t c =
     if_ok_by c.repeat.result (λ p. Alike (tree_in (plan_of p)) (Repeat own m n)) (λ p. Alike (tree_in (plan_of p)) (tree_of c.args.pattern.now))
     (λ p h. alike_on (tree_in (plan_of p)) (Repeat own m n) (tree_of c.args.pattern.now) h alike) c.repeat.ensures.alike
 
-pub lay_part-returns-then-is_bare-clause-alike : goal.lay_part-returns-then-is_bare-clause-alike
-lay_part-returns-then-is_bare-clause-alike t c =
-    let a = alike_nothing (tree_of c.args.pattern.now) c.requires.sound (c.is_bare.ensures c.if-is_bare.true) in
+pub lay_node-returns-then-is_bare-clause-alike : goal.lay_node-returns-then-is_bare-clause-alike
+lay_node-returns-then-is_bare-clause-alike t c =
+    let marked = sym c.is_bare.ensures ∙ c.if-is_bare.true in
+    let none : positions (tree_of c.args.pattern.now) ≡ 0 = rw c.in-Cat.is (rw (series_tree_of c.in-Cat.parts) (marked_positions _ _ marked)) in
+    let a = alike_nothing (tree_of c.args.pattern.now) c.requires.sound none in
+    search (rules, L.the_lemmas, a)
+
+pub lay_node-returns-then-is_bare-2-clause-alike : goal.lay_node-returns-then-is_bare-2-clause-alike
+lay_node-returns-then-is_bare-2-clause-alike t c =
+    let marked = sym c.is_bare-in-Alt.ensures ∙ c.if-is_bare-2.true in
+    let none : positions (tree_of c.args.pattern.now) ≡ 0 = rw c.in-Alt.is (rw (choice_tree_of c.in-Alt.parts) (marked_positions _ _ marked)) in
+    let a = alike_nothing (tree_of c.args.pattern.now) c.requires.sound none in
     search (rules, L.the_lemmas, a)

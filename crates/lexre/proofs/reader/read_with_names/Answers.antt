@@ -1,4 +1,4 @@
-use Rattle.std.proofs.Common.{◌≡◌, ◌-◌, List, ℕ, sym, subst, arith}
+use Rattle.std.proofs.Common.{◌-◌, List, ℕ, sym, subst, arith}
 use Rattle.std.specs.FinMap.{get}
 use Rattle.lexre_bytes.specs.Lexical.{symbol_at}
 use Rattle.lexre.specs.Cycles.{AllLeadToText}

@@ -1,7 +1,8 @@
 use Rattle.std.proofs.Common.{rules, ◌≡◌, ◌≤◌, ◌<◌, ◌+◌, ℕ, map, drop, length, Option, Some, None, refl, sym, subst, ◌∙◌, arith}
 use Rattle.lex_semantics.specs.Shapes.{IsSoundTree, AreSoundTrees}
 use Rattle.lex_semantics.specs.Tree.{Tree, Trees, Alt, tree, trees}
-use Rattle.lexre.specs.Views.{tree_of}
+use Rattle.lexre.specs.Views.{items_of, tree_of}
+use Rattle.lexre.proofs.BareLaws.{marked_least, marked_least_some, marked_greatest, marked_greatest_some, series_tree_of, choice_tree_of}
 use Rattle.lexre.specs.declared.pattern.Pattern.TheFolds as P
 use Rattle.lexspec.specs.Fixed.{HasOne, JoinHasOne, AllHaveOne, TellsLength}
 use Rattle.lexspec.proofs.FixedLaws.{rest_one, rest_none, join_split, join_more, no_length_joined, too_long_joined, tells_some, no_common, another_common, next_one, next_all}
@@ -93,9 +94,25 @@ common_length-loop-part-preserved t c =
       one = next_one all one later c.loop-part.found whole only m c.in_ok-one.ensures.0;
     }
 
-pub one_length-returns-in-Alt : goal.one_length-returns-in-Alt
-one_length-returns-in-Alt t c =
-    let all = trees (map tree_of c.deref-in-Alt-2.result.now) in
+pub one_length-returns-then-is_bare : goal.one_length-returns-then-is_bare
+one_length-returns-then-is_bare t c =
+    let marked = sym c.is_bare.ensures ∙ c.if-is_bare.true in
+    let parts = c.in-Cat.parts in
+    let all = trees (map tree_of (items_of parts)) in
+    let one : HasOne (tree_of c.args.pattern.now) 0 = rw c.in-Cat.is (rw (series_tree_of parts) (marked_least parts.is_bare all marked, marked_greatest parts.is_bare all marked)) in
+    (one, omega arith)
+
+pub one_length-returns-then-is_bare-2 : goal.one_length-returns-then-is_bare-2
+one_length-returns-then-is_bare-2 t c =
+    let marked = sym c.is_bare-in-Alt.ensures ∙ c.if-is_bare-2.true in
+    let parts = c.in-Alt.parts in
+    let all = trees (map tree_of (items_of parts)) in
+    let one : HasOne (tree_of c.args.pattern.now) 0 = rw c.in-Alt.is (rw (choice_tree_of parts) (marked_least_some parts.is_bare all marked, marked_greatest_some parts.is_bare all marked)) in
+    (one, omega arith)
+
+pub one_length-returns-else-is_bare-2 : goal.one_length-returns-else-is_bare-2
+one_length-returns-else-is_bare-2 t c =
+    let all = trees (map tree_of c.items-in-Alt.result.now) in
     let is : Alt all ≡ tree_of c.args.pattern.now = search (rules, P.the_lemmas) in
     let sound = subst IsSoundTree (sym is) c.requires in
     subst (λ (u : Tree). TellsLength (HasOne u) c.common_length.result) is (tells_some all sound.0 sound.1 c.common_length.result c.common_length.ensures)
