@@ -6,12 +6,15 @@
    A specification is the text of a lex file (docs/MANUAL.md). Its table file is what a scan is made of. Both are bytes, and none
    is kept after a call.
 
+   lex_scan_table scans an input that is there as a whole. A program with a loop of its own, over a socket or in an editor, feeds
+   its input to lex_feed as it comes.
+
    What holds for each call:
 
    - A pointer and the length after it are one buffer, with so many bytes, or items. They may be read, and those of `out`, `tokens`
      and `lines` written, for the whole call. Where the length is 0 the pointer must still not be null.
-   - No other pointer of the call leads to what `out`, `tokens`, `lines`, `count`, `fault` or `status` points to: buffers that are
-     written do not overlap another.
+   - No other pointer of the call leads to what `out`, `tokens`, `lines`, `count`, `fault`, `status` or `scan` points to: buffers that
+     are written do not overlap another.
    - Nothing is global, so calls in several threads do not meet, as long as none writes what another uses.
    - No call is made from a signal handler, or in the child of a fork of a process with threads.
    - No call ends the process. Memory that is refused is told by LEX_OUT_OF_MEMORY.
@@ -31,10 +34,12 @@ extern "C" {
 enum lex_answer {
     LEX_OK = 0,              /* all is done */
     LEX_TOO_SMALL = 1,       /* the buffer has no room for all the bytes; *count says how many there are */
+    LEX_ENDED = 2,           /* the rules have ended the scan: what is fed from now on counts for nothing */
+    LEX_CLOSED = 3,          /* the scan is closed */
     LEX_REFUSED = 65,        /* the text is no specification, its automaton is too large, or the bytes are no table file */
     LEX_STACK = 70,          /* the rules push more than 255 conditions, or pop where there is none: the scan ends so */
     LEX_OUT_OF_MEMORY = 71,  /* a request for memory was refused */
-    LEX_TOO_MANY_READS = 74  /* the scan would read more than 2^40 bytes */
+    LEX_TOO_MANY_READS = 74  /* the scan would read more than 2^40 bytes, or more than 2^64 - 2 were fed to it */
 };
 
 /* How a specification is read: none of these, or some of them added. Other bits count for nothing. */
@@ -148,6 +153,52 @@ int32_t lex_tokens(const uint8_t *file, size_t file_len, const uint8_t *input, s
    LEX_TOO_SMALL: `lines` has the first lines_len of them. Call again with room for *count.
    LEX_REFUSED, LEX_OUT_OF_MEMORY: *count is 0, and `lines` is as it was. lex_generate tells why a text is refused. */
 int32_t lex_rule_lines(const uint8_t *text, size_t text_len, uint32_t flags, uint32_t *lines, size_t lines_len, size_t *count);
+
+/* A scan by pieces. Begin with LEX_SCAN_INIT, and leave its fields to the calls. What holds for it:
+
+   - It is written by these four calls alone, one at a time, each in the thread of the first.
+   - It is not copied while it is open: of two copies only one could be closed.
+   - lex_close gives its memory back. A scan that is not closed keeps it. */
+struct lex_scan {
+    uint8_t is_open;
+    void *place;
+};
+
+#define LEX_SCAN_INIT {0, NULL}
+
+/* Begins a scan by the rules of a table file. If `scan` was open, it is closed first. Nothing of `file` is kept.
+
+   LEX_OK: it is open, and was fed nothing.
+   LEX_REFUSED, LEX_OUT_OF_MEMORY: it is closed. */
+int32_t lex_open(struct lex_scan *scan, const uint8_t *file, size_t file_len);
+
+/* Scans on with a piece more of the input, of any length, and puts what the rules have written, and what was not handed out yet, into
+   `out`. *count is how many bytes these are.
+
+   LEX_OK: out[0] to out[*count - 1] are they. They are all that the bytes fed so far decide: the next match asks for more.
+   LEX_TOO_SMALL: `out` has the first out_len of them. The others are kept: feed no bytes, a piece of length 0, to have them, until
+   another answer comes. That answer tells how the scan stands.
+   LEX_ENDED: the same as LEX_OK, and the rules have ended the scan, whatever more is fed. lex_finish tells the status.
+   LEX_STACK: the same, up to a fault of the stack that ended it.
+   LEX_OUT_OF_MEMORY, LEX_TOO_MANY_READS: `out` has the beginning of what the rules write, and the scan has stopped.
+   LEX_CLOSED: *count is 0, and `out` is as it was.
+
+   What a caller was handed in all these calls, one after another, is what lex_scan_table writes for all the bytes fed, however they are
+   cut into pieces. After any answer from LEX_ENDED on, further pieces count for nothing, and the answer is the same again. */
+int32_t lex_feed(struct lex_scan *scan, const uint8_t *piece, size_t piece_len, uint8_t *out, size_t out_len, size_t *count);
+
+/* Tells that the input has ended, and puts what the rules write at its end, and what was not handed out yet, into `out`. *count is how many
+   bytes these are.
+
+   LEX_OK: out[0] to out[*count - 1] are they, the last of all, and *status is what the rules end with, 0 to 63.
+   LEX_TOO_SMALL: `out` has the first out_len of them. Call again for the others.
+   LEX_STACK, LEX_OUT_OF_MEMORY, LEX_TOO_MANY_READS, LEX_CLOSED: as from lex_feed.
+
+   *status is 0 where the rules did not come to an end. After it, pieces count for nothing. */
+int32_t lex_finish(struct lex_scan *scan, uint8_t *out, size_t out_len, size_t *count, uint8_t *status);
+
+/* Closes a scan, and gives its memory back. One that is closed stays so. */
+void lex_close(struct lex_scan *scan);
 
 #ifdef __cplusplus
 }

@@ -78,6 +78,132 @@ static int scan(struct bytes table, struct bytes input, struct bytes wanted, int
     return 0;
 }
 
+/* What was handed out so far. */
+struct output {
+    struct bytes all;
+    size_t room;
+};
+
+/* Takes what a call put into a buffer of so many bytes. */
+static void take(struct output *output, const uint8_t *buffer, size_t len, size_t count)
+{
+    size_t here = count < len ? count : len;
+    if (output->all.len + here > output->room) {
+        fprintf(stderr, "more was handed out than is wanted\n");
+        exit(1);
+    }
+    memcpy(output->all.at + output->all.len, buffer, here);
+    output->all.len += here;
+}
+
+/* Feeds a piece, and no bytes until all that was written is handed out. */
+static int feed(struct lex_scan *scan, const uint8_t *piece, size_t len, uint8_t *buffer, size_t buffer_len, struct output *output)
+{
+    size_t count;
+    int answer = lex_feed(scan, piece, len, buffer, buffer_len, &count);
+    take(output, buffer, buffer_len, count);
+    while (answer == LEX_TOO_SMALL) {
+        answer = lex_feed(scan, piece, 0, buffer, buffer_len, &count);
+        take(output, buffer, buffer_len, count);
+    }
+    return answer;
+}
+
+static int finish(struct lex_scan *scan, uint8_t *buffer, size_t buffer_len, struct output *output, uint8_t *status)
+{
+    size_t count;
+    int answer;
+    do {
+        answer = lex_finish(scan, buffer, buffer_len, &count, status);
+        take(output, buffer, buffer_len, count);
+    } while (answer == LEX_TOO_SMALL);
+    return answer;
+}
+
+/* The input in pieces of a size, into a buffer of a size. */
+static int scan_pieces(struct bytes table, struct bytes input, struct bytes wanted, int status, size_t piece, size_t buffer_len)
+{
+    struct lex_scan scan = LEX_SCAN_INIT;
+    struct output output = {{malloc(wanted.len + 1), 0}, wanted.len + 1};
+    uint8_t ended, *buffer = malloc(buffer_len);
+    size_t at = 0;
+    int answer;
+    if (output.all.at == NULL || buffer == NULL)
+        exit(2);
+    answer = lex_open(&scan, table.at, table.len);
+    while (answer == LEX_OK && at < input.len) {
+        size_t len = input.len - at < piece ? input.len - at : piece;
+        answer = feed(&scan, input.at + at, len, buffer, buffer_len, &output);
+        at += len;
+    }
+    if (answer == LEX_ENDED && feed(&scan, input.at, input.len, buffer, buffer_len, &output) != LEX_ENDED)
+        return fail("a piece after the end", answer);
+    if (answer == LEX_OK || answer == LEX_ENDED)
+        answer = finish(&scan, buffer, buffer_len, &output, &ended);
+    if (answer != LEX_OK || ended != status || !same(wanted, output.all.at, output.all.len)) {
+        lex_close(&scan);
+        return fail("by pieces", answer);
+    }
+    if (feed(&scan, input.at, input.len, buffer, buffer_len, &output) != LEX_ENDED || output.all.len != wanted.len)
+        return fail("a piece after the end of the input", answer);
+    lex_close(&scan);
+    free(output.all.at);
+    free(buffer);
+    return 0;
+}
+
+static int scan_all_pieces(struct bytes table, struct bytes input, struct bytes wanted, int status)
+{
+    return scan_pieces(table, input, wanted, status, 1, 1) || scan_pieces(table, input, wanted, status, 2, 3) ||
+           scan_pieces(table, input, wanted, status, 7, 1 << 16) || scan_pieces(table, input, wanted, status, 1 << 16, 100);
+}
+
+/* Feeds a text into a buffer of so many bytes, and compares the answer and how many bytes there are. */
+static int feeds(struct lex_scan *scan, const char *piece, size_t room, int wanted, size_t wanted_count)
+{
+    uint8_t out[8];
+    size_t count = 9;
+    int answer = lex_feed(scan, (const uint8_t *)piece, strlen(piece), out, room, &count);
+    return answer == wanted && count == wanted_count ? 0 : fail(piece, answer);
+}
+
+static int finishes(struct lex_scan *scan, int wanted, int wanted_status)
+{
+    uint8_t out[8], status = 9;
+    size_t count = 9;
+    int answer = lex_finish(scan, out, sizeof out, &count, &status);
+    return answer == wanted && count == 0 && status == wanted_status ? 0 : fail("end of a scan", answer);
+}
+
+static int opens(struct lex_scan *scan, struct bytes table, int wanted)
+{
+    int answer = lex_open(scan, table.at, table.len);
+    return answer == wanted ? 0 : fail("open", answer);
+}
+
+/* A scan that is closed, refused, opened twice, ended by its rules, and at fault. */
+static int handles(void)
+{
+    static const char text[] = "%option stack\n%x C\n%%\na printf(\"A\");\nb exit(3);\nc yy_pop_state();\n";
+    struct lex_scan scan = LEX_SCAN_INIT;
+    struct bytes none = {(uint8_t *)text, strlen(text)}, table;
+    int answer = make(none, &table);
+    if (answer != LEX_OK)
+        return fail("table of pieces", answer);
+    answer = feeds(&scan, "a", 8, LEX_CLOSED, 0) || finishes(&scan, LEX_CLOSED, 0);
+    lex_close(&scan);
+    answer = answer || opens(&scan, none, LEX_REFUSED) || feeds(&scan, "a", 8, LEX_CLOSED, 0);
+    answer = answer || opens(&scan, table, LEX_OK) || feeds(&scan, "a", 8, LEX_OK, 1);
+    answer = answer || opens(&scan, table, LEX_OK) || feeds(&scan, "aaba", 1, LEX_TOO_SMALL, 2);
+    answer = answer || feeds(&scan, "a", 8, LEX_ENDED, 1) || finishes(&scan, LEX_OK, 3);
+    answer = answer || opens(&scan, table, LEX_OK) || feeds(&scan, "aca", 8, LEX_STACK, 1) || finishes(&scan, LEX_STACK, 0);
+    lex_close(&scan);
+    answer = answer || feeds(&scan, "a", 8, LEX_CLOSED, 0);
+    lex_close(&scan);
+    free(table.at);
+    return answer;
+}
+
 /* Refusals, each by its number. */
 static int refusals(void)
 {
@@ -143,7 +269,7 @@ int main(int argc, char **argv)
         return LEX_OUT_OF_MEMORY;
     if (answer != LEX_OK)
         return fail(argv[1], answer);
-    answer = scan(table, input, wanted, status) || refusals() || tokens();
+    answer = scan(table, input, wanted, status) || scan_all_pieces(table, input, wanted, status) || refusals() || tokens() || handles();
     free(text.at);
     free(input.at);
     free(wanted.at);

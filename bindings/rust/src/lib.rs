@@ -22,6 +22,12 @@ mod ffi {
         pub place: usize,
     }
 
+    #[repr(C)]
+    pub struct Scan {
+        pub is_open: u8,
+        pub place: *mut core::ffi::c_void,
+    }
+
     extern "C" {
         pub fn lex_generate(
             text: *const u8,
@@ -53,6 +59,27 @@ mod ffi {
             count: *mut usize,
         ) -> i32;
 
+        pub fn lex_open(scan: *mut Scan, file: *const u8, file_len: usize) -> i32;
+
+        pub fn lex_feed(
+            scan: *mut Scan,
+            piece: *const u8,
+            piece_len: usize,
+            out: *mut u8,
+            out_len: usize,
+            count: *mut usize,
+        ) -> i32;
+
+        pub fn lex_finish(
+            scan: *mut Scan,
+            out: *mut u8,
+            out_len: usize,
+            count: *mut usize,
+            status: *mut u8,
+        ) -> i32;
+
+        pub fn lex_close(scan: *mut Scan);
+
         pub fn lex_scan_table(
             file: *const u8,
             file_len: usize,
@@ -68,6 +95,7 @@ mod ffi {
 
 const OK: i32 = 0;
 const TOO_SMALL: i32 = 1;
+const ENDED: i32 = 2;
 const REFUSED: i32 = 65;
 const STACK: i32 = 70;
 const OUT_OF_MEMORY: i32 = 71;
@@ -292,5 +320,115 @@ pub fn rule_lines(text: &[u8], options: Options) -> Result<Vec<u32>, LexError> {
             Ok(_) => Err(LexError::Table),
         },
         _ => Err(LexError::OutOfMemory),
+    }
+}
+
+/// Whether a scan by pieces goes on.
+#[derive(Clone, Copy, Debug, PartialEq, Eq)]
+pub enum Progress {
+    /// The next match asks for more than was fed.
+    Going,
+    /// The rules have ended the scan: what is fed from now on counts for nothing.
+    Ended,
+}
+
+/// A scan by pieces. What its calls append, one after another, is what `scan` writes for all the bytes fed.
+pub struct Scan {
+    inner: ffi::Scan,
+}
+
+impl Scan {
+    /// Begins a scan by the rules of a table file.
+    pub fn open(file: &[u8]) -> Result<Scan, LexError> {
+        let mut scan = Scan {
+            inner: ffi::Scan {
+                is_open: 0,
+                place: std::ptr::null_mut(),
+            },
+        };
+        // Safety: the slice and the scan do not overlap, and live through the call. The scan is closed.
+        match unsafe { ffi::lex_open(&mut scan.inner, file.as_ptr(), file.len()) } {
+            OK => Ok(scan),
+            REFUSED => Err(LexError::Table),
+            _ => Err(LexError::OutOfMemory),
+        }
+    }
+
+    /// Scans on with a piece more, and appends what the bytes fed so far decide.
+    pub fn feed(&mut self, piece: &[u8], output: &mut Vec<u8>) -> Result<Progress, LexError> {
+        let mut rest = piece;
+        let answer = append_all(output, piece.len(), |out, count| {
+            // What has no room is fetched by feeding no bytes.
+            let now = std::mem::take(&mut rest);
+            // Safety: the slices and references do not overlap, and live through the call.
+            unsafe {
+                ffi::lex_feed(
+                    &mut self.inner,
+                    now.as_ptr(),
+                    now.len(),
+                    out.as_mut_ptr(),
+                    out.len(),
+                    count,
+                )
+            }
+        });
+        match answer {
+            OK => Ok(Progress::Going),
+            ENDED => Ok(Progress::Ended),
+            other => Err(stopped(other)),
+        }
+    }
+
+    /// Tells that the input has ended, appends what the rules write at its end, and answers the status that they end with.
+    pub fn finish(mut self, output: &mut Vec<u8>) -> Result<u8, LexError> {
+        let mut status = 0;
+        let answer = append_all(output, 64, |out, count| {
+            // Safety: the slices and references do not overlap, and live through the call.
+            unsafe {
+                ffi::lex_finish(
+                    &mut self.inner,
+                    out.as_mut_ptr(),
+                    out.len(),
+                    count,
+                    &mut status,
+                )
+            }
+        });
+        match answer {
+            OK => Ok(status),
+            other => Err(stopped(other)),
+        }
+    }
+}
+
+impl Drop for Scan {
+    fn drop(&mut self) {
+        // Safety: the scan is this one's alone.
+        unsafe { ffi::lex_close(&mut self.inner) }
+    }
+}
+
+/// Appends what a call hands out, and calls again until nothing is left. The answer is that of the last call.
+fn append_all(output: &mut Vec<u8>, room: usize, mut call: impl FnMut(&mut [u8], &mut usize) -> i32) -> i32 {
+    let mut room = room.max(64);
+    loop {
+        let begins = output.len();
+        output.resize(begins + room, 0);
+        let mut count = 0;
+        let answer = call(&mut output[begins..], &mut count);
+        output.truncate(begins + count.min(room));
+        if answer != TOO_SMALL {
+            return answer;
+        }
+        room = count - room;
+    }
+}
+
+/// Why a scan by pieces stopped. What it had written was appended.
+fn stopped(answer: i32) -> LexError {
+    match answer {
+        STACK => LexError::Stack(Vec::new()),
+        OUT_OF_MEMORY => LexError::OutOfMemory,
+        _ => LexError::TooManyReads,
     }
 }

@@ -1,6 +1,6 @@
 //! Each file of examples/, and refusals.
 
-use liblex::{generate, rule_lines, scan, tokens, LexError, Options, Token};
+use liblex::{generate, rule_lines, scan, tokens, LexError, Options, Progress, Scan, Token};
 use std::fs;
 use std::path::Path;
 
@@ -18,6 +18,10 @@ fn examples_write_what_is_stored() {
         assert!(scanned.output == fs::read(text.with_extension("output")).unwrap(), "{text:?}");
         let status = fs::read_to_string(text.with_extension("status")).unwrap_or_default();
         assert_eq!(scanned.status, status.trim().parse().unwrap_or(0), "{text:?}");
+        let input = fs::read(text.with_extension("input")).unwrap();
+        for size in [1, 2, 7, 4096] {
+            assert_eq!(by_pieces(&table, &input, size), (scanned.output.clone(), scanned.status), "{text:?}");
+        }
         count += 1;
     }
     assert!(count >= 20);
@@ -48,4 +52,31 @@ fn tokens_that_were_worked_by_hand() {
     assert_eq!(tokens(b"nothing", b"a"), Err(LexError::Table));
     assert_eq!(rule_lines(text, Options::default()), Ok(vec![2, 4]));
     assert!(matches!(rule_lines(b"%%\n[z-a] ;\n", Options::default()), Err(LexError::Specification { line: 2, .. })));
+}
+
+/// What a scan by pieces of a size writes, and the status.
+fn by_pieces(table: &[u8], input: &[u8], size: usize) -> (Vec<u8>, u8) {
+    let mut scan = Scan::open(table).unwrap();
+    let mut output = Vec::new();
+    for piece in input.chunks(size) {
+        scan.feed(piece, &mut output).unwrap();
+    }
+    let status = scan.finish(&mut output).unwrap();
+    (output, status)
+}
+
+#[test]
+fn a_scan_writes_what_is_decided() {
+    let table = generate(b"%%\n[0-9]+ printf(\"N\");\nb exit(3);\n", Options::default()).unwrap();
+    let mut scan = Scan::open(&table).unwrap();
+    let mut output = Vec::new();
+    assert_eq!(scan.feed(b"a12", &mut output), Ok(Progress::Going));
+    assert_eq!(output, b"a");
+    assert_eq!(scan.feed(b"3x", &mut output), Ok(Progress::Going));
+    assert_eq!(output, b"aNx");
+    assert_eq!(scan.feed(b"ba", &mut output), Ok(Progress::Ended));
+    assert_eq!(scan.feed(b"a", &mut output), Ok(Progress::Ended));
+    assert_eq!(scan.finish(&mut output), Ok(3));
+    assert_eq!(output, b"aNx");
+    assert!(matches!(Scan::open(b"nothing"), Err(LexError::Table)));
 }

@@ -1,16 +1,19 @@
 //! The scanner generator for C: a static library, whose header is include/lex.h.
 #![tactic(auto)]
 
-ghost use Rattle.std.specs.Prelude.{◌≡◌};
+ghost use Rattle.std.specs.Prelude.{◌≡◌, ℕ, Bool, List, None};
 ghost use Rattle.liblex_calls.specs.declared.answer.Answer.{Answer};
 ghost use Rattle.liblex_calls.specs.Numbers.{number_of};
 ghost use Rattle.liblex_calls.specs.Generating.{Generates};
 ghost use Rattle.liblex_calls.specs.Scanning.{ScansInto};
 ghost use Rattle.liblex_calls.specs.Listing.{ListsInto, TellsLines};
 ghost use Rattle.liblex_calls.specs.Flags.{options_of};
+ghost use Rattle.liblex_calls.specs.Progress.{fed_with};
+ghost use Rattle.liblex_calls.specs.Pieces.{Scanning, OpensScan, FeedsInto, FinishesInto, StaysClosed};
 
 use liblex_calls::{
-    Fault, TextToken, generate_into, options_of, rule_lines_into, scan_into, tokens_into,
+    Fault, Scan, TextToken, close_scan, feed_into, finish_into, generate_into, open_scan,
+    options_of, rule_lines_into, scan_into, tokens_into,
 };
 use std::alloc::Global;
 
@@ -75,4 +78,55 @@ pub extern "C" fn lex_rule_lines(
         × TellsLines (options_of flags) text.now buffer.old buffer.new count.new answer }
 {
     rule_lines_into(alloc, text, options_of(flags), buffer, count).number()
+}
+
+/// Begins a scan by pieces by a table file.
+#[unsafe(no_mangle)]
+pub extern "C" fn lex_open(alloc: Global, scan: &mut Scan, file: &[u8]) -> i32
+    ensures { (answer : Answer) × (result ≡ number_of answer) × OpensScan file.now scan.new answer }
+{
+    open_scan(alloc, scan, file).number()
+}
+
+/// Scans on with a piece more.
+#[unsafe(no_mangle)]
+pub extern "C" fn lex_feed(
+    alloc: Global,
+    scan: &mut Scan,
+    piece: &[u8],
+    buffer: &mut [u8],
+    count: &mut usize,
+) -> i32
+    ensures { (answer : Answer) × (result ≡ number_of answer)
+        × ((file : List ℕ) (told : Bool) (fed out : List ℕ) → Scanning file told fed out scan.old
+        → FeedsInto file told (fed_with told fed piece.now) out scan.new buffer.old buffer.new count.new answer)
+        × (scan.old.place.value ≡ None → StaysClosed scan.new buffer.old buffer.new count.new answer) }
+{
+    feed_into(alloc, scan, piece, buffer, count).number()
+}
+
+/// Scans to the end of what was fed.
+#[unsafe(no_mangle)]
+pub extern "C" fn lex_finish(
+    alloc: Global,
+    scan: &mut Scan,
+    buffer: &mut [u8],
+    count: &mut usize,
+    status: &mut u8,
+) -> i32
+    ensures { (answer : Answer) × (result ≡ number_of answer)
+        × ((file : List ℕ) (told : Bool) (fed out : List ℕ) → Scanning file told fed out scan.old
+        → FinishesInto file fed out scan.new buffer.old buffer.new count.new status.new answer)
+        × (scan.old.place.value ≡ None → StaysClosed scan.new buffer.old buffer.new count.new answer
+        × (status.new ≡ 0)) }
+{
+    finish_into(alloc, scan, buffer, count, status).number()
+}
+
+/// Closes a scan by pieces.
+#[unsafe(no_mangle)]
+pub extern "C" fn lex_close(alloc: Global, scan: &mut Scan)
+    ensures { scan.new.place.value ≡ None }
+{
+    close_scan(alloc, scan);
 }

@@ -19,6 +19,8 @@ use Rattle.liblex_calls.specs.declared.listing.TextToken.{TextToken}
 pub listed_out : (file input : List ℕ) (old new : List TextToken) (count status : ℕ) (answer : Answer) (tokens : List Token) → ByFile file (λ R. Tokenised R input tokens (Status status)) → HandedOut (map shown tokens) old new count → Fits (map shown tokens) old answer → ListsInto file input old new count status answer
 listed_out file input old new count status answers.Done tokens listed handed fits = record { tokens = tokens; listed = listed; handed = handed; fits = fits }
 listed_out file input old new count status answers.TooSmall tokens listed handed fits = record { tokens = tokens; listed = listed; handed = handed; fits = fits }
+listed_out file input old new count status answers.Ended tokens listed handed fits = absurd fits
+listed_out file input old new count status answers.Closed tokens listed handed fits = absurd fits
 listed_out file input old new count status answers.Refused tokens listed handed fits = absurd fits
 listed_out file input old new count status answers.Stack tokens listed handed fits = absurd fits
 listed_out file input old new count status answers.OutOfMemory tokens listed handed fits = absurd fits
@@ -28,6 +30,8 @@ listed_out file input old new count status answers.TooManyReads tokens listed ha
 pub lines_out : (options : Options) (text old new : List ℕ) (count : ℕ) (answer : Answer) (S : Spec) → SpellsSpec (reading options) text S → HandedOut (lines_of S.rules) old new count → Fits (lines_of S.rules) old answer → TellsLines options text old new count answer
 lines_out options text old new count answers.Done S spells handed fits = record { spec = S; spells = spells; handed = handed; fits = fits }
 lines_out options text old new count answers.TooSmall S spells handed fits = record { spec = S; spells = spells; handed = handed; fits = fits }
+lines_out options text old new count answers.Ended S spells handed fits = absurd fits
+lines_out options text old new count answers.Closed S spells handed fits = absurd fits
 lines_out options text old new count answers.Refused S spells handed fits = absurd fits
 lines_out options text old new count answers.Stack S spells handed fits = absurd fits
 lines_out options text old new count answers.OutOfMemory S spells handed fits = absurd fits

@@ -35,6 +35,8 @@ use Rattle.liblex_calls.specs.declared.memory.Kept.{Kept as Sink}
 pub file_out : (options : Options) (text file old new : List ℕ) (count : ℕ) (answer : Answer) (S : Spec) → SpellsSpec (reading options) text S → IsCanonical S file → HandedOut file old new count → Fits file old answer → Generates options text old new count no_fault answer
 file_out options text file old new count answers.Done S spells canonical handed fits = record { spec = S; spells = spells; file = file; canonical = canonical; handed = handed; fits = fits; none = refl }
 file_out options text file old new count answers.TooSmall S spells canonical handed fits = record { spec = S; spells = spells; file = file; canonical = canonical; handed = handed; fits = fits; none = refl }
+file_out options text file old new count answers.Ended S spells canonical handed fits = absurd fits
+file_out options text file old new count answers.Closed S spells canonical handed fits = absurd fits
 file_out options text file old new count answers.Refused S spells canonical handed fits = absurd fits
 file_out options text file old new count answers.Stack S spells canonical handed fits = absurd fits
 file_out options text file old new count answers.OutOfMemory S spells canonical handed fits = absurd fits
@@ -76,6 +78,8 @@ module _ (file input old new : List ℕ) (count : ℕ) (s s' : Slice) (t t' : Si
   pub ended_out : (end : ℕ) (answer : Answer) → TableHeadline gave_by wrote_by file (nat_lt s.ends s'.ends) s s' t t' (Ok end) → HandedOut t'.bytes.items old new count → Fits t'.bytes.items old answer → ScansInto file input old new count end answer
   ended_out end answers.Done told handed fits = record { out = t'.bytes.items; run = run_out (Ok end) told (Status end) told.scans.ran; handed = handed; fits = fits }
   ended_out end answers.TooSmall told handed fits = record { out = t'.bytes.items; run = run_out (Ok end) told (Status end) told.scans.ran; handed = handed; fits = fits }
+  ended_out end answers.Ended told handed fits = absurd fits
+  ended_out end answers.Closed told handed fits = absurd fits
   ended_out end answers.Refused told handed fits = absurd fits
   ended_out end answers.Stack told handed fits = absurd fits
   ended_out end answers.OutOfMemory told handed fits = absurd fits

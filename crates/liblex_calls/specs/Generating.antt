@@ -61,5 +61,7 @@ Generates options text old new count fault answers.Done = FileHandedOut options 
 Generates options text old new count fault answers.TooSmall = FileHandedOut options text old new count fault answers.TooSmall
 Generates options text old new count fault answers.Refused = RefusalHandedOut options text old new count fault
 Generates options text old new count fault answers.OutOfMemory = NothingOut old new count × (fault ≡ no_fault)
+Generates options text old new count fault answers.Ended = ⊥
+Generates options text old new count fault answers.Closed = ⊥
 Generates options text old new count fault answers.Stack = ⊥
 Generates options text old new count fault answers.TooManyReads = ⊥

@@ -7,3 +7,8 @@ pub mod Generating
 pub mod Scanning
 pub mod Listing
 pub mod Ends
+pub mod Backlogs
+pub mod Stages
+pub mod Owned
+pub mod Progress
+pub mod Pieces

@@ -49,6 +49,8 @@ ListsInto file input old new count status answers.TooSmall = TokensHandedOut fil
 ListsInto file input old new count status answers.Stack = TokensBeforeFault file input old new count × (status ≡ 0)
 ListsInto file input old new count status answers.Refused = ((t : Table) → IsFileOf t file → ⊥) × NothingOut old new count × (status ≡ 0)
 ListsInto file input old new count status answers.OutOfMemory = NothingOut old new count × (status ≡ 0)
+ListsInto file input old new count status answers.Ended = ⊥
+ListsInto file input old new count status answers.Closed = ⊥
 ListsInto file input old new count status answers.TooManyReads = ⊥
 
 -- The lines of the rules of the specification that the text spells were handed out.
@@ -64,5 +66,7 @@ TellsLines options text old new count answers.Done = LinesHandedOut options text
 TellsLines options text old new count answers.TooSmall = LinesHandedOut options text old new count answers.TooSmall
 TellsLines options text old new count answers.Refused = ((S : Spec) → SpellsSpec (reading options) text S → ⊥) × NothingOut old new count
 TellsLines options text old new count answers.OutOfMemory = NothingOut old new count
+TellsLines options text old new count answers.Ended = ⊥
+TellsLines options text old new count answers.Closed = ⊥
 TellsLines options text old new count answers.Stack = ⊥
 TellsLines options text old new count answers.TooManyReads = ⊥

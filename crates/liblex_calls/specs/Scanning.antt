@@ -41,6 +41,8 @@ ScansInto file input old new count status answers.Stack = FaultHandedOut file in
 ScansInto file input old new count status answers.Refused = ((t : Table) → IsFileOf t file → ⊥) × NothingOut old new count × (status ≡ 0)
 ScansInto file input old new count status answers.TooManyReads = (max_reads ≤ length input) × NothingOut old new count × (status ≡ 0)
 ScansInto file input old new count status answers.OutOfMemory = NothingOut old new count × (status ≡ 0)
+ScansInto file input old new count status answers.Ended = ⊥
+ScansInto file input old new count status answers.Closed = ⊥
 
 -- what a run that stopped is told as, and a table that was refused
 abbrev pub TellsRun : RunError → List ℕ → List ℕ → List ℕ → ℕ → Answer → Type 0

@@ -1,20 +1,24 @@
 //! What a call answers.
 ghost use Rattle.std.specs.Prelude.{◌≡◌};
 
-/// What a call answers. The numbers are those of the program's statuses, but for 0 and 1.
+/// What a call answers. The numbers from 65 on are those of the program's statuses.
 #[derive(Clone, Copy, Debug, PartialEq, Eq)]
 pub enum Answer {
     /// All is done.
     Done,
     /// The buffer has no room for all the bytes. How many there are is told.
     TooSmall,
+    /// The rules have ended the scan, before the end of the input was told.
+    Ended,
+    /// No scan is open.
+    Closed,
     /// The text spells no specification, its automaton passes a limit, or the bytes are no table file.
     Refused,
     /// The stack of conditions was at fault: the scan ended so.
     Stack,
     /// A request for memory was refused.
     OutOfMemory,
-    /// The scan would make more than 2^40 reads.
+    /// The scan would make more than 2^40 reads, or more than 2^64 - 2 bytes were fed to it.
     TooManyReads,
 }
 
@@ -28,6 +32,8 @@ impl Answer {
         match self {
             Answer::Done => 0,
             Answer::TooSmall => 1,
+            Answer::Ended => 2,
+            Answer::Closed => 3,
             Answer::Refused => 65,
             Answer::Stack => 70,
             Answer::OutOfMemory => 71,

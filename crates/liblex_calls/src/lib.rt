@@ -2,16 +2,25 @@
 #![tactic(auto)]
 
 mod answer;
+mod backlog;
 mod buffers;
+mod by_pieces;
 mod flags;
 mod generating;
+mod handle;
 mod kinds;
 mod listing;
+mod loose;
 mod memory;
+mod piece_scan;
+mod place;
 mod scanning;
+mod stage;
 
 pub use answer::Answer;
+pub use by_pieces::{feed_into, finish_into, open_scan};
 pub use flags::options_of;
 pub use generating::{Fault, generate_into};
+pub use handle::{Scan, close_scan};
 pub use listing::{TextToken, rule_lines_into, tokens_into};
 pub use scanning::scan_into;

@@ -1,0 +1,34 @@
+-- What a scan by pieces hands on.
+use Rattle.std.proofs.Common.{◌≡◌, ℕ, zero, suc, ◌+◌, min, Bool, List, [], ◌∷◌, ◌++◌, length, take, drop, refl, sym, ap, subst, ◌∙◌, append_assoc, arith}
+use Rattle.std.proofs.lemmas.List.{length-take, take-append-drop}
+use Rattle.liblex_calls.specs.Buffers.{HandedOut}
+use Rattle.liblex_calls.specs.Backlogs.{rest}
+use Rattle.liblex_calls.specs.Progress.{machine_in, StandsAt, Progress, HandsOn}
+use Rattle.liblex_calls.specs.declared.backlog.Backlog.{Backlog}
+use Rattle.liblex_calls.specs.declared.piece_scan.PieceScan.{PieceScan}
+
+-- past what was taken the rest of a buffer is as it was
+same_rest : (items buffer : List ℕ) → drop (length items) buffer ≡ drop (length (take (length buffer) items)) buffer
+same_rest [] [] = refl
+same_rest [] (y ∷ ys) = refl
+same_rest (x ∷ xs) [] = refl
+same_rest (x ∷ xs) (y ∷ ys) = same_rest xs ys
+
+pub hands_on : (file : List ℕ) (told : Bool) (fed out : List ℕ) (p : PieceScan) (b : Backlog) (old new : List ℕ) (count : ℕ) → Progress file told fed out p → HandedOut (rest p.backlog) old new count → rest b ≡ drop (length old) (rest p.backlog) →
+    HandsOn file told fed out (record p { backlog = b }) old new count
+hands_on file told fed out p b old new count P handed left =
+    let all : List ℕ = rest p.backlog in
+    let first : List ℕ = take (length old) all in
+    let split : first ++ rest b ≡ all = ap (λ l. first ++ l) left ∙ take-append-drop (length old) all in
+    record {
+      handed = first;
+      buffer = handed.buffer ∙ ap (λ l. first ++ l) (same_rest all old);
+      size = length-take (length old) all ∙ ap (λ n. min (length old) n) (sym handed.count_is);
+      count_is = handed.count_is ∙ ap length (sym split);
+      progress = record {
+        machine = P.machine;
+        text = P.text;
+        finished = P.finished;
+        stands = subst (λ l. StandsAt (machine_in p) p.stage told fed l p.scanner.state p.scanner.waiting.items) (ap (λ l. out ++ l) (sym split) ∙ sym (append_assoc out first (rest b))) P.stands;
+      };
+    }

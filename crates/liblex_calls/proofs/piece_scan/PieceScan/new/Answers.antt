@@ -1,0 +1,21 @@
+use Rattle.std.proofs.Common.{◌≡◌, List, [], ◌++◌, false, refl, sym, ap, subst}
+use Rattle.lex_semantics.specs.Machine.{Machine}
+use Rattle.lextab_packed.specs.Machines.{machine_of}
+use Rattle.lexscan.specs.Pushes.{Fed}
+use Rattle.liblex_calls.specs.Backlogs.{rest}
+use Rattle.liblex_calls.specs.Progress.{IsMachineOf, StandsAt}
+use Rattle.liblex_calls.specs.declared.stage.Stage.TheVariants as stages
+use Rattle.liblex_calls.proofs.Piecing.{first_stands}
+use Rattle.liblex_calls.proofs.piece_scan.PieceScan.new.Goals as goal
+
+pub returns : goal.returns
+returns c file is =
+    let same = ap (λ f. machine_of f.tables) c.new.ensures.machine in
+    let s = c.new.result.state in let w = c.new.result.waiting.items in
+    let stands = subst (λ N. StandsAt N stages.Going false [] [] s w) (sym same) (first_stands (machine_of c.args.flat.tables) s w c.new.ensures.fed c.new.ensures.going) in
+    record {
+      machine = subst (IsMachineOf file) (sym same) is;
+      text = tt;
+      finished = refl;
+      stands = subst (λ l. StandsAt (machine_of c.new.result.machine.tables) stages.Going false [] l s w) (sym (ap (λ l. [] ++ l) c.new-2.ensures)) stands;
+    }

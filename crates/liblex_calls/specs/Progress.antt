@@ -1,0 +1,70 @@
+-- How a scan by pieces stands. (What is written is that of POSIX and flex; the rest is own.)
+use Rattle.std.specs.Prelude.{◌≡◌, ℕ, ◌-◌, ◌^◌, ◌≤◌, min, Bool, true, false, List, [], ◌++◌, length, drop, None}
+use Rattle.lex_semantics.specs.Text.{IsText, BeginsWith, flag}
+use Rattle.lex_semantics.specs.Rules.{Rules}
+use Rattle.lex_semantics.specs.Acting.{Ending, Status, StackFault}
+use Rattle.lex_semantics.specs.Run.{Run}
+use Rattle.lex_semantics.specs.Demand.{Consistent}
+use Rattle.lex_semantics.specs.Machine.{Machine, rules_of_machine}
+use Rattle.lextab_packed.specs.Table.{Table}
+use Rattle.lextab_packed.specs.Steps.{machine_of_table}
+use Rattle.lextab_packed.specs.Invariant.{GoesOn}
+use Rattle.lextab_packed.specs.Machines.{machine_of}
+use Rattle.lextab_file.specs.File.{IsFileOf}
+use Rattle.lexscan.specs.declared.state.State.{State}
+use Rattle.lexscan.specs.Pushes.{Fed, AsksForMore}
+use Rattle.liblex_calls.specs.Backlogs.{rest}
+use Rattle.liblex_calls.specs.declared.stage.Stage.{Stage}
+use Rattle.liblex_calls.specs.declared.stage.Stage.TheVariants as stages
+use Rattle.liblex_calls.specs.declared.piece_scan.PieceScan.{PieceScan}
+
+-- the machine of the table whose file this is
+pub record IsMachineOf (file : List ℕ) (M : Machine) : Type 0 where
+  pub table : Table
+  pub is_file : IsFileOf table file
+  pub goes_on : List Bool
+  pub leads : GoesOn table goes_on
+  pub is : M ≡ machine_of_table table (λ state. flag goes_on state)
+
+-- the machine of a scan
+abbrev pub machine_in : PieceScan → Machine
+machine_in p = machine_of p.scanner.machine.tables
+
+-- Over every input that this may be the beginning of, or all of if its end was told, the run writes this and ends so.
+abbrev pub RunsAll : Rules → Bool → List ℕ → List ℕ → Ending → Type 0
+RunsAll R told fed out ending = (x : List ℕ) → Consistent fed told x → Run R x out ending
+
+-- Over each of these inputs, what the run writes begins with this.
+abbrev pub WritesFirst : Rules → Bool → List ℕ → List ℕ → Type 0
+WritesFirst R told fed out = (x : List ℕ) → Consistent fed told x → (w : List ℕ) (ending : Ending) → Run R x w ending → BeginsWith w out
+
+-- What was fed and what was written, by how far the scan has come. While it goes on, the next turn asks for more than all that was
+-- fed: what was written is all that these bytes decide.
+abbrev pub StandsAt : Machine → Stage → Bool → List ℕ → List ℕ → State → List ℕ → Type 0
+StandsAt M stages.Going told fed out s waiting = (told ≡ false) × (s.ended ≡ None) × (h : Fed M fed out s waiting) × AsksForMore (rules_of_machine M) h.turns fed
+StandsAt M (stages.Ended status) told fed out s waiting = RunsAll (rules_of_machine M) told fed out (Status status)
+StandsAt M stages.Stack told fed out s waiting = RunsAll (rules_of_machine M) told fed out StackFault
+StandsAt M stages.OutOfMemory told fed out s waiting = WritesFirst (rules_of_machine M) told fed out
+StandsAt M stages.TooManyReads told fed out s waiting = WritesFirst (rules_of_machine M) told fed out × (2 ^ 64 - 1 ≤ length fed)
+
+-- A scan by the rules of this file was fed these bytes, and these were handed out. Its end was told, or not. With those that are still to
+-- be handed out they are all that was written.
+pub record Progress (file : List ℕ) (told : Bool) (fed out : List ℕ) (p : PieceScan) : Type 0 where
+  pub machine : IsMachineOf file (machine_in p)
+  pub text : IsText fed
+  pub finished : p.finished ≡ told
+  pub stands : StandsAt (machine_in p) p.stage told fed (out ++ rest p.backlog) p.scanner.state p.scanner.waiting.items
+
+-- What counts as fed with a piece more: once the end was told, nothing more does.
+abbrev pub fed_with : Bool → List ℕ → List ℕ → List ℕ
+fed_with true fed piece = fed
+fed_with false fed piece = fed ++ piece
+
+-- The first of the bytes that were to be handed out stand at the front of the buffer, as many as there is room for, and the rest of it is as
+-- it was. How many there were is told, and those that had no room are still to be handed out.
+pub record HandsOn (file : List ℕ) (told : Bool) (fed out : List ℕ) (p : PieceScan) (old new : List ℕ) (count : ℕ) : Type 0 where
+  pub handed : List ℕ
+  pub buffer : new ≡ handed ++ drop (length handed) old
+  pub size : length handed ≡ min (length old) count
+  pub count_is : count ≡ length (handed ++ rest p.backlog)
+  pub progress : Progress file told fed (out ++ handed) p

@@ -1,0 +1,78 @@
+//! Scans by pieces, each piece into a buffer of the caller.
+ghost use Rattle.std.specs.Prelude.{◌≡◌, ℕ, Bool, List, None};
+ghost use Rattle.liblex_calls.specs.Progress.{fed_with};
+ghost use Rattle.liblex_calls.specs.Pieces.{Scanning, OpensScan, FeedsInto, FinishesInto, StaysClosed};
+
+use crate::answer::Answer;
+use crate::handle::{Scan, close_scan, put, take};
+use crate::piece_scan::PieceScan;
+use lexkit::{Flat, TableError, read_tables};
+use std::alloc::Global;
+
+/// Begins a scan by pieces by a table file. What the scan was open for before is closed.
+pub fn open_scan(alloc: Global, scan: &mut Scan, file: &[u8]) -> Answer
+    ensures { OpensScan file.now scan.new result }
+{
+    close_scan(alloc, scan);
+    let tables = match read_tables(alloc, file) {
+        Err(TableError::OutOfMemory) => return Answer::OutOfMemory,
+        Err(_) => return Answer::Refused,
+        Ok(tables) => tables,
+    };
+    let flat = match Flat::new(alloc, tables) {
+        Err(_) => return Answer::OutOfMemory,
+        Ok(flat) => flat,
+    };
+    match Box::new(alloc, PieceScan::new(alloc, flat)) {
+        Err(_) => Answer::OutOfMemory,
+        Ok(held) => {
+            put(scan, held);
+            Answer::Done
+        }
+    }
+}
+
+/// Scans on with a piece more, and hands out into the buffer what was written and not handed out before. How many bytes these are is
+/// told in `count`, also where the buffer is too small: then a next call hands out the others.
+pub fn feed_into(
+    alloc: Global,
+    scan: &mut Scan,
+    piece: &[u8],
+    buffer: &mut [u8],
+    count: &mut usize,
+) -> Answer
+    ensures fed { (file : List ℕ) (told : Bool) (fed out : List ℕ) → Scanning file told fed out scan.old
+        → FeedsInto file told (fed_with told fed piece.now) out scan.new buffer.old buffer.new count.new result }
+    ensures closed { scan.old.place.value ≡ None → StaysClosed scan.new buffer.old buffer.new count.new result }
+{
+    *count = 0;
+    let Some(mut held) = take(alloc, scan) else {
+        return Answer::Closed;
+    };
+    let answer = held.feed(piece, buffer, count);
+    put(scan, held);
+    answer
+}
+
+/// Scans to the end of what was fed, and hands out as `feed_into` does. The status that the rules end with is told in `status`.
+pub fn finish_into(
+    alloc: Global,
+    scan: &mut Scan,
+    buffer: &mut [u8],
+    count: &mut usize,
+    status: &mut u8,
+) -> Answer
+    ensures finished { (file : List ℕ) (told : Bool) (fed out : List ℕ) → Scanning file told fed out scan.old
+        → FinishesInto file fed out scan.new buffer.old buffer.new count.new status.new result }
+    ensures closed { scan.old.place.value ≡ None → StaysClosed scan.new buffer.old buffer.new count.new result
+        × (status.new ≡ 0) }
+{
+    *count = 0;
+    *status = 0;
+    let Some(mut held) = take(alloc, scan) else {
+        return Answer::Closed;
+    };
+    let answer = held.finish(buffer, count, status);
+    put(scan, held);
+    answer
+}

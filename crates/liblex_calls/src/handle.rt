@@ -1,0 +1,79 @@
+//! What a program in C holds of a scan by pieces.
+ghost use Rattle.std.specs.Prelude.{◌≡◌, Some, None, is_some, IfSome};
+ghost use Rattle.liblex_calls.specs.declared.piece_scan.PieceScan.{PieceScan};
+
+use crate::loose::Loose;
+use crate::piece_scan::PieceScan;
+use crate::place::Place;
+use std::alloc::Global;
+use std::mem;
+
+/// What a program in C holds of a scan by pieces, open or closed.
+#[repr(C)]
+pub struct Scan {
+    is_open: bool,
+    pub(crate) place: Place,
+    ghost told: { is_open ≡ is_some place.value },
+}
+
+impl Scan {
+    /// One that is closed.
+    pub fn closed() -> Scan
+        ensures { result.place.value ≡ None }
+    {
+        Scan {
+            is_open: false,
+            place: Place::empty(),
+        }
+    }
+
+    fn holding(scan: Box<PieceScan>) -> Scan
+        ensures { result.place.value ≡ Some scan.value }
+    {
+        Scan {
+            is_open: true,
+            place: Place::filled(Loose::of(scan)),
+        }
+    }
+
+    fn into_box(self, alloc: Global) -> Option<Box<PieceScan>>
+        ensures value { (p : PieceScan) → self.place.value ≡ Some p → IfSome result (λ b. b.value ≡ p) }
+        ensures is_some { is_some result ≡ is_some self.place.value }
+    {
+        let Scan { is_open, place } = self;
+        if is_open {
+            Some(place.emptied(alloc).into_box())
+        } else {
+            place.let_go();
+            None
+        }
+    }
+}
+
+/// Takes what is held, and leaves the scan closed.
+pub(crate) fn take(alloc: Global, scan: &mut Scan) -> Option<Box<PieceScan>>
+    ensures closed { scan.new.place.value ≡ None }
+    ensures value { (p : PieceScan) → scan.old.place.value ≡ Some p → IfSome result (λ b. b.value ≡ p) }
+    ensures is_some { is_some result ≡ is_some scan.old.place.value }
+{
+    mem::replace(scan, Scan::closed()).into_box(alloc)
+}
+
+/// Puts a scan into one that is closed.
+pub(crate) fn put(scan: &mut Scan, held: Box<PieceScan>)
+    requires { scan.old.place.value ≡ None }
+    ensures { scan.new.place.value ≡ Some held.value }
+{
+    let Scan { is_open: _, place } = mem::replace(scan, Scan::holding(held));
+    place.let_go();
+}
+
+/// Closes a scan, and gives its memory back. One that is closed stays so.
+pub fn close_scan(alloc: Global, scan: &mut Scan)
+    ensures { scan.new.place.value ≡ None }
+{
+    match take(alloc, scan) {
+        None => {}
+        Some(_) => {}
+    }
+}

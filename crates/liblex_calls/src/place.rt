@@ -1,0 +1,56 @@
+//! The handle.
+ghost use Rattle.std.specs.Prelude.{◌≡◌, Some, None, Option};
+ghost use Rattle.std.specs.Coded.{coded_option};
+ghost use Rattle.liblex_calls.specs.Owned.{owned_at};
+ghost use Rattle.liblex_calls.specs.contracts.piece_scan.PieceScan.{the_row};
+ghost use Rattle.liblex_calls.specs.declared.piece_scan.PieceScan.{PieceScan};
+
+use crate::loose::Loose;
+use crate::piece_scan::PieceScan;
+use std::alloc::Global;
+use std::marker::Model;
+
+/// A place for a scan.
+#[repr(C)]
+pub struct Place {
+    at: *mut u8,
+    pub(crate) ghost value: { Option PieceScan } by { coded_option the_row.coded },
+}
+
+impl Model for Place {
+    ghost also_owns = { λ l. owned_at the_row l.at l.value };
+}
+
+impl Place {
+    pub(crate) fn empty() -> Place
+        ensures { result.value ≡ None }
+    {
+        Place {
+            at: std::ptr::null_mut(),
+        }
+    }
+
+    pub(crate) fn filled(scan: Loose<PieceScan, Global>) -> Place
+        ensures { result.value ≡ Some scan.value }
+    {
+        let Loose { at, alloc: _ } = scan;
+        Place { at: at as *mut u8 }
+    }
+
+    pub(crate) fn emptied(self, alloc: Global) -> Loose<PieceScan, Global>
+        requires { (v : PieceScan) × (self.value ≡ Some v) }
+        ensures { self.value ≡ Some result.value }
+    {
+        let Place { at } = self;
+        Loose {
+            at: at as *mut PieceScan,
+            alloc,
+        }
+    }
+
+    pub(crate) fn let_go(self)
+        requires { self.value ≡ None }
+    {
+        let Place { at: _ } = self;
+    }
+}
