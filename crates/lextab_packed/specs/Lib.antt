@@ -5,3 +5,4 @@ pub mod Invariant
 pub mod Views
 pub mod Machines
 pub mod Flats
+pub mod FlatViews

@@ -28,10 +28,12 @@ pub struct Flat {
 }
 
 impl Flat {
+    ghost use Rattle.lextab_packed.specs.FlatViews.{tables_of};
+
     /// The same machine, by rows.
     pub fn new(alloc: Global, tables: Tables) -> Result<Flat, AllocError>
-        ensures machine { IfOk result (λ f. machine_of f.tables ≡ machine_of tables) }
-        ensures states { IfOk result (λ f. states_of f.tables ≡ states_of tables) }
+        ensures machine { IfOk result (λ f. machine_of (tables_of f) ≡ machine_of tables) }
+        ensures states { IfOk result (λ f. states_of (tables_of f) ≡ states_of tables) }
     {
         let kinds = kinds_of(alloc, &tables)?;
         let rows = marked_rows(alloc, &tables, &kinds)?;
