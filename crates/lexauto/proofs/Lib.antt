@@ -11,3 +11,4 @@ pub mod Tables
 pub mod Counting
 pub mod Surveying
 pub mod Built
+pub mod ChangeLaws

@@ -1,5 +1,6 @@
 -- What a work list finds. (This project's.)
-use Rattle.std.specs.Prelude.{◌≡◌, ℕ, ◌+◌, ◌*◌, ◌/◌, ◌%◌, ◌<◌, ◌≤◌, Bool, false, List, [], ◌∷◌, length, Option, slice_index, slice_index_or, not}
+use Rattle.std.specs.Prelude.{◌≡◌, ℕ, ◌+◌, ◌-◌, ◌*◌, ◌/◌, ◌%◌, ◌<◌, ◌≤◌, Bool, false, List, [], ◌∷◌, length, Option, slice_index, slice_index_or, not}
+use Rattle.lex_semantics.specs.ByteSets.{has}
 use Rattle.lex_semantics.specs.Text.{IsText}
 use Rattle.lexauto.specs.Keys.{Key, At, Apart, Finds}
 use Rattle.lex_semantics.specs.Reading.{is_empty}
@@ -57,6 +58,10 @@ GoOn follow = Tells false (goes_by follow)
 -- what follows a key that has some of its moves, but not all
 abbrev pub Held : (Key → Key) → List Key → List ℕ → Key → Type 0
 Held follow keys next held = 0 < length next % 256 → held ≡ follow (key_at keys (length next / 256))
+
+-- the bytes among which are all that what follows reads otherwise than the byte before
+abbrev pub Changes : (Key → ℕ → Key) → Key → ℕ → Type 0
+Changes read followers changes = (b : ℕ) → 1 ≤ b → b < 256 → has changes b ≡ false → read followers (b - 1) ≡ read followers b
 
 -- for each key that has some of its moves, what f tells of it
 pub record TellsSoFar {A : Type 0} (none : A) (f : Key → A) (keys : List Key) (next : List ℕ) (told : List A) : Type 0 where

@@ -1,8 +1,10 @@
 -- How keys lead to one another by the positions of rules. (This project's.)
-use Rattle.std.specs.Prelude.{◌≡◌, ℕ, ◌<◌, ◌≤◌, Bool, List, [], length, map, slice_index, slice_index_or, Vec}
+use Rattle.std.specs.Prelude.{◌≡◌, ℕ, ◌-◌, ◌<◌, ◌≤◌, Bool, false, List, [], length, map, slice_index, slice_index_or, Vec}
 use Rattle.std.proofs.Common.{Global}
 use Rattle.std.specs.List.{filter}
+use Rattle.lex_semantics.specs.ByteSets.{ByteSet, has, empty_set}
 use Rattle.lex_semantics.specs.Spec.{Rule}
+use Rattle.lexauto_positions.specs.Letters.{reads_at}
 use Rattle.lexauto.specs.Keys.{Key}
 use Rattle.lex_semantics.specs.Text.{flag, listed}
 use Rattle.lexauto_positions.specs.RuleFlow.{rules_enter, rules_read}
@@ -23,10 +25,14 @@ masks_in vs = map (λ v. v.items) vs
 abbrev pub mask_at : List (List Bool) → ℕ → List Bool
 mask_at masks b = slice_index_or masks b []
 
--- for each byte, a mask says which positions read it
-pub record AreMasks (rules : List Rule) (masks : List (List Bool)) : Type 0 where
+-- for each byte, a mask says which positions read it, by the bytes that each one reads
+pub record AreMasks (letters : List ByteSet) (masks : List (List Bool)) : Type 0 where
   pub all : length masks ≡ 256
-  pub each : (b q : ℕ) → b < 256 → flag (mask_at masks b) q ≡ rules_read rules b q 0
+  pub each : (b q : ℕ) → b < 256 → flag (mask_at masks b) q ≡ reads_at letters b q 0
+
+-- among these are, for each position, all bytes of which it reads just one, that or the byte before
+abbrev pub AreChanges : (ℕ → ℕ → Bool) → List ByteSet → Type 0
+AreChanges reads changes = (q b : ℕ) → 1 ≤ b → b < 256 → has (slice_index_or changes q empty_set) b ≡ false → reads (b - 1) q ≡ reads b q
 
 -- for each byte, an earlier one or itself with the same mask
 pub record AreTwins (masks : List (List Bool)) (twins : List ℕ) : Type 0 where

@@ -1,12 +1,13 @@
 //! A work list over keys: all that are reached from some roots, each once, with their moves.
 ghost use Rattle.std.specs.Prelude.{◌≡◌, ℕ, ◌<◌, ◌≤◌, List, [], ◌∷◌, ◌++◌, length, slice_index, IfOk, OnOk, IsErrOf};
 ghost use Rattle.lexauto.specs.declared.explore.ExploreError.TheVariants.{Memory};
-ghost use Rattle.lexauto.specs.Explored.{GoOn, IsAutomaton, MoreThan, Reached, Tells, goes_by, step_by};
+ghost use Rattle.lexauto.specs.Explored.{Changes, GoOn, IsAutomaton, MoreThan, Reached, Tells, goes_by, step_by};
 ghost use Rattle.lexauto.specs.Keys.{At, Absent, Found, Finds, keys_in};
 ghost use Rattle.lexauto.specs.KeyPacking.{look_kept, kept_in, unpacked};
 
 use crate::key_packing::{pack_key, unpack_key};
 use lexauto_positions::Walked;
+use lexre_bytes::ByteSet;
 use std::alloc::{AllocError, AllocFailed, Global};
 use std::collections::BTreeMap;
 
@@ -85,10 +86,21 @@ pub(crate) trait Moves {
     fn reading(&self, alloc: Global, followers: &[u32], byte: u8) -> Result<Vec<u32>, AllocError>
         ensures { IfOk result (λ k. k.items ≡ read self.now followers.now byte) };
 
-    /// An earlier byte that is read as this one is, where what follows tells of one; else the byte itself.
-    fn twin(&self, followers: &[u32], byte: u8) -> u8
+    /// The bytes that may be read otherwise than the byte before, of what follows a key.
+    fn changes(&self, followers: &[u32]) -> ByteSet
+        ensures { Changes (read self.now) followers.now result };
+
+    /// An earlier byte that is read as this one is, whatever follows; else the byte itself.
+    fn twin(&self, byte: u8) -> u8
         ensures first { result ≤ byte }
-        ensures same { read self.now followers.now result ≡ read self.now followers.now byte };
+        ensures same { (followers : List ℕ) → read self.now followers result ≡ read self.now followers byte };
+}
+
+/// What follows a key, and the bytes that it may read otherwise than the byte before.
+#[derive(Drop)]
+struct Following {
+    list: Vec<u32>,
+    changes: ByteSet,
 }
 
 /// The place of the key that a byte makes of what follows.
@@ -120,29 +132,33 @@ fn target<M: Moves>(
     alloc: Global,
     moves: &M,
     table: &mut Interner,
-    followers: &[u32],
+    following: &Following,
     row: &[u32],
     byte: u8,
     limit: u32,
 ) -> Result<u32, ExploreError>
     requires finds { Finds (look_kept table.old.places) (kept_in table.old.keys.items) }
     requires len { length row.now ≡ byte }
+    requires changes { 1 ≤ byte → Changes (M.read moves.now) following.now.list.items following.now.changes }
     requires row { (b : ℕ) → b < byte
-        → At (kept_in table.old.keys.items) (slice_index row.now b) (M.read moves.now followers.now b) }
+        → At (kept_in table.old.keys.items) (slice_index row.now b) (M.read moves.now following.now.list.items b) }
     ensures finds { OnOk result (Finds (look_kept table.new.places) (kept_in table.new.keys.items)) }
-    ensures place { IfOk result (λ i. At (kept_in table.new.keys.items) i (M.read moves.now followers.now byte)) }
-    ensures found { OnOk result (Found (kept_in table.old.keys.items) (M.read moves.now followers.now byte)
+    ensures place { IfOk result (λ i. At (kept_in table.new.keys.items) i (M.read moves.now following.now.list.items byte)) }
+    ensures found { OnOk result (Found (kept_in table.old.keys.items) (M.read moves.now following.now.list.items byte)
         (kept_in table.new.keys.items)) }
     ensures room { OnOk result (length table.old.keys.items ≤ limit → length table.new.keys.items ≤ limit) }
     ensures full { IsErrOf result ExploreError.TooMany
-        → Absent (kept_in table.old.keys.items) (M.read moves.now followers.now byte)
+        → Absent (kept_in table.old.keys.items) (M.read moves.now following.now.list.items byte)
         × (limit ≤ length table.old.keys.items) }
 {
-    let twin = moves.twin(followers, byte);
+    if 0 < byte && !following.changes.contains(byte) {
+        return Ok(row[byte as usize - 1]);
+    }
+    let twin = moves.twin(byte);
     if twin < byte {
         return Ok(row[twin as usize]);
     }
-    read_target(alloc, moves, table, followers, byte, limit)
+    read_target(alloc, moves, table, &following.list, byte, limit)
 }
 
 /// What keys tell, in their order: the rules that each accepts, and whether something follows it.
@@ -159,8 +175,9 @@ impl Told {
         alloc: Global,
         moves: &M,
         kept: &[u32],
-    ) -> Result<Vec<u32>, AllocError>
-        ensures followers { IfOk result (λ v. v.items ≡ M.follow moves.now (unpacked kept.now)) }
+    ) -> Result<Following, AllocError>
+        ensures followers { IfOk result (λ f. f.list.items ≡ M.follow moves.now (unpacked kept.now)) }
+        ensures changes { IfOk result (λ f. Changes (M.read moves.now) f.list.items f.changes) }
         ensures accepts { OnOk result (keys_in self.new.accepts.items
             ≡ keys_in self.old.accepts.items ++ M.accept moves.now (unpacked kept.now) ∷ []) }
         ensures goes_on { OnOk result (self.new.goes_on.items
@@ -170,7 +187,10 @@ impl Told {
         let walked = moves.walk(alloc, &key)?;
         self.accepts.push(walked.accepted)?;
         self.goes_on.push(!walked.followers.is_empty())?;
-        Ok(walked.followers)
+        Ok(Following {
+            changes: moves.changes(&walked.followers),
+            list: walked.followers,
+        })
     }
 }
 
@@ -209,15 +229,18 @@ pub(crate) fn explore<M: Moves>(
         accepts: Vec::new(alloc),
         goes_on: Vec::new(alloc),
     };
-    let mut followers: Vec<u32> = Vec::new(alloc);
+    let mut following = Following {
+        list: Vec::new(alloc),
+        changes: ByteSet::empty(),
+    };
     'work: while next.len() / 256 < table.keys.len() {
         let at = next.len() / 256;
         let byte = (next.len() % 256) as u8;
         if byte == 0 {
-            followers = told.add(alloc, moves, &table.keys[at])?;
+            following = told.add(alloc, moves, &table.keys[at])?;
         }
         let row = &next[at * 256..];
-        let place = target(alloc, moves, &mut table, &followers, row, byte, limit)?;
+        let place = target(alloc, moves, &mut table, &following, row, byte, limit)?;
         next.push(place)?;
     }
     Ok(Explored {

@@ -1,6 +1,7 @@
 //! Automata of lex, by subset construction: the states are the sets of positions that words leave.
 #![tactic(auto)]
 
+mod changing;
 mod error;
 mod explore;
 mod following;

@@ -84,20 +84,6 @@ pub(crate) fn in_order(alloc: Global, count: usize, numbers: &[u32]) -> Result<V
     Ok(numbers)
 }
 
-/// Whether each number of the list is marked by both of these or by none of them.
-pub(crate) fn are_marked_alike(numbers: &[u32], marks: &[bool], others: &[bool]) -> bool
-    ensures { result ≡ true → (j : ℕ) → j < length numbers.now
-        → flag marks.now (slice_index numbers.now j) ≡ flag others.now (slice_index numbers.now j) }
-{
-    for number in numbers {
-        let i = *number as usize;
-        if is_marked(marks, i) != is_marked(others, i) {
-            return false;
-        }
-    }
-    true
-}
-
 /// The numbers of the list that are marked.
 fn keep_marked(alloc: Global, numbers: &[u32], marks: &[bool]) -> Result<Vec<u32>, AllocError>
     ensures { IfOk result (λ v. v.items ≡ filter (flag marks.now) numbers.now) }

@@ -8,12 +8,14 @@ ghost use Rattle.lexauto.specs.Facts.{accepted_by};
 ghost use Rattle.lexauto_positions.specs.Laid.{shape_of, HaveSized, HaveSized-prop};
 ghost use Rattle.lexauto_positions.specs.Owners.{AreOwners};
 ghost use Rattle.lexauto_positions.specs.RuleFlow.{rules_enter, rules_left, rules_read};
-ghost use Rattle.lexauto.specs.Moving.{AreMasks, AreTwins, masks_in, mask_at, followers_in, reading_in};
+ghost use Rattle.lexauto.specs.Moving.{AreChanges, AreMasks, AreTwins, masks_in, mask_at, followers_in, reading_in};
 
+use crate::changing::changes_of;
 use crate::explore::Moves;
 use crate::following::walk;
-use crate::sets::{are_marked_alike, last_key};
+use crate::sets::last_key;
 use lexauto_positions::{LaidRule, Owner, Walked, lay_rules, letters_of, mask_of, owners_of};
+use lexre_bytes::ByteSet;
 use lexspec::Spec;
 use std::alloc::{AllocError, Global};
 
@@ -28,6 +30,8 @@ pub(crate) struct RuleMoves<'a> {
     pub accepts_all: bool,
     masks: Vec<Vec<bool>>,
     twins: Vec<u8>,
+    /// For each position the bytes of which it reads just one, that or the byte before.
+    changes: Vec<ByteSet>,
     ghost within: { all_positions (rules_in (spec_of spec.now)) ≡ count },
     ghost sized: { HaveSized rules.items } by { HaveSized-prop rules.items },
     ghost number: { length rules.items ≡ length (rules_in (spec_of spec.now)) },
@@ -44,6 +48,7 @@ pub(crate) struct RuleMoves<'a> {
     ghost each: { (b q : ℕ) → b < 256 → flag (mask_at (masks_in masks.items) b) q
         ≡ rules_read (rules_in (spec_of spec.now)) b q 0 },
     ghost alike: { AreTwins (masks_in masks.items) twins.items },
+    ghost changing: { AreChanges (λ b q. rules_read (rules_in (spec_of spec.now)) b q 0) changes.items },
 }
 
 /// The marks, or none where nothing is marked.
@@ -56,14 +61,13 @@ fn marks_or_none(alloc: Global, marks: Vec<bool>) -> Vec<bool>
     Vec::new(alloc)
 }
 
-/// For each byte the positions that read it.
-fn masks_of(alloc: Global, rules: &[LaidRule]) -> Result<Vec<Vec<bool>>, AllocError>
-    ensures { IfOk result (λ v. AreMasks (map shape_of rules.now) (masks_in v.items)) }
+/// For each byte the positions that read it, by the bytes that each one reads.
+fn masks_of(alloc: Global, letters: &[ByteSet]) -> Result<Vec<Vec<bool>>, AllocError>
+    ensures { IfOk result (λ v. AreMasks letters.now (masks_in v.items)) }
 {
-    let letters = letters_of(alloc, rules)?;
     let mut masks = Vec::new(alloc);
     for byte in 0..256usize {
-        let mask = mask_of(alloc, &letters, byte as u8)?;
+        let mask = mask_of(alloc, letters, byte as u8)?;
         masks.push(marks_or_none(alloc, mask))?;
     }
     Ok(masks)
@@ -128,8 +132,10 @@ impl<'a> RuleMoves<'a> {
     {
         let rules = lay_rules(alloc, spec.rules())?;
         let owners = owners_of(alloc, &rules)?;
-        let masks = masks_of(alloc, &rules)?;
+        let letters = letters_of(alloc, &rules)?;
+        let masks = masks_of(alloc, &letters)?;
         let twins = twins_of(alloc, &masks)?;
+        let changes = changes_of(alloc, &letters)?;
         Ok(RuleMoves {
             spec,
             count,
@@ -138,17 +144,8 @@ impl<'a> RuleMoves<'a> {
             accepts_all: spec.rejects(),
             masks,
             twins,
+            changes,
         })
-    }
-
-    /// Whether just those of the positions that read the one byte read the other.
-    fn reads_alike(&self, positions: &[u32], byte: u8, other: u8) -> bool
-        ensures { result ≡ true → reading_in (rules_in (spec_of self.now.spec.now)) positions.now byte
-            ≡ reading_in (rules_in (spec_of self.now.spec.now)) positions.now other }
-    {
-        let marks = &self.masks[byte as usize];
-        let others = &self.masks[other as usize];
-        are_marked_alike(positions, marks, others)
     }
 }
 
@@ -167,15 +164,17 @@ impl Moves for RuleMoves<'_> {
         last_key(alloc, followers, &self.masks[byte as usize])
     }
 
-    fn twin(&self, followers: &[u32], byte: u8) -> u8 {
-        let twin = self.twins[byte as usize];
-        if twin < byte || byte == 0 {
-            return twin;
+    fn changes(&self, followers: &[u32]) -> ByteSet {
+        let mut changes = ByteSet::empty();
+        for position in followers {
+            if let Some(own) = self.changes.get(*position as usize) {
+                changes = changes.union(own);
+            }
         }
-        let before = byte - 1;
-        if self.reads_alike(followers, before, byte) {
-            return before;
-        }
-        byte
+        changes
+    }
+
+    fn twin(&self, byte: u8) -> u8 {
+        self.twins[byte as usize]
     }
 }

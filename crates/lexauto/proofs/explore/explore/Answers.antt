@@ -1,13 +1,14 @@
-use Rattle.std.proofs.Common.{rules, ◌≡◌, ℕ, Bool, false, [], ◌∷◌, ◌++◌, ◌/◌, ◌%◌, ◌<◌, ◌≤◌, List, length, Vec, Global, refl, sym, subst, ap, ◌∙◌, get_or, Err}
-use Rattle.lexauto.specs.Explored.{key_at, Exploring, Held, TellsSoFar, goes_by, step_by}
+use Rattle.std.proofs.Common.{rules, ◌≡◌, ℕ, Bool, false, [], ◌∷◌, ◌++◌, ◌/◌, ◌%◌, ◌<◌, ◌≤◌, List, length, refl, sym, subst, ap, ◌∙◌, get_or, Err}
+use Rattle.lexauto.specs.Explored.{Changes, key_at, Exploring, Held, TellsSoFar, goes_by, step_by}
 use Rattle.lexauto.specs.declared.explore.ExploreError.TheVariants.{TooMany}
 use Rattle.std.proofs.lemmas.Result.{err_from_is_err_and}
 use Rattle.lexauto.specs.Keys.{Key, At, Absent, Found, keys_in}
 use Rattle.lexauto.specs.declared.explore.Told.{Told}
+use Rattle.lexauto.specs.declared.explore.Following.{Following}
 use Rattle.lexauto.specs.KeyPacking.{look_kept, kept_in, unpacked}
 use Rattle.lexauto.proofs.Works.{ToldAt, advance, held_on, told_first, told_further, told_longer, told_done, finished, too_many}
 use Rattle.lexauto.proofs.Kept.{kept_length, kept_at}
-use Rattle.lexauto.proofs.explore.explore.Goals.{then-byte-eq0+in_ok-followers, else-byte-eq0}
+use Rattle.lexauto.proofs.explore.explore.Goals.{then-byte-eq0+in_ok-following, else-byte-eq0}
 use Rattle.lexauto.proofs.explore.explore.Goals as goal
 
 pub returns-clause-ok : goal.returns-clause-ok
@@ -42,24 +43,24 @@ work-preserved g c =
     let at : c.len-at.result ≡ n = search rules in
     let byte : c.len-in-work-2.result ≡ n = search rules in
     let low : n / 256 < length c.work.table.keys.items = search rules in
-    let held : c.if-byte-eq0.followers.items ≡ follow (key_at keys (n / 256)) = elim c.if-byte-eq0.branch [
-      | then-byte-eq0+in_ok-followers w ↦
+    let held : c.if-byte-eq0.following.list.items ≡ follow (key_at keys (n / 256)) = elim c.if-byte-eq0.branch [
+      | then-byte-eq0+in_ok-following w ↦
           (let here : w.index.result.now ≡ get_or c.work.table.keys.items (n / 256) w.index.result.now = rw (← at) w.index.ensures in
-          ap (λ (v : Vec ℕ Global). v.items) w.followers-is ∙ w.in_ok-followers.ensures.followers ∙ ap follow (ap unpacked w.deref.ensures.value ∙ sym (kept_at c.work.table.keys.items (n / 256) w.index.result.now low here)))
+          ap (λ (f : Following). f.list.items) w.following-is ∙ w.in_ok-following.ensures.followers ∙ ap follow (ap unpacked w.deref.ensures.value ∙ sym (kept_at c.work.table.keys.items (n / 256) w.index.result.now low here)))
       | else-byte-eq0 w ↦
           (let some : 0 < n % 256 = (let f = w.if-byte-eq0.false in search (rules, f)) in
-          ap (λ (v : Vec ℕ Global). v.items) w.followers-is ∙ c.work.invariant.held some)
+          ap (λ (f : Following). f.list.items) w.following-is ∙ c.work.invariant.held some)
     ] in
-    let key : g.M.Moves.read c.args.moves.now c.deref-in-work-2.result.now (c.len-in-work-2.result % 256) ≡ step (key_at keys (n / 256)) (n % 256) =
-    ap (λ (k : Key). g.M.Moves.read c.args.moves.now k (c.len-in-work-2.result % 256)) (c.deref-in-work-2.ensures.value ∙ held)
+    let key : g.M.Moves.read c.args.moves.now c.if-byte-eq0.following.list.items (c.len-in-work-2.result % 256) ≡ step (key_at keys (n / 256)) (n % 256) =
+    ap (λ (k : Key). g.M.Moves.read c.args.moves.now k (c.len-in-work-2.result % 256)) held
     ∙ ap (λ (m : ℕ). g.M.Moves.read c.args.moves.now (follow (key_at keys (n / 256))) (m % 256)) byte in
     let goes : ToldAt false (goes_by follow) keys (n / 256) c.if-byte-eq0.told.goes_on.items = elim c.if-byte-eq0.branch [
-      | then-byte-eq0+in_ok-followers w ↦
+      | then-byte-eq0+in_ok-following w ↦
           (let here : w.index.result.now ≡ get_or c.work.table.keys.items (n / 256) w.index.result.now = rw (← at) w.index.ensures in
           let kept : unpacked w.deref.result.now ≡ key_at keys (n / 256) = ap unpacked w.deref.ensures.value ∙ sym (kept_at c.work.table.keys.items (n / 256) w.index.result.now low here) in
           let zero : n % 256 ≡ 0 = (let f = w.if-byte-eq0.true in search (rules, f)) in
           subst (λ (gs : List Bool). ToldAt false (goes_by follow) keys (n / 256) gs)
-          (sym (ap (λ (t : Told). t.goes_on.items) w.told-is ∙ w.in_ok-followers.ensures.goes_on ∙ ap (λ (k : Key). c.work.told.goes_on.items ++ goes_by follow k ∷ []) kept))
+          (sym (ap (λ (t : Told). t.goes_on.items) w.told-is ∙ w.in_ok-following.ensures.goes_on ∙ ap (λ (k : Key). c.work.told.goes_on.items ++ goes_by follow k ∷ []) kept))
           (told_first step roots (look_kept c.work.table.places) keys c.work.next.items c.args.limit c.work.invariant.exploring false (goes_by follow) n c.work.told.goes_on.items (goes_by follow (key_at keys (n / 256))) refl zero c.work.invariant.on refl))
       | else-byte-eq0 w ↦
           (let some : 0 < n % 256 = (let f = w.if-byte-eq0.false in search (rules, f)) in
@@ -67,17 +68,23 @@ work-preserved g c =
           (told_further step roots (look_kept c.work.table.places) keys c.work.next.items c.args.limit c.work.invariant.exploring false (goes_by follow) n c.work.told.goes_on.items refl some c.work.invariant.on))
     ] in
     let accepted : ToldAt [] accept keys (n / 256) (keys_in c.if-byte-eq0.told.accepts.items) = elim c.if-byte-eq0.branch [
-      | then-byte-eq0+in_ok-followers w ↦
+      | then-byte-eq0+in_ok-following w ↦
           (let here : w.index.result.now ≡ get_or c.work.table.keys.items (n / 256) w.index.result.now = rw (← at) w.index.ensures in
           let kept : unpacked w.deref.result.now ≡ key_at keys (n / 256) = ap unpacked w.deref.ensures.value ∙ sym (kept_at c.work.table.keys.items (n / 256) w.index.result.now low here) in
           let zero : n % 256 ≡ 0 = (let f = w.if-byte-eq0.true in search (rules, f)) in
           subst (λ (ls : List Key). ToldAt [] accept keys (n / 256) ls)
-          (sym (ap (λ (t : Told). keys_in t.accepts.items) w.told-is ∙ w.in_ok-followers.ensures.accepts ∙ ap (λ (k : Key). keys_in c.work.told.accepts.items ++ accept k ∷ []) kept))
+          (sym (ap (λ (t : Told). keys_in t.accepts.items) w.told-is ∙ w.in_ok-following.ensures.accepts ∙ ap (λ (k : Key). keys_in c.work.told.accepts.items ++ accept k ∷ []) kept))
           (told_first step roots (look_kept c.work.table.places) keys c.work.next.items c.args.limit c.work.invariant.exploring [] accept n (keys_in c.work.told.accepts.items) (accept (key_at keys (n / 256))) refl zero c.work.invariant.accepted refl))
       | else-byte-eq0 w ↦
           (let some : 0 < n % 256 = (let f = w.if-byte-eq0.false in search (rules, f)) in
           subst (λ (ls : List Key). ToldAt [] accept keys (n / 256) ls) (sym (ap (λ (t : Told). keys_in t.accepts.items) w.told-is))
           (told_further step roots (look_kept c.work.table.places) keys c.work.next.items c.args.limit c.work.invariant.exploring [] accept n (keys_in c.work.told.accepts.items) refl some c.work.invariant.accepted))
+    ] in
+    let changes : Changes (g.M.Moves.read c.args.moves.now) c.if-byte-eq0.following.list.items c.if-byte-eq0.following.changes = elim c.if-byte-eq0.branch [
+      | then-byte-eq0+in_ok-following w ↦ subst (λ (f : Following). Changes (g.M.Moves.read c.args.moves.now) f.list.items f.changes) (sym w.following-is) w.in_ok-following.ensures.changes
+      | else-byte-eq0 w ↦
+          (let some : 0 < n % 256 = (let f = w.if-byte-eq0.false in search (rules, f)) in
+          subst (λ (f : Following). Changes (g.M.Moves.read c.args.moves.now) f.list.items f.changes) (sym w.following-is) (c.work.invariant.changes some))
     ] in
     let found : Found keys (step (key_at keys (n / 256)) (n % 256)) new = subst (λ (k : Key). Found keys k new) key c.in_ok-place.ensures.found in
     record {
@@ -87,9 +94,10 @@ work-preserved g c =
           c.in_ok-place.ensures.finds found
           (subst (λ (k : Key). At new c.in_ok-place.place k) key c.in_ok-place.ensures.place)
           (rw kept_length (c.in_ok-place.ensures.room (rw kept_length at c.work.invariant.exploring.room))));
-      held = subst (λ (ns : List ℕ). Held follow new ns c.if-byte-eq0.followers.items) (sym c.in_ok-push.ensures.items)
+      held = subst (λ (ns : List ℕ). Held follow new ns c.if-byte-eq0.following.list.items) (sym c.in_ok-push.ensures.items)
           (held_on step roots (look_kept c.work.table.places) keys c.work.next.items c.args.limit c.work.invariant.exploring
-          follow new c.in_ok-place.place n c.if-byte-eq0.followers.items (step (key_at keys (n / 256)) (n % 256)) refl (rw kept_length low) found held);
+          follow new c.in_ok-place.place n c.if-byte-eq0.following.list.items (step (key_at keys (n / 256)) (n % 256)) refl (rw kept_length low) found held);
+      changes = λ some. changes;
       on = subst (λ (ns : List ℕ). TellsSoFar false (goes_by follow) new ns c.if-byte-eq0.told.goes_on.items) (sym c.in_ok-push.ensures.items)
           (told_longer step roots (look_kept c.work.table.places) keys c.work.next.items c.args.limit c.work.invariant.exploring false (goes_by follow) new c.in_ok-place.place n (step (key_at keys (n / 256)) (n % 256)) c.if-byte-eq0.told.goes_on.items refl (rw kept_length low) found goes);
       accepted = subst (λ (ns : List ℕ). TellsSoFar [] accept new ns (keys_in c.if-byte-eq0.told.accepts.items)) (sym c.in_ok-push.ensures.items)
@@ -106,16 +114,16 @@ returns-in_err-place-clause-too_many g c = λ e.
     let at : c.len-at.result ≡ n = search rules in
     let byte : c.len-in-work-2.result ≡ n = search rules in
     let low : n / 256 < length c.work.table.keys.items = search rules in
-    let held : c.if-byte-eq0.followers.items ≡ follow (key_at keys (n / 256)) = elim c.if-byte-eq0.branch [
-      | then-byte-eq0+in_ok-followers w ↦
+    let held : c.if-byte-eq0.following.list.items ≡ follow (key_at keys (n / 256)) = elim c.if-byte-eq0.branch [
+      | then-byte-eq0+in_ok-following w ↦
           (let here : w.index.result.now ≡ get_or c.work.table.keys.items (n / 256) w.index.result.now = rw (← at) w.index.ensures in
-          ap (λ (v : Vec ℕ Global). v.items) w.followers-is ∙ w.in_ok-followers.ensures.followers ∙ ap follow (ap unpacked w.deref.ensures.value ∙ sym (kept_at c.work.table.keys.items (n / 256) w.index.result.now low here)))
+          ap (λ (f : Following). f.list.items) w.following-is ∙ w.in_ok-following.ensures.followers ∙ ap follow (ap unpacked w.deref.ensures.value ∙ sym (kept_at c.work.table.keys.items (n / 256) w.index.result.now low here)))
       | else-byte-eq0 w ↦
           (let some : 0 < n % 256 = (let f = w.if-byte-eq0.false in search (rules, f)) in
-          ap (λ (v : Vec ℕ Global). v.items) w.followers-is ∙ c.work.invariant.held some)
+          ap (λ (f : Following). f.list.items) w.following-is ∙ c.work.invariant.held some)
     ] in
-    let key : g.M.Moves.read c.args.moves.now c.deref-in-work-2.result.now (c.len-in-work-2.result % 256) ≡ step (key_at keys (n / 256)) (n % 256) =
-    ap (λ (k : Key). g.M.Moves.read c.args.moves.now k (c.len-in-work-2.result % 256)) (c.deref-in-work-2.ensures.value ∙ held)
+    let key : g.M.Moves.read c.args.moves.now c.if-byte-eq0.following.list.items (c.len-in-work-2.result % 256) ≡ step (key_at keys (n / 256)) (n % 256) =
+    ap (λ (k : Key). g.M.Moves.read c.args.moves.now k (c.len-in-work-2.result % 256)) held
     ∙ ap (λ (m : ℕ). g.M.Moves.read c.args.moves.now (follow (key_at keys (n / 256))) (m % 256)) byte in
     let p = err_from_is_err_and c.from_residual-in_err-place.result c.from_residual-in_err-place.ensures.1 in
     let told = rw (p.1, p.2) at e in

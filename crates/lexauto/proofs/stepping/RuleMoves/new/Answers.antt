@@ -1,5 +1,7 @@
-use Rattle.std.proofs.Common.{◌<◌, ◌^◌, List, length, map, sym, ap, subst, ◌∙◌, arith}
+use Rattle.std.proofs.Common.{◌≡◌, ℕ, ◌-◌, ◌<◌, ◌^◌, List, length, map, sym, ap, subst, ◌∙◌, arith}
+use Rattle.lex_semantics.specs.ByteSets.{ByteSet}
 use Rattle.lex_semantics.specs.Subsets.{all_positions}
+use Rattle.lexauto_positions.specs.Letters.{reads_at}
 use Rattle.lexspec.specs.Views.{spec_of}
 use Rattle.lexauto_positions.specs.Laid.{shape_of}
 use Rattle.lexauto_positions.specs.Owners.{AreOwners}
@@ -44,5 +46,16 @@ invariant_of-result-clause-left c = λ last. ap (λ (f : LeftAll). f last 0 0) (
 pub invariant_of-result-clause-each : goal.invariant_of-result-clause-each
 invariant_of-result-clause-each c = λ b q low.
     c.in_ok-masks.ensures.each b q low
+    ∙ ap (λ (ls : List ByteSet). reads_at ls b q 0) c.deref-3.ensures.value
+    ∙ c.in_ok-letters.ensures b q
     ∙ ap (λ (rs : List LaidRule). rules_read (map shape_of rs) b q 0) c.deref-2.ensures.value
     ∙ ap (λ (f : Letters). f b q 0) (c.in_ok-rules.ensures.alike.letters ∙ ap rules_read c.rules.ensures.rules)
+
+pub invariant_of-result-clause-changing : goal.invariant_of-result-clause-changing
+invariant_of-result-clause-changing c = λ q b some low not.
+    let told : (k : ℕ) → reads_at c.deref-5.result.now k q 0 ≡ rules_read (spec_of c.args.spec.now).rules k q 0 = λ k.
+    ap (λ (ls : List ByteSet). reads_at ls k q 0) c.deref-5.ensures.value
+    ∙ c.in_ok-letters.ensures k q
+    ∙ ap (λ (rs : List LaidRule). rules_read (map shape_of rs) k q 0) c.deref-2.ensures.value
+    ∙ ap (λ (f : Letters). f k q 0) (c.in_ok-rules.ensures.alike.letters ∙ ap rules_read c.rules.ensures.rules) in
+    sym (told (b - 1)) ∙ c.in_ok-changes.ensures q b some low not ∙ told b

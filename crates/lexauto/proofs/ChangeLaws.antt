@@ -1,0 +1,37 @@
+-- The bytes at which what a position reads changes.
+use Rattle.std.proofs.Common.{◌≡◌, ◌≢◌, ℕ, suc, ◌+◌, ◌<◌, Bool, true, false, ◌&&◌, ◌||◌, List, [], ◌∷◌, length, sym, ap, ◌∙◌, arith}
+use Rattle.std.specs.Prelude.{◌==◌, slice_index_or}
+use Rattle.std.proofs.lemmas.Bool.{eq-eqb, eqb-true, or_parts}
+use Rattle.lex_semantics.specs.ByteSets.{ByteSet, has, empty_set, single, union}
+use Rattle.lexre_bytes.proofs.SetLaws.{has-set_of}
+use Rattle.lexauto_positions.specs.Letters.{reads_at}
+
+pub has_nothing : (b : ℕ) → b < 256 → has empty_set b ≡ false
+unfolding empty_set
+has_nothing b lt = has-set_of (λ c. false) b lt
+
+-- a byte that is in no union is in neither part
+pub in_neither : (s t : ByteSet) (b : ℕ) → b < 256 → has (union s t) b ≡ false → (has s b ≡ false) × (has t b ≡ false)
+unfolding union
+in_neither s t b lt e = or_parts (has s b) (has t b) (sym (has-set_of (λ c. has s c || has t c) b lt) ∙ e)
+
+pub not_single : (n b : ℕ) → b < 256 → has (single n) b ≡ false → b ≢ n
+unfolding single
+not_single n b lt e is = let h : true ≡ false = sym (eq-eqb b n is) ∙ sym (has-set_of (λ c. c == n) b lt) ∙ e in cc
+
+and_same : (x y t : Bool) → (t ≡ true → x ≡ y) → (x && t) ≡ (y && t)
+and_same x y true h = ap (λ (z : Bool). z && true) (h (let e : true ≡ true = cc in e))
+and_same true true false h = cc
+and_same true false false h = cc
+and_same false true false h = cc
+and_same false false false h = cc
+
+-- a position reads both bytes or neither, where its set has both or neither
+pub reads_same : (letters : List ByteSet) (b c q base : ℕ)
+    → ((i : ℕ) → i < length letters → q ≡ base + i → has (slice_index_or letters i empty_set) b ≡ has (slice_index_or letters i empty_set) c)
+    → reads_at letters b q base ≡ reads_at letters c q base
+reads_same [] b c q base h = cc
+reads_same (s ∷ letters) b c q base h =
+    let first = and_same (has s b) (has s c) (q == base) (λ e. h 0 (omega arith) (let at = eqb-true q base e in omega (arith, at))) in
+    let others = reads_same letters b c q (base + 1) (λ i lt e. h (suc i) (omega (arith, lt)) (omega (arith, e))) in
+    cc

@@ -1,0 +1,38 @@
+//! The bytes at which what a position reads changes.
+ghost use Rattle.std.specs.Prelude.{◌≡◌, ℕ, ◌-◌, ◌<◌, ◌≤◌, false, length, IfOk};
+ghost use Rattle.lex_semantics.specs.ByteSets.{has};
+ghost use Rattle.lexauto_positions.specs.Letters.{reads_at};
+ghost use Rattle.lexauto.specs.Moving.{AreChanges};
+
+use lexre_bytes::ByteSet;
+use std::alloc::{AllocError, Global};
+
+/// The bytes from 1 on of which the set has just one, that or the byte before.
+fn changes_in(set: &ByteSet) -> ByteSet
+    ensures { (b : ℕ) → 1 ≤ b → b < 256 → has result b ≡ false → has set.now (b - 1) ≡ has set.now b }
+{
+    let mut changes = ByteSet::empty();
+    for before in 0..255u8 {
+        if set.contains(before) != set.contains(before + 1) {
+            changes = changes.union(&ByteSet::of(before + 1));
+        }
+    }
+    changes
+}
+
+/// For each of the sets the bytes from 1 on of which it has just one, that or the byte before.
+pub(crate) fn changes_of(alloc: Global, letters: &[ByteSet]) -> Result<Vec<ByteSet>, AllocError>
+    ensures { IfOk result (λ v. AreChanges (λ b q. reads_at letters.now b q 0) v.items) }
+{
+    let mut all = Vec::with_capacity(alloc, letters.len())?;
+    let mut last = ByteSet::empty();
+    let mut changes = ByteSet::empty();
+    for set in letters {
+        if *set != last {
+            last = *set;
+            changes = changes_in(set);
+        }
+        all.push(changes)?;
+    }
+    Ok(all)
+}
