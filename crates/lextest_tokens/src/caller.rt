@@ -10,7 +10,8 @@ use std::alloc::Global;
 
 /// The tokens of an input by tables, and the status that the scan of it ends with.
 pub fn tokens_by(alloc: Global, tables: &Tables, input: &[u8]) -> Result<(Vec<Token>, u8), RunError>
-    ensures listed { IfOk result (λ (list, status). Tokenised (rules_of_machine (machine_of tables.now)) input.now list.items (Status status)) }
+    ensures listed { IfOk result (λ (list, status). Tokenised (rules_of_machine (machine_of tables.now))
+        input.now list.items (Status status)) }
     ensures inside { IfOk result (λ (list, status). LieIn (length input.now) 0 list.items) }
 {
     let mut list = Vec::new(alloc);
