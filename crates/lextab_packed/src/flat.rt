@@ -141,15 +141,15 @@ impl Machine for Flat {
         let mut count = 0usize;
         'bytes: while count < bytes.len() {
             let next = self.target(place, bytes[count]);
-            count += 1;
             if STOP <= next {
                 return Some(Way {
-                    count,
+                    count: count + 1,
                     state: state_of(next),
                     before: place / 256,
                     gist: self.gist_at(next),
                 });
             }
+            count += 1;
             if next == place {
                 'run: while count < bytes.len() && self.target(place, bytes[count]) == place {
                     count += 1;
