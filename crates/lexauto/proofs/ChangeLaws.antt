@@ -1,8 +1,8 @@
 -- The bytes at which what a position reads changes.
 use Rattle.std.proofs.Common.{◌≡◌, ◌≢◌, ℕ, suc, ◌+◌, ◌<◌, Bool, true, false, ◌&&◌, ◌||◌, List, [], ◌∷◌, length, sym, ap, ◌∙◌, arith}
-use Rattle.std.specs.Prelude.{◌==◌, slice_index_or}
-use Rattle.std.proofs.lemmas.Bool.{eq-eqb, eqb-true, or_parts}
-use Rattle.lex_semantics.specs.ByteSets.{ByteSet, has, empty_set, single, union}
+use Rattle.std.specs.Prelude.{◌==◌, nat_le, slice_index_or}
+use Rattle.std.proofs.lemmas.Bool.{eq-eqb, eqb-true, leb-true, or_parts}
+use Rattle.lex_semantics.specs.ByteSets.{ByteSet, has, empty_set, range_set, single, union, within}
 use Rattle.lexre_bytes.proofs.SetLaws.{has-set_of}
 use Rattle.lexauto_positions.specs.Letters.{reads_at}
 
@@ -18,6 +18,23 @@ in_neither s t b lt e = or_parts (has s b) (has t b) (sym (has-set_of (λ c. has
 pub not_single : (n b : ℕ) → b < 256 → has (single n) b ≡ false → b ≢ n
 unfolding single
 not_single n b lt e is = let h : true ≡ false = sym (eq-eqb b n is) ∙ sym (has-set_of (λ c. c == n) b lt) ∙ e in cc
+
+-- a byte after another is not among those up to it
+pub not_up_to : (b c : ℕ) → b < c → c < 256 → has (range_set 0 b) c ≡ false
+unfolding range_set
+not_up_to b c after lt = has-set_of (within 0 b) c lt ∙ above (nat_le c b) (λ e. omega (arith, after, leb-true c b e))
+  where
+    above : (t : Bool) → (t ≡ true → ⊥) → (nat_le 0 c && t) ≡ false
+    above true h = absurd (h (let e : true ≡ true = cc in e))
+    above false h = neither (nat_le 0 c)
+      where
+        neither : (t : Bool) → (t && false) ≡ false
+        neither true = cc
+        neither false = cc
+
+-- where a set adds nothing to another, it has no byte that the other lacks
+pub adds_nothing : (s t : ByteSet) (b : ℕ) → b < 256 → union s t ≡ t → has t b ≡ false → has s b ≡ false
+adds_nothing s t b lt same e = (in_neither s t b lt (ap (λ u. has u b) same ∙ e)).0
 
 and_same : (x y t : Bool) → (t ≡ true → x ≡ y) → (x && t) ≡ (y && t)
 and_same x y true h = ap (λ (z : Bool). z && true) (h (let e : true ≡ true = cc in e))

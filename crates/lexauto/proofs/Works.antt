@@ -1,18 +1,35 @@
 -- The steps of a work list.
-use Rattle.std.proofs.Common.{◌≡◌, ◌==◌, not, ℕ, suc, ◌+◌, ◌*◌, ◌/◌, ◌%◌, ◌<◌, ◌≤◌, ◌⊎◌, List, [], ◌∷◌, ◌++◌, length, Option, refl, ap, sym, subst, ◌∙◌, inl, inr, arith, get_or, length-append}
+use Rattle.std.proofs.Common.{◌≡◌, ◌==◌, not, false, ℕ, zero, suc, ◌+◌, ◌-◌, ◌*◌, ◌/◌, ◌%◌, ◌<◌, ◌≤◌, ◌⊎◌, List, [], ◌∷◌, ◌++◌, length, Option, refl, ap, sym, subst, ◌∙◌, inl, inr, arith, get_or, length-append}
 use Rattle.std.proofs.lemmas.Bool.{cases_lt, ne_eqb}
 use Rattle.std.specs.Prelude.{slice_index}
 use Rattle.std.proofs.lemmas.Option.{slice_get_within, slice_get-get_or, get_or_from_slice_get}
 use Rattle.std.proofs.lemmas.List.{get_or_push, get_or_append_left}
 use Rattle.lexauto.specs.Keys.{Key, At, Absent, Apart, Finds, Found}
+use Rattle.lex_semantics.specs.ByteSets.{has}
 use Rattle.lex_semantics.specs.Text.{IsText}
-use Rattle.lexauto.specs.Explored.{run, Reached, IsAutomaton, MoreThan, key_at, Exploring, Held, Tells, TellsSoFar}
+use Rattle.lexauto.specs.Explored.{Changes, run, Reached, IsAutomaton, MoreThan, key_at, Exploring, Held, Tells, TellsSoFar}
 use Rattle.lex_semantics.specs.Reading.{is_empty}
 use Rattle.lexauto.proofs.Places.{at_longer, at_shorter}
 
 -- for each key up to this place, what f tells of it
 abbrev pub ToldAt : {A : Type 0} → A → (Key → A) → List Key → ℕ → List A → Type 0
 ToldAt none f keys at told = (length told ≡ at + 1) × ((i : ℕ) → i < length told → get_or told i none ≡ f (key_at keys i))
+
+-- moves of one key are added, all to one target
+pub record Fills (next : List ℕ) (target : ℕ) (filled : List ℕ) : Type 0 where
+  pub more : length next < length filled
+  pub row : length filled ≤ length next / 256 * 256 + 256
+  pub before : (j : ℕ) → j < length next → slice_index filled j ≡ slice_index next j
+  pub added : (j : ℕ) → length next ≤ j → j < length filled → slice_index filled j ≡ target
+
+-- bytes without a change between them are read alike
+pub unchanged : (read : Key → ℕ → Key) (followers : Key) (changes b e : ℕ) → Changes read followers changes → ((c : ℕ) → b < c → c < e → has changes c ≡ false) → e ≤ 256
+    → (d : ℕ) → b + d < e → read followers (b + d) ≡ read followers b
+unchanged read followers changes b e is none within zero h = ap (read followers) (omega arith)
+unchanged read followers changes b e is none within (suc d) h =
+    let at : b + suc d - 1 ≡ b + d = omega arith in
+    sym (is (b + suc d) (omega arith) (omega (arith, h, within)) (none (b + suc d) (omega arith) h))
+    ∙ ap (read followers) at ∙ unchanged read followers changes b e is none within d (omega (arith, h))
 
 pub some_is : (l : List ℕ) → not (length l == 0) ≡ not (is_empty l)
 some_is [] = refl
@@ -61,13 +78,14 @@ module _ (step : Key → ℕ → Key) where
     grown_length keys new k (inr h) = rw h.1 (omega (arith, length-append keys (k ∷ [])))
 
     module _ (find : Key → Option ℕ) (keys : List Key) (next : List ℕ) (limit : ℕ) (e : Exploring step root find keys next limit) where
-      pub advance : (find' : Key → Option ℕ) (new : List Key) (target n : ℕ) → n ≡ length next → n / 256 < length keys
+      pub advance : (find' : Key → Option ℕ) (new : List Key) (filled : List ℕ) (target n : ℕ) → n ≡ length next → n / 256 < length keys
           → Finds find' new → Found keys (step (key_at keys (n / 256)) (n % 256)) new → At new target (step (key_at keys (n / 256)) (n % 256)) → length new ≤ limit
-          → Exploring step root find' new (next ++ target ∷ []) limit
-      advance find' new target n count low f found here room =
+          → Fills next target filled
+          → ((j : ℕ) → n ≤ j → j < length filled → step (key_at keys (n / 256)) (j % 256) ≡ step (key_at keys (n / 256)) (n % 256))
+          → Exploring step root find' new filled limit
+      advance find' new filled target n count low f found here room fills alike =
           let k = step (key_at keys (n / 256)) (n % 256) in
           let longer : length keys ≤ length new = grown_length keys new k found in
-          let more : length (next ++ target ∷ []) ≡ length next + 1 = length-append next (target ∷ []) in
           let same : (i : ℕ) → i < length keys → key_at new i ≡ key_at keys i = λ i h. key_is new i (key_at keys i) (grown keys new k found i (key_at keys i) (is_key keys i h)) in
           record {
             finds = f;
@@ -78,20 +96,23 @@ module _ (step : Key → ℕ → Key) where
             ];
             moves = λ j h. elim (cases_lt j (length next)) [
               | inl g ↦ (let lower : j / 256 < length keys = omega arith in
-                  rw (get_or_append_left next (target ∷ []) 0 j g, same (j / 256) lower) (grown keys new k found (slice_index next j) (step (key_at keys (j / 256)) (j % 256)) (e.moves j g)))
-              | inr g ↦ (let at : j ≡ n = omega arith in
-                  rw (at, get_or_push next target 0 n (sym count), same (n / 256) low) here)
+                  rw (fills.before j g, same (j / 256) lower) (grown keys new k found (slice_index next j) (step (key_at keys (j / 256)) (j % 256)) (e.moves j g)))
+              | inr g ↦ (let row = fills.row in
+                  let at : j / 256 ≡ n / 256 = omega (arith, row, count, g, h) in
+                  let from : n ≤ j = omega (arith, count, g) in
+                  rw (at, fills.added j (omega (arith, g)) h, same (n / 256) low, alike j from h) here)
             ];
-            behind = let b = e.behind in omega (arith, more, longer);
+            behind = let row = fills.row in omega (arith, longer, row, count, low);
             room = room;
           }
 
       -- what follows the key stays held until its last move
-      pub held_on : (follow : Key → Key) (new : List Key) (target n : ℕ) (held k : Key) → n ≡ length next → n / 256 < length keys → Found keys k new
-          → held ≡ follow (key_at keys (n / 256)) → Held follow new (next ++ target ∷ []) held
-      held_on follow new target n held k count low found is = λ some.
-          let more : length (next ++ target ∷ []) ≡ length next + 1 = length-append next (target ∷ []) in
-          let place : length (next ++ target ∷ []) / 256 ≡ n / 256 = omega arith in
+      pub held_on : (follow : Key → Key) (new : List Key) (filled : List ℕ) (target n : ℕ) (held k : Key) → n ≡ length next → n / 256 < length keys → Found keys k new
+          → Fills next target filled → held ≡ follow (key_at keys (n / 256)) → Held follow new filled held
+      held_on follow new filled target n held k count low found fills is = λ some.
+          let row = fills.row in
+          let more = fills.more in
+          let place : length filled / 256 ≡ n / 256 = omega (arith, row, more, count, some) in
           let same : key_at new (n / 256) ≡ key_at keys (n / 256) = key_is new (n / 256) (key_at keys (n / 256)) (grown keys new k found (n / 256) (key_at keys (n / 256)) (is_key keys (n / 256) low)) in
           rw (place, same) is
 
@@ -113,12 +134,12 @@ module _ (step : Key → ℕ → Key) where
         pub told_further : (n : ℕ) (told : List A) → n ≡ length next → 0 < n % 256 → TellsSoFar none f keys next told → ToldAt none f keys (n / 256) told
         told_further n told count some on = (let len = on.len in omega (arith, len, count, some), on.each)
 
-        pub told_longer : (new : List Key) (target n : ℕ) (k : Key) (told : List A) → n ≡ length next → n / 256 < length keys → Found keys k new → ToldAt none f keys (n / 256) told
-            → TellsSoFar none f new (next ++ target ∷ []) told
-        told_longer new target n k told count low found on =
+        pub told_longer : (new : List Key) (filled : List ℕ) (target n : ℕ) (k : Key) (told : List A) → n ≡ length next → n / 256 < length keys → Found keys k new → Fills next target filled
+            → ToldAt none f keys (n / 256) told → TellsSoFar none f new filled told
+        told_longer new filled target n k told count low found fills on =
             let size = on.0 in
             record {
-              len = let more : length (next ++ target ∷ []) ≡ length next + 1 = length-append next (target ∷ []) in omega (arith, more, size, count);
+              len = let row = fills.row in let more = fills.more in omega (arith, row, more, size, count);
               each = λ i h. (let lower : i < length keys = omega (arith, size, h, low) in
                   on.1 i h ∙ ap f (sym (key_is new i (key_at keys i) (grown keys new k found i (key_at keys i) (is_key keys i lower)))));
             }

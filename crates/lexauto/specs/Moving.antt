@@ -34,6 +34,10 @@ pub record AreMasks (letters : List ByteSet) (masks : List (List Bool)) : Type 0
 abbrev pub AreChanges : (ℕ → ℕ → Bool) → List ByteSet → Type 0
 AreChanges reads changes = (q b : ℕ) → 1 ≤ b → b < 256 → has (slice_index_or changes q empty_set) b ≡ false → reads (b - 1) q ≡ reads b q
 
+-- for each byte, a set without the bytes after it
+abbrev pub HaveNoneAfter : List ByteSet → Type 0
+HaveNoneAfter sets = (b c : ℕ) → b < c → c < 256 → has (slice_index_or sets b empty_set) c ≡ false
+
 -- for each byte, an earlier one or itself with the same mask
 pub record AreTwins (masks : List (List Bool)) (twins : List ℕ) : Type 0 where
   pub len : length twins ≡ 256

@@ -2,7 +2,7 @@
 ghost use Rattle.std.specs.Prelude.{◌≡◌, ℕ, ◌-◌, ◌<◌, ◌≤◌, false, length, IfOk};
 ghost use Rattle.lex_semantics.specs.ByteSets.{has};
 ghost use Rattle.lexauto_positions.specs.Letters.{reads_at};
-ghost use Rattle.lexauto.specs.Moving.{AreChanges};
+ghost use Rattle.lexauto.specs.Moving.{AreChanges, HaveNoneAfter};
 
 use lexre_bytes::ByteSet;
 use std::alloc::{AllocError, Global};
@@ -18,6 +18,18 @@ fn changes_in(set: &ByteSet) -> ByteSet
         }
     }
     changes
+}
+
+/// For each byte the set of the bytes up to it.
+pub(crate) fn bytes_up_to(alloc: Global) -> Result<Vec<ByteSet>, AllocError>
+    ensures len { IfOk result (λ v. length v.items ≡ 256) }
+    ensures none { IfOk result (λ v. HaveNoneAfter v.items) }
+{
+    let mut sets = Vec::new(alloc);
+    for byte in 0..256usize {
+        sets.push(ByteSet::range(0, byte as u8))?;
+    }
+    Ok(sets)
 }
 
 /// For each of the sets the bytes from 1 on of which it has just one, that or the byte before.

@@ -1,10 +1,13 @@
 //! A work list over keys: all that are reached from some roots, each once, with their moves.
-ghost use Rattle.std.specs.Prelude.{◌≡◌, ℕ, ◌<◌, ◌≤◌, List, [], ◌∷◌, ◌++◌, length, slice_index, IfOk, OnOk, IsErrOf};
+ghost use Rattle.std.specs.Prelude.{◌≡◌, ℕ, ◌<◌, ◌≤◌, false, List, [], ◌∷◌, ◌++◌, length, slice_index, IfOk, OnOk, IsErrOf};
+ghost use Rattle.lex_semantics.specs.ByteSets.{has};
 ghost use Rattle.lexauto.specs.declared.explore.ExploreError.TheVariants.{Memory};
 ghost use Rattle.lexauto.specs.Explored.{Changes, GoOn, IsAutomaton, MoreThan, Reached, Tells, goes_by, step_by};
+ghost use Rattle.lexauto.specs.Moving.{HaveNoneAfter};
 ghost use Rattle.lexauto.specs.Keys.{At, Absent, Found, Finds, keys_in};
 ghost use Rattle.lexauto.specs.KeyPacking.{look_kept, kept_in, unpacked};
 
+use crate::changing::bytes_up_to;
 use crate::key_packing::{pack_key, unpack_key};
 use lexauto_positions::Walked;
 use lexre_bytes::ByteSet;
@@ -132,33 +135,59 @@ fn target<M: Moves>(
     alloc: Global,
     moves: &M,
     table: &mut Interner,
-    following: &Following,
+    followers: &[u32],
     row: &[u32],
     byte: u8,
     limit: u32,
 ) -> Result<u32, ExploreError>
     requires finds { Finds (look_kept table.old.places) (kept_in table.old.keys.items) }
     requires len { length row.now ≡ byte }
-    requires changes { 1 ≤ byte → Changes (M.read moves.now) following.now.list.items following.now.changes }
     requires row { (b : ℕ) → b < byte
-        → At (kept_in table.old.keys.items) (slice_index row.now b) (M.read moves.now following.now.list.items b) }
+        → At (kept_in table.old.keys.items) (slice_index row.now b) (M.read moves.now followers.now b) }
     ensures finds { OnOk result (Finds (look_kept table.new.places) (kept_in table.new.keys.items)) }
-    ensures place { IfOk result (λ i. At (kept_in table.new.keys.items) i (M.read moves.now following.now.list.items byte)) }
-    ensures found { OnOk result (Found (kept_in table.old.keys.items) (M.read moves.now following.now.list.items byte)
+    ensures place { IfOk result (λ i. At (kept_in table.new.keys.items) i (M.read moves.now followers.now byte)) }
+    ensures found { OnOk result (Found (kept_in table.old.keys.items) (M.read moves.now followers.now byte)
         (kept_in table.new.keys.items)) }
     ensures room { OnOk result (length table.old.keys.items ≤ limit → length table.new.keys.items ≤ limit) }
     ensures full { IsErrOf result ExploreError.TooMany
-        → Absent (kept_in table.old.keys.items) (M.read moves.now following.now.list.items byte)
+        → Absent (kept_in table.old.keys.items) (M.read moves.now followers.now byte)
         × (limit ≤ length table.old.keys.items) }
 {
-    if 0 < byte && !following.changes.contains(byte) {
-        return Ok(row[byte as usize - 1]);
-    }
     let twin = moves.twin(byte);
     if twin < byte {
         return Ok(row[twin as usize]);
     }
-    read_target(alloc, moves, table, &following.list, byte, limit)
+    read_target(alloc, moves, table, followers, byte, limit)
+}
+
+/// The first byte after this one that is among the changes.
+fn first_after(changes: &ByteSet, byte: u8) -> usize
+    ensures after { byte < result }
+    ensures within { result ≤ 256 }
+    ensures none { (b : ℕ) → byte < b → b < result → has changes.now b ≡ false }
+{
+    for next in byte as usize + 1..256 {
+        if changes.contains(next as u8) {
+            return next;
+        }
+    }
+    256
+}
+
+/// The next byte that may be read otherwise than the one before, or 256. `up_to` has for each byte the set of those up to
+/// it.
+fn next_change(changes: &ByteSet, up_to: &[ByteSet], byte: u8) -> usize
+    requires len { length up_to.now ≡ 256 }
+    requires up_to { HaveNoneAfter up_to.now }
+    ensures after { byte < result }
+    ensures within { result ≤ 256 }
+    ensures none { (b : ℕ) → byte < b → b < result → has changes.now b ≡ false }
+{
+    let before = &up_to[byte as usize];
+    if changes.union(before) == *before {
+        return 256;
+    }
+    first_after(changes, byte)
 }
 
 /// What keys tell, in their order: the rules that each accepts, and whether something follows it.
@@ -205,7 +234,7 @@ pub(crate) struct Explored {
 }
 
 /// All that is reached from the roots, which stand in the table. It is refused only where there are more keys than the
-/// limit.
+/// limit. A target is repeated up to the next byte that may be read otherwise.
 pub(crate) fn explore<M: Moves>(
     alloc: Global,
     moves: &M,
@@ -223,6 +252,7 @@ pub(crate) fn explore<M: Moves>(
     ensures too_many { IsErrOf result ExploreError.TooMany
         → MoreThan limit (Reached (step_by (M.follow moves.now) (M.read moves.now)) (kept_in roots.keys.items)) }
 {
+    let up_to = bytes_up_to(alloc)?;
     let mut table = roots;
     let mut next: Vec<u32> = Vec::new(alloc);
     let mut told = Told {
@@ -240,8 +270,9 @@ pub(crate) fn explore<M: Moves>(
             following = told.add(alloc, moves, &table.keys[at])?;
         }
         let row = &next[at * 256..];
-        let place = target(alloc, moves, &mut table, &following, row, byte, limit)?;
-        next.push(place)?;
+        let place = target(alloc, moves, &mut table, &following.list, row, byte, limit)?;
+        let end = next_change(&following.changes, &up_to, byte);
+        next.resize(at * 256 + end, place)?;
     }
     Ok(Explored {
         keys: table.keys,

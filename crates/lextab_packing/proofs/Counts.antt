@@ -1,5 +1,5 @@
 -- Counts of targets in rows.
-use Rattle.std.specs.Prelude.{◌≡◌, ◌≢◌, ℕ, zero, suc, ◌+◌, ◌<◌, ◌≤◌, ◌⊎◌, ◌==◌, cond, List, [], ◌∷◌, ◌++◌, length, slice_index}
+use Rattle.std.specs.Prelude.{◌≡◌, ◌≢◌, ℕ, zero, suc, ◌+◌, ◌*◌, ◌<◌, ◌≤◌, ◌⊎◌, ◌==◌, cond, List, [], ◌∷◌, ◌++◌, length, slice_index}
 use Rattle.std.proofs.Common.{inl, inr, refl, sym, ◌∙◌, ap, subst, arith, length-append}
 use Rattle.std.proofs.lemmas.List.{get_or_push, get_or_append_left}
 use Rattle.lextab_packing.specs.Packing.{often, IsDefault}
@@ -54,6 +54,33 @@ default_is f n d there most least = record {
   least = λ t h. elim (often_or f n t) [
     | inl z ↦ absurd (let p = often_some f n d there.0 there.1 there.2 in omega (arith, z, p, h))
     | inr w ↦ subst (λ (u : ℕ). d ≤ u) w.2 (least w.0 w.1 (ap (often f n) w.2 ∙ h))
+  ];
+}
+
+-- two targets share a row
+often_both : (f : ℕ → ℕ) (n t u : ℕ) → t ≢ u → often f n t + often f n u ≤ n
+often_both f zero t u d = omega arith
+often_both f (suc n) t u d =
+    let rest = often_both f n t u d in
+    elim (same_or_not (f n) t) [
+      | inl e ↦ omega (arith, rest, one_if (f n) t e, none_if (f n) u (λ h. d (sym e ∙ h)))
+      | inr other ↦ elim (same_or_not (f n) u) [
+        | inl e ↦ omega (arith, rest, none_if (f n) t other, one_if (f n) u e)
+        | inr apart ↦ omega (arith, rest, none_if (f n) t other, none_if (f n) u apart)
+      ]
+    ]
+
+-- the target of more than half of a row is the one of most
+pub default_of_most : (f : ℕ → ℕ) (n d : ℕ) → (k : ℕ) × (k < n) × (f k ≡ d) → n < 2 * often f n d → IsDefault f n d
+default_of_most f n d there half = record {
+  there = there;
+  most = λ t. elim (same_or_not t d) [
+    | inl e ↦ rw e (omega arith)
+    | inr apart ↦ (let both = often_both f n t d apart in omega (arith, both, half))
+  ];
+  least = λ t h. elim (same_or_not t d) [
+    | inl e ↦ omega (arith, e)
+    | inr apart ↦ absurd (let both = often_both f n t d apart in omega (arith, both, half, h))
   ];
 }
 

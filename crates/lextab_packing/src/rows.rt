@@ -1,5 +1,5 @@
 //! Rows of targets, class by class.
-ghost use Rattle.std.specs.Prelude.{◌≡◌, ℕ, ◌≢◌, ◌+◌, ◌*◌, ◌<◌, ◌≤◌, ◌^◌, ◌⊎◌, length, slice_index, map, OnOk, IfOk};
+ghost use Rattle.std.specs.Prelude.{◌≡◌, true, ℕ, ◌≢◌, ◌+◌, ◌*◌, ◌<◌, ◌≤◌, ◌^◌, ◌⊎◌, length, slice_index, map, OnOk, IfOk};
 ghost use Rattle.lextab_packing.specs.Packing.{often, IsDefault};
 ghost use Rattle.lextab_packing.specs.Searching.{AreAllBytes, AreEntries, by_head};
 
@@ -60,7 +60,30 @@ fn clear(row: &[u32], counts: &mut [u32])
     }
 }
 
-/// The default of a row. The counts are all 0 before and after.
+/// How often a target stands in the row.
+fn times_of(row: &[u32], target: u32) -> u32
+    requires { length row.now < 2 ^ 32 }
+    ensures { result ≡ often (slice_index row.now) (length row.now) target }
+{
+    let mut times = 0;
+    for other in row {
+        if *other == target {
+            times += 1;
+        }
+    }
+    times
+}
+
+/// Whether a target stands in more than half of the row.
+fn is_mostly(row: &[u32], target: u32) -> bool
+    requires { length row.now < 2 ^ 32 }
+    ensures { result ≡ true → length row.now < 2 * often (slice_index row.now) (length row.now) target }
+{
+    row.len() / 2 < times_of(row, target) as usize
+}
+
+/// The default of a row. The counts are all 0 before and after. Mostly the target in the middle stands in more than half
+/// of the row, so that nothing else needs to be counted.
 pub(crate) fn default_of(row: &[u32], counts: &mut [u32]) -> u32
     requires few { length row.now < 2 ^ 32 }
     requires some { 0 < length row.now }
@@ -69,6 +92,10 @@ pub(crate) fn default_of(row: &[u32], counts: &mut [u32]) -> u32
     ensures default { IsDefault (slice_index row.now) (length row.now) result }
     ensures none { (t : ℕ) → slice_index counts.new t ≡ 0 }
 {
+    let middle = row[row.len() / 2];
+    if is_mostly(row, middle) {
+        return middle;
+    }
     count_up(row, counts);
     let best = most_often(row, counts);
     clear(row, counts);

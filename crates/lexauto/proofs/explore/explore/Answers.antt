@@ -1,12 +1,12 @@
-use Rattle.std.proofs.Common.{rules, ◌≡◌, ℕ, Bool, false, [], ◌∷◌, ◌++◌, ◌/◌, ◌%◌, ◌<◌, ◌≤◌, List, length, refl, sym, subst, ap, ◌∙◌, get_or, Err}
-use Rattle.lexauto.specs.Explored.{Changes, key_at, Exploring, Held, TellsSoFar, goes_by, step_by}
+use Rattle.std.proofs.Common.{rules, ◌≡◌, ℕ, Bool, false, [], ◌∷◌, ◌++◌, ◌+◌, ◌-◌, ◌*◌, ◌/◌, ◌%◌, ◌<◌, ◌≤◌, List, length, refl, sym, subst, ap, ◌∙◌, get_or, Err, arith}
+use Rattle.lexauto.specs.Explored.{Changes, key_at, goes_by, step_by}
 use Rattle.lexauto.specs.declared.explore.ExploreError.TheVariants.{TooMany}
 use Rattle.std.proofs.lemmas.Result.{err_from_is_err_and}
 use Rattle.lexauto.specs.Keys.{Key, At, Absent, Found, keys_in}
 use Rattle.lexauto.specs.declared.explore.Told.{Told}
 use Rattle.lexauto.specs.declared.explore.Following.{Following}
 use Rattle.lexauto.specs.KeyPacking.{look_kept, kept_in, unpacked}
-use Rattle.lexauto.proofs.Works.{ToldAt, advance, held_on, told_first, told_further, told_longer, told_done, finished, too_many}
+use Rattle.lexauto.proofs.Works.{Fills, ToldAt, unchanged, advance, held_on, told_first, told_further, told_longer, told_done, finished, too_many}
 use Rattle.lexauto.proofs.Kept.{kept_length, kept_at}
 use Rattle.lexauto.proofs.explore.explore.Goals.{then-byte-eq0+in_ok-following, else-byte-eq0}
 use Rattle.lexauto.proofs.explore.explore.Goals as goal
@@ -51,8 +51,8 @@ work-preserved g c =
           (let some : 0 < n % 256 = (let f = w.if-byte-eq0.false in search (rules, f)) in
           ap (λ (f : Following). f.list.items) w.following-is ∙ c.work.invariant.held some)
     ] in
-    let key : g.M.Moves.read c.args.moves.now c.if-byte-eq0.following.list.items (c.len-in-work-2.result % 256) ≡ step (key_at keys (n / 256)) (n % 256) =
-    ap (λ (k : Key). g.M.Moves.read c.args.moves.now k (c.len-in-work-2.result % 256)) held
+    let key : g.M.Moves.read c.args.moves.now c.deref-in-work-2.result.now (c.len-in-work-2.result % 256) ≡ step (key_at keys (n / 256)) (n % 256) =
+    ap (λ (k : Key). g.M.Moves.read c.args.moves.now k (c.len-in-work-2.result % 256)) (c.deref-in-work-2.ensures.value ∙ held)
     ∙ ap (λ (m : ℕ). g.M.Moves.read c.args.moves.now (follow (key_at keys (n / 256))) (m % 256)) byte in
     let goes : ToldAt false (goes_by follow) keys (n / 256) c.if-byte-eq0.told.goes_on.items = elim c.if-byte-eq0.branch [
       | then-byte-eq0+in_ok-following w ↦
@@ -87,21 +87,35 @@ work-preserved g c =
           subst (λ (f : Following). Changes (g.M.Moves.read c.args.moves.now) f.list.items f.changes) (sym w.following-is) (c.work.invariant.changes some))
     ] in
     let found : Found keys (step (key_at keys (n / 256)) (n % 256)) new = subst (λ (k : Key). Found keys k new) key c.in_ok-place.ensures.found in
+    let filled = c.resize.new.self.items in
+    let after = c.next_change-end.ensures.after in
+    let within = c.next_change-end.ensures.within in
+    let size : length filled ≡ n / 256 * 256 + c.next_change-end.result = search rules in
+    let full : c.work.next.len ≡ n = search rules in
+    let fills : Fills c.work.next.items c.in_ok-place.place filled = record {
+      more = omega (arith, size, after, byte);
+      row = omega (arith, size, within);
+      before = λ j h. c.in_ok-resize.ensures.by_index.0 j 0 (omega (arith, at, after, byte, h)) (omega (arith, full, h));
+      added = λ j h g. c.in_ok-resize.ensures.by_index.1 j 0 refl (omega (arith, full, h)) (omega (arith, at, size, g));
+    } in
+    let alike : (j : ℕ) → n ≤ j → j < length filled → step (key_at keys (n / 256)) (j % 256) ≡ step (key_at keys (n / 256)) (n % 256) = λ j h top.
+    let last : n % 256 + (j - n) ≡ j % 256 = omega (arith, size, within, h, top) in
+    let read = λ (b : ℕ). g.M.Moves.read c.args.moves.now (follow (key_at keys (n / 256))) b in
+    let one = unchanged (g.M.Moves.read c.args.moves.now) c.if-byte-eq0.following.list.items c.if-byte-eq0.following.changes (c.len-in-work-2.result % 256) c.next_change-end.result changes
+    c.next_change-end.ensures.none within (j - n) (omega (arith, byte, size, h, top)) in
+    sym (ap read last) ∙ subst (λ (k : Key). g.M.Moves.read c.args.moves.now k (n % 256 + (j - n)) ≡ g.M.Moves.read c.args.moves.now k (n % 256)) held
+    (subst (λ (m : ℕ). g.M.Moves.read c.args.moves.now c.if-byte-eq0.following.list.items (m % 256 + (j - n)) ≡ g.M.Moves.read c.args.moves.now c.if-byte-eq0.following.list.items (m % 256)) byte one) in
     record {
-      exploring = subst (λ (ns : List ℕ). Exploring step roots (look_kept c.target.new.table.places) new ns c.args.limit) (sym c.in_ok-push.ensures.items)
-          (advance step roots (look_kept c.work.table.places) keys c.work.next.items c.args.limit c.work.invariant.exploring
-          (look_kept c.target.new.table.places) new c.in_ok-place.place n refl (rw kept_length low)
+      exploring = advance step roots (look_kept c.work.table.places) keys c.work.next.items c.args.limit c.work.invariant.exploring
+          (look_kept c.target.new.table.places) new filled c.in_ok-place.place n refl (rw kept_length low)
           c.in_ok-place.ensures.finds found
           (subst (λ (k : Key). At new c.in_ok-place.place k) key c.in_ok-place.ensures.place)
-          (rw kept_length (c.in_ok-place.ensures.room (rw kept_length at c.work.invariant.exploring.room))));
-      held = subst (λ (ns : List ℕ). Held follow new ns c.if-byte-eq0.following.list.items) (sym c.in_ok-push.ensures.items)
-          (held_on step roots (look_kept c.work.table.places) keys c.work.next.items c.args.limit c.work.invariant.exploring
-          follow new c.in_ok-place.place n c.if-byte-eq0.following.list.items (step (key_at keys (n / 256)) (n % 256)) refl (rw kept_length low) found held);
+          (rw kept_length (c.in_ok-place.ensures.room (rw kept_length at c.work.invariant.exploring.room))) fills alike;
+      held = held_on step roots (look_kept c.work.table.places) keys c.work.next.items c.args.limit c.work.invariant.exploring
+          follow new filled c.in_ok-place.place n c.if-byte-eq0.following.list.items (step (key_at keys (n / 256)) (n % 256)) refl (rw kept_length low) found fills held;
       changes = λ some. changes;
-      on = subst (λ (ns : List ℕ). TellsSoFar false (goes_by follow) new ns c.if-byte-eq0.told.goes_on.items) (sym c.in_ok-push.ensures.items)
-          (told_longer step roots (look_kept c.work.table.places) keys c.work.next.items c.args.limit c.work.invariant.exploring false (goes_by follow) new c.in_ok-place.place n (step (key_at keys (n / 256)) (n % 256)) c.if-byte-eq0.told.goes_on.items refl (rw kept_length low) found goes);
-      accepted = subst (λ (ns : List ℕ). TellsSoFar [] accept new ns (keys_in c.if-byte-eq0.told.accepts.items)) (sym c.in_ok-push.ensures.items)
-          (told_longer step roots (look_kept c.work.table.places) keys c.work.next.items c.args.limit c.work.invariant.exploring [] accept new c.in_ok-place.place n (step (key_at keys (n / 256)) (n % 256)) (keys_in c.if-byte-eq0.told.accepts.items) refl (rw kept_length low) found accepted);
+      on = told_longer step roots (look_kept c.work.table.places) keys c.work.next.items c.args.limit c.work.invariant.exploring false (goes_by follow) new filled c.in_ok-place.place n (step (key_at keys (n / 256)) (n % 256)) c.if-byte-eq0.told.goes_on.items refl (rw kept_length low) found fills goes;
+      accepted = told_longer step roots (look_kept c.work.table.places) keys c.work.next.items c.args.limit c.work.invariant.exploring [] accept new filled c.in_ok-place.place n (step (key_at keys (n / 256)) (n % 256)) (keys_in c.if-byte-eq0.told.accepts.items) refl (rw kept_length low) found fills accepted;
     }
 
 pub returns-in_err-place-clause-too_many : goal.returns-in_err-place-clause-too_many
@@ -122,8 +136,8 @@ returns-in_err-place-clause-too_many g c = λ e.
           (let some : 0 < n % 256 = (let f = w.if-byte-eq0.false in search (rules, f)) in
           ap (λ (f : Following). f.list.items) w.following-is ∙ c.work.invariant.held some)
     ] in
-    let key : g.M.Moves.read c.args.moves.now c.if-byte-eq0.following.list.items (c.len-in-work-2.result % 256) ≡ step (key_at keys (n / 256)) (n % 256) =
-    ap (λ (k : Key). g.M.Moves.read c.args.moves.now k (c.len-in-work-2.result % 256)) held
+    let key : g.M.Moves.read c.args.moves.now c.deref-in-work-2.result.now (c.len-in-work-2.result % 256) ≡ step (key_at keys (n / 256)) (n % 256) =
+    ap (λ (k : Key). g.M.Moves.read c.args.moves.now k (c.len-in-work-2.result % 256)) (c.deref-in-work-2.ensures.value ∙ held)
     ∙ ap (λ (m : ℕ). g.M.Moves.read c.args.moves.now (follow (key_at keys (n / 256))) (m % 256)) byte in
     let p = err_from_is_err_and c.from_residual-in_err-place.result c.from_residual-in_err-place.ensures.1 in
     let told = rw (p.1, p.2) at e in
