@@ -55,6 +55,16 @@ fn states(
     })
 }
 
+/// Whether the automaton of a file has so many states within these limits, or is refused so.
+fn has_states(
+    alloc: Global,
+    text: &str,
+    most: (u32, u32),
+    wanted: Result<u32, BuildError>,
+) -> Result<bool, SpecError> {
+    Ok(states(alloc, text, most)? == wanted)
+}
+
 /// The greatest limits.
 const MOST: (u32, u32) = (16_384, 8_192);
 
@@ -67,8 +77,7 @@ const CONDITIONS: &str = "%x C\n%%\na BEGIN(C);\nb printf(\"B\");\n<C>c BEGIN(0)
 // The counts follow from what a position and a subset are, and are not what the program printed.
 #[test]
 fn counts(rt: HostRuntime) -> Result<(), Fail> {
-    let alloc = rt.alloc();
-    let rows = &[
+    const ROWS: &[(&str, (u32, u32), Result<u32, BuildError>)] = &[
         (CHOICE, (4, 6), Ok(6)),
         (CHOICE, (3, 8_192), Err(BuildError::TooManyPositions)),
         (CHOICE, (16_384, 5), Err(BuildError::TooManyStates)),
@@ -98,8 +107,8 @@ fn counts(rt: HostRuntime) -> Result<(), Fail> {
             Err(BuildError::TooManyPositions),
         ),
     ];
-    for &(text, most, wanted) in rows {
-        assert_eq!(rt; states(alloc, text, most)?, wanted);
+    for &(text, most, wanted) in ROWS {
+        assert!(rt; has_states(rt.alloc(), text, most, wanted)?, "{text}");
     }
     Ok(())
 }
@@ -111,8 +120,7 @@ const LONG_ROW: &str = "%%\n(a{255}){32} ;\n";
 // A state for each of this many letters in a row, the start and the dead state.
 #[test]
 fn rows_of_letters(rt: HostRuntime) -> Result<(), Fail> {
-    let alloc = rt.alloc();
-    let rows = &[
+    const ROWS: &[(&str, (u32, u32), Result<u32, BuildError>)] = &[
         (ROW, (60, 62), Ok(62)),
         (ROW, (60, 61), Err(BuildError::TooManyStates)),
         (ROW, (59, 62), Err(BuildError::TooManyPositions)),
@@ -120,8 +128,8 @@ fn rows_of_letters(rt: HostRuntime) -> Result<(), Fail> {
         (LONG_ROW, (8_160, 8_161), Err(BuildError::TooManyStates)),
         ("%%\n(a{255}){64} ;\n", MOST, Err(BuildError::TooManyStates)),
     ];
-    for &(text, most, wanted) in rows {
-        assert_eq!(rt; states(alloc, text, most)?, wanted);
+    for &(text, most, wanted) in ROWS {
+        assert!(rt; has_states(rt.alloc(), text, most, wanted)?, "{text}");
     }
     Ok(())
 }
@@ -164,66 +172,74 @@ const INSIDE: (usize, bool) = (0, false);
 /// The first condition, at the start of a line.
 const AT_LINE: (usize, bool) = (0, true);
 
+/// A file, a condition and whether a line starts, a word, and what the state after it tells.
+type Row = (&'static str, (usize, bool), &'static str, &'static str);
+
+/// Whether the state after a word tells this.
+fn is_told(alloc: Global, row: &Row) -> Result<bool, Fail> {
+    let (text, start, word, wanted) = *row;
+    let automaton = whole(alloc, text)?;
+    let told = told(alloc, &automaton, start, word)?;
+    Ok(told.as_str() == wanted)
+}
+
+const WORD: &str = "%%\nabc printf(\"X\");\n";
+
+const LETTERS: &str = "%%\na+ ;\naa ;\n";
+
+const REJECTED: &str = "%%\na+ ECHO; REJECT;\naa ;\n";
+
+const ANCHORED: &str = "%%\n^a printf(\"A\");\n";
+
+const TRAILED: &str = "%%\nab/cd printf(\"[%s]\", yytext);\n";
+
+const WORDS: &[Row] = &[
+    (WORD, INSIDE, "", "+"),
+    (WORD, INSIDE, "ab", "+"),
+    (WORD, INSIDE, "abc", " 0"),
+    (WORD, INSIDE, "abca", ""),
+    (LETTERS, INSIDE, "a", " 0+"),
+    (LETTERS, INSIDE, "aa", " 0+"),
+    (LETTERS, INSIDE, "aaa", " 0+"),
+    (LETTERS, INSIDE, "b", ""),
+    (REJECTED, INSIDE, "a", " 0+"),
+    (REJECTED, INSIDE, "aa", " 0 1+"),
+    (REJECTED, INSIDE, "aaa", " 0+"),
+    (REJECTED, INSIDE, "b", ""),
+    (ANCHORED, INSIDE, "", ""),
+    (ANCHORED, INSIDE, "a", ""),
+    (ANCHORED, INSIDE, "aa", ""),
+    (ANCHORED, INSIDE, "b", ""),
+    (ANCHORED, AT_LINE, "", "+"),
+    (ANCHORED, AT_LINE, "a", " 0"),
+    (ANCHORED, AT_LINE, "aa", ""),
+    (ANCHORED, AT_LINE, "b", ""),
+    (TRAILED, INSIDE, "ab", "+"),
+    (TRAILED, INSIDE, "abc", "+"),
+    (TRAILED, INSIDE, "abcd", " 0"),
+    (TRAILED, INSIDE, "cd", ""),
+];
+
 #[test]
 fn words(rt: HostRuntime) -> Result<(), Fail> {
-    let alloc = rt.alloc();
-    let rows = &[
-        (
-            "%%\nabc printf(\"X\");\n",
-            INSIDE,
-            [("", "+"), ("ab", "+"), ("abc", " 0"), ("abca", "")],
-        ),
-        (
-            "%%\na+ ;\naa ;\n",
-            INSIDE,
-            [("a", " 0+"), ("aa", " 0+"), ("aaa", " 0+"), ("b", "")],
-        ),
-        (
-            "%%\na+ ECHO; REJECT;\naa ;\n",
-            INSIDE,
-            [("a", " 0+"), ("aa", " 0 1+"), ("aaa", " 0+"), ("b", "")],
-        ),
-        (
-            "%%\n^a printf(\"A\");\n",
-            INSIDE,
-            [("", ""), ("a", ""), ("aa", ""), ("b", "")],
-        ),
-        (
-            "%%\n^a printf(\"A\");\n",
-            AT_LINE,
-            [("", "+"), ("a", " 0"), ("aa", ""), ("b", "")],
-        ),
-        (
-            "%%\nab/cd printf(\"[%s]\", yytext);\n",
-            INSIDE,
-            [("ab", "+"), ("abc", "+"), ("abcd", " 0"), ("cd", "")],
-        ),
-    ];
-    for (text, start, tests) in rows {
-        let automaton = whole(alloc, text)?;
-        for &(word, wanted) in tests {
-            assert_eq!(rt; told(alloc, &automaton, *start, word)?.as_str(), wanted);
-        }
+    for row in WORDS {
+        assert!(rt; is_told(rt.alloc(), row)?, "{} in {}", row.2, row.0);
     }
     Ok(())
 }
 
+const IN_CONDITIONS: &[Row] = &[
+    (CONDITIONS, (0, false), "a", " 0"),
+    (CONDITIONS, (0, false), "b", " 1"),
+    (CONDITIONS, (0, false), "c", ""),
+    (CONDITIONS, (1, false), "a", ""),
+    (CONDITIONS, (1, false), "c", " 2"),
+];
+
 #[test]
 fn conditions(rt: HostRuntime) -> Result<(), Fail> {
-    let alloc = rt.alloc();
-    let automaton = whole(alloc, CONDITIONS)?;
-    let rows = &[
-        (0, "a", " 0"),
-        (0, "b", " 1"),
-        (0, "c", ""),
-        (1, "a", ""),
-        (1, "c", " 2"),
-    ];
-    for &(condition, word, wanted) in rows {
-        assert_eq!(rt;
-            told(alloc, &automaton, (condition, false), word)?.as_str(),
-            wanted
-        );
+    for row in IN_CONDITIONS {
+        assert!(rt; is_told(rt.alloc(), row)?, "{} in {}", row.2, row.0);
     }
     Ok(())
 }

@@ -3,6 +3,7 @@
 use crate::automata::whole;
 use lexauto_dfa::Dfa;
 use lexauto_minimise::{minimise, one_automaton};
+use std::alloc::Global;
 use std::test::Fail;
 
 /// The state after a word, from the start of a condition.
@@ -31,9 +32,15 @@ const SAME_END: &str = "%%\nxa ECHO;\nya printf(\"Y\");\n";
 
 const FALLING: &str = "%%\nb ;\na ;\n";
 
+/// Whether the automaton of a file has so many states, and its least one so many.
+fn has_states(alloc: Global, text: &str, before: u32, least: u32) -> Result<bool, Fail> {
+    let automaton = whole(alloc, text)?;
+    let found = minimise(alloc, &automaton)?;
+    Ok(automaton.len() == before && found.len() == least)
+}
+
 #[test]
 fn counts(rt: HostRuntime) -> Result<(), Fail> {
-    let alloc = rt.alloc();
     let rows = &[
         (CHOICE, 6, 4),
         (CONDITIONS, 6, 6),
@@ -43,60 +50,78 @@ fn counts(rt: HostRuntime) -> Result<(), Fail> {
         ("%%\n", 1, 1),
     ];
     for &(text, before, least) in rows {
-        let automaton = whole(alloc, text)?;
-        assert_eq!(rt; automaton.len(), before);
-        assert_eq!(rt; minimise(alloc, &automaton)?.len(), least);
+        assert!(rt; has_states(rt.alloc(), text, before, least)?, "{text}");
     }
     Ok(())
 }
 
+/// A file, a condition, whether a line starts, a word, and the number of the state after it.
+type Row = (&'static str, usize, bool, &'static str, u32);
+
+/// Whether a word leads to this state of the least automaton.
+fn leads_so(alloc: Global, row: &Row) -> Result<bool, Fail> {
+    let (text, condition, line_start, word, state) = *row;
+    let automaton = whole(alloc, text)?;
+    let least = minimise(alloc, &automaton)?;
+    Ok(after(&least, condition, line_start, word) == Some(state))
+}
+
+const NUMBERS: &[Row] = &[
+    (CHOICE, 0, false, "", 1),
+    (CHOICE, 0, true, "", 1),
+    (CHOICE, 0, false, "a", 2),
+    (CHOICE, 0, false, "c", 2),
+    (CHOICE, 0, false, "ab", 3),
+    (CHOICE, 0, false, "b", 0),
+    (CONDITIONS, 0, false, "", 1),
+    (CONDITIONS, 1, false, "", 2),
+    (CONDITIONS, 0, false, "a", 3),
+    (CONDITIONS, 0, false, "b", 4),
+    (CONDITIONS, 1, false, "c", 5),
+    (ROW, 0, false, "ab", 3),
+    (AT_LINE, 0, false, "", 0),
+    (AT_LINE, 0, true, "", 1),
+    (FALLING, 0, false, "a", 2),
+    (FALLING, 0, false, "b", 3),
+];
+
 #[test]
 fn numbers(rt: HostRuntime) -> Result<(), Fail> {
-    let alloc = rt.alloc();
-    let rows = &[
-        (CHOICE, 0, false, "", 1),
-        (CHOICE, 0, true, "", 1),
-        (CHOICE, 0, false, "a", 2),
-        (CHOICE, 0, false, "c", 2),
-        (CHOICE, 0, false, "ab", 3),
-        (CHOICE, 0, false, "b", 0),
-        (CONDITIONS, 0, false, "", 1),
-        (CONDITIONS, 1, false, "", 2),
-        (CONDITIONS, 0, false, "a", 3),
-        (CONDITIONS, 0, false, "b", 4),
-        (CONDITIONS, 1, false, "c", 5),
-        (ROW, 0, false, "ab", 3),
-        (AT_LINE, 0, false, "", 0),
-        (AT_LINE, 0, true, "", 1),
-        (FALLING, 0, false, "a", 2),
-        (FALLING, 0, false, "b", 3),
-    ];
-    for &(text, condition, line_start, word, state) in rows {
-        let least = minimise(alloc, &whole(alloc, text)?)?;
-        assert_eq!(rt; after(&least, condition, line_start, word), Some(state));
+    for row in NUMBERS {
+        assert!(rt; leads_so(rt.alloc(), row)?, "{} in {}", row.3, row.0);
     }
     Ok(())
+}
+
+/// Whether a word leads to a state that accepts these rules, and that goes on or not.
+fn accepts_so(least: &Dfa, word: &str, rules: &[u32], goes_on: bool) -> bool {
+    match after(least, 0, false, word) {
+        Some(state) => {
+            state < least.len() && least.accepts(state) == rules && least.goes_on(state) == goes_on
+        }
+        None => false,
+    }
+}
+
+/// Whether a least automaton is as large as the least automaton of it.
+fn is_least(alloc: Global, least: &Dfa) -> Result<bool, Fail> {
+    let again = minimise(alloc, least)?;
+    Ok(again.len() == least.len())
 }
 
 #[test]
 fn rules(rt: HostRuntime) -> Result<(), Fail> {
-    let alloc = rt.alloc();
-    one_automaton();
-    let least = minimise(alloc, &whole(alloc, SAME_END)?)?;
-    let again = minimise(alloc, &least)?;
-    assert_eq!(rt; again.len(), least.len());
-    let rows = &[
-        ("xa", [0].as_slice()),
-        ("ya", [1].as_slice()),
-        ("x", [].as_slice()),
+    const ROWS: &[(&str, &[u32], bool)] = &[
+        ("xa", &[0], false),
+        ("ya", &[1], false),
+        ("x", &[], true),
     ];
-    for &(word, wanted) in rows {
-        if let Some(state) = after(&least, 0, false, word)
-            && state < least.len()
-        {
-            assert_eq!(rt; least.accepts(state), wanted);
-            assert_eq!(rt; least.goes_on(state), word == "x");
-        }
+    one_automaton();
+    let automaton = whole(rt.alloc(), SAME_END)?;
+    let least = minimise(rt.alloc(), &automaton)?;
+    assert!(rt; is_least(rt.alloc(), &least)?);
+    for &(word, rules, goes_on) in ROWS {
+        assert!(rt; accepts_so(&least, word, rules, goes_on), "{word}");
     }
     Ok(())
 }

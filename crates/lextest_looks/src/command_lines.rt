@@ -16,65 +16,52 @@ fn asked(alloc: Global, line: &str) -> Result<Look, ArgsError> {
     read_args(alloc, words.as_slice())
 }
 
-/// Whether the words of a line ask for the picture of a.l, with these flags.
-fn asks_to_draw(alloc: Global, line: &str, folds: bool, series: bool) -> bool {
-    let answer = asked(alloc, line);
-    match &answer {
-        Ok(Look::Picture { file, fold, posix }) => {
-            file.as_str() == "a.l" && *fold == folds && *posix == series
+/// What lexlook does.
+#[derive(Clone, Copy, PartialEq, Eq)]
+enum Deed {
+    Picture,
+    Same,
+    Lines,
+    Words,
+    Trace,
+}
+
+/// What is asked for of a.l, or of a.l and b.l: whether letters stand for both cases, and whether intervals apply to series.
+type Asked = (Deed, bool, bool);
+
+/// What is asked for, where it is asked for a.l, or for a.l and b.l.
+fn asked_for(look: &Look) -> Option<Asked> {
+    let (deed, file, fold, posix) = match look {
+        Look::Help => return None,
+        Look::Picture { file, fold, posix } => (Deed::Picture, file, *fold, *posix),
+        Look::Same {
+            left,
+            right,
+            fold,
+            posix,
+        } => {
+            if right.as_str() != "b.l" {
+                return None;
+            }
+            (Deed::Same, left, *fold, *posix)
         }
-        _ => false,
+        Look::Lines { file, fold, posix } => (Deed::Lines, file, *fold, *posix),
+        Look::Words { file, fold, posix } => (Deed::Words, file, *fold, *posix),
+        Look::Trace { file, fold, posix } => (Deed::Trace, file, *fold, *posix),
+    };
+    if file.as_str() == "a.l" {
+        Some((deed, fold, posix))
+    } else {
+        None
     }
 }
 
-/// Whether the words of a line ask for a comparison of a.l with b.l, with these flags.
-fn asks_to_compare(alloc: Global, line: &str, folds: bool, series: bool) -> bool {
+/// Whether the words of a line ask for this.
+fn asks_for(alloc: Global, line: &str, want: Asked) -> bool {
     let answer = asked(alloc, line);
     match &answer {
-        Ok(
-            Look::Same {
-                left,
-                right,
-                fold,
-                posix,
-            },
-        ) => {
-            left.as_str() == "a.l" && right.as_str() == "b.l" && *fold == folds && *posix == series
-        }
-        _ => false,
-    }
-}
-
-/// Whether the words of a line ask for cuts of an input of a.l, with these flags.
-fn asks_to_cut(alloc: Global, line: &str, folds: bool, series: bool) -> bool {
-    let answer = asked(alloc, line);
-    match &answer {
-        Ok(Look::Lines { file, fold, posix }) => {
-            file.as_str() == "a.l" && *fold == folds && *posix == series
-        }
-        _ => false,
-    }
-}
-
-/// Whether the words of a line ask for the texts that the rules of a.l take, with these flags.
-fn asks_to_find(alloc: Global, line: &str, folds: bool, series: bool) -> bool {
-    let answer = asked(alloc, line);
-    match &answer {
-        Ok(Look::Words { file, fold, posix }) => {
-            file.as_str() == "a.l" && *fold == folds && *posix == series
-        }
-        _ => false,
-    }
-}
-
-/// Whether the words of a line ask for a trace of an input of a.l, with these flags.
-fn asks_to_trace(alloc: Global, line: &str, folds: bool, series: bool) -> bool {
-    let answer = asked(alloc, line);
-    match &answer {
-        Ok(Look::Trace { file, fold, posix }) => {
-            file.as_str() == "a.l" && *fold == folds && *posix == series
-        }
-        _ => false,
+        Ok(look) => asked_for(look) == Some(want),
+        Err(_) => false,
     }
 }
 
@@ -90,15 +77,20 @@ fn is_refused(alloc: Global, line: &str) -> bool {
     matches!(&answer, Err(ArgsError::Usage))
 }
 
-const FOLDED: &[&str] = &["picture a.l -i", "picture -i a.l", "picture -ii -- a.l"];
-
-const COMPARED: &[&str] = &["same a.l b.l -X", "same -X a.l -- b.l"];
-
-const CUT: &[&str] = &["lines a.l", "lines -- a.l"];
-
-const FOUND: &[&str] = &["words a.l -i", "words -i -- a.l"];
-
-const TRACED: &[&str] = &["trace a.l -X", "trace -X -- a.l"];
+/// A line, what it asks for, whether letters stand for both cases, and whether intervals apply to series.
+const READ: &[(&str, Deed, bool, bool)] = &[
+    ("picture a.l -i", Deed::Picture, true, false),
+    ("picture -i a.l", Deed::Picture, true, false),
+    ("picture -ii -- a.l", Deed::Picture, true, false),
+    ("same a.l b.l -X", Deed::Same, false, true),
+    ("same -X a.l -- b.l", Deed::Same, false, true),
+    ("lines a.l", Deed::Lines, false, false),
+    ("lines -- a.l", Deed::Lines, false, false),
+    ("words a.l -i", Deed::Words, true, false),
+    ("words -i -- a.l", Deed::Words, true, false),
+    ("trace a.l -X", Deed::Trace, false, true),
+    ("trace -X -- a.l", Deed::Trace, false, true),
+];
 
 const REFUSED: &[&str] = &[
     "",
@@ -122,20 +114,8 @@ const HELPED: &[&str] = &["--help", "picture --help", "paint --help"];
 
 #[test]
 fn reads_command_lines(rt: HostRuntime) {
-    for line in FOLDED {
-        assert!(rt; asks_to_draw(rt.alloc(), *line, true, false), "{line}");
-    }
-    for line in COMPARED {
-        assert!(rt; asks_to_compare(rt.alloc(), *line, false, true), "{line}");
-    }
-    for line in CUT {
-        assert!(rt; asks_to_cut(rt.alloc(), *line, false, false), "{line}");
-    }
-    for line in FOUND {
-        assert!(rt; asks_to_find(rt.alloc(), *line, true, false), "{line}");
-    }
-    for line in TRACED {
-        assert!(rt; asks_to_trace(rt.alloc(), *line, false, true), "{line}");
+    for &(line, deed, fold, posix) in READ {
+        assert!(rt; asks_for(rt.alloc(), line, (deed, fold, posix)), "{line}");
     }
 }
 

@@ -7,7 +7,7 @@ ghost use Rattle.lexspec.specs.Views.{spec_of, conditions_in};
 use crate::row::PLAIN;
 use lexauto::{BuildError, Limits, build};
 use lexauto_dfa::Dfa;
-use lexkit::{MemorySink, Options, TableError, Tables, generate, read_tables, write_tables};
+use lexkit::{Flat, MemorySink, Options, TableError, Tables, generate, read_tables, write_tables};
 use lexspec::{Spec, SpecError, read_spec};
 use std::alloc::Global;
 use std::test::Fail;
@@ -39,7 +39,13 @@ pub(crate) fn made(alloc: Global, text: &[u8]) -> Result<MemorySink, Fail> {
 }
 
 /// The tables of a specification, written to a file and read back, as a scan by a table file has them.
-pub(crate) fn read_back(alloc: Global, text: &[u8]) -> Result<Tables, Fail> {
+fn read_back(alloc: Global, text: &[u8]) -> Result<Tables, Fail> {
     let file = made(alloc, text)?;
     Ok(read_tables(alloc, file.written())?)
+}
+
+/// The machine of a specification, by the tables that are read back.
+pub(crate) fn machine_of(alloc: Global, text: &str) -> Result<Flat, Fail> {
+    let tables = read_back(alloc, text.as_bytes())?;
+    Ok(Flat::new(alloc, tables)?)
 }

@@ -8,7 +8,7 @@ use std::alloc::Global;
 
 #[test]
 fn tells_each_fault(rt: HostRuntime) {
-    let rows: &[(Fault<'_>, u8, &str)] = &[
+    const ROWS: &[(Fault<'static>, u8, &str)] = &[
         (Fault::Args(ArgsError::Usage), 64, "lex: usage\n"),
         (
             Fault::Args(ArgsError::OutOfMemory),
@@ -54,14 +54,14 @@ fn tells_each_fault(rt: HostRuntime) {
         (Fault::File(""), 66, "lex: cannot read \n"),
         (Fault::Output, 74, "lex: write fault\n"),
     ];
-    for &(fault, status, line) in rows {
+    for &(fault, status, line) in ROWS {
         assert!(rt; is_told(rt.alloc(), fault, status, line), "{line}");
     }
 }
 
 #[test]
 fn tells_each_fault_of_a_run(rt: HostRuntime) {
-    let rows = &[
+    const ROWS: &[(RunError, u8, &str)] = &[
         (RunError::Read, 74, "lex: read fault\n"),
         (RunError::TooManyReads, 74, "lex: too many reads\n"),
         (RunError::Write, 74, "lex: write fault\n"),
@@ -69,7 +69,7 @@ fn tells_each_fault_of_a_run(rt: HostRuntime) {
         (RunError::Stack, 70, "lex: condition stack\n"),
         (RunError::Failed, 74, "lex: failed\n"),
     ];
-    for &(error, status, line) in rows {
+    for &(error, status, line) in ROWS {
         let fault = Fault::Scan(ScanError::Run(error));
         assert!(rt; is_told(rt.alloc(), fault, status, line), "{line}");
     }
@@ -92,7 +92,7 @@ const NO_MEMORY_IN_A_PATTERN: SpecErrorKind = SpecErrorKind::Pattern(PatternErro
 
 #[test]
 fn tells_each_fault_of_a_specification(rt: HostRuntime) {
-    let rows = &[
+    const ROWS: &[(u32, SpecErrorKind, u8, &str)] = &[
         (
             1,
             SpecErrorKind::NoRulesSection,
@@ -123,7 +123,7 @@ fn tells_each_fault_of_a_specification(rt: HostRuntime) {
         (9, SpecErrorKind::TooLong, 65, "lex: line 9: TooLong\n"),
         (2, SpecErrorKind::OutOfMemory, 71, "lex: out of memory\n"),
     ];
-    for &(line, kind, status, told) in rows {
+    for &(line, kind, status, told) in ROWS {
         let error = SpecError { line, kind };
         let fault = Fault::Scan(ScanError::Generate(GenError::Spec(error)));
         assert!(rt; is_told(rt.alloc(), fault, status, told), "{told}");

@@ -214,7 +214,7 @@ fn is_refused_with(
 #[test]
 fn refuses_files_that_are_no_tables(rt: HostRuntime) -> Result<(), Fail> {
     let file = made(rt.alloc(), KEYS.as_bytes())?;
-    let rows = &[
+    const ROWS: &[(usize, u8, TableError, &str)] = &[
         (0, b'l', TableError::BadMagic, "lex: table: BadMagic\n"),
         (7, 3, TableError::BadVersion, "lex: table: BadVersion\n"),
         (
@@ -236,7 +236,7 @@ fn refuses_files_that_are_no_tables(rt: HostRuntime) -> Result<(), Fail> {
             "lex: table: TrailingBytes\n",
         ),
     ];
-    for &(at, byte, error, line) in rows {
+    for &(at, byte, error, line) in ROWS {
         let so = is_refused_with(rt.alloc(), file.written(), at, byte, error, line);
         assert!(rt; so, "{line}");
     }

@@ -1,5 +1,5 @@
 //! Worked scans by pieces: what each feed writes, and what the end.
-use crate::building::read_back;
+use crate::building::machine_of;
 use lexkit::{Flat, MemorySink, RunError};
 use lexscan::{PushScanner, Turn};
 use std::alloc::Global;
@@ -13,8 +13,7 @@ fn feeds_so(
     rest: &str,
     status: u8,
 ) -> Result<bool, Fail> {
-    let tables = read_back(alloc, text.as_bytes())?;
-    let machine = Flat::new(alloc, tables)?;
+    let machine = machine_of(alloc, text)?;
     let mut scanner = PushScanner::new(alloc, machine);
     let mut so = true;
     for &(piece, written) in pieces {
@@ -29,7 +28,7 @@ fn feeds_so(
 
 #[test]
 fn writes_what_the_bytes_so_far_decide(rt: HostRuntime) -> Result<(), Fail> {
-    let rows: &[(&str, &[(&str, &str)], &str, u8)] = &[
+    const ROWS: &[(&str, &[(&str, &str)], &str, u8)] = &[
         (
             "%%\nif printf(\"K\");\n[0-9][0-9] printf(\"N\");\n",
             &[("i", ""), ("f 4", "K "), ("", ""), ("2 x", "N x")],
@@ -55,7 +54,7 @@ fn writes_what_the_bytes_so_far_decide(rt: HostRuntime) -> Result<(), Fail> {
             3,
         ),
     ];
-    for &(text, pieces, rest, status) in rows {
+    for &(text, pieces, rest, status) in ROWS {
         assert!(rt; feeds_so(rt.alloc(), text, pieces, rest, status)?, "{text}");
     }
     Ok(())
@@ -69,8 +68,7 @@ fn feed(alloc: Global, scanner: &mut PushScanner<Flat>, piece: &str) -> Result<T
 
 #[test]
 fn an_ended_scan_stays_ended(rt: HostRuntime) -> Result<(), Fail> {
-    let tables = read_back(rt.alloc(), b"%%\nab exit(7);\n")?;
-    let machine = Flat::new(rt.alloc(), tables)?;
+    let machine = machine_of(rt.alloc(), "%%\nab exit(7);\n")?;
     let mut scanner = PushScanner::new(rt.alloc(), machine);
     assert!(rt; feed(rt.alloc(), &mut scanner, "a") == Ok(Turn::Went));
     assert!(rt; feed(rt.alloc(), &mut scanner, "bXY") == Ok(Turn::Ended(7)));

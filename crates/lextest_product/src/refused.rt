@@ -2,8 +2,8 @@
 //! them with the first request refused, then the second, and so on. A run must then end well, or fail with the name of an
 //! error that says that memory ran out.
 use crate::arguments::job_of;
-use crate::building::{made, read_back};
-use crate::turns::{Turns, go_on};
+use crate::building::{machine_of, made};
+use crate::turns::{Turns, go_on, turn};
 use lexkit::{
     ArgsError, BuildError, Flat, GenError, MemorySink, MemorySource, Options, PatternErrorKind,
     RunError, ScanError, Sink, SpecErrorKind, TableError, ToWrite, generate, scan_spec, scan_table,
@@ -18,11 +18,11 @@ const LETTERS: &str = "%%\n[a-z]+ yyless(1);\n";
 const INPUT: &[u8] = b"abcdefghijklmnopqrstuvwxyzabcdefghijklmn";
 
 /// Whether all that was taken from the start of the text on is held after a refused turn, and no turn is taken any more.
-fn holds_all(scanner: &mut Turns<'_, '_>, start: usize, turn: Result<Turn, RunError>) -> bool {
+fn holds_all(scanner: &mut Turns<'_, '_>, start: usize, answer: Result<Turn, RunError>) -> bool {
     let taken = scanner.taken() as usize;
-    turn == Err(RunError::OutOfMemory)
+    answer == Err(RunError::OutOfMemory)
         && INPUT.get(start..taken) == Some(scanner.held())
-        && scanner.turn() == Err(RunError::Failed)
+        && turn(scanner) == Err(RunError::Failed)
 }
 
 /// Whether all turns are taken, or one is refused and holds what it has to.
@@ -31,20 +31,19 @@ fn goes_through(alloc: Global, machine: &Flat) -> bool {
     let mut sink = MemorySink::new(alloc);
     let mut scanner = Scanner::new(alloc, machine, &mut source, &mut sink, 10_000);
     for start in 0..40usize {
-        let turn = scanner.turn();
-        if turn != Ok(Turn::Went) {
-            return holds_all(&mut scanner, start, turn);
+        let answer = turn(&mut scanner);
+        if answer != Ok(Turn::Went) {
+            return holds_all(&mut scanner, start, answer);
         }
     }
-    scanner.turn() == Ok(Turn::Ended(0))
+    turn(&mut scanner) == Ok(Turn::Ended(0))
 }
 
 /// Goes through all turns. After a refused turn all that was taken from the start of the text on is held, and no turn is
 /// taken any more.
 #[test]
 fn refused_turns(rt: HostRuntime) -> Result<(), Fail> {
-    let tables = read_back(rt.alloc(), LETTERS.as_bytes())?;
-    let machine = Flat::new(rt.alloc(), tables)?;
+    let machine = machine_of(rt.alloc(), LETTERS)?;
     assert!(rt; goes_through(rt.alloc(), &machine));
     Ok(())
 }
@@ -59,18 +58,17 @@ fn takes_each_turn(alloc: Global, machine: &Flat) -> bool {
     let mut source = MemorySource::new(THOUSAND);
     let mut sink = MemorySink::new(alloc);
     let mut scanner = Scanner::new(alloc, machine, &mut source, &mut sink, 10_000);
-    if scanner.turn() == Err(RunError::OutOfMemory) {
+    if turn(&mut scanner) == Err(RunError::OutOfMemory) {
         return true;
     }
     let went = go_on(&mut scanner, 999);
-    scanner.turn() == Ok(Turn::Ended(0)) && went
+    turn(&mut scanner) == Ok(Turn::Ended(0)) && went
 }
 
 /// Where memory for marks of walks in vain is refused, that is not told: once all bytes are taken, each turn is taken.
 #[test]
 fn refused_marks(rt: HostRuntime) -> Result<(), Fail> {
-    let tables = read_back(rt.alloc(), ONE_OF_MANY.as_bytes())?;
-    let machine = Flat::new(rt.alloc(), tables)?;
+    let machine = machine_of(rt.alloc(), ONE_OF_MANY)?;
     assert!(rt; takes_each_turn(rt.alloc(), &machine));
     Ok(())
 }
@@ -87,8 +85,7 @@ fn runs_well(alloc: Global, machine: &Flat) -> bool {
 /// A run ends well, or tells that memory ran out; nothing is written by it.
 #[test]
 fn refused_run(rt: HostRuntime) -> Result<(), Fail> {
-    let tables = read_back(rt.alloc(), LETTERS.as_bytes())?;
-    let machine = Flat::new(rt.alloc(), tables)?;
+    let machine = machine_of(rt.alloc(), LETTERS)?;
     assert!(rt; runs_well(rt.alloc(), &machine));
     Ok(())
 }
@@ -239,13 +236,13 @@ fn refused_room(rt: HostRuntime) -> Result<(), Fail> {
 /// The words of a command line are read, or memory ran out.
 #[test]
 fn refused_words(rt: HostRuntime) -> Result<(), Fail> {
-    let lines: &[(&[&str], bool)] = &[
+    const LINES: &[(&[&str], bool)] = &[
         (&["-tv", "a.l"], true),
         (&["--scan-spec"], false),
         (&["--scan-spec", "a", "--scan-table", "b"], false),
         (&["--scan-table", "b"], true),
     ];
-    for &(line, is_read) in lines {
+    for &(line, is_read) in LINES {
         match job_of(rt.alloc(), line)? {
             Ok(_) => assert!(rt; is_read, "{line:?}"),
             Err(ArgsError::Usage) => assert!(rt; !is_read, "{line:?}"),

@@ -29,7 +29,7 @@ fn lines_are_warned(alloc: Global, warned: &[(u32, bool)], lines: &str) -> bool 
 
 #[test]
 fn tells_warnings(rt: HostRuntime) {
-    let rows: &[(&[(u32, bool)], &str)] = &[
+    const ROWS: &[(&[(u32, bool)], &str)] = &[
         (&[], ""),
         (
             &[(1, true), (6, false), (7, true)],
@@ -40,7 +40,7 @@ fn tells_warnings(rt: HostRuntime) {
             "lex: line 4294967295: warning: rule cannot be matched\n",
         ),
     ];
-    for &(warned, lines) in rows {
+    for &(warned, lines) in ROWS {
         assert!(rt; lines_are_warned(rt.alloc(), warned, lines), "{lines}");
     }
 }
@@ -72,7 +72,7 @@ fn states_are_listed(alloc: Global, told: &[(u32, &[u8])], lines: &str) -> bool 
 
 #[test]
 fn tells_states_that_back_up(rt: HostRuntime) {
-    let rows: &[(&[(u32, &[u8])], &str)] = &[
+    const ROWS: &[(&[(u32, &[u8])], &str)] = &[
         (&[], "states that back up: 0\n"),
         (
             &[(3, b"ab")],
@@ -83,7 +83,7 @@ fn tells_states_that_back_up(rt: HostRuntime) {
             "state 4 after \" ~\\177\\\"\\\\\"\nstate 8191 after \"\\012\\000\\377\"\nstates that back up: 2\n",
         ),
     ];
-    for &(told, lines) in rows {
+    for &(told, lines) in ROWS {
         assert!(rt; states_are_listed(rt.alloc(), told, lines), "{lines}");
     }
 }

@@ -1,20 +1,45 @@
 //! Scans over memory. What they promise is left out, so that what calls them is proved in less time.
-ghost use Rattle.std.specs.Prelude.{◌≤◌};
+ghost use Rattle.std.specs.Prelude.{◌≡◌, ◌≤◌};
 
 use lexkit::{
-    MAX_POSITIONS, MAX_STATES, MemorySink, MemorySource, Options, ScanError, generate, scan_made,
-    scan_spec, scan_table, write_tables,
+    MAX_POSITIONS, MAX_STATES, MemorySink, MemorySource, Options, ScanError, Sink, Source,
+    generate, scan_made, scan_spec, scan_table, write_tables,
 };
 use lexspec::ReadOptions;
 use std::alloc::Global;
 
-/// Where a source or a sink fails: nowhere, after so many bytes, or in a flush.
+/// Where a source or a sink fails: nowhere, after so many bytes, or in a flush; or where a source answers its end once, after
+/// so many bytes.
 #[derive(Clone, Copy)]
 pub(crate) enum Failing {
     Never,
     Read(usize),
+    End(usize),
     Write(usize),
     Flush,
+}
+
+/// A source of these bytes that fails there.
+pub(crate) fn source_that<'a>(failing: Failing, input: &'a [u8]) -> MemorySource<'a>
+    ensures ends { ⟦<MemorySource<'a> as Source>⟧.ends result ≡ 0 }
+    ensures failures { ⟦<MemorySource<'a> as Source>⟧.failures result ≡ 0 }
+{
+    match failing {
+        Failing::Read(given) => MemorySource::failing_after(input, given),
+        Failing::End(given) => MemorySource::ending_after(input, given),
+        _ => MemorySource::new(input),
+    }
+}
+
+/// A sink that fails there.
+pub(crate) fn sink_that(alloc: Global, failing: Failing) -> MemorySink
+    ensures failures { ⟦<MemorySink as Sink>⟧.failures result ≡ 0 }
+{
+    match failing {
+        Failing::Write(room) => MemorySink::failing_after(alloc, room),
+        Failing::Flush => MemorySink::failing_flush(alloc),
+        _ => MemorySink::new(alloc),
+    }
 }
 
 /// What a scan answers and writes, and how often the source is called.
@@ -45,15 +70,8 @@ pub(crate) fn scanned(
     input: &[u8],
     failing: Failing,
 ) -> Scan {
-    let mut source = match failing {
-        Failing::Read(given) => MemorySource::failing_after(input, given),
-        _ => MemorySource::new(input),
-    };
-    let mut sink = match failing {
-        Failing::Write(room) => MemorySink::failing_after(alloc, room),
-        Failing::Flush => MemorySink::failing_flush(alloc),
-        _ => MemorySink::new(alloc),
-    };
+    let mut source = source_that(failing, input);
+    let mut sink = sink_that(alloc, failing);
     let answer = scan_spec(alloc, text, options_of(how), &mut source, &mut sink);
     Scan {
         answer,

@@ -91,6 +91,11 @@ fn refusal(alloc: Global, bytes: &[u8]) -> Option<TableError> {
     if refused { Some(error) } else { None }
 }
 
+/// Whether the bytes are no table file, for this reason.
+fn is_no_file(alloc: Global, bytes: &[u8], error: TableError) -> bool {
+    refusal(alloc, bytes) == Some(error)
+}
+
 /// Whether a scan of `if iff` by these bytes writes this, with status 0.
 fn writes(alloc: Global, bytes: &[u8], want: &str) -> bool {
     scanned_by_table(alloc, bytes, b"if iff").does(Ok(0), want.as_bytes())
@@ -150,17 +155,17 @@ fn no_file_is_a_prefix_of_another(rt: HostRuntime) -> Result<(), Fail> {
     let alloc = rt.alloc();
     let worked = worked(alloc)?;
     for (n, _) in worked.iter().enumerate() {
-        assert_eq!(rt; refusal(alloc, &worked[..n]), Some(TableError::Truncated));
+        assert!(rt; is_no_file(alloc, &worked[..n], TableError::Truncated));
     }
     let longer = joined(alloc, &[&worked, b"\0"])?;
-    assert_eq!(rt; refusal(alloc, &longer), Some(TableError::TrailingBytes));
+    assert!(rt; is_no_file(alloc, &longer, TableError::TrailingBytes));
     Ok(())
 }
 
 /// Whether the file of the two rules is refused so, with other bytes from this offset on.
 fn is_refused(alloc: Global, at: usize, new: &[u8], error: TableError) -> bool {
     match changed(alloc, at, new) {
-        Ok(bytes) => refusal(alloc, &bytes) == Some(error),
+        Ok(bytes) => is_no_file(alloc, &bytes, error),
         Err(_) => false,
     }
 }
@@ -204,7 +209,7 @@ fn changed_numbers_are_named(rt: HostRuntime) {
 
 #[test]
 fn changed_fields_are_named(rt: HostRuntime) {
-    let single: &[(usize, u8, TableError)] = &[
+    const SINGLE: &[(usize, u8, TableError)] = &[
         (0, b'l', TableError::BadMagic),
         (7, 3, TableError::BadVersion),
         (7, 2, TableError::BadField(6)),
@@ -214,7 +219,7 @@ fn changed_fields_are_named(rt: HostRuntime) {
         (71, 4, TableError::BadField(71)),
         (100, 4, TableError::BadField(100)),
     ];
-    for &(at, byte, want) in single {
+    for &(at, byte, want) in SINGLE {
         assert!(rt; is_refused(rt.alloc(), at, &[byte], want), "{byte} at {at}");
     }
 }
@@ -293,16 +298,16 @@ fn statements_of_the_stack_need_version_2(rt: HostRuntime) -> Result<(), Fail> {
     let mut older = Vec::from_slice(alloc, file)?;
     assert!(rt; older.len() > 8);
     older[7] = 1;
-    assert_eq!(rt; refusal(alloc, &older), Some(TableError::BadField(69)));
+    assert!(rt; is_no_file(alloc, &older, TableError::BadField(69)));
     Ok(())
 }
 
 #[test]
 fn the_first_fault_is_named(rt: HostRuntime) -> Result<(), Fail> {
     let alloc = rt.alloc();
-    assert_eq!(rt; refusal(alloc, b""), Some(TableError::Truncated));
-    assert_eq!(rt; refusal(alloc, b"XYZ"), Some(TableError::Truncated));
-    assert_eq!(rt; refusal(alloc, b"XYZXYZ"), Some(TableError::BadMagic));
+    assert!(rt; is_no_file(alloc, b"", TableError::Truncated));
+    assert!(rt; is_no_file(alloc, b"XYZ", TableError::Truncated));
+    assert!(rt; is_no_file(alloc, b"XYZXYZ", TableError::BadMagic));
     Ok(())
 }
 
@@ -311,7 +316,7 @@ fn the_first_fault_is_named(rt: HostRuntime) -> Result<(), Fail> {
 fn the_fault_before_the_end_is_named(rt: HostRuntime) -> Result<(), Fail> {
     let bytes = changed(rt.alloc(), 100, &[4])?;
     let front = bytes.get(..200).ok_or("the file is longer")?;
-    assert_eq!(rt; refusal(rt.alloc(), front), Some(TableError::BadField(100)));
+    assert!(rt; is_no_file(rt.alloc(), front, TableError::BadField(100)));
     Ok(())
 }
 
@@ -378,7 +383,7 @@ fn actions_are_read(rt: HostRuntime) {
 /// Whether the file of a rule of these statements is refused at this offset.
 fn is_no_action(alloc: Global, count: u8, statements: &[u8], at: usize) -> bool {
     match action(alloc, count, statements) {
-        Ok(bytes) => refusal(alloc, &bytes) == Some(TableError::BadField(at)),
+        Ok(bytes) => is_no_file(alloc, &bytes, TableError::BadField(at)),
         Err(_) => false,
     }
 }
@@ -473,7 +478,7 @@ fn is_shown(alloc: Global, error: TableError, words: &str) -> bool {
 
 #[test]
 fn refusals_are_told(rt: HostRuntime) {
-    let rows = &[
+    const ROWS: &[(TableError, &str)] = &[
         (TableError::BadMagic, "BadMagic"),
         (TableError::BadVersion, "BadVersion"),
         (TableError::Truncated, "Truncated"),
@@ -481,7 +486,7 @@ fn refusals_are_told(rt: HostRuntime) {
         (TableError::BadField(28), "BadField at 28"),
         (TableError::OutOfMemory, "OutOfMemory"),
     ];
-    for &(error, words) in rows {
+    for &(error, words) in ROWS {
         assert!(rt; is_shown(rt.alloc(), error, words), "{words}");
     }
 }

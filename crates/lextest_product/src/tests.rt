@@ -168,11 +168,11 @@ const MEGA: &[u8] = b"%%\nmega- ECHO; yymore();\nkludge ECHO;\n";
 /// What was written before a fault stays written, and nothing is read after it.
 #[test]
 fn stops_at_faults(rt: HostRuntime) {
-    let rows = &[
+    const ROWS: &[(Failing, RunError, u64)] = &[
         (Failing::Write(5), RunError::Write, 11),
         (Failing::Read(5), RunError::Read, 6),
     ];
-    for &(failing, error, calls) in rows {
+    for &(failing, error, calls) in ROWS {
         let scan = scanned(rt.alloc(), MEGA, PLAIN, b"mega-kludge", failing);
         assert!(rt; scan.does(Err(ScanError::Run(error)), b"mega-"));
         assert!(rt; scan.calls == calls);
@@ -182,7 +182,7 @@ fn stops_at_faults(rt: HostRuntime) {
 /// The lines of faults that have nothing to do with the specification.
 #[test]
 fn ends_as_the_manual_says(rt: HostRuntime) {
-    let rows: &[(Fault<'_>, u8, &str)] = &[
+    const ROWS: &[(Fault<'static>, u8, &str)] = &[
         (Fault::Args(ArgsError::Usage), 64, "lex: usage\n"),
         (Fault::File("missing.l"), 66, "lex: cannot read missing.l\n"),
         (
@@ -206,7 +206,7 @@ fn ends_as_the_manual_says(rt: HostRuntime) {
             "lex: too many reads\n",
         ),
     ];
-    for &(fault, status, line) in rows {
+    for &(fault, status, line) in ROWS {
         assert!(rt; is_told(rt.alloc(), fault, status, line), "{line}");
     }
 }

@@ -1,8 +1,10 @@
-//! Worked scans turn by turn: what is taken, what is held, and what a fault leaves.
-use crate::building::read_back;
+//! Worked scans turn by turn: what is taken, what is held, what is written, and what a fault leaves.
+use crate::building::machine_of;
+use crate::scanning::{Failing, sink_that, source_that};
 use lexkit::{Flat, MemorySink, MemorySource, RunError};
 use lexscan::{Scanner, Turn, run};
 use std::alloc::Global;
+use std::process::Abort;
 use std::test::Fail;
 
 const NUMBERS: &str = "%%\nif printf(\"K\");\n[0-9][0-9] printf(\"N\");\n";
@@ -16,111 +18,213 @@ const TRAIL: &str = "%%\nab/cd printf(\"[%s]\", yytext);\n";
 const COMMENTS: &str =
     "%x C\n%%\n\"/*\" BEGIN(C);\n<C>\"*/\" BEGIN(INITIAL);\n<C>.|\\n ;\n<C><<EOF>> printf(\"open\"); exit(3);\n";
 
+const LETTERS: &str = "%%\n[a-z]+ printf(\"I\");\n";
+
+const POPS: &str = "%option stack\n%%\na printf(\"A\"); yy_pop_state(); printf(\"B\");\n";
+
+/// Each match is given back but for a letter.
+const ONE_BY_ONE: &str = "%%\n[a-z]+ yyless(1);\n";
+
+const THOUSAND: &[u8] = &[b'a'; 1_000];
+
 /// A scanner over memory.
 pub(crate) type Turns<'a, 'b> = Scanner<'a, Flat, MemorySource<'b>, MemorySink>;
+
+/// One turn. What it promises is left out, so that what calls it is proved in less time.
+pub(crate) fn turn(scanner: &mut Turns<'_, '_>) -> Result<Turn, RunError> {
+    scanner.turn()
+}
 
 /// Whether so many turns go on.
 pub(crate) fn go_on(scanner: &mut Turns<'_, '_>, count: usize) -> bool {
     let mut so = true;
     for _ in 0..count {
-        so = scanner.turn() == Ok(Turn::Went) && so;
+        so = turn(scanner) == Ok(Turn::Went) && so;
     }
     so
 }
 
-/// Whether each turn goes on and leaves this many bytes taken and these held.
-fn go_on_so(scanner: &mut Turns<'_, '_>, after: &[(u64, &str)]) -> bool {
-    let mut so = true;
-    for &(taken, held) in after {
-        so = scanner.turn() == Ok(Turn::Went) && so;
-        so = scanner.taken() == taken && scanner.held() == held.as_bytes() && so;
-    }
-    so
+/// What the next turns do.
+#[derive(Clone, Copy)]
+enum Step {
+    /// So many go on.
+    Go(usize),
+    /// One goes on, and leaves this many bytes taken and these held.
+    GoTo(u64, &'static str),
+    /// One answers this, and leaves this many bytes taken and so many held.
+    Answer(Result<Turn, RunError>, u64, usize),
+    /// One ends the scan with this status, and leaves nothing held.
+    End(u8),
+    /// One is refused so.
+    Fail(RunError),
 }
 
-/// Whether the next two turns end with this status and leave nothing held.
-fn end_so(scanner: &mut Turns<'_, '_>, status: u8) -> bool {
-    let mut so = true;
-    for _ in 0..2 {
-        so = scanner.turn() == Ok(Turn::Ended(status)) && so;
-        so = scanner.held().is_empty() && so;
+/// Whether the next turns do so.
+fn does(scanner: &mut Turns<'_, '_>, step: Step) -> bool {
+    match step {
+        Step::Go(count) => go_on(scanner, count),
+        Step::GoTo(taken, held) => {
+            turn(scanner) == Ok(Turn::Went)
+                && scanner.taken() == taken
+                && scanner.held() == held.as_bytes()
+        }
+        Step::Answer(answer, taken, held) => {
+            turn(scanner) == answer && scanner.taken() == taken && scanner.held().len() == held
+        }
+        Step::End(status) => {
+            turn(scanner) == Ok(Turn::Ended(status)) && scanner.held().is_empty()
+        }
+        Step::Fail(error) => turn(scanner) == Err(error),
     }
-    so
 }
 
-/// Whether the turns over an input go on so, and then end so.
-fn goes_so(alloc: Global, machine: &Flat, input: &str, after: &[(u64, &str)], status: u8) -> bool {
-    let mut source = MemorySource::new(input.as_bytes());
-    let mut sink = MemorySink::new(alloc);
+/// A specification, an input, where the source or the sink fails, what the turns do, and what they write.
+type Scan = (
+    &'static str,
+    &'static [u8],
+    Failing,
+    &'static [Step],
+    &'static str,
+);
+
+/// Whether the turns of a row do what it says.
+fn goes_so_by(alloc: Global, machine: &Flat, row: &Scan) -> bool {
+    let (_, input, failing, steps, written) = *row;
+    let mut source = source_that(failing, input);
+    let mut sink = sink_that(alloc, failing);
     let mut scanner = Scanner::new(alloc, machine, &mut source, &mut sink, 10_000);
-    let went = go_on_so(&mut scanner, after);
-    let ended = end_so(&mut scanner, status);
-    went && ended
+    let mut so = true;
+    for &step in steps {
+        so = does(&mut scanner, step) && so;
+    }
+    scanner.sink().written() == written.as_bytes() && so
 }
 
-/// Whether they do by this specification.
-fn goes_so_by(
-    alloc: Global,
-    text: &str,
-    input: &str,
-    after: &[(u64, &str)],
-    status: u8,
-) -> Result<bool, Fail> {
-    let tables = read_back(alloc, text.as_bytes())?;
-    let machine = Flat::new(alloc, tables)?;
-    Ok(goes_so(alloc, &machine, input, after, status))
+/// Whether they do by the specification of the row.
+fn goes_so(alloc: Global, row: &Scan) -> Result<bool, Fail> {
+    let machine = machine_of(alloc, row.0)?;
+    Ok(goes_so_by(alloc, &machine, row))
 }
 
-#[test]
-fn takes_and_holds_what_is_asked_for(rt: HostRuntime) -> Result<(), Fail> {
-    let rows: &[(&str, &str, &[(u64, &str)], u8)] = &[
-        ("%%\n", "abc", &[(1, ""), (2, ""), (3, "")], 0),
-        (
-            NUMBERS,
-            "if 42 x",
-            &[(2, ""), (3, ""), (5, ""), (6, ""), (7, "")],
-            0,
-        ),
-        (
-            "%%\nabc printf(\"X\");\n",
-            "abab",
-            &[(3, "ba"), (3, "a"), (4, "b"), (4, "")],
-            0,
-        ),
-        (MEGA, "mega-kludge", &[(5, "mega-"), (11, "")], 0),
-        (
-            TRAIL,
-            "abcdab",
-            &[(4, "cd"), (4, "d"), (4, ""), (6, "b"), (6, "")],
-            0,
-        ),
-        ("%%\nab exit(7);\n", "abXYZ", &[], 7),
-        (
-            "%%\na yymore();\nb yymore(); exit(3);\n",
-            "abc",
-            &[(1, "a")],
-            3,
-        ),
-        (
-            "%%\naa yymore();\nb ECHO; yyless(1);\n",
-            "aab",
-            &[(2, "aa"), (3, "ab"), (3, "b"), (3, "")],
-            0,
-        ),
-    ];
-    for &(text, input, after, status) in rows {
-        assert!(rt;
-            goes_so_by(rt.alloc(), text, input, after, status)?,
-            "{text} on {input}"
-        );
+/// Holds the turns of each row.
+fn assert_turns(rt: &impl Abort, alloc: Global, rows: &[Scan]) -> Result<(), Fail> {
+    for row in rows {
+        assert!(rt; goes_so(alloc, row)?, "{} on {:?}", row.0, row.1);
     }
     Ok(())
 }
 
-/// A specification, an input, the most reads, how a run ends, how often the source is called, and what is written.
+const HELD: &[Scan] = &[
+    (
+        "%%\n",
+        b"abc",
+        Failing::Never,
+        &[
+            Step::GoTo(1, ""),
+            Step::GoTo(2, ""),
+            Step::GoTo(3, ""),
+            Step::End(0),
+            Step::End(0),
+        ],
+        "abc",
+    ),
+    (
+        NUMBERS,
+        b"if 42 x",
+        Failing::Never,
+        &[
+            Step::GoTo(2, ""),
+            Step::GoTo(3, ""),
+            Step::GoTo(5, ""),
+            Step::GoTo(6, ""),
+            Step::GoTo(7, ""),
+            Step::End(0),
+            Step::End(0),
+        ],
+        "K N x",
+    ),
+    (
+        "%%\nabc printf(\"X\");\n",
+        b"abab",
+        Failing::Never,
+        &[
+            Step::GoTo(3, "ba"),
+            Step::GoTo(3, "a"),
+            Step::GoTo(4, "b"),
+            Step::GoTo(4, ""),
+            Step::End(0),
+            Step::End(0),
+        ],
+        "abab",
+    ),
+    (
+        MEGA,
+        b"mega-kludge",
+        Failing::Never,
+        &[
+            Step::GoTo(5, "mega-"),
+            Step::GoTo(11, ""),
+            Step::End(0),
+            Step::End(0),
+        ],
+        "mega-mega-kludge",
+    ),
+    (
+        TRAIL,
+        b"abcdab",
+        Failing::Never,
+        &[
+            Step::GoTo(4, "cd"),
+            Step::GoTo(4, "d"),
+            Step::GoTo(4, ""),
+            Step::GoTo(6, "b"),
+            Step::GoTo(6, ""),
+            Step::End(0),
+            Step::End(0),
+        ],
+        "[ab]cdab",
+    ),
+    (
+        "%%\nab exit(7);\n",
+        b"abXYZ",
+        Failing::Never,
+        &[Step::End(7), Step::End(7)],
+        "",
+    ),
+    (
+        "%%\na yymore();\nb yymore(); exit(3);\n",
+        b"abc",
+        Failing::Never,
+        &[Step::GoTo(1, "a"), Step::End(3), Step::End(3)],
+        "",
+    ),
+    (
+        "%%\naa yymore();\nb ECHO; yyless(1);\n",
+        b"aab",
+        Failing::Never,
+        &[
+            Step::GoTo(2, "aa"),
+            Step::GoTo(3, "ab"),
+            Step::GoTo(3, "b"),
+            Step::GoTo(3, ""),
+            Step::End(0),
+            Step::End(0),
+        ],
+        "aabab",
+    ),
+];
+
+#[test]
+fn takes_and_holds_what_is_asked_for(rt: HostRuntime) -> Result<(), Fail> {
+    assert_turns(&rt, rt.alloc(), HELD)
+}
+
+/// A specification, an input, where the source fails, the most reads, how a run ends, how often the source is called, and what
+/// is written.
 type Run = (
     &'static str,
     &'static [u8],
+    Failing,
     u64,
     Result<u8, RunError>,
     u64,
@@ -129,8 +233,8 @@ type Run = (
 
 /// Whether the run by this machine ends so.
 fn ends_so_by(alloc: Global, machine: &Flat, row: &Run) -> bool {
-    let (_, input, max_reads, want, calls, written) = *row;
-    let mut source = MemorySource::new(input);
+    let (_, input, failing, max_reads, want, calls, written) = *row;
+    let mut source = source_that(failing, input);
     let mut sink = MemorySink::new(alloc);
     let got = run(alloc, machine, &mut source, &mut sink, max_reads);
     got == want && source.calls() == calls && sink.written() == written
@@ -138,121 +242,131 @@ fn ends_so_by(alloc: Global, machine: &Flat, row: &Run) -> bool {
 
 /// Whether the run ends so.
 fn ends_so(alloc: Global, row: &Run) -> Result<bool, Fail> {
-    let tables = read_back(alloc, row.0.as_bytes())?;
-    let machine = Flat::new(alloc, tables)?;
+    let machine = machine_of(alloc, row.0)?;
     Ok(ends_so_by(alloc, &machine, row))
 }
 
-const LETTERS: &str = "%%\n[a-z]+ printf(\"I\");\n";
-
-#[test]
-fn calls_the_source_as_often_as_a_byte_is_asked_for(rt: HostRuntime) -> Result<(), Fail> {
-    let rows: &[Run] = &[
-        (NUMBERS, b"if 42 x", 10_000, Ok(0), 8, b"K N x"),
-        (TRAIL, b"abcdab", 10_000, Ok(0), 7, b"[ab]cdab"),
-        (LETTERS, b"aaa", 4, Ok(0), 4, b"I"),
-        (LETTERS, b"aaa", 3, Err(RunError::TooManyReads), 3, b""),
-        ("%%\nab exit(7);\n", b"abXYZ", 2, Ok(7), 2, b""),
-        ("%%\nab* exit(7);\n", b"abXYZ", 10_000, Ok(7), 3, b""),
-    ];
+/// Holds the run of each row.
+fn assert_runs(rt: &impl Abort, alloc: Global, rows: &[Run]) -> Result<(), Fail> {
     for row in rows {
-        assert!(rt; ends_so(rt.alloc(), row)?, "{} on {:?}", row.0, row.1);
+        assert!(rt; ends_so(alloc, row)?, "{} with {} reads", row.0, row.3);
     }
     Ok(())
 }
 
-/// Whether a run over a source that answers its end after six bytes calls it no more.
-fn runs_to_an_end(alloc: Global, machine: &Flat) -> bool {
-    let mut source = MemorySource::ending_after(b"abcdabz", 6);
-    let mut sink = MemorySink::new(alloc);
-    let got = run(alloc, machine, &mut source, &mut sink, 10_000);
-    got == Ok(0) && source.calls() == 7 && sink.written() == b"[ab]cdab".as_slice()
+const TOO_MANY: Result<u8, RunError> = Err(RunError::TooManyReads);
+
+const CALLED: &[Run] = &[
+    (
+        NUMBERS,
+        b"if 42 x",
+        Failing::Never,
+        10_000,
+        Ok(0),
+        8,
+        b"K N x",
+    ),
+    (
+        TRAIL,
+        b"abcdab",
+        Failing::Never,
+        10_000,
+        Ok(0),
+        7,
+        b"[ab]cdab",
+    ),
+    (LETTERS, b"aaa", Failing::Never, 4, Ok(0), 4, b"I"),
+    (LETTERS, b"aaa", Failing::Never, 3, TOO_MANY, 3, b""),
+    (
+        "%%\nab exit(7);\n",
+        b"abXYZ",
+        Failing::Never,
+        2,
+        Ok(7),
+        2,
+        b"",
+    ),
+    (
+        "%%\nab* exit(7);\n",
+        b"abXYZ",
+        Failing::Never,
+        10_000,
+        Ok(7),
+        3,
+        b"",
+    ),
+];
+
+#[test]
+fn calls_the_source_as_often_as_a_byte_is_asked_for(rt: HostRuntime) -> Result<(), Fail> {
+    assert_runs(&rt, rt.alloc(), CALLED)
 }
 
-/// Whether the turns over such a source end with six bytes taken.
-fn turns_to_an_end(alloc: Global, machine: &Flat) -> bool {
-    let mut source = MemorySource::ending_after(b"abcdabz", 6);
-    let mut sink = MemorySink::new(alloc);
-    let mut scanner = Scanner::new(alloc, machine, &mut source, &mut sink, 10_000);
-    let went = go_on(&mut scanner, 5);
-    let ended = scanner.turn() == Ok(Turn::Ended(0));
-    went && ended && scanner.taken() == 6
-}
+const RUN_TO_AN_END: &[Run] = &[(
+    TRAIL,
+    b"abcdabz",
+    Failing::End(6),
+    10_000,
+    Ok(0),
+    7,
+    b"[ab]cdab",
+)];
+
+const TURNED_TO_AN_END: &[Scan] = &[(
+    TRAIL,
+    b"abcdabz",
+    Failing::End(6),
+    &[Step::Go(5), Step::Answer(Ok(Turn::Ended(0)), 6, 0)],
+    "[ab]cdab",
+)];
 
 /// A source that has answered its end is not called again, whatever it would give then.
 #[test]
 fn asks_for_the_end_once(rt: HostRuntime) -> Result<(), Fail> {
-    let tables = read_back(rt.alloc(), TRAIL.as_bytes())?;
-    let machine = Flat::new(rt.alloc(), tables)?;
-    assert!(rt; runs_to_an_end(rt.alloc(), &machine));
-    assert!(rt; turns_to_an_end(rt.alloc(), &machine));
-    Ok(())
+    assert_runs(&rt, rt.alloc(), RUN_TO_AN_END)?;
+    assert_turns(&rt, rt.alloc(), TURNED_TO_AN_END)
 }
 
-/// Each match is given back but for a letter.
-const ONE_BY_ONE: &str = "%%\n[a-z]+ yyless(1);\n";
+const RETURNED: &[Run] = &[
+    (
+        ONE_BY_ONE,
+        THOUSAND,
+        Failing::Never,
+        1_001,
+        Ok(0),
+        1_001,
+        b"",
+    ),
+    (
+        ONE_BY_ONE,
+        THOUSAND,
+        Failing::Never,
+        1_000,
+        TOO_MANY,
+        1_000,
+        b"",
+    ),
+];
 
-const THOUSAND: &[u8] = &[b'a'; 1_000];
-
-/// Whether a thousand letters are taken in the first turn, and returned one by one.
-fn returns_one_by_one(alloc: Global, machine: &Flat) -> bool {
-    let mut source = MemorySource::new(THOUSAND);
-    let mut sink = MemorySink::new(alloc);
-    let mut scanner = Scanner::new(alloc, machine, &mut source, &mut sink, 10_000);
-    let mut so = scanner.turn() == Ok(Turn::Went);
-    so = scanner.taken() == 1_000 && scanner.held().len() == 999 && so;
-    so = go_on(&mut scanner, 999) && so;
-    for _ in 0..2 {
-        so = scanner.turn() == Ok(Turn::Ended(0)) && so;
-        so = scanner.taken() == 1_000 && scanner.held().is_empty() && so;
-    }
-    so
-}
+/// A thousand letters are taken in the first turn, and returned one by one.
+const RETURNED_ONE_BY_ONE: &[Scan] = &[(
+    ONE_BY_ONE,
+    THOUSAND,
+    Failing::Never,
+    &[
+        Step::Answer(Ok(Turn::Went), 1_000, 999),
+        Step::Go(999),
+        Step::Answer(Ok(Turn::Ended(0)), 1_000, 0),
+        Step::Answer(Ok(Turn::Ended(0)), 1_000, 0),
+    ],
+    "",
+)];
 
 #[test]
 fn a_thousand_letters_are_returned_one_by_one(rt: HostRuntime) -> Result<(), Fail> {
-    let too_many = Err(RunError::TooManyReads);
-    let rows: &[Run] = &[
-        (ONE_BY_ONE, THOUSAND, 1_001, Ok(0), 1_001, b""),
-        (ONE_BY_ONE, THOUSAND, 1_000, too_many, 1_000, b""),
-    ];
-    for row in rows {
-        assert!(rt; ends_so(rt.alloc(), row)?, "{} reads", row.2);
-    }
-    let tables = read_back(rt.alloc(), ONE_BY_ONE.as_bytes())?;
-    let machine = Flat::new(rt.alloc(), tables)?;
-    assert!(rt; returns_one_by_one(rt.alloc(), &machine));
-    Ok(())
+    assert_runs(&rt, rt.alloc(), RETURNED)?;
+    assert_turns(&rt, rt.alloc(), RETURNED_ONE_BY_ONE)
 }
-
-/// What a turn answers, how many bytes are taken after it, and how many of them are held.
-type Told = (Result<Turn, RunError>, u64, usize);
-
-/// Whether the next turns are told so.
-fn are_told(scanner: &mut Turns<'_, '_>, told: &[Told]) -> bool {
-    let mut so = true;
-    for &(answer, taken, held) in told {
-        so = scanner.turn() == answer && so;
-        so = scanner.taken() == taken && scanner.held().len() == held && so;
-    }
-    so
-}
-
-/// A specification, an input, how many bytes the source gives, how many the sink takes, and what three turns answer.
-type Refused = (&'static str, &'static str, usize, usize, &'static [Told]);
-
-/// Whether the turns of a row are told so.
-fn turns_are_told(alloc: Global, row: &Refused) -> Result<bool, Fail> {
-    let (text, input, given, room, told) = *row;
-    let tables = read_back(alloc, text.as_bytes())?;
-    let machine = Flat::new(alloc, tables)?;
-    let mut source = MemorySource::failing_after(input.as_bytes(), given);
-    let mut sink = MemorySink::failing_after(alloc, room);
-    let mut scanner = Scanner::new(alloc, &machine, &mut source, &mut sink, 10_000);
-    Ok(are_told(&mut scanner, told))
-}
-
-const FAR: usize = 10_000;
 
 const WENT: Result<Turn, RunError> = Ok(Turn::Went);
 
@@ -262,71 +376,113 @@ const UNREAD: Result<Turn, RunError> = Err(RunError::Read);
 
 const FAILED: Result<Turn, RunError> = Err(RunError::Failed);
 
-const REFUSED: &[Refused] = &[
+const REFUSED: &[Scan] = &[
     (
         MEGA,
-        "mega-kludge",
-        FAR,
-        5,
-        &[(WENT, 5, 5), (UNWRITTEN, 11, 11), (FAILED, 11, 11)],
+        b"mega-kludge",
+        Failing::Write(5),
+        &[
+            Step::Answer(WENT, 5, 5),
+            Step::Answer(UNWRITTEN, 11, 11),
+            Step::Answer(FAILED, 11, 11),
+        ],
+        "mega-",
     ),
     (
         MEGA,
-        "mega-kludge",
-        5,
-        FAR,
-        &[(WENT, 5, 5), (UNREAD, 5, 5), (FAILED, 5, 5)],
+        b"mega-kludge",
+        Failing::Read(5),
+        &[
+            Step::Answer(WENT, 5, 5),
+            Step::Answer(UNREAD, 5, 5),
+            Step::Answer(FAILED, 5, 5),
+        ],
+        "mega-",
     ),
     (
         FRONTS,
-        "abcd",
-        FAR,
-        3,
-        &[(UNWRITTEN, 4, 4), (FAILED, 4, 4), (FAILED, 4, 4)],
+        b"abcd",
+        Failing::Write(3),
+        &[
+            Step::Answer(UNWRITTEN, 4, 4),
+            Step::Answer(FAILED, 4, 4),
+            Step::Answer(FAILED, 4, 4),
+        ],
+        "abc",
     ),
     (
-        "%option stack\n%%\na printf(\"A\"); yy_pop_state(); printf(\"B\");\n",
-        "xa",
-        FAR,
-        FAR,
-        &[(WENT, 1, 0), (Err(RunError::Stack), 2, 1), (FAILED, 2, 1)],
+        POPS,
+        b"xa",
+        Failing::Never,
+        &[
+            Step::Answer(WENT, 1, 0),
+            Step::Answer(Err(RunError::Stack), 2, 1),
+            Step::Answer(FAILED, 2, 1),
+        ],
+        "xA",
     ),
 ];
 
 #[test]
 fn a_refused_turn_holds_what_was_taken(rt: HostRuntime) -> Result<(), Fail> {
-    for row in REFUSED {
-        assert!(rt; turns_are_told(rt.alloc(), row)?, "{} on {}", row.0, row.1);
-    }
-    Ok(())
+    assert_turns(&rt, rt.alloc(), REFUSED)
 }
 
-/// Whether so many turns go on, the next one is refused so, and the one after it as each later one is.
-fn is_refused_so(scanner: &mut Turns<'_, '_>, went: usize, error: RunError) -> bool {
-    let mut so = go_on(scanner, went);
-    so = scanner.turn() == Err(error) && so;
-    so = scanner.turn() == Err(RunError::Failed) && so;
-    so
-}
-
-/// Whether the sink that fails after so many bytes has just these.
-fn fills_a_sink(alloc: Global, machine: &Flat, room: usize) -> bool {
-    let mut source = MemorySource::new(b"abcd");
-    let mut sink = MemorySink::failing_after(alloc, room);
-    let mut scanner = Scanner::new(alloc, machine, &mut source, &mut sink, 10_000);
-    let so = is_refused_so(&mut scanner, 0, RunError::Write);
-    so && b"abcdabcaba".get(..room) == Some(scanner.sink().written())
-}
+const UNWRITTEN_AT_ONCE: &[Step] = &[Step::Fail(RunError::Write), Step::Fail(RunError::Failed)];
 
 /// A sink that takes 0 to 9 of the ten bytes of the first turn has the first ones.
+const FILLED: &[Scan] = &[
+    (FRONTS, b"abcd", Failing::Write(0), UNWRITTEN_AT_ONCE, ""),
+    (FRONTS, b"abcd", Failing::Write(1), UNWRITTEN_AT_ONCE, "a"),
+    (FRONTS, b"abcd", Failing::Write(2), UNWRITTEN_AT_ONCE, "ab"),
+    (FRONTS, b"abcd", Failing::Write(3), UNWRITTEN_AT_ONCE, "abc"),
+    (
+        FRONTS,
+        b"abcd",
+        Failing::Write(4),
+        UNWRITTEN_AT_ONCE,
+        "abcd",
+    ),
+    (
+        FRONTS,
+        b"abcd",
+        Failing::Write(5),
+        UNWRITTEN_AT_ONCE,
+        "abcda",
+    ),
+    (
+        FRONTS,
+        b"abcd",
+        Failing::Write(6),
+        UNWRITTEN_AT_ONCE,
+        "abcdab",
+    ),
+    (
+        FRONTS,
+        b"abcd",
+        Failing::Write(7),
+        UNWRITTEN_AT_ONCE,
+        "abcdabc",
+    ),
+    (
+        FRONTS,
+        b"abcd",
+        Failing::Write(8),
+        UNWRITTEN_AT_ONCE,
+        "abcdabca",
+    ),
+    (
+        FRONTS,
+        b"abcd",
+        Failing::Write(9),
+        UNWRITTEN_AT_ONCE,
+        "abcdabcab",
+    ),
+];
+
 #[test]
 fn a_sink_fails_after_each_byte(rt: HostRuntime) -> Result<(), Fail> {
-    let tables = read_back(rt.alloc(), FRONTS.as_bytes())?;
-    let machine = Flat::new(rt.alloc(), tables)?;
-    for room in 0..10usize {
-        assert!(rt; fills_a_sink(rt.alloc(), &machine, room), "{room}");
-    }
-    Ok(())
+    assert_turns(&rt, rt.alloc(), FILLED)
 }
 
 /// How many turns go on where the source gives 0 to 10 bytes, and what they write.
@@ -349,14 +505,15 @@ fn ends_a_source(alloc: Global, machine: &Flat, given: usize, went: usize, writt
     let mut source = MemorySource::failing_after(b"a/*b*/c/*d", given);
     let mut sink = MemorySink::new(alloc);
     let mut scanner = Scanner::new(alloc, machine, &mut source, &mut sink, 10_000);
-    let so = is_refused_so(&mut scanner, went, RunError::Read);
-    so && scanner.sink().written() == written.as_bytes()
+    go_on(&mut scanner, went)
+        && turn(&mut scanner) == UNREAD
+        && turn(&mut scanner) == FAILED
+        && scanner.sink().written() == written.as_bytes()
 }
 
 #[test]
 fn a_source_fails_after_each_byte(rt: HostRuntime) -> Result<(), Fail> {
-    let tables = read_back(rt.alloc(), COMMENTS.as_bytes())?;
-    let machine = Flat::new(rt.alloc(), tables)?;
+    let machine = machine_of(rt.alloc(), COMMENTS)?;
     for (given, &(went, written)) in TURNS_BEFORE.iter().enumerate() {
         let so = ends_a_source(rt.alloc(), &machine, given, went, written);
         assert!(rt; so, "{given}");
@@ -364,20 +521,10 @@ fn a_source_fails_after_each_byte(rt: HostRuntime) -> Result<(), Fail> {
     Ok(())
 }
 
-/// Whether a sink that fails in its flush refuses the first turn over an empty input, and has nothing.
-fn fails_in_a_flush(alloc: Global, machine: &Flat) -> bool {
-    let mut source = MemorySource::new(b"");
-    let mut sink = MemorySink::failing_flush(alloc);
-    let mut scanner = Scanner::new(alloc, machine, &mut source, &mut sink, 10_000);
-    let so = is_refused_so(&mut scanner, 0, RunError::Write);
-    so && scanner.sink().written().is_empty()
-}
-
 /// The flush at the end of an empty input fails.
+const UNFLUSHED: &[Scan] = &[("%%\n", b"", Failing::Flush, UNWRITTEN_AT_ONCE, "")];
+
 #[test]
 fn a_flush_fails(rt: HostRuntime) -> Result<(), Fail> {
-    let tables = read_back(rt.alloc(), b"%%\n")?;
-    let machine = Flat::new(rt.alloc(), tables)?;
-    assert!(rt; fails_in_a_flush(rt.alloc(), &machine));
-    Ok(())
+    assert_turns(&rt, rt.alloc(), UNFLUSHED)
 }

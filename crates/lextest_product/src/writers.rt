@@ -27,11 +27,11 @@ impl Write for Drip {
 #[test]
 fn writes_one_byte_after_another(rt: HostRuntime) -> Result<(), Fail> {
     let text = b"%%\nmega- ECHO; yymore();\nkludge ECHO;\n";
-    let rows: &[(usize, Result<u8, ScanError>, &[u8])] = &[
+    const ROWS: &[(usize, Result<u8, ScanError>, &[u8])] = &[
         (99, Ok(0), b"mega-mega-kludge"),
         (5, Err(ScanError::Run(RunError::Write)), b"mega-"),
     ];
-    for &(room, want, written) in rows {
+    for &(room, want, written) in ROWS {
         let mut source = MemorySource::new(b"mega-kludge");
         let taken = Vec::new(rt.alloc());
         let mut sink = ToWrite::new(Drip { taken, room });

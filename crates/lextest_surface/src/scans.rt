@@ -96,12 +96,12 @@ fn begins_with(tables: &Tables, text: &[u8], wanted: Candidate, rules: &[u32]) -
 #[test]
 fn the_longest_match(rt: HostRuntime) -> Result<(), Fail> {
     let made = generate(rt.alloc(), LONGEST, Options::new())?;
-    let rows: &[(&[u8], MatchedRule, usize, usize, &[u32])] = &[
+    const ROWS: &[(&[u8], MatchedRule, usize, usize, &[u32])] = &[
         (b"iffy ", MatchedRule::Numbered(1), 4, 4, &[1]),
         (b"12kg", MatchedRule::Numbered(2), 4, 2, &[]),
         (b"12", MatchedRule::Default, 1, 1, &[]),
     ];
-    for &(text, rule, length, kept, first) in rows {
+    for &(text, rule, length, kept, first) in ROWS {
         let wanted = Candidate {
             rule,
             length,

@@ -29,11 +29,11 @@ const SPEC_REFUSED: SpecError = SpecError {
 #[test]
 fn refused_texts(rt: HostRuntime) {
     let alloc = rt.alloc();
-    let names = &[
+    const NAMES: &[(DefsError, &str)] = &[
         (DefsError::Duplicate, "the name is defined already"),
         (DefsError::OutOfMemory, "out of memory"),
     ];
-    for &(error, words) in names {
+    for &(error, words) in NAMES {
         assert!(rt; says(alloc, &error, words), "{words}");
     }
     assert!(rt; says(alloc, &PatternErrorKind::BadInterval, "BadInterval"));
@@ -45,12 +45,12 @@ fn refused_texts(rt: HostRuntime) {
 #[test]
 fn automata(rt: HostRuntime) {
     let alloc = rt.alloc();
-    let rows = &[
+    const ROWS: &[(BuildError, &str)] = &[
         (BuildError::TooManyPositions, "TooManyPositions"),
         (BuildError::TooManyStates, "TooManyStates"),
         (BuildError::OutOfMemory, "OutOfMemory"),
     ];
-    for &(error, words) in rows {
+    for &(error, words) in ROWS {
         assert!(rt; says(alloc, &error, words), "{words}");
     }
     assert!(rt; says(alloc, &OutOfMemory, "OutOfMemory"));
@@ -58,7 +58,7 @@ fn automata(rt: HostRuntime) {
 
 #[test]
 fn tables(rt: HostRuntime) {
-    let rows = &[
+    const ROWS: &[(TableError, &str)] = &[
         (TableError::BadMagic, "BadMagic"),
         (TableError::BadVersion, "BadVersion"),
         (TableError::Truncated, "Truncated"),
@@ -66,7 +66,7 @@ fn tables(rt: HostRuntime) {
         (TableError::BadField(28), "BadField at 28"),
         (TableError::OutOfMemory, "OutOfMemory"),
     ];
-    for &(error, words) in rows {
+    for &(error, words) in ROWS {
         assert!(rt; says(rt.alloc(), &error, words), "{words}");
     }
 }
@@ -74,7 +74,7 @@ fn tables(rt: HostRuntime) {
 #[test]
 fn scans(rt: HostRuntime) {
     let alloc = rt.alloc();
-    let rows = &[
+    const ROWS: &[(RunError, &str)] = &[
         (RunError::Read, "read fault"),
         (RunError::TooManyReads, "too many reads"),
         (RunError::Write, "write fault"),
@@ -82,7 +82,7 @@ fn scans(rt: HostRuntime) {
         (RunError::Stack, "condition stack"),
         (RunError::Failed, "failed"),
     ];
-    for &(error, words) in rows {
+    for &(error, words) in ROWS {
         assert!(rt; says(alloc, &error, words), "{words}");
     }
     assert!(rt; says(alloc, &ReadFault, "read fault"));
@@ -94,12 +94,12 @@ const UNMADE: GenError = GenError::Spec(SPEC_REFUSED);
 #[test]
 fn the_whole_product(rt: HostRuntime) {
     let alloc = rt.alloc();
-    let rows = &[
+    const ROWS: &[(ScanError, &str)] = &[
         (ScanError::Generate(UNMADE), "line 12: BadInterval at 7"),
         (ScanError::Table(TableError::BadMagic), "BadMagic"),
         (ScanError::Run(RunError::Stack), "condition stack"),
     ];
-    for &(error, words) in rows {
+    for &(error, words) in ROWS {
         assert!(rt; says(alloc, &error, words), "{words}");
     }
     assert!(rt; says(alloc, &UNMADE, "line 12: BadInterval at 7"));

@@ -148,13 +148,13 @@ fn is_longest(alloc: Global, text: &[u8], wanted: Option<Candidate>) -> Result<b
 
 #[test]
 fn finds_the_longest_match(rt: HostRuntime) -> Result<(), Fail> {
-    let rows: &[(&[u8], MatchedRule, usize, usize)] = &[
+    const ROWS: &[(&[u8], MatchedRule, usize, usize)] = &[
         (b"if x", MatchedRule::Numbered(0), 2, 2),
         (b"iffy", MatchedRule::Numbered(1), 4, 4),
         (b"12kg", MatchedRule::Numbered(2), 4, 2),
         (b"12g", MatchedRule::Default, 1, 1),
     ];
-    for &(text, rule, length, kept) in rows {
+    for &(text, rule, length, kept) in ROWS {
         let same = is_longest(
             rt.alloc(),
             text,
