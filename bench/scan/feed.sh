@@ -1,47 +1,66 @@
 #!/usr/bin/env bash
-# Scans about 20 MB (or SIZE bytes) by each specification here, by the program lex and through lex_feed of liblex in pieces of 64 KiB. They
-# run in turn, RUNS times each (9 without it), and what each run writes is compared with what the first wrote. A row tells the median of
-# the seconds of the processor, the system's with them, and the least.
+# Scans about 20 MB (or SIZE bytes) by each specification here and by four of examples/, by the program lex with a table file and through
+# lex_feed of liblex in pieces of 64 KiB, by the same file. They run in turn, RUNS times each (9 without it), and what each run writes is
+# compared with what the first wrote. A row tells the median of the seconds of the processor, the system's with them, and the least, and
+# then the median of the feeds as a part of the program's.
+#
+# With the word `instructions` it tells the instructions a byte that callgrind counts, over 2 MB (or SIZE bytes), of one run.
 #
 # The program is built first, by `rt run` in crates/lex, and liblex.a by scripts/liblex.sh.
 #
-#     bench/scan/feed.sh [RUNS [SIZE]]
+#     bench/scan/feed.sh [instructions] [LEX [RUNS [SIZE]]]        LEX is another program to be measured in its place
 set -euo pipefail
 here=$(cd "$(dirname "$0")" && pwd)
 top=$here/../..
-lex=$top/crates/lex/out/lex
-runs=${1:-9}
+way=seconds
+if [[ ${1-} == instructions ]]; then
+    way=$1
+    shift
+fi
+lex=${1:-$top/crates/lex/out/lex}
+declare -A sizes=([seconds]=20000000 [instructions]=2000000) counts=([seconds]=${2:-9} [instructions]=1)
 folder=$(mktemp -d)
 trap 'rm -r "$folder"' EXIT
-"$here/inputs.py" "$folder" "${2:-20000000}"
+"$here/inputs.py" "$folder" "${3:-${sizes[$way]}}"
 cc -O2 -I "$top/include" -o "$folder/feed" "$here/feed.c" "$top/out/liblex/liblex.a"
 
-# A line `PROGRAM SECONDS` for a run of the words that follow the program's name.
-run() {
-    local TIMEFORMAT=%U+%S program=$1
-    shift
-    { time "$@" < "$input" > "$folder/output" 2> /dev/null; } 2> "$folder/time"
+# Runs the words over the input, and compares what they write with what the first run wrote.
+scan() {
+    { time "$@" < "$input" > "$folder/output" 2> "$folder/messages"; } 2> "$folder/time"
     [ -e "$folder/expected" ] || cp "$folder/output" "$folder/expected"
     cmp "$folder/expected" "$folder/output" >&2
-    awk -F+ -v program="$program" '{ printf "%s %.3f\n", program, $1 + $2 }' "$folder/time" >> "$folder/numbers"
 }
 
-# The median and the least of the numbers that belong to the program $1.
+# The seconds of a run of the words.
+seconds() {
+    local TIMEFORMAT=%U+%S
+    scan "$@"
+    awk -F+ '{ printf "%.3f\n", $1 + $2 }' "$folder/time"
+}
+
+# The instructions of a run of the words, by byte.
+instructions() {
+    scan valgrind --tool=callgrind --callgrind-out-file=/dev/null "$@"
+    awk -v bytes="$(stat -c %s "$input")" '/Collected/ { printf "%.1f\n", $NF / bytes }' "$folder/messages"
+}
+
+# The median and the least of the numbers of a file, a line each.
 middle() {
-    awk -v program="$1" '$1 == program { print $2 }' "$folder/numbers" | sort -n |
-        awk '{ at[NR] = $1 } END { print at[int((NR + 1) / 2)] " (" at[1] ")" }'
+    sort -n "$1" | awk '{ at[NR] = $1 } END { print at[int((NR + 1) / 2)], at[1] }'
 }
 
-echo "| Specification | lex | lex_feed |"
-echo "|---|---|---|"
+echo "| Specification | lex | lex_feed | A part of lex's |"
+echo "|---|---|---|---|"
 for spec in "$here"/*.l "$top"/examples/{words,documents,c_tokens,heredoc}.l; do
     name=$(basename "$spec" .l)
     input=$folder/$name.input
-    rm -f "$folder/expected" "$folder/numbers"
+    rm -f "$folder"/{expected,lex.numbers,feed.numbers}
     "$lex" -w -o "$folder/lex.tab" "$spec"
-    for ((round = 0; round < runs; round++)); do
-        run lex "$lex" --scan-table "$folder/lex.tab"
-        run feed "$folder/feed" "$folder/lex.tab" 65536
+    for ((round = 0; round < counts[$way]; round++)); do
+        "$way" "$lex" --scan-table "$folder/lex.tab" >> "$folder/lex.numbers"
+        "$way" "$folder/feed" "$folder/lex.tab" 65536 >> "$folder/feed.numbers"
     done
-    echo "| $name.l | $(middle lex) | $(middle feed) |"
+    read -r scans least < <(middle "$folder/lex.numbers")
+    read -r feeds less < <(middle "$folder/feed.numbers")
+    echo "| $name.l | $scans ($least) | $feeds ($less) | $(awk -v a="$feeds" -v b="$scans" 'BEGIN { printf "%.2f", a / b }') |"
 done

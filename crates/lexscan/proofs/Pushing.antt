@@ -1,9 +1,9 @@
 -- Scans by pieces.
-use Rattle.std.proofs.Common.{◌≡◌, ℕ, suc, ◌+◌, ◌-◌, ◌<◌, ◌≤◌, inl, inr, Bool, true, false, List, [], ◌++◌, length, take, drop, Option, Some, None, Result, Ok, Err, refl, sym, ap, subst, ◌∙◌, append_assoc, append-nil, arith}
+use Rattle.std.proofs.Common.{◌≡◌, ℕ, suc, ◌+◌, ◌-◌, ◌<◌, ◌≤◌, inl, inr, Bool, true, false, List, [], ◌++◌, length, take, drop, min, Option, Some, None, Result, Ok, Err, refl, sym, ap, subst, ◌∙◌, append_assoc, append-nil, arith}
 use Rattle.std.specs.Prelude.{IsErrOf, IfSome}
 use Rattle.std.proofs.lemmas.Bool.{cases_lt, cases_eq, cases_Bool}
-use Rattle.std.proofs.lemmas.List.{length-append, drop-append-le, nil_from_length, take-append-le, length-drop}
-use Rattle.std.proofs.Math.Seq.{take-append_seam, drop-append_seam}
+use Rattle.std.proofs.lemmas.List.{length-append, drop-append-le, nil_from_length, take-append-le, length-drop, drop_all}
+use Rattle.std.proofs.Math.Seq.{take-append_seam, drop-append_seam, drop-append-add}
 use Rattle.lex_semantics.specs.Text.{IsText, BeginsWith, at_line_start}
 use Rattle.lex_semantics.specs.Acting.{Ending, Status}
 use Rattle.lex_semantics.specs.Run as Scan
@@ -56,6 +56,17 @@ certain_true false h = absurd (h (λ e. cc))
 not_before : (a b : Bool) → (a ≡ true → b ≡ true) → b ≡ false → a ≡ false
 not_before false b stays e = refl
 not_before true b stays e = (let t = stays refl in cc)
+
+-- where so many bytes of two lists are dropped
+pub drop_over : (n k : ℕ) (xs ys : List ℕ) → k ≡ min n (length xs) → drop n (xs ++ ys) ≡ drop k xs ++ drop (n - k) ys
+drop_over n k xs ys is = elim (cases_lt (length xs) n) [
+  | inr few ↦ (let e : k ≡ n = omega (arith, is, few) in
+      let none : n - k ≡ 0 = omega (arith, e) in
+      drop-append-le n xs ys few ∙ ap (λ j. drop j xs ++ ys) (sym e) ∙ ap (λ j. drop k xs ++ drop j ys) (sym none))
+  | inl more ↦ (let e : k ≡ length xs = omega (arith, is, more) in
+      let whole : n ≡ length xs + (n - k) = omega (arith, e, more) in
+      ap (λ j. drop j (xs ++ ys)) whole ∙ drop-append-add xs ys (n - k) ∙ ap (λ l. l ++ drop (n - k) ys) (sym (drop_all k xs (omega (arith, e)))))
+]
 
 -- A turn that asked for more than may be read is given up.
 module _ (M : Machine) (n : ℕ) (given got out out' : List ℕ) (old mid new : State) (h : Stands M n given out old) (none : NoneAfterEnd old mid got) (fell : Fell M n given got out' mid TooManyReads) (more : mid.reading.at_end ≡ false) where

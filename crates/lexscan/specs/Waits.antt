@@ -2,6 +2,11 @@
 use Rattle.std.proofs.Common.{◌≡◌, ℕ, ◌<◌, ◌≤◌, ◌^◌, ◌⊎◌, inl, inr, List, [], ◌++◌, length, refl, sym, ap, ◌∙◌, append_assoc, arith, lit<}
 use Rattle.std.proofs.lemmas.List.{length-append, nil_from_length}
 use Rattle.std.proofs.lemmas.Bool.{cases_lt}
+use Rattle.lexscan.specs.declared.waiting.Waiting.{Waiting}
+
+-- the bytes that it has not given yet
+abbrev pub bytes_left : Waiting → List ℕ
+bytes_left s = s.rest.now ++ s.later.now
 
 -- The source lost these bytes. It answered its end only where none was left.
 pub record GivesWaiting (rest : List ℕ) (ends : ℕ) (rest' : List ℕ) (ends' : ℕ) (bytes : List ℕ) : Type 0 where

@@ -1,5 +1,5 @@
 //! A scan that is fed its input piece by piece.
-ghost use Rattle.std.specs.Prelude.{◌≡◌, ℕ, ◌+◌, ◌-◌, ◌^◌, ◌<◌, ◌≤◌, List, [], ◌++◌, length, drop, vec_len, true, false, None, Some, Ok, Err, OnErr, IfSome, IfNone, IsErrOf};
+ghost use Rattle.std.specs.Prelude.{◌≡◌, ℕ, ◌+◌, ◌-◌, ◌^◌, ◌<◌, ◌≤◌, List, [], ◌++◌, length, drop, vec_len, vec_capacity, true, false, None, Some, Ok, Err, OnErr, IfSome, IfNone, IsErrOf};
 ghost use Rattle.lex_semantics.specs.Machine.{rules_of_machine};
 ghost use Rattle.lex_semantics.specs.Text.{AllBelow};
 ghost use Rattle.lexscan.specs.Memos.{AreTrue, AreTrue-prop};
@@ -23,11 +23,26 @@ use std::alloc::Global;
 /// Drops bytes from the front.
 fn drop_front(bytes: &mut Vec<u8>, count: usize)
     requires { count ≤ vec_len bytes.old }
-    ensures { bytes.new.items ≡ drop count bytes.old.items }
+    ensures bytes { bytes.new.items ≡ drop count bytes.old.items }
+    ensures room { vec_capacity bytes.new ≡ vec_capacity bytes.old }
 {
     let left = bytes.len() - count;
     bytes.copy_within(count.., 0);
     bytes.truncate(left);
+}
+
+/// Keeps what is left of the bytes that waited and of a piece after them, where so many of all are done with. There is room for it.
+fn keep_rest(waiting: &mut Vec<u8>, piece: &[u8], done: usize)
+    requires inside { done ≤ vec_len waiting.old + length piece.now }
+    requires room { vec_len waiting.old + length piece.now ≤ vec_capacity waiting.old }
+    ensures { waiting.new.items ≡ drop done (waiting.old.items ++ piece.now) }
+{
+    let waited = done.min(waiting.len());
+    drop_front(waiting, waited);
+    match waiting.extend_from_slice(&piece[done - waited..]) {
+        Err(_) => unreachable!(),
+        Ok(()) => {}
+    }
 }
 
 /// How many bytes there are with a piece more, where their count and that of the end's answer fit.
@@ -44,13 +59,14 @@ fn count_with(taken: u64, waiting: usize, piece: usize) -> Option<u64>
     Some(count)
 }
 
-/// Turns over the bytes that wait, which are all that may be read. Those that no turn has asked for go on waiting.
+/// Turns over the bytes that wait and a piece more, which are all that may be read. Those that no turn has asked for go on waiting.
 fn scan_waiting<M: Machine, K: Sink>(
     machine: &M,
     path: &mut StatePath,
     memo: &mut Memo,
     state: &mut State,
     waiting: &mut Vec<u8>,
+    piece: &[u8],
     asking: &mut Option<u32>,
     sink: &mut K,
 ) -> Result<Turn, RunError>
@@ -62,11 +78,12 @@ fn scan_waiting<M: Machine, K: Sink>(
     requires stack { AllBelow (M.machine machine.now).conditions state.old.acting.stack }
     requires marks { AreTrue (M.machine machine.now) state.old.reading memo.old }
     requires stood { Standing (M.machine machine.now) state.old }
-    requires limit { state.old.reading.max_reads ≡ state.old.reading.taken + length waiting.old.items }
+    requires limit { state.old.reading.max_reads ≡ state.old.reading.taken + length (waiting.old.items ++ piece.now) }
+    requires room { vec_len waiting.old + length piece.now ≤ vec_capacity waiting.old }
     requires few_writes { K.failures sink.old < 2 ^ 64 - 1 }
 
     ensures fed { (put : List ℕ) × K.wrote sink.old put sink.new
-        × ((fed out : List ℕ) → Fed (M.machine machine.now) fed out state.old waiting.old.items →
+        × ((fed out : List ℕ) → Fed (M.machine machine.now) fed out state.old (waiting.old.items ++ piece.now) →
         AfterFeed (M.machine machine.now) fed (out ++ put) state.new waiting.new.items result) }
     ensures write_faults { K.failures sink.new ≡ K.failures sink.old + write_fault_count result }
     ensures not_read { IsErrOf result RunError.Read → ⊥ }
@@ -86,12 +103,12 @@ fn scan_waiting<M: Machine, K: Sink>(
 {
     *asking = None;
     let before = state.reading.taken;
-    let mut source = Waiting::new(waiting.as_slice());
+    let mut source = Waiting::new(waiting.as_slice(), piece);
     match turns_between(machine, &mut source, sink, path, memo, state) {
         Err(e) => Err(e),
         Ok(Turn::Ended(status)) => Ok(Turn::Ended(status)),
         Ok(Turn::Went) => {
-            drop_front(waiting, (state.reading.taken - before) as usize);
+            keep_rest(waiting, piece, (state.reading.taken - before) as usize);
             *asking = walk_all(machine, state, waiting);
             Ok(Turn::Went)
         }
@@ -135,7 +152,7 @@ fn scan_to_end<M: Machine, K: Sink>(
     ensures stood { state.new.failed ≡ false → Standing (M.machine machine.now) state.new }
     ensures ended { (status : ℕ) → result ≡ Ok status → state.new.ended ≡ Some status }
 {
-    let mut source = Waiting::new(waiting);
+    let mut source = Waiting::new(waiting, &[]);
     match turns_between(machine, &mut source, sink, path, memo, state) {
         Err(e) => Err(e),
         Ok(Turn::Ended(status)) => Ok(status),
@@ -201,7 +218,7 @@ impl<M: Machine> PushScanner<M> {
             2 ^ 64 - 1 ≤ (push_state self.old).reading.taken + length (push_waiting self.old) + length piece.now }
         ensures kept { (push_state self.new).failed ≡ false
             → OnErr result ((push_state self.new ≡ push_state self.old)
-            × (push_waiting self.new ≡ push_waiting self.old)) }
+            × (push_waiting self.new ≡ push_waiting self.old) × (sink.new ≡ sink.old)) }
         ensures refused { IsErrOf result RunError.Failed → (push_state self.old).failed ≡ true }
         ensures after_refusal { (push_state self.old).failed ≡ true → (result ≡ Err RunError.Failed)
             × (sink.new ≡ sink.old) × (self.new ≡ self.old) }
@@ -220,13 +237,17 @@ impl<M: Machine> PushScanner<M> {
         else {
             return Err(RunError::TooManyReads);
         };
-        match self.waiting.extend_from_slice(piece) {
-            Err(_) => return Err(RunError::OutOfMemory),
-            Ok(()) => {}
-        }
         if let Some(last) = walk_on(&self.machine, self.asking, piece) {
+            match self.waiting.extend_from_slice(piece) {
+                Err(_) => return Err(RunError::OutOfMemory),
+                Ok(()) => {}
+            }
             self.asking = Some(last);
             return Ok(Turn::Went);
+        }
+        match self.waiting.reserve(piece.len()) {
+            Err(_) => return Err(RunError::OutOfMemory),
+            Ok(()) => {}
         }
         self.state.reading.max_reads = count;
         scan_waiting(
@@ -235,6 +256,7 @@ impl<M: Machine> PushScanner<M> {
             &mut self.memo,
             &mut self.state,
             &mut self.waiting,
+            piece,
             &mut self.asking,
             sink,
         )

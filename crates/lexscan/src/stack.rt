@@ -49,7 +49,9 @@ impl Stack {
         ensures { self.new ≡ other.now }
     {
         self.kept.clear();
-        let _ = self.kept.try_extend_from_slice(other.kept.as_slice());
+        if !other.kept.is_empty() {
+            let _ = self.kept.try_extend_from_slice(other.kept.as_slice());
+        }
     }
 
     /// Takes the condition on top, if there is one.

@@ -1,32 +1,53 @@
 //! A source over bytes that wait in memory.
-ghost use Rattle.std.specs.Prelude.{◌≡◌, refl, ℕ, ◌+◌, ◌-◌, ◌^◌, ◌<◌, ◌≤◌, false, List, [], length, take};
+ghost use Rattle.std.specs.Prelude.{◌≡◌, refl, ℕ, ◌+◌, ◌-◌, ◌^◌, ◌<◌, ◌≤◌, false, List, [], ◌++◌, length, take};
 ghost use Rattle.lex_io.specs.Taking.{never-waits};
-ghost use Rattle.lexscan.specs.Waits.{GivesWaiting, gives-none, gives-more, no-failures};
 
 use lex_io::{ReadFault, Source};
 
-/// Gives the bytes of a slice, and then its end in each call. It never fails.
+/// The two slices, where the second moves up in the place of a first one without bytes.
+#[inline(always)]
+fn in_order<'a>(first: &'a [u8], later: &'a [u8]) -> (&'a [u8], &'a [u8])
+    ensures bytes { result.0.now ++ result.1.now ≡ first.entry.now ++ later.entry.now }
+    ensures in_order { length result.0.now ≡ 0 → length result.1.now ≡ 0 }
+{
+    if first.is_empty() {
+        (later, &[])
+    } else {
+        (first, later)
+    }
+}
+
+/// Gives the bytes of one slice and of another, and then their end in each call. It never fails.
 #[derive(Drop)]
 pub struct Waiting<'a> {
     rest: &'a [u8],
+    /// The bytes after these: none where those are all given.
+    later: &'a [u8],
     ends: u64,
+    ghost in_order: { length rest.now ≡ 0 → length later.now ≡ 0 },
     ghost ends_bound: { ends < 2 ^ 64 },
 }
 
 impl<'a> Waiting<'a> {
-    pub fn new(bytes: &'a [u8]) -> Waiting<'a>
-        ensures bytes { result.rest.now ≡ bytes.entry.now }
+    ghost use Rattle.lexscan.specs.Waits.{bytes_left};
+
+    pub fn new(first: &'a [u8], later: &'a [u8]) -> Waiting<'a>
+        ensures bytes { bytes_left result ≡ first.entry.now ++ later.entry.now }
         ensures ends { result.ends ≡ 0 }
     {
+        let (rest, later) = in_order(first, later);
         Waiting {
-            rest: bytes,
+            rest,
+            later,
             ends: 0,
         }
     }
 }
 
 impl Source for Waiting<'_> {
-    ghost gave = { λ s xs t. GivesWaiting s.rest.now s.ends t.rest.now t.ends xs };
+    ghost use Rattle.lexscan.specs.Waits.{bytes_left, GivesWaiting, gives-none, gives-more, no-failures};
+
+    ghost gave = { λ s xs t. GivesWaiting (bytes_left s) s.ends (bytes_left t) t.ends xs };
 
     ghost ends = { λ s. s.ends };
 
@@ -43,7 +64,9 @@ impl Source for Waiting<'_> {
                 Ok(None)
             }
             Some((byte, rest)) => {
+                let (rest, later) = in_order(rest, self.later);
                 self.rest = rest;
+                self.later = later;
                 Ok(Some(*byte))
             }
         }
@@ -56,16 +79,18 @@ impl Source for Waiting<'_> {
 
     #[inline(always)]
     fn give(&mut self, count: usize) {
-        self.rest = &self.rest[count..];
+        let (rest, later) = in_order(&self.rest[count..], self.later);
+        self.rest = rest;
+        self.later = later;
     }
 
     fn may_wait(&self) -> bool {
         false
     }
 
-    ghost gave_none = { λ s. gives-none s.rest.now s.ends };
+    ghost gave_none = { λ s. gives-none (bytes_left s) s.ends };
 
-    ghost gave_more = { λ s t u xs ys p q. gives-more s.rest.now t.rest.now u.rest.now s.ends t.ends u.ends xs ys p q };
+    ghost gave_more = { λ s t u xs ys p q. gives-more (bytes_left s) (bytes_left t) (bytes_left u) s.ends t.ends u.ends xs ys p q };
 
     ghost none_ready = { λ s. never-waits s.rest.now };
 

@@ -1,31 +1,53 @@
 //! What a scan by pieces wrote, and was not handed out yet.
-ghost use Rattle.std.specs.Prelude.{◌≡◌, ℕ, ◌-◌, ◌^◌, ◌<◌, ◌≤◌, List, [], drop, length, true};
+ghost use Rattle.std.specs.Prelude.{◌≡◌, ℕ, ◌+◌, ◌-◌, ◌^◌, ◌<◌, ◌≤◌, List, [], ◌++◌, take, drop, length, vec_len, true, OnOk};
 ghost use Rattle.lex_io.specs.Sink.{fault_count};
 ghost use Rattle.liblex_calls.specs.Buffers.{HandedOut};
 ghost use Rattle.liblex_calls.specs.Ends.{Kept, Kept-nil, Kept-trans};
 
 use crate::buffers::hand_out;
 use lexkit::{Sink, WriteFault};
-use std::alloc::Global;
+use std::alloc::{AllocError, Global};
 
-/// Drops bytes from the front.
-fn drop_front(bytes: &mut Vec<u8>, count: usize)
-    requires { count ≤ length bytes.old.items }
-    ensures { bytes.new.items ≡ drop count bytes.old.items }
+/// Up to this length bytes are copied one by one.
+const SHORT: usize = 16;
+
+/// How many bytes there is room for at first.
+const FIRST_ROOM: usize = 4_096;
+
+/// Makes the one slice the other.
+#[inline(always)]
+fn copy_to(place: &mut [u8], bytes: &[u8])
+    requires { length place.old ≡ length bytes.now }
+    ensures { place.new ≡ bytes.now }
 {
-    let left = bytes.len() - count;
-    bytes.copy_within(count.., 0);
-    bytes.truncate(left);
+    if bytes.len() > SHORT {
+        copy_many(place, bytes);
+        return;
+    }
+    for (index, byte) in bytes.iter().enumerate() {
+        place[index] = *byte;
+    }
 }
 
-/// What was written and was not handed out yet. As a sink it fails only where memory is refused.
+#[inline(never)]
+fn copy_many(place: &mut [u8], bytes: &[u8])
+    requires { length place.old ≡ length bytes.now }
+    ensures { place.new ≡ bytes.now }
+{
+    place.copy_from_slice(bytes);
+}
+
+/// What was written and was not handed out yet: the bytes of the buffer from `from` to `end`. What follows is room, so that a short
+/// write is mostly a short copy. As a sink it fails only where memory is refused.
 #[derive(Drop)]
 pub(crate) struct Backlog {
-    bytes: Vec<u8>,
+    buffer: Vec<u8>,
     /// How many of the bytes were handed out.
     from: usize,
+    end: usize,
     failures: u64,
-    ghost inside: { from ≤ length bytes.items },
+    ghost inside: { from ≤ end },
+    ghost in_buffer: { end ≤ length buffer.items },
     ghost failures_bound: { failures < 2 ^ 64 },
 }
 
@@ -36,8 +58,9 @@ impl Backlog {
         ensures { rest result ≡ [] }
     {
         Backlog {
-            bytes: Vec::new(alloc),
+            buffer: Vec::new(alloc),
             from: 0,
+            end: 0,
             failures: 0,
         }
     }
@@ -45,7 +68,7 @@ impl Backlog {
     pub(crate) fn len(&self) -> usize
         ensures { result ≡ length (rest self.now) }
     {
-        self.bytes.len() - self.from
+        self.end - self.from
     }
 
     /// Forgets the faults that were counted.
@@ -61,7 +84,7 @@ impl Backlog {
         ensures handed { HandedOut (rest self.old) buffer.old buffer.new count.new }
         ensures left { rest self.new ≡ drop (length buffer.old) (rest self.old) }
     {
-        hand_out(&self.bytes[self.from..], buffer, count);
+        hand_out(&self.buffer[self.from..self.end], buffer, count);
         self.drop_first((*count).min(buffer.len()));
     }
 
@@ -71,12 +94,56 @@ impl Backlog {
         ensures { rest self.new ≡ drop count (rest self.old) }
     {
         let from = self.from + count;
-        if self.bytes.len() - from <= from {
+        let left = self.end - from;
+        if left <= from {
+            self.buffer.copy_within(from..self.end, 0);
             self.from = 0;
-            drop_front(&mut self.bytes, from);
+            self.end = left;
         } else {
             self.from = from;
         }
+    }
+
+    /// Makes the buffer longer, by as many bytes at least.
+    #[cold]
+    #[inline(never)]
+    fn grow(&mut self, count: usize) -> Result<(), AllocError>
+        requires { count < 2 ^ 63 }
+        ensures bytes { rest self.new ≡ rest self.old }
+        ensures failures { self.new.failures ≡ self.old.failures }
+        ensures room { OnOk result (self.new.end + count ≤ vec_len self.new.buffer) }
+    {
+        let size = self.buffer.len();
+        self.buffer
+            .resize(size + size.max(count).max(FIRST_ROOM), 0)
+    }
+
+    /// Makes room for so many bytes more.
+    #[inline(always)]
+    fn make_room(&mut self, count: usize) -> Result<(), AllocError>
+        requires { count < 2 ^ 63 }
+        ensures bytes { rest self.new ≡ rest self.old }
+        ensures failures { self.new.failures ≡ self.old.failures }
+        ensures room { OnOk result (self.new.end + count ≤ vec_len self.new.buffer) }
+    {
+        if count <= self.buffer.len() - self.end {
+            return Ok(());
+        }
+        self.grow(count)
+    }
+
+    /// Appends bytes that there is room for.
+    #[inline(always)]
+    fn append(&mut self, bytes: &[u8])
+        requires { self.old.end + length bytes.now ≤ vec_len self.old.buffer }
+        ensures bytes { take self.new.end self.new.buffer.items ≡ take self.old.end self.old.buffer.items ++ bytes.now }
+        ensures from { self.new.from ≡ self.old.from }
+        ensures failures { self.new.failures ≡ self.old.failures }
+    {
+        let begin = self.end;
+        let end = begin + bytes.len();
+        copy_to(&mut self.buffer[begin..end], bytes);
+        self.end = end;
     }
 }
 
@@ -91,8 +158,11 @@ impl Sink for Backlog {
 
     #[inline]
     fn put(&mut self, bytes: &[u8]) -> Result<(), WriteFault> {
-        match self.bytes.extend_from_slice(bytes) {
-            Ok(()) => Ok(()),
+        match self.make_room(bytes.len()) {
+            Ok(()) => {
+                self.append(bytes);
+                Ok(())
+            }
             Err(_) => {
                 self.failures += 1;
                 Err(WriteFault)

@@ -1,5 +1,6 @@
-use Rattle.std.proofs.Common.{ℕ, List, subst}
-use Rattle.lexscan.specs.Waits.{GivesWaiting}
+use Rattle.std.proofs.Common.{ℕ, List, subst, ◌∙◌, append-nil}
+use Rattle.lexscan.specs.Waits.{GivesWaiting, bytes_left}
+use Rattle.lexscan.specs.declared.waiting.Waiting.{Waiting}
 use Rattle.lexscan.specs.declared.state.State.{State}
 use Rattle.lexscan.proofs.Pushing as Push
 use Rattle.lexscan.proofs.push.scan_to_end.Goals as goal
@@ -10,8 +11,8 @@ unreachable-requires g c =
     let ran = rw c.in-Ok-Went.field-0-is at c.in-Ok-Went.ensures.ran in
     let p = ran.5 in
     let source = c.new-source.result in
-    let first = subst (λ l. GivesWaiting l source.ends ran.2.rest.now ran.2.ends ran.0) c.new-source.ensures.bytes ran.3 in
-    Push.never_open M _ ran.2 c.turns_between.new.source c.args.state.now c.turns_between.new.state c.args.waiting.now ran.0 ran.1 ran.2.rest.now c.turns_between.new.source.rest.now source.ends ran.2.ends c.turns_between.new.source.ends c.requires.stood p first p.source c.requires.limit
+    let first = subst (λ l. GivesWaiting l source.ends (bytes_left ran.2) ran.2.ends ran.0) (c.new-source.ensures.bytes ∙ append-nil c.args.waiting.now) ran.3 in
+    Push.never_open M _ ran.2 c.turns_between.new.source c.args.state.now c.turns_between.new.state c.args.waiting.now ran.0 ran.1 (bytes_left ran.2) (bytes_left c.turns_between.new.source) source.ends ran.2.ends c.turns_between.new.source.ends c.requires.stood p first p.source c.requires.limit
 
 pub returns-in-Ok-Ended-clause-finished : goal.returns-in-Ok-Ended-clause-finished
 returns-in-Ok-Ended-clause-finished g c =
@@ -24,10 +25,10 @@ returns-in-Ok-Ended-clause-finished g c =
     let t = ran.5 in
     let source = c.new-source.result in
     let last = c.turns_between.new.source in
-    let gave = subst (λ z. GivesWaiting waiting source.ends z.rest.now z.ends ran.0) t.1 (subst (λ l. GivesWaiting l source.ends ran.2.rest.now ran.2.ends ran.0) c.new-source.ensures.bytes ran.3) in (
+    let gave = subst (λ (z : Waiting). GivesWaiting waiting source.ends (bytes_left z) z.ends ran.0) t.1 (subst (λ l. GivesWaiting l source.ends (bytes_left ran.2) ran.2.ends ran.0) (c.new-source.ensures.bytes ∙ append-nil c.args.waiting.now) ran.3) in (
       ran.1,
       ran.4,
-      λ fed out h. Push.end_reached M old new waiting fed out h c.requires.going t.0 c.in-Ok-Ended.status ran.0 ran.1 last.rest.now t.3 t.2 (Push.all_given M old new waiting last.rest.now source.ends last.ends ran.0 gave now.ends now.max_reads) gave.taken,
+      λ fed out h. Push.end_reached M old new waiting fed out h c.requires.going t.0 c.in-Ok-Ended.status ran.0 ran.1 (bytes_left last) t.3 t.2 (Push.all_given M old new waiting (bytes_left last) source.ends last.ends ran.0 gave now.ends now.max_reads) gave.taken,
     )
 
 pub returns-in-Ok-Ended-clause-stood : goal.returns-in-Ok-Ended-clause-stood
@@ -48,9 +49,9 @@ returns-in-Err-clause-finished g c =
     let t = ran.5 in
     let source = c.new-source.result in
     let last = c.turns_between.new.source in
-    let gave = subst (λ z. GivesWaiting waiting source.ends z.rest.now z.ends ran.0) t.1 (subst (λ l. GivesWaiting l source.ends ran.2.rest.now ran.2.ends ran.0) c.new-source.ensures.bytes ran.3) in (
+    let gave = subst (λ (z : Waiting). GivesWaiting waiting source.ends (bytes_left z) z.ends ran.0) t.1 (subst (λ l. GivesWaiting l source.ends (bytes_left ran.2) ran.2.ends ran.0) (c.new-source.ensures.bytes ∙ append-nil c.args.waiting.now) ran.3) in (
       ran.1,
       ran.4,
       λ fed out h. (let fell = t.5 h.turns h.given out h.stands in
-          Push.end_refused M old new waiting fed out h c.requires.going t.0 ran.0 ran.1 t.2 t.3 last.rest.now c.in-Err.e t.4 gave.taken fell (Push.all_given M old new waiting last.rest.now source.ends last.ends ran.0 gave now.ends now.max_reads)),
+          Push.end_refused M old new waiting fed out h c.requires.going t.0 ran.0 ran.1 t.2 t.3 (bytes_left last) c.in-Err.e t.4 gave.taken fell (Push.all_given M old new waiting (bytes_left last) source.ends last.ends ran.0 gave now.ends now.max_reads)),
     )

@@ -1,4 +1,4 @@
-use Rattle.std.proofs.Common.{Some, ◌≡◌, []}
+use Rattle.std.proofs.Common.{Some, ◌≡◌, [], ◌++◌, ap}
 use Rattle.lexscan.specs.declared.error.RunError.TheVariants.{TooManyReads, OutOfMemory, Stack}
 use Rattle.lexscan.specs.Pushes.{IsAsking}
 use Rattle.lexscan.proofs.Pushing as Push
@@ -22,6 +22,10 @@ pub returns-in-Err-clause-fed : goal.returns-in-Err-clause-fed
 returns-in-Err-clause-fed g c =
     let s = c.args.self.now in ([], g.met.K.Sink.wrote_none _, λ fed out h. (Push.fed_first (g.M.Machine.machine s.machine) fed out s.state s.waiting.items h c.args.piece.now, λ e. absurd (no_memory e)))
 
+pub returns-in-Err-reserve-clause-fed : goal.returns-in-Err-reserve-clause-fed
+returns-in-Err-reserve-clause-fed g c =
+    let s = c.args.self.now in ([], g.met.K.Sink.wrote_none _, λ fed out h. (Push.fed_first (g.M.Machine.machine s.machine) fed out s.state s.waiting.items h c.args.piece.now, λ e. absurd (no_memory e)))
+
 pub scan_waiting-requires-clause-stood : goal.scan_waiting-requires-clause-stood
 scan_waiting-requires-clause-stood g c = let s = c.args.self.now in Push.standing_limit (g.M.Machine.machine s.machine) s.state _ _ (s.stood c.if-self.false)
 
@@ -30,7 +34,7 @@ returns-clause-fed g c =
     let s = c.args.self.now in
     let M = g.M.Machine.machine s.machine in
     let k = c.scan_waiting.ensures.fed in
-    (k.0, k.1, λ fed out h. k.2 _ out (Push.fed_more M fed out _ s.waiting.items c.args.piece.now _ (Push.fed_limit M fed out s.state s.waiting.items _ _ h) c.in-Ok.ensures.items))
+    (k.0, k.1, λ fed out h. k.2 _ out (Push.fed_more M fed out _ s.waiting.items c.args.piece.now _ (Push.fed_limit M fed out s.state s.waiting.items _ _ h) (ap (λ l. l ++ c.args.piece.now) c.reserve.ensures.items)))
 
 pub returns-in-Some-walk_on-clause-fed : goal.returns-in-Some-walk_on-clause-fed
 returns-in-Some-walk_on-clause-fed g c =
