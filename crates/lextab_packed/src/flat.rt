@@ -143,10 +143,10 @@ impl Machine for Flat {
             let next = self.target(place, bytes[count]);
             if STOP <= next {
                 return Some(Way {
-                    count: count + 1,
                     state: state_of(next),
                     before: place / 256,
                     gist: self.gist_at(next),
+                    count: count + 1,
                 });
             }
             count += 1;
