@@ -1,5 +1,6 @@
 pub mod Refines
 pub mod Swapped
+pub mod ByLetters
 pub mod Pigeons
 pub mod Dividing
 pub mod Pieces

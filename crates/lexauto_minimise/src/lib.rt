@@ -11,6 +11,7 @@ mod lists;
 mod marking;
 mod minimising;
 mod numbering;
+mod reaching;
 mod refining;
 mod sources;
 mod splitting;

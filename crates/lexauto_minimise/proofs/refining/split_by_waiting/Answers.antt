@@ -32,7 +32,7 @@ pub rounds-preserved : goal.rounds-preserved
 rounds-preserved c =
     let v = c.rounds.invariant in
     let k = c.in_ok-split_by_all.ensures.counts in
-    let targets : c.deref.result.now ≡ c.in_ok-targets.targets.items = c.deref.ensures.value in
+    let targets : c.deref-in-Some.result.now ≡ c.in_ok-targets.targets.items = c.deref-in-Some.ensures.value in
     record {
       arranged = c.in_ok-split_by_all.ensures.arranged;
       untouched = c.in_ok-split_by_all.ensures.untouched;
@@ -40,7 +40,7 @@ rounds-preserved c =
       same_states = k.same_states ∙ v.same_states;
       refining = λ labels len r.
           round c.args.letters.now labels (states c.args.blocks.now) len c.requires.rows (block_of c.rounds.blocks) (block_of c.split_by_all.new.blocks)
-          c.rounds.waiting.items c.pop.new.self.items c.split_by_all.new.waiting.items c.deref.result.now c.in-Some.number
+          c.rounds.waiting.items c.pop.new.self.items c.split_by_all.new.waiting.items c.deref-in-Some.result.now c.in-Some.number
           c.in-Some.ensures.items
           (λ x h. subst (λ (xs : List ℕ). Has xs x ↔ (block_of c.rounds.blocks x ≡ c.in-Some.number)) (sym targets) (c.in_ok-targets.ensures.of x (omega (arith, h, v.same_states))))
           (λ coarse inside tells u. c.in_ok-split_by_all.ensures.used labels coarse inside (len ∙ sym v.same_states) (λ x h. tells x (omega (arith, h, v.same_states))) u)
