@@ -167,8 +167,8 @@ impl Moves for RuleMoves<'_> {
     fn changes(&self, followers: &[u32]) -> ByteSet {
         let mut changes = ByteSet::empty();
         for position in followers {
-            if let Some(own) = self.changes.get(*position as usize) {
-                changes = changes.union(own);
+            if let Some(bytes) = self.changes.get(*position as usize) {
+                changes = changes.union(bytes);
             }
         }
         changes

@@ -1,57 +1,28 @@
--- Blocks that are cut by one letter after another, and letters by which no state goes to a target.
-use Rattle.std.proofs.Common.{◌≡◌, ℕ, ◌+◌, ◌*◌, ◌<◌, ◌≤◌, ◌++◌, [], take, drop, Bool, true, false, List, length, slice_index, inl, inr, refl, sym, ap, ◌∙◌, arith}
-use Rattle.std.specs.Prelude.{slice_index_or, slice_set}
-use Rattle.std.proofs.lemmas.Bool.{cases_eq}
-use Rattle.std.proofs.lemmas.Grind.{get_or-set_at}
-use Rattle.std.proofs.lemmas.List.{get_or-set_other, take-append-le}
-use Rattle.std.proofs.Math.ListN.{drop_of_length-le}
-use Rattle.std.proofs.Math.Seq.{take-length}
+-- Blocks that are cut by one letter after another, and blocks that no letter cuts any more.
+use Rattle.std.proofs.Common.{◌≡◌, ℕ, zero, suc, ◌+◌, ◌<◌, Bool, true, List, length, slice_index, sym, subst, arith}
 use Rattle.lexauto_minimise.specs.declared.blocks.Blocks.{Blocks}
 use Rattle.lexauto_minimise.specs.declared.sources.Letter.{Letter}
-use Rattle.lexauto_minimise.specs.Arranged.{Arranged, IsTouched, count, states, block_of}
+use Rattle.lexauto_minimise.specs.Arranged.{Arranged, IsAlone, IsTouched, count, states, block_of}
 use Rattle.lexauto_minimise.specs.Going.{Counts}
 use Rattle.lexauto_minimise.specs.Letters.{AreLetters, Tells, machine, row_of}
-use Rattle.lexauto_minimise.specs.Reaching.{AreReached}
 use Rattle.lexauto_minimise.specs.Sources.{Has}
 use Rattle.lexauto_minimise.specs.Splits.{Cuts, Using}
+use Rattle.lexauto_minimise.proofs.GoesOn.{both_true}
 use Rattle.lexauto_minimise.proofs.Rounds.{letter_step}
 
-not_true : (b : Bool) → (b ≡ true → ⊥) → b ≡ false
-not_true true f = absurd (f refl)
-not_true false f = refl
-
--- where no state is marked, blocks stay
-pub nothing_cut : (n : ℕ) (block : ℕ → ℕ) (waiting : ℕ → Type 0) (m : ℕ → Bool) → ((x : ℕ) → x < n → m x ≡ true → ⊥) → Cuts n block block m waiting waiting
-nothing_cut n block waiting m none = record {
-  finer = λ x y hx hy e. (e, not_true (m x) (none x hx) ∙ sym (not_true (m y) (none y hy)));
+-- where each marked state is alone in its block, blocks stay
+pub nothing_cut : (b : Blocks) (waiting : ℕ → Type 0) (m : ℕ → Bool) → ((x : ℕ) → x < states b → m x ≡ true → IsAlone b x) → Cuts (states b) (block_of b) (block_of b) m waiting waiting
+nothing_cut b waiting m alone = record {
+  finer = λ x y hx hy e. (
+    e,
+    both_true (m x) (m y)
+        (λ t. subst (λ (z : ℕ). m z ≡ true) (sym (alone x hx t y hy (sym e))) t)
+        (λ t. subst (λ (z : ℕ). m z ≡ true) (sym (alone y hy t x hx e)) t),
+  );
   no_finer = λ x y hx hy e k. e;
   waits = λ x h w. w;
   one_waits = λ x y hx hy e ne. absurd (ne e);
 }
-
--- no state goes to a target whose flag is not set
-pub unreached : (letters : List Letter) (n : ℕ) (flags : List Bool) (targets : List ℕ) (a : ℕ) → AreReached letters n flags → a < length letters
-    → ((i : ℕ) → i < length targets → slice_index_or flags (slice_index targets i * length letters + a) false ≡ false)
-    → (x : ℕ) → x < n → Has targets (slice_index (row_of letters a) x) → ⊥
-unreached letters n flags targets a reached low none x h (i, less, e) =
-    no (sym (reached a x low h) ∙ ap (λ t. slice_index_or flags (t * length letters + a) false) (sym e) ∙ none i less)
-  where
-    no : true ≡ false → ⊥
-    no p = cc
-
--- a flag that is set stays so where another is set
-pub set_stays : (flags : List Bool) (place : ℕ) → place < length flags → (i : ℕ) → slice_index_or flags i false ≡ true → slice_index_or (slice_set flags place true) i false ≡ true
-set_stays flags place low i h = elim (cases_eq i place) [
-  | inl e ↦ get_or-set_at flags place i true false e low
-  | inr ne ↦ get_or-set_other flags place i true false ne ∙ h
-]
-
--- what is written over a whole list is the list then
-pub written : (old new : List Bool) (n : ℕ) → length new ≡ length old → length old ≡ n → take n (new ++ drop (length new) old) ≡ new
-written old new n same len =
-    let none : drop (length new) old ≡ [] = drop_of_length-le old (omega (arith, same)) in
-    ap (λ l. take n (new ++ l)) none ∙ take-append-le n new [] (omega (arith, same, len))
-    ∙ ap (λ k. take k new) (let e : n ≡ length new = omega (arith, same, len) in e) ∙ take-length new
 
 -- The blocks were cut by the letters below k.
 pub record CutBy (letters : List Letter) (targets : List ℕ) (old : Blocks) (waited : List ℕ) (blocks : Blocks) (waiting : List ℕ) (k : ℕ) : Type 0 where
@@ -62,18 +33,23 @@ pub record CutBy (letters : List Letter) (targets : List ℕ) (old : Blocks) (wa
       → Using (machine letters labels) (block_of old) (Has waited) coarse inside 0
       → Using (machine letters labels) (block_of blocks) (Has waiting) coarse inside k
 
--- a letter by which no state goes to a target cuts nothing
-pub passed_over : (letters : List Letter) (flags : List Bool) (targets : List ℕ) (old : Blocks) (waited : List ℕ) (blocks : Blocks) (waiting : List ℕ) (k : ℕ)
-    → k < length letters → AreLetters letters (states old) → AreReached letters (states old) flags
-    → ((i : ℕ) → i < length targets → slice_index_or flags (slice_index targets i * length letters + k) false ≡ false)
-    → CutBy letters targets old waited blocks waiting k → CutBy letters targets old waited blocks waiting (k + 1)
-passed_over letters flags targets old waited blocks waiting k low rows reached none so = record {
-  arranged = so.arranged;
-  untouched = so.untouched;
-  counts = so.counts;
-  used = λ labels coarse inside len tells u.
-      letter_step letters labels (states old) len rows coarse inside (block_of blocks) (block_of blocks) (Has waiting) (Has waiting) targets k low tells
-      (λ m is. nothing_cut (states old) (block_of blocks) (Has waiting) m
-      (λ x h marked. unreached letters (states old) flags targets k reached low none x h ((is x h).0 marked)))
-      (so.used labels coarse inside len tells u);
-}
+-- where each state that goes to a target is alone in its block, the letters that are left cut nothing
+module _ (letters : List Letter) (targets : List ℕ) (old : Blocks) (waited : List ℕ) (blocks : Blocks) (waiting : List ℕ) (rows : AreLetters letters (states old))
+    (alone : (a x : ℕ) → a < length letters → x < states old → Has targets (slice_index (row_of letters a) x) → IsAlone blocks x) where
+  passed_over : (k : ℕ) → k < length letters → CutBy letters targets old waited blocks waiting k → CutBy letters targets old waited blocks waiting (k + 1)
+  passed_over k low so =
+      let same = so.counts.same_states in
+      record {
+        arranged = so.arranged;
+        untouched = so.untouched;
+        counts = so.counts;
+        used = λ labels coarse inside len tells u.
+            letter_step letters labels (states old) len rows coarse inside (block_of blocks) (block_of blocks) (Has waiting) (Has waiting) targets k low tells
+            (λ m is. subst (λ (n : ℕ). Cuts n (block_of blocks) (block_of blocks) m (Has waiting) (Has waiting)) same
+            (nothing_cut blocks (Has waiting) m (λ x h marked. (let less : x < states old = omega (arith, same, h) in alone k x low less ((is x less).0 marked)))))
+            (so.used labels coarse inside len tells u);
+      }
+
+  pub all_passed : (left k : ℕ) → k + left ≡ length letters → CutBy letters targets old waited blocks waiting k → CutBy letters targets old waited blocks waiting (length letters)
+  all_passed zero k all so = subst (λ (n : ℕ). CutBy letters targets old waited blocks waiting n) (let e : k ≡ length letters = omega (arith, all) in e) so
+  all_passed (suc left) k all so = all_passed left (k + 1) (omega (arith, all)) (passed_over k (omega (arith, all)) so)

@@ -1,6 +1,7 @@
 pub mod Refines
 pub mod Swapped
 pub mod ByLetters
+pub mod Preceding
 pub mod Pigeons
 pub mod Dividing
 pub mod Pieces

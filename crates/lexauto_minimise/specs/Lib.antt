@@ -12,7 +12,7 @@ pub mod Labels
 pub mod Automata
 pub mod Numbers
 pub mod Quotients
-pub mod Reaching
+pub mod Predecessors
 pub mod Lists
 pub mod Views
 pub mod Building

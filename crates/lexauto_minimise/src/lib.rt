@@ -11,7 +11,7 @@ mod lists;
 mod marking;
 mod minimising;
 mod numbering;
-mod reaching;
+mod predecessors;
 mod refining;
 mod sources;
 mod splitting;

@@ -26,7 +26,7 @@ fn note(blocks: &mut Blocks, touched: &mut Vec<u32>, state: u32) -> Result<(), A
 }
 
 /// Whether a state's block has no other.
-fn is_alone(blocks: &Blocks, state: u32) -> bool
+pub(crate) fn is_alone(blocks: &Blocks, state: u32) -> bool
     requires state { state < states blocks.now }
     requires arranged { Arranged blocks.now }
     ensures { result ≡ true → slice_index blocks.now.first.items (block_of blocks.now state) + 1

@@ -1,16 +1,16 @@
 //! Cutting blocks until states of one block go to one block by each letter.
-ghost use Rattle.std.specs.Prelude.{◌≡◌, ◌↔◌, ℕ, ◌*◌, ◌<◌, Bool, true, List, length, slice_index, IfOk, OnOk};
+ghost use Rattle.std.specs.Prelude.{◌≡◌, ◌↔◌, ℕ, ◌<◌, Bool, true, List, length, slice_index, IfOk, OnOk};
 ghost use Rattle.lexauto_minimise.specs.Arranged.{Arranged, IsTouched, block_of, count, states};
 ghost use Rattle.lexauto_minimise.specs.Going.{Counts};
 ghost use Rattle.lexauto_minimise.specs.Letters.{AreLetters, Tells, machine};
-ghost use Rattle.lexauto_minimise.specs.Reaching.{AreReached};
+ghost use Rattle.lexauto_minimise.specs.Predecessors.{AllowMoves, AreBelow};
 ghost use Rattle.lexauto_minimise.specs.Sources.{Has};
 ghost use Rattle.lexauto_minimise.specs.Splits.{Cuts, Refining, Using};
 ghost use Rattle.lexauto_minimise.specs.Futures.{IsCoarsest};
 
 use crate::blocks::Blocks;
 use crate::marking::mark_all;
-use crate::reaching::{is_reached, reached_by};
+use crate::predecessors::{Predecessors, is_settled, predecessors_of};
 use crate::sources::Letter;
 use crate::splitting::split_touched;
 use std::alloc::{AllocError, Global};
@@ -43,23 +43,24 @@ pub(crate) fn split(
     Ok(())
 }
 
-/// Cuts each block by what its states go to by each letter: to one of the targets or not. A letter by which no state goes
-/// to one of them cuts nothing.
+/// Cuts each block by what its states go to by each letter: to one of the targets or not. It ends where nothing is left
+/// to be cut.
 fn split_by_all(
     blocks: &mut Blocks,
     letters: &[Letter],
-    reached: &[bool],
+    known: &[Predecessors],
     targets: &[u32],
     touched: &mut Vec<u32>,
     waiting: &mut Vec<u32>,
 ) -> Result<(), AllocError>
     requires targets { (i : ℕ) → i < length targets.now → slice_index targets.now i < states blocks.old }
     requires rows { AreLetters letters.now (states blocks.old) }
-    requires flags { length reached.now ≡ length letters.now * states blocks.old }
-    requires reached { AreReached letters.now (states blocks.old) reached.now }
+    requires len { length known.now ≡ states blocks.old }
+    requires below { AreBelow (states blocks.old) known.now }
+    requires allow { AllowMoves letters.now (states blocks.old) known.now }
     requires arranged { Arranged blocks.old }
     requires untouched { (c : ℕ) → c < count blocks.old → IsTouched blocks.old c → ⊥ }
-    requires known { (i : ℕ) → i < length waiting.old.items → slice_index waiting.old.items i < count blocks.old }
+    requires waiting { (i : ℕ) → i < length waiting.old.items → slice_index waiting.old.items i < count blocks.old }
     ensures arranged { OnOk result (Arranged blocks.new) }
     ensures untouched { OnOk result ((c : ℕ) → c < count blocks.new → IsTouched blocks.new c → ⊥) }
     ensures counts { OnOk result (Counts blocks.old waiting.old.items blocks.new waiting.new.items) }
@@ -70,9 +71,10 @@ fn split_by_all(
         (length letters.now)) }
 {
     for index in 0..letters.len() {
-        if is_reached(reached, targets, letters.len(), index) {
-            split(blocks, &letters[index], targets, touched, waiting)?;
+        if is_settled(blocks, known, targets) {
+            return Ok(());
         }
+        split(blocks, &letters[index], targets, touched, waiting)?;
     }
     Ok(())
 }
@@ -108,10 +110,10 @@ pub(crate) fn split_by_waiting(
         → IsCoarsest (machine letters.now labels) (block_of blocks.new)) }
 {
     let mut touched = Vec::new(alloc);
-    let reached = reached_by(alloc, letters, blocks.block.len())?;
+    let known = predecessors_of(alloc, letters, blocks.block.len())?;
     'rounds: while let Some(number) = waiting.pop() {
         let targets = members(alloc, blocks, number)?;
-        split_by_all(blocks, letters, &reached, &targets, &mut touched, waiting)?;
+        split_by_all(blocks, letters, &known, &targets, &mut touched, waiting)?;
     }
     Ok(())
 }

@@ -14,8 +14,8 @@ members-requires-clause-number c =
     let v = c.rounds.invariant in
     last_known c.rounds.waiting.items c.pop.new.self.items c.in-Some.number (count c.rounds.blocks) c.in-Some.ensures.items v.known
 
-pub split_by_all-requires-clause-known : goal.split_by_all-requires-clause-known
-split_by_all-requires-clause-known c =
+pub split_by_all-requires-clause-waiting : goal.split_by_all-requires-clause-waiting
+split_by_all-requires-clause-waiting c =
     let v = c.rounds.invariant in
     left_known c.rounds.waiting.items c.pop.new.self.items c.in-Some.number (count c.rounds.blocks) c.in-Some.ensures.items v.known
 
