@@ -14,7 +14,8 @@ use Rattle.lexscan.specs.declared.error.RunError.{RunError}
 use Rattle.lextab_packed.specs.Table.{Table}
 use Rattle.lextab_packed.specs.Steps.{machine_of_table}
 use Rattle.lextab_packed.specs.Invariant.{GoesOn}
-use Rattle.lexkit.specs.Headline.{Ran, max_reads}
+use Rattle.lexscan.specs.Runs.{Ran}
+use Rattle.lexkit.specs.Headline.{max_reads}
 use Rattle.lexkit.proofs.Carried as Same
 
 -- the same condition makes the same flag
@@ -33,6 +34,6 @@ pub same_machine : (t u : Table) (xs ys : List Bool) → t ≡ u → xs ≡ ys �
 same_machine t u xs ys e h = rw (e, h) refl
 
 pub ran : (M : Machine) → MachineLaws M → (S : Spec) → IsSound S → TableFor M S → (given out : List ℕ) (at_end : Bool) (answer : Result ℕ RunError)
-    → Ran (rules_of_machine M) given out at_end answer → Ran (rules_of S) given out at_end answer
+    → Ran (rules_of_machine M) given out at_end max_reads answer → Ran (rules_of S) given out at_end max_reads answer
 ran M laws S sound table given out at_end (Ok status) h = Same.ran_to M laws S sound table given out at_end (Status status) h
 ran M laws S sound table given out at_end (Err e) h = Same.ran_into M laws S sound table given out at_end max_reads e h

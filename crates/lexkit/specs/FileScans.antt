@@ -14,7 +14,8 @@ use Rattle.lextab_packed.specs.Machines.{parts_of}
 use Rattle.lextab_packed.specs.Views.{table_of}
 use Rattle.lextab_packed.specs.declared.tables.Tables.{Tables}
 use Rattle.lextab_file.specs.File.{IsFileOf, file_of}
-use Rattle.lexkit.specs.Headline.{Ran, reading}
+use Rattle.lexscan.specs.Runs.{Ran}
+use Rattle.lexkit.specs.Headline.{max_reads, reading}
 use Rattle.lexkit.specs.Generated.{HasTables}
 use Rattle.lexkit.specs.declared.options.Options.{Options}
 
@@ -24,4 +25,4 @@ abbrev pub FileScans : Type 0
 FileScans = (options : Options) (text : List ℕ) (g : Tables) → HasTables options text g → (S : Spec) × SpellsSpec (reading options) text S
     × ((t : Table) (flags : List Bool) → IsFileOf t (file_of (table_of (parts_of g))) → GoesOn t flags
     → (given out : List ℕ) (at_end : Bool) (answer : Result ℕ RunError)
-    → Ran (rules_of_machine (machine_of_table t (λ state. flag flags state))) given out at_end answer → Ran (rules_of S) given out at_end answer)
+    → Ran (rules_of_machine (machine_of_table t (λ state. flag flags state))) given out at_end max_reads answer → Ran (rules_of S) given out at_end max_reads answer)

@@ -17,11 +17,9 @@ use Rattle.lexspec.specs.Files.{SpellsSpec, ReadOptions}
 use Rattle.lexauto.specs.declared.subsets.Limits.{Limits}
 use Rattle.lexauto.specs.declared.error.BuildError.{BuildError}
 use Rattle.lexauto.specs.declared.error.BuildError.TheVariants as builds
-use Rattle.lex_semantics.specs.Acting.{Status}
 use Rattle.lexscan.specs.Answer.{end_read}
 use Rattle.lexscan.specs.Reads.{read_fault_count}
-use Rattle.lexscan.specs.Stands.{RanTo}
-use Rattle.lexscan.specs.Runs.{RanInto}
+use Rattle.lexscan.specs.Runs.{Ran}
 use Rattle.lexscan.specs.declared.error.RunError.{RunError}
 use Rattle.lexkit.specs.declared.options.Options.{Options}
 use Rattle.lexkit.specs.declared.errors.GenError.{GenError}
@@ -57,21 +55,16 @@ Refusal options text (gens.Spec e) = UnlessMemory e.kind ((S : Spec) → SpellsS
 Refusal options text (gens.Build e) = (S : Spec) × SpellsSpec (reading options) text S × BuildRefusal options.limits S e
 Refusal options text gens.OutOfMemory = ⊤
 
--- The scan by some rules took these bytes of the source and wrote these to the sink. It came to its end: they are those
--- of the run, and no byte was taken that the run does not ask for. Or it stopped: what was written is a front of what the
--- run writes; where the stack of conditions was at fault, it is all of it, and the run ends so.
-abbrev pub Ran : Rules → List ℕ → List ℕ → Bool → Result ℕ RunError → Type 0
-Ran R given out at_end (Ok status) = RanTo R given out at_end (Status status)
-Ran R given out at_end (Err e) = RanInto R given out at_end max_reads e
-
--- the calls on the way from s to s' gave, and those from t to t' wrote, what the scan by the rules asks for; the bytes given,
--- the answer of the end and a read that failed are no more than are allowed
+-- The calls on the way from s to s' gave, and those from t to t' wrote, what the scan by the rules asks for. It came to its
+-- end: they are the bytes of the run. Or it stopped: what was written is a front of what the run writes; where the stack of
+-- conditions was at fault, it is all of it, and the run ends so. The bytes given, the answer of the end and a read that failed
+-- are no more than are allowed.
 pub record Scans {A B : Type 0} (gave : A → List ℕ → A → Type 0) (wrote : B → List ℕ → B → Type 0) (R : Rules) (at_end : Bool) (s s' : A) (t t' : B) (answer : Result ℕ RunError) : Type 0 where
   pub given : List ℕ
   pub out : List ℕ
   pub source : gave s given s'
   pub sink : wrote t out t'
-  pub ran : Ran R given out at_end answer
+  pub ran : Ran R given out at_end max_reads answer
   pub few_reads : length given + end_read at_end + read_fault_count answer ≤ max_reads
 
 -- what the scan by a specification answers: it came to its end or stopped, or no automaton was built

@@ -6,7 +6,8 @@ use Rattle.lextab_packed.specs.Table.{Table}
 use Rattle.lextab_packed.specs.Steps.{machine_of_table}
 use Rattle.lextab_packed.specs.Invariant.{GoesOn}
 use Rattle.lextab_packed.specs.Views.{table_of}
-use Rattle.lexkit.specs.Headline.{Ran}
+use Rattle.lexscan.specs.Runs.{Ran}
+use Rattle.lexkit.specs.Headline.{max_reads}
 use Rattle.lexkit.proofs.FileScanned.{one_list_of_flags, same_machine, ran}
 use Rattle.lexkit.proofs.laws.file_scans.Goals as goal
 
@@ -20,5 +21,5 @@ returns c options text g (S, spells, automaton, subsets, made) = (
       let f : flags ≡ g.goes_on.items = one_list_of_flags u flags g.goes_on.items (subst (λ x. GoesOn x flags) e leads) g.leading in
       let same : machine_of_table t (λ s. flag flags s) ≡ machine_of automaton S = same_machine t u flags g.goes_on.items e f ∙ made.machine in
       ran (machine_of automaton S) made.least.laws S made.sound made.least.table given out at_end answer
-      (subst (λ M. Ran (rules_of_machine M) given out at_end answer) same h)),
+      (subst (λ M. Ran (rules_of_machine M) given out at_end max_reads answer) same h)),
 )
