@@ -11,14 +11,13 @@ ghost use Rattle.lexscan.specs.Turns.{MayMove, MayTurn};
 ghost use Rattle.lexscan.specs.Pushes.{Attempts, MayGoOn, HandedOnIfMade, Standing, TurnsOver};
 
 use crate::error::RunError;
-use crate::further::go_further;
+use crate::further::{MOST_SHOWN, go_further};
 use crate::intake::{Intake, Outlet};
 use crate::memo::Memo;
 use crate::path::StatePath;
 use crate::stack::Stack;
 use crate::state::{State, TextPlace};
 use crate::turn::{Turn, has_backlog, turn_of};
-use crate::whole::{MOST_SHOWN, next_most};
 use lex_io::{Sink, Source};
 use lex_machine::Machine;
 
@@ -136,7 +135,7 @@ fn go_further_unless_behind<M: Machine, S: Source, K: Sink>(
         AreTrue (M.machine machine.now) state.new.reading ms }
 {
     if has_backlog(state) {
-        return Ok(0);
+        return Ok(most);
     }
     go_further(machine, intake, outlet, state, most)
 }
@@ -183,7 +182,7 @@ fn turns_over<M: Machine, S: Source, K: Sink>(
     'turns: loop {
         match go_further_unless_behind(machine, intake, outlet, state, most) {
             Err(refused) => return Err(refused),
-            Ok(done) => most = next_most(most, done),
+            Ok(next) => most = next,
         }
         match attempt(machine, intake, outlet, path, memo, state, &mut stack) {
             Err(e) => return Err(e),

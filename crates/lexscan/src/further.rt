@@ -46,8 +46,24 @@ fn advance(state: &mut State, burst: Burst, got: usize)
     };
 }
 
+/// How many bytes of the source are shown at once, at most and at least.
+pub const MOST_SHOWN: usize = 8_192;
+
+const LEAST_SHOWN: usize = 64;
+
+/// How many bytes are shown next, where so many were, and the turns over them were done with so many: what is shown in vain is
+/// no more than a part of what is done.
+#[inline]
+fn next_most(most: usize, done: usize) -> usize {
+    if done < most / 2 {
+        (most / 2).max(LEAST_SHOWN)
+    } else {
+        most.saturating_mul(2).min(MOST_SHOWN)
+    }
+}
+
 /// Turns over the bytes held and at most this many of those that the source has ready, as long as each match ends among them and
-/// its rule is told at a glance. Answers how many bytes they are done with.
+/// its rule is told at a glance. Answers how many are to be shown the next time.
 pub fn go_further<M: Machine, S: Source, K: Sink>(
     machine: &M,
     intake: &mut Intake<'_, S>,
@@ -86,16 +102,16 @@ pub fn go_further<M: Machine, S: Source, K: Sink>(
         AreTrue (M.machine machine.now) state.new.reading ms }
 {
     if state.reading.at_end || state.place.at != 0 {
-        return Ok(0);
+        return Ok(most);
     }
     let left = state.reading.max_reads - state.reading.taken;
-    let most = if left < most as u64 {
+    let allowed = if left < most as u64 {
         left as usize
     } else {
         most
     };
     let held = state.reading.window.len();
-    let shown = state.reading.window.show(intake.ahead(), most);
+    let shown = state.reading.window.show(intake.ahead(), allowed);
     let text = state.reading.window.text(shown);
     let burst = burst_over(machine, outlet, text, held, state.place);
     let got = burst.asked - held;
@@ -105,5 +121,5 @@ pub fn go_further<M: Machine, S: Source, K: Sink>(
         state.failed = true;
         return Err(RunError::Write);
     }
-    Ok(burst.done)
+    Ok(next_most(most, burst.done))
 }

@@ -11,7 +11,7 @@ ghost use Rattle.lexscan.specs.Runs.{Ran, FewReads, RunCounts};
 ghost use Rattle.lexscan.specs.Turns.{MayTurn};
 
 use crate::error::RunError;
-use crate::further::go_further;
+use crate::further::{MOST_SHOWN, go_further};
 use crate::intake::{Intake, Outlet};
 use crate::memo::Memo;
 use crate::path::StatePath;
@@ -20,11 +20,6 @@ use crate::turn::{Turn, back_turn, has_backlog, turn_with_reject, turn_without_r
 use lex_io::{Sink, Source};
 use lex_machine::Machine;
 use std::alloc::Global;
-
-/// How many bytes of the source are shown at once, at most and at least.
-pub const MOST_SHOWN: usize = 8_192;
-
-const LEAST_SHOWN: usize = 64;
 
 /// Turns until the end. Answers the status, with the sink flushed. It makes at most `max_reads` reads.
 pub fn run<M: Machine, S: Source, K: Sink>(
@@ -100,17 +95,6 @@ fn run_turns<M: Machine, S: Source, K: Sink>(
     }
 }
 
-/// How many bytes are shown next, where so many were, and the turns over them were done with so many: what is shown in vain is
-/// no more than a part of what is done.
-#[inline]
-pub fn next_most(most: usize, done: usize) -> usize {
-    if done < most / 2 {
-        (most / 2).max(LEAST_SHOWN)
-    } else {
-        most.saturating_mul(2).min(MOST_SHOWN)
-    }
-}
-
 /// The same for any machine. Turns that are told at a glance are made in one go.
 #[inline(never)]
 fn run_with_reject<M: Machine, S: Source, K: Sink>(
@@ -141,7 +125,7 @@ fn run_with_reject<M: Machine, S: Source, K: Sink>(
     'turns: loop {
         match go_further(machine, intake, outlet, state, most) {
             Err(refused) => return Err(refused),
-            Ok(done) => most = next_most(most, done),
+            Ok(next) => most = next,
         }
         match turn_with_reject(machine, intake, outlet, path, state) {
             Err(e) => return Err(e),
@@ -190,7 +174,7 @@ fn run_without_reject<M: Machine, S: Source, K: Sink>(
         } else {
             match go_further(machine, intake, outlet, state, most) {
                 Err(refused) => return Err(refused),
-                Ok(done) => most = next_most(most, done),
+                Ok(next) => most = next,
             }
             match turn_without_reject(machine, intake, outlet, state) {
                 Err(e) => return Err(e),
