@@ -3,10 +3,17 @@
 use Rattle.std.specs.Prelude.{ℕ, zero, suc, ◌&&◌, Bool, List, [], ◌∷◌, nat_lt}
 use Rattle.lex_semantics.specs.Active.{lists}
 use Rattle.lexauto.specs.Keys.{Key}
+use Rattle.lexauto.specs.declared.sets.KeyKind.{KeyKind}
+use Rattle.lexauto.specs.declared.sets.KeyKind.TheVariants.{ActiveRules, LastPositions}
 
 -- the number is in the list, and below n
 abbrev pub marked : ℕ → List ℕ → ℕ → Bool
 marked n xs i = nat_lt i n && lists xs i
+
+-- the number that a key of this kind begins with
+abbrev pub number_of : KeyKind → ℕ
+number_of ActiveRules = 0
+number_of LastPositions = 1
 
 -- a set with its kind; the empty set has none
 abbrev pub tagged : ℕ → List ℕ → Key

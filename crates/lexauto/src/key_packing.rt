@@ -5,7 +5,7 @@ ghost use Rattle.lexauto.specs.Sets.{lasts_in};
 ghost use Rattle.lex_semantics.specs.Text.{listed};
 ghost use Rattle.lexauto.specs.KeyPacking.{bit_at, word_bits, with_bits, bit_count, unpacked, word_count, packed};
 
-use crate::sets::{LAST, lasts_in};
+use crate::sets::{KeyKind, lasts_in};
 use std::alloc::{AllocError, Global};
 
 /// What stands before the bits of positions.
@@ -40,7 +40,7 @@ fn key_of_bits(alloc: Global, words: &[u32]) -> Result<Vec<u32>, AllocError>
     ensures { IfOk result (λ v. v.items ≡ 1 ∷ listed (bit_at words.now) 0 (bit_count words.now)) }
 {
     let mut key = Vec::new(alloc);
-    key.push(LAST)?;
+    key.push(KeyKind::LastPositions.number())?;
     for at in 0..words.len().min(MOST_WORDS) {
         add_word(words, at, &mut key)?;
     }

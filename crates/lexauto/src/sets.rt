@@ -4,15 +4,30 @@ ghost use Rattle.std.specs.List.{filter};
 ghost use Rattle.lex_semantics.specs.Text.{flag, listed};
 ghost use Rattle.lex_semantics.specs.Active.{lists};
 ghost use Rattle.lexauto_positions.specs.Cursors.{Increases};
-ghost use Rattle.lexauto.specs.Sets.{marked, tagged, starts_in, lasts_in};
+ghost use Rattle.lexauto.specs.Sets.{marked, number_of, tagged, starts_in, lasts_in};
 
 use std::alloc::{AllocError, Global};
 
-/// The kind of a start state's key: the numbers of its active rules follow.
-pub(crate) const START: u32 = 0;
+/// What stands in the key of a state that is not dead. The dead state's key is empty.
+#[derive(Clone, Copy)]
+pub(crate) enum KeyKind {
+    /// The numbers of the active rules, in the key of a start state.
+    ActiveRules,
+    /// The last positions, in the key of another state.
+    LastPositions,
+}
 
-/// The kind of another state's key: its last positions follow. The dead state's key is empty.
-pub(crate) const LAST: u32 = 1;
+impl KeyKind {
+    /// The number that such a key begins with.
+    pub(crate) fn number(self) -> u32
+        ensures { result ≡ number_of self }
+    {
+        match self {
+            KeyKind::ActiveRules => 0,
+            KeyKind::LastPositions => 1,
+        }
+    }
+}
 
 /// Whether a number is marked.
 fn is_marked(marks: &[bool], number: usize) -> bool
@@ -96,12 +111,12 @@ fn keep_marked(alloc: Global, numbers: &[u32], marks: &[bool]) -> Result<Vec<u32
 }
 
 /// A set as a key of this kind. The empty set is the dead state's.
-pub(crate) fn key_of(alloc: Global, kind: u32, numbers: &[u32]) -> Result<Vec<u32>, AllocError>
-    ensures { IfOk result (λ v. v.items ≡ tagged kind numbers.now) }
+pub(crate) fn key_of(alloc: Global, kind: KeyKind, numbers: &[u32]) -> Result<Vec<u32>, AllocError>
+    ensures { IfOk result (λ v. v.items ≡ tagged (number_of kind) numbers.now) }
 {
     let mut key = Vec::new(alloc);
     if !numbers.is_empty() {
-        key.push(kind)?;
+        key.push(kind.number())?;
         key.extend_from_slice(numbers)?;
     }
     Ok(key)
@@ -119,7 +134,7 @@ pub(crate) fn last_key(
         return Ok(Vec::new(alloc));
     }
     let numbers = keep_marked(alloc, numbers, marks)?;
-    key_of(alloc, LAST, &numbers)
+    key_of(alloc, KeyKind::LastPositions, &numbers)
 }
 
 /// The active rules in a start state's key; none in another.
@@ -127,7 +142,7 @@ pub(crate) fn starts_in(key: &[u32]) -> &[u32]
     ensures { result.now ≡ starts_in key.now }
 {
     match key.split_first() {
-        Some((kind, numbers)) if *kind == START => numbers,
+        Some((kind, numbers)) if *kind == KeyKind::ActiveRules.number() => numbers,
         _ => &[],
     }
 }
@@ -137,7 +152,7 @@ pub(crate) fn lasts_in(key: &[u32]) -> &[u32]
     ensures { result.now ≡ lasts_in key.now }
 {
     match key.split_first() {
-        Some((kind, numbers)) if *kind != START => numbers,
+        Some((kind, numbers)) if *kind != KeyKind::ActiveRules.number() => numbers,
         _ => &[],
     }
 }

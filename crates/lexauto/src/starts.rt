@@ -9,7 +9,7 @@ ghost use Rattle.lexauto.specs.Explored.{MoreThan};
 ghost use Rattle.lexauto.specs.WordKeys.{start_key, IsRoot, AreRoots, AreStartPlaces, Grows};
 
 use crate::explore::{ExploreError, Interner, intern};
-use crate::sets::{START, key_of};
+use crate::sets::{KeyKind, key_of};
 use lexspec::{Condition, Rule, Spec};
 use std::alloc::{AllocError, Global};
 use std::collections::BTreeMap;
@@ -56,7 +56,7 @@ fn start_key(
             numbers.push(i as u32)?;
         }
     }
-    key_of(alloc, START, &numbers)
+    key_of(alloc, KeyKind::ActiveRules, &numbers)
 }
 
 /// A table that has only the dead state's key.
