@@ -20,3 +20,4 @@ pub mod SideLaws
 pub mod KeepLaws
 pub mod ReadingLaws
 pub mod ComputedRules
+pub mod ComputedSpecs
