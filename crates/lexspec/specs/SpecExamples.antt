@@ -7,6 +7,7 @@ use Rattle.lex_semantics.specs.Spec.{Spec, Rule, Condition, EndAction, Statement
 use Rattle.lex_semantics.specs.Tree.{Set, Cat, Alt, Star, Repeat, trees}
 use Rattle.lexre.specs.PatternExamples.{plain, letter}
 use Rattle.lexspec.specs.Files.{SpellsSpec}
+use Rattle.lexspec.specs.Skipped.{AreSkipped}
 
 abbrev pub Is : List ℕ → Spec → Type 0
 Is file S = SpellsSpec plain file S
@@ -40,11 +41,11 @@ rules_section =
     ++ codes "<B><<EOF>> { printf(\"open\"); exit(2); }\n"
     ++ codes "<<EOF>> { printf(\"end\"); yyterminate(); }\n"
 
-abbrev pub user_section : List ℕ
-user_section = codes "int main() { return yylex(); }\n"
+abbrev pub user_code : List ℕ
+user_code = codes "int main() { return yylex(); }\n"
 
 abbrev pub whole_file : List ℕ
-whole_file = definitions_section ++ codes "%%\n" ++ rules_section ++ codes "%%\n" ++ user_section
+whole_file = definitions_section ++ codes "%%\n" ++ rules_section ++ codes "%%\n" ++ user_code
 
 -- what is written at the end of the input, and the status
 abbrev pub ended : EndAction
@@ -130,6 +131,10 @@ whole_spec = record { conditions = whole_conditions; rules = number ∷ letters 
 
 abbrev pub WholeFile : Type 0
 WholeFile = Is whole_file whole_spec
+
+-- it has code at these lines: a block and a line in each section, and the second `%%`
+abbrev pub WholeSkips : Type 0
+WholeSkips = AreSkipped whole_file (1 ∷ 6 ∷ 13 ∷ 14 ∷ 26 ∷ [])
 
 -- Carriage returns before newlines, letters for both cases, no user section, and a last line without a newline. Nothing is
 -- done at the end.
