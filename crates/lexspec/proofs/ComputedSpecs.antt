@@ -229,7 +229,7 @@ whole_ruled =
       ),
     )
 
--- two rules with a list in common are none of these
+-- no condition has two ends
 whole_single : AreSingle 4 whole_ends
 whole_single = (one, leb-true _ _ refl)
   where

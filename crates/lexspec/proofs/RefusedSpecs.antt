@@ -16,7 +16,6 @@ use Rattle.lexspec_lines.proofs.OneSection.{no_true, one_up_to, separator_ends}
 use Rattle.lexspec.specs.Files.{AreSingle, is_unlisted, SpellsSpec}
 use Rattle.lexspec.specs.Items.{unlisted, only, no_trail, at_end, matching, bar, spelled, Item, rule, conditions_at, AreItems}
 use Rattle.lexspec.specs.RuleItems.{EndRule, AreRules}
-use Rattle.lexspec.specs.SpecExamples.{definitions_section, rules_section, whole_file, ended, open_at_end, number, opens_comment, letters, opening, closing, any_other, whole_conditions, whole_spec, WholeFile, short_file, both_cases, initial, ShortFile}
 use Rattle.lexspec.specs.SpecExamples as Example
 use Rattle.lexspec.proofs.ComputedSections.{a_here}
 use Rattle.lexspec.proofs.OneItems.{one_items}
