@@ -20,3 +20,6 @@ pub mod SideLaws
 pub mod KeepLaws
 pub mod ReadingLaws
 pub mod ComputedRules
+pub mod ComputedSections
+pub mod ComputedSpecs
+pub mod RefusedSpecs

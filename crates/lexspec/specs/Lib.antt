@@ -22,5 +22,6 @@ pub mod Keeping
 pub mod KeptNames
 pub mod Readings
 pub mod RuleExamples
+pub mod SpecExamples
 pub mod Refusals
 pub use Rattle.lexspec_lines.specs.Outcome

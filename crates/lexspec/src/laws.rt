@@ -12,6 +12,7 @@ ghost use Rattle.lexspec.specs.Files.{conditions_with, SpellsSpec};
 ghost use Rattle.lexre.specs.declared.options.ReadOptions.{ReadOptions};
 ghost use Rattle.lexspec.specs.Tests.{is_sound, sound_tree};
 ghost use Rattle.lexspec.specs.RuleExamples.{ConditionLists, Actions};
+ghost use Rattle.lexspec.specs.SpecExamples.{WholeFile, WholeSkips, ShortFile, NoFiles};
 ghost use Rattle.lex_semantics.specs.Limits.{max_conditions, max_rules};
 
 /// A tree passes the test exactly if it is sound.
@@ -43,4 +44,13 @@ pub fn sound_specifications()
 pub fn examples_of_rules()
     ensures lists { ConditionLists }
     ensures actions { Actions }
+{}
+
+/// Worked examples of files: one with each kind of line, and where it has code; a short one with an option; and files that
+/// spell no specification.
+pub fn examples_of_specs()
+    ensures whole { WholeFile }
+    ensures skipped { WholeSkips }
+    ensures short { ShortFile }
+    ensures none { NoFiles }
 {}

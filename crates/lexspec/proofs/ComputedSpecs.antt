@@ -1,0 +1,307 @@
+-- The worked examples of whole files, computed.
+use Rattle.std.proofs.Common.{◌≡◌, ℕ, zero, suc, ◌<◌, ◌≤◌, true, false, List, [], ◌∷◌, Option, Some, None, refl, arith}
+use Rattle.std.proofs.lemmas.Bool.{leb-true}
+use Rattle.std.specs.Cmp.Lexicographic.{nat_list_cmp_total}
+use Rattle.std.specs.FinMap.{get, from_entries, get-from_entries}
+use Rattle.std.specs.Prelude.{codes, length, count_by, IfSome}
+use Rattle.lex_semantics.specs.ByteSets.{has, set_below, set_of, empty_set, single, range_set, union, other_case, fold_case, is_upper, is_lower, is_alpha, is_digit, is_alnum, is_blank}
+use Rattle.lex_semantics.specs.Escapes.{simple_escape, until_quote}
+use Rattle.lex_semantics.specs.Reading.{take_up_to}
+use Rattle.lex_semantics.specs.Limits.{max_conditions, max_file_bytes, max_rules}
+use Rattle.lex_semantics.specs.Shapes.{IsSoundTree, nodes}
+use Rattle.lex_semantics.specs.Sound.{IsCutOf}
+use Rattle.lex_semantics.specs.Spec.{Rule, Echo, Print, More, End, Push, Pop}
+use Rattle.lex_semantics.specs.Tree.{Tree, Set, Star}
+use Rattle.lexre_bytes.specs.Lexical.{after_word, escape_at, literal_byte_at, quoted_tree, letters_at, named_at, enclosed_at, unsupported_at, bracketed_at, is_range, range_at, element_at, elements_at, class_at, element_set, union_set, class_set, name_at, braces_at, is_ordinary, symbol_at}
+use Rattle.lexre_bytes.specs.Symbols.{name, sign, once_or_more}
+use Rattle.lexre.specs.Definitions.{Definitions}
+use Rattle.lexre.specs.Grammar.{SpellsWithin, on_item}
+use Rattle.lexre.specs.Limits.{max_nodes}
+use Rattle.lexre.specs.PatternExamples.{plain, folding, letter}
+use Rattle.lexre.specs.Running.{state, fresh, frame, pushed}
+use Rattle.lexre.specs.Spelling.{Spells}
+use Rattle.lexre.proofs.GrammarLaws.{runs_spelled}
+use Rattle.lexre.proofs.PatternTries.{found_runs}
+use Rattle.lexre.proofs.PatternsComputed.{is_tree}
+use Rattle.lexspec_actions.specs.Actions as A
+use Rattle.lexspec_actions.specs.Actions.{semicolon, opens, closes, says, does, prints, SpellsAction, SpellsEndAction}
+use Rattle.lexspec_actions.specs.Bytes as B
+use Rattle.lexspec_actions.specs.Names.{known_in}
+use Rattle.lexspec_lines.specs.DefinitionLines.{options}
+use Rattle.lexspec.specs.Files.{AreSingle, lists_number}
+use Rattle.lexspec.specs.Items.{unlisted, every, only, no_trail, line_end, pattern_after, bar, spelled, Item, skipped}
+use Rattle.lexspec.specs.RuleItems.{EndRule, newline, IsRule, AreRules}
+use Rattle.lexspec.specs.SpecExamples.{whole_file, ended, open_at_end, number, letters, opening, closing, any_other, whole_spec, WholeFile, short_file, both_cases, ShortFile}
+use Rattle.lexspec.specs.Tests.{any_below, sound_tree, sound_trail, cut_fits}
+use Rattle.lexspec.proofs.ComputedSections.{whole_definitions, from_separator, other_item, letters_item, end_items, last_items, later_items, whole_items, whole_first, whole_second, short_items, short_first, short_second}
+use Rattle.lexspec.proofs.CutLaws.{cut_is_fit}
+use Rattle.lexspec.proofs.TestLaws.{tree_is_sound}
+
+-- ---- the whole file
+
+abbrev names : List (List ℕ)
+names = codes "INITIAL" ∷ codes "A" ∷ codes "B" ∷ codes "C" ∷ []
+
+abbrev named : Definitions
+named = from_entries ((codes "D", codes "[0-9]") ∷ [])
+
+abbrev digit : Tree
+digit = Set (range_set 48 57)
+
+digit_named : get named (codes "D") ≡ Some (codes "[0-9]")
+digit_named = get-from_entries nat_list_cmp_total ((codes "D", codes "[0-9]") ∷ []) (codes "D")
+
+digit_spelled : SpellsWithin false (symbol_at false) (get named) 63 (codes "[0-9]") digit
+unfolding after_word escape_at literal_byte_at letters_at named_at enclosed_at unsupported_at bracketed_at is_range range_at element_at elements_at class_at element_set union_set class_set symbol_at has set_below set_of empty_set range_set union is_alpha is_digit is_alnum take_up_to
+digit_spelled = runs_spelled false (symbol_at false) (get named) 63 (codes "[0-9]") digit (found_runs false false (get named) 20 (state fresh [] 63) (codes "[0-9]") digit refl)
+
+-- the name, and then the sign
+number_spelled : Spells plain named (codes "{D}+") number.head
+unfolding after_word name_at braces_at symbol_at is_upper is_lower is_alpha is_digit is_alnum take_up_to
+number_spelled = (
+  runs_spelled false (symbol_at false) (get named) 64 (codes "{D}+") number.head (
+    name (codes "D") ∷ sign once_or_more ∷ [],
+    (codes "+", refl, ([], refl, refl)),
+    (
+      state (pushed digit fresh) [] 64,
+      (digit, (codes "[0-9]", digit_named, digit_spelled), refl),
+      (state (frame [] [] (Some number.head) (on_item 0 1)) [] 64, refl, refl),
+    ),
+  ),
+  leb-true (nodes number.head) max_nodes refl,
+)
+
+-- the cut is that of the sides, as tests say
+cut_as_tested : (r : Rule) → sound_tree r.head ≡ true → sound_trail r.trail ≡ true → cut_fits r.cut r.head r.trail ≡ true → IsCutOf r.head r.trail r.cut
+cut_as_tested r head trail fits = cut_is_fit r.cut r.head r.trail (tree_is_sound r.head head) (sound r.trail trail) fits
+  where
+    sound : (t : Option Tree) → sound_trail t ≡ true → IfSome t IsSoundTree
+    sound None h = tt
+    sound (Some t) h = tree_is_sound t h
+
+number_ruled : (is : List (ℕ × Item)) (rules : List Rule) → IsRule names plain true named 17 unlisted true (codes "{D}+") line_end (spelled (codes "ECHO;")) is rules number
+unfolding newline has set_below set_of single range_set any_below take_up_to is_alpha is_upper is_lower is_alnum is_blank is_digit A.piece_from A.statement_at A.after_word A.after_statement B.name_at B.skip
+number_ruled is rules = record {
+  front = record {
+    line_is = refl;
+    listed = refl;
+    anchor = refl;
+    head_is = number_spelled;
+    trail_is = refl;
+    cut_is = cut_as_tested number refl refl refl;
+  };
+  next = refl;
+  statements_are = ((says (does Echo) ∷ [], ([], refl, refl), refl, refl), refl);
+}
+
+letters_ruled : IsRule names plain true named 19 (only (codes "A" ∷ codes "C" ∷ [])) false (codes "ab") (pattern_after (codes "c*")) bar later_items (opening ∷ closing ∷ any_other ∷ []) letters
+unfolding symbol_at is_ordinary has set_below set_of single any_below
+letters_ruled = record {
+  front = record {
+    line_is = refl;
+    listed = refl;
+    anchor = refl;
+    head_is = is_tree plain 20 (codes "ab") letters.head refl refl named;
+    trail_is = is_tree plain 20 (codes "c*") (Star (letter 99)) refl refl named;
+    cut_is = cut_as_tested letters refl refl refl;
+  };
+  next = refl;
+  statements_are = refl;
+}
+
+opening_ruled : (is : List (ℕ × Item)) (rules : List Rule) → IsRule names plain true named 20 unlisted false (codes "\"/*\"") no_trail (spelled (codes "{ yy_push_state(B); /* } */\n  yymore(); }")) is rules opening
+unfolding symbol_at until_quote literal_byte_at quoted_tree take_up_to is_alpha is_upper is_lower is_alnum is_blank is_digit A.piece_from A.statement_at A.after_word A.stack_word A.push_at A.closed_condition A.condition_at A.yymore_at A.no_argument A.after_statement B.name_at B.skip
+opening_ruled is rules = record {
+  front = record {
+    line_is = refl;
+    listed = refl;
+    anchor = refl;
+    head_is = is_tree plain 20 (codes "\"/*\"") opening.head refl refl named;
+    trail_is = refl;
+    cut_is = refl;
+  };
+  next = refl;
+  statements_are = (
+    (
+      opens ∷ says (does (Push 2)) ∷ says (does More) ∷ closes ∷ [],
+      (codes " yy_push_state(B); /* } */\n  yymore(); }", refl, (codes " /* } */\n  yymore(); }", refl, (codes " }", refl, ([], refl, refl)))),
+      refl,
+      refl,
+    ),
+    refl,
+  );
+}
+
+closing_ruled : (is : List (ℕ × Item)) (rules : List Rule) → IsRule names plain true named 22 (only (codes "B" ∷ [])) false (codes "\"*/\"") no_trail (spelled (codes "yy_pop_state();")) is rules closing
+unfolding symbol_at until_quote literal_byte_at quoted_tree take_up_to is_alpha is_upper is_lower is_alnum is_blank is_digit A.piece_from A.statement_at A.after_word A.stack_word A.pop_at A.no_argument A.after_statement B.name_at B.skip
+closing_ruled is rules = record {
+  front = record {
+    line_is = refl;
+    listed = refl;
+    anchor = refl;
+    head_is = is_tree plain 20 (codes "\"*/\"") closing.head refl refl named;
+    trail_is = refl;
+    cut_is = refl;
+  };
+  next = refl;
+  statements_are = ((says (does Pop) ∷ [], ([], refl, refl), refl, refl), refl);
+}
+
+other_ruled : (is : List (ℕ × Item)) (rules : List Rule) → IsRule names plain true named 23 every false (codes ".|\\n") no_trail (spelled (codes ";")) is rules any_other
+unfolding symbol_at escape_at simple_escape take_up_to is_blank A.piece_from B.skip
+other_ruled is rules = record {
+  front = record {
+    line_is = refl;
+    listed = refl;
+    anchor = refl;
+    head_is = is_tree plain 20 (codes ".|\\n") any_other.head refl refl named;
+    trail_is = refl;
+    cut_is = refl;
+  };
+  next = refl;
+  statements_are = ((semicolon ∷ [], ([], refl, refl), refl, refl), refl);
+}
+
+open_spelled : SpellsEndAction (known_in names true) (codes "{ printf(\"open\"); exit(2); }") open_at_end
+unfolding take_up_to is_alpha is_upper is_lower is_alnum is_blank is_digit simple_escape until_quote A.piece_from A.statement_at A.after_word A.parts_of A.this_word A.number_argument A.formatted_at A.printf_at A.exit_at A.after_statement B.name_at B.digits_at B.skip B.string_byte_at B.literal_at
+open_spelled = (
+  Print (codes "open") ∷ End 2 ∷ [],
+  (
+    opens ∷ says (prints (codes "open")) ∷ says (does (End 2)) ∷ closes ∷ [],
+    (codes " printf(\"open\"); exit(2); }", refl, (codes " exit(2); }", refl, (codes " }", refl, ([], refl, refl)))),
+    refl,
+    refl,
+  ),
+  refl,
+  refl,
+)
+
+ended_spelled : SpellsEndAction (known_in names true) (codes "{ printf(\"end\"); yyterminate(); }") ended
+unfolding take_up_to is_alpha is_upper is_lower is_alnum is_blank is_digit simple_escape until_quote A.piece_from A.statement_at A.after_word A.parts_of A.this_word A.no_argument A.formatted_at A.printf_at A.yyterminate_at A.after_statement B.name_at B.skip B.string_byte_at B.literal_at
+ended_spelled = (
+  Print (codes "end") ∷ End 0 ∷ [],
+  (
+    opens ∷ says (prints (codes "end")) ∷ says (does (End 0)) ∷ closes ∷ [],
+    (codes " printf(\"end\"); yyterminate(); }", refl, (codes " yyterminate(); }", refl, (codes " }", refl, ([], refl, refl)))),
+    refl,
+    refl,
+  ),
+  refl,
+  refl,
+)
+
+abbrev whole_ends : List EndRule
+whole_ends = (Some (2 ∷ []), open_at_end) ∷ (None, ended) ∷ []
+
+whole_ruled : AreRules names plain true named whole_items whole_spec.rules whole_ends
+whole_ruled =
+    let last : AreRules names plain true named last_items (closing ∷ any_other ∷ []) whole_ends = (
+      closing,
+      any_other ∷ [],
+      refl,
+      closing_ruled ((23, other_item) ∷ end_items) (any_other ∷ []),
+      (
+        any_other,
+        [],
+        refl,
+        other_ruled end_items [],
+        (
+          Some (2 ∷ []),
+          open_at_end,
+          (None, ended) ∷ [],
+          refl,
+          open_spelled,
+          refl,
+          (None, ended, [], refl, ended_spelled, refl, (refl, refl)),
+        ),
+      ),
+    ) in (
+      number,
+      letters ∷ opening ∷ closing ∷ any_other ∷ [],
+      refl,
+      number_ruled ((18, skipped) ∷ (19, letters_item) ∷ later_items) (letters ∷ opening ∷ closing ∷ any_other ∷ []),
+      (
+        letters,
+        opening ∷ closing ∷ any_other ∷ [],
+        refl,
+        letters_ruled,
+        (opening, closing ∷ any_other ∷ [], refl, opening_ruled last_items (closing ∷ any_other ∷ []), last),
+      ),
+    )
+
+-- no condition has two ends
+whole_single : AreSingle 4 whole_ends
+whole_single = (one, leb-true _ _ refl)
+  where
+    one : (c : ℕ) → c < 4 → count_by (λ (e : EndRule). lists_number e.0 c) whole_ends ≤ 1
+    one zero h = leb-true _ _ refl
+    one (suc zero) h = leb-true _ _ refl
+    one (suc (suc zero)) h = leb-true _ _ refl
+    one (suc (suc (suc zero))) h = leb-true _ _ refl
+    one (suc (suc (suc (suc c)))) h = absurd (omega (arith, h))
+
+pub whole : WholeFile
+whole = record {
+  short = leb-true (length whole_file) max_file_bytes refl;
+  definitions = whole_definitions;
+  after = from_separator;
+  first_section = whole_first;
+  separator = refl;
+  items = whole_items;
+  second_section = whole_second;
+  names = refl;
+  defined_once = refl;
+  options = refl;
+  ends = whole_ends;
+  rules = whole_ruled;
+  one_end = whole_single;
+  conditions = refl;
+  few_conditions = leb-true 4 max_conditions refl;
+  few_rules = leb-true 5 max_rules refl;
+}
+
+-- ---- the short file
+
+short_ruled : AreRules (codes "INITIAL" ∷ []) folding false (from_entries []) short_items (both_cases ∷ []) []
+unfolding symbol_at is_ordinary has set_below set_of single fold_case other_case take_up_to is_alpha is_upper is_lower is_alnum is_blank is_digit A.piece_from A.statement_at A.after_word A.after_statement B.name_at B.skip
+short_ruled = (
+  both_cases,
+  [],
+  refl,
+  record {
+    front = record {
+      line_is = refl;
+      listed = refl;
+      anchor = refl;
+      head_is = is_tree folding 20 (codes "a") both_cases.head refl refl (from_entries []);
+      trail_is = refl;
+      cut_is = refl;
+    };
+    next = refl;
+    statements_are = ((says (does Echo) ∷ [], ([], refl, refl), refl, refl), refl);
+  },
+  (refl, refl),
+)
+
+short_single : AreSingle 1 []
+short_single = (λ c h. leb-true _ _ refl, leb-true _ _ refl)
+
+pub short : ShortFile
+short = record {
+  short = leb-true (length short_file) max_file_bytes refl;
+  definitions = options (codes "case-insensitive" ∷ []) ∷ [];
+  after = codes "%%\na ECHO;";
+  first_section = short_first;
+  separator = refl;
+  items = short_items;
+  second_section = short_second;
+  names = refl;
+  defined_once = refl;
+  options = refl;
+  ends = [];
+  rules = short_ruled;
+  one_end = short_single;
+  conditions = refl;
+  few_conditions = leb-true 1 max_conditions refl;
+  few_rules = leb-true 1 max_rules refl;
+}

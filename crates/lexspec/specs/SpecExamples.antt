@@ -1,0 +1,170 @@
+-- Worked examples of whole files: specifications that they spell, and files that spell none.
+-- (POSIX, lex, Input Files to Actions in lex; flex, Format of the Input File, Patterns, Start Conditions, End-of-File Rules,
+-- Scanner Options.)
+use Rattle.std.specs.Prelude.{ℕ, ◌^◌, ◌+◌, true, false, List, [], ◌∷◌, ◌++◌, Some, None, codes}
+use Rattle.lex_semantics.specs.ByteSets.{single, range_set, complement}
+use Rattle.lex_semantics.specs.Spec.{Spec, Rule, Condition, EndAction, Statement, Echo, More, Push, Pop, Whole, Head, Trail}
+use Rattle.lex_semantics.specs.Tree.{Set, Cat, Alt, Star, Repeat, trees}
+use Rattle.lexre.specs.PatternExamples.{plain, letter}
+use Rattle.lexspec.specs.Files.{SpellsSpec}
+use Rattle.lexspec.specs.Skipped.{AreSkipped}
+
+abbrev pub Is : List ℕ → Spec → Type 0
+Is file S = SpellsSpec plain file S
+
+abbrev pub IsNone : List ℕ → Type 0
+IsNone file = (S : Spec) → SpellsSpec plain file S → ⊥
+
+-- A file with each kind of line, by its sections. The name D, and the conditions INITIAL, A, B and C, of which B and C are
+-- exclusive.
+abbrev pub definitions_section : List ℕ
+definitions_section =
+    codes "%{\n#include <stdio.h>\n%}\n"
+    ++ codes "/* Digits,\n   and comments. */\n"
+    ++ codes "  int depth;\n"
+    ++ codes "D [0-9]\n"
+    ++ codes "%s A\n"
+    ++ codes "%x B C\n"
+    ++ codes "%option stack\n"
+    ++ codes "%p 3000\n"
+
+abbrev pub rules_section : List ℕ
+rules_section =
+    codes "  int n;\n"
+    ++ codes "%{\nn = 0;\n%}\n"
+    ++ codes "^{D}+$ ECHO;\n"
+    ++ codes "\n"
+    ++ codes "<A,C>ab/c* |\n"
+    ++ codes "\"/*\" { yy_push_state(B); /* } */\n  yymore(); }\n"
+    ++ codes "<B>\"*/\" yy_pop_state();\n"
+    ++ codes "<*>.|\\n ;\n"
+    ++ codes "<B><<EOF>> { printf(\"open\"); exit(2); }\n"
+    ++ codes "<<EOF>> { printf(\"end\"); yyterminate(); }\n"
+
+abbrev pub user_code : List ℕ
+user_code = codes "int main() { return yylex(); }\n"
+
+abbrev pub whole_file : List ℕ
+whole_file = definitions_section ++ codes "%%\n" ++ rules_section ++ codes "%%\n" ++ user_code
+
+-- what is written at the end of the input, and the status
+abbrev pub ended : EndAction
+ended = record { print = codes "end"; status = 0 }
+
+abbrev pub open_at_end : EndAction
+open_at_end = record { print = codes "open"; status = 2 }
+
+-- `{D}+` at the beginning of a line and at its end, where a newline follows
+abbrev pub number : Rule
+number = record {
+  line = 17;
+  conditions = None;
+  anchored = true;
+  head = Repeat (Set (range_set 48 57)) 1 None;
+  trail = Some (letter 10);
+  cut = Trail 1;
+  statements = Echo ∷ [];
+}
+
+-- what the rule of `"/*"` says, and the one before it, by its `|`
+abbrev pub opens_comment : List Statement
+opens_comment = Push 2 ∷ More ∷ []
+
+-- `ab/c*` in A and C
+abbrev pub letters : Rule
+letters = record {
+  line = 19;
+  conditions = Some (1 ∷ 3 ∷ []);
+  anchored = false;
+  head = Cat (trees (letter 97 ∷ letter 98 ∷ []));
+  trail = Some (Star (letter 99));
+  cut = Head 2;
+  statements = opens_comment;
+}
+
+-- `"/*"`
+abbrev pub opening : Rule
+opening = record {
+  line = 20;
+  conditions = None;
+  anchored = false;
+  head = Cat (trees (letter 47 ∷ letter 42 ∷ []));
+  trail = None;
+  cut = Whole;
+  statements = opens_comment;
+}
+
+-- `"*/"` in B
+abbrev pub closing : Rule
+closing = record {
+  line = 22;
+  conditions = Some (2 ∷ []);
+  anchored = false;
+  head = Cat (trees (letter 42 ∷ letter 47 ∷ []));
+  trail = None;
+  cut = Whole;
+  statements = Pop ∷ [];
+}
+
+-- any other byte, in each condition
+abbrev pub any_other : Rule
+any_other = record {
+  line = 23;
+  conditions = Some (0 ∷ 1 ∷ 2 ∷ 3 ∷ []);
+  anchored = false;
+  head = Alt (trees (Set (complement (single 10)) ∷ letter 10 ∷ []));
+  trail = None;
+  cut = Whole;
+  statements = [];
+}
+
+abbrev pub whole_conditions : List Condition
+whole_conditions =
+    record { name = codes "INITIAL"; exclusive = false; end = ended }
+    ∷ record { name = codes "A"; exclusive = false; end = ended }
+    ∷ record { name = codes "B"; exclusive = true; end = open_at_end }
+    ∷ record { name = codes "C"; exclusive = true; end = ended }
+    ∷ []
+
+abbrev pub whole_spec : Spec
+whole_spec = record { conditions = whole_conditions; rules = number ∷ letters ∷ opening ∷ closing ∷ any_other ∷ [] }
+
+abbrev pub WholeFile : Type 0
+WholeFile = Is whole_file whole_spec
+
+-- it has code at these lines: a block and a line in each section, and the second `%%`
+abbrev pub WholeSkips : Type 0
+WholeSkips = AreSkipped whole_file (1 ∷ 6 ∷ 13 ∷ 14 ∷ 26 ∷ [])
+
+-- Carriage returns before newlines, letters for both cases, no user section, and a last line without a newline. Nothing is
+-- done at the end.
+abbrev pub short_file : List ℕ
+short_file = codes "%option case-insensitive" ++ 13 ∷ 10 ∷ codes "%%" ++ 13 ∷ 10 ∷ codes "a ECHO;"
+
+abbrev pub both_cases : Rule
+both_cases = record {
+  line = 3;
+  conditions = None;
+  anchored = false;
+  head = Set (2 ^ 65 + 2 ^ 97);
+  trail = None;
+  cut = Whole;
+  statements = Echo ∷ [];
+}
+
+abbrev pub initial : Condition
+initial = record { name = codes "INITIAL"; exclusive = false; end = record { print = []; status = 0 } }
+
+abbrev pub ShortFile : Type 0
+ShortFile = Is short_file (record { conditions = initial ∷ []; rules = both_cases ∷ [] })
+
+-- no `%%`; an option that is none; a condition that is declared twice; a name that is defined twice; a condition that is not
+-- declared; a `|` at the last rule; two ends of the conditions without a list
+pub record NoFiles : Type 0 where
+  pub no_separator : IsNone (codes "D [0-9]\n")
+  pub no_option : IsNone (codes "%option none\n%%\n")
+  pub declared_twice : IsNone (codes "%s A\n%x A\n%%\n")
+  pub defined_twice : IsNone (codes "D a\nD b\n%%\n")
+  pub not_declared : IsNone (codes "%%\n<A>a ECHO;\n")
+  pub bar_at_end : IsNone (codes "%%\na |\n")
+  pub two_ends : IsNone (codes "%%\n<<EOF>> exit(1);\n<<EOF>> exit(2);\n")
