@@ -181,15 +181,12 @@ fn turns_over<M: Machine, S: Source, K: Sink>(
     let mut stack = Stack::new();
     let mut most = MOST_SHOWN;
     'turns: loop {
-        match go_further_unless_behind(machine, intake, outlet, state, most) {
-            Err(refused) => return Err(refused),
-            Ok(done) => most = next_most(most, done),
-        }
-        match attempt(machine, intake, outlet, path, memo, state, &mut stack) {
-            Err(e) => return Err(e),
-            Ok(None) => return Ok(Turn::Went),
-            Ok(Some(Turn::Ended(status))) => return Ok(Turn::Ended(status)),
-            Ok(Some(Turn::Went)) => {}
+        let done = go_further_unless_behind(machine, intake, outlet, state, most)?;
+        most = next_most(most, done);
+        match attempt(machine, intake, outlet, path, memo, state, &mut stack)? {
+            None => return Ok(Turn::Went),
+            Some(Turn::Ended(status)) => return Ok(Turn::Ended(status)),
+            Some(Turn::Went) => {}
         }
     }
 }

@@ -144,10 +144,7 @@ fn do_several<K: Sink>(
 {
     let mut after = condition;
     for statement in statements {
-        match do_one(outlet, statement, text, after) {
-            Err(e) => return Err(e),
-            Ok(next) => after = next,
-        }
+        after = do_one(outlet, statement, text, after)?;
     }
     Ok(after)
 }

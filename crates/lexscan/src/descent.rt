@@ -74,11 +74,9 @@ fn try_rules<M: Machine, K: Sink>(
             acting.end = at + keep;
             acting.more = false;
             *matched = Some(MatchedRule::Numbered(*rule));
-            match carry_out(outlet, window, statements, acting) {
-                Err(e) => return Err(e),
-                Ok(Step::Next) => return Ok(Step::Next),
-                Ok(Step::Again) => {}
-                Ok(Step::Over(finish)) => return Ok(Step::Over(finish)),
+            match carry_out(outlet, window, statements, acting)? {
+                Step::Again => {}
+                stop => return Ok(stop),
             }
         }
     }
@@ -119,11 +117,10 @@ pub fn descend<M: Machine, K: Sink>(
     let mut len = path.len();
     'lengths: while 0 < len {
         let rules = machine.accepts(path.state(len - 1));
-        match try_rules(machine, outlet, window, rules, at, len, acting, matched) {
-            Err(e) => return Err(e),
-            Ok(Step::Next) => return Ok(None),
-            Ok(Step::Again) => {}
-            Ok(Step::Over(finish)) => return Ok(Some(finish)),
+        match try_rules(machine, outlet, window, rules, at, len, acting, matched)? {
+            Step::Next => return Ok(None),
+            Step::Again => {}
+            Step::Over(finish) => return Ok(Some(finish)),
         }
         len -= 1;
     }

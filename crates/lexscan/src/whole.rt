@@ -139,14 +139,11 @@ fn run_with_reject<M: Machine, S: Source, K: Sink>(
 {
     let mut most = MOST_SHOWN;
     'turns: loop {
-        match go_further(machine, intake, outlet, state, most) {
-            Err(refused) => return Err(refused),
-            Ok(done) => most = next_most(most, done),
-        }
-        match turn_with_reject(machine, intake, outlet, path, state) {
-            Err(e) => return Err(e),
-            Ok(Turn::Ended(status)) => return Ok(status),
-            Ok(Turn::Went) => {}
+        let done = go_further(machine, intake, outlet, state, most)?;
+        most = next_most(most, done);
+        match turn_with_reject(machine, intake, outlet, path, state)? {
+            Turn::Ended(status) => return Ok(status),
+            Turn::Went => {}
         }
     }
 }
@@ -182,20 +179,16 @@ fn run_without_reject<M: Machine, S: Source, K: Sink>(
     let mut most = MOST_SHOWN;
     'turns: loop {
         if has_backlog(state) {
-            match back_turn(machine, intake, outlet, memo, state) {
-                Err(e) => return Err(e),
-                Ok(Turn::Ended(status)) => return Ok(status),
-                Ok(Turn::Went) => {}
+            match back_turn(machine, intake, outlet, memo, state)? {
+                Turn::Ended(status) => return Ok(status),
+                Turn::Went => {}
             }
         } else {
-            match go_further(machine, intake, outlet, state, most) {
-                Err(refused) => return Err(refused),
-                Ok(done) => most = next_most(most, done),
-            }
-            match turn_without_reject(machine, intake, outlet, state) {
-                Err(e) => return Err(e),
-                Ok(Turn::Ended(answer)) => return Ok(answer),
-                Ok(Turn::Went) => {}
+            let done = go_further(machine, intake, outlet, state, most)?;
+            most = next_most(most, done);
+            match turn_without_reject(machine, intake, outlet, state)? {
+                Turn::Ended(status) => return Ok(status),
+                Turn::Went => {}
             }
         }
     }
