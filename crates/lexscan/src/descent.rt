@@ -17,7 +17,7 @@ use lex_io::Sink;
 use lex_machine::{Cut, Machine};
 
 /// What a cut keeps of a match of this many bytes, if it fits.
-pub fn kept(cut: Cut, len: usize) -> Option<usize>
+pub fn kept_length(cut: Cut, len: usize) -> Option<usize>
     ensures keep { result ≡ kept_by (cut_of cut) len }
     ensures short { IfSome result (λ keep. keep ≤ len) }
 {
@@ -69,7 +69,7 @@ fn try_rules<M: Machine, K: Sink>(
     let held = window.len();
     for rule in rules {
         let (cut, statements) = machine.rule(*rule);
-        if let Some(keep) = kept(cut, len) {
+        if let Some(keep) = kept_length(cut, len) {
             prove!(keep <= held - at);
             acting.end = at + keep;
             acting.more = false;

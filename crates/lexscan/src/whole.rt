@@ -157,7 +157,7 @@ fn run_without_reject<M: Machine, S: Source, K: Sink>(
     memo: &mut Memo,
     state: &mut State,
 ) -> Result<u8, RunError>
-    requires quiet { NoReject (M.machine machine.now) }
+    requires no_reject { NoReject (M.machine machine.now) }
     requires start { Stands (M.machine machine.now) 0 [] [] state.old }
     requires going { state.old.ended ≡ None }
     requires reading { state.old.reading.at_end ≡ false }

@@ -36,7 +36,7 @@ returns-in_default-2-clause-tried g c =
     c.loop-rule.invariant.passed ens.carried
 
 pub loop-rule-preserved : goal.loop-rule-preserved
-loop-rule-preserved g c = elim c.match-kept.branch [
+loop-rule-preserved g c = elim c.match-kept_length.branch [
   | in-Some+else-prove+in_ok-stop+in-Again w ↦
       (let ens = rw w.in-Again.is at w.in_ok-stop.ensures in
       let M : Machine = g.M.Machine.machine c.args.machine.now in
