@@ -67,7 +67,8 @@ fn attempt<M: Machine, S: Source, K: Sink>(
         outlet.old.sink.now outlet.new.sink.now state.old state.new result }
     ensures ends { S.ends intake.new.source.now ≡
         S.ends intake.old.source.now + end_step state.old.reading.at_end state.new.reading.at_end }
-    ensures read_faults { S.failures intake.new.source.now ≡ S.failures intake.old.source.now + read_fault_count result }
+    ensures read_faults { S.failures intake.new.source.now ≡
+        S.failures intake.old.source.now + read_fault_count result }
     ensures write_faults { K.failures outlet.new.sink.now ≡ K.failures outlet.old.sink.now + write_fault_count result }
     ensures max_reads { state.new.reading.max_reads ≡ state.old.reading.max_reads }
     ensures handed_on { HandedOnIfMade (K.flushed outlet.new.sink.now) result }
@@ -164,7 +165,8 @@ fn turns_over<M: Machine, S: Source, K: Sink>(
         outlet.old.sink.now outlet.new.sink.now state.old state.new result }
     ensures ends { S.ends intake.new.source.now ≡
         S.ends intake.old.source.now + end_step false state.new.reading.at_end }
-    ensures read_faults { S.failures intake.new.source.now ≡ S.failures intake.old.source.now + read_fault_count result }
+    ensures read_faults { S.failures intake.new.source.now ≡
+        S.failures intake.old.source.now + read_fault_count result }
     ensures write_faults { K.failures outlet.new.sink.now ≡ K.failures outlet.old.sink.now + write_fault_count result }
     ensures max_reads { state.new.reading.max_reads ≡ state.old.reading.max_reads }
     ensures handed_on { HandedOn (K.flushed outlet.new.sink.now) result }

@@ -109,7 +109,8 @@ pub fn descend<M: Machine, K: Sink>(
         (matches_of (M.machine machine.now) window.now.bytes at path.now.states)
         (conditions_of acting.old) acting.new (finished_of ended)) }
     ensures takes { OnOk result (Takes (M.machine machine.now) window.now.bytes at
-        (matches_of (M.machine machine.now) window.now.bytes at path.now.states) (conditions_of acting.old) matched.new) }
+        (matches_of (M.machine machine.now) window.now.bytes at path.now.states) (conditions_of acting.old)
+        matched.new) }
     ensures cut_off { OnErr result (CutAll (M.machine machine.now)
         K.wrote outlet.old.sink.now outlet.new.sink.now window.now.bytes at
         (matches_of (M.machine machine.now) window.now.bytes at path.now.states) (conditions_of acting.old)) }
