@@ -28,7 +28,7 @@ use Rattle.lexscan.specs.declared.state.TextPlace.{TextPlace}
 use Rattle.lexscan.specs.declared.act.ActionState.{ActionState}
 use Rattle.lexscan.specs.declared.act.Step.{Step}
 use Rattle.lexscan.specs.declared.turn.Turn.{Turn}
-use Rattle.lexscan.specs.declared.burst.Told.{Told}
+use Rattle.lexscan.specs.declared.burst.GlancedMatch.{GlancedMatch}
 use Rattle.lexscan.specs.declared.error.RunError.TheVariants.{Write, Stack, TooManyReads}
 use Rattle.lexscan.specs.Acts.{acting_of, after_step, written_of}
 use Rattle.lexscan.specs.Descends.{Conditions, conditions_in, outcome, matches_of, Performed, CutAll, IsRule, Takes}
@@ -36,12 +36,12 @@ use Rattle.lexscan.specs.Looks.{SoFar, Looked}
 use Rattle.lexscan.specs.Picks.{path_of, state_at}
 use Rattle.lexscan.specs.Moves.{Matched, Refused}
 use Rattle.lexscan.specs.Stands.{Stands, Fell}
-use Rattle.lexscan.specs.Bursts.{statements_in, is_told, condition_after, written_by, Between, AllStand, TurnsMade, Broke, NoneAfter, Tells}
+use Rattle.lexscan.specs.Bursts.{statements_in, names_rule, condition_after, written_by, Between, AllStand, TurnsMade, Broke, NoneAfter, Tells}
 use Rattle.lexscan.proofs.Descending as Down
 use Rattle.lexscan.proofs.Descending.{one_match, start_of, head_outcome, statements_are, default_is, default_one, settled}
 use Rattle.lexscan.proofs.Picking.{falling_last, falling_more}
 use Rattle.lexscan.proofs.Keeping.{text_dropped}
-use Rattle.lexscan.proofs.Telling.{told_simple, act_all, begun_below}
+use Rattle.lexscan.proofs.Telling.{gist_simple, act_all, begun_below}
 use Rattle.lexscan.proofs.Stepping as Go
 use Rattle.lexscan.proofs.Refusing as Fall
 
@@ -68,7 +68,7 @@ module _ (text : List ℕ) (c far far' : ℕ) (le : c ≤ far) (more : far ≤ f
       ap (take i) (ap (λ n. drop c (take n text)) (sym e) ∙ drop-take c (far' - c) text) ∙ take-take i (far' - c) (drop c text) (omega (arith, le'))
 
 -- what is told of a state's first rule
-gist_first : (M : Machine) (s : ℕ) (g : Gist) → is_told g ≡ true → Gists M s g → FirstDoes M s (statements_in g)
+gist_first : (M : Machine) (s : ℕ) (g : Gist) → names_rule g ≡ true → Gists M s g → FirstDoes M s (statements_in g)
 gist_first M s Any is h = absurd (no is)
   where
     no : false ≡ true → ⊥
@@ -108,46 +108,46 @@ rule_below : (M : Machine) (s : ℕ) (ss : List S.Statement) → MachineLaws M �
 rule_below M s ss laws f = laws.in_range s f.rule (subst (λ l. Among l f.rule) (sym f.accepts) (inl refl))
 
 -- a told rule leaves the condition in range
-pub told_below : (M : Machine) (laws : MachineLaws M) (s : ℕ) (g : Gist) (c : ℕ) → is_told g ≡ true → Gists M s g → c < M.conditions → condition_after g c < M.conditions
-told_below M laws s Any c is h lt = lt
-told_below M laws s NoRule c is h lt = lt
-told_below M laws s Silent c is h lt = lt
-told_below M laws s Echo c is h lt = lt
-told_below M laws s (Print bytes) c is h lt = lt
-told_below M laws s (Several ss) c is (simple, h) lt =
+pub gist_below : (M : Machine) (laws : MachineLaws M) (s : ℕ) (g : Gist) (c : ℕ) → names_rule g ≡ true → Gists M s g → c < M.conditions → condition_after g c < M.conditions
+gist_below M laws s Any c is h lt = lt
+gist_below M laws s NoRule c is h lt = lt
+gist_below M laws s Silent c is h lt = lt
+gist_below M laws s Echo c is h lt = lt
+gist_below M laws s (Print bytes) c is h lt = lt
+gist_below M laws s (Several ss) c is (simple, h) lt =
     let legal = laws.legal h.rule (rule_below M s (map statement_of ss.now) laws h) in
     begun_below M.conditions (map statement_of ss.now) c (subst (λ l. BeginsBelow M.conditions l) h.does (begins_below M.conditions (M.statements h.rule) legal.ranges)) lt
-told_below M laws s (Begin d) c is h lt =
+gist_below M laws s (Begin d) c is h lt =
     let legal = laws.legal h.rule (rule_below M s (S.Begin d ∷ []) laws h) in
     (subst (λ ss. BeginsBelow M.conditions ss) h.does (begins_below M.conditions (M.statements h.rule) legal.ranges)).0
 
 -- where the action of what is told ends
-abbrev pub told_acting : Gist → ℕ → Conditions → ActionState
-told_acting g keep c = record { end = 0 + keep; condition = condition_after g c.next; stack = c.stack; more = false }
+abbrev pub acting_after_gist : Gist → ℕ → Conditions → ActionState
+acting_after_gist g keep c = record { end = 0 + keep; condition = condition_after g c.next; stack = c.stack; more = false }
 
 -- the statements that are told, over a text
-act_told : (w : List ℕ) (g : Gist) (keep : ℕ) (c : Conditions) (before : List ℕ) → is_told g ≡ true → are_simple (statements_in g) ≡ true →
-    act (statements_in g) (acting_of w (start_of 0 keep c) before) ≡ after_step Step.Next [] (acting_of w (told_acting g keep c) (before ++ written_by g (take (0 + keep) w)))
-act_told w Any keep c before is simple = absurd (no is)
+act_gist : (w : List ℕ) (g : Gist) (keep : ℕ) (c : Conditions) (before : List ℕ) → names_rule g ≡ true → are_simple (statements_in g) ≡ true →
+    act (statements_in g) (acting_of w (start_of 0 keep c) before) ≡ after_step Step.Next [] (acting_of w (acting_after_gist g keep c) (before ++ written_by g (take (0 + keep) w)))
+act_gist w Any keep c before is simple = absurd (no is)
   where
     no : false ≡ true → ⊥
     no e = cc
-act_told w NoRule keep c before is simple = absurd (no is)
+act_gist w NoRule keep c before is simple = absurd (no is)
   where
     no : false ≡ true → ⊥
     no e = cc
-act_told w Silent keep c before is simple = ap (λ b. after_step Step.Next [] (acting_of w (start_of 0 keep c) b)) (sym (append-nil before))
-act_told w Echo keep c before is simple = refl
-act_told w (Print bytes) keep c before is simple = refl
-act_told w (Begin d) keep c before is simple = ap (λ b. after_step Step.Next [] (acting_of w (told_acting (Begin d) keep c) b)) (sym (append-nil before))
-act_told w (Several ss) keep c before is simple = act_all w (map statement_of ss.now) (start_of 0 keep c) before simple
+act_gist w Silent keep c before is simple = ap (λ b. after_step Step.Next [] (acting_of w (start_of 0 keep c) b)) (sym (append-nil before))
+act_gist w Echo keep c before is simple = refl
+act_gist w (Print bytes) keep c before is simple = refl
+act_gist w (Begin d) keep c before is simple = ap (λ b. after_step Step.Next [] (acting_of w (acting_after_gist (Begin d) keep c) b)) (sym (append-nil before))
+act_gist w (Several ss) keep c before is simple = act_all w (map statement_of ss.now) (start_of 0 keep c) before simple
 
 -- what is written before a fault is a front of it
-said_front : (w : List ℕ) (g : Gist) (keep : ℕ) (c : Conditions) (before front : List ℕ) → is_told g ≡ true → are_simple (statements_in g) ≡ true → BeginsWith (written_by g (take (0 + keep) w)) front →
+said_front : (w : List ℕ) (g : Gist) (keep : ℕ) (c : Conditions) (before front : List ℕ) → names_rule g ≡ true → are_simple (statements_in g) ≡ true → BeginsWith (written_by g (take (0 + keep) w)) front →
     BeginsWith (written_of (act (statements_in g) (acting_of w (start_of 0 keep c) before))) (before ++ front)
 said_front w g keep c before front is simple (rest, e) = (
   rest,
-  ap written_of (act_told w g keep c before is simple) ∙ ap (λ l. before ++ l) e ∙ sym (append_assoc before front rest),
+  ap written_of (act_gist w g keep c before is simple) ∙ ap (λ l. before ++ l) e ∙ sym (append_assoc before front rest),
 )
 
 -- the matches of a path whose last states accept no rule
@@ -160,8 +160,8 @@ falling_none M p w n (suc more) le none =
     ∙ ap (λ a. filter_map (match_of M (n + more + 1)) a ++ falling M 0 (path_of M p w (n + more))) (none (n + more + 1) (omega arith) (omega arith))
     ∙ falling_none M p w n more (omega (arith, le)) (λ i less few. none i less (omega (arith, few)))
 
-module _ (M : Machine) (laws : MachineLaws M) (text : List ℕ) (bytes : IsText text) (c far cond : ℕ) (line : Bool) (way : Way) (told : Told) (le : c ≤ far) (inside : far ≤ length text)
-    (leads : Leads M (M.start cond line) (drop c text) way) (tells : Tells M (M.start cond line) (drop c text) way.count told) (is : is_told told.gist ≡ true) where
+module _ (M : Machine) (laws : MachineLaws M) (text : List ℕ) (bytes : IsText text) (c far condition : ℕ) (line : Bool) (way : Way) (longest : GlancedMatch) (le : c ≤ far) (inside : far ≤ length text)
+    (leads : Leads M (M.start condition line) (drop c text) way) (tells : Tells M (M.start condition line) (drop c text) way.count longest) (is : names_rule longest.gist ≡ true) where
   -- how far is asked for then
   abbrev pub beyond : ℕ
   beyond = max far (c + way.count)
@@ -171,7 +171,7 @@ module _ (M : Machine) (laws : MachineLaws M) (text : List ℕ) (bytes : IsText 
   w = drop c (take beyond text)
 
   abbrev pub p : TextPlace
-  p = record { at = 0; line_start = line; condition = cond }
+  p = record { at = 0; line_start = line; condition = condition }
 
   abbrev pub path : List ℕ
   path = path_of M p w way.count
@@ -192,12 +192,12 @@ module _ (M : Machine) (laws : MachineLaws M) (text : List ℕ) (bytes : IsText 
   front_here i less = front_is text c far beyond le far_beyond inside_beyond i (omega (arith, less))
 
   state_here : way.state ≡ state_at M p w way.count
-  state_here = leads.state_is ∙ ap (walk M (M.start cond line)) (sym (front_here way.count (omega arith)))
+  state_here = leads.state_is ∙ ap (walk M (M.start condition line)) (sym (front_here way.count (omega arith)))
 
-  accepts_none : (few : ℕ) → NoneAfter M (M.start cond line) (drop c text) few way.count → (i : ℕ) → few < i → i ≤ way.count → M.accepts (state_at M p w i) ≡ []
-  accepts_none few none i more le' = ap (λ l. M.accepts (walk M (M.start cond line) l)) (front_here i le') ∙ none i more le'
+  accepts_none : (few : ℕ) → NoneAfter M (M.start condition line) (drop c text) few way.count → (i : ℕ) → few < i → i ≤ way.count → M.accepts (state_at M p w i) ≡ []
+  accepts_none few none i more le' = ap (λ l. M.accepts (walk M (M.start condition line) l)) (front_here i le') ∙ none i more le'
 
-  falling_to : (few : ℕ) → few ≤ way.count → NoneAfter M (M.start cond line) (drop c text) few way.count → falling M 0 path ≡ falling M 0 (path_of M p w few)
+  falling_to : (few : ℕ) → few ≤ way.count → NoneAfter M (M.start condition line) (drop c text) few way.count → falling M 0 path ≡ falling M 0 (path_of M p w few)
   falling_to few le' none =
       let e : few + (way.count - few) ≡ way.count = omega (arith, le') in
       ap (λ k. falling M 0 (path_of M p w k)) (sym e)
@@ -207,36 +207,36 @@ module _ (M : Machine) (laws : MachineLaws M) (text : List ℕ) (bytes : IsText 
   so_far = record {
     inside = within;
     state_is = state_here;
-    asked = λ i some less. subst (λ l. M.goes_on (walk M (M.start cond line) l) ≡ true) (sym (front_here i (omega (arith, less)))) (leads.asked i some less);
+    asked = λ i some less. subst (λ l. M.goes_on (walk M (M.start condition line) l) ≡ true) (sym (front_here i (omega (arith, less)))) (leads.asked i some less);
     path_is = refl;
   }
 
   -- nothing is told where a rule is
-  untold : {P : Type 0} → told.gist ≡ Any → P
-  untold any = absurd (no (ap is_told (sym any) ∙ is))
+  untold : {P : Type 0} → longest.gist ≡ Any → P
+  untold any = absurd (no (ap names_rule (sym any) ∙ is))
     where
       no : false ≡ true → ⊥
       no e = cc
 
-  heads : Heads M w path told.gist told.keep
+  heads : Heads M w path longest.gist longest.keep
   heads = from tells
     where
-      from : Tells M (M.start cond line) (drop c text) way.count told → Heads M w path told.gist told.keep
+      from : Tells M (M.start condition line) (drop c text) way.count longest → Heads M w path longest.gist longest.keep
       from (inl (some, few, none, known)) =
-          let s : ℕ = state_at M p w told.keep in
-          let gist : Gists M s told.gist = subst (λ l. Gists M (walk M (M.start cond line) l) told.gist) (sym (front_here told.keep few)) known in
-          let f : FirstDoes M s (statements_in told.gist) = gist_first M s told.gist is gist in
-          let last = falling_to told.keep few none ∙ falling_last M p w told.keep some (omega (arith, within, few)) in
-          let first = first_here M told.keep s told.gist (falling M 0 (path_of M p w (told.keep - 1))) laws f (falling M 0 path) last in
+          let s : ℕ = state_at M p w longest.keep in
+          let gist : Gists M s longest.gist = subst (λ l. Gists M (walk M (M.start condition line) l) longest.gist) (sym (front_here longest.keep few)) known in
+          let f : FirstDoes M s (statements_in longest.gist) = gist_first M s longest.gist is gist in
+          let last = falling_to longest.keep few none ∙ falling_last M p w longest.keep some (omega (arith, within, few)) in
+          let first = first_here M longest.keep s longest.gist (falling M 0 (path_of M p w (longest.keep - 1))) laws f (falling M 0 path) last in
           record {
-            len = told.keep;
+            len = longest.keep;
             rule = f.rule;
             others = first.0 ++ default_match M.count (drop 0 w);
             first = ap (λ l. l ++ default_match M.count (drop 0 w)) first.1;
             number = Some (Numbered f.rule);
-            is = (refl, rule_below M s (statements_in told.gist) laws f);
-            does = sym f.does ∙ sym (statements_are M f.rule (rule_below M s (statements_in told.gist) laws f));
-            simple = told_simple M s told.gist is gist;
+            is = (refl, rule_below M s (statements_in longest.gist) laws f);
+            does = sym f.does ∙ sym (statements_are M f.rule (rule_below M s (statements_in longest.gist) laws f));
+            simple = gist_simple M s longest.gist is gist;
           }
       from (inr (inl (one, echo, none))) =
           record {
@@ -251,66 +251,66 @@ module _ (M : Machine) (laws : MachineLaws M) (text : List ℕ) (bytes : IsText 
           }
       from (inr (inr any)) = untold any
 
-  pub keeps_some : (1 ≤ told.keep) × (told.keep ≤ way.count)
+  pub keeps_some : (1 ≤ longest.keep) × (longest.keep ≤ way.count)
   keeps_some = from tells
     where
-      from : Tells M (M.start cond line) (drop c text) way.count told → (1 ≤ told.keep) × (told.keep ≤ way.count)
+      from : Tells M (M.start condition line) (drop c text) way.count longest → (1 ≤ longest.keep) × (longest.keep ≤ way.count)
       from (inl (some, few, none, known)) = (some, few)
       from (inr (inl (one, echo, none))) = (omega (arith, one), omega (arith, one, leads.some))
       from (inr (inr any)) = untold any
 
-  pub condition_below : cond < M.conditions → condition_after told.gist cond < M.conditions
+  pub condition_below : condition < M.conditions → condition_after longest.gist condition < M.conditions
   condition_below lt = from tells
     where
-      from : Tells M (M.start cond line) (drop c text) way.count told → condition_after told.gist cond < M.conditions
-      from (inl (some, few, none, known)) = told_below M laws (walk M (M.start cond line) (take told.keep (drop c text))) told.gist cond is known lt
-      from (inr (inl (one, echo, none))) = subst (λ g. condition_after g cond < M.conditions) (sym echo) lt
+      from : Tells M (M.start condition line) (drop c text) way.count longest → condition_after longest.gist condition < M.conditions
+      from (inl (some, few, none, known)) = gist_below M laws (walk M (M.start condition line) (take longest.keep (drop c text))) longest.gist condition is known lt
+      from (inr (inl (one, echo, none))) = subst (λ g. condition_after g condition < M.conditions) (sym echo) lt
       from (inr (inr any)) = untold any
 
-  said_here : take (0 + told.keep) w ≡ take told.keep (drop c text)
-  said_here = let e : 0 + told.keep ≡ told.keep = omega arith in ap (λ k. take k w) e ∙ front_here told.keep keeps_some.1
+  said_here : take (0 + longest.keep) w ≡ take longest.keep (drop c text)
+  said_here = let e : 0 + longest.keep ≡ longest.keep = omega arith in ap (λ k. take k w) e ∙ front_here longest.keep keeps_some.1
 
   module _ {K : Type 0} (wrote : K → List ℕ → K → Type 0) (none : (s : K) → wrote s [] s) (join : (s t u : K) (xs ys : List ℕ) → wrote s xs t → wrote t ys u → wrote s (xs ++ ys) u) (t u : K) (stack : List ℕ) where
     abbrev cs : Conditions
-    cs = record { next = cond; stack = stack }
+    cs = record { next = condition; stack = stack }
 
-    abbrev performed : wrote t (written_by told.gist (take told.keep (drop c text))) u → Performed M wrote t u w 0 (matches_of M w 0 path) cs (told_acting told.gist told.keep cs) None
+    abbrev performed : wrote t (written_by longest.gist (take longest.keep (drop c text))) u → Performed M wrote t u w 0 (matches_of M w 0 path) cs (acting_after_gist longest.gist longest.keep cs) None
     performed put =
-        let out : List ℕ = written_by told.gist (take (0 + told.keep) w) in record {
+        let out : List ℕ = written_by longest.gist (take (0 + longest.keep) w) in record {
           out = out;
-          sink = subst (λ l. wrote t (written_by told.gist l) u) (sym said_here) put;
+          sink = subst (λ l. wrote t (written_by longest.gist l) u) (sym said_here) put;
           acts = λ before.
               ap (λ l. outcome M w 0 l before cs) heads.first
-              ∙ head_outcome M w 0 (record { len = heads.len; rule = heads.rule; keep = told.keep }) heads.others before cs
-              ∙ ap (λ l. settle (act l (acting_of w (start_of 0 told.keep cs) before)) (λ a. outcome M w 0 heads.others a.written (conditions_in a))) (sym heads.does)
-              ∙ ap (λ z. settle z (λ a. outcome M w 0 heads.others a.written (conditions_in a))) (act_told w told.gist told.keep cs before is heads.simple)
-              ∙ settled Step.Next (acting_of w (told_acting told.gist told.keep cs) (before ++ out)) (λ a. outcome M w 0 heads.others a.written (conditions_in a)) (λ e. cc);
+              ∙ head_outcome M w 0 (record { len = heads.len; rule = heads.rule; keep = longest.keep }) heads.others before cs
+              ∙ ap (λ l. settle (act l (acting_of w (start_of 0 longest.keep cs) before)) (λ a. outcome M w 0 heads.others a.written (conditions_in a))) (sym heads.does)
+              ∙ ap (λ z. settle z (λ a. outcome M w 0 heads.others a.written (conditions_in a))) (act_gist w longest.gist longest.keep cs before is heads.simple)
+              ∙ settled Step.Next (acting_of w (acting_after_gist longest.gist longest.keep cs) (before ++ out)) (λ a. outcome M w 0 heads.others a.written (conditions_in a)) (λ e. cc);
         }
 
     -- the match that is told is the one carried out
     takes : Takes M w 0 (matches_of M w 0 path) cs heads.number
     takes = record {
       passed = [];
-      taken = record { len = heads.len; rule = heads.rule; keep = told.keep };
+      taken = record { len = heads.len; rule = heads.rule; keep = longest.keep };
       left = heads.others;
       in_order = heads.first;
       rule_is = heads.is;
       rejected = λ before. Down.no_outcome M w 0 before cs;
       carried = λ before. (
-        record { after = acting_of w (told_acting told.gist told.keep cs) (before ++ written_by told.gist (take (0 + told.keep) w)); ended = None },
+        record { after = acting_of w (acting_after_gist longest.gist longest.keep cs) (before ++ written_by longest.gist (take (0 + longest.keep) w)); ended = None },
         λ rest.
-            head_outcome M w 0 (record { len = heads.len; rule = heads.rule; keep = told.keep }) rest before cs
-            ∙ ap (λ l. settle (act l (acting_of w (start_of 0 told.keep cs) before)) (λ a. outcome M w 0 rest a.written (conditions_in a))) (sym heads.does)
-            ∙ ap (λ z. settle z (λ a. outcome M w 0 rest a.written (conditions_in a))) (act_told w told.gist told.keep cs before is heads.simple)
-            ∙ settled Step.Next (acting_of w (told_acting told.gist told.keep cs) (before ++ written_by told.gist (take (0 + told.keep) w))) (λ a. outcome M w 0 rest a.written (conditions_in a)) (λ e. cc),
+            head_outcome M w 0 (record { len = heads.len; rule = heads.rule; keep = longest.keep }) rest before cs
+            ∙ ap (λ l. settle (act l (acting_of w (start_of 0 longest.keep cs) before)) (λ a. outcome M w 0 rest a.written (conditions_in a))) (sym heads.does)
+            ∙ ap (λ z. settle z (λ a. outcome M w 0 rest a.written (conditions_in a))) (act_gist w longest.gist longest.keep cs before is heads.simple)
+            ∙ settled Step.Next (acting_of w (acting_after_gist longest.gist longest.keep cs) (before ++ written_by longest.gist (take (0 + longest.keep) w))) (λ a. outcome M w 0 rest a.written (conditions_in a)) (λ e. cc),
       );
     }
 
-    cut : (front : List ℕ) → BeginsWith (written_by told.gist (take told.keep (drop c text))) front → wrote t front u → (before : List ℕ) (o : Scan.Matched) →
+    cut : (front : List ℕ) → BeginsWith (written_by longest.gist (take longest.keep (drop c text))) front → wrote t front u → (before : List ℕ) (o : Scan.Matched) →
         outcome M w 0 (matches_of M w 0 path) before cs ≡ Some o → BeginsWith o.after.written (before ++ front)
     cut front begins put before o e =
-        Down.cut_front M wrote none join w 0 t u (record { len = heads.len; rule = heads.rule; keep = told.keep }) heads.others cs (statements_in told.gist) heads.does
-        (record { out = front; sink = put; front = λ b. said_front w told.gist told.keep cs b front is heads.simple (subst (λ l. BeginsWith (written_by told.gist l) front) (sym said_here) begins) }) before o
+        Down.cut_front M wrote none join w 0 t u (record { len = heads.len; rule = heads.rule; keep = longest.keep }) heads.others cs (statements_in longest.gist) heads.does
+        (record { out = front; sink = put; front = λ b. said_front w longest.gist longest.keep cs b front is heads.simple (subst (λ l. BeginsWith (written_by longest.gist l) front) (sym said_here) begins) }) before o
         (ap (λ l. outcome M w 0 l before cs) (sym heads.first) ∙ e)
 
     abbrev Nothing : ⊤ → List ℕ → ⊤ → Type 0
@@ -336,9 +336,9 @@ module _ (M : Machine) (laws : MachineLaws M) (text : List ℕ) (bytes : IsText 
     got = drop far (take beyond text)
 
     -- the turn was carried out
-    pub step : wrote t (written_by told.gist (take told.keep (drop c text))) u → (line' : Bool) → line' ≡ nat_eq (get_or (take told.keep (drop c text)) (told.keep - 1) 0) 10 → (n taken : ℕ) (given before : List ℕ) →
-        AllStand M n given before (drop c (take far text)) taken cond line stack →
-        AllStand M (suc n) (given ++ drop far (take beyond text)) (before ++ written_by told.gist (take told.keep (drop c text))) (drop (c + told.keep) (take beyond text)) (taken + (beyond - far)) (condition_after told.gist cond) line' stack
+    pub step : wrote t (written_by longest.gist (take longest.keep (drop c text))) u → (line' : Bool) → line' ≡ nat_eq (get_or (take longest.keep (drop c text)) (longest.keep - 1) 0) 10 → (n taken : ℕ) (given before : List ℕ) →
+        AllStand M n given before (drop c (take far text)) taken condition line stack →
+        AllStand M (suc n) (given ++ drop far (take beyond text)) (before ++ written_by longest.gist (take longest.keep (drop c text))) (drop (c + longest.keep) (take beyond text)) (taken + (beyond - far)) (condition_after longest.gist condition) line' stack
     step put line' starts n taken given before all v b works =
         let few : taken + 0 ≤ v.reading.max_reads = let all = v.reading.few_reads in omega (arith, all, b.taken_is) in
         let old : State = was v taken few in
@@ -346,10 +346,10 @@ module _ (M : Machine) (laws : MachineLaws M) (text : List ℕ) (bytes : IsText 
         let mid : Reading = record v.reading { window = record { bytes = w; room = true; ahead = []; behind = [] } } in
         let size = grown_by text c far beyond le far_beyond inside_beyond in
         let did = performed put in
-        let kept : List ℕ = take (0 + told.keep) w in
+        let kept : List ℕ = take (0 + longest.keep) w in
         let now : State = record v {
           reading = record v.reading { window = record v.reading.window { behind = kept } };
-          acting = record v.acting { end = 0 + told.keep };
+          acting = record v.acting { end = 0 + longest.keep };
           matched = heads.number;
         } in
         let m : Matched M Nothing wrote tt tt t u (record old { failed = true }) now Turn.Went = record {
@@ -374,18 +374,18 @@ module _ (M : Machine) (laws : MachineLaws M) (text : List ℕ) (bytes : IsText 
             stops = inl (leads.stops, b.at_end);
           };
           acted = record {
-            acting = told_acting told.gist told.keep cs;
+            acting = acting_after_gist longest.gist longest.keep cs;
             ended = None;
             performed = did;
             inside = omega (arith, within, keeps_some.1);
             left = record {
-              held = b.bytes_are ∙ sym (drop-drop told.keep c (take beyond text)) ∙ (let e : told.keep ≡ 0 + told.keep = omega arith in ap (λ k. drop k w) e);
+              held = b.bytes_are ∙ sym (drop-drop longest.keep c (take beyond text)) ∙ (let e : longest.keep ≡ 0 + longest.keep = omega arith in ap (λ k. drop k w) e);
               at = b.at;
-              line = λ some. b.line_is ∙ starts ∙ (let e : told.keep - 1 ≡ 0 + told.keep - 1 = omega arith in ap (λ k. nat_eq (get_or (take told.keep (drop c text)) k 0) 10) e ∙ last_byte);
+              line = λ some. b.line_is ∙ starts ∙ (let e : longest.keep - 1 ≡ 0 + longest.keep - 1 = omega arith in ap (λ k. nat_eq (get_or (take longest.keep (drop c text)) k 0) 10) e ∙ last_byte);
               condition = b.condition_is;
               stack = b.stack_is;
               end = refl;
-              text = text_dropped [] kept w v.reading.window.bytes (0 + told.keep) v.place.at (omega (arith, within, keeps_some.1)) refl b.at;
+              text = text_dropped [] kept w v.reading.window.bytes (0 + longest.keep) v.place.at (omega (arith, within, keeps_some.1)) refl b.at;
             };
             says = refl;
             same = record { taken = refl; at_end = refl };
@@ -404,14 +404,14 @@ module _ (M : Machine) (laws : MachineLaws M) (text : List ℕ) (bytes : IsText 
           line = stands.line;
           taken = stands.taken;
         } in
-        subst (λ l. Stands M (suc n) (given ++ got) (before ++ written_by told.gist l) v) said_here stands'
+        subst (λ l. Stands M (suc n) (given ++ got) (before ++ written_by longest.gist l) v) said_here stands'
       where
-        last_byte : nat_eq (get_or (take told.keep (drop c text)) (0 + told.keep - 1) 0) 10 ≡ nat_eq (get_or w (0 + told.keep - 1) 0) 10
-        last_byte = ap (λ l. nat_eq (get_or l (0 + told.keep - 1) 0) 10) (sym (front_here told.keep keeps_some.1)) ∙ ap (λ b. nat_eq b 10) (get_or-take told.keep w (0 + told.keep - 1) 0 (omega (arith, keeps_some.0)))
+        last_byte : nat_eq (get_or (take longest.keep (drop c text)) (0 + longest.keep - 1) 0) 10 ≡ nat_eq (get_or w (0 + longest.keep - 1) 0) 10
+        last_byte = ap (λ l. nat_eq (get_or l (0 + longest.keep - 1) 0) 10) (sym (front_here longest.keep keeps_some.1)) ∙ ap (λ b. nat_eq b 10) (get_or-take longest.keep w (0 + longest.keep - 1) 0 (omega (arith, keeps_some.0)))
 
     -- the sink failed in it
-    pub broke : (front : List ℕ) → BeginsWith (written_by told.gist (take told.keep (drop c text))) front → wrote t front u → (n taken : ℕ) (given before : List ℕ) → AllStand M n given before (drop c (take far text)) taken cond line stack →
-        (v : State) → Between v (drop c (take beyond text)) (taken + (beyond - far)) cond line stack → v.failed ≡ true → Fell M n given (drop far (take beyond text)) (before ++ front) v Write
+    pub broke : (front : List ℕ) → BeginsWith (written_by longest.gist (take longest.keep (drop c text))) front → wrote t front u → (n taken : ℕ) (given before : List ℕ) → AllStand M n given before (drop c (take far text)) taken condition line stack →
+        (v : State) → Between v (drop c (take beyond text)) (taken + (beyond - far)) condition line stack → v.failed ≡ true → Fell M n given (drop far (take beyond text)) (before ++ front) v Write
     broke front begins put n taken given before all v b bad =
         let few : taken + 0 ≤ v.reading.max_reads = let all = v.reading.few_reads in omega (arith, all, b.taken_is) in
         let old : State = was v taken few in
@@ -457,8 +457,8 @@ module _ (M : Machine) (laws : MachineLaws M) (text : List ℕ) (bytes : IsText 
         not_many e = cc
 
 -- no turn yet
-pub went_none : {K : Type 0} (M : Machine) (wrote : K → List ℕ → K → Type 0) (t : K) (text : List ℕ) (held cond : ℕ) (line : Bool) → held ≤ length text → wrote t [] t → TurnsMade M wrote t t text held cond line 0 held cond line
-went_none M wrote t text held cond line inside none = record {
+pub went_none : {K : Type 0} (M : Machine) (wrote : K → List ℕ → K → Type 0) (t : K) (text : List ℕ) (held condition : ℕ) (line : Bool) → held ≤ length text → wrote t [] t → TurnsMade M wrote t t text held condition line 0 held condition line
+went_none M wrote t text held condition line inside none = record {
   turns = 0;
   out = [];
   sink = none;
@@ -480,26 +480,26 @@ went_none M wrote t text held cond line inside none = record {
       }) works))));
 }
 
-module _ (M : Machine) (laws : MachineLaws M) (text : List ℕ) (bytes : IsText text) (held cond0 : ℕ) (line0 : Bool) (c far cond : ℕ) (line : Bool) (way : Way) (told : Told) (first : held ≤ far) (le : c ≤ far) (inside : far ≤ length text)
-    (leads : Leads M (M.start cond line) (drop c text) way) (tells : Tells M (M.start cond line) (drop c text) way.count told) (is : is_told told.gist ≡ true)
-    {K : Type 0} (wrote : K → List ℕ → K → Type 0) (none : (s : K) → wrote s [] s) (join : (s t u : K) (xs ys : List ℕ) → wrote s xs t → wrote t ys u → wrote s (xs ++ ys) u) (s t u : K) (went : TurnsMade M wrote s t text held cond0 line0 c far cond line) where
+module _ (M : Machine) (laws : MachineLaws M) (text : List ℕ) (bytes : IsText text) (held condition0 : ℕ) (line0 : Bool) (c far condition : ℕ) (line : Bool) (way : Way) (longest : GlancedMatch) (first : held ≤ far) (le : c ≤ far) (inside : far ≤ length text)
+    (leads : Leads M (M.start condition line) (drop c text) way) (tells : Tells M (M.start condition line) (drop c text) way.count longest) (is : names_rule longest.gist ≡ true)
+    {K : Type 0} (wrote : K → List ℕ → K → Type 0) (none : (s : K) → wrote s [] s) (join : (s t u : K) (xs ys : List ℕ) → wrote s xs t → wrote t ys u → wrote s (xs ++ ys) u) (s t u : K) (went : TurnsMade M wrote s t text held condition0 line0 c far condition line) where
   abbrev next : ℕ
   next = max far (c + way.count)
 
   all_given : (given : List ℕ) → (given ++ drop held (take far text)) ++ drop far (take next text) ≡ given ++ drop held (take next text)
   all_given given =
       append_assoc given (drop held (take far text)) (drop far (take next text))
-      ∙ ap (λ l. given ++ l) (sym (grows text held far next first (far_beyond M laws text bytes c far cond line way told le inside leads tells is) (inside_beyond M laws text bytes c far cond line way told le inside leads tells is)))
+      ∙ ap (λ l. given ++ l) (sym (grows text held far next first (far_beyond M laws text bytes c far condition line way longest le inside leads tells is) (inside_beyond M laws text bytes c far condition line way longest le inside leads tells is)))
 
   -- one turn more
-  pub went_more : wrote t (written_by told.gist (take told.keep (drop c text))) u → (line' : Bool) → line' ≡ nat_eq (get_or (take told.keep (drop c text)) (told.keep - 1) 0) 10 →
-      TurnsMade M wrote s u text held cond0 line0 (c + told.keep) next (condition_after told.gist cond) line'
+  pub went_more : wrote t (written_by longest.gist (take longest.keep (drop c text))) u → (line' : Bool) → line' ≡ nat_eq (get_or (take longest.keep (drop c text)) (longest.keep - 1) 0) 10 →
+      TurnsMade M wrote s u text held condition0 line0 (c + longest.keep) next (condition_after longest.gist condition) line'
   went_more put line' starts = record {
     turns = suc went.turns;
-    out = went.out ++ written_by told.gist (take told.keep (drop c text));
-    sink = join s t u went.out (written_by told.gist (take told.keep (drop c text))) went.sink put;
+    out = went.out ++ written_by longest.gist (take longest.keep (drop c text));
+    sink = join s t u went.out (written_by longest.gist (take longest.keep (drop c text))) went.sink put;
     stand = λ n given before taken stack all v b works.
-        let h = step M laws text bytes c far cond line way told le inside leads tells is wrote none join t u stack put line' starts (went.turns + n) (taken + (far - held)) (given ++ drop held (take far text)) (before ++ went.out)
+        let h = step M laws text bytes c far condition line way longest le inside leads tells is wrote none join t u stack put line' starts (went.turns + n) (taken + (far - held)) (given ++ drop held (take far text)) (before ++ went.out)
         (went.stand n given before taken stack all) v (record {
           bytes_are = b.bytes_are;
           taken_is = b.taken_is ∙ omega (arith, first);
@@ -510,23 +510,23 @@ module _ (M : Machine) (laws : MachineLaws M) (text : List ℕ) (bytes : IsText 
           stack_is = b.stack_is;
           going = b.going;
         }) works in
-        subst (λ k. Stands M k (given ++ drop held (take next text)) (before ++ (went.out ++ written_by told.gist (take told.keep (drop c text)))) v) (omega arith)
-        (subst (λ l. Stands M (suc (went.turns + n)) l (before ++ (went.out ++ written_by told.gist (take told.keep (drop c text)))) v) (all_given given)
-        (subst (λ l. Stands M (suc (went.turns + n)) ((given ++ drop held (take far text)) ++ drop far (take next text)) l v) (append_assoc before went.out (written_by told.gist (take told.keep (drop c text)))) h));
+        subst (λ k. Stands M k (given ++ drop held (take next text)) (before ++ (went.out ++ written_by longest.gist (take longest.keep (drop c text)))) v) (omega arith)
+        (subst (λ l. Stands M (suc (went.turns + n)) l (before ++ (went.out ++ written_by longest.gist (take longest.keep (drop c text)))) v) (all_given given)
+        (subst (λ l. Stands M (suc (went.turns + n)) ((given ++ drop held (take far text)) ++ drop far (take next text)) l v) (append_assoc before went.out (written_by longest.gist (take longest.keep (drop c text)))) h));
   }
 
   -- the sink failed in it
-  pub broke_then : (front : List ℕ) → BeginsWith (written_by told.gist (take told.keep (drop c text))) front → wrote t front u → Broke M wrote s u text held cond0 line0 c next cond line
+  pub broke_then : (front : List ℕ) → BeginsWith (written_by longest.gist (take longest.keep (drop c text))) front → wrote t front u → Broke M wrote s u text held condition0 line0 c next condition line
   broke_then front begins put = record {
     turns = went.turns;
     out = went.out ++ front;
     sink = join s t u went.out front went.sink put;
     before = far;
     few = first;
-    more = far_beyond M laws text bytes c far cond line way told le inside leads tells is;
+    more = far_beyond M laws text bytes c far condition line way longest le inside leads tells is;
     fell = λ n given before taken stack all v b bad.
         subst (λ l. Fell M (went.turns + n) (given ++ drop held (take far text)) (drop far (take next text)) l v Write) (append_assoc before went.out front)
-        (broke M laws text bytes c far cond line way told le inside leads tells is wrote none join t u stack front begins put (went.turns + n) (taken + (far - held)) (given ++ drop held (take far text)) (before ++ went.out)
+        (broke M laws text bytes c far condition line way longest le inside leads tells is wrote none join t u stack front begins put (went.turns + n) (taken + (far - held)) (given ++ drop held (take far text)) (before ++ went.out)
         (went.stand n given before taken stack all) v (record {
           bytes_are = b.bytes_are;
           taken_is = b.taken_is ∙ omega (arith, first);

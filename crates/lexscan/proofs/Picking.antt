@@ -101,7 +101,7 @@ quiet_never (Pop ∷ ss) a b h e =
 module _ {K : Type 0} (M : Machine) (wrote : K → List ℕ → K → Type 0) (none : (s : K) → wrote s [] s) (join : (s t u : K) (xs ys : List ℕ) → wrote s xs t → wrote t ys u → wrote s (xs ++ ys) u) (w : List ℕ) (at : ℕ) where
   pub never_again : (s t : K) (p : Pick) (c : Conditions) (ss : List Statement) (new : ActionState) → NoReject M → p.rule < M.count → ss ≡ M.statements p.rule →
       Carried wrote s t w ss (start_of at p.keep c) new Step.Again → ⊥
-  never_again s t p c ss new quiet below same k = quiet_never ss _ _ (ap has_reject same ∙ quiet p.rule below) (k.acts [])
+  never_again s t p c ss new no_reject below same k = quiet_never ss _ _ (ap has_reject same ∙ no_reject p.rule below) (k.acts [])
 
   -- its action was carried out
   pub picked : (s t : K) (path : List ℕ) (p : Pick) (c : Conditions) (ss : List Statement) (new : ActionState) (step : Step) → (step ≡ Step.Again → ⊥) → IsFirst (falling M 0 path) (Some p) → p.rule < M.count → ss ≡ M.statements p.rule →
@@ -141,8 +141,8 @@ settle_some (Over a e) never = (record { after = a; ended = Some e }, λ f. refl
 -- where no rule has REJECT the first match is carried out, or the default match
 pub picked_takes : (M : Machine) (w : List ℕ) (at : ℕ) (path : List ℕ) (pick : Option Pick) (c : Conditions) → NoReject M → at < length w → IsFirst (falling M 0 path) pick → IfSome pick (λ p. p.rule < M.count) →
     Takes M w at (matches_of M w at path) c (Some (rule_in pick))
-picked_takes M w at path None c quiet lt e known = subst (λ l. Takes M w at (l ++ default_match M.count (drop at w)) c (Some (rule_in None))) (sym e) (Down.takes_default M w at c lt)
-picked_takes M w at path (Some p) c quiet lt (len, rest, e) known =
+picked_takes M w at path None c no_reject lt e known = subst (λ l. Takes M w at (l ++ default_match M.count (drop at w)) c (Some (rule_in None))) (sym e) (Down.takes_default M w at c lt)
+picked_takes M w at path (Some p) c no_reject lt (len, rest, e) known =
     subst (λ l. Takes M w at (l ++ default_match M.count (drop at w)) c (Some (rule_in (Some p)))) (sym e) (record {
       passed = [];
       taken = m;
@@ -162,4 +162,4 @@ picked_takes M w at path (Some p) c quiet lt (len, rest, e) known =
     went : (before : List ℕ) → (o : Matched) × ((f : Scan.Acting → Option Matched) → settle (act (statements_of (rules_of_machine M) p.rule) (acting_of w (start_of at p.keep c) before)) f ≡ Some o)
     went before =
         settle_some (act (statements_of (rules_of_machine M) p.rule) (acting_of w (start_of at p.keep c) before))
-        (λ b. quiet_never (statements_of (rules_of_machine M) p.rule) (acting_of w (start_of at p.keep c) before) b (ap has_reject (statements_are M p.rule known) ∙ quiet p.rule known))
+        (λ b. quiet_never (statements_of (rules_of_machine M) p.rule) (acting_of w (start_of at p.keep c) before) b (ap has_reject (statements_are M p.rule known) ∙ no_reject p.rule known))

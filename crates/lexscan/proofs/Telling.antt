@@ -13,9 +13,9 @@ use Rattle.lex_machine.specs.declared.glance.Gist.TheVariants.{Any, NoRule, Sile
 use Rattle.lex_machine.specs.Glances.{Gists, are_simple}
 use Rattle.lexscan.specs.declared.act.ActionState.{ActionState}
 use Rattle.lexscan.specs.declared.act.Step.{Step}
-use Rattle.lexscan.specs.declared.burst.Told.{Told}
+use Rattle.lexscan.specs.declared.burst.GlancedMatch.{GlancedMatch}
 use Rattle.lexscan.specs.Acts.{acting_of, after_step, said}
-use Rattle.lexscan.specs.Bursts.{all_begun, all_said, begun, is_told, statements_in, NoneAfter, Tells}
+use Rattle.lexscan.specs.Bursts.{all_begun, all_said, begun, names_rule, statements_in, NoneAfter, Tells}
 use Rattle.lexscan.proofs.Growing.{take_one_more}
 
 -- the state after one byte more
@@ -29,10 +29,10 @@ none_more M first bytes few n none last i more le = elim (cases_lt i (n + 1)) [
 ]
 
 -- no rule is accepted after one byte more
-pub tells_none : (M : Machine) (first : ℕ) (bytes : List ℕ) (n : ℕ) (told : Told) → Tells M first bytes n told → M.accepts (walk M first (take (n + 1) bytes)) ≡ [] → Tells M first bytes (n + 1) told
-tells_none M first bytes n told (inl (some, le, none, gist)) last = inl (some, omega (arith, le), none_more M first bytes told.keep n none last, gist)
-tells_none M first bytes n told (inr (inl (one, echo, none))) last = inr (inl (one, echo, none_more M first bytes 0 n none last))
-tells_none M first bytes n told (inr (inr any)) last = inr (inr any)
+pub tells_none : (M : Machine) (first : ℕ) (bytes : List ℕ) (n : ℕ) (longest : GlancedMatch) → Tells M first bytes n longest → M.accepts (walk M first (take (n + 1) bytes)) ≡ [] → Tells M first bytes (n + 1) longest
+tells_none M first bytes n longest (inl (some, le, none, gist)) last = inl (some, omega (arith, le), none_more M first bytes longest.keep n none last, gist)
+tells_none M first bytes n longest (inr (inl (one, echo, none))) last = inr (inl (one, echo, none_more M first bytes 0 n none last))
+tells_none M first bytes n longest (inr (inr any)) last = inr (inr any)
 
 -- this is known of the first rule after the last byte
 pub tells_here : (M : Machine) (first : ℕ) (bytes : List ℕ) (n : ℕ) (gist : Gist) → 1 ≤ n → Gists M (walk M first (take n bytes)) gist → Tells M first bytes n (record { gist = gist; keep = n })
@@ -46,27 +46,27 @@ none_front : (M : Machine) (first : ℕ) (bytes : List ℕ) (few n : ℕ) → No
 none_front M first bytes few n none i more le = subst (λ l. M.accepts (walk M first l) ≡ []) (take-take i n bytes le) (none i more le)
 
 -- what is told of the first bytes alone
-pub tells_front : (M : Machine) (first : ℕ) (bytes : List ℕ) (n : ℕ) (told : Told) → Tells M first (take n bytes) n told → Tells M first bytes n told
-tells_front M first bytes n told (inl (some, le, none, gist)) =
-    inl (some, le, none_front M first bytes told.keep n none, subst (λ l. Gists M (walk M first l) told.gist) (take-take told.keep n bytes le) gist)
-tells_front M first bytes n told (inr (inl (one, echo, none))) = inr (inl (one, echo, none_front M first bytes 0 n none))
-tells_front M first bytes n told (inr (inr any)) = inr (inr any)
+pub tells_front : (M : Machine) (first : ℕ) (bytes : List ℕ) (n : ℕ) (longest : GlancedMatch) → Tells M first (take n bytes) n longest → Tells M first bytes n longest
+tells_front M first bytes n longest (inl (some, le, none, gist)) =
+    inl (some, le, none_front M first bytes longest.keep n none, subst (λ l. Gists M (walk M first l) longest.gist) (take-take longest.keep n bytes le) gist)
+tells_front M first bytes n longest (inr (inl (one, echo, none))) = inr (inl (one, echo, none_front M first bytes 0 n none))
+tells_front M first bytes n longest (inr (inr any)) = inr (inr any)
 
 -- the statements that are told are simple
-pub told_simple : (M : Machine) (s : ℕ) (g : Gist) → is_told g ≡ true → Gists M s g → are_simple (statements_in g) ≡ true
-told_simple M s Any is h = absurd (no is)
+pub gist_simple : (M : Machine) (s : ℕ) (g : Gist) → names_rule g ≡ true → Gists M s g → are_simple (statements_in g) ≡ true
+gist_simple M s Any is h = absurd (no is)
   where
     no : false ≡ true → ⊥
     no e = cc
-told_simple M s NoRule is h = absurd (no is)
+gist_simple M s NoRule is h = absurd (no is)
   where
     no : false ≡ true → ⊥
     no e = cc
-told_simple M s Silent is h = refl
-told_simple M s Echo is h = refl
-told_simple M s (Print bytes) is h = refl
-told_simple M s (Begin c) is h = refl
-told_simple M s (Several ss) is h = h.0
+gist_simple M s Silent is h = refl
+gist_simple M s Echo is h = refl
+gist_simple M s (Print bytes) is h = refl
+gist_simple M s (Begin c) is h = refl
+gist_simple M s (Several ss) is h = h.0
 
 not_simple : {P : Type 0} → false ≡ true → P
 not_simple e = absurd (no e)

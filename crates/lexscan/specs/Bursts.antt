@@ -8,7 +8,7 @@ use Rattle.lexscan.specs.declared.state.State.{State}
 use Rattle.lexscan.specs.declared.error.RunError.{RunError}
 use Rattle.lexscan.specs.declared.error.RunError.TheVariants.{Write}
 use Rattle.lexscan.specs.declared.burst.Burst.{Burst}
-use Rattle.lexscan.specs.declared.burst.Told.{Told}
+use Rattle.lexscan.specs.declared.burst.GlancedMatch.{GlancedMatch}
 use Rattle.lex_machine.specs.Glances.{Gists}
 use Rattle.lex_machine.specs.Views.{statement_of}
 use Rattle.lexscan.specs.Acts.{said}
@@ -24,10 +24,10 @@ statements_in (Several ss) = map statement_of ss.now
 statements_in other = []
 
 -- whether anything is told
-abbrev pub is_told : Gist → Bool
-is_told Any = false
-is_told NoRule = false
-is_told other = true
+abbrev pub names_rule : Gist → Bool
+names_rule Any = false
+names_rule NoRule = false
+names_rule other = true
 
 -- the condition after a statement that changes no stack (flex, Actions: BEGIN)
 abbrev pub begun : S.Statement → ℕ → ℕ
@@ -105,11 +105,11 @@ NoneAfter M first bytes few many = (i : ℕ) → few < i → i ≤ many → M.ac
 
 -- What is told of the match of the first bytes, so many of them: by the state after the longest part of them after which a rule is
 -- accepted; or that the default rule writes one byte (POSIX, lex, Rules: unmatched input is copied); or nothing.
-abbrev pub Tells : Machine → ℕ → List ℕ → ℕ → Told → Type 0
-Tells M first bytes count told =
-    ((1 ≤ told.keep) × (told.keep ≤ count) × NoneAfter M first bytes told.keep count × Gists M (walk M first (take told.keep bytes)) told.gist)
-    ⊎ ((told.keep ≡ 1) × (told.gist ≡ Echo) × NoneAfter M first bytes 0 count)
-    ⊎ (told.gist ≡ Any)
+abbrev pub Tells : Machine → ℕ → List ℕ → ℕ → GlancedMatch → Type 0
+Tells M first bytes count longest =
+    ((1 ≤ longest.keep) × (longest.keep ≤ count) × NoneAfter M first bytes longest.keep count × Gists M (walk M first (take longest.keep bytes)) longest.gist)
+    ⊎ ((longest.keep ≡ 1) × (longest.gist ≡ Echo) × NoneAfter M first bytes 0 count)
+    ⊎ (longest.gist ≡ Any)
 
 abbrev pub fault_of : Bool → ℕ
 fault_of true = 1

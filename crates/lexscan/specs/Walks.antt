@@ -1,9 +1,9 @@
 -- What a walk of a machine over bytes did.
-use Rattle.std.specs.Prelude.{◌≡◌, ℕ, ◌+◌, ◌-◌, ◌≤◌, ◌<◌, Bool, true, false, List, ◌++◌, length, take}
+use Rattle.std.specs.Prelude.{◌≡◌, ℕ, ◌-◌, ◌≤◌, ◌<◌, Bool, true, false, List, ◌++◌, length, take}
 use Rattle.lex_semantics.specs.Text.{IsText}
 use Rattle.lex_semantics.specs.Machine.{Machine, walk}
 use Rattle.lexscan.specs.declared.walk.Stop.{Stop}
-use Rattle.lexscan.specs.declared.walk.Stop.TheVariants.{Done, Full, End}
+use Rattle.lexscan.specs.declared.walk.Stop.TheVariants.{Done, End}
 use Rattle.lexscan.specs.declared.walk.Walk.{Walk}
 use Rattle.lexscan.specs.declared.state.Reading.{Reading}
 

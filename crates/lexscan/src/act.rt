@@ -140,11 +140,9 @@ pub fn carry_out<K: Sink>(
         (map statement_of statements.now) acting.old) }
 {
     for statement in statements {
-        match carry_one(outlet, window, statement, acting) {
-            Err(e) => return Err(e),
-            Ok(Step::Next) => {}
-            Ok(Step::Again) => return Ok(Step::Again),
-            Ok(Step::Over(finish)) => return Ok(Step::Over(finish)),
+        match carry_one(outlet, window, statement, acting)? {
+            Step::Next => {}
+            stop => return Ok(stop),
         }
     }
     Ok(Step::Next)

@@ -66,7 +66,8 @@ fn attempt<M: Machine, S: Source, K: Sink>(
         outlet.old.sink.now outlet.new.sink.now state.old state.new result }
     ensures ends { S.ends intake.new.source.now ≡
         S.ends intake.old.source.now + end_step state.old.reading.at_end state.new.reading.at_end }
-    ensures read_faults { S.failures intake.new.source.now ≡ S.failures intake.old.source.now + read_fault_count result }
+    ensures read_faults { S.failures intake.new.source.now ≡
+        S.failures intake.old.source.now + read_fault_count result }
     ensures write_faults { K.failures outlet.new.sink.now ≡ K.failures outlet.old.sink.now + write_fault_count result }
     ensures max_reads { state.new.reading.max_reads ≡ state.old.reading.max_reads }
     ensures handed_on { HandedOnIfMade (K.flushed outlet.new.sink.now) result }
@@ -163,7 +164,8 @@ fn turns_over<M: Machine, S: Source, K: Sink>(
         outlet.old.sink.now outlet.new.sink.now state.old state.new result }
     ensures ends { S.ends intake.new.source.now ≡
         S.ends intake.old.source.now + end_step false state.new.reading.at_end }
-    ensures read_faults { S.failures intake.new.source.now ≡ S.failures intake.old.source.now + read_fault_count result }
+    ensures read_faults { S.failures intake.new.source.now ≡
+        S.failures intake.old.source.now + read_fault_count result }
     ensures write_faults { K.failures outlet.new.sink.now ≡ K.failures outlet.old.sink.now + write_fault_count result }
     ensures max_reads { state.new.reading.max_reads ≡ state.old.reading.max_reads }
     ensures handed_on { HandedOn (K.flushed outlet.new.sink.now) result }
@@ -180,15 +182,11 @@ fn turns_over<M: Machine, S: Source, K: Sink>(
     let mut stack = Stack::new();
     let mut most = MOST_SHOWN;
     'turns: loop {
-        match go_further_unless_behind(machine, intake, outlet, state, most) {
-            Err(refused) => return Err(refused),
-            Ok(next) => most = next,
-        }
-        match attempt(machine, intake, outlet, path, memo, state, &mut stack) {
-            Err(e) => return Err(e),
-            Ok(None) => return Ok(Turn::Went),
-            Ok(Some(Turn::Ended(status))) => return Ok(Turn::Ended(status)),
-            Ok(Some(Turn::Went)) => {}
+        most = go_further_unless_behind(machine, intake, outlet, state, most)?;
+        match attempt(machine, intake, outlet, path, memo, state, &mut stack)? {
+            None => return Ok(Turn::Went),
+            Some(Turn::Ended(status)) => return Ok(Turn::Ended(status)),
+            Some(Turn::Went) => {}
         }
     }
 }

@@ -7,7 +7,7 @@ ghost use Rattle.lexscan.specs.Reads.{write_fault_count};
 ghost use Rattle.lexscan.specs.Ends.{SinkLeft};
 ghost use Rattle.lex_machine.specs.Views.{statement_of};
 ghost use Rattle.lexscan.specs.Acts.{said};
-ghost use Rattle.lexscan.specs.Bursts.{is_told, begun, all_said, all_begun, condition_after, written_by, starts_line, Tells, BurstsBy, fault_of};
+ghost use Rattle.lexscan.specs.Bursts.{names_rule, begun, all_said, all_begun, condition_after, written_by, starts_line, Tells, BurstsBy, fault_of};
 
 use crate::act::put;
 use crate::error::RunError;
@@ -29,7 +29,7 @@ pub struct Burst {
 
 /// The rule of a match, told at a glance, and how many bytes it keeps.
 #[derive(Clone, Copy)]
-struct Told<'m> {
+struct GlancedMatch<'m> {
     gist: Gist<'m>,
     keep: usize,
 }
@@ -40,12 +40,12 @@ const FEW: usize = 128;
 /// What is told of the match of a walk that is gone over again: by the last state that accepts a rule, or else of the default
 /// rule, which writes one byte.
 #[inline(never)]
-fn told_again<'m, M: Machine>(machine: &'m M, first: u32, bytes: &[u8]) -> Told<'m>
+fn longest_match_again<'m, M: Machine>(machine: &'m M, first: u32, bytes: &[u8]) -> GlancedMatch<'m>
     requires first { first < M.states machine.now }
     ensures { Tells (M.machine machine.now) first bytes.now (length bytes.now) result }
 {
     let mut state = first;
-    let mut told = Told {
+    let mut longest = GlancedMatch {
         gist: Gist::Echo,
         keep: 1,
     };
@@ -55,23 +55,28 @@ fn told_again<'m, M: Machine>(machine: &'m M, first: u32, bytes: &[u8]) -> Told<
         count += 1;
         let gist = machine.gist(state);
         if !matches!(gist, Gist::NoRule) {
-            told = Told { gist, keep: count };
+            longest = GlancedMatch { gist, keep: count };
         }
     }
-    told
+    longest
 }
 
 /// What is told of the match of a walk: by its last state, by the one before it, or, where it is a short one, by going over it
 /// again.
 #[inline(always)]
-fn told_of<'m, M: Machine>(machine: &'m M, first: u32, bytes: &[u8], way: Way<'m>) -> Told<'m>
+fn longest_match<'m, M: Machine>(
+    machine: &'m M,
+    first: u32,
+    bytes: &[u8],
+    way: Way<'m>,
+) -> GlancedMatch<'m>
     requires first { first < M.states machine.now }
     requires known_before { way.before < M.states machine.now }
     requires leads { Leads (M.machine machine.now) first bytes.now way }
     ensures { Tells (M.machine machine.now) first bytes.now way.entry.count result }
 {
     if !matches!(way.gist, Gist::NoRule) {
-        return Told {
+        return GlancedMatch {
             gist: way.gist,
             keep: way.count,
         };
@@ -79,22 +84,22 @@ fn told_of<'m, M: Machine>(machine: &'m M, first: u32, bytes: &[u8], way: Way<'m
     if 1 < way.count {
         let gist = machine.gist(way.before);
         if !matches!(gist, Gist::NoRule) {
-            return Told {
+            return GlancedMatch {
                 gist,
                 keep: way.count - 1,
             };
         }
         if FEW < way.count {
-            return Told {
+            return GlancedMatch {
                 gist: Gist::Any,
                 keep: way.count,
             };
         }
         if 2 < way.count {
-            return told_again(machine, first, &bytes[..way.count]);
+            return longest_match_again(machine, first, &bytes[..way.count]);
         }
     }
-    Told {
+    GlancedMatch {
         gist: Gist::Echo,
         keep: 1,
     }
@@ -121,8 +126,8 @@ fn silent_part<M: Machine>(machine: &M, way: Way<'_>) -> Option<usize>
 
 /// Whether a rule is told.
 #[inline(always)]
-fn knows(gist: Gist<'_>) -> bool
-    ensures { result ≡ is_told gist.entry }
+fn names_rule(gist: Gist<'_>) -> bool
+    ensures { result ≡ names_rule gist.entry }
 {
     !matches!(gist, Gist::Any | Gist::NoRule)
 }
@@ -144,10 +149,7 @@ fn do_several<K: Sink>(
 {
     let mut after = condition;
     for statement in statements {
-        match do_one(outlet, statement, text, after) {
-            Err(e) => return Err(e),
-            Ok(next) => after = next,
-        }
+        after = do_one(outlet, statement, text, after)?;
     }
     Ok(after)
 }
@@ -269,13 +271,13 @@ pub fn burst_over<M: Machine, K: Sink>(
             rest = &rest[keep..];
             continue 'turns;
         }
-        let told = told_of(machine, first, rest, way);
-        if !knows(told.gist) {
+        let longest = longest_match(machine, first, rest, way);
+        if !names_rule(longest.gist) {
             break 'turns;
         }
         unasked = unasked.min(rest.len() - way.count);
-        let said = &rest[..told.keep];
-        match do_gist(outlet, told.gist, said, condition) {
+        let said = &rest[..longest.keep];
+        match do_gist(outlet, longest.gist, said, condition) {
             Err(_) => {
                 let done = text.len() - rest.len();
                 return Burst {
@@ -288,8 +290,8 @@ pub fn burst_over<M: Machine, K: Sink>(
             }
             Ok(after) => condition = after,
         }
-        first = machine.start(condition, said[told.keep - 1] == b'\n');
-        rest = &rest[told.keep..];
+        first = machine.start(condition, said[longest.keep - 1] == b'\n');
+        rest = &rest[longest.keep..];
     }
     let done = text.len() - rest.len();
     Burst {

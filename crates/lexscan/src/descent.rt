@@ -17,7 +17,7 @@ use lex_io::Sink;
 use lex_machine::{Cut, Machine};
 
 /// What a cut keeps of a match of this many bytes, if it fits.
-pub fn kept(cut: Cut, len: usize) -> Option<usize>
+pub fn kept_length(cut: Cut, len: usize) -> Option<usize>
     ensures keep { result ≡ kept_by (cut_of cut) len }
     ensures short { IfSome result (λ keep. keep ≤ len) }
 {
@@ -69,16 +69,14 @@ fn try_rules<M: Machine, K: Sink>(
     let held = window.len();
     for rule in rules {
         let (cut, statements) = machine.rule(*rule);
-        if let Some(keep) = kept(cut, len) {
+        if let Some(keep) = kept_length(cut, len) {
             prove!(keep <= held - at);
             acting.end = at + keep;
             acting.more = false;
             *matched = Some(MatchedRule::Numbered(*rule));
-            match carry_out(outlet, window, statements, acting) {
-                Err(e) => return Err(e),
-                Ok(Step::Next) => return Ok(Step::Next),
-                Ok(Step::Again) => {}
-                Ok(Step::Over(finish)) => return Ok(Step::Over(finish)),
+            match carry_out(outlet, window, statements, acting)? {
+                Step::Again => {}
+                stop => return Ok(stop),
             }
         }
     }
@@ -111,7 +109,8 @@ pub fn descend<M: Machine, K: Sink>(
         (matches_of (M.machine machine.now) window.now.bytes at path.now.states)
         (conditions_of acting.old) acting.new (finished_of ended)) }
     ensures takes { OnOk result (Takes (M.machine machine.now) window.now.bytes at
-        (matches_of (M.machine machine.now) window.now.bytes at path.now.states) (conditions_of acting.old) matched.new) }
+        (matches_of (M.machine machine.now) window.now.bytes at path.now.states) (conditions_of acting.old)
+        matched.new) }
     ensures cut_off { OnErr result (CutAll (M.machine machine.now)
         K.wrote outlet.old.sink.now outlet.new.sink.now window.now.bytes at
         (matches_of (M.machine machine.now) window.now.bytes at path.now.states) (conditions_of acting.old)) }
@@ -119,11 +118,10 @@ pub fn descend<M: Machine, K: Sink>(
     let mut len = path.len();
     'lengths: while 0 < len {
         let rules = machine.accepts(path.state(len - 1));
-        match try_rules(machine, outlet, window, rules, at, len, acting, matched) {
-            Err(e) => return Err(e),
-            Ok(Step::Next) => return Ok(None),
-            Ok(Step::Again) => {}
-            Ok(Step::Over(finish)) => return Ok(Some(finish)),
+        match try_rules(machine, outlet, window, rules, at, len, acting, matched)? {
+            Step::Next => return Ok(None),
+            Step::Again => {}
+            Step::Over(finish) => return Ok(Some(finish)),
         }
         len -= 1;
     }

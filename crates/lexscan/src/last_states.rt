@@ -118,10 +118,7 @@ pub fn look_ahead_more<M: Machine, S: Source, K: Sink>(
 {
     let mut now = ahead;
     'fills: while !reading.at_end {
-        let walk = match fill(machine, intake, outlet, reading, now.state) {
-            Err(e) => return Err(e),
-            Ok(walk) => walk,
-        };
+        let walk = fill(machine, intake, outlet, reading, now.state)?;
         now = LookAhead {
             reach: reading.window.len() - place.at,
             state: walk.state,

@@ -51,10 +51,8 @@ pub fn look_ahead<M: Machine, S: Source, K: Sink>(
         if 0 < len && !machine.goes_on(state) {
             return Ok(true);
         }
-        match fetch(intake, outlet, reading, path, next) {
-            Err(e) => return Err(e),
-            Ok(false) => return Ok(0 < len),
-            Ok(true) => {}
+        if !fetch(intake, outlet, reading, path, next)? {
+            return Ok(0 < len);
         }
         state = machine.step(state, reading.window.byte(next));
         path.push(state);

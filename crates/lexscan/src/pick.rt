@@ -10,7 +10,7 @@ ghost use Rattle.lexscan.specs.Descends.{matches_of, CutAll, Performed, conditio
 ghost use Rattle.lexscan.specs.Picks.{IsFirst, IsLongest, HasStatements, Tells, path_of};
 
 use crate::act::{ActionState, Finish, Step, carry_out, put};
-use crate::descent::kept;
+use crate::descent::kept_length;
 use crate::error::RunError;
 use crate::intake::Outlet;
 use crate::state::TextPlace;
@@ -50,7 +50,7 @@ pub fn first_candidate<'m, M: Machine>(
 {
     for rule in rules {
         let (cut, statements) = machine.rule(*rule);
-        if let Some(keep) = kept(cut, len) {
+        if let Some(keep) = kept_length(cut, len) {
             return Some(Pick {
                 rule: *rule,
                 keep,
@@ -135,7 +135,7 @@ pub fn carry_pick<M: Machine, K: Sink>(
     acting: &mut ActionState,
 ) -> Result<Option<Finish>, RunError>
     requires live { outlet.old.live ≡ true }
-    requires quiet { NoReject (M.machine machine.now) }
+    requires no_reject { NoReject (M.machine machine.now) }
     requires inside { place.at + reach ≤ length window.now.bytes }
     requires some { 1 ≤ reach }
     requires longest { IsLongest (M.machine machine.now) place window.now.bytes reach pick }

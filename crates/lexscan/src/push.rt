@@ -1,5 +1,6 @@
 //! A scan that is fed its input piece by piece.
 ghost use Rattle.std.specs.Prelude.{◌≡◌, ℕ, ◌+◌, ◌-◌, ◌^◌, ◌<◌, ◌≤◌, List, [], ◌++◌, length, drop, vec_len, vec_capacity, true, false, None, Some, Ok, Err, OnErr, IfSome, IfNone, IsErrOf};
+ghost use Rattle.std.specs.Coded.{→_prop};
 ghost use Rattle.lex_semantics.specs.Machine.{rules_of_machine};
 ghost use Rattle.lex_semantics.specs.Text.{AllBelow};
 ghost use Rattle.lexscan.specs.Memos.{AreTrue, AreTrue-prop};
@@ -174,10 +175,14 @@ pub struct PushScanner<M: Machine> {
     ghost reading: { state.failed ≡ false → state.ended ≡ None → state.reading.at_end ≡ false },
     ghost condition: { state.place.condition < (M.machine machine).conditions },
     ghost inside: { state.place.at ≤ length state.reading.window.bytes },
-    ghost stack: { state.failed ≡ false → AllBelow (M.machine machine).conditions state.acting.stack } by { λ x y. λ k. λ e. AllBelow-prop (M.machine machine).conditions state.acting.stack (x e) (y e) k },
-    ghost marks: { state.failed ≡ false → AreTrue (M.machine machine) state.reading memo } by { λ x y. λ k. λ e. AreTrue-prop (M.machine machine) state.reading memo (x e) (y e) k },
-    ghost stood: { state.failed ≡ false → Standing (M.machine machine) state } by { λ x y. λ k. λ e. Standing-prop (M.machine machine) state (x e) (y e) k },
-    ghost asking_more: { IsAsking (M.machine machine) (M.states machine) state waiting.items asking } by { λ x y. IsAsking-prop (M.machine machine) (M.states machine) state waiting.items asking x y },
+    ghost stack: { state.failed ≡ false → AllBelow (M.machine machine).conditions state.acting.stack } by { →_prop
+        (AllBelow-prop (M.machine machine).conditions state.acting.stack) },
+    ghost marks: { state.failed ≡ false → AreTrue (M.machine machine) state.reading memo } by { →_prop
+        (AreTrue-prop (M.machine machine) state.reading memo) },
+    ghost stood: { state.failed ≡ false → Standing (M.machine machine) state } by { →_prop
+        (Standing-prop (M.machine machine) state) },
+    ghost asking_more: { IsAsking (M.machine machine) (M.states machine) state waiting.items asking } by { IsAsking-prop
+        (M.machine machine) (M.states machine) state waiting.items asking },
 }
 
 impl<M: Machine> PushScanner<M> {

@@ -1,5 +1,6 @@
 //! A scanner.
 ghost use Rattle.std.specs.Prelude.{◌≡◌, ℕ, ◌+◌, ◌-◌, ◌^◌, ◌<◌, ◌≤◌, List, [], ◌++◌, length, true, false, Some, None, Ok, Err, IfSome, IsErrOf};
+ghost use Rattle.std.specs.Coded.{→_prop};
 ghost use Rattle.lex_semantics.specs.Text.{AllBelow};
 ghost use Rattle.lexscan.specs.Answer.{end_read};
 ghost use Rattle.lexscan.specs.Reads.{read_fault_count, write_fault_count, end_step};
@@ -33,8 +34,10 @@ pub struct Scanner<'a, M: Machine, S: Source, K: Sink> {
     ghost may_write: { state.failed ≡ false → outlet.live ≡ true },
     ghost condition: { state.place.condition < (M.machine machine.now).conditions },
     ghost inside: { state.place.at ≤ length state.reading.window.bytes },
-    ghost stack: { state.failed ≡ false → AllBelow (M.machine machine.now).conditions state.acting.stack } by { λ x y. λ k. λ e. AllBelow-prop (M.machine machine.now).conditions state.acting.stack (x e) (y e) k },
-    ghost marks: { state.failed ≡ false → AreTrue (M.machine machine.now) state.reading memo } by { λ x y. λ k. λ e. AreTrue-prop (M.machine machine.now) state.reading memo (x e) (y e) k },
+    ghost stack: { state.failed ≡ false → AllBelow (M.machine machine.now).conditions state.acting.stack } by { →_prop
+        (AllBelow-prop (M.machine machine.now).conditions state.acting.stack) },
+    ghost marks: { state.failed ≡ false → AreTrue (M.machine machine.now) state.reading memo } by { →_prop
+        (AreTrue-prop (M.machine machine.now) state.reading memo) },
 }
 
 impl<'a, M: Machine, S: Source, K: Sink> Scanner<'a, M, S, K> {

@@ -9,7 +9,7 @@ use std::marker::Model;
 /// The conditions that pushes have put there, in an array of fixed capacity.
 #[derive(Drop)]
 pub struct Stack {
-    kept: ArrayVec<u8, MAX_STACK>,
+    conditions: ArrayVec<u8, MAX_STACK>,
 }
 
 impl Model for Stack {
@@ -18,7 +18,7 @@ impl Model for Stack {
     ghost Value = { List ℕ };
 
     // from the top down
-    ghost view = { λ s. reverse s.kept.items };
+    ghost view = { λ s. reverse s.conditions.items };
 }
 
 impl Stack {
@@ -27,7 +27,7 @@ impl Stack {
         ensures { result ≡ [] }
     {
         Stack {
-            kept: ArrayVec::new(),
+            conditions: ArrayVec::new(),
         }
     }
 
@@ -37,10 +37,10 @@ impl Stack {
         ensures top { result ≡ true → self.new ≡ condition ∷ self.old }
         ensures full { result ≡ false → self.new ≡ self.old }
     {
-        if self.kept.is_full() {
+        if self.conditions.is_full() {
             return false;
         }
-        self.kept.push(condition);
+        self.conditions.push(condition);
         true
     }
 
@@ -48,9 +48,11 @@ impl Stack {
     pub fn copy_from(&mut self, other: &Stack)
         ensures { self.new ≡ other.now }
     {
-        self.kept.clear();
-        if !other.kept.is_empty() {
-            let _ = self.kept.try_extend_from_slice(other.kept.as_slice());
+        self.conditions.clear();
+        if !other.conditions.is_empty() {
+            let _ = self
+                .conditions
+                .try_extend_from_slice(other.conditions.as_slice());
         }
     }
 
@@ -60,6 +62,6 @@ impl Stack {
         ensures empty { IfNone result (self.old ≡ []) }
         ensures unchanged { IfNone result (self.new ≡ self.old) }
     {
-        self.kept.pop()
+        self.conditions.pop()
     }
 }

@@ -164,7 +164,7 @@ fn carry_turn<M: Machine, K: Sink>(
     pick: Option<Pick<'_>>,
 ) -> Result<Turn, RunError>
     requires live { outlet.old.live ≡ true }
-    requires quiet { NoReject (M.machine machine.now) }
+    requires no_reject { NoReject (M.machine machine.now) }
     requires place { state.old.place.at + reach ≤ length state.old.reading.window.bytes }
     requires some { 1 ≤ reach }
     requires longest { IsLongest (M.machine machine.now) state.old.place state.old.reading.window.bytes reach pick }
@@ -207,7 +207,7 @@ fn far_turn<M: Machine, K: Sink>(
     reach: usize,
 ) -> Result<Turn, RunError>
     requires live { outlet.old.live ≡ true }
-    requires quiet { NoReject (M.machine machine.now) }
+    requires no_reject { NoReject (M.machine machine.now) }
     requires condition { state.old.place.condition < (M.machine machine.now).conditions }
     requires place { state.old.place.at + reach ≤ length state.old.reading.window.bytes }
     requires some { 1 ≤ reach }
@@ -231,7 +231,7 @@ fn last_turn<M: Machine, K: Sink>(
     ahead: LookAhead,
 ) -> Result<Turn, RunError>
     requires live { outlet.old.live ≡ true }
-    requires quiet { NoReject (M.machine machine.now) }
+    requires no_reject { NoReject (M.machine machine.now) }
     requires condition { state.old.place.condition < (M.machine machine.now).conditions }
     requires tells { Tells (M.machine machine.now) (M.states machine.now) state.old.place
         state.old.reading.window.bytes ahead }
@@ -325,7 +325,7 @@ fn go_without_reject<M: Machine, S: Source, K: Sink>(
     outlet: &mut Outlet<'_, K>,
     state: &mut State,
 ) -> Result<Turn, RunError>
-    requires quiet { NoReject (M.machine machine.now) }
+    requires no_reject { NoReject (M.machine machine.now) }
     requires ready { MayMove (M.machine machine.now) intake.old.live outlet.old.live state.old }
     requires inside { state.old.place.at ≤ length state.old.reading.window.bytes }
 
@@ -354,7 +354,7 @@ fn go_past<M: Machine, S: Source, K: Sink>(
     state: &mut State,
     ahead: LookAhead,
 ) -> Result<Turn, RunError>
-    requires quiet { NoReject (M.machine machine.now) }
+    requires no_reject { NoReject (M.machine machine.now) }
     requires ready { MayMove (M.machine machine.now) intake.old.live outlet.old.live state.old }
     requires open { IsOpen (M.machine machine.now) (M.states machine.now) state.old.place state.old.reading ahead }
 
@@ -383,7 +383,7 @@ fn go_over<M: Machine, S: Source, K: Sink>(
     memo: &mut Memo,
     state: &mut State,
 ) -> Result<Turn, RunError>
-    requires quiet { NoReject (M.machine machine.now) }
+    requires no_reject { NoReject (M.machine machine.now) }
     requires ready { MayMove (M.machine machine.now) intake.old.live outlet.old.live state.old }
     requires inside { state.old.place.at < length state.old.reading.window.bytes }
     requires marks { AreTrue (M.machine machine.now) state.old.reading memo.old }
@@ -422,7 +422,7 @@ fn go_back<M: Machine, S: Source, K: Sink>(
     memo: &mut Memo,
     state: &mut State,
 ) -> Result<Turn, RunError>
-    requires quiet { NoReject (M.machine machine.now) }
+    requires no_reject { NoReject (M.machine machine.now) }
     requires ready { MayMove (M.machine machine.now) intake.old.live outlet.old.live state.old }
     requires inside { state.old.place.at < length state.old.reading.window.bytes }
     requires marks { AreTrue (M.machine machine.now) state.old.reading memo.old }
@@ -490,7 +490,7 @@ pub fn turn_without_reject<M: Machine, S: Source, K: Sink>(
     outlet: &mut Outlet<'_, K>,
     state: &mut State,
 ) -> Result<Turn, RunError>
-    requires quiet { NoReject (M.machine machine.now) }
+    requires no_reject { NoReject (M.machine machine.now) }
     requires working { state.old.failed ≡ false }
     requires going { state.old.ended ≡ None }
     requires ready { MayTurn (M.machine machine.now) intake.old.live outlet.old.live state.old }
@@ -532,7 +532,7 @@ pub fn back_turn<M: Machine, S: Source, K: Sink>(
     memo: &mut Memo,
     state: &mut State,
 ) -> Result<Turn, RunError>
-    requires quiet { NoReject (M.machine machine.now) }
+    requires no_reject { NoReject (M.machine machine.now) }
     requires working { state.old.failed ≡ false }
     requires going { state.old.ended ≡ None }
     requires ready { MayTurn (M.machine machine.now) intake.old.live outlet.old.live state.old }

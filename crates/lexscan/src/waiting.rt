@@ -90,7 +90,8 @@ impl Source for Waiting<'_> {
 
     ghost gave_none = { λ s. gives-none (bytes_left s) s.ends };
 
-    ghost gave_more = { λ s t u xs ys p q. gives-more (bytes_left s) (bytes_left t) (bytes_left u) s.ends t.ends u.ends xs ys p q };
+    ghost gave_more = { λ s t u xs ys p q. gives-more (bytes_left s) (bytes_left t) (bytes_left u)
+        s.ends t.ends u.ends xs ys p q };
 
     ghost none_ready = { λ s. never-waits s.rest.now };
 

@@ -123,14 +123,10 @@ fn run_with_reject<M: Machine, S: Source, K: Sink>(
 {
     let mut most = MOST_SHOWN;
     'turns: loop {
-        match go_further(machine, intake, outlet, state, most) {
-            Err(refused) => return Err(refused),
-            Ok(next) => most = next,
-        }
-        match turn_with_reject(machine, intake, outlet, path, state) {
-            Err(e) => return Err(e),
-            Ok(Turn::Ended(status)) => return Ok(status),
-            Ok(Turn::Went) => {}
+        most = go_further(machine, intake, outlet, state, most)?;
+        match turn_with_reject(machine, intake, outlet, path, state)? {
+            Turn::Ended(status) => return Ok(status),
+            Turn::Went => {}
         }
     }
 }
@@ -144,7 +140,7 @@ fn run_without_reject<M: Machine, S: Source, K: Sink>(
     memo: &mut Memo,
     state: &mut State,
 ) -> Result<u8, RunError>
-    requires quiet { NoReject (M.machine machine.now) }
+    requires no_reject { NoReject (M.machine machine.now) }
     requires start { Stands (M.machine machine.now) 0 [] [] state.old }
     requires going { state.old.ended ≡ None }
     requires reading { state.old.reading.at_end ≡ false }
@@ -166,20 +162,15 @@ fn run_without_reject<M: Machine, S: Source, K: Sink>(
     let mut most = MOST_SHOWN;
     'turns: loop {
         if has_backlog(state) {
-            match back_turn(machine, intake, outlet, memo, state) {
-                Err(e) => return Err(e),
-                Ok(Turn::Ended(status)) => return Ok(status),
-                Ok(Turn::Went) => {}
+            match back_turn(machine, intake, outlet, memo, state)? {
+                Turn::Ended(status) => return Ok(status),
+                Turn::Went => {}
             }
         } else {
-            match go_further(machine, intake, outlet, state, most) {
-                Err(refused) => return Err(refused),
-                Ok(next) => most = next,
-            }
-            match turn_without_reject(machine, intake, outlet, state) {
-                Err(e) => return Err(e),
-                Ok(Turn::Ended(answer)) => return Ok(answer),
-                Ok(Turn::Went) => {}
+            most = go_further(machine, intake, outlet, state, most)?;
+            match turn_without_reject(machine, intake, outlet, state)? {
+                Turn::Ended(status) => return Ok(status),
+                Turn::Went => {}
             }
         }
     }

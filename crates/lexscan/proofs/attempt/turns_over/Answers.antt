@@ -1,4 +1,5 @@
 use Rattle.std.proofs.Common.{◌≡◌, ℕ, ◌+◌, ◌<◌, ◌≤◌, false, List, [], ◌++◌, refl, sym, ap, subst, ◌∙◌, append_assoc, append-nil, arith}
+use Rattle.std.proofs.lemmas.Result.{err_from_is_err_and}
 use Rattle.lex_semantics.specs.Machine.{Machine}
 use Rattle.lexscan.specs.Reads.{end_step}
 use Rattle.lexscan.specs.Stands.{Stands}
@@ -30,11 +31,13 @@ turns-init g c =
       write_faults = refl;
     }
 
-pub returns-in-Err-clause-ran : goal.returns-in-Err-clause-ran
-returns-in-Err-clause-ran g c =
+pub returns-in_err-most-clause-ran : goal.returns-in_err-most-clause-ran
+returns-in_err-most-clause-ran g c =
     let M = g.M.Machine.machine c.args.machine.now in
     let on = c.turns.invariant.onward in
-    let m = c.in-Err.ensures.goes_on in (
+    let m = c.in_err-most.ensures.goes_on in
+    let p = err_from_is_err_and c.from_residual.result c.from_residual.ensures.1 in
+    rw (p.1, p.2) (
       on.got ++ m.0,
       on.put ++ m.1,
       c.go_further_unless_behind.new.intake.source.now,
@@ -46,27 +49,30 @@ returns-in-Err-clause-ran g c =
         on.got ++ m.5.1,
         m.5.2,
         ap (λ l. on.got ++ l) m.5.3 ∙ sym (append_assoc on.got m.5.1 m.5.2),
-        Push.fell_after M c.args.state.now c.turns.state c.go_further_unless_behind.new.state c.in-Err.refused on.turns m.5.0 on.got on.put m.5.1 m.5.2 m.1 on.made m.5.4,
+        Push.fell_after M c.args.state.now c.turns.state c.go_further_unless_behind.new.state c.in_err-most.field-0.0 on.turns m.5.0 on.got on.put m.5.1 m.5.2 m.1 on.made m.5.4,
       ),
     )
 
-pub returns-in-Err-clause-failed : goal.returns-in-Err-clause-failed
-returns-in-Err-clause-failed g c =
+pub returns-in_err-most-clause-failed : goal.returns-in_err-most-clause-failed
+returns-in_err-most-clause-failed g c =
     let inv = c.turns.invariant in
-    let m = c.in-Err.ensures.goes_on in
-    Push.certain_true c.go_further_unless_behind.new.state.failed (λ denied. inv.stood (λ n given out h. denied (let fell = m.5.4 n given out h in fell.failed)))
+    let m = c.in_err-most.ensures.goes_on in
+    let p = err_from_is_err_and c.from_residual.result c.from_residual.ensures.1 in
+    rw p.1 (Push.certain_true c.go_further_unless_behind.new.state.failed (λ denied. inv.stood (λ n given out h. denied (let fell = m.5.4 n given out h in fell.failed))))
 
 pub attempt-requires-clause-stood : goal.attempt-requires-clause-stood
 attempt-requires-clause-stood g c =
-    let k = c.in-Ok.ensures.goes_on in
+    let k = c.in_ok-most.ensures.goes_on in
     Push.standing_on (g.M.Machine.machine c.args.machine.now) c.turns.state c.go_further_unless_behind.new.state k.5.0 k.0 k.1 c.turns.invariant.stood k.5.1
 
-pub returns-in-Err-attempt-clause-ran : goal.returns-in-Err-attempt-clause-ran
-returns-in-Err-attempt-clause-ran g c =
+pub returns-in_err-attempt-clause-ran : goal.returns-in_err-attempt-clause-ran
+returns-in_err-attempt-clause-ran g c =
     let M = g.M.Machine.machine c.args.machine.now in
-    let k = c.in-Ok.ensures.goes_on in
+    let k = c.in_ok-most.ensures.goes_on in
     let on = Push.onward_more M g.S.Source.gave g.K.Sink.wrote g.met.S.Source.gave_more g.met.K.Sink.wrote_more _ _ _ _ _ _ c.args.state.now c.turns.state c.go_further_unless_behind.new.state k.5.0 k.0 k.1 c.turns.invariant.onward k.2 k.3 k.5.1 in
-    let m = c.in-Err-attempt.ensures.attempts in (
+    let m = c.in_err-attempt.ensures.attempts in
+    let p = err_from_is_err_and c.from_residual-in_err-attempt.result c.from_residual-in_err-attempt.ensures.1 in
+    rw (p.1, p.2) (
       on.got ++ m.0,
       on.put ++ m.1,
       c.attempt.new.intake.source.now,
@@ -78,29 +84,29 @@ returns-in-Err-attempt-clause-ran g c =
         on.got,
         m.0,
         refl,
-        Push.fell_at M c.args.state.now c.go_further_unless_behind.new.state c.attempt.new.state c.in-Err-attempt.e on.turns on.got on.put m.0 m.1 on.made m.5.1,
+        Push.fell_at M c.args.state.now c.go_further_unless_behind.new.state c.attempt.new.state c.in_err-attempt.field-0.0 on.turns on.got on.put m.0 m.1 on.made m.5.1,
       ),
     )
 
-pub returns-in-Err-attempt-clause-ends : goal.returns-in-Err-attempt-clause-ends
-returns-in-Err-attempt-clause-ends g c =
+pub returns-in_err-attempt-clause-ends : goal.returns-in_err-attempt-clause-ends
+returns-in_err-attempt-clause-ends g c =
     let inv = c.turns.invariant in
-    let first = c.in-Ok.ensures in
+    let first = c.in_ok-most.ensures in
     let ends : g.S.Source.ends c.go_further_unless_behind.new.intake.source.now ≡ g.S.Source.ends c.args.intake.now.source.now + end_step false c.go_further_unless_behind.new.state.reading.at_end =
     first.ends ∙ inv.ends ∙ ap (λ b. g.S.Source.ends c.args.intake.now.source.now + end_step false b) (sym first.at_end) in
-    let now = c.in-Err-attempt.ensures in
+    let now = c.in_err-attempt.ensures in
     let m = now.attempts in
     omega (arith, now.ends, ends, Last.answered_once c.go_further_unless_behind.new.state.reading.at_end c.attempt.new.state.reading.at_end (λ e. (m.4 e).1))
 
-pub returns-in-Ok-None-clause-ran : goal.returns-in-Ok-None-clause-ran
-returns-in-Ok-None-clause-ran g c =
+pub returns-in-None-clause-ran : goal.returns-in-None-clause-ran
+returns-in-None-clause-ran g c =
     let M = g.M.Machine.machine c.args.machine.now in
     let inv = c.turns.invariant in
-    let first = c.in-Ok.ensures in
+    let first = c.in_ok-most.ensures in
     let k = first.goes_on in
     let on = Push.onward_more M g.S.Source.gave g.K.Sink.wrote g.met.S.Source.gave_more g.met.K.Sink.wrote_more _ _ _ _ _ _ c.args.state.now c.turns.state c.go_further_unless_behind.new.state k.5.0 k.0 k.1 inv.onward k.2 k.3 k.5.1 in
-    let now = c.in-Ok-None.ensures in
-    let m = rw c.in-Ok-None.field-0-is at now.attempts in
+    let now = c.in_ok-attempt.ensures in
+    let m = rw c.in-None.is at now.attempts in
     let nothing : on.put ++ m.1 ≡ on.put = ap (λ l. on.put ++ l) m.5.0 ∙ append-nil on.put in (
       on.got,
       on.put,
@@ -118,22 +124,22 @@ returns-in-Ok-None-clause-ran g c =
       },
     )
 
-pub returns-in-Ok-None-clause-ends : goal.returns-in-Ok-None-clause-ends
-returns-in-Ok-None-clause-ends g c =
+pub returns-in-None-clause-ends : goal.returns-in-None-clause-ends
+returns-in-None-clause-ends g c =
     let inv = c.turns.invariant in
-    let first = c.in-Ok.ensures in
+    let first = c.in_ok-most.ensures in
     let ends : g.S.Source.ends c.go_further_unless_behind.new.intake.source.now ≡ g.S.Source.ends c.args.intake.now.source.now + end_step false c.go_further_unless_behind.new.state.reading.at_end =
     first.ends ∙ inv.ends ∙ ap (λ b. g.S.Source.ends c.args.intake.now.source.now + end_step false b) (sym first.at_end) in
-    let now = c.in-Ok-None.ensures in
-    let m = rw c.in-Ok-None.field-0-is at now.attempts in
+    let now = c.in_ok-attempt.ensures in
+    let m = rw c.in-None.is at now.attempts in
     omega (arith, now.ends, ends, Last.answered_once c.go_further_unless_behind.new.state.reading.at_end c.attempt.new.state.reading.at_end (λ e. (m.4 e).1))
 
-pub returns-in-Ok-Some-Ended-clause-ran : goal.returns-in-Ok-Some-Ended-clause-ran
-returns-in-Ok-Some-Ended-clause-ran g c =
+pub returns-in-Some-Ended-clause-ran : goal.returns-in-Some-Ended-clause-ran
+returns-in-Some-Ended-clause-ran g c =
     let M = g.M.Machine.machine c.args.machine.now in
-    let k = c.in-Ok.ensures.goes_on in
+    let k = c.in_ok-most.ensures.goes_on in
     let on = Push.onward_more M g.S.Source.gave g.K.Sink.wrote g.met.S.Source.gave_more g.met.K.Sink.wrote_more _ _ _ _ _ _ c.args.state.now c.turns.state c.go_further_unless_behind.new.state k.5.0 k.0 k.1 c.turns.invariant.onward k.2 k.3 k.5.1 in
-    let m = rw (c.in-Ok-Some-Ended.field-0-is, c.in-Ok-Some-Ended.field-0-0-is) at c.in-Ok-Some-Ended.ensures.attempts in
+    let m = rw (c.in-Some-Ended.is, c.in-Some-Ended.field-0-is) at c.in_ok-attempt.ensures.attempts in
     let one = Push.made_one M c.go_further_unless_behind.new.state c.attempt.new.state m.0 m.1 m.5.1 in
     let last = Push.onward_more M g.S.Source.gave g.K.Sink.wrote g.met.S.Source.gave_more g.met.K.Sink.wrote_more _ _ _ _ _ _ c.args.state.now c.go_further_unless_behind.new.state c.attempt.new.state 1 m.0 m.1 on m.2 m.3 one in (
       last.got,
@@ -166,10 +172,10 @@ turns-smaller g c =
 
     falls : (n : ℕ) (given out : List ℕ) → Stands M n given out old → Last.left_over new.reading.max_reads new < Last.left_over old.reading.max_reads old
     falls n given out h =
-        let first = c.in-Ok.ensures in
+        let first = c.in_ok-most.ensures in
         let k = first.goes_on in
-        let now = c.in-Ok-Some-Went.ensures in
-        let m = rw (c.in-Ok-Some-Went.field-0-is, c.in-Ok-Some-Went.field-0-0-is) at now.attempts in
+        let now = c.in_ok-attempt.ensures in
+        let m = rw (c.in-Some-Went.is, c.in-Some-Went.field-0-is) at now.attempts in
         let here : Stands M (k.5.0 + n) (given ++ k.0) (out ++ k.1) mid = k.5.1 n given out h in
         let most : ℕ = mid.reading.max_reads in
         let few : mid.reading.taken ≤ most = omega (arith, mid.reading.few_reads) in
@@ -184,7 +190,7 @@ pub turns-preserved : goal.turns-preserved
 turns-preserved g c =
     let M = g.M.Machine.machine c.args.machine.now in
     let inv = c.turns.invariant in
-    let first = c.in-Ok.ensures in
+    let first = c.in_ok-most.ensures in
     let k = first.goes_on in
     let mid : State = c.go_further_unless_behind.new.state in
     let new : State = c.attempt.new.state in
@@ -192,9 +198,9 @@ turns-preserved g c =
     let stood = Push.standing_on M c.turns.state mid k.5.0 k.0 k.1 inv.stood k.5.1 in
     let ends : g.S.Source.ends c.go_further_unless_behind.new.intake.source.now ≡ g.S.Source.ends c.args.intake.now.source.now + end_step false mid.reading.at_end =
     first.ends ∙ inv.ends ∙ ap (λ b. g.S.Source.ends c.args.intake.now.source.now + end_step false b) (sym first.at_end) in
-    let now = c.in-Ok-Some-Went.ensures in
-    let m = rw (c.in-Ok-Some-Went.field-0-is, c.in-Ok-Some-Went.field-0-0-is) at now.attempts in
-    let next = rw c.in-Ok-Some-Went.field-0-is at now.next in
+    let now = c.in_ok-attempt.ensures in
+    let m = rw (c.in-Some-Went.is, c.in-Some-Went.field-0-is) at now.attempts in
+    let next = rw c.in-Some-Went.is at now.next in
     let one = Push.made_one M mid new m.0 m.1 m.5.1 in
     let works = Push.made_working M mid new 1 m.0 m.1 stood one in
     record {

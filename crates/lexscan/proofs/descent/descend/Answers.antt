@@ -1,6 +1,7 @@
 use Rattle.std.proofs.Common.{◌≡◌, ℕ, ◌+◌, ◌-◌, ◌<◌, List, length, take, refl, sym, ap, subst, ◌∙◌, arith}
 use Rattle.std.proofs.lemmas.List.{take_all}
 use Rattle.std.specs.Prelude.{filter_map}
+use Rattle.std.proofs.lemmas.Result.{err_from_is_err_and}
 use Rattle.lex_semantics.specs.Machine.{Machine}
 use Rattle.lex_semantics.specs.PlainMachine.{match_of}
 use Rattle.lex_semantics.specs.Trail.{falling}
@@ -13,8 +14,8 @@ use Rattle.lexscan.proofs.descent.descend.Goals as goal
 pub accepts-rules-requires : goal.accepts-rules-requires
 accepts-rules-requires g c = c.requires.known _ (rw c.state.ensures (Down.among_get c.args.path.now.states (c.lengths.len - 1) (omega (arith, c.lengths-test.true, c.lengths.invariant.short))))
 
-pub returns-in-Err-clause-cut_off : goal.returns-in-Err-clause-cut_off
-returns-in-Err-clause-cut_off g c =
+pub returns-in_err-try_rules-clause-cut_off : goal.returns-in_err-try_rules-clause-cut_off
+returns-in_err-try_rules-clause-cut_off g c =
     let M : Machine = g.M.Machine.machine c.args.machine.now in
     let path : List ℕ = c.args.path.now.states in
     let n : ℕ = c.lengths.len - 1 in
@@ -22,13 +23,14 @@ returns-in-Err-clause-cut_off g c =
     let lt : n < length path = omega (arith, c.lengths-test.true, c.lengths.invariant.short) in
     let here : filter_map (match_of M c.lengths.len) c.accepts-rules.result.now ≡ Down.here M g.K.Sink.wrote g.met.K.Sink.wrote_more c.args.window.now.bytes c.args.at path n =
     ap (λ k. filter_map (match_of M k) c.accepts-rules.result.now) e ∙ ap (filter_map (match_of M (n + 1))) (c.accepts-rules.ensures ∙ ap M.accepts c.state.ensures) in
-    Down.state_cut M g.K.Sink.wrote g.met.K.Sink.wrote_more c.args.window.now.bytes c.args.at path _ _ _ n (conditions_of c.args.acting.now) (conditions_of c.lengths.acting) lt
+    let p = err_from_is_err_and c.from_residual.result c.from_residual.ensures.1 in
+    rw p.1 (Down.state_cut M g.K.Sink.wrote g.met.K.Sink.wrote_more c.args.window.now.bytes c.args.at path _ _ _ n (conditions_of c.args.acting.now) (conditions_of c.lengths.acting) lt
     (subst (λ k. Passed M g.K.Sink.wrote c.args.outlet.now.sink.now c.lengths.outlet.sink.now c.args.window.now.bytes c.args.at (falling M 0 path) (falling M 0 (take k path)) (conditions_of c.args.acting.now) (conditions_of c.lengths.acting)) e c.lengths.invariant.passed)
-    (subst (λ l. CutOff M g.K.Sink.wrote c.lengths.outlet.sink.now c.try_rules.new.outlet.sink.now c.args.window.now.bytes c.args.at l (conditions_of c.lengths.acting)) here c.in-Err.ensures.cut_off)
+    (subst (λ l. CutOff M g.K.Sink.wrote c.lengths.outlet.sink.now c.try_rules.new.outlet.sink.now c.args.window.now.bytes c.args.at l (conditions_of c.lengths.acting)) here c.in_err-try_rules.ensures.cut_off))
 
-pub returns-in-Ok-Next-clause-performed : goal.returns-in-Ok-Next-clause-performed
-returns-in-Ok-Next-clause-performed g c =
-    let ens = rw c.in-Ok-Next.field-0-is at c.in-Ok-Next.ensures in
+pub returns-in-Next-clause-performed : goal.returns-in-Next-clause-performed
+returns-in-Next-clause-performed g c =
+    let ens = rw c.in-Next.is at c.in_ok-try_rules.ensures in
     let M : Machine = g.M.Machine.machine c.args.machine.now in
     let path : List ℕ = c.args.path.now.states in
     let n : ℕ = c.lengths.len - 1 in
@@ -40,9 +42,9 @@ returns-in-Ok-Next-clause-performed g c =
     (subst (λ k. Passed M g.K.Sink.wrote c.args.outlet.now.sink.now c.lengths.outlet.sink.now c.args.window.now.bytes c.args.at (falling M 0 path) (falling M 0 (take k path)) (conditions_of c.args.acting.now) (conditions_of c.lengths.acting)) e c.lengths.invariant.passed)
     (subst (λ l. Tried M g.K.Sink.wrote c.lengths.outlet.sink.now c.try_rules.new.outlet.sink.now c.args.window.now.bytes c.args.at l (conditions_of c.lengths.acting) c.try_rules.new.acting Step.Next) here ens.tried)
 
-pub returns-in-Ok-Over-clause-performed : goal.returns-in-Ok-Over-clause-performed
-returns-in-Ok-Over-clause-performed g c =
-    let ens = rw c.in-Ok-Over.field-0-is at c.in-Ok-Over.ensures in
+pub returns-in-Over-clause-performed : goal.returns-in-Over-clause-performed
+returns-in-Over-clause-performed g c =
+    let ens = rw c.in-Over.is at c.in_ok-try_rules.ensures in
     let M : Machine = g.M.Machine.machine c.args.machine.now in
     let path : List ℕ = c.args.path.now.states in
     let n : ℕ = c.lengths.len - 1 in
@@ -50,13 +52,13 @@ returns-in-Ok-Over-clause-performed g c =
     let lt : n < length path = omega (arith, c.lengths-test.true, c.lengths.invariant.short) in
     let here : filter_map (match_of M c.lengths.len) c.accepts-rules.result.now ≡ Down.here M g.K.Sink.wrote g.met.K.Sink.wrote_more c.args.window.now.bytes c.args.at path n =
     ap (λ k. filter_map (match_of M k) c.accepts-rules.result.now) e ∙ ap (filter_map (match_of M (n + 1))) (c.accepts-rules.ensures ∙ ap M.accepts c.state.ensures) in
-    Down.state_stop M g.K.Sink.wrote g.met.K.Sink.wrote_more c.args.window.now.bytes c.args.at path _ _ _ n (conditions_of c.args.acting.now) (conditions_of c.lengths.acting) c.try_rules.new.acting (Step.Over c.in-Ok-Over.finish) (λ p. cc) lt
+    Down.state_stop M g.K.Sink.wrote g.met.K.Sink.wrote_more c.args.window.now.bytes c.args.at path _ _ _ n (conditions_of c.args.acting.now) (conditions_of c.lengths.acting) c.try_rules.new.acting (Step.Over c.in-Over.finish) (λ p. cc) lt
     (subst (λ k. Passed M g.K.Sink.wrote c.args.outlet.now.sink.now c.lengths.outlet.sink.now c.args.window.now.bytes c.args.at (falling M 0 path) (falling M 0 (take k path)) (conditions_of c.args.acting.now) (conditions_of c.lengths.acting)) e c.lengths.invariant.passed)
-    (subst (λ l. Tried M g.K.Sink.wrote c.lengths.outlet.sink.now c.try_rules.new.outlet.sink.now c.args.window.now.bytes c.args.at l (conditions_of c.lengths.acting) c.try_rules.new.acting (Step.Over c.in-Ok-Over.finish)) here ens.tried)
+    (subst (λ l. Tried M g.K.Sink.wrote c.lengths.outlet.sink.now c.try_rules.new.outlet.sink.now c.args.window.now.bytes c.args.at l (conditions_of c.lengths.acting) c.try_rules.new.acting (Step.Over c.in-Over.finish)) here ens.tried)
 
 pub lengths-preserved : goal.lengths-preserved
 lengths-preserved g c =
-    let ens = rw c.in-Ok-Again.field-0-is at c.in-Ok-Again.ensures in
+    let ens = rw c.in-Again.is at c.in_ok-try_rules.ensures in
     let M : Machine = g.M.Machine.machine c.args.machine.now in
     let path : List ℕ = c.args.path.now.states in
     let n : ℕ = c.lengths.len - 1 in
@@ -75,8 +77,8 @@ lengths-preserved g c =
           (subst (λ l. Tried M g.K.Sink.wrote c.lengths.outlet.sink.now c.try_rules.new.outlet.sink.now c.args.window.now.bytes c.args.at l (conditions_of c.lengths.acting) c.try_rules.new.acting Step.Again) here ens.tried);
     }
 
-pub returns-in-Err-put-clause-cut_off : goal.returns-in-Err-put-clause-cut_off
-returns-in-Err-put-clause-cut_off g c =
+pub returns-in-Err-clause-cut_off : goal.returns-in-Err-clause-cut_off
+returns-in-Err-clause-cut_off g c =
     let M : Machine = g.M.Machine.machine c.args.machine.now in
     let path : List ℕ = c.args.path.now.states in
     let w : List ℕ = c.args.window.now.bytes in
@@ -85,7 +87,7 @@ returns-in-Err-put-clause-cut_off g c =
     let text : c.slice.result.now ≡ take (c.args.at + 1) w = c.slice.ensures ∙ ap (λ k. take k w) count in
     Down.default_cut M g.K.Sink.wrote g.met.K.Sink.wrote_more w c.args.at path _ _ _ (conditions_of c.args.acting.now) (conditions_of c.lengths.acting) (omega (arith, c.requires.place, c.requires.some))
     (subst (λ k. Passed M g.K.Sink.wrote c.args.outlet.now.sink.now c.lengths.outlet.sink.now w c.args.at (falling M 0 path) (falling M 0 (take k path)) (conditions_of c.args.acting.now) (conditions_of c.lengths.acting)) none c.lengths.invariant.passed)
-    (subst (λ (l : List ℕ). (front : List ℕ) × BeginsWith l front × g.K.Sink.wrote c.lengths.outlet.sink.now front c.put.new.outlet.sink.now) text c.in-Err-put.ensures.bytes)
+    (subst (λ (l : List ℕ). (front : List ℕ) × BeginsWith l front × g.K.Sink.wrote c.lengths.outlet.sink.now front c.put.new.outlet.sink.now) text c.in-Err.ensures.bytes)
 
 pub returns-in-Ok-clause-performed : goal.returns-in-Ok-clause-performed
 returns-in-Ok-clause-performed g c =
@@ -99,9 +101,9 @@ returns-in-Ok-clause-performed g c =
     (subst (λ k. Passed M g.K.Sink.wrote c.args.outlet.now.sink.now c.lengths.outlet.sink.now w c.args.at (falling M 0 path) (falling M 0 (take k path)) (conditions_of c.args.acting.now) (conditions_of c.lengths.acting)) none c.lengths.invariant.passed)
     (subst (λ l. g.K.Sink.wrote c.lengths.outlet.sink.now l c.put.new.outlet.sink.now) text c.in-Ok.ensures.bytes)
 
-pub returns-in-Ok-Next-clause-takes : goal.returns-in-Ok-Next-clause-takes
-returns-in-Ok-Next-clause-takes g c =
-    let ens = rw c.in-Ok-Next.field-0-is at c.in-Ok-Next.ensures in
+pub returns-in-Next-clause-takes : goal.returns-in-Next-clause-takes
+returns-in-Next-clause-takes g c =
+    let ens = rw c.in-Next.is at c.in_ok-try_rules.ensures in
     let M : Machine = g.M.Machine.machine c.args.machine.now in
     let path : List ℕ = c.args.path.now.states in
     let n : ℕ = c.lengths.len - 1 in
@@ -113,9 +115,9 @@ returns-in-Ok-Next-clause-takes g c =
     (subst (λ k. Passed M g.K.Sink.wrote c.args.outlet.now.sink.now c.lengths.outlet.sink.now c.args.window.now.bytes c.args.at (falling M 0 path) (falling M 0 (take k path)) (conditions_of c.args.acting.now) (conditions_of c.lengths.acting)) e c.lengths.invariant.passed)
     (subst (λ l. Takes M c.args.window.now.bytes c.args.at l (conditions_of c.lengths.acting) c.try_rules.new.matched) here ens.takes)
 
-pub returns-in-Ok-Over-clause-takes : goal.returns-in-Ok-Over-clause-takes
-returns-in-Ok-Over-clause-takes g c =
-    let ens = rw c.in-Ok-Over.field-0-is at c.in-Ok-Over.ensures in
+pub returns-in-Over-clause-takes : goal.returns-in-Over-clause-takes
+returns-in-Over-clause-takes g c =
+    let ens = rw c.in-Over.is at c.in_ok-try_rules.ensures in
     let M : Machine = g.M.Machine.machine c.args.machine.now in
     let path : List ℕ = c.args.path.now.states in
     let n : ℕ = c.lengths.len - 1 in

@@ -31,7 +31,7 @@ returns-in-Ok-Again-clause-performed g c =
     let M : Machine = g.M.Machine.machine c.args.machine.now in
     let w : List ℕ = c.args.window.now.bytes in
     absurd (Pick.never_again M g.K.Sink.wrote g.met.K.Sink.wrote_none g.met.K.Sink.wrote_more w c.args.place.at _ _ c.in-Some.pick (conditions_of c.args.acting.now)
-    (map statement_of c.in-Some.pick.statements.now) c.carry_out.new.acting c.requires.quiet (rw c.in-Some.is at c.requires.longest.known) (rw c.in-Some.is at c.requires.longest.statements) ens.carried)
+    (map statement_of c.in-Some.pick.statements.now) c.carry_out.new.acting c.requires.no_reject (rw c.in-Some.is at c.requires.longest.known) (rw c.in-Some.is at c.requires.longest.statements) ens.carried)
 
 pub returns-in-Ok-Over-clause-performed : goal.returns-in-Ok-Over-clause-performed
 returns-in-Ok-Over-clause-performed g c =

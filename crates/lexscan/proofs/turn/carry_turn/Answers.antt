@@ -20,7 +20,7 @@ returns-in-Ok-None-clause-left g c =
     let at : ℕ = c.args.state.now.place.at in
     let path : List ℕ = path_of M c.args.state.now.place w c.args.reach in
     let takes = subst (λ z. Takes M w at (matches_of M w at path) (conditions_at c.args.state.now) (Some z)) (sym c.rule_of.ensures)
-    (picked_takes M w at path c.args.pick (conditions_at c.args.state.now) c.requires.quiet (omega (arith, c.requires.place, c.requires.some)) c.requires.longest.first c.requires.longest.known) in
+    (picked_takes M w at path c.args.pick (conditions_at c.args.state.now) c.requires.no_reject (omega (arith, c.requires.place, c.requires.some)) c.requires.longest.first c.requires.longest.known) in
     match_done M g.K.Sink.wrote g.K.Sink.failures _ _ _ c.args.state.now (path_of M c.args.state.now.place c.args.state.now.reading.window.bytes c.args.reach) c.carry_pick.new.acting c.leave.new.state ens.performed ens.inside ens.sink.write_faults ens.sink.may_write
     c.leave.ensures.left c.leave.ensures.taken c.leave.ensures.at_end c.leave.ensures.max_reads c.leave.ensures.ended c.leave.ensures.failed (Some c.rule_of.result) c.leave.ensures.matched takes
 
@@ -32,7 +32,7 @@ returns-in-Ok-Some-clause-left g c =
     let at : ℕ = c.args.state.now.place.at in
     let path : List ℕ = path_of M c.args.state.now.place w c.args.reach in
     let takes = subst (λ z. Takes M w at (matches_of M w at path) (conditions_at c.args.state.now) (Some z)) (sym c.rule_of.ensures)
-    (picked_takes M w at path c.args.pick (conditions_at c.args.state.now) c.requires.quiet (omega (arith, c.requires.place, c.requires.some)) c.requires.longest.first c.requires.longest.known) in
+    (picked_takes M w at path c.args.pick (conditions_at c.args.state.now) c.requires.no_reject (omega (arith, c.requires.place, c.requires.some)) c.requires.longest.first c.requires.longest.known) in
     match_ended M g.K.Sink.wrote g.K.Sink.failures _ _ _ c.args.state.now (path_of M c.args.state.now.place c.args.state.now.reading.window.bytes c.args.reach) _ c.carry_pick.new.acting (Some c.rule_of.result) c.finish_turn.new.state c.in-Ok-Some.finish c.finish_turn.result g.met.K.Sink.wrote_more
     ens.performed ens.inside ens.sink.write_faults c.finish_turn.ensures.ends takes
 

@@ -1,4 +1,5 @@
 use Rattle.std.proofs.Common.{◌≡◌, ℕ, false, suc, ◌+◌, ◌<◌, ◌++◌, ◌≤◌, Err, sym, ap, subst, ◌∙◌, append_assoc, arith, length}
+use Rattle.std.proofs.lemmas.Result.{err_from_is_err_and}
 use Rattle.lexscan.specs.Reads.{end_step}
 use Rattle.std.specs.Prelude.{nat_lt}
 use Rattle.lex_semantics.specs.Machine.{rules_of_machine}
@@ -14,66 +15,70 @@ no_write e is not = no (sym is ∙ not)
     no : Write ≡ TooManyReads → ⊥
     no p = cc
 
-pub returns-in-Err-clause-ran : goal.returns-in-Err-clause-ran
-returns-in-Err-clause-ran g c =
+pub returns-in_err-most-clause-ran : goal.returns-in_err-most-clause-ran
+returns-in_err-most-clause-ran g c =
     let M = g.M.Machine.machine c.args.machine.now in
     let inv = c.turns.invariant in
     let h = inv.running in
-    let now = c.in-Err.ensures in
+    let now = c.in_err-most.ensures in
     let m = now.goes_on in
     let fell = m.5.4 h.turns h.given h.out h.stands in
     let all : (h.given ++ m.5.1) ++ m.5.2 ≡ h.given ++ m.0 = append_assoc h.given m.5.1 m.5.2 ∙ ap (λ l. h.given ++ l) (sym m.5.3) in
     let ended : g.S.Source.ends c.go_further.new.intake.source.now ≡ g.S.Source.ends c.args.intake.now.source.now + end_step false c.go_further.new.state.reading.at_end =
-    now.ends ∙ inv.ends ∙ ap (λ b. g.S.Source.ends c.args.intake.now.source.now + end_step false b) (sym now.at_end) in (
+    now.ends ∙ inv.ends ∙ ap (λ b. g.S.Source.ends c.args.intake.now.source.now + end_step false b) (sym now.at_end) in
+    let p = err_from_is_err_and c.from_residual.result c.from_residual.ensures.1 in
+    rw (p.1, p.2) (
       h.given ++ m.0,
       h.out ++ m.1,
       g.met.S.Source.gave_more _ _ _ _ _ h.source m.2,
       g.met.K.Sink.wrote_more _ _ _ _ _ h.sink m.3,
-      subst (λ l. RanInto (rules_of_machine M) l (h.out ++ m.1) (nat_lt (g.S.Source.ends c.args.intake.now.source.now) (g.S.Source.ends c.go_further.new.intake.source.now)) c.args.state.now.reading.max_reads c.in-Err.refused)
+      subst (λ l. RanInto (rules_of_machine M) l (h.out ++ m.1) (nat_lt (g.S.Source.ends c.args.intake.now.source.now) (g.S.Source.ends c.go_further.new.intake.source.now)) c.args.state.now.reading.max_reads c.in_err-most.field-0.0)
           all
-          (Last.ran_into M (m.5.0 + h.turns) _ _ _ (h.given ++ m.5.1) m.5.2 (h.out ++ m.1) c.go_further.new.state c.in-Err.refused
+          (Last.ran_into M (m.5.0 + h.turns) _ _ _ (h.given ++ m.5.1) m.5.2 (h.out ++ m.1) c.go_further.new.state c.in_err-most.field-0.0
           ended
-          (λ is. absurd (no_write c.in-Err.refused now.refusals is))
+          (λ is. absurd (no_write c.in_err-most.field-0.0 now.refusals is))
           fell),
       Last.few_made _ c.go_further.new.state _ 0 _ _ _ _ _ (fell.taken ∙ ap length all) ended (omega (arith, now.read_faults)) inv.read_faults (omega (arith, c.go_further.new.state.reading.few_reads)) (now.max_reads ∙ inv.max_reads),
     )
 
-pub returns-in-Err-turn_with_reject-clause-ran : goal.returns-in-Err-turn_with_reject-clause-ran
-returns-in-Err-turn_with_reject-clause-ran g c =
+pub returns-in_err-status-clause-ran : goal.returns-in_err-status-clause-ran
+returns-in_err-status-clause-ran g c =
     let inv = c.turns.invariant in
-    let first = c.in-Ok.ensures in
+    let first = c.in_ok-most.ensures in
     let k = first.goes_on in
     let h = Last.running_further (g.M.Machine.machine c.args.machine.now) g.S.Source.gave g.K.Sink.wrote _ _ _ _ _ _ c.turns.state c.go_further.new.state k.5.0 k.0 k.1 g.met.S.Source.gave_more g.met.K.Sink.wrote_more inv.running k.2 k.3
     (k.5.1 inv.running.turns inv.running.given inv.running.out inv.running.stands) in
     let ends : g.S.Source.ends c.go_further.new.intake.source.now ≡ g.S.Source.ends c.args.intake.now.source.now + end_step false c.go_further.new.state.reading.at_end =
     first.ends ∙ inv.ends ∙ ap (λ b. g.S.Source.ends c.args.intake.now.source.now + end_step false b) (sym first.at_end) in
-    let now = c.in-Err-turn_with_reject.ensures in
+    let now = c.in_err-status.ensures in
     let m = now.goes_on in
     let fell = m.5.1 h.turns h.given h.out h.stands in
     let ended : g.S.Source.ends c.turn_with_reject.new.intake.source.now ≡ g.S.Source.ends c.args.intake.now.source.now + end_step false c.turn_with_reject.new.state.reading.at_end =
-    omega (arith, now.counts.ends, ends, Last.answered_once c.go_further.new.state.reading.at_end c.turn_with_reject.new.state.reading.at_end (λ e. (m.4 e).1)) in (
+    omega (arith, now.counts.ends, ends, Last.answered_once c.go_further.new.state.reading.at_end c.turn_with_reject.new.state.reading.at_end (λ e. (m.4 e).1)) in
+    let p = err_from_is_err_and c.from_residual-in_err-status.result c.from_residual-in_err-status.ensures.1 in
+    rw (p.1, p.2) (
       h.given ++ m.0,
       h.out ++ m.1,
       g.met.S.Source.gave_more _ _ _ _ _ h.source m.2,
       g.met.K.Sink.wrote_more _ _ _ _ _ h.sink m.3,
-      Last.ran_into _ h.turns _ _ _ h.given m.0 (h.out ++ m.1) c.turn_with_reject.new.state c.in-Err-turn_with_reject.e
+      Last.ran_into _ h.turns _ _ _ h.given m.0 (h.out ++ m.1) c.turn_with_reject.new.state c.in_err-status.field-0.0
           ended
           (λ is. (let many = now.too_many (ap Err is) in (many.0 ∙ now.counts.max_reads ∙ first.max_reads ∙ inv.max_reads, many.1)))
           fell,
       Last.few_made _ c.turn_with_reject.new.state _ _ _ _ _ _ _ fell.taken ended now.counts.read_faults (first.read_faults ∙ inv.read_faults) now.counts.few_reads (now.counts.max_reads ∙ first.max_reads ∙ inv.max_reads),
     )
 
-pub returns-in-Ok-Ended-clause-ran : goal.returns-in-Ok-Ended-clause-ran
-returns-in-Ok-Ended-clause-ran g c =
+pub returns-in-Ended-clause-ran : goal.returns-in-Ended-clause-ran
+returns-in-Ended-clause-ran g c =
     let inv = c.turns.invariant in
-    let first = c.in-Ok.ensures in
+    let first = c.in_ok-most.ensures in
     let k = first.goes_on in
     let h = Last.running_further (g.M.Machine.machine c.args.machine.now) g.S.Source.gave g.K.Sink.wrote _ _ _ _ _ _ c.turns.state c.go_further.new.state k.5.0 k.0 k.1 g.met.S.Source.gave_more g.met.K.Sink.wrote_more inv.running k.2 k.3
     (k.5.1 inv.running.turns inv.running.given inv.running.out inv.running.stands) in
     let ends : g.S.Source.ends c.go_further.new.intake.source.now ≡ g.S.Source.ends c.args.intake.now.source.now + end_step false c.go_further.new.state.reading.at_end =
     first.ends ∙ inv.ends ∙ ap (λ b. g.S.Source.ends c.args.intake.now.source.now + end_step false b) (sym first.at_end) in
-    let now = c.in-Ok-Ended.ensures in
-    let m = rw c.in-Ok-Ended.field-0-is at now.goes_on in
+    let now = c.in_ok-status.ensures in
+    let m = rw c.in-Ended.is at now.goes_on in
     let after = m.5.1 h.turns h.given h.out h.stands in
     let ended : g.S.Source.ends c.turn_with_reject.new.intake.source.now ≡ g.S.Source.ends c.args.intake.now.source.now + end_step false c.turn_with_reject.new.state.reading.at_end =
     omega (arith, now.counts.ends, ends, Last.answered_once c.go_further.new.state.reading.at_end c.turn_with_reject.new.state.reading.at_end (λ e. (m.4 e).1)) in (
@@ -81,7 +86,7 @@ returns-in-Ok-Ended-clause-ran g c =
       h.out ++ m.1,
       g.met.S.Source.gave_more _ _ _ _ _ h.source m.2,
       g.met.K.Sink.wrote_more _ _ _ _ _ h.sink m.3,
-      Last.ran_to _ (suc h.turns) c.in-Ok-Ended.status _ _ (h.given ++ m.0) (h.out ++ m.1) c.turn_with_reject.new.state
+      Last.ran_to _ (suc h.turns) c.in-Ended.status _ _ (h.given ++ m.0) (h.out ++ m.1) c.turn_with_reject.new.state
           ended
           m.5.0 after,
       Last.few_made _ c.turn_with_reject.new.state _ _ _ _ _ _ _ after.taken ended now.counts.read_faults (first.read_faults ∙ inv.read_faults) now.counts.few_reads (now.counts.max_reads ∙ first.max_reads ∙ inv.max_reads),
@@ -90,14 +95,14 @@ returns-in-Ok-Ended-clause-ran g c =
 pub turns-smaller : goal.turns-smaller
 turns-smaller g c =
     let inv = c.turns.invariant in
-    let first = c.in-Ok.ensures in
+    let first = c.in_ok-most.ensures in
     let k = first.goes_on in
     let h = Last.running_further (g.M.Machine.machine c.args.machine.now) g.S.Source.gave g.K.Sink.wrote _ _ _ _ _ _ c.turns.state c.go_further.new.state k.5.0 k.0 k.1 g.met.S.Source.gave_more g.met.K.Sink.wrote_more inv.running k.2 k.3
     (k.5.1 inv.running.turns inv.running.given inv.running.out inv.running.stands) in
     let ends : g.S.Source.ends c.go_further.new.intake.source.now ≡ g.S.Source.ends c.args.intake.now.source.now + end_step false c.go_further.new.state.reading.at_end =
     first.ends ∙ inv.ends ∙ ap (λ b. g.S.Source.ends c.args.intake.now.source.now + end_step false b) (sym first.at_end) in
-    let now = c.in-Ok-Went.ensures in
-    let m = rw c.in-Ok-Went.field-0-is at now.goes_on in
+    let now = c.in_ok-status.ensures in
+    let m = rw c.in-Went.is at now.goes_on in
     let most : ℕ = c.go_further.new.state.reading.max_reads in
     let few : c.go_further.new.state.reading.taken ≤ most = omega (arith, c.go_further.new.state.reading.few_reads) in
     let few' : c.turn_with_reject.new.state.reading.taken ≤ most = omega (arith, c.turn_with_reject.new.state.reading.few_reads, now.counts.max_reads) in
@@ -113,14 +118,14 @@ turns-smaller g c =
 pub turns-preserved : goal.turns-preserved
 turns-preserved g c =
     let inv = c.turns.invariant in
-    let first = c.in-Ok.ensures in
+    let first = c.in_ok-most.ensures in
     let k = first.goes_on in
     let h = Last.running_further (g.M.Machine.machine c.args.machine.now) g.S.Source.gave g.K.Sink.wrote _ _ _ _ _ _ c.turns.state c.go_further.new.state k.5.0 k.0 k.1 g.met.S.Source.gave_more g.met.K.Sink.wrote_more inv.running k.2 k.3
     (k.5.1 inv.running.turns inv.running.given inv.running.out inv.running.stands) in
     let ends : g.S.Source.ends c.go_further.new.intake.source.now ≡ g.S.Source.ends c.args.intake.now.source.now + end_step false c.go_further.new.state.reading.at_end =
     first.ends ∙ inv.ends ∙ ap (λ b. g.S.Source.ends c.args.intake.now.source.now + end_step false b) (sym first.at_end) in
-    let now = c.in-Ok-Went.ensures in
-    let m = rw c.in-Ok-Went.field-0-is at now.goes_on in
+    let now = c.in_ok-status.ensures in
+    let m = rw c.in-Went.is at now.goes_on in
     let after = m.5.1 h.turns h.given h.out h.stands in
     record {
       same_source = now.same_source ∙ first.same_source ∙ inv.same_source;

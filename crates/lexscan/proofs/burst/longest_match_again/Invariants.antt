@@ -1,7 +1,7 @@
 use Rattle.std.proofs.Common.{length, take, ◌-◌, ◌≡◌, ◌<◌, ◌≤◌}
 use Rattle.lex_semantics.specs.Machine.{walk}
 use Rattle.lexscan.specs.Bursts.{Tells}
-use Rattle.lexscan.proofs.burst.told_again.Given as goal
+use Rattle.lexscan.proofs.burst.longest_match_again.Given as goal
 
 abbrev pub invariant-bytes : goal.invariant-bytes
 invariant-bytes g l =
@@ -10,7 +10,7 @@ invariant-bytes g l =
       inside : l.count ≤ length l.bytes;
       known : l.state < g.M.Machine.states l.machine;
       state_is : l.state ≡ walk M l.first (take l.count l.bytes);
-      tells : Tells M l.first l.bytes l.count l.told;
+      tells : Tells M l.first l.bytes l.count l.longest;
     }
 
 abbrev pub decreases-bytes : goal.decreases-bytes

@@ -2,8 +2,8 @@ use Rattle.std.proofs.Common.{◌≡◌, ℕ, ◌+◌, ◌<◌, true, false, Lis
 use Rattle.lex_semantics.specs.Machine.{Machine, walk}
 use Rattle.lex_machine.specs.Glances.{Gists}
 use Rattle.lexscan.proofs.Telling.{walk_more, tells_none, tells_here}
-use Rattle.lexscan.proofs.burst.told_again.Goals as goal
-use Rattle.lexscan.proofs.burst.told_again.Goals.{in-NoRule, in_default}
+use Rattle.lexscan.proofs.burst.longest_match_again.Goals as goal
+use Rattle.lexscan.proofs.burst.longest_match_again.Goals.{in-NoRule, in_default}
 
 pub bytes-preserved-then-not-matches : goal.bytes-preserved-then-not-matches
 bytes-preserved-then-not-matches g c =
@@ -42,5 +42,5 @@ bytes-preserved g c =
       inside = omega (arith, lt);
       known = c.step-state.ensures.known;
       state_is = is;
-      tells = tells_none M c.args.first bytes n c.bytes.told c.bytes.invariant.tells (subst (λ s. M.accepts s ≡ []) is none);
+      tells = tells_none M c.args.first bytes n c.bytes.longest c.bytes.invariant.tells (subst (λ s. M.accepts s ≡ []) is none);
     }

@@ -3,12 +3,12 @@ use Rattle.std.proofs.lemmas.List.{length-take-le}
 use Rattle.lex_semantics.specs.Machine.{Machine}
 use Rattle.lexscan.specs.Bursts.{Tells}
 use Rattle.lexscan.proofs.Telling.{tells_front}
-use Rattle.lexscan.proofs.burst.told_of.Goals as goal
+use Rattle.lexscan.proofs.burst.longest_match.Goals as goal
 
 pub returns-then-way-gt2 : goal.returns-then-way-gt2
 returns-then-way-gt2 g c =
     let M : Machine = g.M.Machine.machine c.args.machine.now in
     let bytes : List ℕ = c.args.bytes.now in
     let n : ℕ = c.args.way.count in
-    tells_front M c.args.first bytes n c.told_again.result
-    (subst (λ k. Tells M c.args.first (take n bytes) k c.told_again.result) (length-take-le n bytes c.requires.leads.inside) c.told_again.ensures)
+    tells_front M c.args.first bytes n c.longest_match_again.result
+    (subst (λ k. Tells M c.args.first (take n bytes) k c.longest_match_again.result) (length-take-le n bytes c.requires.leads.inside) c.longest_match_again.ensures)
