@@ -15,8 +15,8 @@ Is file S = SpellsSpec plain file S
 abbrev pub IsNone : List ℕ → Type 0
 IsNone file = (S : Spec) → SpellsSpec plain file S → ⊥
 
--- A file with each kind of line, by its sections. The name D, and the conditions INITIAL, A, B and C, of which B and C are
--- exclusive.
+-- A file with each kind of line, by its sections. It defines the name D, and has the conditions INITIAL, A, B and C, of
+-- which B and C are exclusive.
 abbrev pub definitions_section : List ℕ
 definitions_section =
     codes "%{\n#include <stdio.h>\n%}\n"
@@ -158,7 +158,7 @@ initial = record { name = codes "INITIAL"; exclusive = false; end = record { pri
 abbrev pub ShortFile : Type 0
 ShortFile = Is short_file (record { conditions = initial ∷ []; rules = both_cases ∷ [] })
 
--- no `%%`; an option that is none; a condition that is declared twice; a name that is defined twice; a condition that is not
+-- no `%%`; an unknown option; a condition that is declared twice; a name that is defined twice; a condition that is not
 -- declared; a `|` at the last rule; two ends of the conditions without a list
 pub record NoFiles : Type 0 where
   pub no_separator : IsNone (codes "D [0-9]\n")
