@@ -7,12 +7,16 @@ use Rattle.lexre.proofs.CuttingLaws.{one_cutting}
 use Rattle.lexre.proofs.OneTree.{one_tree}
 use Rattle.lexspec.proofs.OneSpec.{one_specification}
 use Rattle.lexspec.specs.Files.{SpellsSpec}
-use Rattle.lexkit.specs.Headline.{ScansBy, reading}
+use Rattle.lexauto.specs.declared.error.BuildError.{BuildError}
+use Rattle.lexre_bytes.proofs.MemoryLaws.{unless_memory}
+use Rattle.lexre_bytes.specs.declared.refusals.SpecError.{SpecError}
+use Rattle.lexkit.specs.Headline.{Refusal, ScansBy, reading}
+use Rattle.lexkit.specs.declared.errors.GenError.{GenError}
 use Rattle.lexkit.specs.declared.errors.GenError.TheVariants as gens
 use Rattle.lexkit.specs.declared.errors.ScanError.{ScanError}
 use Rattle.lexkit.specs.declared.errors.ScanError.TheVariants as scans
 use Rattle.lexkit.specs.declared.options.Options.{Options}
-use Rattle.lexlook_calls.specs.Tracing.{SpellsWithRoom, Traces}
+use Rattle.lexlook_calls.specs.Tracing.{SpellsWithRoom, TraceRefusal, Traces}
 use Rattle.lexlook_trace.specs.Traced.{has_room, traced}
 use Rattle.lexlook_trace.specs.TraceLaw.{TellsRuns, TellsTurns}
 
@@ -45,3 +49,13 @@ no_true e = cc
 -- so where that one has no room, it spells none that has
 pub none_with_room : (options : Options) (text : List ℕ) (S : Spec) → SpellsSpec (reading options) text S → has_room S ≡ false → (T : Spec) → SpellsWithRoom options text T → ⊥
 none_with_room options text S spells full T h = no_true (sym full ∙ ap has_room (one_spec options text S T spells h.0) ∙ h.1)
+
+no_build : (e : BuildError) (fault : SpecError) → gens.Build e ≡ gens.Spec fault → ⊥
+no_build e fault is = cc
+
+-- a text that is refused as none of a specification spells none that has room
+pub none_traced : (options : Options) (text : List ℕ) (e : GenError) → Refusal options text e → (fault : SpecError) × (e ≡ gens.Spec fault) → TraceRefusal options text e
+none_traced options text (gens.Spec e) h is =
+    unless_memory e.kind ((S : Spec) → SpellsSpec (reading options) text S → ⊥) ((S : Spec) → SpellsWithRoom options text S → ⊥) (λ none S k. none S k.0) h
+none_traced options text (gens.Build e) h is = absurd (no_build e is.0 is.1)
+none_traced options text gens.OutOfMemory h is = tt

@@ -12,8 +12,9 @@ ghost use Rattle.lexlook_calls.specs.Looks.{Draws, picture_of};
 use crate::error::LookError;
 use crate::labels::names_of;
 use crate::least::least_automaton;
+use crate::reading::read_text;
 use lexauto::Dfa;
-use lexkit::{GenError, Options, ReadOptions, Sink, lines_of, read_spec};
+use lexkit::{Options, Sink, lines_of};
 use lexlook_pictures::{PictureError, write_picture};
 use lexspec::Spec;
 use std::alloc::Global;
@@ -51,18 +52,8 @@ pub fn draw<K: Sink>(
     ensures told { Draws K.wrote options text.now sink.old sink.new result }
     ensures failures { K.failures sink.new ≡ K.failures sink.old + write_fault_count result }
 {
-    let read = ReadOptions {
-        fold: options.fold,
-        posix: options.posix,
-    };
-    let spec = match read_spec(alloc, text, read) {
-        Err(error) => return Err(LookError::Refused(GenError::Spec(error))),
-        Ok(spec) => spec,
-    };
-    let automaton = match least_automaton(alloc, &spec, options.limits) {
-        Err(error) => return Err(LookError::Refused(error)),
-        Ok(automaton) => automaton,
-    };
+    let spec = read_text(alloc, text, options)?;
+    let automaton = least_automaton(alloc, &spec, options.limits)?;
     match draw_automaton(alloc, &spec, &automaton, sink) {
         Err(error) => Err(LookError::from(error)),
         Ok(()) => Ok(()),

@@ -23,6 +23,16 @@ pub enum LookError {
     Write,
 }
 
+impl From<GenError> for LookError {
+    ghost use Rattle.lexlook_calls.specs.declared.error.LookError.TheVariants.{Refused};
+
+    ghost from_gives = { λ e refused. refused ≡ Refused e };
+
+    fn from(error: GenError) -> LookError {
+        LookError::Refused(error)
+    }
+}
+
 impl From<PictureError> for LookError {
     ghost use Rattle.lexlook_calls.specs.Errors.{told_of};
 

@@ -11,6 +11,7 @@ mod labels;
 mod laws;
 mod least;
 mod naming;
+mod reading;
 mod sides;
 mod telling;
 mod tracing;

@@ -6,7 +6,8 @@ ghost use Rattle.lexlook_calls.specs.Sides.{StandsFor, IsRefused, is_table_file,
 
 use crate::error::LookError;
 use crate::least::least_automaton;
-use lexkit::{GenError, Options, ReadOptions, Tables, read_spec, read_tables};
+use crate::reading::read_text;
+use lexkit::{Options, Tables, read_tables};
 use lexspec::Spec;
 use lextab_packing::pack;
 use std::alloc::Global;
@@ -46,18 +47,8 @@ fn side_of_spec(alloc: Global, text: &[u8], options: Options) -> Result<Side, Lo
     ensures stands { IfOk result (λ s. StandsFor options text.now (machine_of s.tables) (read_as s.spec)) }
     ensures refused { IfErr result (IsRefused options text.now) }
 {
-    let read = ReadOptions {
-        fold: options.fold,
-        posix: options.posix,
-    };
-    let spec = match read_spec(alloc, text, read) {
-        Err(error) => return Err(LookError::Refused(GenError::Spec(error))),
-        Ok(spec) => spec,
-    };
-    let automaton = match least_automaton(alloc, &spec, options.limits) {
-        Err(error) => return Err(LookError::Refused(error)),
-        Ok(automaton) => automaton,
-    };
+    let spec = read_text(alloc, text, options)?;
+    let automaton = least_automaton(alloc, &spec, options.limits)?;
     match pack(alloc, &automaton, &spec) {
         Err(_) => Err(LookError::OutOfMemory),
         Ok(tables) => Ok(Side {

@@ -5,7 +5,8 @@ ghost use Rattle.lexkit.specs.ScanCounts.{HandedOn, read_fault_count, write_faul
 ghost use Rattle.lexlook_calls.specs.Tracing.{Traces};
 ghost use Rattle.lexscan.specs.declared.error.RunError.TheVariants.{Failed};
 
-use lexkit::{GenError, Options, ReadOptions, ScanError, Sink, Source, read_spec, scan_by};
+use crate::reading::read_text;
+use lexkit::{GenError, Options, ScanError, Sink, Source, scan_by};
 use lexlook_trace::traced;
 use std::alloc::Global;
 
@@ -34,12 +35,8 @@ pub fn trace<S: Source, K: Sink>(
     ensures not_failed { IsErrOf result (ScanError.Run Failed) → ⊥ }
     ensures handed_on { HandedOn (K.flushed sink.new) result }
 {
-    let read = ReadOptions {
-        fold: options.fold,
-        posix: options.posix,
-    };
-    let spec = match read_spec(alloc, text, read) {
-        Err(error) => return Err(ScanError::Generate(GenError::Spec(error))),
+    let spec = match read_text(alloc, text, options) {
+        Err(error) => return Err(ScanError::Generate(error)),
         Ok(spec) => spec,
     };
     let telling = match traced(alloc, spec) {

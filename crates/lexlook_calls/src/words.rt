@@ -15,9 +15,10 @@ ghost use Rattle.lexlook_calls.specs.Words.{default_line, line_words, never_word
 
 use crate::error::LookError;
 use crate::labels::names_of;
+use crate::reading::read_text;
 use crate::telling::{add_start, add_string};
 use lexauto::build;
-use lexkit::{GenError, Limits, Options, ReadOptions, Sink, lines_of, read_spec};
+use lexkit::{GenError, Limits, Options, Sink, lines_of};
 use lexlook_pictures::{add, add_number};
 use lexlook_words::{Place, Word, Words, find_words, rejecting, rejects_of};
 use lexspec::Spec;
@@ -182,18 +183,8 @@ pub fn tell_words<K: Sink>(
     ensures told { TellsWords K.wrote options text.now sink.old sink.new result }
     ensures failures { K.failures sink.new ≡ K.failures sink.old + write_fault_count result }
 {
-    let read = ReadOptions {
-        fold: options.fold,
-        posix: options.posix,
-    };
-    let spec = match read_spec(alloc, text, read) {
-        Err(error) => return Err(LookError::Refused(GenError::Spec(error))),
-        Ok(spec) => spec,
-    };
-    let found = match words_of(alloc, spec, options.limits) {
-        Err(error) => return Err(LookError::Refused(error)),
-        Ok(found) => found,
-    };
+    let spec = read_text(alloc, text, options)?;
+    let found = words_of(alloc, spec, options.limits)?;
     let lines = match found_lines(alloc, &found) {
         Err(_) => return Err(LookError::OutOfMemory),
         Ok(lines) => lines,

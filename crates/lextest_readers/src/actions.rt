@@ -1,5 +1,6 @@
 ghost use Rattle.std.specs.Prelude.{◌≡◌, length, IfOk};
 
+use crate::repeating::repeated;
 use lexre_bytes::SpecErrorKind;
 use lexspec_actions::{Condition, EndAction, Statement, read_action, read_end_action};
 use std::alloc::Global;
@@ -214,52 +215,35 @@ fn order_of_refusals(rt: HostRuntime) {
     }
 }
 
-/// A text in which a part stands `count` times between two others.
-fn repeated(
-    alloc: Global,
-    before: &str,
-    part: &str,
-    after: &str,
-    count: usize,
-) -> Result<String, SpecErrorKind> {
-    let mut text = String::new(alloc);
-    text.push_str(before)?;
-    for _ in 0..count {
-        text.push_str(part)?;
-    }
-    text.push_str(after)?;
-    Ok(text)
-}
-
-/// What stands before a part, the part, what stands after it, how often it stands, and what is reported.
+/// What stands before a part, the part, how often it stands, what stands after it, and what is reported.
 type Limit = (
     &'static str,
     &'static str,
+    u32,
     &'static str,
-    usize,
     Option<SpecErrorKind>,
 );
 
 const LIMITS: &[Limit] = &[
-    ("", "ECHO;", "", 256, None),
-    ("", "ECHO;", "", 257, Some(SpecErrorKind::TooLong)),
-    ("printf(\"", "a", "\")", 4096, None),
-    ("printf(\"", "a", "\")", 4097, Some(SpecErrorKind::TooLong)),
-    ("REJECT;", "ECHO;", "", 256, Some(SpecErrorKind::TooLong)),
+    ("", "ECHO;", 256, "", None),
+    ("", "ECHO;", 257, "", Some(SpecErrorKind::TooLong)),
+    ("printf(\"", "a", 4096, "\")", None),
+    ("printf(\"", "a", 4097, "\")", Some(SpecErrorKind::TooLong)),
+    ("REJECT;", "ECHO;", 256, "", Some(SpecErrorKind::TooLong)),
 ];
 
 /// Whether this is reported of an action with a part repeated.
 fn is_limited(alloc: Global, row: &Limit) -> bool {
-    let &(before, part, after, count, want) = row;
-    match repeated(alloc, before, part, after, count) {
+    let &(before, part, count, after, want) = row;
+    match repeated(alloc, before, part, count, after) {
         Ok(text) => refusal(alloc, &text) == want,
         Err(_) => false,
     }
 }
 
 /// Whether an action of this many passes is too long for an end.
-fn is_no_end(alloc: Global, count: usize) -> bool {
-    match repeated(alloc, "", "ECHO;", "", count) {
+fn is_no_end(alloc: Global, count: u32) -> bool {
+    match repeated(alloc, "", "ECHO;", count, "") {
         Ok(text) => end_refusal(alloc, &text) == Some(SpecErrorKind::TooLong),
         Err(_) => false,
     }
@@ -268,7 +252,7 @@ fn is_no_end(alloc: Global, count: usize) -> bool {
 #[test]
 fn limits(rt: HostRuntime) {
     for row in LIMITS {
-        assert!(rt; is_limited(rt.alloc(), row), "{} times {}", row.3, row.1);
+        assert!(rt; is_limited(rt.alloc(), row), "{} times {}", row.2, row.1);
     }
     assert!(rt; is_no_end(rt.alloc(), 257));
 }

@@ -8,6 +8,8 @@ mod definitions;
 #[cfg(test)]
 mod patterns;
 #[cfg(test)]
+mod repeating;
+#[cfg(test)]
 mod series;
 #[cfg(test)]
 mod specifications;

@@ -1,4 +1,5 @@
 use crate::patterns::PLAIN;
+use crate::repeating::repeated;
 use lexspec::{
     Condition, Cut, PatternError, PatternErrorKind, ReadOptions, Rule, Spec, SpecError,
     SpecErrorKind, Statement, read_spec,
@@ -428,23 +429,6 @@ fn has_capital(alloc: Global, text: &str, fold: bool) -> Option<bool> {
         },
         Err(_) => None,
     }
-}
-
-/// A file of a line of definitions, with one word repeated.
-fn repeated(
-    alloc: Global,
-    before: &str,
-    word: &str,
-    count: u32,
-    after: &str,
-) -> Result<String, AllocError> {
-    let mut text = String::new(alloc);
-    text.push_str(before)?;
-    for _i in 0..count {
-        text.push_str(word)?;
-    }
-    text.push_str(after)?;
-    Ok(text)
 }
 
 /// What stands before a part, the part, how often it stands, what stands after it, and how many rules that gives or why it

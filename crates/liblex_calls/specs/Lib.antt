@@ -11,4 +11,5 @@ pub mod Backlogs
 pub mod Stages
 pub mod Owned
 pub mod Progress
+pub mod Handles
 pub mod Pieces

@@ -6,6 +6,7 @@ use Rattle.liblex_calls.specs.Buffers.{NothingOut}
 use Rattle.liblex_calls.specs.Backlogs.{rest}
 use Rattle.liblex_calls.specs.Stages.{feed_answer, finish_answer, status_in}
 use Rattle.liblex_calls.specs.Progress.{Progress, HandsOn}
+use Rattle.liblex_calls.specs.Handles.{open_in}
 use Rattle.liblex_calls.specs.declared.answer.Answer.{Answer}
 use Rattle.liblex_calls.specs.declared.answer.Answer.TheVariants as answers
 use Rattle.liblex_calls.specs.declared.handle.Scan.{Scan}
@@ -13,13 +14,13 @@ use Rattle.liblex_calls.specs.declared.piece_scan.PieceScan.{PieceScan}
 
 -- the scan is open, by the rules of this file, was fed these bytes, and these were handed out
 abbrev pub Scanning : List ℕ → Bool → List ℕ → List ℕ → Scan → Type 0
-Scanning file told fed out scan = (p : PieceScan) × (scan.place.value ≡ Some p) × Progress file told fed out p
+Scanning file told fed out scan = (p : PieceScan) × (open_in scan ≡ Some p) × Progress file told fed out p
 
 -- What beginning a scan leaves, by what it answers.
 abbrev pub OpensScan : List ℕ → Scan → Answer → Type 0
 OpensScan file scan answers.Done = Scanning file false [] [] scan
-OpensScan file scan answers.Refused = ((t : Table) → IsFileOf t file → ⊥) × (scan.place.value ≡ None)
-OpensScan file scan answers.OutOfMemory = scan.place.value ≡ None
+OpensScan file scan answers.Refused = ((t : Table) → IsFileOf t file → ⊥) × (open_in scan ≡ None)
+OpensScan file scan answers.OutOfMemory = open_in scan ≡ None
 OpensScan file scan answers.TooSmall = ⊥
 OpensScan file scan answers.Ended = ⊥
 OpensScan file scan answers.Closed = ⊥
@@ -29,13 +30,13 @@ OpensScan file scan answers.TooManyReads = ⊥
 -- What a feed leaves: the answer says whether bytes are left to be handed out, and else how far the scan has come.
 abbrev pub FeedsInto : List ℕ → Bool → List ℕ → List ℕ → Scan → List ℕ → List ℕ → ℕ → Answer → Type 0
 FeedsInto file told fed out scan old new count answer =
-    (p : PieceScan) × (scan.place.value ≡ Some p) × HandsOn file told fed out p old new count × (answer ≡ feed_answer p.stage (length (rest p.backlog)))
+    (p : PieceScan) × (open_in scan ≡ Some p) × HandsOn file told fed out p old new count × (answer ≡ feed_answer p.stage (length (rest p.backlog)))
 
 -- And what the end of the input leaves.
 abbrev pub FinishesInto : List ℕ → List ℕ → List ℕ → Scan → List ℕ → List ℕ → ℕ → ℕ → Answer → Type 0
 FinishesInto file fed out scan old new count status answer =
-    (p : PieceScan) × (scan.place.value ≡ Some p) × HandsOn file true fed out p old new count × (answer ≡ finish_answer p.stage (length (rest p.backlog))) × (status ≡ status_in p.stage)
+    (p : PieceScan) × (open_in scan ≡ Some p) × HandsOn file true fed out p old new count × (answer ≡ finish_answer p.stage (length (rest p.backlog))) × (status ≡ status_in p.stage)
 
 -- A call leaves a scan that is closed so, and hands out nothing.
 abbrev pub StaysClosed : Scan → List ℕ → List ℕ → ℕ → Answer → Type 0
-StaysClosed scan old new count answer = (answer ≡ answers.Closed) × NothingOut old new count × (scan.place.value ≡ None)
+StaysClosed scan old new count answer = (answer ≡ answers.Closed) × NothingOut old new count × (open_in scan ≡ None)

@@ -10,9 +10,11 @@ use Rattle.lextab_packed.specs.Table.{Table}
 use Rattle.lextab_packed.specs.Steps.{machine_of_table}
 use Rattle.lextab_packed.specs.Invariant.{GoesOn}
 use Rattle.lextab_packed.specs.Machines.{machine_of}
+use Rattle.lextab_packed.specs.FlatViews.{tables_of}
 use Rattle.lextab_file.specs.File.{IsFileOf}
 use Rattle.lexscan.specs.declared.state.State.{State}
 use Rattle.lexscan.specs.Pushes.{Fed, AsksForMore}
+use Rattle.lexscan.specs.Scanners.{push_machine, push_state, push_waiting}
 use Rattle.liblex_calls.specs.Backlogs.{rest}
 use Rattle.liblex_calls.specs.declared.stage.Stage.{Stage}
 use Rattle.liblex_calls.specs.declared.stage.Stage.TheVariants as stages
@@ -28,7 +30,7 @@ pub record IsMachineOf (file : List ℕ) (M : Machine) : Type 0 where
 
 -- the machine of a scan
 abbrev pub machine_in : PieceScan → Machine
-machine_in p = machine_of p.scanner.machine.tables
+machine_in p = machine_of (tables_of (push_machine p.scanner))
 
 -- Over every input that this may be the beginning of, or all of if its end was told, the run writes this and ends so.
 abbrev pub RunsAll : Rules → Bool → List ℕ → List ℕ → Ending → Type 0
@@ -53,7 +55,7 @@ pub record Progress (file : List ℕ) (told : Bool) (fed out : List ℕ) (p : Pi
   pub machine : IsMachineOf file (machine_in p)
   pub text : IsText fed
   pub finished : p.finished ≡ told
-  pub stands : StandsAt (machine_in p) p.stage told fed (out ++ rest p.backlog) p.scanner.state p.scanner.waiting.items
+  pub stands : StandsAt (machine_in p) p.stage told fed (out ++ rest p.backlog) (push_state p.scanner) (push_waiting p.scanner)
 
 -- What counts as fed with a piece more: once the end was told, nothing more does.
 abbrev pub fed_with : Bool → List ℕ → List ℕ → List ℕ

@@ -1,10 +1,11 @@
 //! Scans by pieces, each piece into a buffer of the caller.
 ghost use Rattle.std.specs.Prelude.{◌≡◌, ℕ, Bool, List, None};
+ghost use Rattle.liblex_calls.specs.Handles.{open_in};
 ghost use Rattle.liblex_calls.specs.Progress.{fed_with};
 ghost use Rattle.liblex_calls.specs.Pieces.{Scanning, OpensScan, FeedsInto, FinishesInto, StaysClosed};
 
 use crate::answer::Answer;
-use crate::handle::{Scan, close_scan, put, take};
+use crate::handle::{Scan, put, take};
 use crate::piece_scan::PieceScan;
 use lexkit::{Flat, TableError, read_tables};
 use std::alloc::Global;
@@ -43,7 +44,7 @@ pub fn feed_into(
 ) -> Answer
     ensures fed { (file : List ℕ) (told : Bool) (fed out : List ℕ) → Scanning file told fed out scan.old
         → FeedsInto file told (fed_with told fed piece.now) out scan.new buffer.old buffer.new count.new result }
-    ensures closed { scan.old.place.value ≡ None → StaysClosed scan.new buffer.old buffer.new count.new result }
+    ensures closed { open_in scan.old ≡ None → StaysClosed scan.new buffer.old buffer.new count.new result }
 {
     *count = 0;
     let Some(mut held) = take(alloc, scan) else {
@@ -64,7 +65,7 @@ pub fn finish_into(
 ) -> Answer
     ensures finished { (file : List ℕ) (told : Bool) (fed out : List ℕ) → Scanning file told fed out scan.old
         → FinishesInto file fed out scan.new buffer.old buffer.new count.new status.new result }
-    ensures closed { scan.old.place.value ≡ None → StaysClosed scan.new buffer.old buffer.new count.new result
+    ensures closed { open_in scan.old ≡ None → StaysClosed scan.new buffer.old buffer.new count.new result
         × (status.new ≡ 0) }
 {
     *count = 0;
@@ -75,4 +76,14 @@ pub fn finish_into(
     let answer = held.finish(buffer, count, status);
     put(scan, held);
     answer
+}
+
+/// Closes a scan, and gives its memory back. One that is closed stays so.
+pub fn close_scan(alloc: Global, scan: &mut Scan)
+    ensures { open_in scan.new ≡ None }
+{
+    match take(alloc, scan) {
+        None => {}
+        Some(_) => {}
+    }
 }

@@ -17,9 +17,11 @@ pub struct Scan {
 }
 
 impl Scan {
+    ghost use Rattle.liblex_calls.specs.Handles.{open_in};
+
     /// One that is closed.
     pub fn closed() -> Scan
-        ensures { result.place.value ≡ None }
+        ensures { open_in result ≡ None }
     {
         Scan {
             is_open: false,
@@ -66,14 +68,4 @@ pub(crate) fn put(scan: &mut Scan, held: Box<PieceScan>)
 {
     let Scan { is_open: _, place } = mem::replace(scan, Scan::holding(held));
     place.let_go();
-}
-
-/// Closes a scan, and gives its memory back. One that is closed stays so.
-pub fn close_scan(alloc: Global, scan: &mut Scan)
-    ensures { scan.new.place.value ≡ None }
-{
-    match take(alloc, scan) {
-        None => {}
-        Some(_) => {}
-    }
 }

@@ -1,5 +1,6 @@
 //! A scan by pieces, with what it wrote and was not handed out yet.
 ghost use Rattle.std.specs.Prelude.{◌≡◌, ℕ, Bool, List, [], true, false, length};
+ghost use Rattle.lextab_packed.specs.FlatViews.{tables_of};
 ghost use Rattle.lextab_packed.specs.Machines.{machine_of};
 
 use crate::answer::Answer;
@@ -26,7 +27,7 @@ impl PieceScan {
 
     /// One that was fed nothing.
     pub(crate) fn new(alloc: Global, flat: Flat) -> PieceScan
-        ensures { (file : List ℕ) → IsMachineOf file (machine_of flat.tables) → Progress file false [] [] result }
+        ensures { (file : List ℕ) → IsMachineOf file (machine_of (tables_of flat)) → Progress file false [] [] result }
     {
         PieceScan {
             scanner: PushScanner::new(alloc, flat),
