@@ -2,6 +2,7 @@
 #![tactic(auto)]
 
 ghost use Rattle.std.specs.Prelude.{◌≡◌, ℕ, Bool, List, None};
+ghost use Rattle.liblex_calls.specs.Handles.{open_in};
 ghost use Rattle.liblex_calls.specs.declared.answer.Answer.{Answer};
 ghost use Rattle.liblex_calls.specs.Numbers.{number_of};
 ghost use Rattle.liblex_calls.specs.Generating.{Generates};
@@ -100,7 +101,7 @@ pub extern "C" fn lex_feed(
     ensures { (answer : Answer) × (result ≡ number_of answer)
         × ((file : List ℕ) (told : Bool) (fed out : List ℕ) → Scanning file told fed out scan.old
         → FeedsInto file told (fed_with told fed piece.now) out scan.new buffer.old buffer.new count.new answer)
-        × (scan.old.place.value ≡ None → StaysClosed scan.new buffer.old buffer.new count.new answer) }
+        × (open_in scan.old ≡ None → StaysClosed scan.new buffer.old buffer.new count.new answer) }
 {
     feed_into(alloc, scan, piece, buffer, count).number()
 }
@@ -117,7 +118,7 @@ pub extern "C" fn lex_finish(
     ensures { (answer : Answer) × (result ≡ number_of answer)
         × ((file : List ℕ) (told : Bool) (fed out : List ℕ) → Scanning file told fed out scan.old
         → FinishesInto file fed out scan.new buffer.old buffer.new count.new status.new answer)
-        × (scan.old.place.value ≡ None → StaysClosed scan.new buffer.old buffer.new count.new answer
+        × (open_in scan.old ≡ None → StaysClosed scan.new buffer.old buffer.new count.new answer
         × (status.new ≡ 0)) }
 {
     finish_into(alloc, scan, buffer, count, status).number()
@@ -126,7 +127,7 @@ pub extern "C" fn lex_finish(
 /// Closes a scan by pieces.
 #[unsafe(no_mangle)]
 pub extern "C" fn lex_close(alloc: Global, scan: &mut Scan)
-    ensures { scan.new.place.value ≡ None }
+    ensures { open_in scan.new ≡ None }
 {
     close_scan(alloc, scan);
 }
