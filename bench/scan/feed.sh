@@ -1,8 +1,8 @@
 #!/usr/bin/env bash
 # Scans about 20 MB (or SIZE bytes) by each specification here and by four of examples/, by the program lex with a table file and through
 # lex_feed of liblex in pieces of 64 KiB, by the same file. They run in turn, RUNS times each (9 without it), and what each run writes is
-# compared with what the first wrote. A row tells the median of the seconds of the processor, the system's with them, and the least, and
-# then the median of the feeds as a part of the program's.
+# compared with what the first wrote. A row tells the median of the seconds of the processor, the system's with them, and the least. Then
+# each feed is taken as a part of the program's run just before it, and the median of these parts is told.
 #
 # With the word `instructions` it tells the instructions a byte that callgrind counts, over 2 MB (or SIZE bytes), of one run.
 #
@@ -62,5 +62,6 @@ for spec in "$here"/*.l "$top"/examples/{words,documents,c_tokens,heredoc}.l; do
     done
     read -r scans least < <(middle "$folder/lex.numbers")
     read -r feeds less < <(middle "$folder/feed.numbers")
-    echo "| $name.l | $scans ($least) | $feeds ($less) | $(awk -v a="$feeds" -v b="$scans" 'BEGIN { printf "%.2f", a / b }') |"
+    read -r part _ < <(paste "$folder/feed.numbers" "$folder/lex.numbers" | awk '{ printf "%.2f\n", $1 / $2 }' | middle /dev/stdin)
+    echo "| $name.l | $scans ($least) | $feeds ($less) | $part |"
 done
