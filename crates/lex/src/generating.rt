@@ -1,9 +1,8 @@
 //! Tables and reports, written to files.
 ghost use Rattle.std.specs.Prelude.{◌≤◌};
 
-use crate::failure::Failure;
 use lexkit::{
-    BackUp, ByteWriter, Generated, MAX_POSITIONS, MAX_STATES, Made, Options, Sink, Stats, Tables,
+    BackUp, ByteWriter, Failure, Generated, MAX_POSITIONS, MAX_STATES, Made, Options, Sink, Stats, Tables,
     ToWrite, Warning, WriteFault, generate, generate_tables, write_backup, write_stats,
     write_tables, write_warnings,
 };

@@ -3,15 +3,13 @@
 
 ghost use Rattle.std.specs.Prelude.{◌≡◌, ◌≤◌};
 
-mod failure;
 mod generating;
 mod reading;
 
-use crate::failure::Failure;
 use crate::generating::{Outputs, make, make_with_warnings};
 use crate::reading::{read_spec_file, read_specification, read_table_file};
 use lexkit::{
-    ArgsError, ByteReader, ByteWriter, FromBytes, Job, MAX_POSITIONS, MAX_STATES, Options,
+    ArgsError, ByteReader, ByteWriter, Failure, FromBytes, Job, MAX_POSITIONS, MAX_STATES, Options,
     ReadOptions, Sink, Tables, ToWrite, read_args, scan_made, scan_spec, scan_table, write_fault,
 };
 use std::io::ErrorKind;

@@ -1,14 +1,12 @@
 //! The files that the program reads.
 ghost use Rattle.std.specs.Prelude.{◌≡◌, ◌⊎◌, IfErr};
-ghost use Rattle.lex.specs.Faults.{out_of_memory};
-ghost use Rattle.lex.specs.declared.failure.Failure.{Failure};
+ghost use Rattle.lexkit.specs.Failures.{out_of_memory};
+ghost use Rattle.lexkit.specs.declared.failure.Failure.{Failure};
 
-use crate::failure::Failure;
-use lexkit::MAX_FILE_BYTES;
-use std::alloc::AllocError;
+use lexkit::{Failure, MAX_FILE_BYTES};
 use std::fs::File;
 use std::io;
-use std::io::{ErrorKind, Read};
+use std::io::Read;
 
 /// The bytes that are read of a specification at most: one more than it may have.
 const SPEC_BYTES: u64 = MAX_FILE_BYTES as u64 + 1;
@@ -27,29 +25,19 @@ fn read_more(rt: &HostRuntime, name: &str, most: u64, text: &mut Vec<u8>) -> io:
     Ok(())
 }
 
-/// The failure that is reported for a file that cannot be read.
-fn reading_failure(error: ErrorKind, name: String) -> Failure
-    ensures { (result ≡ out_of_memory) ⊎ (result ≡ Failure.File name) }
-{
-    match error {
-        ErrorKind::OutOfMemory => Failure::from(AllocError),
-        _ => Failure::File(name),
-    }
-}
-
 /// The text that the files are together. No file, and `-`, is standard input. Of a longer one than a specification may be it
 /// is one byte more, and what follows is not read.
 pub fn read_specification(rt: &HostRuntime, files: &[String]) -> Result<Vec<u8>, Failure> {
     let mut text = Vec::new(rt.alloc());
     if files.is_empty() {
         if let Err(error) = read_more(rt, "-", SPEC_BYTES, &mut text) {
-            return Err(reading_failure(error.kind(), String::from_str(rt.alloc(), "-")?));
+            return Err(Failure::of_file(error.kind(), String::from_str(rt.alloc(), "-")?));
         }
     }
     for file in files {
         if let Err(error) = read_more(rt, file.as_str(), SPEC_BYTES, &mut text) {
             let name = String::from_str(rt.alloc(), file.as_str())?;
-            return Err(reading_failure(error.kind(), name));
+            return Err(Failure::of_file(error.kind(), name));
         }
         if text.len() > MAX_FILE_BYTES {
             return Ok(text);
@@ -65,7 +53,7 @@ pub fn read_spec_file(rt: &HostRuntime, name: String) -> Result<Vec<u8>, Failure
     let mut text = Vec::new(rt.alloc());
     match read_more(rt, name.as_str(), SPEC_BYTES, &mut text) {
         Ok(()) => Ok(text),
-        Err(error) => Err(reading_failure(error.kind(), name)),
+        Err(error) => Err(Failure::of_file(error.kind(), name)),
     }
 }
 
@@ -77,6 +65,6 @@ pub fn read_table_file(rt: &HostRuntime, name: String) -> Result<Vec<u8>, Failur
     match read_more(rt, name.as_str(), MAX_TABLE + 1, &mut bytes) {
         Ok(()) if bytes.len() as u64 > MAX_TABLE => Err(Failure::File(name)),
         Ok(()) => Ok(bytes),
-        Err(error) => Err(reading_failure(error.kind(), name)),
+        Err(error) => Err(Failure::of_file(error.kind(), name)),
     }
 }

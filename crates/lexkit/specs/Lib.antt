@@ -2,6 +2,7 @@ pub mod Args
 pub mod CommandLine
 pub mod CommandExamples
 pub mod Faults
+pub mod Failures
 pub mod Refusal
 pub mod Headline
 pub mod ScanCounts

@@ -5,6 +5,7 @@
 mod args;
 mod counting;
 mod errors;
+mod failure;
 mod faults;
 mod laws;
 mod making;
@@ -14,6 +15,7 @@ mod stats;
 
 pub use args::{ArgsError, Job, read_args};
 pub use errors::{GenError, ScanError};
+pub use failure::Failure;
 pub use faults::{Fault, write_fault};
 pub use laws::{command_lines, file_scans, one_file, text_tokens};
 pub use lex_semantics::{MAX_FILE_BYTES, MAX_POSITIONS, MAX_STATES};

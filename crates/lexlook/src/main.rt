@@ -3,13 +3,11 @@
 
 ghost use Rattle.std.specs.Prelude.{◌≡◌, ◌≤◌};
 
-mod failure;
 mod reading;
 
-use crate::failure::Failure;
 use crate::reading::{read_compared_file, read_spec_file};
 use lexkit::{
-    ArgsError, ByteReader, ByteWriter, FromBytes, MAX_POSITIONS, MAX_STATES, Options, Sink,
+    ArgsError, ByteReader, ByteWriter, Failure, FromBytes, MAX_POSITIONS, MAX_STATES, Options, Sink,
     ToWrite, write_fault,
 };
 use lexlook_calls::{

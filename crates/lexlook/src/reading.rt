@@ -1,15 +1,13 @@
 //! The files that the program reads.
 ghost use Rattle.std.specs.Prelude.{◌≡◌, ◌⊎◌, IfErr};
 ghost use Rattle.lexkit.specs.declared.faults.Fault.{Fault};
-ghost use Rattle.lexlook.specs.Faults.{Tells, out_of_memory};
-ghost use Rattle.lexlook.specs.declared.failure.Failure.{Failure};
+ghost use Rattle.lexkit.specs.Failures.{Tells, out_of_memory};
+ghost use Rattle.lexkit.specs.declared.failure.Failure.{Failure};
 
-use crate::failure::Failure;
-use lexkit::MAX_FILE_BYTES;
-use std::alloc::AllocError;
+use lexkit::{Failure, MAX_FILE_BYTES};
 use std::fs::File;
 use std::io;
-use std::io::{ErrorKind, Read};
+use std::io::Read;
 
 /// The bytes that are read of a specification at most: one more than it may have.
 const SPEC_BYTES: u64 = MAX_FILE_BYTES as u64 + 1;
@@ -28,23 +26,13 @@ fn read_file(rt: &HostRuntime, name: &str, most: u64) -> io::Result<Vec<u8>> {
     Ok(text)
 }
 
-/// The failure that is reported for a file that cannot be read.
-fn reading_failure(error: ErrorKind, name: String) -> Failure
-    ensures { (result ≡ out_of_memory) ⊎ (result ≡ Failure.File name) }
-{
-    match error {
-        ErrorKind::OutOfMemory => Failure::from(AllocError),
-        _ => Failure::File(name),
-    }
-}
-
 /// The text of a specification file. Of a longer one than a specification may be it is one byte more.
 pub fn read_spec_file(rt: &HostRuntime, name: String) -> Result<Vec<u8>, Failure>
     ensures { IfErr result (λ failure. (failure ≡ out_of_memory) ⊎ (failure ≡ Failure.File name)) }
 {
     match read_file(rt, name.as_str(), SPEC_BYTES) {
         Ok(text) => Ok(text),
-        Err(error) => Err(reading_failure(error.kind(), name)),
+        Err(error) => Err(Failure::of_file(error.kind(), name)),
     }
 }
 
@@ -57,7 +45,7 @@ pub fn read_compared_file(rt: &HostRuntime, name: &str) -> Result<Vec<u8>, Failu
         Err(error) => error.kind(),
     };
     match String::from_str(rt.alloc(), name) {
-        Ok(name) => Err(reading_failure(error, name)),
+        Ok(name) => Err(Failure::of_file(error, name)),
         Err(error) => Err(Failure::from(error)),
     }
 }

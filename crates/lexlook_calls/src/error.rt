@@ -2,7 +2,7 @@
 
 ghost use Rattle.std.specs.Prelude.{◌≡◌};
 
-use lexkit::{GenError, TableError};
+use lexkit::{Failure, GenError, ScanError, TableError};
 use lexlook_pictures::PictureError;
 use thiserror::Error;
 
@@ -42,6 +42,21 @@ impl From<PictureError> for LookError {
         match error {
             PictureError::OutOfMemory => LookError::OutOfMemory,
             PictureError::Write => LookError::Write,
+        }
+    }
+}
+
+impl From<LookError> for Failure {
+    ghost use Rattle.lexlook_calls.specs.Errors.{failure_of};
+
+    ghost from_gives = { λ error failure. failure ≡ failure_of error };
+
+    fn from(error: LookError) -> Failure {
+        match error {
+            LookError::Refused(error) => Failure::Scan(ScanError::Generate(error)),
+            LookError::Table(error) => Failure::Scan(ScanError::Table(error)),
+            LookError::OutOfMemory => Failure::Scan(ScanError::Generate(GenError::OutOfMemory)),
+            LookError::Write => Failure::Output,
         }
     }
 }

@@ -1,20 +1,42 @@
-//! What ends the program before its work is done.
-ghost use Rattle.std.specs.Prelude.{◌≡◌};
-ghost use Rattle.lex.specs.Faults.{Tells, out_of_memory};
+//! What ends a program before its work is done.
+ghost use Rattle.std.specs.Prelude.{◌≡◌, ⊥};
+ghost use Rattle.lexkit.specs.Failures.{Tells, out_of_memory};
 
-use lexkit::{ArgsError, Fault, GenError, ScanError, WriteFault};
+use crate::args::ArgsError;
+use crate::errors::{GenError, ScanError};
+use crate::faults::Fault;
+use lextab::WriteFault;
 use std::alloc::AllocError;
+use std::io::ErrorKind;
 
-/// What ended the program before its work was done.
+/// What ended a program before its work was done. It owns the name of the file.
 #[derive(Debug, Drop)]
 pub enum Failure {
+    /// The command line was refused.
     Args(ArgsError),
+    /// The specification or the table file was refused, or the scan stopped.
     Scan(ScanError),
+    /// This file can't be read.
     File(String),
+    /// The output can't be written.
     Output,
 }
 
 impl Failure {
+    ghost use Rattle.std.specs.declared.io.ErrorKind.TheVariants.{OutOfMemory};
+    ghost use Rattle.lexkit.specs.declared.failure.Failure.{Failure};
+
+    /// What is reported where this file cannot be read for this reason: that memory ran out, or the file's name.
+    pub fn of_file(reason: ErrorKind, name: String) -> Failure
+        ensures memory { reason ≡ OutOfMemory → result ≡ out_of_memory }
+        ensures other { (reason ≡ OutOfMemory → ⊥) → result ≡ Failure.File name }
+    {
+        match reason {
+            ErrorKind::OutOfMemory => Failure::from(AllocError),
+            _ => Failure::File(name),
+        }
+    }
+
     /// The fault that is reported.
     pub fn fault(&self) -> Fault<'_>
         ensures { Tells self.now result }
@@ -29,7 +51,7 @@ impl Failure {
 }
 
 impl From<ArgsError> for Failure {
-    ghost use Rattle.lex.specs.declared.failure.Failure.{Failure};
+    ghost use Rattle.lexkit.specs.declared.failure.Failure.{Failure};
 
     ghost from_gives = { λ error failure. failure ≡ Failure.Args error };
 
@@ -39,7 +61,7 @@ impl From<ArgsError> for Failure {
 }
 
 impl From<ScanError> for Failure {
-    ghost use Rattle.lex.specs.declared.failure.Failure.{Failure};
+    ghost use Rattle.lexkit.specs.declared.failure.Failure.{Failure};
 
     ghost from_gives = { λ error failure. failure ≡ Failure.Scan error };
 
@@ -49,7 +71,7 @@ impl From<ScanError> for Failure {
 }
 
 impl From<GenError> for Failure {
-    ghost use Rattle.lex.specs.declared.failure.Failure.{Failure};
+    ghost use Rattle.lexkit.specs.declared.failure.Failure.{Failure};
     ghost use Rattle.lexkit.specs.declared.errors.ScanError.TheVariants.{Generate};
 
     ghost from_gives = { λ error failure. failure ≡ Failure.Scan (Generate error) };
@@ -60,7 +82,7 @@ impl From<GenError> for Failure {
 }
 
 impl From<WriteFault> for Failure {
-    ghost use Rattle.lex.specs.declared.failure.Failure.{Failure};
+    ghost use Rattle.lexkit.specs.declared.failure.Failure.{Failure};
 
     ghost from_gives = { λ _ failure. failure ≡ Failure.Output };
 

@@ -1,7 +1,7 @@
--- What is told of a failure of the program. (Own: POSIX leaves it to the implementation.)
+-- What is told of a failure of a program. (Own: POSIX leaves it to the implementation.)
 use Rattle.std.specs.Prelude.{◌≡◌, string_bytes}
-use Rattle.lex.specs.declared.failure.Failure.{Failure}
-use Rattle.lex.specs.declared.failure.Failure.TheVariants.{Args, Scan, File, Output}
+use Rattle.lexkit.specs.declared.failure.Failure.{Failure}
+use Rattle.lexkit.specs.declared.failure.Failure.TheVariants.{Args, Scan, File, Output}
 use Rattle.lexkit.specs.declared.errors.GenError.TheVariants as gens
 use Rattle.lexkit.specs.declared.errors.ScanError.TheVariants as scans
 use Rattle.lexkit.specs.declared.faults.Fault.{Fault}
