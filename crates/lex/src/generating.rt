@@ -2,9 +2,9 @@
 ghost use Rattle.std.specs.Prelude.{◌≤◌};
 
 use lexkit::{
-    BackUp, ByteWriter, Failure, Generated, MAX_POSITIONS, MAX_STATES, Made, Options, Sink, Stats, Tables,
-    ToWrite, Warning, WriteFault, generate, generate_tables, write_backup, write_stats,
-    write_tables, write_warnings,
+    BackUp, ByteWriter, Failure, Generated, MAX_POSITIONS, MAX_STATES, Made, Options, Sink, Stats,
+    Tables, ToBytes, ToWrite, Warning, WriteFault, generate, generate_tables, write_backup,
+    write_stats, write_tables, write_warnings,
 };
 use std::fs::File;
 use std::io;
@@ -112,7 +112,7 @@ fn write_table(rt: &HostRuntime, tables: &Tables, outputs: &Outputs) -> Result<(
 }
 
 fn put_table<W: Write + Drop>(rt: &HostRuntime, tables: &Tables, writer: W) -> Result<(), Failure> {
-    let mut sink = ToWrite::new(ByteWriter::new(rt.alloc(), writer)?);
+    let mut sink = ToBytes::new(ByteWriter::new(rt.alloc(), writer)?);
     write_tables(tables, &mut sink)?;
     sink.flush()?;
     Ok(())
@@ -120,7 +120,7 @@ fn put_table<W: Write + Drop>(rt: &HostRuntime, tables: &Tables, writer: W) -> R
 
 fn report(rt: &HostRuntime, entries: &[BackUp]) -> Result<(), Failure> {
     let writer = create(rt, BACKUP_FILE)?;
-    let mut sink = ToWrite::new(ByteWriter::new(rt.alloc(), writer)?);
+    let mut sink = ToBytes::new(ByteWriter::new(rt.alloc(), writer)?);
     write_backup(entries, &mut sink)?;
     sink.flush()?;
     Ok(())

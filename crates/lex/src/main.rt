@@ -10,7 +10,8 @@ use crate::generating::{Outputs, make, make_with_warnings};
 use crate::reading::{read_spec_file, read_specification, read_table_file};
 use lexkit::{
     ArgsError, ByteReader, ByteWriter, Failure, FromBytes, Job, MAX_POSITIONS, MAX_STATES, Options,
-    ReadOptions, Sink, Tables, ToWrite, read_args, scan_made, scan_spec, scan_table, write_fault,
+    ReadOptions, Sink, Tables, ToBytes, ToWrite, read_args, scan_made, scan_spec, scan_table,
+    write_fault,
 };
 use std::io::ErrorKind;
 use std::process::ExitCode;
@@ -45,7 +46,7 @@ enum By<'a> {
 /// Scans standard input to standard output.
 fn scan(rt: &HostRuntime, by: By<'_>) -> Result<u8, Failure> {
     let mut source = FromBytes::new(ByteReader::new(rt.alloc(), rt.reader())?);
-    let mut sink = ToWrite::new(ByteWriter::new(rt.alloc(), io::writer(rt))?);
+    let mut sink = ToBytes::new(ByteWriter::new(rt.alloc(), io::writer(rt))?);
     let result = match by {
         By::Spec(text, options) => {
             scan_spec(

@@ -31,7 +31,7 @@ pub use lexspec::{
 };
 pub use lextab::{
     ByteWriter, Cut, EndAction, Flat, Machine, MemorySink, Plain, Sink, Statement, TableError,
-    Tables, ToWrite, WriteFault, read_tables, write_tables,
+    Tables, ToBytes, ToWrite, WriteFault, read_tables, write_tables,
 };
 pub use making::{Generated, Made, generate, generate_tables, lines_of};
 pub use options::Options;

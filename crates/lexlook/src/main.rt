@@ -7,8 +7,8 @@ mod reading;
 
 use crate::reading::{read_compared_file, read_spec_file};
 use lexkit::{
-    ArgsError, ByteReader, ByteWriter, Failure, FromBytes, MAX_POSITIONS, MAX_STATES, Options, Sink,
-    ToWrite, write_fault,
+    ArgsError, ByteReader, ByteWriter, Failure, FromBytes, MAX_POSITIONS, MAX_STATES, Options,
+    Sink, ToBytes, ToWrite, write_fault,
 };
 use lexlook_calls::{
     Given, Look, draw, read_args, tell_lines, tell_same, tell_words, trace, write_help,
@@ -59,7 +59,7 @@ fn show_picture(rt: &HostRuntime, text: &[u8], options: Options) -> Result<(), F
     requires few_positions { options.limits.positions ≤ MAX_POSITIONS }
     requires few_states { options.limits.states ≤ MAX_STATES }
 {
-    let mut sink = ToWrite::new(ByteWriter::new(rt.alloc(), io::writer(rt))?);
+    let mut sink = ToBytes::new(ByteWriter::new(rt.alloc(), io::writer(rt))?);
     draw(rt.alloc(), text, options, &mut sink)?;
     sink.flush()?;
     Ok(())
@@ -70,7 +70,7 @@ fn show_words(rt: &HostRuntime, text: &[u8], options: Options) -> Result<(), Fai
     requires few_positions { options.limits.positions ≤ MAX_POSITIONS }
     requires few_states { options.limits.states ≤ MAX_STATES }
 {
-    let mut sink = ToWrite::new(ByteWriter::new(rt.alloc(), io::writer(rt))?);
+    let mut sink = ToBytes::new(ByteWriter::new(rt.alloc(), io::writer(rt))?);
     tell_words(rt.alloc(), text, options, &mut sink)?;
     sink.flush()?;
     Ok(())
@@ -96,7 +96,7 @@ fn show_same(
         name: right,
         bytes: others.as_slice(),
     };
-    let mut sink = ToWrite::new(ByteWriter::new(rt.alloc(), io::writer(rt))?);
+    let mut sink = ToBytes::new(ByteWriter::new(rt.alloc(), io::writer(rt))?);
     let same = tell_same(rt.alloc(), this, that, options, &mut sink)?;
     sink.flush()?;
     Ok(status_of(same))
@@ -108,7 +108,7 @@ fn show_lines(rt: &HostRuntime, name: &str, options: Options) -> Result<ExitCode
     requires few_states { options.limits.states ≤ MAX_STATES }
 {
     let bytes = read_compared_file(rt, name)?;
-    let mut sink = ToWrite::new(ByteWriter::new(rt.alloc(), io::writer(rt))?);
+    let mut sink = ToBytes::new(ByteWriter::new(rt.alloc(), io::writer(rt))?);
     let may = tell_lines(rt.alloc(), bytes.as_slice(), options, &mut sink)?;
     sink.flush()?;
     Ok(status_of(may))
@@ -120,7 +120,7 @@ fn show_trace(rt: &HostRuntime, text: &[u8], options: Options) -> Result<ExitCod
     requires few_states { options.limits.states ≤ MAX_STATES }
 {
     let mut source = FromBytes::new(ByteReader::new(rt.alloc(), rt.reader())?);
-    let mut sink = ToWrite::new(ByteWriter::new(rt.alloc(), io::writer(rt))?);
+    let mut sink = ToBytes::new(ByteWriter::new(rt.alloc(), io::writer(rt))?);
     let result = trace(rt.alloc(), text, options, &mut source, &mut sink);
     if result.is_err() {
         // What was written before the fault is still to be seen, and the fault is reported in any case.
