@@ -1,9 +1,5 @@
-pub mod Args
-pub mod CommandLine
-pub mod CommandExamples
 pub mod Faults
 pub mod Failures
-pub mod Refusal
 pub mod Headline
 pub mod ScanCounts
 pub mod Canonical

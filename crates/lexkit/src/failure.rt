@@ -2,7 +2,7 @@
 ghost use Rattle.std.specs.Prelude.{◌≡◌, ⊥};
 ghost use Rattle.lexkit.specs.Failures.{Tells, out_of_memory};
 
-use crate::args::ArgsError;
+use lexkit_command::ArgsError;
 use crate::errors::{GenError, ScanError};
 use crate::faults::Fault;
 use lextab::WriteFault;

@@ -4,7 +4,7 @@ ghost use Rattle.lex_io.specs.Sink.{Appended, fault_count};
 ghost use Rattle.lexauto_reports.specs.Joined.{joined};
 ghost use Rattle.lexkit.specs.Faults.{line_of, fault_words, scan_words, gen_words, gen_status, table_words, table_status, args_status, scan_status, run_status, build_words, spec_words, lacks_memory, run_words, args_words};
 
-use crate::args::ArgsError;
+use lexkit_command::ArgsError;
 use crate::errors::{GenError, ScanError};
 use itoa::Buffer;
 use lexauto::BuildError;

@@ -2,7 +2,6 @@
 //! words and lines of its program.
 #![tactic(auto)]
 
-mod args;
 mod counting;
 mod errors;
 mod failure;
@@ -13,14 +12,14 @@ mod options;
 mod scan;
 mod stats;
 
-pub use args::{ArgsError, Job, read_args};
 pub use errors::{GenError, ScanError};
 pub use failure::Failure;
 pub use faults::{Fault, write_fault};
-pub use laws::{command_lines, file_scans, one_file, text_tokens};
+pub use laws::{file_scans, one_file, text_tokens};
 pub use lex_semantics::{MAX_FILE_BYTES, MAX_POSITIONS, MAX_STATES};
 pub use lexauto::{BackUp, BuildError, Limits};
 pub use lexauto_reports::{Warning, write_backup, write_warnings};
+pub use lexkit_command::{ArgsError, Job, command_lines, read_args};
 pub use lexscan::{
     ByteReader, Candidate, FromBytes, FromRead, Match, MatchedRule, MemorySource, ReadFault,
     RunError, Scanner, Source, Turn, Window, accepted, longest, run,

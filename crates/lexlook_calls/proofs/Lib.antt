@@ -1,6 +1,5 @@
 pub mod Joined
 pub mod Sided
-pub mod Asked
 pub mod Drawn
 pub mod SamePictures
 pub mod Cutting
@@ -9,4 +8,3 @@ pub mod Matching
 pub mod Alike
 pub mod Shown
 pub mod Traced
-pub mod Subcommands

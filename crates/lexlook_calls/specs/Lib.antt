@@ -1,4 +1,3 @@
-pub mod LookLine
 pub mod Errors
 pub mod Looks
 pub mod Sides

@@ -1,0 +1,4 @@
+pub mod Args
+pub mod CommandLine
+pub mod CommandExamples
+pub mod Refusal

@@ -1,0 +1,29 @@
+//! How the program is called.
+ghost use Rattle.std.specs.Prelude.{◌≡◌, ◌+◌, ◌-◌, ◌^◌, ◌<◌};
+ghost use Rattle.lex_io.specs.Sink.{Appended, fault_count};
+
+use lex_io::{Sink, WriteFault};
+
+/// The subcommands, a line each.
+const HELP: &str = "lexlook shows what a specification of lex does.\n\n\
+    lexlook picture FILE [-i] [-X]\n    \
+    the automaton of the specification, as a picture for dot\n\
+    lexlook same FILE FILE [-i] [-X]\n    \
+    whether two specifications or table files do the same, with status 1 and where they do not\n\
+    lexlook lines FILE [-i] [-X]\n    \
+    whether an input may be cut after any newline and its pieces scanned apart, with status 1 and why not\n\
+    lexlook words FILE [-i] [-X]\n    \
+    for each rule the shortest text that it takes, or by which rules its texts are taken\n\
+    lexlook trace FILE [-i] [-X]\n    \
+    a line for each match of a scan of standard input by a specification, and the scan's status\n\n\
+    FILE may be - for standard input. With -i letters stand for both cases. With -X an interval\n\
+    applies to the whole series to its left.\n";
+
+/// Writes the lines of the help. It takes no memory.
+pub fn write_help<K: Sink>(sink: &mut K) -> Result<(), WriteFault>
+    requires { K.failures sink.old < 2 ^ 64 - 1 }
+    ensures bytes { Appended (λ xs. K.wrote sink.old xs sink.new) HELP.now result }
+    ensures failures { K.failures sink.new ≡ K.failures sink.old + fault_count result }
+{
+    sink.put(HELP.as_bytes())
+}
