@@ -16,10 +16,10 @@ use Rattle.lex_semantics.proofs.Texts.{is_text_take, is_text_drop}
 use Rattle.lex_semantics.proofs.Once.{same_order, same_heads}
 use Rattle.lex_semantics.proofs.Local.{settle_same}
 use Rattle.lex_semantics.proofs.Table.{Alike, same_statements, candidate_to, turns_to, table_alike}
-use Rattle.lexscan.specs.declared.matched.MatchedRule.{MatchedRule}
+use Rattle.lexscan_window.specs.declared.matched.MatchedRule.{MatchedRule}
 use Rattle.lexscan.specs.Descends.{IsRule}
 use Rattle.lexscan.specs.Matches.{CarriesOut}
-use Rattle.lexscan.proofs.Picking.{quiet_never}
+use Rattle.lexscan_matching.proofs.Picking.{never_rejects}
 use Rattle.lexscan_tokens.specs.declared.listing.Token.{Token}
 use Rattle.lexscan_tokens.specs.Tokens.{IsToken, Appends, TokensOf, Tokenised}
 
@@ -55,7 +55,7 @@ unfolding perform
 decided R Q alike kept y m ms d cs e =
     let a : Acting = record { text = kept ++ take m.keep y; written = []; condition = d; stack = cs; more = false } in
     not_none (act (statements_of R m.rule) a) (λ b. perform R kept y ms b.written b.condition b.stack)
-    (λ b again. quiet_never (statements_of R m.rule) a b (ap has_reject (same_statements false R Q alike m.rule) ∙ quiet_rule Q alike.matches.1 m.rule (cases_lt m.rule Q.count)) again) e
+    (λ b again. never_rejects (statements_of R m.rule) a b (ap has_reject (same_statements false R Q alike m.rule) ∙ quiet_rule Q alike.matches.1 m.rule (cases_lt m.rule Q.count)) again) e
 
 none_performed : (R : Rules) (kept y : List ℕ) (d : ℕ) (cs : List ℕ) → perform R kept y [] [] d cs ≡ None
 unfolding perform
