@@ -4,7 +4,7 @@ pub use Rattle.lexscan_window.specs.Walks
 pub use Rattle.lexscan_window.specs.Answer
 pub use Rattle.lexscan_window.specs.Reads
 pub use Rattle.lexscan_window.specs.Ends
-pub use Rattle.lexscan_matching.specs.Looks
+pub use Rattle.lexscan_window.specs.Memos
 pub use Rattle.lexscan_matching.specs.Descends
 pub use Rattle.lexscan_matching.specs.Fronts
 pub mod Matches

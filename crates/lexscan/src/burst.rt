@@ -1,14 +1,7 @@
 //! Several turns in one go, over bytes that the source has ready.
-ghost use Rattle.std.specs.Prelude.{◌≡◌, ℕ, ◌+◌, ◌-◌, ◌^◌, ◌<◌, ◌≤◌, Bool, List, [], length, take, drop, true, false, map, OnOk, OnErr, IfOk, IfErr, IfSome};
-ghost use Rattle.lex_io.specs.Sink.{Appended};
-ghost use Rattle.lex_machine.specs.Glances.{Leads, Gists};
-ghost use Rattle.lex_semantics.specs.MachineLaws.{NoReject};
-ghost use Rattle.lexscan_window.specs.Reads.{write_fault_count};
-ghost use Rattle.lexscan_window.specs.Ends.{SinkLeft};
-ghost use Rattle.lex_machine.specs.Views.{statement_of};
-ghost use Rattle.lexscan_window.specs.Acts.{said};
+ghost use Rattle.std.specs.Prelude.{◌≡◌, ◌+◌, ◌-◌, ◌<◌, ◌≤◌, length, true, false};
 ghost use Rattle.lexscan.specs.Bursts.{starts_line, BurstsBy, fault_of};
-ghost use Rattle.lexscan_matching.specs.Glanced.{names_rule, condition_after, written_by, Tells};
+ghost use Rattle.lexscan_matching.specs.Glanced.{names_rule};
 
 use lex_io::Sink;
 use lex_machine::Machine;

@@ -1,9 +1,7 @@
 //! What the bytes of a match tell of it at a glance, and what its rule does then.
-ghost use Rattle.std.specs.Prelude.{◌≡◌, ℕ, ◌+◌, ◌-◌, ◌^◌, ◌<◌, ◌≤◌, Bool, List, [], length, take, drop, true, false, map, OnOk, OnErr, IfOk, IfErr, IfSome};
+ghost use Rattle.std.specs.Prelude.{◌≡◌, ℕ, ◌+◌, ◌-◌, ◌<◌, List, length, true, map, IfOk, IfSome};
 ghost use Rattle.lex_io.specs.Sink.{Appended};
-ghost use Rattle.lex_machine.specs.Glances.{Leads, Gists};
-ghost use Rattle.lex_semantics.specs.MachineLaws.{NoReject};
-ghost use Rattle.lexscan_window.specs.Reads.{write_fault_count};
+ghost use Rattle.lex_machine.specs.Glances.{Leads};
 ghost use Rattle.lexscan_window.specs.Ends.{SinkLeft};
 ghost use Rattle.lex_machine.specs.Views.{statement_of};
 ghost use Rattle.lexscan_window.specs.Acts.{said};

@@ -16,6 +16,7 @@ pub struct Intake<'a, S: Source> {
 }
 
 impl<'a, S: Source> Intake<'a, S> {
+    /// A source that has not failed or ended here.
     pub fn new(source: &'a mut S) -> Intake<'a, S>
         requires few_ends { S.ends source.old < 2 ^ 64 - 1 }
         requires few_failures { S.failures source.old < 2 ^ 64 - 1 }
@@ -35,6 +36,7 @@ impl<'a, S: Source> Intake<'a, S> {
         source
     }
 
+    /// The next byte, or none at the end. After the end or a fault the source is not called again.
     #[inline]
     pub fn next(&mut self) -> Result<Option<u8>, ReadFault>
         requires { self.old.live ≡ true }
@@ -100,6 +102,7 @@ pub struct Outlet<'a, K: Sink> {
 }
 
 impl<'a, K: Sink> Outlet<'a, K> {
+    /// A sink that has not failed here.
     pub fn new(sink: &'a mut K) -> Outlet<'a, K>
         requires { K.failures sink.old < 2 ^ 64 - 1 }
         ensures same { result.sink.ghost_name ≡ sink.entry.ghost_name }
@@ -129,6 +132,7 @@ impl<'a, K: Sink> Outlet<'a, K> {
         self.sink
     }
 
+    /// Appends bytes to the sink. After a fault it is not called again.
     #[inline]
     pub fn put(&mut self, bytes: &[u8]) -> Result<(), WriteFault>
         requires { self.old.live ≡ true }
@@ -144,6 +148,7 @@ impl<'a, K: Sink> Outlet<'a, K> {
         result
     }
 
+    /// Has the sink hand on what was put. After a fault it is not called again.
     pub fn flush(&mut self) -> Result<(), WriteFault>
         requires { self.old.live ≡ true }
         ensures same { self.new.sink.ghost_name ≡ self.old.sink.ghost_name }

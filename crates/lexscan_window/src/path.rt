@@ -20,6 +20,7 @@ impl Model for StatePath {
 }
 
 impl StatePath {
+    /// No states.
     pub fn new(alloc: Global) -> StatePath
         ensures { result.states ≡ [] }
     {
@@ -36,6 +37,7 @@ impl StatePath {
         self.states.reserve(1)
     }
 
+    /// Appends a state.
     pub fn push(&mut self, state: u32)
         requires { self.old.room ≡ true }
         ensures { self.new.states ≡ self.old.states ++ state ∷ [] }
@@ -43,12 +45,14 @@ impl StatePath {
         let _ = self.states.push(state);
     }
 
+    /// Drops all states, and keeps their room.
     pub fn clear(&mut self)
         ensures { self.new.states ≡ [] }
     {
         self.states.clear();
     }
 
+    /// The state at a place.
     pub fn state(&self, i: usize) -> u32
         requires { i < length self.now.states }
         ensures { result ≡ get_or self.now.states i 0 }
@@ -56,6 +60,7 @@ impl StatePath {
         self.states[i]
     }
 
+    /// How many states there are.
     pub fn len(&self) -> usize
         ensures { result ≡ length self.now.states }
     {

@@ -39,6 +39,7 @@ pub struct State {
 }
 
 impl State {
+    /// What a scanner keeps before its first turn.
     pub fn new(alloc: Global, max_reads: u64) -> State
         ensures held { result.reading.window.bytes ≡ [] }
         ensures max_reads { result.reading.max_reads ≡ max_reads }

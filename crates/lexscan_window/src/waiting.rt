@@ -31,6 +31,7 @@ pub struct Waiting<'a> {
 impl<'a> Waiting<'a> {
     ghost use Rattle.lexscan_window.specs.Waits.{bytes_left};
 
+    /// The source over the bytes of both slices.
     pub fn new(first: &'a [u8], later: &'a [u8]) -> Waiting<'a>
         ensures bytes { bytes_left result ≡ first.entry.now ++ later.entry.now }
         ensures ends { result.ends ≡ 0 }

@@ -25,6 +25,7 @@ pub struct Walk {
 }
 
 impl Walk {
+    /// A walk of these parts.
     #[inline]
     pub fn new(count: usize, state: u32, before: u32, stop: Stop) -> Walk
         ensures { result ≡ record { count = count; state = state; before = before; stop = stop } }
