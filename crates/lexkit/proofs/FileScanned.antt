@@ -10,7 +10,7 @@ use Rattle.lex_semantics.specs.Machine.{Machine, rules_of_machine}
 use Rattle.lex_semantics.specs.MachineLaws.{MachineLaws}
 use Rattle.lex_semantics.specs.TableFor.{TableFor}
 use Rattle.lex_semantics.specs.Acting.{Status}
-use Rattle.lexscan.specs.declared.error.RunError.{RunError}
+use Rattle.lexscan_window.specs.declared.error.RunError.{RunError}
 use Rattle.lextab_packed.specs.Table.{Table}
 use Rattle.lextab_packed.specs.Steps.{machine_of_table}
 use Rattle.lextab_packed.specs.Invariant.{GoesOn}

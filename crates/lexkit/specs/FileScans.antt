@@ -6,7 +6,7 @@ use Rattle.lex_semantics.specs.Text.{flag}
 use Rattle.lex_semantics.specs.Rules.{rules_of}
 use Rattle.lex_semantics.specs.Machine.{rules_of_machine}
 use Rattle.lexspec.specs.Files.{SpellsSpec}
-use Rattle.lexscan.specs.declared.error.RunError.{RunError}
+use Rattle.lexscan_window.specs.declared.error.RunError.{RunError}
 use Rattle.lextab_packed.specs.Table.{Table}
 use Rattle.lextab_packed.specs.Steps.{machine_of_table}
 use Rattle.lextab_packed.specs.Invariant.{GoesOn}

@@ -20,7 +20,7 @@ use Rattle.lexauto.specs.declared.error.BuildError.TheVariants as builds
 use Rattle.lexscan.specs.Answer.{end_read}
 use Rattle.lexscan.specs.Reads.{read_fault_count}
 use Rattle.lexscan.specs.Runs.{Ran}
-use Rattle.lexscan.specs.declared.error.RunError.{RunError}
+use Rattle.lexscan_window.specs.declared.error.RunError.{RunError}
 use Rattle.lexkit.specs.declared.options.Options.{Options}
 use Rattle.lexkit.specs.declared.errors.GenError.{GenError}
 use Rattle.lexkit.specs.declared.errors.GenError.TheVariants as gens

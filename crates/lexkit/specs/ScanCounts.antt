@@ -1,7 +1,7 @@
 -- How often the ends of a scan failed, and what was handed on, by its answer.
 use Rattle.std.specs.Prelude.{◌≡◌, ℕ, Bool, true, Result, Ok, Err, ⊤}
-use Rattle.lexscan.specs.declared.error.RunError.{RunError}
-use Rattle.lexscan.specs.declared.error.RunError.TheVariants as runs
+use Rattle.lexscan_window.specs.declared.error.RunError.{RunError}
+use Rattle.lexscan_window.specs.declared.error.RunError.TheVariants as runs
 use Rattle.lexscan.specs.Ties.{HandedOnAfter}
 use Rattle.lexkit.specs.declared.errors.ScanError.{ScanError}
 use Rattle.lexkit.specs.declared.errors.ScanError.TheVariants.{Generate, Table, Run}

@@ -1,7 +1,7 @@
 //! One scan, by a specification's text or a table file.
 ghost use Rattle.std.specs.Prelude.{◌≡◌, ℕ, ◌+◌, ◌-◌, ◌^◌, ◌<◌, ◌≤◌, List, Ok, nat_lt, IsErrOf};
 ghost use Rattle.lexspec.specs.Views.{spec_of};
-ghost use Rattle.lexscan.specs.declared.error.RunError.TheVariants.{Failed};
+ghost use Rattle.lexscan_window.specs.declared.error.RunError.TheVariants.{Failed};
 ghost use Rattle.lexkit.specs.Headline.{Headline, ScansBy, TableHeadline};
 ghost use Rattle.lexkit.specs.Generated.{HasTables};
 ghost use Rattle.lexkit.specs.declared.options.Options.{Options as Asked};

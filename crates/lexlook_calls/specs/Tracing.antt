@@ -11,7 +11,7 @@ use Rattle.lexkit.specs.declared.errors.ScanError.TheVariants as scans
 use Rattle.lexkit.specs.declared.options.Options.{Options}
 use Rattle.lexlook_trace.specs.Traced.{has_room, traced}
 use Rattle.lexlook_trace.specs.TraceLaw.{TellsRuns, TellsTurns}
-use Rattle.lexscan.specs.declared.error.RunError.{RunError}
+use Rattle.lexscan_window.specs.declared.error.RunError.{RunError}
 use Rattle.lexspec.specs.Files.{SpellsSpec}
 use Rattle.lexspec.specs.Outcome.{UnlessMemory}
 

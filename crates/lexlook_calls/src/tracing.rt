@@ -3,7 +3,7 @@ ghost use Rattle.std.specs.Prelude.{◌≡◌, ◌+◌, ◌-◌, ◌^◌, ◌<�
 ghost use Rattle.lex_semantics.specs.Limits.{max_positions, max_states};
 ghost use Rattle.lexkit.specs.ScanCounts.{HandedOn, read_fault_count, write_fault_count};
 ghost use Rattle.lexlook_calls.specs.Tracing.{Traces};
-ghost use Rattle.lexscan.specs.declared.error.RunError.TheVariants.{Failed};
+ghost use Rattle.lexscan_window.specs.declared.error.RunError.TheVariants.{Failed};
 
 use crate::reading::read_text;
 use lexkit::{GenError, Options, ScanError, Sink, Source, scan_by};

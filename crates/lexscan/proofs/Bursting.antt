@@ -20,28 +20,29 @@ use Rattle.lex_machine.specs.declared.glance.Gist.TheVariants.{Any, NoRule, Sile
 use Rattle.lex_machine.specs.Glances.{Leads, FirstDoes, Gists, are_simple}
 use Rattle.lex_machine.specs.Views.{statement_of}
 use Rattle.lex_semantics.specs.Rules.{statements_of}
-use Rattle.lexscan.specs.declared.state.State.{State}
-use Rattle.lexscan.specs.declared.matched.MatchedRule.{MatchedRule}
-use Rattle.lexscan.specs.declared.matched.MatchedRule.TheVariants.{Numbered, Default}
-use Rattle.lexscan.specs.declared.state.Reading.{Reading}
-use Rattle.lexscan.specs.declared.state.TextPlace.{TextPlace}
-use Rattle.lexscan.specs.declared.act.ActionState.{ActionState}
-use Rattle.lexscan.specs.declared.act.Step.{Step}
+use Rattle.lexscan_window.specs.declared.state.State.{State}
+use Rattle.lexscan_window.specs.declared.matched.MatchedRule.{MatchedRule}
+use Rattle.lexscan_window.specs.declared.matched.MatchedRule.TheVariants.{Numbered, Default}
+use Rattle.lexscan_window.specs.declared.state.Reading.{Reading}
+use Rattle.lexscan_window.specs.declared.state.TextPlace.{TextPlace}
+use Rattle.lexscan_window.specs.declared.act.ActionState.{ActionState}
+use Rattle.lexscan_window.specs.declared.act.Step.{Step}
 use Rattle.lexscan.specs.declared.turn.Turn.{Turn}
-use Rattle.lexscan.specs.declared.burst.GlancedMatch.{GlancedMatch}
-use Rattle.lexscan.specs.declared.error.RunError.TheVariants.{Write, Stack, TooManyReads}
-use Rattle.lexscan.specs.Acts.{acting_of, after_step, written_of}
-use Rattle.lexscan.specs.Descends.{Conditions, conditions_in, outcome, matches_of, Performed, CutAll, IsRule, Takes}
-use Rattle.lexscan.specs.Looks.{SoFar, Looked}
-use Rattle.lexscan.specs.Picks.{path_of, state_at}
+use Rattle.lexscan_matching.specs.declared.glanced.GlancedMatch.{GlancedMatch}
+use Rattle.lexscan_window.specs.declared.error.RunError.TheVariants.{Write, Stack, TooManyReads}
+use Rattle.lexscan_window.specs.Acts.{acting_of, after_step, written_of}
+use Rattle.lexscan_matching.specs.Descends.{Conditions, conditions_in, outcome, matches_of, Performed, CutAll, IsRule, Takes}
+use Rattle.lexscan_matching.specs.Looks.{SoFar, Looked}
+use Rattle.lexscan_matching.specs.Picks.{path_of, state_at}
 use Rattle.lexscan.specs.Moves.{Matched, Refused}
 use Rattle.lexscan.specs.Stands.{Stands, Fell}
-use Rattle.lexscan.specs.Bursts.{statements_in, names_rule, condition_after, written_by, Between, AllStand, TurnsMade, Broke, NoneAfter, Tells}
-use Rattle.lexscan.proofs.Descending as Down
-use Rattle.lexscan.proofs.Descending.{one_match, start_of, head_outcome, statements_are, default_is, default_one, settled}
-use Rattle.lexscan.proofs.Picking.{falling_last, falling_more}
-use Rattle.lexscan.proofs.Keeping.{text_dropped}
-use Rattle.lexscan.proofs.Telling.{gist_simple, act_all, begun_below}
+use Rattle.lexscan.specs.Bursts.{Between, AllStand, TurnsMade, Broke}
+use Rattle.lexscan_matching.specs.Glanced.{statements_in, names_rule, condition_after, written_by, NoneAfter, Tells}
+use Rattle.lexscan_matching.proofs.Descending as Down
+use Rattle.lexscan_matching.proofs.Descending.{one_match, start_of, head_outcome, statements_are, default_is, default_one, settled}
+use Rattle.lexscan_matching.proofs.Picking.{falling_last, falling_more}
+use Rattle.lexscan_window.proofs.Keeping.{text_dropped}
+use Rattle.lexscan_matching.proofs.Telling.{gist_simple, act_all, begun_below}
 use Rattle.lexscan.proofs.Stepping as Go
 use Rattle.lexscan.proofs.Refusing as Fall
 

@@ -6,9 +6,9 @@ use Rattle.lex_semantics.specs.Text.{at_line_start}
 use Rattle.lex_semantics.specs.Scanned.{Scanned}
 use Rattle.lex_semantics.specs.Machine.{Machine, rules_of_machine}
 use Rattle.lex_semantics.proofs.Texts.{take_past}
-use Rattle.lexscan.specs.declared.state.State.{State}
-use Rattle.lexscan.specs.declared.error.RunError.TheVariants.{Write}
-use Rattle.lexscan.specs.Descends.{ending_of}
+use Rattle.lexscan_window.specs.declared.state.State.{State}
+use Rattle.lexscan_window.specs.declared.error.RunError.TheVariants.{Write}
+use Rattle.lexscan_matching.specs.Descends.{ending_of}
 use Rattle.lexscan.specs.Stands.{state_of, Stands, Fell}
 use Rattle.lexscan.specs.Bursts.{Between, AllStand, TurnsMade, Broke}
 

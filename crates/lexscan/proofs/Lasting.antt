@@ -12,12 +12,12 @@ use Rattle.lex_semantics.proofs.MachineLaws.{machine_laws}
 use Rattle.lex_semantics.proofs.MachineRun.{machine_candidates_exist}
 use Rattle.lex_semantics.proofs.Ends.{Grows}
 use Rattle.lex_semantics.proofs.Growth.{turns_grow, falls}
-use Rattle.lexscan.specs.declared.state.State.{State}
-use Rattle.lexscan.specs.declared.error.RunError.{RunError}
-use Rattle.lexscan.specs.declared.error.RunError.TheVariants.{TooManyReads}
-use Rattle.lexscan.specs.Answer.{end_read}
-use Rattle.lexscan.specs.Reads.{end_step}
-use Rattle.lexscan.specs.Descends.{ending_of}
+use Rattle.lexscan_window.specs.declared.state.State.{State}
+use Rattle.lexscan_window.specs.declared.error.RunError.{RunError}
+use Rattle.lexscan_window.specs.declared.error.RunError.TheVariants.{TooManyReads}
+use Rattle.lexscan_window.specs.Answer.{end_read}
+use Rattle.lexscan_window.specs.Reads.{end_step}
+use Rattle.lexscan_matching.specs.Descends.{ending_of}
 use Rattle.lexscan.specs.Stands.{state_of, Stands, Fell, NoneAfterEnd, RanTo}
 use Rattle.lexscan.specs.Runs.{Running, RanInto}
 use Rattle.lexscan.specs.Bursts.{NoEarlier}

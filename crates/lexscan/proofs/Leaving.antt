@@ -3,21 +3,21 @@ use Rattle.std.proofs.Common.{◌≡◌, ℕ, ◌+◌, ◌≤◌, Bool, true, fa
 use Rattle.std.specs.Prelude.{IfOk, IfErr, OnErr}
 use Rattle.lex_io.specs.Sink.{Appended}
 use Rattle.lex_semantics.specs.Machine.{Machine}
-use Rattle.lexscan.specs.declared.state.Reading.{Reading}
-use Rattle.lexscan.specs.declared.state.State.{State}
-use Rattle.lexscan.specs.declared.matched.MatchedRule.{MatchedRule}
+use Rattle.lexscan_window.specs.declared.state.Reading.{Reading}
+use Rattle.lexscan_window.specs.declared.state.State.{State}
+use Rattle.lexscan_window.specs.declared.matched.MatchedRule.{MatchedRule}
 use Rattle.lexscan.specs.declared.turn.Turn.{Turn}
-use Rattle.lexscan.specs.declared.error.RunError.{RunError}
-use Rattle.lexscan.specs.Reads.{Took, write_fault_count}
-use Rattle.lexscan.specs.Looks.{Looked, LookedAtEnd}
-use Rattle.lexscan.specs.declared.error.RunError.TheVariants.{Read, TooManyReads, Write, OutOfMemory, Stack, Failed}
-use Rattle.lexscan.specs.declared.act.ActionState.{ActionState}
-use Rattle.lexscan.specs.declared.act.Finish.{Finish}
-use Rattle.lexscan.specs.Acts.{finish_of}
-use Rattle.lexscan.specs.Descends.{conditions_at, matches_of, CutAll, Faulted, Performed, Takes}
-use Rattle.lexscan.specs.Ends.{IsEarly}
+use Rattle.lexscan_window.specs.declared.error.RunError.{RunError}
+use Rattle.lexscan_window.specs.Reads.{Took, write_fault_count}
+use Rattle.lexscan_matching.specs.Looks.{Looked, LookedAtEnd}
+use Rattle.lexscan_window.specs.declared.error.RunError.TheVariants.{Read, TooManyReads, Write, OutOfMemory, Stack, Failed}
+use Rattle.lexscan_window.specs.declared.act.ActionState.{ActionState}
+use Rattle.lexscan_window.specs.declared.act.Finish.{Finish}
+use Rattle.lexscan_window.specs.Acts.{finish_of}
+use Rattle.lexscan_matching.specs.Descends.{conditions_at, matches_of, CutAll, Faulted, Performed, Takes}
+use Rattle.lexscan_window.specs.Ends.{IsEarly}
 use Rattle.lexscan.specs.Moves.{Left, Says, EndLeft, EndsScan, MatchLeft, Moved}
-use Rattle.lexscan.proofs.Descending.{performed_flushed, performed_cut}
+use Rattle.lexscan_matching.proofs.Descending.{performed_flushed, performed_cut}
 
 not_early : (e : RunError) → (e ≡ Write) ⊎ (e ≡ Stack) → IsEarly e → ⊥
 not_early e (inl is) early = subst IsEarly is early

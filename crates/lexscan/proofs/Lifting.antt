@@ -10,10 +10,10 @@ use Rattle.lex_semantics.specs.Machine.{Machine, rules_of_machine, state_after}
 use Rattle.lex_semantics.specs.MachineLaws.{MachineLaws}
 use Rattle.lex_semantics.proofs.Texts.{line_start_front}
 use Rattle.lex_semantics.proofs.Wanted.{WantsMore}
-use Rattle.lexscan.specs.declared.state.Reading.{Reading}
-use Rattle.lexscan.specs.declared.state.TextPlace.{TextPlace}
-use Rattle.lexscan.specs.Looks.{SoFar, GoesOnAfter, Wants}
-use Rattle.lexscan.specs.Descends.{outcome, matches_of}
+use Rattle.lexscan_window.specs.declared.state.Reading.{Reading}
+use Rattle.lexscan_window.specs.declared.state.TextPlace.{TextPlace}
+use Rattle.lexscan_matching.specs.Looks.{SoFar, GoesOnAfter, Wants}
+use Rattle.lexscan_matching.specs.Descends.{outcome, matches_of}
 use Rattle.lexscan.proofs.Outcomes.{seen_matches, all_seen, seen_outcome}
 
 -- where a match stands in the input

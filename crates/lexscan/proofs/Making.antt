@@ -3,17 +3,17 @@ use Rattle.std.proofs.Common.{◌≡◌, ℕ, ◌++◌, suc, Bool, true, false, 
 use Rattle.lex_semantics.specs.Machine.{Machine}
 use Rattle.lex_semantics.specs.MachineLaws.{MachineLaws}
 use Rattle.lex_semantics.specs.Acting.{StackFault}
-use Rattle.lexscan.specs.declared.state.State.{State}
+use Rattle.lexscan_window.specs.declared.state.State.{State}
 use Rattle.lexscan.specs.declared.turn.Turn.{Turn}
-use Rattle.lexscan.specs.declared.error.RunError.{RunError}
-use Rattle.lexscan.specs.declared.error.RunError.TheVariants.{Read, TooManyReads, Write, OutOfMemory, Stack, Failed}
-use Rattle.lexscan.specs.Descends.{conditions_at, matches_of, CutAll}
-use Rattle.lexscan.specs.Ends.{IsEarly}
-use Rattle.lexscan.specs.Looks.{Wants, Unmet}
+use Rattle.lexscan_window.specs.declared.error.RunError.{RunError}
+use Rattle.lexscan_window.specs.declared.error.RunError.TheVariants.{Read, TooManyReads, Write, OutOfMemory, Stack, Failed}
+use Rattle.lexscan_matching.specs.Descends.{conditions_at, matches_of, CutAll}
+use Rattle.lexscan_window.specs.Ends.{IsEarly}
+use Rattle.lexscan_matching.specs.Looks.{Wants, Unmet}
 use Rattle.lexscan.specs.Moves.{Matched, Finished, Refused, Why, StackFaulted, Says, Moved}
 use Rattle.lexscan.specs.Stands.{Stands, MakesTurn}
 use Rattle.lexscan.specs.Turns.{MoveLeft, MayTurn}
-use Rattle.lexscan.proofs.Descending.{performed_front}
+use Rattle.lexscan_matching.proofs.Descending.{performed_front}
 use Rattle.lexscan.proofs.Refusing as Fall
 use Rattle.lexscan.proofs.Ranging as Range
 use Rattle.lexscan.proofs.Stepping as Go

@@ -21,10 +21,10 @@ use Rattle.lex_semantics.proofs.Local.{same_performed, keep_inside}
 use Rattle.lex_semantics.proofs.Falling.{falling_candidates}
 use Rattle.lex_semantics.proofs.Ends.{GoodMatch, perform_good, keep_bounds, legal_of}
 use Rattle.lex_semantics.proofs.Once.{some_inj}
-use Rattle.lexscan.specs.declared.state.TextPlace.{TextPlace}
-use Rattle.lexscan.specs.Looks.{SoFar}
-use Rattle.lexscan.specs.Descends.{Conditions, outcome, matches_of}
-use Rattle.lexscan.proofs.Descending.{default_one}
+use Rattle.lexscan_window.specs.declared.state.TextPlace.{TextPlace}
+use Rattle.lexscan_matching.specs.Looks.{SoFar}
+use Rattle.lexscan_matching.specs.Descends.{Conditions, outcome, matches_of}
+use Rattle.lexscan_matching.proofs.Descending.{default_one}
 
 -- the conditions stay in range
 settle_below : (n : ℕ) (w : ActionResult) (f : Scan.Acting → Option Matched) (o : Matched) → ResultBelow n w → ((a : Scan.Acting) → Below n a.condition a.stack → f a ≡ Some o → Below n o.after.condition o.after.stack) → settle w f ≡ Some o →

@@ -14,22 +14,22 @@ use Rattle.lex_semantics.specs.Rules.{Rules}
 use Rattle.lex_semantics.specs.Machine.{Machine, walk, rules_of_machine}
 use Rattle.lex_semantics.proofs.Once.{one_state}
 use Rattle.lex_semantics.proofs.Written.{run_begins}
-use Rattle.lexscan.specs.declared.state.State.{State}
+use Rattle.lexscan_window.specs.declared.state.State.{State}
 use Rattle.lexscan.specs.declared.turn.Turn.{Turn}
-use Rattle.lexscan.specs.declared.error.RunError.{RunError}
-use Rattle.lexscan.specs.declared.error.RunError.TheVariants.{Read, TooManyReads}
-use Rattle.lexscan.specs.Answer.{end_read}
-use Rattle.lexscan.specs.Reads.{read_fault_count, end_step}
-use Rattle.lexscan.specs.Descends.{ending_of}
+use Rattle.lexscan_window.specs.declared.error.RunError.{RunError}
+use Rattle.lexscan_window.specs.declared.error.RunError.TheVariants.{Read, TooManyReads}
+use Rattle.lexscan_window.specs.Answer.{end_read}
+use Rattle.lexscan_window.specs.Reads.{read_fault_count, end_step}
+use Rattle.lexscan_matching.specs.Descends.{ending_of}
 use Rattle.lexscan.specs.Stands.{state_of, Stands, Fell, NoneAfterEnd}
 use Rattle.lexscan.specs.Pushes.{AsksForMore, Standing, MadeTurns, Pauses, Fed, RunsTo, WritesFirst, AfterFeed, AfterFinish, GoesOnOver, WalksOn, IsAsking}
-use Rattle.lexscan.specs.Waits.{GivesWaiting}
+use Rattle.lexscan_window.specs.Waits.{GivesWaiting}
 use Rattle.lex_semantics.specs.MachineLaws.{MachineLaws}
 use Rattle.lex_semantics.proofs.MachineLaws.{walk-append}
 use Rattle.lex_semantics.proofs.Texts.{take_past}
 use Rattle.lex_semantics.proofs.Wanted.{WantsMore, wanted_end}
-use Rattle.lexscan.specs.declared.state.Reading.{Reading}
-use Rattle.lexscan.specs.Looks.{Wants}
+use Rattle.lexscan_window.specs.declared.state.Reading.{Reading}
+use Rattle.lexscan_matching.specs.Looks.{Wants}
 use Rattle.lexscan.proofs.Lifting.{wants_here}
 use Rattle.lexscan.proofs.Refusing.{earlier, just_these}
 use Rattle.lexscan.proofs.Furthering.{no_further}

@@ -3,10 +3,10 @@ use Rattle.std.proofs.Common.{ℕ, List, [], inl, inr, Ok, sym, subst}
 use Rattle.lex_semantics.specs.Machine.{Machine, rules_of_machine}
 use Rattle.lex_semantics.specs.MachineLaws.{MachineLaws}
 use Rattle.lex_semantics.proofs.Table.{Below}
-use Rattle.lexscan.specs.declared.state.State.{State}
+use Rattle.lexscan_window.specs.declared.state.State.{State}
 use Rattle.lexscan.specs.declared.turn.Turn.{Turn}
-use Rattle.lexscan.specs.Acts.{acting_of}
-use Rattle.lexscan.specs.Descends.{matches_of, ending_of}
+use Rattle.lexscan_window.specs.Acts.{acting_of}
+use Rattle.lexscan_matching.specs.Descends.{matches_of, ending_of}
 use Rattle.lexscan.specs.Moves.{Moved}
 use Rattle.lexscan.proofs.Outcomes.{perform_below}
 use Rattle.std.proofs.Common.{take, drop}

@@ -19,12 +19,12 @@ use Rattle.lex_semantics.proofs.Step.{seen_match}
 use Rattle.lex_semantics.proofs.Texts.{is_text_append}
 use Rattle.lex_semantics.proofs.Wanted.{WantsMore, wanted_far, wanted_end}
 use Rattle.lex_semantics.proofs.Written.{run_begins, part_begins}
-use Rattle.lexscan.specs.declared.state.State.{State}
-use Rattle.lexscan.specs.declared.error.RunError.{RunError}
-use Rattle.lexscan.specs.declared.error.RunError.TheVariants.{TooManyReads, Stack}
-use Rattle.lexscan.specs.Looks.{Looked, LookedAtEnd, Wants, Unmet}
-use Rattle.lexscan.specs.Descends.{conditions_at, outcome, matches_of, CutAll, ending_of}
-use Rattle.lexscan.specs.Ends.{IsEarly}
+use Rattle.lexscan_window.specs.declared.state.State.{State}
+use Rattle.lexscan_window.specs.declared.error.RunError.{RunError}
+use Rattle.lexscan_window.specs.declared.error.RunError.TheVariants.{TooManyReads, Stack}
+use Rattle.lexscan_matching.specs.Looks.{Looked, LookedAtEnd, Wants, Unmet}
+use Rattle.lexscan_matching.specs.Descends.{conditions_at, outcome, matches_of, CutAll, ending_of}
+use Rattle.lexscan_window.specs.Ends.{IsEarly}
 use Rattle.lexscan.specs.Moves.{Refused}
 use Rattle.lexscan.specs.Stands.{state_of, Stands, Before, Fell, RanTo}
 use Rattle.lexscan.proofs.Outcomes.{good, seen_outcome}

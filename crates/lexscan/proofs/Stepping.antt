@@ -13,14 +13,14 @@ use Rattle.lex_semantics.specs.MachineLaws.{MachineLaws}
 use Rattle.lex_semantics.proofs.MachineLaws.{machine_laws}
 use Rattle.lex_semantics.proofs.Texts.{is_text_append}
 use Rattle.lex_semantics.proofs.Step.{scanned_match, scanned_match_end, scanned_end, scanned_ended, scanned_first}
-use Rattle.lexscan.specs.declared.state.TextPlace.{TextPlace}
-use Rattle.lexscan.specs.declared.state.State.{State}
+use Rattle.lexscan_window.specs.declared.state.TextPlace.{TextPlace}
+use Rattle.lexscan_window.specs.declared.state.State.{State}
 use Rattle.lexscan.specs.declared.turn.Turn.{Turn}
-use Rattle.lexscan.specs.Acts.{acting_of}
-use Rattle.lexscan.specs.Descends.{conditions_at, ending_of, matches_of, Faulted}
+use Rattle.lexscan_window.specs.Acts.{acting_of}
+use Rattle.lexscan_matching.specs.Descends.{conditions_at, ending_of, matches_of, Faulted}
 use Rattle.lexscan.specs.Moves.{is_over, stays, left_at, left_bytes, Says, Matched, Finished}
-use Rattle.lexscan.specs.Reads.{Took}
-use Rattle.lexscan.specs.Looks.{Looked}
+use Rattle.lexscan_window.specs.Reads.{Took}
+use Rattle.lexscan_matching.specs.Looks.{Looked}
 use Rattle.lexscan.specs.Stands.{state_of, Stands, RanTo}
 use Rattle.lexscan.proofs.Outcomes.{some_text}
 use Rattle.lexscan.proofs.Lifting.{seen_here, dead_here, live_here}

@@ -15,16 +15,16 @@ use Rattle.lex_semantics.proofs.Local.{more_input, keep_inside, same_performed}
 use Rattle.lex_semantics.proofs.MachineLaws.{machine_laws}
 use Rattle.lex_semantics.proofs.Once.{some_inj}
 use Rattle.lex_semantics.proofs.Texts.{is_text_drop, is_text_right, line_start_front, part_front}
-use Rattle.lexscan.specs.declared.matched.MatchedRule.{MatchedRule}
-use Rattle.lexscan.specs.declared.state.State.{State}
-use Rattle.lexscan.specs.declared.state.TextPlace.{TextPlace}
+use Rattle.lexscan_window.specs.declared.matched.MatchedRule.{MatchedRule}
+use Rattle.lexscan_window.specs.declared.state.State.{State}
+use Rattle.lexscan_window.specs.declared.state.TextPlace.{TextPlace}
 use Rattle.lexscan.specs.declared.turn.Turn.{Turn}
-use Rattle.lexscan.specs.Acts.{acting_of}
-use Rattle.lexscan.specs.Descends.{conditions_at, outcome, matches_of, ending_of, IsRule, Takes}
+use Rattle.lexscan_window.specs.Acts.{acting_of}
+use Rattle.lexscan_matching.specs.Descends.{conditions_at, outcome, matches_of, ending_of, IsRule, Takes}
 use Rattle.lexscan.specs.Matches.{text_start, match_by, match_in, text_of, kept_before, CarriesOut, TellsMatch}
 use Rattle.lexscan.specs.Moves.{stays, left_bytes, left_at, is_over, Matched, Finished}
 use Rattle.lexscan.specs.Stands.{Stands, state_of}
-use Rattle.lexscan.specs.Window.{last_of}
+use Rattle.lexscan_window.specs.Window.{last_of}
 use Rattle.lexscan.proofs.Outcomes.{seen_matches, matches_are, all_seen}
 
 -- an input is the bytes given and a rest

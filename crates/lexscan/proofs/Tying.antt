@@ -2,12 +2,12 @@
 use Rattle.std.proofs.Common.{◌≡◌, Bool, ℕ, List, [], ◌++◌, inl, inr, Ok, Err, refl, sym, subst}
 use Rattle.std.specs.Prelude.{Result}
 use Rattle.lex_semantics.specs.Machine.{Machine}
-use Rattle.lexscan.specs.declared.state.State.{State}
+use Rattle.lexscan_window.specs.declared.state.State.{State}
 use Rattle.lexscan.specs.declared.turn.Turn.{Turn}
-use Rattle.lexscan.specs.declared.error.RunError.{RunError}
-use Rattle.lexscan.specs.declared.error.RunError.TheVariants.{Read, TooManyReads, Write, OutOfMemory, Stack, Failed}
-use Rattle.lexscan.specs.Reads.{Took}
-use Rattle.lexscan.specs.Looks.{Unmet}
+use Rattle.lexscan_window.specs.declared.error.RunError.{RunError}
+use Rattle.lexscan_window.specs.declared.error.RunError.TheVariants.{Read, TooManyReads, Write, OutOfMemory, Stack, Failed}
+use Rattle.lexscan_window.specs.Reads.{Took}
+use Rattle.lexscan_matching.specs.Looks.{Unmet}
 use Rattle.lexscan.specs.Ties.{HandedOnAfter}
 use Rattle.lexscan.specs.Moves.{Why, StackFaulted, Moved}
 

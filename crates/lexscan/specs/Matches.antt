@@ -6,11 +6,11 @@ use Rattle.lex_semantics.specs.Candidates.{Candidate, Candidates}
 use Rattle.lex_semantics.specs.Acting.{Matched, perform}
 use Rattle.lex_semantics.specs.Run.{Place}
 use Rattle.lex_semantics.specs.Demand.{Consistent}
-use Rattle.lexscan.specs.declared.matched.Match.{Match}
-use Rattle.lexscan.specs.declared.matched.MatchedRule.{MatchedRule}
-use Rattle.lexscan.specs.declared.state.State.{State}
-use Rattle.lexscan.specs.Descends.{IsRule}
-use Rattle.lexscan.specs.Window.{last_of}
+use Rattle.lexscan_window.specs.declared.matched.Match.{Match}
+use Rattle.lexscan_window.specs.declared.matched.MatchedRule.{MatchedRule}
+use Rattle.lexscan_window.specs.declared.state.State.{State}
+use Rattle.lexscan_matching.specs.Descends.{IsRule}
+use Rattle.lexscan_window.specs.Window.{last_of}
 
 -- The match m is carried out at a place, with this outcome: those before it go on to the next one, and it does not.
 pub record CarriesOut (R : Rules) (x : List ℕ) (p : Place) (m : Candidate) (o : Matched) : Type 0 where

@@ -2,20 +2,20 @@
 use Rattle.std.specs.Prelude.{◌≡◌, ℕ, ◌+◌, ◌-◌, ◌≤◌, ◌<◌, Bool, true, false, List, [], length, take, drop, ◌⊎◌, Option, Some, None, Result, Ok, Err, OnOk, OnErr, IfOk, IfErr, IsErrOf, nat_eq, get_or}
 use Rattle.lex_semantics.specs.Text.{BeginsWith}
 use Rattle.lex_semantics.specs.Machine.{Machine}
-use Rattle.lexscan.specs.declared.state.Reading.{Reading}
-use Rattle.lexscan.specs.declared.state.TextPlace.{TextPlace}
-use Rattle.lexscan.specs.declared.state.State.{State}
-use Rattle.lexscan.specs.declared.act.ActionState.{ActionState}
-use Rattle.lexscan.specs.declared.act.Finish.{Finish}
+use Rattle.lexscan_window.specs.declared.state.Reading.{Reading}
+use Rattle.lexscan_window.specs.declared.state.TextPlace.{TextPlace}
+use Rattle.lexscan_window.specs.declared.state.State.{State}
+use Rattle.lexscan_window.specs.declared.act.ActionState.{ActionState}
+use Rattle.lexscan_window.specs.declared.act.Finish.{Finish}
 use Rattle.lexscan.specs.declared.turn.Turn.{Turn}
-use Rattle.lexscan.specs.declared.error.RunError.{RunError}
-use Rattle.lexscan.specs.Reads.{Took, write_fault_count}
-use Rattle.lexscan.specs.Ends.{IsEarly}
-use Rattle.lexscan.specs.Window.{last_of}
+use Rattle.lexscan_window.specs.declared.error.RunError.{RunError}
+use Rattle.lexscan_window.specs.Reads.{Took, write_fault_count}
+use Rattle.lexscan_window.specs.Ends.{IsEarly}
+use Rattle.lexscan_window.specs.Window.{last_of}
 use Rattle.lexscan.specs.Matches.{kept_before}
-use Rattle.lexscan.specs.Looks.{Looked, LookedAtEnd, Unmet}
-use Rattle.lexscan.specs.declared.error.RunError.TheVariants.{Write, Stack}
-use Rattle.lexscan.specs.Descends.{Conditions, conditions_at, matches_of, ending_of, Performed, CutAll, Faulted, Takes}
+use Rattle.lexscan_matching.specs.Looks.{Looked, LookedAtEnd, Unmet}
+use Rattle.lexscan_window.specs.declared.error.RunError.TheVariants.{Write, Stack}
+use Rattle.lexscan_matching.specs.Descends.{Conditions, conditions_at, matches_of, ending_of, Performed, CutAll, Faulted, Takes}
 
 -- the next text starts where this one does
 abbrev pub stays : Bool → Bool → Bool

@@ -9,10 +9,10 @@ use Rattle.lex_semantics.specs.Run as Scan
 use Rattle.lex_semantics.specs.Run.{Run}
 use Rattle.lex_semantics.specs.Scanned.{AfterTurns}
 use Rattle.lex_semantics.specs.Machine.{Machine, walk, rules_of_machine}
-use Rattle.lexscan.specs.declared.state.State.{State}
+use Rattle.lexscan_window.specs.declared.state.State.{State}
 use Rattle.lexscan.specs.declared.turn.Turn.{Turn}
-use Rattle.lexscan.specs.declared.error.RunError.{RunError}
-use Rattle.lexscan.specs.declared.error.RunError.TheVariants.{Stack}
+use Rattle.lexscan_window.specs.declared.error.RunError.{RunError}
+use Rattle.lexscan_window.specs.declared.error.RunError.TheVariants.{Stack}
 use Rattle.lexscan.specs.Stands.{Stands, Fell, GoesOn, NoneAfterEnd}
 use Rattle.lexscan.specs.Ties.{HandedOn}
 use Rattle.lexscan.specs.Turns.{MayTurn}

@@ -4,7 +4,7 @@ use Rattle.lex_io.specs.declared.source.Source as Source
 use Rattle.lex_io.specs.declared.sink.Sink as Sink
 use Rattle.lexscan.specs.declared.scanner.Scanner.{Scanner}
 use Rattle.lexscan.specs.declared.push.PushScanner.{PushScanner}
-use Rattle.lexscan.specs.declared.state.State.{State}
+use Rattle.lexscan_window.specs.declared.state.State.{State}
 use Rattle.std.specs.Prelude.{ℕ, List}
 
 module _ {M S K : Type 0} {of_machine : Machine.Ghosts M} {of_source : Source.Ghosts S} {of_sink : Sink.Ghosts K} where

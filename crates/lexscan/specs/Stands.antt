@@ -8,12 +8,12 @@ use Rattle.lex_semantics.specs.Run.{Turns, Run}
 use Rattle.lex_semantics.specs.Demand.{Consistent}
 use Rattle.lex_semantics.specs.Scanned.{AfterTurns, Scanned}
 use Rattle.lex_semantics.specs.Machine.{Machine, rules_of_machine}
-use Rattle.lexscan.specs.declared.state.State.{State}
+use Rattle.lexscan_window.specs.declared.state.State.{State}
 use Rattle.lexscan.specs.declared.turn.Turn.{Turn}
-use Rattle.lexscan.specs.declared.error.RunError.{RunError}
-use Rattle.lexscan.specs.declared.error.RunError.TheVariants.{TooManyReads, Stack}
-use Rattle.lexscan.specs.Descends.{ending_of}
-use Rattle.lexscan.specs.Ends.{IsEarly}
+use Rattle.lexscan_window.specs.declared.error.RunError.{RunError}
+use Rattle.lexscan_window.specs.declared.error.RunError.TheVariants.{TooManyReads, Stack}
+use Rattle.lexscan_matching.specs.Descends.{ending_of}
+use Rattle.lexscan_window.specs.Ends.{IsEarly}
 use Rattle.lexscan.specs.Moves.{Says}
 use Rattle.lexscan.specs.Matches.{match_in, text_of, TellsMatch}
 

@@ -1,7 +1,7 @@
 -- Whether what was written has been handed on. (This project's; POSIX leaves it to the stream.)
 use Rattle.std.specs.Prelude.{◌≡◌, ℕ, Bool, true, Result, Ok, Err, ⊤}
-use Rattle.lexscan.specs.declared.error.RunError.{RunError}
-use Rattle.lexscan.specs.declared.error.RunError.TheVariants.{Stack}
+use Rattle.lexscan_window.specs.declared.error.RunError.{RunError}
+use Rattle.lexscan_window.specs.declared.error.RunError.TheVariants.{Stack}
 use Rattle.lexscan.specs.declared.turn.Turn.{Turn}
 
 -- A refused turn: where the stack was at fault, what was written has been handed on.

@@ -2,14 +2,14 @@
 use Rattle.std.specs.Prelude.{◌≡◌, ℕ, ◌+◌, ◌<◌, ◌≤◌, Bool, true, false, None, Result, Ok, OnOk, IsErrOf}
 use Rattle.lex_semantics.specs.Text.{AllBelow}
 use Rattle.lex_semantics.specs.Machine.{Machine}
-use Rattle.lexscan.specs.declared.state.Reading.{Reading}
-use Rattle.lexscan.specs.declared.state.State.{State}
+use Rattle.lexscan_window.specs.declared.state.Reading.{Reading}
+use Rattle.lexscan_window.specs.declared.state.State.{State}
 use Rattle.lexscan.specs.declared.turn.Turn.{Turn}
-use Rattle.lexscan.specs.declared.error.RunError.{RunError}
-use Rattle.lexscan.specs.declared.error.RunError.TheVariants.{TooManyReads, Failed}
-use Rattle.lexscan.specs.Looks.{Wants}
-use Rattle.lexscan.specs.Answer.{end_read}
-use Rattle.lexscan.specs.Reads.{read_fault_count, write_fault_count, end_step}
+use Rattle.lexscan_window.specs.declared.error.RunError.{RunError}
+use Rattle.lexscan_window.specs.declared.error.RunError.TheVariants.{TooManyReads, Failed}
+use Rattle.lexscan_matching.specs.Looks.{Wants}
+use Rattle.lexscan_window.specs.Answer.{end_read}
+use Rattle.lexscan_window.specs.Reads.{read_fault_count, write_fault_count, end_step}
 
 -- A turn may be made, where the scan has neither failed nor ended: the source and the sink may be called, and the conditions are in range.
 pub record MayTurn (M : Machine) (source_live sink_live : Bool) (s : State) : Type 0 where

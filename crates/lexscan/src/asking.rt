@@ -3,8 +3,8 @@ ghost use Rattle.std.specs.Prelude.{◌≡◌, ℕ, ◌+◌, ◌<◌, ◌≤◌,
 ghost use Rattle.lex_semantics.specs.Machine.{walk};
 ghost use Rattle.lexscan.specs.Pushes.{GoesOnOver, WalksOn, IsAsking};
 
-use crate::state::State;
 use lex_machine::Machine;
+use lexscan_window::State;
 
 /// Walks over bytes, and answers the state after them, where the machine goes on after each.
 fn walk_over<M: Machine>(machine: &M, first: u32, bytes: &[u8]) -> Option<u32>

@@ -1,25 +1,20 @@
 //! Turns over the bytes that are there, as far as these decide them.
 ghost use Rattle.std.specs.Prelude.{◌≡◌, ℕ, ◌+◌, ◌^◌, ◌<◌, ◌≤◌, List, [], ◌++◌, length, take, true, false, None, Ok, ◌-◌, OnOk, OnErr, IfOk, IfErr, IsErrOf};
 ghost use Rattle.lex_semantics.specs.Text.{AllBelow};
-ghost use Rattle.lexscan.specs.Memos.{AreTrue};
-ghost use Rattle.lexscan.specs.Reads.{read_fault_count, write_fault_count, end_step};
+ghost use Rattle.lexscan_window.specs.Memos.{AreTrue};
+ghost use Rattle.lexscan_window.specs.Reads.{read_fault_count, write_fault_count, end_step};
 ghost use Rattle.lexscan.specs.Stands.{NoneAfterEnd};
 ghost use Rattle.lexscan.specs.Bursts.{GoesFurther, NoEarlier};
-ghost use Rattle.lexscan.specs.declared.memo.Mark.{Mark};
+ghost use Rattle.lexscan_window.specs.declared.memo.Mark.{Mark};
 ghost use Rattle.lexscan.specs.Ties.{HandedOn};
 ghost use Rattle.lexscan.specs.Turns.{MayMove, MayTurn};
 ghost use Rattle.lexscan.specs.Pushes.{Attempts, MayGoOn, HandedOnIfMade, Standing, TurnsOver};
 
-use crate::error::RunError;
 use crate::further::{MOST_SHOWN, go_further};
-use crate::intake::{Intake, Outlet};
-use crate::memo::Memo;
-use crate::path::StatePath;
-use crate::stack::Stack;
-use crate::state::{State, TextPlace};
 use crate::turn::{Turn, has_backlog, turn_of};
 use lex_io::{Sink, Source};
 use lex_machine::Machine;
+use lexscan_window::{Intake, Memo, Outlet, RunError, Stack, State, StatePath, TextPlace};
 
 /// Goes back to where a turn began, with as many bytes held.
 fn go_back_to(state: &mut State, place: TextPlace, stack: &Stack, held: usize, taken: u64)

@@ -2,20 +2,18 @@
 ghost use Rattle.std.specs.Prelude.{◌≡◌, ℕ, ◌+◌, ◌-◌, ◌^◌, ◌<◌, ◌≤◌, Bool, List, [], ◌++◌, length, take, drop, true, false, None, OnOk, OnErr, IfOk, IfErr};
 ghost use Rattle.lex_semantics.specs.Text.{AllBelow};
 ghost use Rattle.lex_semantics.specs.MachineLaws.{NoReject};
-ghost use Rattle.lexscan.specs.Reads.{write_fault_count};
-ghost use Rattle.lexscan.specs.Answer.{end_read};
+ghost use Rattle.lexscan_window.specs.Reads.{write_fault_count};
+ghost use Rattle.lexscan_window.specs.Answer.{end_read};
 ghost use Rattle.lexscan.specs.Stands.{NoneAfterEnd};
 ghost use Rattle.lexscan.specs.Turns.{MayMove};
 ghost use Rattle.lexscan.specs.Bursts.{GoesFurther, NoEarlier};
-ghost use Rattle.lexscan.specs.declared.memo.Mark.{Mark};
-ghost use Rattle.lexscan.specs.Memos.{AreTrue};
+ghost use Rattle.lexscan_window.specs.declared.memo.Mark.{Mark};
+ghost use Rattle.lexscan_window.specs.Memos.{AreTrue};
 
 use crate::burst::{Burst, burst_over};
-use crate::error::RunError;
-use crate::intake::{Intake, Outlet};
-use crate::state::{State, TextPlace};
 use lex_io::{Sink, Source};
 use lex_machine::Machine;
+use lexscan_window::{Intake, Outlet, RunError, State, TextPlace};
 
 /// Goes to the place after some turns over the bytes held and those shown after them.
 #[inline(always)]

@@ -3,22 +3,18 @@ ghost use Rattle.std.specs.Prelude.{◌≡◌, ℕ, ◌+◌, ◌-◌, ◌^◌, �
 ghost use Rattle.std.specs.Coded.{→_prop};
 ghost use Rattle.lex_semantics.specs.Machine.{rules_of_machine};
 ghost use Rattle.lex_semantics.specs.Text.{AllBelow};
-ghost use Rattle.lexscan.specs.Memos.{AreTrue, AreTrue-prop};
-ghost use Rattle.lexscan.specs.Reads.{write_fault_count};
+ghost use Rattle.lexscan_window.specs.Memos.{AreTrue, AreTrue-prop};
+ghost use Rattle.lexscan_window.specs.Reads.{write_fault_count};
 ghost use Rattle.lexscan.specs.Stacks.{AllBelow-prop};
 ghost use Rattle.lexscan.specs.Ties.{HandedOn, RunHandedOn};
 ghost use Rattle.lexscan.specs.Pushes.{Standing, Standing-prop, IsAsking, IsAsking-prop, Fed, AfterFeed, AfterFinish};
 
 use crate::asking::{walk_all, walk_on};
 use crate::attempt::turns_between;
-use crate::error::RunError;
-use crate::memo::Memo;
-use crate::path::StatePath;
-use crate::state::State;
 use crate::turn::Turn;
-use crate::waiting::Waiting;
 use lex_io::Sink;
 use lex_machine::Machine;
+use lexscan_window::{Memo, RunError, State, StatePath, Waiting};
 use std::alloc::Global;
 
 /// Drops bytes from the front.

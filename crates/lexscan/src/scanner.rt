@@ -2,23 +2,18 @@
 ghost use Rattle.std.specs.Prelude.{◌≡◌, ℕ, ◌+◌, ◌-◌, ◌^◌, ◌<◌, ◌≤◌, List, [], ◌++◌, length, true, false, Some, None, Ok, Err, IfSome, IsErrOf};
 ghost use Rattle.std.specs.Coded.{→_prop};
 ghost use Rattle.lex_semantics.specs.Text.{AllBelow};
-ghost use Rattle.lexscan.specs.Answer.{end_read};
-ghost use Rattle.lexscan.specs.Reads.{read_fault_count, write_fault_count, end_step};
-ghost use Rattle.lexscan.specs.Memos.{AreTrue, AreTrue-prop};
+ghost use Rattle.lexscan_window.specs.Answer.{end_read};
+ghost use Rattle.lexscan_window.specs.Reads.{read_fault_count, write_fault_count, end_step};
+ghost use Rattle.lexscan_window.specs.Memos.{AreTrue, AreTrue-prop};
 ghost use Rattle.lexscan.specs.Stacks.{AllBelow-prop};
 ghost use Rattle.lexscan.specs.Ties.{HandedOn};
 ghost use Rattle.lexscan.specs.Matches.{match_in, text_of};
 ghost use Rattle.lexscan.specs.Stands.{NoneAfterEnd, GoesOn, Stands};
 
-use crate::error::RunError;
-use crate::intake::{Intake, Outlet};
-use crate::matched::Match;
-use crate::memo::Memo;
-use crate::path::StatePath;
-use crate::state::State;
 use crate::turn::{Turn, turn_of};
 use lex_io::{Sink, Source};
 use lex_machine::Machine;
+use lexscan_window::{Intake, Match, Memo, Outlet, RunError, State, StatePath};
 use std::alloc::Global;
 
 /// A scan of a source by a machine, to a sink.

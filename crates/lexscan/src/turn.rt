@@ -2,35 +2,29 @@
 ghost use Rattle.std.specs.Prelude.{◌≡◌, ℕ, ◌+◌, ◌-◌, ◌^◌, ◌<◌, ◌≤◌, List, [], ◌∷◌, ◌++◌, length, true, false, Some, None, Ok, Err, OnOk, OnErr, IfOk, IfErr, IfSome, IsErrOf, nat_eq, get_or, ◌⊎◌};
 ghost use Rattle.lex_io.specs.Sink.{Appended};
 ghost use Rattle.lex_semantics.specs.Text.{Among, AllBelow};
-ghost use Rattle.lexscan.specs.Reads.{read_fault_count, write_fault_count, end_step};
-ghost use Rattle.lexscan.specs.Ends.{SinkLeft};
-ghost use Rattle.lexscan.specs.Looks.{Wants};
-ghost use Rattle.lexscan.specs.Descends.{conditions_at};
+ghost use Rattle.lexscan_window.specs.Reads.{read_fault_count, write_fault_count, end_step};
+ghost use Rattle.lexscan_window.specs.Ends.{SinkLeft};
+ghost use Rattle.lexscan_matching.specs.Looks.{Wants};
+ghost use Rattle.lexscan_matching.specs.Descends.{conditions_at};
 ghost use Rattle.lex_semantics.specs.MachineLaws.{NoReject};
-ghost use Rattle.lexscan.specs.Picks.{IsLongest, Tells, path_of, rule_in};
-ghost use Rattle.lexscan.specs.Backs.{IsOpen};
-ghost use Rattle.lexscan.specs.declared.memo.Mark.{Mark};
-ghost use Rattle.lexscan.specs.Memos.{AreTrue};
+ghost use Rattle.lexscan_matching.specs.Picks.{IsLongest, Tells, path_of, rule_in};
+ghost use Rattle.lexscan_matching.specs.Backs.{IsOpen};
+ghost use Rattle.lexscan_window.specs.declared.memo.Mark.{Mark};
+ghost use Rattle.lexscan_window.specs.Memos.{AreTrue};
 ghost use Rattle.lexscan.specs.Stands.{MakesTurn};
 ghost use Rattle.lexscan.specs.Ties.{HandedOn};
 ghost use Rattle.lexscan.specs.Turns.{TurnCounts, MoveLeft, MayMove, MayTurn};
 ghost use Rattle.lexscan.specs.Moves.{stays, left_bytes, left_at, Left, EndLeft, EndsScan, MatchLeft, Moved};
 
-use crate::act::{Finish, put};
-use crate::back::{Ahead, look, note};
-use crate::descent::descend;
-use crate::error::RunError;
-use crate::intake::{Intake, Outlet};
-use crate::last_states::{look_ahead_last, look_ahead_more};
-use crate::looking::look_ahead;
-use crate::matched::MatchedRule;
-use crate::memo::Memo;
-use crate::path::StatePath;
-use crate::pick::{LookAhead, Pick, carry_pick, near_end, walk_again};
-use crate::state::State;
-use crate::tie::flush;
 use lex_io::{Sink, Source};
 use lex_machine::Machine;
+use lexscan_matching::{
+    Ahead, LookAhead, Pick, carry_pick, descend, look, look_ahead, look_ahead_last,
+    look_ahead_more, near_end, note, walk_again,
+};
+use lexscan_window::{
+    Finish, Intake, MatchedRule, Memo, Outlet, RunError, State, StatePath, flush, put,
+};
 
 /// How many bytes a match goes over again at most, before what was known of walks over them is kept.
 const BACKLOG: usize = 128;
@@ -52,7 +46,7 @@ pub fn has_backlog(state: &State) -> bool
 }
 
 /// Goes to the place of the next match.
-#[tactic(auto, using(crate::proofs::Keeping::text_stays, crate::proofs::Keeping::text_dropped))]
+#[tactic(auto, using(lexscan_window::proofs::Keeping::text_stays, lexscan_window::proofs::Keeping::text_dropped))]
 fn leave(state: &mut State, over: bool)
     requires { state.old.acting.end ≤ length state.old.reading.window.bytes }
     ensures left { Left state.old.reading.window.bytes state.old.acting over state.new }

@@ -3,22 +3,18 @@ ghost use Rattle.std.specs.Prelude.{◌≡◌, ℕ, ◌+◌, ◌-◌, ◌^◌, �
 ghost use Rattle.lex_semantics.specs.Machine.{rules_of_machine};
 ghost use Rattle.lex_semantics.specs.MachineLaws.{NoReject};
 ghost use Rattle.lex_semantics.specs.Text.{AllBelow};
-ghost use Rattle.lexscan.specs.Memos.{AreTrue};
-ghost use Rattle.lexscan.specs.Reads.{read_fault_count, write_fault_count};
+ghost use Rattle.lexscan_window.specs.Memos.{AreTrue};
+ghost use Rattle.lexscan_window.specs.Reads.{read_fault_count, write_fault_count};
 ghost use Rattle.lexscan.specs.Stands.{Stands};
 ghost use Rattle.lexscan.specs.Ties.{RunHandedOn};
 ghost use Rattle.lexscan.specs.Runs.{Ran, FewReads, RunCounts};
 ghost use Rattle.lexscan.specs.Turns.{MayTurn};
 
-use crate::error::RunError;
 use crate::further::{MOST_SHOWN, go_further};
-use crate::intake::{Intake, Outlet};
-use crate::memo::Memo;
-use crate::path::StatePath;
-use crate::state::State;
 use crate::turn::{Turn, back_turn, has_backlog, turn_with_reject, turn_without_reject};
 use lex_io::{Sink, Source};
 use lex_machine::Machine;
+use lexscan_window::{Intake, Memo, Outlet, RunError, State, StatePath};
 use std::alloc::Global;
 
 /// Turns until the end. Answers the status, with the sink flushed. It makes at most `max_reads` reads.

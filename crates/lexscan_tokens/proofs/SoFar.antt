@@ -14,11 +14,11 @@ use Rattle.lex_semantics.proofs.Texts.{part_front}
 use Rattle.lex_semantics.proofs.MachineRun.{machine_candidates_exist}
 use Rattle.lex_io.specs.Source.{Gives}
 use Rattle.lex_io.specs.SourceLaws.{Gives-nil, Gives-trans}
-use Rattle.lexscan.specs.declared.matched.Match.{Match}
-use Rattle.lexscan.specs.declared.state.State.{State}
+use Rattle.lexscan_window.specs.declared.matched.Match.{Match}
+use Rattle.lexscan_window.specs.declared.state.State.{State}
 use Rattle.lexscan.specs.declared.turn.Turn.{Turn}
-use Rattle.lexscan.specs.declared.error.RunError.{RunError}
-use Rattle.lexscan.specs.declared.error.RunError.TheVariants.{Read, TooManyReads, Write, OutOfMemory, Stack, Failed}
+use Rattle.lexscan_window.specs.declared.error.RunError.{RunError}
+use Rattle.lexscan_window.specs.declared.error.RunError.TheVariants.{Read, TooManyReads, Write, OutOfMemory, Stack, Failed}
 use Rattle.lexscan.specs.Descends.{ending_of}
 use Rattle.lexscan.specs.Matches.{match_in, text_of, TellsMatch}
 use Rattle.lexscan.specs.Reads.{end_step, read_fault_count, write_fault_count}

@@ -16,10 +16,10 @@ use Rattle.lex_semantics.proofs.Texts.{is_text_take, is_text_drop}
 use Rattle.lex_semantics.proofs.Once.{same_order, same_heads}
 use Rattle.lex_semantics.proofs.Local.{settle_same}
 use Rattle.lex_semantics.proofs.Table.{Alike, same_statements, candidate_to, turns_to, table_alike}
-use Rattle.lexscan.specs.declared.matched.MatchedRule.{MatchedRule}
+use Rattle.lexscan_window.specs.declared.matched.MatchedRule.{MatchedRule}
 use Rattle.lexscan.specs.Descends.{IsRule}
 use Rattle.lexscan.specs.Matches.{CarriesOut}
-use Rattle.lexscan.proofs.Picking.{quiet_never}
+use Rattle.lexscan_matching.proofs.Picking.{never_rejects}
 use Rattle.lexscan_tokens.specs.declared.listing.Token.{Token}
 use Rattle.lexscan_tokens.specs.Tokens.{IsToken, Appends, TokensOf, Tokenised}
 
@@ -41,9 +41,9 @@ candidate_from R Q alike c line_start y m lt text h = record { inside = h.inside
 
 -- where no rule has REJECT, the first match decides
 
-quiet_rule : (Q : Rules) → ((i : ℕ) → i < Q.count → has_reject (Q.statements i) ≡ false) → (i : ℕ) → (i < Q.count) ⊎ (Q.count ≤ i) → has_reject (statements_of Q i) ≡ false
-quiet_rule Q h i (inl lt) = ap has_reject (cond-true (nat_lt i Q.count) (Q.statements i) (Echo ∷ []) (lt-ltb i Q.count lt)) ∙ h i lt
-quiet_rule Q h i (inr le) = ap has_reject (cond-false (nat_lt i Q.count) (Q.statements i) (Echo ∷ []) (le-ltb i Q.count le))
+rule_without_reject : (Q : Rules) → ((i : ℕ) → i < Q.count → has_reject (Q.statements i) ≡ false) → (i : ℕ) → (i < Q.count) ⊎ (Q.count ≤ i) → has_reject (statements_of Q i) ≡ false
+rule_without_reject Q h i (inl lt) = ap has_reject (cond-true (nat_lt i Q.count) (Q.statements i) (Echo ∷ []) (lt-ltb i Q.count lt)) ∙ h i lt
+rule_without_reject Q h i (inr le) = ap has_reject (cond-false (nat_lt i Q.count) (Q.statements i) (Echo ∷ []) (le-ltb i Q.count le))
 
 not_none : (w : ActionResult) (f : Acting → Option Matched) → ((b : Acting) → w ≡ Again b → ⊥) → settle w f ≡ None → ⊥
 not_none (Done a) f never e = cc
@@ -55,7 +55,7 @@ unfolding perform
 decided R Q alike kept y m ms d cs e =
     let a : Acting = record { text = kept ++ take m.keep y; written = []; condition = d; stack = cs; more = false } in
     not_none (act (statements_of R m.rule) a) (λ b. perform R kept y ms b.written b.condition b.stack)
-    (λ b again. quiet_never (statements_of R m.rule) a b (ap has_reject (same_statements false R Q alike m.rule) ∙ quiet_rule Q alike.matches.1 m.rule (cases_lt m.rule Q.count)) again) e
+    (λ b again. never_rejects (statements_of R m.rule) a b (ap has_reject (same_statements false R Q alike m.rule) ∙ rule_without_reject Q alike.matches.1 m.rule (cases_lt m.rule Q.count)) again) e
 
 none_performed : (R : Rules) (kept y : List ℕ) (d : ℕ) (cs : List ℕ) → perform R kept y [] [] d cs ≡ None
 unfolding perform

@@ -6,9 +6,9 @@ use Rattle.lex_semantics.specs.Rules.{Rules}
 use Rattle.lex_semantics.specs.Candidates.{Candidate}
 use Rattle.lex_semantics.specs.Acting.{Ending, StackFault, Matched}
 use Rattle.lex_semantics.specs.Run.{Place, State, Turns}
-use Rattle.lexscan.specs.declared.matched.Match.{Match}
-use Rattle.lexscan.specs.declared.error.RunError.{RunError}
-use Rattle.lexscan.specs.declared.error.RunError.TheVariants.{OutOfMemory, Stack}
+use Rattle.lexscan_window.specs.declared.matched.Match.{Match}
+use Rattle.lexscan_window.specs.declared.error.RunError.{RunError}
+use Rattle.lexscan_window.specs.declared.error.RunError.TheVariants.{OutOfMemory, Stack}
 use Rattle.lexscan.specs.Descends.{IsRule}
 use Rattle.lexscan.specs.Matches.{CarriesOut}
 use Rattle.lexscan_tokens.specs.declared.listing.Token.{Token}

@@ -10,10 +10,10 @@ use Rattle.lex_semantics.specs.Run.{first_state}
 use Rattle.lex_semantics.specs.Demand.{Consistent, EndAsked}
 use Rattle.lex_semantics.specs.Machine.{Machine, rules_of_machine}
 use Rattle.lextab_packed.specs.Machines.{machine_of}
-use Rattle.lexscan.specs.declared.state.State.{State}
+use Rattle.lexscan_window.specs.declared.state.State.{State}
 use Rattle.lexscan.specs.declared.turn.Turn.{Turn}
-use Rattle.lexscan.specs.declared.error.RunError.{RunError}
-use Rattle.lexscan.specs.declared.error.RunError.TheVariants as runs
+use Rattle.lexscan_window.specs.declared.error.RunError.{RunError}
+use Rattle.lexscan_window.specs.declared.error.RunError.TheVariants as runs
 use Rattle.lexscan.specs.Pushes.{Fed, AsksForMore, AfterFeed, AfterFinish}
 use Rattle.liblex_calls.specs.Backlogs.{rest}
 use Rattle.liblex_calls.specs.Stages.{stage_of, end_of, fault_of}

@@ -15,8 +15,8 @@ use Rattle.lextab_file.specs.File.{IsFileOf}
 use Rattle.lextab_packed.specs.Steps.{machine_of_table}
 use Rattle.lextab_file.specs.declared.error.TableError.TheVariants as tables
 use Rattle.lexscan.specs.Stands.{RanTo}
-use Rattle.lexscan.specs.declared.error.RunError.{RunError}
-use Rattle.lexscan.specs.declared.error.RunError.TheVariants as runs
+use Rattle.lexscan_window.specs.declared.error.RunError.{RunError}
+use Rattle.lexscan_window.specs.declared.error.RunError.TheVariants as runs
 use Rattle.lexkit.specs.Canonical.{IsCanonical}
 use Rattle.lexkit.specs.Headline.{reading, TableHeadline, ScansTable, max_reads}
 use Rattle.lexkit.specs.declared.options.Options.{Options}

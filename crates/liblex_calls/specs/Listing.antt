@@ -6,9 +6,9 @@ use Rattle.lex_semantics.specs.Acting.{Status}
 use Rattle.lextab_packed.specs.Table.{Table}
 use Rattle.lextab_file.specs.File.{IsFileOf}
 use Rattle.lexspec.specs.Files.{SpellsSpec}
-use Rattle.lexscan.specs.declared.matched.MatchedRule.{MatchedRule}
-use Rattle.lexscan.specs.declared.matched.MatchedRule.TheVariants as rules
-use Rattle.lexscan.specs.declared.error.RunError.TheVariants as runs
+use Rattle.lexscan_window.specs.declared.matched.MatchedRule.{MatchedRule}
+use Rattle.lexscan_window.specs.declared.matched.MatchedRule.TheVariants as rules
+use Rattle.lexscan_window.specs.declared.error.RunError.TheVariants as runs
 use Rattle.lexscan_tokens.specs.declared.listing.Token.{Token}
 use Rattle.lexscan_tokens.specs.Tokens.{Tokenised, Stopped}
 use Rattle.lexkit.specs.Generated.{lines_of}

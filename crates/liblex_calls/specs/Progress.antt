@@ -12,7 +12,7 @@ use Rattle.lextab_packed.specs.Invariant.{GoesOn}
 use Rattle.lextab_packed.specs.Machines.{machine_of}
 use Rattle.lextab_packed.specs.FlatViews.{tables_of}
 use Rattle.lextab_file.specs.File.{IsFileOf}
-use Rattle.lexscan.specs.declared.state.State.{State}
+use Rattle.lexscan_window.specs.declared.state.State.{State}
 use Rattle.lexscan.specs.Pushes.{Fed, AsksForMore}
 use Rattle.lexscan.specs.Scanners.{push_machine, push_state, push_waiting}
 use Rattle.liblex_calls.specs.Backlogs.{rest}

@@ -7,8 +7,8 @@ use Rattle.lextab_file.specs.File.{IsFileOf}
 use Rattle.lexkit.specs.Headline.{max_reads}
 use Rattle.lextab_file.specs.declared.error.TableError.{TableError}
 use Rattle.lextab_file.specs.declared.error.TableError.TheVariants as tables
-use Rattle.lexscan.specs.declared.error.RunError.{RunError}
-use Rattle.lexscan.specs.declared.error.RunError.TheVariants as runs
+use Rattle.lexscan_window.specs.declared.error.RunError.{RunError}
+use Rattle.lexscan_window.specs.declared.error.RunError.TheVariants as runs
 use Rattle.lexkit.specs.declared.errors.ScanError.{ScanError}
 use Rattle.lexkit.specs.declared.errors.ScanError.TheVariants as scans
 use Rattle.liblex_calls.specs.Buffers.{HandedOut, Fits, NothingOut}

@@ -1,8 +1,8 @@
 -- How far a scan by pieces has come, and what is answered of it. (Own.)
 use Rattle.std.specs.Prelude.{ℕ, Result, Ok, Err, nat_eq, cond}
 use Rattle.lexscan.specs.declared.turn.Turn.{Turn}
-use Rattle.lexscan.specs.declared.error.RunError.{RunError}
-use Rattle.lexscan.specs.declared.error.RunError.TheVariants as runs
+use Rattle.lexscan_window.specs.declared.error.RunError.{RunError}
+use Rattle.lexscan_window.specs.declared.error.RunError.TheVariants as runs
 use Rattle.liblex_calls.specs.declared.answer.Answer.{Answer}
 use Rattle.liblex_calls.specs.declared.answer.Answer.TheVariants as answers
 use Rattle.liblex_calls.specs.declared.stage.Stage.{Stage}

@@ -2,7 +2,7 @@ use Rattle.std.proofs.Common.{◌≡◌, ℕ, ◌-◌, List, length, drop, ap, s
 use Rattle.std.specs.Prelude.{slice_range}
 use Rattle.std.proofs.lemmas.List.{take_all, length-drop}
 use Rattle.lexscan.specs.Pushes.{GoesOnOver}
-use Rattle.lexscan.specs.declared.state.State.{State}
+use Rattle.lexscan_window.specs.declared.state.State.{State}
 use Rattle.lexscan.proofs.Pushing as Push
 use Rattle.lexscan.proofs.asking.walk_all.Goals as goal
 

@@ -1,7 +1,7 @@
 use Rattle.std.proofs.Common.{◌≡◌, ℕ, ◌+◌, ◌<◌, ◌≤◌, true, inl, inr, length, take, get_or, sym, ap, subst, ◌∙◌, arith}
 use Rattle.std.proofs.lemmas.Bool.{cases_lt}
 use Rattle.lex_semantics.specs.Machine.{Machine, walk}
-use Rattle.lexscan.proofs.Telling.{walk_more}
+use Rattle.lexscan_matching.proofs.Telling.{walk_more}
 use Rattle.lexscan.proofs.asking.walk_over.Goals as goal
 
 pub loop-byte-preserved : goal.loop-byte-preserved

@@ -1,8 +1,8 @@
 use Rattle.std.proofs.Common.{◌≡◌, ℕ, ◌≤◌, List, ◌++◌, length, take, Err, sym, ap, ◌∙◌, arith}
 use Rattle.lex_semantics.specs.Machine.{Machine}
 use Rattle.lexscan.specs.Stands.{Stands}
-use Rattle.lexscan.specs.declared.state.State.{State}
-use Rattle.lexscan.specs.declared.error.RunError.TheVariants.{TooManyReads}
+use Rattle.lexscan_window.specs.declared.state.State.{State}
+use Rattle.lexscan_window.specs.declared.error.RunError.TheVariants.{TooManyReads}
 use Rattle.lexscan.proofs.Pushing as Push
 use Rattle.lexscan.proofs.attempt.attempt.Goals as goal
 

@@ -1,9 +1,9 @@
 use Rattle.std.proofs.Common.{◌≡◌, ℕ, ◌+◌, ◌<◌, ◌≤◌, false, List, [], ◌++◌, refl, sym, ap, subst, ◌∙◌, append_assoc, append-nil, arith}
 use Rattle.std.proofs.lemmas.Result.{err_from_is_err_and}
 use Rattle.lex_semantics.specs.Machine.{Machine}
-use Rattle.lexscan.specs.Reads.{end_step}
+use Rattle.lexscan_window.specs.Reads.{end_step}
 use Rattle.lexscan.specs.Stands.{Stands}
-use Rattle.lexscan.specs.declared.state.State.{State}
+use Rattle.lexscan_window.specs.declared.state.State.{State}
 use Rattle.lexscan.proofs.Lasting as Last
 use Rattle.lexscan.proofs.Pushing as Push
 use Rattle.lexscan.proofs.attempt.turns_over.Goals as goal

@@ -1,7 +1,7 @@
 use Rattle.std.proofs.Common.{◌≡◌, ◌+◌, ◌<◌, ◌≤◌, length, None, false, true}
 use Rattle.lex_semantics.specs.Text.{AllBelow}
-use Rattle.lexscan.specs.Memos.{AreTrue}
-use Rattle.lexscan.specs.Reads.{end_step}
+use Rattle.lexscan_window.specs.Memos.{AreTrue}
+use Rattle.lexscan_window.specs.Reads.{end_step}
 use Rattle.lexscan.specs.Pushes.{Standing}
 use Rattle.lexscan.proofs.Lasting.{left_over}
 use Rattle.lexscan.proofs.Pushing.{Onward}

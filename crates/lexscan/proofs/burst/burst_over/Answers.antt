@@ -6,11 +6,12 @@ use Rattle.lex_semantics.specs.Text.{IsText, BeginsWith}
 use Rattle.lex_semantics.specs.Machine.{Machine}
 use Rattle.lex_semantics.specs.MachineLaws.{MachineLaws}
 use Rattle.lex_machine.specs.declared.glance.Way.{Way}
-use Rattle.lexscan.specs.declared.burst.GlancedMatch.{GlancedMatch}
+use Rattle.lexscan_matching.specs.declared.glanced.GlancedMatch.{GlancedMatch}
 use Rattle.lex_machine.proofs.Growing.{is_text_from}
 use Rattle.lex_machine.specs.declared.glance.Gist.TheVariants.{Silent}
 use Rattle.lex_machine.specs.Glances.{Leads}
-use Rattle.lexscan.specs.Bursts.{TurnsMade, Broke, Tells, names_rule, starts_line, written_by, condition_after}
+use Rattle.lexscan.specs.Bursts.{TurnsMade, Broke, starts_line}
+use Rattle.lexscan_matching.specs.Glanced.{Tells, names_rule, written_by, condition_after}
 use Rattle.lexscan.proofs.Bursting as Burst
 use Rattle.lexscan.proofs.burst.burst_over.Goals as goal
 

@@ -1,9 +1,9 @@
 use Rattle.std.proofs.Common.{◌≡◌, ℕ, ◌-◌, ◌≤◌, List, [], ◌++◌, length, take, drop, true, false, refl, sym, ap, ◌∙◌, arith}
 use Rattle.std.proofs.lemmas.List.{take-take}
-use Rattle.lexscan.specs.declared.state.State.{State}
+use Rattle.lexscan_window.specs.declared.state.State.{State}
 use Rattle.lexscan.proofs.Bursting.{grows}
 use Rattle.lexscan.proofs.Furthering as Further
-use Rattle.lexscan.proofs.Barrens.{true_burst}
+use Rattle.lexscan_matching.proofs.Barrens.{true_burst}
 use Rattle.lexscan.proofs.further.go_further.Goals as goal
 
 -- the text is made of the bytes held and of those shown

@@ -1,7 +1,7 @@
 use Rattle.std.proofs.Common.{ℕ, List, subst, ◌∙◌, append-nil}
-use Rattle.lexscan.specs.Waits.{GivesWaiting, bytes_left}
-use Rattle.lexscan.specs.declared.waiting.Waiting.{Waiting}
-use Rattle.lexscan.specs.declared.state.State.{State}
+use Rattle.lexscan_window.specs.Waits.{GivesWaiting, bytes_left}
+use Rattle.lexscan_window.specs.declared.waiting.Waiting.{Waiting}
+use Rattle.lexscan_window.specs.declared.state.State.{State}
 use Rattle.lexscan.proofs.Pushing as Push
 use Rattle.lexscan.proofs.push.scan_to_end.Goals as goal
 

@@ -1,8 +1,8 @@
 use Rattle.std.proofs.Common.{ℕ, List, Some, sym, subst, arith}
 use Rattle.lex_semantics.specs.Machine.{Machine}
-use Rattle.lexscan.specs.Picks.{path_of}
-use Rattle.lexscan.specs.Descends.{conditions_at, matches_of, Takes}
-use Rattle.lexscan.proofs.Picking.{picked_takes}
+use Rattle.lexscan_matching.specs.Picks.{path_of}
+use Rattle.lexscan_matching.specs.Descends.{conditions_at, matches_of, Takes}
+use Rattle.lexscan_matching.proofs.Picking.{picked_takes}
 use Rattle.lexscan.proofs.Leaving.{match_cut, match_done, match_ended}
 use Rattle.lexscan.proofs.Tying.{write_only}
 use Rattle.lexscan.proofs.turn.carry_turn.Goals as goal

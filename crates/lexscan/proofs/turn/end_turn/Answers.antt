@@ -1,8 +1,8 @@
 use Rattle.std.proofs.Common.{List, ℕ, ◌≡◌, ap, subst, ◌∙◌}
 use Rattle.lex_semantics.specs.Machine.{Machine}
 use Rattle.lex_semantics.specs.Spec.{EndAction}
-use Rattle.lexscan.proofs.Saying.{prefix_same}
-use Rattle.lexscan.proofs.Descending.{wrote_flushed}
+use Rattle.lexscan_window.proofs.Saying.{prefix_same}
+use Rattle.lexscan_matching.proofs.Descending.{wrote_flushed}
 use Rattle.lexscan.proofs.Tying.{write_only}
 use Rattle.lexscan.proofs.turn.end_turn.Goals as goal
 

@@ -1,6 +1,6 @@
 use Rattle.std.proofs.Common.{ap, Err, subst}
 use Rattle.lex_semantics.specs.Machine.{Machine}
-use Rattle.lexscan.specs.Looks.{LookedOrAtEnd, Looked, LookedAtEnd}
+use Rattle.lexscan_matching.specs.Looks.{LookedOrAtEnd, Looked, LookedAtEnd}
 use Rattle.lexscan.proofs.Leaving.{matched_moved, finished_moved}
 use Rattle.lexscan.proofs.Tying.{tied_moved, no_stack}
 use Rattle.lexscan.proofs.turn.go_with_reject.Goals as goal

@@ -1,6 +1,6 @@
 use Rattle.std.proofs.Common.{ap, Err}
 use Rattle.lex_semantics.specs.Machine.{Machine}
-use Rattle.lexscan.specs.Picks.{path_of}
+use Rattle.lexscan_matching.specs.Picks.{path_of}
 use Rattle.lexscan.proofs.Leaving.{matched_moved, finished_moved}
 use Rattle.lexscan.proofs.Tying.{tied_moved, no_stack}
 use Rattle.lexscan.proofs.turn.go_without_reject.Goals as goal

@@ -1,5 +1,5 @@
 use Rattle.std.proofs.Common.{Ok}
-use Rattle.lexscan.proofs.Barrens.{true_moved}
+use Rattle.lexscan.proofs.Settling.{true_moved}
 use Rattle.lexscan.proofs.Making.{turn_made, turn_refused, turn_next}
 use Rattle.lexscan.proofs.turn.turn_without_reject.Goals as goal
 

@@ -1,11 +1,11 @@
 use Rattle.std.proofs.Common.{◌≡◌, ℕ, false, suc, ◌+◌, ◌<◌, ◌++◌, ◌≤◌, Err, sym, ap, subst, ◌∙◌, append_assoc, arith, length}
 use Rattle.std.proofs.lemmas.Result.{err_from_is_err_and}
-use Rattle.lexscan.specs.Reads.{end_step}
+use Rattle.lexscan_window.specs.Reads.{end_step}
 use Rattle.std.specs.Prelude.{nat_lt}
 use Rattle.lex_semantics.specs.Machine.{rules_of_machine}
 use Rattle.lexscan.specs.Runs.{RanInto}
-use Rattle.lexscan.specs.declared.error.RunError.{RunError}
-use Rattle.lexscan.specs.declared.error.RunError.TheVariants.{Write, TooManyReads}
+use Rattle.lexscan_window.specs.declared.error.RunError.{RunError}
+use Rattle.lexscan_window.specs.declared.error.RunError.TheVariants.{Write, TooManyReads}
 use Rattle.lexscan.proofs.Lasting as Last
 use Rattle.lexscan.proofs.whole.run_without_reject.Goals as goal
 

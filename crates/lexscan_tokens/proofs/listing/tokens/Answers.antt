@@ -8,7 +8,7 @@ use Rattle.lexscan.specs.Reads.{end_step}
 use Rattle.lexscan.specs.Stands.{GoesOn}
 use Rattle.lexscan.proofs.Lasting as Last
 use Rattle.lex_semantics.specs.Machine.{rules_of_machine}
-use Rattle.lexscan.specs.declared.error.RunError.TheVariants.{OutOfMemory}
+use Rattle.lexscan_window.specs.declared.error.RunError.TheVariants.{OutOfMemory}
 use Rattle.lexscan_tokens.specs.declared.listing.Token.{Token}
 use Rattle.lex_semantics.specs.Acting.{Status}
 use Rattle.lexscan_tokens.specs.Tokens.{tokens_by, Stopped, Tokenised}

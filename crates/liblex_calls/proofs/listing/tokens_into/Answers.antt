@@ -3,8 +3,8 @@ use Rattle.std.specs.Prelude.{IfErr}
 use Rattle.lex_semantics.specs.Acting.{Status}
 use Rattle.lex_semantics.specs.Machine.{rules_of_machine}
 use Rattle.lextab_packed.specs.Views.{table_of}
-use Rattle.lexscan.specs.declared.error.RunError.{RunError}
-use Rattle.lexscan.specs.declared.error.RunError.TheVariants as runs
+use Rattle.lexscan_window.specs.declared.error.RunError.{RunError}
+use Rattle.lexscan_window.specs.declared.error.RunError.TheVariants as runs
 use Rattle.lexscan_tokens.specs.declared.listing.Token.{Token}
 use Rattle.lexscan_tokens.specs.Tokens.{Tokenised, Stopped}
 use Rattle.liblex_calls.specs.Buffers.{HandedOut, Fits}

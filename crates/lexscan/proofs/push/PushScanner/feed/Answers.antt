@@ -1,5 +1,5 @@
 use Rattle.std.proofs.Common.{Some, ◌≡◌, [], ◌++◌, ap}
-use Rattle.lexscan.specs.declared.error.RunError.TheVariants.{TooManyReads, OutOfMemory, Stack}
+use Rattle.lexscan_window.specs.declared.error.RunError.TheVariants.{TooManyReads, OutOfMemory, Stack}
 use Rattle.lexscan.specs.Pushes.{IsAsking}
 use Rattle.lexscan.proofs.Pushing as Push
 use Rattle.lexscan.proofs.push.PushScanner.feed.Goals as goal

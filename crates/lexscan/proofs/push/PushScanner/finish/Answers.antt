@@ -1,5 +1,5 @@
 use Rattle.std.proofs.Common.{◌≡◌, [], sym, subst}
-use Rattle.lexscan.specs.declared.error.RunError.TheVariants.{TooManyReads, Stack}
+use Rattle.lexscan_window.specs.declared.error.RunError.TheVariants.{TooManyReads, Stack}
 use Rattle.lexscan.specs.Pushes.{Fed}
 use Rattle.lexscan.proofs.Pushing as Push
 use Rattle.lexscan.proofs.push.PushScanner.finish.Goals as goal

@@ -1,0 +1,6 @@
+pub mod Growing
+pub mod Descending
+pub mod Picking
+pub mod Fronting
+pub mod Barrens
+pub mod Telling

@@ -1,0 +1,6 @@
+pub mod Looks
+pub mod Descends
+pub mod Picks
+pub mod Backs
+pub mod Fronts
+pub mod Glanced

@@ -1,0 +1,135 @@
+//! One match over bytes that an earlier match has asked for, by what is known of the walks over them.
+ghost use Rattle.std.specs.Prelude.{◌≡◌, ◌+◌, ◌-◌, ◌^◌, ◌<◌, ◌≤◌, ◌⊎◌, length, drop, true};
+ghost use Rattle.lexscan_matching.specs.Backs.{LooksAhead, IsSettled};
+ghost use Rattle.lexscan_window.specs.Memos.{AreTrue};
+
+use crate::pick::LookAhead;
+use lex_machine::Machine;
+use lexscan_window::{Memo, Reading, TextPlace};
+
+/// A match of which no state accepts after its first `keep` bytes, the state after these and the one before it, and over how
+/// many bytes a walk showed it.
+#[derive(Clone, Copy)]
+pub struct Settled {
+    pub keep: usize,
+    pub state: u32,
+    pub before: u32,
+    pub len: usize,
+}
+
+/// What the bytes held tell of a match.
+#[derive(Clone, Copy)]
+pub enum Ahead {
+    /// All of it.
+    Settled(Settled),
+    /// The match asks for a byte that is not held.
+    Open(LookAhead),
+}
+
+/// The same after one byte more: it keeps all where this is the first byte or its state accepts.
+#[inline(always)]
+fn after(settled: Settled, len: usize, state: u32, before: u32, silent: bool) -> Settled
+    ensures len { result.len ≡ len }
+    ensures keep { ((result.keep ≡ len) × (result.state ≡ state) × (result.before ≡ before))
+        ⊎ ((result.keep ≡ settled.keep) × (result.state ≡ settled.state) × (result.before ≡ settled.before)
+        × (0 < settled.keep) × (silent ≡ true)) }
+{
+    if settled.keep == 0 || !silent {
+        Settled {
+            keep: len,
+            state,
+            before,
+            len,
+        }
+    } else {
+        Settled { len, ..settled }
+    }
+}
+
+/// Walks over the bytes held, up to a place from which the walk is known to lead to no match.
+pub fn look<M: Machine>(machine: &M, reading: &Reading, memo: &Memo, place: TextPlace) -> Ahead
+    requires condition { place.condition < (M.machine machine.now).conditions }
+    requires inside { place.at < length reading.now.window.bytes }
+    requires marks { AreTrue (M.machine machine.now) reading.now memo.now }
+
+    ensures { LooksAhead (M.machine machine.now) (M.states machine.now) place reading.now result }
+{
+    let held = reading.window.len() - place.at;
+    let stride = memo.stride();
+    let mut due = memo.ahead(reading.taken.saturating_sub(held as u64));
+    let mut state = machine.start(place.condition, place.line_start);
+    let mut before = state;
+    let mut len = 0usize;
+    let mut settled = Settled {
+        keep: 0,
+        state,
+        before,
+        len: 0,
+    };
+    'bytes: while len < held {
+        before = state;
+        state = machine.step(state, reading.window.byte(place.at + len));
+        len += 1;
+        settled = after(
+            settled,
+            len,
+            state,
+            before,
+            machine.accepts(state).is_empty(),
+        );
+        if !machine.goes_on(state) {
+            return Ahead::Settled(settled);
+        }
+        if due <= len {
+            due = due.saturating_add(stride);
+            let left = (held - len) as u64;
+            if left <= reading.taken && memo.has(reading.taken - left, state) {
+                return Ahead::Settled(settled);
+            }
+        }
+    }
+    if reading.at_end {
+        Ahead::Settled(settled)
+    } else {
+        Ahead::Open(LookAhead {
+            reach: len,
+            state,
+            before,
+        })
+    }
+}
+
+/// Marks what a walk has shown, where it went on for more than a stride.
+pub fn note<M: Machine>(
+    machine: &M,
+    reading: &Reading,
+    memo: &mut Memo,
+    place: TextPlace,
+    settled: Settled,
+)
+    requires settled { IsSettled (M.machine machine.now) (M.states machine.now) place reading.now settled }
+    requires marks { AreTrue (M.machine machine.now) reading.now memo.old }
+
+    ensures marks { AreTrue (M.machine machine.now) reading.now memo.new }
+{
+    let stride = memo.stride();
+    if settled.len - settled.keep <= stride {
+        return;
+    }
+    let held = reading.window.len() - place.at;
+    let mut len = settled.keep;
+    let first = (held - len) as u64;
+    let mut due = len.saturating_add(memo.ahead(reading.taken.saturating_sub(first)));
+    let mut state = settled.state;
+    'bytes: while len < settled.len {
+        state = machine.step(state, reading.window.byte(place.at + len));
+        len += 1;
+        if due <= len {
+            due = due.saturating_add(stride);
+            let left = (held - len) as u64;
+            if left <= reading.taken {
+                memo.put(reading.taken - left, state);
+            }
+        }
+    }
+}

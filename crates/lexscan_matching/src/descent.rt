@@ -1,0 +1,134 @@
+//! The matches at a place, from the longest down.
+ghost use Rattle.std.specs.Prelude.{◌≡◌, ℕ, ◌+◌, ◌-◌, ◌^◌, ◌<◌, ◌≤◌, List, [], length, filter_map, true, false, OnOk, OnErr, IfOk, IfErr, IfSome};
+ghost use Rattle.lex_semantics.specs.Text.{Among};
+ghost use Rattle.lex_semantics.specs.PlainMachine.{kept_by, match_of};
+ghost use Rattle.lex_machine.specs.Views.{cut_of};
+ghost use Rattle.lexscan_window.specs.Reads.{write_fault_count};
+ghost use Rattle.lexscan_window.specs.Ends.{SinkLeft};
+ghost use Rattle.lexscan_matching.specs.Descends.{matches_of, conditions_of, finished_of, Tried, CutOff, CutAll, Performed, Takes, TakesUnlessAgain};
+
+use lex_io::Sink;
+use lex_machine::{Cut, Machine};
+use lexscan_window::{
+    ActionState, Finish, MatchedRule, Outlet, RunError, StatePath, Step, Window, carry_out, put,
+};
+
+/// What a cut keeps of a match of this many bytes, if it fits.
+pub fn kept_length(cut: Cut, len: usize) -> Option<usize>
+    ensures keep { result ≡ kept_by (cut_of cut) len }
+    ensures short { IfSome result (λ keep. keep ≤ len) }
+{
+    match cut {
+        Cut::Whole => Some(len),
+        Cut::Head(count) => {
+            let count = usize::from(count);
+            if 0 < count && count <= len {
+                Some(count)
+            } else {
+                None
+            }
+        }
+        Cut::Trail(count) => {
+            let count = usize::from(count);
+            if count < len { Some(len - count) } else { None }
+        }
+    }
+}
+
+/// Tries the matches of one length, up to the first that is not rejected.
+fn try_rules<M: Machine, K: Sink>(
+    machine: &M,
+    outlet: &mut Outlet<'_, K>,
+    window: &Window,
+    rules: &[u32],
+    at: usize,
+    len: usize,
+    acting: &mut ActionState,
+    matched: &mut Option<MatchedRule>,
+) -> Result<Step, RunError>
+    requires live { outlet.old.live ≡ true }
+    requires place { at + len ≤ length window.now.bytes }
+    requires known { (i : ℕ) → Among rules.now i → i < (M.machine machine.now).count }
+    requires inside { acting.old.end ≤ length window.now.bytes }
+
+    ensures same { outlet.new.sink.ghost_name ≡ outlet.old.sink.ghost_name }
+    ensures sink { SinkLeft K.failures outlet.old.sink.now outlet.new.sink.now outlet.new.live result }
+
+    ensures inside { acting.new.end ≤ length window.now.bytes }
+    ensures tried { IfOk result (λ step. Tried (M.machine machine.now) K.wrote outlet.old.sink.now outlet.new.sink.now
+        window.now.bytes at (filter_map (match_of (M.machine machine.now) len) rules.now) (conditions_of acting.old)
+        acting.new step) }
+    ensures takes { IfOk result (TakesUnlessAgain (M.machine machine.now) window.now.bytes at
+        (filter_map (match_of (M.machine machine.now) len) rules.now) (conditions_of acting.old) matched.new) }
+    ensures cut_off { OnErr result (CutOff (M.machine machine.now) K.wrote outlet.old.sink.now outlet.new.sink.now
+        window.now.bytes at (filter_map (match_of (M.machine machine.now) len) rules.now) (conditions_of acting.old)) }
+{
+    let held = window.len();
+    for rule in rules {
+        let (cut, statements) = machine.rule(*rule);
+        if let Some(keep) = kept_length(cut, len) {
+            prove!(keep <= held - at);
+            acting.end = at + keep;
+            acting.more = false;
+            *matched = Some(MatchedRule::Numbered(*rule));
+            match carry_out(outlet, window, statements, acting)? {
+                Step::Again => {}
+                stop => return Ok(stop),
+            }
+        }
+    }
+    Ok(Step::Again)
+}
+
+/// Tries the matches at a place, the longest first, and carries out the first that is not rejected. Answers how the
+/// scan ends, if it does.
+pub fn descend<M: Machine, K: Sink>(
+    machine: &M,
+    outlet: &mut Outlet<'_, K>,
+    window: &Window,
+    path: &StatePath,
+    at: usize,
+    acting: &mut ActionState,
+    matched: &mut Option<MatchedRule>,
+) -> Result<Option<Finish>, RunError>
+    requires live { outlet.old.live ≡ true }
+    requires some { 1 ≤ length path.now.states }
+    requires place { at + length path.now.states ≤ length window.now.bytes }
+    requires known { (state : ℕ) → Among path.now.states state → state < M.states machine.now }
+    requires inside { acting.old.end ≤ length window.now.bytes }
+
+    ensures same { outlet.new.sink.ghost_name ≡ outlet.old.sink.ghost_name }
+    ensures sink { SinkLeft K.failures outlet.old.sink.now outlet.new.sink.now outlet.new.live result }
+
+    ensures inside { acting.new.end ≤ length window.now.bytes }
+    ensures performed { IfOk result (λ ended. Performed (M.machine machine.now)
+        K.wrote outlet.old.sink.now outlet.new.sink.now window.now.bytes at
+        (matches_of (M.machine machine.now) window.now.bytes at path.now.states)
+        (conditions_of acting.old) acting.new (finished_of ended)) }
+    ensures takes { OnOk result (Takes (M.machine machine.now) window.now.bytes at
+        (matches_of (M.machine machine.now) window.now.bytes at path.now.states) (conditions_of acting.old)
+        matched.new) }
+    ensures cut_off { OnErr result (CutAll (M.machine machine.now)
+        K.wrote outlet.old.sink.now outlet.new.sink.now window.now.bytes at
+        (matches_of (M.machine machine.now) window.now.bytes at path.now.states) (conditions_of acting.old)) }
+{
+    let mut len = path.len();
+    'lengths: while 0 < len {
+        let rules = machine.accepts(path.state(len - 1));
+        match try_rules(machine, outlet, window, rules, at, len, acting, matched)? {
+            Step::Next => return Ok(None),
+            Step::Again => {}
+            Step::Over(finish) => return Ok(Some(finish)),
+        }
+        len -= 1;
+    }
+    let held = window.len();
+    prove!(at < held);
+    acting.end = at + 1;
+    acting.more = false;
+    *matched = Some(MatchedRule::Default);
+    match put(outlet, window.slice(0, at + 1)) {
+        Err(e) => Err(e),
+        Ok(()) => Ok(None),
+    }
+}

@@ -1,0 +1,139 @@
+//! One match, which takes bytes from the source as it asks for them, by its last two states.
+ghost use Rattle.std.specs.Prelude.{◌≡◌, ℕ, ◌+◌, ◌-◌, ◌^◌, ◌<◌, ◌≤◌, List, [], length, true, false, OnOk, OnErr, IfOk, IsErrOf, IfSome, drop, ◌⊎◌};
+ghost use Rattle.lexscan_window.specs.Reads.{Took, read_fault_count, end_step};
+ghost use Rattle.lexscan_window.specs.Ends.{SourceLeft, NothingPut};
+ghost use Rattle.lexscan_matching.specs.Looks.{SoFar, Wants};
+ghost use Rattle.lexscan_matching.specs.Picks.{LookedSome, Tells, path_of, state_at};
+
+use crate::pick::LookAhead;
+use lex_io::{Sink, Source};
+use lex_machine::Machine;
+use lexscan_window::{Intake, Outlet, Reading, RunError, Stop, TextPlace, Walk, fill};
+
+/// Takes the bytes that a match asks for, and keeps the last two states. Answers nothing where there is none.
+#[inline(always)]
+pub fn look_ahead_last<M: Machine, S: Source, K: Sink>(
+    machine: &M,
+    intake: &mut Intake<'_, S>,
+    outlet: &mut Outlet<'_, K>,
+    reading: &mut Reading,
+    place: TextPlace,
+) -> Result<Option<LookAhead>, RunError>
+    requires live { reading.old.at_end ≡ false → intake.old.live ≡ true }
+    requires sink { outlet.old.live ≡ true }
+    requires inside { place.at ≤ length reading.old.window.bytes }
+    requires condition { place.condition < (M.machine machine.now).conditions }
+
+    ensures same { intake.new.source.ghost_name ≡ intake.old.source.ghost_name }
+    ensures same_sink { outlet.new.sink.ghost_name ≡ outlet.old.sink.ghost_name }
+    ensures put { NothingPut K.wrote K.failures outlet.old.sink.now outlet.new.sink.now outlet.new.live result }
+    ensures took { Took S.gave intake.old.source.now intake.new.source.now reading.old reading.new }
+    ensures looked { IfOk result (λ ahead. LookedSome (M.machine machine.now) place reading.old reading.new ahead) }
+    ensures tells { IfOk result
+        (λ ahead. IfSome ahead (Tells (M.machine machine.now) (M.states machine.now) place reading.new.window.bytes)) }
+    ensures unmet { OnErr result (Wants (M.machine machine.now) place reading.new) }
+    ensures source { SourceLeft S.ends S.failures intake.old.source.now intake.new.source.now intake.new.live
+        reading.old reading.new result }
+
+    ensures too_many { IsErrOf result RunError.TooManyReads → reading.new.taken ≡ reading.new.max_reads }
+{
+    let held = reading.window.len();
+    let mut state = machine.start(place.condition, place.line_start);
+    let mut before = state;
+    let mut reach = 0usize;
+    'held: while reach < held - place.at {
+        before = state;
+        state = machine.step(state, reading.window.byte(place.at + reach));
+        reach += 1;
+        if !machine.goes_on(state) {
+            return Ok(Some(LookAhead {
+                reach,
+                state,
+                before,
+            }));
+        }
+    }
+    look_ahead_more(
+        machine,
+        intake,
+        outlet,
+        reading,
+        place,
+        LookAhead {
+            reach,
+            state,
+            before,
+        },
+    )
+}
+
+/// The state before the last byte, where this one was before a walk that may have taken none.
+#[inline]
+fn before_last(before: u32, walk: Walk) -> u32
+    ensures some { 1 ≤ walk.count → result ≡ walk.before }
+    ensures none { walk.count ≡ 0 → result ≡ before }
+    ensures one { (result ≡ walk.before) ⊎ (result ≡ before) }
+{
+    if walk.count == 0 { before } else { walk.before }
+}
+
+/// Goes on with a match that has asked for all the bytes held, and asks for one more: takes bytes of the source, and keeps the
+/// last two states. Answers nothing where there is no byte.
+#[inline(always)]
+pub fn look_ahead_more<M: Machine, S: Source, K: Sink>(
+    machine: &M,
+    intake: &mut Intake<'_, S>,
+    outlet: &mut Outlet<'_, K>,
+    reading: &mut Reading,
+    place: TextPlace,
+    ahead: LookAhead,
+) -> Result<Option<LookAhead>, RunError>
+    requires live { reading.old.at_end ≡ false → intake.old.live ≡ true }
+    requires sink { outlet.old.live ≡ true }
+    requires inside { place.at + ahead.reach ≡ length reading.old.window.bytes }
+    requires so_far { SoFar (M.machine machine.now) place (drop place.at reading.old.window.bytes) ahead.reach
+        ahead.state (path_of (M.machine machine.now) place reading.old.window.bytes ahead.reach) }
+    requires goes_on { 1 ≤ ahead.reach → (M.machine machine.now).goes_on ahead.state ≡ true }
+    requires before_is { 1 ≤ ahead.reach → ahead.before ≡ state_at (M.machine machine.now) place
+        reading.old.window.bytes (ahead.reach - 1) }
+    requires known { ahead.state < M.states machine.now }
+    requires known_before { ahead.before < M.states machine.now }
+
+    ensures same { intake.new.source.ghost_name ≡ intake.old.source.ghost_name }
+    ensures same_sink { outlet.new.sink.ghost_name ≡ outlet.old.sink.ghost_name }
+    ensures put { NothingPut K.wrote K.failures outlet.old.sink.now outlet.new.sink.now outlet.new.live result }
+    ensures took { Took S.gave intake.old.source.now intake.new.source.now reading.old reading.new }
+    ensures looked { IfOk result (λ ahead. LookedSome (M.machine machine.now) place reading.old reading.new ahead) }
+    ensures tells { IfOk result
+        (λ ahead. IfSome ahead (Tells (M.machine machine.now) (M.states machine.now) place reading.new.window.bytes)) }
+    ensures unmet { OnErr result (Wants (M.machine machine.now) place reading.new) }
+    ensures source { SourceLeft S.ends S.failures intake.old.source.now intake.new.source.now intake.new.live
+        reading.old reading.new result }
+
+    ensures too_many { IsErrOf result RunError.TooManyReads → reading.new.taken ≡ reading.new.max_reads }
+{
+    let mut now = ahead;
+    'fills: while !reading.at_end {
+        let walk = fill(machine, intake, outlet, reading, now.state)?;
+        now = LookAhead {
+            reach: reading.window.len() - place.at,
+            state: walk.state,
+            before: before_last(now.before, walk),
+        };
+        match walk.stop {
+            Stop::Done => {
+                return Ok(Some(LookAhead {
+                    before: walk.before,
+                    ..now
+                }));
+            }
+            Stop::End => {}
+            Stop::Full => {}
+        }
+    }
+    if now.reach == 0 {
+        Ok(None)
+    } else {
+        Ok(Some(now))
+    }
+}

@@ -1,0 +1,58 @@
+//! One match, which takes bytes from the source as it asks for them, with the state after each.
+ghost use Rattle.std.specs.Prelude.{◌≡◌, ℕ, ◌+◌, ◌-◌, ◌^◌, ◌<◌, ◌≤◌, List, [], length, true, false, OnOk, OnErr, IfOk, IsErrOf};
+ghost use Rattle.lex_semantics.specs.Text.{Among};
+ghost use Rattle.lexscan_window.specs.Reads.{Took, read_fault_count, end_step};
+ghost use Rattle.lexscan_window.specs.Ends.{SourceLeft, NothingPut};
+ghost use Rattle.lexscan_matching.specs.Looks.{LookedOrAtEnd, Wants, Unmet};
+
+use lex_io::{Sink, Source};
+use lex_machine::Machine;
+use lexscan_window::{Intake, Outlet, Reading, RunError, StatePath, TextPlace, fetch};
+
+/// Takes the bytes that a match asks for, and keeps the states after them. Answers false where there is none.
+pub fn look_ahead<M: Machine, S: Source, K: Sink>(
+    machine: &M,
+    intake: &mut Intake<'_, S>,
+    outlet: &mut Outlet<'_, K>,
+    reading: &mut Reading,
+    path: &mut StatePath,
+    place: TextPlace,
+) -> Result<bool, RunError>
+    requires live { reading.old.at_end ≡ false → intake.old.live ≡ true }
+    requires sink { outlet.old.live ≡ true }
+    requires inside { place.at ≤ length reading.old.window.bytes }
+    requires condition { place.condition < (M.machine machine.now).conditions }
+
+    ensures same { intake.new.source.ghost_name ≡ intake.old.source.ghost_name }
+    ensures same_sink { outlet.new.sink.ghost_name ≡ outlet.old.sink.ghost_name }
+    ensures put { NothingPut K.wrote K.failures outlet.old.sink.now outlet.new.sink.now outlet.new.live result }
+    ensures took { Took S.gave intake.old.source.now intake.new.source.now reading.old reading.new }
+    ensures looked { IfOk result (λ some. LookedOrAtEnd (M.machine machine.now) place reading.old reading.new
+        path.new.states some) }
+    ensures unmet { OnErr result (Unmet (M.machine machine.now) place reading.old reading.new) }
+    ensures source { SourceLeft S.ends S.failures intake.old.source.now intake.new.source.now intake.new.live
+        reading.old reading.new result }
+    ensures inside { OnOk result (place.at + length path.new.states ≤ length reading.new.window.bytes) }
+    ensures some { IfOk result (λ some. some ≡ true → 1 ≤ length path.new.states) }
+    ensures known { (state : ℕ) → Among path.new.states state → state < M.states machine.now }
+
+    ensures too_many { IsErrOf result RunError.TooManyReads →
+        (reading.new.taken ≡ reading.new.max_reads) × Wants (M.machine machine.now) place reading.new }
+{
+    path.clear();
+    let mut state = machine.start(place.condition, place.line_start);
+    let mut next = place.at;
+    let mut len = 0usize;
+    'bytes: loop {
+        if 0 < len && !machine.goes_on(state) {
+            return Ok(true);
+        }
+        if !fetch(intake, outlet, reading, path, next)? {
+            return Ok(0 < len);
+        }
+        state = machine.step(state, reading.window.byte(next));
+        path.push(state);
+        next += 1;
+        len += 1;
+    }
+}

@@ -1,0 +1,5 @@
+pub mod Keeping
+pub mod Saying
+pub mod Walking
+pub mod Showing
+pub mod Marks

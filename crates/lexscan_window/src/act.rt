@@ -1,0 +1,149 @@
+//! What the action of a match does.
+ghost use Rattle.std.specs.Prelude.{◌≡◌, ℕ, ◌+◌, ◌-◌, ◌^◌, ◌<◌, ◌≤◌, List, [], length, take, map, true, false, OnOk, OnErr, IfOk, IfErr};
+ghost use Rattle.lex_io.specs.Sink.{Appended, fault_count};
+ghost use Rattle.lexscan_window.specs.Reads.{write_fault_count};
+ghost use Rattle.lexscan_window.specs.Ends.{SinkLeft};
+ghost use Rattle.lex_machine.specs.Views.{statement_of};
+ghost use Rattle.lexscan_window.specs.Acts.{said, Steps, Carried, CutShort};
+
+use crate::error::RunError;
+use crate::intake::Outlet;
+use crate::stack::Stack;
+use crate::window::Window;
+use lex_io::Sink;
+use lex_machine::Statement;
+
+/// The text's end in the window, the condition of the next match, the stack of conditions, and whether the next text is
+/// appended to this one.
+#[derive(Drop)]
+pub struct ActionState {
+    pub end: usize,
+    pub condition: u8,
+    pub stack: Stack,
+    pub more: bool,
+}
+
+/// How a scan ends: with a status, or because the stack of conditions was full or empty.
+#[derive(Clone, Copy, Debug, PartialEq, Eq)]
+pub enum Finish {
+    Status(u8),
+    StackFault,
+}
+
+/// What follows a statement or an action.
+#[derive(Clone, Copy, PartialEq, Eq)]
+pub enum Step {
+    Next,
+    Again,
+    Over(Finish),
+}
+
+/// Writes the bytes.
+#[inline(always)]
+pub fn put<K: Sink>(outlet: &mut Outlet<'_, K>, bytes: &[u8]) -> Result<(), RunError>
+    requires { outlet.old.live ≡ true }
+    ensures same { outlet.new.sink.ghost_name ≡ outlet.old.sink.ghost_name }
+    ensures bytes { Appended (λ xs. K.wrote outlet.old.sink.now xs outlet.new.sink.now) bytes.now result }
+    ensures sink { SinkLeft K.failures outlet.old.sink.now outlet.new.sink.now outlet.new.live result }
+{
+    match outlet.put(bytes) {
+        Err(_) => Err(RunError::Write),
+        Ok(()) => Ok(()),
+    }
+}
+
+/// Carries out one statement.
+#[inline(always)]
+pub fn carry_one<K: Sink>(
+    outlet: &mut Outlet<'_, K>,
+    window: &Window,
+    statement: &Statement,
+    acting: &mut ActionState,
+) -> Result<Step, RunError>
+    requires live { outlet.old.live ≡ true }
+    requires inside { acting.old.end ≤ length window.now.bytes }
+
+    ensures same { outlet.new.sink.ghost_name ≡ outlet.old.sink.ghost_name }
+    ensures bytes { Appended (λ xs. K.wrote outlet.old.sink.now xs outlet.new.sink.now)
+        (said (statement_of statement.now) (take acting.old.end window.now.bytes)) result }
+    ensures sink { SinkLeft K.failures outlet.old.sink.now outlet.new.sink.now outlet.new.live result }
+
+    ensures inside { acting.new.end ≤ length window.now.bytes }
+    ensures steps { IfOk result
+        (λ step. Steps window.now.bytes (statement_of statement.now) acting.old acting.new step) }
+{
+    match statement {
+        Statement::Echo => {
+            let text = window.slice(0, acting.end);
+            match put(outlet, text) {
+                Err(e) => Err(e),
+                Ok(()) => Ok(Step::Next),
+            }
+        }
+        Statement::Print(bytes) => match put(outlet, bytes.as_slice()) {
+            Err(e) => Err(e),
+            Ok(()) => Ok(Step::Next),
+        },
+        Statement::Begin(condition) => {
+            acting.condition = *condition;
+            Ok(Step::Next)
+        }
+        Statement::More => {
+            acting.more = true;
+            Ok(Step::Next)
+        }
+        Statement::Less(count) => {
+            let count = usize::from(*count);
+            if count < acting.end {
+                acting.end = count;
+            }
+            Ok(Step::Next)
+        }
+        Statement::Reject => Ok(Step::Again),
+        Statement::End(status) => Ok(Step::Over(Finish::Status(*status))),
+        Statement::Push(condition) => {
+            if acting.stack.push(acting.condition) {
+                acting.condition = *condition;
+                Ok(Step::Next)
+            } else {
+                Ok(Step::Over(Finish::StackFault))
+            }
+        }
+        Statement::Pop => match acting.stack.pop() {
+            Some(condition) => {
+                acting.condition = condition;
+                Ok(Step::Next)
+            }
+            None => Ok(Step::Over(Finish::StackFault)),
+        },
+    }
+}
+
+/// Carries out the statements from the first on.
+#[inline(always)]
+pub fn carry_out<K: Sink>(
+    outlet: &mut Outlet<'_, K>,
+    window: &Window,
+    statements: &[Statement],
+    acting: &mut ActionState,
+) -> Result<Step, RunError>
+    requires live { outlet.old.live ≡ true }
+    requires inside { acting.old.end ≤ length window.now.bytes }
+
+    ensures same { outlet.new.sink.ghost_name ≡ outlet.old.sink.ghost_name }
+    ensures sink { SinkLeft K.failures outlet.old.sink.now outlet.new.sink.now outlet.new.live result }
+
+    ensures inside { acting.new.end ≤ length window.now.bytes }
+    ensures carried { IfOk result (λ step. Carried K.wrote outlet.old.sink.now outlet.new.sink.now window.now.bytes
+        (map statement_of statements.now) acting.old acting.new step) }
+    ensures cut_short { OnErr result (CutShort K.wrote outlet.old.sink.now outlet.new.sink.now window.now.bytes
+        (map statement_of statements.now) acting.old) }
+{
+    for statement in statements {
+        match carry_one(outlet, window, statement, acting)? {
+            Step::Next => {}
+            stop => return Ok(stop),
+        }
+    }
+    Ok(Step::Next)
+}

@@ -1,0 +1,79 @@
+//! What a scanner keeps beside its two ends.
+ghost use Rattle.std.specs.Prelude.{◌≡◌, ◌+◌, ◌≤◌, false, true, None, []};
+ghost use Rattle.lexscan_window.specs.Answer.{end_read};
+
+use crate::act::ActionState;
+use crate::matched::MatchedRule;
+use crate::stack::Stack;
+use crate::window::Window;
+use std::alloc::Global;
+
+/// The bytes held, and what is known of the source. The bytes taken and the answer of the end are no more than `max_reads`.
+#[derive(Drop)]
+pub struct Reading {
+    pub window: Window,
+    pub max_reads: u64,
+    pub taken: u64,
+    pub at_end: bool,
+    ghost few_reads: { taken + end_read at_end ≤ max_reads },
+}
+
+/// Where the next match starts: the place in the window, whether a line starts there, and the condition.
+#[derive(Clone, Copy, PartialEq, Eq)]
+pub struct TextPlace {
+    pub at: usize,
+    pub line_start: bool,
+    pub condition: u8,
+}
+
+/// The plain state of a scanner. What its actions leave is kept in place, so that no turn copies the stack.
+#[derive(Drop)]
+pub struct State {
+    pub reading: Reading,
+    pub place: TextPlace,
+    pub acting: ActionState,
+    /// The rule that the last turn carried out, and none after an end action.
+    pub matched: Option<MatchedRule>,
+    pub ended: Option<u8>,
+    pub failed: bool,
+}
+
+impl State {
+    /// What a scanner keeps before its first turn.
+    pub fn new(alloc: Global, max_reads: u64) -> State
+        ensures held { result.reading.window.bytes ≡ [] }
+        ensures max_reads { result.reading.max_reads ≡ max_reads }
+        ensures taken { result.reading.taken ≡ 0 }
+        ensures at_end { result.reading.at_end ≡ false }
+        ensures at { result.place.at ≡ 0 }
+        ensures line_start { result.place.line_start ≡ true }
+        ensures condition { result.place.condition ≡ 0 }
+        ensures stack { result.acting.stack ≡ [] }
+        ensures matched { result.matched ≡ None }
+        ensures ended { result.ended ≡ None }
+        ensures failed { result.failed ≡ false }
+    {
+        State {
+            reading: Reading {
+                window: Window::new(alloc),
+                max_reads,
+                taken: 0,
+                at_end: false,
+            },
+            place: TextPlace {
+                at: 0,
+                line_start: true,
+                condition: 0,
+            },
+            acting: ActionState {
+                end: 0,
+                condition: 0,
+                stack: Stack::new(),
+                more: false,
+            },
+            matched: None,
+            ended: None,
+            failed: false,
+        }
+    }
+}
