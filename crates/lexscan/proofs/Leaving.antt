@@ -14,9 +14,9 @@ use Rattle.lexscan_window.specs.declared.error.RunError.TheVariants.{Read, TooMa
 use Rattle.lexscan_window.specs.declared.act.ActionState.{ActionState}
 use Rattle.lexscan_window.specs.declared.act.Finish.{Finish}
 use Rattle.lexscan_window.specs.Acts.{finish_of}
-use Rattle.lexscan_matching.specs.Descends.{conditions_at, matches_of, CutAll, Faulted, Performed, Takes}
+use Rattle.lexscan_matching.specs.Descends.{conditions_at, matches_of, finished_of, CutAll, Faulted, Performed, Takes}
 use Rattle.lexscan_window.specs.Ends.{IsEarly}
-use Rattle.lexscan.specs.Moves.{Left, Says, EndLeft, EndsScan, MatchLeft, Moved}
+use Rattle.lexscan.specs.Moves.{Left, Says, EndLeft, EndsScan, EndsTurn, MatchLeft, Moved}
 use Rattle.lexscan_matching.proofs.Descending.{performed_flushed, performed_cut}
 
 not_early : (e : RunError) → (e ≡ Write) ⊎ (e ≡ Stack) → IsEarly e → ⊥
@@ -103,7 +103,7 @@ module _ {K : Type 0} (M : Machine) (wrote : K → List ℕ → K → Type 0) (f
   }
 
   -- its action was carried out, and the scan goes on
-  pub match_done : (a : ActionState) (new : State) → Performed M wrote t t' old.reading.window.bytes old.place.at (matches_of M old.reading.window.bytes old.place.at path) (conditions_at old) a None → a.end ≤ length old.reading.window.bytes →
+  match_done : (a : ActionState) (new : State) → Performed M wrote t t' old.reading.window.bytes old.place.at (matches_of M old.reading.window.bytes old.place.at path) (conditions_at old) a None → a.end ≤ length old.reading.window.bytes →
       fails t' ≡ fails t + 0 → live ≡ true → Left old.reading.window.bytes a false new → new.reading.taken ≡ old.reading.taken → new.reading.at_end ≡ old.reading.at_end → new.reading.max_reads ≡ old.reading.max_reads →
       new.ended ≡ old.ended → new.failed ≡ old.failed → (r : Option MatchedRule) → new.matched ≡ r → Takes M old.reading.window.bytes old.place.at (matches_of M old.reading.window.bytes old.place.at path) (conditions_at old) r →
       MatchLeft M wrote fails t t' live old new path (Ok Turn.Went)
@@ -134,7 +134,7 @@ module _ {K : Type 0} (M : Machine) (wrote : K → List ℕ → K → Type 0) (f
       no x p = cc
 
   -- its action ended the scan, or was at fault
-  pub match_ended : (u : K) (a : ActionState) (r : Option MatchedRule) (new : State) (finish : Finish) (result : Result Turn RunError) → ((s t u : K) (xs ys : List ℕ) → wrote s xs t → wrote t ys u → wrote s (xs ++ ys) u) →
+  match_ended : (u : K) (a : ActionState) (r : Option MatchedRule) (new : State) (finish : Finish) (result : Result Turn RunError) → ((s t u : K) (xs ys : List ℕ) → wrote s xs t → wrote t ys u → wrote s (xs ++ ys) u) →
       Performed M wrote t u old.reading.window.bytes old.place.at (matches_of M old.reading.window.bytes old.place.at path) (conditions_at old) a (Some (finish_of finish)) → a.end ≤ length old.reading.window.bytes → fails u ≡ fails t + 0 →
       EndsScan wrote fails u t' live (record old { acting = a; matched = r }) new finish result →
       Takes M old.reading.window.bytes old.place.at (matches_of M old.reading.window.bytes old.place.at path) (conditions_at old) r → MatchLeft M wrote fails t t' live old new path result
@@ -180,3 +180,14 @@ module _ {K : Type 0} (M : Machine) (wrote : K → List ℕ → K → Type 0) (f
     failed = ends.failed;
     max_reads = ends.max_reads;
   }
+
+  -- its action was carried out, and the turn ends
+  pub match_left : (u : K) (a : ActionState) (r : Option MatchedRule) (new : State) (finish : Option Finish) (result : Result Turn RunError) → ((s t u : K) (xs ys : List ℕ) → wrote s xs t → wrote t ys u → wrote s (xs ++ ys) u) →
+      Performed M wrote t u old.reading.window.bytes old.place.at (matches_of M old.reading.window.bytes old.place.at path) (conditions_at old) a (finished_of finish) → a.end ≤ length old.reading.window.bytes → fails u ≡ fails t + 0 →
+      EndsTurn wrote fails u t' live (record old { acting = a; matched = r }) new finish result →
+      Takes M old.reading.window.bytes old.place.at (matches_of M old.reading.window.bytes old.place.at path) (conditions_at old) r → MatchLeft M wrote fails t t' live old new path result
+  match_left u a r new None result join h inside none goes takes =
+      let on = subst (λ z. Performed M wrote t z old.reading.window.bytes old.place.at (matches_of M old.reading.window.bytes old.place.at path) (conditions_at old) a None) (sym goes.sink) h in
+      subst (λ z. MatchLeft M wrote fails t t' live old new path z) (sym goes.says)
+      (match_done a new on inside (ap fails goes.sink ∙ none) goes.may_write goes.left goes.same.taken goes.same.at_end goes.max_reads goes.ended goes.failed r goes.matched takes)
+  match_left u a r new (Some finish) result join h inside none ends takes = match_ended u a r new finish result join h inside none ends takes

@@ -94,6 +94,23 @@ pub record EndsScan {K : Type 0} (wrote : K → List ℕ → K → Type 0) (fail
   pub failed : new.failed ≡ old.failed
   pub max_reads : new.reading.max_reads ≡ old.reading.max_reads
 
+-- An action went on: the scan left its place, and the sink is as it was.
+pub record GoesOn {K : Type 0} (t t' : K) (live : Bool) (old new : State) (result : Result Turn RunError) : Type 0 where
+  pub sink : t' ≡ t
+  pub may_write : live ≡ true
+  pub says : result ≡ Ok Turn.Went
+  pub left : Left old.reading.window.bytes old.acting false new
+  pub same : SameReads old.reading new
+  pub max_reads : new.reading.max_reads ≡ old.reading.max_reads
+  pub ended : new.ended ≡ old.ended
+  pub failed : new.failed ≡ old.failed
+  pub matched : new.matched ≡ old.matched
+
+-- How a turn ends after the actions of its match, which ended the scan, were at fault, or neither.
+abbrev pub EndsTurn : {K : Type 0} → (K → List ℕ → K → Type 0) → (K → ℕ) → K → K → Bool → State → State → Option Finish → Result Turn RunError → Type 0
+EndsTurn wrote fails t t' live old new None result = GoesOn t t' live old new result
+EndsTurn wrote fails t t' live old new (Some finish) result = EndsScan wrote fails t t' live old new finish result
+
 -- What a match leaves, where these are the states after its bytes: its action was carried out, or was cut short.
 pub record MatchLeft {K : Type 0} (M : Machine) (wrote : K → List ℕ → K → Type 0) (fails : K → ℕ) (t t' : K) (live : Bool) (old new : State) (path : List ℕ) (result : Result Turn RunError) : Type 0 where
   pub acted : IfOk result (λ turn. Acted M wrote t t' old.reading old.place (conditions_at old) path new turn)

@@ -14,7 +14,7 @@ ghost use Rattle.lexscan_window.specs.Memos.{AreTrue};
 ghost use Rattle.lexscan.specs.Stands.{MakesTurn};
 ghost use Rattle.lexscan.specs.Ties.{HandedOn};
 ghost use Rattle.lexscan.specs.Turns.{TurnCounts, MoveLeft, MayMove, MayTurn};
-ghost use Rattle.lexscan.specs.Moves.{stays, left_bytes, left_at, Left, EndLeft, EndsScan, MatchLeft, Moved};
+ghost use Rattle.lexscan.specs.Moves.{stays, left_bytes, left_at, Left, EndLeft, EndsScan, EndsTurn, MatchLeft, Moved};
 
 use lex_io::{Sink, Source};
 use lex_machine::Machine;
@@ -97,6 +97,30 @@ fn finish_turn<K: Sink>(
     }
 }
 
+/// The end of a turn after the actions of its match: the place after it, where they neither ended the scan nor were at fault.
+#[inline(always)]
+fn leave_match<K: Sink>(
+    outlet: &mut Outlet<'_, K>,
+    state: &mut State,
+    finish: Option<Finish>,
+) -> Result<Turn, RunError>
+    requires live { outlet.old.live ≡ true }
+    requires inside { state.old.acting.end ≤ length state.old.reading.window.bytes }
+
+    ensures same { outlet.new.sink.ghost_name ≡ outlet.old.sink.ghost_name }
+    ensures handed_on { HandedOn (K.flushed outlet.new.sink.now) result }
+    ensures ends { EndsTurn K.wrote K.failures outlet.old.sink.now outlet.new.sink.now outlet.new.live
+        state.old state.new finish result }
+{
+    match finish {
+        Some(finish) => finish_turn(outlet, state, finish),
+        None => {
+            leave(state, false);
+            Ok(Turn::Went)
+        }
+    }
+}
+
 /// The action of a match, and the place after it.
 fn match_turn<M: Machine, K: Sink>(
     machine: &M,
@@ -129,11 +153,7 @@ fn match_turn<M: Machine, K: Sink>(
         &mut state.matched,
     ) {
         Err(e) => Err(e),
-        Ok(None) => {
-            leave(state, false);
-            Ok(Turn::Went)
-        }
-        Ok(Some(finish)) => finish_turn(outlet, state, finish),
+        Ok(finish) => leave_match(outlet, state, finish),
     }
 }
 
@@ -183,11 +203,7 @@ fn carry_turn<M: Machine, K: Sink>(
         &mut state.acting,
     ) {
         Err(e) => Err(e),
-        Ok(None) => {
-            leave(state, false);
-            Ok(Turn::Went)
-        }
-        Ok(Some(finish)) => finish_turn(outlet, state, finish),
+        Ok(finish) => leave_match(outlet, state, finish),
     }
 }
 

@@ -3,7 +3,7 @@ use Rattle.lex_semantics.specs.Machine.{Machine}
 use Rattle.lexscan_matching.specs.Picks.{path_of}
 use Rattle.lexscan_matching.specs.Descends.{conditions_at, matches_of, Takes}
 use Rattle.lexscan_matching.proofs.Picking.{picked_takes}
-use Rattle.lexscan.proofs.Leaving.{match_cut, match_done, match_ended}
+use Rattle.lexscan.proofs.Leaving.{match_cut, match_left}
 use Rattle.lexscan.proofs.Tying.{write_only}
 use Rattle.lexscan.proofs.turn.carry_turn.Goals as goal
 
@@ -12,32 +12,17 @@ returns-in-Err-clause-left g c =
     let M : Machine = g.M.Machine.machine c.args.machine.now in
     match_cut M g.K.Sink.wrote g.K.Sink.failures _ _ _ c.args.state.now (path_of M c.args.state.now.place c.args.state.now.reading.window.bytes c.args.reach) c.carry_pick.new.acting (Some c.rule_of.result) c.in-Err.e c.in-Err.ensures.cut_off c.in-Err.ensures.sink.refusals c.in-Err.ensures.sink.write_faults
 
-pub returns-in-Ok-None-clause-left : goal.returns-in-Ok-None-clause-left
-returns-in-Ok-None-clause-left g c =
-    let ens = rw c.in-Ok-None.field-0-is at c.in-Ok-None.ensures in
-    let M : Machine = g.M.Machine.machine c.args.machine.now in
-    let w : List ℕ = c.args.state.now.reading.window.bytes in
-    let at : ℕ = c.args.state.now.place.at in
-    let path : List ℕ = path_of M c.args.state.now.place w c.args.reach in
-    let takes = subst (λ z. Takes M w at (matches_of M w at path) (conditions_at c.args.state.now) (Some z)) (sym c.rule_of.ensures)
-    (picked_takes M w at path c.args.pick (conditions_at c.args.state.now) c.requires.no_reject (omega (arith, c.requires.place, c.requires.some)) c.requires.longest.first c.requires.longest.known) in
-    match_done M g.K.Sink.wrote g.K.Sink.failures _ _ _ c.args.state.now (path_of M c.args.state.now.place c.args.state.now.reading.window.bytes c.args.reach) c.carry_pick.new.acting c.leave.new.state ens.performed ens.inside ens.sink.write_faults ens.sink.may_write
-    c.leave.ensures.left c.leave.ensures.taken c.leave.ensures.at_end c.leave.ensures.max_reads c.leave.ensures.ended c.leave.ensures.failed (Some c.rule_of.result) c.leave.ensures.matched takes
-
-pub returns-in-Ok-Some-clause-left : goal.returns-in-Ok-Some-clause-left
-returns-in-Ok-Some-clause-left g c =
-    let ens = rw c.in-Ok-Some.field-0-is at c.in-Ok-Some.ensures in
-    let M : Machine = g.M.Machine.machine c.args.machine.now in
-    let w : List ℕ = c.args.state.now.reading.window.bytes in
-    let at : ℕ = c.args.state.now.place.at in
-    let path : List ℕ = path_of M c.args.state.now.place w c.args.reach in
-    let takes = subst (λ z. Takes M w at (matches_of M w at path) (conditions_at c.args.state.now) (Some z)) (sym c.rule_of.ensures)
-    (picked_takes M w at path c.args.pick (conditions_at c.args.state.now) c.requires.no_reject (omega (arith, c.requires.place, c.requires.some)) c.requires.longest.first c.requires.longest.known) in
-    match_ended M g.K.Sink.wrote g.K.Sink.failures _ _ _ c.args.state.now (path_of M c.args.state.now.place c.args.state.now.reading.window.bytes c.args.reach) _ c.carry_pick.new.acting (Some c.rule_of.result) c.finish_turn.new.state c.in-Ok-Some.finish c.finish_turn.result g.met.K.Sink.wrote_more
-    ens.performed ens.inside ens.sink.write_faults c.finish_turn.ensures.ends takes
-
 pub returns-in-Err-clause-handed_on : goal.returns-in-Err-clause-handed_on
 returns-in-Err-clause-handed_on g c = write_only _ c.in-Err.e c.in-Err.ensures.sink.refusals
 
-pub returns-in-Ok-None-clause-handed_on : goal.returns-in-Ok-None-clause-handed_on
-returns-in-Ok-None-clause-handed_on g c = tt
+pub returns-in-Ok-clause-left : goal.returns-in-Ok-clause-left
+returns-in-Ok-clause-left g c =
+    let ens = c.in-Ok.ensures in
+    let M : Machine = g.M.Machine.machine c.args.machine.now in
+    let w : List ℕ = c.args.state.now.reading.window.bytes in
+    let at : ℕ = c.args.state.now.place.at in
+    let path : List ℕ = path_of M c.args.state.now.place w c.args.reach in
+    let takes = subst (λ z. Takes M w at (matches_of M w at path) (conditions_at c.args.state.now) (Some z)) (sym c.rule_of.ensures)
+    (picked_takes M w at path c.args.pick (conditions_at c.args.state.now) c.requires.no_reject (omega (arith, c.requires.place, c.requires.some)) c.requires.longest.first c.requires.longest.known) in
+    match_left M g.K.Sink.wrote g.K.Sink.failures _ _ _ c.args.state.now path _ c.carry_pick.new.acting (Some c.rule_of.result) c.leave_match.new.state c.in-Ok.finish c.leave_match.result g.met.K.Sink.wrote_more
+    ens.performed ens.inside ens.sink.write_faults c.leave_match.ensures.ends takes
