@@ -30,7 +30,7 @@ impl KeyKind {
 }
 
 /// Whether a number is marked.
-fn is_marked(marks: &[bool], number: usize) -> bool
+pub(crate) fn is_marked(marks: &[bool], number: usize) -> bool
     ensures { result ≡ flag marks.now number }
 {
     marks.get(number).copied().unwrap_or(false)

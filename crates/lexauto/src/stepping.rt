@@ -13,7 +13,7 @@ ghost use Rattle.lexauto.specs.Moving.{AreChanges, AreMasks, AreTwins, masks_in,
 use crate::changing::changes_of;
 use crate::explore::Moves;
 use crate::following::walk;
-use crate::sets::last_key;
+use crate::key_packing::pack_marked;
 use lexauto_positions::{LaidRule, Owner, Walked, lay_rules, letters_of, mask_of, owners_of};
 use lexre_bytes::ByteSet;
 use lexspec::Spec;
@@ -157,11 +157,12 @@ impl Moves for RuleMoves<'_> {
     ghost read = { λ m k b. reading_in (rules_in (spec_of m.spec.now)) k b };
 
     fn walk(&self, alloc: Global, key: &[u32]) -> Result<Walked, AllocError> {
-        walk(alloc, self, key)
+        let walked = walk(alloc, self, key)?;
+        Ok(walked)
     }
 
     fn reading(&self, alloc: Global, followers: &[u32], byte: u8) -> Result<Vec<u32>, AllocError> {
-        last_key(alloc, followers, &self.masks[byte as usize])
+        pack_marked(alloc, followers, &self.masks[byte as usize])
     }
 
     fn changes(&self, followers: &[u32]) -> ByteSet {

@@ -23,6 +23,7 @@ returns g c =
     let pushed : keys_in c.push.new.self.items ≡ keys_in (accepts ++ c.in_ok-walked.walked.accepted ∷ []) = ap keys_in c.in_ok-push.ensures.items in
     record {
       followers = next;
+      ascending = c.in_ok-walked.ensures.ascending;
       changes = λ b some low not. (let h = c.changes.ensures b some low not in search (rules, h));
       accepts = pushed ∙ keys_of_push accepts c.in_ok-walked.walked.accepted ∙ ap (λ (k : Key). keys_in accepts ++ k ∷ []) accepted;
       goes_on = c.in_ok-push-2.ensures.items ∙ ap (λ (b : Bool). c.args.self.now.goes_on.items ++ b ∷ []) goes;
