@@ -10,8 +10,10 @@ use Rattle.std.proofs.lemmas.List.{get_or-set_same, get_or-set_other, get_or-tak
 use Rattle.std.proofs.Math.Seq.{take-set-lt, drop-cons}
 use Rattle.std.proofs.lemmas.Nat.Bits.{bit_at_or, bit_at-pow_same, bit_at-pow_other}
 use Rattle.lex_semantics.specs.Text.{Among, Ascending, listed}
+use Rattle.lexauto_positions.specs.Cursors.{Increases}
+use Rattle.lexauto_positions.proofs.CursorLaws.{increases}
 use Rattle.lexauto_positions.proofs.Numbers.{same_list, listed_is, listed_ascends, filter_is, filter_ascends}
-use Rattle.lexauto.specs.Sets.{tagged}
+use Rattle.lexauto.specs.Sets.{tagged, lasts_in}
 use Rattle.lexauto.specs.KeyPacking.{bit_at, bit_count, with_bit, with_bits, unpacked, packed, bits_of, word_count}
 use Rattle.lexauto.proofs.Kept.{kept_as_bits, kept_as_it_is}
 
@@ -223,3 +225,9 @@ module _ (f : ℕ → Bool) (ps : List ℕ) (order : Ascending ps) where
       ap (λ (vs : List ℕ). 1 ∷ 1 ∷ listed (bit_at vs) 0 (bit_count vs)) is
       ∙ ap (λ (l : List ℕ). 1 ∷ 1 ∷ l) (listed_bits (word_count ps) (filter f ps) some_order some_within few)
       ∙ packed_plain (filter f ps) more ∙ ap packed (sym (some_tagged (filter f ps) h))
+
+-- positions that are kept as bits ascend
+pub bits_increase : (kept : List ℕ) → 0 < length kept → slice_index kept 0 ≡ 0 → Increases (lasts_in (unpacked kept))
+bits_increase [] h e = absurd (omega (arith, h))
+bits_increase (zero ∷ ws) h e = increases (listed (bit_at ws) 0 (bit_count ws)) (listed_ascends (bit_at ws) 0 (bit_count ws))
+bits_increase (suc n ∷ ws) h e = absurd (omega (arith, e))

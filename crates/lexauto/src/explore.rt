@@ -1,7 +1,9 @@
 //! A work list over keys: all that are reached from some roots, each once, with their moves.
-ghost use Rattle.std.specs.Prelude.{◌≡◌, ℕ, ◌<◌, ◌≤◌, false, List, [], ◌∷◌, ◌++◌, length, slice_index, IfOk, OnOk, IsErrOf};
+ghost use Rattle.std.specs.Prelude.{◌≡◌, ℕ, ◌<◌, ◌≤◌, false, true, List, [], ◌∷◌, ◌++◌, length, slice_index, IfOk, OnOk, IsErrOf};
 ghost use Rattle.lex_semantics.specs.ByteSets.{has};
 ghost use Rattle.lex_semantics.specs.Text.{Ascending};
+ghost use Rattle.lexauto_positions.specs.Cursors.{Increases};
+ghost use Rattle.lexauto.specs.Sets.{lasts_in};
 ghost use Rattle.lexauto.specs.declared.explore.ExploreError.TheVariants.{Memory};
 ghost use Rattle.lexauto.specs.Explored.{Changes, GoOn, IsAutomaton, MoreThan, Reached, Tells, goes_by, step_by};
 ghost use Rattle.lexauto.specs.Moving.{HaveNoneAfter};
@@ -9,7 +11,7 @@ ghost use Rattle.lexauto.specs.Keys.{At, Absent, Found, Finds, keys_in};
 ghost use Rattle.lexauto.specs.KeyPacking.{look_kept, kept_in, packed, unpacked};
 
 use crate::changing::bytes_up_to;
-use crate::key_packing::{pack_key, unpack_key};
+use crate::key_packing::{is_bits, pack_key, unpack_key};
 use lexauto_positions::Walked;
 use lexre_bytes::ByteSet;
 use std::alloc::{AllocError, AllocFailed, Global};
@@ -101,8 +103,10 @@ pub(crate) trait Moves {
 
     ghost read: { Self → List ℕ → ℕ → List ℕ };
 
-    /// What follows a key, by whatever byte, and which rules it accepts.
-    fn walk(&self, alloc: Global, key: &[u32]) -> Result<Walked, AllocError>
+    /// What follows a key, by whatever byte, and which rules it accepts. It may be told that the last positions in the
+    /// key ascend.
+    fn walk(&self, alloc: Global, key: &[u32], ascends: bool) -> Result<Walked, AllocError>
+        requires { ascends ≡ true → Increases (lasts_in key.now) }
         ensures followers { IfOk result (λ w. w.followers.items ≡ follow self.now key.now) }
         ensures ascending { IfOk result (λ w. Ascending w.followers.items) }
         ensures accepted { IfOk result (λ w. w.accepted.items ≡ accept self.now key.now) };
@@ -239,7 +243,7 @@ impl Told {
             ≡ self.old.goes_on.items ++ goes_by (M.follow moves.now) (unpacked kept.now) ∷ []) }
     {
         let key = unpack_key(alloc, kept)?;
-        let walked = moves.walk(alloc, &key)?;
+        let walked = moves.walk(alloc, &key, is_bits(kept))?;
         self.accepts.push(walked.accepted)?;
         self.goes_on.push(!walked.followers.is_empty())?;
         Ok(Following {

@@ -1,7 +1,8 @@
 //! Keys as they are kept: a key of many positions as bits.
-ghost use Rattle.std.specs.Prelude.{◌≡◌, ℕ, ◌<◌, ◌*◌, ◌/◌, ◌%◌, ◌^◌, ◌∷◌, ◌++◌, length, bit_or, slice_index, IfOk, OnOk};
+ghost use Rattle.std.specs.Prelude.{◌≡◌, ℕ, ◌<◌, ◌*◌, ◌/◌, ◌%◌, ◌^◌, ◌∷◌, ◌++◌, true, length, bit_or, slice_index, IfOk, OnOk};
 ghost use Rattle.std.proofs.Common.{replicate};
 ghost use Rattle.std.specs.List.{filter};
+ghost use Rattle.lexauto_positions.specs.Cursors.{Increases};
 ghost use Rattle.lexauto.specs.Sets.{lasts_in, tagged};
 ghost use Rattle.lex_semantics.specs.Text.{Ascending, flag, listed};
 ghost use Rattle.lexauto.specs.KeyPacking.{bit_at, word_bits, with_bit, with_bits, bit_count, unpacked, word_count, packed};
@@ -92,6 +93,13 @@ pub(crate) fn unpack_key(alloc: Global, kept: &[u32]) -> Result<Vec<u32>, AllocE
         Some((_, key)) => Vec::from_slice(alloc, key),
         None => Ok(Vec::new(alloc)),
     }
+}
+
+/// Whether a key is kept as bits, so that the last positions in it ascend.
+pub(crate) fn is_bits(kept: &[u32]) -> bool
+    ensures { result ≡ true → Increases (lasts_in (unpacked kept.now)) }
+{
+    !kept.is_empty() && kept[0] == BITS
 }
 
 /// How a key is kept: as bits where they are fewer and say the same.

@@ -156,8 +156,8 @@ impl Moves for RuleMoves<'_> {
 
     ghost read = { λ m k b. reading_in (rules_in (spec_of m.spec.now)) k b };
 
-    fn walk(&self, alloc: Global, key: &[u32]) -> Result<Walked, AllocError> {
-        let walked = walk(alloc, self, key)?;
+    fn walk(&self, alloc: Global, key: &[u32], ascends: bool) -> Result<Walked, AllocError> {
+        let walked = walk(alloc, self, key, ascends)?;
         Ok(walked)
     }
 
