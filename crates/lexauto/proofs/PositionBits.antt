@@ -1,8 +1,7 @@
 -- Bits of ascending positions say which they are.
-use Rattle.std.specs.Prelude.{◌≡◌, ◌≢◌, ◌↔◌, ℕ, zero, suc, ◌+◌, ◌-◌, ◌*◌, ◌/◌, ◌%◌, ◌^◌, ◌==◌, ◌<◌, ◌≤◌, ◌⊎◌, Bool, true, false, List, [], ◌∷◌, cond, length, min, max, nat_lt, bit_or, slice_index, slice_set, take, drop}
-use Rattle.std.proofs.Common.{rules, inl, inr, refl, ap, sym, ◌∙◌, arith, replicate, get_or}
+use Rattle.std.specs.Prelude.{◌≡◌, ◌≢◌, ◌↔◌, ℕ, zero, suc, ◌+◌, ◌-◌, ◌*◌, ◌/◌, ◌%◌, ◌^◌, ◌<◌, ◌≤◌, ◌⊎◌, Bool, true, false, List, [], ◌∷◌, cond, length, min, nat_lt, bit_or, slice_index, slice_set, take, drop}
+use Rattle.std.proofs.Common.{rules, inl, inr, refl, ap, sym, ◌∙◌, arith, replicate}
 use Rattle.std.specs.Int.{bit_at as bit_of}
-use Rattle.std.specs.Str.{bytes_eq}
 use Rattle.std.specs.List.{filter}
 use Rattle.std.specs.Cmp.Lexicographic.{bytes_decides}
 use Rattle.std.proofs.lemmas.Bool.{cases_eq, eqb-true, eq-eqb}

@@ -1,7 +1,7 @@
-use Rattle.std.proofs.Common.{◌≡◌, ℕ, ◌≤◌, ◌∙◌, List, length, IfOk, OnOk, ap, subst}
+use Rattle.std.proofs.Common.{◌≤◌, length, IfOk, OnOk, subst}
 use Rattle.std.specs.Prelude.{IsErrOf}
 use Rattle.lexauto.specs.Keys.{Key, At, Absent, Found}
-use Rattle.lexauto.specs.KeyPacking.{kept_in, packed, unpacked}
+use Rattle.lexauto.specs.KeyPacking.{kept_in}
 use Rattle.lexauto.specs.declared.explore.ExploreError.TheVariants.{TooMany}
 use Rattle.lexauto.proofs.Kept.{kept_so, says_key}
 use Rattle.lexauto.proofs.explore.read_target.Goals as goal

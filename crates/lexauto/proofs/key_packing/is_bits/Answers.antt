@@ -1,4 +1,4 @@
-use Rattle.std.proofs.Common.{rules, ◌≡◌, ℕ, ◌<◌, length, arith}
+use Rattle.std.proofs.Common.{rules, ◌≡◌, ◌<◌, length}
 use Rattle.std.specs.Prelude.{slice_index}
 use Rattle.lexauto.proofs.PositionBits.{bits_increase}
 use Rattle.lexauto.proofs.key_packing.is_bits.Goals as goal

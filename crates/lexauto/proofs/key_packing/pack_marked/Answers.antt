@@ -1,10 +1,9 @@
-use Rattle.std.proofs.Common.{rules, ◌≡◌, ℕ, ◌+◌, ◌/◌, ◌≤◌, ◌<◌, ◌∷◌, [], List, IfOk, length, replicate, sym, ap, subst, ◌∙◌, arith}
-use Rattle.std.specs.Prelude.{slice_index, take}
+use Rattle.std.proofs.Common.{◌≡◌, ℕ, ◌+◌, ◌/◌, ◌≤◌, ◌<◌, ◌∷◌, List, IfOk, length, replicate, sym, ap, subst, ◌∙◌, arith}
+use Rattle.std.specs.Prelude.{take}
 use Rattle.std.specs.List.{filter}
 use Rattle.std.proofs.lemmas.List.{length-take}
 use Rattle.lex_semantics.specs.Text.{flag, listed}
-use Rattle.lexauto.specs.Sets.{tagged}
-use Rattle.lexauto.specs.KeyPacking.{bit_at, bit_count, with_bits, word_count, packed}
+use Rattle.lexauto.specs.KeyPacking.{bit_at, bit_count, with_bits, word_count}
 use Rattle.lexauto.proofs.PositionBits.{words_of, none_kept, used_within, bits_kept, plain_kept, length_with_bits, length_zeros}
 use Rattle.lexauto.proofs.key_packing.pack_marked.Goals as goal
 

@@ -1,4 +1,4 @@
-use Rattle.std.proofs.Common.{rules, ◌≡◌, ℕ, ◌-◌, ◌<◌, ◌⊎◌, inl, inr, length, ap, arith}
+use Rattle.std.proofs.Common.{rules, ◌-◌, ◌<◌, length}
 use Rattle.std.specs.Prelude.{slice_index}
 use Rattle.lexauto.proofs.KeyLaws.{below_last}
 use Rattle.lexauto.proofs.sets.is_below.Goals as goal

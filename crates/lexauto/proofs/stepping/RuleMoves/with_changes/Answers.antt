@@ -1,4 +1,4 @@
-use Rattle.std.proofs.Common.{rules, ◌≡◌, ℕ, sym, ap, ◌∙◌}
+use Rattle.std.proofs.Common.{rules, ◌≡◌, sym, ap, ◌∙◌}
 use Rattle.std.specs.Prelude.{slice_index_or}
 use Rattle.lex_semantics.specs.ByteSets.{has, union, empty_set}
 use Rattle.lexauto.proofs.ChangeLaws.{has_nothing, in_neither}

@@ -1,4 +1,4 @@
-use Rattle.std.proofs.Common.{◌≡◌, List, ℕ, sym, subst}
+use Rattle.std.proofs.Common.{sym, subst}
 use Rattle.lex_semantics.specs.Text.{Ascending}
 use Rattle.lexspec.specs.Views.{spec_of, rules_in}
 use Rattle.lexauto.proofs.StepLemmas.{followers_ascend}
