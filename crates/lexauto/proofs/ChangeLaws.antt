@@ -1,8 +1,9 @@
 -- The bytes at which what a position reads changes.
-use Rattle.std.proofs.Common.{◌≡◌, ◌≢◌, ℕ, suc, ◌+◌, ◌<◌, Bool, true, false, ◌&&◌, ◌||◌, List, [], ◌∷◌, length, sym, ap, ◌∙◌, arith}
+use Rattle.std.proofs.Common.{◌≡◌, ◌≢◌, ℕ, zero, suc, ◌++◌, ◌+◌, ◌⊎◌, inl, inr, refl, ◌<◌, Bool, true, false, ◌&&◌, ◌||◌, List, [], ◌∷◌, length, sym, ap, ◌∙◌, arith}
 use Rattle.std.specs.Prelude.{◌==◌, nat_le, slice_index_or}
 use Rattle.std.proofs.lemmas.Bool.{eq-eqb, eqb-true, leb-true, or_parts}
 use Rattle.lex_semantics.specs.ByteSets.{ByteSet, has, empty_set, range_set, single, union, within}
+use Rattle.lex_semantics.specs.Text.{flag}
 use Rattle.lexre_bytes.proofs.SetLaws.{has-set_of}
 use Rattle.lexauto_positions.specs.Letters.{reads_at}
 
@@ -52,3 +53,10 @@ reads_same (s ∷ letters) b c q base h =
     let first = and_same (has s b) (has s c) (q == base) (λ e. h 0 (omega arith) (let at = eqb-true q base e in omega (arith, at))) in
     let others = reads_same letters b c q (base + 1) (λ i lt e. h (suc i) (omega (arith, lt)) (omega (arith, e))) in
     cc
+
+-- a flag more is set, or one that was there
+pub flag_push : (fs : List Bool) (x : Bool) (q : ℕ) → flag (fs ++ x ∷ []) q ≡ true → (flag fs q ≡ true) ⊎ ((q ≡ length fs) × (x ≡ true))
+flag_push [] x zero h = inr (refl, h)
+flag_push [] x (suc q) h = inl h
+flag_push (f ∷ fs) x zero h = inl h
+flag_push (f ∷ fs) x (suc q) h = elim (flag_push fs x q h) [ inl t ↦ inl t | inr r ↦ inr (ap suc r.0, r.1) ]

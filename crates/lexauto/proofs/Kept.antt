@@ -43,6 +43,13 @@ module _ (k : Key) where
     | inr n ↦ ap unpacked (cond-false (nat_lt (word_count k) (length k) && bytes_eq (unpacked (bits_of k)) k) (bits_of k) (1 ∷ k) n)
   ]
 
+-- what is kept for a key says it, and is kept so
+pub says_key : (kept : List ℕ) (k : Key) → kept ≡ packed k → unpacked kept ≡ k
+says_key kept k e = ap unpacked e ∙ says k
+
+pub kept_so : (kept : List ℕ) (k : Key) → kept ≡ packed k → kept ≡ packed (unpacked kept)
+kept_so kept k e = e ∙ ap packed (sym (says_key kept k e))
+
 -- keys are the same where they are kept so
 pub kept_same : (k q : Key) → bytes_eq (packed k) (packed q) ≡ bytes_eq k q
 kept_same k q = elim (cases_Bool (bytes_eq k q)) [

@@ -1,5 +1,5 @@
 -- Sets of numbers as keys, and the numbers that are marked.
-use Rattle.std.specs.Prelude.{◌≡◌, ◌↔◌, ℕ, zero, suc, ◌<◌, Bool, true, false, ◌⊎◌, List, [], ◌∷◌, length, slice_index, ◌&&◌, nat_lt}
+use Rattle.std.specs.Prelude.{◌≡◌, ◌↔◌, ℕ, zero, suc, ◌-◌, ◌<◌, Bool, true, false, ◌⊎◌, List, [], ◌∷◌, length, slice_index, ◌&&◌, nat_lt}
 use Rattle.std.proofs.Common.{rules, inl, inr, refl, ap, sym, ◌∙◌, arith}
 use Rattle.std.proofs.lemmas.Bool.{cases_Bool, ltb-true}
 use Rattle.std.proofs.Math.Path.{fun_ext}
@@ -7,6 +7,7 @@ use Rattle.lex_semantics.specs.Text.{Among, listed}
 use Rattle.lex_semantics.specs.Active.{lists}
 use Rattle.lex_semantics.specs.Spec.{Rule}
 use Rattle.lex_semantics.specs.Subsets.{all_positions}
+use Rattle.lexauto_positions.specs.Cursors.{Increases}
 use Rattle.lexauto_positions.specs.RuleFlow.{rules_left}
 use Rattle.lexauto.specs.Keys.{Key}
 use Rattle.lexauto.specs.Sets.{marked, tagged, starts_in, lasts_in}
@@ -58,6 +59,13 @@ all_marked n l h i = elim (cases_Bool (lists l i)) [
   | inl y ↦ (let a = (lists_is l i).0 y in let r = among_at l i a in let low = h r.0 r.1 in let e = r.2 in
       y ∙ sym ((marked_is n l i).1 (omega (arith, low, e), a)))
   | inr f ↦ f ∙ sym (not_true (marked n l i) (λ m. no_true (sym f ∙ (lists_is l i).1 ((marked_is n l i).0 m).1)))
+]
+
+-- numbers that increase are below n if the last one is
+pub below_last : (n : ℕ) (l : List ℕ) → Increases l → slice_index l (length l - 1) < n → (j : ℕ) → j < length l → slice_index l j < n
+below_last n l inc last j low = elim (let d : (j ≡ length l - 1) ⊎ (j < length l - 1) = grind (arith, low) in d) [
+  | inl e ↦ (let same : slice_index l j ≡ slice_index l (length l - 1) = ap (slice_index l) e in omega (arith, same, last))
+  | inr lt ↦ (let m = inc j (length l - 1) lt (omega (arith, low)) in omega (arith, m, last))
 ]
 
 -- the numbers with a flag, listed

@@ -12,3 +12,4 @@ pub mod Counting
 pub mod Surveying
 pub mod Built
 pub mod ChangeLaws
+pub mod PositionBits

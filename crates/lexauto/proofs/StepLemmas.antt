@@ -17,7 +17,8 @@ use Rattle.lexauto_positions.proofs.FlowMeaning.{and_is}
 use Rattle.lexspec.proofs.TestLaws.{spec_is_sound}
 use Rattle.lexauto.specs.Keys.{Key}
 use Rattle.lexauto_positions.proofs.Mapped.{length_map}
-use Rattle.lex_semantics.specs.Text.{flag, listed}
+use Rattle.lex_semantics.specs.Text.{Ascending, flag, listed}
+use Rattle.lexauto_positions.proofs.Numbers.{listed_ascends}
 use Rattle.lexauto_positions.specs.RuleFlow.{rules_enter, rules_read}
 use Rattle.lexauto.specs.Sets.{marked, tagged, starts_in, lasts_in}
 use Rattle.lexauto.specs.Moving.{masks_in, mask_at, followers_in, reading_in}
@@ -66,6 +67,10 @@ pub reading_alike : (rules : List Rule) (followers : List ℕ) (b c : ℕ)
     → reading_in rules followers b ≡ reading_in rules followers c
 unfolding reading_in
 reading_alike rules followers b c h = ap (tagged 1) (filter_alike (λ q. rules_read rules b q 0) (λ q. rules_read rules c q 0) followers h)
+
+pub followers_ascend : (rules : List Rule) (count : ℕ) (k : Key) → Ascending (followers_in rules count k)
+unfolding followers_in
+followers_ascend rules count k = listed_ascends (λ q. rules_enter rules (marked (length rules) (starts_in k)) (marked count (lasts_in k)) q 0 0) 0 count
 
 module _ (rules : List Rule) (count n : ℕ) (k : Key) (on last : ℕ → Bool) where
   pub followers_is : length rules ≡ n → ((i : ℕ) → on i ≡ marked n (starts_in k) i) → ((p : ℕ) → last p ≡ marked count (lasts_in k) p)

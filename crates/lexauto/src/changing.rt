@@ -1,6 +1,7 @@
 //! The bytes at which what a position reads changes.
-ghost use Rattle.std.specs.Prelude.{◌≡◌, ℕ, ◌-◌, ◌<◌, ◌≤◌, false, length, IfOk};
-ghost use Rattle.lex_semantics.specs.ByteSets.{has};
+ghost use Rattle.std.specs.Prelude.{◌≡◌, ℕ, ◌-◌, ◌<◌, ◌≤◌, false, true, length, slice_index_or, IfOk};
+ghost use Rattle.lex_semantics.specs.ByteSets.{has, empty_set};
+ghost use Rattle.lex_semantics.specs.Text.{flag};
 ghost use Rattle.lexauto_positions.specs.Letters.{reads_at};
 ghost use Rattle.lexauto.specs.Moving.{AreChanges, HaveNoneAfter};
 
@@ -47,4 +48,25 @@ pub(crate) fn changes_of(alloc: Global, letters: &[ByteSet]) -> Result<Vec<ByteS
         all.push(changes)?;
     }
     Ok(all)
+}
+
+/// Whether the set at this place is the one before it.
+fn is_same(place: usize, set: &ByteSet, before: &ByteSet) -> bool
+    ensures { result ≡ true → (0 < place) × (set.now ≡ before.now) }
+{
+    place > 0 && *set == *before
+}
+
+/// For each of the sets whether it is the one before it.
+pub(crate) fn repeats_of(alloc: Global, sets: &[ByteSet]) -> Result<Vec<bool>, AllocError>
+    ensures { IfOk result (λ v. (q : ℕ) → flag v.items q ≡ true → (0 < q)
+        × (slice_index_or sets.now q empty_set ≡ slice_index_or sets.now (q - 1) empty_set)) }
+{
+    let mut repeats = Vec::with_capacity(alloc, sets.len())?;
+    let mut last = ByteSet::empty();
+    for (i, set) in sets.iter().enumerate() {
+        repeats.push(is_same(i, set, &last))?;
+        last = *set;
+    }
+    Ok(repeats)
 }

@@ -1,14 +1,17 @@
 //! A work list over keys: all that are reached from some roots, each once, with their moves.
-ghost use Rattle.std.specs.Prelude.{◌≡◌, ℕ, ◌<◌, ◌≤◌, false, List, [], ◌∷◌, ◌++◌, length, slice_index, IfOk, OnOk, IsErrOf};
+ghost use Rattle.std.specs.Prelude.{◌≡◌, ℕ, ◌<◌, ◌≤◌, false, true, List, [], ◌∷◌, ◌++◌, length, slice_index, IfOk, OnOk, IsErrOf};
 ghost use Rattle.lex_semantics.specs.ByteSets.{has};
+ghost use Rattle.lex_semantics.specs.Text.{Ascending};
+ghost use Rattle.lexauto_positions.specs.Cursors.{Increases};
+ghost use Rattle.lexauto.specs.Sets.{lasts_in};
 ghost use Rattle.lexauto.specs.declared.explore.ExploreError.TheVariants.{Memory};
 ghost use Rattle.lexauto.specs.Explored.{Changes, GoOn, IsAutomaton, MoreThan, Reached, Tells, goes_by, step_by};
 ghost use Rattle.lexauto.specs.Moving.{HaveNoneAfter};
 ghost use Rattle.lexauto.specs.Keys.{At, Absent, Found, Finds, keys_in};
-ghost use Rattle.lexauto.specs.KeyPacking.{look_kept, kept_in, unpacked};
+ghost use Rattle.lexauto.specs.KeyPacking.{look_kept, kept_in, packed, unpacked};
 
 use crate::changing::bytes_up_to;
-use crate::key_packing::{pack_key, unpack_key};
+use crate::key_packing::{is_bits, pack_key, unpack_key};
 use lexauto_positions::Walked;
 use lexre_bytes::ByteSet;
 use std::alloc::{AllocError, AllocFailed, Global};
@@ -59,6 +62,26 @@ pub(crate) fn intern(
         × (limit ≤ length table.old.keys.items) }
 {
     let kept = pack_key(alloc, &key)?;
+    intern_kept(alloc, table, kept, limit)
+}
+
+/// The place of a key that is kept so, which is added if it is new and there is room.
+fn intern_kept(
+    alloc: Global,
+    table: &mut Interner,
+    kept: Vec<u32>,
+    limit: u32,
+) -> Result<u32, ExploreError>
+    requires finds { Finds (look_kept table.old.places) (kept_in table.old.keys.items) }
+    requires kept { kept.items ≡ packed (unpacked kept.items) }
+    ensures finds { OnOk result (Finds (look_kept table.new.places) (kept_in table.new.keys.items)) }
+    ensures place { IfOk result (λ i. At (kept_in table.new.keys.items) i (unpacked kept.items)) }
+    ensures found { OnOk result (Found (kept_in table.old.keys.items) (unpacked kept.items)
+        (kept_in table.new.keys.items)) }
+    ensures room { OnOk result (length table.old.keys.items ≤ limit → length table.new.keys.items ≤ limit) }
+    ensures full { IsErrOf result ExploreError.TooMany → Absent (kept_in table.old.keys.items) (unpacked kept.items)
+        × (limit ≤ length table.old.keys.items) }
+{
     if let Some(place) = table.places.get(&kept) {
         return Ok(*place);
     }
@@ -80,14 +103,18 @@ pub(crate) trait Moves {
 
     ghost read: { Self → List ℕ → ℕ → List ℕ };
 
-    /// What follows a key, by whatever byte, and which rules it accepts.
-    fn walk(&self, alloc: Global, key: &[u32]) -> Result<Walked, AllocError>
+    /// What follows a key, by whatever byte, and which rules it accepts. It may be told that the last positions in the
+    /// key ascend.
+    fn walk(&self, alloc: Global, key: &[u32], ascends: bool) -> Result<Walked, AllocError>
+        requires { ascends ≡ true → Increases (lasts_in key.now) }
         ensures followers { IfOk result (λ w. w.followers.items ≡ follow self.now key.now) }
+        ensures ascending { IfOk result (λ w. Ascending w.followers.items) }
         ensures accepted { IfOk result (λ w. w.accepted.items ≡ accept self.now key.now) };
 
-    /// The key that one byte makes of what follows.
+    /// The key that one byte makes of what follows, as it is kept.
     fn reading(&self, alloc: Global, followers: &[u32], byte: u8) -> Result<Vec<u32>, AllocError>
-        ensures { IfOk result (λ k. k.items ≡ read self.now followers.now byte) };
+        requires { Ascending followers.now }
+        ensures { IfOk result (λ k. k.items ≡ packed (read self.now followers.now byte)) };
 
     /// The bytes that may be read otherwise than the byte before, of what follows a key.
     fn changes(&self, followers: &[u32]) -> ByteSet
@@ -116,7 +143,8 @@ fn read_target<M: Moves>(
     byte: u8,
     limit: u32,
 ) -> Result<u32, ExploreError>
-    requires { Finds (look_kept table.old.places) (kept_in table.old.keys.items) }
+    requires finds { Finds (look_kept table.old.places) (kept_in table.old.keys.items) }
+    requires ascending { Ascending followers.now }
     ensures finds { OnOk result (Finds (look_kept table.new.places) (kept_in table.new.keys.items)) }
     ensures place { IfOk result (λ i. At (kept_in table.new.keys.items) i (M.read moves.now followers.now byte)) }
     ensures found { OnOk result (Found (kept_in table.old.keys.items) (M.read moves.now followers.now byte)
@@ -126,8 +154,8 @@ fn read_target<M: Moves>(
         → Absent (kept_in table.old.keys.items) (M.read moves.now followers.now byte)
         × (limit ≤ length table.old.keys.items) }
 {
-    let key = moves.reading(alloc, followers, byte)?;
-    intern(alloc, table, key, limit)
+    let kept = moves.reading(alloc, followers, byte)?;
+    intern_kept(alloc, table, kept, limit)
 }
 
 /// The place of the key that a byte makes of what follows; of a byte that is read as an earlier one, from the row so far.
@@ -141,6 +169,7 @@ fn target<M: Moves>(
     limit: u32,
 ) -> Result<u32, ExploreError>
     requires finds { Finds (look_kept table.old.places) (kept_in table.old.keys.items) }
+    requires ascending { Ascending followers.now }
     requires len { length row.now ≡ byte }
     requires row { (b : ℕ) → b < byte
         → At (kept_in table.old.keys.items) (slice_index row.now b) (M.read moves.now followers.now b) }
@@ -206,6 +235,7 @@ impl Told {
         kept: &[u32],
     ) -> Result<Following, AllocError>
         ensures followers { IfOk result (λ f. f.list.items ≡ M.follow moves.now (unpacked kept.now)) }
+        ensures ascending { IfOk result (λ f. Ascending f.list.items) }
         ensures changes { IfOk result (λ f. Changes (M.read moves.now) f.list.items f.changes) }
         ensures accepts { OnOk result (keys_in self.new.accepts.items
             ≡ keys_in self.old.accepts.items ++ M.accept moves.now (unpacked kept.now) ∷ []) }
@@ -213,7 +243,7 @@ impl Told {
             ≡ self.old.goes_on.items ++ goes_by (M.follow moves.now) (unpacked kept.now) ∷ []) }
     {
         let key = unpack_key(alloc, kept)?;
-        let walked = moves.walk(alloc, &key)?;
+        let walked = moves.walk(alloc, &key, is_bits(kept))?;
         self.accepts.push(walked.accepted)?;
         self.goes_on.push(!walked.followers.is_empty())?;
         Ok(Following {

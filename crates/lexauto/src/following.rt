@@ -1,6 +1,7 @@
 //! What follows the key of a state, and the rules that it accepts.
-ghost use Rattle.std.specs.Prelude.{◌≡◌, [], IfOk};
+ghost use Rattle.std.specs.Prelude.{◌≡◌, [], true, IfOk};
 ghost use Rattle.lexspec.specs.Views.{spec_of, rules_in};
+ghost use Rattle.lexauto_positions.specs.Cursors.{Increases};
 ghost use Rattle.lexauto.specs.Moving.{followers_in};
 ghost use Rattle.lexauto.specs.Sets.{starts_in, lasts_in};
 ghost use Rattle.lexauto.specs.Facts.{accepted_by};
@@ -27,26 +28,38 @@ fn walk_starts(alloc: Global, moves: &RuleMoves, key: &[u32]) -> Result<Walked, 
 
 /// What another state's key tells. The rules that are accepted are those that are left at their ends, or the first of them
 /// if no rule has REJECT.
-fn walk_lasts(alloc: Global, moves: &RuleMoves, key: &[u32]) -> Result<Walked, AllocError>
-    requires { starts_in key.now ≡ [] }
+fn walk_lasts(
+    alloc: Global,
+    moves: &RuleMoves,
+    key: &[u32],
+    ascends: bool,
+) -> Result<Walked, AllocError>
+    requires starts { starts_in key.now ≡ [] }
+    requires order { ascends ≡ true → Increases (lasts_in key.now) }
     ensures followers { IfOk result (λ w. w.followers.items
         ≡ followers_in (rules_in (spec_of moves.now.spec.now)) moves.now.count key.now) }
     ensures accepted { IfOk result (λ w. w.accepted.items ≡ accepted_by (spec_of moves.now.spec.now) key.now) }
 {
-    let last = in_order(alloc, moves.count, lasts_in(key))?;
+    let last = in_order(alloc, moves.count, lasts_in(key), ascends)?;
     let mut walked = pass_rules(alloc, &moves.rules, &moves.owners, &last)?;
     walked.choose(moves.accepts_all);
     Ok(walked)
 }
 
-/// What a key tells.
-pub(crate) fn walk(alloc: Global, moves: &RuleMoves, key: &[u32]) -> Result<Walked, AllocError>
+/// What a key tells. It may be told that the last positions in the key ascend.
+pub(crate) fn walk(
+    alloc: Global,
+    moves: &RuleMoves,
+    key: &[u32],
+    ascends: bool,
+) -> Result<Walked, AllocError>
+    requires { ascends ≡ true → Increases (lasts_in key.now) }
     ensures followers { IfOk result (λ w. w.followers.items
         ≡ followers_in (rules_in (spec_of moves.now.spec.now)) moves.now.count key.now) }
     ensures accepted { IfOk result (λ w. w.accepted.items ≡ accepted_by (spec_of moves.now.spec.now) key.now) }
 {
     if starts_in(key).is_empty() {
-        return walk_lasts(alloc, moves, key);
+        return walk_lasts(alloc, moves, key, ascends);
     }
     walk_starts(alloc, moves, key)
 }

@@ -1,11 +1,13 @@
 //! Keys as they are kept: a key of many positions as bits.
-ghost use Rattle.std.specs.Prelude.{◌≡◌, ℕ, ◌<◌, ◌*◌, ◌/◌, ◌%◌, ◌^◌, ◌∷◌, ◌++◌, length, bit_or, IfOk, OnOk};
+ghost use Rattle.std.specs.Prelude.{◌≡◌, ℕ, ◌<◌, ◌*◌, ◌/◌, ◌%◌, ◌^◌, ◌∷◌, ◌++◌, true, length, bit_or, slice_index, IfOk, OnOk};
 ghost use Rattle.std.proofs.Common.{replicate};
-ghost use Rattle.lexauto.specs.Sets.{lasts_in};
-ghost use Rattle.lex_semantics.specs.Text.{listed};
-ghost use Rattle.lexauto.specs.KeyPacking.{bit_at, word_bits, with_bits, bit_count, unpacked, word_count, packed};
+ghost use Rattle.std.specs.List.{filter};
+ghost use Rattle.lexauto_positions.specs.Cursors.{Increases};
+ghost use Rattle.lexauto.specs.Sets.{lasts_in, tagged};
+ghost use Rattle.lex_semantics.specs.Text.{Ascending, flag, listed};
+ghost use Rattle.lexauto.specs.KeyPacking.{bit_at, word_bits, with_bit, with_bits, bit_count, unpacked, word_count, packed};
 
-use crate::sets::{KeyKind, lasts_in};
+use crate::sets::{KeyKind, is_marked, last_key, lasts_in};
 use std::alloc::{AllocError, Global};
 
 /// What stands before the bits of positions.
@@ -39,9 +41,10 @@ fn add_word(words: &[u32], at: usize, key: &mut Vec<u32>) -> Result<(), AllocErr
 fn key_of_bits(alloc: Global, words: &[u32]) -> Result<Vec<u32>, AllocError>
     ensures { IfOk result (λ v. v.items ≡ 1 ∷ listed (bit_at words.now) 0 (bit_count words.now)) }
 {
-    let mut key = Vec::new(alloc);
+    let count = words.len().min(MOST_WORDS);
+    let mut key = Vec::with_capacity(alloc, count * 32 + 1)?;
     key.push(KeyKind::LastPositions.number())?;
-    for at in 0..words.len().min(MOST_WORDS) {
+    for at in 0..count {
         add_word(words, at, &mut key)?;
     }
     Ok(key)
@@ -92,6 +95,13 @@ pub(crate) fn unpack_key(alloc: Global, kept: &[u32]) -> Result<Vec<u32>, AllocE
     }
 }
 
+/// Whether a key is kept as bits, so that the last positions in it ascend.
+pub(crate) fn is_bits(kept: &[u32]) -> bool
+    ensures { result ≡ true → Increases (lasts_in (unpacked kept.now)) }
+{
+    !kept.is_empty() && kept[0] == BITS
+}
+
 /// How a key is kept: as bits where they are fewer and say the same.
 pub(crate) fn pack_key(alloc: Global, key: &[u32]) -> Result<Vec<u32>, AllocError>
     ensures { IfOk result (λ v. v.items ≡ packed key.now) }
@@ -106,4 +116,82 @@ pub(crate) fn pack_key(alloc: Global, key: &[u32]) -> Result<Vec<u32>, AllocErro
         }
     }
     behind(alloc, PLAIN, key)
+}
+
+/// Those positions of a list that are marked.
+#[derive(Drop)]
+struct Marked {
+    /// Their bits.
+    words: Vec<u32>,
+    /// How many they are.
+    number: usize,
+    /// The last of them, or 1 where there is none.
+    last: u32,
+}
+
+/// Sets the bit of a position, where there is a word for it.
+fn set_bit(words: &mut Vec<u32>, position: u32)
+    ensures { words.new.items ≡ with_bit words.old.items position }
+{
+    let at = position as usize / 32;
+    if at < words.len() {
+        words[at] |= 1 << (position % 32);
+    }
+}
+
+/// Those of the positions that are marked, with their bits in this many words.
+fn marked_in(
+    alloc: Global,
+    count: usize,
+    positions: &[u32],
+    marks: &[bool],
+) -> Result<Marked, AllocError>
+    ensures words { IfOk result (λ m. m.words.items
+        ≡ with_bits (replicate count 0) (filter (flag marks.now) positions.now)) }
+    ensures number { IfOk result (λ m. m.number ≡ length (filter (flag marks.now) positions.now)) }
+    ensures last { IfOk result (λ m. m.last
+        ≡ slice_index (1 ∷ filter (flag marks.now) positions.now) (length (filter (flag marks.now) positions.now))) }
+{
+    let mut words = vec![in alloc; 0u32; count]?;
+    let mut number = 0;
+    let mut last = 1;
+    for position in positions {
+        if is_marked(marks, *position as usize) {
+            set_bit(&mut words, *position);
+            number += 1;
+            last = *position;
+        }
+    }
+    Ok(Marked {
+        words,
+        number,
+        last,
+    })
+}
+
+/// How the key of those last positions of the list that are marked is kept. Where many of the positions up to the last
+/// one are listed, their bits are set at once.
+pub(crate) fn pack_marked(
+    alloc: Global,
+    positions: &[u32],
+    marks: &[bool],
+) -> Result<Vec<u32>, AllocError>
+    requires { Ascending positions.now }
+    ensures { IfOk result (λ v. v.items ≡ packed (tagged 1 (filter (flag marks.now) positions.now))) }
+{
+    let count = word_count(positions);
+    if marks.is_empty() || count > positions.len() / 4 || count > MOST_WORDS {
+        let key = last_key(alloc, positions, marks)?;
+        return pack_key(alloc, &key);
+    }
+    let marked = marked_in(alloc, count, positions, marks)?;
+    if marked.number == 0 {
+        return behind(alloc, PLAIN, &[]);
+    }
+    let used = marked.last as usize / 32 + 1;
+    if used <= marked.number {
+        return behind(alloc, BITS, &marked.words[..used]);
+    }
+    let key = key_of_bits(alloc, &marked.words)?;
+    behind(alloc, PLAIN, &key)
 }

@@ -30,7 +30,7 @@ impl KeyKind {
 }
 
 /// Whether a number is marked.
-fn is_marked(marks: &[bool], number: usize) -> bool
+pub(crate) fn is_marked(marks: &[bool], number: usize) -> bool
     ensures { result ≡ flag marks.now number }
 {
     marks.get(number).copied().unwrap_or(false)
@@ -69,11 +69,26 @@ pub(crate) fn numbers_of(alloc: Global, marks: &[bool]) -> Result<Vec<u32>, Allo
     Ok(numbers)
 }
 
-/// Whether the numbers ascend, and are below `count`.
-fn is_in_order(count: usize, numbers: &[u32]) -> bool
+/// Whether numbers that ascend are below `count`.
+fn is_below(count: usize, numbers: &[u32]) -> bool
+    requires { Increases numbers.now }
+    ensures { result ≡ true → (j : ℕ) → j < length numbers.now → slice_index numbers.now j < count }
+{
+    if numbers.is_empty() {
+        return true;
+    }
+    (numbers[numbers.len() - 1] as usize) < count
+}
+
+/// Whether the numbers ascend, of which it may be told, and are below `count`.
+fn is_in_order(count: usize, numbers: &[u32], ascends: bool) -> bool
+    requires { ascends ≡ true → Increases numbers.now }
     ensures increases { result ≡ true → Increases numbers.now }
     ensures below { result ≡ true → (j : ℕ) → j < length numbers.now → slice_index numbers.now j < count }
 {
+    if ascends {
+        return is_below(count, numbers);
+    }
     let mut free = 0;
     for number in numbers {
         let number = *number as usize;
@@ -85,13 +100,19 @@ fn is_in_order(count: usize, numbers: &[u32]) -> bool
     true
 }
 
-/// The numbers of the list that are below `count`, ascending, each once.
-pub(crate) fn in_order(alloc: Global, count: usize, numbers: &[u32]) -> Result<Vec<u32>, AllocError>
-    requires { count < 2 ^ 32 }
+/// The numbers of the list that are below `count`, ascending, each once. It may be told that the list ascends.
+pub(crate) fn in_order(
+    alloc: Global,
+    count: usize,
+    numbers: &[u32],
+    ascends: bool,
+) -> Result<Vec<u32>, AllocError>
+    requires few { count < 2 ^ 32 }
+    requires order { ascends ≡ true → Increases numbers.now }
     ensures increases { IfOk result (λ v. Increases v.items) }
     ensures same { IfOk result (λ v. (i : ℕ) → lists v.items i ≡ marked count numbers.now i) }
 {
-    if is_in_order(count, numbers) {
+    if is_in_order(count, numbers, ascends) {
         return Vec::from_slice(alloc, numbers);
     }
     let marks = marks_of(alloc, count, numbers)?;

@@ -1,5 +1,6 @@
 //! How the states of a specification's automaton lead to one another: by the positions of its rules.
-ghost use Rattle.std.specs.Prelude.{◌≡◌, ◌<◌, ◌≤◌, ◌^◌, ℕ, Bool, List, true, length, map, IfOk};
+ghost use Rattle.std.specs.Prelude.{◌≡◌, ◌-◌, ◌<◌, ◌≤◌, ◌^◌, ℕ, Bool, List, false, true, length, map, slice_index_or, IfOk};
+ghost use Rattle.lex_semantics.specs.ByteSets.{has, empty_set};
 ghost use Rattle.lex_semantics.specs.Spec.{rejects};
 ghost use Rattle.lex_semantics.specs.Subsets.{all_positions};
 ghost use Rattle.lexspec.specs.Views.{spec_of, rules_in};
@@ -10,10 +11,11 @@ ghost use Rattle.lexauto_positions.specs.Owners.{AreOwners};
 ghost use Rattle.lexauto_positions.specs.RuleFlow.{rules_enter, rules_left, rules_read};
 ghost use Rattle.lexauto.specs.Moving.{AreChanges, AreMasks, AreTwins, masks_in, mask_at, followers_in, reading_in};
 
-use crate::changing::changes_of;
+use crate::changing::{changes_of, repeats_of};
 use crate::explore::Moves;
 use crate::following::walk;
-use crate::sets::last_key;
+use crate::key_packing::pack_marked;
+use crate::sets::is_marked;
 use lexauto_positions::{LaidRule, Owner, Walked, lay_rules, letters_of, mask_of, owners_of};
 use lexre_bytes::ByteSet;
 use lexspec::Spec;
@@ -32,6 +34,8 @@ pub(crate) struct RuleMoves<'a> {
     twins: Vec<u8>,
     /// For each position the bytes of which it reads just one, that or the byte before.
     changes: Vec<ByteSet>,
+    /// For each position whether its changes are those of the position before.
+    repeats: Vec<bool>,
     ghost within: { all_positions (rules_in (spec_of spec.now)) ≡ count },
     ghost sized: { HaveSized rules.items } by { HaveSized-prop rules.items },
     ghost number: { length rules.items ≡ length (rules_in (spec_of spec.now)) },
@@ -49,6 +53,8 @@ pub(crate) struct RuleMoves<'a> {
         ≡ rules_read (rules_in (spec_of spec.now)) b q 0 },
     ghost alike: { AreTwins (masks_in masks.items) twins.items },
     ghost changing: { AreChanges (λ b q. rules_read (rules_in (spec_of spec.now)) b q 0) changes.items },
+    ghost repeating: { (q : ℕ) → flag repeats.items q ≡ true → (0 < q)
+        × (slice_index_or changes.items q empty_set ≡ slice_index_or changes.items (q - 1) empty_set) },
 }
 
 /// The marks, or none where nothing is marked.
@@ -136,6 +142,7 @@ impl<'a> RuleMoves<'a> {
         let masks = masks_of(alloc, &letters)?;
         let twins = twins_of(alloc, &masks)?;
         let changes = changes_of(alloc, &letters)?;
+        let repeats = repeats_of(alloc, &changes)?;
         Ok(RuleMoves {
             spec,
             count,
@@ -145,7 +152,29 @@ impl<'a> RuleMoves<'a> {
             masks,
             twins,
             changes,
+            repeats,
         })
+    }
+}
+
+impl RuleMoves<'_> {
+    /// The set, and with it the changes of a position.
+    fn with_changes(&self, position: usize, changes: ByteSet) -> ByteSet
+        ensures { (b : ℕ) → b < 256 → has result b ≡ false → (has changes b ≡ false)
+            × (has (slice_index_or self.now.changes.items position empty_set) b ≡ false) }
+    {
+        match self.changes.get(position) {
+            Some(bytes) => changes.union(bytes),
+            None => changes,
+        }
+    }
+
+    /// Whether a position is `next`, and its changes are known to be those of the position before.
+    fn is_repeat(&self, position: usize, next: usize) -> bool
+        ensures { result ≡ true → (0 < next) × (slice_index_or self.now.changes.items position empty_set
+            ≡ slice_index_or self.now.changes.items (next - 1) empty_set) }
+    {
+        position == next && is_marked(&self.repeats, position)
     }
 }
 
@@ -156,20 +185,24 @@ impl Moves for RuleMoves<'_> {
 
     ghost read = { λ m k b. reading_in (rules_in (spec_of m.spec.now)) k b };
 
-    fn walk(&self, alloc: Global, key: &[u32]) -> Result<Walked, AllocError> {
-        walk(alloc, self, key)
+    fn walk(&self, alloc: Global, key: &[u32], ascends: bool) -> Result<Walked, AllocError> {
+        let walked = walk(alloc, self, key, ascends)?;
+        Ok(walked)
     }
 
     fn reading(&self, alloc: Global, followers: &[u32], byte: u8) -> Result<Vec<u32>, AllocError> {
-        last_key(alloc, followers, &self.masks[byte as usize])
+        pack_marked(alloc, followers, &self.masks[byte as usize])
     }
 
     fn changes(&self, followers: &[u32]) -> ByteSet {
         let mut changes = ByteSet::empty();
+        let mut next = 0;
         for position in followers {
-            if let Some(bytes) = self.changes.get(*position as usize) {
-                changes = changes.union(bytes);
+            let at = *position as usize;
+            if !self.is_repeat(at, next) {
+                changes = self.with_changes(at, changes);
             }
+            next = at + 1;
         }
         changes
     }

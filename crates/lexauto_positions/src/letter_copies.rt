@@ -2,7 +2,7 @@
 ghost use Rattle.std.specs.Prelude.{◌≡◌, ℕ, ◌+◌, ◌<◌, ◌≤◌, ◌^◌, ◌||◌, ◌&&◌, ◌==◌, Bool, true, false, IfSome, IfOk, OnOk};
 ghost use Rattle.lex_semantics.specs.Active.{lists};
 ghost use Rattle.lex_semantics.specs.Positions.{positions};
-ghost use Rattle.lexauto_positions.specs.Cursors.{IsCursor, IsFront};
+ghost use Rattle.lexauto_positions.specs.Cursors.{Increases, IsCursor, IsFront};
 ghost use Rattle.lexauto_positions.specs.Flow.{is_zero, passes, comes, exits, enters};
 ghost use Rattle.lexauto_positions.specs.LetterCopies.{letter_exits, letter_enters};
 ghost use Rattle.lexauto_positions.specs.Plans.{plan_of, tree_in};
@@ -78,12 +78,27 @@ fn add_all(base: usize, count: u8, next: &mut Vec<u32>) -> Result<(), AllocError
     Ok(())
 }
 
-/// Where the last positions from `end` on begin.
+/// Whether just the last positions before `end` stand before `at`.
+fn is_cursor(last: &[u32], at: usize, end: usize) -> bool
+    requires { Increases last.now }
+    ensures { result ≡ true → IsCursor last.now at end }
+{
+    if at == 0 || at > last.len() {
+        return false;
+    }
+    (last[at - 1] as usize) < end && is_quiet(last, at, end)
+}
+
+/// Where the last positions from `end` on begin. It looks first where they do if all from `base` to there are last ones.
 fn skip_last(last: &[u32], at: usize, base: usize, end: usize) -> usize
     requires cursor { IsCursor last.now at base }
     requires order { base ≤ end }
     ensures { IsCursor last.now result end }
 {
+    let behind = at.saturating_add(end - base);
+    if is_cursor(last, behind, end) {
+        return behind;
+    }
     let mut cursor = at;
     while !is_quiet(last, cursor, end) {
         cursor += 1;

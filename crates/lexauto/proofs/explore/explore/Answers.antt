@@ -1,4 +1,5 @@
 use Rattle.std.proofs.Common.{rules, ◌≡◌, ℕ, Bool, false, [], ◌∷◌, ◌++◌, ◌+◌, ◌-◌, ◌*◌, ◌/◌, ◌%◌, ◌<◌, ◌≤◌, List, length, refl, sym, subst, ap, ◌∙◌, get_or, Err, arith}
+use Rattle.lex_semantics.specs.Text.{Ascending}
 use Rattle.lexauto.specs.Explored.{Changes, key_at, goes_by, step_by}
 use Rattle.lexauto.specs.declared.explore.ExploreError.TheVariants.{TooMany}
 use Rattle.std.proofs.lemmas.Result.{err_from_is_err_and}
@@ -30,6 +31,14 @@ returns-clause-accepts g c =
     rw kept_length (search rules) in
     told_done (step_by (g.M.Moves.follow c.args.moves.now) (g.M.Moves.read c.args.moves.now)) (kept_in c.args.roots.keys.items) (look_kept c.work.table.places) (kept_in c.work.table.keys.items) c.work.next.items c.args.limit c.work.invariant.exploring
     [] (g.M.Moves.accept c.args.moves.now) (keys_in c.work.told.accepts.items) done c.work.invariant.accepted
+
+pub target-requires-clause-ascending : goal.target-requires-clause-ascending
+target-requires-clause-ascending g c =
+    let held : Ascending c.if-byte-eq0.following.list.items = elim c.if-byte-eq0.branch [
+      | then-byte-eq0+in_ok-following w ↦ subst (λ (f : Following). Ascending f.list.items) (sym w.following-is) w.in_ok-following.ensures.ascending
+      | else-byte-eq0 w ↦ subst (λ (f : Following). Ascending f.list.items) (sym w.following-is) c.work.invariant.ascending
+    ] in
+    subst Ascending (sym c.deref-in-work-2.ensures.value) held
 
 pub work-preserved : goal.work-preserved
 work-preserved g c =
@@ -113,6 +122,10 @@ work-preserved g c =
           (rw kept_length (c.in_ok-place.ensures.room (rw kept_length at c.work.invariant.exploring.room))) fills alike;
       held = held_on step roots (look_kept c.work.table.places) keys c.work.next.items c.args.limit c.work.invariant.exploring
           follow new filled c.in_ok-place.place n c.if-byte-eq0.following.list.items (step (key_at keys (n / 256)) (n % 256)) refl (rw kept_length low) found fills held;
+      ascending = elim c.if-byte-eq0.branch [
+        | then-byte-eq0+in_ok-following w ↦ subst (λ (f : Following). Ascending f.list.items) (sym w.following-is) w.in_ok-following.ensures.ascending
+        | else-byte-eq0 w ↦ subst (λ (f : Following). Ascending f.list.items) (sym w.following-is) c.work.invariant.ascending
+      ];
       changes = λ some. changes;
       on = told_longer step roots (look_kept c.work.table.places) keys c.work.next.items c.args.limit c.work.invariant.exploring false (goes_by follow) new filled c.in_ok-place.place n (step (key_at keys (n / 256)) (n % 256)) c.if-byte-eq0.told.goes_on.items refl (rw kept_length low) found fills goes;
       accepted = told_longer step roots (look_kept c.work.table.places) keys c.work.next.items c.args.limit c.work.invariant.exploring [] accept new filled c.in_ok-place.place n (step (key_at keys (n / 256)) (n % 256)) (keys_in c.if-byte-eq0.told.accepts.items) refl (rw kept_length low) found fills accepted;

@@ -1,69 +1,25 @@
-use Rattle.std.proofs.Common.{rules, ◌≡◌, ℕ, List, Some, None, length, cond, Bool, refl, sym, ap, subst, ◌∙◌, inl, inr, arith, [], ◌∷◌, ◌++◌}
-use Rattle.std.specs.BTreeMap.{UpdatesBy}
-use Rattle.std.specs.Cmp.Lexicographic.{slice_cmp}
-use Rattle.std.specs.Ordering.{nat_cmp}
-use Rattle.lexauto.specs.Keys.{Key, At, Finds, look}
-use Rattle.lexauto.specs.KeyPacking.{look_kept, kept_in, packed, unpacked}
-use Rattle.lexauto.proofs.Places.{look_after, absent, at_end, finds_more}
-use Rattle.lexauto.proofs.Kept.{kept_of_push, kept_length, kept_same, says}
+use Rattle.std.proofs.Common.{◌≤◌, ◌∙◌, length, IfOk, OnOk, ap, subst}
+use Rattle.std.specs.Prelude.{IsErrOf}
+use Rattle.lexauto.specs.Keys.{Key, At, Absent, Found}
+use Rattle.lexauto.specs.KeyPacking.{kept_in, packed}
+use Rattle.lexauto.specs.declared.explore.ExploreError.TheVariants.{TooMany}
+use Rattle.lexauto.proofs.Kept.{kept_so, says_key}
 use Rattle.lexauto.proofs.explore.intern.Goals as goal
 
-pub returns-in-Some-clause-found : goal.returns-in-Some-clause-found
-returns-in-Some-clause-found c =
-    let kept : c.in_ok-kept.kept.items ≡ packed c.args.key.items = c.in_ok-kept.ensures ∙ ap packed c.deref.ensures.value in
-    let here : look_kept c.args.table.now.places c.args.key.items ≡ Some c.in-Some.place.now = ap (look c.args.table.now.places) (sym kept) ∙ sym c.in-Some.ensures.value in
-    inl (c.in-Some.place.now, c.requires.place c.args.key.items c.in-Some.place.now here, refl)
-
-pub returns-in-Some-clause-place : goal.returns-in-Some-clause-place
-returns-in-Some-clause-place c =
-    let kept : c.in_ok-kept.kept.items ≡ packed c.args.key.items = c.in_ok-kept.ensures ∙ ap packed c.deref.ensures.value in
-    let here : look_kept c.args.table.now.places c.args.key.items ≡ Some c.in-Some.place.now = ap (look c.args.table.now.places) (sym kept) ∙ sym c.in-Some.ensures.value in
-    c.requires.place c.args.key.items c.in-Some.place.now here
-
-pub returns-then-place-limit-clause-full : goal.returns-then-place-limit-clause-full
-returns-then-place-limit-clause-full c = λ h.
-    let kept : c.in_ok-kept.kept.items ≡ packed c.args.key.items = c.in_ok-kept.ensures ∙ ap packed c.deref.ensures.value in
-    let none : look_kept c.args.table.now.places c.args.key.items ≡ None = ap (look c.args.table.now.places) (sym kept) ∙ sym c.in_default.ensures.value in
-    (absent (look_kept c.args.table.now.places) (kept_in c.args.table.now.keys.items) c.args.key.items c.requires none, omega arith)
-
-pub returns-clause-finds : goal.returns-clause-finds
-returns-clause-finds c =
-    let kept : c.in_ok-kept.kept.items ≡ packed c.args.key.items = c.in_ok-kept.ensures ∙ ap packed c.deref.ensures.value in
-    let k = c.args.key.items in
-    let m = c.args.table.now.places in
-    let keys = kept_in c.args.table.now.keys.items in
-    let none : look_kept m k ≡ None = ap (look m) (sym kept) ∙ sym c.in_default.ensures.value in
-    let same : c.in_ok-copy.copy.items ≡ packed k = search rules in
-    let len : c.len-place.result ≡ length c.args.table.now.keys.items = search rules in
-    let n = length keys in
-    let count : c.len-place.result ≡ n = len ∙ sym (kept_length c.args.table.now.keys.items) in
-    let updates : UpdatesBy (λ x y. slice_cmp nat_cmp x.items y.items) (λ v. slice_cmp nat_cmp (packed k) v.items) m c.insert.new.self (Some n) =
-    subst (λ (j : ℕ). UpdatesBy (λ x y. slice_cmp nat_cmp x.items y.items) (λ v. slice_cmp nat_cmp (packed k) v.items) m c.insert.new.self (Some j)) count
-    (subst (λ (l : List ℕ). UpdatesBy (λ x y. slice_cmp nat_cmp x.items y.items) (λ v. slice_cmp nat_cmp l v.items) m c.insert.new.self (Some c.len-place.result)) same c.in_ok-insert.ensures.updates) in
-    let grown : kept_in c.push.new.self.items ≡ keys ++ k ∷ [] =
-    ap kept_in c.in_ok-push.ensures.items ∙ kept_of_push c.args.table.now.keys.items c.in_ok-kept.kept ∙ ap (λ (u : Key). keys ++ u ∷ []) (ap unpacked kept ∙ says k) in
-    subst (λ (ks : List Key). Finds (look_kept c.insert.new.self) ks) (sym grown)
-    (finds_more (look_kept m) (look_kept c.insert.new.self) keys k c.requires none
-    (λ q. look_after m c.insert.new.self (packed k) (Some n) updates (packed q) ∙ ap (λ (b : Bool). cond b (Some n) (look m (packed q))) (kept_same k q)))
+pub intern_kept-requires-clause-kept : goal.intern_kept-requires-clause-kept
+intern_kept-requires-clause-kept c = kept_so c.in_ok-kept.kept.items (c.args.key.items) (c.in_ok-kept.ensures ∙ ap packed c.deref.ensures.value)
 
 pub returns-clause-place : goal.returns-clause-place
 returns-clause-place c =
-    let kept : c.in_ok-kept.kept.items ≡ packed c.args.key.items = c.in_ok-kept.ensures ∙ ap packed c.deref.ensures.value in
-    let k = c.args.key.items in
-    let keys = kept_in c.args.table.now.keys.items in
-    let len : c.len-place.result ≡ length c.args.table.now.keys.items = search rules in
-    let grown : kept_in c.push.new.self.items ≡ keys ++ k ∷ [] =
-    ap kept_in c.in_ok-push.ensures.items ∙ kept_of_push c.args.table.now.keys.items c.in_ok-kept.kept ∙ ap (λ (u : Key). keys ++ u ∷ []) (ap unpacked kept ∙ says k) in
-    subst (λ (ks : List Key). At ks c.len-place.result k) (sym grown)
-    (subst (λ (n : ℕ). At (keys ++ k ∷ []) n k) (kept_length c.args.table.now.keys.items ∙ sym len) (at_end keys k))
+    subst (λ (k : Key). IfOk c.intern_kept.result (λ i. At (kept_in c.intern_kept.new.table.keys.items) i k))
+    (says_key c.in_ok-kept.kept.items (c.args.key.items) (c.in_ok-kept.ensures ∙ ap packed c.deref.ensures.value)) c.intern_kept.ensures.place
 
 pub returns-clause-found : goal.returns-clause-found
 returns-clause-found c =
-    let kept : c.in_ok-kept.kept.items ≡ packed c.args.key.items = c.in_ok-kept.ensures ∙ ap packed c.deref.ensures.value in
-    let k = c.args.key.items in
-    let m = c.args.table.now.places in
-    let keys = kept_in c.args.table.now.keys.items in
-    let none : look_kept m k ≡ None = ap (look m) (sym kept) ∙ sym c.in_default.ensures.value in
-    let grown : kept_in c.push.new.self.items ≡ keys ++ k ∷ [] =
-    ap kept_in c.in_ok-push.ensures.items ∙ kept_of_push c.args.table.now.keys.items c.in_ok-kept.kept ∙ ap (λ (u : Key). keys ++ u ∷ []) (ap unpacked kept ∙ says k) in
-    inr (absent (look_kept m) keys k c.requires none, grown)
+    subst (λ (k : Key). OnOk c.intern_kept.result (Found (kept_in c.args.table.now.keys.items) k (kept_in c.intern_kept.new.table.keys.items)))
+    (says_key c.in_ok-kept.kept.items (c.args.key.items) (c.in_ok-kept.ensures ∙ ap packed c.deref.ensures.value)) c.intern_kept.ensures.found
+
+pub returns-clause-full : goal.returns-clause-full
+returns-clause-full c =
+    subst (λ (k : Key). IsErrOf c.intern_kept.result TooMany → Absent (kept_in c.args.table.now.keys.items) k × (c.args.limit ≤ length c.args.table.now.keys.items))
+    (says_key c.in_ok-kept.kept.items (c.args.key.items) (c.in_ok-kept.ensures ∙ ap packed c.deref.ensures.value)) c.intern_kept.ensures.full

@@ -1,4 +1,4 @@
-use Rattle.std.proofs.Common.{◌≡◌, ◌<◌, ℕ, Bool, List, length, map, refl, ap, ◌∙◌, arith}
+use Rattle.std.proofs.Common.{◌≡◌, ◌<◌, ℕ, Bool, List, length, map, refl, sym, subst, ap, ◌∙◌, arith}
 use Rattle.std.specs.Prelude.{slice_index}
 use Rattle.lex_semantics.specs.Active.{lists}
 use Rattle.lex_semantics.specs.Subsets.{all_positions}
@@ -11,7 +11,11 @@ use Rattle.lexauto_positions.specs.declared.rules.LaidRule.{LaidRule}
 use Rattle.lexauto_positions.proofs.Passing.{nowhere}
 use Rattle.lexauto.proofs.StepLemmas.{followers_is, listed_same}
 use Rattle.lexauto.proofs.KeyLaws.{below_marked, left_is, none_marked}
+use Rattle.lexauto_positions.specs.Cursors.{Increases}
 use Rattle.lexauto.proofs.following.walk_lasts.Goals as goal
+
+pub in_order-requires-clause-order : goal.in_order-requires-clause-order
+in_order-requires-clause-order c = λ h. subst Increases (sym c.lasts_in.ensures) (c.requires.order h)
 
 pub pass_rules-requires-clause-within : goal.pass_rules-requires-clause-within
 pass_rules-requires-clause-within c = λ j low.
@@ -40,7 +44,7 @@ returns c =
     record {
       followers = c.choose.ensures.followers ∙ c.in_ok-walked.ensures.followers
           ∙ listed_same (λ q. rules_enter own nowhere last q 0 0) (λ q. rules_enter all nowhere last q 0 0) (all_positions own) moves.count next size
-          ∙ followers_is all moves.count (length all) key nowhere last refl (λ i. none_marked (length all) i _ c.requires) same;
+          ∙ followers_is all moves.count (length all) key nowhere last refl (λ i. none_marked (length all) i _ c.requires.starts) same;
       accepted = c.choose.ensures.accepted
           ∙ ap (chosen moves.accepts_all) (c.in_ok-walked.ensures.accepted ∙ left_is own all last moves.count (lasts_in key) gone same moves.within)
           ∙ ap (λ (b : Bool). chosen b left) moves.whole;

@@ -1,11 +1,16 @@
-use Rattle.std.proofs.Common.{rules, ◌≡◌, ◌==◌, not, Bool, [], ◌∷◌, ◌++◌, length, ap, ◌∙◌}
+use Rattle.std.proofs.Common.{rules, ◌≡◌, ◌==◌, not, Bool, [], ◌∷◌, ◌++◌, length, sym, subst, ap, ◌∙◌}
 use Rattle.lex_semantics.specs.Reading.{is_empty}
+use Rattle.lexauto_positions.specs.Cursors.{Increases}
+use Rattle.lexauto.specs.Sets.{lasts_in}
 use Rattle.lexauto.specs.Explored.{goes_by}
 use Rattle.lexauto.specs.Keys.{Key, keys_in}
 use Rattle.lexauto.specs.KeyPacking.{unpacked}
 use Rattle.lexauto.proofs.Places.{keys_of_push}
 use Rattle.lexauto.proofs.Works.{some_is}
 use Rattle.lexauto.proofs.explore.Told.add.Goals as goal
+
+pub walk-requires : goal.walk-requires
+walk-requires g c = λ h. subst (λ (k : Key). Increases (lasts_in k)) (sym (c.deref.ensures.value ∙ c.in_ok-key.ensures)) (c.is_bits.ensures h)
 
 pub returns : goal.returns
 returns g c =
@@ -23,6 +28,7 @@ returns g c =
     let pushed : keys_in c.push.new.self.items ≡ keys_in (accepts ++ c.in_ok-walked.walked.accepted ∷ []) = ap keys_in c.in_ok-push.ensures.items in
     record {
       followers = next;
+      ascending = c.in_ok-walked.ensures.ascending;
       changes = λ b some low not. (let h = c.changes.ensures b some low not in search (rules, h));
       accepts = pushed ∙ keys_of_push accepts c.in_ok-walked.walked.accepted ∙ ap (λ (k : Key). keys_in accepts ++ k ∷ []) accepted;
       goes_on = c.in_ok-push-2.ensures.items ∙ ap (λ (b : Bool). c.args.self.now.goes_on.items ++ b ∷ []) goes;

@@ -1,5 +1,6 @@
 use Rattle.std.proofs.Common.{◌≡◌, ℕ, ◌-◌, ◌<◌, ◌^◌, List, length, map, sym, ap, subst, ◌∙◌, arith}
-use Rattle.lex_semantics.specs.ByteSets.{ByteSet}
+use Rattle.lex_semantics.specs.ByteSets.{ByteSet, empty_set}
+use Rattle.std.specs.Prelude.{slice_index_or}
 use Rattle.lex_semantics.specs.Subsets.{all_positions}
 use Rattle.lexauto_positions.specs.Letters.{reads_at}
 use Rattle.lexspec.specs.Views.{spec_of}
@@ -59,3 +60,8 @@ invariant_of-result-clause-changing c = λ q b some low not.
     ∙ ap (λ (rs : List LaidRule). rules_read (map shape_of rs) k q 0) c.deref-2.ensures.value
     ∙ ap (λ (f : Letters). f k q 0) (c.in_ok-rules.ensures.alike.letters ∙ ap rules_read c.rules.ensures.rules) in
     sym (told (b - 1)) ∙ c.in_ok-changes.ensures q b some low not ∙ told b
+
+pub invariant_of-result-clause-repeating : goal.invariant_of-result-clause-repeating
+invariant_of-result-clause-repeating c = λ q t.
+    let r = c.in_ok-repeats.ensures q t in
+    (r.0, subst (λ (sets : List ByteSet). slice_index_or sets q empty_set ≡ slice_index_or sets (q - 1) empty_set) c.deref-6.ensures.value r.1)

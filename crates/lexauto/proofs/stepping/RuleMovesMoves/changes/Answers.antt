@@ -1,34 +1,34 @@
-use Rattle.std.proofs.Common.{rules, ◌≡◌, ℕ, ◌-◌, map, inl, inr, sym, ap, ◌∙◌, arith}
+use Rattle.std.proofs.Common.{rules, ◌≡◌, ℕ, ◌+◌, ◌-◌, ◌<◌, Bool, false, map, inl, inr, sym, ap, ◌∙◌, arith}
 use Rattle.std.specs.Prelude.{slice_index, slice_index_or}
 use Rattle.std.proofs.lemmas.Bool.{cases_eq}
-use Rattle.lex_semantics.specs.ByteSets.{has, union, empty_set}
+use Rattle.lex_semantics.specs.ByteSets.{has, empty_set}
 use Rattle.lexspec.specs.RuleViews.{rule_of}
-use Rattle.lexauto.proofs.ChangeLaws.{has_nothing, in_neither}
 use Rattle.lexauto.proofs.StepLemmas.{reading_alike}
-use Rattle.lexauto.proofs.stepping.RuleMovesMoves.changes.Goals.{in-Some, in_default}
+use Rattle.lexauto.proofs.stepping.RuleMovesMoves.changes.Goals.{then-not-is_repeat, else-not-is_repeat}
 use Rattle.lexauto.proofs.stepping.RuleMovesMoves.changes.Goals as goal
 
 pub loop-position-preserved : goal.loop-position-preserved
-loop-position-preserved c = record {
-  told = λ j b low byte not.
-      let own : ℕ → ℕ = λ k. slice_index_or c.args.self.now.changes.items (slice_index c.args.followers.now k) empty_set in
-      let at = c.loop-position.position-index in
-      elim c.match-get.branch [
-        | in-Some w ↦
-            (let is : c.match-get.changes ≡ union c.loop-position.changes (own at) = search rules in
-            let apart = in_neither c.loop-position.changes (own at) b byte (ap (λ s. has s b) (sym is) ∙ not) in
-            elim (cases_eq j at) [
-              | inl here ↦ ap (λ k. has (own k) b) here ∙ apart.1
-              | inr other ↦ c.loop-position.invariant.told j b (omega (arith, low, other)) byte apart.0
-            ])
-        | in_default w ↦
-            (let none : own at ≡ empty_set = search rules in
-            elim (cases_eq j at) [
-              | inl here ↦ ap (λ k. has (own k) b) here ∙ ap (λ s. has s b) none ∙ has_nothing b byte
-              | inr other ↦ c.loop-position.invariant.told j b (omega (arith, low, other)) byte (ap (λ s. has s b) (sym w.changes-is) ∙ not)
-            ])
-      ];
-}
+loop-position-preserved c =
+    let own : ℕ → ℕ → Bool = λ k. has (slice_index_or c.args.self.now.changes.items k empty_set) in
+    let at = c.loop-position.position-index in
+    let here : (b : ℕ) → b < 256 → has c.if-not-is_repeat.changes b ≡ false → (has c.loop-position.changes b ≡ false) × (own (slice_index c.args.followers.now at) b ≡ false) = λ b byte not.
+    elim c.if-not-is_repeat.branch [
+      | then-not-is_repeat w ↦ w.with_changes-changes.ensures b byte (ap (λ s. has s b) (sym w.changes-is) ∙ not)
+      | else-not-is_repeat w ↦
+          (let same = c.is_repeat.ensures (let f = w.if-not-is_repeat.false in search (rules, f)) in
+          let old = ap (λ s. has s b) (sym w.changes-is) ∙ not in
+          (old, ap (λ s. has s b) same.1 ∙ c.loop-position.invariant.before b same.0 byte old))
+    ] in
+    record {
+      told = λ j b low byte not.
+          elim (cases_eq j at) [
+            | inl e ↦ ap (λ k. own (slice_index c.args.followers.now k) b) e ∙ (here b byte not).1
+            | inr other ↦ c.loop-position.invariant.told j b (omega (arith, low, other)) byte (here b byte not).0
+          ];
+      before = λ b some byte not.
+          let behind : slice_index c.args.followers.now at + 1 - 1 ≡ slice_index c.args.followers.now at = omega arith in
+          ap (λ k. own k b) behind ∙ (here b byte not).1;
+    }
 
 pub returns : goal.returns
 returns c = λ b some low not.
