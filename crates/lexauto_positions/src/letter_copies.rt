@@ -10,6 +10,7 @@ ghost use Rattle.lexauto_positions.specs.Plans.{plan_of, tree_in};
 use crate::layout::Part;
 use crate::walk::{Copies, Passed, is_loop, is_quiet, leave_letter};
 use std::alloc::AllocError;
+use std::mem;
 
 /// Of a letter whether it may be left out. None of any other part.
 pub(crate) fn optional_letter(part: &Part) -> Option<bool>
@@ -63,7 +64,8 @@ fn add_letter(base: usize, entered: bool, next: &mut Vec<u32>) -> Result<(), All
     Ok(())
 }
 
-/// Adds so many positions, of which `base` is the first.
+/// Adds so many positions, of which `base` is the first. It holds the list meanwhile, so that its length is not stored for
+/// each of them.
 fn add_all(base: usize, count: u8, next: &mut Vec<u32>) -> Result<(), AllocError>
     requires few { base + count < 2 ^ 32 }
     requires front { IsFront next.old.items base }
@@ -72,9 +74,12 @@ fn add_all(base: usize, count: u8, next: &mut Vec<u32>) -> Result<(), AllocError
         → lists next.new.items q ≡ (lists next.old.items q || comes (letter_enters q)
         (letter_exits true S) loops base 1 true count)) }
 {
+    let alloc = *next.allocator();
+    let mut all = mem::replace(next, Vec::new(alloc));
     for k in 0..count {
-        add_letter(base + usize::from(k), true, next)?;
+        add_letter(base + usize::from(k), true, &mut all)?;
     }
+    *next = all;
     Ok(())
 }
 

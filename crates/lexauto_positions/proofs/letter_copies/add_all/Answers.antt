@@ -16,11 +16,11 @@ loop-k-preserved c =
       front = rw (next, sym from) c.in_ok-add_letter.ensures.front;
       told = λ S loops q.
           let rest = comes (letter_enters q) (letter_exits true S) loops (at + 1) 1 true (c.args.count - (k + 1)) in
-          let added : lists c.add_letter.new.next.items q ≡ (lists c.loop-k.next.items q || (q == at)) =
-          c.in_ok-add_letter.ensures.next q ∙ ap (λ (n : ℕ). lists c.loop-k.next.items q || (q == (c.args.base + n))) from in
+          let added : lists c.add_letter.new.next.items q ≡ (lists c.loop-k.all.items q || (q == at)) =
+          c.in_ok-add_letter.ensures.next q ∙ ap (λ (n : ℕ). lists c.loop-k.all.items q || (q == (c.args.base + n))) from in
           rw next
           (ap (λ (j : Bool). j || rest) added
-          ∙ or_assoc (lists c.loop-k.next.items q) (q == at) rest
-          ∙ ap (λ (j : Bool). lists c.loop-k.next.items q || j) (sym (comes_step (letter_enters q) (letter_exits true S) loops at 1 true c.args.count k lt))
+          ∙ or_assoc (lists c.loop-k.all.items q) (q == at) rest
+          ∙ ap (λ (j : Bool). lists c.loop-k.all.items q || j) (sym (comes_step (letter_enters q) (letter_exits true S) loops at 1 true c.args.count k lt))
           ∙ c.loop-k.invariant.told S loops q);
     }

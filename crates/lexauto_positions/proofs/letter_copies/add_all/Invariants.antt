@@ -7,7 +7,7 @@ use Rattle.lexauto_positions.proofs.letter_copies.add_all.Given as goal
 
 abbrev pub invariant-loop-k : goal.invariant-loop-k
 invariant-loop-k l = record {
-  front : IsFront l.next.items (l.base + l.k);
-  told : (S : ℕ → Bool) (loops : Bool) (q : ℕ) → (lists l.next.items q || comes (letter_enters q) (letter_exits true S) loops (l.base + l.k) 1 true (l.count - l.k))
+  front : IsFront l.all.items (l.base + l.k);
+  told : (S : ℕ → Bool) (loops : Bool) (q : ℕ) → (lists l.all.items q || comes (letter_enters q) (letter_exits true S) loops (l.base + l.k) 1 true (l.count - l.k))
       ≡ (lists l.fn.next.items q || comes (letter_enters q) (letter_exits true S) loops l.base 1 true l.count);
 }
