@@ -8,3 +8,4 @@ pub mod MemorySinks
 pub mod MemorySources
 pub mod ByteReaders
 pub mod ByteWriters
+pub mod Octal

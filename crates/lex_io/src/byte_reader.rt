@@ -1,5 +1,6 @@
 //! A reader with a buffer, made for reads of one byte.
-ghost use Rattle.std.specs.Prelude.{◌≡◌, ◌≢◌, ◌-◌, ◌<◌, ◌≤◌, min, [], ◌∷◌, ◌++◌, length, take, drop, IfOk, OnErr, IsSome, vec_len};
+ghost use Rattle.std.specs.Prelude.{◌≡◌, ◌≢◌, ◌-◌, ◌<◌, ◌≤◌, min, [], ◌∷◌, ◌++◌};
+ghost use Rattle.std.specs.Prelude.{length, take, drop, IfOk, OnErr, IsSome, vec_len};
 ghost use Rattle.std.specs.Io.{ReadsAtMost};
 ghost use Rattle.std.specs.Io.KnownBytes.{Consumes, Keeps, IsAtEnd, ReadConsumes};
 
@@ -19,9 +20,9 @@ enum Refill {
 
 /// Reads into a buffer, so that a read of one byte is mostly a look into it.
 ///
-/// The reader behind it is asked where no byte is ahead, and once in a call: so an error and an end are reported where they
-/// are met, after the bytes before them. The bytes ahead are the last of the buffer, so that one comparison finds whether
-/// there is one.
+/// The reader behind it is asked where no byte is ahead, and once in a call: so an error and an end are reported where
+/// they are met, after the bytes before them. The bytes ahead are the last of the buffer, so that one comparison finds
+/// whether there is one.
 #[derive(Drop)]
 pub struct ByteReader<R> {
     buffer: Vec<u8>,
@@ -185,35 +186,10 @@ fn read_over<R: Read>(reader: &mut R, buffer: &mut Vec<u8>) -> io::Result<usize>
 #[cfg(test)]
 mod tests {
     use super::*;
+    use crate::script::{Answer, Script};
     use crate::source::{FromRead, Source};
-    use std::io::{Error, ErrorKind};
+    use std::io::ErrorKind;
     use std::test::Fail;
-
-    /// What a reader answers to one read.
-    #[derive(Clone, Copy)]
-    enum Answer {
-        Bytes(&'static [u8]),
-        Fault(ErrorKind),
-    }
-
-    /// Gives these answers in turn, and then its end.
-    #[derive(Drop)]
-    struct Script<'a> {
-        answers: &'a [Answer],
-    }
-
-    impl Read for Script<'_> {
-        fn read(&mut self, buf: &mut [u8]) -> io::Result<usize> {
-            let Some((answer, rest)) = self.answers.split_first() else {
-                return Ok(0);
-            };
-            self.answers = rest;
-            match *answer {
-                Answer::Bytes(mut bytes) => bytes.read(buf),
-                Answer::Fault(kind) => Err(Error::from(kind)),
-            }
-        }
-    }
 
     const ANSWERS: &[Answer] = &[
         Answer::Bytes(b"ab"),

@@ -1,15 +1,14 @@
 //! A writer with a buffer, made for short writes.
-ghost use Rattle.std.specs.Prelude.{◌≡◌, ◌+◌, ◌-◌, ◌≤◌, [], ◌++◌, length, take, drop, IfOk, OnOk, OnErr, IfSome, IfNone, IsSome, MatchOption, vec_len};
+ghost use Rattle.std.specs.Prelude.{◌≡◌, ◌+◌, ◌-◌, ◌≤◌, [], ◌++◌, length, take, drop, IfOk};
+ghost use Rattle.std.specs.Prelude.{OnOk, OnErr, IfSome, IfNone, IsSome, MatchOption, vec_len};
 ghost use Rattle.std.specs.Io.{WritesAtMost};
 ghost use Rattle.std.specs.Io.KnownBytes.{Appends, Keeps, WriteAppends};
 
 use crate::buffer;
+use crate::copying::copy_to;
 use std::alloc::{AllocError, Global};
 use std::io;
 use std::io::Write;
-
-/// Up to this length bytes are copied one by one.
-const SHORT: usize = 16;
 
 /// The bytes that wait: those of the buffer up to `end`.
 #[derive(Drop)]
@@ -60,8 +59,9 @@ impl Held {
 
 /// Holds bytes in a buffer, so that a short write is mostly a short copy.
 ///
-/// What is held is poured into the writer behind it where it is full, in a flush and in a drop. Where that fails, the error is
-/// told, what was not taken stays held, and a later call goes on with it: no byte is lost, and none is written twice.
+/// What is held is poured into the writer behind it where it is full, in a flush and in a drop. Where that fails, the
+/// error is told, what was not taken stays held, and a later call goes on with it: no byte is lost, and none is written
+/// twice.
 pub struct ByteWriter<W: Write + Drop> {
     held: Held,
     error: Option<io::Error>,
@@ -106,8 +106,8 @@ impl<W: Write + Drop> ByteWriter<W> {
         result
     }
 
-    /// Pours, and then holds the bytes, or hands them on where there are more than may be held. Where it answers nothing, the
-    /// error waits.
+    /// Pours, and then holds the bytes, or hands them on where there are more than may be held. Where it answers
+    /// nothing, the error waits.
     #[cold]
     #[inline(never)]
     fn pour_and_write(&mut self, bytes: &[u8]) -> Option<usize>
@@ -197,30 +197,8 @@ impl<W: Write + Drop> Drop for ByteWriter<W> {
     }
 }
 
-/// Makes the one slice the other.
-#[inline(always)]
-fn copy_to(place: &mut [u8], bytes: &[u8])
-    requires { length place.old ≡ length bytes.now }
-    ensures { place.new ≡ bytes.now }
-{
-    if bytes.len() > SHORT {
-        copy_many(place, bytes);
-        return;
-    }
-    for (index, byte) in bytes.iter().enumerate() {
-        place[index] = *byte;
-    }
-}
-
-#[inline(never)]
-fn copy_many(place: &mut [u8], bytes: &[u8])
-    requires { length place.old ≡ length bytes.now }
-    ensures { place.new ≡ bytes.now }
-{
-    place.copy_from_slice(bytes);
-}
-
-/// Writes until all is written or a write fails, and tells how many bytes were written. A write that takes none has failed.
+/// Writes until all is written or a write fails, and tells how many bytes were written. A write that takes none has
+/// failed.
 fn write_out<W: Write>(bytes: &[u8], writer: &mut W) -> (usize, io::Result<()>)
     ensures bound { result.0 ≤ length bytes.now }
     ensures all { OnOk result.1 (result.0 ≡ length bytes.now) }
@@ -243,8 +221,8 @@ mod tests {
     use std::io::{Error, ErrorKind};
     use std::test::Fail;
 
-    /// Takes at most three bytes in one write, and no more than it has room for. Then it answers this kind of error, or else
-    /// that it took nothing.
+    /// Takes at most three bytes in one write, and no more than it has room for. Then it answers this kind of error, or
+    /// else that it took nothing.
     #[derive(Drop)]
     struct Drip {
         taken: Vec<u8>,

@@ -4,15 +4,21 @@
 mod buffer;
 mod byte_reader;
 mod byte_writer;
+mod copying;
+mod escapes;
 mod from_bytes;
 mod memory_sink;
 mod memory_source;
+#[cfg(test)]
+mod script;
 mod sink;
 mod source;
 mod to_bytes;
 
 pub use byte_reader::ByteReader;
 pub use byte_writer::ByteWriter;
+pub use copying::copy_to;
+pub use escapes::octal;
 pub use from_bytes::FromBytes;
 pub use memory_sink::MemorySink;
 pub use memory_source::MemorySource;

@@ -1,5 +1,6 @@
 //! A source over memory that pauses once, at a stated place, for tests.
-ghost use Rattle.std.specs.Prelude.{◌≡◌, refl, ℕ, ◌+◌, ◌-◌, ◌^◌, ◌<◌, ◌≤◌, min, Bool, true, false, List, [], ◌++◌, length, take, None, Some, ◌⊎◌, ◌↔◌};
+ghost use Rattle.std.specs.Prelude.{◌≡◌, refl, ℕ, ◌+◌, ◌-◌, ◌^◌, ◌<◌, ◌≤◌, min, Bool, true, false};
+ghost use Rattle.std.specs.Prelude.{List, [], ◌++◌, length, take, None, Some, ◌⊎◌, ◌↔◌};
 ghost use Rattle.lex_io.specs.Sink.{fault_count};
 ghost use Rattle.lex_io.specs.Source.{given, end_count};
 ghost use Rattle.lex_io.specs.Taking.{Takes, Takes-trans, never-waits};
@@ -104,8 +105,8 @@ impl Source for MemorySource<'_> {
 
     ghost waits = { λ s. false };
 
-    /// The next byte. It fails exactly where it pauses with a fault, and answers the end where it pauses with one or has
-    /// no byte left.
+    /// The next byte. It fails exactly where it pauses with a fault, and answers the end where it pauses with one or
+    /// has no byte left.
     fn next(&mut self) -> Result<Option<u8>, ReadFault>
         requires few_ends { ends_of self.old < 2 ^ 64 - 1 }
         requires few_failures { failures_of self.old < 2 ^ 64 - 1 }

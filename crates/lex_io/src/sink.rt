@@ -1,5 +1,6 @@
 //! Where the bytes of a scan go.
-ghost use Rattle.std.specs.Prelude.{◌≡◌, ℕ, ◌+◌, ◌-◌, ◌^◌, ◌<◌, ◌≤◌, Bool, true, false, List, [], ◌++◌, length, IfOk, OnOk};
+ghost use Rattle.std.specs.Prelude.{◌≡◌, ℕ, ◌+◌, ◌-◌, ◌^◌, ◌<◌, ◌≤◌, Bool, true, false};
+ghost use Rattle.std.specs.Prelude.{List, [], ◌++◌, length, IfOk, OnOk};
 ghost use Rattle.lex_io.specs.Sink.{Appended, fault_count};
 ghost use Rattle.std.specs.Io.KnownBytes.{Appends};
 ghost use Rattle.std.proofs.KnownBytes.{Appends-nil, Appends-trans};
@@ -60,7 +61,8 @@ pub(crate) fn write_whole<W: Write>(writer: &mut W, bytes: &[u8]) -> Result<(), 
 
 /// Calls `write` until all is written: an error or a count of 0 is a fault.
 ///
-/// It keeps whether `flush` of the writer was answered since bytes were put: no contract of a writer says what a flush does.
+/// It keeps whether `flush` of the writer was answered since bytes were put: no contract of a writer says what a flush
+/// does.
 #[derive(Drop)]
 pub struct ToWrite<W> {
     writer: W,

@@ -1,5 +1,6 @@
 //! Where the bytes of a scan come from.
-ghost use Rattle.std.specs.Prelude.{◌≡◌, refl, ℕ, ◌+◌, ◌-◌, ◌^◌, ◌<◌, ◌≤◌, Bool, true, false, List, [], ◌++◌, length, take, IfOk, slice_get};
+ghost use Rattle.std.specs.Prelude.{◌≡◌, refl, ℕ, ◌+◌, ◌-◌, ◌^◌, ◌<◌, ◌≤◌, Bool, true, false};
+ghost use Rattle.std.specs.Prelude.{List, [], ◌++◌, length, take, IfOk, slice_get};
 ghost use Rattle.lex_io.specs.Source.{given, end_count, Gives};
 ghost use Rattle.lex_io.specs.Sink.{fault_count};
 ghost use Rattle.lex_io.specs.SourceLaws.{Gives-nil, Gives-trans};
@@ -48,8 +49,8 @@ pub trait Source {
         ensures ends { ends self.new ≡ ends self.old }
         ensures failures { failures self.new ≡ failures self.old };
 
-    /// Whether the next call of `next` may have to wait, as for a line that is still to be typed. So what was written before
-    /// is to be seen first.
+    /// Whether the next call of `next` may have to wait, as for a line that is still to be typed. So what was written
+    /// before is to be seen first.
     fn may_wait(&self) -> bool
         ensures { result ≡ waits self.now };
 
@@ -149,45 +150,15 @@ impl<R: Read> Source for FromRead<R> {
 #[cfg(test)]
 mod tests {
     use super::*;
-    use std::io;
-
-    /// What a reader answers to one read.
-    #[derive(Clone, Copy)]
-    enum Answer {
-        Byte(u8),
-        End,
-        Fault,
-    }
-
-    /// Gives these answers in turn, and then its end.
-    #[derive(Drop)]
-    struct Script<'a> {
-        answers: &'a [Answer],
-    }
-
-    impl Read for Script<'_> {
-        fn read(&mut self, buf: &mut [u8]) -> io::Result<usize> {
-            let Some((answer, rest)) = self.answers.split_first() else {
-                return Ok(0);
-            };
-            self.answers = rest;
-            match (*answer, buf.first_mut()) {
-                (Answer::Byte(byte), Some(place)) => {
-                    *place = byte;
-                    Ok(1)
-                }
-                (Answer::Fault, _) => Err(io::Error::from(io::ErrorKind::Interrupted)),
-                _ => Ok(0),
-            }
-        }
-    }
+    use crate::script::{Answer, Script};
+    use std::io::ErrorKind;
 
     const ANSWERS: &[Answer] = &[
-        Answer::Byte(97),
-        Answer::Fault,
-        Answer::Byte(98),
-        Answer::End,
-        Answer::Byte(99),
+        Answer::Bytes(b"a"),
+        Answer::Fault(ErrorKind::Interrupted),
+        Answer::Bytes(b"b"),
+        Answer::Bytes(b""),
+        Answer::Bytes(b"c"),
     ];
 
     const WANTS: &[Result<Option<u8>, ReadFault>] = &[

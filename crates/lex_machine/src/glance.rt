@@ -5,8 +5,8 @@ ghost use Rattle.lex_machine.specs.Glances.{is_simple, are_simple};
 
 use crate::action::Statement;
 
-/// A walk over bytes up to the first after which the machine goes on no more: how many they are, the state after them, the
-/// one before the last of them, and what is known of the first rule that the last state accepts.
+/// A walk over bytes up to the first after which the machine goes on no more: how many they are, the state after them,
+/// the one before the last of them, and what is known of the first rule that the last state accepts.
 #[derive(Clone, Copy)]
 pub struct Way<'a> {
     pub count: usize,
@@ -15,8 +15,8 @@ pub struct Way<'a> {
     pub gist: Gist<'a>,
 }
 
-/// What is known of the first rule that a state accepts. Each but the first two says that the rule keeps all of a match, and
-/// does this alone.
+/// What is known of the first rule that a state accepts. Each but the first two says that the rule keeps all of a
+/// match, and does this alone.
 #[derive(Clone, Copy)]
 pub enum Gist<'a> {
     /// Nothing is known.

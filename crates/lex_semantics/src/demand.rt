@@ -6,7 +6,8 @@ ghost use Rattle.lex_semantics.specs.Machine.{Machine, rules_of_machine};
 ghost use Rattle.lex_semantics.specs.Sound.{IsSound};
 ghost use Rattle.lex_semantics.specs.MachineLaws.{MachineLaws};
 ghost use Rattle.lex_semantics.specs.TableFor.{TableFor};
-ghost use Rattle.lex_semantics.specs.ScanLaws.{NoGap, OneReach, SomeReach, NeverNoReach, OneDemand, SomeDemand, NeverNoDemand, StaysCovered, SameWhateverFollows};
+ghost use Rattle.lex_semantics.specs.ScanLaws.{NoGap, OneReach, SomeReach, NeverNoReach, OneDemand};
+ghost use Rattle.lex_semantics.specs.ScanLaws.{SomeDemand, NeverNoDemand, StaysCovered, SameWhateverFollows};
 
 /// What is asked for at a place is asked for at each place before.
 pub fn no_gap()
@@ -20,15 +21,17 @@ pub fn one_reach()
     ensures machine { (M : Machine) → OneReach (rules_of_machine M) }
 {}
 
-/// And it reaches in some way: over a machine that keeps its laws, and over a sound specification for which such a machine
-/// is a table. Without a machine nothing decides which words are live, so what is known is that there is never no reach.
+/// And it reaches in some way: over a machine that keeps its laws, and over a sound specification for which such a
+/// machine is a table. Without a machine nothing decides which words are live, so what is known is that there is never
+/// no reach.
 pub fn some_reach()
     ensures machine { (M : Machine) → MachineLaws M → SomeReach (rules_of_machine M) }
     ensures table { (M : Machine) (S : Spec) → MachineLaws M → IsSound S → TableFor M S → SomeReach (rules_of S) }
     ensures specification { (S : Spec) → IsSound S → NeverNoReach (rules_of S) }
 {}
 
-/// After a number of turns a scan stands in at most one way, and its turns ask for one number of bytes, and for the end or not.
+/// After a number of turns a scan stands in at most one way, and its turns ask for one number of bytes, and for the end
+/// or not.
 pub fn one_demand()
     ensures specification { (S : Spec) → OneDemand (rules_of S) }
     ensures machine { (M : Machine) → OneDemand (rules_of_machine M) }

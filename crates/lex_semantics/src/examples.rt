@@ -74,7 +74,8 @@ pub fn examples_of_demand()
         ∷ (5, 5) ∷ (5, 5) ∷ []) }
 {}
 
-/// Which specifications are sound: the cut is that of the head, if that has a fixed length, and an end prints at most 4,096 bytes.
+/// Which specifications are sound: the cut is that of the head, if that has a fixed length, and an end prints at most
+/// 4,096 bytes.
 pub fn examples_of_soundness()
     ensures head_cuts { IsSound (E.cut_by (Head 2)) }
     ensures trail_does_not { IsSound (E.cut_by (Trail 2)) → ⊥ }

@@ -5,7 +5,8 @@ ghost use Rattle.lex_semantics.specs.Rules.{rules_of};
 ghost use Rattle.lex_semantics.specs.Machine.{Machine, rules_of_machine};
 ghost use Rattle.lex_semantics.specs.Sound.{IsSound};
 ghost use Rattle.lex_semantics.specs.MachineLaws.{MachineLaws};
-ghost use Rattle.lex_semantics.specs.ScanLaws.{KnownAtFirst, KnownAfterMatch, KnownAfterMatchAtEnd, KnownAfterEnd, KnownOnceEnded, BeginsTheRun, PartBeginsTheRun};
+ghost use Rattle.lex_semantics.specs.ScanLaws.{KnownAtFirst, KnownAfterMatch, KnownAfterMatchAtEnd};
+ghost use Rattle.lex_semantics.specs.ScanLaws.{KnownAfterEnd, KnownOnceEnded, BeginsTheRun, PartBeginsTheRun};
 
 /// Before the first turn nothing was asked for and nothing written.
 pub fn known_at_first()

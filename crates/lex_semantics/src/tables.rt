@@ -22,14 +22,14 @@ pub fn same_rules_scan()
     ensures { (S T : Spec) → IsSound S → IsSound T → SameRules S T → SameScan (rules_of S) (rules_of T) }
 {}
 
-/// Specifications with the same rules have the same live words, accept the same rules after each text, have REJECT in both or
-/// in neither, and have the same useless rules and back words.
+/// Specifications with the same rules have the same live words, accept the same rules after each text, have REJECT in
+/// both or in neither, and have the same useless rules and back words.
 pub fn same_rules_answers()
     ensures { (S T : Spec) → SameRules S T → SameAnswers S T }
 {}
 
-/// The useless rules are those that a table for the specification accepts after no text; the back words are the texts of two
-/// bytes or more after which it goes on and accepts nothing.
+/// The useless rules are those that a table for the specification accepts after no text; the back words are the texts
+/// of two bytes or more after which it goes on and accepts nothing.
 pub fn table_reports()
     ensures useless { (M : Machine) (S : Spec) → TableFor M S → TellsUseless M S }
     ensures back_words { (M : Machine) (S : Spec) → TableFor M S → TellsBackWords M S }

@@ -11,8 +11,8 @@ pub fn word_readings()
     ensures { (t : Tree) (base : ℕ) (w : List ℕ) → In t w ↔ ReadsWord (Reads t base) w }
 {}
 
-/// A specification never has no count of subsets. (Which words leave which positions is found by building an automaton; so
-/// here no count is told.)
+/// A specification never has no count of subsets. (Which words leave which positions is found by building an automaton;
+/// so here no count is told.)
 pub fn never_no_count()
     ensures { (S : Spec) → ((n : ℕ) → Subsets S n → ⊥) → ⊥ }
 {}

@@ -41,7 +41,8 @@ impl Dfa {
     ghost use Rattle.lex_semantics.specs.Limits.{max_states};
     ghost use Rattle.lex_semantics.specs.Text.{Ascending};
     ghost use Rattle.lexauto_dfa.specs.Parts.{IsReached, LeadsOn};
-    ghost use Rattle.lexauto_dfa.specs.Automata.{lists_of, conditions_of, states_of, start_of, next_of, accepts_of, goes_on_of};
+    ghost use Rattle.lexauto_dfa.specs.Automata.{lists_of, conditions_of, states_of};
+    ghost use Rattle.lexauto_dfa.specs.Automata.{start_of, next_of, accepts_of, goes_on_of};
 
     /// The lists of which it is made.
     pub fn parts(&self) -> &Parts

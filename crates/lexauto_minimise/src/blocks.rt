@@ -1,6 +1,8 @@
 //! Blocks of states.
-ghost use Rattle.std.specs.Prelude.{◌≡◌, ◌≢◌, ◌⊎◌, ◌^◌, ℕ, ◌+◌, ◌*◌, ◌<◌, ◌≤◌, true, false, length, slice_index, IfOk, OnOk};
-ghost use Rattle.lexauto_minimise.specs.Arranged.{ArePieces, Arranged, IsCut, IsDivided, IsTouched, IsMarked, block_of, place_of, size, states, count};
+ghost use Rattle.std.specs.Prelude.{◌≡◌, ◌≢◌, ◌⊎◌, ◌^◌, ℕ, ◌+◌, ◌*◌, ◌<◌, ◌≤◌};
+ghost use Rattle.std.specs.Prelude.{true, false, length, slice_index, IfOk, OnOk};
+ghost use Rattle.lexauto_minimise.specs.Arranged.{ArePieces, Arranged, IsCut, IsDivided, IsTouched};
+ghost use Rattle.lexauto_minimise.specs.Arranged.{IsMarked, block_of, place_of, size, states, count};
 
 use std::alloc::{AllocError, Global};
 

@@ -7,7 +7,8 @@ pub fn one_automaton()
     ensures { OneAutomaton }
 {}
 
-/// Worked examples: the least automaton of the rule `a`, one with states too many, and one with its states numbered anew.
+/// Worked examples: the least automaton of the rule `a`, one with states too many, and one with its states numbered
+/// anew.
 pub fn examples_of_least()
     ensures least { LeastOfA }
     ensures many { NotLeast }

@@ -94,9 +94,9 @@ fn parts_of(alloc: Global, parts: &Parts, classes: ClassTable) -> Result<Parts, 
     })
 }
 
-/// The least automaton that accepts as another does after every word from every start. Its states are numbered from 1 in
-/// the order of their first call: by the starts, condition by condition, elsewhere and then at the start of a line; and
-/// then by the states in order of number, byte by byte. A specification's machine stays one, and its table too.
+/// The least automaton that accepts as another does after every word from every start. Its states are numbered from 1
+/// in the order of their first call: by the starts, condition by condition, elsewhere and then at the start of a line;
+/// and then by the states in order of number, byte by byte. A specification's machine stays one, and its table too.
 pub fn minimise(alloc: Global, dfa: &Dfa) -> Result<Dfa, OutOfMemory>
     ensures conditions { IfOk result (λ e. conditions_of e ≡ conditions_of dfa.now) }
     ensures accepts { IfOk result (λ e. AcceptsAs (lists_of dfa.now) (lists_of e)) }

@@ -1,5 +1,6 @@
 //! Numbering classes of states.
-ghost use Rattle.std.specs.Prelude.{◌≡◌, ◌^◌, ℕ, ◌+◌, ◌*◌, ◌/◌, ◌%◌, ◌++◌, ◌∷◌, ◌<◌, ◌≤◌, List, [], length, slice_index, IfOk, OnOk};
+ghost use Rattle.std.specs.Prelude.{◌≡◌, ◌^◌, ℕ, ◌+◌, ◌*◌, ◌/◌, ◌%◌, ◌++◌, ◌∷◌};
+ghost use Rattle.std.specs.Prelude.{◌<◌, ◌≤◌, List, [], length, slice_index, IfOk, OnOk};
 ghost use Rattle.lexauto_minimise.specs.Sources.{IsRow};
 ghost use Rattle.lexauto_minimise.specs.Numbers.{AreCalled, AreNumbers, AreRows, AreStarts, Grown, IsNumberOf, Keeps};
 
@@ -105,8 +106,8 @@ fn number_row(
     Ok(())
 }
 
-/// The rows of the numbers, each with the numbers of where its class goes by each byte. Classes that are called here get
-/// numbers, and rows.
+/// The rows of the numbers, each with the numbers of where its class goes by each byte. Classes that are called here
+/// get numbers, and rows.
 pub(crate) fn number_rows(
     alloc: Global,
     numbers: &mut Numbers,

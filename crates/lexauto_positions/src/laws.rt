@@ -55,8 +55,8 @@ pub fn one_step()
         → (enters t S q base i ≡ true) ↔ Enters (quad t base) (i ≡ true) (λ p. S p ≡ true) q }
 {}
 
-/// The tests of a step through rules say how the positions of a specification move, which of them read a byte, and which
-/// are the last of a rule.
+/// The tests of a step through rules say how the positions of a specification move, which of them read a byte, and
+/// which are the last of a rule.
 pub fn one_step_of_rules()
     ensures enters { (S : ℕ → Bool) (on : ℕ → Bool) (rules : List Rule) (q i base : ℕ)
         → (rules_enter rules on S q i base ≡ true)

@@ -1,5 +1,6 @@
 //! Patterns laid out for walks: each part with how many positions it has.
-ghost use Rattle.std.specs.Prelude.{◌≡◌, true, ◌||◌, ◌+◌, ◌*◌, ◌<◌, ◌≤◌, ◌^◌, List, [], ◌∷◌, ◌++◌, map, IfOk, OnOk, IfSome, IfNone};
+ghost use Rattle.std.specs.Prelude.{◌≡◌, true, ◌||◌, ◌+◌, ◌*◌, ◌<◌, ◌≤◌, ◌^◌};
+ghost use Rattle.std.specs.Prelude.{List, [], ◌∷◌, ◌++◌, map, IfOk, OnOk, IfSome, IfNone};
 ghost use Rattle.lex_semantics.specs.Positions.{positions, positions_of, copies};
 ghost use Rattle.lex_semantics.specs.Shapes.{IsSoundTree, AreSoundTrees};
 ghost use Rattle.lex_semantics.specs.Tree.{Tree, trees, Empty, Cat, Alt, Star, Repeat};

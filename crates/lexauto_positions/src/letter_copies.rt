@@ -1,5 +1,6 @@
 //! Copies of one letter: a walk over them goes from position to position, and looks at no part.
-ghost use Rattle.std.specs.Prelude.{◌≡◌, ℕ, ◌+◌, ◌<◌, ◌≤◌, ◌^◌, ◌||◌, ◌&&◌, ◌==◌, Bool, true, false, IfSome, IfOk, OnOk};
+ghost use Rattle.std.specs.Prelude.{◌≡◌, ℕ, ◌+◌, ◌<◌, ◌≤◌, ◌^◌, ◌||◌, ◌&&◌};
+ghost use Rattle.std.specs.Prelude.{◌==◌, Bool, true, false, IfSome, IfOk, OnOk};
 ghost use Rattle.lex_semantics.specs.Active.{lists};
 ghost use Rattle.lex_semantics.specs.Positions.{positions};
 ghost use Rattle.lexauto_positions.specs.Cursors.{Increases, IsCursor, IsFront};

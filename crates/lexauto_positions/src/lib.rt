@@ -1,5 +1,5 @@
-//! Position automata of lex (Glushkov's): the positions of the rules of a specification, which of them come first, come last
-//! and follow one another, and one step of the automaton without a table of what follows what.
+//! Position automata of lex (Glushkov's): the positions of the rules of a specification, which of them come first, come
+//! last and follow one another, and one step of the automaton without a table of what follows what.
 #![tactic(auto)]
 
 mod counting;

@@ -1,5 +1,6 @@
 //! One step of the position automaton of all rules.
-ghost use Rattle.std.specs.Prelude.{◌≡◌, ℕ, ◌+◌, ◌<◌, ◌^◌, ◌++◌, ◌∷◌, [], ◌||◌, false, cond, length, map, slice_index, IfOk};
+ghost use Rattle.std.specs.Prelude.{◌≡◌, ℕ, ◌+◌, ◌<◌, ◌^◌, ◌++◌, ◌∷◌, [], ◌||◌};
+ghost use Rattle.std.specs.Prelude.{false, cond, length, map, slice_index, IfOk};
 ghost use Rattle.lex_semantics.specs.Active.{lists};
 ghost use Rattle.lex_semantics.specs.Sound.{HasSoundSides, HaveSoundSides};
 ghost use Rattle.lex_semantics.specs.Subsets.{positions_of_rule, all_positions};
@@ -73,8 +74,8 @@ pub fn lay_rules(alloc: Global, rules: &[Rule]) -> Result<Vec<LaidRule>, AllocEr
     Ok(laid)
 }
 
-/// Adds the positions of a rule that come next, where it is not entered, and these are the last ones. Tells whether it is
-/// left at its end.
+/// Adds the positions of a rule that come next, where it is not entered, and these are the last ones. Tells whether it
+/// is left at its end.
 fn pass_rule(
     rule: &LaidRule,
     last: &[u32],

@@ -1,9 +1,11 @@
 //! One step of the position automaton of a pattern, with no table of what follows what.
-ghost use Rattle.std.specs.Prelude.{◌≡◌, ℕ, ◌+◌, ◌-◌, ◌*◌, ◌<◌, ◌≤◌, ◌^◌, ◌||◌, ◌&&◌, ◌⊎◌, ◌==◌, true, false, length, map, slice_index, IfOk};
+ghost use Rattle.std.specs.Prelude.{◌≡◌, ℕ, ◌+◌, ◌-◌, ◌*◌, ◌<◌, ◌≤◌, ◌^◌, ◌||◌, ◌&&◌, ◌⊎◌};
+ghost use Rattle.std.specs.Prelude.{◌==◌, true, false, length, map, slice_index, IfOk};
 ghost use Rattle.lex_semantics.specs.Active.{lists};
 ghost use Rattle.lex_semantics.specs.Positions.{positions, positions_of, copies};
 ghost use Rattle.lexauto_positions.specs.Cursors.{IsCursor, IsFront};
-ghost use Rattle.lexauto_positions.specs.Flow.{is_zero, is_none, passes, comes, exits, exits_each, exits_some, enters, enters_each, enters_some};
+ghost use Rattle.lexauto_positions.specs.Flow.{is_zero, is_none, passes, comes, exits, exits_each};
+ghost use Rattle.lexauto_positions.specs.Flow.{exits_some, enters, enters_each, enters_some};
 ghost use Rattle.lexauto_positions.specs.Plans.{plan_of, plans, tree_in, trees_in, IsSized, AreSized};
 
 use crate::layout::Part;

@@ -1,6 +1,7 @@
 -- The lines of the reports. (This project's; flex tells the same by its warnings and by -b.)
-use Rattle.std.specs.Prelude.{ℕ, ◌+◌, ◌/◌, ◌%◌, ◌==◌, Bool, true, false, ◌||◌, ◌&&◌, nat_le, if◌then◌else◌, List, [], ◌∷◌, ◌++◌, length, codes, decimal}
+use Rattle.std.specs.Prelude.{ℕ, ◌==◌, Bool, true, false, ◌||◌, ◌&&◌, nat_le, if◌then◌else◌, List, [], ◌∷◌, ◌++◌, length, codes, decimal}
 use Rattle.std.specs.List.{concat, flat_map}
+use Rattle.lex_io.specs.Octal.{octal}
 use Rattle.lexauto_reports.specs.declared.backup.BackUp.{BackUp}
 use Rattle.lexauto_reports.specs.declared.warned.Warning.{Warning}
 
@@ -13,10 +14,6 @@ warning_line w = concat (codes "lex: line " ∷ decimal w.line ∷ codes ": warn
 
 abbrev pub warning_lines : List Warning → List ℕ
 warning_lines warnings = flat_map warning_line warnings
-
--- three octal digits after a backslash
-abbrev pub octal : ℕ → List ℕ
-octal b = 92 ∷ (48 + b / 64) ∷ (48 + b / 8 % 8) ∷ (48 + b % 8) ∷ []
 
 -- A byte of a word: a quote and a backslash stand after a backslash, and what cannot be printed stands in octal.
 abbrev pub shown : ℕ → List ℕ

@@ -13,9 +13,9 @@ use crate::search::{Found, first_words};
 use lexauto_dfa::{Dfa, OutOfMemory};
 use std::alloc::{AllocError, Global};
 
-/// The states that back up, ascending: they go on and accept nothing, and a word of two bytes or more leads to them from a
-/// start. Each has the shortest such word, and of these the first in byte order. In an automaton for a specification these are
-/// the states after its back words.
+/// The states that back up, ascending: they go on and accept nothing, and a word of two bytes or more leads to them
+/// from a start. Each has the shortest such word, and of these the first in byte order. In an automaton for a
+/// specification these are the states after its back words.
 pub fn backing_up(alloc: Global, dfa: &Dfa) -> Result<Vec<BackUp>, OutOfMemory>
     ensures ascending { IfOk result (λ v. Ascending (states_in v.items)) }
     ensures states { IfOk result (λ v. (s : ℕ) → Among (states_in v.items) s ↔ BacksUp (lists_of dfa.now) s) }

@@ -5,20 +5,21 @@ ghost use Rattle.lexauto_reports.specs.ReportLines.{backup_line, backup_lines, s
 
 use crate::writing::put_all;
 use itoa::Buffer;
-use lex_io::{Sink, WriteFault};
+use lex_io::{Sink, WriteFault, octal};
 
 /// A state that backs up, and a word that leads to it.
 #[derive(Drop, Debug)]
 pub struct BackUp {
     /// The state's number.
     pub state: u32,
-    /// Its first word: of the words of two bytes or more that lead there the shortest, and of these the first in byte order.
+    /// Its first word: of the words of two bytes or more that lead there the shortest, and of these the first in byte
+    /// order.
     pub word: Vec<u8>,
 }
 
-/// Writes a line for each entry, as `state 3 after "ab"`, and then a line with their count. In a word a quote and a backslash
-/// stand after a backslash, and a byte that cannot be printed stands as a backslash and three octal digits. It takes no
-/// memory.
+/// Writes a line for each entry, as `state 3 after "ab"`, and then a line with their count. In a word a quote and a
+/// backslash stand after a backslash, and a byte that cannot be printed stands as a backslash and three octal digits.
+/// It takes no memory.
 pub fn write_backup<K: Sink>(entries: &[BackUp], sink: &mut K) -> Result<(), WriteFault>
     requires { K.failures sink.old < 2 ^ 64 - 1 }
     ensures bytes { Appended (λ xs. K.wrote sink.old xs sink.new) (backup_lines entries.now) result }
@@ -74,10 +75,5 @@ fn write_byte<K: Sink>(byte: u8, sink: &mut K) -> Result<(), WriteFault>
     if byte >= b' ' && byte <= b'~' {
         return sink.put(&[byte]);
     }
-    sink.put(&[
-        b'\\',
-        b'0' + byte / 64,
-        b'0' + byte / 8 % 8,
-        b'0' + byte % 8,
-    ])
+    sink.put(&octal(byte))
 }

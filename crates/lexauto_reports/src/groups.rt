@@ -1,5 +1,5 @@
-//! Words with the states that they are the first to lead to. The words stand in one text, where a word may be the front of
-//! the next one.
+//! Words with the states that they are the first to lead to. The words stand in one text, where a word may be the front
+//! of the next one.
 ghost use Rattle.std.specs.Prelude.{length};
 ghost use Rattle.lexauto_reports.specs.Stretches.{AreWithin, AreWithin-prop};
 

@@ -11,8 +11,8 @@ use lexauto_dfa::OutOfMemory;
 use lexspec::{Rule, Spec};
 use std::alloc::{AllocError, Global};
 
-/// The warnings, in order of line: one for each line where code was skipped, and one for the line of each of these rules. Of
-/// one line skipped code comes first.
+/// The warnings, in order of line: one for each line where code was skipped, and one for the line of each of these
+/// rules. Of one line skipped code comes first.
 pub fn warnings(alloc: Global, spec: &Spec, useless: &[u32]) -> Result<Vec<Warning>, OutOfMemory>
     requires known { (i : ℕ) → Among useless.now i → i < length (rules_in (spec_of spec.now)) }
     ensures all { IfOk result (λ v. IsPermutation (warned_of spec.now useless.now) v.items) }

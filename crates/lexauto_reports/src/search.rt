@@ -1,11 +1,13 @@
-//! The first word that leads to each state, with how many bytes were read: words in order of length and then of bytes, and
-//! the states of equal words together.
-ghost use Rattle.std.specs.Prelude.{◌≡◌, ◌⊎◌, ◌↔◌, ℕ, ◌+◌, ◌*◌, ◌<◌, ◌≤◌, [], ◌∷◌, ◌++◌, None, Some, length, IfOk, OnOk};
+//! The first word that leads to each state, with how many bytes were read: words in order of length and then of bytes,
+//! and the states of equal words together.
+ghost use Rattle.std.specs.Prelude.{◌≡◌, ◌⊎◌, ◌↔◌, ℕ, ◌+◌, ◌*◌, ◌<◌, ◌≤◌};
+ghost use Rattle.std.specs.Prelude.{[], ◌∷◌, ◌++◌, None, Some, length, IfOk, OnOk};
 ghost use Rattle.lex_semantics.specs.Text.{Among};
 ghost use Rattle.lexauto_dfa.specs.Alike.{AreLeads, moves};
 ghost use Rattle.lexauto_dfa.specs.Automata.{lists_of, states_of};
 ghost use Rattle.lexauto_reports.specs.Counting.{step, IsStart};
-ghost use Rattle.lexauto_reports.specs.Searching.{place_of, words_of, states_of_groups, unfound, IsAt, IsUpTo, AreFound};
+ghost use Rattle.lexauto_reports.specs.Searching.{place_of, words_of, states_of_groups};
+ghost use Rattle.lexauto_reports.specs.Searching.{unfound, IsAt, IsUpTo, AreFound};
 
 use crate::groups::Groups;
 use lexauto_dfa::{Dfa, first_bytes};
@@ -106,8 +108,8 @@ fn expand(
     Ok(())
 }
 
-/// Adds the group of the word that is a group's word with this byte more, if it is the first word of some states. Where each
-/// state goes as by an earlier byte, `lead`, it is not.
+/// Adds the group of the word that is a group's word with this byte more, if it is the first word of some states. Where
+/// each state goes as by an earlier byte, `lead`, it is not.
 fn visit(
     alloc: Global,
     dfa: &Dfa,

@@ -11,9 +11,9 @@ use lexauto_dfa::{Dfa, OutOfMemory};
 use lexspec::Spec;
 use std::alloc::{AllocError, Global};
 
-/// The rules that are never carried out, ascending, by number in the order of the file: no word matches them, or, where no
-/// rule has REJECT, each word that does matches an earlier rule. The automaton is one for the specification, as built or
-/// minimised.
+/// The rules that are never carried out, ascending, by number in the order of the file: no word matches them, or, where
+/// no rule has REJECT, each word that does matches an earlier rule. The automaton is one for the specification, as
+/// built or minimised.
 pub fn useless_rules(alloc: Global, spec: &Spec, dfa: &Dfa) -> Result<Vec<u32>, OutOfMemory>
     requires conditions { conditions_of dfa.now ≡ length (conditions_in (spec_of spec.now)) }
     requires table { TableFor (machine_of dfa.now (spec_of spec.now)) (spec_of spec.now) }

@@ -52,8 +52,8 @@ impl Groups {
     }
 }
 
-/// Puts a word of a text with one byte more at its end, unless the word stands there and the byte alone is to be put. Answers
-/// where it begins.
+/// Puts a word of a text with one byte more at its end, unless the word stands there and the byte alone is to be put.
+/// Answers where it begins.
 fn lengthen(
     alloc: Global,
     text: &mut Vec<u8>,

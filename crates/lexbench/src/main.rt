@@ -1,5 +1,6 @@
-//! Reads a specification from standard input, makes its automaton, the least one, its reports, its tables and their file,
-//! reads the file, and tells how large they are; with the word `times`, how long each step took too. This is what bench/ runs.
+//! Reads a specification from standard input, makes its automaton, the least one, its reports, its tables and their
+//! file, reads the file, and tells how large they are; with the word `times`, how long each step took too. This is what
+//! bench/ runs.
 #![tactic(auto)]
 
 ghost use Rattle.std.specs.Prelude.{IfOk};

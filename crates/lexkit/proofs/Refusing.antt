@@ -8,14 +8,15 @@ use Rattle.lexauto.specs.declared.error.BuildError.TheVariants as builds
 use Rattle.lexauto_dfa.specs.declared.dfa.Dfa.{Dfa}
 use Rattle.lexspec.specs.Files.{SpellsSpec}
 use Rattle.lexspec.specs.Skipped.{AreSkipped}
-use Rattle.lexkit.specs.Headline.{BuildRefusal, IsWithin, ScansBy, reading}
+use Rattle.lexkit.specs.Headline.{BuildRefusal, Headline, IsWithin, ScansBy, reading}
 use Rattle.lexkit.specs.Generated.{SpecRefusal, IsLeastOf, MakesBy, Makes, MakesTablesBy, MakesTables}
 use Rattle.lexkit.specs.declared.making.Generated.{Generated}
 use Rattle.lexkit.specs.declared.making.Made.{Made}
 use Rattle.lexkit.specs.declared.options.Options.{Options}
 use Rattle.lexkit.specs.declared.errors.GenError.{GenError}
 use Rattle.lexkit.specs.declared.errors.GenError.TheVariants as gens
-use Rattle.lexkit.specs.declared.errors.ScanError.TheVariants.{Generate}
+use Rattle.lexkit.specs.declared.errors.ScanError.{ScanError}
+use Rattle.lexkit.specs.declared.errors.ScanError.TheVariants.{Generate, Run, Table}
 
 pub by_reason : (limits : Limits) (S : Spec) (e : BuildError) → (e ≡ builds.TooManyPositions → limits.positions < all_positions S.rules) → (e ≡ builds.TooManyStates → (n : ℕ) → Subsets S n → limits.states < n) → BuildRefusal limits S e
 by_reason limits S builds.TooManyPositions positions states = positions refl
@@ -46,3 +47,13 @@ tables_of_text options text S skipped spells lines (Ok m) made = (S, spells, ski
 tables_of_text options text S skipped spells lines (Err (gens.Build e)) refused = (S, spells, refused)
 tables_of_text options text S skipped spells lines (Err gens.OutOfMemory) refused = tt
 tables_of_text options text S skipped spells lines (Err (gens.Spec e)) refused = absurd refused
+
+-- a scan by the specification that a text spells is one by the text
+pub headline_of : {A B : Type 0} (gave : A → List ℕ → A → Type 0) (wrote : B → List ℕ → B → Type 0) (options : Options) (text : List ℕ) (S : Spec) → SpellsSpec (reading options) text S
+    → (at_end : Bool) (s s' : A) (t t' : B) (r : Result ℕ ScanError) → ScansBy gave wrote options.limits S at_end s s' t t' r → Headline gave wrote options text at_end s s' t t' r
+headline_of gave wrote options text S spells at_end s s' t t' (Ok status) h = (S, spells, h.0, h.1)
+headline_of gave wrote options text S spells at_end s s' t t' (Err (Run e)) h = (S, spells, h.0, h.1)
+headline_of gave wrote options text S spells at_end s s' t t' (Err (Generate (gens.Build e))) h = ((S, spells, h.0), h.1, h.2)
+headline_of gave wrote options text S spells at_end s s' t t' (Err (Generate gens.OutOfMemory)) h = (tt, h.0, h.1)
+headline_of gave wrote options text S spells at_end s s' t t' (Err (Generate (gens.Spec e))) h = absurd h
+headline_of gave wrote options text S spells at_end s s' t t' (Err (Table e)) h = absurd h

@@ -12,8 +12,8 @@ use lexscan_tokens::table_tokens;
 use lextab::one_table;
 use lextab_packing::{one_packing, packing_of_same_moves};
 
-/// Specifications with the same rules, however their patterns are written, have the same canonical file, and each has at
-/// most one.
+/// Specifications with the same rules, however their patterns are written, have the same canonical file, and each has
+/// at most one.
 pub fn one_file()
     ensures { (S T : Spec) (f g : List ℕ) → SameRules S T → IsCanonical S f → IsCanonical T g → f ≡ g }
 {
@@ -30,8 +30,8 @@ pub fn file_scans()
     one_table();
 }
 
-/// The tokens by the tables that are made of a text are those of the specification that the text spells, and the lines of its rules
-/// are told.
+/// The tokens by the tables that are made of a text are those of the specification that the text spells, and the lines
+/// of its rules are told.
 pub fn text_tokens()
     ensures { TextTokens }
 {

@@ -32,7 +32,7 @@ pub use lextab::{
     ByteWriter, Cut, EndAction, Flat, Machine, MemorySink, Plain, Sink, Statement, TableError,
     Tables, ToBytes, ToWrite, WriteFault, read_tables, write_tables,
 };
-pub use making::{Generated, Made, generate, generate_tables, lines_of};
+pub use making::{Generated, Made, generate, generate_tables, lines_of, read_text};
 pub use options::Options;
 pub use scan::{scan_by, scan_made, scan_spec, scan_table};
 pub use stats::{Stats, write_stats};

@@ -5,7 +5,8 @@ ghost use Rattle.lexspec.specs.RuleViews.{rule_of};
 ghost use Rattle.lexspec.specs.Skipped.{AreSkipped};
 ghost use Rattle.lexspec.specs.Views.{spec_of, skipped_in};
 ghost use Rattle.lexkit.specs.Headline.{Refusal, reading};
-ghost use Rattle.lexkit.specs.Generated.{lines_of, AreMadeOf, IsLeastOf, IsMadeOf, SpecRefusal, MakesBy, MakesTablesBy, Makes, MakesTables};
+ghost use Rattle.lexkit.specs.Generated.{lines_of, AreMadeOf, IsLeastOf, IsMadeOf, SpecRefusal};
+ghost use Rattle.lexkit.specs.Generated.{MakesBy, MakesTablesBy, Makes, MakesTables};
 ghost use Rattle.lex_semantics.specs.Limits.{max_positions, max_states};
 
 use crate::errors::GenError;
@@ -51,45 +52,45 @@ pub(crate) struct Least {
     pub(crate) subsets: u32,
 }
 
-/// Makes tables, warnings, statistics and the report of states that back up of the specification that a text spells. The
-/// file of the tables is the canonical one of the specification's rules. A text that spells none, or one whose automaton passes
-/// the limits, is refused.
+/// Makes tables, warnings, statistics and the report of states that back up of the specification that a text spells.
+/// The file of the tables is the canonical one of the specification's rules. A text that spells none, or one whose
+/// automaton passes the limits, is refused.
 pub fn generate(alloc: Global, text: &[u8], options: Options) -> Result<Generated, GenError>
     requires few_positions { options.limits.positions ≤ max_positions }
     requires few_states { options.limits.states ≤ max_states }
     ensures { Makes options text.now result }
 {
-    let spec = match read(alloc, text, options) {
-        Err(error) => return Err(GenError::Spec(error)),
-        Ok(spec) => spec,
-    };
+    let spec = read_text(alloc, text, options)?;
     generate_by(alloc, &spec, options.limits)
 }
 
-/// Makes of a text what `generate` does, but for the states that back up: they are not looked for. It refuses the same texts.
+/// Makes of a text what `generate` does, but for the states that back up: they are not looked for. It refuses the same
+/// texts.
 pub fn generate_tables(alloc: Global, text: &[u8], options: Options) -> Result<Made, GenError>
     requires few_positions { options.limits.positions ≤ max_positions }
     requires few_states { options.limits.states ≤ max_states }
     ensures { MakesTables options text.now result }
 {
-    let spec = match read(alloc, text, options) {
-        Err(error) => return Err(GenError::Spec(error)),
-        Ok(spec) => spec,
-    };
+    let spec = read_text(alloc, text, options)?;
     tables_by(alloc, &spec, options.limits)
 }
 
-/// Reads a specification.
-fn read(alloc: Global, text: &[u8], options: Options) -> Result<Spec, SpecError>
-    ensures found { IfOk result (λ s. SpellsSpec (reading options) text.now (spec_of s)) }
+/// Reads the specification that a text spells. A text that spells none is refused with a line and what is wrong with
+/// it.
+pub fn read_text(alloc: Global, text: &[u8], options: Options) -> Result<Spec, GenError>
+    ensures spells { IfOk result (λ s. SpellsSpec (reading options) text.now (spec_of s)) }
     ensures skipped { IfOk result (λ s. AreSkipped text.now (skipped_in s)) }
-    ensures none { IfErr result (λ e. Refusal options text.now (GenError.Spec e)) }
+    ensures refused { IfErr result (Refusal options text.now) }
+    ensures of_text { IfErr result (λ e. (fault : SpecError) × (e ≡ GenError.Spec fault)) }
 {
     let read = ReadOptions {
         fold: options.fold,
         posix: options.posix,
     };
-    read_spec(alloc, text, read)
+    match read_spec(alloc, text, read) {
+        Err(error) => Err(GenError::Spec(error)),
+        Ok(spec) => Ok(spec),
+    }
 }
 
 fn generate_by(alloc: Global, spec: &Spec, limits: Limits) -> Result<Generated, GenError>

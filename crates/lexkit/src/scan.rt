@@ -3,17 +3,23 @@ ghost use Rattle.std.specs.Prelude.{◌≡◌, ℕ, ◌+◌, ◌-◌, ◌^◌, �
 ghost use Rattle.lexspec.specs.Views.{spec_of};
 ghost use Rattle.lexscan_window.specs.declared.error.RunError.TheVariants.{Failed};
 ghost use Rattle.lexkit.specs.Headline.{Headline, ScansBy, TableHeadline};
-ghost use Rattle.lexkit.specs.Generated.{HasTables};
+ghost use Rattle.lexkit.specs.Generated.{HasTables, IsLeastOf};
 ghost use Rattle.lexkit.specs.declared.options.Options.{Options as Asked};
 ghost use Rattle.lexkit.specs.ScanCounts.{HandedOn, read_fault_count, write_fault_count};
 ghost use Rattle.lex_semantics.specs.Limits.{max_positions, max_states};
+ghost use Rattle.lex_semantics.specs.Sound.{IsSound};
+ghost use Rattle.lex_semantics.specs.Spec.{Spec as Meant};
+ghost use Rattle.lexauto.specs.declared.subsets.Limits.{Limits as Given};
+ghost use Rattle.lexauto_dfa.specs.Automata.{machine_of};
+ghost use Rattle.lexauto_dfa.specs.declared.dfa.Dfa.{Dfa};
+ghost use Rattle.lextab_packed.specs.Machines.{machine_of as table_machine};
 
 use crate::errors::{GenError, ScanError};
-use crate::making::least_automaton;
+use crate::making::{least_automaton, read_text};
 use crate::options::Options;
 use lexauto::Limits;
 use lexscan::{Source, run};
-use lexspec::{ReadOptions, Spec, read_spec};
+use lexspec::Spec;
 use lextab::{Flat, Sink, TableError, Tables, pack, read_tables};
 use std::alloc::Global;
 
@@ -45,19 +51,15 @@ pub fn scan_spec<S: Source, K: Sink>(
     ensures not_failed { IsErrOf result (ScanError.Run Failed) → ⊥ }
     ensures handed_on { HandedOn (K.flushed sink.new) result }
 {
-    let read = ReadOptions {
-        fold: options.fold,
-        posix: options.posix,
-    };
-    let spec = match read_spec(alloc, text, read) {
-        Err(error) => return Err(ScanError::Generate(GenError::Spec(error))),
+    let spec = match read_text(alloc, text, options) {
+        Err(error) => return Err(ScanError::Generate(error)),
         Ok(spec) => spec,
     };
     scan_by(alloc, &spec, options.limits, source, sink)
 }
 
-/// Scans the source by a specification, as `scan_spec` does by its text: makes its tables, and runs the scanner over them. One
-/// whose automaton passes the limits is refused, and then neither the source nor the sink is touched.
+/// Scans the source by a specification, as `scan_spec` does by its text: makes its tables, and runs the scanner over
+/// them. One whose automaton passes the limits is refused, and then neither the source nor the sink is touched.
 pub fn scan_by<S: Source, K: Sink>(
     alloc: Global,
     spec: &Spec,
@@ -87,6 +89,30 @@ pub fn scan_by<S: Source, K: Sink>(
         Err(_) => return Err(ScanError::Generate(GenError::OutOfMemory)),
         Ok(tables) => tables,
     };
+    scan_tables(alloc, tables, source, sink)
+}
+
+/// Scans the source by the tables of a specification: lays them flat, and runs the scanner over them.
+fn scan_tables<S: Source, K: Sink>(
+    alloc: Global,
+    tables: Tables,
+    source: &mut S,
+    sink: &mut K,
+) -> Result<u8, ScanError>
+    requires few_ends { S.ends source.old < 2 ^ 64 - 1 }
+    requires few_read_faults { S.failures source.old < 2 ^ 64 - 1 }
+    requires few_write_faults { K.failures sink.old < 2 ^ 64 - 1 }
+    ensures told { (limits : Given) (spec : Meant) (subsets : ℕ) (automaton : Dfa) → IsSound spec
+        → IsLeastOf limits spec subsets automaton → table_machine tables ≡ machine_of automaton spec
+        → ScansBy S.gave K.wrote limits spec
+        (nat_lt (S.ends source.old) (S.ends source.new)) source.old source.new sink.old sink.new result }
+    ensures read_faults { S.failures source.new ≡ S.failures source.old + read_fault_count result }
+    ensures write_faults { K.failures sink.new ≡ K.failures sink.old + write_fault_count result }
+    ensures ends_stay { S.ends source.old ≤ S.ends source.new }
+    ensures one_end { S.ends source.new ≤ S.ends source.old + 1 }
+    ensures not_failed { IsErrOf result (ScanError.Run Failed) → ⊥ }
+    ensures handed_on { HandedOn (K.flushed sink.new) result }
+{
     let machine = match Flat::new(alloc, tables) {
         Err(_) => return Err(ScanError::Generate(GenError::OutOfMemory)),
         Ok(machine) => machine,
@@ -97,8 +123,8 @@ pub fn scan_by<S: Source, K: Sink>(
     }
 }
 
-/// Scans the source by the tables that were made of a text, and writes to the sink, as `scan_spec` does by the text: they are
-/// not made once more. Out of memory in laying them flat comes before the source or the sink is touched.
+/// Scans the source by the tables that were made of a text, and writes to the sink, as `scan_spec` does by the text:
+/// they are not made once more. Out of memory in laying them flat comes before the source or the sink is touched.
 pub fn scan_made<S: Source, K: Sink>(
     alloc: Global,
     tables: Tables,
@@ -108,7 +134,8 @@ pub fn scan_made<S: Source, K: Sink>(
     requires few_ends { S.ends source.old < 2 ^ 64 - 1 }
     requires few_read_faults { S.failures source.old < 2 ^ 64 - 1 }
     requires few_write_faults { K.failures sink.old < 2 ^ 64 - 1 }
-    ensures told { (options : Asked) (text : List ℕ) → HasTables options text tables → Headline S.gave K.wrote options text
+    ensures told { (options : Asked) (text : List ℕ) → HasTables options text tables
+        → Headline S.gave K.wrote options text
         (nat_lt (S.ends source.old) (S.ends source.new)) source.old source.new sink.old sink.new result }
     ensures read_faults { S.failures source.new ≡ S.failures source.old + read_fault_count result }
     ensures write_faults { K.failures sink.new ≡ K.failures sink.old + write_fault_count result }
@@ -117,19 +144,12 @@ pub fn scan_made<S: Source, K: Sink>(
     ensures not_failed { IsErrOf result (ScanError.Run Failed) → ⊥ }
     ensures handed_on { HandedOn (K.flushed sink.new) result }
 {
-    let laid = match Flat::new(alloc, tables) {
-        Err(_) => return Err(ScanError::Generate(GenError::OutOfMemory)),
-        Ok(laid) => laid,
-    };
-    match run(alloc, &laid, source, sink, MAX_READS) {
-        Err(fault) => Err(ScanError::Run(fault)),
-        Ok(ended) => Ok(ended),
-    }
+    scan_tables(alloc, tables, source, sink)
 }
 
-/// Scans the source by a table file, and writes to the sink. It answers the status that the table's rules end with, 0 to 63,
-/// and takes no byte of the source that no rule asks for. Bytes that are no table file are refused, and then neither the
-/// source nor the sink is touched.
+/// Scans the source by a table file, and writes to the sink. It answers the status that the table's rules end with, 0
+/// to 63, and takes no byte of the source that no rule asks for. Bytes that are no table file are refused, and then
+/// neither the source nor the sink is touched.
 pub fn scan_table<S: Source, K: Sink>(
     alloc: Global,
     bytes: &[u8],

@@ -2,7 +2,8 @@
 ghost use Rattle.std.specs.Prelude.{◌≡◌, map};
 ghost use Rattle.std.specs.List.{list_any};
 ghost use Rattle.lex_machine.specs.Views.{statement_of, cut_of};
-ghost use Rattle.lexlook_lines.specs.Lines.{is_unsteady, is_begin, is_home, strays, is_steady, ends_line, may_keep_last};
+ghost use Rattle.lexlook_lines.specs.Lines.{is_unsteady, is_begin, is_home, strays};
+ghost use Rattle.lexlook_lines.specs.Lines.{is_steady, ends_line, may_keep_last};
 
 use lex_machine::{Cut, Statement, has_reject};
 

@@ -26,7 +26,8 @@ pub enum Obstacle {
     Unsteady { rule: u32 },
     /// In this condition a match of the rule may go on after a newline.
     Crosses { condition: u8, rule: u32 },
-    /// The rule may take a newline in this condition, and not leave the scan in INITIAL, or it keeps the text by yymore.
+    /// The rule may take a newline in this condition, and not leave the scan in INITIAL, or it keeps the text by
+    /// yymore.
     Strays { condition: u8, rule: u32 },
     /// The default rule may take a newline in this condition, which is not INITIAL.
     Copies { condition: u8 },
@@ -102,8 +103,8 @@ fn obstacle_in<M: Machine>(
     Ok(None)
 }
 
-/// What stands against a cut of an input after any of its newlines; nothing where the pieces may be scanned apart, by one machine
-/// or by several at a time, and what they write put together. It takes five bytes of memory for each state.
+/// What stands against a cut of an input after any of its newlines; nothing where the pieces may be scanned apart, by
+/// one machine or by several at a time, and what they write put together. It takes five bytes of memory for each state.
 pub fn find_obstacle<M: Machine>(
     alloc: Global,
     machine: &M,

@@ -9,8 +9,8 @@ use crate::cutting::{Obstacle, Sizes, find_obstacle};
 use lextab_packed::Tables;
 use std::alloc::{AllocError, Global};
 
-/// What stands against a cut of an input after any of its newlines, where it is scanned by these tables; nothing where the pieces
-/// may be scanned apart, and what is written put together.
+/// What stands against a cut of an input after any of its newlines, where it is scanned by these tables; nothing where
+/// the pieces may be scanned apart, and what is written put together.
 pub fn find_obstacle_in(alloc: Global, tables: &Tables) -> Result<Option<Obstacle>, AllocError>
     ensures none { IfOk result (λ found. found ≡ None → ScansApart (rules_of_machine (machine_of tables.now))) }
     ensures some { IfOk result (λ found. IfSome found (Hinders (machine_of tables.now))) }

@@ -1,6 +1,7 @@
 -- How a set of bytes is written as a class of a pattern. (POSIX, lex, Regular Expressions in lex; flex, Patterns.)
-use Rattle.std.specs.Prelude.{ℕ, ◌+◌, ◌-◌, ◌/◌, ◌%◌, ◌==◌, Bool, true, false, not, ◌||◌, ◌&&◌, nat_lt, nat_le, if◌then◌else◌, List, [], ◌∷◌, ◌++◌, codes}
+use Rattle.std.specs.Prelude.{ℕ, ◌+◌, ◌-◌, ◌==◌, Bool, true, false, not, ◌||◌, ◌&&◌, nat_lt, nat_le, if◌then◌else◌, List, [], ◌∷◌, ◌++◌, codes}
 use Rattle.std.specs.List.{range_with_len, flat_map, count_by}
+use Rattle.lex_io.specs.Octal.{octal}
 
 -- the bytes, ascending
 unfoldable pub all_bytes : List ℕ
@@ -9,10 +10,6 @@ all_bytes = range_with_len 0 256
 -- signs that stand behind a backslash: `"` (34), `-` (45), `[`, `\`, `]` and `^` (91 to 94)
 abbrev pub is_sign : ℕ → Bool
 is_sign b = (b == 34) || ((b == 45) || (nat_le 91 b && nat_le b 94))
-
--- three octal digits behind a backslash
-abbrev pub octal : ℕ → List ℕ
-octal b = 92 ∷ (48 + b / 64) ∷ (48 + b / 8 % 8) ∷ (48 + b % 8) ∷ []
 
 -- how a byte is spelled in a class
 abbrev pub spelled : ℕ → List ℕ

@@ -5,6 +5,7 @@ ghost use Rattle.lexlook_pictures.specs.Pictures.{quoted};
 ghost use Rattle.lexlook_pictures.specs.Sets.{set_of};
 
 use crate::adding::{add, add_quoted};
+use lex_io::octal;
 use std::alloc::AllocError;
 
 /// The bytes by which a state leads to a target, or the other bytes.
@@ -36,15 +37,7 @@ fn add_spelled(text: &mut Vec<u8>, byte: u8) -> Result<(), AllocError>
         b'\n' => add_quoted(text, b"\\n"),
         b'"' | b'-' | b'['..=b'^' => add_quoted(text, &[b'\\', byte]),
         b' '..=b'~' => add_quoted(text, &[byte]),
-        _ => add_quoted(
-            text,
-            &[
-                b'\\',
-                b'0' + byte / 64,
-                b'0' + byte / 8 % 8,
-                b'0' + byte % 8,
-            ],
-        ),
+        _ => add_quoted(text, &octal(byte)),
     }
 }
 

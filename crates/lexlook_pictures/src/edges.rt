@@ -21,7 +21,8 @@ fn add_edge(text: &mut Vec<u8>, state: u32, row: &[u32], target: u32) -> Result<
     add(text, b"\"];\n")
 }
 
-/// Appends the edge that stands at a byte. `drawn` tells for each target the last state from which an edge there was looked at.
+/// Appends the edge that stands at a byte. `drawn` tells for each target the last state from which an edge there was
+/// looked at.
 fn add_edge_at(
     text: &mut Vec<u8>,
     drawn: &mut [u32],

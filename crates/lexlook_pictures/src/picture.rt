@@ -1,5 +1,6 @@
 //! The picture of an automaton.
-ghost use Rattle.std.specs.Prelude.{◌≡◌, ℕ, ◌+◌, ◌-◌, ◌^◌, ◌<◌, ◌++◌, length, map, slice_index, slice_index_or, [], OnOk};
+ghost use Rattle.std.specs.Prelude.{◌≡◌, ℕ, ◌+◌, ◌-◌, ◌^◌, ◌<◌, ◌++◌, length};
+ghost use Rattle.std.specs.Prelude.{map, slice_index, slice_index_or, [], OnOk};
 ghost use Rattle.lex_io.specs.Sink.{Appended};
 ghost use Rattle.lex_semantics.specs.Text.{Among};
 ghost use Rattle.lexauto_dfa.specs.Automata.{accepts_of, conditions_of, next_of, states_of};
@@ -113,8 +114,8 @@ fn write_states<K: Sink>(
     Ok(())
 }
 
-/// Writes the picture of an automaton in DOT. `names` has the name of each condition, and `lines` the line of each rule in the
-/// file. The dead state and the edges to it are left out. After a fault a prefix of the picture was written.
+/// Writes the picture of an automaton in DOT. `names` has the name of each condition, and `lines` the line of each rule
+/// in the file. The dead state and the edges to it are left out. After a fault a prefix of the picture was written.
 pub fn write_picture<K: Sink>(
     alloc: Global,
     dfa: &Dfa,

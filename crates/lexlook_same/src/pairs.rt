@@ -99,8 +99,8 @@ fn next_pair<A: Machine, B: Machine>(
     }
 }
 
-/// Finds the pairs to which each byte leads from the pair at this place. Answers the first byte after which the machines
-/// do not do the same, where there is one.
+/// Finds the pairs to which each byte leads from the pair at this place. Answers the first byte after which the
+/// machines do not do the same, where there is one.
 pub(crate) fn widen<A: Machine, B: Machine>(
     order: &[u8],
     left: &A,

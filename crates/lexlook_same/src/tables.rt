@@ -53,9 +53,9 @@ pub fn counts_all(left: &Tables, right: &Tables) -> bool
     left.rejects() || right.rejects()
 }
 
-/// Says whether two tables do the same of each match, from each condition on, and at the end of the input. A condition of
-/// the left one has the number in the right one that stands at its place in `order`, or else its own. Where they do not,
-/// it shows a condition, and the first text, as `tell_apart` does.
+/// Says whether two tables do the same of each match, from each condition on, and at the end of the input. A condition
+/// of the left one has the number in the right one that stands at its place in `order`, or else its own. Where they do
+/// not, it shows a condition, and the first text, as `tell_apart` does.
 pub fn compare(
     alloc: Global,
     order: &[u8],

@@ -40,9 +40,9 @@ fn long_rule(rules: &[Rule]) -> Option<u32>
     None
 }
 
-/// The specification that writes for each match a line in the words of flex's `-d`, and does of the actions what writes nothing.
-/// `TooManyRules`, at line 0, of one with 4,096 rules, since the default rule needs one; `TooLong` at the line of a rule whose action
-/// has no room for what is written.
+/// The specification that writes for each match a line in the words of flex's `-d`, and does of the actions what writes
+/// nothing. `TooManyRules`, at line 0, of one with 4,096 rules, since the default rule needs one; `TooLong` at the line
+/// of a rule whose action has no room for what is written.
 pub fn traced(alloc: Global, spec: Spec) -> Result<Spec, SpecError>
     ensures told { IfOk result (λ t. spec_of t ≡ traced (spec_of spec)) }
     ensures room { IfOk result (λ t. has_room (spec_of spec) ≡ true) }

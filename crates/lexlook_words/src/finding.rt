@@ -81,10 +81,11 @@ fn word_of(
     Ok(Word::Never(takers(alloc, dfa, rejects, &found.places, rule)?))
 }
 
-/// What is shown of each rule of a specification, by an automaton that accepts all rules that fit, and the flags of the rules
-/// that have REJECT: the first text that the rule takes, or the rules that take its texts. A text is taken by the first rule
-/// that fits it and by those to which REJECT goes on. Shorter texts come first, then the first in byte order, then those of the
-/// first condition, and then those not at the start of a line. Of the default rule it is the first byte that it copies.
+/// What is shown of each rule of a specification, by an automaton that accepts all rules that fit, and the flags of the
+/// rules that have REJECT: the first text that the rule takes, or the rules that take its texts. A text is taken by the
+/// first rule that fits it and by those to which REJECT goes on. Shorter texts come first, then the first in byte
+/// order, then those of the first condition, and then those not at the start of a line. Of the default rule it is the
+/// first byte that it copies.
 pub fn find_words(alloc: Global, dfa: &Dfa, rejects: &[bool]) -> Result<Words, AllocError>
     requires conditions { conditions_of dfa.now ≤ 255 }
     requires rules { (s i : ℕ) → s < states_of dfa.now → Among (accepts_of dfa.now s) i → i < length rejects.now }

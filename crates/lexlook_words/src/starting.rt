@@ -62,8 +62,8 @@ fn meets_after(dfa: &Dfa, rejects: &[bool], text: &[u8], wish: Wish, start: Star
     meets(rejects, dfa.accepts(state), wish)
 }
 
-/// The first start from which a text does what is wished: of the first condition, and there not at the start of a line rather
-/// than at it.
+/// The first start from which a text does what is wished: of the first condition, and there not at the start of a line
+/// rather than at it.
 pub(crate) fn first_start(
     dfa: &Dfa,
     rejects: &[bool],

@@ -1,5 +1,6 @@
 //! What stands between braces. (POSIX, lex, Definitions in lex; flex, Patterns.)
-ghost use Rattle.std.specs.Prelude.{◌≡◌, List, ℕ, Option, Some, None, MatchResult, IfOk, IfSome, ◌≤◌, length, option_map};
+ghost use Rattle.std.specs.Prelude.{◌≡◌, List, ℕ, Option, Some, None, MatchResult};
+ghost use Rattle.std.specs.Prelude.{IfOk, IfSome, ◌≤◌, length, option_map};
 ghost use Rattle.lex_semantics.specs.ByteSets.{is_digit};
 ghost use Rattle.lexre.specs.Soundness.{IsSoundSymbol};
 ghost use Rattle.lexre.specs.SymbolViews.{Front, symbol_of};
@@ -64,7 +65,8 @@ fn counts(least: u32, most: u32) -> Option<(u8, Option<u8>)>
     Some((least, Some(most)))
 }
 
-/// What stands after an opening brace, and what follows the closing one. `braces` is the text from the opening brace on.
+/// What stands after an opening brace, and what follows the closing one. `braces` is the text from the opening brace
+/// on.
 #[tactic(auto, unfolding(lexre_bytes::specs::Lexical::braces_at))]
 pub(crate) fn braces_at<'a>(
     braces: &'a [u8],

@@ -11,8 +11,8 @@ use crate::pattern::{Parts, Pattern};
 /// A count above this is as good as this.
 const CAP: u64 = 1 << 32;
 
-/// How many positions the pattern has: one for each set, in each copy that a repetition counts. None exactly where there
-/// are more than 4,294,967,295.
+/// How many positions the pattern has: one for each set, in each copy that a repetition counts. None exactly where
+/// there are more than 4,294,967,295.
 pub fn positions(pattern: &Pattern) -> Option<u32>
     ensures found { IfSome result (λ n. n ≡ positions (tree_of pattern.now)) }
     ensures none { IfNone result (2 ^ 32 ≤ positions (tree_of pattern.now)) }

@@ -1,5 +1,6 @@
 //! Where the pattern of a rule ends. (POSIX, lex, Rules in lex; flex, Patterns: `r/s`, `r$`.)
-ghost use Rattle.std.specs.Prelude.{◌≡◌, ◌+◌, ◌^◌, ◌<◌, ◌≤◌, ℕ, Bool, ◌∷◌, List, length, Option, Some, None, IfOk, IfErr, IfSome, OnErr, MatchOption, MatchResult};
+ghost use Rattle.std.specs.Prelude.{◌≡◌, ◌+◌, ◌^◌, ◌<◌, ◌≤◌, ℕ, Bool, ◌∷◌, List, length, Option, Some, None};
+ghost use Rattle.std.specs.Prelude.{IfOk, IfErr, IfSome, OnErr, MatchOption, MatchResult};
 ghost use Rattle.lexre.specs.Cutting.{piece_at, slash, IsCutting, IsCuttingFault, IsEnd, Piece};
 ghost use Rattle.lexre_bytes.specs.declared.error.PatternErrorKind.TheVariants.{MisplacedSlash};
 ghost use Rattle.lexre.specs.CuttingSoFar.{ending, piece_of, Ending};
@@ -45,8 +46,8 @@ struct CuttingSoFar {
 /// Where the pattern of a rule that begins the text ends: at the first blank or newline outside quotes, classes and
 /// escapes, or at the end of the text. Offsets are from 0. What is wrong inside a class is passed over.
 ///
-/// The first fault from the left is reported: `UnclosedQuote` and `UnclosedClass` at the opening sign, `BadEscape` at the
-/// backslash, and `MisplacedSlash` at a `/` inside parentheses. A `)` with none open counts for nothing.
+/// The first fault from the left is reported: `UnclosedQuote` and `UnclosedClass` at the opening sign, `BadEscape` at
+/// the backslash, and `MisplacedSlash` at a `/` inside parentheses. A `)` with none open counts for nothing.
 pub fn cut_pattern(text: &[u8]) -> Result<Cutting, PatternError>
     ensures found { IfOk result (λ c. IsCutting text.now c.end c.slash c.two c.dollar) }
     ensures inside { IfOk result (λ c. c.end ≤ length text.now) }

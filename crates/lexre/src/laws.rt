@@ -4,7 +4,8 @@ ghost use Rattle.lex_semantics.specs.Positions.{Cell, Reads, positions};
 ghost use Rattle.lex_semantics.specs.Tree.{Tree};
 ghost use Rattle.lexre.specs.Cutting.{IsCutting};
 ghost use Rattle.lexre.specs.Definitions.{Definitions};
-ghost use Rattle.lexre.specs.PatternExamples.{Items, Folded, Joined, Operators, OverItems, OverSeries, Named, Bounds, Refused};
+ghost use Rattle.lexre.specs.PatternExamples.{Items, Folded, Joined, Operators, OverItems};
+ghost use Rattle.lexre.specs.PatternExamples.{OverSeries, Named, Bounds, Refused};
 ghost use Rattle.lexre.specs.Readings.{UsesFrom};
 ghost use Rattle.lexre.specs.Spelling.{Spells};
 ghost use Rattle.lexre.specs.declared.options.ReadOptions.{ReadOptions};
@@ -27,8 +28,8 @@ pub fn one_cutting()
         → (end ≡ end') × (first ≡ first') × (two ≡ two') × (special ≡ special') }
 {}
 
-/// Worked examples of patterns: each kind of item, letters for both cases, series and choices, operators, intervals over items
-/// and over series, a name, the bounds, and texts that spell no tree.
+/// Worked examples of patterns: each kind of item, letters for both cases, series and choices, operators, intervals
+/// over items and over series, a name, the bounds, and texts that spell no tree.
 pub fn examples_of_patterns()
     ensures items { Items }
     ensures folded { Folded }

@@ -48,7 +48,8 @@ fn class_item<'a>(class: &'a [u8], fold: bool) -> Result<(Symbol<'a>, &'a [u8]),
     }
 }
 
-/// The item of an escape, and what follows it. `escape` is the text from the backslash on, and `text` what follows that.
+/// The item of an escape, and what follows it. `escape` is the text from the backslash on, and `text` what follows
+/// that.
 fn escape_item<'a>(
     escape: &'a [u8],
     text: &'a [u8],
@@ -68,9 +69,9 @@ fn escape_item<'a>(
     }
 }
 
-/// The symbol at the front of the text, and what follows it. A fault is reported at its place: `MisplacedSlash` at a `/`,
-/// `MissingOperand` at a blank, a newline and the end, and the faults of quotes, classes, escapes and braces at theirs.
-/// A text in quotes that has too many nodes by itself is `TooBig`.
+/// The symbol at the front of the text, and what follows it. A fault is reported at its place: `MisplacedSlash` at a
+/// `/`, `MissingOperand` at a blank, a newline and the end, and the faults of quotes, classes, escapes and braces at
+/// theirs. A text in quotes that has too many nodes by itself is `TooBig`.
 #[tactic(auto, unfolding(lexre_bytes::specs::Lexical::symbol_at, lexre_bytes::specs::Lexical::is_ordinary))]
 pub(crate) fn symbol_at<'a>(
     alloc: Global,

@@ -2,7 +2,8 @@
 ghost use Rattle.std.specs.Prelude.{◌≡◌, ℕ, Option, ◌^◌, min, map, option_map, IfSome, IfNone};
 ghost use Rattle.lex_semantics.specs.Shapes.{HasLengths, IsSoundTree};
 ghost use Rattle.lex_semantics.specs.Tree.{In, trees};
-ghost use Rattle.lexre.specs.Lengths.{least, least_of_each, least_of_some, greatest, greatest_of_each, greatest_of_some, capped, unbounded, repeated, PassesLimit};
+ghost use Rattle.lexre.specs.Lengths.{least, least_of_each, least_of_some, greatest, greatest_of_each};
+ghost use Rattle.lexre.specs.Lengths.{greatest_of_some, capped, unbounded, repeated, PassesLimit};
 ghost use Rattle.lexre.specs.Views.{tree_of};
 
 use crate::bounds::Lengths;

@@ -5,7 +5,7 @@
 pub struct ReadOptions {
     /// Whether letters stand for both cases. (flex, Scanner Options: case-insensitive.)
     pub fold: bool,
-    /// Whether an interval applies to the whole series to its left, and not to the last item alone. (POSIX, lex, Regular
-    /// Expressions in lex: an interval is looser than a series.)
+    /// Whether an interval applies to the whole series to its left, and not to the last item alone. (POSIX, lex,
+    /// Regular Expressions in lex: an interval is looser than a series.)
     pub posix: bool,
 }

@@ -16,8 +16,8 @@ use std::alloc::Global;
 /// The most bytes of a text in quotes: their series has as many nodes as a pattern may have.
 const MAX_QUOTED_BYTES: usize = 65_535;
 
-/// What follows a text in quotes. The text handed in begins with the first quote, at which a quote that no other closes is
-/// reported.
+/// What follows a text in quotes. The text handed in begins with the first quote, at which a quote that no other closes
+/// is reported.
 pub(crate) fn skip_quoted<'a>(text: &'a [u8]) -> Result<&'a [u8], FaultAt<'a>>
     ensures found { MatchResult result (λ rest. after_quotes (drop 1 text.now)
         ≡ Some rest.now) (λ _. after_quotes (drop 1 text.now) ≡ None) }
@@ -47,8 +47,8 @@ pub(crate) fn skip_quoted<'a>(text: &'a [u8]) -> Result<&'a [u8], FaultAt<'a>>
     })
 }
 
-/// The bytes after an opening quote, and what follows the closing one. `quote` is the text from the opening quote on, at
-/// which a quote that no other closes is reported.
+/// The bytes after an opening quote, and what follows the closing one. `quote` is the text from the opening quote on,
+/// at which a quote that no other closes is reported.
 pub(crate) fn quoted_at<'a>(
     alloc: Global,
     quote: &'a [u8],

@@ -43,8 +43,8 @@ fn begins_interval(text: &[u8]) -> bool
     }
 }
 
-/// What is reported of a fault in the text that stands at this place: an interval that is bad in itself is reported after what
-/// lacks to its left.
+/// What is reported of a fault in the text that stands at this place: an interval that is bad in itself is reported
+/// after what lacks to its left.
 fn reported(stack: &Stack, fault: FaultAt, text: &[u8], at: usize, posix: bool) -> PatternError
     ensures { fault.entry.kind ≡ OutOfMemory → result.kind ≡ OutOfMemory }
 {
@@ -84,8 +84,8 @@ struct Taken {
     spare: u8,
 }
 
-/// The pattern that a name stands for, where this many parentheses and names may be opened, of at most `room` nodes. Its tree
-/// is kept. A name whose text is being read stands for none.
+/// The pattern that a name stands for, where this many parentheses and names may be opened, of at most `room` nodes.
+/// Its tree is kept. A name whose text is being read stands for none.
 #[cycle(read)]
 fn read_name(
     alloc: Global,
@@ -259,8 +259,9 @@ fn read_within(
 /// Reads a pattern. The whole text has to be one: what a rule has besides, as `^`, `$` and `/`, is taken off before.
 /// Offsets are from 0. (POSIX, lex, Regular Expressions in lex; flex, Patterns.)
 ///
-/// The first fault from the left is reported, at the place of its sign; where an operand was expected, at the byte there, or
-/// the end. A fault inside a substitute is reported at the `{` of the text that was handed in, and want of memory at 0.
+/// The first fault from the left is reported, at the place of its sign; where an operand was expected, at the byte
+/// there, or the end. A fault inside a substitute is reported at the `{` of the text that was handed in, and want of
+/// memory at 0.
 pub fn read_pattern(
     alloc: Global,
     text: &[u8],
@@ -276,8 +277,8 @@ pub fn read_pattern(
     read_with_names(alloc, text, definitions, options, &mut names)
 }
 
-/// Reads a pattern as `read_pattern` does, by what is kept of names, and keeps those that it reads. So the patterns of one
-/// file, with one set of definitions and options, read each name once.
+/// Reads a pattern as `read_pattern` does, by what is kept of names, and keeps those that it reads. So the patterns of
+/// one file, with one set of definitions and options, read each name once.
 pub fn read_with_names(
     alloc: Global,
     text: &[u8],

@@ -1,10 +1,13 @@
 //! A pattern as far as it was read. (POSIX, lex, Regular Expressions in lex; flex, Patterns.)
-ghost use Rattle.std.specs.Prelude.{◌≡◌, ◌+◌, ◌≤◌, ◌<◌, ℕ, List, Option, [], Some, None, map, MatchResult, IfOk, IfErr, IfSome, IfNone, IsSome};
+ghost use Rattle.std.specs.Prelude.{◌≡◌, ◌+◌, ◌≤◌, ◌<◌, ℕ, List, Option, [], Some, None};
+ghost use Rattle.std.specs.Prelude.{map, MatchResult, IfOk, IfErr, IfSome, IfNone, IsSome};
 ghost use Rattle.lex_semantics.specs.Tree.{Repeat, Tree};
 ghost use Rattle.lexre.specs.Counting.{adds, closing_adds, extra, item_adds};
-ghost use Rattle.lexre.specs.Grammar.{choice_tree, how_many, on_item, one_more, operand, operand_signs, parts_before, series_count, series_tree};
+ghost use Rattle.lexre.specs.Grammar.{choice_tree, how_many, on_item, one_more, operand};
+ghost use Rattle.lexre.specs.Grammar.{operand_signs, parts_before, series_count, series_tree};
 ghost use Rattle.lexre.specs.Outcome.{UnlessMemory};
-ghost use Rattle.lexre.specs.Running.{State, closed, finished, fresh, gathered, onto_last, opened, parted, push, pushed, state, step_of};
+ghost use Rattle.lexre.specs.Running.{State, closed, finished, fresh, gathered, onto_last};
+ghost use Rattle.lexre.specs.Running.{opened, parted, push, pushed, state, step_of};
 ghost use Rattle.lexre.specs.StackViews.{StepsTo, frame_of, signs_of, state_of};
 ghost use Rattle.lexre.specs.SymbolViews.{sign_of, symbol_of};
 ghost use Rattle.lexre_bytes.specs.Symbols.{signed};
@@ -52,7 +55,8 @@ fn choice(alloc: Global, mut done: Vec<Pattern>, last: Pattern) -> Result<Patter
     Ok(Pattern::choice(alloc, done)?)
 }
 
-/// What an interval applies to: the last part, or under `posix` the whole series, whose parts before the last are taken.
+/// What an interval applies to: the last part, or under `posix` the whole series, whose parts before the last are
+/// taken.
 fn operand(
     alloc: Global,
     parts: &mut Vec<Pattern>,

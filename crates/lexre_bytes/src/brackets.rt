@@ -36,7 +36,8 @@ pub(crate) fn find_stop(text: &[u8]) -> &[u8]
     stop
 }
 
-/// The text from its first `]` or newline on, or its end. `known` is that of a text before, and is kept where it is not passed.
+/// The text from its first `]` or newline on, or its end. `known` is that of a text before, and is kept where it is not
+/// passed.
 pub(crate) fn next_stop<'a>(known: &'a [u8], text: &'a [u8]) -> &'a [u8]
     requires { length known.now ≤ length text.now → known.now ≡ stop_of text.now }
     ensures { result.now ≡ stop_of text.now }
@@ -48,8 +49,8 @@ pub(crate) fn next_stop<'a>(known: &'a [u8], text: &'a [u8]) -> &'a [u8]
     }
 }
 
-/// At least one byte that is no `]` and no newline, then this sign and `]`: what follows. `stop` is the text from its first
-/// `]` or newline on.
+/// At least one byte that is no `]` and no newline, then this sign and `]`: what follows. `stop` is the text from its
+/// first `]` or newline on.
 fn skip_enclosed<'a>(sign: u8, text: &'a [u8], stop: &[u8]) -> Option<&'a [u8]>
     requires { stop.now ≡ stop_of text.now }
     ensures { enclosed_at sign text.now ≡ option_map (λ x. x.now) result }
@@ -62,8 +63,8 @@ fn skip_enclosed<'a>(sign: u8, text: &'a [u8], stop: &[u8]) -> Option<&'a [u8]>
     }
 }
 
-/// What follows `[:^`, at least one letter and `:]`; or `[=`, at least one byte and `=]`; or the same with dots. `stop` is
-/// the text from its first `]` or newline on.
+/// What follows `[:^`, at least one letter and `:]`; or `[=`, at least one byte and `=]`; or the same with dots. `stop`
+/// is the text from its first `]` or newline on.
 pub(crate) fn skip_unsupported<'a>(text: &'a [u8], stop: &[u8]) -> Option<&'a [u8]>
     requires { stop.now ≡ stop_of text.now }
     ensures { unsupported_at text.now ≡ option_map (λ x. x.now) result }
@@ -78,8 +79,8 @@ pub(crate) fn skip_unsupported<'a>(text: &'a [u8], stop: &[u8]) -> Option<&'a [u
     }
 }
 
-/// A byte of a class, and what follows it: an escape, or any byte but a newline. `class` is the text from the class on, at
-/// which a class that is not closed is reported.
+/// A byte of a class, and what follows it: an escape, or any byte but a newline. `class` is the text from the class on,
+/// at which a class that is not closed is reported.
 pub(crate) fn class_byte_at<'a>(
     class: &'a [u8],
     text: &'a [u8],

@@ -1,5 +1,6 @@
 //! The elements of a class. (POSIX, Base Definitions, RE Bracket Expression.)
-ghost use Rattle.std.specs.Prelude.{◌≡◌, ◌≤◌, List, length, ℕ, Option, Some, None, MatchResult, IfErr, IfOk, IfSome, option_map};
+ghost use Rattle.std.specs.Prelude.{◌≡◌, ◌≤◌, List, length, ℕ, Option, Some, None};
+ghost use Rattle.std.specs.Prelude.{MatchResult, IfErr, IfOk, IfSome, option_map};
 ghost use Rattle.lexre_bytes.specs.Lexical.{Element, bracketed_at, element_at, is_range, range_at};
 ghost use Rattle.lexre_bytes.specs.Elements.{element_of};
 ghost use Rattle.lexre_bytes.specs.Faults.{IsByteFault, HasPartFault};
@@ -9,7 +10,8 @@ use crate::brackets::{class_byte_at, named_at, next_stop, skip_unsupported};
 use crate::class_item::ClassItem;
 use crate::error::{FaultAt, PatternErrorKind};
 
-/// `[:name:]`, or what is like it and not supported, and what follows it. `stop` is the text from its first `]` or newline on.
+/// `[:name:]`, or what is like it and not supported, and what follows it. `stop` is the text from its first `]` or
+/// newline on.
 #[tactic(auto, unfolding(crate::specs::Lexical::bracketed_at))]
 fn bracketed_at<'a>(text: &'a [u8], stop: &[u8]) -> Option<(ClassItem<'a>, &'a [u8])>
     requires { stop.now ≡ stop_of text.now }
@@ -39,8 +41,8 @@ fn is_range(text: &[u8]) -> bool
     }
 }
 
-/// After the first end of a range and its `-`: the range, and what follows it. `range` is the text from the range on, and
-/// `stop` that from its first `]` or newline on.
+/// After the first end of a range and its `-`: the range, and what follows it. `range` is the text from the range on,
+/// and `stop` that from its first `]` or newline on.
 #[tactic(auto, unfolding(crate::specs::Lexical::range_at))]
 fn range_at<'a>(
     class: &'a [u8],
@@ -78,8 +80,8 @@ fn range_at<'a>(
     }
 }
 
-/// An element of a class, and what follows it. `class` is the text from the class on, at which a class that is not closed is
-/// reported, and `stop` the text from its first `]` or newline on.
+/// An element of a class, and what follows it. `class` is the text from the class on, at which a class that is not
+/// closed is reported, and `stop` the text from its first `]` or newline on.
 #[tactic(auto, unfolding(crate::specs::Lexical::element_at))]
 pub(crate) fn element_at<'a>(
     class: &'a [u8],

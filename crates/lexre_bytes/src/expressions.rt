@@ -1,5 +1,6 @@
 //! The set of a class. (POSIX, Base Definitions, RE Bracket Expression.)
-ghost use Rattle.std.specs.Prelude.{◌≡◌, ◌≤◌, ℕ, Bool, List, Option, Some, None, true, suc, length, drop, MatchResult, IfOk, IfErr};
+ghost use Rattle.std.specs.Prelude.{◌≡◌, ◌≤◌, ℕ, Bool, List, Option, Some, None};
+ghost use Rattle.std.specs.Prelude.{true, suc, length, drop, MatchResult, IfOk, IfErr};
 ghost use Rattle.lex_semantics.specs.ByteSets.{ByteSet, complement, range_set, HasByte};
 ghost use Rattle.lexre_bytes.specs.ClassSets.{class_set_at, member_at, members_at};
 ghost use Rattle.lexre_bytes.specs.Faults.{IsClassFault};
@@ -22,8 +23,8 @@ fn span(low: u8, high: u8) -> ByteSet
     ByteSet::range(low, high)
 }
 
-/// The set of the element at the front of the text, and what follows it. `class` is the text from the class on, and `stop`
-/// the text from its first `]` or newline on.
+/// The set of the element at the front of the text, and what follows it. `class` is the text from the class on, and
+/// `stop` the text from its first `]` or newline on.
 #[tactic(auto, unfolding(crate::specs::Lexical::element_set), using(crate::proofs::FaultLaws::byte_fault_of_class, crate::proofs::FaultLaws::part_fault_of_class))]
 fn member_at<'a>(
     class: &'a [u8],

@@ -1,5 +1,6 @@
 //! Classes, passed over. (POSIX, lex, Regular Expressions in lex; flex, Patterns.)
-ghost use Rattle.std.specs.Prelude.{◌≡◌, ◌<◌, ◌≤◌, length, drop, codes, if◌then◌else◌, Some, None, IfOk, IfErr, MatchResult};
+ghost use Rattle.std.specs.Prelude.{◌≡◌, ◌<◌, ◌≤◌, length, drop, codes, if◌then◌else◌};
+ghost use Rattle.std.specs.Prelude.{Some, None, IfOk, IfErr, MatchResult};
 ghost use Rattle.lex_semantics.specs.Reading.{begins};
 ghost use Rattle.lexre_bytes.specs.Lexical.{class_at};
 ghost use Rattle.lexre_bytes.specs.Faults.{IsByteFault};
@@ -9,8 +10,8 @@ use crate::brackets::{find_stop, next_stop};
 use crate::elements::element_at;
 use crate::error::{FaultAt, PatternErrorKind};
 
-/// After the opening bracket of a class: what follows the closing one, whatever the elements are. `class` is the text from
-/// the class on, at which a class that is not closed is reported.
+/// After the opening bracket of a class: what follows the closing one, whatever the elements are. `class` is the text
+/// from the class on, at which a class that is not closed is reported.
 pub fn skip_class<'a>(class: &'a [u8], text: &'a [u8]) -> Result<&'a [u8], FaultAt<'a>>
     ensures rest { MatchResult result
         (λ rest. rest_of_class (class_at text.now) ≡ Some rest.now)

@@ -1,6 +1,7 @@
 //! Sets of bytes. (POSIX, lex, Regular Expressions in lex: bracket expressions in the POSIX locale.)
 ghost use Rattle.std.specs.Prelude.{◌≡◌, ℕ, ◌<◌, ◌≤◌, ◌↔◌, Bool, IsTrue};
-ghost use Rattle.lex_semantics.specs.ByteSets.{has, set_of, empty_set, single, range_set, union, complement, fold_case, named_set};
+ghost use Rattle.lex_semantics.specs.ByteSets.{has, set_of, empty_set, single, range_set};
+ghost use Rattle.lex_semantics.specs.ByteSets.{union, complement, fold_case, named_set};
 
 use crate::classes::{Class, other_case};
 use std::marker::Model;

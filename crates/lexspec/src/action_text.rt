@@ -1,5 +1,6 @@
 //! Where the action of a rule ends. (POSIX, lex, Rules in lex.)
-ghost use Rattle.std.specs.Prelude.{◌≡◌, ◌+◌, ◌<◌, ◌^◌, ◌&&◌, ◌==◌, if◌then◌else◌, ℕ, List, [], Option, Some, None, option_map, drop, codes};
+ghost use Rattle.std.specs.Prelude.{◌≡◌, ◌+◌, ◌<◌, ◌^◌, ◌&&◌, ◌==◌, if◌then◌else◌, ℕ};
+ghost use Rattle.std.specs.Prelude.{List, [], Option, Some, None, option_map, drop, codes};
 ghost use Rattle.lex_semantics.specs.Reading.{begins};
 ghost use Rattle.lexspec_lines.specs.Lines.{is_all_blank};
 ghost use Rattle.lexspec_actions.specs.Comments.{slash};

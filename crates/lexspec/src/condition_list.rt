@@ -1,5 +1,6 @@
 //! The conditions of a rule, by number. (POSIX, lex, Rules in lex; flex, Start Conditions.)
-ghost use Rattle.std.specs.Prelude.{◌≡◌, ◌≤◌, ◌<◌, ℕ, List, Bool, true, false, Option, Some, None, option_map, length, slice_index_or, IfOk, IfErr, IfSome, IfNone};
+ghost use Rattle.std.specs.Prelude.{◌≡◌, ◌≤◌, ◌<◌, ℕ, List, Bool, true, false, Option, Some, None};
+ghost use Rattle.std.specs.Prelude.{option_map, length, slice_index_or, IfOk, IfErr, IfSome, IfNone};
 ghost use Rattle.std.specs.List.{list_any};
 ghost use Rattle.lexspec_actions.specs.Names.{number_from, names_of};
 ghost use Rattle.lexspec.specs.RuleItems.{all_numbered, is_number, numbers_of};

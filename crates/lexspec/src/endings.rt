@@ -4,7 +4,8 @@ ghost use Rattle.std.specs.List.{list_any};
 ghost use Rattle.lexspec.specs.Endings.{numbers_kept, clashes};
 ghost use Rattle.lexspec_actions.specs.Views.{condition_of, end_action_of};
 ghost use Rattle.lexspec_lines.specs.Declaring.{declared_of};
-ghost use Rattle.lexspec.specs.Files.{lists_number, unlisted_end as unlisted_end_in, end_in, conditions_with, AreSingle};
+ghost use Rattle.lexspec.specs.Files.{lists_number, unlisted_end as unlisted_end_in};
+ghost use Rattle.lexspec.specs.Files.{end_in, conditions_with, AreSingle};
 ghost use Rattle.lexspec.specs.EndRules.{end_rule_of};
 ghost use Rattle.lexspec.specs.RuleItems.{EndRule as EndRuleMeant};
 ghost use Rattle.lexspec.specs.Tests.{sound_list};
@@ -48,7 +49,8 @@ fn clash(end: &EndRule, other: &EndRule) -> bool
     }
 }
 
-/// Whether a rule may join others: none of them has a condition of its list, or, if it has no list, each of them has one.
+/// Whether a rule may join others: none of them has a condition of its list, or, if it has no list, each of them has
+/// one.
 pub(crate) fn may_join(ends: &[EndRule], end: &EndRule) -> bool
     ensures found { result ≡ true → (count : ℕ) → AreSingle count (map end_rule_of ends.now)
         → AreSingle count (map end_rule_of ends.now ++ end_rule_of end.now ∷ []) }

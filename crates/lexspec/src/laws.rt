@@ -46,8 +46,8 @@ pub fn examples_of_rules()
     ensures actions { Actions }
 {}
 
-/// Worked examples of files: one with each kind of line, and where it has code; a short one with an option; and files that
-/// spell no specification.
+/// Worked examples of files: one with each kind of line, and where it has code; a short one with an option; and files
+/// that spell no specification.
 pub fn examples_of_specs()
     ensures whole { WholeFile }
     ensures skipped { WholeSkips }

@@ -91,7 +91,8 @@ fn read_on(alloc: Global, section: Section<'_>) -> Result<Spec, SpecError>
 }
 
 /// The specification that a file spells. `options` says how patterns are read without an option.
-/// The first faulty line is reported, for a rule that of its pattern; `TooLong` of the whole file is reported at line 0.
+/// The first faulty line is reported, for a rule that of its pattern; `TooLong` of the whole file is reported at line
+/// 0.
 pub fn read_spec(alloc: Global, text: &[u8], options: ReadOptions) -> Result<Spec, SpecError>
     ensures found { IfOk result (λ s. SpellsSpec options text.now (spec_of s)) }
     ensures skipped { IfOk result (λ s. AreSkipped text.now (skipped_in s)) }

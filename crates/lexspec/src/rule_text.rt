@@ -1,5 +1,6 @@
 //! The rules of a file, but for their actions. (POSIX, lex, Rules in lex; flex, Patterns, End-of-File Rules.)
-ghost use Rattle.std.specs.Prelude.{◌≡◌, ℕ, ◌≤◌, true, List, length, Option, Some, None, option_map, IfOk, IfErr, IfSome, OnErr, OnOk};
+ghost use Rattle.std.specs.Prelude.{◌≡◌, ℕ, ◌≤◌, true, List, length, Option, Some, None};
+ghost use Rattle.std.specs.Prelude.{option_map, IfOk, IfErr, IfSome, OnErr, OnOk};
 ghost use Rattle.lex_semantics.specs.Tree.{Tree};
 ghost use Rattle.lex_semantics.specs.Shapes.{IsSoundTree};
 ghost use Rattle.lexre.specs.Views.{tree_of};
@@ -142,9 +143,9 @@ fn read_sides(
     }
 }
 
-/// The rule that begins a text, at the line with this number. Its faults are reported in this order: `UnknownCondition`,
-/// `BadEofRule`, `Pattern` of the cutting, `TwoTrailing`, `Pattern` of the head and of the trailing context,
-/// `VariableTrailing`, `Unclosed`.
+/// The rule that begins a text, at the line with this number. Its faults are reported in this order:
+/// `UnknownCondition`, `BadEofRule`, `Pattern` of the cutting, `TwoTrailing`, `Pattern` of the head and of the trailing
+/// context, `VariableTrailing`, `Unclosed`.
 pub(crate) fn read_rule_text<'a>(
     alloc: Global,
     declarations: &Declarations,

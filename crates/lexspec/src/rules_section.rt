@@ -1,5 +1,6 @@
 //! The rules section, item by item. (POSIX, lex, Rules in lex; flex, Format of the Input File.)
-ghost use Rattle.std.specs.Prelude.{◌≡◌, ℕ, ◌+◌, ◌-◌, ◌<◌, ◌≤◌, ◌^◌, List, [], false, length, take, codes, IfOk, IfErr, OnOk};
+ghost use Rattle.std.specs.Prelude.{◌≡◌, ℕ, ◌+◌, ◌-◌, ◌<◌, ◌≤◌, ◌^◌, List, []};
+ghost use Rattle.std.specs.Prelude.{false, length, take, codes, IfOk, IfErr, OnOk};
 ghost use Rattle.lex_semantics.specs.Reading.{begins};
 ghost use Rattle.lexspec_lines.specs.Lines.{newlines};
 ghost use Rattle.lexspec.specs.ItemReads.{NoneLeft};
@@ -172,9 +173,9 @@ impl RulesSoFar {
     }
 }
 
-/// The rules section, which begins at the line with this number, up to a line that begins with `%%` or the end. The lines
-/// of skipped code are added to the others. The first faulty item is refused, and after the last `DanglingBar` where rules
-/// wait for an action.
+/// The rules section, which begins at the line with this number, up to a line that begins with `%%` or the end. The
+/// lines of skipped code are added to the others. The first faulty item is refused, and after the last `DanglingBar`
+/// where rules wait for an action.
 pub(crate) fn read_rules<'a>(
     alloc: Global,
     declarations: &Declarations,

@@ -1,7 +1,9 @@
 //! What stands before the action of a rule: its condition list and its pattern. (POSIX, lex, Rules in lex; flex,
 //! Patterns, Start Conditions, End-of-File Rules.)
-ghost use Rattle.std.specs.Prelude.{◌≡◌, ◌+◌, ◌<◌, ◌^◌, ℕ, List, false, Option, Some, None, option_map, take, drop, IfOk, IfErr, OnErr};
-ghost use Rattle.lexspec.specs.Items.{Conditions as AskedFor, Subject as SubjectMeant, Trailing as TrailMeant, conditions_at, sides, ends_subject, IsPattern, IsSubject};
+ghost use Rattle.std.specs.Prelude.{◌≡◌, ◌+◌, ◌<◌, ◌^◌, ℕ, List, false, Option, Some, None};
+ghost use Rattle.std.specs.Prelude.{option_map, take, drop, IfOk, IfErr, OnErr};
+ghost use Rattle.lexspec.specs.Items.{Conditions as AskedFor, Subject as SubjectMeant, Trailing as TrailMeant};
+ghost use Rattle.lexspec.specs.Items.{conditions_at, sides, ends_subject, IsPattern, IsSubject};
 ghost use Rattle.lexspec.specs.SubjectFaults.{IsSubjectFault};
 ghost use Rattle.lexspec.specs.SubjectViews.{conditions_of, trailing_of, subject_of};
 

@@ -1,8 +1,10 @@
 //! Bytes, names, numbers and strings of an action.
-ghost use Rattle.std.specs.Prelude.{◌≡◌, ◌≤◌, ◌<◌, ◌+◌, suc, length, min, option_map, ◌∷◌, MatchOption, IfSome, IfOk, IfErr};
+ghost use Rattle.std.specs.Prelude.{◌≡◌, ◌≤◌, ◌<◌, ◌+◌, suc, length, min, option_map};
+ghost use Rattle.std.specs.Prelude.{◌∷◌, MatchOption, IfSome, IfOk, IfErr};
 ghost use Rattle.lex_semantics.specs.Reading.{take_run, is_white, starts_name};
 ghost use Rattle.lex_semantics.specs.ByteSets.{is_digit};
-ghost use Rattle.lexspec_actions.specs.Bytes.{name_at, digits_at, skip, skip_in, next, as_byte, plain_escape, escape_at, string_byte_at, string_at, literal_at};
+ghost use Rattle.lexspec_actions.specs.Bytes.{name_at, digits_at, skip, skip_in, next, as_byte};
+ghost use Rattle.lexspec_actions.specs.Bytes.{plain_escape, escape_at, string_byte_at, string_at, literal_at};
 ghost use Rattle.lexspec_actions.specs.Comments.{outside, slash, block, line};
 ghost use Rattle.lexspec_actions.specs.Outcome.{Reads};
 ghost use Rattle.lexspec_actions.specs.ActionFaults.{IsActionFault};

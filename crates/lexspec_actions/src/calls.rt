@@ -1,6 +1,9 @@
 //! The statements of an action, one at a time.
 ghost use Rattle.std.specs.Prelude.{◌≡◌, ◌≤◌, ◌<◌, length, map, min, option_map, codes, IfSome, IfOk, IfErr};
-ghost use Rattle.lexspec_actions.specs.Actions.{this_word, no_argument, number_argument, second_word, capped, formatted_at, printf_at, yymore_at, yyless_at, yyterminate_at, exit_at, pop_at, closed_condition, fputs_at, puts_at, condition_at, begin_at, push_at, stack_word, after_word, after_statement, statement_at};
+ghost use Rattle.lexspec_actions.specs.Actions.{this_word, no_argument, number_argument, second_word, capped};
+ghost use Rattle.lexspec_actions.specs.Actions.{formatted_at, printf_at, yymore_at, yyless_at, yyterminate_at, exit_at};
+ghost use Rattle.lexspec_actions.specs.Actions.{pop_at, closed_condition, fputs_at, puts_at, condition_at, begin_at};
+ghost use Rattle.lexspec_actions.specs.Actions.{push_at, stack_word, after_word, after_statement, statement_at};
 ghost use Rattle.lexspec_actions.specs.Names.{number_from, names_of, known_in};
 ghost use Rattle.lexspec_actions.specs.Views.{said_of};
 ghost use Rattle.lexspec_actions.specs.Outcome.{Reads, UnlessMemory};

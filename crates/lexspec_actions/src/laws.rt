@@ -31,7 +31,8 @@ pub fn end_statuses()
         → SpellsEndAction (known_in names stack) text e → e.status ≤ max_status }
 {}
 
-/// Worked examples of actions: what each statement spells, several of them, texts that are no action, and an end action.
+/// Worked examples of actions: what each statement spells, several of them, texts that are no action, and an end
+/// action.
 pub fn examples_of_actions()
     ensures each { EachStatement }
     ensures several { SeveralStatements }

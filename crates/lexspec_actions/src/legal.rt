@@ -1,7 +1,9 @@
 //! What may stand in one action.
-ghost use Rattle.std.specs.Prelude.{◌≡◌, ℕ, Bool, ◌&&◌, nat_le, List, length, map, sum_by, true, false, OnOk, OnErr, IfErr};
+ghost use Rattle.std.specs.Prelude.{◌≡◌, ℕ, Bool, ◌&&◌, nat_le, List, length};
+ghost use Rattle.std.specs.Prelude.{map, sum_by, true, false, OnOk, OnErr, IfErr};
 ghost use Rattle.lex_semantics.specs.Spec.{has_reject};
-ghost use Rattle.lex_semantics.specs.Legal.{is_yyless, is_yymore, ends_action, count_less, has_less, has_more, ends_last};
+ghost use Rattle.lex_semantics.specs.Legal.{is_yyless, is_yymore, ends_action};
+ghost use Rattle.lex_semantics.specs.Legal.{count_less, has_less, has_more, ends_last};
 ghost use Rattle.lexspec_actions.specs.Statements.{literal_bytes};
 ghost use Rattle.lexspec_actions.specs.Actions.{are_few, may_stand};
 ghost use Rattle.lexspec_actions.specs.ActionFaults.{IsTogetherFault};

@@ -1,7 +1,9 @@
 //! What the definitions section declares. (POSIX, lex, Definitions in lex; flex, Start Conditions and Options.)
-ghost use Rattle.std.specs.Prelude.{◌≡◌, ◌≤◌, ◌<◌, ◌+◌, ◌^◌, ◌||◌, Bool, List, [], ◌∷◌, ◌++◌, map, length, codes, is_some, IfOk, IfErr, IfSome, OnOk};
+ghost use Rattle.std.specs.Prelude.{◌≡◌, ◌≤◌, ◌<◌, ◌+◌, ◌^◌, ◌||◌, Bool, List, [], ◌∷◌, ◌++◌};
+ghost use Rattle.std.specs.Prelude.{map, length, codes, is_some, IfOk, IfErr, IfSome, OnOk};
 ghost use Rattle.lexspec_lines.specs.Lines.{words};
-ghost use Rattle.lexspec_lines.specs.DefinitionLines.{Definition as Meant, has_name, known_options, are_known, Declared};
+ghost use Rattle.lexspec_lines.specs.DefinitionLines.{Definition as Meant, has_name};
+ghost use Rattle.lexspec_lines.specs.DefinitionLines.{known_options, are_known, Declared};
 ghost use Rattle.lexspec_lines.specs.DefinitionViews.{definition_of};
 ghost use Rattle.lexspec_lines.specs.Declaring.{declared_of, with_kind, AreGood, AreAllowed, Declares};
 ghost use Rattle.lexspec_lines.specs.SkippedCode.{code_of_definition};

@@ -1,8 +1,11 @@
 //! The lines of the definitions section. (POSIX, lex, Definitions in lex; flex, Format of the Input File.)
-ghost use Rattle.std.specs.Prelude.{◌≡◌, ◌<◌, ◌&&◌, ◌==◌, if◌then◌else◌, List, [], ◌∷◌, ℕ, Option, Some, None, length, option_map, IfOk, OnErr, codes};
+ghost use Rattle.std.specs.Prelude.{◌≡◌, ◌<◌, ◌&&◌, ◌==◌, if◌then◌else◌, List, [], ◌∷◌, ℕ};
+ghost use Rattle.std.specs.Prelude.{Option, Some, None, length, option_map, IfOk, OnErr, codes};
 ghost use Rattle.std.specs.List.{list_any};
 ghost use Rattle.lexspec_lines.specs.Lines.{words};
-ghost use Rattle.lexspec_lines.specs.DefinitionLines.{Definition as Meant, options, ignored, is_name, are_names, trimmed, ends_anchored, declaration, number, definition_in, percent_line, definition_at};
+ghost use Rattle.lexspec_lines.specs.DefinitionLines.{Definition as Meant, options, ignored, is_name};
+ghost use Rattle.lexspec_lines.specs.DefinitionLines.{are_names, trimmed, ends_anchored, declaration};
+ghost use Rattle.lexspec_lines.specs.DefinitionLines.{number, definition_in, percent_line, definition_at};
 ghost use Rattle.lexspec_lines.specs.DefinitionViews.{definition_of};
 ghost use Rattle.lex_semantics.specs.Reading.{is_empty, begins, after_run};
 ghost use Rattle.lex_semantics.specs.ByteSets.{is_digit, is_word};

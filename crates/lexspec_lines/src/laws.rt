@@ -1,5 +1,6 @@
 //! Worked examples.
-ghost use Rattle.lexspec_lines.specs.LineExamples.{ReturnsDropped, BlanksTrimmed, DollarAnchors, Declares, Defines, NoDefinitions, Block};
+ghost use Rattle.lexspec_lines.specs.LineExamples.{ReturnsDropped, BlanksTrimmed, DollarAnchors};
+ghost use Rattle.lexspec_lines.specs.LineExamples.{Declares, Defines, NoDefinitions, Block};
 
 /// Worked examples of lines.
 pub fn examples_of_lines()

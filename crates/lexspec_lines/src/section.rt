@@ -26,7 +26,8 @@ pub struct Section<'a> {
 }
 
 /// The definitions section, up to a line that begins with `%%`. `options` says how patterns are read
-/// without an option. The first faulty line is refused; without a `%%` it is the line after the last, as `NoRulesSection`.
+/// without an option. The first faulty line is refused; without a `%%` it is the line after the last, as
+/// `NoRulesSection`.
 pub fn read_section(
     alloc: Global,
     text: &[u8],

@@ -4,7 +4,8 @@ ghost use Rattle.lexspec_lines.specs.Skips.{next_in};
 
 use std::alloc::{AllocError, Global};
 
-/// The lines where code was skipped, for the warnings: each block at its first line, and each run of lines at its first.
+/// The lines where code was skipped, for the warnings: each block at its first line, and each run of lines at its
+/// first.
 #[derive(Drop)]
 pub struct Skipped {
     /// These lines, in the order in which they were added.

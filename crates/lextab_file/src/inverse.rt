@@ -4,8 +4,8 @@ ghost use Rattle.lextab_file.specs.Inverse.{AreChains};
 
 use std::alloc::{AllocError, Global};
 
-/// For each target the last entry with it, and for each entry the last one before it with the same target; each one more
-/// than the entry, and 0 where there is none.
+/// For each target the last entry with it, and for each entry the last one before it with the same target; each one
+/// more than the entry, and 0 where there is none.
 #[derive(Drop)]
 pub(crate) struct Chains {
     pub last: Vec<u32>,

@@ -12,7 +12,8 @@ pub fn one_table()
         → file_of t ++ x ≡ file_of u ++ y → (t ≡ u) × (x ≡ y) }
 {}
 
-/// Worked examples of table files: that of two rules, byte for byte, and that of a rule that uses the stack of conditions.
+/// Worked examples of table files: that of two rules, byte for byte, and that of a rule that uses the stack of
+/// conditions.
 pub fn examples_of_files()
     ensures keywords { KeywordFile }
     ensures stack { StackFile }

@@ -1,5 +1,5 @@
-//! The file of a table: each table has one, and each file is one table's. Reading finds which states are live: those from
-//! which some text that is not empty leads to a state that accepts.
+//! The file of a table: each table has one, and each file is one table's. Reading finds which states are live: those
+//! from which some text that is not empty leads to a state that accepts.
 #![tactic(auto)]
 
 mod error;

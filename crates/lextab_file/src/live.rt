@@ -68,8 +68,8 @@ fn accepting_states(alloc: Global, accepting: &[bool]) -> Result<Vec<u32>, Alloc
     Ok(states)
 }
 
-/// For each state whether it is live: some text that is not empty leads from it to a state that accepts. `next` has a row
-/// of 256 targets for each state. Takes time in proportion to the table.
+/// For each state whether it is live: some text that is not empty leads from it to a state that accepts. `next` has a
+/// row of 256 targets for each state. Takes time in proportion to the table.
 pub fn live_states(alloc: Global, next: &[u32], accepting: &[bool]) -> Result<Vec<bool>, AllocError>
     requires rows { length next.now ≡ 256 * length accepting.now }
     requires few { length accepting.now ≤ max_states }

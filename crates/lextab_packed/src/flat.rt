@@ -1,5 +1,6 @@
 //! Packed tables with a row of 256 targets for each state, so that a step is one look-up.
-ghost use Rattle.std.specs.Prelude.{◌≡◌, ℕ, ◌+◌, ◌*◌, ◌<◌, ◌≤◌, true, false, length, slice_index, slice_get, Some, IfOk};
+ghost use Rattle.std.specs.Prelude.{◌≡◌, ℕ, ◌+◌, ◌*◌, ◌<◌, ◌≤◌, true, false};
+ghost use Rattle.std.specs.Prelude.{length, slice_index, slice_get, Some, IfOk};
 ghost use Rattle.lex_machine.specs.Glances.{Leads, Gists};
 ghost use Rattle.lex_semantics.specs.Limits.{max_states};
 ghost use Rattle.lex_semantics.specs.Text.{flag};
@@ -22,9 +23,13 @@ pub struct Flat {
     rows: Vec<u32>,
     kinds: Vec<Kind>,
     ghost sizes: { length rows.items ≡ 256 * length tables.parts.rows.items },
-    ghost targets: { (s b : ℕ) → s < length tables.parts.rows.items → b < 256 → slice_index rows.items (256 * s + b) ≡ marked (flag tables.goes_on.items (step_of (table_of tables.parts) s b)) (kind_of (machine_of tables) (step_of (table_of tables.parts) s b)) (step_of (table_of tables.parts) s b) },
+    ghost targets: { (s b : ℕ) → s < length tables.parts.rows.items → b < 256
+        → slice_index rows.items (256 * s + b) ≡ marked
+        (flag tables.goes_on.items (step_of (table_of tables.parts) s b))
+        (kind_of (machine_of tables) (step_of (table_of tables.parts) s b)) (step_of (table_of tables.parts) s b) },
     ghost column: { length kinds.items ≡ length tables.parts.rows.items },
-    ghost told: { (s : ℕ) → s < length tables.parts.rows.items → slice_get kinds.items s ≡ Some (kind_of (machine_of tables) s) },
+    ghost told: { (s : ℕ) → s < length tables.parts.rows.items
+        → slice_get kinds.items s ≡ Some (kind_of (machine_of tables) s) },
 }
 
 impl Flat {

@@ -23,7 +23,8 @@ pub(crate) enum Kind {
     Print(u32),
     /// It sets this start condition.
     Begin(u8),
-    /// It is the rule of this number, and each of its statements writes the text or a literal, or sets the start condition.
+    /// It is the rule of this number, and each of its statements writes the text or a literal, or sets the start
+    /// condition.
     Several(u32),
 }
 

@@ -1,5 +1,6 @@
 //! Rows placed one over another, each at the first place that fits.
-ghost use Rattle.std.specs.Prelude.{◌≡◌, ◌≢◌, true, ℕ, ◌+◌, ◌*◌, ◌<◌, ◌≤◌, ◌^◌, length, vec_len, slice_index, OnOk, IfOk};
+ghost use Rattle.std.specs.Prelude.{◌≡◌, ◌≢◌, true, ℕ, ◌+◌, ◌*◌, ◌<◌, ◌≤◌, ◌^◌};
+ghost use Rattle.std.specs.Prelude.{length, vec_len, slice_index, OnOk, IfOk};
 ghost use Rattle.lextab_packing.specs.Packing.{IsBase, IsEntry};
 ghost use Rattle.lextab_packing.specs.Searching.{slot_bit, AreAllBytes, Hits, IsFirstFit, IsMarked, IsEarlier, by_head};
 ghost use Rattle.lex_semantics.specs.Limits.{max_states};
@@ -65,8 +66,8 @@ fn is_within(block: &[u32], heads: &[u8], other: u32, row: &[u32], default: u32)
     true
 }
 
-/// A place that a row's base is not before: the base of an earlier state, if that one's entries are all among the row's. It
-/// fitted nowhere before, so the row does not either.
+/// A place that a row's base is not before: the base of an earlier state, if that one's entries are all among the
+/// row's. It fitted nowhere before, so the row does not either.
 fn start_of(
     next: &[u32],
     heads: &[u8],
@@ -91,8 +92,8 @@ fn start_of(
     bases[earlier] as usize
 }
 
-/// The base of each state. Of the states whose entries have one hash the last is kept: the next one with the same entries
-/// fits nowhere before it.
+/// The base of each state. Of the states whose entries have one hash the last is kept: the next one with the same
+/// entries fits nowhere before it.
 pub(crate) fn bases_of(
     alloc: Global,
     next: &[u32],

@@ -1,5 +1,6 @@
 //! Rows of targets, class by class.
-ghost use Rattle.std.specs.Prelude.{◌≡◌, true, ℕ, ◌≢◌, ◌+◌, ◌*◌, ◌<◌, ◌≤◌, ◌^◌, ◌⊎◌, length, slice_index, map, OnOk, IfOk};
+ghost use Rattle.std.specs.Prelude.{◌≡◌, true, ℕ, ◌≢◌, ◌+◌, ◌*◌, ◌<◌, ◌≤◌, ◌^◌};
+ghost use Rattle.std.specs.Prelude.{◌⊎◌, length, slice_index, map, OnOk, IfOk};
 ghost use Rattle.lextab_packing.specs.Packing.{often, IsDefault};
 ghost use Rattle.lextab_packing.specs.Searching.{AreAllBytes, AreEntries, by_head};
 
@@ -82,8 +83,8 @@ fn is_mostly(row: &[u32], target: u32) -> bool
     row.len() / 2 < times_of(row, target) as usize
 }
 
-/// The default of a row. The counts are all 0 before and after. Mostly the target in the middle stands in more than half
-/// of the row, so that nothing else needs to be counted.
+/// The default of a row. The counts are all 0 before and after. Mostly the target in the middle stands in more than
+/// half of the row, so that nothing else needs to be counted.
 pub(crate) fn default_of(row: &[u32], counts: &mut [u32]) -> u32
     requires few { length row.now < 2 ^ 32 }
     requires some { 0 < length row.now }

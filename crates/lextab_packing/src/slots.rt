@@ -37,8 +37,8 @@ fn blocked(words: &[u64], entries: &[u32], at: usize) -> u64
     bad
 }
 
-/// The first place at which no entry falls on a taken slot. The first `full` words are all taken, and at each place before
-/// `from` some entry does.
+/// The first place at which no entry falls on a taken slot. The first `full` words are all taken, and at each place
+/// before `from` some entry does.
 pub(crate) fn first_fit(words: &[u64], entries: &[u32], full: usize, from: usize) -> usize
     requires few { length words.now < 2 ^ 30 }
     requires some { 0 < length entries.now }

@@ -26,7 +26,8 @@ enum Deed {
     Trace,
 }
 
-/// What is asked for of a.l, or of a.l and b.l: whether letters stand for both cases, and whether intervals apply to series.
+/// What is asked for of a.l, or of a.l and b.l: whether letters stand for both cases, and whether intervals apply to
+/// series.
 type Asked = (Deed, bool, bool);
 
 /// What is asked for, where it is asked for a.l, or for a.l and b.l.

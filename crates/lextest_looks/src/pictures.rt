@@ -26,8 +26,8 @@ fn drawn(
     (answer, sink.into_bytes())
 }
 
-/// A specification, whether letters stand for both cases, whether intervals apply to series, and the picture between its
-/// first three lines and its last.
+/// A specification, whether letters stand for both cases, whether intervals apply to series, and the picture between
+/// its first three lines and its last.
 type Row = (&'static str, bool, bool, &'static str);
 
 const HEAD: &str = "digraph lex {\n  rankdir=LR;\n  node [shape=circle];\n";

@@ -24,7 +24,8 @@ pub fn filtered<R: Read + Drop, W: Write + Drop>(
     Ok(sink.into_inner())
 }
 
-/// Scans what a reader gives by tables, and answers the writer, to which their rules have written. It makes at most 2^40 reads.
+/// Scans what a reader gives by tables, and answers the writer, to which their rules have written. It makes at most
+/// 2^40 reads.
 pub fn filtered_by<R: Read + Drop, W: Write + Drop>(
     alloc: Global,
     tables: &Tables,

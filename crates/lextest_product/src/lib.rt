@@ -1,5 +1,5 @@
-//! Tests over the whole product: worked scans, and the examples of `examples/` and of the user's manual, by specification
-//! and by table file; reports, and table files that are refused.
+//! Tests over the whole product: worked scans, and the examples of `examples/` and of the user's manual, by
+//! specification and by table file; reports, and table files that are refused.
 #![tactic(auto)]
 
 #[cfg(test)]

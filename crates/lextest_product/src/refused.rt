@@ -1,6 +1,6 @@
-//! What stays where memory is refused. No request is refused in these tests themselves: `scripts/refuse-memory.py` runs each of
-//! them with the first request refused, then the second, and so on. A run must then end well, or fail with the name of an
-//! error that says that memory ran out.
+//! What stays where memory is refused. No request is refused in these tests themselves: `scripts/refuse-memory.py` runs
+//! each of them with the first request refused, then the second, and so on. A run must then end well, or fail with the
+//! name of an error that says that memory ran out.
 use crate::arguments::job_of;
 use crate::building::{machine_of, made};
 use crate::turns::{Turns, go_on, turn};
@@ -17,7 +17,8 @@ const LETTERS: &str = "%%\n[a-z]+ yyless(1);\n";
 
 const INPUT: &[u8] = b"abcdefghijklmnopqrstuvwxyzabcdefghijklmn";
 
-/// Whether all that was taken from the start of the text on is held after a refused turn, and no turn is taken any more.
+/// Whether all that was taken from the start of the text on is held after a refused turn, and no turn is taken any
+/// more.
 fn holds_all(scanner: &mut Turns<'_, '_>, start: usize, answer: Result<Turn, RunError>) -> bool {
     let taken = scanner.taken() as usize;
     answer == Err(RunError::OutOfMemory)
@@ -39,8 +40,8 @@ fn goes_through(alloc: Global, machine: &Flat) -> bool {
     turn(&mut scanner) == Ok(Turn::Ended(0))
 }
 
-/// Goes through all turns. After a refused turn all that was taken from the start of the text on is held, and no turn is
-/// taken any more.
+/// Goes through all turns. After a refused turn all that was taken from the start of the text on is held, and no turn
+/// is taken any more.
 #[test]
 fn refused_turns(rt: HostRuntime) -> Result<(), Fail> {
     let machine = machine_of(rt.alloc(), LETTERS)?;

@@ -8,8 +8,8 @@ use lexkit::{
 use lexspec::ReadOptions;
 use std::alloc::Global;
 
-/// Where a source or a sink fails: nowhere, after so many bytes, or in a flush; or where a source answers its end once, after
-/// so many bytes.
+/// Where a source or a sink fails: nowhere, after so many bytes, or in a flush; or where a source answers its end once,
+/// after so many bytes.
 #[derive(Clone, Copy)]
 pub(crate) enum Failing {
     Never,

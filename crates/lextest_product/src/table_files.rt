@@ -467,26 +467,3 @@ fn a_prefix_is_written(rt: HostRuntime) -> Result<(), Fail> {
     }
     Ok(())
 }
-
-/// Whether the error is shown so.
-fn is_shown(alloc: Global, error: TableError, words: &str) -> bool {
-    match format!(in alloc; "{error}") {
-        Ok(shown) => shown.as_str() == words,
-        Err(_) => false,
-    }
-}
-
-#[test]
-fn refusals_are_told(rt: HostRuntime) {
-    const ROWS: &[(TableError, &str)] = &[
-        (TableError::BadMagic, "BadMagic"),
-        (TableError::BadVersion, "BadVersion"),
-        (TableError::Truncated, "Truncated"),
-        (TableError::TrailingBytes, "TrailingBytes"),
-        (TableError::BadField(28), "BadField at 28"),
-        (TableError::OutOfMemory, "OutOfMemory"),
-    ];
-    for &(error, words) in ROWS {
-        assert!(rt; is_shown(rt.alloc(), error, words), "{words}");
-    }
-}

@@ -51,8 +51,8 @@ pub(crate) fn is_told(alloc: Global, fault: Fault<'_>, status: u8, line: &str) -
     written && sink.written() == line.as_bytes() && fault.status() == status
 }
 
-/// Whether the specification is refused by this line, before anything is read or written, and no tables are made of it for
-/// the same reason.
+/// Whether the specification is refused by this line, before anything is read or written, and no tables are made of it
+/// for the same reason.
 fn is_refused(alloc: Global, text: &[u8], line: &str) -> bool {
     let scan = scanned(alloc, text, PLAIN, b"a", Failing::Never);
     let made = generate(alloc, text, Options::new());

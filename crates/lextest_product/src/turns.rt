@@ -219,8 +219,8 @@ fn takes_and_holds_what_is_asked_for(rt: HostRuntime) -> Result<(), Fail> {
     assert_turns(&rt, rt.alloc(), HELD)
 }
 
-/// A specification, an input, where the source fails, the most reads, how a run ends, how often the source is called, and what
-/// is written.
+/// A specification, an input, where the source fails, the most reads, how a run ends, how often the source is called,
+/// and what is written.
 type Run = (
     &'static str,
     &'static [u8],

@@ -98,8 +98,8 @@ fn many_have_fault(alloc: Global, others: &str, fault: Option<(u32, SpecErrorKin
     }
 }
 
-/// With INITIAL there may be 255 conditions. A name that is declared already is reported as such, also where there may be
-/// no more.
+/// With INITIAL there may be 255 conditions. A name that is declared already is reported as such, also where there may
+/// be no more.
 #[test]
 fn counts_of_conditions(rt: HostRuntime) {
     let alloc = rt.alloc();

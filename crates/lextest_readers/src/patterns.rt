@@ -926,7 +926,8 @@ pub(crate) fn is_told(
 
 const CLOSED: &[u8] = b"a))))))))))))))))))))))))))))))))))))))))))))))))))))))))))))))))";
 
-// What a text begins with, a part, how often that stands, what follows, and what is reported of the text, where it is refused.
+// What a text begins with, a part, how often that stands, what follows, and what is reported of the text, where it is
+// refused.
 type LongRow = (&'static [u8], &'static [u8], usize, &'static [u8], Told);
 
 const LONG: &[LongRow] = &[
@@ -1134,8 +1135,8 @@ fn long_texts_of_names(rt: HostRuntime) -> Result<(), Fail> {
     Ok(())
 }
 
-// A text, in how many parentheses the next stands, the last, and what is reported. Of these names the first takes three of
-// what may be opened, and the second four.
+// A text, in how many parentheses the next stands, the last, and what is reported. Of these names the first takes three
+// of what may be opened, and the second four.
 const DEEP: &[(&[u8], usize, &[u8], &[u8], Option<usize>)] = &[
     (b"{three}", 61, b"{three}", b"{three}", None),
     (b"", 61, b"{three}", b"{three}", None),

@@ -17,7 +17,8 @@ const B: Node = Node::Bytes(b"b");
 
 const C: Node = Node::Bytes(b"c");
 
-// A text, the least and the greatest length of its words where intervals apply to items, and where they apply to series.
+// A text, the least and the greatest length of its words where intervals apply to items, and where they apply to
+// series.
 const LENGTHS: &[(&[u8], (u32, Option<u32>), (u32, Option<u32>))] = &[
     (b"abc{1,3}", (3, Some(5)), (3, Some(9))),
     (b"ab{2}c", (4, Some(4)), (5, Some(5))),

@@ -431,8 +431,8 @@ fn has_capital(alloc: Global, text: &str, fold: bool) -> Option<bool> {
     }
 }
 
-/// What stands before a part, the part, how often it stands, what stands after it, and how many rules that gives or why it
-/// is refused.
+/// What stands before a part, the part, how often it stands, what stands after it, and how many rules that gives or why
+/// it is refused.
 type Limit = (&'static str, &'static str, u32, &'static str, Answer);
 
 const LONG: SpecErrorKind = SpecErrorKind::TooLong;

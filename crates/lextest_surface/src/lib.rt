@@ -1,5 +1,5 @@
-//! One call of each function of the product, by the crates that a caller names: lexre, lexspec, lexauto, lextab, lexscan and
-//! lexkit; and what a program in C calls. Expected values are worked by hand.
+//! One call of each function of the product, by the crates that a caller names: lexre, lexspec, lexauto, lextab,
+//! lexscan and lexkit; and what a program in C calls. Expected values are worked by hand.
 #![tactic(auto)]
 
 #[cfg(test)]

@@ -140,8 +140,8 @@ fn a_run(rt: HostRuntime) {
     assert!(rt; runs_so(rt.alloc(), LETTERS, 4, Ok(0), b"I"));
 }
 
-/// A rule that is told at a glance, one that gives its match up, and one that gives bytes back. Over three letters each asks for
-/// four reads, that of the end with them.
+/// A rule that is told at a glance, one that gives its match up, and one that gives bytes back. Over three letters each
+/// asks for four reads, that of the end with them.
 const ASKING: &[(&[u8], &[u8])] = &[
     (LETTERS, b"I"),
     (b"%%\n[a-z]+ REJECT;\n.|\\n ;\n", b""),

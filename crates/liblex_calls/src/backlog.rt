@@ -1,44 +1,20 @@
 //! What a scan by pieces wrote, and was not handed out yet.
-ghost use Rattle.std.specs.Prelude.{◌≡◌, ℕ, ◌+◌, ◌-◌, ◌^◌, ◌<◌, ◌≤◌, List, [], ◌++◌, take, drop, length, vec_len, true, OnOk};
+ghost use Rattle.std.specs.Prelude.{◌≡◌, ℕ, ◌+◌, ◌-◌, ◌^◌, ◌<◌, ◌≤◌, List, []};
+ghost use Rattle.std.specs.Prelude.{◌++◌, take, drop, length, vec_len, true, OnOk};
 ghost use Rattle.lex_io.specs.Sink.{fault_count};
 ghost use Rattle.liblex_calls.specs.Buffers.{HandedOut};
 ghost use Rattle.liblex_calls.specs.Ends.{Kept, Kept-nil, Kept-trans};
 
 use crate::buffers::hand_out;
+use lex_io::copy_to;
 use lexkit::{Sink, WriteFault};
 use std::alloc::{AllocError, Global};
-
-/// Up to this length bytes are copied one by one.
-const SHORT: usize = 16;
 
 /// How many bytes there is room for at first.
 const FIRST_ROOM: usize = 4_096;
 
-/// Makes the one slice the other.
-#[inline(always)]
-fn copy_to(place: &mut [u8], bytes: &[u8])
-    requires { length place.old ≡ length bytes.now }
-    ensures { place.new ≡ bytes.now }
-{
-    if bytes.len() > SHORT {
-        copy_many(place, bytes);
-        return;
-    }
-    for (index, byte) in bytes.iter().enumerate() {
-        place[index] = *byte;
-    }
-}
-
-#[inline(never)]
-fn copy_many(place: &mut [u8], bytes: &[u8])
-    requires { length place.old ≡ length bytes.now }
-    ensures { place.new ≡ bytes.now }
-{
-    place.copy_from_slice(bytes);
-}
-
-/// What was written and was not handed out yet: the bytes of the buffer from `from` to `end`. What follows is room, so that a short
-/// write is mostly a short copy. As a sink it fails only where memory is refused.
+/// What was written and was not handed out yet: the bytes of the buffer from `from` to `end`. What follows is room, so
+/// that a short write is mostly a short copy. As a sink it fails only where memory is refused.
 #[derive(Drop)]
 pub(crate) struct Backlog {
     buffer: Vec<u8>,
@@ -88,7 +64,8 @@ impl Backlog {
         self.drop_first((*count).min(buffer.len()));
     }
 
-    /// Drops the first bytes. What was handed out is moved over once it is half of all, so that each byte is moved once.
+    /// Drops the first bytes. What was handed out is moved over once it is half of all, so that each byte is moved
+    /// once.
     fn drop_first(&mut self, count: usize)
         requires { count ≤ length (rest self.old) }
         ensures { rest self.new ≡ drop count (rest self.old) }

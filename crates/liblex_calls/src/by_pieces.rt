@@ -6,8 +6,9 @@ ghost use Rattle.liblex_calls.specs.Pieces.{Scanning, OpensScan, FeedsInto, Fini
 
 use crate::answer::Answer;
 use crate::handle::{Scan, put, take};
+use crate::machines::flat_of;
 use crate::piece_scan::PieceScan;
-use lexkit::{Flat, TableError, read_tables};
+use lexkit::TableError;
 use std::alloc::Global;
 
 /// Begins a scan by pieces by a table file. What the scan was open for before is closed.
@@ -15,13 +16,9 @@ pub fn open_scan(alloc: Global, scan: &mut Scan, file: &[u8]) -> Answer
     ensures { OpensScan file.now scan.new result }
 {
     close_scan(alloc, scan);
-    let tables = match read_tables(alloc, file) {
+    let flat = match flat_of(alloc, file) {
         Err(TableError::OutOfMemory) => return Answer::OutOfMemory,
         Err(_) => return Answer::Refused,
-        Ok(tables) => tables,
-    };
-    let flat = match Flat::new(alloc, tables) {
-        Err(_) => return Answer::OutOfMemory,
         Ok(flat) => flat,
     };
     match Box::new(alloc, PieceScan::new(alloc, flat)) {
@@ -33,8 +30,8 @@ pub fn open_scan(alloc: Global, scan: &mut Scan, file: &[u8]) -> Answer
     }
 }
 
-/// Scans on with a piece more, and hands out into the buffer what was written and not handed out before. How many bytes these are is
-/// told in `count`, also where the buffer is too small: then a next call hands out the others.
+/// Scans on with a piece more, and hands out into the buffer what was written and not handed out before. How many bytes
+/// these are is told in `count`, also where the buffer is too small: then a next call hands out the others.
 pub fn feed_into(
     alloc: Global,
     scan: &mut Scan,
@@ -55,7 +52,8 @@ pub fn feed_into(
     answer
 }
 
-/// Scans to the end of what was fed, and hands out as `feed_into` does. The status that the rules end with is told in `status`.
+/// Scans to the end of what was fed, and hands out as `feed_into` does. The status that the rules end with is told in
+/// `status`.
 pub fn finish_into(
     alloc: Global,
     scan: &mut Scan,

@@ -17,8 +17,8 @@ use lexkit::{
 };
 use std::alloc::Global;
 
-/// Why a text is refused: the number of its kind, with the line, from 1, and the place in the line's pattern, from 0. All are 0 where
-/// nothing is refused.
+/// Why a text is refused: the number of its kind, with the line, from 1, and the place in the line's pattern, from 0.
+/// All are 0 where nothing is refused.
 #[repr(C)]
 #[derive(Clone, Copy, Debug, PartialEq, Eq)]
 pub struct Fault {
@@ -105,8 +105,9 @@ fn refuse(
     }
 }
 
-/// Makes the table file of the specification that a text spells, and hands it out into the buffer. Where the text is refused, the
-/// line that tells why is handed out. How many bytes there are is told in `count`, also where the buffer is too small.
+/// Makes the table file of the specification that a text spells, and hands it out into the buffer. Where the text is
+/// refused, the line that tells why is handed out. How many bytes there are is told in `count`, also where the buffer
+/// is too small.
 pub fn generate_into(
     alloc: Global,
     text: &[u8],

@@ -11,6 +11,7 @@ mod handle;
 mod kinds;
 mod listing;
 mod loose;
+mod machines;
 mod memory;
 mod piece_scan;
 mod place;

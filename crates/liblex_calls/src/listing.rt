@@ -5,14 +5,14 @@ ghost use Rattle.liblex_calls.specs.Listing.{ListsInto, TellsLines, rule_number,
 use crate::answer::Answer;
 use crate::buffers::hand_out;
 use crate::kinds::kind_number;
+use crate::machines::flat_of;
 use lexkit::{
-    Flat, MatchedRule, Options, ReadOptions, RunError, TableError, Token, lines_of, read_spec,
-    read_tables, tokens,
+    GenError, MatchedRule, Options, RunError, TableError, Token, lines_of, read_text, tokens,
 };
 use std::alloc::{AllocError, Global};
 
-/// A match of a scan: where its text begins and ends in the input, the number of its rule, from 0 on in the order of the file, or
-/// 4,294,967,295 for the default rule, and the number of the start condition in which it was made.
+/// A match of a scan: where its text begins and ends in the input, the number of its rule, from 0 on in the order of
+/// the file, or 4,294,967,295 for the default rule, and the number of the start condition in which it was made.
 #[repr(C)]
 #[derive(Clone, Copy, Debug, PartialEq, Eq)]
 pub struct TextToken {
@@ -48,8 +48,8 @@ fn shown_of(alloc: Global, list: &[Token]) -> Result<Vec<TextToken>, AllocError>
     Ok(tokens)
 }
 
-/// Lists the tokens of an input by a table file, and hands them out into the buffer. How many there are is told in `count`, also where
-/// the buffer is too small, and the status that the scan ends with in `status`.
+/// Lists the tokens of an input by a table file, and hands them out into the buffer. How many there are is told in
+/// `count`, also where the buffer is too small, and the status that the scan ends with in `status`.
 pub fn tokens_into(
     alloc: Global,
     file: &[u8],
@@ -62,13 +62,9 @@ pub fn tokens_into(
 {
     *count = 0;
     *status = 0;
-    let tables = match read_tables(alloc, file) {
+    let flat = match flat_of(alloc, file) {
         Err(TableError::OutOfMemory) => return Answer::OutOfMemory,
         Err(_) => return Answer::Refused,
-        Ok(tables) => tables,
-    };
-    let flat = match Flat::new(alloc, tables) {
-        Err(_) => return Answer::OutOfMemory,
         Ok(flat) => flat,
     };
     let mut list = Vec::new(alloc);
@@ -90,8 +86,8 @@ pub fn tokens_into(
     }
 }
 
-/// Hands out the lines of the rules of the specification that a text spells, in their order. How many rules there are is told in
-/// `count`, also where the buffer is too small.
+/// Hands out the lines of the rules of the specification that a text spells, in their order. How many rules there are
+/// is told in `count`, also where the buffer is too small.
 pub fn rule_lines_into(
     alloc: Global,
     text: &[u8],
@@ -102,13 +98,9 @@ pub fn rule_lines_into(
     ensures { TellsLines options text.now buffer.old buffer.new count.new result }
 {
     *count = 0;
-    let read = ReadOptions {
-        fold: options.fold,
-        posix: options.posix,
-    };
-    let spec = match read_spec(alloc, text, read) {
-        Err(error) if kind_number(error.kind) == 0 => return Answer::OutOfMemory,
-        Err(_) => return Answer::Refused,
+    let spec = match read_text(alloc, text, options) {
+        Err(GenError::Spec(error)) if kind_number(error.kind) != 0 => return Answer::Refused,
+        Err(_) => return Answer::OutOfMemory,
         Ok(spec) => spec,
     };
     match lines_of(alloc, spec.rules()) {

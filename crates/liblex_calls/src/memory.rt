@@ -1,5 +1,7 @@
-//! The two ends of a scan between slices: a source that gives the bytes of a slice, and a sink that keeps what it is given.
-ghost use Rattle.std.specs.Prelude.{◌≡◌, refl, ℕ, ◌+◌, ◌-◌, ◌^◌, ◌<◌, ◌≤◌, Bool, List, [], ◌++◌, length, take, true, false};
+//! The two ends of a scan between slices: a source that gives the bytes of a slice, and a sink that keeps what it is
+//! given.
+ghost use Rattle.std.specs.Prelude.{◌≡◌, refl, ℕ, ◌+◌, ◌-◌, ◌^◌, ◌<◌, ◌≤◌, Bool};
+ghost use Rattle.std.specs.Prelude.{List, [], ◌++◌, length, take, true, false};
 ghost use Rattle.lex_io.specs.Sink.{Appended, fault_count};
 ghost use Rattle.lex_io.specs.Source.{given, end_count};
 ghost use Rattle.lex_io.specs.Taking.{never-waits};
@@ -74,7 +76,8 @@ impl Source for Slice<'_> {
 
     ghost gave_none = { λ s. Gave-nil s.rest.now s.ends s.failures };
 
-    ghost gave_more = { λ s t u xs ys p q. Gave-trans s.rest.now t.rest.now u.rest.now s.ends t.ends u.ends s.failures t.failures u.failures xs ys p q };
+    ghost gave_more = { λ s t u xs ys p q. Gave-trans s.rest.now t.rest.now u.rest.now s.ends t.ends u.ends
+        s.failures t.failures u.failures xs ys p q };
 
     ghost none_ready = { λ s. never-waits s.rest.now };
 

@@ -8,8 +8,8 @@ use crate::memory::{Kept, Slice};
 use lexkit::{RunError, ScanError, TableError, scan_table};
 use std::alloc::Global;
 
-/// Tells a scan that was refused or stopped. What was written up to a fault of the stack is handed out. A sink over memory fails only
-/// where memory is refused, and a source over memory never does.
+/// Tells a scan that was refused or stopped. What was written up to a fault of the stack is handed out. A sink over
+/// memory fails only where memory is refused, and a source over memory never does.
 fn tell(error: ScanError, written: &[u8], buffer: &mut [u8], count: &mut usize) -> Answer
     requires { count.old ≡ 0 }
     ensures { Tells error written.now buffer.old buffer.new count.new result }
@@ -25,8 +25,8 @@ fn tell(error: ScanError, written: &[u8], buffer: &mut [u8], count: &mut usize) 
     }
 }
 
-/// Scans an input by a table file, and hands out what its rules write into the buffer. How many bytes there are is told in `count`, also
-/// where the buffer is too small, and the status that the rules end with in `status`.
+/// Scans an input by a table file, and hands out what its rules write into the buffer. How many bytes there are is told
+/// in `count`, also where the buffer is too small, and the status that the rules end with in `status`.
 pub fn scan_into(
     alloc: Global,
     file: &[u8],

@@ -3,7 +3,8 @@ ghost use Rattle.std.specs.Prelude.{◌≡◌, ◌≤◌, ◌<◌, ◌+◌, ◌&
 ghost use Rattle.std.specs.Int.{w32};
 ghost use Rattle.lextab_packed.specs.Views.{row_of};
 ghost use Rattle.lextab_file.specs.Seen.{following};
-ghost use Rattle.lextab_file.specs.Reading.{many, class_at, accepted_at, above, row_at, only_if, none_at_0, few, number_at};
+ghost use Rattle.lextab_file.specs.Reading.{many, class_at, accepted_at, above};
+ghost use Rattle.lextab_file.specs.Reading.{row_at, only_if, none_at_0, few, number_at};
 ghost use Rattle.lextab_file.specs.Views.{Gives, sizes_in};
 ghost use Rattle.lex_semantics.specs.Limits.{max_classes};
 

@@ -4,4 +4,4 @@ use Rattle.lexkit.proofs.making.generate.Goals as goal
 
 pub returns : goal.returns
 returns c =
-    made_of_text c.args.options c.args.text.now (spec_of c.in-Ok.spec) (skipped_in c.in-Ok.spec) c.in-Ok.ensures.found c.in-Ok.ensures.skipped c.generate_by.result c.generate_by.ensures
+    made_of_text c.args.options c.args.text.now (spec_of c.in_ok-spec.spec) (skipped_in c.in_ok-spec.spec) c.in_ok-spec.ensures.spells c.in_ok-spec.ensures.skipped c.generate_by.result c.generate_by.ensures

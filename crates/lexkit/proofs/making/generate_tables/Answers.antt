@@ -4,4 +4,4 @@ use Rattle.lexkit.proofs.making.generate_tables.Goals as goal
 
 pub returns : goal.returns
 returns c =
-    tables_of_text c.args.options c.args.text.now (spec_of c.in-Ok.spec) (skipped_in c.in-Ok.spec) c.in-Ok.ensures.found c.in-Ok.ensures.skipped c.tables_by.result c.tables_by.ensures
+    tables_of_text c.args.options c.args.text.now (spec_of c.in_ok-spec.spec) (skipped_in c.in_ok-spec.spec) c.in_ok-spec.ensures.spells c.in_ok-spec.ensures.skipped c.tables_by.result c.tables_by.ensures

@@ -1,52 +1,7 @@
-use Rattle.std.proofs.Common.{◌≡◌, ◌∙◌, Bool, subst}
-use Rattle.std.specs.Prelude.{nat_lt}
-use Rattle.lex_semantics.specs.Machine.{Machine, rules_of_machine}
-use Rattle.lexauto_dfa.specs.Automata.{machine_of}
-use Rattle.lextab_packed.specs.Machines.{machine_of as table_machine}
-use Rattle.lex_semantics.specs.Acting.{Status}
-use Rattle.lexscan.specs.Stands.{RanTo}
-use Rattle.lexscan.specs.Runs.{RanInto}
-use Rattle.lexkit.specs.Headline.{max_reads}
-use Rattle.lexkit.proofs.Carried as Same
-use Rattle.lexkit.proofs.Refusing.{within}
+use Rattle.lexkit.proofs.Refusing.{headline_of}
 use Rattle.lexkit.proofs.scan.scan_made.Goals as goal
-
-pub returns-in-Err-run-clause-told : goal.returns-in-Err-run-clause-told
-returns-in-Err-run-clause-told g c options text (S, spells, automaton, subsets, made) =
-    let M : Machine = machine_of automaton S in
-    let same : table_machine c.in-Ok.laid.tables ≡ M = c.in-Ok.ensures.machine ∙ made.machine in
-    let h = c.in-Err-run.ensures.ran in
-    let b : Bool = nat_lt (g.S.Source.ends c.args.source.now) (g.S.Source.ends c.run.new.source) in (
-      S,
-      spells,
-      within options.limits S subsets automaton made.least,
-      record {
-        given = h.0;
-        out = h.1;
-        source = h.2;
-        sink = h.3;
-        ran = Same.ran_into M made.least.laws S made.sound made.least.table h.0 h.1 b max_reads c.in-Err-run.fault
-            (subst (λ N. RanInto (rules_of_machine N) h.0 h.1 b max_reads c.in-Err-run.fault) same h.4);
-        few_reads = Same.few_reads h.0 max_reads _ _ _ _ _ h.5 c.in-Err-run.ensures.read_faults;
-      },
-    )
 
 pub returns-clause-told : goal.returns-clause-told
 returns-clause-told g c options text (S, spells, automaton, subsets, made) =
-    let M : Machine = machine_of automaton S in
-    let same : table_machine c.in-Ok.laid.tables ≡ M = c.in-Ok.ensures.machine ∙ made.machine in
-    let h = c.in-Ok-run.ensures.ran in
-    let b : Bool = nat_lt (g.S.Source.ends c.args.source.now) (g.S.Source.ends c.run.new.source) in (
-      S,
-      spells,
-      within options.limits S subsets automaton made.least,
-      record {
-        given = h.0;
-        out = h.1;
-        source = h.2;
-        sink = h.3;
-        ran = Same.ran_to M made.least.laws S made.sound made.least.table h.0 h.1 b (Status c.in-Ok-run.ended)
-            (subst (λ N. RanTo (rules_of_machine N) h.0 h.1 b (Status c.in-Ok-run.ended)) same h.4);
-        few_reads = Same.few_reads h.0 max_reads _ _ _ _ _ h.5 c.in-Ok-run.ensures.read_faults;
-      },
-    )
+    headline_of g.S.Source.gave g.K.Sink.wrote options text S spells _ _ _ _ _ c.scan_tables.result
+    (c.scan_tables.ensures.told options.limits S subsets automaton made.sound made.least made.machine)

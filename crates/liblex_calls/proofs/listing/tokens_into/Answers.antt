@@ -2,7 +2,6 @@ use Rattle.std.proofs.Common.{rules, ◌≡◌, ℕ, List, [], ◌++◌, map, Re
 use Rattle.std.specs.Prelude.{IfErr}
 use Rattle.lex_semantics.specs.Acting.{Status}
 use Rattle.lex_semantics.specs.Machine.{rules_of_machine}
-use Rattle.lextab_packed.specs.Views.{table_of}
 use Rattle.lexscan_window.specs.declared.error.RunError.{RunError}
 use Rattle.lexscan_window.specs.declared.error.RunError.TheVariants as runs
 use Rattle.lexscan_tokens.specs.declared.listing.Token.{Token}
@@ -25,11 +24,11 @@ returns-in-Ok-ended c =
     let all = c.deref-in-Ok-ended.ensures.value ∙ c.in-Ok-shown_of.ensures ∙ ap (λ l. map shown l) (c.deref.ensures.value ∙ filled c.new-list.result.items c.tokens-ended.new.list.items us c.new-list.ensures.items appended) in
     listed_out c.args.file.now c.args.input.now c.args.buffer.now c.hand_out.new.buffer c.hand_out.new.count c.in-Ok-ended.end c.hand_out.result us
     (record {
-      table = table_of c.in-Ok.tables.parts;
-      is_file = c.in-Ok.ensures.found;
-      goes_on = c.in-Ok.tables.goes_on.items;
-      leads = c.in-Ok.tables.leading;
-      holds = subst (λ N. Tokenised (rules_of_machine N) c.args.input.now us (Status c.in-Ok-ended.end)) c.in-Ok-new.ensures.machine tokens;
+      table = c.in-Ok.ensures.found.table;
+      is_file = c.in-Ok.ensures.found.is_file;
+      goes_on = c.in-Ok.ensures.found.goes_on;
+      leads = c.in-Ok.ensures.found.leads;
+      holds = subst (λ N. Tokenised (rules_of_machine N) c.args.input.now us (Status c.in-Ok-ended.end)) c.in-Ok.ensures.found.is tokens;
     })
     (subst (λ l. HandedOut l c.args.buffer.now c.hand_out.new.buffer c.hand_out.new.count) all c.hand_out.ensures.handed)
     (subst (λ l. Fits l c.args.buffer.now c.hand_out.result) all c.hand_out.ensures.fits)
@@ -42,11 +41,11 @@ returns-in-Err-Stack c =
       record {
         tokens = us;
         listed = record {
-          table = table_of c.in-Ok.tables.parts;
-          is_file = c.in-Ok.ensures.found;
-          goes_on = c.in-Ok.tables.goes_on.items;
-          leads = c.in-Ok.tables.leading;
-          holds = subst (λ N. Stopped (rules_of_machine N) c.args.input.now us runs.Stack) c.in-Ok-new.ensures.machine tokens;
+          table = c.in-Ok.ensures.found.table;
+          is_file = c.in-Ok.ensures.found.is_file;
+          goes_on = c.in-Ok.ensures.found.goes_on;
+          leads = c.in-Ok.ensures.found.leads;
+          holds = subst (λ N. Stopped (rules_of_machine N) c.args.input.now us runs.Stack) c.in-Ok.ensures.found.is tokens;
         };
         handed = subst (λ l. HandedOut l c.args.buffer.now c.hand_out-in-Err-Stack.new.buffer c.hand_out-in-Err-Stack.new.count) all c.hand_out-in-Err-Stack.ensures.handed;
       },
