@@ -29,8 +29,8 @@ const TABLE_FILE: &str = "lex.yy.tab";
 /// Where the report of states that back up goes.
 const BACKUP_FILE: &str = "lex.backup";
 
-/// Makes the outputs of a specification: warnings, the table file, the report of states that back up, and statistics. The
-/// first fault ends the run.
+/// Makes the outputs of a specification: warnings, the table file, the report of states that back up, and statistics.
+/// The first fault ends the run.
 pub fn make(
     rt: &HostRuntime,
     text: &[u8],

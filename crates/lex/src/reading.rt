@@ -25,8 +25,8 @@ fn read_more(rt: &HostRuntime, name: &str, most: u64, text: &mut Vec<u8>) -> io:
     Ok(())
 }
 
-/// The text that the files are together. No file, and `-`, is standard input. Of a longer one than a specification may be it
-/// is one byte more, and what follows is not read.
+/// The text that the files are together. No file, and `-`, is standard input. Of a longer one than a specification
+/// may be it is one byte more, and what follows is not read.
 pub fn read_specification(rt: &HostRuntime, files: &[String]) -> Result<Vec<u8>, Failure> {
     let mut text = Vec::new(rt.alloc());
     if files.is_empty() {

@@ -1,5 +1,6 @@
 //! A work list over keys: all that are reached from some roots, each once, with their moves.
-ghost use Rattle.std.specs.Prelude.{◌≡◌, ℕ, ◌<◌, ◌≤◌, false, true, List, [], ◌∷◌, ◌++◌, length, slice_index, IfOk, OnOk, IsErrOf};
+ghost use Rattle.std.specs.Prelude.{◌≡◌, ℕ, ◌<◌, ◌≤◌, false, true, List, [], ◌∷◌, ◌++◌, length, slice_index, IfOk};
+ghost use Rattle.std.specs.Prelude.{OnOk, IsErrOf};
 ghost use Rattle.lex_semantics.specs.ByteSets.{has};
 ghost use Rattle.lex_semantics.specs.Text.{Ascending};
 ghost use Rattle.lexauto_positions.specs.Cursors.{Increases};
@@ -158,7 +159,8 @@ fn read_target<M: Moves>(
     intern_kept(alloc, table, kept, limit)
 }
 
-/// The place of the key that a byte makes of what follows; of a byte that is read as an earlier one, from the row so far.
+/// The place of the key that a byte makes of what follows; of a byte that is read as an earlier one, from the row so
+/// far.
 fn target<M: Moves>(
     alloc: Global,
     moves: &M,
@@ -203,8 +205,8 @@ fn first_after(changes: &ByteSet, byte: u8) -> usize
     256
 }
 
-/// The next byte that may be read otherwise than the one before, or 256. `up_to` has for each byte the set of those up to
-/// it.
+/// The next byte that may be read otherwise than the one before, or 256. `up_to` has for each byte the set of those
+/// up to it.
 fn next_change(changes: &ByteSet, up_to: &[ByteSet], byte: u8) -> usize
     requires len { length up_to.now ≡ 256 }
     requires up_to { HaveNoneAfter up_to.now }

@@ -26,8 +26,8 @@ fn walk_starts(alloc: Global, moves: &RuleMoves, key: &[u32]) -> Result<Walked, 
     })
 }
 
-/// What another state's key tells. The rules that are accepted are those that are left at their ends, or the first of them
-/// if no rule has REJECT.
+/// What another state's key tells. The rules that are accepted are those that are left at their ends, or the first of
+/// them if no rule has REJECT.
 fn walk_lasts(
     alloc: Global,
     moves: &RuleMoves,

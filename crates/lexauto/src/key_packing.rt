@@ -1,11 +1,13 @@
 //! Keys as they are kept: a key of many positions as bits.
-ghost use Rattle.std.specs.Prelude.{◌≡◌, ℕ, ◌<◌, ◌*◌, ◌/◌, ◌%◌, ◌^◌, ◌∷◌, ◌++◌, true, length, bit_or, slice_index, IfOk, OnOk};
+ghost use Rattle.std.specs.Prelude.{◌≡◌, ℕ, ◌<◌, ◌*◌, ◌/◌, ◌%◌, ◌^◌, ◌∷◌, ◌++◌, true, length, bit_or, slice_index};
+ghost use Rattle.std.specs.Prelude.{IfOk, OnOk};
 ghost use Rattle.std.proofs.Common.{replicate};
 ghost use Rattle.std.specs.List.{filter};
 ghost use Rattle.lexauto_positions.specs.Cursors.{Increases};
 ghost use Rattle.lexauto.specs.Sets.{lasts_in, tagged};
 ghost use Rattle.lex_semantics.specs.Text.{Ascending, flag, listed};
-ghost use Rattle.lexauto.specs.KeyPacking.{bit_at, word_bits, with_bit, with_bits, bit_count, unpacked, word_count, packed};
+ghost use Rattle.lexauto.specs.KeyPacking.{bit_at, word_bits, with_bit, with_bits, bit_count, unpacked, word_count};
+ghost use Rattle.lexauto.specs.KeyPacking.{packed};
 
 use crate::sets::{KeyKind, is_marked, last_key, lasts_in};
 use std::alloc::{AllocError, Global};

@@ -1,5 +1,6 @@
 //! Laws of the subset construction: the keys that words lead to, and the tables that such keys make.
-ghost use Rattle.std.specs.Prelude.{◌≡◌, ◌≢◌, ◌↔◌, ◌<◌, false, cond, slice_index, slice_index_or, ℕ, Bool, List, [], ◌∷◌};
+ghost use Rattle.std.specs.Prelude.{◌≡◌, ◌≢◌, ◌↔◌, ◌<◌, false, cond, slice_index, slice_index_or, ℕ, Bool, List, []};
+ghost use Rattle.std.specs.Prelude.{◌∷◌};
 ghost use Rattle.lex_semantics.specs.Spec.{Spec};
 ghost use Rattle.lex_semantics.specs.Reports.{HasFit};
 ghost use Rattle.lex_semantics.specs.Sound.{IsSound};

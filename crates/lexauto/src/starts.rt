@@ -1,5 +1,6 @@
 //! Where matches start: the active rules of each condition, at the start of a line or not.
-ghost use Rattle.std.specs.Prelude.{◌≡◌, ◌<◌, ◌≤◌, ◌&&◌, ◌||◌, [], ◌∷◌, not, ℕ, false, true, length, slice_get, slice_index, option_map, List, IfOk, OnOk, IsErrOf};
+ghost use Rattle.std.specs.Prelude.{◌≡◌, ◌<◌, ◌≤◌, ◌&&◌, ◌||◌, [], ◌∷◌, not, ℕ, false, true, length, slice_get};
+ghost use Rattle.std.specs.Prelude.{slice_index, option_map, List, IfOk, OnOk, IsErrOf};
 ghost use Rattle.lex_semantics.specs.Active.{lists, serves, active};
 ghost use Rattle.lexspec_actions.specs.Views.{condition_of};
 ghost use Rattle.lexspec.specs.Views.{spec_of, conditions_in};

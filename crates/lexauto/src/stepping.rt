@@ -1,5 +1,6 @@
 //! How the states of a specification's automaton lead to one another: by the positions of its rules.
-ghost use Rattle.std.specs.Prelude.{◌≡◌, ◌-◌, ◌<◌, ◌≤◌, ◌^◌, ℕ, Bool, List, false, true, length, map, slice_index_or, IfOk};
+ghost use Rattle.std.specs.Prelude.{◌≡◌, ◌-◌, ◌<◌, ◌≤◌, ◌^◌, ℕ, Bool, List, false, true, length, map, slice_index_or};
+ghost use Rattle.std.specs.Prelude.{IfOk};
 ghost use Rattle.lex_semantics.specs.ByteSets.{has, empty_set};
 ghost use Rattle.lex_semantics.specs.Spec.{rejects};
 ghost use Rattle.lex_semantics.specs.Subsets.{all_positions};

@@ -69,9 +69,10 @@ fn explore_spec(alloc: Global, moves: &RuleMoves, limit: u32) -> Result<Survey, 
     })
 }
 
-/// The automaton of a specification: after each word from each start it accepts the rules that fit, or the first of them
-/// if no rule has REJECT, and goes on where a longer word may fit. Some word leads to each state but the dead one. TooManyPositions comes exactly where the heads and
-/// trails have more positions than their limit, TooManyStates only where there are more states.
+/// The automaton of a specification: after each word from each start it accepts the rules that fit, or the first of
+/// them if no rule has REJECT, and goes on where a longer word may fit. Some word leads to each state but the dead
+/// one. TooManyPositions comes exactly where the heads and trails have more positions than their limit, TooManyStates
+/// only where there are more states.
 pub fn build(alloc: Global, spec: &Spec, limits: Limits) -> Result<Dfa, BuildError>
     requires positions { limits.positions ≤ max_positions }
     requires states { limits.states ≤ max_states }

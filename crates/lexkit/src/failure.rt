@@ -2,9 +2,9 @@
 ghost use Rattle.std.specs.Prelude.{◌≡◌, ⊥};
 ghost use Rattle.lexkit.specs.Failures.{Tells, out_of_memory};
 
-use lexkit_command::ArgsError;
 use crate::errors::{GenError, ScanError};
 use crate::faults::Fault;
+use lexkit_command::ArgsError;
 use lextab::WriteFault;
 use std::alloc::AllocError;
 use std::io::ErrorKind;

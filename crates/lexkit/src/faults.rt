@@ -2,13 +2,15 @@
 ghost use Rattle.std.specs.Prelude.{◌≡◌, ℕ, ◌+◌, ◌-◌, ◌^◌, ◌<◌, ◌≤◌, List, ◌++◌};
 ghost use Rattle.lex_io.specs.Sink.{Appended, fault_count};
 ghost use Rattle.lexauto_reports.specs.Joined.{joined};
-ghost use Rattle.lexkit.specs.Faults.{line_of, fault_words, scan_words, gen_words, gen_status, table_words, table_status, args_status, scan_status, run_status, build_words, spec_words, lacks_memory, run_words, args_words};
+ghost use Rattle.lexkit.specs.Faults.{line_of, fault_words, scan_words, gen_words, gen_status, table_words};
+ghost use Rattle.lexkit.specs.Faults.{table_status, args_status, scan_status, run_status, build_words, spec_words};
+ghost use Rattle.lexkit.specs.Faults.{lacks_memory, run_words, args_words};
 
-use lexkit_command::ArgsError;
 use crate::errors::{GenError, ScanError};
 use itoa::Buffer;
 use lexauto::BuildError;
 use lexauto_reports::put_all;
+use lexkit_command::ArgsError;
 use lexscan::RunError;
 use lexspec::{PatternError, PatternErrorKind, SpecError, SpecErrorKind};
 use lextab::{Sink, TableError, WriteFault};

@@ -1,8 +1,11 @@
 //! What a command line asks for.
-ghost use Rattle.std.specs.Prelude.{◌≡◌, ◌⊎◌, IfErr, IfOk, None, Some, codes, false, fold, map, option_map, string_bytes};
-ghost use Rattle.clap.specs.Words.{app_of, first_of, found_of, rows_of, rule_of, subcommand_rows_of, with_rule, with_subcommand};
+ghost use Rattle.std.specs.Prelude.{◌≡◌, ◌⊎◌, IfErr, IfOk, None, Some, codes, false, fold, map, option_map};
+ghost use Rattle.std.specs.Prelude.{string_bytes};
+ghost use Rattle.clap.specs.Words.{app_of, first_of, found_of, rows_of, rule_of, subcommand_rows_of, with_rule};
+ghost use Rattle.clap.specs.Words.{with_subcommand};
 ghost use Rattle.lexkit_command.specs.CommandLine.{flag_rule, has};
-ghost use Rattle.lexlook_command.specs.LookLine.{AsksFor, AsksToCompare, AsksToCut, AsksToDraw, AsksToFind, AsksToTrace, IsLookOf};
+ghost use Rattle.lexlook_command.specs.LookLine.{AsksFor, AsksToCompare, AsksToCut, AsksToDraw, AsksToFind};
+ghost use Rattle.lexlook_command.specs.LookLine.{AsksToTrace, IsLookOf};
 ghost use Rattle.lexlook_command.specs.LookLine.{file_app, has_help, lexlook_app, look_rule, needed_rule, same_app};
 
 use clap::{Arg, ArgAction, ArgMatches, Command};
@@ -57,8 +60,9 @@ pub enum Look {
     },
 }
 
-/// Reads the words after the program's name: `picture FILE`, `same FILE FILE`, `lines FILE`, `words FILE` or `trace FILE`, with
-/// `-i` or `-X` or without, or any words with `--help`. Flags may be repeated. Words that it refuses by `Usage` ask for nothing.
+/// Reads the words after the program's name: `picture FILE`, `same FILE FILE`, `lines FILE`, `words FILE` or `trace
+/// FILE`, with `-i` or `-X` or without, or any words with `--help`. Flags may be repeated. Words that it refuses by
+/// `Usage` ask for nothing.
 pub fn read_args(alloc: Global, words: &[String]) -> Result<Look, ArgsError>
     ensures asked { IfOk result (AsksFor (map string_bytes words.now)) }
     ensures refused { IfErr result (λ e. e ≡ ArgsError.Usage

@@ -1,4 +1,5 @@
-//! A match that asks for more than all the bytes that are there: the state after them, so that more of them need one walk.
+//! A match that asks for more than all the bytes that are there: the state after them, so that more of them need one
+//! walk.
 ghost use Rattle.std.specs.Prelude.{◌≡◌, ℕ, ◌+◌, ◌<◌, ◌≤◌, length, take, true, Some, IfSome};
 ghost use Rattle.lex_semantics.specs.Machine.{walk};
 ghost use Rattle.lexscan.specs.Pushes.{GoesOnOver, WalksOn, IsAsking};

@@ -1,5 +1,6 @@
 //! Turns over the bytes that are there, as far as these decide them.
-ghost use Rattle.std.specs.Prelude.{◌≡◌, ℕ, ◌+◌, ◌^◌, ◌<◌, ◌≤◌, List, [], ◌++◌, length, take, true, false, None, Ok, ◌-◌, OnOk, OnErr, IfOk, IfErr, IsErrOf};
+ghost use Rattle.std.specs.Prelude.{◌≡◌, ℕ, ◌+◌, ◌^◌, ◌<◌, ◌≤◌, List, [], ◌++◌, length, take, true, false, None, Ok};
+ghost use Rattle.std.specs.Prelude.{◌-◌, OnOk, OnErr, IfOk, IfErr, IsErrOf};
 ghost use Rattle.lex_semantics.specs.Text.{AllBelow};
 ghost use Rattle.lexscan_window.specs.Memos.{AreTrue};
 ghost use Rattle.lexscan_window.specs.Reads.{read_fault_count, write_fault_count, end_step};
@@ -37,8 +38,8 @@ fn go_back_to(state: &mut State, place: TextPlace, stack: &Stack, held: usize, t
     state.failed = false;
 }
 
-/// One turn, where as many reads are allowed as there are bytes. Answers nothing where it asks for a byte more, and goes back to where
-/// it began.
+/// One turn, where as many reads are allowed as there are bytes. Answers nothing where it asks for a byte more, and
+/// goes back to where it began.
 fn attempt<M: Machine, S: Source, K: Sink>(
     machine: &M,
     intake: &mut Intake<'_, S>,

@@ -8,8 +8,8 @@ use lex_machine::Machine;
 use lexscan_matching::{do_gist, longest_match, names_rule, silent_part};
 use lexscan_window::{Outlet, TextPlace};
 
-/// Where some turns over a text led: how many bytes they are done with, how many they asked for, the start of a line and the
-/// condition there, and whether the sink failed in the next turn.
+/// Where some turns over a text led: how many bytes they are done with, how many they asked for, the start of a line
+/// and the condition there, and whether the sink failed in the next turn.
 #[derive(Clone, Copy)]
 pub struct Burst {
     pub done: usize,
@@ -31,8 +31,8 @@ fn starts_line(line_start: bool, text: &[u8], count: usize) -> bool
     }
 }
 
-/// Turns over a text, of which the first bytes are held and the others are those that the source has ready, as long as each
-/// match ends in the text and its rule is told at a glance.
+/// Turns over a text, of which the first bytes are held and the others are those that the source has ready, as long
+/// as each match ends in the text and its rule is told at a glance.
 #[inline(never)]
 pub fn burst_over<M: Machine, K: Sink>(
     machine: &M,

@@ -1,5 +1,6 @@
 //! Several turns of a scan in one go.
-ghost use Rattle.std.specs.Prelude.{◌≡◌, ℕ, ◌+◌, ◌-◌, ◌^◌, ◌<◌, ◌≤◌, Bool, List, [], ◌++◌, length, take, drop, true, false, None, OnOk, OnErr, IfOk, IfErr};
+ghost use Rattle.std.specs.Prelude.{◌≡◌, ℕ, ◌+◌, ◌-◌, ◌^◌, ◌<◌, ◌≤◌, Bool, List, [], ◌++◌, length, take, drop, true};
+ghost use Rattle.std.specs.Prelude.{false, None, OnOk, OnErr, IfOk, IfErr};
 ghost use Rattle.lex_semantics.specs.Text.{AllBelow};
 ghost use Rattle.lex_semantics.specs.MachineLaws.{NoReject};
 ghost use Rattle.lexscan_window.specs.Reads.{write_fault_count};
@@ -49,8 +50,8 @@ pub const MOST_SHOWN: usize = 8_192;
 
 const LEAST_SHOWN: usize = 64;
 
-/// How many bytes are shown next, where so many were, and the turns over them were done with so many: what is shown in vain is
-/// no more than a part of what is done.
+/// How many bytes are shown next, where so many were, and the turns over them were done with so many: what is shown
+/// in vain is no more than a part of what is done.
 #[inline]
 fn next_most(most: usize, done: usize) -> usize {
     if done < most / 2 {
@@ -60,8 +61,8 @@ fn next_most(most: usize, done: usize) -> usize {
     }
 }
 
-/// Turns over the bytes held and at most this many of those that the source has ready, as long as each match ends among them and
-/// its rule is told at a glance. Answers how many are to be shown the next time.
+/// Turns over the bytes held and at most this many of those that the source has ready, as long as each match ends
+/// among them and its rule is told at a glance. Answers how many are to be shown the next time.
 pub fn go_further<M: Machine, S: Source, K: Sink>(
     machine: &M,
     intake: &mut Intake<'_, S>,

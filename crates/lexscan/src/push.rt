@@ -1,5 +1,6 @@
 //! A scan that is fed its input piece by piece.
-ghost use Rattle.std.specs.Prelude.{◌≡◌, ℕ, ◌+◌, ◌-◌, ◌^◌, ◌<◌, ◌≤◌, List, [], ◌++◌, length, drop, vec_len, vec_capacity, true, false, None, Some, Ok, Err, OnErr, IfSome, IfNone, IsErrOf};
+ghost use Rattle.std.specs.Prelude.{◌≡◌, ℕ, ◌+◌, ◌-◌, ◌^◌, ◌<◌, ◌≤◌, List, [], ◌++◌, length, drop, vec_len};
+ghost use Rattle.std.specs.Prelude.{vec_capacity, true, false, None, Some, Ok, Err, OnErr, IfSome, IfNone, IsErrOf};
 ghost use Rattle.std.specs.Coded.{→_prop};
 ghost use Rattle.lex_semantics.specs.Machine.{rules_of_machine};
 ghost use Rattle.lex_semantics.specs.Text.{AllBelow};
@@ -28,7 +29,8 @@ fn drop_front(bytes: &mut Vec<u8>, count: usize)
     bytes.truncate(left);
 }
 
-/// Keeps what is left of the bytes that waited and of a piece after them, where so many of all are done with. There is room for it.
+/// Keeps what is left of the bytes that waited and of a piece after them, where so many of all are done with. There
+/// is room for it.
 fn keep_rest(waiting: &mut Vec<u8>, piece: &[u8], done: usize)
     requires inside { done ≤ vec_len waiting.old + length piece.now }
     requires room { vec_len waiting.old + length piece.now ≤ vec_capacity waiting.old }
@@ -56,7 +58,8 @@ fn count_with(taken: u64, waiting: usize, piece: usize) -> Option<u64>
     Some(count)
 }
 
-/// Turns over the bytes that wait and a piece more, which are all that may be read. Those that no turn has asked for go on waiting.
+/// Turns over the bytes that wait and a piece more, which are all that may be read. Those that no turn has asked for
+/// go on waiting.
 fn scan_waiting<M: Machine, K: Sink>(
     machine: &M,
     path: &mut StatePath,
@@ -157,7 +160,8 @@ fn scan_to_end<M: Machine, K: Sink>(
     }
 }
 
-/// A scan of bytes that are fed piece by piece, by a caller with a loop of its own. Each feed writes what the bytes so far decide.
+/// A scan of bytes that are fed piece by piece, by a caller with a loop of its own. Each feed writes what the bytes
+/// so far decide.
 #[derive(Drop)]
 pub struct PushScanner<M: Machine> {
     machine: M,
@@ -200,8 +204,9 @@ impl<M: Machine> PushScanner<M> {
         }
     }
 
-    /// Scans on with a piece more, as far as the bytes fed so far decide it. `Turn::Went` says that the next match asks for more of them.
-    /// Where the piece is refused before a turn, for memory or for too many bytes, nothing has changed.
+    /// Scans on with a piece more, as far as the bytes fed so far decide it. `Turn::Went` says that the next match
+    /// asks for more of them. Where the piece is refused before a turn, for memory or for too many bytes, nothing has
+    /// changed.
     pub fn feed<K: Sink>(&mut self, piece: &[u8], sink: &mut K) -> Result<Turn, RunError>
         requires few_writes { K.failures sink.old < 2 ^ 64 - 1 }
         ensures machine { push_machine self.new ≡ push_machine self.old }

@@ -1,5 +1,6 @@
 //! A scanner.
-ghost use Rattle.std.specs.Prelude.{◌≡◌, ℕ, ◌+◌, ◌-◌, ◌^◌, ◌<◌, ◌≤◌, List, [], ◌++◌, length, true, false, Some, None, Ok, Err, IfSome, IsErrOf};
+ghost use Rattle.std.specs.Prelude.{◌≡◌, ℕ, ◌+◌, ◌-◌, ◌^◌, ◌<◌, ◌≤◌, List, [], ◌++◌, length, true, false, Some, None};
+ghost use Rattle.std.specs.Prelude.{Ok, Err, IfSome, IsErrOf};
 ghost use Rattle.std.specs.Coded.{→_prop};
 ghost use Rattle.lex_semantics.specs.Text.{AllBelow};
 ghost use Rattle.lexscan_window.specs.Answer.{end_read};
@@ -155,8 +156,8 @@ impl<'a, M: Machine, S: Source, K: Sink> Scanner<'a, M, S, K> {
         })
     }
 
-    /// The text of the match that `matched` tells, as it stands in the buffer, or nothing where that tells none. The next turn ends
-    /// the borrow.
+    /// The text of the match that `matched` tells, as it stands in the buffer, or nothing where that tells none. The
+    /// next turn ends the borrow.
     pub fn text(&self) -> &[u8]
         ensures { result.now ≡ text_of (match_in (scanner_state self.now)) (scanner_state self.now) }
     {

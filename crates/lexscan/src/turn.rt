@@ -1,5 +1,6 @@
 //! A scan, one turn at a time, over the parts of a scanner.
-ghost use Rattle.std.specs.Prelude.{◌≡◌, ℕ, ◌+◌, ◌-◌, ◌^◌, ◌<◌, ◌≤◌, List, [], ◌∷◌, ◌++◌, length, true, false, Some, None, Ok, Err, OnOk, OnErr, IfOk, IfErr, IfSome, IsErrOf, nat_eq, get_or, ◌⊎◌};
+ghost use Rattle.std.specs.Prelude.{◌≡◌, ℕ, ◌+◌, ◌-◌, ◌^◌, ◌<◌, ◌≤◌, List, [], ◌∷◌, ◌++◌, length, true, false, Some};
+ghost use Rattle.std.specs.Prelude.{None, Ok, Err, OnOk, OnErr, IfOk, IfErr, IfSome, IsErrOf, nat_eq, get_or, ◌⊎◌};
 ghost use Rattle.lex_io.specs.Sink.{Appended};
 ghost use Rattle.lex_semantics.specs.Text.{Among, AllBelow};
 ghost use Rattle.lexscan_window.specs.Reads.{read_fault_count, write_fault_count, end_step};
@@ -70,7 +71,8 @@ fn leave(state: &mut State, over: bool)
     }
 }
 
-/// Flushes the sink after an action that ends the scan, and goes to the place after it; or tells the fault of the stack.
+/// Flushes the sink after an action that ends the scan, and goes to the place after it; or tells the fault of the
+/// stack.
 fn finish_turn<K: Sink>(
     outlet: &mut Outlet<'_, K>,
     state: &mut State,
@@ -97,7 +99,8 @@ fn finish_turn<K: Sink>(
     }
 }
 
-/// The end of a turn after the actions of its match: the place after it, where they neither ended the scan nor were at fault.
+/// The end of a turn after the actions of its match: the place after it, where they neither ended the scan nor were
+/// at fault.
 #[inline(always)]
 fn leave_match<K: Sink>(
     outlet: &mut Outlet<'_, K>,
@@ -385,7 +388,8 @@ fn go_past<M: Machine, S: Source, K: Sink>(
     }
 }
 
-/// The same over many bytes that an earlier match has asked for: a walk over them ends where it is known to lead to no match.
+/// The same over many bytes that an earlier match has asked for: a walk over them ends where it is known to lead to
+/// no match.
 fn go_over<M: Machine, S: Source, K: Sink>(
     machine: &M,
     intake: &mut Intake<'_, S>,

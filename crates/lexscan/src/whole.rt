@@ -1,5 +1,6 @@
 //! A whole run.
-ghost use Rattle.std.specs.Prelude.{◌≡◌, ℕ, ◌+◌, ◌-◌, ◌^◌, ◌<◌, ◌≤◌, List, [], length, true, false, None, IsErrOf, nat_lt};
+ghost use Rattle.std.specs.Prelude.{◌≡◌, ℕ, ◌+◌, ◌-◌, ◌^◌, ◌<◌, ◌≤◌, List, [], length, true, false, None, IsErrOf};
+ghost use Rattle.std.specs.Prelude.{nat_lt};
 ghost use Rattle.lex_semantics.specs.Machine.{rules_of_machine};
 ghost use Rattle.lex_semantics.specs.MachineLaws.{NoReject};
 ghost use Rattle.lex_semantics.specs.Text.{AllBelow};
@@ -127,8 +128,8 @@ fn run_with_reject<M: Machine, S: Source, K: Sink>(
     }
 }
 
-/// The same for a machine without REJECT, so that no turn asks whether it has any. Turns that are told at a glance are made in one
-/// go, but for those over many bytes that an earlier match has asked for.
+/// The same for a machine without REJECT, so that no turn asks whether it has any. Turns that are told at a glance
+/// are made in one go, but for those over many bytes that an earlier match has asked for.
 fn run_without_reject<M: Machine, S: Source, K: Sink>(
     machine: &M,
     intake: &mut Intake<'_, S>,

@@ -7,8 +7,8 @@ use crate::pick::LookAhead;
 use lex_machine::Machine;
 use lexscan_window::{Memo, Reading, TextPlace};
 
-/// A match of which no state accepts after its first `keep` bytes, the state after these and the one before it, and over how
-/// many bytes a walk showed it.
+/// A match of which no state accepts after its first `keep` bytes, the state after these and the one before it, and
+/// over how many bytes a walk showed it.
 #[derive(Clone, Copy)]
 pub struct Settled {
     pub keep: usize,

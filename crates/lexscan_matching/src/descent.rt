@@ -1,11 +1,13 @@
 //! The matches at a place, from the longest down.
-ghost use Rattle.std.specs.Prelude.{◌≡◌, ℕ, ◌+◌, ◌-◌, ◌^◌, ◌<◌, ◌≤◌, List, [], length, filter_map, true, false, OnOk, OnErr, IfOk, IfErr, IfSome};
+ghost use Rattle.std.specs.Prelude.{◌≡◌, ℕ, ◌+◌, ◌-◌, ◌^◌, ◌<◌, ◌≤◌, List, [], length, filter_map, true, false, OnOk};
+ghost use Rattle.std.specs.Prelude.{OnErr, IfOk, IfErr, IfSome};
 ghost use Rattle.lex_semantics.specs.Text.{Among};
 ghost use Rattle.lex_semantics.specs.PlainMachine.{kept_by, match_of};
 ghost use Rattle.lex_machine.specs.Views.{cut_of};
 ghost use Rattle.lexscan_window.specs.Reads.{write_fault_count};
 ghost use Rattle.lexscan_window.specs.Ends.{SinkLeft};
-ghost use Rattle.lexscan_matching.specs.Descends.{matches_of, conditions_of, finished_of, Tried, CutOff, CutAll, Performed, Takes, TakesUnlessAgain};
+ghost use Rattle.lexscan_matching.specs.Descends.{matches_of, conditions_of, finished_of, Tried, CutOff, CutAll};
+ghost use Rattle.lexscan_matching.specs.Descends.{Performed, Takes, TakesUnlessAgain};
 
 use lex_io::Sink;
 use lex_machine::{Cut, Machine};

@@ -16,9 +16,9 @@ pub fn accepted<M: Machine>(machine: &M, state: u32) -> &[u32]
     machine.accepts(state)
 }
 
-/// The longest match at the front of a text, and of those the one of the earliest rule: the first of those that a turn tries there.
-/// Where no rule matches, the default rule takes one byte. There is none where the text is empty. It goes over no more bytes than
-/// the match asks for.
+/// The longest match at the front of a text, and of those the one of the earliest rule: the first of those that a
+/// turn tries there. Where no rule matches, the default rule takes one byte. There is none where the text is empty.
+/// It goes over no more bytes than the match asks for.
 pub fn longest<M: Machine>(
     machine: &M,
     condition: u8,

@@ -5,7 +5,8 @@ ghost use Rattle.lex_machine.specs.Glances.{Leads};
 ghost use Rattle.lexscan_window.specs.Ends.{SinkLeft};
 ghost use Rattle.lex_machine.specs.Views.{statement_of};
 ghost use Rattle.lexscan_window.specs.Acts.{said};
-ghost use Rattle.lexscan_matching.specs.Glanced.{names_rule, begun, all_said, all_begun, condition_after, written_by, Tells};
+ghost use Rattle.lexscan_matching.specs.Glanced.{names_rule, begun, all_said, all_begun, condition_after, written_by};
+ghost use Rattle.lexscan_matching.specs.Glanced.{Tells};
 
 use lex_io::Sink;
 use lex_machine::{Gist, Machine, Statement, Way};
@@ -21,8 +22,8 @@ pub struct GlancedMatch<'m> {
 /// How many bytes a walk has at most that is gone over again.
 const FEW: usize = 128;
 
-/// What is told of the match of a walk that is gone over again: by the last state that accepts a rule, or else of the default
-/// rule, which writes one byte.
+/// What is told of the match of a walk that is gone over again: by the last state that accepts a rule, or else of the
+/// default rule, which writes one byte.
 #[inline(never)]
 fn longest_match_again<'m, M: Machine>(machine: &'m M, first: u32, bytes: &[u8]) -> GlancedMatch<'m>
     requires first { first < M.states machine.now }
@@ -45,8 +46,8 @@ fn longest_match_again<'m, M: Machine>(machine: &'m M, first: u32, bytes: &[u8])
     longest
 }
 
-/// What is told of the match of a walk: by its last state, by the one before it, or, where it is a short one, by going over it
-/// again.
+/// What is told of the match of a walk: by its last state, by the one before it, or, where it is a short one, by
+/// going over it again.
 #[inline(always)]
 pub fn longest_match<'m, M: Machine>(
     machine: &'m M,
@@ -89,7 +90,8 @@ pub fn longest_match<'m, M: Machine>(
     }
 }
 
-/// How many bytes of a walk a rule keeps that does nothing, where the last state of the walk tells it or the one before it.
+/// How many bytes of a walk a rule keeps that does nothing, where the last state of the walk tells it or the one
+/// before it.
 #[inline(always)]
 pub fn silent_part<M: Machine>(machine: &M, way: Way<'_>) -> Option<usize>
     requires known_before { way.before < M.states machine.now }
@@ -116,8 +118,8 @@ pub fn names_rule(gist: Gist<'_>) -> bool
     !matches!(gist, Gist::Any | Gist::NoRule)
 }
 
-/// Carries out statements that each write the text or a literal, or set the condition; others do nothing. Answers the condition of
-/// the next match.
+/// Carries out statements that each write the text or a literal, or set the condition; others do nothing. Answers the
+/// condition of the next match.
 fn do_several<K: Sink>(
     outlet: &mut Outlet<'_, K>,
     statements: &[Statement],

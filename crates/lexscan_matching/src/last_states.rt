@@ -1,5 +1,6 @@
 //! One match, which takes bytes from the source as it asks for them, by its last two states.
-ghost use Rattle.std.specs.Prelude.{◌≡◌, ℕ, ◌+◌, ◌-◌, ◌^◌, ◌<◌, ◌≤◌, List, [], length, true, false, OnOk, OnErr, IfOk, IsErrOf, IfSome, drop, ◌⊎◌};
+ghost use Rattle.std.specs.Prelude.{◌≡◌, ℕ, ◌+◌, ◌-◌, ◌^◌, ◌<◌, ◌≤◌, List, [], length, true, false, OnOk, OnErr};
+ghost use Rattle.std.specs.Prelude.{IfOk, IsErrOf, IfSome, drop, ◌⊎◌};
 ghost use Rattle.lexscan_window.specs.Reads.{Took, read_fault_count, end_step};
 ghost use Rattle.lexscan_window.specs.Ends.{SourceLeft, NothingPut};
 ghost use Rattle.lexscan_matching.specs.Looks.{SoFar, Wants};
@@ -77,8 +78,8 @@ fn before_last(before: u32, walk: Walk) -> u32
     if walk.count == 0 { before } else { walk.before }
 }
 
-/// Goes on with a match that has asked for all the bytes held, and asks for one more: takes bytes of the source, and keeps the
-/// last two states. Answers nothing where there is no byte.
+/// Goes on with a match that has asked for all the bytes held, and asks for one more: takes bytes of the source, and
+/// keeps the last two states. Answers nothing where there is no byte.
 #[inline(always)]
 pub fn look_ahead_more<M: Machine, S: Source, K: Sink>(
     machine: &M,

@@ -1,5 +1,6 @@
 //! One match, which takes bytes from the source as it asks for them, with the state after each.
-ghost use Rattle.std.specs.Prelude.{◌≡◌, ℕ, ◌+◌, ◌-◌, ◌^◌, ◌<◌, ◌≤◌, List, [], length, true, false, OnOk, OnErr, IfOk, IsErrOf};
+ghost use Rattle.std.specs.Prelude.{◌≡◌, ℕ, ◌+◌, ◌-◌, ◌^◌, ◌<◌, ◌≤◌, List, [], length, true, false, OnOk, OnErr};
+ghost use Rattle.std.specs.Prelude.{IfOk, IsErrOf};
 ghost use Rattle.lex_semantics.specs.Text.{Among};
 ghost use Rattle.lexscan_window.specs.Reads.{Took, read_fault_count, end_step};
 ghost use Rattle.lexscan_window.specs.Ends.{SourceLeft, NothingPut};

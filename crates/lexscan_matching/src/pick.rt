@@ -1,5 +1,6 @@
 //! The longest match at a place, without the states before its last two.
-ghost use Rattle.std.specs.Prelude.{◌≡◌, ℕ, ◌+◌, ◌-◌, ◌^◌, ◌<◌, ◌≤◌, List, [], length, filter_map, Some, true, false, OnOk, OnErr, IfOk, IfErr, IfSome};
+ghost use Rattle.std.specs.Prelude.{◌≡◌, ℕ, ◌+◌, ◌-◌, ◌^◌, ◌<◌, ◌≤◌, List, [], length, filter_map, Some, true, false};
+ghost use Rattle.std.specs.Prelude.{OnOk, OnErr, IfOk, IfErr, IfSome};
 ghost use Rattle.lex_semantics.specs.Text.{Among};
 ghost use Rattle.lex_semantics.specs.PlainMachine.{match_of};
 ghost use Rattle.lex_semantics.specs.Trail.{falling};

@@ -1,5 +1,6 @@
 //! The tokens of a whole input.
-ghost use Rattle.std.specs.Prelude.{◌≡◌, ◌+◌, ◌^◌, ◌<◌, ◌≤◌, List, ◌++◌, length, drop, map, IfOk, IfErr, IfSome, OnOk, OnErr};
+ghost use Rattle.std.specs.Prelude.{◌≡◌, ◌+◌, ◌^◌, ◌<◌, ◌≤◌, List, ◌++◌, length, drop, map, IfOk, IfErr, IfSome};
+ghost use Rattle.std.specs.Prelude.{OnOk, OnErr};
 ghost use Rattle.lex_semantics.specs.Acting.{Status};
 ghost use Rattle.lex_semantics.specs.Machine.{rules_of_machine};
 ghost use Rattle.lex_semantics.specs.Text.{part};
@@ -12,8 +13,8 @@ use lex_machine::Machine;
 use lexscan::{Match, MatchedRule, RunError, Scanner, Turn};
 use std::alloc::{AllocError, Global};
 
-/// A match in a text: its rule, where its text begins and ends, counted in bytes, and the start condition in which it was made.
-/// The text begins with what yymore kept before it, and ends after trailing context and yyless.
+/// A match in a text: its rule, where its text begins and ends, counted in bytes, and the start condition in which it
+/// was made. The text begins with what yymore kept before it, and ends after trailing context and yyless.
 #[derive(Clone, Copy, Debug, PartialEq, Eq)]
 pub struct Token {
     pub rule: MatchedRule,
@@ -63,10 +64,10 @@ fn append(list: &mut Vec<Token>, matched: Option<Match>, condition: u8) -> Resul
     }
 }
 
-/// Appends the tokens of an input to a list: the match of each turn of its scan, in order. Answers the status with which the scan
-/// ends. Nothing is written. It is refused only where memory runs out, and as `Stack` where a push finds the stack of start
-/// conditions full or a pop finds it empty. Then the tokens of the turns before are in the list. Each token lies in the input, and
-/// begins no earlier than the one before it.
+/// Appends the tokens of an input to a list: the match of each turn of its scan, in order. Answers the status with
+/// which the scan ends. Nothing is written. It is refused only where memory runs out, and as `Stack` where a push
+/// finds the stack of start conditions full or a pop finds it empty. Then the tokens of the turns before are in the
+/// list. Each token lies in the input, and begins no earlier than the one before it.
 pub fn tokens<M: Machine>(
     alloc: Global,
     machine: &M,

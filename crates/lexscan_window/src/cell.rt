@@ -4,7 +4,8 @@ ghost use Rattle.lex_semantics.specs.Text.{Among};
 ghost use Rattle.lexscan_window.specs.Memos.{marks_of};
 ghost use Rattle.lexscan_window.specs.declared.memo.Mark.{Mark};
 
-/// From one to four states at a place of the source. Where there are fewer than four, the first one stands more than once.
+/// From one to four states at a place of the source. Where there are fewer than four, the first one stands more than
+/// once.
 #[derive(Clone, Copy, Debug, PartialEq, Eq)]
 pub struct Cell {
     place: u64,
@@ -50,8 +51,8 @@ impl Cell {
         self.second == self.first || self.third == self.first || self.fourth == self.first
     }
 
-    /// The same with this state, in place of one that stands more than once or else of the last one. All are dropped where it is
-    /// about another place, and nothing is changed where it has the state.
+    /// The same with this state, in place of one that stands more than once or else of the last one. All are dropped
+    /// where it is about another place, and nothing is changed where it has the state.
     pub fn marked(self, place: u64, state: u16) -> Cell
         ensures { (m : Mark) → Among (marks_of result) m → Among (marks_of self) m
             ⊎ (m ≡ record { place = place; state = state }) }

@@ -1,5 +1,6 @@
 //! The two ends of a scan, each with what is known of its count of failures.
-ghost use Rattle.std.specs.Prelude.{◌≡◌, ℕ, ◌+◌, ◌-◌, ◌^◌, ◌<◌, ◌≤◌, List, [], ◌++◌, length, take, true, false, is_ok, OnOk, OnErr};
+ghost use Rattle.std.specs.Prelude.{◌≡◌, ℕ, ◌+◌, ◌-◌, ◌^◌, ◌<◌, ◌≤◌, List, [], ◌++◌, length, take, true, false};
+ghost use Rattle.std.specs.Prelude.{is_ok, OnOk, OnErr};
 ghost use Rattle.lex_io.specs.Source.{given, end_count};
 ghost use Rattle.lex_io.specs.Sink.{Appended, fault_count};
 ghost use Rattle.lexscan_window.specs.Answer.{gives_byte};

@@ -1,5 +1,5 @@
-//! What a scan holds, and the two ends that it works at: its window over the input, the stack of conditions, marks, the states
-//! after bytes, and how a byte is read and an action carried out.
+//! What a scan holds, and the two ends that it works at: its window over the input, the stack of conditions, marks,
+//! the states after bytes, and how a byte is read and an action carried out.
 #![tactic(auto)]
 
 mod act;

@@ -8,8 +8,8 @@ pub enum MatchedRule {
     Default,
 }
 
-/// A match that was carried out: its rule, where its text begins, counted in bytes of the input, and how long that is: with
-/// what yymore kept before it, and after trailing context and yyless.
+/// A match that was carried out: its rule, where its text begins, counted in bytes of the input, and how long that
+/// is: with what yymore kept before it, and after trailing context and yyless.
 #[derive(Clone, Copy, Debug, PartialEq, Eq)]
 pub struct Match {
     pub rule: MatchedRule,
@@ -17,8 +17,8 @@ pub struct Match {
     pub length: usize,
 }
 
-/// A match at the front of a text: its rule, how many bytes it takes, and how many of these are its text, which ends before trailing
-/// context.
+/// A match at the front of a text: its rule, how many bytes it takes, and how many of these are its text, which ends
+/// before trailing context.
 #[derive(Clone, Copy, Debug, PartialEq, Eq)]
 pub struct Candidate {
     pub rule: MatchedRule,

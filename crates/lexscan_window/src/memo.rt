@@ -1,5 +1,5 @@
-//! What is known of walks over bytes that are held: Reps's table of pairs of a state and a place that lead to no match, kept
-//! for some places alone. (Reps, Maximal-munch tokenization in linear time, 1998.)
+//! What is known of walks over bytes that are held: Reps's table of pairs of a state and a place that lead to no
+//! match, kept for some places alone. (Reps, Maximal-munch tokenization in linear time, 1998.)
 ghost use Rattle.std.specs.Prelude.{◌≡◌, ℕ, ◌+◌, ◌-◌, ◌<◌, ◌≤◌, [], length, ◌⊎◌, true, IfSome};
 ghost use Rattle.lex_semantics.specs.Text.{Among};
 ghost use Rattle.lexscan_window.specs.Memos.{unmarked};
@@ -18,8 +18,9 @@ pub struct Mark {
 /// How many bytes of the source there are for each cell.
 const BYTES_PER_CELL: usize = 16;
 
-/// Marks at each place that is a multiple of the stride, in a table with a row of cells for each such place, used over and over as
-/// the scan goes on. The cells of a row stand `rows` apart. Where a row is full the next table has half as many, each twice as long.
+/// Marks at each place that is a multiple of the stride, in a table with a row of cells for each such place, used
+/// over and over as the scan goes on. The cells of a row stand `rows` apart. Where a row is full the next table has
+/// half as many, each twice as long.
 #[derive(Drop)]
 pub struct Memo {
     cells: Vec<Cell>,

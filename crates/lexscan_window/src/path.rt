@@ -1,5 +1,6 @@
 //! The states of a match.
-ghost use Rattle.std.specs.Prelude.{◌≡◌, ℕ, ◌+◌, ◌-◌, ◌<◌, ◌≤◌, List, [], ◌∷◌, ◌++◌, length, true, OnOk, OnErr, vec_len, vec_capacity, nat_lt, get_or, ◌^◌};
+ghost use Rattle.std.specs.Prelude.{◌≡◌, ℕ, ◌+◌, ◌-◌, ◌<◌, ◌≤◌, List, [], ◌∷◌, ◌++◌, length, true, OnOk, OnErr};
+ghost use Rattle.std.specs.Prelude.{vec_len, vec_capacity, nat_lt, get_or, ◌^◌};
 
 use std::alloc::{AllocError, Global};
 use std::marker::Model;

@@ -1,5 +1,6 @@
 //! What a scanner keeps of its source.
-ghost use Rattle.std.specs.Prelude.{◌≡◌, ℕ, ◌+◌, ◌-◌, ◌^◌, ◌<◌, ◌≤◌, List, [], ◌∷◌, ◌++◌, length, max, true, false, OnOk, OnErr, IfOk, IsErrOf, ◌⊎◌, if◌then◌else◌};
+ghost use Rattle.std.specs.Prelude.{◌≡◌, ℕ, ◌+◌, ◌-◌, ◌^◌, ◌<◌, ◌≤◌, List, [], ◌∷◌, ◌++◌, length, max, true, false};
+ghost use Rattle.std.specs.Prelude.{OnOk, OnErr, IfOk, IsErrOf, ◌⊎◌, if◌then◌else◌};
 ghost use Rattle.lex_io.specs.Source.{given};
 ghost use Rattle.lex_semantics.specs.Text.{IsText};
 ghost use Rattle.lexscan_window.specs.Walks.{Grown, Walked, StopsAt, ends_at};
@@ -137,8 +138,8 @@ fn walk_one<M: Machine>(machine: &M, first: u32, byte: u8) -> Walk
     Walk::new(1, state, first, stop)
 }
 
-/// Takes bytes that the source has ready into the window as long as the machine asks for one more; or reads one byte, where none
-/// is ready. What is refused is refused before a byte is taken.
+/// Takes bytes that the source has ready into the window as long as the machine asks for one more; or reads one byte,
+/// where none is ready. What is refused is refused before a byte is taken.
 #[inline(always)]
 pub fn fill<M: Machine, S: Source, K: Sink>(
     machine: &M,

@@ -8,7 +8,8 @@ use crate::stack::Stack;
 use crate::window::Window;
 use std::alloc::Global;
 
-/// The bytes held, and what is known of the source. The bytes taken and the answer of the end are no more than `max_reads`.
+/// The bytes held, and what is known of the source. The bytes taken and the answer of the end are no more than
+/// `max_reads`.
 #[derive(Drop)]
 pub struct Reading {
     pub window: Window,

@@ -39,8 +39,8 @@ impl Walk {
     }
 }
 
-/// Takes bytes to a place of no more bytes, as long as there is room for them and the machine asks for one more. Where the machine
-/// finds the last of them at a glance, it takes them at once.
+/// Takes bytes to a place of no more bytes, as long as there is room for them and the machine asks for one more.
+/// Where the machine finds the last of them at a glance, it takes them at once.
 #[inline(always)]
 pub fn walk_into<M: Machine>(place: &mut [u8], machine: &M, ready: &[u8], first: u32) -> Walk
     requires known { first < M.states machine.now }

@@ -1,5 +1,6 @@
 //! The bytes that a scan holds.
-ghost use Rattle.std.specs.Prelude.{◌≡◌, ℕ, ◌+◌, ◌-◌, ◌<◌, ◌≤◌, List, [], ◌∷◌, ◌++◌, length, take, drop, true, false, OnOk, OnErr, vec_len, nat_lt, slice_range, get_or, ◌^◌};
+ghost use Rattle.std.specs.Prelude.{◌≡◌, ℕ, ◌+◌, ◌-◌, ◌<◌, ◌≤◌, List, [], ◌∷◌, ◌++◌, length, take, drop, true, false};
+ghost use Rattle.std.specs.Prelude.{OnOk, OnErr, vec_len, nat_lt, slice_range, get_or, ◌^◌};
 ghost use Rattle.lexscan_window.specs.Walks.{Filled};
 ghost use Rattle.lexscan_window.specs.Window.{last_of};
 
@@ -11,8 +12,8 @@ use std::marker::Model;
 /// How many bytes there is room for at first.
 const FIRST_ROOM: usize = 8_192;
 
-/// A list of bytes that is used up from the front: those of the buffer from `start` to `end`. What follows is room. Up to
-/// `shown` it may show bytes that are not held yet.
+/// A list of bytes that is used up from the front: those of the buffer from `start` to `end`. What follows is room.
+/// Up to `shown` it may show bytes that are not held yet.
 #[derive(Drop)]
 pub struct Window {
     buffer: Vec<u8>,
@@ -63,7 +64,8 @@ impl Window {
         self.grow()
     }
 
-    /// Moves the bytes to the front of the buffer, where at least as many were dropped, or else makes the buffer longer.
+    /// Moves the bytes to the front of the buffer, where at least as many were dropped, or else makes the buffer
+    /// longer.
     #[cold]
     #[inline(never)]
     fn grow(&mut self) -> Result<(), AllocError>
@@ -101,7 +103,8 @@ impl Window {
         self.end += 1;
     }
 
-    /// Takes the first of these bytes, at most this many, as long as there is room for them and the machine asks for one more.
+    /// Takes the first of these bytes, at most this many, as long as there is room for them and the machine asks for
+    /// one more.
     #[inline(always)]
     pub fn fill<M: Machine>(&mut self, machine: &M, ready: &[u8], first: u32, most: u64) -> Walk
         requires known { first < M.states machine.now }
@@ -179,7 +182,8 @@ impl Window {
         self.end - self.start
     }
 
-    /// Moves the bytes to the front of the buffer, where at least as many were dropped and there is less room than this.
+    /// Moves the bytes to the front of the buffer, where at least as many were dropped and there is less room than
+    /// this.
     fn close_up(&mut self, most: usize)
         ensures bytes { self.new.bytes ≡ self.old.bytes }
     {
