@@ -1,5 +1,5 @@
 //! What ends a program before its work is done.
-ghost use Rattle.std.specs.Prelude.{◌≡◌, ⊥};
+ghost use Rattle.std.specs.Prelude.{◌≡◌};
 ghost use Rattle.lexkit.specs.Failures.{Tells, out_of_memory};
 
 use crate::errors::{GenError, ScanError};
