@@ -64,8 +64,8 @@ fn add_letter(base: usize, entered: bool, next: &mut Vec<u32>) -> Result<(), All
     Ok(())
 }
 
-/// Adds so many positions, of which `base` is the first. It holds the list meanwhile, so that its length is not stored for
-/// each of them.
+/// Adds so many positions, of which `base` is the first. It holds the list meanwhile, so that its length is not
+/// stored for each of them.
 fn add_all(base: usize, count: u8, next: &mut Vec<u32>) -> Result<(), AllocError>
     requires few { base + count < 2 ^ 32 }
     requires front { IsFront next.old.items base }
@@ -94,7 +94,8 @@ fn is_cursor(last: &[u32], at: usize, end: usize) -> bool
     (last[at - 1] as usize) < end && is_quiet(last, at, end)
 }
 
-/// Where the last positions from `end` on begin. It looks first where they do if all from `base` to there are last ones.
+/// Where the last positions from `end` on begin. It looks first where they do if all from `base` to there are
+/// last ones.
 fn skip_last(last: &[u32], at: usize, base: usize, end: usize) -> usize
     requires cursor { IsCursor last.now at base }
     requires order { base ≤ end }
