@@ -11,7 +11,6 @@ mod labels;
 mod laws;
 mod least;
 mod naming;
-mod reading;
 mod sides;
 mod telling;
 mod tracing;
