@@ -3,7 +3,7 @@ use Rattle.std.specs.Prelude.{◌≡◌, ℕ, ◌==◌, ◌&&◌, Bool, true, fa
 use Rattle.std.specs.List.{concat, flat_map}
 use Rattle.lex_semantics.specs.Spec.{Spec}
 use Rattle.lex_semantics.specs.Machine.{Machine, state_after}
-use Rattle.lexlook_pictures.specs.Classes.{octal}
+use Rattle.lex_io.specs.Octal.{octal}
 use Rattle.lexlook_pictures.specs.Pictures.{quoted_byte}
 use Rattle.lexlook_same.specs.Same.{number_in, rules_at}
 use Rattle.lexlook_same.specs.declared.differing.Difference.{Difference}

@@ -9,7 +9,6 @@ mod labels;
 mod laws;
 mod least;
 mod naming;
-mod reading;
 mod sides;
 mod telling;
 mod tracing;

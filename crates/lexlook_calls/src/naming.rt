@@ -1,5 +1,6 @@
 //! Which condition of one scanner is which of another: by name.
-ghost use Rattle.std.specs.Prelude.{◌≡◌, ◌<◌, ◌≤◌, ℕ, List, true, false, Some, None, length, map, slice_get, IfOk, IfSome};
+ghost use Rattle.std.specs.Prelude.{◌≡◌, ◌<◌, ◌≤◌, ℕ, List, true, false, Some, None};
+ghost use Rattle.std.specs.Prelude.{length, map, slice_get, IfOk, IfSome};
 ghost use Rattle.lexlook_calls.specs.Naming.{AreNamed};
 
 use std::alloc::{AllocError, Global};

@@ -6,8 +6,7 @@ ghost use Rattle.lexlook_calls.specs.Sides.{StandsFor, IsRefused, is_table_file,
 
 use crate::error::LookError;
 use crate::least::least_automaton;
-use crate::reading::read_text;
-use lexkit::{Options, Tables, read_tables};
+use lexkit::{Options, Tables, read_tables, read_text};
 use lexspec::Spec;
 use lextab_packing::pack;
 use std::alloc::Global;

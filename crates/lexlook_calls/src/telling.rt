@@ -16,6 +16,7 @@ ghost use Rattle.lexlook_same.specs.declared.tables.Comparison.{Comparison};
 ghost use Rattle.lexlook_calls.specs.Sides.{read_as};
 
 use crate::sides::Side;
+use lex_io::octal;
 use lexlook_pictures::{add, add_number};
 use lexlook_same::{Comparison, Difference, counts_all, number_in, rules_after};
 use lexspec::Spec;
@@ -37,15 +38,7 @@ fn add_in_quotes(text: &mut Vec<u8>, byte: u8) -> Result<(), AllocError>
         b'\n' => add(text, b"\\n"),
         b'"' | b'\\' => add(text, &[b'\\', byte]),
         b' '..=b'~' => add(text, &[byte]),
-        _ => add(
-            text,
-            &[
-                b'\\',
-                b'0' + byte / 64,
-                b'0' + byte / 8 % 8,
-                b'0' + byte % 8,
-            ],
-        ),
+        _ => add(text, &octal(byte)),
     }
 }
 

@@ -5,15 +5,15 @@ ghost use Rattle.lexkit.specs.ScanCounts.{HandedOn, read_fault_count, write_faul
 ghost use Rattle.lexlook_calls.specs.Tracing.{Traces};
 ghost use Rattle.lexscan_window.specs.declared.error.RunError.TheVariants.{Failed};
 
-use crate::reading::read_text;
-use lexkit::{GenError, Options, ScanError, Sink, Source, scan_by};
+use lexkit::{GenError, Options, ScanError, Sink, Source, read_text, scan_by};
 use lexlook_trace::traced;
 use std::alloc::Global;
 
-/// Scans the source by the specification that a text spells, and writes to the sink, in place of what its actions write, a line for
-/// each match, in the words of flex's `-d`. It answers the status that the scan ends with, 0 to 63, and takes no byte of the source
-/// that no rule asks for. A text that spells no specification, or one that has no room for the lines (`TooManyRules`, `TooLong`) or
-/// whose automaton passes the limits, is refused, and then neither the source nor the sink is touched.
+/// Scans the source by the specification that a text spells, and writes to the sink, in place of what its actions
+/// write, a line for each match, in the words of flex's `-d`. It answers the status that the scan ends with, 0 to 63,
+/// and takes no byte of the source that no rule asks for. A text that spells no specification, or one that has no room
+/// for the lines (`TooManyRules`, `TooLong`) or whose automaton passes the limits, is refused, and then neither the
+/// source nor the sink is touched.
 pub fn trace<S: Source, K: Sink>(
     alloc: Global,
     text: &[u8],

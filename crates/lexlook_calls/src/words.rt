@@ -1,5 +1,6 @@
 //! The texts that the rules of a specification take.
-ghost use Rattle.std.specs.Prelude.{◌≡◌, ◌≤◌, ◌<◌, ◌+◌, ◌-◌, ◌^◌, ◌++◌, List, ℕ, [], length, map, Some, None, IfOk, IfErr, OnOk};
+ghost use Rattle.std.specs.Prelude.{◌≡◌, ◌≤◌, ◌<◌, ◌+◌, ◌-◌, ◌^◌, ◌++◌, List, ℕ};
+ghost use Rattle.std.specs.Prelude.{[], length, map, Some, None, IfOk, IfErr, OnOk};
 ghost use Rattle.std.specs.Prelude.{slice_get, slice_index_or};
 ghost use Rattle.std.specs.List.{flat_map};
 ghost use Rattle.lex_io.specs.Sink.{Appended};
@@ -15,10 +16,9 @@ ghost use Rattle.lexlook_calls.specs.Words.{default_line, line_words, never_word
 
 use crate::error::LookError;
 use crate::labels::names_of;
-use crate::reading::read_text;
 use crate::telling::{add_start, add_string};
 use lexauto::build;
-use lexkit::{GenError, Limits, Options, Sink, lines_of};
+use lexkit::{GenError, Limits, Options, Sink, lines_of, read_text};
 use lexlook_pictures::{add, add_number};
 use lexlook_words::{Place, Word, Words, find_words, rejecting, rejects_of};
 use lexspec::Spec;
@@ -168,9 +168,9 @@ fn words_of(alloc: Global, spec: Spec, limits: Limits) -> Result<Found, GenError
     }
 }
 
-/// Writes for each rule of the specification that a text spells a line with the first of the shortest texts that it takes, or
-/// with the rules that take its texts; and a line of the default rule. A text that spells no specification, or one whose
-/// automaton passes the limits, is refused, and then nothing is written.
+/// Writes for each rule of the specification that a text spells a line with the first of the shortest texts that it
+/// takes, or with the rules that take its texts; and a line of the default rule. A text that spells no specification,
+/// or one whose automaton passes the limits, is refused, and then nothing is written.
 pub fn tell_words<K: Sink>(
     alloc: Global,
     text: &[u8],
