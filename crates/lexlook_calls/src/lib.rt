@@ -18,7 +18,7 @@ pub use comparing::{Given, tell_same};
 pub use cuts::tell_lines;
 pub use drawing::draw;
 pub use error::LookError;
-pub use lexlook_command::{Look, read_args, write_help};
 pub use laws::{equal_are_same, one_picture, same_scan_alike};
+pub use lexlook_command::{Look, read_args, write_help};
 pub use tracing::trace;
 pub use words::tell_words;
