@@ -10,7 +10,7 @@ use Rattle.lexauto_positions.specs.Flow.{is_none, passes, comes, exits, exits_ea
 use Rattle.lexauto_positions.specs.RuleFlow.{reads, each_read, copies_read}
 use Rattle.lexauto_positions.specs.Alike.{Alike, AlikeAll}
 use Rattle.lexauto_positions.specs.Plans.{plans, tree_in, trees_in, trees_laid, plan_of, IsSized, AreSized}
-use Rattle.lexauto_positions.specs.declared.layout.Part.{Part}
+use Rattle.lexauto_positions.specs.declared.layout.SizedPattern.{SizedPattern}
 use Rattle.lexauto_positions.proofs.Copies.{nothing_left, nothing_comes}
 use Rattle.lexauto_positions.proofs.LetterTests.{nothing_read}
 
@@ -121,7 +121,7 @@ pub alike_within : (before : List Tree) (t u : Tree) (rest : List Tree) → Alik
 alike_within [] t u rest h = alike_first t u (trees rest) (trees rest) h (all_alike_self (trees rest))
 alike_within (x ∷ before) t u rest h = alike_first x x (trees (before ++ t ∷ rest)) (trees (before ++ u ∷ rest)) (alike_self x) (alike_within before t u rest h)
 
-pub laid_are : (ps : List Part) → trees (trees_laid ps) ≡ trees_in (plans (map plan_of ps))
+pub laid_are : (ps : List SizedPattern) → trees (trees_laid ps) ≡ trees_in (plans (map plan_of ps))
 laid_are [] = refl
 laid_are (p ∷ ps) = ap (tree (tree_in (plan_of p))) (laid_are ps)
 
@@ -129,11 +129,11 @@ pub none_after : (ts : List Tree) → ts ++ [] ≡ ts
 none_after [] = refl
 none_after (t ∷ ts) = ap (λ us. t ∷ us) (none_after ts)
 
-pub sized_more : (ps : List Part) (p : Part) → positions_of (trees_in (plans (map plan_of (ps ++ p ∷ [])))) ≡ positions_of (trees_in (plans (map plan_of ps))) + positions (tree_in (plan_of p))
+pub sized_more : (ps : List SizedPattern) (p : SizedPattern) → positions_of (trees_in (plans (map plan_of (ps ++ p ∷ [])))) ≡ positions_of (trees_in (plans (map plan_of ps))) + positions (tree_in (plan_of p))
 sized_more [] p = omega arith
 sized_more (x ∷ ps) p = let r = sized_more ps p in omega (arith, r)
 
-pub are_sized_more : (ps : List Part) (p : Part) → AreSized (plans (map plan_of ps)) → IsSized (plan_of p) → AreSized (plans (map plan_of (ps ++ p ∷ [])))
+pub are_sized_more : (ps : List SizedPattern) (p : SizedPattern) → AreSized (plans (map plan_of ps)) → IsSized (plan_of p) → AreSized (plans (map plan_of (ps ++ p ∷ [])))
 are_sized_more [] p h k = (k, tt)
 are_sized_more (x ∷ ps) p h k = (h.0, are_sized_more ps p h.1 k)
 

@@ -9,7 +9,7 @@ use Rattle.lexauto_positions.specs.RuleFlow.{reads, each_read}
 use Rattle.lexauto_positions.specs.Alike.{Alike, AlikeAll, choice_of}
 use Rattle.lexauto_positions.specs.Signs.{signed}
 use Rattle.lexauto_positions.specs.Plans.{plan_of, tree_in, trees_laid}
-use Rattle.lexauto_positions.specs.declared.layout.Part.{Part}
+use Rattle.lexauto_positions.specs.declared.layout.SizedPattern.{SizedPattern}
 use Rattle.lexauto_positions.specs.declared.layout.Sign.TheVariants as S
 use Rattle.lexauto_positions.proofs.Copies.{or_false}
 use Rattle.lexauto_positions.proofs.AlikeLaws.{alike_on, alike_within, alike_series, alike_choice, alike_repeat}
@@ -81,7 +81,7 @@ choice_without true before rest =
     (one_sign S.Optional S.Optional S.Optional refl refl (Alt (trees (before ++ rest))))
     (alike_signed S.Optional own (Alt (trees (before ++ Empty ∷ rest))) (choice_once before rest))
 
-module _ (laid : List Part) (p : Part) (t : Tree) (rest : List Tree) (whole : Tree) (h : Alike (tree_in (plan_of p)) t) where
+module _ (laid : List SizedPattern) (p : SizedPattern) (t : Tree) (rest : List Tree) (whole : Tree) (h : Alike (tree_in (plan_of p)) t) where
   module _ (e : tree_in (plan_of p) ≡ Empty) where
     empty : AlikeAll (trees (trees_laid laid ++ Empty ∷ rest)) (trees (trees_laid laid ++ t ∷ rest))
     empty = alike_within (trees_laid laid) Empty t rest (subst (λ u. Alike u t) e h)
@@ -97,7 +97,7 @@ module _ (laid : List Part) (p : Part) (t : Tree) (rest : List Tree) (whole : Tr
         (alike_on (choice_of o (trees (trees_laid laid ++ Empty ∷ rest))) (choice_of o (trees (trees_laid laid ++ t ∷ rest))) whole
         (choice_alike o (trees (trees_laid laid ++ Empty ∷ rest)) (trees (trees_laid laid ++ t ∷ rest)) empty) k)
 
-  regroup : (ps : List Part) → trees_laid (ps ++ p ∷ []) ++ rest ≡ trees_laid ps ++ tree_in (plan_of p) ∷ rest
+  regroup : (ps : List SizedPattern) → trees_laid (ps ++ p ∷ []) ++ rest ≡ trees_laid ps ++ tree_in (plan_of p) ∷ rest
   regroup [] = refl
   regroup (x ∷ ps) = ap (λ ts. tree_in (plan_of x) ∷ ts) (regroup ps)
 

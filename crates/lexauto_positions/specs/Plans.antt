@@ -3,9 +3,9 @@ use Rattle.std.specs.Prelude.{◌≡◌, ℕ, ◌*◌, List, [], ◌∷◌, map,
 use Rattle.lex_semantics.specs.ByteSets.{ByteSet}
 use Rattle.lex_semantics.specs.Tree.{Tree, Trees, Empty, Set, Cat, Alt, Star, Repeat, no_trees, tree}
 use Rattle.lex_semantics.specs.Positions.{positions, positions_of, copies}
-use Rattle.lexauto_positions.specs.declared.layout.Part.{Part}
-use Rattle.lexauto_positions.specs.declared.layout.Part.TheOpen.{Part-F}
-use Rattle.lexauto_positions.specs.declared.layout.Part.TheFolds.{fold-Part}
+use Rattle.lexauto_positions.specs.declared.layout.SizedPattern.{SizedPattern}
+use Rattle.lexauto_positions.specs.declared.layout.SizedPattern.TheOpen.{SizedPattern-F}
+use Rattle.lexauto_positions.specs.declared.layout.SizedPattern.TheFolds.{fold-SizedPattern}
 
 mutual
   pub data Plan : Type 0 where
@@ -59,17 +59,17 @@ abbrev mutual
   AreSized (plan p ps) = IsSized p × AreSized ps
 
 -- one node, with the plan of each child in its place
-abbrev pub node_plan : Part-F Plan → Plan
-node_plan Part-F.Nothing = Nothing
-node_plan (Part-F.Letter s) = Letter s
-node_plan (Part-F.Series n parts) = Series n (plans parts.items)
-node_plan (Part-F.Choice n parts) = Choice n (plans parts.items)
-node_plan (Part-F.Star n inner) = Loop n inner.value
-node_plan (Part-F.Repeat n inner m k) = Copies n inner.value m k
+abbrev pub node_plan : SizedPattern-F Plan → Plan
+node_plan SizedPattern-F.Nothing = Nothing
+node_plan (SizedPattern-F.Letter s) = Letter s
+node_plan (SizedPattern-F.Series n parts) = Series n (plans parts.items)
+node_plan (SizedPattern-F.Choice n parts) = Choice n (plans parts.items)
+node_plan (SizedPattern-F.Star n inner) = Loop n inner.value
+node_plan (SizedPattern-F.Repeat n inner m k) = Copies n inner.value m k
 
-abbrev pub plan_of : Part → Plan
-plan_of = fold-Part Plan node_plan
+abbrev pub plan_of : SizedPattern → Plan
+plan_of = fold-SizedPattern Plan node_plan
 
 -- the trees of parts
-abbrev pub trees_laid : List Part → List Tree
+abbrev pub trees_laid : List SizedPattern → List Tree
 trees_laid ps = map (λ p. tree_in (plan_of p)) ps

@@ -16,34 +16,34 @@ use std::alloc::{AllocError, Global};
 
 /// A pattern laid out. No part of another is without positions.
 #[derive(Drop)]
-pub(crate) enum Part {
+pub(crate) enum SizedPattern {
     /// No position.
     Nothing,
     /// One position, where a byte of the set is read.
     Letter(ByteSet),
     /// The parts one after another.
-    Series(u32, Vec<Part>),
+    Series(u32, Vec<SizedPattern>),
     /// One of the parts.
-    Choice(u32, Vec<Part>),
+    Choice(u32, Vec<SizedPattern>),
     /// Any number of times.
-    Star(u32, Box<Part>),
+    Star(u32, Box<SizedPattern>),
     /// At least this many times, and at most this many where there is an upper bound.
-    Repeat(u32, Box<Part>, u8, Option<u8>),
+    Repeat(u32, Box<SizedPattern>, u8, Option<u8>),
 }
 
-impl Part {
+impl SizedPattern {
     /// How many positions the part has.
     pub(crate) fn size(&self) -> u32
         requires { IsSized (plan_of self.now) }
         ensures { result ≡ positions (tree_in (plan_of self.now)) }
     {
         match self {
-            Part::Nothing => 0,
-            Part::Letter(_) => 1,
-            Part::Series(size, _) => *size,
-            Part::Choice(size, _) => *size,
-            Part::Star(size, _) => *size,
-            Part::Repeat(size, _, _, _) => *size,
+            SizedPattern::Nothing => 0,
+            SizedPattern::Letter(_) => 1,
+            SizedPattern::Series(size, _) => *size,
+            SizedPattern::Choice(size, _) => *size,
+            SizedPattern::Star(size, _) => *size,
+            SizedPattern::Repeat(size, _, _, _) => *size,
         }
     }
 
@@ -51,7 +51,7 @@ impl Part {
     fn is_nothing(&self) -> bool
         ensures { result ≡ true → tree_in (plan_of self.now) ≡ Empty }
     {
-        matches!(self, Part::Nothing)
+        matches!(self, SizedPattern::Nothing)
     }
 }
 
@@ -80,30 +80,30 @@ impl Sign {
     }
 
     /// An item of this size under the sign.
-    fn over(self, size: u32, item: Box<Part>) -> Part
+    fn over(self, size: u32, item: Box<SizedPattern>) -> SizedPattern
         requires sized { IsSized (plan_of item.value) }
         requires size { size ≡ positions (tree_in (plan_of item.value)) }
         ensures sized { IsSized (plan_of result) }
         ensures tree { tree_in (plan_of result) ≡ signed self (tree_in (plan_of item.value)) }
     {
         match self {
-            Sign::Optional => Part::Repeat(size, item, 0, Some(1)),
-            Sign::Plus => Part::Repeat(size, item, 1, None),
-            Sign::Star => Part::Star(size, item),
+            Sign::Optional => SizedPattern::Repeat(size, item, 0, Some(1)),
+            Sign::Plus => SizedPattern::Repeat(size, item, 1, None),
+            Sign::Star => SizedPattern::Star(size, item),
         }
     }
 }
 
 /// A part under a sign. Where it is under a sign already, one does for both.
-fn sign_part(alloc: Global, part: Part, sign: Sign) -> Result<Part, AllocError>
+fn sign_part(alloc: Global, part: SizedPattern, sign: Sign) -> Result<SizedPattern, AllocError>
     requires sized { IsSized (plan_of part) }
     ensures sized { IfOk result (λ p. IsSized (plan_of p)) }
     ensures alike { IfOk result (λ p. Alike (tree_in (plan_of p)) (signed sign (tree_in (plan_of part)))) }
 {
     match part {
-        Part::Star(size, item) => Ok(sign.on(Sign::Star).over(size, item)),
-        Part::Repeat(size, item, 1, None) => Ok(sign.on(Sign::Plus).over(size, item)),
-        Part::Repeat(size, item, 0, Some(1)) => Ok(sign.on(Sign::Optional).over(size, item)),
+        SizedPattern::Star(size, item) => Ok(sign.on(Sign::Star).over(size, item)),
+        SizedPattern::Repeat(size, item, 1, None) => Ok(sign.on(Sign::Plus).over(size, item)),
+        SizedPattern::Repeat(size, item, 0, Some(1)) => Ok(sign.on(Sign::Optional).over(size, item)),
         part => {
             let size = part.size();
             Ok(sign.over(size, Box::new(alloc, part)?))
@@ -112,18 +112,18 @@ fn sign_part(alloc: Global, part: Part, sign: Sign) -> Result<Part, AllocError>
 }
 
 /// Copies of a part.
-fn copy_part(alloc: Global, part: Part, least: u8, most: Option<u8>) -> Result<Part, AllocError>
+fn copy_part(alloc: Global, part: SizedPattern, least: u8, most: Option<u8>) -> Result<SizedPattern, AllocError>
     requires sized { IsSized (plan_of part) }
     requires few { copies least most * positions (tree_in (plan_of part)) < 2 ^ 32 }
     ensures sized { IfOk result (λ p. IsSized (plan_of p)) }
     ensures tree { IfOk result (λ p. tree_in (plan_of p) ≡ Repeat (tree_in (plan_of part)) least most) }
 {
     let size = u32::from(copies_of(least, most).count) * part.size();
-    Ok(Part::Repeat(size, Box::new(alloc, part)?, least, most))
+    Ok(SizedPattern::Repeat(size, Box::new(alloc, part)?, least, most))
 }
 
 /// A part that is repeated between these bounds.
-fn repeat(alloc: Global, part: Part, least: u8, most: Option<u8>) -> Result<Part, AllocError>
+fn repeat(alloc: Global, part: SizedPattern, least: u8, most: Option<u8>) -> Result<SizedPattern, AllocError>
     requires sized { IsSized (plan_of part) }
     requires few { copies least most * positions (tree_in (plan_of part)) < 2 ^ 32 }
     ensures sized { IfOk result (λ p. IsSized (plan_of p)) }
@@ -139,7 +139,7 @@ fn repeat(alloc: Global, part: Part, least: u8, most: Option<u8>) -> Result<Part
 }
 
 /// The only one of the parts, taken out, where there is just one.
-fn only(parts: &mut Vec<Part>) -> Option<Part>
+fn only(parts: &mut Vec<SizedPattern>) -> Option<SizedPattern>
     ensures one { IfSome result (λ p. parts.old.items ≡ p ∷ []) }
     ensures other { IfNone result (parts.new.items ≡ parts.old.items) }
 {
@@ -152,14 +152,14 @@ fn only(parts: &mut Vec<Part>) -> Option<Part>
 /// Those parts that have positions, how many these are together, and whether there was a part without.
 #[derive(Drop)]
 struct Row {
-    parts: Vec<Part>,
+    parts: Vec<SizedPattern>,
     size: u32,
     has_empty: bool,
 }
 
 impl Row {
     /// Adds a part, or tells that there was one without positions.
-    fn add(&mut self, part: Part) -> Result<(), AllocError>
+    fn add(&mut self, part: SizedPattern) -> Result<(), AllocError>
         requires sized { AreSized (plans (map plan_of self.old.parts.items)) }
         requires part { IsSized (plan_of part) }
         requires few { self.old.size + positions (tree_in (plan_of part)) < 2 ^ 32 }
@@ -185,7 +185,7 @@ impl Row {
 }
 
 /// The parts one after another.
-fn series(row: Row) -> Part
+fn series(row: Row) -> SizedPattern
     requires sized { AreSized (plans (map plan_of row.parts.items)) }
     requires size { row.size ≡ positions_of (trees_in (plans (map plan_of row.parts.items))) }
     ensures sized { IsSized (plan_of result) }
@@ -194,12 +194,12 @@ fn series(row: Row) -> Part
     let mut parts = row.parts;
     match only(&mut parts) {
         Some(part) => part,
-        None => Part::Series(row.size, parts),
+        None => SizedPattern::Series(row.size, parts),
     }
 }
 
 /// One of the parts.
-fn one_of(size: u32, all: Vec<Part>) -> Part
+fn one_of(size: u32, all: Vec<SizedPattern>) -> SizedPattern
     requires sized { AreSized (plans (map plan_of all.items)) }
     requires size { size ≡ positions_of (trees_in (plans (map plan_of all.items))) }
     ensures sized { IsSized (plan_of result) }
@@ -208,12 +208,12 @@ fn one_of(size: u32, all: Vec<Part>) -> Part
     let mut parts = all;
     match only(&mut parts) {
         Some(part) => part,
-        None => Part::Choice(size, parts),
+        None => SizedPattern::Choice(size, parts),
     }
 }
 
 /// One of the parts, or none where there was one without positions.
-fn choice(alloc: Global, row: Row) -> Result<Part, AllocError>
+fn choice(alloc: Global, row: Row) -> Result<SizedPattern, AllocError>
     requires sized { AreSized (plans (map plan_of row.parts.items)) }
     requires size { row.size ≡ positions_of (trees_in (plans (map plan_of row.parts.items))) }
     ensures sized { IfOk result (λ p. IsSized (plan_of p)) }
@@ -229,7 +229,7 @@ fn choice(alloc: Global, row: Row) -> Result<Part, AllocError>
 
 /// A pattern laid out.
 #[cycle(lay)]
-pub(crate) fn lay(alloc: Global, pattern: &Pattern) -> Result<Part, AllocError>
+pub(crate) fn lay(alloc: Global, pattern: &Pattern) -> Result<SizedPattern, AllocError>
     requires sound { IsSoundTree (tree_of pattern.now) }
     requires few { positions (tree_of pattern.now) < 2 ^ 32 }
     ensures sized { IfOk result (λ p. IsSized (plan_of p)) }
@@ -237,31 +237,31 @@ pub(crate) fn lay(alloc: Global, pattern: &Pattern) -> Result<Part, AllocError>
 {
     let part = lay_node(alloc, pattern)?;
     if part.size() == 0 {
-        return Ok(Part::Nothing);
+        return Ok(SizedPattern::Nothing);
     }
     Ok(part)
 }
 
 #[cycle(lay)]
-fn lay_node(alloc: Global, pattern: &Pattern) -> Result<Part, AllocError>
+fn lay_node(alloc: Global, pattern: &Pattern) -> Result<SizedPattern, AllocError>
     requires sound { IsSoundTree (tree_of pattern.now) }
     requires few { positions (tree_of pattern.now) < 2 ^ 32 }
     ensures sized { IfOk result (λ p. IsSized (plan_of p)) }
     ensures alike { IfOk result (λ p. Alike (tree_in (plan_of p)) (tree_of pattern.now)) }
 {
     match pattern {
-        Pattern::Empty => Ok(Part::Nothing),
-        Pattern::Set(set) => Ok(Part::Letter(*set)),
+        Pattern::Empty => Ok(SizedPattern::Nothing),
+        Pattern::Set(set) => Ok(SizedPattern::Letter(*set)),
         Pattern::Cat(parts) => {
             if parts.is_bare() {
-                return Ok(Part::Nothing);
+                return Ok(SizedPattern::Nothing);
             }
             let row = lay_all(alloc, parts.items())?;
             Ok(series(row))
         }
         Pattern::Alt(parts) => {
             if parts.is_bare() {
-                return Ok(Part::Nothing);
+                return Ok(SizedPattern::Nothing);
             }
             let row = lay_all(alloc, parts.items())?;
             choice(alloc, row)

@@ -8,22 +8,22 @@ ghost use Rattle.lexauto_positions.specs.Flow.{is_zero, passes, comes, exits, en
 ghost use Rattle.lexauto_positions.specs.LetterCopies.{letter_exits, letter_enters};
 ghost use Rattle.lexauto_positions.specs.Plans.{plan_of, tree_in};
 
-use crate::layout::Part;
+use crate::layout::SizedPattern;
 use crate::walk::{Copies, Passed, is_loop, is_quiet, leave_letter};
 use std::alloc::AllocError;
 use std::mem;
 
 /// Of a letter whether it may be left out. None of any other part.
-pub(crate) fn optional_letter(part: &Part) -> Option<bool>
+pub(crate) fn optional_letter(part: &SizedPattern) -> Option<bool>
     ensures size { IfSome result (λ _. positions (tree_in (plan_of part.now)) ≡ 1) }
     ensures left { IfSome result (λ skips. exits (tree_in (plan_of part.now)) ≡ letter_exits skips) }
     ensures next { IfSome result (λ _. (S : ℕ → Bool) (q : ℕ)
         → enters (tree_in (plan_of part.now)) S q ≡ letter_enters q) }
 {
     match part {
-        Part::Letter(_) => Some(false),
-        Part::Repeat(_, inner, 0, Some(1)) => match &**inner {
-            Part::Letter(_) => Some(true),
+        SizedPattern::Letter(_) => Some(false),
+        SizedPattern::Repeat(_, inner, 0, Some(1)) => match &**inner {
+            SizedPattern::Letter(_) => Some(true),
             _ => None,
         },
         _ => None,

@@ -8,7 +8,7 @@ ghost use Rattle.lexauto_positions.specs.Plans.{plan_of, plans, tree_in, trees_i
 ghost use Rattle.lex_semantics.specs.Text.{flag};
 ghost use Rattle.lexauto_positions.specs.RuleFlow.{copies_read, reads, each_read, rules_read};
 
-use crate::layout::Part;
+use crate::layout::SizedPattern;
 use crate::rules::LaidRule;
 use crate::walk::copies_of;
 use lexre_bytes::ByteSet;
@@ -16,7 +16,7 @@ use std::alloc::{AllocError, Global};
 
 /// Lists the bytes that each position of a part reads.
 #[cycle(list)]
-fn list(part: &Part, letters: &mut Vec<ByteSet>) -> Result<(), AllocError>
+fn list(part: &SizedPattern, letters: &mut Vec<ByteSet>) -> Result<(), AllocError>
     ensures count { OnOk result (length letters.new.items
         ≡ length letters.old.items + positions (tree_in (plan_of part.now))) }
     ensures letters { OnOk result ((b q : ℕ)
@@ -24,12 +24,12 @@ fn list(part: &Part, letters: &mut Vec<ByteSet>) -> Result<(), AllocError>
         ≡ (reads_at letters.old.items b q 0 || reads (tree_in (plan_of part.now)) b q (length letters.old.items))) }
 {
     match part {
-        Part::Nothing => {}
-        Part::Letter(set) => letters.push(*set)?,
-        Part::Series(_, parts) => list_each(parts, letters)?,
-        Part::Choice(_, parts) => list_each(parts, letters)?,
-        Part::Star(_, inner) => list(inner, letters)?,
-        Part::Repeat(_, inner, least, most) => {
+        SizedPattern::Nothing => {}
+        SizedPattern::Letter(set) => letters.push(*set)?,
+        SizedPattern::Series(_, parts) => list_each(parts, letters)?,
+        SizedPattern::Choice(_, parts) => list_each(parts, letters)?,
+        SizedPattern::Star(_, inner) => list(inner, letters)?,
+        SizedPattern::Repeat(_, inner, least, most) => {
             list_copies(inner, copies_of(*least, *most).count, letters)?
         }
     }
@@ -37,7 +37,7 @@ fn list(part: &Part, letters: &mut Vec<ByteSet>) -> Result<(), AllocError>
 }
 
 #[cycle(list)]
-fn list_each(parts: &[Part], letters: &mut Vec<ByteSet>) -> Result<(), AllocError>
+fn list_each(parts: &[SizedPattern], letters: &mut Vec<ByteSet>) -> Result<(), AllocError>
     ensures count { OnOk result (length letters.new.items
         ≡ length letters.old.items + positions_of (trees_in (plans (map plan_of parts.now)))) }
     ensures letters { OnOk result ((b q : ℕ)
@@ -52,7 +52,7 @@ fn list_each(parts: &[Part], letters: &mut Vec<ByteSet>) -> Result<(), AllocErro
 }
 
 #[cycle(list)]
-fn list_copies(inner: &Part, count: u8, letters: &mut Vec<ByteSet>) -> Result<(), AllocError>
+fn list_copies(inner: &SizedPattern, count: u8, letters: &mut Vec<ByteSet>) -> Result<(), AllocError>
     ensures count { OnOk result (length letters.new.items
         ≡ length letters.old.items + count * positions (tree_in (plan_of inner.now))) }
     ensures letters { OnOk result ((b q : ℕ) → reads_at letters.new.items b q 0

@@ -12,7 +12,7 @@ ghost use Rattle.lexauto_positions.specs.Laid.{shape_of, AlikeTrails, AlikeRules
 ghost use Rattle.lexauto_positions.specs.Owners.{AreOwners};
 ghost use Rattle.lexauto_positions.specs.RuleFlow.{chosen, rule_exits, rule_enters, rules_enter, rules_left};
 
-use crate::layout::{Part, lay};
+use crate::layout::{SizedPattern, lay};
 use crate::owners::Owner;
 use crate::walk::{Passed, enter};
 use lexspec::Rule;
@@ -21,8 +21,8 @@ use std::alloc::{AllocError, Global};
 /// The sides of a rule, laid out.
 #[derive(Drop)]
 pub struct LaidRule {
-    pub(crate) head: Part,
-    pub(crate) trail: Option<Part>,
+    pub(crate) head: SizedPattern,
+    pub(crate) trail: Option<SizedPattern>,
 }
 
 impl LaidRule {

@@ -8,7 +8,7 @@ ghost use Rattle.lexauto_positions.specs.Flow.{is_zero, is_none, passes, comes, 
 ghost use Rattle.lexauto_positions.specs.Flow.{exits_some, enters, enters_each, enters_some};
 ghost use Rattle.lexauto_positions.specs.Plans.{plan_of, plans, tree_in, trees_in, IsSized, AreSized};
 
-use crate::layout::Part;
+use crate::layout::SizedPattern;
 use crate::letter_copies::{enter_letters, optional_letter};
 use std::alloc::AllocError;
 
@@ -85,7 +85,7 @@ pub(crate) fn leave_letter(last: &[u32], at: usize, base: usize) -> Passed
 
 /// Whether the part is left, where it is entered or not, and these are the last positions.
 #[cycle(leave)]
-pub(crate) fn leave(part: &Part, last: &[u32], at: usize, base: usize, entered: bool) -> Passed
+pub(crate) fn leave(part: &SizedPattern, last: &[u32], at: usize, base: usize, entered: bool) -> Passed
     requires sized { IsSized (plan_of part.now) }
     requires cursor { IsCursor last.now at base }
     requires few { base + positions (tree_in (plan_of part.now)) < 2 ^ 32 }
@@ -96,25 +96,25 @@ pub(crate) fn leave(part: &Part, last: &[u32], at: usize, base: usize, entered: 
         return Passed { left: false, at };
     }
     match part {
-        Part::Nothing => Passed { left: entered, at },
-        Part::Letter(_) => leave_letter(last, at, base),
-        Part::Series(_, parts) => leave_each(parts, last, at, base, entered),
-        Part::Choice(_, parts) => leave_some(parts, last, at, base, entered),
-        Part::Star(_, inner) => {
+        SizedPattern::Nothing => Passed { left: entered, at },
+        SizedPattern::Letter(_) => leave_letter(last, at, base),
+        SizedPattern::Series(_, parts) => leave_each(parts, last, at, base, entered),
+        SizedPattern::Choice(_, parts) => leave_some(parts, last, at, base, entered),
+        SizedPattern::Star(_, inner) => {
             let again = leave(inner, last, at, base, false);
             Passed {
                 left: entered || again.left,
                 at: again.at,
             }
         }
-        Part::Repeat(_, inner, least, most) => {
+        SizedPattern::Repeat(_, inner, least, most) => {
             leave_copies(inner, last, at, base, copies_of(*least, *most), entered)
         }
     }
 }
 
 #[cycle(leave)]
-fn leave_each(parts: &[Part], last: &[u32], at: usize, base: usize, entered: bool) -> Passed
+fn leave_each(parts: &[SizedPattern], last: &[u32], at: usize, base: usize, entered: bool) -> Passed
     requires sized { AreSized (plans (map plan_of parts.now)) }
     requires cursor { IsCursor last.now at base }
     requires few { base + positions_of (trees_in (plans (map plan_of parts.now))) < 2 ^ 32 }
@@ -131,7 +131,7 @@ fn leave_each(parts: &[Part], last: &[u32], at: usize, base: usize, entered: boo
 }
 
 #[cycle(leave)]
-fn leave_some(parts: &[Part], last: &[u32], at: usize, base: usize, entered: bool) -> Passed
+fn leave_some(parts: &[SizedPattern], last: &[u32], at: usize, base: usize, entered: bool) -> Passed
     requires sized { AreSized (plans (map plan_of parts.now)) }
     requires cursor { IsCursor last.now at base }
     requires few { base + positions_of (trees_in (plans (map plan_of parts.now))) < 2 ^ 32 }
@@ -152,7 +152,7 @@ fn leave_some(parts: &[Part], last: &[u32], at: usize, base: usize, entered: boo
 
 #[cycle(leave)]
 fn leave_copies(
-    inner: &Part,
+    inner: &SizedPattern,
     last: &[u32],
     at: usize,
     base: usize,
@@ -212,7 +212,7 @@ fn enter_letter(
 /// Adds the positions that come next, where the part is entered or not, and these are the last ones.
 #[cycle(enter)]
 pub(crate) fn enter(
-    part: &Part,
+    part: &SizedPattern,
     last: &[u32],
     at: usize,
     base: usize,
@@ -234,11 +234,11 @@ pub(crate) fn enter(
         return Ok(Passed { left: false, at });
     }
     match part {
-        Part::Nothing => Ok(Passed { left: entered, at }),
-        Part::Letter(_) => enter_letter(last, at, base, entered, next),
-        Part::Series(_, parts) => enter_each(parts, last, at, base, entered, next),
-        Part::Choice(_, parts) => enter_some(parts, last, at, base, entered, next),
-        Part::Star(_, inner) => {
+        SizedPattern::Nothing => Ok(Passed { left: entered, at }),
+        SizedPattern::Letter(_) => enter_letter(last, at, base, entered, next),
+        SizedPattern::Series(_, parts) => enter_each(parts, last, at, base, entered, next),
+        SizedPattern::Choice(_, parts) => enter_some(parts, last, at, base, entered, next),
+        SizedPattern::Star(_, inner) => {
             let again = leave(inner, last, at, base, false);
             let _ = enter(inner, last, at, base, entered || again.left, next)?;
             Ok(Passed {
@@ -246,7 +246,7 @@ pub(crate) fn enter(
                 at: again.at,
             })
         }
-        Part::Repeat(_, inner, least, most) => {
+        SizedPattern::Repeat(_, inner, least, most) => {
             let copies = copies_of(*least, *most);
             let passed = enter_copies(inner, last, at, base, copies, entered, next)?;
             Ok(passed)
@@ -256,7 +256,7 @@ pub(crate) fn enter(
 
 #[cycle(enter)]
 fn enter_each(
-    parts: &[Part],
+    parts: &[SizedPattern],
     last: &[u32],
     at: usize,
     base: usize,
@@ -288,7 +288,7 @@ fn enter_each(
 
 #[cycle(enter)]
 fn enter_some(
-    parts: &[Part],
+    parts: &[SizedPattern],
     last: &[u32],
     at: usize,
     base: usize,
@@ -323,7 +323,7 @@ fn enter_some(
 
 #[cycle(enter)]
 fn enter_copies(
-    inner: &Part,
+    inner: &SizedPattern,
     last: &[u32],
     at: usize,
     base: usize,
@@ -375,7 +375,7 @@ fn enter_copies(
 /// One copy. Where it loops it is entered from its own end too.
 #[cycle(enter)]
 fn enter_copy(
-    inner: &Part,
+    inner: &SizedPattern,
     last: &[u32],
     at: usize,
     base: usize,

@@ -1,4 +1,3 @@
-pub mod Joined
 pub mod Sided
 pub mod Drawn
 pub mod SamePictures

@@ -5,7 +5,7 @@ use Rattle.lex_semantics.specs.Shapes.{nodes, nodes_of}
 use Rattle.lex_semantics.specs.Tree.{Tree, Trees, Empty, Set, Cat, Alt, Star, Repeat, no_trees, tree}
 use Rattle.lexre.specs.Lengths.{least, least_of_each, least_of_some, greatest, greatest_of_each, greatest_of_some, lesser, larger, plus, repeated, unbounded}
 use Rattle.lexre.specs.Views.{emptied, emptied_each, marked, parts_of, tree_of}
-use Rattle.lexre.specs.declared.pattern.Parts.{Parts}
+use Rattle.lexre.specs.declared.pattern.Operands.{Operands}
 use Rattle.lexre.specs.declared.pattern.Pattern.{Pattern}
 use Rattle.lexre.specs.declared.pattern.Pattern.TheFolds as F
 use Rattle.lexre.specs.declared.pattern.Pattern.TheVariants as P
@@ -127,8 +127,8 @@ marked_rightly false ts same = refl
 
 -- The tree of a pattern, by its parts.
 
-pub series_tree_of : (parts : Parts Pattern) → tree_of (P.Cat parts) ≡ Cat (parts_of parts)
+pub series_tree_of : (parts : Operands Pattern) → tree_of (P.Cat parts) ≡ Cat (parts_of parts)
 series_tree_of parts = search (rules, F.the_lemmas)
 
-pub choice_tree_of : (parts : Parts Pattern) → tree_of (P.Alt parts) ≡ Alt (parts_of parts)
+pub choice_tree_of : (parts : Operands Pattern) → tree_of (P.Alt parts) ≡ Alt (parts_of parts)
 choice_tree_of parts = search (rules, F.the_lemmas)

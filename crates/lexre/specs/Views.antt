@@ -1,7 +1,7 @@
 -- What a `Pattern` stands for: a tree.
 use Rattle.std.specs.Prelude.{Bool, true, false, List, map}
 use Rattle.lex_semantics.specs.Tree.{Tree, Trees, Empty, Set, Cat, Alt, Star, Repeat, no_trees, tree, trees}
-use Rattle.lexre.specs.declared.pattern.Parts.{Parts}
+use Rattle.lexre.specs.declared.pattern.Operands.{Operands}
 use Rattle.lexre.specs.declared.pattern.Pattern.{Pattern}
 use Rattle.lexre.specs.declared.pattern.Pattern.TheOpen.{Pattern-F}
 use Rattle.lexre.specs.declared.pattern.Pattern.TheFolds.{fold-Pattern}
@@ -21,11 +21,11 @@ abbrev mutual
   emptied_each (tree t ts) = tree (emptied t) (emptied_each ts)
 
 -- parts, without where they lie in memory
-abbrev pub items_of : {P : Type 0} → Parts P → List P
+abbrev pub items_of : {P : Type 0} → Operands P → List P
 items_of parts = parts.items.value.items
 
 -- whether parts are marked as such that read no byte
-abbrev pub is_marked : {P : Type 0} → Parts P → Bool
+abbrev pub is_marked : {P : Type 0} → Operands P → Bool
 is_marked parts = parts.is_bare
 
 -- Where parts are marked, a set among them counts as the empty text. Parts are marked just where there is none.
@@ -47,5 +47,5 @@ abbrev pub tree_of : Pattern → Tree
 tree_of = fold-Pattern Tree node_tree
 
 -- the trees of parts
-abbrev pub parts_of : Parts Pattern → Trees
+abbrev pub parts_of : Operands Pattern → Trees
 parts_of parts = marked (is_marked parts) (trees (map tree_of (items_of parts)))

@@ -6,7 +6,7 @@ ghost use Rattle.lex_semantics.specs.Tree.{trees};
 ghost use Rattle.lexre.specs.Counting.{capped_nodes};
 ghost use Rattle.lexre.specs.Views.{parts_of, tree_of};
 
-use crate::pattern::{Parts, Pattern};
+use crate::pattern::{Operands, Pattern};
 
 /// A count above this is as good as this.
 const CAP: u64 = 1 << 32;
@@ -42,7 +42,7 @@ fn capped_positions(pattern: &Pattern) -> u64
 
 /// Parts without sets are not looked at.
 #[cycle(positions)]
-fn positions_in(parts: &Parts<Pattern>) -> u64
+fn positions_in(parts: &Operands<Pattern>) -> u64
     ensures { result ≡ min (2 ^ 32) (positions_of (parts_of parts.now)) }
 {
     if parts.is_bare() {

@@ -28,5 +28,5 @@ pub use lexre_bytes::{ByteSet, PatternError, PatternErrorKind};
 pub use measures::lengths;
 pub use names::Names;
 pub use options::ReadOptions;
-pub use pattern::{Parts, Pattern};
+pub use pattern::{Operands, Pattern};
 pub use reader::{read_pattern, read_with_names};

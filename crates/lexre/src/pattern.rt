@@ -9,7 +9,7 @@ use std::rc::Rc;
 
 /// The parts of a series or of a choice, in order, and whether none of them reads a byte.
 #[derive(Drop)]
-pub struct Parts<P: Drop> {
+pub struct Operands<P: Drop> {
     items: Rc<Vec<P>>,
     is_bare: bool,
 }
@@ -24,16 +24,16 @@ pub enum Pattern {
     /// One byte of the set.
     Set(ByteSet),
     /// Its parts, one after another.
-    Cat(Parts<Pattern>),
+    Cat(Operands<Pattern>),
     /// One of its parts.
-    Alt(Parts<Pattern>),
+    Alt(Operands<Pattern>),
     /// Any number of times.
     Star(Rc<Pattern>),
     /// At least this many times, and at most this many where there is an upper bound.
     Repeat(Rc<Pattern>, u8, Option<u8>),
 }
 
-impl<P: Drop> Parts<P> {
+impl<P: Drop> Operands<P> {
     /// The parts.
     pub fn items(&self) -> &[P]
         ensures { result.now ≡ items_of self.now }
@@ -49,11 +49,11 @@ impl<P: Drop> Parts<P> {
     }
 
     /// The same parts again, which are not copied.
-    fn share(&self) -> Result<Parts<P>, AllocError>
+    fn share(&self) -> Result<Operands<P>, AllocError>
         ensures mark { IfOk result (λ p. is_marked p ≡ is_marked self.now) }
         ensures items { IfOk result (λ p. items_of p ≡ items_of self.now) }
     {
-        Ok(Parts {
+        Ok(Operands {
             items: self.items.clone()?,
             is_bare: self.is_bare,
         })
@@ -79,7 +79,7 @@ impl Pattern {
     {
         let is_bare = are_bare(&patterns);
         let items = Rc::new(alloc, patterns)?;
-        Ok(Pattern::Cat(Parts { items, is_bare }))
+        Ok(Pattern::Cat(Operands { items, is_bare }))
     }
 
     /// One of the patterns.
@@ -88,7 +88,7 @@ impl Pattern {
     {
         let is_bare = are_bare(&patterns);
         let items = Rc::new(alloc, patterns)?;
-        Ok(Pattern::Alt(Parts { items, is_bare }))
+        Ok(Pattern::Alt(Operands { items, is_bare }))
     }
 
     /// Whether no set stands in the pattern. Only the operators on the whole are walked over.

@@ -1,7 +1,7 @@
 -- What the values of the code stand for.
 use Rattle.std.specs.Prelude.{ℕ, List, Option, option_map}
 use Rattle.lexspec_actions.specs.declared.condition.Condition.{Condition}
-use Rattle.lexspec_actions.specs.declared.statement.Parts.{Parts}
+use Rattle.lexspec_actions.specs.declared.statement.FormatLiterals.{FormatLiterals}
 use Rattle.lexspec_actions.specs.declared.statement.Piece.{Piece}
 use Rattle.lexspec_actions.specs.declared.format.Format.{Format}
 use Rattle.lexspec_actions.specs.Formats.{State, state}
@@ -21,7 +21,7 @@ piece_of Piece.Opens = A.opens
 piece_of Piece.Closes = A.closes
 piece_of (Piece.Says s) = A.says (said_of s)
 
-abbrev pub parts_view : Parts → List ℕ × Option (List ℕ)
+abbrev pub parts_view : FormatLiterals → List ℕ × Option (List ℕ)
 parts_view p = (p.front.items, option_map (λ v. v.items) p.back)
 
 abbrev pub format_view : Format → State

@@ -14,7 +14,7 @@ ghost use Rattle.lexspec_actions.specs.ActionFaults.{IsActionFault};
 use crate::bytes::{digits_at, literal_at, name_at, next, skip};
 use crate::condition::{Condition, number_of};
 use crate::format::parts_of;
-use crate::statement::{Called, Parts, Said};
+use crate::statement::{Called, FormatLiterals, Said};
 use lex_machine::Statement;
 use lex_semantics::{MAX_KEPT, MAX_STATUS};
 use lexre_bytes::{SpecErrorKind, capped_value};
@@ -71,7 +71,7 @@ fn formatted_at<'a>(
     ensures fault { IfErr result (λ e. IsActionFault e) }
 {
     let parts = parts_of(alloc, format)?;
-    let Parts { front, back } = parts;
+    let FormatLiterals { front, back } = parts;
     match next(b')', text) {
         Some(after) => match back {
             None => Ok((Called::Says(Said::Prints(front)), after)),

@@ -6,7 +6,7 @@ ghost use Rattle.lexspec_actions.specs.Views.{parts_view, format_view};
 ghost use Rattle.lexspec_actions.specs.Outcome.{Reads, UnlessMemory};
 ghost use Rattle.lexspec_actions.specs.ActionFaults.{IsActionFault};
 
-use crate::statement::Parts;
+use crate::statement::FormatLiterals;
 use lexre_bytes::SpecErrorKind;
 use std::alloc::Global;
 use std::mem;
@@ -51,7 +51,7 @@ impl Format {
     }
 
     /// The literals, where the format ends here.
-    fn finish(self) -> Result<Parts, SpecErrorKind>
+    fn finish(self) -> Result<FormatLiterals, SpecErrorKind>
         ensures spelled { Reads parts_view result (read_on (format_view self) []) }
         ensures fault { IfErr result (λ e. IsActionFault e) }
     {
@@ -60,11 +60,11 @@ impl Format {
         }
         let Format { front, bytes, .. } = self;
         match front {
-            Some(front) => Ok(Parts {
+            Some(front) => Ok(FormatLiterals {
                 front,
                 back: Some(bytes),
             }),
-            None => Ok(Parts {
+            None => Ok(FormatLiterals {
                 front: bytes,
                 back: None,
             }),
@@ -74,7 +74,7 @@ impl Format {
 
 /// The literals of a format.
 #[tactic(auto, unfolding(crate::specs::Actions::parts_of))]
-pub(crate) fn parts_of(alloc: Global, text: &[u8]) -> Result<Parts, SpecErrorKind>
+pub(crate) fn parts_of(alloc: Global, text: &[u8]) -> Result<FormatLiterals, SpecErrorKind>
     ensures spelled { Reads parts_view result (parts_of text.now) }
     ensures fault { IfErr result (λ e. IsActionFault e) }
 {

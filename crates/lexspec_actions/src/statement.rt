@@ -40,7 +40,7 @@ pub(crate) enum Piece {
 
 /// The literals of a format round its `%s`, of which the second is there only if that is.
 #[derive(Drop)]
-pub(crate) struct Parts {
+pub(crate) struct FormatLiterals {
     pub(crate) front: Vec<u8>,
     pub(crate) back: Option<Vec<u8>>,
 }

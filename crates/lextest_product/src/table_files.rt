@@ -21,7 +21,7 @@ const STATES: &[u8] =
 const SLOTS: &[u8] =
     b"\0\0\0\x01\0\0\0\0\0\0\0\x02\0\0\0\0\0\0\0\x03\0\0\0\0\0\0\0\x01\0\0\0\x03\0\0\0\x03\0\0\0\x04\0\0\0\x04\0\0\0\0\0\0\0\0\0\0\0\0\0\0\0\0\0\0\0\0\0\0\0\0\0\0\0\0";
 
-fn joined(alloc: Global, parts: &[&[u8]]) -> Result<Vec<u8>, AllocError> {
+fn concatenation(alloc: Global, parts: &[&[u8]]) -> Result<Vec<u8>, AllocError> {
     let mut bytes = Vec::new(alloc);
     for part in parts {
         bytes.extend_from_slice(part)?;
@@ -49,14 +49,14 @@ fn classes(alloc: Global) -> Result<Vec<u8>, AllocError> {
 /// The file of the rules `if` and `[a-z]+`.
 fn worked(alloc: Global) -> Result<Vec<u8>, AllocError> {
     let classes = classes(alloc)?;
-    joined(alloc, &[HEADER, CONDITION, RULES, &classes, STATES, SLOTS])
+    concatenation(alloc, &[HEADER, CONDITION, RULES, &classes, STATES, SLOTS])
 }
 
 /// The file of one condition and one dead state, with these counts of rules, and these rules.
 fn plain(alloc: Global, rules: u8, text: &[u8]) -> Result<Vec<u8>, AllocError> {
     let classes: [u8; 256] = [0; 256];
     let rest: [u8; 20] = [0; 20];
-    joined(
+    concatenation(
         alloc,
         &[
             b"LEXTAB\0\x01\0\0\0\x01\0\0\0",
@@ -157,7 +157,7 @@ fn no_file_is_a_prefix_of_another(rt: HostRuntime) -> Result<(), Fail> {
     for (n, _) in worked.iter().enumerate() {
         assert!(rt; is_no_file(alloc, &worked[..n], TableError::Truncated));
     }
-    let longer = joined(alloc, &[&worked, b"\0"])?;
+    let longer = concatenation(alloc, &[&worked, b"\0"])?;
     assert!(rt; is_no_file(alloc, &longer, TableError::TrailingBytes));
     Ok(())
 }
@@ -355,7 +355,7 @@ fn files_are_generated(rt: HostRuntime) -> Result<(), Fail> {
 
 /// One rule of these statements, of which there are this many.
 fn action(alloc: Global, count: u8, statements: &[u8]) -> Result<Vec<u8>, AllocError> {
-    let text = joined(alloc, &[b"\x02\0\0\xff\xff\0\0\0", &[count], statements])?;
+    let text = concatenation(alloc, &[b"\x02\0\0\xff\xff\0\0\0", &[count], statements])?;
     plain(alloc, 1, &text)
 }
 
@@ -418,7 +418,7 @@ fn the_tag_of_a_statement_is_named(rt: HostRuntime) {
 /// Two rules, of which the first has REJECT, and a state that accepts these two.
 fn accepting(alloc: Global, first: u8, second: u8) -> Result<Vec<u8>, AllocError> {
     let classes: [u8; 256] = [0; 256];
-    joined(
+    concatenation(
         alloc,
         &[
             b"LEXTAB\0\x01\0\0\0\x01\0\0\0\x02\0\0\0\x02\0\0\0\x01\0\0\0\x01\0\0\0\x01\0\0\0\x01\0\0\0\0\0",

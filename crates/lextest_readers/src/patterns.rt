@@ -401,7 +401,7 @@ const CUTTINGS: &[(&[u8], usize, Option<usize>, bool, bool)] = &[
 /// Where a pattern ends, the first slash, whether there is a second, and whether a special `$` ends it; or the fault.
 type Cut = Result<(usize, Option<usize>, bool, bool), (PatternErrorKind, usize)>;
 
-fn cut(text: &[u8]) -> Cut {
+fn cut_of_text(text: &[u8]) -> Cut {
     match cut_pattern(text) {
         Ok(
             Cutting {
@@ -418,7 +418,7 @@ fn cut(text: &[u8]) -> Cut {
 #[test]
 fn cuttings(rt: HostRuntime) {
     for &(text, end, slash, two, dollar) in CUTTINGS {
-        assert!(rt; cut(text) == Ok((end, slash, two, dollar)));
+        assert!(rt; cut_of_text(text) == Ok((end, slash, two, dollar)));
     }
 }
 
@@ -443,7 +443,7 @@ const FAULTS: &[(&[u8], PatternErrorKind, usize)] = &[
 #[test]
 fn cutting_faults(rt: HostRuntime) {
     for &(text, kind, at) in FAULTS {
-        assert!(rt; cut(text) == Err((kind, at)));
+        assert!(rt; cut_of_text(text) == Err((kind, at)));
     }
 }
 
@@ -451,7 +451,7 @@ fn cutting_faults(rt: HostRuntime) {
 fn is_cut(alloc: Global, byte: u8) -> Result<bool, AllocError> {
     let mut text = Vec::new(alloc);
     text.resize(1_048_576, byte)?;
-    Ok(match cut(&text) {
+    Ok(match cut_of_text(&text) {
         Ok((end, _, _, _)) => byte != b'[' && end == 1_048_576,
         Err(fault) => byte == b'[' && fault == (PatternErrorKind::UnclosedClass, 0),
     })

@@ -75,7 +75,7 @@ impl Before {
 }
 
 #[tactic(auto, unfolding(crate::specs::Reading::cut_at))]
-fn cut(bytes: &[u8]) -> Result<(Cut, &[u8]), ReadError>
+fn rule_cut(bytes: &[u8]) -> Result<(Cut, &[u8]), ReadError>
     ensures gives { Gives (λ x. (cut_of x.0, x.1.now)) result (cut_at bytes.now) }
 {
     let (code, rest) = byte(bytes)?;
@@ -220,12 +220,13 @@ fn rule(
 ) -> Result<(TableRule, &[u8]), ReadError>
     ensures gives { Gives (λ x. (rule_of x.0, x.1.now)) result (rule_at conditions stack bytes.now) }
 {
-    let (cut, rest) = cut(bytes)?;
+    let (cut, rest) = rule_cut(bytes)?;
     let (count, rest) = long_within(rest, 0, MAX_STATEMENTS as u32)?;
     let (statements, rest) = statements(alloc, rest, count, conditions, stack)?;
     Ok((TableRule { cut, statements }, rest))
 }
 
+/// The rules, `count` of them. `stack` tells whether the version has statements of the stack.
 pub fn rules(
     alloc: Global,
     bytes: &[u8],

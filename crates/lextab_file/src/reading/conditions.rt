@@ -40,6 +40,7 @@ fn condition(alloc: Global, bytes: &[u8], states: u32) -> Result<(TableCondition
     ))
 }
 
+/// The conditions, `count` of them, whose states are below `states`.
 pub fn conditions(
     alloc: Global,
     bytes: &[u8],

@@ -7,6 +7,7 @@ ghost use Rattle.lextab_file.specs.Views.{Gives};
 use crate::error::ReadError;
 use std::alloc::Global;
 
+/// One byte.
 pub fn byte(bytes: &[u8]) -> Result<(u8, &[u8]), ReadError>
     ensures gives { Gives (λ x. (x.0, x.1.now)) result (byte_at bytes.now) }
 {

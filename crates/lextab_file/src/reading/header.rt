@@ -19,6 +19,7 @@ pub struct Counts {
     pub slots: u32,
 }
 
+/// The six magic bytes that a table file begins with.
 pub fn magic(bytes: &[u8]) -> Result<(&[u8], &[u8]), ReadError>
     ensures gives { Gives (λ x. (x.0.now, x.1.now)) result (only_if is_magic (bytes_at 6) bytes.now) }
     ensures no_memory { IfErr result (λ e. is_memory e ≡ false) }
@@ -39,6 +40,7 @@ pub fn magic(bytes: &[u8]) -> Result<(&[u8], &[u8]), ReadError>
     Err(ReadError::BadMagic)
 }
 
+/// The version of the format: 1, or 2 where statements of the stack may stand.
 pub fn version(bytes: &[u8]) -> Result<(u16, &[u8]), ReadError>
     ensures gives { Gives (λ x. (x.0, x.1.now)) result (only_if (λ v. v == 1 || v == 2) (number_at w16) bytes.now) }
     ensures known { IfOk result (λ x. (x.0 ≡ 1) ⊎ (x.0 ≡ 2)) }
@@ -50,6 +52,7 @@ pub fn version(bytes: &[u8]) -> Result<(u16, &[u8]), ReadError>
     Ok((version, rest))
 }
 
+/// How many there are of each kind, each within its limits.
 #[tactic(auto, unfolding(crate::specs::Reading::sizes_at))]
 pub fn sizes(bytes: &[u8]) -> Result<(Counts, &[u8]), ReadError>
     ensures gives { Gives (λ x. (sizes_in x.0, x.1.now)) result (sizes_at bytes.now) }

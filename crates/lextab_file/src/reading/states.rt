@@ -122,6 +122,7 @@ fn row(
     ))
 }
 
+/// The rows of the states, `counts.states` of them.
 pub fn states(
     alloc: Global,
     bytes: &[u8],

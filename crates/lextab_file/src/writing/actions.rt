@@ -103,6 +103,7 @@ fn put_rule<K: Sink>(sink: &mut K, rule: &TableRule) -> Result<(), WriteFault>
     put_statements(sink, &rule.statements)
 }
 
+/// The rules: the cut and the statements of each.
 pub fn put_rules<K: Sink>(sink: &mut K, rules: &[TableRule]) -> Result<(), WriteFault>
     requires few { K.failures sink.old < 2 ^ 64 - 1 }
     requires fits { All FitsRule rules.now }

@@ -34,6 +34,7 @@ fn put_condition<K: Sink>(sink: &mut K, condition: &TableCondition) -> Result<()
     put_end(sink, &condition.end)
 }
 
+/// The start states of each condition, and what is done at the end in it.
 pub fn put_conditions<K: Sink>(
     sink: &mut K,
     conditions: &[TableCondition],

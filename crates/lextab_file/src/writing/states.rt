@@ -23,6 +23,7 @@ fn put_row<K: Sink>(sink: &mut K, row: &Row) -> Result<(), WriteFault>
     put_longs(sink, &row.rules)
 }
 
+/// The rows of the states.
 pub fn put_rows<K: Sink>(sink: &mut K, rows: &[Row]) -> Result<(), WriteFault>
     requires few { K.failures sink.old < 2 ^ 64 - 1 }
     requires fits { All FitsRow rows.now }

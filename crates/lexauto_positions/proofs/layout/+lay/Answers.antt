@@ -7,7 +7,7 @@ use Rattle.lexauto_positions.specs.Plans.{plan_of, tree_in, trees_laid}
 use Rattle.lexauto_positions.proofs.AlikeLaws.{none_after, drop_one, drop_none, alike_nothing, alike_on, alike_star, alike_repeat, if_ok_by}
 use Rattle.lexre.specs.declared.pattern.Pattern.TheFolds as P
 use Rattle.lexre.proofs.BareLaws.{marked_positions, series_tree_of, choice_tree_of}
-use Rattle.lexauto_positions.specs.declared.layout.Part.TheFolds as L
+use Rattle.lexauto_positions.specs.declared.layout.SizedPattern.TheFolds as L
 use Rattle.lexauto_positions.proofs.layout.+lay.Goals as goal
 
 pub lay-returns-then-size-eq0-clause-alike : goal.lay-returns-then-size-eq0-clause-alike

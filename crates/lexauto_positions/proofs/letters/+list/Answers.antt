@@ -3,7 +3,7 @@ use Rattle.std.proofs.lemmas.Grind.{common_steps}
 use Rattle.lex_semantics.specs.Positions.{positions}
 use Rattle.lex_semantics.specs.ByteSets.{ByteSet}
 use Rattle.lex_semantics.specs.Tree.{Set}
-use Rattle.lexauto_positions.specs.declared.layout.Part.TheFolds as L
+use Rattle.lexauto_positions.specs.declared.layout.SizedPattern.TheFolds as L
 use Rattle.lexauto_positions.specs.Letters.{reads_at}
 use Rattle.lexauto_positions.specs.Plans.{plan_of, tree_in}
 use Rattle.lexauto_positions.specs.RuleFlow.{copies_read, reads}
