@@ -74,50 +74,27 @@ pub fn carry_one<K: Sink>(
         (λ step. Steps window.now.bytes (statement_of statement.now) acting.old acting.new step) }
 {
     match statement {
-        Statement::Echo => {
-            let text = window.slice(0, acting.end);
-            match put(outlet, text) {
-                Err(e) => Err(e),
-                Ok(()) => Ok(Step::Next),
-            }
-        }
-        Statement::Print(bytes) => match put(outlet, bytes.as_slice()) {
-            Err(e) => Err(e),
-            Ok(()) => Ok(Step::Next),
-        },
-        Statement::Begin(condition) => {
-            acting.condition = *condition;
-            Ok(Step::Next)
-        }
-        Statement::More => {
-            acting.more = true;
-            Ok(Step::Next)
-        }
-        Statement::Less(count) => {
-            let count = usize::from(*count);
-            if count < acting.end {
-                acting.end = count;
-            }
-            Ok(Step::Next)
-        }
-        Statement::Reject => Ok(Step::Again),
-        Statement::End(status) => Ok(Step::Over(Finish::Status(*status))),
+        Statement::Echo => put(outlet, window.slice(0, acting.end))?,
+        Statement::Print(bytes) => put(outlet, bytes.as_slice())?,
+        Statement::Begin(condition) => acting.condition = *condition,
+        Statement::More => acting.more = true,
+        Statement::Less(count) => acting.end = acting.end.min(usize::from(*count)),
+        Statement::Reject => return Ok(Step::Again),
+        Statement::End(status) => return Ok(Step::Over(Finish::Status(*status))),
         Statement::Push(condition) => {
-            if acting.stack.push(acting.condition) {
-                acting.condition = *condition;
-                Ok(Step::Next)
-            } else {
-                Ok(Step::Over(Finish::StackFault))
+            if !acting.stack.push(acting.condition) {
+                return Ok(Step::Over(Finish::StackFault));
             }
+            acting.condition = *condition;
         }
-        Statement::Pop => match acting.stack.pop() {
-            Some(condition) => {
-                acting.condition = condition;
-                Ok(Step::Next)
-            }
-            None => Ok(Step::Over(Finish::StackFault)),
-        },
+        Statement::Pop => {
+            let Some(condition) = acting.stack.pop() else {
+                return Ok(Step::Over(Finish::StackFault));
+            };
+            acting.condition = condition;
+        }
     }
+    Ok(Step::Next)
 }
 
 /// Carries out the statements from the first on.
