@@ -6,3 +6,4 @@ pub mod Views
 pub mod Machines
 pub mod Flats
 pub mod FlatViews
+pub mod Runs

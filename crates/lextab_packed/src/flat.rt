@@ -5,6 +5,7 @@ ghost use Rattle.lex_machine.specs.Glances.{Leads, Gists};
 ghost use Rattle.lex_semantics.specs.Limits.{max_states};
 ghost use Rattle.lex_semantics.specs.Text.{flag};
 ghost use Rattle.lextab_packed.specs.Flats.{marked, kind_of};
+ghost use Rattle.lextab_packed.specs.Runs.{IsRun};
 ghost use Rattle.lextab_packed.specs.declared.kinds.Kind.{Kind};
 ghost use Rattle.lextab_packed.specs.Steps.{step_of};
 ghost use Rattle.lextab_packed.specs.Views.{table_of};
@@ -59,6 +60,21 @@ impl Flat {
             (step_of (table_of self.now.tables.parts) s byte) }
     {
         self.rows[place as usize + usize::from(byte)]
+    }
+
+    /// The end of the run of bytes, from `start` on, that lead from the state whose row is at this place to itself.
+    #[inline(always)]
+    fn run_end(&self, place: u32, bytes: &[u8], start: usize) -> usize
+        requires place { (s : ℕ) × (s < states_of self.now.tables) × (place ≡ 256 * s) }
+        requires start { start ≤ length bytes.now }
+        ensures { (s : ℕ) → place ≡ 256 * s → s < states_of self.now.tables
+            → IsRun (machine_of self.now.tables) s bytes.now start result }
+    {
+        let mut end = start;
+        'run: while end < bytes.len() && self.target(place, bytes[end]) == place {
+            end += 1;
+        }
+        end
     }
 
     /// What is told of the state that a marked target is, at which the machine stops.
@@ -156,9 +172,7 @@ impl Machine for Flat {
             }
             count += 1;
             if next == place {
-                'run: while count < bytes.len() && self.target(place, bytes[count]) == place {
-                    count += 1;
-                }
+                count = self.run_end(place, bytes, count);
             }
             place = next;
         }

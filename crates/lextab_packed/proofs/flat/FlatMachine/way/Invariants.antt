@@ -16,18 +16,3 @@ invariant-bytes l =
 
 abbrev pub decreases-bytes : goal.decreases-bytes
 decreases-bytes l = length l.bytes - l.count
-
-abbrev pub invariant-run : goal.invariant-run
-invariant-run l =
-    let M = machine_of l.self.tables in
-    record {
-      some : 1 ≤ l.count;
-      further : l.initial.count ≤ l.count;
-      inside : l.count ≤ length l.bytes;
-      place_is : l.place ≡ 256 * walk M l.first (take l.count l.bytes);
-      known : walk M l.first (take l.count l.bytes) < states_of l.self.tables;
-      asked : Asked M l.first l.bytes l.count;
-    }
-
-abbrev pub decreases-run : goal.decreases-run
-decreases-run l = length l.bytes - l.count
