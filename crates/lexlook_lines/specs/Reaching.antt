@@ -29,6 +29,11 @@ Added found marks s found' marks' =
     ((flag marks s ≡ true) × (found' ≡ found) × (marks' ≡ marks))
     ⊎ ((flag marks s ≡ false) × (found' ≡ found ++ s ∷ []) × (marks' ≡ slice_set marks s true))
 
+-- the states of a list are added, one after the other
+abbrev pub AddedAll : List ℕ → List Bool → List ℕ → List ℕ → List Bool → Type 0
+AddedAll found marks [] found' marks' = (found' ≡ found) × (marks' ≡ marks)
+AddedAll found marks (s ∷ ss) found' marks' = (found1 : List ℕ) × (marks1 : List Bool) × Added found marks s found1 marks1 × AddedAll found1 marks1 ss found' marks'
+
 -- how many states are not marked
 abbrev pub unmarked : List Bool → ℕ
 unmarked [] = 0

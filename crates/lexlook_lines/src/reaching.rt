@@ -1,7 +1,7 @@
 //! The states of a machine that texts lead to.
 ghost use Rattle.std.specs.Prelude.{◌≡◌, ℕ, ◌+◌, ◌<◌, ◌≤◌, true, length, IfOk, OnOk, List};
 ghost use Rattle.lex_semantics.specs.Text.{Among, flag};
-ghost use Rattle.lexlook_lines.specs.Reaching.{Found, IsReached, Added, unmarked};
+ghost use Rattle.lexlook_lines.specs.Reaching.{Found, IsReached, Added, AddedAll, unmarked};
 
 use lex_machine::Machine;
 use std::alloc::{AllocError, Global};
@@ -14,6 +14,17 @@ fn add(found: &mut Vec<u32>, marks: &mut Vec<bool>, state: u32) -> Result<(), Al
     if !marks[state as usize] {
         marks[state as usize] = true;
         found.push(state)?;
+    }
+    Ok(())
+}
+
+/// Adds the states of a list, one after the other.
+fn add_all(found: &mut Vec<u32>, marks: &mut Vec<bool>, states: &[u32]) -> Result<(), AllocError>
+    requires { (s : ℕ) → Among states.now s → s < length marks.old.items }
+    ensures { OnOk result (AddedAll found.old.items marks.old.items states.now found.new.items marks.new.items) }
+{
+    for state in states {
+        add(found, marks, *state)?;
     }
     Ok(())
 }
@@ -56,9 +67,7 @@ pub(crate) fn reached<M: Machine>(
 {
     let mut found = Vec::new(alloc);
     let mut marks = vec![in alloc; false; states as usize]?;
-    for start in starts {
-        add(&mut found, &mut marks, *start)?;
-    }
+    add_all(&mut found, &mut marks, starts)?;
     let mut place = 0usize;
     'states: while place < found.len() {
         widen(machine, &mut found, &mut marks, place)?;

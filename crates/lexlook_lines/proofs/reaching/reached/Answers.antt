@@ -1,33 +1,14 @@
-use Rattle.std.proofs.Common.{ℕ, ◌<◌, take, length, List, refl, sym, subst, get_or, arith}
-use Rattle.std.proofs.lemmas.List.{take_more}
+use Rattle.std.proofs.Common.{◌≡◌, ℕ, zero, suc, [], replicate, false, rules, refl, sym, ap, subst, ◌∙◌, get_or, arith}
 use Rattle.lex_semantics.specs.Machine.{Machine}
 use Rattle.lexlook_lines.specs.Reaching.{Found}
-use Rattle.lexlook_lines.proofs.Searches.{among_at, start_more, next_place, is_reached}
+use Rattle.lexlook_lines.proofs.Searches.{start_all, none_found, next_place, is_reached}
 use Rattle.lexlook_lines.proofs.reaching.reached.Goals as goal
 
-pub add-requires : goal.add-requires
-add-requires g c =
-    let lt = c.requires.starts (get_or c.args.starts.now c.loop-start.start-index 0) (among_at c.args.starts.now c.loop-start.start-index (omega (arith, c.loop-start-test.true))) in
-    omega (arith, lt, c.loop-start.invariant.size)
-
-pub loop-start-preserved : goal.loop-start-preserved
-loop-start-preserved g c = subst (λ z. Found M n starts z c.add.new.found.items c.add.new.marks.items 0 0) (sym (take_more starts k 0 lt))
-    (start_more M n starts (take k starts) c.loop-start.found.items c.add.new.found.items c.loop-start.marks.items c.add.new.marks.items (get_or starts k 0) c.loop-start.invariant (among_at starts k lt) (c.requires.starts (get_or starts k 0) (among_at starts k lt)) c.in_ok-add.ensures)
-  where
-    M : Machine
-    M = g.M.Machine.machine c.args.machine.now
-
-    n : ℕ
-    n = g.M.Machine.states c.args.machine.now
-
-    starts : List ℕ
-    starts = c.args.starts.now
-
-    k : ℕ
-    k = c.loop-start.start-index
-
-    lt : k < length starts
-    lt = omega (arith, c.loop-start-test.true)
+-- a flag that is false everywhere
+all_false : (n i : ℕ) → get_or (replicate n false) i false ≡ false
+all_false zero i = refl
+all_false (suc n) zero = refl
+all_false (suc n) (suc i) = all_false n i
 
 pub states-preserved : goal.states-preserved
 states-preserved g c = next_place (g.M.Machine.machine c.args.machine.now) (g.M.Machine.states c.args.machine.now) c.args.starts.now c.args.starts.now c.widen.new.found.items c.widen.new.marks.items c.states.place 256
@@ -35,3 +16,18 @@ states-preserved g c = next_place (g.M.Machine.machine c.args.machine.now) (g.M.
 
 pub returns : goal.returns
 returns g c = is_reached (g.M.Machine.machine c.args.machine.now) (g.M.Machine.states c.args.machine.now) c.args.starts.now c.args.starts.now c.states.found.items c.states.marks.items c.states.place 0 c.states.invariant (omega (arith, c.states-test.false))
+
+pub states-init : goal.states-init
+states-init g c = start_all M n c.args.starts.now [] c.new-found.result.items c.add_all.new.found.items c.in_ok-marks.marks.items c.add_all.new.marks.items c.args.starts.now first (λ s at. at) c.requires.starts c.in_ok-add_all.ensures
+  where
+    M : Machine
+    M = g.M.Machine.machine c.args.machine.now
+
+    n : ℕ
+    n = g.M.Machine.states c.args.machine.now
+
+    first : Found M n c.args.starts.now [] c.new-found.result.items c.in_ok-marks.marks.items 0 0
+    first = subst (λ z. Found M n c.args.starts.now [] z c.in_ok-marks.marks.items 0 0) (sym c.new-found.ensures.items) (none_found M n c.args.starts.now c.in_ok-marks.marks.items (sym c.in_ok-marks.marks.ok.0 ∙ c.in_ok-marks.ensures.len ∙ c.requires.states) none)
+      where
+        none : (i : ℕ) → get_or c.in_ok-marks.marks.items i false ≡ false
+        none i = ap (λ l. get_or l i false) (c.in_ok-marks.ensures.items_if_clones_equal (search rules)) ∙ all_false c.args.states i

@@ -1,9 +1,6 @@
-use Rattle.std.proofs.Common.{◌+◌, ◌-◌, take, length}
+use Rattle.std.proofs.Common.{◌+◌, ◌-◌, length}
 use Rattle.lexlook_lines.specs.Reaching.{Found, unmarked}
 use Rattle.lexlook_lines.proofs.reaching.reached.Given as goal
-
-abbrev pub invariant-loop-start : goal.invariant-loop-start
-invariant-loop-start g l = Found (g.M.Machine.machine l.machine) (g.M.Machine.states l.machine) l.starts (take l.start-index l.starts) l.found.items l.marks.items 0 0
 
 abbrev pub invariant-states : goal.invariant-states
 invariant-states g l = Found (g.M.Machine.machine l.machine) (g.M.Machine.states l.machine) l.starts l.starts l.found.items l.marks.items l.place 0

@@ -1,0 +1,38 @@
+use Rattle.std.proofs.Common.{ℕ, ◌<◌, List, take, length, Bool, sym, subst, ◌∙◌, get_or, arith}
+use Rattle.std.proofs.lemmas.List.{take_more}
+use Rattle.lexlook_lines.specs.Reaching.{AddedAll}
+use Rattle.lexlook_lines.proofs.Searches.{among_at, same_size, add_more}
+use Rattle.lexlook_lines.proofs.reaching.add_all.Goals as goal
+
+pub add-requires : goal.add-requires
+add-requires c =
+    let lt = c.requires (get_or c.args.states.now c.loop-state.state-index 0) (among_at c.args.states.now c.loop-state.state-index (omega (arith, c.loop-state-test.true))) in
+    omega (arith, lt, c.loop-state.invariant.size)
+
+pub loop-state-preserved : goal.loop-state-preserved
+loop-state-preserved c = record {
+  size = same_size found found' marks marks' (get_or states k 0) c.in_ok-add.ensures ∙ c.loop-state.invariant.size;
+  all = subst (λ z. AddedAll c.args.found.now.items c.args.marks.now.items z found' marks') (sym (take_more states k 0 lt))
+      (add_more c.args.found.now.items found found' c.args.marks.now.items marks marks' (take k states) (get_or states k 0) c.loop-state.invariant.all c.in_ok-add.ensures);
+}
+  where
+    states : List ℕ
+    states = c.args.states.now
+
+    k : ℕ
+    k = c.loop-state.state-index
+
+    lt : k < length states
+    lt = omega (arith, c.loop-state-test.true)
+
+    found : List ℕ
+    found = c.loop-state.found.items
+
+    found' : List ℕ
+    found' = c.add.new.found.items
+
+    marks : List Bool
+    marks = c.loop-state.marks.items
+
+    marks' : List Bool
+    marks' = c.add.new.marks.items
