@@ -70,13 +70,8 @@ pub fn look<M: Machine>(machine: &M, reading: &Reading, memo: &Memo, place: Text
         before = state;
         state = machine.step(state, reading.window.byte(place.at + len));
         len += 1;
-        settled = after(
-            settled,
-            len,
-            state,
-            before,
-            machine.accepts(state).is_empty(),
-        );
+        let silent = machine.accepts(state).is_empty();
+        settled = after(settled, len, state, before, silent);
         if !machine.goes_on(state) {
             return Ahead::Settled(settled);
         }

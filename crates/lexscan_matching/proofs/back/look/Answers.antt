@@ -10,10 +10,10 @@ returns-then-not-goes_on g c =
     let M : Machine = g.M.Machine.machine c.args.machine.now in
     let r : Reading = c.args.reading.now in
     let lt : c.args.place.at + c.bytes.len < length r.window.bytes = omega (arith, c.bytes-test.true, c.len.ensures, c.requires.inside) in
-    let quiet : c.is_empty.result ≡ true → M.accepts c.step-state.result ≡ [] = λ is. sym c.accepts.ensures ∙ Look.none_in c.accepts.result.now c.is_empty.result c.is_empty.ensures is in
+    let quiet : c.is_empty-silent.result ≡ true → M.accepts c.step-state.result ≡ [] = λ is. sym c.accepts.ensures ∙ Look.none_in c.accepts.result.now c.is_empty-silent.result c.is_empty-silent.ensures is in
     let looked : LookedAt M (g.M.Machine.states c.args.machine.now) c.args.place r (c.bytes.len + 1) c.step-state.result c.bytes.state c.after-settled.result =
     Look.looked_more M _ c.args.place r c.bytes.len c.bytes.state c.bytes.before c.step-state.result c.bytes.settled c.after-settled.result c.bytes.invariant.looked c.bytes.invariant.goes_on lt
-    (c.step-state.ensures.state ∙ ap (M.next c.bytes.state) c.byte.ensures.value) c.step-state.ensures.known c.is_empty.result quiet c.after-settled.ensures.len c.after-settled.ensures.keep in
+    (c.step-state.ensures.state ∙ ap (M.next c.bytes.state) c.byte.ensures.value) c.step-state.ensures.known c.is_empty-silent.result quiet c.after-settled.ensures.len c.after-settled.ensures.keep in
     Look.settled_at M _ c.args.place r (c.bytes.len + 1) c.step-state.result c.bytes.state c.after-settled.result looked (omega arith)
     (Look.barren_stopped M r.at_end c.step-state.result (drop (c.args.place.at + (c.bytes.len + 1)) r.window.bytes) (sym c.goes_on.ensures ∙ c.if-not-goes_on.true))
 
@@ -22,10 +22,10 @@ returns-then-has g c =
     let M : Machine = g.M.Machine.machine c.args.machine.now in
     let r : Reading = c.args.reading.now in
     let lt : c.args.place.at + c.bytes.len < length r.window.bytes = omega (arith, c.bytes-test.true, c.len.ensures, c.requires.inside) in
-    let quiet : c.is_empty.result ≡ true → M.accepts c.step-state.result ≡ [] = λ is. sym c.accepts.ensures ∙ Look.none_in c.accepts.result.now c.is_empty.result c.is_empty.ensures is in
+    let quiet : c.is_empty-silent.result ≡ true → M.accepts c.step-state.result ≡ [] = λ is. sym c.accepts.ensures ∙ Look.none_in c.accepts.result.now c.is_empty-silent.result c.is_empty-silent.ensures is in
     let looked : LookedAt M (g.M.Machine.states c.args.machine.now) c.args.place r (c.bytes.len + 1) c.step-state.result c.bytes.state c.after-settled.result =
     Look.looked_more M _ c.args.place r c.bytes.len c.bytes.state c.bytes.before c.step-state.result c.bytes.settled c.after-settled.result c.bytes.invariant.looked c.bytes.invariant.goes_on lt
-    (c.step-state.ensures.state ∙ ap (M.next c.bytes.state) c.byte.ensures.value) c.step-state.ensures.known c.is_empty.result quiet c.after-settled.ensures.len c.after-settled.ensures.keep in
+    (c.step-state.ensures.state ∙ ap (M.next c.bytes.state) c.byte.ensures.value) c.step-state.ensures.known c.is_empty-silent.result quiet c.after-settled.ensures.len c.after-settled.ensures.keep in
     Look.settled_at M _ c.args.place r (c.bytes.len + 1) c.step-state.result c.bytes.state c.after-settled.result looked (omega arith)
     (Look.marked_barren M r c.args.memo.now _ c.step-state.result (c.args.place.at + (c.bytes.len + 1)) c.requires.marks (c.has.ensures c.if-has.true)
     (omega (arith, c.if-left-reading.true, c.len.ensures, c.requires.inside, c.bytes-test.true)))
@@ -35,10 +35,10 @@ bytes-preserved-else-left-reading g c =
     let M : Machine = g.M.Machine.machine c.args.machine.now in
     let r : Reading = c.args.reading.now in
     let lt : c.args.place.at + c.bytes.len < length r.window.bytes = omega (arith, c.bytes-test.true, c.len.ensures, c.requires.inside) in
-    let quiet : c.is_empty.result ≡ true → M.accepts c.step-state.result ≡ [] = λ is. sym c.accepts.ensures ∙ Look.none_in c.accepts.result.now c.is_empty.result c.is_empty.ensures is in
+    let quiet : c.is_empty-silent.result ≡ true → M.accepts c.step-state.result ≡ [] = λ is. sym c.accepts.ensures ∙ Look.none_in c.accepts.result.now c.is_empty-silent.result c.is_empty-silent.ensures is in
     record {
       looked = Look.looked_more M _ c.args.place r c.bytes.len c.bytes.state c.bytes.before c.step-state.result c.bytes.settled c.after-settled.result c.bytes.invariant.looked c.bytes.invariant.goes_on lt
-          (c.step-state.ensures.state ∙ ap (M.next c.bytes.state) c.byte.ensures.value) c.step-state.ensures.known c.is_empty.result quiet c.after-settled.ensures.len c.after-settled.ensures.keep;
+          (c.step-state.ensures.state ∙ ap (M.next c.bytes.state) c.byte.ensures.value) c.step-state.ensures.known c.is_empty-silent.result quiet c.after-settled.ensures.len c.after-settled.ensures.keep;
       goes_on = λ some. sym c.goes_on.ensures ∙ c.if-not-goes_on.false;
     }
 
@@ -47,10 +47,10 @@ bytes-preserved g c =
     let M : Machine = g.M.Machine.machine c.args.machine.now in
     let r : Reading = c.args.reading.now in
     let lt : c.args.place.at + c.bytes.len < length r.window.bytes = omega (arith, c.bytes-test.true, c.len.ensures, c.requires.inside) in
-    let quiet : c.is_empty.result ≡ true → M.accepts c.step-state.result ≡ [] = λ is. sym c.accepts.ensures ∙ Look.none_in c.accepts.result.now c.is_empty.result c.is_empty.ensures is in
+    let quiet : c.is_empty-silent.result ≡ true → M.accepts c.step-state.result ≡ [] = λ is. sym c.accepts.ensures ∙ Look.none_in c.accepts.result.now c.is_empty-silent.result c.is_empty-silent.ensures is in
     record {
       looked = Look.looked_more M _ c.args.place r c.bytes.len c.bytes.state c.bytes.before c.step-state.result c.bytes.settled c.after-settled.result c.bytes.invariant.looked c.bytes.invariant.goes_on lt
-          (c.step-state.ensures.state ∙ ap (M.next c.bytes.state) c.byte.ensures.value) c.step-state.ensures.known c.is_empty.result quiet c.after-settled.ensures.len c.after-settled.ensures.keep;
+          (c.step-state.ensures.state ∙ ap (M.next c.bytes.state) c.byte.ensures.value) c.step-state.ensures.known c.is_empty-silent.result quiet c.after-settled.ensures.len c.after-settled.ensures.keep;
       goes_on = λ some. sym c.goes_on.ensures ∙ c.if-not-goes_on.false;
     }
 
