@@ -58,6 +58,7 @@ pub fn burst_over<M: Machine, K: Sink>(
     let mut rest = text;
     let mut unasked = text.len() - held;
     let mut condition = place.condition;
+    let mut fault = false;
     let mut first = machine.start(condition, place.line_start);
     'turns: while !rest.is_empty() {
         let Some(way) = machine.way(first, rest) else {
@@ -75,19 +76,11 @@ pub fn burst_over<M: Machine, K: Sink>(
         }
         unasked = unasked.min(rest.len() - way.count);
         let said = &rest[..longest.keep];
-        match do_gist(outlet, longest.gist, said, condition) {
-            Err(_) => {
-                let done = text.len() - rest.len();
-                return Burst {
-                    done,
-                    asked: text.len() - unasked,
-                    line_start: starts_line(place.line_start, text, done),
-                    condition,
-                    fault: true,
-                };
-            }
-            Ok(after) => condition = after,
-        }
+        let Ok(after) = do_gist(outlet, longest.gist, said, condition) else {
+            fault = true;
+            break 'turns;
+        };
+        condition = after;
         first = machine.start(condition, said[longest.keep - 1] == b'\n');
         rest = &rest[longest.keep..];
     }
@@ -97,6 +90,6 @@ pub fn burst_over<M: Machine, K: Sink>(
         asked: text.len() - unasked,
         line_start: starts_line(place.line_start, text, done),
         condition,
-        fault: false,
+        fault,
     }
 }

@@ -14,6 +14,7 @@ use Rattle.lexscan.specs.Bursts.{TurnsMade, Broke, starts_line}
 use Rattle.lexscan_matching.specs.Glanced.{Tells, names_rule, written_by, condition_after}
 use Rattle.lexscan.proofs.Bursting as Burst
 use Rattle.lexscan.proofs.burst.burst_over.Goals as goal
+use Rattle.lexscan.proofs.burst.burst_over.Goals.{else-turns-test, then-turns-test+in_default, then-turns-test+in-Some+in_default-silent_part+then-not-names_rule, then-turns-test+in-Some+in_default-silent_part+else-not-names_rule+in_default-do_gist}
 
 -- all the rest
 rest_is : (n : ℕ) (text : List ℕ) → take (length text - n) (drop n text) ≡ drop n text
@@ -118,6 +119,7 @@ turns-init g c = rw none (record {
   known = c.start-first.ensures.known;
   failures = refl;
   live = c.requires.live;
+  fault = refl;
   condition = c.requires.condition;
   inside = omega arith;
   done = omega arith;
@@ -148,13 +150,6 @@ pub start-first-requires-in-turns : goal.start-first-requires-in-turns
 start-first-requires-in-turns g c = subst (λ k. k < (g.M.Machine.machine c.args.machine.now).conditions) (sym c.in-Ok.ensures.condition) (condition_then (g.M.Machine.machine c.args.machine.now) (g.M.Machine.laws c.args.machine.now) c.args.text.now (is_text_from c.args.text.now (λ k. let f = c.type_inv.text k in omega (arith, f))) c.args.place.line_start c.turns.rest.now c.turns.unasked c.turns.condition c.turns.first c.in-Some.way c.longest_match-longest.result
     c.turns.invariant.rest c.turns.invariant.inside c.turns.invariant.done c.turns.invariant.first c.in-Some.ensures.way c.longest_match-longest.ensures (sym c.names_rule.ensures ∙ c.if-not-names_rule.false) c.turns.invariant.condition)
 
-pub returns-in-Err-clause-bursts : goal.returns-in-Err-clause-bursts
-returns-in-Err-clause-bursts g c =
-    let put = c.in-Err.ensures.bytes in
-    rw c.starts_line.ensures (broke_then (g.M.Machine.machine c.args.machine.now) (g.M.Machine.laws c.args.machine.now) c.args.text.now (is_text_from c.args.text.now (λ k. let f = c.type_inv.text k in omega (arith, f))) c.args.place.line_start c.turns.rest.now c.turns.unasked c.turns.condition c.turns.first c.in-Some.way c.longest_match-longest.result
-    c.turns.invariant.rest c.turns.invariant.inside c.turns.invariant.done c.turns.invariant.first c.in-Some.ensures.way c.longest_match-longest.ensures (sym c.names_rule.ensures ∙ c.if-not-names_rule.false)
-    g.K.Sink.wrote g.met.K.Sink.wrote_none g.met.K.Sink.wrote_more c.args.outlet.now.sink.now c.turns.outlet.sink.now c.do_gist.new.outlet.sink.now c.args.held c.args.place.condition c.turns.invariant.held c.turns.invariant.went c.min-unasked-in-turns.result c.min-unasked-in-turns.ensures put.0 put.1 put.2)
-
 pub turns-preserved : goal.turns-preserved
 turns-preserved g c = record {
   same = c.in-Ok.ensures.same ∙ c.turns.invariant.same;
@@ -169,6 +164,7 @@ turns-preserved g c = record {
   known = c.start-first-in-turns.ensures.known;
   failures = omega (arith, c.in-Ok.ensures.sink.write_faults, c.turns.invariant.failures);
   live = c.in-Ok.ensures.sink.may_write;
+  fault = c.turns.invariant.fault;
   condition = subst (λ k. k < (g.M.Machine.machine c.args.machine.now).conditions) (sym c.in-Ok.ensures.condition) (condition_then (g.M.Machine.machine c.args.machine.now) (g.M.Machine.laws c.args.machine.now) c.args.text.now (is_text_from c.args.text.now (λ k. let f = c.type_inv.text k in omega (arith, f))) c.args.place.line_start c.turns.rest.now c.turns.unasked c.turns.condition c.turns.first c.in-Some.way c.longest_match-longest.result
       c.turns.invariant.rest c.turns.invariant.inside c.turns.invariant.done c.turns.invariant.first c.in-Some.ensures.way c.longest_match-longest.ensures (sym c.names_rule.ensures ∙ c.if-not-names_rule.false) c.turns.invariant.condition);
   inside = (let s = shorter (g.M.Machine.machine c.args.machine.now) (g.M.Machine.laws c.args.machine.now) c.args.text.now (is_text_from c.args.text.now (λ k. let f = c.type_inv.text k in omega (arith, f))) c.args.place.line_start c.turns.rest.now c.turns.unasked c.turns.condition c.turns.first c.in-Some.way c.longest_match-longest.result
@@ -197,6 +193,7 @@ turns-preserved-in-Some-silent_part g c = record {
   known = c.start-first-in-Some-silent_part.ensures.known;
   failures = c.turns.invariant.failures;
   live = c.turns.invariant.live;
+  fault = c.turns.invariant.fault;
   condition = c.turns.invariant.condition;
   inside = (let s = shorter (g.M.Machine.machine c.args.machine.now) (g.M.Machine.laws c.args.machine.now) c.args.text.now (is_text_from c.args.text.now (λ k. let f = c.type_inv.text k in omega (arith, f))) c.args.place.line_start c.turns.rest.now c.turns.unasked c.turns.condition c.turns.first c.in-Some.way (record { gist = Silent; keep = c.in-Some-silent_part.keep })
       c.turns.invariant.rest c.turns.invariant.inside c.turns.invariant.done c.turns.invariant.first c.in-Some.ensures.way (c.in-Some-silent_part.ensures c.turns.first c.turns.rest.now c.in-Some.ensures.way) refl in let i = c.turns.invariant.inside in omega (arith, s, i));
@@ -205,3 +202,14 @@ turns-preserved-in-Some-silent_part g c = record {
   held = (let a = asked_then (g.M.Machine.machine c.args.machine.now) (g.M.Machine.laws c.args.machine.now) c.args.text.now (is_text_from c.args.text.now (λ k. let f = c.type_inv.text k in omega (arith, f))) c.args.place.line_start c.turns.rest.now c.turns.unasked c.turns.condition c.turns.first c.in-Some.way (record { gist = Silent; keep = c.in-Some-silent_part.keep })
       c.turns.invariant.rest c.turns.invariant.inside c.turns.invariant.done c.turns.invariant.first c.in-Some.ensures.way (c.in-Some-silent_part.ensures c.turns.first c.turns.rest.now c.in-Some.ensures.way) refl c.min-unasked.result c.min-unasked.ensures in let h = c.turns.invariant.held in omega (arith, a, h));
 }
+
+pub returns-clause-bursts : goal.returns-clause-bursts
+returns-clause-bursts g c = elim c.turns-test.branch [
+  | else-turns-test w ↦ rw (w.fault-is ∙ c.turns.invariant.fault, w.outlet-is, w.unasked-is, c.starts_line.ensures) c.turns.invariant.went
+  | then-turns-test+in_default w ↦ rw (w.fault-is ∙ c.turns.invariant.fault, w.outlet-is, w.unasked-is, c.starts_line.ensures) c.turns.invariant.went
+  | then-turns-test+in-Some+in_default-silent_part+then-not-names_rule w ↦ rw (w.fault-is ∙ c.turns.invariant.fault, w.outlet-is, w.unasked-is, c.starts_line.ensures) c.turns.invariant.went
+  | then-turns-test+in-Some+in_default-silent_part+else-not-names_rule+in_default-do_gist w ↦ (let put = w.in_default-do_gist.ensures.bytes in
+      rw (w.fault-is, w.outlet-is, w.unasked-is, c.starts_line.ensures) (broke_then (g.M.Machine.machine c.args.machine.now) (g.M.Machine.laws c.args.machine.now) c.args.text.now (is_text_from c.args.text.now (λ k. let f = c.type_inv.text k in omega (arith, f))) c.args.place.line_start c.turns.rest.now c.turns.unasked c.turns.condition c.turns.first w.in-Some.way w.longest_match-longest.result
+      c.turns.invariant.rest c.turns.invariant.inside c.turns.invariant.done c.turns.invariant.first w.in-Some.ensures.way w.longest_match-longest.ensures (sym w.names_rule.ensures ∙ w.if-not-names_rule.false)
+      g.K.Sink.wrote g.met.K.Sink.wrote_none g.met.K.Sink.wrote_more c.args.outlet.now.sink.now c.turns.outlet.sink.now w.do_gist.new.outlet.sink.now c.args.held c.args.place.condition c.turns.invariant.held c.turns.invariant.went w.min-unasked-in-turns.result w.min-unasked-in-turns.ensures put.0 put.1 put.2))
+]

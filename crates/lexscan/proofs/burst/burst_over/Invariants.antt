@@ -1,4 +1,4 @@
-use Rattle.std.proofs.Common.{length, ◌-◌, ◌≡◌, ◌<◌, ◌≤◌, true, drop}
+use Rattle.std.proofs.Common.{length, ◌-◌, ◌≡◌, ◌<◌, ◌≤◌, true, false, drop}
 use Rattle.lexscan.specs.Bursts.{starts_line, TurnsMade}
 use Rattle.lexscan.proofs.burst.burst_over.Given as goal
 
@@ -14,6 +14,7 @@ invariant-turns g l =
       known : l.first < g.M.Machine.states l.machine;
       failures : g.K.Sink.failures l.outlet.sink.now ≡ g.K.Sink.failures l.fn.outlet.sink.now;
       live : l.outlet.live ≡ true;
+      fault : l.fault ≡ false;
       condition : l.condition < M.conditions;
       inside : length l.rest ≤ length l.text;
       done : l.unasked ≤ length l.rest;
