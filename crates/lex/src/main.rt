@@ -80,6 +80,22 @@ fn options_of(options: ReadOptions) -> Options
     }
 }
 
+/// Scans standard input by the specification in a file, and first writes its warnings unless it is to be quiet.
+fn scan_by_spec(
+    rt: &HostRuntime,
+    file: String,
+    options: ReadOptions,
+    quiet: bool,
+) -> Result<u8, Failure> {
+    let text = read_spec_file(rt, file)?;
+    if quiet {
+        return scan(rt, By::Spec(text.as_slice(), options));
+    }
+    let made = make_with_warnings(rt, text.as_slice(), options_of(options))?;
+    scan(rt, By::Made(made.tables))
+}
+
+/// Does what the command line asks for, and answers with the status of the program.
 fn run(rt: &HostRuntime) -> Result<u8, Failure> {
     match job_of(rt)? {
         Job::Generate {
@@ -111,12 +127,7 @@ fn run(rt: &HostRuntime) -> Result<u8, Failure> {
             quiet,
         } => {
             let options = ReadOptions { fold, posix };
-            let text = read_spec_file(rt, file)?;
-            if quiet {
-                return scan(rt, By::Spec(text.as_slice(), options));
-            }
-            let made = make_with_warnings(rt, text.as_slice(), options_of(options))?;
-            scan(rt, By::Made(made.tables))
+            scan_by_spec(rt, file, options, quiet)
         }
         Job::ScanTable { file } => {
             let bytes = read_table_file(rt, file)?;
