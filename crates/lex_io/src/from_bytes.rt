@@ -93,37 +93,3 @@ impl<R: Read> Source for FromBytes<R> {
 
     ghost failures_bound = { λ s. s.failures_bound };
 }
-
-#[cfg(test)]
-mod tests {
-    use super::*;
-    use std::test::Fail;
-
-    /// What is read ahead is shown, and given once: by `give`, or by `next`.
-    #[test]
-    fn shows_what_is_read_ahead(rt: HostRuntime) -> Result<(), Fail> {
-        let mut source = FromBytes::new(ByteReader::new(rt.alloc(), b"abcde".as_slice())?);
-        assert!(rt; source.ahead().is_empty());
-        assert!(rt; source.next() == Ok(Some(b'a')));
-        assert!(rt; source.ahead() == b"bcde".as_slice());
-        if 2 <= source.ahead().len() {
-            source.give(2);
-        }
-        assert!(rt; source.ahead() == b"de".as_slice());
-        assert!(rt; source.next() == Ok(Some(b'd')));
-        assert!(rt; source.ahead() == b"e".as_slice());
-        Ok(())
-    }
-
-    /// It may wait only where the reader is asked.
-    #[test]
-    fn waits_where_no_byte_is_ahead(rt: HostRuntime) -> Result<(), Fail> {
-        let mut source = FromBytes::new(ByteReader::new(rt.alloc(), b"ab".as_slice())?);
-        assert!(rt; source.may_wait());
-        assert!(rt; source.next() == Ok(Some(b'a')));
-        assert!(rt; !source.may_wait());
-        assert!(rt; source.next() == Ok(Some(b'b')));
-        assert!(rt; source.may_wait());
-        Ok(())
-    }
-}

@@ -9,8 +9,6 @@ mod escapes;
 mod from_bytes;
 mod memory_sink;
 mod memory_source;
-#[cfg(test)]
-mod script;
 mod sink;
 mod source;
 mod to_bytes;

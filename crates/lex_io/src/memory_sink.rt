@@ -175,38 +175,3 @@ impl Sink for MemorySink {
 
     ghost failures_bound = { λ s. s.failures_bound };
 }
-
-#[cfg(test)]
-mod tests {
-    use super::*;
-
-    /// Whether all of the bytes are taken.
-    fn takes(sink: &mut MemorySink, bytes: &[u8]) -> bool {
-        sink.failures < u64::MAX && sink.put(bytes).is_ok()
-    }
-
-    fn flushes(sink: &mut MemorySink) -> bool {
-        sink.failures < u64::MAX && sink.flush().is_ok()
-    }
-
-    #[test]
-    fn a_sink_fails_once(rt: HostRuntime) {
-        let mut full = MemorySink::failing_after(rt.alloc(), 3);
-        assert!(rt; takes(&mut full, b"ab"));
-        assert!(rt; !takes(&mut full, b"cd"));
-        assert!(rt; takes(&mut full, b"e"));
-        assert_eq!(rt; full.written(), b"abce".as_slice());
-        let mut unflushed = MemorySink::failing_flush(rt.alloc());
-        assert!(rt; !flushes(&mut unflushed));
-        assert!(rt; !unflushed.is_flushed());
-        assert!(rt; flushes(&mut unflushed));
-        assert!(rt; unflushed.is_flushed());
-        let mut whole = MemorySink::new(rt.alloc());
-        assert!(rt; takes(&mut whole, b"ab"));
-        assert!(rt; flushes(&mut whole));
-        assert_eq!(rt; whole.written(), b"ab".as_slice());
-        assert_eq!(rt; whole.take_bytes(rt.alloc()).as_slice(), b"ab".as_slice());
-        assert!(rt; takes(&mut whole, b"c"));
-        assert_eq!(rt; whole.into_bytes().as_slice(), b"c".as_slice());
-    }
-}

@@ -1,0 +1,80 @@
+//! Tests over the reader with a buffer.
+use crate::counted::Asked;
+use crate::long::{CAPACITY, dots, followed};
+use crate::script::{Reply, Script};
+use lex_io::{ByteReader, FromRead};
+use std::io::{ErrorKind, Read};
+use std::test::Fail;
+
+const REPLIES: &[Reply] = &[
+    Reply::Bytes(b"ab"),
+    Reply::Fault(ErrorKind::Interrupted),
+    Reply::Bytes(b"c"),
+    Reply::Bytes(b""),
+    Reply::Bytes(b"d"),
+    Reply::Fault(ErrorKind::Other),
+];
+
+const WANTS: &[Result<&[u8], ErrorKind>] = &[
+    Ok(b"a"),
+    Ok(b"b"),
+    Err(ErrorKind::Interrupted),
+    Ok(b"c"),
+    Ok(b""),
+    Ok(b"d"),
+    Err(ErrorKind::Other),
+    Ok(b""),
+];
+
+/// Whether a read into this much room answers this.
+fn reads<R: Read>(reader: &mut ByteReader<R>, room: usize, want: Result<&[u8], ErrorKind>) -> bool {
+    let mut place = [0u8; 4];
+    match reader.read(&mut place[..room.min(4)]) {
+        Ok(count) => want == Ok(&place[..count]),
+        Err(error) => want == Err(error.kind()),
+    }
+}
+
+#[test]
+fn tells_each_answer_where_it_is_met(rt: HostRuntime) -> Result<(), Fail> {
+    let mut reader = ByteReader::new(rt.alloc(), Script { replies: REPLIES })?;
+    for &want in WANTS {
+        assert!(rt; reads(&mut reader, 1, want));
+    }
+    Ok(())
+}
+
+#[test]
+fn stands_below_a_source(rt: HostRuntime) -> Result<(), Fail> {
+    let reader = ByteReader::new(rt.alloc(), b"a".as_slice())?;
+    let mut source = Asked::new(FromRead::new(reader));
+    assert!(rt; source.answers(&[Ok(Some(b'a')), Ok(None)]));
+    Ok(())
+}
+
+/// Whether it reads a dot, and then drops dots until it gave this many.
+fn drops<R: Read>(reader: &mut ByteReader<R>, dots: usize) -> bool {
+    let first = reads(reader, 1, Ok(b"."));
+    let rest = dots.saturating_sub(1);
+    let may_drop = rest <= reader.ahead().len();
+    if may_drop {
+        reader.skip(rest);
+    }
+    first && may_drop
+}
+
+// How much room there is, and which bytes are given.
+const ROOMS: &[(usize, &[u8])] = &[(1, b"a"), (4, b"bc"), (0, b""), (2, b"de"), (2, b"")];
+
+/// The buffer ends after three bytes behind the dots.
+#[test]
+fn gives_what_there_is_room_for(rt: HostRuntime) -> Result<(), Fail> {
+    let dots = dots(rt.alloc(), CAPACITY - 3)?;
+    let text = followed(rt.alloc(), &dots, b"abcde")?;
+    let mut reader = ByteReader::new(rt.alloc(), text.as_slice())?;
+    assert!(rt; drops(&mut reader, 65_533));
+    for &(room, want) in ROOMS {
+        assert!(rt; reads(&mut reader, room, Ok(want)));
+    }
+    Ok(())
+}

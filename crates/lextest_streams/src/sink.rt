@@ -1,0 +1,86 @@
+//! Tests over the sink that calls a writer.
+ghost use Rattle.std.specs.Prelude.{◌≡◌, IfOk};
+
+use lex_io::{Sink, ToWrite, WriteFault};
+use std::alloc::Global;
+use std::io;
+use std::io::Write;
+
+/// What a writer answers once its room is used up.
+#[derive(Clone, Copy)]
+enum Full {
+    Nothing,
+    Fault,
+}
+
+/// Takes at most two bytes in one write, and no more than it has room for. It can't flush.
+#[derive(Drop)]
+struct Drip {
+    taken: Vec<u8>,
+    room: usize,
+    full: Full,
+}
+
+impl Write for Drip {
+    fn write(&mut self, buf: &[u8]) -> io::Result<usize> {
+        let count = buf.len().min(self.room).min(2);
+        if count == 0 {
+            return match self.full {
+                Full::Nothing => Ok(0),
+                Full::Fault => Err(io::Error::from(io::ErrorKind::Interrupted)),
+            };
+        }
+        self.taken.extend_from_slice(&buf[..count])?;
+        self.room -= count;
+        Ok(count)
+    }
+
+    fn flush(&mut self) -> io::Result<()> {
+        Err(io::Error::from(io::ErrorKind::Interrupted))
+    }
+}
+
+fn dripping(alloc: Global, room: usize, full: Full) -> Drip {
+    let taken = Vec::new(alloc);
+    Drip { taken, room, full }
+}
+
+// How many bytes there is room for, what is answered then, whether all are written, and which.
+const ROWS: &[(usize, Full, bool, &[u8])] = &[
+    (9, Full::Fault, true, b"abcde"),
+    (5, Full::Nothing, true, b"abcde"),
+    (3, Full::Nothing, false, b"abc"),
+    (4, Full::Fault, false, b"abcd"),
+];
+
+#[test]
+fn writes_all_or_tells_a_fault(rt: HostRuntime) {
+    for &(room, full, all, written) in ROWS {
+        let mut sink = ToWrite::new(dripping(rt.alloc(), room, full));
+        assert!(rt; sink.put(b"abcde").is_ok() == all, "room {room}");
+        assert!(rt; sink.into_inner().taken.as_slice() == written);
+    }
+}
+
+#[test]
+fn tells_a_failed_flush(rt: HostRuntime) {
+    let mut sink = ToWrite::new(dripping(rt.alloc(), 0, Full::Nothing));
+    assert!(rt; sink.flush().is_err());
+}
+
+/// Over memory, whose bytes are known, what is held is what was put.
+fn copied(alloc: Global, bytes: &[u8]) -> Result<Vec<u8>, WriteFault>
+    ensures { IfOk result (λ copy. copy.items ≡ bytes.now) }
+{
+    let mut sink = ToWrite::new(Vec::new(alloc));
+    sink.put(bytes)?;
+    Ok(sink.into_inner())
+}
+
+#[test]
+fn keeps_the_bytes_in_memory(rt: HostRuntime) {
+    match copied(rt.alloc(), b"abc") {
+        Ok(copy) => assert_eq!(rt; copy.as_slice(), b"abc".as_slice()),
+        Err(_) => assert!(rt; false),
+    }
+}
