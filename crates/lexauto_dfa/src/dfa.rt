@@ -52,15 +52,15 @@ impl Dfa {
     }
 
     /// The state where a match starts in a condition, at the start of a line or not.
-    pub fn start(&self, cond: usize, line_start: bool) -> u32
-        requires { cond < conditions_of self.now }
-        ensures state { result ≡ start_of self.now cond line_start }
+    pub fn start(&self, condition: usize, line_start: bool) -> u32
+        requires { condition < conditions_of self.now }
+        ensures state { result ≡ start_of self.now condition line_start }
         ensures known { result < states_of self.now }
     {
         if line_start {
-            self.parts.line_starts[cond]
+            self.parts.line_starts[condition]
         } else {
-            self.parts.starts[cond]
+            self.parts.starts[condition]
         }
     }
 

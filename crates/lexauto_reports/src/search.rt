@@ -69,9 +69,9 @@ fn starts(alloc: Global, dfa: &Dfa) -> Result<Vec<u32>, AllocError>
     ensures { IfOk result (λ v. (x : ℕ) → Among v.items x ↔ IsStart (lists_of dfa.now) x) }
 {
     let mut starts = Vec::new(alloc);
-    for cond in 0..dfa.parts().starts.len() {
-        starts.push(3 * dfa.start(cond, false))?;
-        starts.push(3 * dfa.start(cond, true))?;
+    for condition in 0..dfa.parts().starts.len() {
+        starts.push(3 * dfa.start(condition, false))?;
+        starts.push(3 * dfa.start(condition, true))?;
     }
     Ok(starts)
 }

@@ -135,7 +135,7 @@ fn rows_of_letters(rt: HostRuntime) -> Result<(), Fail> {
 }
 
 /// What the state after a word tells: the rules that it accepts, each behind a blank, and a `+` if it goes on.
-fn told(
+fn state_after(
     alloc: Global,
     automaton: &Dfa,
     start: (usize, bool),
@@ -179,7 +179,7 @@ type Row = (&'static str, (usize, bool), &'static str, &'static str);
 fn is_told(alloc: Global, row: &Row) -> Result<bool, Fail> {
     let (text, start, word, wanted) = *row;
     let automaton = whole(alloc, text)?;
-    let told = told(alloc, &automaton, start, word)?;
+    let told = state_after(alloc, &automaton, start, word)?;
     Ok(told.as_str() == wanted)
 }
 

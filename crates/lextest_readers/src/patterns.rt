@@ -118,9 +118,14 @@ pub(crate) fn has_tree(
 }
 
 /// What is reported of a text, and where, if it is refused.
-pub(crate) type Told = Option<(PatternErrorKind, usize)>;
+pub(crate) type Refusal = Option<(PatternErrorKind, usize)>;
 
-pub(crate) fn told(alloc: Global, text: &[u8], definitions: &Defs, options: ReadOptions) -> Told {
+pub(crate) fn refusal_of(
+    alloc: Global,
+    text: &[u8],
+    definitions: &Defs,
+    options: ReadOptions,
+) -> Refusal {
     match read_pattern(alloc, text, definitions, options) {
         Ok(_) => None,
         Err(error) => Some((error.kind, error.at)),
@@ -568,7 +573,7 @@ fn intervals(rt: HostRuntime) -> Result<(), Fail> {
     }
     for text in NO_INTERVALS {
         let fault = Some((PatternErrorKind::BadInterval, 1));
-        assert!(rt; told(alloc, *text, &definitions, PLAIN) == fault);
+        assert!(rt; refusal_of(alloc, *text, &definitions, PLAIN) == fault);
     }
     Ok(())
 }
@@ -891,7 +896,7 @@ fn patterns_that_are_refused(rt: HostRuntime) -> Result<(), Fail> {
     let alloc = rt.alloc();
     let definitions = worked_definitions(alloc)?;
     for &(text, kind, at) in REFUSALS {
-        assert!(rt; told(alloc, text, &definitions, PLAIN) == Some((kind, at)));
+        assert!(rt; refusal_of(alloc, text, &definitions, PLAIN) == Some((kind, at)));
     }
     Ok(())
 }
@@ -916,10 +921,10 @@ pub(crate) fn is_told(
     parts: &[(&[u8], usize)],
     definitions: &Defs,
     options: ReadOptions,
-    wanted: Told,
+    wanted: Refusal,
 ) -> bool {
     match text_of(alloc, parts) {
-        Ok(text) => told(alloc, &text, definitions, options) == wanted,
+        Ok(text) => refusal_of(alloc, &text, definitions, options) == wanted,
         Err(_) => false,
     }
 }
@@ -928,7 +933,7 @@ const CLOSED: &[u8] = b"a)))))))))))))))))))))))))))))))))))))))))))))))))))))))
 
 // What a text begins with, a part, how often that stands, what follows, and what is reported of the text, where it is
 // refused.
-type LongRow = (&'static [u8], &'static [u8], usize, &'static [u8], Told);
+type LongRow = (&'static [u8], &'static [u8], usize, &'static [u8], Refusal);
 
 const LONG: &[LongRow] = &[
     (b"", b"a", 65535, b"", None),
@@ -1166,7 +1171,7 @@ fn names_in_parentheses(rt: HostRuntime) -> Result<(), Fail> {
 }
 
 // How often `{c}(` stands before `{c}`, with as many `)` behind it, and what is reported.
-const INSIDE: &[(usize, Told)] = &[(63, None), (64, Some((PatternErrorKind::TooDeep, 256)))];
+const INSIDE: &[(usize, Refusal)] = &[(63, None), (64, Some((PatternErrorKind::TooDeep, 256)))];
 
 #[test]
 fn names_inside_more_and_more(rt: HostRuntime) -> Result<(), Fail> {
@@ -1205,7 +1210,7 @@ fn names_in_a_round(rt: HostRuntime) -> Result<(), Fail> {
     ];
     for &(count, kind) in rows {
         let definitions = round(alloc, count)?;
-        assert!(rt; told(alloc, b"a{n0}", &definitions, PLAIN) == Some((kind, 1)));
+        assert!(rt; refusal_of(alloc, b"a{n0}", &definitions, PLAIN) == Some((kind, 1)));
     }
     Ok(())
 }
@@ -1235,7 +1240,7 @@ fn names_that_stand_twice(rt: HostRuntime) -> Result<(), Fail> {
     let alloc = rt.alloc();
     let definitions = long_definitions(alloc)?;
     for &(text, refused) in TWICE {
-        assert!(rt; told(alloc, text, &definitions, PLAIN) == refused);
+        assert!(rt; refusal_of(alloc, text, &definitions, PLAIN) == refused);
     }
     Ok(())
 }

@@ -1,6 +1,8 @@
 //! Intervals over items, and over series. (POSIX, lex, Regular Expressions in lex.)
 
-use crate::patterns::{Long, Node, PLAIN, Told, has_bounds, has_tree, is_told, positions_of, told};
+use crate::patterns::{
+    Long, Node, PLAIN, Refusal, has_bounds, has_tree, is_told, positions_of, refusal_of,
+};
 use lexre::{Defs, DefsError, PatternErrorKind, ReadOptions};
 use std::alloc::Global;
 use std::test::Fail;
@@ -200,8 +202,8 @@ fn intervals_on_nothing(rt: HostRuntime) -> Result<(), Fail> {
     let definitions = definitions(alloc)?;
     for &(text, at) in NOTHING {
         let fault = Some((PatternErrorKind::MissingOperand, at));
-        assert!(rt; told(alloc, text, &definitions, PLAIN) == fault);
-        assert!(rt; told(alloc, text, &definitions, POSIX) == fault);
+        assert!(rt; refusal_of(alloc, text, &definitions, PLAIN) == fault);
+        assert!(rt; refusal_of(alloc, text, &definitions, POSIX) == fault);
     }
     Ok(())
 }
@@ -213,7 +215,7 @@ const BIG: PatternErrorKind = PatternErrorKind::TooBig;
 const BAD: PatternErrorKind = PatternErrorKind::BadInterval;
 
 // What is reported where intervals apply to items, and where they apply to series.
-const MANY: &[(Long, Told, Told)] = &[
+const MANY: &[(Long, Refusal, Refusal)] = &[
     ((b"", b"a{1}", 64, b"a"), None, None),
     ((b"", b"a{1}", 65, b""), None, Some((DEEP, 257))),
     ((b"a", b"{1}", 64, b""), None, None),

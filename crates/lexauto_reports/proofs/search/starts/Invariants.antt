@@ -3,5 +3,5 @@ use Rattle.lex_semantics.specs.Text.{Among}
 use Rattle.lexauto_reports.specs.Counting.{IsStartBelow}
 use Rattle.lexauto_reports.proofs.search.starts.Given as goal
 
-abbrev pub invariant-loop-cond : goal.invariant-loop-cond
-invariant-loop-cond l = (x : ℕ) → Among l.starts.items x ↔ IsStartBelow l.dfa.parts l.cond x
+abbrev pub invariant-loop-condition : goal.invariant-loop-condition
+invariant-loop-condition l = (x : ℕ) → Among l.starts.items x ↔ IsStartBelow l.dfa.parts l.condition x
