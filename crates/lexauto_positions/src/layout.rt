@@ -103,7 +103,9 @@ fn sign_part(alloc: Global, part: SizedPattern, sign: Sign) -> Result<SizedPatte
     match part {
         SizedPattern::Star(size, item) => Ok(sign.on(Sign::Star).over(size, item)),
         SizedPattern::Repeat(size, item, 1, None) => Ok(sign.on(Sign::Plus).over(size, item)),
-        SizedPattern::Repeat(size, item, 0, Some(1)) => Ok(sign.on(Sign::Optional).over(size, item)),
+        SizedPattern::Repeat(size, item, 0, Some(1)) => Ok(
+            sign.on(Sign::Optional).over(size, item),
+        ),
         part => {
             let size = part.size();
             Ok(sign.over(size, Box::new(alloc, part)?))
@@ -112,7 +114,12 @@ fn sign_part(alloc: Global, part: SizedPattern, sign: Sign) -> Result<SizedPatte
 }
 
 /// Copies of a part.
-fn copy_part(alloc: Global, part: SizedPattern, least: u8, most: Option<u8>) -> Result<SizedPattern, AllocError>
+fn copy_part(
+    alloc: Global,
+    part: SizedPattern,
+    least: u8,
+    most: Option<u8>,
+) -> Result<SizedPattern, AllocError>
     requires sized { IsSized (plan_of part) }
     requires few { copies least most * positions (tree_in (plan_of part)) < 2 ^ 32 }
     ensures sized { IfOk result (λ p. IsSized (plan_of p)) }
@@ -123,7 +130,12 @@ fn copy_part(alloc: Global, part: SizedPattern, least: u8, most: Option<u8>) -> 
 }
 
 /// A part that is repeated between these bounds.
-fn repeat(alloc: Global, part: SizedPattern, least: u8, most: Option<u8>) -> Result<SizedPattern, AllocError>
+fn repeat(
+    alloc: Global,
+    part: SizedPattern,
+    least: u8,
+    most: Option<u8>,
+) -> Result<SizedPattern, AllocError>
     requires sized { IsSized (plan_of part) }
     requires few { copies least most * positions (tree_in (plan_of part)) < 2 ^ 32 }
     ensures sized { IfOk result (λ p. IsSized (plan_of p)) }

@@ -52,7 +52,11 @@ fn list_each(parts: &[SizedPattern], letters: &mut Vec<ByteSet>) -> Result<(), A
 }
 
 #[cycle(list)]
-fn list_copies(inner: &SizedPattern, count: u8, letters: &mut Vec<ByteSet>) -> Result<(), AllocError>
+fn list_copies(
+    inner: &SizedPattern,
+    count: u8,
+    letters: &mut Vec<ByteSet>,
+) -> Result<(), AllocError>
     ensures count { OnOk result (length letters.new.items
         ≡ length letters.old.items + count * positions (tree_in (plan_of inner.now))) }
     ensures letters { OnOk result ((b q : ℕ) → reads_at letters.new.items b q 0

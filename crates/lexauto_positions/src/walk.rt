@@ -85,7 +85,13 @@ pub(crate) fn leave_letter(last: &[u32], at: usize, base: usize) -> Passed
 
 /// Whether the part is left, where it is entered or not, and these are the last positions.
 #[cycle(leave)]
-pub(crate) fn leave(part: &SizedPattern, last: &[u32], at: usize, base: usize, entered: bool) -> Passed
+pub(crate) fn leave(
+    part: &SizedPattern,
+    last: &[u32],
+    at: usize,
+    base: usize,
+    entered: bool,
+) -> Passed
     requires sized { IsSized (plan_of part.now) }
     requires cursor { IsCursor last.now at base }
     requires few { base + positions (tree_in (plan_of part.now)) < 2 ^ 32 }

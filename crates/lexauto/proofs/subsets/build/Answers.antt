@@ -1,3 +1,4 @@
+use Rattle.std.proofs.lemmas.Grind.{common_steps}
 use Rattle.std.proofs.Common.{◌<◌, ◌≡◌, ℕ, length, arith, refl, sym, ap, subst, ◌∙◌, Err}
 use Rattle.std.proofs.lemmas.Result.{err_from_is_err_and}
 use Rattle.lex_semantics.specs.Subsets.{Subsets}
@@ -120,3 +121,81 @@ returns-clause-states c =
     let states_are = ap (λ (p : Parts). states p) c.new-automaton.ensures in
     subst (λ (n : ℕ). Subsets S n) (kept_length found.keys.items ∙ sym goes ∙ sym states_are)
     (counted S (spec_is_sound S c.args.spec.now.sound) keys found.next.items found.starts.items found.line_starts.items s)
+
+pub returns-clause-few_positions : goal.returns-clause-few_positions
+returns-clause-few_positions = grind (arith, common_steps)
+
+pub returns-clause-few_states : goal.returns-clause-few_states
+returns-clause-few_states = grind (arith, common_steps)
+
+pub returns-clause-refused : goal.returns-clause-refused
+returns-clause-refused = grind (arith, common_steps)
+
+pub returns-clause-too_many_positions : goal.returns-clause-too_many_positions
+returns-clause-too_many_positions = grind (arith, common_steps)
+
+pub returns-clause-too_many_states : goal.returns-clause-too_many_states
+returns-clause-too_many_states = grind (arith, common_steps)
+
+pub returns-in-None-clause-conditions : goal.returns-in-None-clause-conditions
+returns-in-None-clause-conditions = grind (arith, common_steps)
+
+pub returns-in-None-clause-few_positions : goal.returns-in-None-clause-few_positions
+returns-in-None-clause-few_positions = grind (arith, common_steps)
+
+pub returns-in-None-clause-few_states : goal.returns-in-None-clause-few_states
+returns-in-None-clause-few_states = grind (arith, common_steps)
+
+pub returns-in-None-clause-laws : goal.returns-in-None-clause-laws
+returns-in-None-clause-laws = grind (arith, common_steps)
+
+pub returns-in-None-clause-reached : goal.returns-in-None-clause-reached
+returns-in-None-clause-reached = grind (arith, common_steps)
+
+pub returns-in-None-clause-refused : goal.returns-in-None-clause-refused
+returns-in-None-clause-refused = grind (arith, common_steps)
+
+pub returns-in-None-clause-states : goal.returns-in-None-clause-states
+returns-in-None-clause-states = grind (arith, common_steps)
+
+pub returns-in-None-clause-table : goal.returns-in-None-clause-table
+returns-in-None-clause-table = grind (arith, common_steps)
+
+pub returns-in-None-clause-too_many_positions : goal.returns-in-None-clause-too_many_positions
+returns-in-None-clause-too_many_positions = grind (arith, common_steps)
+
+pub returns-in-None-clause-too_many_states : goal.returns-in-None-clause-too_many_states
+returns-in-None-clause-too_many_states = grind (arith, common_steps)
+
+pub returns-in_err-found-clause-refused : goal.returns-in_err-found-clause-refused
+returns-in_err-found-clause-refused = grind (arith, common_steps)
+
+pub returns-in_err-moves-clause-conditions : goal.returns-in_err-moves-clause-conditions
+returns-in_err-moves-clause-conditions = grind (arith, common_steps)
+
+pub returns-in_err-moves-clause-few_positions : goal.returns-in_err-moves-clause-few_positions
+returns-in_err-moves-clause-few_positions = grind (arith, common_steps)
+
+pub returns-in_err-moves-clause-few_states : goal.returns-in_err-moves-clause-few_states
+returns-in_err-moves-clause-few_states = grind (arith, common_steps)
+
+pub returns-in_err-moves-clause-laws : goal.returns-in_err-moves-clause-laws
+returns-in_err-moves-clause-laws = grind (arith, common_steps)
+
+pub returns-in_err-moves-clause-reached : goal.returns-in_err-moves-clause-reached
+returns-in_err-moves-clause-reached = grind (arith, common_steps)
+
+pub returns-in_err-moves-clause-refused : goal.returns-in_err-moves-clause-refused
+returns-in_err-moves-clause-refused = grind (arith, common_steps)
+
+pub returns-in_err-moves-clause-states : goal.returns-in_err-moves-clause-states
+returns-in_err-moves-clause-states = grind (arith, common_steps)
+
+pub returns-in_err-moves-clause-table : goal.returns-in_err-moves-clause-table
+returns-in_err-moves-clause-table = grind (arith, common_steps)
+
+pub returns-in_err-moves-clause-too_many_positions : goal.returns-in_err-moves-clause-too_many_positions
+returns-in_err-moves-clause-too_many_positions = grind (arith, common_steps)
+
+pub returns-in_err-moves-clause-too_many_states : goal.returns-in_err-moves-clause-too_many_states
+returns-in_err-moves-clause-too_many_states = grind (arith, common_steps)

@@ -61,3 +61,9 @@ returns-clause-len c = grind (arith, common_steps)
 
 pub returns-clause-owners : goal.returns-clause-owners
 returns-clause-owners c = c.loop-i.invariant.owners
+
+pub overflow_add-base : goal.overflow_add-base
+overflow_add-base = grind (arith, common_steps)
+
+pub size-base-requires : goal.size-base-requires
+size-base-requires = grind (arith, common_steps)

@@ -1,4 +1,5 @@
-use Rattle.std.proofs.Common.{◌++◌, ◌∙◌, ℕ, List, map, ap, subst, refl}
+use Rattle.std.proofs.lemmas.Grind.{common_steps}
+use Rattle.std.proofs.Common.{◌++◌, ◌∙◌, ℕ, List, map, ap, subst, refl, arith}
 use Rattle.lex_semantics.specs.Text.{flag}
 use Rattle.lextab_packed.specs.Views.{table_of}
 use Rattle.std.specs.List.Sorted.{IsPermutation}
@@ -35,3 +36,12 @@ returns c =
       warnings = (c.in_ok-warnings.ensures.in_order, (c.in_ok-useless.useless.items, c.in_ok-useless.ensures.ascending, c.in_ok-useless.ensures.useless, subst (λ (xs : List ℕ). IsPermutation (map of_code (skipped_in c.args.spec.now) ++ map (of_rule (rules_in S)) xs) c.in_ok-warnings.warnings.items) c.deref.ensures.value c.in_ok-warnings.ensures.all));
       stats = c.stats_of-stats.ensures;
     }
+
+pub pack-requires-clause-conditions : goal.pack-requires-clause-conditions
+pack-requires-clause-conditions = grind (arith, common_steps)
+
+pub pack-requires-clause-table : goal.pack-requires-clause-table
+pack-requires-clause-table = grind (arith, common_steps)
+
+pub warnings-requires : goal.warnings-requires
+warnings-requires = grind (arith, common_steps)

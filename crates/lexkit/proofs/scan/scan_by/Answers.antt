@@ -1,3 +1,5 @@
+use Rattle.std.proofs.Common.{arith}
+use Rattle.std.proofs.lemmas.Grind.{common_steps}
 use Rattle.std.specs.Prelude.{nat_lt}
 use Rattle.lexspec.specs.Views.{spec_of}
 use Rattle.lexspec.proofs.TestLaws.{spec_is_sound}
@@ -10,3 +12,12 @@ returns-in-Err-clause-told g c = told_of g.S.Source.gave g.K.Sink.wrote c.args.l
 pub returns-clause-told : goal.returns-clause-told
 returns-clause-told g c =
     c.scan_tables.ensures.told c.args.limits (spec_of c.args.spec.now) c.in-Ok.least.subsets c.in-Ok.least.automaton (spec_is_sound (spec_of c.args.spec.now) c.args.spec.now.sound) c.in-Ok.ensures.made c.in-Ok-pack.ensures.machine
+
+pub returns-clause-not_failed : goal.returns-clause-not_failed
+returns-clause-not_failed = grind (arith, common_steps)
+
+pub returns-in-Err-pack-clause-not_failed : goal.returns-in-Err-pack-clause-not_failed
+returns-in-Err-pack-clause-not_failed = grind (arith, common_steps)
+
+pub returns-in-Err-pack-clause-told : goal.returns-in-Err-pack-clause-told
+returns-in-Err-pack-clause-told = grind (arith, common_steps)

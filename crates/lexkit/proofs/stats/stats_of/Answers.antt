@@ -1,3 +1,4 @@
+use Rattle.std.proofs.lemmas.Grind.{common_steps}
 use Rattle.std.proofs.Common.{rules, ◌≡◌, ◌≤◌, ◌<◌, ◌^◌, ◌∙◌, length, map, min, arith, ap, refl, sym, subst}
 use Rattle.lex_semantics.specs.Subsets.{all_positions}
 use Rattle.std.proofs.lemmas.List.{length-map}
@@ -41,3 +42,12 @@ returns c =
       slots = omega (arith, is, checks, nexts, least);
       bytes = c.file_length.ensures;
     }
+
+pub overflow_cast-result : goal.overflow_cast-result
+overflow_cast-result = grind (arith, common_steps)
+
+pub overflow_cast-result-2 : goal.overflow_cast-result-2
+overflow_cast-result-2 = grind (arith, common_steps)
+
+pub overflow_cast-result-3 : goal.overflow_cast-result-3
+overflow_cast-result-3 = grind (arith, common_steps)

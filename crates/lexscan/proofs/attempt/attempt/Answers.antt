@@ -1,3 +1,4 @@
+use Rattle.std.proofs.lemmas.Grind.{common_steps}
 use Rattle.std.proofs.Common.{◌≡◌, ℕ, ◌≤◌, List, ◌++◌, length, take, Err, sym, ap, ◌∙◌, arith}
 use Rattle.lex_semantics.specs.Machine.{Machine}
 use Rattle.lexscan.specs.Stands.{Stands}
@@ -67,3 +68,114 @@ returns-in_default-clause-next g c = Push.certain_true c.turn_of.new.state.faile
 
 pub returns-in_default-clause-too_many : goal.returns-in_default-clause-too_many
 returns-in_default-clause-too_many g c is = let e : c.in-Err.e ≡ TooManyReads = cc in c.in_default.not-TooManyReads e
+
+pub go_back_to-requires : goal.go_back_to-requires
+go_back_to-requires = grind (arith, common_steps)
+
+pub returns-in-Ok-clause-condition : goal.returns-in-Ok-clause-condition
+returns-in-Ok-clause-condition = grind (arith, common_steps)
+
+pub returns-in-Ok-clause-ends : goal.returns-in-Ok-clause-ends
+returns-in-Ok-clause-ends = grind (arith, common_steps)
+
+pub returns-in-Ok-clause-handed_on : goal.returns-in-Ok-clause-handed_on
+returns-in-Ok-clause-handed_on = grind (arith, common_steps)
+
+pub returns-in-Ok-clause-inside : goal.returns-in-Ok-clause-inside
+returns-in-Ok-clause-inside = grind (arith, common_steps)
+
+pub returns-in-Ok-clause-marks : goal.returns-in-Ok-clause-marks
+returns-in-Ok-clause-marks = grind (arith, common_steps)
+
+pub returns-in-Ok-clause-max_reads : goal.returns-in-Ok-clause-max_reads
+returns-in-Ok-clause-max_reads = grind (arith, common_steps)
+
+pub returns-in-Ok-clause-next : goal.returns-in-Ok-clause-next
+returns-in-Ok-clause-next = grind (arith, common_steps)
+
+pub returns-in-Ok-clause-read_faults : goal.returns-in-Ok-clause-read_faults
+returns-in-Ok-clause-read_faults = grind (arith, common_steps)
+
+pub returns-in-Ok-clause-refused : goal.returns-in-Ok-clause-refused
+returns-in-Ok-clause-refused = grind (arith, common_steps)
+
+pub returns-in-Ok-clause-same_sink : goal.returns-in-Ok-clause-same_sink
+returns-in-Ok-clause-same_sink = grind (arith, common_steps)
+
+pub returns-in-Ok-clause-same_source : goal.returns-in-Ok-clause-same_source
+returns-in-Ok-clause-same_source = grind (arith, common_steps)
+
+pub returns-in-Ok-clause-too_many : goal.returns-in-Ok-clause-too_many
+returns-in-Ok-clause-too_many = grind (arith, common_steps)
+
+pub returns-in-Ok-clause-write_faults : goal.returns-in-Ok-clause-write_faults
+returns-in-Ok-clause-write_faults = grind (arith, common_steps)
+
+pub returns-in-TooManyReads-clause-condition : goal.returns-in-TooManyReads-clause-condition
+returns-in-TooManyReads-clause-condition = grind (arith, common_steps)
+
+pub returns-in-TooManyReads-clause-ends : goal.returns-in-TooManyReads-clause-ends
+returns-in-TooManyReads-clause-ends = grind (arith, common_steps)
+
+pub returns-in-TooManyReads-clause-handed_on : goal.returns-in-TooManyReads-clause-handed_on
+returns-in-TooManyReads-clause-handed_on = grind (arith, common_steps)
+
+pub returns-in-TooManyReads-clause-marks : goal.returns-in-TooManyReads-clause-marks
+returns-in-TooManyReads-clause-marks = grind (arith, common_steps)
+
+pub returns-in-TooManyReads-clause-max_reads : goal.returns-in-TooManyReads-clause-max_reads
+returns-in-TooManyReads-clause-max_reads = grind (arith, common_steps)
+
+pub returns-in-TooManyReads-clause-next : goal.returns-in-TooManyReads-clause-next
+returns-in-TooManyReads-clause-next = grind (arith, common_steps)
+
+pub returns-in-TooManyReads-clause-read_faults : goal.returns-in-TooManyReads-clause-read_faults
+returns-in-TooManyReads-clause-read_faults = grind (arith, common_steps)
+
+pub returns-in-TooManyReads-clause-refused : goal.returns-in-TooManyReads-clause-refused
+returns-in-TooManyReads-clause-refused = grind (arith, common_steps)
+
+pub returns-in-TooManyReads-clause-same_sink : goal.returns-in-TooManyReads-clause-same_sink
+returns-in-TooManyReads-clause-same_sink = grind (arith, common_steps)
+
+pub returns-in-TooManyReads-clause-same_source : goal.returns-in-TooManyReads-clause-same_source
+returns-in-TooManyReads-clause-same_source = grind (arith, common_steps)
+
+pub returns-in-TooManyReads-clause-too_many : goal.returns-in-TooManyReads-clause-too_many
+returns-in-TooManyReads-clause-too_many = grind (arith, common_steps)
+
+pub returns-in-TooManyReads-clause-write_faults : goal.returns-in-TooManyReads-clause-write_faults
+returns-in-TooManyReads-clause-write_faults = grind (arith, common_steps)
+
+pub returns-in_default-clause-condition : goal.returns-in_default-clause-condition
+returns-in_default-clause-condition = grind (arith, common_steps)
+
+pub returns-in_default-clause-ends : goal.returns-in_default-clause-ends
+returns-in_default-clause-ends = grind (arith, common_steps)
+
+pub returns-in_default-clause-handed_on : goal.returns-in_default-clause-handed_on
+returns-in_default-clause-handed_on = grind (arith, common_steps)
+
+pub returns-in_default-clause-inside : goal.returns-in_default-clause-inside
+returns-in_default-clause-inside = grind (arith, common_steps)
+
+pub returns-in_default-clause-marks : goal.returns-in_default-clause-marks
+returns-in_default-clause-marks = grind (arith, common_steps)
+
+pub returns-in_default-clause-max_reads : goal.returns-in_default-clause-max_reads
+returns-in_default-clause-max_reads = grind (arith, common_steps)
+
+pub returns-in_default-clause-read_faults : goal.returns-in_default-clause-read_faults
+returns-in_default-clause-read_faults = grind (arith, common_steps)
+
+pub returns-in_default-clause-refused : goal.returns-in_default-clause-refused
+returns-in_default-clause-refused = grind (arith, common_steps)
+
+pub returns-in_default-clause-same_sink : goal.returns-in_default-clause-same_sink
+returns-in_default-clause-same_sink = grind (arith, common_steps)
+
+pub returns-in_default-clause-same_source : goal.returns-in_default-clause-same_source
+returns-in_default-clause-same_source = grind (arith, common_steps)
+
+pub returns-in_default-clause-write_faults : goal.returns-in_default-clause-write_faults
+returns-in_default-clause-write_faults = grind (arith, common_steps)

@@ -1,3 +1,4 @@
+use Rattle.std.proofs.lemmas.Grind.{common_steps}
 use Rattle.std.proofs.Common.{◌≡◌, ℕ, ◌+◌, ◌<◌, ◌≤◌, false, List, [], ◌++◌, refl, sym, ap, subst, ◌∙◌, append_assoc, append-nil, arith}
 use Rattle.std.proofs.lemmas.Result.{err_from_is_err_and}
 use Rattle.lex_semantics.specs.Machine.{Machine}
@@ -221,3 +222,84 @@ turns-preserved g c =
       read_faults = omega (arith, now.read_faults, first.read_faults, inv.read_faults);
       write_faults = omega (arith, now.write_faults, first.write_faults, inv.write_faults);
     }
+
+pub attempt-requires-clause-inside : goal.attempt-requires-clause-inside
+attempt-requires-clause-inside = grind (arith, common_steps)
+
+pub attempt-requires-clause-ready : goal.attempt-requires-clause-ready
+attempt-requires-clause-ready = grind (arith, common_steps)
+
+pub attempt-requires-clause-working : goal.attempt-requires-clause-working
+attempt-requires-clause-working = grind (arith, common_steps)
+
+pub go_further_unless_behind-requires-clause-ready : goal.go_further_unless_behind-requires-clause-ready
+go_further_unless_behind-requires-clause-ready = grind (arith, common_steps)
+
+pub returns-in-None-clause-condition : goal.returns-in-None-clause-condition
+returns-in-None-clause-condition = grind (arith, common_steps)
+
+pub returns-in-None-clause-inside : goal.returns-in-None-clause-inside
+returns-in-None-clause-inside = grind (arith, common_steps)
+
+pub returns-in-None-clause-marks : goal.returns-in-None-clause-marks
+returns-in-None-clause-marks = grind (arith, common_steps)
+
+pub returns-in-None-clause-max_reads : goal.returns-in-None-clause-max_reads
+returns-in-None-clause-max_reads = grind (arith, common_steps)
+
+pub returns-in-None-clause-read_faults : goal.returns-in-None-clause-read_faults
+returns-in-None-clause-read_faults = grind (arith, common_steps)
+
+pub returns-in-None-clause-same_sink : goal.returns-in-None-clause-same_sink
+returns-in-None-clause-same_sink = grind (arith, common_steps)
+
+pub returns-in-None-clause-same_source : goal.returns-in-None-clause-same_source
+returns-in-None-clause-same_source = grind (arith, common_steps)
+
+pub returns-in-None-clause-stack : goal.returns-in-None-clause-stack
+returns-in-None-clause-stack = grind (arith, common_steps)
+
+pub returns-in-None-clause-write_faults : goal.returns-in-None-clause-write_faults
+returns-in-None-clause-write_faults = grind (arith, common_steps)
+
+pub returns-in-Some-Ended-clause-condition : goal.returns-in-Some-Ended-clause-condition
+returns-in-Some-Ended-clause-condition = grind (arith, common_steps)
+
+pub returns-in-Some-Ended-clause-ends : goal.returns-in-Some-Ended-clause-ends
+returns-in-Some-Ended-clause-ends = grind (arith, common_steps)
+
+pub returns-in-Some-Ended-clause-handed_on : goal.returns-in-Some-Ended-clause-handed_on
+returns-in-Some-Ended-clause-handed_on = grind (arith, common_steps)
+
+pub returns-in-Some-Ended-clause-inside : goal.returns-in-Some-Ended-clause-inside
+returns-in-Some-Ended-clause-inside = grind (arith, common_steps)
+
+pub returns-in-Some-Ended-clause-marks : goal.returns-in-Some-Ended-clause-marks
+returns-in-Some-Ended-clause-marks = grind (arith, common_steps)
+
+pub returns-in-Some-Ended-clause-max_reads : goal.returns-in-Some-Ended-clause-max_reads
+returns-in-Some-Ended-clause-max_reads = grind (arith, common_steps)
+
+pub returns-in-Some-Ended-clause-read_faults : goal.returns-in-Some-Ended-clause-read_faults
+returns-in-Some-Ended-clause-read_faults = grind (arith, common_steps)
+
+pub returns-in-Some-Ended-clause-refused : goal.returns-in-Some-Ended-clause-refused
+returns-in-Some-Ended-clause-refused = grind (arith, common_steps)
+
+pub returns-in-Some-Ended-clause-same_sink : goal.returns-in-Some-Ended-clause-same_sink
+returns-in-Some-Ended-clause-same_sink = grind (arith, common_steps)
+
+pub returns-in-Some-Ended-clause-same_source : goal.returns-in-Some-Ended-clause-same_source
+returns-in-Some-Ended-clause-same_source = grind (arith, common_steps)
+
+pub returns-in-Some-Ended-clause-stack : goal.returns-in-Some-Ended-clause-stack
+returns-in-Some-Ended-clause-stack = grind (arith, common_steps)
+
+pub returns-in-Some-Ended-clause-too_many : goal.returns-in-Some-Ended-clause-too_many
+returns-in-Some-Ended-clause-too_many = grind (arith, common_steps)
+
+pub returns-in-Some-Ended-clause-write_faults : goal.returns-in-Some-Ended-clause-write_faults
+returns-in-Some-Ended-clause-write_faults = grind (arith, common_steps)
+
+pub returns-in_err-most-clause-marks : goal.returns-in_err-most-clause-marks
+returns-in_err-most-clause-marks = grind (arith, common_steps)

@@ -1,3 +1,4 @@
+use Rattle.std.proofs.lemmas.Grind.{common_steps}
 use Rattle.std.proofs.Common.{ℕ, List, ◌++◌, length, ap, subst, ◌∙◌, arith}
 use Rattle.std.proofs.lemmas.List.{length-append}
 use Rattle.lexscan_window.specs.Waits.{GivesWaiting, bytes_left}
@@ -90,3 +91,96 @@ returns-in-Err-clause-fed g c =
           let reading = Push.not_ended M old new waiting (bytes_left last) source.ends last.ends ran.0 gave now.ends now.max_reads c.requires.limit (Push.fallen_of M old new waiting fed out h c.requires.going t.0 ran.0 ran.1 t.2 t.3 c.in-Err.e t.4 fell) in
           Push.fed_refused M old new waiting fed out h c.requires.going t.0 ran.0 ran.1 t.2 t.3 (bytes_left last) c.in-Err.e t.4 gave.taken fell waiting reading),
     )
+
+pub keep_rest-requires-clause-room : goal.keep_rest-requires-clause-room
+keep_rest-requires-clause-room = grind (arith, common_steps)
+
+pub returns-in-Err-clause-condition : goal.returns-in-Err-clause-condition
+returns-in-Err-clause-condition = grind (arith, common_steps)
+
+pub returns-in-Err-clause-failed : goal.returns-in-Err-clause-failed
+returns-in-Err-clause-failed = grind (arith, common_steps)
+
+pub returns-in-Err-clause-handed_on : goal.returns-in-Err-clause-handed_on
+returns-in-Err-clause-handed_on = grind (arith, common_steps)
+
+pub returns-in-Err-clause-inside : goal.returns-in-Err-clause-inside
+returns-in-Err-clause-inside = grind (arith, common_steps)
+
+pub returns-in-Err-clause-not_read : goal.returns-in-Err-clause-not_read
+returns-in-Err-clause-not_read = grind (arith, common_steps)
+
+pub returns-in-Err-clause-reading : goal.returns-in-Err-clause-reading
+returns-in-Err-clause-reading = grind (arith, common_steps)
+
+pub returns-in-Err-clause-refused : goal.returns-in-Err-clause-refused
+returns-in-Err-clause-refused = grind (arith, common_steps)
+
+pub returns-in-Err-clause-stack : goal.returns-in-Err-clause-stack
+returns-in-Err-clause-stack = grind (arith, common_steps)
+
+pub returns-in-Err-clause-stood : goal.returns-in-Err-clause-stood
+returns-in-Err-clause-stood = grind (arith, common_steps)
+
+pub returns-in-Err-clause-too_many : goal.returns-in-Err-clause-too_many
+returns-in-Err-clause-too_many = grind (arith, common_steps)
+
+pub returns-in-Err-clause-write_faults : goal.returns-in-Err-clause-write_faults
+returns-in-Err-clause-write_faults = grind (arith, common_steps)
+
+pub returns-in-Ok-Ended-clause-condition : goal.returns-in-Ok-Ended-clause-condition
+returns-in-Ok-Ended-clause-condition = grind (arith, common_steps)
+
+pub returns-in-Ok-Ended-clause-handed_on : goal.returns-in-Ok-Ended-clause-handed_on
+returns-in-Ok-Ended-clause-handed_on = grind (arith, common_steps)
+
+pub returns-in-Ok-Ended-clause-inside : goal.returns-in-Ok-Ended-clause-inside
+returns-in-Ok-Ended-clause-inside = grind (arith, common_steps)
+
+pub returns-in-Ok-Ended-clause-not_read : goal.returns-in-Ok-Ended-clause-not_read
+returns-in-Ok-Ended-clause-not_read = grind (arith, common_steps)
+
+pub returns-in-Ok-Ended-clause-reading : goal.returns-in-Ok-Ended-clause-reading
+returns-in-Ok-Ended-clause-reading = grind (arith, common_steps)
+
+pub returns-in-Ok-Ended-clause-refused : goal.returns-in-Ok-Ended-clause-refused
+returns-in-Ok-Ended-clause-refused = grind (arith, common_steps)
+
+pub returns-in-Ok-Ended-clause-too_many : goal.returns-in-Ok-Ended-clause-too_many
+returns-in-Ok-Ended-clause-too_many = grind (arith, common_steps)
+
+pub returns-in-Ok-Ended-clause-write_faults : goal.returns-in-Ok-Ended-clause-write_faults
+returns-in-Ok-Ended-clause-write_faults = grind (arith, common_steps)
+
+pub returns-in-Ok-Went-clause-asking : goal.returns-in-Ok-Went-clause-asking
+returns-in-Ok-Went-clause-asking = grind (arith, common_steps)
+
+pub returns-in-Ok-Went-clause-condition : goal.returns-in-Ok-Went-clause-condition
+returns-in-Ok-Went-clause-condition = grind (arith, common_steps)
+
+pub returns-in-Ok-Went-clause-inside : goal.returns-in-Ok-Went-clause-inside
+returns-in-Ok-Went-clause-inside = grind (arith, common_steps)
+
+pub returns-in-Ok-Went-clause-marks : goal.returns-in-Ok-Went-clause-marks
+returns-in-Ok-Went-clause-marks = grind (arith, common_steps)
+
+pub returns-in-Ok-Went-clause-not_read : goal.returns-in-Ok-Went-clause-not_read
+returns-in-Ok-Went-clause-not_read = grind (arith, common_steps)
+
+pub returns-in-Ok-Went-clause-reading : goal.returns-in-Ok-Went-clause-reading
+returns-in-Ok-Went-clause-reading = grind (arith, common_steps)
+
+pub returns-in-Ok-Went-clause-refused : goal.returns-in-Ok-Went-clause-refused
+returns-in-Ok-Went-clause-refused = grind (arith, common_steps)
+
+pub returns-in-Ok-Went-clause-too_many : goal.returns-in-Ok-Went-clause-too_many
+returns-in-Ok-Went-clause-too_many = grind (arith, common_steps)
+
+pub returns-in-Ok-Went-clause-write_faults : goal.returns-in-Ok-Went-clause-write_faults
+returns-in-Ok-Went-clause-write_faults = grind (arith, common_steps)
+
+pub walk_all-requires-clause-condition : goal.walk_all-requires-clause-condition
+walk_all-requires-clause-condition = grind (arith, common_steps)
+
+pub walk_all-requires-clause-inside : goal.walk_all-requires-clause-inside
+walk_all-requires-clause-inside = grind (arith, common_steps)

@@ -1,3 +1,4 @@
+use Rattle.std.proofs.lemmas.Grind.{common_steps}
 use Rattle.std.proofs.Common.{◌≡◌, ℕ, ◌+◌, ◌-◌, List, take, ap, subst, ◌∙◌, arith}
 use Rattle.std.specs.Prelude.{map}
 use Rattle.lex_machine.specs.Views.{statement_of}
@@ -62,3 +63,81 @@ returns-in-Ok-clause-performed g c =
     Down.default_stop M g.K.Sink.wrote g.met.K.Sink.wrote_more w c.args.place.at path _ _ _ (conditions_of c.args.acting.now) (conditions_of c.args.acting.now) (omega (arith, c.requires.inside, c.requires.some))
     (Pick.none_picked M g.K.Sink.wrote g.met.K.Sink.wrote_none g.met.K.Sink.wrote_more w c.args.place.at _ path (conditions_of c.args.acting.now) (rw c.in-None.is at c.requires.longest.first))
     (subst (λ l. g.K.Sink.wrote c.args.outlet.now.sink.now l c.put.new.outlet.sink.now) text c.in-Ok.ensures.bytes)
+
+pub carry_out-requires-clause-inside : goal.carry_out-requires-clause-inside
+carry_out-requires-clause-inside = grind (arith, common_steps)
+
+pub overflow_add-acting : goal.overflow_add-acting
+overflow_add-acting = grind (arith, common_steps)
+
+pub returns-in-Err-clause-inside : goal.returns-in-Err-clause-inside
+returns-in-Err-clause-inside = grind (arith, common_steps)
+
+pub returns-in-Err-clause-performed : goal.returns-in-Err-clause-performed
+returns-in-Err-clause-performed = grind (arith, common_steps)
+
+pub returns-in-Err-clause-same : goal.returns-in-Err-clause-same
+returns-in-Err-clause-same = grind (arith, common_steps)
+
+pub returns-in-Err-clause-sink : goal.returns-in-Err-clause-sink
+returns-in-Err-clause-sink = grind (arith, common_steps)
+
+pub returns-in-Err-put-clause-inside : goal.returns-in-Err-put-clause-inside
+returns-in-Err-put-clause-inside = grind (arith, common_steps)
+
+pub returns-in-Err-put-clause-performed : goal.returns-in-Err-put-clause-performed
+returns-in-Err-put-clause-performed = grind (arith, common_steps)
+
+pub returns-in-Err-put-clause-same : goal.returns-in-Err-put-clause-same
+returns-in-Err-put-clause-same = grind (arith, common_steps)
+
+pub returns-in-Err-put-clause-sink : goal.returns-in-Err-put-clause-sink
+returns-in-Err-put-clause-sink = grind (arith, common_steps)
+
+pub returns-in-Ok-Again-clause-cut_off : goal.returns-in-Ok-Again-clause-cut_off
+returns-in-Ok-Again-clause-cut_off = grind (arith, common_steps)
+
+pub returns-in-Ok-Again-clause-inside : goal.returns-in-Ok-Again-clause-inside
+returns-in-Ok-Again-clause-inside = grind (arith, common_steps)
+
+pub returns-in-Ok-Again-clause-same : goal.returns-in-Ok-Again-clause-same
+returns-in-Ok-Again-clause-same = grind (arith, common_steps)
+
+pub returns-in-Ok-Again-clause-sink : goal.returns-in-Ok-Again-clause-sink
+returns-in-Ok-Again-clause-sink = grind (arith, common_steps)
+
+pub returns-in-Ok-Next-clause-cut_off : goal.returns-in-Ok-Next-clause-cut_off
+returns-in-Ok-Next-clause-cut_off = grind (arith, common_steps)
+
+pub returns-in-Ok-Next-clause-inside : goal.returns-in-Ok-Next-clause-inside
+returns-in-Ok-Next-clause-inside = grind (arith, common_steps)
+
+pub returns-in-Ok-Next-clause-same : goal.returns-in-Ok-Next-clause-same
+returns-in-Ok-Next-clause-same = grind (arith, common_steps)
+
+pub returns-in-Ok-Next-clause-sink : goal.returns-in-Ok-Next-clause-sink
+returns-in-Ok-Next-clause-sink = grind (arith, common_steps)
+
+pub returns-in-Ok-Over-clause-cut_off : goal.returns-in-Ok-Over-clause-cut_off
+returns-in-Ok-Over-clause-cut_off = grind (arith, common_steps)
+
+pub returns-in-Ok-Over-clause-inside : goal.returns-in-Ok-Over-clause-inside
+returns-in-Ok-Over-clause-inside = grind (arith, common_steps)
+
+pub returns-in-Ok-Over-clause-same : goal.returns-in-Ok-Over-clause-same
+returns-in-Ok-Over-clause-same = grind (arith, common_steps)
+
+pub returns-in-Ok-Over-clause-sink : goal.returns-in-Ok-Over-clause-sink
+returns-in-Ok-Over-clause-sink = grind (arith, common_steps)
+
+pub returns-in-Ok-clause-cut_off : goal.returns-in-Ok-clause-cut_off
+returns-in-Ok-clause-cut_off = grind (arith, common_steps)
+
+pub returns-in-Ok-clause-inside : goal.returns-in-Ok-clause-inside
+returns-in-Ok-clause-inside = grind (arith, common_steps)
+
+pub returns-in-Ok-clause-same : goal.returns-in-Ok-clause-same
+returns-in-Ok-clause-same = grind (arith, common_steps)
+
+pub returns-in-Ok-clause-sink : goal.returns-in-Ok-clause-sink
+returns-in-Ok-clause-sink = grind (arith, common_steps)

@@ -1,4 +1,5 @@
-use Rattle.std.proofs.Common.{◌++◌, take, sym, ap, ◌∙◌, take-append-drop}
+use Rattle.std.proofs.lemmas.Grind.{common_steps}
+use Rattle.std.proofs.Common.{◌++◌, take, sym, ap, ◌∙◌, take-append-drop, arith}
 use Rattle.lex_io.specs.ByteWriters.{bytes_held}
 use Rattle.lex_io.proofs.byte_writer.ByteWriter.pour.Goals as goal
 
@@ -7,3 +8,12 @@ returns-clause-rest g c =
     let n = c.write_out-written.result.0 in
     let all = bytes_held c.args.self.now in
     (take n all, sym (take-append-drop n all) ∙ ap (λ l. take n all ++ l) (sym c.drop_front.ensures.bytes))
+
+pub returns-clause-bytes : goal.returns-clause-bytes
+returns-clause-bytes = grind (arith, common_steps)
+
+pub returns-clause-poured : goal.returns-clause-poured
+returns-clause-poured = grind (arith, common_steps)
+
+pub returns-clause-room : goal.returns-clause-room
+returns-clause-room = grind (arith, common_steps)

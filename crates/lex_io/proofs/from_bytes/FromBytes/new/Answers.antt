@@ -1,1 +1,12 @@
--- Each goal is found by search.
+use Rattle.std.proofs.Common.{arith}
+use Rattle.std.proofs.lemmas.Grind.{common_steps}
+use Rattle.lex_io.proofs.from_bytes.FromBytes.new.Goals as goal
+
+pub returns-clause-ends : goal.returns-clause-ends
+returns-clause-ends = grind (arith, common_steps)
+
+pub returns-clause-failures : goal.returns-clause-failures
+returns-clause-failures = grind (arith, common_steps)
+
+pub returns-clause-reader : goal.returns-clause-reader
+returns-clause-reader = grind (arith, common_steps)

@@ -1,1 +1,30 @@
--- Each goal is found by search.
+use Rattle.std.proofs.Common.{arith}
+use Rattle.std.proofs.lemmas.Grind.{common_steps}
+use Rattle.lex_io.proofs.memory_source.MemorySourceSource.give.Goals as goal
+
+pub overflow_sub-self : goal.overflow_sub-self
+overflow_sub-self = grind (arith, common_steps)
+
+pub overflow_sub-self-in-Some-End : goal.overflow_sub-self-in-Some-End
+overflow_sub-self-in-Some-End = grind (arith, common_steps)
+
+pub returns-clause-bytes : goal.returns-clause-bytes
+returns-clause-bytes = grind (arith, common_steps)
+
+pub returns-clause-calls : goal.returns-clause-calls
+returns-clause-calls = grind (arith, common_steps)
+
+pub returns-clause-ends : goal.returns-clause-ends
+returns-clause-ends = grind (arith, common_steps)
+
+pub returns-clause-failures : goal.returns-clause-failures
+returns-clause-failures = grind (arith, common_steps)
+
+pub returns-clause-pause : goal.returns-clause-pause
+returns-clause-pause = grind (arith, common_steps)
+
+pub slice_bounds-self-count : goal.slice_bounds-self-count
+slice_bounds-self-count = grind (arith, common_steps)
+
+pub slice_bounds-self-start : goal.slice_bounds-self-start
+slice_bounds-self-start = grind (arith, common_steps)

@@ -1,0 +1,12 @@
+use Rattle.std.proofs.Common.{arith}
+use Rattle.std.proofs.lemmas.Grind.{common_steps}
+use Rattle.lex_io.proofs.byte_writer.ByteWriter.new.Goals as goal
+
+pub returns-clause-empty : goal.returns-clause-empty
+returns-clause-empty = grind (arith, common_steps)
+
+pub returns-clause-room : goal.returns-clause-room
+returns-clause-room = grind (arith, common_steps)
+
+pub returns-clause-writer : goal.returns-clause-writer
+returns-clause-writer = grind (arith, common_steps)

@@ -1,0 +1,18 @@
+use Rattle.std.proofs.Common.{arith}
+use Rattle.std.proofs.lemmas.Grind.{common_steps}
+use Rattle.lex_io.proofs.memory_source.MemorySource.new.Goals as goal
+
+pub returns-clause-bytes : goal.returns-clause-bytes
+returns-clause-bytes = grind (arith, common_steps)
+
+pub returns-clause-calls : goal.returns-clause-calls
+returns-clause-calls = grind (arith, common_steps)
+
+pub returns-clause-ends : goal.returns-clause-ends
+returns-clause-ends = grind (arith, common_steps)
+
+pub returns-clause-failures : goal.returns-clause-failures
+returns-clause-failures = grind (arith, common_steps)
+
+pub returns-clause-pause : goal.returns-clause-pause
+returns-clause-pause = grind (arith, common_steps)

@@ -1,0 +1,12 @@
+use Rattle.std.proofs.Common.{arith}
+use Rattle.std.proofs.lemmas.Grind.{common_steps}
+use Rattle.lexlook_words.proofs.actions.rejecting_rules.Goals as goal
+
+pub loop-rule-init : goal.loop-rule-init
+loop-rule-init = grind (arith, common_steps)
+
+pub loop-rule-preserved : goal.loop-rule-preserved
+loop-rule-preserved = grind (arith, common_steps)
+
+pub returns : goal.returns
+returns = grind (arith, common_steps)
