@@ -1,12 +1,13 @@
 #!/usr/bin/env python3
-"""Answers goals by `grind` in the Answers.antt of their functions, where that makes the gate faster.
+"""Answers goals by `grind` in the Answers.antt of their functions, so that edits that break them are refused sooner.
 
     scripts/answer-goals.py NAME      the crate crates/NAME
 
 The goals are those of a `return` of each function that a must-fail edit changes, and the dear ones of functions that take long.
 An edit that breaks an answered goal is refused sooner: no other tactic is tried, and no lines to start from are made.
 What a goal took is read from the records that a check leaves in out/incremental, as steps of its tactics. An answer that
-does not hold, or takes more steps than the search did, is taken back. To be looked at before it is committed."""
+does not hold, or takes more steps than the search did, is taken back. Fewer steps are not always less time: stating the goals of
+large functions took most of what was saved (docs/GATE.md). To be looked at before it is committed."""
 import re
 import subprocess
 import sys
