@@ -1,36 +1,22 @@
 -- How often the ends of a scan failed, and what was handed on, by its answer.
 use Rattle.std.specs.Prelude.{◌≡◌, ℕ, Bool, true, Result, Ok, Err, ⊤}
-use Rattle.lexscan_window.specs.declared.error.RunError.{RunError}
 use Rattle.lexscan_window.specs.declared.error.RunError.TheVariants as runs
 use Rattle.lexscan.specs.Ties.{HandedOnAfter}
 use Rattle.lexkit.specs.declared.errors.ScanError.{ScanError}
-use Rattle.lexkit.specs.declared.errors.ScanError.TheVariants.{Generate, Table, Run}
+use Rattle.lexkit.specs.declared.errors.ScanError.TheVariants.{Run}
 
 -- 1 where the scan stopped at a failure of its source
-abbrev pub read_fault_of : RunError → ℕ
-read_fault_of runs.Read = 1
-read_fault_of other = 0
-
 abbrev pub read_fault_count : {T : Type 0} → Result T ScanError → ℕ
-read_fault_count (Ok v) = 0
-read_fault_count (Err (Generate e)) = 0
-read_fault_count (Err (Table e)) = 0
-read_fault_count (Err (Run e)) = read_fault_of e
+read_fault_count (Err (Run runs.Read)) = 1
+read_fault_count other = 0
 
 -- 1 where the scan stopped at a failure of its sink
-abbrev pub write_fault_of : RunError → ℕ
-write_fault_of runs.Write = 1
-write_fault_of other = 0
-
 abbrev pub write_fault_count : {T : Type 0} → Result T ScanError → ℕ
-write_fault_count (Ok v) = 0
-write_fault_count (Err (Generate e)) = 0
-write_fault_count (Err (Table e)) = 0
-write_fault_count (Err (Run e)) = write_fault_of e
+write_fault_count (Err (Run runs.Write)) = 1
+write_fault_count other = 0
 
 -- where the scan has ended, or the stack of conditions was at fault, what was written has been handed on
 abbrev pub HandedOn : Bool → Result ℕ ScanError → Type 0
 HandedOn flushed (Ok status) = flushed ≡ true
-HandedOn flushed (Err (Generate e)) = ⊤
-HandedOn flushed (Err (Table e)) = ⊤
 HandedOn flushed (Err (Run e)) = HandedOnAfter flushed e
+HandedOn flushed other = ⊤

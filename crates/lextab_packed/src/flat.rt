@@ -9,7 +9,7 @@ ghost use Rattle.lextab_packed.specs.Runs.{IsRun};
 ghost use Rattle.lextab_packed.specs.declared.kinds.Kind.{Kind};
 ghost use Rattle.lextab_packed.specs.Steps.{step_of};
 ghost use Rattle.lextab_packed.specs.Views.{table_of};
-ghost use Rattle.lextab_packed.specs.Machines.{machine_of, states_of};
+ghost use Rattle.lextab_packed.specs.Machines.{machine_of, states_of, laws_of, below_of};
 
 use crate::kinds::{Kind, kinds_of};
 use crate::steps::{STOP, STOP_ECHO, STOP_OTHER, STOP_SILENT, marked_rows};
@@ -112,13 +112,15 @@ fn state_of(target: u32) -> u32
 }
 
 impl Machine for Flat {
-    ghost machine = { λ f. machine_of f.tables };
+    ghost use Rattle.lextab_packed.specs.FlatViews.{tables_of};
 
-    ghost states = { λ f. states_of f.tables };
+    ghost machine = { λ f. machine_of (tables_of f) };
 
-    ghost laws = { λ f. f.tables.laws };
+    ghost states = { λ f. states_of (tables_of f) };
 
-    ghost below = { λ f. f.tables.below };
+    ghost laws = { λ f. laws_of (tables_of f) };
+
+    ghost below = { λ f. below_of (tables_of f) };
 
     fn conditions(&self) -> usize {
         self.tables.conditions()
