@@ -20,7 +20,7 @@ use Rattle.lexauto_dfa.specs.Automata.{machine_in}
 use Rattle.lexauto_dfa.specs.declared.dfa.Parts.{Parts}
 use Rattle.lexauto_minimise.specs.Least.{AcceptsAs, AreSame, OneAutomaton}
 use Rattle.lextab_packed.specs.Table.{Table, Condition, Rule, Row, Slot}
-use Rattle.lextab_packed.specs.Steps.{no_row, start_at, ending_at, cut_at, statements_at}
+use Rattle.lextab_packed.proofs.Finding.{no_row, start_at, ending_at, cut_at, statements_at}
 use Rattle.lextab_packing.specs.Packing.{Packing, IsPacked}
 use Rattle.lextab_packing.specs.Tables.{packing_in}
 use Rattle.lextab_file.specs.File.{file_of}

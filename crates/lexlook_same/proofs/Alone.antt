@@ -7,7 +7,8 @@ use Rattle.lex_semantics.specs.MachineLaws.{NoReject}
 use Rattle.lex_semantics.specs.Text.{IsText}
 use Rattle.lextab_packed.specs.Checks.{any_reject}
 use Rattle.lextab_packed.specs.Machines.{machine_of}
-use Rattle.lextab_packed.specs.Steps.{no_row, row_in}
+use Rattle.lextab_packed.specs.Steps.{row_in}
+use Rattle.lextab_packed.proofs.Finding.{no_row}
 use Rattle.lextab_packed.specs.Table.{Rule, Row}
 use Rattle.lextab_packed.specs.Views.{table_of}
 use Rattle.lextab_packed.specs.declared.tables.Tables.{Tables}

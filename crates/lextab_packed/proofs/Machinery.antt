@@ -11,8 +11,9 @@ use Rattle.lex_semantics.specs.Machine.{Machine, walk}
 use Rattle.lex_semantics.specs.MachineLaws.{MachineLaws, LeadsToAccept, StaysBelow}
 use Rattle.lextab_packed.specs.Table.{Table, Condition, Rule}
 use Rattle.lextab_packed.specs.Checks.{Each, Sizes, sizes_of, IsCondition, IsRule, IsTable}
-use Rattle.lextab_packed.specs.Steps.{step_of, after, accepted_in, start_at, statements_at, machine_of_table}
-use Rattle.lextab_packed.specs.Invariant.{LeadsOn, GoesOn}
+use Rattle.lextab_packed.specs.Steps.{step_of, accepted_in, machine_of_table}
+use Rattle.lextab_packed.proofs.Finding.{start_at, statements_at}
+use Rattle.lextab_packed.specs.Invariant.{GoesOn}
 use Rattle.lextab_packed.proofs.Places.{past_end, row_is, step_below, step_dead, dead_accepts, past_accepts, nowhere}
 
 same_bool : (a b : Bool) → IsProp (a ≡ b)
@@ -36,17 +37,21 @@ module _ (t : Table) (ok : IsTable t) (flags : List Bool) (goes : GoesOn t flags
   abbrev M : Machine
   M = machine_of_table t (λ s. flag flags s)
 
-  walk_after : (s : ℕ) (w : List ℕ) → walk M s w ≡ after t s w
+  -- the same machine, whatever goes on there
+  abbrev plain : Machine
+  plain = machine_of_table t (λ q. false)
+
+  walk_after : (s : ℕ) (w : List ℕ) → walk M s w ≡ walk plain s w
   walk_after s [] = refl
   walk_after s (b ∷ w) = walk_after (step_of t s b) w
 
-  there : (s : ℕ) → LeadsToAccept M s → LeadsOn t s
+  there : (s : ℕ) → LeadsToAccept M s → LeadsToAccept plain s
   there s (u, text, some, i, a) = (u, text, some, i, subst (λ (q : ℕ). Among (accepted_in t q) i) (walk_after s u) a)
 
-  back : (s : ℕ) → LeadsOn t s → LeadsToAccept M s
+  back : (s : ℕ) → LeadsToAccept plain s → LeadsToAccept M s
   back s (u, text, some, i, a) = (u, text, some, i, subst (λ (q : ℕ). Among (accepted_in t q) i) (sym (walk_after s u)) a)
 
-  leads : (s : ℕ) → (flag flags s ≡ true) ↔ ∥ LeadsOn t s ∥₁
+  leads : (s : ℕ) → (flag flags s ≡ true) ↔ ∥ LeadsToAccept plain s ∥₁
   leads s = elim (cases_lt s (length t.rows)) [
     | inl h ↦ goes.leads s h
     | inr h ↦ (

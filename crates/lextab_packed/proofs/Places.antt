@@ -3,10 +3,12 @@ use Rattle.std.proofs.Common.{◌≡◌, ℕ, zero, suc, ◌+◌, ◌<◌, ◌�
 use Rattle.std.specs.Prelude.{◌&&◌, ◌==◌, nat_lt, slice_index, slice_index_or}
 use Rattle.std.proofs.lemmas.Bool.{and_parts, ltb-true, lt-ltb, eqb-true, cond-true, cond-false, and_from, le-ltb, and_left}
 use Rattle.lex_semantics.specs.Text.{Among}
+use Rattle.lex_semantics.specs.Machine.{Machine, walk}
+use Rattle.lex_semantics.specs.MachineLaws.{LeadsToAccept}
 use Rattle.lextab_packed.specs.Table.{Table, Row, Slot}
 use Rattle.lextab_packed.specs.Checks.{Each, Sizes, sizes_of, bases_of, any_reject, IsRow, IsSlot, IsTable}
-use Rattle.lextab_packed.specs.Steps.{no_row, no_slot, row_in, slot_in, target, step_of, accepted_in, after}
-use Rattle.lextab_packed.specs.Invariant.{LeadsOn}
+use Rattle.lextab_packed.specs.Steps.{row_in, slot_in, target, step_of, accepted_in, machine_of_table}
+use Rattle.lextab_packed.proofs.Finding.{no_row, no_slot}
 
 each_from : {A : Type 0} (P : ℕ → A → Type 0) (n : ℕ) (xs : List A) (i : ℕ) (d : A) → Each P n xs → i < length xs → P (n + i) (get_or xs i d)
 each_from P n [] i d h lt = absurd (omega arith)
@@ -97,12 +99,16 @@ module _ (t : Table) (ok : IsTable t) where
   pub past_accepts : (s : ℕ) → length t.rows ≤ s → accepted_in t s ≡ []
   past_accepts s h = ap (λ (r : Row). r.rules) (past_end t.rows s no_row h)
 
-  pub dead_after : (w : List ℕ) → after t 0 w ≡ 0
-  dead_after [] = refl
-  dead_after (b ∷ w) = ap (λ (s : ℕ). after t s w) (step_dead b) ∙ dead_after w
+  -- its machine, whatever goes on there
+  abbrev plain : Machine
+  plain = machine_of_table t (λ q. false)
 
-  pub nowhere : (s : ℕ) → length t.rows ≤ s → LeadsOn t s → ⊥
+  pub dead_after : (w : List ℕ) → walk plain 0 w ≡ 0
+  dead_after [] = refl
+  dead_after (b ∷ w) = ap (λ (s : ℕ). walk plain s w) (step_dead b) ∙ dead_after w
+
+  pub nowhere : (s : ℕ) → length t.rows ≤ s → LeadsToAccept plain s → ⊥
   nowhere s h ([], text, some, i, among) = omega (arith, some)
   nowhere s h (b ∷ w, text, some, i, among) =
-      let there : after t (step_of t s b) w ≡ 0 = ap (λ (u : ℕ). after t u w) (past_step s b h) ∙ dead_after w in
+      let there : walk plain (step_of t s b) w ≡ 0 = ap (λ (u : ℕ). walk plain u w) (past_step s b h) ∙ dead_after w in
       absurd (subst (λ (l : List ℕ). Among l i) (ap (λ (u : ℕ). accepted_in t u) there ∙ dead_accepts) among)

@@ -5,7 +5,7 @@ use Rattle.std.proofs.lemmas.Bool.{or_parts, false≢true}
 use Rattle.lex_semantics.specs.Spec.{has_reject}
 use Rattle.lextab_packed.specs.Table.{Rule}
 use Rattle.lextab_packed.specs.Checks.{any_reject}
-use Rattle.lextab_packed.specs.Steps.{statements_at}
+use Rattle.lextab_packed.proofs.Finding.{statements_at}
 
 pub none_rejects : (rules : List Rule) → any_reject rules ≡ false → (i : ℕ) → i < length rules → has_reject (statements_at (slice_get rules i)) ≡ false
 none_rejects [] e i h = absurd (omega (arith, h))

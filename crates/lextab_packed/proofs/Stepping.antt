@@ -5,7 +5,8 @@ use Rattle.std.proofs.lemmas.Bool.{cond-true, cond-false, eq-eqb, ne_eqb}
 use Rattle.std.proofs.lemmas.List.{length-map}
 use Rattle.lextab_packed.specs.Table as T
 use Rattle.lextab_packed.specs.Checks.{IsTable}
-use Rattle.lextab_packed.specs.Steps.{no_row, no_slot, row_in, target, step_of}
+use Rattle.lextab_packed.specs.Steps.{row_in, target, step_of}
+use Rattle.lextab_packed.proofs.Finding.{no_row, no_slot}
 use Rattle.lextab_packed.specs.Views.{row_of, slots_of, table_of}
 use Rattle.lextab_packed.specs.declared.parts.Row.{Row}
 use Rattle.lextab_packed.specs.declared.parts.TableParts.{TableParts}

@@ -1,5 +1,6 @@
 -- What a table keeps to. (This project's; what actions keep to: POSIX and flex, Actions.)
-use Rattle.std.specs.Prelude.{◌≡◌, ℕ, ◌+◌, ◌<◌, ◌≤◌, Bool, false, ◌||◌, List, [], ◌∷◌, length, map, sum_by, slice_index, ⊤}
+use Rattle.std.specs.Prelude.{◌≡◌, ℕ, ◌+◌, ◌<◌, ◌≤◌, Bool, false, List, [], length, map, sum_by, slice_index, ⊤}
+use Rattle.std.specs.List.{list_any}
 use Rattle.lex_semantics.specs.Limits.{max_conditions, max_rules, max_states, max_classes, max_slots, max_literal_bytes, max_status, max_fixed_length, max_statements}
 use Rattle.lex_semantics.specs.Text.{IsText, Ascending, Among}
 use Rattle.lex_semantics.specs.Spec.{Cut, Whole, Head, Trail, has_reject}
@@ -50,8 +51,7 @@ pub record IsRule (z : Sizes) (i : ℕ) (r : Rule) : Type 0 where
   pub bytes : Each HasText 0 r.statements
 
 abbrev pub any_reject : List Rule → Bool
-any_reject [] = false
-any_reject (r ∷ rs) = has_reject r.statements || any_reject rs
+any_reject rs = list_any (λ r. has_reject r.statements) rs
 
 -- the row of state s, where some rule has REJECT or none has: then a state accepts at most one
 pub record IsRow (z : Sizes) (rejects : Bool) (s : ℕ) (r : Row) : Type 0 where

@@ -1,23 +1,20 @@
 -- When states go on, and that there is one proof at most of what a table keeps to, so a type may keep it.
 -- (This project's.)
-use Rattle.std.specs.Prelude.{◌≡◌, ℕ, suc, ◌≤◌, ◌<◌, Bool, true, List, [], ◌∷◌, length, ◌↔◌}
+use Rattle.std.specs.Prelude.{◌≡◌, ℕ, suc, ◌<◌, Bool, true, false, List, [], ◌∷◌, length, ◌↔◌}
 use Rattle.std.specs.Coded.{×_prop, Unit-prop, le_prop}
 use Rattle.std.proofs.Props.{props}
-use Rattle.lex_semantics.specs.Text.{IsText, Among, Ascending, flag}
+use Rattle.lex_semantics.specs.Text.{IsText, Ascending, flag}
 use Rattle.lex_semantics.specs.Spec.{Statement, Echo, Print, Begin, More, Less, Reject, End, Push, Pop, Cut, Whole, Head, Trail}
 use Rattle.lex_semantics.specs.Legal.{IsLegal}
+use Rattle.lex_semantics.specs.MachineLaws.{LeadsToAccept}
 use Rattle.lextab_packed.specs.Table.{Condition, Rule, Row, Slot, Table}
 use Rattle.lextab_packed.specs.Checks.{Each, Sizes, sizes_of, AreSizes, IsCondition, IsCut, HasText, IsRule, IsRow, IsSlot, IsTable, any_reject, bases_of}
-use Rattle.lextab_packed.specs.Steps.{after, accepted_in}
+use Rattle.lextab_packed.specs.Steps.{machine_of_table}
 
--- some text of at least one byte leads from the state to one that accepts a rule
-abbrev pub LeadsOn : Table → ℕ → Type 0
-LeadsOn t s = (w : List ℕ) × IsText w × (1 ≤ length w) × (i : ℕ) × Among (accepted_in t (after t s w)) i
-
--- the flags tell which states go on
+-- the flags tell which states go on: those from which a text leads to one that accepts a rule
 pub record GoesOn (t : Table) (flags : List Bool) : Type 0 where
   pub len : length flags ≡ length t.rows
-  pub leads : (s : ℕ) → s < length t.rows → (flag flags s ≡ true) ↔ ∥ LeadsOn t s ∥₁
+  pub leads : (s : ℕ) → s < length t.rows → (flag flags s ≡ true) ↔ ∥ LeadsToAccept (machine_of_table t (λ q. false)) s ∥₁
 
 Each-prop : {A : Type 0} (P : ℕ → A → Type 0) → ((i : ℕ) (x : A) → IsProp (P i x)) → (i : ℕ) (xs : List A) → IsProp (Each P i xs)
 Each-prop P one i [] = Unit-prop
@@ -100,5 +97,5 @@ IsTable-prop t x y = λ k. record {
 pub GoesOn-prop : (t : Table) (flags : List Bool) → IsProp (GoesOn t flags)
 GoesOn-prop t flags x y = λ k. record {
   len = (let p : IsProp (length flags ≡ length t.rows) = Prim.hlevel props in p) x.len y.len k;
-  leads = λ s h. (let p : IsProp ((flag flags s ≡ true) ↔ ∥ LeadsOn t s ∥₁) = Prim.hlevel props in p) (x.leads s h) (y.leads s h) k;
+  leads = λ s h. (let p : IsProp ((flag flags s ≡ true) ↔ ∥ LeadsToAccept (machine_of_table t (λ q. false)) s ∥₁) = Prim.hlevel props in p) (x.leads s h) (y.leads s h) k;
 }

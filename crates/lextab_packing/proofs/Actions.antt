@@ -12,7 +12,7 @@ use Rattle.lexspec.specs.Tests.{sound_tree, sound_trail, cut_fits, has_length, h
 use Rattle.lexauto_dfa.specs.Machines as D
 use Rattle.lextab_packed.specs.Table as T
 use Rattle.lextab_packed.specs.Checks.{Each, Sizes, IsCondition, IsCut, HasText, IsRule, any_reject}
-use Rattle.lextab_packed.specs.Steps as T'
+use Rattle.lextab_packed.proofs.Finding as T'
 use Rattle.lextab_packing.specs.Assembled.{conditions_with, action_in}
 
 fixed_small : (t : Tree) (n : ℕ) → has_fixed t n ≡ true → n ≤ 65535

@@ -7,7 +7,7 @@ use Rattle.std.proofs.lemmas.List.{length-map}
 use Rattle.lex_semantics.specs.Text.{Among, Ascending, flag}
 use Rattle.lex_semantics.specs.Spec as S
 use Rattle.lex_semantics.specs.Spec.{rejects as some_reject}
-use Rattle.lex_semantics.specs.Machine.{walk}
+use Rattle.lex_semantics.specs.Machine.{Machine, walk}
 use Rattle.lex_semantics.specs.MachineLaws.{MachineLaws, LeadsToAccept}
 use Rattle.lexspec.specs.Tests.{sound_conditions, sound_rules, is_sound}
 use Rattle.lexauto_dfa.specs.Parts.{states, conditions, start, next, lists_in, accepts}
@@ -17,8 +17,9 @@ use Rattle.lexauto_dfa.specs.declared.dfa.Parts.{Parts}
 use Rattle.lexauto_dfa.proofs.Machinery.{past_end}
 use Rattle.lextab_packed.specs.Table as T
 use Rattle.lextab_packed.specs.Checks.{Sizes, sizes_of, AreSizes, bases_of, any_reject, IsRow, IsSlot, IsTable}
-use Rattle.lextab_packed.specs.Steps.{no_row, no_slot, row_in, slot_in, target, step_of, after, accepted_in, machine_of_table}
-use Rattle.lextab_packed.specs.Invariant.{LeadsOn, GoesOn}
+use Rattle.lextab_packed.specs.Steps.{row_in, slot_in, target, step_of, accepted_in, machine_of_table}
+use Rattle.lextab_packed.proofs.Finding.{no_row, no_slot}
+use Rattle.lextab_packed.specs.Invariant.{GoesOn}
 use Rattle.lextab_packed.proofs.Places.{each_of}
 use Rattle.lextab_packing.specs.Below.{below}
 use Rattle.lextab_packing.specs.Assembled.{start_in, action_in, assembled, HasTexts}
@@ -161,15 +162,19 @@ module _ (p : Parts) (a : IsAutomaton p) (S : S.Spec) (laws : MachineLaws (machi
           same_start (start_in p.starts.items p.line_starts.items) 0 S.conditions c line_start (λ d h. past_start d line_start (omega (arith, h)))
           ∙ (let e : 0 + c ≡ c = omega arith in ap (λ (m : ℕ). start p m line_start) e)
 
-  walk_after : (s : ℕ) (w : List ℕ) → walk (machine_in p S) s w ≡ after (assembled p S q) s w
+  -- the machine of the table, whatever goes on there
+  abbrev plain : Machine
+  plain = machine_of_table (assembled p S q) (λ s. false)
+
+  walk_after : (s : ℕ) (w : List ℕ) → walk (machine_in p S) s w ≡ walk plain s w
   walk_after s [] = refl
   walk_after s (b ∷ w) = ap (λ (u : ℕ). walk (machine_in p S) u w) (sym (same_step s b)) ∙ walk_after (step_of (assembled p S q) s b) w
 
-  there : (s : ℕ) → LeadsToAccept (machine_in p S) s → LeadsOn (assembled p S q) s
-  there s (u, text, some, i, among) = (u, text, some, i, subst (λ (l : List ℕ). Among l i) (ap (λ (n : ℕ). accepts p n) (walk_after s u) ∙ sym (rules_are (after (assembled p S q) s u))) among)
+  there : (s : ℕ) → LeadsToAccept (machine_in p S) s → LeadsToAccept plain s
+  there s (u, text, some, i, among) = (u, text, some, i, subst (λ (l : List ℕ). Among l i) (ap (λ (n : ℕ). accepts p n) (walk_after s u) ∙ sym (rules_are (walk plain s u))) among)
 
-  back : (s : ℕ) → LeadsOn (assembled p S q) s → LeadsToAccept (machine_in p S) s
-  back s (u, text, some, i, among) = (u, text, some, i, subst (λ (l : List ℕ). Among l i) (rules_are (after (assembled p S q) s u) ∙ ap (λ (n : ℕ). accepts p n) (sym (walk_after s u))) among)
+  back : (s : ℕ) → LeadsToAccept plain s → LeadsToAccept (machine_in p S) s
+  back s (u, text, some, i, among) = (u, text, some, i, subst (λ (l : List ℕ). Among l i) (rules_are (walk plain s u) ∙ ap (λ (n : ℕ). accepts p n) (sym (walk_after s u))) among)
 
   pub goes_on : GoesOn (assembled p S q) p.goes_on.items
   goes_on = record {

@@ -8,7 +8,8 @@ use Rattle.lex_semantics.specs.Text.{Among, flag}
 use Rattle.lex_semantics.specs.Spec.{Whole, Echo}
 use Rattle.lextab_packed.specs.Table.{Table, Slot}
 use Rattle.lextab_packed.specs.Checks.{IsTable}
-use Rattle.lextab_packed.specs.Steps.{no_slot, target, step_of, after, accepted_in}
+use Rattle.lextab_packed.specs.Steps.{target, step_of, accepted_in}
+use Rattle.lextab_packed.proofs.Finding.{no_slot}
 use Rattle.lextab_packed.specs.Invariant.{LeadsOn, GoesOn}
 use Rattle.lextab_packed.proofs.Places.{each_of, step_dead, dead_after}
 

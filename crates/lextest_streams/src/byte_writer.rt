@@ -94,7 +94,8 @@ fn flushes(writer: &mut ByteWriter<Drip<'_>>, want: Result<(), ErrorKind>) -> bo
     }
 }
 
-// Bytes that there is room for once all but four bytes are taken, and how many of them are written. Nothing is poured then.
+// Bytes that there is room for once all but four bytes are taken, and how many of them are written.
+// Nothing is poured then.
 const HELD: &[(&[u8], usize)] = &[(b"abc", 3), (b"", 0), (b"d", 1)];
 
 /// Dots come first, so that it is full after a few bytes. More bytes than it may hold are handed on.

@@ -1,7 +1,7 @@
 use Rattle.std.proofs.lemmas.Grind.{common_steps}
 use Rattle.std.proofs.Common.{◌≡◌, ℕ, zero, suc, ◌<◌, Bool, true, false, List, [], ◌∷◌, length, map, get_or, sym, ap, subst, ◌∙◌, arith}
 use Rattle.std.specs.Prelude.{slice_get}
-use Rattle.lextab_packed.specs.Steps.{start_at}
+use Rattle.lextab_packed.proofs.Finding.{start_at}
 use Rattle.lextab_packed.specs.Views.{condition_of}
 use Rattle.lextab_packed.specs.Machines.{states_of}
 use Rattle.lextab_packed.specs.declared.parts.TableCondition.{TableCondition}
