@@ -78,12 +78,9 @@ ScansBy gave wrote limits S at_end s s' t t' (Err (scans.Table e)) = ⊥
 
 -- The headline: the scan is that of the specification that the text spells. A text that is refused leaves both ends as they were.
 abbrev pub Headline : {A B : Type 0} → (A → List ℕ → A → Type 0) → (B → List ℕ → B → Type 0) → Options → List ℕ → Bool → A → A → B → B → Result ℕ ScanError → Type 0
-Headline gave wrote options text at_end s s' t t' (Ok status) =
-    (S : Spec) × SpellsSpec (reading options) text S × IsWithin options.limits S × Scans gave wrote (rules_of S) at_end s s' t t' (Ok status)
-Headline gave wrote options text at_end s s' t t' (Err (scans.Run e)) =
-    (S : Spec) × SpellsSpec (reading options) text S × IsWithin options.limits S × Scans gave wrote (rules_of S) at_end s s' t t' (Err e)
 Headline gave wrote options text at_end s s' t t' (Err (scans.Generate e)) = Refusal options text e × (s' ≡ s) × (t' ≡ t)
-Headline gave wrote options text at_end s s' t t' (Err (scans.Table e)) = ⊥
+Headline gave wrote options text at_end s s' t t' answer =
+    (S : Spec) × SpellsSpec (reading options) text S × ScansBy gave wrote options.limits S at_end s s' t t' answer
 
 -- The rules of a table: those of its machine, where the states go on from which a text leads to one that accepts.
 pub record ScansTable {A B : Type 0} (gave : A → List ℕ → A → Type 0) (wrote : B → List ℕ → B → Type 0) (bytes : List ℕ) (at_end : Bool) (s s' : A) (t t' : B) (answer : Result ℕ RunError) : Type 0 where

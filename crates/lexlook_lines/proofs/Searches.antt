@@ -7,7 +7,7 @@ use Rattle.lex_semantics.specs.Text.{IsText, Among, flag}
 use Rattle.lex_semantics.specs.Machine.{Machine, walk}
 use Rattle.lex_semantics.proofs.MachineLaws.{walk-append}
 use Rattle.lex_semantics.proofs.Texts.{is_text_append}
-use Rattle.lexlook_lines.specs.Reaching.{Led, IsReached, Found, Added, AddedAll, unmarked}
+use Rattle.lexlook_lines.specs.Reaching.{Led, IsReached, Found, Added, BegunFrom, unmarked}
 
 pub among_left : {X : Type 0} (xs ys : List X) (x : X) → Among xs x → Among (xs ++ ys) x
 among_left [] ys x at = absurd at
@@ -177,19 +177,18 @@ start_more M n from begun found found' marks marks' s h start in_n add = record 
         nowhere i c (inl less) = omega (arith, less)
         nowhere i c (inr here) = (let l = here.1 in omega (arith, l))
 
--- a state more is added to a list of them
-pub add_more : (found found' found'' : List ℕ) (marks marks' marks'' : List Bool) (ss : List ℕ) (s : ℕ) → AddedAll found marks ss found' marks' → Added found' marks' s found'' marks'' → AddedAll found marks (ss ++ s ∷ []) found'' marks''
-add_more found found' found'' marks marks' marks'' [] s all add =
-    (found'', marks'', subst (λ z. Added z marks s found'' marks'') all.0 (subst (λ z. Added found' z s found'' marks'') all.1 add), (refl, refl))
-add_more found found' found'' marks marks' marks'' (z ∷ ss) s all add = (all.0, all.1, all.2, add_more all.0 found' found'' all.1 marks' marks'' ss s all.3 add)
+-- from no state a search begins as it stands
+pub begun_none : (found : List ℕ) (marks : List Bool) → BegunFrom [] found marks found marks
+begun_none found marks M n from begun starts h = subst (λ z. Found M n from z found marks 0 0) (sym (append-nil begun)) h
 
--- some states more to start from
-pub start_all : (M : Machine) (n : ℕ) (from begun found found' : List ℕ) (marks marks' : List Bool) (ss : List ℕ) → Found M n from begun found marks 0 0 → ((s : ℕ) → Among ss s → Among from s) → ((s : ℕ) → Among ss s → s < n) →
-    AddedAll found marks ss found' marks' → Found M n from (begun ++ ss) found' marks' 0 0
-start_all M n from begun found found' marks marks' [] h starts in_n all = rw (append-nil begun) (subst (λ z. Found M n from begun z marks' 0 0) (sym all.0) (subst (λ z. Found M n from begun found z 0 0) (sym all.1) h))
-start_all M n from begun found found' marks marks' (s ∷ ss) h starts in_n all =
-    subst (λ z. Found M n from z found' marks' 0 0) (append_assoc begun (s ∷ []) ss)
-    (start_all M n from (begun ++ s ∷ []) all.0 found' all.1 marks' ss (start_more M n from begun found all.0 marks all.1 s h (starts s (inl refl)) (in_n s (inl refl)) all.2) (λ t at. starts t (inr at)) (λ t at. in_n t (inr at)) all.3)
+-- and from one more
+pub begun_more : (found found' found'' : List ℕ) (marks marks' marks'' : List Bool) (ss : List ℕ) (s : ℕ) → s < length marks' → BegunFrom ss found marks found' marks' → Added found' marks' s found'' marks'' → BegunFrom (ss ++ s ∷ []) found marks found'' marks''
+begun_more found found' found'' marks marks' marks'' ss s in_marks all add M n from begun starts h =
+    subst (λ z. Found M n from z found'' marks'' 0 0) (append_assoc begun ss (s ∷ []))
+    (start_more M n from (begun ++ ss) found' found'' marks' marks'' s before (starts s (among_last ss s)) (omega (arith, in_marks, before.size)) add)
+  where
+    before : Found M n from (begun ++ ss) found' marks' 0 0
+    before = all M n from begun (λ t at. starts t (among_left ss (s ∷ []) t at)) h
 
 -- before any is found
 pub none_found : (M : Machine) (n : ℕ) (from : List ℕ) (marks : List Bool) → length marks ≡ n → ((i : ℕ) → get_or marks i false ≡ false) → Found M n from [] [] marks 0 0

@@ -29,10 +29,10 @@ Added found marks s found' marks' =
     ((flag marks s ≡ true) × (found' ≡ found) × (marks' ≡ marks))
     ⊎ ((flag marks s ≡ false) × (found' ≡ found ++ s ∷ []) × (marks' ≡ slice_set marks s true))
 
--- the states of a list are added, one after the other
-abbrev pub AddedAll : List ℕ → List Bool → List ℕ → List ℕ → List Bool → Type 0
-AddedAll found marks [] found' marks' = (found' ≡ found) × (marks' ≡ marks)
-AddedAll found marks (s ∷ ss) found' marks' = (found1 : List ℕ) × (marks1 : List Bool) × Added found marks s found1 marks1 × AddedAll found1 marks1 ss found' marks'
+-- where no byte was followed yet, the search has begun from these states too
+abbrev pub BegunFrom : List ℕ → List ℕ → List Bool → List ℕ → List Bool → Type 0
+BegunFrom states found marks found' marks' = (M : Machine) (n : ℕ) (from begun : List ℕ) → ((s : ℕ) → Among states s → Among from s)
+    → Found M n from begun found marks 0 0 → Found M n from (begun ++ states) found' marks' 0 0
 
 -- how many states are not marked
 abbrev pub unmarked : List Bool → ℕ

@@ -1,7 +1,7 @@
 //! The states of a machine that texts lead to.
 ghost use Rattle.std.specs.Prelude.{◌≡◌, ℕ, ◌+◌, ◌<◌, ◌≤◌, true, length, IfOk, OnOk, List};
 ghost use Rattle.lex_semantics.specs.Text.{Among, flag};
-ghost use Rattle.lexlook_lines.specs.Reaching.{Found, IsReached, Added, AddedAll, unmarked};
+ghost use Rattle.lexlook_lines.specs.Reaching.{Found, IsReached, Added, BegunFrom, unmarked};
 
 use lex_machine::Machine;
 use std::alloc::{AllocError, Global};
@@ -18,10 +18,10 @@ fn add(found: &mut Vec<u32>, marks: &mut Vec<bool>, state: u32) -> Result<(), Al
     Ok(())
 }
 
-/// Adds the states of a list, one after the other.
+/// Adds the states of a list, from which the search begins.
 fn add_all(found: &mut Vec<u32>, marks: &mut Vec<bool>, states: &[u32]) -> Result<(), AllocError>
     requires { (s : ℕ) → Among states.now s → s < length marks.old.items }
-    ensures { OnOk result (AddedAll found.old.items marks.old.items states.now found.new.items marks.new.items) }
+    ensures { OnOk result (BegunFrom states.now found.old.items marks.old.items found.new.items marks.new.items) }
 {
     for state in states {
         add(found, marks, *state)?;

@@ -1,7 +1,7 @@
 -- The file of a table: its parts in order, numbers with the greatest byte first. (This project's.)
-use Rattle.std.specs.Prelude.{◌≡◌, ℕ, Bool, true, false, ◌||◌, if◌then◌else◌, List, [], ◌∷◌, ◌++◌, length}
+use Rattle.std.specs.Prelude.{◌≡◌, ℕ, Bool, true, false, if◌then◌else◌, List, [], ◌∷◌, ◌++◌, length, codes}
 use Rattle.std.specs.Int.{w16, w32, to_be_bytes}
-use Rattle.std.specs.List.{flat_map}
+use Rattle.std.specs.List.{flat_map, list_any}
 use Rattle.lex_semantics.specs.Spec.{Statement, Echo, Print, Begin, More, Less, Reject, End, Push, Pop, EndAction, Cut, Whole, Head, Trail}
 use Rattle.lextab_packed.specs.Table.{Condition, Rule, Row, Slot, Table}
 use Rattle.lextab_packed.specs.Checks.{Sizes, sizes_of, IsTable}
@@ -53,9 +53,9 @@ row_text r = long r.default_target ++ (long r.base ++ (long (length r.rules) ++ 
 abbrev pub slot_text : Slot → List ℕ
 slot_text s = long s.check ++ long s.next
 
--- LEXTAB
+-- the first bytes of each file
 abbrev pub magic : List ℕ
-magic = 76 ∷ 69 ∷ 88 ∷ 84 ∷ 65 ∷ 66 ∷ []
+magic = codes "LEXTAB"
 
 -- a statement of the stack of conditions
 abbrev pub is_stack : Statement → Bool
@@ -64,12 +64,10 @@ is_stack Pop = true
 is_stack _ = false
 
 abbrev pub has_stack : List Statement → Bool
-has_stack [] = false
-has_stack (s ∷ ss) = is_stack s || has_stack ss
+has_stack ss = list_any is_stack ss
 
 abbrev pub any_stack : List Rule → Bool
-any_stack [] = false
-any_stack (r ∷ rs) = has_stack r.statements || any_stack rs
+any_stack rs = list_any (λ r. has_stack r.statements) rs
 
 -- the version that these rules need: 2 where one has a statement of the stack
 abbrev pub version_of : List Rule → ℕ

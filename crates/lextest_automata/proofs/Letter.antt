@@ -6,11 +6,13 @@ use Rattle.std.specs.Prelude.{◌&&◌, nat_lt, slice_index, slice_index_or}
 use Rattle.std.proofs.lemmas.Bool.{both_ways}
 use Rattle.lex_semantics.specs.Text.{Among, flag}
 use Rattle.lex_semantics.specs.Spec.{Whole, Echo}
+use Rattle.lex_semantics.specs.Machine.{Machine, walk}
+use Rattle.lex_semantics.specs.MachineLaws.{LeadsToAccept}
 use Rattle.lextab_packed.specs.Table.{Table, Slot}
 use Rattle.lextab_packed.specs.Checks.{IsTable}
-use Rattle.lextab_packed.specs.Steps.{target, step_of, accepted_in}
+use Rattle.lextab_packed.specs.Steps.{target, step_of, accepted_in, machine_of_table}
 use Rattle.lextab_packed.proofs.Finding.{no_slot}
-use Rattle.lextab_packed.specs.Invariant.{LeadsOn, GoesOn}
+use Rattle.lextab_packed.specs.Invariant.{GoesOn}
 use Rattle.lextab_packed.proofs.Places.{each_of, step_dead, dead_after}
 
 abbrev slots : List Slot
@@ -92,10 +94,14 @@ module _ (m : List ℕ) (len : length m ≡ 256) (one : slice_index m 97 ≡ 1) 
     );
   }
 
-  nowhere : (s : ℕ) → ((b : ℕ) → step_of (letter m) s b ≡ 0) → LeadsOn (letter m) s → ⊥
+  -- its machine, whatever goes on there
+  abbrev plain : Machine
+  plain = machine_of_table (letter m) (λ q. false)
+
+  nowhere : (s : ℕ) → ((b : ℕ) → step_of (letter m) s b ≡ 0) → LeadsToAccept plain s → ⊥
   nowhere s stays ([], text, some, i, among) = omega (arith, some)
   nowhere s stays (b ∷ w, text, some, i, among) =
-      let there : after (letter m) (step_of (letter m) s b) w ≡ 0 = ap (λ (u : ℕ). after (letter m) u w) (stays b) ∙ dead_after (letter m) letter_is w in
+      let there : walk plain (step_of (letter m) s b) w ≡ 0 = ap (λ (u : ℕ). walk plain u w) (stays b) ∙ dead_walk plain letter_is w in
       subst (λ (u : ℕ). Among (accepted_in (letter m) u) i) there among
 
   zero_stays : (b : ℕ) → step_of (letter m) 0 b ≡ 0
@@ -107,13 +113,13 @@ module _ (m : List ℕ) (len : length m ≡ 256) (one : slice_index m 97 ≡ 1) 
   by_letter : step_of (letter m) 1 97 ≡ 2
   by_letter = ap (λ (c : ℕ). cond (nat_lt 1 3 && nat_lt 97 256) (target (record { default_target = 0; base = 0; rules = [] }) (slice_index_or slots (0 + c) no_slot) 1) 0) one
 
-  leads : LeadsOn (letter m) 1
+  leads : LeadsToAccept plain 1
   leads = (97 ∷ [], (lit< tt, tt), omega arith, 0, subst (λ (u : ℕ). Among (accepted_in (letter m) u) 0) (sym by_letter) (inl refl))
 
   pub letter_goes_on : GoesOn (letter m) (false ∷ true ∷ false ∷ [])
   letter_goes_on = record {
     len = refl;
-    leads = by_state (λ s. (flag (false ∷ true ∷ false ∷ []) s ≡ true) ↔ ∥ LeadsOn (letter m) s ∥₁)
+    leads = by_state (λ s. (flag (false ∷ true ∷ false ∷ []) s ≡ true) ↔ ∥ LeadsToAccept plain s ∥₁)
         ((λ g. absurd (both_ways false refl g)), (λ l. ∥∥₁_elim l (same_bool false true) (λ q. absurd (nowhere 0 zero_stays q))))
         ((λ g. ∣ leads ∣₁), (λ l. refl))
         ((λ g. absurd (both_ways false refl g)), (λ l. ∥∥₁_elim l (same_bool false true) (λ q. absurd (nowhere 2 two_stops q))));

@@ -1,7 +1,7 @@
-use Rattle.std.proofs.Common.{ℕ, ◌<◌, List, take, length, Bool, sym, subst, ◌∙◌, get_or, arith}
+use Rattle.std.proofs.Common.{ℕ, ◌<◌, List, take, length, Bool, refl, sym, subst, ◌∙◌, get_or, arith}
 use Rattle.std.proofs.lemmas.List.{take_more}
-use Rattle.lexlook_lines.specs.Reaching.{AddedAll}
-use Rattle.lexlook_lines.proofs.Searches.{among_at, same_size, add_more}
+use Rattle.lexlook_lines.specs.Reaching.{BegunFrom}
+use Rattle.lexlook_lines.proofs.Searches.{among_at, same_size, begun_more, begun_none}
 use Rattle.lexlook_lines.proofs.reaching.add_all.Goals as goal
 
 pub add-requires : goal.add-requires
@@ -9,11 +9,14 @@ add-requires c =
     let lt = c.requires (get_or c.args.states.now c.loop-state.state-index 0) (among_at c.args.states.now c.loop-state.state-index (omega (arith, c.loop-state-test.true))) in
     omega (arith, lt, c.loop-state.invariant.size)
 
+pub loop-state-init : goal.loop-state-init
+loop-state-init c = record { size = refl; begun = begun_none c.args.found.now.items c.args.marks.now.items }
+
 pub loop-state-preserved : goal.loop-state-preserved
 loop-state-preserved c = record {
   size = same_size found found' marks marks' (get_or states k 0) c.in_ok-add.ensures ∙ c.loop-state.invariant.size;
-  all = subst (λ z. AddedAll c.args.found.now.items c.args.marks.now.items z found' marks') (sym (take_more states k 0 lt))
-      (add_more c.args.found.now.items found found' c.args.marks.now.items marks marks' (take k states) (get_or states k 0) c.loop-state.invariant.all c.in_ok-add.ensures);
+  begun = subst (λ z. BegunFrom z c.args.found.now.items c.args.marks.now.items found' marks') (sym (take_more states k 0 lt))
+      (begun_more c.args.found.now.items found found' c.args.marks.now.items marks marks' (take k states) (get_or states k 0) in_marks c.loop-state.invariant.begun c.in_ok-add.ensures);
 }
   where
     states : List ℕ
@@ -36,3 +39,6 @@ loop-state-preserved c = record {
 
     marks' : List Bool
     marks' = c.add.new.marks.items
+
+    in_marks : get_or states k 0 < length marks
+    in_marks = (let in_old = c.requires (get_or states k 0) (among_at states k lt) in omega (arith, in_old, c.loop-state.invariant.size))

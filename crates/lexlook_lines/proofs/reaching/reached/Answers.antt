@@ -1,7 +1,7 @@
 use Rattle.std.proofs.Common.{◌≡◌, ℕ, zero, suc, [], replicate, false, rules, refl, sym, ap, subst, ◌∙◌, get_or, arith}
 use Rattle.lex_semantics.specs.Machine.{Machine}
 use Rattle.lexlook_lines.specs.Reaching.{Found}
-use Rattle.lexlook_lines.proofs.Searches.{start_all, none_found, next_place, is_reached}
+use Rattle.lexlook_lines.proofs.Searches.{none_found, next_place, is_reached}
 use Rattle.lexlook_lines.proofs.reaching.reached.Goals as goal
 
 -- a flag that is false everywhere
@@ -18,7 +18,7 @@ pub returns : goal.returns
 returns g c = is_reached (g.M.Machine.machine c.args.machine.now) (g.M.Machine.states c.args.machine.now) c.args.starts.now c.args.starts.now c.states.found.items c.states.marks.items c.states.place 0 c.states.invariant (omega (arith, c.states-test.false))
 
 pub states-init : goal.states-init
-states-init g c = start_all M n c.args.starts.now [] c.new-found.result.items c.add_all.new.found.items c.in_ok-marks.marks.items c.add_all.new.marks.items c.args.starts.now first (λ s at. at) c.requires.starts c.in_ok-add_all.ensures
+states-init g c = c.in_ok-add_all.ensures M n c.args.starts.now [] (λ s at. at) first
   where
     M : Machine
     M = g.M.Machine.machine c.args.machine.now
