@@ -1,10 +1,10 @@
 -- The order of warnings.
 use Rattle.std.proofs.Common.{◌≡◌, ◌⊎◌, ◌<◌, ◌≤◌, ◌+◌, ◌*◌, ℕ, zero, suc, Bool, true, false, List, [], ◌∷◌, length, get_or, map, inl, inr, refl, arith}
-use Rattle.std.specs.Prelude.{cond, slice_get}
+use Rattle.std.specs.Prelude.{cond, slice_get, option_map, unwrap_or}
 use Rattle.std.proofs.lemmas.Bool.{cases_lt}
 use Rattle.lexspec.specs.RuleViews.{rule_of}
 use Rattle.lexspec.specs.declared.rule.Rule.{Rule}
-use Rattle.lexauto_reports.specs.Warned.{line_of, MayPrecede}
+use Rattle.lexauto_reports.specs.Warned.{MayPrecede}
 use Rattle.lexauto_reports.specs.declared.warned.Warning.{Warning}
 
 by_codes : (l m : ℕ) (a b : Bool) → 2 * l + cond a 0 1 ≤ 2 * m + cond b 0 1 → (l < m) ⊎ ((l ≡ m) × (b ≡ true → a ≡ true))
@@ -19,7 +19,7 @@ by_codes l m false false h = elim (cases_lt l m) [ inl y ↦ inl y | inr n ↦ i
 pub precedes : (w v : Warning) → 2 * w.line + cond w.code 0 1 ≤ 2 * v.line + cond v.code 0 1 → MayPrecede w v
 precedes w v h = by_codes w.line v.line w.code v.code h
 
-pub line_at : (rs : List Rule) (i : ℕ) (d : Rule) → i < length rs → (get_or rs i d).line ≡ line_of (slice_get (map rule_of rs) i)
+pub line_at : (rs : List Rule) (i : ℕ) (d : Rule) → i < length rs → (get_or rs i d).line ≡ unwrap_or (option_map (λ r. r.line) (slice_get (map rule_of rs) i)) 0
 line_at [] i d h = absurd (omega (arith, h))
 line_at (q ∷ rs) zero d h = refl
 line_at (q ∷ rs) (suc i) d h = line_at rs i d (omega (arith, h))

@@ -8,7 +8,7 @@ use Rattle.lex_semantics.specs.Text.{IsText, Among}
 use Rattle.lexauto_dfa.specs.Alike.{Alike, AreLeads, moves}
 use Rattle.lexauto_dfa.specs.Parts.{states, next}
 use Rattle.lexauto_dfa.specs.declared.dfa.Parts.{Parts}
-use Rattle.lexauto_reports.specs.BackWords.{Before, NotAfter}
+use Rattle.lexauto_reports.specs.BackWords.{Precedes, NotAfter}
 use Rattle.lexauto_reports.specs.Counting.{step, walk, IsStart, LeadsTo}
 use Rattle.lexauto_reports.specs.Searching.{at, place_of, unfound, word_in, IsPlaced, IsPast, AllBefore, IsAt, IsUpTo, AreFound, AreSeen}
 use Rattle.lexauto_reports.specs.declared.groups.Group.{Group}
@@ -95,12 +95,12 @@ module _ (p : Parts) (words found words' found' : List (List ℕ)) (places place
         (omega (arith, lt, same), subst (λ i. Among (at found' i) x) (sym n.0) (subst (λ l. Among l x) (sym t.1) n.1)))
   ]
 
-  rising : (i j : ℕ) → i < j → j < length words' → Before (at words' i) (at words' j)
+  rising : (i j : ℕ) → i < j → j < length words' → Precedes (at words' i) (at words' j)
   rising i j lt h = elim (e.new j h) [
-    | inl old ↦ subst (λ l. Before l (at words' j)) (sym (e.word i (omega (arith, lt, old)))) (subst (λ l. Before (at words i) l) (sym (e.word j old)) (a.sound.rising i j lt old))
+    | inl old ↦ subst (λ l. Precedes l (at words' j)) (sym (e.word i (omega (arith, lt, old)))) (subst (λ l. Precedes (at words i) l) (sym (e.word j old)) (a.sound.rising i j lt old))
     | inr n ↦
         (let same = n.0 in let low_i : i < length words = omega (arith, lt, same) in
-        subst (λ l. Before l (at words' j)) (sym (e.word i low_i)) (subst (λ l. Before (at words i) l) (sym n.1) (a.before i low_i)))
+        subst (λ l. Precedes l (at words' j)) (sym (e.word i low_i)) (subst (λ l. Precedes (at words i) l) (sym n.1) (a.before i low_i)))
   ]
 
   past : IsPast p words' found' places' k
@@ -128,9 +128,9 @@ module _ (p : Parts) (words found words' found' : List (List ℕ)) (places place
       by_byte (inr n) = let same : b ≡ c = omega (arith, n, lc) in subst (λ d. IsPlaced words' places' (step p x d) (at words k ++ d ∷ [])) same (found_here x (subst (λ l. Among l x) (e.states k a.within) m))
 
   before : AllBefore words' k (b + 1)
-  before j h = subst (λ l. Before (at words' j) (l ++ (b + 1) ∷ [])) (sym word_k) (elim (e.new j h) [
-    | inl old ↦ subst (λ l. Before l (at words k ++ (b + 1) ∷ [])) (sym (e.word j old)) (before_trans (at words j) (at words k ++ b ∷ []) (at words k ++ (b + 1) ∷ []) (a.before j old) (before_last (at words k) b (b + 1) (omega arith)))
-    | inr n ↦ subst (λ l. Before l (at words k ++ (b + 1) ∷ [])) (sym n.1) (before_last (at words k) b (b + 1) (omega arith))
+  before j h = subst (λ l. Precedes (at words' j) (l ++ (b + 1) ∷ [])) (sym word_k) (elim (e.new j h) [
+    | inl old ↦ subst (λ l. Precedes l (at words k ++ (b + 1) ∷ [])) (sym (e.word j old)) (before_trans (at words j) (at words k ++ b ∷ []) (at words k ++ (b + 1) ∷ []) (a.before j old) (before_last (at words k) b (b + 1) (omega arith)))
+    | inr n ↦ subst (λ l. Precedes l (at words k ++ (b + 1) ∷ [])) (sym n.1) (before_last (at words k) b (b + 1) (omega arith))
   ])
 
   -- one byte more
@@ -298,7 +298,7 @@ first_up_to p words found old places starts ws fs all are known none first only 
         starts = λ x s. first x ((are x).1 s);
       };
       past = λ i x b lt m l. absurd (omega (arith, lt));
-      before = λ h j lt. (let e : 0 ≡ j = omega (arith, lt) in subst (λ i. Before (at ([] ∷ []) i) (0 ∷ [])) e (empty_before [] 0));
+      before = λ h j lt. (let e : 0 ≡ j = omega (arith, lt) in subst (λ i. Precedes (at ([] ∷ []) i) (0 ∷ [])) e (empty_before [] 0));
     }))
   where
     leads : (j x : ℕ) → j < 1 → Among (at (starts ∷ []) j) x → (x < 3 * states p) × LeadsTo p (at ([] ∷ []) j) x

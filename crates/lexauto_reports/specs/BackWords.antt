@@ -15,12 +15,12 @@ Smaller (a ∷ w) [] = ⊥
 Smaller (a ∷ w) (b ∷ v) = (a < b) ⊎ ((a ≡ b) × Smaller w v)
 
 -- w is shorter than v, or as long and first in byte order
-abbrev pub Before : List ℕ → List ℕ → Type 0
-Before w v = (length w < length v) ⊎ ((length w ≡ length v) × Smaller w v)
+abbrev pub Precedes : List ℕ → List ℕ → Type 0
+Precedes w v = (length w < length v) ⊎ ((length w ≡ length v) × Smaller w v)
 
 -- w is v, or before it
 abbrev pub NotAfter : List ℕ → List ℕ → Type 0
-NotAfter w v = (w ≡ v) ⊎ Before w v
+NotAfter w v = (w ≡ v) ⊎ Precedes w v
 
 -- a word of two bytes or more leads to the state from a start
 abbrev pub Leads : Parts → ℕ → List ℕ → Type 0

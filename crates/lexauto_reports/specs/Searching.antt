@@ -4,7 +4,7 @@ use Rattle.std.specs.Prelude.{◌≡◌, ℕ, suc, ◌⊎◌, ◌+◌, ◌-◌, 
 use Rattle.lex_semantics.specs.Text.{Among}
 use Rattle.lexauto_dfa.specs.Parts.{states}
 use Rattle.lexauto_dfa.specs.declared.dfa.Parts.{Parts}
-use Rattle.lexauto_reports.specs.BackWords.{Before, NotAfter}
+use Rattle.lexauto_reports.specs.BackWords.{Precedes, NotAfter}
 use Rattle.lexauto_reports.specs.Counting.{step, IsStart, LeadsTo}
 use Rattle.lexauto_reports.specs.declared.groups.Group.{Group}
 use Rattle.lexauto_reports.specs.declared.groups.Groups.{Groups}
@@ -43,7 +43,7 @@ pub record IsSound (p : Parts) (words found : List (List ℕ)) (places : List (O
   pub first : at words 0 ≡ []
   pub leads : (j x : ℕ) → j < length words → Among (at found j) x → (x < 3 * states p) × LeadsTo p (at words j) x
   pub placed : (x j : ℕ) → place_of places x ≡ Some j → (j < length words) × Among (at found j) x
-  pub rising : (i j : ℕ) → i < j → j < length words → Before (at words i) (at words j)
+  pub rising : (i j : ℕ) → i < j → j < length words → Precedes (at words i) (at words j)
   pub starts : (x : ℕ) → IsStart p x → place_of places x ≡ Some 0
 
 -- where the states of the first k groups go by each byte is found
@@ -52,7 +52,7 @@ IsPast p words found places k = (i x b : ℕ) → i < k → Among (at found i) x
 
 -- each word is before the one of group k with this byte more
 abbrev pub AllBefore : List (List ℕ) → ℕ → ℕ → Type 0
-AllBefore words k b = (j : ℕ) → j < length words → Before (at words j) (at words k ++ b ∷ [])
+AllBefore words k b = (j : ℕ) → j < length words → Precedes (at words j) (at words k ++ b ∷ [])
 
 -- at group k and byte b of a search
 pub record IsAt (p : Parts) (words found : List (List ℕ)) (places : List (Option ℕ)) (k b : ℕ) : Type 0 where
@@ -74,7 +74,7 @@ pub record AreFound (p : Parts) (words : List (List ℕ)) (places : List (Option
   pub all : length places ≡ 3 * states p
   pub known : (x j : ℕ) → place_of places x ≡ Some j → (j < length words) × LeadsTo p (at words j) x
   pub least : (x : ℕ) (w : List ℕ) → LeadsTo p w x → IsPlaced words places x w
-  pub rising : (i j : ℕ) → i < j → j < length words → Before (at words i) (at words j)
+  pub rising : (i j : ℕ) → i < j → j < length words → Precedes (at words i) (at words j)
 
 -- Where the first i of some states go by a byte was looked at: those that had no place got the place n.
 pub record AreSeen (p : Parts) (from : List ℕ) (i b n : ℕ) (old places : List (Option ℕ)) (fresh : List ℕ) : Type 0 where

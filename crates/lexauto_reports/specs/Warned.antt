@@ -1,19 +1,15 @@
 -- Which lines are warned of, and in which order. (This project's.)
-use Rattle.std.specs.Prelude.{◌≡◌, ℕ, ◌<◌, ◌≤◌, ◌⊎◌, true, false, List, ◌++◌, length, map, Option, Some, None, slice_get, slice_index_or}
+use Rattle.std.specs.Prelude.{◌≡◌, ℕ, ◌<◌, ◌≤◌, ◌⊎◌, true, false, List, ◌++◌, length, map, option_map, unwrap_or, slice_get, slice_index_or}
 use Rattle.lex_semantics.specs.Spec as S
 use Rattle.lexspec.specs.declared.spec.Spec.{Spec}
 use Rattle.lexspec.specs.Views.{spec_of, skipped_in, rules_in}
 use Rattle.lexauto_reports.specs.declared.warned.Warning.{Warning}
 
-abbrev pub line_of : Option S.Rule → ℕ
-line_of None = 0
-line_of (Some r) = r.line
-
 abbrev pub of_code : ℕ → Warning
 of_code line = record { line = line; code = true }
 
 abbrev pub of_rule : List S.Rule → ℕ → Warning
-of_rule rules i = record { line = line_of (slice_get rules i); code = false }
+of_rule rules i = record { line = unwrap_or (option_map (λ r. r.line) (slice_get rules i)) 0; code = false }
 
 -- a warning for each line where code was skipped, and one for each of these rules
 abbrev pub warned_of : Spec → List ℕ → List Warning

@@ -6,8 +6,8 @@ use Rattle.lex_semantics.specs.Spec.{Statement, Echo, Print, Begin, More, Less, 
 use Rattle.lextab_packed.specs.Checks.{literal_bytes}
 use Rattle.lex_io.specs.Sink.{Appended, fault_count}
 use Rattle.lex_io.specs.declared.sink.WriteFault.{WriteFault}
-use Rattle.lextab_packed.specs.Table.{Condition, Rule, Row, Slot, Table}
-use Rattle.lextab_packed.specs.Checks.{Each, Sizes, sizes_of, IsCondition, IsRule, IsRow, IsSlot, IsTable, any_reject, bases_of}
+use Rattle.lextab_packed.specs.Table.{ConditionOfTable, RuleOfTable, Row, Slot, Table}
+use Rattle.lextab_packed.specs.Checks.{Each, Sizes, sizes_of, IsCondition, IsTableRule, IsRow, IsSlot, IsTable, some_rule_rejects, bases_of}
 use Rattle.lextab_file.specs.File.{long, byte, statement_text, cut_text, condition_text, rule_text, row_text, slot_text, file_of}
 use Rattle.lexkit.specs.Counting.{Counts}
 
@@ -24,11 +24,11 @@ flat_within P f k each i (x ∷ xs) t =
     let l : length (flat_map f (x ∷ xs)) ≡ length (f x) + length (flat_map f xs) = length-append (f x) (flat_map f xs) in
     omega (arith, first, rest, l)
 
-of_conditions : (xs : List Condition) → copies 4109 xs ≡ 4109 * length xs
+of_conditions : (xs : List ConditionOfTable) → copies 4109 xs ≡ 4109 * length xs
 of_conditions [] = refl
 of_conditions (x ∷ xs) = let h = of_conditions xs in omega (arith, h)
 
-of_rules : (xs : List Rule) → copies 5385 xs ≡ 5385 * length xs
+of_rules : (xs : List RuleOfTable) → copies 5385 xs ≡ 5385 * length xs
 of_rules [] = refl
 of_rules (x ∷ xs) = let h = of_rules xs in omega (arith, h)
 
@@ -82,13 +82,13 @@ of_cut Whole = refl
 of_cut (Head n) = refl
 of_cut (Trail n) = refl
 
-condition_short : (z : Sizes) (i : ℕ) (c : Condition) → IsCondition z i c → length (condition_text c) ≤ 4109
+condition_short : (z : Sizes) (i : ℕ) (c : ConditionOfTable) → IsCondition z i c → length (condition_text c) ≤ 4109
 condition_short z i c h =
     let p = h.print in
     let l = length-append c.end.print (byte c.end.status) in
     omega (arith, p, l)
 
-rule_short : (z : Sizes) (i : ℕ) (r : Rule) → IsRule z i r → length (rule_text r) ≤ 5385
+rule_short : (z : Sizes) (i : ℕ) (r : RuleOfTable) → IsTableRule z i r → length (rule_text r) ≤ 5385
 rule_short z i r h =
     let few = h.few in
     let literals = h.literals in
@@ -98,7 +98,7 @@ rule_short z i r h =
     omega (arith, few, literals, body, cut, l)
 
 module _ (t : Table) (ok : IsTable t) where
-  row_short : (i : ℕ) (r : Row) → IsRow (sizes_of t) (any_reject t.rules) i r → length (row_text r) ≤ 16396
+  row_short : (i : ℕ) (r : Row) → IsRow (sizes_of t) (some_rule_rejects t.rules) i r → length (row_text r) ≤ 16396
   row_short i r h =
       let few = ok.sizes.rules in
       let many = ascend (length t.rules) 0 r.rules h.ascending (λ j a. omega arith) h.rules in
@@ -108,8 +108,8 @@ module _ (t : Table) (ok : IsTable t) where
   pub file_short : length (file_of t) < 4294967296
   file_short =
       let conditions = flat_within (IsCondition (sizes_of t)) condition_text 4109 (condition_short (sizes_of t)) 0 t.conditions ok.conditions in
-      let rules = flat_within (IsRule (sizes_of t)) rule_text 5385 (rule_short (sizes_of t)) 0 t.rules ok.rules in
-      let rows = flat_within (IsRow (sizes_of t) (any_reject t.rules)) row_text 16396 row_short 0 t.rows ok.rows in
+      let rules = flat_within (IsTableRule (sizes_of t)) rule_text 5385 (rule_short (sizes_of t)) 0 t.rules ok.rules in
+      let rows = flat_within (IsRow (sizes_of t) (some_rule_rejects t.rules)) row_text 16396 row_short 0 t.rows ok.rows in
       let slots = flat_within (IsSlot (sizes_of t) (bases_of t.rows)) slot_text 8 (λ i s h. omega arith) 0 t.slots ok.slots in
       let a = of_conditions t.conditions in
       let b = of_rules t.rules in

@@ -19,7 +19,7 @@ use Rattle.lexauto_dfa.specs.Parts.{conditions, states, start, next, accepts, af
 use Rattle.lexauto_dfa.specs.Automata.{machine_in}
 use Rattle.lexauto_dfa.specs.declared.dfa.Parts.{Parts}
 use Rattle.lexauto_minimise.specs.Least.{AcceptsAs, AreSame, OneAutomaton}
-use Rattle.lextab_packed.specs.Table.{Table, Condition, Rule, Row, Slot}
+use Rattle.lextab_packed.specs.Table.{Table, ConditionOfTable, RuleOfTable, Row, Slot}
 use Rattle.lextab_packed.proofs.Finding.{no_row, start_at, ending_at, cut_at, statements_at}
 use Rattle.lextab_packing.specs.Packing.{Packing, IsPacked}
 use Rattle.lextab_packing.specs.Tables.{packing_in}
@@ -54,10 +54,10 @@ accepts_none : (p : Parts) (c : ℕ) (line_start : Bool) (w : List ℕ) → IsAu
 accepts_none p c line_start w a h =
     ap (λ (s : ℕ). accepts p (after p s w)) (no_start p c line_start a h) ∙ ap (λ (s : ℕ). accepts p s) (stays_dead p a w) ∙ a.dead_accepts
 
-abbrev no_condition : Condition
+abbrev no_condition : ConditionOfTable
 no_condition = record { start = 0; line_start = 0; end = record { print = []; status = 0 } }
 
-abbrev no_rule : Rule
+abbrev no_rule : RuleOfTable
 no_rule = record { cut = Words.Whole; statements = [] }
 
 module _ (p : Parts) (S : Spec) (t : TableFor (machine_in p S) S) where

@@ -3,7 +3,8 @@
 use Rattle.std.specs.Prelude.{◌≡◌, ℕ, Bool, List, length}
 use Rattle.lex_semantics.specs.Spec.{Spec}
 use Rattle.lex_semantics.specs.TableFor.{TableFor}
-use Rattle.lexauto_dfa.specs.Automata.{conditions_of, lists_of, states_of, next_of, machine_of}
+use Rattle.lexauto_dfa.specs.Automata.{lists_of, machine_in}
+use Rattle.lexauto_dfa.specs.Parts as P
 use Rattle.lexauto_dfa.specs.declared.dfa.Dfa.{Dfa}
 use Rattle.lexauto_minimise.specs.Least.{IsLeast, IsNumbered}
 use Rattle.lextab_packed.specs.Table.{Table}
@@ -17,12 +18,12 @@ use Rattle.lextab_file.specs.File.{IsFileOf}
 -- and its starts and accepted rules, with the actions of the specification.
 pub record IsCanonical (S : Spec) (f : List ℕ) : Type 0 where
   pub automaton : Dfa
-  pub conditions : conditions_of automaton ≡ length S.conditions
-  pub table_for : TableFor (machine_of automaton S) S
+  pub conditions : P.conditions (lists_of automaton) ≡ length S.conditions
+  pub table_for : TableFor (machine_in (lists_of automaton) S) S
   pub least : IsLeast (lists_of automaton)
   pub numbered : IsNumbered (lists_of automaton)
   pub table : Table
   pub goes_on : ℕ → Bool
-  pub machine : machine_of_table table goes_on ≡ machine_of automaton S
-  pub packed : IsPacked (states_of automaton) (next_of automaton) (packing_in table)
+  pub machine : machine_of_table table goes_on ≡ machine_in (lists_of automaton) S
+  pub packed : IsPacked (P.states (lists_of automaton)) (P.next (lists_of automaton)) (packing_in table)
   pub file : IsFileOf table f

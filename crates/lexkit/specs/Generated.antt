@@ -11,7 +11,8 @@ use Rattle.lex_semantics.specs.Reports.{Useless}
 use Rattle.lex_semantics.specs.Subsets.{Subsets, all_positions}
 use Rattle.lexspec.specs.Files.{SpellsSpec}
 use Rattle.lexspec.specs.Skipped.{AreSkipped}
-use Rattle.lexauto_dfa.specs.Automata.{conditions_of, lists_of, states_of, next_of, machine_of}
+use Rattle.lexauto_dfa.specs.Automata.{lists_of, machine_in}
+use Rattle.lexauto_dfa.specs.Parts as P
 use Rattle.lexauto_dfa.specs.declared.dfa.Dfa.{Dfa}
 use Rattle.lexauto_minimise.specs.Least.{IsLeast, IsNumbered}
 use Rattle.lexauto.specs.declared.subsets.Limits.{Limits}
@@ -22,7 +23,7 @@ use Rattle.lexauto_reports.specs.declared.warned.Warning.{Warning}
 use Rattle.lextab_packed.specs.Table.{Table}
 use Rattle.lextab_packed.specs.Views.{table_of}
 use Rattle.lextab_packed.specs.declared.tables.Tables.{Tables}
-use Rattle.lextab_packed.specs.Machines.{machine_of as table_machine, parts_of}
+use Rattle.lextab_packed.specs.Machines.{table_machine, table_parts}
 use Rattle.lextab_packing.specs.Packing.{IsPacked}
 use Rattle.lextab_packing.specs.Tables.{packing_in}
 use Rattle.lextab_file.specs.File.{file_of}
@@ -40,9 +41,9 @@ pub record IsLeastOf (limits : Limits) (S : Spec) (subsets : ℕ) (d : Dfa) : Ty
   pub few_positions : all_positions S.rules ≤ limits.positions
   pub subsets_are : Subsets S subsets
   pub few_states : subsets ≤ limits.states
-  pub conditions : conditions_of d ≡ length S.conditions
-  pub table : TableFor (machine_of d S) S
-  pub laws : MachineLaws (machine_of d S)
+  pub conditions : P.conditions (lists_of d) ≡ length S.conditions
+  pub table : TableFor (machine_in (lists_of d) S) S
+  pub laws : MachineLaws (machine_in (lists_of d) S)
   pub least : IsLeast (lists_of d)
   pub numbered : IsNumbered (lists_of d)
 
@@ -76,23 +77,23 @@ AreWarnings S skipped ws =
 -- the states after back words, ascending, each with its first word
 pub record AreBackUps (d : Dfa) (S : Spec) (entries : List BackUp) : Type 0 where
   pub ascending : Ascending (states_in entries)
-  pub states : (s : ℕ) → Among (states_in entries) s ↔ IsAfterBackWord (machine_of d S) S s
+  pub states : (s : ℕ) → Among (states_in entries) s ↔ IsAfterBackWord (machine_in (lists_of d) S) S s
   pub words : (e : BackUp) → Among entries e → IsFirstWord (lists_of d) e.state e.word.items
 
 -- the packed tables of the least automaton of a specification, whose file is the canonical one
 pub record AreTablesOf (limits : Limits) (S : Spec) (subsets : ℕ) (d : Dfa) (t : Tables) : Type 0 where
   pub sound : IsSound S
   pub least : IsLeastOf limits S subsets d
-  pub packed : IsPacked (states_of d) (next_of d) (packing_in (table_of (parts_of t)))
-  pub machine : table_machine t ≡ machine_of d S
-  pub canonical : IsCanonical S (file_of (table_of (parts_of t)))
+  pub packed : IsPacked (P.states (lists_of d)) (P.next (lists_of d)) (packing_in (table_of (table_parts t)))
+  pub machine : table_machine t ≡ machine_in (lists_of d) S
+  pub canonical : IsCanonical S (file_of (table_of (table_parts t)))
 
 -- such tables with the lines of the rules, warnings and counts; `skipped` are the lines of skipped code
 pub record AreMadeOf (limits : Limits) (S : Spec) (skipped : List ℕ) (subsets : ℕ) (d : Dfa) (m : Made) : Type 0 where
   pub tables : AreTablesOf limits S subsets d m.tables
   pub rule_lines : m.rule_lines.items ≡ lines_of S.rules
   pub warnings : AreWarnings S skipped m.warnings.items
-  pub stats : AreCounts S subsets (table_of (parts_of m.tables)) m.stats
+  pub stats : AreCounts S subsets (table_of (table_parts m.tables)) m.stats
 
 -- the same with the back words
 pub record IsMadeOf (limits : Limits) (S : Spec) (skipped : List ℕ) (g : Generated) : Type 0 where
@@ -102,7 +103,7 @@ pub record IsMadeOf (limits : Limits) (S : Spec) (skipped : List ℕ) (g : Gener
   pub rule_lines : g.rule_lines.items ≡ lines_of S.rules
   pub warnings : AreWarnings S skipped g.warnings.items
   pub backup : AreBackUps automaton S g.backup.items
-  pub stats : AreCounts S subsets (table_of (parts_of g.tables)) g.stats
+  pub stats : AreCounts S subsets (table_of (table_parts g.tables)) g.stats
 
 -- what is made by a specification with these lines of skipped code
 abbrev pub MakesBy : Limits → Spec → List ℕ → Result Generated GenError → Type 0

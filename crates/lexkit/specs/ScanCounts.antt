@@ -6,14 +6,14 @@ use Rattle.lexkit.specs.declared.errors.ScanError.{ScanError}
 use Rattle.lexkit.specs.declared.errors.ScanError.TheVariants.{Run}
 
 -- 1 where the scan stopped at a failure of its source
-abbrev pub read_fault_count : {T : Type 0} → Result T ScanError → ℕ
-read_fault_count (Err (Run runs.Read)) = 1
-read_fault_count other = 0
+abbrev pub read_faults : {T : Type 0} → Result T ScanError → ℕ
+read_faults (Err (Run runs.Read)) = 1
+read_faults other = 0
 
 -- 1 where the scan stopped at a failure of its sink
-abbrev pub write_fault_count : {T : Type 0} → Result T ScanError → ℕ
-write_fault_count (Err (Run runs.Write)) = 1
-write_fault_count other = 0
+abbrev pub write_faults : {T : Type 0} → Result T ScanError → ℕ
+write_faults (Err (Run runs.Write)) = 1
+write_faults other = 0
 
 -- where the scan has ended, or the stack of conditions was at fault, what was written has been handed on
 abbrev pub HandedOn : Bool → Result ℕ ScanError → Type 0

@@ -6,7 +6,7 @@ use Rattle.lex_semantics.specs.Rules.{rules_of}
 use Rattle.lex_semantics.specs.Machine.{rules_of_machine}
 use Rattle.lexspec.specs.Files.{SpellsSpec}
 use Rattle.lexscan_tokens.specs.Tokens.{SameTokens}
-use Rattle.lextab_packed.specs.Machines.{machine_of}
+use Rattle.lextab_packed.specs.Machines.{table_machine}
 use Rattle.lexkit.specs.Headline.{reading}
 use Rattle.lexkit.specs.Generated.{Makes, lines_of}
 use Rattle.lexkit.specs.declared.options.Options.{Options}
@@ -15,4 +15,4 @@ use Rattle.lexkit.specs.declared.making.Generated.{Generated}
 -- The lines that are told are those of its rules.
 abbrev pub TextTokens : Type 0
 TextTokens = (options : Options) (text : List ℕ) (g : Generated) → Makes options text (Ok g) → (S : Spec) × SpellsSpec (reading options) text S
-    × (g.rule_lines.items ≡ lines_of S.rules) × SameTokens (rules_of_machine (machine_of g.tables)) (rules_of S)
+    × (g.rule_lines.items ≡ lines_of S.rules) × SameTokens (rules_of_machine (table_machine g.tables)) (rules_of S)

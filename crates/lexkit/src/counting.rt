@@ -1,6 +1,6 @@
 //! How long a table file is.
 ghost use Rattle.std.specs.Prelude.{◌≡◌, ℕ, ◌+◌, ◌-◌, ◌^◌, ◌<◌, Bool, true, List, length};
-ghost use Rattle.lextab_packed.specs.Machines.{parts_of};
+ghost use Rattle.lextab_packed.specs.Machines.{table_parts};
 ghost use Rattle.lextab_packed.specs.Views.{table_of};
 ghost use Rattle.lextab_file.specs.File.{file_of};
 ghost use Rattle.lexkit.specs.Counting.{Counts, counts_none, counts_more, none_failed};
@@ -38,7 +38,7 @@ impl Sink for Counter {
 
 /// How many bytes the file of these tables has.
 pub(crate) fn file_length(tables: &Tables) -> u32
-    ensures { result ≡ length (file_of (table_of (parts_of tables.now))) }
+    ensures { result ≡ length (file_of (table_of (table_parts tables.now))) }
 {
     let mut counter = Counter { bytes: 0 };
     let _ = write_tables(tables, &mut counter);

@@ -5,14 +5,14 @@ ghost use Rattle.lexscan_window.specs.declared.error.RunError.TheVariants.{Faile
 ghost use Rattle.lexkit.specs.Headline.{Headline, ScansBy, TableHeadline};
 ghost use Rattle.lexkit.specs.Generated.{HasTables, IsLeastOf};
 ghost use Rattle.lexkit.specs.declared.options.Options.{Options as Asked};
-ghost use Rattle.lexkit.specs.ScanCounts.{HandedOn, read_fault_count, write_fault_count};
+ghost use Rattle.lexkit.specs.ScanCounts.{HandedOn, read_faults, write_faults};
 ghost use Rattle.lex_semantics.specs.Limits.{max_positions, max_states};
 ghost use Rattle.lex_semantics.specs.Sound.{IsSound};
 ghost use Rattle.lex_semantics.specs.Spec.{Spec as Meant};
 ghost use Rattle.lexauto.specs.declared.subsets.Limits.{Limits as Given};
 ghost use Rattle.lexauto_dfa.specs.Automata.{machine_of};
 ghost use Rattle.lexauto_dfa.specs.declared.dfa.Dfa.{Dfa};
-ghost use Rattle.lextab_packed.specs.Machines.{machine_of as table_machine};
+ghost use Rattle.lextab_packed.specs.Machines.{table_machine};
 
 use crate::errors::{GenError, ScanError};
 use crate::making::{least_automaton, read_text};
@@ -44,8 +44,8 @@ pub fn scan_spec<S: Source, K: Sink>(
     requires few_write_faults { K.failures sink.old < 2 ^ 64 - 1 }
     ensures told { Headline S.gave K.wrote options text.now
         (nat_lt (S.ends source.old) (S.ends source.new)) source.old source.new sink.old sink.new result }
-    ensures read_faults { S.failures source.new ≡ S.failures source.old + read_fault_count result }
-    ensures write_faults { K.failures sink.new ≡ K.failures sink.old + write_fault_count result }
+    ensures read_faults { S.failures source.new ≡ S.failures source.old + read_faults result }
+    ensures write_faults { K.failures sink.new ≡ K.failures sink.old + write_faults result }
     ensures ends_stay { S.ends source.old ≤ S.ends source.new }
     ensures one_end { S.ends source.new ≤ S.ends source.old + 1 }
     ensures not_failed { IsErrOf result (ScanError.Run Failed) → ⊥ }
@@ -74,8 +74,8 @@ pub fn scan_by<S: Source, K: Sink>(
     requires few_write_faults { K.failures sink.old < 2 ^ 64 - 1 }
     ensures told { ScansBy S.gave K.wrote limits (spec_of spec.now)
         (nat_lt (S.ends source.old) (S.ends source.new)) source.old source.new sink.old sink.new result }
-    ensures read_faults { S.failures source.new ≡ S.failures source.old + read_fault_count result }
-    ensures write_faults { K.failures sink.new ≡ K.failures sink.old + write_fault_count result }
+    ensures read_faults { S.failures source.new ≡ S.failures source.old + read_faults result }
+    ensures write_faults { K.failures sink.new ≡ K.failures sink.old + write_faults result }
     ensures ends_stay { S.ends source.old ≤ S.ends source.new }
     ensures one_end { S.ends source.new ≤ S.ends source.old + 1 }
     ensures not_failed { IsErrOf result (ScanError.Run Failed) → ⊥ }
@@ -106,8 +106,8 @@ fn scan_tables<S: Source, K: Sink>(
         → IsLeastOf limits spec subsets automaton → table_machine tables ≡ machine_of automaton spec
         → ScansBy S.gave K.wrote limits spec
         (nat_lt (S.ends source.old) (S.ends source.new)) source.old source.new sink.old sink.new result }
-    ensures read_faults { S.failures source.new ≡ S.failures source.old + read_fault_count result }
-    ensures write_faults { K.failures sink.new ≡ K.failures sink.old + write_fault_count result }
+    ensures read_faults { S.failures source.new ≡ S.failures source.old + read_faults result }
+    ensures write_faults { K.failures sink.new ≡ K.failures sink.old + write_faults result }
     ensures ends_stay { S.ends source.old ≤ S.ends source.new }
     ensures one_end { S.ends source.new ≤ S.ends source.old + 1 }
     ensures not_failed { IsErrOf result (ScanError.Run Failed) → ⊥ }
@@ -137,8 +137,8 @@ pub fn scan_made<S: Source, K: Sink>(
     ensures told { (options : Asked) (text : List ℕ) → HasTables options text tables
         → Headline S.gave K.wrote options text
         (nat_lt (S.ends source.old) (S.ends source.new)) source.old source.new sink.old sink.new result }
-    ensures read_faults { S.failures source.new ≡ S.failures source.old + read_fault_count result }
-    ensures write_faults { K.failures sink.new ≡ K.failures sink.old + write_fault_count result }
+    ensures read_faults { S.failures source.new ≡ S.failures source.old + read_faults result }
+    ensures write_faults { K.failures sink.new ≡ K.failures sink.old + write_faults result }
     ensures ends_stay { S.ends source.old ≤ S.ends source.new }
     ensures one_end { S.ends source.new ≤ S.ends source.old + 1 }
     ensures not_failed { IsErrOf result (ScanError.Run Failed) → ⊥ }
@@ -161,8 +161,8 @@ pub fn scan_table<S: Source, K: Sink>(
     requires few_write_faults { K.failures sink.old < 2 ^ 64 - 1 }
     ensures told { TableHeadline S.gave K.wrote bytes.now
         (nat_lt (S.ends source.old) (S.ends source.new)) source.old source.new sink.old sink.new result }
-    ensures read_faults { S.failures source.new ≡ S.failures source.old + read_fault_count result }
-    ensures write_faults { K.failures sink.new ≡ K.failures sink.old + write_fault_count result }
+    ensures read_faults { S.failures source.new ≡ S.failures source.old + read_faults result }
+    ensures write_faults { K.failures sink.new ≡ K.failures sink.old + write_faults result }
     ensures ends_stay { S.ends source.old ≤ S.ends source.new }
     ensures one_end { S.ends source.new ≤ S.ends source.old + 1 }
     ensures not_failed { IsErrOf result (ScanError.Run Failed) → ⊥ }

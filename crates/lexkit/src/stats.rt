@@ -3,7 +3,7 @@ ghost use Rattle.std.specs.Prelude.{◌≡◌, ℕ, ◌+◌, ◌-◌, ◌^◌, �
 ghost use Rattle.lex_io.specs.Sink.{Appended, fault_count};
 ghost use Rattle.lexspec.specs.Views.{spec_of, rules_in};
 ghost use Rattle.lex_semantics.specs.Subsets.{all_positions};
-ghost use Rattle.lextab_packed.specs.Machines.{parts_of};
+ghost use Rattle.lextab_packed.specs.Machines.{table_parts};
 ghost use Rattle.lextab_packed.specs.Views.{table_of};
 ghost use Rattle.lexkit.specs.Generated.{AreCounts};
 ghost use Rattle.lexkit.specs.Statistics.{stats_lines};
@@ -39,7 +39,7 @@ pub struct Stats {
 /// The counts of a specification and its tables.
 pub(crate) fn stats_of(spec: &Spec, limits: Limits, subsets: u32, tables: &Tables) -> Stats
     requires few { all_positions (rules_in (spec_of spec.now)) ≤ limits.positions }
-    ensures { AreCounts (spec_of spec.now) subsets (table_of (parts_of tables.now)) result }
+    ensures { AreCounts (spec_of spec.now) subsets (table_of (table_parts tables.now)) result }
 {
     let parts = tables.parts();
     Stats {

@@ -9,7 +9,7 @@ use Rattle.lexlook_same.specs.Same.{number_in, rules_at}
 use Rattle.lexlook_same.specs.declared.differing.Difference.{Difference}
 use Rattle.lexlook_same.specs.declared.tables.Comparison.{Comparison}
 use Rattle.lexlook_same.specs.declared.tables.Comparison.TheVariants.{Same, Conditions, Ends, Texts}
-use Rattle.lextab_packed.specs.Machines.{machine_of}
+use Rattle.lextab_packed.specs.Machines.{table_machine}
 use Rattle.lexkit.specs.Generated.{lines_of}
 use Rattle.lexlook_calls.specs.Looks.{names_of}
 use Rattle.lexlook_calls.specs.Sides.{read_as}
@@ -66,7 +66,7 @@ pub record Side : Type 0 where
   pub given : Option Spec
 
 abbrev pub side_as : List ℕ → Made → Side
-side_as name s = record { name = name; machine = machine_of s.tables; given = read_as s.spec }
+side_as name s = record { name = name; machine = table_machine s.tables; given = read_as s.spec }
 
 -- each of its conditions has a name, and each of its rules a line
 abbrev pub IsLabelled : Side → Type 0

@@ -1,7 +1,7 @@
 //! Whether an input may be cut after any newline, and its pieces scanned apart.
 ghost use Rattle.std.specs.Prelude.{◌≡◌, ◌≤◌, ◌<◌, ◌+◌, ◌-◌, ◌^◌, ◌++◌, List, ℕ, IfOk, IfSome, OnOk};
 ghost use Rattle.lex_semantics.specs.Limits.{max_positions, max_states};
-ghost use Rattle.lextab_packed.specs.Machines.{machine_of};
+ghost use Rattle.lextab_packed.specs.Machines.{table_machine};
 ghost use Rattle.lexlook_calls.specs.Cuts.{rule_place, obstacle_line, cut_line, HasCondition, HasRule, CanTell};
 ghost use Rattle.lexlook_calls.specs.Cuts.{is_nothing, CutsOf, TellsCuts};
 ghost use Rattle.lexlook_calls.specs.Errors.{write_fault_count};
@@ -116,7 +116,7 @@ fn is_nothing(found: Option<Obstacle>) -> bool
 fn tell_cuts<K: Sink>(alloc: Global, side: &Side, sink: &mut K) -> Result<bool, LookError>
     requires few { K.failures sink.old < 2 ^ 64 - 1 }
     requires labels { (name : List ℕ) → IsLabelled (side_as name side.now) }
-    ensures told { CutsOf K.wrote (machine_of side.now.tables) (read_as side.now.spec) sink.old sink.new result }
+    ensures told { CutsOf K.wrote (table_machine side.now.tables) (read_as side.now.spec) sink.old sink.new result }
     ensures failures { K.failures sink.new ≡ K.failures sink.old + write_fault_count result }
 {
     let found = match find_obstacle_in(alloc, &side.tables) {

@@ -1,7 +1,7 @@
 //! What a file that is compared stands for.
 ghost use Rattle.std.specs.Prelude.{◌≡◌, ◌≤◌, true, false, IfOk, IfErr};
 ghost use Rattle.lex_semantics.specs.Limits.{max_positions, max_states};
-ghost use Rattle.lextab_packed.specs.Machines.{machine_of};
+ghost use Rattle.lextab_packed.specs.Machines.{table_machine};
 ghost use Rattle.lexlook_calls.specs.Sides.{StandsFor, IsRefused, is_table_file, read_as};
 
 use crate::error::LookError;
@@ -28,7 +28,7 @@ fn is_table_file(bytes: &[u8]) -> bool
 /// What a table file stands for.
 fn side_of_table(alloc: Global, bytes: &[u8], options: Options) -> Result<Side, LookError>
     requires { is_table_file bytes.now ≡ true }
-    ensures stands { IfOk result (λ s. StandsFor options bytes.now (machine_of s.tables) (read_as s.spec)) }
+    ensures stands { IfOk result (λ s. StandsFor options bytes.now (table_machine s.tables) (read_as s.spec)) }
     ensures refused { IfErr result (IsRefused options bytes.now) }
 {
     let _options = options;
@@ -43,7 +43,7 @@ fn side_of_spec(alloc: Global, text: &[u8], options: Options) -> Result<Side, Lo
     requires few_positions { options.limits.positions ≤ max_positions }
     requires few_states { options.limits.states ≤ max_states }
     requires spec { is_table_file text.now ≡ false }
-    ensures stands { IfOk result (λ s. StandsFor options text.now (machine_of s.tables) (read_as s.spec)) }
+    ensures stands { IfOk result (λ s. StandsFor options text.now (table_machine s.tables) (read_as s.spec)) }
     ensures refused { IfErr result (IsRefused options text.now) }
 {
     let spec = read_text(alloc, text, options)?;
@@ -61,7 +61,7 @@ fn side_of_spec(alloc: Global, text: &[u8], options: Options) -> Result<Side, Lo
 pub(crate) fn side_of(alloc: Global, bytes: &[u8], options: Options) -> Result<Side, LookError>
     requires few_positions { options.limits.positions ≤ max_positions }
     requires few_states { options.limits.states ≤ max_states }
-    ensures stands { IfOk result (λ s. StandsFor options bytes.now (machine_of s.tables) (read_as s.spec)) }
+    ensures stands { IfOk result (λ s. StandsFor options bytes.now (table_machine s.tables) (read_as s.spec)) }
     ensures refused { IfErr result (IsRefused options bytes.now) }
 {
     if is_table_file(bytes) {

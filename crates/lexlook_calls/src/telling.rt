@@ -3,7 +3,7 @@ ghost use Rattle.std.specs.Prelude.{◌≡◌, ◌<◌, ℕ, Bool, List, [], ◌
 ghost use Rattle.std.specs.Prelude.{IfOk, IfSome, OnOk, codes};
 ghost use Rattle.std.specs.List.{flat_map};
 ghost use Rattle.lex_semantics.specs.Text.{Among};
-ghost use Rattle.lextab_packed.specs.Machines.{machine_of};
+ghost use Rattle.lextab_packed.specs.Machines.{table_machine};
 ghost use Rattle.lexspec.specs.Views.{conditions_in, rules_in, spec_of};
 ghost use Rattle.lexkit.specs.Generated.{lines_of};
 ghost use Rattle.lexlook_calls.specs.Looks.{names_of};
@@ -180,7 +180,7 @@ fn add_taken_by(
     condition: u8,
     difference: &Difference,
 ) -> Result<(), AllocError>
-    requires condition { condition < (machine_of side.now.tables).conditions }
+    requires condition { condition < (table_machine side.now.tables).conditions }
     requires labels { IsLabelled (side_as name.now side.now) }
     ensures { OnOk result (text.new.items ≡ text.old.items
         ++ taken_by (side_as name.now side.now) all condition difference.now) }
@@ -209,9 +209,9 @@ fn add_difference(
     all: bool,
     difference: &Difference,
 ) -> Result<(), AllocError>
-    requires left { difference.now.condition < (machine_of left.side.now.tables).conditions }
-    requires right { number_in order.now difference.now.condition < (machine_of right.side.now.tables).conditions }
-    requires conditions { (machine_of left.side.now.tables).conditions ≡ (machine_of right.side.now.tables).conditions }
+    requires left { difference.now.condition < (table_machine left.side.now.tables).conditions }
+    requires right { number_in order.now difference.now.condition < (table_machine right.side.now.tables).conditions }
+    requires conditions { (table_machine left.side.now.tables).conditions ≡ (table_machine right.side.now.tables).conditions }
     requires left_labels { IsLabelled (side_as left.name.now left.side.now) }
     requires right_labels { IsLabelled (side_as right.name.now right.side.now) }
     ensures { OnOk result (text.new.items ≡ text.old.items
@@ -240,8 +240,8 @@ fn add_end(
     right: Named<'_>,
     condition: u8,
 ) -> Result<(), AllocError>
-    requires condition { condition < (machine_of left.side.now.tables).conditions }
-    requires conditions { (machine_of left.side.now.tables).conditions ≡ (machine_of right.side.now.tables).conditions }
+    requires condition { condition < (table_machine left.side.now.tables).conditions }
+    requires conditions { (table_machine left.side.now.tables).conditions ≡ (table_machine right.side.now.tables).conditions }
     requires left_labels { IsLabelled (side_as left.name.now left.side.now) }
     requires right_labels { IsLabelled (side_as right.name.now right.side.now) }
     ensures { (order : List ℕ) (all : Bool) → OnOk result (text.new.items ≡ text.old.items
@@ -303,7 +303,7 @@ pub(crate) fn told_line(
     requires holds { Holds (side_as left.name.now left.side.now) (side_as right.name.now right.side.now)
         order.now told.now }
     ensures { IfOk result (λ line. (all : Bool)
-        × Counts all (machine_of left.entry.side.now.tables) (machine_of right.entry.side.now.tables)
+        × Counts all (table_machine left.entry.side.now.tables) (table_machine right.entry.side.now.tables)
         × (line.items ≡ told_line (side_as left.entry.name.now left.entry.side.now)
         (side_as right.entry.name.now right.entry.side.now) order.now all told.now)) }
 {

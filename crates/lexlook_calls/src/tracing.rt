@@ -1,7 +1,7 @@
 //! The lines of the matches of a scan.
 ghost use Rattle.std.specs.Prelude.{◌≡◌, ◌+◌, ◌-◌, ◌^◌, ◌<◌, ◌≤◌, nat_lt, IsErrOf};
 ghost use Rattle.lex_semantics.specs.Limits.{max_positions, max_states};
-ghost use Rattle.lexkit.specs.ScanCounts.{HandedOn, read_fault_count, write_fault_count};
+ghost use Rattle.lexkit.specs.ScanCounts.{HandedOn, read_faults, write_faults};
 ghost use Rattle.lexlook_calls.specs.Tracing.{Traces};
 ghost use Rattle.lexscan_window.specs.declared.error.RunError.TheVariants.{Failed};
 
@@ -28,8 +28,8 @@ pub fn trace<S: Source, K: Sink>(
     requires few_write_faults { K.failures sink.old < 2 ^ 64 - 1 }
     ensures told { Traces S.gave K.wrote options text.now
         (nat_lt (S.ends source.old) (S.ends source.new)) source.old source.new sink.old sink.new result }
-    ensures read_faults { S.failures source.new ≡ S.failures source.old + read_fault_count result }
-    ensures write_faults { K.failures sink.new ≡ K.failures sink.old + write_fault_count result }
+    ensures read_faults { S.failures source.new ≡ S.failures source.old + read_faults result }
+    ensures write_faults { K.failures sink.new ≡ K.failures sink.old + write_faults result }
     ensures ends_stay { S.ends source.old ≤ S.ends source.new }
     ensures one_end { S.ends source.new ≤ S.ends source.old + 1 }
     ensures not_failed { IsErrOf result (ScanError.Run Failed) → ⊥ }

@@ -12,7 +12,7 @@ use Rattle.lexlook_same.specs.declared.pairs.From.{From}
 use Rattle.lexlook_same.specs.declared.pairs.From.TheVariants.{Start, Byte}
 use Rattle.lexlook_same.specs.declared.pairs.Pair.{Pair}
 use Rattle.lexlook_same.specs.Searching.{HasAt, KeyAt, IsKey, start_key, IsFrom, IsBefore, LeadBack, IsSeen, AreStarts, Searched, DifferAt, IsTextOf}
-use Rattle.lexauto_reports.specs.BackWords.{Before, NotAfter, Smaller}
+use Rattle.lexauto_reports.specs.BackWords.{Precedes, NotAfter, Smaller}
 use Rattle.lexauto_reports.proofs.Orders as Words
 use Rattle.lexlook_same.proofs.Orders as Order
 use Rattle.lexlook_same.proofs.Lists.{one_at, in_map, from_map, some_at}
@@ -38,7 +38,7 @@ searched_none order all M N m n k ps seen h conditions size none = record {
   sized = length-map ps key_of;
   keyed = λ i p u at is. keyed i p u at is;
   ascending = λ i j u v is are less. (let a = from_map key_of ps i u is in let b = from_map key_of ps j v are in
-      subst (λ z. Before z v) (sym a.2) (subst (Before (key_of a.0)) (sym b.2) (h.ascending i j a.0 b.0 a.1 b.1 less)));
+      subst (λ z. Precedes z v) (sym a.2) (subst (Precedes (key_of a.0)) (sym b.2) (h.ascending i j a.0 b.0 a.1 b.1 less)));
   ahead = λ t j u at_t at_u. inl (let l = two 0 t at_t in let r = two j u at_u in let more = length-append t (0 ∷ []) in omega (arith, l, r, more));
   starts = λ c line lt. (let f = h.all c line (omega (arith, lt, conditions)) in (f.0, f.1, f.2, f.3, subst (λ z. KeyAt keys f.0 (start_key z)) f.4 (in_map key_of ps f.0 f.1 f.2)));
   size = size;
@@ -100,7 +100,7 @@ module _ (order : List ℕ) (all : Bool) (M N : Machine) (m n : ℕ) (ps : List 
     closed = λ i p c at below which. h.closed i p c at below (before i c below which);
   }
     where
-      ahead : (t : List ℕ) (j : ℕ) (u : List ℕ) → KeyAt h.keys (place + 1) t → KeyAt h.keys j u → Before u (t ++ 0 ∷ [])
+      ahead : (t : List ℕ) (j : ℕ) (u : List ℕ) → KeyAt h.keys (place + 1) t → KeyAt h.keys j u → Precedes u (t ++ 0 ∷ [])
       ahead t j u at_t at_u =
           let s = some_at h.keys place (let l = slice_get_within h.keys (place + 1) t at_t in omega (arith, l)) in
           Words.before_trans u (s.0 ++ b ∷ []) (t ++ 0 ∷ []) (h.ahead s.0 j u s.1 at_u) (Words.before_longer s.0 t b 0 (h.ascending place (place + 1) s.0 t s.1 at_t (omega arith)))
@@ -175,11 +175,11 @@ module _ (order : List ℕ) (all : Bool) (M N : Machine) (m n : ℕ) (ps : List 
       not_behind : (i : ℕ) (u : List ℕ) → KeyAt h.keys i u → NotAfter u this.0 → i ≤ place
       not_behind i u is nt = elim (cases_lt place i) [ inl less ↦ absurd (Order.before_irreflexive u (Order.before_not_after u this.0 u nt (h.ascending place i this.0 u this.1 is less))) | inr le ↦ le ]
 
-      in_front : (i : ℕ) (u : List ℕ) → KeyAt h.keys i u → Before u this.0 → i < place
+      in_front : (i : ℕ) (u : List ℕ) → KeyAt h.keys i u → Precedes u this.0 → i < place
       in_front i u is less = elim (cases_lt i place) [
         | inl lt ↦ lt
         | inr ge ↦ absurd (let le = not_behind i u is (inr less) in let e : i ≡ place = omega (arith, ge, le) in
-            Order.before_irreflexive this.0 (subst (λ z. Before z this.0) (one_at h.keys place u this.0 (subst (λ z. KeyAt h.keys z u) e is) this.1) less))
+            Order.before_irreflexive this.0 (subst (λ z. Precedes z this.0) (one_at h.keys place u this.0 (subst (λ z. KeyAt h.keys z u) e is) this.1) less))
       ]
 
       -- a byte after a text that leads to a pair leads to a pair that was looked at

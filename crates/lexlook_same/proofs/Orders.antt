@@ -1,6 +1,6 @@
 -- The order of words.
 use Rattle.std.proofs.Common.{◌≡◌, ◌⊎◌, ◌<◌, ℕ, List, [], ◌∷◌, ◌++◌, length, inl, inr, sym, ap, refl, ◌∙◌, subst, arith}
-use Rattle.lexauto_reports.specs.BackWords.{Smaller, Before, NotAfter}
+use Rattle.lexauto_reports.specs.BackWords.{Smaller, Precedes, NotAfter}
 use Rattle.lexauto_reports.proofs.Orders.{before_trans}
 
 smaller_irreflexive : (u : List ℕ) → Smaller u u → ⊥
@@ -8,12 +8,12 @@ smaller_irreflexive [] h = h
 smaller_irreflexive (a ∷ u) (inl h) = omega (arith, h)
 smaller_irreflexive (a ∷ u) (inr h) = smaller_irreflexive u h.1
 
-pub before_irreflexive : (u : List ℕ) → Before u u → ⊥
+pub before_irreflexive : (u : List ℕ) → Precedes u u → ⊥
 before_irreflexive u (inl h) = omega (arith, h)
 before_irreflexive u (inr h) = smaller_irreflexive u h.1
 
-pub before_not_after : (u v w : List ℕ) → NotAfter u v → Before v w → Before u w
-before_not_after u v w (inl e) k = subst (λ l. Before l w) (sym e) k
+pub before_not_after : (u v w : List ℕ) → NotAfter u v → Precedes v w → Precedes u w
+before_not_after u v w (inl e) k = subst (λ l. Precedes l w) (sym e) k
 before_not_after u v w (inr h) k = before_trans u v w h k
 
 -- of two words of one length with a byte more the first is smaller without it, or they are the same, and the byte is smaller

@@ -6,7 +6,7 @@ use Rattle.std.proofs.lemmas.Option.{slice_get_within}
 use Rattle.lex_semantics.specs.Machine.{Machine}
 use Rattle.lexlook_same.specs.declared.pairs.From.TheVariants.{Start}
 use Rattle.lexlook_same.specs.declared.pairs.Pair.{Pair}
-use Rattle.lexauto_reports.specs.BackWords.{Before}
+use Rattle.lexauto_reports.specs.BackWords.{Precedes}
 use Rattle.lexlook_same.specs.Searching.{HasAt, IsStart, AreStarts, start_key}
 use Rattle.lexlook_same.proofs.Lists.{before_last, at_last, last_or_before}
 
@@ -57,23 +57,23 @@ module _ (order : List ℕ) (M N : Machine) (m n : ℕ) (ps : List Pair) (k : �
       ]
 
       -- a start of an earlier condition is before one of this
-      earlier : (i : ℕ) (x : Pair) (line : Bool) → HasAt ps i x → Before (start_key x.from) (start_key (Start k line))
-      earlier i x line b = (let e = h.each i x b in subst (λ f. Before (start_key f) (start_key (Start k line))) (sym e.2) (inr (refl, inl e.3)))
+      earlier : (i : ℕ) (x : Pair) (line : Bool) → HasAt ps i x → Precedes (start_key x.from) (start_key (Start k line))
+      earlier i x line b = (let e = h.each i x b in subst (λ f. Precedes (start_key f) (start_key (Start k line))) (sym e.2) (inr (refl, inl e.3)))
 
-      new_of : (y : Pair) (line : Bool) → y.from ≡ Start k line → (i : ℕ) (x : Pair) → HasAt ps i x → Before (start_key x.from) (start_key y.from)
-      new_of y line from i x b = subst (λ f. Before (start_key x.from) (start_key f)) (sym from) (earlier i x line b)
+      new_of : (y : Pair) (line : Bool) → y.from ≡ Start k line → (i : ℕ) (x : Pair) → HasAt ps i x → Precedes (start_key x.from) (start_key y.from)
+      new_of y line from i x b = subst (λ f. Precedes (start_key x.from) (start_key f)) (sym from) (earlier i x line b)
 
-      ascending_of : (i j : ℕ) (x y : Pair) → Which i x → Which j y → i < j → Before (start_key x.from) (start_key y.from)
+      ascending_of : (i j : ℕ) (x y : Pair) → Which i x → Which j y → i < j → Precedes (start_key x.from) (start_key y.from)
       ascending_of i j x y (Old a) (Old b) less = h.ascending i j x y a b less
       ascending_of i j x y (Old a) (New b e) less = new_of y false (ap (λ (z : Pair). z.from) e ∙ p_from) i x a
       ascending_of i j x y (Old a) (Newer b e) less = new_of y true (ap (λ (z : Pair). z.from) e ∙ q_from) i x a
       ascending_of i j x y (New a e) (Old b) less = absurd (omega (arith, a, less, slice_get_within ps j y b))
       ascending_of i j x y (New a e) (New b f) less = absurd (omega (arith, a, b, less))
-      ascending_of i j x y (New a e) (Newer b f) less = subst (λ g. Before (start_key g) (start_key y.from)) (sym (ap (λ (z : Pair). z.from) e ∙ p_from))
-          (subst (λ g. Before (start_key (Start k false)) (start_key g)) (sym (ap (λ (z : Pair). z.from) f ∙ q_from)) (inr (refl, inr (refl, inl (omega arith)))))
+      ascending_of i j x y (New a e) (Newer b f) less = subst (λ g. Precedes (start_key g) (start_key y.from)) (sym (ap (λ (z : Pair). z.from) e ∙ p_from))
+          (subst (λ g. Precedes (start_key (Start k false)) (start_key g)) (sym (ap (λ (z : Pair). z.from) f ∙ q_from)) (inr (refl, inr (refl, inl (omega arith)))))
       ascending_of i j x y (Newer a e) (Old b) less = absurd (omega (arith, a, less, slice_get_within ps j y b))
       ascending_of i j x y (Newer a e) (New b f) less = absurd (omega (arith, a, b, less))
       ascending_of i j x y (Newer a e) (Newer b f) less = absurd (omega (arith, a, b, less))
 
-      ascending : (i j : ℕ) (x y : Pair) → HasAt all i x → HasAt all j y → i < j → Before (start_key x.from) (start_key y.from)
+      ascending : (i j : ℕ) (x y : Pair) → HasAt all i x → HasAt all j y → i < j → Precedes (start_key x.from) (start_key y.from)
       ascending i j x y a b less = ascending_of i j x y (which i x a) (which j y b) less

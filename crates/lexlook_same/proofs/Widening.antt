@@ -11,7 +11,7 @@ use Rattle.lexlook_same.specs.declared.pairs.From.{From}
 use Rattle.lexlook_same.specs.declared.pairs.From.TheVariants.{Start, Byte}
 use Rattle.lexlook_same.specs.declared.pairs.Pair.{Pair}
 use Rattle.lexlook_same.specs.Searching.{HasAt, KeyAt, IsKey, AreKeyed, IsNext, IsFrom, IsSeen, IsFound, Searched, unseen}
-use Rattle.lexauto_reports.specs.BackWords.{Before}
+use Rattle.lexauto_reports.specs.BackWords.{Precedes}
 use Rattle.lexauto_reports.proofs.Orders as Words
 use Rattle.lexlook_same.proofs.Lists.{before_last, at_last, last_or_before, one_at, some_at}
 
@@ -135,19 +135,19 @@ module _ (order : List ℕ) (all : Bool) (M N : Machine) (m n : ℕ) (ps : List 
       | inr new ↦ subst (λ (z : Pair). IsKey keys' u z.from) (sym new.1) (subst (IsKey keys' u) (sym from) (here.0, before_last h.keys (here.0 ++ b ∷ []) place here.0 here.1, new_key i u new.0 is))
     ]
 
-    ascending : (i j : ℕ) (u v : List ℕ) → KeyAt keys' i u → KeyAt keys' j v → i < j → Before u v
+    ascending : (i j : ℕ) (u v : List ℕ) → KeyAt keys' i u → KeyAt keys' j v → i < j → Precedes u v
     ascending i j u v is are less = elim (last_or_before h.keys (here.0 ++ b ∷ []) j v are) [
       | inl old ↦ (let l = slice_get_within h.keys j v old in h.ascending i j u v (old_key i u (omega (arith, l, less, h.sized)) is) old less)
-      | inr new ↦ (let e = new.0 in subst (Before u) (sym new.1) (h.ahead here.0 i u here.1 (old_key i u (omega (arith, e, less, h.sized)) is)))
+      | inr new ↦ (let e = new.0 in subst (Precedes u) (sym new.1) (h.ahead here.0 i u here.1 (old_key i u (omega (arith, e, less, h.sized)) is)))
     ]
 
-    ahead : (t : List ℕ) (j : ℕ) (u : List ℕ) → KeyAt keys' place t → KeyAt keys' j u → Before u (t ++ (b + 1) ∷ [])
+    ahead : (t : List ℕ) (j : ℕ) (u : List ℕ) → KeyAt keys' place t → KeyAt keys' j u → Precedes u (t ++ (b + 1) ∷ [])
     ahead t j u at_t at_u =
         let same : here.0 ≡ t = one_at h.keys place here.0 t here.1 (old_key place t placed at_t) in
-        let next_byte : Before (here.0 ++ b ∷ []) (t ++ (b + 1) ∷ []) = subst (λ z. Before (z ++ b ∷ []) (t ++ (b + 1) ∷ [])) (sym same) (Words.before_last t b (b + 1) (omega arith)) in
+        let next_byte : Precedes (here.0 ++ b ∷ []) (t ++ (b + 1) ∷ []) = subst (λ z. Precedes (z ++ b ∷ []) (t ++ (b + 1) ∷ [])) (sym same) (Words.before_last t b (b + 1) (omega arith)) in
         elim (last_or_before h.keys (here.0 ++ b ∷ []) j u at_u) [
           | inl old ↦ Words.before_trans u (here.0 ++ b ∷ []) (t ++ (b + 1) ∷ []) (h.ahead here.0 j u here.1 old) next_byte
-          | inr new ↦ subst (λ z. Before z (t ++ (b + 1) ∷ [])) (sym new.1) next_byte
+          | inr new ↦ subst (λ z. Precedes z (t ++ (b + 1) ∷ [])) (sym new.1) next_byte
         ]
 
     found_before : (i : ℕ) (q : Pair) (c : ℕ) → i < length ps → IsFound M N n ps h.keys seen i q c → IsFound M N n ps' keys' seen' i q c

@@ -3,7 +3,7 @@ use Rattle.std.specs.Prelude.{◌≡◌, ℕ, suc, ◌+◌, ◌*◌, ◌≤◌, 
 use Rattle.lex_semantics.specs.Text.{IsText}
 use Rattle.lex_semantics.specs.Machine.{Machine, state_after, walk}
 use Rattle.lexlook_same.specs.Same.{deeds_at, deeds_in, number_in, key}
-use Rattle.lexauto_reports.specs.BackWords.{Before, NotAfter}
+use Rattle.lexauto_reports.specs.BackWords.{Precedes, NotAfter}
 use Rattle.lexlook_same.specs.declared.pairs.From.{From}
 use Rattle.lexlook_same.specs.declared.pairs.From.TheVariants.{Start, Byte}
 use Rattle.lexlook_same.specs.declared.pairs.Pair.{Pair}
@@ -78,8 +78,8 @@ pub record Searched (order : List ℕ) (all : Bool) (M N : Machine) (m n : ℕ) 
   pub keys : List (List ℕ)
   pub sized : length keys ≡ length ps
   pub keyed : AreKeyed keys ps
-  pub ascending : (i j : ℕ) (u v : List ℕ) → KeyAt keys i u → KeyAt keys j v → i < j → Before u v
-  pub ahead : (t : List ℕ) (j : ℕ) (u : List ℕ) → KeyAt keys at t → KeyAt keys j u → Before u (t ++ b ∷ [])
+  pub ascending : (i j : ℕ) (u v : List ℕ) → KeyAt keys i u → KeyAt keys j v → i < j → Precedes u v
+  pub ahead : (t : List ℕ) (j : ℕ) (u : List ℕ) → KeyAt keys at t → KeyAt keys j u → Precedes u (t ++ b ∷ [])
   pub starts : (c : ℕ) (line : Bool) → c < M.conditions → (i : ℕ) × (p : Pair) × HasAt ps i p × IsStart order M N c line p × KeyAt keys i (key c line [])
   pub size : length seen ≡ m * n
   pub known : (s t : ℕ) → s < m → t < n → IsSeen seen n s t → (i : ℕ) × (p : Pair) × HasAt ps i p × (p.left ≡ s) × (p.right ≡ t)
@@ -91,7 +91,7 @@ pub record AreStarts (order : List ℕ) (M N : Machine) (m n : ℕ) (ps : List P
   pub each : (i : ℕ) (p : Pair) → HasAt ps i p → (c : ℕ) × (line : Bool) × (p.from ≡ Start c line) × (c < k) × IsStart order M N c line p
   pub within : (i : ℕ) (p : Pair) → HasAt ps i p → (p.left < m) × (p.right < n)
   pub all : (c : ℕ) (line : Bool) → c < k → (i : ℕ) × (p : Pair) × HasAt ps i p × IsStart order M N c line p × (p.from ≡ Start c line)
-  pub ascending : (i j : ℕ) (p q : Pair) → HasAt ps i p → HasAt ps j q → i < j → Before (start_key p.from) (start_key q.from)
+  pub ascending : (i j : ℕ) (p q : Pair) → HasAt ps i p → HasAt ps j q → i < j → Precedes (start_key p.from) (start_key q.from)
 
 -- of a match that the byte ends, after a text that leads to the pair at this place, they do not do the same
 abbrev pub DifferAt : List ℕ → Bool → Machine → Machine → List Pair → ℕ → ℕ → Type 0

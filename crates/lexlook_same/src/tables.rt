@@ -1,7 +1,7 @@
 //! Whether two tables do the same.
 ghost use Rattle.std.specs.Prelude.{◌≡◌, ℕ, ◌<◌, ◌≤◌, true, false, length, IfOk};
 ghost use Rattle.lex_machine.specs.Views.{end_action_of};
-ghost use Rattle.lextab_packed.specs.Machines.{machine_of};
+ghost use Rattle.lextab_packed.specs.Machines.{table_machine};
 ghost use Rattle.lexlook_same.specs.Same.{number_in};
 ghost use Rattle.lexlook_same.specs.Comparing.{Compares, Counts, HaveEnds};
 
@@ -34,9 +34,9 @@ fn is_end(end: &EndAction, other: &EndAction) -> bool
 
 /// The first condition whose end actions are not the same.
 fn other_end(order: &[u8], left: &Tables, right: &Tables, conditions: u8) -> Option<u8>
-    requires left { conditions ≡ (machine_of left.now).conditions }
-    requires right { (c : ℕ) → c < conditions → number_in order.now c < (machine_of right.now).conditions }
-    ensures { HaveEnds order.now (machine_of left.now) (machine_of right.now) result }
+    requires left { conditions ≡ (table_machine left.now).conditions }
+    requires right { (c : ℕ) → c < conditions → number_in order.now c < (table_machine right.now).conditions }
+    ensures { HaveEnds order.now (table_machine left.now) (table_machine right.now) result }
 {
     for condition in 0..conditions {
         if !is_end(left.eof(condition), right.eof(number_in(order, condition))) {
@@ -48,7 +48,7 @@ fn other_end(order: &[u8], left: &Tables, right: &Tables, conditions: u8) -> Opt
 
 /// Whether all rules that a state accepts count, since some rule has REJECT.
 pub fn counts_all(left: &Tables, right: &Tables) -> bool
-    ensures { Counts result (machine_of left.now) (machine_of right.now) }
+    ensures { Counts result (table_machine left.now) (table_machine right.now) }
 {
     left.rejects() || right.rejects()
 }
@@ -62,9 +62,9 @@ pub fn compare(
     left: &Tables,
     right: &Tables,
 ) -> Result<Comparison, AllocError>
-    requires { (machine_of left.now).conditions ≡ (machine_of right.now).conditions
-        → (c : ℕ) → c < (machine_of left.now).conditions → number_in order.now c < (machine_of right.now).conditions }
-    ensures { IfOk result (λ told. Compares order.now (machine_of left.now) (machine_of right.now) told) }
+    requires { (table_machine left.now).conditions ≡ (table_machine right.now).conditions
+        → (c : ℕ) → c < (table_machine left.now).conditions → number_in order.now c < (table_machine right.now).conditions }
+    ensures { IfOk result (λ told. Compares order.now (table_machine left.now) (table_machine right.now) told) }
 {
     let conditions = left.parts().conditions.len();
     if conditions != right.parts().conditions.len() {

@@ -5,7 +5,7 @@ use Rattle.lex_semantics.specs.Text.{IsText, Among, Ascending, flag}
 use Rattle.lexauto_dfa.specs.Parts.{conditions, states, start, accepts, after}
 use Rattle.lexauto_dfa.specs.Invariant.{IsAutomaton}
 use Rattle.lexauto_dfa.specs.declared.dfa.Parts.{Parts}
-use Rattle.lexauto_reports.specs.BackWords.{Before, NotAfter}
+use Rattle.lexauto_reports.specs.BackWords.{Precedes, NotAfter}
 use Rattle.lexauto_reports.specs.Searching.{at, AreFound}
 use Rattle.lexauto_reports.proofs.Orders.{before_trans}
 use Rattle.lexlook_words.specs.Matches.{Matches, IsInput, IsGivenUp, IsCopied, TakesOf, matches_in}
@@ -73,19 +73,19 @@ module _ (p : Parts) (a : IsAutomaton p) (rejects : List Bool) where
               let r = takes_placed c line w i h t in
               let low = least r.0 r.1 in
               elim (cases_lt j r.0) [
-                | inl lt ↦ inl (subst (λ v. Before v w) (sym same_w) (before_all j r.0 w lt r.1 r.2))
+                | inl lt ↦ inl (subst (λ v. Precedes v w) (sym same_w) (before_all j r.0 w lt r.1 r.2))
                 | inr le ↦ (let e : r.0 ≡ j = omega (arith, low, le) in elim (subst (λ k. NotAfter (at words k) w) e r.2) [
                   | inl same ↦ inr (same_w ∙ same, subst (λ d. StartsFirst d q.line_start c line) (sym same_c) (subst (λ b. StartsFirst x.condition b c line) (sym same_l) (begins.2 c line h.condition (subst (λ v. MeetsAfter p rejects v (Takes i) c line) (sym same) ((takes_is c line w i).0 t)))))
-                  | inr b ↦ inl (subst (λ v. Before v w) (sym same_w) b)
+                  | inr b ↦ inl (subst (λ v. Precedes v w) (sym same_w) b)
                 ])
               ];
         }
       where
-        before_all : (j k : ℕ) (w : List ℕ) → j < k → TakesAt p rejects places (states p) i k → NotAfter (at words k) w → Before (at words j) w
+        before_all : (j k : ℕ) (w : List ℕ) → j < k → TakesAt p rejects places (states p) i k → NotAfter (at words k) w → Precedes (at words j) w
         before_all j k w lt (s, low, m, is) after =
             let k_in = (placed_leads p words places found s k is).0 in
             let b = found.rising j k lt k_in in
-            elim after [ inl e ↦ subst (Before (at words j)) e b | inr c ↦ before_trans (at words j) (at words k) w b c ]
+            elim after [ inl e ↦ subst (Precedes (at words j)) e b | inr c ↦ before_trans (at words j) (at words k) w b c ]
 
     -- the word at a rule's place is taken from some start
     pub some_start : (i j : ℕ) → TakesAt p rejects places (states p) i j → IsFirstStart p rejects (at words j) (Takes i) (conditions p) None → ⊥
@@ -162,6 +162,6 @@ module _ (p : Parts) (a : IsAutomaton p) (rejects : List Bool) where
         | inl lt ↦ absurd (none y lt c line h.condition (copied_byte c line y [] copied))
         | inr le ↦ elim (cases_eq b y) [
           | inl same ↦ inr (same_w ∙ ap (λ k. k ∷ []) same, subst (λ d. StartsFirst d q.line_start c line) (sym same_c) (subst (λ l. StartsFirst x.condition l c line) (sym same_l) (begins.2 c line h.condition (subst (λ k. MeetsAfter p rejects (k ∷ []) Copies c line) (sym same) (copied_byte c line y [] copied)))))
-          | inr other ↦ inl (subst (λ v. Before v (y ∷ [])) (sym same_w) (inr (refl, inl (omega (arith, le, other)))))
+          | inr other ↦ inl (subst (λ v. Precedes v (y ∷ [])) (sym same_w) (inr (refl, inl (omega (arith, le, other)))))
         ]
       ]

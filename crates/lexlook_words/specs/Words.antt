@@ -2,7 +2,7 @@
 -- cannot be matched; the rest is this project's.)
 use Rattle.std.specs.Prelude.{◌≡◌, ◌⊎◌, ◌↔◌, ℕ, ◌<◌, Bool, true, List, length, Option, Some, None, slice_get}
 use Rattle.lex_semantics.specs.Text.{Among, Ascending}
-use Rattle.lexauto_reports.specs.BackWords.{Before}
+use Rattle.lexauto_reports.specs.BackWords.{Precedes}
 use Rattle.lexlook_words.specs.Matches.{Matches, IsInput, Takes, TakesOf, IsCopied}
 use Rattle.lexlook_words.specs.declared.finding.Place.{Place}
 use Rattle.lexlook_words.specs.declared.finding.Word.{Word}
@@ -15,7 +15,7 @@ StartsFirst c line d line' = (c < d) ⊎ ((c ≡ d) × (line ≡ true → line' 
 
 -- the first text is shorter, or as long and first in byte order, or the same and of an earlier start
 abbrev pub IsNotLater : Place → ℕ → Bool → List ℕ → Type 0
-IsNotLater p c line w = Before p.text.items w ⊎ ((p.text.items ≡ w) × StartsFirst p.condition p.line_start c line)
+IsNotLater p c line w = Precedes p.text.items w ⊎ ((p.text.items ≡ w) × StartsFirst p.condition p.line_start c line)
 
 -- of the texts of which this holds it is the first
 pub record IsFirst (m : Matches) (P : ℕ → Bool → List ℕ → Type 0) (p : Place) : Type 0 where

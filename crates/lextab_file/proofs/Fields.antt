@@ -8,8 +8,8 @@ use Rattle.std.proofs.lemmas.List.{nil_from_length}
 use Rattle.std.proofs.lemmas.Option.{same_Some}
 use Rattle.lex_semantics.specs.Text.{IsText, Among, Ascending}
 use Rattle.lex_semantics.specs.Spec.{Statement, Echo, Print, Begin, More, Less, Reject, End, Push, Pop, EndAction, Cut, Whole, Head, Trail}
-use Rattle.lextab_packed.specs.Table.{Row, Rule}
-use Rattle.lextab_packed.specs.Checks.{Sizes, IsCondition, IsCut, IsRule, IsRow, IsSlot}
+use Rattle.lextab_packed.specs.Table.{Row, RuleOfTable}
+use Rattle.lextab_packed.specs.Checks.{Sizes, IsCondition, IsCutInRange, IsTableRule, IsRow, IsSlot}
 use Rattle.lextab_file.specs.File.{byte, string, cut_text, statement_text, end_text, condition_text, rule_text, row_text, slot_text}
 use Rattle.lextab_file.specs.Seen.{EachFrom, IsString, MayStand, Seen, unseen, seen_after}
 use Rattle.lextab_file.specs.Reading.{◌>>=◌, only_if, both, seen_as, many, byte_at, number_at, bytes_at, within, long_at, below, positive_at, string_at, end_from, end_at, condition_from, condition_at, whole_of, cut_number, cut_at, bars, arguments, statement_at, statements_at, rule_from, rule_at, above, between, accepted_at, none_at_0, row_from, few, row_at, slot_from, good_check, slot_at}
@@ -115,12 +115,12 @@ LowCut Whole = Unit {0}
 LowCut (Head n) = n < 65536
 LowCut (Trail n) = n < 65536
 
-cut_is : (x : Cut) → LowCut x → IsCut x
+cut_is : (x : Cut) → LowCut x → IsCutInRange x
 cut_is Whole h = tt
 cut_is (Head n) h = omega arith
 cut_is (Trail n) h = omega arith
 
-is_cut : (x : Cut) → IsCut x → LowCut x
+is_cut : (x : Cut) → IsCutInRange x → LowCut x
 is_cut Whole h = tt
 is_cut (Head n) h = omega arith
 is_cut (Trail n) h = omega arith
@@ -237,8 +237,8 @@ reads_statement conditions s low = record { takes = take; again = again }
 -- ---- rules
 
 -- a rule that the version has
-abbrev pub IsRuleBy : Sizes → Bool → ℕ → Rule → Type 0
-IsRuleBy z stack i r = IsRule z i r × InVersion stack r.statements
+abbrev pub IsRuleBy : Sizes → Bool → ℕ → RuleOfTable → Type 0
+IsRuleBy z stack i r = IsTableRule z i r × InVersion stack r.statements
 
 pub reads_rule : (z : Sizes) (stack : Bool) (i : ℕ) → z.conditions ≤ 256 → IsReader rule_text (IsRuleBy z stack i) (rule_at z.conditions stack)
 unfolding rule_at
@@ -326,14 +326,12 @@ row_is z rejects s r l = record {
   rules = λ i a. (climb_low z.rules 0 r.rules l.1.1.1 i a).1;
   ascending = climb_ascends z.rules 0 r.rules l.1.1.1;
   first_alone = l.1.1.0.0;
-  dead_otherwise = l.0.1;
-  dead_base = l.1.0.1;
-  dead_rules = λ e. nil_from_length r.rules (l.1.1.0.1 e);
+  dead = λ e. (l.0.1 e, l.1.0.1 e, nil_from_length r.rules (l.1.1.0.1 e));
 }
 
 is_row : (z : Sizes) (rejects : Bool) (s : ℕ) (r : Row) → IsRow z rejects s r → AreRowParts z rejects s (r.default_target, (r.base, r.rules))
 is_row z rejects s r l =
-    ((l.default_target, l.dead_otherwise), ((l.base, l.dead_base), ((l.first_alone, λ e. ap length (l.dead_rules e)), ascent_climbs z.rules 0 r.rules (λ i a. omega arith) l.rules l.ascending)))
+    ((l.default_target, λ e. (l.dead e).0), ((l.base, λ e. (l.dead e).1), ((l.first_alone, λ e. ap length (l.dead e).2), ascent_climbs z.rules 0 r.rules (λ i a. omega arith) l.rules l.ascending)))
 
 -- where some rule has REJECT, the number of rules of a row is bounded by four bytes alone
 pub reads_row : (z : Sizes) (rejects : Bool) (s : ℕ) → z.states < 4294967296 → z.slots < 4294967296 → z.rules < 4294967296 → IsReader row_text (IsRow z rejects s) (row_at z rejects s)

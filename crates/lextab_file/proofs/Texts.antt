@@ -10,7 +10,7 @@ use Rattle.std.proofs.lemmas.List.Sums.{sum_by-cons}
 use Rattle.lex_machine.specs.Literals.{literal_bytes}
 use Rattle.lex_machine.specs.Views.{cut_of, statement_of}
 use Rattle.lex_machine.specs.declared.action.Statement.{Statement}
-use Rattle.lextab_packed.specs.Checks.{Each, Sizes, sizes_of, IsCondition, IsRule, IsRow, IsTable, any_reject}
+use Rattle.lextab_packed.specs.Checks.{Each, Sizes, sizes_of, IsCondition, IsTableRule, IsRow, IsTable, some_rule_rejects}
 use Rattle.lextab_packed.specs.Views.{condition_of, rule_of, row_of, slots_of, table_of}
 use Rattle.lextab_packed.specs.declared.parts.TableCondition.{TableCondition}
 use Rattle.lextab_packed.specs.declared.parts.TableRule.{TableRule}
@@ -68,7 +68,7 @@ statements_fit (x ∷ xs) h =
     let whole = sum_by-cons literal_bytes (statement_of x) (map statement_of xs) in
     (omega (arith, h, whole), statements_fit xs (omega (arith, h, whole)))
 
-rules_fit : (z : Sizes) (i : ℕ) (xs : List TableRule) → Each (IsRule z) i (map rule_of xs) → AllByRecursion FitsRule xs
+rules_fit : (z : Sizes) (i : ℕ) (xs : List TableRule) → Each (IsTableRule z) i (map rule_of xs) → AllByRecursion FitsRule xs
 rules_fit z i [] h = tt
 rules_fit z i (x ∷ xs) h = (
   record {
@@ -84,11 +84,11 @@ rows_fit z rejects i (x ∷ xs) low h = (let le = few_ascend z.rules x.rules.ite
 
 pub parts_fit : (p : TableParts) → IsTable (table_of p) → FitsParts p
 parts_fit p ok = record {
-  conditions = let le = ok.sizes.conditions in omega (arith, length-map p.conditions.items condition_of);
+  conditions = let le = ok.sizes.conditions.1 in omega (arith, length-map p.conditions.items condition_of);
   rules = let le = ok.sizes.rules in omega (arith, length-map p.rules.items rule_of);
-  rows = let le = ok.sizes.states in omega (arith, length-map p.rows.items row_of);
-  slots = ok.sizes.slots;
+  rows = let le = ok.sizes.states.1 in omega (arith, length-map p.rows.items row_of);
+  slots = ok.sizes.slots.1;
   each_condition = All-from_recursion FitsCondition p.conditions.items (conditions_fit (sizes_of (table_of p)) 0 p.conditions.items ok.conditions);
   each_rule = All-from_recursion FitsRule p.rules.items (rules_fit (sizes_of (table_of p)) 0 p.rules.items ok.rules);
-  each_row = All-from_recursion FitsRow p.rows.items (rows_fit (sizes_of (table_of p)) (any_reject (map rule_of p.rules.items)) 0 p.rows.items ok.sizes.rules ok.rows);
+  each_row = All-from_recursion FitsRow p.rows.items (rows_fit (sizes_of (table_of p)) (some_rule_rejects (map rule_of p.rules.items)) 0 p.rows.items ok.sizes.rules ok.rows);
 }

@@ -7,8 +7,8 @@ use Rattle.std.proofs.lemmas.Bool.Decides.{nat_tests}
 use Rattle.std.proofs.lemmas.Option.{same_Some}
 use Rattle.std.proofs.lemmas.List.{append-nil, nil_from_length}
 use Rattle.lex_semantics.specs.Text.{IsText}
-use Rattle.lextab_packed.specs.Table.{Condition, Rule, Row, Slot, Table}
-use Rattle.lextab_packed.specs.Checks.{Each, Sizes, sizes_of, AreSizes, IsCondition, IsRule, any_reject, IsRow, bases_of, IsSlot, IsTable}
+use Rattle.lextab_packed.specs.Table.{ConditionOfTable, RuleOfTable, Row, Slot, Table}
+use Rattle.lextab_packed.specs.Checks.{Each, Sizes, sizes_of, AreSizes, IsCondition, IsTableRule, some_rule_rejects, IsRow, bases_of, IsSlot, IsTable}
 use Rattle.lextab_file.specs.File.{byte, condition_text, rule_text, row_text, slot_text, sizes_text, magic, version_of, file_of, IsFileOf, has_stack, any_stack}
 use Rattle.lextab_file.specs.Seen.{following}
 use Rattle.lextab_file.specs.Reading.{only_if, both, many, number_at, bytes_at, condition_at, rule_at, class_at, row_at, slot_at, is_magic, sizes_from, sizes_at, Parts, table_from, table_at}
@@ -37,17 +37,13 @@ reads_sizes = reads_like sizes_text
     (reads_within 1 256 (omega arith)) (λ k l. reads_within k 2097152 (omega arith))))))
     (λ z. refl) (λ p l. refl))
     (λ z l. record {
-      some_condition = l.0.0;
-      conditions = l.0.1;
+      conditions = l.0;
       rules = l.1.0.1;
-      some_state = l.1.1.0.0;
-      states = l.1.1.0.1;
-      some_class = l.1.1.1.0.0;
-      classes = l.1.1.1.0.1;
-      slots_for_each_class = l.1.1.1.1.0;
-      slots = l.1.1.1.1.1;
+      states = l.1.1.0;
+      classes = l.1.1.1.0;
+      slots = l.1.1.1.1;
     })
-    (λ z l. ((l.some_condition, l.conditions), ((omega arith, l.rules), ((l.some_state, l.states), ((l.some_class, l.classes), (l.slots_for_each_class, l.slots))))))
+    (λ z l. (l.conditions, ((omega arith, l.rules), (l.states, (l.classes, l.slots)))))
 
 magic_is : (xs : List ℕ) → length xs ≡ 6 → is_magic xs ≡ true → xs ≡ magic
 magic_is (a ∷ b ∷ c ∷ d ∷ e ∷ f ∷ []) len h =
@@ -103,19 +99,19 @@ no_stack : (b c : Bool) → (b || c) ≡ false → (b ≡ false) × (c ≡ false
 no_stack true c e = absurd cc
 no_stack false c e = (refl, e)
 
-each_by : (z : Sizes) (stack : Bool) (i : ℕ) (rs : List Rule) → (stack ≡ false → any_stack rs ≡ false) → Each (IsRule z) i rs → Each (IsRuleBy z stack) i rs
+each_by : (z : Sizes) (stack : Bool) (i : ℕ) (rs : List RuleOfTable) → (stack ≡ false → any_stack rs ≡ false) → Each (IsTableRule z) i rs → Each (IsRuleBy z stack) i rs
 each_by z stack i [] none l = tt
 each_by z stack i (r ∷ rs) none l =
     ((l.0, λ e. (no_stack (has_stack r.statements) (any_stack rs) (none e)).0), each_by z stack (suc i) rs (λ e. (no_stack (has_stack r.statements) (any_stack rs) (none e)).1) l.1)
 
-by_each : (z : Sizes) (stack : Bool) (i : ℕ) (rs : List Rule) → Each (IsRuleBy z stack) i rs → Each (IsRule z) i rs
+by_each : (z : Sizes) (stack : Bool) (i : ℕ) (rs : List RuleOfTable) → Each (IsRuleBy z stack) i rs → Each (IsTableRule z) i rs
 by_each z stack i [] l = tt
 by_each z stack i (r ∷ rs) l = (l.0.0, by_each z stack (suc i) rs l.1)
 
 -- ---- the parts after the sizes
 
 abbrev Body : Type 0
-Body = List Condition × (List Rule × (List ℕ × (List Row × List Slot)))
+Body = List ConditionOfTable × (List RuleOfTable × (List ℕ × (List Row × List Slot)))
 
 abbrev body_text : Body → List ℕ
 body_text p = flat_map condition_text p.0 ++ (flat_map rule_text p.1.0 ++ (flat_map byte p.1.1.0 ++ (flat_map row_text p.1.1.1.0 ++ flat_map slot_text p.1.1.1.1)))
@@ -123,46 +119,46 @@ body_text p = flat_map condition_text p.0 ++ (flat_map rule_text p.1.0 ++ (flat_
 abbrev IsBody : ℕ → Sizes → Body → Type 0
 IsBody v z p =
     ((length p.0 ≡ z.conditions) × Each (IsCondition z) 0 p.0)
-    × ((((length p.1.0 ≡ z.rules) × Each (IsRule z) 0 p.1.0) × (version_of p.1.0 ≡ v))
+    × ((((length p.1.0 ≡ z.rules) × Each (IsTableRule z) 0 p.1.0) × (version_of p.1.0 ≡ v))
     × (((length p.1.1.0 ≡ 256) × Each (λ b k. k < z.classes) 0 p.1.1.0)
-    × (((length p.1.1.1.0 ≡ z.states) × Each (IsRow z (any_reject p.1.0)) 0 p.1.1.1.0)
+    × (((length p.1.1.1.0 ≡ z.states) × Each (IsRow z (some_rule_rejects p.1.0)) 0 p.1.1.1.0)
     × ((length p.1.1.1.1 ≡ z.slots) × Each (IsSlot z (bases_of p.1.1.1.0)) 0 p.1.1.1.1))))
 
 abbrev body_at : ℕ → Sizes → List ℕ → Option (Body × List ℕ)
 body_at v z = both (many (λ i. condition_at z.states) following z.conditions 0) (λ cs.
     both (only_if (λ rs. version_of rs == v) (many (λ i. rule_at z.conditions (v == 2)) following z.rules 0)) (λ rs.
     both (many (class_at z.classes) following 256 0) (λ ks.
-    both (many (row_at z (any_reject rs)) following z.states 0) (λ rows.
+    both (many (row_at z (some_rule_rejects rs)) following z.states 0) (λ rows.
     many (slot_at z (bases_of rows)) following z.slots 0))))
 
 reads_body : (v : ℕ) (z : Sizes) → AreSizes z → IsReader body_text (IsBody v z) (body_at v z)
 reads_body v z ok =
-    let rows_low : z.states < 4294967296 = let le = ok.states in omega arith in
-    let slots_low : z.slots < 4294967296 = let le = ok.slots in omega arith in
+    let rows_low : z.states < 4294967296 = let le = ok.states.1 in omega arith in
+    let slots_low : z.slots < 4294967296 = let le = ok.slots.1 in omega arith in
     let rules_low : z.rules < 4294967296 = let le = ok.rules in omega arith in
-    let classes_low : z.classes ≤ 256 = ok.classes in
-    let conditions_low : z.conditions ≤ 256 = let le = ok.conditions in omega arith in
+    let classes_low : z.classes ≤ 256 = ok.classes.1 in
+    let conditions_low : z.conditions ≤ 256 = let le = ok.conditions.1 in omega arith in
     reads_both (flat_map condition_text) (λ xs. (length xs ≡ z.conditions) × Each (IsCondition z) 0 xs) _
-    (λ cs (p : List Rule × (List ℕ × (List Row × List Slot))). flat_map rule_text p.0 ++ (flat_map byte p.1.0 ++ (flat_map row_text p.1.1.0 ++ flat_map slot_text p.1.1.1)))
-    (λ cs p. (((length p.0 ≡ z.rules) × Each (IsRule z) 0 p.0) × (version_of p.0 ≡ v)) × (((length p.1.0 ≡ 256) × Each (λ b k. k < z.classes) 0 p.1.0) × (((length p.1.1.0 ≡ z.states) × Each (IsRow z (any_reject p.0)) 0 p.1.1.0) × ((length p.1.1.1 ≡ z.slots) × Each (IsSlot z (bases_of p.1.1.0)) 0 p.1.1.1)))) _
+    (λ cs (p : List RuleOfTable × (List ℕ × (List Row × List Slot))). flat_map rule_text p.0 ++ (flat_map byte p.1.0 ++ (flat_map row_text p.1.1.0 ++ flat_map slot_text p.1.1.1)))
+    (λ cs p. (((length p.0 ≡ z.rules) × Each (IsTableRule z) 0 p.0) × (version_of p.0 ≡ v)) × (((length p.1.0 ≡ 256) × Each (λ b k. k < z.classes) 0 p.1.0) × (((length p.1.1.0 ≡ z.states) × Each (IsRow z (some_rule_rejects p.0)) 0 p.1.1.0) × ((length p.1.1.1 ≡ z.slots) × Each (IsSlot z (bases_of p.1.1.0)) 0 p.1.1.1)))) _
     (reads_places condition_text (IsCondition z) (λ i. condition_at z.states) (λ i. reads_condition z i rows_low) z.conditions)
     (λ cs l.
-    reads_both (flat_map rule_text) (λ xs. ((length xs ≡ z.rules) × Each (IsRule z) 0 xs) × (version_of xs ≡ v)) _
+    reads_both (flat_map rule_text) (λ xs. ((length xs ≡ z.rules) × Each (IsTableRule z) 0 xs) × (version_of xs ≡ v)) _
     (λ rs (p : List ℕ × (List Row × List Slot)). flat_map byte p.0 ++ (flat_map row_text p.1.0 ++ flat_map slot_text p.1.1))
-    (λ rs p. ((length p.0 ≡ 256) × Each (λ b k. k < z.classes) 0 p.0) × (((length p.1.0 ≡ z.states) × Each (IsRow z (any_reject rs)) 0 p.1.0) × ((length p.1.1 ≡ z.slots) × Each (IsSlot z (bases_of p.1.0)) 0 p.1.1))) _
-    (reads_if (flat_map rule_text) (λ xs. (length xs ≡ z.rules) × Each (IsRuleBy z (v == 2)) 0 xs) (λ xs. ((length xs ≡ z.rules) × Each (IsRule z) 0 xs) × (version_of xs ≡ v)) (λ rs. version_of rs == v) _
+    (λ rs p. ((length p.0 ≡ 256) × Each (λ b k. k < z.classes) 0 p.0) × (((length p.1.0 ≡ z.states) × Each (IsRow z (some_rule_rejects rs)) 0 p.1.0) × ((length p.1.1 ≡ z.slots) × Each (IsSlot z (bases_of p.1.0)) 0 p.1.1))) _
+    (reads_if (flat_map rule_text) (λ xs. (length xs ≡ z.rules) × Each (IsRuleBy z (v == 2)) 0 xs) (λ xs. ((length xs ≡ z.rules) × Each (IsTableRule z) 0 xs) × (version_of xs ≡ v)) (λ rs. version_of rs == v) _
     (reads_places rule_text (IsRuleBy z (v == 2)) (λ i. rule_at z.conditions (v == 2)) (λ i. reads_rule z (v == 2) i conditions_low) z.rules)
     (λ rs l e. ((l.0, by_each z (v == 2) 0 rs l.1), tag_is _ v e)) (λ rs l. (rw l.1 (same_tag v), (l.0.0, each_by z (v == 2) 0 rs (none_needed (any_stack rs) v l.1) l.0.1))))
     (λ rs l.
     reads_both (flat_map byte) (λ xs. (length xs ≡ 256) × Each (λ b k. k < z.classes) 0 xs) _
     (λ ks (p : List Row × List Slot). flat_map row_text p.0 ++ flat_map slot_text p.1)
-    (λ ks p. ((length p.0 ≡ z.states) × Each (IsRow z (any_reject rs)) 0 p.0) × ((length p.1 ≡ z.slots) × Each (IsSlot z (bases_of p.0)) 0 p.1)) _
+    (λ ks p. ((length p.0 ≡ z.states) × Each (IsRow z (some_rule_rejects rs)) 0 p.0) × ((length p.1 ≡ z.slots) × Each (IsSlot z (bases_of p.0)) 0 p.1)) _
     (reads_places byte (λ b k. k < z.classes) (class_at z.classes) (λ i. reads_byte_below z.classes classes_low) 256)
     (λ ks l.
-    reads_both (flat_map row_text) (λ xs. (length xs ≡ z.states) × Each (IsRow z (any_reject rs)) 0 xs) _
+    reads_both (flat_map row_text) (λ xs. (length xs ≡ z.states) × Each (IsRow z (some_rule_rejects rs)) 0 xs) _
     (λ rows. flat_map slot_text) (λ rows xs. (length xs ≡ z.slots) × Each (IsSlot z (bases_of rows)) 0 xs) _
-    (reads_places row_text (IsRow z (any_reject rs)) (row_at z (any_reject rs)) (λ i. reads_row z (any_reject rs) i rows_low slots_low rules_low) z.states)
-    (λ rows l. reads_places slot_text (IsSlot z (bases_of rows)) (slot_at z (bases_of rows)) (λ i. reads_slot z (bases_of rows) i ok.some_state rows_low) z.slots))))
+    (reads_places row_text (IsRow z (some_rule_rejects rs)) (row_at z (some_rule_rejects rs)) (λ i. reads_row z (some_rule_rejects rs) i rows_low slots_low rules_low) z.states)
+    (λ rows l. reads_places slot_text (IsSlot z (bases_of rows)) (slot_at z (bases_of rows)) (λ i. reads_slot z (bases_of rows) i ok.states.0 rows_low) z.slots))))
   where
     same_tag : (v : ℕ) → (v == v) ≡ true
     same_tag v = grind (arith, nat_tests)

@@ -3,7 +3,7 @@ use Rattle.std.specs.Prelude.{◌≡◌, ℕ, Bool, true, false, if◌then◌els
 use Rattle.std.specs.Int.{w16, w32, to_be_bytes}
 use Rattle.std.specs.List.{flat_map, list_any}
 use Rattle.lex_semantics.specs.Spec.{Statement, Echo, Print, Begin, More, Less, Reject, End, Push, Pop, EndAction, Cut, Whole, Head, Trail}
-use Rattle.lextab_packed.specs.Table.{Condition, Rule, Row, Slot, Table}
+use Rattle.lextab_packed.specs.Table.{ConditionOfTable, RuleOfTable, Row, Slot, Table}
 use Rattle.lextab_packed.specs.Checks.{Sizes, sizes_of, IsTable}
 
 -- two and four bytes
@@ -41,10 +41,10 @@ statement_text Pop = byte 8
 abbrev pub end_text : EndAction → List ℕ
 end_text e = string e.print ++ byte e.status
 
-abbrev pub condition_text : Condition → List ℕ
+abbrev pub condition_text : ConditionOfTable → List ℕ
 condition_text c = long c.start ++ (long c.line_start ++ end_text c.end)
 
-abbrev pub rule_text : Rule → List ℕ
+abbrev pub rule_text : RuleOfTable → List ℕ
 rule_text r = cut_text r.cut ++ (long (length r.statements) ++ flat_map statement_text r.statements)
 
 abbrev pub row_text : Row → List ℕ
@@ -66,11 +66,11 @@ is_stack _ = false
 abbrev pub has_stack : List Statement → Bool
 has_stack ss = list_any is_stack ss
 
-abbrev pub any_stack : List Rule → Bool
+abbrev pub any_stack : List RuleOfTable → Bool
 any_stack rs = list_any (λ r. has_stack r.statements) rs
 
 -- the version that these rules need: 2 where one has a statement of the stack
-abbrev pub version_of : List Rule → ℕ
+abbrev pub version_of : List RuleOfTable → ℕ
 version_of rules = if any_stack rules then 2 else 1
 
 abbrev pub sizes_text : Sizes → List ℕ

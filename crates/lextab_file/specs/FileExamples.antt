@@ -1,15 +1,15 @@
 -- Worked examples of table files, byte for byte.
 use Rattle.std.specs.Prelude.{◌≡◌, ℕ, List, [], ◌∷◌, ◌++◌, length, replicate}
 use Rattle.lex_semantics.specs.Spec.{Statement, Echo, Print, Push, Pop, Whole}
-use Rattle.lextab_packed.specs.Table.{Condition, Rule, Row, Slot, Table}
+use Rattle.lextab_packed.specs.Table.{ConditionOfTable, RuleOfTable, Row, Slot, Table}
 use Rattle.lextab_file.specs.File.{file_of}
 
 -- a condition whose end does nothing, where matches start in this state
-abbrev pub plain_condition : ℕ → Condition
+abbrev pub plain_condition : ℕ → ConditionOfTable
 plain_condition start = record { start = start; line_start = start; end = record { print = []; status = 0 } }
 
 -- a rule whose text is the whole match
-abbrev pub whole_rule : List Statement → Rule
+abbrev pub whole_rule : List Statement → RuleOfTable
 whole_rule statements = record { cut = Whole; statements = statements }
 
 -- the classes of the bytes by the letters `f`, `i`, the other ones, and all else

@@ -2,8 +2,8 @@
 use Rattle.std.specs.Prelude.{ℕ, zero, suc, ◌+◌, ◌-◌, Bool, true, false, not, ◌&&◌, ◌||◌, cond, if◌then◌else◌, nat_lt, nat_le, ◌==◌, List, [], ◌∷◌, length, take, drop, Option, Some, None, slice_index}
 use Rattle.std.specs.Int.{Width, w16, w32, byte_len, from_be_bytes}
 use Rattle.lex_semantics.specs.Spec.{Statement, Echo, Print, Begin, More, Less, Reject, End, Push, Pop, EndAction, Cut, Whole, Head, Trail}
-use Rattle.lextab_packed.specs.Table.{Condition, Rule, Row, Slot, Table}
-use Rattle.lextab_packed.specs.Checks.{Sizes, any_reject, bases_of}
+use Rattle.lextab_packed.specs.Table.{ConditionOfTable, RuleOfTable, Row, Slot, Table}
+use Rattle.lextab_packed.specs.Checks.{Sizes, some_rule_rejects, bases_of}
 use Rattle.lextab_file.specs.File.{version_of}
 use Rattle.lextab_file.specs.Seen.{Seen, unseen, seen_after, following}
 use Rattle.lex_semantics.specs.Limits.{max_conditions, max_rules, max_states, max_classes, max_slots, max_literal_bytes, max_status, max_fixed_length, max_statements}
@@ -77,10 +77,10 @@ end_from p = record { print = p.0; status = p.1 }
 unfoldable pub end_at : List ℕ → Option (EndAction × List ℕ)
 end_at = seen_as end_from (both (string_at 0 max_literal_bytes) (λ p. only_if (below (max_status + 1)) byte_at))
 
-abbrev pub condition_from : ℕ × (ℕ × EndAction) → Condition
+abbrev pub condition_from : ℕ × (ℕ × EndAction) → ConditionOfTable
 condition_from p = record { start = p.0; line_start = p.1.0; end = p.1.1 }
 
-unfoldable pub condition_at : ℕ → List ℕ → Option (Condition × List ℕ)
+unfoldable pub condition_at : ℕ → List ℕ → Option (ConditionOfTable × List ℕ)
 condition_at states = seen_as condition_from (both (only_if (below states) (number_at w32)) (λ s. both (only_if (below states) (number_at w32)) (λ l. end_at)))
 
 -- ---- rules
@@ -130,10 +130,10 @@ statement_at conditions s bytes = byte_at bytes >>= λ k. if bars s k.0 then Non
 abbrev pub statements_at : ℕ → Bool → List ℕ → Option (List Statement × List ℕ)
 statements_at conditions stack = seen_as (λ p. p.1) (both (long_at 0 max_statements) (λ n. many (statement_at conditions) seen_after n (unseen stack n)))
 
-abbrev pub rule_from : Cut × List Statement → Rule
+abbrev pub rule_from : Cut × List Statement → RuleOfTable
 rule_from p = record { cut = p.0; statements = p.1 }
 
-unfoldable pub rule_at : ℕ → Bool → List ℕ → Option (Rule × List ℕ)
+unfoldable pub rule_at : ℕ → Bool → List ℕ → Option (RuleOfTable × List ℕ)
 rule_at conditions stack = seen_as rule_from (both cut_at (λ c. statements_at conditions stack))
 
 -- ---- classes
@@ -181,7 +181,7 @@ slot_at z bases i = seen_as slot_from (both (only_if (good_check z bases i) (num
 -- ---- the whole
 
 abbrev pub Parts : Type 0
-Parts = List ℕ × (ℕ × (Sizes × (List Condition × (List Rule × (List ℕ × (List Row × List Slot))))))
+Parts = List ℕ × (ℕ × (Sizes × (List ConditionOfTable × (List RuleOfTable × (List ℕ × (List Row × List Slot))))))
 
 abbrev pub table_from : Parts → Table
 table_from p = record { conditions = p.1.1.1.0; rules = p.1.1.1.1.0; classes = p.1.1.0.classes; class_of = p.1.1.1.1.1.0; rows = p.1.1.1.1.1.1.0; slots = p.1.1.1.1.1.1.1 }
@@ -191,5 +191,5 @@ table_at = seen_as table_from (both (only_if is_magic (bytes_at 6)) (λ m. both 
     both (many (λ i. condition_at z.states) following z.conditions 0) (λ cs.
     both (only_if (λ rs. version_of rs == v) (many (λ i. rule_at z.conditions (v == 2)) following z.rules 0)) (λ rs.
     both (many (class_at z.classes) following 256 0) (λ ks.
-    both (many (row_at z (any_reject rs)) following z.states 0) (λ rows.
+    both (many (row_at z (some_rule_rejects rs)) following z.states 0) (λ rows.
     many (slot_at z (bases_of rows)) following z.slots 0))))))))

@@ -3,7 +3,7 @@ ghost use Rattle.std.specs.Prelude.{◌≡◌, ◌<◌, ℕ, List, length, map, 
 ghost use Rattle.lextab_packed.specs.Table.{Table};
 ghost use Rattle.lextab_packed.specs.Checks.{IsTable};
 ghost use Rattle.lextab_packed.specs.Invariant.{GoesOn};
-ghost use Rattle.lextab_packed.specs.Machines.{parts_of};
+ghost use Rattle.lextab_packed.specs.Machines.{table_parts};
 ghost use Rattle.lextab_packed.specs.Views.{table_of};
 ghost use Rattle.lextab_file.specs.File.{file_of, IsFileOf};
 ghost use Rattle.lextab_file.specs.Refusals.{is_out_of_memory, is_trailing};
@@ -41,7 +41,7 @@ fn going_on(alloc: Global, parts: &TableParts) -> Result<Vec<bool>, AllocError>
 /// A field that is cut short is `Truncated`, and bytes after the table are `TrailingBytes`.
 pub fn read_tables(alloc: Global, bytes: &[u8]) -> Result<Tables, TableError>
     // The bytes are the table's file.
-    ensures found { IfOk result (λ tables. IsFileOf (table_of (parts_of tables)) bytes.now) }
+    ensures found { IfOk result (λ tables. IsFileOf (table_of (table_parts tables)) bytes.now) }
     // Unless memory ran out, the bytes are no table's file.
     ensures none { IfErr result (λ e. is_out_of_memory e ≡ false → (t : Table) → IsFileOf t bytes.now → ⊥) }
     // A proper prefix of the bytes is a table's file.

@@ -2,7 +2,7 @@
 ghost use Rattle.std.specs.Prelude.{◌≡◌, ℕ, ◌+◌, ◌-◌, ◌^◌, ◌<◌, ◌≤◌, ◌++◌, length};
 ghost use Rattle.lex_io.specs.Sink.{Appended, fault_count};
 ghost use Rattle.lextab_packed.specs.Checks.{Sizes, sizes_of};
-ghost use Rattle.lextab_packed.specs.Machines.{parts_of};
+ghost use Rattle.lextab_packed.specs.Machines.{table_parts};
 ghost use Rattle.lextab_packed.specs.Views.{table_of, slots_of};
 ghost use Rattle.lextab_file.specs.File.{magic, short, version_of, sizes_text, file_of};
 ghost use Rattle.lextab_file.specs.Fitting.{FitsParts};
@@ -62,7 +62,7 @@ fn put_parts<K: Sink>(sink: &mut K, parts: &TableParts) -> Result<(), WriteFault
 /// Writes the file of a table. After a fault a prefix of it was written. It takes no memory.
 pub fn write_tables<K: Sink>(tables: &Tables, sink: &mut K) -> Result<(), WriteFault>
     requires few { K.failures sink.old < 2 ^ 64 - 1 }
-    ensures bytes { Appended (λ xs. K.wrote sink.old xs sink.new) (file_of (table_of (parts_of tables.now))) result }
+    ensures bytes { Appended (λ xs. K.wrote sink.old xs sink.new) (file_of (table_of (table_parts tables.now))) result }
     ensures failures { K.failures sink.new ≡ K.failures sink.old + fault_count result }
 {
     put_parts(sink, tables.parts())

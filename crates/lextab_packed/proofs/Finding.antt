@@ -1,7 +1,7 @@
 -- What a table has at a place, and what it is taken for past its end.
 use Rattle.std.specs.Prelude.{ℕ, Bool, cond, List, [], Option, option_map, unwrap_or}
 use Rattle.lex_semantics.specs.Spec.{Cut, Whole, Statement, EndAction}
-use Rattle.lextab_packed.specs.Table.{Condition, Rule, Row, Slot}
+use Rattle.lextab_packed.specs.Table.{ConditionOfTable, RuleOfTable, Row, Slot}
 
 abbrev pub no_row : Row
 no_row = record { default_target = 0; base = 0; rules = [] }
@@ -9,14 +9,14 @@ no_row = record { default_target = 0; base = 0; rules = [] }
 abbrev pub no_slot : Slot
 no_slot = record { check = 0; next = 0 }
 
-abbrev pub start_at : Option Condition → Bool → ℕ
+abbrev pub start_at : Option ConditionOfTable → Bool → ℕ
 start_at o line_start = unwrap_or (option_map (λ k. cond line_start k.line_start k.start) o) 0
 
-abbrev pub cut_at : Option Rule → Cut
+abbrev pub cut_at : Option RuleOfTable → Cut
 cut_at o = unwrap_or (option_map (λ r. r.cut) o) Whole
 
-abbrev pub statements_at : Option Rule → List Statement
+abbrev pub statements_at : Option RuleOfTable → List Statement
 statements_at o = unwrap_or (option_map (λ r. r.statements) o) []
 
-abbrev pub ending_at : Option Condition → EndAction
+abbrev pub ending_at : Option ConditionOfTable → EndAction
 ending_at o = unwrap_or (option_map (λ k. k.end) o) (record { print = []; status = 0 })

@@ -9,7 +9,7 @@ use Rattle.lextab_packed.specs.declared.kinds.Kind.{Kind}
 use Rattle.lextab_packed.specs.declared.kinds.Kind.TheVariants.{Any, NoRule, Silent, Echo, Print, Begin, Several}
 use Rattle.lextab_packed.specs.Steps.{step_of}
 use Rattle.lextab_packed.specs.Views.{table_of, row_of}
-use Rattle.lextab_packed.specs.Machines.{machine_of, states_of}
+use Rattle.lextab_packed.specs.Machines.{table_machine, states_of}
 use Rattle.lextab_packed.proofs.Ways.{walk_more, asked_more, Asked}
 
 stop_least : (k : Kind) → 2147483648 ≤ stop_of k
@@ -41,12 +41,12 @@ state_in (Several rule) t r e low = omega (arith, e, low)
 
 module _ (t : Tables) where
   pub few_states : states_of t ≤ 8192
-  few_states = let s = t.lawful.sizes.states in omega (arith, s, length-map t.parts.rows.items row_of)
+  few_states = let s = t.lawful.sizes.states.1 in omega (arith, s, length-map t.parts.rows.items row_of)
 
   -- a step from the state after some bytes
-  module _ (first n : ℕ) (bytes : List ℕ) (lt : n < length bytes) (small : get_or bytes n 0 < 256) (known : walk (machine_of t) first (take n bytes) < states_of t) where
+  module _ (first n : ℕ) (bytes : List ℕ) (lt : n < length bytes) (small : get_or bytes n 0 < 256) (known : walk (table_machine t) first (take n bytes) < states_of t) where
     abbrev M : Machine
-    M = machine_of t
+    M = table_machine t
 
     abbrev s : ℕ
     s = walk M first (take n bytes)

@@ -6,7 +6,7 @@ use Rattle.lex_semantics.specs.Text.{Among}
 use Rattle.lex_semantics.specs.Machine.{Machine, walk}
 use Rattle.lex_semantics.specs.MachineLaws.{LeadsToAccept}
 use Rattle.lextab_packed.specs.Table.{Table, Row, Slot}
-use Rattle.lextab_packed.specs.Checks.{Each, Sizes, sizes_of, bases_of, any_reject, IsRow, IsSlot, IsTable}
+use Rattle.lextab_packed.specs.Checks.{Each, Sizes, sizes_of, bases_of, some_rule_rejects, IsRow, IsSlot, IsTable}
 use Rattle.lextab_packed.specs.Steps.{row_in, slot_in, target, step_of, accepted_in, machine_of_table}
 use Rattle.lextab_packed.proofs.Finding.{no_row, no_slot}
 
@@ -55,8 +55,8 @@ zero_or_zero true x h = h refl
 zero_or_zero false x h = refl
 
 module _ (t : Table) (ok : IsTable t) where
-  pub row_is : (s : ℕ) → s < length t.rows → IsRow (sizes_of t) (any_reject t.rules) s (row_in t s)
-  row_is s lt = each_at (IsRow (sizes_of t) (any_reject t.rules)) t.rows s no_row ok.rows lt
+  pub row_is : (s : ℕ) → s < length t.rows → IsRow (sizes_of t) (some_rule_rejects t.rules) s (row_in t s)
+  row_is s lt = each_at (IsRow (sizes_of t) (some_rule_rejects t.rules)) t.rows s no_row ok.rows lt
 
   slot_is : (i : ℕ) → i < length t.slots → IsSlot (sizes_of t) (bases_of t.rows) i (slice_index_or t.slots i no_slot)
   slot_is i lt = each_at (IsSlot (sizes_of t) (bases_of t.rows)) t.slots i no_slot ok.slots lt
@@ -74,7 +74,7 @@ module _ (t : Table) (ok : IsTable t) where
 
   -- states stay in range
   pub step_below : (s b : ℕ) → step_of t s b < length t.rows
-  step_below s b = in_range_or_zero (nat_lt s (length t.rows) && nat_lt b 256) (target (row_in t s) (slot_in t s b) s) (length t.rows) ok.sizes.some_state
+  step_below s b = in_range_or_zero (nat_lt s (length t.rows) && nat_lt b 256) (target (row_in t s) (slot_in t s b) s) (length t.rows) ok.sizes.states.0
       (λ e. let p = and_parts (nat_lt s (length t.rows)) (nat_lt b 256) e in target_in s b (ltb-true s (length t.rows) p.0) (ltb-true b 256 p.1))
 
   -- the dead state stays dead
@@ -83,10 +83,10 @@ module _ (t : Table) (ok : IsTable t) where
       let p = and_parts (nat_lt 0 (length t.rows)) (nat_lt b 256) e in
       let h = ltb-true 0 (length t.rows) p.0 in let k = ltb-true b 256 p.1 in
       let i = (row_in t 0).base + slice_index t.class_of b in
-      dead_slot (sizes_of t) (bases_of t.rows) i (row_in t 0).default_target (slot_in t 0 b) ((row_is 0 h).dead_otherwise refl) (slot_is i (place_below 0 b h k)) ((slot_in t 0 b).check == 0) refl)
+      dead_slot (sizes_of t) (bases_of t.rows) i (row_in t 0).default_target (slot_in t 0 b) ((row_is 0 h).dead refl).0 (slot_is i (place_below 0 b h k)) ((slot_in t 0 b).check == 0) refl)
 
   pub dead_accepts : accepted_in t 0 ≡ []
-  dead_accepts = (row_is 0 ok.sizes.some_state).dead_rules refl
+  dead_accepts = ((row_is 0 ok.sizes.states.0).dead refl).2
 
   -- a step of a state of the table, by a byte
   pub step_is : (s b : ℕ) → s < length t.rows → b < 256 → step_of t s b ≡ target (row_in t s) (slot_in t s b) s

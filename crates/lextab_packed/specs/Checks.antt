@@ -6,7 +6,7 @@ use Rattle.lex_semantics.specs.Text.{IsText, Ascending, Among}
 use Rattle.lex_semantics.specs.Spec.{Cut, Whole, Head, Trail, has_reject}
 use Rattle.lex_semantics.specs.Legal.{IsLegal}
 pub use Rattle.lex_machine.specs.Literals.{Each, HasText, literal_bytes}
-use Rattle.lextab_packed.specs.Table.{Condition, Rule, Row, Slot, Table}
+use Rattle.lextab_packed.specs.Table.{ConditionOfTable, RuleOfTable, Row, Slot, Table}
 
 -- how many there are of each kind
 pub record Sizes : Type 0 where
@@ -20,38 +20,34 @@ abbrev pub sizes_of : Table → Sizes
 sizes_of t = record { conditions = length t.conditions; rules = length t.rules; states = length t.rows; classes = t.classes; slots = length t.slots }
 
 pub record AreSizes (z : Sizes) : Type 0 where
-  pub some_condition : 1 ≤ z.conditions
-  pub conditions : z.conditions ≤ max_conditions
+  pub conditions : (1 ≤ z.conditions) × (z.conditions ≤ max_conditions)
   pub rules : z.rules ≤ max_rules
-  pub some_state : 1 ≤ z.states
-  pub states : z.states ≤ max_states
-  pub some_class : 1 ≤ z.classes
-  pub classes : z.classes ≤ max_classes
-  pub slots_for_each_class : z.classes ≤ z.slots
-  pub slots : z.slots ≤ max_slots
+  pub states : (1 ≤ z.states) × (z.states ≤ max_states)
+  pub classes : (1 ≤ z.classes) × (z.classes ≤ max_classes)
+  pub slots : (z.classes ≤ z.slots) × (z.slots ≤ max_slots)
 
-pub record IsCondition (z : Sizes) (i : ℕ) (c : Condition) : Type 0 where
+pub record IsCondition (z : Sizes) (i : ℕ) (c : ConditionOfTable) : Type 0 where
   pub start : c.start < z.states
   pub line_start : c.line_start < z.states
   pub print : length c.end.print ≤ max_literal_bytes
   pub bytes : IsText c.end.print
   pub status : c.end.status ≤ max_status
 
-abbrev pub IsCut : Cut → Type 0
-IsCut Whole = ⊤
-IsCut (Head n) = n ≤ max_fixed_length
-IsCut (Trail n) = n ≤ max_fixed_length
+abbrev pub IsCutInRange : Cut → Type 0
+IsCutInRange Whole = ⊤
+IsCutInRange (Head n) = n ≤ max_fixed_length
+IsCutInRange (Trail n) = n ≤ max_fixed_length
 
 -- a legal action in normal form, of at most 256 statements and 4,096 literal bytes
-pub record IsRule (z : Sizes) (i : ℕ) (r : Rule) : Type 0 where
-  pub cut : IsCut r.cut
+pub record IsTableRule (z : Sizes) (i : ℕ) (r : RuleOfTable) : Type 0 where
+  pub cut : IsCutInRange r.cut
   pub few : length r.statements ≤ max_statements
   pub literals : sum_by literal_bytes r.statements ≤ max_literal_bytes
   pub legal : IsLegal z.conditions r.statements
   pub bytes : Each HasText 0 r.statements
 
-abbrev pub any_reject : List Rule → Bool
-any_reject rs = list_any (λ r. has_reject r.statements) rs
+abbrev pub some_rule_rejects : List RuleOfTable → Bool
+some_rule_rejects rs = list_any (λ r. has_reject r.statements) rs
 
 -- the row of state s, where some rule has REJECT or none has: then a state accepts at most one
 pub record IsRow (z : Sizes) (rejects : Bool) (s : ℕ) (r : Row) : Type 0 where
@@ -61,9 +57,7 @@ pub record IsRow (z : Sizes) (rejects : Bool) (s : ℕ) (r : Row) : Type 0 where
   pub ascending : Ascending r.rules
   pub first_alone : rejects ≡ false → length r.rules ≤ 1
   -- state 0 is dead
-  pub dead_otherwise : s ≡ 0 → r.default_target ≡ 0
-  pub dead_base : s ≡ 0 → r.base ≡ 0
-  pub dead_rules : s ≡ 0 → r.rules ≡ []
+  pub dead : s ≡ 0 → (r.default_target ≡ 0) × (r.base ≡ 0) × (r.rules ≡ [])
 
 abbrev pub bases_of : List Row → List ℕ
 bases_of rows = map (λ r. r.base) rows
@@ -79,8 +73,8 @@ pub record IsSlot (z : Sizes) (bases : List ℕ) (i : ℕ) (s : Slot) : Type 0 w
 pub record IsTable (t : Table) : Type 0 where
   pub sizes : AreSizes (sizes_of t)
   pub conditions : Each (IsCondition (sizes_of t)) 0 t.conditions
-  pub rules : Each (IsRule (sizes_of t)) 0 t.rules
+  pub rules : Each (IsTableRule (sizes_of t)) 0 t.rules
   pub bytes : length t.class_of ≡ 256
   pub class_of : Each (λ b k. k < t.classes) 0 t.class_of
-  pub rows : Each (IsRow (sizes_of t) (any_reject t.rules)) 0 t.rows
+  pub rows : Each (IsRow (sizes_of t) (some_rule_rejects t.rules)) 0 t.rows
   pub slots : Each (IsSlot (sizes_of t) (bases_of t.rows)) 0 t.slots

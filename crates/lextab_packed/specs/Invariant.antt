@@ -7,8 +7,8 @@ use Rattle.lex_semantics.specs.Text.{IsText, Ascending, flag}
 use Rattle.lex_semantics.specs.Spec.{Statement, Echo, Print, Begin, More, Less, Reject, End, Push, Pop, Cut, Whole, Head, Trail}
 use Rattle.lex_semantics.specs.Legal.{IsLegal}
 use Rattle.lex_semantics.specs.MachineLaws.{LeadsToAccept}
-use Rattle.lextab_packed.specs.Table.{Condition, Rule, Row, Slot, Table}
-use Rattle.lextab_packed.specs.Checks.{Each, Sizes, sizes_of, AreSizes, IsCondition, IsCut, HasText, IsRule, IsRow, IsSlot, IsTable, any_reject, bases_of}
+use Rattle.lextab_packed.specs.Table.{ConditionOfTable, RuleOfTable, Row, Slot, Table}
+use Rattle.lextab_packed.specs.Checks.{Each, Sizes, sizes_of, AreSizes, IsCondition, IsCutInRange, HasText, IsTableRule, IsRow, IsSlot, IsTable, some_rule_rejects, bases_of}
 use Rattle.lextab_packed.specs.Steps.{machine_of_table}
 
 -- the flags tell which states go on: those from which a text leads to one that accepts a rule
@@ -28,7 +28,7 @@ IsText-prop : (bs : List ℕ) → IsProp (IsText bs)
 IsText-prop [] = Unit-prop
 IsText-prop (b ∷ bs) = ×_prop le_prop (IsText-prop bs)
 
-IsCut-prop : (c : Cut) → IsProp (IsCut c)
+IsCut-prop : (c : Cut) → IsProp (IsCutInRange c)
 IsCut-prop Whole = Unit-prop
 IsCut-prop (Head n) = le_prop
 IsCut-prop (Trail n) = le_prop
@@ -44,7 +44,7 @@ HasText-prop i (End n) = Unit-prop
 HasText-prop i (Push c) = Unit-prop
 HasText-prop i Pop = Unit-prop
 
-IsCondition-prop : (z : Sizes) (i : ℕ) (c : Condition) → IsProp (IsCondition z i c)
+IsCondition-prop : (z : Sizes) (i : ℕ) (c : ConditionOfTable) → IsProp (IsCondition z i c)
 IsCondition-prop z i c x y = λ k. record {
   start = le_prop x.start y.start k;
   line_start = le_prop x.line_start y.line_start k;
@@ -53,7 +53,7 @@ IsCondition-prop z i c x y = λ k. record {
   status = le_prop x.status y.status k;
 }
 
-IsRule-prop : (z : Sizes) (i : ℕ) (r : Rule) → IsProp (IsRule z i r)
+IsRule-prop : (z : Sizes) (i : ℕ) (r : RuleOfTable) → IsProp (IsTableRule z i r)
 IsRule-prop z i r x y = λ k. record {
   cut = IsCut-prop r.cut x.cut y.cut k;
   few = le_prop x.few y.few k;
@@ -69,9 +69,7 @@ IsRow-prop z rejects s r x y = λ k. record {
   rules = λ i a. le_prop (x.rules i a) (y.rules i a) k;
   ascending = Ascending-prop r.rules x.ascending y.ascending k;
   first_alone = λ e. le_prop (x.first_alone e) (y.first_alone e) k;
-  dead_otherwise = λ e. (let p : IsProp (r.default_target ≡ 0) = Prim.hlevel props in p) (x.dead_otherwise e) (y.dead_otherwise e) k;
-  dead_base = λ e. (let p : IsProp (r.base ≡ 0) = Prim.hlevel props in p) (x.dead_base e) (y.dead_base e) k;
-  dead_rules = λ e. (let p : IsProp (r.rules ≡ []) = Prim.hlevel props in p) (x.dead_rules e) (y.dead_rules e) k;
+  dead = λ e. (let p : IsProp ((r.default_target ≡ 0) × (r.base ≡ 0) × (r.rules ≡ [])) = Prim.hlevel props in p) (x.dead e) (y.dead e) k;
 }
 
 IsSlot-prop : (z : Sizes) (bases : List ℕ) (i : ℕ) (s : Slot) → IsProp (IsSlot z bases i s)
@@ -87,10 +85,10 @@ pub IsTable-prop : (t : Table) → IsProp (IsTable t)
 IsTable-prop t x y = λ k. record {
   sizes = (let p : IsProp (AreSizes (sizes_of t)) = Prim.hlevel props in p) x.sizes y.sizes k;
   conditions = Each-prop (IsCondition (sizes_of t)) (IsCondition-prop (sizes_of t)) 0 t.conditions x.conditions y.conditions k;
-  rules = Each-prop (IsRule (sizes_of t)) (IsRule-prop (sizes_of t)) 0 t.rules x.rules y.rules k;
+  rules = Each-prop (IsTableRule (sizes_of t)) (IsRule-prop (sizes_of t)) 0 t.rules x.rules y.rules k;
   bytes = (let p : IsProp (length t.class_of ≡ 256) = Prim.hlevel props in p) x.bytes y.bytes k;
   class_of = Each-prop (λ b c. c < t.classes) (λ b c. le_prop) 0 t.class_of x.class_of y.class_of k;
-  rows = Each-prop (IsRow (sizes_of t) (any_reject t.rules)) (IsRow-prop (sizes_of t) (any_reject t.rules)) 0 t.rows x.rows y.rows k;
+  rows = Each-prop (IsRow (sizes_of t) (some_rule_rejects t.rules)) (IsRow-prop (sizes_of t) (some_rule_rejects t.rules)) 0 t.rows x.rows y.rows k;
   slots = Each-prop (IsSlot (sizes_of t) (bases_of t.rows)) (IsSlot-prop (sizes_of t) (bases_of t.rows)) 0 t.slots x.slots y.slots k;
 }
 

@@ -2,27 +2,27 @@
 use Rattle.std.specs.Prelude.{ℕ, Bool, List, length}
 use Rattle.lex_semantics.specs.Machine.{Machine}
 use Rattle.lex_semantics.specs.MachineLaws.{MachineLaws, StaysBelow}
-use Rattle.lextab_packed.specs.Views.{machine_in}
+use Rattle.lextab_packed.specs.Views.{machine_of_parts}
 use Rattle.lextab_packed.specs.declared.parts.TableParts.{TableParts}
 use Rattle.lextab_packed.specs.declared.tables.Tables.{Tables}
 
 -- the parts of which they are made
-abbrev pub parts_of : Tables → TableParts
-parts_of t = t.parts
+abbrev pub table_parts : Tables → TableParts
+table_parts t = t.parts
 
 -- the flags that say which states go on
 abbrev pub flags_of : Tables → List Bool
 flags_of t = t.goes_on.items
 
-abbrev pub machine_of : Tables → Machine
-machine_of t = machine_in t.parts t.goes_on.items
+abbrev pub table_machine : Tables → Machine
+table_machine t = machine_of_parts t.parts t.goes_on.items
 
 abbrev pub states_of : Tables → ℕ
 states_of t = length t.parts.rows.items
 
 -- what the type keeps: the machine keeps its laws, and stays below the count of states
-abbrev pub laws_of : (t : Tables) → MachineLaws (machine_of t)
+abbrev pub laws_of : (t : Tables) → MachineLaws (table_machine t)
 laws_of t = t.laws
 
-abbrev pub below_of : (t : Tables) → StaysBelow (machine_of t) (states_of t)
+abbrev pub below_of : (t : Tables) → StaysBelow (table_machine t) (states_of t)
 below_of t = t.below

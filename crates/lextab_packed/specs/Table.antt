@@ -3,12 +3,12 @@ use Rattle.std.specs.Prelude.{ℕ, List}
 use Rattle.lex_semantics.specs.Spec.{Statement, EndAction, Cut}
 
 -- where matches start in a condition, not at and at the start of a line, and what its end does
-pub record Condition : Type 0 where
+pub record ConditionOfTable : Type 0 where
   pub start : ℕ
   pub line_start : ℕ
   pub end : EndAction
 
-pub record Rule : Type 0 where
+pub record RuleOfTable : Type 0 where
   pub cut : Cut
   pub statements : List Statement
 
@@ -24,8 +24,8 @@ pub record Slot : Type 0 where
   pub next : ℕ
 
 pub record Table : Type 0 where
-  pub conditions : List Condition
-  pub rules : List Rule
+  pub conditions : List ConditionOfTable
+  pub rules : List RuleOfTable
   -- how many byte classes there are, and the class of each byte
   pub classes : ℕ
   pub class_of : List ℕ

@@ -1,5 +1,5 @@
 -- What the parts of tables stand for.
-use Rattle.std.specs.Prelude.{ℕ, Bool, List, [], ◌∷◌, map}
+use Rattle.std.specs.Prelude.{ℕ, Bool, List, map, zip}
 use Rattle.lex_semantics.specs.Text.{flag}
 use Rattle.lex_semantics.specs.Machine.{Machine}
 use Rattle.lex_machine.specs.Views.{statement_of, end_action_of, cut_of}
@@ -10,10 +10,10 @@ use Rattle.lextab_packed.specs.declared.parts.TableRule.{TableRule}
 use Rattle.lextab_packed.specs.declared.parts.Row.{Row}
 use Rattle.lextab_packed.specs.declared.parts.TableParts.{TableParts}
 
-abbrev pub condition_of : TableCondition → T.Condition
+abbrev pub condition_of : TableCondition → T.ConditionOfTable
 condition_of c = record { start = c.start; line_start = c.line_start; end = end_action_of c.end }
 
-abbrev pub rule_of : TableRule → T.Rule
+abbrev pub rule_of : TableRule → T.RuleOfTable
 rule_of r = record { cut = cut_of r.cut; statements = map statement_of r.statements.items }
 
 abbrev pub row_of : Row → T.Row
@@ -21,9 +21,7 @@ row_of r = record { default_target = r.default_target; base = r.base; rules = r.
 
 -- the slots of two columns
 abbrev pub slots_of : List ℕ → List ℕ → List T.Slot
-slots_of [] nexts = []
-slots_of (c ∷ checks) [] = []
-slots_of (c ∷ checks) (n ∷ nexts) = record { check = c; next = n } ∷ slots_of checks nexts
+slots_of checks nexts = map (λ p. record { check = p.0; next = p.1 }) (zip checks nexts)
 
 abbrev pub table_of : TableParts → T.Table
 table_of p = record {
@@ -36,5 +34,5 @@ table_of p = record {
 }
 
 -- the machine of these parts, where these states go on
-abbrev pub machine_in : TableParts → List Bool → Machine
-machine_in p flags = machine_of_table (table_of p) (λ s. flag flags s)
+abbrev pub machine_of_parts : TableParts → List Bool → Machine
+machine_of_parts p flags = machine_of_table (table_of p) (λ s. flag flags s)

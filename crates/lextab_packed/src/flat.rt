@@ -9,7 +9,7 @@ ghost use Rattle.lextab_packed.specs.Runs.{IsRun};
 ghost use Rattle.lextab_packed.specs.declared.kinds.Kind.{Kind};
 ghost use Rattle.lextab_packed.specs.Steps.{step_of};
 ghost use Rattle.lextab_packed.specs.Views.{table_of};
-ghost use Rattle.lextab_packed.specs.Machines.{machine_of, states_of, laws_of, below_of};
+ghost use Rattle.lextab_packed.specs.Machines.{table_machine, states_of, laws_of, below_of};
 
 use crate::kinds::{Kind, kinds_of};
 use crate::steps::{STOP, STOP_ECHO, STOP_OTHER, STOP_SILENT, marked_rows};
@@ -27,10 +27,10 @@ pub struct Flat {
     ghost targets: { (s b : ℕ) → s < length tables.parts.rows.items → b < 256
         → slice_index rows.items (256 * s + b) ≡ marked
         (flag tables.goes_on.items (step_of (table_of tables.parts) s b))
-        (kind_of (machine_of tables) (step_of (table_of tables.parts) s b)) (step_of (table_of tables.parts) s b) },
+        (kind_of (table_machine tables) (step_of (table_of tables.parts) s b)) (step_of (table_of tables.parts) s b) },
     ghost column: { length kinds.items ≡ length tables.parts.rows.items },
     ghost told: { (s : ℕ) → s < length tables.parts.rows.items
-        → slice_get kinds.items s ≡ Some (kind_of (machine_of tables) s) },
+        → slice_get kinds.items s ≡ Some (kind_of (table_machine tables) s) },
 }
 
 impl Flat {
@@ -38,7 +38,7 @@ impl Flat {
 
     /// The same machine, by rows.
     pub fn new(alloc: Global, tables: Tables) -> Result<Flat, AllocError>
-        ensures machine { IfOk result (λ f. machine_of (tables_of f) ≡ machine_of tables) }
+        ensures machine { IfOk result (λ f. table_machine (tables_of f) ≡ table_machine tables) }
         ensures states { IfOk result (λ f. states_of (tables_of f) ≡ states_of tables) }
     {
         let kinds = kinds_of(alloc, &tables)?;
@@ -56,7 +56,7 @@ impl Flat {
         requires { (s : ℕ) × (s < states_of self.now.tables) × (place ≡ 256 * s) }
         ensures { (s : ℕ) → place ≡ 256 * s → s < states_of self.now.tables
             → result ≡ marked (flag self.now.tables.goes_on.items (step_of (table_of self.now.tables.parts) s byte))
-            (kind_of (machine_of self.now.tables) (step_of (table_of self.now.tables.parts) s byte))
+            (kind_of (table_machine self.now.tables) (step_of (table_of self.now.tables.parts) s byte))
             (step_of (table_of self.now.tables.parts) s byte) }
     {
         self.rows[place as usize + usize::from(byte)]
@@ -68,7 +68,7 @@ impl Flat {
         requires place { (s : ℕ) × (s < states_of self.now.tables) × (place ≡ 256 * s) }
         requires start { start ≤ length bytes.now }
         ensures { (s : ℕ) → place ≡ 256 * s → s < states_of self.now.tables
-            → IsRun (machine_of self.now.tables) s bytes.now start result }
+            → IsRun (table_machine self.now.tables) s bytes.now start result }
     {
         let mut end = start;
         'run: while end < bytes.len() && self.target(place, bytes[end]) == place {
@@ -81,10 +81,10 @@ impl Flat {
     #[inline(always)]
     fn gist_at(&self, target: u32) -> Gist<'_>
         requires { (s : ℕ) × (s < states_of self.now.tables)
-            × (target ≡ marked false (kind_of (machine_of self.now.tables) s) s) }
+            × (target ≡ marked false (kind_of (table_machine self.now.tables) s) s) }
         ensures { (s : ℕ) → s < states_of self.now.tables
-            → target ≡ marked false (kind_of (machine_of self.now.tables) s) s
-            → Gists (machine_of self.now.tables) s result }
+            → target ≡ marked false (kind_of (table_machine self.now.tables) s) s
+            → Gists (table_machine self.now.tables) s result }
     {
         if target < STOP_SILENT {
             Gist::NoRule
@@ -114,7 +114,7 @@ fn state_of(target: u32) -> u32
 impl Machine for Flat {
     ghost use Rattle.lextab_packed.specs.FlatViews.{tables_of};
 
-    ghost machine = { λ f. machine_of (tables_of f) };
+    ghost machine = { λ f. table_machine (tables_of f) };
 
     ghost states = { λ f. states_of (tables_of f) };
 
@@ -190,8 +190,8 @@ impl Machine for Flat {
 /// What this tells of a state's first rule.
 #[inline(always)]
 fn gist_of(tables: &Tables, kind: Kind) -> Gist<'_>
-    requires { (s : ℕ) × (kind ≡ kind_of (machine_of tables.now) s) }
-    ensures { (s : ℕ) → kind ≡ kind_of (machine_of tables.now) s → Gists (machine_of tables.now) s result }
+    requires { (s : ℕ) × (kind ≡ kind_of (table_machine tables.now) s) }
+    ensures { (s : ℕ) → kind ≡ kind_of (table_machine tables.now) s → Gists (table_machine tables.now) s result }
 {
     match kind {
         Kind::Any => Gist::Any,

@@ -1,12 +1,12 @@
 //! What packed tables tell a scanner.
-ghost use Rattle.lextab_packed.specs.Machines.{below_of, laws_of, machine_of, states_of};
+ghost use Rattle.lextab_packed.specs.Machines.{below_of, laws_of, table_machine, states_of};
 
 use crate::steps::target;
 use crate::tables::Tables;
 use lex_machine::{Cut, EndAction, Machine, Statement};
 
 impl Machine for Tables {
-    ghost machine = { λ t. machine_of t };
+    ghost machine = { λ t. table_machine t };
 
     ghost states = { λ t. states_of t };
 

@@ -3,7 +3,7 @@ ghost use Rattle.std.specs.Prelude.{◌≡◌, ℕ, ◌+◌, ◌*◌, ◌^◌, �
 ghost use Rattle.lex_semantics.specs.Limits.{max_states};
 ghost use Rattle.lex_semantics.specs.Text.{flag};
 ghost use Rattle.lextab_packed.specs.Flats.{marked, stop_of, kind_of};
-ghost use Rattle.lextab_packed.specs.Machines.{machine_of, states_of};
+ghost use Rattle.lextab_packed.specs.Machines.{table_machine, states_of};
 ghost use Rattle.lextab_packed.specs.Checks.{IsTable};
 ghost use Rattle.lextab_packed.specs.Steps.{step_of};
 ghost use Rattle.lextab_packed.specs.Views.{table_of};
@@ -88,12 +88,12 @@ pub(crate) fn marked_rows(
 ) -> Result<Vec<u32>, AllocError>
     requires kinds { length kinds.now ≡ states_of tables.now }
     requires told { (s : ℕ) → s < states_of tables.now
-        → slice_get kinds.now s ≡ Some (kind_of (machine_of tables.now) s) }
+        → slice_get kinds.now s ≡ Some (kind_of (table_machine tables.now) s) }
     ensures len { IfOk result (λ v. length v.items ≡ 256 * length tables.now.parts.rows.items) }
     ensures each { IfOk result (λ v. (s b : ℕ) → s < length tables.now.parts.rows.items → b < 256
         → slice_index v.items (256 * s + b)
         ≡ marked (flag tables.now.goes_on.items (step_of (table_of tables.now.parts) s b))
-        (kind_of (machine_of tables.now) (step_of (table_of tables.now.parts) s b))
+        (kind_of (table_machine tables.now) (step_of (table_of tables.now.parts) s b))
         (step_of (table_of tables.now.parts) s b)) }
 {
     let parts = &tables.parts;

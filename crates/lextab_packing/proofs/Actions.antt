@@ -11,14 +11,14 @@ use Rattle.lexspec_actions.specs.Actions.{are_few}
 use Rattle.lexspec.specs.Tests.{sound_tree, sound_trail, cut_fits, has_length, has_fixed, is_fixed, sound_list, legal_action, sound_rule, sound_rules, sound_end, sound_conditions}
 use Rattle.lexauto_dfa.specs.Machines as D
 use Rattle.lextab_packed.specs.Table as T
-use Rattle.lextab_packed.specs.Checks.{Each, Sizes, IsCondition, IsCut, HasText, IsRule, any_reject}
+use Rattle.lextab_packed.specs.Checks.{Each, Sizes, IsCondition, IsCutInRange, HasText, IsTableRule, some_rule_rejects}
 use Rattle.lextab_packed.proofs.Finding as T'
 use Rattle.lextab_packing.specs.Assembled.{conditions_with, action_in}
 
 fixed_small : (t : Tree) (n : ℕ) → has_fixed t n ≡ true → n ≤ 65535
 fixed_small t n h = leb-true n 65535 (and_parts (has_length t n) (nat_le n 65535) h).1
 
-cut_small : (cut : S.Cut) (head : Tree) (trail : Option Tree) → cut_fits cut head trail ≡ true → IsCut cut
+cut_small : (cut : S.Cut) (head : Tree) (trail : Option Tree) → cut_fits cut head trail ≡ true → IsCutInRange cut
 cut_small S.Whole head trail h = tt
 cut_small (S.Head m) head None h = absurd (false≢true h)
 cut_small (S.Head m) head (Some t) h = fixed_small head m h
@@ -32,7 +32,7 @@ legal_from n ss h =
     let one = and_parts (all_in_range n ss) (ends_last ss) two.0 in
     record { ranges = one.0; last = one.1; joined = two.1; compatible = three.1 }
 
-one_rule : (z : Sizes) (n i : ℕ) (r : S.Rule) → z.conditions ≡ n → sound_rule n r ≡ true → Each HasText 0 r.statements → IsRule z i (action_in r)
+one_rule : (z : Sizes) (n i : ℕ) (r : S.Rule) → z.conditions ≡ n → sound_rule n r ≡ true → Each HasText 0 r.statements → IsTableRule z i (action_in r)
 one_rule z n i r e h text =
     let five = and_parts (sound_list n r.conditions && sound_tree r.head && sound_trail r.trail && cut_fits r.cut r.head r.trail && legal_action n r.statements) (are_few r.statements) h in
     let four = and_parts (sound_list n r.conditions && sound_tree r.head && sound_trail r.trail && cut_fits r.cut r.head r.trail) (legal_action n r.statements) five.0 in
@@ -46,14 +46,14 @@ one_rule z n i r e h text =
       bytes = text;
     }
 
-pub each_rule : (z : Sizes) (n i : ℕ) (rs : List S.Rule) → z.conditions ≡ n → sound_rules n rs ≡ true → Each (λ k (r : T.Rule). Each HasText 0 r.statements) i (map action_in rs) → Each (IsRule z) i (map action_in rs)
+pub each_rule : (z : Sizes) (n i : ℕ) (rs : List S.Rule) → z.conditions ≡ n → sound_rules n rs ≡ true → Each (λ k (r : T.RuleOfTable). Each HasText 0 r.statements) i (map action_in rs) → Each (IsTableRule z) i (map action_in rs)
 each_rule z n i [] e h text = tt
 each_rule z n i (r ∷ rs) e h text =
     let both = and_parts (sound_rule n r) (sound_rules n rs) h in
     (one_rule z n i r e both.0 text.0, each_rule z n (suc i) rs e both.1 text.1)
 
 pub each_condition : (z : Sizes) (start : ℕ → Bool → ℕ) (i : ℕ) (cs : List S.Condition) → sound_conditions cs ≡ true → ((c : ℕ) (line_start : Bool) → c < i + length cs → start c line_start < z.states)
-    → Each (λ k (c : T.Condition). IsText c.end.print) i (conditions_with start i cs) → Each (IsCondition z) i (conditions_with start i cs)
+    → Each (λ k (c : T.ConditionOfTable). IsText c.end.print) i (conditions_with start i cs) → Each (IsCondition z) i (conditions_with start i cs)
 each_condition z start i [] h below text = tt
 each_condition z start i (c ∷ cs) h below text =
     let both = and_parts (sound_end c.end) (sound_conditions cs) h in
@@ -72,7 +72,7 @@ pub conditions_len : (start : ℕ → Bool → ℕ) (i : ℕ) (cs : List S.Condi
 conditions_len start i [] = refl
 conditions_len start i (c ∷ cs) = ap suc (conditions_len start (suc i) cs)
 
-pub same_reject : (rs : List S.Rule) → any_reject (map action_in rs) ≡ S.any_reject rs
+pub same_reject : (rs : List S.Rule) → some_rule_rejects (map action_in rs) ≡ S.any_reject rs
 same_reject [] = refl
 same_reject (r ∷ rs) = ap (λ (b : Bool). S.has_reject r.statements || b) (same_reject rs)
 

@@ -4,7 +4,7 @@ use Rattle.std.specs.Prelude.{◌==◌, cond, slice_index}
 use Rattle.std.proofs.lemmas.Bool.{eqb-true, cond-true, cond-false, cases_Bool}
 use Rattle.lexauto_dfa.specs.Alike.{Alike}
 use Rattle.lexauto_dfa.proofs.Below.{holds}
-use Rattle.lextab_packing.specs.Packing.{IsDefault, IsEntry, IsTaken, Fits, IsBase, IsSize, AreSlots, by_class, often}
+use Rattle.lextab_packing.specs.Packing.{IsDefault, IsEntry, IsTaken, AreFree, IsBase, IsSize, AreSlots, by_class, often}
 use Rattle.lextab_packing.specs.PackingExamples.{by_a, twice_a, TwiceA}
 
 abbrev classes : List ℕ
@@ -145,7 +145,7 @@ fits s b k lt at e t =
 base : (s : ℕ) → s < 4 → IsBase to 2 defaults bases s (slice_index bases s)
 base s lt = record { fits = λ k e t. fits s (slice_index bases s) k lt refl e t; least = least s lt }
   where
-    least : (s : ℕ) → s < 4 → (c : ℕ) → c < slice_index bases s → Fits to 2 defaults bases s c → ⊥
+    least : (s : ℕ) → s < 4 → (c : ℕ) → c < slice_index bases s → AreFree to 2 defaults bases s c → ⊥
     least zero lt c less all = omega (arith, less)
     least (suc zero) lt c less all = omega (arith, less)
     least (suc (suc zero)) lt zero less all = all 1 entry_of_2 (record { state = 1; class = 1; before = omega arith; entry = entry_of_1; here = refl })

@@ -16,7 +16,7 @@ use Rattle.lexauto_dfa.specs.Automata.{machine_in}
 use Rattle.lexauto_dfa.specs.declared.dfa.Parts.{Parts}
 use Rattle.lexauto_dfa.proofs.Machinery.{past_end}
 use Rattle.lextab_packed.specs.Table as T
-use Rattle.lextab_packed.specs.Checks.{Sizes, sizes_of, AreSizes, bases_of, any_reject, IsRow, IsSlot, IsTable}
+use Rattle.lextab_packed.specs.Checks.{Sizes, sizes_of, AreSizes, bases_of, some_rule_rejects, IsRow, IsSlot, IsTable}
 use Rattle.lextab_packed.specs.Steps.{row_in, slot_in, target, step_of, accepted_in, machine_of_table}
 use Rattle.lextab_packed.proofs.Finding.{no_row, no_slot}
 use Rattle.lextab_packed.specs.Invariant.{GoesOn}
@@ -201,19 +201,15 @@ module _ (p : Parts) (a : IsAutomaton p) (S : S.Spec) (laws : MachineLaws (machi
       let least_slots = ranges.slots in
       let most_slots = ranges.few_slots in
       record {
-        some_condition = omega (arith, least, conditions_are);
-        conditions = omega (arith, most, conditions_are);
+        conditions = (omega (arith, least, conditions_are), omega (arith, most, conditions_are));
         rules = omega (arith, few_rules, rules_len);
-        some_state = omega (arith, n, some);
-        states = omega (arith, n, few);
-        some_class = ranges.some_class;
-        classes = ranges.classes;
-        slots_for_each_class = omega (arith, k, least_slots);
-        slots = omega (arith, k, most_slots, few);
+        states = (omega (arith, n, some), omega (arith, n, few));
+        classes = (ranges.some_class, ranges.classes);
+        slots = (omega (arith, k, least_slots), omega (arith, k, most_slots, few));
       }
 
   row_of_state : (firsts : some_reject S ≡ false → (s : ℕ) → s < states p → length (accepts p s) ≤ 1) (s : ℕ) → s < length (assembled p S q).rows
-      → IsRow (sizes_of (assembled p S q)) (any_reject (assembled p S q).rules) s (row_in (assembled p S q) s)
+      → IsRow (sizes_of (assembled p S q)) (some_rule_rejects (assembled p S q).rules) s (row_in (assembled p S q) s)
   row_of_state firsts s lt =
       let low : s < states p = omega (arith, lt, rows_are) in
       let o = otherwise_is s in
@@ -230,9 +226,11 @@ module _ (p : Parts) (a : IsAutomaton p) (S : S.Spec) (laws : MachineLaws (machi
         rules = λ i among. (let h = laws.in_range s i (subst (λ (l : List ℕ). Among l i) r among) in omega (arith, h, rules_len));
         ascending = subst Ascending (sym r) (laws.ascending s);
         first_alone = λ none. subst (λ (l : List ℕ). length l ≤ 1) (sym r) (firsts (sym (same_reject S.rules) ∙ none) s low);
-        dead_otherwise = λ z. o ∙ ap (λ (m : ℕ). slice_index q.defaults m) z ∙ ranges.dead_default;
-        dead_base = λ z. b ∙ ap (λ (m : ℕ). slice_index q.bases m) z ∙ ranges.dead_base;
-        dead_rules = λ z. r ∙ ap (λ (m : ℕ). accepts p m) z ∙ a.dead_accepts;
+        dead = λ z. (
+          o ∙ ap (λ (m : ℕ). slice_index q.defaults m) z ∙ ranges.dead_default,
+          b ∙ ap (λ (m : ℕ). slice_index q.bases m) z ∙ ranges.dead_base,
+          r ∙ ap (λ (m : ℕ). accepts p m) z ∙ a.dead_accepts,
+        );
       }
 
   slot_of_place : (i : ℕ) → i < length (assembled p S q).slots → IsSlot (sizes_of (assembled p S q)) (bases_of (assembled p S q).rows) i (slice_index_or (assembled p S q).slots i no_slot)
@@ -258,6 +256,6 @@ module _ (p : Parts) (a : IsAutomaton p) (S : S.Spec) (laws : MachineLaws (machi
         rules = each_rule (sizes_of (assembled p S q)) (length S.conditions) 0 S.rules (conditions_len (start_in p.starts.items p.line_starts.items) 0 S.conditions) four.1 texts.literals;
         bytes = packed_as.classes.bytes;
         class_of = each_of (λ i k. k < q.class_count) q.class_of 0 (λ b h. packed_as.classes.below b (let len = packed_as.classes.bytes in omega (arith, h, len)));
-        rows = each_of (IsRow (sizes_of (assembled p S q)) (any_reject (assembled p S q).rules)) (assembled p S q).rows no_row (row_of_state firsts);
+        rows = each_of (IsRow (sizes_of (assembled p S q)) (some_rule_rejects (assembled p S q).rules)) (assembled p S q).rows no_row (row_of_state firsts);
         slots = each_of (IsSlot (sizes_of (assembled p S q)) (bases_of (assembled p S q).rows)) (assembled p S q).slots no_slot slot_of_place;
       }

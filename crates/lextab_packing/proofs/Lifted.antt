@@ -2,7 +2,7 @@
 use Rattle.std.specs.Prelude.{◌≡◌, ℕ, ◌<◌, List}
 use Rattle.std.proofs.Common.{sym, ◌∙◌, arith}
 use Rattle.lexauto_dfa.specs.Alike.{Alike}
-use Rattle.lextab_packing.specs.Classes.{IsClassMap, first_of}
+use Rattle.lextab_packing.specs.Classes.{IsClassMap, first_byte_of}
 use Rattle.lextab_packing.specs.Packing.{Packing, by_class, IsPacked}
 use Rattle.lextab_packing.proofs.Steps.{first_is}
 use Rattle.lextab_packing.proofs.Fills.{rows_to}
@@ -24,7 +24,7 @@ pub packed_to : (n : ℕ) (go ho : ℕ → ℕ → ℕ) (p : Packing) → ((s b 
 packed_to n go ho p same x = record {
   classes = classes_to n go ho p.class_of p.class_count same x.classes;
   rows = rows_to n (by_class go p.class_of) (by_class ho p.class_of) p.class_count p.defaults p.bases p.check p.next
-      (λ s k h l. same s (first_of p.class_of k) h
+      (λ s k h l. same s (first_byte_of p.class_of k) h
       (let u = (x.classes).used k l in let len = (x.classes).bytes in let f = (first_is p.class_of k u.0 (let u1 = u.1 in omega arith) u.2).0 in omega arith))
       x.rows;
 }

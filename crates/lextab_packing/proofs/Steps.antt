@@ -1,11 +1,11 @@
 -- A packed table goes as the automaton does.
 use Rattle.std.specs.Prelude.{◌≡◌, ◌≢◌, ℕ, zero, suc, ◌+◌, ◌<◌, ◌==◌, cond, List, [], ◌∷◌, length, slice_index}
 use Rattle.std.proofs.Common.{inl, inr, refl, sym, ◌∙◌, ap, arith}
-use Rattle.lextab_packing.specs.Classes.{IsClassMap, first_of}
+use Rattle.lextab_packing.specs.Classes.{IsClassMap, first_byte_of}
 use Rattle.lextab_packing.specs.Packing.{Packing, AreRows, by_class, IsPacked, packed_step}
 use Rattle.lextab_packing.proofs.Orders.{same_or_not, test_same, test_other}
 
-pub first_is : (cs : List ℕ) (k b : ℕ) → b < length cs → slice_index cs b ≡ k → (first_of cs k < length cs) × (slice_index cs (first_of cs k) ≡ k)
+pub first_is : (cs : List ℕ) (k b : ℕ) → b < length cs → slice_index cs b ≡ k → (first_byte_of cs k < length cs) × (slice_index cs (first_byte_of cs k) ≡ k)
 first_is [] k b h e = absurd (omega arith)
 first_is (c ∷ cs) k zero h e = let t = test_same c k e in rw t (omega arith, e)
 first_is (c ∷ cs) k (suc b) h e = elim (same_or_not c k) [
@@ -19,7 +19,7 @@ pub class_target : (n : ℕ) (go : ℕ → ℕ → ℕ) (cs : List ℕ) (count :
 class_target n go cs count m s k b hs hb e =
     let f = first_is cs k b (let l = m.bytes in omega arith) e in
     let f0 = f.0 in
-    m.apart (first_of cs k) b (let l = m.bytes in omega arith) hb (f.1 ∙ sym e) s hs
+    m.apart (first_byte_of cs k) b (let l = m.bytes in omega arith) hb (f.1 ∙ sym e) s hs
 
 chosen : (a b c d : ℕ) → a ≡ b → cond (a == b) c d ≡ c
 chosen a b c d e = rw (test_same a b e) refl

@@ -14,11 +14,11 @@ abbrev pub start_in : List ℕ → List ℕ → ℕ → Bool → ℕ
 start_in starts line_starts c line_start = cond line_start (slice_index line_starts c) (slice_index starts c)
 
 -- the conditions from number n on, with where matches start in them
-abbrev pub conditions_with : (ℕ → Bool → ℕ) → ℕ → List S.Condition → List T.Condition
+abbrev pub conditions_with : (ℕ → Bool → ℕ) → ℕ → List S.Condition → List T.ConditionOfTable
 conditions_with start n [] = []
 conditions_with start n (c ∷ cs) = record { start = start n false; line_start = start n true; end = c.end } ∷ conditions_with start (suc n) cs
 
-abbrev pub action_in : S.Rule → T.Rule
+abbrev pub action_in : S.Rule → T.RuleOfTable
 action_in r = record { cut = r.cut; statements = r.statements }
 
 -- rows by a column for each of their parts
@@ -41,5 +41,5 @@ assembled p S q = record {
 
 -- what a table writes are texts
 pub record HasTexts (t : T.Table) : Type 0 where
-  pub prints : Each (λ i (c : T.Condition). IsText c.end.print) 0 t.conditions
-  pub literals : Each (λ i (r : T.Rule). Each HasText 0 r.statements) 0 t.rules
+  pub prints : Each (λ i (c : T.ConditionOfTable). IsText c.end.print) 0 t.conditions
+  pub literals : Each (λ i (r : T.RuleOfTable). Each HasText 0 r.statements) 0 t.rules

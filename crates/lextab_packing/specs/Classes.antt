@@ -12,6 +12,6 @@ pub record IsClassMap (n : ℕ) (go : ℕ → ℕ → ℕ) (class_of : List ℕ)
   pub used : (k : ℕ) → k < count → (b : ℕ) × (b < 256) × (slice_index class_of b ≡ k)
 
 -- the first byte of the class k
-abbrev pub first_of : List ℕ → ℕ → ℕ
-first_of [] k = 0
-first_of (c ∷ cs) k = cond (c == k) 0 (suc (first_of cs k))
+abbrev pub first_byte_of : List ℕ → ℕ → ℕ
+first_byte_of [] k = 0
+first_byte_of (c ∷ cs) k = cond (c == k) 0 (suc (first_byte_of cs k))

@@ -1,7 +1,7 @@
 -- The rows of an automaton, packed: byte classes, defaults, bases and slots. (Aho, Sethi and Ullman, Compilers, 3.9;
 -- which of equals is taken is this project's.)
 use Rattle.std.specs.Prelude.{◌≡◌, ◌≢◌, ℕ, zero, suc, ◌+◌, ◌*◌, ◌<◌, ◌≤◌, ◌⊎◌, ◌==◌, cond, List, length, slice_index}
-use Rattle.lextab_packing.specs.Classes.{IsClassMap, first_of}
+use Rattle.lextab_packing.specs.Classes.{IsClassMap, first_byte_of}
 
 pub record Packing : Type 0 where
   pub class_of : List ℕ
@@ -36,13 +36,13 @@ pub record IsTaken (to : ℕ → ℕ → ℕ) (count : ℕ) (defaults bases : Li
   pub here : slice_index bases state + class ≡ i
 
 -- the entries of the state s, placed from b, fall on free slots
-abbrev pub Fits : (ℕ → ℕ → ℕ) → ℕ → List ℕ → List ℕ → ℕ → ℕ → Type 0
-Fits to count defaults bases s b = (k : ℕ) → IsEntry to count defaults s k → IsTaken to count defaults bases s (b + k) → ⊥
+abbrev pub AreFree : (ℕ → ℕ → ℕ) → ℕ → List ℕ → List ℕ → ℕ → ℕ → Type 0
+AreFree to count defaults bases s b = (k : ℕ) → IsEntry to count defaults s k → IsTaken to count defaults bases s (b + k) → ⊥
 
 -- b is the least base at which the state s fits (0, if it has no entries)
 pub record IsBase (to : ℕ → ℕ → ℕ) (count : ℕ) (defaults bases : List ℕ) (s b : ℕ) : Type 0 where
-  pub fits : Fits to count defaults bases s b
-  pub least : (c : ℕ) → c < b → Fits to count defaults bases s c → ⊥
+  pub fits : AreFree to count defaults bases s b
+  pub least : (c : ℕ) → c < b → AreFree to count defaults bases s c → ⊥
 
 -- the greatest base and the number of classes
 pub record IsSize (n count : ℕ) (bases : List ℕ) (size : ℕ) : Type 0 where
@@ -68,7 +68,7 @@ pub record AreRows (n : ℕ) (to : ℕ → ℕ → ℕ) (count : ℕ) (defaults 
 
 -- where a state goes by a class: by its first byte
 abbrev pub by_class : (ℕ → ℕ → ℕ) → List ℕ → ℕ → ℕ → ℕ
-by_class go class_of s k = go s (first_of class_of k)
+by_class go class_of s k = go s (first_byte_of class_of k)
 
 -- the automaton of n states, packed
 pub record IsPacked (n : ℕ) (go : ℕ → ℕ → ℕ) (p : Packing) : Type 0 where

@@ -6,7 +6,7 @@ ghost use Rattle.lexauto_dfa.specs.Invariant.{IsAutomaton};
 ghost use Rattle.lexauto_dfa.specs.Automata.{machine_of, conditions_of, states_of, next_of};
 ghost use Rattle.lexspec.specs.Views.{spec_of, conditions_in};
 ghost use Rattle.lextab_packed.specs.Views.{table_of};
-ghost use Rattle.lextab_packed.specs.Machines.{machine_of as table_machine, parts_of};
+ghost use Rattle.lextab_packed.specs.Machines.{table_machine, table_parts};
 ghost use Rattle.lextab_packing.specs.Assembled.{assembled, HasTexts};
 ghost use Rattle.lextab_packing.specs.Packing.{IsPacked};
 ghost use Rattle.lextab_packing.specs.Tables.{packing_in};
@@ -54,7 +54,7 @@ pub fn pack(alloc: Global, dfa: &Dfa, spec: &Spec) -> Result<Tables, OutOfMemory
     requires conditions { conditions_of dfa.now ≡ length (conditions_in (spec_of spec.now)) }
     requires table { TableFor (machine_of dfa.now (spec_of spec.now)) (spec_of spec.now) }
     ensures packed { IfOk result (λ t. IsPacked (states_of dfa.now) (next_of dfa.now)
-        (packing_in (table_of (parts_of t)))) }
+        (packing_in (table_of (table_parts t)))) }
     ensures machine { IfOk result (λ t. table_machine t ≡ machine_of dfa.now (spec_of spec.now)) }
 {
     let parts = dfa.parts();

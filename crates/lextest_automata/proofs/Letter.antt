@@ -55,24 +55,20 @@ module _ (m : List ℕ) (len : length m ≡ 256) (one : slice_index m 97 ≡ 1) 
   pub letter_is : IsTable (letter m)
   letter_is = record {
     sizes = record {
-      some_condition = lit≤ tt;
-      conditions = lit≤ tt;
+      conditions = (lit≤ tt, lit≤ tt);
       rules = lit≤ tt;
-      some_state = lit≤ tt;
-      states = lit≤ tt;
-      some_class = lit≤ tt;
-      classes = lit≤ tt;
-      slots_for_each_class = lit≤ tt;
-      slots = lit≤ tt;
+      states = (lit≤ tt, lit≤ tt);
+      classes = (lit≤ tt, lit≤ tt);
+      slots = (lit≤ tt, lit≤ tt);
     };
     conditions = (record { start = lit< tt; line_start = lit< tt; print = lit≤ tt; bytes = tt; status = lit≤ tt }, tt);
     rules = (record { cut = tt; few = lit≤ tt; literals = lit≤ tt; legal = record { ranges = refl; last = refl; joined = refl; compatible = refl }; bytes = (tt, tt) }, tt);
     bytes = len;
     class_of = each_of (λ i k. k < 2) m 0 (λ b h. low b);
     rows = (
-      record { default_target = lit< tt; base = lit≤ tt; rules = λ i a. absurd a; ascending = tt; first_alone = λ e. lit≤ tt; dead_otherwise = λ e. refl; dead_base = λ e. refl; dead_rules = λ e. refl },
+      record { default_target = lit< tt; base = lit≤ tt; rules = λ i a. absurd a; ascending = tt; first_alone = λ e. lit≤ tt; dead = λ e. (refl, refl, refl) },
       (
-        record { default_target = lit< tt; base = lit≤ tt; rules = λ i a. absurd a; ascending = tt; first_alone = λ e. lit≤ tt; dead_otherwise = λ e. refl; dead_base = λ e. refl; dead_rules = λ e. refl },
+        record { default_target = lit< tt; base = lit≤ tt; rules = λ i a. absurd a; ascending = tt; first_alone = λ e. lit≤ tt; dead = λ e. (refl, refl, refl) },
         (
           record {
             default_target = lit< tt;
@@ -80,9 +76,7 @@ module _ (m : List ℕ) (len : length m ≡ 256) (one : slice_index m 97 ≡ 1) 
             rules = only_zero;
             ascending = ((λ j a. absurd a), tt);
             first_alone = λ e. lit≤ tt;
-            dead_otherwise = λ e. refl;
-            dead_base = λ e. refl;
-            dead_rules = λ e. absurd (omega (arith, e));
+            dead = λ e. absurd (omega (arith, e));
           },
           tt,
         ),

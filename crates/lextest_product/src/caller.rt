@@ -1,7 +1,7 @@
 //! Callers of lexkit and of lexscan: those of their CALLING.md.
 ghost use Rattle.std.specs.Prelude.{IfOk};
 ghost use Rattle.lex_semantics.specs.Machine.{rules_of_machine};
-ghost use Rattle.lextab_packed.specs.Machines.{machine_of};
+ghost use Rattle.lextab_packed.specs.Machines.{table_machine};
 ghost use Rattle.lexkit.specs.Filtered.{Filtered, FilteredBy};
 
 use lexkit::{FromRead, Options, RunError, ScanError, Tables, ToWrite, scan_spec};
@@ -32,7 +32,7 @@ pub fn filtered_by<R: Read + Drop, W: Write + Drop>(
     reader: R,
     writer: W,
 ) -> Result<W, RunError>
-    ensures { IfOk result (λ w. FilteredBy (rules_of_machine (machine_of tables.now)) (R.remaining reader)
+    ensures { IfOk result (λ w. FilteredBy (rules_of_machine (table_machine tables.now)) (R.remaining reader)
         (W.contents writer) (W.contents w)) }
 {
     let mut source = FromRead::new(reader);

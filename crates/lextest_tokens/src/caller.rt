@@ -2,7 +2,7 @@
 ghost use Rattle.std.specs.Prelude.{IfOk, length};
 ghost use Rattle.lex_semantics.specs.Acting.{Status};
 ghost use Rattle.lex_semantics.specs.Machine.{rules_of_machine};
-ghost use Rattle.lextab_packed.specs.Machines.{machine_of};
+ghost use Rattle.lextab_packed.specs.Machines.{table_machine};
 ghost use Rattle.lexscan_tokens.specs.Tokens.{LieIn, Tokenised};
 
 use lexkit::{RunError, Tables, Token, tokens};
@@ -10,7 +10,7 @@ use std::alloc::Global;
 
 /// The tokens of an input by tables, and the status that the scan of it ends with.
 pub fn tokens_by(alloc: Global, tables: &Tables, input: &[u8]) -> Result<(Vec<Token>, u8), RunError>
-    ensures listed { IfOk result (λ (list, status). Tokenised (rules_of_machine (machine_of tables.now))
+    ensures listed { IfOk result (λ (list, status). Tokenised (rules_of_machine (table_machine tables.now))
         input.now list.items (Status status)) }
     ensures inside { IfOk result (λ (list, status). LieIn (length input.now) 0 list.items) }
 {

@@ -9,7 +9,7 @@ use Rattle.lex_semantics.specs.Run as Scan
 use Rattle.lex_semantics.specs.Run.{first_state}
 use Rattle.lex_semantics.specs.Demand.{Consistent, EndAsked}
 use Rattle.lex_semantics.specs.Machine.{Machine, rules_of_machine}
-use Rattle.lextab_packed.specs.Machines.{machine_of}
+use Rattle.lextab_packed.specs.Machines.{table_machine}
 use Rattle.lexscan_window.specs.declared.state.State.{State}
 use Rattle.lexscan.specs.declared.turn.Turn.{Turn}
 use Rattle.lexscan_window.specs.declared.error.RunError.{RunError}
@@ -117,7 +117,7 @@ module _ (file : List ℕ) (told : Bool) (fed out : List ℕ) (p p' : PieceScan)
   M = machine_in p
 
   same_machine : machine_in p' ≡ machine_in p
-  same_machine = ap (λ f. machine_of f.tables) same
+  same_machine = ap (λ f. table_machine f.tables) same
 
   written : (out ++ rest p.backlog) ++ put ≡ out ++ rest p'.backlog
   written = append_assoc out (rest p.backlog) put ∙ ap (λ l. out ++ l) (sym wrote)

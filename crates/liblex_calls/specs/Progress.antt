@@ -9,7 +9,7 @@ use Rattle.lex_semantics.specs.Machine.{Machine, rules_of_machine}
 use Rattle.lextab_packed.specs.Table.{Table}
 use Rattle.lextab_packed.specs.Steps.{machine_of_table}
 use Rattle.lextab_packed.specs.Invariant.{GoesOn}
-use Rattle.lextab_packed.specs.Machines.{machine_of}
+use Rattle.lextab_packed.specs.Machines.{table_machine}
 use Rattle.lextab_packed.specs.FlatViews.{tables_of}
 use Rattle.lextab_file.specs.File.{IsFileOf}
 use Rattle.lexscan_window.specs.declared.state.State.{State}
@@ -30,7 +30,7 @@ pub record IsMachineOf (file : List ℕ) (M : Machine) : Type 0 where
 
 -- the machine of a scan
 abbrev pub machine_in : PieceScan → Machine
-machine_in p = machine_of (tables_of (push_machine p.scanner))
+machine_in p = table_machine (tables_of (push_machine p.scanner))
 
 -- Over every input that this may be the beginning of, or all of if its end was told, the run writes this and ends so.
 abbrev pub RunsAll : Rules → Bool → List ℕ → List ℕ → Ending → Type 0

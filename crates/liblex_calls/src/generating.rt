@@ -3,7 +3,7 @@ ghost use Rattle.std.specs.Prelude.{◌≡◌, ◌≤◌, IfOk};
 ghost use Rattle.lex_semantics.specs.Limits.{max_positions, max_states};
 ghost use Rattle.lexkit.specs.Faults.{line_of, gen_words, gen_status};
 ghost use Rattle.lextab_file.specs.File.{file_of};
-ghost use Rattle.lextab_packed.specs.Machines.{parts_of};
+ghost use Rattle.lextab_packed.specs.Machines.{table_parts};
 ghost use Rattle.lextab_packed.specs.Views.{table_of};
 ghost use Rattle.liblex_calls.specs.Generating.{Generates, RefusesWith, fault_of, no_fault};
 
@@ -64,7 +64,7 @@ fn spec_fault(error: SpecError) -> Fault
 
 /// The bytes of the file of some tables.
 fn file_bytes(alloc: Global, tables: &Tables) -> Result<Kept, WriteFault>
-    ensures { IfOk result (λ file. file.bytes.items ≡ file_of (table_of (parts_of tables.now))) }
+    ensures { IfOk result (λ file. file.bytes.items ≡ file_of (table_of (table_parts tables.now))) }
 {
     let mut sink = Kept::new(alloc);
     write_tables(tables, &mut sink)?;

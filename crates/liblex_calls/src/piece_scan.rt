@@ -1,7 +1,7 @@
 //! A scan by pieces, with what it wrote and was not handed out yet.
 ghost use Rattle.std.specs.Prelude.{◌≡◌, ℕ, Bool, List, [], true, false, length};
 ghost use Rattle.lextab_packed.specs.FlatViews.{tables_of};
-ghost use Rattle.lextab_packed.specs.Machines.{machine_of};
+ghost use Rattle.lextab_packed.specs.Machines.{table_machine};
 
 use crate::answer::Answer;
 use crate::backlog::Backlog;
@@ -27,7 +27,7 @@ impl PieceScan {
 
     /// One that was fed nothing.
     pub(crate) fn new(alloc: Global, flat: Flat) -> PieceScan
-        ensures { (file : List ℕ) → IsMachineOf file (machine_of (tables_of flat)) → Progress file false [] [] result }
+        ensures { (file : List ℕ) → IsMachineOf file (table_machine (tables_of flat)) → Progress file false [] [] result }
     {
         PieceScan {
             scanner: PushScanner::new(alloc, flat),

@@ -3,7 +3,7 @@ use Rattle.std.proofs.Common.{◌≡◌, ◌∙◌, Bool, subst, arith}
 use Rattle.std.specs.Prelude.{nat_lt}
 use Rattle.lex_semantics.specs.Machine.{Machine, rules_of_machine}
 use Rattle.lexauto_dfa.specs.Automata.{machine_of}
-use Rattle.lextab_packed.specs.Machines.{machine_of as table_machine}
+use Rattle.lextab_packed.specs.Machines.{table_machine}
 use Rattle.lex_semantics.specs.Acting.{Status}
 use Rattle.lexscan.specs.Stands.{RanTo}
 use Rattle.lexscan.specs.Runs.{RanInto}

@@ -13,7 +13,7 @@ use Rattle.lexkit.proofs.stats.stats_of.Goals as goal
 pub overflow_cast-result-4 : goal.overflow_cast-result-4
 overflow_cast-result-4 c =
     let p = c.args.tables.now.parts in
-    let many = c.args.tables.now.lawful.sizes.slots in
+    let many = c.args.tables.now.lawful.sizes.slots.1 in
     let is = slots_length p.checks.items p.nexts.items in
     let parts : c.parts-parts.result.now ≡ p = c.parts-parts.ensures in
     let checks : c.len-2.result ≡ length p.checks.items = (let e : c.len-2.result ≡ length c.parts-parts.result.now.checks.items = search rules in e) ∙ ap (λ (q : TableParts). length q.checks.items) parts in

@@ -6,7 +6,7 @@ use Rattle.lex_semantics.specs.Text.{flag}
 use Rattle.lex_semantics.specs.Machine.{Machine}
 use Rattle.lextab_packed.specs.declared.kinds.Kind.TheVariants.{Any}
 use Rattle.lextab_packed.specs.Flats.{marked, kind_of}
-use Rattle.lextab_packed.specs.Machines.{machine_of}
+use Rattle.lextab_packed.specs.Machines.{table_machine}
 use Rattle.lextab_packed.specs.Steps.{step_of}
 use Rattle.lextab_packed.specs.Views.{table_of, row_of}
 use Rattle.lextab_packed.proofs.Columns.{index_more}
@@ -20,7 +20,7 @@ loop-place-preserved c = (
 )
   where
     M : Machine
-    M = machine_of c.args.tables.now
+    M = table_machine c.args.tables.now
 
     state_at : ℕ → ℕ
     state_at k = step_of (table_of c.args.tables.now.parts) (k / 256) (k % 256)

@@ -30,7 +30,7 @@ three_rows : (rows : List Row) (a b d : Row) → rows ≡ a ∷ b ∷ d ∷ [] �
 three_rows rows a b d e x y z = ap (λ (l : List Row). map row_of l) e ∙ (λ i. x i ∷ y i ∷ z i ∷ [])
 
 one_rule : (rs : List TableRule) (ss : List Statement) (r : TableRule) → rs ≡ r ∷ [] → rule_of r ≡ record { cut = S.Whole; statements = map statement_of ss } → map statement_of ss ≡ S.Echo ∷ [] → map rule_of rs ≡ (letter []).rules
-one_rule rs ss r e f g = ap (λ (l : List TableRule). map rule_of l) e ∙ ap (λ (x : T.Rule). x ∷ []) (f ∙ ap (λ (l : List S.Statement). record { cut = S.Whole; statements = l }) g)
+one_rule rs ss r e f g = ap (λ (l : List TableRule). map rule_of l) e ∙ ap (λ (x : T.RuleOfTable). x ∷ []) (f ∙ ap (λ (l : List S.Statement). record { cut = S.Whole; statements = l }) g)
 
 pub returns-clause-table : goal.returns-clause-table
 returns-clause-table c =
@@ -50,7 +50,7 @@ returns-clause-table c =
     let last : row_of c.in_ok-last.last ≡ record { default_target = 0; base = 0; rules = 0 ∷ [] } = search rules in
     let is : table_of p ≡ letter m =
     same_table p
-    (ap (λ (l : List TableCondition). map condition_of l) c.in_ok-conditions.ensures.items ∙ ap (λ (x : T.Condition). x ∷ []) c.condition.ensures)
+    (ap (λ (l : List TableCondition). map condition_of l) c.in_ok-conditions.ensures.items ∙ ap (λ (x : T.ConditionOfTable). x ∷ []) c.condition.ensures)
     (one_rule c.in_ok-rules.rules.items c.in_ok-statements.statements.items rule c.in_ok-rules.ensures.items refl (ap (λ (l : List Statement). map statement_of l) c.in_ok-statements.ensures.items))
     refl
     (three_rows c.in_ok-rows.rows.items c.in_ok-dead.dead c.in_ok-first.first c.in_ok-last.last c.in_ok-rows.ensures.items dead first last)
@@ -75,7 +75,7 @@ returns-clause-flags c =
     let last : row_of c.in_ok-last.last ≡ record { default_target = 0; base = 0; rules = 0 ∷ [] } = search rules in
     let is : table_of p ≡ letter m =
     same_table p
-    (ap (λ (l : List TableCondition). map condition_of l) c.in_ok-conditions.ensures.items ∙ ap (λ (x : T.Condition). x ∷ []) c.condition.ensures)
+    (ap (λ (l : List TableCondition). map condition_of l) c.in_ok-conditions.ensures.items ∙ ap (λ (x : T.ConditionOfTable). x ∷ []) c.condition.ensures)
     (one_rule c.in_ok-rules.rules.items c.in_ok-statements.statements.items rule c.in_ok-rules.ensures.items refl (ap (λ (l : List Statement). map statement_of l) c.in_ok-statements.ensures.items))
     refl
     (three_rows c.in_ok-rows.rows.items c.in_ok-dead.dead c.in_ok-first.first c.in_ok-last.last c.in_ok-rows.ensures.items dead first last)

@@ -1,7 +1,7 @@
 use Rattle.std.proofs.Common.{sym, subst}
 use Rattle.std.specs.Io.KnownBytes.{Appends}
 use Rattle.lex_semantics.specs.Machine.{rules_of_machine}
-use Rattle.lextab_packed.specs.Machines.{machine_of}
+use Rattle.lextab_packed.specs.Machines.{table_machine}
 use Rattle.lex_io.specs.Source.{Gives}
 use Rattle.lextest_product.proofs.Filtering.{runs}
 use Rattle.lextest_product.proofs.caller.filtered_by.Goals as goal
@@ -15,5 +15,5 @@ returns g c =
       out,
       c.in_ok-run.field-0,
       subst (λ w. Appends (g.W.Write.contents c.args.writer) (g.W.Write.contents w) out) (sym c.into_inner.ensures) sink,
-      runs (rules_of_machine (machine_of c.args.tables.now)) given out c.in_ok-run.field-0 (g.R.Read.remaining c.args.reader) (g.R.Read.remaining s'.reader) c.new-source.result.ends s'.ends source ran,
+      runs (rules_of_machine (table_machine c.args.tables.now)) given out c.in_ok-run.field-0 (g.R.Read.remaining c.args.reader) (g.R.Read.remaining s'.reader) c.new-source.result.ends s'.ends source ran,
     )

@@ -4,7 +4,7 @@ use Rattle.lex_semantics.specs.Machine.{Machine}
 use Rattle.lextab_packed.specs.Flats.{kind_of}
 use Rattle.lex_semantics.specs.Text.{flag}
 use Rattle.lextab_packed.specs.declared.tables.Tables.{Tables}
-use Rattle.lextab_packed.specs.Machines.{machine_of, states_of}
+use Rattle.lextab_packed.specs.Machines.{table_machine, states_of}
 use Rattle.lextab_packed.proofs.Marks as Mark
 use Rattle.lextab_packed.proofs.flat.Flat.run_end.Goals as goal
 
@@ -23,7 +23,7 @@ run-preserved c = record {
     t = c.args.self.now.tables
 
     M : Machine
-    M = machine_of t
+    M = table_machine t
 
     gone : (s : ℕ) → c.args.place ≡ 256 * s → s < states_of t → (M.goes_on (M.next s (get_or c.args.bytes.now c.run.end 0)) ≡ true) × (c.target.result ≡ 256 * M.next s (get_or c.args.bytes.now c.run.end 0))
     gone s is known =

@@ -1,10 +1,10 @@
 use Rattle.std.proofs.Common.{◌≡◌, ℕ, ◌-◌, ◌*◌, ◌<◌, ◌≤◌, true, length, get_or}
-use Rattle.lextab_packed.specs.Machines.{machine_of, states_of}
+use Rattle.lextab_packed.specs.Machines.{table_machine, states_of}
 use Rattle.lextab_packed.proofs.flat.Flat.run_end.Given as goal
 
 abbrev pub invariant-run : goal.invariant-run
 invariant-run l =
-    let M = machine_of l.self.tables in
+    let M = table_machine l.self.tables in
     record {
       order : l.start ≤ l.end;
       inside : l.end ≤ length l.bytes;

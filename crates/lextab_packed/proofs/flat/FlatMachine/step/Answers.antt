@@ -2,7 +2,7 @@ use Rattle.std.proofs.lemmas.Grind.{common_steps}
 use Rattle.std.proofs.Common.{◌≡◌, ℕ, ◌≤◌, Bool, true, false, refl, arith}
 use Rattle.lex_semantics.specs.Text.{flag}
 use Rattle.lextab_packed.specs.Flats.{marked, kind_of}
-use Rattle.lextab_packed.specs.Machines.{machine_of}
+use Rattle.lextab_packed.specs.Machines.{table_machine}
 use Rattle.lextab_packed.specs.declared.kinds.Kind.{Kind}
 use Rattle.lextab_packed.specs.Steps.{step_of}
 use Rattle.lextab_packed.specs.Views.{table_of}
@@ -18,7 +18,7 @@ returns-clause-state c =
     let t = c.args.self.now.tables in
     let next : ℕ = step_of (table_of t.parts) c.args.state c.args.byte in
     let below = t.below.next c.args.state c.args.byte c.requires (omega arith) in
-    unmarked (flag c.args.self.now.tables.goes_on.items next) (kind_of (machine_of t) next) next c.state_of.result c.target.result (c.target.ensures c.args.state refl c.requires) (omega (arith, below, few_states t)) c.state_of.ensures.goes c.state_of.ensures.stops
+    unmarked (flag c.args.self.now.tables.goes_on.items next) (kind_of (table_machine t) next) next c.state_of.result c.target.result (c.target.ensures c.args.state refl c.requires) (omega (arith, below, few_states t)) c.state_of.ensures.goes c.state_of.ensures.stops
 
 pub returns-clause-known : goal.returns-clause-known
 returns-clause-known c =

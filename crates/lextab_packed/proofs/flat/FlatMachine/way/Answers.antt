@@ -7,7 +7,7 @@ use Rattle.lex_machine.specs.Glances.{Gists}
 use Rattle.lextab_packed.specs.Flats.{marked, kind_of}
 use Rattle.lextab_packed.specs.Steps.{step_of}
 use Rattle.lextab_packed.specs.Views.{table_of}
-use Rattle.lextab_packed.specs.Machines.{machine_of, states_of}
+use Rattle.lextab_packed.specs.Machines.{table_machine, states_of}
 use Rattle.lextab_packed.proofs.Ways.{run_within, asked_run}
 use Rattle.lextab_packed.proofs.Marks as Mark
 use Rattle.lextab_packed.proofs.flat.FlatMachine.way.Goals as goal
@@ -15,13 +15,13 @@ use Rattle.lextab_packed.proofs.flat.FlatMachine.way.Goals as goal
 pub returns-then-next-ge-STOP-clause-way : goal.returns-then-next-ge-STOP-clause-way
 returns-then-next-ge-STOP-clause-way c =
     let t : Tables = c.args.self.now.tables in
-    let M : Machine = machine_of t in
+    let M : Machine = table_machine t in
     let lt : c.bytes.count < length c.args.bytes.now = omega (arith, c.bytes-test.true) in
     let small : get_or c.args.bytes.now c.bytes.count 0 < 256 = let f = c.type_inv.bytes c.bytes.count in omega (arith, f) in
     let next : ℕ = step_of (table_of t.parts) (walk M c.args.first (take c.bytes.count c.args.bytes.now)) (get_or c.args.bytes.now c.bytes.count 0) in
     let below = Mark.next_below t c.args.first c.bytes.count c.args.bytes.now lt small c.bytes.invariant.known in
     let is = Mark.next_is t c.args.first c.bytes.count c.args.bytes.now lt small c.bytes.invariant.known in
-    let r : c.target-next.result ≡ marked (flag t.goes_on.items next) (kind_of (machine_of t) next) next = c.target-next.ensures (walk M c.args.first (take c.bytes.count c.args.bytes.now)) c.bytes.invariant.place_is c.bytes.invariant.known in
+    let r : c.target-next.result ≡ marked (flag t.goes_on.items next) (kind_of (table_machine t) next) next = c.target-next.ensures (walk M c.args.first (take c.bytes.count c.args.bytes.now)) c.bytes.invariant.place_is c.bytes.invariant.known in
     let k = Mark.stopped (flag t.goes_on.items next) (kind_of M next) next c.target-next.result r (omega (arith, below, Mark.few_states t)) (omega (arith, c.if-next-ge-STOP.true)) in
     let state = c.state_of.ensures.stops (kind_of M next) next (omega (arith, below, Mark.few_states t)) k.1 in
     record {
@@ -38,12 +38,12 @@ returns-then-next-ge-STOP-clause-way c =
 pub returns-then-next-ge-STOP-clause-known : goal.returns-then-next-ge-STOP-clause-known
 returns-then-next-ge-STOP-clause-known c =
     let t : Tables = c.args.self.now.tables in
-    let M : Machine = machine_of t in
+    let M : Machine = table_machine t in
     let lt : c.bytes.count < length c.args.bytes.now = omega (arith, c.bytes-test.true) in
     let small : get_or c.args.bytes.now c.bytes.count 0 < 256 = let f = c.type_inv.bytes c.bytes.count in omega (arith, f) in
     let next : ℕ = step_of (table_of t.parts) (walk M c.args.first (take c.bytes.count c.args.bytes.now)) (get_or c.args.bytes.now c.bytes.count 0) in
     let below = Mark.next_below t c.args.first c.bytes.count c.args.bytes.now lt small c.bytes.invariant.known in
-    let r : c.target-next.result ≡ marked (flag t.goes_on.items next) (kind_of (machine_of t) next) next = c.target-next.ensures (walk M c.args.first (take c.bytes.count c.args.bytes.now)) c.bytes.invariant.place_is c.bytes.invariant.known in
+    let r : c.target-next.result ≡ marked (flag t.goes_on.items next) (kind_of (table_machine t) next) next = c.target-next.ensures (walk M c.args.first (take c.bytes.count c.args.bytes.now)) c.bytes.invariant.place_is c.bytes.invariant.known in
     let k = Mark.stopped (flag t.goes_on.items next) (kind_of M next) next c.target-next.result r (omega (arith, below, Mark.few_states t)) (omega (arith, c.if-next-ge-STOP.true)) in
     let state = c.state_of.ensures.stops (kind_of M next) next (omega (arith, below, Mark.few_states t)) k.1 in
     omega (arith, state, below)
@@ -51,23 +51,23 @@ returns-then-next-ge-STOP-clause-known c =
 pub gist_at-requires : goal.gist_at-requires
 gist_at-requires c =
     let t : Tables = c.args.self.now.tables in
-    let M : Machine = machine_of t in
+    let M : Machine = table_machine t in
     let lt : c.bytes.count < length c.args.bytes.now = omega (arith, c.bytes-test.true) in
     let small : get_or c.args.bytes.now c.bytes.count 0 < 256 = let f = c.type_inv.bytes c.bytes.count in omega (arith, f) in
     let next : ℕ = step_of (table_of t.parts) (walk M c.args.first (take c.bytes.count c.args.bytes.now)) (get_or c.args.bytes.now c.bytes.count 0) in
     let below = Mark.next_below t c.args.first c.bytes.count c.args.bytes.now lt small c.bytes.invariant.known in
-    let r : c.target-next.result ≡ marked (flag t.goes_on.items next) (kind_of (machine_of t) next) next = c.target-next.ensures (walk M c.args.first (take c.bytes.count c.args.bytes.now)) c.bytes.invariant.place_is c.bytes.invariant.known in
+    let r : c.target-next.result ≡ marked (flag t.goes_on.items next) (kind_of (table_machine t) next) next = c.target-next.ensures (walk M c.args.first (take c.bytes.count c.args.bytes.now)) c.bytes.invariant.place_is c.bytes.invariant.known in
     let k = Mark.stopped (flag t.goes_on.items next) (kind_of M next) next c.target-next.result r (omega (arith, below, Mark.few_states t)) (omega (arith, c.if-next-ge-STOP.true)) in
     (next, below, k.1)
 
 pub bytes-preserved : goal.bytes-preserved
 bytes-preserved c =
     let t : Tables = c.args.self.now.tables in
-    let M : Machine = machine_of t in
+    let M : Machine = table_machine t in
     let lt : c.bytes.count < length c.args.bytes.now = omega (arith, c.bytes-test.true) in
     let small : get_or c.args.bytes.now c.bytes.count 0 < 256 = let f = c.type_inv.bytes c.bytes.count in omega (arith, f) in
     let next : ℕ = step_of (table_of t.parts) (walk M c.args.first (take c.bytes.count c.args.bytes.now)) (get_or c.args.bytes.now c.bytes.count 0) in
-    let r : c.target-next.result ≡ marked (flag t.goes_on.items next) (kind_of (machine_of t) next) next = c.target-next.ensures (walk M c.args.first (take c.bytes.count c.args.bytes.now)) c.bytes.invariant.place_is c.bytes.invariant.known in
+    let r : c.target-next.result ≡ marked (flag t.goes_on.items next) (kind_of (table_machine t) next) next = c.target-next.ensures (walk M c.args.first (take c.bytes.count c.args.bytes.now)) c.bytes.invariant.place_is c.bytes.invariant.known in
     let k = Mark.goes_further t c.args.first c.bytes.count c.args.bytes.now lt small c.bytes.invariant.known c.target-next.result r (omega (arith, c.if-next-ge-STOP.false)) c.bytes.invariant.asked in
     record { inside = omega (arith, lt); place_is = k.0; known = k.1; asked = k.2 }
 
@@ -77,11 +77,11 @@ overflow_mul-place c = omega (arith, c.requires, Mark.few_states c.args.self.now
 pub bytes-smaller-then-next-place : goal.bytes-smaller-then-next-place
 bytes-smaller-then-next-place c =
     let t : Tables = c.args.self.now.tables in
-    let M : Machine = machine_of t in
+    let M : Machine = table_machine t in
     let lt : c.bytes.count < length c.args.bytes.now = omega (arith, c.bytes-test.true) in
     let small : get_or c.args.bytes.now c.bytes.count 0 < 256 = let f = c.type_inv.bytes c.bytes.count in omega (arith, f) in
     let next : ℕ = step_of (table_of t.parts) (walk M c.args.first (take c.bytes.count c.args.bytes.now)) (get_or c.args.bytes.now c.bytes.count 0) in
-    let r : c.target-next.result ≡ marked (flag t.goes_on.items next) (kind_of (machine_of t) next) next = c.target-next.ensures (walk M c.args.first (take c.bytes.count c.args.bytes.now)) c.bytes.invariant.place_is c.bytes.invariant.known in
+    let r : c.target-next.result ≡ marked (flag t.goes_on.items next) (kind_of (table_machine t) next) next = c.target-next.ensures (walk M c.args.first (take c.bytes.count c.args.bytes.now)) c.bytes.invariant.place_is c.bytes.invariant.known in
     let k = Mark.goes_further t c.args.first c.bytes.count c.args.bytes.now lt small c.bytes.invariant.known c.target-next.result r (omega (arith, c.if-next-ge-STOP.false)) c.bytes.invariant.asked in
     let run = c.run_end-count.ensures (walk M c.args.first (take (c.bytes.count + 1) c.args.bytes.now)) (sym c.if-next-place.true ∙ k.0) k.1 in
     omega (arith, lt, run.order, run.inside)
@@ -89,11 +89,11 @@ bytes-smaller-then-next-place c =
 pub bytes-preserved-then-next-place : goal.bytes-preserved-then-next-place
 bytes-preserved-then-next-place c =
     let t : Tables = c.args.self.now.tables in
-    let M : Machine = machine_of t in
+    let M : Machine = table_machine t in
     let lt : c.bytes.count < length c.args.bytes.now = omega (arith, c.bytes-test.true) in
     let small : get_or c.args.bytes.now c.bytes.count 0 < 256 = let f = c.type_inv.bytes c.bytes.count in omega (arith, f) in
     let next : ℕ = step_of (table_of t.parts) (walk M c.args.first (take c.bytes.count c.args.bytes.now)) (get_or c.args.bytes.now c.bytes.count 0) in
-    let r : c.target-next.result ≡ marked (flag t.goes_on.items next) (kind_of (machine_of t) next) next = c.target-next.ensures (walk M c.args.first (take c.bytes.count c.args.bytes.now)) c.bytes.invariant.place_is c.bytes.invariant.known in
+    let r : c.target-next.result ≡ marked (flag t.goes_on.items next) (kind_of (table_machine t) next) next = c.target-next.ensures (walk M c.args.first (take c.bytes.count c.args.bytes.now)) c.bytes.invariant.place_is c.bytes.invariant.known in
     let k = Mark.goes_further t c.args.first c.bytes.count c.args.bytes.now lt small c.bytes.invariant.known c.target-next.result r (omega (arith, c.if-next-ge-STOP.false)) c.bytes.invariant.asked in
     let run = c.run_end-count.ensures (walk M c.args.first (take (c.bytes.count + 1) c.args.bytes.now)) (sym c.if-next-place.true ∙ k.0) k.1 in
     let end : ℕ = c.run_end-count.result in

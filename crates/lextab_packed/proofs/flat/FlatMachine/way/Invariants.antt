@@ -1,12 +1,12 @@
 use Rattle.std.proofs.Common.{length, take, ◌-◌, ◌*◌, ◌≡◌, ◌<◌, ◌≤◌}
 use Rattle.lex_semantics.specs.Machine.{walk}
-use Rattle.lextab_packed.specs.Machines.{machine_of, states_of}
+use Rattle.lextab_packed.specs.Machines.{table_machine, states_of}
 use Rattle.lextab_packed.proofs.Ways.{Asked}
 use Rattle.lextab_packed.proofs.flat.FlatMachine.way.Given as goal
 
 abbrev pub invariant-bytes : goal.invariant-bytes
 invariant-bytes l =
-    let M = machine_of l.self.tables in
+    let M = table_machine l.self.tables in
     record {
       inside : l.count ≤ length l.bytes;
       place_is : l.place ≡ 256 * walk M l.first (take l.count l.bytes);

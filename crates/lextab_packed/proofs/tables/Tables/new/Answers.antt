@@ -2,7 +2,7 @@ use Rattle.std.proofs.lemmas.Grind.{common_steps}
 use Rattle.std.proofs.Common.{ℕ, subst, arith}
 use Rattle.std.proofs.lemmas.List.{length-map}
 use Rattle.lex_semantics.specs.MachineLaws.{StaysBelow}
-use Rattle.lextab_packed.specs.Views.{row_of, table_of, machine_in}
+use Rattle.lextab_packed.specs.Views.{row_of, table_of, machine_of_parts}
 use Rattle.lextab_packed.proofs.Machinery.{machine_laws, stays_below}
 use Rattle.lextab_packed.proofs.tables.Tables.new.Goals as goal
 
@@ -13,7 +13,7 @@ pub invariant_of-result-clause-below : goal.invariant_of-result-clause-below
 invariant_of-result-clause-below c =
     let p = c.args.parts in
     let flags = c.args.goes_on.items in
-    subst (λ (n : ℕ). StaysBelow (machine_in p flags) n) (length-map p.rows.items row_of) (stays_below (table_of p) c.requires.table flags c.requires.flags)
+    subst (λ (n : ℕ). StaysBelow (machine_of_parts p flags) n) (length-map p.rows.items row_of) (stays_below (table_of p) c.requires.table flags c.requires.flags)
 
 pub returns-clause-flags : goal.returns-clause-flags
 returns-clause-flags = grind (arith, common_steps)

@@ -1,6 +1,6 @@
 use Rattle.std.proofs.Common.{◌≡◌, List, [], ◌++◌, false, refl, sym, ap, subst}
 use Rattle.lex_semantics.specs.Machine.{Machine}
-use Rattle.lextab_packed.specs.Machines.{machine_of}
+use Rattle.lextab_packed.specs.Machines.{table_machine}
 use Rattle.lexscan.specs.Pushes.{Fed}
 use Rattle.liblex_calls.specs.Backlogs.{rest}
 use Rattle.liblex_calls.specs.Progress.{IsMachineOf, StandsAt}
@@ -10,12 +10,12 @@ use Rattle.liblex_calls.proofs.piece_scan.PieceScan.new.Goals as goal
 
 pub returns : goal.returns
 returns c file is =
-    let same = ap (λ f. machine_of f.tables) c.new.ensures.machine in
+    let same = ap (λ f. table_machine f.tables) c.new.ensures.machine in
     let s = c.new.result.state in let w = c.new.result.waiting.items in
-    let stands = subst (λ N. StandsAt N stages.Going false [] [] s w) (sym same) (first_stands (machine_of c.args.flat.tables) s w c.new.ensures.fed c.new.ensures.going) in
+    let stands = subst (λ N. StandsAt N stages.Going false [] [] s w) (sym same) (first_stands (table_machine c.args.flat.tables) s w c.new.ensures.fed c.new.ensures.going) in
     record {
       machine = subst (IsMachineOf file) (sym same) is;
       text = tt;
       finished = refl;
-      stands = subst (λ l. StandsAt (machine_of c.new.result.machine.tables) stages.Going false [] l s w) (sym (ap (λ l. [] ++ l) c.new-2.ensures)) stands;
+      stands = subst (λ l. StandsAt (table_machine c.new.result.machine.tables) stages.Going false [] l s w) (sym (ap (λ l. [] ++ l) c.new-2.ensures)) stands;
     }
