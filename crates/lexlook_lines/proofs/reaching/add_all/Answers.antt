@@ -1,5 +1,5 @@
 use Rattle.std.proofs.Common.{ℕ, ◌<◌, List, take, length, Bool, refl, sym, subst, ◌∙◌, get_or, arith}
-use Rattle.std.proofs.lemmas.List.{take_more}
+use Rattle.std.proofs.lemmas.List.{take_more, take_all}
 use Rattle.lexlook_lines.specs.Reaching.{BegunFrom}
 use Rattle.lexlook_lines.proofs.Searches.{among_at, same_size, begun_more, begun_none}
 use Rattle.lexlook_lines.proofs.reaching.add_all.Goals as goal
@@ -42,3 +42,6 @@ loop-state-preserved c = record {
 
     in_marks : get_or states k 0 < length marks
     in_marks = (let in_old = c.requires (get_or states k 0) (among_at states k lt) in omega (arith, in_old, c.loop-state.invariant.size))
+
+pub returns : goal.returns
+returns c = subst (λ z. BegunFrom z c.args.found.now.items c.args.marks.now.items c.loop-state.found.items c.loop-state.marks.items) (take_all c.loop-state.state-index c.args.states.now (omega (arith, c.loop-state-test.false))) c.loop-state.invariant.begun
