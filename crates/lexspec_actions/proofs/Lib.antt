@@ -1,4 +1,7 @@
 pub mod ByteLemmas
+pub mod SameBytes
+pub mod SameNormal
+pub mod SameActions
 pub mod PartLemmas
 pub mod CallLemmas
 pub mod FaultLaws
