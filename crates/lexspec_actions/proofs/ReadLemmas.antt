@@ -2,7 +2,8 @@
 use Rattle.std.proofs.Common.{◌≡◌, ℕ, true, false, List, Some, None, sym, ap, ◌∙◌}
 use Rattle.lex_semantics.specs.Spec.{EndAction, Statement}
 use Rattle.lexspec_actions.specs.Names.{Known}
-use Rattle.lexspec_actions.specs.Actions.{SpellsStatements, SpellsAction, SpellsEndAction, may_stand, are_few, end_of}
+use Rattle.lexspec_actions.specs.Actions.{SpellsStatements, SpellsAction, SpellsEndAction, are_few, end_of}
+use Rattle.lexspec_actions.specs.ActionSteps.{may_stand}
 use Rattle.lexspec_actions.specs.Outcome.{UnlessMemory}
 use Rattle.lexre_bytes.specs.declared.refusals.SpecErrorKind.{SpecErrorKind}
 use Rattle.lexre_bytes.proofs.MemoryLaws.{unless_memory, always}

@@ -1,7 +1,9 @@
 -- What Actions says by its table of statements is what the code reads, word by word.
-use Rattle.std.proofs.Common.{◌≡◌, ℕ, zero, suc, ◌≤◌, ◌==◌, Bool, true, false, List, [], ◌∷◌, ◌++◌, length, map, drop, option_map, Option, Some, None, if◌then◌else◌, refl, sym, ap, ◌∙◌, subst, arith}
-use Rattle.std.specs.Prelude.{◌&&◌, ◌||◌, nat_le, codes, find, flat_map, is_some}
-use Rattle.std.proofs.lemmas.Bool.{ne_eqb, eqb-true, eqb-false, le-leb}
+use Rattle.std.proofs.Common.{◌≡◌, ℕ, zero, suc, ◌≤◌, ◌+◌, ◌==◌, Bool, true, false, List, [], ◌∷◌, ◌++◌, length, map, take, drop, option_map, Option, Some, None, if◌then◌else◌, refl, sym, ap, ◌∙◌, subst, arith}
+use Rattle.std.specs.Prelude.{◌&&◌, ◌||◌, nat_le, codes, not, find, flat_map, is_some}
+use Rattle.std.specs.Option.{option_or}
+use Rattle.std.proofs.lemmas.List.Sums.{sum_by-cons}
+use Rattle.std.proofs.lemmas.Bool.{ne_eqb, eq-eqb, eqb-true, eqb-false, le-leb}
 use Rattle.lex_semantics.specs.ByteSets.{is_word, within}
 use Rattle.lex_semantics.specs.Reading.{◌>>=◌, Reader, IsCut, begins, is_empty, value}
 use Rattle.lex_semantics.specs.Limits.{max_kept, max_status}
@@ -11,7 +13,7 @@ use Rattle.lexspec_actions.specs.Names.{Known}
 use Rattle.lexspec_actions.specs.Bytes.{skip, next, name_at, digits_at, literal_at}
 use Rattle.lexspec_actions.specs.ByteSteps.{first_is}
 use Rattle.lexspec_actions.specs.Actions as A
-use Rattle.lexspec_actions.specs.Actions.{says_only, in_parentheses, number_at, format_at, statements, statement_at, piece_at}
+use Rattle.lexspec_actions.specs.Actions.{says_only, in_parentheses, number_at, format_at, statements, statement_at, piece_at, signs, AreBalanced}
 use Rattle.lexspec_actions.specs.ActionSteps as S
 use Rattle.lexspec_actions.specs.ActionSteps.{Said, does, prints, prints_text, said_by, onto, split, parts_in, without_text, with_text, no_argument, number_argument, formatted_at, printf_at, fputs_at, puts_at, yymore_at, yyterminate_at, yyless_at, pop_at, exit_at, closed_condition, begins as begins_with, begin_from, begin_at, pushes, push_from, push_at, stack_word}
 use Rattle.lexspec_actions.specs.Statements.{normal}
@@ -297,9 +299,89 @@ row_told : (b : Bool) (row : Row) (o : Option Row) (t : List ℕ) (x y : Option 
 row_told true row o t x y h k = h
 row_told false row o t x y h k = k
 
+-- ---- pieces
+
+abbrev pub piece_told : S.Piece → A.Piece
+piece_told S.semicolon = (codes ";", [])
+piece_told S.opens = (codes "{", [])
+piece_told S.closes = (codes "}", [])
+piece_told (S.says s) = ([], said_by s)
+
+abbrev closed_in : List A.Piece → ℕ
+closed_in qs = signs (codes "}") qs
+
+abbrev opened_in : List A.Piece → ℕ
+opened_in qs = signs (codes "{") qs
+
+-- braces that match, n of them having been opened before
+abbrev Total : ℕ → List A.Piece → Type 0
+Total n qs = closed_in qs ≡ n + opened_in qs
+
+abbrev Fronts : ℕ → List A.Piece → Type 0
+Fronts n qs = (k : ℕ) → closed_in (take k qs) ≤ n + opened_in (take k qs)
+
+one_opened : (qs : List A.Piece) → opened_in (piece_told S.opens ∷ qs) ≡ 1 + opened_in qs
+one_opened qs = sum_by-cons (λ (q : A.Piece). if is_word q.0 (codes "{") then 1 else 0) (piece_told S.opens) qs
+
+one_closed : (qs : List A.Piece) → closed_in (piece_told S.closes ∷ qs) ≡ 1 + closed_in qs
+one_closed qs = sum_by-cons (λ (q : A.Piece). if is_word q.0 (codes "}") then 1 else 0) (piece_told S.closes) qs
+
+front_none : (n : ℕ) → Fronts n []
+front_none n zero = omega arith
+front_none n (suc k) = omega arith
+
+front_opens : (n : ℕ) (qs : List A.Piece) → Fronts (suc n) qs → Fronts n (piece_told S.opens ∷ qs)
+front_opens n qs h zero = omega arith
+front_opens n qs h (suc k) = omega (arith, h k, one_opened (take k qs))
+
+front_closes : (n : ℕ) (qs : List A.Piece) → Fronts n qs → Fronts (suc n) (piece_told S.closes ∷ qs)
+front_closes n qs h zero = omega arith
+front_closes n qs h (suc k) = omega (arith, h k, one_closed (take k qs))
+
+front_empty : (n : ℕ) (qs : List A.Piece) → Fronts n qs → Fronts n (piece_told S.semicolon ∷ qs)
+front_empty n qs h zero = omega arith
+front_empty n qs h (suc k) = omega (arith, h k)
+
+front_says : (n : ℕ) (s : Said) (qs : List A.Piece) → Fronts n qs → Fronts n (piece_told (S.says s) ∷ qs)
+front_says n s qs h zero = omega arith
+front_says n s qs h (suc k) = omega (arith, h k)
+
+balanced_within : (n : ℕ) (ps : List S.Piece) → S.are_balanced n ps ≡ true → Total n (map piece_told ps) × Fronts n (map piece_told ps)
+balanced_within n [] h = (let e : n ≡ 0 = eqb-true n 0 h in omega arith, front_none n)
+balanced_within n (S.semicolon ∷ ps) h = let w = balanced_within n ps h in (omega (arith, w.0), front_empty n (map piece_told ps) w.1)
+balanced_within n (S.opens ∷ ps) h = let w = balanced_within (suc n) ps h in (omega (arith, w.0, one_opened (map piece_told ps)), front_opens n (map piece_told ps) w.1)
+balanced_within zero (S.closes ∷ ps) h = absurd (no h)
+  where
+    no : false ≡ true → ⊥
+    no p = cc
+balanced_within (suc n) (S.closes ∷ ps) h = let w = balanced_within n ps h in (omega (arith, w.0, one_closed (map piece_told ps)), front_closes n (map piece_told ps) w.1)
+balanced_within n (S.says s ∷ ps) h = let w = balanced_within n ps h in (omega (arith, w.0), front_says n s (map piece_told ps) w.1)
+
+within_balanced : (n : ℕ) (ps : List S.Piece) → Total n (map piece_told ps) → Fronts n (map piece_told ps) → S.are_balanced n ps ≡ true
+within_balanced n [] total fronts = let e : n ≡ 0 = omega (arith, total) in eq-eqb n 0 e
+within_balanced n (S.semicolon ∷ ps) total fronts = within_balanced n ps (omega (arith, total)) (λ k. omega (arith, fronts (suc k)))
+within_balanced n (S.opens ∷ ps) total fronts = within_balanced (suc n) ps (omega (arith, total, one_opened (map piece_told ps))) (λ k. omega (arith, fronts (suc k), one_opened (take k (map piece_told ps))))
+within_balanced zero (S.closes ∷ ps) total fronts = absurd (omega (arith, fronts 1, one_closed []))
+within_balanced (suc n) (S.closes ∷ ps) total fronts = within_balanced n ps (omega (arith, total, one_closed (map piece_told ps))) (λ k. omega (arith, fronts (suc k), one_closed (take k (map piece_told ps))))
+within_balanced n (S.says s ∷ ps) total fronts = within_balanced n ps (omega (arith, total)) (λ k. omega (arith, fronts (suc k)))
+
+-- where the braces match, as the code counts them
+pub balanced : (ps : List S.Piece) → S.are_balanced 0 ps ≡ true → AreBalanced (map piece_told ps)
+balanced ps h = let w = balanced_within 0 ps h in (omega (arith, w.0), λ k. omega (arith, w.1 k))
+
+pub one_balanced : (s : Said) → AreBalanced (([], said_by s) ∷ [])
+one_balanced s = balanced (S.says s ∷ []) refl
+
+said_told : (ps : List S.Piece) → flat_map (λ (q : A.Piece). q.1) (map piece_told ps) ≡ S.statements_of ps
+said_told [] = refl
+said_told (S.semicolon ∷ ps) = said_told ps
+said_told (S.opens ∷ ps) = said_told ps
+said_told (S.closes ∷ ps) = said_told ps
+said_told (S.says s ∷ ps) = ap (λ x. said_by s ++ x) (said_told ps)
+
 module _ (known : Known) where
-  stack_told : (b : Bool) (word t : List ℕ) → (find (λ (row : Row). is_word word row.0) (if◌then◌else◌ {A = List Row} b
-      ((codes "yy_push_state", in_parentheses (A.condition_at known Push)) ∷ (codes "yy_pop_state", in_parentheses (says_only Pop)) ∷ []) []) >>= λ r. r.1 t)
+  stack_told : (b : Bool) (word t : List ℕ) → (find (λ (row : Row). is_word word row.0) (if◌then◌else◌ {A = List Row} (not b) []
+      ((codes "yy_push_state", in_parentheses (A.condition_at known Push)) ∷ (codes "yy_pop_state", in_parentheses (says_only Pop)) ∷ [])) >>= λ r. r.1 t)
       ≡ told (if b then stack_word known.number word t else None)
   unfolding stack_word pop_at
   stack_told false word t = refl
@@ -329,10 +411,7 @@ module _ (known : Known) where
   unfolding A.after_statement S.after_statement
   after_is t = from (next (codes ";") t)
     where
-      from : (o : Option (List ℕ)) → ◌≡◌ {A = Option (List ℕ)} (elim o [
-        | Some rest ↦ Some rest
-        | None ↦ if is_empty (skip t) || begins (codes "}") (skip t) then Some t else None
-      ]) (elim o [
+      from : (o : Option (List ℕ)) → ◌≡◌ {A = Option (List ℕ)} (option_or o (if is_empty (skip t) || begins (codes "}") (skip t) then Some t else None)) (elim o [
         | Some rest ↦ Some rest
         | None ↦ if S.may_end (skip t) then Some t else None
       ])
@@ -358,12 +437,6 @@ module _ (known : Known) where
   unfolding statement_at name_at
   nothing_stated = refl
 
-  abbrev pub piece_told : S.Piece → A.Piece
-  piece_told S.semicolon = A.says []
-  piece_told S.opens = A.opens
-  piece_told S.closes = A.closes
-  piece_told (S.says s) = A.says (said_by s)
-
   abbrev pieces_told : Option (S.Piece × List ℕ) → Option (A.Piece × List ℕ)
   pieces_told o = option_map (λ (p, rest). (piece_told p, rest)) o
 
@@ -372,14 +445,14 @@ module _ (known : Known) where
   piece_is t = from (skip t)
     where
       said : {o : Option (List Statement × List ℕ)} (p : Option (Said × List ℕ)) → o ≡ told p
-          → ◌≡◌ {A = Option (A.Piece × List ℕ)} (o >>= λ (ss, rest). Some (A.says ss, rest)) (pieces_told (p >>= λ (s, rest). Some (S.says s, rest)))
+          → ◌≡◌ {A = Option (A.Piece × List ℕ)} (o >>= λ (ss, rest). Some (([], ss), rest)) (pieces_told (p >>= λ (s, rest). Some (S.says s, rest)))
       said None e = rw e refl
       said (Some (s, rest)) e = rw e refl
 
-      from : (u : List ℕ) → if◌then◌else◌ {A = Option (A.Piece × List ℕ)} (begins (codes ";") u) (Some (A.says [], drop 1 u))
-          (if◌then◌else◌ {A = Option (A.Piece × List ℕ)} (begins (codes "{") u) (Some (A.opens, drop 1 u))
-          (if◌then◌else◌ {A = Option (A.Piece × List ℕ)} (begins (codes "}") u) (Some (A.closes, drop 1 u))
-          (statement_at known u >>= λ (ss, rest). Some (A.says ss, rest)))) ≡ pieces_told (S.piece_from known u)
+      from : (u : List ℕ) → ◌≡◌ {A = Option (A.Piece × List ℕ)} (elim (find (λ sign. begins sign u) (codes "{" ∷ codes "}" ∷ codes ";" ∷ [])) [
+        | Some sign ↦ Some ((sign, []), drop 1 u)
+        | None ↦ statement_at known u >>= λ (ss, rest). Some (([], ss), rest)
+      ]) (pieces_told (S.piece_from known u))
       from [] = rw nothing_stated refl
       from (c ∷ u) = by_sign c 59
           (λ e. rw e refl)
@@ -388,6 +461,10 @@ module _ (known : Known) where
           (λ m. rw (ne_eqb c 123 m, turned c 123 m) (by_sign c 125
           (λ e. rw e refl)
           (λ k. rw (ne_eqb c 125 k, turned c 125 k) (said (S.statement_at known (c ∷ u)) (statement_told (c ∷ u))))))))
+
+  pub none_left : (t : List ℕ) → skip t ≡ [] → piece_at known t ≡ None
+  unfolding S.piece_from
+  none_left t done = piece_is t ∙ ap (λ u. pieces_told (S.piece_from known u)) done
 
   -- ---- whole texts
 
@@ -414,34 +491,20 @@ module _ (known : Known) where
   new_cut text [] done = done
   new_cut text (p ∷ ps) (rest, here, cut) = (rest, piece_is text ∙ ap pieces_told here, new_cut rest ps cut)
 
-  balanced_told : (n : ℕ) (ps : List S.Piece) → A.are_balanced n (map piece_told ps) ≡ S.are_balanced n ps
-  balanced_told n [] = refl
-  balanced_told n (S.semicolon ∷ ps) = balanced_told n ps
-  balanced_told n (S.opens ∷ ps) = balanced_told (suc n) ps
-  balanced_told zero (S.closes ∷ ps) = refl
-  balanced_told (suc n) (S.closes ∷ ps) = balanced_told n ps
-  balanced_told n (S.says s ∷ ps) = balanced_told n ps
-
-  said_told : (ps : List S.Piece) → flat_map A.said (map piece_told ps) ≡ S.statements_of ps
-  said_told [] = refl
-  said_told (S.semicolon ∷ ps) = said_told ps
-  said_told (S.opens ∷ ps) = said_told ps
-  said_told (S.closes ∷ ps) = said_told ps
-  said_told (S.says s ∷ ps) = ap (λ x. said_by s ++ x) (said_told ps)
-
   pub to_steps : (text : List ℕ) (ss : List Statement) → A.SpellsStatements known text ss → S.SpellsStatements known text ss
-  to_steps text ss (qs, cut, balanced, same) =
-      let (ps, old, told) = old_cut text qs cut in (
+  to_steps text ss (qs, cut, matched, same) =
+      let (ps, old, told) = old_cut text qs cut in
+      let (total, fronts) = subst AreBalanced told matched in (
         ps,
         old,
-        sym (balanced_told 0 ps) ∙ ap (A.are_balanced 0) (sym told) ∙ balanced,
-        same ∙ ap (λ x. normal (flat_map A.said x)) told ∙ ap normal (said_told ps) ∙ normal_is (S.statements_of ps),
+        within_balanced 0 ps (omega (arith, total)) (λ k. omega (arith, fronts k)),
+        same ∙ ap (λ x. normal (flat_map (λ (q : A.Piece). q.1) x)) told ∙ ap normal (said_told ps) ∙ normal_is (S.statements_of ps),
       )
 
   pub from_steps : (text : List ℕ) (ss : List Statement) → S.SpellsStatements known text ss → A.SpellsStatements known text ss
-  from_steps text ss (ps, cut, balanced, same) = (
+  from_steps text ss (ps, cut, matched, same) = (
     map piece_told ps,
     new_cut text ps cut,
-    balanced_told 0 ps ∙ balanced,
+    balanced ps matched,
     same ∙ sym (normal_is (S.statements_of ps)) ∙ ap normal (sym (said_told ps)),
   )

@@ -1,6 +1,6 @@
 -- What Bytes says by pieces is what the code reads byte by byte.
 use Rattle.std.proofs.Common.{◌≡◌, ℕ, zero, suc, ◌≤◌, ◌==◌, Bool, true, false, List, [], ◌∷◌, length, Option, Some, None, refl, sym, ap, ◌∙◌, subst, arith, take, drop, get_or, ◌-◌}
-use Rattle.std.specs.Prelude.{◌&&◌, ◌||◌, not, nat_eq, if◌then◌else◌, unwrap_or, codes}
+use Rattle.std.specs.Prelude.{◌&&◌, ◌||◌, not, nat_eq, if◌then◌else◌, unwrap_or, fold, codes}
 use Rattle.std.specs.List.{list_any}
 use Rattle.std.proofs.lemmas.List.{take_all}
 use Rattle.std.proofs.lemmas.Bool.{ne_eqb, eq-eqb, eqb-true, eqb-false}
@@ -10,7 +10,7 @@ use Rattle.lex_semantics.specs.Escapes.{simple_escape, is_octal, octal_at, hexad
 use Rattle.lexre_bytes.specs.Lexical.{after_word}
 use Rattle.lexre_bytes.proofs.QuoteLaws.{take_up_to_within}
 use Rattle.lexspec_actions.specs.Comments.{Place, outside, slash, block, star, line, after_star}
-use Rattle.lexspec_actions.specs.Bytes.{after_space, skip_up_to, skip, next, escape_at, literal_at}
+use Rattle.lexspec_actions.specs.Bytes.{after_space, skip, next, escape_at, literal_at}
 use Rattle.lexspec_actions.specs.ByteSteps.{skip_in, first_is, as_byte, plain_escape, escape_from, string_byte_at, string_at}
 
 -- a byte is the sign, or it is another
@@ -84,22 +84,29 @@ spaces (c ∷ t) = by_sign c 47 (λ e. rw e (slashed t)) (λ n. rw (ne_eqb c 47 
     from true = (refl, omega arith)
     from false = refl
 
-skipped : (n : ℕ) (t : List ℕ) → length t ≤ n → skip_up_to n t ≡ skip_in outside t
-skipped zero [] h = refl
-skipped zero (c ∷ t) h = absurd (omega arith)
-skipped (suc n) t h = from (after_space t) (spaces t) (λ rest. skipped n rest)
+-- a piece of what is passed over, for each byte
+passed : List ℕ → List ℕ → List ℕ
+passed t bs = fold (λ rest c. unwrap_or (after_space rest) rest) t bs
+
+none_passed : (t bs : List ℕ) → after_space t ≡ None → passed t bs ≡ t
+unfolding passed
+none_passed t [] h = refl
+none_passed t (b ∷ bs) h = rw h (none_passed t bs h)
+
+skipped : (t bs : List ℕ) → length t ≤ length bs → passed t bs ≡ skip_in outside t
+unfolding passed
+skipped [] [] h = refl
+skipped (c ∷ t) [] h = absurd (omega arith)
+skipped t (b ∷ bs) h = from (after_space t) refl (spaces t) (λ rest. skipped rest bs)
   where
-    from : (o : Option (List ℕ)) → AfterOf (skip_in outside t) t o → ((rest : List ℕ) → length rest ≤ n → skip_up_to n rest ≡ skip_in outside rest)
-        → elim o [
-          | Some rest ↦ skip_up_to n rest
-          | None ↦ t
-        ] ≡ skip_in outside t
-    from None after more = sym after
-    from (Some rest) after more = more rest (omega (arith, after.1)) ∙ sym after.0
+    from : (o : Option (List ℕ)) → after_space t ≡ o → AfterOf (skip_in outside t) t (after_space t) → ((rest : List ℕ) → length rest ≤ length bs → passed rest bs ≡ skip_in outside rest)
+        → passed (unwrap_or (after_space t) t) bs ≡ skip_in outside t
+    from None e after more = rw e (none_passed t bs e ∙ sym (rw e at after))
+    from (Some rest) e after more = let is = rw e at after in rw e (more rest (omega (arith, is.1)) ∙ sym is.0)
 
 pub skip_is : (t : List ℕ) → skip t ≡ skip_in outside t
-unfolding skip
-skip_is t = skipped (length t) t (omega arith)
+unfolding skip passed
+skip_is t = skipped t t (omega arith)
 
 pub nothing_skipped : (rest text : List ℕ) → length rest ≡ 0 → skip_in outside rest ≡ skip_in outside text → rest ≡ skip text
 nothing_skipped [] text none same = same ∙ sym (skip_is text)

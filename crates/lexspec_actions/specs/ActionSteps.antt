@@ -1,9 +1,11 @@
 -- The action of a rule by the steps of the code that reads it: what each of its readers answers. Actions says the same by its table of
 -- statements.
-use Rattle.std.specs.Prelude.{◌≡◌, ℕ, zero, suc, Bool, true, false, ◌==◌, nat_le, if◌then◌else◌, List, [], ◌∷◌, ◌++◌, Option, Some, None, codes, min}
+use Rattle.std.specs.Prelude.{◌≡◌, ℕ, zero, suc, Bool, true, false, ◌&&◌, ◌==◌, nat_le, if◌then◌else◌, List, [], ◌∷◌, ◌++◌, Option, Some, None, codes, min}
 use Rattle.lex_semantics.specs.ByteSets.{is_word, within}
 use Rattle.lex_semantics.specs.Reading.{◌>>=◌, Reader, IsCut, value}
+use Rattle.lex_semantics.specs.Legal.{ends_last, are_compatible}
 use Rattle.lexspec_actions.specs.Names.{Known}
+use Rattle.lexspec_actions.specs.Actions.{are_few}
 use Rattle.lexspec_actions.specs.Bytes.{skip, next, name_at, digits_at, literal_at}
 use Rattle.lex_semantics.specs.Spec.{EndAction, Statement, Echo, Print, Begin, More, Less, Reject, End, Push, Pop}
 use Rattle.lexspec_actions.specs.Statements.{then_all}
@@ -228,3 +230,7 @@ module _ (known : Known) where
 abbrev pub alone : List Statement → EndAction → Option EndAction
 alone [] e = Some e
 alone (s ∷ ss) e = None
+
+-- the statements may be the action of a rule
+abbrev pub may_stand : List Statement → Bool
+may_stand ss = are_few ss && ends_last ss && are_compatible ss

@@ -1,5 +1,6 @@
 -- The action of a rule: which statements a text spells. (POSIX, lex, Actions in lex; flex, Actions, Start Conditions.)
-use Rattle.std.specs.Prelude.{◌≡◌, ℕ, zero, suc, Bool, true, false, ◌&&◌, ◌||◌, ◌==◌, nat_le, if◌then◌else◌, List, [], ◌∷◌, ◌++◌, length, drop, find, sum_by, flat_map, Option, Some, None, is_some, option_map, codes}
+use Rattle.std.specs.Prelude.{◌≡◌, ◌≤◌, ℕ, Bool, true, not, ◌&&◌, ◌||◌, nat_le, if◌then◌else◌, List, [], ◌∷◌, ◌++◌, length, take, drop, find, sum_by, count_by, flat_map, Option, Some, None, is_some, option_map, codes}
+use Rattle.std.specs.Option.{option_or}
 use Rattle.lex_semantics.specs.ByteSets.{is_word, within}
 use Rattle.lex_semantics.specs.Reading.{◌>>=◌, Reader, IsCut, begins, is_empty, value}
 use Rattle.lexspec_actions.specs.Names.{Known}
@@ -46,30 +47,21 @@ format_at t = literal_at t >>= λ (text, rest). parts_of text >>= λ (front, bac
   | Some end ↦ second_word (codes "yytext") rest >>= λ after. Some (Print front ∷ Echo ∷ Print end ∷ [], after)
 ]
 
--- what an action is made of: braces, and statements, of which `;` alone is an empty one
-pub data Piece : Type 0 where
-  opens : Piece
-  closes : Piece
-  says : List Statement → Piece
-
 -- the `;` of a statement, which may be absent before `}` and at the end
 unfoldable pub after_statement : List ℕ → Option (List ℕ)
-after_statement t = elim (next (codes ";") t) [
-  | Some rest ↦ Some rest
-  | None ↦ if is_empty (skip t) || begins (codes "}") (skip t) then Some t else None
-]
+after_statement t = option_or (next (codes ";") t) (if is_empty (skip t) || begins (codes "}") (skip t) then Some t else None)
 
--- each brace that is opened is closed, n of them having been opened before
-abbrev pub are_balanced : ℕ → List Piece → Bool
-are_balanced n [] = n == 0
-are_balanced n (opens ∷ ps) = are_balanced (suc n) ps
-are_balanced zero (closes ∷ ps) = false
-are_balanced (suc n) (closes ∷ ps) = are_balanced n ps
-are_balanced n (says ss ∷ ps) = are_balanced n ps
+-- a piece of an action: its sign, where it is `{`, `}` or `;` alone, and its statements
+abbrev pub Piece : Type 0
+Piece = List ℕ × List Statement
 
-abbrev pub said : Piece → List Statement
-said (says ss) = ss
-said _ = []
+-- how many pieces have the sign
+abbrev pub signs : List ℕ → List Piece → ℕ
+signs sign ps = count_by (λ p. is_word p.0 sign) ps
+
+-- there are as many `}` as `{`, and no more in any front of the pieces
+abbrev pub AreBalanced : List Piece → Type 0
+AreBalanced ps = (signs (codes "}") ps ≡ signs (codes "{") ps) × ((k : ℕ) → signs (codes "}") (take k ps) ≤ signs (codes "{") (take k ps))
 
 module _ (known : Known) where
   -- a condition: its name, or `0`
@@ -92,37 +84,30 @@ module _ (known : Known) where
       ∷ (codes "printf", in_parentheses format_at)
       ∷ (codes "fputs", in_parentheses (λ t. literal_at t >>= λ (text, rest). second_word (codes "yyout") rest >>= says_only (Print text)))
       ∷ (codes "puts", in_parentheses (λ t. literal_at t >>= λ (text, rest). says_only (Print (text ++ codes "\n")) rest))
-      ∷ (if known.stack then
-      (codes "yy_push_state", in_parentheses (condition_at Push)) ∷ (codes "yy_pop_state", in_parentheses (says_only Pop)) ∷ []
-      else [])
+      ∷ (if not known.stack then []
+      else (codes "yy_push_state", in_parentheses (condition_at Push)) ∷ (codes "yy_pop_state", in_parentheses (says_only Pop)) ∷ [])
 
   unfoldable pub statement_at : Reader (List Statement)
   statement_at t = name_at t >>= λ (word, rest). find (λ row. is_word word row.0) statements >>= λ row. row.1 rest >>= λ (ss, after).
       after_statement after >>= λ last. Some (ss, last)
 
   unfoldable pub piece_at : Reader Piece
-  piece_at t =
-      if begins (codes ";") (skip t) then Some (says [], drop 1 (skip t))
-      else if begins (codes "{") (skip t) then Some (opens, drop 1 (skip t))
-      else if begins (codes "}") (skip t) then Some (closes, drop 1 (skip t))
-      else statement_at (skip t) >>= λ (ss, rest). Some (says ss, rest)
+  piece_at t = elim (find (λ sign. begins sign (skip t)) (codes "{" ∷ codes "}" ∷ codes ";" ∷ [])) [
+    | Some sign ↦ Some ((sign, []), drop 1 (skip t))
+    | None ↦ statement_at (skip t) >>= λ (ss, rest). Some (([], ss), rest)
+  ]
 
   -- The text is an action, and these are its statements in normal form. After the last piece only blanks and comments are left.
   abbrev pub SpellsStatements : List ℕ → List Statement → Type 0
-  SpellsStatements text ss = (ps : List Piece) × IsCut piece_at (λ t. skip t ≡ []) text ps × (are_balanced 0 ps ≡ true)
-      × (ss ≡ normal (flat_map said ps))
+  SpellsStatements text ss = (ps : List Piece) × IsCut piece_at (λ t. skip t ≡ []) text ps × AreBalanced ps × (ss ≡ normal (flat_map (λ p. p.1) ps))
 
 -- there are no more statements and literal bytes than an action may have
 abbrev pub are_few : List Statement → Bool
 are_few ss = nat_le (length ss) max_statements && nat_le (sum_by literal_bytes ss) max_literal_bytes
 
--- the statements may be the action of a rule
-abbrev pub may_stand : List Statement → Bool
-may_stand ss = are_few ss && ends_last ss && are_compatible ss
-
 -- the action of a rule
 abbrev pub SpellsAction : Known → List ℕ → List Statement → Type 0
-SpellsAction known text ss = SpellsStatements known text ss × (may_stand ss ≡ true)
+SpellsAction known text ss = SpellsStatements known text ss × ((are_few ss && ends_last ss && are_compatible ss) ≡ true)
 
 -- what an `<<EOF>>` rule does with these statements: it may print, and it ends the scan, with status 0 where it says
 -- none (flex, End-of-File Rules)

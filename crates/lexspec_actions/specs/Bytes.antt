@@ -1,5 +1,5 @@
 -- Names, numbers and strings of an action, and what stands between them.
-use Rattle.std.specs.Prelude.{ℕ, zero, suc, Bool, true, false, not, ◌==◌, if◌then◌else◌, List, [], ◌∷◌, length, drop, Option, Some, None, unwrap_or, codes}
+use Rattle.std.specs.Prelude.{ℕ, suc, not, ◌==◌, if◌then◌else◌, List, [], ◌∷◌, length, drop, fold, Option, Some, None, unwrap_or, codes}
 use Rattle.std.specs.List.{list_any}
 use Rattle.lex_semantics.specs.ByteSets.{within, is_digit}
 use Rattle.lex_semantics.specs.Reading.{◌>>=◌, Reader, begins, is_empty, take_run, after_run, is_white, starts_name, goes_on_name}
@@ -26,17 +26,9 @@ after_space (c ∷ t) =
     else if begins (codes "//") (c ∷ t) then Some (after_run (λ b. not (b == 10)) t)
     else None
 
--- what follows blanks, newlines and comments, at most n of them
-abbrev pub skip_up_to : ℕ → List ℕ → List ℕ
-skip_up_to zero t = t
-skip_up_to (suc n) t = elim (after_space t) [
-  | Some rest ↦ skip_up_to n rest
-  | None ↦ t
-]
-
--- what follows all of them
+-- what follows all of them: one is passed over for each byte of the text, where there is one more
 unfoldable pub skip : List ℕ → List ℕ
-skip t = skip_up_to (length t) t
+skip t = fold (λ rest c. unwrap_or (after_space rest) rest) t t
 
 -- what follows the sign, where that comes next
 unfoldable pub next : List ℕ → List ℕ → Option (List ℕ)
