@@ -1,5 +1,5 @@
 -- The worked examples of whole files, computed.
-use Rattle.std.proofs.Common.{◌≡◌, ℕ, zero, suc, ◌<◌, ◌≤◌, true, false, List, [], ◌∷◌, Option, Some, None, refl, arith}
+use Rattle.std.proofs.Common.{◌≡◌, ℕ, zero, suc, ◌<◌, ◌≤◌, true, false, List, [], ◌∷◌, Option, Some, None, inl, refl, arith}
 use Rattle.std.proofs.lemmas.Bool.{leb-true}
 use Rattle.std.specs.Cmp.Lexicographic.{nat_list_cmp_total}
 use Rattle.std.specs.FinMap.{get, from_entries, get-from_entries}
@@ -176,7 +176,7 @@ open_spelled = (
     refl,
   ),
   refl,
-  refl,
+  inl refl,
 )
 
 ended_spelled : SpellsEndAction (known_in names true) (codes "{ printf(\"end\"); yyterminate(); }") ended
@@ -190,7 +190,7 @@ ended_spelled = (
     refl,
   ),
   refl,
-  refl,
+  inl refl,
 )
 
 abbrev whole_ends : List EndRule

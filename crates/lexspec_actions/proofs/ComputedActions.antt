@@ -1,5 +1,5 @@
 -- The worked examples of actions, computed.
-use Rattle.std.proofs.Common.{◌≡◌, ℕ, true, false, ◌&&◌, List, [], ◌∷◌, Option, Some, None, refl, sym, ap, ◌∙◌, subst, arith}
+use Rattle.std.proofs.Common.{◌≡◌, ℕ, true, false, List, [], ◌∷◌, Option, Some, None, refl, sym, ap, ◌∙◌, subst, arith, inl}
 use Rattle.std.specs.Prelude.{codes, flat_map}
 use Rattle.lex_semantics.specs.ByteSets.{is_alpha, is_upper, is_lower, is_alnum, is_blank, is_digit, is_xdigit}
 use Rattle.lex_semantics.specs.Reading.{take_up_to, IsCut}
@@ -87,5 +87,5 @@ end_actions = (
   Print (codes "a\n") ∷ End 3 ∷ [],
   (([], Print (codes "a\n") ∷ []) ∷ ([], End 3 ∷ []) ∷ [], (codes " exit(3);", refl, ([], refl, refl)), balanced (S.says (prints (codes "a\n")) ∷ S.says (does (End 3)) ∷ []) refl, refl),
   refl,
-  refl,
+  inl refl,
 )

@@ -9,6 +9,7 @@ pub mod StatementLemmas
 pub mod ActionLemmas
 pub mod OneAction
 pub mod LegalLemmas
+pub mod EndLemmas
 pub mod ReadLemmas
 pub mod RangeLemmas
 pub mod NormalLemmas

@@ -6,9 +6,10 @@ use Rattle.lex_semantics.specs.Spec.{EndAction, Statement, Echo, Print, Begin, M
 use Rattle.lex_semantics.specs.Legal.{in_range, all_in_range, is_literal, are_joined, ends_last, are_compatible, IsLegal}
 use Rattle.lexspec_actions.specs.Names.{Known, number_from, known_in}
 use Rattle.lexspec_actions.specs.Statements.{then_print, then_one, then_all}
-use Rattle.lexspec_actions.specs.Actions.{are_few, SpellsStatements, SpellsAction, SpellsEndAction, end_of}
+use Rattle.lexspec_actions.specs.Actions.{are_few, SpellsStatements, SpellsAction, SpellsEndAction}
 use Rattle.lexspec_actions.specs.ActionSteps as Steps
-use Rattle.lexspec_actions.specs.ActionSteps.{statements_of}
+use Rattle.lexspec_actions.specs.ActionSteps.{statements_of, end_of}
+use Rattle.lexspec_actions.proofs.EndLemmas.{end_is}
 use Rattle.lexspec_actions.proofs.SameActions.{to_steps}
 use Rattle.lexspec_actions.proofs.RangeLemmas.{raw, all_raw, cut_good, number_below}
 use Rattle.lex_semantics.specs.Limits.{max_status}
@@ -198,4 +199,4 @@ small_end n _ e h is = absurd (none is)
     none p = cc
 
 pub end_status : (names : List (List ℕ)) (stack : Bool) (text : List ℕ) (e : EndAction) → 1 ≤ length names → SpellsEndAction (known_in names stack) text e → e.status ≤ max_status
-end_status names stack text e some (ss, spells, few, is) = small_end (length names) ss e (spelled_range names stack text ss some spells) is
+end_status names stack text e some (ss, spells, few, is) = small_end (length names) ss e (spelled_range names stack text ss some spells) (end_is ss e is)

@@ -1,13 +1,13 @@
 -- What Actions says by its table of statements is what the code reads, word by word.
-use Rattle.std.proofs.Common.{◌≡◌, ℕ, zero, suc, ◌≤◌, ◌+◌, ◌==◌, Bool, true, false, List, [], ◌∷◌, ◌++◌, length, map, take, drop, option_map, Option, Some, None, if◌then◌else◌, refl, sym, ap, ◌∙◌, subst, arith}
+use Rattle.std.proofs.Common.{◌≡◌, ℕ, zero, suc, ◌≤◌, ◌+◌, Bool, true, false, List, [], ◌∷◌, ◌++◌, map, take, drop, option_map, Option, Some, None, if◌then◌else◌, refl, sym, ap, ◌∙◌, subst, arith}
 use Rattle.std.specs.Prelude.{◌&&◌, ◌||◌, nat_le, codes, not, find, flat_map, is_some}
 use Rattle.std.specs.Option.{option_or}
 use Rattle.std.proofs.lemmas.List.Sums.{sum_by-cons}
-use Rattle.std.proofs.lemmas.Bool.{ne_eqb, eq-eqb, eqb-true, eqb-false, le-leb}
-use Rattle.lex_semantics.specs.ByteSets.{is_word, within}
-use Rattle.lex_semantics.specs.Reading.{◌>>=◌, Reader, IsCut, begins, is_empty, value}
+use Rattle.std.proofs.lemmas.Bool.{ne_eqb, eq-eqb, eqb-true, le-leb, lt-leb, leb-true}
+use Rattle.lex_semantics.specs.ByteSets.{is_word, within, is_digit, is_alpha, is_upper, is_lower}
+use Rattle.lex_semantics.specs.Reading.{◌>>=◌, Reader, IsCut, begins, is_empty, value, take_up_to, take_run, starts_name, goes_on_name}
 use Rattle.lex_semantics.specs.Limits.{max_kept, max_status}
-use Rattle.lex_semantics.specs.Spec.{Statement, Echo, Print, Begin, More, Less, Reject, End, Push, Pop}
+use Rattle.lex_semantics.specs.Spec.{Statement, Echo, Print, Begin, More, Less, End, Push, Pop}
 use Rattle.lexre_bytes.specs.Lexical.{after_word}
 use Rattle.lexspec_actions.specs.Names.{Known}
 use Rattle.lexspec_actions.specs.Bytes.{skip, next, name_at, digits_at, literal_at}
@@ -85,6 +85,37 @@ number_told low high s test t same = twice_told (next (codes "(") t) _ _ _ (λ i
     from None = refl
     from (Some (digits, rest)) = ends (value 10 digits) rest (test (value 10 digits)) (next (codes ")") rest) (same (value 10 digits)) refl refl
 
+-- what begins a name is no digit
+letter_no_digit : (c : ℕ) → starts_name c ≡ true → is_digit c ≡ false
+unfolding is_digit is_alpha is_upper is_lower
+letter_no_digit c h = from (nat_le c 57) refl
+  where
+    off : (b : Bool) → (b && false) ≡ false
+    off true = refl
+    off false = refl
+
+    no : {P : Type 0} → false ≡ true → P
+    no p = cc
+
+    small : c ≤ 57 → ⊥
+    small le = no (rw (lt-leb 65 c (omega arith), lt-leb 97 c (omega arith), ne_eqb c 95 (λ same. omega (arith, same))) at h)
+
+    from : (b : Bool) → nat_le c 57 ≡ b → (nat_le 48 c && nat_le c 57) ≡ false
+    from false e = rw e (off (nat_le 48 c))
+    from true e = absurd (small (leb-true c 57 e))
+
+no_digits : (u : List ℕ) (found : List ℕ × List ℕ) → name_at u ≡ Some found → digits_at u ≡ None
+unfolding name_at digits_at take_up_to
+no_digits [] found e = refl
+no_digits (c ∷ u) found e = from (starts_name c) refl e
+  where
+    from : (b : Bool) → starts_name c ≡ b → ◌≡◌ {A = Option (List ℕ × List ℕ)} (if b then Some (take_run goes_on_name (c ∷ u)) else None) (Some found) → digits_at (c ∷ u) ≡ None
+    from true e f = rw (letter_no_digit c e) refl
+    from false e f = absurd (no f)
+      where
+        no : ◌≡◌ {A = Option (List ℕ × List ℕ)} None (Some found) → ⊥
+        no p = cc
+
 -- a condition
 module _ (known : Known) where
   -- what is read of a condition, by what is said of its number
@@ -93,12 +124,8 @@ module _ (known : Known) where
 
   condition_numbered : (s : ℕ → Statement) (t : List ℕ) → A.condition_at known s t ≡ numbered s (S.condition_at known.number t)
   unfolding A.condition_at S.condition_at
-  condition_numbered s t = from (name_at (skip t))
+  condition_numbered s t = from (name_at (skip t)) (λ found e. no_digits (skip t) found e)
     where
-      listed : (o : Option ℕ) (rest : List ℕ) → (o >>= λ c. says_only (s c) rest) ≡ numbered s (o >>= λ c. Some (c, rest))
-      listed None rest = refl
-      listed (Some c) rest = refl
-
       zero_only : (b : Bool) (rest : List ℕ) → (if◌then◌else◌ {A = Option (List Statement × List ℕ)} b (says_only (s 0) rest) None) ≡ numbered s (if◌then◌else◌ {A = Option (ℕ × List ℕ)} b (Some (0, rest)) None)
       zero_only true rest = refl
       zero_only false rest = refl
@@ -109,15 +136,21 @@ module _ (known : Known) where
       digits None = refl
       digits (Some (ds, rest)) = zero_only (is_word ds (codes "0")) rest
 
-      from : (o : Option (List ℕ × List ℕ)) → elim o [
-        | Some found ↦ known.number found.0 >>= λ c. says_only (s c) found.1
-        | None ↦ digits_at (skip t) >>= λ (ds, rest). if◌then◌else◌ {A = Option (List Statement × List ℕ)} (is_word ds (codes "0")) (says_only (s 0) rest) None
-      ] ≡ numbered s (elim o [
-        | Some found ↦ known.number found.0 >>= λ c. Some (c, found.1)
-        | None ↦ digits_at (skip t) >>= λ (ds, rest). if◌then◌else◌ {A = Option (ℕ × List ℕ)} (is_word ds (codes "0")) (Some (0, rest)) None
-      ])
-      from (Some found) = listed (known.number found.0) found.1
-      from None = digits (digits_at (skip t))
+      listed : (o : Option ℕ) (rest : List ℕ) (p : Option (List ℕ × List ℕ)) → p ≡ None
+          → option_or (o >>= λ c. says_only (s c) rest) (p >>= λ (ds, rest). if◌then◌else◌ {A = Option (List Statement × List ℕ)} (is_word ds (codes "0")) (says_only (s 0) rest) None)
+          ≡ numbered s (o >>= λ c. Some (c, rest))
+      listed None rest p e = rw e refl
+      listed (Some c) rest p e = refl
+
+      from : (o : Option (List ℕ × List ℕ)) → ((found : List ℕ × List ℕ) → o ≡ Some found → digits_at (skip t) ≡ None)
+          → option_or (o >>= λ (name, rest). known.number name >>= λ c. says_only (s c) rest)
+          (digits_at (skip t) >>= λ (ds, rest). if◌then◌else◌ {A = Option (List Statement × List ℕ)} (is_word ds (codes "0")) (says_only (s 0) rest) None)
+          ≡ numbered s (elim o [
+            | Some found ↦ known.number found.0 >>= λ c. Some (c, found.1)
+            | None ↦ digits_at (skip t) >>= λ (ds, rest). if◌then◌else◌ {A = Option (ℕ × List ℕ)} (is_word ds (codes "0")) (Some (0, rest)) None
+          ])
+      from (Some found) h = listed (known.number found.0) found.1 (digits_at (skip t)) (h found refl)
+      from None h = digits (digits_at (skip t))
 
   closed : (s : ℕ → Statement) (inside : List ℕ)
       → (A.condition_at known s inside >>= λ (ss, rest). next (codes ")") rest >>= λ after. Some (ss, after)) ≡ numbered s (closed_condition known.number inside)

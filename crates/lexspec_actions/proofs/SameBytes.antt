@@ -1,15 +1,15 @@
 -- What Bytes says by pieces is what the code reads byte by byte.
 use Rattle.std.proofs.Common.{◌≡◌, ℕ, zero, suc, ◌≤◌, ◌==◌, Bool, true, false, List, [], ◌∷◌, length, Option, Some, None, refl, sym, ap, ◌∙◌, subst, arith, take, drop, get_or, ◌-◌}
-use Rattle.std.specs.Prelude.{◌&&◌, ◌||◌, not, nat_eq, if◌then◌else◌, unwrap_or, fold, codes}
+use Rattle.std.specs.Prelude.{not, if◌then◌else◌, unwrap_or, fold, codes}
 use Rattle.std.specs.List.{list_any}
 use Rattle.std.proofs.lemmas.List.{take_all}
 use Rattle.std.proofs.lemmas.Bool.{ne_eqb, eq-eqb, eqb-true, eqb-false}
 use Rattle.lex_semantics.specs.ByteSets.{within, is_blank}
-use Rattle.lex_semantics.specs.Reading.{◌>>=◌, take_up_to, after_run, is_white, begins, Reader}
-use Rattle.lex_semantics.specs.Escapes.{simple_escape, is_octal, octal_at, hexadecimal_at, byte_with, until_quote}
+use Rattle.lex_semantics.specs.Reading.{◌>>=◌, take_up_to, is_white, begins, Reader}
+use Rattle.lex_semantics.specs.Escapes.{simple_escape, is_octal, octal_at, byte_with, until_quote}
 use Rattle.lexre_bytes.specs.Lexical.{after_word}
 use Rattle.lexre_bytes.proofs.QuoteLaws.{take_up_to_within}
-use Rattle.lexspec_actions.specs.Comments.{Place, outside, slash, block, star, line, after_star}
+use Rattle.lexspec_actions.specs.Comments.{outside, slash, block, star, line, after_star}
 use Rattle.lexspec_actions.specs.Bytes.{after_space, skip, next, escape_at, literal_at}
 use Rattle.lexspec_actions.specs.ByteSteps.{skip_in, first_is, as_byte, plain_escape, escape_from, string_byte_at, string_at}
 

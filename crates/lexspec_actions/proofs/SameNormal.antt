@@ -1,6 +1,6 @@
 -- The normal form from the right is that from the left.
 use Rattle.std.proofs.Common.{◌≡◌, ℕ, List, [], ◌∷◌, ◌++◌, refl, sym, ap, ◌∙◌, append_assoc, append-nil}
-use Rattle.lex_semantics.specs.Spec.{Statement, Echo, Print, Begin, More, Less, Reject, End, Push, Pop}
+use Rattle.lex_semantics.specs.Spec.{Statement, Print}
 use Rattle.lexspec_actions.specs.Statements.{before, normal, then_print, then_one, then_all}
 
 -- a statement before others, and a literal after them

@@ -226,6 +226,14 @@ module _ (known : Known) where
   SpellsStatements text ss =
       (ps : List Piece) × IsCut piece_at NoPiece text ps × (are_balanced 0 ps ≡ true) × (ss ≡ then_all [] (statements_of ps))
 
+-- what an `<<EOF>>` rule does with these statements
+abbrev pub end_of : List Statement → Option EndAction
+end_of [] = Some (record { print = []; status = 0 })
+end_of (Print bs ∷ []) = Some (record { print = bs; status = 0 })
+end_of (End n ∷ []) = Some (record { print = []; status = n })
+end_of (Print bs ∷ End n ∷ []) = Some (record { print = bs; status = n })
+end_of _ = None
+
 -- an end action, where no statements stand before it
 abbrev pub alone : List Statement → EndAction → Option EndAction
 alone [] e = Some e

@@ -1,5 +1,5 @@
 -- The action of a rule: which statements a text spells. (POSIX, lex, Actions in lex; flex, Actions, Start Conditions.)
-use Rattle.std.specs.Prelude.{◌≡◌, ◌≤◌, ℕ, Bool, true, not, ◌&&◌, ◌||◌, nat_le, if◌then◌else◌, List, [], ◌∷◌, ◌++◌, length, take, drop, find, sum_by, count_by, flat_map, Option, Some, None, is_some, option_map, codes}
+use Rattle.std.specs.Prelude.{◌≡◌, ◌≤◌, ◌⊎◌, ℕ, Bool, true, not, ◌&&◌, ◌||◌, nat_le, if◌then◌else◌, List, [], ◌∷◌, ◌++◌, length, take, drop, find, sum_by, count_by, flat_map, Option, Some, None, is_some, option_map, codes}
 use Rattle.std.specs.Option.{option_or}
 use Rattle.lex_semantics.specs.ByteSets.{is_word, within}
 use Rattle.lex_semantics.specs.Reading.{◌>>=◌, Reader, IsCut, begins, is_empty, value}
@@ -66,10 +66,8 @@ AreBalanced ps = (signs (codes "}") ps ≡ signs (codes "{") ps) × ((k : ℕ) �
 module _ (known : Known) where
   -- a condition: its name, or `0`
   unfoldable pub condition_at : (ℕ → Statement) → Reader (List Statement)
-  condition_at s t = elim (name_at (skip t)) [
-    | Some (name, rest) ↦ known.number name >>= λ c. says_only (s c) rest
-    | None ↦ digits_at (skip t) >>= λ (digits, rest). if is_word digits (codes "0") then says_only (s 0) rest else None
-  ]
+  condition_at s t = option_or (name_at (skip t) >>= λ (name, rest). known.number name >>= λ c. says_only (s c) rest)
+      (digits_at (skip t) >>= λ (digits, rest). if is_word digits (codes "0") then says_only (s 0) rest else None)
 
   -- the statements: the first word of each, and what follows it
   abbrev pub statements : List (List ℕ × Reader (List Statement))
@@ -87,10 +85,12 @@ module _ (known : Known) where
       ∷ (if not known.stack then []
       else (codes "yy_push_state", in_parentheses (condition_at Push)) ∷ (codes "yy_pop_state", in_parentheses (says_only Pop)) ∷ [])
 
+  -- a first word of the table, what follows it, and the `;`
   unfoldable pub statement_at : Reader (List Statement)
   statement_at t = name_at t >>= λ (word, rest). find (λ row. is_word word row.0) statements >>= λ row. row.1 rest >>= λ (ss, after).
       after_statement after >>= λ last. Some (ss, last)
 
+  -- the piece that comes next
   unfoldable pub piece_at : Reader Piece
   piece_at t = elim (find (λ sign. begins sign (skip t)) (codes "{" ∷ codes "}" ∷ codes ";" ∷ [])) [
     | Some sign ↦ Some ((sign, []), drop 1 (skip t))
@@ -109,16 +109,8 @@ are_few ss = nat_le (length ss) max_statements && nat_le (sum_by literal_bytes s
 abbrev pub SpellsAction : Known → List ℕ → List Statement → Type 0
 SpellsAction known text ss = SpellsStatements known text ss × ((are_few ss && ends_last ss && are_compatible ss) ≡ true)
 
--- what an `<<EOF>>` rule does with these statements: it may print, and it ends the scan, with status 0 where it says
--- none (flex, End-of-File Rules)
-abbrev pub end_of : List Statement → Option EndAction
-end_of [] = Some (record { print = []; status = 0 })
-end_of (Print bs ∷ []) = Some (record { print = bs; status = 0 })
-end_of (End n ∷ []) = Some (record { print = []; status = n })
-end_of (Print bs ∷ End n ∷ []) = Some (record { print = bs; status = n })
-end_of _ = None
-
--- the action of an `<<EOF>>` rule
+-- The action of an `<<EOF>>` rule: it may print, and it ends the scan, with status 0 where it says none. So its statements are a literal,
+-- which may be empty, and an end, or the literal alone. (flex, End-of-File Rules.)
 abbrev pub SpellsEndAction : Known → List ℕ → EndAction → Type 0
-SpellsEndAction known text e =
-    (ss : List Statement) × SpellsStatements known text ss × (are_few ss ≡ true) × (end_of ss ≡ Some e)
+SpellsEndAction known text e = (ss : List Statement) × SpellsStatements known text ss × (are_few ss ≡ true)
+    × ((ss ≡ normal (Print e.print ∷ End e.status ∷ [])) ⊎ ((ss ≡ normal (Print e.print ∷ [])) × (e.status ≡ 0)))

@@ -26,7 +26,8 @@ after_space (c ∷ t) =
     else if begins (codes "//") (c ∷ t) then Some (after_run (λ b. not (b == 10)) t)
     else None
 
--- what follows all of them: one is passed over for each byte of the text, where there is one more
+-- What follows all the blanks, newlines and comments. They are no more than the bytes of the text, so for each byte one of them is
+-- passed over, where one is left.
 unfoldable pub skip : List ℕ → List ℕ
 skip t = fold (λ rest c. unwrap_or (after_space rest) rest) t t
 

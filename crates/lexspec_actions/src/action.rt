@@ -1,10 +1,8 @@
 //! The action of a rule.
 ghost use Rattle.std.specs.Prelude.{◌≡◌, ◌≤◌, ◌<◌, List, [], ◌∷◌, ◌++◌, length, map, option_map, IfOk, IfErr};
 ghost use Rattle.lex_semantics.specs.Spec as S;
-ghost use Rattle.lexspec_actions.specs.Actions.{SpellsStatements, SpellsAction};
-ghost use Rattle.lexspec_actions.specs.ActionSteps.{piece_from};
-ghost use Rattle.lexspec_actions.specs.Actions.{SpellsEndAction, end_of};
-ghost use Rattle.lexspec_actions.specs.ActionSteps.{alone};
+ghost use Rattle.lexspec_actions.specs.Actions.{SpellsStatements, SpellsAction, SpellsEndAction};
+ghost use Rattle.lexspec_actions.specs.ActionSteps.{piece_from, end_of, alone};
 ghost use Rattle.lexspec_actions.specs.Names.{known_in, names_of};
 ghost use Rattle.lexspec_actions.specs.Views.{statement_of, piece_of, end_action_of};
 ghost use Rattle.lexspec_actions.specs.Outcome.{Reads, UnlessMemory};
