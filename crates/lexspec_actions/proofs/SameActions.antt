@@ -13,7 +13,7 @@ use Rattle.lexspec_actions.specs.Names.{Known}
 use Rattle.lexspec_actions.specs.Bytes.{skip, next, name_at, digits_at, literal_at}
 use Rattle.lexspec_actions.specs.ByteSteps.{first_is}
 use Rattle.lexspec_actions.specs.Actions as A
-use Rattle.lexspec_actions.specs.Actions.{says_only, in_parentheses, number_at, format_at, statements, statement_at, piece_at, signs, AreBalanced}
+use Rattle.lexspec_actions.specs.Actions.{says_only, in_parentheses, number_at, format_at, statements, statement_at, piece_at, punctuators, AreBalanced}
 use Rattle.lexspec_actions.specs.ActionSteps as S
 use Rattle.lexspec_actions.specs.ActionSteps.{Said, does, prints, prints_text, said_by, onto, split, parts_in, without_text, with_text, no_argument, number_argument, formatted_at, printf_at, fputs_at, puts_at, yymore_at, yyterminate_at, yyless_at, pop_at, exit_at, closed_condition, begins as begins_with, begin_from, begin_at, pushes, push_from, push_at, stack_word}
 use Rattle.lexspec_actions.specs.Statements.{normal}
@@ -213,7 +213,7 @@ second_told {X} word t x = from (next (codes ",") t)
     from None = refl
     from (Some rest) = named (name_at (skip rest))
 
--- two signs do not come next at one place
+-- two punctuators do not come next at one place
 one_sign : (c d : ℕ) (t after : List ℕ) → (c ≡ d → ⊥) → next (c ∷ []) t ≡ Some after → next (d ∷ []) t ≡ None
 one_sign c d t after other h = next_is d t ∙ from (skip t) (sym (next_is c t) ∙ h)
   where
@@ -341,10 +341,10 @@ piece_told S.closes = (codes "}", [])
 piece_told (S.says s) = ([], said_by s)
 
 abbrev closed_in : List A.Piece → ℕ
-closed_in qs = signs (codes "}") qs
+closed_in qs = punctuators (codes "}") qs
 
 abbrev opened_in : List A.Piece → ℕ
-opened_in qs = signs (codes "{") qs
+opened_in qs = punctuators (codes "{") qs
 
 -- braces that match, n of them having been opened before
 abbrev Total : ℕ → List A.Piece → Type 0

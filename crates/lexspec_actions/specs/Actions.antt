@@ -51,17 +51,18 @@ format_at t = literal_at t >>= λ (text, rest). parts_of text >>= λ (front, bac
 unfoldable pub after_statement : List ℕ → Option (List ℕ)
 after_statement t = option_or (next (codes ";") t) (if is_empty (skip t) || begins (codes "}") (skip t) then Some t else None)
 
--- a piece of an action: its sign, where it is `{`, `}` or `;` alone, and its statements
+-- a piece of an action: the punctuator that it is, where it is `{`, `}` or `;` alone, and what it says
 abbrev pub Piece : Type 0
 Piece = List ℕ × List Statement
 
--- how many pieces have the sign
-abbrev pub signs : List ℕ → List Piece → ℕ
-signs sign ps = count_by (λ p. is_word p.0 sign) ps
+-- how many pieces are the punctuator
+abbrev pub punctuators : List ℕ → List Piece → ℕ
+punctuators word ps = count_by (λ p. is_word p.0 word) ps
 
--- there are as many `}` as `{`, and no more in any front of the pieces
+-- there are as many `}` as `{`, and no more in any prefix of the pieces
 abbrev pub AreBalanced : List Piece → Type 0
-AreBalanced ps = (signs (codes "}") ps ≡ signs (codes "{") ps) × ((k : ℕ) → signs (codes "}") (take k ps) ≤ signs (codes "{") (take k ps))
+AreBalanced ps = (punctuators (codes "}") ps ≡ punctuators (codes "{") ps)
+    × ((k : ℕ) → punctuators (codes "}") (take k ps) ≤ punctuators (codes "{") (take k ps))
 
 module _ (known : Known) where
   -- a condition: its name, or `0`
@@ -92,8 +93,8 @@ module _ (known : Known) where
 
   -- the piece that comes next
   unfoldable pub piece_at : Reader Piece
-  piece_at t = elim (find (λ sign. begins sign (skip t)) (codes "{" ∷ codes "}" ∷ codes ";" ∷ [])) [
-    | Some sign ↦ Some ((sign, []), drop 1 (skip t))
+  piece_at t = elim (find (λ word. begins word (skip t)) (codes "{" ∷ codes "}" ∷ codes ";" ∷ [])) [
+    | Some word ↦ Some ((word, []), drop 1 (skip t))
     | None ↦ statement_at (skip t) >>= λ (ss, rest). Some (([], ss), rest)
   ]
 

@@ -31,9 +31,9 @@ after_space (c ∷ t) =
 unfoldable pub skip : List ℕ → List ℕ
 skip t = fold (λ rest c. unwrap_or (after_space rest) rest) t t
 
--- what follows the sign, where that comes next
+-- what follows the word, where that comes next
 unfoldable pub next : List ℕ → List ℕ → Option (List ℕ)
-next sign t = after_word sign (skip t)
+next word t = after_word word (skip t)
 
 -- after a backslash: one to three octal digits, `x` and one or two hexadecimal digits, or a letter or sign of C's: the byte
 -- from 1 to 255 that these write
