@@ -1,5 +1,5 @@
 -- The worked examples of whole files, computed.
-use Rattle.std.proofs.Common.{◌≡◌, ℕ, zero, suc, ◌<◌, ◌≤◌, true, false, List, [], ◌∷◌, Option, Some, None, refl, arith}
+use Rattle.std.proofs.Common.{◌≡◌, ℕ, zero, suc, ◌<◌, ◌≤◌, true, false, List, [], ◌∷◌, Option, Some, None, inl, refl, arith}
 use Rattle.std.proofs.lemmas.Bool.{leb-true}
 use Rattle.std.specs.Cmp.Lexicographic.{nat_list_cmp_total}
 use Rattle.std.specs.FinMap.{get, from_entries, get-from_entries}
@@ -24,7 +24,10 @@ use Rattle.lexre.proofs.GrammarLaws.{runs_spelled}
 use Rattle.lexre.proofs.PatternTries.{found_runs}
 use Rattle.lexre.proofs.PatternsComputed.{is_tree}
 use Rattle.lexspec_actions.specs.Actions as A
-use Rattle.lexspec_actions.specs.Actions.{semicolon, opens, closes, says, does, prints, SpellsAction, SpellsEndAction}
+use Rattle.lexspec_actions.specs.Actions.{SpellsEndAction}
+use Rattle.lexspec_actions.specs.ActionSteps as Steps
+use Rattle.lexspec_actions.specs.ActionSteps.{does, prints}
+use Rattle.lexspec_actions.proofs.SameActions.{balanced, one_balanced}
 use Rattle.lexspec_actions.specs.Bytes as B
 use Rattle.lexspec_actions.specs.Names.{known_in}
 use Rattle.lexspec_lines.specs.DefinitionLines.{options}
@@ -80,7 +83,7 @@ cut_as_tested r head trail fits = cut_is_fit r.cut r.head r.trail (tree_is_sound
     sound (Some t) h = tree_is_sound t h
 
 number_ruled : (is : List (ℕ × Item)) (rules : List Rule) → IsRule names plain true named 17 unlisted true (codes "{D}+") line_end (spelled (codes "ECHO;")) is rules number
-unfolding newline has set_below set_of single range_set any_below take_up_to is_alpha is_upper is_lower is_alnum is_blank is_digit A.piece_from A.statement_at A.after_word A.after_statement B.name_at B.skip
+unfolding newline has set_below set_of single range_set any_below take_up_to is_alpha is_upper is_lower is_alnum is_blank is_digit after_word A.piece_at A.statement_at A.parts_of A.in_parentheses A.number_at A.second_word A.format_at A.after_statement A.condition_at B.name_at B.digits_at B.after_space B.skip B.next B.escape_at B.literal_at
 number_ruled is rules = record {
   front = record {
     line_is = refl;
@@ -91,7 +94,7 @@ number_ruled is rules = record {
     cut_is = cut_as_tested number refl refl refl;
   };
   next = refl;
-  statements_are = ((says (does Echo) ∷ [], ([], refl, refl), refl, refl), refl);
+  statements_are = ((([], Echo ∷ []) ∷ [], ([], refl, refl), one_balanced (does Echo), refl), refl);
 }
 
 letters_ruled : IsRule names plain true named 19 (only (codes "A" ∷ codes "C" ∷ [])) false (codes "ab") (pattern_after (codes "c*")) bar later_items (opening ∷ closing ∷ any_other ∷ []) letters
@@ -110,7 +113,7 @@ letters_ruled = record {
 }
 
 opening_ruled : (is : List (ℕ × Item)) (rules : List Rule) → IsRule names plain true named 20 unlisted false (codes "\"/*\"") no_trail (spelled (codes "{ yy_push_state(B); /* } */\n  yymore(); }")) is rules opening
-unfolding symbol_at until_quote literal_byte_at quoted_tree take_up_to is_alpha is_upper is_lower is_alnum is_blank is_digit A.piece_from A.statement_at A.after_word A.stack_word A.push_at A.closed_condition A.condition_at A.yymore_at A.no_argument A.after_statement B.name_at B.skip
+unfolding symbol_at until_quote literal_byte_at quoted_tree take_up_to is_alpha is_upper is_lower is_alnum is_blank is_digit after_word A.piece_at A.statement_at A.parts_of A.in_parentheses A.number_at A.second_word A.format_at A.after_statement A.condition_at B.name_at B.digits_at B.after_space B.skip B.next B.escape_at B.literal_at
 opening_ruled is rules = record {
   front = record {
     line_is = refl;
@@ -123,9 +126,9 @@ opening_ruled is rules = record {
   next = refl;
   statements_are = (
     (
-      opens ∷ says (does (Push 2)) ∷ says (does More) ∷ closes ∷ [],
+      (codes "{", []) ∷ ([], Push 2 ∷ []) ∷ ([], More ∷ []) ∷ (codes "}", []) ∷ [],
       (codes " yy_push_state(B); /* } */\n  yymore(); }", refl, (codes " /* } */\n  yymore(); }", refl, (codes " }", refl, ([], refl, refl)))),
-      refl,
+      balanced (Steps.opens ∷ Steps.says (does (Push 2)) ∷ Steps.says (does More) ∷ Steps.closes ∷ []) refl,
       refl,
     ),
     refl,
@@ -133,7 +136,7 @@ opening_ruled is rules = record {
 }
 
 closing_ruled : (is : List (ℕ × Item)) (rules : List Rule) → IsRule names plain true named 22 (only (codes "B" ∷ [])) false (codes "\"*/\"") no_trail (spelled (codes "yy_pop_state();")) is rules closing
-unfolding symbol_at until_quote literal_byte_at quoted_tree take_up_to is_alpha is_upper is_lower is_alnum is_blank is_digit A.piece_from A.statement_at A.after_word A.stack_word A.pop_at A.no_argument A.after_statement B.name_at B.skip
+unfolding symbol_at until_quote literal_byte_at quoted_tree take_up_to is_alpha is_upper is_lower is_alnum is_blank is_digit after_word A.piece_at A.statement_at A.parts_of A.in_parentheses A.number_at A.second_word A.format_at A.after_statement A.condition_at B.name_at B.digits_at B.after_space B.skip B.next B.escape_at B.literal_at
 closing_ruled is rules = record {
   front = record {
     line_is = refl;
@@ -144,11 +147,11 @@ closing_ruled is rules = record {
     cut_is = refl;
   };
   next = refl;
-  statements_are = ((says (does Pop) ∷ [], ([], refl, refl), refl, refl), refl);
+  statements_are = ((([], Pop ∷ []) ∷ [], ([], refl, refl), one_balanced (does Pop), refl), refl);
 }
 
 other_ruled : (is : List (ℕ × Item)) (rules : List Rule) → IsRule names plain true named 23 every false (codes ".|\\n") no_trail (spelled (codes ";")) is rules any_other
-unfolding symbol_at escape_at simple_escape take_up_to is_blank A.piece_from B.skip
+unfolding symbol_at escape_at simple_escape take_up_to is_blank after_word A.piece_at A.statement_at A.parts_of A.in_parentheses A.number_at A.second_word A.format_at A.after_statement A.condition_at B.name_at B.digits_at B.after_space B.skip B.next B.escape_at B.literal_at
 other_ruled is rules = record {
   front = record {
     line_is = refl;
@@ -159,35 +162,35 @@ other_ruled is rules = record {
     cut_is = refl;
   };
   next = refl;
-  statements_are = ((semicolon ∷ [], ([], refl, refl), refl, refl), refl);
+  statements_are = (((codes ";", []) ∷ [], ([], refl, refl), balanced (Steps.semicolon ∷ []) refl, refl), refl);
 }
 
 open_spelled : SpellsEndAction (known_in names true) (codes "{ printf(\"open\"); exit(2); }") open_at_end
-unfolding take_up_to is_alpha is_upper is_lower is_alnum is_blank is_digit simple_escape until_quote A.piece_from A.statement_at A.after_word A.parts_of A.this_word A.number_argument A.formatted_at A.printf_at A.exit_at A.after_statement B.name_at B.digits_at B.skip B.string_byte_at B.literal_at
+unfolding take_up_to is_alpha is_upper is_lower is_alnum is_blank is_digit simple_escape until_quote after_word A.piece_at A.statement_at A.parts_of A.in_parentheses A.number_at A.second_word A.format_at A.after_statement A.condition_at B.name_at B.digits_at B.after_space B.skip B.next B.escape_at B.literal_at
 open_spelled = (
   Print (codes "open") ∷ End 2 ∷ [],
   (
-    opens ∷ says (prints (codes "open")) ∷ says (does (End 2)) ∷ closes ∷ [],
+    (codes "{", []) ∷ ([], Print (codes "open") ∷ []) ∷ ([], End 2 ∷ []) ∷ (codes "}", []) ∷ [],
     (codes " printf(\"open\"); exit(2); }", refl, (codes " exit(2); }", refl, (codes " }", refl, ([], refl, refl)))),
-    refl,
+    balanced (Steps.opens ∷ Steps.says (prints (codes "open")) ∷ Steps.says (does (End 2)) ∷ Steps.closes ∷ []) refl,
     refl,
   ),
   refl,
-  refl,
+  inl refl,
 )
 
 ended_spelled : SpellsEndAction (known_in names true) (codes "{ printf(\"end\"); yyterminate(); }") ended
-unfolding take_up_to is_alpha is_upper is_lower is_alnum is_blank is_digit simple_escape until_quote A.piece_from A.statement_at A.after_word A.parts_of A.this_word A.no_argument A.formatted_at A.printf_at A.yyterminate_at A.after_statement B.name_at B.skip B.string_byte_at B.literal_at
+unfolding take_up_to is_alpha is_upper is_lower is_alnum is_blank is_digit simple_escape until_quote after_word A.piece_at A.statement_at A.parts_of A.in_parentheses A.number_at A.second_word A.format_at A.after_statement A.condition_at B.name_at B.digits_at B.after_space B.skip B.next B.escape_at B.literal_at
 ended_spelled = (
   Print (codes "end") ∷ End 0 ∷ [],
   (
-    opens ∷ says (prints (codes "end")) ∷ says (does (End 0)) ∷ closes ∷ [],
+    (codes "{", []) ∷ ([], Print (codes "end") ∷ []) ∷ ([], End 0 ∷ []) ∷ (codes "}", []) ∷ [],
     (codes " printf(\"end\"); yyterminate(); }", refl, (codes " yyterminate(); }", refl, (codes " }", refl, ([], refl, refl)))),
-    refl,
+    balanced (Steps.opens ∷ Steps.says (prints (codes "end")) ∷ Steps.says (does (End 0)) ∷ Steps.closes ∷ []) refl,
     refl,
   ),
   refl,
-  refl,
+  inl refl,
 )
 
 abbrev whole_ends : List EndRule
@@ -263,7 +266,7 @@ whole = record {
 -- ---- the short file
 
 short_ruled : AreRules (codes "INITIAL" ∷ []) folding false (from_entries []) short_items (both_cases ∷ []) []
-unfolding symbol_at is_ordinary has set_below set_of single fold_case other_case take_up_to is_alpha is_upper is_lower is_alnum is_blank is_digit A.piece_from A.statement_at A.after_word A.after_statement B.name_at B.skip
+unfolding symbol_at is_ordinary has set_below set_of single fold_case other_case take_up_to is_alpha is_upper is_lower is_alnum is_blank is_digit after_word A.piece_at A.statement_at A.parts_of A.in_parentheses A.number_at A.second_word A.format_at A.after_statement A.condition_at B.name_at B.digits_at B.after_space B.skip B.next B.escape_at B.literal_at
 short_ruled = (
   both_cases,
   [],
@@ -278,7 +281,7 @@ short_ruled = (
       cut_is = refl;
     };
     next = refl;
-    statements_are = ((says (does Echo) ∷ [], ([], refl, refl), refl, refl), refl);
+    statements_are = ((([], Echo ∷ []) ∷ [], ([], refl, refl), one_balanced (does Echo), refl), refl);
   },
   (refl, refl),
 )

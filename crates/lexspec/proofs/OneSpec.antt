@@ -9,7 +9,9 @@ use Rattle.lexre.specs.Definitions.{Definitions}
 use Rattle.lexre.specs.Spelling.{Spells}
 use Rattle.lexre.specs.Cutting.{IsCutting}
 use Rattle.lexspec_actions.specs.Names.{Known, known_in}
-use Rattle.lexspec_actions.specs.Actions.{SpellsEndAction, end_of}
+use Rattle.lexspec_actions.specs.Actions.{SpellsEndAction}
+use Rattle.lexspec_actions.specs.ActionSteps.{end_of}
+use Rattle.lexspec_actions.proofs.EndLemmas.{end_is}
 use Rattle.lexspec_actions.proofs.OneAction.{one_statements}
 use Rattle.lexspec_lines.specs.Lines.{without_returns, line_in, newlines}
 use Rattle.lexspec_lines.specs.DefinitionLines.{definition_at, all_conditions, names_of, has_name, substitutes_of, all_options}
@@ -73,7 +75,7 @@ module _ (tree_once : (how : ReadOptions) (definitions : Definitions) (text : Li
   pub one_end : (known : Known) (text : List ℕ) (e f : EndAction) → SpellsEndAction known text e → SpellsEndAction known text f → e ≡ f
   one_end known text e f (ss, h, few, is) (tt, k, few', is') =
       let same : ss ≡ tt = one_statements known text ss tt h k in
-      some_is e f (sym is ∙ ap end_of same ∙ is')
+      some_is e f (sym (end_is ss e is) ∙ ap end_of same ∙ end_is tt f is')
 
   -- the rules and the ends of items are determined
   one_rules : (names : List (List ℕ)) (how : ReadOptions) (stack : Bool) (definitions : Definitions) (is : List (ℕ × Item)) (qs rs : List Rule) (es fs : List EndRule) →

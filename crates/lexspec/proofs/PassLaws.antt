@@ -9,7 +9,9 @@ use Rattle.lex_semantics.specs.Legal.{all_in_range, ends_last, are_joined, are_c
 use Rattle.lex_semantics.specs.Spec.{Rule, Statement, Print, End, EndAction, Condition}
 use Rattle.lexre.specs.Definitions.{Definitions}
 use Rattle.lexspec_actions.specs.Names.{number_from, known_in}
-use Rattle.lexspec_actions.specs.Actions.{are_few, end_of, SpellsAction}
+use Rattle.lexspec_actions.specs.Actions.{are_few, SpellsAction}
+use Rattle.lexspec_actions.specs.ActionSteps.{end_of}
+use Rattle.lexspec_actions.proofs.EndLemmas.{end_is}
 use Rattle.lexspec_actions.specs.Statements.{literal_bytes}
 use Rattle.lexspec_actions.proofs.NormalLemmas.{legal_action, end_status}
 use Rattle.lexspec_lines.specs.DefinitionLines.{Declared, names_of}
@@ -116,7 +118,7 @@ module _ (names : List (List ℕ)) (how : ReadOptions) (stack : Bool) (defined :
   ends_small ((n, skipped_line) ∷ is) rs ends h = ends_small is rs ends h
   ends_small ((n, skipped_block) ∷ is) rs ends h = ends_small is rs ends h
   ends_small ((n, rule asked at_end (spelled text)) ∷ is) rs ends h =
-      subst AreSmall (sym h.5) ((end_status names stack text h.1 some h.4, end_print h.1 h.4.0 h.4.2 h.4.3), ends_small is rs h.2 h.6)
+      subst AreSmall (sym h.5) ((end_status names stack text h.1 some h.4, end_print h.1 h.4.0 h.4.2 (end_is h.4.0 h.1 h.4.3)), ends_small is rs h.2 h.6)
   ends_small ((n, rule asked at_end bar) ∷ is) rs ends h = absurd h
   ends_small ((n, rule asked (matching anchored head after) action) ∷ is) rs ends h = ends_small is h.1 ends h.4
 

@@ -5,7 +5,9 @@ use Rattle.lexspec_actions.specs.Bytes.{skip}
 use Rattle.lex_semantics.specs.Spec.{Statement}
 use Rattle.lexspec_actions.specs.Statements.{then_all}
 use Rattle.lexspec_actions.specs.Names.{Known}
-use Rattle.lexspec_actions.specs.Actions.{Piece, semicolon, opens, closes, says, Said, said_by, statement_at, piece_from, piece_at, are_balanced, statements_of, NoPiece, SpellsStatements}
+use Rattle.lexspec_actions.specs.ActionSteps.{Piece, semicolon, opens, closes, says, Said, said_by, statement_at, piece_from, piece_at, are_balanced, statements_of, NoPiece}
+use Rattle.lexspec_actions.specs.Actions.{SpellsStatements}
+use Rattle.lexspec_actions.proofs.SameActions.{to_steps, from_steps}
 use Rattle.lexspec_actions.specs.Outcome.{UnlessMemory}
 use Rattle.lexre_bytes.specs.declared.refusals.SpecErrorKind.{SpecErrorKind}
 use Rattle.std.proofs.lemmas.Bool.{ne_eqb, eqb-true}
@@ -38,7 +40,7 @@ module _ (known : Known) where
     pub back : (ss : List Statement) → SpellsStatements known text ss → Goes n before rest ss
 
   pub agree_first : (text : List ℕ) → Agree 0 [] text text
-  agree_first text = record { on = λ ss goes. goes; back = λ ss goes. goes }
+  agree_first text = record { on = λ ss goes. from_steps known text ss goes; back = λ ss spells. to_steps known text ss spells }
 
   none_first : (p : Piece) (rest : List ℕ) → piece_from known [] ≡ Some (p, rest) → ⊥
   unfolding piece_from

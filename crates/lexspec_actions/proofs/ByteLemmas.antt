@@ -4,7 +4,7 @@ use Rattle.lex_semantics.specs.ByteSets.{is_alpha, is_digit, is_alnum}
 use Rattle.lex_semantics.specs.Reading.{◌>>=◌, take_up_to, take_run, starts_name, goes_on_name}
 use Rattle.lex_semantics.specs.Escapes.{until_quote}
 use Rattle.lexre_bytes.proofs.QuoteLaws.{take_up_to_within}
-use Rattle.lexspec_actions.specs.Bytes.{string_at, string_byte_at}
+use Rattle.lexspec_actions.specs.ByteSteps.{string_at, string_byte_at}
 use Rattle.std.proofs.lemmas.Bool.{ne_eqb}
 use Rattle.std.specs.Prelude.{◌||◌}
 

@@ -1,9 +1,9 @@
 -- Statements, by their parts.
-use Rattle.std.proofs.Common.{sym, option_map, ◌≡◌, ℕ, List, Option, Some, None, refl, ap, ◌∙◌}
+use Rattle.std.proofs.Common.{codes, sym, option_map, ◌≡◌, ℕ, List, Option, Some, None, refl, ap, ◌∙◌}
 use Rattle.lexspec_actions.specs.Bytes.{next, name_at}
 use Rattle.lex_semantics.specs.Spec.{Begin, Push}
 use Rattle.lexspec_actions.specs.Names.{Known}
-use Rattle.lexspec_actions.specs.Actions.{Said, does, begin_at, begin_from, begins, push_at, push_from, pushes, closed_condition, condition_at, after_word, after_statement, statement_at}
+use Rattle.lexspec_actions.specs.ActionSteps.{Said, does, begin_at, begin_from, begins, push_at, push_from, pushes, closed_condition, condition_at, after_word, after_statement, statement_at}
 use Rattle.lexspec_actions.specs.Calls.{with_rest}
 use Rattle.lexspec_actions.specs.Outcome.{UnlessMemory}
 use Rattle.lexre_bytes.proofs.MemoryLaws.{unless_memory}
@@ -14,13 +14,13 @@ module _ (condition : List ℕ → Option ℕ) where
   mapped None rest = refl
   mapped (Some n) rest = refl
 
-  pub begin_closed : (t inside rest : List ℕ) (number : Option ℕ) (said : Option Said) → next 40 t ≡ Some inside → closed_condition condition inside ≡ option_map (with_rest rest) number
+  pub begin_closed : (t inside rest : List ℕ) (number : Option ℕ) (said : Option Said) → next (codes "(") t ≡ Some inside → closed_condition condition inside ≡ option_map (with_rest rest) number
       → said ≡ option_map (λ n. does (Begin n)) number → begin_at condition t ≡ option_map (with_rest rest) said
   unfolding begin_at
   begin_closed t inside rest number said first here is =
       ap (begin_from condition t) first ∙ ap (begins condition) here ∙ mapped number rest ∙ ap (option_map (with_rest rest)) (sym is)
 
-  pub begin_bare : (t rest : List ℕ) (number : Option ℕ) (said : Option Said) → next 40 t ≡ None → condition_at condition t ≡ option_map (with_rest rest) number
+  pub begin_bare : (t rest : List ℕ) (number : Option ℕ) (said : Option Said) → next (codes "(") t ≡ None → condition_at condition t ≡ option_map (with_rest rest) number
       → said ≡ option_map (λ n. does (Begin n)) number → begin_at condition t ≡ option_map (with_rest rest) said
   unfolding begin_at
   begin_bare t rest number said none here is =
@@ -30,7 +30,7 @@ module _ (condition : List ℕ → Option ℕ) where
   pushed None rest = refl
   pushed (Some n) rest = refl
 
-  pub push_closed : (t inside rest : List ℕ) (number : Option ℕ) (said : Option Said) → next 40 t ≡ Some inside → closed_condition condition inside ≡ option_map (with_rest rest) number
+  pub push_closed : (t inside rest : List ℕ) (number : Option ℕ) (said : Option Said) → next (codes "(") t ≡ Some inside → closed_condition condition inside ≡ option_map (with_rest rest) number
       → said ≡ option_map (λ n. does (Push n)) number → push_at condition t ≡ option_map (with_rest rest) said
   unfolding push_at
   push_closed t inside rest number said first here is =

@@ -4,7 +4,8 @@ use Rattle.std.specs.Prelude.{not, ◌&&◌, ◌||◌, nat_le}
 use Rattle.std.proofs.lemmas.Bool.{le-leb, lt-leb}
 use Rattle.lex_semantics.specs.Spec.{Statement, has_reject}
 use Rattle.lex_semantics.specs.Legal.{ends_action, ends_last, has_less, has_more, count_less, are_compatible}
-use Rattle.lexspec_actions.specs.Actions.{are_few, may_stand}
+use Rattle.lexspec_actions.specs.Actions.{are_few}
+use Rattle.lexspec_actions.specs.ActionSteps.{may_stand}
 
 -- nothing stands after what ends the action, where the statement before did so or not
 abbrev pub ends_after : Bool → List Statement → Bool

@@ -1,4 +1,7 @@
 pub mod ByteLemmas
+pub mod SameBytes
+pub mod SameNormal
+pub mod SameActions
 pub mod PartLemmas
 pub mod CallLemmas
 pub mod FaultLaws
@@ -6,6 +9,7 @@ pub mod StatementLemmas
 pub mod ActionLemmas
 pub mod OneAction
 pub mod LegalLemmas
+pub mod EndLemmas
 pub mod ReadLemmas
 pub mod RangeLemmas
 pub mod NormalLemmas

@@ -4,9 +4,13 @@ use Rattle.std.specs.Prelude.{not, ◌&&◌, nat_le}
 use Rattle.std.proofs.lemmas.Bool.{and_parts, and_from, le-leb, leb-true}
 use Rattle.lex_semantics.specs.Spec.{EndAction, Statement, Echo, Print, Begin, More, Less, Reject, End, Push, Pop}
 use Rattle.lex_semantics.specs.Legal.{in_range, all_in_range, is_literal, are_joined, ends_last, are_compatible, IsLegal}
-use Rattle.lexspec_actions.specs.Names.{number_from, known_in}
+use Rattle.lexspec_actions.specs.Names.{Known, number_from, known_in}
 use Rattle.lexspec_actions.specs.Statements.{then_print, then_one, then_all}
-use Rattle.lexspec_actions.specs.Actions.{are_few, statements_of, SpellsStatements, SpellsAction, SpellsEndAction, end_of}
+use Rattle.lexspec_actions.specs.Actions.{are_few, SpellsStatements, SpellsAction, SpellsEndAction}
+use Rattle.lexspec_actions.specs.ActionSteps as Steps
+use Rattle.lexspec_actions.specs.ActionSteps.{statements_of, end_of}
+use Rattle.lexspec_actions.proofs.EndLemmas.{end_is}
+use Rattle.lexspec_actions.proofs.SameActions.{to_steps}
 use Rattle.lexspec_actions.proofs.RangeLemmas.{raw, all_raw, cut_good, number_below}
 use Rattle.lex_semantics.specs.Limits.{max_status}
 
@@ -153,13 +157,19 @@ all_joined before (s ∷ ss) h = all_joined (then_one before s) ss (one_joined b
 
 -- statements that a text spells
 
-pub spelled_range : (names : List (List ℕ)) (stack : Bool) (text : List ℕ) (ss : List Statement) → 1 ≤ length names → SpellsStatements (known_in names stack) text ss → all_in_range (length names) ss ≡ true
-spelled_range names stack text ss some (ps, cut, balanced, same) =
+steps_range : (names : List (List ℕ)) (stack : Bool) (text : List ℕ) (ss : List Statement) → 1 ≤ length names → Steps.SpellsStatements (known_in names stack) text ss → all_in_range (length names) ss ≡ true
+steps_range names stack text ss some (ps, cut, balanced, same) =
     subst (λ z. all_in_range (length names) z ≡ true) (sym same)
     (all_range (length names) [] (statements_of ps) refl (cut_good (known_in names stack) (length names) some below text ps cut))
   where
     below : (name : List ℕ) → IfSome (number_from 0 names name) (λ c. c < length names)
     below name = let e : 0 + length names ≡ length names = omega arith in subst (λ m. IfSome (number_from 0 names name) (λ c. c < m)) e (number_below 0 names name)
+
+steps_joined : (known : Known) (text : List ℕ) (ss : List Statement) → Steps.SpellsStatements known text ss → are_joined ss ≡ true
+steps_joined known text ss (ps, cut, balanced, same) = subst (λ z. are_joined z ≡ true) (sym same) (all_joined [] (statements_of ps) refl)
+
+pub spelled_range : (names : List (List ℕ)) (stack : Bool) (text : List ℕ) (ss : List Statement) → 1 ≤ length names → SpellsStatements (known_in names stack) text ss → all_in_range (length names) ss ≡ true
+spelled_range names stack text ss some spells = steps_range names stack text ss some (to_steps (known_in names stack) text ss spells)
 
 pub legal_action : (names : List (List ℕ)) (stack : Bool) (text : List ℕ) (ss : List Statement) → 1 ≤ length names → SpellsAction (known_in names stack) text ss → IsLegal (length names) ss
 legal_action names stack text ss some (spells, stands) =
@@ -167,7 +177,7 @@ legal_action names stack text ss some (spells, stands) =
     record {
       ranges = spelled_range names stack text ss some spells;
       last = (and_parts (are_few ss) (ends_last ss) few_last.0).1;
-      joined = subst (λ z. are_joined z ≡ true) (sym spells.3) (all_joined [] (statements_of spells.0) refl);
+      joined = steps_joined (known_in names stack) text ss (to_steps (known_in names stack) text ss spells);
       compatible = few_last.1;
     }
 
@@ -189,4 +199,4 @@ small_end n _ e h is = absurd (none is)
     none p = cc
 
 pub end_status : (names : List (List ℕ)) (stack : Bool) (text : List ℕ) (e : EndAction) → 1 ≤ length names → SpellsEndAction (known_in names stack) text e → e.status ≤ max_status
-end_status names stack text e some (ss, spells, few, is) = small_end (length names) ss e (spelled_range names stack text ss some spells) is
+end_status names stack text e some (ss, spells, few, is) = small_end (length names) ss e (spelled_range names stack text ss some spells) (end_is ss e is)

@@ -2,9 +2,12 @@
 use Rattle.std.proofs.Common.{◌≡◌, ℕ, List, [], ◌∷◌, Some, refl, sym, ap, ◌∙◌, subst}
 use Rattle.lex_semantics.specs.Reading.{Reader, IsCut}
 use Rattle.lex_semantics.specs.Spec.{Statement}
-use Rattle.lexspec_actions.specs.Statements.{normal}
+use Rattle.lexspec_actions.specs.Statements.{then_all}
 use Rattle.lexspec_actions.specs.Names.{Known}
-use Rattle.lexspec_actions.specs.Actions.{piece_at, statements_of, NoPiece, SpellsStatements}
+use Rattle.lexspec_actions.specs.Actions.{SpellsStatements}
+use Rattle.lexspec_actions.specs.ActionSteps as Steps
+use Rattle.lexspec_actions.specs.ActionSteps.{piece_at, statements_of, NoPiece}
+use Rattle.lexspec_actions.proofs.SameActions.{to_steps}
 use Rattle.lexspec_actions.proofs.ActionLemmas.{no_piece}
 
 some_is : {A : Type 0} (x y : A) → Some x ≡ Some y → x ≡ y
@@ -23,7 +26,10 @@ one_cut {A} item_at Done stops text (x ∷ xs) (y ∷ ys) (rest, here, cut) (lef
     let others = one_cut item_at Done stops left xs ys (subst P (ap (λ (p : A × List ℕ). p.1) same) cut) more in
     cc
 
-pub one_statements : (known : Known) (text : List ℕ) (ss ss' : List Statement) → SpellsStatements known text ss → SpellsStatements known text ss' → ss ≡ ss'
-one_statements known text ss ss' (ps, cut, balanced, same) (qs, cut', balanced', same') =
+one_of_steps : (known : Known) (text : List ℕ) (ss ss' : List Statement) → Steps.SpellsStatements known text ss → Steps.SpellsStatements known text ss' → ss ≡ ss'
+one_of_steps known text ss ss' (ps, cut, balanced, same) (qs, cut', balanced', same') =
     let e = one_cut (piece_at known) NoPiece (λ t p rest done here. no_piece known t p rest here done) text ps qs cut cut' in
-    same ∙ ap (λ xs. normal (statements_of xs)) e ∙ sym same'
+    same ∙ ap (λ xs. then_all [] (statements_of xs)) e ∙ sym same'
+
+pub one_statements : (known : Known) (text : List ℕ) (ss ss' : List Statement) → SpellsStatements known text ss → SpellsStatements known text ss' → ss ≡ ss'
+one_statements known text ss ss' h k = one_of_steps known text ss ss' (to_steps known text ss h) (to_steps known text ss' k)

@@ -3,7 +3,7 @@ use Rattle.std.proofs.Common.{◌≡◌, ℕ, Bool, true, false, List, [], ◌�
 use Rattle.std.proofs.lemmas.List.{at_drop_all}
 use Rattle.std.specs.Prelude.{is_some}
 use Rattle.std.proofs.lemmas.Bool.{ne_eqb}
-use Rattle.lexspec_actions.specs.Actions.{onto, split, parts_in, parts_of}
+use Rattle.lexspec_actions.specs.ActionSteps.{onto, split, parts_in, parts_of}
 use Rattle.lexspec_actions.specs.Formats.{joined, State, read_on}
 
 pub joined_first : (o : Option (List ℕ × Option (List ℕ))) → joined None [] o ≡ o

@@ -1,256 +1,117 @@
--- The action of a rule: which statements a text spells.
-use Rattle.std.specs.Prelude.{◌≡◌, ℕ, zero, suc, Bool, true, false, ◌&&◌, ◌==◌, nat_le, if◌then◌else◌, List, [], ◌∷◌, ◌++◌, length, sum_by, Option, Some, None, codes, min}
+-- The action of a rule: which statements a text spells. (POSIX, lex, Actions in lex; flex, Actions, Start Conditions.)
+use Rattle.std.specs.Prelude.{◌≡◌, ◌≤◌, ◌⊎◌, ℕ, Bool, true, not, ◌&&◌, ◌||◌, nat_le, if◌then◌else◌, List, [], ◌∷◌, ◌++◌, length, take, drop, find, sum_by, count_by, flat_map, Option, Some, None, is_some, option_map, codes}
+use Rattle.std.specs.Option.{option_or}
 use Rattle.lex_semantics.specs.ByteSets.{is_word, within}
-use Rattle.lex_semantics.specs.Reading.{◌>>=◌, Reader, IsCut, value}
+use Rattle.lex_semantics.specs.Reading.{◌>>=◌, Reader, IsCut, begins, is_empty, value}
 use Rattle.lexspec_actions.specs.Names.{Known}
 use Rattle.lexspec_actions.specs.Bytes.{skip, next, name_at, digits_at, literal_at}
 use Rattle.lex_semantics.specs.Spec.{EndAction, Statement, Echo, Print, Begin, More, Less, Reject, End, Push, Pop}
 use Rattle.lex_semantics.specs.Legal.{ends_last, are_compatible}
 use Rattle.lexspec_actions.specs.Statements.{normal, literal_bytes}
 use Rattle.lex_semantics.specs.Limits.{max_statements, max_literal_bytes, max_kept, max_status}
-use Rattle.lexre_bytes.specs.Limits.{number_cap}
 
--- what a statement says: something that is done, a literal, or a literal, the text, and a literal
-pub data Said : Type 0 where
-  does : Statement → Said
-  prints : List ℕ → Said
-  prints_text : List ℕ → List ℕ → Said
-
--- a byte before the parts
-abbrev pub onto : ℕ → Option (List ℕ × Option (List ℕ)) → Option (List ℕ × Option (List ℕ))
-onto c None = None
-onto c (Some parts) = Some (c ∷ parts.0, parts.1)
-
--- a `%s` before what has none
-abbrev pub split : Option (List ℕ × Option (List ℕ)) → Option (List ℕ × Option (List ℕ))
-split None = None
-split (Some (front, None)) = Some ([], Some front)
-split (Some (front, Some back)) = None
-
--- the parts of a format round its `%s`, where it has one: `%%` is a percent sign, and no other `%` may stand
-abbrev pub parts_in : Bool → List ℕ → Option (List ℕ × Option (List ℕ))
-parts_in false [] = Some ([], None)
-parts_in true [] = None
-parts_in false (c ∷ t) = if c == 37 then parts_in true t else onto c (parts_in false t)
-parts_in true (c ∷ t) = if c == 37 then onto 37 (parts_in false t) else if c == 115 then split (parts_in false t) else None
-
+-- what a format prints before its `%s` and after it, where it has one: `%%` is a percent sign, and no other `%` may stand
 unfoldable pub parts_of : List ℕ → Option (List ℕ × Option (List ℕ))
-parts_of text = parts_in false text
+parts_of [] = Some ([], None)
+parts_of (c ∷ []) = if begins (codes "%") (c ∷ []) then None else Some (c ∷ [], None)
+parts_of (c ∷ d ∷ t) =
+    if begins (codes "%s") (c ∷ d ∷ t) then (parts_of t >>= λ (front, back). if is_some back then None else Some ([], Some front))
+    else if begins (codes "%%") (c ∷ d ∷ t) then option_map (λ parts. (c ∷ parts.0, parts.1)) (parts_of t)
+    else if begins (codes "%") (c ∷ d ∷ t) then None
+    else option_map (λ parts. (c ∷ parts.0, parts.1)) (parts_of (d ∷ t))
 
--- what `printf` of a format without `%s` says, and of one with it
-abbrev pub without_text : List ℕ × Option (List ℕ) → Option Said
-without_text (front, None) = Some (prints front)
-without_text (front, Some back) = None
+-- What follows the first word of a statement: what the statement says, and what stands after it.
 
-abbrev pub with_text : List ℕ × Option (List ℕ) → Option Said
-with_text (front, None) = None
-with_text (front, Some back) = Some (prints_text front back)
+-- nothing
+abbrev pub says_only : Statement → Reader (List Statement)
+says_only s t = Some (s ∷ [], t)
 
--- the word, where that comes next
-unfoldable pub this_word : List ℕ → List ℕ → Option (List ℕ)
-this_word word t = name_at (skip t) >>= λ (name, rest). if is_word name word then Some rest else None
+-- `(`, what is read, and `)`
+unfoldable pub in_parentheses : Reader (List Statement) → Reader (List Statement)
+in_parentheses read t =
+    next (codes "(") t >>= λ inside. read inside >>= λ (ss, rest). next (codes ")") rest >>= λ after. Some (ss, after)
 
--- `()`
-unfoldable pub no_argument : List ℕ → Option (List ℕ)
-no_argument t = next 40 t >>= λ inside. next 41 inside
+-- a number from low to high
+unfoldable pub number_at : ℕ → ℕ → (ℕ → Statement) → Reader (List Statement)
+number_at low high s t = digits_at (skip t) >>= λ (digits, rest).
+    if within low high (value 10 digits) then says_only (s (value 10 digits)) rest else None
 
--- `(n)`
-unfoldable pub number_argument : Reader ℕ
-number_argument t =
-    next 40 t >>= λ inside. digits_at (skip inside) >>= λ (digits, rest). next 41 rest >>= λ after. Some (value 10 digits, after)
-
--- `, word)`
+-- `, word`
 unfoldable pub second_word : List ℕ → List ℕ → Option (List ℕ)
-second_word word t = next 44 t >>= λ rest. this_word word rest >>= λ rest. next 41 rest
+second_word word t = next (codes ",") t >>= λ rest. name_at (skip rest) >>= λ (name, after). if is_word name word then Some after else None
 
--- after the string of a `printf`
-unfoldable pub formatted_at : List ℕ → Reader Said
-formatted_at text t = parts_of text >>= λ parts. elim (next 41 t) [
-  | Some after ↦ without_text parts >>= λ s. Some (s, after)
-  | None ↦ second_word (codes "yytext") t >>= λ after. with_text parts >>= λ s. Some (s, after)
+-- a format, and `, yytext` where it has a `%s`
+unfoldable pub format_at : Reader (List Statement)
+format_at t = literal_at t >>= λ (text, rest). parts_of text >>= λ (front, back). elim back [
+  | None ↦ says_only (Print front) rest
+  | Some end ↦ second_word (codes "yytext") rest >>= λ after. Some (Print front ∷ Echo ∷ Print end ∷ [], after)
 ]
-
--- after `printf`
-unfoldable pub printf_at : Reader Said
-printf_at t = next 40 t >>= λ inside. literal_at inside >>= λ (text, rest). formatted_at text rest
-
--- after `fputs`
-unfoldable pub fputs_at : Reader Said
-fputs_at t = next 40 t >>= λ inside. literal_at inside >>= λ (text, rest). second_word (codes "yyout") rest >>= λ after. Some (prints text, after)
-
--- after `puts`
-unfoldable pub puts_at : Reader Said
-puts_at t = next 40 t >>= λ inside. literal_at inside >>= λ (text, rest). next 41 rest >>= λ after. Some (prints (text ++ 10 ∷ []), after)
-
--- after `yymore`, `yyterminate`, `yyless`, `yy_pop_state` and `exit`
-unfoldable pub yymore_at : Reader Said
-yymore_at t = no_argument t >>= λ rest. Some (does More, rest)
-
-unfoldable pub yyterminate_at : Reader Said
-yyterminate_at t = no_argument t >>= λ rest. Some (does (End 0), rest)
-
-unfoldable pub yyless_at : Reader Said
-yyless_at t = number_argument t >>= λ (n, rest). if within 1 max_kept n then Some (does (Less n), rest) else None
-
-unfoldable pub pop_at : Reader Said
-pop_at t = no_argument t >>= λ rest. Some (does Pop, rest)
-
-unfoldable pub exit_at : Reader Said
-exit_at t = number_argument t >>= λ (n, rest). if nat_le n max_status then Some (does (End n), rest) else None
-
-abbrev pub capped : ℕ × List ℕ → ℕ × List ℕ
-capped found = (min number_cap found.0, found.1)
-
--- what an action is made of
-pub data Piece : Type 0 where
-  semicolon : Piece
-  opens : Piece
-  closes : Piece
-  says : Said → Piece
-
-abbrev pub may_end : List ℕ → Bool
-may_end [] = true
-may_end (c ∷ t) = c == 125
 
 -- the `;` of a statement, which may be absent before `}` and at the end
 unfoldable pub after_statement : List ℕ → Option (List ℕ)
-after_statement t = elim (next 59 t) [
-  | Some rest ↦ Some rest
-  | None ↦ if may_end (skip t) then Some t else None
-]
+after_statement t = option_or (next (codes ";") t) (if is_empty (skip t) || begins (codes "}") (skip t) then Some t else None)
 
--- each brace that is opened is closed, n of them having been opened before
-abbrev pub are_balanced : ℕ → List Piece → Bool
-are_balanced n [] = n == 0
-are_balanced n (opens ∷ ps) = are_balanced (suc n) ps
-are_balanced zero (closes ∷ ps) = false
-are_balanced (suc n) (closes ∷ ps) = are_balanced n ps
-are_balanced n (semicolon ∷ ps) = are_balanced n ps
-are_balanced n (says s ∷ ps) = are_balanced n ps
+-- a piece of an action: the punctuator that it is, where it is `{`, `}` or `;` alone, and what it says
+abbrev pub Piece : Type 0
+Piece = List ℕ × List Statement
 
-abbrev pub said_by : Said → List Statement
-said_by (does s) = s ∷ []
-said_by (prints bs) = Print bs ∷ []
-said_by (prints_text front back) = Print front ∷ Echo ∷ Print back ∷ []
+-- how many pieces are the punctuator
+abbrev pub punctuators : List ℕ → List Piece → ℕ
+punctuators word ps = count_by (λ p. is_word p.0 word) ps
 
-abbrev pub statements_of : List Piece → List Statement
-statements_of [] = []
-statements_of (says s ∷ ps) = said_by s ++ statements_of ps
-statements_of (semicolon ∷ ps) = statements_of ps
-statements_of (opens ∷ ps) = statements_of ps
-statements_of (closes ∷ ps) = statements_of ps
-
--- only blanks, newlines and comments are left
-abbrev pub NoPiece : List ℕ → Type 0
-NoPiece t = skip t ≡ []
-
--- `condition` has the number of each condition's name
-module _ (condition : List ℕ → Option ℕ) where
-  -- a condition: its name, or `0`
-  unfoldable pub condition_at : Reader ℕ
-  condition_at t = elim (name_at (skip t)) [
-    | Some found ↦ condition found.0 >>= λ c. Some (c, found.1)
-    | None ↦ digits_at (skip t) >>= λ (digits, rest). if is_word digits (codes "0") then Some (0, rest) else None
-  ]
-
-  -- a condition, and `)`
-  unfoldable pub closed_condition : Reader ℕ
-  closed_condition t = condition_at t >>= λ (c, rest). next 41 rest >>= λ after. Some (c, after)
-
-  abbrev pub begins : Option (ℕ × List ℕ) → Option (Said × List ℕ)
-  begins None = None
-  begins (Some found) = Some (does (Begin found.0), found.1)
-
-  -- after `BEGIN`, by what follows a `(` there
-  abbrev pub begin_from : List ℕ → Option (List ℕ) → Option (Said × List ℕ)
-  begin_from t (Some inside) = begins (closed_condition inside)
-  begin_from t None = begins (condition_at t)
-
-  unfoldable pub begin_at : Reader Said
-  begin_at t = begin_from t (next 40 t)
-
-  abbrev pub pushes : Option (ℕ × List ℕ) → Option (Said × List ℕ)
-  pushes None = None
-  pushes (Some found) = Some (does (Push found.0), found.1)
-
-  -- after `yy_push_state`, by what follows a `(` there
-  abbrev pub push_from : Option (List ℕ) → Option (Said × List ℕ)
-  push_from (Some inside) = pushes (closed_condition inside)
-  push_from None = None
-
-  unfoldable pub push_at : Reader Said
-  push_at t = push_from (next 40 t)
-
-  -- the statements of the stack, by their first word
-  unfoldable pub stack_word : List ℕ → Reader Said
-  stack_word word t =
-      if is_word word (codes "yy_push_state") then push_at t
-      else if is_word word (codes "yy_pop_state") then pop_at t
-      else None
+-- there are as many `}` as `{`, and no more in any prefix of the pieces
+abbrev pub AreBalanced : List Piece → Type 0
+AreBalanced ps = (punctuators (codes "}") ps ≡ punctuators (codes "{") ps)
+    × ((k : ℕ) → punctuators (codes "}") (take k ps) ≤ punctuators (codes "{") (take k ps))
 
 module _ (known : Known) where
-  -- the statements, by their first word
-  unfoldable pub after_word : List ℕ → Reader Said
-  after_word word t =
-      if is_word word (codes "ECHO") then Some (does Echo, t)
-      else if is_word word (codes "REJECT") then Some (does Reject, t)
-      else if is_word word (codes "BEGIN") then begin_at known.number t
-      else if is_word word (codes "yymore") then yymore_at t
-      else if is_word word (codes "yyless") then yyless_at t
-      else if is_word word (codes "yyterminate") then yyterminate_at t
-      else if is_word word (codes "exit") then exit_at t
-      else if is_word word (codes "printf") then printf_at t
-      else if is_word word (codes "fputs") then fputs_at t
-      else if is_word word (codes "puts") then puts_at t
-      else if known.stack then stack_word known.number word t
-      else None
+  -- a condition: its name, or `0`
+  unfoldable pub condition_at : (ℕ → Statement) → Reader (List Statement)
+  condition_at s t = option_or (name_at (skip t) >>= λ (name, rest). known.number name >>= λ c. says_only (s c) rest)
+      (digits_at (skip t) >>= λ (digits, rest). if is_word digits (codes "0") then says_only (s 0) rest else None)
 
-  unfoldable pub statement_at : Reader Said
-  statement_at t = name_at t >>= λ (word, rest). after_word word rest >>= λ (s, after). after_statement after >>= λ last. Some (s, last)
+  -- the statements: the first word of each, and what follows it
+  abbrev pub statements : List (List ℕ × Reader (List Statement))
+  statements =
+      (codes "ECHO", says_only Echo)
+      ∷ (codes "REJECT", says_only Reject)
+      ∷ (codes "BEGIN", λ t. if begins (codes "(") (skip t) then in_parentheses (condition_at Begin) t else condition_at Begin t)
+      ∷ (codes "yymore", in_parentheses (says_only More))
+      ∷ (codes "yyless", in_parentheses (number_at 1 max_kept Less))
+      ∷ (codes "yyterminate", in_parentheses (says_only (End 0)))
+      ∷ (codes "exit", in_parentheses (number_at 0 max_status End))
+      ∷ (codes "printf", in_parentheses format_at)
+      ∷ (codes "fputs", in_parentheses (λ t. literal_at t >>= λ (text, rest). second_word (codes "yyout") rest >>= says_only (Print text)))
+      ∷ (codes "puts", in_parentheses (λ t. literal_at t >>= λ (text, rest). says_only (Print (text ++ codes "\n")) rest))
+      ∷ (if not known.stack then []
+      else (codes "yy_push_state", in_parentheses (condition_at Push)) ∷ (codes "yy_pop_state", in_parentheses (says_only Pop)) ∷ [])
 
-  unfoldable pub piece_from : Reader Piece
-  piece_from [] = None
-  piece_from (c ∷ t) =
-      if c == 59 then Some (semicolon, t)
-      else if c == 123 then Some (opens, t)
-      else if c == 125 then Some (closes, t)
-      else (statement_at (c ∷ t) >>= λ (s, rest). Some (says s, rest))
+  -- a first word of the table, what follows it, and the `;`
+  unfoldable pub statement_at : Reader (List Statement)
+  statement_at t = name_at t >>= λ (word, rest). find (λ row. is_word word row.0) statements >>= λ row. row.1 rest >>= λ (ss, after).
+      after_statement after >>= λ last. Some (ss, last)
 
-  abbrev pub piece_at : Reader Piece
-  piece_at t = piece_from (skip t)
+  -- the piece that comes next
+  unfoldable pub piece_at : Reader Piece
+  piece_at t = elim (find (λ word. begins word (skip t)) (codes "{" ∷ codes "}" ∷ codes ";" ∷ [])) [
+    | Some word ↦ Some ((word, []), drop 1 (skip t))
+    | None ↦ statement_at (skip t) >>= λ (ss, rest). Some (([], ss), rest)
+  ]
 
-  -- the text is an action, and these are its statements in normal form
+  -- The text is an action, and these are its statements in normal form. After the last piece only blanks and comments are left.
   abbrev pub SpellsStatements : List ℕ → List Statement → Type 0
-  SpellsStatements text ss =
-      (ps : List Piece) × IsCut piece_at NoPiece text ps × (are_balanced 0 ps ≡ true) × (ss ≡ normal (statements_of ps))
+  SpellsStatements text ss = (ps : List Piece) × IsCut piece_at (λ t. skip t ≡ []) text ps × AreBalanced ps × (ss ≡ normal (flat_map (λ p. p.1) ps))
 
 -- there are no more statements and literal bytes than an action may have
 abbrev pub are_few : List Statement → Bool
 are_few ss = nat_le (length ss) max_statements && nat_le (sum_by literal_bytes ss) max_literal_bytes
 
--- the statements may be the action of a rule
-abbrev pub may_stand : List Statement → Bool
-may_stand ss = are_few ss && ends_last ss && are_compatible ss
-
 -- the action of a rule
 abbrev pub SpellsAction : Known → List ℕ → List Statement → Type 0
-SpellsAction known text ss = SpellsStatements known text ss × (may_stand ss ≡ true)
+SpellsAction known text ss = SpellsStatements known text ss × ((are_few ss && ends_last ss && are_compatible ss) ≡ true)
 
--- what an `<<EOF>>` rule does with these statements: it may print, and it ends the scan, with status 0 where it says
--- none (flex, End-of-File Rules)
-abbrev pub end_of : List Statement → Option EndAction
-end_of [] = Some (record { print = []; status = 0 })
-end_of (Print bs ∷ []) = Some (record { print = bs; status = 0 })
-end_of (End n ∷ []) = Some (record { print = []; status = n })
-end_of (Print bs ∷ End n ∷ []) = Some (record { print = bs; status = n })
-end_of _ = None
-
--- an end action, where no statements stand before it
-abbrev pub alone : List Statement → EndAction → Option EndAction
-alone [] e = Some e
-alone (s ∷ ss) e = None
-
--- the action of an `<<EOF>>` rule
+-- The action of an `<<EOF>>` rule: it may print, and it ends the scan, with status 0 where it says none. So its statements are a literal,
+-- which may be empty, and an end, or the literal alone. (flex, End-of-File Rules.)
 abbrev pub SpellsEndAction : Known → List ℕ → EndAction → Type 0
-SpellsEndAction known text e =
-    (ss : List Statement) × SpellsStatements known text ss × (are_few ss ≡ true) × (end_of ss ≡ Some e)
+SpellsEndAction known text e = (ss : List Statement) × SpellsStatements known text ss × (are_few ss ≡ true)
+    × ((ss ≡ normal (Print e.print ∷ End e.status ∷ [])) ⊎ ((ss ≡ normal (Print e.print ∷ [])) × (e.status ≡ 0)))

@@ -1,6 +1,6 @@
 -- What the readers of calls answer.
 use Rattle.std.specs.Prelude.{◌≡◌, ℕ, List, Option, Some, None, Result, Ok, Err, option_map}
-use Rattle.lexspec_actions.specs.Actions.{Said, does}
+use Rattle.lexspec_actions.specs.ActionSteps.{Said, does}
 use Rattle.lex_semantics.specs.Spec.{Begin, Push}
 use Rattle.lexspec_actions.specs.Views.{said_of}
 use Rattle.lexspec_actions.specs.Outcome.{UnlessMemory}

@@ -1,7 +1,14 @@
--- Comments of C, `/* .. */` and `// ..`, by where a text stands.
-use Rattle.std.specs.Prelude.{ℕ, ◌==◌, if◌then◌else◌}
+-- Comments of C, `/* .. */` and `// ..`.
+use Rattle.std.specs.Prelude.{ℕ, ◌==◌, if◌then◌else◌, List, [], ◌∷◌, drop, Option, Some, None, codes}
+use Rattle.lex_semantics.specs.Reading.{begins}
 
--- outside comments, after a slash there, in a `/* .. */` comment, after a star there, or in a `//` comment
+-- what follows the next `*/`
+abbrev pub after_star : List ℕ → Option (List ℕ)
+after_star [] = None
+after_star (c ∷ t) = if begins (codes "*/") (c ∷ t) then Some (drop 1 t) else after_star t
+
+-- Comments by where a text stands: outside comments, after a slash there, in a `/* .. */` comment, after a star there, or in a `//`
+-- comment.
 pub data Place : Type 0 where
   outside : Place
   slash : Place

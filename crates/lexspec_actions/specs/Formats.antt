@@ -1,6 +1,6 @@
 -- A format that was read in part.
 use Rattle.std.specs.Prelude.{ℕ, Bool, List, ◌++◌, Option, Some, None}
-use Rattle.lexspec_actions.specs.Actions.{parts_in}
+use Rattle.lexspec_actions.specs.ActionSteps.{parts_in}
 
 -- what was read before: the front, where the `%s` has come, and bytes
 abbrev pub joined : Option (List ℕ) → List ℕ → Option (List ℕ × Option (List ℕ)) → Option (List ℕ × Option (List ℕ))

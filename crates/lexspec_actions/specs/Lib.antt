@@ -1,7 +1,9 @@
 pub mod Actions
+pub mod ActionSteps
 pub mod ActionExamples
 pub mod ActionFaults
 pub mod Bytes
+pub mod ByteSteps
 pub mod Calls
 pub mod Comments
 pub mod Formats

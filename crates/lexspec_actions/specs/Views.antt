@@ -6,7 +6,7 @@ use Rattle.lexspec_actions.specs.declared.statement.Piece.{Piece}
 use Rattle.lexspec_actions.specs.declared.format.Format.{Format}
 use Rattle.lexspec_actions.specs.Formats.{State, state}
 use Rattle.lex_semantics.specs.Spec as S
-use Rattle.lexspec_actions.specs.Actions as A
+use Rattle.lexspec_actions.specs.ActionSteps as A
 pub use Rattle.lex_machine.specs.Views.{statement_of, end_action_of}
 use Rattle.lexspec_actions.specs.declared.statement.Said.{Said}
 

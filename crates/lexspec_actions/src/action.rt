@@ -1,8 +1,8 @@
 //! The action of a rule.
 ghost use Rattle.std.specs.Prelude.{◌≡◌, ◌≤◌, ◌<◌, List, [], ◌∷◌, ◌++◌, length, map, option_map, IfOk, IfErr};
 ghost use Rattle.lex_semantics.specs.Spec as S;
-ghost use Rattle.lexspec_actions.specs.Actions.{piece_from, SpellsStatements, SpellsAction};
-ghost use Rattle.lexspec_actions.specs.Actions.{SpellsEndAction, end_of, alone};
+ghost use Rattle.lexspec_actions.specs.Actions.{SpellsStatements, SpellsAction, SpellsEndAction};
+ghost use Rattle.lexspec_actions.specs.ActionSteps.{piece_from, end_of, alone};
 ghost use Rattle.lexspec_actions.specs.Names.{known_in, names_of};
 ghost use Rattle.lexspec_actions.specs.Views.{statement_of, piece_of, end_action_of};
 ghost use Rattle.lexspec_actions.specs.Outcome.{Reads, UnlessMemory};
@@ -19,7 +19,7 @@ use lexre_bytes::SpecErrorKind;
 use std::alloc::Global;
 
 /// What an action is made of, at the front of a text that has neither blanks nor comments there.
-#[tactic(auto, unfolding(crate::specs::Actions::piece_from))]
+#[tactic(auto, unfolding(crate::specs::ActionSteps::piece_from))]
 fn piece_from<'a>(
     alloc: Global,
     conditions: &[Condition],

@@ -1,10 +1,12 @@
 //! Bytes, names, numbers and strings of an action.
 ghost use Rattle.std.specs.Prelude.{◌≡◌, ◌≤◌, ◌<◌, ◌+◌, suc, length, min, option_map};
-ghost use Rattle.std.specs.Prelude.{◌∷◌, MatchOption, IfSome, IfOk, IfErr};
+ghost use Rattle.std.specs.Prelude.{◌∷◌, [], MatchOption, IfSome, IfOk, IfErr};
 ghost use Rattle.lex_semantics.specs.Reading.{take_run, is_white, starts_name};
 ghost use Rattle.lex_semantics.specs.ByteSets.{is_digit};
-ghost use Rattle.lexspec_actions.specs.Bytes.{name_at, digits_at, skip, skip_in, next, as_byte};
-ghost use Rattle.lexspec_actions.specs.Bytes.{plain_escape, escape_at, string_byte_at, string_at, literal_at};
+ghost use Rattle.lexspec_actions.specs.Bytes.{name_at, digits_at, skip, next};
+ghost use Rattle.lexspec_actions.specs.ByteSteps.{skip_in, as_byte};
+ghost use Rattle.lexspec_actions.specs.Bytes.{literal_at};
+ghost use Rattle.lexspec_actions.specs.ByteSteps.{plain_escape, escape_from, string_byte_at, string_at};
 ghost use Rattle.lexspec_actions.specs.Comments.{outside, slash, block, line};
 ghost use Rattle.lexspec_actions.specs.Outcome.{Reads};
 ghost use Rattle.lexspec_actions.specs.ActionFaults.{IsActionFault};
@@ -101,7 +103,7 @@ fn after_comment(text: &[u8]) -> Option<&[u8]>
 }
 
 /// What follows blanks, newlines and comments.
-#[tactic(auto, unfolding(crate::specs::Bytes::skip))]
+#[tactic(auto, using(crate::proofs::SameBytes::skip_is))]
 pub(crate) fn skip(text: &[u8]) -> &[u8]
     ensures skipped { result.now ≡ skip text.now }
     ensures shorter { length result.now ≤ length text.now }
@@ -123,8 +125,9 @@ pub(crate) fn skip(text: &[u8]) -> &[u8]
 }
 
 /// What follows the byte, where that comes next.
+#[tactic(auto, using(crate::proofs::SameBytes::next_is))]
 pub(crate) fn next(byte: u8, text: &[u8]) -> Option<&[u8]>
-    ensures next { option_map (λ r. r.now) result ≡ next byte text.now }
+    ensures next { option_map (λ r. r.now) result ≡ next (byte ∷ []) text.now }
     ensures shorter { IfSome result (λ r. length r.now < length text.now) }
 {
     match skip(text) {
@@ -133,7 +136,7 @@ pub(crate) fn next(byte: u8, text: &[u8]) -> Option<&[u8]>
     }
 }
 
-#[tactic(auto, unfolding(crate::specs::Bytes::plain_escape, lex_semantics::specs::Escapes::simple_escape))]
+#[tactic(auto, unfolding(crate::specs::ByteSteps::plain_escape, lex_semantics::specs::Escapes::simple_escape))]
 fn plain_escape(byte: u8) -> Option<u8>
     ensures { result ≡ plain_escape byte }
 {
@@ -156,9 +159,9 @@ fn as_byte(byte: u8, rest: &[u8]) -> Option<(u8, &[u8])>
 }
 
 /// After a backslash.
-#[tactic(auto, unfolding(crate::specs::Bytes::escape_at))]
+#[tactic(auto, unfolding(crate::specs::ByteSteps::escape_from))]
 fn escape_at(text: &[u8]) -> Option<(u8, &[u8])>
-    ensures escape { option_map (λ x. (x.0, x.1.now)) result ≡ escape_at text.now }
+    ensures escape { option_map (λ x. (x.0, x.1.now)) result ≡ escape_from text.now }
     ensures shorter { IfSome result (λ x. length x.1.now ≤ length text.now) }
 {
     let (first, after) = text.split_first()?;
@@ -176,7 +179,7 @@ fn escape_at(text: &[u8]) -> Option<(u8, &[u8])>
 }
 
 /// A byte of a string.
-#[tactic(auto, unfolding(crate::specs::Bytes::string_byte_at))]
+#[tactic(auto, unfolding(crate::specs::ByteSteps::string_byte_at))]
 fn string_byte_at(text: &[u8]) -> Option<(u8, &[u8])>
     ensures byte { option_map (λ x. (x.0, x.1.now)) result ≡ string_byte_at text.now }
     ensures shorter { IfSome result (λ x. length x.1.now < length text.now) }
@@ -212,7 +215,7 @@ fn string_at(alloc: Global, text: &[u8]) -> Result<(Vec<u8>, &[u8]), SpecErrorKi
     Err(SpecErrorKind::Unclosed)
 }
 
-#[tactic(auto, unfolding(crate::specs::Bytes::literal_at))]
+#[tactic(auto, using(crate::proofs::SameBytes::literal_is))]
 pub(crate) fn literal_at(alloc: Global, text: &[u8]) -> Result<(Vec<u8>, &[u8]), SpecErrorKind>
     ensures literal { Reads (λ x. (x.0.items, x.1.now)) result (literal_at text.now) }
     ensures shorter { IfOk result (λ x. length x.1.now ≤ length text.now) }

@@ -1,9 +1,9 @@
 //! The statements of an action, one at a time.
 ghost use Rattle.std.specs.Prelude.{◌≡◌, ◌≤◌, ◌<◌, length, map, min, option_map, codes, IfSome, IfOk, IfErr};
-ghost use Rattle.lexspec_actions.specs.Actions.{this_word, no_argument, number_argument, second_word, capped};
-ghost use Rattle.lexspec_actions.specs.Actions.{formatted_at, printf_at, yymore_at, yyless_at, yyterminate_at, exit_at};
-ghost use Rattle.lexspec_actions.specs.Actions.{pop_at, closed_condition, fputs_at, puts_at, condition_at, begin_at};
-ghost use Rattle.lexspec_actions.specs.Actions.{push_at, stack_word, after_word, after_statement, statement_at};
+ghost use Rattle.lexspec_actions.specs.ActionSteps.{this_word, no_argument, number_argument, second_word, capped};
+ghost use Rattle.lexspec_actions.specs.ActionSteps.{formatted_at, printf_at, yymore_at, yyless_at, yyterminate_at, exit_at};
+ghost use Rattle.lexspec_actions.specs.ActionSteps.{pop_at, closed_condition, fputs_at, puts_at, condition_at, begin_at};
+ghost use Rattle.lexspec_actions.specs.ActionSteps.{push_at, stack_word, after_word, after_statement, statement_at};
 ghost use Rattle.lexspec_actions.specs.Names.{number_from, names_of, known_in};
 ghost use Rattle.lexspec_actions.specs.Views.{said_of};
 ghost use Rattle.lexspec_actions.specs.Outcome.{Reads, UnlessMemory};
@@ -20,7 +20,7 @@ use lex_semantics::{MAX_KEPT, MAX_STATUS};
 use lexre_bytes::{SpecErrorKind, capped_value};
 use std::alloc::Global;
 
-#[tactic(auto, unfolding(crate::specs::Actions::this_word))]
+#[tactic(auto, unfolding(crate::specs::ActionSteps::this_word))]
 fn this_word<'a>(word: &[u8], text: &'a [u8]) -> Option<&'a [u8]>
     ensures spelled { option_map (λ r. r.now) result ≡ this_word word.now text.now }
     ensures shorter { IfSome result (λ x. length x.now ≤ length text.now) }
@@ -29,7 +29,7 @@ fn this_word<'a>(word: &[u8], text: &'a [u8]) -> Option<&'a [u8]>
     if name == word { Some(rest) } else { None }
 }
 
-#[tactic(auto, unfolding(crate::specs::Actions::no_argument))]
+#[tactic(auto, unfolding(crate::specs::ActionSteps::no_argument))]
 fn no_argument(text: &[u8]) -> Option<&[u8]>
     ensures spelled { option_map (λ r. r.now) result ≡ no_argument text.now }
     ensures shorter { IfSome result (λ x. length x.now ≤ length text.now) }
@@ -39,7 +39,7 @@ fn no_argument(text: &[u8]) -> Option<&[u8]>
 }
 
 /// The number in parentheses, or the cap on numbers where that is less.
-#[tactic(auto, unfolding(crate::specs::Actions::number_argument))]
+#[tactic(auto, unfolding(crate::specs::ActionSteps::number_argument))]
 fn number_argument(text: &[u8]) -> Option<(u32, &[u8])>
     ensures spelled { option_map (λ x. (x.0, x.1.now)) result ≡ option_map capped (number_argument text.now) }
     ensures shorter { IfSome result (λ x. length x.1.now ≤ length text.now) }
@@ -50,7 +50,7 @@ fn number_argument(text: &[u8]) -> Option<(u32, &[u8])>
     Some((capped_value(10, digits), after))
 }
 
-#[tactic(auto, unfolding(crate::specs::Actions::second_word))]
+#[tactic(auto, unfolding(crate::specs::ActionSteps::second_word))]
 fn second_word<'a>(word: &[u8], text: &'a [u8]) -> Option<&'a [u8]>
     ensures spelled { option_map (λ r. r.now) result ≡ second_word word.now text.now }
     ensures shorter { IfSome result (λ x. length x.now ≤ length text.now) }
@@ -60,7 +60,7 @@ fn second_word<'a>(word: &[u8], text: &'a [u8]) -> Option<&'a [u8]>
     next(b')', rest)
 }
 
-#[tactic(auto, unfolding(crate::specs::Actions::formatted_at))]
+#[tactic(auto, unfolding(crate::specs::ActionSteps::formatted_at))]
 fn formatted_at<'a>(
     alloc: Global,
     format: &[u8],
@@ -89,7 +89,7 @@ fn formatted_at<'a>(
     }
 }
 
-#[tactic(auto, unfolding(crate::specs::Actions::printf_at))]
+#[tactic(auto, unfolding(crate::specs::ActionSteps::printf_at))]
 fn printf_at(alloc: Global, text: &[u8]) -> Result<(Called, &[u8]), SpecErrorKind>
     ensures spelled { CallReads (λ x. x.0) (λ x. x.1.now) result (printf_at text.now) }
     ensures shorter { IfOk result (λ x. length x.1.now ≤ length text.now) }
@@ -102,7 +102,7 @@ fn printf_at(alloc: Global, text: &[u8]) -> Result<(Called, &[u8]), SpecErrorKin
     formatted_at(alloc, &literal, rest)
 }
 
-#[tactic(auto, unfolding(crate::specs::Actions::fputs_at))]
+#[tactic(auto, unfolding(crate::specs::ActionSteps::fputs_at))]
 fn fputs_at(alloc: Global, text: &[u8]) -> Result<(Called, &[u8]), SpecErrorKind>
     ensures spelled { CallReads (λ x. x.0) (λ x. x.1.now) result (fputs_at text.now) }
     ensures shorter { IfOk result (λ x. length x.1.now ≤ length text.now) }
@@ -118,7 +118,7 @@ fn fputs_at(alloc: Global, text: &[u8]) -> Result<(Called, &[u8]), SpecErrorKind
     Ok((Called::Says(Said::Prints(literal)), after))
 }
 
-#[tactic(auto, unfolding(crate::specs::Actions::puts_at))]
+#[tactic(auto, unfolding(crate::specs::ActionSteps::puts_at))]
 fn puts_at(alloc: Global, text: &[u8]) -> Result<(Called, &[u8]), SpecErrorKind>
     ensures spelled { CallReads (λ x. x.0) (λ x. x.1.now) result (puts_at text.now) }
     ensures shorter { IfOk result (λ x. length x.1.now ≤ length text.now) }
@@ -136,7 +136,7 @@ fn puts_at(alloc: Global, text: &[u8]) -> Result<(Called, &[u8]), SpecErrorKind>
     Ok((Called::Says(Said::Prints(line)), after))
 }
 
-#[tactic(auto, unfolding(crate::specs::Actions::yymore_at))]
+#[tactic(auto, unfolding(crate::specs::ActionSteps::yymore_at))]
 fn yymore_at(text: &[u8]) -> Option<(Called, &[u8])>
     ensures spelled { CallFinds (λ x. x.0) (λ x. x.1.now) result (yymore_at text.now) }
     ensures shorter { IfSome result (λ x. length x.1.now ≤ length text.now) }
@@ -145,7 +145,7 @@ fn yymore_at(text: &[u8]) -> Option<(Called, &[u8])>
     Some((Called::Says(Said::Does(Statement::More)), rest))
 }
 
-#[tactic(auto, unfolding(crate::specs::Actions::yyterminate_at))]
+#[tactic(auto, unfolding(crate::specs::ActionSteps::yyterminate_at))]
 fn yyterminate_at(text: &[u8]) -> Option<(Called, &[u8])>
     ensures spelled { CallFinds (λ x. x.0) (λ x. x.1.now) result (yyterminate_at text.now) }
     ensures shorter { IfSome result (λ x. length x.1.now ≤ length text.now) }
@@ -154,7 +154,7 @@ fn yyterminate_at(text: &[u8]) -> Option<(Called, &[u8])>
     Some((Called::Says(Said::Does(Statement::End(0))), rest))
 }
 
-#[tactic(auto, unfolding(crate::specs::Actions::yyless_at))]
+#[tactic(auto, unfolding(crate::specs::ActionSteps::yyless_at))]
 fn yyless_at(text: &[u8]) -> Option<(Called, &[u8])>
     ensures spelled { CallFinds (λ x. x.0) (λ x. x.1.now) result (yyless_at text.now) }
     ensures shorter { IfSome result (λ x. length x.1.now ≤ length text.now) }
@@ -169,7 +169,7 @@ fn yyless_at(text: &[u8]) -> Option<(Called, &[u8])>
     ))
 }
 
-#[tactic(auto, unfolding(crate::specs::Actions::exit_at))]
+#[tactic(auto, unfolding(crate::specs::ActionSteps::exit_at))]
 fn exit_at(text: &[u8]) -> Option<(Called, &[u8])>
     ensures spelled { CallFinds (λ x. x.0) (λ x. x.1.now) result (exit_at text.now) }
     ensures shorter { IfSome result (λ x. length x.1.now ≤ length text.now) }
@@ -182,7 +182,7 @@ fn exit_at(text: &[u8]) -> Option<(Called, &[u8])>
 }
 
 /// A condition, which may not be declared: its name, or `0`.
-#[tactic(auto, unfolding(crate::specs::Actions::condition_at))]
+#[tactic(auto, unfolding(crate::specs::ActionSteps::condition_at))]
 fn condition_at<'a>(conditions: &[Condition], text: &'a [u8]) -> Option<(Option<u8>, &'a [u8])>
     requires { length conditions.now ≤ max_conditions }
     ensures spelled { ConditionReads (λ x. x.0) (λ x. x.1.now) result
@@ -202,7 +202,7 @@ fn condition_at<'a>(conditions: &[Condition], text: &'a [u8]) -> Option<(Option<
     }
 }
 
-#[tactic(auto, unfolding(crate::specs::Actions::closed_condition))]
+#[tactic(auto, unfolding(crate::specs::ActionSteps::closed_condition))]
 fn closed_condition<'a>(conditions: &[Condition], text: &'a [u8]) -> Option<(Option<u8>, &'a [u8])>
     requires { length conditions.now ≤ max_conditions }
     ensures spelled { ConditionReads (λ x. x.0) (λ x. x.1.now) result
@@ -224,7 +224,7 @@ fn begins(number: Option<u8>) -> Called
     }
 }
 
-#[tactic(auto, unfolding(crate::specs::Actions::begin_at))]
+#[tactic(auto, unfolding(crate::specs::ActionSteps::begin_at))]
 fn begin_at<'a>(conditions: &[Condition], text: &'a [u8]) -> Option<(Called, &'a [u8])>
     requires { length conditions.now ≤ max_conditions }
     ensures spelled { CallFinds (λ x. x.0) (λ x. x.1.now) result
@@ -249,7 +249,7 @@ fn push_of(number: Option<u8>) -> Called
     }
 }
 
-#[tactic(auto, unfolding(crate::specs::Actions::push_at))]
+#[tactic(auto, unfolding(crate::specs::ActionSteps::push_at))]
 fn push_at<'a>(conditions: &[Condition], text: &'a [u8]) -> Option<(Called, &'a [u8])>
     requires { length conditions.now ≤ max_conditions }
     ensures spelled { CallFinds (λ x. x.0) (λ x. x.1.now) result
@@ -263,7 +263,7 @@ fn push_at<'a>(conditions: &[Condition], text: &'a [u8]) -> Option<(Called, &'a 
     None
 }
 
-#[tactic(auto, unfolding(crate::specs::Actions::pop_at))]
+#[tactic(auto, unfolding(crate::specs::ActionSteps::pop_at))]
 fn pop_at(text: &[u8]) -> Option<(Called, &[u8])>
     ensures spelled { CallFinds (λ x. x.0) (λ x. x.1.now) result (pop_at text.now) }
     ensures shorter { IfSome result (λ x. length x.1.now ≤ length text.now) }
@@ -273,7 +273,7 @@ fn pop_at(text: &[u8]) -> Option<(Called, &[u8])>
 }
 
 /// The statements of the stack of conditions, by their first word.
-#[tactic(auto, unfolding(crate::specs::Actions::stack_word))]
+#[tactic(auto, unfolding(crate::specs::ActionSteps::stack_word))]
 fn stack_word<'a>(
     conditions: &[Condition],
     word: &[u8],
@@ -293,7 +293,7 @@ fn stack_word<'a>(
     }
 }
 
-#[tactic(auto, unfolding(crate::specs::Actions::after_statement))]
+#[tactic(auto, unfolding(crate::specs::ActionSteps::after_statement))]
 fn after_statement(text: &[u8]) -> Option<&[u8]>
     ensures spelled { option_map (λ r. r.now) result ≡ after_statement text.now }
     ensures shorter { IfSome result (λ x. length x.now ≤ length text.now) }
@@ -307,7 +307,7 @@ fn after_statement(text: &[u8]) -> Option<&[u8]>
     }
 }
 
-#[tactic(auto, unfolding(crate::specs::Actions::after_word))]
+#[tactic(auto, unfolding(crate::specs::ActionSteps::after_word))]
 fn after_word<'a>(
     alloc: Global,
     conditions: &[Condition],
@@ -348,7 +348,7 @@ fn after_word<'a>(
     }
 }
 
-#[tactic(auto, unfolding(crate::specs::Actions::statement_at))]
+#[tactic(auto, unfolding(crate::specs::ActionSteps::statement_at))]
 pub(crate) fn statement_at<'a>(
     alloc: Global,
     conditions: &[Condition],

@@ -1,6 +1,6 @@
 //! Formats of `printf`.
 ghost use Rattle.std.specs.Prelude.{◌≡◌, ◌∷◌, [], List, ℕ, None, false, OnOk, IfErr};
-ghost use Rattle.lexspec_actions.specs.Actions.{parts_of};
+ghost use Rattle.lexspec_actions.specs.ActionSteps.{parts_of};
 ghost use Rattle.lexspec_actions.specs.Formats.{read_on};
 ghost use Rattle.lexspec_actions.specs.Views.{parts_view, format_view};
 ghost use Rattle.lexspec_actions.specs.Outcome.{Reads, UnlessMemory};
@@ -73,7 +73,7 @@ impl Format {
 }
 
 /// The literals of a format.
-#[tactic(auto, unfolding(crate::specs::Actions::parts_of))]
+#[tactic(auto, unfolding(crate::specs::ActionSteps::parts_of))]
 pub(crate) fn parts_of(alloc: Global, text: &[u8]) -> Result<FormatLiterals, SpecErrorKind>
     ensures spelled { Reads parts_view result (parts_of text.now) }
     ensures fault { IfErr result (λ e. IsActionFault e) }

@@ -1,7 +1,7 @@
 //! Statements.
 ghost use Rattle.std.specs.Prelude.{◌≡◌, map, OnOk, IfErr};
 ghost use Rattle.lexspec_actions.specs.Statements.{then_print, then_one, then_all};
-ghost use Rattle.lexspec_actions.specs.Actions.{said_by};
+ghost use Rattle.lexspec_actions.specs.ActionSteps.{said_by};
 ghost use Rattle.lexspec_actions.specs.Views.{statement_of, said_of};
 ghost use Rattle.lexspec_actions.specs.Outcome.{UnlessMemory};
 ghost use Rattle.lexspec_actions.specs.ActionFaults.{IsActionFault};

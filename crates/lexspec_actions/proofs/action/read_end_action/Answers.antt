@@ -2,7 +2,7 @@ use Rattle.std.proofs.lemmas.Grind.{common_steps}
 use Rattle.std.proofs.Common.{rules, arith}
 use Rattle.std.proofs.lemmas.Result.{err_from_is_err_and}
 use Rattle.lexspec_actions.specs.Names.{known_in, names_of}
-use Rattle.lexspec_actions.proofs.ReadLemmas.{no_end_read, no_end_few, no_end_action}
+use Rattle.lexspec_actions.proofs.ReadLemmas.{end_read, no_end_read, no_end_few, no_end_action}
 use Rattle.lexspec_actions.proofs.action.read_end_action.Goals as goal
 
 pub returns-in_err-statements-clause-none : goal.returns-in_err-statements-clause-none
@@ -28,7 +28,8 @@ pub returns-in-Some-clause-fault : goal.returns-in-Some-clause-fault
 returns-in-Some-clause-fault = grind (arith, common_steps)
 
 pub returns-in-Some-clause-found : goal.returns-in-Some-clause-found
-returns-in-Some-clause-found = grind (arith, common_steps)
+returns-in-Some-clause-found c =
+    end_read (known_in (names_of c.args.conditions.now) c.args.stack) c.args.text.now _ _ c.in_ok-statements.ensures.found (search rules) (search rules)
 
 pub returns-in-Some-clause-none : goal.returns-in-Some-clause-none
 returns-in-Some-clause-none = grind (arith, common_steps)

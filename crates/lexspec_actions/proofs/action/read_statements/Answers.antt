@@ -3,7 +3,7 @@ use Rattle.std.proofs.Common.{rules, arith, ◌≡◌, length, ap, sym, ◌∙�
 use Rattle.std.proofs.lemmas.Result.{err_from_is_err_and}
 use Rattle.lexspec_actions.specs.Names.{known_in, names_of}
 use Rattle.lexspec_actions.specs.Views.{said_of, piece_of}
-use Rattle.lexspec_actions.proofs.ActionLemmas.{agree_first, agree_step, step_semicolon, step_opens, step_closes, step_says, refused_piece, refused_close, refused_open, piece_here}
+use Rattle.lexspec_actions.proofs.ActionLemmas.{agree_first, agree_step, step_semicolon, step_opens, step_closes, step_says, refused_piece, refused_close, refused_open, found_at, piece_here}
 use Rattle.lexspec_actions.proofs.action.read_statements.Goals as goal
 
 pub pieces-init : goal.pieces-init
@@ -67,4 +67,7 @@ pub pieces-smaller-in-Semicolon : goal.pieces-smaller-in-Semicolon
 pieces-smaller-in-Semicolon = grind (arith, common_steps)
 
 pub returns-then-is_empty-clause-found : goal.returns-then-is_empty-clause-found
-returns-then-is_empty-clause-found = grind (arith, common_steps)
+returns-then-is_empty-clause-found c =
+    let z : length c.skip-here.result.now ≡ 0 = search rules in
+    let e : c.pieces.open ≡ 0 = omega arith in
+    found_at (known_in (names_of c.args.conditions.now) c.args.stack) _ _ _ _ c.pieces.invariant.agree (ap length (sym c.skip-here.ensures.skipped) ∙ z) e

@@ -1,5 +1,5 @@
 use Rattle.std.proofs.Common.{◌≡◌, ◌≤◌, length}
-use Rattle.lexspec_actions.specs.Bytes.{skip_in}
+use Rattle.lexspec_actions.specs.ByteSteps.{skip_in}
 use Rattle.lexspec_actions.specs.Comments.{outside}
 use Rattle.lexspec_actions.proofs.bytes.skip.Given as goal
 

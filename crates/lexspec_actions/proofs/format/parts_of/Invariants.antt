@@ -1,5 +1,5 @@
 use Rattle.std.proofs.Common.{◌≡◌, false, drop}
-use Rattle.lexspec_actions.specs.Actions.{parts_in}
+use Rattle.lexspec_actions.specs.ActionSteps.{parts_in}
 use Rattle.lexspec_actions.specs.Formats.{read_on}
 use Rattle.lexspec_actions.specs.Views.{format_view}
 use Rattle.lexspec_actions.proofs.format.parts_of.Given as goal
