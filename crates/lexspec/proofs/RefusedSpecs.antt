@@ -14,7 +14,7 @@ use Rattle.lexspec_lines.specs.Folding.{with_fold}
 use Rattle.lexspec_lines.specs.Lines.{words_in, without_returns, line_in, newlines}
 use Rattle.lexspec_lines.proofs.OneSection.{no_true, one_up_to, separator_ends}
 use Rattle.lexspec.specs.Files.{AreSingle, is_unlisted, SpellsSpec}
-use Rattle.lexspec.specs.Items.{unlisted, only, no_trail, at_end, matching, bar, spelled, Item, rule, conditions_at, AreItems}
+use Rattle.lexspec.specs.Items.{unlisted, only, no_trail, at_end, matching, bar, spelled, Item, rule, conditions_at, AreItems, after_piece, action_end, action_at}
 use Rattle.lexspec.specs.RuleItems.{EndRule, AreRules}
 use Rattle.lexspec.specs.SpecExamples as Example
 use Rattle.lexspec.proofs.ComputedSections.{a_here}
@@ -69,7 +69,7 @@ defined_twice S h =
     no_true (sym (ap (λ ds. are_distinct (map (λ (d : List ℕ × List ℕ). d.0) (substitutes_of ds))) same.0) ∙ h.defined_once)
 
 not_declared : Example.IsNone (codes "%%\n<A>a ECHO;\n")
-unfolding definition_at conditions_at take_up_to is_blank
+unfolding definition_at conditions_at take_up_to is_blank action_at action_end after_piece
 not_declared S h =
     let item = rule (only (codes "A" ∷ [])) (matching false (codes "a") no_trail) (spelled (codes "ECHO;")) in
     let found = spells_items (codes "%%\n<A>a ECHO;\n") ((2, item) ∷ []) refl (
@@ -84,7 +84,7 @@ not_declared S h =
     no numbers e = cc
 
 bar_at_end : Example.IsNone (codes "%%\na |\n")
-unfolding definition_at conditions_at take_up_to is_blank
+unfolding definition_at conditions_at take_up_to is_blank action_at action_end after_piece
 bar_at_end S h =
     let item = rule unlisted (matching false (codes "a") no_trail) bar in
     let found = spells_items (codes "%%\na |\n") ((2, item) ∷ []) refl (
@@ -109,7 +109,7 @@ two_unlisted ends others more m n e f listed listed' first second one =
     omega (arith, two, from_first, from_second)
 
 two_ends : Example.IsNone (codes "%%\n<<EOF>> exit(1);\n<<EOF>> exit(2);\n")
-unfolding definition_at conditions_at take_up_to is_blank
+unfolding definition_at conditions_at take_up_to is_blank action_at action_end after_piece
 two_ends S h =
     let first = rule unlisted at_end (spelled (codes "exit(1);")) in
     let second = rule unlisted at_end (spelled (codes "exit(2);")) in

@@ -13,7 +13,7 @@ use Rattle.lexre.proofs.OneTree.{one_tree}
 use Rattle.lexspec_actions.specs.Names.{number_from, known_in}
 use Rattle.lexspec_actions.specs.Actions.{SpellsAction, SpellsEndAction}
 use Rattle.lex_semantics.specs.Reading.{after_blanks, take_up_to}
-use Rattle.lexspec.specs.Items.{Conditions, Trailing, Subject, at_end, matching, Action, bar, spelled, Item, skipped, skipped_line, skipped_block, rule, conditions_at, IsSubject, action_in, outside, action_of, starts_rule, IsItem, AreItems}
+use Rattle.lexspec.specs.Items.{Conditions, Trailing, Subject, at_end, matching, Action, bar, spelled, Item, skipped, skipped_line, skipped_block, rule, conditions_at, IsSubject, action_at, action_of, starts_rule, IsItem, AreItems}
 use Rattle.lexspec_lines.specs.Lines.{newlines}
 use Rattle.lex_semantics.specs.Sound.{IsCutOf}
 use Rattle.lexspec.specs.RuleItems.{numbers_of, IsTrail, EndRule, IsActionOf, goes_to_rule, IsRule, AreRules, HasHead}
@@ -322,7 +322,7 @@ module _ (names : List (List ℕ)) (how : ReadOptions) (stack : Bool) (defined :
     pub rest : List ℕ
     pub list : conditions_at t ≡ Some (asked, u)
     pub cut : IsSubject u subject v
-    pub ends : action_in outside 0 (after_blanks v) ≡ Some (text, rest)
+    pub ends : action_at (after_blanks v) ≡ Some (text, rest)
     pub numbers : Option (List ℕ)
     pub numbered : numbers_of (number_from 0 names) (length names) asked ≡ Some numbers
     pub acts : ActsAs w subject (action_of text)
@@ -395,7 +395,7 @@ module _ (names : List (List ℕ)) (how : ReadOptions) (stack : Bool) (defined :
 
   -- what is known of the rule where its list and its subject are known
   abbrev pub Known : List Rule → Subject → List ℕ → Type 0
-  Known w subject v = (text rest : List ℕ) × (action_in outside 0 (after_blanks v) ≡ Some (text, rest)) × ActsAs w subject (action_of text)
+  Known w subject v = (text rest : List ℕ) × (action_at (after_blanks v) ≡ Some (text, rest)) × ActsAs w subject (action_of text)
 
   known : (n : ℕ) (t u v : List ℕ) (asked : Conditions) (subject : Subject) (w R : List Rule) (E : List EndRule) → starts_rule t ≡ true → conditions_at t ≡ Some (asked, u) → IsSubject u subject v
       → Left names how stack defined n t w R E → Known w subject v
@@ -403,7 +403,7 @@ module _ (names : List (List ℕ)) (how : ReadOptions) (stack : Bool) (defined :
       let h = invert n t w R E starts left in
       let same = (some_pair h.asked asked h.u u (sym h.list ∙ list)).1 in
       let one = one_subject cut_once u h.subject subject h.v v (subst (λ z. IsSubject z h.subject h.v) same h.cut) cut in
-      (h.text, h.rest, ap (λ z. action_in outside 0 (after_blanks z)) (sym one.1) ∙ h.ends, subst (λ z. ActsAs w z (action_of h.text)) one.0 h.acts)
+      (h.text, h.rest, ap (λ z. action_at (after_blanks z)) (sym one.1) ∙ h.ends, subst (λ z. ActsAs w z (action_of h.text)) one.0 h.acts)
 
   -- no head, trailing context and cut
   abbrev pub NoHead : List ℕ → Trailing → Type 0
@@ -414,14 +414,14 @@ module _ (names : List (List ℕ)) (how : ReadOptions) (stack : Bool) (defined :
   no_head t u v asked anchored head after starts list cut none n w R E left =
       let (text, rest, ends, r, spells, trail, cuts, acts) = flat (known n t u v asked (matching anchored head after) w R E starts list cut left) in none r.head r.trail r.cut spells trail cuts
     where
-      flat : Known w (matching anchored head after) v → (text rest : List ℕ) × (action_in outside 0 (after_blanks v) ≡ Some (text, rest)) × (r : Rule)
+      flat : Known w (matching anchored head after) v → (text rest : List ℕ) × (action_at (after_blanks v) ≡ Some (text, rest)) × (r : Rule)
           × Spells how defined head r.head × IsTrail how defined after r.trail × IsCutOf r.head r.trail r.cut × IsSpelled (action_of text)
       flat (text, rest, ends, (r, spells, trail, cuts, acts)) = (text, rest, ends, r, spells, trail, cuts, acts)
 
   pub no_action : (t u v : List ℕ) (asked : Conditions) (subject : Subject) → starts_rule t ≡ true → conditions_at t ≡ Some (asked, u)
-      → IsSubject u subject v → action_in outside 0 (after_blanks v) ≡ None → NoLeft t
+      → IsSubject u subject v → action_at (after_blanks v) ≡ None → NoLeft t
   no_action t u v asked subject starts list cut none n w R E left =
-      let k = known n t u v asked subject w R E starts list cut left in no_some (k.0, k.1) (action_in outside 0 (after_blanks v)) k.2 none
+      let k = known n t u v asked subject w R E starts list cut left in no_some (k.0, k.1) (action_at (after_blanks v)) k.2 none
 
   -- the action of the rule that begins a text
   pub acts_of : (n : ℕ) (t : List ℕ) (asked : Conditions) (subject : Subject) (action : Action) (rest : List ℕ) (w R : List Rule) (E : List EndRule) → IsItem t (rule asked subject action) rest
