@@ -30,7 +30,7 @@ use Rattle.lexspec_actions.specs.Names.{known_in}
 use Rattle.lexspec_lines.specs.DefinitionLines.{options}
 use Rattle.lexspec.specs.Files.{AreSingle, lists_number}
 use Rattle.lexspec.specs.Items.{unlisted, every, only, no_trail, line_end, pattern_after, bar, spelled, Item, skipped}
-use Rattle.lexspec.specs.RuleItems.{EndRule, newline, IsRule, AreRules}
+use Rattle.lexspec.specs.RuleItems.{EndRule, IsRule, AreRules}
 use Rattle.lexspec.specs.SpecExamples.{whole_file, ended, open_at_end, number, letters, opening, closing, any_other, whole_spec, WholeFile, short_file, both_cases, ShortFile}
 use Rattle.lexspec.specs.Tests.{any_below, sound_tree, sound_trail, cut_fits}
 use Rattle.lexspec.proofs.ComputedSections.{whole_definitions, from_separator, other_item, letters_item, end_items, last_items, later_items, whole_items, whole_first, whole_second, short_items, short_first, short_second}
@@ -80,7 +80,7 @@ cut_as_tested r head trail fits = cut_is_fit r.cut r.head r.trail (tree_is_sound
     sound (Some t) h = tree_is_sound t h
 
 number_ruled : (is : List (ℕ × Item)) (rules : List Rule) → IsRule names plain true named 17 unlisted true (codes "{D}+") line_end (spelled (codes "ECHO;")) is rules number
-unfolding newline has set_below set_of single range_set any_below take_up_to is_alpha is_upper is_lower is_alnum is_blank is_digit A.piece_from A.statement_at A.after_word A.after_statement B.name_at B.skip
+unfolding has set_below set_of single range_set any_below take_up_to is_alpha is_upper is_lower is_alnum is_blank is_digit A.piece_from A.statement_at A.after_word A.after_statement B.name_at B.skip
 number_ruled is rules = record {
   front = record {
     line_is = refl;

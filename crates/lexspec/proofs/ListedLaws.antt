@@ -1,15 +1,15 @@
 -- The conditions of a rule, by number.
 use Rattle.std.proofs.Common.{◌≡◌, ℕ, zero, suc, ◌+◌, ◌-◌, ◌<◌, ◌==◌, ◌||◌, ◌&&◌, Bool, true, false, not, cond, if◌then◌else◌, List, [], ◌∷◌, length, get_or, drop, Option, Some, None, is_some, ◌⊎◌, inl, inr, refl, sym, ap, subst, ◌∙◌, arith}
-use Rattle.std.specs.Prelude.{codes, replicate, slice_set, IfNone}
+use Rattle.std.specs.Prelude.{codes, filter_map, replicate, slice_set, IfNone}
 use Rattle.std.proofs.lemmas.Bool.{eqb-true, eqb-false, eq-eqb}
-use Rattle.std.specs.List.{list_any, slice_split, onto_first}
+use Rattle.std.specs.List.{list_any, slice_split, onto_first, cons_option}
 use Rattle.lex_semantics.specs.Active.{lists}
 use Rattle.lexspec.proofs.ActionPieces.{Other, decide}
 use Rattle.lex_semantics.specs.Reading.{take_up_to}
 use Rattle.lexspec_lines.specs.Runs.{split_before}
-use Rattle.lexspec.specs.RuleItems.{all_numbered, is_number}
+use Rattle.lexspec.specs.Tests.{is_number}
 use Rattle.lex_semantics.specs.Text.{listed}
-use Rattle.lexspec.specs.SubjectViews.{parts}
+use Rattle.lexspec.specs.SubjectViews.{all_numbered, parts}
 use Rattle.lex_semantics.specs.Limits.{max_conditions}
 
 abbrev Split : Type 0
@@ -127,9 +127,19 @@ marks_next number names all rest name flags k m first here below = record {
       ∙ ap (λ z. get_or flags c false || list_any (λ n. is_number (number n) c) z) (sym first) ∙ m.listed c h);
 }
 
+-- some name has the number
+names_listed : (number : List ℕ → Option ℕ) (names : List (List ℕ)) (c : ℕ) → list_any (λ name. is_number (number name) c) names ≡ lists (filter_map number names) c
+names_listed number [] c = refl
+names_listed number (name ∷ names) c = from (number name) (names_listed number names c)
+  where
+    from : (o : Option ℕ) → list_any (λ name. is_number (number name) c) names ≡ lists (filter_map number names) c
+        → (is_number o c || list_any (λ name. is_number (number name) c) names) ≡ lists (cons_option o (filter_map number names)) c
+    from None h = h
+    from (Some k) h = ap (λ b. (k == c) || b) h
+
 pub marks_all : (number : List ℕ → Option ℕ) (names : List (List ℕ)) (flags : List Bool) → Marks number names [] flags
-    → (all_numbered number names ≡ true) × ((c : ℕ) → c < max_conditions → get_or flags c false ≡ list_any (λ name. is_number (number name) c) names)
-marks_all number names flags m = (sym m.numbered, λ c h. sym (or_none (get_or flags c false)) ∙ m.listed c h)
+    → (all_numbered number names ≡ true) × ((c : ℕ) → c < max_conditions → get_or flags c false ≡ lists (filter_map number names) c)
+marks_all number names flags m = (sym m.numbered, λ c h. sym (or_none (get_or flags c false)) ∙ m.listed c h ∙ names_listed number names c)
   where
     or_none : (b : Bool) → (b || false) ≡ b
     or_none true = refl

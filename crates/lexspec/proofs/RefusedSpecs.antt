@@ -13,7 +13,8 @@ use Rattle.lexspec_lines.specs.DefinitionLines.{Definition, declares, options, d
 use Rattle.lexspec_lines.specs.Folding.{with_fold}
 use Rattle.lexspec_lines.specs.Lines.{words_in, without_returns, line_in, newlines}
 use Rattle.lexspec_lines.proofs.OneSection.{no_true, one_up_to, separator_ends}
-use Rattle.lexspec.specs.Files.{AreSingle, is_unlisted, SpellsSpec}
+use Rattle.lexspec.specs.Files.{AreSingle, SpellsSpec}
+use Rattle.lexspec.specs.Endings.{is_unlisted}
 use Rattle.lexspec.specs.Items.{unlisted, only, no_trail, at_end, matching, bar, spelled, Item, rule, conditions_at, AreItems, after_piece, action_end, action_at}
 use Rattle.lexspec.specs.RuleItems.{EndRule, AreRules}
 use Rattle.lexspec.specs.SpecExamples as Example

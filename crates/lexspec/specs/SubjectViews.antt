@@ -1,6 +1,6 @@
 -- What condition lists and patterns of the code stand for.
-use Rattle.std.specs.Prelude.{ℕ, suc, ◌-◌, Bool, true, false, List, take, drop, Option, Some, None, codes}
-use Rattle.std.specs.List.{slice_split}
+use Rattle.std.specs.Prelude.{ℕ, suc, ◌-◌, Bool, true, false, List, take, drop, Option, Some, None, is_some, codes}
+use Rattle.std.specs.List.{list_all, slice_split}
 use Rattle.lex_semantics.specs.Active.{lists}
 use Rattle.lexspec.specs.Items as I
 use Rattle.lexspec.specs.declared.subject.Conditions.{Conditions}
@@ -13,6 +13,10 @@ use Rattle.lexspec.specs.declared.subject.Subject.TheVariants.{AtEnd, Matching}
 -- the names between commas
 abbrev pub parts : List ℕ → List (List ℕ)
 parts t = slice_split (lists (codes ",")) t
+
+-- whether every name of a list has a number
+abbrev pub all_numbered : (List ℕ → Option ℕ) → List (List ℕ) → Bool
+all_numbered number names = list_all (λ name. is_some (number name)) names
 
 abbrev pub conditions_of : Conditions → I.Conditions
 conditions_of Unlisted = I.unlisted
