@@ -16,7 +16,8 @@ use Rattle.lexspec_lines.specs.DefinitionLines.{Declared, names_of}
 use Rattle.lexspec.specs.Files.{lists_number, end_in, conditions_with}
 use Rattle.lexspec.specs.Endings.{unlisted_end, listed_end}
 use Rattle.lexspec.specs.Items.{Conditions, Trailing, at_end, matching, Action, bar, spelled, Item, skipped, skipped_line, skipped_block, rule}
-use Rattle.lexspec.specs.RuleItems.{EndRule, IsActionOf, IsRule, AreRules}
+use Rattle.lexspec.specs.RuleReads.{IsRule}
+use Rattle.lexspec.specs.RuleItems.{EndRule, IsActionOf, AreRules}
 use Rattle.lexspec_lines.specs.Declaring.{declared_of}
 use Rattle.lexspec.specs.ItemReads.{names_in}
 use Rattle.lexspec_lines.specs.declared.declarations.Declarations.{Declarations}
@@ -87,8 +88,8 @@ module _ (names : List (List ℕ)) (how : ReadOptions) (stack : Bool) (defined :
   item_passes : (n : ℕ) (asked : Conditions) (anchored : Bool) (head : List ℕ) (after : Trailing) (action : Action) (is : List (ℕ × Item)) (rs : List Rule) (r : Rule)
       → IsRule names how stack defined n asked anchored head after action is rs r → HasSoundSides r → sound_rules (length names) rs ≡ true → sound_rule (length names) r ≡ true
   item_passes n asked anchored head after action is rs r h sides pass =
-      rule_passes (length names) r (numbers_ordered (number_from 0 names) (length names) asked r.conditions h.front.listed) sides
-      (cut_is_tested r.cut r.head r.trail sides.0 sides.1 h.front.cut_is) (action_acts names stack action rs r.statements some h.statements_are pass)
+      rule_passes (length names) r (numbers_ordered (number_from 0 names) (length names) asked r.conditions h.0.listed) sides
+      (cut_is_tested r.cut r.head r.trail sides.0 sides.1 h.0.cut_is) (action_acts names stack action rs r.statements some h.2 pass)
 
   pub rules_pass : (is : List (ℕ × Item)) (rs : List Rule) (ends : List EndRule) → AreRules names how stack defined is rs ends → HaveSoundSides rs → sound_rules (length names) rs ≡ true
   rules_pass [] rs ends h sides = ap (sound_rules (length names)) h.0

@@ -79,7 +79,7 @@ not_declared S h =
       (refl, codes "a ECHO;\n", codes " ECHO;\n", codes "ECHO;", refl, (refl, refl, a_here (codes "ECHO;\n")), refl, refl),
       inl refl,
     ) S h in
-    no found.1.0.conditions found.1.3.front.listed
+    no found.1.0.conditions found.1.3.0.listed
   where
     no : (numbers : Option (List ℕ)) → ◌≡◌ {A = Option (Option (List ℕ))} None (Some numbers) → ⊥
     no numbers e = cc
@@ -94,7 +94,7 @@ bar_at_end S h =
       (refl, codes "a |\n", codes " |\n", codes "|", refl, (refl, refl, a_here (codes "|\n")), refl, refl),
       inl refl,
     ) S h in
-    no_true found.1.3.next
+    no_true found.1.3.1
 
 -- ends of which two have no list
 two_unlisted : (ends others more : List EndRule) (m n : Option (List ℕ)) (e f : EndAction) → ◌≡◌ {A = Option (Option (List ℕ))} (Some None) (Some m) → ◌≡◌ {A = Option (Option (List ℕ))} (Some None) (Some n)

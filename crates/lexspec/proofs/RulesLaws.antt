@@ -16,8 +16,8 @@ use Rattle.lex_semantics.specs.Reading.{after_blanks, take_up_to}
 use Rattle.lexspec.specs.Items.{Conditions, Trailing, Subject, at_end, matching, Action, bar, spelled, Item, skipped, skipped_line, skipped_block, rule, conditions_at, IsSubject, action_at, action_of, starts_rule, IsItem, AreItems}
 use Rattle.lexspec_lines.specs.Lines.{newlines}
 use Rattle.lex_semantics.specs.Sound.{IsCutOf}
-use Rattle.lexspec.specs.RuleItems.{numbers_of, IsTrail, EndRule, IsActionOf, goes_to_rule, IsRule, AreRules, HasHead}
-use Rattle.lexspec.specs.RuleReads.{acting, first_statements, filled, may_wait, Left}
+use Rattle.lexspec.specs.RuleItems.{numbers_of, IsTrail, EndRule, IsActionOf, goes_to_rule, AreRules, HasHead}
+use Rattle.lexspec.specs.RuleReads.{acting, first_statements, filled, may_wait, Left, IsRule}
 use Rattle.lexspec_lines.proofs.OneSection.{no_true, two_percents, some_pair}
 use Rattle.lexspec.proofs.OneItems.{both_ways, AllBlank, StartsBlank, OpensBlock, tests_of, rule_tests, no_item_at_end, one_item, one_subject}
 use Rattle.lexspec.proofs.OneSpec.{one_rule, one_end, some_is}
@@ -142,11 +142,7 @@ module _ (names : List (List ℕ)) (how : ReadOptions) (stack : Bool) (defined :
   head_rule : (n : ℕ) (asked : Conditions) (anchored : Bool) (head : List ℕ) (after : Trailing) (text : List ℕ) (is : List (ℕ × Item)) (rs : List Rule) (r : Rule) (ss : List Statement)
       → HasHead names how stack defined n asked anchored head after r → SpellsAction (known_in names stack) text ss
       → IsRule names how stack defined n asked anchored head after (spelled text) is rs (acting ss r)
-  head_rule n asked anchored head after text is rs r ss h acts = record {
-    front = with_statements n asked anchored head after r _ h;
-    next = refl;
-    statements_are = acts;
-  }
+  head_rule n asked anchored head after text is rs r ss h acts = (with_statements n asked anchored head after r _ h, refl, acts)
 
   pub rule_on : (n : ℕ) (t : List ℕ) (asked : Conditions) (anchored : Bool) (head : List ℕ) (after : Trailing) (text rest : List ℕ) (r : Rule) (ss : List Statement) (w R : List Rule) (E : List EndRule)
       → IsItem t (rule asked (matching anchored head after) (spelled text)) rest → HasHead names how stack defined n asked anchored head after r → SpellsAction (known_in names stack) text ss
@@ -193,11 +189,7 @@ module _ (names : List (List ℕ)) (how : ReadOptions) (stack : Bool) (defined :
   bar_rule : (n : ℕ) (asked : Conditions) (anchored : Bool) (head : List ℕ) (after : Trailing) (is : List (ℕ × Item)) (rs : List Rule) (r : Rule)
       → HasHead names how stack defined n asked anchored head after r → goes_to_rule bar is ≡ true → IsActionOf (known_in names stack) bar rs (first_statements rs)
       → IsRule names how stack defined n asked anchored head after bar is rs (acting (first_statements rs) r)
-  bar_rule n asked anchored head after is rs r h next takes = record {
-    front = with_statements n asked anchored head after r _ h;
-    next = next;
-    statements_are = takes;
-  }
+  bar_rule n asked anchored head after is rs r h next takes = (with_statements n asked anchored head after r _ h, next, takes)
 
   wait_more : (w : List Rule) (r : Rule) (is : List (ℕ × Item)) → may_wait (w ++ r ∷ []) is ≡ goes_to_rule bar is
   wait_more [] r is = refl
@@ -214,14 +206,14 @@ module _ (names : List (List ℕ)) (how : ReadOptions) (stack : Bool) (defined :
       let (q, others, all, one, more) = subst (λ z. AreRules names how stack defined z left.later E) b.all left.are in
       let f = first_statements others in
       let same : q ≡ acting f r = one_rule tree_once names how stack defined n asked anchored head after bar b.others others q (acting f r) one
-      (bar_rule n asked anchored head after b.others others r h one.next (has_first others q.statements one.statements_are)) in
+      (bar_rule n asked anchored head after b.others others r h one.1 (has_first others q.statements one.2)) in
       let later : left.later ≡ acting f r ∷ others = all ∙ ap (λ z. z ∷ others) same in
       record {
         items = b.others;
         here = b.here;
         later = others;
         are = more;
-        next = wait_more w r b.others ∙ one.next;
+        next = wait_more w r b.others ∙ one.1;
         whole = left.whole ∙ ap (filled w) later ∙ fill_more f w r others;
       }
 
@@ -333,9 +325,9 @@ module _ (names : List (List ℕ)) (how : ReadOptions) (stack : Bool) (defined :
   acts_here w n asked at_end bar is rs es are next = absurd are
   acts_here [] n asked at_end (spelled text) is rs es (numbers, e, others, listed, acts, all, more) next = ((numbers, listed), (refl, e, acts))
   acts_here (q ∷ w) n asked at_end (spelled text) is rs es are next = no_true next
-  acts_here w n asked (matching anchored head after) bar is rs es (r, others, all, one, more) next = ((r.conditions, one.front.listed), (r, one.front.head_is, one.front.trail_is, one.front.cut_is, tt))
+  acts_here w n asked (matching anchored head after) bar is rs es (r, others, all, one, more) next = ((r.conditions, one.0.listed), (r, one.0.head_is, one.0.trail_is, one.0.cut_is, tt))
   acts_here w n asked (matching anchored head after) (spelled text) is rs es (r, others, all, one, more) next =
-      ((r.conditions, one.front.listed), (r, one.front.head_is, one.front.trail_is, one.front.cut_is, (r.statements, one.statements_are)))
+      ((r.conditions, one.0.listed), (r, one.0.head_is, one.0.trail_is, one.0.cut_is, (r.statements, one.2)))
 
   rule_here : (t : List ℕ) (w : List Rule) (n : ℕ) (i : Item) (rest : List ℕ) (is : List (ℕ × Item)) (rs : List Rule) (es : List EndRule) → starts_rule t ≡ true → IsItem t i rest
       → AreRules names how stack defined ((n, i) ∷ is) rs es → may_wait w ((n, i) ∷ is) ≡ true → RuleHere t w

@@ -56,12 +56,6 @@ module _ (names : List (List ℕ)) (how : ReadOptions) (stack : Bool) (defined :
     pub trail_is : IsTrail how defined after r.trail
     pub cut_is : IsCutOf r.head r.trail r.cut
 
-  -- the rule of an item, where `rules` are those of the items after it
-  pub record IsRule (n : ℕ) (asked : Conditions) (anchored : Bool) (head : List ℕ) (after : Trailing) (action : Action) (is : List (ℕ × Item)) (rules : List Rule) (r : Rule) : Type 0 where
-    pub front : HasHead n asked anchored head after r
-    pub next : goes_to_rule action is ≡ true
-    pub statements_are : IsActionOf (known_in names stack) action rules r.statements
-
   -- the rules and the `<<EOF>>` rules of the items
   abbrev pub AreRules : List (ℕ × Item) → List Rule → List EndRule → Type 0
   AreRules [] rules ends = (rules ≡ []) × (ends ≡ [])
@@ -71,5 +65,6 @@ module _ (names : List (List ℕ)) (how : ReadOptions) (stack : Bool) (defined :
       × (ends ≡ (numbers, e) ∷ others) × AreRules is rules others
   AreRules ((n, rule asked at_end bar) ∷ is) rules ends = ⊥
   AreRules ((n, rule asked (matching anchored head after) action) ∷ is) rules ends =
-      (r : Rule) × (others : List Rule) × (rules ≡ r ∷ others) × IsRule n asked anchored head after action is others r × AreRules is others ends
+      (r : Rule) × (others : List Rule) × (rules ≡ r ∷ others) × (HasHead n asked anchored head after r × (goes_to_rule action is ≡ true)
+      × IsActionOf (known_in names stack) action others r.statements) × AreRules is others ends
   AreRules ((n, i) ∷ is) rules ends = AreRules is rules ends
