@@ -6,25 +6,16 @@ use Rattle.std.proofs.lemmas.List.{append_assoc, take_at}
 use Rattle.lex_semantics.specs.Active.{lists}
 use Rattle.lex_semantics.specs.Escapes.{byte_with, until_quote}
 use Rattle.lex_semantics.specs.Reading.{◌>>=◌, begins, take_up_to}
+use Rattle.lexspec_lines.specs.Lines.{after_star}
 use Rattle.lexspec_lines.specs.Runs.{split_before}
+use Rattle.lexspec_lines.proofs.TextLaws.{Other, decide}
 use Rattle.lexspec_actions.specs.Comments.{slash, block, star, line, after_byte}
 use Rattle.lexspec.specs.ActionSteps.{Place, code, string, escaped, outside, action_in, with_byte, next_place, depth_after}
-use Rattle.lexspec.specs.Items.{after_string, after_star, after_piece, action_end, action_at}
+use Rattle.lexspec.specs.Items.{after_string, after_piece, action_end, action_at}
 use Rattle.lexspec.proofs.ActionLaws.{at_outside, with_front}
 
 abbrev Split : Type 0
 Split = List ℕ × List ℕ
-
--- a byte is the sign, or no test finds it to be
-abbrev pub Other : ℕ → ℕ → Type 0
-Other d c = (nat_eq d c ≡ false) × ((c == d) ≡ false)
-
-pub decide : (d c : ℕ) → (d ≡ c) ⊎ Other d c
-decide d c = from (nat_eq d c) refl
-  where
-    from : (b : Bool) → nat_eq d c ≡ b → (d ≡ c) ⊎ Other d c
-    from true e = inl (eqb-true d c e)
-    from false e = inr (e, ne_eqb c d (λ k. eqb-false d c e (sym k)))
 
 front_one : (c : ℕ) (front : List ℕ) (o : Option Split) → with_byte c (with_front front o) ≡ with_front (c ∷ front) o
 front_one c front None = refl

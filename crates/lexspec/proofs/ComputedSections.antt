@@ -8,7 +8,7 @@ use Rattle.lexre_bytes.specs.Lexical.{escape_at, literal_byte_at, after_quotes}
 use Rattle.lexre.specs.Cutting.{Piece, IsCutting, IsPieces, dollar, other, slash, piece_at, slashes, ends_with_dollar}
 use Rattle.lexspec_lines.specs.DefinitionLines.{Definition, nothing, code_line, code_block, declares, options, ignored, defines, definition_at, definition_in, percent_line, IsUpTo}
 use Rattle.lexspec_lines.specs.SkippedCode.{IsDefinition, AreNumbered, AreFrom}
-use Rattle.lexspec_lines.specs.Lines.{words_in, after_block, without_returns}
+use Rattle.lexspec_lines.specs.Lines.{after_block, without_returns}
 use Rattle.lexspec.specs.Items.{unlisted, every, only, no_trail, line_end, pattern_after, at_end, matching, bar, spelled, Item, IsPattern, skipped, skipped_line, skipped_block, rule, conditions_at, after_string, after_piece, action_end, action_at, IsItem, AreItems}
 use Rattle.lexspec.specs.SpecExamples.{rules_section, user_code, whole_file, WholeSkips, short_file}
 
@@ -53,7 +53,7 @@ numbered_definitions =
     ∷ (9, declares true (codes "B" ∷ codes "C" ∷ [])) ∷ (10, options (codes "stack" ∷ [])) ∷ (11, ignored) ∷ []
 
 pub whole_first : IsUpTo definition_at (without_returns whole_file) whole_definitions from_separator
-unfolding definition_at definition_in percent_line words_in after_block take_up_to is_alpha is_upper is_lower is_alnum is_blank is_digit
+unfolding definition_at definition_in percent_line after_block take_up_to is_alpha is_upper is_lower is_alnum is_blank is_digit
 whole_first =
     (from_comment, refl, (from_code, refl, (from_name, refl, (from_inclusive, refl, (from_exclusive, refl, (from_option, refl, (from_sizes, refl, (from_separator, refl, refl))))))))
 
@@ -283,7 +283,7 @@ whole_second = (
 
 -- the lines of the definitions, each with its number
 whole_lines : AreFrom IsDefinition 1 (without_returns whole_file) numbered_definitions from_separator
-unfolding definition_at definition_in percent_line words_in after_block take_up_to is_alpha is_upper is_lower is_alnum is_blank is_digit
+unfolding definition_at definition_in percent_line after_block take_up_to is_alpha is_upper is_lower is_alnum is_blank is_digit
 whole_lines =
     let last : AreNumbered IsDefinition 28 from_exclusive ((9, declares true (codes "B" ∷ codes "C" ∷ [])) ∷ (10, options (codes "stack" ∷ [])) ∷ (11, ignored) ∷ []) from_separator =
     (from_option, refl, refl, (from_sizes, refl, refl, (from_separator, refl, refl, refl))) in
@@ -332,7 +332,7 @@ abbrev pub short_items : List (ℕ × Item)
 short_items = (3, rule unlisted (matching false (codes "a") no_trail) (spelled (codes "ECHO;"))) ∷ []
 
 pub short_first : IsUpTo definition_at (without_returns short_file) (options (codes "case-insensitive" ∷ []) ∷ []) (codes "%%\na ECHO;")
-unfolding definition_at percent_line words_in take_up_to is_blank
+unfolding definition_at percent_line take_up_to is_blank
 short_first = (codes "%%\na ECHO;", refl, refl)
 
 pub short_second : AreItems 3 (codes "a ECHO;") short_items

@@ -4,7 +4,7 @@ use Rattle.std.specs.Prelude.{codes, filter_map, replicate, slice_set, IfNone}
 use Rattle.std.proofs.lemmas.Bool.{eqb-true, eqb-false, eq-eqb}
 use Rattle.std.specs.List.{list_any, slice_split, onto_first, cons_option}
 use Rattle.lex_semantics.specs.Active.{lists}
-use Rattle.lexspec.proofs.ActionPieces.{Other, decide}
+use Rattle.lexspec_lines.proofs.TextLaws.{Other, decide}
 use Rattle.lex_semantics.specs.Reading.{take_up_to}
 use Rattle.lexspec_lines.specs.Runs.{split_before}
 use Rattle.lexspec.specs.Tests.{is_number}

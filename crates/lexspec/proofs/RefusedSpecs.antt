@@ -9,9 +9,10 @@ use Rattle.lex_semantics.specs.Spec.{Spec, EndAction}
 use Rattle.lexre.specs.Cutting.{IsCutting}
 use Rattle.lexre.specs.PatternExamples.{plain}
 use Rattle.lexre.proofs.CuttingLaws.{one_cutting}
-use Rattle.lexspec_lines.specs.DefinitionLines.{Definition, declares, options, defines, definition_at, definition_in, percent_line, IsUpTo, all_conditions, names_of, has_name, substitutes_of, all_options, are_known, are_distinct}
+use Rattle.lexspec_lines.specs.DefinitionLines.{Definition, declares, options, defines, definition_at, definition_in, percent_line, IsUpTo, all_conditions, names_of, has_name, substitutes_of, all_options, are_distinct}
+use Rattle.lexspec_lines.specs.DefinitionViews.{are_known}
 use Rattle.lexspec_lines.specs.Folding.{with_fold}
-use Rattle.lexspec_lines.specs.Lines.{words_in, without_returns, line_in, newlines}
+use Rattle.lexspec_lines.specs.Lines.{without_returns, line_in, newlines}
 use Rattle.lexspec_lines.proofs.OneSection.{no_true, one_up_to, separator_ends}
 use Rattle.lexspec.specs.Files.{AreSingle, SpellsSpec}
 use Rattle.lexspec.specs.Endings.{is_unlisted}
@@ -50,13 +51,13 @@ no_separator S h =
     no_true (sym (ap (begins (codes "%%")) same.1) ∙ h.separator)
 
 no_option : Example.IsNone (codes "%option none\n%%\n")
-unfolding definition_at percent_line words_in take_up_to is_blank
+unfolding definition_at percent_line take_up_to is_blank
 no_option S h =
     let same = one_section (codes "%option none\n%%\n") (codes "%%\n") (options (codes "none" ∷ []) ∷ []) (codes "%%\n", refl, refl) refl S h in
     no_true (sym (ap (λ ds. are_known (all_options ds)) same.0) ∙ h.options)
 
 declared_twice : Example.IsNone (codes "%s A\n%x A\n%%\n")
-unfolding definition_at percent_line words_in take_up_to is_alpha is_upper is_lower is_alnum is_blank is_digit
+unfolding definition_at percent_line take_up_to is_alpha is_upper is_lower is_alnum is_blank is_digit
 declared_twice S h =
     let same =
     one_section (codes "%s A\n%x A\n%%\n") (codes "%%\n") (declares false (codes "A" ∷ []) ∷ declares true (codes "A" ∷ []) ∷ []) (codes "%x A\n%%\n", refl, (codes "%%\n", refl, refl)) refl S h in

@@ -10,7 +10,7 @@ use Rattle.lexre.proofs.CuttingLaws.{one_cutting}
 use Rattle.lexspec.specs.Items.{Conditions, unlisted, every, only, conditions_at, Trailing, no_trail, line_end, pattern_after, Subject, at_end, matching, IsPattern, IsSubject}
 use Rattle.lexspec_lines.proofs.OneSection.{no_true, some_pair}
 use Rattle.lexspec.specs.SubjectViews.{parts, sides}
-use Rattle.lexspec.proofs.ActionPieces.{Other, decide}
+use Rattle.lexspec_lines.proofs.TextLaws.{Other, decide}
 use Rattle.lex_semantics.specs.Active.{lists}
 use Rattle.std.proofs.lemmas.List.{drop-drop}
 

@@ -1,13 +1,14 @@
 -- Which specification a file spells. (POSIX, lex, Input Files; flex, Format of the Input File. The bounds are this
 -- project's.)
 use Rattle.std.specs.Prelude.{◌≡◌, ℕ, suc, ◌+◌, ◌-◌, ◌≤◌, ◌<◌, Bool, true, List, [], ◌∷◌, map, find, length, count_by, Option, is_none, option_map, unwrap_or, codes}
+use Rattle.std.specs.List.{list_all}
 use Rattle.std.specs.Option.{option_or}
 use Rattle.std.specs.FinMap.{from_entries}
 use Rattle.lex_semantics.specs.Spec.{Spec, Condition, EndAction}
 use Rattle.lex_semantics.specs.Active.{lists}
-use Rattle.lex_semantics.specs.Reading.{begins}
+use Rattle.lex_semantics.specs.Reading.{IsCut, begins}
 use Rattle.lexspec_lines.specs.Lines.{without_returns, line_in, newlines}
-use Rattle.lexspec_lines.specs.DefinitionLines.{Definition, Declared, definition_at, IsUpTo, all_conditions, names_of, has_name, are_distinct, substitutes_of, all_options, are_known}
+use Rattle.lexspec_lines.specs.DefinitionLines.{Definition, Declared, definition_at, all_conditions, names_of, has_name, are_distinct, substitutes_of, all_options, known_options}
 use Rattle.lexspec.specs.Items.{Item, AreItems}
 use Rattle.lexspec.specs.RuleItems.{EndRule, AreRules}
 use Rattle.lex_semantics.specs.Limits.{max_conditions, max_file_bytes, max_rules}
@@ -40,13 +41,13 @@ pub record SpellsSpec (how : ReadOptions) (file : List ℕ) (S : Spec) : Type 0 
   pub short : length file ≤ max_file_bytes
   pub definitions : List Definition
   pub after : List ℕ
-  pub first_section : IsUpTo definition_at (without_returns file) definitions after
+  pub first_section : IsCut definition_at (λ t. t ≡ after) (without_returns file) definitions
   pub separator : begins (codes "%%") after ≡ true
   pub items : List (ℕ × Item)
   pub second_section : AreItems (2 + newlines file - newlines after) (line_in after).1 items
   pub names : are_distinct (names_of (all_conditions definitions)) ≡ true
   pub defined_once : are_distinct (map (λ (d : List ℕ × List ℕ). d.0) (substitutes_of definitions)) ≡ true
-  pub options : are_known (all_options definitions) ≡ true
+  pub options : list_all (has_name known_options) (all_options definitions) ≡ true
   pub ends : List EndRule
   pub rules : AreRules (names_of (all_conditions definitions)) (with_fold how (has_name (all_options definitions) (codes "case-insensitive"))) (has_name (all_options definitions) (codes "stack")) (from_entries (substitutes_of definitions)) items S.rules ends
   pub one_end : AreSingle (length (all_conditions definitions)) ends

@@ -8,7 +8,7 @@ use Rattle.lex_semantics.specs.ByteSets.{is_word, is_blank}
 use Rattle.lex_semantics.specs.Escapes.{byte_with, until_quote}
 use Rattle.lex_semantics.specs.Reading.{◌>>=◌, Reader, after_blanks, is_empty, begins, is_white}
 use Rattle.lexspec_lines.specs.Runs.{split_before}
-use Rattle.lexspec_lines.specs.Lines.{line_in, line_at, is_all_blank, newlines, after_block}
+use Rattle.lexspec_lines.specs.Lines.{line_in, line_at, is_all_blank, newlines, after_block, after_star}
 
 -- the condition list: none, `<*>`, or names
 pub data Conditions : Type 0 where
@@ -54,11 +54,6 @@ unfoldable pub after_string : List ℕ → Option (List ℕ)
 after_string t =
     until_quote (byte_with (λ u. slice_get u 0 >>= λ c. if lists (codes "\n") c then None else Some (c, drop 1 u))) (suc (length t)) t
     >>= λ (bytes, rest). Some rest
-
--- after `/*`: what follows the next `*/`
-abbrev pub after_star : List ℕ → Option (List ℕ)
-after_star [] = None
-after_star (c ∷ t) = if begins (codes "*/") (c ∷ t) then Some (drop 1 t) else after_star t
 
 -- what follows a piece of C: a string, a comment `/* .. */`, a comment `//` up to its newline, or any other byte
 unfoldable pub after_piece : List ℕ → Option (List ℕ)
