@@ -5,7 +5,8 @@ use Rattle.lexspec.specs.ActionViews.{IsStep}
 use Rattle.lexspec.specs.declared.action_text.Step.{Step}
 use Rattle.lexspec.specs.declared.action_text.Step.TheVariants.{Goes, Ends, Refused}
 use Rattle.lexspec_actions.specs.Comments.{slash, after_byte}
-use Rattle.lexspec.specs.Items.{Place, code, outside, action_in, with_byte, next_place, depth_after}
+use Rattle.lexspec.specs.Items.{action_at}
+use Rattle.lexspec.specs.ActionSteps.{Place, code, outside, action_in, with_byte, next_place, depth_after}
 
 -- one step at each place
 pub at_outside : (n c : ℕ) (t : List ℕ) → action_in outside n (c ∷ t) ≡ (if c == 10 && n == 0 then Some ([], t) else with_byte c (action_in (next_place c) (depth_after n c) t))
@@ -24,7 +25,7 @@ with_front front (Some found) = Some (front ++ found.0, found.1)
 
 -- the text of which i bytes are read, where p is the place and n braces are open
 abbrev pub Read : List ℕ → ℕ → Place → ℕ → Type 0
-Read t i p n = with_front (take i t) (action_in p n (drop i t)) ≡ action_in outside 0 t
+Read t i p n = with_front (take i t) (action_in p n (drop i t)) ≡ action_at t
 
 -- after a slash that opens no comment
 pub slash_like : (s : Step) (n c : ℕ) (t : List ℕ) → (c ≡ 42 → ⊥) → (c ≡ 47 → ⊥) → IsStep s outside n c t → IsStep s (code slash) n c t

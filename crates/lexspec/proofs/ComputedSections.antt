@@ -8,8 +8,8 @@ use Rattle.lexre_bytes.specs.Lexical.{escape_at, literal_byte_at, after_quotes}
 use Rattle.lexre.specs.Cutting.{Piece, IsCutting, IsPieces, dollar, other, slash, piece_at, slashes, ends_with_dollar}
 use Rattle.lexspec_lines.specs.DefinitionLines.{Definition, nothing, code_line, code_block, declares, options, ignored, defines, definition_at, definition_in, percent_line, IsUpTo}
 use Rattle.lexspec_lines.specs.SkippedCode.{IsDefinition, AreNumbered, AreFrom}
-use Rattle.lexspec_lines.specs.Lines.{words_in, after_block, without_returns}
-use Rattle.lexspec.specs.Items.{unlisted, every, only, no_trail, line_end, pattern_after, at_end, matching, bar, spelled, Item, IsPattern, skipped, skipped_line, skipped_block, rule, conditions_at, IsItem, AreItems}
+use Rattle.lexspec_lines.specs.Lines.{after_block, without_returns}
+use Rattle.lexspec.specs.Items.{unlisted, every, only, no_trail, line_end, pattern_after, at_end, matching, bar, spelled, Item, IsPattern, skipped, skipped_line, skipped_block, rule, conditions_at, after_string, after_piece, action_end, action_at, IsItem, AreItems}
 use Rattle.lexspec.specs.SpecExamples.{rules_section, user_code, whole_file, WholeSkips, short_file}
 
 -- the cutting of a pattern without a slash outside parentheses, by its pieces
@@ -53,7 +53,7 @@ numbered_definitions =
     ∷ (9, declares true (codes "B" ∷ codes "C" ∷ [])) ∷ (10, options (codes "stack" ∷ [])) ∷ (11, ignored) ∷ []
 
 pub whole_first : IsUpTo definition_at (without_returns whole_file) whole_definitions from_separator
-unfolding definition_at definition_in percent_line words_in after_block take_up_to is_alpha is_upper is_lower is_alnum is_blank is_digit
+unfolding definition_at definition_in percent_line after_block take_up_to is_alpha is_upper is_lower is_alnum is_blank is_digit
 whole_first =
     (from_comment, refl, (from_code, refl, (from_name, refl, (from_inclusive, refl, (from_exclusive, refl, (from_option, refl, (from_sizes, refl, (from_separator, refl, refl))))))))
 
@@ -122,7 +122,7 @@ abbrev pub whole_items : List (ℕ × Item)
 whole_items = (13, skipped_line) ∷ (14, skipped_block) ∷ (17, number_item) ∷ (18, skipped) ∷ (19, letters_item) ∷ later_items
 
 number_here : IsItem from_number number_item from_empty
-unfolding conditions_at piece_at slashes ends_with_dollar take_up_to is_blank
+unfolding conditions_at piece_at slashes ends_with_dollar take_up_to is_blank action_at action_end after_piece after_string until_quote
 number_here =
     let after = codes " ECHO;\n" ++ from_empty in (
       refl,
@@ -135,8 +135,6 @@ number_here =
         refl,
         (
           5,
-          None,
-          true,
           without_slash (codes "{D}+$" ++ after) ((other, 0) ∷ (other, 1) ∷ (other, 2) ∷ (other, 3) ∷ (dollar, 4) ∷ []) 5 true (codes "D}+$" ++ after, refl, refl, (codes "}+$" ++ after, refl, refl, (codes "+$" ++ after, refl, refl, (codes "$" ++ after, refl, refl, (after, refl, refl, (refl, refl)))))) refl refl,
           refl,
           refl,
@@ -147,7 +145,7 @@ number_here =
     )
 
 letters_here : IsItem from_letters letters_item from_opening
-unfolding conditions_at piece_at slashes ends_with_dollar take_up_to is_blank
+unfolding conditions_at piece_at slashes ends_with_dollar take_up_to is_blank action_at action_end after_piece after_string until_quote
 letters_here =
     let after = codes " |\n" ++ from_opening in (
       refl,
@@ -160,8 +158,7 @@ letters_here =
         refl,
         (
           5,
-          Some 2,
-          false,
+          2,
           record {
             pieces = (other, 0) ∷ (other, 1) ∷ (slash, 2) ∷ (other, 3) ∷ (other, 4) ∷ [];
             cut = (codes "b/c*" ++ after, refl, refl, (codes "/c*" ++ after, refl, refl, (codes "c*" ++ after, refl, refl, (codes "*" ++ after, refl, refl, (after, refl, refl, (refl, refl))))));
@@ -173,6 +170,7 @@ letters_here =
           },
           refl,
           refl,
+          refl,
         ),
       ),
       refl,
@@ -180,7 +178,7 @@ letters_here =
     )
 
 opening_here : IsItem from_opening opening_item from_closing
-unfolding conditions_at piece_at slashes ends_with_dollar take_up_to is_blank after_quotes until_quote literal_byte_at
+unfolding conditions_at piece_at slashes ends_with_dollar take_up_to is_blank after_quotes until_quote literal_byte_at action_at action_end after_piece after_string
 opening_here =
     let after = codes " { yy_push_state(B); /* } */\n  yymore(); }\n" ++ from_closing in (
       refl,
@@ -193,8 +191,6 @@ opening_here =
         refl,
         (
           4,
-          None,
-          false,
           without_slash (from_opening) ((other, 0) ∷ []) 4 false (after, refl, refl, (refl, refl)) refl refl,
           refl,
           refl,
@@ -205,7 +201,7 @@ opening_here =
     )
 
 closing_here : IsItem from_closing closing_item from_other
-unfolding conditions_at piece_at slashes ends_with_dollar take_up_to is_blank after_quotes until_quote literal_byte_at
+unfolding conditions_at piece_at slashes ends_with_dollar take_up_to is_blank after_quotes until_quote literal_byte_at action_at action_end after_piece after_string
 closing_here =
     let after = codes " yy_pop_state();\n" ++ from_other in (
       refl,
@@ -218,8 +214,6 @@ closing_here =
         refl,
         (
           4,
-          None,
-          false,
           without_slash (codes "\"*/\"" ++ after) ((other, 0) ∷ []) 4 false (after, refl, refl, (refl, refl)) refl refl,
           refl,
           refl,
@@ -230,7 +224,7 @@ closing_here =
     )
 
 other_here : IsItem from_other other_item from_end_in_b
-unfolding conditions_at piece_at slashes ends_with_dollar take_up_to is_blank escape_at simple_escape
+unfolding conditions_at piece_at slashes ends_with_dollar take_up_to is_blank escape_at simple_escape action_at action_end after_piece after_string until_quote
 other_here =
     let after = codes " ;\n" ++ from_end_in_b in (
       refl,
@@ -243,8 +237,6 @@ other_here =
         refl,
         (
           4,
-          None,
-          false,
           without_slash (codes ".|\\n" ++ after) ((other, 0) ∷ (other, 1) ∷ (other, 2) ∷ []) 4 false (codes "|\\n" ++ after, refl, refl, (codes "\\n" ++ after, refl, refl, (after, refl, refl, (refl, refl)))) refl refl,
           refl,
           refl,
@@ -255,13 +247,13 @@ other_here =
     )
 
 end_in_b_here : IsItem from_end_in_b end_in_b_item from_end
-unfolding conditions_at take_up_to is_blank
+unfolding conditions_at take_up_to is_blank action_at action_end after_piece after_string until_quote
 end_in_b_here =
     let after = codes " { printf(\"open\"); exit(2); }\n" ++ from_end in
     (refl, codes "<<EOF>>" ++ after, after, codes "{ printf(\"open\"); exit(2); }", refl, (refl, refl, refl), refl, refl)
 
 end_here : IsItem from_end end_item from_user
-unfolding conditions_at take_up_to is_blank
+unfolding conditions_at take_up_to is_blank action_at action_end after_piece after_string until_quote
 end_here =
     let after = codes " { printf(\"end\"); yyterminate(); }\n" ++ from_user in
     (refl, from_end, after, codes "{ printf(\"end\"); yyterminate(); }", refl, (refl, refl, refl), refl, refl)
@@ -291,7 +283,7 @@ whole_second = (
 
 -- the lines of the definitions, each with its number
 whole_lines : AreFrom IsDefinition 1 (without_returns whole_file) numbered_definitions from_separator
-unfolding definition_at definition_in percent_line words_in after_block take_up_to is_alpha is_upper is_lower is_alnum is_blank is_digit
+unfolding definition_at definition_in percent_line after_block take_up_to is_alpha is_upper is_lower is_alnum is_blank is_digit
 whole_lines =
     let last : AreNumbered IsDefinition 28 from_exclusive ((9, declares true (codes "B" ∷ codes "C" ∷ [])) ∷ (10, options (codes "stack" ∷ [])) ∷ (11, ignored) ∷ []) from_separator =
     (from_option, refl, refl, (from_sizes, refl, refl, (from_separator, refl, refl, refl))) in
@@ -326,8 +318,6 @@ pub a_here : (rest : List ℕ) → IsPattern (97 ∷ 32 ∷ rest) (codes "a") no
 unfolding piece_at slashes ends_with_dollar is_blank
 a_here rest = (
   1,
-  None,
-  false,
   without_slash (97 ∷ 32 ∷ rest) ((other, 0) ∷ []) 1 false (32 ∷ rest, refl, refl, (refl, one)) refl refl,
   refl,
   refl,
@@ -342,11 +332,11 @@ abbrev pub short_items : List (ℕ × Item)
 short_items = (3, rule unlisted (matching false (codes "a") no_trail) (spelled (codes "ECHO;"))) ∷ []
 
 pub short_first : IsUpTo definition_at (without_returns short_file) (options (codes "case-insensitive" ∷ []) ∷ []) (codes "%%\na ECHO;")
-unfolding definition_at percent_line words_in take_up_to is_blank
+unfolding definition_at percent_line take_up_to is_blank
 short_first = (codes "%%\na ECHO;", refl, refl)
 
 pub short_second : AreItems 3 (codes "a ECHO;") short_items
-unfolding conditions_at take_up_to is_blank
+unfolding conditions_at take_up_to is_blank action_at action_end after_piece after_string until_quote
 short_second = (
   [],
   refl,

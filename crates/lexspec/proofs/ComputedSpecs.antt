@@ -33,7 +33,8 @@ use Rattle.lexspec_actions.specs.Names.{known_in}
 use Rattle.lexspec_lines.specs.DefinitionLines.{options}
 use Rattle.lexspec.specs.Files.{AreSingle, lists_number}
 use Rattle.lexspec.specs.Items.{unlisted, every, only, no_trail, line_end, pattern_after, bar, spelled, Item, skipped}
-use Rattle.lexspec.specs.RuleItems.{EndRule, newline, IsRule, AreRules}
+use Rattle.lexspec.specs.RuleReads.{IsRule}
+use Rattle.lexspec.specs.RuleItems.{EndRule, AreRules}
 use Rattle.lexspec.specs.SpecExamples.{whole_file, ended, open_at_end, number, letters, opening, closing, any_other, whole_spec, WholeFile, short_file, both_cases, ShortFile}
 use Rattle.lexspec.specs.Tests.{any_below, sound_tree, sound_trail, cut_fits}
 use Rattle.lexspec.proofs.ComputedSections.{whole_definitions, from_separator, other_item, letters_item, end_items, last_items, later_items, whole_items, whole_first, whole_second, short_items, short_first, short_second}
@@ -84,47 +85,47 @@ cut_as_tested r head trail fits = cut_is_fit r.cut r.head r.trail (tree_is_sound
 
 number_ruled : (is : List (ℕ × Item)) (rules : List Rule) → IsRule names plain true named 17 unlisted true (codes "{D}+") line_end (spelled (codes "ECHO;")) is rules number
 unfolding newline has set_below set_of single range_set any_below take_up_to is_alpha is_upper is_lower is_alnum is_blank is_digit after_word A.piece_at A.statement_at A.parts_of A.in_parentheses A.number_at A.second_word A.format_at A.after_statement A.condition_at B.name_at B.digits_at B.after_space B.skip B.next B.escape_at B.literal_at
-number_ruled is rules = record {
-  front = record {
+number_ruled is rules = (
+  record {
     line_is = refl;
     listed = refl;
     anchor = refl;
     head_is = number_spelled;
     trail_is = refl;
     cut_is = cut_as_tested number refl refl refl;
-  };
-  next = refl;
-  statements_are = ((([], Echo ∷ []) ∷ [], ([], refl, refl), one_balanced (does Echo), refl), refl);
-}
+  },
+  refl,
+  ((([], Echo ∷ []) ∷ [], ([], refl, refl), one_balanced (does Echo), refl), refl),
+)
 
 letters_ruled : IsRule names plain true named 19 (only (codes "A" ∷ codes "C" ∷ [])) false (codes "ab") (pattern_after (codes "c*")) bar later_items (opening ∷ closing ∷ any_other ∷ []) letters
 unfolding symbol_at is_ordinary has set_below set_of single any_below
-letters_ruled = record {
-  front = record {
+letters_ruled = (
+  record {
     line_is = refl;
     listed = refl;
     anchor = refl;
     head_is = is_tree plain 20 (codes "ab") letters.head refl refl named;
     trail_is = is_tree plain 20 (codes "c*") (Star (letter 99)) refl refl named;
     cut_is = cut_as_tested letters refl refl refl;
-  };
-  next = refl;
-  statements_are = refl;
-}
+  },
+  refl,
+  refl,
+)
 
 opening_ruled : (is : List (ℕ × Item)) (rules : List Rule) → IsRule names plain true named 20 unlisted false (codes "\"/*\"") no_trail (spelled (codes "{ yy_push_state(B); /* } */\n  yymore(); }")) is rules opening
 unfolding symbol_at until_quote literal_byte_at quoted_tree take_up_to is_alpha is_upper is_lower is_alnum is_blank is_digit after_word A.piece_at A.statement_at A.parts_of A.in_parentheses A.number_at A.second_word A.format_at A.after_statement A.condition_at B.name_at B.digits_at B.after_space B.skip B.next B.escape_at B.literal_at
-opening_ruled is rules = record {
-  front = record {
+opening_ruled is rules = (
+  record {
     line_is = refl;
     listed = refl;
     anchor = refl;
     head_is = is_tree plain 20 (codes "\"/*\"") opening.head refl refl named;
     trail_is = refl;
     cut_is = refl;
-  };
-  next = refl;
-  statements_are = (
+  },
+  refl,
+  (
     (
       (codes "{", []) ∷ ([], Push 2 ∷ []) ∷ ([], More ∷ []) ∷ (codes "}", []) ∷ [],
       (codes " yy_push_state(B); /* } */\n  yymore(); }", refl, (codes " /* } */\n  yymore(); }", refl, (codes " }", refl, ([], refl, refl)))),
@@ -132,38 +133,38 @@ opening_ruled is rules = record {
       refl,
     ),
     refl,
-  );
-}
+  ),
+)
 
 closing_ruled : (is : List (ℕ × Item)) (rules : List Rule) → IsRule names plain true named 22 (only (codes "B" ∷ [])) false (codes "\"*/\"") no_trail (spelled (codes "yy_pop_state();")) is rules closing
 unfolding symbol_at until_quote literal_byte_at quoted_tree take_up_to is_alpha is_upper is_lower is_alnum is_blank is_digit after_word A.piece_at A.statement_at A.parts_of A.in_parentheses A.number_at A.second_word A.format_at A.after_statement A.condition_at B.name_at B.digits_at B.after_space B.skip B.next B.escape_at B.literal_at
-closing_ruled is rules = record {
-  front = record {
+closing_ruled is rules = (
+  record {
     line_is = refl;
     listed = refl;
     anchor = refl;
     head_is = is_tree plain 20 (codes "\"*/\"") closing.head refl refl named;
     trail_is = refl;
     cut_is = refl;
-  };
-  next = refl;
-  statements_are = ((([], Pop ∷ []) ∷ [], ([], refl, refl), one_balanced (does Pop), refl), refl);
-}
+  },
+  refl,
+  ((([], Pop ∷ []) ∷ [], ([], refl, refl), one_balanced (does Pop), refl), refl),
+)
 
 other_ruled : (is : List (ℕ × Item)) (rules : List Rule) → IsRule names plain true named 23 every false (codes ".|\\n") no_trail (spelled (codes ";")) is rules any_other
 unfolding symbol_at escape_at simple_escape take_up_to is_blank after_word A.piece_at A.statement_at A.parts_of A.in_parentheses A.number_at A.second_word A.format_at A.after_statement A.condition_at B.name_at B.digits_at B.after_space B.skip B.next B.escape_at B.literal_at
-other_ruled is rules = record {
-  front = record {
+other_ruled is rules = (
+  record {
     line_is = refl;
     listed = refl;
     anchor = refl;
     head_is = is_tree plain 20 (codes ".|\\n") any_other.head refl refl named;
     trail_is = refl;
     cut_is = refl;
-  };
-  next = refl;
-  statements_are = (((codes ";", []) ∷ [], ([], refl, refl), balanced (Steps.semicolon ∷ []) refl, refl), refl);
-}
+  },
+  refl,
+  (((codes ";", []) ∷ [], ([], refl, refl), balanced (Steps.semicolon ∷ []) refl, refl), refl),
+)
 
 open_spelled : SpellsEndAction (known_in names true) (codes "{ printf(\"open\"); exit(2); }") open_at_end
 unfolding take_up_to is_alpha is_upper is_lower is_alnum is_blank is_digit simple_escape until_quote after_word A.piece_at A.statement_at A.parts_of A.in_parentheses A.number_at A.second_word A.format_at A.after_statement A.condition_at B.name_at B.digits_at B.after_space B.skip B.next B.escape_at B.literal_at
@@ -271,8 +272,8 @@ short_ruled = (
   both_cases,
   [],
   refl,
-  record {
-    front = record {
+  (
+    record {
       line_is = refl;
       listed = refl;
       anchor = refl;

@@ -8,7 +8,7 @@ use Rattle.lex_semantics.specs.Spec.{Cut, Whole, Head, Trail}
 use Rattle.lexre.specs.Lengths.{least, greatest}
 use Rattle.lexre.proofs.LengthLaws.{has_lengths}
 use Rattle.lex_semantics.specs.Sound.{HasFixed, IsCutOf}
-use Rattle.lexspec.specs.RuleItems.{is_number}
+use Rattle.lexspec.specs.Tests.{is_number}
 use Rattle.lexspec.specs.Tests.{has_length, has_fixed, is_fixed, is_whole, cut_fits}
 use Rattle.lex_semantics.specs.Limits.{max_fixed_length}
 

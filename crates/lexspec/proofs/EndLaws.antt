@@ -1,13 +1,18 @@
 -- What follows an item of the rules section is the end of its text.
-use Rattle.std.proofs.Common.{◌≡◌, ℕ, zero, suc, ◌+◌, ◌==◌, ◌&&◌, ◌||◌, Bool, true, false, not, if◌then◌else◌, List, [], ◌∷◌, length, drop, Option, Some, None, refl, ap, subst, sym}
+use Rattle.std.proofs.Common.{◌≡◌, ℕ, zero, suc, ◌+◌, ◌==◌, ◌&&◌, ◌||◌, Bool, true, false, not, if◌then◌else◌, List, [], ◌∷◌, length, drop, Option, Some, None, refl, ap, subst, sym, ◌∙◌}
 use Rattle.std.specs.Prelude.{codes}
-use Rattle.lex_semantics.specs.ByteSets.{is_word, is_blank}
-use Rattle.lex_semantics.specs.Reading.{after_blanks, begins, take_up_to}
+use Rattle.lex_semantics.specs.ByteSets.{is_blank}
+use Rattle.lex_semantics.specs.Reading.{after_blanks, after_run, take_run, begins, take_up_to}
 use Rattle.lexspec_actions.specs.Comments as C
 use Rattle.lexspec_actions.specs.Comments.{slash, block, star, line, after_byte}
-use Rattle.lexspec_lines.specs.Lines.{line_in, blanks}
-use Rattle.lexspec.specs.Items.{Place, code, outside, string, escaped, action_in, with_byte, next_place, depth_after, Conditions, unlisted, every, only, parts_at, before_sign, conditions_at, Subject, at_end, matching, IsSubject, Item, skipped, skipped_line, skipped_block, rule, IsItem}
-use Rattle.lexspec_lines.proofs.SectionLaws.{EndsWith, ends_on, after_line, after_block_ends, dropped, Each, each_some, each_none, each_if, each_bind}
+use Rattle.lexspec_lines.specs.Lines.{line_in}
+use Rattle.lexspec.specs.ActionSteps.{Place, code, outside, string, escaped, action_in, with_byte, next_place, depth_after}
+use Rattle.lexspec.proofs.ActionPieces.{action_is}
+use Rattle.lexspec.proofs.SubjectLaws.{to_cut}
+use Rattle.lex_semantics.specs.Active.{lists}
+use Rattle.lexspec_lines.specs.Runs.{split_before}
+use Rattle.lexspec.specs.Items.{Conditions, unlisted, every, only, conditions_at, Subject, at_end, matching, IsSubject, Item, skipped, skipped_line, skipped_block, rule, IsItem}
+use Rattle.lexspec_lines.proofs.SectionLaws.{EndsWith, ends_on, after_line, after_block_ends, dropped, Each, each_some, each_none, each_if}
 use Rattle.lexspec.proofs.OneItems.{line_text}
 
 abbrev Split : Type 0
@@ -16,14 +21,17 @@ Split = List ℕ × List ℕ
 longer : (c : ℕ) (t rest : List ℕ) → EndsWith t rest → EndsWith (c ∷ t) rest
 longer c t rest h = (c ∷ h.0, ap (λ z. c ∷ z) h.1)
 
-pub blanks_end : (t : List ℕ) → EndsWith t (after_blanks t)
+run_ends : (test : ℕ → Bool) (t : List ℕ) → EndsWith t (after_run test t)
 unfolding take_up_to
-blanks_end [] = ([], refl)
-blanks_end (c ∷ t) = from (is_blank c) (blanks_end t)
+run_ends test [] = ([], refl)
+run_ends test (c ∷ t) = from (test c) (run_ends test t)
   where
-    from : (b : Bool) → EndsWith t (after_blanks t) → EndsWith (c ∷ t) (if b then (let s : Split = (c ∷ (blanks t).0, (blanks t).1) in s) else ([], c ∷ t)).1
-    from true h = longer c t (after_blanks t) h
+    from : (b : Bool) → EndsWith t (after_run test t) → EndsWith (c ∷ t) (if b then (let s : Split = (c ∷ (take_run test t).0, (take_run test t).1) in s) else ([], c ∷ t)).1
+    from true h = longer c t (after_run test t) h
     from false h = ([], refl)
+
+pub blanks_end : (t : List ℕ) → EndsWith t (after_blanks t)
+blanks_end t = run_ends is_blank t
 
 abbrev pub Ends : List ℕ → Option Split → Type 0
 Ends t o = Each o (λ (x : Split). EndsWith t x.1)
@@ -82,18 +90,19 @@ pub conditions_end : (t : List ℕ) → Each (conditions_at t) (λ (x : Conditio
 unfolding conditions_at
 conditions_end t =
     let P : Conditions × List ℕ → Type 0 = λ x. EndsWith t x.1 in
+    let rest = (split_before (lists (codes ">\n")) (drop 1 t)).1 in
     each_if P (begins (codes "<<EOF>>") t || not (begins (codes "<") t)) _ _ (each_some P (unlisted, t) ([], refl))
-    (each_bind (λ (x : Split). Unit {0}) P (before_sign 62 (line_in (drop 1 t)).0) _ (λ x e. tt) (λ x h.
-    each_if P (is_word x.0 (codes "*")) _ _ (each_some P (every, drop (length x.0 + 2) t) (dropped (length x.0 + 2) t))
-    (each_some P (only ((parts_at 44 x.0).0 ∷ (parts_at 44 x.0).1), drop (length x.0 + 2) t) (dropped (length x.0 + 2) t))))
+    (each_if P (not (begins (codes ">") rest)) _ _ (each_none P)
+    (each_some P (_, drop 1 rest) (ends_on t (drop 1 t) (drop 1 rest) (dropped 1 t) (ends_on (drop 1 t) rest (drop 1 rest) (run_ends _ (drop 1 t)) (dropped 1 rest)))))
 
 by_drop : (t rest : List ℕ) (n : ℕ) → rest ≡ drop n t → EndsWith t rest
 by_drop t rest n e = subst (EndsWith t) (sym e) (dropped n t)
 
 pub subject_ends : (t : List ℕ) (s : Subject) (rest : List ℕ) → IsSubject t s rest → EndsWith t rest
 subject_ends t at_end rest (on, e, b) = by_drop t rest 7 e
-subject_ends t (matching true head after) rest (on, off, (stop, at, special, cut, parts, e)) = ends_on t (drop 1 t) rest (dropped 1 t) (by_drop (drop 1 t) rest stop e)
-subject_ends t (matching false head after) rest (on, off, (stop, at, special, cut, parts, e)) = by_drop t rest stop e
+subject_ends t (matching true head after) rest (on, off, p) =
+    let (stop, at, special, cut, parts, e) = to_cut (drop 1 t) head after rest p in ends_on t (drop 1 t) rest (dropped 1 t) (by_drop (drop 1 t) rest stop e)
+subject_ends t (matching false head after) rest (on, off, p) = let (stop, at, special, cut, parts, e) = to_cut t head after rest p in by_drop t rest stop e
 
 -- an item is the front of the text
 pub item_ends : (t : List ℕ) (i : Item) (rest : List ℕ) → IsItem t i rest → EndsWith t rest
@@ -102,4 +111,4 @@ item_ends t skipped_line rest (text, here, some, blank) = subst (EndsWith t) (li
 item_ends t skipped_block rest (opens, after) = ends_on t (line_in t).1 rest (after_line t) (after_block_ends (suc (length t)) (line_in t).1 rest after)
 item_ends t (rule asked subject action) rest (starts, u, v, text, list, cut, ends, is) =
     ends_on t u rest (conditions_end t (asked, u) list)
-    (ends_on u v rest (subject_ends u subject v cut) (ends_on v (after_blanks v) rest (blanks_end v) (action_ends (after_blanks v) outside 0 (text, rest) ends)))
+    (ends_on u v rest (subject_ends u subject v cut) (ends_on v (after_blanks v) rest (blanks_end v) (action_ends (after_blanks v) outside 0 (text, rest) (sym (action_is (after_blanks v)) ∙ ends))))

@@ -1,18 +1,21 @@
 -- `<<EOF>>` rules of which no two name a condition in common.
 use Rattle.std.proofs.Common.{◌≡◌, ℕ, zero, suc, ◌+◌, ◌≤◌, ◌<◌, ◌==◌, ◌||◌, ◌&&◌, Bool, true, false, cond, List, [], ◌∷◌, ◌++◌, map, length, get_or, drop, count_by, Option, Some, None, ◌⊎◌, inl, inr, refl, sym, ap, ◌∙◌, arith}
-use Rattle.std.specs.Prelude.{nat_le, nat_lt, if◌then◌else◌}
-use Rattle.std.specs.List.{list_any}
+use Rattle.std.specs.Prelude.{find, option_map, unwrap_or, filter_map, is_some, nat_le, nat_lt, if◌then◌else◌}
+use Rattle.std.specs.List.{list_any, list_all}
+use Rattle.lex_semantics.specs.Active.{lists}
 use Rattle.std.proofs.lemmas.Bool.{and_parts, and_from, or_parts, eqb-true, eq-eqb, leb-true, ltb-true, le-leb, lt-ltb}
 use Rattle.std.proofs.lemmas.List.{drop_more, drop_all}
 use Rattle.std.proofs.lemmas.List.Sums.{sum_by-cons, sum_by-append}
-use Rattle.lexspec.specs.Files.{lists_number, is_unlisted, AreSingle}
+use Rattle.lexspec.specs.Files.{lists_number, AreSingle, end_in}
+use Rattle.lex_semantics.specs.Spec.{EndAction}
+use Rattle.std.specs.Option.{option_or}
 use Rattle.lexspec.specs.Items.{Conditions, unlisted, every, only}
-use Rattle.lexspec.specs.RuleItems.{EndRule, all_numbered, is_number, numbers_of}
+use Rattle.lexspec.specs.RuleItems.{EndRule, numbers_of}
 use Rattle.lex_semantics.specs.Text.{listed}
 use Rattle.lexspec.specs.EndRules.{end_rule_of}
 use Rattle.lexspec.specs.declared.endings.EndRule.{EndRule as EndRuleKept}
 use Rattle.lexspec.specs.Tests.{ascend_from, sound_list}
-use Rattle.lexspec.specs.Endings.{numbers_kept, clashes, any_clashes}
+use Rattle.lexspec.specs.Endings.{numbers_kept, clashes, any_clashes, is_unlisted, unlisted_end, listed_end}
 use Rattle.lexspec_lines.proofs.OneSection.{no_true}
 
 -- counts
@@ -213,11 +216,33 @@ from_zero n test = let same : 0 + n ≡ n = omega arith in ap (λ z. ascend_from
 pub numbers_ordered : (number : List ℕ → Option ℕ) (n : ℕ) (asked : Conditions) (numbers : Option (List ℕ)) → numbers_of number n asked ≡ Some numbers → sound_list n numbers ≡ true
 numbers_ordered number n unlisted numbers h = ap (sound_list n) (sym (inner h))
 numbers_ordered number n every numbers h = ap (sound_list n) (sym (inner h)) ∙ from_zero n (λ c. true)
-numbers_ordered number n (only names) numbers h = from (all_numbered number names) h
+numbers_ordered number n (only names) numbers h = from (list_all (λ name. is_some (number name)) names) h
   where
-    from : (b : Bool) → (if b then Some (Some (listed (λ c. list_any (λ name. is_number (number name) c) names) 0 n)) else None) ≡ Some numbers → sound_list n numbers ≡ true
-    from true e = ap (sound_list n) (sym (inner e)) ∙ from_zero n (λ c. list_any (λ name. is_number (number name) c) names)
+    from : (b : Bool) → (if b then Some (Some (listed (lists (filter_map number names)) 0 n)) else None) ≡ Some numbers → sound_list n numbers ≡ true
+    from true e = ap (sound_list n) (sym (inner e)) ∙ from_zero n (lists (filter_map number names))
     from false e = absurd (no e)
       where
         no : ◌≡◌ {A = Option (Option (List ℕ))} None (Some numbers) → ⊥
         no p = cc
+
+-- the end of a condition
+
+abbrev action_or : Option EndRule → EndAction
+action_or found = unwrap_or (option_map (λ (e : EndRule). e.1) found) (record { print = []; status = 0 })
+
+first_unlisted : (ends : List EndRule) → unlisted_end ends ≡ action_or (find is_unlisted ends)
+first_unlisted [] = refl
+first_unlisted ((None, e) ∷ ends) = refl
+first_unlisted ((Some cs, e) ∷ ends) = first_unlisted ends
+
+listed_of : (all ends : List EndRule) (c : ℕ) → listed_end all ends c ≡ action_or (option_or (find (λ (e : EndRule). lists_number e.0 c) ends) (find is_unlisted all))
+listed_of all [] c = first_unlisted all
+listed_of all (e ∷ ends) c = from (lists_number e.0 c) (listed_of all ends c)
+  where
+    from : (b : Bool) → listed_end all ends c ≡ action_or (option_or (find (λ (e : EndRule). lists_number e.0 c) ends) (find is_unlisted all))
+        → (if b then e.1 else listed_end all ends c) ≡ action_or (option_or (cond b (Some e) (find (λ (e : EndRule). lists_number e.0 c) ends)) (find is_unlisted all))
+    from true later = refl
+    from false later = later
+
+pub first_listed : (ends : List EndRule) (c : ℕ) → listed_end ends ends c ≡ end_in ends c
+first_listed ends c = listed_of ends ends c

@@ -12,7 +12,7 @@ use Rattle.lexre.specs.Spelling.{Spells}
 use Rattle.lexspec_actions.specs.Names.{number_from, names_of}
 use Rattle.lexspec_actions.specs.declared.condition.Condition.{Condition}
 use Rattle.lex_semantics.specs.Reading.{after_blanks}
-use Rattle.lexspec.specs.Items.{Conditions, Trailing, Subject, at_end, matching, starts_rule, conditions_at, IsSubject, action_in, outside}
+use Rattle.lexspec.specs.Items.{Conditions, Trailing, Subject, at_end, matching, starts_rule, conditions_at, IsSubject, action_at}
 use Rattle.lex_semantics.specs.Sound.{IsCutOf}
 use Rattle.lexspec.specs.RuleItems.{numbers_of, IsTrail}
 use Rattle.lexspec.specs.ItemReads.{names_in, NoRules, NoSides, ReadsFront, ReadsItem}
@@ -51,17 +51,17 @@ module _ (d : Declarations) (t : List ℕ) (starts : starts_rule t ≡ true) whe
   refused_sides kind u v asked s anchored head after list cut is h =
       unless_memory kind (NoSides d head after) (NoRules d t) (no_head (names_in d) d.options d.stack d.definitions t u v asked anchored head after starts list (subst (λ z. IsSubject u z v) is cut)) h
 
-  pub refused_action : (u v : List ℕ) (asked : Conditions) (subject : Subject) → conditions_at t ≡ Some (asked, u) → IsSubject u subject v → action_in outside 0 (after_blanks v) ≡ None → NoRules d t
+  pub refused_action : (u v : List ℕ) (asked : Conditions) (subject : Subject) → conditions_at t ≡ Some (asked, u) → IsSubject u subject v → action_at (after_blanks v) ≡ None → NoRules d t
   refused_action u v asked subject list cut none = no_action (names_in d) d.options d.stack d.definitions t u v asked subject starts list cut none
 
   pub refused_left_open : (r : Result RuleText SpecErrorKind) (u v : List ℕ) (asked : Conditions) (s s' : Subject) → conditions_at t ≡ Some (asked, u) → IsSubject u s v → s ≡ s'
-      → OnErr r (action_in outside 0 (after_blanks v) ≡ None) → IfErr r (λ e. UnlessMemory e (NoRules d t))
+      → OnErr r (action_at (after_blanks v) ≡ None) → IfErr r (λ e. UnlessMemory e (NoRules d t))
   refused_left_open (Ok x) u v asked s s' list cut e none = tt
   refused_left_open (Err kind) u v asked s s' list cut e none = always kind (NoRules d t) (refused_action u v asked s list cut none)
 
   pub reads_end : (r : Result RuleText SpecErrorKind) (n : ℕ) (u v : List ℕ) (asked : Conditions) (s : Subject) (cs : List Condition) (numbers : Option (Vec ℕ Global)) → cs ≡ d.conditions.items
       → conditions_at t ≡ Some (asked, u) → IsSubject u s v → s ≡ at_end → numbers_of (number_from 0 (names_of cs)) (length cs) asked ≡ Some (option_map (λ w. w.items) numbers)
-      → IfOk r (λ x. x.front ≡ F.AtEnd numbers) → IfOk r (λ x. action_in outside 0 (after_blanks v) ≡ Some (x.action.now, x.rest.now)) → IfOk r (λ x. ReadsItem d n t x)
+      → IfOk r (λ x. x.front ≡ F.AtEnd numbers) → IfOk r (λ x. action_at (after_blanks v) ≡ Some (x.action.now, x.rest.now)) → IfOk r (λ x. ReadsItem d n t x)
   reads_end (Err e) n u v asked s cs numbers same list cut is numbered front ends = tt
   reads_end (Ok x) n u v asked s cs numbers same list cut is numbered front ends =
       subst (λ z. ReadsFront d n t x.action.now x.rest.now z) (sym front) (record {
@@ -74,7 +74,7 @@ module _ (d : Declarations) (t : List ℕ) (starts : starts_rule t ≡ true) whe
       → cs ≡ d.conditions.items → conditions_at t ≡ Some (asked, u) → IsSubject u s v → s ≡ matching anchored head after
       → numbers_of (number_from 0 (names_of cs)) (length cs) asked ≡ Some (option_map (λ w. w.items) q.conditions) → q.line ≡ n → q.anchored ≡ anchored
       → Spells d.options d.definitions head (tree_of q.head) → IsTrail d.options d.definitions after (option_map tree_of q.trail) → IsCutOf (tree_of q.head) (option_map tree_of q.trail) (cut_of q.cut)
-      → IfOk r (λ x. x.front ≡ F.Matching q) → IfOk r (λ x. action_in outside 0 (after_blanks v) ≡ Some (x.action.now, x.rest.now)) → IfOk r (λ x. ReadsItem d n t x)
+      → IfOk r (λ x. x.front ≡ F.Matching q) → IfOk r (λ x. action_at (after_blanks v) ≡ Some (x.action.now, x.rest.now)) → IfOk r (λ x. ReadsItem d n t x)
   reads_rule (Err e) n u v asked s anchored head after cs q same list cut is numbered line anchor spells trail cuts front ends = tt
   reads_rule (Ok x) n u v asked s anchored head after cs q same list cut is numbered line anchor spells trail cuts front ends =
       subst (λ z. ReadsFront d n t x.action.now x.rest.now z) (sym front) (record {

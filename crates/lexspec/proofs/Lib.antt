@@ -2,6 +2,7 @@ pub mod TestLaws
 pub mod OneItems
 pub mod OneSpec
 pub mod ActionLaws
+pub mod ActionPieces
 pub mod SubjectLaws
 pub mod ListedLaws
 pub mod CutLaws

@@ -1,14 +1,15 @@
 -- The conditions of a rule, by number.
-use Rattle.std.proofs.Common.{◌≡◌, ℕ, zero, suc, ◌+◌, ◌-◌, ◌<◌, ◌==◌, ◌||◌, ◌&&◌, Bool, true, false, not, cond, if◌then◌else◌, List, [], ◌∷◌, length, get_or, drop, Option, Some, None, is_some, refl, sym, ap, ◌∙◌, arith}
-use Rattle.std.specs.Prelude.{replicate, slice_set, IfNone}
-use Rattle.std.proofs.lemmas.Bool.{eqb-true, eqb-false}
-use Rattle.std.specs.List.{list_any}
+use Rattle.std.proofs.Common.{◌≡◌, ℕ, zero, suc, ◌+◌, ◌-◌, ◌<◌, ◌==◌, ◌||◌, ◌&&◌, Bool, true, false, not, cond, if◌then◌else◌, List, [], ◌∷◌, length, get_or, drop, Option, Some, None, is_some, ◌⊎◌, inl, inr, refl, sym, ap, subst, ◌∙◌, arith}
+use Rattle.std.specs.Prelude.{codes, filter_map, replicate, slice_set, IfNone}
+use Rattle.std.proofs.lemmas.Bool.{eqb-true, eqb-false, eq-eqb}
+use Rattle.std.specs.List.{list_any, slice_split, onto_first, cons_option}
+use Rattle.lex_semantics.specs.Active.{lists}
+use Rattle.lexspec_lines.proofs.TextLaws.{Other, decide}
 use Rattle.lex_semantics.specs.Reading.{take_up_to}
 use Rattle.lexspec_lines.specs.Runs.{split_before}
-use Rattle.lexspec.specs.Items.{parts_at}
-use Rattle.lexspec.specs.RuleItems.{all_numbered, is_number}
+use Rattle.lexspec.specs.Tests.{is_number}
 use Rattle.lex_semantics.specs.Text.{listed}
-use Rattle.lexspec.specs.SubjectViews.{parts}
+use Rattle.lexspec.specs.SubjectViews.{all_numbered, parts}
 use Rattle.lex_semantics.specs.Limits.{max_conditions}
 
 abbrev Split : Type 0
@@ -17,7 +18,7 @@ Split = List ℕ × List ℕ
 -- the parts of a text, by what is split off before the first sign
 abbrev after_part : List ℕ → List (List ℕ)
 after_part [] = []
-after_part (c ∷ back) = parts back
+after_part (c ∷ back) = slice_split (λ c. c == 44) back
 
 abbrev with_first : ℕ → Split → Split
 with_first c s = (c ∷ s.0, s.1)
@@ -25,22 +26,34 @@ with_first c s = (c ∷ s.0, s.1)
 abbrev choose : Bool → Split → Split → Split
 choose b x y = if b then x else y
 
-abbrev both : List ℕ × List (List ℕ) → List (List ℕ)
-both p = p.0 ∷ p.1
+-- a single sign is looked for as a byte
+same_byte : (d c : ℕ) → lists (d ∷ []) c ≡ (c == d)
+same_byte d c = from (decide d c)
+  where
+    from : (d ≡ c) ⊎ Other d c → lists (d ∷ []) c ≡ (c == d)
+    from (inl e) = subst (λ z. lists (d ∷ []) z ≡ (z == d)) e (ap (λ b. b || false) (eq-eqb d d refl) ∙ sym (eq-eqb d d refl))
+    from (inr e) = ap (λ b. b || false) e.0 ∙ sym e.1
 
-parts_split : (t : List ℕ) → ◌≡◌ {A = List ℕ × List (List ℕ)} (parts_at 44 t) ((split_before (λ c. c == 44) t).0, after_part (split_before (λ c. c == 44) t).1)
+comma : lists (codes ",") ≡ (λ c. c == 44)
+comma i c = same_byte 44 c i
+
+parts_split : (t : List ℕ) → slice_split (λ c. c == 44) t ≡ (split_before (λ c. c == 44) t).0 ∷ after_part (split_before (λ c. c == 44) t).1
 unfolding take_up_to
 parts_split [] = refl
 parts_split (c ∷ t) = from (c == 44) (parts_split t)
   where
-    from : (b : Bool) → ◌≡◌ {A = List ℕ × List (List ℕ)} (parts_at 44 t) ((split_before (λ c. c == 44) t).0, after_part (split_before (λ c. c == 44) t).1)
-        → ◌≡◌ {A = List ℕ × List (List ℕ)} (if b then ([], (parts_at 44 t).0 ∷ (parts_at 44 t).1) else (c ∷ (parts_at 44 t).0, (parts_at 44 t).1))
-        ((choose (not b) (with_first c (split_before (λ c. c == 44) t)) ([], c ∷ t)).0, after_part (choose (not b) (with_first c (split_before (λ c. c == 44) t)) ([], c ∷ t)).1)
+    from : (b : Bool) → slice_split (λ c. c == 44) t ≡ (split_before (λ c. c == 44) t).0 ∷ after_part (split_before (λ c. c == 44) t).1
+        → cond b ([] ∷ slice_split (λ c. c == 44) t) (onto_first c (slice_split (λ c. c == 44) t))
+        ≡ (choose (not b) (with_first c (split_before (λ c. c == 44) t)) ([], c ∷ t)).0 ∷ after_part (choose (not b) (with_first c (split_before (λ c. c == 44) t)) ([], c ∷ t)).1
     from true h = refl
-    from false h = ap (λ (p : List ℕ × List (List ℕ)). (c ∷ p.0, p.1)) h
+    from false h = ap (onto_first c) h
+
+-- the parts as the code finds them
+parts_are : (t : List ℕ) → parts t ≡ slice_split (λ c. c == 44) t
+parts_are t = ap (λ (f : ℕ → Bool). slice_split f t) comma
 
 pub parts_first : (t front back : List ℕ) → ◌≡◌ {A = Split} (split_before (λ c. c == 44) t) (front, back) → parts t ≡ front ∷ after_part back
-parts_first t front back e = ap both (parts_split t) ∙ ap (λ (s : Split). s.0 ∷ after_part s.1) e
+parts_first t front back e = parts_are t ∙ parts_split t ∙ ap (λ (s : Split). s.0 ∷ after_part s.1) e
 
 pub last_part : (t front back : List ℕ) → ◌≡◌ {A = Split} (split_before (λ c. c == 44) t) (front, back) → length back ≡ 0 → parts t ≡ front ∷ []
 last_part t front [] e h = parts_first t front [] e
@@ -48,7 +61,7 @@ last_part t front (c ∷ back) e h = absurd (omega arith)
 
 pub next_part : (t front back rest : List ℕ) → ◌≡◌ {A = Split} (split_before (λ c. c == 44) t) (front, back) → (length back ≡ 0 → ⊥) → rest ≡ drop 1 back → parts t ≡ front ∷ parts rest
 next_part t front [] rest e h is = absurd (h refl)
-next_part t front (c ∷ back) rest e h is = parts_first t front (c ∷ back) e ∙ ap (λ z. front ∷ parts z) (sym is)
+next_part t front (c ∷ back) rest e h is = parts_first t front (c ∷ back) e ∙ ap (λ z. front ∷ z) (sym (parts_are back)) ∙ ap (λ z. front ∷ parts z) (sym is)
 
 -- Flags at the numbers of the names that were met.
 pub record Marks (number : List ℕ → Option ℕ) (names rest : List (List ℕ)) (flags : List Bool) : Type 0 where
@@ -114,9 +127,19 @@ marks_next number names all rest name flags k m first here below = record {
       ∙ ap (λ z. get_or flags c false || list_any (λ n. is_number (number n) c) z) (sym first) ∙ m.listed c h);
 }
 
+-- some name has the number
+names_listed : (number : List ℕ → Option ℕ) (names : List (List ℕ)) (c : ℕ) → list_any (λ name. is_number (number name) c) names ≡ lists (filter_map number names) c
+names_listed number [] c = refl
+names_listed number (name ∷ names) c = from (number name) (names_listed number names c)
+  where
+    from : (o : Option ℕ) → list_any (λ name. is_number (number name) c) names ≡ lists (filter_map number names) c
+        → (is_number o c || list_any (λ name. is_number (number name) c) names) ≡ lists (cons_option o (filter_map number names)) c
+    from None h = h
+    from (Some k) h = ap (λ b. (k == c) || b) h
+
 pub marks_all : (number : List ℕ → Option ℕ) (names : List (List ℕ)) (flags : List Bool) → Marks number names [] flags
-    → (all_numbered number names ≡ true) × ((c : ℕ) → c < max_conditions → get_or flags c false ≡ list_any (λ name. is_number (number name) c) names)
-marks_all number names flags m = (sym m.numbered, λ c h. sym (or_none (get_or flags c false)) ∙ m.listed c h)
+    → (all_numbered number names ≡ true) × ((c : ℕ) → c < max_conditions → get_or flags c false ≡ lists (filter_map number names) c)
+marks_all number names flags m = (sym m.numbered, λ c h. sym (or_none (get_or flags c false)) ∙ m.listed c h ∙ names_listed number names c)
   where
     or_none : (b : Bool) → (b || false) ≡ b
     or_none true = refl

@@ -7,7 +7,9 @@ use Rattle.lexre.specs.Cutting.{IsCutting}
 use Rattle.lex_semantics.specs.Reading.{after_blanks, begins, take_up_to}
 use Rattle.lex_semantics.specs.ByteSets.{is_blank}
 use Rattle.lexspec_lines.specs.Lines.{line_in, line_at, newlines, is_all_blank}
-use Rattle.lexspec.specs.Items.{Conditions, Trailing, Subject, at_end, matching, Action, Item, skipped, skipped_line, skipped_block, rule, action_in, outside, action_of, sides, starts_rule, IsPattern, IsSubject, IsItem, AreItems}
+use Rattle.lexspec.specs.Items.{Conditions, Trailing, Subject, at_end, matching, Action, Item, skipped, skipped_line, skipped_block, rule, action_at, action_of, starts_rule, IsPattern, IsSubject, IsItem, AreItems}
+use Rattle.lexspec.specs.SubjectViews.{sides}
+use Rattle.lexspec.proofs.SubjectLaws.{to_cut}
 use Rattle.lexspec_lines.proofs.OneSection.{no_true, two_percents, some_pair}
 
 pub both_ways : {A : Type 0} (b : Bool) → b ≡ true → b ≡ false → A
@@ -28,7 +30,9 @@ module _ (cut_once : (t : List ℕ) (stop stop' : ℕ) (at at' : Option ℕ) (tw
     (stop ≡ stop') × (at ≡ at') × (special ≡ special')) where
   one_pattern : (t : List ℕ) (head head' : List ℕ) (after after' : Trailing) (rest rest' : List ℕ) → IsPattern t head after rest → IsPattern t head' after' rest' →
       (head ≡ head') × (after ≡ after') × (rest ≡ rest')
-  one_pattern t head head' after after' rest rest' (stop, at, special, cut, sides_are, rest_is) (stop', at', special', cut', sides_are', rest_is') =
+  one_pattern t head head' after after' rest rest' p p' =
+      let (stop, at, special, cut, sides_are, rest_is) = to_cut t head after rest p in
+      let (stop', at', special', cut', sides_are', rest_is') = to_cut t head' after' rest' p' in
       let same = cut_once t stop stop' at at' false false special special' cut cut' in
       let one : sides t stop at special ≡ sides t stop' at' special' =
       ap (λ z. sides t z at special) same.0 ∙ ap (λ z. sides t stop' z special) same.1 ∙ ap (λ z. sides t stop' at' z) same.2 in
@@ -142,7 +146,7 @@ module _ (cut_once : (t : List ℕ) (stop stop' : ℕ) (at at' : Option ℕ) (tw
   one_rule t asked asked' subject subject' action action' rest rest' (starts, u, v, text, here, is, acts, act) (starts', u', v', text', here', is', acts', act') =
       let first = some_pair asked asked' u u' (sym here ∙ here') in
       let second = one_subject cut_once u' subject subject' v v' (subst (λ z. IsSubject z subject v) first.1 is) is' in
-      let third = some_pair text text' rest rest' (sym acts ∙ ap (λ z. action_in outside 0 (after_blanks z)) second.1 ∙ acts') in
+      let third = some_pair text text' rest rest' (sym acts ∙ ap (λ z. action_at (after_blanks z)) second.1 ∙ acts') in
       let same : action ≡ action' = act ∙ ap action_of third.0 ∙ sym act' in
       (ap (λ z. rule z subject action) first.0 ∙ ap (λ z. rule asked' z action) second.0 ∙ ap (rule asked' subject') same, third.1)
 

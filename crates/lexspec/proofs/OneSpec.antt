@@ -17,7 +17,8 @@ use Rattle.lexspec_lines.specs.Lines.{without_returns, line_in, newlines}
 use Rattle.lexspec_lines.specs.DefinitionLines.{definition_at, all_conditions, names_of, has_name, substitutes_of, all_options}
 use Rattle.lexspec.specs.Items.{Conditions, Trailing, no_trail, line_end, pattern_after, at_end, matching, Action, bar, spelled, Item, skipped, skipped_line, skipped_block, rule, AreItems}
 use Rattle.lex_semantics.specs.Sound.{HasFixed, IsCutOf}
-use Rattle.lexspec.specs.RuleItems.{IsTrail, EndRule, IsActionOf, IsRule, AreRules}
+use Rattle.lexspec.specs.RuleReads.{IsRule}
+use Rattle.lexspec.specs.RuleItems.{IsTrail, EndRule, IsActionOf, AreRules}
 use Rattle.lexspec.specs.Files.{conditions_with, SpellsSpec}
 use Rattle.lexspec_lines.proofs.OneSection.{one_up_to, separator_ends}
 use Rattle.lexspec.proofs.OneItems.{one_items}
@@ -63,13 +64,13 @@ module _ (tree_once : (how : ReadOptions) (definitions : Definitions) (text : Li
   pub one_rule : (names : List (List ℕ)) (how : ReadOptions) (stack : Bool) (definitions : Definitions) (n : ℕ) (asked : Conditions) (anchored : Bool) (head : List ℕ) (after : Trailing) (action : Action) (is : List (ℕ × Item)) (rules : List Rule) (q r : Rule) →
       IsRule names how stack definitions n asked anchored head after action is rules q → IsRule names how stack definitions n asked anchored head after action is rules r → q ≡ r
   one_rule names how stack definitions n asked anchored head after action is rules q r h k =
-      let line : q.line ≡ r.line = h.front.line_is ∙ sym k.front.line_is in
-      let conditions : q.conditions ≡ r.conditions = some_is q.conditions r.conditions (sym h.front.listed ∙ k.front.listed) in
-      let anchor : q.anchored ≡ r.anchored = h.front.anchor ∙ sym k.front.anchor in
-      let same_head : q.head ≡ r.head = tree_once how definitions head q.head r.head h.front.head_is k.front.head_is in
-      let same_trail : q.trail ≡ r.trail = one_trail how definitions after q.trail r.trail h.front.trail_is k.front.trail_is in
-      let cut : q.cut ≡ r.cut = one_cut r.head r.trail q.cut r.cut (subst (λ z. IsCutOf r.head z q.cut) same_trail (subst (λ z. IsCutOf z q.trail q.cut) same_head h.front.cut_is)) k.front.cut_is in
-      let statements : q.statements ≡ r.statements = one_action (known_in names stack) action rules q.statements r.statements h.statements_are k.statements_are in
+      let line : q.line ≡ r.line = h.0.line_is ∙ sym k.0.line_is in
+      let conditions : q.conditions ≡ r.conditions = some_is q.conditions r.conditions (sym h.0.listed ∙ k.0.listed) in
+      let anchor : q.anchored ≡ r.anchored = h.0.anchor ∙ sym k.0.anchor in
+      let same_head : q.head ≡ r.head = tree_once how definitions head q.head r.head h.0.head_is k.0.head_is in
+      let same_trail : q.trail ≡ r.trail = one_trail how definitions after q.trail r.trail h.0.trail_is k.0.trail_is in
+      let cut : q.cut ≡ r.cut = one_cut r.head r.trail q.cut r.cut (subst (λ z. IsCutOf r.head z q.cut) same_trail (subst (λ z. IsCutOf z q.trail q.cut) same_head h.0.cut_is)) k.0.cut_is in
+      let statements : q.statements ≡ r.statements = one_action (known_in names stack) action rules q.statements r.statements h.2 k.2 in
       λ i. record { line = line i; conditions = conditions i; anchored = anchor i; head = same_head i; trail = same_trail i; cut = cut i; statements = statements i }
 
   pub one_end : (known : Known) (text : List ℕ) (e f : EndAction) → SpellsEndAction known text e → SpellsEndAction known text f → e ≡ f

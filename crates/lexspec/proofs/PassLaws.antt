@@ -15,9 +15,11 @@ use Rattle.lexspec_actions.proofs.EndLemmas.{end_is}
 use Rattle.lexspec_actions.specs.Statements.{literal_bytes}
 use Rattle.lexspec_actions.proofs.NormalLemmas.{legal_action, end_status}
 use Rattle.lexspec_lines.specs.DefinitionLines.{Declared, names_of}
-use Rattle.lexspec.specs.Files.{lists_number, unlisted_end, end_in, conditions_with}
+use Rattle.lexspec.specs.Files.{lists_number, end_in, conditions_with}
+use Rattle.lexspec.specs.Endings.{unlisted_end, listed_end}
 use Rattle.lexspec.specs.Items.{Conditions, Trailing, at_end, matching, Action, bar, spelled, Item, skipped, skipped_line, skipped_block, rule}
-use Rattle.lexspec.specs.RuleItems.{EndRule, IsActionOf, IsRule, AreRules}
+use Rattle.lexspec.specs.RuleReads.{IsRule}
+use Rattle.lexspec.specs.RuleItems.{EndRule, IsActionOf, AreRules}
 use Rattle.lexspec_lines.specs.Declaring.{declared_of}
 use Rattle.lexspec.specs.ItemReads.{names_in}
 use Rattle.lexspec_lines.specs.declared.declarations.Declarations.{Declarations}
@@ -25,7 +27,7 @@ use Rattle.lex_semantics.specs.Sound.{HaveSoundSides, HasSoundSides}
 use Rattle.lexspec.specs.Tests.{sound_tree, sound_trail, cut_fits, sound_list, legal_action as legal_test, sound_rule, sound_rules, sound_end, sound_conditions, is_sound}
 use Rattle.lexspec.proofs.CutLaws.{cut_is_tested}
 use Rattle.lexspec_lines.proofs.DeclaringLaws.{names_kept}
-use Rattle.lexspec.proofs.EndingLaws.{numbers_ordered}
+use Rattle.lexspec.proofs.EndingLaws.{numbers_ordered, first_listed}
 use Rattle.lexspec.proofs.TestLaws.{sound_is_tested}
 use Rattle.lex_semantics.specs.Limits.{max_conditions, max_statements, max_literal_bytes, max_status, max_rules}
 use Rattle.lexre.specs.declared.options.ReadOptions.{ReadOptions}
@@ -88,8 +90,8 @@ module _ (names : List (List ℕ)) (how : ReadOptions) (stack : Bool) (defined :
   item_passes : (n : ℕ) (asked : Conditions) (anchored : Bool) (head : List ℕ) (after : Trailing) (action : Action) (is : List (ℕ × Item)) (rs : List Rule) (r : Rule)
       → IsRule names how stack defined n asked anchored head after action is rs r → HasSoundSides r → sound_rules (length names) rs ≡ true → sound_rule (length names) r ≡ true
   item_passes n asked anchored head after action is rs r h sides pass =
-      rule_passes (length names) r (numbers_ordered (number_from 0 names) (length names) asked r.conditions h.front.listed) sides
-      (cut_is_tested r.cut r.head r.trail sides.0 sides.1 h.front.cut_is) (action_acts names stack action rs r.statements some h.statements_are pass)
+      rule_passes (length names) r (numbers_ordered (number_from 0 names) (length names) asked r.conditions h.0.listed) sides
+      (cut_is_tested r.cut r.head r.trail sides.0 sides.1 h.0.cut_is) (action_acts names stack action rs r.statements some h.2 pass)
 
   pub rules_pass : (is : List (ℕ × Item)) (rs : List Rule) (ends : List EndRule) → AreRules names how stack defined is rs ends → HaveSoundSides rs → sound_rules (length names) rs ≡ true
   rules_pass [] rs ends h sides = ap (sound_rules (length names)) h.0
@@ -127,19 +129,19 @@ module _ (names : List (List ℕ)) (how : ReadOptions) (stack : Bool) (defined :
   small_unlisted ((None, e) ∷ ends) h = h.0
   small_unlisted ((Some cs, e) ∷ ends) h = small_unlisted ends h.1
 
-  small_end : (all ends : List EndRule) (c : ℕ) → AreSmall all → AreSmall ends → IsSmall (end_in all ends c)
+  small_end : (all ends : List EndRule) (c : ℕ) → AreSmall all → AreSmall ends → IsSmall (listed_end all ends c)
   small_end all [] c h k = small_unlisted all h
   small_end all (e ∷ ends) c h k = from (lists_number e.0 c) (small_end all ends c h k.1)
     where
-      from : (b : Bool) → IsSmall (end_in all ends c) → IsSmall (if b then e.1 else end_in all ends c)
+      from : (b : Bool) → IsSmall (listed_end all ends c) → IsSmall (if b then e.1 else listed_end all ends c)
       from true later = k.0
       from false later = later
 
   pub conditions_pass : (k : ℕ) (cs : List Declared) (ends : List EndRule) → AreSmall ends → sound_conditions (conditions_with k cs ends) ≡ true
   conditions_pass k [] ends h = refl
   conditions_pass k (c ∷ cs) ends h =
-      let e = end_in ends ends k in
-      let small = small_end ends ends k h h in
+      let e = end_in ends k in
+      let small = subst IsSmall (first_listed ends k) (small_end ends ends k h h) in
       and_from (sound_end e) (sound_conditions (conditions_with (suc k) cs ends))
       (and_from (nat_le e.status max_status) (nat_le (length e.print) max_literal_bytes) (le-leb e.status max_status small.0) (le-leb (length e.print) max_literal_bytes small.1))
       (conditions_pass (suc k) cs ends h)

@@ -56,20 +56,18 @@ more_newlines c s t e = one_newline c s ∙ ap (λ z. cond (c == 10) 1 0 + z) e 
 
 pub newlines_kept : (t : List ℕ) → newlines (without_returns t) ≡ newlines t
 newlines_kept [] = refl
-newlines_kept (c ∷ []) = refl
-newlines_kept (c ∷ d ∷ t) = from (c == 13 && d == 10) refl (newlines_kept (d ∷ t))
+newlines_kept (c ∷ t) = from (c == 13 && begins (codes "\n") t) refl (newlines_kept t)
   where
-    from : (b : Bool) → (c == 13 && d == 10) ≡ b → newlines (without_returns (d ∷ t)) ≡ newlines (d ∷ t)
-        → newlines (if b then without_returns (d ∷ t) else c ∷ without_returns (d ∷ t)) ≡ newlines (c ∷ d ∷ t)
-    from true e later = later ∙ sym (no_newline c (d ∷ t) (eqb-true c 13 (and_parts (c == 13) (d == 10) e).0))
-    from false e later = more_newlines c (without_returns (d ∷ t)) (d ∷ t) later
+    from : (b : Bool) → (c == 13 && begins (codes "\n") t) ≡ b → newlines (without_returns t) ≡ newlines t
+        → newlines (if b then without_returns t else c ∷ without_returns t) ≡ newlines (c ∷ t)
+    from true e later = later ∙ sym (no_newline c t (eqb-true c 13 (and_parts (c == 13) (begins (codes "\n") t) e).0))
+    from false e later = more_newlines c (without_returns t) t later
 
 not_longer : (t : List ℕ) → length (without_returns t) ≤ length t
 not_longer [] = omega arith
-not_longer (c ∷ []) = omega arith
-not_longer (c ∷ d ∷ t) = from (c == 13 && d == 10) (not_longer (d ∷ t))
+not_longer (c ∷ t) = from (c == 13 && begins (codes "\n") t) (not_longer t)
   where
-    from : (b : Bool) → length (without_returns (d ∷ t)) ≤ length (d ∷ t) → length (if b then without_returns (d ∷ t) else c ∷ without_returns (d ∷ t)) ≤ length (c ∷ d ∷ t)
+    from : (b : Bool) → length (without_returns t) ≤ length t → length (if b then without_returns t else c ∷ without_returns t) ≤ length (c ∷ t)
     from true h = omega arith
     from false h = omega arith
 

@@ -9,12 +9,14 @@ use Rattle.lex_semantics.specs.Spec.{Spec, EndAction}
 use Rattle.lexre.specs.Cutting.{IsCutting}
 use Rattle.lexre.specs.PatternExamples.{plain}
 use Rattle.lexre.proofs.CuttingLaws.{one_cutting}
-use Rattle.lexspec_lines.specs.DefinitionLines.{Definition, declares, options, defines, definition_at, definition_in, percent_line, IsUpTo, all_conditions, names_of, has_name, substitutes_of, all_options, are_known, are_distinct}
+use Rattle.lexspec_lines.specs.DefinitionLines.{Definition, declares, options, defines, definition_at, definition_in, percent_line, IsUpTo, all_conditions, names_of, has_name, substitutes_of, all_options, are_distinct}
+use Rattle.lexspec_lines.specs.DefinitionViews.{are_known}
 use Rattle.lexspec_lines.specs.Folding.{with_fold}
-use Rattle.lexspec_lines.specs.Lines.{words_in, without_returns, line_in, newlines}
+use Rattle.lexspec_lines.specs.Lines.{without_returns, line_in, newlines}
 use Rattle.lexspec_lines.proofs.OneSection.{no_true, one_up_to, separator_ends}
-use Rattle.lexspec.specs.Files.{AreSingle, is_unlisted, SpellsSpec}
-use Rattle.lexspec.specs.Items.{unlisted, only, no_trail, at_end, matching, bar, spelled, Item, rule, conditions_at, AreItems}
+use Rattle.lexspec.specs.Files.{AreSingle, SpellsSpec}
+use Rattle.lexspec.specs.Endings.{is_unlisted}
+use Rattle.lexspec.specs.Items.{unlisted, only, no_trail, at_end, matching, bar, spelled, Item, rule, conditions_at, AreItems, after_piece, action_end, action_at}
 use Rattle.lexspec.specs.RuleItems.{EndRule, AreRules}
 use Rattle.lexspec.specs.SpecExamples as Example
 use Rattle.lexspec.proofs.ComputedSections.{a_here}
@@ -49,13 +51,13 @@ no_separator S h =
     no_true (sym (ap (begins (codes "%%")) same.1) ∙ h.separator)
 
 no_option : Example.IsNone (codes "%option none\n%%\n")
-unfolding definition_at percent_line words_in take_up_to is_blank
+unfolding definition_at percent_line take_up_to is_blank
 no_option S h =
     let same = one_section (codes "%option none\n%%\n") (codes "%%\n") (options (codes "none" ∷ []) ∷ []) (codes "%%\n", refl, refl) refl S h in
     no_true (sym (ap (λ ds. are_known (all_options ds)) same.0) ∙ h.options)
 
 declared_twice : Example.IsNone (codes "%s A\n%x A\n%%\n")
-unfolding definition_at percent_line words_in take_up_to is_alpha is_upper is_lower is_alnum is_blank is_digit
+unfolding definition_at percent_line take_up_to is_alpha is_upper is_lower is_alnum is_blank is_digit
 declared_twice S h =
     let same =
     one_section (codes "%s A\n%x A\n%%\n") (codes "%%\n") (declares false (codes "A" ∷ []) ∷ declares true (codes "A" ∷ []) ∷ []) (codes "%x A\n%%\n", refl, (codes "%%\n", refl, refl)) refl S h in
@@ -69,7 +71,7 @@ defined_twice S h =
     no_true (sym (ap (λ ds. are_distinct (map (λ (d : List ℕ × List ℕ). d.0) (substitutes_of ds))) same.0) ∙ h.defined_once)
 
 not_declared : Example.IsNone (codes "%%\n<A>a ECHO;\n")
-unfolding definition_at conditions_at take_up_to is_blank
+unfolding definition_at conditions_at take_up_to is_blank action_at action_end after_piece
 not_declared S h =
     let item = rule (only (codes "A" ∷ [])) (matching false (codes "a") no_trail) (spelled (codes "ECHO;")) in
     let found = spells_items (codes "%%\n<A>a ECHO;\n") ((2, item) ∷ []) refl (
@@ -78,13 +80,13 @@ not_declared S h =
       (refl, codes "a ECHO;\n", codes " ECHO;\n", codes "ECHO;", refl, (refl, refl, a_here (codes "ECHO;\n")), refl, refl),
       inl refl,
     ) S h in
-    no found.1.0.conditions found.1.3.front.listed
+    no found.1.0.conditions found.1.3.0.listed
   where
     no : (numbers : Option (List ℕ)) → ◌≡◌ {A = Option (Option (List ℕ))} None (Some numbers) → ⊥
     no numbers e = cc
 
 bar_at_end : Example.IsNone (codes "%%\na |\n")
-unfolding definition_at conditions_at take_up_to is_blank
+unfolding definition_at conditions_at take_up_to is_blank action_at action_end after_piece
 bar_at_end S h =
     let item = rule unlisted (matching false (codes "a") no_trail) bar in
     let found = spells_items (codes "%%\na |\n") ((2, item) ∷ []) refl (
@@ -93,7 +95,7 @@ bar_at_end S h =
       (refl, codes "a |\n", codes " |\n", codes "|", refl, (refl, refl, a_here (codes "|\n")), refl, refl),
       inl refl,
     ) S h in
-    no_true found.1.3.next
+    no_true found.1.3.1
 
 -- ends of which two have no list
 two_unlisted : (ends others more : List EndRule) (m n : Option (List ℕ)) (e f : EndAction) → ◌≡◌ {A = Option (Option (List ℕ))} (Some None) (Some m) → ◌≡◌ {A = Option (Option (List ℕ))} (Some None) (Some n)
@@ -109,7 +111,7 @@ two_unlisted ends others more m n e f listed listed' first second one =
     omega (arith, two, from_first, from_second)
 
 two_ends : Example.IsNone (codes "%%\n<<EOF>> exit(1);\n<<EOF>> exit(2);\n")
-unfolding definition_at conditions_at take_up_to is_blank
+unfolding definition_at conditions_at take_up_to is_blank action_at action_end after_piece
 two_ends S h =
     let first = rule unlisted at_end (spelled (codes "exit(1);")) in
     let second = rule unlisted at_end (spelled (codes "exit(2);")) in

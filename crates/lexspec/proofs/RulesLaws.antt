@@ -13,11 +13,11 @@ use Rattle.lexre.proofs.OneTree.{one_tree}
 use Rattle.lexspec_actions.specs.Names.{number_from, known_in}
 use Rattle.lexspec_actions.specs.Actions.{SpellsAction, SpellsEndAction}
 use Rattle.lex_semantics.specs.Reading.{after_blanks, take_up_to}
-use Rattle.lexspec.specs.Items.{Conditions, Trailing, Subject, at_end, matching, Action, bar, spelled, Item, skipped, skipped_line, skipped_block, rule, conditions_at, IsSubject, action_in, outside, action_of, starts_rule, IsItem, AreItems}
+use Rattle.lexspec.specs.Items.{Conditions, Trailing, Subject, at_end, matching, Action, bar, spelled, Item, skipped, skipped_line, skipped_block, rule, conditions_at, IsSubject, action_at, action_of, starts_rule, IsItem, AreItems}
 use Rattle.lexspec_lines.specs.Lines.{newlines}
 use Rattle.lex_semantics.specs.Sound.{IsCutOf}
-use Rattle.lexspec.specs.RuleItems.{numbers_of, IsTrail, EndRule, IsActionOf, goes_to_rule, IsRule, AreRules, HasHead}
-use Rattle.lexspec.specs.RuleReads.{acting, first_statements, filled, may_wait, Left}
+use Rattle.lexspec.specs.RuleItems.{numbers_of, IsTrail, EndRule, IsActionOf, goes_to_rule, AreRules, HasHead}
+use Rattle.lexspec.specs.RuleReads.{acting, first_statements, filled, may_wait, Left, IsRule}
 use Rattle.lexspec_lines.proofs.OneSection.{no_true, two_percents, some_pair}
 use Rattle.lexspec.proofs.OneItems.{both_ways, AllBlank, StartsBlank, OpensBlock, tests_of, rule_tests, no_item_at_end, one_item, one_subject}
 use Rattle.lexspec.proofs.OneSpec.{one_rule, one_end, some_is}
@@ -142,11 +142,7 @@ module _ (names : List (List ℕ)) (how : ReadOptions) (stack : Bool) (defined :
   head_rule : (n : ℕ) (asked : Conditions) (anchored : Bool) (head : List ℕ) (after : Trailing) (text : List ℕ) (is : List (ℕ × Item)) (rs : List Rule) (r : Rule) (ss : List Statement)
       → HasHead names how stack defined n asked anchored head after r → SpellsAction (known_in names stack) text ss
       → IsRule names how stack defined n asked anchored head after (spelled text) is rs (acting ss r)
-  head_rule n asked anchored head after text is rs r ss h acts = record {
-    front = with_statements n asked anchored head after r _ h;
-    next = refl;
-    statements_are = acts;
-  }
+  head_rule n asked anchored head after text is rs r ss h acts = (with_statements n asked anchored head after r _ h, refl, acts)
 
   pub rule_on : (n : ℕ) (t : List ℕ) (asked : Conditions) (anchored : Bool) (head : List ℕ) (after : Trailing) (text rest : List ℕ) (r : Rule) (ss : List Statement) (w R : List Rule) (E : List EndRule)
       → IsItem t (rule asked (matching anchored head after) (spelled text)) rest → HasHead names how stack defined n asked anchored head after r → SpellsAction (known_in names stack) text ss
@@ -193,11 +189,7 @@ module _ (names : List (List ℕ)) (how : ReadOptions) (stack : Bool) (defined :
   bar_rule : (n : ℕ) (asked : Conditions) (anchored : Bool) (head : List ℕ) (after : Trailing) (is : List (ℕ × Item)) (rs : List Rule) (r : Rule)
       → HasHead names how stack defined n asked anchored head after r → goes_to_rule bar is ≡ true → IsActionOf (known_in names stack) bar rs (first_statements rs)
       → IsRule names how stack defined n asked anchored head after bar is rs (acting (first_statements rs) r)
-  bar_rule n asked anchored head after is rs r h next takes = record {
-    front = with_statements n asked anchored head after r _ h;
-    next = next;
-    statements_are = takes;
-  }
+  bar_rule n asked anchored head after is rs r h next takes = (with_statements n asked anchored head after r _ h, next, takes)
 
   wait_more : (w : List Rule) (r : Rule) (is : List (ℕ × Item)) → may_wait (w ++ r ∷ []) is ≡ goes_to_rule bar is
   wait_more [] r is = refl
@@ -214,14 +206,14 @@ module _ (names : List (List ℕ)) (how : ReadOptions) (stack : Bool) (defined :
       let (q, others, all, one, more) = subst (λ z. AreRules names how stack defined z left.later E) b.all left.are in
       let f = first_statements others in
       let same : q ≡ acting f r = one_rule tree_once names how stack defined n asked anchored head after bar b.others others q (acting f r) one
-      (bar_rule n asked anchored head after b.others others r h one.next (has_first others q.statements one.statements_are)) in
+      (bar_rule n asked anchored head after b.others others r h one.1 (has_first others q.statements one.2)) in
       let later : left.later ≡ acting f r ∷ others = all ∙ ap (λ z. z ∷ others) same in
       record {
         items = b.others;
         here = b.here;
         later = others;
         are = more;
-        next = wait_more w r b.others ∙ one.next;
+        next = wait_more w r b.others ∙ one.1;
         whole = left.whole ∙ ap (filled w) later ∙ fill_more f w r others;
       }
 
@@ -322,7 +314,7 @@ module _ (names : List (List ℕ)) (how : ReadOptions) (stack : Bool) (defined :
     pub rest : List ℕ
     pub list : conditions_at t ≡ Some (asked, u)
     pub cut : IsSubject u subject v
-    pub ends : action_in outside 0 (after_blanks v) ≡ Some (text, rest)
+    pub ends : action_at (after_blanks v) ≡ Some (text, rest)
     pub numbers : Option (List ℕ)
     pub numbered : numbers_of (number_from 0 names) (length names) asked ≡ Some numbers
     pub acts : ActsAs w subject (action_of text)
@@ -333,9 +325,9 @@ module _ (names : List (List ℕ)) (how : ReadOptions) (stack : Bool) (defined :
   acts_here w n asked at_end bar is rs es are next = absurd are
   acts_here [] n asked at_end (spelled text) is rs es (numbers, e, others, listed, acts, all, more) next = ((numbers, listed), (refl, e, acts))
   acts_here (q ∷ w) n asked at_end (spelled text) is rs es are next = no_true next
-  acts_here w n asked (matching anchored head after) bar is rs es (r, others, all, one, more) next = ((r.conditions, one.front.listed), (r, one.front.head_is, one.front.trail_is, one.front.cut_is, tt))
+  acts_here w n asked (matching anchored head after) bar is rs es (r, others, all, one, more) next = ((r.conditions, one.0.listed), (r, one.0.head_is, one.0.trail_is, one.0.cut_is, tt))
   acts_here w n asked (matching anchored head after) (spelled text) is rs es (r, others, all, one, more) next =
-      ((r.conditions, one.front.listed), (r, one.front.head_is, one.front.trail_is, one.front.cut_is, (r.statements, one.statements_are)))
+      ((r.conditions, one.0.listed), (r, one.0.head_is, one.0.trail_is, one.0.cut_is, (r.statements, one.2)))
 
   rule_here : (t : List ℕ) (w : List Rule) (n : ℕ) (i : Item) (rest : List ℕ) (is : List (ℕ × Item)) (rs : List Rule) (es : List EndRule) → starts_rule t ≡ true → IsItem t i rest
       → AreRules names how stack defined ((n, i) ∷ is) rs es → may_wait w ((n, i) ∷ is) ≡ true → RuleHere t w
@@ -395,7 +387,7 @@ module _ (names : List (List ℕ)) (how : ReadOptions) (stack : Bool) (defined :
 
   -- what is known of the rule where its list and its subject are known
   abbrev pub Known : List Rule → Subject → List ℕ → Type 0
-  Known w subject v = (text rest : List ℕ) × (action_in outside 0 (after_blanks v) ≡ Some (text, rest)) × ActsAs w subject (action_of text)
+  Known w subject v = (text rest : List ℕ) × (action_at (after_blanks v) ≡ Some (text, rest)) × ActsAs w subject (action_of text)
 
   known : (n : ℕ) (t u v : List ℕ) (asked : Conditions) (subject : Subject) (w R : List Rule) (E : List EndRule) → starts_rule t ≡ true → conditions_at t ≡ Some (asked, u) → IsSubject u subject v
       → Left names how stack defined n t w R E → Known w subject v
@@ -403,7 +395,7 @@ module _ (names : List (List ℕ)) (how : ReadOptions) (stack : Bool) (defined :
       let h = invert n t w R E starts left in
       let same = (some_pair h.asked asked h.u u (sym h.list ∙ list)).1 in
       let one = one_subject cut_once u h.subject subject h.v v (subst (λ z. IsSubject z h.subject h.v) same h.cut) cut in
-      (h.text, h.rest, ap (λ z. action_in outside 0 (after_blanks z)) (sym one.1) ∙ h.ends, subst (λ z. ActsAs w z (action_of h.text)) one.0 h.acts)
+      (h.text, h.rest, ap (λ z. action_at (after_blanks z)) (sym one.1) ∙ h.ends, subst (λ z. ActsAs w z (action_of h.text)) one.0 h.acts)
 
   -- no head, trailing context and cut
   abbrev pub NoHead : List ℕ → Trailing → Type 0
@@ -414,14 +406,14 @@ module _ (names : List (List ℕ)) (how : ReadOptions) (stack : Bool) (defined :
   no_head t u v asked anchored head after starts list cut none n w R E left =
       let (text, rest, ends, r, spells, trail, cuts, acts) = flat (known n t u v asked (matching anchored head after) w R E starts list cut left) in none r.head r.trail r.cut spells trail cuts
     where
-      flat : Known w (matching anchored head after) v → (text rest : List ℕ) × (action_in outside 0 (after_blanks v) ≡ Some (text, rest)) × (r : Rule)
+      flat : Known w (matching anchored head after) v → (text rest : List ℕ) × (action_at (after_blanks v) ≡ Some (text, rest)) × (r : Rule)
           × Spells how defined head r.head × IsTrail how defined after r.trail × IsCutOf r.head r.trail r.cut × IsSpelled (action_of text)
       flat (text, rest, ends, (r, spells, trail, cuts, acts)) = (text, rest, ends, r, spells, trail, cuts, acts)
 
   pub no_action : (t u v : List ℕ) (asked : Conditions) (subject : Subject) → starts_rule t ≡ true → conditions_at t ≡ Some (asked, u)
-      → IsSubject u subject v → action_in outside 0 (after_blanks v) ≡ None → NoLeft t
+      → IsSubject u subject v → action_at (after_blanks v) ≡ None → NoLeft t
   no_action t u v asked subject starts list cut none n w R E left =
-      let k = known n t u v asked subject w R E starts list cut left in no_some (k.0, k.1) (action_in outside 0 (after_blanks v)) k.2 none
+      let k = known n t u v asked subject w R E starts list cut left in no_some (k.0, k.1) (action_at (after_blanks v)) k.2 none
 
   -- the action of the rule that begins a text
   pub acts_of : (n : ℕ) (t : List ℕ) (asked : Conditions) (subject : Subject) (action : Action) (rest : List ℕ) (w R : List Rule) (E : List EndRule) → IsItem t (rule asked subject action) rest

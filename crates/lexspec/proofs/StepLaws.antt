@@ -1,8 +1,10 @@
 -- One item of the rules section more.
-use Rattle.std.proofs.Common.{◌≡◌, ℕ, suc, ◌+◌, ◌-◌, ◌<◌, ◌==◌, ◌&&◌, Bool, true, false, if◌then◌else◌, List, [], ◌∷◌, map, length, take, Option, Some, None, inl, inr, refl, sym, ap, arith, length-append}
+use Rattle.std.proofs.Common.{◌≡◌, ℕ, suc, ◌+◌, ◌-◌, ◌<◌, ◌==◌, ◌&&◌, Bool, true, false, if◌then◌else◌, List, [], ◌∷◌, map, length, take, Option, Some, None, inl, inr, refl, sym, ap, ◌∙◌, arith, length-append}
 use Rattle.std.specs.Prelude.{codes}
 use Rattle.lex_semantics.specs.Reading.{after_blanks, begins, take_up_to}
-use Rattle.lexspec.specs.Items.{outside, action_in, with_byte, next_place, depth_after, action_of, at_end, matching, Item, skipped, skipped_line, skipped_block, rule, starts_rule, IsItem, AreItems}
+use Rattle.lexspec.specs.ActionSteps.{outside, action_in, with_byte, next_place, depth_after}
+use Rattle.lexspec.proofs.ActionPieces.{action_is}
+use Rattle.lexspec.specs.Items.{action_at, action_of, at_end, matching, Item, skipped, skipped_line, skipped_block, rule, starts_rule, IsItem, AreItems}
 use Rattle.lexspec_lines.specs.Lines.{newlines}
 use Rattle.lexspec.specs.RuleViews.{rule_of}
 use Rattle.lexspec.specs.ItemReads.{names_in, ReadsFront, ReadsItem, NoRules, NoRulesAfter, NoneLeft}
@@ -48,9 +50,9 @@ action_takes c t = either t (c == 10 && 0 == 0) _ _ (stopped t) (kept c t _ (act
 not_longer : (t rest : List ℕ) → EndsWith t rest → length rest < suc (length t)
 not_longer t rest (front, e) = omega (arith, ap length e, length-append front rest)
 
-action_shorter : (t text rest : List ℕ) (n : ℕ) → action_in outside 0 t ≡ Some (text, rest) → length t < suc n → 0 < n → length rest < n
-action_shorter [] text rest n e h k = omega (arith, ap length (some_pair [] text [] rest e).1)
-action_shorter (c ∷ t) text rest n e h k = omega (arith, not_longer t rest (action_takes c t (text, rest) e))
+action_shorter : (t text rest : List ℕ) (n : ℕ) → action_at t ≡ Some (text, rest) → length t < suc n → 0 < n → length rest < n
+action_shorter [] text rest n e h k = omega (arith, ap length (some_pair [] text [] rest (sym (action_is []) ∙ e)).1)
+action_shorter (c ∷ t) text rest n e h k = omega (arith, not_longer t rest (action_takes c t (text, rest) (sym (action_is (c ∷ t)) ∙ e)))
 
 starts_some : (t : List ℕ) → starts_rule t ≡ true → 0 < length t
 unfolding take_up_to

@@ -1,15 +1,18 @@
 -- What stands before the action of a rule.
-use Rattle.std.proofs.Common.{◌≡◌, ℕ, zero, suc, ◌+◌, ◌-◌, ◌==◌, ◌||◌, Bool, true, false, not, if◌then◌else◌, List, [], ◌∷◌, length, take, drop, Option, Some, None, refl, sym, ap, subst, ◌∙◌, arith}
+use Rattle.std.proofs.Common.{◌≡◌, ℕ, zero, suc, ◌+◌, ◌-◌, ◌==◌, ◌||◌, Bool, true, false, not, if◌then◌else◌, List, [], ◌∷◌, length, take, drop, Option, Some, None, ◌⊎◌, inl, inr, refl, sym, ap, subst, ◌∙◌, arith}
 use Rattle.std.specs.Prelude.{codes}
 use Rattle.lex_semantics.specs.ByteSets.{is_word}
-use Rattle.lex_semantics.specs.Reading.{◌>>=◌, begins, take_up_to}
+use Rattle.lex_semantics.specs.Reading.{begins, is_empty, take_up_to}
 use Rattle.lexspec_lines.specs.Lines.{line_in}
 use Rattle.lexspec_lines.specs.Runs.{split_before}
 use Rattle.lexre.specs.Cutting.{IsCutting}
 use Rattle.lexre.proofs.CuttingLaws.{one_cutting}
-use Rattle.lexspec.specs.Items.{Conditions, unlisted, every, only, parts_at, before_sign, conditions_at, Trailing, pattern_after, sides, Subject, at_end, matching, IsPattern, IsSubject}
-use Rattle.lexspec_lines.proofs.OneSection.{no_true}
-use Rattle.lexspec.specs.SubjectViews.{parts}
+use Rattle.lexspec.specs.Items.{Conditions, unlisted, every, only, conditions_at, Trailing, no_trail, line_end, pattern_after, Subject, at_end, matching, IsPattern, IsSubject}
+use Rattle.lexspec_lines.proofs.OneSection.{no_true, some_pair}
+use Rattle.lexspec.specs.SubjectViews.{parts, sides}
+use Rattle.lexspec_lines.proofs.TextLaws.{Other, decide}
+use Rattle.lex_semantics.specs.Active.{lists}
+use Rattle.std.proofs.lemmas.List.{drop-drop}
 
 abbrev Split : Type 0
 Split = List ℕ × List ℕ
@@ -25,6 +28,12 @@ drop_one zero t = refl
 drop_one (suc n) [] = refl
 drop_one (suc n) (c ∷ t) = drop_one n t
 
+drop_more : (n : ℕ) (t : List ℕ) → drop n (drop 1 t) ≡ drop (n + 1) t
+drop_more n t = let same : 1 + n ≡ n + 1 = omega arith in drop-drop n 1 t ∙ ap (λ m. drop m t) same
+
+after_two : (n : ℕ) (t : List ℕ) → drop 1 (drop (n + 1) t) ≡ drop (n + 2) t
+after_two n t = let same : n + 1 + 1 ≡ n + 2 = omega arith in drop-drop 1 (n + 1) t ∙ ap (λ m. drop m t) same
+
 pub sides_slash : (t front u v w : List ℕ) (stop at count : ℕ) → front ≡ take at t → u ≡ drop at t → v ≡ drop 1 u → count ≡ stop - at - 1 → w ≡ take count v
     → ◌≡◌ {A = Option (List ℕ × Trailing)} (Some (front, pattern_after w)) (sides t stop (Some at) false)
 sides_slash t front u v w stop at count a b c d e =
@@ -32,33 +41,36 @@ sides_slash t front u v w stop at count a b c d e =
     e ∙ ap (λ n. take n v) (let same : count ≡ stop - suc at = omega arith in same) ∙ ap (take (stop - suc at)) (c ∙ ap (drop 1) b ∙ sym (drop_one at t)) in
     ap (λ z. Some (z, pattern_after w)) a ∙ ap (λ z. Some (take at t, pattern_after z)) some
 
--- the text before a sign, by what is split off before it
-abbrev signed : Split → Option Split
-signed (front, []) = None
-signed (front, c ∷ back) = Some (front, back)
+-- a list goes up to the sign that closes it, on its line
 
-abbrev with_byte : ℕ → Option Split → Option Split
-with_byte c o = o >>= λ (front, rest). Some (c ∷ front, rest)
+abbrev line_list : List ℕ → Split
+line_list u = split_before (λ c. c == 62) (line_in u).0
 
-signed_more : (c : ℕ) (s : Split) → with_byte c (signed s) ≡ signed (with_first c s)
-signed_more c (front, []) = refl
-signed_more c (front, d ∷ back) = refl
+abbrev sign_list : List ℕ → Split
+sign_list u = split_before (lists (codes ">\n")) u
 
-signs_split : (sign : ℕ) (t : List ℕ) → before_sign sign t ≡ signed (split_before (λ c. c == sign) t)
+abbrev IsListed : List ℕ → Type 0
+IsListed u = ((sign_list u).0 ≡ (line_list u).0) × (begins (codes ">") (sign_list u).1 ≡ not (is_empty (line_list u).1)) × ((sign_list u).1 ≡ drop (length (line_list u).0) u)
+
+list_listed : (u : List ℕ) → IsListed u
 unfolding take_up_to
-signs_split sign [] = refl
-signs_split sign (c ∷ t) = from (c == sign) (signs_split sign t)
+list_listed [] = (refl, refl, refl)
+list_listed (c ∷ t) = from (list_listed t) (decide 10 c) (decide 62 c)
   where
-    from : (b : Bool) → before_sign sign t ≡ signed (split_before (λ c. c == sign) t)
-        → (if b then Some ([], t) else with_byte c (before_sign sign t)) ≡ signed (choose (not b) (with_first c (split_before (λ c. c == sign) t)) ([], c ∷ t))
-    from true h = refl
-    from false h = ap (with_byte c) h ∙ signed_more c (split_before (λ c. c == sign) t)
+    from : IsListed t → (10 ≡ c) ⊎ Other 10 c → (62 ≡ c) ⊎ Other 62 c → IsListed (c ∷ t)
+    from h (inl e) k = subst (λ z. IsListed (z ∷ t)) e (refl, refl, refl)
+    from h (inr l) (inl e) = subst (λ z. IsListed (z ∷ t)) e (refl, refl, refl)
+    from h (inr l) (inr k) =
+        let lines : line_list (c ∷ t) ≡ with_first c (line_list t) = rw (l.1, k.1) refl in
+        let signs : sign_list (c ∷ t) ≡ with_first c (sign_list t) = rw (l.0, k.0) refl in (
+          ap (λ (s : Split). s.0) signs ∙ ap (λ z. c ∷ z) h.0 ∙ ap (λ (s : Split). s.0) (sym lines),
+          ap (λ (s : Split). begins (codes ">") s.1) signs ∙ h.1 ∙ ap (λ (s : Split). not (is_empty s.1)) (sym lines),
+          ap (λ (s : Split). s.1) signs ∙ h.2 ∙ ap (λ (s : Split). drop (length s.0) (c ∷ t)) (sym lines),
+        )
 
-abbrev listed_after : List ℕ → Option Split → Option (Conditions × List ℕ)
-listed_after t found = found >>= λ (inside, rest).
-    let after = drop (length inside + 2) t in
-    if is_word inside (codes "*") then Some (every, after)
-    else (let (first, others) = parts_at 44 inside in Some (only (first ∷ others), after))
+abbrev listed_after : List ℕ → Split → Option (Conditions × List ℕ)
+listed_after t (inside, []) = None
+listed_after t (inside, c ∷ closing) = Some (if is_word inside (codes "*") then every else only (parts inside), drop (length inside + 2) t)
 
 -- the text begins with a list, and this stands before its end, if it has one on its line
 pub record OpensList (t inside closing : List ℕ) : Type 0 where
@@ -69,13 +81,42 @@ pub record OpensList (t inside closing : List ℕ) : Type 0 where
   pub line : ◌≡◌ {A = Split} (line_in (drop 1 t)) (text, rest)
   pub split : ◌≡◌ {A = Split} (split_before (λ c. c == 62) text) (inside, closing)
 
-list_step : (t inside closing : List ℕ) → OpensList t inside closing → conditions_at t ≡ listed_after t (signed (inside, closing))
+abbrev asked_for : List ℕ → Bool → Bool → List ℕ → Bool → List ℕ → Option (Conditions × List ℕ)
+asked_for t no_eof opens inside closed rest =
+    if no_eof || not opens then Some (unlisted, t)
+    else if not closed then None
+    else Some (if is_word inside (codes "*") then every else only (parts inside), drop 1 rest)
+
+list_step : (t inside closing : List ℕ) → OpensList t inside closing → conditions_at t ≡ listed_after t (inside, closing)
 unfolding conditions_at
-list_step t inside closing h =
-    ap (λ b. if b || not (begins (codes "<") t) then Some (unlisted, t) else listed_after t (before_sign 62 (line_in (drop 1 t)).0)) h.no_eof
-    ∙ ap (λ b. if not b then Some (unlisted, t) else listed_after t (before_sign 62 (line_in (drop 1 t)).0)) h.opens
-    ∙ ap (λ (s : Split). listed_after t (before_sign 62 s.0)) h.line
-    ∙ ap (listed_after t) (signs_split 62 h.text ∙ ap signed h.split)
+list_step t inside closing h = whole ∙ by_closing closing
+  where
+    line : line_list (drop 1 t) ≡ (inside, closing)
+    line = ap (λ (s : Split). split_before (λ c. c == 62) s.0) h.line ∙ h.split
+
+    known : IsListed (drop 1 t)
+    known = list_listed (drop 1 t)
+
+    first : (sign_list (drop 1 t)).0 ≡ inside
+    first = known.0 ∙ ap (λ (s : Split). s.0) line
+
+    closed : begins (codes ">") (sign_list (drop 1 t)).1 ≡ not (is_empty closing)
+    closed = known.1 ∙ ap (λ (s : Split). not (is_empty s.1)) line
+
+    rest : (sign_list (drop 1 t)).1 ≡ drop (length inside + 1) t
+    rest = known.2 ∙ ap (λ (s : Split). drop (length s.0) (drop 1 t)) line ∙ drop_more (length inside) t
+
+    whole : conditions_at t ≡ asked_for t false true inside (not (is_empty closing)) (drop (length inside + 1) t)
+    whole =
+        ap (λ b. asked_for t b (begins (codes "<") t) (sign_list (drop 1 t)).0 (begins (codes ">") (sign_list (drop 1 t)).1) (sign_list (drop 1 t)).1) h.no_eof
+        ∙ ap (λ b. asked_for t false b (sign_list (drop 1 t)).0 (begins (codes ">") (sign_list (drop 1 t)).1) (sign_list (drop 1 t)).1) h.opens
+        ∙ ap (λ z. asked_for t false true z (begins (codes ">") (sign_list (drop 1 t)).1) (sign_list (drop 1 t)).1) first
+        ∙ ap (λ b. asked_for t false true inside b (sign_list (drop 1 t)).1) closed
+        ∙ ap (λ z. asked_for t false true inside (not (is_empty closing)) z) rest
+
+    by_closing : (closing : List ℕ) → asked_for t false true inside (not (is_empty closing)) (drop (length inside + 1) t) ≡ listed_after t (inside, closing)
+    by_closing [] = refl
+    by_closing (c ∷ closing) = ap (λ z. Some (if is_word inside (codes "*") then every else only (parts inside), z)) (after_two (length inside) t)
 
 pub list_open : (t inside closing : List ℕ) → OpensList t inside closing → length closing ≡ 0 → conditions_at t ≡ None
 list_open t inside [] h e = list_step t inside [] h
@@ -86,29 +127,57 @@ pub list_every : (t inside closing rest : List ℕ) → OpensList t inside closi
 list_every t inside [] rest h some e star = absurd (some refl)
 list_every t inside (c ∷ closing) rest h some e star =
     list_step t inside (c ∷ closing) h
-    ∙ ap (λ b. if b then Some (every, drop (length inside + 2) t) else Some (only (parts inside), drop (length inside + 2) t)) star ∙ ap (λ z. Some (every, z)) (sym e)
+    ∙ ap (λ b. Some (if b then every else only (parts inside), drop (length inside + 2) t)) star ∙ ap (λ z. Some (every, z)) (sym e)
 
 pub list_only : (t inside closing rest : List ℕ) → OpensList t inside closing → (length closing ≡ 0 → ⊥) → rest ≡ drop (length inside + 2) t → is_word inside (codes "*") ≡ false
     → conditions_at t ≡ Some (only (parts inside), rest)
 list_only t inside [] rest h some e off = absurd (some refl)
 list_only t inside (c ∷ closing) rest h some e off =
     list_step t inside (c ∷ closing) h
-    ∙ ap (λ b. if b then Some (every, drop (length inside + 2) t) else Some (only (parts inside), drop (length inside + 2) t)) off ∙ ap (λ z. Some (only (parts inside), z)) (sym e)
+    ∙ ap (λ b. Some (if b then every else only (parts inside), drop (length inside + 2) t)) off ∙ ap (λ z. Some (only (parts inside), z)) (sym e)
 
 -- where no pattern can be cut
+
+-- a pattern by its cutting, as the code finds its sides
+abbrev pub CutPattern : List ℕ → List ℕ → Trailing → List ℕ → Type 0
+CutPattern t head after rest =
+    (stop : ℕ) × (at : Option ℕ) × (special : Bool) × IsCutting t stop at false special × (sides t stop at special ≡ Some (head, after)) × (rest ≡ drop stop t)
+
+pub to_cut : (t head : List ℕ) (after : Trailing) (rest : List ℕ) → IsPattern t head after rest → CutPattern t head after rest
+to_cut t head no_trail rest (stop, cut, head_is, rest_is) = (stop, None, false, cut, ap (λ z. Some (z, no_trail)) (sym head_is), rest_is)
+to_cut t head line_end rest (stop, cut, head_is, rest_is) = (stop, None, true, cut, ap (λ z. Some (z, line_end)) (sym head_is), rest_is)
+to_cut t head (pattern_after text) rest (stop, at, cut, head_is, text_is, rest_is) =
+    (stop, Some at, false, cut, ap (λ z. Some (z, pattern_after (take (stop - suc at) (drop (suc at) t)))) (sym head_is) ∙ ap (λ z. Some (head, pattern_after z)) (sym text_is), rest_is)
+
+pub from_cut : (t head : List ℕ) (after : Trailing) (rest : List ℕ) → CutPattern t head after rest → IsPattern t head after rest
+from_cut t head after rest (stop, None, false, cut, sides_are, rest_is) =
+    let both = some_pair (take stop t) head no_trail after sides_are in
+    subst (λ a. IsPattern t head a rest) both.1 (stop, cut, sym both.0, rest_is)
+from_cut t head after rest (stop, None, true, cut, sides_are, rest_is) =
+    let both = some_pair (take (stop - 1) t) head line_end after sides_are in
+    subst (λ a. IsPattern t head a rest) both.1 (stop, cut, sym both.0, rest_is)
+from_cut t head after rest (stop, Some at, false, cut, sides_are, rest_is) =
+    let both = some_pair (take at t) head (pattern_after (take (stop - suc at) (drop (suc at) t))) after sides_are in
+    subst (λ a. IsPattern t head a rest) both.1 (stop, at, cut, sym both.0, refl, rest_is)
+from_cut t head after rest (stop, Some at, true, cut, sides_are, rest_is) = absurd (none sides_are)
+  where
+    none : ◌≡◌ {A = Option (List ℕ × Trailing)} None (Some (head, after)) → ⊥
+    none e = cc
 
 abbrev pub NoPattern : List ℕ → Type 0
 NoPattern t = (head : List ℕ) (after : Trailing) (rest : List ℕ) → IsPattern t head after rest → ⊥
 
 pub uncut : (t : List ℕ) → ((stop : ℕ) (at : Option ℕ) (two special : Bool) → IsCutting t stop at two special → ⊥) → NoPattern t
-uncut t none head after rest (stop, at, special, cut, sides_are, rest_is) = none stop at false special cut
+uncut t none head after rest p = let (stop, at, special, cut, sides_are, rest_is) = to_cut t head after rest p in none stop at false special cut
 
 pub cut_twice : (t : List ℕ) (stop : ℕ) (at : Option ℕ) (two special : Bool) → IsCutting t stop at two special → two ≡ true → NoPattern t
-cut_twice t stop at two special h both head after rest (stop', at', special', cut, sides_are, rest_is) =
+cut_twice t stop at two special h both head after rest p =
+    let (stop', at', special', cut, sides_are, rest_is) = to_cut t head after rest p in
     no_true (sym (one_cutting t stop stop' at at' two false special special' h cut).2 ∙ both)
 
 pub no_sides : (t : List ℕ) (stop : ℕ) (at : Option ℕ) (two special : Bool) → IsCutting t stop at two special → sides t stop at special ≡ None → NoPattern t
-no_sides t stop at two special h none head after rest (stop', at', special', cut, sides_are, rest_is) =
+no_sides t stop at two special h none head after rest p =
+    let (stop', at', special', cut, sides_are, rest_is) = to_cut t head after rest p in
     let same = one_cutting t stop stop' at at' two false special special' h cut in
     let one : sides t stop at special ≡ sides t stop' at' special' =
     ap (λ z. sides t z at special) same.0 ∙ ap (λ z. sides t stop' z special) same.1 ∙ ap (λ z. sides t stop' at' z) same.3 in

@@ -1,6 +1,7 @@
 -- `<<EOF>>` rules that name a condition in common. (flex, End-of-File Rules.)
-use Rattle.std.specs.Prelude.{ℕ, Bool, true, false, List, Option, Some, None, option_map}
+use Rattle.std.specs.Prelude.{ℕ, Bool, true, false, if◌then◌else◌, List, [], ◌∷◌, Option, Some, None, is_none, option_map}
 use Rattle.std.specs.List.{list_any}
+use Rattle.lex_semantics.specs.Spec.{EndAction}
 use Rattle.lexspec.specs.Files.{lists_number}
 use Rattle.lexspec.specs.RuleItems.{EndRule}
 use Rattle.lexspec.specs.declared.endings.EndRule.{EndRule as EndRuleKept}
@@ -18,3 +19,18 @@ clashes (Some cs) (Some ds) = list_any (λ d. lists_number (Some cs) d) ds
 
 abbrev pub any_clashes : List EndRule → Option (List ℕ) → Bool
 any_clashes ends numbers = list_any (λ (e : EndRule). clashes e.0 numbers) ends
+
+-- a rule without a list
+abbrev pub is_unlisted : EndRule → Bool
+is_unlisted e = is_none e.0
+
+-- The end of condition c, as the code looks for it: that of the first of some rules that lists it, else that of the
+-- first rule of all without a list.
+abbrev pub unlisted_end : List EndRule → EndAction
+unlisted_end [] = record { print = []; status = 0 }
+unlisted_end ((None, e) ∷ ends) = e
+unlisted_end ((Some cs, e) ∷ ends) = unlisted_end ends
+
+abbrev pub listed_end : List EndRule → List EndRule → ℕ → EndAction
+listed_end all [] c = unlisted_end all
+listed_end all (e ∷ ends) c = if lists_number e.0 c then e.1 else listed_end all ends c

@@ -1,57 +1,53 @@
 -- Which specification a file spells. (POSIX, lex, Input Files; flex, Format of the Input File. The bounds are this
 -- project's.)
-use Rattle.std.specs.Prelude.{◌≡◌, ℕ, suc, ◌+◌, ◌-◌, ◌≤◌, ◌<◌, Bool, true, false, if◌then◌else◌, List, [], ◌∷◌, map, length, count_by, Option, Some, None, codes}
+use Rattle.std.specs.Prelude.{◌≡◌, ℕ, suc, ◌+◌, ◌-◌, ◌≤◌, ◌<◌, Bool, true, List, [], ◌∷◌, map, find, length, count_by, Option, is_none, option_map, unwrap_or, codes}
+use Rattle.std.specs.List.{list_all}
+use Rattle.std.specs.Option.{option_or}
 use Rattle.std.specs.FinMap.{from_entries}
 use Rattle.lex_semantics.specs.Spec.{Spec, Condition, EndAction}
 use Rattle.lex_semantics.specs.Active.{lists}
-use Rattle.lex_semantics.specs.Reading.{begins}
+use Rattle.lex_semantics.specs.Reading.{IsCut, begins}
 use Rattle.lexspec_lines.specs.Lines.{without_returns, line_in, newlines}
-use Rattle.lexspec_lines.specs.DefinitionLines.{Definition, Declared, definition_at, IsUpTo, all_conditions, names_of, has_name, are_distinct, substitutes_of, all_options, are_known}
+use Rattle.lexspec_lines.specs.DefinitionLines.{Definition, Declared, definition_at, all_conditions, names_of, has_name, are_distinct, substitutes_of, all_options, known_options}
 use Rattle.lexspec.specs.Items.{Item, AreItems}
 use Rattle.lexspec.specs.RuleItems.{EndRule, AreRules}
 use Rattle.lex_semantics.specs.Limits.{max_conditions, max_file_bytes, max_rules}
 use Rattle.lexspec_lines.specs.Folding.{with_fold}
 pub use Rattle.lexre.specs.declared.options.ReadOptions.{ReadOptions}
 
--- no condition has two ends, and without a list there is one at most
+-- whether a condition stands in the list of an `<<EOF>>` rule
 abbrev pub lists_number : Option (List ℕ) → ℕ → Bool
-lists_number None c = false
-lists_number (Some cs) c = lists cs c
+lists_number asked c = lists (unwrap_or asked []) c
 
-abbrev pub is_unlisted : EndRule → Bool
-is_unlisted (None, e) = true
-is_unlisted (Some cs, e) = false
-
+-- no condition is listed by two `<<EOF>>` rules, and one of them at most has no list
 abbrev pub AreSingle : ℕ → List EndRule → Type 0
 AreSingle count ends =
-    ((c : ℕ) → c < count → count_by (λ (e : EndRule). lists_number e.0 c) ends ≤ 1) × (count_by is_unlisted ends ≤ 1)
+    ((c : ℕ) → c < count → count_by (λ (e : EndRule). lists_number e.0 c) ends ≤ 1) × (count_by (λ (e : EndRule). is_none e.0) ends ≤ 1)
 
--- the end of condition c: the one that lists it, else the one without a list, else nothing, with status 0
-abbrev pub unlisted_end : List EndRule → EndAction
-unlisted_end [] = record { print = []; status = 0 }
-unlisted_end ((None, e) ∷ ends) = e
-unlisted_end ((Some cs, e) ∷ ends) = unlisted_end ends
+-- the end of condition c: that of the rule that lists it, else that of the rule without a list, else nothing, with status 0
+abbrev pub end_in : List EndRule → ℕ → EndAction
+end_in ends c =
+    let listed = find (λ (e : EndRule). lists_number e.0 c) ends in
+    let unlisted = find (λ (e : EndRule). is_none e.0) ends in
+    unwrap_or (option_map (λ (e : EndRule). e.1) (option_or listed unlisted)) (record { print = []; status = 0 })
 
-abbrev pub end_in : List EndRule → List EndRule → ℕ → EndAction
-end_in all [] c = unlisted_end all
-end_in all (e ∷ ends) c = if lists_number e.0 c then e.1 else end_in all ends c
-
+-- the conditions with their ends; the first one has the number k
 abbrev pub conditions_with : ℕ → List Declared → List EndRule → List Condition
 conditions_with k [] ends = []
-conditions_with k (c ∷ cs) ends = record { name = c.name; exclusive = c.exclusive; end = end_in ends ends k } ∷ conditions_with (suc k) cs ends
+conditions_with k (c ∷ cs) ends = record { name = c.name; exclusive = c.exclusive; end = end_in ends k } ∷ conditions_with (suc k) cs ends
 
 -- The text is a file of this specification.
 pub record SpellsSpec (how : ReadOptions) (file : List ℕ) (S : Spec) : Type 0 where
   pub short : length file ≤ max_file_bytes
   pub definitions : List Definition
   pub after : List ℕ
-  pub first_section : IsUpTo definition_at (without_returns file) definitions after
+  pub first_section : IsCut definition_at (λ t. t ≡ after) (without_returns file) definitions
   pub separator : begins (codes "%%") after ≡ true
   pub items : List (ℕ × Item)
   pub second_section : AreItems (2 + newlines file - newlines after) (line_in after).1 items
   pub names : are_distinct (names_of (all_conditions definitions)) ≡ true
   pub defined_once : are_distinct (map (λ (d : List ℕ × List ℕ). d.0) (substitutes_of definitions)) ≡ true
-  pub options : are_known (all_options definitions) ≡ true
+  pub options : list_all (has_name known_options) (all_options definitions) ≡ true
   pub ends : List EndRule
   pub rules : AreRules (names_of (all_conditions definitions)) (with_fold how (has_name (all_options definitions) (codes "case-insensitive"))) (has_name (all_options definitions) (codes "stack")) (from_entries (substitutes_of definitions)) items S.rules ends
   pub one_end : AreSingle (length (all_conditions definitions)) ends

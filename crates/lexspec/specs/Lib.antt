@@ -6,6 +6,7 @@ pub mod Skipped
 pub mod RuleItems
 pub mod Files
 pub mod Fixed
+pub mod ActionSteps
 pub mod ActionViews
 pub mod SubjectViews
 pub mod SubjectFaults

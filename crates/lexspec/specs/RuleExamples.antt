@@ -1,6 +1,6 @@
 -- Worked examples of condition lists and actions, each with what it spells.
 use Rattle.std.specs.Prelude.{◌≡◌, ℕ, List, [], ◌∷◌, Option, Some, None, codes}
-use Rattle.lexspec.specs.Items.{Conditions, every, only, bar, outside, conditions_at, action_in, action_of}
+use Rattle.lexspec.specs.Items.{Conditions, every, only, bar, conditions_at, action_at, action_of}
 
 -- `<a,b>x` and `<*>x`
 abbrev pub ConditionLists : Type 0
@@ -11,6 +11,6 @@ ConditionLists =
 -- a brace in a comment counts for nothing; one that stays open has no action; a bar alone takes the next action
 abbrev pub Actions : Type 0
 Actions =
-    ◌≡◌ {A = Option (List ℕ × List ℕ)} (action_in outside 0 (codes "{ /* } */ ECHO; }")) (Some (codes "{ /* } */ ECHO; }", []))
-    × (action_in outside 0 (codes "{ ECHO;") ≡ None)
+    ◌≡◌ {A = Option (List ℕ × List ℕ)} (action_at (codes "{ /* } */ ECHO; }")) (Some (codes "{ /* } */ ECHO; }", []))
+    × (action_at (codes "{ ECHO;") ≡ None)
     × (action_of (codes "|  ") ≡ bar)

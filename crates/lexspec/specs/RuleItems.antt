@@ -1,7 +1,8 @@
 -- Which rules the items of the rules section spell.
 -- (POSIX, lex, Rules in lex and Actions in lex; flex, Patterns: trailing context, End-of-File Rules.)
-use Rattle.std.specs.Prelude.{◌≡◌, ℕ, Bool, true, false, ◌==◌, ◌&&◌, if◌then◌else◌, List, [], ◌∷◌, length, Option, Some, None, is_some}
-use Rattle.std.specs.List.{list_any}
+use Rattle.std.specs.Prelude.{◌≡◌, ℕ, Bool, true, false, if◌then◌else◌, List, [], ◌∷◌, slice_get, length, filter_map, Option, Some, None, is_some, IsSomeAnd}
+use Rattle.std.specs.List.{list_all}
+use Rattle.lex_semantics.specs.Active.{lists}
 use Rattle.lex_semantics.specs.Text.{listed}
 use Rattle.lex_semantics.specs.ByteSets.{single}
 use Rattle.lex_semantics.specs.Tree.{Tree, Set}
@@ -14,31 +15,18 @@ use Rattle.lexspec_actions.specs.Actions.{SpellsAction, SpellsEndAction}
 use Rattle.lexspec.specs.Items.{Conditions, unlisted, every, only, Trailing, no_trail, line_end, pattern_after, at_end, matching, Action, bar, spelled, Item, rule}
 use Rattle.lexre.specs.declared.options.ReadOptions.{ReadOptions}
 
--- whether every name of a list has a number, and whether a name there has the number c
-abbrev pub all_numbered : (List ℕ → Option ℕ) → List (List ℕ) → Bool
-all_numbered number [] = true
-all_numbered number (n ∷ ns) = is_some (number n) && all_numbered number ns
-
-abbrev pub is_number : Option ℕ → ℕ → Bool
-is_number None c = false
-is_number (Some k) c = k == c
-
 -- the numbers of a condition list among n conditions: none without a list
 abbrev pub numbers_of : (List ℕ → Option ℕ) → ℕ → Conditions → Option (Option (List ℕ))
 numbers_of number n unlisted = Some None
 numbers_of number n every = Some (Some (listed (λ c. true) 0 n))
 numbers_of number n (only names) =
-    if all_numbered number names then Some (Some (listed (λ c. list_any (λ name. is_number (number name) c) names) 0 n)) else None
+    if list_all (λ name. is_some (number name)) names then Some (Some (listed (lists (filter_map number names)) 0 n)) else None
 
--- the tree of a newline, which `$` stands for
-unfoldable pub newline : Tree
-newline = Set (single 10)
-
+-- the tree of a trailing context, where there is one; `$` stands for a newline
 abbrev pub IsTrail : ReadOptions → Definitions → Trailing → Option Tree → Type 0
 IsTrail how defined no_trail t = t ≡ None
-IsTrail how defined line_end t = t ≡ Some newline
-IsTrail how defined (pattern_after text) None = ⊥
-IsTrail how defined (pattern_after text) (Some t) = Spells how defined text t
+IsTrail how defined line_end t = t ≡ Some (Set (single 10))
+IsTrail how defined (pattern_after text) t = IsSomeAnd t (Spells how defined text)
 
 -- an `<<EOF>>` rule, by the numbers of its conditions and its action
 abbrev pub EndRule : Type 0
@@ -47,8 +35,7 @@ EndRule = Option (List ℕ) × EndAction
 -- the statements of an action: those that its text spells, or those of the next rule
 abbrev pub IsActionOf : Known → Action → List Rule → List Statement → Type 0
 IsActionOf known (spelled text) rules ss = SpellsAction known text ss
-IsActionOf known bar [] ss = ⊥
-IsActionOf known bar (r ∷ rules) ss = ss ≡ r.statements
+IsActionOf known bar rules ss = IsSomeAnd (slice_get rules 0) (λ r. ss ≡ r.statements)
 
 -- after a `|` the next rule is there, and is no `<<EOF>>` rule
 abbrev pub goes_to_rule : Action → List (ℕ × Item) → Bool
@@ -69,12 +56,6 @@ module _ (names : List (List ℕ)) (how : ReadOptions) (stack : Bool) (defined :
     pub trail_is : IsTrail how defined after r.trail
     pub cut_is : IsCutOf r.head r.trail r.cut
 
-  -- the rule of an item, where `rules` are those of the items after it
-  pub record IsRule (n : ℕ) (asked : Conditions) (anchored : Bool) (head : List ℕ) (after : Trailing) (action : Action) (is : List (ℕ × Item)) (rules : List Rule) (r : Rule) : Type 0 where
-    pub front : HasHead n asked anchored head after r
-    pub next : goes_to_rule action is ≡ true
-    pub statements_are : IsActionOf (known_in names stack) action rules r.statements
-
   -- the rules and the `<<EOF>>` rules of the items
   abbrev pub AreRules : List (ℕ × Item) → List Rule → List EndRule → Type 0
   AreRules [] rules ends = (rules ≡ []) × (ends ≡ [])
@@ -84,5 +65,6 @@ module _ (names : List (List ℕ)) (how : ReadOptions) (stack : Bool) (defined :
       × (ends ≡ (numbers, e) ∷ others) × AreRules is rules others
   AreRules ((n, rule asked at_end bar) ∷ is) rules ends = ⊥
   AreRules ((n, rule asked (matching anchored head after) action) ∷ is) rules ends =
-      (r : Rule) × (others : List Rule) × (rules ≡ r ∷ others) × IsRule n asked anchored head after action is others r × AreRules is others ends
+      (r : Rule) × (others : List Rule) × (rules ≡ r ∷ others) × (HasHead n asked anchored head after r × (goes_to_rule action is ≡ true)
+      × IsActionOf (known_in names stack) action others r.statements) × AreRules is others ends
   AreRules ((n, i) ∷ is) rules ends = AreRules is rules ends

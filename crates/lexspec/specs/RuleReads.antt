@@ -2,8 +2,9 @@
 use Rattle.std.specs.Prelude.{◌≡◌, ℕ, Bool, true, List, [], ◌∷◌, ◌++◌, map}
 use Rattle.lex_semantics.specs.Spec.{Statement, Rule}
 use Rattle.lexre.specs.Definitions.{Definitions}
-use Rattle.lexspec.specs.Items.{bar, Item, AreItems}
-use Rattle.lexspec.specs.RuleItems.{EndRule, goes_to_rule, AreRules}
+use Rattle.lexspec.specs.Items.{Conditions, Trailing, Action, bar, Item, AreItems}
+use Rattle.lexspec_actions.specs.Names.{known_in}
+use Rattle.lexspec.specs.RuleItems.{EndRule, IsActionOf, HasHead, goes_to_rule, AreRules}
 use Rattle.lexre.specs.declared.options.ReadOptions.{ReadOptions}
 
 -- the rule with these statements
@@ -17,6 +18,11 @@ first_statements (r ∷ rs) = r.statements
 -- the rules, with those before them that take the action of the first
 abbrev pub filled : List Rule → List Rule → List Rule
 filled waiting rs = map (acting (first_statements rs)) waiting ++ rs
+
+-- the rule of an item with a pattern, where `rules` are those of the items after it
+abbrev pub IsRule : List (List ℕ) → ReadOptions → Bool → Definitions → ℕ → Conditions → Bool → List ℕ → Trailing → Action → List (ℕ × Item) → List Rule → Rule → Type 0
+IsRule names how stack defined n asked anchored head after action is rules r =
+    HasHead names how stack defined n asked anchored head after r × (goes_to_rule action is ≡ true) × IsActionOf (known_in names stack) action rules r.statements
 
 -- where some rule waits, the next rule is there, and is no `<<EOF>>` rule
 abbrev pub may_wait : List Rule → List (ℕ × Item) → Bool

@@ -1,7 +1,8 @@
 -- What condition lists and patterns of the code stand for.
-use Rattle.std.specs.Prelude.{ℕ, List, ◌∷◌}
+use Rattle.std.specs.Prelude.{ℕ, suc, ◌-◌, Bool, true, false, List, take, drop, Option, Some, None, is_some, codes}
+use Rattle.std.specs.List.{list_all, slice_split}
+use Rattle.lex_semantics.specs.Active.{lists}
 use Rattle.lexspec.specs.Items as I
-use Rattle.lexspec.specs.Items.{parts_at}
 use Rattle.lexspec.specs.declared.subject.Conditions.{Conditions}
 use Rattle.lexspec.specs.declared.subject.Conditions.TheVariants.{Unlisted, Every, Only}
 use Rattle.lexspec.specs.declared.subject.Trailing.{Trailing}
@@ -11,7 +12,11 @@ use Rattle.lexspec.specs.declared.subject.Subject.TheVariants.{AtEnd, Matching}
 
 -- the names between commas
 abbrev pub parts : List ℕ → List (List ℕ)
-parts t = let (first, others) = parts_at 44 t in first ∷ others
+parts t = slice_split (lists (codes ",")) t
+
+-- whether every name of a list has a number
+abbrev pub all_numbered : (List ℕ → Option ℕ) → List (List ℕ) → Bool
+all_numbered number names = list_all (λ name. is_some (number name)) names
 
 abbrev pub conditions_of : Conditions → I.Conditions
 conditions_of Unlisted = I.unlisted
@@ -26,3 +31,10 @@ trailing_of (T.Pattern text) = I.pattern_after text.now
 abbrev pub subject_of : Subject → I.Subject
 subject_of AtEnd = I.at_end
 subject_of (Matching anchored head trail) = I.matching anchored head.now (trailing_of trail)
+
+-- the head and the trailing context of a pattern's text, by its end, its first slash and whether it ends with `$`
+abbrev pub sides : List ℕ → ℕ → Option ℕ → Bool → Option (List ℕ × I.Trailing)
+sides t stop None false = Some (take stop t, I.no_trail)
+sides t stop None true = Some (take (stop - 1) t, I.line_end)
+sides t stop (Some at) false = Some (take at t, I.pattern_after (take (stop - suc at) (drop (suc at) t)))
+sides t stop (Some at) true = None

@@ -7,7 +7,6 @@ use Rattle.lex_semantics.specs.Spec.{Spec, Rule, Condition, EndAction, Cut, Whol
 use Rattle.lex_semantics.specs.Legal.{all_in_range, ends_last, are_joined, are_compatible}
 use Rattle.lexre.specs.Lengths.{least, greatest}
 use Rattle.lexspec_actions.specs.Actions.{are_few}
-use Rattle.lexspec.specs.RuleItems.{is_number}
 use Rattle.lex_semantics.specs.Limits.{max_conditions, max_literal_bytes, max_status, max_rules, max_fixed_length}
 
 -- some number below n passes
@@ -39,6 +38,11 @@ abbrev mutual
 abbrev pub sound_trail : Option Tree → Bool
 sound_trail None = true
 sound_trail (Some t) = sound_tree t
+
+-- there is a number, and it is this one
+abbrev pub is_number : Option ℕ → ℕ → Bool
+is_number None n = false
+is_number (Some k) n = k == n
 
 -- each word has n bytes
 abbrev pub has_length : Tree → ℕ → Bool

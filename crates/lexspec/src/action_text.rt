@@ -4,7 +4,8 @@ ghost use Rattle.std.specs.Prelude.{List, [], Option, Some, None, option_map, dr
 ghost use Rattle.lex_semantics.specs.Reading.{begins};
 ghost use Rattle.lexspec_lines.specs.Lines.{is_all_blank};
 ghost use Rattle.lexspec_actions.specs.Comments.{slash};
-ghost use Rattle.lexspec.specs.Items.{action_in, code, outside};
+ghost use Rattle.lexspec.specs.ActionSteps.{action_in, code, outside};
+ghost use Rattle.lexspec.specs.Items.{action_at};
 ghost use Rattle.lexspec.specs.ActionViews.{place_of, IsStep, MostOpen};
 
 use lexre_bytes::skip_first;
@@ -140,7 +141,7 @@ impl ActionState {
 /// The text of an action, up to the first newline outside strings, comments and braces or to the end of the text, and
 /// what follows that newline. None where a string, a comment or a brace is left open.
 pub(crate) fn split_action(text: &[u8]) -> Option<(&[u8], &[u8])>
-    ensures { option_map (λ x. (x.0.now, x.1.now)) result ≡ action_in outside 0 text.now }
+    ensures { option_map (λ x. (x.0.now, x.1.now)) result ≡ action_at text.now }
 {
     let mut progress = ActionState {
         place: Place::Outside,

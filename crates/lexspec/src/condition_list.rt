@@ -1,11 +1,11 @@
 //! The conditions of a rule, by number. (POSIX, lex, Rules in lex; flex, Start Conditions.)
 ghost use Rattle.std.specs.Prelude.{◌≡◌, ◌≤◌, ◌<◌, ℕ, List, Bool, true, false, Option, Some, None};
-ghost use Rattle.std.specs.Prelude.{option_map, length, slice_index_or, IfOk, IfErr, IfSome, IfNone};
-ghost use Rattle.std.specs.List.{list_any};
+ghost use Rattle.std.specs.Prelude.{option_map, filter_map, length, slice_index_or, IfOk, IfErr, IfSome, IfNone};
+ghost use Rattle.lex_semantics.specs.Active.{lists};
 ghost use Rattle.lexspec_actions.specs.Names.{number_from, names_of};
-ghost use Rattle.lexspec.specs.RuleItems.{all_numbered, is_number, numbers_of};
+ghost use Rattle.lexspec.specs.RuleItems.{numbers_of};
 ghost use Rattle.lex_semantics.specs.Text.{listed};
-ghost use Rattle.lexspec.specs.SubjectViews.{conditions_of, parts};
+ghost use Rattle.lexspec.specs.SubjectViews.{all_numbered, conditions_of, parts};
 ghost use Rattle.lexspec_lines.specs.Outcome.{UnlessMemory};
 ghost use Rattle.lex_semantics.specs.Limits.{max_conditions};
 
@@ -22,8 +22,8 @@ fn listed(conditions: &[Condition], names: &[u8]) -> Option<[bool; MAX_CONDITION
     ensures numbered { IfSome result
         (λ _. all_numbered (number_from 0 (names_of conditions.now)) (parts names.now) ≡ true) }
     ensures listed { IfSome result (λ flags. (c : ℕ) → c < max_conditions
-        → slice_index_or flags c false ≡ list_any
-        (λ name. is_number (number_from 0 (names_of conditions.now) name) c) (parts names.now)) }
+        → slice_index_or flags c false ≡ lists
+        (filter_map (number_from 0 (names_of conditions.now)) (parts names.now)) c) }
     ensures none { IfNone result (all_numbered (number_from 0 (names_of conditions.now)) (parts names.now) ≡ false) }
 {
     let mut flags = [false; MAX_CONDITIONS];

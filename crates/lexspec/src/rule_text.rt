@@ -6,7 +6,7 @@ ghost use Rattle.lex_semantics.specs.Shapes.{IsSoundTree};
 ghost use Rattle.lexre.specs.Views.{tree_of};
 ghost use Rattle.lexre.specs.Spelling.{Spells};
 ghost use Rattle.lex_semantics.specs.Reading.{after_blanks};
-ghost use Rattle.lexspec.specs.Items.{starts_rule, action_in, outside};
+ghost use Rattle.lexspec.specs.Items.{starts_rule, action_at};
 ghost use Rattle.lex_semantics.specs.Sound.{IsCutOf};
 ghost use Rattle.lexspec.specs.RuleItems.{IsTrail};
 ghost use Rattle.lexspec.specs.RuleViews.{cut_of};
@@ -205,9 +205,9 @@ pub(crate) fn read_rule_text<'a>(
 fn with_action(front: Front, after: &[u8]) -> Result<RuleText<'_>, SpecErrorKind>
     ensures front { IfOk result (λ x. x.front ≡ front) }
     ensures action { IfOk result (λ x. ◌≡◌ {A = Option (List ℕ
-        × List ℕ)} (action_in outside 0 (after_blanks after.now)) (Some (x.action.now, x.rest.now))) }
+        × List ℕ)} (action_at (after_blanks after.now)) (Some (x.action.now, x.rest.now))) }
     ensures none { OnErr result (◌≡◌ {A = Option (List ℕ
-        × List ℕ)} (action_in outside 0 (after_blanks after.now)) None) }
+        × List ℕ)} (action_at (after_blanks after.now)) None) }
     ensures fault { IfErr result (λ e. e ≡ Unclosed) }
 {
     match split_action(skip_blanks(after)) {

@@ -2,10 +2,12 @@
 //! Patterns, Start Conditions, End-of-File Rules.)
 ghost use Rattle.std.specs.Prelude.{◌≡◌, ◌+◌, ◌<◌, ◌^◌, ℕ, List, false, Option, Some, None};
 ghost use Rattle.std.specs.Prelude.{option_map, take, drop, IfOk, IfErr, OnErr};
+ghost use Rattle.std.specs.List.{list_all};
+ghost use Rattle.lex_semantics.specs.Reading.{is_white};
 ghost use Rattle.lexspec.specs.Items.{Conditions as AskedFor, Subject as SubjectMeant, Trailing as TrailMeant};
-ghost use Rattle.lexspec.specs.Items.{conditions_at, sides, ends_subject, IsPattern, IsSubject};
+ghost use Rattle.lexspec.specs.Items.{conditions_at, IsPattern, IsSubject};
 ghost use Rattle.lexspec.specs.SubjectFaults.{IsSubjectFault};
-ghost use Rattle.lexspec.specs.SubjectViews.{conditions_of, trailing_of, subject_of};
+ghost use Rattle.lexspec.specs.SubjectViews.{conditions_of, trailing_of, subject_of, sides};
 
 use lexre::{Cutting, PatternError, cut_pattern};
 use lexre_bytes::skip_first;
@@ -131,7 +133,7 @@ fn pattern_at(text: &[u8], at: usize) -> Result<((&[u8], Trailing<'_>), &[u8]), 
 
 /// Whether the text begins with a blank or a newline, or has nothing.
 fn ends_subject(text: &[u8]) -> bool
-    ensures { result ≡ ends_subject text.now }
+    ensures { result ≡ list_all is_white (take 1 text.now) }
 {
     match text.split_first() {
         Some((first, _)) => is_blank(*first) || *first == b'\n',

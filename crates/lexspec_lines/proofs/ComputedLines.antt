@@ -2,7 +2,7 @@
 use Rattle.std.proofs.Common.{refl}
 use Rattle.lex_semantics.specs.ByteSets.{is_alpha, is_upper, is_lower, is_alnum, is_blank, is_digit}
 use Rattle.lex_semantics.specs.Reading.{take_up_to}
-use Rattle.lexspec_lines.specs.Lines.{words_in, after_block}
+use Rattle.lexspec_lines.specs.Lines.{after_block}
 use Rattle.lexspec_lines.specs.DefinitionLines.{definition_at, definition_in, percent_line}
 use Rattle.lexspec_lines.specs.LineExamples.{ReturnsDropped, BlanksTrimmed, DollarAnchors, Declares, Defines, NoDefinitions, Block}
 
@@ -17,7 +17,7 @@ pub dollar_anchors : DollarAnchors
 dollar_anchors = (refl, refl)
 
 pub conditions_declared : Declares
-unfolding definition_at percent_line words_in take_up_to is_alpha is_upper is_lower is_alnum is_blank is_digit
+unfolding definition_at percent_line take_up_to is_alpha is_upper is_lower is_alnum is_blank is_digit
 conditions_declared = refl
 
 pub name_defined : Defines

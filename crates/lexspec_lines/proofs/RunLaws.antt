@@ -1,11 +1,12 @@
 -- Runs of bytes: lines, blanks and words.
-use Rattle.std.proofs.Common.{◌≡◌, ℕ, zero, suc, ◌-◌, ◌<◌, ◌≤◌, ◌==◌, Bool, true, false, not, if◌then◌else◌, List, [], ◌∷◌, length, get_or, take, drop, refl, sym, ap, subst, ◌∙◌, arith}
-use Rattle.std.specs.Prelude.{Option, Some, None, unwrap_or}
+use Rattle.std.proofs.Common.{◌≡◌, ℕ, zero, suc, ◌<◌, ◌≤◌, ◌==◌, Bool, true, false, not, if◌then◌else◌, cond, List, [], ◌∷◌, length, get_or, take, drop, refl, sym, ap, subst, ◌∙◌, arith}
+use Rattle.std.specs.Prelude.{Option, Some, None, unwrap_or, filter}
+use Rattle.std.specs.List.{slice_split, onto_first}
 use Rattle.bstr.specs.Find.{IsFirstByte, is_byte}
-use Rattle.lex_semantics.specs.Reading.{take_up_to, take_run, after_blanks}
+use Rattle.lex_semantics.specs.Reading.{take_up_to, take_run, is_empty, after_blanks}
 use Rattle.lex_semantics.specs.ByteSets.{is_blank}
 use Rattle.lexre_bytes.proofs.QuoteLaws.{take_up_to_within}
-use Rattle.lexspec_lines.specs.Lines.{line_in, blanks, before_blank, words_in, words}
+use Rattle.lexspec_lines.specs.Lines.{line_in, blanks, before_blank, words}
 use Rattle.lexspec_lines.specs.Runs.{split_before}
 
 abbrev Split : Type 0
@@ -107,40 +108,60 @@ unfolding take_up_to
 word_shorter c u h =
     subst (λ b. length (choose (not b) (with_first c (before_blank u)) ([], c ∷ u)).1 ≤ length u) (sym h) (take_up_to_within (length u) (λ d. not (is_blank d)) u)
 
-words_step : (n : ℕ) (t u : List ℕ) (c : ℕ) → after_blanks t ≡ c ∷ u → words_in (suc n) t ≡ (before_blank (c ∷ u)).0 ∷ words_in n (before_blank (c ∷ u)).1
-unfolding words_in
-words_step n t u c e = rw (e, words_in) refl
+-- the words of a text are what stands before its first blank, and the words behind
 
-words_stop : (n : ℕ) (t : List ℕ) → after_blanks t ≡ [] → words_in n t ≡ []
-unfolding words_in
-words_stop zero t e = refl
-words_stop (suc n) t e = rw (e, words_in) refl
+abbrev IsWords : List ℕ → Type 0
+IsWords t = (behind : List (List ℕ)) × (slice_split is_blank t ≡ (before_blank t).0 ∷ behind) × (filter (λ word. not (is_empty word)) behind ≡ words (before_blank t).1)
 
--- the bound says nothing of the words
-words_same : (m n : ℕ) (t after : List ℕ) → after_blanks t ≡ after → length t ≤ m → length t ≤ n → words_in m t ≡ words_in n t
-words_same m n t [] e h k = words_stop m t e ∙ sym (words_stop n t e)
-words_same zero n t (c ∷ u) e h k = absurd (omega (arith, blanks_shorter t, ap length e))
-words_same (suc m) zero t (c ∷ u) e h k = absurd (omega (arith, blanks_shorter t, ap length e))
-words_same (suc m) (suc n) t (c ∷ u) e h k =
-    let short : length (before_blank (c ∷ u)).1 ≤ length u = word_shorter c u (no_blank_first t u c e) in
-    let long : suc (length u) ≤ length t = omega (arith, blanks_shorter t, ap length e) in
-    words_step m t u c e
-    ∙ ap (λ ws. (before_blank (c ∷ u)).0 ∷ ws) (words_same m n (before_blank (c ∷ u)).1 (after_blanks (before_blank (c ∷ u)).1) refl (omega arith) (omega arith))
-    ∙ sym (words_step n t u c e)
+words_cut : (t : List ℕ) → IsWords t
+unfolding take_up_to
+words_cut [] = ([], refl, refl)
+words_cut (c ∷ t) = from (is_blank c) refl (words_cut t)
+  where
+    from : (b : Bool) → is_blank c ≡ b → IsWords t → IsWords (c ∷ t)
+    from true h later = (
+      slice_split is_blank t,
+      ap (λ z. cond z ([] ∷ slice_split is_blank t) (onto_first c (slice_split is_blank t))) h
+          ∙ ap (λ z. (choose (not z) (with_first c (before_blank t)) ([], c ∷ t)).0 ∷ slice_split is_blank t) (sym h),
+      ap (λ z. filter (λ word. not (is_empty word)) (cond z ([] ∷ slice_split is_blank t) (onto_first c (slice_split is_blank t)))) (sym h)
+          ∙ ap (λ z. words (choose (not z) (with_first c (before_blank t)) ([], c ∷ t)).1) (sym h),
+    )
+    from false h (behind, split, same) = (
+      behind,
+      ap (λ z. cond z ([] ∷ slice_split is_blank t) (onto_first c (slice_split is_blank t))) h ∙ ap (onto_first c) split
+          ∙ ap (λ z. (choose (not z) (with_first c (before_blank t)) ([], c ∷ t)).0 ∷ behind) (sym h),
+      same ∙ ap (λ z. words (choose (not z) (with_first c (before_blank t)) ([], c ∷ t)).1) (sym h),
+    )
+
+-- blanks at the front count for nothing
+words_after : (t : List ℕ) → words t ≡ words (after_blanks t)
+unfolding take_up_to
+words_after [] = refl
+words_after (c ∷ t) = from (is_blank c) refl (words_after t)
+  where
+    from : (b : Bool) → is_blank c ≡ b → words t ≡ words (after_blanks t) → words (c ∷ t) ≡ words (after_blanks (c ∷ t))
+    from true h later =
+        ap (λ z. filter (λ word. not (is_empty word)) (cond z ([] ∷ slice_split is_blank t) (onto_first c (slice_split is_blank t)))) h ∙ later
+        ∙ ap (λ z. words (choose z (with_first c (blanks t)) ([], c ∷ t)).1) (sym h)
+    from false h later = ap (λ z. words (choose z (with_first c (blanks t)) ([], c ∷ t)).1) (sym h)
 
 pub no_word : (t after : List ℕ) → after ≡ after_blanks t → length after ≡ 0 → words t ≡ []
-no_word t [] e h = words_stop (length t) t (sym e)
+no_word t [] e h = words_after t ∙ ap words (sym e)
 no_word t (c ∷ u) e h = absurd (omega arith)
+
+first_word : (c : ℕ) (u a b : List ℕ) → is_blank c ≡ false → ◌≡◌ {A = Split} (before_blank (c ∷ u)) (a, b) → words (c ∷ u) ≡ a ∷ words b
+unfolding take_up_to
+first_word c u a b h k =
+    let (behind, split, same) = words_cut u in
+    ap (λ z. filter (λ word. not (is_empty word)) (cond z ([] ∷ slice_split is_blank u) (onto_first c (slice_split is_blank u)))) h
+    ∙ ap (λ z. filter (λ word. not (is_empty word)) (onto_first c z)) split
+    ∙ ap (λ z. (c ∷ (before_blank u).0) ∷ z) same
+    ∙ ap (λ z. (choose (not z) (with_first c (before_blank u)) ([], c ∷ u)).0 ∷ words (choose (not z) (with_first c (before_blank u)) ([], c ∷ u)).1) (sym h)
+    ∙ ap (λ (s : Split). s.0 ∷ words s.1) k
 
 pub one_word : (t after a b : List ℕ) → after ≡ after_blanks t → (length after ≡ 0 → ⊥) → ◌≡◌ {A = Split} (before_blank after) (a, b) → words t ≡ a ∷ words b
 one_word t [] a b e h k = absurd (h refl)
-one_word t (c ∷ u) a b e h k =
-    let short : length (before_blank (c ∷ u)).1 ≤ length u = word_shorter c u (no_blank_first t u c (sym e)) in
-    let long : suc (length u) ≤ length t = omega (arith, blanks_shorter t, ap length (sym e)) in
-    let one : suc (length t - 1) ≡ length t = omega arith in
-    ap (λ n. words_in n t) (sym one) ∙ words_step (length t - 1) t u c (sym e)
-    ∙ ap (λ ws. (before_blank (c ∷ u)).0 ∷ ws) (words_same (length t - 1) (length (before_blank (c ∷ u)).1) (before_blank (c ∷ u)).1 (after_blanks (before_blank (c ∷ u)).1) refl (omega arith) (omega arith))
-    ∙ ap (λ (s : Split). s.0 ∷ words s.1) k
+one_word t (c ∷ u) a b e h k = words_after t ∙ ap words (sym e) ∙ first_word c u a b (no_blank_first t u c (sym e)) k
 
 pub word_goes : (t after a b : List ℕ) → after ≡ after_blanks t → (length after ≡ 0 → ⊥) → ◌≡◌ {A = Split} (before_blank after) (a, b) → length b < length t
 word_goes t [] a b e h k = absurd (h refl)

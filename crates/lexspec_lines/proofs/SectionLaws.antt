@@ -1,12 +1,12 @@
 -- The definitions section, line by line.
-use Rattle.std.proofs.Common.{◌≡◌, ℕ, zero, suc, ◌+◌, ◌-◌, ◌==◌, ◌&&◌, Bool, true, false, cond, if◌then◌else◌, List, [], ◌∷◌, ◌++◌, map, length, take, drop, Option, Some, None, refl, sym, ap, subst, ◌∙◌, arith, append_assoc, length-append}
+use Rattle.std.proofs.Common.{◌≡◌, ℕ, zero, suc, ◌+◌, ◌-◌, ◌==◌, Bool, true, false, cond, if◌then◌else◌, List, [], ◌∷◌, ◌++◌, map, length, take, drop, Option, Some, None, refl, sym, ap, subst, ◌∙◌, arith, append_assoc, length-append}
 use Rattle.std.specs.Prelude.{codes}
 use Rattle.std.specs.List.{list_any}
 use Rattle.std.proofs.Math.Seq.{take-append_seam}
 use Rattle.std.proofs.lemmas.List.Sums.{sum_by-append}
 use Rattle.lex_semantics.specs.Reading.{◌>>=◌, Reader, begins}
 use Rattle.lex_semantics.specs.ByteSets.{is_blank}
-use Rattle.lexspec_lines.specs.Lines.{line_in, after_block, after_comment, newlines, is_all_blank}
+use Rattle.lexspec_lines.specs.Lines.{line_in, after_block, after_star, after_comment, newlines, is_all_blank}
 use Rattle.lexspec_lines.specs.DefinitionLines.{Definition, nothing, code_line, code_block, definition_in, percent_line, definition_at, IsUpTo}
 use Rattle.lexspec_lines.specs.Declaring.{declared_of, AreGood, AreAllowed, Declares}
 use Rattle.lexspec_lines.specs.declared.declarations.Declarations.{Declarations}
@@ -131,17 +131,20 @@ after_block_ends (suc n) (c ∷ t) =
 longer : (c : ℕ) (t rest : List ℕ) → EndsWith t rest → EndsWith (c ∷ t) rest
 longer c t rest h = (c ∷ h.0, ap (λ z. c ∷ z) h.1)
 
-after_comment_ends : (t : List ℕ) → Each (after_comment t) (EndsWith t)
-after_comment_ends [] = each_none (EndsWith [])
-after_comment_ends (c ∷ []) = each_none (EndsWith (c ∷ []))
-after_comment_ends (c ∷ d ∷ t) =
-    each_if (EndsWith (c ∷ d ∷ t)) (c == 42 && d == 47) (Some (line_in t).1) (after_comment (d ∷ t)) (each_some (EndsWith (c ∷ d ∷ t)) (line_in t).1 (longer c (d ∷ t) (line_in t).1 (longer d t (line_in t).1 (after_line t))))
-    (λ rest e. longer c (d ∷ t) rest (after_comment_ends (d ∷ t) rest e))
-
 pub dropped : (n : ℕ) (t : List ℕ) → EndsWith t (drop n t)
 dropped zero t = ([], refl)
 dropped (suc n) [] = ([], refl)
 dropped (suc n) (c ∷ t) = longer c t (drop n t) (dropped n t)
+
+after_star_ends : (t : List ℕ) → Each (after_star t) (EndsWith t)
+after_star_ends [] = each_none (EndsWith [])
+after_star_ends (c ∷ t) =
+    each_if (EndsWith (c ∷ t)) (begins (codes "*/") (c ∷ t)) (Some (drop 1 t)) (after_star t) (each_some (EndsWith (c ∷ t)) (drop 1 t) (longer c t (drop 1 t) (dropped 1 t)))
+    (λ rest e. longer c t rest (after_star_ends t rest e))
+
+after_comment_ends : (t : List ℕ) → Each (after_comment t) (EndsWith t)
+after_comment_ends t =
+    each_bind (EndsWith t) (EndsWith t) (after_star t) _ (after_star_ends t) (λ rest h. each_some (EndsWith t) (line_in rest).1 (ends_on t rest (line_in rest).1 h (after_line rest)))
 
 -- a line with what belongs to it is the front of the text
 pub definition_ends : (t : List ℕ) → Each (definition_at t) (λ x. EndsWith t x.1)

@@ -11,7 +11,8 @@ use Rattle.std.proofs.lemmas.List.{map-append, append_assoc}
 use Rattle.lex_semantics.specs.ByteSets.{is_word}
 use Rattle.lexre.specs.Definitions.{Definitions}
 use Rattle.lexre.specs.declared.options.ReadOptions.{ReadOptions}
-use Rattle.lexspec_lines.specs.DefinitionLines.{Definition, nothing, code_line, code_block, declares, options, ignored, defines, Declared, declared, all_conditions, has_name, are_distinct, substitutes_of, all_options, known_options, are_known}
+use Rattle.lexspec_lines.specs.DefinitionLines.{Definition, nothing, code_line, code_block, declares, options, ignored, defines, Declared, declared, all_conditions, has_name, are_distinct, substitutes_of, all_options, known_options}
+use Rattle.lexspec_lines.specs.DefinitionViews.{are_known}
 use Rattle.lexspec_lines.specs.Declaring.{declared_of, with_kind, AreGood, AreAllowed, Declares}
 use Rattle.lexspec_lines.specs.Folding.{with_fold}
 use Rattle.lexspec_lines.specs.declared.declarations.Declarations.{Declarations}

@@ -1,11 +1,17 @@
 -- The ends of substitutes.
-use Rattle.std.proofs.Common.{◌≡◌, ℕ, zero, suc, ◌-◌, ◌<◌, ◌≤◌, ◌==◌, ◌&&◌, ◌||◌, Bool, true, false, not, if◌then◌else◌, List, [], ◌∷◌, length, get_or, take, refl, ap, subst, ◌∙◌, arith}
-use Rattle.std.proofs.lemmas.Bool.{ne_eqb, eq-eqb}
-use Rattle.lex_semantics.specs.Reading.{is_empty, take_up_to}
+use Rattle.std.proofs.Common.{◌≡◌, ℕ, zero, suc, ◌-◌, ◌<◌, ◌≤◌, ◌==◌, ◌&&◌, ◌||◌, Bool, true, false, not, if◌then◌else◌, List, [], ◌∷◌, length, get_or, take, drop, Option, Some, None, ◌⊎◌, inl, inr, codes, refl, sym, ap, subst, ◌∙◌, arith}
+use Rattle.std.specs.Prelude.{nat_eq}
+use Rattle.std.proofs.lemmas.Bool.{ne_eqb, eq-eqb, eqb-true, eqb-false, cases_lt}
+use Rattle.lex_semantics.specs.Reading.{is_empty, take_run, after_run, take_up_to}
 use Rattle.lex_semantics.specs.ByteSets.{is_blank}
-use Rattle.std.specs.List.{list_any}
+use Rattle.std.specs.List.{list_any, list_all, ends_with, suffix_len}
 use Rattle.lexspec_lines.specs.Lines.{blanks, is_all_blank}
-use Rattle.lexspec_lines.specs.DefinitionLines.{trimmed, ends_anchored}
+use Rattle.lexspec_lines.specs.DefinitionLines.{trimmed}
+use Rattle.lexspec_lines.specs.DefinitionViews.{ends_anchored}
+use Rattle.lexspec_lines.specs.Lines.{line_in, after_comment}
+use Rattle.std.proofs.lemmas.List.{length-take-le, take_all}
+use Rattle.std.proofs.lemmas.List.Sums.{suffix_len_is}
+use lib.Pointwise.{pointwise}
 
 abbrev Split : Type 0
 Split = List ℕ × List ℕ
@@ -57,59 +63,55 @@ later c t (suc i) h s = record {
 }
 later c t zero h s = absurd (omega arith)
 
-trim_none : (t : List ℕ) → IsTrimmedAt t 0 → trimmed t ≡ []
-trim_none [] s = refl
-trim_none (c ∷ []) s = rw (s.blank 0 (omega arith) (omega arith)) refl
-trim_none (c ∷ d ∷ t) s = rw (all_blank (c ∷ d ∷ t) (λ k h. s.blank k (omega arith) h)) refl
+and_true : (b : Bool) → (b && true) ≡ b
+and_true true = refl
+and_true false = refl
 
-abbrev trim_step : ℕ → ℕ → List ℕ → Bool → Bool → List ℕ
-trim_step c d t all rest = if all then [] else (if c == 92 && rest then c ∷ d ∷ [] else c ∷ trimmed (d ∷ t))
+-- a byte in front changes no end
+ends_more : (c : ℕ) (xs w : List ℕ) → length w ≤ length xs → ends_with nat_eq (c ∷ xs) w ≡ ends_with nat_eq xs w
+ends_more c xs w h = let same : length (c ∷ xs) - length w ≡ suc (length xs - length w) = omega arith in ap (λ n. pointwise nat_eq w (drop n (c ∷ xs))) same
 
-step_is : (c d : ℕ) (t : List ℕ) (all rest : Bool) → is_all_blank (c ∷ d ∷ t) ≡ all → is_all_blank (d ∷ t) ≡ rest → trimmed (c ∷ d ∷ t) ≡ trim_step c d t all rest
-step_is c d t all rest h k = ap (λ z. trim_step c d t z (is_all_blank (d ∷ t))) h ∙ ap (trim_step c d t all) k
+last_sign : (t : List ℕ) (i : ℕ) → i < length t → ends_with nat_eq (take (suc i) t) (92 ∷ []) ≡ nat_eq 92 (get_or t i 0)
+last_sign [] i h = absurd (omega arith)
+last_sign (c ∷ t) zero h = and_true (nat_eq 92 c)
+last_sign (c ∷ t) (suc j) h = ends_more c (take (suc j) t) (92 ∷ []) (omega (arith, length-take-le (suc j) t (omega arith))) ∙ last_sign t j (omega arith)
 
-no_and : (b : Bool) → (b && false) ≡ false
-no_and true = refl
-no_and false = refl
+-- the text without the blanks at its end
+kept_text : (t : List ℕ) (stop : ℕ) → IsTrimmedAt t stop → length t - suffix_len is_blank t ≡ stop
+kept_text t stop s = let w = s.within in omega (arith, suffix_len_is is_blank t stop 0 s.within s.blank (λ h. s.sign (stop - 1) (omega arith)))
+
+abbrev trim_at : List ℕ → List ℕ → Bool → List ℕ
+trim_at t kept ends = if ends then take (suc (length kept)) t else kept
+
+trimmed_at : (t : List ℕ) (stop : ℕ) → IsTrimmedAt t stop → trimmed t ≡ trim_at t (take stop t) (ends_with nat_eq (take stop t) (92 ∷ []))
+trimmed_at t stop s = ap (λ n. trim_at t (take n t) (ends_with nat_eq (take n t) (92 ∷ []))) (kept_text t stop s)
 
 -- all up to there is kept, but for a backslash there
 pub trim_plain : (t : List ℕ) (stop : ℕ) → IsTrimmedAt t stop → ((i : ℕ) → stop ≡ suc i → stop < length t → get_or t i 0 ≡ 92 → ⊥) → trimmed t ≡ take stop t
-trim_plain t zero s off = trim_none t s
-trim_plain [] (suc i) s off = absurd (let w = s.within in omega arith)
-trim_plain (c ∷ []) (suc zero) s off = rw (s.sign 0 refl) refl
-trim_plain (c ∷ []) (suc (suc i)) s off = absurd (let w = s.within in omega arith)
-trim_plain (c ∷ d ∷ t) (suc zero) s off =
-    let first : is_all_blank (c ∷ d ∷ t) ≡ false = not_blank (c ∷ d ∷ t) 0 (omega arith) (s.sign 0 refl) in
-    let rest : is_all_blank (d ∷ t) ≡ true = all_blank (d ∷ t) (λ k h. s.blank (suc k) (omega arith) (omega arith)) in
-    let other : (c == 92) ≡ false = ne_eqb c 92 (off 0 refl (omega arith)) in
-    let none : trimmed (d ∷ t) ≡ [] = trim_none (d ∷ t) (record { within = omega arith; blank = (λ k a h. s.blank (suc k) (omega arith) (omega arith)); sign = (λ k e. absurd (omega arith)) }) in
-    step_is c d t false true first rest ∙ ap (λ z. if z && true then c ∷ d ∷ [] else c ∷ trimmed (d ∷ t)) other ∙ ap (λ z. c ∷ z) none
-trim_plain (c ∷ d ∷ t) (suc (suc i)) s off =
-    let w = s.within in
-    let sign : is_blank (get_or (d ∷ t) i 0) ≡ false = s.sign (suc i) refl in
-    let first : is_all_blank (c ∷ d ∷ t) ≡ false = not_blank (c ∷ d ∷ t) (suc i) (omega arith) sign in
-    let rest : is_all_blank (d ∷ t) ≡ false = not_blank (d ∷ t) i (omega arith) sign in
-    step_is c d t false false first rest ∙ ap (λ z. if z then c ∷ d ∷ [] else c ∷ trimmed (d ∷ t)) (no_and (c == 92))
-    ∙ ap (λ z. c ∷ z) (trim_plain (d ∷ t) (suc i) (later c (d ∷ t) (suc i) (omega arith) s) (λ k e h. off (suc k) (omega arith) (omega arith)))
+trim_plain t zero s off = trimmed_at t zero s
+trim_plain t (suc i) s off = trimmed_at t (suc i) s ∙ from (ends_with nat_eq (take (suc i) t) (92 ∷ [])) refl
+  where
+    within : suc i ≤ length t
+    within = s.within
+
+    long : length (take (suc i) t) ≡ suc i
+    long = length-take-le (suc i) t within
+
+    from : (b : Bool) → ends_with nat_eq (take (suc i) t) (92 ∷ []) ≡ b → trim_at t (take (suc i) t) b ≡ take (suc i) t
+    from false e = refl
+    from true e = elim (cases_lt (suc i) (length t)) [
+      | inl h ↦ absurd (off i refl h (sym (eqb-true 92 (get_or t i 0) (sym (last_sign t i within) ∙ e))))
+      | inr h ↦
+          take_all (suc (length (take (suc i) t))) t (omega (arith, long)) ∙ sym (take_all (suc i) t h)
+    ]
 
 -- a blank directly after a backslash is kept
 pub trim_escaped : (t : List ℕ) (stop i : ℕ) → IsTrimmedAt t stop → stop ≡ suc i → stop < length t → get_or t i 0 ≡ 92 → trimmed t ≡ take (suc stop) t
-trim_escaped t zero i s is below on = absurd (omega arith)
-trim_escaped [] (suc j) i s is below on = absurd (omega arith)
-trim_escaped (c ∷ []) (suc j) i s is below on = absurd (omega arith)
-trim_escaped (c ∷ d ∷ t) (suc zero) (suc i) s is below on = absurd (omega arith)
-trim_escaped (c ∷ d ∷ t) (suc (suc j)) zero s is below on = absurd (omega arith)
-trim_escaped (c ∷ d ∷ t) (suc zero) zero s is below on =
-    let first : is_all_blank (c ∷ d ∷ t) ≡ false = not_blank (c ∷ d ∷ t) 0 (omega arith) (s.sign 0 refl) in
-    let rest : is_all_blank (d ∷ t) ≡ true = all_blank (d ∷ t) (λ k h. s.blank (suc k) (omega arith) (omega arith)) in
-    let same : (c == 92) ≡ true = eq-eqb c 92 on in
-    step_is c d t false true first rest ∙ ap (λ z. if z && true then c ∷ d ∷ [] else c ∷ trimmed (d ∷ t)) same
-trim_escaped (c ∷ d ∷ t) (suc (suc j)) (suc i) s is below on =
-    let sign : is_blank (get_or (d ∷ t) j 0) ≡ false = s.sign (suc j) refl in
-    let first : is_all_blank (c ∷ d ∷ t) ≡ false = not_blank (c ∷ d ∷ t) (suc j) (omega arith) sign in
-    let rest : is_all_blank (d ∷ t) ≡ false = not_blank (d ∷ t) j (omega arith) sign in
-    step_is c d t false false first rest ∙ ap (λ z. if z then c ∷ d ∷ [] else c ∷ trimmed (d ∷ t)) (no_and (c == 92))
-    ∙ ap (λ z. c ∷ z) (trim_escaped (d ∷ t) (suc j) i (later c (d ∷ t) (suc j) (omega arith) s) (omega arith) (omega arith) on)
+trim_escaped t stop i s is below on =
+    let within : i < length t = omega arith in
+    let sign : ends_with nat_eq (take stop t) (92 ∷ []) ≡ true =
+    ap (λ n. ends_with nat_eq (take n t) (92 ∷ [])) is ∙ last_sign t i within ∙ eq-eqb 92 (get_or t i 0) (sym on) in
+    trimmed_at t stop s ∙ ap (trim_at t (take stop t)) sign ∙ ap (λ n. take (suc n) t) (length-take-le stop t s.within)
 
 -- what stands before a place other than 0
 pub before : (P : ℕ → Type 0) (stop : ℕ) → (0 < stop → P (stop - 1)) → (i : ℕ) → stop ≡ suc i → P i
@@ -128,3 +130,70 @@ pub ends_by_last : (t : List ℕ) → (length t ≡ 0 → ⊥) → (length t ≡
 ends_by_last t h k =
     let one : suc (length t - 2) ≡ length t - 1 = omega arith in
     ends_by_two t (length t - 2) (omega arith) ∙ ap (λ n. get_or t n 0 == 36 && not (get_or t (length t - 2) 0 == 92)) one
+
+-- nothing is left of a run where all bytes pass
+pub run_all : (test : ℕ → Bool) (t : List ℕ) → is_empty (after_run test t) ≡ list_all test t
+unfolding take_up_to
+run_all test [] = refl
+run_all test (c ∷ t) = from (test c) (run_all test t)
+  where
+    from : (b : Bool) → is_empty (after_run test t) ≡ list_all test t
+        → is_empty (choose b (c ∷ (take_run test t).0, (take_run test t).1) ([], c ∷ t)).1 ≡ (b && list_all test t)
+    from true h = h
+    from false h = refl
+
+-- a list of one, and a longer one
+pub two_are_more : {A : Type 0} (x y : A) (xs : List A) → (length (x ∷ y ∷ xs) == 1) ≡ false
+two_are_more x y xs = ne_eqb (length (x ∷ y ∷ xs)) 1 (λ e. omega (arith, e))
+
+-- a byte is the sign, or no test finds it to be
+abbrev pub Other : ℕ → ℕ → Type 0
+Other d c = (nat_eq d c ≡ false) × ((c == d) ≡ false)
+
+pub decide : (d c : ℕ) → (d ≡ c) ⊎ Other d c
+decide d c = from (nat_eq d c) refl
+  where
+    from : (b : Bool) → nat_eq d c ≡ b → (d ≡ c) ⊎ Other d c
+    from true e = inl (eqb-true d c e)
+    from false e = inr (e, ne_eqb c d (λ k. eqb-false d c e (sym k)))
+
+abbrev pub Anchored : List ℕ → Bool
+Anchored t = ends_with nat_eq t (codes "$") && not (ends_with nat_eq t (codes "\\$"))
+
+-- the last two bytes tell whether a `$` anchors the text
+pub anchored_is : (t : List ℕ) → ends_anchored t ≡ Anchored t
+anchored_is [] = refl
+anchored_is (c ∷ []) = from (decide 36 c)
+  where
+    from : (36 ≡ c) ⊎ Other 36 c → ends_anchored (c ∷ []) ≡ Anchored (c ∷ [])
+    from (inl e) = subst (λ z. ends_anchored (z ∷ []) ≡ Anchored (z ∷ [])) e refl
+    from (inr e) = rw (e.0, e.1) refl
+anchored_is (c ∷ d ∷ []) = from (decide 36 d) (decide 92 c)
+  where
+    from : (36 ≡ d) ⊎ Other 36 d → (92 ≡ c) ⊎ Other 92 c → ends_anchored (c ∷ d ∷ []) ≡ Anchored (c ∷ d ∷ [])
+    from (inr e) back = rw (e.0, e.1) refl
+    from (inl e) (inl k) = subst (λ z. ends_anchored (c ∷ z ∷ []) ≡ Anchored (c ∷ z ∷ [])) e (subst (λ z. ends_anchored (z ∷ 36 ∷ []) ≡ Anchored (z ∷ 36 ∷ [])) k refl)
+    from (inl e) (inr k) = subst (λ z. ends_anchored (c ∷ z ∷ []) ≡ Anchored (c ∷ z ∷ [])) e (rw (k.0, k.1) refl)
+anchored_is (c ∷ d ∷ e ∷ t) =
+    anchored_is (d ∷ e ∷ t) ∙ ap (λ b. b && not (ends_with nat_eq (d ∷ e ∷ t) (codes "\\$"))) (sym (ends_more c (d ∷ e ∷ t) (codes "$") (omega arith)))
+    ∙ ap (λ b. ends_with nat_eq (c ∷ d ∷ e ∷ t) (codes "$") && not b) (sym (ends_more c (d ∷ e ∷ t) (codes "\\$") (omega arith)))
+
+-- a comment, byte by byte
+abbrev pub comment_rest : List ℕ → Option (List ℕ)
+comment_rest [] = None
+comment_rest (c ∷ []) = None
+comment_rest (c ∷ d ∷ t) = if c == 42 && d == 47 then Some (line_in t).1 else comment_rest (d ∷ t)
+
+pub comment_is : (t : List ℕ) → comment_rest t ≡ after_comment t
+comment_is [] = refl
+comment_is (c ∷ []) = from (decide 42 c)
+  where
+    from : (42 ≡ c) ⊎ Other 42 c → comment_rest (c ∷ []) ≡ after_comment (c ∷ [])
+    from (inl e) = subst (λ z. comment_rest (z ∷ []) ≡ after_comment (z ∷ [])) e refl
+    from (inr e) = rw (e.0) refl
+comment_is (c ∷ d ∷ t) = from (comment_is (d ∷ t)) (decide 42 c) (decide 47 d)
+  where
+    from : comment_rest (d ∷ t) ≡ after_comment (d ∷ t) → (42 ≡ c) ⊎ Other 42 c → (47 ≡ d) ⊎ Other 47 d → comment_rest (c ∷ d ∷ t) ≡ after_comment (c ∷ d ∷ t)
+    from later (inr e) other = rw (e.0, e.1) later
+    from later (inl e) (inl k) = subst (λ z. comment_rest (z ∷ d ∷ t) ≡ after_comment (z ∷ d ∷ t)) e (subst (λ z. comment_rest (42 ∷ z ∷ t) ≡ after_comment (42 ∷ z ∷ t)) k refl)
+    from later (inl e) (inr k) = subst (λ z. comment_rest (z ∷ d ∷ t) ≡ after_comment (z ∷ d ∷ t)) e (rw (k.0, k.1) later)

@@ -2,7 +2,8 @@
 use Rattle.std.specs.Prelude.{◌≡◌, ℕ, ◌≤◌, Bool, true, List, map, length, codes}
 use Rattle.std.specs.FinMap.{from_entries}
 use Rattle.lexspec_actions.specs.declared.condition.Condition.{Condition}
-use Rattle.lexspec_lines.specs.DefinitionLines.{Definition, Declared, all_conditions, names_of, has_name, are_distinct, substitutes_of, all_options, are_known}
+use Rattle.lexspec_lines.specs.DefinitionLines.{Definition, Declared, all_conditions, names_of, has_name, are_distinct, substitutes_of, known_options, all_options}
+use Rattle.std.specs.List.{list_all}
 use Rattle.lexspec_lines.specs.declared.declarations.Declarations.{Declarations}
 use Rattle.lex_semantics.specs.Limits.{max_conditions}
 use Rattle.lexspec_lines.specs.Folding.{with_fold}
@@ -21,7 +22,7 @@ AreGood cs = (are_distinct (names_of cs) ≡ true) × (length cs ≤ max_conditi
 
 -- no condition and no name is declared twice, conditions are few, and options are known
 abbrev pub AreAllowed : List Definition → Type 0
-AreAllowed ds = AreGood (all_conditions ds) × (are_distinct (map (λ (d : List ℕ × List ℕ). d.0) (substitutes_of ds)) ≡ true) × (are_known (all_options ds) ≡ true)
+AreAllowed ds = AreGood (all_conditions ds) × (are_distinct (map (λ (d : List ℕ × List ℕ). d.0) (substitutes_of ds)) ≡ true) × (list_all (has_name known_options) (all_options ds) ≡ true)
 
 -- what the lines declare is what the code keeps
 pub record Declares (how : ReadOptions) (ds : List Definition) (d : Declarations) : Type 0 where

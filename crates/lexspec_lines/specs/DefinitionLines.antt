@@ -1,9 +1,10 @@
 -- The lines of the definitions section. (POSIX, lex, Definitions in lex; flex, Format of the Input File.)
-use Rattle.std.specs.Prelude.{◌≡◌, ℕ, suc, Bool, true, false, not, ◌&&◌, ◌||◌, ◌==◌, if◌then◌else◌, List, [], ◌∷◌, ◌++◌, map, length, take, drop, Option, Some, None, codes}
-use Rattle.std.specs.List.{list_any}
+use Rattle.std.specs.Prelude.{◌≡◌, ℕ, suc, Bool, true, false, not, ◌&&◌, ◌||◌, ◌==◌, if◌then◌else◌, List, [], ◌∷◌, map, filter_map, flat_map, length, nat_eq, ◌-◌, take, drop, Option, Some, None, codes}
+use Rattle.std.specs.List.{list_any, list_all, ends_with, suffix_len}
 use Rattle.lex_semantics.specs.Reading.{◌>>=◌, Reader, IsCut, take_run, after_run, after_blanks, is_empty, begins, starts_name, goes_on_name}
 use Rattle.lex_semantics.specs.ByteSets.{is_digit, is_word, is_blank}
-use Rattle.lexspec_lines.specs.Lines.{line_at, blanks, is_all_blank, before_blank, words, after_block, after_comment}
+use Rattle.lexspec_lines.specs.Runs.{split_before}
+use Rattle.lexspec_lines.specs.Lines.{line_at, is_all_blank, words, after_block, after_comment}
 
 pub data Definition : Type 0 where
   -- a line of blanks or nothing, or a comment
@@ -21,30 +22,17 @@ pub data Definition : Type 0 where
 
 -- trailing blanks are dropped, except one directly after a backslash
 abbrev pub trimmed : List ℕ → List ℕ
-trimmed [] = []
-trimmed (c ∷ []) = if is_blank c then [] else c ∷ []
-trimmed (c ∷ d ∷ t) =
-    if is_all_blank (c ∷ d ∷ t) then []
-    else if c == 92 && is_all_blank (d ∷ t) then c ∷ d ∷ []
-    else c ∷ trimmed (d ∷ t)
+trimmed t =
+    let kept = take (length t - suffix_len is_blank t) t in
+    if ends_with nat_eq kept (codes "\\") then take (suc (length kept)) t else kept
 
 -- begins with `^`, or ends with a `$` not directly after a backslash
-abbrev pub ends_anchored : List ℕ → Bool
-ends_anchored [] = false
-ends_anchored (c ∷ []) = c == 36
-ends_anchored (c ∷ d ∷ []) = d == 36 && not (c == 92)
-ends_anchored (c ∷ d ∷ e ∷ t) = ends_anchored (d ∷ e ∷ t)
-
 abbrev pub is_anchored : List ℕ → Bool
-is_anchored t = begins (codes "^") t || ends_anchored t
+is_anchored t = begins (codes "^") t || (ends_with nat_eq t (codes "$") && not (ends_with nat_eq t (codes "\\$")))
 
 abbrev pub is_name : List ℕ → Bool
 is_name [] = false
 is_name (c ∷ t) = starts_name c && is_empty (after_run goes_on_name (c ∷ t))
-
-abbrev pub are_names : List (List ℕ) → Bool
-are_names [] = true
-are_names (w ∷ ws) = is_name w && are_names ws
 
 -- a definition: the name, blanks, and a substitute, which is not anchored
 unfoldable pub definition_in : List ℕ → Option Definition
@@ -53,29 +41,22 @@ definition_in (c ∷ t) =
     if not (starts_name c) then None
     else (let (name, rest) = take_run goes_on_name (c ∷ t) in
     let text = trimmed (after_blanks rest) in
-    if is_empty (blanks rest).0 || is_empty text || is_anchored text then None else Some (defines name text))
+    if not (list_any is_blank (take 1 rest)) || is_empty text || is_anchored text then None else Some (defines name text))
 
 -- `%s` and `%x` have at least one name
 abbrev pub declaration : Bool → List (List ℕ) → Option Definition
-declaration exclusive [] = None
-declaration exclusive (n ∷ ns) = if are_names (n ∷ ns) then Some (declares exclusive (n ∷ ns)) else None
-
--- `%p 3`
-abbrev pub number : List (List ℕ) → Option Definition
-number [] = None
-number (digits ∷ []) = if is_empty (after_run is_digit digits) then Some ignored else None
-number (digits ∷ more ∷ ns) = None
+declaration exclusive names = if length names == 0 || not (list_all is_name names) then None else Some (declares exclusive names)
 
 -- a line that begins with `%`, by its first word
 unfoldable pub percent_line : List ℕ → Option Definition
 percent_line line =
-    let (word, rest) = before_blank line in
+    let (word, rest) = split_before is_blank line in
     let names = words rest in
     if list_any (λ w. is_word word w) (codes "%s" ∷ codes "%S" ∷ codes "%start" ∷ codes "%Start" ∷ []) then declaration false names
     else if list_any (λ w. is_word word w) (codes "%x" ∷ codes "%X" ∷ []) then declaration true names
     else if is_word word (codes "%option") then (if length names == 0 then None else Some (options names))
     else if list_any (λ w. is_word word w) (codes "%array" ∷ codes "%pointer" ∷ []) then (if length names == 0 then Some ignored else None)
-    else if list_any (λ w. is_word word w) (codes "%p" ∷ codes "%n" ∷ codes "%a" ∷ codes "%e" ∷ codes "%k" ∷ codes "%o" ∷ []) then number names
+    else if list_any (λ w. is_word word w) (codes "%p" ∷ codes "%n" ∷ codes "%a" ∷ codes "%e" ∷ codes "%k" ∷ codes "%o" ∷ []) then (if length names == 1 && list_all (list_all is_digit) names then Some ignored else None)
     else None
 
 -- a line of the definitions section, with what follows that belongs to it; a line that begins with `%%` is none
@@ -101,9 +82,7 @@ pub record Declared : Type 0 where
   pub name : List ℕ
 
 abbrev pub declared : List Definition → List Declared
-declared [] = []
-declared (declares exclusive names ∷ ds) = map (λ n. record { exclusive = exclusive; name = n }) names ++ declared ds
-declared (_ ∷ ds) = declared ds
+declared ds = flat_map (λ d. elim d [ declares exclusive names ↦ map (λ n. record { exclusive = exclusive; name = n }) names | _ ↦ [] ]) ds
 
 -- INITIAL, and the others in order of declaration
 abbrev pub all_conditions : List Definition → List Declared
@@ -121,18 +100,10 @@ are_distinct (n ∷ ns) = not (has_name ns n) && are_distinct ns
 
 -- each name with its substitute
 abbrev pub substitutes_of : List Definition → List (List ℕ × List ℕ)
-substitutes_of [] = []
-substitutes_of (defines name text ∷ ds) = (name, text) ∷ substitutes_of ds
-substitutes_of (_ ∷ ds) = substitutes_of ds
+substitutes_of ds = filter_map (λ d. elim d [ defines name text ↦ Some (name, text) | _ ↦ None ]) ds
 
 abbrev pub all_options : List Definition → List (List ℕ)
-all_options [] = []
-all_options (options ws ∷ ds) = ws ++ all_options ds
-all_options (_ ∷ ds) = all_options ds
+all_options ds = flat_map (λ d. elim d [ options ws ↦ ws | _ ↦ [] ]) ds
 
 abbrev pub known_options : List (List ℕ)
 known_options = codes "noyywrap" ∷ codes "nounput" ∷ codes "noinput" ∷ codes "yylineno" ∷ codes "8bit" ∷ codes "batch" ∷ codes "interactive" ∷ codes "always-interactive" ∷ codes "never-interactive" ∷ codes "case-insensitive" ∷ codes "stack" ∷ []
-
-abbrev pub are_known : List (List ℕ) → Bool
-are_known [] = true
-are_known (w ∷ ws) = has_name known_options w && are_known ws

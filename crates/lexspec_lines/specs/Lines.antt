@@ -1,5 +1,6 @@
 -- Lines, blanks and words of a specification file. (POSIX, lex, Definitions in lex.)
-use Rattle.std.specs.Prelude.{ℕ, zero, suc, Bool, ◌&&◌, ◌==◌, if◌then◌else◌, List, [], ◌∷◌, length, count_by, Option, Some, None, codes}
+use Rattle.std.specs.List.{slice_split}
+use Rattle.std.specs.Prelude.{ℕ, zero, suc, Bool, not, filter, ◌&&◌, ◌==◌, if◌then◌else◌, List, [], ◌∷◌, drop, count_by, Option, Some, None, codes}
 use Rattle.lex_semantics.specs.ByteSets.{is_blank}
 use Rattle.lex_semantics.specs.Reading.{◌>>=◌, Reader, take_run, after_blanks, is_empty, begins}
 use Rattle.lexspec_lines.specs.Runs.{split_before}
@@ -7,8 +8,7 @@ use Rattle.lexspec_lines.specs.Runs.{split_before}
 -- a carriage return directly before a newline is dropped
 abbrev pub without_returns : List ℕ → List ℕ
 without_returns [] = []
-without_returns (c ∷ []) = c ∷ []
-without_returns (c ∷ d ∷ t) = if c == 13 && d == 10 then without_returns (d ∷ t) else c ∷ without_returns (d ∷ t)
+without_returns (c ∷ t) = if c == 13 && begins (codes "\n") t then without_returns t else c ∷ without_returns t
 
 abbrev pub newlines : List ℕ → ℕ
 newlines t = count_by (λ c. c == 10) t
@@ -19,8 +19,7 @@ line_in (c ∷ t) = if c == 10 then ([], t) else (let (line, rest) = line_in t i
 
 -- a line, without its newline, and what follows; a last line without a newline is one, and at the end there is none
 abbrev pub line_at : Reader (List ℕ)
-line_at [] = None
-line_at (c ∷ t) = Some (line_in (c ∷ t))
+line_at t = if is_empty t then None else Some (line_in t)
 
 abbrev pub blanks : List ℕ → List ℕ × List ℕ
 blanks t = take_run is_blank t
@@ -31,16 +30,9 @@ is_all_blank t = is_empty (after_blanks t)
 abbrev pub before_blank : List ℕ → List ℕ × List ℕ
 before_blank t = split_before is_blank t
 
--- words separated by blanks, at most n of them
-unfoldable pub words_in : ℕ → List ℕ → List (List ℕ)
-words_in zero t = []
-words_in (suc n) t = elim (after_blanks t) [
-  | [] ↦ []
-  | c ∷ u ↦ (let (word, rest) = before_blank (c ∷ u) in word ∷ words_in n rest)
-]
-
+-- the words between blanks
 abbrev pub words : List ℕ → List (List ℕ)
-words t = words_in (length t) t
+words t = filter (λ word. not (is_empty word)) (slice_split is_blank t)
 
 -- What both sections skip.
 
@@ -49,8 +41,11 @@ unfoldable pub after_block : ℕ → List ℕ → Option (List ℕ)
 after_block zero t = None
 after_block (suc n) t = line_at t >>= λ (line, rest). if begins (codes "%}") line then Some rest else after_block n rest
 
--- after `/*`: what follows the line that has the next `*/`
+-- after `/*`: what follows the next `*/`
+abbrev pub after_star : List ℕ → Option (List ℕ)
+after_star [] = None
+after_star (c ∷ t) = if begins (codes "*/") (c ∷ t) then Some (drop 1 t) else after_star t
+
+-- and what follows the line that has it
 abbrev pub after_comment : List ℕ → Option (List ℕ)
-after_comment [] = None
-after_comment (c ∷ []) = None
-after_comment (c ∷ d ∷ t) = if c == 42 && d == 47 then Some (line_in t).1 else after_comment (d ∷ t)
+after_comment t = after_star t >>= λ rest. Some (line_in rest).1

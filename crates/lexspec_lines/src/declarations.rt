@@ -3,7 +3,8 @@ ghost use Rattle.std.specs.Prelude.{◌≡◌, ◌≤◌, ◌<◌, ◌+◌, ◌^
 ghost use Rattle.std.specs.Prelude.{map, length, codes, is_some, IfOk, IfErr, IfSome, OnOk};
 ghost use Rattle.lexspec_lines.specs.Lines.{words};
 ghost use Rattle.lexspec_lines.specs.DefinitionLines.{Definition as Meant, has_name};
-ghost use Rattle.lexspec_lines.specs.DefinitionLines.{known_options, are_known, Declared};
+ghost use Rattle.lexspec_lines.specs.DefinitionLines.{known_options, Declared};
+ghost use Rattle.lexspec_lines.specs.DefinitionViews.{are_known};
 ghost use Rattle.lexspec_lines.specs.DefinitionViews.{definition_of};
 ghost use Rattle.lexspec_lines.specs.Declaring.{declared_of, with_kind, AreGood, AreAllowed, Declares};
 ghost use Rattle.lexspec_lines.specs.SkippedCode.{code_of_definition};

@@ -1,13 +1,13 @@
 //! The lines of the definitions section. (POSIX, lex, Definitions in lex; flex, Format of the Input File.)
 ghost use Rattle.std.specs.Prelude.{◌≡◌, ◌<◌, ◌&&◌, ◌==◌, if◌then◌else◌, List, [], ◌∷◌, ℕ};
-ghost use Rattle.std.specs.Prelude.{Option, Some, None, length, option_map, IfOk, OnErr, codes};
-ghost use Rattle.std.specs.List.{list_any};
+ghost use Rattle.std.specs.Prelude.{nat_eq, not, Option, Some, None, length, option_map, IfOk, OnErr, codes};
+ghost use Rattle.std.specs.List.{list_any, list_all, ends_with};
 ghost use Rattle.lexspec_lines.specs.Lines.{words};
 ghost use Rattle.lexspec_lines.specs.DefinitionLines.{Definition as Meant, options, ignored, is_name};
-ghost use Rattle.lexspec_lines.specs.DefinitionLines.{are_names, trimmed, ends_anchored, declaration};
-ghost use Rattle.lexspec_lines.specs.DefinitionLines.{number, definition_in, percent_line, definition_at};
-ghost use Rattle.lexspec_lines.specs.DefinitionViews.{definition_of};
-ghost use Rattle.lex_semantics.specs.Reading.{is_empty, begins, after_run};
+ghost use Rattle.lexspec_lines.specs.DefinitionLines.{trimmed, declaration};
+ghost use Rattle.lexspec_lines.specs.DefinitionLines.{definition_in, percent_line, definition_at};
+ghost use Rattle.lexspec_lines.specs.DefinitionViews.{definition_of, are_names};
+ghost use Rattle.lex_semantics.specs.Reading.{begins};
 ghost use Rattle.lex_semantics.specs.ByteSets.{is_digit, is_word};
 
 use crate::lines::{
@@ -87,7 +87,8 @@ fn trimmed(text: &[u8]) -> &[u8]
 
 /// Whether the text ends with a `$` that is not directly after a backslash.
 fn ends_anchored(text: &[u8]) -> bool
-    ensures { result ≡ ends_anchored text.now }
+    ensures { result ≡ (ends_with nat_eq text.now (codes "$")
+        && not (ends_with nat_eq text.now (codes "\\$"))) }
 {
     let count = text.len();
     if count == 0 {
@@ -153,7 +154,7 @@ fn alone(text: &[u8]) -> Option<Definition<'_>>
 
 /// Whether the word has digits alone.
 fn is_number(word: &[u8]) -> bool
-    ensures { result ≡ is_empty (after_run is_digit word.now) }
+    ensures { result ≡ list_all is_digit word.now }
 {
     split_before(|byte| !byte.is_ascii_digit(), word)
         .1
@@ -162,7 +163,8 @@ fn is_number(word: &[u8]) -> bool
 
 /// A line without effect, if one number follows its word.
 fn number(text: &[u8]) -> Option<Definition<'_>>
-    ensures { ◌≡◌ {A = Option Meant} (option_map definition_of result) (number (words text.now)) }
+    ensures { ◌≡◌ {A = Option Meant} (option_map definition_of result)
+        (if length (words text.now) == 1 && list_all (list_all is_digit) (words text.now) then Some ignored else None) }
 {
     let (digits, after) = next_word(text)?;
     if next_word(after).is_some() || !is_number(digits) {

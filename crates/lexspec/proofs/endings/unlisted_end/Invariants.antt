@@ -1,5 +1,5 @@
 use Rattle.std.proofs.Common.{◌≡◌, drop, map}
-use Rattle.lexspec.specs.Files.{unlisted_end}
+use Rattle.lexspec.specs.Endings.{unlisted_end}
 use Rattle.lexspec.specs.EndRules.{end_rule_of}
 use Rattle.lexspec.proofs.endings.unlisted_end.Given as goal
 

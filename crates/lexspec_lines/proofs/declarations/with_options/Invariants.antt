@@ -1,7 +1,8 @@
 use Rattle.std.proofs.Common.{◌≡◌, ◌||◌, length}
 use Rattle.std.specs.Prelude.{codes}
 use Rattle.lexspec_lines.specs.Lines.{words}
-use Rattle.lexspec_lines.specs.DefinitionLines.{has_name, are_known}
+use Rattle.lexspec_lines.specs.DefinitionLines.{has_name}
+use Rattle.lexspec_lines.specs.DefinitionViews.{are_known}
 use Rattle.lexspec_lines.proofs.declarations.with_options.Given as goal
 
 abbrev pub invariant-loop-word : goal.invariant-loop-word

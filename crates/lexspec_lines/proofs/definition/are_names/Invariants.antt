@@ -1,6 +1,6 @@
 use Rattle.std.proofs.Common.{◌≡◌, length}
 use Rattle.lexspec_lines.specs.Lines.{words}
-use Rattle.lexspec_lines.specs.DefinitionLines.{are_names}
+use Rattle.lexspec_lines.specs.DefinitionViews.{are_names}
 use Rattle.lexspec_lines.proofs.definition.are_names.Given as goal
 
 abbrev pub invariant-loop-word : goal.invariant-loop-word
