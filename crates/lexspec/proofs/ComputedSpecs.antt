@@ -84,7 +84,7 @@ cut_as_tested r head trail fits = cut_is_fit r.cut r.head r.trail (tree_is_sound
     sound (Some t) h = tree_is_sound t h
 
 number_ruled : (is : List (ℕ × Item)) (rules : List Rule) → IsRule names plain true named 17 unlisted true (codes "{D}+") line_end (spelled (codes "ECHO;")) is rules number
-unfolding newline has set_below set_of single range_set any_below take_up_to is_alpha is_upper is_lower is_alnum is_blank is_digit after_word A.piece_at A.statement_at A.parts_of A.in_parentheses A.number_at A.second_word A.format_at A.after_statement A.condition_at B.name_at B.digits_at B.after_space B.skip B.next B.escape_at B.literal_at
+unfolding has set_below set_of single range_set any_below take_up_to is_alpha is_upper is_lower is_alnum is_blank is_digit after_word A.piece_at A.statement_at A.parts_of A.in_parentheses A.number_at A.second_word A.format_at A.after_statement A.condition_at B.name_at B.digits_at B.after_space B.skip B.next B.escape_at B.literal_at
 number_ruled is rules = (
   record {
     line_is = refl;
@@ -280,10 +280,10 @@ short_ruled = (
       head_is = is_tree folding 20 (codes "a") both_cases.head refl refl (from_entries []);
       trail_is = refl;
       cut_is = refl;
-    };
-    next = refl;
-    statements_are = ((([], Echo ∷ []) ∷ [], ([], refl, refl), one_balanced (does Echo), refl), refl);
-  },
+    },
+    refl,
+    ((([], Echo ∷ []) ∷ [], ([], refl, refl), one_balanced (does Echo), refl), refl),
+  ),
   (refl, refl),
 )
 
