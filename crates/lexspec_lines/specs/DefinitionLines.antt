@@ -31,17 +31,14 @@ abbrev pub is_anchored : List ℕ → Bool
 is_anchored t = begins (codes "^") t || (ends_with nat_eq t (codes "$") && not (ends_with nat_eq t (codes "\\$")))
 
 abbrev pub is_name : List ℕ → Bool
-is_name [] = false
-is_name (c ∷ t) = starts_name c && is_empty (after_run goes_on_name (c ∷ t))
+is_name word = list_any starts_name (take 1 word) && list_all goes_on_name word
 
 -- a definition: the name, blanks, and a substitute, which is not anchored
 unfoldable pub definition_in : List ℕ → Option Definition
-definition_in [] = None
-definition_in (c ∷ t) =
-    if not (starts_name c) then None
-    else (let (name, rest) = take_run goes_on_name (c ∷ t) in
+definition_in line =
+    let (name, rest) = take_run goes_on_name line in
     let text = trimmed (after_blanks rest) in
-    if not (list_any is_blank (take 1 rest)) || is_empty text || is_anchored text then None else Some (defines name text))
+    if list_any starts_name (take 1 line) && list_any is_blank (take 1 rest) && not (is_empty text || is_anchored text) then Some (defines name text) else None
 
 -- `%s` and `%x` have at least one name
 abbrev pub declaration : Bool → List (List ℕ) → Option Definition

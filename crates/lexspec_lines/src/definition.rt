@@ -48,6 +48,7 @@ pub(crate) enum DefinitionFault<'a> {
 }
 
 /// Whether the word is a name.
+#[tactic(auto, using(crate::proofs::TextLaws::run_all))]
 fn is_name(word: &[u8]) -> bool
     ensures { result ≡ is_name word.now }
 {
@@ -101,7 +102,7 @@ fn ends_anchored(text: &[u8]) -> bool
 }
 
 /// The definition of a name, in a line.
-#[tactic(auto, unfolding(crate::specs::DefinitionLines::definition_in), using(crate::proofs::TextLaws::blank_front))]
+#[tactic(auto, unfolding(crate::specs::DefinitionLines::definition_in))]
 fn definition_in(line: &[u8]) -> Result<Definition<'_>, DefinitionFault<'_>>
     ensures found { IfOk result (λ d. ◌≡◌ {A = Option Meant} (definition_in line.now) (Some (definition_of d))) }
     ensures none { OnErr result (◌≡◌ {A = Option Meant} (definition_in line.now) None) }
