@@ -49,11 +49,11 @@ unfoldable pub percent_line : List ℕ → Option Definition
 percent_line line =
     let (word, rest) = split_before is_blank line in
     let names = words rest in
-    if list_any (λ w. is_word word w) (codes "%s" ∷ codes "%S" ∷ codes "%start" ∷ codes "%Start" ∷ []) then declaration false names
-    else if list_any (λ w. is_word word w) (codes "%x" ∷ codes "%X" ∷ []) then declaration true names
+    if list_any (is_word word) (words (codes "%s %S %start %Start")) then declaration false names
+    else if list_any (is_word word) (words (codes "%x %X")) then declaration true names
     else if is_word word (codes "%option") then (if length names == 0 then None else Some (options names))
-    else if list_any (λ w. is_word word w) (codes "%array" ∷ codes "%pointer" ∷ []) then (if length names == 0 then Some ignored else None)
-    else if list_any (λ w. is_word word w) (codes "%p" ∷ codes "%n" ∷ codes "%a" ∷ codes "%e" ∷ codes "%k" ∷ codes "%o" ∷ []) then (if length names == 1 && list_all (list_all is_digit) names then Some ignored else None)
+    else if list_any (is_word word) (words (codes "%array %pointer")) then (if length names == 0 then Some ignored else None)
+    else if list_any (is_word word) (words (codes "%p %n %a %e %k %o")) then (if length names == 1 && list_all (list_all is_digit) names then Some ignored else None)
     else None
 
 -- a line of the definitions section, with what follows that belongs to it; a line that begins with `%%` is none
@@ -103,4 +103,4 @@ abbrev pub all_options : List Definition → List (List ℕ)
 all_options ds = flat_map (λ d. elim d [ options ws ↦ ws | _ ↦ [] ]) ds
 
 abbrev pub known_options : List (List ℕ)
-known_options = codes "noyywrap" ∷ codes "nounput" ∷ codes "noinput" ∷ codes "yylineno" ∷ codes "8bit" ∷ codes "batch" ∷ codes "interactive" ∷ codes "always-interactive" ∷ codes "never-interactive" ∷ codes "case-insensitive" ∷ codes "stack" ∷ []
+known_options = words (codes "noyywrap nounput noinput yylineno 8bit batch interactive always-interactive never-interactive case-insensitive stack")
