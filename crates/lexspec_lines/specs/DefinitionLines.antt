@@ -30,6 +30,7 @@ trimmed t =
 abbrev pub is_anchored : List ℕ → Bool
 is_anchored t = begins (codes "^") t || (ends_with nat_eq t (codes "$") && not (ends_with nat_eq t (codes "\\$")))
 
+-- a letter or `_`, and then letters, digits, `_` and `-`
 abbrev pub is_name : List ℕ → Bool
 is_name word = list_any starts_name (take 1 word) && list_all goes_on_name word
 
@@ -44,7 +45,8 @@ definition_in line =
 abbrev pub declaration : Bool → List (List ℕ) → Option Definition
 declaration exclusive names = if length names == 0 || not (list_all is_name names) then None else Some (declares exclusive names)
 
--- a line that begins with `%`, by its first word
+-- A line that begins with `%`, by its first word: conditions, options, how yytext is kept, or the size of a table. (POSIX,
+-- Definitions in lex; flex, Start Conditions, Scanner Options.)
 unfoldable pub percent_line : List ℕ → Option Definition
 percent_line line =
     let (word, rest) = split_before is_blank line in
@@ -78,6 +80,7 @@ pub record Declared : Type 0 where
   pub exclusive : Bool
   pub name : List ℕ
 
+-- the conditions of `%s` and `%x`
 abbrev pub declared : List Definition → List Declared
 declared ds = flat_map (λ d. elim d [ declares exclusive names ↦ map (λ n. record { exclusive = exclusive; name = n }) names | _ ↦ [] ]) ds
 
@@ -85,12 +88,15 @@ declared ds = flat_map (λ d. elim d [ declares exclusive names ↦ map (λ n. r
 abbrev pub all_conditions : List Definition → List Declared
 all_conditions ds = record { exclusive = false; name = codes "INITIAL" } ∷ declared ds
 
+-- the names of conditions
 abbrev pub names_of : List Declared → List (List ℕ)
 names_of cs = map (λ c. c.name) cs
 
+-- the name is one of these
 abbrev pub has_name : List (List ℕ) → List ℕ → Bool
 has_name names name = list_any (λ n. is_word n name) names
 
+-- no name stands twice
 abbrev pub are_distinct : List (List ℕ) → Bool
 are_distinct [] = true
 are_distinct (n ∷ ns) = not (has_name ns n) && are_distinct ns
@@ -99,8 +105,10 @@ are_distinct (n ∷ ns) = not (has_name ns n) && are_distinct ns
 abbrev pub substitutes_of : List Definition → List (List ℕ × List ℕ)
 substitutes_of ds = filter_map (λ d. elim d [ defines name text ↦ Some (name, text) | _ ↦ None ]) ds
 
+-- the words of `%option`
 abbrev pub all_options : List Definition → List (List ℕ)
 all_options ds = flat_map (λ d. elim d [ options ws ↦ ws | _ ↦ [] ]) ds
 
+-- the options that are known, most of them without effect (flex, Scanner Options)
 abbrev pub known_options : List (List ℕ)
 known_options = words (codes "noyywrap nounput noinput yylineno 8bit batch interactive always-interactive never-interactive case-insensitive stack")
