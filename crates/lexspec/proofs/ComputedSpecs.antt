@@ -245,6 +245,7 @@ whole_single = (one, leb-true _ _ refl)
     one (suc (suc (suc (suc c)))) h = absurd (omega (arith, h))
 
 pub whole : WholeFile
+unfolding is_blank
 whole = record {
   short = leb-true (length whole_file) max_file_bytes refl;
   definitions = whole_definitions;
@@ -291,6 +292,7 @@ short_single : AreSingle 1 []
 short_single = (λ c h. leb-true _ _ refl, leb-true _ _ refl)
 
 pub short : ShortFile
+unfolding is_blank
 short = record {
   short = leb-true (length short_file) max_file_bytes refl;
   definitions = options (codes "case-insensitive" ∷ []) ∷ [];

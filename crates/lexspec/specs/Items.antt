@@ -76,6 +76,7 @@ action_end (suc bound) n t =
 unfoldable pub action_at : Reader (List ℕ)
 action_at t = action_end (suc (length t)) 0 t >>= λ rest. Some (take (length t - length rest) t, drop 1 rest)
 
+-- a `|` alone stands for the action of the next rule
 abbrev pub action_of : List ℕ → Action
 action_of text = if begins (codes "|") text && is_all_blank (drop 1 text) then bar else spelled text
 

@@ -2,6 +2,7 @@ pub mod RunLaws
 pub mod SkipLaws
 pub mod CodeLaws
 pub mod TextLaws
+pub mod WordLaws
 pub mod OneSection
 pub mod ComputedLines
 pub mod DeclaringLaws

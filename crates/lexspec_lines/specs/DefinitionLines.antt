@@ -30,33 +30,32 @@ trimmed t =
 abbrev pub is_anchored : List ℕ → Bool
 is_anchored t = begins (codes "^") t || (ends_with nat_eq t (codes "$") && not (ends_with nat_eq t (codes "\\$")))
 
+-- a letter or `_`, and then letters, digits, `_` and `-`
 abbrev pub is_name : List ℕ → Bool
-is_name [] = false
-is_name (c ∷ t) = starts_name c && is_empty (after_run goes_on_name (c ∷ t))
+is_name word = list_any starts_name (take 1 word) && list_all goes_on_name word
 
 -- a definition: the name, blanks, and a substitute, which is not anchored
 unfoldable pub definition_in : List ℕ → Option Definition
-definition_in [] = None
-definition_in (c ∷ t) =
-    if not (starts_name c) then None
-    else (let (name, rest) = take_run goes_on_name (c ∷ t) in
+definition_in line =
+    let (name, rest) = take_run goes_on_name line in
     let text = trimmed (after_blanks rest) in
-    if not (list_any is_blank (take 1 rest)) || is_empty text || is_anchored text then None else Some (defines name text))
+    if list_any starts_name (take 1 line) && list_any is_blank (take 1 rest) && not (is_empty text || is_anchored text) then Some (defines name text) else None
 
 -- `%s` and `%x` have at least one name
 abbrev pub declaration : Bool → List (List ℕ) → Option Definition
 declaration exclusive names = if length names == 0 || not (list_all is_name names) then None else Some (declares exclusive names)
 
--- a line that begins with `%`, by its first word
+-- A line that begins with `%`, by its first word: conditions, options, how yytext is kept, or the size of a table. (POSIX,
+-- Definitions in lex; flex, Start Conditions, Scanner Options.)
 unfoldable pub percent_line : List ℕ → Option Definition
 percent_line line =
     let (word, rest) = split_before is_blank line in
     let names = words rest in
-    if list_any (λ w. is_word word w) (codes "%s" ∷ codes "%S" ∷ codes "%start" ∷ codes "%Start" ∷ []) then declaration false names
-    else if list_any (λ w. is_word word w) (codes "%x" ∷ codes "%X" ∷ []) then declaration true names
+    if list_any (is_word word) (words (codes "%s %S %start %Start")) then declaration false names
+    else if list_any (is_word word) (words (codes "%x %X")) then declaration true names
     else if is_word word (codes "%option") then (if length names == 0 then None else Some (options names))
-    else if list_any (λ w. is_word word w) (codes "%array" ∷ codes "%pointer" ∷ []) then (if length names == 0 then Some ignored else None)
-    else if list_any (λ w. is_word word w) (codes "%p" ∷ codes "%n" ∷ codes "%a" ∷ codes "%e" ∷ codes "%k" ∷ codes "%o" ∷ []) then (if length names == 1 && list_all (list_all is_digit) names then Some ignored else None)
+    else if list_any (is_word word) (words (codes "%array %pointer")) then (if length names == 0 then Some ignored else None)
+    else if list_any (is_word word) (words (codes "%p %n %a %e %k %o")) then (if length names == 1 && list_all (list_all is_digit) names then Some ignored else None)
     else None
 
 -- a line of the definitions section, with what follows that belongs to it; a line that begins with `%%` is none
@@ -81,6 +80,7 @@ pub record Declared : Type 0 where
   pub exclusive : Bool
   pub name : List ℕ
 
+-- the conditions of `%s` and `%x`
 abbrev pub declared : List Definition → List Declared
 declared ds = flat_map (λ d. elim d [ declares exclusive names ↦ map (λ n. record { exclusive = exclusive; name = n }) names | _ ↦ [] ]) ds
 
@@ -88,12 +88,15 @@ declared ds = flat_map (λ d. elim d [ declares exclusive names ↦ map (λ n. r
 abbrev pub all_conditions : List Definition → List Declared
 all_conditions ds = record { exclusive = false; name = codes "INITIAL" } ∷ declared ds
 
+-- the names of conditions
 abbrev pub names_of : List Declared → List (List ℕ)
 names_of cs = map (λ c. c.name) cs
 
+-- the name is one of these
 abbrev pub has_name : List (List ℕ) → List ℕ → Bool
 has_name names name = list_any (λ n. is_word n name) names
 
+-- no name stands twice
 abbrev pub are_distinct : List (List ℕ) → Bool
 are_distinct [] = true
 are_distinct (n ∷ ns) = not (has_name ns n) && are_distinct ns
@@ -102,8 +105,10 @@ are_distinct (n ∷ ns) = not (has_name ns n) && are_distinct ns
 abbrev pub substitutes_of : List Definition → List (List ℕ × List ℕ)
 substitutes_of ds = filter_map (λ d. elim d [ defines name text ↦ Some (name, text) | _ ↦ None ]) ds
 
+-- the words of `%option`
 abbrev pub all_options : List Definition → List (List ℕ)
 all_options ds = flat_map (λ d. elim d [ options ws ↦ ws | _ ↦ [] ]) ds
 
+-- the options that are known, most of them without effect (flex, Scanner Options)
 abbrev pub known_options : List (List ℕ)
-known_options = codes "noyywrap" ∷ codes "nounput" ∷ codes "noinput" ∷ codes "yylineno" ∷ codes "8bit" ∷ codes "batch" ∷ codes "interactive" ∷ codes "always-interactive" ∷ codes "never-interactive" ∷ codes "case-insensitive" ∷ codes "stack" ∷ []
+known_options = words (codes "noyywrap nounput noinput yylineno 8bit batch interactive always-interactive never-interactive case-insensitive stack")

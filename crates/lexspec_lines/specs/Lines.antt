@@ -10,9 +10,11 @@ abbrev pub without_returns : List ℕ → List ℕ
 without_returns [] = []
 without_returns (c ∷ t) = if c == 13 && begins (codes "\n") t then without_returns t else c ∷ without_returns t
 
+-- how many newlines a text has
 abbrev pub newlines : List ℕ → ℕ
 newlines t = count_by (λ c. c == 10) t
 
+-- the text up to its first newline, and what follows that
 abbrev pub line_in : List ℕ → List ℕ × List ℕ
 line_in [] = ([], [])
 line_in (c ∷ t) = if c == 10 then ([], t) else (let (line, rest) = line_in t in (c ∷ line, rest))
@@ -21,12 +23,15 @@ line_in (c ∷ t) = if c == 10 then ([], t) else (let (line, rest) = line_in t i
 abbrev pub line_at : Reader (List ℕ)
 line_at t = if is_empty t then None else Some (line_in t)
 
+-- the blanks at the front, and what follows them
 abbrev pub blanks : List ℕ → List ℕ × List ℕ
 blanks t = take_run is_blank t
 
+-- nothing but blanks
 abbrev pub is_all_blank : List ℕ → Bool
 is_all_blank t = is_empty (after_blanks t)
 
+-- what stands before the first blank, and the text from it on
 abbrev pub before_blank : List ℕ → List ℕ × List ℕ
 before_blank t = split_before is_blank t
 

@@ -48,6 +48,7 @@ pub(crate) enum DefinitionFault<'a> {
 }
 
 /// Whether the word is a name.
+#[tactic(auto, using(crate::proofs::TextLaws::run_all))]
 fn is_name(word: &[u8]) -> bool
     ensures { result ≡ is_name word.now }
 {
@@ -101,7 +102,7 @@ fn ends_anchored(text: &[u8]) -> bool
 }
 
 /// The definition of a name, in a line.
-#[tactic(auto, unfolding(crate::specs::DefinitionLines::definition_in), using(crate::proofs::TextLaws::blank_front))]
+#[tactic(auto, unfolding(crate::specs::DefinitionLines::definition_in))]
 fn definition_in(line: &[u8]) -> Result<Definition<'_>, DefinitionFault<'_>>
     ensures found { IfOk result (λ d. ◌≡◌ {A = Option Meant} (definition_in line.now) (Some (definition_of d))) }
     ensures none { OnErr result (◌≡◌ {A = Option Meant} (definition_in line.now) None) }
@@ -175,8 +176,7 @@ fn number(text: &[u8]) -> Option<Definition<'_>>
 
 /// Whether the word declares inclusive conditions.
 fn declares_inclusive(word: &[u8]) -> bool
-    ensures { result ≡ list_any (λ w. is_word word.now w) (codes "%s" ∷ codes "%S" ∷ codes "%start"
-        ∷ codes "%Start" ∷ []) }
+    ensures { result ≡ list_any (is_word word.now) (words (codes "%s %S %start %Start")) }
 {
     word == b"%s".as_slice()
         || word == b"%S".as_slice()
@@ -186,22 +186,21 @@ fn declares_inclusive(word: &[u8]) -> bool
 
 /// Whether the word declares exclusive conditions.
 fn declares_exclusive(word: &[u8]) -> bool
-    ensures { result ≡ list_any (λ w. is_word word.now w) (codes "%x" ∷ codes "%X" ∷ []) }
+    ensures { result ≡ list_any (is_word word.now) (words (codes "%x %X")) }
 {
     word == b"%x".as_slice() || word == b"%X".as_slice()
 }
 
 /// Whether the word says how yytext is kept.
 fn is_storage(word: &[u8]) -> bool
-    ensures { result ≡ list_any (λ w. is_word word.now w) (codes "%array" ∷ codes "%pointer" ∷ []) }
+    ensures { result ≡ list_any (is_word word.now) (words (codes "%array %pointer")) }
 {
     word == b"%array".as_slice() || word == b"%pointer".as_slice()
 }
 
 /// Whether the word gives the size of a table.
 fn is_size(word: &[u8]) -> bool
-    ensures { result ≡ list_any (λ w. is_word word.now w) (codes "%p" ∷ codes "%n" ∷ codes "%a" ∷ codes "%e"
-        ∷ codes "%k" ∷ codes "%o" ∷ []) }
+    ensures { result ≡ list_any (is_word word.now) (words (codes "%p %n %a %e %k %o")) }
 {
     word == b"%p".as_slice()
         || word == b"%n".as_slice()
