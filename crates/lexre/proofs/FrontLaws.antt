@@ -14,7 +14,7 @@ abbrev Front : Type 0
 Front = Option (Symbol × List ℕ)
 
 -- what follows is at most so long
-abbrev IsUpTo : {A : Type 0} → ℕ → Option (A × List ℕ) → Type 0
+abbrev pub IsUpTo : {A : Type 0} → ℕ → Option (A × List ℕ) → Type 0
 IsUpTo n None = Unit {0}
 IsUpTo n (Some x) = length x.1 ≤ n
 
@@ -40,7 +40,7 @@ quoted_front_within fold t = after_bind (length t) (quoted_bytes t) _ (quoted_wi
 
 -- Classes.
 
-elements_within : (n : ℕ) (first : Bool) (t : List ℕ) → IsUpTo (length t) (elements_at n first t)
+pub elements_within : (n : ℕ) (first : Bool) (t : List ℕ) → IsUpTo (length t) (elements_at n first t)
 unfolding elements_at
 elements_within zero first t = tt
 elements_within (suc n) first t = go (begins (codes "]") t && not first) (element_at t) (λ e rest f. element_takes t rest e f) (λ rest. elements_within n false rest)

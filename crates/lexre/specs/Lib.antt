@@ -10,6 +10,7 @@ pub mod Names
 pub mod Outcome
 pub mod CuttingSoFar
 pub mod Reading
+pub mod Pieces
 pub mod PatternExamples
 pub mod Readings
 pub mod Running
