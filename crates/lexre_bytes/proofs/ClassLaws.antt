@@ -3,7 +3,7 @@ use Rattle.std.proofs.Common.{◌≡◌, ℕ, zero, suc, ◌<◌, ◌≤◌, ◌
 use Rattle.std.specs.Prelude.{codes}
 use Rattle.lex_semantics.specs.ByteSets.{ByteSet, has, set_of, empty_set, union, complement, range_set, named_set, is_alpha, is_digit, is_alnum, is_upper, is_lower, is_space, is_blank, is_cntrl, is_graph, is_print, is_punct, is_xdigit}
 use Rattle.lex_semantics.specs.Reading.{◌>>=◌, begins}
-use Rattle.lexre_bytes.specs.Lexical.{Element, span, named, unsupported, after_word, folded, named_at, unsupported_at, bracketed_at, literal_byte_at, element_at, element_set, elements_at, union_set, class_at, class_set}
+use Rattle.lexre_bytes.specs.Lexical.{Element, span, named, unsupported, after_word, folded, class_name_at, enclosed_by, bracketed_at, literal_byte_at, element_at, element_set, elements_at, union_set, class_at, class_set}
 use Rattle.lexre_bytes.specs.ClassSets.{member_at, members_at, class_set_at}
 use Rattle.lexre_bytes.proofs.IntervalLaws.{begun, not_begun}
 use Rattle.lexre_bytes.proofs.QuoteLaws.{differs}
@@ -97,7 +97,7 @@ closing n t h = rw h refl
 -- The number that bounds the elements tells nothing once there is room.
 
 nothing_there : ◌≡◌ {A = One} (element_at []) None
-unfolding element_at bracketed_at named_at unsupported_at literal_byte_at after_word
+unfolding element_at bracketed_at class_name_at enclosed_by literal_byte_at after_word
 nothing_there = refl
 
 none_of_nothing : (m : ℕ) (first : Bool) → ◌≡◌ {A = Many} (elements_at m first []) None

@@ -5,7 +5,8 @@ use Rattle.std.specs.Prelude.{codes}
 use Rattle.lex_semantics.specs.ByteSets.{ByteSet, is_alpha, is_xdigit, within}
 use Rattle.lex_semantics.specs.Escapes.{simple_escape, octal_at, hexadecimal_at}
 use Rattle.lex_semantics.specs.Reading.{◌>>=◌, take_up_to, value, is_empty, begins}
-use Rattle.lexre_bytes.specs.Lexical.{Element, element_set, span, after_word, escape_at, letters_at, named_at, enclosed_at, unsupported_at, literal_byte_at, bracketed_at, is_range, range_at, element_at, inside}
+use Rattle.lexre_bytes.specs.Lexical.{Element, element_set, span, after_word, escape_at, literal_byte_at, bracketed_at, is_range, range_at, element_at, inside}
+use Rattle.lexre_bytes.specs.Brackets.{letters_at, named_at, enclosed_at, unsupported_at}
 use Rattle.lexre_bytes.specs.ClassSets.{member_at}
 use Rattle.lexre_bytes.specs.Stops.{stop_of}
 use Rattle.std.proofs.lemmas.Slice.Eq.{starts_is}

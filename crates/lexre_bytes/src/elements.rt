@@ -12,7 +12,7 @@ use crate::error::{FaultAt, PatternErrorKind};
 
 /// `[:name:]`, or what is like it and not supported, and what follows it. `stop` is the text from its first `]` or
 /// newline on.
-#[tactic(auto, unfolding(crate::specs::Lexical::bracketed_at))]
+#[tactic(auto, using(crate::proofs::ShorterLaws::named_is, crate::proofs::ShorterLaws::unsupported_is, crate::proofs::ShorterLaws::no_bracket))]
 fn bracketed_at<'a>(text: &'a [u8], stop: &[u8]) -> Option<(ClassItem<'a>, &'a [u8])>
     requires { stop.now ≡ stop_of text.now }
     ensures found { ◌≡◌ {A = Option (Element
