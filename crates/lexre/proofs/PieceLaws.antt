@@ -4,7 +4,8 @@ use Rattle.std.proofs.lemmas.Bool.{cases_eq, and_parts}
 use Rattle.std.specs.Prelude.{codes, cond, fold, filter, find, option_map}
 use Rattle.std.specs.List.{list_any}
 use Rattle.lex_semantics.specs.Reading.{◌>>=◌, IsCut, begins, is_white}
-use Rattle.lexre_bytes.specs.Lexical.{Element, after_quotes, class_at, elements_at, escape_at}
+use Rattle.lexre_bytes.specs.Lexical.{Element, class_at, elements_at, escape_at}
+use Rattle.lexre_bytes.specs.Quotes.{after_quotes}
 use Rattle.lexre_bytes.specs.Passing.{rest_of_class}
 use Rattle.lexre_bytes.proofs.PassingLaws.{quotes_shorter, rest_of}
 use Rattle.lexre_bytes.proofs.QuoteLaws.{escape_shorter}
@@ -53,7 +54,7 @@ IsFront t None = Unit {0}
 IsFront t (Some x) = (x.0 ≡ t) × (length x.1 < length t)
 
 front : (t : List ℕ) → IsFront t (piece_at t)
-unfolding piece_at
+unfolding piece_at after_quotes
 front [] = tt
 front (c ∷ t) = go (ends_pattern (c ∷ t)) (begins (codes "\"") (c ∷ t)) (begins (codes "[") (c ∷ t)) (begins (codes "\\") (c ∷ t))
   where

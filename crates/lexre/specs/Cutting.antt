@@ -2,7 +2,7 @@
 use Rattle.std.specs.Prelude.{◌≡◌, ℕ, suc, ◌+◌, ◌-◌, Bool, nat_lt, if◌then◌else◌, List, ◌∷◌, ◌++◌, length, take, drop, fold, filter, find, Option, Some, None, option_map, true, codes, ⊤}
 use Rattle.std.specs.List.{list_all, list_any}
 use Rattle.lex_semantics.specs.Reading.{Reader, IsCut, begins, is_white}
-use Rattle.lexre_bytes.specs.Lexical.{escape_at, after_quotes, class_at}
+use Rattle.lexre_bytes.specs.Lexical.{escape_at, quoted_bytes, class_at}
 use Rattle.lexre_bytes.specs.declared.error.PatternErrorKind.{PatternErrorKind}
 use Rattle.lexre_bytes.specs.declared.error.PatternErrorKind.TheVariants.{UnclosedQuote, UnclosedClass, BadEscape, MisplacedSlash}
 
@@ -15,7 +15,7 @@ ends_pattern t = list_all is_white (take 1 t)
 unfoldable pub piece_at : Reader (List ℕ)
 piece_at t = option_map (λ rest. (t, rest)) (
     if ends_pattern t then None
-    else if begins (codes "\"") t then after_quotes (drop 1 t)
+    else if begins (codes "\"") t then option_map (λ x. x.1) (quoted_bytes (drop 1 t))
     else if begins (codes "[") t then option_map (λ x. x.2) (class_at (drop 1 t))
     else if begins (codes "\\") t then option_map (λ x. x.1) (escape_at (drop 1 t))
     else Some (drop 1 t)

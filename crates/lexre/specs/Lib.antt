@@ -3,6 +3,7 @@ pub mod Cutting
 pub mod Cycles
 pub mod Definitions
 pub mod Entries
+pub mod Fronts
 pub mod Grammar
 pub mod Lengths
 pub mod Limits

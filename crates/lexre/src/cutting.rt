@@ -144,7 +144,7 @@ impl CuttingSoFar {
 }
 
 /// The piece at the front of the text, which stands at this place, and what follows it. None at the end of the pattern.
-#[tactic(auto, unfolding(crate::specs::Cutting::piece_at, crate::specs::Pieces::kind_at, lex_semantics::specs::ByteSets::is_blank), using(crate::proofs::FaultLaws::quote_fault_of_cutting, crate::proofs::FaultLaws::byte_fault_of_cutting))]
+#[tactic(auto, unfolding(crate::specs::Cutting::piece_at, crate::specs::Pieces::kind_at, lexre_bytes::specs::Quotes::after_quotes, lex_semantics::specs::ByteSets::is_blank), using(crate::proofs::FaultLaws::quote_fault_of_cutting, crate::proofs::FaultLaws::byte_fault_of_cutting))]
 fn piece_at(text: &[u8], at: usize) -> Result<Option<(Kind, &[u8])>, PatternError>
     requires { at + length text.now < 2 ^ 64 }
     ensures found { IfOk result (λ found. MatchOption found
