@@ -5,7 +5,8 @@ use Rattle.std.specs.List.{list_any}
 use Rattle.lex_semantics.specs.ByteSets.{single, complement, is_alnum, is_digit}
 use Rattle.lex_semantics.specs.Tree.{Set}
 use Rattle.lex_semantics.specs.Reading.{◌>>=◌, begins, is_empty, starts_name, take_up_to, value}
-use Rattle.lexre_bytes.specs.Lexical.{Element, after_word, bounded, braces_at, class_at, class_set, elements_at, element_at, escape_at, folded, interval_at, name_at, symbol_at, quoted_bytes, literal_byte_at}
+use Rattle.lexre_bytes.specs.Lexical.{after_word, bounded, braces_at, class_at, class_set, elements_at, element_at, escape_at, folded, interval_at, name_at, symbol_at, quoted_bytes, literal_byte_at}
+use Rattle.lexre_bytes.specs.Elements.{Element}
 use Rattle.lexre.specs.Fronts.{class_front, escape_front, quoted_front}
 use Rattle.lexre_bytes.specs.Quotes.{after_quotes}
 use Rattle.lexre_bytes.specs.Symbols.{Symbol, item, name, opening, closing, bar, sign, interval, any_times, once_or_more, at_most_once}

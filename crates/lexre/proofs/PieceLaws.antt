@@ -4,7 +4,8 @@ use Rattle.std.proofs.lemmas.Bool.{cases_eq, and_parts}
 use Rattle.std.specs.Prelude.{codes, cond, fold, filter, find, option_map}
 use Rattle.std.specs.List.{list_any}
 use Rattle.lex_semantics.specs.Reading.{◌>>=◌, IsCut, begins, is_white}
-use Rattle.lexre_bytes.specs.Lexical.{Element, class_at, elements_at, escape_at}
+use Rattle.lexre_bytes.specs.Lexical.{class_at, elements_at, escape_at}
+use Rattle.lexre_bytes.specs.Elements.{Element}
 use Rattle.lexre_bytes.specs.Quotes.{after_quotes}
 use Rattle.lexre_bytes.specs.Passing.{rest_of_class}
 use Rattle.lexre_bytes.proofs.PassingLaws.{quotes_shorter, rest_of}

@@ -5,7 +5,8 @@ use Rattle.std.proofs.lemmas.Bool.Decides.{Decides-eqb}
 use Rattle.std.specs.Prelude.{codes}
 use Rattle.std.specs.Option.{option_or}
 use Rattle.lex_semantics.specs.Reading.{◌>>=◌}
-use Rattle.lexre_bytes.specs.Lexical.{Element, named, unsupported, after_word, class_name_at, enclosed_by, bracketed_at}
+use Rattle.lexre_bytes.specs.Lexical.{after_word, class_name_at, enclosed_by, bracketed_at}
+use Rattle.lexre_bytes.specs.Elements.{Element, named, unsupported}
 use Rattle.lexre_bytes.specs.Brackets.{letters_at, named_at, enclosed_at, unsupported_at}
 use Rattle.lexre_bytes.proofs.IntervalLaws.{begun}
 

@@ -1,6 +1,7 @@
 -- The elements of a class.
 use Rattle.std.proofs.Common.{◌≡◌, ℕ, false, List, [], ◌∷◌, length, Option, Some, None, refl, arith}
-use Rattle.lexre_bytes.specs.Lexical.{Element, span, bracketed_at, literal_byte_at, is_range, element_at}
+use Rattle.lexre_bytes.specs.Lexical.{span, bracketed_at, literal_byte_at, is_range, element_at}
+use Rattle.lexre_bytes.specs.Elements.{Element}
 
 abbrev Found : Type 0
 Found = Option (Element × List ℕ)

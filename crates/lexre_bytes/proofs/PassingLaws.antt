@@ -6,7 +6,8 @@ use Rattle.std.specs.List.{ends_with}
 use Rattle.lex_semantics.specs.Escapes.{until_quote}
 use Rattle.lex_semantics.specs.ByteSets.{is_alpha}
 use Rattle.lex_semantics.specs.Reading.{◌>>=◌, take_up_to, take_run, is_empty, begins}
-use Rattle.lexre_bytes.specs.Lexical.{after_word, escape_at, Element, named, span, unsupported, literal_byte_at, class_name_at, enclosed_by, bracketed_at, is_range, range_at, element_at, elements_at, class_at}
+use Rattle.lexre_bytes.specs.Lexical.{after_word, escape_at, span, literal_byte_at, class_name_at, enclosed_by, bracketed_at, is_range, range_at, element_at, elements_at, class_at}
+use Rattle.lexre_bytes.specs.Elements.{Element, named, unsupported}
 use Rattle.lexre_bytes.specs.Quotes.{quoted_at, after_quotes}
 use Rattle.lexre_bytes.specs.Brackets.{letters_at, named_at, enclosed_at, unsupported_at}
 use Rattle.lexre_bytes.specs.Passing.{rest_of_class}

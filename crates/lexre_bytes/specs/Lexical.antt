@@ -50,14 +50,12 @@ quoted_tree fold (b ∷ c ∷ bs) = Cat (trees (map (λ x. Set (folded fold (sin
 
 -- Bracket expressions, here called classes.
 
--- an element of a class
-pub data Element : Type 0 where
-  -- the bytes from the first to the second
-  span : ℕ → ℕ → Element
-  -- `[:name:]`
-  named : List ℕ → Element
-  -- `[:^name:]`, `[=a=]`, `[.a.]`, or a range whose second end is one of these or a named class
-  unsupported : Element
+-- An element of a class is read as its set. It has none where it may not stand: `[:^name:]`, `[=a=]`, `[.a.]`, a class name
+-- that there is not, a range from a greater byte to a smaller one, or one whose second end is no byte.
+
+-- the bytes from the first to the second, both in it
+unfoldable pub span : ℕ → ℕ → Option ByteSet
+span lo hi = if nat_le lo hi then Some (range_set lo hi) else None
 
 -- this front, at least one letter, and `:]`: the letters, and what follows
 unfoldable pub class_name_at : List ℕ → Reader (List ℕ)
@@ -76,10 +74,10 @@ enclosed_by mark t = after_word (codes "[" ++ mark) t >>= λ u.
     if nat_lt 1 (length bytes) && ends_with nat_eq bytes mark then after_word (codes "]") rest else None
 
 -- an element between brackets that stands at the front of the text, and what follows it
-unfoldable pub bracketed_at : Reader Element
+unfoldable pub bracketed_at : Reader (Option ByteSet)
 bracketed_at t =
-    option_or (class_name_at (codes "[:") t >>= λ (letters, rest). Some (named letters, rest))
-    (option_or (class_name_at (codes "[:^") t >>= λ (letters, rest). Some rest) (option_or (enclosed_by (codes "=") t) (enclosed_by (codes ".") t)) >>= λ rest. Some (unsupported, rest))
+    option_or (class_name_at (codes "[:") t >>= λ (letters, rest). Some (named_set letters, rest))
+    (option_or (class_name_at (codes "[:^") t >>= λ (letters, rest). Some rest) (option_or (enclosed_by (codes "=") t) (enclosed_by (codes ".") t)) >>= λ rest. Some (None, rest))
 
 -- a `-` that is followed by anything but an unescaped `]`
 unfoldable pub is_range : List ℕ → Bool
@@ -87,41 +85,35 @@ is_range (c ∷ d ∷ t) = one_of (codes "-") c && not (one_of (codes "]") d)
 is_range _ = false
 
 -- after the first end of a range and its `-`: the element, and what follows it
-unfoldable pub range_at : ℕ → Reader Element
-range_at lo t = option_or (bracketed_at t >>= λ (e, rest). Some (unsupported, rest)) (literal_byte_at t >>= λ (hi, rest). Some (span lo hi, rest))
+unfoldable pub range_at : ℕ → Reader (Option ByteSet)
+range_at lo t = option_or (bracketed_at t >>= λ (e, rest). Some (None, rest)) (literal_byte_at t >>= λ (hi, rest). Some (span lo hi, rest))
 
-unfoldable pub element_at : Reader Element
+unfoldable pub element_at : Reader (Option ByteSet)
 element_at t = option_or (bracketed_at t) (literal_byte_at t >>= λ (lo, rest). if is_range rest then range_at lo (drop 1 rest) else Some (span lo lo, rest))
 
 -- The elements up to the closing bracket, and what follows it. A `]` that comes first is an element. The number bounds them.
-unfoldable pub elements_at : ℕ → Bool → Reader (List Element)
+unfoldable pub elements_at : ℕ → Bool → Reader (List (Option ByteSet))
 elements_at zero first t = None
 elements_at (suc n) first t =
     if begins (codes "]") t && not first then Some ([], drop 1 t)
     else element_at t >>= λ (e, rest). elements_at n false rest >>= λ (es, after). Some (e ∷ es, after)
 
 -- after the opening bracket: whether the class is negated, its elements, and what follows it
-unfoldable pub class_at : List ℕ → Option (Bool × List Element × List ℕ)
+unfoldable pub class_at : List ℕ → Option (Bool × List (Option ByteSet) × List ℕ)
 class_at t =
     let negated = begins (codes "^") t in
     elements_at (length t) true (if negated then drop 1 t else t) >>= λ (es, rest). Some (negated, es, rest)
 
--- the set of an element, if it is one that may stand
-unfoldable pub element_set : Element → Option ByteSet
-element_set (span lo hi) = if nat_le lo hi then Some (range_set lo hi) else None
-element_set (named n) = named_set n
-element_set unsupported = None
-
-unfoldable pub union_set : List Element → Option ByteSet
+-- the bytes of all elements, if each has a set
+unfoldable pub union_set : List (Option ByteSet) → Option ByteSet
 union_set [] = Some empty_set
-union_set (e ∷ es) = element_set e >>= λ s. union_set es >>= λ rest. Some (union s rest)
+union_set (e ∷ es) = e >>= λ s. union_set es >>= λ rest. Some (union s rest)
 
 -- closed under case first, and negated then, where a byte is left
-unfoldable pub class_set : Bool → Bool → List Element → Option ByteSet
-class_set fold negated es = union_set es >>= λ s.
-    if not negated then Some (folded fold s)
-    else if complement (folded fold s) == 0 then None
-    else Some (complement (folded fold s))
+unfoldable pub class_set : Bool → Bool → List (Option ByteSet) → Option ByteSet
+class_set fold negated es = union_set es >>= λ u.
+    let s = if negated then complement (folded fold u) else folded fold u in
+    if negated && s == 0 then None else Some s
 
 -- Intervals and names, after `{`.
 

@@ -1,8 +1,8 @@
 //! The elements of a class. (POSIX, Base Definitions, RE Bracket Expression.)
 ghost use Rattle.std.specs.Prelude.{◌≡◌, ◌≤◌, List, length, ℕ, Option, Some, None};
 ghost use Rattle.std.specs.Prelude.{MatchResult, IfErr, IfOk, IfSome, option_map};
-ghost use Rattle.lexre_bytes.specs.Lexical.{Element, bracketed_at, element_at, is_range, range_at};
-ghost use Rattle.lexre_bytes.specs.Elements.{element_of};
+ghost use Rattle.lexre_bytes.specs.Lexical.{bracketed_at, element_at, is_range, range_at};
+ghost use Rattle.lexre_bytes.specs.Elements.{element_of, Element};
 ghost use Rattle.lexre_bytes.specs.Faults.{IsByteFault, HasPartFault};
 ghost use Rattle.lexre_bytes.specs.Stops.{stop_of};
 
