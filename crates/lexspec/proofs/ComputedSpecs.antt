@@ -12,7 +12,7 @@ use Rattle.lex_semantics.specs.Shapes.{IsSoundTree, nodes}
 use Rattle.lex_semantics.specs.Sound.{IsCutOf}
 use Rattle.lex_semantics.specs.Spec.{Rule, Echo, Print, More, End, Push, Pop}
 use Rattle.lex_semantics.specs.Tree.{Tree, Set, Star}
-use Rattle.lexre_bytes.specs.Lexical.{after_word, escape_at, literal_byte_at, quoted_tree, class_name_at, enclosed_by, bracketed_at, is_range, range_at, element_at, elements_at, class_at, element_set, union_set, class_set, name_at, braces_at, symbol_at}
+use Rattle.lexre_bytes.specs.Lexical.{after_word, escape_at, literal_byte_at, quoted_tree, class_name_at, enclosed_by, bracketed_at, is_range, range_at, element_at, elements_at, class_at, span, union_set, class_set, name_at, braces_at, symbol_at}
 use Rattle.lexre_bytes.specs.Symbols.{name, sign, once_or_more}
 use Rattle.lexre.specs.Definitions.{Definitions}
 use Rattle.lexre.specs.Grammar.{SpellsWithin}
@@ -52,7 +52,7 @@ digit_named : get named (codes "D") ≡ Some (codes "[0-9]")
 digit_named = get-from_entries nat_list_cmp_total ((codes "D", codes "[0-9]") ∷ []) (codes "D")
 
 digit_spelled : SpellsWithin false (symbol_at false) (get named) 63 (codes "[0-9]") digit
-unfolding after_word escape_at literal_byte_at class_name_at enclosed_by bracketed_at is_range range_at element_at elements_at class_at element_set union_set class_set symbol_at has set_below set_of empty_set range_set union is_alpha is_digit is_alnum take_up_to
+unfolding after_word escape_at literal_byte_at class_name_at enclosed_by bracketed_at is_range range_at element_at elements_at class_at span union_set class_set symbol_at has set_below set_of empty_set range_set union is_alpha is_digit is_alnum take_up_to
 digit_spelled = runs_spelled false (symbol_at false) (get named) 63 (codes "[0-9]") digit (found_runs false false (get named) 20 (state fresh [] 63) (codes "[0-9]") digit refl)
 
 -- the name, and then the sign
