@@ -5,9 +5,9 @@ use Rattle.std.specs.List.{list_any}
 use Rattle.lex_semantics.specs.ByteSets.{single, complement, is_alnum, is_digit}
 use Rattle.lex_semantics.specs.Tree.{Set}
 use Rattle.lex_semantics.specs.Reading.{◌>>=◌, begins, is_empty, starts_name, take_up_to, value}
-use Rattle.lexre_bytes.specs.Lexical.{after_word, bounded, braces_at, class_at, class_set, elements_at, element_at, escape_at, folded, interval_at, name_at, symbol_at, quoted_bytes, literal_byte_at}
+use Rattle.lexre_bytes.specs.Lexical.{after_word, bounded, braces_at, class_at, class_set, elements_at, element_at, escape_at, folded, interval_at, symbol_at, quoted_bytes, literal_byte_at}
 use Rattle.lexre_bytes.specs.Elements.{Element}
-use Rattle.lexre.specs.Fronts.{class_front, escape_front, quoted_front}
+use Rattle.lexre.specs.Fronts.{class_front, escape_front, quoted_front, name_at}
 use Rattle.lexre_bytes.specs.Quotes.{after_quotes}
 use Rattle.lexre_bytes.specs.Symbols.{Symbol, item, name, opening, closing, bar, sign, interval, any_times, once_or_more, at_most_once}
 use Rattle.lexre_bytes.proofs.PassingLaws.{quotes_shorter}
@@ -144,7 +144,7 @@ interval_within t =
     go false false false d e = tt
 
 braces_within : (t : List ℕ) → IsUpTo (length t) (braces_at t)
-unfolding braces_at
+unfolding braces_at name_at
 braces_within t = go (list_any is_digit (take 1 t)) (list_any starts_name (take 1 t))
   where
     go : (a b : Bool) → IsUpTo (length t) (if a then interval_at t else if b then name_at t else None)

@@ -3,8 +3,9 @@
 -- its left. (POSIX, lex, Regular Expressions in lex: under `posix` its precedences; flex, Patterns. The bounds are this
 -- project's.)
 use Rattle.std.specs.Prelude.{◌≡◌, ℕ, suc, ◌<◌, Bool, true, false, List, [], ◌∷◌, ◌++◌, Option, Some, None}
+use Rattle.lex_semantics.specs.Reading.{Reader}
 use Rattle.lex_semantics.specs.Tree.{Tree, Trees, trees, Cat, Alt, Repeat}
-use Rattle.lexre_bytes.specs.Symbols.{Symbol, Sign, item, name, opening, closing, bar, sign, interval, signed, Lexer, IsCut}
+use Rattle.lexre_bytes.specs.Symbols.{Symbol, Sign, item, name, opening, closing, bar, sign, interval, signed, IsCut}
 use Rattle.lexre.specs.Limits.{max_signs}
 
 -- the tree of a series or of a choice, by its parts, of which the last stands apart: a part alone is itself
@@ -14,7 +15,7 @@ joined made (t ∷ ts) last = made (trees (t ∷ ts ++ last ∷ []))
 
 -- `symbol_at` cuts a text into symbols, and `defined` has the text of each name. The number d in each type bounds how many
 -- parentheses and names may be open inside.
-module _ (posix : Bool) (symbol_at : Lexer) (defined : List ℕ → Option (List ℕ)) where
+module _ (posix : Bool) (symbol_at : Reader Symbol) (defined : List ℕ → Option (List ℕ)) where
   mutual
     -- an item: one by itself, a pattern in parentheses, or a name, which stands for its text as if in parentheses
     pub data IsItem : ℕ → List Symbol → Tree → Type 0 where

@@ -5,11 +5,11 @@ use Rattle.std.specs.Prelude.{codes}
 use Rattle.lex_semantics.specs.ByteSets.{ByteSet, is_alpha, is_xdigit, within}
 use Rattle.lex_semantics.specs.Escapes.{simple_escape, octal_at, hexadecimal_at}
 use Rattle.lex_semantics.specs.Reading.{◌>>=◌, take_up_to, value, is_empty, begins}
-use Rattle.lexre_bytes.specs.Lexical.{span, after_word, escape_at, literal_byte_at, bracketed_at, is_range, range_at, element_at, inside}
+use Rattle.lexre_bytes.specs.Lexical.{span, after_word, escape_at, literal_byte_at, bracketed_at, is_range, range_at, element_at}
 use Rattle.lexre_bytes.specs.Elements.{Element}
 use Rattle.lexre_bytes.specs.Brackets.{letters_at, named_at, enclosed_at, unsupported_at}
 use Rattle.lexre_bytes.specs.ClassSets.{member_at}
-use Rattle.lexre_bytes.specs.Stops.{stop_of}
+use Rattle.lexre_bytes.specs.Stops.{stop_of, inside}
 use Rattle.std.proofs.lemmas.Slice.Eq.{starts_is}
 use Rattle.std.proofs.lemmas.Bool.Decides.{Decides-eqb}
 use Rattle.lexre_bytes.proofs.IntervalLaws.{begun}

@@ -3,7 +3,8 @@ use Rattle.std.specs.Prelude.{ℕ, ◌&&◌, nat_lt, nat_eq, if◌then◌else◌
 use Rattle.std.specs.List.{ends_with}
 use Rattle.lex_semantics.specs.ByteSets.{is_alpha}
 use Rattle.lex_semantics.specs.Reading.{◌>>=◌, Reader, is_empty, take_run}
-use Rattle.lexre_bytes.specs.Lexical.{after_word, inside}
+use Rattle.lexre_bytes.specs.Lexical.{after_word}
+use Rattle.lexre_bytes.specs.Stops.{inside}
 
 -- at least one letter, and `:]`: the letters, and what follows
 unfoldable pub letters_at : Reader (List ℕ)

@@ -7,7 +7,7 @@ use Rattle.lex_semantics.specs.ByteSets.{ByteSet, empty_set, single, range_set, 
 use Rattle.lex_semantics.specs.Reading.{◌>>=◌, Reader, is_empty, begins, take_run, starts_name, goes_on_name, value}
 use Rattle.lex_semantics.specs.Escapes.{simple_escape, is_octal, octal_at, hexadecimal_at, byte_with, until_quote}
 use Rattle.lex_semantics.specs.Tree.{Tree, Empty, Set, Cat, trees}
-use Rattle.lexre_bytes.specs.Symbols.{Symbol, item, name, opening, closing, bar, sign, interval, any_times, once_or_more, at_most_once, Lexer}
+use Rattle.lexre_bytes.specs.Symbols.{Symbol, item, name, opening, closing, bar, sign, interval, any_times, once_or_more, at_most_once}
 use Rattle.lexre_bytes.specs.Limits.{max_times}
 
 -- what follows the word, where the text begins with it
@@ -63,14 +63,10 @@ class_name_at front t = after_word front t >>= λ u.
     let (letters, rest) = take_run is_alpha u in
     if is_empty letters then None else after_word (codes ":]") rest >>= λ after. Some (letters, after)
 
--- no `]`, and no newline
-abbrev pub inside : ℕ → Bool
-inside b = not (one_of (codes "]\n") b)
-
 -- `[` and this mark, at least one byte that is no `]` and no newline, then the mark and `]`: what follows
 unfoldable pub enclosed_by : List ℕ → List ℕ → Option (List ℕ)
 enclosed_by mark t = after_word (codes "[" ++ mark) t >>= λ u.
-    let (bytes, rest) = take_run inside u in
+    let (bytes, rest) = take_run (λ b. not (one_of (codes "]\n") b)) u in
     if nat_lt 1 (length bytes) && ends_with nat_eq bytes mark then after_word (codes "]") rest else None
 
 -- an element between brackets that stands at the front of the text, and what follows it
@@ -133,23 +129,19 @@ interval_at t =
     if not (is_empty most) && begins (codes "}") after then bounded m (value 10 most) (drop 1 after) else None)
     else None
 
--- at a letter or `_`: letters, digits, `_` and `-`, and `}`
-unfoldable pub name_at : Reader Symbol
-name_at t =
-    let (letters, rest) = take_run goes_on_name t in
-    after_word (codes "}") rest >>= λ after. Some (name letters, after)
-
+-- an interval, or a name and `}`
 unfoldable pub braces_at : Reader Symbol
 braces_at t =
     if list_any is_digit (take 1 t) then interval_at t
-    else if list_any starts_name (take 1 t) then name_at t
+    else if list_any starts_name (take 1 t) then
+    (let (letters, rest) = take_run goes_on_name t in after_word (codes "}") rest >>= λ after. Some (name letters, after))
     else None
 
 -- Symbols.
 
 -- The symbol at the front of the text, and what follows it: a sign that is one by itself, a text in quotes, a class, what
 -- stands in braces, or an escape or a byte. A `/` and a blank are none.
-unfoldable pub symbol_at : Bool → Lexer
+unfoldable pub symbol_at : Bool → Reader Symbol
 symbol_at fold [] = None
 symbol_at fold (c ∷ t) =
     let signs = zip (codes "()|*+?.") (opening ∷ closing ∷ bar ∷ sign any_times ∷ sign once_or_more ∷ sign at_most_once ∷ item (Set (complement (single 10))) ∷ []) in
