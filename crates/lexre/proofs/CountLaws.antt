@@ -3,9 +3,8 @@ use Rattle.std.proofs.Common.{◌≡◌, ℕ, zero, suc, ◌+◌, ◌<◌, ◌�
 use Rattle.lex_semantics.specs.Shapes.{nodes, nodes_of}
 use Rattle.lex_semantics.specs.Tree.{Tree, Repeat, trees}
 use Rattle.lexre.specs.Counting.{series_nodes, frame_nodes, frames_nodes, state_nodes, extra, adds}
-use Rattle.lexre.specs.Grammar.{series_tree, choice_tree, Signs, on_item, how_many, one_more, operand_signs}
 use Rattle.lexre.specs.Outcome.{size_of}
-use Rattle.lexre.specs.Running.{Frame, frame, State, state, pushed, onto_last, gathered, finished, step_of, Steps, Runs}
+use Rattle.lexre.specs.Running.{series_tree, choice_tree, Signs, on_item, how_many, one_more, operand_signs, Frame, frame, State, state, pushed, onto_last, gathered, finished, step_of, Steps, Runs}
 use Rattle.lexre_bytes.specs.Symbols.{Symbol, Sign, item, name, opening, closing, bar, sign, interval, any_times, once_or_more, at_most_once, signed, Lexer}
 use Rattle.lexre.proofs.GrammarLaws.{chosen}
 use Rattle.lexre.proofs.OneTree.{some_is}

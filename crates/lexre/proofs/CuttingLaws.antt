@@ -1,7 +1,9 @@
 -- The reader of a rule's pattern, against whole texts.
 use Rattle.std.proofs.Common.{◌≡◌, ℕ, zero, suc, ◌+◌, ◌-◌, ◌<◌, ◌≤◌, Bool, true, false, List, [], ◌∷◌, length, Option, Some, None, refl, sym, ap, ◌∙◌, subst, arith}
 use Rattle.lex_semantics.specs.Reading.{◌>>=◌}
-use Rattle.lexre.specs.Cutting.{Piece, opens, closes, slash, dollar, other, piece_at, slashes, ends_with_dollar, is_dollar, first_of, has_two, IsEnd, IsPieces, IsCutting}
+use Rattle.lexre.specs.Cutting.{piece_at, IsCutting}
+use Rattle.lexre.specs.Pieces.{Piece, opens, closes, slash, dollar, other, kind_at, slashes, ends_with_dollar, is_dollar, first_of, has_two, IsEnd, IsPieces, IsCutSo}
+use Rattle.lexre.proofs.PieceLaws.{cutting_of, cut_so, end_of}
 use Rattle.lexre.specs.CuttingSoFar.{Ending, ending, first_with, two_with, special_with}
 use Rattle.lexre.specs.declared.cutting.CuttingSoFar.{CuttingSoFar}
 
@@ -91,8 +93,8 @@ Goes p at rest end first two special =
 
 -- it goes on to just the cuttings of the whole text
 pub record Agree (p : CuttingSoFar) (at : ℕ) (rest text : List ℕ) : Type 0 where
-  pub on : (end : ℕ) (first : Option ℕ) (two special : Bool) → Goes p at rest end first two special → IsCutting text end first two special
-  pub back : (end : ℕ) (first : Option ℕ) (two special : Bool) → IsCutting text end first two special → Goes p at rest end first two special
+  pub on : (end : ℕ) (first : Option ℕ) (two special : Bool) → Goes p at rest end first two special → IsCutSo text end first two special
+  pub back : (end : ℕ) (first : Option ℕ) (two special : Bool) → IsCutSo text end first two special → Goes p at rest end first two special
 
 abbrev Triple : Type 0
 Triple = Option ℕ × Bool × Bool
@@ -109,7 +111,7 @@ abbrev pub fresh : CuttingSoFar
 fresh = record { depth = 0; slash = None; two = false; dollar = false }
 
 first_on : (text : List ℕ) (ps : List (Piece × ℕ)) (end : ℕ) (first : Option ℕ) (two special : Bool) → IsPieces 0 text ps end → (o : Option (List ℕ)) → slashes 0 ps ≡ o
-    → ◌≡◌ {A = Ending} (o >>= λ places. Some (first_of places, has_two places, special_with false ps)) (Some (first, two, special)) → IsCutting text end first two special
+    → ◌≡◌ {A = Ending} (o >>= λ places. Some (first_of places, has_two places, special_with false ps)) (Some (first, two, special)) → IsCutSo text end first two special
 first_on text ps end first two special cut None outside made = let e : ◌≡◌ {A = Ending} None (Some (first, two, special)) = made in cc
 first_on text ps end first two special cut (Some places) outside made =
     let same = some_triple (first_of places, has_two places, special_with false ps) (first, two, special) made in
@@ -123,7 +125,7 @@ first_on text ps end first two special cut (Some places) outside made =
       last = ap (λ (x : Triple). x.2) (sym same) ∙ last_first ps;
     }
 
-first_back : (text : List ℕ) (end : ℕ) (first : Option ℕ) (two special : Bool) → IsCutting text end first two special → Goes fresh 0 text end first two special
+first_back : (text : List ℕ) (end : ℕ) (first : Option ℕ) (two special : Bool) → IsCutSo text end first two special → Goes fresh 0 text end first two special
 unfolding ending
 first_back text end first two special h =
     let last : special_with false h.pieces ≡ special = last_first h.pieces ∙ sym h.last in
@@ -136,10 +138,9 @@ agree_first text = record {
   back = λ end first two special h. first_back text end first two special h;
 }
 
-pub no_piece : (t : List ℕ) → IsEnd t → ◌≡◌ {A = Option (Piece × List ℕ)} (piece_at t) None
-unfolding piece_at
-no_piece [] h = refl
-no_piece (c ∷ t) h = rw h refl
+pub no_piece : (t : List ℕ) → IsEnd t → ◌≡◌ {A = Option (Piece × List ℕ)} (kind_at t) None
+unfolding kind_at piece_at
+no_piece t h = rw (end_of t h) refl
 
 pair_is : (p q : Piece) (x y : List ℕ) → ◌≡◌ {A = Option (Piece × List ℕ)} (Some (p, x)) (Some (q, y)) → (p ≡ q) × (x ≡ y)
 pair_is p q x y e =
@@ -153,7 +154,7 @@ none_some : (x : Piece × List ℕ) → ◌≡◌ {A = Option (Piece × List ℕ
 none_some x e = cc
 
 goes_on : (p p' : CuttingSoFar) (at at' : ℕ) (rest after : List ℕ) (q : Piece) (end : ℕ) (first : Option ℕ) (two special : Bool)
-    → ◌≡◌ {A = Option (Piece × List ℕ)} (piece_at rest) (Some (q, after)) → at' ≡ at + (length rest - length after)
+    → ◌≡◌ {A = Option (Piece × List ℕ)} (kind_at rest) (Some (q, after)) → at' ≡ at + (length rest - length after)
     → ((ps : List (Piece × ℕ)) → ◌≡◌ {A = Ending} (ending p ((q, at) ∷ ps)) (ending p' ps))
     → Goes p' at' after end first two special → Goes p at rest end first two special
 goes_on p p' at at' rest after q end first two special here place step (ps, cut, made) =
@@ -161,7 +162,7 @@ goes_on p p' at at' rest after q end first two special here place step (ps, cut,
     ((q, at) ∷ ps, (after, here, refl, subst P place cut), step ps ∙ made)
 
 goes_back : (p p' : CuttingSoFar) (at at' : ℕ) (rest after : List ℕ) (q : Piece) (end : ℕ) (first : Option ℕ) (two special : Bool)
-    → ◌≡◌ {A = Option (Piece × List ℕ)} (piece_at rest) (Some (q, after)) → at' ≡ at + (length rest - length after)
+    → ◌≡◌ {A = Option (Piece × List ℕ)} (kind_at rest) (Some (q, after)) → at' ≡ at + (length rest - length after)
     → ((ps : List (Piece × ℕ)) → ◌≡◌ {A = Ending} (ending p ((q, at) ∷ ps)) (ending p' ps))
     → Goes p at rest end first two special → Goes p' at' after end first two special
 goes_back p p' at at' rest after q end first two special here place step ([], done, made) = absurd (none_some (q, after) (sym (no_piece rest done.0) ∙ here))
@@ -174,7 +175,7 @@ goes_back p p' at at' rest after q end first two special here place step ((r, k)
     (ps, subst Q (sym place) (subst P is.1 cut), sym (step ps) ∙ subst S stands (subst R is.0 made))
 
 pub agree_step : (p p' : CuttingSoFar) (at at' : ℕ) (rest after text : List ℕ) (q : Piece)
-    → ◌≡◌ {A = Option (Piece × List ℕ)} (piece_at rest) (Some (q, after)) → at' ≡ at + (length rest - length after)
+    → ◌≡◌ {A = Option (Piece × List ℕ)} (kind_at rest) (Some (q, after)) → at' ≡ at + (length rest - length after)
     → ((ps : List (Piece × ℕ)) → ◌≡◌ {A = Ending} (ending p ((q, at) ∷ ps)) (ending p' ps))
     → Agree p at rest text → Agree p' at' after text
 agree_step p p' at at' rest after text q here place step agree = record {
@@ -193,22 +194,23 @@ ended (suc n) None false last = refl
 ended (suc n) (Some f) two last = refl
 
 pub found_at : (p : CuttingSoFar) (at : ℕ) (rest text : List ℕ) → Agree p at rest text → IsEnd rest → IsCutting text at p.slash p.two p.dollar
-found_at p at rest text agree end = agree.on at p.slash p.two p.dollar ([], (end, refl), ended p.depth p.slash p.two p.dollar)
+found_at p at rest text agree end =
+    cutting_of text at p.slash p.two p.dollar (agree.on at p.slash p.two p.dollar ([], (end, refl), ended p.depth p.slash p.two p.dollar))
 
 -- what is refused has no cutting
 abbrev pub HasNone : List ℕ → Type 0
 HasNone text = (end : ℕ) (first : Option ℕ) (two special : Bool) → IsCutting text end first two special → ⊥
 
-pub refused_piece : (p : CuttingSoFar) (at : ℕ) (rest text : List ℕ) → Agree p at rest text → ◌≡◌ {A = Option (Piece × List ℕ)} (piece_at rest) None → (IsEnd rest → ⊥) → HasNone text
-refused_piece p at rest text agree none goes end first two special h = go (agree.back end first two special h)
+pub refused_piece : (p : CuttingSoFar) (at : ℕ) (rest text : List ℕ) → Agree p at rest text → ◌≡◌ {A = Option (Piece × List ℕ)} (kind_at rest) None → (IsEnd rest → ⊥) → HasNone text
+refused_piece p at rest text agree none goes end first two special h = go (agree.back end first two special (cut_so text end first two special h))
   where
     go : Goes p at rest end first two special → ⊥
     go ([], done, made) = goes done.0
     go (q ∷ ps, (left, there, stands, cut), made) = none_some (q.0, left) (sym none ∙ there)
 
-pub refused_slash : (p : CuttingSoFar) (at : ℕ) (rest after text : List ℕ) (q : Piece) → Agree p at rest text → ◌≡◌ {A = Option (Piece × List ℕ)} (piece_at rest) (Some (q, after))
+pub refused_slash : (p : CuttingSoFar) (at : ℕ) (rest after text : List ℕ) (q : Piece) → Agree p at rest text → ◌≡◌ {A = Option (Piece × List ℕ)} (kind_at rest) (Some (q, after))
     → ((ps : List (Piece × ℕ)) → ◌≡◌ {A = Ending} (ending p ((q, at) ∷ ps)) None) → HasNone text
-refused_slash p at rest after text q agree here step end first two special h = go (agree.back end first two special h)
+refused_slash p at rest after text q agree here step end first two special h = go (agree.back end first two special (cut_so text end first two special h))
   where
     nothing : (x : Triple) → ◌≡◌ {A = Ending} None (Some x) → ⊥
     nothing x e = cc
@@ -239,7 +241,9 @@ some_places x y e = cc
 
 pub one_cutting : (text : List ℕ) (end end' : ℕ) (first first' : Option ℕ) (two two' special special' : Bool)
     → IsCutting text end first two special → IsCutting text end' first' two' special' → (end ≡ end') × (first ≡ first') × (two ≡ two') × (special ≡ special')
-one_cutting text end end' first first' two two' special special' h k =
+one_cutting text end end' first first' two two' special special' a b =
+    let h = cut_so text end first two special a in
+    let k = cut_so text end' first' two' special' b in
     let same = same_pieces h.pieces k.pieces 0 text end end' h.cut k.cut in
     let places : h.places ≡ k.places = some_places h.places k.places (sym h.outside ∙ ap (slashes 0) same.0 ∙ k.outside) in
     (same.1, h.first ∙ ap first_of places ∙ sym k.first, h.second ∙ ap has_two places ∙ sym k.second, h.last ∙ ap ends_with_dollar same.0 ∙ sym k.last)

@@ -9,9 +9,9 @@ use Rattle.lex_semantics.specs.Text.{Among}
 use Rattle.lex_semantics.specs.Tree.{Tree}
 use Rattle.lexre.specs.Cycles.{LeadsTo, LeadsToText, AllLead, AllLeadToText, AllLeadToSymbol}
 use Rattle.lexre.specs.Definitions.{Definitions}
-use Rattle.lexre.specs.Grammar.{choice_tree, Signs, IsItem, IsSeries, IsPattern, alone, group, defines, first, next, repeated, counted, only, choice, SpellsWithin}
+use Rattle.lexre.specs.Grammar.{IsItem, IsSeries, IsPattern, alone, group, defines, first, next, repeated, counted, repeated_whole, counted_whole, only, choice, SpellsWithin}
 use Rattle.lexre.specs.Reading.{SpellsIn, StandsIn, NoneWithin, is_among}
-use Rattle.lexre.specs.Running.{Stands}
+use Rattle.lexre.specs.Running.{choice_tree, Stands}
 use Rattle.lexre.specs.declared.options.ReadOptions.{ReadOptions}
 use Rattle.lex_semantics.proofs.Fronts.{among_append}
 use Rattle.lexre.proofs.OneTree.{pair_is}
@@ -68,23 +68,26 @@ module _ (posix : Bool) (symbol_at : Lexer) (defined : List ℕ → Option (List
         (d, choice_tree ts t, omega arith, subst P same (text, found, (ss, ts, t, cut, inside, refl)))
     item_named _ _ _ (defines d m text ss ts t found cut inside) n (inr more) = absurd more
 
-    series_named : (d : ℕ) (ss : List Symbol) (parts : List Tree) (last : Tree) (k : Signs) → IsSeries posix symbol_at defined d ss parts last k
+    series_named : (d : ℕ) (ss : List Symbol) (parts : List Tree) (last : Tree) (c : ℕ) (k : Option ℕ) → IsSeries posix symbol_at defined d ss parts last c k
         → (n : List ℕ) → Among ss (name n) → Below d n
-    series_named _ _ _ _ _ (first d ss t it) n among = item_named d ss t it n among
-    series_named _ _ _ _ _ (next d ss parts last k more t before it) n among = elim (among_append ss more (name n) among) [
-      | inl left ↦ series_named d ss parts last k before n left
+    series_named _ _ _ _ _ _ (first d ss t it) n among = item_named d ss t it n among
+    series_named _ _ _ _ _ _ (next d ss parts last c k more t before it) n among = elim (among_append ss more (name n) among) [
+      | inl left ↦ series_named d ss parts last c k before n left
       | inr right ↦ item_named d more t it n right
     ]
-    series_named _ _ _ _ _ (repeated d ss parts last k s before below) n among = series_named d ss parts last k before n (in_front ss (sign s) n (no_sign n s) among)
-    series_named _ _ _ _ _ (counted d ss parts last k m most before below) n among =
-        series_named d ss parts last k before n (in_front ss (interval m most) n (no_interval n m most) among)
+    series_named _ _ _ _ _ _ (repeated d ss parts last c k s before below) n among = series_named d ss parts last c (Some k) before n (in_front ss (sign s) n (no_sign n s) among)
+    series_named _ _ _ _ _ _ (counted d ss parts last c k least most bare before below) n among =
+        series_named d ss parts last c (Some k) before n (in_front ss (interval least most) n (no_interval n least most) among)
+    series_named _ _ _ _ _ _ (repeated_whole d ss parts last c s before below) n among = series_named d ss parts last c None before n (in_front ss (sign s) n (no_sign n s) among)
+    series_named _ _ _ _ _ _ (counted_whole d ss parts last c k least most over before below) n among =
+        series_named d ss parts last c k before n (in_front ss (interval least most) n (no_interval n least most) among)
 
     pattern_named : (d : ℕ) (ss : List Symbol) (ts : List Tree) (t : Tree) → IsPattern posix symbol_at defined d ss ts t → (n : List ℕ) → Among ss (name n) → Below d n
-    pattern_named _ _ _ _ (only d ss parts last k series) n among = series_named d ss parts last k series n among
-    pattern_named _ _ _ _ (choice d ss ts t more parts last k before series) n among = elim (among_append ss (bar ∷ more) (name n) among) [
+    pattern_named _ _ _ _ (only d ss parts last c k series) n among = series_named d ss parts last c k series n among
+    pattern_named _ _ _ _ (choice d ss ts t more parts last c k before series) n among = elim (among_append ss (bar ∷ more) (name n) among) [
       | inl left ↦ pattern_named d ss ts t before n left
       | inr (inl here) ↦ absurd (no_bar n here)
-      | inr (inr right) ↦ series_named d more parts last k series n right
+      | inr (inr right) ↦ series_named d more parts last c k series n right
     ]
 
   -- each cut of the text ends with a cut of the rest

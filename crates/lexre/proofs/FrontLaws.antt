@@ -1,10 +1,14 @@
 -- What begins a text is at least a byte.
 use Rattle.std.proofs.Common.{◌≡◌, ℕ, zero, suc, ◌<◌, ◌≤◌, Bool, true, false, not, ◌&&◌, ◌||◌, ◌==◌, nat_le, if◌then◌else◌, List, [], ◌∷◌, length, drop, length-drop, Option, Some, None, refl, ap, subst, arith}
-use Rattle.std.specs.Prelude.{codes}
-use Rattle.lex_semantics.specs.ByteSets.{single, complement, is_alpha, is_alnum, is_digit}
+use Rattle.std.specs.Prelude.{codes, find, zip, take, option_map}
+use Rattle.std.specs.List.{list_any}
+use Rattle.lex_semantics.specs.ByteSets.{single, complement, is_alnum, is_digit}
 use Rattle.lex_semantics.specs.Tree.{Set}
-use Rattle.lex_semantics.specs.Reading.{◌>>=◌, begins, is_empty, take_up_to, value}
-use Rattle.lexre_bytes.specs.Lexical.{Element, after_quotes, after_word, bounded, braces_at, class_at, class_set, elements_at, element_at, escape_at, folded, interval_at, is_ordinary, name_at, symbol_at, class_front, escape_front, quoted_bytes, quoted_front}
+use Rattle.lex_semantics.specs.Reading.{◌>>=◌, begins, is_empty, starts_name, take_up_to, value}
+use Rattle.lexre_bytes.specs.Lexical.{after_word, bounded, braces_at, class_at, class_set, elements_at, element_at, escape_at, folded, interval_at, symbol_at, quoted_bytes, literal_byte_at}
+use Rattle.lexre_bytes.specs.Elements.{Element}
+use Rattle.lexre.specs.Fronts.{class_front, escape_front, quoted_front, name_at}
+use Rattle.lexre_bytes.specs.Quotes.{after_quotes}
 use Rattle.lexre_bytes.specs.Symbols.{Symbol, item, name, opening, closing, bar, sign, interval, any_times, once_or_more, at_most_once}
 use Rattle.lexre_bytes.proofs.PassingLaws.{quotes_shorter}
 use Rattle.lexre_bytes.proofs.QuoteLaws.{take_up_to_within, escape_shorter}
@@ -14,7 +18,7 @@ abbrev Front : Type 0
 Front = Option (Symbol × List ℕ)
 
 -- what follows is at most so long
-abbrev IsUpTo : {A : Type 0} → ℕ → Option (A × List ℕ) → Type 0
+abbrev pub IsUpTo : {A : Type 0} → ℕ → Option (A × List ℕ) → Type 0
 IsUpTo n None = Unit {0}
 IsUpTo n (Some x) = length x.1 ≤ n
 
@@ -26,7 +30,7 @@ after_bind n (Some x) f h k = k x h
 
 after_is : (t : List ℕ) (x : List ℕ × List ℕ) → ◌≡◌ {A = Option (List ℕ × List ℕ)} (quoted_bytes t) (Some x) → after_quotes t ≡ Some x.1
 unfolding after_quotes
-after_is t x e = ap (λ (o : Option (List ℕ × List ℕ)). o >>= λ (bs, rest). Some rest) e
+after_is t x e = ap (λ (o : Option (List ℕ × List ℕ)). option_map (λ x. x.1) o) e
 
 quoted_within : (t : List ℕ) → IsUpTo (length t) (quoted_bytes t)
 quoted_within t = go (quoted_bytes t) refl
@@ -40,7 +44,7 @@ quoted_front_within fold t = after_bind (length t) (quoted_bytes t) _ (quoted_wi
 
 -- Classes.
 
-elements_within : (n : ℕ) (first : Bool) (t : List ℕ) → IsUpTo (length t) (elements_at n first t)
+pub elements_within : (n : ℕ) (first : Bool) (t : List ℕ) → IsUpTo (length t) (elements_at n first t)
 unfolding elements_at
 elements_within zero first t = tt
 elements_within (suc n) first t = go (begins (codes "]") t && not first) (element_at t) (λ e rest f. element_takes t rest e f) (λ rest. elements_within n false rest)
@@ -140,52 +144,43 @@ interval_within t =
     go false false false d e = tt
 
 braces_within : (t : List ℕ) → IsUpTo (length t) (braces_at t)
-unfolding braces_at
-braces_within [] = tt
-braces_within (c ∷ t) = go (is_digit c) (is_alpha c || c == 95)
+unfolding braces_at name_at
+braces_within t = go (list_any is_digit (take 1 t)) (list_any starts_name (take 1 t))
   where
-    go : (a b : Bool) → IsUpTo (length (c ∷ t)) (if a then interval_at (c ∷ t) else if b then name_at (c ∷ t) else None)
-    go true b = interval_within (c ∷ t)
-    go false true = name_within (c ∷ t)
+    go : (a b : Bool) → IsUpTo (length t) (if a then interval_at t else if b then name_at t else None)
+    go true b = interval_within t
+    go false true = name_within t
     go false false = tt
 
 -- Symbols.
 
 symbol_within : (fold : Bool) (c : ℕ) (t : List ℕ) → IsUpTo (length t) (symbol_at fold (c ∷ t))
-unfolding symbol_at
-symbol_within fold c t =
-    go (c == 40) (c == 41) (c == 124) (c == 42) (c == 43) (c == 63) (c == 46) (c == 34) (c == 91) (c == 92) (c == 123) (is_ordinary c)
+unfolding symbol_at literal_byte_at
+symbol_within fold c t = go (find (λ (row : ℕ × Symbol). c == row.0) signs) (c == 34) (c == 91) (c == 123) (c == 47 || c == 32 || c == 9)
   where
-    here : (s : Symbol) → IsUpTo (length t) (Some (s, t))
-    here s = omega arith
+    signs : List (ℕ × Symbol)
+    signs = zip (codes "()|*+?.") (opening ∷ closing ∷ bar ∷ sign any_times ∷ sign once_or_more ∷ sign at_most_once ∷ item (Set (complement (single 10))) ∷ [])
 
-    go : (p1 p2 p3 p4 p5 p6 p7 p8 p9 p10 p11 p12 : Bool) → IsUpTo {A = Symbol} (length t) (
-        if p1 then Some (opening, t)
-        else if p2 then Some (closing, t)
-        else if p3 then Some (bar, t)
-        else if p4 then Some (sign any_times, t)
-        else if p5 then Some (sign once_or_more, t)
-        else if p6 then Some (sign at_most_once, t)
-        else if p7 then Some (item (Set (complement (single 10))), t)
-        else if p8 then quoted_front fold t
-        else if p9 then class_front fold t
-        else if p10 then escape_front fold t
-        else if p11 then braces_at t
-        else if p12 then Some (item (Set (folded fold (single c))), t)
-        else None)
-    go true p2 p3 p4 p5 p6 p7 p8 p9 p10 p11 p12 = here opening
-    go false true p3 p4 p5 p6 p7 p8 p9 p10 p11 p12 = here closing
-    go false false true p4 p5 p6 p7 p8 p9 p10 p11 p12 = here bar
-    go false false false true p5 p6 p7 p8 p9 p10 p11 p12 = here (sign any_times)
-    go false false false false true p6 p7 p8 p9 p10 p11 p12 = here (sign once_or_more)
-    go false false false false false true p7 p8 p9 p10 p11 p12 = here (sign at_most_once)
-    go false false false false false false true p8 p9 p10 p11 p12 = here (item (Set (complement (single 10))))
-    go false false false false false false false true p9 p10 p11 p12 = quoted_front_within fold t
-    go false false false false false false false false true p10 p11 p12 = class_front_within fold t
-    go false false false false false false false false false true p11 p12 = escape_front_within fold t
-    go false false false false false false false false false false true p12 = braces_within t
-    go false false false false false false false false false false false true = here (item (Set (folded fold (single c))))
-    go false false false false false false false false false false false false = tt
+    byte : (p q : Bool) → IsUpTo {A = Symbol} (length t) ((if p then None else if q then escape_at t else Some (c, t)) >>= λ (b, rest). Some (item (Set (folded fold (single b))), rest))
+    byte true q = tt
+    byte false true = escape_front_within fold t
+    byte false false = omega arith
+
+    go : (o : Option (ℕ × Symbol)) (p1 p2 p3 p4 : Bool) → IsUpTo {A = Symbol} (length t) (elim o [
+      | Some row ↦ Some (row.1, t)
+      | None ↦
+          if p1 then quoted_front fold t
+          else if p2 then class_front fold t
+          else if p3 then braces_at t
+          else if p4 then None
+          else (if c == 10 then None else if c == 92 then escape_at t else Some (c, t)) >>= λ (b, rest). Some (item (Set (folded fold (single b))), rest)
+    ])
+    go (Some row) p1 p2 p3 p4 = omega arith
+    go None true p2 p3 p4 = quoted_front_within fold t
+    go None false true p3 p4 = class_front_within fold t
+    go None false false true p4 = braces_within t
+    go None false false false true = tt
+    go None false false false false = byte (c == 10) (c == 92)
 
 nothing_front : (fold : Bool) (s : Symbol) (rest : List ℕ) → ◌≡◌ {A = Front} (symbol_at fold []) (Some (s, rest)) → ⊥
 unfolding symbol_at

@@ -3,8 +3,8 @@ use Rattle.std.proofs.Common.{◌≡◌, ℕ, zero, suc, ◌<◌, Bool, true, fa
 use Rattle.std.proofs.lemmas.Bool.{lt-ltb, ltb-true}
 use Rattle.lex_semantics.specs.Tree.{Tree, Repeat}
 use Rattle.lexre_bytes.specs.Symbols.{Symbol, Sign, item, name, opening, closing, bar, sign, interval, signed, Lexer}
-use Rattle.lexre.specs.Grammar.{series_tree, choice_tree, Signs, on_item, how_many, one_more, parts_before, operand, operand_signs, IsItem, IsSeries, IsPattern, alone, group, defines, first, next, repeated, counted, only, choice, SpellsWithin}
-use Rattle.lexre.specs.Running.{Frame, frame, fresh, State, state, pushed, onto_last, gathered, finished, Stands, Steps, Runs, RunsText}
+use Rattle.lexre.specs.Grammar.{IsItem, IsSeries, IsPattern, alone, group, defines, first, next, repeated, counted, repeated_whole, counted_whole, only, choice, SpellsWithin}
+use Rattle.lexre.specs.Running.{series_tree, choice_tree, Signs, on_item, on_series, how_many, one_more, parts_before, operand, operand_signs, Frame, frame, fresh, State, state, pushed, onto_last, gathered, finished, Stands, Steps, Runs, RunsText}
 
 some_is : {A : Type 0} (x y : A) → Some x ≡ Some y → x ≡ y
 some_is x y e = cc
@@ -54,39 +54,52 @@ module _ (posix : Bool) (symbol_at : Lexer) (defined : List ℕ → Option (List
       run,
     )
 
-    series_runs : (d : ℕ) (ss : List Symbol) (parts : List Tree) (last : Tree) (k : Signs) → IsSeries posix symbol_at defined d ss parts last k
+    series_runs : (d : ℕ) (ss : List Symbol) (parts : List Tree) (last : Tree) (n : ℕ) (k : Option ℕ) → IsSeries posix symbol_at defined d ss parts last n k
         → (done : List Tree) (outer : List Frame) (rest : List Symbol) (tree : Tree)
-        → Go (state (frame done parts (Some last) k) outer d) rest tree → Go (state (frame done [] None (on_item 0 0)) outer d) (ss ++ rest) tree
-    series_runs _ _ _ _ _ (first d ss last it) done outer rest tree run =
+        → Go (state (frame done parts (Some last) (n, k)) outer d) rest tree → Go (state (frame done [] None (on_item 0 0)) outer d) (ss ++ rest) tree
+    series_runs _ _ _ _ _ _ (first d ss last it) done outer rest tree run =
         item_runs d ss last it (frame done [] None (on_item 0 0)) outer rest tree run
-    series_runs _ _ _ _ _ (next d ss parts last k more t before it) done outer rest tree run =
+    series_runs _ _ _ _ _ _ (next d ss parts last n k more t before it) done outer rest tree run =
         regroup (state (frame done [] None (on_item 0 0)) outer d) ss more rest tree
-        (series_runs d ss parts last k before done outer (more ++ rest) tree
-        (item_runs d more t it (frame done parts (Some last) k) outer rest tree run))
-    series_runs _ _ _ _ _ (repeated d ss parts last k s before below) done outer rest tree run =
+        (series_runs d ss parts last n k before done outer (more ++ rest) tree
+        (item_runs d more t it (frame done parts (Some last) (n, k)) outer rest tree run))
+    series_runs _ _ _ _ _ _ (repeated d ss parts last n k s before below) done outer rest tree run =
         regroup (state (frame done [] None (on_item 0 0)) outer d) ss (sign s ∷ []) rest tree
-        (series_runs d ss parts last k before done outer (sign s ∷ rest) tree
-        (state (frame done parts (Some (signed s last)) (one_more k)) outer d, signs_go done parts last k outer d (signed s) below, run))
-    series_runs _ _ _ _ _ (counted d ss parts last k m n before below) done outer rest tree run =
-        regroup (state (frame done [] None (on_item 0 0)) outer d) ss (interval m n ∷ []) rest tree
-        (series_runs d ss parts last k before done outer (interval m n ∷ rest) tree (
-          state (frame done (parts_before posix parts) (Some (Repeat (operand posix parts last) m n)) (one_more (operand_signs posix k))) outer d,
-          signs_go done (parts_before posix parts) (operand posix parts last) (operand_signs posix k) outer d (λ t. Repeat t m n) below,
+        (series_runs d ss parts last n (Some k) before done outer (sign s ∷ rest) tree
+        (state (frame done parts (Some (signed s last)) (on_item n (suc k))) outer d, signs_go done parts last (on_item n k) outer d (signed s) below, run))
+    series_runs _ _ _ _ _ _ (counted d ss parts last n k least most bare before below) done outer rest tree run =
+        regroup (state (frame done [] None (on_item 0 0)) outer d) ss (interval least most ∷ []) rest tree
+        (series_runs d ss parts last n (Some k) before done outer (interval least most ∷ rest) tree (
+          state (frame done parts (Some (Repeat last least most)) (on_item n (suc k))) outer d,
+          ap (λ b. onto_last (λ t. Repeat t least most) (gathered b (state (frame done parts (Some last) (on_item n k)) outer d))) bare
+              ∙ signs_go done parts last (on_item n k) outer d (λ t. Repeat t least most) below,
+          run,
+        ))
+    series_runs _ _ _ _ _ _ (repeated_whole d ss parts last n s before below) done outer rest tree run =
+        regroup (state (frame done [] None (on_item 0 0)) outer d) ss (sign s ∷ []) rest tree
+        (series_runs d ss parts last n None before done outer (sign s ∷ rest) tree
+        (state (frame done parts (Some (signed s last)) (on_series (suc n))) outer d, signs_go done parts last (on_series n) outer d (signed s) below, run))
+    series_runs _ _ _ _ _ _ (counted_whole d ss parts last n k least most over before below) done outer rest tree run =
+        regroup (state (frame done [] None (on_item 0 0)) outer d) ss (interval least most ∷ []) rest tree
+        (series_runs d ss parts last n k before done outer (interval least most ∷ rest) tree (
+          state (frame done [] (Some (Repeat (series_tree parts last) least most)) (on_series (suc n))) outer d,
+          ap (λ b. onto_last (λ t. Repeat t least most) (gathered b (state (frame done parts (Some last) (n, k)) outer d))) over
+              ∙ signs_go done [] (series_tree parts last) (on_series n) outer d (λ t. Repeat t least most) below,
           run,
         ))
 
     pattern_runs : (d : ℕ) (ss : List Symbol) (ts : List Tree) (t : Tree) → IsPattern posix symbol_at defined d ss ts t
         → (outer : List Frame) (rest : List Symbol) (tree : Tree)
         → After d ts t outer rest tree → Go (state fresh outer d) (ss ++ rest) tree
-    pattern_runs _ _ _ _ (only d ss parts last k series) outer rest tree run =
-        series_runs d ss parts last k series [] outer rest tree (run parts last k refl)
-    pattern_runs _ _ _ _ (choice d ss ts t more parts last k before series) outer rest tree run =
+    pattern_runs _ _ _ _ (only d ss parts last n k series) outer rest tree run =
+        series_runs d ss parts last n k series [] outer rest tree (run parts last (n, k) refl)
+    pattern_runs _ _ _ _ (choice d ss ts t more parts last n k before series) outer rest tree run =
         regroup (state fresh outer d) ss (bar ∷ more) rest tree
         (pattern_runs d ss ts t before outer (bar ∷ more ++ rest) tree (λ parts' last' k' e. (
           state (frame (ts ++ series_tree parts' last' ∷ []) [] None (on_item 0 0)) outer d,
           refl,
-          series_runs d more parts last k series (ts ++ series_tree parts' last' ∷ []) outer rest tree
-              (let P : Tree → Type 0 = λ x. Go (state (frame (ts ++ x ∷ []) parts (Some last) k) outer d) rest tree in subst P e (run parts last k refl)),
+          series_runs d more parts last n k series (ts ++ series_tree parts' last' ∷ []) outer rest tree
+              (let P : Tree → Type 0 = λ x. Go (state (frame (ts ++ x ∷ []) parts (Some last) (n, k)) outer d) rest tree in subst P e (run parts last (n, k) refl)),
         )))
 
   -- what the grammar gives is what reading from the left gives
@@ -109,7 +122,7 @@ module _ (posix : Bool) (symbol_at : Lexer) (defined : List ℕ → Option (List
   abbrev InFrame : ℕ → List Symbol → Frame → Type 0
   InFrame d pre (frame done parts None k) = IsBefore d pre done × (parts ≡ [])
   InFrame d pre (frame done parts (Some t) k) =
-      (before : List Symbol) × (ss : List Symbol) × IsBefore d before done × IsSeries posix symbol_at defined d ss parts t k × (pre ≡ before ++ ss)
+      (before : List Symbol) × (ss : List Symbol) × IsBefore d before done × IsSeries posix symbol_at defined d ss parts t k.0 k.1 × (pre ≡ before ++ ss)
 
   -- `root` is how many may be opened in the outermost pattern
   abbrev InFrames : ℕ → List Symbol → Frame → List Frame → ℕ → Type 0
@@ -122,16 +135,16 @@ module _ (posix : Bool) (symbol_at : Lexer) (defined : List ℕ → Option (List
 
   -- a series after those before it is a pattern
   whole : (d : ℕ) (before ss : List Symbol) (done parts : List Tree) (t : Tree) (k : Signs) → IsBefore d before done
-      → IsSeries posix symbol_at defined d ss parts t k → IsPattern posix symbol_at defined d (before ++ ss) done (series_tree parts t)
+      → IsSeries posix symbol_at defined d ss parts t k.0 k.1 → IsPattern posix symbol_at defined d (before ++ ss) done (series_tree parts t)
   unfolding IsBefore
-  whole d before ss done parts t k (inl (e, f)) series = rw (e, f) (only d ss parts t k series)
+  whole d before ss done parts t k (inl (e, f)) series = rw (e, f) (only d ss parts t k.0 k.1 series)
   whole d before ss done parts t k (inr (ss', ts', t', is, e, f)) series =
-      rw (e, f, append_assoc) (choice d ss' ts' t' ss parts t k is series)
+      rw (e, f, append_assoc) (choice d ss' ts' t' ss parts t k.0 k.1 is series)
 
   item_in : (d : ℕ) (pre s : List Symbol) (here : Frame) (t : Tree) → InFrame d pre here → IsItem posix symbol_at defined d s t → InFrame d (pre ++ s) (pushed t here)
   item_in d pre s (frame done parts None k) t (before, e) it = rw e (pre, s, before, first d s t it, refl)
   item_in d pre s (frame done parts (Some last) k) t (before, ss, is, series, e) it =
-      (before, ss ++ s, is, next d ss parts last k s t series it, ap (λ x. x ++ s) e ∙ append_assoc before ss s)
+      (before, ss ++ s, is, next d ss parts last k.0 k.1 s t series it, ap (λ x. x ++ s) e ∙ append_assoc before ss s)
 
   item_in_frames : (root d : ℕ) (pre s : List Symbol) (here : Frame) (outer : List Frame) (t : Tree) → InFrames root pre here outer d
       → IsItem posix symbol_at defined d s t → InFrames root (pre ++ s) (pushed t here) outer d
@@ -169,14 +182,36 @@ module _ (posix : Bool) (symbol_at : Lexer) (defined : List ℕ → Option (List
 
   sign_in : (d : ℕ) (q : List Symbol) (done parts : List Tree) (t : Tree) (k : Signs) (s : Sign) → how_many k < 64 → InFrame d q (frame done parts (Some t) k)
       → InFrame d (q ++ sign s ∷ []) (frame done parts (Some (signed s t)) (one_more k))
-  sign_in d q done parts t k s below (before, ss, is, series, e) =
-      (before, ss ++ sign s ∷ [], is, repeated d ss parts t k s series below, ap (λ x. x ++ sign s ∷ []) e ∙ append_assoc before ss (sign s ∷ []))
+  sign_in d q done parts t (n, Some k) s below (before, ss, is, series, e) =
+      (before, ss ++ sign s ∷ [], is, repeated d ss parts t n k s series below, ap (λ x. x ++ sign s ∷ []) e ∙ append_assoc before ss (sign s ∷ []))
+  sign_in d q done parts t (n, None) s below (before, ss, is, series, e) =
+      (before, ss ++ sign s ∷ [], is, repeated_whole d ss parts t n s series below, ap (λ x. x ++ sign s ∷ []) e ∙ append_assoc before ss (sign s ∷ []))
 
-  interval_in : (d : ℕ) (q : List Symbol) (done parts : List Tree) (t : Tree) (k : Signs) (m : ℕ) (n : Option ℕ) → how_many (operand_signs posix k) < 64
+  -- an interval applies to the whole series under `posix` alone
+  over_series : (d : ℕ) (ss : List Symbol) (parts : List Tree) (t : Tree) (n : ℕ) (k : Option ℕ) → IsSeries posix symbol_at defined d ss parts t n k → k ≡ None → posix ≡ true
+  over_series _ _ _ _ _ _ (first d ss t it) e = cc
+  over_series _ _ _ _ _ _ (next d ss parts last n k more t before it) e = cc
+  over_series _ _ _ _ _ _ (repeated d ss parts last n k s before below) e = cc
+  over_series _ _ _ _ _ _ (counted d ss parts last n k least most bare before below) e = cc
+  over_series _ _ _ _ _ _ (repeated_whole d ss parts last n s before below) e = over_series d ss parts last n None before refl
+  over_series _ _ _ _ _ _ (counted_whole d ss parts last n k least most over before below) e = over
+
+  interval_in : (d : ℕ) (q : List Symbol) (done parts : List Tree) (t : Tree) (k : Signs) (least : ℕ) (most : Option ℕ) → how_many (operand_signs posix k) < 64
       → InFrame d q (frame done parts (Some t) k)
-      → InFrame d (q ++ interval m n ∷ []) (frame done (parts_before posix parts) (Some (Repeat (operand posix parts t) m n)) (one_more (operand_signs posix k)))
-  interval_in d q done parts t k m n below (before, ss, is, series, e) =
-      (before, ss ++ interval m n ∷ [], is, counted d ss parts t k m n series below, ap (λ x. x ++ interval m n ∷ []) e ∙ append_assoc before ss (interval m n ∷ []))
+      → InFrame d (q ++ interval least most ∷ []) (frame done (parts_before posix parts) (Some (Repeat (operand posix parts t) least most)) (one_more (operand_signs posix k)))
+  interval_in d q done parts t k least most below (before, ss, is, series, e) = go posix refl k below series
+    where
+      here : q ++ interval least most ∷ [] ≡ before ++ (ss ++ interval least most ∷ [])
+      here = ap (λ x. x ++ interval least most ∷ []) e ∙ append_assoc before ss (interval least most ∷ [])
+
+      no_both : {A : Type 0} → posix ≡ false → posix ≡ true → A
+      no_both a b = let e : false ≡ true = sym a ∙ b in cc
+
+      go : (b : Bool) → posix ≡ b → (k : Signs) → how_many (operand_signs b k) < 64 → IsSeries posix symbol_at defined d ss parts t k.0 k.1
+          → InFrame d (q ++ interval least most ∷ []) (frame done (parts_before b parts) (Some (Repeat (operand b parts t) least most)) (one_more (operand_signs b k)))
+      go true over k below series = (before, ss ++ interval least most ∷ [], is, counted_whole d ss parts t k.0 k.1 least most over series below, here)
+      go false bare (n, Some k) below series = (before, ss ++ interval least most ∷ [], is, counted d ss parts t n k least most bare series below, here)
+      go false bare (n, None) below series = no_both bare (over_series d ss parts t n None series refl)
 
   at_state : (root : ℕ) (pre : List Symbol) (st after : State) → st ≡ after → InState root pre st → InState root pre after
   at_state root pre st after e is = let P : State → Type 0 = λ x. InState root pre x in subst P e is

@@ -12,6 +12,7 @@ pub mod LengthLaws
 pub mod LowerLaws
 pub mod NameLaws
 pub mod OneTree
+pub mod PieceLaws
 pub mod PatternTries
 pub mod PatternsComputed
 pub mod QuotedLaws

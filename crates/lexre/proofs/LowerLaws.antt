@@ -5,9 +5,9 @@ use Rattle.lex_semantics.specs.Tree.{Tree, Repeat}
 use Rattle.lexre_bytes.specs.Lexical.{symbol_at}
 use Rattle.lexre_bytes.specs.Symbols.{Symbol, item, name, opening, closing, bar, sign, interval, signed, Lexer}
 use Rattle.lexre.specs.Definitions.{Definitions}
-use Rattle.lexre.specs.Grammar.{series_tree, choice_tree, Signs, how_many, one_more, IsItem, IsSeries, IsPattern, alone, group, defines, first, next, repeated, counted, only, choice, SpellsWithin}
+use Rattle.lexre.specs.Grammar.{IsItem, IsSeries, IsPattern, alone, group, defines, first, next, repeated, counted, repeated_whole, counted_whole, only, choice, SpellsWithin}
 use Rattle.lexre.specs.Reading.{SpellsIn, StandsIn, StepsIn, lowered}
-use Rattle.lexre.specs.Running.{frame, fresh, State, state, push, pushed, onto_last, gathered, opened, finished, step_of}
+use Rattle.lexre.specs.Running.{series_tree, choice_tree, how_many, one_more, frame, fresh, State, state, push, pushed, onto_last, gathered, opened, finished, step_of}
 use Rattle.lexre.specs.declared.options.ReadOptions.{ReadOptions}
 use Rattle.lexre.proofs.OneTree.{some_is}
 use Rattle.lexre.proofs.ReaderLaws.{left_of, stands_in, steps_name}
@@ -22,18 +22,22 @@ module _ (posix : Bool) (symbol_at : Lexer) (defined : List ℕ → Option (List
     item_rises _ zero _ _ (defines d n text ss ts t found cut inside) h = absurd (omega arith)
     item_rises _ (suc e) _ _ (defines d n text ss ts t found cut inside) h = defines e n text ss ts t found cut (pattern_rises d e ss ts t inside (omega arith))
 
-    series_rises : (d e : ℕ) (ss : List Symbol) (parts : List Tree) (last : Tree) (k : Signs) → IsSeries posix symbol_at defined d ss parts last k → d ≤ e
-        → IsSeries posix symbol_at defined e ss parts last k
-    series_rises _ e _ _ _ _ (first d ss t it) h = first e ss t (item_rises d e ss t it h)
-    series_rises _ e _ _ _ _ (next d ss parts last k more t before it) h =
-        next e ss parts last k more t (series_rises d e ss parts last k before h) (item_rises d e more t it h)
-    series_rises _ e _ _ _ _ (repeated d ss parts last k s before below) h = repeated e ss parts last k s (series_rises d e ss parts last k before h) below
-    series_rises _ e _ _ _ _ (counted d ss parts last k m n before below) h = counted e ss parts last k m n (series_rises d e ss parts last k before h) below
+    series_rises : (d e : ℕ) (ss : List Symbol) (parts : List Tree) (last : Tree) (n : ℕ) (k : Option ℕ) → IsSeries posix symbol_at defined d ss parts last n k → d ≤ e
+        → IsSeries posix symbol_at defined e ss parts last n k
+    series_rises _ e _ _ _ _ _ (first d ss t it) h = first e ss t (item_rises d e ss t it h)
+    series_rises _ e _ _ _ _ _ (next d ss parts last n k more t before it) h =
+        next e ss parts last n k more t (series_rises d e ss parts last n k before h) (item_rises d e more t it h)
+    series_rises _ e _ _ _ _ _ (repeated d ss parts last n k s before below) h = repeated e ss parts last n k s (series_rises d e ss parts last n (Some k) before h) below
+    series_rises _ e _ _ _ _ _ (counted d ss parts last n k least most bare before below) h =
+        counted e ss parts last n k least most bare (series_rises d e ss parts last n (Some k) before h) below
+    series_rises _ e _ _ _ _ _ (repeated_whole d ss parts last n s before below) h = repeated_whole e ss parts last n s (series_rises d e ss parts last n None before h) below
+    series_rises _ e _ _ _ _ _ (counted_whole d ss parts last n k least most over before below) h =
+        counted_whole e ss parts last n k least most over (series_rises d e ss parts last n k before h) below
 
     pattern_rises : (d e : ℕ) (ss : List Symbol) (ts : List Tree) (t : Tree) → IsPattern posix symbol_at defined d ss ts t → d ≤ e → IsPattern posix symbol_at defined e ss ts t
-    pattern_rises _ e _ _ _ (only d ss parts last k series) h = only e ss parts last k (series_rises d e ss parts last k series h)
-    pattern_rises _ e _ _ _ (choice d ss ts t more parts last k before series) h =
-        choice e ss ts t more parts last k (pattern_rises d e ss ts t before h) (series_rises d e more parts last k series h)
+    pattern_rises _ e _ _ _ (only d ss parts last n k series) h = only e ss parts last n k (series_rises d e ss parts last n k series h)
+    pattern_rises _ e _ _ _ (choice d ss ts t more parts last n k before series) h =
+        choice e ss ts t more parts last n k (pattern_rises d e ss ts t before h) (series_rises d e more parts last n k series h)
 
   pub spelled_rises : (d e : ℕ) (text : List ℕ) (t : Tree) → SpellsWithin posix symbol_at defined d text t → d ≤ e → SpellsWithin posix symbol_at defined e text t
   spelled_rises d e text t (ss, ts, last, cut, is, same) h = (ss, ts, last, cut, pattern_rises d e ss ts last is h, same)

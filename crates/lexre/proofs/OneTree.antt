@@ -2,8 +2,8 @@
 use Rattle.std.proofs.Common.{◌≡◌, ℕ, zero, suc, ◌+◌, ◌<◌, ◌≤◌, length, Bool, nat_lt, List, [], ◌∷◌, Option, Some, None, refl, sym, ap, ◌∙◌, subst, arith}
 use Rattle.lex_semantics.specs.Tree.{Tree, Repeat}
 use Rattle.lexre_bytes.specs.Symbols.{Symbol, item, name, opening, closing, bar, sign, interval, signed, Lexer, IsCut}
-use Rattle.lexre.specs.Grammar.{how_many, one_more, SpellsWithin}
-use Rattle.lexre.specs.Running.{frame, fresh, State, state, pushed, onto_last, gathered, Stands, Steps, Runs}
+use Rattle.lexre.specs.Grammar.{SpellsWithin}
+use Rattle.lexre.specs.Running.{how_many, one_more, frame, fresh, State, state, pushed, onto_last, gathered, Stands, Steps, Runs}
 use Rattle.lexre.proofs.GrammarLaws.{spelled_runs, chosen}
 
 pub some_is : {A : Type 0} (x y : A) → Some x ≡ Some y → x ≡ y

@@ -5,7 +5,8 @@ use Rattle.lex_semantics.specs.ByteSets.{single}
 use Rattle.lex_semantics.specs.Shapes.{nodes, nodes_of}
 use Rattle.lex_semantics.specs.Tree.{Tree, Set, Cat, trees}
 use Rattle.lex_semantics.specs.Reading.{◌>>=◌}
-use Rattle.lexre_bytes.specs.Lexical.{escape_at, folded, quoted_at, quoted_tree, literal_byte_at, quoted_bytes}
+use Rattle.lexre_bytes.specs.Lexical.{escape_at, folded, quoted_tree, literal_byte_at, quoted_bytes}
+use Rattle.lexre_bytes.specs.Quotes.{quoted_at}
 use Rattle.lexre_bytes.proofs.QuoteLaws.{differs, enough, escape_shorter}
 
 abbrev Found : Type 0

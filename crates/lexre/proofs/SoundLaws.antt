@@ -3,9 +3,8 @@ use Rattle.std.proofs.Common.{◌≡◌, ℕ, zero, suc, ◌<◌, Bool, true, fa
 use Rattle.lex_semantics.specs.ByteSets.{has, set_of, single, complement}
 use Rattle.lex_semantics.specs.Shapes.{IsSoundTree, AreSoundTrees}
 use Rattle.lex_semantics.specs.Tree.{Tree, Set, Repeat, trees}
-use Rattle.lexre.specs.Grammar.{series_tree, choice_tree, how_many, one_more}
 use Rattle.lexre_bytes.specs.Lexical.{folded, quoted_tree}
-use Rattle.lexre.specs.Running.{Frame, frame, fresh, State, state, pushed, onto_last, gathered, finished, step_of}
+use Rattle.lexre.specs.Running.{series_tree, choice_tree, how_many, one_more, Frame, frame, fresh, State, state, pushed, onto_last, gathered, finished, step_of}
 use Rattle.lexre.specs.Soundness.{IsSoundSymbol, IsSoundFrame, IsSoundState}
 use Rattle.lexre_bytes.specs.Symbols.{Symbol, Sign, item, name, opening, closing, bar, sign, interval, any_times, once_or_more, at_most_once, signed}
 use Rattle.lexre.proofs.GrammarLaws.{chosen}

@@ -1,85 +1,39 @@
 -- Where the pattern of a rule ends, and what stands at its end. (POSIX, lex, Rules in lex; flex, Patterns: `r/s`, `r$`.)
-use Rattle.std.specs.Prelude.{◌≡◌, ℕ, zero, suc, ◌+◌, ◌-◌, Bool, true, false, ◌==◌, if◌then◌else◌, List, [], ◌∷◌, length, Option, Some, None, ⊤}
-use Rattle.lex_semantics.specs.Reading.{◌>>=◌, Reader, is_white}
-use Rattle.lexre_bytes.specs.Lexical.{escape_at, after_quotes, class_at}
+use Rattle.std.specs.Prelude.{◌≡◌, ℕ, suc, ◌+◌, ◌-◌, Bool, nat_lt, if◌then◌else◌, List, ◌∷◌, ◌++◌, length, take, drop, fold, filter, find, Option, Some, None, option_map, true, codes, ⊤}
+use Rattle.std.specs.List.{list_all, list_any}
+use Rattle.lex_semantics.specs.Reading.{Reader, IsCut, begins, is_white}
+use Rattle.lexre_bytes.specs.Lexical.{escape_at, quoted_bytes, class_at}
 use Rattle.lexre_bytes.specs.declared.error.PatternErrorKind.{PatternErrorKind}
 use Rattle.lexre_bytes.specs.declared.error.PatternErrorKind.TheVariants.{UnclosedQuote, UnclosedClass, BadEscape, MisplacedSlash}
 
--- what the text of a pattern is made of, as far as cutting it goes
-pub data Piece : Type 0 where
-  opens : Piece
-  closes : Piece
-  slash : Piece
-  dollar : Piece
-  -- any other byte, an escape, a text in quotes, or a class
-  other : Piece
+-- nothing follows, or a blank or a newline
+abbrev pub ends_pattern : List ℕ → Bool
+ends_pattern t = list_all is_white (take 1 t)
 
-unfoldable pub piece_at : Reader Piece
-piece_at [] = None
-piece_at (c ∷ t) =
-    if is_white c then None
-    else if c == 40 then Some (opens, t)
-    else if c == 41 then Some (closes, t)
-    else if c == 47 then Some (slash, t)
-    else if c == 36 then Some (dollar, t)
-    else if c == 34 then (after_quotes t >>= λ rest. Some (other, rest))
-    else if c == 91 then (class_at t >>= λ (negated, es, rest). Some (other, rest))
-    else if c == 92 then (escape_at t >>= λ (b, rest). Some (other, rest))
-    else Some (other, t)
+-- The piece that a pattern begins with, as the text from there on, and what follows it: a text in quotes, a class, an escape,
+-- or one byte.
+unfoldable pub piece_at : Reader (List ℕ)
+piece_at t = option_map (λ rest. (t, rest)) (
+    if ends_pattern t then None
+    else if begins (codes "\"") t then option_map (λ x. x.1) (quoted_bytes (drop 1 t))
+    else if begins (codes "[") t then option_map (λ x. x.2) (class_at (drop 1 t))
+    else if begins (codes "\\") t then option_map (λ x. x.1) (escape_at (drop 1 t))
+    else Some (drop 1 t)
+    )
 
--- the text ends there, or goes on with a blank or a newline
-abbrev pub IsEnd : List ℕ → Type 0
-IsEnd [] = Unit {0}
-IsEnd (c ∷ t) = is_white c ≡ true
+-- how many parentheses are open after these pieces, where a closing one with none open counts for nothing
+abbrev pub depth : List (List ℕ) → ℕ
+depth pieces = fold (λ n p. if begins (codes "(") p then suc n else if begins (codes ")") p then n - 1 else n) 0 pieces
 
--- The text, which stands at the place `at`, begins with these pieces, each with its place, up to the end of the pattern.
-abbrev pub IsPieces : ℕ → List ℕ → List (Piece × ℕ) → ℕ → Type 0
-IsPieces at text [] end = IsEnd text × (end ≡ at)
-IsPieces at text (p ∷ ps) end =
-    (rest : List ℕ) × (piece_at text ≡ Some (p.0, rest)) × (p.1 ≡ at) × IsPieces (at + (length text - length rest)) rest ps end
-
--- The places of the slashes outside parentheses, or none where one is inside. n are open before, and a closing one with
--- none open counts for nothing.
-unfoldable pub slashes : ℕ → List (Piece × ℕ) → Option (List ℕ)
-slashes n [] = Some []
-slashes n ((opens, at) ∷ ps) = slashes (suc n) ps
-slashes n ((closes, at) ∷ ps) = slashes (n - 1) ps
-slashes zero ((slash, at) ∷ ps) = slashes zero ps >>= λ places. Some (at ∷ places)
-slashes (suc n) ((slash, at) ∷ ps) = None
-slashes n ((dollar, at) ∷ ps) = slashes n ps
-slashes n ((other, at) ∷ ps) = slashes n ps
-
-abbrev pub is_dollar : Piece → Bool
-is_dollar opens = false
-is_dollar closes = false
-is_dollar slash = false
-is_dollar dollar = true
-is_dollar other = false
-
--- a `$` that comes last is special
-unfoldable pub ends_with_dollar : List (Piece × ℕ) → Bool
-ends_with_dollar [] = false
-ends_with_dollar (p ∷ []) = is_dollar p.0
-ends_with_dollar (p ∷ q ∷ ps) = ends_with_dollar (q ∷ ps)
-
-abbrev pub first_of : List ℕ → Option ℕ
-first_of [] = None
-first_of (at ∷ places) = Some at
-
-abbrev pub has_two : List ℕ → Bool
-has_two [] = false
-has_two (at ∷ []) = false
-has_two (at ∷ next ∷ places) = true
-
--- where the pattern ends, its first slash outside parentheses, whether there is a second, and whether it ends with a special `$`
+-- where the pattern ends, its first slash, whether there is a second, and whether it ends with a special `$`, that is a last
+-- piece `$`; no slash stands in parentheses
 pub record IsCutting (text : List ℕ) (end : ℕ) (first_slash : Option ℕ) (two special : Bool) : Type 0 where
-  pub pieces : List (Piece × ℕ)
-  pub cut : IsPieces 0 text pieces end
-  pub places : List ℕ
-  pub outside : slashes 0 pieces ≡ Some places
-  pub first : first_slash ≡ first_of places
-  pub second : two ≡ has_two places
-  pub last : special ≡ ends_with_dollar pieces
+  pub pieces : List (List ℕ)
+  pub cut : IsCut piece_at (λ rest. (ends_pattern rest ≡ true) × (end + length rest ≡ length text)) text pieces
+  pub outside : (before after : List (List ℕ)) (p : List ℕ) → pieces ≡ before ++ p ∷ after → begins (codes "/") p ≡ true → depth before ≡ 0
+  pub first : first_slash ≡ option_map (λ p. length text - length p) (find (begins (codes "/")) pieces)
+  pub second : two ≡ nat_lt 1 (length (filter (begins (codes "/")) pieces))
+  pub last : special ≡ list_any (begins (codes "$")) (drop (length pieces - 1) pieces)
 
 -- why a text in quotes has no end
 abbrev pub IsQuoteFault : PatternErrorKind → Type 0

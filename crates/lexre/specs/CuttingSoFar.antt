@@ -1,7 +1,7 @@
 -- What is known of a rule's pattern up to a place, and what the pieces that follow make of it.
 use Rattle.std.specs.Prelude.{ℕ, Bool, true, ◌||◌, List, [], ◌∷◌, Option, Some, None}
 use Rattle.lex_semantics.specs.Reading.{◌>>=◌}
-use Rattle.lexre.specs.Cutting.{Piece, opens, closes, slash, dollar, other, slashes, ends_with_dollar, first_of, has_two}
+use Rattle.lexre.specs.Pieces.{Piece, opens, closes, slash, dollar, other, slashes, ends_with_dollar, first_of, has_two}
 use Rattle.lexre.specs.declared.cutting.Kind.{Kind}
 use Rattle.lexre.specs.declared.cutting.Kind.TheVariants.{Opens, Closes, Slash, Dollar, Other}
 use Rattle.lexre.specs.declared.cutting.CuttingSoFar.{CuttingSoFar}

@@ -3,6 +3,7 @@ pub mod Cutting
 pub mod Cycles
 pub mod Definitions
 pub mod Entries
+pub mod Fronts
 pub mod Grammar
 pub mod Lengths
 pub mod Limits
@@ -10,6 +11,7 @@ pub mod Names
 pub mod Outcome
 pub mod CuttingSoFar
 pub mod Reading
+pub mod Pieces
 pub mod PatternExamples
 pub mod Readings
 pub mod Running

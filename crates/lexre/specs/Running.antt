@@ -1,10 +1,50 @@
 -- Reading the symbols of a pattern from the left, with a stack of what is open. The grammar does not mention it: that it
 -- answers as the grammar says is proved.
 use Rattle.std.specs.Prelude.{◌≡◌, ℕ, zero, suc, nat_lt, Bool, if◌then◌else◌, List, [], ◌∷◌, ◌++◌, Option, Some, None}
-use Rattle.lex_semantics.specs.Tree.{Tree, Repeat}
+use Rattle.lex_semantics.specs.Tree.{Tree, Cat, Alt, Repeat}
 use Rattle.lexre_bytes.specs.Symbols.{Symbol, item, name, opening, closing, bar, sign, interval, signed, Lexer, IsCut}
-use Rattle.lexre.specs.Grammar.{series_tree, choice_tree, Signs, on_item, how_many, one_more, series_count, parts_before, operand, operand_signs, SpellsWithin}
+use Rattle.lexre.specs.Grammar.{joined, SpellsWithin}
 use Rattle.lexre.specs.Limits.{max_signs}
+
+abbrev pub series_tree : List Tree → Tree → Tree
+series_tree parts last = joined Cat parts last
+
+abbrev pub choice_tree : List Tree → Tree → Tree
+choice_tree ts last = joined Alt ts last
+
+-- How many signs stand on the whole series, and how many on the item that was read last: the next sign applies to that, or
+-- else to the whole series.
+abbrev pub Signs : Type 0
+Signs = ℕ × Option ℕ
+
+abbrev pub on_item : ℕ → ℕ → Signs
+on_item before k = (before, Some k)
+
+abbrev pub on_series : ℕ → Signs
+on_series k = (k, None)
+
+-- how many stand on what the next sign applies to
+abbrev pub how_many : Signs → ℕ
+how_many (before, Some k) = k
+how_many (k, None) = k
+
+abbrev pub one_more : Signs → Signs
+one_more (before, Some k) = on_item before (suc k)
+one_more (k, None) = on_series (suc k)
+
+-- how many stand on the whole series
+abbrev pub series_count : Signs → ℕ
+series_count k = k.0
+
+-- What an interval applies to: the parts before it, itself, and its signs. That is the last part, or under `posix` the series.
+abbrev pub parts_before : Bool → List Tree → List Tree
+parts_before posix parts = if posix then [] else parts
+
+abbrev pub operand : Bool → List Tree → Tree → Tree
+operand posix parts last = if posix then series_tree parts last else last
+
+abbrev pub operand_signs : Bool → Signs → Signs
+operand_signs posix k = if posix then on_series (series_count k) else k
 
 -- A pattern as far as it was read: its finished series, and of the series that is being read the parts before the last, the
 -- last, if there is one, and its signs.

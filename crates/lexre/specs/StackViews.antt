@@ -1,9 +1,7 @@
 -- What a `Stack` stands for.
 use Rattle.std.specs.Prelude.{◌≡◌, ℕ, map, reverse, option_map, Option, Some, None, Result, Ok, Err}
 use Rattle.lexre.specs.Outcome.{UnlessMemory}
-use Rattle.lexre.specs.Grammar as grammar
-use Rattle.lexre.specs.Grammar.{on_item, on_series}
-use Rattle.lexre.specs.Running.{State, frame, state}
+use Rattle.lexre.specs.Running.{State, frame, state, on_item, on_series}
 use Rattle.lexre.specs.Running as run
 use Rattle.lexre.specs.Views.{tree_of}
 use Rattle.lexre_bytes.specs.declared.error.PatternErrorKind.{PatternErrorKind}
@@ -12,7 +10,7 @@ use Rattle.lexre.specs.declared.frames.Signs.{Signs}
 use Rattle.lexre.specs.declared.frames.Signs.TheVariants.{OnItem, OnSeries}
 use Rattle.lexre.specs.declared.frames.Stack.{Stack}
 
-abbrev pub signs_of : Signs → grammar.Signs
+abbrev pub signs_of : Signs → run.Signs
 signs_of (OnItem before k) = on_item before k
 signs_of (OnSeries k) = on_series k
 

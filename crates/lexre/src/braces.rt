@@ -5,7 +5,8 @@ ghost use Rattle.lex_semantics.specs.ByteSets.{is_digit};
 ghost use Rattle.lexre.specs.Soundness.{IsSoundSymbol};
 ghost use Rattle.lexre.specs.SymbolViews.{Front, symbol_of};
 ghost use Rattle.lex_semantics.specs.Reading.{goes_on_name, take_up_to};
-ghost use Rattle.lexre_bytes.specs.Lexical.{bounded, braces_at, interval_at, name_at};
+ghost use Rattle.lexre_bytes.specs.Lexical.{bounded, braces_at, interval_at};
+ghost use Rattle.lexre.specs.Fronts.{name_at};
 ghost use Rattle.lexre_bytes.specs.Symbols.{interval, name};
 
 use crate::symbols::Symbol;
@@ -67,7 +68,7 @@ fn counts(least: u32, most: u32) -> Option<(u8, Option<u8>)>
 
 /// What stands after an opening brace, and what follows the closing one. `braces` is the text from the opening brace
 /// on.
-#[tactic(auto, unfolding(lexre_bytes::specs::Lexical::braces_at))]
+#[tactic(auto, unfolding(lexre_bytes::specs::Lexical::braces_at, crate::specs::Fronts::name_at))]
 pub(crate) fn braces_at<'a>(
     braces: &'a [u8],
     text: &'a [u8],

@@ -1,7 +1,8 @@
 //! Where the pattern of a rule ends. (POSIX, lex, Rules in lex; flex, Patterns: `r/s`, `r$`.)
 ghost use Rattle.std.specs.Prelude.{◌≡◌, ◌+◌, ◌^◌, ◌<◌, ◌≤◌, ℕ, Bool, ◌∷◌, List, length, Option, Some, None};
 ghost use Rattle.std.specs.Prelude.{IfOk, IfErr, IfSome, OnErr, MatchOption, MatchResult};
-ghost use Rattle.lexre.specs.Cutting.{piece_at, slash, IsCutting, IsCuttingFault, IsEnd, Piece};
+ghost use Rattle.lexre.specs.Cutting.{IsCutting, IsCuttingFault};
+ghost use Rattle.lexre.specs.Pieces.{kind_at, slash, IsEnd, Piece};
 ghost use Rattle.lexre_bytes.specs.declared.error.PatternErrorKind.TheVariants.{MisplacedSlash};
 ghost use Rattle.lexre.specs.CuttingSoFar.{ending, piece_of, Ending};
 
@@ -79,7 +80,7 @@ pub fn cut_pattern(text: &[u8]) -> Result<Cutting, PatternError>
 
 impl CuttingSoFar {
     /// What is known behind a piece that stands at this place. A `/` inside parentheses is a `MisplacedSlash`.
-    #[tactic(auto, unfolding(crate::specs::Cutting::slashes, crate::specs::CuttingSoFar::ending))]
+    #[tactic(auto, unfolding(crate::specs::Pieces::slashes, crate::specs::CuttingSoFar::ending))]
     fn past(self, kind: Kind, at: usize) -> Result<CuttingSoFar, PatternError>
         requires { self.depth + 1 < 2 ^ 64 }
         ensures ending { MatchResult result
@@ -113,7 +114,7 @@ impl CuttingSoFar {
     }
 
     /// What is known behind a slash.
-    #[tactic(auto, unfolding(crate::specs::Cutting::slashes, crate::specs::CuttingSoFar::ending))]
+    #[tactic(auto, unfolding(crate::specs::Pieces::slashes, crate::specs::CuttingSoFar::ending))]
     fn past_slash(self, at: usize) -> Result<CuttingSoFar, PatternError>
         ensures ending { MatchResult result
             (λ after. (ps : List (Piece × ℕ)) → ◌≡◌ {A = Ending} (ending self ((slash, at) ∷ ps)) (ending after ps))
@@ -143,14 +144,14 @@ impl CuttingSoFar {
 }
 
 /// The piece at the front of the text, which stands at this place, and what follows it. None at the end of the pattern.
-#[tactic(auto, unfolding(crate::specs::Cutting::piece_at, lex_semantics::specs::ByteSets::is_blank), using(crate::proofs::FaultLaws::quote_fault_of_cutting, crate::proofs::FaultLaws::byte_fault_of_cutting))]
+#[tactic(auto, unfolding(crate::specs::Cutting::piece_at, crate::specs::Pieces::kind_at, lexre_bytes::specs::Quotes::after_quotes, lex_semantics::specs::ByteSets::is_blank), using(crate::proofs::FaultLaws::quote_fault_of_cutting, crate::proofs::FaultLaws::byte_fault_of_cutting))]
 fn piece_at(text: &[u8], at: usize) -> Result<Option<(Kind, &[u8])>, PatternError>
     requires { at + length text.now < 2 ^ 64 }
     ensures found { IfOk result (λ found. MatchOption found
         (IsEnd text.now)
-        (λ x. ◌≡◌ {A = Option (Piece × List ℕ)} (piece_at text.now) (Some (piece_of x.0, x.1.now)))) }
+        (λ x. ◌≡◌ {A = Option (Piece × List ℕ)} (kind_at text.now) (Some (piece_of x.0, x.1.now)))) }
     ensures shorter { IfOk result (λ found. IfSome found (λ x. length x.1.now < length text.now)) }
-    ensures none { OnErr result (◌≡◌ {A = Option (Piece × List ℕ)} (piece_at text.now) None) }
+    ensures none { OnErr result (◌≡◌ {A = Option (Piece × List ℕ)} (kind_at text.now) None) }
     ensures not_end { OnErr result (IsEnd text.now → ⊥) }
     ensures fault { IfErr result (λ e. IsCuttingFault e.kind) }
 {

@@ -1,6 +1,7 @@
 //! The symbol at the front of a text. (POSIX, lex, Regular Expressions in lex; flex, Patterns.)
 ghost use Rattle.std.specs.Prelude.{◌≡◌, ℕ, List, Option, Some, None, MatchResult, IfOk, drop};
-ghost use Rattle.lexre_bytes.specs.Lexical.{symbol_at, class_front, escape_front, quoted_front};
+ghost use Rattle.lexre.specs.Fronts.{class_front, escape_front, quoted_front};
+ghost use Rattle.lexre_bytes.specs.Lexical.{symbol_at};
 ghost use Rattle.lexre.specs.Outcome.{IsRefused, UnlessMemory};
 ghost use Rattle.lexre.specs.Soundness.{IsSoundSymbol};
 ghost use Rattle.lexre.specs.SymbolViews.{Front, symbol_of};
@@ -72,7 +73,7 @@ fn escape_item<'a>(
 /// The symbol at the front of the text, and what follows it. A fault is reported at its place: `MisplacedSlash` at a
 /// `/`, `MissingOperand` at a blank, a newline and the end, and the faults of quotes, classes, escapes and braces at
 /// theirs. A text in quotes that has too many nodes by itself is `TooBig`.
-#[tactic(auto, unfolding(lexre_bytes::specs::Lexical::symbol_at, lexre_bytes::specs::Lexical::is_ordinary))]
+#[tactic(auto, unfolding(lexre_bytes::specs::Lexical::symbol_at, lexre_bytes::specs::Lexical::literal_byte_at))]
 pub(crate) fn symbol_at<'a>(
     alloc: Global,
     text: &'a [u8],

@@ -3,7 +3,8 @@ ghost use Rattle.std.specs.Prelude.{◌≡◌, ◌<◌, ℕ, List, Option, Some,
 ghost use Rattle.lex_semantics.specs.ByteSets.{single};
 ghost use Rattle.lex_semantics.specs.Shapes.{IsSoundTree, nodes};
 ghost use Rattle.lex_semantics.specs.Tree.{Set};
-ghost use Rattle.lexre_bytes.specs.Lexical.{after_quotes, folded, quoted_tree, quoted_bytes};
+ghost use Rattle.lexre_bytes.specs.Lexical.{folded, quoted_tree, quoted_bytes};
+ghost use Rattle.lexre_bytes.specs.Quotes.{after_quotes};
 ghost use Rattle.lexre.specs.Cutting.{IsQuoteFault};
 ghost use Rattle.lexre.specs.Outcome.{UnlessMemory};
 ghost use Rattle.lexre.specs.Views.{tree_of};

@@ -3,8 +3,8 @@ ghost use Rattle.std.specs.Prelude.{◌≡◌, ◌+◌, ◌≤◌, ◌<◌, ℕ,
 ghost use Rattle.std.specs.Prelude.{map, MatchResult, IfOk, IfErr, IfSome, IfNone, IsSome};
 ghost use Rattle.lex_semantics.specs.Tree.{Repeat, Tree};
 ghost use Rattle.lexre.specs.Counting.{adds, closing_adds, extra, item_adds};
-ghost use Rattle.lexre.specs.Grammar.{choice_tree, how_many, on_item, one_more, operand};
-ghost use Rattle.lexre.specs.Grammar.{operand_signs, parts_before, series_count, series_tree};
+ghost use Rattle.lexre.specs.Running.{choice_tree, how_many, on_item, one_more, operand};
+ghost use Rattle.lexre.specs.Running.{operand_signs, parts_before, series_count, series_tree};
 ghost use Rattle.lexre.specs.Outcome.{UnlessMemory};
 ghost use Rattle.lexre.specs.Running.{State, closed, finished, fresh, gathered, onto_last};
 ghost use Rattle.lexre.specs.Running.{opened, parted, push, pushed, state, step_of};

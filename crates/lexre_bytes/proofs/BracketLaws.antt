@@ -5,7 +5,8 @@ use Rattle.std.specs.List.{ends_with}
 use Rattle.std.specs.Prelude.{codes}
 use Rattle.lex_semantics.specs.ByteSets.{is_alpha}
 use Rattle.lex_semantics.specs.Reading.{take_up_to, is_empty, ◌>>=◌}
-use Rattle.lexre_bytes.specs.Lexical.{after_word, letters_at, named_at, enclosed_at, unsupported_at}
+use Rattle.lexre_bytes.specs.Lexical.{after_word}
+use Rattle.lexre_bytes.specs.Brackets.{letters_at, named_at, enclosed_at, unsupported_at}
 
 abbrev Cut : Type 0
 Cut = Option (List ℕ × List ℕ)

@@ -3,8 +3,12 @@ use Rattle.std.proofs.Common.{◌≡◌, ℕ, zero, suc, ◌<◌, ◌≤◌, ◌
 use Rattle.std.specs.Prelude.{codes}
 use Rattle.lex_semantics.specs.ByteSets.{ByteSet, has, set_of, empty_set, union, complement, range_set, named_set, is_alpha, is_digit, is_alnum, is_upper, is_lower, is_space, is_blank, is_cntrl, is_graph, is_print, is_punct, is_xdigit}
 use Rattle.lex_semantics.specs.Reading.{◌>>=◌, begins}
-use Rattle.lexre_bytes.specs.Lexical.{Element, span, named, unsupported, after_word, folded, named_at, unsupported_at, bracketed_at, literal_byte_at, element_at, element_set, elements_at, union_set, class_at, class_set}
+use Rattle.lexre_bytes.specs.Lexical.{span, after_word, folded, class_name_at, enclosed_by, bracketed_at, literal_byte_at, element_at, is_range, range_at, elements_at, union_set, class_at, class_set}
+use Rattle.lexre_bytes.specs.Elements.{Element, named, unsupported}
 use Rattle.lexre_bytes.specs.ClassSets.{member_at, members_at, class_set_at}
+use Rattle.std.specs.Option.{option_or}
+use Rattle.lexre_bytes.specs.Brackets.{named_at, unsupported_at}
+use Rattle.lexre_bytes.proofs.BracketForms.{bracketed_form}
 use Rattle.lexre_bytes.proofs.IntervalLaws.{begun, not_begun}
 use Rattle.lexre_bytes.proofs.QuoteLaws.{differs}
 use Rattle.lexre_bytes.proofs.SetLaws.{empty_is, has-set_of, set_of-lt, same_set_of, is_set_of}
@@ -60,7 +64,7 @@ with_first e q = q >>= λ (es, after). Some (e ∷ es, after)
 abbrev united : Many → Found
 united q = q >>= λ (es, rest). union_set es >>= λ s. Some (s, rest)
 
-first_and_others : (e : Element) (o : Option ByteSet) (rest : List ℕ) (q : Many) → element_set e ≡ o
+first_and_others : (e : Element) (o : Option ByteSet) (rest : List ℕ) (q : Many) → e ≡ o
     → united (with_first e q) ≡ (o >>= λ s. onto s (united q))
 unfolding union_set
 first_and_others e None rest None h = refl
@@ -76,13 +80,13 @@ abbrev element_then : ℕ → One → Many
 element_then n f = f >>= λ (e, rest). elements_at n false rest >>= λ (es, after). Some (e ∷ es, after)
 
 abbrev set_then : ℕ → One → Found
-set_then n f = (f >>= λ (e, rest). element_set e >>= λ s. Some (s, rest)) >>= λ (s, rest). onto s (members_at n false rest)
+set_then n f = (f >>= λ (e, rest). e >>= λ s. Some (s, rest)) >>= λ (s, rest). onto s (members_at n false rest)
 
 united_then : (n : ℕ) (f : One) → united (element_then n f) ≡ set_then n f
 united_then n None = refl
-united_then n (Some x) = go (element_set x.0) refl
+united_then n (Some x) = go x.0 refl
   where
-    go : (o : Option ByteSet) → element_set x.0 ≡ o → united (element_then n (Some x)) ≡ ((o >>= λ s. Some (s, x.1)) >>= λ (s, rest). onto s (members_at n false rest))
+    go : (o : Option ByteSet) → x.0 ≡ o → united (element_then n (Some x)) ≡ ((o >>= λ s. Some (s, x.1)) >>= λ (s, rest). onto s (members_at n false rest))
     go None e = first_and_others x.0 None x.1 (elements_at n false x.1) e
     go (Some s) e = first_and_others x.0 (Some s) x.1 (elements_at n false x.1) e
 
@@ -97,7 +101,7 @@ closing n t h = rw h refl
 -- The number that bounds the elements tells nothing once there is room.
 
 nothing_there : ◌≡◌ {A = One} (element_at []) None
-unfolding element_at bracketed_at named_at unsupported_at literal_byte_at after_word
+unfolding element_at bracketed_at class_name_at enclosed_by literal_byte_at after_word
 nothing_there = refl
 
 none_of_nothing : (m : ℕ) (first : Bool) → ◌≡◌ {A = Many} (elements_at m first []) None
@@ -143,22 +147,61 @@ named_set-lt n =
     either _ is_alpha _ (either _ is_digit _ (either _ is_alnum _ (either _ is_upper _ (either _ is_lower _ (either _ is_space _
     (either _ is_blank _ (either _ is_cntrl _ (either _ is_graph _ (either _ is_print _ (either _ is_punct _ (either _ is_xdigit None no_set)))))))))))
 
-element_set-lt : (e : Element) → IsOfBytes (element_set e)
-unfolding element_set range_set
-element_set-lt (span lo hi) = either (nat_le lo hi) (λ b. nat_le lo b && nat_le b hi) None no_set
-element_set-lt (named n) = named_set-lt n
-element_set-lt unsupported = no_set
+span-lt : (lo hi : ℕ) → IsOfBytes (span lo hi)
+unfolding span range_set
+span-lt lo hi = either (nat_le lo hi) (λ b. nat_le lo b && nat_le b hi) None no_set
+
+-- the set of an element that is read, if it has one, is of bytes
+abbrev ReadsBytes : One → Type 0
+ReadsBytes None = Unit {0}
+ReadsBytes (Some x) = IsOfBytes x.0
+
+bracketed_bytes : (t : List ℕ) → ReadsBytes (bracketed_at t)
+bracketed_bytes t = let P : One → Type 0 = λ f. ReadsBytes f in subst P (sym (bracketed_form t)) (go (named_at t) (unsupported_at t))
+  where
+    go : (a : Option (List ℕ × List ℕ)) (b : Option (List ℕ)) → ReadsBytes (elim a [
+      | Some found ↦ Some (named found.0, found.1)
+      | None ↦ elim b [
+        | Some rest ↦ Some (unsupported, rest)
+        | None ↦ None
+      ]
+    ])
+    go (Some x) b = named_set-lt x.0
+    go None (Some u) = no_set
+    go None None = tt
+
+range_bytes : (lo : ℕ) (t : List ℕ) → ReadsBytes (range_at lo t)
+unfolding range_at
+range_bytes lo t = go (bracketed_at t) (literal_byte_at t)
+  where
+    go : (a : One) (b : Option (ℕ × List ℕ)) → ReadsBytes (option_or (a >>= λ (e, rest). Some (None, rest)) (b >>= λ (hi, rest). Some (span lo hi, rest)))
+    go (Some x) b = no_set
+    go None (Some y) = span-lt lo y.0
+    go None None = tt
+
+element_bytes : (t : List ℕ) → ReadsBytes (element_at t)
+unfolding element_at
+element_bytes t = go (bracketed_at t) (literal_byte_at t) (bracketed_bytes t)
+  where
+    low : (b : Bool) (lo : ℕ) (r : List ℕ) → ReadsBytes (if b then range_at lo (drop 1 r) else Some (span lo lo, r))
+    low true lo r = range_bytes lo (drop 1 r)
+    low false lo r = span-lt lo lo
+
+    go : (a : One) (b : Option (ℕ × List ℕ)) → ReadsBytes a → ReadsBytes (option_or a (b >>= λ (lo, rest). if is_range rest then range_at lo (drop 1 rest) else Some (span lo lo, rest)))
+    go (Some x) b h = h
+    go None (Some y) h = low (is_range y.1) y.0 y.1
+    go None None h = tt
 
 pub member-lt : (t rest : List ℕ) (s : ByteSet) → ◌≡◌ {A = Found} (member_at t) (Some (s, rest)) → s < 2 ^ 256
-member-lt t rest s h = go (element_at t) h
+member-lt t rest s h = go (element_at t) (element_bytes t) h
   where
     inner : (r : List ℕ) (o : Option ByteSet) → IsOfBytes o → ◌≡◌ {A = Found} (o >>= λ u. Some (u, r)) (Some (s, rest)) → s < 2 ^ 256
     inner r None k e = cc
     inner r (Some u) k e = let same : u ≡ s = ap (λ (f : Found). elim f [ Some y ↦ y.0 | None ↦ u ]) e in subst (λ v. v < 2 ^ 256) same (k u refl)
 
-    go : (f : One) → ◌≡◌ {A = Found} (f >>= λ (e, r). element_set e >>= λ u. Some (u, r)) (Some (s, rest)) → s < 2 ^ 256
-    go None e = cc
-    go (Some x) e = inner x.1 (element_set x.0) (element_set-lt x.0) e
+    go : (f : One) → ReadsBytes f → ◌≡◌ {A = Found} (f >>= λ (e, r). e >>= λ u. Some (u, r)) (Some (s, rest)) → s < 2 ^ 256
+    go None k e = cc
+    go (Some x) k e = inner x.1 x.0 k e
 
 -- The steps of the reader.
 
@@ -172,9 +215,9 @@ from_member t rest s h = go (element_at t) refl h
         let less : length x.1 < length t = element_takes t x.1 x.0 e in
         omega (arith, ap length same, less)
 
-    go : (f : One) → ◌≡◌ {A = One} (element_at t) f → ◌≡◌ {A = Found} (f >>= λ (e, r). element_set e >>= λ u. Some (u, r)) (Some (s, rest)) → length rest < length t
+    go : (f : One) → ◌≡◌ {A = One} (element_at t) f → ◌≡◌ {A = Found} (f >>= λ (e, r). e >>= λ u. Some (u, r)) (Some (s, rest)) → length rest < length t
     go None e k = cc
-    go (Some x) e k = inner x (element_set x.0) e k
+    go (Some x) e k = inner x x.0 e k
 
 pub member_takes : (t rest : List ℕ) (s : ByteSet) → ◌≡◌ {A = Found} (member_at t) (Some (s, rest)) → length rest < length t
 member_takes t rest s h = from_member t rest s h
@@ -225,12 +268,13 @@ kept fold negated o = o >>= λ (s, rest).
 set_of_many : (fold negated : Bool) (q : Many) → (q >>= λ (es, rest). class_set fold negated es >>= λ s. Some (s, rest)) ≡ kept fold negated (united q)
 unfolding class_set
 set_of_many fold negated None = refl
-set_of_many fold negated (Some x) = go (union_set x.0)
+set_of_many fold negated (Some x) = go negated (union_set x.0)
   where
-    go : (o : Option ByteSet) → ◌≡◌ {A = Found} ((o >>= λ s. if not negated then Some (folded fold s) else if complement (folded fold s) == 0 then None else Some (complement (folded fold s))) >>= λ s. Some (s, x.1))
-        (kept fold negated (o >>= λ s. Some (s, x.1)))
-    go None = refl
-    go (Some s) = refl
+    go : (b : Bool) (o : Option ByteSet) → ◌≡◌ {A = Found} ((o >>= λ u. (let s = if b then complement (folded fold u) else folded fold u in if b && s == 0 then None else Some s)) >>= λ s. Some (s, x.1))
+        (kept fold b (o >>= λ s. Some (s, x.1)))
+    go b None = refl
+    go true (Some s) = refl
+    go false (Some s) = refl
 
 abbrev marked : Bool → Many → Option (Bool × List Element × List ℕ)
 marked negated q = q >>= λ (es, rest). Some (negated, es, rest)

@@ -1,6 +1,7 @@
 -- The elements of a class.
 use Rattle.std.proofs.Common.{◌≡◌, ℕ, false, List, [], ◌∷◌, length, Option, Some, None, refl, arith}
-use Rattle.lexre_bytes.specs.Lexical.{Element, span, after_word, named_at, bracketed_at, literal_byte_at, is_range, element_at}
+use Rattle.lexre_bytes.specs.Lexical.{span, bracketed_at, literal_byte_at, is_range, element_at}
+use Rattle.lexre_bytes.specs.Elements.{Element}
 
 abbrev Found : Type 0
 Found = Option (Element × List ℕ)
@@ -8,7 +9,7 @@ Found = Option (Element × List ℕ)
 -- a byte that begins no range
 pub lone_byte : (t rest : List ℕ) (low : ℕ) → ◌≡◌ {A = Found} (bracketed_at t) None → ◌≡◌ {A = Option (ℕ × List ℕ)} (literal_byte_at t) (Some (low, rest))
     → is_range rest ≡ false → ◌≡◌ {A = Found} (element_at t) (Some (span low low, rest))
-unfolding element_at bracketed_at named_at after_word
+unfolding element_at
 lone_byte t rest low e f g = rw (e, f, g) refl
 
 pub no_range : (t : List ℕ) → length t ≡ 0 → is_range t ≡ false

@@ -5,9 +5,11 @@ use Rattle.std.specs.Prelude.{codes}
 use Rattle.lex_semantics.specs.ByteSets.{ByteSet, is_alpha, is_xdigit, within}
 use Rattle.lex_semantics.specs.Escapes.{simple_escape, octal_at, hexadecimal_at}
 use Rattle.lex_semantics.specs.Reading.{◌>>=◌, take_up_to, value, is_empty, begins}
-use Rattle.lexre_bytes.specs.Lexical.{Element, element_set, span, after_word, escape_at, letters_at, named_at, enclosed_at, unsupported_at, literal_byte_at, bracketed_at, is_range, range_at, element_at, inside}
+use Rattle.lexre_bytes.specs.Lexical.{span, after_word, escape_at, literal_byte_at, bracketed_at, is_range, range_at, element_at}
+use Rattle.lexre_bytes.specs.Elements.{Element}
+use Rattle.lexre_bytes.specs.Brackets.{letters_at, named_at, enclosed_at, unsupported_at}
 use Rattle.lexre_bytes.specs.ClassSets.{member_at}
-use Rattle.lexre_bytes.specs.Stops.{stop_of}
+use Rattle.lexre_bytes.specs.Stops.{stop_of, inside}
 use Rattle.std.proofs.lemmas.Slice.Eq.{starts_is}
 use Rattle.std.proofs.lemmas.Bool.Decides.{Decides-eqb}
 use Rattle.lexre_bytes.proofs.IntervalLaws.{begun}
@@ -294,9 +296,9 @@ member_known t rest s x e f h = known_on t rest s e (go (element_at t) (element_
         let same : y.1 ≡ rest = ap (λ (o : Option (ByteSet × List ℕ)). elim o [ Some z ↦ z.1 | None ↦ y.1 ]) g in
         let P : List ℕ → Type 0 = λ v. IsEnd t v in subst P same k
 
-    go : (o : Found) → Ends t o → ◌≡◌ {A = Option (ByteSet × List ℕ)} (o >>= λ (e, r). element_set e >>= λ u. Some (u, r)) (Some (x, rest)) → IsEnd t rest
+    go : (o : Found) → Ends t o → ◌≡◌ {A = Option (ByteSet × List ℕ)} (o >>= λ (e, r). e >>= λ u. Some (u, r)) (Some (x, rest)) → IsEnd t rest
     go None k g = cc
-    go (Some y) k g = inner y (element_set y.0) k g
+    go (Some y) k g = inner y y.0 k g
 
 pub range_known : (t rest after s : List ℕ) (low c : ℕ) → s ≡ stop_of t → ◌≡◌ {A = Byte} (literal_byte_at t) (Some (low, rest)) → rest ≡ c ∷ after → length s ≤ length after → s ≡ stop_of after
 range_known t rest after s low c e f g h =

@@ -2,6 +2,7 @@ pub mod Narrowing
 pub mod RunLaws
 pub mod EscapeLaws
 pub mod FaultLaws
+pub mod BracketForms
 pub mod BracketLaws
 pub mod ElementLaws
 pub mod ShorterLaws

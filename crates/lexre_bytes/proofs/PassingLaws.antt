@@ -6,8 +6,13 @@ use Rattle.std.specs.List.{ends_with}
 use Rattle.lex_semantics.specs.Escapes.{until_quote}
 use Rattle.lex_semantics.specs.ByteSets.{is_alpha}
 use Rattle.lex_semantics.specs.Reading.{◌>>=◌, take_up_to, take_run, is_empty, begins}
-use Rattle.lexre_bytes.specs.Lexical.{after_word, escape_at, quoted_at, after_quotes, Element, named, span, unsupported, letters_at, named_at, enclosed_at, unsupported_at, literal_byte_at, bracketed_at, is_range, range_at, element_at, elements_at, class_at}
+use Rattle.lexre_bytes.specs.Lexical.{after_word, escape_at, span, literal_byte_at, class_name_at, enclosed_by, bracketed_at, is_range, range_at, element_at, elements_at, class_at}
+use Rattle.lexre_bytes.specs.Elements.{Element, named, unsupported}
+use Rattle.lexre_bytes.specs.Quotes.{quoted_at, after_quotes}
+use Rattle.lexre_bytes.specs.Brackets.{letters_at, named_at, enclosed_at, unsupported_at}
 use Rattle.lexre_bytes.specs.Passing.{rest_of_class}
+use Rattle.std.specs.Option.{option_or}
+use Rattle.lexre_bytes.proofs.BracketForms.{bracketed_form}
 use Rattle.lexre_bytes.proofs.QuoteLaws.{escape_shorter}
 
 abbrev pub rest_of : {A : Type 0} → Option (A × List ℕ) → Option (List ℕ)
@@ -101,8 +106,9 @@ unsupported_below t =
     go None None None h k l = tt
 
 bracketed_below : (t : List ℕ) → IsBelow (length t) (rest_of (bracketed_at t))
-unfolding bracketed_at
-bracketed_below t = go (named_at t) (unsupported_at t) (named_below t) (unsupported_below t)
+bracketed_below t =
+    let P : Option (Element × List ℕ) → Type 0 = λ o. IsBelow (length t) (rest_of o) in
+    subst P (sym (bracketed_form t)) (go (named_at t) (unsupported_at t) (named_below t) (unsupported_below t))
   where
     go : (a : Option (List ℕ × List ℕ)) (b : Option (List ℕ)) → IsBelow (length t) (rest_of a) → IsBelow (length t) b
         → IsBelow (length t) (rest_of {A = Element} (elim a [
@@ -139,10 +145,7 @@ unfolding range_at
 range_below lo t = go (bracketed_at t) (literal_byte_at t) (bracketed_below t) (byte_below t)
   where
     go : (a : Option (Element × List ℕ)) (b : Option (ℕ × List ℕ)) → IsBelow (length t) (rest_of a) → IsBelow (length t) (rest_of b)
-        → IsBelow (length t) (rest_of {A = Element} (elim a [
-          | Some found ↦ Some (unsupported, found.1)
-          | None ↦ b >>= λ (hi, rest). Some (span lo hi, rest)
-        ]))
+        → IsBelow (length t) (rest_of {A = Element} (option_or (a >>= λ (e, rest). Some (unsupported, rest)) (b >>= λ (hi, rest). Some (span lo hi, rest))))
     go (Some x) b h k = h
     go None (Some y) h k = k
     go None None h k = tt
@@ -157,10 +160,7 @@ element_below t = go (bracketed_at t) (literal_byte_at t) (bracketed_below t) (b
     ranged false lo r h k = h
 
     go : (a : Option (Element × List ℕ)) (b : Option (ℕ × List ℕ)) → IsBelow (length t) (rest_of a) → IsBelow (length t) (rest_of b)
-        → IsBelow (length t) (rest_of {A = Element} (elim a [
-          | Some found ↦ Some found
-          | None ↦ b >>= λ (lo, rest). if is_range rest then range_at lo (drop 1 rest) else Some (span lo lo, rest)
-        ]))
+        → IsBelow (length t) (rest_of {A = Element} (option_or a (b >>= λ (lo, rest). if is_range rest then range_at lo (drop 1 rest) else Some (span lo lo, rest))))
     go (Some x) b h k = h
     go None (Some y) h k =
         let shorter : length (drop 1 y.1) ≤ length y.1 = omega (arith, length-drop 1 y.1) in
@@ -195,11 +195,7 @@ quoted_below (suc n) (c ∷ t) = go (c == 34) (c == 10) (c == 92) (escape_below 
 
 pub quotes_shorter : (t rest : List ℕ) → after_quotes t ≡ Some rest → length rest < length t
 unfolding after_quotes
-quotes_shorter t rest e = below (length t) (after_quotes t) rest (go (quoted_at (suc (length t)) t) (quoted_below (suc (length t)) t)) e
-  where
-    go : (o : Option (List ℕ × List ℕ)) → IsBelow (length t) (rest_of o) → IsBelow (length t) (o >>= λ (bs, after). Some after)
-    go None h = tt
-    go (Some x) h = h
+quotes_shorter t rest e = below (length t) (after_quotes t) rest (quoted_below (suc (length t)) t) e
 
 -- Classes.
 
@@ -242,7 +238,7 @@ unfolding elements_at
 elements_end n t = refl
 
 no_element : element_at [] ≡ None
-unfolding element_at bracketed_at named_at unsupported_at literal_byte_at after_word
+unfolding element_at bracketed_at class_name_at enclosed_by literal_byte_at after_word
 no_element = refl
 
 no_elements : (n : ℕ) → rest_of (elements_at n false []) ≡ None

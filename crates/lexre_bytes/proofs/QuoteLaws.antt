@@ -1,10 +1,12 @@
 -- Texts in quotes, byte by byte.
 use Rattle.std.proofs.Common.{◌≡◌, ℕ, zero, suc, ◌<◌, ◌≤◌, Bool, true, false, nat_lt, ◌==◌, if◌then◌else◌, List, [], ◌∷◌, length, Option, Some, None, unwrap_or, refl, sym, ap, ◌∙◌, subst, arith}
+use Rattle.std.specs.Prelude.{option_map}
 use Rattle.std.proofs.lemmas.Bool.Decides.{nat_tests}
 use Rattle.lex_semantics.specs.ByteSets.{within, is_xdigit}
 use Rattle.lex_semantics.specs.Escapes.{octal_at, hexadecimal_at, simple_escape, until_quote}
 use Rattle.lex_semantics.specs.Reading.{take_up_to, value, is_empty, ◌>>=◌}
-use Rattle.lexre_bytes.specs.Lexical.{escape_at, quoted_at, after_quotes, literal_byte_at}
+use Rattle.lexre_bytes.specs.Lexical.{escape_at, literal_byte_at}
+use Rattle.lexre_bytes.specs.Quotes.{quoted_at, after_quotes}
 
 abbrev Found : Type 0
 Found = Option (ℕ × List ℕ)
@@ -76,7 +78,7 @@ abbrev Quoted : Type 0
 Quoted = Option (List ℕ × List ℕ)
 
 abbrev rest_of : Quoted → Option (List ℕ)
-rest_of o = o >>= λ (bs, rest). Some rest
+rest_of o = option_map (λ x. x.1) o
 
 abbrev with_byte : ℕ → Quoted → Quoted
 with_byte b o = o >>= λ (bs, rest). Some (b ∷ bs, rest)

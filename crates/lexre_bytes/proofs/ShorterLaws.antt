@@ -1,10 +1,13 @@
 -- An element of a class takes at least a byte.
-use Rattle.std.proofs.Common.{◌≡◌, ℕ, suc, ◌<◌, ◌≤◌, Bool, true, false, not, ◌&&◌, ◌||◌, ◌==◌, nat_lt, nat_eq, if◌then◌else◌, List, [], ◌∷◌, length, drop, length-drop, Option, Some, None, refl, subst, arith}
+use Rattle.std.proofs.Common.{◌≡◌, ℕ, suc, ◌<◌, ◌≤◌, Bool, true, false, not, ◌&&◌, ◌||◌, ◌==◌, nat_lt, nat_eq, if◌then◌else◌, List, [], ◌∷◌, length, drop, length-drop, Option, Some, None, refl, subst, arith, ◌∙◌}
 use Rattle.std.specs.List.{ends_with}
 use Rattle.std.specs.Prelude.{codes}
 use Rattle.lex_semantics.specs.ByteSets.{is_alpha}
 use Rattle.lex_semantics.specs.Reading.{◌>>=◌, take_up_to, is_empty, begins}
-use Rattle.lexre_bytes.specs.Lexical.{Element, span, named, unsupported, after_word, escape_at, letters_at, named_at, enclosed_at, unsupported_at, literal_byte_at, bracketed_at, is_range, range_at, element_at}
+use Rattle.lexre_bytes.specs.Lexical.{span, after_word, escape_at, literal_byte_at, bracketed_at, is_range, range_at, element_at}
+use Rattle.lexre_bytes.specs.Elements.{Element, named, unsupported}
+use Rattle.lexre_bytes.specs.Brackets.{letters_at, named_at, enclosed_at, unsupported_at}
+use Rattle.lexre_bytes.proofs.BracketForms.{bracketed_form}
 use Rattle.lexre_bytes.proofs.BracketLaws.{negated_then, equivalence_then, collating_then}
 use Rattle.lexre_bytes.proofs.QuoteLaws.{escape_shorter, take_up_to_within}
 
@@ -102,16 +105,13 @@ abbrev Letters : Type 0
 Letters = Option (List ℕ × List ℕ)
 
 pub named_is : (t : List ℕ) (x : List ℕ × List ℕ) → ◌≡◌ {A = Letters} (named_at t) (Some x) → ◌≡◌ {A = Found} (bracketed_at t) (Some (named x.0, x.1))
-unfolding bracketed_at
-named_is t x e = rw (e, bracketed_at) refl
+named_is t x e = bracketed_form t ∙ rw e refl
 
 pub unsupported_is : (t u : List ℕ) → ◌≡◌ {A = Letters} (named_at t) None → unsupported_at t ≡ Some u → ◌≡◌ {A = Found} (bracketed_at t) (Some (unsupported, u))
-unfolding bracketed_at
-unsupported_is t u e f = rw (e, f, bracketed_at) refl
+unsupported_is t u e f = bracketed_form t ∙ rw (e, f) refl
 
 pub no_bracket : (t : List ℕ) → ◌≡◌ {A = Letters} (named_at t) None → unsupported_at t ≡ None → ◌≡◌ {A = Found} (bracketed_at t) None
-unfolding bracketed_at
-no_bracket t e f = rw (e, f, bracketed_at) refl
+no_bracket t e f = bracketed_form t ∙ rw (e, f) refl
 
 bracketed_shorter : (t : List ℕ) → IsShorter (length t) (bracketed_at t)
 bracketed_shorter t = first (named_at t) refl (named_shorter t)

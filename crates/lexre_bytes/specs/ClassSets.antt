@@ -2,11 +2,11 @@
 use Rattle.std.specs.Prelude.{ℕ, Bool, Some}
 use Rattle.lex_semantics.specs.ByteSets.{ByteSet}
 use Rattle.lex_semantics.specs.Reading.{◌>>=◌, Reader}
-use Rattle.lexre_bytes.specs.Lexical.{element_at, element_set, elements_at, union_set, class_at, class_set}
+use Rattle.lexre_bytes.specs.Lexical.{element_at, elements_at, union_set, class_at, class_set}
 
 -- the set of the element at the front of the text
 abbrev pub member_at : Reader ByteSet
-member_at t = element_at t >>= λ (e, rest). element_set e >>= λ s. Some (s, rest)
+member_at t = element_at t >>= λ (e, rest). e >>= λ s. Some (s, rest)
 
 -- the bytes of the elements up to the closing bracket
 abbrev pub members_at : ℕ → Bool → Reader ByteSet

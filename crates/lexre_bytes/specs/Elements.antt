@@ -1,6 +1,20 @@
 -- What a `ClassItem` of a class stands for.
-use Rattle.lexre_bytes.specs.Lexical.{Element, span, named, unsupported}
+use Rattle.std.specs.Prelude.{ℕ, List, Option, None}
+use Rattle.lex_semantics.specs.ByteSets.{ByteSet, named_set}
+use Rattle.lexre_bytes.specs.Lexical.{span}
 use Rattle.lexre_bytes.specs.declared.class_item.ClassItem.{ClassItem}
+
+-- the set of an element, if it has one
+abbrev pub Element : Type 0
+Element = Option ByteSet
+
+-- `[:name:]`
+abbrev pub named : List ℕ → Element
+named letters = named_set letters
+
+-- what may not stand in a class
+abbrev pub unsupported : Element
+unsupported = None
 
 abbrev pub element_of : ClassItem → Element
 element_of (ClassItem.Span lo hi) = span lo hi

@@ -1,4 +1,5 @@
 pub mod ClassSets
+pub mod Brackets
 pub mod Classes
 pub mod Elements
 pub mod Faults
@@ -8,6 +9,7 @@ pub mod Limits
 pub mod Memory
 pub mod Passing
 pub mod PatternMemory
+pub mod Quotes
 pub mod RefusalNames
 pub mod Stops
 pub mod Symbols

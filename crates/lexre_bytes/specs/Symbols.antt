@@ -32,5 +32,5 @@ abbrev pub Lexer : Type 0
 Lexer = Reader Symbol
 
 -- the text is these symbols, one after another
-abbrev pub IsCut : Lexer → List ℕ → List Symbol → Type 0
+abbrev pub IsCut : Reader Symbol → List ℕ → List Symbol → Type 0
 IsCut symbol_at text ss = reading.IsCut symbol_at (λ t. t ≡ []) text ss

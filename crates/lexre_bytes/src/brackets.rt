@@ -1,7 +1,8 @@
 //! What stands between brackets inside a class. (POSIX, Base Definitions, RE Bracket Expression.)
 ghost use Rattle.std.specs.Prelude.{◌≡◌, ◌≤◌, ℕ, List, length, Option, Some, None, MatchResult, IfErr, option_map};
 ghost use Rattle.lexre_bytes.specs.Faults.{IsByteFault};
-ghost use Rattle.lexre_bytes.specs.Lexical.{literal_byte_at, enclosed_at, letters_at, named_at, unsupported_at};
+ghost use Rattle.lexre_bytes.specs.Lexical.{literal_byte_at};
+ghost use Rattle.lexre_bytes.specs.Brackets.{enclosed_at, letters_at, named_at, unsupported_at};
 ghost use Rattle.lexre_bytes.specs.Stops.{stop_of};
 
 use crate::classes::Class;

@@ -1,8 +1,8 @@
 //! The elements of a class. (POSIX, Base Definitions, RE Bracket Expression.)
 ghost use Rattle.std.specs.Prelude.{◌≡◌, ◌≤◌, List, length, ℕ, Option, Some, None};
 ghost use Rattle.std.specs.Prelude.{MatchResult, IfErr, IfOk, IfSome, option_map};
-ghost use Rattle.lexre_bytes.specs.Lexical.{Element, bracketed_at, element_at, is_range, range_at};
-ghost use Rattle.lexre_bytes.specs.Elements.{element_of};
+ghost use Rattle.lexre_bytes.specs.Lexical.{bracketed_at, element_at, is_range, range_at};
+ghost use Rattle.lexre_bytes.specs.Elements.{element_of, Element};
 ghost use Rattle.lexre_bytes.specs.Faults.{IsByteFault, HasPartFault};
 ghost use Rattle.lexre_bytes.specs.Stops.{stop_of};
 
@@ -12,7 +12,7 @@ use crate::error::{FaultAt, PatternErrorKind};
 
 /// `[:name:]`, or what is like it and not supported, and what follows it. `stop` is the text from its first `]` or
 /// newline on.
-#[tactic(auto, unfolding(crate::specs::Lexical::bracketed_at))]
+#[tactic(auto, using(crate::proofs::ShorterLaws::named_is, crate::proofs::ShorterLaws::unsupported_is, crate::proofs::ShorterLaws::no_bracket))]
 fn bracketed_at<'a>(text: &'a [u8], stop: &[u8]) -> Option<(ClassItem<'a>, &'a [u8])>
     requires { stop.now ≡ stop_of text.now }
     ensures found { ◌≡◌ {A = Option (Element

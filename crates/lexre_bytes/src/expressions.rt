@@ -25,7 +25,7 @@ fn span(low: u8, high: u8) -> ByteSet
 
 /// The set of the element at the front of the text, and what follows it. `class` is the text from the class on, and
 /// `stop` the text from its first `]` or newline on.
-#[tactic(auto, unfolding(crate::specs::Lexical::element_set), using(crate::proofs::FaultLaws::byte_fault_of_class, crate::proofs::FaultLaws::part_fault_of_class))]
+#[tactic(auto, unfolding(crate::specs::Lexical::span), using(crate::proofs::FaultLaws::byte_fault_of_class, crate::proofs::FaultLaws::part_fault_of_class))]
 fn member_at<'a>(
     class: &'a [u8],
     text: &'a [u8],

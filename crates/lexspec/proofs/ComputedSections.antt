@@ -4,8 +4,11 @@ use Rattle.std.specs.Prelude.{codes, ◌++◌, length}
 use Rattle.lex_semantics.specs.ByteSets.{is_upper, is_lower, is_alpha, is_digit, is_alnum, is_blank}
 use Rattle.lex_semantics.specs.Escapes.{simple_escape, until_quote}
 use Rattle.lex_semantics.specs.Reading.{take_up_to}
-use Rattle.lexre_bytes.specs.Lexical.{escape_at, literal_byte_at, after_quotes}
-use Rattle.lexre.specs.Cutting.{Piece, IsCutting, IsPieces, dollar, other, slash, piece_at, slashes, ends_with_dollar}
+use Rattle.lexre_bytes.specs.Lexical.{escape_at, literal_byte_at}
+use Rattle.lexre_bytes.specs.Quotes.{after_quotes}
+use Rattle.lexre.specs.Cutting.{IsCutting, piece_at}
+use Rattle.lexre.specs.Pieces.{Piece, IsPieces, dollar, other, slash, kind_at, slashes, ends_with_dollar}
+use Rattle.lexre.proofs.PieceLaws.{cutting_of}
 use Rattle.lexspec_lines.specs.DefinitionLines.{Definition, nothing, code_line, code_block, declares, options, ignored, defines, definition_at, definition_in, percent_line, IsUpTo}
 use Rattle.lexspec_lines.specs.SkippedCode.{IsDefinition, AreNumbered, AreFrom}
 use Rattle.lexspec_lines.specs.Lines.{after_block, without_returns}
@@ -14,7 +17,8 @@ use Rattle.lexspec.specs.SpecExamples.{rules_section, user_code, whole_file, Who
 
 -- the cutting of a pattern without a slash outside parentheses, by its pieces
 without_slash : (t : List ℕ) (pieces : List (Piece × ℕ)) (end : ℕ) (special : Bool) → IsPieces 0 t pieces end → slashes 0 pieces ≡ Some [] → ends_with_dollar pieces ≡ special → IsCutting t end None false special
-without_slash t pieces end special cut outside last = record { pieces = pieces; cut = cut; places = []; outside = outside; first = refl; second = refl; last = sym last }
+without_slash t pieces end special cut outside last =
+    cutting_of t end None false special (record { pieces = pieces; cut = cut; places = []; outside = outside; first = refl; second = refl; last = sym last })
 
 -- ---- the whole file
 
@@ -122,7 +126,7 @@ abbrev pub whole_items : List (ℕ × Item)
 whole_items = (13, skipped_line) ∷ (14, skipped_block) ∷ (17, number_item) ∷ (18, skipped) ∷ (19, letters_item) ∷ later_items
 
 number_here : IsItem from_number number_item from_empty
-unfolding conditions_at piece_at slashes ends_with_dollar take_up_to is_blank action_at action_end after_piece after_string until_quote
+unfolding conditions_at kind_at piece_at slashes ends_with_dollar take_up_to is_blank action_at action_end after_piece after_string until_quote
 number_here =
     let after = codes " ECHO;\n" ++ from_empty in (
       refl,
@@ -145,7 +149,7 @@ number_here =
     )
 
 letters_here : IsItem from_letters letters_item from_opening
-unfolding conditions_at piece_at slashes ends_with_dollar take_up_to is_blank action_at action_end after_piece after_string until_quote
+unfolding conditions_at kind_at piece_at slashes ends_with_dollar take_up_to is_blank action_at action_end after_piece after_string until_quote
 letters_here =
     let after = codes " |\n" ++ from_opening in (
       refl,
@@ -159,7 +163,7 @@ letters_here =
         (
           5,
           2,
-          record {
+          cutting_of (codes "ab/c*" ++ after) 5 (Some 2) false false (record {
             pieces = (other, 0) ∷ (other, 1) ∷ (slash, 2) ∷ (other, 3) ∷ (other, 4) ∷ [];
             cut = (codes "b/c*" ++ after, refl, refl, (codes "/c*" ++ after, refl, refl, (codes "c*" ++ after, refl, refl, (codes "*" ++ after, refl, refl, (after, refl, refl, (refl, refl))))));
             places = 2 ∷ [];
@@ -167,7 +171,7 @@ letters_here =
             first = refl;
             second = refl;
             last = refl;
-          },
+          }),
           refl,
           refl,
           refl,
@@ -178,7 +182,7 @@ letters_here =
     )
 
 opening_here : IsItem from_opening opening_item from_closing
-unfolding conditions_at piece_at slashes ends_with_dollar take_up_to is_blank after_quotes until_quote literal_byte_at action_at action_end after_piece after_string
+unfolding conditions_at kind_at piece_at slashes ends_with_dollar take_up_to is_blank after_quotes until_quote literal_byte_at action_at action_end after_piece after_string
 opening_here =
     let after = codes " { yy_push_state(B); /* } */\n  yymore(); }\n" ++ from_closing in (
       refl,
@@ -201,7 +205,7 @@ opening_here =
     )
 
 closing_here : IsItem from_closing closing_item from_other
-unfolding conditions_at piece_at slashes ends_with_dollar take_up_to is_blank after_quotes until_quote literal_byte_at action_at action_end after_piece after_string
+unfolding conditions_at kind_at piece_at slashes ends_with_dollar take_up_to is_blank after_quotes until_quote literal_byte_at action_at action_end after_piece after_string
 closing_here =
     let after = codes " yy_pop_state();\n" ++ from_other in (
       refl,
@@ -224,7 +228,7 @@ closing_here =
     )
 
 other_here : IsItem from_other other_item from_end_in_b
-unfolding conditions_at piece_at slashes ends_with_dollar take_up_to is_blank escape_at simple_escape action_at action_end after_piece after_string until_quote
+unfolding conditions_at kind_at piece_at slashes ends_with_dollar take_up_to is_blank escape_at simple_escape action_at action_end after_piece after_string until_quote
 other_here =
     let after = codes " ;\n" ++ from_end_in_b in (
       refl,
@@ -315,7 +319,7 @@ whole_skips = record {
 
 -- `a`, and a blank behind it
 pub a_here : (rest : List ℕ) → IsPattern (97 ∷ 32 ∷ rest) (codes "a") no_trail (32 ∷ rest)
-unfolding piece_at slashes ends_with_dollar is_blank
+unfolding kind_at piece_at slashes ends_with_dollar is_blank
 a_here rest = (
   1,
   without_slash (97 ∷ 32 ∷ rest) ((other, 0) ∷ []) 1 false (32 ∷ rest, refl, refl, (refl, one)) refl refl,

@@ -12,13 +12,13 @@ use Rattle.lex_semantics.specs.Shapes.{IsSoundTree, nodes}
 use Rattle.lex_semantics.specs.Sound.{IsCutOf}
 use Rattle.lex_semantics.specs.Spec.{Rule, Echo, Print, More, End, Push, Pop}
 use Rattle.lex_semantics.specs.Tree.{Tree, Set, Star}
-use Rattle.lexre_bytes.specs.Lexical.{after_word, escape_at, literal_byte_at, quoted_tree, letters_at, named_at, enclosed_at, unsupported_at, bracketed_at, is_range, range_at, element_at, elements_at, class_at, element_set, union_set, class_set, name_at, braces_at, is_ordinary, symbol_at}
+use Rattle.lexre_bytes.specs.Lexical.{after_word, escape_at, literal_byte_at, quoted_tree, class_name_at, enclosed_by, bracketed_at, is_range, range_at, element_at, elements_at, class_at, span, union_set, class_set, braces_at, symbol_at}
 use Rattle.lexre_bytes.specs.Symbols.{name, sign, once_or_more}
 use Rattle.lexre.specs.Definitions.{Definitions}
-use Rattle.lexre.specs.Grammar.{SpellsWithin, on_item}
+use Rattle.lexre.specs.Grammar.{SpellsWithin}
 use Rattle.lexre.specs.Limits.{max_nodes}
 use Rattle.lexre.specs.PatternExamples.{plain, folding, letter}
-use Rattle.lexre.specs.Running.{state, fresh, frame, pushed}
+use Rattle.lexre.specs.Running.{state, fresh, frame, pushed, on_item}
 use Rattle.lexre.specs.Spelling.{Spells}
 use Rattle.lexre.proofs.GrammarLaws.{runs_spelled}
 use Rattle.lexre.proofs.PatternTries.{found_runs}
@@ -56,12 +56,12 @@ digit_named : get named (codes "D") ≡ Some (codes "[0-9]")
 digit_named = get-from_entries nat_list_cmp_total ((codes "D", codes "[0-9]") ∷ []) (codes "D")
 
 digit_spelled : SpellsWithin false (symbol_at false) (get named) 63 (codes "[0-9]") digit
-unfolding after_word escape_at literal_byte_at letters_at named_at enclosed_at unsupported_at bracketed_at is_range range_at element_at elements_at class_at element_set union_set class_set symbol_at has set_below set_of empty_set range_set union is_alpha is_digit is_alnum take_up_to
+unfolding after_word escape_at literal_byte_at class_name_at enclosed_by bracketed_at is_range range_at element_at elements_at class_at span union_set class_set symbol_at has set_below set_of empty_set range_set union is_alpha is_digit is_alnum take_up_to
 digit_spelled = runs_spelled false (symbol_at false) (get named) 63 (codes "[0-9]") digit (found_runs false false (get named) 20 (state fresh [] 63) (codes "[0-9]") digit refl)
 
 -- the name, and then the sign
 number_spelled : Spells plain named (codes "{D}+") number.head
-unfolding after_word name_at braces_at symbol_at is_upper is_lower is_alpha is_digit is_alnum take_up_to
+unfolding after_word braces_at symbol_at is_upper is_lower is_alpha is_digit is_alnum take_up_to
 number_spelled = (
   runs_spelled false (symbol_at false) (get named) 64 (codes "{D}+") number.head (
     name (codes "D") ∷ sign once_or_more ∷ [],
@@ -99,7 +99,7 @@ number_ruled is rules = (
 )
 
 letters_ruled : IsRule names plain true named 19 (only (codes "A" ∷ codes "C" ∷ [])) false (codes "ab") (pattern_after (codes "c*")) bar later_items (opening ∷ closing ∷ any_other ∷ []) letters
-unfolding symbol_at is_ordinary has set_below set_of single any_below
+unfolding symbol_at literal_byte_at has set_below set_of single any_below
 letters_ruled = (
   record {
     line_is = refl;
@@ -152,7 +152,7 @@ closing_ruled is rules = (
 )
 
 other_ruled : (is : List (ℕ × Item)) (rules : List Rule) → IsRule names plain true named 23 every false (codes ".|\\n") no_trail (spelled (codes ";")) is rules any_other
-unfolding symbol_at escape_at simple_escape take_up_to is_blank after_word A.piece_at A.statement_at A.parts_of A.in_parentheses A.number_at A.second_word A.format_at A.after_statement A.condition_at B.name_at B.digits_at B.after_space B.skip B.next B.escape_at B.literal_at
+unfolding symbol_at literal_byte_at escape_at simple_escape take_up_to is_blank after_word A.piece_at A.statement_at A.parts_of A.in_parentheses A.number_at A.second_word A.format_at A.after_statement A.condition_at B.name_at B.digits_at B.after_space B.skip B.next B.escape_at B.literal_at
 other_ruled is rules = (
   record {
     line_is = refl;
@@ -268,7 +268,7 @@ whole = record {
 -- ---- the short file
 
 short_ruled : AreRules (codes "INITIAL" ∷ []) folding false (from_entries []) short_items (both_cases ∷ []) []
-unfolding symbol_at is_ordinary has set_below set_of single fold_case other_case take_up_to is_alpha is_upper is_lower is_alnum is_blank is_digit after_word A.piece_at A.statement_at A.parts_of A.in_parentheses A.number_at A.second_word A.format_at A.after_statement A.condition_at B.name_at B.digits_at B.after_space B.skip B.next B.escape_at B.literal_at
+unfolding symbol_at literal_byte_at has set_below set_of single fold_case other_case take_up_to is_alpha is_upper is_lower is_alnum is_blank is_digit after_word A.piece_at A.statement_at A.parts_of A.in_parentheses A.number_at A.second_word A.format_at A.after_statement A.condition_at B.name_at B.digits_at B.after_space B.skip B.next B.escape_at B.literal_at
 short_ruled = (
   both_cases,
   [],

@@ -1,5 +1,5 @@
 use Rattle.std.proofs.Common.{◌≡◌, drop, length}
-use Rattle.lexre_bytes.specs.Lexical.{after_quotes}
+use Rattle.lexre_bytes.specs.Quotes.{after_quotes}
 use Rattle.lexre.proofs.quotes.skip_quoted.Given as goal
 
 abbrev pub invariant-loop-byte : goal.invariant-loop-byte

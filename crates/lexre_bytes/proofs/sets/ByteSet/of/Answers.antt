@@ -1,4 +1,4 @@
-use Rattle.std.proofs.Common.{◌≡◌, ◌-◌, ◌<◌, arith}
+use Rattle.std.proofs.Common.{◌-◌, ◌<◌, arith}
 use Rattle.lexre_bytes.proofs.SetLaws.{one_shifted, single_low, single_high}
 use Rattle.lexre_bytes.proofs.sets.ByteSet.of.Goals as goal
 
