@@ -51,8 +51,8 @@ tables_of_text options text S skipped spells lines (Err (gens.Spec e)) refused =
 -- a scan by the specification that a text spells is one by the text
 pub headline_of : {A B : Type 0} (gave : A → List ℕ → A → Type 0) (wrote : B → List ℕ → B → Type 0) (options : Options) (text : List ℕ) (S : Spec) → SpellsSpec (reading options) text S
     → (at_end : Bool) (s s' : A) (t t' : B) (r : Result ℕ ScanError) → ScansBy gave wrote options.limits S at_end s s' t t' r → Headline gave wrote options text at_end s s' t t' r
-headline_of gave wrote options text S spells at_end s s' t t' (Ok status) h = (S, spells, h.0, h.1)
-headline_of gave wrote options text S spells at_end s s' t t' (Err (Run e)) h = (S, spells, h.0, h.1)
+headline_of gave wrote options text S spells at_end s s' t t' (Ok status) h = (S, spells, h)
+headline_of gave wrote options text S spells at_end s s' t t' (Err (Run e)) h = (S, spells, h)
 headline_of gave wrote options text S spells at_end s s' t t' (Err (Generate (gens.Build e))) h = ((S, spells, h.0), h.1, h.2)
 headline_of gave wrote options text S spells at_end s s' t t' (Err (Generate gens.OutOfMemory)) h = (tt, h.0, h.1)
 headline_of gave wrote options text S spells at_end s s' t t' (Err (Generate (gens.Spec e))) h = absurd h

@@ -95,7 +95,7 @@ module _ (m : List ℕ) (len : length m ≡ 256) (one : slice_index m 97 ≡ 1) 
   nowhere : (s : ℕ) → ((b : ℕ) → step_of (letter m) s b ≡ 0) → LeadsToAccept plain s → ⊥
   nowhere s stays ([], text, some, i, among) = omega (arith, some)
   nowhere s stays (b ∷ w, text, some, i, among) =
-      let there : walk plain (step_of (letter m) s b) w ≡ 0 = ap (λ (u : ℕ). walk plain u w) (stays b) ∙ dead_walk plain letter_is w in
+      let there : walk plain (step_of (letter m) s b) w ≡ 0 = ap (λ (u : ℕ). walk plain u w) (stays b) ∙ dead_after (letter m) letter_is w in
       subst (λ (u : ℕ). Among (accepted_in (letter m) u) i) there among
 
   zero_stays : (b : ℕ) → step_of (letter m) 0 b ≡ 0
