@@ -7,8 +7,9 @@ use Rattle.lex_semantics.specs.Active.{lists}
 use Rattle.lex_semantics.specs.ByteSets.{is_word, is_blank}
 use Rattle.lex_semantics.specs.Escapes.{byte_with, until_quote}
 use Rattle.lex_semantics.specs.Reading.{◌>>=◌, Reader, after_blanks, is_empty, begins, is_white}
+use Rattle.lexspec_actions.specs.Comments.{after_star}
 use Rattle.lexspec_lines.specs.Runs.{split_before}
-use Rattle.lexspec_lines.specs.Lines.{line_in, line_at, is_all_blank, newlines, after_block, after_star}
+use Rattle.lexspec_lines.specs.Lines.{line_in, line_at, is_all_blank, newlines, after_block}
 
 -- the condition list: none, `<*>`, or names
 pub data Conditions : Type 0 where

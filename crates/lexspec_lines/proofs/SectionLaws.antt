@@ -6,10 +6,11 @@ use Rattle.std.proofs.Math.Seq.{take-append_seam}
 use Rattle.std.proofs.lemmas.List.Sums.{sum_by-append}
 use Rattle.lex_semantics.specs.Reading.{◌>>=◌, Reader, begins}
 use Rattle.lex_semantics.specs.ByteSets.{is_blank}
-use Rattle.lexspec_lines.specs.Lines.{line_in, after_block, after_star, after_comment, newlines, is_all_blank}
+use Rattle.lexspec_lines.specs.Lines.{line_in, after_block, after_comment, newlines, is_all_blank}
 use Rattle.lexspec_lines.specs.DefinitionLines.{Definition, nothing, code_line, code_block, definition_in, percent_line, definition_at, IsUpTo}
 use Rattle.lexspec_lines.specs.Declaring.{declared_of, AreGood, AreAllowed, Declares}
 use Rattle.lexspec_lines.specs.declared.declarations.Declarations.{Declarations}
+use Rattle.lexspec_actions.specs.Comments.{after_star}
 use Rattle.lexre.specs.declared.options.ReadOptions.{ReadOptions}
 use Rattle.lexspec_lines.specs.Outcome.{UnlessMemory}
 use Rattle.lexre_bytes.specs.declared.refusals.SpecErrorKind.{SpecErrorKind}

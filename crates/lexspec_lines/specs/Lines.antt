@@ -3,6 +3,7 @@ use Rattle.std.specs.List.{slice_split}
 use Rattle.std.specs.Prelude.{ℕ, zero, suc, Bool, not, filter, ◌&&◌, ◌==◌, if◌then◌else◌, List, [], ◌∷◌, drop, count_by, Option, Some, None, codes}
 use Rattle.lex_semantics.specs.ByteSets.{is_blank}
 use Rattle.lex_semantics.specs.Reading.{◌>>=◌, Reader, take_run, after_blanks, is_empty, begins}
+use Rattle.lexspec_actions.specs.Comments.{after_star}
 use Rattle.lexspec_lines.specs.Runs.{split_before}
 
 -- a carriage return directly before a newline is dropped
@@ -46,11 +47,6 @@ unfoldable pub after_block : ℕ → List ℕ → Option (List ℕ)
 after_block zero t = None
 after_block (suc n) t = line_at t >>= λ (line, rest). if begins (codes "%}") line then Some rest else after_block n rest
 
--- after `/*`: what follows the next `*/`
-abbrev pub after_star : List ℕ → Option (List ℕ)
-after_star [] = None
-after_star (c ∷ t) = if begins (codes "*/") (c ∷ t) then Some (drop 1 t) else after_star t
-
--- and what follows the line that has it
+-- after `/*`: what follows the line that has the next `*/`
 abbrev pub after_comment : List ℕ → Option (List ℕ)
 after_comment t = after_star t >>= λ rest. Some (line_in rest).1
