@@ -27,7 +27,7 @@ depth pieces = fold (λ n p. if begins (codes "(") p then suc n else if begins (
 -- Where the pattern ends, its first slash, whether there is a second, and whether its last piece is a `$`, which is special
 -- there. No slash stands in parentheses.
 pub record IsCutting (text : List ℕ) (end : ℕ) (first_slash : Option ℕ) (two special : Bool) : Type 0 where
-  -- the text from each piece on, up to the end of the pattern
+  -- for each piece up to the end of the pattern, the text from it on
   pub pieces : List (List ℕ)
   pub cut : IsCut piece_at (λ rest. (ends_pattern rest ≡ true) × (end + length rest ≡ length text)) text pieces
   pub outside : (before after : List (List ℕ)) (p : List ℕ) → pieces ≡ before ++ p ∷ after → begins (codes "/") p ≡ true → depth before ≡ 0
