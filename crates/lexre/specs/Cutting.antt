@@ -18,16 +18,16 @@ piece_at t = option_map (λ rest. (t, rest)) (
     else if begins (codes "\"") t then option_map (λ x. x.1) (quoted_bytes (drop 1 t))
     else if begins (codes "[") t then option_map (λ x. x.2) (class_at (drop 1 t))
     else if begins (codes "\\") t then option_map (λ x. x.1) (escape_at (drop 1 t))
-    else Some (drop 1 t)
-    )
+    else Some (drop 1 t))
 
 -- how many parentheses are open after these pieces, where a closing one with none open counts for nothing
 abbrev pub depth : List (List ℕ) → ℕ
 depth pieces = fold (λ n p. if begins (codes "(") p then suc n else if begins (codes ")") p then n - 1 else n) 0 pieces
 
--- where the pattern ends, its first slash, whether there is a second, and whether it ends with a special `$`, that is a last
--- piece `$`; no slash stands in parentheses
+-- Where the pattern ends, its first slash, whether there is a second, and whether its last piece is a `$`, which is special
+-- there. No slash stands in parentheses.
 pub record IsCutting (text : List ℕ) (end : ℕ) (first_slash : Option ℕ) (two special : Bool) : Type 0 where
+  -- for each piece up to the end of the pattern, the text from it on
   pub pieces : List (List ℕ)
   pub cut : IsCut piece_at (λ rest. (ends_pattern rest ≡ true) × (end + length rest ≡ length text)) text pieces
   pub outside : (before after : List (List ℕ)) (p : List ℕ) → pieces ≡ before ++ p ∷ after → begins (codes "/") p ≡ true → depth before ≡ 0

@@ -43,6 +43,7 @@ literal_byte_at t = byte_with escape_at t
 abbrev pub quoted_bytes : Reader (List ℕ)
 quoted_bytes t = until_quote literal_byte_at (suc (length t)) t
 
+-- its bytes in order, where a byte alone is its set
 unfoldable pub quoted_tree : Bool → List ℕ → Tree
 quoted_tree fold [] = Empty
 quoted_tree fold (b ∷ []) = Set (folded fold (single b))
@@ -69,7 +70,8 @@ enclosed_by mark t = after_word (codes "[" ++ mark) t >>= λ u.
     let (bytes, rest) = take_run (λ b. not (one_of (codes "]\n") b)) u in
     if nat_lt 1 (length bytes) && ends_with nat_eq bytes mark then after_word (codes "]") rest else None
 
--- an element between brackets that stands at the front of the text, and what follows it
+-- An element between brackets, and what follows it: `[:name:]` has the set of that class, and `[:^name:]`, `[=a=]` and `[.a.]`
+-- have none.
 unfoldable pub bracketed_at : Reader (Option ByteSet)
 bracketed_at t =
     option_or (class_name_at (codes "[:") t >>= λ (letters, rest). Some (named_set letters, rest))
@@ -80,10 +82,11 @@ unfoldable pub is_range : List ℕ → Bool
 is_range (c ∷ d ∷ t) = one_of (codes "-") c && not (one_of (codes "]") d)
 is_range _ = false
 
--- after the first end of a range and its `-`: the element, and what follows it
+-- after the first end of a range and its `-`: its set, and what follows it
 unfoldable pub range_at : ℕ → Reader (Option ByteSet)
 range_at lo t = option_or (bracketed_at t >>= λ (e, rest). Some (None, rest)) (literal_byte_at t >>= λ (hi, rest). Some (span lo hi, rest))
 
+-- an element between brackets, a range, or a byte
 unfoldable pub element_at : Reader (Option ByteSet)
 element_at t = option_or (bracketed_at t) (literal_byte_at t >>= λ (lo, rest). if is_range rest then range_at lo (drop 1 rest) else Some (span lo lo, rest))
 
@@ -140,7 +143,7 @@ braces_at t =
 -- Symbols.
 
 -- The symbol at the front of the text, and what follows it: a sign that is one by itself, a text in quotes, a class, what
--- stands in braces, or an escape or a byte. A `/` and a blank are none.
+-- stands in braces, or an escape or a byte. A `/`, a blank and a newline are none.
 unfoldable pub symbol_at : Bool → Reader Symbol
 symbol_at fold [] = None
 symbol_at fold (c ∷ t) =
