@@ -9,7 +9,11 @@ use Rattle.lex_semantics.specs.MachineLaws.{MachineLaws}
 use Rattle.lex_semantics.specs.Text.{Among}
 use Rattle.lexkit.specs.declared.options.Options.{Options}
 use Rattle.lexlook_same.specs.Same.{number_in, rules_at}
+use Rattle.lexlook_same.specs.Comparing.{Compares}
+use Rattle.lexlook_same.specs.declared.tables.Comparison.{Comparison}
+use Rattle.lexlook_same.specs.declared.tables.Comparison.TheVariants.{Same, Conditions, Ends, Texts}
 use Rattle.lexlook_same.proofs.Lists.{some_at}
+use Rattle.lexlook_calls.specs.Compared.{Holds}
 use Rattle.lexlook_calls.specs.Looks.{names_of}
 use Rattle.lexlook_calls.specs.Lines.{Side, IsLabelled}
 use Rattle.lexlook_calls.specs.Naming.{ArePaired}
@@ -64,3 +68,10 @@ left_of (x ∷ xs) y (suc i) d lt = left_of xs y i d (omega (arith, lt))
 pub last_of : (xs : List ℕ) (y d : ℕ) → get_or (xs ++ y ∷ []) (length xs) d ≡ y
 last_of [] y d = refl
 last_of (x ∷ xs) y d = last_of xs y d
+
+-- what a comparison found holds of files whose conditions are paired so
+pub holds_of : (a b : Side) (order : List ℕ) (told : Comparison) → ArePaired a.given b.given order → Compares order a.machine b.machine told → Holds a b order told
+holds_of a b order Same paired same = (paired, same)
+holds_of a b order Conditions paired differ = λ o p. differ
+holds_of a b order (Ends c) paired ends = (paired, ends)
+holds_of a b order (Texts d) paired texts = (paired, texts)

@@ -1,4 +1,4 @@
-use Rattle.std.proofs.Common.{◌∙◌, Bool, Err, sym, subst}
+use Rattle.std.proofs.Common.{[], ◌∙◌, Bool, Err, sym, subst}
 use Rattle.lex_io.specs.Sink.{Appended}
 use Rattle.lexlook_calls.specs.Compared.{Holds}
 use Rattle.lexlook_calls.specs.Lines.{side_as}
@@ -34,3 +34,9 @@ returns-clause-told g c = (
   },
   c.is_same.ensures,
 )
+
+pub told_line-requires-clause-left_labels : goal.told_line-requires-clause-left_labels
+told_line-requires-clause-left_labels g c = c.requires.left []
+
+pub told_line-requires-clause-right_labels : goal.told_line-requires-clause-right_labels
+told_line-requires-clause-right_labels g c = c.requires.right []
