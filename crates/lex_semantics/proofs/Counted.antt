@@ -1,6 +1,6 @@
 -- A specification never has no count of subsets: rules and positions are finitely many, and so are their sets.
 use Rattle.std.proofs.Common.{◌≡◌, ℕ, zero, suc, ◌+◌, ◌-◌, ◌*◌, ◌≤◌, ◌<◌, min, Bool, List, [], ◌∷◌, ◌++◌, map, length, ◌⊎◌, inl, inr, ◌↔◌, Option, Some, None, refl, sym, ap, subst, arith}
-use Rattle.std.specs.Prelude.{slice_get}
+use Rattle.std.specs.Prelude.{slice_get, take}
 use Rattle.std.proofs.Math.Nat.{mul-le-mul_right}
 use Rattle.lex_semantics.specs.Text.{IsText, Among, Ascending}
 use Rattle.lex_semantics.specs.Tree.{Tree, Trees, Empty, Set, Cat, Alt, Star, Repeat, no_trees, tree, UpTo}
@@ -99,10 +99,22 @@ base_fits (q ∷ rules) base (suc i) r e =
     let later : base_of rules (base + positions_of_rule q) i + positions_of_rule r ≤ base + positions_of_rule q + all_positions rules = base_fits rules (base + positions_of_rule q) i r e in
     omega (arith, later)
 
+base_from : (rules : List Rule) (base i : ℕ) → base_of rules base i ≡ base + all_positions (take i rules)
+base_from [] base zero = omega arith
+base_from [] base (suc i) = omega arith
+base_from (r ∷ rules) base zero = omega arith
+base_from (r ∷ rules) base (suc i) = let later = base_from rules (base + positions_of_rule r) i in omega (arith, later)
+
+-- The positions of rule i begin after those of the rules before it.
+pub base_is : (rules : List Rule) (i : ℕ) → base_of rules 0 i ≡ all_positions (take i rules)
+base_is rules i = let from = base_from rules 0 i in omega (arith, from)
+
 active_below : (S : Spec) (c : ℕ) (line_start : Bool) (rs : List Cell) → ReadsActive S c line_start rs → Below (all_positions S.rules) rs
 active_below S c line_start rs (i, r, at, on, reads) =
     let fits : base_of S.rules 0 i + positions_of_rule r ≤ 0 + all_positions S.rules = base_fits S.rules 0 i r at in
-    below_more (base_of S.rules 0 i + positions_of_rule r) (all_positions S.rules) rs (omega (arith, fits)) (rule_below r (base_of S.rules 0 i) rs reads)
+    let base = all_positions (take i S.rules) in
+    let begins : base_of S.rules 0 i ≡ base = base_is S.rules i in
+    below_more (base + positions_of_rule r) (all_positions S.rules) rs (omega (arith, fits, begins)) (rule_below r base rs reads)
 
 ends_below : (hi p : ℕ) (rs zs : List Cell) → EndsAt p rs → Below hi (rs ++ zs) → p < hi
 unfolding Below
@@ -175,7 +187,7 @@ never_unchosen Q (c ∷ cs) none =
         back : (l : List ℕ) → Among (c ∷ cs) l → Q l → Among ls l
         back l (inl e) q = subst (Among ls) (sym e) have
         back l (inr a) q = (is l).1 (a, q)
-    from ls distinct is (inl here) (inr out) = none (c ∷ ls) (out, distinct) (λ l. (λ h. on l h, λ h. back l h.0 h.1))
+    from ls distinct is (inl here) (inr out) = none (c ∷ ls) (λ l a e. out (subst (Among ls) (sym e) a), distinct) (λ l. (λ h. on l h, λ h. back l h.0 h.1))
       where
         on : (l : List ℕ) → Among (c ∷ ls) l → Among (c ∷ cs) l × Q l
         on l (inl e) = (inl e, subst Q (sym e) here)
@@ -192,8 +204,10 @@ never_no_starts S none =
     never_unchosen (λ l. (c : ℕ) × (line_start : Bool) × (c < length S.conditions) × (1 ≤ length l) × ListsSet l (IsActive S c line_start)) (lists_from 0 (length S.rules))
     (λ ls distinct is. none ls (record {
       distinct = distinct;
-      listed = λ c line_start l lt set some. (is l).1 (all_listed (length S.rules) 0 l set.0 (λ i a. (let on = (set.1 i).0 a in let below : i < length S.rules = rule_there S.rules i on.0 on.1 in (omega arith, omega (arith, below)))), (c, line_start, lt, some, set));
-      only = λ l a. ((is l).0 a).1;
+      listed = λ l. (
+        λ a. ((is l).0 a).1,
+        λ (c, line_start, lt, some, set). (is l).1 (all_listed (length S.rules) 0 l set.0 (λ i a. (let on = (set.1 i).0 a in let below : i < length S.rules = rule_there S.rules i on.0 on.1 in (omega arith, omega (arith, below)))), (c, line_start, lt, some, set)),
+      );
     }))
 
 never_no_lasts : (S : Spec) → ((ls : List (List ℕ)) → AreLasts S ls → ⊥) → ⊥
@@ -203,9 +217,11 @@ never_no_lasts S none =
     (lists_from 0 (all_positions S.rules))
     (λ ls distinct is. none ls (record {
       distinct = distinct;
-      listed = λ c line_start w l lt text some set more.
-          (is l).1 (all_listed (all_positions S.rules) 0 l set.0 (λ p a. (let below : p < all_positions S.rules = last_below S c line_start w p ((set.1 p).0 a) in (omega arith, omega (arith, below)))), (c, line_start, w, lt, text, some, more, set));
-      only = λ l a. ((is l).0 a).1;
+      listed = λ l. (
+        λ a. ((is l).0 a).1,
+        λ (c, line_start, w, lt, text, some, more, set).
+            (is l).1 (all_listed (all_positions S.rules) 0 l set.0 (λ p a. (let below : p < all_positions S.rules = last_below S c line_start w p ((set.1 p).0 a) in (omega arith, omega (arith, below)))), (c, line_start, w, lt, text, some, more, set)),
+      );
     }))
 
 -- A specification never has no count of subsets.

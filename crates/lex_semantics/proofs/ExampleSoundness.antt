@@ -4,7 +4,6 @@ use Rattle.std.specs.Prelude.{codes, slice_get, replicate}
 use Rattle.std.proofs.lemmas.List.{length-replicate}
 use Rattle.lex_semantics.specs.ByteSets.{IsIn, has, single, union, set_of, set_below}
 use Rattle.lex_semantics.specs.Tree.{Tree, Set, Repeat, In}
-use Rattle.lex_semantics.specs.Shapes.{HasLengths}
 use Rattle.lex_semantics.specs.Spec.{Rule, Condition, Head, Trail}
 use Rattle.lex_semantics.specs.Legal.{IsLegal}
 use Rattle.lex_semantics.specs.Sound.{HasFixed, IsSoundRule, IsSound}
@@ -33,15 +32,11 @@ only_rule P q h zero r e = subst P (some_same q r e) h
 only_rule P q h (suc i) r e = absurd (no_rules i r e)
 
 -- a tree of one word
-one_word : (t : Tree) (v : List ℕ) → In t v → ((w : List ℕ) → In t w → w ≡ v) → HasLengths (In t) (length v) (Some (length v))
-one_word t v word only = record {
-  shortest = (v, word, refl);
-  none_shorter = λ w h. (let e : length w ≡ length v = ap length (only w h) in omega arith);
-  longest = ((v, word, refl), λ w h. (let e : length w ≡ length v = ap length (only w h) in omega arith));
-}
+one_word : (t : Tree) (v : List ℕ) → In t v → ((w : List ℕ) → In t w → w ≡ v) → length v ≤ 65535 → HasFixed t (length v)
+one_word t v word only few = ((v, word), λ w h. ap length (only w h), few)
 
 fixed_string : (bs : List ℕ) → AllAlone bs → length bs ≤ 65535 → HasFixed (string bs) (length bs)
-fixed_string bs alone few = (one_word (string bs) bs (string_in bs alone) (string_is bs alone), few)
+fixed_string bs alone few = one_word (string bs) bs (string_in bs alone) (string_is bs alone) few
 
 legal_none : IsLegal 1 []
 legal_none = record { ranges = refl; last = refl; joined = refl; compatible = refl }
@@ -75,7 +70,7 @@ trail_does_not h = (h.rules 0 _ refl).cut.0 2 (fixed_string (97 ∷ 98 ∷ []) a
 pub shorter_cut : IsSound (E.cut_by (Head 1)) → ⊥
 shorter_cut h =
     let fixed : HasFixed (string (codes "ab")) 1 = (h.rules 0 _ refl).cut in
-    let bad : 2 ≤ 1 = fixed.0.longest.1 (97 ∷ 98 ∷ []) (string_in (97 ∷ 98 ∷ []) ab) in
+    let bad : ◌≡◌ {A = ℕ} 2 1 = fixed.1 (97 ∷ 98 ∷ []) (string_in (97 ∷ 98 ∷ []) ab) in
     omega arith
 
 -- blanks are no side of fixed length
@@ -90,8 +85,8 @@ space = (omega arith, refl)
 not_fixed : (m : ℕ) → HasFixed (Repeat blank 1 None) m → ⊥
 unfolding blank
 not_fixed m h =
-    let low : m ≤ 1 = h.0.none_shorter (32 ∷ []) (1, omega arith, tt, (32 ∷ [], [], refl, (32, refl, space), refl)) in
-    let high : 2 ≤ m = h.0.longest.1 (32 ∷ 32 ∷ []) (2, omega arith, tt, (32 ∷ [], 32 ∷ [], refl, (32, refl, space), (32 ∷ [], [], refl, (32, refl, space), refl))) in
+    let low : 1 ≡ m = h.1 (32 ∷ []) (1, omega arith, tt, (32 ∷ [], [], refl, (32, refl, space), refl)) in
+    let high : 2 ≡ m = h.1 (32 ∷ 32 ∷ []) (2, omega arith, tt, (32 ∷ [], 32 ∷ [], refl, (32, refl, space), (32 ∷ [], [], refl, (32, refl, space), refl))) in
     omega arith
 
 pub trail_cuts : IsSound E.trim_lines
@@ -103,7 +98,7 @@ trail_cuts = of_initial _ (λ i r e. only_rule (IsSoundRule 1) _ sides i r e)
       listed = tt;
       head = ((32, space), tt);
       trail = (10, is_newline.0);
-      cut = (not_fixed, (one_word (letter 10) (10 ∷ []) (letter_in 10 is_newline) (letter_is 10 is_newline), omega arith));
+      cut = (not_fixed, one_word (letter 10) (10 ∷ []) (letter_in 10 is_newline) (letter_is 10 is_newline) (omega arith));
       legal = legal_none;
     }
 

@@ -4,7 +4,7 @@ use Rattle.lex_semantics.specs.Text.{Among, part}
 use Rattle.lex_semantics.specs.Rules.{Rules}
 use Rattle.lex_semantics.specs.Candidates.{Candidate, Before, InOrder, Candidates}
 use Rattle.lex_semantics.specs.Acting.{Ending, Matched, perform}
-use Rattle.lex_semantics.specs.Run.{Place, State, Turn, MatchTurn, Next, NextFrom, Turns, Run, next_place}
+use Rattle.lex_semantics.specs.Run.{Place, State, Turn, MatchTurn, NextFrom, Turns, Run, next_place}
 
 not_both : (m n : Candidate) → Before m n → Before n m → ⊥
 not_both m n h k = omega arith
@@ -59,7 +59,7 @@ one_next_from R x s a b None h k =
     let same : h.0 ≡ k.0 = one_turn R x s.place h.0 k.0 h.1 k.1 in
     h.2 ∙ ap (λ (t : State). record { written = s.written ++ t.written; place = t.place; ended = t.ended }) same ∙ sym k.2
 
-pub one_next : (R : Rules) (x : List ℕ) (s a b : State) → Next R x s a → Next R x s b → a ≡ b
+pub one_next : (R : Rules) (x : List ℕ) (s a b : State) → NextFrom R x s s.ended a → NextFrom R x s s.ended b → a ≡ b
 one_next R x s a b = one_next_from R x s a b s.ended
 
 -- after n turns there is at most one state
@@ -67,14 +67,14 @@ pub one_state : (R : Rules) (x : List ℕ) (n : ℕ) (s t : State) → Turns R x
 one_state R x zero s t h k = h ∙ sym k
 one_state R x (suc n) s t h k =
     let same : h.0 ≡ k.0 = one_state R x n h.0 k.0 h.1 k.1 in
-    one_next R x k.0 s t (subst (λ z. Next R x z s) same h.2) k.2
+    one_next R x k.0 s t (subst (λ (z : State). NextFrom R x z z.ended s) same h.2) k.2
 
 -- a scan that has ended stays as it is
 pub stays : (R : Rules) (x : List ℕ) (n m : ℕ) (s : State) (e : Ending) → s.ended ≡ Some e → Turns R x n s → Turns R x (m + n) s
 stays R x n zero s e h k = rw zero-add k
 stays R x n (suc m) s e h k =
     let more : suc m + n ≡ suc (m + n) = omega arith in
-    let still : Next R x s s = subst (λ z. NextFrom R x s z s) (sym h) refl in
+    let still : NextFrom R x s s.ended s = subst (λ z. NextFrom R x s z s) (sym h) refl in
     subst (λ i. Turns R x i s) (sym more) (s, stays R x n m s e h k, still)
 
 -- two ends of a scan are one

@@ -1,7 +1,8 @@
 -- Which rules are active. (POSIX, lex, Definitions in lex and Regular Expressions in lex: start conditions and `^`;
 -- flex, Start Conditions: `<*>`.)
-use Rattle.std.specs.Prelude.{ℕ, Bool, false, not, ◌&&◌, ◌||◌, ◌==◌, List, Option, Some, None, slice_get}
+use Rattle.std.specs.Prelude.{ℕ, Bool, false, not, ◌&&◌, ◌||◌, ◌==◌, List, Option, slice_get}
 use Rattle.std.specs.List.{list_any}
+use Rattle.std.specs.Option.{option_map_or}
 use Rattle.lex_semantics.specs.Spec.{Spec, Rule, Condition}
 
 -- whether a number is in the list
@@ -9,14 +10,11 @@ abbrev pub lists : List ℕ → ℕ → Bool
 lists cs c = list_any (λ d. d == c) cs
 
 abbrev pub is_inclusive : Option Condition → Bool
-is_inclusive None = false
-is_inclusive (Some k) = not k.exclusive
+is_inclusive k = option_map_or (λ k. not k.exclusive) k false
 
--- A rule with a list serves just the conditions there, and one without serves the inclusive ones.
--- (POSIX, start conditions.)
+-- A rule with a list serves just the conditions there, and one without serves the inclusive ones. (POSIX, start conditions.)
 abbrev pub serves : Option (List ℕ) → ℕ → Option Condition → Bool
-serves None c k = is_inclusive k
-serves (Some cs) c k = lists cs c
+serves list c k = option_map_or (λ cs. lists cs c) list (is_inclusive k)
 
 -- A rule with `^` is active only at the start of a line.
 abbrev pub active : Spec → ℕ → Bool → Rule → Bool

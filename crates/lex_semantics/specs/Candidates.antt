@@ -1,7 +1,7 @@
 -- The matches at a place, in the order in which they are taken.
 -- (POSIX, Actions in lex: the longest match, then the earliest rule; REJECT goes on to the next.)
-use Rattle.std.specs.Prelude.{◌≡◌, ℕ, ◌≤◌, ◌<◌, Bool, List, [], ◌∷◌, length, ◌⊎◌, ◌↔◌, take, ⊤}
-use Rattle.lex_semantics.specs.Text.{Among}
+use Rattle.std.specs.Prelude.{◌≡◌, ℕ, ◌≤◌, ◌<◌, Bool, List, length, ◌⊎◌, ◌↔◌, take}
+use Rattle.lex_semantics.specs.Text.{Among, Pairwise}
 use Rattle.lex_semantics.specs.Rules.{Rules, Full}
 
 -- a match of a front of the input: how long it is, its rule, and how much of it is the text
@@ -14,11 +14,6 @@ pub record Candidate : Type 0 where
 abbrev pub Before : Candidate → Candidate → Type 0
 Before m n = (n.len < m.len) ⊎ ((m.len ≡ n.len) × (m.rule < n.rule))
 
--- each is before all that follow it
-abbrev pub InOrder : List Candidate → Type 0
-InOrder [] = ⊤
-InOrder (m ∷ ms) = ((n : Candidate) → Among ms n → Before m n) × InOrder ms
-
 -- a front of y that fits a rule
 pub record IsCandidate (R : Rules) (c : ℕ) (line_start : Bool) (y : List ℕ) (m : Candidate) : Type 0 where
   pub inside : m.len ≤ length y
@@ -26,5 +21,9 @@ pub record IsCandidate (R : Rules) (c : ℕ) (line_start : Bool) (y : List ℕ) 
 
 -- all the matches at the front of y, in order
 pub record Candidates (R : Rules) (c : ℕ) (line_start : Bool) (y : List ℕ) (ms : List Candidate) : Type 0 where
-  pub in_order : InOrder ms
+  pub in_order : Pairwise Before ms
   pub members : (m : Candidate) → Among ms m ↔ IsCandidate R c line_start y m
+
+-- A name that proofs have for the order of matches.
+abbrev pub InOrder : List Candidate → Type 0
+InOrder ms = Pairwise Before ms

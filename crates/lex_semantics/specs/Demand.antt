@@ -1,17 +1,14 @@
 -- How much of the input the matches ask for, when a scanner sees one byte at a time. (This project's; POSIX, lex, says only
 -- which match is taken.)
-use Rattle.std.specs.Prelude.{◌≡◌, ℕ, zero, suc, ◌+◌, ◌-◌, ◌≤◌, ◌<◌, Bool, true, false, List, length, take, drop, max, ◌⊎◌, ◌↔◌, Option, Some, None}
+use Rattle.std.specs.Prelude.{◌≡◌, ℕ, zero, suc, ◌+◌, ◌-◌, ◌≤◌, ◌<◌, Bool, cond, List, length, take, drop, max, ◌⊎◌, ◌↔◌, Option, Some, None}
 use Rattle.lex_semantics.specs.Text.{IsText, BeginsWith, at_line_start}
 use Rattle.lex_semantics.specs.Rules.{Rules}
 use Rattle.lex_semantics.specs.Acting.{Ending}
 use Rattle.lex_semantics.specs.Run.{Place, State, Turns}
 
--- A match asks for the byte at i: the first one, and each one after bytes that a longer match might begin with.
-abbrev pub Asks : Rules → ℕ → Bool → List ℕ → ℕ → Type 0
-Asks R c line_start y i = (i ≡ 0) ⊎ R.live c line_start (take i y)
-
+-- A match at a place asks for the byte i bytes on: the first one, and each one after bytes that a longer match might begin with.
 abbrev pub AsksAt : Rules → List ℕ → Place → ℕ → Type 0
-AsksAt R x p i = Asks R p.condition (at_line_start x p.at) (drop p.at x) i
+AsksAt R x p i = (i ≡ 0) ⊎ R.live p.condition (at_line_start x p.at) (take i (drop p.at x))
 
 -- the match at a place asks for just the first r bytes there
 pub record Reach (R : Rules) (x : List ℕ) (p : Place) (r : ℕ) : Type 0 where
@@ -40,9 +37,9 @@ EndAsked R x (suc n) = EndAsked R x n ⊎ ((s : State) × Turns R x n s × (s.en
 
 -- An input is consistent with the bytes that the source gave: it is these bytes if the source has answered its
 -- end, and else begins with them.
-abbrev pub GoesOnFrom : (given : List ℕ) → (at_end : Bool) → List ℕ → Type 0
-GoesOnFrom given true x = x ≡ given
-GoesOnFrom given false x = BeginsWith x given
-
 abbrev pub Consistent : (given : List ℕ) → (at_end : Bool) → List ℕ → Type 0
-Consistent given at_end x = IsText x × GoesOnFrom given at_end x
+Consistent given at_end x = IsText x × cond at_end (x ≡ given) (BeginsWith x given)
+
+-- A name that proofs have for the second part of this.
+abbrev pub GoesOnFrom : (given : List ℕ) → (at_end : Bool) → List ℕ → Type 0
+GoesOnFrom given at_end x = cond at_end (x ≡ given) (BeginsWith x given)

@@ -1,15 +1,10 @@
 -- The words that a rule matches, with its trailing context. (flex, Patterns: `r/s`; flex, How the Input Is Matched.)
-use Rattle.std.specs.Prelude.{◌≡◌, ℕ, ◌≤◌, Bool, true, List, [], ◌++◌, length, Option, Some, None, slice_get}
+use Rattle.std.specs.Prelude.{◌≡◌, ℕ, ◌≤◌, Bool, true, List, [], ◌++◌, length, Option, Some, MatchOption, slice_get}
 use Rattle.lex_semantics.specs.Tree.{Tree, In}
 use Rattle.lex_semantics.specs.Spec.{Spec, Rule}
 use Rattle.lex_semantics.specs.Active.{active}
 
--- a word of the trailing context, which is empty where there is none
-abbrev pub InTrail : Option Tree → List ℕ → Type 0
-InTrail None v = v ≡ []
-InTrail (Some t) v = In t v
-
--- Rule i is active, and the word is a text that is not empty, k bytes long, and then trailing context.
+-- Rule i is active, and the word is a text that is not empty, k bytes long, and then trailing context, where there is any.
 -- (flex, Patterns: `r/s`; that the text is not empty is this project's.)
 pub record Fits (S : Spec) (c : ℕ) (line_start : Bool) (w : List ℕ) (i k : ℕ) : Type 0 where
   pub rule : Rule
@@ -21,4 +16,8 @@ pub record Fits (S : Spec) (c : ℕ) (line_start : Bool) (w : List ℕ) (i k : �
   pub length_is : k ≡ length text
   pub not_empty : 1 ≤ k
   pub in_head : In rule.head text
-  pub in_trail : InTrail rule.trail trail
+  pub in_trail : MatchOption rule.trail (trail ≡ []) (λ t. In t trail)
+
+-- A name that proofs have for what a rule's trailing context asks of the trail.
+abbrev pub InTrail : Option Tree → List ℕ → Type 0
+InTrail trail v = MatchOption trail (v ≡ []) (λ t. In t v)

@@ -1,8 +1,9 @@
 -- What the actions of a specification or a machine keep to.
 -- (POSIX, lex, Actions in lex; what may not stand in one action is this project's.)
-use Rattle.std.specs.Prelude.{◌≡◌, ℕ, suc, Bool, true, false, not, ◌&&◌, ◌||◌, List, [], ◌∷◌, length, nat_le, nat_lt, if◌then◌else◌}
+use Rattle.std.specs.Prelude.{◌≡◌, ℕ, Bool, true, false, not, ◌&&◌, ◌||◌, List, [], ◌∷◌, length, nat_le, nat_lt}
+use Rattle.std.specs.List.{filter, list_all, list_any}
 use Rattle.lex_semantics.specs.Limits.{max_kept, max_status}
-use Rattle.lex_semantics.specs.Spec.{Statement, Print, Begin, More, Less, Reject, End, Push, has_reject}
+use Rattle.lex_semantics.specs.Spec.{Statement, Print, Begin, More, Less, Reject, End, Push, is_reject}
 
 -- what a statement names: a condition, one of n; a count of bytes, from 1 to 65,535; a status, up to 63. A literal has
 -- a byte.
@@ -15,8 +16,7 @@ in_range n (Push d) = nat_lt d n
 in_range n _ = true
 
 abbrev pub all_in_range : ℕ → List Statement → Bool
-all_in_range n [] = true
-all_in_range n (s ∷ ss) = in_range n s && all_in_range n ss
+all_in_range n ss = list_all (in_range n) ss
 
 -- REJECT, yyterminate and exit
 abbrev pub ends_action : Statement → Bool
@@ -48,22 +48,11 @@ abbrev pub is_yymore : Statement → Bool
 is_yymore More = true
 is_yymore _ = false
 
-abbrev pub count_less : List Statement → ℕ
-count_less [] = 0
-count_less (s ∷ ss) = if is_yyless s then suc (count_less ss) else count_less ss
-
-abbrev pub has_less : List Statement → Bool
-has_less [] = false
-has_less (s ∷ ss) = is_yyless s || has_less ss
-
-abbrev pub has_more : List Statement → Bool
-has_more [] = false
-has_more (s ∷ ss) = is_yymore s || has_more ss
-
 -- no REJECT with yymore or yyless, no yyless with yymore, and at most one yyless
 abbrev pub are_compatible : List Statement → Bool
 are_compatible ss =
-    not (has_reject ss && (has_more ss || has_less ss)) && not (has_less ss && has_more ss) && nat_le (count_less ss) 1
+    not (list_any is_reject ss && (list_any is_yymore ss || list_any is_yyless ss))
+    && not (list_any is_yyless ss && list_any is_yymore ss) && nat_le (length (filter is_yyless ss)) 1
 
 -- an action, where there are n conditions
 pub record IsAction (n : ℕ) (ss : List Statement) : Type 0 where
@@ -77,3 +66,14 @@ pub record IsLegal (n : ℕ) (ss : List Statement) : Type 0 where
   pub last : ends_last ss ≡ true
   pub joined : are_joined ss ≡ true
   pub compatible : are_compatible ss ≡ true
+
+-- Names that the code has for these tests.
+
+abbrev pub has_more : List Statement → Bool
+has_more ss = list_any is_yymore ss
+
+abbrev pub has_less : List Statement → Bool
+has_less ss = list_any is_yyless ss
+
+abbrev pub count_less : List Statement → ℕ
+count_less ss = length (filter is_yyless ss)

@@ -1,13 +1,13 @@
 -- Positions of a tree, and readings: which position reads each byte of a word.
 -- (This project's; the words are POSIX's, lex, Regular Expressions in lex.)
-use Rattle.std.specs.Prelude.{◌≡◌, ℕ, zero, suc, ◌+◌, ◌*◌, ◌-◌, ◌≤◌, min, max, List, [], ◌∷◌, ◌++◌, map, ◌⊎◌, Option, Some, None}
+use Rattle.std.specs.Prelude.{◌≡◌, ℕ, zero, suc, ◌+◌, ◌*◌, ◌-◌, ◌≤◌, min, max, List, [], ◌∷◌, ◌++◌, map, ◌⊎◌, Option, IfSome}
+use Rattle.std.specs.Option.{unwrap_or}
 use Rattle.lex_semantics.specs.ByteSets.{IsIn}
-use Rattle.lex_semantics.specs.Tree.{Tree, Trees, Empty, Set, Cat, Alt, Star, Repeat, no_trees, tree, UpTo}
+use Rattle.lex_semantics.specs.Tree.{Tree, Trees, Empty, Set, Cat, Alt, Star, Repeat, no_trees, tree}
 
 -- how many copies of its inner tree a repetition counts
 abbrev pub copies : ℕ → Option ℕ → ℕ
-copies m None = max m 1
-copies m (Some n) = n
+copies m n = unwrap_or n (max m 1)
 
 -- how many positions a tree has: one for each set, in each copy of a repetition
 abbrev mutual
@@ -54,7 +54,7 @@ abbrev mutual
   Reads (Star t) base rs = (k : ℕ) × Passes (λ j. Reads t base) 0 k rs
   -- pass j uses copy j, and past the last copy the last again
   Reads (Repeat t m n) base rs =
-      (k : ℕ) × (m ≤ k) × UpTo n k × Passes (λ j. Reads t (base + min j (copies m n - 1) * positions t)) 0 k rs
+      (k : ℕ) × (m ≤ k) × IfSome n (λ n. k ≤ n) × Passes (λ j. Reads t (base + min j (copies m n - 1) * positions t)) 0 k rs
 
   pub ReadsEach : Trees → ℕ → Readings
   ReadsEach no_trees base rs = rs ≡ []

@@ -1,6 +1,6 @@
 -- Turns and runs of a scan over a whole input. (POSIX, Actions in lex; flex, How the Input Is Matched
 -- and End-of-File Rules.)
-use Rattle.std.specs.Prelude.{◌≡◌, ℕ, zero, suc, ◌+◌, ◌<◌, Bool, List, [], ◌++◌, length, drop, ◌⊎◌, Option, Some, None, if◌then◌else◌}
+use Rattle.std.specs.Prelude.{◌≡◌, ℕ, zero, suc, ◌+◌, ◌<◌, Bool, List, [], ◌++◌, length, drop, ◌&&◌, ◌⊎◌, Option, Some, None, is_none, if◌then◌else◌}
 use Rattle.lex_semantics.specs.Text.{part, at_line_start}
 use Rattle.lex_semantics.specs.Rules.{Rules}
 use Rattle.lex_semantics.specs.Candidates.{Candidate, Candidates}
@@ -19,16 +19,12 @@ pub record State : Type 0 where
   pub place : Place
   pub ended : Option Ending
 
-abbrev pub first_place : Place
-first_place = record { start = 0; at = 0; condition = 0; stack = [] }
-
 abbrev pub first_state : State
-first_state = record { written = []; place = first_place; ended = None }
+first_state = record { written = []; place = record { start = 0; at = 0; condition = 0; stack = [] }; ended = None }
 
 -- The next text starts where this one does after a yymore, and else, or where the scan ends, at its end.
 abbrev pub next_start : Option Ending → Bool → (start end : ℕ) → ℕ
-next_start (Some e) more start end = end
-next_start None more start end = if more then start else end
+next_start ended more start end = if is_none ended && more then start else end
 
 abbrev pub next_place : Place → Matched → Place
 next_place p o =
@@ -57,19 +53,16 @@ pub record EndTurn (R : Rules) (x : List ℕ) (p : Place) (s : State) : Type 0 w
 abbrev pub Turn : Rules → List ℕ → Place → State → Type 0
 Turn R x p s = MatchTurn R x p s ⊎ EndTurn R x p s
 
--- one more turn; after the end it changes nothing
+-- one more turn, by how the scan has ended, if it has; after the end it changes nothing
 abbrev pub NextFrom : Rules → List ℕ → State → Option Ending → State → Type 0
 NextFrom R x s (Some e) s' = s' ≡ s
 NextFrom R x s None s' =
     (t : State) × Turn R x s.place t × (s' ≡ record { written = s.written ++ t.written; place = t.place; ended = t.ended })
 
-abbrev pub Next : Rules → List ℕ → State → State → Type 0
-Next R x s s' = NextFrom R x s s.ended s'
-
 -- how the scan stands after n turns
 abbrev pub Turns : Rules → List ℕ → ℕ → State → Type 0
 Turns R x zero s = s ≡ first_state
-Turns R x (suc n) s = (before : State) × Turns R x n before × Next R x before s
+Turns R x (suc n) s = (before : State) × Turns R x n before × NextFrom R x before before.ended s
 
 -- After some number of turns the scan has ended so, and this was written.
 pub record Run (R : Rules) (x : List ℕ) (written : List ℕ) (ending : Ending) : Type 0 where
@@ -78,3 +71,7 @@ pub record Run (R : Rules) (x : List ℕ) (written : List ℕ) (ending : Ending)
   pub reached : Turns R x turns last
   pub writes : last.written ≡ written
   pub ends : last.ended ≡ Some ending
+
+-- A name that proofs have for where a scan begins.
+abbrev pub first_place : Place
+first_place = first_state.place

@@ -4,13 +4,13 @@ use Rattle.std.specs.Prelude.{◌≡◌, ℕ, ◌≤◌, ◌<◌, List, [], ◌�
 use Rattle.lex_semantics.specs.Limits.{max_fixed_length, max_status, max_literal_bytes}
 use Rattle.lex_semantics.specs.Text.{Among, Ascending}
 use Rattle.lex_semantics.specs.Tree.{Tree, In}
-use Rattle.lex_semantics.specs.Shapes.{IsSoundTree, HasLengths}
+use Rattle.lex_semantics.specs.Shapes.{IsSoundTree}
 use Rattle.lex_semantics.specs.Spec.{Spec, Rule, Condition, Cut, Whole, Head, Trail}
 use Rattle.lex_semantics.specs.Legal.{IsLegal}
 
--- each word of the tree has n bytes, and n is at most 65,535
+-- the tree has a word, each word of it has n bytes, and n is at most 65,535
 abbrev pub HasFixed : Tree → ℕ → Type 0
-HasFixed t n = HasLengths (In t) n (Some n) × (n ≤ max_fixed_length)
+HasFixed t n = ((w : List ℕ) × In t w) × ((w : List ℕ) → In t w → length w ≡ n) × (n ≤ max_fixed_length)
 
 -- A side of such a fixed length gives the cut: the head if it is one, and else the trailing context. Without trailing
 -- context the cut is the whole.

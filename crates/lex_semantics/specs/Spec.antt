@@ -1,6 +1,8 @@
 -- A specification as data: conditions, and rules with their patterns and actions.
 -- (POSIX, lex, Definitions in lex, Rules in lex and Actions in lex; flex, Start Conditions, End-of-File Rules.)
-use Rattle.std.specs.Prelude.{ℕ, Bool, true, false, ◌||◌, List, [], ◌∷◌, Option, Some, None}
+use Rattle.std.specs.Prelude.{ℕ, Bool, true, false, List, [], Option}
+use Rattle.std.specs.List.{list_any}
+use Rattle.std.specs.Option.{option_map_or}
 use Rattle.lex_semantics.specs.Tree.{Tree}
 
 -- one statement of an action in normal form
@@ -60,21 +62,18 @@ is_reject Reject = true
 is_reject _ = false
 
 abbrev pub has_reject : List Statement → Bool
-has_reject [] = false
-has_reject (s ∷ ss) = is_reject s || has_reject ss
-
-abbrev pub any_reject : List Rule → Bool
-any_reject [] = false
-any_reject (r ∷ rs) = has_reject r.statements || any_reject rs
+has_reject ss = list_any is_reject ss
 
 -- whether some rule has REJECT
 abbrev pub rejects : Spec → Bool
-rejects S = any_reject S.rules
+rejects S = list_any (λ r. has_reject r.statements) S.rules
 
 abbrev pub statements_at : Option Rule → List Statement
-statements_at None = []
-statements_at (Some r) = r.statements
+statements_at r = option_map_or (λ r. r.statements) r []
 
 abbrev pub end_at : Option Condition → EndAction
-end_at None = record { print = []; status = 0 }
-end_at (Some k) = k.end
+end_at k = option_map_or (λ k. k.end) k (record { print = []; status = 0 })
+
+-- A name that the code has for this test over some rules.
+abbrev pub any_reject : List Rule → Bool
+any_reject rs = list_any (λ r. has_reject r.statements) rs

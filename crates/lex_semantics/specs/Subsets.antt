@@ -1,44 +1,32 @@
 -- The positions that words read last, and how many subsets of them there are: the states of the automaton before
 -- minimising. (This project's.)
-use Rattle.std.specs.Prelude.{◌≡◌, ◌≢◌, ℕ, zero, suc, ◌+◌, ◌≤◌, ◌<◌, Bool, true, List, [], ◌∷◌, ◌++◌, length, ◌↔◌, ⊤, Option, Some, None, slice_get}
-use Rattle.lex_semantics.specs.Text.{IsText, Among, Ascending}
+use Rattle.std.specs.Prelude.{◌≡◌, ◌≢◌, ℕ, zero, suc, ◌+◌, ◌≤◌, ◌<◌, Bool, true, List, [], ◌∷◌, ◌++◌, length, ◌↔◌, map, Option, Some, MatchOption, slice_get, take}
+use Rattle.std.specs.Option.{option_map_or}
+use Rattle.lex_semantics.specs.Text.{IsText, Among, Pairwise}
 use Rattle.lex_semantics.specs.Tree.{Tree}
-use Rattle.lex_semantics.specs.Positions.{positions, Cell, Readings, bytes_of, Reads}
+use Rattle.lex_semantics.specs.Positions.{positions, Cell, Readings, Reads}
 use Rattle.lex_semantics.specs.Spec.{Spec, Rule}
 use Rattle.lex_semantics.specs.Active.{active}
 
-abbrev pub positions_of_trail : Option Tree → ℕ
-positions_of_trail None = 0
-positions_of_trail (Some t) = positions t
-
 -- the positions of a rule, those of its trail after those of its head
 abbrev pub positions_of_rule : Rule → ℕ
-positions_of_rule r = positions r.head + positions_of_trail r.trail
+positions_of_rule r = positions r.head + option_map_or positions r.trail 0
 
 -- all the positions of the rules
 abbrev pub all_positions : List Rule → ℕ
 all_positions [] = 0
 all_positions (r ∷ rs) = positions_of_rule r + all_positions rs
 
--- where the positions of rule i begin, when those of the first of these rules begin at `base`
-abbrev pub base_of : List Rule → ℕ → ℕ → ℕ
-base_of [] base i = base
-base_of (r ∷ rs) base zero = base
-base_of (r ∷ rs) base (suc i) = base_of rs (base + positions_of_rule r) i
-
-abbrev pub ReadsTrail : Option Tree → ℕ → Readings
-ReadsTrail None base rs = rs ≡ []
-ReadsTrail (Some t) base rs = Reads t base rs
-
--- a word of the head that is not empty, and then a word of the trail
+-- a word of the head that is not empty, and then a word of the trail, where there is one
 abbrev pub ReadsRule : Rule → ℕ → Readings
 ReadsRule r base rs =
-    (us : List Cell) × (vs : List Cell) × (rs ≡ us ++ vs) × (Reads r.head base us × (us ≢ [])) × ReadsTrail r.trail (base + positions r.head) vs
+    (us : List Cell) × (vs : List Cell) × (rs ≡ us ++ vs) × (Reads r.head base us × (us ≢ []))
+    × MatchOption r.trail (vs ≡ []) (λ t. Reads t (base + positions r.head) vs)
 
--- a reading of an active rule
+-- a reading of an active rule, whose positions come after those of the rules before it
 abbrev pub ReadsActive : Spec → ℕ → Bool → Readings
 ReadsActive S c line_start rs =
-    (i : ℕ) × (r : Rule) × (slice_get S.rules i ≡ Some r) × (active S c line_start r ≡ true) × ReadsRule r (base_of S.rules 0 i) rs
+    (i : ℕ) × (r : Rule) × (slice_get S.rules i ≡ Some r) × (active S c line_start r ≡ true) × ReadsRule r (all_positions (take i S.rules)) rs
 
 -- the last byte is read at p
 abbrev pub EndsAt : ℕ → Readings
@@ -48,7 +36,7 @@ EndsAt p (c ∷ d ∷ rs) = EndsAt p (d ∷ rs)
 
 -- some reading begins with the word, and reads its last byte at p
 abbrev pub IsLast : Readings → List ℕ → ℕ → Type 0
-IsLast R w p = (rs : List Cell) × (zs : List Cell) × (bytes_of rs ≡ w) × EndsAt p rs × R (rs ++ zs)
+IsLast R w p = (rs : List Cell) × (zs : List Cell) × (map (λ c. c.0) rs ≡ w) × EndsAt p rs × R (rs ++ zs)
 
 -- rule i is active
 abbrev pub IsActive : Spec → ℕ → Bool → ℕ → Type 0
@@ -56,25 +44,20 @@ IsActive S c line_start i = (r : Rule) × (slice_get S.rules i ≡ Some r) × (a
 
 -- the list has each member of the set and nothing else, in order
 abbrev pub ListsSet : List ℕ → (ℕ → Type 0) → Type 0
-ListsSet l P = Ascending l × ((i : ℕ) → Among l i ↔ P i)
-
--- no list comes twice
-abbrev pub Distinct : List (List ℕ) → Type 0
-Distinct [] = ⊤
-Distinct (l ∷ ls) = (Among ls l → ⊥) × Distinct ls
+ListsSet l P = Pairwise ◌<◌ l × ((i : ℕ) → Among l i ↔ P i)
 
 -- the sets of active rules that are not empty, each once
 pub record AreStarts (S : Spec) (ls : List (List ℕ)) : Type 0 where
-  pub distinct : Distinct ls
-  pub listed : (c : ℕ) (line_start : Bool) (l : List ℕ) → c < length S.conditions → ListsSet l (IsActive S c line_start) → 1 ≤ length l → Among ls l
-  pub only : (l : List ℕ) → Among ls l → (c : ℕ) × (line_start : Bool) × (c < length S.conditions) × (1 ≤ length l) × ListsSet l (IsActive S c line_start)
+  pub distinct : Pairwise ◌≢◌ ls
+  pub listed : (l : List ℕ) → Among ls l ↔
+      ((c : ℕ) × (line_start : Bool) × (c < length S.conditions) × (1 ≤ length l) × ListsSet l (IsActive S c line_start))
 
 -- the sets of last positions that are not empty, each once
 pub record AreLasts (S : Spec) (ls : List (List ℕ)) : Type 0 where
-  pub distinct : Distinct ls
-  pub listed : (c : ℕ) (line_start : Bool) (w l : List ℕ) → c < length S.conditions → IsText w → 1 ≤ length w → ListsSet l (IsLast (ReadsActive S c line_start) w) → 1 ≤ length l → Among ls l
-  pub only : (l : List ℕ) → Among ls l →
-      (c : ℕ) × (line_start : Bool) × (w : List ℕ) × (c < length S.conditions) × IsText w × (1 ≤ length w) × (1 ≤ length l) × ListsSet l (IsLast (ReadsActive S c line_start) w)
+  pub distinct : Pairwise ◌≢◌ ls
+  pub listed : (l : List ℕ) → Among ls l ↔
+      ((c : ℕ) × (line_start : Bool) × (w : List ℕ) × (c < length S.conditions) × IsText w × (1 ≤ length w)
+      × (1 ≤ length l) × ListsSet l (IsLast (ReadsActive S c line_start) w))
 
 -- how many states there are before minimising: the dead one, one for each start, and one for each set of last positions
 pub record Subsets (S : Spec) (n : ℕ) : Type 0 where
@@ -83,3 +66,21 @@ pub record Subsets (S : Spec) (n : ℕ) : Type 0 where
   pub are_starts : AreStarts S starts
   pub are_lasts : AreLasts S lasts
   pub total : n ≡ 1 + length starts + length lasts
+
+-- Names that proofs have for where the positions of rule i begin, when those of the first of these rules begin at `base`,
+-- and for the side of the trail.
+
+abbrev pub base_of : List Rule → ℕ → ℕ → ℕ
+base_of [] base i = base
+base_of (r ∷ rs) base zero = base
+base_of (r ∷ rs) base (suc i) = base_of rs (base + positions_of_rule r) i
+
+abbrev pub positions_of_trail : Option Tree → ℕ
+positions_of_trail trail = option_map_or positions trail 0
+
+abbrev pub ReadsTrail : Option Tree → ℕ → Readings
+ReadsTrail trail base rs = MatchOption trail (rs ≡ []) (λ t. Reads t base rs)
+
+-- A name that proofs have for lists none of which comes twice.
+abbrev pub Distinct : List (List ℕ) → Type 0
+Distinct ls = Pairwise ◌≢◌ ls

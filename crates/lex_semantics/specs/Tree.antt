@@ -1,5 +1,5 @@
 -- Patterns as trees, and the words that they match. (POSIX, lex, Regular Expressions in lex.)
-use Rattle.std.specs.Prelude.{◌≡◌, ℕ, zero, suc, ◌≤◌, List, [], ◌∷◌, ◌++◌, ◌⊎◌, Option, Some, None, ⊤}
+use Rattle.std.specs.Prelude.{◌≡◌, ℕ, zero, suc, ◌≤◌, List, [], ◌∷◌, ◌++◌, ◌⊎◌, Option, IfSome}
 use Rattle.lex_semantics.specs.ByteSets.{ByteSet, IsIn}
 
 mutual
@@ -31,11 +31,6 @@ abbrev pub Joined : (List ℕ → Type 0) → ℕ → List ℕ → Type 0
 Joined P zero w = w ≡ []
 Joined P (suc k) w = (u : List ℕ) × (v : List ℕ) × (w ≡ u ++ v) × P u × Joined P k v
 
--- no more than the bound, where there is one
-abbrev pub UpTo : Option ℕ → ℕ → Type 0
-UpTo None k = ⊤
-UpTo (Some n) k = k ≤ n
-
 -- a word of the tree's language
 abbrev mutual
   pub In : Tree → List ℕ → Type 0
@@ -44,7 +39,7 @@ abbrev mutual
   In (Cat ts) w = InEach ts w
   In (Alt ts) w = InSome ts w
   In (Star t) w = (k : ℕ) × Joined (In t) k w
-  In (Repeat t m n) w = (k : ℕ) × (m ≤ k) × UpTo n k × Joined (In t) k w
+  In (Repeat t m n) w = (k : ℕ) × (m ≤ k) × IfSome n (λ n. k ≤ n) × Joined (In t) k w
 
   -- the joining of words of the trees, in order
   pub InEach : Trees → List ℕ → Type 0
@@ -55,3 +50,7 @@ abbrev mutual
   pub InSome : Trees → List ℕ → Type 0
   InSome no_trees w = ⊥
   InSome (tree t ts) w = In t w ⊎ InSome ts w
+
+-- A name that proofs have for a count that is no more than the bound of a repetition, where there is one.
+abbrev pub UpTo : Option ℕ → ℕ → Type 0
+UpTo n k = IfSome n (λ n. k ≤ n)

@@ -7,6 +7,7 @@ use Rattle.lex_semantics.specs.Spec.{Spec, Rule}
 use Rattle.lex_semantics.specs.Reports.{HasFit}
 use Rattle.lex_semantics.specs.Sound.{IsSound}
 use Rattle.lex_semantics.specs.Active.{active}
+use Rattle.lex_semantics.proofs.Counted.{base_is}
 use Rattle.lex_semantics.specs.Subsets.{IsLast, ReadsActive, ReadsRule, all_positions, positions_of_rule, base_of}
 use Rattle.lexauto_positions.specs.RuleAutomaton.{rule_quad}
 use Rattle.lexauto_positions.specs.RuleFlow.{rule_exits, rules_left}
@@ -72,7 +73,7 @@ module _ (S : Spec) (sound : IsSound S) (c : ℕ) (line_start : Bool) (w : List 
           let same : h.rule ≡ r = (let e : Some h.rule ≡ Some r = sym h.at ∙ at in cc) in
           let reads = fit_read S c line_start w i k (base_of S.rules 0 i) h in
           let (p, (rs, zs, e, ends, rest), last) = accept.0 (subst (λ (q : Rule). ReadsWord (ReadsRule q (base_of S.rules 0 i)) w) same reads) in
-          (p, (rs, zs, e, ends, (i, r, at, subst (λ (q : Rule). active S c line_start q ≡ true) same h.is_active, rest)), last)
+          (p, (rs, zs, e, ends, (i, r, at, subst (λ (q : Rule). active S c line_start q ≡ true) same h.is_active, subst (λ (b : ℕ). ReadsRule r b (rs ++ zs)) (base_is S.rules i) rest)), last)
 
       same_rule : (j : ℕ) (q : Rule) (p : ℕ) → slice_get S.rules j ≡ Some q → IsLast (ReadsRule q (base_of S.rules 0 j)) w p → (rule_quad r (base_of S.rules 0 i)).last p → i ≡ j
       same_rule j q p there l last =
@@ -85,7 +86,8 @@ module _ (S : Spec) (sound : IsSound S) (c : ℕ) (line_start : Bool) (w : List 
           ]
 
       from : (p : ℕ) × IsLast (ReadsActive S c line_start) w p × (rule_quad r (base_of S.rules 0 i)).last p → HasFit S c line_start w i
-      from (p, (rs, zs, e, ends, (j, q, there, on, reads)), last) =
+      from (p, (rs, zs, e, ends, (j, q, there, on, read)), last) =
+          let reads : ReadsRule q (base_of S.rules 0 j) (rs ++ zs) = subst (λ (b : ℕ). ReadsRule q b (rs ++ zs)) (sym (base_is S.rules j)) read in
           let same : i ≡ j = same_rule j q p there (rs, zs, e, ends, reads) last in
           let rule : r ≡ q = (let g : Some r ≡ Some q = sym at ∙ ap (slice_get S.rules) same ∙ there in cc) in
           let mine : ReadsRule r (base_of S.rules 0 i) (rs ++ zs) =

@@ -143,12 +143,16 @@ lasts_among ((zero ∷ ys) ∷ ks) xs (suc i) h = lasts_among ks xs i h
 lasts_among ((suc n ∷ ys) ∷ ks) xs zero h = inl (let e : ys ≡ xs = cc in sym e)
 lasts_among ((suc n ∷ ys) ∷ ks) xs (suc i) h = inr (lasts_among ks xs i h)
 
+-- what is not among some lists is none of them
+other_than : (l : List ℕ) (ls : List (List ℕ)) → (Among ls l → ⊥) → (m : List ℕ) → Among ls m → l ≢ m
+other_than l ls out m a e = out (subst (Among ls) (sym e) a)
+
 starts_distinct : (ks : List Key) → Apart ks → Distinct (starts_list ks)
 unfolding starts_list
 starts_distinct [] h = tt
 starts_distinct ([] ∷ ks) h = starts_distinct ks (rest_apart [] ks h)
 starts_distinct ((zero ∷ xs) ∷ ks) h =
-    ((λ a. let (i, at) = among_starts ks xs a in let e : 0 ≡ suc i = h 0 (suc i) (0 ∷ xs) refl at in absurd (omega (arith, e))), starts_distinct ks (rest_apart (zero ∷ xs) ks h))
+    (other_than xs (starts_list ks) (λ a. let (i, at) = among_starts ks xs a in let e : 0 ≡ suc i = h 0 (suc i) (0 ∷ xs) refl at in absurd (omega (arith, e))), starts_distinct ks (rest_apart (zero ∷ xs) ks h))
 starts_distinct ((suc n ∷ xs) ∷ ks) h = starts_distinct ks (rest_apart (suc n ∷ xs) ks h)
 
 lasts_distinct : (ks : List Key) → OfKind ks → Apart ks → Distinct (lasts_list ks)
@@ -157,7 +161,7 @@ lasts_distinct [] g h = tt
 lasts_distinct ([] ∷ ks) g h = lasts_distinct ks (rest_kind [] ks g) (rest_apart [] ks h)
 lasts_distinct ((zero ∷ xs) ∷ ks) g h = lasts_distinct ks (rest_kind (zero ∷ xs) ks g) (rest_apart (zero ∷ xs) ks h)
 lasts_distinct ((suc n ∷ xs) ∷ ks) g h = (
-  (λ a. let (i, at) = among_lasts ks (rest_kind (suc n ∷ xs) ks g) xs a in let z : n ≡ 0 = g 0 n xs refl in
+  other_than xs (lasts_list ks) (λ a. let (i, at) = among_lasts ks (rest_kind (suc n ∷ xs) ks g) xs a in let z : n ≡ 0 = g 0 n xs refl in
       let e : 0 ≡ suc i = h 0 (suc i) (1 ∷ xs) (rw z refl) at in absurd (omega (arith, e))),
   lasts_distinct ks (rest_kind (suc n ∷ xs) ks g) (rest_apart (suc n ∷ xs) ks h),
 )
@@ -236,13 +240,15 @@ module _ (S : Spec) where
     are_starts : AreStarts S (starts_list keys)
     are_starts = record {
       distinct = starts_distinct keys s.automaton.apart;
-      listed = λ c line_start l lt lists some.
-          let own = listed (is_active S c line_start) 0 (length S.rules) in
-          let same : own ≡ l = same_set (IsActive S c line_start) own l (start_lists S c line_start) lists in
-          let (i, at) = start_there c line_start lt in
-          let key : start_key S c line_start ≡ 0 ∷ l = ap (tagged 0) same ∙ tagged_some 0 l some in
-          starts_among keys l i (subst (λ (k : Key). At keys i k) key (s.automaton.starts i (start_key S c line_start) at));
-      only = λ l a. let (i, at) = among_starts keys l a in start_only l (shape_at i (0 ∷ l) at);
+      listed = λ l. (
+        λ a. let (i, at) = among_starts keys l a in start_only l (shape_at i (0 ∷ l) at),
+        λ (c, line_start, lt, some, lists).
+            let own = listed (is_active S c line_start) 0 (length S.rules) in
+            let same : own ≡ l = same_set (IsActive S c line_start) own l (start_lists S c line_start) lists in
+            let (i, at) = start_there c line_start lt in
+            let key : start_key S c line_start ≡ 0 ∷ l = ap (tagged 0) same ∙ tagged_some 0 l some in
+            starts_among keys l i (subst (λ (k : Key). At keys i k) key (s.automaton.starts i (start_key S c line_start) at)),
+      );
     }
 
     last_there : (c : ℕ) (line_start : Bool) (w l : List ℕ) → c < length S.conditions → IsText w → 1 ≤ length w → ListsSet l (IsLast (ReadsActive S c line_start) w) → 1 ≤ length l → Among (lasts_list keys) l
@@ -259,8 +265,10 @@ module _ (S : Spec) where
     are_lasts : AreLasts S (lasts_list keys)
     are_lasts = record {
       distinct = lasts_distinct keys kinds s.automaton.apart;
-      listed = λ c line_start w l lt text word lists some. last_there c line_start w l lt text word lists some;
-      only = λ l a. let (i, at) = among_lasts keys kinds l a in last_only l (shape_at i (1 ∷ l) at);
+      listed = λ l. (
+        λ a. let (i, at) = among_lasts keys kinds l a in last_only l (shape_at i (1 ∷ l) at),
+        λ (c, line_start, w, lt, text, word, some, lists). last_there c line_start w l lt text word lists some,
+      );
     }
 
     pub counted : Subsets S (length keys)
@@ -321,10 +329,10 @@ too_many_subsets S limit n (ks, many, apart, shapes) s =
     from k (inl e) = inl e
     from k (inr (inl (l, e, some, (c, line_start, lt, h)))) =
         inr (subst (λ (q : Key). Among (map (λ l. 0 ∷ l) s.starts ++ map (λ l. 1 ∷ l) s.lasts) q) (sym e)
-        (among_left (map (λ l. 0 ∷ l) s.starts) (map (λ l. 1 ∷ l) s.lasts) (0 ∷ l) (among_map (λ l. 0 ∷ l) s.starts l (s.are_starts.listed c line_start l lt h some))))
+        (among_left (map (λ l. 0 ∷ l) s.starts) (map (λ l. 1 ∷ l) s.lasts) (0 ∷ l) (among_map (λ l. 0 ∷ l) s.starts l ((s.are_starts.listed l).1 (c, line_start, lt, some, h)))))
     from k (inr (inr (l, e, some, (c, line_start, w, lt, text, word, h)))) =
         inr (subst (λ (q : Key). Among (map (λ l. 0 ∷ l) s.starts ++ map (λ l. 1 ∷ l) s.lasts) q) (sym e)
-        (among_right (map (λ l. 0 ∷ l) s.starts) (map (λ l. 1 ∷ l) s.lasts) (1 ∷ l) (among_map (λ l. 1 ∷ l) s.lasts l (s.are_lasts.listed c line_start w l lt text word h some))))
+        (among_right (map (λ l. 0 ∷ l) s.starts) (map (λ l. 1 ∷ l) s.lasts) (1 ∷ l) (among_map (λ l. 1 ∷ l) s.lasts l ((s.are_lasts.listed l).1 (c, line_start, w, lt, text, word, some, h)))))
 
 -- There is one count of subsets.
 
@@ -341,8 +349,8 @@ at_is_among (x ∷ ks) (suc i) k h = inr (at_is_among ks i k h)
 distinct_apart : (ks : List Key) → Distinct ks → Apart ks
 distinct_apart [] d i j k a b = absurd cc
 distinct_apart (x ∷ ks) d zero zero k a b = refl
-distinct_apart (x ∷ ks) d zero (suc j) k a b = absurd (let e : x ≡ k = cc in d.0 (subst (λ (q : Key). Among ks q) (sym e) (at_is_among ks j k b)))
-distinct_apart (x ∷ ks) d (suc i) zero k a b = absurd (let e : x ≡ k = cc in d.0 (subst (λ (q : Key). Among ks q) (sym e) (at_is_among ks i k a)))
+distinct_apart (x ∷ ks) d zero (suc j) k a b = absurd (let e : x ≡ k = cc in d.0 x (subst (λ (q : Key). Among ks q) (sym e) (at_is_among ks j k b)) refl)
+distinct_apart (x ∷ ks) d (suc i) zero k a b = absurd (let e : x ≡ k = cc in d.0 x (subst (λ (q : Key). Among ks q) (sym e) (at_is_among ks i k a)) refl)
 distinct_apart (x ∷ ks) d (suc i) (suc j) k a b = ap suc (distinct_apart ks d.1 i j k a b)
 
 no_more_of : (ls ms : List (List ℕ)) → Distinct ls → ((l : List ℕ) → Among ls l → Among ms l) → length ls ≤ length ms
@@ -350,10 +358,10 @@ no_more_of ls ms d inside = no_more ls ms (distinct_apart ls d) (λ i k a. insid
 
 module _ (S : Spec) where
   starts_inside : (ls ms : List (List ℕ)) → AreStarts S ls → AreStarts S ms → length ls ≤ length ms
-  starts_inside ls ms a b = no_more_of ls ms a.distinct (λ l h. let (c, line_start, lt, some, lists) = a.only l h in b.listed c line_start l lt lists some)
+  starts_inside ls ms a b = no_more_of ls ms a.distinct (λ l h. (b.listed l).1 ((a.listed l).0 h))
 
   lasts_inside : (ls ms : List (List ℕ)) → AreLasts S ls → AreLasts S ms → length ls ≤ length ms
-  lasts_inside ls ms a b = no_more_of ls ms a.distinct (λ l h. let (c, line_start, w, lt, text, word, some, lists) = a.only l h in b.listed c line_start w l lt text word lists some)
+  lasts_inside ls ms a b = no_more_of ls ms a.distinct (λ l h. (b.listed l).1 ((a.listed l).0 h))
 
   pub counts_agree : (m n : ℕ) → Subsets S m → Subsets S n → m ≡ n
   counts_agree m n s t =

@@ -1,5 +1,5 @@
 -- The words that fit rules, by readings.
-use Rattle.std.specs.Prelude.{◌≢◌, ◌↔◌, slice_get, IsTrue}
+use Rattle.std.specs.Prelude.{◌≢◌, ◌↔◌, slice_get, take, IsTrue}
 use Rattle.std.proofs.Common.{◌≡◌, ℕ, zero, suc, ◌+◌, ◌≤◌, Bool, true, List, [], ◌∷◌, ◌++◌, length, inl, inr, Option, Some, None, IfSome, refl, sym, ◌∙◌, ap, subst, arith}
 use Rattle.lex_semantics.specs.Text.{IsText}
 use Rattle.lex_semantics.specs.Tree.{Tree, Trees, Empty, Set, Cat, Alt, Star, Repeat, no_trees, tree, Joined, In, InEach, InSome}
@@ -9,7 +9,8 @@ use Rattle.lex_semantics.specs.Active.{active}
 use Rattle.lex_semantics.specs.Fits.{InTrail, Fits}
 use Rattle.lex_semantics.specs.Rules.{Live}
 use Rattle.lex_semantics.specs.Reports.{HasFit}
-use Rattle.lex_semantics.specs.Subsets.{base_of, positions_of_rule, ReadsTrail, ReadsRule, ReadsActive}
+use Rattle.lex_semantics.proofs.Counted.{base_is}
+use Rattle.lex_semantics.specs.Subsets.{all_positions, base_of, positions_of_rule, ReadsTrail, ReadsRule, ReadsActive}
 use Rattle.lex_semantics.proofs.WordReadings.{word_readings, bytes_join}
 use Rattle.lex_semantics.proofs.Texts.{is_text_right, is_text_append}
 use Rattle.lexauto_positions.specs.RuleAutomaton.{is_on}
@@ -95,8 +96,8 @@ fit_text S c line_start w i k h = subst IsText (sym h.splits) (is_text_append h.
 
 pub active_fit : (S : Spec) (c : ℕ) (line_start : Bool) (w : List ℕ) → ReadsWord (ReadsActive S c line_start) w ↔ ((i : ℕ) × HasFit S c line_start w i)
 active_fit S c line_start w = (
-  λ (rs, e, (i, r, at, on, reads)). (i, read_fit S c line_start w i (base_of S.rules 0 i) r at on (rs, e, reads)),
-  λ (i, (k, h)). (let r = fit_read S c line_start w i k (base_of S.rules 0 i) h in (r.0, r.1, (i, h.rule, h.at, h.is_active, r.2))),
+  λ (rs, e, (i, r, at, on, reads)). (i, read_fit S c line_start w i (all_positions (take i S.rules)) r at on (rs, e, reads)),
+  λ (i, (k, h)). (let r = fit_read S c line_start w i k (all_positions (take i S.rules)) h in (r.0, r.1, (i, h.rule, h.at, h.is_active, r.2))),
 )
 
 some_length : (u : List ℕ) → u ≢ [] → 1 ≤ length u
@@ -146,10 +147,10 @@ from_some on i base (q ∷ rules) rs (inr h) =
 pub active_some : (S : Spec) (c : ℕ) (line_start : Bool) (rs : List Cell) → ReadsActive S c line_start rs ↔ ReadsSomeRule (λ i. is_on S c line_start (slice_get S.rules i)) 0 0 S.rules rs
 active_some S c line_start rs = (
   λ (i, r, at, on, reads). (let e : 0 + i ≡ i = omega arith in
-      to_some (λ i. is_on S c line_start (slice_get S.rules i)) 0 0 S.rules rs i r at (subst (λ z. is_on S c line_start (slice_get S.rules z) ≡ true) (sym e) (ap (is_on S c line_start) at ∙ on)) reads),
+      to_some (λ i. is_on S c line_start (slice_get S.rules i)) 0 0 S.rules rs i r at (subst (λ z. is_on S c line_start (slice_get S.rules z) ≡ true) (sym e) (ap (is_on S c line_start) at ∙ on)) (subst (λ b. ReadsRule r b rs) (sym (base_is S.rules i)) reads)),
   λ h. (let (j, r, at, is, reads) = from_some (λ i. is_on S c line_start (slice_get S.rules i)) 0 0 S.rules rs h in
       let e : 0 + j ≡ j = omega arith in
-      (j, r, at, ap (is_on S c line_start) (sym at) ∙ subst (λ z. is_on S c line_start (slice_get S.rules z) ≡ true) e is, reads)),
+      (j, r, at, ap (is_on S c line_start) (sym at) ∙ subst (λ z. is_on S c line_start (slice_get S.rules z) ≡ true) e is, subst (λ b. ReadsRule r b rs) (base_is S.rules j) reads)),
 )
 
 -- sound rules

@@ -1,6 +1,6 @@
 -- A specification in which each action is REJECT has the same texts that fit its rules, and as many states before minimising.
 use Rattle.std.proofs.Common.{◌≡◌, ◌↔◌, ℕ, zero, suc, ◌+◌, Bool, true, List, [], ◌∷◌, ◌++◌, length, map, Some, refl, sym, ap, subst, arith}
-use Rattle.std.specs.Prelude.{slice_get}
+use Rattle.std.specs.Prelude.{slice_get, take}
 use Rattle.lex_semantics.specs.Tree.{In}
 use Rattle.lex_semantics.specs.Spec.{Spec, Rule, Condition, rejects}
 use Rattle.lex_semantics.specs.Active.{active}
@@ -8,7 +8,7 @@ use Rattle.lex_semantics.specs.Fits.{InTrail}
 use Rattle.lex_semantics.specs.Reports.{HasFit}
 use Rattle.lex_semantics.specs.TableFor.{Accepted}
 use Rattle.lex_semantics.specs.Positions.{Cell, Readings}
-use Rattle.lex_semantics.specs.Subsets.{all_positions, positions_of_rule, base_of, AreLasts, AreStarts, IsActive, IsLast, ListsSet, ReadsActive, ReadsRule, Subsets}
+use Rattle.lex_semantics.specs.Subsets.{all_positions, positions_of_rule, AreLasts, AreStarts, IsActive, IsLast, ListsSet, ReadsActive, ReadsRule, Subsets}
 use Rattle.lexlook_words.specs.Rejecting.{rejecting, rejecting_rule}
 
 pub got_map : (rs : List Rule) (i : ℕ) (r : Rule) → slice_get rs i ≡ Some r → slice_get (map rejecting_rule rs) i ≡ Some (rejecting_rule r)
@@ -79,10 +79,11 @@ pub positions_same : (rs : List Rule) → all_positions (map rejecting_rule rs) 
 positions_same [] = refl
 positions_same (r ∷ rs) = ap (λ (n : ℕ). positions_of_rule r + n) (positions_same rs)
 
-base_same : (rs : List Rule) (b i : ℕ) → base_of (map rejecting_rule rs) b i ≡ base_of rs b i
-base_same [] b i = refl
-base_same (r ∷ rs) b zero = refl
-base_same (r ∷ rs) b (suc i) = base_same rs (b + positions_of_rule r) i
+before_same : (rs : List Rule) (i : ℕ) → all_positions (take i (map rejecting_rule rs)) ≡ all_positions (take i rs)
+before_same [] zero = refl
+before_same [] (suc i) = refl
+before_same (r ∷ rs) zero = refl
+before_same (r ∷ rs) (suc i) = ap (λ (n : ℕ). positions_of_rule r + n) (before_same rs i)
 
 active_same : (S : Spec) (c : ℕ) (line : Bool) (i : ℕ) → IsActive (rejecting S) c line i ↔ IsActive S c line i
 active_same S c line i = (
@@ -94,9 +95,9 @@ reads_same : (S : Spec) (c : ℕ) (line : Bool) (rs : List Cell) → ReadsActive
 reads_same S c line rs = (
   λ h.
       let g = got_back S.rules h.0 h.1 h.2 in
-      let read = subst (λ (q : Rule). ReadsRule q (base_of (map rejecting_rule S.rules) 0 h.0) rs) g.2 h.4 in
-      (h.0, g.0, g.1, subst (λ (q : Rule). active (rejecting S) c line q ≡ true) g.2 h.3, subst (λ (b : ℕ). ReadsRule g.0 b rs) (base_same S.rules 0 h.0) read),
-  λ h. (h.0, rejecting_rule h.1, got_map S.rules h.0 h.1 h.2, h.3, subst (λ (b : ℕ). ReadsRule h.1 b rs) (sym (base_same S.rules 0 h.0)) h.4),
+      let read = subst (λ (q : Rule). ReadsRule q (all_positions (take h.0 (map rejecting_rule S.rules))) rs) g.2 h.4 in
+      (h.0, g.0, g.1, subst (λ (q : Rule). active (rejecting S) c line q ≡ true) g.2 h.3, subst (λ (b : ℕ). ReadsRule g.0 b rs) (before_same S.rules h.0) read),
+  λ h. (h.0, rejecting_rule h.1, got_map S.rules h.0 h.1 h.2, h.3, subst (λ (b : ℕ). ReadsRule h.1 b rs) (sym (before_same S.rules h.0)) h.4),
 )
 
 lists_alike : (l : List ℕ) (P Q : ℕ → Type 0) → ((i : ℕ) → P i ↔ Q i) → ListsSet l P → ListsSet l Q
@@ -118,8 +119,10 @@ module _ (S T : Spec) (count : length S.conditions ≡ length T.conditions)
   starts_alike : (ls : List (List ℕ)) → AreStarts S ls → AreStarts T ls
   starts_alike ls a = record {
     distinct = a.distinct;
-    listed = λ c line l low set some. a.listed c line l (omega (arith, low, count)) (lists_alike l (IsActive T c line) (IsActive S c line) (λ i. swap (active_is c line i)) set) some;
-    only = λ l m. (let r = a.only l m in let low = r.2 in (r.0, r.1, (omega (arith, low, count)), r.3, lists_alike l (IsActive S r.0 r.1) (IsActive T r.0 r.1) (active_is r.0 r.1) r.4));
+    listed = λ l. (
+      λ m. (let r = (a.listed l).0 m in let low = r.2 in (r.0, r.1, (omega (arith, low, count)), r.3, lists_alike l (IsActive S r.0 r.1) (IsActive T r.0 r.1) (active_is r.0 r.1) r.4)),
+      λ (c, line, low, some, set). (a.listed l).1 (c, line, (omega (arith, low, count)), some, lists_alike l (IsActive T c line) (IsActive S c line) (λ i. swap (active_is c line i)) set),
+    );
   }
 
   lasts_are : (c : ℕ) (line : Bool) (w : List ℕ) (p : ℕ) → IsLast (ReadsActive S c line) w p ↔ IsLast (ReadsActive T c line) w p
@@ -128,8 +131,11 @@ module _ (S T : Spec) (count : length S.conditions ≡ length T.conditions)
   lasts_alike : (ls : List (List ℕ)) → AreLasts S ls → AreLasts T ls
   lasts_alike ls a = record {
     distinct = a.distinct;
-    listed = λ c line w l low text more set some. a.listed c line w l (omega (arith, low, count)) text more (lists_alike l (IsLast (ReadsActive T c line) w) (IsLast (ReadsActive S c line) w) (λ p. swap (lasts_are c line w p)) set) some;
-    only = λ l m. (let r = a.only l m in let low = r.3 in (r.0, r.1, r.2, (omega (arith, low, count)), r.4, r.5, r.6, lists_alike l (IsLast (ReadsActive S r.0 r.1) r.2) (IsLast (ReadsActive T r.0 r.1) r.2) (lasts_are r.0 r.1 r.2) r.7));
+    listed = λ l. (
+      λ m. (let r = (a.listed l).0 m in let low = r.3 in (r.0, r.1, r.2, (omega (arith, low, count)), r.4, r.5, r.6, lists_alike l (IsLast (ReadsActive S r.0 r.1) r.2) (IsLast (ReadsActive T r.0 r.1) r.2) (lasts_are r.0 r.1 r.2) r.7)),
+      λ (c, line, w, low, text, more, some, set).
+          (a.listed l).1 (c, line, w, (omega (arith, low, count)), text, more, some, lists_alike l (IsLast (ReadsActive T c line) w) (IsLast (ReadsActive S c line) w) (λ p. swap (lasts_are c line w p)) set),
+    );
   }
 
   pub subsets_alike : (n : ℕ) → Subsets S n → Subsets T n

@@ -1,12 +1,13 @@
 -- The set of a class, element by element.
 use Rattle.std.proofs.Common.{◌≡◌, ℕ, zero, suc, ◌<◌, ◌≤◌, ◌^◌, Bool, true, false, not, ◌&&◌, ◌||◌, ◌==◌, if◌then◌else◌, List, [], ◌∷◌, length, drop, length-drop, Option, Some, None, refl, sym, ap, ◌∙◌, subst, nat_le, arith}
 use Rattle.std.specs.Prelude.{codes}
-use Rattle.lex_semantics.specs.ByteSets.{ByteSet, has, set_of, empty_set, union, complement, range_set, named_set, is_alpha, is_digit, is_alnum, is_upper, is_lower, is_space, is_blank, is_cntrl, is_graph, is_print, is_punct, is_xdigit}
+use Rattle.lex_semantics.specs.ByteSets.{ByteSet, has, set_of, empty_set, union, complement, range_set, is_word, classes, named_set}
 use Rattle.lex_semantics.specs.Reading.{◌>>=◌, begins}
 use Rattle.lexre_bytes.specs.Lexical.{span, after_word, folded, class_name_at, enclosed_by, bracketed_at, literal_byte_at, element_at, is_range, range_at, elements_at, union_set, class_at, class_set}
 use Rattle.lexre_bytes.specs.Elements.{Element, named, unsupported}
 use Rattle.lexre_bytes.specs.ClassSets.{member_at, members_at, class_set_at}
-use Rattle.std.specs.Option.{option_or}
+use Rattle.std.specs.Map.{lookup}
+use Rattle.std.specs.Option.{option_map, option_or}
 use Rattle.lexre_bytes.specs.Brackets.{named_at, unsupported_at}
 use Rattle.lexre_bytes.proofs.BracketForms.{bracketed_form}
 use Rattle.lexre_bytes.proofs.IntervalLaws.{begun, not_begun}
@@ -143,9 +144,11 @@ no_set s e = cc
 
 named_set-lt : (n : List ℕ) → IsOfBytes (named_set n)
 unfolding named_set
-named_set-lt n =
-    either _ is_alpha _ (either _ is_digit _ (either _ is_alnum _ (either _ is_upper _ (either _ is_lower _ (either _ is_space _
-    (either _ is_blank _ (either _ is_cntrl _ (either _ is_graph _ (either _ is_print _ (either _ is_punct _ (either _ is_xdigit None no_set)))))))))))
+named_set-lt n = go (lookup (is_word n) classes)
+  where
+    go : (o : Option (ℕ → Bool)) → IsOfBytes (option_map set_of o)
+    go None s e = cc
+    go (Some p) s e = let same : set_of p ≡ s = cc in subst (λ v. v < 2 ^ 256) same (set_of-lt p)
 
 span-lt : (lo hi : ℕ) → IsOfBytes (span lo hi)
 unfolding span range_set

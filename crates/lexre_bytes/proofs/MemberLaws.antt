@@ -1,7 +1,11 @@
 -- Sets that have a byte.
-use Rattle.std.proofs.Common.{◌≡◌, ℕ, zero, suc, ◌<◌, ◌≤◌, ◌^◌, Bool, true, false, not, ◌&&◌, ◌||◌, ◌==◌, nat_le, nat_lt, if◌then◌else◌, List, Option, Some, None, ◌⊎◌, inl, inr, refl, ◌∙◌, subst, arith}
+use Rattle.std.proofs.Common.{◌≡◌, ℕ, zero, suc, ◌<◌, ◌≤◌, ◌^◌, Bool, true, false, not, ◌&&◌, ◌||◌, ◌==◌, nat_le, nat_lt, List, [], ◌∷◌, Option, Some, None, ◌⊎◌, inl, inr, refl, ◌∙◌, subst, arith}
 use Rattle.std.proofs.lemmas.Bool.Decides.{nat_tests}
-use Rattle.lex_semantics.specs.ByteSets.{ByteSet, has, set_of, empty_set, single, range_set, union, complement, fold_case, other_case, named_set, is_alpha, is_digit, is_alnum, is_upper, is_lower, is_space, is_blank, is_cntrl, is_graph, is_print, is_punct, is_xdigit, HasByte}
+use Rattle.std.specs.Prelude.{cond}
+use Rattle.std.specs.List.{AllByRecursion}
+use Rattle.std.specs.Map.{lookup}
+use Rattle.std.specs.Option.{option_map}
+use Rattle.lex_semantics.specs.ByteSets.{ByteSet, has, set_of, empty_set, single, range_set, union, complement, fold_case, other_case, is_word, classes, named_set, is_alpha, is_digit, is_alnum, is_blank, is_xdigit, HasByte}
 use Rattle.lexre_bytes.specs.Lexical.{folded}
 use Rattle.lexre_bytes.proofs.SetLaws.{has-set_of, set_of-lt, is_set_of}
 
@@ -34,22 +38,44 @@ unfolding fold_case
 folded_some true s (b, (h, e)) = passing_byte (λ c. has s c || has s (other_case c)) b h (or_true (has s b) _ e)
 folded_some false s some = some
 
-abbrev SomeByte : Option ByteSet → Type 0
-SomeByte o = (s : ByteSet) → o ≡ Some s → HasByte s
+-- the set of the test, if there is one, has a byte
+abbrev SomeByte : Option (ℕ → Bool) → Type 0
+SomeByte o = (s : ByteSet) → option_map set_of o ≡ Some s → HasByte s
 
-either : (b : Bool) (p : ℕ → Bool) (w : ℕ) (o : Option ByteSet) → w < 256 → p w ≡ true → SomeByte o → SomeByte (if b then Some (set_of p) else o)
+either : (b : Bool) (p : ℕ → Bool) (w : ℕ) (o : Option (ℕ → Bool)) → w < 256 → p w ≡ true → SomeByte o → SomeByte (cond b (Some p) o)
 either true p w o h k rest s e = subst HasByte (some_is (set_of p) s e) (passing_byte p w h k)
 either false p w o h k rest s e = rest s e
 
 no_set : SomeByte None
 no_set s e = cc
 
+-- where each of these classes has a byte, the one of a name has
+some_class : (n : List ℕ) (cs : List (List ℕ × (ℕ → Bool))) → AllByRecursion (λ c. (b : ℕ) × (b < 256) × (c.1 b ≡ true)) cs → SomeByte (lookup (is_word n) cs)
+some_class n [] h = no_set
+some_class n (c ∷ cs) h = either (is_word n c.0) c.1 h.0.0 (lookup (is_word n) cs) h.0.1 h.0.2 (some_class n cs h.1)
+
 pub named_some : (n : List ℕ) (s : ByteSet) → named_set n ≡ Some s → HasByte s
-unfolding named_set is_alpha is_digit is_alnum is_upper is_lower is_space is_blank is_cntrl is_graph is_print is_punct is_xdigit
+unfolding named_set is_alpha is_digit is_alnum is_blank is_xdigit
 named_some n =
-    either _ is_alpha 65 _ (omega arith) refl (either _ is_digit 48 _ (omega arith) refl (either _ is_alnum 65 _ (omega arith) refl (either _ is_upper 65 _ (omega arith) refl
-    (either _ is_lower 97 _ (omega arith) refl (either _ is_space 32 _ (omega arith) refl (either _ is_blank 32 _ (omega arith) refl (either _ is_cntrl 0 _ (omega arith) refl
-    (either _ is_graph 65 _ (omega arith) refl (either _ is_print 65 _ (omega arith) refl (either _ is_punct 33 _ (omega arith) refl (either _ is_xdigit 48 None (omega arith) refl no_set)))))))))))
+    some_class n classes (
+      (65, omega arith, refl),
+      (
+        (48, omega arith, refl),
+        (
+          (65, omega arith, refl),
+          (
+            (65, omega arith, refl),
+            (
+              (97, omega arith, refl),
+              (
+                (32, omega arith, refl),
+                ((32, omega arith, refl), ((0, omega arith, refl), ((65, omega arith, refl), ((65, omega arith, refl), ((33, omega arith, refl), ((48, omega arith, refl), tt)))))),
+              ),
+            ),
+          ),
+        ),
+      ),
+    )
 
 some_below : (s n : ℕ) → ((b : ℕ) → b < n → has s b ≡ false) ⊎ ((b : ℕ) × (b < n) × (has s b ≡ true))
 some_below s zero = inl (λ b h. absurd (omega arith))

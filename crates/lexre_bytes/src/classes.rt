@@ -29,7 +29,7 @@ fn is_word(name: &[u8], word: &str) -> bool
 
 impl Class {
     /// The class of this name, where there is one.
-    #[tactic(auto, unfolding(lex_semantics::specs::ByteSets::named_set))]
+    #[tactic(auto, unfolding(lex_semantics::specs::ByteSets::named_set, lex_semantics::specs::ByteSets::is_upper, lex_semantics::specs::ByteSets::is_lower, lex_semantics::specs::ByteSets::is_space, lex_semantics::specs::ByteSets::is_cntrl, lex_semantics::specs::ByteSets::is_graph, lex_semantics::specs::ByteSets::is_print, lex_semantics::specs::ByteSets::is_punct))]
     pub fn named(name: &[u8]) -> Option<Class>
         ensures { named_set name.now ≡ option_map (λ c. set_of (test_of c)) result }
     {

@@ -5,6 +5,7 @@ use Rattle.std.proofs.lemmas.Bool.{and_parts, and_from, eq-eqb, eqb-true, leb-tr
 use Rattle.lex_semantics.specs.Shapes.{Language, LongestIs, HasLengths, IsSoundTree}
 use Rattle.lex_semantics.specs.Tree.{Tree, In}
 use Rattle.lex_semantics.specs.Spec.{Cut, Whole, Head, Trail}
+use Rattle.lex_semantics.proofs.Cuts.{fixed_lengths, lengths_fixed}
 use Rattle.lexre.specs.Lengths.{least, greatest}
 use Rattle.lexre.proofs.LengthLaws.{has_lengths}
 use Rattle.lex_semantics.specs.Sound.{HasFixed, IsCutOf}
@@ -30,11 +31,12 @@ one_longest L (Some m) (Some n) a b =
 
 -- a fixed length passes the test
 fixed_is_tested : (t : Tree) (n : ℕ) → IsSoundTree t → HasFixed t n → has_fixed t n ≡ true
-fixed_is_tested t n sound (fixed, few) =
+fixed_is_tested t n sound h =
+    let fixed = fixed_lengths t n h in
     let all = has_lengths t sound in
     let low : least t ≡ n = one_least (In t) (least t) n (greatest t) (Some n) all fixed in
     let high : greatest t ≡ Some n = one_longest (In t) (greatest t) (Some n) all.longest fixed.longest in
-    and_from (has_length t n) (nat_le n max_fixed_length) (and_from (least t == n) (is_number (greatest t) n) (eq-eqb (least t) n low) (ap (λ g. is_number g n) high ∙ eq-eqb n n refl)) (le_true n max_fixed_length few)
+    and_from (has_length t n) (nat_le n max_fixed_length) (and_from (least t == n) (is_number (greatest t) n) (eq-eqb (least t) n low) (ap (λ g. is_number g n) high ∙ eq-eqb n n refl)) (le_true n max_fixed_length h.2)
   where
     le_true : (a b : ℕ) → a ≤ b → nat_le a b ≡ true
     le_true a b h = search rules
@@ -44,7 +46,7 @@ pub test_is_fixed : (t : Tree) (n : ℕ) → IsSoundTree t → has_fixed t n ≡
 test_is_fixed t n sound h =
     let both = and_parts (has_length t n) (nat_le n max_fixed_length) h in
     let ends = and_parts (least t == n) (is_number (greatest t) n) both.0 in
-    (from (greatest t) (eqb-true (least t) n ends.0) ends.1 (has_lengths t sound), leb-true n max_fixed_length both.1)
+    lengths_fixed t n (from (greatest t) (eqb-true (least t) n ends.0) ends.1 (has_lengths t sound)) (leb-true n max_fixed_length both.1)
   where
     from : (g : Option ℕ) → least t ≡ n → is_number g n ≡ true → HasLengths (In t) (least t) g → HasLengths (In t) n (Some n)
     from None low high has = absurd (no high)

@@ -6,6 +6,7 @@ use Rattle.lex_semantics.specs.Shapes.{LongestIs, HasLengths, IsSoundTree, AreSo
 use Rattle.lex_semantics.specs.Tree.{Tree, Trees, Cat, Alt, Star, Repeat, no_trees, tree, trees, In}
 use Rattle.lexre.specs.Lengths.{plus, larger, lesser, unbounded, least, least_of_each, least_of_some, greatest, greatest_of_each, greatest_of_some}
 use Rattle.lexre.proofs.LengthLaws.{has_lengths}
+use Rattle.lex_semantics.proofs.Cuts.{fixed_lengths, lengths_fixed}
 use Rattle.lex_semantics.specs.Sound.{HasFixed}
 use Rattle.lexspec.specs.Fixed.{HasOne, JoinHasOne, AllHaveOne, TellsLength}
 use Rattle.lexspec.proofs.CutLaws.{one_least, one_longest}
@@ -214,10 +215,12 @@ module _ (all : Trees) (t : Tree) (ts : Trees) (found : Option ℕ)
 
 pub one_is_fixed : (t : Tree) → IsSoundTree t → (r : Option ℕ) → TellsLength (HasOne t) r → IfSome r (λ n. HasFixed t n)
 one_is_fixed t sound None h = tt
-one_is_fixed t sound (Some n) ((l, g), few) = (subst (λ z. HasLengths (In t) n z) g (subst (λ z. HasLengths (In t) z (greatest t)) l (has_lengths t sound)), few)
+one_is_fixed t sound (Some n) ((l, g), few) =
+    lengths_fixed t n (subst (λ z. HasLengths (In t) n z) g (subst (λ z. HasLengths (In t) z (greatest t)) l (has_lengths t sound))) few
 
 pub none_is_fixed : (t : Tree) → IsSoundTree t → (r : Option ℕ) → TellsLength (HasOne t) r → IfNone r ((n : ℕ) → HasFixed t n → ⊥)
 none_is_fixed t sound (Some n) h = tt
-none_is_fixed t sound None none = λ n (fixed, few).
+none_is_fixed t sound None none = λ n h.
+    let fixed = fixed_lengths t n h in
     let all = has_lengths t sound in
-    none n (one_least (In t) (least t) n (greatest t) (Some n) all fixed, one_longest (In t) (greatest t) (Some n) all.longest fixed.longest) few
+    none n (one_least (In t) (least t) n (greatest t) (Some n) all fixed, one_longest (In t) (greatest t) (Some n) all.longest fixed.longest) h.2

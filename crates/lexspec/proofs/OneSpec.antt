@@ -3,7 +3,6 @@ use Rattle.std.proofs.Common.{◌≡◌, ℕ, ◌+◌, ◌-◌, ◌≤◌, Bool,
 use Rattle.std.specs.Prelude.{codes}
 use Rattle.std.specs.FinMap.{from_entries}
 use Rattle.lex_semantics.specs.Tree.{Tree, In}
-use Rattle.lex_semantics.specs.Shapes.{Language, HasLengths}
 use Rattle.lex_semantics.specs.Spec.{Spec, EndAction, Statement, Cut, Whole, Head, Trail, Rule}
 use Rattle.lexre.specs.Definitions.{Definitions}
 use Rattle.lexre.specs.Spelling.{Spells}
@@ -27,14 +26,8 @@ use Rattle.lexre.specs.declared.options.ReadOptions.{ReadOptions}
 
 -- lengths are determined
 
-one_least : (L : Language) (m n : ℕ) (g h : Option ℕ) → HasLengths L m g → HasLengths L n h → m ≡ n
-one_least L m n g h a b =
-    let low : n ≤ length a.shortest.0 = b.none_shorter a.shortest.0 a.shortest.1 in
-    let high : m ≤ length b.shortest.0 = a.none_shorter b.shortest.0 b.shortest.1 in
-    omega (arith, a.shortest.2, b.shortest.2)
-
 one_fixed : (t : Tree) (m n : ℕ) → HasFixed t m → HasFixed t n → m ≡ n
-one_fixed t m n h k = one_least (In t) m n (Some m) (Some n) h.0 k.0
+one_fixed t m n h k = sym (h.1 h.0.0 h.0.1) ∙ k.1 h.0.0 h.0.1
 
 one_cut : (head : Tree) (trail : Option Tree) (a b : Cut) → IsCutOf head trail a → IsCutOf head trail b → a ≡ b
 one_cut head None a b h k = h ∙ sym k
