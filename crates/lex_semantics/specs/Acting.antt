@@ -25,13 +25,16 @@ pub data ActionResult : Type 0 where
   Again : Acting → ActionResult
   Over : Acting → Ending → ActionResult
 
+-- The stack has room for 255 conditions. (flex, Start Conditions, has no bound; this one is own.)
+abbrev pub has_room : List ℕ → Bool
+has_room cs = nat_lt (length cs) max_stack
+
 -- goes on with the condition that is taken from the stack, and with what is left there
 abbrev pub popped : List ℕ → Acting → (ℕ → List ℕ → ActionResult) → ActionResult
 popped [] a next = Over a StackFault
 popped (c ∷ cs) a next = next c cs
 
--- The statements of an action, from the first on. The stack has room for 255 conditions. (flex, Start Conditions, has no
--- bound; this one is own.)
+-- the statements of an action, from the first on
 abbrev pub act : List Statement → Acting → ActionResult
 act [] a = Done a
 act (Echo ∷ ss) a = act ss (record a { written = a.written ++ a.text })
@@ -41,8 +44,7 @@ act (More ∷ ss) a = act ss (record a { more = true })
 act (Less n ∷ ss) a = act ss (record a { text = take n a.text })
 act (Reject ∷ ss) a = Again a
 act (End s ∷ ss) a = Over a (Status s)
-act (Push d ∷ ss) a =
-    if nat_lt (length a.stack) max_stack then act ss (record a { condition = d; stack = a.condition ∷ a.stack }) else Over a StackFault
+act (Push d ∷ ss) a = if has_room a.stack then act ss (record a { condition = d; stack = a.condition ∷ a.stack }) else Over a StackFault
 act (Pop ∷ ss) a = popped a.stack a (λ c cs. act ss (record a { condition = c; stack = cs }))
 
 -- the outcome of a match: how its actions leave the scan, and how the scan ends, if it does
@@ -63,7 +65,3 @@ perform R kept y [] written condition stack = None
 perform R kept y (m ∷ ms) written condition stack =
     settle (act (statements_of R m.rule) (record { text = kept ++ take m.keep y; written = written; condition = condition; stack = stack; more = false }))
     (λ a. perform R kept y ms a.written a.condition a.stack)
-
--- A name that the code has for the test of a push.
-abbrev pub has_room : List ℕ → Bool
-has_room cs = nat_lt (length cs) max_stack

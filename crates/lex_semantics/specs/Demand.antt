@@ -6,7 +6,8 @@ use Rattle.lex_semantics.specs.Rules.{Rules}
 use Rattle.lex_semantics.specs.Acting.{Ending}
 use Rattle.lex_semantics.specs.Run.{Place, State, Turns}
 
--- A match at a place asks for the byte i bytes on: the first one, and each one after bytes that a longer match might begin with.
+-- A match at a place asks for byte i from there: the first one, and each one after bytes that a longer match might begin
+-- with.
 abbrev pub AsksAt : Rules → List ℕ → Place → ℕ → Type 0
 AsksAt R x p i = (i ≡ 0) ⊎ R.live p.condition (at_line_start x p.at) (take i (drop p.at x))
 

@@ -26,7 +26,8 @@ ReadsRule r base rs =
 -- a reading of an active rule, whose positions come after those of the rules before it
 abbrev pub ReadsActive : Spec → ℕ → Bool → Readings
 ReadsActive S c line_start rs =
-    (i : ℕ) × (r : Rule) × (slice_get S.rules i ≡ Some r) × (active S c line_start r ≡ true) × ReadsRule r (all_positions (take i S.rules)) rs
+    (i : ℕ) × (r : Rule) × (slice_get S.rules i ≡ Some r) × (active S c line_start r ≡ true)
+    × ReadsRule r (all_positions (take i S.rules)) rs
 
 -- the last byte is read at p
 abbrev pub EndsAt : ℕ → Readings
