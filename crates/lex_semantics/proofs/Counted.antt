@@ -201,26 +201,26 @@ never_unchosen Q (c ∷ cs) none =
 
 never_no_starts : (S : Spec) → ((ls : List (List ℕ)) → AreStarts S ls → ⊥) → ⊥
 never_no_starts S none =
-    never_unchosen (λ l. (c : ℕ) × (line_start : Bool) × (c < length S.conditions) × (1 ≤ length l) × ListsSet l (IsActive S c line_start)) (lists_from 0 (length S.rules))
+    never_unchosen (λ l. (1 ≤ length l) × ((c : ℕ) × (line_start : Bool) × (c < length S.conditions) × ListsSet l (IsActive S c line_start))) (lists_from 0 (length S.rules))
     (λ ls distinct is. none ls (record {
       distinct = distinct;
       listed = λ l. (
         λ a. ((is l).0 a).1,
-        λ (c, line_start, lt, some, set). (is l).1 (all_listed (length S.rules) 0 l set.0 (λ i a. (let on = (set.1 i).0 a in let below : i < length S.rules = rule_there S.rules i on.0 on.1 in (omega arith, omega (arith, below)))), (c, line_start, lt, some, set)),
+        λ (some, (c, line_start, lt, set)). (is l).1 (all_listed (length S.rules) 0 l set.0 (λ i a. (let on = (set.1 i).0 a in let below : i < length S.rules = rule_there S.rules i on.0 on.1 in (omega arith, omega (arith, below)))), (some, (c, line_start, lt, set))),
       );
     }))
 
 never_no_lasts : (S : Spec) → ((ls : List (List ℕ)) → AreLasts S ls → ⊥) → ⊥
 never_no_lasts S none =
     never_unchosen
-    (λ l. (c : ℕ) × (line_start : Bool) × (w : List ℕ) × (c < length S.conditions) × IsText w × (1 ≤ length w) × (1 ≤ length l) × ListsSet l (IsLast (ReadsActive S c line_start) w))
+    (λ l. (1 ≤ length l) × ((c : ℕ) × (line_start : Bool) × (w : List ℕ) × (c < length S.conditions) × IsText w × (1 ≤ length w) × ListsSet l (IsLast (ReadsActive S c line_start) w)))
     (lists_from 0 (all_positions S.rules))
     (λ ls distinct is. none ls (record {
       distinct = distinct;
       listed = λ l. (
         λ a. ((is l).0 a).1,
-        λ (c, line_start, w, lt, text, some, more, set).
-            (is l).1 (all_listed (all_positions S.rules) 0 l set.0 (λ p a. (let below : p < all_positions S.rules = last_below S c line_start w p ((set.1 p).0 a) in (omega arith, omega (arith, below)))), (c, line_start, w, lt, text, some, more, set)),
+        λ (more, (c, line_start, w, lt, text, some, set)).
+            (is l).1 (all_listed (all_positions S.rules) 0 l set.0 (λ p a. (let below : p < all_positions S.rules = last_below S c line_start w p ((set.1 p).0 a) in (omega arith, omega (arith, below)))), (more, (c, line_start, w, lt, text, some, set))),
       );
     }))
 

@@ -47,29 +47,24 @@ IsActive S c line_start i = (r : Rule) × (slice_get S.rules i ≡ Some r) × (a
 abbrev pub ListsSet : List ℕ → (ℕ → Type 0) → Type 0
 ListsSet l P = Pairwise ◌<◌ l × ((i : ℕ) → Among l i ↔ P i)
 
--- the sets of active rules that are not empty, each once
-pub record AreStarts (S : Spec) (ls : List (List ℕ)) : Type 0 where
+-- the lists of this kind that are not empty, each once
+pub record AreAll (Kind : List ℕ → Type 0) (ls : List (List ℕ)) : Type 0 where
   pub distinct : Pairwise ◌≢◌ ls
-  pub listed : (l : List ℕ) → Among ls l ↔
-      ((c : ℕ) × (line_start : Bool) × (c < length S.conditions) × (1 ≤ length l) × ListsSet l (IsActive S c line_start))
+  pub listed : (l : List ℕ) → Among ls l ↔ ((1 ≤ length l) × Kind l)
 
--- the sets of last positions that are not empty, each once
-pub record AreLasts (S : Spec) (ls : List (List ℕ)) : Type 0 where
-  pub distinct : Pairwise ◌≢◌ ls
-  pub listed : (l : List ℕ) → Among ls l ↔
-      ((c : ℕ) × (line_start : Bool) × (w : List ℕ) × (c < length S.conditions) × IsText w × (1 ≤ length w)
-      × (1 ≤ length l) × ListsSet l (IsLast (ReadsActive S c line_start) w))
-
--- how many states there are before minimising: the dead one, one for each start, and one for each set of last positions
+-- how many states there are before minimising: the dead one, one for each set of active rules that is not empty, and one for
+-- each set of last positions of a word that is not empty
 pub record Subsets (S : Spec) (n : ℕ) : Type 0 where
   pub starts : List (List ℕ)
   pub lasts : List (List ℕ)
-  pub are_starts : AreStarts S starts
-  pub are_lasts : AreLasts S lasts
+  pub are_starts : AreAll (λ l. (c : ℕ) × (line_start : Bool) × (c < length S.conditions)
+      × ListsSet l (IsActive S c line_start)) starts
+  pub are_lasts : AreAll (λ l. (c : ℕ) × (line_start : Bool) × (w : List ℕ) × (c < length S.conditions) × IsText w
+      × (1 ≤ length w) × ListsSet l (IsLast (ReadsActive S c line_start) w)) lasts
   pub total : n ≡ 1 + length starts + length lasts
 
 -- Names that proofs have for where the positions of rule i begin, when those of the first of these rules begin at `base`,
--- and for the side of the trail.
+-- for the side of the trail, and for the lists of subsets.
 
 abbrev pub base_of : List Rule → ℕ → ℕ → ℕ
 base_of [] base i = base
@@ -85,3 +80,11 @@ ReadsTrail trail base rs = MatchOption trail (rs ≡ []) (λ t. Reads t base rs)
 -- A name that proofs have for lists none of which comes twice.
 abbrev pub Distinct : List (List ℕ) → Type 0
 Distinct ls = Pairwise ◌≢◌ ls
+
+abbrev pub AreStarts : Spec → List (List ℕ) → Type 0
+AreStarts S ls = AreAll (λ l. (c : ℕ) × (line_start : Bool) × (c < length S.conditions) × ListsSet l (IsActive S c line_start)) ls
+
+abbrev pub AreLasts : Spec → List (List ℕ) → Type 0
+AreLasts S ls =
+    AreAll (λ l. (c : ℕ) × (line_start : Bool) × (w : List ℕ) × (c < length S.conditions) × IsText w
+    × (1 ≤ length w) × ListsSet l (IsLast (ReadsActive S c line_start) w)) ls

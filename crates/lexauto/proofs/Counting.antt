@@ -241,8 +241,8 @@ module _ (S : Spec) where
     are_starts = record {
       distinct = starts_distinct keys s.automaton.apart;
       listed = λ l. (
-        λ a. let (i, at) = among_starts keys l a in start_only l (shape_at i (0 ∷ l) at),
-        λ (c, line_start, lt, some, lists).
+        λ a. let (i, at) = among_starts keys l a in let (c, line_start, lt, some, set) = start_only l (shape_at i (0 ∷ l) at) in (some, (c, line_start, lt, set)),
+        λ (some, (c, line_start, lt, lists)).
             let own = listed (is_active S c line_start) 0 (length S.rules) in
             let same : own ≡ l = same_set (IsActive S c line_start) own l (start_lists S c line_start) lists in
             let (i, at) = start_there c line_start lt in
@@ -266,8 +266,8 @@ module _ (S : Spec) where
     are_lasts = record {
       distinct = lasts_distinct keys kinds s.automaton.apart;
       listed = λ l. (
-        λ a. let (i, at) = among_lasts keys kinds l a in last_only l (shape_at i (1 ∷ l) at),
-        λ (c, line_start, w, lt, text, word, some, lists). last_there c line_start w l lt text word lists some,
+        λ a. let (i, at) = among_lasts keys kinds l a in let (c, line_start, w, lt, text, word, some, set) = last_only l (shape_at i (1 ∷ l) at) in (some, (c, line_start, w, lt, text, word, set)),
+        λ (some, (c, line_start, w, lt, text, word, lists)). last_there c line_start w l lt text word lists some,
       );
     }
 
@@ -329,10 +329,10 @@ too_many_subsets S limit n (ks, many, apart, shapes) s =
     from k (inl e) = inl e
     from k (inr (inl (l, e, some, (c, line_start, lt, h)))) =
         inr (subst (λ (q : Key). Among (map (λ l. 0 ∷ l) s.starts ++ map (λ l. 1 ∷ l) s.lasts) q) (sym e)
-        (among_left (map (λ l. 0 ∷ l) s.starts) (map (λ l. 1 ∷ l) s.lasts) (0 ∷ l) (among_map (λ l. 0 ∷ l) s.starts l ((s.are_starts.listed l).1 (c, line_start, lt, some, h)))))
+        (among_left (map (λ l. 0 ∷ l) s.starts) (map (λ l. 1 ∷ l) s.lasts) (0 ∷ l) (among_map (λ l. 0 ∷ l) s.starts l ((s.are_starts.listed l).1 (some, (c, line_start, lt, h))))))
     from k (inr (inr (l, e, some, (c, line_start, w, lt, text, word, h)))) =
         inr (subst (λ (q : Key). Among (map (λ l. 0 ∷ l) s.starts ++ map (λ l. 1 ∷ l) s.lasts) q) (sym e)
-        (among_right (map (λ l. 0 ∷ l) s.starts) (map (λ l. 1 ∷ l) s.lasts) (1 ∷ l) (among_map (λ l. 1 ∷ l) s.lasts l ((s.are_lasts.listed l).1 (c, line_start, w, lt, text, word, some, h)))))
+        (among_right (map (λ l. 0 ∷ l) s.starts) (map (λ l. 1 ∷ l) s.lasts) (1 ∷ l) (among_map (λ l. 1 ∷ l) s.lasts l ((s.are_lasts.listed l).1 (some, (c, line_start, w, lt, text, word, h))))))
 
 -- There is one count of subsets.
 

@@ -120,8 +120,8 @@ module _ (S T : Spec) (count : length S.conditions ≡ length T.conditions)
   starts_alike ls a = record {
     distinct = a.distinct;
     listed = λ l. (
-      λ m. (let r = (a.listed l).0 m in let low = r.2 in (r.0, r.1, (omega (arith, low, count)), r.3, lists_alike l (IsActive S r.0 r.1) (IsActive T r.0 r.1) (active_is r.0 r.1) r.4)),
-      λ (c, line, low, some, set). (a.listed l).1 (c, line, (omega (arith, low, count)), some, lists_alike l (IsActive T c line) (IsActive S c line) (λ i. swap (active_is c line i)) set),
+      λ m. (let r = (a.listed l).0 m in let q = r.1 in let low = q.2 in (r.0, (q.0, q.1, (omega (arith, low, count)), lists_alike l (IsActive S q.0 q.1) (IsActive T q.0 q.1) (active_is q.0 q.1) q.3))),
+      λ (some, (c, line, low, set)). (a.listed l).1 (some, (c, line, (omega (arith, low, count)), lists_alike l (IsActive T c line) (IsActive S c line) (λ i. swap (active_is c line i)) set)),
     );
   }
 
@@ -132,9 +132,9 @@ module _ (S T : Spec) (count : length S.conditions ≡ length T.conditions)
   lasts_alike ls a = record {
     distinct = a.distinct;
     listed = λ l. (
-      λ m. (let r = (a.listed l).0 m in let low = r.3 in (r.0, r.1, r.2, (omega (arith, low, count)), r.4, r.5, r.6, lists_alike l (IsLast (ReadsActive S r.0 r.1) r.2) (IsLast (ReadsActive T r.0 r.1) r.2) (lasts_are r.0 r.1 r.2) r.7)),
-      λ (c, line, w, low, text, more, some, set).
-          (a.listed l).1 (c, line, w, (omega (arith, low, count)), text, more, some, lists_alike l (IsLast (ReadsActive T c line) w) (IsLast (ReadsActive S c line) w) (λ p. swap (lasts_are c line w p)) set),
+      λ m. (let r = (a.listed l).0 m in let q = r.1 in let low = q.3 in (r.0, (q.0, q.1, q.2, (omega (arith, low, count)), q.4, q.5, lists_alike l (IsLast (ReadsActive S q.0 q.1) q.2) (IsLast (ReadsActive T q.0 q.1) q.2) (lasts_are q.0 q.1 q.2) q.6))),
+      λ (some, (c, line, w, low, text, more, set)).
+          (a.listed l).1 (some, (c, line, w, (omega (arith, low, count)), text, more, lists_alike l (IsLast (ReadsActive T c line) w) (IsLast (ReadsActive S c line) w) (λ p. swap (lasts_are c line w p)) set)),
     );
   }
 
