@@ -52,8 +52,8 @@ pub record AreAll (Kind : List ℕ → Type 0) (ls : List (List ℕ)) : Type 0 w
   pub distinct : Pairwise ◌≢◌ ls
   pub listed : (l : List ℕ) → Among ls l ↔ ((1 ≤ length l) × Kind l)
 
--- how many states there are before minimising: the dead one, one for each set of active rules that is not empty, and one for
--- each set of last positions of a word that is not empty
+-- how many states there are before minimising: the dead one, one for each set of active rules, and one for each set of last
+-- positions of a word that is not empty, where the empty sets are left out
 pub record Subsets (S : Spec) (n : ℕ) : Type 0 where
   pub starts : List (List ℕ)
   pub lasts : List (List ℕ)
@@ -77,7 +77,6 @@ positions_of_trail trail = option_map_or positions trail 0
 abbrev pub ReadsTrail : Option Tree → ℕ → Readings
 ReadsTrail trail base rs = MatchOption trail (rs ≡ []) (λ t. Reads t base rs)
 
--- A name that proofs have for lists none of which comes twice.
 abbrev pub Distinct : List (List ℕ) → Type 0
 Distinct ls = Pairwise ◌≢◌ ls
 
