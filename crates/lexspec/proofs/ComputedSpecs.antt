@@ -56,7 +56,7 @@ digit_named : get named (codes "D") ≡ Some (codes "[0-9]")
 digit_named = get-from_entries nat_list_cmp_total ((codes "D", codes "[0-9]") ∷ []) (codes "D")
 
 digit_spelled : SpellsWithin false (symbol_at false) (get named) 63 (codes "[0-9]") digit
-unfolding after_word escape_at literal_byte_at class_name_at enclosed_by bracketed_at is_range range_at element_at elements_at class_at span union_set class_set symbol_at has set_below set_of empty_set range_set union is_alpha is_digit is_alnum take_up_to
+unfolding after_word run_at number_at name_at escape_at literal_byte_at class_name_at enclosed_by bracketed_at is_range range_at element_at elements_at class_at span union_set class_set symbol_at has set_below set_of empty_set range_set union is_alpha is_digit is_alnum take_up_to
 digit_spelled = runs_spelled false (symbol_at false) (get named) 63 (codes "[0-9]") digit (found_runs false false (get named) 20 (state fresh [] 63) (codes "[0-9]") digit refl)
 
 -- the name, and then the sign
