@@ -114,7 +114,7 @@ name_from t = let (letters, rest) = take_run goes_on_name t in after_word (codes
 abbrev name_is : List ℕ → Found
 name_is t = name_at t >>= λ (letters, rest). after_word (codes "}") rest >>= λ after. Some (name letters, after)
 
-digit_no_name : (c : ℕ) → list_any is_digit (c ∷ []) ≡ true → list_any starts_name (c ∷ []) ≡ false
+pub digit_no_name : (c : ℕ) → list_any is_digit (c ∷ []) ≡ true → list_any starts_name (c ∷ []) ≡ false
 unfolding is_digit is_alpha is_upper is_lower
 digit_no_name c h = grind (arith, nat_tests)
 
