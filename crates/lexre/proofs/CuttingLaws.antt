@@ -1,5 +1,5 @@
 -- The reader of a rule's pattern, against whole texts.
-use Rattle.std.proofs.Common.{◌≡◌, ℕ, zero, suc, ◌+◌, ◌-◌, ◌<◌, ◌≤◌, Bool, true, false, List, [], ◌∷◌, length, Option, Some, None, refl, sym, ap, ◌∙◌, subst, arith}
+use Rattle.std.proofs.Common.{◌≡◌, ℕ, zero, suc, ◌+◌, ◌-◌, ◌≤◌, Bool, true, false, List, [], ◌∷◌, length, Option, Some, None, refl, sym, ap, ◌∙◌, subst, arith}
 use Rattle.lex_semantics.specs.Reading.{◌>>=◌}
 use Rattle.lexre.specs.Cutting.{piece_at, IsCutting}
 use Rattle.lexre.specs.Pieces.{Piece, opens, closes, slash, dollar, other, kind_at, slashes, ends_with_dollar, is_dollar, first_of, has_two, IsEnd, IsPieces, IsCutSo}
@@ -77,12 +77,6 @@ unfolding ending
 past_second (suc n) first f two was at ps outside some = absurd (omega arith)
 past_second zero None f two was at ps outside some = let e : None ≡ Some f = some in cc
 past_second zero (Some g) f two was at ps outside some = slash_outside (Some g) two was at ps ∙ made_second two (special_with false ps) at g (slashes 0 ps)
-
-pub past_inside : (n : ℕ) (first : Option ℕ) (two was : Bool) (at : ℕ) (ps : List (Piece × ℕ)) → 0 < n
-    → ◌≡◌ {A = Ending} (ending (record { depth = n; slash = first; two = two; dollar = was }) ((slash, at) ∷ ps)) None
-unfolding ending slashes
-past_inside zero first two was at ps inside = absurd (omega arith)
-past_inside (suc n) first two was at ps inside = refl
 
 -- What the rest makes together with what was read.
 

@@ -94,9 +94,6 @@ module _ (posix : Bool) (symbol_at : Lexer) (defined : List ℕ → Option (List
   abbrev pub EndsWith : List ℕ → List ℕ → Type 0
   EndsWith text rest = (ss : List Symbol) → IsCut symbol_at text ss → (more : List Symbol) × IsCut symbol_at rest more × ((s : Symbol) → Among more s → Among ss s)
 
-  pub ends_itself : (text : List ℕ) → EndsWith text text
-  ends_itself text ss cut = (ss, cut, λ s among. among)
-
   module _ (none : symbol_at [] ≡ None) where
     -- a cut of a text begins with the symbol that begins the text
     cut_front : (rest after : List ℕ) (s : Symbol) (ss : List Symbol) → symbol_at rest ≡ Some (s, after) → IsCut symbol_at rest ss

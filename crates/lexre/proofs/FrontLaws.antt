@@ -2,12 +2,16 @@
 use Rattle.std.proofs.Common.{◌≡◌, ℕ, zero, suc, ◌<◌, ◌≤◌, Bool, true, false, not, ◌&&◌, ◌||◌, ◌==◌, nat_le, if◌then◌else◌, List, [], ◌∷◌, length, drop, length-drop, Option, Some, None, refl, ap, subst, arith}
 use Rattle.std.specs.Prelude.{codes, find, zip, take, option_map}
 use Rattle.std.specs.List.{list_any}
+use Rattle.std.specs.Option.{option_or}
+use Rattle.lex_semantics.specs.Active.{lists}
 use Rattle.lex_semantics.specs.ByteSets.{single, complement, is_alnum, is_digit}
 use Rattle.lex_semantics.specs.Tree.{Set}
 use Rattle.lex_semantics.specs.Reading.{◌>>=◌, begins, is_empty, starts_name, take_up_to, value}
-use Rattle.lexre_bytes.specs.Lexical.{after_word, bounded, braces_at, class_at, class_set, elements_at, element_at, escape_at, folded, interval_at, symbol_at, quoted_bytes, literal_byte_at}
+use Rattle.lexre_bytes.specs.Lexical.{after_word, braces_at, class_at, class_set, elements_at, element_at, escape_at, folded, symbol_at, quoted_bytes, literal_byte_at}
+use Rattle.lexre_bytes.specs.BraceSteps.{bounded, interval_at, braces_from}
+use Rattle.lexre_bytes.proofs.BraceForms.{braces_is}
 use Rattle.lexre_bytes.specs.Elements.{Element}
-use Rattle.lexre.specs.Fronts.{class_front, escape_front, quoted_front, name_at}
+use Rattle.lexre.specs.Fronts.{class_front, escape_front, quoted_front, name_front}
 use Rattle.lexre_bytes.specs.Quotes.{after_quotes}
 use Rattle.lexre_bytes.specs.Symbols.{Symbol, item, name, opening, closing, bar, sign, interval, any_times, once_or_more, at_most_once}
 use Rattle.lexre_bytes.proofs.PassingLaws.{quotes_shorter}
@@ -109,8 +113,8 @@ bounded_within m n k rest h = go (nat_le m n && nat_le 1 n && nat_le n 255)
     go true = h
     go false = tt
 
-name_within : (t : List ℕ) → IsUpTo (length t) (name_at t)
-unfolding name_at
+name_within : (t : List ℕ) → IsUpTo (length t) (name_front t)
+unfolding name_front
 name_within t =
     let run = take_up_to (length t) (λ c. is_alnum c || c == 95 || c == 45) t in
     word_within (codes "}") run.1 (length t) (λ after. name run.0) (take_up_to_within (length t) (λ c. is_alnum c || c == 95 || c == 45) t)
@@ -144,10 +148,10 @@ interval_within t =
     go false false false d e = tt
 
 braces_within : (t : List ℕ) → IsUpTo (length t) (braces_at t)
-unfolding braces_at name_at
-braces_within t = go (list_any is_digit (take 1 t)) (list_any starts_name (take 1 t))
+unfolding braces_from name_front
+braces_within t = rw (braces_is t) (go (list_any is_digit (take 1 t)) (list_any starts_name (take 1 t)))
   where
-    go : (a b : Bool) → IsUpTo (length t) (if a then interval_at t else if b then name_at t else None)
+    go : (a b : Bool) → IsUpTo (length t) (if a then interval_at t else if b then name_front t else None)
     go true b = interval_within t
     go false true = name_within t
     go false false = tt
@@ -156,7 +160,8 @@ braces_within t = go (list_any is_digit (take 1 t)) (list_any starts_name (take 
 
 symbol_within : (fold : Bool) (c : ℕ) (t : List ℕ) → IsUpTo (length t) (symbol_at fold (c ∷ t))
 unfolding symbol_at literal_byte_at
-symbol_within fold c t = go (find (λ (row : ℕ × Symbol). c == row.0) signs) (c == 34) (c == 91) (c == 123) (c == 47 || c == 32 || c == 9)
+symbol_within fold c t =
+    go (find (λ (row : ℕ × Symbol). c == row.0) signs) (lists (codes "\"") c) (lists (codes "[") c) (lists (codes "{") c) (lists (codes "/ \t") c)
   where
     signs : List (ℕ × Symbol)
     signs = zip (codes "()|*+?.") (opening ∷ closing ∷ bar ∷ sign any_times ∷ sign once_or_more ∷ sign at_most_once ∷ item (Set (complement (single 10))) ∷ [])
@@ -166,15 +171,12 @@ symbol_within fold c t = go (find (λ (row : ℕ × Symbol). c == row.0) signs) 
     byte false true = escape_front_within fold t
     byte false false = omega arith
 
-    go : (o : Option (ℕ × Symbol)) (p1 p2 p3 p4 : Bool) → IsUpTo {A = Symbol} (length t) (elim o [
-      | Some row ↦ Some (row.1, t)
-      | None ↦
-          if p1 then quoted_front fold t
-          else if p2 then class_front fold t
-          else if p3 then braces_at t
-          else if p4 then None
-          else (if c == 10 then None else if c == 92 then escape_at t else Some (c, t)) >>= λ (b, rest). Some (item (Set (folded fold (single b))), rest)
-    ])
+    go : (o : Option (ℕ × Symbol)) (p1 p2 p3 p4 : Bool) → IsUpTo {A = Symbol} (length t) (option_or (o >>= λ row. Some (row.1, t))
+        (if p1 then quoted_front fold t
+        else if p2 then class_front fold t
+        else if p3 then braces_at t
+        else if p4 then None
+        else (if c == 10 then None else if c == 92 then escape_at t else Some (c, t)) >>= λ (b, rest). Some (item (Set (folded fold (single b))), rest)))
     go (Some row) p1 p2 p3 p4 = omega arith
     go None true p2 p3 p4 = quoted_front_within fold t
     go None false true p3 p4 = class_front_within fold t

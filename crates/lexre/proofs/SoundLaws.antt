@@ -4,7 +4,7 @@ use Rattle.lex_semantics.specs.ByteSets.{has, set_of, single, complement}
 use Rattle.lex_semantics.specs.Shapes.{IsSoundTree, AreSoundTrees}
 use Rattle.lex_semantics.specs.Tree.{Tree, Set, Repeat, trees}
 use Rattle.lexre_bytes.specs.Lexical.{folded, quoted_tree}
-use Rattle.lexre.specs.Running.{series_tree, choice_tree, how_many, one_more, Frame, frame, fresh, State, state, pushed, onto_last, gathered, finished, step_of}
+use Rattle.lexre.specs.Running.{series_tree, choice_tree, how_many, one_more, Frame, frame, State, state, pushed, onto_last, gathered, finished, step_of}
 use Rattle.lexre.specs.Soundness.{IsSoundSymbol, IsSoundFrame, IsSoundState}
 use Rattle.lexre_bytes.specs.Symbols.{Symbol, Sign, item, name, opening, closing, bar, sign, interval, any_times, once_or_more, at_most_once, signed}
 use Rattle.lexre.proofs.GrammarLaws.{chosen}
@@ -83,6 +83,3 @@ sound_finished (state (frame done parts None k) outer d) tree sound e = cc
 sound_finished (state (frame done parts (Some t) k) (f ∷ fs) d) tree sound e = cc
 sound_finished (state (frame done parts (Some t) k) [] d) tree ((all, those, last), rest) e =
     subst IsSoundTree (some_is _ _ e) (sound_choice done _ all (sound_series parts t those last))
-
-pub sound_fresh : (d : ℕ) → IsSoundState (state fresh [] d)
-sound_fresh d = ((tt, tt, tt), tt)

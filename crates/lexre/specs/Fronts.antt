@@ -17,7 +17,7 @@ abbrev pub escape_front : Bool → Lexer
 escape_front fold t = escape_at t >>= λ (b, rest). Some (item (Set (folded fold (single b))), rest)
 
 -- at a letter or `_`: letters, digits, `_` and `-`, and `}`
-unfoldable pub name_at : Reader Symbol
-name_at t =
+unfoldable pub name_front : Reader Symbol
+name_front t =
     let (letters, rest) = take_run goes_on_name t in
     after_word (codes "}") rest >>= λ after. Some (name letters, after)

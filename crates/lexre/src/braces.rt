@@ -5,8 +5,9 @@ ghost use Rattle.lex_semantics.specs.ByteSets.{is_digit};
 ghost use Rattle.lexre.specs.Soundness.{IsSoundSymbol};
 ghost use Rattle.lexre.specs.SymbolViews.{Front, symbol_of};
 ghost use Rattle.lex_semantics.specs.Reading.{goes_on_name, take_up_to};
-ghost use Rattle.lexre_bytes.specs.Lexical.{bounded, braces_at, interval_at};
-ghost use Rattle.lexre.specs.Fronts.{name_at};
+ghost use Rattle.lexre_bytes.specs.BraceSteps.{bounded, interval_at};
+ghost use Rattle.lexre_bytes.specs.Lexical.{braces_at};
+ghost use Rattle.lexre.specs.Fronts.{name_front};
 ghost use Rattle.lexre_bytes.specs.Symbols.{interval, name};
 
 use crate::symbols::Symbol;
@@ -17,7 +18,7 @@ use lexre_bytes::{
 
 /// The letters of a name, after the opening brace, and what follows the closing one.
 pub(crate) fn name_at(text: &[u8]) -> Option<(&[u8], &[u8])>
-    ensures { ◌≡◌ {A = Front} (name_at text.now) (option_map (λ x. (name x.0.now, x.1.now)) result) }
+    ensures { ◌≡◌ {A = Front} (name_front text.now) (option_map (λ x. (name x.0.now, x.1.now)) result) }
 {
     let (letters, rest) = take_up_to(text.len(), |byte| goes_on_name(byte), text);
     let after = skip_word(b"}", rest)?;
@@ -52,7 +53,7 @@ fn digits_at(text: &[u8]) -> (&[u8], &[u8])
 }
 
 /// The two counts, where they are in order and the greatest is from 1 to 255.
-#[tactic(auto, unfolding(lexre_bytes::specs::Lexical::bounded))]
+#[tactic(auto, unfolding(lexre_bytes::specs::BraceSteps::bounded))]
 fn counts(least: u32, most: u32) -> Option<(u8, Option<u8>)>
     ensures front { (rest : List ℕ)
         → ◌≡◌ {A = Front} (bounded least most rest) (option_map (λ x. (interval x.0 x.1, rest)) result) }
@@ -68,7 +69,7 @@ fn counts(least: u32, most: u32) -> Option<(u8, Option<u8>)>
 
 /// What stands after an opening brace, and what follows the closing one. `braces` is the text from the opening brace
 /// on.
-#[tactic(auto, unfolding(lexre_bytes::specs::Lexical::braces_at, crate::specs::Fronts::name_at))]
+#[tactic(auto, using(lexre_bytes::proofs::BraceForms::braces_is), unfolding(lexre_bytes::specs::BraceSteps::braces_from, crate::specs::Fronts::name_front))]
 pub(crate) fn braces_at<'a>(
     braces: &'a [u8],
     text: &'a [u8],

@@ -1,13 +1,15 @@
 -- What stands between brackets is what it is step by step.
-use Rattle.std.proofs.Common.{◌≡◌, ℕ, true, List, length, drop, ◌++◌, Option, Some, None, refl, sym, ◌∙◌, subst}
+use Rattle.std.proofs.Common.{◌≡◌, ℕ, Bool, true, false, if◌then◌else◌, List, length, drop, ◌++◌, Option, Some, None, refl, sym, ◌∙◌, subst}
 use Rattle.std.proofs.lemmas.Slice.Eq.{starts_is}
 use Rattle.std.proofs.lemmas.Bool.Decides.{Decides-eqb}
 use Rattle.std.specs.Prelude.{codes}
 use Rattle.std.specs.Option.{option_or}
-use Rattle.lex_semantics.specs.Reading.{◌>>=◌}
-use Rattle.lexre_bytes.specs.Lexical.{after_word, class_name_at, enclosed_by, bracketed_at}
+use Rattle.lex_semantics.specs.ByteSets.{is_alpha}
+use Rattle.lex_semantics.specs.Reading.{◌>>=◌, is_empty, take_run}
+use Rattle.lexre_bytes.specs.Lexical.{after_word, run_at, class_name_at, enclosed_by, bracketed_at}
 use Rattle.lexre_bytes.specs.Elements.{Element, named, unsupported}
 use Rattle.lexre_bytes.specs.Brackets.{letters_at, named_at, enclosed_at, unsupported_at}
+use Rattle.lexre_bytes.proofs.BraceForms.{or_none}
 use Rattle.lexre_bytes.proofs.IntervalLaws.{begun}
 
 abbrev Found : Type 0
@@ -28,20 +30,29 @@ no_dot : (t u : List ℕ) → after_word (codes "[=") t ≡ Some u → after_wor
 unfolding after_word
 no_dot t u e = subst (λ z. after_word (codes "[.") z ≡ None) (sym (begins_so (codes "[=") t u e)) refl
 
-or_none : {A : Type 0} (o : Option A) → option_or o None ≡ o
-or_none None = refl
-or_none (Some x) = refl
+letters_is : (u : List ℕ) → ◌≡◌ {A = Letters} (run_at is_alpha u >>= λ (letters, rest). after_word (codes ":]") rest >>= λ after. Some (letters, after)) (letters_at u)
+unfolding run_at letters_at
+letters_is u = go (is_empty (take_run is_alpha u).0)
+  where
+    go : (b : Bool) → ◌≡◌ {A = Letters} ((if b then None else Some (take_run is_alpha u)) >>= λ (letters, rest). after_word (codes ":]") rest >>= λ after. Some (letters, after))
+        (if b then None else after_word (codes ":]") (take_run is_alpha u).1 >>= λ after. Some ((take_run is_alpha u).0, after))
+    go true = refl
+    go false = refl
+
+letters_after : (o : Option (List ℕ)) → ◌≡◌ {A = Letters} (o >>= λ u. run_at is_alpha u >>= λ (letters, rest). after_word (codes ":]") rest >>= λ after. Some (letters, after)) (o >>= letters_at)
+letters_after None = refl
+letters_after (Some u) = letters_is u
 
 named_form : (t : List ℕ) → ◌≡◌ {A = Letters} (class_name_at (codes "[:") t) (named_at t)
-unfolding class_name_at named_at letters_at
-named_form t = refl
+unfolding class_name_at named_at
+named_form t = letters_after (after_word (codes "[:") t)
 
 abbrev others : List ℕ → Option (List ℕ)
 others t = option_or (class_name_at (codes "[:^") t >>= λ (letters, rest). Some rest) (option_or (enclosed_by (codes "=") t) (enclosed_by (codes ".") t))
 
 negated_form : (t : List ℕ) → ◌≡◌ {A = Letters} (class_name_at (codes "[:^") t) (after_word (codes "[:^") t >>= letters_at)
-unfolding class_name_at letters_at
-negated_form t = refl
+unfolding class_name_at
+negated_form t = letters_after (after_word (codes "[:^") t)
 
 equivalence_form : (t : List ℕ) → enclosed_by (codes "=") t ≡ (after_word (codes "[=") t >>= enclosed_at 61)
 unfolding enclosed_by enclosed_at

@@ -1,11 +1,12 @@
 -- What stands between brackets inside a class.
-use Rattle.std.proofs.Common.{◌≡◌, ℕ, ◌<◌, ◌≤◌, Bool, true, false, not, ◌&&◌, ◌||◌, ◌==◌, nat_lt, nat_eq, if◌then◌else◌, List, [], ◌∷◌, length, Option, Some, None, refl, ap, ◌∙◌}
+use Rattle.std.proofs.Common.{◌≡◌, ℕ, ◌<◌, ◌≤◌, Bool, true, false, ◌&&◌, nat_lt, nat_eq, if◌then◌else◌, List, [], ◌∷◌, length, Option, Some, None, refl, ap, ◌∙◌}
 use Rattle.std.proofs.lemmas.Bool.{lt-ltb, le-ltb}
 use Rattle.std.specs.List.{ends_with}
 use Rattle.std.specs.Prelude.{codes}
 use Rattle.lex_semantics.specs.ByteSets.{is_alpha}
 use Rattle.lex_semantics.specs.Reading.{take_up_to, is_empty, ◌>>=◌}
 use Rattle.lexre_bytes.specs.Lexical.{after_word}
+use Rattle.lexre_bytes.specs.Stops.{inside}
 use Rattle.lexre_bytes.specs.Brackets.{letters_at, named_at, enclosed_at, unsupported_at}
 
 abbrev Cut : Type 0
@@ -31,7 +32,7 @@ unfolding named_at
 named_then t o e = ap (λ x. x >>= letters_at) e
 
 abbrev IsInside : List ℕ → List ℕ → List ℕ → Type 0
-IsInside t bytes rest = ◌≡◌ {A = List ℕ × List ℕ} (take_up_to (length t) (λ b. not (b == 93 || b == 10)) t) (bytes, rest)
+IsInside t bytes rest = ◌≡◌ {A = List ℕ × List ℕ} (take_up_to (length t) inside t) (bytes, rest)
 
 enclosed_from : (c : ℕ) (t bytes rest : List ℕ) → IsInside t bytes rest
     → enclosed_at c t ≡ (if nat_lt 1 (length bytes) && ends_with nat_eq bytes (c ∷ []) then after_word (codes "]") rest else None)

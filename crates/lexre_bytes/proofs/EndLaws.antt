@@ -5,6 +5,8 @@ use Rattle.std.specs.Prelude.{codes}
 use Rattle.lex_semantics.specs.ByteSets.{ByteSet, is_alpha, is_xdigit, within}
 use Rattle.lex_semantics.specs.Escapes.{simple_escape, octal_at, hexadecimal_at}
 use Rattle.lex_semantics.specs.Reading.{◌>>=◌, take_up_to, value, is_empty, begins}
+use Rattle.lexre_bytes.specs.EscapeSteps.{escape_from}
+use Rattle.lexre_bytes.proofs.EscapeForms.{escape_is}
 use Rattle.lexre_bytes.specs.Lexical.{span, after_word, escape_at, literal_byte_at, bracketed_at, is_range, range_at, element_at}
 use Rattle.lexre_bytes.specs.Elements.{Element}
 use Rattle.lexre_bytes.specs.Brackets.{letters_at, named_at, enclosed_at, unsupported_at}
@@ -166,9 +168,9 @@ or_itself c t None h = end_itself t
 or_itself c t (Some x) h = h
 
 escape_ends : (t : List ℕ) → Ends t (escape_at t)
-unfolding escape_at
-escape_ends [] = tt
-escape_ends (c ∷ t) = go (c == 10) (within 48 55 c) (c == 120)
+unfolding escape_from
+escape_ends [] = rw (escape_is []) tt
+escape_ends (c ∷ t) = rw (escape_is (c ∷ t)) (go (c == 10) (within 48 55 c) (c == 120))
   where
     go : (b d e : Bool) → Ends (c ∷ t) (if b then None else if d then octal_at (c ∷ t) else if e then Some (unwrap_or (hexadecimal_at t) (c, t)) else Some (simple_escape c, t))
     go true d e = tt
@@ -212,9 +214,6 @@ element_rest t rest e h = let P : Found → Type 0 = λ f. Ends t f in subst P h
 
 pub byte_rest : (t rest : List ℕ) (b : ℕ) → ◌≡◌ {A = Byte} (literal_byte_at t) (Some (b, rest)) → IsEnd t rest
 byte_rest t rest b h = let P : Byte → Type 0 = λ f. Ends t f in subst P h (byte_ends t)
-
-pub word_rest : (w t rest : List ℕ) → after_word w t ≡ Some rest → IsEnd t rest
-word_rest w t rest h = let P : Option (List ℕ) → Type 0 = λ f. RestEnds t f in subst P h (word_ends w t)
 
 -- Stops.
 

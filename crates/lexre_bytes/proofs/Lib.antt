@@ -1,4 +1,7 @@
 pub mod Narrowing
+pub mod SignLaws
+pub mod EscapeForms
+pub mod BraceForms
 pub mod RunLaws
 pub mod EscapeLaws
 pub mod FaultLaws

@@ -1,11 +1,12 @@
 -- Texts in quotes, and classes, passed over.
-use Rattle.std.proofs.Common.{◌≡◌, ℕ, zero, suc, ◌<◌, ◌≤◌, ◌==◌, Bool, true, false, not, ◌&&◌, ◌||◌, nat_lt, nat_eq, if◌then◌else◌, List, [], ◌∷◌, length, drop, Option, Some, None, refl, sym, ap, ◌∙◌, subst, arith, length-drop}
+use Rattle.std.proofs.Common.{◌≡◌, ℕ, zero, suc, ◌<◌, ◌≤◌, ◌==◌, Bool, true, false, not, ◌&&◌, nat_lt, nat_eq, if◌then◌else◌, List, [], ◌∷◌, length, drop, Option, Some, None, refl, sym, ap, ◌∙◌, subst, arith, length-drop}
 use Rattle.std.proofs.lemmas.Bool.{ne_eqb}
 use Rattle.std.specs.Prelude.{codes, option_map}
 use Rattle.std.specs.List.{ends_with}
 use Rattle.lex_semantics.specs.Escapes.{until_quote}
 use Rattle.lex_semantics.specs.ByteSets.{is_alpha}
 use Rattle.lex_semantics.specs.Reading.{◌>>=◌, take_up_to, take_run, is_empty, begins}
+use Rattle.lexre_bytes.specs.Stops.{inside}
 use Rattle.lexre_bytes.specs.Lexical.{after_word, escape_at, span, literal_byte_at, class_name_at, enclosed_by, bracketed_at, is_range, range_at, element_at, elements_at, class_at}
 use Rattle.lexre_bytes.specs.Elements.{Element, named, unsupported}
 use Rattle.lexre_bytes.specs.Quotes.{quoted_at, after_quotes}
@@ -73,8 +74,8 @@ named_below t = go (after_word (codes "[:") t) (word_below (length t) 91 (58 ∷
 enclosed_below : (n c : ℕ) (t : List ℕ) → length t < n → IsBelow n (enclosed_at c t)
 unfolding enclosed_at
 enclosed_below n c t within =
-    let run = take_run (λ b. not (b == 93 || b == 10)) t in
-    let h = run_within (length t) (λ b. not (b == 93 || b == 10)) t in
+    let run = take_run inside t in
+    let h = run_within (length t) inside t in
     go (nat_lt 1 (length run.0) && ends_with nat_eq run.0 (c ∷ [])) (after_word (codes "]") run.1) (word_below n 93 [] run.1 (omega arith))
   where
     go : (b : Bool) (o : Option (List ℕ)) → IsBelow n o → IsBelow n (if b then o else None)

@@ -5,6 +5,8 @@ use Rattle.std.proofs.lemmas.Bool.Decides.{nat_tests}
 use Rattle.lex_semantics.specs.ByteSets.{within, is_xdigit}
 use Rattle.lex_semantics.specs.Escapes.{octal_at, hexadecimal_at, simple_escape, until_quote}
 use Rattle.lex_semantics.specs.Reading.{take_up_to, value, is_empty, ◌>>=◌}
+use Rattle.lexre_bytes.specs.EscapeSteps.{escape_from}
+use Rattle.lexre_bytes.proofs.EscapeForms.{escape_is}
 use Rattle.lexre_bytes.specs.Lexical.{escape_at, literal_byte_at}
 use Rattle.lexre_bytes.specs.Quotes.{quoted_at, after_quotes}
 
@@ -59,9 +61,9 @@ or_itself c t None h = omega arith
 or_itself c t (Some x) h = omega (arith, h)
 
 shorter : (t : List ℕ) → IsShorter (length t) (escape_at t)
-unfolding escape_at
-shorter [] = tt
-shorter (c ∷ t) = go (c == 10) (within 48 55 c) (c == 120) refl
+unfolding escape_from
+shorter [] = rw (escape_is []) tt
+shorter (c ∷ t) = rw (escape_is (c ∷ t)) (go (c == 10) (within 48 55 c) (c == 120) refl)
   where
     go : (b d e : Bool) → within 48 55 c ≡ d
         → IsShorter (length (c ∷ t)) (if b then None else if d then octal_at (c ∷ t) else if e then Some (unwrap_or (hexadecimal_at t) (c, t)) else Some (simple_escape c, t))

@@ -1,9 +1,10 @@
 -- An element of a class takes at least a byte.
-use Rattle.std.proofs.Common.{◌≡◌, ℕ, suc, ◌<◌, ◌≤◌, Bool, true, false, not, ◌&&◌, ◌||◌, ◌==◌, nat_lt, nat_eq, if◌then◌else◌, List, [], ◌∷◌, length, drop, length-drop, Option, Some, None, refl, subst, arith, ◌∙◌}
+use Rattle.std.proofs.Common.{◌≡◌, ℕ, suc, ◌<◌, ◌≤◌, Bool, true, false, ◌&&◌, ◌==◌, nat_lt, nat_eq, if◌then◌else◌, List, [], ◌∷◌, length, drop, length-drop, Option, Some, None, refl, subst, arith, ◌∙◌}
 use Rattle.std.specs.List.{ends_with}
 use Rattle.std.specs.Prelude.{codes}
 use Rattle.lex_semantics.specs.ByteSets.{is_alpha}
 use Rattle.lex_semantics.specs.Reading.{◌>>=◌, take_up_to, is_empty, begins}
+use Rattle.lexre_bytes.specs.Stops.{inside}
 use Rattle.lexre_bytes.specs.Lexical.{span, after_word, escape_at, literal_byte_at, bracketed_at, is_range, range_at, element_at}
 use Rattle.lexre_bytes.specs.Elements.{Element, named, unsupported}
 use Rattle.lexre_bytes.specs.Brackets.{letters_at, named_at, enclosed_at, unsupported_at}
@@ -64,9 +65,6 @@ letters_within t = go (is_empty (take_up_to (length t) is_alpha t).0)
 named_shorter : (t : List ℕ) → IsShorter (length t) (named_at t)
 unfolding named_at
 named_shorter t = rest_then (length t) (after_word (codes "[:") t) letters_at (word_shorter 91 (58 ∷ []) t) (λ u h. weaker _ _ (letters_at u) (omega arith) (letters_within u))
-
-abbrev inside : ℕ → Bool
-inside b = not (b == 93 || b == 10)
 
 enclosed_shorter : (c : ℕ) (t : List ℕ) → RestShorter (suc (length t)) (enclosed_at c t)
 unfolding enclosed_at

@@ -1,10 +1,11 @@
 -- The symbols of a pattern, by their bytes. None means that the text begins with no symbol.
 -- (POSIX, lex, Regular Expressions in lex: quotes, escapes, bracket expressions, definitions; flex, Patterns.)
-use Rattle.std.specs.Prelude.{ℕ, zero, suc, Bool, true, false, not, ◌&&◌, ◌||◌, ◌==◌, nat_le, nat_lt, nat_eq, if◌then◌else◌, List, [], ◌∷◌, ◌++◌, map, fold, find, zip, length, take, drop, Option, Some, None, unwrap_or, codes}
+use Rattle.std.specs.Prelude.{ℕ, zero, suc, Bool, true, false, not, ◌&&◌, ◌==◌, nat_le, nat_lt, nat_eq, if◌then◌else◌, List, [], ◌∷◌, ◌++◌, map, slice_get, find, zip, length, take, drop, Option, Some, None, unwrap_or, codes}
 use Rattle.std.specs.List.{ends_with, list_any}
 use Rattle.std.specs.Option.{option_or}
 use Rattle.lex_semantics.specs.ByteSets.{ByteSet, empty_set, single, range_set, union, complement, fold_case, named_set, is_alpha, is_digit}
 use Rattle.lex_semantics.specs.Reading.{◌>>=◌, Reader, is_empty, begins, take_run, starts_name, goes_on_name, value}
+use Rattle.lex_semantics.specs.Active.{lists}
 use Rattle.lex_semantics.specs.Escapes.{simple_escape, is_octal, octal_at, hexadecimal_at, byte_with, until_quote}
 use Rattle.lex_semantics.specs.Tree.{Tree, Empty, Set, Cat, trees}
 use Rattle.lexre_bytes.specs.Symbols.{Symbol, item, name, opening, closing, bar, sign, interval, any_times, once_or_more, at_most_once}
@@ -14,9 +15,17 @@ use Rattle.lexre_bytes.specs.Limits.{max_times}
 unfoldable pub after_word : List ℕ → List ℕ → Option (List ℕ)
 after_word word t = if begins word t then Some (drop (length word) t) else None
 
--- the byte is one of these signs
-abbrev pub one_of : List ℕ → ℕ → Bool
-one_of signs c = fold (λ found s. found || c == s) false signs
+-- the bytes at the front that pass the test, at least one, and what follows them
+unfoldable pub run_at : (ℕ → Bool) → Reader (List ℕ)
+run_at test t = let (bytes, rest) = take_run test t in if is_empty bytes then None else Some (bytes, rest)
+
+-- a number in digits
+unfoldable pub number_at : Reader ℕ
+number_at t = run_at is_digit t >>= λ (digits, rest). Some (value 10 digits, rest)
+
+-- a name: a letter or `_`, and letters, digits, `_` and `-`
+unfoldable pub name_at : Reader (List ℕ)
+name_at t = if list_any starts_name (take 1 t) then Some (take_run goes_on_name t) else None
 
 -- under `fold` a set has each letter in both cases
 abbrev pub folded : Bool → ByteSet → ByteSet
@@ -26,12 +35,10 @@ folded fold s = if fold then fold_case s else s
 
 -- After a backslash: the byte, and what follows it. A newline cannot be escaped, and `x` without a digit is itself.
 unfoldable pub escape_at : Reader ℕ
-escape_at [] = None
-escape_at (c ∷ t) =
-    if one_of (codes "\n") c then None
-    else if is_octal c then octal_at (c ∷ t)
-    else if one_of (codes "x") c then Some (unwrap_or (hexadecimal_at t) (c, t))
-    else Some (simple_escape c, t)
+escape_at t = slice_get t 0 >>= λ c.
+    if lists (codes "\n") c then None
+    else if is_octal c then octal_at t
+    else option_or (after_word (codes "x") t >>= hexadecimal_at) (Some (simple_escape c, drop 1 t))
 
 -- a byte between quotes or brackets: an escape, or any byte but a newline
 unfoldable pub literal_byte_at : Reader ℕ
@@ -60,14 +67,13 @@ span lo hi = if nat_le lo hi then Some (range_set lo hi) else None
 
 -- this front, at least one letter, and `:]`: the letters, and what follows
 unfoldable pub class_name_at : List ℕ → Reader (List ℕ)
-class_name_at front t = after_word front t >>= λ u.
-    let (letters, rest) = take_run is_alpha u in
-    if is_empty letters then None else after_word (codes ":]") rest >>= λ after. Some (letters, after)
+class_name_at front t =
+    after_word front t >>= λ u. run_at is_alpha u >>= λ (letters, rest). after_word (codes ":]") rest >>= λ after. Some (letters, after)
 
 -- `[` and this mark, at least one byte that is no `]` and no newline, then the mark and `]`: what follows
 unfoldable pub enclosed_by : List ℕ → List ℕ → Option (List ℕ)
 enclosed_by mark t = after_word (codes "[" ++ mark) t >>= λ u.
-    let (bytes, rest) = take_run (λ b. not (one_of (codes "]\n") b)) u in
+    let (bytes, rest) = take_run (λ b. not (lists (codes "]\n") b)) u in
     if nat_lt 1 (length bytes) && ends_with nat_eq bytes mark then after_word (codes "]") rest else None
 
 -- An element between brackets, and what follows it: `[:name:]` has the set of that class, and `[:^name:]`, `[=a=]` and `[.a.]`
@@ -79,7 +85,7 @@ bracketed_at t =
 
 -- a `-` that is followed by anything but an unescaped `]`
 unfoldable pub is_range : List ℕ → Bool
-is_range (c ∷ d ∷ t) = one_of (codes "-") c && not (one_of (codes "]") d)
+is_range (c ∷ d ∷ t) = lists (codes "-") c && not (lists (codes "]") d)
 is_range _ = false
 
 -- after the first end of a range and its `-`: its set, and what follows it
@@ -116,29 +122,23 @@ class_set fold negated es = union_set es >>= λ u.
 
 -- Intervals and names, after `{`.
 
--- from m to n times, n from 1 on
-unfoldable pub bounded : ℕ → ℕ → Reader Symbol
-bounded m n rest = if nat_le m n && nat_le 1 n && nat_le n max_times then Some (interval m (Some n), rest) else None
+-- from m times on, at most n times if there is an n, which is from 1 on
+unfoldable pub bounded : ℕ → Option ℕ → Reader Symbol
+bounded m most rest =
+    let n = unwrap_or most max_times in
+    if nat_le m n && nat_le 1 n && nat_le n max_times then Some (interval m most, rest) else None
 
--- at a digit: `m}`, `m,}` or `m,n}`
+-- `m}`, `m,}` or `m,n}`
 unfoldable pub interval_at : Reader Symbol
-interval_at t =
-    let (least, rest) = take_run is_digit t in
-    let m = value 10 least in
-    if begins (codes "}") rest then bounded m m (drop 1 rest)
-    else if begins (codes ",}") rest then (if nat_le m max_times then Some (interval m None, drop 2 rest) else None)
-    else if begins (codes ",") rest then
-    (let (most, after) = take_run is_digit (drop 1 rest) in
-    if not (is_empty most) && begins (codes "}") after then bounded m (value 10 most) (drop 1 after) else None)
-    else None
+interval_at t = number_at t >>= λ (m, rest).
+    option_or (after_word (codes "}") rest >>= bounded m (Some m)) (after_word (codes ",") rest >>= λ u.
+    option_or (after_word (codes "}") u >>= bounded m None)
+    (number_at u >>= λ (n, after). after_word (codes "}") after >>= bounded m (Some n)))
 
 -- an interval, or a name and `}`
 unfoldable pub braces_at : Reader Symbol
 braces_at t =
-    if list_any is_digit (take 1 t) then interval_at t
-    else if list_any starts_name (take 1 t) then
-    (let (letters, rest) = take_run goes_on_name t in after_word (codes "}") rest >>= λ after. Some (name letters, after))
-    else None
+    option_or (interval_at t) (name_at t >>= λ (letters, rest). after_word (codes "}") rest >>= λ after. Some (name letters, after))
 
 -- Symbols.
 
@@ -148,12 +148,9 @@ unfoldable pub symbol_at : Bool → Reader Symbol
 symbol_at fold [] = None
 symbol_at fold (c ∷ t) =
     let signs = zip (codes "()|*+?.") (opening ∷ closing ∷ bar ∷ sign any_times ∷ sign once_or_more ∷ sign at_most_once ∷ item (Set (complement (single 10))) ∷ []) in
-    elim (find (λ row. c == row.0) signs) [
-      | Some row ↦ Some (row.1, t)
-      | None ↦
-          if one_of (codes "\"") c then (quoted_bytes t >>= λ (bs, rest). Some (item (quoted_tree fold bs), rest))
-          else if one_of (codes "[") c then (class_at t >>= λ (negated, es, rest). class_set fold negated es >>= λ s. Some (item (Set s), rest))
-          else if one_of (codes "{") c then braces_at t
-          else if one_of (codes "/ \t") c then None
-          else literal_byte_at (c ∷ t) >>= λ (b, rest). Some (item (Set (folded fold (single b))), rest)
-    ]
+    option_or (find (λ row. c == row.0) signs >>= λ row. Some (row.1, t))
+    (if lists (codes "\"") c then (quoted_bytes t >>= λ (bs, rest). Some (item (quoted_tree fold bs), rest))
+    else if lists (codes "[") c then (class_at t >>= λ (negated, es, rest). class_set fold negated es >>= λ s. Some (item (Set s), rest))
+    else if lists (codes "{") c then braces_at t
+    else if lists (codes "/ \t") c then None
+    else literal_byte_at (c ∷ t) >>= λ (b, rest). Some (item (Set (folded fold (single b))), rest))

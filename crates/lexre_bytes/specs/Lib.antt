@@ -1,7 +1,9 @@
 pub mod ClassSets
+pub mod BraceSteps
 pub mod Brackets
 pub mod Classes
 pub mod Elements
+pub mod EscapeSteps
 pub mod Faults
 pub mod Halves
 pub mod Lexical

@@ -1,11 +1,11 @@
 -- Where the next closing bracket or newline stands.
 use Rattle.std.specs.Prelude.{ℕ, Bool, not, List, codes}
 use Rattle.lex_semantics.specs.Reading.{after_run}
-use Rattle.lexre_bytes.specs.Lexical.{one_of}
+use Rattle.lex_semantics.specs.Active.{lists}
 
 -- no `]`, and no newline
 abbrev pub inside : ℕ → Bool
-inside b = not (one_of (codes "]\n") b)
+inside b = not (lists (codes "]\n") b)
 
 -- the text from its first closing bracket or newline on, or its end
 abbrev pub stop_of : List ℕ → List ℕ

@@ -8,7 +8,7 @@ use crate::digits::capped_value;
 use crate::fronts::take_up_to;
 
 /// After a backslash: the byte, and what follows it. None at a newline, at the end, and at octal digits above 255.
-#[tactic(auto, unfolding(crate::specs::Lexical::escape_at))]
+#[tactic(auto, using(crate::proofs::EscapeForms::escape_is), unfolding(crate::specs::EscapeSteps::escape_from))]
 pub fn escape_at(text: &[u8]) -> Option<(u8, &[u8])>
     ensures { ◌≡◌ {A = Option (ℕ × List ℕ)} (escape_at text.now) (option_map (λ x. (x.0, x.1.now)) result) }
 {

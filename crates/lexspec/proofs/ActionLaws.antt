@@ -4,7 +4,7 @@ use Rattle.std.proofs.lemmas.Bool.{ne_eqb}
 use Rattle.lexspec.specs.ActionViews.{IsStep}
 use Rattle.lexspec.specs.declared.action_text.Step.{Step}
 use Rattle.lexspec.specs.declared.action_text.Step.TheVariants.{Goes, Ends, Refused}
-use Rattle.lexspec_actions.specs.Comments.{slash, after_byte}
+use Rattle.lexspec_actions.specs.ByteSteps.{slash, after_byte}
 use Rattle.lexspec.specs.Items.{action_at}
 use Rattle.lexspec.specs.ActionSteps.{Place, code, outside, action_in, with_byte, next_place, depth_after}
 

@@ -8,7 +8,8 @@ use Rattle.lex_semantics.specs.Escapes.{byte_with, until_quote}
 use Rattle.lex_semantics.specs.Reading.{◌>>=◌, begins, take_up_to}
 use Rattle.lexspec_lines.specs.Runs.{split_before}
 use Rattle.lexspec_lines.proofs.TextLaws.{Other, decide}
-use Rattle.lexspec_actions.specs.Comments.{after_star, slash, block, star, line, after_byte}
+use Rattle.lexspec_actions.specs.Comments.{after_star}
+use Rattle.lexspec_actions.specs.ByteSteps.{slash, block, star, line, after_byte}
 use Rattle.lexspec.specs.ActionSteps.{Place, code, string, escaped, outside, action_in, with_byte, next_place, depth_after}
 use Rattle.lexspec.specs.Items.{after_string, after_piece, action_end, action_at}
 use Rattle.lexspec.proofs.ActionLaws.{at_outside, with_front}

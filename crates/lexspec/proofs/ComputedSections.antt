@@ -4,7 +4,7 @@ use Rattle.std.specs.Prelude.{codes, ◌++◌, length}
 use Rattle.lex_semantics.specs.ByteSets.{is_upper, is_lower, is_alpha, is_digit, is_alnum, is_blank}
 use Rattle.lex_semantics.specs.Escapes.{simple_escape, until_quote}
 use Rattle.lex_semantics.specs.Reading.{take_up_to}
-use Rattle.lexre_bytes.specs.Lexical.{escape_at, literal_byte_at}
+use Rattle.lexre_bytes.specs.Lexical.{after_word, name_at, escape_at, literal_byte_at}
 use Rattle.lexre_bytes.specs.Quotes.{after_quotes}
 use Rattle.lexre.specs.Cutting.{IsCutting, piece_at}
 use Rattle.lexre.specs.Pieces.{Piece, IsPieces, dollar, other, slash, kind_at, slashes, ends_with_dollar}
@@ -12,7 +12,7 @@ use Rattle.lexre.proofs.PieceLaws.{cutting_of}
 use Rattle.lexspec_lines.specs.DefinitionLines.{Definition, nothing, code_line, code_block, declares, options, ignored, defines, definition_at, definition_in, percent_line, IsUpTo}
 use Rattle.lexspec_lines.specs.SkippedCode.{IsDefinition, AreNumbered, AreFrom}
 use Rattle.lexspec_lines.specs.Lines.{after_block, without_returns}
-use Rattle.lexspec.specs.Items.{unlisted, every, only, no_trail, line_end, pattern_after, at_end, matching, bar, spelled, Item, IsPattern, skipped, skipped_line, skipped_block, rule, conditions_at, after_string, after_piece, action_end, action_at, IsItem, AreItems}
+use Rattle.lexspec.specs.Items.{unlisted, every, only, no_trail, line_end, pattern_after, at_end, matching, bar, spelled, Item, IsRulePattern, skipped, skipped_line, skipped_block, rule, conditions_at, after_string, after_piece, action_end, action_at, IsSectionItem, AreItems}
 use Rattle.lexspec.specs.SpecExamples.{rules_section, user_code, whole_file, WholeSkips, short_file}
 
 -- the cutting of a pattern without a slash outside parentheses, by its pieces
@@ -57,7 +57,7 @@ numbered_definitions =
     ∷ (9, declares true (codes "B" ∷ codes "C" ∷ [])) ∷ (10, options (codes "stack" ∷ [])) ∷ (11, ignored) ∷ []
 
 pub whole_first : IsUpTo definition_at (without_returns whole_file) whole_definitions from_separator
-unfolding definition_at definition_in percent_line after_block take_up_to is_alpha is_upper is_lower is_alnum is_blank is_digit
+unfolding definition_at definition_in name_at percent_line after_block take_up_to is_alpha is_upper is_lower is_alnum is_blank is_digit
 whole_first =
     (from_comment, refl, (from_code, refl, (from_name, refl, (from_inclusive, refl, (from_exclusive, refl, (from_option, refl, (from_sizes, refl, (from_separator, refl, refl))))))))
 
@@ -125,7 +125,7 @@ later_items = (20, opening_item) ∷ last_items
 abbrev pub whole_items : List (ℕ × Item)
 whole_items = (13, skipped_line) ∷ (14, skipped_block) ∷ (17, number_item) ∷ (18, skipped) ∷ (19, letters_item) ∷ later_items
 
-number_here : IsItem from_number number_item from_empty
+number_here : IsSectionItem from_number number_item from_empty
 unfolding conditions_at kind_at piece_at slashes ends_with_dollar take_up_to is_blank action_at action_end after_piece after_string until_quote
 number_here =
     let after = codes " ECHO;\n" ++ from_empty in (
@@ -148,7 +148,7 @@ number_here =
       refl,
     )
 
-letters_here : IsItem from_letters letters_item from_opening
+letters_here : IsSectionItem from_letters letters_item from_opening
 unfolding conditions_at kind_at piece_at slashes ends_with_dollar take_up_to is_blank action_at action_end after_piece after_string until_quote
 letters_here =
     let after = codes " |\n" ++ from_opening in (
@@ -181,7 +181,7 @@ letters_here =
       refl,
     )
 
-opening_here : IsItem from_opening opening_item from_closing
+opening_here : IsSectionItem from_opening opening_item from_closing
 unfolding conditions_at kind_at piece_at slashes ends_with_dollar take_up_to is_blank after_quotes until_quote literal_byte_at action_at action_end after_piece after_string
 opening_here =
     let after = codes " { yy_push_state(B); /* } */\n  yymore(); }\n" ++ from_closing in (
@@ -204,7 +204,7 @@ opening_here =
       refl,
     )
 
-closing_here : IsItem from_closing closing_item from_other
+closing_here : IsSectionItem from_closing closing_item from_other
 unfolding conditions_at kind_at piece_at slashes ends_with_dollar take_up_to is_blank after_quotes until_quote literal_byte_at action_at action_end after_piece after_string
 closing_here =
     let after = codes " yy_pop_state();\n" ++ from_other in (
@@ -227,8 +227,8 @@ closing_here =
       refl,
     )
 
-other_here : IsItem from_other other_item from_end_in_b
-unfolding conditions_at kind_at piece_at slashes ends_with_dollar take_up_to is_blank escape_at simple_escape action_at action_end after_piece after_string until_quote
+other_here : IsSectionItem from_other other_item from_end_in_b
+unfolding conditions_at kind_at piece_at slashes ends_with_dollar take_up_to is_blank after_word escape_at simple_escape action_at action_end after_piece after_string until_quote
 other_here =
     let after = codes " ;\n" ++ from_end_in_b in (
       refl,
@@ -250,13 +250,13 @@ other_here =
       refl,
     )
 
-end_in_b_here : IsItem from_end_in_b end_in_b_item from_end
+end_in_b_here : IsSectionItem from_end_in_b end_in_b_item from_end
 unfolding conditions_at take_up_to is_blank action_at action_end after_piece after_string until_quote
 end_in_b_here =
     let after = codes " { printf(\"open\"); exit(2); }\n" ++ from_end in
     (refl, codes "<<EOF>>" ++ after, after, codes "{ printf(\"open\"); exit(2); }", refl, (refl, refl, refl), refl, refl)
 
-end_here : IsItem from_end end_item from_user
+end_here : IsSectionItem from_end end_item from_user
 unfolding conditions_at take_up_to is_blank action_at action_end after_piece after_string until_quote
 end_here =
     let after = codes " { printf(\"end\"); yyterminate(); }\n" ++ from_user in
@@ -287,19 +287,19 @@ whole_second = (
 
 -- the lines of the definitions, each with its number
 whole_lines : AreFrom IsDefinition 1 (without_returns whole_file) numbered_definitions from_separator
-unfolding definition_at definition_in percent_line after_block take_up_to is_alpha is_upper is_lower is_alnum is_blank is_digit
+unfolding definition_at definition_in name_at percent_line after_block take_up_to is_alpha is_upper is_lower is_alnum is_blank is_digit
 whole_lines =
     let last : AreNumbered IsDefinition 28 from_exclusive ((9, declares true (codes "B" ∷ codes "C" ∷ [])) ∷ (10, options (codes "stack" ∷ [])) ∷ (11, ignored) ∷ []) from_separator =
     (from_option, refl, refl, (from_sizes, refl, refl, (from_separator, refl, refl, refl))) in
     (from_comment, refl, refl, (from_code, refl, refl, (from_name, refl, refl, (from_inclusive, refl, refl, (from_exclusive, refl, refl, last)))))
 
 -- the items, up to the second `%%`
-whole_pieces : AreFrom IsItem 13 (rules_section ++ from_user) whole_items from_user
+whole_pieces : AreFrom IsSectionItem 13 (rules_section ++ from_user) whole_items from_user
 unfolding after_block take_up_to is_blank
 whole_pieces =
-    let ends : AreNumbered IsItem 28 from_end_in_b end_items from_user = (from_end, refl, end_in_b_here, (from_user, refl, end_here, refl)) in
-    let last : AreNumbered IsItem 28 from_opening later_items from_user = (from_closing, refl, opening_here, (from_other, refl, closing_here, (from_end_in_b, refl, other_here, ends))) in
-    let later : AreNumbered IsItem 28 from_number ((17, number_item) ∷ (18, skipped) ∷ (19, letters_item) ∷ later_items) from_user =
+    let ends : AreNumbered IsSectionItem 28 from_end_in_b end_items from_user = (from_end, refl, end_in_b_here, (from_user, refl, end_here, refl)) in
+    let last : AreNumbered IsSectionItem 28 from_opening later_items from_user = (from_closing, refl, opening_here, (from_other, refl, closing_here, (from_end_in_b, refl, other_here, ends))) in
+    let later : AreNumbered IsSectionItem 28 from_number ((17, number_item) ∷ (18, skipped) ∷ (19, letters_item) ∷ later_items) from_user =
     (from_empty, refl, number_here, (from_letters, refl, ([], refl, refl), (from_opening, refl, letters_here, last))) in
     (from_block, refl, (codes "  int n;", refl, refl, refl), (from_number, refl, (refl, refl), later))
 
@@ -318,7 +318,7 @@ whole_skips = record {
 }
 
 -- `a`, and a blank behind it
-pub a_here : (rest : List ℕ) → IsPattern (97 ∷ 32 ∷ rest) (codes "a") no_trail (32 ∷ rest)
+pub a_here : (rest : List ℕ) → IsRulePattern (97 ∷ 32 ∷ rest) (codes "a") no_trail (32 ∷ rest)
 unfolding kind_at piece_at slashes ends_with_dollar is_blank
 a_here rest = (
   1,

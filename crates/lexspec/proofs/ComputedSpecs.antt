@@ -12,7 +12,7 @@ use Rattle.lex_semantics.specs.Shapes.{IsSoundTree, nodes}
 use Rattle.lex_semantics.specs.Sound.{IsCutOf}
 use Rattle.lex_semantics.specs.Spec.{Rule, Echo, Print, More, End, Push, Pop}
 use Rattle.lex_semantics.specs.Tree.{Tree, Set, Star}
-use Rattle.lexre_bytes.specs.Lexical.{after_word, escape_at, literal_byte_at, quoted_tree, class_name_at, enclosed_by, bracketed_at, is_range, range_at, element_at, elements_at, class_at, span, union_set, class_set, braces_at, symbol_at}
+use Rattle.lexre_bytes.specs.Lexical.{after_word, run_at, number_at, name_at, escape_at, literal_byte_at, quoted_tree, class_name_at, enclosed_by, bracketed_at, is_range, range_at, element_at, elements_at, class_at, span, union_set, class_set, braces_at, symbol_at}
 use Rattle.lexre_bytes.specs.Symbols.{name, sign, once_or_more}
 use Rattle.lexre.specs.Definitions.{Definitions}
 use Rattle.lexre.specs.Grammar.{SpellsWithin}
@@ -56,7 +56,7 @@ digit_named : get named (codes "D") ≡ Some (codes "[0-9]")
 digit_named = get-from_entries nat_list_cmp_total ((codes "D", codes "[0-9]") ∷ []) (codes "D")
 
 digit_spelled : SpellsWithin false (symbol_at false) (get named) 63 (codes "[0-9]") digit
-unfolding after_word escape_at literal_byte_at class_name_at enclosed_by bracketed_at is_range range_at element_at elements_at class_at span union_set class_set symbol_at has set_below set_of empty_set range_set union is_alpha is_digit is_alnum take_up_to
+unfolding after_word run_at number_at name_at escape_at literal_byte_at class_name_at enclosed_by bracketed_at is_range range_at element_at elements_at class_at span union_set class_set symbol_at has set_below set_of empty_set range_set union is_alpha is_digit is_alnum take_up_to
 digit_spelled = runs_spelled false (symbol_at false) (get named) 63 (codes "[0-9]") digit (found_runs false false (get named) 20 (state fresh [] 63) (codes "[0-9]") digit refl)
 
 -- the name, and then the sign
@@ -84,7 +84,7 @@ cut_as_tested r head trail fits = cut_is_fit r.cut r.head r.trail (tree_is_sound
     sound (Some t) h = tree_is_sound t h
 
 number_ruled : (is : List (ℕ × Item)) (rules : List Rule) → IsRule names plain true named 17 unlisted true (codes "{D}+") line_end (spelled (codes "ECHO;")) is rules number
-unfolding has set_below set_of single range_set any_below take_up_to is_alpha is_upper is_lower is_alnum is_blank is_digit after_word A.piece_at A.statement_at A.parts_of A.in_parentheses A.number_at A.second_word A.format_at A.after_statement A.condition_at B.name_at B.digits_at B.after_space B.skip B.next B.escape_at B.literal_at
+unfolding has set_below set_of single range_set any_below take_up_to is_alpha is_upper is_lower is_alnum is_blank is_digit after_word A.piece_at A.statement_at A.parts_of A.in_parentheses A.number_within A.second_word A.format_at A.after_statement A.condition_at run_at number_at name_at B.after_space B.skip B.next B.string_escape_at escape_at B.literal_at
 number_ruled is rules = (
   record {
     line_is = refl;
@@ -114,7 +114,7 @@ letters_ruled = (
 )
 
 opening_ruled : (is : List (ℕ × Item)) (rules : List Rule) → IsRule names plain true named 20 unlisted false (codes "\"/*\"") no_trail (spelled (codes "{ yy_push_state(B); /* } */\n  yymore(); }")) is rules opening
-unfolding symbol_at until_quote literal_byte_at quoted_tree take_up_to is_alpha is_upper is_lower is_alnum is_blank is_digit after_word A.piece_at A.statement_at A.parts_of A.in_parentheses A.number_at A.second_word A.format_at A.after_statement A.condition_at B.name_at B.digits_at B.after_space B.skip B.next B.escape_at B.literal_at
+unfolding symbol_at until_quote literal_byte_at quoted_tree take_up_to is_alpha is_upper is_lower is_alnum is_blank is_digit after_word A.piece_at A.statement_at A.parts_of A.in_parentheses A.number_within A.second_word A.format_at A.after_statement A.condition_at run_at number_at name_at B.after_space B.skip B.next B.string_escape_at escape_at B.literal_at
 opening_ruled is rules = (
   record {
     line_is = refl;
@@ -137,7 +137,7 @@ opening_ruled is rules = (
 )
 
 closing_ruled : (is : List (ℕ × Item)) (rules : List Rule) → IsRule names plain true named 22 (only (codes "B" ∷ [])) false (codes "\"*/\"") no_trail (spelled (codes "yy_pop_state();")) is rules closing
-unfolding symbol_at until_quote literal_byte_at quoted_tree take_up_to is_alpha is_upper is_lower is_alnum is_blank is_digit after_word A.piece_at A.statement_at A.parts_of A.in_parentheses A.number_at A.second_word A.format_at A.after_statement A.condition_at B.name_at B.digits_at B.after_space B.skip B.next B.escape_at B.literal_at
+unfolding symbol_at until_quote literal_byte_at quoted_tree take_up_to is_alpha is_upper is_lower is_alnum is_blank is_digit after_word A.piece_at A.statement_at A.parts_of A.in_parentheses A.number_within A.second_word A.format_at A.after_statement A.condition_at run_at number_at name_at B.after_space B.skip B.next B.string_escape_at escape_at B.literal_at
 closing_ruled is rules = (
   record {
     line_is = refl;
@@ -152,7 +152,7 @@ closing_ruled is rules = (
 )
 
 other_ruled : (is : List (ℕ × Item)) (rules : List Rule) → IsRule names plain true named 23 every false (codes ".|\\n") no_trail (spelled (codes ";")) is rules any_other
-unfolding symbol_at literal_byte_at escape_at simple_escape take_up_to is_blank after_word A.piece_at A.statement_at A.parts_of A.in_parentheses A.number_at A.second_word A.format_at A.after_statement A.condition_at B.name_at B.digits_at B.after_space B.skip B.next B.escape_at B.literal_at
+unfolding symbol_at literal_byte_at escape_at simple_escape take_up_to is_blank after_word A.piece_at A.statement_at A.parts_of A.in_parentheses A.number_within A.second_word A.format_at A.after_statement A.condition_at run_at number_at name_at B.after_space B.skip B.next B.string_escape_at B.literal_at
 other_ruled is rules = (
   record {
     line_is = refl;
@@ -167,7 +167,7 @@ other_ruled is rules = (
 )
 
 open_spelled : SpellsEndAction (known_in names true) (codes "{ printf(\"open\"); exit(2); }") open_at_end
-unfolding take_up_to is_alpha is_upper is_lower is_alnum is_blank is_digit simple_escape until_quote after_word A.piece_at A.statement_at A.parts_of A.in_parentheses A.number_at A.second_word A.format_at A.after_statement A.condition_at B.name_at B.digits_at B.after_space B.skip B.next B.escape_at B.literal_at
+unfolding take_up_to is_alpha is_upper is_lower is_alnum is_blank is_digit simple_escape until_quote after_word A.piece_at A.statement_at A.parts_of A.in_parentheses A.number_within A.second_word A.format_at A.after_statement A.condition_at run_at number_at name_at B.after_space B.skip B.next B.string_escape_at escape_at B.literal_at
 open_spelled = (
   Print (codes "open") ∷ End 2 ∷ [],
   (
@@ -181,7 +181,7 @@ open_spelled = (
 )
 
 ended_spelled : SpellsEndAction (known_in names true) (codes "{ printf(\"end\"); yyterminate(); }") ended
-unfolding take_up_to is_alpha is_upper is_lower is_alnum is_blank is_digit simple_escape until_quote after_word A.piece_at A.statement_at A.parts_of A.in_parentheses A.number_at A.second_word A.format_at A.after_statement A.condition_at B.name_at B.digits_at B.after_space B.skip B.next B.escape_at B.literal_at
+unfolding take_up_to is_alpha is_upper is_lower is_alnum is_blank is_digit simple_escape until_quote after_word A.piece_at A.statement_at A.parts_of A.in_parentheses A.number_within A.second_word A.format_at A.after_statement A.condition_at run_at number_at name_at B.after_space B.skip B.next B.string_escape_at escape_at B.literal_at
 ended_spelled = (
   Print (codes "end") ∷ End 0 ∷ [],
   (
@@ -268,7 +268,7 @@ whole = record {
 -- ---- the short file
 
 short_ruled : AreRules (codes "INITIAL" ∷ []) folding false (from_entries []) short_items (both_cases ∷ []) []
-unfolding symbol_at literal_byte_at has set_below set_of single fold_case other_case take_up_to is_alpha is_upper is_lower is_alnum is_blank is_digit after_word A.piece_at A.statement_at A.parts_of A.in_parentheses A.number_at A.second_word A.format_at A.after_statement A.condition_at B.name_at B.digits_at B.after_space B.skip B.next B.escape_at B.literal_at
+unfolding symbol_at literal_byte_at has set_below set_of single fold_case other_case take_up_to is_alpha is_upper is_lower is_alnum is_blank is_digit after_word A.piece_at A.statement_at A.parts_of A.in_parentheses A.number_within A.second_word A.format_at A.after_statement A.condition_at run_at number_at name_at B.after_space B.skip B.next B.string_escape_at escape_at B.literal_at
 short_ruled = (
   both_cases,
   [],

@@ -9,6 +9,7 @@ use Rattle.lex_semantics.specs.Spec.{Spec, EndAction}
 use Rattle.lexre.specs.Cutting.{IsCutting}
 use Rattle.lexre.specs.PatternExamples.{plain}
 use Rattle.lexre.proofs.CuttingLaws.{one_cutting}
+use Rattle.lexre_bytes.specs.Lexical.{name_at}
 use Rattle.lexspec_lines.specs.DefinitionLines.{Definition, declares, options, defines, definition_at, definition_in, percent_line, IsUpTo, all_conditions, names_of, has_name, substitutes_of, all_options, are_distinct}
 use Rattle.lexspec_lines.specs.DefinitionViews.{are_known}
 use Rattle.lexspec_lines.specs.Folding.{with_fold}
@@ -45,7 +46,7 @@ spells_items file items stop second S h =
     cut_once t stop stop' at at' two two' special special' h k = let same = one_cutting t stop stop' at at' two two' special special' h k in (same.0, same.1, same.3)
 
 no_separator : Example.IsNone (codes "D [0-9]\n")
-unfolding definition_at definition_in take_up_to is_alpha is_upper is_lower is_alnum is_blank is_digit
+unfolding definition_at definition_in name_at take_up_to is_alpha is_upper is_lower is_alnum is_blank is_digit
 no_separator S h =
     let same = one_section (codes "D [0-9]\n") [] (defines (codes "D") (codes "[0-9]") ∷ []) ([], refl, refl) refl S h in
     no_true (sym (ap (begins (codes "%%")) same.1) ∙ h.separator)
@@ -64,7 +65,7 @@ declared_twice S h =
     no_true (sym (ap (λ ds. are_distinct (names_of (all_conditions ds))) same.0) ∙ h.names)
 
 defined_twice : Example.IsNone (codes "D a\nD b\n%%\n")
-unfolding definition_at definition_in take_up_to is_alpha is_upper is_lower is_alnum is_blank is_digit
+unfolding definition_at definition_in name_at take_up_to is_alpha is_upper is_lower is_alnum is_blank is_digit
 defined_twice S h =
     let same =
     one_section (codes "D a\nD b\n%%\n") (codes "%%\n") (defines (codes "D") (codes "a") ∷ defines (codes "D") (codes "b") ∷ []) (codes "D b\n%%\n", refl, (codes "%%\n", refl, refl)) refl S h in

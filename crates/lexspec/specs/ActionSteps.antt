@@ -1,7 +1,7 @@
 -- The text of an action, byte by byte, as the code reads it.
 use Rattle.std.specs.Prelude.{ℕ, zero, suc, ◌-◌, ◌&&◌, ◌||◌, ◌==◌, if◌then◌else◌, List, [], ◌∷◌, Option, Some, None}
-use Rattle.lexspec_actions.specs.Comments as Comments
-use Rattle.lexspec_actions.specs.Comments.{slash, line, after_byte}
+use Rattle.lexspec_actions.specs.ByteSteps as Comments
+use Rattle.lexspec_actions.specs.ByteSteps.{slash, line, after_byte}
 
 -- where an action stands: in or outside comments of C, in a string, or after a backslash in one
 pub data Place : Type 0 where

@@ -1,6 +1,6 @@
 -- What the reader of an action's text says of a byte.
 use Rattle.std.specs.Prelude.{◌≡◌, ℕ, ◌≤◌, List, [], ◌∷◌, Some, None}
-use Rattle.lexspec_actions.specs.Comments as C
+use Rattle.lexspec_actions.specs.ByteSteps as C
 use Rattle.lexspec.specs.ActionSteps as I
 use Rattle.lexspec.specs.ActionSteps.{action_in, with_byte}
 use Rattle.lexspec.specs.declared.action_text.Place.{Place}

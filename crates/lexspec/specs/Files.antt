@@ -27,9 +27,8 @@ AreSingle count ends =
 -- the end of condition c: that of the rule that lists it, else that of the rule without a list, else nothing, with status 0
 abbrev pub end_in : List EndRule → ℕ → EndAction
 end_in ends c =
-    let listed = find (λ (e : EndRule). lists_number e.0 c) ends in
-    let unlisted = find (λ (e : EndRule). is_none e.0) ends in
-    unwrap_or (option_map (λ (e : EndRule). e.1) (option_or listed unlisted)) (record { print = []; status = 0 })
+    let chosen = option_or (find (λ (e : EndRule). lists_number e.0 c) ends) (find (λ (e : EndRule). is_none e.0) ends) in
+    unwrap_or (option_map (λ (e : EndRule). e.1) chosen) (record { print = []; status = 0 })
 
 -- the conditions with their ends; the first one has the number k
 abbrev pub conditions_with : ℕ → List Declared → List EndRule → List Condition

@@ -1,12 +1,12 @@
 -- The lines of the rules section: which rules stand there, as texts.
 -- (POSIX, lex, Rules in lex; flex, Patterns, Start Conditions, End-of-File Rules.)
 use Rattle.std.specs.Prelude.{◌≡◌, ℕ, zero, suc, ◌+◌, ◌-◌, Bool, true, false, not, ◌&&◌, ◌||◌, ◌==◌, if◌then◌else◌, List, [], ◌∷◌, slice_get, length, take, drop, Option, Some, None, codes, ◌⊎◌}
-use Rattle.std.specs.List.{list_any, list_all, slice_split}
-use Rattle.lexre.specs.Cutting.{IsCutting}
+use Rattle.std.specs.List.{list_any, slice_split}
+use Rattle.lexre.specs.Cutting.{IsCutting, ends_pattern}
 use Rattle.lex_semantics.specs.Active.{lists}
 use Rattle.lex_semantics.specs.ByteSets.{is_word, is_blank}
 use Rattle.lex_semantics.specs.Escapes.{byte_with, until_quote}
-use Rattle.lex_semantics.specs.Reading.{◌>>=◌, Reader, after_blanks, is_empty, begins, is_white}
+use Rattle.lex_semantics.specs.Reading.{◌>>=◌, Reader, after_blanks, is_empty, begins}
 use Rattle.lexspec_actions.specs.Comments.{after_star}
 use Rattle.lexspec_lines.specs.Runs.{split_before}
 use Rattle.lexspec_lines.specs.Lines.{line_in, line_at, is_all_blank, newlines, after_block}
@@ -87,29 +87,29 @@ starts_rule t = let (text, after) = line_in t in
     not (is_all_blank text || list_any is_blank (take 1 text) || begins (codes "%%") text || begins (codes "%{") text)
 
 -- the text begins with a pattern: its head, and nothing, `$`, or `/` and a trailing context
-abbrev pub IsPattern : List ℕ → List ℕ → Trailing → List ℕ → Type 0
-IsPattern t head no_trail rest = (end : ℕ) × IsCutting t end None false false × (head ≡ take end t) × (rest ≡ drop end t)
-IsPattern t head line_end rest = (end : ℕ) × IsCutting t end None false true × (head ≡ take (end - 1) t) × (rest ≡ drop end t)
-IsPattern t head (pattern_after text) rest =
+abbrev pub IsRulePattern : List ℕ → List ℕ → Trailing → List ℕ → Type 0
+IsRulePattern t head no_trail rest = (end : ℕ) × IsCutting t end None false false × (head ≡ take end t) × (rest ≡ drop end t)
+IsRulePattern t head line_end rest = (end : ℕ) × IsCutting t end None false true × (head ≡ take (end - 1) t) × (rest ≡ drop end t)
+IsRulePattern t head (pattern_after text) rest =
     (end at : ℕ) × IsCutting t end (Some at) false false × (head ≡ take at t) × (text ≡ take (end - suc at) (drop (suc at) t)) × (rest ≡ drop end t)
 
 -- the text begins with the subject of a rule, and this follows; after `<<EOF>>` the text ends, or a blank or a newline stands
 abbrev pub IsSubject : List ℕ → Subject → List ℕ → Type 0
-IsSubject t at_end rest = (begins (codes "<<EOF>>") t ≡ true) × (rest ≡ drop 7 t) × (list_all is_white (take 1 rest) ≡ true)
+IsSubject t at_end rest = (begins (codes "<<EOF>>") t ≡ true) × (rest ≡ drop 7 t) × (ends_pattern rest ≡ true)
 IsSubject t (matching anchored head after) rest =
     let u = if anchored then drop 1 t else t in
-    (begins (codes "^") t ≡ anchored) × (begins (codes "<<EOF>>") u ≡ false) × IsPattern u head after rest
+    (begins (codes "^") t ≡ anchored) × (begins (codes "<<EOF>>") u ≡ false) × IsRulePattern u head after rest
 
 -- a line of the rules section, with what follows that belongs to it; one that begins with `%%` is none
-abbrev pub IsItem : List ℕ → Item → List ℕ → Type 0
-IsItem t skipped rest = (text : List ℕ) × (line_at t ≡ Some (text, rest)) × (is_all_blank text ≡ true)
-IsItem t skipped_line rest = (text : List ℕ) × (line_at t ≡ Some (text, rest)) × (is_all_blank text ≡ false) × (list_any is_blank (take 1 text) ≡ true)
-IsItem t skipped_block rest = (begins (codes "%{") t ≡ true) × (after_block (suc (length t)) (line_in t).1 ≡ Some rest)
-IsItem t (rule asked subject action) rest =
+abbrev pub IsSectionItem : List ℕ → Item → List ℕ → Type 0
+IsSectionItem t skipped rest = (text : List ℕ) × (line_at t ≡ Some (text, rest)) × (is_all_blank text ≡ true)
+IsSectionItem t skipped_line rest = (text : List ℕ) × (line_at t ≡ Some (text, rest)) × (is_all_blank text ≡ false) × (list_any is_blank (take 1 text) ≡ true)
+IsSectionItem t skipped_block rest = (begins (codes "%{") t ≡ true) × (after_block (suc (length t)) (line_in t).1 ≡ Some rest)
+IsSectionItem t (rule asked subject action) rest =
     (starts_rule t ≡ true) × (u v text : List ℕ) × (conditions_at t ≡ Some (asked, u)) × IsSubject u subject v
     × (action_at (after_blanks v) ≡ Some (text, rest)) × (action ≡ action_of text)
 
 -- these items, each with its line, up to the end or a line that begins with `%%`; the first line here is n
 abbrev pub AreItems : ℕ → List ℕ → List (ℕ × Item) → Type 0
 AreItems n t [] = (t ≡ []) ⊎ (begins (codes "%%") t ≡ true)
-AreItems n t (i ∷ is) = (rest : List ℕ) × (i.0 ≡ n) × IsItem t i.1 rest × AreItems (n + (newlines t - newlines rest)) rest is
+AreItems n t (i ∷ is) = (rest : List ℕ) × (i.0 ≡ n) × IsSectionItem t i.1 rest × AreItems (n + (newlines t - newlines rest)) rest is

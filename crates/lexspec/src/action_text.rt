@@ -3,7 +3,7 @@ ghost use Rattle.std.specs.Prelude.{◌≡◌, ◌+◌, ◌<◌, ◌^◌, ◌&&�
 ghost use Rattle.std.specs.Prelude.{List, [], Option, Some, None, option_map, drop, codes};
 ghost use Rattle.lex_semantics.specs.Reading.{begins};
 ghost use Rattle.lexspec_lines.specs.Lines.{is_all_blank};
-ghost use Rattle.lexspec_actions.specs.Comments.{slash};
+ghost use Rattle.lexspec_actions.specs.ByteSteps.{slash};
 ghost use Rattle.lexspec.specs.ActionSteps.{action_in, code, outside};
 ghost use Rattle.lexspec.specs.Items.{action_at};
 ghost use Rattle.lexspec.specs.ActionViews.{place_of, IsStep, MostOpen};

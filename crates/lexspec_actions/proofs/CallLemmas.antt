@@ -1,6 +1,7 @@
 -- Statements, by their parts.
 use Rattle.std.proofs.Common.{codes, sym, option_map, ◌≡◌, ℕ, List, Option, Some, None, refl, ap, ◌∙◌}
-use Rattle.lexspec_actions.specs.Bytes.{next, name_at}
+use Rattle.lexspec_actions.specs.Bytes.{next}
+use Rattle.lexre_bytes.specs.Lexical.{name_at}
 use Rattle.lex_semantics.specs.Spec.{Begin, Push}
 use Rattle.lexspec_actions.specs.Names.{Known}
 use Rattle.lexspec_actions.specs.ActionSteps.{Said, does, begin_at, begin_from, begins, push_at, push_from, pushes, closed_condition, condition_at, after_word, after_statement, statement_at}

@@ -6,9 +6,9 @@ use Rattle.lex_semantics.specs.Reading.{take_up_to, IsCut}
 use Rattle.lex_semantics.specs.Escapes.{simple_escape, octal_at, hexadecimal_at, until_quote}
 use Rattle.lexspec_actions.specs.Statements.{normal}
 use Rattle.lex_semantics.specs.Spec.{Statement, Echo, Print, Begin, More, Less, Reject, End, Push, Pop}
-use Rattle.lexre_bytes.specs.Lexical.{after_word}
-use Rattle.lexspec_actions.specs.Bytes.{name_at, digits_at, after_space, skip, next, escape_at, literal_at}
-use Rattle.lexspec_actions.specs.Actions.{Piece, AreBalanced, piece_at, statement_at, SpellsAction, parts_of, in_parentheses, number_at, second_word, format_at, after_statement, condition_at}
+use Rattle.lexre_bytes.specs.Lexical.{after_word, run_at, number_at, name_at, escape_at}
+use Rattle.lexspec_actions.specs.Bytes.{after_space, skip, next, string_escape_at, literal_at}
+use Rattle.lexspec_actions.specs.Actions.{Piece, AreBalanced, piece_at, statement_at, SpellsAction, parts_of, in_parentheses, number_within, second_word, format_at, after_statement, condition_at}
 use Rattle.lexspec_actions.specs.ActionSteps as S
 use Rattle.lexspec_actions.specs.ActionSteps.{does, prints, prints_text, may_stand}
 use Rattle.lexspec_actions.specs.ActionExamples.{known, EachStatement, SeveralStatements, NoActions, EndActions}
@@ -16,7 +16,7 @@ use Rattle.lexspec_actions.proofs.OneAction.{one_cut}
 use Rattle.lexspec_actions.proofs.SameActions.{balanced, one_balanced, none_left}
 
 pub each_statement : EachStatement
-unfolding take_up_to is_alpha is_upper is_lower is_alnum is_blank is_digit is_xdigit octal_at hexadecimal_at until_quote simple_escape after_word name_at digits_at after_space skip next escape_at literal_at piece_at statement_at parts_of in_parentheses number_at second_word format_at after_statement condition_at
+unfolding take_up_to is_alpha is_upper is_lower is_alnum is_blank is_digit is_xdigit octal_at hexadecimal_at until_quote simple_escape after_word run_at number_at name_at escape_at after_space skip next string_escape_at literal_at piece_at statement_at parts_of in_parentheses number_within second_word format_at after_statement condition_at
 each_statement = record {
   echo = ((([], Echo ∷ []) ∷ [], ([], refl, refl), one_balanced (does Echo), refl), refl);
   reject = ((([], Reject ∷ []) ∷ [], ([], refl, refl), one_balanced (does Reject), refl), refl);
@@ -34,7 +34,7 @@ each_statement = record {
 }
 
 pub several_statements : SeveralStatements
-unfolding take_up_to is_alpha is_upper is_lower is_alnum is_blank is_digit is_xdigit octal_at hexadecimal_at until_quote simple_escape after_word name_at digits_at after_space skip next escape_at literal_at piece_at statement_at parts_of in_parentheses number_at second_word format_at after_statement condition_at
+unfolding take_up_to is_alpha is_upper is_lower is_alnum is_blank is_digit is_xdigit octal_at hexadecimal_at until_quote simple_escape after_word run_at number_at name_at escape_at after_space skip next string_escape_at literal_at piece_at statement_at parts_of in_parentheses number_within second_word format_at after_statement condition_at
 several_statements = record {
   none = (((codes ";", []) ∷ [], ([], refl, refl), balanced (S.semicolon ∷ []) refl, refl), refl);
   joined = (
@@ -71,7 +71,7 @@ unlike text qs is not ss ((ps, cut, balanced, same), stands) =
     not (subst AreBalanced e balanced) (subst (λ xs. may_stand (normal (flat_map (λ (q : Piece). q.1) xs)) ≡ true) e may)
 
 pub no_actions : NoActions
-unfolding take_up_to is_alpha is_upper is_lower is_alnum is_blank is_digit is_xdigit octal_at hexadecimal_at until_quote simple_escape after_word name_at digits_at after_space skip next escape_at literal_at piece_at statement_at parts_of in_parentheses number_at second_word format_at after_statement condition_at
+unfolding take_up_to is_alpha is_upper is_lower is_alnum is_blank is_digit is_xdigit octal_at hexadecimal_at until_quote simple_escape after_word run_at number_at name_at escape_at after_space skip next string_escape_at literal_at piece_at statement_at parts_of in_parentheses number_within second_word format_at after_statement condition_at
 no_actions = record {
   status = nothing_first (codes "exit(64);") refl (λ e. cc);
   kept = nothing_first (codes "yyless(0);") refl (λ e. cc);
@@ -82,7 +82,7 @@ no_actions = record {
 }
 
 pub end_actions : EndActions
-unfolding take_up_to is_alpha is_upper is_lower is_alnum is_blank is_digit is_xdigit octal_at hexadecimal_at until_quote simple_escape after_word name_at digits_at after_space skip next escape_at literal_at piece_at statement_at parts_of in_parentheses number_at second_word format_at after_statement condition_at
+unfolding take_up_to is_alpha is_upper is_lower is_alnum is_blank is_digit is_xdigit octal_at hexadecimal_at until_quote simple_escape after_word run_at number_at name_at escape_at after_space skip next string_escape_at literal_at piece_at statement_at parts_of in_parentheses number_within second_word format_at after_statement condition_at
 end_actions = (
   Print (codes "a\n") ∷ End 3 ∷ [],
   (([], Print (codes "a\n") ∷ []) ∷ ([], End 3 ∷ []) ∷ [], (codes " exit(3);", refl, ([], refl, refl)), balanced (S.says (prints (codes "a\n")) ∷ S.says (does (End 3)) ∷ []) refl, refl),

@@ -7,7 +7,9 @@ use Rattle.lex_semantics.specs.Legal.{in_range}
 use Rattle.lex_semantics.specs.ByteSets.{is_word, within}
 use Rattle.lex_semantics.specs.Reading.{◌>>=◌, IsCut}
 use Rattle.lexspec_actions.specs.Names.{number_from, Known}
-use Rattle.lexspec_actions.specs.Bytes.{next, name_at, digits_at, literal_at, skip}
+use Rattle.lexspec_actions.specs.Bytes.{next, literal_at, skip}
+use Rattle.lexspec_actions.specs.ByteSteps.{digits_at}
+use Rattle.lexre_bytes.specs.Lexical.{name_at}
 use Rattle.lexspec_actions.specs.ActionSteps.{Said, does, prints, prints_text, said_by, Piece, semicolon, opens, closes, says, statements_of, NoPiece, no_argument, number_argument, second_word, parts_of, without_text, with_text, formatted_at, printf_at, fputs_at, puts_at, yymore_at, yyless_at, yyterminate_at, exit_at, condition_at, closed_condition, begins, begin_from, begin_at, pushes, push_from, push_at, pop_at, stack_word, after_word, after_statement, statement_at, piece_from, piece_at}
 use Rattle.lex_semantics.specs.Limits.{max_kept, max_status}
 

@@ -1,23 +1,27 @@
 -- What Actions says by its table of statements is what the code reads, word by word.
 use Rattle.std.proofs.Common.{◌≡◌, ℕ, zero, suc, ◌≤◌, ◌+◌, Bool, true, false, List, [], ◌∷◌, ◌++◌, map, take, drop, option_map, Option, Some, None, if◌then◌else◌, refl, sym, ap, ◌∙◌, subst, arith}
-use Rattle.std.specs.Prelude.{◌&&◌, ◌||◌, nat_le, codes, not, find, flat_map, is_some}
+use Rattle.std.specs.Prelude.{◌||◌, nat_le, codes, not, find, flat_map, is_some}
 use Rattle.std.specs.Option.{option_or}
 use Rattle.std.proofs.lemmas.List.Sums.{sum_by-cons}
-use Rattle.std.proofs.lemmas.Bool.{ne_eqb, eq-eqb, eqb-true, le-leb, lt-leb, leb-true}
-use Rattle.lex_semantics.specs.ByteSets.{is_word, within, is_digit, is_alpha, is_upper, is_lower}
-use Rattle.lex_semantics.specs.Reading.{◌>>=◌, Reader, IsCut, begins, is_empty, value, take_up_to, take_run, starts_name, goes_on_name}
+use Rattle.std.proofs.lemmas.Bool.{ne_eqb, eq-eqb, eqb-true, le-leb}
+use Rattle.lex_semantics.specs.ByteSets.{is_word, within, is_digit}
+use Rattle.lex_semantics.specs.Reading.{◌>>=◌, Reader, IsCut, begins, is_empty, value, take_up_to}
 use Rattle.lex_semantics.specs.Limits.{max_kept, max_status}
 use Rattle.lex_semantics.specs.Spec.{Statement, Echo, Print, Begin, More, Less, End, Push, Pop}
 use Rattle.lexre_bytes.specs.Lexical.{after_word}
 use Rattle.lexspec_actions.specs.Names.{Known}
-use Rattle.lexspec_actions.specs.Bytes.{skip, next, name_at, digits_at, literal_at}
+use Rattle.lexspec_actions.specs.Bytes.{skip, next, literal_at}
+use Rattle.lexspec_actions.specs.ByteSteps.{digits_at}
+use Rattle.lexre_bytes.specs.Lexical.{run_at, number_at, name_at}
+use Rattle.lexre_bytes.proofs.BraceForms.{digit_no_name}
 use Rattle.lexspec_actions.specs.ByteSteps.{first_is}
 use Rattle.lexspec_actions.specs.Actions as A
-use Rattle.lexspec_actions.specs.Actions.{says_only, in_parentheses, number_at, format_at, statements, statement_at, piece_at, punctuators, AreBalanced}
+use Rattle.lexspec_actions.specs.Actions.{says_only, in_parentheses, number_within, format_at, statements, statement_at, piece_at, punctuators, AreBalanced}
 use Rattle.lexspec_actions.specs.ActionSteps as S
 use Rattle.lexspec_actions.specs.ActionSteps.{Said, does, prints, prints_text, said_by, onto, split, parts_in, without_text, with_text, no_argument, number_argument, formatted_at, printf_at, fputs_at, puts_at, yymore_at, yyterminate_at, yyless_at, pop_at, exit_at, closed_condition, begins as begins_with, begin_from, begin_at, pushes, push_from, push_at, stack_word}
 use Rattle.lexspec_actions.specs.Statements.{normal}
-use Rattle.lexspec_actions.proofs.SameBytes.{by_sign, turned, next_is}
+use Rattle.lexre_bytes.proofs.SignLaws.{by_sign, turned}
+use Rattle.lexspec_actions.proofs.SameBytes.{next_is}
 use Rattle.lexspec_actions.proofs.SameNormal.{normal_is}
 
 -- ---- formats
@@ -66,8 +70,8 @@ empty_told s t = twice_told (next (codes "(") t) _ _ _ (λ inside. bind_told (ne
 
 -- `(n)`
 number_told : (low high : ℕ) (s : ℕ → Statement) (test : ℕ → Bool) (t : List ℕ) → ((n : ℕ) → within low high n ≡ test n)
-    → in_parentheses (number_at low high s) t ≡ told (number_argument t >>= λ (n, rest). if test n then Some (does (s n), rest) else None)
-unfolding in_parentheses number_at number_argument
+    → in_parentheses (number_within low high s) t ≡ told (number_argument t >>= λ (n, rest). if test n then Some (does (s n), rest) else None)
+unfolding in_parentheses number_within number_at number_argument
 number_told low high s test t same = twice_told (next (codes "(") t) _ _ _ (λ inside. from (digits_at (skip inside)))
   where
     ends : (n : ℕ) (rest : List ℕ) (b : Bool) (o : Option (List ℕ)) → within low high n ≡ b → next (codes ")") rest ≡ o → test n ≡ b
@@ -79,42 +83,24 @@ number_told low high s test t same = twice_told (next (codes "(") t) _ _ _ (λ i
     ends n rest false (Some after) e f g = rw (e, f, g) refl
 
     from : (o : Option (List ℕ × List ℕ))
-        → ((o >>= λ (digits, rest). if◌then◌else◌ {A = Option (List Statement × List ℕ)} (within low high (value 10 digits)) (says_only (s (value 10 digits)) rest) None)
+        → (((o >>= λ (digits, rest). Some (value 10 digits, rest)) >>= λ (n, rest). if◌then◌else◌ {A = Option (List Statement × List ℕ)} (within low high n) (says_only (s n) rest) None)
         >>= λ (ss, rest). next (codes ")") rest >>= λ after. Some (ss, after))
         ≡ told ((o >>= λ (digits, rest). next (codes ")") rest >>= λ after. Some (value 10 digits, after)) >>= λ (n, rest). if◌then◌else◌ {A = Option (Said × List ℕ)} (test n) (Some (does (s n), rest)) None)
     from None = refl
     from (Some (digits, rest)) = ends (value 10 digits) rest (test (value 10 digits)) (next (codes ")") rest) (same (value 10 digits)) refl refl
 
 -- what begins a name is no digit
-letter_no_digit : (c : ℕ) → starts_name c ≡ true → is_digit c ≡ false
-unfolding is_digit is_alpha is_upper is_lower
-letter_no_digit c h = from (nat_le c 57) refl
+no_digits : (u : List ℕ) (found : List ℕ × List ℕ) → name_at u ≡ Some found → digits_at u ≡ None
+unfolding name_at run_at take_up_to
+no_digits [] found e = refl
+no_digits (c ∷ u) found e = from (is_digit c) refl
   where
-    off : (b : Bool) → (b && false) ≡ false
-    off true = refl
-    off false = refl
-
-    no : {P : Type 0} → false ≡ true → P
+    no : ◌≡◌ {A = Option (List ℕ × List ℕ)} None (Some found) → ⊥
     no p = cc
 
-    small : c ≤ 57 → ⊥
-    small le = no (rw (lt-leb 65 c (omega arith), lt-leb 97 c (omega arith), ne_eqb c 95 (λ same. omega (arith, same))) at h)
-
-    from : (b : Bool) → nat_le c 57 ≡ b → (nat_le 48 c && nat_le c 57) ≡ false
-    from false e = rw e (off (nat_le 48 c))
-    from true e = absurd (small (leb-true c 57 e))
-
-no_digits : (u : List ℕ) (found : List ℕ × List ℕ) → name_at u ≡ Some found → digits_at u ≡ None
-unfolding name_at digits_at take_up_to
-no_digits [] found e = refl
-no_digits (c ∷ u) found e = from (starts_name c) refl e
-  where
-    from : (b : Bool) → starts_name c ≡ b → ◌≡◌ {A = Option (List ℕ × List ℕ)} (if b then Some (take_run goes_on_name (c ∷ u)) else None) (Some found) → digits_at (c ∷ u) ≡ None
-    from true e f = rw (letter_no_digit c e) refl
-    from false e f = absurd (no f)
-      where
-        no : ◌≡◌ {A = Option (List ℕ × List ℕ)} None (Some found) → ⊥
-        no p = cc
+    from : (b : Bool) → is_digit c ≡ b → digits_at (c ∷ u) ≡ None
+    from false f = rw f refl
+    from true f = absurd (no (rw (digit_no_name c (rw f refl)) at e))
 
 -- a condition
 module _ (known : Known) where

@@ -1,28 +1,22 @@
 -- What Bytes says by pieces is what the code reads byte by byte.
 use Rattle.std.proofs.Common.{◌≡◌, ℕ, zero, suc, ◌≤◌, ◌==◌, Bool, true, false, List, [], ◌∷◌, length, Option, Some, None, refl, sym, ap, ◌∙◌, subst, arith, take, drop, get_or, ◌-◌}
-use Rattle.std.specs.Prelude.{not, if◌then◌else◌, unwrap_or, fold, codes}
+use Rattle.std.specs.Prelude.{not, ◌||◌, is_some, if◌then◌else◌, unwrap_or, fold, codes}
 use Rattle.std.specs.List.{list_any}
 use Rattle.std.proofs.lemmas.List.{take_all}
-use Rattle.std.proofs.lemmas.Bool.{ne_eqb, eq-eqb, eqb-true, eqb-false}
+use Rattle.std.proofs.lemmas.Bool.{ne_eqb, eq-eqb}
 use Rattle.lex_semantics.specs.ByteSets.{within, is_blank}
 use Rattle.lex_semantics.specs.Reading.{◌>>=◌, take_up_to, is_white, begins, Reader}
-use Rattle.lex_semantics.specs.Escapes.{simple_escape, is_octal, octal_at, byte_with, until_quote}
+use Rattle.lex_semantics.specs.Active.{lists}
+use Rattle.lex_semantics.specs.Escapes.{simple_escape, is_octal, octal_at, hexadecimal_at, byte_with, until_quote}
 use Rattle.lexre_bytes.specs.Lexical.{after_word}
+use Rattle.lexre_bytes.proofs.SignLaws.{by_sign, turned}
+use Rattle.lexre_bytes.proofs.EscapeForms as forms
+use Rattle.lexre_bytes.specs.EscapeSteps as pattern
 use Rattle.lexre_bytes.proofs.QuoteLaws.{take_up_to_within}
-use Rattle.lexspec_actions.specs.Comments.{outside, slash, block, star, line, after_star}
-use Rattle.lexspec_actions.specs.Bytes.{after_space, skip, next, escape_at, literal_at}
+use Rattle.lexspec_actions.specs.Comments.{after_star}
+use Rattle.lexspec_actions.specs.ByteSteps.{outside, slash, block, star, line}
+use Rattle.lexspec_actions.specs.Bytes.{after_space, skip, next, string_escape_at, literal_at}
 use Rattle.lexspec_actions.specs.ByteSteps.{skip_in, first_is, as_byte, plain_escape, escape_from, string_byte_at, string_at}
-
--- a byte is the sign, or it is another
-pub by_sign : {P : Type 0} (c d : ℕ) → (c ≡ d → P) → ((c ≡ d → ⊥) → P) → P
-by_sign {P} c d h k = from (c == d) (λ e. eqb-true c d e) (λ e. eqb-false c d e)
-  where
-    from : (b : Bool) → (b ≡ true → c ≡ d) → (b ≡ false → c ≡ d → ⊥) → P
-    from true f g = h (f refl)
-    from false f g = k (g refl)
-
-pub turned : (c d : ℕ) → (c ≡ d → ⊥) → (d == c) ≡ false
-turned c d h = ne_eqb d c (λ e. h (sym e))
 
 -- in a `/* .. */` comment, also after a star
 record Blocks (t : List ℕ) : Type 0 where
@@ -67,20 +61,20 @@ AfterOf left t None = left ≡ t
 AfterOf left t (Some rest) = (left ≡ skip_in outside rest) × (suc (length rest) ≤ length t)
 
 slashed : (t : List ℕ) → AfterOf (skip_in slash t) (47 ∷ t) (after_space (47 ∷ t))
-unfolding after_space is_blank
+unfolding after_space after_word is_blank
 slashed [] = refl
 slashed (d ∷ u) = by_sign d 42
     (λ e. rw e ((blocks u).plain, omega (arith, star_within u)))
     (λ n. rw (ne_eqb d 42 n, turned d 42 n) (by_sign d 47
-    (λ e. rw e (lines (suc (length u)) (47 ∷ u) (omega arith), omega (arith, take_up_to_within (suc (length u)) (λ b. not (b == 10)) (47 ∷ u))))
+    (λ e. rw e (lines (length u) u (omega arith), omega (arith, take_up_to_within (length u) (λ b. not (b == 10)) u)))
     (λ m. rw (ne_eqb d 47 m, turned d 47 m) refl)))
 
 spaces : (t : List ℕ) → AfterOf (skip_in outside t) t (after_space t)
-unfolding after_space is_blank
+unfolding after_space after_word is_blank
 spaces [] = refl
 spaces (c ∷ t) = by_sign c 47 (λ e. rw e (slashed t)) (λ n. rw (ne_eqb c 47 n, turned c 47 n) (from (is_white c)))
   where
-    from : (b : Bool) → AfterOf (if b then skip_in outside t else c ∷ t) (c ∷ t) (if b then Some t else None)
+    from : (b : Bool) → AfterOf (if b then skip_in outside t else c ∷ t) (c ∷ t) (if b || false then Some t else None)
     from true = (refl, omega arith)
     from false = refl
 
@@ -159,15 +153,22 @@ letter_fits : (c : ℕ) → list_any (λ d. d == c) (codes "abfnrtv\\\"'?") ≡ 
 unfolding simple_escape
 letter_fits c = any_of (λ d. within 1 255 (simple_escape d) ≡ true) c (codes "abfnrtv\\\"'?") (refl, (refl, (refl, (refl, (refl, (refl, (refl, (refl, (refl, (refl, (refl, tt)))))))))))
 
-escape_is : (t : List ℕ) → escape_at t ≡ escape_from t
-unfolding escape_at escape_from plain_escape
+escape_is : (t : List ℕ) → string_escape_at t ≡ escape_from t
+unfolding string_escape_at escape_from pattern.escape_from plain_escape after_word
 escape_is [] = refl
-escape_is (c ∷ t) = by_sign c 120
-    (λ e. rw e refl)
-    (λ n. rw (ne_eqb c 120 n, turned c 120 n) (from (is_octal c) (list_any (λ d. d == c) (codes "abfnrtv\\\"'?")) (letter_fits c)))
+escape_is (c ∷ t) = rw (forms.escape_is (c ∷ t)) (by_sign c 10 (λ e. rw e refl) (λ m. by_sign c 120
+    (λ e. rw e (hexadecimal (hexadecimal_at t)))
+    (λ n. rw (ne_eqb c 10 m, ne_eqb c 120 n, turned c 120 n) (from (is_octal c) (lists (codes "abfnrtv\\\"'?") c) (letter_fits c)))))
   where
+    hexadecimal : (o : Option (ℕ × List ℕ))
+        → ((if◌then◌else◌ {A = Option (ℕ × List ℕ)} (is_some o) (Some (unwrap_or o (120, t))) None) >>= λ (n, rest). if◌then◌else◌ {A = Option (ℕ × List ℕ)} (within 1 255 n) (Some (n, rest)) None)
+        ≡ (o >>= λ (n, rest). as_byte n rest)
+    hexadecimal None = refl
+    hexadecimal (Some x) = refl
+
     from : (a b : Bool) → (b ≡ true → within 1 255 (simple_escape c) ≡ true)
-        → ((if◌then◌else◌ {A = Option (ℕ × List ℕ)} a (octal_at (c ∷ t)) (if◌then◌else◌ {A = Option (ℕ × List ℕ)} b (Some (simple_escape c, t)) None)) >>= λ (n, rest). if◌then◌else◌ {A = Option (ℕ × List ℕ)} (within 1 255 n) (Some (n, rest)) None)
+        → ((if◌then◌else◌ {A = Option (ℕ × List ℕ)} (((a || b) || false) || false) (if◌then◌else◌ {A = Option (ℕ × List ℕ)} a (octal_at (c ∷ t)) (Some (simple_escape c, t))) None)
+        >>= λ (n, rest). if◌then◌else◌ {A = Option (ℕ × List ℕ)} (within 1 255 n) (Some (n, rest)) None)
         ≡ if◌then◌else◌ {A = Option (ℕ × List ℕ)} a (octal_at (c ∷ t) >>= λ (n, rest). as_byte n rest) ((if◌then◌else◌ {A = Option ℕ} b (Some (simple_escape c)) None) >>= λ d. Some (d, t))
     from true b h = refl
     from false true h = rw (h refl) refl
@@ -181,6 +182,6 @@ pub literal_is : (t : List ℕ) → literal_at t ≡ (next (codes "\"") t >>= λ
 unfolding literal_at string_byte_at
 literal_is t = from (next (codes "\"") t)
   where
-    from : (o : Option (List ℕ)) → (o >>= λ inside. until_quote (byte_with escape_at) (suc (length inside)) inside) ≡ (o >>= λ inside. string_at (suc (length inside)) inside)
+    from : (o : Option (List ℕ)) → (o >>= λ inside. until_quote (byte_with string_escape_at) (suc (length inside)) inside) ≡ (o >>= λ inside. string_at (suc (length inside)) inside)
     from None = refl
-    from (Some inside) = until_same (byte_with escape_at) string_byte_at (with_same escape_at escape_from escape_is) (suc (length inside)) inside
+    from (Some inside) = until_same (byte_with string_escape_at) string_byte_at (with_same string_escape_at escape_from escape_is) (suc (length inside)) inside

@@ -6,7 +6,9 @@ use Rattle.lex_semantics.specs.Reading.{◌>>=◌, Reader, IsCut, value}
 use Rattle.lex_semantics.specs.Legal.{ends_last, are_compatible}
 use Rattle.lexspec_actions.specs.Names.{Known}
 use Rattle.lexspec_actions.specs.Actions.{are_few}
-use Rattle.lexspec_actions.specs.Bytes.{skip, next, name_at, digits_at, literal_at}
+use Rattle.lexspec_actions.specs.Bytes.{skip, next, literal_at}
+use Rattle.lexspec_actions.specs.ByteSteps.{digits_at}
+use Rattle.lexre_bytes.specs.Lexical.{name_at}
 use Rattle.lex_semantics.specs.Spec.{EndAction, Statement, Echo, Print, Begin, More, Less, Reject, End, Push, Pop}
 use Rattle.lexspec_actions.specs.Statements.{then_all}
 use Rattle.lex_semantics.specs.Limits.{max_kept, max_status}

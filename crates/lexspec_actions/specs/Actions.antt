@@ -1,10 +1,11 @@
 -- The action of a rule: which statements a text spells. (POSIX, lex, Actions in lex; flex, Actions, Start Conditions.)
 use Rattle.std.specs.Prelude.{◌≡◌, ◌≤◌, ◌⊎◌, ℕ, Bool, true, not, ◌&&◌, ◌||◌, nat_le, if◌then◌else◌, List, [], ◌∷◌, ◌++◌, length, take, drop, find, sum_by, count_by, flat_map, Option, Some, None, is_some, option_map, codes}
 use Rattle.std.specs.Option.{option_or}
-use Rattle.lex_semantics.specs.ByteSets.{is_word, within}
-use Rattle.lex_semantics.specs.Reading.{◌>>=◌, Reader, IsCut, begins, is_empty, value}
+use Rattle.lex_semantics.specs.ByteSets.{is_word, within, is_digit}
+use Rattle.lex_semantics.specs.Reading.{◌>>=◌, Reader, IsCut, begins, is_empty}
 use Rattle.lexspec_actions.specs.Names.{Known}
-use Rattle.lexspec_actions.specs.Bytes.{skip, next, name_at, digits_at, literal_at}
+use Rattle.lexspec_actions.specs.Bytes.{skip, next, literal_at}
+use Rattle.lexre_bytes.specs.Lexical.{run_at, number_at, name_at}
 use Rattle.lex_semantics.specs.Spec.{EndAction, Statement, Echo, Print, Begin, More, Less, Reject, End, Push, Pop}
 use Rattle.lex_semantics.specs.Legal.{ends_last, are_compatible}
 use Rattle.lexspec_actions.specs.Statements.{normal, literal_bytes}
@@ -32,9 +33,8 @@ in_parentheses read t =
     next (codes "(") t >>= λ inside. read inside >>= λ (ss, rest). next (codes ")") rest >>= λ after. Some (ss, after)
 
 -- a number from low to high
-unfoldable pub number_at : ℕ → ℕ → (ℕ → Statement) → Reader (List Statement)
-number_at low high s t = digits_at (skip t) >>= λ (digits, rest).
-    if within low high (value 10 digits) then says_only (s (value 10 digits)) rest else None
+unfoldable pub number_within : ℕ → ℕ → (ℕ → Statement) → Reader (List Statement)
+number_within low high s t = number_at (skip t) >>= λ (n, rest). if within low high n then says_only (s n) rest else None
 
 -- `, word`
 unfoldable pub second_word : List ℕ → List ℕ → Option (List ℕ)
@@ -68,7 +68,7 @@ module _ (known : Known) where
   -- a condition: its name, or `0`
   unfoldable pub condition_at : (ℕ → Statement) → Reader (List Statement)
   condition_at s t = option_or (name_at (skip t) >>= λ (name, rest). known.number name >>= λ c. says_only (s c) rest)
-      (digits_at (skip t) >>= λ (digits, rest). if is_word digits (codes "0") then says_only (s 0) rest else None)
+      (run_at is_digit (skip t) >>= λ (digits, rest). if is_word digits (codes "0") then says_only (s 0) rest else None)
 
   -- the statements: the first word of each, and what follows it
   abbrev pub statements : List (List ℕ × Reader (List Statement))
@@ -77,9 +77,9 @@ module _ (known : Known) where
       ∷ (codes "REJECT", says_only Reject)
       ∷ (codes "BEGIN", λ t. if begins (codes "(") (skip t) then in_parentheses (condition_at Begin) t else condition_at Begin t)
       ∷ (codes "yymore", in_parentheses (says_only More))
-      ∷ (codes "yyless", in_parentheses (number_at 1 max_kept Less))
+      ∷ (codes "yyless", in_parentheses (number_within 1 max_kept Less))
       ∷ (codes "yyterminate", in_parentheses (says_only (End 0)))
-      ∷ (codes "exit", in_parentheses (number_at 0 max_status End))
+      ∷ (codes "exit", in_parentheses (number_within 0 max_status End))
       ∷ (codes "printf", in_parentheses format_at)
       ∷ (codes "fputs", in_parentheses (λ t. literal_at t >>= λ (text, rest). second_word (codes "yyout") rest >>= says_only (Print text)))
       ∷ (codes "puts", in_parentheses (λ t. literal_at t >>= λ (text, rest). says_only (Print (text ++ codes "\n")) rest))

@@ -1,10 +1,31 @@
 -- Strings of an action, and what stands between its words, byte by byte, as the code reads them.
 use Rattle.std.specs.Prelude.{ℕ, Bool, true, false, ◌||◌, ◌==◌, if◌then◌else◌, List, [], ◌∷◌, Option, Some, None, codes}
 use Rattle.std.specs.List.{list_any}
-use Rattle.lex_semantics.specs.ByteSets.{within}
+use Rattle.lex_semantics.specs.ByteSets.{within, is_digit}
 use Rattle.lex_semantics.specs.Reading.{◌>>=◌, Reader, is_white}
 use Rattle.lex_semantics.specs.Escapes.{simple_escape, is_octal, octal_at, hexadecimal_at, byte_with, until_quote}
-use Rattle.lexspec_actions.specs.Comments.{Place, outside, slash, block, star, after_byte}
+use Rattle.lexre_bytes.specs.Lexical.{run_at}
+
+-- the digits of a number
+abbrev pub digits_at : Reader (List ℕ)
+digits_at = run_at is_digit
+
+-- Comments by where a text stands: outside comments, after a slash there, in a `/* .. */` comment, after a star there, or in a `//`
+-- comment.
+pub data Place : Type 0 where
+  outside : Place
+  slash : Place
+  block : Place
+  star : Place
+  line : Place
+
+-- where a byte leads
+abbrev pub after_byte : Place → ℕ → Place
+after_byte outside c = if c == 47 then slash else outside
+after_byte slash c = if c == 42 then block else if c == 47 then line else outside
+after_byte block c = if c == 42 then star else block
+after_byte star c = if c == 47 then outside else if c == 42 then star else block
+after_byte line c = if c == 10 then outside else line
 
 -- what follows blanks, newlines and comments
 abbrev pub skip_in : Place → List ℕ → List ℕ

@@ -3,11 +3,13 @@ ghost use Rattle.std.specs.Prelude.{◌≡◌, ◌≤◌, ◌<◌, ◌+◌, suc,
 ghost use Rattle.std.specs.Prelude.{◌∷◌, [], MatchOption, IfSome, IfOk, IfErr};
 ghost use Rattle.lex_semantics.specs.Reading.{take_run, is_white, starts_name};
 ghost use Rattle.lex_semantics.specs.ByteSets.{is_digit};
-ghost use Rattle.lexspec_actions.specs.Bytes.{name_at, digits_at, skip, next};
+ghost use Rattle.lexre_bytes.specs.Lexical.{name_at};
+ghost use Rattle.lexspec_actions.specs.Bytes.{skip, next};
+ghost use Rattle.lexspec_actions.specs.ByteSteps.{digits_at};
 ghost use Rattle.lexspec_actions.specs.ByteSteps.{skip_in, as_byte};
 ghost use Rattle.lexspec_actions.specs.Bytes.{literal_at};
 ghost use Rattle.lexspec_actions.specs.ByteSteps.{plain_escape, escape_from, string_byte_at, string_at};
-ghost use Rattle.lexspec_actions.specs.Comments.{outside, slash, block, line};
+ghost use Rattle.lexspec_actions.specs.ByteSteps.{outside, slash, block, line};
 ghost use Rattle.lexspec_actions.specs.Outcome.{Reads};
 ghost use Rattle.lexspec_actions.specs.ActionFaults.{IsActionFault};
 
@@ -31,7 +33,7 @@ fn split_digits(text: &[u8]) -> (&[u8], &[u8])
     take_up_to(text.len(), |byte| Class::Digit.contains(byte), text)
 }
 
-#[tactic(auto, unfolding(crate::specs::Bytes::name_at))]
+#[tactic(auto, unfolding(lexre_bytes::specs::Lexical::name_at))]
 pub(crate) fn name_at(text: &[u8]) -> Option<(&[u8], &[u8])>
     ensures name { option_map (λ x. (x.0.now, x.1.now)) result ≡ name_at text.now }
     ensures shorter { IfSome result (λ x. length x.1.now < length text.now) }
@@ -43,7 +45,7 @@ pub(crate) fn name_at(text: &[u8]) -> Option<(&[u8], &[u8])>
     Some(split_name(text))
 }
 
-#[tactic(auto, unfolding(crate::specs::Bytes::digits_at), using(lex_semantics::proofs::ReadingLaws::empty_test))]
+#[tactic(auto, unfolding(lexre_bytes::specs::Lexical::run_at), using(lex_semantics::proofs::ReadingLaws::empty_test))]
 pub(crate) fn digits_at(text: &[u8]) -> Option<(&[u8], &[u8])>
     ensures digits { option_map (λ x. (x.0.now, x.1.now)) result ≡ digits_at text.now }
     ensures shorter { IfSome result (λ x. length x.1.now ≤ length text.now) }

@@ -2,6 +2,7 @@
 use Rattle.std.proofs.Common.{refl}
 use Rattle.lex_semantics.specs.ByteSets.{is_alpha, is_upper, is_lower, is_alnum, is_blank, is_digit}
 use Rattle.lex_semantics.specs.Reading.{take_up_to}
+use Rattle.lexre_bytes.specs.Lexical.{name_at}
 use Rattle.lexspec_lines.specs.Lines.{after_block}
 use Rattle.lexspec_lines.specs.DefinitionLines.{definition_at, definition_in, percent_line}
 use Rattle.lexspec_lines.specs.LineExamples.{ReturnsDropped, BlanksTrimmed, DollarAnchors, Declares, Defines, NoDefinitions, Block}
@@ -21,11 +22,11 @@ unfolding definition_at percent_line take_up_to is_alpha is_upper is_lower is_al
 conditions_declared = refl
 
 pub name_defined : Defines
-unfolding definition_at definition_in take_up_to is_alpha is_upper is_lower is_alnum is_blank is_digit
+unfolding definition_at definition_in name_at take_up_to is_alpha is_upper is_lower is_alnum is_blank is_digit
 name_defined = refl
 
 pub no_definitions : NoDefinitions
-unfolding definition_at definition_in take_up_to is_alpha is_upper is_lower is_alnum is_blank is_digit
+unfolding definition_at definition_in name_at take_up_to is_alpha is_upper is_lower is_alnum is_blank is_digit
 no_definitions = (refl, refl)
 
 pub block_skipped : Block

@@ -3,6 +3,7 @@ pub mod SkipLaws
 pub mod CodeLaws
 pub mod TextLaws
 pub mod WordLaws
+pub mod LineForms
 pub mod OneSection
 pub mod ComputedLines
 pub mod DeclaringLaws

@@ -29,16 +29,6 @@ unfolding take_up_to
 all_blank [] h = refl
 all_blank (c ∷ t) h = blank_step c t true (h 0 (omega arith)) ∙ all_blank t (λ k i. h (suc k) (omega arith))
 
--- no blank stands at the front
-pub blank_front : (t : List ℕ) → is_empty (blanks t).0 ≡ not (list_any is_blank (take 1 t))
-unfolding take_up_to
-blank_front [] = refl
-blank_front (c ∷ t) = from (is_blank c)
-  where
-    from : (b : Bool) → is_empty (choose b (c ∷ (blanks t).0, (blanks t).1) ([], c ∷ t)).0 ≡ not (b || false)
-    from true = refl
-    from false = refl
-
 -- where some byte is none, not all is
 not_blank : (t : List ℕ) (k : ℕ) → k < length t → is_blank (get_or t k 0) ≡ false → is_all_blank t ≡ false
 not_blank [] k h e = absurd (omega arith)
@@ -141,10 +131,6 @@ run_all test (c ∷ t) = from (test c) (run_all test t)
         → is_empty (choose b (c ∷ (take_run test t).0, (take_run test t).1) ([], c ∷ t)).1 ≡ (b && list_all test t)
     from true h = h
     from false h = refl
-
--- a list of one, and a longer one
-pub two_are_more : {A : Type 0} (x y : A) (xs : List A) → (length (x ∷ y ∷ xs) == 1) ≡ false
-two_are_more x y xs = ne_eqb (length (x ∷ y ∷ xs)) 1 (λ e. omega (arith, e))
 
 -- a byte is the sign, or no test finds it to be
 abbrev pub Other : ℕ → ℕ → Type 0

@@ -1,8 +1,9 @@
 -- The lines of the definitions section. (POSIX, lex, Definitions in lex; flex, Format of the Input File.)
 use Rattle.std.specs.Prelude.{◌≡◌, ℕ, suc, Bool, true, false, not, ◌&&◌, ◌||◌, ◌==◌, if◌then◌else◌, List, [], ◌∷◌, map, filter_map, flat_map, length, nat_eq, ◌-◌, take, drop, Option, Some, None, codes}
 use Rattle.std.specs.List.{list_any, list_all, ends_with, suffix_len}
-use Rattle.lex_semantics.specs.Reading.{◌>>=◌, Reader, IsCut, take_run, after_run, after_blanks, is_empty, begins, starts_name, goes_on_name}
+use Rattle.lex_semantics.specs.Reading.{◌>>=◌, Reader, IsCut, after_run, after_blanks, is_empty, begins, starts_name, goes_on_name}
 use Rattle.lex_semantics.specs.ByteSets.{is_digit, is_word, is_blank}
+use Rattle.lexre_bytes.specs.Lexical.{name_at}
 use Rattle.lexspec_lines.specs.Runs.{split_before}
 use Rattle.lexspec_lines.specs.Lines.{line_at, is_all_blank, words, after_block, after_comment}
 
@@ -36,10 +37,9 @@ is_name word = list_any starts_name (take 1 word) && list_all goes_on_name word
 
 -- a definition: the name, blanks, and a substitute, which is not anchored
 unfoldable pub definition_in : List ℕ → Option Definition
-definition_in line =
-    let (name, rest) = take_run goes_on_name line in
+definition_in line = name_at line >>= λ (name, rest).
     let text = trimmed (after_blanks rest) in
-    if list_any starts_name (take 1 line) && list_any is_blank (take 1 rest) && not (is_empty text || is_anchored text) then Some (defines name text) else None
+    if list_any is_blank (take 1 rest) && not (is_empty text || is_anchored text) then Some (defines name text) else None
 
 -- `%s` and `%x` have at least one name
 abbrev pub declaration : Bool → List (List ℕ) → Option Definition

@@ -4,6 +4,7 @@ pub mod Runs
 pub mod DefinitionLines
 pub mod DefinitionViews
 pub mod LineExamples
+pub mod LineSteps
 pub mod Outcome
 pub mod Declaring
 pub mod SkippedCode

@@ -102,7 +102,7 @@ fn ends_anchored(text: &[u8]) -> bool
 }
 
 /// The definition of a name, in a line.
-#[tactic(auto, unfolding(crate::specs::DefinitionLines::definition_in))]
+#[tactic(auto, using(crate::proofs::LineForms::definition_is), unfolding(crate::specs::LineSteps::definition_from))]
 fn definition_in(line: &[u8]) -> Result<Definition<'_>, DefinitionFault<'_>>
     ensures found { IfOk result (λ d. ◌≡◌ {A = Option Meant} (definition_in line.now) (Some (definition_of d))) }
     ensures none { OnErr result (◌≡◌ {A = Option Meant} (definition_in line.now) None) }

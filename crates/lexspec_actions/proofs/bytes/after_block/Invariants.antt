@@ -1,6 +1,6 @@
 use Rattle.std.proofs.Common.{◌≡◌, ◌≤◌, length}
 use Rattle.lexspec_actions.specs.ByteSteps.{skip_in, in_block}
-use Rattle.lexspec_actions.specs.Comments.{block}
+use Rattle.lexspec_actions.specs.ByteSteps.{block}
 use Rattle.lexspec_actions.proofs.bytes.after_block.Given as goal
 
 abbrev pub invariant-loop-first : goal.invariant-loop-first

@@ -1,6 +1,6 @@
 use Rattle.std.proofs.Common.{◌≡◌, ◌≤◌, length}
 use Rattle.lexspec_actions.specs.ByteSteps.{skip_in}
-use Rattle.lexspec_actions.specs.Comments.{line}
+use Rattle.lexspec_actions.specs.ByteSteps.{line}
 use Rattle.lexspec_actions.proofs.bytes.after_line.Given as goal
 
 abbrev pub invariant-loop-first : goal.invariant-loop-first

@@ -1,6 +1,6 @@
 use Rattle.std.proofs.Common.{◌≡◌, ◌≤◌, length}
 use Rattle.lexspec_actions.specs.ByteSteps.{skip_in}
-use Rattle.lexspec_actions.specs.Comments.{outside}
+use Rattle.lexspec_actions.specs.ByteSteps.{outside}
 use Rattle.lexspec_actions.proofs.bytes.skip.Given as goal
 
 abbrev pub invariant-loop-first : goal.invariant-loop-first
