@@ -4,6 +4,7 @@ ghost use Rattle.std.specs.Prelude.{OnErr, IfOk, IfErr, IfSome};
 ghost use Rattle.lex_semantics.specs.Text.{Among};
 ghost use Rattle.lex_semantics.specs.PlainMachine.{kept_by, match_of};
 ghost use Rattle.lex_machine.specs.Views.{cut_of};
+ghost use Rattle.lexscan_window.specs.Intakes.{sink_of, sink_name, can_write};
 ghost use Rattle.lexscan_window.specs.Reads.{write_fault_count};
 ghost use Rattle.lexscan_window.specs.Ends.{SinkLeft};
 ghost use Rattle.lexscan_matching.specs.Descends.{matches_of, conditions_of, finished_of, Tried, CutOff, CutAll};
@@ -48,21 +49,21 @@ fn try_rules<M: Machine, K: Sink>(
     acting: &mut ActionState,
     matched: &mut Option<MatchedRule>,
 ) -> Result<Step, RunError>
-    requires live { outlet.old.live ≡ true }
+    requires live { can_write outlet.old ≡ true }
     requires place { at + len ≤ length window.now.bytes }
     requires known { (i : ℕ) → Among rules.now i → i < (M.machine machine.now).count }
     requires inside { acting.old.end ≤ length window.now.bytes }
 
-    ensures same { outlet.new.sink.ghost_name ≡ outlet.old.sink.ghost_name }
-    ensures sink { SinkLeft K.failures outlet.old.sink.now outlet.new.sink.now outlet.new.live result }
+    ensures same { sink_name outlet.new ≡ sink_name outlet.old }
+    ensures sink { SinkLeft K.failures (sink_of outlet.old) (sink_of outlet.new) (can_write outlet.new) result }
 
     ensures inside { acting.new.end ≤ length window.now.bytes }
-    ensures tried { IfOk result (λ step. Tried (M.machine machine.now) K.wrote outlet.old.sink.now outlet.new.sink.now
+    ensures tried { IfOk result (λ step. Tried (M.machine machine.now) K.wrote (sink_of outlet.old) (sink_of outlet.new)
         window.now.bytes at (filter_map (match_of (M.machine machine.now) len) rules.now) (conditions_of acting.old)
         acting.new step) }
     ensures takes { IfOk result (TakesUnlessAgain (M.machine machine.now) window.now.bytes at
         (filter_map (match_of (M.machine machine.now) len) rules.now) (conditions_of acting.old) matched.new) }
-    ensures cut_off { OnErr result (CutOff (M.machine machine.now) K.wrote outlet.old.sink.now outlet.new.sink.now
+    ensures cut_off { OnErr result (CutOff (M.machine machine.now) K.wrote (sink_of outlet.old) (sink_of outlet.new)
         window.now.bytes at (filter_map (match_of (M.machine machine.now) len) rules.now) (conditions_of acting.old)) }
 {
     let held = window.len();
@@ -93,25 +94,25 @@ pub fn descend<M: Machine, K: Sink>(
     acting: &mut ActionState,
     matched: &mut Option<MatchedRule>,
 ) -> Result<Option<Finish>, RunError>
-    requires live { outlet.old.live ≡ true }
+    requires live { can_write outlet.old ≡ true }
     requires some { 1 ≤ length path.now.states }
     requires place { at + length path.now.states ≤ length window.now.bytes }
     requires known { (state : ℕ) → Among path.now.states state → state < M.states machine.now }
     requires inside { acting.old.end ≤ length window.now.bytes }
 
-    ensures same { outlet.new.sink.ghost_name ≡ outlet.old.sink.ghost_name }
-    ensures sink { SinkLeft K.failures outlet.old.sink.now outlet.new.sink.now outlet.new.live result }
+    ensures same { sink_name outlet.new ≡ sink_name outlet.old }
+    ensures sink { SinkLeft K.failures (sink_of outlet.old) (sink_of outlet.new) (can_write outlet.new) result }
 
     ensures inside { acting.new.end ≤ length window.now.bytes }
     ensures performed { IfOk result (λ ended. Performed (M.machine machine.now)
-        K.wrote outlet.old.sink.now outlet.new.sink.now window.now.bytes at
+        K.wrote (sink_of outlet.old) (sink_of outlet.new) window.now.bytes at
         (matches_of (M.machine machine.now) window.now.bytes at path.now.states)
         (conditions_of acting.old) acting.new (finished_of ended)) }
     ensures takes { OnOk result (Takes (M.machine machine.now) window.now.bytes at
         (matches_of (M.machine machine.now) window.now.bytes at path.now.states) (conditions_of acting.old)
         matched.new) }
     ensures cut_off { OnErr result (CutAll (M.machine machine.now)
-        K.wrote outlet.old.sink.now outlet.new.sink.now window.now.bytes at
+        K.wrote (sink_of outlet.old) (sink_of outlet.new) window.now.bytes at
         (matches_of (M.machine machine.now) window.now.bytes at path.now.states) (conditions_of acting.old)) }
 {
     let mut len = path.len();

@@ -2,6 +2,7 @@
 ghost use Rattle.std.specs.Prelude.{◌≡◌, ℕ, ◌+◌, ◌-◌, ◌<◌, List, length, true, map, IfOk, IfSome};
 ghost use Rattle.lex_io.specs.Sink.{Appended};
 ghost use Rattle.lex_machine.specs.Glances.{Leads};
+ghost use Rattle.lexscan_window.specs.Intakes.{sink_of, sink_name, can_write};
 ghost use Rattle.lexscan_window.specs.Ends.{SinkLeft};
 ghost use Rattle.lex_machine.specs.Views.{statement_of};
 ghost use Rattle.lexscan_window.specs.Acts.{said};
@@ -126,11 +127,11 @@ fn do_several<K: Sink>(
     text: &[u8],
     condition: u8,
 ) -> Result<u8, RunError>
-    requires live { outlet.old.live ≡ true }
-    ensures same { outlet.new.sink.ghost_name ≡ outlet.old.sink.ghost_name }
-    ensures bytes { Appended (λ xs. K.wrote outlet.old.sink.now xs outlet.new.sink.now)
+    requires live { can_write outlet.old ≡ true }
+    ensures same { sink_name outlet.new ≡ sink_name outlet.old }
+    ensures bytes { Appended (λ xs. K.wrote (sink_of outlet.old) xs (sink_of outlet.new))
         (all_said (map statement_of statements.now) text.now) result }
-    ensures sink { SinkLeft K.failures outlet.old.sink.now outlet.new.sink.now outlet.new.live result }
+    ensures sink { SinkLeft K.failures (sink_of outlet.old) (sink_of outlet.new) (can_write outlet.new) result }
     ensures condition { IfOk result (λ after. after ≡ all_begun (map statement_of statements.now) condition) }
 {
     let mut after = condition;
@@ -148,11 +149,11 @@ fn do_one<K: Sink>(
     text: &[u8],
     condition: u8,
 ) -> Result<u8, RunError>
-    requires live { outlet.old.live ≡ true }
-    ensures same { outlet.new.sink.ghost_name ≡ outlet.old.sink.ghost_name }
-    ensures bytes { Appended (λ xs. K.wrote outlet.old.sink.now xs outlet.new.sink.now)
+    requires live { can_write outlet.old ≡ true }
+    ensures same { sink_name outlet.new ≡ sink_name outlet.old }
+    ensures bytes { Appended (λ xs. K.wrote (sink_of outlet.old) xs (sink_of outlet.new))
         (said (statement_of statement.now) text.now) result }
-    ensures sink { SinkLeft K.failures outlet.old.sink.now outlet.new.sink.now outlet.new.live result }
+    ensures sink { SinkLeft K.failures (sink_of outlet.old) (sink_of outlet.new) (can_write outlet.new) result }
     ensures condition { IfOk result (λ after. after ≡ begun (statement_of statement.now) condition) }
 {
     match statement {
@@ -182,11 +183,11 @@ pub fn do_gist<K: Sink>(
     text: &[u8],
     condition: u8,
 ) -> Result<u8, RunError>
-    requires live { outlet.old.live ≡ true }
-    ensures same { outlet.new.sink.ghost_name ≡ outlet.old.sink.ghost_name }
-    ensures bytes { Appended (λ xs. K.wrote outlet.old.sink.now xs outlet.new.sink.now)
+    requires live { can_write outlet.old ≡ true }
+    ensures same { sink_name outlet.new ≡ sink_name outlet.old }
+    ensures bytes { Appended (λ xs. K.wrote (sink_of outlet.old) xs (sink_of outlet.new))
         (written_by gist.entry text.now) result }
-    ensures sink { SinkLeft K.failures outlet.old.sink.now outlet.new.sink.now outlet.new.live result }
+    ensures sink { SinkLeft K.failures (sink_of outlet.old) (sink_of outlet.new) (can_write outlet.new) result }
     ensures condition { IfOk result (λ after. after ≡ condition_after gist.entry condition) }
 {
     match gist {

@@ -1,6 +1,7 @@
 //! One match, which takes bytes from the source as it asks for them, by its last two states.
 ghost use Rattle.std.specs.Prelude.{◌≡◌, ℕ, ◌+◌, ◌-◌, ◌^◌, ◌<◌, ◌≤◌, List, [], length, true, false, OnOk, OnErr};
 ghost use Rattle.std.specs.Prelude.{IfOk, IsErrOf, IfSome, drop, ◌⊎◌};
+ghost use Rattle.lexscan_window.specs.Intakes.{source_of, source_name, can_read, sink_of, sink_name, can_write};
 ghost use Rattle.lexscan_window.specs.Reads.{Took, read_fault_count, end_step};
 ghost use Rattle.lexscan_window.specs.Ends.{SourceLeft, NothingPut};
 ghost use Rattle.lexscan_matching.specs.Looks.{SoFar, Wants};
@@ -20,20 +21,21 @@ pub fn look_ahead_last<M: Machine, S: Source, K: Sink>(
     reading: &mut Reading,
     place: TextPlace,
 ) -> Result<Option<LookAhead>, RunError>
-    requires live { reading.old.at_end ≡ false → intake.old.live ≡ true }
-    requires sink { outlet.old.live ≡ true }
+    requires live { reading.old.at_end ≡ false → can_read intake.old ≡ true }
+    requires sink { can_write outlet.old ≡ true }
     requires inside { place.at ≤ length reading.old.window.bytes }
     requires condition { place.condition < (M.machine machine.now).conditions }
 
-    ensures same { intake.new.source.ghost_name ≡ intake.old.source.ghost_name }
-    ensures same_sink { outlet.new.sink.ghost_name ≡ outlet.old.sink.ghost_name }
-    ensures put { NothingPut K.wrote K.failures outlet.old.sink.now outlet.new.sink.now outlet.new.live result }
-    ensures took { Took S.gave intake.old.source.now intake.new.source.now reading.old reading.new }
+    ensures same { source_name intake.new ≡ source_name intake.old }
+    ensures same_sink { sink_name outlet.new ≡ sink_name outlet.old }
+    ensures put { NothingPut K.wrote K.failures (sink_of outlet.old) (sink_of outlet.new) (can_write outlet.new)
+        result }
+    ensures took { Took S.gave (source_of intake.old) (source_of intake.new) reading.old reading.new }
     ensures looked { IfOk result (λ ahead. LookedSome (M.machine machine.now) place reading.old reading.new ahead) }
     ensures tells { IfOk result
         (λ ahead. IfSome ahead (Tells (M.machine machine.now) (M.states machine.now) place reading.new.window.bytes)) }
     ensures unmet { OnErr result (Wants (M.machine machine.now) place reading.new) }
-    ensures source { SourceLeft S.ends S.failures intake.old.source.now intake.new.source.now intake.new.live
+    ensures source { SourceLeft S.ends S.failures (source_of intake.old) (source_of intake.new) (can_read intake.new)
         reading.old reading.new result }
 
     ensures too_many { IsErrOf result RunError.TooManyReads → reading.new.taken ≡ reading.new.max_reads }
@@ -89,8 +91,8 @@ pub fn look_ahead_more<M: Machine, S: Source, K: Sink>(
     place: TextPlace,
     ahead: LookAhead,
 ) -> Result<Option<LookAhead>, RunError>
-    requires live { reading.old.at_end ≡ false → intake.old.live ≡ true }
-    requires sink { outlet.old.live ≡ true }
+    requires live { reading.old.at_end ≡ false → can_read intake.old ≡ true }
+    requires sink { can_write outlet.old ≡ true }
     requires inside { place.at + ahead.reach ≡ length reading.old.window.bytes }
     requires so_far { SoFar (M.machine machine.now) place (drop place.at reading.old.window.bytes) ahead.reach
         ahead.state (path_of (M.machine machine.now) place reading.old.window.bytes ahead.reach) }
@@ -100,15 +102,16 @@ pub fn look_ahead_more<M: Machine, S: Source, K: Sink>(
     requires known { ahead.state < M.states machine.now }
     requires known_before { ahead.before < M.states machine.now }
 
-    ensures same { intake.new.source.ghost_name ≡ intake.old.source.ghost_name }
-    ensures same_sink { outlet.new.sink.ghost_name ≡ outlet.old.sink.ghost_name }
-    ensures put { NothingPut K.wrote K.failures outlet.old.sink.now outlet.new.sink.now outlet.new.live result }
-    ensures took { Took S.gave intake.old.source.now intake.new.source.now reading.old reading.new }
+    ensures same { source_name intake.new ≡ source_name intake.old }
+    ensures same_sink { sink_name outlet.new ≡ sink_name outlet.old }
+    ensures put { NothingPut K.wrote K.failures (sink_of outlet.old) (sink_of outlet.new) (can_write outlet.new)
+        result }
+    ensures took { Took S.gave (source_of intake.old) (source_of intake.new) reading.old reading.new }
     ensures looked { IfOk result (λ ahead. LookedSome (M.machine machine.now) place reading.old reading.new ahead) }
     ensures tells { IfOk result
         (λ ahead. IfSome ahead (Tells (M.machine machine.now) (M.states machine.now) place reading.new.window.bytes)) }
     ensures unmet { OnErr result (Wants (M.machine machine.now) place reading.new) }
-    ensures source { SourceLeft S.ends S.failures intake.old.source.now intake.new.source.now intake.new.live
+    ensures source { SourceLeft S.ends S.failures (source_of intake.old) (source_of intake.new) (can_read intake.new)
         reading.old reading.new result }
 
     ensures too_many { IsErrOf result RunError.TooManyReads → reading.new.taken ≡ reading.new.max_reads }

@@ -2,6 +2,7 @@
 ghost use Rattle.std.specs.Prelude.{◌≡◌, ℕ, ◌+◌, ◌-◌, ◌^◌, ◌<◌, ◌≤◌, List, [], length, true, false, OnOk, OnErr};
 ghost use Rattle.std.specs.Prelude.{IfOk, IsErrOf};
 ghost use Rattle.lex_semantics.specs.Text.{Among};
+ghost use Rattle.lexscan_window.specs.Intakes.{source_of, source_name, can_read, sink_of, sink_name, can_write};
 ghost use Rattle.lexscan_window.specs.Reads.{Took, read_fault_count, end_step};
 ghost use Rattle.lexscan_window.specs.Ends.{SourceLeft, NothingPut};
 ghost use Rattle.lexscan_matching.specs.Looks.{LookedOrAtEnd, Wants, Unmet};
@@ -19,19 +20,20 @@ pub fn look_ahead<M: Machine, S: Source, K: Sink>(
     path: &mut StatePath,
     place: TextPlace,
 ) -> Result<bool, RunError>
-    requires live { reading.old.at_end ≡ false → intake.old.live ≡ true }
-    requires sink { outlet.old.live ≡ true }
+    requires live { reading.old.at_end ≡ false → can_read intake.old ≡ true }
+    requires sink { can_write outlet.old ≡ true }
     requires inside { place.at ≤ length reading.old.window.bytes }
     requires condition { place.condition < (M.machine machine.now).conditions }
 
-    ensures same { intake.new.source.ghost_name ≡ intake.old.source.ghost_name }
-    ensures same_sink { outlet.new.sink.ghost_name ≡ outlet.old.sink.ghost_name }
-    ensures put { NothingPut K.wrote K.failures outlet.old.sink.now outlet.new.sink.now outlet.new.live result }
-    ensures took { Took S.gave intake.old.source.now intake.new.source.now reading.old reading.new }
+    ensures same { source_name intake.new ≡ source_name intake.old }
+    ensures same_sink { sink_name outlet.new ≡ sink_name outlet.old }
+    ensures put { NothingPut K.wrote K.failures (sink_of outlet.old) (sink_of outlet.new) (can_write outlet.new)
+        result }
+    ensures took { Took S.gave (source_of intake.old) (source_of intake.new) reading.old reading.new }
     ensures looked { IfOk result (λ some. LookedOrAtEnd (M.machine machine.now) place reading.old reading.new
         path.new.states some) }
     ensures unmet { OnErr result (Unmet (M.machine machine.now) place reading.old reading.new) }
-    ensures source { SourceLeft S.ends S.failures intake.old.source.now intake.new.source.now intake.new.live
+    ensures source { SourceLeft S.ends S.failures (source_of intake.old) (source_of intake.new) (can_read intake.new)
         reading.old reading.new result }
     ensures inside { OnOk result (place.at + length path.new.states ≤ length reading.new.window.bytes) }
     ensures some { IfOk result (λ some. some ≡ true → 1 ≤ length path.new.states) }

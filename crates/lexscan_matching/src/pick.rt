@@ -5,6 +5,7 @@ ghost use Rattle.lex_semantics.specs.Text.{Among};
 ghost use Rattle.lex_semantics.specs.PlainMachine.{match_of};
 ghost use Rattle.lex_semantics.specs.Trail.{falling};
 ghost use Rattle.lex_semantics.specs.MachineLaws.{NoReject};
+ghost use Rattle.lexscan_window.specs.Intakes.{sink_of, sink_name, can_write};
 ghost use Rattle.lexscan_window.specs.Reads.{write_fault_count};
 ghost use Rattle.lexscan_window.specs.Ends.{SinkLeft};
 ghost use Rattle.lexscan_matching.specs.Descends.{matches_of, CutAll, Performed, conditions_of, finished_of};
@@ -133,23 +134,23 @@ pub fn carry_pick<M: Machine, K: Sink>(
     pick: Option<Pick<'_>>,
     acting: &mut ActionState,
 ) -> Result<Option<Finish>, RunError>
-    requires live { outlet.old.live ≡ true }
+    requires live { can_write outlet.old ≡ true }
     requires no_reject { NoReject (M.machine machine.now) }
     requires inside { place.at + reach ≤ length window.now.bytes }
     requires some { 1 ≤ reach }
     requires longest { IsLongest (M.machine machine.now) place window.now.bytes reach pick }
 
-    ensures same { outlet.new.sink.ghost_name ≡ outlet.old.sink.ghost_name }
-    ensures sink { SinkLeft K.failures outlet.old.sink.now outlet.new.sink.now outlet.new.live result }
+    ensures same { sink_name outlet.new ≡ sink_name outlet.old }
+    ensures sink { SinkLeft K.failures (sink_of outlet.old) (sink_of outlet.new) (can_write outlet.new) result }
 
     ensures inside { acting.new.end ≤ length window.now.bytes }
     ensures performed { IfOk result (λ ended. Performed (M.machine machine.now)
-        K.wrote outlet.old.sink.now outlet.new.sink.now window.now.bytes place.at
+        K.wrote (sink_of outlet.old) (sink_of outlet.new) window.now.bytes place.at
         (matches_of (M.machine machine.now) window.now.bytes place.at
         (path_of (M.machine machine.now) place window.now.bytes reach))
         (conditions_of acting.old) acting.new (finished_of ended)) }
     ensures cut_off { OnErr result (CutAll (M.machine machine.now)
-        K.wrote outlet.old.sink.now outlet.new.sink.now window.now.bytes place.at
+        K.wrote (sink_of outlet.old) (sink_of outlet.new) window.now.bytes place.at
         (matches_of (M.machine machine.now) window.now.bytes place.at
         (path_of (M.machine machine.now) place window.now.bytes reach))
         (conditions_of acting.old)) }

@@ -1,6 +1,7 @@
 pub mod Window
 pub mod Walks
 pub mod Answer
+pub mod Intakes
 pub mod Reads
 pub mod Ends
 pub mod Acts

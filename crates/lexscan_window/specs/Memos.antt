@@ -18,9 +18,13 @@ Barren M at_end s (b ∷ w) = M.goes_on s ≡ true → (M.accepts (M.next s b) �
 abbrev pub unmarked : Mark
 unmarked = record { place = 0; state = 0 }
 
+-- the place of which a cell tells
+abbrev pub cell_place : Cell → ℕ
+cell_place c = c.place
+
 -- a state at the place of a cell
 abbrev pub mark_at : Cell → ℕ → Mark
-mark_at c s = record { place = c.place; state = s }
+mark_at c s = record { place = cell_place c; state = s }
 
 -- the marks of a cell
 abbrev pub marks_of : Cell → List Mark

@@ -8,6 +8,14 @@ use Rattle.lexscan_window.specs.declared.waiting.Waiting.{Waiting}
 abbrev pub bytes_left : Waiting → List ℕ
 bytes_left s = s.rest.now ++ s.later.now
 
+-- those of them that it has ready
+abbrev pub bytes_ready : Waiting → List ℕ
+bytes_ready s = s.rest.now
+
+-- how often it has answered its end
+abbrev pub ends_told : Waiting → ℕ
+ends_told s = s.ends
+
 -- The source lost these bytes. It answered its end only where none was left.
 pub record GivesWaiting (rest : List ℕ) (ends : ℕ) (rest' : List ℕ) (ends' : ℕ) (bytes : List ℕ) : Type 0 where
   pub taken : rest ≡ bytes ++ rest'

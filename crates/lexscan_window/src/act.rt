@@ -6,6 +6,7 @@ ghost use Rattle.lexscan_window.specs.Reads.{write_fault_count};
 ghost use Rattle.lexscan_window.specs.Ends.{SinkLeft};
 ghost use Rattle.lex_machine.specs.Views.{statement_of};
 ghost use Rattle.lexscan_window.specs.Acts.{said, Steps, Carried, CutShort};
+ghost use Rattle.lexscan_window.specs.Intakes.{sink_of, sink_name, can_write};
 
 use crate::error::RunError;
 use crate::intake::Outlet;
@@ -42,10 +43,10 @@ pub enum Step {
 /// Writes the bytes.
 #[inline(always)]
 pub fn put<K: Sink>(outlet: &mut Outlet<'_, K>, bytes: &[u8]) -> Result<(), RunError>
-    requires { outlet.old.live ≡ true }
-    ensures same { outlet.new.sink.ghost_name ≡ outlet.old.sink.ghost_name }
-    ensures bytes { Appended (λ xs. K.wrote outlet.old.sink.now xs outlet.new.sink.now) bytes.now result }
-    ensures sink { SinkLeft K.failures outlet.old.sink.now outlet.new.sink.now outlet.new.live result }
+    requires { can_write outlet.old ≡ true }
+    ensures same { sink_name outlet.new ≡ sink_name outlet.old }
+    ensures bytes { Appended (λ xs. K.wrote (sink_of outlet.old) xs (sink_of outlet.new)) bytes.now result }
+    ensures sink { SinkLeft K.failures (sink_of outlet.old) (sink_of outlet.new) (can_write outlet.new) result }
 {
     match outlet.put(bytes) {
         Err(_) => Err(RunError::Write),
@@ -61,13 +62,13 @@ pub fn carry_one<K: Sink>(
     statement: &Statement,
     acting: &mut ActionState,
 ) -> Result<Step, RunError>
-    requires live { outlet.old.live ≡ true }
+    requires live { can_write outlet.old ≡ true }
     requires inside { acting.old.end ≤ length window.now.bytes }
 
-    ensures same { outlet.new.sink.ghost_name ≡ outlet.old.sink.ghost_name }
-    ensures bytes { Appended (λ xs. K.wrote outlet.old.sink.now xs outlet.new.sink.now)
+    ensures same { sink_name outlet.new ≡ sink_name outlet.old }
+    ensures bytes { Appended (λ xs. K.wrote (sink_of outlet.old) xs (sink_of outlet.new))
         (said (statement_of statement.now) (take acting.old.end window.now.bytes)) result }
-    ensures sink { SinkLeft K.failures outlet.old.sink.now outlet.new.sink.now outlet.new.live result }
+    ensures sink { SinkLeft K.failures (sink_of outlet.old) (sink_of outlet.new) (can_write outlet.new) result }
 
     ensures inside { acting.new.end ≤ length window.now.bytes }
     ensures steps { IfOk result
@@ -105,16 +106,16 @@ pub fn carry_out<K: Sink>(
     statements: &[Statement],
     acting: &mut ActionState,
 ) -> Result<Step, RunError>
-    requires live { outlet.old.live ≡ true }
+    requires live { can_write outlet.old ≡ true }
     requires inside { acting.old.end ≤ length window.now.bytes }
 
-    ensures same { outlet.new.sink.ghost_name ≡ outlet.old.sink.ghost_name }
-    ensures sink { SinkLeft K.failures outlet.old.sink.now outlet.new.sink.now outlet.new.live result }
+    ensures same { sink_name outlet.new ≡ sink_name outlet.old }
+    ensures sink { SinkLeft K.failures (sink_of outlet.old) (sink_of outlet.new) (can_write outlet.new) result }
 
     ensures inside { acting.new.end ≤ length window.now.bytes }
-    ensures carried { IfOk result (λ step. Carried K.wrote outlet.old.sink.now outlet.new.sink.now window.now.bytes
+    ensures carried { IfOk result (λ step. Carried K.wrote (sink_of outlet.old) (sink_of outlet.new) window.now.bytes
         (map statement_of statements.now) acting.old acting.new step) }
-    ensures cut_short { OnErr result (CutShort K.wrote outlet.old.sink.now outlet.new.sink.now window.now.bytes
+    ensures cut_short { OnErr result (CutShort K.wrote (sink_of outlet.old) (sink_of outlet.new) window.now.bytes
         (map statement_of statements.now) acting.old) }
 {
     for statement in statements {

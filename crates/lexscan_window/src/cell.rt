@@ -1,7 +1,7 @@
 //! A few marks of one place of the source.
 ghost use Rattle.std.specs.Prelude.{◌≡◌, ◌⊎◌, true};
 ghost use Rattle.lex_semantics.specs.Text.{Among};
-ghost use Rattle.lexscan_window.specs.Memos.{marks_of};
+ghost use Rattle.lexscan_window.specs.Memos.{cell_place, mark_at, marks_of};
 ghost use Rattle.lexscan_window.specs.declared.memo.Mark.{Mark};
 
 /// From one to four states at a place of the source. Where there are fewer than four, the first one stands more than
@@ -31,14 +31,14 @@ impl Cell {
 
     /// Whether it is about this place.
     pub fn is_at(self, place: u64) -> bool
-        ensures { result ≡ true → self.place ≡ place }
+        ensures { result ≡ true → cell_place self ≡ place }
     {
         self.place == place
     }
 
     /// Whether it has this state.
     pub fn has(self, state: u32) -> bool
-        ensures { result ≡ true → Among (marks_of self) (record { place = self.place; state = state }) }
+        ensures { result ≡ true → Among (marks_of self) (mark_at self state) }
     {
         u32::from(self.first) == state
             || u32::from(self.second) == state

@@ -17,21 +17,23 @@ pub struct Intake<'a, S: Source> {
 }
 
 impl<'a, S: Source> Intake<'a, S> {
+    ghost use Rattle.lexscan_window.specs.Intakes.{source_of, source_name, can_read};
+
     /// A source that has not failed or ended here.
     pub fn new(source: &'a mut S) -> Intake<'a, S>
         requires few_ends { S.ends source.old < 2 ^ 64 - 1 }
         requires few_failures { S.failures source.old < 2 ^ 64 - 1 }
-        ensures same { result.source.ghost_name ≡ source.entry.ghost_name }
-        ensures value { result.source.now ≡ source.old }
-        ensures live { result.live ≡ true }
+        ensures same { source_name result ≡ source.entry.ghost_name }
+        ensures value { source_of result ≡ source.old }
+        ensures live { can_read result ≡ true }
     {
         Intake { source, live: true }
     }
 
     /// Gives the source back.
     pub fn into_inner(self) -> &'a mut S
-        ensures same { result.ghost_name ≡ self.entry.source.ghost_name }
-        ensures value { result.now ≡ self.entry.source.now }
+        ensures same { result.ghost_name ≡ source_name self.entry }
+        ensures value { result.now ≡ source_of self.entry }
     {
         let Intake { source, .. } = self;
         source
@@ -40,12 +42,12 @@ impl<'a, S: Source> Intake<'a, S> {
     /// The next byte, or none at the end. After the end or a fault the source is not called again.
     #[inline]
     pub fn next(&mut self) -> Result<Option<u8>, ReadFault>
-        requires { self.old.live ≡ true }
-        ensures same { self.new.source.ghost_name ≡ self.old.source.ghost_name }
-        ensures byte { S.gave self.old.source.now (given result) self.new.source.now }
-        ensures ends { S.ends self.new.source.now ≡ S.ends self.old.source.now + end_count result }
-        ensures failures { S.failures self.new.source.now ≡ S.failures self.old.source.now + fault_count result }
-        ensures live { self.new.live ≡ gives_byte result }
+        requires { can_read self.old ≡ true }
+        ensures same { source_name self.new ≡ source_name self.old }
+        ensures byte { S.gave (source_of self.old) (given result) (source_of self.new) }
+        ensures ends { S.ends (source_of self.new) ≡ S.ends (source_of self.old) + end_count result }
+        ensures failures { S.failures (source_of self.new) ≡ S.failures (source_of self.old) + fault_count result }
+        ensures live { can_read self.new ≡ gives_byte result }
     {
         match self.source.next() {
             Ok(Some(byte)) => Ok(Some(byte)),
@@ -58,10 +60,12 @@ impl<'a, S: Source> Intake<'a, S> {
 }
 
 impl<'a, S: Source> Intake<'a, S> {
+    ghost use Rattle.lexscan_window.specs.Intakes.{source_of, source_name, can_read};
+
     /// The bytes that the source has ready. They are not given yet.
     #[inline(always)]
     pub fn ahead(&self) -> &[u8]
-        ensures { result.now ≡ S.ready self.now.source.now }
+        ensures { result.now ≡ S.ready (source_of self.now) }
     {
         self.source.ahead()
     }
@@ -69,7 +73,7 @@ impl<'a, S: Source> Intake<'a, S> {
     /// Whether the next byte may have to be waited for.
     #[inline(always)]
     pub fn may_wait(&self) -> bool
-        ensures { result ≡ S.waits self.now.source.now }
+        ensures { result ≡ S.waits (source_of self.now) }
     {
         self.source.may_wait()
     }
@@ -77,12 +81,12 @@ impl<'a, S: Source> Intake<'a, S> {
     /// Has the source give as many of these bytes.
     #[inline(always)]
     pub fn give(&mut self, count: usize)
-        requires { count ≤ length (S.ready self.old.source.now) }
-        ensures same { self.new.source.ghost_name ≡ self.old.source.ghost_name }
-        ensures bytes { S.gave self.old.source.now (take count (S.ready self.old.source.now)) self.new.source.now }
-        ensures ends { S.ends self.new.source.now ≡ S.ends self.old.source.now }
-        ensures failures { S.failures self.new.source.now ≡ S.failures self.old.source.now }
-        ensures live { self.new.live ≡ self.old.live }
+        requires { count ≤ length (S.ready (source_of self.old)) }
+        ensures same { source_name self.new ≡ source_name self.old }
+        ensures bytes { S.gave (source_of self.old) (take count (S.ready (source_of self.old))) (source_of self.new) }
+        ensures ends { S.ends (source_of self.new) ≡ S.ends (source_of self.old) }
+        ensures failures { S.failures (source_of self.new) ≡ S.failures (source_of self.old) }
+        ensures live { can_read self.new ≡ can_read self.old }
     {
         let live = self.live;
         self.live = false;
@@ -103,12 +107,14 @@ pub struct Outlet<'a, K: Sink> {
 }
 
 impl<'a, K: Sink> Outlet<'a, K> {
+    ghost use Rattle.lexscan_window.specs.Intakes.{sink_of, sink_name, can_write};
+
     /// A sink that has not failed here.
     pub fn new(sink: &'a mut K) -> Outlet<'a, K>
         requires { K.failures sink.old < 2 ^ 64 - 1 }
-        ensures same { result.sink.ghost_name ≡ sink.entry.ghost_name }
-        ensures value { result.sink.now ≡ sink.old }
-        ensures live { result.live ≡ true }
+        ensures same { sink_name result ≡ sink.entry.ghost_name }
+        ensures value { sink_of result ≡ sink.old }
+        ensures live { can_write result ≡ true }
     {
         Outlet {
             sink,
@@ -119,8 +125,8 @@ impl<'a, K: Sink> Outlet<'a, K> {
 
     /// Gives the sink back.
     pub fn into_inner(self) -> &'a mut K
-        ensures same { result.ghost_name ≡ self.entry.sink.ghost_name }
-        ensures value { result.now ≡ self.entry.sink.now }
+        ensures same { result.ghost_name ≡ sink_name self.entry }
+        ensures value { result.now ≡ sink_of self.entry }
     {
         let Outlet { sink, .. } = self;
         sink
@@ -128,7 +134,7 @@ impl<'a, K: Sink> Outlet<'a, K> {
 
     /// A look at the sink.
     pub fn sink(&self) -> &K
-        ensures { result.now ≡ self.now.sink.now }
+        ensures { result.now ≡ sink_of self.now }
     {
         self.sink
     }
@@ -136,11 +142,11 @@ impl<'a, K: Sink> Outlet<'a, K> {
     /// Appends bytes to the sink. After a fault it is not called again.
     #[inline]
     pub fn put(&mut self, bytes: &[u8]) -> Result<(), WriteFault>
-        requires { self.old.live ≡ true }
-        ensures same { self.new.sink.ghost_name ≡ self.old.sink.ghost_name }
-        ensures bytes { Appended (λ xs. K.wrote self.old.sink.now xs self.new.sink.now) bytes.now result }
-        ensures failures { K.failures self.new.sink.now ≡ K.failures self.old.sink.now + fault_count result }
-        ensures live { self.new.live ≡ is_ok result }
+        requires { can_write self.old ≡ true }
+        ensures same { sink_name self.new ≡ sink_name self.old }
+        ensures bytes { Appended (λ xs. K.wrote (sink_of self.old) xs (sink_of self.new)) bytes.now result }
+        ensures failures { K.failures (sink_of self.new) ≡ K.failures (sink_of self.old) + fault_count result }
+        ensures live { can_write self.new ≡ is_ok result }
     {
         self.live = false;
         self.pending = true;
@@ -151,12 +157,12 @@ impl<'a, K: Sink> Outlet<'a, K> {
 
     /// Has the sink hand on what was put. After a fault it is not called again.
     pub fn flush(&mut self) -> Result<(), WriteFault>
-        requires { self.old.live ≡ true }
-        ensures same { self.new.sink.ghost_name ≡ self.old.sink.ghost_name }
-        ensures bytes { K.wrote self.old.sink.now [] self.new.sink.now }
-        ensures failures { K.failures self.new.sink.now ≡ K.failures self.old.sink.now + fault_count result }
-        ensures live { self.new.live ≡ is_ok result }
-        ensures flushed { OnOk result (K.flushed self.new.sink.now ≡ true) }
+        requires { can_write self.old ≡ true }
+        ensures same { sink_name self.new ≡ sink_name self.old }
+        ensures bytes { K.wrote (sink_of self.old) [] (sink_of self.new) }
+        ensures failures { K.failures (sink_of self.new) ≡ K.failures (sink_of self.old) + fault_count result }
+        ensures live { can_write self.new ≡ is_ok result }
+        ensures flushed { OnOk result (K.flushed (sink_of self.new) ≡ true) }
     {
         self.live = false;
         self.pending = true;
@@ -169,7 +175,7 @@ impl<'a, K: Sink> Outlet<'a, K> {
     /// Whether something may have been put that no flush has handed on.
     #[inline(always)]
     pub fn is_pending(&self) -> bool
-        ensures { result ≡ false → K.flushed self.now.sink.now ≡ true }
+        ensures { result ≡ false → K.flushed (sink_of self.now) ≡ true }
     {
         self.pending
     }

@@ -5,6 +5,7 @@ ghost use Rattle.lex_io.specs.Source.{given};
 ghost use Rattle.lex_semantics.specs.Text.{IsText};
 ghost use Rattle.lexscan_window.specs.Walks.{Grown, Walked, StopsAt, ends_at};
 ghost use Rattle.lexscan_window.specs.Reads.{Took, IsThere, IsWanted, IsShort, is_end, read_fault_count, end_step};
+ghost use Rattle.lexscan_window.specs.Intakes.{source_of, source_name, can_read, sink_of, sink_name, can_write};
 ghost use Rattle.lexscan_window.specs.Answer.{end_read};
 ghost use Rattle.lexscan_window.specs.Ends.{SourceLeft, NothingPut};
 
@@ -24,19 +25,20 @@ fn take_plain<S: Source, K: Sink>(
     outlet: &mut Outlet<'_, K>,
     reading: &mut Reading,
 ) -> Result<Option<u8>, RunError>
-    requires live { intake.old.live ≡ true }
-    requires sink { outlet.old.live ≡ true }
+    requires live { can_read intake.old ≡ true }
+    requires sink { can_write outlet.old ≡ true }
     requires more { reading.old.at_end ≡ false }
 
-    ensures same { intake.new.source.ghost_name ≡ intake.old.source.ghost_name }
-    ensures same_sink { outlet.new.sink.ghost_name ≡ outlet.old.sink.ghost_name }
-    ensures put { NothingPut K.wrote K.failures outlet.old.sink.now outlet.new.sink.now outlet.new.live result }
-    ensures tied { OnOk result (S.waits intake.old.source.now ≡ true → K.flushed outlet.new.sink.now ≡ true) }
-    ensures byte { S.gave intake.old.source.now (given result) intake.new.source.now }
+    ensures same { source_name intake.new ≡ source_name intake.old }
+    ensures same_sink { sink_name outlet.new ≡ sink_name outlet.old }
+    ensures put { NothingPut K.wrote K.failures (sink_of outlet.old) (sink_of outlet.new) (can_write outlet.new)
+        result }
+    ensures tied { OnOk result (S.waits (source_of intake.old) ≡ true → K.flushed (sink_of outlet.new) ≡ true) }
+    ensures byte { S.gave (source_of intake.old) (given result) (source_of intake.new) }
     ensures text { IsText (given result) }
-    ensures ends { S.ends intake.new.source.now ≡ S.ends intake.old.source.now + (if is_end result then 1 else 0) }
-    ensures failures { S.failures intake.new.source.now ≡ S.failures intake.old.source.now + read_fault_count result }
-    ensures live { OnOk result (reading.new.at_end ≡ false → intake.new.live ≡ true) }
+    ensures ends { S.ends (source_of intake.new) ≡ S.ends (source_of intake.old) + (if is_end result then 1 else 0) }
+    ensures failures { S.failures (source_of intake.new) ≡ S.failures (source_of intake.old) + read_fault_count result }
+    ensures live { OnOk result (reading.new.at_end ≡ false → can_read intake.new ≡ true) }
 
     ensures held { reading.new.window.bytes ≡ reading.old.window.bytes ++ given result }
     ensures taken { reading.new.taken ≡ reading.old.taken + length (given result) }
@@ -80,19 +82,20 @@ fn take_byte<S: Source, K: Sink>(
     reading: &mut Reading,
     path: &mut StatePath,
 ) -> Result<Option<u8>, RunError>
-    requires live { intake.old.live ≡ true }
-    requires sink { outlet.old.live ≡ true }
+    requires live { can_read intake.old ≡ true }
+    requires sink { can_write outlet.old ≡ true }
     requires more { reading.old.at_end ≡ false }
 
-    ensures same { intake.new.source.ghost_name ≡ intake.old.source.ghost_name }
-    ensures same_sink { outlet.new.sink.ghost_name ≡ outlet.old.sink.ghost_name }
-    ensures put { NothingPut K.wrote K.failures outlet.old.sink.now outlet.new.sink.now outlet.new.live result }
-    ensures tied { OnOk result (S.waits intake.old.source.now ≡ true → K.flushed outlet.new.sink.now ≡ true) }
-    ensures byte { S.gave intake.old.source.now (given result) intake.new.source.now }
+    ensures same { source_name intake.new ≡ source_name intake.old }
+    ensures same_sink { sink_name outlet.new ≡ sink_name outlet.old }
+    ensures put { NothingPut K.wrote K.failures (sink_of outlet.old) (sink_of outlet.new) (can_write outlet.new)
+        result }
+    ensures tied { OnOk result (S.waits (source_of intake.old) ≡ true → K.flushed (sink_of outlet.new) ≡ true) }
+    ensures byte { S.gave (source_of intake.old) (given result) (source_of intake.new) }
     ensures text { IsText (given result) }
-    ensures ends { S.ends intake.new.source.now ≡ S.ends intake.old.source.now + (if is_end result then 1 else 0) }
-    ensures failures { S.failures intake.new.source.now ≡ S.failures intake.old.source.now + read_fault_count result }
-    ensures live { OnOk result (reading.new.at_end ≡ false → intake.new.live ≡ true) }
+    ensures ends { S.ends (source_of intake.new) ≡ S.ends (source_of intake.old) + (if is_end result then 1 else 0) }
+    ensures failures { S.failures (source_of intake.new) ≡ S.failures (source_of intake.old) + read_fault_count result }
+    ensures live { OnOk result (reading.new.at_end ≡ false → can_read intake.new ≡ true) }
 
     ensures held { reading.new.window.bytes ≡ reading.old.window.bytes ++ given result }
     ensures taken { reading.new.taken ≡ reading.old.taken + length (given result) }
@@ -148,18 +151,19 @@ pub fn fill<M: Machine, S: Source, K: Sink>(
     reading: &mut Reading,
     first: u32,
 ) -> Result<Walk, RunError>
-    requires live { intake.old.live ≡ true }
-    requires sink { outlet.old.live ≡ true }
+    requires live { can_read intake.old ≡ true }
+    requires sink { can_write outlet.old ≡ true }
     requires more { reading.old.at_end ≡ false }
     requires known { first < M.states machine.now }
 
-    ensures same { intake.new.source.ghost_name ≡ intake.old.source.ghost_name }
-    ensures same_sink { outlet.new.sink.ghost_name ≡ outlet.old.sink.ghost_name }
-    ensures put { NothingPut K.wrote K.failures outlet.old.sink.now outlet.new.sink.now outlet.new.live result }
-    ensures tied { OnOk result (S.waits intake.old.source.now ≡ true → K.flushed outlet.new.sink.now ≡ true) }
-    ensures ready { IfOk result (λ walk. walk.count ≤ max 1 (length (S.ready intake.old.source.now))) }
-    ensures took { Took S.gave intake.old.source.now intake.new.source.now reading.old reading.new }
-    ensures source { SourceLeft S.ends S.failures intake.old.source.now intake.new.source.now intake.new.live
+    ensures same { source_name intake.new ≡ source_name intake.old }
+    ensures same_sink { sink_name outlet.new ≡ sink_name outlet.old }
+    ensures put { NothingPut K.wrote K.failures (sink_of outlet.old) (sink_of outlet.new) (can_write outlet.new)
+        result }
+    ensures tied { OnOk result (S.waits (source_of intake.old) ≡ true → K.flushed (sink_of outlet.new) ≡ true) }
+    ensures ready { IfOk result (λ walk. walk.count ≤ max 1 (length (S.ready (source_of intake.old)))) }
+    ensures took { Took S.gave (source_of intake.old) (source_of intake.new) reading.old reading.new }
+    ensures source { SourceLeft S.ends S.failures (source_of intake.old) (source_of intake.new) (can_read intake.new)
         reading.old reading.new result }
     ensures grown { IfOk result (λ walk. Grown (M.machine machine.now) reading.old reading.new first walk) }
     ensures at_end { IfOk result (λ walk. reading.new.at_end ≡ ends_at walk.stop) }
@@ -201,17 +205,18 @@ pub fn fetch<S: Source, K: Sink>(
     path: &mut StatePath,
     next: usize,
 ) -> Result<bool, RunError>
-    requires live { reading.old.at_end ≡ false → intake.old.live ≡ true }
-    requires sink { outlet.old.live ≡ true }
+    requires live { reading.old.at_end ≡ false → can_read intake.old ≡ true }
+    requires sink { can_write outlet.old ≡ true }
     requires place { next ≤ length reading.old.window.bytes }
 
-    ensures same { intake.new.source.ghost_name ≡ intake.old.source.ghost_name }
-    ensures same_sink { outlet.new.sink.ghost_name ≡ outlet.old.sink.ghost_name }
-    ensures put { NothingPut K.wrote K.failures outlet.old.sink.now outlet.new.sink.now outlet.new.live result }
-    ensures took { Took S.gave intake.old.source.now intake.new.source.now reading.old reading.new }
+    ensures same { source_name intake.new ≡ source_name intake.old }
+    ensures same_sink { sink_name outlet.new ≡ sink_name outlet.old }
+    ensures put { NothingPut K.wrote K.failures (sink_of outlet.old) (sink_of outlet.new) (can_write outlet.new)
+        result }
+    ensures took { Took S.gave (source_of intake.old) (source_of intake.new) reading.old reading.new }
     ensures there { IfOk result (λ there. IsThere reading.old reading.new next there) }
     ensures wanted { OnErr result (IsWanted reading.old reading.new next ⊎ IsShort reading.old reading.new next) }
-    ensures source { SourceLeft S.ends S.failures intake.old.source.now intake.new.source.now intake.new.live
+    ensures source { SourceLeft S.ends S.failures (source_of intake.old) (source_of intake.new) (can_read intake.new)
         reading.old reading.new result }
 
     ensures states { path.new.states ≡ path.old.states }

@@ -1,5 +1,6 @@
 //! What was written is handed on before a read that may wait, as C++ ties its output to its input.
 ghost use Rattle.std.specs.Prelude.{◌≡◌, ℕ, ◌+◌, ◌^◌, ◌<◌, List, [], true, OnOk};
+ghost use Rattle.lexscan_window.specs.Intakes.{source_of, sink_of, sink_name, can_write};
 ghost use Rattle.lexscan_window.specs.Ends.{SinkLeft};
 
 use crate::error::RunError;
@@ -8,11 +9,11 @@ use lex_io::{Sink, Source};
 
 /// Flushes the sink.
 pub fn flush<K: Sink>(outlet: &mut Outlet<'_, K>) -> Result<(), RunError>
-    requires { outlet.old.live ≡ true }
-    ensures same { outlet.new.sink.ghost_name ≡ outlet.old.sink.ghost_name }
-    ensures bytes { K.wrote outlet.old.sink.now [] outlet.new.sink.now }
-    ensures sink { SinkLeft K.failures outlet.old.sink.now outlet.new.sink.now outlet.new.live result }
-    ensures flushed { OnOk result (K.flushed outlet.new.sink.now ≡ true) }
+    requires { can_write outlet.old ≡ true }
+    ensures same { sink_name outlet.new ≡ sink_name outlet.old }
+    ensures bytes { K.wrote (sink_of outlet.old) [] (sink_of outlet.new) }
+    ensures sink { SinkLeft K.failures (sink_of outlet.old) (sink_of outlet.new) (can_write outlet.new) result }
+    ensures flushed { OnOk result (K.flushed (sink_of outlet.new) ≡ true) }
 {
     match outlet.flush() {
         Err(_) => Err(RunError::Write),
@@ -26,11 +27,11 @@ pub fn tie<S: Source, K: Sink>(
     intake: &Intake<'_, S>,
     outlet: &mut Outlet<'_, K>,
 ) -> Result<(), RunError>
-    requires { outlet.old.live ≡ true }
-    ensures same { outlet.new.sink.ghost_name ≡ outlet.old.sink.ghost_name }
-    ensures bytes { K.wrote outlet.old.sink.now [] outlet.new.sink.now }
-    ensures sink { SinkLeft K.failures outlet.old.sink.now outlet.new.sink.now outlet.new.live result }
-    ensures tied { OnOk result (S.waits intake.now.source.now ≡ true → K.flushed outlet.new.sink.now ≡ true) }
+    requires { can_write outlet.old ≡ true }
+    ensures same { sink_name outlet.new ≡ sink_name outlet.old }
+    ensures bytes { K.wrote (sink_of outlet.old) [] (sink_of outlet.new) }
+    ensures sink { SinkLeft K.failures (sink_of outlet.old) (sink_of outlet.new) (can_write outlet.new) result }
+    ensures tied { OnOk result (S.waits (source_of intake.now) ≡ true → K.flushed (sink_of outlet.new) ≡ true) }
 {
     if outlet.is_pending() && intake.may_wait() {
         flush(outlet)

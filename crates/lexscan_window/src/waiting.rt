@@ -29,12 +29,12 @@ pub struct Waiting<'a> {
 }
 
 impl<'a> Waiting<'a> {
-    ghost use Rattle.lexscan_window.specs.Waits.{bytes_left};
+    ghost use Rattle.lexscan_window.specs.Waits.{bytes_left, ends_told};
 
     /// The source over the bytes of both slices.
     pub fn new(first: &'a [u8], later: &'a [u8]) -> Waiting<'a>
         ensures bytes { bytes_left result ≡ first.entry.now ++ later.entry.now }
-        ensures ends { result.ends ≡ 0 }
+        ensures ends { ends_told result ≡ 0 }
     {
         let (rest, later) = in_order(first, later);
         Waiting {
@@ -46,15 +46,16 @@ impl<'a> Waiting<'a> {
 }
 
 impl Source for Waiting<'_> {
-    ghost use Rattle.lexscan_window.specs.Waits.{bytes_left, GivesWaiting, gives-none, gives-more, no-failures};
+    ghost use Rattle.lexscan_window.specs.Waits.{bytes_left, bytes_ready, ends_told, GivesWaiting};
+    ghost use Rattle.lexscan_window.specs.Waits.{gives-none, gives-more, no-failures};
 
-    ghost gave = { λ s xs t. GivesWaiting (bytes_left s) s.ends (bytes_left t) t.ends xs };
+    ghost gave = { λ s xs t. GivesWaiting (bytes_left s) (ends_told s) (bytes_left t) (ends_told t) xs };
 
-    ghost ends = { λ s. s.ends };
+    ghost ends = { λ s. ends_told s };
 
     ghost failures = { λ s. 0 };
 
-    ghost ready = { λ s. s.rest.now };
+    ghost ready = { λ s. bytes_ready s };
 
     ghost waits = { λ s. false };
 
