@@ -38,19 +38,15 @@ module _ (M : Machine) (laws : MachineLaws M) (S : Spec) (sound : IsSound S) (ta
   pub ran_into : (given out : List ℕ) (at_end : Bool) (max_reads : ℕ) (e : RunError) → RanInto (rules_of_machine M) given out at_end max_reads e → RanInto (rules_of S) given out at_end max_reads e
   ran_into given out at_end max_reads e h = record {
     turns = h.turns;
-    start = h.start;
     had = h.had;
     got = h.got;
     all = h.all;
     gave_up = record {
       text = h.gave_up.text;
+      before = h.gave_up.before;
       end_before = h.gave_up.end_before;
-      before = λ x k. (let b = h.gave_up.before x k in record {
-        state = b.state;
-        after = (same_after M laws S sound table x k.0 h.turns b.state _ h.gave_up.end_before).0 b.after;
-        going = b.going;
-        starts = b.starts;
-      });
+      after = λ x k. (same_after M laws S sound table x k.0 h.turns h.gave_up.before _ h.gave_up.end_before).0 (h.gave_up.after x k);
+      going = h.gave_up.going;
       front = λ x k w d r. h.gave_up.front x k w d ((same_run M laws S sound table x k.0 w d).1 r);
       within = λ x k t far asked after. h.gave_up.within x k t far asked ((same_after M laws S sound table x k.0 (suc h.turns) t far asked).1 after);
       whole = h.gave_up.whole;

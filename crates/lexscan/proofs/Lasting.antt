@@ -125,7 +125,6 @@ ran_into M n e e' m given got out s error ends many h =
     let told : nat_lt e e' ≡ s.reading.at_end = answered e e' s.reading.at_end ends in
     subst (λ b. RanInto (rules_of_machine M) (given ++ got) out b m error) (sym told) (record {
       turns = n;
-      start = h.start;
       had = given;
       got = got;
       all = refl;

@@ -76,12 +76,12 @@ module _ (M : Machine) (n : ℕ) (given got out out' : List ℕ) (old mid new : 
   consistent : Consistent all mid.reading.at_end all
   consistent = (fell.gave_up.text, just_these all mid.reading.at_end)
 
-  pub same_start : fell.start ≡ h.start
+  pub same_start : fell.gave_up.before.place.start ≡ h.start
   same_start =
-      let b = fell.gave_up.before all consistent in
+      let b = fell.gave_up.after all consistent in
       let a = h.scanned all (fell.gave_up.text, earlier given got old.reading.at_end mid.reading.at_end all (λ e. (none e).0) (λ e. (none e).1) consistent.1) in
-      let one : b.state ≡ state_of out h.start old = one_state (rules_of_machine M) all n b.state (state_of out h.start old) b.after.turns a.turns in
-      sym b.starts ∙ ap (λ (s : Scan.State). s.place.start) one
+      let one : fell.gave_up.before ≡ state_of out h.start old = one_state (rules_of_machine M) all n fell.gave_up.before (state_of out h.start old) b.turns a.turns in
+      ap (λ (s : Scan.State). s.place.start) one
 
   pub same_bytes : new.reading.window.bytes ≡ take (length old.reading.window.bytes) mid.reading.window.bytes → new.reading.window.bytes ≡ old.reading.window.bytes
   same_bytes kept =
