@@ -10,16 +10,16 @@ use Rattle.lex_semantics.specs.MachineLaws.{MachineLaws}
 use Rattle.lex_semantics.specs.TableFor.{TableFor}
 use Rattle.lex_semantics.specs.Acting.{Ending, StackFault}
 use Rattle.lex_semantics.proofs.Both.{same_after, same_run}
-use Rattle.lexscan.specs.Answer.{end_read}
+use Rattle.lex_semantics.specs.ByteSets.{bit_of}
 use Rattle.lexscan_window.specs.declared.error.RunError.{RunError}
 use Rattle.lexscan.specs.Stands.{RanTo}
 use Rattle.lexscan.specs.Runs.{RanInto}
 
 -- the reads of a scan, by whether its end was answered
-pub few_reads : (given : List ℕ) (m fault e e' f f' : ℕ) → length given + (e' - e) + (f' - f) ≤ m → f' ≡ f + fault → length given + end_read (nat_lt e e') + fault ≤ m
+pub few_reads : (given : List ℕ) (m fault e e' f f' : ℕ) → length given + (e' - e) + (f' - f) ≤ m → f' ≡ f + fault → length given + bit_of (nat_lt e e') + fault ≤ m
 few_reads given m fault e e' f f' few more = by_end (nat_lt e e') refl
   where
-    by_end : (b : Bool) → nat_lt e e' ≡ b → length given + end_read b + fault ≤ m
+    by_end : (b : Bool) → nat_lt e e' ≡ b → length given + bit_of b + fault ≤ m
     by_end true q = let less : e < e' = ltb-true e e' q in omega (arith, few, more, less)
     by_end false q = omega (arith, few, more)
 

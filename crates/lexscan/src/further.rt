@@ -5,7 +5,7 @@ ghost use Rattle.lex_semantics.specs.Text.{AllBelow};
 ghost use Rattle.lex_semantics.specs.MachineLaws.{NoReject};
 ghost use Rattle.lexscan_window.specs.Intakes.{source_of, source_name, can_read, sink_of, sink_name, can_write};
 ghost use Rattle.lexscan_window.specs.Reads.{write_fault_count};
-ghost use Rattle.lexscan_window.specs.Answer.{end_read};
+ghost use Rattle.lex_semantics.specs.ByteSets.{bit_of};
 ghost use Rattle.lexscan.specs.Stands.{NoneAfterEnd};
 ghost use Rattle.lexscan.specs.Turns.{MayMove};
 ghost use Rattle.lexscan.specs.Bursts.{GoesFurther, NoEarlier};
@@ -21,7 +21,7 @@ use lexscan_window::{Intake, Outlet, RunError, State, TextPlace};
 #[inline(always)]
 fn advance(state: &mut State, burst: Burst, got: usize)
     requires got { got ≤ length state.old.reading.window.ahead }
-    requires few { state.old.reading.taken + got + end_read state.old.reading.at_end ≤ state.old.reading.max_reads }
+    requires few { state.old.reading.taken + got + bit_of state.old.reading.at_end ≤ state.old.reading.max_reads }
     requires done { burst.done ≤ length state.old.reading.window.bytes + got }
     ensures held { state.new.reading.window.bytes ≡ drop burst.done
         (state.old.reading.window.bytes ++ take got state.old.reading.window.ahead) }

@@ -4,7 +4,7 @@ ghost use Rattle.std.specs.Prelude.{Ok, Err, IfSome, IsErrOf};
 ghost use Rattle.std.specs.Coded.{→_prop};
 ghost use Rattle.lex_semantics.specs.Text.{AllBelow};
 ghost use Rattle.lexscan_window.specs.Intakes.{can_read, can_write};
-ghost use Rattle.lexscan_window.specs.Answer.{end_read};
+ghost use Rattle.lex_semantics.specs.ByteSets.{bit_of};
 ghost use Rattle.lexscan_window.specs.Reads.{read_fault_count, write_fault_count, end_step};
 ghost use Rattle.lexscan_window.specs.Memos.{AreTrue, AreTrue-prop};
 ghost use Rattle.lexscan.specs.Stacks.{AllBelow-prop};
@@ -104,7 +104,7 @@ impl<'a, M: Machine, S: Source, K: Sink> Scanner<'a, M, S, K> {
             × (scanner_sink self.new ≡ scanner_sink self.old) × (scanner_state self.new ≡ scanner_state self.old) }
         ensures max_reads { (scanner_state self.new).reading.max_reads ≡
             (scanner_state self.old).reading.max_reads }
-        ensures few_reads { (scanner_state self.new).reading.taken + end_read (scanner_state self.new).reading.at_end
+        ensures few_reads { (scanner_state self.new).reading.taken + bit_of (scanner_state self.new).reading.at_end
             + read_fault_count result ≤ (scanner_state self.new).reading.max_reads }
         ensures ends { S.ends (scanner_source self.new) ≡
             S.ends (scanner_source self.old)
