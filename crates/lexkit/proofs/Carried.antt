@@ -10,16 +10,16 @@ use Rattle.lex_semantics.specs.MachineLaws.{MachineLaws}
 use Rattle.lex_semantics.specs.TableFor.{TableFor}
 use Rattle.lex_semantics.specs.Acting.{Ending, StackFault}
 use Rattle.lex_semantics.proofs.Both.{same_after, same_run}
-use Rattle.lexscan.specs.Answer.{end_read}
+use Rattle.lex_semantics.specs.ByteSets.{bit_of}
 use Rattle.lexscan_window.specs.declared.error.RunError.{RunError}
 use Rattle.lexscan.specs.Stands.{RanTo}
 use Rattle.lexscan.specs.Runs.{RanInto}
 
 -- the reads of a scan, by whether its end was answered
-pub few_reads : (given : List ℕ) (m fault e e' f f' : ℕ) → length given + (e' - e) + (f' - f) ≤ m → f' ≡ f + fault → length given + end_read (nat_lt e e') + fault ≤ m
+pub few_reads : (given : List ℕ) (m fault e e' f f' : ℕ) → length given + (e' - e) + (f' - f) ≤ m → f' ≡ f + fault → length given + bit_of (nat_lt e e') + fault ≤ m
 few_reads given m fault e e' f f' few more = by_end (nat_lt e e') refl
   where
-    by_end : (b : Bool) → nat_lt e e' ≡ b → length given + end_read b + fault ≤ m
+    by_end : (b : Bool) → nat_lt e e' ≡ b → length given + bit_of b + fault ≤ m
     by_end true q = let less : e < e' = ltb-true e e' q in omega (arith, few, more, less)
     by_end false q = omega (arith, few, more)
 
@@ -38,19 +38,15 @@ module _ (M : Machine) (laws : MachineLaws M) (S : Spec) (sound : IsSound S) (ta
   pub ran_into : (given out : List ℕ) (at_end : Bool) (max_reads : ℕ) (e : RunError) → RanInto (rules_of_machine M) given out at_end max_reads e → RanInto (rules_of S) given out at_end max_reads e
   ran_into given out at_end max_reads e h = record {
     turns = h.turns;
-    start = h.start;
     had = h.had;
     got = h.got;
     all = h.all;
     gave_up = record {
       text = h.gave_up.text;
+      before = h.gave_up.before;
       end_before = h.gave_up.end_before;
-      before = λ x k. (let b = h.gave_up.before x k in record {
-        state = b.state;
-        after = (same_after M laws S sound table x k.0 h.turns b.state _ h.gave_up.end_before).0 b.after;
-        going = b.going;
-        starts = b.starts;
-      });
+      after = λ x k. (same_after M laws S sound table x k.0 h.turns h.gave_up.before _ h.gave_up.end_before).0 (h.gave_up.after x k);
+      going = h.gave_up.going;
       front = λ x k w d r. h.gave_up.front x k w d ((same_run M laws S sound table x k.0 w d).1 r);
       within = λ x k t far asked after. h.gave_up.within x k t far asked ((same_after M laws S sound table x k.0 (suc h.turns) t far asked).1 after);
       whole = h.gave_up.whole;

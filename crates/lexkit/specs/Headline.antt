@@ -17,7 +17,7 @@ use Rattle.lexspec.specs.Files.{SpellsSpec, ReadOptions}
 use Rattle.lexauto.specs.declared.subsets.Limits.{Limits}
 use Rattle.lexauto.specs.declared.error.BuildError.{BuildError}
 use Rattle.lexauto.specs.declared.error.BuildError.TheVariants as builds
-use Rattle.lexscan.specs.Answer.{end_read}
+use Rattle.lex_semantics.specs.ByteSets.{bit_of}
 use Rattle.lexscan.specs.Reads.{read_fault_count}
 use Rattle.lexscan.specs.Runs.{Ran}
 use Rattle.lexscan_window.specs.declared.error.RunError.{RunError}
@@ -65,7 +65,7 @@ pub record Scans {A B : Type 0} (gave : A → List ℕ → A → Type 0) (wrote 
   pub source : gave s given s'
   pub sink : wrote t out t'
   pub ran : Ran R given out at_end max_reads answer
-  pub few_reads : length given + end_read at_end + read_fault_count answer ≤ max_reads
+  pub few_reads : length given + bit_of at_end + read_fault_count answer ≤ max_reads
 
 -- what the scan by a specification answers: it came to its end or stopped, or no automaton was built
 abbrev pub ScansBy : {A B : Type 0} → (A → List ℕ → A → Type 0) → (B → List ℕ → B → Type 0) → Limits → Spec → Bool → A → A → B → B → Result ℕ ScanError → Type 0

@@ -15,7 +15,7 @@ use Rattle.lex_semantics.proofs.Growth.{turns_grow, falls}
 use Rattle.lexscan_window.specs.declared.state.State.{State}
 use Rattle.lexscan_window.specs.declared.error.RunError.{RunError}
 use Rattle.lexscan_window.specs.declared.error.RunError.TheVariants.{TooManyReads}
-use Rattle.lexscan_window.specs.Answer.{end_read}
+use Rattle.lex_semantics.specs.ByteSets.{bit_of}
 use Rattle.lexscan_window.specs.Reads.{end_step}
 use Rattle.lexscan_matching.specs.Descends.{ending_of}
 use Rattle.lexscan.specs.Stands.{state_of, Stands, Fell, NoneAfterEnd, RanTo}
@@ -99,9 +99,9 @@ no_more_left m old new h =
 
 -- the reads that were made, by what the source counts
 pub few_made : (given : List ℕ) (s : State) (m fault e e' f f' f'' : ℕ) → s.reading.taken ≡ length given → e' ≡ e + end_step false s.reading.at_end → f'' ≡ f' + fault → f' ≡ f →
-    s.reading.taken + end_read s.reading.at_end + fault ≤ s.reading.max_reads → s.reading.max_reads ≡ m → length given + (e' - e) + (f'' - f) ≤ m
+    s.reading.taken + bit_of s.reading.at_end + fault ≤ s.reading.max_reads → s.reading.max_reads ≡ m → length given + (e' - e) + (f'' - f) ≤ m
 few_made given s m fault e e' f f' f'' taken ends more before few most =
-    let ended : e' ≡ e + end_read s.reading.at_end = ends in
+    let ended : e' ≡ e + bit_of s.reading.at_end = ends in
     omega (arith, taken, ended, more, before, few, most)
 
 -- at the end
@@ -125,7 +125,6 @@ ran_into M n e e' m given got out s error ends many h =
     let told : nat_lt e e' ≡ s.reading.at_end = answered e e' s.reading.at_end ends in
     subst (λ b. RanInto (rules_of_machine M) (given ++ got) out b m error) (sym told) (record {
       turns = n;
-      start = h.start;
       had = given;
       got = got;
       all = refl;

@@ -20,8 +20,8 @@ use Rattle.lexscan.specs.Moves.{Left, Says, EndLeft, EndsScan, EndsTurn, MatchLe
 use Rattle.lexscan_matching.proofs.Descending.{performed_flushed, performed_cut}
 
 not_early : (e : RunError) → (e ≡ Write) ⊎ (e ≡ Stack) → IsEarly e → ⊥
-not_early e (inl is) early = subst IsEarly is early
-not_early e (inr is) early = subst IsEarly is early
+not_early e (inl is) early = early.0 is
+not_early e (inr is) early = early.1 is
 
 module _ {S K : Type 0} (M : Machine) (gave : S → List ℕ → S → Type 0) (wrote : K → List ℕ → K → Type 0) (s s' : S) (t t' : K) (old : State) (mid : Reading) (new : State) (took : Took gave s s' old.reading mid) where
   took_to : new ≡ record old { reading = mid } → Took gave s s' old.reading new.reading

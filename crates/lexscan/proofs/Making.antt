@@ -28,12 +28,12 @@ is_fault OutOfMemory = inr (λ p. cc)
 is_fault Failed = inr (λ p. cc)
 
 is_early : (e : RunError) → IsEarly e ⊎ (IsEarly e → ⊥)
-is_early Read = inl tt
-is_early TooManyReads = inl tt
-is_early OutOfMemory = inl tt
-is_early Failed = inl tt
-is_early Write = inr (λ p. p)
-is_early Stack = inr (λ p. p)
+is_early Read = inl (λ p. cc, λ p. cc)
+is_early TooManyReads = inl (λ p. cc, λ p. cc)
+is_early OutOfMemory = inl (λ p. cc, λ p. cc)
+is_early Failed = inl (λ p. cc, λ p. cc)
+is_early Write = inr (λ early. early.0 refl)
+is_early Stack = inr (λ early. early.1 refl)
 
 module _ {S K : Type 0} (M : Machine) (laws : MachineLaws M) (gave : S → List ℕ → S → Type 0) (wrote : K → List ℕ → K → Type 0) (s s' : S) (t t' : K) (source_live sink_live : Bool) (old : State) where
   pub turn_made : (new : State) (turn : Turn) → old.failed ≡ false → old.ended ≡ None → Moved M gave wrote s s' t t' old new (Ok turn) → MoveLeft M source_live sink_live old new (Ok turn) → MakesTurn M gave wrote s s' t t' old new (Ok turn)
@@ -147,12 +147,12 @@ module _ {S K : Type 0} (M : Machine) (laws : MachineLaws M) (gave : S → List 
             k.2.performed.sink,
             λ is. (m.took.nothing is, m.took.end_stays is),
             (
-              λ early. absurd (subst IsEarly is early),
+              λ early. absurd (early.1 is),
               λ n given out h. Fall.fell M laws gave wrote _ _ _ _ n given out old new e going h m refl wants k.2.performed.out
                   (Fall.match_front M laws gave wrote _ _ _ _ n given out old new e going h m k.0 k.1 cut)
                   (Fall.match_within M laws gave wrote _ _ _ _ n given out old new e going h m k.0 k.1)
                   (λ _. Go.faulted_ran M laws gave wrote _ _ _ _ n given out old new going h m.took k.0 k.1 k.2)
-                  (λ early. absurd (subst IsEarly is early)),
+                  (λ early. absurd (early.1 is)),
             ),
           )
 

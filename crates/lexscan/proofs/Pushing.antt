@@ -18,7 +18,7 @@ use Rattle.lexscan_window.specs.declared.state.State.{State}
 use Rattle.lexscan.specs.declared.turn.Turn.{Turn}
 use Rattle.lexscan_window.specs.declared.error.RunError.{RunError}
 use Rattle.lexscan_window.specs.declared.error.RunError.TheVariants.{Read, TooManyReads}
-use Rattle.lexscan_window.specs.Answer.{end_read}
+use Rattle.lex_semantics.specs.ByteSets.{bit_of}
 use Rattle.lexscan_window.specs.Reads.{read_fault_count, end_step}
 use Rattle.lexscan_matching.specs.Descends.{ending_of}
 use Rattle.lexscan.specs.Stands.{state_of, Stands, Fell, NoneAfterEnd}
@@ -76,12 +76,12 @@ module _ (M : Machine) (n : ℕ) (given got out out' : List ℕ) (old mid new : 
   consistent : Consistent all mid.reading.at_end all
   consistent = (fell.gave_up.text, just_these all mid.reading.at_end)
 
-  pub same_start : fell.start ≡ h.start
+  pub same_start : fell.gave_up.before.place.start ≡ h.start
   same_start =
-      let b = fell.gave_up.before all consistent in
+      let b = fell.gave_up.after all consistent in
       let a = h.scanned all (fell.gave_up.text, earlier given got old.reading.at_end mid.reading.at_end all (λ e. (none e).0) (λ e. (none e).1) consistent.1) in
-      let one : b.state ≡ state_of out h.start old = one_state (rules_of_machine M) all n b.state (state_of out h.start old) b.after.turns a.turns in
-      sym b.starts ∙ ap (λ (s : Scan.State). s.place.start) one
+      let one : fell.gave_up.before ≡ state_of out h.start old = one_state (rules_of_machine M) all n fell.gave_up.before (state_of out h.start old) b.turns a.turns in
+      ap (λ (s : Scan.State). s.place.start) one
 
   pub same_bytes : new.reading.window.bytes ≡ take (length old.reading.window.bytes) mid.reading.window.bytes → new.reading.window.bytes ≡ old.reading.window.bytes
   same_bytes kept =
@@ -189,7 +189,7 @@ module _ (M : Machine) (old new : State) (waiting left : List ℕ) (ends ends' :
       over is =
           let none = all_given is in
           let sizes : length waiting ≡ length got + length left = ap length gave.taken ∙ length-append got left in
-          let one : end_read new.reading.at_end ≡ 1 = ap end_read is in
+          let one : bit_of new.reading.at_end ≡ 1 = ap bit_of is in
           omega (arith, limit, taken, most, sizes, ap length none, one, new.reading.few_reads)
 
 -- the end of what was fed, if all of it was given
@@ -305,13 +305,13 @@ never_open M gave mid s' old new waiting got put left rest e e' e'' stood p firs
         omega (arith, limit, asks.1, h.taken, ap length first.taken, length-append got left, ap length second.taken, length-append p.more rest, length-append (given ++ got) p.more, length-append given got)
 
 -- a state with another limit
-pub stands_limit : (M : Machine) (n : ℕ) (given out : List ℕ) (s : State) (most : ℕ) (few : s.reading.taken + end_read s.reading.at_end ≤ most) → Stands M n given out s → Stands M n given out (record s { reading = record s.reading { max_reads = most; few_reads = few } })
+pub stands_limit : (M : Machine) (n : ℕ) (given out : List ℕ) (s : State) (most : ℕ) (few : s.reading.taken + bit_of s.reading.at_end ≤ most) → Stands M n given out s → Stands M n given out (record s { reading = record s.reading { max_reads = most; few_reads = few } })
 stands_limit M n given out s most few h = record { works = h.works; start = h.start; scanned = h.scanned; text = h.text; covered = h.covered; held = h.held; line = h.line; taken = h.taken }
 
-pub standing_limit : (M : Machine) (s : State) (most : ℕ) (few : s.reading.taken + end_read s.reading.at_end ≤ most) → Standing M s → Standing M (record s { reading = record s.reading { max_reads = most; few_reads = few } })
+pub standing_limit : (M : Machine) (s : State) (most : ℕ) (few : s.reading.taken + bit_of s.reading.at_end ≤ most) → Standing M s → Standing M (record s { reading = record s.reading { max_reads = most; few_reads = few } })
 standing_limit M s most few stood denied = stood (λ n given out h. denied n given out (stands_limit M n given out s most few h))
 
-pub fed_limit : (M : Machine) (fed out : List ℕ) (s : State) (waiting : List ℕ) (most : ℕ) (few : s.reading.taken + end_read s.reading.at_end ≤ most) → Fed M fed out s waiting → Fed M fed out (record s { reading = record s.reading { max_reads = most; few_reads = few } }) waiting
+pub fed_limit : (M : Machine) (fed out : List ℕ) (s : State) (waiting : List ℕ) (most : ℕ) (few : s.reading.taken + bit_of s.reading.at_end ≤ most) → Fed M fed out s waiting → Fed M fed out (record s { reading = record s.reading { max_reads = most; few_reads = few } }) waiting
 fed_limit M fed out s waiting most few h = record { turns = h.turns; given = h.given; left = h.left; stands = stands_limit M h.turns h.given out s most few h.stands; reading = h.reading; all = h.all; waits = h.waits }
 
 -- Some bytes more are fed, and wait.

@@ -26,7 +26,7 @@ use Rattle.lexscan_matching.specs.Looks.{Looked, LookedAtEnd, Wants, Unmet}
 use Rattle.lexscan_matching.specs.Descends.{conditions_at, outcome, matches_of, CutAll, ending_of}
 use Rattle.lexscan_window.specs.Ends.{IsEarly}
 use Rattle.lexscan.specs.Moves.{Refused}
-use Rattle.lexscan.specs.Stands.{state_of, Stands, Before, Fell, RanTo}
+use Rattle.lexscan.specs.Stands.{state_of, Stands, Fell, RanTo}
 use Rattle.lexscan.proofs.Outcomes.{good, seen_outcome}
 use Rattle.lexscan.proofs.Lifting.{seen_here, dead_here, asks_here, inside_here, wants_here}
 
@@ -80,9 +80,6 @@ module _ {S K : Type 0} (M : Machine) (laws : MachineLaws M) (gave : S → List 
     (going : old.ended ≡ None) (h : Stands M n given out old) (m : Refused M gave wrote s s' t t' (record old { failed = true }) new error) where
   after_before : (x : List ℕ) → Consistent (given ++ m.took.got) new.reading.at_end x → AfterTurns (rules_of_machine M) x n (state_of out h.start old) (length given) old.reading.at_end
   after_before x k = h.scanned x (k.0, earlier given m.took.got old.reading.at_end new.reading.at_end x m.took.nothing m.took.end_stays k.1)
-
-  before_is : (x : List ℕ) → Consistent (given ++ m.took.got) new.reading.at_end x → Before (rules_of_machine M) n h.start given old.reading.at_end x
-  before_is x k = record { state = state_of out h.start old; after = after_before x k; going = ap ending_of going; starts = refl }
 
   win : drop h.start (given ++ m.took.got) ≡ new.reading.window.bytes
   win = drop-append-le h.start given m.took.got (omega (arith, h.covered)) ∙ ap (λ z. z ++ m.took.got) (sym h.held) ∙ sym m.took.held
@@ -197,18 +194,18 @@ module _ {S K : Type 0} (M : Machine) (laws : MachineLaws M) (gave : S → List 
 
   pub fell : new.failed ≡ true → (error ≡ TooManyReads → Wants M old.place new.reading) → (w : List ℕ) → Fronts w → Within →
       (error ≡ Stack → (r : RanTo (rules_of_machine M) (given ++ m.took.got) (out ++ w) new.reading.at_end StackFault) × (r.turns ≡ suc n)) → (IsEarly error → w ≡ []) → Fell M n given m.took.got (out ++ w) new error
-  unfolding before_is
   fell failed wants w front within fault quiet = record {
     failed = failed;
-    start = h.start;
     gave_up = record {
       text = is_text_append given m.took.got h.text m.took.text;
+      before = state_of out h.start old;
       end_before = old.reading.at_end;
-      before = before_is;
+      after = after_before;
+      going = ap ending_of going;
       front = front;
       within = within;
       asks_end = λ is. wants_end (wants is);
-      whole = λ early x k. sym (append-nil out) ∙ ap (λ z. out ++ z) (sym (quiet early));
+      whole = λ early. sym (append-nil out) ∙ ap (λ z. out ++ z) (sym (quiet early));
     };
     held = sym win;
     taken = m.took.taken ∙ ap (λ k. k + length m.took.got) h.taken ∙ sym longer;

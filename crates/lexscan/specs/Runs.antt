@@ -22,11 +22,10 @@ pub record Running {S K : Type 0} (M : Machine) (gave : S → List ℕ → S →
 -- fault, it is all of it, and the run ends so.
 pub record RanInto (R : Rules) (given out : List ℕ) (at_end : Bool) (max_reads : ℕ) (e : RunError) : Type 0 where
   pub turns : ℕ
-  pub start : ℕ
   pub had : List ℕ
   pub got : List ℕ
   pub all : given ≡ had ++ got
-  pub gave_up : GaveUp R turns start had got out at_end e
+  pub gave_up : GaveUp R turns had got out at_end e
   pub too_many : e ≡ TooManyReads → (length given ≡ max_reads) × (at_end ≡ false)
   pub fault : e ≡ Stack → RanTo R given out at_end StackFault
 

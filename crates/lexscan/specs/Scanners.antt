@@ -4,6 +4,7 @@ use Rattle.lex_io.specs.declared.source.Source as Source
 use Rattle.lex_io.specs.declared.sink.Sink as Sink
 use Rattle.lexscan.specs.declared.scanner.Scanner.{Scanner}
 use Rattle.lexscan.specs.declared.push.PushScanner.{PushScanner}
+use Rattle.lexscan_window.specs.Intakes.{source_of, source_name, sink_of, sink_name}
 use Rattle.lexscan_window.specs.declared.state.State.{State}
 use Rattle.std.specs.Prelude.{ℕ, List}
 
@@ -14,11 +15,19 @@ module _ {M S K : Type 0} {of_machine : Machine.Ghosts M} {of_source : Source.Gh
 
   -- its source
   abbrev pub scanner_source : Scanner M S K of_machine of_source of_sink → S
-  scanner_source s = s.intake.source.now
+  scanner_source s = source_of s.intake
+
+  -- which source that is
+  abbrev pub scanner_source_name : Scanner M S K of_machine of_source of_sink → ℕ
+  scanner_source_name s = source_name s.intake
 
   -- its sink
   abbrev pub scanner_sink : Scanner M S K of_machine of_source of_sink → K
-  scanner_sink s = s.outlet.sink.now
+  scanner_sink s = sink_of s.outlet
+
+  -- which sink that is
+  abbrev pub scanner_sink_name : Scanner M S K of_machine of_source of_sink → ℕ
+  scanner_sink_name s = sink_name s.outlet
 
   -- what it keeps beside these
   abbrev pub scanner_state : Scanner M S K of_machine of_source of_sink → State

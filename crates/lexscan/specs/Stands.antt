@@ -38,24 +38,20 @@ pub record Stands (M : Machine) (n : ℕ) (given out : List ℕ) (s : State) : T
   pub line : s.place.line_start ≡ at_line_start given (start + s.place.at)
   pub taken : s.reading.taken ≡ length given
 
--- The turns before the refused one, over an input: they ask for just the bytes that the source had given.
-pub record Before (R : Rules) (n start : ℕ) (given : List ℕ) (end_asked : Bool) (x : List ℕ) : Type 0 where
-  pub state : Scan.State
-  pub after : AfterTurns R x n state (length given) end_asked
-  pub going : state.ended ≡ None
-  pub starts : state.place.start ≡ start
-
--- The turn after n was refused. What was written is a front of what the run writes, and the bytes taken are no more than
--- the turns ask for with this one. Where no more reads were allowed, it asks for the end, if the bytes given are all, and
--- the turns before do not. Where the turn was refused before its action, what was written is what the turns before wrote.
-pub record GaveUp (R : Rules) (n start : ℕ) (given got out : List ℕ) (at_end : Bool) (e : RunError) : Type 0 where
+-- The turn after n was refused. Those before it have not ended the scan, and ask for just the bytes that were given before.
+-- What was written is a front of what the run writes, and the bytes taken are no more than the turns ask for with this one.
+-- Where no more reads were allowed, it asks for the end, if the bytes given are all, and the turns before do not. Where the
+-- turn was refused before its action, what was written is what the turns before wrote.
+pub record GaveUp (R : Rules) (n : ℕ) (given got out : List ℕ) (at_end : Bool) (e : RunError) : Type 0 where
   pub text : IsText (given ++ got)
+  pub before : Scan.State
   pub end_before : Bool
-  pub before : (x : List ℕ) → Consistent (given ++ got) at_end x → Before R n start given end_before x
+  pub after : (x : List ℕ) → Consistent (given ++ got) at_end x → AfterTurns R x n before (length given) end_before
+  pub going : before.ended ≡ None
   pub front : (x : List ℕ) → Consistent (given ++ got) at_end x → (w : List ℕ) (d : Ending) → Run R x w d → BeginsWith w out
   pub within : (x : List ℕ) → Consistent (given ++ got) at_end x → (t : Scan.State) (far : ℕ) (asked : Bool) → AfterTurns R x (suc n) t far asked → length (given ++ got) ≤ far
   pub asks_end : e ≡ TooManyReads → (end_before ≡ false) × ((t : Scan.State) (far : ℕ) (asked : Bool) → AfterTurns R (given ++ got) (suc n) t far asked → asked ≡ true)
-  pub whole : IsEarly e → (x : List ℕ) (k : Consistent (given ++ got) at_end x) → (before x k).state.written ≡ out
+  pub whole : IsEarly e → before.written ≡ out
 
 -- The scan has ended: the bytes given are a text, this is the run of every consistent input, and the turns up to its end
 -- ask for just what the source has told.
@@ -72,9 +68,8 @@ pub record RanTo (R : Rules) (given out : List ℕ) (at_end : Bool) (ending : En
 -- ends so in this turn, with what was written.
 pub record Fell (M : Machine) (n : ℕ) (given got out : List ℕ) (s : State) (e : RunError) : Type 0 where
   pub failed : s.failed ≡ true
-  pub start : ℕ
-  pub gave_up : GaveUp (rules_of_machine M) n start given got out s.reading.at_end e
-  pub held : s.reading.window.bytes ≡ drop start (given ++ got)
+  pub gave_up : GaveUp (rules_of_machine M) n given got out s.reading.at_end e
+  pub held : s.reading.window.bytes ≡ drop gave_up.before.place.start (given ++ got)
   pub taken : s.reading.taken ≡ length (given ++ got)
   pub fault : e ≡ Stack → RanTo (rules_of_machine M) (given ++ got) out s.reading.at_end StackFault
   pub at_once : (is : e ≡ Stack) → (fault is).turns ≡ suc n

@@ -8,7 +8,7 @@ use Rattle.lexscan.specs.declared.turn.Turn.{Turn}
 use Rattle.lexscan_window.specs.declared.error.RunError.{RunError}
 use Rattle.lexscan_window.specs.declared.error.RunError.TheVariants.{TooManyReads, Failed}
 use Rattle.lexscan_matching.specs.Looks.{Wants}
-use Rattle.lexscan_window.specs.Answer.{end_read}
+use Rattle.lex_semantics.specs.ByteSets.{bit_of}
 use Rattle.lexscan_window.specs.Reads.{read_fault_count, write_fault_count, end_step}
 
 -- A turn may be made, where the scan has neither failed nor ended: the source and the sink may be called, and the conditions are in range.
@@ -32,7 +32,7 @@ pub record TurnCounts {S K : Type 0} (ends_of reads_of : S → ℕ) (writes_of :
   pub write_faults : writes_of t' ≡ writes_of t + write_fault_count result
   pub ends : ends_of s' ≡ ends_of s + end_step old.at_end new.at_end
   pub max_reads : new.max_reads ≡ old.max_reads
-  pub few_reads : new.taken + end_read new.at_end + read_fault_count result ≤ new.max_reads
+  pub few_reads : new.taken + bit_of new.at_end + read_fault_count result ≤ new.max_reads
 
 -- What one match or the end action leaves, before a refusal is told.
 pub record MoveLeft (M : Machine) (source_live sink_live : Bool) (old new : State) (result : Result Turn RunError) : Type 0 where

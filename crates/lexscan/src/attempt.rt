@@ -2,6 +2,7 @@
 ghost use Rattle.std.specs.Prelude.{◌≡◌, ℕ, ◌+◌, ◌^◌, ◌<◌, ◌≤◌, List, [], ◌++◌, length, take, true, false, None, Ok};
 ghost use Rattle.std.specs.Prelude.{◌-◌, OnOk, OnErr, IfOk, IfErr, IsErrOf};
 ghost use Rattle.lex_semantics.specs.Text.{AllBelow};
+ghost use Rattle.lexscan_window.specs.Intakes.{source_of, source_name, can_read, sink_of, sink_name, can_write};
 ghost use Rattle.lexscan_window.specs.Memos.{AreTrue};
 ghost use Rattle.lexscan_window.specs.Reads.{read_fault_count, write_fault_count, end_step};
 ghost use Rattle.lexscan.specs.Stands.{NoneAfterEnd};
@@ -51,27 +52,28 @@ fn attempt<M: Machine, S: Source, K: Sink>(
 ) -> Result<Option<Turn>, RunError>
     requires working { state.old.failed ≡ false }
     requires going { state.old.ended ≡ None }
-    requires ready { MayTurn (M.machine machine.now) intake.old.live outlet.old.live state.old }
+    requires ready { MayTurn (M.machine machine.now) (can_read intake.old) (can_write outlet.old) state.old }
     requires inside { state.old.place.at ≤ length state.old.reading.window.bytes }
     requires marks { AreTrue (M.machine machine.now) state.old.reading memo.old }
     requires stood { Standing (M.machine machine.now) state.old }
 
-    ensures same_source { intake.new.source.ghost_name ≡ intake.old.source.ghost_name }
-    ensures same_sink { outlet.new.sink.ghost_name ≡ outlet.old.sink.ghost_name }
-    ensures attempts { Attempts (M.machine machine.now) S.gave K.wrote intake.old.source.now intake.new.source.now
-        outlet.old.sink.now outlet.new.sink.now state.old state.new result }
-    ensures ends { S.ends intake.new.source.now ≡
-        S.ends intake.old.source.now + end_step state.old.reading.at_end state.new.reading.at_end }
-    ensures read_faults { S.failures intake.new.source.now ≡
-        S.failures intake.old.source.now + read_fault_count result }
-    ensures write_faults { K.failures outlet.new.sink.now ≡ K.failures outlet.old.sink.now + write_fault_count result }
+    ensures same_source { source_name intake.new ≡ source_name intake.old }
+    ensures same_sink { sink_name outlet.new ≡ sink_name outlet.old }
+    ensures attempts { Attempts (M.machine machine.now) S.gave K.wrote (source_of intake.old) (source_of intake.new)
+        (sink_of outlet.old) (sink_of outlet.new) state.old state.new result }
+    ensures ends { S.ends (source_of intake.new) ≡
+        S.ends (source_of intake.old) + end_step state.old.reading.at_end state.new.reading.at_end }
+    ensures read_faults { S.failures (source_of intake.new) ≡
+        S.failures (source_of intake.old) + read_fault_count result }
+    ensures write_faults { K.failures (sink_of outlet.new) ≡
+        K.failures (sink_of outlet.old) + write_fault_count result }
     ensures max_reads { state.new.reading.max_reads ≡ state.old.reading.max_reads }
-    ensures handed_on { HandedOnIfMade (K.flushed outlet.new.sink.now) result }
+    ensures handed_on { HandedOnIfMade (K.flushed (sink_of outlet.new)) result }
     ensures too_many { IsErrOf result RunError.TooManyReads → ⊥ }
     ensures refused { IsErrOf result RunError.Failed → ⊥ }
 
     // The next turn may be called.
-    ensures next { MayGoOn (M.machine machine.now) intake.new.live outlet.new.live state.new result }
+    ensures next { MayGoOn (M.machine machine.now) (can_read intake.new) (can_write outlet.new) state.new result }
     ensures condition { state.new.place.condition < (M.machine machine.now).conditions }
     ensures inside { state.new.place.at ≤ length state.new.reading.window.bytes }
     ensures marks { state.new.failed ≡ false → AreTrue (M.machine machine.now) state.new.reading memo.new }
@@ -103,18 +105,19 @@ fn go_further_unless_behind<M: Machine, S: Source, K: Sink>(
 ) -> Result<usize, RunError>
     requires working { state.old.failed ≡ false }
     requires going { state.old.ended ≡ None }
-    requires ready { MayMove (M.machine machine.now) intake.old.live outlet.old.live state.old }
+    requires ready { MayMove (M.machine machine.now) (can_read intake.old) (can_write outlet.old) state.old }
     requires inside { state.old.place.at ≤ length state.old.reading.window.bytes }
 
-    ensures same_source { intake.new.source.ghost_name ≡ intake.old.source.ghost_name }
-    ensures same_sink { outlet.new.sink.ghost_name ≡ outlet.old.sink.ghost_name }
-    ensures goes_on { (got : List ℕ) × (wrote : List ℕ) × S.gave intake.old.source.now got intake.new.source.now
-        × K.wrote outlet.old.sink.now wrote outlet.new.sink.now
+    ensures same_source { source_name intake.new ≡ source_name intake.old }
+    ensures same_sink { sink_name outlet.new ≡ sink_name outlet.old }
+    ensures goes_on { (got : List ℕ) × (wrote : List ℕ) × S.gave (source_of intake.old) got (source_of intake.new)
+        × K.wrote (sink_of outlet.old) wrote (sink_of outlet.new)
         × NoneAfterEnd state.old state.new got
         × GoesFurther (M.machine machine.now) state.old state.new got wrote result }
-    ensures ends { S.ends intake.new.source.now ≡ S.ends intake.old.source.now }
-    ensures read_faults { S.failures intake.new.source.now ≡ S.failures intake.old.source.now }
-    ensures write_faults { K.failures outlet.new.sink.now ≡ K.failures outlet.old.sink.now + write_fault_count result }
+    ensures ends { S.ends (source_of intake.new) ≡ S.ends (source_of intake.old) }
+    ensures read_faults { S.failures (source_of intake.new) ≡ S.failures (source_of intake.old) }
+    ensures write_faults { K.failures (sink_of outlet.new) ≡
+        K.failures (sink_of outlet.old) + write_fault_count result }
     ensures refusals { IfErr result (λ e. e ≡ RunError.Write) }
     ensures at_end { state.new.reading.at_end ≡ state.old.reading.at_end }
     ensures max_reads { state.new.reading.max_reads ≡ state.old.reading.max_reads }
@@ -123,8 +126,8 @@ fn go_further_unless_behind<M: Machine, S: Source, K: Sink>(
 
     // The next turn may be called.
     ensures working { OnOk result (state.new.failed ≡ false) }
-    ensures may_read { state.new.reading.at_end ≡ false → intake.new.live ≡ true }
-    ensures may_write { OnOk result (outlet.new.live ≡ true) }
+    ensures may_read { state.new.reading.at_end ≡ false → can_read intake.new ≡ true }
+    ensures may_write { OnOk result (can_write outlet.new ≡ true) }
     ensures condition { state.new.place.condition < (M.machine machine.now).conditions }
     ensures inside { state.new.place.at ≤ length state.new.reading.window.bytes }
     ensures stack { state.new.acting.stack ≡ state.old.acting.stack }
@@ -149,22 +152,23 @@ fn turns_over<M: Machine, S: Source, K: Sink>(
     requires working { state.old.failed ≡ false }
     requires going { state.old.ended ≡ None }
     requires reading { state.old.reading.at_end ≡ false }
-    requires ready { MayTurn (M.machine machine.now) intake.old.live outlet.old.live state.old }
+    requires ready { MayTurn (M.machine machine.now) (can_read intake.old) (can_write outlet.old) state.old }
     requires inside { state.old.place.at ≤ length state.old.reading.window.bytes }
     requires marks { AreTrue (M.machine machine.now) state.old.reading memo.old }
     requires stood { Standing (M.machine machine.now) state.old }
 
-    ensures same_source { intake.new.source.ghost_name ≡ intake.old.source.ghost_name }
-    ensures same_sink { outlet.new.sink.ghost_name ≡ outlet.old.sink.ghost_name }
-    ensures ran { TurnsOver (M.machine machine.now) S.gave K.wrote intake.old.source.now intake.new.source.now
-        outlet.old.sink.now outlet.new.sink.now state.old state.new result }
-    ensures ends { S.ends intake.new.source.now ≡
-        S.ends intake.old.source.now + end_step false state.new.reading.at_end }
-    ensures read_faults { S.failures intake.new.source.now ≡
-        S.failures intake.old.source.now + read_fault_count result }
-    ensures write_faults { K.failures outlet.new.sink.now ≡ K.failures outlet.old.sink.now + write_fault_count result }
+    ensures same_source { source_name intake.new ≡ source_name intake.old }
+    ensures same_sink { sink_name outlet.new ≡ sink_name outlet.old }
+    ensures ran { TurnsOver (M.machine machine.now) S.gave K.wrote (source_of intake.old) (source_of intake.new)
+        (sink_of outlet.old) (sink_of outlet.new) state.old state.new result }
+    ensures ends { S.ends (source_of intake.new) ≡
+        S.ends (source_of intake.old) + end_step false state.new.reading.at_end }
+    ensures read_faults { S.failures (source_of intake.new) ≡
+        S.failures (source_of intake.old) + read_fault_count result }
+    ensures write_faults { K.failures (sink_of outlet.new) ≡
+        K.failures (sink_of outlet.old) + write_fault_count result }
     ensures max_reads { state.new.reading.max_reads ≡ state.old.reading.max_reads }
-    ensures handed_on { HandedOn (K.flushed outlet.new.sink.now) result }
+    ensures handed_on { HandedOn (K.flushed (sink_of outlet.new)) result }
     ensures too_many { IsErrOf result RunError.TooManyReads → ⊥ }
     ensures refused { IsErrOf result RunError.Failed → ⊥ }
 

@@ -1,5 +1,6 @@
 //! Several turns in one go, over bytes that the source has ready.
 ghost use Rattle.std.specs.Prelude.{◌≡◌, ◌+◌, ◌-◌, ◌<◌, ◌≤◌, length, true, false};
+ghost use Rattle.lexscan_window.specs.Intakes.{sink_of, sink_name, can_write};
 ghost use Rattle.lexscan.specs.Bursts.{starts_line, BurstsBy, fault_of};
 ghost use Rattle.lexscan_matching.specs.Glanced.{names_rule};
 
@@ -41,15 +42,15 @@ pub fn burst_over<M: Machine, K: Sink>(
     held: usize,
     place: TextPlace,
 ) -> Burst
-    requires live { outlet.old.live ≡ true }
+    requires live { can_write outlet.old ≡ true }
     requires condition { place.condition < (M.machine machine.now).conditions }
     requires held { held ≤ length text.now }
 
-    ensures same { outlet.new.sink.ghost_name ≡ outlet.old.sink.ghost_name }
-    ensures bursts { BurstsBy result.fault (M.machine machine.now) K.wrote outlet.old.sink.now outlet.new.sink.now
+    ensures same { sink_name outlet.new ≡ sink_name outlet.old }
+    ensures bursts { BurstsBy result.fault (M.machine machine.now) K.wrote (sink_of outlet.old) (sink_of outlet.new)
         text.now held place.condition place.line_start result }
-    ensures failures { K.failures outlet.new.sink.now ≡ K.failures outlet.old.sink.now + fault_of result.fault }
-    ensures live { result.fault ≡ false → outlet.new.live ≡ true }
+    ensures failures { K.failures (sink_of outlet.new) ≡ K.failures (sink_of outlet.old) + fault_of result.fault }
+    ensures live { result.fault ≡ false → can_write outlet.new ≡ true }
     ensures condition { result.condition < (M.machine machine.now).conditions }
     ensures done { result.done ≤ result.asked }
     ensures held { held ≤ result.asked }

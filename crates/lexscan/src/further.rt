@@ -3,8 +3,9 @@ ghost use Rattle.std.specs.Prelude.{◌≡◌, ℕ, ◌+◌, ◌-◌, ◌^◌, �
 ghost use Rattle.std.specs.Prelude.{false, None, OnOk, OnErr, IfOk, IfErr};
 ghost use Rattle.lex_semantics.specs.Text.{AllBelow};
 ghost use Rattle.lex_semantics.specs.MachineLaws.{NoReject};
+ghost use Rattle.lexscan_window.specs.Intakes.{source_of, source_name, can_read, sink_of, sink_name, can_write};
 ghost use Rattle.lexscan_window.specs.Reads.{write_fault_count};
-ghost use Rattle.lexscan_window.specs.Answer.{end_read};
+ghost use Rattle.lex_semantics.specs.ByteSets.{bit_of};
 ghost use Rattle.lexscan.specs.Stands.{NoneAfterEnd};
 ghost use Rattle.lexscan.specs.Turns.{MayMove};
 ghost use Rattle.lexscan.specs.Bursts.{GoesFurther, NoEarlier};
@@ -20,7 +21,7 @@ use lexscan_window::{Intake, Outlet, RunError, State, TextPlace};
 #[inline(always)]
 fn advance(state: &mut State, burst: Burst, got: usize)
     requires got { got ≤ length state.old.reading.window.ahead }
-    requires few { state.old.reading.taken + got + end_read state.old.reading.at_end ≤ state.old.reading.max_reads }
+    requires few { state.old.reading.taken + got + bit_of state.old.reading.at_end ≤ state.old.reading.max_reads }
     requires done { burst.done ≤ length state.old.reading.window.bytes + got }
     ensures held { state.new.reading.window.bytes ≡ drop burst.done
         (state.old.reading.window.bytes ++ take got state.old.reading.window.ahead) }
@@ -72,18 +73,19 @@ pub fn go_further<M: Machine, S: Source, K: Sink>(
 ) -> Result<usize, RunError>
     requires working { state.old.failed ≡ false }
     requires going { state.old.ended ≡ None }
-    requires ready { MayMove (M.machine machine.now) intake.old.live outlet.old.live state.old }
+    requires ready { MayMove (M.machine machine.now) (can_read intake.old) (can_write outlet.old) state.old }
     requires inside { state.old.place.at ≤ length state.old.reading.window.bytes }
 
-    ensures same_source { intake.new.source.ghost_name ≡ intake.old.source.ghost_name }
-    ensures same_sink { outlet.new.sink.ghost_name ≡ outlet.old.sink.ghost_name }
-    ensures goes_on { (got : List ℕ) × (wrote : List ℕ) × S.gave intake.old.source.now got intake.new.source.now
-        × K.wrote outlet.old.sink.now wrote outlet.new.sink.now
+    ensures same_source { source_name intake.new ≡ source_name intake.old }
+    ensures same_sink { sink_name outlet.new ≡ sink_name outlet.old }
+    ensures goes_on { (got : List ℕ) × (wrote : List ℕ) × S.gave (source_of intake.old) got (source_of intake.new)
+        × K.wrote (sink_of outlet.old) wrote (sink_of outlet.new)
         × NoneAfterEnd state.old state.new got
         × GoesFurther (M.machine machine.now) state.old state.new got wrote result }
-    ensures ends { S.ends intake.new.source.now ≡ S.ends intake.old.source.now }
-    ensures read_faults { S.failures intake.new.source.now ≡ S.failures intake.old.source.now }
-    ensures write_faults { K.failures outlet.new.sink.now ≡ K.failures outlet.old.sink.now + write_fault_count result }
+    ensures ends { S.ends (source_of intake.new) ≡ S.ends (source_of intake.old) }
+    ensures read_faults { S.failures (source_of intake.new) ≡ S.failures (source_of intake.old) }
+    ensures write_faults { K.failures (sink_of outlet.new) ≡
+        K.failures (sink_of outlet.old) + write_fault_count result }
     ensures refusals { IfErr result (λ e. e ≡ RunError.Write) }
     ensures at_end { state.new.reading.at_end ≡ state.old.reading.at_end }
     ensures max_reads { state.new.reading.max_reads ≡ state.old.reading.max_reads }
@@ -92,8 +94,8 @@ pub fn go_further<M: Machine, S: Source, K: Sink>(
 
     // The next turn may be called.
     ensures working { OnOk result (state.new.failed ≡ false) }
-    ensures may_read { state.new.reading.at_end ≡ false → intake.new.live ≡ true }
-    ensures may_write { OnOk result (outlet.new.live ≡ true) }
+    ensures may_read { state.new.reading.at_end ≡ false → can_read intake.new ≡ true }
+    ensures may_write { OnOk result (can_write outlet.new ≡ true) }
     ensures condition { state.new.place.condition < (M.machine machine.now).conditions }
     ensures inside { state.new.place.at ≤ length state.new.reading.window.bytes }
     ensures stack { state.new.acting.stack ≡ state.old.acting.stack }

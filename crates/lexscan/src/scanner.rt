@@ -3,7 +3,8 @@ ghost use Rattle.std.specs.Prelude.{◌≡◌, ℕ, ◌+◌, ◌-◌, ◌^◌, �
 ghost use Rattle.std.specs.Prelude.{Ok, Err, IfSome, IsErrOf};
 ghost use Rattle.std.specs.Coded.{→_prop};
 ghost use Rattle.lex_semantics.specs.Text.{AllBelow};
-ghost use Rattle.lexscan_window.specs.Answer.{end_read};
+ghost use Rattle.lexscan_window.specs.Intakes.{can_read, can_write};
+ghost use Rattle.lex_semantics.specs.ByteSets.{bit_of};
 ghost use Rattle.lexscan_window.specs.Reads.{read_fault_count, write_fault_count, end_step};
 ghost use Rattle.lexscan_window.specs.Memos.{AreTrue, AreTrue-prop};
 ghost use Rattle.lexscan.specs.Stacks.{AllBelow-prop};
@@ -26,8 +27,9 @@ pub struct Scanner<'a, M: Machine, S: Source, K: Sink> {
     path: StatePath,
     memo: Memo,
     state: State,
-    ghost may_read: { state.failed ≡ false → state.ended ≡ None → state.reading.at_end ≡ false → intake.live ≡ true },
-    ghost may_write: { state.failed ≡ false → outlet.live ≡ true },
+    ghost may_read: { state.failed ≡ false → state.ended ≡ None → state.reading.at_end ≡ false
+        → can_read intake ≡ true },
+    ghost may_write: { state.failed ≡ false → can_write outlet ≡ true },
     ghost condition: { state.place.condition < (M.machine machine.now).conditions },
     ghost inside: { state.place.at ≤ length state.reading.window.bytes },
     ghost stack: { state.failed ≡ false → AllBelow (M.machine machine.now).conditions state.acting.stack } by { →_prop
@@ -37,7 +39,8 @@ pub struct Scanner<'a, M: Machine, S: Source, K: Sink> {
 }
 
 impl<'a, M: Machine, S: Source, K: Sink> Scanner<'a, M, S, K> {
-    ghost use Rattle.lexscan.specs.Scanners.{scanner_machine, scanner_source, scanner_sink, scanner_state};
+    ghost use Rattle.lexscan.specs.Scanners.{scanner_machine, scanner_source, scanner_source_name};
+    ghost use Rattle.lexscan.specs.Scanners.{scanner_sink, scanner_sink_name, scanner_state};
 
     /// A scanner that has made no turn, and takes at most this many bytes.
     pub fn new(
@@ -50,8 +53,8 @@ impl<'a, M: Machine, S: Source, K: Sink> Scanner<'a, M, S, K> {
         requires few_ends { S.ends source.old < 2 ^ 64 - 1 }
         requires few_reads { S.failures source.old < 2 ^ 64 - 1 }
         requires few_writes { K.failures sink.old < 2 ^ 64 - 1 }
-        ensures same_source { result.intake.source.ghost_name ≡ source.entry.ghost_name }
-        ensures same_sink { result.outlet.sink.ghost_name ≡ sink.entry.ghost_name }
+        ensures same_source { scanner_source_name result ≡ source.entry.ghost_name }
+        ensures same_sink { scanner_sink_name result ≡ sink.entry.ghost_name }
         ensures source { scanner_source result ≡ source.old }
         ensures sink { scanner_sink result ≡ sink.old }
         ensures machine { scanner_machine result ≡ machine.now }
@@ -73,8 +76,8 @@ impl<'a, M: Machine, S: Source, K: Sink> Scanner<'a, M, S, K> {
     /// One match with its actions, or the end action. Where the scan ends, the sink has been flushed.
     pub fn turn(&mut self) -> Result<Turn, RunError>
         ensures same_machine { scanner_machine self.new ≡ scanner_machine self.old }
-        ensures same_source { self.new.intake.source.ghost_name ≡ self.old.intake.source.ghost_name }
-        ensures same_sink { self.new.outlet.sink.ghost_name ≡ self.old.outlet.sink.ghost_name }
+        ensures same_source { scanner_source_name self.new ≡ scanner_source_name self.old }
+        ensures same_sink { scanner_sink_name self.new ≡ scanner_sink_name self.old }
         ensures goes_on { (got : List ℕ) × (wrote : List ℕ)
             × S.gave (scanner_source self.old) got (scanner_source self.new)
             × K.wrote (scanner_sink self.old) wrote (scanner_sink self.new)
@@ -101,7 +104,7 @@ impl<'a, M: Machine, S: Source, K: Sink> Scanner<'a, M, S, K> {
             × (scanner_sink self.new ≡ scanner_sink self.old) × (scanner_state self.new ≡ scanner_state self.old) }
         ensures max_reads { (scanner_state self.new).reading.max_reads ≡
             (scanner_state self.old).reading.max_reads }
-        ensures few_reads { (scanner_state self.new).reading.taken + end_read (scanner_state self.new).reading.at_end
+        ensures few_reads { (scanner_state self.new).reading.taken + bit_of (scanner_state self.new).reading.at_end
             + read_fault_count result ≤ (scanner_state self.new).reading.max_reads }
         ensures ends { S.ends (scanner_source self.new) ≡
             S.ends (scanner_source self.old)

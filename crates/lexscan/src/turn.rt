@@ -3,6 +3,7 @@ ghost use Rattle.std.specs.Prelude.{◌≡◌, ℕ, ◌+◌, ◌-◌, ◌^◌, �
 ghost use Rattle.std.specs.Prelude.{None, Ok, Err, OnOk, OnErr, IfOk, IfErr, IfSome, IsErrOf, nat_eq, get_or, ◌⊎◌};
 ghost use Rattle.lex_io.specs.Sink.{Appended};
 ghost use Rattle.lex_semantics.specs.Text.{Among, AllBelow};
+ghost use Rattle.lexscan_window.specs.Intakes.{source_of, source_name, can_read, sink_of, sink_name, can_write};
 ghost use Rattle.lexscan_window.specs.Reads.{read_fault_count, write_fault_count, end_step};
 ghost use Rattle.lexscan_window.specs.Ends.{SinkLeft};
 ghost use Rattle.lexscan_matching.specs.Looks.{Wants};
@@ -78,12 +79,12 @@ fn finish_turn<K: Sink>(
     state: &mut State,
     finish: Finish,
 ) -> Result<Turn, RunError>
-    requires live { outlet.old.live ≡ true }
+    requires live { can_write outlet.old ≡ true }
     requires inside { state.old.acting.end ≤ length state.old.reading.window.bytes }
 
-    ensures same { outlet.new.sink.ghost_name ≡ outlet.old.sink.ghost_name }
-    ensures handed_on { HandedOn (K.flushed outlet.new.sink.now) result }
-    ensures ends { EndsScan K.wrote K.failures outlet.old.sink.now outlet.new.sink.now outlet.new.live
+    ensures same { sink_name outlet.new ≡ sink_name outlet.old }
+    ensures handed_on { HandedOn (K.flushed (sink_of outlet.new)) result }
+    ensures ends { EndsScan K.wrote K.failures (sink_of outlet.old) (sink_of outlet.new) (can_write outlet.new)
         state.old state.new finish result }
 {
     match flush(outlet) {
@@ -107,12 +108,12 @@ fn leave_match<K: Sink>(
     state: &mut State,
     finish: Option<Finish>,
 ) -> Result<Turn, RunError>
-    requires live { outlet.old.live ≡ true }
+    requires live { can_write outlet.old ≡ true }
     requires inside { state.old.acting.end ≤ length state.old.reading.window.bytes }
 
-    ensures same { outlet.new.sink.ghost_name ≡ outlet.old.sink.ghost_name }
-    ensures handed_on { HandedOn (K.flushed outlet.new.sink.now) result }
-    ensures ends { EndsTurn K.wrote K.failures outlet.old.sink.now outlet.new.sink.now outlet.new.live
+    ensures same { sink_name outlet.new ≡ sink_name outlet.old }
+    ensures handed_on { HandedOn (K.flushed (sink_of outlet.new)) result }
+    ensures ends { EndsTurn K.wrote K.failures (sink_of outlet.old) (sink_of outlet.new) (can_write outlet.new)
         state.old state.new finish result }
 {
     match finish {
@@ -131,15 +132,15 @@ fn match_turn<M: Machine, K: Sink>(
     state: &mut State,
     path: &StatePath,
 ) -> Result<Turn, RunError>
-    requires live { outlet.old.live ≡ true }
+    requires live { can_write outlet.old ≡ true }
     requires some { 1 ≤ length path.now.states }
     requires inside { state.old.place.at + length path.now.states ≤ length state.old.reading.window.bytes }
     requires known { (s : ℕ) → Among path.now.states s → s < M.states machine.now }
 
-    ensures same { outlet.new.sink.ghost_name ≡ outlet.old.sink.ghost_name }
-    ensures handed_on { HandedOn (K.flushed outlet.new.sink.now) result }
-    ensures left { MatchLeft (M.machine machine.now) K.wrote K.failures outlet.old.sink.now outlet.new.sink.now
-        outlet.new.live state.old state.new path.now.states result }
+    ensures same { sink_name outlet.new ≡ sink_name outlet.old }
+    ensures handed_on { HandedOn (K.flushed (sink_of outlet.new)) result }
+    ensures left { MatchLeft (M.machine machine.now) K.wrote K.failures (sink_of outlet.old) (sink_of outlet.new)
+        (can_write outlet.new) state.old state.new path.now.states result }
 {
     state.acting.end = 0;
     state.acting.condition = state.place.condition;
@@ -180,16 +181,16 @@ fn carry_turn<M: Machine, K: Sink>(
     reach: usize,
     pick: Option<Pick<'_>>,
 ) -> Result<Turn, RunError>
-    requires live { outlet.old.live ≡ true }
+    requires live { can_write outlet.old ≡ true }
     requires no_reject { NoReject (M.machine machine.now) }
     requires place { state.old.place.at + reach ≤ length state.old.reading.window.bytes }
     requires some { 1 ≤ reach }
     requires longest { IsLongest (M.machine machine.now) state.old.place state.old.reading.window.bytes reach pick }
 
-    ensures same { outlet.new.sink.ghost_name ≡ outlet.old.sink.ghost_name }
-    ensures handed_on { HandedOn (K.flushed outlet.new.sink.now) result }
-    ensures left { MatchLeft (M.machine machine.now) K.wrote K.failures outlet.old.sink.now outlet.new.sink.now
-        outlet.new.live state.old state.new
+    ensures same { sink_name outlet.new ≡ sink_name outlet.old }
+    ensures handed_on { HandedOn (K.flushed (sink_of outlet.new)) result }
+    ensures left { MatchLeft (M.machine machine.now) K.wrote K.failures (sink_of outlet.old) (sink_of outlet.new)
+        (can_write outlet.new) state.old state.new
         (path_of (M.machine machine.now) state.old.place state.old.reading.window.bytes reach) result }
 {
     state.acting.condition = state.place.condition;
@@ -219,16 +220,16 @@ fn far_turn<M: Machine, K: Sink>(
     state: &mut State,
     reach: usize,
 ) -> Result<Turn, RunError>
-    requires live { outlet.old.live ≡ true }
+    requires live { can_write outlet.old ≡ true }
     requires no_reject { NoReject (M.machine machine.now) }
     requires condition { state.old.place.condition < (M.machine machine.now).conditions }
     requires place { state.old.place.at + reach ≤ length state.old.reading.window.bytes }
     requires some { 1 ≤ reach }
 
-    ensures same { outlet.new.sink.ghost_name ≡ outlet.old.sink.ghost_name }
-    ensures handed_on { HandedOn (K.flushed outlet.new.sink.now) result }
-    ensures left { MatchLeft (M.machine machine.now) K.wrote K.failures outlet.old.sink.now outlet.new.sink.now
-        outlet.new.live state.old state.new
+    ensures same { sink_name outlet.new ≡ sink_name outlet.old }
+    ensures handed_on { HandedOn (K.flushed (sink_of outlet.new)) result }
+    ensures left { MatchLeft (M.machine machine.now) K.wrote K.failures (sink_of outlet.old) (sink_of outlet.new)
+        (can_write outlet.new) state.old state.new
         (path_of (M.machine machine.now) state.old.place state.old.reading.window.bytes reach) result }
 {
     let pick = walk_again(machine, &state.reading.window, state.place, reach);
@@ -243,16 +244,16 @@ fn last_turn<M: Machine, K: Sink>(
     state: &mut State,
     ahead: LookAhead,
 ) -> Result<Turn, RunError>
-    requires live { outlet.old.live ≡ true }
+    requires live { can_write outlet.old ≡ true }
     requires no_reject { NoReject (M.machine machine.now) }
     requires condition { state.old.place.condition < (M.machine machine.now).conditions }
     requires tells { Tells (M.machine machine.now) (M.states machine.now) state.old.place
         state.old.reading.window.bytes ahead }
 
-    ensures same { outlet.new.sink.ghost_name ≡ outlet.old.sink.ghost_name }
-    ensures handed_on { HandedOn (K.flushed outlet.new.sink.now) result }
-    ensures left { MatchLeft (M.machine machine.now) K.wrote K.failures outlet.old.sink.now outlet.new.sink.now
-        outlet.new.live state.old state.new
+    ensures same { sink_name outlet.new ≡ sink_name outlet.old }
+    ensures handed_on { HandedOn (K.flushed (sink_of outlet.new)) result }
+    ensures left { MatchLeft (M.machine machine.now) K.wrote K.failures (sink_of outlet.old) (sink_of outlet.new)
+        (can_write outlet.new) state.old state.new
         (path_of (M.machine machine.now) state.old.place state.old.reading.window.bytes ahead.reach) result }
 {
     if let Some(pick) = near_end(machine, &state.reading.window, state.place, ahead) {
@@ -270,17 +271,17 @@ fn end_turn<M: Machine, K: Sink>(
     outlet: &mut Outlet<'_, K>,
     state: &mut State,
 ) -> Result<Turn, RunError>
-    requires live { outlet.old.live ≡ true }
+    requires live { can_write outlet.old ≡ true }
     requires condition { state.old.place.condition < (M.machine machine.now).conditions }
     requires inside { state.old.place.at ≤ length state.old.reading.window.bytes }
 
-    ensures same { outlet.new.sink.ghost_name ≡ outlet.old.sink.ghost_name }
-    ensures handed_on { HandedOn (K.flushed outlet.new.sink.now) result }
-    ensures sink { SinkLeft K.failures outlet.old.sink.now outlet.new.sink.now outlet.new.live result }
+    ensures same { sink_name outlet.new ≡ sink_name outlet.old }
+    ensures handed_on { HandedOn (K.flushed (sink_of outlet.new)) result }
+    ensures sink { SinkLeft K.failures (sink_of outlet.old) (sink_of outlet.new) (can_write outlet.new) result }
     ensures failed { state.new.failed ≡ state.old.failed }
     ensures max_reads { state.new.reading.max_reads ≡ state.old.reading.max_reads }
 
-    ensures bytes { Appended (λ xs. K.wrote outlet.old.sink.now xs outlet.new.sink.now)
+    ensures bytes { Appended (λ xs. K.wrote (sink_of outlet.old) xs (sink_of outlet.new))
         ((M.machine machine.now).ending state.old.place.condition).print result }
     ensures left { IfOk result (λ turn. EndLeft (M.machine machine.now) state.old.reading state.old.place
         (conditions_at state.old) state.new turn) }
@@ -310,17 +311,18 @@ fn go_with_reject<M: Machine, S: Source, K: Sink>(
     path: &mut StatePath,
     state: &mut State,
 ) -> Result<Turn, RunError>
-    requires ready { MayMove (M.machine machine.now) intake.old.live outlet.old.live state.old }
+    requires ready { MayMove (M.machine machine.now) (can_read intake.old) (can_write outlet.old) state.old }
     requires inside { state.old.place.at ≤ length state.old.reading.window.bytes }
 
-    ensures same_source { intake.new.source.ghost_name ≡ intake.old.source.ghost_name }
-    ensures same_sink { outlet.new.sink.ghost_name ≡ outlet.old.sink.ghost_name }
-    ensures handed_on { HandedOn (K.flushed outlet.new.sink.now) result }
-    ensures moved { Moved (M.machine machine.now) S.gave K.wrote intake.old.source.now intake.new.source.now
-        outlet.old.sink.now outlet.new.sink.now state.old state.new result }
-    ensures left { MoveLeft (M.machine machine.now) intake.new.live outlet.new.live state.old state.new result }
-    ensures counts { TurnCounts S.ends S.failures K.failures intake.old.source.now intake.new.source.now
-        outlet.old.sink.now outlet.new.sink.now state.old.reading state.new.reading result }
+    ensures same_source { source_name intake.new ≡ source_name intake.old }
+    ensures same_sink { sink_name outlet.new ≡ sink_name outlet.old }
+    ensures handed_on { HandedOn (K.flushed (sink_of outlet.new)) result }
+    ensures moved { Moved (M.machine machine.now) S.gave K.wrote (source_of intake.old) (source_of intake.new)
+        (sink_of outlet.old) (sink_of outlet.new) state.old state.new result }
+    ensures left { MoveLeft (M.machine machine.now) (can_read intake.new) (can_write outlet.new) state.old state.new
+        result }
+    ensures counts { TurnCounts S.ends S.failures K.failures (source_of intake.old) (source_of intake.new)
+        (sink_of outlet.old) (sink_of outlet.new) state.old.reading state.new.reading result }
 {
     let place = state.place;
     match look_ahead(machine, intake, outlet, &mut state.reading, path, place) {
@@ -339,17 +341,18 @@ fn go_without_reject<M: Machine, S: Source, K: Sink>(
     state: &mut State,
 ) -> Result<Turn, RunError>
     requires no_reject { NoReject (M.machine machine.now) }
-    requires ready { MayMove (M.machine machine.now) intake.old.live outlet.old.live state.old }
+    requires ready { MayMove (M.machine machine.now) (can_read intake.old) (can_write outlet.old) state.old }
     requires inside { state.old.place.at ≤ length state.old.reading.window.bytes }
 
-    ensures same_source { intake.new.source.ghost_name ≡ intake.old.source.ghost_name }
-    ensures same_sink { outlet.new.sink.ghost_name ≡ outlet.old.sink.ghost_name }
-    ensures handed_on { HandedOn (K.flushed outlet.new.sink.now) result }
-    ensures moved { Moved (M.machine machine.now) S.gave K.wrote intake.old.source.now intake.new.source.now
-        outlet.old.sink.now outlet.new.sink.now state.old state.new result }
-    ensures left { MoveLeft (M.machine machine.now) intake.new.live outlet.new.live state.old state.new result }
-    ensures counts { TurnCounts S.ends S.failures K.failures intake.old.source.now intake.new.source.now
-        outlet.old.sink.now outlet.new.sink.now state.old.reading state.new.reading result }
+    ensures same_source { source_name intake.new ≡ source_name intake.old }
+    ensures same_sink { sink_name outlet.new ≡ sink_name outlet.old }
+    ensures handed_on { HandedOn (K.flushed (sink_of outlet.new)) result }
+    ensures moved { Moved (M.machine machine.now) S.gave K.wrote (source_of intake.old) (source_of intake.new)
+        (sink_of outlet.old) (sink_of outlet.new) state.old state.new result }
+    ensures left { MoveLeft (M.machine machine.now) (can_read intake.new) (can_write outlet.new) state.old state.new
+        result }
+    ensures counts { TurnCounts S.ends S.failures K.failures (source_of intake.old) (source_of intake.new)
+        (sink_of outlet.old) (sink_of outlet.new) state.old.reading state.new.reading result }
 {
     let place = state.place;
     match look_ahead_last(machine, intake, outlet, &mut state.reading, place) {
@@ -368,17 +371,18 @@ fn go_past<M: Machine, S: Source, K: Sink>(
     ahead: LookAhead,
 ) -> Result<Turn, RunError>
     requires no_reject { NoReject (M.machine machine.now) }
-    requires ready { MayMove (M.machine machine.now) intake.old.live outlet.old.live state.old }
+    requires ready { MayMove (M.machine machine.now) (can_read intake.old) (can_write outlet.old) state.old }
     requires open { IsOpen (M.machine machine.now) (M.states machine.now) state.old.place state.old.reading ahead }
 
-    ensures same_source { intake.new.source.ghost_name ≡ intake.old.source.ghost_name }
-    ensures same_sink { outlet.new.sink.ghost_name ≡ outlet.old.sink.ghost_name }
-    ensures handed_on { HandedOn (K.flushed outlet.new.sink.now) result }
-    ensures moved { Moved (M.machine machine.now) S.gave K.wrote intake.old.source.now intake.new.source.now
-        outlet.old.sink.now outlet.new.sink.now state.old state.new result }
-    ensures left { MoveLeft (M.machine machine.now) intake.new.live outlet.new.live state.old state.new result }
-    ensures counts { TurnCounts S.ends S.failures K.failures intake.old.source.now intake.new.source.now
-        outlet.old.sink.now outlet.new.sink.now state.old.reading state.new.reading result }
+    ensures same_source { source_name intake.new ≡ source_name intake.old }
+    ensures same_sink { sink_name outlet.new ≡ sink_name outlet.old }
+    ensures handed_on { HandedOn (K.flushed (sink_of outlet.new)) result }
+    ensures moved { Moved (M.machine machine.now) S.gave K.wrote (source_of intake.old) (source_of intake.new)
+        (sink_of outlet.old) (sink_of outlet.new) state.old state.new result }
+    ensures left { MoveLeft (M.machine machine.now) (can_read intake.new) (can_write outlet.new) state.old state.new
+        result }
+    ensures counts { TurnCounts S.ends S.failures K.failures (source_of intake.old) (source_of intake.new)
+        (sink_of outlet.old) (sink_of outlet.new) state.old.reading state.new.reading result }
 {
     let place = state.place;
     match look_ahead_more(machine, intake, outlet, &mut state.reading, place, ahead) {
@@ -398,18 +402,19 @@ fn go_over<M: Machine, S: Source, K: Sink>(
     state: &mut State,
 ) -> Result<Turn, RunError>
     requires no_reject { NoReject (M.machine machine.now) }
-    requires ready { MayMove (M.machine machine.now) intake.old.live outlet.old.live state.old }
+    requires ready { MayMove (M.machine machine.now) (can_read intake.old) (can_write outlet.old) state.old }
     requires inside { state.old.place.at < length state.old.reading.window.bytes }
     requires marks { AreTrue (M.machine machine.now) state.old.reading memo.old }
 
-    ensures same_source { intake.new.source.ghost_name ≡ intake.old.source.ghost_name }
-    ensures same_sink { outlet.new.sink.ghost_name ≡ outlet.old.sink.ghost_name }
-    ensures handed_on { HandedOn (K.flushed outlet.new.sink.now) result }
-    ensures moved { Moved (M.machine machine.now) S.gave K.wrote intake.old.source.now intake.new.source.now
-        outlet.old.sink.now outlet.new.sink.now state.old state.new result }
-    ensures left { MoveLeft (M.machine machine.now) intake.new.live outlet.new.live state.old state.new result }
-    ensures counts { TurnCounts S.ends S.failures K.failures intake.old.source.now intake.new.source.now
-        outlet.old.sink.now outlet.new.sink.now state.old.reading state.new.reading result }
+    ensures same_source { source_name intake.new ≡ source_name intake.old }
+    ensures same_sink { sink_name outlet.new ≡ sink_name outlet.old }
+    ensures handed_on { HandedOn (K.flushed (sink_of outlet.new)) result }
+    ensures moved { Moved (M.machine machine.now) S.gave K.wrote (source_of intake.old) (source_of intake.new)
+        (sink_of outlet.old) (sink_of outlet.new) state.old state.new result }
+    ensures left { MoveLeft (M.machine machine.now) (can_read intake.new) (can_write outlet.new) state.old state.new
+        result }
+    ensures counts { TurnCounts S.ends S.failures K.failures (source_of intake.old) (source_of intake.new)
+        (sink_of outlet.old) (sink_of outlet.new) state.old.reading state.new.reading result }
     ensures marks { OnOk result (AreTrue (M.machine machine.now) state.new.reading memo.new) }
 {
     let place = state.place;
@@ -437,18 +442,19 @@ fn go_back<M: Machine, S: Source, K: Sink>(
     state: &mut State,
 ) -> Result<Turn, RunError>
     requires no_reject { NoReject (M.machine machine.now) }
-    requires ready { MayMove (M.machine machine.now) intake.old.live outlet.old.live state.old }
+    requires ready { MayMove (M.machine machine.now) (can_read intake.old) (can_write outlet.old) state.old }
     requires inside { state.old.place.at < length state.old.reading.window.bytes }
     requires marks { AreTrue (M.machine machine.now) state.old.reading memo.old }
 
-    ensures same_source { intake.new.source.ghost_name ≡ intake.old.source.ghost_name }
-    ensures same_sink { outlet.new.sink.ghost_name ≡ outlet.old.sink.ghost_name }
-    ensures handed_on { HandedOn (K.flushed outlet.new.sink.now) result }
-    ensures moved { Moved (M.machine machine.now) S.gave K.wrote intake.old.source.now intake.new.source.now
-        outlet.old.sink.now outlet.new.sink.now state.old state.new result }
-    ensures left { MoveLeft (M.machine machine.now) intake.new.live outlet.new.live state.old state.new result }
-    ensures counts { TurnCounts S.ends S.failures K.failures intake.old.source.now intake.new.source.now
-        outlet.old.sink.now outlet.new.sink.now state.old.reading state.new.reading result }
+    ensures same_source { source_name intake.new ≡ source_name intake.old }
+    ensures same_sink { sink_name outlet.new ≡ sink_name outlet.old }
+    ensures handed_on { HandedOn (K.flushed (sink_of outlet.new)) result }
+    ensures moved { Moved (M.machine machine.now) S.gave K.wrote (source_of intake.old) (source_of intake.new)
+        (sink_of outlet.old) (sink_of outlet.new) state.old state.new result }
+    ensures left { MoveLeft (M.machine machine.now) (can_read intake.new) (can_write outlet.new) state.old state.new
+        result }
+    ensures counts { TurnCounts S.ends S.failures K.failures (source_of intake.old) (source_of intake.new)
+        (sink_of outlet.old) (sink_of outlet.new) state.old.reading state.new.reading result }
     ensures marks { OnOk result (AreTrue (M.machine machine.now) state.new.reading memo.new) }
 {
     let result = go_over(machine, intake, outlet, memo, state);
@@ -469,22 +475,22 @@ pub fn turn_with_reject<M: Machine, S: Source, K: Sink>(
 ) -> Result<Turn, RunError>
     requires working { state.old.failed ≡ false }
     requires going { state.old.ended ≡ None }
-    requires ready { MayTurn (M.machine machine.now) intake.old.live outlet.old.live state.old }
+    requires ready { MayTurn (M.machine machine.now) (can_read intake.old) (can_write outlet.old) state.old }
     requires inside { state.old.place.at ≤ length state.old.reading.window.bytes }
 
-    ensures same_source { intake.new.source.ghost_name ≡ intake.old.source.ghost_name }
-    ensures same_sink { outlet.new.sink.ghost_name ≡ outlet.old.sink.ghost_name }
-    ensures handed_on { HandedOn (K.flushed outlet.new.sink.now) result }
-    ensures goes_on { MakesTurn (M.machine machine.now) S.gave K.wrote intake.old.source.now intake.new.source.now
-        outlet.old.sink.now outlet.new.sink.now state.old state.new result }
-    ensures counts { TurnCounts S.ends S.failures K.failures intake.old.source.now intake.new.source.now
-        outlet.old.sink.now outlet.new.sink.now state.old.reading state.new.reading result }
+    ensures same_source { source_name intake.new ≡ source_name intake.old }
+    ensures same_sink { sink_name outlet.new ≡ sink_name outlet.old }
+    ensures handed_on { HandedOn (K.flushed (sink_of outlet.new)) result }
+    ensures goes_on { MakesTurn (M.machine machine.now) S.gave K.wrote (source_of intake.old) (source_of intake.new)
+        (sink_of outlet.old) (sink_of outlet.new) state.old state.new result }
+    ensures counts { TurnCounts S.ends S.failures K.failures (source_of intake.old) (source_of intake.new)
+        (sink_of outlet.old) (sink_of outlet.new) state.old.reading state.new.reading result }
     ensures refused { IsErrOf result RunError.Failed → ⊥ }
     ensures too_many { IsErrOf result RunError.TooManyReads →
         (state.new.reading.taken ≡ state.new.reading.max_reads) × (state.new.reading.at_end ≡ false) }
 
     // The next turn may be called.
-    ensures next { MayTurn (M.machine machine.now) intake.new.live outlet.new.live state.new }
+    ensures next { MayTurn (M.machine machine.now) (can_read intake.new) (can_write outlet.new) state.new }
     ensures inside { state.new.place.at ≤ length state.new.reading.window.bytes }
 {
     match go_with_reject(machine, intake, outlet, path, state) {
@@ -507,22 +513,22 @@ pub fn turn_without_reject<M: Machine, S: Source, K: Sink>(
     requires no_reject { NoReject (M.machine machine.now) }
     requires working { state.old.failed ≡ false }
     requires going { state.old.ended ≡ None }
-    requires ready { MayTurn (M.machine machine.now) intake.old.live outlet.old.live state.old }
+    requires ready { MayTurn (M.machine machine.now) (can_read intake.old) (can_write outlet.old) state.old }
     requires inside { state.old.place.at ≤ length state.old.reading.window.bytes }
 
-    ensures same_source { intake.new.source.ghost_name ≡ intake.old.source.ghost_name }
-    ensures same_sink { outlet.new.sink.ghost_name ≡ outlet.old.sink.ghost_name }
-    ensures handed_on { HandedOn (K.flushed outlet.new.sink.now) result }
-    ensures goes_on { MakesTurn (M.machine machine.now) S.gave K.wrote intake.old.source.now intake.new.source.now
-        outlet.old.sink.now outlet.new.sink.now state.old state.new result }
-    ensures counts { TurnCounts S.ends S.failures K.failures intake.old.source.now intake.new.source.now
-        outlet.old.sink.now outlet.new.sink.now state.old.reading state.new.reading result }
+    ensures same_source { source_name intake.new ≡ source_name intake.old }
+    ensures same_sink { sink_name outlet.new ≡ sink_name outlet.old }
+    ensures handed_on { HandedOn (K.flushed (sink_of outlet.new)) result }
+    ensures goes_on { MakesTurn (M.machine machine.now) S.gave K.wrote (source_of intake.old) (source_of intake.new)
+        (sink_of outlet.old) (sink_of outlet.new) state.old state.new result }
+    ensures counts { TurnCounts S.ends S.failures K.failures (source_of intake.old) (source_of intake.new)
+        (sink_of outlet.old) (sink_of outlet.new) state.old.reading state.new.reading result }
     ensures refused { IsErrOf result RunError.Failed → ⊥ }
     ensures too_many { IsErrOf result RunError.TooManyReads →
         (state.new.reading.taken ≡ state.new.reading.max_reads) × (state.new.reading.at_end ≡ false) }
 
     // The next turn may be called.
-    ensures next { MayTurn (M.machine machine.now) intake.new.live outlet.new.live state.new }
+    ensures next { MayTurn (M.machine machine.now) (can_read intake.new) (can_write outlet.new) state.new }
     ensures inside { state.new.place.at ≤ length state.new.reading.window.bytes }
     ensures marks { (ms : List Mark) → AreTrue (M.machine machine.now) state.old.reading ms →
         state.new.failed ≡ false → AreTrue (M.machine machine.now) state.new.reading ms }
@@ -549,23 +555,23 @@ pub fn back_turn<M: Machine, S: Source, K: Sink>(
     requires no_reject { NoReject (M.machine machine.now) }
     requires working { state.old.failed ≡ false }
     requires going { state.old.ended ≡ None }
-    requires ready { MayTurn (M.machine machine.now) intake.old.live outlet.old.live state.old }
+    requires ready { MayTurn (M.machine machine.now) (can_read intake.old) (can_write outlet.old) state.old }
     requires inside { state.old.place.at < length state.old.reading.window.bytes }
     requires marks { AreTrue (M.machine machine.now) state.old.reading memo.old }
 
-    ensures same_source { intake.new.source.ghost_name ≡ intake.old.source.ghost_name }
-    ensures same_sink { outlet.new.sink.ghost_name ≡ outlet.old.sink.ghost_name }
-    ensures handed_on { HandedOn (K.flushed outlet.new.sink.now) result }
-    ensures goes_on { MakesTurn (M.machine machine.now) S.gave K.wrote intake.old.source.now intake.new.source.now
-        outlet.old.sink.now outlet.new.sink.now state.old state.new result }
-    ensures counts { TurnCounts S.ends S.failures K.failures intake.old.source.now intake.new.source.now
-        outlet.old.sink.now outlet.new.sink.now state.old.reading state.new.reading result }
+    ensures same_source { source_name intake.new ≡ source_name intake.old }
+    ensures same_sink { sink_name outlet.new ≡ sink_name outlet.old }
+    ensures handed_on { HandedOn (K.flushed (sink_of outlet.new)) result }
+    ensures goes_on { MakesTurn (M.machine machine.now) S.gave K.wrote (source_of intake.old) (source_of intake.new)
+        (sink_of outlet.old) (sink_of outlet.new) state.old state.new result }
+    ensures counts { TurnCounts S.ends S.failures K.failures (source_of intake.old) (source_of intake.new)
+        (sink_of outlet.old) (sink_of outlet.new) state.old.reading state.new.reading result }
     ensures refused { IsErrOf result RunError.Failed → ⊥ }
     ensures too_many { IsErrOf result RunError.TooManyReads →
         (state.new.reading.taken ≡ state.new.reading.max_reads) × (state.new.reading.at_end ≡ false) }
 
     // The next turn may be called.
-    ensures next { MayTurn (M.machine machine.now) intake.new.live outlet.new.live state.new }
+    ensures next { MayTurn (M.machine machine.now) (can_read intake.new) (can_write outlet.new) state.new }
     ensures inside { state.new.place.at ≤ length state.new.reading.window.bytes }
     ensures marks { state.new.failed ≡ false → AreTrue (M.machine machine.now) state.new.reading memo.new }
 {
@@ -589,23 +595,23 @@ fn turn_on<M: Machine, S: Source, K: Sink>(
 ) -> Result<Turn, RunError>
     requires working { state.old.failed ≡ false }
     requires going { state.old.ended ≡ None }
-    requires ready { MayTurn (M.machine machine.now) intake.old.live outlet.old.live state.old }
+    requires ready { MayTurn (M.machine machine.now) (can_read intake.old) (can_write outlet.old) state.old }
     requires inside { state.old.place.at ≤ length state.old.reading.window.bytes }
     requires marks { AreTrue (M.machine machine.now) state.old.reading memo.old }
 
-    ensures same_source { intake.new.source.ghost_name ≡ intake.old.source.ghost_name }
-    ensures same_sink { outlet.new.sink.ghost_name ≡ outlet.old.sink.ghost_name }
-    ensures handed_on { HandedOn (K.flushed outlet.new.sink.now) result }
-    ensures goes_on { MakesTurn (M.machine machine.now) S.gave K.wrote intake.old.source.now intake.new.source.now
-        outlet.old.sink.now outlet.new.sink.now state.old state.new result }
-    ensures counts { TurnCounts S.ends S.failures K.failures intake.old.source.now intake.new.source.now
-        outlet.old.sink.now outlet.new.sink.now state.old.reading state.new.reading result }
+    ensures same_source { source_name intake.new ≡ source_name intake.old }
+    ensures same_sink { sink_name outlet.new ≡ sink_name outlet.old }
+    ensures handed_on { HandedOn (K.flushed (sink_of outlet.new)) result }
+    ensures goes_on { MakesTurn (M.machine machine.now) S.gave K.wrote (source_of intake.old) (source_of intake.new)
+        (sink_of outlet.old) (sink_of outlet.new) state.old state.new result }
+    ensures counts { TurnCounts S.ends S.failures K.failures (source_of intake.old) (source_of intake.new)
+        (sink_of outlet.old) (sink_of outlet.new) state.old.reading state.new.reading result }
     ensures refused { IsErrOf result RunError.Failed → ⊥ }
     ensures too_many { IsErrOf result RunError.TooManyReads →
         (state.new.reading.taken ≡ state.new.reading.max_reads) × (state.new.reading.at_end ≡ false) }
 
     // The next turn may be called.
-    ensures next { MayTurn (M.machine machine.now) intake.new.live outlet.new.live state.new }
+    ensures next { MayTurn (M.machine machine.now) (can_read intake.new) (can_write outlet.new) state.new }
     ensures inside { state.new.place.at ≤ length state.new.reading.window.bytes }
     ensures marks { state.new.failed ≡ false → AreTrue (M.machine machine.now) state.new.reading memo.new }
 {
@@ -628,31 +634,31 @@ pub fn turn_of<M: Machine, S: Source, K: Sink>(
     memo: &mut Memo,
     state: &mut State,
 ) -> Result<Turn, RunError>
-    requires ready { MayTurn (M.machine machine.now) intake.old.live outlet.old.live state.old }
+    requires ready { MayTurn (M.machine machine.now) (can_read intake.old) (can_write outlet.old) state.old }
     requires inside { state.old.place.at ≤ length state.old.reading.window.bytes }
     requires marks { state.old.failed ≡ false → AreTrue (M.machine machine.now) state.old.reading memo.old }
 
-    ensures same_source { intake.new.source.ghost_name ≡ intake.old.source.ghost_name }
-    ensures same_sink { outlet.new.sink.ghost_name ≡ outlet.old.sink.ghost_name }
-    ensures goes_on { MakesTurn (M.machine machine.now) S.gave K.wrote intake.old.source.now intake.new.source.now
-        outlet.old.sink.now outlet.new.sink.now state.old state.new result }
-    ensures counts { TurnCounts S.ends S.failures K.failures intake.old.source.now intake.new.source.now
-        outlet.old.sink.now outlet.new.sink.now state.old.reading state.new.reading result }
+    ensures same_source { source_name intake.new ≡ source_name intake.old }
+    ensures same_sink { sink_name outlet.new ≡ sink_name outlet.old }
+    ensures goes_on { MakesTurn (M.machine machine.now) S.gave K.wrote (source_of intake.old) (source_of intake.new)
+        (sink_of outlet.old) (sink_of outlet.new) state.old state.new result }
+    ensures counts { TurnCounts S.ends S.failures K.failures (source_of intake.old) (source_of intake.new)
+        (sink_of outlet.old) (sink_of outlet.new) state.old.reading state.new.reading result }
     ensures handed_on { state.old.failed ≡ false → state.old.ended ≡ None
-        → HandedOn (K.flushed outlet.new.sink.now) result }
+        → HandedOn (K.flushed (sink_of outlet.new)) result }
     ensures after_refusal { state.old.failed ≡ true → (result ≡ Err RunError.Failed)
-        × (intake.new.source.now ≡ intake.old.source.now)
-        × (outlet.new.sink.now ≡ outlet.old.sink.now) × (state.new ≡ state.old) }
+        × (source_of intake.new ≡ source_of intake.old)
+        × (sink_of outlet.new ≡ sink_of outlet.old) × (state.new ≡ state.old) }
     ensures refused { IsErrOf result RunError.Failed → state.old.failed ≡ true }
     ensures after_end { (status : ℕ) → state.old.failed ≡ false → state.old.ended ≡ Some status →
         (result ≡ Ok (Turn.Ended status))
-        × (intake.new.source.now ≡ intake.old.source.now)
-        × (outlet.new.sink.now ≡ outlet.old.sink.now) × (state.new ≡ state.old) }
+        × (source_of intake.new ≡ source_of intake.old)
+        × (sink_of outlet.new ≡ sink_of outlet.old) × (state.new ≡ state.old) }
     ensures too_many { IsErrOf result RunError.TooManyReads →
         (state.new.reading.taken ≡ state.new.reading.max_reads) × (state.new.reading.at_end ≡ false) }
 
     // The next turn may be called.
-    ensures next { MayTurn (M.machine machine.now) intake.new.live outlet.new.live state.new }
+    ensures next { MayTurn (M.machine machine.now) (can_read intake.new) (can_write outlet.new) state.new }
     ensures inside { state.new.place.at ≤ length state.new.reading.window.bytes }
     ensures marks { state.new.failed ≡ false → AreTrue (M.machine machine.now) state.new.reading memo.new }
 {

@@ -4,6 +4,7 @@ ghost use Rattle.std.specs.Prelude.{nat_lt};
 ghost use Rattle.lex_semantics.specs.Machine.{rules_of_machine};
 ghost use Rattle.lex_semantics.specs.MachineLaws.{NoReject};
 ghost use Rattle.lex_semantics.specs.Text.{AllBelow};
+ghost use Rattle.lexscan_window.specs.Intakes.{source_of, source_name, can_read, sink_of, sink_name, can_write};
 ghost use Rattle.lexscan_window.specs.Memos.{AreTrue};
 ghost use Rattle.lexscan_window.specs.Reads.{read_fault_count, write_fault_count};
 ghost use Rattle.lexscan.specs.Stands.{Stands};
@@ -70,20 +71,20 @@ fn run_turns<M: Machine, S: Source, K: Sink>(
     requires start { Stands (M.machine machine.now) 0 [] [] state.old }
     requires going { state.old.ended ≡ None }
     requires reading { state.old.reading.at_end ≡ false }
-    requires ready { MayTurn (M.machine machine.now) intake.old.live outlet.old.live state.old }
+    requires ready { MayTurn (M.machine machine.now) (can_read intake.old) (can_write outlet.old) state.old }
     requires inside { state.old.place.at ≤ length state.old.reading.window.bytes }
     requires marks { AreTrue (M.machine machine.now) state.old.reading memo.old }
 
-    ensures same_source { intake.new.source.ghost_name ≡ intake.old.source.ghost_name }
-    ensures same_sink { outlet.new.sink.ghost_name ≡ outlet.old.sink.ghost_name }
-    ensures ran { (given : List ℕ) × (out : List ℕ) × S.gave intake.old.source.now given intake.new.source.now
-        × K.wrote outlet.old.sink.now out outlet.new.sink.now
+    ensures same_source { source_name intake.new ≡ source_name intake.old }
+    ensures same_sink { sink_name outlet.new ≡ sink_name outlet.old }
+    ensures ran { (given : List ℕ) × (out : List ℕ) × S.gave (source_of intake.old) given (source_of intake.new)
+        × K.wrote (sink_of outlet.old) out (sink_of outlet.new)
         × Ran (rules_of_machine (M.machine machine.now)) given out
-        (nat_lt (S.ends intake.old.source.now) (S.ends intake.new.source.now)) state.old.reading.max_reads result
-        × FewReads S.ends S.failures intake.old.source.now intake.new.source.now given state.old.reading.max_reads }
-    ensures counts { RunCounts S.ends S.failures K.failures intake.old.source.now intake.new.source.now
-        outlet.old.sink.now outlet.new.sink.now result }
-    ensures handed_on { RunHandedOn (K.flushed outlet.new.sink.now) result }
+        (nat_lt (S.ends (source_of intake.old)) (S.ends (source_of intake.new))) state.old.reading.max_reads result
+        × FewReads S.ends S.failures (source_of intake.old) (source_of intake.new) given state.old.reading.max_reads }
+    ensures counts { RunCounts S.ends S.failures K.failures (source_of intake.old) (source_of intake.new)
+        (sink_of outlet.old) (sink_of outlet.new) result }
+    ensures handed_on { RunHandedOn (K.flushed (sink_of outlet.new)) result }
 {
     if machine.rejects() {
         run_with_reject(machine, intake, outlet, path, state)
@@ -104,19 +105,19 @@ fn run_with_reject<M: Machine, S: Source, K: Sink>(
     requires start { Stands (M.machine machine.now) 0 [] [] state.old }
     requires going { state.old.ended ≡ None }
     requires reading { state.old.reading.at_end ≡ false }
-    requires ready { MayTurn (M.machine machine.now) intake.old.live outlet.old.live state.old }
+    requires ready { MayTurn (M.machine machine.now) (can_read intake.old) (can_write outlet.old) state.old }
     requires inside { state.old.place.at ≤ length state.old.reading.window.bytes }
 
-    ensures same_source { intake.new.source.ghost_name ≡ intake.old.source.ghost_name }
-    ensures same_sink { outlet.new.sink.ghost_name ≡ outlet.old.sink.ghost_name }
-    ensures ran { (given : List ℕ) × (out : List ℕ) × S.gave intake.old.source.now given intake.new.source.now
-        × K.wrote outlet.old.sink.now out outlet.new.sink.now
+    ensures same_source { source_name intake.new ≡ source_name intake.old }
+    ensures same_sink { sink_name outlet.new ≡ sink_name outlet.old }
+    ensures ran { (given : List ℕ) × (out : List ℕ) × S.gave (source_of intake.old) given (source_of intake.new)
+        × K.wrote (sink_of outlet.old) out (sink_of outlet.new)
         × Ran (rules_of_machine (M.machine machine.now)) given out
-        (nat_lt (S.ends intake.old.source.now) (S.ends intake.new.source.now)) state.old.reading.max_reads result
-        × FewReads S.ends S.failures intake.old.source.now intake.new.source.now given state.old.reading.max_reads }
-    ensures counts { RunCounts S.ends S.failures K.failures intake.old.source.now intake.new.source.now
-        outlet.old.sink.now outlet.new.sink.now result }
-    ensures handed_on { RunHandedOn (K.flushed outlet.new.sink.now) result }
+        (nat_lt (S.ends (source_of intake.old)) (S.ends (source_of intake.new))) state.old.reading.max_reads result
+        × FewReads S.ends S.failures (source_of intake.old) (source_of intake.new) given state.old.reading.max_reads }
+    ensures counts { RunCounts S.ends S.failures K.failures (source_of intake.old) (source_of intake.new)
+        (sink_of outlet.old) (sink_of outlet.new) result }
+    ensures handed_on { RunHandedOn (K.flushed (sink_of outlet.new)) result }
 {
     let mut most = MOST_SHOWN;
     'turns: loop {
@@ -141,20 +142,20 @@ fn run_without_reject<M: Machine, S: Source, K: Sink>(
     requires start { Stands (M.machine machine.now) 0 [] [] state.old }
     requires going { state.old.ended ≡ None }
     requires reading { state.old.reading.at_end ≡ false }
-    requires ready { MayTurn (M.machine machine.now) intake.old.live outlet.old.live state.old }
+    requires ready { MayTurn (M.machine machine.now) (can_read intake.old) (can_write outlet.old) state.old }
     requires inside { state.old.place.at ≤ length state.old.reading.window.bytes }
     requires marks { AreTrue (M.machine machine.now) state.old.reading memo.old }
 
-    ensures same_source { intake.new.source.ghost_name ≡ intake.old.source.ghost_name }
-    ensures same_sink { outlet.new.sink.ghost_name ≡ outlet.old.sink.ghost_name }
-    ensures ran { (given : List ℕ) × (out : List ℕ) × S.gave intake.old.source.now given intake.new.source.now
-        × K.wrote outlet.old.sink.now out outlet.new.sink.now
+    ensures same_source { source_name intake.new ≡ source_name intake.old }
+    ensures same_sink { sink_name outlet.new ≡ sink_name outlet.old }
+    ensures ran { (given : List ℕ) × (out : List ℕ) × S.gave (source_of intake.old) given (source_of intake.new)
+        × K.wrote (sink_of outlet.old) out (sink_of outlet.new)
         × Ran (rules_of_machine (M.machine machine.now)) given out
-        (nat_lt (S.ends intake.old.source.now) (S.ends intake.new.source.now)) state.old.reading.max_reads result
-        × FewReads S.ends S.failures intake.old.source.now intake.new.source.now given state.old.reading.max_reads }
-    ensures counts { RunCounts S.ends S.failures K.failures intake.old.source.now intake.new.source.now
-        outlet.old.sink.now outlet.new.sink.now result }
-    ensures handed_on { RunHandedOn (K.flushed outlet.new.sink.now) result }
+        (nat_lt (S.ends (source_of intake.old)) (S.ends (source_of intake.new))) state.old.reading.max_reads result
+        × FewReads S.ends S.failures (source_of intake.old) (source_of intake.new) given state.old.reading.max_reads }
+    ensures counts { RunCounts S.ends S.failures K.failures (source_of intake.old) (source_of intake.new)
+        (sink_of outlet.old) (sink_of outlet.new) result }
+    ensures handed_on { RunHandedOn (K.flushed (sink_of outlet.new)) result }
 {
     let mut most = MOST_SHOWN;
     'turns: loop {

@@ -1,7 +1,7 @@
 -- What a scanner takes from its source.
-use Rattle.std.specs.Prelude.{◌≡◌, ℕ, ◌+◌, ◌<◌, max, Bool, true, false, List, [], ◌++◌, length, Option, Some, None, Result, Ok, Err}
+use Rattle.std.specs.Prelude.{◌≡◌, ℕ, ◌+◌, ◌<◌, max, Bool, true, false, List, [], ◌++◌, length, Option, None, Result, Ok, Err}
 use Rattle.lex_semantics.specs.Text.{IsText}
-use Rattle.lexscan_window.specs.Answer.{end_read}
+use Rattle.lex_semantics.specs.ByteSets.{bit_of}
 use Rattle.lexscan_window.specs.declared.state.Reading.{Reading}
 use Rattle.lexscan_window.specs.declared.error.RunError.{RunError}
 use Rattle.lexscan_window.specs.declared.error.RunError.TheVariants.{Read, Write}
@@ -32,22 +32,19 @@ IsShort old new next = (new.window.bytes ≡ old.window.bytes) × (next < length
 
 -- whether the end was answered
 abbrev pub is_end : {T E : Type 0} → Result (Option T) E → Bool
-is_end (Ok (Some v)) = false
 is_end (Ok None) = true
-is_end (Err e) = false
+is_end other = false
 
 -- 1 where the answer is this error
 abbrev pub read_fault_count : {T : Type 0} → Result T RunError → ℕ
-read_fault_count (Ok v) = 0
 read_fault_count (Err Read) = 1
-read_fault_count (Err other) = 0
+read_fault_count other = 0
 
 abbrev pub write_fault_count : {T : Type 0} → Result T RunError → ℕ
-write_fault_count (Ok v) = 0
 write_fault_count (Err Write) = 1
-write_fault_count (Err other) = 0
+write_fault_count other = 0
 
 -- 1 where the end was answered in between
 abbrev pub end_step : Bool → Bool → ℕ
-end_step false new = end_read new
+end_step false new = bit_of new
 end_step true new = 0

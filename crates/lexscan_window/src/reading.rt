@@ -6,7 +6,7 @@ ghost use Rattle.lex_semantics.specs.Text.{IsText};
 ghost use Rattle.lexscan_window.specs.Walks.{Grown, Walked, StopsAt, ends_at};
 ghost use Rattle.lexscan_window.specs.Reads.{Took, IsThere, IsWanted, IsShort, is_end, read_fault_count, end_step};
 ghost use Rattle.lexscan_window.specs.Intakes.{source_of, source_name, can_read, sink_of, sink_name, can_write};
-ghost use Rattle.lexscan_window.specs.Answer.{end_read};
+ghost use Rattle.lex_semantics.specs.ByteSets.{bit_of};
 ghost use Rattle.lexscan_window.specs.Ends.{SourceLeft, NothingPut};
 
 use crate::error::RunError;
@@ -44,7 +44,7 @@ fn take_plain<S: Source, K: Sink>(
     ensures taken { reading.new.taken ≡ reading.old.taken + length (given result) }
     ensures at_end { reading.new.at_end ≡ is_end result }
     ensures max_reads { reading.new.max_reads ≡ reading.old.max_reads }
-    ensures few_reads { reading.new.taken + end_read reading.new.at_end + read_fault_count result
+    ensures few_reads { reading.new.taken + bit_of reading.new.at_end + read_fault_count result
         ≤ reading.new.max_reads }
 
     ensures too_many { IsErrOf result RunError.TooManyReads → reading.old.taken ≡ reading.old.max_reads }
@@ -101,7 +101,7 @@ fn take_byte<S: Source, K: Sink>(
     ensures taken { reading.new.taken ≡ reading.old.taken + length (given result) }
     ensures at_end { reading.new.at_end ≡ is_end result }
     ensures max_reads { reading.new.max_reads ≡ reading.old.max_reads }
-    ensures few_reads { reading.new.taken + end_read reading.new.at_end + read_fault_count result
+    ensures few_reads { reading.new.taken + bit_of reading.new.at_end + read_fault_count result
         ≤ reading.new.max_reads }
 
     ensures states { path.new.states ≡ path.old.states }

@@ -1,6 +1,6 @@
 //! What a scanner keeps beside its two ends.
 ghost use Rattle.std.specs.Prelude.{◌≡◌, ◌+◌, ◌≤◌, false, true, None, []};
-ghost use Rattle.lexscan_window.specs.Answer.{end_read};
+ghost use Rattle.lex_semantics.specs.ByteSets.{bit_of};
 
 use crate::act::ActionState;
 use crate::matched::MatchedRule;
@@ -16,7 +16,7 @@ pub struct Reading {
     pub max_reads: u64,
     pub taken: u64,
     pub at_end: bool,
-    ghost few_reads: { taken + end_read at_end ≤ max_reads },
+    ghost few_reads: { taken + bit_of at_end ≤ max_reads },
 }
 
 /// Where the next match starts: the place in the window, whether a line starts there, and the condition.

@@ -26,7 +26,7 @@ returns-in-TooManyReads-clause-attempts g c =
       m.3,
       λ e. (let k = m.4 e in (k.0, back.at_end ∙ k.1)),
       (
-        m.5.0 tt,
+        m.5.0 (λ p. cc, λ p. cc),
         back.ended,
         reading,
         back.taken,
