@@ -65,7 +65,7 @@ not_fixed_is t sound true e h n fixed = no h
     no : false ≡ true → ⊥
     no p = cc
 not_fixed_is t sound false e h n fixed =
-    let low : least t ≡ n = one_least (In t) (least t) n (greatest t) (Some n) (has_lengths t sound) fixed.0 in
+    let low : least t ≡ n = one_least (In t) (least t) n (greatest t) (Some n) (has_lengths t sound) (fixed_lengths t n fixed) in
     no (sym e ∙ ap (has_fixed t) low ∙ fixed_is_tested t n sound fixed)
   where
     no : false ≡ true → ⊥

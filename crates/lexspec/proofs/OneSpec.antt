@@ -1,8 +1,8 @@
 -- A file spells at most one specification.
-use Rattle.std.proofs.Common.{◌≡◌, ℕ, ◌+◌, ◌-◌, ◌≤◌, Bool, List, [], ◌∷◌, length, Option, Some, None, sym, ◌∙◌, ap, subst, arith}
+use Rattle.std.proofs.Common.{◌≡◌, ℕ, ◌+◌, ◌-◌, Bool, List, [], ◌∷◌, Option, Some, None, sym, ◌∙◌, ap, subst}
 use Rattle.std.specs.Prelude.{codes}
 use Rattle.std.specs.FinMap.{from_entries}
-use Rattle.lex_semantics.specs.Tree.{Tree, In}
+use Rattle.lex_semantics.specs.Tree.{Tree}
 use Rattle.lex_semantics.specs.Spec.{Spec, EndAction, Statement, Cut, Whole, Head, Trail, Rule}
 use Rattle.lexre.specs.Definitions.{Definitions}
 use Rattle.lexre.specs.Spelling.{Spells}
