@@ -67,8 +67,8 @@ span lo hi = if nat_le lo hi then Some (range_set lo hi) else None
 
 -- this front, at least one letter, and `:]`: the letters, and what follows
 unfoldable pub class_name_at : List ℕ → Reader (List ℕ)
-class_name_at front t =
-    after_word front t >>= λ u. run_at is_alpha u >>= λ (letters, rest). after_word (codes ":]") rest >>= λ after. Some (letters, after)
+class_name_at front t = after_word front t >>= λ u. run_at is_alpha u >>= λ (letters, rest).
+    after_word (codes ":]") rest >>= λ after. Some (letters, after)
 
 -- `[` and this mark, at least one byte that is no `]` and no newline, then the mark and `]`: what follows
 unfoldable pub enclosed_by : List ℕ → List ℕ → Option (List ℕ)
@@ -137,8 +137,8 @@ interval_at t = number_at t >>= λ (m, rest).
 
 -- an interval, or a name and `}`
 unfoldable pub braces_at : Reader Symbol
-braces_at t =
-    option_or (interval_at t) (name_at t >>= λ (letters, rest). after_word (codes "}") rest >>= λ after. Some (name letters, after))
+braces_at t = option_or (interval_at t) (name_at t >>= λ (letters, rest).
+    after_word (codes "}") rest >>= λ after. Some (name letters, after))
 
 -- Symbols.
 

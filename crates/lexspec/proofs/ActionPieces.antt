@@ -1,16 +1,16 @@
 -- An action by the pieces of C is what it is byte by byte.
-use Rattle.std.proofs.Common.{◌≡◌, ℕ, zero, suc, ◌+◌, ◌-◌, ◌<◌, ◌==◌, ◌&&◌, ◌||◌, Bool, true, false, if◌then◌else◌, List, [], ◌∷◌, ◌++◌, length, take, drop, Option, Some, None, ◌⊎◌, inl, inr, refl, sym, ap, subst, ◌∙◌, arith, length-append}
-use Rattle.std.specs.Prelude.{codes, nat_eq, not, slice_get}
-use Rattle.std.proofs.lemmas.Bool.{eqb-true, eqb-false, ne_eqb}
+use Rattle.std.proofs.Common.{◌≡◌, ℕ, zero, suc, ◌-◌, ◌<◌, ◌==◌, ◌&&◌, ◌||◌, false, if◌then◌else◌, List, [], ◌∷◌, ◌++◌, length, take, drop, Option, Some, None, ◌⊎◌, inl, inr, refl, sym, ap, subst, ◌∙◌, arith, length-append}
+use Rattle.std.specs.Prelude.{codes, slice_get}
+use Rattle.std.proofs.lemmas.Bool.{ne_eqb}
 use Rattle.std.proofs.lemmas.List.{append_assoc, take_at}
 use Rattle.lex_semantics.specs.Active.{lists}
 use Rattle.lex_semantics.specs.Escapes.{byte_with, until_quote}
-use Rattle.lex_semantics.specs.Reading.{◌>>=◌, begins, take_up_to}
+use Rattle.lex_semantics.specs.Reading.{◌>>=◌, take_up_to}
 use Rattle.lexspec_lines.specs.Runs.{split_before}
 use Rattle.lexspec_lines.proofs.TextLaws.{Other, decide}
 use Rattle.lexspec_actions.specs.Comments.{after_star}
 use Rattle.lexspec_actions.specs.ByteSteps.{slash, block, star, line, after_byte}
-use Rattle.lexspec.specs.ActionSteps.{Place, code, string, escaped, outside, action_in, with_byte, next_place, depth_after}
+use Rattle.lexspec.specs.ActionSteps.{Place, code, string, escaped, outside, action_in, with_byte}
 use Rattle.lexspec.specs.Items.{after_string, after_piece, action_end, action_at}
 use Rattle.lexspec.proofs.ActionLaws.{at_outside, with_front}
 

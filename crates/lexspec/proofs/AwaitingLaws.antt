@@ -4,7 +4,7 @@ use Rattle.std.specs.Prelude.{codes}
 use Rattle.std.proofs.lemmas.List.{length-map}
 use Rattle.lex_semantics.specs.Spec as S
 use Rattle.lex_semantics.specs.Reading.{take_up_to, begins}
-use Rattle.lexspec.specs.Items.{Trailing, Subject, at_end, matching, Action, bar, spelled, Item, skipped, skipped_line, skipped_block, rule, IsSubject, IsSectionItem, AreItems, starts_rule, action_of}
+use Rattle.lexspec.specs.Items.{Trailing, Subject, at_end, matching, Action, bar, spelled, Item, skipped, skipped_line, skipped_block, rule, IsSubject, IsLine, AreItems, starts_rule, action_of}
 use Rattle.lexspec.specs.RuleItems.{EndRule, AreRules}
 use Rattle.lexspec.specs.RuleReads.{acting, first_statements}
 use Rattle.lexspec.specs.Keeping.{HasRoom}
@@ -67,6 +67,6 @@ module _ (d : Declarations) where
   pub has_room : (s : RulesSoFar) (n : ℕ) (t action rest : List ℕ) (front : Front) → ReadsFront d n t action rest front → (begins_end t ≡ false → length s.rules.items + length s.waiting.items < max_rules) → HasRoom front s
   has_room s n t action rest (F.Matching r) h room = from h.item
     where
-      from : IsSectionItem t (rule h.asked (matching h.anchored h.head h.after) (action_of action)) rest → length s.rules.items + length s.waiting.items < max_rules
+      from : IsLine t (rule h.asked (matching h.anchored h.head h.after) (action_of action)) rest → length s.rules.items + length s.waiting.items < max_rules
       from (starts, u, v, text, list, cut, ends, is_action) = room (ap opens_end list ∙ not_end u v h.head h.anchored h.after cut)
   has_room s n t action rest (F.AtEnd numbers) h room = tt

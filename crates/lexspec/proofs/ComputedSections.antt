@@ -9,10 +9,10 @@ use Rattle.lexre_bytes.specs.Quotes.{after_quotes}
 use Rattle.lexre.specs.Cutting.{IsCutting, piece_at}
 use Rattle.lexre.specs.Pieces.{Piece, IsPieces, dollar, other, slash, kind_at, slashes, ends_with_dollar}
 use Rattle.lexre.proofs.PieceLaws.{cutting_of}
-use Rattle.lexspec_lines.specs.DefinitionLines.{Definition, nothing, code_line, code_block, declares, options, ignored, defines, definition_at, definition_in, percent_line, IsUpTo}
+use Rattle.lexspec_lines.specs.DefinitionLines.{Definition, code_line, code_block, declares, options, ignored, defines, definition_at, definition_in, percent_line, IsUpTo}
 use Rattle.lexspec_lines.specs.SkippedCode.{IsDefinition, AreNumbered, AreFrom}
 use Rattle.lexspec_lines.specs.Lines.{after_block, without_returns}
-use Rattle.lexspec.specs.Items.{unlisted, every, only, no_trail, line_end, pattern_after, at_end, matching, bar, spelled, Item, IsRulePattern, skipped, skipped_line, skipped_block, rule, conditions_at, after_string, after_piece, action_end, action_at, IsSectionItem, AreItems}
+use Rattle.lexspec.specs.Items.{unlisted, every, only, no_trail, line_end, pattern_after, at_end, matching, bar, spelled, Item, IsSides, skipped, skipped_line, skipped_block, rule, conditions_at, after_string, after_piece, action_end, action_at, IsLine, AreItems}
 use Rattle.lexspec.specs.SpecExamples.{rules_section, user_code, whole_file, WholeSkips, short_file}
 
 -- the cutting of a pattern without a slash outside parentheses, by its pieces
@@ -48,12 +48,12 @@ from_separator = codes "%%\n" ++ rules_section ++ codes "%%\n" ++ user_code
 
 abbrev pub whole_definitions : List Definition
 whole_definitions =
-    code_block ∷ nothing ∷ code_line ∷ defines (codes "D") (codes "[0-9]") ∷ declares false (codes "A" ∷ [])
+    code_block ∷ ignored ∷ code_line ∷ defines (codes "D") (codes "[0-9]") ∷ declares false (codes "A" ∷ [])
     ∷ declares true (codes "B" ∷ codes "C" ∷ []) ∷ options (codes "stack" ∷ []) ∷ ignored ∷ []
 
 abbrev numbered_definitions : List (ℕ × Definition)
 numbered_definitions =
-    (1, code_block) ∷ (4, nothing) ∷ (6, code_line) ∷ (7, defines (codes "D") (codes "[0-9]")) ∷ (8, declares false (codes "A" ∷ []))
+    (1, code_block) ∷ (4, ignored) ∷ (6, code_line) ∷ (7, defines (codes "D") (codes "[0-9]")) ∷ (8, declares false (codes "A" ∷ []))
     ∷ (9, declares true (codes "B" ∷ codes "C" ∷ [])) ∷ (10, options (codes "stack" ∷ [])) ∷ (11, ignored) ∷ []
 
 pub whole_first : IsUpTo definition_at (without_returns whole_file) whole_definitions from_separator
@@ -125,7 +125,7 @@ later_items = (20, opening_item) ∷ last_items
 abbrev pub whole_items : List (ℕ × Item)
 whole_items = (13, skipped_line) ∷ (14, skipped_block) ∷ (17, number_item) ∷ (18, skipped) ∷ (19, letters_item) ∷ later_items
 
-number_here : IsSectionItem from_number number_item from_empty
+number_here : IsLine from_number number_item from_empty
 unfolding conditions_at kind_at piece_at slashes ends_with_dollar take_up_to is_blank action_at action_end after_piece after_string until_quote
 number_here =
     let after = codes " ECHO;\n" ++ from_empty in (
@@ -148,7 +148,7 @@ number_here =
       refl,
     )
 
-letters_here : IsSectionItem from_letters letters_item from_opening
+letters_here : IsLine from_letters letters_item from_opening
 unfolding conditions_at kind_at piece_at slashes ends_with_dollar take_up_to is_blank action_at action_end after_piece after_string until_quote
 letters_here =
     let after = codes " |\n" ++ from_opening in (
@@ -181,7 +181,7 @@ letters_here =
       refl,
     )
 
-opening_here : IsSectionItem from_opening opening_item from_closing
+opening_here : IsLine from_opening opening_item from_closing
 unfolding conditions_at kind_at piece_at slashes ends_with_dollar take_up_to is_blank after_quotes until_quote literal_byte_at action_at action_end after_piece after_string
 opening_here =
     let after = codes " { yy_push_state(B); /* } */\n  yymore(); }\n" ++ from_closing in (
@@ -204,7 +204,7 @@ opening_here =
       refl,
     )
 
-closing_here : IsSectionItem from_closing closing_item from_other
+closing_here : IsLine from_closing closing_item from_other
 unfolding conditions_at kind_at piece_at slashes ends_with_dollar take_up_to is_blank after_quotes until_quote literal_byte_at action_at action_end after_piece after_string
 closing_here =
     let after = codes " yy_pop_state();\n" ++ from_other in (
@@ -227,7 +227,7 @@ closing_here =
       refl,
     )
 
-other_here : IsSectionItem from_other other_item from_end_in_b
+other_here : IsLine from_other other_item from_end_in_b
 unfolding conditions_at kind_at piece_at slashes ends_with_dollar take_up_to is_blank after_word escape_at simple_escape action_at action_end after_piece after_string until_quote
 other_here =
     let after = codes " ;\n" ++ from_end_in_b in (
@@ -250,13 +250,13 @@ other_here =
       refl,
     )
 
-end_in_b_here : IsSectionItem from_end_in_b end_in_b_item from_end
+end_in_b_here : IsLine from_end_in_b end_in_b_item from_end
 unfolding conditions_at take_up_to is_blank action_at action_end after_piece after_string until_quote
 end_in_b_here =
     let after = codes " { printf(\"open\"); exit(2); }\n" ++ from_end in
     (refl, codes "<<EOF>>" ++ after, after, codes "{ printf(\"open\"); exit(2); }", refl, (refl, refl, refl), refl, refl)
 
-end_here : IsSectionItem from_end end_item from_user
+end_here : IsLine from_end end_item from_user
 unfolding conditions_at take_up_to is_blank action_at action_end after_piece after_string until_quote
 end_here =
     let after = codes " { printf(\"end\"); yyterminate(); }\n" ++ from_user in
@@ -294,12 +294,12 @@ whole_lines =
     (from_comment, refl, refl, (from_code, refl, refl, (from_name, refl, refl, (from_inclusive, refl, refl, (from_exclusive, refl, refl, last)))))
 
 -- the items, up to the second `%%`
-whole_pieces : AreFrom IsSectionItem 13 (rules_section ++ from_user) whole_items from_user
+whole_pieces : AreFrom IsLine 13 (rules_section ++ from_user) whole_items from_user
 unfolding after_block take_up_to is_blank
 whole_pieces =
-    let ends : AreNumbered IsSectionItem 28 from_end_in_b end_items from_user = (from_end, refl, end_in_b_here, (from_user, refl, end_here, refl)) in
-    let last : AreNumbered IsSectionItem 28 from_opening later_items from_user = (from_closing, refl, opening_here, (from_other, refl, closing_here, (from_end_in_b, refl, other_here, ends))) in
-    let later : AreNumbered IsSectionItem 28 from_number ((17, number_item) ∷ (18, skipped) ∷ (19, letters_item) ∷ later_items) from_user =
+    let ends : AreNumbered IsLine 28 from_end_in_b end_items from_user = (from_end, refl, end_in_b_here, (from_user, refl, end_here, refl)) in
+    let last : AreNumbered IsLine 28 from_opening later_items from_user = (from_closing, refl, opening_here, (from_other, refl, closing_here, (from_end_in_b, refl, other_here, ends))) in
+    let later : AreNumbered IsLine 28 from_number ((17, number_item) ∷ (18, skipped) ∷ (19, letters_item) ∷ later_items) from_user =
     (from_empty, refl, number_here, (from_letters, refl, ([], refl, refl), (from_opening, refl, letters_here, last))) in
     (from_block, refl, (codes "  int n;", refl, refl, refl), (from_number, refl, (refl, refl), later))
 
@@ -318,7 +318,7 @@ whole_skips = record {
 }
 
 -- `a`, and a blank behind it
-pub a_here : (rest : List ℕ) → IsRulePattern (97 ∷ 32 ∷ rest) (codes "a") no_trail (32 ∷ rest)
+pub a_here : (rest : List ℕ) → IsSides (97 ∷ 32 ∷ rest) (codes "a") no_trail (32 ∷ rest)
 unfolding kind_at piece_at slashes ends_with_dollar is_blank
 a_here rest = (
   1,

@@ -12,7 +12,7 @@ use Rattle.lex_semantics.specs.Shapes.{IsSoundTree, nodes}
 use Rattle.lex_semantics.specs.Sound.{IsCutOf}
 use Rattle.lex_semantics.specs.Spec.{Rule, Echo, Print, More, End, Push, Pop}
 use Rattle.lex_semantics.specs.Tree.{Tree, Set, Star}
-use Rattle.lexre_bytes.specs.Lexical.{after_word, run_at, number_at, name_at, escape_at, literal_byte_at, quoted_tree, class_name_at, enclosed_by, bracketed_at, is_range, range_at, element_at, elements_at, class_at, span, union_set, class_set, braces_at, symbol_at}
+use Rattle.lexre_bytes.specs.Lexical.{after_word, run_at, number_at, name_at, escape_at, literal_byte_at, quoted_tree, class_name_at, enclosed_by, bracketed_at, is_range, range_at, element_at, elements_at, class_at, span, union_set, class_set, interval_at, braces_at, symbol_at}
 use Rattle.lexre_bytes.specs.Symbols.{name, sign, once_or_more}
 use Rattle.lexre.specs.Definitions.{Definitions}
 use Rattle.lexre.specs.Grammar.{SpellsWithin}
@@ -61,7 +61,7 @@ digit_spelled = runs_spelled false (symbol_at false) (get named) 63 (codes "[0-9
 
 -- the name, and then the sign
 number_spelled : Spells plain named (codes "{D}+") number.head
-unfolding after_word braces_at symbol_at is_upper is_lower is_alpha is_digit is_alnum take_up_to
+unfolding after_word run_at number_at name_at interval_at braces_at symbol_at is_upper is_lower is_alpha is_digit is_alnum take_up_to
 number_spelled = (
   runs_spelled false (symbol_at false) (get named) 64 (codes "{D}+") number.head (
     name (codes "D") ∷ sign once_or_more ∷ [],

@@ -1,5 +1,5 @@
 -- What follows an item of the rules section is the end of its text.
-use Rattle.std.proofs.Common.{◌≡◌, ℕ, zero, suc, ◌+◌, ◌==◌, ◌&&◌, ◌||◌, Bool, true, false, not, if◌then◌else◌, List, [], ◌∷◌, length, drop, Option, Some, None, refl, ap, subst, sym, ◌∙◌}
+use Rattle.std.proofs.Common.{◌≡◌, ℕ, zero, suc, ◌==◌, ◌&&◌, ◌||◌, Bool, true, false, not, if◌then◌else◌, List, [], ◌∷◌, length, drop, Option, Some, None, refl, ap, subst, sym, ◌∙◌}
 use Rattle.std.specs.Prelude.{codes}
 use Rattle.lex_semantics.specs.ByteSets.{is_blank}
 use Rattle.lex_semantics.specs.Reading.{after_blanks, after_run, take_run, begins, take_up_to}
@@ -11,7 +11,7 @@ use Rattle.lexspec.proofs.ActionPieces.{action_is}
 use Rattle.lexspec.proofs.SubjectLaws.{to_cut}
 use Rattle.lex_semantics.specs.Active.{lists}
 use Rattle.lexspec_lines.specs.Runs.{split_before}
-use Rattle.lexspec.specs.Items.{Conditions, unlisted, every, only, conditions_at, Subject, at_end, matching, IsSubject, Item, skipped, skipped_line, skipped_block, rule, IsSectionItem}
+use Rattle.lexspec.specs.Items.{Conditions, unlisted, conditions_at, Subject, at_end, matching, IsSubject, Item, skipped, skipped_line, skipped_block, rule, IsLine}
 use Rattle.lexspec_lines.proofs.SectionLaws.{EndsWith, ends_on, after_line, after_block_ends, dropped, Each, each_some, each_none, each_if}
 use Rattle.lexspec.proofs.OneItems.{line_text}
 
@@ -105,7 +105,7 @@ subject_ends t (matching true head after) rest (on, off, p) =
 subject_ends t (matching false head after) rest (on, off, p) = let (stop, at, special, cut, parts, e) = to_cut t head after rest p in by_drop t rest stop e
 
 -- an item is the front of the text
-pub item_ends : (t : List ℕ) (i : Item) (rest : List ℕ) → IsSectionItem t i rest → EndsWith t rest
+pub item_ends : (t : List ℕ) (i : Item) (rest : List ℕ) → IsLine t i rest → EndsWith t rest
 item_ends t skipped rest (text, here, blank) = subst (EndsWith t) (line_text t text rest here).1 (after_line t)
 item_ends t skipped_line rest (text, here, some, blank) = subst (EndsWith t) (line_text t text rest here).1 (after_line t)
 item_ends t skipped_block rest (opens, after) = ends_on t (line_in t).1 rest (after_line t) (after_block_ends (suc (length t)) (line_in t).1 rest after)

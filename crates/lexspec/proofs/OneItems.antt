@@ -7,7 +7,7 @@ use Rattle.lexre.specs.Cutting.{IsCutting}
 use Rattle.lex_semantics.specs.Reading.{after_blanks, begins, take_up_to}
 use Rattle.lex_semantics.specs.ByteSets.{is_blank}
 use Rattle.lexspec_lines.specs.Lines.{line_in, line_at, newlines, is_all_blank}
-use Rattle.lexspec.specs.Items.{Conditions, Trailing, Subject, at_end, matching, Action, Item, skipped, skipped_line, skipped_block, rule, action_at, action_of, starts_rule, IsRulePattern, IsSubject, IsSectionItem, AreItems}
+use Rattle.lexspec.specs.Items.{Conditions, Trailing, Subject, at_end, matching, Action, Item, skipped, skipped_line, skipped_block, rule, action_at, action_of, starts_rule, IsSides, IsSubject, IsLine, AreItems}
 use Rattle.lexspec.specs.SubjectViews.{sides}
 use Rattle.lexspec.proofs.SubjectLaws.{to_cut}
 use Rattle.lexspec_lines.proofs.OneSection.{no_true, two_percents, some_pair}
@@ -28,7 +28,7 @@ not_caret (c ∷ u) h = from u c (eqb-true 60 c (first c u h))
 
 module _ (cut_once : (t : List ℕ) (stop stop' : ℕ) (at at' : Option ℕ) (two two' special special' : Bool) → IsCutting t stop at two special → IsCutting t stop' at' two' special' →
     (stop ≡ stop') × (at ≡ at') × (special ≡ special')) where
-  one_pattern : (t : List ℕ) (head head' : List ℕ) (after after' : Trailing) (rest rest' : List ℕ) → IsRulePattern t head after rest → IsRulePattern t head' after' rest' →
+  one_pattern : (t : List ℕ) (head head' : List ℕ) (after after' : Trailing) (rest rest' : List ℕ) → IsSides t head after rest → IsSides t head' after' rest' →
       (head ≡ head') × (after ≡ after') × (rest ≡ rest')
   one_pattern t head head' after after' rest rest' p p' =
       let (stop, at, special, cut, sides_are, rest_is) = to_cut t head after rest p in
@@ -108,7 +108,7 @@ rule_tests t h =
     let one = or_parts (AllBlank t) (StartsBlank t) two.0 in
     (one.0, one.1, two.1, three.1)
 
-pub tests_of : (t : List ℕ) (i : Item) (rest : List ℕ) → IsSectionItem t i rest → Tests t i
+pub tests_of : (t : List ℕ) (i : Item) (rest : List ℕ) → IsLine t i rest → Tests t i
 tests_of t skipped rest (text, here, blank) = ap is_all_blank (line_text t text rest here).0 ∙ blank
 tests_of t skipped_line rest (text, here, some, blank) =
     let e = (line_text t text rest here).0 in (ap is_all_blank e ∙ some, ap (λ z. list_any is_blank (take 1 z)) e ∙ blank)
@@ -116,11 +116,11 @@ tests_of t skipped_block rest (opens, after) = block_tests t opens
 tests_of t (rule asked subject action) rest h = let r = rule_tests t h.0 in (r.0, r.1, r.3)
 
 -- at the end, and at a line that begins with `%%`, there is no item
-pub no_item_at_end : (t : List ℕ) (i : Item) (rest : List ℕ) → (t ≡ []) ⊎ (begins (codes "%%") t ≡ true) → IsSectionItem t i rest → ⊥
+pub no_item_at_end : (t : List ℕ) (i : Item) (rest : List ℕ) → (t ≡ []) ⊎ (begins (codes "%%") t ≡ true) → IsLine t i rest → ⊥
 unfolding take_up_to is_blank
-no_item_at_end t i rest (inl e) h = empty i (subst (λ z. IsSectionItem z i rest) e h)
+no_item_at_end t i rest (inl e) h = empty i (subst (λ z. IsLine z i rest) e h)
   where
-    empty : (i : Item) → IsSectionItem [] i rest → ⊥
+    empty : (i : Item) → IsLine [] i rest → ⊥
     empty skipped (text, here, blank) = no here
       where
         no : ◌≡◌ {A = Option (List ℕ × List ℕ)} None (Some (text, rest)) → ⊥
@@ -131,9 +131,9 @@ no_item_at_end t i rest (inl e) h = empty i (subst (λ z. IsSectionItem z i rest
         no p = cc
     empty skipped_block (opens, after) = no_true opens
     empty (rule asked subject action) k = no_true k.0
-no_item_at_end t i rest (inr e) h = let p = two_percents t e in none i p.0 (subst (λ z. IsSectionItem z i rest) p.1 h)
+no_item_at_end t i rest (inr e) h = let p = two_percents t e in none i p.0 (subst (λ z. IsLine z i rest) p.1 h)
   where
-    none : (i : Item) (u : List ℕ) → IsSectionItem (37 ∷ 37 ∷ u) i rest → ⊥
+    none : (i : Item) (u : List ℕ) → IsLine (37 ∷ 37 ∷ u) i rest → ⊥
     none skipped u k = no_true (tests_of (37 ∷ 37 ∷ u) skipped rest k)
     none skipped_line u k = no_true (tests_of (37 ∷ 37 ∷ u) skipped_line rest k).1
     none skipped_block u k = no_true k.0
@@ -142,7 +142,7 @@ no_item_at_end t i rest (inr e) h = let p = two_percents t e in none i p.0 (subs
 module _ (cut_once : (t : List ℕ) (stop stop' : ℕ) (at at' : Option ℕ) (two two' special special' : Bool) → IsCutting t stop at two special → IsCutting t stop' at' two' special' →
     (stop ≡ stop') × (at ≡ at') × (special ≡ special')) where
   one_rule : (t : List ℕ) (asked asked' : Conditions) (subject subject' : Subject) (action action' : Action) (rest rest' : List ℕ) →
-      IsSectionItem t (rule asked subject action) rest → IsSectionItem t (rule asked' subject' action') rest' → (rule asked subject action ≡ rule asked' subject' action') × (rest ≡ rest')
+      IsLine t (rule asked subject action) rest → IsLine t (rule asked' subject' action') rest' → (rule asked subject action ≡ rule asked' subject' action') × (rest ≡ rest')
   one_rule t asked asked' subject subject' action action' rest rest' (starts, u, v, text, here, is, acts, act) (starts', u', v', text', here', is', acts', act') =
       let first = some_pair asked asked' u u' (sym here ∙ here') in
       let second = one_subject cut_once u' subject subject' v v' (subst (λ z. IsSubject z subject v) first.1 is) is' in
@@ -150,7 +150,7 @@ module _ (cut_once : (t : List ℕ) (stop stop' : ℕ) (at at' : Option ℕ) (tw
       let same : action ≡ action' = act ∙ ap action_of third.0 ∙ sym act' in
       (ap (λ z. rule z subject action) first.0 ∙ ap (λ z. rule asked' z action) second.0 ∙ ap (rule asked' subject') same, third.1)
 
-  pub one_item : (t : List ℕ) (i i' : Item) (rest rest' : List ℕ) → Tests t i → Tests t i' → IsSectionItem t i rest → IsSectionItem t i' rest' → (i ≡ i') × (rest ≡ rest')
+  pub one_item : (t : List ℕ) (i i' : Item) (rest rest' : List ℕ) → Tests t i → Tests t i' → IsLine t i rest → IsLine t i' rest' → (i ≡ i') × (rest ≡ rest')
   one_item t skipped skipped rest rest' a b (text, here, blank) (text', here', blank') = (refl, (some_pair text text' rest rest' (sym here ∙ here')).1)
   one_item t skipped_line skipped_line rest rest' a b (text, here, some, blank) (text', here', some', blank') = (refl, (some_pair text text' rest rest' (sym here ∙ here')).1)
   one_item t skipped_block skipped_block rest rest' a b (opens, after) (opens', after') = (refl, one_some rest rest' (sym after ∙ after'))

@@ -10,7 +10,7 @@ use Rattle.lex_semantics.specs.Reading.{begins}
 use Rattle.lexspec_lines.specs.Lines.{without_returns, line_in, newlines}
 use Rattle.lexspec_lines.specs.DefinitionLines.{Definition, definition_at, IsUpTo, all_conditions, names_of, has_name, substitutes_of, all_options}
 use Rattle.lexspec_lines.specs.Declaring.{declared_of, AreAllowed}
-use Rattle.lexspec.specs.Items.{IsSectionItem, AreItems}
+use Rattle.lexspec.specs.Items.{IsLine, AreItems}
 use Rattle.lexspec.specs.Skipped.{code_of_item, user_section, EndsRules, AreSkipped}
 use Rattle.lexspec.specs.RuleItems.{AreRules}
 use Rattle.lexspec.specs.Files.{AreSingle, conditions_with, SpellsSpec}
@@ -181,7 +181,7 @@ section_none how file kept kind is h =
 
 -- the lines at which code was skipped
 
-pub rest_skipped : (r : Result SpecOfCode SpecError) (s : Section) (x : RulesSection) (k : Skipped) (text : List ℕ) → text ≡ (line_in s.rest.now).1 → TellsPieces [] IsSectionItem code_of_item (s.line + 1 + newlines text) text x.rest.now k → EndsRules x.rest.now
+pub rest_skipped : (r : Result SpecOfCode SpecError) (s : Section) (x : RulesSection) (k : Skipped) (text : List ℕ) → text ≡ (line_in s.rest.now).1 → TellsPieces [] IsLine code_of_item (s.line + 1 + newlines text) text x.rest.now k → EndsRules x.rest.now
     → x.line + newlines x.rest.now ≡ s.line + 1 + newlines text
     → IfOk r (λ o. skipped_in o ≡ s.declarations.skipped.lines.items ++ k.lines.items ++ user_section x.line x.rest.now) → IfOk r (λ o. SkipsRest s (skipped_in o))
 rest_skipped (Err e) s x k text is told over line lines = tt
@@ -192,7 +192,7 @@ rest_skipped (Ok o) s x k text is told over line lines =
     record {
       items = items;
       rest = x.rest.now;
-      pieces = subst (λ z. AreFrom IsSectionItem (s.line + 1) z items x.rest.now) is told.numbered;
+      pieces = subst (λ z. AreFrom IsLine (s.line + 1) z items x.rest.now) is told.numbered;
       stops = over;
       lines_are = lines ∙ ap (λ z. s.declarations.skipped.lines.items ++ z ++ user_section x.line x.rest.now) (lines_told (code_in code_of_item items) k told.told)
           ∙ ap (λ z. s.declarations.skipped.lines.items ++ told_lines 0 (code_in code_of_item items) ++ user_section z x.rest.now) place;
@@ -209,7 +209,7 @@ skipped_all how file lines s h r =
       separator = h.separator;
       items = r.items;
       rest = r.rest;
-      second_section = subst (λ z. AreFrom IsSectionItem z (line_in s.rest.now).1 r.items r.rest) line r.pieces;
+      second_section = subst (λ z. AreFrom IsLine z (line_in s.rest.now).1 r.items r.rest) line r.pieces;
       stops = r.stops;
       lines_are = r.lines_are ∙ ap (λ z. z ++ told_lines 0 (code_in code_of_item r.items) ++ user_section (s.line + 1 + newlines (line_in s.rest.now).1 - newlines r.rest) r.rest)
           (lines_told (code_in code_of_definition definitions) s.declarations.skipped h.code.told)

@@ -4,7 +4,7 @@ use Rattle.std.specs.Prelude.{Result, Ok, Err, IfOk, IfErr}
 use Rattle.std.proofs.lemmas.List.{append-nil, length-map}
 use Rattle.std.proofs.lemmas.List.Sums.{count_by-le-length}
 use Rattle.lex_semantics.specs.Spec as S
-use Rattle.lexspec.specs.Items.{Item, IsSectionItem, AreItems}
+use Rattle.lexspec.specs.Items.{Item, IsLine, AreItems}
 use Rattle.lexspec.specs.Skipped.{EndsRules, code_of_item}
 use Rattle.lexspec_lines.specs.Lines.{newlines}
 use Rattle.lexspec_lines.specs.SkippedCode.{Code}
@@ -122,11 +122,11 @@ newlines_few t = count_by-le-length (λ c. c == 10) t
 
 -- the code of the items
 
-pub item_told : (before : List Code) (end line : ℕ) (whole t rest : List ℕ) (s s' : Skipped) → TellsPieces before IsSectionItem code_of_item end whole t s → line + newlines t ≡ end → TakesItem line t rest s s'
-    → TellsPieces before IsSectionItem code_of_item end whole rest s'
-item_told before end line whole t rest s s' told at takes = tells_more IsSectionItem code_of_item before end whole t rest line takes.item s s' told at takes.here takes.code
+pub item_told : (before : List Code) (end line : ℕ) (whole t rest : List ℕ) (s s' : Skipped) → TellsPieces before IsLine code_of_item end whole t s → line + newlines t ≡ end → TakesItem line t rest s s'
+    → TellsPieces before IsLine code_of_item end whole rest s'
+item_told before end line whole t rest s s' told at takes = tells_more IsLine code_of_item before end whole t rest line takes.item s s' told at takes.here takes.code
 
-pub ended_code : (r : Result RulesSection SpecError) (end : ℕ) (whole t : List ℕ) (old s : Skipped) → ((before : List Code) → TellsCode before old → TellsPieces before IsSectionItem code_of_item end whole t s)
-    → IfOk r (λ x. x.rest.now ≡ t) → IfOk r (λ x. (before : List Code) → TellsCode before old → TellsPieces before IsSectionItem code_of_item end whole x.rest.now s)
+pub ended_code : (r : Result RulesSection SpecError) (end : ℕ) (whole t : List ℕ) (old s : Skipped) → ((before : List Code) → TellsCode before old → TellsPieces before IsLine code_of_item end whole t s)
+    → IfOk r (λ x. x.rest.now ≡ t) → IfOk r (λ x. (before : List Code) → TellsCode before old → TellsPieces before IsLine code_of_item end whole x.rest.now s)
 ended_code (Err e) end whole t old s told rest = tt
-ended_code (Ok x) end whole t old s told rest = λ before h. subst (λ z. TellsPieces before IsSectionItem code_of_item end whole z s) (sym rest) (told before h)
+ended_code (Ok x) end whole t old s told rest = λ before h. subst (λ z. TellsPieces before IsLine code_of_item end whole z s) (sym rest) (told before h)

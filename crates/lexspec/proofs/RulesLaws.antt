@@ -13,7 +13,7 @@ use Rattle.lexre.proofs.OneTree.{one_tree}
 use Rattle.lexspec_actions.specs.Names.{number_from, known_in}
 use Rattle.lexspec_actions.specs.Actions.{SpellsAction, SpellsEndAction}
 use Rattle.lex_semantics.specs.Reading.{after_blanks, take_up_to}
-use Rattle.lexspec.specs.Items.{Conditions, Trailing, Subject, at_end, matching, Action, bar, spelled, Item, skipped, skipped_line, skipped_block, rule, conditions_at, IsSubject, action_at, action_of, starts_rule, IsSectionItem, AreItems}
+use Rattle.lexspec.specs.Items.{Conditions, Trailing, Subject, at_end, matching, Action, bar, spelled, Item, skipped, skipped_line, skipped_block, rule, conditions_at, IsSubject, action_at, action_of, starts_rule, IsLine, AreItems}
 use Rattle.lexspec_lines.specs.Lines.{newlines}
 use Rattle.lex_semantics.specs.Sound.{IsCutOf}
 use Rattle.lexspec.specs.RuleItems.{numbers_of, IsTrail, EndRule, IsActionOf, goes_to_rule, AreRules, HasHead}
@@ -37,7 +37,7 @@ pub record Behind (n : ℕ) (t : List ℕ) (i : Item) (rest : List ℕ) (items :
   pub all : items ≡ (n, i) ∷ others
   pub here : AreItems (n + (newlines t - newlines rest)) rest others
 
-pub behind : (n : ℕ) (t : List ℕ) (i : Item) (rest : List ℕ) (items : List (ℕ × Item)) → IsSectionItem t i rest → AreItems n t items → Behind n t i rest items
+pub behind : (n : ℕ) (t : List ℕ) (i : Item) (rest : List ℕ) (items : List (ℕ × Item)) → IsLine t i rest → AreItems n t items → Behind n t i rest items
 behind n t i rest [] item are = absurd (no_item_at_end t i rest are item)
 behind n t i rest (j ∷ js) item (rest', line, item', more) =
     let same = one_item cut_once t i j.1 rest rest' (tests_of t i rest item) (tests_of t j.1 rest' item') item item' in
@@ -75,7 +75,7 @@ module _ (names : List (List ℕ)) (how : ReadOptions) (stack : Bool) (defined :
   plain_rules n skipped_block is rs es h are = are
   plain_rules n (rule asked subject action) is rs es h are = no_true h
 
-  pub plain_on : (n : ℕ) (t : List ℕ) (i : Item) (rest : List ℕ) (w R : List Rule) (E : List EndRule) → is_plain i ≡ true → IsSectionItem t i rest
+  pub plain_on : (n : ℕ) (t : List ℕ) (i : Item) (rest : List ℕ) (w R : List Rule) (E : List EndRule) → is_plain i ≡ true → IsLine t i rest
       → Left names how stack defined n t w R E → Left names how stack defined (n + (newlines t - newlines rest)) rest w R E
   plain_on n t i rest w R E plain item left =
       let b = behind n t i rest left.items item left.here in
@@ -88,7 +88,7 @@ module _ (names : List (List ℕ)) (how : ReadOptions) (stack : Bool) (defined :
         whole = left.whole;
       }
 
-  pub plain_back : (n : ℕ) (t : List ℕ) (i : Item) (rest : List ℕ) (w R : List Rule) (E : List EndRule) → is_plain i ≡ true → IsSectionItem t i rest
+  pub plain_back : (n : ℕ) (t : List ℕ) (i : Item) (rest : List ℕ) (w R : List Rule) (E : List EndRule) → is_plain i ≡ true → IsLine t i rest
       → Left names how stack defined (n + (newlines t - newlines rest)) rest w R E → Left names how stack defined n t w R E
   plain_back n t i rest w R E plain item left = record {
     items = (n, i) ∷ left.items;
@@ -101,7 +101,7 @@ module _ (names : List (List ℕ)) (how : ReadOptions) (stack : Bool) (defined :
 
   -- an `<<EOF>>` rule, for which no rule waits
   pub end_on : (n : ℕ) (t : List ℕ) (asked : Conditions) (text rest : List ℕ) (numbers : Option (List ℕ)) (e : EndAction) (R : List Rule) (E : List EndRule)
-      → IsSectionItem t (rule asked at_end (spelled text)) rest → numbers_of (number_from 0 names) (length names) asked ≡ Some numbers → SpellsEndAction (known_in names stack) text e
+      → IsLine t (rule asked at_end (spelled text)) rest → numbers_of (number_from 0 names) (length names) asked ≡ Some numbers → SpellsEndAction (known_in names stack) text e
       → Left names how stack defined n t [] R E
       → (F : List EndRule) × (E ≡ (numbers, e) ∷ F) × Left names how stack defined (n + (newlines t - newlines rest)) rest [] R F
   end_on n t asked text rest numbers e R E item listed acts left =
@@ -115,7 +115,7 @@ module _ (names : List (List ℕ)) (how : ReadOptions) (stack : Bool) (defined :
       )
 
   pub end_back : (n : ℕ) (t : List ℕ) (asked : Conditions) (text rest : List ℕ) (numbers : Option (List ℕ)) (e : EndAction) (R : List Rule) (E : List EndRule)
-      → IsSectionItem t (rule asked at_end (spelled text)) rest → numbers_of (number_from 0 names) (length names) asked ≡ Some numbers → SpellsEndAction (known_in names stack) text e
+      → IsLine t (rule asked at_end (spelled text)) rest → numbers_of (number_from 0 names) (length names) asked ≡ Some numbers → SpellsEndAction (known_in names stack) text e
       → Left names how stack defined (n + (newlines t - newlines rest)) rest [] R E → Left names how stack defined n t [] R ((numbers, e) ∷ E)
   end_back n t asked text rest numbers e R E item listed acts left = record {
     items = (n, rule asked at_end (spelled text)) ∷ left.items;
@@ -145,7 +145,7 @@ module _ (names : List (List ℕ)) (how : ReadOptions) (stack : Bool) (defined :
   head_rule n asked anchored head after text is rs r ss h acts = (with_statements n asked anchored head after r _ h, refl, acts)
 
   pub rule_on : (n : ℕ) (t : List ℕ) (asked : Conditions) (anchored : Bool) (head : List ℕ) (after : Trailing) (text rest : List ℕ) (r : Rule) (ss : List Statement) (w R : List Rule) (E : List EndRule)
-      → IsSectionItem t (rule asked (matching anchored head after) (spelled text)) rest → HasHead names how stack defined n asked anchored head after r → SpellsAction (known_in names stack) text ss
+      → IsLine t (rule asked (matching anchored head after) (spelled text)) rest → HasHead names how stack defined n asked anchored head after r → SpellsAction (known_in names stack) text ss
       → Left names how stack defined n t w R E
       → (S : List Rule) × (R ≡ (map (acting ss) w ++ acting ss r ∷ []) ++ S) × Left names how stack defined (n + (newlines t - newlines rest)) rest [] S E
   rule_on n t asked anchored head after text rest r ss w R E item h acts left =
@@ -165,7 +165,7 @@ module _ (names : List (List ℕ)) (how : ReadOptions) (stack : Bool) (defined :
   wait_rule (r ∷ w) n asked anchored head after action is = refl
 
   pub rule_back : (n : ℕ) (t : List ℕ) (asked : Conditions) (anchored : Bool) (head : List ℕ) (after : Trailing) (text rest : List ℕ) (r : Rule) (ss : List Statement) (w S : List Rule) (E : List EndRule)
-      → IsSectionItem t (rule asked (matching anchored head after) (spelled text)) rest → HasHead names how stack defined n asked anchored head after r → SpellsAction (known_in names stack) text ss
+      → IsLine t (rule asked (matching anchored head after) (spelled text)) rest → HasHead names how stack defined n asked anchored head after r → SpellsAction (known_in names stack) text ss
       → Left names how stack defined (n + (newlines t - newlines rest)) rest [] S E → Left names how stack defined n t w ((map (acting ss) w ++ acting ss r ∷ []) ++ S) E
   rule_back n t asked anchored head after text rest r ss w S E item h acts left = record {
     items = (n, rule asked (matching anchored head after) (spelled text)) ∷ left.items;
@@ -199,7 +199,7 @@ module _ (names : List (List ℕ)) (how : ReadOptions) (stack : Bool) (defined :
   fill_more ss w r rs = sym (append_assoc (map (acting ss) w) (acting ss r ∷ []) rs) ∙ ap (λ z. z ++ rs) (sym (map-append (acting ss) w (r ∷ [])))
 
   pub bar_on : (n : ℕ) (t : List ℕ) (asked : Conditions) (anchored : Bool) (head : List ℕ) (after : Trailing) (rest : List ℕ) (r : Rule) (w R : List Rule) (E : List EndRule)
-      → IsSectionItem t (rule asked (matching anchored head after) bar) rest → HasHead names how stack defined n asked anchored head after r
+      → IsLine t (rule asked (matching anchored head after) bar) rest → HasHead names how stack defined n asked anchored head after r
       → Left names how stack defined n t w R E → Left names how stack defined (n + (newlines t - newlines rest)) rest (w ++ r ∷ []) R E
   bar_on n t asked anchored head after rest r w R E item h left =
       let b = behind n t (rule asked (matching anchored head after) bar) rest left.items item left.here in
@@ -229,7 +229,7 @@ module _ (names : List (List ℕ)) (how : ReadOptions) (stack : Bool) (defined :
   goes_first ((n, skipped_block) ∷ is) rs es h are = goes_first is rs es h are
 
   pub bar_back : (n : ℕ) (t : List ℕ) (asked : Conditions) (anchored : Bool) (head : List ℕ) (after : Trailing) (rest : List ℕ) (r : Rule) (w R : List Rule) (E : List EndRule)
-      → IsSectionItem t (rule asked (matching anchored head after) bar) rest → HasHead names how stack defined n asked anchored head after r
+      → IsLine t (rule asked (matching anchored head after) bar) rest → HasHead names how stack defined n asked anchored head after r
       → Left names how stack defined (n + (newlines t - newlines rest)) rest (w ++ r ∷ []) R E → Left names how stack defined n t w R E
   bar_back n t asked anchored head after rest r w R E item h left =
       let goes : goes_to_rule bar left.items ≡ true = sym (wait_more w r left.items) ∙ left.next in
@@ -252,7 +252,7 @@ module _ (names : List (List ℕ)) (how : ReadOptions) (stack : Bool) (defined :
   pub agree_first : (n : ℕ) (t : List ℕ) → Agree n t [] [] [] n t
   agree_first n t = record { back = (λ R E left. left); on = (λ R E left. (R, E, refl, refl, left)) }
 
-  pub agree_plain : (start : ℕ) (whole_text : List ℕ) (done : List Rule) (ends : List EndRule) (w : List Rule) (n : ℕ) (t : List ℕ) (i : Item) (rest : List ℕ) → is_plain i ≡ true → IsSectionItem t i rest
+  pub agree_plain : (start : ℕ) (whole_text : List ℕ) (done : List Rule) (ends : List EndRule) (w : List Rule) (n : ℕ) (t : List ℕ) (i : Item) (rest : List ℕ) → is_plain i ≡ true → IsLine t i rest
       → Agree start whole_text done ends w n t → Agree start whole_text done ends w (n + (newlines t - newlines rest)) rest
   agree_plain start whole_text done ends w n t i rest plain item a = record {
     back = (λ R E left. a.back R E (plain_back n t i rest w R E plain item left));
@@ -260,7 +260,7 @@ module _ (names : List (List ℕ)) (how : ReadOptions) (stack : Bool) (defined :
   }
 
   pub agree_end : (start : ℕ) (whole_text : List ℕ) (done : List Rule) (ends : List EndRule) (n : ℕ) (t : List ℕ) (asked : Conditions) (text rest : List ℕ) (numbers : Option (List ℕ)) (e : EndAction)
-      → IsSectionItem t (rule asked at_end (spelled text)) rest → numbers_of (number_from 0 names) (length names) asked ≡ Some numbers → SpellsEndAction (known_in names stack) text e
+      → IsLine t (rule asked at_end (spelled text)) rest → numbers_of (number_from 0 names) (length names) asked ≡ Some numbers → SpellsEndAction (known_in names stack) text e
       → Agree start whole_text done ends [] n t → Agree start whole_text done (ends ++ (numbers, e) ∷ []) [] (n + (newlines t - newlines rest)) rest
   agree_end start whole_text done ends n t asked text rest numbers e item listed acts a = record {
     back = (λ R E left. subst (λ z. Left names how stack defined start whole_text [] (done ++ R) z) (sym (append_assoc ends ((numbers, e) ∷ []) E))
@@ -273,7 +273,7 @@ module _ (names : List (List ℕ)) (how : ReadOptions) (stack : Bool) (defined :
 
   pub agree_rule : (start : ℕ) (whole_text : List ℕ) (done : List Rule) (ends : List EndRule) (w : List Rule) (n : ℕ) (t : List ℕ)
       (asked : Conditions) (anchored : Bool) (head : List ℕ) (after : Trailing) (text rest : List ℕ) (r : Rule) (ss : List Statement)
-      → IsSectionItem t (rule asked (matching anchored head after) (spelled text)) rest → HasHead names how stack defined n asked anchored head after r → SpellsAction (known_in names stack) text ss
+      → IsLine t (rule asked (matching anchored head after) (spelled text)) rest → HasHead names how stack defined n asked anchored head after r → SpellsAction (known_in names stack) text ss
       → Agree start whole_text done ends w n t → Agree start whole_text (done ++ (map (acting ss) w ++ acting ss r ∷ [])) ends [] (n + (newlines t - newlines rest)) rest
   agree_rule start whole_text done ends w n t asked anchored head after text rest r ss item h acts a = record {
     back = (λ R E left. subst (λ z. Left names how stack defined start whole_text [] z (ends ++ E)) (sym (append_assoc done (map (acting ss) w ++ acting ss r ∷ []) R))
@@ -286,7 +286,7 @@ module _ (names : List (List ℕ)) (how : ReadOptions) (stack : Bool) (defined :
 
   pub agree_bar : (start : ℕ) (whole_text : List ℕ) (done : List Rule) (ends : List EndRule) (w : List Rule) (n : ℕ) (t : List ℕ)
       (asked : Conditions) (anchored : Bool) (head : List ℕ) (after : Trailing) (rest : List ℕ) (r : Rule)
-      → IsSectionItem t (rule asked (matching anchored head after) bar) rest → HasHead names how stack defined n asked anchored head after r
+      → IsLine t (rule asked (matching anchored head after) bar) rest → HasHead names how stack defined n asked anchored head after r
       → Agree start whole_text done ends w n t → Agree start whole_text done ends (w ++ r ∷ []) (n + (newlines t - newlines rest)) rest
   agree_bar start whole_text done ends w n t asked anchored head after rest r item h a = record {
     back = (λ R E left. a.back R E (bar_back n t asked anchored head after rest r w R E item h left));
@@ -329,7 +329,7 @@ module _ (names : List (List ℕ)) (how : ReadOptions) (stack : Bool) (defined :
   acts_here w n asked (matching anchored head after) (spelled text) is rs es (r, others, all, one, more) next =
       ((r.conditions, one.0.listed), (r, one.0.head_is, one.0.trail_is, one.0.cut_is, (r.statements, one.2)))
 
-  rule_here : (t : List ℕ) (w : List Rule) (n : ℕ) (i : Item) (rest : List ℕ) (is : List (ℕ × Item)) (rs : List Rule) (es : List EndRule) → starts_rule t ≡ true → IsSectionItem t i rest
+  rule_here : (t : List ℕ) (w : List Rule) (n : ℕ) (i : Item) (rest : List ℕ) (is : List (ℕ × Item)) (rs : List Rule) (es : List EndRule) → starts_rule t ≡ true → IsLine t i rest
       → AreRules names how stack defined ((n, i) ∷ is) rs es → may_wait w ((n, i) ∷ is) ≡ true → RuleHere t w
   rule_here t w n skipped rest is rs es starts item are next = both_ways (AllBlank t) (tests_of t skipped rest item) (rule_tests t starts).0
   rule_here t w n skipped_line rest is rs es starts item are next = both_ways (StartsBlank t) (tests_of t skipped_line rest item).1 (rule_tests t starts).1
@@ -416,7 +416,7 @@ module _ (names : List (List ℕ)) (how : ReadOptions) (stack : Bool) (defined :
       let k = known n t u v asked subject w R E starts list cut left in no_some (k.0, k.1) (action_at (after_blanks v)) k.2 none
 
   -- the action of the rule that begins a text
-  pub acts_of : (n : ℕ) (t : List ℕ) (asked : Conditions) (subject : Subject) (action : Action) (rest : List ℕ) (w R : List Rule) (E : List EndRule) → IsSectionItem t (rule asked subject action) rest
+  pub acts_of : (n : ℕ) (t : List ℕ) (asked : Conditions) (subject : Subject) (action : Action) (rest : List ℕ) (w R : List Rule) (E : List EndRule) → IsLine t (rule asked subject action) rest
       → Left names how stack defined n t w R E → ActsAs w subject action
   acts_of n t asked subject action rest w R E (starts, u, v, text, list, cut, ends, is) left =
       let k = known n t u v asked subject w R E starts list cut left in

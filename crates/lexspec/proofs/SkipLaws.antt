@@ -3,7 +3,7 @@ use Rattle.std.proofs.Common.{◌≡◌, ℕ, suc, ◌<◌, Bool, true, List, []
 use Rattle.std.specs.Prelude.{codes}
 use Rattle.lex_semantics.specs.Reading.{begins}
 use Rattle.lexspec_lines.specs.Lines.{line_in, after_block}
-use Rattle.lexspec.specs.Items.{Item, skipped, skipped_line, skipped_block, rule, IsSectionItem}
+use Rattle.lexspec.specs.Items.{Item, skipped, skipped_line, skipped_block, rule, IsLine}
 use Rattle.lexspec.proofs.OneItems.{both_ways, AllBlank, StartsBlank, OpensBlock, tests_of, block_tests}
 use Rattle.lexspec_lines.proofs.SkipLaws.{line_shorter, block_same}
 
@@ -18,11 +18,11 @@ after_opening (c ∷ t) text rest h e =
     ap (after_block (suc (length (c ∷ t)))) same ∙ block_same (suc (length (c ∷ t))) (suc (length rest)) rest short (omega arith)
 
 pub block_item : (t text rest beyond : List ℕ) (o : Bool) → 0 < length t → ◌≡◌ {A = Split} (line_in t) (text, rest) → o ≡ begins (codes "%{") t → o ≡ true
-    → after_block (suc (length rest)) rest ≡ Some beyond → IsSectionItem t skipped_block beyond
+    → after_block (suc (length rest)) rest ≡ Some beyond → IsLine t skipped_block beyond
 block_item t text rest beyond o h e opens on ends = (sym opens ∙ on, after_opening t text rest h e ∙ ends)
 
 pub block_left_open : (t text rest : List ℕ) (o : Bool) → 0 < length t → ◌≡◌ {A = Split} (line_in t) (text, rest) → o ≡ begins (codes "%{") t → o ≡ true
-    → after_block (suc (length rest)) rest ≡ None → (i : Item) (beyond : List ℕ) → IsSectionItem t i beyond → ⊥
+    → after_block (suc (length rest)) rest ≡ None → (i : Item) (beyond : List ℕ) → IsLine t i beyond → ⊥
 block_left_open t text rest o h e opens on none skipped beyond item = both_ways (AllBlank t) (tests_of t skipped beyond item) (block_tests t (sym opens ∙ on)).0
 block_left_open t text rest o h e opens on none skipped_line beyond item = both_ways (StartsBlank t) (tests_of t skipped_line beyond item).1 (block_tests t (sym opens ∙ on)).1
 block_left_open t text rest o h e opens on none skipped_block beyond (begins_block, ends) = no_some (sym ends ∙ after_opening t text rest h e ∙ none)

@@ -8,7 +8,7 @@ use Rattle.lexspec_actions.specs.Views.{end_action_of}
 use Rattle.lexspec_actions.specs.Actions.{SpellsAction, SpellsEndAction}
 use Rattle.lexspec_actions.specs.declared.condition.Condition.{Condition}
 use Rattle.lex_semantics.specs.Reading.{begins}
-use Rattle.lexspec.specs.Items.{Action, bar, spelled, at_end, matching, rule, action_of, IsSectionItem}
+use Rattle.lexspec.specs.Items.{Action, bar, spelled, at_end, matching, rule, action_of, IsLine}
 use Rattle.lexspec_lines.specs.Lines.{newlines, is_all_blank}
 use Rattle.lexspec.specs.RuleItems.{numbers_of, EndRule}
 use Rattle.lexspec.specs.RuleReads.{acting, Left}
@@ -59,7 +59,7 @@ module _ (d : Declarations) where
       from start whole s' (n + (newlines t - newlines rest)) rest (map rule_of s.rules.items) (map end_rule_of s.ends.items) (map rule_of s.waiting.items ++ rule_of r ∷ [])
       (ap (map rule_of) rules) (ap (map end_rule_of) ends) (ap (map rule_of) waiting ∙ map-append rule_of s.waiting.items (r ∷ []))
       (agree_bar (names_in d) d.options d.stack d.definitions start whole (map rule_of s.rules.items) (map end_rule_of s.ends.items) (map rule_of s.waiting.items) n t h.asked h.anchored h.head h.after rest (rule_of r)
-      (subst (λ z. IsSectionItem t (rule h.asked (matching h.anchored h.head h.after) z) rest) is h.item) h.has_head (to start whole s n t a))
+      (subst (λ z. IsLine t (rule h.asked (matching h.anchored h.head h.after) z) rest) is h.item) h.has_head (to start whole s n t a))
 
   pub rule_taken : (r : Rule) (action : List ℕ) (ss : List S.Statement) (cs : List Condition) (s s' : RulesSoFar) → action_of action ≡ spelled action
       → cs ≡ d.conditions.items → SpellsAction (known_in (names_of cs) d.stack) action ss
@@ -69,7 +69,7 @@ module _ (d : Declarations) where
       from start whole s' (n + (newlines t - newlines rest)) rest (map rule_of s.rules.items ++ (map (acting ss) (map rule_of s.waiting.items) ++ acting ss (rule_of r) ∷ []))
       (map end_rule_of s.ends.items) [] rules (ap (map end_rule_of) ends) (ap (map rule_of) waiting)
       (agree_rule (names_in d) d.options d.stack d.definitions start whole (map rule_of s.rules.items) (map end_rule_of s.ends.items) (map rule_of s.waiting.items) n t h.asked h.anchored h.head h.after action rest
-      (rule_of r) ss (subst (λ z. IsSectionItem t (rule h.asked (matching h.anchored h.head h.after) z) rest) is h.item) h.has_head
+      (rule_of r) ss (subst (λ z. IsLine t (rule h.asked (matching h.anchored h.head h.after) z) rest) is h.item) h.has_head
       (subst (λ z. SpellsAction (known_in (names_of z) d.stack) action ss) same acts) (to start whole s n t a))
 
   pub rule_refused : (r : Rule) (action : List ℕ) (kind : SpecErrorKind) (cs : List Condition) (s : RulesSoFar) → action_of action ≡ spelled action
@@ -106,7 +106,7 @@ module _ (d : Declarations) where
       from start whole s' (n + (newlines t - newlines rest)) rest (map rule_of s.rules.items) (map end_rule_of s.ends.items ++ end_rule_of e ∷ []) []
       (ap (map rule_of) rules) (ap (map end_rule_of) ends ∙ map-append end_rule_of s.ends.items (e ∷ [])) (ap (map rule_of) waiting ∙ none)
       (agree_end (names_in d) d.options d.stack d.definitions start whole (map rule_of s.rules.items) (map end_rule_of s.ends.items) n t h.asked action rest (option_map (λ v. v.items) e.conditions) (end_action_of e.action)
-      (subst (λ z. IsSectionItem t (rule h.asked at_end z) rest) is h.item)
+      (subst (λ z. IsLine t (rule h.asked at_end z) rest) is h.item)
       (subst (λ z. numbers_of (number_from 0 (names_in d)) (length (names_in d)) h.asked ≡ Some (option_map (λ (v : Vec ℕ Global). v.items) z)) (sym listed) h.numbered)
       (subst (λ z. SpellsEndAction (known_in (names_of z) d.stack) action (end_action_of e.action)) same acts)
       (subst (λ z. Now start whole (map rule_of s.rules.items) (map end_rule_of s.ends.items) z n t) none (to start whole s n t a)))
@@ -145,7 +145,7 @@ module _ (d : Declarations) where
       let none : map rule_of s.waiting.items ≡ [] = ap (map rule_of) (no_items s.waiting.items empty) in
       let numbered = subst (λ z. numbers_of (number_from 0 (names_in d)) (length (names_in d)) h.asked ≡ Some (option_map (λ (v : Vec ℕ Global). v.items) z)) (sym listed) h.numbered in
       let (F, all, more) = end_on (names_in d) d.options d.stack d.definitions n t h.asked action rest (option_map (λ v. v.items) e.conditions) (end_action_of e.action) R E
-      (subst (λ z. IsSectionItem t (rule h.asked at_end z) rest) is h.item) numbered
+      (subst (λ z. IsLine t (rule h.asked at_end z) rest) is h.item) numbered
       (subst (λ z. SpellsEndAction (known_in (names_of z) d.stack) action (end_action_of e.action)) same acts)
       (subst (λ z. Left (names_in d) d.options d.stack d.definitions n t z R E) none left) in
       let count : length (names_in d) ≡ length d.conditions.items = length-map d.conditions.items _ in

@@ -4,7 +4,7 @@ use Rattle.std.specs.Prelude.{codes}
 use Rattle.lex_semantics.specs.Reading.{after_blanks, begins, take_up_to}
 use Rattle.lexspec.specs.ActionSteps.{outside, action_in, with_byte, next_place, depth_after}
 use Rattle.lexspec.proofs.ActionPieces.{action_is}
-use Rattle.lexspec.specs.Items.{action_at, action_of, at_end, matching, Item, skipped, skipped_line, skipped_block, rule, starts_rule, IsSectionItem, AreItems}
+use Rattle.lexspec.specs.Items.{action_at, action_of, at_end, matching, Item, skipped, skipped_line, skipped_block, rule, starts_rule, IsLine, AreItems}
 use Rattle.lexspec_lines.specs.Lines.{newlines}
 use Rattle.lexspec.specs.RuleViews.{rule_of}
 use Rattle.lexspec.specs.ItemReads.{names_in, ReadsFront, ReadsItem, NoRules, NoRulesAfter, NoneLeft}
@@ -60,7 +60,7 @@ starts_some [] h = no_true h
 starts_some (c ∷ t) h = omega arith
 
 -- the rest of a rule is shorter than its text
-rule_shorter : (d : Declarations) (n : ℕ) (t : List ℕ) (i : Item) (rest : List ℕ) → is_plain (names_in d) d.options d.stack d.definitions i ≡ false → IsSectionItem t i rest → length rest < length t
+rule_shorter : (d : Declarations) (n : ℕ) (t : List ℕ) (i : Item) (rest : List ℕ) → is_plain (names_in d) d.options d.stack d.definitions i ≡ false → IsLine t i rest → length rest < length t
 rule_shorter d n t skipped rest h item = no_true (sym h)
 rule_shorter d n t skipped_line rest h item = no_true (sym h)
 rule_shorter d n t skipped_block rest h item = no_true (sym h)
@@ -69,7 +69,7 @@ rule_shorter d n t (rule asked subject action) rest h (starts, u, v, text, list,
     action_shorter (after_blanks v) text rest (length t) ends (not_longer t (after_blanks v) front) (starts_some t starts)
 
 module _ (d : Declarations) where
-  reads_item : (n : ℕ) (t action rest : List ℕ) (f : Front) → ReadsFront d n t action rest f → (i : Item) × (is_plain (names_in d) d.options d.stack d.definitions i ≡ false) × IsSectionItem t i rest
+  reads_item : (n : ℕ) (t action rest : List ℕ) (f : Front) → ReadsFront d n t action rest f → (i : Item) × (is_plain (names_in d) d.options d.stack d.definitions i ≡ false) × IsLine t i rest
   reads_item n t action rest (F.Matching r) h = (rule h.asked (matching h.anchored h.head h.after) (action_of action), refl, h.item)
   reads_item n t action rest (F.AtEnd numbers) h = (rule h.asked at_end (action_of action), refl, h.item)
 
@@ -91,14 +91,14 @@ module _ (d : Declarations) where
   plain_is Code = refl
   plain_is Block = refl
 
-  pub plain_agrees : (s : RulesSoFar) (start n : ℕ) (whole t : List ℕ) (k : Skip) (rest : List ℕ) → IsSectionItem t (item_of k) rest → Agrees d start whole s n t
+  pub plain_agrees : (s : RulesSoFar) (start n : ℕ) (whole t : List ℕ) (k : Skip) (rest : List ℕ) → IsLine t (item_of k) rest → Agrees d start whole s n t
       → Agrees d start whole s (n + (newlines t - newlines rest)) rest
   plain_agrees s start n whole t k rest item a =
       let b = agree_plain (names_in d) d.options d.stack d.definitions start whole (map rule_of s.rules.items) _ (map rule_of s.waiting.items) n t (item_of k) rest (plain_is k) item (record { back = a.back; on = a.on }) in
       record { back = b.back; on = b.on }
 
   -- where there is no item, and the section does not end, nothing is spelled
-  pub plain_refused : (s : RulesSoFar) (n : ℕ) (t : List ℕ) (e : SpecErrorKind) → 0 < length t → begins (codes "%%") t ≡ false → ((i : Item) (rest : List ℕ) → IsSectionItem t i rest → ⊥) → UnlessMemory e (NoneLeft d s n t)
+  pub plain_refused : (s : RulesSoFar) (n : ℕ) (t : List ℕ) (e : SpecErrorKind) → 0 < length t → begins (codes "%%") t ≡ false → ((i : Item) (rest : List ℕ) → IsLine t i rest → ⊥) → UnlessMemory e (NoneLeft d s n t)
   plain_refused s n t e some off none = always e (NoneLeft d s n t) (λ R E left may. from left.items left.here)
     where
       from : (is : List (ℕ × Item)) → AreItems n t is → ⊥

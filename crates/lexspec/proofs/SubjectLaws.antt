@@ -7,7 +7,7 @@ use Rattle.lexspec_lines.specs.Lines.{line_in}
 use Rattle.lexspec_lines.specs.Runs.{split_before}
 use Rattle.lexre.specs.Cutting.{IsCutting}
 use Rattle.lexre.proofs.CuttingLaws.{one_cutting}
-use Rattle.lexspec.specs.Items.{Conditions, unlisted, every, only, conditions_at, Trailing, no_trail, line_end, pattern_after, Subject, at_end, matching, IsRulePattern, IsSubject}
+use Rattle.lexspec.specs.Items.{Conditions, unlisted, every, only, conditions_at, Trailing, no_trail, line_end, pattern_after, Subject, at_end, matching, IsSides, IsSubject}
 use Rattle.lexspec_lines.proofs.OneSection.{no_true, some_pair}
 use Rattle.lexspec.specs.SubjectViews.{parts, sides}
 use Rattle.lexspec_lines.proofs.TextLaws.{Other, decide}
@@ -143,29 +143,29 @@ abbrev pub CutPattern : List ℕ → List ℕ → Trailing → List ℕ → Type
 CutPattern t head after rest =
     (stop : ℕ) × (at : Option ℕ) × (special : Bool) × IsCutting t stop at false special × (sides t stop at special ≡ Some (head, after)) × (rest ≡ drop stop t)
 
-pub to_cut : (t head : List ℕ) (after : Trailing) (rest : List ℕ) → IsRulePattern t head after rest → CutPattern t head after rest
+pub to_cut : (t head : List ℕ) (after : Trailing) (rest : List ℕ) → IsSides t head after rest → CutPattern t head after rest
 to_cut t head no_trail rest (stop, cut, head_is, rest_is) = (stop, None, false, cut, ap (λ z. Some (z, no_trail)) (sym head_is), rest_is)
 to_cut t head line_end rest (stop, cut, head_is, rest_is) = (stop, None, true, cut, ap (λ z. Some (z, line_end)) (sym head_is), rest_is)
 to_cut t head (pattern_after text) rest (stop, at, cut, head_is, text_is, rest_is) =
     (stop, Some at, false, cut, ap (λ z. Some (z, pattern_after (take (stop - suc at) (drop (suc at) t)))) (sym head_is) ∙ ap (λ z. Some (head, pattern_after z)) (sym text_is), rest_is)
 
-pub from_cut : (t head : List ℕ) (after : Trailing) (rest : List ℕ) → CutPattern t head after rest → IsRulePattern t head after rest
+pub from_cut : (t head : List ℕ) (after : Trailing) (rest : List ℕ) → CutPattern t head after rest → IsSides t head after rest
 from_cut t head after rest (stop, None, false, cut, sides_are, rest_is) =
     let both = some_pair (take stop t) head no_trail after sides_are in
-    subst (λ a. IsRulePattern t head a rest) both.1 (stop, cut, sym both.0, rest_is)
+    subst (λ a. IsSides t head a rest) both.1 (stop, cut, sym both.0, rest_is)
 from_cut t head after rest (stop, None, true, cut, sides_are, rest_is) =
     let both = some_pair (take (stop - 1) t) head line_end after sides_are in
-    subst (λ a. IsRulePattern t head a rest) both.1 (stop, cut, sym both.0, rest_is)
+    subst (λ a. IsSides t head a rest) both.1 (stop, cut, sym both.0, rest_is)
 from_cut t head after rest (stop, Some at, false, cut, sides_are, rest_is) =
     let both = some_pair (take at t) head (pattern_after (take (stop - suc at) (drop (suc at) t))) after sides_are in
-    subst (λ a. IsRulePattern t head a rest) both.1 (stop, at, cut, sym both.0, refl, rest_is)
+    subst (λ a. IsSides t head a rest) both.1 (stop, at, cut, sym both.0, refl, rest_is)
 from_cut t head after rest (stop, Some at, true, cut, sides_are, rest_is) = absurd (none sides_are)
   where
     none : ◌≡◌ {A = Option (List ℕ × Trailing)} None (Some (head, after)) → ⊥
     none e = cc
 
 abbrev pub NoPattern : List ℕ → Type 0
-NoPattern t = (head : List ℕ) (after : Trailing) (rest : List ℕ) → IsRulePattern t head after rest → ⊥
+NoPattern t = (head : List ℕ) (after : Trailing) (rest : List ℕ) → IsSides t head after rest → ⊥
 
 pub uncut : (t : List ℕ) → ((stop : ℕ) (at : Option ℕ) (two special : Bool) → IsCutting t stop at two special → ⊥) → NoPattern t
 uncut t none head after rest p = let (stop, at, special, cut, sides_are, rest_is) = to_cut t head after rest p in none stop at false special cut
@@ -196,5 +196,5 @@ bare_refused t off bare none (matching false head after) rest (k, no_end, p) = n
 
 pub anchored_refused : (t u : List ℕ) → begins (codes "<<EOF>>") t ≡ false → begins (codes "^") t ≡ true → u ≡ drop 1 t → NoPattern u → NoSubject t
 anchored_refused t u off bare e none at_end rest (on, f, b) = no_true (sym off ∙ on)
-anchored_refused t u off bare e none (matching true head after) rest (on, no_end, p) = none head after rest (subst (λ z. IsRulePattern z head after rest) (sym e) p)
+anchored_refused t u off bare e none (matching true head after) rest (on, no_end, p) = none head after rest (subst (λ z. IsSides z head after rest) (sym e) p)
 anchored_refused t u off bare e none (matching false head after) rest (k, no_end, p) = no_true (sym k ∙ bare)

@@ -4,7 +4,7 @@ use Rattle.lex_semantics.specs.Spec.{Cut, Rule}
 use Rattle.lex_semantics.specs.Tree.{Tree}
 use Rattle.lexre.specs.Spelling.{Spells}
 use Rattle.lexspec_actions.specs.Names.{number_from, names_of}
-use Rattle.lexspec.specs.Items.{Conditions, Trailing, at_end, matching, rule, action_of, IsSectionItem}
+use Rattle.lexspec.specs.Items.{Conditions, Trailing, at_end, matching, rule, action_of, IsLine}
 use Rattle.lex_semantics.specs.Sound.{IsCutOf}
 use Rattle.lexspec.specs.RuleItems.{numbers_of, IsTrail, EndRule, HasHead}
 use Rattle.lexspec.specs.RuleReads.{Left}
@@ -34,13 +34,13 @@ pub record ReadsRule (d : Declarations) (n : ℕ) (t action rest : List ℕ) (r 
   pub anchored : Bool
   pub head : List ℕ
   pub after : Trailing
-  pub item : IsSectionItem t (rule asked (matching anchored head after) (action_of action)) rest
+  pub item : IsLine t (rule asked (matching anchored head after) (action_of action)) rest
   pub has_head : HasHead (names_in d) d.options d.stack d.definitions n asked anchored head after r
 
 -- an `<<EOF>>` rule begins it
 pub record ReadsEnd (d : Declarations) (t action rest : List ℕ) (numbers : Option (List ℕ)) : Type 0 where
   pub asked : Conditions
-  pub item : IsSectionItem t (rule asked at_end (action_of action)) rest
+  pub item : IsLine t (rule asked at_end (action_of action)) rest
   pub numbered : numbers_of (number_from 0 (names_in d)) (length (names_in d)) asked ≡ Some numbers
 
 abbrev pub ReadsFront : Declarations → ℕ → List ℕ → List ℕ → List ℕ → Front → Type 0

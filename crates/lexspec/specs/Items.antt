@@ -87,10 +87,10 @@ starts_rule t = let (text, after) = line_in t in
     not (is_all_blank text || list_any is_blank (take 1 text) || begins (codes "%%") text || begins (codes "%{") text)
 
 -- the text begins with a pattern: its head, and nothing, `$`, or `/` and a trailing context
-abbrev pub IsRulePattern : List ℕ → List ℕ → Trailing → List ℕ → Type 0
-IsRulePattern t head no_trail rest = (end : ℕ) × IsCutting t end None false false × (head ≡ take end t) × (rest ≡ drop end t)
-IsRulePattern t head line_end rest = (end : ℕ) × IsCutting t end None false true × (head ≡ take (end - 1) t) × (rest ≡ drop end t)
-IsRulePattern t head (pattern_after text) rest =
+abbrev pub IsSides : List ℕ → List ℕ → Trailing → List ℕ → Type 0
+IsSides t head no_trail rest = (end : ℕ) × IsCutting t end None false false × (head ≡ take end t) × (rest ≡ drop end t)
+IsSides t head line_end rest = (end : ℕ) × IsCutting t end None false true × (head ≡ take (end - 1) t) × (rest ≡ drop end t)
+IsSides t head (pattern_after text) rest =
     (end at : ℕ) × IsCutting t end (Some at) false false × (head ≡ take at t) × (text ≡ take (end - suc at) (drop (suc at) t)) × (rest ≡ drop end t)
 
 -- the text begins with the subject of a rule, and this follows; after `<<EOF>>` the text ends, or a blank or a newline stands
@@ -98,18 +98,18 @@ abbrev pub IsSubject : List ℕ → Subject → List ℕ → Type 0
 IsSubject t at_end rest = (begins (codes "<<EOF>>") t ≡ true) × (rest ≡ drop 7 t) × (ends_pattern rest ≡ true)
 IsSubject t (matching anchored head after) rest =
     let u = if anchored then drop 1 t else t in
-    (begins (codes "^") t ≡ anchored) × (begins (codes "<<EOF>>") u ≡ false) × IsRulePattern u head after rest
+    (begins (codes "^") t ≡ anchored) × (begins (codes "<<EOF>>") u ≡ false) × IsSides u head after rest
 
 -- a line of the rules section, with what follows that belongs to it; one that begins with `%%` is none
-abbrev pub IsSectionItem : List ℕ → Item → List ℕ → Type 0
-IsSectionItem t skipped rest = (text : List ℕ) × (line_at t ≡ Some (text, rest)) × (is_all_blank text ≡ true)
-IsSectionItem t skipped_line rest = (text : List ℕ) × (line_at t ≡ Some (text, rest)) × (is_all_blank text ≡ false) × (list_any is_blank (take 1 text) ≡ true)
-IsSectionItem t skipped_block rest = (begins (codes "%{") t ≡ true) × (after_block (suc (length t)) (line_in t).1 ≡ Some rest)
-IsSectionItem t (rule asked subject action) rest =
+abbrev pub IsLine : List ℕ → Item → List ℕ → Type 0
+IsLine t skipped rest = (text : List ℕ) × (line_at t ≡ Some (text, rest)) × (is_all_blank text ≡ true)
+IsLine t skipped_line rest = (text : List ℕ) × (line_at t ≡ Some (text, rest)) × (is_all_blank text ≡ false) × (list_any is_blank (take 1 text) ≡ true)
+IsLine t skipped_block rest = (begins (codes "%{") t ≡ true) × (after_block (suc (length t)) (line_in t).1 ≡ Some rest)
+IsLine t (rule asked subject action) rest =
     (starts_rule t ≡ true) × (u v text : List ℕ) × (conditions_at t ≡ Some (asked, u)) × IsSubject u subject v
     × (action_at (after_blanks v) ≡ Some (text, rest)) × (action ≡ action_of text)
 
 -- these items, each with its line, up to the end or a line that begins with `%%`; the first line here is n
 abbrev pub AreItems : ℕ → List ℕ → List (ℕ × Item) → Type 0
 AreItems n t [] = (t ≡ []) ⊎ (begins (codes "%%") t ≡ true)
-AreItems n t (i ∷ is) = (rest : List ℕ) × (i.0 ≡ n) × IsSectionItem t i.1 rest × AreItems (n + (newlines t - newlines rest)) rest is
+AreItems n t (i ∷ is) = (rest : List ℕ) × (i.0 ≡ n) × IsLine t i.1 rest × AreItems (n + (newlines t - newlines rest)) rest is

@@ -3,7 +3,7 @@ use Rattle.std.specs.Prelude.{◌≡◌, ℕ, ◌+◌, ◌-◌, ◌≤◌, List,
 use Rattle.lex_semantics.specs.Spec.{Spec}
 use Rattle.lexspec_lines.specs.Lines.{line_in, newlines}
 use Rattle.lexspec_lines.specs.SkippedCode.{told_lines, AreFrom, code_in}
-use Rattle.lexspec.specs.Items.{Item, IsSectionItem, AreItems}
+use Rattle.lexspec.specs.Items.{Item, IsLine, AreItems}
 use Rattle.lexspec.specs.Skipped.{code_of_item, user_section, EndsRules}
 use Rattle.lexspec.specs.RuleItems.{EndRule, AreRules}
 use Rattle.lexspec.specs.RuleViews.{rule_of}
@@ -34,6 +34,6 @@ pub record SpellsRest (s : Section) (S : Spec) : Type 0 where
 pub record SkipsRest (s : Section) (lines : List ℕ) : Type 0 where
   pub items : List (ℕ × Item)
   pub rest : List ℕ
-  pub pieces : AreFrom IsSectionItem (s.line + 1) (line_in s.rest.now).1 items rest
+  pub pieces : AreFrom IsLine (s.line + 1) (line_in s.rest.now).1 items rest
   pub stops : EndsRules rest
   pub lines_are : lines ≡ s.declarations.skipped.lines.items ++ told_lines 0 (code_in code_of_item items) ++ user_section (s.line + 1 + newlines (line_in s.rest.now).1 - newlines rest) rest

@@ -15,5 +15,5 @@ item_of Block = I.skipped_block
 -- a piece of the rules section begins the text, at the line n, and its code is told
 pub record TakesItem (n : ℕ) (t rest : List ℕ) (s s' : Skipped) : Type 0 where
   pub item : I.Item
-  pub here : I.IsSectionItem t item rest
+  pub here : I.IsLine t item rest
   pub code : AddsCode s (code_of_item n item) s'

@@ -5,7 +5,7 @@ use Rattle.lex_semantics.specs.Reading.{begins, is_white}
 use Rattle.lexspec_lines.specs.Lines.{without_returns, line_in, newlines}
 use Rattle.lexspec_lines.specs.DefinitionLines.{Definition}
 use Rattle.lexspec_lines.specs.SkippedCode.{Code, line, block, told_lines, IsDefinition, code_of_definition, AreFrom, code_in}
-use Rattle.lexspec.specs.Items.{Item, skipped_line, skipped_block, IsSectionItem}
+use Rattle.lexspec.specs.Items.{Item, skipped_line, skipped_block, IsLine}
 
 -- the code that a piece of the rules section is, at this line
 abbrev pub code_of_item : ℕ → Item → List Code
@@ -33,7 +33,7 @@ pub record AreSkipped (file lines : List ℕ) : Type 0 where
   pub separator : begins (codes "%%") after ≡ true
   pub items : List (ℕ × Item)
   pub rest : List ℕ
-  pub second_section : AreFrom IsSectionItem (2 + newlines file - newlines after) (line_in after).1 items rest
+  pub second_section : AreFrom IsLine (2 + newlines file - newlines after) (line_in after).1 items rest
   pub stops : EndsRules rest
   pub lines_are : lines ≡ told_lines 0 (code_in code_of_definition definitions) ++ told_lines 0 (code_in code_of_item items)
       ++ user_section (2 + newlines file - newlines after + newlines (line_in after).1 - newlines rest) rest

@@ -7,7 +7,7 @@ ghost use Rattle.lexspec.specs.ItemReads.{NoneLeft};
 ghost use Rattle.lexspec.specs.Agreeing.{Agrees};
 ghost use Rattle.lexspec.specs.Keeping.{Keeps};
 ghost use Rattle.lexspec.specs.KeptNames.{AreKept};
-ghost use Rattle.lexspec.specs.Items.{IsSectionItem};
+ghost use Rattle.lexspec.specs.Items.{IsLine};
 ghost use Rattle.lexspec.specs.Skipped.{code_of_item};
 ghost use Rattle.lexspec.specs.SkipViews.{item_of, TakesItem};
 ghost use Rattle.lexspec.specs.EndOpenings.{begins_end};
@@ -191,7 +191,7 @@ pub(crate) fn read_rules<'a>(
     ensures found { IfOk result (λ s. HasRules declarations.now first text.now s) }
     ensures line { IfOk result (λ s. s.line + newlines s.rest.now ≡ first + newlines text.now) }
     ensures code { IfOk result (λ s. (before : List Code) → TellsCode before skipped.old
-        → TellsPieces before IsSectionItem code_of_item (first + newlines text.now) text.now s.rest.now skipped.new) }
+        → TellsPieces before IsLine code_of_item (first + newlines text.now) text.now s.rest.now skipped.new) }
     ensures none { IfErr result (λ e. UnlessMemory e.kind (NoSuchRules declarations.now first text.now)) }
 {
     let mut progress = RulesSoFar::new(alloc);

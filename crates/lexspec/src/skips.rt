@@ -1,7 +1,7 @@
 //! Lines of the rules section that are no rules. (POSIX, lex, Rules in lex; flex, Format of the Input File.)
 ghost use Rattle.std.specs.Prelude.{◌≡◌, ℕ, ◌<◌, List, true, false, length, codes, IfOk, IfErr, IfSome, IfNone, OnErr};
 ghost use Rattle.lex_semantics.specs.Reading.{begins};
-ghost use Rattle.lexspec.specs.Items.{Item, IsSectionItem, starts_rule};
+ghost use Rattle.lexspec.specs.Items.{Item, IsLine, starts_rule};
 ghost use Rattle.lexspec.specs.SkipViews.{item_of};
 ghost use Rattle.lexre_bytes.specs.declared.refusals.SpecErrorKind.TheVariants.{Unclosed};
 
@@ -23,10 +23,10 @@ pub(crate) enum Skip {
 pub(crate) fn skip_at(text: &[u8]) -> Result<Option<(Skip, &[u8])>, SpecErrorKind>
     requires some { 0 < length text.now }
     requires no_end { begins (codes "%%") text.now ≡ false }
-    ensures found { IfOk result (λ o. IfSome o (λ x. IsSectionItem text.now (item_of x.0) x.1.now)) }
+    ensures found { IfOk result (λ o. IfSome o (λ x. IsLine text.now (item_of x.0) x.1.now)) }
     ensures rule { IfOk result (λ o. IfNone o (starts_rule text.now ≡ true)) }
     ensures shorter { IfOk result (λ o. IfSome o (λ x. length x.1.now < length text.now)) }
-    ensures none { OnErr result ((i : Item) (rest : List ℕ) → IsSectionItem text.now i rest → ⊥) }
+    ensures none { OnErr result ((i : Item) (rest : List ℕ) → IsLine text.now i rest → ⊥) }
     ensures fault { IfErr result (λ e. e ≡ Unclosed) }
 {
     let (line, after) = split_line(text);

@@ -5,7 +5,7 @@ ghost use Rattle.std.specs.Prelude.{option_map, take, drop, IfOk, IfErr, OnErr};
 ghost use Rattle.std.specs.List.{list_all};
 ghost use Rattle.lex_semantics.specs.Reading.{is_white};
 ghost use Rattle.lexspec.specs.Items.{Conditions as AskedFor, Subject as SubjectMeant, Trailing as TrailMeant};
-ghost use Rattle.lexspec.specs.Items.{conditions_at, IsRulePattern, IsSubject};
+ghost use Rattle.lexspec.specs.Items.{conditions_at, IsSides, IsSubject};
 ghost use Rattle.lexspec.specs.SubjectFaults.{IsSubjectFault};
 ghost use Rattle.lexspec.specs.SubjectViews.{conditions_of, trailing_of, subject_of, sides};
 
@@ -108,9 +108,9 @@ fn sides<'a>(text: &'a [u8], cutting: Cutting) -> Option<(&'a [u8], Trailing<'a>
 /// The pattern at the front of a text which stands at this place of the rule's line, cut, and what follows it. It is a
 /// `Pattern` fault where the text has no cutting, and `TwoTrailing` where it has two trailing contexts.
 fn pattern_at(text: &[u8], at: usize) -> Result<((&[u8], Trailing<'_>), &[u8]), SpecErrorKind>
-    ensures found { IfOk result (λ x. IsRulePattern text.now x.0.0.now (trailing_of x.0.1) x.1.now) }
+    ensures found { IfOk result (λ x. IsSides text.now x.0.0.now (trailing_of x.0.1) x.1.now) }
     ensures none { OnErr result ((head : List ℕ) (after : TrailMeant) (rest : List ℕ)
-        → IsRulePattern text.now head after rest → ⊥) }
+        → IsSides text.now head after rest → ⊥) }
     ensures fault { IfErr result (λ e. IsSubjectFault e) }
 {
     let cutting = match cut_pattern(text) {

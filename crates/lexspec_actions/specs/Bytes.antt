@@ -30,8 +30,9 @@ next word t = after_word word (skip t)
 -- from 1 to 255 that these write, as in a pattern
 unfoldable pub string_escape_at : Reader ℕ
 string_escape_at t =
-    (if list_any (λ c. is_octal c || lists (codes "abfnrtv\\\"'?") c) (take 1 t) || is_some (after_word (codes "x") t >>= hexadecimal_at) then escape_at t
-    else None) >>= λ (b, rest). if within 1 255 b then Some (b, rest) else None
+    let begins_one = list_any (λ c. is_octal c || lists (codes "abfnrtv\\\"'?") c) (take 1 t) in
+    let hexadecimal = is_some (after_word (codes "x") t >>= hexadecimal_at) in
+    (if begins_one || hexadecimal then escape_at t else None) >>= λ (b, rest). if within 1 255 b then Some (b, rest) else None
 
 -- a string: its bytes are escapes, and any but a newline
 unfoldable pub literal_at : Reader (List ℕ)

@@ -7,7 +7,7 @@ use Rattle.std.proofs.lemmas.List.Sums.{sum_by-append}
 use Rattle.lex_semantics.specs.Reading.{◌>>=◌, Reader, begins}
 use Rattle.lex_semantics.specs.ByteSets.{is_blank}
 use Rattle.lexspec_lines.specs.Lines.{line_in, after_block, after_comment, newlines, is_all_blank}
-use Rattle.lexspec_lines.specs.DefinitionLines.{Definition, nothing, code_line, code_block, definition_in, percent_line, definition_at, IsUpTo}
+use Rattle.lexspec_lines.specs.DefinitionLines.{Definition, ignored, code_line, code_block, definition_in, percent_line, definition_at, IsUpTo}
 use Rattle.lexspec_lines.specs.Declaring.{declared_of, AreGood, AreAllowed, Declares}
 use Rattle.lexspec_lines.specs.declared.declarations.Declarations.{Declarations}
 use Rattle.lexspec_actions.specs.Comments.{after_star}
@@ -156,13 +156,13 @@ definition_ends (c ∷ t) =
     let s = line_in u in
     let P : Definition × List ℕ → Type 0 = λ x. EndsWith u x.1 in
     let line = after_line u in
-    each_if P (is_all_blank s.0) _ _ (each_some P (nothing, s.1) line)
+    each_if P (is_all_blank s.0) _ _ (each_some P (ignored, s.1) line)
     (each_if P (list_any is_blank (take 1 s.0)) _ _ (each_some P (code_line, s.1) line)
     (each_if P (begins (codes "%%") s.0) _ _ (each_none P)
     (each_if P (begins (codes "%{") s.0) _ _
     (each_bind (EndsWith s.1) P (after_block (suc (length s.1)) s.1) _ (after_block_ends (suc (length s.1)) s.1) (λ after h. each_some P (code_block, after) (ends_on u s.1 after line h)))
     (each_if P (begins (codes "/*") s.0) _ _
-    (each_bind (EndsWith (drop 2 u)) P (after_comment (drop 2 u)) _ (after_comment_ends (drop 2 u)) (λ after h. each_some P (nothing, after) (ends_on u (drop 2 u) after (dropped 2 u) h)))
+    (each_bind (EndsWith (drop 2 u)) P (after_comment (drop 2 u)) _ (after_comment_ends (drop 2 u)) (λ after h. each_some P (ignored, after) (ends_on u (drop 2 u) after (dropped 2 u) h)))
     (each_if P (begins (codes "%") s.0) _ _
     (each_bind (λ d. Unit {0}) P (percent_line s.0) _ (λ d e. tt) (λ d h. each_some P (d, s.1) line))
     (each_bind (λ d. Unit {0}) P (definition_in s.0) _ (λ d e. tt) (λ d h. each_some P (d, s.1) line)))))))

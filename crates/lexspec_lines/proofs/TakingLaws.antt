@@ -11,7 +11,7 @@ use Rattle.std.proofs.lemmas.List.{map-append, append_assoc}
 use Rattle.lex_semantics.specs.ByteSets.{is_word}
 use Rattle.lexre.specs.Definitions.{Definitions}
 use Rattle.lexre.specs.declared.options.ReadOptions.{ReadOptions}
-use Rattle.lexspec_lines.specs.DefinitionLines.{Definition, nothing, code_line, code_block, declares, options, ignored, defines, Declared, declared, all_conditions, has_name, are_distinct, substitutes_of, all_options, known_options}
+use Rattle.lexspec_lines.specs.DefinitionLines.{Definition, code_line, code_block, declares, options, ignored, defines, Declared, declared, all_conditions, has_name, are_distinct, substitutes_of, all_options, known_options}
 use Rattle.lexspec_lines.specs.DefinitionViews.{are_known}
 use Rattle.lexspec_lines.specs.Declaring.{declared_of, with_kind, AreGood, AreAllowed, Declares}
 use Rattle.lexspec_lines.specs.Folding.{with_fold}
@@ -23,7 +23,6 @@ use Rattle.lexspec_lines.proofs.DeclaringLaws.{word_same, word_is, word_other, h
 
 pub declared_append : (ds es : List Definition) → declared (ds ++ es) ≡ declared ds ++ declared es
 declared_append [] es = refl
-declared_append (nothing ∷ ds) es = declared_append ds es
 declared_append (code_line ∷ ds) es = declared_append ds es
 declared_append (code_block ∷ ds) es = declared_append ds es
 declared_append (declares exclusive names ∷ ds) es =
@@ -37,7 +36,6 @@ conditions_append ds es = ap (λ z. record { exclusive = false; name = codes "IN
 
 pub substitutes_append : (ds es : List Definition) → substitutes_of (ds ++ es) ≡ substitutes_of ds ++ substitutes_of es
 substitutes_append [] es = refl
-substitutes_append (nothing ∷ ds) es = substitutes_append ds es
 substitutes_append (code_line ∷ ds) es = substitutes_append ds es
 substitutes_append (code_block ∷ ds) es = substitutes_append ds es
 substitutes_append (declares exclusive names ∷ ds) es = substitutes_append ds es
@@ -47,7 +45,6 @@ substitutes_append (defines name text ∷ ds) es = ap (λ z. (name, text) ∷ z)
 
 pub options_append : (ds es : List Definition) → all_options (ds ++ es) ≡ all_options ds ++ all_options es
 options_append [] es = refl
-options_append (nothing ∷ ds) es = options_append ds es
 options_append (code_line ∷ ds) es = options_append ds es
 options_append (code_block ∷ ds) es = options_append ds es
 options_append (declares exclusive names ∷ ds) es = options_append ds es

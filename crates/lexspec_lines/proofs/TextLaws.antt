@@ -1,10 +1,10 @@
 -- The ends of substitutes.
-use Rattle.std.proofs.Common.{◌≡◌, ℕ, zero, suc, ◌-◌, ◌<◌, ◌≤◌, ◌==◌, ◌&&◌, ◌||◌, Bool, true, false, not, if◌then◌else◌, List, [], ◌∷◌, length, get_or, take, drop, Option, Some, None, ◌⊎◌, inl, inr, codes, refl, sym, ap, subst, ◌∙◌, arith}
+use Rattle.std.proofs.Common.{◌≡◌, ℕ, zero, suc, ◌-◌, ◌<◌, ◌≤◌, ◌==◌, ◌&&◌, Bool, true, false, not, if◌then◌else◌, List, [], ◌∷◌, length, get_or, take, drop, Option, Some, None, ◌⊎◌, inl, inr, codes, refl, sym, ap, subst, ◌∙◌, arith}
 use Rattle.std.specs.Prelude.{nat_eq}
 use Rattle.std.proofs.lemmas.Bool.{ne_eqb, eq-eqb, eqb-true, eqb-false, cases_lt}
 use Rattle.lex_semantics.specs.Reading.{is_empty, take_run, after_run, take_up_to}
 use Rattle.lex_semantics.specs.ByteSets.{is_blank}
-use Rattle.std.specs.List.{list_any, list_all, ends_with, suffix_len}
+use Rattle.std.specs.List.{list_all, ends_with, suffix_len}
 use Rattle.lexspec_lines.specs.Lines.{blanks, is_all_blank}
 use Rattle.lexspec_lines.specs.DefinitionLines.{trimmed}
 use Rattle.lexspec_lines.specs.DefinitionViews.{ends_anchored}

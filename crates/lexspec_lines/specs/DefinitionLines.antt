@@ -1,15 +1,13 @@
 -- The lines of the definitions section. (POSIX, lex, Definitions in lex; flex, Format of the Input File.)
 use Rattle.std.specs.Prelude.{◌≡◌, ℕ, suc, Bool, true, false, not, ◌&&◌, ◌||◌, ◌==◌, if◌then◌else◌, List, [], ◌∷◌, map, filter_map, flat_map, length, nat_eq, ◌-◌, take, drop, Option, Some, None, codes}
 use Rattle.std.specs.List.{list_any, list_all, ends_with, suffix_len}
-use Rattle.lex_semantics.specs.Reading.{◌>>=◌, Reader, IsCut, after_run, after_blanks, is_empty, begins, starts_name, goes_on_name}
+use Rattle.lex_semantics.specs.Reading.{◌>>=◌, Reader, IsCut, after_blanks, is_empty, begins, starts_name, goes_on_name}
 use Rattle.lex_semantics.specs.ByteSets.{is_digit, is_word, is_blank}
 use Rattle.lexre_bytes.specs.Lexical.{name_at}
 use Rattle.lexspec_lines.specs.Runs.{split_before}
 use Rattle.lexspec_lines.specs.Lines.{line_at, is_all_blank, words, after_block, after_comment}
 
 pub data Definition : Type 0 where
-  -- a line of blanks or nothing, or a comment
-  nothing : Definition
   -- a line of code, or a block of it
   code_line : Definition
   code_block : Definition
@@ -17,7 +15,7 @@ pub data Definition : Type 0 where
   declares : (exclusive : Bool) (names : List (List ℕ)) → Definition
   -- `%option`
   options : List (List ℕ) → Definition
-  -- a line without effect
+  -- what has no effect: a line of blanks or nothing, a comment, how yytext is kept, or the size of a table
   ignored : Definition
   defines : (name text : List ℕ) → Definition
 
@@ -61,11 +59,11 @@ percent_line line =
 -- a line of the definitions section, with what follows that belongs to it; a line that begins with `%%` is none
 unfoldable pub definition_at : Reader Definition
 definition_at t = line_at t >>= λ (line, rest).
-    if is_all_blank line then Some (nothing, rest)
+    if is_all_blank line then Some (ignored, rest)
     else if list_any is_blank (take 1 line) then Some (code_line, rest)
     else if begins (codes "%%") line then None
     else if begins (codes "%{") line then (after_block (suc (length rest)) rest >>= λ after. Some (code_block, after))
-    else if begins (codes "/*") line then (after_comment (drop 2 t) >>= λ after. Some (nothing, after))
+    else if begins (codes "/*") line then (after_comment (drop 2 t) >>= λ after. Some (ignored, after))
     else if begins (codes "%") line then (percent_line line >>= λ d. Some (d, rest))
     else (definition_in line >>= λ d. Some (d, rest))
 

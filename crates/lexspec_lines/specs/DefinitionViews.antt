@@ -7,7 +7,7 @@ use Rattle.lexspec_lines.specs.declared.definition.Definition.{Definition}
 use Rattle.lexspec_lines.specs.declared.definition.Definition.TheVariants.{Nothing, CodeLine, CodeBlock, Declares, Options, Ignored, Defines}
 
 abbrev pub definition_of : Definition → D.Definition
-definition_of Nothing = D.nothing
+definition_of Nothing = D.ignored
 definition_of CodeLine = D.code_line
 definition_of CodeBlock = D.code_block
 definition_of (Declares exclusive names) = D.declares exclusive (words names.now)

@@ -1,6 +1,6 @@
 -- Lines, blanks and words of a specification file. (POSIX, lex, Definitions in lex.)
 use Rattle.std.specs.List.{slice_split}
-use Rattle.std.specs.Prelude.{ℕ, zero, suc, Bool, not, filter, ◌&&◌, ◌==◌, if◌then◌else◌, List, [], ◌∷◌, drop, count_by, Option, Some, None, codes}
+use Rattle.std.specs.Prelude.{ℕ, zero, suc, Bool, not, filter, ◌&&◌, ◌==◌, if◌then◌else◌, List, [], ◌∷◌, count_by, Option, Some, None, codes}
 use Rattle.lex_semantics.specs.ByteSets.{is_blank}
 use Rattle.lex_semantics.specs.Reading.{◌>>=◌, Reader, take_run, after_blanks, is_empty, begins}
 use Rattle.lexspec_actions.specs.Comments.{after_star}

@@ -1,7 +1,7 @@
 use Rattle.std.proofs.Common.{sym, ◌∙◌, length, arith, refl, inr}
 use Rattle.std.proofs.lemmas.Bool.{eqb-true}
 use Rattle.lexspec.proofs.KeepLaws.{keeps_first}
-use Rattle.lexspec.specs.Items.{IsSectionItem}
+use Rattle.lexspec.specs.Items.{IsLine}
 use Rattle.lexspec.specs.Skipped.{EndsRules, code_of_item}
 use Rattle.lexspec_lines.proofs.CodeLaws.{tells_none}
 use Rattle.lexspec.proofs.RestLaws.{over_empty, agrees_first, section_refused, item_read, ended_found, ended_line, ended_none, item_told, ended_code, newlines_few}
@@ -13,7 +13,7 @@ items-init c = record {
   agrees = agrees_first c.args.declarations.now c.new-progress.result c.args.first c.args.text.now c.new-progress.ensures.rules c.new-progress.ensures.waiting c.new-progress.ensures.ends;
   keeps = keeps_first c.args.declarations.now c.new-progress.result c.new-progress.ensures.rules c.new-progress.ensures.waiting c.new-progress.ensures.ends;
   known = c.requires.known_so_far;
-  code = (λ before told. tells_none IsSectionItem code_of_item before _ c.args.text.now _ told);
+  code = (λ before told. tells_none IsLine code_of_item before _ c.args.text.now _ told);
   line = refl;
   shorter = omega arith;
 }

@@ -5,7 +5,7 @@ use Rattle.lexspec.specs.Keeping.{Keeps}
 use Rattle.lexspec.specs.KeptNames.{AreKept}
 use Rattle.lexspec_lines.specs.SkippedCode.{Code}
 use Rattle.lexspec_lines.specs.Skips.{TellsCode, TellsPieces}
-use Rattle.lexspec.specs.Items.{IsSectionItem}
+use Rattle.lexspec.specs.Items.{IsLine}
 use Rattle.lexspec.specs.Skipped.{code_of_item}
 use Rattle.lexspec.proofs.rules_section.read_rules.Given as goal
 
@@ -14,7 +14,7 @@ invariant-items l = record {
   agrees : Agrees l.declarations l.first l.text l.progress l.line l.rest;
   keeps : Keeps l.declarations l.progress;
   known : AreKept l.declarations l.names;
-  code : (before : List Code) → TellsCode before l.fn.skipped → TellsPieces before IsSectionItem code_of_item (l.first + newlines l.text) l.text l.rest l.skipped;
+  code : (before : List Code) → TellsCode before l.fn.skipped → TellsPieces before IsLine code_of_item (l.first + newlines l.text) l.text l.rest l.skipped;
   line : l.line + newlines l.rest ≡ l.first + newlines l.text;
   shorter : length l.rest ≤ length l.text;
 }

@@ -1,5 +1,5 @@
 use Rattle.std.proofs.Common.{sym}
-use Rattle.lexspec.proofs.SubjectLaws.{uncut, cut_twice, no_sides, from_cut}
+use Rattle.lexspec.proofs.SubjectLaws.{uncut, cut_twice, no_sides}
 use Rattle.lexspec.proofs.subject.pattern_at.Goals as goal
 
 pub returns-in-Err-clause-none : goal.returns-in-Err-clause-none

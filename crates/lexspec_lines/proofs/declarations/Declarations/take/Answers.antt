@@ -4,7 +4,7 @@ use Rattle.std.specs.Prelude.{Result}
 use Rattle.lexre.specs.declared.definitions.DefsError.{DefsError}
 use Rattle.lexre.specs.declared.definitions.DefsError.TheVariants.{Duplicate}
 use Rattle.lexspec_lines.specs.Lines.{words}
-use Rattle.lexspec_lines.specs.DefinitionLines.{nothing, ignored, code_line, code_block}
+use Rattle.lexspec_lines.specs.DefinitionLines.{ignored, code_line, code_block}
 use Rattle.lexspec_lines.specs.DefinitionViews.{definition_of}
 use Rattle.lexspec_lines.proofs.OutcomeLaws.{on_ok, if_err}
 use Rattle.lexspec_lines.proofs.TakingLaws.{adds_nothing, adds_conditions, refused_conditions, adds_options, refused_options, adds_name, refused_name}
@@ -15,7 +15,7 @@ differs : ◌≡◌ {A = Result (Unit {0}) DefsError} (Ok tt) (Err Duplicate) �
 differs e = cc
 
 pub returns-in-Nothing-clause-found : goal.returns-in-Nothing-clause-found
-returns-in-Nothing-clause-found c = λ how ds h k. rw (ap definition_of c.in-Nothing.is) (adds_nothing nothing refl refl refl how ds c.args.self.now _ refl refl refl refl h k)
+returns-in-Nothing-clause-found c = λ how ds h k. rw (ap definition_of c.in-Nothing.is) (adds_nothing ignored refl refl refl how ds c.args.self.now _ refl refl refl refl h k)
 
 pub returns-in-Ignored-clause-found : goal.returns-in-Ignored-clause-found
 returns-in-Ignored-clause-found c = λ how ds h k. rw (ap definition_of c.in-Ignored.is) (adds_nothing ignored refl refl refl how ds c.args.self.now _ refl refl refl refl h k)
