@@ -3,7 +3,8 @@
 
     scripts/definitions.py             how many there are, by crate, and what is missing on the page
     scripts/definitions.py --status    the same, and a status of 1 where something is missing
-    scripts/definitions.py NAME ..     the definitions that the contracts of these calls lead to, with their lines
+    scripts/definitions.py NAME ..     the definitions that the contracts of these calls lead to, with their lines, and
+                                       the names that stand for two of them
 
 A public contract is a clause of a function, or of a method of a type or trait, that one of the crates of SURFACE gives its
 callers, or a ghost field of such a type or trait. Lemmas, whose names have a hyphen, are no definitions."""
@@ -182,6 +183,12 @@ def named():
 def listed(specs, targets):
     for target in sorted(targets):
         print(".".join(target), len(specs.lines[target]))
+    homes = collections.defaultdict(list)
+    for target in sorted(targets):
+        homes[target[2]].append(".".join(target[:2]))
+    for name, modules in homes.items():
+        if len(modules) > 1:
+            print(f"two meanings: {name} of {', '.join(modules)}")
     print(len(targets), "definitions in", sum(len(specs.lines[target]) for target in targets), "lines")
 
 
