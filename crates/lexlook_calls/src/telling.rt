@@ -211,7 +211,8 @@ fn add_difference(
 ) -> Result<(), AllocError>
     requires left { difference.now.condition < (table_machine left.side.now.tables).conditions }
     requires right { number_in order.now difference.now.condition < (table_machine right.side.now.tables).conditions }
-    requires conditions { (table_machine left.side.now.tables).conditions ≡ (table_machine right.side.now.tables).conditions }
+    requires conditions { (table_machine left.side.now.tables).conditions
+        ≡ (table_machine right.side.now.tables).conditions }
     requires left_labels { IsLabelled (side_as left.name.now left.side.now) }
     requires right_labels { IsLabelled (side_as right.name.now right.side.now) }
     ensures { OnOk result (text.new.items ≡ text.old.items
@@ -241,7 +242,8 @@ fn add_end(
     condition: u8,
 ) -> Result<(), AllocError>
     requires condition { condition < (table_machine left.side.now.tables).conditions }
-    requires conditions { (table_machine left.side.now.tables).conditions ≡ (table_machine right.side.now.tables).conditions }
+    requires conditions { (table_machine left.side.now.tables).conditions
+        ≡ (table_machine right.side.now.tables).conditions }
     requires left_labels { IsLabelled (side_as left.name.now left.side.now) }
     requires right_labels { IsLabelled (side_as right.name.now right.side.now) }
     ensures { (order : List ℕ) (all : Bool) → OnOk result (text.new.items ≡ text.old.items

@@ -63,7 +63,8 @@ pub fn compare(
     right: &Tables,
 ) -> Result<Comparison, AllocError>
     requires { (table_machine left.now).conditions ≡ (table_machine right.now).conditions
-        → (c : ℕ) → c < (table_machine left.now).conditions → number_in order.now c < (table_machine right.now).conditions }
+        → (c : ℕ) → c < (table_machine left.now).conditions
+        → number_in order.now c < (table_machine right.now).conditions }
     ensures { IfOk result (λ told. Compares order.now (table_machine left.now) (table_machine right.now) told) }
 {
     let conditions = left.parts().conditions.len();

@@ -27,7 +27,8 @@ impl PieceScan {
 
     /// One that was fed nothing.
     pub(crate) fn new(alloc: Global, flat: Flat) -> PieceScan
-        ensures { (file : List ℕ) → IsMachineOf file (table_machine (tables_of flat)) → Progress file false [] [] result }
+        ensures { (file : List ℕ) → IsMachineOf file (table_machine (tables_of flat))
+            → Progress file false [] [] result }
     {
         PieceScan {
             scanner: PushScanner::new(alloc, flat),
