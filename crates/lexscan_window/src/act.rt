@@ -26,14 +26,14 @@ pub struct ActionState {
 }
 
 /// How a scan ends: with a status, or because the stack of conditions was full or empty.
-#[derive(Clone, Copy, Debug, PartialEq, Eq)]
+#[derive(Clone, Copy)]
 pub enum Finish {
     Status(u8),
     StackFault,
 }
 
 /// What follows a statement or an action.
-#[derive(Clone, Copy, PartialEq, Eq)]
+#[derive(Clone, Copy)]
 pub enum Step {
     Next,
     Again,

@@ -6,7 +6,7 @@ ghost use Rattle.lexscan_window.specs.declared.memo.Mark.{Mark};
 
 /// From one to four states at a place of the source. Where there are fewer than four, the first one stands more than
 /// once.
-#[derive(Clone, Copy, Debug, PartialEq, Eq)]
+#[derive(Clone, Copy)]
 pub struct Cell {
     place: u64,
     first: u16,

@@ -20,7 +20,7 @@ pub struct Reading {
 }
 
 /// Where the next match starts: the place in the window, whether a line starts there, and the condition.
-#[derive(Clone, Copy, PartialEq, Eq)]
+#[derive(Clone, Copy)]
 pub struct TextPlace {
     pub at: usize,
     pub line_start: bool,

@@ -5,7 +5,7 @@ ghost use Rattle.lexscan_window.specs.Walks.{Filled};
 use lex_machine::Machine;
 
 /// Why a walk stopped.
-#[derive(Clone, Copy, PartialEq, Eq)]
+#[derive(Clone, Copy)]
 pub enum Stop {
     /// The machine asks for no more.
     Done,
