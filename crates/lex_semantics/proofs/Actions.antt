@@ -72,7 +72,7 @@ not_both false b h = inl refl
 
 -- an action in normal form is an action
 pub action_of : (n : ℕ) (ss : List Statement) → IsLegal n ss → IsAction n ss
-action_of n ss legal = record { ranges = legal.ranges; last = legal.last; compatible = legal.compatible }
+action_of n ss legal = legal.0
 
 -- yyless and yymore don't stand in one action
 pub apart : (n : ℕ) (ss : List Statement) → IsAction n ss → (has_less ss ≡ false) ⊎ (has_more ss ≡ false)

@@ -3,10 +3,10 @@ use Rattle.std.proofs.Common.{◌≡◌, ℕ, zero, suc, ◌+◌, ◌-◌, ◌*�
 use Rattle.std.specs.Prelude.{slice_get, take}
 use Rattle.std.proofs.Math.Nat.{mul-le-mul_right}
 use Rattle.lex_semantics.specs.Text.{IsText, Among, Ascending}
-use Rattle.lex_semantics.specs.Tree.{Tree, Trees, Empty, Set, Cat, Alt, Star, Repeat, no_trees, tree, UpTo}
-use Rattle.lex_semantics.specs.Positions.{copies, positions, positions_of, Cell, Readings, Passes, Reads, ReadsEach, ReadsSome}
+use Rattle.lex_semantics.specs.Tree.{Tree, Trees, Empty, Set, Cat, Alt, Star, Repeat, no_trees, tree, UpTo, Passes}
+use Rattle.lex_semantics.specs.Positions.{copies, positions, positions_of, Cell, Readings, Reads, ReadsEach, ReadsSome}
 use Rattle.lex_semantics.specs.Spec.{Spec, Rule}
-use Rattle.lex_semantics.specs.Subsets.{positions_of_trail, positions_of_rule, all_positions, base_of, ReadsTrail, ReadsRule, ReadsActive, EndsAt, IsLast, IsActive, ListsSet, Distinct, AreStarts, AreLasts, Subsets}
+use Rattle.lex_semantics.specs.Subsets.{positions_of_trail, positions_of_rule, all_positions, base_of, ReadsTrail, ReadsRule, ReadsActive, IsLast, IsActive, ListsSet, Distinct, AreStarts, AreLasts, Subsets}
 use Rattle.lex_semantics.proofs.Fronts.{among_left, among_right}
 
 -- each position is below a number
@@ -116,14 +116,13 @@ active_below S c line_start rs (i, r, at, on, reads) =
     let begins : base_of S.rules 0 i ≡ base = base_is S.rules i in
     below_more (base + positions_of_rule r) (all_positions S.rules) rs (omega (arith, fits, begins)) (rule_below r base rs reads)
 
-ends_below : (hi p : ℕ) (rs zs : List Cell) → EndsAt p rs → Below hi (rs ++ zs) → p < hi
+ends_below : (hi p b : ℕ) (rs zs : List Cell) → Below hi (rs ++ (b, p) ∷ zs) → p < hi
 unfolding Below
-ends_below hi p [] zs h k = absurd h
-ends_below hi p (c ∷ []) zs h k = omega (arith, h, k.0)
-ends_below hi p (c ∷ d ∷ rs) zs h k = ends_below hi p (d ∷ rs) zs h k.1
+ends_below hi p b [] zs k = k.0
+ends_below hi p b (c ∷ rs) zs k = ends_below hi p b rs zs k.1
 
 last_below : (S : Spec) (c : ℕ) (line_start : Bool) (w : List ℕ) (p : ℕ) → IsLast (ReadsActive S c line_start) w p → p < all_positions S.rules
-last_below S c line_start w p (rs, zs, e, ends, reads) = ends_below (all_positions S.rules) p rs zs ends (active_below S c line_start (rs ++ zs) reads)
+last_below S c line_start w p (rs, zs, b, e, reads) = ends_below (all_positions S.rules) p b rs zs (active_below S c line_start (rs ++ (b, p) ∷ zs) reads)
 
 rule_there : (rules : List Rule) (i : ℕ) (r : Rule) → slice_get rules i ≡ Some r → i < length rules
 rule_there [] i r e = absurd (none_there i r e)

@@ -2,6 +2,7 @@
 use Rattle.std.proofs.Common.{◌≡◌, ℕ, ◌+◌, ◌≤◌, Bool, List, [], ◌∷◌, ◌++◌, length, Option, Some, None, sym, ◌∙◌, ap, subst, arith}
 use Rattle.std.specs.Prelude.{slice_get}
 use Rattle.std.proofs.lemmas.List.{length-append, append_assoc}
+use Rattle.lex_semantics.proofs.Splits.{split_of}
 use Rattle.lex_semantics.specs.Text.{IsText}
 use Rattle.lex_semantics.specs.Limits.{max_fixed_length}
 use Rattle.lex_semantics.specs.Tree.{Tree, In}
@@ -43,7 +44,8 @@ keeps_from (Trail m) head (Some q) u v n k fits h t size is some = let e : lengt
 
 -- The cut keeps the text.
 pub cut_keeps : (S : Spec) (sound : IsSound S) (c : ℕ) (line_start : Bool) (w : List ℕ) (i k : ℕ) (r : Rule) → slice_get S.rules i ≡ Some r → Fits S c line_start w i k → Keeps r.cut (length w) k
-cut_keeps S sound c line_start w i k r at h =
+cut_keeps S sound c line_start w i k r at fits =
+    let h = split_of S c line_start w i k fits in
     let size : length w ≡ length h.text + length h.trail = ap length h.splits ∙ length-append h.text h.trail in
     let same : h.rule ≡ r = same_rule S i h.rule r h.at at in
     subst (λ (q : Rule). Keeps q.cut (length w) k) same
@@ -61,7 +63,7 @@ one_text_of S sound c line_start w i k l h g = keeps_one h.rule.cut (length w) k
 pub laws_of : (S : Spec) → IsSound S → Laws (rules_of S)
 laws_of S sound = record {
   some_text = λ c line_start w i k h. h.not_empty;
-  inside = λ c line_start w i k h. (let size : length w ≡ length h.text + length h.trail = ap length h.splits ∙ length-append h.text h.trail in omega (arith, h.length_is));
+  inside = λ c line_start w i k h. h.inside;
   one_text = λ c line_start w i k l h g. one_text_of S sound c line_start w i k l h g;
   live_from_full = λ c line_start w u i k text some h. (u, text, some, i, k, h);
   live_shorter = λ c line_start w u text h. (u ++ h.0, append_text u h.0 text h.1, longer u h.0 h.2, h.3, h.4, subst (λ z. Fits S c line_start z h.3 h.4) (append_assoc w u h.0) h.5);

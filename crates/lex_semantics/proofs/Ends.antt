@@ -3,6 +3,7 @@ use Rattle.std.proofs.Common.{◌≡◌, ℕ, zero, suc, ◌+◌, ◌-◌, ◌�
 use Rattle.std.specs.Prelude.{nat_lt, if◌then◌else◌, ⊤}
 use Rattle.std.proofs.lemmas.List.{length-append, length-take, length-take-le, length-drop}
 use Rattle.std.proofs.lemmas.Bool.{cond-true, cond-false, lt-ltb, le-ltb, cases_lt}
+use Rattle.lex_semantics.proofs.ResultsAre.{results_are}
 use Rattle.lex_semantics.specs.Text.{Among, part, at_line_start}
 use Rattle.lex_semantics.specs.Spec.{Statement, Echo, Print, Begin, More, Less, Reject, End, Push, Pop}
 use Rattle.lex_semantics.specs.Rules.{Rules, Full, statements_of}
@@ -10,7 +11,9 @@ use Rattle.lex_semantics.specs.Laws.{Laws}
 use Rattle.lex_semantics.specs.Legal.{has_less, has_more, IsAction}
 use Rattle.lex_semantics.proofs.Actions.{LessFromOne, less_from_one, apart, echo_legal}
 use Rattle.lex_semantics.specs.Candidates.{Candidate, IsCandidate, Candidates}
-use Rattle.lex_semantics.specs.Acting.{Ending, Status, StackFault, Acting, Matched, ActionResult, Done, Again, Over, act, has_room, popped, settle, perform}
+use Rattle.lex_semantics.specs.Acting.{Ending, Status, StackFault, Acting, Matched}
+use Rattle.lex_semantics.specs.ActionResults.{ActionResult, Done, Again, Over, act_result, has_room, popped, settle, perform_results}
+use Rattle.lex_semantics.proofs.Once.{run_by}
 use Rattle.lex_semantics.specs.Run.{Place, State, Turn, NextFrom, Turns, Run, first_state, next_place, next_start}
 
 no_true : {A : Type 0} → true ≡ false → A
@@ -34,7 +37,7 @@ pub unless_empty : (P : Acting → Type 0) (cs : List ℕ) (a : Acting) (next : 
 unless_empty P [] a next h k = h
 unless_empty P (c ∷ cs) a next h k = k c cs
 
-pub no_longer : (n : ℕ) (ss : List Statement) (a : Acting) → length a.text ≤ n → Leaves (λ b. length b.text ≤ n) (act ss a)
+pub no_longer : (n : ℕ) (ss : List Statement) (a : Acting) → length a.text ≤ n → Leaves (λ b. length b.text ≤ n) (act_result ss a)
 no_longer n [] a h = h
 no_longer n (Echo ∷ ss) a h = no_longer n ss (record a { written = a.written ++ a.text }) h
 no_longer n (Print s ∷ ss) a h = no_longer n ss (record a { written = a.written ++ s }) h
@@ -44,13 +47,13 @@ no_longer n (Less m ∷ ss) a h = let e : length (take m a.text) ≡ min m (leng
 no_longer n (Reject ∷ ss) a h = tt
 no_longer n (End s ∷ ss) a h = h
 no_longer n (Push d ∷ ss) a h =
-    unless_full (λ b. length b.text ≤ n) (has_room a.stack) a (act ss (record a { condition = d; stack = a.condition ∷ a.stack })) h
+    unless_full (λ b. length b.text ≤ n) (has_room a.stack) a (act_result ss (record a { condition = d; stack = a.condition ∷ a.stack })) h
     (no_longer n ss (record a { condition = d; stack = a.condition ∷ a.stack }) h)
 no_longer n (Pop ∷ ss) a h =
-    unless_empty (λ b. length b.text ≤ n) a.stack a (λ c cs. act ss (record a { condition = c; stack = cs })) h
+    unless_empty (λ b. length b.text ≤ n) a.stack a (λ c cs. act_result ss (record a { condition = c; stack = cs })) h
     (λ c cs. no_longer n ss (record a { condition = c; stack = cs }) h)
 
-pub not_empty : (ss : List Statement) (a : Acting) → LessFromOne ss → 1 ≤ length a.text → Leaves (λ b. 1 ≤ length b.text) (act ss a)
+pub not_empty : (ss : List Statement) (a : Acting) → LessFromOne ss → 1 ≤ length a.text → Leaves (λ b. 1 ≤ length b.text) (act_result ss a)
 not_empty [] a l h = h
 not_empty (Echo ∷ ss) a l h = not_empty ss (record a { written = a.written ++ a.text }) l h
 not_empty (Print s ∷ ss) a l h = not_empty ss (record a { written = a.written ++ s }) l h
@@ -60,13 +63,13 @@ not_empty (Less m ∷ ss) a l h = let e : length (take m a.text) ≡ min m (leng
 not_empty (Reject ∷ ss) a l h = tt
 not_empty (End s ∷ ss) a l h = h
 not_empty (Push d ∷ ss) a l h =
-    unless_full (λ b. 1 ≤ length b.text) (has_room a.stack) a (act ss (record a { condition = d; stack = a.condition ∷ a.stack })) h
+    unless_full (λ b. 1 ≤ length b.text) (has_room a.stack) a (act_result ss (record a { condition = d; stack = a.condition ∷ a.stack })) h
     (not_empty ss (record a { condition = d; stack = a.condition ∷ a.stack }) l h)
 not_empty (Pop ∷ ss) a l h =
-    unless_empty (λ b. 1 ≤ length b.text) a.stack a (λ c cs. act ss (record a { condition = c; stack = cs })) h
+    unless_empty (λ b. 1 ≤ length b.text) a.stack a (λ c cs. act_result ss (record a { condition = c; stack = cs })) h
     (λ c cs. not_empty ss (record a { condition = c; stack = cs }) l h)
 
-same_text : (n : ℕ) (ss : List Statement) (a : Acting) → has_less ss ≡ false → length a.text ≡ n → Leaves (λ b. length b.text ≡ n) (act ss a)
+same_text : (n : ℕ) (ss : List Statement) (a : Acting) → has_less ss ≡ false → length a.text ≡ n → Leaves (λ b. length b.text ≡ n) (act_result ss a)
 same_text n [] a l h = h
 same_text n (Echo ∷ ss) a l h = same_text n ss (record a { written = a.written ++ a.text }) l h
 same_text n (Print s ∷ ss) a l h = same_text n ss (record a { written = a.written ++ s }) l h
@@ -76,13 +79,13 @@ same_text n (Less m ∷ ss) a l h = no_true l
 same_text n (Reject ∷ ss) a l h = tt
 same_text n (End s ∷ ss) a l h = h
 same_text n (Push d ∷ ss) a l h =
-    unless_full (λ b. length b.text ≡ n) (has_room a.stack) a (act ss (record a { condition = d; stack = a.condition ∷ a.stack })) h
+    unless_full (λ b. length b.text ≡ n) (has_room a.stack) a (act_result ss (record a { condition = d; stack = a.condition ∷ a.stack })) h
     (same_text n ss (record a { condition = d; stack = a.condition ∷ a.stack }) l h)
 same_text n (Pop ∷ ss) a l h =
-    unless_empty (λ b. length b.text ≡ n) a.stack a (λ c cs. act ss (record a { condition = c; stack = cs })) h
+    unless_empty (λ b. length b.text ≡ n) a.stack a (λ c cs. act_result ss (record a { condition = c; stack = cs })) h
     (λ c cs. same_text n ss (record a { condition = c; stack = cs }) l h)
 
-no_more : (ss : List Statement) (a : Acting) → has_more ss ≡ false → a.more ≡ false → Leaves (λ b. b.more ≡ false) (act ss a)
+no_more : (ss : List Statement) (a : Acting) → has_more ss ≡ false → a.more ≡ false → Leaves (λ b. b.more ≡ false) (act_result ss a)
 no_more [] a l h = h
 no_more (Echo ∷ ss) a l h = no_more ss (record a { written = a.written ++ a.text }) l h
 no_more (Print s ∷ ss) a l h = no_more ss (record a { written = a.written ++ s }) l h
@@ -92,10 +95,10 @@ no_more (Less m ∷ ss) a l h = no_more ss (record a { text = take m a.text }) l
 no_more (Reject ∷ ss) a l h = tt
 no_more (End s ∷ ss) a l h = h
 no_more (Push d ∷ ss) a l h =
-    unless_full (λ b. b.more ≡ false) (has_room a.stack) a (act ss (record a { condition = d; stack = a.condition ∷ a.stack })) h
+    unless_full (λ b. b.more ≡ false) (has_room a.stack) a (act_result ss (record a { condition = d; stack = a.condition ∷ a.stack })) h
     (no_more ss (record a { condition = d; stack = a.condition ∷ a.stack }) l h)
 no_more (Pop ∷ ss) a l h =
-    unless_empty (λ b. b.more ≡ false) a.stack a (λ c cs. act ss (record a { condition = c; stack = cs })) h
+    unless_empty (λ b. b.more ≡ false) a.stack a (λ c cs. act_result ss (record a { condition = c; stack = cs })) h
     (λ c cs. no_more ss (record a { condition = c; stack = cs }) l h)
 
 -- The outcome of a match over `kept` bytes and a rest of `left`: the text lies inside, and it is kept whole and longer
@@ -109,20 +112,20 @@ on_went P Q S (Done a) h k f = f a h k
 on_went P Q S (Again a) h k f = tt
 on_went P Q S (Over a e) h k f = f a h k
 
-act_goes_on : (n kept left : ℕ) (ss : List Statement) (a : Acting) → IsAction n ss → a.more ≡ false → kept < length a.text → length a.text ≤ kept + left → Leaves (GoesOn kept left) (act ss a)
+act_goes_on : (n kept left : ℕ) (ss : List Statement) (a : Acting) → IsAction n ss → a.more ≡ false → kept < length a.text → length a.text ≤ kept + left → Leaves (GoesOn kept left) (act_result ss a)
 act_goes_on n kept left ss a legal more some inside = from (apart n ss legal)
   where
-    size : Leaves (λ b. length b.text ≤ kept + left) (act ss a)
+    size : Leaves (λ b. length b.text ≤ kept + left) (act_result ss a)
     size = no_longer (kept + left) ss a inside
 
-    from : (has_less ss ≡ false) ⊎ (has_more ss ≡ false) → Leaves (GoesOn kept left) (act ss a)
+    from : (has_less ss ≡ false) ⊎ (has_more ss ≡ false) → Leaves (GoesOn kept left) (act_result ss a)
     from (inl l) =
-        on_went (λ b. length b.text ≤ kept + left) (λ b. length b.text ≡ length a.text) (GoesOn kept left) (act ss a) size (same_text (length a.text) ss a l refl)
+        on_went (λ b. length b.text ≤ kept + left) (λ b. length b.text ≡ length a.text) (GoesOn kept left) (act_result ss a) size (same_text (length a.text) ss a l refl)
         (λ b p q. record { inside = p; grows = inl (omega (arith, q, some)) })
     from (inr m) =
-        let both : Leaves (λ b. (1 ≤ length b.text) × (b.more ≡ false)) (act ss a) =
-        on_went (λ b. 1 ≤ length b.text) (λ b. b.more ≡ false) (λ b. (1 ≤ length b.text) × (b.more ≡ false)) (act ss a) (not_empty ss a (less_from_one n ss legal.ranges) (omega arith)) (no_more ss a m more) (λ b p q. (p, q)) in
-        on_went (λ b. length b.text ≤ kept + left) (λ b. (1 ≤ length b.text) × (b.more ≡ false)) (GoesOn kept left) (act ss a) size both (λ b p q. record { inside = p; grows = inr q })
+        let both : Leaves (λ b. (1 ≤ length b.text) × (b.more ≡ false)) (act_result ss a) =
+        on_went (λ b. 1 ≤ length b.text) (λ b. b.more ≡ false) (λ b. (1 ≤ length b.text) × (b.more ≡ false)) (act_result ss a) (not_empty ss a (less_from_one n ss legal.ranges) (omega arith)) (no_more ss a m more) (λ b p q. (p, q)) in
+        on_went (λ b. length b.text ≤ kept + left) (λ b. (1 ≤ length b.text) × (b.more ≡ false)) (GoesOn kept left) (act_result ss a) size both (λ b p q. record { inside = p; grows = inr q })
 
 abbrev pub GoodMatch : ℕ → ℕ → Option Matched → Type 0
 GoodMatch kept left r = (o : Matched) × (r ≡ Some o) × GoesOn kept left o.after
@@ -142,25 +145,25 @@ module _ (R : Rules) (legal : (i : ℕ) → i < R.count → IsAction R.condition
   default_echoes i e = cond-false (nat_lt i R.count) (R.statements i) (Echo ∷ []) (le-ltb i R.count (omega arith))
 
   pub perform_good : (kept y : List ℕ) (ms : List Candidate) (out : List ℕ) (c : ℕ) (cs : List ℕ) → ((m : Candidate) → Among ms m → (1 ≤ m.keep) × (m.keep ≤ length y)) →
-      (d : Candidate) → Among ms d → d.rule ≡ R.count → GoodMatch (length kept) (length y) (perform R kept y ms out c cs)
-  unfolding perform
+      (d : Candidate) → Among ms d → d.rule ≡ R.count → GoodMatch (length kept) (length y) (perform_results R kept y ms out c cs)
+  unfolding perform_results
   perform_good kept y [] out c cs h d among is = absurd among
   perform_good kept y (m ∷ ms) out c cs h d among is =
       let a : Acting = record { text = kept ++ take m.keep y; written = out; condition = c; stack = cs; more = false } in
       let k = h m (inl refl) in
       let size : length (kept ++ take m.keep y) ≡ length kept + m.keep = length-append kept (take m.keep y) ∙ ap (λ n. length kept + n) (length-take-le m.keep y k.1) in
-      settle_good (length kept) (length y) (act (statements_of R m.rule) a) (λ b. perform R kept y ms b.written b.condition b.stack)
+      settle_good (length kept) (length y) (act_result (statements_of R m.rule) a) (λ b. perform_results R kept y ms b.written b.condition b.stack)
       (act_goes_on R.conditions (length kept) (length y) (statements_of R m.rule) a (legal_of m.rule (cases_lt m.rule R.count)) refl (omega (arith, k.0)) (omega (arith, k.1)))
       (λ b again. perform_good kept y ms b.written b.condition b.stack (λ n i. h n (inr i)) d (in_rest a b again among) is)
     where
       not_again : (a b : Acting) → Done a ≡ Again b → ⊥
       not_again a b e = cc
 
-      in_rest : (a b : Acting) → act (statements_of R m.rule) a ≡ Again b → Among (m ∷ ms) d → Among ms d
+      in_rest : (a b : Acting) → act_result (statements_of R m.rule) a ≡ Again b → Among (m ∷ ms) d → Among ms d
       in_rest a b again (inr k) = k
       in_rest a b again (inl e) =
           let rule : m.rule ≡ R.count = ap (λ (z : Candidate). z.rule) (sym e) ∙ is in
-          absurd (not_again (record a { written = a.written ++ a.text }) b (ap (λ ss. act ss a) (sym (default_echoes m.rule rule)) ∙ again))
+          absurd (not_again (record a { written = a.written ++ a.text }) b (ap (λ ss. act_result ss a) (sym (default_echoes m.rule rule)) ∙ again))
 
 -- A place in order, inside the input.
 pub record Inside (x : List ℕ) (p : Place) : Type 0 where
@@ -203,14 +206,14 @@ moves_from x p o h g None is =
 module _ (R : Rules) (l : Laws R) (legal : (i : ℕ) → i < R.count → IsAction R.conditions (R.statements i))
     (exist : (c : ℕ) (line_start : Bool) (y : List ℕ) → (ms : List Candidate) × Candidates R c line_start y ms) (x : List ℕ) where
   pub keep_bounds : (c : ℕ) (line_start : Bool) (y : List ℕ) (m : Candidate) → IsCandidate R c line_start y m → (1 ≤ m.keep) × (m.keep ≤ length y)
-  keep_bounds c line_start y m h = from h.fits
+  keep_bounds c line_start y m h = from h.1
     where
       n : length (take m.len y) ≡ m.len
-      n = length-take-le m.len y h.inside
+      n = length-take-le m.len y h.0
 
       from : Full R c line_start (take m.len y) m.rule m.keep → (1 ≤ m.keep) × (m.keep ≤ length y)
-      from (inl f) = (l.some_text c line_start (take m.len y) m.rule m.keep f.1, omega (arith, l.inside c line_start (take m.len y) m.rule m.keep f.1, n, h.inside))
-      from (inr f) = (omega (arith, f.2), omega (arith, f.1, f.2, n, h.inside))
+      from (inl f) = (l.some_text c line_start (take m.len y) m.rule m.keep f.1, omega (arith, l.inside c line_start (take m.len y) m.rule m.keep f.1, n, h.0))
+      from (inr f) = (omega (arith, f.2), omega (arith, f.1, f.2, n, h.0))
 
   pub turn_exists : (p : Place) → Inside x p → (s : State) × Turn R x p s × Moves x p s
   turn_exists p h = from (cases_lt p.at (length x))
@@ -228,12 +231,12 @@ module _ (R : Rules) (l : Laws R) (legal : (i : ℕ) → i < R.count → IsActio
           let before : length kept ≡ p.at - p.start = length-take-le (p.at - p.start) (drop p.start x) (rw length-drop (omega (arith, h.ordered, h.fits))) in
           let one : Candidate = record { len = 1; rule = R.count; keep = 1 } in
           let some : 1 ≤ length y = omega arith in
-          let among : Among listed.0 one = (listed.1.members one).1 (record { inside = some; fits = inr (refl, length-take-le 1 y some, refl) }) in
+          let among : Among listed.0 one = (listed.1.members one).1 (some, inr (refl, length-take-le 1 y some, refl)) in
           let good = perform_good R legal kept y listed.0 [] p.condition p.stack (λ m a. keep_bounds p.condition line_start y m ((listed.1.members m).0 a)) one among refl in
           let o : Matched = good.0 in
           let u : State = record { written = o.after.written; place = next_place p o; ended = o.ended } in
           let goes : GoesOn (p.at - p.start) (length x - p.at) o.after = subst (λ n. GoesOn (p.at - p.start) n o.after) left (subst (λ n. GoesOn n (length y) o.after) before good.2) in
-          (u, inl (record { before_end = lt; matches = listed.0; all = listed.1; outcome = o; performed = good.1; leaves = refl }), moves_from x p o h goes o.ended refl)
+          (u, inl (record { before_end = lt; matches = listed.0; all = listed.1; outcome = o; performed = results_are _ _ _ _ _ _ _ ∙ good.1; leaves = refl }), moves_from x p o h goes o.ended refl)
 
   -- from a state that has not ended the scan ends
   abbrev pub Ends : State → Type 0
@@ -279,4 +282,4 @@ module _ (R : Rules) (l : Laws R) (legal : (i : ℕ) → i < R.count → IsActio
   pub run_exists : (w : List ℕ) × (e : Ending) × Run R x w e
   run_exists =
       let r = outer (length x) first_state refl (record { ordered = omega arith; fits = omega arith }) (omega arith) 0 refl in
-      (r.1.written, r.2, record { turns = r.0; last = r.1; reached = r.3; writes = refl; ends = r.4 })
+      (r.1.written, r.2, run_by R x r.1.written r.2 r.0 r.1 r.3 refl r.4)

@@ -40,7 +40,7 @@ many_fits false line_start = word_fits (E.many_or_two false) 0 line_start a 0 (r
 
 pub later_rule : Useless (E.many_or_two false) 1
 unfolding aa many
-later_rule = (omega arith, λ c line_start w lt text h. earlier c line_start w h)
+later_rule = (omega arith, λ c line_start w lt text h. (let before = earlier c line_start w h in (refl, before.0, before.1, before.2)))
   where
     earlier : (c : ℕ) (line_start : Bool) (w : List ℕ) → HasFit (E.many_or_two false) c line_start w 1 → (j : ℕ) × (j < 1) × HasFit (E.many_or_two false) c line_start w j
     earlier c line_start w (k, fits) =
@@ -50,7 +50,7 @@ later_rule = (omega arith, λ c line_start w lt text h. earlier c line_start w h
 
 pub first_rule : Useless (E.many_or_two false) 0 → ⊥
 unfolding a
-first_rule h = let earlier = h.1 0 false a (omega arith) (omega arith, tt) (1, many_fits false false) in omega (arith, earlier.1)
+first_rule h = let earlier = h.1 0 false a (omega arith) (omega arith, tt) (1, many_fits false false) in omega (arith, earlier.2)
 
 pub no_rule : Useless (E.many_or_two false) 2 → ⊥
 no_rule h = omega (arith, h.0)
@@ -58,11 +58,12 @@ no_rule h = omega (arith, h.0)
 pub later_with_reject : Useless (E.many_or_two true) 1 → ⊥
 unfolding aa
 later_with_reject h =
-    h.1 0 false aa (omega arith) (omega arith, (omega arith, tt))
-    (2, word_fits (E.many_or_two true) 0 false aa 1 (rule (string (codes "aa")) []) refl refl refl two_in (omega arith))
+    let fits = h.1 0 false aa (omega arith) (omega arith, (omega arith, tt))
+    (2, word_fits (E.many_or_two true) 0 false aa 1 (rule (string (codes "aa")) []) refl refl refl two_in (omega arith)) in
+    let none = fits.0 in cc
 
 pub never_fits : Useless E.nothing_or_a 0
-never_fits = (omega arith, λ c line_start w lt text h. empty c line_start w h)
+never_fits = (omega arith, λ c line_start w lt text h. absurd (empty c line_start w h))
   where
     empty : (c : ℕ) (line_start : Bool) (w : List ℕ) → HasFit E.nothing_or_a c line_start w 0 → ⊥
     empty c line_start w (k, fits) =

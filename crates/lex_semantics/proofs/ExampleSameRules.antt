@@ -2,6 +2,7 @@
 use Rattle.std.proofs.Common.{◌≡◌, ℕ, zero, suc, Bool, true, List, [], ◌∷◌, ◌++◌, length, Some, refl, sym, ◌∙◌, ap, subst, arith}
 use Rattle.std.specs.Prelude.{codes, slice_get}
 use Rattle.std.proofs.lemmas.List.{append-nil}
+use Rattle.lex_semantics.proofs.WordReadings.{to_joined, of_joined}
 use Rattle.lex_semantics.specs.Tree.{Tree, Joined, In}
 use Rattle.lex_semantics.specs.Spec.{Rule, Statement, Echo, Whole, Head}
 use Rattle.lex_semantics.specs.Fits.{Fits}
@@ -18,12 +19,12 @@ no_rules (suc i) r e = cc
 
 to_one : (w : List ℕ) → In E.many w → In E.one_and_any w
 to_one w (zero, some, bound, joined) = absurd (omega (arith, some))
-to_one w (suc k, some, bound, (u, v, e, here, rest)) = (u, v, e, here, (v, [], sym (append-nil v), (k, rest), refl))
+to_one w (suc k, some, bound, (u, v, e, here, rest)) = (u, v, e, here, (v, [], sym (append-nil v), (k, of_joined (In (letter 97)) 0 k v (to_joined (In (letter 97)) 1 k v rest)), refl))
 
 to_many : (w : List ℕ) → In E.one_and_any w → In E.many w
 to_many w (u, v, e, here, (x, y, e', (k, joined), none)) =
     let same : v ≡ x = e' ∙ ap (λ z. x ++ z) none ∙ append-nil x in
-    (suc k, omega arith, tt, (u, v, e, here, subst (Joined (In (letter 97)) k) (sym same) joined))
+    (suc k, omega arith, tt, (u, v, e, here, of_joined (In (letter 97)) 1 k v (subst (Joined (In (letter 97)) k) (sym same) (to_joined (In (letter 97)) 0 k x joined))))
 
 -- a rule whose pattern has the words of another
 module _ (t u : Tree) (on : (w : List ℕ) → In t w → In u w) where

@@ -2,7 +2,7 @@
 use Rattle.std.proofs.Common.{◌≡◌, ℕ, zero, suc, ◌≤◌, List, [], ◌∷◌, length, Some, None, refl, ap, subst, arith}
 use Rattle.std.specs.Prelude.{codes, slice_get, replicate}
 use Rattle.std.proofs.lemmas.List.{length-replicate}
-use Rattle.lex_semantics.specs.ByteSets.{IsIn, has, single, union, set_of, set_below}
+use Rattle.lex_semantics.specs.ByteSets.{IsIn, has, single, union, set_of}
 use Rattle.lex_semantics.specs.Tree.{Tree, Set, Repeat, In}
 use Rattle.lex_semantics.specs.Spec.{Rule, Condition, Head, Trail}
 use Rattle.lex_semantics.specs.Legal.{IsLegal}
@@ -39,7 +39,7 @@ fixed_string : (bs : List ℕ) → AllAlone bs → length bs ≤ 65535 → HasFi
 fixed_string bs alone few = one_word (string bs) bs (string_in bs alone) (string_is bs alone) few
 
 legal_none : IsLegal 1 []
-legal_none = record { ranges = refl; last = refl; joined = refl; compatible = refl }
+legal_none = (record { ranges = refl; last = refl; compatible = refl }, refl)
 
 ab : AllAlone (97 ∷ 98 ∷ [])
 ab = (is_a, (is_b, tt))
@@ -58,8 +58,8 @@ head_cuts = of_initial _ (λ i r e. only_rule (IsSoundRule 1) _ sides i r e)
     sides : IsSoundRule 1 (rule_before (string (codes "ab")) (string (codes "cd")) (Head 2) [])
     sides = record {
       listed = tt;
-      head = (((97, is_a.0), ((98, is_b.0), tt)), tt);
-      trail = (((99, is_c.0), ((100, is_d.0), tt)), tt);
+      head = (((97, is_a.0), ((98, is_b.0), tt)), λ e. cc);
+      trail = (((99, is_c.0), ((100, is_d.0), tt)), λ e. cc);
       cut = fixed_string (97 ∷ 98 ∷ []) ab (omega arith);
       legal = legal_none;
     }
@@ -79,7 +79,7 @@ blank : Tree
 blank = Set (union (single 32) (single 9))
 
 space : IsIn (union (single 32) (single 9)) 32
-unfolding has single union set_of set_below
+unfolding has single union set_of
 space = (omega arith, refl)
 
 not_fixed : (m : ℕ) → HasFixed (Repeat blank 1 None) m → ⊥

@@ -3,7 +3,8 @@ use Rattle.std.proofs.Common.{◌≡◌, ℕ, zero, suc, ◌≤◌, ◌<◌, Boo
 use Rattle.std.specs.Prelude.{nat_eq, slice_get}
 use Rattle.std.proofs.lemmas.List.{append-nil}
 use Rattle.std.proofs.lemmas.Bool.{and_parts, eqb-true}
-use Rattle.lex_semantics.specs.ByteSets.{IsIn, has, single, set_of, set_below}
+use Rattle.lex_semantics.proofs.Splits.{split_of, of_split}
+use Rattle.lex_semantics.specs.ByteSets.{IsIn, has, single, set_of}
 use Rattle.lex_semantics.specs.Tree.{In, InEach}
 use Rattle.lex_semantics.specs.Spec.{Spec, Rule}
 use Rattle.lex_semantics.specs.Active.{active}
@@ -42,23 +43,23 @@ alone_by : (b : ℕ) → b < 256 → has (single b) b ≡ true → passes_at 256
 alone_by b lt is all = ((lt, is), λ c h. passes_only 256 (has (single b)) b all c h.0 h.1)
 
 pub is_a : IsAlone 97
-unfolding has single set_of set_below passes_at
+unfolding has single set_of passes_at
 is_a = alone_by 97 (omega arith) refl refl
 
 pub is_b : IsAlone 98
-unfolding has single set_of set_below passes_at
+unfolding has single set_of passes_at
 is_b = alone_by 98 (omega arith) refl refl
 
 pub is_c : IsAlone 99
-unfolding has single set_of set_below passes_at
+unfolding has single set_of passes_at
 is_c = alone_by 99 (omega arith) refl refl
 
 pub is_d : IsAlone 100
-unfolding has single set_of set_below passes_at
+unfolding has single set_of passes_at
 is_d = alone_by 100 (omega arith) refl refl
 
 pub is_newline : IsAlone 10
-unfolding has single set_of set_below passes_at
+unfolding has single set_of passes_at
 is_newline = alone_by 10 (omega arith) refl refl
 
 -- the words of a letter, and of a string
@@ -85,7 +86,7 @@ string_in (b ∷ bs) alone = (b ∷ [], bs, refl, letter_in b alone.0, string_in
 
 module _ (S : Spec) (c : ℕ) (line_start : Bool) (w : List ℕ) (i : ℕ) (r : Rule) (at : slice_get S.rules i ≡ Some r) (plain : r.trail ≡ None) where
   pub word_fits : active S c line_start r ≡ true → In r.head w → 1 ≤ length w → Fits S c line_start w i (length w)
-  word_fits on word some = record {
+  word_fits on word some = of_split S c line_start w i (length w) (record {
     rule = r;
     at = at;
     is_active = on;
@@ -96,10 +97,11 @@ module _ (S : Spec) (c : ℕ) (line_start : Bool) (w : List ℕ) (i : ℕ) (r : 
     not_empty = some;
     in_head = word;
     in_trail = subst (λ t. InTrail t []) (sym plain) refl;
-  }
+  })
 
   pub fits_word : (k : ℕ) → Fits S c line_start w i k → In r.head w × (active S c line_start r ≡ true) × (1 ≤ length w)
-  fits_word k h =
+  fits_word k fits =
+      let h = split_of S c line_start w i k fits in
       let same : h.rule ≡ r = same_rule S i h.rule r h.at at in
       let none : h.trail ≡ [] = subst (λ t. InTrail t h.trail) plain (subst (λ (q : Rule). InTrail q.trail h.trail) same h.in_trail) in
       let whole : h.text ≡ w = sym (append-nil h.text) ∙ ap (λ z. h.text ++ z) (sym none) ∙ sym h.splits in (
@@ -109,7 +111,8 @@ module _ (S : Spec) (c : ℕ) (line_start : Bool) (w : List ℕ) (i : ℕ) (r : 
       )
 
   pub fits_length : (k : ℕ) → Fits S c line_start w i k → k ≡ length w
-  fits_length k h =
+  fits_length k fits =
+      let h = split_of S c line_start w i k fits in
       let same : h.rule ≡ r = same_rule S i h.rule r h.at at in
       let none : h.trail ≡ [] = subst (λ t. InTrail t h.trail) plain (subst (λ (q : Rule). InTrail q.trail h.trail) same h.in_trail) in
       h.length_is ∙ ap length (sym (append-nil h.text) ∙ ap (λ z. h.text ++ z) (sym none) ∙ sym h.splits)

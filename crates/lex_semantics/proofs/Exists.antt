@@ -78,8 +78,8 @@ candidates_exist S sound c line_start y =
     agree m n a b len rule =
         let p : IsCandidate (rules_of S) c line_start y m = (listed_are S c line_start y m).0 a in
         let q : IsCandidate (rules_of S) c line_start y n = (listed_are S c line_start y n).0 b in
-        one_keep S sound c line_start (take m.len y) m.rule m.keep n.keep p.fits
-        (subst (λ i. Full (rules_of S) c line_start (take m.len y) i n.keep) (sym rule) (subst (λ j. Full (rules_of S) c line_start (take j y) n.rule n.keep) (sym len) q.fits))
+        one_keep S sound c line_start (take m.len y) m.rule m.keep n.keep p.1
+        (subst (λ i. Full (rules_of S) c line_start (take m.len y) i n.keep) (sym rule) (subst (λ j. Full (rules_of S) c line_start (take j y) n.rule n.keep) (sym len) q.1))
 
 pub ordered_exists : (ms : List Candidate) → ((m n : Candidate) → Among ms m → Among ms n → Agree m n) → (ns : List Candidate) × (ordered ms ≡ Some ns)
 unfolding IsGiven

@@ -6,7 +6,8 @@ use Rattle.std.proofs.lemmas.List.{append-nil, append_assoc}
 use Rattle.lex_semantics.specs.Text.{Among, Ascending, BeginsWith}
 use Rattle.lex_semantics.specs.Spec.{Statement, Echo, Print, Begin, More, Less, Reject, End, Push, Pop}
 use Rattle.lex_semantics.specs.Rules.{Rules, statements_of}
-use Rattle.lex_semantics.specs.Acting.{Acting, StackFault, ActionResult, Done, Again, Over, Matched, act, has_room, popped, settle, perform}
+use Rattle.lex_semantics.specs.Acting.{Acting, StackFault, Matched}
+use Rattle.lex_semantics.specs.ActionResults.{ActionResult, Done, Again, Over, act_result, has_room, popped, settle, perform_results}
 use Rattle.lex_semantics.specs.Candidates.{Candidate, Before, InOrder, Candidates}
 use Rattle.lex_semantics.specs.Machine.{Machine, rules_of_machine}
 use Rattle.lex_semantics.specs.MachineLaws.{MachineLaws}
@@ -142,18 +143,18 @@ empty_adds : (cs : List ℕ) (a : Acting) (next : ℕ → List ℕ → ActionRes
 empty_adds [] a next h = ([], sym (append-nil a.written))
 empty_adds (c ∷ cs) a next h = h c cs
 
-pub act_adds : (ss : List Statement) (a : Acting) → BeginsWith (acting_after (act ss a)).written a.written
+pub act_adds : (ss : List Statement) (a : Acting) → BeginsWith (acting_after (act_result ss a)).written a.written
 act_adds [] a = ([], sym (append-nil a.written))
-act_adds (Echo ∷ ss) a = begins_trans a.written (a.written ++ a.text) (acting_after (act (Echo ∷ ss) a)).written (act_adds ss (record a { written = a.written ++ a.text })) (a.text, refl)
-act_adds (Print s ∷ ss) a = begins_trans a.written (a.written ++ s) (acting_after (act (Print s ∷ ss) a)).written (act_adds ss (record a { written = a.written ++ s })) (s, refl)
+act_adds (Echo ∷ ss) a = begins_trans a.written (a.written ++ a.text) (acting_after (act_result (Echo ∷ ss) a)).written (act_adds ss (record a { written = a.written ++ a.text })) (a.text, refl)
+act_adds (Print s ∷ ss) a = begins_trans a.written (a.written ++ s) (acting_after (act_result (Print s ∷ ss) a)).written (act_adds ss (record a { written = a.written ++ s })) (s, refl)
 act_adds (Begin d ∷ ss) a = act_adds ss (record a { condition = d })
 act_adds (More ∷ ss) a = act_adds ss (record a { more = true })
 act_adds (Less n ∷ ss) a = act_adds ss (record a { text = take n a.text })
 act_adds (Reject ∷ ss) a = ([], sym (append-nil a.written))
 act_adds (End s ∷ ss) a = ([], sym (append-nil a.written))
 act_adds (Push d ∷ ss) a =
-    full_adds (has_room a.stack) a (act ss (record a { condition = d; stack = a.condition ∷ a.stack })) (act_adds ss (record a { condition = d; stack = a.condition ∷ a.stack }))
-act_adds (Pop ∷ ss) a = empty_adds a.stack a (λ c cs. act ss (record a { condition = c; stack = cs })) (λ c cs. act_adds ss (record a { condition = c; stack = cs }))
+    full_adds (has_room a.stack) a (act_result ss (record a { condition = d; stack = a.condition ∷ a.stack })) (act_adds ss (record a { condition = d; stack = a.condition ∷ a.stack }))
+act_adds (Pop ∷ ss) a = empty_adds a.stack a (λ c cs. act_result ss (record a { condition = c; stack = cs })) (λ c cs. act_adds ss (record a { condition = c; stack = cs }))
 
 some_same : {A : Type 0} (a b : A) → Some a ≡ Some b → a ≡ b
 some_same a b e = cc
@@ -163,12 +164,12 @@ settle_adds (Done a) f v o h later e = subst (λ (z : Matched). BeginsWith z.aft
 settle_adds (Again a) f v o h later e = begins_trans v a.written o.after.written (later a e) h
 settle_adds (Over a d) f v o h later e = subst (λ (z : Matched). BeginsWith z.after.written v) (some_same (record { after = a; ended = Some d }) o e) h
 
-pub perform_adds : (R : Rules) (kept y : List ℕ) (ms : List Candidate) (w : List ℕ) (c : ℕ) (cs : List ℕ) (o : Matched) → perform R kept y ms w c cs ≡ Some o → BeginsWith o.after.written w
-unfolding perform
+pub perform_adds : (R : Rules) (kept y : List ℕ) (ms : List Candidate) (w : List ℕ) (c : ℕ) (cs : List ℕ) (o : Matched) → perform_results R kept y ms w c cs ≡ Some o → BeginsWith o.after.written w
+unfolding perform_results
 perform_adds R kept y [] w c cs o e = absurd (no e)
   where
     no : None ≡ Some o → ⊥
     no p = cc
 perform_adds R kept y (m ∷ ms) w c cs o e =
     let a : Acting = record { text = kept ++ take m.keep y; written = w; condition = c; stack = cs; more = false } in
-    settle_adds (act (statements_of R m.rule) a) (λ b. perform R kept y ms b.written b.condition b.stack) w o (act_adds (statements_of R m.rule) a) (λ b p. perform_adds R kept y ms b.written b.condition b.stack o p) e
+    settle_adds (act_result (statements_of R m.rule) a) (λ b. perform_results R kept y ms b.written b.condition b.stack) w o (act_adds (statements_of R m.rule) a) (λ b p. perform_adds R kept y ms b.written b.condition b.stack o p) e

@@ -3,8 +3,9 @@ use Rattle.std.proofs.Common.{zero-add, ◌≡◌, ℕ, zero, suc, ◌+◌, ◌-
 use Rattle.std.specs.Prelude.{nat_lt, nat_le, ◌&&◌, flat_map, if◌then◌else◌}
 use Rattle.std.proofs.lemmas.List.{append_assoc, length-append}
 use Rattle.std.proofs.lemmas.Bool.{ltb-true, lt-ltb, leb-true, le-leb, cond-true, and_parts, and_from}
+use Rattle.lex_semantics.proofs.WordReadings.{to_joined, of_joined}
 use Rattle.lex_semantics.specs.Text.{Among}
-use Rattle.lex_semantics.specs.Tree.{Tree, Trees, Empty, Set, Cat, Alt, Star, Repeat, no_trees, tree, In, InEach, InSome, Joined, UpTo}
+use Rattle.lex_semantics.specs.Tree.{Tree, Trees, Empty, Set, Cat, Alt, Star, Repeat, no_trees, tree, In, InEach, InSome, Joined, Passes, UpTo}
 use Rattle.lex_semantics.specs.Plain.{Fronts, byte_front, times, up_to, shorter, rounds, any_times, repeated, fronts, fronts_each, fronts_some}
 use Rattle.lex_semantics.specs.ByteSets.{ByteSet, has}
 
@@ -173,13 +174,13 @@ joined_apart P (suc m) j w h =
 
 -- the words of a repetition
 abbrev pub Times : (List ℕ → Type 0) → ℕ → Option ℕ → List ℕ → Type 0
-Times P m n w = (k : ℕ) × (m ≤ k) × UpTo n k × Joined P k w
+Times P m n w = (k : ℕ) × (m ≤ k) × UpTo n k × Passes (λ i. P) 0 k w
 
 module _ (f : Fronts) (P : List ℕ → Type 0) (are : AreFronts f P) where
-  any_times_are : AreFronts (any_times f) (λ w. (k : ℕ) × Joined P k w)
+  any_times_are : AreFronts (any_times f) (λ w. (k : ℕ) × Passes (λ i. P) 0 k w)
   any_times_are = record {
-    sound = λ w v h. (let r = rounds_sound f P are (length w) w v h in (r.1.0, r.1.1, (r.0, r.1.2)));
-    complete = λ w v h. rounds_complete f P are h.2.0 (length w) w v (omega arith) (h.0, h.1, h.2.1);
+    sound = λ w v h. (let r = rounds_sound f P are (length w) w v h in (r.1.0, r.1.1, (r.0, of_joined P 0 r.0 r.1.0 r.1.2)));
+    complete = λ w v h. rounds_complete f P are h.2.0 (length w) w v (omega arith) (h.0, h.1, to_joined P 0 h.2.0 h.0 h.2.1);
   }
 
   repeated_sound : (m : ℕ) (n : Option ℕ) (w v : List ℕ) → Among (repeated f m n w) v → Leaves (Times P m n) w v
@@ -187,7 +188,7 @@ module _ (f : Fronts) (P : List ℕ → Type 0) (are : AreFronts f P) where
       let mid = flat_map_among (any_times f) (times f m w) v h in
       let a = times_sound f P are m w mid.0 mid.1 in
       let b = rounds_sound f P are (length mid.0) mid.0 v mid.2 in
-      (a.0 ++ b.1.0, leaves_more (Joined P m) (Joined P b.0) w mid.0 v a b.1, (m + b.0, omega arith, tt, joined_together P m b.0 a.0 b.1.0 a.2 b.1.2))
+      (a.0 ++ b.1.0, leaves_more (Joined P m) (Joined P b.0) w mid.0 v a b.1, (m + b.0, omega arith, tt, of_joined P 0 (m + b.0) _ (joined_together P m b.0 a.0 b.1.0 a.2 b.1.2)))
   repeated_sound m (Some n) w v h = from (nat_le m n) refl h
     where
       from : (b : Bool) → nat_le m n ≡ b → Among (if b then flat_map (up_to f (n - m)) (times f m w) else []) v → Leaves (Times P m (Some n)) w v
@@ -199,19 +200,19 @@ module _ (f : Fronts) (P : List ℕ → Type 0) (are : AreFronts f P) where
           let b = up_to_sound f P are (n - m) mid.0 v mid.2 in (
             a.0 ++ b.2.0,
             leaves_more (Joined P m) (Joined P b.0) w mid.0 v a b.2,
-            (m + b.0, omega arith, omega (arith, b.1), joined_together P m b.0 a.0 b.2.0 a.2 b.2.2),
+            (m + b.0, omega arith, omega (arith, b.1), of_joined P 0 (m + b.0) _ (joined_together P m b.0 a.0 b.2.0 a.2 b.2.2)),
           )
 
   repeated_complete : (m : ℕ) (n : Option ℕ) (w v : List ℕ) → Leaves (Times P m n) w v → Among (repeated f m n w) v
   repeated_complete m None w v (u, e, (k, le, top, js)) =
       let sum : k ≡ m + (k - m) = omega arith in
-      let r = joined_apart P m (k - m) u (subst (λ i. Joined P i u) sum js) in
+      let r = joined_apart P m (k - m) u (subst (λ i. Joined P i u) sum (to_joined P 0 k u js)) in
       among_flat_map (any_times f) (times f m w) (r.1 ++ v) v
       (times_complete f P are m w (r.1 ++ v) (r.0, e ∙ ap (λ z. z ++ v) r.2 ∙ append_assoc r.0 r.1 v, r.3))
       (rounds_complete f P are (k - m) (length (r.1 ++ v)) (r.1 ++ v) v (omega arith) (r.1, refl, r.4))
   repeated_complete m (Some n) w v (u, e, (k, le, top, js)) =
       let sum : k ≡ m + (k - m) = omega arith in
-      let r = joined_apart P m (k - m) u (subst (λ i. Joined P i u) sum js) in
+      let r = joined_apart P m (k - m) u (subst (λ i. Joined P i u) sum (to_joined P 0 k u js)) in
       let inside : Among (flat_map (up_to f (n - m)) (times f m w)) v =
       among_flat_map (up_to f (n - m)) (times f m w) (r.1 ++ v) v
       (times_complete f P are m w (r.1 ++ v) (r.0, e ∙ ap (λ z. z ++ v) r.2 ∙ append_assoc r.0 r.1 v, r.3))

@@ -132,19 +132,18 @@ module _ (M : Machine) (laws : MachineLaws M) (c : ℕ) (line_start : Bool) (y :
       let same : m.len ≡ j = omega arith in
       let size : length (take m.len y) ≡ m.len = length-take-le m.len y (omega arith) in
       let accepted : Among (M.accepts (state_after M c line_start (take m.len y))) m.rule = subst (λ i. Among (M.accepts (state_after M c line_start (take i y))) m.rule) (sym same) among in
-      let n : 0 + j ≡ length (take m.len y) = omega arith in
-      record {
-        inside = omega arith;
-        fits = inl (
+      let n : 0 + j ≡ length (take m.len y) = omega arith in (
+        omega arith,
+        inl (
           laws.in_range (state_after M c line_start (take m.len y)) m.rule accepted,
           record { not_empty = omega arith; accepted = accepted; keeps = subst (λ i. Keeps (M.cut m.rule) i m.keep) n keeps },
-        );
-      }
+        ),
+      )
 
   default_here : (z : List ℕ) (m : Candidate) → Among (default_match M.count z) m → IsCandidate (rules_of_machine M) c line_start z m
   default_here [] m h = absurd h
   default_here (b ∷ z) m (inr h) = absurd h
-  default_here (b ∷ z) m (inl e) = subst (IsCandidate (rules_of_machine M) c line_start (b ∷ z)) (sym e) (record { inside = omega arith; fits = inr (refl, refl, refl) })
+  default_here (b ∷ z) m (inl e) = subst (IsCandidate (rules_of_machine M) c line_start (b ∷ z)) (sym e) (omega arith, inr (refl, refl, refl))
 
   here_default : (z : List ℕ) (m : Candidate) → m.len ≤ length z → m.rule ≡ M.count → length (take m.len z) ≡ 1 → m.keep ≡ 1 → Among (default_match M.count z) m
   here_default [] m le p q r = let nil : List ℕ = [] in let n : length (take m.len nil) ≡ m.len = length-take-le m.len nil le in let z : m.len ≤ 0 = le in let one : length (take m.len nil) ≡ 1 = q in absurd (omega arith)
@@ -153,7 +152,7 @@ module _ (M : Machine) (laws : MachineLaws M) (c : ℕ) (line_start : Bool) (y :
       inl (candidate_same m (record { len = 1; rule = M.count; keep = 1 }) (omega arith) p r)
 
   pub machine_listed : (m : Candidate) → Among (machine_matches M (M.start c line_start) 0 y ++ default_match M.count y) m ↔ IsCandidate (rules_of_machine M) c line_start y m
-  machine_listed m = (λ h. to (among_append (machine_matches M (M.start c line_start) 0 y) (default_match M.count y) m h), λ h. from h.inside h.fits)
+  machine_listed m = (λ h. to (among_append (machine_matches M (M.start c line_start) 0 y) (default_match M.count y) m h), λ h. from h.0 h.1)
     where
       to : Among (machine_matches M (M.start c line_start) 0 y) m ⊎ Among (default_match M.count y) m → IsCandidate (rules_of_machine M) c line_start y m
       to (inl h) = within_is m (matches_sound M (M.start c line_start) 0 y m h)
@@ -188,8 +187,8 @@ module _ (M : Machine) (laws : MachineLaws M) (c : ℕ) (line_start : Bool) (y :
       agree m n a b len rule =
           let p : IsCandidate (rules_of_machine M) c line_start y m = (machine_listed m).0 a in
           let q : IsCandidate (rules_of_machine M) c line_start y n = (machine_listed n).0 b in
-          one_keep (take m.len y) m.rule m.keep n.keep p.fits
-          (subst (λ i. Full (rules_of_machine M) c line_start (take m.len y) i n.keep) (sym rule) (subst (λ j. Full (rules_of_machine M) c line_start (take j y) n.rule n.keep) (sym len) q.fits))
+          one_keep (take m.len y) m.rule m.keep n.keep p.1
+          (subst (λ i. Full (rules_of_machine M) c line_start (take m.len y) i n.keep) (sym rule) (subst (λ j. Full (rules_of_machine M) c line_start (take j y) n.rule n.keep) (sym len) q.1))
 
 -- Each input has a run of each machine that keeps the laws.
 pub machine_run_exists : (M : Machine) → MachineLaws M → (x : List ℕ) → (w : List ℕ) × (e : Ending) × Run (rules_of_machine M) x w e

@@ -3,7 +3,8 @@ use Rattle.std.proofs.Common.{zero-add, ◌≡◌, ℕ, zero, suc, ◌+◌, ◌-
 use Rattle.lex_semantics.specs.Text.{Among, part}
 use Rattle.lex_semantics.specs.Rules.{Rules}
 use Rattle.lex_semantics.specs.Candidates.{Candidate, Before, InOrder, Candidates}
-use Rattle.lex_semantics.specs.Acting.{Ending, Matched, perform}
+use Rattle.lex_semantics.specs.Acting.{Ending, Matched}
+use Rattle.lex_semantics.specs.Acting.{perform}
 use Rattle.lex_semantics.specs.Run.{Place, State, Turn, MatchTurn, NextFrom, Turns, Run, next_place}
 
 not_both : (m n : Candidate) → Before m n → Before n m → ⊥
@@ -83,14 +84,21 @@ same_end R x n m s t d e le p q h k =
     let sum : m - n + n ≡ m = omega arith in
     one_state R x m s t (subst (λ i. Turns R x i s) sum (stays R x n (m - n) s d p h)) k
 
-last_same : (R : Rules) (x : List ℕ) (v w : List ℕ) (d e : Ending) (h : Run R x v d) (k : Run R x w e) → (h.turns ≤ k.turns) ⊎ (k.turns ≤ h.turns) → h.last ≡ k.last
-last_same R x v w d e h k (inl le) = same_end R x h.turns k.turns h.last k.last d e le h.ends k.ends h.reached k.reached
-last_same R x v w d e h k (inr le) = sym (same_end R x k.turns h.turns k.last h.last e d le k.ends h.ends k.reached h.reached)
+abbrev run_end : List ℕ → Place → Ending → State
+run_end v p d = record { written = v; place = p; ended = Some d }
+
+either_same : (R : Rules) (x : List ℕ) (n m : ℕ) (s t : State) (d e : Ending) → (n ≤ m) ⊎ (m ≤ n) → s.ended ≡ Some d → t.ended ≡ Some e → Turns R x n s → Turns R x m t → s ≡ t
+either_same R x n m s t d e (inl le) p q h k = same_end R x n m s t d e le p q h k
+either_same R x n m s t d e (inr le) p q h k = sym (same_end R x m n t s e d le q p k h)
+
+-- After turns that end the scan it has run.
+pub run_by : (R : Rules) (x w : List ℕ) (d : Ending) (n : ℕ) (s : State) → Turns R x n s → s.written ≡ w → s.ended ≡ Some d → Run R x w d
+run_by R x w d n s h writes ends = (n, s.place, subst (Turns R x n) (λ i. record { written = writes i; place = s.place; ended = ends i }) h)
 
 -- An input has at most one run.
 pub one_run : (R : Rules) (x : List ℕ) (v w : List ℕ) (d e : Ending) → Run R x v d → Run R x w e → (v ≡ w) × (d ≡ e)
-one_run R x v w d e h k =
-    let total : (h.turns ≤ k.turns) ⊎ (k.turns ≤ h.turns) = grind arith in
-    let same : h.last ≡ k.last = last_same R x v w d e h k total in
-    let ends : Some d ≡ Some e = sym h.ends ∙ ap (λ (s : State). s.ended) same ∙ k.ends in
-    (sym h.writes ∙ ap (λ (s : State). s.written) same ∙ k.writes, some_inj d e ends)
+one_run R x v w d e (n, p, h) (m, q, k) =
+    let total : (n ≤ m) ⊎ (m ≤ n) = grind arith in
+    let same = either_same R x n m (run_end v p d) (run_end w q e) d e total refl refl h k in
+    let ends : Some d ≡ Some e = ap (λ (s : State). s.ended) same in
+    (ap (λ (s : State). s.written) same, some_inj d e ends)

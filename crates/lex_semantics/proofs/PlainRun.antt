@@ -3,12 +3,15 @@ use Rattle.std.proofs.Common.{◌≡◌, ℕ, zero, suc, ◌+◌, ◌-◌, ◌�
 use Rattle.std.specs.Prelude.{nat_lt, nat_eq, if◌then◌else◌, slice_get, option_and_then, option_map}
 use Rattle.std.proofs.lemmas.Bool.{ltb-true, eqb-true, cond-true}
 use Rattle.std.proofs.lemmas.List.{append_assoc, length-append, take_at, take-append-drop, length-take-le}
+use Rattle.lex_semantics.proofs.Splits.{split_of, of_split}
 use Rattle.lex_semantics.specs.Text.{Among, part, at_line_start}
 use Rattle.lex_semantics.specs.Tree.{Tree, In}
 use Rattle.lex_semantics.specs.Spec.{Spec, Rule}
 use Rattle.lex_semantics.specs.Rules.{Rules, Full, rules_of}
 use Rattle.lex_semantics.specs.Candidates.{Candidate, Candidates, IsCandidate}
-use Rattle.lex_semantics.specs.Acting.{Ending, Status, Matched, perform}
+use Rattle.lex_semantics.specs.Acting.{Ending, Status, Matched}
+use Rattle.lex_semantics.specs.Acting.{perform}
+use Rattle.lex_semantics.proofs.Once.{run_by}
 use Rattle.lex_semantics.specs.Run.{State, Turn, NextFrom, Turns, Run, first_state, next_place}
 use Rattle.lex_semantics.specs.Plain.{shorter, fronts, fronts_trail, matches_from, matches_of_rule, matches_of_rules, default_match, candidates_of, after_match, perform_at, after_end, turn_at, turn_of, state_after, outcome_of, run_from, run_of, Listing}
 use Rattle.lex_semantics.proofs.Fronts.{AreFronts, Leaves, fronts_are, among_flat_map, flat_map_among, among_append, among_left, among_right, shorter_among, among_shorter}
@@ -150,7 +153,7 @@ match_is S c line_start y m (j, r, at, on, h) =
     let size : length y ≡ length (h.text ++ h.trail) + length h.rest = ap length e ∙ length-append (h.text ++ h.trail) h.rest in
     let front : take m.len y ≡ h.text ++ h.trail = ap (take m.len) e ∙ take_at (h.text ++ h.trail) h.rest m.len n in
     let number : j ≡ m.rule = omega (arith, h.number) in
-    let fits : Fits S c line_start (take m.len y) j m.keep = record {
+    let fits : Fits S c line_start (take m.len y) j m.keep = of_split S c line_start (take m.len y) j m.keep (record {
       rule = r;
       at = at;
       is_active = on;
@@ -161,14 +164,12 @@ match_is S c line_start y m (j, r, at, on, h) =
       not_empty = omega (arith, h.keep_is, h.not_empty);
       in_head = h.in_head;
       in_trail = h.in_trail;
-    } in
-    record {
-      inside = omega arith;
-      fits = inl (omega (arith, get_inside S.rules j r at), subst (λ i. Fits S c line_start (take m.len y) i m.keep) number fits);
-    }
+    }) in
+    (omega arith, inl (omega (arith, get_inside S.rules j r at), subst (λ i. Fits S c line_start (take m.len y) i m.keep) number fits))
 
 is_match : (S : Spec) (c : ℕ) (line_start : Bool) (y : List ℕ) (m : Candidate) → m.len ≤ length y → Fits S c line_start (take m.len y) m.rule m.keep → SomeMatch S c line_start S.rules 0 y m
-is_match S c line_start y m le h =
+is_match S c line_start y m le fits =
+    let h = split_of S c line_start (take m.len y) m.rule m.keep fits in
     let n : length (take m.len y) ≡ m.len = length-take-le m.len y le in
     let size : length (take m.len y) ≡ length h.text + length h.trail = ap length h.splits ∙ length-append h.text h.trail in (
       m.rule,
@@ -192,7 +193,7 @@ is_match S c line_start y m le h =
 default_is : (S : Spec) (c : ℕ) (line_start : Bool) (y : List ℕ) (m : Candidate) → Among (default_match (length S.rules) y) m → IsCandidate (rules_of S) c line_start y m
 default_is S c line_start [] m h = absurd h
 default_is S c line_start (b ∷ y) m (inr h) = absurd h
-default_is S c line_start (b ∷ y) m (inl e) = subst (IsCandidate (rules_of S) c line_start (b ∷ y)) (sym e) (record { inside = omega arith; fits = inr (refl, refl, refl) })
+default_is S c line_start (b ∷ y) m (inl e) = subst (IsCandidate (rules_of S) c line_start (b ∷ y)) (sym e) (omega arith, inr (refl, refl, refl))
 
 is_default : (S : Spec) (y : List ℕ) (m : Candidate) → m.len ≤ length y → m.rule ≡ length S.rules → length (take m.len y) ≡ 1 → m.keep ≡ 1 → Among (default_match (length S.rules) y) m
 is_default S [] m le p q r = let nil : List ℕ = [] in let n : length (take m.len nil) ≡ m.len = length-take-le m.len nil le in let z : m.len ≤ 0 = le in let one : length (take m.len nil) ≡ 1 = q in absurd (omega arith)
@@ -204,7 +205,7 @@ is_default S (b ∷ y) m le p q r =
 pub listed_are : (S : Spec) (c : ℕ) (line_start : Bool) (y : List ℕ) (m : Candidate) →
     Among (matches_of_rules S c line_start S.rules 0 y ++ default_match (length S.rules) y) m ↔ IsCandidate (rules_of S) c line_start y m
 listed_are S c line_start y m =
-    (λ h. to (among_append (matches_of_rules S c line_start S.rules 0 y) (default_match (length S.rules) y) m h), λ h. from h.inside h.fits)
+    (λ h. to (among_append (matches_of_rules S c line_start S.rules 0 y) (default_match (length S.rules) y) m h), λ h. from h.0 h.1)
   where
     to : Among (matches_of_rules S c line_start S.rules 0 y) m ⊎ Among (default_match (length S.rules) y) m → IsCandidate (rules_of S) c line_start y m
     to (inl h) = match_is S c line_start y m (rules_sound S c line_start S.rules 0 y m h)
@@ -294,7 +295,7 @@ outcome_is R x w d None reach e = absurd (no e)
 outcome_is R x w d (Some t) reach e =
     let r = reach t refl in
     let p = pair_is t.written w t.ended d e in
-    record { turns = r.0; last = t; reached = r.1; writes = p.0; ends = p.1 }
+    run_by R x w d r.0 t r.1 p.0 p.1
 
 pub run_from_is : (R : Rules) (list : Listing) (lists : (c : ℕ) (line_start : Bool) (y : List ℕ) (ms : List Candidate) → list c line_start y ≡ Some ms → Candidates R c line_start y ms) (x : List ℕ) (n : ℕ) (w : List ℕ) (d : Ending) →
     run_from R list x n ≡ Some (w, d) → Run R x w d

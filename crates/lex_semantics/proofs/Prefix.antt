@@ -1,11 +1,13 @@
 -- Turns, and how far they ask, depend only on the bytes asked for.
 use Rattle.std.proofs.Common.{◌≡◌, ℕ, zero, suc, ◌+◌, ◌-◌, ◌≤◌, ◌<◌, max, Bool, List, [], ◌++◌, length, take, drop, ◌⊎◌, inl, inr, Option, Some, None, refl, sym, ◌∙◌, ap, subst, arith}
 use Rattle.std.proofs.lemmas.List.{take-append-drop, take-append-le, append-nil, append_assoc, length-append, length-take-le, length-drop, drop-append-le}
+use Rattle.lex_semantics.proofs.ResultsAre.{results_are}
 use Rattle.lex_semantics.specs.Text.{part, at_line_start, IsText}
 use Rattle.lex_semantics.specs.Rules.{Rules}
 use Rattle.lex_semantics.specs.Laws.{Laws}
 use Rattle.lex_semantics.specs.Candidates.{Candidate, Candidates}
-use Rattle.lex_semantics.specs.Acting.{Ending, Matched, perform}
+use Rattle.lex_semantics.specs.Acting.{Ending, Matched}
+use Rattle.lex_semantics.specs.ActionResults.{perform_results}
 use Rattle.lex_semantics.specs.Run.{Place, State, Turn, MatchTurn, NextFrom, Turns, next_place}
 use Rattle.lex_semantics.specs.Demand.{AsksAt, Reach, AsksForEnd, FarFrom, Far, EndAsked}
 use Rattle.lex_semantics.proofs.Texts.{is_text_drop, is_text_right, take_longer, line_start_front, part_front}
@@ -23,7 +25,7 @@ more_matches R l c line_start v rest is_text some (inr dead) ms h = more_input R
 
 -- the outcome of a match is what its actions make of the bytes that it saw
 same_outcome : (R : Rules) (l : Laws R) (c : ℕ) (line_start : Bool) (kept v rest : List ℕ) (ms : List Candidate) (d : ℕ) (cs : List ℕ) → Candidates R c line_start v ms →
-    perform R kept v ms [] d cs ≡ perform R kept (v ++ rest) ms [] d cs
+    perform_results R kept v ms [] d cs ≡ perform_results R kept (v ++ rest) ms [] d cs
 same_outcome R l c line_start kept v rest ms d cs h =
     same_performed R kept v (v ++ rest) ms [] d cs (λ m a. sym (take-append-le m.keep v rest (keep_inside R l c line_start v m ((h.members m).0 a))))
 
@@ -31,14 +33,14 @@ same_outcome R l c line_start kept v rest ms d cs h =
 pub match_turn : (R : Rules) (l : Laws R) (x : List ℕ) (p : Place) (v rest : List ℕ) → IsText rest → p.at < length x → drop p.at x ≡ v ++ rest → 1 ≤ length v →
     Suffices R p.condition (at_line_start x p.at) v rest →
     (ms : List Candidate) → Candidates R p.condition (at_line_start x p.at) v ms →
-    (o : Matched) → perform R (part x p.start p.at) v ms [] p.condition p.stack ≡ Some o →
+    (o : Matched) → perform_results R (part x p.start p.at) v ms [] p.condition p.stack ≡ Some o →
     MatchTurn R x p (record { written = o.after.written; place = next_place p o; ended = o.ended })
 match_turn R l x p v rest is_text before splits some enough ms h o done = record {
   before_end = before;
   matches = ms;
   all = subst (λ y. Candidates R p.condition (at_line_start x p.at) y ms) (sym splits) (more_matches R l p.condition (at_line_start x p.at) v rest is_text some enough ms h);
   outcome = o;
-  performed = ap (λ y. perform R (part x p.start p.at) y ms [] p.condition p.stack) splits ∙ sym (same_outcome R l p.condition (at_line_start x p.at) (part x p.start p.at) v rest ms p.condition p.stack h) ∙ done;
+  performed = results_are _ _ _ _ _ _ _ ∙ ap (λ y. perform_results R (part x p.start p.at) y ms [] p.condition p.stack) splits ∙ sym (same_outcome R l p.condition (at_line_start x p.at) (part x p.start p.at) v rest ms p.condition p.stack h) ∙ done;
   leaves = refl;
 }
 
@@ -117,11 +119,11 @@ module _ (R : Rules) (l : Laws R) (g a b : List ℕ) (p : Place) (r : ℕ) (text
       (subst (λ y. Candidates R p.condition (at_line_start (g ++ a) p.at) y h.matches) (front_splits R g a p r fits) h.all) in
       let there : Candidates R p.condition (at_line_start (g ++ b) p.at) v h.matches = subst (λ line_start. Candidates R p.condition line_start v h.matches) line here in
       let kept : part (g ++ b) p.start p.at ≡ part (g ++ a) p.start p.at = part_front g b p.start p.at (omega arith) ∙ sym (part_front g a p.start p.at (omega arith)) in
-      let done : perform R (part (g ++ b) p.start p.at) v h.matches [] p.condition p.stack ≡ Some h.outcome =
-      ap (λ k. perform R k v h.matches [] p.condition p.stack) kept
+      let done : perform_results R (part (g ++ b) p.start p.at) v h.matches [] p.condition p.stack ≡ Some h.outcome =
+      ap (λ k. perform_results R k v h.matches [] p.condition p.stack) kept
       ∙ same_outcome R l p.condition (at_line_start (g ++ a) p.at) (part (g ++ a) p.start p.at) v ra h.matches p.condition p.stack here
-      ∙ ap (λ y. perform R (part (g ++ a) p.start p.at) y h.matches [] p.condition p.stack) (sym (front_splits R g a p r fits))
-      ∙ h.performed in
+      ∙ ap (λ y. perform_results R (part (g ++ a) p.start p.at) y h.matches [] p.condition p.stack) (sym (front_splits R g a p r fits))
+      ∙ sym (results_are _ _ _ _ _ _ _) ∙ h.performed in
       let len : length (g ++ b) ≡ length g + length b = length-append g b in
       let turn = match_turn R l (g ++ b) p v rb more_b (omega arith) (front_splits R g b p r fits) (omega arith) (inr dead_b) h.matches there h.outcome done in
       subst (MatchTurn R (g ++ b) p) (sym h.leaves) turn

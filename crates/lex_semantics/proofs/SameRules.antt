@@ -1,9 +1,9 @@
 -- Specifications with the same rules have the same turns, demand and run, and answer the same.
-use Rattle.std.proofs.Common.{◌≡◌, ℕ, suc, ◌<◌, Bool, true, false, ◌||◌, List, [], ◌∷◌, ◌++◌, length, ◌↔◌, Some, refl, sym, ◌∙◌, ap, subst, arith}
+use Rattle.std.proofs.Common.{◌≡◌, ℕ, suc, ◌<◌, Bool, true, ◌||◌, List, [], ◌∷◌, ◌++◌, length, ◌↔◌, Some, refl, sym, ◌∙◌, ap, subst, arith}
 use Rattle.std.specs.Prelude.{slice_get}
 use Rattle.lex_semantics.specs.Text.{IsText}
 use Rattle.lex_semantics.specs.Spec.{Spec, Rule, statements_at, has_reject, any_reject, rejects}
-use Rattle.lex_semantics.specs.Reports.{HasFit, UselessWhere, Useless, BackWord}
+use Rattle.lex_semantics.specs.Reports.{HasFit, Useless, BackWord}
 use Rattle.lex_semantics.specs.TableFor.{Accepted}
 use Rattle.lex_semantics.specs.ScanLaws.{SameOver}
 use Rattle.lex_semantics.specs.TableLaws.{SameAnswers}
@@ -38,7 +38,7 @@ module _ (S T : Spec) (sound : IsSound S) (sound' : IsSound T) (same : SameRules
       ap statements_at r.1 ∙ (same.actions i r.0 q.0 r.1 q.1).1 ∙ sym (ap statements_at q.1)
 
   begins_to : (i : ℕ) → i < length T.rules → BeginsBelow (length T.conditions) (statements_at (slice_get T.rules i))
-  begins_to i lt = let r = get_at T.rules i lt in subst (λ o. BeginsBelow (length T.conditions) (statements_at o)) (sym r.1) (begins_below (length T.conditions) r.0.statements (sound'.rules i r.0 r.1).legal.ranges)
+  begins_to i lt = let r = get_at T.rules i lt in subst (λ o. BeginsBelow (length T.conditions) (statements_at o)) (sym r.1) (begins_below (length T.conditions) r.0.statements (sound'.rules i r.0 r.1).legal.0.ranges)
 
   pub rules_alike : Alike true (rules_of S) (rules_of T)
   rules_alike = record {
@@ -90,22 +90,20 @@ module _ (S T : Spec) (same : SameRules S T) where
   fit_back : (c : ℕ) (line_start : Bool) (w : List ℕ) (i : ℕ) → c < length S.conditions → IsText w → HasFit T c line_start w i → HasFit S c line_start w i
   fit_back c line_start w i lt text h = (h.0, (same.fits c line_start w i h.0 lt text).1 h.1)
 
-  accepted_on : (all : Bool) (c : ℕ) (line_start : Bool) (w : List ℕ) (i : ℕ) → c < length S.conditions → IsText w → Accepted all S c line_start w i → Accepted all T c line_start w i
-  accepted_on true c line_start w i lt text h = fit_on c line_start w i lt text h
-  accepted_on false c line_start w i lt text h = (fit_on c line_start w i lt text h.0, λ j less k. h.1 j less (fit_back c line_start w j lt text k))
-
-  useless_on : (all : Bool) (i : ℕ) → UselessWhere all S i → UselessWhere all T i
-  useless_on true i h = λ c line_start w lt text k. (let below : c < length S.conditions = omega (arith, lt, same.conditions) in h c line_start w below text (fit_back c line_start w i below text k))
-  useless_on false i h = λ c line_start w lt text k. (
-      let below : c < length S.conditions = omega (arith, lt, same.conditions) in
-      let earlier = h c line_start w below text (fit_back c line_start w i below text k) in
-      (earlier.0, earlier.1, fit_on c line_start w earlier.0 below text earlier.2))
-
   rejects_on : rejects S ≡ rejects T
   rejects_on = same_rejecting S.rules T.rules same.rules (λ i r q p k. (same.actions i r q p k).1)
 
+  accepted_on : (c : ℕ) (line_start : Bool) (w : List ℕ) (i : ℕ) → c < length S.conditions → IsText w → Accepted S c line_start w i → Accepted T c line_start w i
+  accepted_on c line_start w i lt text h = (fit_on c line_start w i lt text h.0, λ e j less k. h.1 (rejects_on ∙ e) j less (fit_back c line_start w j lt text k))
+
   report_on : (i : ℕ) → Useless S i → Useless T i
-  report_on i h = (omega (arith, h.0, same.rules), subst (λ b. UselessWhere b T i) rejects_on (useless_on (rejects S) i h.1))
+  report_on i (known, h) = (
+    omega (arith, known, same.rules),
+    λ c line_start w lt text k. (
+        let below : c < length S.conditions = omega (arith, lt, same.conditions) in
+        let (none, j, less, earlier) = h c line_start w below text (fit_back c line_start w i below text k) in
+        (sym rejects_on ∙ none, j, less, fit_on c line_start w j below text earlier)),
+  )
 
   back_word_on : (c : ℕ) (line_start : Bool) (w : List ℕ) → BackWord S c line_start w → BackWord T c line_start w
   back_word_on c line_start w h = record {
@@ -120,8 +118,8 @@ pub same_answers : (S T : Spec) → SameRules S T → SameAnswers S T
 same_answers S T same = record {
   live = λ c line_start w lt text. (λ h. live_on S T same c line_start w lt text h, λ h. live_on T S back c line_start w (below c lt) text h);
   accepted = λ c line_start w i lt text. (
-    λ h. subst (λ b. Accepted b T c line_start w i) rejecting (accepted_on S T same (rejects S) c line_start w i lt text h),
-    λ h. subst (λ b. Accepted b S c line_start w i) (sym rejecting) (accepted_on T S back (rejects T) c line_start w i (below c lt) text h),
+    λ h. accepted_on S T same c line_start w i lt text h,
+    λ h. accepted_on T S back c line_start w i (below c lt) text h,
   );
   rejecting = rejecting;
   useless = λ i. (λ h. report_on S T same i h, λ h. report_on T S back i h);

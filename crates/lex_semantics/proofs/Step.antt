@@ -5,7 +5,8 @@ use Rattle.lex_semantics.specs.Text.{at_line_start, IsText}
 use Rattle.lex_semantics.specs.Rules.{Rules}
 use Rattle.lex_semantics.specs.Laws.{Laws}
 use Rattle.lex_semantics.specs.Candidates.{Candidates}
-use Rattle.lex_semantics.specs.Acting.{Ending, perform}
+use Rattle.lex_semantics.specs.Acting.{Ending}
+use Rattle.lex_semantics.specs.ActionResults.{perform_results}
 use Rattle.lex_semantics.specs.Run.{Place, State, Turn, MatchTurn, EndTurn, NextFrom, first_state}
 use Rattle.lex_semantics.specs.Demand.{AsksAt, Reach, AsksForEnd, FarFrom, EndAsked, GoesOnFrom}
 use Rattle.lex_semantics.specs.Scanned.{AfterTurns, Scanned, Seen, seen_turn, then_turn}
@@ -57,7 +58,7 @@ seen_match R l given rest p r h is_text enough =
     let len : length (given ++ rest) ≡ length given + length rest = length-append given rest in
     match_turn R l (given ++ rest) p v more text (omega (arith, h.inside, h.some)) (front_splits R given rest p r h.inside) (omega (arith, h.some)) (suffices enough)
     h.matches (subst (λ line_start. Candidates R p.condition line_start v h.matches) (sym line) h.all) h.outcome
-    (ap (λ k. perform R k v h.matches [] p.condition p.stack) (part_front given rest p.start p.at (omega (arith, h.inside))) ∙ h.performed)
+    (ap (λ k. perform_results R k v h.matches [] p.condition p.stack) (part_front given rest p.start p.at (omega (arith, h.inside))) ∙ h.performed)
   where
     suffices : (drop r (drop p.at given) ++ rest ≡ []) ⊎ (AsksAt R given p r → ⊥) → Suffices R p.condition (at_line_start (given ++ rest) p.at) (take r (drop p.at given)) (drop r (drop p.at given) ++ rest)
     suffices (inl none) = inl none

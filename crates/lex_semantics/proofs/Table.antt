@@ -1,13 +1,14 @@
 -- A machine for a specification has its turns, and asks for the same bytes.
-use Rattle.std.proofs.Common.{◌≡◌, ℕ, zero, suc, ◌+◌, ◌-◌, ◌≤◌, ◌<◌, Bool, true, false, List, [], ◌∷◌, ◌++◌, length, take, drop, ◌⊎◌, inl, inr, ◌↔◌, Option, Some, None, refl, sym, ◌∙◌, ap, subst, arith}
+use Rattle.std.proofs.Common.{◌≡◌, ℕ, zero, suc, ◌-◌, ◌≤◌, ◌<◌, Bool, true, false, List, [], ◌∷◌, ◌++◌, length, take, drop, ◌⊎◌, inl, inr, ◌↔◌, Option, Some, None, refl, sym, ◌∙◌, ap, subst, arith}
 use Rattle.std.specs.Prelude.{slice_get, nat_lt, if◌then◌else◌}
-use Rattle.std.proofs.lemmas.List.{length-append}
 use Rattle.std.proofs.lemmas.Bool.{cond-true, cond-false, lt-ltb, le-ltb, or_parts, cases_lt}
+use Rattle.lex_semantics.proofs.ResultsAre.{results_are}
 use Rattle.lex_semantics.specs.Text.{IsText, Among, AllBelow, part, at_line_start}
 use Rattle.lex_semantics.specs.Spec.{Spec, Rule, Statement, Echo, Print, Begin, More, Less, Reject, End, Push, Pop, has_reject, EndAction, statements_at, rejects, any_reject}
 use Rattle.lex_semantics.specs.Rules.{Rules, Full, rules_of, statements_of}
 use Rattle.lex_semantics.specs.Candidates.{Candidate, Before, IsCandidate, Candidates}
-use Rattle.lex_semantics.specs.Acting.{Ending, Status, StackFault, Acting, Matched, ActionResult, Done, Again, Over, act, has_room, popped, settle, perform}
+use Rattle.lex_semantics.specs.Acting.{Ending, Status, StackFault, Acting, Matched}
+use Rattle.lex_semantics.specs.ActionResults.{ActionResult, Done, Again, Over, act_result, has_room, popped, settle, perform_results}
 use Rattle.lex_semantics.specs.Run.{Place, State, Turn, MatchTurn, EndTurn, NextFrom, Turns, Run}
 use Rattle.lex_semantics.specs.Demand.{AsksAt, Reach, AsksForEnd, FarFrom, Far, EndAsked}
 use Rattle.lex_semantics.specs.Scanned.{AfterTurns}
@@ -51,7 +52,7 @@ empty_quiet : (cs : List ℕ) (a : Acting) (next : ℕ → List ℕ → ActionRe
 empty_quiet [] a next f g h = refl
 empty_quiet (c ∷ cs) a next f g h = h c cs
 
-settle_quiet : (ss : List Statement) (a : Acting) (f g : Acting → Option Matched) → has_reject ss ≡ false → settle (act ss a) f ≡ settle (act ss a) g
+settle_quiet : (ss : List Statement) (a : Acting) (f g : Acting → Option Matched) → has_reject ss ≡ false → settle (act_result ss a) f ≡ settle (act_result ss a) g
 settle_quiet [] a f g h = refl
 settle_quiet (Echo ∷ ss) a f g h = settle_quiet ss (record a { written = a.written ++ a.text }) f g h
 settle_quiet (Print s ∷ ss) a f g h = settle_quiet ss (record a { written = a.written ++ s }) f g h
@@ -64,9 +65,9 @@ settle_quiet (Reject ∷ ss) a f g h = absurd (no h)
     no p = cc
 settle_quiet (End s ∷ ss) a f g h = refl
 settle_quiet (Push d ∷ ss) a f g h =
-    full_quiet (has_room a.stack) a (act ss (record a { condition = d; stack = a.condition ∷ a.stack })) f g (settle_quiet ss (record a { condition = d; stack = a.condition ∷ a.stack }) f g h)
+    full_quiet (has_room a.stack) a (act_result ss (record a { condition = d; stack = a.condition ∷ a.stack })) f g (settle_quiet ss (record a { condition = d; stack = a.condition ∷ a.stack }) f g h)
 settle_quiet (Pop ∷ ss) a f g h =
-    empty_quiet a.stack a (λ c cs. act ss (record a { condition = c; stack = cs })) f g (λ c cs. settle_quiet ss (record a { condition = c; stack = cs }) f g h)
+    empty_quiet a.stack a (λ c cs. act_result ss (record a { condition = c; stack = cs })) f g (λ c cs. settle_quiet ss (record a { condition = c; stack = cs }) f g h)
 
 -- a condition and a stack
 abbrev pub Below : ℕ → ℕ → List ℕ → Type 0
@@ -87,7 +88,7 @@ empty_below : (n : ℕ) (cs : List ℕ) (a : Acting) (next : ℕ → List ℕ �
 empty_below n [] a next h all k = h
 empty_below n (c ∷ cs) a next h all k = k c cs all
 
-pub act_below : (n : ℕ) (ss : List Statement) (a : Acting) → Below n a.condition a.stack → BeginsBelow n ss → ResultBelow n (act ss a)
+pub act_below : (n : ℕ) (ss : List Statement) (a : Acting) → Below n a.condition a.stack → BeginsBelow n ss → ResultBelow n (act_result ss a)
 act_below n [] a h k = h
 act_below n (Echo ∷ ss) a h k = act_below n ss (record a { written = a.written ++ a.text }) h k
 act_below n (Print s ∷ ss) a h k = act_below n ss (record a { written = a.written ++ s }) h k
@@ -97,9 +98,9 @@ act_below n (Less m ∷ ss) a h k = act_below n ss (record a { text = take m a.t
 act_below n (Reject ∷ ss) a h k = h
 act_below n (End s ∷ ss) a h k = h
 act_below n (Push d ∷ ss) a h k =
-    full_below n (has_room a.stack) a (act ss (record a { condition = d; stack = a.condition ∷ a.stack })) h (act_below n ss (record a { condition = d; stack = a.condition ∷ a.stack }) (k.0, h) k.1)
+    full_below n (has_room a.stack) a (act_result ss (record a { condition = d; stack = a.condition ∷ a.stack })) h (act_below n ss (record a { condition = d; stack = a.condition ∷ a.stack }) (k.0, h) k.1)
 act_below n (Pop ∷ ss) a h k =
-    empty_below n a.stack a (λ c cs. act ss (record a { condition = c; stack = cs })) h h.1 (λ c cs below. act_below n ss (record a { condition = c; stack = cs }) below k)
+    empty_below n a.stack a (λ c cs. act_result ss (record a { condition = c; stack = cs })) h h.1 (λ c cs below. act_below n ss (record a { condition = c; stack = cs }) below k)
 
 settle_below : (n : ℕ) (w : ActionResult) (f : Acting → Option Matched) (o : Matched) → ResultBelow n w → ((a : Acting) → Below n a.condition a.stack → f a ≡ Some o → Below n o.after.condition o.after.stack) →
     settle w f ≡ Some o → Below n o.after.condition o.after.stack
@@ -113,15 +114,15 @@ statements_below R i h (inl lt) = subst (BeginsBelow R.conditions) (sym (cond-tr
 statements_below R i h (inr le) = subst (BeginsBelow R.conditions) (sym (cond-false (nat_lt i R.count) (R.statements i) (Echo ∷ []) (le-ltb i R.count le))) tt
 
 pub perform_below : (R : Rules) → ((j : ℕ) → j < R.count → BeginsBelow R.conditions (R.statements j)) → (kept y : List ℕ) (ms : List Candidate) (out : List ℕ) (c : ℕ) (cs : List ℕ) (o : Matched) →
-    Below R.conditions c cs → perform R kept y ms out c cs ≡ Some o → Below R.conditions o.after.condition o.after.stack
-unfolding perform
+    Below R.conditions c cs → perform_results R kept y ms out c cs ≡ Some o → Below R.conditions o.after.condition o.after.stack
+unfolding perform_results
 perform_below R h kept y [] out c cs o lt e = absurd (no e)
   where
     no : None ≡ Some o → ⊥
     no p = cc
 perform_below R h kept y (m ∷ ms) out c cs o lt e =
     let a : Acting = record { text = kept ++ take m.keep y; written = out; condition = c; stack = cs; more = false } in
-    settle_below R.conditions (act (statements_of R m.rule) a) (λ b. perform R kept y ms b.written b.condition b.stack) o
+    settle_below R.conditions (act_result (statements_of R m.rule) a) (λ b. perform_results R kept y ms b.written b.condition b.stack) o
     (act_below R.conditions (statements_of R m.rule) a lt (statements_below R m.rule h (cases_lt m.rule R.count)))
     (λ b below p. perform_below R h kept y ms b.written b.condition b.stack o below p) e
 
@@ -143,15 +144,15 @@ module _ (all : Bool) (R Q : Rules) (alike : Alike all R Q) where
   full_to c line_start w i k lt text (inr h) = inr (h.0 ∙ alike.count, h.1, h.2)
 
   pub candidate_to : (c : ℕ) (line_start : Bool) (y : List ℕ) (m : Candidate) → c < Q.conditions → IsText y → IsCandidate R c line_start y m → IsCandidate Q c line_start y m
-  candidate_to c line_start y m lt text h = record { inside = h.inside; fits = full_to c line_start (take m.len y) m.rule m.keep lt (is_text_take m.len y text) h.fits }
+  candidate_to c line_start y m lt text h = (h.0, full_to c line_start (take m.len y) m.rule m.keep lt (is_text_take m.len y text) h.1)
 
-same_perform : (all : Bool) (R Q : Rules) (alike : Alike all R Q) (kept y : List ℕ) (ms : List Candidate) (out : List ℕ) (d : ℕ) (cs : List ℕ) → perform R kept y ms out d cs ≡ perform Q kept y ms out d cs
-unfolding perform
+same_perform : (all : Bool) (R Q : Rules) (alike : Alike all R Q) (kept y : List ℕ) (ms : List Candidate) (out : List ℕ) (d : ℕ) (cs : List ℕ) → perform_results R kept y ms out d cs ≡ perform_results Q kept y ms out d cs
+unfolding perform_results
 same_perform all R Q alike kept y [] out d cs = refl
 same_perform all R Q alike kept y (m ∷ ms) out d cs =
     let a : Acting = record { text = kept ++ take m.keep y; written = out; condition = d; stack = cs; more = false } in
-    ap (λ ss. settle (act ss a) (λ b. perform R kept y ms b.written b.condition b.stack)) (same_statements all R Q alike m.rule)
-    ∙ settle_same (act (statements_of Q m.rule) a) (λ b. perform R kept y ms b.written b.condition b.stack) (λ b. perform Q kept y ms b.written b.condition b.stack)
+    ap (λ ss. settle (act_result ss a) (λ b. perform_results R kept y ms b.written b.condition b.stack)) (same_statements all R Q alike m.rule)
+    ∙ settle_same (act_result (statements_of Q m.rule) a) (λ b. perform_results R kept y ms b.written b.condition b.stack) (λ b. perform_results Q kept y ms b.written b.condition b.stack)
     (λ b. same_perform all R Q alike kept y ms b.written b.condition b.stack)
 
 quiet_statements : (Q : Rules) → ((i : ℕ) → i < Q.count → has_reject (Q.statements i) ≡ false) → (i : ℕ) → (i < Q.count) ⊎ (Q.count ≤ i) → has_reject (statements_of Q i) ≡ false
@@ -160,16 +161,16 @@ quiet_statements Q h i (inr le) = ap has_reject (cond-false (nat_lt i Q.count) (
 
 -- the first match decides, where no rule has REJECT
 head_performed : (R Q : Rules) (alike : Alike false R Q) (kept y : List ℕ) (m : Candidate) (ms ns : List Candidate) (out : List ℕ) (d : ℕ) (cs : List ℕ) →
-    perform R kept y (m ∷ ms) out d cs ≡ perform Q kept y (m ∷ ns) out d cs
-unfolding perform
+    perform_results R kept y (m ∷ ms) out d cs ≡ perform_results Q kept y (m ∷ ns) out d cs
+unfolding perform_results
 head_performed R Q alike kept y m ms ns out d cs =
     let a : Acting = record { text = kept ++ take m.keep y; written = out; condition = d; stack = cs; more = false } in
-    ap (λ ss. settle (act ss a) (λ b. perform R kept y ms b.written b.condition b.stack)) (same_statements false R Q alike m.rule)
-    ∙ settle_quiet (statements_of Q m.rule) a (λ b. perform R kept y ms b.written b.condition b.stack) (λ b. perform Q kept y ns b.written b.condition b.stack)
+    ap (λ ss. settle (act_result ss a) (λ b. perform_results R kept y ms b.written b.condition b.stack)) (same_statements false R Q alike m.rule)
+    ∙ settle_quiet (statements_of Q m.rule) a (λ b. perform_results R kept y ms b.written b.condition b.stack) (λ b. perform_results Q kept y ns b.written b.condition b.stack)
     (quiet_statements Q alike.matches.1 m.rule (cases_lt m.rule Q.count))
 
 candidate_from : (R Q : Rules) (alike : Alike true R Q) (c : ℕ) (line_start : Bool) (y : List ℕ) (m : Candidate) → c < Q.conditions → IsText y → IsCandidate Q c line_start y m → IsCandidate R c line_start y m
-candidate_from R Q alike c line_start y m lt text h = record { inside = h.inside; fits = from h.fits }
+candidate_from R Q alike c line_start y m lt text h = (h.0, from h.1)
   where
     from : Full Q c line_start (take m.len y) m.rule m.keep → Full R c line_start (take m.len y) m.rule m.keep
     from (inl f) = inl (omega (arith, f.0, alike.count), alike.matches c line_start (take m.len y) m.rule m.keep lt (is_text_take m.len y text) f.1)
@@ -178,7 +179,7 @@ candidate_from R Q alike c line_start y m lt text h = record { inside = h.inside
 -- the first match of Q is one of R
 first_from : (R Q : Rules) (alike : Alike false R Q) (c : ℕ) (line_start : Bool) (y : List ℕ) (n : Candidate) (ns : List Candidate) → c < Q.conditions → IsText y →
     Candidates Q c line_start y (n ∷ ns) → IsCandidate R c line_start y n
-first_from R Q alike c line_start y n ns lt text h = record { inside = own.inside; fits = from own.fits }
+first_from R Q alike c line_start y n ns lt text h = (own.0, from own.1)
   where
     own : IsCandidate Q c line_start y n
     own = (h.members n).0 (inl refl)
@@ -194,30 +195,30 @@ first_from R Q alike c line_start y n ns lt text h = record { inside = own.insid
         none : (j l : ℕ) → j < n.rule → Q.full c line_start (take n.len y) j l → ⊥
         none j l less g =
             let q : Candidate = record { len = n.len; rule = j; keep = l } in
-            not_after q refl less ((h.members q).1 (record { inside = own.inside; fits = inl (omega (arith, less, f.0), g) }))
+            not_after q refl less ((h.members q).1 ((own.0, inl (omega (arith, less, f.0), g))))
 
-nothing_performed : (R : Rules) (kept y : List ℕ) (d : ℕ) (cs : List ℕ) (o : Matched) → perform R kept y [] [] d cs ≡ Some o → ⊥
-unfolding perform
+nothing_performed : (R : Rules) (kept y : List ℕ) (d : ℕ) (cs : List ℕ) (o : Matched) → perform_results R kept y [] [] d cs ≡ Some o → ⊥
+unfolding perform_results
 nothing_performed R kept y d cs o e = no e
   where
     no : None ≡ Some o → ⊥
     no p = cc
 
 performed_to : (all : Bool) (R Q : Rules) (alike : Alike all R Q) (c : ℕ) (line_start : Bool) (kept y : List ℕ) (ms ns : List Candidate) (d : ℕ) (cs : List ℕ) (o : Matched) → c < Q.conditions → IsText y →
-    Candidates R c line_start y ms → Candidates Q c line_start y ns → perform R kept y ms [] d cs ≡ Some o → perform Q kept y ns [] d cs ≡ Some o
+    Candidates R c line_start y ms → Candidates Q c line_start y ns → perform_results R kept y ms [] d cs ≡ Some o → perform_results Q kept y ns [] d cs ≡ Some o
 performed_to true R Q alike c line_start kept y ms ns d cs o lt text p q e =
     let same : ms ≡ ns = same_order ms ns p.in_order q.in_order (λ m. (
       λ a. (q.members m).1 (candidate_to true R Q alike c line_start y m lt text ((p.members m).0 a)),
       λ a. (p.members m).1 (candidate_from R Q alike c line_start y m lt text ((q.members m).0 a)),
     )) in
-    ap (λ z. perform Q kept y z [] d cs) (sym same) ∙ sym (same_perform true R Q alike kept y ms [] d cs) ∙ e
+    ap (λ z. perform_results Q kept y z [] d cs) (sym same) ∙ sym (same_perform true R Q alike kept y ms [] d cs) ∙ e
 performed_to false R Q alike c line_start kept y [] ns d cs o lt text p q e = absurd (nothing_performed R kept y d cs o e)
 performed_to false R Q alike c line_start kept y (m ∷ ms) [] d cs o lt text p q e = absurd ((q.members m).1 (candidate_to false R Q alike c line_start y m lt text ((p.members m).0 (inl refl))))
 performed_to false R Q alike c line_start kept y (m ∷ ms) (n ∷ ns) d cs o lt text p q e =
     let m_in : Among (n ∷ ns) m = (q.members m).1 (candidate_to false R Q alike c line_start y m lt text ((p.members m).0 (inl refl))) in
     let n_in : Among (m ∷ ms) n = (p.members n).1 (first_from R Q alike c line_start y n ns lt text q) in
     let same : m ≡ n = same_heads m n ms ns p.in_order q.in_order m_in n_in in
-    ap (λ z. perform Q kept y (z ∷ ns) [] d cs) (sym same) ∙ sym (head_performed R Q alike kept y m ms ns [] d cs) ∙ e
+    ap (λ z. perform_results Q kept y (z ∷ ns) [] d cs) (sym same) ∙ sym (head_performed R Q alike kept y m ms ns [] d cs) ∙ e
 
 -- turns
 
@@ -234,10 +235,10 @@ match_to all R Q alike x p s text lt h =
     let line_start : Bool = at_line_start x p.at in
     let y : List ℕ = drop p.at x in
     let listed = alike.exist p.condition line_start y in
-    let done : perform Q (part x p.start p.at) y listed.0 [] p.condition p.stack ≡ Some h.outcome =
-    performed_to all R Q alike p.condition line_start (part x p.start p.at) y h.matches listed.0 p.condition p.stack h.outcome lt.0 (is_text_drop p.at x text) h.all listed.1 h.performed in
+    let done : perform_results Q (part x p.start p.at) y listed.0 [] p.condition p.stack ≡ Some h.outcome =
+    performed_to all R Q alike p.condition line_start (part x p.start p.at) y h.matches listed.0 p.condition p.stack h.outcome lt.0 (is_text_drop p.at x text) h.all listed.1 (sym (results_are _ _ _ _ _ _ _) ∙ h.performed) in
     let below = perform_below Q alike.begins (part x p.start p.at) y listed.0 [] p.condition p.stack h.outcome lt done in (
-      inl (record { before_end = h.before_end; matches = listed.0; all = listed.1; outcome = h.outcome; performed = done; leaves = h.leaves }),
+      inl (record { before_end = h.before_end; matches = listed.0; all = listed.1; outcome = h.outcome; performed = results_are _ _ _ _ _ _ _ ∙ done; leaves = h.leaves }),
       subst (λ (z : State). PlaceBelow Q z.place) (sym h.leaves) below,
     )
 
@@ -322,7 +323,7 @@ module _ (all : Bool) (R Q : Rules) (alike : Alike all R Q) (x : List ℕ) (text
   }
 
   pub run_to : (w : List ℕ) (d : Ending) → Run R x w d → Run Q x w d
-  run_to w d h = record { turns = h.turns; last = h.last; reached = (turns_to all R Q alike x h.turns h.last text h.reached).0; writes = h.writes; ends = h.ends }
+  run_to w d (n, p, h) = (n, p, (turns_to all R Q alike x n (record { written = w; place = p; ended = Some d }) text h).0)
 
 -- a machine for a specification
 
@@ -345,33 +346,28 @@ module _ (M : Machine) (S : Spec) (sound : IsSound S) (table : TableFor M S) whe
       subst (Fits S c line_start w i) same fits
 
   kept_fit : (c : ℕ) (line_start : Bool) (w : List ℕ) (i k : ℕ) → Fits S c line_start w i k → Keeps (M.cut i) (length w) k × (1 ≤ length w)
-  kept_fit c line_start w i k fits =
-      let size : length w ≡ length fits.text + length fits.trail = ap length fits.splits ∙ length-append fits.text fits.trail in (
-        subst (λ z. Keeps z (length w) k) (sym (table.cut i fits.rule fits.at)) (cut_keeps S sound c line_start w i k fits.rule fits.at fits),
-        omega (arith, fits.length_is, fits.not_empty),
-      )
-
-  accepted_fits : (b : Bool) (c : ℕ) (line_start : Bool) (w : List ℕ) (i : ℕ) → Accepted b S c line_start w i → HasFit S c line_start w i
-  accepted_fits true c line_start w i h = h
-  accepted_fits false c line_start w i h = h.0
+  kept_fit c line_start w i k fits = (
+    subst (λ z. Keeps z (length w) k) (sym (table.cut i fits.rule fits.at)) (cut_keeps S sound c line_start w i k fits.rule fits.at fits),
+    omega (arith, fits.inside, fits.not_empty),
+  )
 
   machine_full : (c : ℕ) (line_start : Bool) (w : List ℕ) (i k : ℕ) → c < length S.conditions → IsText w → MachineFits M c line_start w i k → Fits S c line_start w i k
-  machine_full c line_start w i k lt text h = fit_kept c line_start w i k h.keeps (accepted_fits (rejects S) c line_start w i ((table.accepts c line_start w i lt text).0 h.accepted))
+  machine_full c line_start w i k lt text h = fit_kept c line_start w i k h.keeps ((table.accepts c line_start w i lt text).0 h.accepted).0
 
-  full_machine : (c : ℕ) (line_start : Bool) (w : List ℕ) (i k : ℕ) → c < length S.conditions → IsText w → Fits S c line_start w i k → Accepted (rejects S) S c line_start w i → MachineFits M c line_start w i k
+  full_machine : (c : ℕ) (line_start : Bool) (w : List ℕ) (i k : ℕ) → c < length S.conditions → IsText w → Fits S c line_start w i k → Accepted S c line_start w i → MachineFits M c line_start w i k
   full_machine c line_start w i k lt text fits ok =
       let kept = kept_fit c line_start w i k fits in
       record { not_empty = kept.1; accepted = (table.accepts c line_start w i lt text).1 ok; keeps = kept.0 }
 
   has_matches : (b : Bool) → rejects S ≡ b → HasMatches b (rules_of_machine M) (rules_of S)
-  has_matches true e = λ c line_start w i k lt text fits. full_machine c line_start w i k lt text fits (subst (λ z. Accepted z S c line_start w i) (sym e) (k, fits))
+  has_matches true e = λ c line_start w i k lt text fits. full_machine c line_start w i k lt text fits ((k, fits), λ no. cc)
   has_matches false e = (
-    λ c line_start w i k lt text fits none. full_machine c line_start w i k lt text fits (subst (λ z. Accepted z S c line_start w i) (sym e) ((k, fits), λ j less h. none j h.0 less h.1)),
+    λ c line_start w i k lt text fits none. full_machine c line_start w i k lt text fits ((k, fits), λ no j less h. none j h.0 less h.1),
     λ i lt. no_reject_at S.rules i e,
   )
 
   begins_at : (i : ℕ) → i < length S.rules → BeginsBelow (length S.conditions) (statements_at (slice_get S.rules i))
-  begins_at i lt = let r = get_at S.rules i lt in subst (λ o. BeginsBelow (length S.conditions) (statements_at o)) (sym r.1) (begins_below (length S.conditions) r.0.statements (sound.rules i r.0 r.1).legal.ranges)
+  begins_at i lt = let r = get_at S.rules i lt in subst (λ o. BeginsBelow (length S.conditions) (statements_at o)) (sym r.1) (begins_below (length S.conditions) r.0.statements (sound.rules i r.0 r.1).legal.0.ranges)
 
   pub table_alike : Alike (rejects S) (rules_of_machine M) (rules_of S)
   table_alike = record {

@@ -1,7 +1,7 @@
 -- A word is in the language of a tree exactly if it has a reading.
 use Rattle.std.proofs.Common.{◌≡◌, ℕ, zero, suc, ◌+◌, ◌-◌, ◌*◌, min, List, [], ◌∷◌, ◌++◌, inl, inr, ◌↔◌, refl, sym, ap, ◌∙◌, subst}
-use Rattle.lex_semantics.specs.Tree.{Tree, Trees, Empty, Set, Cat, Alt, Star, Repeat, no_trees, tree, Joined, In, InEach, InSome}
-use Rattle.lex_semantics.specs.Positions.{copies, positions, Cell, Readings, bytes_of, Passes, Reads, ReadsEach, ReadsSome, ReadsWord}
+use Rattle.lex_semantics.specs.Tree.{Tree, Trees, Empty, Set, Cat, Alt, Star, Repeat, no_trees, tree, Joined, In, InEach, InSome, Passes}
+use Rattle.lex_semantics.specs.Positions.{copies, positions, Cell, Readings, bytes_of, Reads, ReadsEach, ReadsSome, ReadsWord}
 
 pub bytes_join : (us vs : List Cell) → bytes_of (us ++ vs) ≡ bytes_of us ++ bytes_of vs
 bytes_join [] vs = refl
@@ -9,19 +9,28 @@ bytes_join (c ∷ us) vs = ap (λ w. c.0 ∷ w) (bytes_join us vs)
 
 -- what passes read is the joining of as many words
 from_passes : (P : List ℕ → Type 0) (R : ℕ → Readings) → ((j : ℕ) (us : List Cell) → R j us → P (bytes_of us)) →
-    (k j : ℕ) (rs : List Cell) → Passes R j k rs → Joined P k (bytes_of rs)
+    (k j : ℕ) (rs : List Cell) → Passes R j k rs → Passes (λ i. P) j k (bytes_of rs)
 from_passes P R f zero j rs e = ap bytes_of e
 from_passes P R f (suc k) j rs (us, vs, e, here, rest) =
     (bytes_of us, bytes_of vs, ap bytes_of e ∙ bytes_join us vs, f j us here, from_passes P R f k (suc j) vs rest)
 
 -- a joining of words can be read in as many passes
 to_passes : (P : List ℕ → Type 0) (R : ℕ → Readings) → ((j : ℕ) (w : List ℕ) → P w → ReadsWord (R j) w) →
-    (k j : ℕ) (w : List ℕ) → Joined P k w → ReadsWord (Passes R j k) w
+    (k j : ℕ) (w : List ℕ) → Passes (λ i. P) j k w → ReadsWord (Passes R j k) w
 to_passes P R f zero j w e = ([], sym e, refl)
 to_passes P R f (suc k) j w (u, v, e, here, rest) =
     let (us, is_u, read) = f j u here in
     let (vs, is_v, reads) = to_passes P R f k (suc j) v rest in
     (us ++ vs, bytes_join us vs ∙ ap (λ z. z ++ bytes_of vs) is_u ∙ ap (λ z. u ++ z) is_v ∙ sym e, (us, vs, refl, read, reads))
+
+-- a joining of words of one language
+pub to_joined : (P : List ℕ → Type 0) (j k : ℕ) (w : List ℕ) → Passes (λ i. P) j k w → Joined P k w
+to_joined P j zero w e = e
+to_joined P j (suc k) w (u, v, e, here, rest) = (u, v, e, here, to_joined P (suc j) k v rest)
+
+pub of_joined : (P : List ℕ → Type 0) (j k : ℕ) (w : List ℕ) → Joined P k w → Passes (λ i. P) j k w
+of_joined P j zero w e = e
+of_joined P j (suc k) w (u, v, e, here, rest) = (u, v, e, here, of_joined P (suc j) k v rest)
 
 mutual
   word_of : (t : Tree) (base : ℕ) (rs : List Cell) → Reads t base rs → In t (bytes_of rs)

@@ -23,15 +23,18 @@ more_turns R x n (suc m) s t h k =
 
 -- What n turns write is a front of what the run writes.
 pub run_begins : (R : Rules) (x : List ℕ) (n : ℕ) (s : State) (w : List ℕ) (d : Ending) → Turns R x n s → Run R x w d → BeginsWith w s.written
-run_begins R x n s w d h k = subst (λ z. BeginsWith z s.written) k.writes (from (grind arith))
+run_begins R x n s w d h (m, p, k) = from (grind arith)
   where
-    from : (n ≤ k.turns) ⊎ (k.turns ≤ n) → BeginsWith k.last.written s.written
+    last : State
+    last = record { written = w; place = p; ended = Some d }
+
+    from : (n ≤ m) ⊎ (m ≤ n) → BeginsWith w s.written
     from (inl le) =
-        let sum : k.turns ≡ k.turns - n + n = omega arith in
-        more_turns R x n (k.turns - n) s k.last h (subst (λ i. Turns R x i k.last) sum k.reached)
+        let sum : m ≡ m - n + n = omega arith in
+        more_turns R x n (m - n) s last h (subst (λ i. Turns R x i last) sum k)
     from (inr le) =
-        let sum : n - k.turns + k.turns ≡ n = omega arith in
-        let same : s ≡ k.last = one_state R x n s k.last h (subst (λ i. Turns R x i k.last) sum (stays R x k.turns (n - k.turns) k.last d k.ends k.reached)) in
+        let sum : n - m + m ≡ n = omega arith in
+        let same : s ≡ last = one_state R x n s last h (subst (λ i. Turns R x i last) sum (stays R x m (n - m) last d refl k)) in
         ([], ap (λ (z : State). z.written) (sym same) ∙ sym (append-nil s.written))
 
 -- So is what they write and a front of what the next turn writes.

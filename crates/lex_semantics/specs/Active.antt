@@ -9,13 +9,13 @@ use Rattle.lex_semantics.specs.Spec.{Spec, Rule, Condition}
 abbrev pub lists : List ℕ → ℕ → Bool
 lists cs c = list_any (λ d. d == c) cs
 
-abbrev pub is_inclusive : Option Condition → Bool
-is_inclusive k = option_map_or (λ k. not k.exclusive) k false
-
--- A rule with a list serves just the conditions there, and one without serves the inclusive ones. (POSIX, start conditions.)
-abbrev pub serves : Option (List ℕ) → ℕ → Option Condition → Bool
-serves list c k = option_map_or (λ cs. lists cs c) list (is_inclusive k)
-
--- A rule with `^` is active only at the start of a line.
+-- A rule with a list is active in just the conditions there, and one without in the inclusive ones. (POSIX, start
+-- conditions.) With `^` it is so only at the start of a line.
 abbrev pub active : Spec → ℕ → Bool → Rule → Bool
-active S c line_start r = serves r.conditions c (slice_get S.conditions c) && (not r.anchored || line_start)
+active S c line_start r =
+    option_map_or (λ l. lists l c) r.conditions (option_map_or (λ k. not k.exclusive) (slice_get S.conditions c) false)
+    && (not r.anchored || line_start)
+
+-- A name that the code has for the first part of this.
+abbrev pub serves : Option (List ℕ) → ℕ → Option Condition → Bool
+serves list c k = option_map_or (λ cs. lists cs c) list (option_map_or (λ k. not k.exclusive) k false)

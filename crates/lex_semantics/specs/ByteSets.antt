@@ -3,6 +3,7 @@
 -- (POSIX, lex, Regular Expressions in lex: bracket expressions in the POSIX locale.)
 use Rattle.std.specs.Prelude.{◌≡◌, ℕ, zero, suc, ◌+◌, ◌-◌, ◌*◌, ◌^◌, ◌<◌, Bool, true, false, not, ◌&&◌, ◌||◌, ◌==◌, nat_eq, nat_le, if◌then◌else◌, List, [], ◌∷◌, Option, codes}
 use Rattle.std.specs.Int.{bit_at}
+use Rattle.std.specs.List.{sum_by, range_with_len}
 use Rattle.std.specs.Map.{lookup}
 use Rattle.std.specs.Option.{option_map}
 use lib.Pointwise.{pointwise}
@@ -18,18 +19,9 @@ has set byte = bit_at set byte == 1
 abbrev pub IsIn : ByteSet → ℕ → Type 0
 IsIn set byte = (byte < 256) × (has set byte ≡ true)
 
--- some byte is in the set
-abbrev pub HasByte : ByteSet → Type 0
-HasByte set = (byte : ℕ) × IsIn set byte
-
--- the set of the numbers below n that pass the test
-unfoldable pub set_below : ℕ → (ℕ → Bool) → ByteSet
-set_below zero test = 0
-set_below (suc n) test = (if test n then 1 else 0) * 2 ^ n + set_below n test
-
--- the set of the bytes that pass the test
+-- the set of the bytes that pass the test: byte b stands for 2 ^ b
 unfoldable pub set_of : (ℕ → Bool) → ByteSet
-set_of test = set_below 256 test
+set_of test = sum_by (λ b. if test b then 2 ^ b else 0) (range_with_len 0 256)
 
 unfoldable pub empty_set : ByteSet
 empty_set = set_of (λ b. false)
@@ -52,10 +44,7 @@ complement s = set_of (λ b. not (has s b))
 
 -- the letter in the other case, and any other byte itself
 unfoldable pub other_case : ℕ → ℕ
-other_case b =
-    if within 65 90 b then b + 32
-    else if within 97 122 b then b - 32
-    else b
+other_case b = if within 65 90 b then b + 32 else if within 97 122 b then b - 32 else b
 
 -- closed under changing the case of ASCII letters (flex, Scanner Options: case-insensitive)
 unfoldable pub fold_case : ByteSet → ByteSet
@@ -102,10 +91,19 @@ classes =
 unfoldable pub named_set : List ℕ → Option ByteSet
 named_set name = option_map set_of (lookup (is_word name) classes)
 
--- Names that the code has for the bits of a set, and for the tests of the other classes.
-
+-- 1 for true, and 0 for false
 abbrev pub bit_of : Bool → ℕ
 bit_of b = if b then 1 else 0
+
+-- Names that the code and proofs have: for the tests of the other classes, for a set that has a byte, and for the set of
+-- the numbers below n that pass the test.
+
+unfoldable pub set_below : ℕ → (ℕ → Bool) → ByteSet
+set_below zero test = 0
+set_below (suc n) test = (if test n then 1 else 0) * 2 ^ n + set_below n test
+
+abbrev pub HasByte : ByteSet → Type 0
+HasByte set = (byte : ℕ) × IsIn set byte
 
 unfoldable pub is_upper : ℕ → Bool
 is_upper b = within 65 90 b

@@ -14,16 +14,15 @@ pub record Candidate : Type 0 where
 abbrev pub Before : Candidate → Candidate → Type 0
 Before m n = (n.len < m.len) ⊎ ((m.len ≡ n.len) × (m.rule < n.rule))
 
--- a front of y that fits a rule
-pub record IsCandidate (R : Rules) (c : ℕ) (line_start : Bool) (y : List ℕ) (m : Candidate) : Type 0 where
-  pub inside : m.len ≤ length y
-  pub fits : Full R c line_start (take m.len y) m.rule m.keep
-
--- all the matches at the front of y, in order
+-- all the fronts of y that fit a rule, in order
 pub record Candidates (R : Rules) (c : ℕ) (line_start : Bool) (y : List ℕ) (ms : List Candidate) : Type 0 where
   pub in_order : Pairwise Before ms
-  pub members : (m : Candidate) → Among ms m ↔ IsCandidate R c line_start y m
+  pub members : (m : Candidate) → Among ms m ↔ ((m.len ≤ length y) × Full R c line_start (take m.len y) m.rule m.keep)
 
--- A name that proofs have for the order of matches.
+-- Names that proofs have: for a front of y that fits a rule, and for the order of matches.
+
+abbrev pub IsCandidate : Rules → ℕ → Bool → List ℕ → Candidate → Type 0
+IsCandidate R c line_start y m = (m.len ≤ length y) × Full R c line_start (take m.len y) m.rule m.keep
+
 abbrev pub InOrder : List Candidate → Type 0
 InOrder ms = Pairwise Before ms

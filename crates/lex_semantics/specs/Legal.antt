@@ -15,30 +15,21 @@ in_range n (End s) = nat_le s max_status
 in_range n (Push d) = nat_lt d n
 in_range n _ = true
 
-abbrev pub all_in_range : ℕ → List Statement → Bool
-all_in_range n ss = list_all (in_range n) ss
-
 -- REJECT, yyterminate and exit
 abbrev pub ends_action : Statement → Bool
 ends_action Reject = true
 ends_action (End s) = true
 ends_action _ = false
 
--- each of these stands last
-abbrev pub ends_last : List Statement → Bool
-ends_last [] = true
-ends_last (s ∷ []) = true
-ends_last (s ∷ t ∷ ss) = not (ends_action s) && ends_last (t ∷ ss)
+-- the test passes for each statement and the next
+abbrev pub all_neighbours : (Statement → Statement → Bool) → List Statement → Bool
+all_neighbours test [] = true
+all_neighbours test (s ∷ []) = true
+all_neighbours test (s ∷ t ∷ ss) = test s t && all_neighbours test (t ∷ ss)
 
 abbrev pub is_literal : Statement → Bool
 is_literal (Print s) = true
 is_literal _ = false
-
--- no two literals are neighbours
-abbrev pub are_joined : List Statement → Bool
-are_joined [] = true
-are_joined (s ∷ []) = true
-are_joined (s ∷ t ∷ ss) = not (is_literal s && is_literal t) && are_joined (t ∷ ss)
 
 abbrev pub is_yyless : Statement → Bool
 is_yyless (Less n) = true
@@ -54,20 +45,26 @@ are_compatible ss =
     not (list_any is_reject ss && (list_any is_yymore ss || list_any is_yyless ss))
     && not (list_any is_yyless ss && list_any is_yymore ss) && nat_le (length (filter is_yyless ss)) 1
 
--- an action, where there are n conditions
+-- An action, where there are n conditions. REJECT, yyterminate and exit stand last.
 pub record IsAction (n : ℕ) (ss : List Statement) : Type 0 where
-  pub ranges : all_in_range n ss ≡ true
-  pub last : ends_last ss ≡ true
+  pub ranges : list_all (in_range n) ss ≡ true
+  pub last : all_neighbours (λ s t. not (ends_action s)) ss ≡ true
   pub compatible : are_compatible ss ≡ true
 
--- an action in normal form
-pub record IsLegal (n : ℕ) (ss : List Statement) : Type 0 where
-  pub ranges : all_in_range n ss ≡ true
-  pub last : ends_last ss ≡ true
-  pub joined : are_joined ss ≡ true
-  pub compatible : are_compatible ss ≡ true
+-- an action in normal form: no two literals are neighbours
+abbrev pub IsLegal : ℕ → List Statement → Type 0
+IsLegal n ss = IsAction n ss × (all_neighbours (λ s t. not (is_literal s && is_literal t)) ss ≡ true)
 
 -- Names that the code has for these tests.
+
+abbrev pub all_in_range : ℕ → List Statement → Bool
+all_in_range n ss = list_all (in_range n) ss
+
+abbrev pub ends_last : List Statement → Bool
+ends_last ss = all_neighbours (λ s t. not (ends_action s)) ss
+
+abbrev pub are_joined : List Statement → Bool
+are_joined ss = all_neighbours (λ s t. not (is_literal s && is_literal t)) ss
 
 abbrev pub has_more : List Statement → Bool
 has_more ss = list_any is_yymore ss

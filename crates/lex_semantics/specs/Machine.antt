@@ -1,6 +1,6 @@
 -- A machine of states, the rules that it tells, and when it is one for a specification. (flex, How the Input Is Matched,
 -- says what a scanner does; that a machine does it is this project's.)
-use Rattle.std.specs.Prelude.{◌≡◌, ℕ, ◌+◌, ◌≤◌, Bool, true, List, [], ◌∷◌, length}
+use Rattle.std.specs.Prelude.{◌≡◌, ℕ, ◌+◌, ◌≤◌, Bool, true, List, length, fold}
 use Rattle.lex_semantics.specs.Text.{Among}
 use Rattle.lex_semantics.specs.Spec.{Cut, Whole, Head, Trail, Statement, EndAction}
 use Rattle.lex_semantics.specs.Rules.{Rules}
@@ -19,12 +19,8 @@ pub record Machine : Type 0 where
   pub ending : ℕ → EndAction
 
 -- the state after a word
-abbrev pub walk : Machine → ℕ → List ℕ → ℕ
-walk M s [] = s
-walk M s (b ∷ bs) = walk M (M.next s b) bs
-
 abbrev pub state_after : Machine → ℕ → Bool → List ℕ → ℕ
-state_after M c line_start w = walk M (M.start c line_start) w
+state_after M c line_start w = fold M.next (M.start c line_start) w
 
 -- of a match of n bytes the cut keeps the first k
 abbrev pub Keeps : Cut → ℕ → ℕ → Type 0
@@ -48,3 +44,7 @@ rules_of_machine M = record {
   statements = M.statements;
   ending = M.ending;
 }
+
+-- A name that the code and proofs have for the state after a word from a state.
+abbrev pub walk : Machine → ℕ → List ℕ → ℕ
+walk M s w = fold M.next s w

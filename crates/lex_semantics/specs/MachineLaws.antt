@@ -1,15 +1,15 @@
 -- What each machine keeps to. (This project's.)
-use Rattle.std.specs.Prelude.{◌≡◌, ℕ, ◌≤◌, ◌<◌, Bool, true, false, List, [], ◌∷◌, length, ◌↔◌}
+use Rattle.std.specs.Prelude.{◌≡◌, ℕ, ◌≤◌, ◌<◌, Bool, true, false, List, [], ◌∷◌, length, ◌↔◌, fold}
 use Rattle.std.specs.Coded.{×_prop, Unit-prop, le_prop}
 use Rattle.std.proofs.Props.{props}
 use Rattle.lex_semantics.specs.Text.{IsText, Among, Ascending}
 use Rattle.lex_semantics.specs.Spec.{has_reject}
-use Rattle.lex_semantics.specs.Machine.{Machine, walk}
+use Rattle.lex_semantics.specs.Machine.{Machine}
 use Rattle.lex_semantics.specs.Legal.{IsAction}
 
 -- some word that is not empty leads from the state to one that accepts
 abbrev pub LeadsToAccept : Machine → ℕ → Type 0
-LeadsToAccept M s = (u : List ℕ) × IsText u × (1 ≤ length u) × (i : ℕ) × Among (M.accepts (walk M s u)) i
+LeadsToAccept M s = (u : List ℕ) × IsText u × (1 ≤ length u) × (i : ℕ) × Among (M.accepts (fold M.next s u)) i
 
 pub record MachineLaws (M : Machine) : Type 0 where
   pub some_condition : 1 ≤ M.conditions

@@ -1,9 +1,9 @@
 -- Positions of a tree, and readings: which position reads each byte of a word.
 -- (This project's; the words are POSIX's, lex, Regular Expressions in lex.)
-use Rattle.std.specs.Prelude.{◌≡◌, ℕ, zero, suc, ◌+◌, ◌*◌, ◌-◌, ◌≤◌, min, max, List, [], ◌∷◌, ◌++◌, map, ◌⊎◌, Option, IfSome}
+use Rattle.std.specs.Prelude.{◌≡◌, ℕ, ◌+◌, ◌*◌, ◌-◌, ◌≤◌, min, max, List, [], ◌∷◌, ◌++◌, map, ◌⊎◌, Option, IfSome}
 use Rattle.std.specs.Option.{unwrap_or}
 use Rattle.lex_semantics.specs.ByteSets.{IsIn}
-use Rattle.lex_semantics.specs.Tree.{Tree, Trees, Empty, Set, Cat, Alt, Star, Repeat, no_trees, tree}
+use Rattle.lex_semantics.specs.Tree.{Tree, Trees, Empty, Set, Cat, Alt, Star, Repeat, no_trees, tree, Passes}
 
 -- how many copies of its inner tree a repetition counts
 abbrev pub copies : ℕ → Option ℕ → ℕ
@@ -39,12 +39,7 @@ bytes_of rs = map (λ c. c.0) rs
 abbrev pub ReadsWord : Readings → List ℕ → Type 0
 ReadsWord R w = (rs : List Cell) × (bytes_of rs ≡ w) × R rs
 
--- k passes one after another, counted from pass j on
-abbrev pub Passes : (ℕ → Readings) → ℕ → ℕ → Readings
-Passes R j zero rs = rs ≡ []
-Passes R j (suc k) rs = (us : List Cell) × (vs : List Cell) × (rs ≡ us ++ vs) × R j us × Passes R (suc j) k vs
-
--- the tree, whose positions are numbered from `base` on, reads these bytes by these positions
+-- the readings of a tree whose positions begin at the base
 abbrev mutual
   pub Reads : Tree → ℕ → Readings
   Reads Empty base rs = rs ≡ []
@@ -59,7 +54,7 @@ abbrev mutual
   pub ReadsEach : Trees → ℕ → Readings
   ReadsEach no_trees base rs = rs ≡ []
   ReadsEach (tree t ts) base rs =
-      (us : List Cell) × (vs : List Cell) × (rs ≡ us ++ vs) × Reads t base us × ReadsEach ts (base + positions t) vs
+      (us vs : List Cell) × (rs ≡ us ++ vs) × Reads t base us × ReadsEach ts (base + positions t) vs
 
   pub ReadsSome : Trees → ℕ → Readings
   ReadsSome no_trees base rs = ⊥

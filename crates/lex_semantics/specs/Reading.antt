@@ -35,12 +35,9 @@ take_up_to (suc n) test (c ∷ t) =
 abbrev pub take_run : (ℕ → Bool) → List ℕ → List ℕ × List ℕ
 take_run test t = take_up_to (length t) test t
 
-abbrev pub after_run : (ℕ → Bool) → List ℕ → List ℕ
-after_run test t = (take_run test t).1
-
 -- what follows the blanks at the front
 abbrev pub after_blanks : List ℕ → List ℕ
-after_blanks t = after_run is_blank t
+after_blanks t = (take_run is_blank t).1
 
 -- a blank or a newline
 abbrev pub is_white : ℕ → Bool
@@ -59,3 +56,7 @@ digit_of c = if is_digit c then c % 16 else c % 16 + 9
 -- the number that the digits write
 abbrev pub value : ℕ → List ℕ → ℕ
 value radix digits = fold (λ n d. n * radix + digit_of d) 0 digits
+
+-- A name that the code and proofs have for what follows the bytes at the front that pass the test.
+abbrev pub after_run : (ℕ → Bool) → List ℕ → List ℕ
+after_run test t = (take_run test t).1

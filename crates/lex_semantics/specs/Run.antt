@@ -22,14 +22,12 @@ pub record State : Type 0 where
 abbrev pub first_state : State
 first_state = record { written = []; place = record { start = 0; at = 0; condition = 0; stack = [] }; ended = None }
 
--- The next text starts where this one does after a yymore, and else, or where the scan ends, at its end.
-abbrev pub next_start : Option Ending → Bool → (start end : ℕ) → ℕ
-next_start ended more start end = if is_none ended && more then start else end
-
+-- The text starts where the last one ended, or where that started after a yymore that no end follows.
 abbrev pub next_place : Place → Matched → Place
 next_place p o =
     let end = p.start + length o.after.text in
-    record { start = next_start o.ended o.after.more p.start end; at = end; condition = o.after.condition; stack = o.after.stack }
+    let start = if is_none o.ended && o.after.more then p.start else end in
+    record { start = start; at = end; condition = o.after.condition; stack = o.after.stack }
 
 -- a match at a place, with its actions
 pub record MatchTurn (R : Rules) (x : List ℕ) (p : Place) (s : State) : Type 0 where
@@ -43,11 +41,8 @@ pub record MatchTurn (R : Rules) (x : List ℕ) (p : Place) (s : State) : Type 0
 -- the end action of the condition
 pub record EndTurn (R : Rules) (x : List ℕ) (p : Place) (s : State) : Type 0 where
   pub at_end : p.at ≡ length x
-  pub leaves : s ≡ record {
-    written = (R.ending p.condition).print;
-    place = record { start = p.at; at = p.at; condition = p.condition; stack = p.stack };
-    ended = Some (Status (R.ending p.condition).status);
-  }
+  pub leaves : s ≡ (let e = R.ending p.condition in
+      record { written = e.print; place = record p { start = p.at }; ended = Some (Status e.status) })
 
 -- a turn from a place: what it writes, where it leads, and whether it ends the scan
 abbrev pub Turn : Rules → List ℕ → Place → State → Type 0
@@ -56,22 +51,21 @@ Turn R x p s = MatchTurn R x p s ⊎ EndTurn R x p s
 -- one more turn, by how the scan has ended, if it has; after the end it changes nothing
 abbrev pub NextFrom : Rules → List ℕ → State → Option Ending → State → Type 0
 NextFrom R x s (Some e) s' = s' ≡ s
-NextFrom R x s None s' =
-    (t : State) × Turn R x s.place t × (s' ≡ record { written = s.written ++ t.written; place = t.place; ended = t.ended })
+NextFrom R x s None s' = (t : State) × Turn R x s.place t × (s' ≡ record t { written = s.written ++ t.written })
 
 -- how the scan stands after n turns
 abbrev pub Turns : Rules → List ℕ → ℕ → State → Type 0
 Turns R x zero s = s ≡ first_state
 Turns R x (suc n) s = (before : State) × Turns R x n before × NextFrom R x before before.ended s
 
--- After some number of turns the scan has ended so, and this was written.
-pub record Run (R : Rules) (x : List ℕ) (written : List ℕ) (ending : Ending) : Type 0 where
-  pub turns : ℕ
-  pub last : State
-  pub reached : Turns R x turns last
-  pub writes : last.written ≡ written
-  pub ends : last.ended ≡ Some ending
+-- After some turns the scan has ended so, and this was written.
+abbrev pub Run : Rules → List ℕ → (written : List ℕ) → Ending → Type 0
+Run R x w e = (n : ℕ) × (p : Place) × Turns R x n (record { written = w; place = p; ended = Some e })
 
--- A name that proofs have for where a scan begins.
+-- Names that proofs have for where the next text starts, and for where a scan begins.
+
+abbrev pub next_start : Option Ending → Bool → (start end : ℕ) → ℕ
+next_start ended more start end = if is_none ended && more then start else end
+
 abbrev pub first_place : Place
 first_place = first_state.place

@@ -1,21 +1,17 @@
 -- Which trees are sound, how many nodes they have, and how long their words are.
 -- (This project's; the words are POSIX's, lex, Regular Expressions in lex.)
-use Rattle.std.specs.Prelude.{◌≡◌, ℕ, ◌+◌, ◌≤◌, ◌<◌, List, length, Option, Some, None, IfSome, ⊤}
-use Rattle.lex_semantics.specs.ByteSets.{HasByte}
+use Rattle.std.specs.Prelude.{◌≡◌, ◌≢◌, ℕ, ◌+◌, ◌≤◌, ◌<◌, List, length, Option, Some, None, IfSome, ⊤}
+use Rattle.lex_semantics.specs.ByteSets.{IsIn}
 use Rattle.lex_semantics.specs.Tree.{Tree, Trees, Empty, Set, Cat, Alt, Star, Repeat, no_trees, tree}
-
-abbrev pub HasPart : Trees → Type 0
-HasPart no_trees = ⊥
-HasPart (tree t ts) = ⊤
 
 -- each set has a byte, each series and each choice a part, and the bounds of a repetition are in order, the greater
 -- at least 1
 abbrev mutual
   pub IsSoundTree : Tree → Type 0
   IsSoundTree Empty = ⊤
-  IsSoundTree (Set s) = HasByte s
-  IsSoundTree (Cat ts) = AreSoundTrees ts × HasPart ts
-  IsSoundTree (Alt ts) = AreSoundTrees ts × HasPart ts
+  IsSoundTree (Set s) = (b : ℕ) × IsIn s b
+  IsSoundTree (Cat ts) = AreSoundTrees ts × (ts ≢ no_trees)
+  IsSoundTree (Alt ts) = AreSoundTrees ts × (ts ≢ no_trees)
   IsSoundTree (Star t) = IsSoundTree t
   IsSoundTree (Repeat t m n) = IsSoundTree t × IfSome n (λ n. (m ≤ n) × (1 ≤ n))
 
@@ -51,3 +47,7 @@ pub record HasLengths (L : Language) (least : ℕ) (greatest : Option ℕ) : Typ
   pub shortest : (w : List ℕ) × L w × (length w ≡ least)
   pub none_shorter : (w : List ℕ) → L w → least ≤ length w
   pub longest : LongestIs L greatest
+
+-- A name that the code and proofs have for a list that has a part.
+abbrev pub HasPart : Trees → Type 0
+HasPart ts = ts ≢ no_trees

@@ -20,10 +20,6 @@ IsCutOf head (Some after) (Head m) = HasFixed head m
 IsCutOf head (Some after) (Trail n) = ((m : ℕ) → HasFixed head m → ⊥) × HasFixed after n
 IsCutOf head (Some after) Whole = ⊥
 
--- a list of condition numbers: in order, each that of one of n conditions
-abbrev pub IsConditionList : ℕ → List ℕ → Type 0
-IsConditionList n cs = Ascending cs × ((c : ℕ) → Among cs c → c < n)
-
 -- the sides of a rule are sound trees
 abbrev pub AreSoundSides : Tree → Option Tree → Type 0
 AreSoundSides head trail = IsSoundTree head × IfSome trail IsSoundTree
@@ -35,9 +31,9 @@ abbrev pub HaveSoundSides : List Rule → Type 0
 HaveSoundSides [] = ⊤
 HaveSoundSides (r ∷ rs) = HasSoundSides r × HaveSoundSides rs
 
--- a rule, where there are n conditions
+-- A rule, where there are n conditions. Its list of them is in order.
 pub record IsSoundRule (n : ℕ) (r : Rule) : Type 0 where
-  pub listed : IfSome r.conditions (IsConditionList n)
+  pub listed : IfSome r.conditions (λ cs. Ascending cs × ((c : ℕ) → Among cs c → c < n))
   pub head : IsSoundTree r.head
   pub trail : IfSome r.trail IsSoundTree
   pub cut : IsCutOf r.head r.trail r.cut

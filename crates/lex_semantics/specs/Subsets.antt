@@ -8,19 +8,15 @@ use Rattle.lex_semantics.specs.Positions.{positions, Cell, Readings, Reads}
 use Rattle.lex_semantics.specs.Spec.{Spec, Rule}
 use Rattle.lex_semantics.specs.Active.{active}
 
--- the positions of a rule, those of its trail after those of its head
-abbrev pub positions_of_rule : Rule → ℕ
-positions_of_rule r = positions r.head + option_map_or positions r.trail 0
-
--- all the positions of the rules
+-- all the positions of the rules, those of a trail after those of its head
 abbrev pub all_positions : List Rule → ℕ
 all_positions [] = 0
-all_positions (r ∷ rs) = positions_of_rule r + all_positions rs
+all_positions (r ∷ rs) = positions r.head + option_map_or positions r.trail 0 + all_positions rs
 
 -- a word of the head that is not empty, and then a word of the trail, where there is one
 abbrev pub ReadsRule : Rule → ℕ → Readings
 ReadsRule r base rs =
-    (us : List Cell) × (vs : List Cell) × (rs ≡ us ++ vs) × (Reads r.head base us × (us ≢ []))
+    (us vs : List Cell) × (rs ≡ us ++ vs) × (Reads r.head base us × (us ≢ []))
     × MatchOption r.trail (vs ≡ []) (λ t. Reads t (base + positions r.head) vs)
 
 -- a reading of an active rule, whose positions come after those of the rules before it
@@ -29,19 +25,9 @@ ReadsActive S c line_start rs =
     (i : ℕ) × (r : Rule) × (slice_get S.rules i ≡ Some r) × (active S c line_start r ≡ true)
     × ReadsRule r (all_positions (take i S.rules)) rs
 
--- the last byte is read at p
-abbrev pub EndsAt : ℕ → Readings
-EndsAt p [] = ⊥
-EndsAt p (c ∷ []) = c.1 ≡ p
-EndsAt p (c ∷ d ∷ rs) = EndsAt p (d ∷ rs)
-
 -- some reading begins with the word, and reads its last byte at p
 abbrev pub IsLast : Readings → List ℕ → ℕ → Type 0
-IsLast R w p = (rs : List Cell) × (zs : List Cell) × (map (λ c. c.0) rs ≡ w) × EndsAt p rs × R (rs ++ zs)
-
--- rule i is active
-abbrev pub IsActive : Spec → ℕ → Bool → ℕ → Type 0
-IsActive S c line_start i = (r : Rule) × (slice_get S.rules i ≡ Some r) × (active S c line_start r ≡ true)
+IsLast R w p = (rs zs : List Cell) × (b : ℕ) × (map (λ c. c.0) rs ++ b ∷ [] ≡ w) × R (rs ++ (b, p) ∷ zs)
 
 -- the list has each member of the set and nothing else, in order
 abbrev pub ListsSet : List ℕ → (ℕ → Type 0) → Type 0
@@ -52,19 +38,22 @@ pub record AreAll (Kind : List ℕ → Type 0) (ls : List (List ℕ)) : Type 0 w
   pub distinct : Pairwise ◌≢◌ ls
   pub listed : (l : List ℕ) → Among ls l ↔ ((1 ≤ length l) × Kind l)
 
--- how many states there are before minimising: the dead one, one for each set of active rules, and one for each set of last
--- positions of a word that is not empty, where the empty sets are left out
+-- How many states there are before minimising: the dead one, one for each set of active rules, and one for each set of
+-- last positions of a word that is not empty. The empty sets are left out.
 pub record Subsets (S : Spec) (n : ℕ) : Type 0 where
   pub starts : List (List ℕ)
   pub lasts : List (List ℕ)
-  pub are_starts : AreAll (λ l. (c : ℕ) × (line_start : Bool) × (c < length S.conditions)
-      × ListsSet l (IsActive S c line_start)) starts
+  pub are_starts : AreAll (λ l. (c : ℕ) × (line_start : Bool) × (c < length S.conditions) × ListsSet l (λ i.
+      (r : Rule) × (slice_get S.rules i ≡ Some r) × (active S c line_start r ≡ true))) starts
   pub are_lasts : AreAll (λ l. (c : ℕ) × (line_start : Bool) × (w : List ℕ) × (c < length S.conditions) × IsText w
       × (1 ≤ length w) × ListsSet l (IsLast (ReadsActive S c line_start) w)) lasts
   pub total : n ≡ 1 + length starts + length lasts
 
--- Names that proofs have for where the positions of rule i begin, when those of the first of these rules begin at `base`,
--- for the side of the trail, and for the lists of subsets.
+-- Names that the code and proofs have: for the positions of a rule, for where those of rule i begin, when those of the
+-- first of these rules begin at `base`, for the side of the trail, for the active rules, and for the lists of subsets.
+
+abbrev pub positions_of_rule : Rule → ℕ
+positions_of_rule r = positions r.head + option_map_or positions r.trail 0
 
 abbrev pub base_of : List Rule → ℕ → ℕ → ℕ
 base_of [] base i = base
@@ -79,6 +68,9 @@ ReadsTrail trail base rs = MatchOption trail (rs ≡ []) (λ t. Reads t base rs)
 
 abbrev pub Distinct : List (List ℕ) → Type 0
 Distinct ls = Pairwise ◌≢◌ ls
+
+abbrev pub IsActive : Spec → ℕ → Bool → ℕ → Type 0
+IsActive S c line_start i = (r : Rule) × (slice_get S.rules i ≡ Some r) × (active S c line_start r ≡ true)
 
 abbrev pub AreStarts : Spec → List (List ℕ) → Type 0
 AreStarts S ls = AreAll (λ l. (c : ℕ) × (line_start : Bool) × (c < length S.conditions) × ListsSet l (IsActive S c line_start)) ls

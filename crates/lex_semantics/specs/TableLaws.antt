@@ -30,7 +30,7 @@ StatesBelow M n = (c : ℕ) (line_start : Bool) (w : List ℕ) → c < M.conditi
 pub record SameAnswers (S T : Spec) : Type 0 where
   pub live : (c : ℕ) (line_start : Bool) (w : List ℕ) → c < length S.conditions → IsText w → Live S c line_start w ↔ Live T c line_start w
   pub accepted : (c : ℕ) (line_start : Bool) (w : List ℕ) (i : ℕ) → c < length S.conditions → IsText w →
-      Accepted (rejects S) S c line_start w i ↔ Accepted (rejects T) T c line_start w i
+      Accepted S c line_start w i ↔ Accepted T c line_start w i
   pub rejecting : rejects S ≡ rejects T
   pub useless : (i : ℕ) → Useless S i ↔ Useless T i
   pub back_words : (c : ℕ) (line_start : Bool) (w : List ℕ) → BackWord S c line_start w ↔ BackWord T c line_start w

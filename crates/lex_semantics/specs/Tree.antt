@@ -26,10 +26,10 @@ abbrev pub trees : List Tree → Trees
 trees [] = no_trees
 trees (t ∷ ts) = tree t (trees ts)
 
--- the joining of k words of P
-abbrev pub Joined : (List ℕ → Type 0) → ℕ → List ℕ → Type 0
-Joined P zero w = w ≡ []
-Joined P (suc k) w = (u : List ℕ) × (v : List ℕ) × (w ≡ u ++ v) × P u × Joined P k v
+-- the joining of k lists: of P j, then of P (j + 1), and so on
+abbrev pub Passes : {X : Type 0} → (ℕ → List X → Type 0) → ℕ → ℕ → List X → Type 0
+Passes P j zero w = w ≡ []
+Passes {X} P j (suc k) w = (u v : List X) × (w ≡ u ++ v) × P j u × Passes P (suc j) k v
 
 -- a word of the tree's language
 abbrev mutual
@@ -38,19 +38,25 @@ abbrev mutual
   In (Set s) w = (b : ℕ) × (w ≡ b ∷ []) × IsIn s b
   In (Cat ts) w = InEach ts w
   In (Alt ts) w = InSome ts w
-  In (Star t) w = (k : ℕ) × Joined (In t) k w
-  In (Repeat t m n) w = (k : ℕ) × (m ≤ k) × IfSome n (λ n. k ≤ n) × Joined (In t) k w
+  In (Star t) w = (k : ℕ) × Passes (λ j. In t) 0 k w
+  In (Repeat t m n) w = (k : ℕ) × (m ≤ k) × IfSome n (λ n. k ≤ n) × Passes (λ j. In t) 0 k w
 
   -- the joining of words of the trees, in order
   pub InEach : Trees → List ℕ → Type 0
   InEach no_trees w = w ≡ []
-  InEach (tree t ts) w = (u : List ℕ) × (v : List ℕ) × (w ≡ u ++ v) × In t u × InEach ts v
+  InEach (tree t ts) w = (u v : List ℕ) × (w ≡ u ++ v) × In t u × InEach ts v
 
   -- a word of one of the trees
   pub InSome : Trees → List ℕ → Type 0
   InSome no_trees w = ⊥
   InSome (tree t ts) w = In t w ⊎ InSome ts w
 
--- A name that proofs have for a count that is no more than the bound of a repetition, where there is one.
+-- Names that proofs have: for the joining of k words of one language, and for a count that is no more than the bound of
+-- a repetition, where there is one.
+
+abbrev pub Joined : (List ℕ → Type 0) → ℕ → List ℕ → Type 0
+Joined P zero w = w ≡ []
+Joined P (suc k) w = (u v : List ℕ) × (w ≡ u ++ v) × P u × Joined P k v
+
 abbrev pub UpTo : Option ℕ → ℕ → Type 0
 UpTo n k = IfSome n (λ n. k ≤ n)

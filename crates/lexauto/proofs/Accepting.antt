@@ -72,8 +72,8 @@ module _ (S : Spec) (sound : IsSound S) (c : ℕ) (line_start : Bool) (w : List 
       to (k, h) =
           let same : h.rule ≡ r = (let e : Some h.rule ≡ Some r = sym h.at ∙ at in cc) in
           let reads = fit_read S c line_start w i k (base_of S.rules 0 i) h in
-          let (p, (rs, zs, e, ends, rest), last) = accept.0 (subst (λ (q : Rule). ReadsWord (ReadsRule q (base_of S.rules 0 i)) w) same reads) in
-          (p, (rs, zs, e, ends, (i, r, at, subst (λ (q : Rule). active S c line_start q ≡ true) same h.is_active, subst (λ (b : ℕ). ReadsRule r b (rs ++ zs)) (base_is S.rules i) rest)), last)
+          let (p, (rs, zs, a, e, rest), last) = accept.0 (subst (λ (q : Rule). ReadsWord (ReadsRule q (base_of S.rules 0 i)) w) same reads) in
+          (p, (rs, zs, a, e, (i, r, at, subst (λ (q : Rule). active S c line_start q ≡ true) same h.is_active, subst (λ (b : ℕ). ReadsRule r b (rs ++ (a, p) ∷ zs)) (base_is S.rules i) rest)), last)
 
       same_rule : (j : ℕ) (q : Rule) (p : ℕ) → slice_get S.rules j ≡ Some q → IsLast (ReadsRule q (base_of S.rules 0 j)) w p → (rule_quad r (base_of S.rules 0 i)).last p → i ≡ j
       same_rule j q p there l last =
@@ -86,14 +86,14 @@ module _ (S : Spec) (sound : IsSound S) (c : ℕ) (line_start : Bool) (w : List 
           ]
 
       from : (p : ℕ) × IsLast (ReadsActive S c line_start) w p × (rule_quad r (base_of S.rules 0 i)).last p → HasFit S c line_start w i
-      from (p, (rs, zs, e, ends, (j, q, there, on, read)), last) =
-          let reads : ReadsRule q (base_of S.rules 0 j) (rs ++ zs) = subst (λ (b : ℕ). ReadsRule q b (rs ++ zs)) (sym (base_is S.rules j)) read in
-          let same : i ≡ j = same_rule j q p there (rs, zs, e, ends, reads) last in
+      from (p, (rs, zs, a, e, (j, q, there, on, read)), last) =
+          let reads : ReadsRule q (base_of S.rules 0 j) (rs ++ (a, p) ∷ zs) = subst (λ (b : ℕ). ReadsRule q b (rs ++ (a, p) ∷ zs)) (sym (base_is S.rules j)) read in
+          let same : i ≡ j = same_rule j q p there (rs, zs, a, e, reads) last in
           let rule : r ≡ q = (let g : Some r ≡ Some q = sym at ∙ ap (slice_get S.rules) same ∙ there in cc) in
-          let mine : ReadsRule r (base_of S.rules 0 i) (rs ++ zs) =
-          subst (λ (z : Rule). ReadsRule z (base_of S.rules 0 i) (rs ++ zs)) (sym rule) (subst (λ (n : ℕ). ReadsRule q (base_of S.rules 0 n) (rs ++ zs)) (sym same) reads) in
+          let mine : ReadsRule r (base_of S.rules 0 i) (rs ++ (a, p) ∷ zs) =
+          subst (λ (z : Rule). ReadsRule z (base_of S.rules 0 i) (rs ++ (a, p) ∷ zs)) (sym rule) (subst (λ (n : ℕ). ReadsRule q (base_of S.rules 0 n) (rs ++ (a, p) ∷ zs)) (sym same) reads) in
           read_fit S c line_start w i (base_of S.rules 0 i) r at (subst (λ (z : Rule). active S c line_start z ≡ true) (sym rule) on)
-          (accept.1 (p, (rs, zs, e, ends, mine), last))
+          (accept.1 (p, (rs, zs, a, e, mine), last))
 
   pub left_is : (k : Key) → LastKey S c line_start w k → (i : ℕ) (r : Rule) → slice_get S.rules i ≡ Some r
       → (rule_exits r (marked (all_positions S.rules) (lasts_in k)) (base_of S.rules 0 i) ≡ true) ↔ HasFit S c line_start w i

@@ -47,17 +47,13 @@ chosen_ascends false (x ∷ l) h = (λ j a. absurd a, tt)
 
 -- nothing fits the empty word
 no_fit : (S : Spec) (c : ℕ) (line_start : Bool) (i : ℕ) → HasFit S c line_start [] i → ⊥
-no_fit S c line_start i (k, h) = empty h.text h.trail h.splits (let e = h.length_is in let n = h.not_empty in omega (arith, e, n))
-  where
-    empty : (u v : List ℕ) → [] ≡ u ++ v → 1 ≤ length u → ⊥
-    empty [] v e n = omega (arith, n)
-    empty (x ∷ u) v e n = absurd cc
+no_fit S c line_start i (k, h) = (let n = h.not_empty in let e = h.inside in omega (arith, n, e))
 
-chosen_is : (all : Bool) (S : Spec) (c : ℕ) (line_start : Bool) (w : List ℕ) (l : List ℕ) → Ascending l → ((i : ℕ) → Among l i ↔ HasFit S c line_start w i) → (i : ℕ) → Among (chosen all l) i ↔ Accepted all S c line_start w i
-chosen_is true S c line_start w l up fits i = fits i
-chosen_is false S c line_start w l up fits i = both (first_is l up i) (
-  (λ (a, least). ((fits i).0 a, λ j lt f. least j lt ((fits j).1 f))),
-  (λ (f, least). ((fits i).1 f, λ j lt a. least j lt ((fits j).0 a))),
+chosen_is : (all : Bool) (S : Spec) (c : ℕ) (line_start : Bool) (w : List ℕ) (l : List ℕ) → rejects S ≡ all → Ascending l → ((i : ℕ) → Among l i ↔ HasFit S c line_start w i) → (i : ℕ) → Among (chosen all l) i ↔ Accepted S c line_start w i
+chosen_is true S c line_start w l e up fits i = ((λ a. ((fits i).0 a, λ no. cc)), (λ h. (fits i).1 h.0))
+chosen_is false S c line_start w l e up fits i = both (first_is l up i) (
+  (λ (a, least). ((fits i).0 a, λ no j lt f. least j lt ((fits j).1 f))),
+  (λ (f, least). ((fits i).1 f, λ j lt a. least e j lt ((fits j).0 a))),
 )
 
 get_or_past : {A : Type 0} (xs : List A) (i : ℕ) (d : A) → length xs ≤ i → slice_index_or xs i d ≡ d
@@ -141,7 +137,7 @@ module _ (S : Spec) (sound : IsSound S) (keys : List Key) (next starts line_star
     accepts = λ c line_start w i h text.
         let l = rules_left S.rules (marked (all_positions S.rules) (lasts_in (run (step_in S) (start_key S c line_start) w))) 0 0 in
         let e = accepts_after c line_start w h text in
-        let is = chosen_is (rejects S) S c line_start w l (left_ascend (marked (all_positions S.rules) (lasts_in (run (step_in S) (start_key S c line_start) w))) S.rules 0 0) (left_fit c line_start w text) i in (
+        let is = chosen_is (rejects S) S c line_start w l refl (left_ascend (marked (all_positions S.rules) (lasts_in (run (step_in S) (start_key S c line_start) w))) S.rules 0 0) (left_fit c line_start w text) i in (
           λ a. is.0 (subst (λ (xs : List ℕ). Among xs i) e a),
           λ f. subst (λ (xs : List ℕ). Among xs i) (sym e) (is.1 f),
         );

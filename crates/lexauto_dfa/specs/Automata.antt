@@ -1,9 +1,8 @@
 -- What a `Dfa` tells, and the machine that it is with a specification's actions. (This project's.)
-use Rattle.std.specs.Prelude.{ℕ, Bool, List}
-use Rattle.lex_semantics.specs.Spec.{Spec}
+use Rattle.std.specs.Prelude.{ℕ, Bool, false, List, length, slice_index_or, option_map, unwrap_or, slice_get}
+use Rattle.lex_semantics.specs.Spec.{Spec, Whole, statements_at, end_at}
 use Rattle.lex_semantics.specs.Machine.{Machine}
 use Rattle.lexauto_dfa.specs.Invariant.{IsAutomaton}
-use Rattle.lexauto_dfa.specs.Machines.{machine_with}
 use Rattle.lexauto_dfa.specs.Parts.{conditions, states, start, next, accepts, goes_on}
 use Rattle.lexauto_dfa.specs.declared.dfa.Dfa.{Dfa}
 use Rattle.lexauto_dfa.specs.declared.dfa.Parts.{Parts}
@@ -36,7 +35,17 @@ goes_on_of d = goes_on d.parts
 
 -- the lists' states, with the actions of a specification
 abbrev pub machine_in : Parts → Spec → Machine
-machine_in p S = machine_with S (start p) (next p) (accepts p) (goes_on p)
+machine_in p S = record {
+  conditions = length S.conditions;
+  count = length S.rules;
+  start = start p;
+  next = next p;
+  accepts = accepts p;
+  goes_on = λ s. slice_index_or p.goes_on.items s false;
+  cut = λ i. unwrap_or (option_map (λ r. r.cut) (slice_get S.rules i)) Whole;
+  statements = λ i. statements_at (slice_get S.rules i);
+  ending = λ c. end_at (slice_get S.conditions c);
+}
 
 -- the automaton's states, with the actions of a specification
 abbrev pub machine_of : Dfa → Spec → Machine

@@ -4,3 +4,4 @@ pub mod Invariant
 pub mod Automata
 pub mod Laws
 pub mod Alike
+pub mod Numbering

@@ -1,12 +1,12 @@
 -- A machine of states with the actions of a specification. (This project's.)
-use Rattle.std.specs.Prelude.{◌≡◌, ◌<◌, ◌⊎◌, ℕ, Bool, List, cond, ◌+◌, ◌*◌, length, nat_lt, slice_index, Option, Some, None, slice_get}
+use Rattle.std.specs.Prelude.{◌≡◌, ◌<◌, ◌⊎◌, ℕ, Bool, List, cond, ◌+◌, ◌*◌, length, nat_lt, slice_index, Option, option_map, unwrap_or, slice_get}
 use Rattle.lex_semantics.specs.Spec.{Spec, Rule, Cut, Whole, statements_at, end_at}
 use Rattle.lex_semantics.specs.Text.{IsText}
 use Rattle.lex_semantics.specs.Machine.{Machine, state_after}
 
+-- Names that proofs have for the parts of the machine of an automaton (`Automata.machine_in`).
 abbrev pub cut_at : Option Rule → Cut
-cut_at None = Whole
-cut_at (Some r) = r.cut
+cut_at o = unwrap_or (option_map (λ r. r.cut) o) Whole
 
 abbrev pub machine_with : Spec → (ℕ → Bool → ℕ) → (ℕ → ℕ → ℕ) → (ℕ → List ℕ) → (ℕ → Bool) → Machine
 machine_with S start next accepts goes_on = record {

@@ -7,7 +7,8 @@ use Rattle.lexauto_dfa.specs.Machines.{moving}
 use Rattle.lexauto_dfa.proofs.Below.{holds}
 use Rattle.lexauto_dfa.specs.Parts.{states, next, after, accepts, IsReached}
 use Rattle.lexauto_dfa.specs.declared.dfa.Parts.{Parts}
-use Rattle.lexauto_minimise.specs.Least.{AreToldApart, InOrder, by_turns, calls}
+use Rattle.lexauto_dfa.specs.Numbering.{InOrder}
+use Rattle.lexauto_minimise.specs.Least.{AreToldApart, by_turns, calls}
 use Rattle.lexauto_minimise.specs.LeastExamples.{by_a, IsOfA, IsOfATwice, LeastOfA, NotLeast, NotNumbered}
 
 abbrev table : List ℕ

@@ -3,7 +3,7 @@ use Rattle.std.proofs.Common.{◌≡◌, ◌≢◌, ℕ, zero, suc, ◌+◌, ◌
 use Rattle.std.proofs.lemmas.List.{get_or_append_left, get_or-append-add}
 use Rattle.std.specs.Prelude.{slice_index}
 use Rattle.lexauto_minimise.specs.Automata.{Automaton, next, accepts, after, IsText, IsWhole, SameFuture, AreToldApart, IsDead, IsReached}
-use Rattle.lexauto_minimise.specs.Least.{InOrder}
+use Rattle.lexauto_dfa.specs.Numbering.{InOrder}
 use Rattle.lexauto_minimise.specs.Numbers.{IsNumberOf}
 use Rattle.lexauto_minimise.specs.Quotients.{AreClasses, IsQuotient, IsMinimised}
 use Rattle.lexauto_minimise.proofs.Swapped.{same_or_not}

@@ -3,7 +3,7 @@ use Rattle.std.proofs.Common.{◌≡◌, ◌≢◌, ℕ, suc, ◌+◌, ◌-◌, 
 use Rattle.std.proofs.lemmas.List.{get_or_append_left, get_or-append-add}
 use Rattle.std.specs.Prelude.{slice_index}
 use Rattle.lexauto_minimise.specs.Numbers.{Numbering, IsNumberOf, Grown, Keeps, AreCalled, AreRows, AreStarts}
-use Rattle.lexauto_minimise.specs.Least.{InOrder}
+use Rattle.lexauto_dfa.specs.Numbering.{InOrder}
 use Rattle.lexauto_minimise.proofs.Swapped.{same_or_not}
 use Rattle.lexauto_minimise.proofs.Pigeons.{at_most}
 

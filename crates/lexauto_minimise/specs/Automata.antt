@@ -1,7 +1,7 @@
 -- The words of `Least` over one list of starts and one table, by which the steps are told.
 use Rattle.std.specs.Prelude.{◌≡◌, ◌≢◌, ℕ, ◌+◌, ◌-◌, ◌*◌, ◌<◌, List, [], ◌∷◌, ◌++◌, length, slice_index, slice_index_or}
 pub use Rattle.lex_semantics.specs.Text.{IsText}
-use Rattle.lexauto_minimise.specs.Least.{InOrder}
+use Rattle.lexauto_dfa.specs.Numbering.{InOrder}
 
 pub record Automaton : Type 0 where
   pub states : ℕ

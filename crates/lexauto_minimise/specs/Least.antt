@@ -1,8 +1,10 @@
 -- The least automaton of those that accept alike, and the canonical numbers of its states. (This project's.)
-use Rattle.std.specs.Prelude.{◌≡◌, ◌≢◌, ◌⊎◌, ℕ, suc, ◌-◌, ◌<◌, ◌≤◌, Bool, List, [], ◌∷◌, ◌++◌}
+use Rattle.std.specs.Prelude.{◌≡◌, ◌≢◌, ◌⊎◌, ℕ, suc, ◌-◌, ◌<◌, ◌≤◌, Bool, List, [], ◌∷◌, ◌++◌, fold, zip}
+use Rattle.std.specs.List.{flat_map}
 use Rattle.lex_semantics.specs.Text.{IsText}
 use Rattle.lexauto_dfa.specs.Automata.{conditions_of, lists_of}
-use Rattle.lexauto_dfa.specs.Parts.{states, start, accepts, goes_on, after, lists_in, IsReached}
+use Rattle.lexauto_dfa.specs.Numbering.{InOrder}
+use Rattle.lexauto_dfa.specs.Parts.{states, start, next, accepts, goes_on, after, lists_in, IsReached}
 use Rattle.lexauto_dfa.specs.declared.dfa.Parts.{Parts}
 use Rattle.lexauto_dfa.specs.declared.dfa.Dfa.{Dfa}
 
@@ -12,7 +14,7 @@ SameFuture p s q t = (w : List ℕ) → IsText w → accepts p (after p s w) ≡
 
 -- some continuation, perhaps the empty one, after which other rules are accepted
 abbrev pub AreToldApart : Parts → ℕ → ℕ → Type 0
-AreToldApart p s t = (w : List ℕ) × IsText w × (accepts p (after p s w) ≢ accepts p (after p t w))
+AreToldApart p s t = (w : List ℕ) × IsText w × (accepts p (fold (next p) s w) ≢ accepts p (fold (next p) t w))
 
 -- each state but the dead one is reached, and continuations tell each two apart
 pub record IsLeast (p : Parts) : Type 0 where
@@ -21,23 +23,16 @@ pub record IsLeast (p : Parts) : Type 0 where
 
 -- of each condition the start elsewhere, and then that at the start of a line
 abbrev pub by_turns : List ℕ → List ℕ → List ℕ
-by_turns [] ys = []
-by_turns (x ∷ xs) [] = []
-by_turns (x ∷ xs) (y ∷ ys) = x ∷ y ∷ by_turns xs ys
+by_turns starts line_starts = flat_map (λ p. p.0 ∷ p.1 ∷ []) (zip starts line_starts)
 
--- where the states are called: by the starts, condition by condition, elsewhere and then at the start of a line; and
--- then by the states in order of number, byte by byte
+-- The states but the dead one are numbered from 1 in the order of their first calls. They are called by the starts,
+-- condition by condition, and then by the states in order of number, byte by byte.
+abbrev pub IsNumbered : Parts → Type 0
+IsNumbered p = InOrder 0 (by_turns p.starts.items p.line_starts.items ++ p.next.items) (states p - 1)
+
+-- a name that proofs have for where the states are called
 abbrev pub calls : Parts → List ℕ
 calls p = by_turns p.starts.items p.line_starts.items ++ p.next.items
-
--- The numbers come in order: each is at most n, or else the next one, and so on. In the end m is the greatest.
-abbrev pub InOrder : ℕ → List ℕ → ℕ → Type 0
-InOrder n [] m = m ≡ n
-InOrder n (x ∷ xs) m = ((x ≤ n) × InOrder n xs m) ⊎ ((x ≡ suc n) × InOrder (suc n) xs m)
-
--- the states but the dead one are numbered from 1 in the order of their first call
-abbrev pub IsNumbered : Parts → Type 0
-IsNumbered p = InOrder 0 (calls p) (states p - 1)
 
 -- after each word from each start both accept the same rules
 abbrev pub AcceptsAs : Parts → Parts → Type 0

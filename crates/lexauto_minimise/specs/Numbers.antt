@@ -1,6 +1,6 @@
 -- Classes of states get numbers when they are first called.
 use Rattle.std.specs.Prelude.{◌≡◌, ◌⊎◌, ℕ, ◌+◌, ◌-◌, ◌*◌, ◌/◌, ◌%◌, ◌<◌, ◌≤◌, List, [], ◌∷◌, ◌++◌, length, slice_index}
-use Rattle.lexauto_minimise.specs.Least.{InOrder}
+use Rattle.lexauto_dfa.specs.Numbering.{InOrder}
 use Rattle.lexauto_minimise.specs.declared.numbering.Numbers.{Numbers}
 
 -- each number has a state, and its class has the number; a class that has none has a number that is too great

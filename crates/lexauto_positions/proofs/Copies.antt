@@ -62,7 +62,7 @@ module _ (S : ℕ → Bool) where
     nothing_left Empty h z base i = refl
     nothing_left (Set s) h z base i = absurd (omega (arith, z))
     nothing_left (Cat ts) h z base i = nothing_left_each ts h.0 z base i
-    nothing_left (Alt no_trees) h z base i = absurd h.1
+    nothing_left (Alt no_trees) h z base i = absurd (h.1 refl)
     nothing_left (Alt (tree t ts)) h z base i =
         ap (λ j. j || exits_some ts S (base + positions t) i) (nothing_left t h.0.0 (left_zero (positions t) (positions_of ts) z) base i)
         ∙ nothing_left_some ts h.0.1 (right_zero (positions t) (positions_of ts) z) (base + positions t) i

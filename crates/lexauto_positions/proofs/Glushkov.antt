@@ -2,8 +2,8 @@
 use Rattle.std.specs.Prelude.{◌≡◌, ℕ, zero, suc, ◌+◌, ◌-◌, ◌*◌, ◌<◌, ◌≤◌, min, max, ◌⊎◌, List, [], ◌∷◌, ◌++◌, Option, Some, None}
 use Rattle.std.proofs.Common.{inl, inr, refl, ap, sym, subst, arith}
 use Rattle.lex_semantics.specs.ByteSets.{ByteSet, IsIn}
-use Rattle.lex_semantics.specs.Tree.{Tree, Trees, Empty, Set, Cat, Alt, Star, Repeat, no_trees, tree, UpTo}
-use Rattle.lex_semantics.specs.Positions.{Cell, Readings, copies, positions, positions_of, Passes, Reads, ReadsEach, ReadsSome}
+use Rattle.lex_semantics.specs.Tree.{Tree, Trees, Empty, Set, Cat, Alt, Star, Repeat, no_trees, tree, UpTo, Passes}
+use Rattle.lex_semantics.specs.Positions.{Cell, Readings, copies, positions, positions_of, Reads, ReadsEach, ReadsSome}
 use Rattle.lexauto_positions.specs.PositionAutomaton.{Quad, fail, skip, leaf, cat, alt, plus, opt, times, chain, repeated, quad, quad_all, quad_one, Whole}
 use Rattle.lexauto_positions.proofs.Parts.{Within, cut, join, choose, chosen_left, chosen_right, cut_plus, in_star, in_some, opt_more, opt_less}
 

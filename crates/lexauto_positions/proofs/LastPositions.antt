@@ -2,7 +2,7 @@
 use Rattle.std.specs.Prelude.{◌≡◌, ◌≢◌, ◌↔◌, ℕ, ◌⊎◌, List, [], ◌∷◌, ◌++◌}
 use Rattle.std.proofs.Common.{inl, inr, refl, ap, sym, subst, ◌∙◌}
 use Rattle.lex_semantics.specs.Positions.{Cell, Readings, bytes_of, ReadsWord}
-use Rattle.lex_semantics.specs.Subsets.{EndsAt, IsLast}
+use Rattle.lex_semantics.specs.Subsets.{IsLast}
 use Rattle.lexauto_positions.specs.PositionAutomaton.{Quad, From, Whole}
 use Rattle.lexauto_positions.proofs.Glushkov.{Describes}
 use Rattle.lexauto_positions.proofs.Trimmed.{Finishes, from_any}
@@ -10,6 +10,26 @@ use Rattle.lexauto_positions.proofs.Trimmed.{Finishes, from_any}
 -- some nonempty word goes on from w to the end of a reading
 abbrev pub GoesOn : Readings → List ℕ → Type 0
 GoesOn L w = (z : List ℕ) × (z ≢ []) × ReadsWord L (w ++ z)
+
+-- the last byte is read at p
+abbrev EndsAt : ℕ → Readings
+EndsAt p [] = ⊥
+EndsAt p (c ∷ []) = c.1 ≡ p
+EndsAt p (c ∷ d ∷ rs) = EndsAt p (d ∷ rs)
+
+ends_at : (us : List Cell) (b p : ℕ) → EndsAt p (us ++ (b, p) ∷ [])
+ends_at [] b p = refl
+ends_at (c ∷ []) b p = refl
+ends_at (c ∷ d ∷ us) b p = ends_at (d ∷ us) b p
+
+last_cell : (rs : List Cell) (p : ℕ) → EndsAt p rs → (us : List Cell) × (b : ℕ) × (rs ≡ us ++ (b, p) ∷ [])
+last_cell [] p h = absurd h
+last_cell (c ∷ []) p h = ([], c.0, ap (λ n. (c.0, n) ∷ []) h)
+last_cell (c ∷ d ∷ rs) p h = (let (us, b, is) = last_cell (d ∷ rs) p h in (c ∷ us, b, ap (λ ts. c ∷ ts) is))
+
+one_more : (us : List Cell) (c : Cell) (zs : List Cell) → (us ++ c ∷ []) ++ zs ≡ us ++ c ∷ zs
+one_more [] c zs = refl
+one_more (d ∷ us) c zs = ap (λ ts. d ∷ ts) (one_more us c zs)
 
 module _ (x : Quad) where
   -- over these cells from p to q
@@ -106,12 +126,22 @@ module _ (x : Quad) (L : Readings) (lo hi : ℕ) (d : Describes x L lo hi) (fin 
       along q (c ∷ rs) p h e = along c.1 rs p (inr (q, e.0)) e.2
 
   pub last_to_path : (w : List ℕ) (p : ℕ) → IsLast L w p → (rs : List Cell) × (bytes_of rs ≡ w) × Arrives x rs p
-  last_to_path w p l = (l.0, l.2, (cut_reading x l.0 l.1 p l.3 (d.complete (l.0 ++ l.1) l.4)).0)
+  last_to_path w p (us, zs, b, e, h) = (
+    us ++ (b, p) ∷ [],
+    bytes-append us ((b, p) ∷ []) ∙ e,
+    (cut_reading x (us ++ (b, p) ∷ []) zs p (ends_at us b p) (subst (Whole x) (sym (one_more us (b, p) zs)) (d.complete (us ++ (b, p) ∷ zs) h))).0,
+  )
 
   pub path_to_last : (w : List ℕ) (p : ℕ) (rs : List Cell) → bytes_of rs ≡ w → Arrives x rs p → IsLast L w p
   path_to_last w p rs e a =
       let f = fin p (occurs rs p a) in
-      (rs, f.0, e, arrives_end x rs p a, d.sound (rs ++ f.0) (join_reading x rs f.0 p a f.1))
+      let (us, b, is) = last_cell rs p (arrives_end x rs p a) in (
+        us,
+        f.0,
+        b,
+        sym (bytes-append us ((b, p) ∷ [])) ∙ ap bytes_of (sym is) ∙ e,
+        subst L (ap (λ ts. ts ++ f.0) is ∙ one_more us (b, p) f.0) (d.sound (rs ++ f.0) (join_reading x rs f.0 p a f.1)),
+      )
 
   -- after one byte
   pub begin_is : (b q : ℕ) → IsLast L (b ∷ []) q ↔ (x.first q × x.letter (b, q))

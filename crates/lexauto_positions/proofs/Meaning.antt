@@ -1,8 +1,9 @@
 -- The words that fit rules, by readings.
 use Rattle.std.specs.Prelude.{◌≢◌, ◌↔◌, slice_get, take, IsTrue}
 use Rattle.std.proofs.Common.{◌≡◌, ℕ, zero, suc, ◌+◌, ◌≤◌, Bool, true, List, [], ◌∷◌, ◌++◌, length, inl, inr, Option, Some, None, IfSome, refl, sym, ◌∙◌, ap, subst, arith}
+use Rattle.lex_semantics.proofs.Splits.{split_of, of_split}
 use Rattle.lex_semantics.specs.Text.{IsText}
-use Rattle.lex_semantics.specs.Tree.{Tree, Trees, Empty, Set, Cat, Alt, Star, Repeat, no_trees, tree, Joined, In, InEach, InSome}
+use Rattle.lex_semantics.specs.Tree.{Tree, Trees, Empty, Set, Cat, Alt, Star, Repeat, no_trees, tree, Passes, In, InEach, InSome}
 use Rattle.lex_semantics.specs.Positions.{Cell, positions, bytes_of, ReadsWord}
 use Rattle.lex_semantics.specs.Spec.{Spec, Rule}
 use Rattle.lex_semantics.specs.Active.{active}
@@ -21,9 +22,9 @@ use Rattle.lexauto_positions.proofs.LastPositions.{GoesOn}
 
 -- words are texts
 
-joined_text : (P : List ℕ → Type 0) → ((w : List ℕ) → P w → IsText w) → (k : ℕ) (w : List ℕ) → Joined P k w → IsText w
-joined_text P f zero w e = subst IsText (sym e) tt
-joined_text P f (suc k) w (u, v, e, here, rest) = subst IsText (sym e) (is_text_append u v (f u here) (joined_text P f k v rest))
+joined_text : (P : List ℕ → Type 0) → ((w : List ℕ) → P w → IsText w) → (j k : ℕ) (w : List ℕ) → Passes (λ i. P) j k w → IsText w
+joined_text P f j zero w e = subst IsText (sym e) tt
+joined_text P f j (suc k) w (u, v, e, here, rest) = subst IsText (sym e) (is_text_append u v (f u here) (joined_text P f (suc j) k v rest))
 
 mutual
   pub word_text : (t : Tree) (w : List ℕ) → In t w → IsText w
@@ -31,8 +32,8 @@ mutual
   word_text (Set s) w (b, e, is) = subst IsText (sym e) (is.0, tt)
   word_text (Cat ts) w h = each_text ts w h
   word_text (Alt ts) w h = some_text ts w h
-  word_text (Star t) w (k, joined) = joined_text (In t) (λ u h. word_text t u h) k w joined
-  word_text (Repeat t m n) w (k, least, most, joined) = joined_text (In t) (λ u h. word_text t u h) k w joined
+  word_text (Star t) w (k, joined) = joined_text (In t) (λ u h. word_text t u h) 0 k w joined
+  word_text (Repeat t m n) w (k, least, most, joined) = joined_text (In t) (λ u h. word_text t u h) 0 k w joined
 
   each_text : (ts : Trees) (w : List ℕ) → InEach ts w → IsText w
   each_text no_trees w e = subst IsText (sym e) tt
@@ -68,7 +69,8 @@ some_bytes (c ∷ us) h = omega arith
 
 -- A word that fits a rule has a reading of the rule, and a word with a reading of an active rule fits it.
 pub fit_read : (S : Spec) (c : ℕ) (line_start : Bool) (w : List ℕ) (i k base : ℕ) → (h : Fits S c line_start w i k) → ReadsWord (ReadsRule h.rule base) w
-fit_read S c line_start w i k base h =
+fit_read S c line_start w i k base fits =
+    let h = split_of S c line_start w i k fits in
     let (us, is_u, read) = (word_readings h.rule.head base h.text).0 h.in_head in
     let (vs, is_v, reads) = trail_read h.rule.trail (base + positions h.rule.head) h.trail h.in_trail in
     let some : 1 ≤ length (bytes_of us) = subst (λ (z : List ℕ). 1 ≤ length z) (sym is_u) (omega (arith, h.length_is, h.not_empty)) in
@@ -77,7 +79,7 @@ fit_read S c line_start w i k base h =
 pub read_fit : (S : Spec) (c : ℕ) (line_start : Bool) (w : List ℕ) (i base : ℕ) (r : Rule) → slice_get S.rules i ≡ Some r → active S c line_start r ≡ true → ReadsWord (ReadsRule r base) w → HasFit S c line_start w i
 read_fit S c line_start w i base r at on (rs, is_w, (us, vs, e, (read, some), reads)) = (
   length (bytes_of us),
-  record {
+  of_split S c line_start w i (length (bytes_of us)) (record {
     rule = r;
     at = at;
     is_active = on;
@@ -88,11 +90,11 @@ read_fit S c line_start w i base r at on (rs, is_w, (us, vs, e, (read, some), re
     not_empty = some_bytes us some;
     in_head = (word_readings r.head base (bytes_of us)).1 (us, refl, read);
     in_trail = read_trail r.trail (base + positions r.head) vs reads;
-  },
+  }),
 )
 
 fit_text : (S : Spec) (c : ℕ) (line_start : Bool) (w : List ℕ) (i k : ℕ) → Fits S c line_start w i k → IsText w
-fit_text S c line_start w i k h = subst IsText (sym h.splits) (is_text_append h.text h.trail (word_text h.rule.head h.text h.in_head) (trail_text h.rule.trail h.trail h.in_trail))
+fit_text S c line_start w i k fits = (let h = split_of S c line_start w i k fits in subst IsText (sym h.splits) (is_text_append h.text h.trail (word_text h.rule.head h.text h.in_head) (trail_text h.rule.trail h.trail h.in_trail)))
 
 pub active_fit : (S : Spec) (c : ℕ) (line_start : Bool) (w : List ℕ) → ReadsWord (ReadsActive S c line_start) w ↔ ((i : ℕ) × HasFit S c line_start w i)
 active_fit S c line_start w = (

@@ -14,8 +14,8 @@ use Rattle.lexauto_positions.proofs.Meaning.{active_some, live_goes_on, sound_ru
 -- the last positions under readings that are the same
 pub same_last : (A B : Readings) → ((rs : List Cell) → A rs ↔ B rs) → (w : List ℕ) (p : ℕ) → IsLast A w p ↔ IsLast B w p
 same_last A B same w p = (
-  λ (rs, zs, e, ends, h). (rs, zs, e, ends, (same (rs ++ zs)).0 h),
-  λ (rs, zs, e, ends, h). (rs, zs, e, ends, (same (rs ++ zs)).1 h),
+  λ (rs, zs, b, e, h). (rs, zs, b, e, (same (rs ++ (b, p) ∷ zs)).0 h),
+  λ (rs, zs, b, e, h). (rs, zs, b, e, (same (rs ++ (b, p) ∷ zs)).1 h),
 )
 
 same_word : (A B : Readings) → ((rs : List Cell) → A rs ↔ B rs) → (w : List ℕ) → ReadsWord A w ↔ ReadsWord B w

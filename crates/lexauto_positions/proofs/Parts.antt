@@ -1,7 +1,8 @@
 -- A position automaton reads what its tree reads.
 use Rattle.std.specs.Prelude.{◌≡◌, ℕ, zero, suc, ◌<◌, ◌≤◌, ◌⊎◌, List, [], ◌∷◌, ◌++◌}
 use Rattle.std.proofs.Common.{inl, inr, refl, ap, arith}
-use Rattle.lex_semantics.specs.Positions.{Cell, Readings, Passes}
+use Rattle.lex_semantics.specs.Tree.{Passes}
+use Rattle.lex_semantics.specs.Positions.{Cell, Readings}
 use Rattle.lexauto_positions.specs.PositionAutomaton.{Quad, cat, alt, plus, opt, From, Whole}
 
 -- every position of the automaton is in a range

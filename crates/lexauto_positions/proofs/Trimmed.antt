@@ -117,7 +117,7 @@ mutual
       (trim_cat (quad t base) (quad_all ts (base + positions t)) base (base + positions t) (base + positions t + positions_of ts) (trim t base h.0) (trim_all ts (base + positions t) h.1))
 
   trim_one : (ts : Trees) (base : ℕ) → HasPart ts → AreSoundTrees ts → Trim (quad_one ts base) base (base + positions_of ts)
-  trim_one no_trees base h k = absurd h
+  trim_one no_trees base h k = absurd (h refl)
   trim_one (tree t ts) base h k = record {
     some = ((trim t base k.0).some.0, chosen_left (quad t base) (quad_one ts (base + positions t)) (trim t base k.0).some.0 (trim t base k.0).some.1);
     each = λ p f g. alt_each (quad t base) (quad_one ts (base + positions t)) base (base + positions t) (base + positions t + positions_of ts) (trim t base k.0).each (each_one ts (base + positions t) k.1) p f (omega arith);

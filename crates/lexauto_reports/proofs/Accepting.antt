@@ -9,7 +9,7 @@ use Rattle.lex_semantics.specs.Text.{Among, Ascending, flag}
 use Rattle.lex_semantics.specs.Spec.{Spec, Rule, rejects}
 use Rattle.lex_semantics.specs.Reports.{Useless}
 use Rattle.lex_semantics.specs.Machine.{state_after}
-use Rattle.lex_semantics.specs.TableFor.{TableFor, Accepted}
+use Rattle.lex_semantics.specs.TableFor.{TableFor}
 use Rattle.lex_semantics.specs.TableLaws.{IsAccepted}
 use Rattle.lex_semantics.proofs.Fronts.{among_left, among_right, among_append}
 use Rattle.lex_semantics.proofs.TableReports.{useless_is}
@@ -164,12 +164,8 @@ module _ (p : Parts) (automaton : IsAutomaton p) (S : Spec) (count : conditions 
     | inr n ↦ absurd (subst (λ l. Among l i) (past_end (lists_in p) s [] (omega (arith, n, automaton.lists, length-map p.accepts.items (λ v. v.items)))) h)
   ]
 
-  fits_known : (all : Bool) (c : ℕ) (line_start : Bool) (w : List ℕ) (i : ℕ) → Accepted all S c line_start w i → i < length S.rules
-  fits_known true c line_start w i h = rule_known S.rules i h.1.rule h.1.at
-  fits_known false c line_start w i h = rule_known S.rules i h.0.1.rule h.0.1.at
-
   is_known : (i : ℕ) → IsAccepted (machine_in p S) S i → i < length S.rules
-  is_known i (c, line_start, w, cond, text, a) = fits_known (rejects S) c line_start w i ((table.accepts c line_start w i cond text).0 a)
+  is_known i (c, line_start, w, cond, text, a) = (let fit = ((table.accepts c line_start w i cond text).0 a).0.1 in rule_known S.rules i fit.rule fit.at)
 
   -- the rules that are accepted are rules of the specification
   pub rules_known : (s i : ℕ) → s < states p → Among (accepts p s) i → i < length S.rules

@@ -1,7 +1,8 @@
 -- The order of warnings.
-use Rattle.std.proofs.Common.{◌≡◌, ◌⊎◌, ◌<◌, ◌≤◌, ◌+◌, ◌*◌, ℕ, zero, suc, Bool, true, false, List, [], ◌∷◌, length, get_or, map, inl, inr, refl, arith}
+use Rattle.std.proofs.Common.{◌≡◌, ◌⊎◌, ◌<◌, ◌≤◌, ◌+◌, ◌*◌, ℕ, zero, suc, Bool, true, false, List, [], ◌∷◌, length, get_or, map, inl, inr, refl, sym, subst, arith}
 use Rattle.std.specs.Prelude.{cond, slice_get, option_map, unwrap_or}
 use Rattle.std.proofs.lemmas.Bool.{cases_lt}
+use Rattle.lex_semantics.specs.Text.{Among, Pairwise}
 use Rattle.lexspec.specs.RuleViews.{rule_of}
 use Rattle.lexspec.specs.declared.rule.Rule.{Rule}
 use Rattle.lexauto_reports.specs.Warned.{MayPrecede}
@@ -23,3 +24,15 @@ pub line_at : (rs : List Rule) (i : ℕ) (d : Rule) → i < length rs → (get_o
 line_at [] i d h = absurd (omega (arith, h))
 line_at (q ∷ rs) zero d h = refl
 line_at (q ∷ rs) (suc i) d h = line_at rs i d (omega (arith, h))
+
+all_of : (P : Warning → Type 0) (ws : List Warning) → ((j : ℕ) (d : Warning) → j < length ws → P (get_or ws j d)) → (v : Warning) → Among ws v → P v
+all_of P [] h v a = absurd a
+all_of P (w ∷ ws) h v (inl e) = subst P (sym e) (h 0 w (omega arith))
+all_of P (w ∷ ws) h v (inr a) = all_of P ws (λ j d lt. h (suc j) d (omega (arith, lt))) v a
+
+pub in_order : (ws : List Warning) → ((i j : ℕ) (d : Warning) → i ≤ j → j < length ws → MayPrecede (get_or ws i d) (get_or ws j d)) → Pairwise MayPrecede ws
+in_order [] h = tt
+in_order (w ∷ ws) h = (
+  λ v a. all_of (MayPrecede w) ws (λ j d lt. h 0 (suc j) d (omega arith) (omega (arith, lt))) v a,
+  in_order ws (λ i j d le lt. h (suc i) (suc j) d (omega (arith, le)) (omega (arith, lt))),
+)

@@ -1,5 +1,5 @@
 -- Which lines are warned of, and in which order. (This project's.)
-use Rattle.std.specs.Prelude.{◌≡◌, ℕ, ◌<◌, ◌≤◌, ◌⊎◌, true, false, List, ◌++◌, length, map, option_map, unwrap_or, slice_get, slice_index_or}
+use Rattle.std.specs.Prelude.{◌≡◌, ℕ, ◌<◌, ◌⊎◌, true, false, List, ◌++◌, map, option_map, unwrap_or, slice_get}
 use Rattle.lex_semantics.specs.Spec as S
 use Rattle.lexspec.specs.declared.spec.Spec.{Spec}
 use Rattle.lexspec.specs.Views.{spec_of, skipped_in, rules_in}
@@ -18,6 +18,3 @@ warned_of spec useless = map of_code (skipped_in spec) ++ map (of_rule (rules_in
 -- an earlier line comes first, and of one line skipped code
 abbrev pub MayPrecede : Warning → Warning → Type 0
 MayPrecede w v = (w.line < v.line) ⊎ ((w.line ≡ v.line) × (v.code ≡ true → w.code ≡ true))
-
-abbrev pub AreInOrder : List Warning → Type 0
-AreInOrder ws = (i j : ℕ) (d : Warning) → i ≤ j → j < length ws → MayPrecede (slice_index_or ws i d) (slice_index_or ws j d)

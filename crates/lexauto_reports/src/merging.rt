@@ -1,10 +1,10 @@
 //! The warnings of a specification.
 ghost use Rattle.std.specs.Prelude.{◌≡◌, ℕ, ◌+◌, ◌*◌, ◌<◌, ◌++◌, cond, length, map, IfOk, OnOk};
 ghost use Rattle.std.specs.List.Sorted.{IsPermutation};
-ghost use Rattle.lex_semantics.specs.Text.{Among};
+ghost use Rattle.lex_semantics.specs.Text.{Among, Pairwise};
 ghost use Rattle.lexspec.specs.RuleViews.{rule_of};
 ghost use Rattle.lexspec.specs.Views.{spec_of, rules_in};
-ghost use Rattle.lexauto_reports.specs.Warned.{of_code, of_rule, warned_of, AreInOrder};
+ghost use Rattle.lexauto_reports.specs.Warned.{of_code, of_rule, warned_of, MayPrecede};
 
 use crate::warned::Warning;
 use lexauto_dfa::OutOfMemory;
@@ -16,7 +16,7 @@ use std::alloc::{AllocError, Global};
 pub fn warnings(alloc: Global, spec: &Spec, useless: &[u32]) -> Result<Vec<Warning>, OutOfMemory>
     requires known { (i : ℕ) → Among useless.now i → i < length (rules_in (spec_of spec.now)) }
     ensures all { IfOk result (λ v. IsPermutation (warned_of spec.now useless.now) v.items) }
-    ensures in_order { IfOk result (λ v. AreInOrder v.items) }
+    ensures in_order { IfOk result (λ v. Pairwise MayPrecede v.items) }
 {
     let mut warnings = of_code(alloc, spec.skipped())?;
     add_rules(&mut warnings, spec.rules(), useless)?;

@@ -28,11 +28,8 @@ module _ (M : Machine) (laws : MachineLaws M) (S : Spec) (sound : IsSound S) (ta
   ran_to given out at_end d h = record {
     text = h.text;
     turns = h.turns;
-    last = h.last;
-    scanned = λ x k. (same_after M laws S sound table x k.0 h.turns h.last _ at_end).0 (h.scanned x k);
-    writes = h.writes;
-    ends = h.ends;
-    run = λ x k. (same_run M laws S sound table x k.0 out d).0 (h.run x k);
+    place = h.place;
+    scanned = λ x k. (same_after M laws S sound table x k.0 h.turns (record { written = out; place = h.place; ended = Some d }) _ at_end).0 (h.scanned x k);
   }
 
   pub ran_into : (given out : List ℕ) (at_end : Bool) (max_reads : ℕ) (e : RunError) → RanInto (rules_of_machine M) given out at_end max_reads e → RanInto (rules_of S) given out at_end max_reads e

@@ -82,13 +82,13 @@ of_cut Whole = refl
 of_cut (Head n) = refl
 of_cut (Trail n) = refl
 
-condition_short : (z : Sizes) (i : ℕ) (c : ConditionOfTable) → IsCondition z i c → length (condition_text c) ≤ 4109
+condition_short : (z : Sizes) (i : ℕ) (c : ConditionOfTable) → IsCondition z.states i c → length (condition_text c) ≤ 4109
 condition_short z i c h =
     let p = h.print in
     let l = length-append c.end.print (byte c.end.status) in
     omega (arith, p, l)
 
-rule_short : (z : Sizes) (i : ℕ) (r : RuleOfTable) → IsTableRule z i r → length (rule_text r) ≤ 5385
+rule_short : (z : Sizes) (i : ℕ) (r : RuleOfTable) → IsTableRule z.conditions i r → length (rule_text r) ≤ 5385
 rule_short z i r h =
     let few = h.few in
     let literals = h.literals in
@@ -98,19 +98,19 @@ rule_short z i r h =
     omega (arith, few, literals, body, cut, l)
 
 module _ (t : Table) (ok : IsTable t) where
-  row_short : (i : ℕ) (r : Row) → IsRow (sizes_of t) (some_rule_rejects t.rules) i r → length (row_text r) ≤ 16396
+  row_short : (i : ℕ) (r : Row) → IsRow (sizes_of t).rules (sizes_of t).states (sizes_of t).classes (sizes_of t).slots (some_rule_rejects t.rules) i r → length (row_text r) ≤ 16396
   row_short i r h =
-      let few = ok.sizes.rules in
+      let few = ok.sizes.few_rules in
       let many = ascend (length t.rules) 0 r.rules h.ascending (λ j a. omega arith) h.rules in
       let all = longs r.rules in
       omega (arith, few, many, all)
 
   pub file_short : length (file_of t) < 4294967296
   file_short =
-      let conditions = flat_within (IsCondition (sizes_of t)) condition_text 4109 (condition_short (sizes_of t)) 0 t.conditions ok.conditions in
-      let rules = flat_within (IsTableRule (sizes_of t)) rule_text 5385 (rule_short (sizes_of t)) 0 t.rules ok.rules in
-      let rows = flat_within (IsRow (sizes_of t) (some_rule_rejects t.rules)) row_text 16396 row_short 0 t.rows ok.rows in
-      let slots = flat_within (IsSlot (sizes_of t) (bases_of t.rows)) slot_text 8 (λ i s h. omega arith) 0 t.slots ok.slots in
+      let conditions = flat_within (IsCondition (sizes_of t).states) condition_text 4109 (condition_short (sizes_of t)) 0 t.conditions ok.conditions in
+      let rules = flat_within (IsTableRule (sizes_of t).conditions) rule_text 5385 (rule_short (sizes_of t)) 0 t.rules ok.rules in
+      let rows = flat_within (IsRow (sizes_of t).rules (sizes_of t).states (sizes_of t).classes (sizes_of t).slots (some_rule_rejects t.rules)) row_text 16396 row_short 0 t.rows ok.rows in
+      let slots = flat_within (IsSlot (sizes_of t).states (sizes_of t).classes (bases_of t.rows)) slot_text 8 (λ i s h. omega arith) 0 t.slots ok.slots in
       let a = of_conditions t.conditions in
       let b = of_rules t.rules in
       let c = of_rows t.rows in
@@ -118,10 +118,10 @@ module _ (t : Table) (ok : IsTable t) where
       let e = bytes_alone t.class_of in
       let n = ok.bytes in
       let z = ok.sizes in
-      let z1 = z.conditions in
-      let z2 = z.rules in
-      let z3 = z.states in
-      let z4 = z.slots in
+      let z1 = z.some_conditions in
+      let z2 = z.few_rules in
+      let z3 = z.some_states in
+      let z4 = z.some_slots in
       let l4 = length-append (flat_map row_text t.rows) (flat_map slot_text t.slots) in
       let l3 = length-append (flat_map byte t.class_of) (flat_map row_text t.rows ++ flat_map slot_text t.slots) in
       let l2 = length-append (flat_map rule_text t.rules) (flat_map byte t.class_of ++ (flat_map row_text t.rows ++ flat_map slot_text t.slots)) in

@@ -1,5 +1,5 @@
 -- The builder's refusals, by their reasons.
-use Rattle.std.proofs.Common.{◌≡◌, ℕ, ◌<◌, Bool, List, refl, Result, Ok, Err}
+use Rattle.std.proofs.Common.{◌≡◌, ℕ, ◌<◌, Bool, List, refl, subst, Result, Ok, Err}
 use Rattle.lex_semantics.specs.Spec.{Spec}
 use Rattle.lex_semantics.specs.Subsets.{Subsets, all_positions}
 use Rattle.lexauto.specs.declared.subsets.Limits.{Limits}
@@ -9,7 +9,14 @@ use Rattle.lexauto_dfa.specs.declared.dfa.Dfa.{Dfa}
 use Rattle.lexspec.specs.Files.{SpellsSpec}
 use Rattle.lexspec.specs.Skipped.{AreSkipped}
 use Rattle.lexkit.specs.Headline.{BuildRefusal, Headline, IsWithin, ScansBy, reading}
-use Rattle.lexkit.specs.Generated.{SpecRefusal, IsLeastOf, MakesBy, Makes, MakesTablesBy, MakesTables}
+use Rattle.lex_semantics.specs.MachineLaws.{MachineLaws}
+use Rattle.lextab_packed.specs.declared.tables.Tables.{Tables}
+use Rattle.lexscan.specs.Ties.{HandedOnAfter}
+use Rattle.lexscan_window.specs.declared.error.RunError.{RunError}
+use Rattle.lexscan_window.specs.declared.error.RunError.TheVariants as runs
+use Rattle.lexkit.specs.ScanCounts.{HandedOn}
+use Rattle.lexkit.specs.Generated.{AreTablesOf, SpecRefusal, MakesBy, Makes, MakesTablesBy, MakesTables}
+use Rattle.lexkit.specs.LeastAutomata.{IsLeastOf}
 use Rattle.lexkit.specs.declared.making.Generated.{Generated}
 use Rattle.lexkit.specs.declared.making.Made.{Made}
 use Rattle.lexkit.specs.declared.options.Options.{Options}
@@ -32,6 +39,27 @@ told_of gave wrote limits S at_end s t (gens.Spec e) h = absurd h
 
 pub within : (limits : Limits) (S : Spec) (subsets : ℕ) (d : Dfa) → IsLeastOf limits S subsets d → IsWithin limits S
 within limits S subsets d l = record { few_positions = l.few_positions; states = subsets; subsets = l.subsets_are; few_states = l.few_states }
+
+-- the least automaton of which tables are made
+pub least_of : (limits : Limits) (S : Spec) (d : Dfa) (t : Tables) (made : AreTablesOf limits S d t) → IsLeastOf limits S (made.within).states d
+least_of limits S d t made = record {
+  few_positions = (made.within).few_positions;
+  subsets_are = (made.within).subsets;
+  few_states = (made.within).few_states;
+  conditions = (made.canonical).conditions;
+  table = (made.canonical).table_for;
+  laws = subst MachineLaws (made.canonical).machine t.laws;
+  least = (made.canonical).least;
+  numbered = (made.canonical).numbered;
+}
+
+pub handed_on_from : (flushed : Bool) (e : RunError) → HandedOnAfter flushed e → HandedOn flushed (Err (Run e))
+handed_on_from flushed runs.Read h = tt
+handed_on_from flushed runs.TooManyReads h = tt
+handed_on_from flushed runs.Write h = tt
+handed_on_from flushed runs.OutOfMemory h = tt
+handed_on_from flushed runs.Stack h = h
+handed_on_from flushed runs.Failed h = tt
 
 -- what is made by the specification that a text spells, and by its lines of skipped code, is made of the text
 pub made_of_text : (options : Options) (text : List ℕ) (S : Spec) (skipped : List ℕ) → SpellsSpec (reading options) text S → AreSkipped text skipped → (r : Result Generated GenError) → MakesBy options.limits S skipped r

@@ -10,7 +10,6 @@ use Rattle.lexscan_window.specs.declared.error.RunError.{RunError}
 use Rattle.lextab_packed.specs.Table.{Table}
 use Rattle.lextab_packed.specs.Steps.{machine_of_table}
 use Rattle.lextab_packed.specs.Invariant.{GoesOn}
-use Rattle.lextab_packed.specs.Machines.{table_parts}
 use Rattle.lextab_packed.specs.Views.{table_of}
 use Rattle.lextab_packed.specs.declared.tables.Tables.{Tables}
 use Rattle.lextab_file.specs.File.{IsFileOf, file_of}
@@ -23,6 +22,6 @@ use Rattle.lexkit.specs.declared.options.Options.{Options}
 -- scan by the specification that the text spells takes, writes and answers.
 abbrev pub FileScans : Type 0
 FileScans = (options : Options) (text : List ℕ) (g : Tables) → HasTables options text g → (S : Spec) × SpellsSpec (reading options) text S
-    × ((t : Table) (flags : List Bool) → IsFileOf t (file_of (table_of (table_parts g))) → GoesOn t flags
+    × ((t : Table) (flags : List Bool) → IsFileOf t (file_of (table_of g.parts)) → GoesOn t flags
     → (given out : List ℕ) (at_end : Bool) (answer : Result ℕ RunError)
     → Ran (rules_of_machine (machine_of_table t (λ state. flag flags state))) given out at_end max_reads answer → Ran (rules_of S) given out at_end max_reads answer)

@@ -73,8 +73,7 @@ ScansBy gave wrote limits S at_end s s' t t' (Ok status) = IsWithin limits S × 
 ScansBy gave wrote limits S at_end s s' t t' (Err (scans.Run e)) = IsWithin limits S × Scans gave wrote (rules_of S) at_end s s' t t' (Err e)
 ScansBy gave wrote limits S at_end s s' t t' (Err (scans.Generate (gens.Build e))) = BuildRefusal limits S e × (s' ≡ s) × (t' ≡ t)
 ScansBy gave wrote limits S at_end s s' t t' (Err (scans.Generate gens.OutOfMemory)) = (s' ≡ s) × (t' ≡ t)
-ScansBy gave wrote limits S at_end s s' t t' (Err (scans.Generate (gens.Spec e))) = ⊥
-ScansBy gave wrote limits S at_end s s' t t' (Err (scans.Table e)) = ⊥
+ScansBy gave wrote limits S at_end s s' t t' other = ⊥
 
 -- The headline: the scan is that of the specification that the text spells. A text that is refused leaves both ends as they were.
 abbrev pub Headline : {A B : Type 0} → (A → List ℕ → A → Type 0) → (B → List ℕ → B → Type 0) → Options → List ℕ → Bool → A → A → B → B → Result ℕ ScanError → Type 0

@@ -1,7 +1,6 @@
 -- How often the ends of a scan failed, and what was handed on, by its answer.
 use Rattle.std.specs.Prelude.{◌≡◌, ℕ, Bool, true, Result, Ok, Err, ⊤}
 use Rattle.lexscan_window.specs.declared.error.RunError.TheVariants as runs
-use Rattle.lexscan.specs.Ties.{HandedOnAfter}
 use Rattle.lexkit.specs.declared.errors.ScanError.{ScanError}
 use Rattle.lexkit.specs.declared.errors.ScanError.TheVariants.{Run}
 
@@ -18,5 +17,5 @@ write_faults other = 0
 -- where the scan has ended, or the stack of conditions was at fault, what was written has been handed on
 abbrev pub HandedOn : Bool → Result ℕ ScanError → Type 0
 HandedOn flushed (Ok status) = flushed ≡ true
-HandedOn flushed (Err (Run e)) = HandedOnAfter flushed e
+HandedOn flushed (Err (Run runs.Stack)) = flushed ≡ true
 HandedOn flushed other = ⊤

@@ -5,7 +5,8 @@ ghost use Rattle.lexspec.specs.RuleViews.{rule_of};
 ghost use Rattle.lexspec.specs.Skipped.{AreSkipped};
 ghost use Rattle.lexspec.specs.Views.{spec_of, skipped_in};
 ghost use Rattle.lexkit.specs.Headline.{Refusal, reading};
-ghost use Rattle.lexkit.specs.Generated.{lines_of, AreMadeOf, IsLeastOf, IsMadeOf, SpecRefusal};
+ghost use Rattle.lexkit.specs.Generated.{lines_of, AreMadeOf, IsMadeOf, SpecRefusal};
+ghost use Rattle.lexkit.specs.LeastAutomata.{IsLeastOf};
 ghost use Rattle.lexkit.specs.Generated.{MakesBy, MakesTablesBy, Makes, MakesTables};
 ghost use Rattle.lex_semantics.specs.Limits.{max_positions, max_states};
 
@@ -151,7 +152,7 @@ pub fn lines_of(alloc: Global, rules: &[Rule]) -> Result<Vec<u32>, AllocError>
 /// The tables of a least automaton, and the reports but for that of states that back up.
 fn made_of(alloc: Global, spec: &Spec, limits: Limits, least: &Least) -> Result<Made, OutOfMemory>
     requires least { IsLeastOf limits (spec_of spec.now) least.now.subsets least.now.automaton }
-    ensures { IfOk result (AreMadeOf limits (spec_of spec.now) (skipped_in spec.now) least.now.subsets
+    ensures { IfOk result (AreMadeOf limits (spec_of spec.now) (skipped_in spec.now)
         least.now.automaton) }
 {
     tested_specifications();

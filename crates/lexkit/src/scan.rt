@@ -3,7 +3,8 @@ ghost use Rattle.std.specs.Prelude.{◌≡◌, ℕ, ◌+◌, ◌-◌, ◌^◌, �
 ghost use Rattle.lexspec.specs.Views.{spec_of};
 ghost use Rattle.lexscan_window.specs.declared.error.RunError.TheVariants.{Failed};
 ghost use Rattle.lexkit.specs.Headline.{Headline, ScansBy, TableHeadline};
-ghost use Rattle.lexkit.specs.Generated.{HasTables, IsLeastOf};
+ghost use Rattle.lexkit.specs.Generated.{HasTables};
+ghost use Rattle.lexkit.specs.LeastAutomata.{IsLeastOf};
 ghost use Rattle.lexkit.specs.declared.options.Options.{Options as Asked};
 ghost use Rattle.lexkit.specs.ScanCounts.{HandedOn, read_faults, write_faults};
 ghost use Rattle.lex_semantics.specs.Limits.{max_positions, max_states};

@@ -1,6 +1,8 @@
 -- A specification in which each action is REJECT has the same texts that fit its rules, and as many states before minimising.
 use Rattle.std.proofs.Common.{◌≡◌, ◌↔◌, ℕ, zero, suc, ◌+◌, Bool, true, List, [], ◌∷◌, ◌++◌, length, map, Some, refl, sym, ap, subst, arith}
 use Rattle.std.specs.Prelude.{slice_get, take}
+use Rattle.std.specs.Prelude.{MatchOption}
+use Rattle.std.specs.Prelude.{drop}
 use Rattle.lex_semantics.specs.Tree.{In}
 use Rattle.lex_semantics.specs.Spec.{Spec, Rule, Condition, rejects}
 use Rattle.lex_semantics.specs.Active.{active}
@@ -31,13 +33,10 @@ fits_to S c line w i (k, f) =
         rule = g.0;
         at = g.1;
         is_active = subst (λ (q : Rule). active (rejecting S) c line q ≡ true) g.2 f.is_active;
-        text = f.text;
-        trail = f.trail;
-        splits = f.splits;
-        length_is = f.length_is;
         not_empty = f.not_empty;
-        in_head = subst (λ (q : Rule). In q.head f.text) g.2 f.in_head;
-        in_trail = subst (λ (q : Rule). InTrail q.trail f.trail) g.2 f.in_trail;
+        inside = f.inside;
+        in_head = subst (λ (q : Rule). In q.head (take k w)) g.2 f.in_head;
+        in_trail = subst (λ (q : Rule). MatchOption q.trail (k ≡ length w) (λ t. In t (drop k w))) g.2 f.in_trail;
       },
     )
 
@@ -48,11 +47,8 @@ fits_from S c line w i (k, f) = (
     rule = rejecting_rule f.rule;
     at = got_map S.rules i f.rule f.at;
     is_active = f.is_active;
-    text = f.text;
-    trail = f.trail;
-    splits = f.splits;
-    length_is = f.length_is;
     not_empty = f.not_empty;
+    inside = f.inside;
     in_head = f.in_head;
     in_trail = f.in_trail;
   },
@@ -63,12 +59,12 @@ no_fit ks c line w i (k, f) = (let e = f.at in cc)
 
 -- all rules that fit are accepted
 accepted_is : (ks : List Condition) (rs : List Rule) (c : ℕ) (line : Bool) (w : List ℕ) (i : ℕ)
-    → Accepted (rejects (record { conditions = ks; rules = map rejecting_rule rs })) (record { conditions = ks; rules = map rejecting_rule rs }) c line w i
+    → Accepted (record { conditions = ks; rules = map rejecting_rule rs }) c line w i
     ↔ HasFit (record { conditions = ks; rules = map rejecting_rule rs }) c line w i
 accepted_is ks [] c line w i = (λ h. h.0, λ f. absurd (no_fit ks c line w i f))
-accepted_is ks (r ∷ rs) c line w i = (λ h. h, λ f. f)
+accepted_is ks (r ∷ rs) c line w i = (λ h. h.0, λ f. (f, λ e. cc))
 
-pub fits_accepted : (S : Spec) (c : ℕ) (line : Bool) (w : List ℕ) (i : ℕ) → Accepted (rejects (rejecting S)) (rejecting S) c line w i ↔ HasFit S c line w i
+pub fits_accepted : (S : Spec) (c : ℕ) (line : Bool) (w : List ℕ) (i : ℕ) → Accepted (rejecting S) c line w i ↔ HasFit S c line w i
 fits_accepted S c line w i =
     let e = accepted_is S.conditions S.rules c line w i in
     (λ h. fits_to S c line w i (e.0 h), λ f. e.1 (fits_from S c line w i f))
@@ -105,8 +101,8 @@ lists_alike l P Q same h = (h.0, λ i. (λ a. (same i).0 ((h.1 i).0 a), λ q. (h
 
 last_alike : (R Q : Readings) → ((rs : List Cell) → R rs ↔ Q rs) → (w : List ℕ) (p : ℕ) → IsLast R w p ↔ IsLast Q w p
 last_alike R Q same w p = (
-  λ h. (h.0, h.1, h.2, h.3, (same (h.0 ++ h.1)).0 h.4),
-  λ h. (h.0, h.1, h.2, h.3, (same (h.0 ++ h.1)).1 h.4),
+  λ h. (h.0, h.1, h.2, h.3, (same (h.0 ++ (h.2, p) ∷ h.1)).0 h.4),
+  λ h. (h.0, h.1, h.2, h.3, (same (h.0 ++ (h.2, p) ∷ h.1)).1 h.4),
 )
 
 swap : {P Q : Type 0} → P ↔ Q → Q ↔ P

@@ -4,7 +4,7 @@ use Rattle.lex_io.specs.Sink.{Appended}
 use Rattle.lex_semantics.specs.Spec.{Spec}
 use Rattle.lexspec.specs.Files.{SpellsSpec}
 use Rattle.lexauto_dfa.specs.declared.dfa.Dfa.{Dfa}
-use Rattle.lexkit.specs.Generated.{IsLeastOf}
+use Rattle.lexkit.specs.LeastAutomata.{IsLeastOf}
 use Rattle.lexkit.specs.Headline.{reading}
 use Rattle.lexkit.specs.declared.options.Options.{Options}
 use Rattle.lexlook_pictures.specs.declared.error.PictureError.{PictureError}

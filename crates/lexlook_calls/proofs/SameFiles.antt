@@ -7,8 +7,10 @@ use Rattle.lex_semantics.specs.Spec.{Spec, Statement, Echo, Print, Begin, More, 
 use Rattle.lex_semantics.specs.Machine.{Machine, state_after}
 use Rattle.lexspec.specs.Files.{conditions_with, SpellsSpec}
 use Rattle.lexspec.specs.RuleItems.{EndRule}
-use Rattle.lexspec_lines.specs.DefinitionLines as D
-use Rattle.lexspec_lines.specs.DefinitionLines.{Declared, has_name, are_distinct, all_conditions}
+use Rattle.lexspec_lines.specs.Declaring as D
+use Rattle.lexspec_lines.proofs.DeclaringLaws.{distinct_test}
+use Rattle.lexspec_lines.specs.DefinitionLines.{has_name, all_conditions}
+use Rattle.lexspec_lines.specs.Declaring.{Declared, are_distinct}
 use Rattle.lextab_packed.specs.Table.{Table}
 use Rattle.lextab_packed.specs.Checks.{IsTable}
 use Rattle.lextab_packed.specs.Invariant.{GoesOn}
@@ -30,7 +32,7 @@ use Rattle.lexlook_calls.specs.Sides.{StandsFor, is_table_file}
 -- the names of a specification's conditions are those that it declares
 names_with : (k : ℕ) (cs : List Declared) (ends : List EndRule) → names_of (conditions_with k cs ends) ≡ D.names_of cs
 names_with k [] ends = refl
-names_with k (c ∷ cs) ends = ap (λ l. c.name ∷ l) (names_with (suc k) cs ends)
+names_with k (c ∷ cs) ends = ap (λ l. c.1 ∷ l) (names_with (suc k) cs ends)
 
 abbrev initial : List ℕ
 initial = codes "INITIAL"
@@ -49,7 +51,7 @@ stands_first ns (suc i) distinct at = absurd (not_both (has_name ns initial) (ar
 
 -- INITIAL has the number 0 in each specification
 begins : (options : Options) (x y : List ℕ) (S T : Spec) (order : List ℕ) → SpellsSpec (reading options) x S → SpellsSpec (reading options) y T → AreNamed (names_of S.conditions) (names_of T.conditions) order → BeginTogether order
-begins options x y S T order p q named = stands_first (D.names_of (D.declared q.definitions)) (number_in order 0) q.names at
+begins options x y S T order p q named = stands_first (D.names_of (D.declared q.definitions)) (number_in order 0) (distinct_test (initial ∷ D.names_of (D.declared q.definitions)) q.names) at
   where
     names : (options' : Options) (z : List ℕ) (U : Spec) (r : SpellsSpec (reading options') z U) → names_of U.conditions ≡ initial ∷ D.names_of (D.declared r.definitions)
     names options' z U r = ap names_of r.conditions ∙ names_with 0 (all_conditions r.definitions) r.ends

@@ -12,7 +12,7 @@ use Rattle.lexauto_dfa.specs.declared.dfa.Dfa.{Dfa}
 use Rattle.lexauto_dfa.specs.declared.dfa.Parts.{Parts}
 use Rattle.lexauto_minimise.specs.Least.{AcceptsAs, AreSame, OneAutomaton}
 use Rattle.lexauto.specs.declared.subsets.Limits.{Limits}
-use Rattle.lexkit.specs.Generated.{IsLeastOf}
+use Rattle.lexkit.specs.LeastAutomata.{IsLeastOf}
 use Rattle.lexkit.proofs.Ordered.{one_order}
 use Rattle.lexkit.proofs.SameTables.{accepted, ordered}
 use Rattle.lexlook_pictures.specs.Pictures.{edges, head, node_line, picture, starts}

@@ -5,7 +5,8 @@ use Rattle.lex_semantics.specs.Spec.{Spec, Condition}
 use Rattle.lexspec.specs.Files.{SpellsSpec}
 use Rattle.lexauto_dfa.specs.declared.dfa.Dfa.{Dfa}
 use Rattle.lexauto.specs.declared.subsets.Limits.{Limits}
-use Rattle.lexkit.specs.Generated.{lines_of, IsLeastOf}
+use Rattle.lexkit.specs.Generated.{lines_of}
+use Rattle.lexkit.specs.LeastAutomata.{IsLeastOf}
 use Rattle.lexkit.specs.Headline.{Refusal, reading}
 use Rattle.lexkit.specs.declared.options.Options.{Options}
 use Rattle.lexlook_pictures.specs.Pictures.{picture}

@@ -13,7 +13,7 @@ use Rattle.lextab_packed.specs.Table.{Table}
 use Rattle.lextab_packed.specs.Steps.{machine_of_table}
 use Rattle.lextab_packed.specs.Invariant.{GoesOn}
 use Rattle.lextab_file.specs.File.{IsFileOf, magic}
-use Rattle.lexkit.specs.Generated.{IsLeastOf}
+use Rattle.lexkit.specs.LeastAutomata.{IsLeastOf}
 use Rattle.lexkit.specs.Headline.{Refusal, TableRefusal, reading}
 use Rattle.lexkit.specs.declared.options.Options.{Options}
 use Rattle.lexlook_calls.specs.declared.error.LookError.{LookError}

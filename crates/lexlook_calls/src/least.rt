@@ -1,7 +1,8 @@
 //! The least automaton of a specification.
 ghost use Rattle.std.specs.Prelude.{◌≤◌, ℕ, IfOk, IfErr};
 ghost use Rattle.lex_semantics.specs.Limits.{max_positions, max_states};
-ghost use Rattle.lexkit.specs.Generated.{IsLeastOf, SpecRefusal};
+ghost use Rattle.lexkit.specs.Generated.{SpecRefusal};
+ghost use Rattle.lexkit.specs.LeastAutomata.{IsLeastOf};
 ghost use Rattle.lexspec.specs.Views.{spec_of};
 
 use lexauto::{Dfa, build, minimise};

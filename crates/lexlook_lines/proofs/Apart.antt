@@ -2,9 +2,12 @@
 use Rattle.std.proofs.Common.{◌≡◌, ℕ, zero, suc, ◌+◌, ◌≤◌, ◌<◌, true, false, List, [], ◌∷◌, ◌++◌, length, drop, ◌⊎◌, inl, inr, Option, Some, None, refl, sym, ◌∙◌, ap, subst, arith}
 use Rattle.std.proofs.lemmas.List.{length-append, append-nil, drop-append-le, length-drop}
 use Rattle.std.proofs.lemmas.Bool.{cases_lt, eq-eqb}
+use Rattle.lex_semantics.proofs.Once.{run_by}
+use Rattle.lex_semantics.proofs.ResultsAre.{results_are}
 use Rattle.lex_semantics.specs.Text.{IsText, byte_at, at_line_start}
 use Rattle.lex_semantics.specs.Candidates.{Candidates}
-use Rattle.lex_semantics.specs.Acting.{Ending, Status, perform}
+use Rattle.lex_semantics.specs.Acting.{Ending, Status}
+use Rattle.lex_semantics.specs.ActionResults.{perform_results}
 use Rattle.lex_semantics.specs.Run.{Place, State, MatchTurn, EndTurn, NextFrom, Turns, Run, first_place, first_state}
 use Rattle.lex_semantics.specs.Rules.{Rules}
 use Rattle.lex_semantics.specs.Machine.{Machine, state_after, rules_of_machine}
@@ -57,7 +60,7 @@ module _ (M : Machine) (laws : MachineLaws M) (keeps : KeepsLines M) (x y : List
   match_both p t h m = subst (MatchTurn R (g ++ y) p) (sym m.leaves)
       (match_turn R (machine_laws M laws) (g ++ y) p (drop p.at g) y y_text (omega (arith, length-append g y, m.before_end)) (drop-append-le p.at g y h.fits) (omega (arith, length-drop p.at g, m.before_end))
       (inr (λ live. differ (sym stops ∙ live))) m.matches (subst (λ line. Candidates R p.condition line (drop p.at g) m.matches) (sym line) m.all) m.outcome
-      (ap (λ w. perform R w (drop p.at g) m.matches [] p.condition p.stack) (part_front g y p.start p.at h.fits) ∙ m.performed))
+      (ap (λ w. perform_results R w (drop p.at g) m.matches [] p.condition p.stack) (part_front g y p.start p.at h.fits) ∙ sym (results_are _ _ _ _ _ _ _) ∙ m.performed))
     where
       line : at_line_start (g ++ y) p.at ≡ at_line_start g p.at
       line = line_start_front g y p.at h.fits
@@ -125,16 +128,16 @@ module _ (M : Machine) (laws : MachineLaws M) (keeps : KeepsLines M) (x y : List
           ∙ ap (λ i. record { written = i; place = record { start = k; at = k; condition = 0; stack = [] }; ended = None }) (sym (append-nil z.written))
 
   pub apart : (v w : List ℕ) (d e : Ending) → Run R g v d → Run R y w e → Run R (g ++ y) (v ++ w) e
-  apart v w d e first second = record {
-    turns = second.turns + f.turns;
-    last = S.behind R g y (length x) g_size last_byte f.before.written second.last;
-    reached = S.turns_behind R g y (length x) g_size last_byte f.before.written first_state f.turns (subst (Turns R (g ++ y) f.turns) start b.0) refl second.turns second.last second.reached;
-    writes = ap (λ z. z ++ second.last.written) written ∙ ap (λ z. v ++ z) second.writes;
-    ends = second.ends;
-  }
+  apart v w d e (n, p, h) (m, q, k) =
+      run_by R (g ++ y) (v ++ w) e (m + f.turns) (S.behind R g y (length x) g_size last_byte f.before.written last)
+      (S.turns_behind R g y (length x) g_size last_byte f.before.written first_state f.turns (subst (Turns R (g ++ y) f.turns) start b.0) refl m last k)
+      (ap (λ z. z ++ w) written) refl
     where
-      f : AtEnd first.last
-      f = at_end first.turns first.last d first.reached first.ends
+      last : State
+      last = record { written = w; place = q; ended = Some e }
+
+      f : AtEnd (record { written = v; place = p; ended = Some d })
+      f = at_end n (record { written = v; place = p; ended = Some d }) d h refl
 
       b : Both f.turns f.before
       b = both f.turns f.before f.reached f.going
@@ -146,7 +149,7 @@ module _ (M : Machine) (laws : MachineLaws M) (keeps : KeepsLines M) (x y : List
       home = b.1.line (ap (at_line_start g) (f.end.at_end ∙ g_size) ∙ eq-eqb (byte_at g (length x)) 10 last_byte)
 
       written : f.before.written ≡ v
-      written = sym (append-nil f.before.written) ∙ ap (λ z. f.before.written ++ z) (sym (ap (λ (z : State). z.written) f.end.leaves ∙ ap (λ c. (M.ending c).print) home ∙ keeps.silent)) ∙ ap (λ (z : State). z.written) (sym f.is) ∙ first.writes
+      written = sym (append-nil f.before.written) ∙ ap (λ z. f.before.written ++ z) (sym (ap (λ (z : State). z.written) f.end.leaves ∙ ap (λ c. (M.ending c).print) home ∙ keeps.silent)) ∙ ap (λ (z : State). z.written) (sym f.is)
 
 pub scans_apart : (M : Machine) → MachineLaws M → KeepsLines M → ScansApart (rules_of_machine M)
 scans_apart M laws keeps x y v w d e x_text y_text = apart M laws keeps x y x_text y_text v w d e

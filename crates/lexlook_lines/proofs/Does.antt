@@ -2,7 +2,8 @@
 use Rattle.std.proofs.Common.{◌≡◌, ℕ, ◌<◌, true, List, [], ◌∷◌, ◌++◌, take, ◌⊎◌, inl, inr, refl, sym, ◌∙◌}
 use Rattle.lex_semantics.specs.Text.{Among}
 use Rattle.lex_semantics.specs.Spec.{Statement, Echo, Print, Begin, More, Less, Reject, End, Push, Pop}
-use Rattle.lex_semantics.specs.Acting.{Acting, ActionResult, Done, Again, Over, act}
+use Rattle.lex_semantics.specs.Acting.{Acting}
+use Rattle.lex_semantics.specs.ActionResults.{ActionResult, Done, Again, Over, act_result}
 use Rattle.lex_semantics.proofs.Actions.{BeginsBelow}
 
 -- what statements leave of what was there before them
@@ -62,22 +63,22 @@ Plain ss = ((status : ℕ) → Among ss (End status) → ⊥) × ((d : ℕ) → 
 rest : (s : Statement) (ss : List Statement) → Plain (s ∷ ss) → Plain ss
 rest s ss h = (λ e at. h.0 e (inr at), λ d at. h.1 d (inr at), λ at. h.2 (inr at))
 
-pub does : (n : ℕ) (ss : List Statement) (a : Acting) → Plain ss → Does n ss a (act ss a)
+pub does : (n : ℕ) (ss : List Statement) (a : Acting) → Plain ss → Does n ss a (act_result ss a)
 does n [] a h = record { stack = refl; same = λ none. refl; home = at_home; more = λ e. inl e; below = λ small lt. lt }
   where
     at_home : ((d : ℕ) → Among [] (Begin d) → d ≡ 0) → (a.condition ≡ 0) ⊎ Among [] (Begin 0) → a.condition ≡ 0
     at_home each (inl e) = e
     at_home each (inr at) = absurd at
 does n (Echo ∷ ss) a h = (let m : Acting = record a { written = a.written ++ a.text } in
-    does_more n Echo ss a m refl (inl (λ d e. absurd cc, refl)) (λ e. inl e) (λ small. (small, λ lt. lt)) (act ss m) (does n ss m (rest Echo ss h)))
+    does_more n Echo ss a m refl (inl (λ d e. absurd cc, refl)) (λ e. inl e) (λ small. (small, λ lt. lt)) (act_result ss m) (does n ss m (rest Echo ss h)))
 does n (Print s ∷ ss) a h = (let m : Acting = record a { written = a.written ++ s } in
-    does_more n (Print s) ss a m refl (inl (λ d e. absurd cc, refl)) (λ e. inl e) (λ small. (small, λ lt. lt)) (act ss m) (does n ss m (rest (Print s) ss h)))
+    does_more n (Print s) ss a m refl (inl (λ d e. absurd cc, refl)) (λ e. inl e) (λ small. (small, λ lt. lt)) (act_result ss m) (does n ss m (rest (Print s) ss h)))
 does n (Begin d ∷ ss) a h = (let m : Acting = record a { condition = d } in
-    does_more n (Begin d) ss a m refl (inr (d, refl, refl)) (λ e. inl e) (λ small. (small.1, λ lt. small.0)) (act ss m) (does n ss m (rest (Begin d) ss h)))
+    does_more n (Begin d) ss a m refl (inr (d, refl, refl)) (λ e. inl e) (λ small. (small.1, λ lt. small.0)) (act_result ss m) (does n ss m (rest (Begin d) ss h)))
 does n (More ∷ ss) a h = (let m : Acting = record a { more = true } in
-    does_more n More ss a m refl (inl (λ d e. absurd cc, refl)) (λ e. inr refl) (λ small. (small, λ lt. lt)) (act ss m) (does n ss m (rest More ss h)))
+    does_more n More ss a m refl (inl (λ d e. absurd cc, refl)) (λ e. inr refl) (λ small. (small, λ lt. lt)) (act_result ss m) (does n ss m (rest More ss h)))
 does n (Less k ∷ ss) a h = (let m : Acting = record a { text = take k a.text } in
-    does_more n (Less k) ss a m refl (inl (λ d e. absurd cc, refl)) (λ e. inl e) (λ small. (small, λ lt. lt)) (act ss m) (does n ss m (rest (Less k) ss h)))
+    does_more n (Less k) ss a m refl (inl (λ d e. absurd cc, refl)) (λ e. inl e) (λ small. (small, λ lt. lt)) (act_result ss m) (does n ss m (rest (Less k) ss h)))
 does n (Reject ∷ ss) a h = (refl, λ none. refl, inl refl)
 does n (End status ∷ ss) a h = h.0 status (inl refl)
 does n (Push d ∷ ss) a h = absurd (h.1 d (inl refl))

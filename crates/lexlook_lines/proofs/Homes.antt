@@ -3,6 +3,7 @@ use Rattle.std.proofs.Common.{◌≡◌, ℕ, zero, suc, ◌+◌, ◌-◌, ◌�
 use Rattle.std.specs.Prelude.{nat_lt, if◌then◌else◌}
 use Rattle.std.proofs.lemmas.List.{length-append, length-take-le, length-drop, drop_all, append-nil}
 use Rattle.std.proofs.lemmas.Bool.{cond-true, cond-false, lt-ltb, le-ltb, cases_lt, eqb-true, eq-eqb}
+use Rattle.lex_semantics.proofs.ResultsAre.{results_are}
 use Rattle.lex_semantics.specs.Text.{IsText, Among, part, byte_at, at_line_start}
 use Rattle.lex_semantics.specs.Spec.{Cut, Whole, Head, Trail, Statement, Echo, Begin, More, Reject, Pop}
 use Rattle.lex_semantics.specs.Rules.{Rules, Full, statements_of}
@@ -90,7 +91,7 @@ module _ (M : Machine) (laws : MachineLaws M) (keeps : KeepsLines M) where
     kept = part x p.start p.at
 
     settled : Settles R kept y turn.matches p.condition p.stack turn.outcome
-    settled = settles R steady kept y turn.matches turn.all.in_order [] p.condition p.stack turn.outcome turn.performed
+    settled = settles R steady kept y turn.matches turn.all.in_order [] p.condition p.stack turn.outcome (sym (results_are _ _ _ _ _ _ _) ∙ turn.performed)
 
     abbrev m : Candidate
     m = settled.taken
@@ -117,20 +118,20 @@ module _ (M : Machine) (laws : MachineLaws M) (keeps : KeepsLines M) where
     w = take m.len y
 
     w_size : length w ≡ m.len
-    w_size = length-take-le m.len y fit.inside
+    w_size = length-take-le m.len y fit.0
 
     y_size : length y ≡ length x - p.at
     y_size = length-drop p.at x
 
     keep_some : 1 ≤ m.keep
-    keep_some = from fit.fits
+    keep_some = from fit.1
       where
         from : Full R p.condition line_start w m.rule m.keep → 1 ≤ m.keep
         from (inl f) = l.some_text p.condition line_start w m.rule m.keep f.1
         from (inr f) = omega (arith, f.2)
 
     keep_fits : m.keep ≤ m.len
-    keep_fits = from fit.fits
+    keep_fits = from fit.1
       where
         from : Full R p.condition line_start w m.rule m.keep → m.keep ≤ m.len
         from (inl f) = (let k = l.inside p.condition line_start w m.rule m.keep f.1 in omega (arith, k, w_size))
@@ -140,7 +141,7 @@ module _ (M : Machine) (laws : MachineLaws M) (keeps : KeepsLines M) where
     kept_size = length-take-le (p.at - p.start) (drop p.start x) (rw length-drop (omega (arith, h.ordered, h.fits)))
 
     a_size : length (kept ++ take m.keep y) ≡ (p.at - p.start) + m.keep
-    a_size = (let e = length-append kept (take m.keep y) in let k = length-take-le m.keep y (omega (arith, keep_fits, fit.inside)) in omega (arith, e, k, kept_size))
+    a_size = (let e = length-append kept (take m.keep y) in let k = length-take-le m.keep y (omega (arith, keep_fits, fit.0)) in omega (arith, e, k, kept_size))
 
     some_text : 1 ≤ length b.text
     some_text = subst (E.Leaves (λ z. 1 ≤ length z.text)) settled.done (E.not_empty ss a (less_from_one M.conditions ss legal.ranges) (omega (arith, a_size, keep_some)))
@@ -150,7 +151,7 @@ module _ (M : Machine) (laws : MachineLaws M) (keeps : KeepsLines M) where
 
     -- a newline in the text leaves the scan in INITIAL, and no text behind
     newline : (j : ℕ) → j < m.keep → byte_at y j ≡ 10 → (b.condition ≡ 0) × (b.more ≡ true → ⊥)
-    newline j lt is = from fit.fits
+    newline j lt is = from fit.1
       where
         here : byte_at w j ≡ 10
         here = byte_at_take y m.len j (omega (arith, lt, keep_fits)) ∙ is
@@ -188,7 +189,7 @@ module _ (M : Machine) (laws : MachineLaws M) (keeps : KeepsLines M) where
             first = omega (arith, lt, f.2)
 
             front : take 1 y ≡ 10 ∷ []
-            front = one y (omega (arith, fit.inside, f.1, w_size)) (ap (byte_at y) (sym first) ∙ is)
+            front = one y (omega (arith, fit.0, f.1, w_size)) (ap (byte_at y) (sym first) ∙ is)
               where
                 one : (z : List ℕ) → 1 ≤ length z → byte_at z 0 ≡ 10 → take 1 z ≡ 10 ∷ []
                 one [] some e = absurd (omega (arith, some))
@@ -208,10 +209,10 @@ module _ (M : Machine) (laws : MachineLaws M) (keeps : KeepsLines M) where
                 n = record { len = 1; rule = t.rule; keep = 1 }
 
                 n_fits : IsCandidate R p.condition line_start y n
-                n_fits = record {
-                  inside = omega (arith, fit.inside, f.1, w_size);
-                  fits = inl (below, subst (λ v. MachineFits M p.condition line_start v t.rule 1) (sym front) (record { not_empty = omega arith; accepted = t.accepted; keeps = subst (λ z. Keeps z 1 1) (sym t.whole) refl }));
-                }
+                n_fits = (
+                  omega (arith, fit.0, f.1, w_size),
+                  inl (below, subst (λ v. MachineFits M p.condition line_start v t.rule 1) (sym front) (record { not_empty = omega arith; accepted = t.accepted; keeps = subst (λ z. Keeps z 1 1) (sym t.whole) refl })),
+                )
 
                 rejected : Among (statements_of R t.rule) Reject
                 rejected = settled.before n ((turn.all.members n).1 n_fits) (inr (omega (arith, f.1, w_size), omega (arith, below, f.0)))
@@ -237,7 +238,7 @@ module _ (M : Machine) (laws : MachineLaws M) (keeps : KeepsLines M) where
     home_by : (more : Bool) → b.more ≡ more → Home M x (place_by more)
     home_by more is = record {
       ordered = ordered more;
-      fits = omega (arith, no_more_text, h.ordered, h.fits, keep_fits, fit.inside, y_size);
+      fits = omega (arith, no_more_text, h.ordered, h.fits, keep_fits, fit.0, y_size);
       condition = left.below (begins_below M.conditions ss legal.ranges) h.condition;
       stack = left.stack ∙ h.stack;
       inner = inner more is;

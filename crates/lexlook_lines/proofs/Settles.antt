@@ -4,7 +4,8 @@ use Rattle.lex_semantics.specs.Text.{Among}
 use Rattle.lex_semantics.specs.Spec.{Statement, Reject}
 use Rattle.lex_semantics.specs.Rules.{Rules, statements_of}
 use Rattle.lex_semantics.specs.Candidates.{Candidate, Before, InOrder}
-use Rattle.lex_semantics.specs.Acting.{Acting, Matched, ActionResult, Done, Again, Over, act, settle, perform}
+use Rattle.lex_semantics.specs.Acting.{Acting, Matched}
+use Rattle.lex_semantics.specs.ActionResults.{ActionResult, Done, Again, Over, act_result, settle, perform_results}
 use Rattle.lexlook_lines.proofs.Deeds.{IsSteady}
 use Rattle.lexlook_lines.proofs.Does.{Does, does}
 
@@ -18,7 +19,7 @@ pub record Settles (R : Rules) (kept y : List ℕ) (ms : List Candidate) (c : �
   pub among : Among ms taken
   pub before : (n : Candidate) → Among ms n → Before n taken → Among (statements_of R n.rule) Reject
   pub out : List ℕ
-  pub done : act (statements_of R taken.rule) (begin (kept ++ take taken.keep y) out c cs) ≡ Done o.after
+  pub done : act_result (statements_of R taken.rule) (begin (kept ++ take taken.keep y) out c cs) ≡ Done o.after
   pub going : o.ended ≡ None
 
 not_both : (m n : Candidate) → Before m n → Before n m → ⊥
@@ -32,12 +33,12 @@ module _ (R : Rules) (steady : (i : ℕ) → IsSteady (statements_of R i)) (kept
   some_matched a b e = cc
 
   abbrev pub next : List Candidate → Acting → Option Matched
-  next ms a = perform R kept y ms a.written a.condition a.stack
+  next ms a = perform_results R kept y ms a.written a.condition a.stack
 
-  pub settles : (ms : List Candidate) → InOrder ms → (out : List ℕ) (c : ℕ) (cs : List ℕ) (o : Matched) → perform R kept y ms out c cs ≡ Some o → Settles R kept y ms c cs o
-  unfolding perform
+  pub settles : (ms : List Candidate) → InOrder ms → (out : List ℕ) (c : ℕ) (cs : List ℕ) (o : Matched) → perform_results R kept y ms out c cs ≡ Some o → Settles R kept y ms c cs o
+  unfolding perform_results
   settles [] order out c cs o e = absurd cc
-  settles (m ∷ ms) order out c cs o e = from (act (statements_of R m.rule) (begin (kept ++ take m.keep y) out c cs)) refl e (λ b. settles ms order.1 b.written b.condition b.stack o)
+  settles (m ∷ ms) order out c cs o e = from (act_result (statements_of R m.rule) (begin (kept ++ take m.keep y) out c cs)) refl e (λ b. settles ms order.1 b.written b.condition b.stack o)
     where
       a : Acting
       a = begin (kept ++ take m.keep y) out c cs
@@ -45,10 +46,10 @@ module _ (R : Rules) (steady : (i : ℕ) → IsSteady (statements_of R i)) (kept
       ss : List Statement
       ss = statements_of R m.rule
 
-      known : Does 0 ss a (act ss a)
+      known : Does 0 ss a (act_result ss a)
       known = does 0 ss a ((steady m.rule).no_end, (steady m.rule).no_push, (steady m.rule).no_pop)
 
-      from : (r : ActionResult) → act ss a ≡ r → settle r (next ms) ≡ Some o → ((b : Acting) → next ms b ≡ Some o → Settles R kept y ms b.condition b.stack o) → Settles R kept y (m ∷ ms) c cs o
+      from : (r : ActionResult) → act_result ss a ≡ r → settle r (next ms) ≡ Some o → ((b : Acting) → next ms b ≡ Some o → Settles R kept y ms b.condition b.stack o) → Settles R kept y (m ∷ ms) c cs o
       from (Done b) is f rest = record {
         taken = m;
         among = inl refl;
@@ -70,8 +71,8 @@ module _ (R : Rules) (steady : (i : ℕ) → IsSteady (statements_of R i)) (kept
             among = inr later.among;
             before = before k.2 later.taken later.before;
             out = later.out;
-            done = subst (λ d. act (statements_of R later.taken.rule) (begin (kept ++ take later.taken.keep y) later.out d cs) ≡ Done o.after) condition
-                (subst (λ s. act (statements_of R later.taken.rule) (begin (kept ++ take later.taken.keep y) later.out b.condition s) ≡ Done o.after) k.0 later.done);
+            done = subst (λ d. act_result (statements_of R later.taken.rule) (begin (kept ++ take later.taken.keep y) later.out d cs) ≡ Done o.after) condition
+                (subst (λ s. act_result (statements_of R later.taken.rule) (begin (kept ++ take later.taken.keep y) later.out b.condition s) ≡ Done o.after) k.0 later.done);
             going = later.going;
           }
         where

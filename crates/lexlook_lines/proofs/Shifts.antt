@@ -6,7 +6,8 @@ use Rattle.std.proofs.lemmas.List.{length-append, append_assoc}
 use Rattle.lex_semantics.specs.Text.{part, byte_at, at_line_start}
 use Rattle.lex_semantics.specs.Rules.{Rules}
 use Rattle.lex_semantics.specs.Candidates.{Candidates}
-use Rattle.lex_semantics.specs.Acting.{Ending, Matched, perform}
+use Rattle.lex_semantics.specs.Acting.{Ending, Matched}
+use Rattle.lex_semantics.specs.Acting.{perform}
 use Rattle.lex_semantics.specs.Run.{Place, State, Turn, NextFrom, Turns, next_place, next_start}
 use Rattle.lexlook_lines.proofs.Bytes.{byte_at_past}
 

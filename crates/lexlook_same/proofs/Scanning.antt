@@ -4,12 +4,14 @@ use Rattle.std.specs.Prelude.{nat_lt, if◌then◌else◌, option_map, filter_ma
 use Rattle.std.specs.List.{cons_option}
 use Rattle.std.proofs.lemmas.Bool.{cond-true, cond-false, lt-ltb, le-ltb, cases_lt}
 use Rattle.std.proofs.lemmas.List.{length-map}
+use Rattle.lex_semantics.proofs.ResultsAre.{results_are}
 use Rattle.lex_semantics.specs.Limits.{max_stack}
 use Rattle.lex_semantics.specs.Text.{IsText, Among, AllBelow, Ascending, part, at_line_start}
 use Rattle.lex_semantics.specs.Spec.{Statement, Echo, Print, Begin, More, Less, Reject, End, Push, Pop}
 use Rattle.lex_semantics.specs.Rules.{Rules, statements_of}
 use Rattle.lex_semantics.specs.Candidates.{Candidate, Before, InOrder, Candidates}
-use Rattle.lex_semantics.specs.Acting.{Ending, Status, StackFault, Acting, Matched, ActionResult, Done, Again, Over, act, has_room, popped, settle, perform}
+use Rattle.lex_semantics.specs.Acting.{Ending, Status, StackFault, Acting, Matched}
+use Rattle.lex_semantics.specs.ActionResults.{ActionResult, Done, Again, Over, act_result, has_room, popped, settle, perform_results}
 use Rattle.lex_semantics.specs.Run.{Place, State, Turn, MatchTurn, EndTurn, NextFrom, Turns, Run, first_state, next_place}
 use Rattle.lex_semantics.specs.Machine.{Machine, walk, state_after, rules_of_machine}
 use Rattle.lex_semantics.specs.MachineLaws.{MachineLaws}
@@ -145,7 +147,7 @@ module _ (order : List ℕ) where
   full_or true a r r' e = e
   full_or false a r r' e = refl
 
-  act_in : (ss : List Statement) (a : Acting) → act (statements_in ss) (image a) ≡ result_in (act ss a)
+  act_in : (ss : List Statement) (a : Acting) → act_result (statements_in ss) (image a) ≡ result_in (act_result ss a)
   act_in [] a = refl
   act_in (Echo ∷ ss) a = act_in ss (record a { written = a.written ++ a.text })
   act_in (Print s ∷ ss) a = act_in ss (record a { written = a.written ++ s })
@@ -156,11 +158,11 @@ module _ (order : List ℕ) where
   act_in (End s ∷ ss) a = refl
   act_in (Push d ∷ ss) a =
       let b : Acting = record a { condition = d; stack = a.condition ∷ a.stack } in
-      ap (λ n. if nat_lt n max_stack then act (statements_in ss) (image b) else Over (image a) StackFault) (length-map a.stack (number_in order))
-      ∙ full_or (has_room a.stack) a (act ss b) (act (statements_in ss) (image b)) (act_in ss b)
+      ap (λ n. if nat_lt n max_stack then act_result (statements_in ss) (image b) else Over (image a) StackFault) (length-map a.stack (number_in order))
+      ∙ full_or (has_room a.stack) a (act_result ss b) (act_result (statements_in ss) (image b)) (act_in ss b)
   act_in (Pop ∷ ss) a = from (λ b. act_in ss b) a.stack
     where
-      from : ((b : Acting) → act (statements_in ss) (image b) ≡ result_in (act ss b)) → (cs : List ℕ) → popped (map (number_in order) cs) (image a) (λ c ds. act (statements_in ss) (record (image a) { condition = c; stack = ds })) ≡ result_in (popped cs a (λ c ds. act ss (record a { condition = c; stack = ds })))
+      from : ((b : Acting) → act_result (statements_in ss) (image b) ≡ result_in (act_result ss b)) → (cs : List ℕ) → popped (map (number_in order) cs) (image a) (λ c ds. act_result (statements_in ss) (record (image a) { condition = c; stack = ds })) ≡ result_in (popped cs a (λ c ds. act_result ss (record a { condition = c; stack = ds })))
       from rest [] = refl
       from rest (c ∷ cs) = rest (record a { condition = c; stack = cs })
 
@@ -186,24 +188,24 @@ module _ (order : List ℕ) where
   settled_in (Over a d) f g e = refl
 
   perform_in : (R T : Rules) (kept y : List ℕ) (ms ns : List Candidate) → Alike R T ms ns → (out : List ℕ) (c : ℕ) (cs : List ℕ) →
-      perform T kept y ns out (number_in order c) (map (number_in order) cs) ≡ option_map matched_in (perform R kept y ms out c cs)
-  unfolding perform
+      perform_results T kept y ns out (number_in order c) (map (number_in order) cs) ≡ option_map matched_in (perform_results R kept y ms out c cs)
+  unfolding perform_results
   perform_in R T kept y [] [] h out c cs = refl
   perform_in R T kept y [] (n ∷ ns) h out c cs = absurd h
   perform_in R T kept y (m ∷ ms) [] h out c cs = absurd h
   perform_in R T kept y (m ∷ ms) (n ∷ ns) h out c cs =
       ap (λ w. settle w rest) (same ∙ act_in (statements_of R m.rule) a)
-      ∙ settled_in (act (statements_of R m.rule) a) (λ b. perform R kept y ms b.written b.condition b.stack) rest (λ b. perform_in R T kept y ms ns h.2 b.written b.condition b.stack)
+      ∙ settled_in (act_result (statements_of R m.rule) a) (λ b. perform_results R kept y ms b.written b.condition b.stack) rest (λ b. perform_in R T kept y ms ns h.2 b.written b.condition b.stack)
     where
       a : Acting
       a = record { text = kept ++ take m.keep y; written = out; condition = c; stack = cs; more = false }
 
       rest : Acting → Option Matched
-      rest b = perform T kept y ns b.written b.condition b.stack
+      rest b = perform_results T kept y ns b.written b.condition b.stack
 
-      same : act (statements_of T n.rule) (record { text = kept ++ take n.keep y; written = out; condition = number_in order c; stack = map (number_in order) cs; more = false }) ≡ act (statements_in (statements_of R m.rule)) (image a)
-      same = ap (λ ss. act ss (record { text = kept ++ take n.keep y; written = out; condition = number_in order c; stack = map (number_in order) cs; more = false })) (sym h.1)
-          ∙ ap (λ k. act (statements_in (statements_of R m.rule)) (record { text = kept ++ take k y; written = out; condition = number_in order c; stack = map (number_in order) cs; more = false })) (sym h.0)
+      same : act_result (statements_of T n.rule) (record { text = kept ++ take n.keep y; written = out; condition = number_in order c; stack = map (number_in order) cs; more = false }) ≡ act_result (statements_in (statements_of R m.rule)) (image a)
+      same = ap (λ ss. act_result ss (record { text = kept ++ take n.keep y; written = out; condition = number_in order c; stack = map (number_in order) cs; more = false })) (sym h.1)
+          ∙ ap (λ k. act_result (statements_in (statements_of R m.rule)) (record { text = kept ++ take k y; written = out; condition = number_in order c; stack = map (number_in order) cs; more = false })) (sym h.0)
 
 -- conditions that there are
 record Known (n : ℕ) (c : ℕ) (cs : List ℕ) : Type 0 where
@@ -219,7 +221,7 @@ known_or : (n : ℕ) (b : Bool) (a : Acting) (r : ActionResult) → Known n a.co
 known_or n true a r h k = k
 known_or n false a r h k = h
 
-known_after : (n : ℕ) (ss : List Statement) (a : Acting) → BeginsBelow n ss → Known n a.condition a.stack → KnownAfter n (act ss a)
+known_after : (n : ℕ) (ss : List Statement) (a : Acting) → BeginsBelow n ss → Known n a.condition a.stack → KnownAfter n (act_result ss a)
 known_after n [] a b h = h
 known_after n (Echo ∷ ss) a b h = known_after n ss (record a { written = a.written ++ a.text }) b h
 known_after n (Print s ∷ ss) a b h = known_after n ss (record a { written = a.written ++ s }) b h
@@ -230,10 +232,10 @@ known_after n (Reject ∷ ss) a b h = h
 known_after n (End s ∷ ss) a b h = h
 known_after n (Push d ∷ ss) a b h =
     let c : Acting = record a { condition = d; stack = a.condition ∷ a.stack } in
-    known_or n (has_room a.stack) a (act ss c) h (known_after n ss c b.1 (record { condition = b.0; stack = (h.condition, h.stack) }))
+    known_or n (has_room a.stack) a (act_result ss c) h (known_after n ss c b.1 (record { condition = b.0; stack = (h.condition, h.stack) }))
 known_after n (Pop ∷ ss) a b h = from (λ m k. known_after n ss m b k) a.stack h.stack
   where
-    from : ((m : Acting) → Known n m.condition m.stack → KnownAfter n (act ss m)) → (cs : List ℕ) → AllBelow n cs → KnownAfter n (popped cs a (λ c ds. act ss (record a { condition = c; stack = ds })))
+    from : ((m : Acting) → Known n m.condition m.stack → KnownAfter n (act_result ss m)) → (cs : List ℕ) → AllBelow n cs → KnownAfter n (popped cs a (λ c ds. act_result ss (record a { condition = c; stack = ds })))
     from rest [] k = h
     from rest (c ∷ cs) k = rest (record a { condition = c; stack = cs }) (record { condition = k.0; stack = k.1 })
 
@@ -250,10 +252,10 @@ module _ (M : Machine) (laws : MachineLaws M) where
   abbrev ruled : Rules
   ruled = rules_of_machine M
 
-  known_matched : (kept y : List ℕ) (ms : List Candidate) (out : List ℕ) (c : ℕ) (cs : List ℕ) (o : Matched) → Known M.conditions c cs → perform ruled kept y ms out c cs ≡ Some o → Known M.conditions o.after.condition o.after.stack
-  unfolding perform
+  known_matched : (kept y : List ℕ) (ms : List Candidate) (out : List ℕ) (c : ℕ) (cs : List ℕ) (o : Matched) → Known M.conditions c cs → perform_results ruled kept y ms out c cs ≡ Some o → Known M.conditions o.after.condition o.after.stack
+  unfolding perform_results
   known_matched kept y [] out c cs o h e = absurd cc
-  known_matched kept y (m ∷ ms) out c cs o h e = known_settled M.conditions (act (statements_of ruled m.rule) a) (λ b. perform ruled kept y ms b.written b.condition b.stack) o
+  known_matched kept y (m ∷ ms) out c cs o h e = known_settled M.conditions (act_result (statements_of ruled m.rule) a) (λ b. perform_results ruled kept y ms b.written b.condition b.stack) o
       (known_after M.conditions (statements_of ruled m.rule) a (begins_below M.conditions (statements_of ruled m.rule) (legal_of ruled laws.legal m.rule (cases_lt m.rule M.count)).ranges) h)
       (λ b k f. known_matched kept y ms b.written b.condition b.stack o k f) e
     where
@@ -328,7 +330,7 @@ module _ (order : List ℕ) (M N : Machine) (laws : MachineLaws M) (other : Mach
         matches = in_turn N (number_in order p.condition) line y;
         all = candidates_in_turn N other (number_in order p.condition) line y;
         outcome = matched_in order m.outcome;
-        performed = perform_in order R T (part x p.start p.at) y (in_turn M p.condition line y) (in_turn N (number_in order p.condition) line y) (alike p.condition line y k.condition (is_text_drop p.at x x_text)) [] p.condition p.stack
+        performed = results_are _ _ _ _ _ _ _ ∙ perform_in order R T (part x p.start p.at) y (in_turn M p.condition line y) (in_turn N (number_in order p.condition) line y) (alike p.condition line y k.condition (is_text_drop p.at x x_text)) [] p.condition p.stack
             ∙ ap (option_map (matched_in order)) performed;
         leaves = ap state_in m.leaves;
       },
@@ -341,8 +343,8 @@ module _ (order : List ℕ) (M N : Machine) (laws : MachineLaws M) (other : Mach
         y : List ℕ
         y = drop p.at x
 
-        performed : perform R (part x p.start p.at) y (in_turn M p.condition line y) [] p.condition p.stack ≡ Some m.outcome
-        performed = ap (λ ms. perform R (part x p.start p.at) y ms [] p.condition p.stack) (one_candidates R p.condition line y (in_turn M p.condition line y) m.matches (candidates_in_turn M laws p.condition line y) m.all) ∙ m.performed
+        performed : perform_results R (part x p.start p.at) y (in_turn M p.condition line y) [] p.condition p.stack ≡ Some m.outcome
+        performed = ap (λ ms. perform_results R (part x p.start p.at) y ms [] p.condition p.stack) (one_candidates R p.condition line y (in_turn M p.condition line y) m.matches (candidates_in_turn M laws p.condition line y) m.all) ∙ sym (results_are _ _ _ _ _ _ _) ∙ m.performed
 
     turn_in : (p : Place) (s : State) → Known M.conditions p.condition p.stack → Turn R x p s → Turn T x (place_in p) (state_in s) × Stands s
     turn_in p s k (inl m) = (let h = match_in p s k m in (inl h.0, h.1))
@@ -363,7 +365,7 @@ module _ (order : List ℕ) (M N : Machine) (laws : MachineLaws M) (other : Mach
     turns_in first (suc n) s h = (let b = turns_in first n h.0 h.1 in let a = next_in h.0 s h.0.ended b.1 h.2 in ((state_in h.0, b.0, a.0), a.1))
 
     run_in : BeginTogether order → (v : List ℕ) (e : Ending) → Run R x v e → Run T x v e
-    run_in first v e r = record { turns = r.turns; last = state_in r.last; reached = (turns_in first r.turns r.last r.reached).0; writes = r.writes; ends = r.ends }
+    run_in first v e (n, p, h) = (let last : State = record { written = v; place = p; ended = Some e } in (n, (state_in last).place, (turns_in first n last h).0))
 
   -- Both runs write the same, and end alike.
   pub scan_alike : BeginTogether order → ScanAlike M N

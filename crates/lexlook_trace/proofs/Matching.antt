@@ -2,12 +2,16 @@
 use Rattle.std.proofs.Common.{◌≡◌, ℕ, zero, suc, ◌+◌, ◌≤◌, ◌<◌, Bool, true, false, List, [], ◌∷◌, ◌++◌, length, map, take, ◌⊎◌, inl, inr, Option, Some, None, refl, sym, ◌∙◌, ap, subst, arith}
 use Rattle.std.specs.Prelude.{not, ◌&&◌, ◌||◌, ◌==◌, nat_lt, slice_get}
 use Rattle.std.proofs.lemmas.Bool.{and_from, cond-true, cond-false, lt-ltb, le-ltb, cases_lt, eq-eqb}
-use Rattle.std.proofs.lemmas.List.{length-append, length-take-le, append-nil, append_assoc}
+use Rattle.std.proofs.lemmas.List.{length-take-le, append-nil, append_assoc}
 use Rattle.std.proofs.lemmas.Option.{slice_get_past}
-use Rattle.lex_semantics.specs.Acting.{Acting, ActionResult, Done, Again, Over, Matched, act, settle, perform}
-use Rattle.lex_semantics.specs.Active.{active, serves, is_inclusive, lists}
+use Rattle.std.specs.Option.{option_map_or}
+use Rattle.std.specs.Prelude.{MatchOption}
+use Rattle.std.specs.Prelude.{drop}
+use Rattle.lex_semantics.specs.Acting.{Acting, Matched}
+use Rattle.lex_semantics.specs.ActionResults.{ActionResult, Done, Again, Over, act_result, settle, perform_results}
+use Rattle.lex_semantics.specs.Active.{active, serves, lists}
 use Rattle.lex_semantics.specs.Candidates.{Candidate, Before, InOrder, IsCandidate, Candidates}
-use Rattle.lex_semantics.specs.Fits.{Fits, InTrail}
+use Rattle.lex_semantics.specs.Fits.{Fits}
 use Rattle.lex_semantics.specs.Rules.{Rules, Full, rules_of, statements_of}
 use Rattle.lex_semantics.specs.Spec.{Spec, Rule, Condition, Echo, EndAction, statements_at, end_at}
 use Rattle.lex_semantics.specs.Text.{IsText, Among, listed}
@@ -53,6 +57,9 @@ is_listed i (suc k) c le lt = from (cases_lt i c) (λ less. is_listed (suc i) k 
 
 -- conditions
 
+abbrev is_inclusive : Option Condition → Bool
+is_inclusive k = option_map_or (λ k. not k.exclusive) k false
+
 inclusive_same : (k : ℕ) (ks : List Condition) (c : ℕ) → is_inclusive (slice_get (traced_conditions k ks) c) ≡ is_inclusive (slice_get ks c)
 inclusive_same k [] c = refl
 inclusive_same k (q ∷ ks) zero = refl
@@ -96,11 +103,8 @@ module _ (S : Spec) where
     rule = traced_rule h.rule;
     at = got_left S.rules (last ∷ []) i h.rule h.at;
     is_active = active_same c line h.rule ∙ h.is_active;
-    text = h.text;
-    trail = h.trail;
-    splits = h.splits;
-    length_is = h.length_is;
     not_empty = h.not_empty;
+    inside = h.inside;
     in_head = h.in_head;
     in_trail = h.in_trail;
   }
@@ -113,13 +117,10 @@ module _ (S : Spec) where
         rule = r.0;
         at = r.1;
         is_active = sym (active_same c line r.0) ∙ subst (λ q. active (traced S) c line q ≡ true) same h.is_active;
-        text = h.text;
-        trail = h.trail;
-        splits = h.splits;
-        length_is = h.length_is;
         not_empty = h.not_empty;
-        in_head = subst (λ (q : Rule). In q.head h.text) same h.in_head;
-        in_trail = subst (λ (q : Rule). InTrail q.trail h.trail) same h.in_trail;
+        inside = h.inside;
+        in_head = subst (λ (q : Rule). In q.head (take k w)) same h.in_head;
+        in_trail = subst (λ (q : Rule). MatchOption q.trail (k ≡ length w) (λ t. In t (drop k w))) same h.in_trail;
       }
 
   -- the default rule takes one byte
@@ -131,11 +132,8 @@ module _ (S : Spec) where
     rule = last;
     at = got_last S.rules last;
     is_active = and_from (lists (listed (λ c. true) 0 (length S.conditions)) c) true (is_listed 0 (length S.conditions) c (omega arith) (omega (arith, lt))) refl;
-    text = b ∷ [];
-    trail = [];
-    splits = refl;
-    length_is = refl;
     not_empty = omega arith;
+    inside = omega arith;
     in_head = (b, refl, (text.0, has_any b text.0));
     in_trail = refl;
   }
@@ -143,10 +141,10 @@ module _ (S : Spec) where
   last_is_one : (c : ℕ) (line : Bool) (w : List ℕ) (i k : ℕ) → i ≡ count → Fits (traced S) c line w i k → (length w ≡ 1) × (k ≡ 1)
   last_is_one c line w i k is h =
       let same : h.rule ≡ last = same_rule (traced S) i h.rule last h.at (ap (slice_get (map traced_rule S.rules ++ last ∷ [])) is ∙ got_last S.rules last) in
-      let head : In last.head h.text = subst (λ (q : Rule). In q.head h.text) same h.in_head in
-      let trail : h.trail ≡ [] = subst (λ (q : Rule). InTrail q.trail h.trail) same h.in_trail in
-      let one : length h.text ≡ 1 = ap length head.1 in
-      (ap length (h.splits ∙ ap (λ z. h.text ++ z) trail ∙ append-nil h.text) ∙ one, h.length_is ∙ one)
+      let head : In last.head (take k w) = subst (λ (q : Rule). In q.head (take k w)) same h.in_head in
+      let whole : k ≡ length w = subst (λ (q : Rule). MatchOption q.trail (k ≡ length w) (λ t. In t (drop k w))) same h.in_trail in
+      let one : k ≡ 1 = sym (length-take-le k w h.inside) ∙ ap length head.1 in
+      (sym whole ∙ one, one)
 
   -- the matches
 
@@ -155,49 +153,46 @@ module _ (S : Spec) where
 
   module _ (c : ℕ) (line : Bool) (y : List ℕ) (lt : c < length S.conditions) (text : IsText y) (some : 1 ≤ length y) where
     candidate_to : (m : Candidate) → IsCandidate R c line y m → IsCandidate T c line y m
-    candidate_to m h = record { inside = h.inside; fits = from h.fits }
+    candidate_to m h = (h.0, from h.1)
       where
         from : Full R c line (take m.len y) m.rule m.keep → Full T c line (take m.len y) m.rule m.keep
         from (inl f) = inl (omega (arith, f.0, rule_count S), fits_to c line (take m.len y) m.rule m.keep f.1)
         from (inr f) = inl (omega (arith, f.0, rule_count S), subst (λ i. Fits (traced S) c line (take m.len y) i m.keep) (sym f.0) (subst (λ k. Fits (traced S) c line (take m.len y) count k) (sym f.2) (last_fits c line (take m.len y) lt (is_text_take m.len y text) f.1)))
 
     extra_is : IsCandidate T c line y extra
-    extra_is = record { inside = some; fits = inr (sym (rule_count S), length-take-le 1 y some, refl) }
+    extra_is = (some, inr (sym (rule_count S), length-take-le 1 y some, refl))
 
     same_extra : (m : Candidate) → m.len ≡ 1 → m.rule ≡ suc count → m.keep ≡ 1 → m ≡ extra
     same_extra m a b d =
         ap (λ i. record { len = i; rule = m.rule; keep = m.keep }) a ∙ ap (λ i. record { len = 1; rule = i; keep = m.keep }) b ∙ ap (λ i. record { len = 1; rule = suc count; keep = i }) d
 
     candidate_from : (m : Candidate) → IsCandidate T c line y m → IsCandidate R c line y m ⊎ (m ≡ extra)
-    candidate_from m h = from h.fits
+    candidate_from m h = from h.1
       where
         from : Full T c line (take m.len y) m.rule m.keep → IsCandidate R c line y m ⊎ (m ≡ extra)
-        from (inr f) = inr (same_extra m (sym (length-take-le m.len y h.inside) ∙ f.1) (f.0 ∙ rule_count S) f.2)
+        from (inr f) = inr (same_extra m (sym (length-take-le m.len y h.0) ∙ f.1) (f.0 ∙ rule_count S) f.2)
         from (inl f) = old (cases_lt m.rule count)
           where
             old : (m.rule < count) ⊎ (count ≤ m.rule) → IsCandidate R c line y m ⊎ (m ≡ extra)
-            old (inl less) = inl (record { inside = h.inside; fits = inl (less, fits_from c line (take m.len y) m.rule m.keep less f.1) })
+            old (inl less) = inl ((h.0, inl (less, fits_from c line (take m.len y) m.rule m.keep less f.1)))
             old (inr more) =
                 let is : m.rule ≡ count = omega (arith, more, f.0, rule_count S) in
                 let one = last_is_one c line (take m.len y) m.rule m.keep is f.1 in
-                inl (record { inside = h.inside; fits = inr (is, one.0, one.1) })
+                inl ((h.0, inr (is, one.0, one.1)))
 
     before_extra : (m : Candidate) → IsCandidate R c line y m → Before m extra
-    before_extra m h = from h.fits
+    before_extra m h = from h.1
       where
         n : length (take m.len y) ≡ m.len
-        n = length-take-le m.len y h.inside
+        n = length-take-le m.len y h.0
 
         from : Full R c line (take m.len y) m.rule m.keep → Before m extra
         from (inr f) = inr (sym n ∙ f.1, omega (arith, f.0))
         from (inl f) = size (cases_lt 1 m.len)
           where
-            part : length (take m.len y) ≡ length f.1.text + length f.1.trail
-            part = ap length f.1.splits ∙ length-append f.1.text f.1.trail
-
             size : (1 < m.len) ⊎ (m.len ≤ 1) → Before m extra
             size (inl less) = inl less
-            size (inr le) = inr (omega (arith, le, n, part, f.1.length_is, f.1.not_empty), omega (arith, f.0))
+            size (inr le) = inr (omega (arith, le, n, f.1.inside, f.1.not_empty), omega (arith, f.0))
 
     in_order : (ms : List Candidate) → InOrder ms → ((m : Candidate) → Among ms m → Before m extra) → InOrder (ms ++ extra ∷ [])
     in_order [] h k = (λ n a. absurd a, tt)
@@ -223,7 +218,7 @@ module _ (S : Spec) where
         from m a = elim (candidate_from m a) [ inl b ↦ among_left ms (extra ∷ []) m ((h.members m).1 b) | inr e ↦ among_right ms (extra ∷ []) m (inl e) ]
 
     pub rule_bound : (m : Candidate) → IsCandidate R c line y m → m.rule ≤ count
-    rule_bound m h = elim h.fits [ inl f ↦ omega (arith, f.0) | inr f ↦ omega (arith, f.0) ]
+    rule_bound m h = elim h.1 [ inl f ↦ omega (arith, f.0) | inr f ↦ omega (arith, f.0) ]
 
   -- the actions
 
@@ -253,12 +248,12 @@ module _ (S : Spec) where
       pub taken : Candidate
       pub left : List Candidate
       pub splits : ms ≡ passed ++ taken ∷ left
-      pub rejected : perform R kept y passed out c cs ≡ None
-      pub carried : perform R kept y (passed ++ taken ∷ []) out c cs ≡ Some o
-      pub performed : (more : List Candidate) → perform T kept y (ms ++ more) told c cs ≡ Some (outcome_told (told ++ match_lines S kept y (passed ++ taken ∷ [])) o)
+      pub rejected : perform_results R kept y passed out c cs ≡ None
+      pub carried : perform_results R kept y (passed ++ taken ∷ []) out c cs ≡ Some o
+      pub performed : (more : List Candidate) → perform_results T kept y (ms ++ more) told c cs ≡ Some (outcome_told (told ++ match_lines S kept y (passed ++ taken ∷ [])) o)
 
-    nothing_taken : (out : List ℕ) (c : ℕ) (cs : List ℕ) → perform R kept y [] out c cs ≡ None
-    unfolding perform
+    nothing_taken : (out : List ℕ) (c : ℕ) (cs : List ℕ) → perform_results R kept y [] out c cs ≡ None
+    unfolding perform_results
     nothing_taken out c cs = refl
 
     abbrev before : Candidate → (out : List ℕ) (c : ℕ) (cs : List ℕ) → Acting
@@ -268,20 +263,20 @@ module _ (S : Spec) where
     line_of m = match_line (slice_get S.rules m.rule) (kept ++ take m.keep y)
 
     abbrev acted : Candidate → (out : List ℕ) (c : ℕ) (cs : List ℕ) → ActionResult
-    acted m out c cs = act (statements_of R m.rule) (before m out c cs)
+    acted m out c cs = act_result (statements_of R m.rule) (before m out c cs)
 
-    one_step : (m : Candidate) (ms : List Candidate) (out : List ℕ) (c : ℕ) (cs : List ℕ) → perform R kept y (m ∷ ms) out c cs ≡ settle (acted m out c cs) (λ a. perform R kept y ms a.written a.condition a.stack)
-    unfolding perform
+    one_step : (m : Candidate) (ms : List Candidate) (out : List ℕ) (c : ℕ) (cs : List ℕ) → perform_results R kept y (m ∷ ms) out c cs ≡ settle (acted m out c cs) (λ a. perform_results R kept y ms a.written a.condition a.stack)
+    unfolding perform_results
     one_step m ms out c cs = refl
 
     one_step_told : (m : Candidate) (ms : List Candidate) (out told : List ℕ) (c : ℕ) (cs : List ℕ) → m.rule ≤ count →
-        perform T kept y (m ∷ ms) told c cs ≡ settle (retold (told ++ line_of m) (acted m out c cs)) (λ a. perform T kept y ms a.written a.condition a.stack)
-    unfolding perform
+        perform_results T kept y (m ∷ ms) told c cs ≡ settle (retold (told ++ line_of m) (acted m out c cs)) (λ a. perform_results T kept y ms a.written a.condition a.stack)
+    unfolding perform_results
     one_step_told m ms out told c cs le =
-        ap (λ ss. settle (act ss (before m told c cs)) (λ a. perform T kept y ms a.written a.condition a.stack)) (told_statements m.rule le)
-        ∙ ap (λ r. settle r (λ a. perform T kept y ms a.written a.condition a.stack)) (telling_acts told (front_of (slice_get S.rules m.rule)) (statements_of R m.rule) (before m out c cs))
+        ap (λ ss. settle (act_result ss (before m told c cs)) (λ a. perform_results T kept y ms a.written a.condition a.stack)) (told_statements m.rule le)
+        ∙ ap (λ r. settle r (λ a. perform_results T kept y ms a.written a.condition a.stack)) (telling_acts told (front_of (slice_get S.rules m.rule)) (statements_of R m.rule) (before m out c cs))
 
-    pub taken_of : (ms : List Candidate) (out told : List ℕ) (c : ℕ) (cs : List ℕ) (o : Matched) → ((m : Candidate) → Among ms m → m.rule ≤ count) → perform R kept y ms out c cs ≡ Some o → Taken ms out told c cs o
+    pub taken_of : (ms : List Candidate) (out told : List ℕ) (c : ℕ) (cs : List ℕ) (o : Matched) → ((m : Candidate) → Among ms m → m.rule ≤ count) → perform_results R kept y ms out c cs ≡ Some o → Taken ms out told c cs o
     taken_of [] out told c cs o below e = absurd (no (sym (nothing_taken out c cs) ∙ e))
       where
         no : None ≡ Some o → ⊥
@@ -302,16 +297,16 @@ module _ (S : Spec) where
           left = ms;
           splits = refl;
           rejected = nothing_taken out c cs;
-          carried = one_step m [] out c cs ∙ ap (λ z. settle z (λ a. perform R kept y [] a.written a.condition a.stack)) is ∙ done (λ a. perform R kept y [] a.written a.condition a.stack) ∙ ap Some same;
-          performed = λ more. (one_step_told m (ms ++ more) out told c cs le ∙ ap (λ z. settle (retold (told ++ line_of m) z) (λ a. perform T kept y (ms ++ more) a.written a.condition a.stack)) is
-              ∙ done_told (λ a. perform T kept y (ms ++ more) a.written a.condition a.stack) ∙ ap (λ z. Some (outcome_told (told ++ z) q)) (sym (append-nil (line_of m))) ∙ ap (λ z. Some (outcome_told (told ++ (line_of m ++ [])) z)) same);
+          carried = one_step m [] out c cs ∙ ap (λ z. settle z (λ a. perform_results R kept y [] a.written a.condition a.stack)) is ∙ done (λ a. perform_results R kept y [] a.written a.condition a.stack) ∙ ap Some same;
+          performed = λ more. (one_step_told m (ms ++ more) out told c cs le ∙ ap (λ z. settle (retold (told ++ line_of m) z) (λ a. perform_results T kept y (ms ++ more) a.written a.condition a.stack)) is
+              ∙ done_told (λ a. perform_results T kept y (ms ++ more) a.written a.condition a.stack) ∙ ap (λ z. Some (outcome_told (told ++ z) q)) (sym (append-nil (line_of m))) ∙ ap (λ z. Some (outcome_told (told ++ (line_of m ++ [])) z)) same);
         }
 
         same_outcome : (q : Matched) → Some q ≡ Some o → q ≡ o
         same_outcome q p = cc
 
-        from : (r : ActionResult) → acted m out c cs ≡ r → settle r (λ a. perform R kept y ms a.written a.condition a.stack) ≡ Some o →
-            ((w t : List ℕ) (d : ℕ) (ds : List ℕ) → perform R kept y ms w d ds ≡ Some o → Taken ms w t d ds o) → Taken (m ∷ ms) out told c cs o
+        from : (r : ActionResult) → acted m out c cs ≡ r → settle r (λ a. perform_results R kept y ms a.written a.condition a.stack) ≡ Some o →
+            ((w t : List ℕ) (d : ℕ) (ds : List ℕ) → perform_results R kept y ms w d ds ≡ Some o → Taken ms w t d ds o) → Taken (m ∷ ms) out told c cs o
         from (Done a) is p later = here (record { after = a; ended = None }) (Done a) is (λ f. refl) (λ f. refl) (same_outcome _ p)
         from (Over a d) is p later = here (record { after = a; ended = Some d }) (Over a d) is (λ f. refl) (λ f. refl) (same_outcome _ p)
         from (Again a) is p later =
@@ -321,8 +316,8 @@ module _ (S : Spec) where
               taken = k.taken;
               left = k.left;
               splits = ap (λ z. m ∷ z) k.splits;
-              rejected = one_step m k.passed out c cs ∙ ap (λ z. settle z (λ a. perform R kept y k.passed a.written a.condition a.stack)) is ∙ k.rejected;
-              carried = one_step m (k.passed ++ k.taken ∷ []) out c cs ∙ ap (λ z. settle z (λ a. perform R kept y (k.passed ++ k.taken ∷ []) a.written a.condition a.stack)) is ∙ k.carried;
-              performed = λ more. (one_step_told m (ms ++ more) out told c cs le ∙ ap (λ z. settle (retold (told ++ line_of m) z) (λ a. perform T kept y (ms ++ more) a.written a.condition a.stack)) is
+              rejected = one_step m k.passed out c cs ∙ ap (λ z. settle z (λ a. perform_results R kept y k.passed a.written a.condition a.stack)) is ∙ k.rejected;
+              carried = one_step m (k.passed ++ k.taken ∷ []) out c cs ∙ ap (λ z. settle z (λ a. perform_results R kept y (k.passed ++ k.taken ∷ []) a.written a.condition a.stack)) is ∙ k.carried;
+              performed = λ more. (one_step_told m (ms ++ more) out told c cs le ∙ ap (λ z. settle (retold (told ++ line_of m) z) (λ a. perform_results T kept y (ms ++ more) a.written a.condition a.stack)) is
                   ∙ k.performed more ∙ ap (λ z. Some (outcome_told z o)) (append_assoc told (line_of m) (match_lines S kept y (k.passed ++ k.taken ∷ []))));
             }

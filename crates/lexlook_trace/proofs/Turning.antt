@@ -1,5 +1,6 @@
 -- The turns by the specification that tells.
 use Rattle.std.proofs.Common.{◌≡◌, ℕ, zero, suc, ◌≤◌, ◌<◌, Bool, List, [], ◌∷◌, ◌++◌, length, drop, inl, inr, Option, Some, None, refl, sym, ◌∙◌, ap, subst, arith, length-drop}
+use Rattle.lex_semantics.proofs.ResultsAre.{results_are}
 use Rattle.lex_semantics.specs.Acting.{Ending, Status, Matched}
 use Rattle.lex_semantics.specs.Candidates.{Candidates}
 use Rattle.lex_semantics.specs.Rules.{Rules, rules_of}
@@ -27,7 +28,7 @@ module _ (S : Spec) (sound : IsSound S) where
   begins : (i : ℕ) → i < R.count → BeginsBelow R.conditions (R.statements i)
   begins i lt =
       let r = get_at S.rules i lt in
-      subst (λ o. BeginsBelow (length S.conditions) (statements_at o)) (sym r.1) (begins_below (length S.conditions) r.0.statements (sound.rules i r.0 r.1).legal.ranges)
+      subst (λ o. BeginsBelow (length S.conditions) (statements_at o)) (sym r.1) (begins_below (length S.conditions) r.0.statements (sound.rules i r.0 r.1).legal.0.ranges)
 
   abbrev PlaceBelow : Place → Type 0
   PlaceBelow p = Below R.conditions p.condition p.stack
@@ -47,7 +48,7 @@ module _ (S : Spec) (sound : IsSound S) where
         let kept : List ℕ = part x p.start p.at in
         let y_text : IsText y = is_text_drop p.at x text in
         let some : 1 ≤ length y = rw length-drop (omega (arith, h.before_end)) in
-        let k = M.taken_of S kept y h.matches [] [] p.condition p.stack h.outcome (λ m a. M.rule_bound S p.condition line y lt.0 y_text some m ((h.all.members m).0 a)) h.performed in
+        let k = M.taken_of S kept y h.matches [] [] p.condition p.stack h.outcome (λ m a. M.rule_bound S p.condition line y lt.0 y_text some m ((h.all.members m).0 a)) (sym (results_are _ _ _ _ _ _ _) ∙ h.performed) in
         let lines : List ℕ = match_lines S kept y (k.passed ++ k.taken ∷ []) in
         let told : Matched = M.outcome_told S lines h.outcome in
         record {
@@ -55,7 +56,7 @@ module _ (S : Spec) (sound : IsSound S) where
           are = inl (record {
             taken = k.taken;
             outcome = h.outcome;
-            carries = record { before_end = h.before_end; passed = k.passed; left = k.left; all = subst (Candidates R p.condition line y) k.splits h.all; rejected = k.rejected; carried = k.carried };
+            carries = record { before_end = h.before_end; passed = k.passed; left = k.left; all = subst (Candidates R p.condition line y) k.splits h.all; rejected = results_are _ _ _ _ _ _ _ ∙ k.rejected; carried = results_are _ _ _ _ _ _ _ ∙ k.carried };
             lines_are = refl;
           });
           turn = inl (record {
@@ -63,10 +64,10 @@ module _ (S : Spec) (sound : IsSound S) where
             matches = h.matches ++ M.extra S ∷ [];
             all = M.candidates_told S p.condition line y lt.0 y_text some h.matches h.all;
             outcome = told;
-            performed = k.performed (M.extra S ∷ []);
+            performed = results_are _ _ _ _ _ _ _ ∙ k.performed (M.extra S ∷ []);
             leaves = ap (with_lines lines) h.leaves;
           });
-          below = subst (λ (z : State). PlaceBelow z.place) (sym h.leaves) (perform_below R begins kept y h.matches [] p.condition p.stack h.outcome lt h.performed);
+          below = subst (λ (z : State). PlaceBelow z.place) (sym h.leaves) (perform_below R begins kept y h.matches [] p.condition p.stack h.outcome lt (sym (results_are _ _ _ _ _ _ _) ∙ h.performed));
         }
 
     end_told : (p : Place) (s : State) → PlaceBelow p → EndTurn R x p s → Told p s
@@ -118,17 +119,19 @@ module _ (S : Spec) (sound : IsSound S) where
     turns_told (suc n) s (b, turns, next) = next_told n b s turns (turns_told n b turns) b.ended refl next
 
     pub runs_told : (lines : List ℕ) (ending : Ending) → Run T x lines ending → TellsRun S x lines ending
-    runs_told lines ending h = from (spec_state S sound x h.turns)
+    runs_told lines ending (n, p, h) = from (spec_state S sound x n)
       where
-        from : (s : State) × Turns R x h.turns s → TellsRun S x lines ending
+        from : (s : State) × Turns R x n s → TellsRun S x lines ending
         from (s, turns) =
-            let k = turns_told h.turns s turns in
-            let same : h.last ≡ with_lines k.lines s = one_state T x h.turns h.last (with_lines k.lines s) h.reached k.turns in
-            let is : k.lines ≡ lines = ap (λ (z : State). z.written) (sym same) ∙ h.writes in
+            let k = turns_told n s turns in
+            let last : State = record { written = lines; place = p; ended = Some ending } in
+            let same : last ≡ with_lines k.lines s = one_state T x n last (with_lines k.lines s) h k.turns in
+            let is : k.lines ≡ lines = ap (λ (z : State). z.written) (sym same) in
+            let over : s.ended ≡ Some ending = ap (λ (z : State). z.ended) (sym same) in
             record {
               written = s.written;
-              run = record { turns = h.turns; last = s; reached = turns; writes = refl; ends = ap (λ (z : State). z.ended) (sym same) ∙ h.ends };
-              lines_are = subst (Lines S x h.turns) is k.are;
+              run = (n, s.place, subst (Turns R x n) (λ i. record { written = s.written; place = s.place; ended = over i }) turns);
+              lines_are = subst (Lines S x n) is k.are;
             }
 
 pub tells_turns : (S : Spec) → IsSound S → TellsTurns S

@@ -22,7 +22,7 @@ TellsTurns S = (x : List ℕ) (n : ℕ) (s : State) → IsText x → Turns (rule
 pub record TellsRun (S : Spec) (x lines : List ℕ) (ending : Ending) : Type 0 where
   pub written : List ℕ
   pub run : Run (rules_of S) x written ending
-  pub lines_are : Lines S x run.turns lines
+  pub lines_are : Lines S x run.0 lines
 
 abbrev pub TellsRuns : Spec → Type 0
 TellsRuns S = (x lines : List ℕ) (ending : Ending) → IsText x → Run (rules_of (traced S)) x lines ending → TellsRun S x lines ending

@@ -3,7 +3,7 @@ use Rattle.std.proofs.lemmas.Bool.{cases_lt}
 use Rattle.std.proofs.Common.{⊎_elim, ◌≡◌, ℕ, zero, suc, ◌+◌, ◌*◌, ◌^◌, ◌<◌, ◌≤◌, min, max, length, List, [], ◌∷◌, ◌++◌, Option, Some, None, Result, option_map, unwrap_or, IfSome, ◌⊎◌, inl, inr, refl, sym, ap, ◌∙◌, subst, arith, length-append}
 use Rattle.std.specs.Prelude.{IsSomeAnd}
 use Rattle.std.specs.Result.{OkIff, result_ok}
-use Rattle.lex_semantics.specs.Tree.{Tree, Trees, Empty, Set, Cat, Alt, Star, Repeat, no_trees, tree, Joined, UpTo, In, InEach, InSome}
+use Rattle.lex_semantics.specs.Tree.{Tree, Trees, Empty, Set, Cat, Alt, Star, Repeat, no_trees, tree, Passes, UpTo, In, InEach, InSome}
 use Rattle.lex_semantics.specs.Shapes.{Language, LongestIs, HasLengths, IsSoundTree, AreSoundTrees, HasPart}
 use Rattle.lexre_bytes.proofs.Narrowing.{fits, too_large}
 use Rattle.lexre.specs.Lengths.{plus, larger, lesser, unbounded, repeated, least, least_of_each, least_of_some, greatest, greatest_of_each, greatest_of_some, capped, PassesLimit}
@@ -85,33 +85,33 @@ either_lengths L M a b x y h k = record {
 
 -- ---- joinings
 
-at_least : (L : Language) (a : ℕ) → ((w : List ℕ) → L w → a ≤ length w) → (k : ℕ) (w : List ℕ) → Joined L k w → k * a ≤ length w
-at_least L a h zero w e = omega arith
-at_least L a h (suc k) w (u, v, e, i, rest) =
+at_least : (L : Language) (a : ℕ) → ((w : List ℕ) → L w → a ≤ length w) → (j k : ℕ) (w : List ℕ) → Passes (λ i. L) j k w → k * a ≤ length w
+at_least L a h j zero w e = omega arith
+at_least L a h j (suc k) w (u, v, e, i, rest) =
     let here : a ≤ length u = h u i in
-    let more : k * a ≤ length v = at_least L a h k v rest in
+    let more : k * a ≤ length v = at_least L a h (suc j) k v rest in
     omega (arith, of_two w u v e)
 
-at_most : (L : Language) (b : ℕ) → ((w : List ℕ) → L w → length w ≤ b) → (k : ℕ) (w : List ℕ) → Joined L k w → length w ≤ k * b
-at_most L b h zero w e = omega (arith, ap length e)
-at_most L b h (suc k) w (u, v, e, i, rest) =
+at_most : (L : Language) (b : ℕ) → ((w : List ℕ) → L w → length w ≤ b) → (j k : ℕ) (w : List ℕ) → Passes (λ i. L) j k w → length w ≤ k * b
+at_most L b h j zero w e = omega (arith, ap length e)
+at_most L b h j (suc k) w (u, v, e, i, rest) =
     let here : length u ≤ b = h u i in
-    let more : length v ≤ k * b = at_most L b h k v rest in
+    let more : length v ≤ k * b = at_most L b h (suc j) k v rest in
     omega (arith, of_two w u v e)
 
 -- a word as often as one likes
-same_joined : (L : Language) (w : List ℕ) → L w → (k : ℕ) → (v : List ℕ) × Joined L k v × (length v ≡ k * length w)
-same_joined L w i zero = ([], refl, omega arith)
-same_joined L w i (suc k) =
-    let (v, joined, e) = same_joined L w i k in
+same_joined : (L : Language) (w : List ℕ) → L w → (j k : ℕ) → (v : List ℕ) × Passes (λ i. L) j k v × (length v ≡ k * length w)
+same_joined L w i j zero = ([], refl, omega arith)
+same_joined L w i j (suc k) =
+    let (v, joined, e) = same_joined L w i (suc j) k in
     (w ++ v, (w, v, refl, i, joined), of_two (w ++ v) w v refl ∙ omega (arith, e))
 
 -- from least to most words
 abbrev Several : Language → ℕ → Option ℕ → Language
-Several L least most w = (k : ℕ) × (least ≤ k) × UpTo most k × Joined L k w
+Several L least most w = (k : ℕ) × (least ≤ k) × UpTo most k × Passes (λ i. L) 0 k w
 
 several_of : (L : Language) (least : ℕ) (most : Option ℕ) (w : List ℕ) → L w → (k : ℕ) → least ≤ k → UpTo most k → (v : List ℕ) × Several L least most v × (length v ≡ k * length w)
-several_of L least most w i k low high = (let (v, joined, e) = same_joined L w i k in (v, (k, low, high, joined), e))
+several_of L least most w i k low high = (let (v, joined, e) = same_joined L w i 0 k in (v, (k, low, high, joined), e))
 
 fits_below : (least : ℕ) (most : Option ℕ) → IfSome most (λ n. (least ≤ n) × (1 ≤ n)) → UpTo most least
 fits_below least None h = tt
@@ -132,7 +132,7 @@ several_longest L a least None (Some zero) ok h =
     let w = h.longest.0 in
     let v = several_of L least None w.0 w.1 least (omega arith) tt in (
       (v.0, v.1, omega (arith, v.2 ∙ ap (λ y. least * y) w.2)),
-      λ u (k, low, high, joined). omega (arith, at_most L 0 h.longest.1 k u joined),
+      λ u (k, low, high, joined). omega (arith, at_most L 0 h.longest.1 0 k u joined),
     )
 several_longest L a least None (Some (suc b)) ok h = λ n.
     let w = h.longest.0 in
@@ -146,7 +146,7 @@ several_longest L a least (Some m) (Some b) ok h =
     let w = h.longest.0 in
     let v = several_of L least (Some m) w.0 w.1 m ok.0 (omega arith) in (
       (v.0, v.1, v.2 ∙ ap (λ y. m * y) w.2),
-      λ u (k, low, high, joined). omega (arith, at_most L b h.longest.1 k u joined, times_less k m b high),
+      λ u (k, low, high, joined). omega (arith, at_most L b h.longest.1 0 k u joined, times_less k m b high),
     )
 
 several_lengths : (L : Language) (a least : ℕ) (most x : Option ℕ) → IfSome most (λ n. (least ≤ n) × (1 ≤ n)) → HasLengths L a x → HasLengths (Several L least most) (least * a) (repeated most x)
@@ -154,7 +154,7 @@ several_lengths L a least most x ok h = record {
   shortest = (let w = h.shortest in
       let v = several_of L least most w.0 w.1 least (omega arith) (fits_below least most ok) in
       (v.0, v.1, v.2 ∙ ap (λ y. least * y) w.2));
-  none_shorter = λ u (k, low, high, joined). omega (arith, at_least L a h.none_shorter k u joined, times_less least k a low);
+  none_shorter = λ u (k, low, high, joined). omega (arith, at_least L a h.none_shorter 0 k u joined, times_less least k a low);
   longest = several_longest L a least most x ok h;
 }
 
@@ -195,7 +195,7 @@ some_step t no_trees h rest =
 some_step t (tree s ss) h rest =
     along_least (InSome (tree t (tree s ss))) (min (least t) (unwrap_or (least_of_some (tree s ss)) 0)) (unwrap_or (least_of_some (tree t (tree s ss))) 0) (larger (greatest t) (larger (greatest s) (greatest_of_some ss)))
     (sym (lesser_min (least t) (least s) (least_of_some ss)))
-    (either_lengths (In t) (InSome (tree s ss)) (least t) (unwrap_or (least_of_some (tree s ss)) 0) (greatest t) (larger (greatest s) (greatest_of_some ss)) h (rest tt))
+    (either_lengths (In t) (InSome (tree s ss)) (least t) (unwrap_or (least_of_some (tree s ss)) 0) (greatest t) (larger (greatest s) (greatest_of_some ss)) h (rest (λ e. cc)))
 
 mutual
   pub has_lengths : (t : Tree) → IsSoundTree t → HasLengths (In t) (least t) (greatest t)
@@ -216,7 +216,7 @@ mutual
       both_lengths (In t) (InEach ts) (least t) (least_of_each ts) (greatest t) (greatest_of_each ts) (has_lengths t sound.0) (each_lengths ts sound.1)
 
   some_lengths : (ts : Trees) → AreSoundTrees ts → HasPart ts → HasLengths (InSome ts) (unwrap_or (least_of_some ts) 0) (greatest_of_some ts)
-  some_lengths no_trees sound some = absurd some
+  some_lengths no_trees sound some = absurd (some refl)
   some_lengths (tree t ts) sound some = some_step t ts (has_lengths t sound.0) (some_lengths ts sound.1)
 
 -- ---- answers from caps

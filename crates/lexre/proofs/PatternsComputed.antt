@@ -3,7 +3,7 @@ use Rattle.std.proofs.Common.{◌≡◌, ℕ, List, [], ◌∷◌, Some, None, c
 use Rattle.std.proofs.lemmas.Bool.{leb-true}
 use Rattle.std.specs.FinMap.{get}
 use Rattle.std.specs.Prelude.{true, false, nat_le, ◌+◌, ◌^◌, ◌++◌}
-use Rattle.lex_semantics.specs.ByteSets.{has, set_below, set_of, empty_set, single, range_set, union, complement, other_case, fold_case, is_upper, is_lower, is_alpha, is_digit, is_alnum}
+use Rattle.lex_semantics.specs.ByteSets.{has, set_of, empty_set, single, range_set, union, complement, other_case, fold_case, is_upper, is_lower, is_alpha, is_digit, is_alnum}
 use Rattle.lex_semantics.specs.Escapes.{simple_escape, octal_at, hexadecimal_at, until_quote}
 use Rattle.lex_semantics.specs.Reading.{take_up_to}
 use Rattle.lex_semantics.specs.Shapes.{nodes}
@@ -28,7 +28,7 @@ is_none how n text none = λ definitions t spells.
     (spelled_runs how.posix (symbol_at how.fold) (get definitions) max_open text t spells.0)
 
 pub items : Items
-unfolding after_word run_at number_at name_at escape_at literal_byte_at quoted_tree class_name_at enclosed_by bracketed_at is_range range_at element_at elements_at class_at span union_set class_set bounded interval_at braces_at symbol_at has set_below set_of empty_set single range_set union complement other_case fold_case is_alpha is_digit is_alnum simple_escape octal_at hexadecimal_at until_quote take_up_to
+unfolding after_word run_at number_at name_at escape_at literal_byte_at quoted_tree class_name_at enclosed_by bracketed_at is_range range_at element_at elements_at class_at span union_set class_set bounded interval_at braces_at symbol_at has set_of empty_set single range_set union complement other_case fold_case is_alpha is_digit is_alnum simple_escape octal_at hexadecimal_at until_quote take_up_to
 items = (
   is_tree plain 20 (codes "a") a refl refl,
   is_tree plain 20 (codes ".") (Set (complement (single 10))) refl refl,
@@ -41,7 +41,7 @@ items = (
 )
 
 pub folded : Folded
-unfolding after_word run_at number_at name_at escape_at literal_byte_at quoted_tree class_name_at enclosed_by bracketed_at is_range range_at element_at elements_at class_at span union_set class_set bounded interval_at braces_at symbol_at has set_below set_of empty_set single range_set union complement other_case fold_case is_alpha is_digit is_alnum simple_escape octal_at hexadecimal_at until_quote take_up_to
+unfolding after_word run_at number_at name_at escape_at literal_byte_at quoted_tree class_name_at enclosed_by bracketed_at is_range range_at element_at elements_at class_at span union_set class_set bounded interval_at braces_at symbol_at has set_of empty_set single range_set union complement other_case fold_case is_alpha is_digit is_alnum simple_escape octal_at hexadecimal_at until_quote take_up_to
 folded = (
   is_tree folding 20 (codes "a") (Set (2 ^ 65 + 2 ^ 97)) refl refl,
   is_tree folding 20 (codes "[A-B]") (Set (2 ^ 65 + 2 ^ 66 + 2 ^ 97 + 2 ^ 98)) refl refl,
@@ -103,7 +103,7 @@ bounds = (
 )
 
 pub refused : Refused
-unfolding after_word run_at number_at name_at escape_at literal_byte_at quoted_tree class_name_at enclosed_by bracketed_at is_range range_at element_at elements_at class_at span union_set class_set bounded interval_at braces_at symbol_at has set_below set_of empty_set single range_set union complement other_case fold_case is_upper is_lower is_alpha is_digit is_alnum simple_escape octal_at hexadecimal_at until_quote take_up_to
+unfolding after_word run_at number_at name_at escape_at literal_byte_at quoted_tree class_name_at enclosed_by bracketed_at is_range range_at element_at elements_at class_at span union_set class_set bounded interval_at braces_at symbol_at has set_of empty_set single range_set union complement other_case fold_case is_upper is_lower is_alpha is_digit is_alnum simple_escape octal_at hexadecimal_at until_quote take_up_to
 refused = (
   is_none plain 20 [] refl,
   is_none plain 20 (codes "*a") refl,

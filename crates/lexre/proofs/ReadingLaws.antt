@@ -1,8 +1,8 @@
 -- Which positions a reading uses.
 use Rattle.std.proofs.Common.{◌≡◌, ℕ, zero, suc, ◌+◌, ◌-◌, ◌*◌, ◌≤◌, ◌<◌, min, List, [], ◌∷◌, ◌++◌, Option, Some, None, ◌⊎◌, inl, inr, ⊎_elim, ap, subst, arith}
-use Rattle.lex_semantics.specs.Positions.{Cell, Readings, Passes, Reads, ReadsEach, ReadsSome, positions, positions_of, copies}
+use Rattle.lex_semantics.specs.Positions.{Cell, Readings, Reads, ReadsEach, ReadsSome, positions, positions_of, copies}
 use Rattle.lex_semantics.specs.Text.{Among}
-use Rattle.lex_semantics.specs.Tree.{Tree, Trees, Empty, Set, Cat, Alt, Star, Repeat, no_trees, tree, UpTo}
+use Rattle.lex_semantics.specs.Tree.{Tree, Trees, Empty, Set, Cat, Alt, Star, Repeat, no_trees, tree, UpTo, Passes}
 use Rattle.lexre.specs.Readings.{UsesFrom}
 
 among_both : (us vs : List Cell) (c : Cell) → Among (us ++ vs) c → Among us c ⊎ Among vs c

@@ -27,7 +27,7 @@ pub sound_quoted : (fold : Bool) (bs : List ℕ) → ((k : ℕ) → get_or bs k 
 unfolding quoted_tree
 sound_quoted fold [] h = tt
 sound_quoted fold (b ∷ []) h = sound_byte fold b (h 0)
-sound_quoted fold (b ∷ c ∷ bs) h = (sound_bytes fold (b ∷ c ∷ bs) h, tt)
+sound_quoted fold (b ∷ c ∷ bs) h = (sound_bytes fold (b ∷ c ∷ bs) h, λ e. cc)
 
 -- Series, choices and states.
 
@@ -37,11 +37,11 @@ sound_more (u ∷ ts) t (first, all) here = (first, sound_more ts t all here)
 
 sound_series : (parts : List Tree) (t : Tree) → AreSoundTrees (trees parts) → IsSoundTree t → IsSoundTree (series_tree parts t)
 sound_series [] t all here = here
-sound_series (p ∷ ps) t all here = (sound_more (p ∷ ps) t all here, tt)
+sound_series (p ∷ ps) t all here = (sound_more (p ∷ ps) t all here, λ e. cc)
 
 sound_choice : (done : List Tree) (t : Tree) → AreSoundTrees (trees done) → IsSoundTree t → IsSoundTree (choice_tree done t)
 sound_choice [] t all here = here
-sound_choice (d ∷ ds) t all here = (sound_more (d ∷ ds) t all here, tt)
+sound_choice (d ∷ ds) t all here = (sound_more (d ∷ ds) t all here, λ e. cc)
 
 sound_pushed : (f : Frame) (t : Tree) → IsSoundFrame f → IsSoundTree t → IsSoundFrame (pushed t f)
 sound_pushed (frame done parts None k) t (all, those, last) here = (all, those, here)

@@ -3,9 +3,9 @@
 -- its left. (POSIX, lex, Regular Expressions in lex: under `posix` its precedences; flex, Patterns. The bounds are this
 -- project's.)
 use Rattle.std.specs.Prelude.{◌≡◌, ℕ, suc, ◌<◌, Bool, true, false, List, [], ◌∷◌, ◌++◌, Option, Some, None}
-use Rattle.lex_semantics.specs.Reading.{Reader}
+use Rattle.lex_semantics.specs.Reading.{Reader, IsCut}
 use Rattle.lex_semantics.specs.Tree.{Tree, Trees, trees, Cat, Alt, Repeat}
-use Rattle.lexre_bytes.specs.Symbols.{Symbol, Sign, item, name, opening, closing, bar, sign, interval, signed, IsCut}
+use Rattle.lexre_bytes.specs.Symbols.{Symbol, Sign, item, name, opening, closing, bar, sign, interval, signed}
 use Rattle.lexre.specs.Limits.{max_signs}
 
 -- the tree of a series or of a choice, by its parts, of which the last stands apart: a part alone is itself
@@ -22,7 +22,7 @@ module _ (posix : Bool) (symbol_at : Reader Symbol) (defined : List ℕ → Opti
       alone : (d : ℕ) (t : Tree) → IsItem d (item t ∷ []) t
       group : (d : ℕ) (ss : List Symbol) (ts : List Tree) (t : Tree) → IsPattern d ss ts t → IsItem (suc d) (opening ∷ ss ++ closing ∷ []) (joined Alt ts t)
       defines : (d : ℕ) (n text : List ℕ) (ss : List Symbol) (ts : List Tree) (t : Tree)
-          → defined n ≡ Some text → IsCut symbol_at text ss → IsPattern d ss ts t
+          → defined n ≡ Some text → IsCut symbol_at (λ rest. rest ≡ []) text ss → IsPattern d ss ts t
           → IsItem (suc d) (name n ∷ []) (joined Alt ts t)
 
     -- A series of items, with not too many signs: the parts before the last, and the last; how many signs stand on the
@@ -53,4 +53,4 @@ module _ (posix : Bool) (symbol_at : Reader Symbol) (defined : List ℕ → Opti
   -- the text is a pattern, and this is its tree
   abbrev pub SpellsWithin : ℕ → List ℕ → Tree → Type 0
   SpellsWithin d text tree =
-      (ss : List Symbol) × (ts : List Tree) × (t : Tree) × IsCut symbol_at text ss × IsPattern d ss ts t × (tree ≡ joined Alt ts t)
+      (ss : List Symbol) × (ts : List Tree) × (t : Tree) × IsCut symbol_at (λ rest. rest ≡ []) text ss × IsPattern d ss ts t × (tree ≡ joined Alt ts t)

@@ -1,7 +1,10 @@
 -- Facts on sets of bytes.
-use Rattle.std.proofs.Common.{eq-eqb, add-one, ◌||◌, max, bit_and, bit_or, add_comm, ⊎_elim, ◌≡◌, ℕ, zero, suc, ◌+◌, ◌-◌, ◌*◌, ◌/◌, ◌%◌, ◌^◌, ◌<◌, ◌≤◌, Bool, true, false, not, ◌==◌, ◌≢◌, refl, sym, ap, ◌∙◌, arith}
+use Rattle.std.proofs.Common.{subst, eq-eqb, add-one, ◌||◌, max, bit_and, bit_or, add_comm, ⊎_elim, ◌≡◌, ℕ, zero, suc, ◌+◌, ◌-◌, ◌*◌, ◌/◌, ◌%◌, ◌^◌, ◌<◌, ◌≤◌, Bool, true, false, not, ◌==◌, ◌≢◌, refl, sym, ap, ◌∙◌, arith}
 use Rattle.std.proofs.Math.Nat.{two-pow-succ, one-mul, mod-eq_of_lt}
 use Rattle.std.proofs.Math.Pow.{pow-lt}
+use Rattle.std.specs.Prelude.{if◌then◌else◌, [], ◌∷◌, ◌++◌}
+use Rattle.std.specs.List.{sum_by, range_with_len}
+use Rattle.std.proofs.lemmas.List.Sums.{sum_by-append}
 use Rattle.std.specs.Int.{bit_at, w128}
 use Rattle.lexre_bytes.specs.Halves.{joined}
 use Rattle.std.proofs.lemmas.Bool.{cases_lt}
@@ -57,14 +60,38 @@ bit_of-test : (b : Bool) → (bit_of b == 1) ≡ b
 bit_of-test true = refl
 bit_of-test false = refl
 
+-- a set is a sum of powers of 2
+bit_power : (b : Bool) (x : ℕ) → (if b then x else 0) ≡ (if b then 1 else 0) * x
+bit_power true x = omega arith
+bit_power false x = omega arith
+
+range_snoc : (a n : ℕ) → range_with_len a (suc n) ≡ range_with_len a n ++ (a + n) ∷ []
+range_snoc a zero = ap (λ k. k ∷ []) (let e : a ≡ a + 0 = omega arith in e)
+range_snoc a (suc n) =
+    let e : a + 1 + n ≡ a + suc n = omega arith in
+    ap (λ ks. a ∷ ks) (range_snoc (a + 1) n ∙ ap (λ k. range_with_len (a + 1) n ++ k ∷ []) e)
+
+sum_below : (n : ℕ) (p : ℕ → Bool) → sum_by (λ b. if p b then 2 ^ b else 0) (range_with_len 0 n) ≡ set_below n p
+unfolding set_below
+sum_below zero p = refl
+sum_below (suc n) p =
+    let f : ℕ → ℕ = λ b. if p b then 2 ^ b else 0 in
+    let rest : sum_by f (range_with_len 0 n) ≡ set_below n p = sum_below n p in
+    let here : f n ≡ bit_of (p n) * 2 ^ n = bit_power (p n) (2 ^ n) in
+    let e : 0 + n ≡ n = omega arith in
+    ap (sum_by f) (range_snoc 0 n ∙ ap (λ k. range_with_len 0 n ++ k ∷ []) e) ∙ sum_by-append f (range_with_len 0 n) (n ∷ []) ∙ omega (arith, rest, here)
+
+set_of-below : (p : ℕ → Bool) → set_of p ≡ set_below 256 p
+unfolding set_of
+set_of-below p = sum_below 256 p
+
 -- a set has the bytes that pass its test
 pub has-set_of : (p : ℕ → Bool) (b : ℕ) → b < 256 → has (set_of p) b ≡ p b
-unfolding has set_of
-has-set_of p b h = ap (λ x. x == 1) (bit_at-set_below 256 p b h) ∙ bit_of-test (p b)
+unfolding has
+has-set_of p b h = ap (λ s. bit_at s b == 1) (set_of-below p) ∙ ap (λ x. x == 1) (bit_at-set_below 256 p b h) ∙ bit_of-test (p b)
 
 pub set_of-lt : (p : ℕ → Bool) → set_of p < 2 ^ 256
-unfolding set_of
-set_of-lt p = set_below-lt 256 p
+set_of-lt p = subst (λ s. s < 2 ^ 256) (sym (set_of-below p)) (set_below-lt 256 p)
 
 -- a set has bytes alone
 pub has-above : (s b : ℕ) → s < 2 ^ 256 → 256 ≤ b → has s b ≡ false
@@ -73,8 +100,7 @@ has-above s b h k = ap (λ x. x == 1) (bit_at_above s 256 b h k)
 
 -- equal tests make equal sets
 pub same_set_of : (p q : ℕ → Bool) → ((b : ℕ) → b < 256 → p b ≡ q b) → set_of p ≡ set_of q
-unfolding set_of
-same_set_of p q h = same_below 256 p q h
+same_set_of p q h = set_of-below p ∙ same_below 256 p q h ∙ sym (set_of-below q)
 
 bits_by_test : (x y : ℕ) → x < 2 → y < 2 → (x == 1) ≡ (y == 1) → x ≡ y
 bits_by_test zero zero h k e = refl

@@ -6,7 +6,7 @@ use Rattle.lex_semantics.specs.Text.{IsText, Among, BeginsWith}
 use Rattle.lex_semantics.specs.Spec as S
 use Rattle.lex_semantics.specs.Candidates.{Candidate}
 use Rattle.lex_semantics.specs.Acting as Scan
-use Rattle.lex_semantics.specs.Acting.{act, settle}
+use Rattle.lex_semantics.specs.ActionResults.{act_result, settle}
 use Rattle.lex_semantics.specs.Machine.{Machine, walk, rules_of_machine}
 use Rattle.lex_semantics.specs.MachineLaws.{MachineLaws}
 use Rattle.lex_semantics.specs.PlainMachine.{kept_by, match_of}
@@ -128,7 +128,7 @@ acting_after_gist g keep c = record { end = 0 + keep; condition = condition_afte
 
 -- the statements that are told, over a text
 act_gist : (w : List ℕ) (g : Gist) (keep : ℕ) (c : Conditions) (before : List ℕ) → names_rule g ≡ true → are_simple (statements_in g) ≡ true →
-    act (statements_in g) (acting_of w (start_of 0 keep c) before) ≡ after_step Step.Next [] (acting_of w (acting_after_gist g keep c) (before ++ written_by g (take (0 + keep) w)))
+    act_result (statements_in g) (acting_of w (start_of 0 keep c) before) ≡ after_step Step.Next [] (acting_of w (acting_after_gist g keep c) (before ++ written_by g (take (0 + keep) w)))
 act_gist w Any keep c before is simple = absurd (no is)
   where
     no : false ≡ true → ⊥
@@ -145,7 +145,7 @@ act_gist w (Several ss) keep c before is simple = act_all w (map statement_of ss
 
 -- what is written before a fault is a front of it
 said_front : (w : List ℕ) (g : Gist) (keep : ℕ) (c : Conditions) (before front : List ℕ) → names_rule g ≡ true → are_simple (statements_in g) ≡ true → BeginsWith (written_by g (take (0 + keep) w)) front →
-    BeginsWith (written_of (act (statements_in g) (acting_of w (start_of 0 keep c) before))) (before ++ front)
+    BeginsWith (written_of (act_result (statements_in g) (acting_of w (start_of 0 keep c) before))) (before ++ front)
 said_front w g keep c before front is simple (rest, e) = (
   rest,
   ap written_of (act_gist w g keep c before is simple) ∙ ap (λ l. before ++ l) e ∙ sym (append_assoc before front rest),
@@ -283,7 +283,7 @@ module _ (M : Machine) (laws : MachineLaws M) (text : List ℕ) (bytes : IsText 
           acts = λ before.
               ap (λ l. outcome M w 0 l before cs) heads.first
               ∙ head_outcome M w 0 (record { len = heads.len; rule = heads.rule; keep = longest.keep }) heads.others before cs
-              ∙ ap (λ l. settle (act l (acting_of w (start_of 0 longest.keep cs) before)) (λ a. outcome M w 0 heads.others a.written (conditions_in a))) (sym heads.does)
+              ∙ ap (λ l. settle (act_result l (acting_of w (start_of 0 longest.keep cs) before)) (λ a. outcome M w 0 heads.others a.written (conditions_in a))) (sym heads.does)
               ∙ ap (λ z. settle z (λ a. outcome M w 0 heads.others a.written (conditions_in a))) (act_gist w longest.gist longest.keep cs before is heads.simple)
               ∙ settled Step.Next (acting_of w (acting_after_gist longest.gist longest.keep cs) (before ++ out)) (λ a. outcome M w 0 heads.others a.written (conditions_in a)) (λ e. cc);
         }
@@ -301,7 +301,7 @@ module _ (M : Machine) (laws : MachineLaws M) (text : List ℕ) (bytes : IsText 
         record { after = acting_of w (acting_after_gist longest.gist longest.keep cs) (before ++ written_by longest.gist (take (0 + longest.keep) w)); ended = None },
         λ rest.
             head_outcome M w 0 (record { len = heads.len; rule = heads.rule; keep = longest.keep }) rest before cs
-            ∙ ap (λ l. settle (act l (acting_of w (start_of 0 longest.keep cs) before)) (λ a. outcome M w 0 rest a.written (conditions_in a))) (sym heads.does)
+            ∙ ap (λ l. settle (act_result l (acting_of w (start_of 0 longest.keep cs) before)) (λ a. outcome M w 0 rest a.written (conditions_in a))) (sym heads.does)
             ∙ ap (λ z. settle z (λ a. outcome M w 0 rest a.written (conditions_in a))) (act_gist w longest.gist longest.keep cs before is heads.simple)
             ∙ settled Step.Next (acting_of w (acting_after_gist longest.gist longest.keep cs) (before ++ written_by longest.gist (take (0 + longest.keep) w))) (λ a. outcome M w 0 rest a.written (conditions_in a)) (λ e. cc),
       );

@@ -4,6 +4,7 @@ use Rattle.std.specs.Prelude.{nat_lt}
 use Rattle.std.proofs.lemmas.Nat.{mul-le}
 use Rattle.std.proofs.lemmas.Bool.{lt-ltb, ltb-true}
 use Rattle.std.proofs.lemmas.List.{length-drop}
+use Rattle.lex_semantics.specs.Scanned.{Scanned}
 use Rattle.lex_semantics.specs.Acting.{Status}
 use Rattle.lex_semantics.specs.Demand.{Consistent}
 use Rattle.lex_semantics.specs.Machine.{Machine, rules_of_machine}
@@ -112,11 +113,8 @@ ran_to M n status e e' given out s ends over h =
     subst (λ b. RanTo (rules_of_machine M) given out b (Status status)) (sym told) (record {
       text = h.text;
       turns = n;
-      last = state_of out h.start s;
-      scanned = h.scanned;
-      writes = refl;
-      ends = ended;
-      run = λ x k. record { turns = n; last = state_of out h.start s; reached = (h.scanned x k).turns; writes = refl; ends = ended };
+      place = (state_of out h.start s).place;
+      scanned = subst (Scanned (rules_of_machine M) given s.reading.at_end n) (λ i. record { written = out; place = (state_of out h.start s).place; ended = ended i }) h.scanned;
     })
 
 -- at a refusal

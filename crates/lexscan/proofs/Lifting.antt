@@ -3,7 +3,8 @@ use Rattle.std.proofs.Common.{◌≡◌, ℕ, zero, suc, ◌+◌, ◌-◌, ◌�
 use Rattle.std.proofs.lemmas.List.{length-append, length-drop, drop-drop}
 use Rattle.lex_semantics.specs.Text.{part, at_line_start}
 use Rattle.lex_semantics.specs.Candidates.{Candidates}
-use Rattle.lex_semantics.specs.Acting.{Matched, perform}
+use Rattle.lex_semantics.specs.Acting.{Matched}
+use Rattle.lex_semantics.specs.ActionResults.{perform_results}
 use Rattle.lex_semantics.specs.Demand.{AsksAt}
 use Rattle.lex_semantics.specs.Scanned.{Seen}
 use Rattle.lex_semantics.specs.Machine.{Machine, rules_of_machine, state_after}
@@ -83,8 +84,8 @@ module _ (M : Machine) (laws : MachineLaws M) (given got : List ℕ) (start : �
             all = subst (λ q. Candidates (rules_of_machine M) p.condition q (take reach y) (seen_matches M laws p w reach state path some h)) (sym line_is)
                 (subst (λ z. Candidates (rules_of_machine M) p.condition p.line_start (take reach z) (seen_matches M laws p w reach state path some h)) (sym from_here) (all_seen M laws p w reach state path some h));
             outcome = o;
-            performed = ap (λ k. perform (rules_of_machine M) k (take reach y) (seen_matches M laws p w reach state path some h) [] p.condition cs) kept_is
-                ∙ ap (λ z. perform (rules_of_machine M) (take p.at w) (take reach z) (seen_matches M laws p w reach state path some h) [] p.condition cs) from_here
+            performed = ap (λ k. perform_results (rules_of_machine M) k (take reach y) (seen_matches M laws p w reach state path some h) [] p.condition cs) kept_is
+                ∙ ap (λ z. perform_results (rules_of_machine M) (take p.at w) (take reach z) (seen_matches M laws p w reach state path some h) [] p.condition cs) from_here
                 ∙ sym (seen_outcome M laws p w reach state path some h [] (record { next = p.condition; stack = cs })) ∙ is;
           },
           refl,

@@ -7,7 +7,8 @@ use Rattle.lex_semantics.specs.Legal.{IsAction}
 use Rattle.lex_semantics.specs.Rules.{Rules, statements_of}
 use Rattle.lex_semantics.specs.Candidates.{Candidate, Candidates}
 use Rattle.lex_semantics.specs.Acting as Scan
-use Rattle.lex_semantics.specs.Acting.{Matched, ActionResult, Done, Again, Over, act, settle, perform}
+use Rattle.lex_semantics.specs.Acting.{Matched}
+use Rattle.lex_semantics.specs.ActionResults.{ActionResult, Done, Again, Over, act_result, settle, perform_results}
 use Rattle.lex_semantics.specs.Machine.{Machine, rules_of_machine}
 use Rattle.lex_semantics.specs.MachineLaws.{MachineLaws}
 use Rattle.lex_semantics.specs.Plain.{default_match}
@@ -34,8 +35,8 @@ settle_below n (Again a) f o h later e = later a h e
 settle_below n (Over a d) f o h later e = subst (λ (z : Matched). Below n z.after.condition z.after.stack) (some_inj (record { after = a; ended = Some d }) o e) h
 
 pub perform_below : (R : Rules) → ((i : ℕ) → i < R.count → IsAction R.conditions (R.statements i)) → (kept y : List ℕ) (ms : List Candidate) (out : List ℕ) (c : ℕ) (cs : List ℕ) (o : Matched) → Below R.conditions c cs →
-    perform R kept y ms out c cs ≡ Some o → Below R.conditions o.after.condition o.after.stack
-unfolding perform
+    perform_results R kept y ms out c cs ≡ Some o → Below R.conditions o.after.condition o.after.stack
+unfolding perform_results
 perform_below R legal kept y [] out c cs o lt e = absurd (no e)
   where
     no : None ≡ Some o → ⊥
@@ -43,7 +44,7 @@ perform_below R legal kept y [] out c cs o lt e = absurd (no e)
 perform_below R legal kept y (m ∷ ms) out c cs o lt e =
     let a : Scan.Acting = record { text = kept ++ take m.keep y; written = out; condition = c; stack = cs; more = false } in
     let ok : IsAction R.conditions (statements_of R m.rule) = legal_of R legal m.rule (cases_lt m.rule R.count) in
-    settle_below R.conditions (act (statements_of R m.rule) a) (λ b. perform R kept y ms b.written b.condition b.stack) o
+    settle_below R.conditions (act_result (statements_of R m.rule) a) (λ b. perform_results R kept y ms b.written b.condition b.stack) o
     (act_below R.conditions (statements_of R m.rule) a lt (begins_below R.conditions (statements_of R m.rule) ok.ranges))
     (λ b less p. perform_below R legal kept y ms b.written b.condition b.stack o less p) e
 
@@ -68,7 +69,7 @@ module _ (M : Machine) (laws : MachineLaws M) (p : TextPlace) (w : List ℕ) (re
   all_seen = falling_candidates M laws p.condition p.line_start ahead
 
   -- over all bytes or over those asked for, the actions make the same of them
-  pub seen_outcome : (out : List ℕ) (c : Conditions) → outcome M w p.at (matches_of M w p.at path) out c ≡ perform (rules_of_machine M) (take p.at w) ahead seen_matches out c.next c.stack
+  pub seen_outcome : (out : List ℕ) (c : Conditions) → outcome M w p.at (matches_of M w p.at path) out c ≡ perform_results (rules_of_machine M) (take p.at w) ahead seen_matches out c.next c.stack
   seen_outcome out c =
       ap (λ l. outcome M w p.at l out c) matches_are
       ∙ sym (same_performed (rules_of_machine M) (take p.at w) ahead (drop p.at w) seen_matches out c.next c.stack
@@ -78,7 +79,7 @@ module _ (M : Machine) (laws : MachineLaws M) (p : TextPlace) (w : List ℕ) (re
       short m a = let le = keep_inside (rules_of_machine M) (machine_laws M laws) p.condition p.line_start ahead m ((all_seen.members m).0 a) in omega (arith, le, size)
 
   -- there is an outcome
-  pub good : (out : List ℕ) (c : Conditions) → GoodMatch (length (take p.at w)) (length ahead) (perform (rules_of_machine M) (take p.at w) ahead seen_matches out c.next c.stack)
+  pub good : (out : List ℕ) (c : Conditions) → GoodMatch (length (take p.at w)) (length ahead) (perform_results (rules_of_machine M) (take p.at w) ahead seen_matches out c.next c.stack)
   good out c =
       perform_good (rules_of_machine M) laws.legal (take p.at w) ahead seen_matches out c.next c.stack
       (λ m a. keep_bounds (rules_of_machine M) (machine_laws M laws) laws.legal (λ c line_start y. machine_candidates_exist M laws c line_start y) w p.condition p.line_start ahead m ((all_seen.members m).0 a))

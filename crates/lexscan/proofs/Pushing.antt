@@ -4,6 +4,7 @@ use Rattle.std.specs.Prelude.{IsErrOf, IfSome}
 use Rattle.std.proofs.lemmas.Bool.{cases_lt, cases_eq, cases_Bool}
 use Rattle.std.proofs.lemmas.List.{length-append, drop-append-le, nil_from_length, take-append-le, length-drop, drop_all}
 use Rattle.std.proofs.Math.Seq.{take-append_seam, drop-append_seam, drop-append-add}
+use Rattle.lex_semantics.proofs.Once.{run_by}
 use Rattle.lex_semantics.specs.Text.{IsText, BeginsWith, at_line_start}
 use Rattle.lex_semantics.specs.Acting.{Ending, Status}
 use Rattle.lex_semantics.specs.Run as Scan
@@ -250,7 +251,7 @@ module _ (M : Machine) (old new : State) (waiting : List ℕ) (fed out : List �
   run_of turns status got put b x made ended reading text goes =
       let stands = made h.turns h.given out h.stands in
       let last : Scan.State = state_of (out ++ put) stands.start new in
-      record { turns = turns + h.turns; last = last; reached = (stands.scanned x (text, subst (λ e. GoesOnFrom (h.given ++ got) e x) (sym reading) goes)).turns; writes = refl; ends = ap ending_of ended }
+      run_by R x (out ++ put) (Status status) (turns + h.turns) last (stands.scanned x (text, subst (λ e. GoesOnFrom (h.given ++ got) e x) (sym reading) goes)).turns refl (ap ending_of ended)
 
   pub fed_ended : (turns status : ℕ) (got put left kept : List ℕ) → MadeTurns M old new turns got put → new.ended ≡ Some status → new.reading.at_end ≡ false → waiting ≡ got ++ left → AfterFeed M fed (out ++ put) new kept (Ok (Turn.Ended status))
   fed_ended turns status got put left kept made ended reading is = (
@@ -278,14 +279,14 @@ module _ (M : Machine) (old new : State) (waiting : List ℕ) (fed out : List �
     pub fed_refused : (kept : List ℕ) → new.reading.at_end ≡ false → AfterFeed M fed (out ++ put) new kept (Err e)
     fed_refused kept reading = (
       λ x text begins. fell.gave_up.front x (goes x text begins),
-      λ fault x text begins. (let ran = fell.fault fault in ran.run x (goes x text begins)),
+      λ fault x text begins. (let ran = fell.fault fault in (ran.turns, ran.place, (ran.scanned x (goes x text begins)).turns)),
     )
       where
         goes : (x : List ℕ) → IsText x → BeginsWith x fed → Consistent ((h.given ++ had) ++ more) new.reading.at_end x
         goes x text begins = (text, subst (λ b. GoesOnFrom ((h.given ++ had) ++ more) b x) (sym reading) (begins_less x ((h.given ++ had) ++ more) left (subst (BeginsWith x) (all_fed got had more left is waits) begins)))
 
     pub end_refused : (new.reading.at_end ≡ true → left ≡ []) → AfterFinish R fed (out ++ put) (Err e)
-    end_refused none text = (fell.gave_up.front fed goes, λ fault. (let ran = fell.fault fault in ran.run fed goes))
+    end_refused none text = (fell.gave_up.front fed goes, λ fault. (let ran = fell.fault fault in (ran.turns, ran.place, (ran.scanned fed goes).turns)))
       where
         goes : Consistent ((h.given ++ had) ++ more) new.reading.at_end fed
         goes = (text, subst (GoesOnFrom ((h.given ++ had) ++ more) new.reading.at_end) (sym (all_fed got had more left is waits)) (consistent_end ((h.given ++ had) ++ more) left new.reading.at_end none))
@@ -337,13 +338,8 @@ module _ (M : Machine) (fed out : List ℕ) (s : State) (waiting : List ℕ) (h 
   fed_first piece x text begins w ending run = subst (BeginsWith w) (sym (append-nil out)) (run_begins (rules_of_machine M) x h.turns (state_of out h.stands.start s) w ending (h.stands.scanned x (goes_on piece x text begins)).turns run)
 
   pub fed_runs : (piece : List ℕ) (status : ℕ) → s.ended ≡ Some status → RunsTo (rules_of_machine M) (fed ++ piece) (out ++ []) (Status status)
-  fed_runs piece status ended x text begins = record {
-    turns = h.turns;
-    last = state_of out h.stands.start s;
-    reached = (h.stands.scanned x (goes_on piece x text begins)).turns;
-    writes = sym (append-nil out);
-    ends = ap ending_of ended;
-  }
+  fed_runs piece status ended x text begins =
+      run_by (rules_of_machine M) x (out ++ []) (Status status) h.turns (state_of out h.stands.start s) (h.stands.scanned x (goes_on piece x text begins)).turns (sym (append-nil out)) (ap ending_of ended)
 
   pub fed_over : (piece : List ℕ) (status : ℕ) → s.ended ≡ Some status → AfterFeed M (fed ++ piece) (out ++ []) s waiting (Ok (Turn.Ended status))
   fed_over piece status ended = (

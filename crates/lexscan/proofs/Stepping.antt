@@ -182,11 +182,8 @@ module _ {S K : Type 0} (M : Machine) (laws : MachineLaws M) (gave : S → List 
         record {
           text = is_text_append given took.got h.text took.text;
           turns = suc n;
-          last = last;
-          scanned = scanned;
-          writes = writes;
-          ends = ends;
-          run = λ x k. record { turns = suc n; last = last; reached = (scanned x k).turns; writes = writes; ends = ends };
+          place = last.place;
+          scanned = subst (Scanned (rules_of_machine M) (given ++ took.got) new.reading.at_end (suc n)) (λ i. record { written = writes i; place = last.place; ended = ends i }) scanned;
         },
         refl,
       )

@@ -2,10 +2,12 @@
 use Rattle.std.proofs.Common.{◌≡◌, ℕ, ◌+◌, ◌-◌, ◌≤◌, Bool, true, false, List, [], ◌∷◌, ◌++◌, length, take, drop, ◌⊎◌, inl, inr, Option, Some, None, refl, sym, ◌∙◌, ap, subst, arith}
 use Rattle.std.specs.Prelude.{if◌then◌else◌}
 use Rattle.std.proofs.lemmas.List.{append-nil, append_assoc, length-append, length-take-le, length-drop, drop-append-le, drop-drop, drop_all, take-append-le, take-append-drop}
+use Rattle.lex_semantics.proofs.ResultsAre.{results_are}
 use Rattle.lex_semantics.specs.Text.{Among, IsText, part, at_line_start}
 use Rattle.lex_semantics.specs.Rules.{Rules}
 use Rattle.lex_semantics.specs.Candidates.{Candidate, Candidates}
-use Rattle.lex_semantics.specs.Acting.{Matched as Outcome, perform}
+use Rattle.lex_semantics.specs.Acting.{Matched as Outcome}
+use Rattle.lex_semantics.specs.ActionResults.{perform_results}
 use Rattle.lex_semantics.specs.Demand.{Consistent, GoesOnFrom}
 use Rattle.lex_semantics.specs.Run.{Place}
 use Rattle.lex_semantics.specs.Machine.{Machine, rules_of_machine, state_after}
@@ -139,8 +141,8 @@ module _ {S K : Type 0} (M : Machine) (laws : MachineLaws M) (gave : S → List 
         left = k.left;
         all = subst (λ y. Candidates R p.condition (at_line_start x q.at) y (k.passed ++ k.taken ∷ k.left)) (sym splits)
             (subst (λ b. Candidates R p.condition b (v ++ more) (k.passed ++ k.taken ∷ k.left)) (sym line) (enough m.looked.stops));
-        rejected = performed k.passed (λ i a. among_left k.passed (k.taken ∷ k.left) i a) ∙ k.rejected [];
-        carried = performed (k.passed ++ k.taken ∷ []) among_front ∙ (k.carried []).1 [] ∙ ap (λ z. Some z) outcome_is;
+        rejected = results_are _ _ _ _ _ _ _ ∙ performed k.passed (λ i a. among_left k.passed (k.taken ∷ k.left) i a) ∙ k.rejected [];
+        carried = results_are _ _ _ _ _ _ _ ∙ performed (k.passed ++ k.taken ∷ []) among_front ∙ (k.carried []).1 [] ∙ ap (λ z. Some z) outcome_is;
       }
         where
           more : List ℕ
@@ -179,10 +181,10 @@ module _ {S K : Type 0} (M : Machine) (laws : MachineLaws M) (gave : S → List 
               subst (λ z. Candidates R p.condition p.line_start z (k.passed ++ k.taken ∷ k.left)) (sym (append-nil v) ∙ ap (λ z. v ++ z) (sym nothing)) all_here
 
           performed : (l : List Candidate) → ((i : Candidate) → Among l i → Among (k.passed ++ k.taken ∷ k.left) i) →
-              perform R (part x q.start q.at) (drop q.at x) l [] q.condition q.stack ≡ outcome M w p.at l [] (conditions_at old)
+              perform_results R (part x q.start q.at) (drop q.at x) l [] q.condition q.stack ≡ outcome M w p.at l [] (conditions_at old)
           performed l front =
-              ap (λ z. perform R z (drop q.at x) l [] q.condition q.stack) kept
-              ∙ ap (λ z. perform R (take p.at w) z l [] q.condition q.stack) from_here
+              ap (λ z. perform_results R z (drop q.at x) l [] q.condition q.stack) kept
+              ∙ ap (λ z. perform_results R (take p.at w) z l [] q.condition q.stack) from_here
               ∙ sym (same_performed R (take p.at w) (drop p.at w) (drop p.at w ++ rest) l [] q.condition q.stack (λ i a. sym (take-append-le i.keep (drop p.at w) rest (keeps i (front i a)))))
 
   -- at the end of the input there is none

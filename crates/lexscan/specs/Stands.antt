@@ -53,16 +53,13 @@ pub record GaveUp (R : Rules) (n : ℕ) (given got out : List ℕ) (at_end : Boo
   pub asks_end : e ≡ TooManyReads → (end_before ≡ false) × ((t : Scan.State) (far : ℕ) (asked : Bool) → AfterTurns R (given ++ got) (suc n) t far asked → asked ≡ true)
   pub whole : IsEarly e → before.written ≡ out
 
--- The scan has ended: the bytes given are a text, this is the run of every consistent input, and the turns up to its end
+-- The scan has ended: the bytes given are a text, and the turns over every consistent input write this and end so. They
 -- ask for just what the source has told.
 pub record RanTo (R : Rules) (given out : List ℕ) (at_end : Bool) (ending : Ending) : Type 0 where
   pub text : IsText given
   pub turns : ℕ
-  pub last : Scan.State
-  pub scanned : Scanned R given at_end turns last
-  pub writes : last.written ≡ out
-  pub ends : last.ended ≡ Some ending
-  pub run : (x : List ℕ) → Consistent given at_end x → Run R x out ending
+  pub place : Scan.Place
+  pub scanned : Scanned R given at_end turns (record { written = out; place = place; ended = Some ending })
 
 -- The bytes held are those from the text's start on, as the refused turn found it. The stack was at fault where the run
 -- ends so in this turn, with what was written.

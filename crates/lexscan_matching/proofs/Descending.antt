@@ -10,7 +10,8 @@ use Rattle.lex_semantics.specs.Spec.{Statement, Echo}
 use Rattle.lex_semantics.specs.Rules.{statements_of}
 use Rattle.lex_semantics.specs.Candidates.{Candidate}
 use Rattle.lex_semantics.specs.Acting as Scan
-use Rattle.lex_semantics.specs.Acting.{Ending, Status, Matched, ActionResult, Done, Again, Over, act, settle, perform}
+use Rattle.lex_semantics.specs.Acting.{Ending, Status, Matched}
+use Rattle.lex_semantics.specs.ActionResults.{ActionResult, Done, Again, Over, act_result, settle, perform_results}
 use Rattle.lex_semantics.specs.Machine.{Machine, rules_of_machine}
 use Rattle.lex_semantics.specs.PlainMachine.{kept_by, match_of}
 use Rattle.lex_semantics.specs.Trail.{falling}
@@ -47,11 +48,11 @@ abbrev pub start_of : (at keep : ℕ) → Conditions → ActionState
 start_of at keep c = record { end = at + keep; condition = c.next; stack = c.stack; more = false }
 
 pub head_outcome : (M : Machine) (w : List ℕ) (at : ℕ) (m : Candidate) (ms : List Candidate) (before : List ℕ) (c : Conditions) →
-    outcome M w at (m ∷ ms) before c ≡ settle (act (statements_of (rules_of_machine M) m.rule) (acting_of w (start_of at m.keep c) before)) (λ a. outcome M w at ms a.written (conditions_in a))
-unfolding perform
+    outcome M w at (m ∷ ms) before c ≡ settle (act_result (statements_of (rules_of_machine M) m.rule) (acting_of w (start_of at m.keep c) before)) (λ a. outcome M w at ms a.written (conditions_in a))
+unfolding perform_results
 head_outcome M w at m ms before c =
     let text : take at w ++ take m.keep (drop at w) ≡ take (at + m.keep) w = sym (take-add at m.keep w) in
-    ap (λ t. settle (act (statements_of (rules_of_machine M) m.rule) (record { text = t; written = before; condition = c.next; stack = c.stack; more = false })) (λ a. outcome M w at ms a.written (conditions_in a))) text
+    ap (λ t. settle (act_result (statements_of (rules_of_machine M) m.rule) (record { text = t; written = before; condition = c.next; stack = c.stack; more = false })) (λ a. outcome M w at ms a.written (conditions_in a))) text
 
 pub statements_are : (M : Machine) (i : ℕ) → i < M.count → statements_of (rules_of_machine M) i ≡ M.statements i
 statements_are M i lt = cond-true (nat_lt i M.count) (M.statements i) (Echo ∷ []) (lt-ltb i M.count lt)
@@ -71,7 +72,7 @@ settled (Step.Over s) a f never = refl
 
 -- no match makes nothing of it
 pub no_outcome : (M : Machine) (w : List ℕ) (at : ℕ) (before : List ℕ) (c : Conditions) → outcome M w at [] before c ≡ None
-unfolding perform
+unfolding perform_results
 no_outcome M w at before c = refl
 
 -- what all matches make of it is what those left do
@@ -128,7 +129,7 @@ module _ {K : Type 0} (M : Machine) (wrote : K → List ℕ → K → Type 0) (n
       outcome M w at (m ∷ rest) before d ≡ settle (after_step step [] (acting_of w new (before ++ k.out))) (λ a. outcome M w at rest a.written (conditions_in a))
   did t u m rest d ss new step same k before =
       head_outcome M w at m rest before d
-      ∙ ap (λ l. settle (act l (acting_of w (start_of at m.keep d) before)) (λ a. outcome M w at rest a.written (conditions_in a))) (sym same)
+      ∙ ap (λ l. settle (act_result l (acting_of w (start_of at m.keep d) before)) (λ a. outcome M w at rest a.written (conditions_in a))) (sym same)
       ∙ ap (λ z. settle z (λ a. outcome M w at rest a.written (conditions_in a))) (k.acts before)
 
   -- the first match was carried out
@@ -200,10 +201,10 @@ module _ {K : Type 0} (M : Machine) (wrote : K → List ℕ → K → Type 0) (n
       settle_adds went (λ a. outcome M w at ms a.written (conditions_in a)) (before ++ k.out) o
       (subst (λ z. BeginsWith z (before ++ k.out)) (sym (written_same went)) (k.front before))
       (λ a p. perform_adds (rules_of_machine M) (take at w) (drop at w) ms a.written a.condition a.stack o p)
-      (ap (λ l. settle (act l (acting_of w (start_of at m.keep d) before)) (λ a. outcome M w at ms a.written (conditions_in a))) same ∙ sym (head_outcome M w at m ms before d) ∙ e)
+      (ap (λ l. settle (act_result l (acting_of w (start_of at m.keep d) before)) (λ a. outcome M w at ms a.written (conditions_in a))) same ∙ sym (head_outcome M w at m ms before d) ∙ e)
     where
       went : ActionResult
-      went = act ss (acting_of w (start_of at m.keep d) before)
+      went = act_result ss (acting_of w (start_of at m.keep d) before)
 
   pub cut_here : (s t u : K) (all : List Candidate) (rules : List ℕ) (i len keep : ℕ) (c d : Conditions) (ss : List Statement) → i < length rules → get_or rules i 0 < M.count →
       kept_by (M.cut (get_or rules i 0)) len ≡ Some keep → ss ≡ M.statements (get_or rules i 0) → Passed M wrote s t w at all (filter_map (match_of M len) (drop i rules)) c d →
@@ -245,7 +246,7 @@ takes_default M w at c lt = record {
   carried = λ before. (
     record { after = acting_of w (start_of at 1 c) (before ++ take (at + 1) w); ended = None },
     λ rest. head_outcome M w at one rest before c
-        ∙ ap (λ l. settle (act l (acting_of w (start_of at 1 c) before)) (λ a. outcome M w at rest a.written (conditions_in a))) (default_is M),
+        ∙ ap (λ l. settle (act_result l (acting_of w (start_of at 1 c) before)) (λ a. outcome M w at rest a.written (conditions_in a))) (default_is M),
   );
 }
   where
@@ -327,7 +328,7 @@ module _ {K : Type 0} (M : Machine) (wrote : K → List ℕ → K → Type 0) (j
       ∙ passed_acts h before (default_match M.count (drop at w) ++ rest)
       ∙ ap (λ l. outcome M w at (l ++ rest) (before ++ h.out) d) (default_one M (drop at w) some)
       ∙ head_outcome M w at one rest (before ++ h.out) d
-      ∙ ap (λ l. settle (act l (acting_of w (start_of at 1 d) (before ++ h.out))) (λ a. outcome M w at rest a.written (conditions_in a))) (default_is M)
+      ∙ ap (λ l. settle (act_result l (acting_of w (start_of at 1 d) (before ++ h.out))) (λ a. outcome M w at rest a.written (conditions_in a))) (default_is M)
       ∙ ap (λ z. Some (record { after = acting_of w (start_of at 1 d) z; ended = None })) (append_assoc before h.out (take (at + 1) w))
 
   pub default_stop : (s t u : K) (c d : Conditions) → at < length w → Passed M wrote s t w at (falling M 0 path) [] c d → wrote t (take (at + 1) w) u → Performed M wrote s u w at (matches_of M w at path) c (start_of at 1 d) None

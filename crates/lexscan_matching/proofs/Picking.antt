@@ -5,7 +5,9 @@ use Rattle.std.proofs.lemmas.List.{length-take-le, length-drop, get_or-drop}
 use Rattle.lex_semantics.specs.Spec.{Statement, Echo, Print, Begin, More, Less, Reject, End, Push, Pop, has_reject}
 use Rattle.lex_semantics.specs.Candidates.{Candidate}
 use Rattle.lex_semantics.specs.Acting as Scan
-use Rattle.lex_semantics.specs.Acting.{Matched, ActionResult, Done, Over, StackFault, act, has_room, popped, settle}
+use Rattle.lex_semantics.specs.ActionResults as Results
+use Rattle.lex_semantics.specs.Acting.{Matched, StackFault}
+use Rattle.lex_semantics.specs.ActionResults.{ActionResult, Done, Over, act_result, has_room, popped, settle}
 use Rattle.lex_semantics.specs.Machine.{Machine, walk, rules_of_machine}
 use Rattle.lex_semantics.specs.Rules.{statements_of}
 use Rattle.lex_semantics.specs.PlainMachine.{match_of}
@@ -72,16 +74,16 @@ falling_last M p w n some le =
     (falling_more M p w (n - 1) (omega (arith, some, le)))
 
 -- a fault of the stack does not go to the next match
-full_never : (r : Bool) (a : Scan.Acting) (w : ActionResult) (b : Scan.Acting) → (w ≡ Scan.Again b → ⊥) → (if r then w else Over a StackFault) ≡ Scan.Again b → ⊥
+full_never : (r : Bool) (a : Scan.Acting) (w : ActionResult) (b : Scan.Acting) → (w ≡ Results.Again b → ⊥) → (if r then w else Over a StackFault) ≡ Results.Again b → ⊥
 full_never true a w b h e = h e
 full_never false a w b h e = cc
 
-empty_never : (cs : List ℕ) (a : Scan.Acting) (next : ℕ → List ℕ → ActionResult) (b : Scan.Acting) → ((c : ℕ) (rest : List ℕ) → next c rest ≡ Scan.Again b → ⊥) → popped cs a next ≡ Scan.Again b → ⊥
+empty_never : (cs : List ℕ) (a : Scan.Acting) (next : ℕ → List ℕ → ActionResult) (b : Scan.Acting) → ((c : ℕ) (rest : List ℕ) → next c rest ≡ Results.Again b → ⊥) → popped cs a next ≡ Results.Again b → ⊥
 empty_never [] a next b h e = cc
 empty_never (c ∷ cs) a next b h e = h c cs e
 
 -- an action without REJECT does not go to the next match
-pub never_rejects : (ss : List Statement) (a b : Scan.Acting) → has_reject ss ≡ false → act ss a ≡ Scan.Again b → ⊥
+pub never_rejects : (ss : List Statement) (a b : Scan.Acting) → has_reject ss ≡ false → act_result ss a ≡ Results.Again b → ⊥
 never_rejects [] a b h e = cc
 never_rejects (Echo ∷ ss) a b h e = never_rejects ss (record a { written = a.written ++ a.text }) b h e
 never_rejects (Print s ∷ ss) a b h e = never_rejects ss (record a { written = a.written ++ s }) b h e
@@ -94,9 +96,9 @@ never_rejects (Reject ∷ ss) a b h e = absurd (no h)
     no p = cc
 never_rejects (End s ∷ ss) a b h e = cc
 never_rejects (Push d ∷ ss) a b h e =
-    full_never (has_room a.stack) a (act ss (record a { condition = d; stack = a.condition ∷ a.stack })) b (λ p. never_rejects ss (record a { condition = d; stack = a.condition ∷ a.stack }) b h p) e
+    full_never (has_room a.stack) a (act_result ss (record a { condition = d; stack = a.condition ∷ a.stack })) b (λ p. never_rejects ss (record a { condition = d; stack = a.condition ∷ a.stack }) b h p) e
 never_rejects (Pop ∷ ss) a b h e =
-    empty_never a.stack a (λ c cs. act ss (record a { condition = c; stack = cs })) b (λ c cs p. never_rejects ss (record a { condition = c; stack = cs }) b h p) e
+    empty_never a.stack a (λ c cs. act_result ss (record a { condition = c; stack = cs })) b (λ c cs p. never_rejects ss (record a { condition = c; stack = cs }) b h p) e
 
 module _ {K : Type 0} (M : Machine) (wrote : K → List ℕ → K → Type 0) (none : (s : K) → wrote s [] s) (join : (s t u : K) (xs ys : List ℕ) → wrote s xs t → wrote t ys u → wrote s (xs ++ ys) u) (w : List ℕ) (at : ℕ) where
   pub never_again : (s t : K) (p : Pick) (c : Conditions) (ss : List Statement) (new : ActionState) → NoReject M → p.rule < M.count → ss ≡ M.statements p.rule →
@@ -112,7 +114,7 @@ module _ {K : Type 0} (M : Machine) (wrote : K → List ℕ → K → Type 0) (n
     acts = λ before.
         ap (λ l. outcome M w at (l ++ default_match M.count (drop at w)) before c) e
         ∙ head_outcome M w at (record { len = len; rule = p.rule; keep = p.keep }) (rest ++ default_match M.count (drop at w)) before c
-        ∙ ap (λ l. settle (act l (acting_of w (start_of at p.keep c) before)) (λ a. outcome M w at (rest ++ default_match M.count (drop at w)) a.written (conditions_in a))) (statements_are M p.rule below ∙ sym same)
+        ∙ ap (λ l. settle (act_result l (acting_of w (start_of at p.keep c) before)) (λ a. outcome M w at (rest ++ default_match M.count (drop at w)) a.written (conditions_in a))) (statements_are M p.rule below ∙ sym same)
         ∙ ap (λ z. settle z (λ a. outcome M w at (rest ++ default_match M.count (drop at w)) a.written (conditions_in a))) (k.acts before)
         ∙ settled step (acting_of w new (before ++ k.out)) (λ a. outcome M w at (rest ++ default_match M.count (drop at w)) a.written (conditions_in a)) never;
   }
@@ -133,9 +135,9 @@ module _ {K : Type 0} (M : Machine) (wrote : K → List ℕ → K → Type 0) (n
   none_picked s path c e = subst (λ l. Passed M wrote s s w at (falling M 0 path) l c c) e (Down.passed_first M wrote none join w at s (falling M 0 path) c)
 
 -- what is not rejected has an outcome, whatever follows
-settle_some : (r : ActionResult) → ((b : Scan.Acting) → r ≡ Scan.Again b → ⊥) → (o : Matched) × ((f : Scan.Acting → Option Matched) → settle r f ≡ Some o)
+settle_some : (r : ActionResult) → ((b : Scan.Acting) → r ≡ Results.Again b → ⊥) → (o : Matched) × ((f : Scan.Acting → Option Matched) → settle r f ≡ Some o)
 settle_some (Done a) never = (record { after = a; ended = None }, λ f. refl)
-settle_some (Scan.Again a) never = absurd (never a refl)
+settle_some (Results.Again a) never = absurd (never a refl)
 settle_some (Over a e) never = (record { after = a; ended = Some e }, λ f. refl)
 
 -- where no rule has REJECT the first match is carried out, or the default match
@@ -159,7 +161,7 @@ picked_takes M w at path (Some p) c no_reject lt (len, rest, e) known =
     m : Candidate
     m = record { len = len; rule = p.rule; keep = p.keep }
 
-    went : (before : List ℕ) → (o : Matched) × ((f : Scan.Acting → Option Matched) → settle (act (statements_of (rules_of_machine M) p.rule) (acting_of w (start_of at p.keep c) before)) f ≡ Some o)
+    went : (before : List ℕ) → (o : Matched) × ((f : Scan.Acting → Option Matched) → settle (act_result (statements_of (rules_of_machine M) p.rule) (acting_of w (start_of at p.keep c) before)) f ≡ Some o)
     went before =
-        settle_some (act (statements_of (rules_of_machine M) p.rule) (acting_of w (start_of at p.keep c) before))
+        settle_some (act_result (statements_of (rules_of_machine M) p.rule) (acting_of w (start_of at p.keep c) before))
         (λ b. never_rejects (statements_of (rules_of_machine M) p.rule) (acting_of w (start_of at p.keep c) before) b (ap has_reject (statements_are M p.rule known) ∙ no_reject p.rule known))

@@ -4,7 +4,7 @@ use Rattle.std.proofs.lemmas.Bool.{cases_lt}
 use Rattle.std.proofs.lemmas.List.{append-nil, append_assoc, take-take}
 use Rattle.lex_semantics.specs.Text.{BeginsWith}
 use Rattle.lex_semantics.specs.Spec as S
-use Rattle.lex_semantics.specs.Acting.{act}
+use Rattle.lex_semantics.specs.ActionResults.{act_result}
 use Rattle.lex_semantics.specs.Machine.{Machine, walk}
 use Rattle.lex_semantics.proofs.MachineLaws.{walk-append}
 use Rattle.lex_semantics.proofs.Actions.{BeginsBelow}
@@ -76,7 +76,7 @@ not_simple e = absurd (no e)
 
 -- simple statements, one after another
 pub act_all : (w : List ℕ) (ss : List S.Statement) (a : ActionState) (before : List ℕ) → are_simple ss ≡ true →
-    act ss (acting_of w a before) ≡ after_step Step.Next [] (acting_of w (record a { condition = all_begun ss a.condition }) (before ++ all_said ss (take a.end w)))
+    act_result ss (acting_of w a before) ≡ after_step Step.Next [] (acting_of w (record a { condition = all_begun ss a.condition }) (before ++ all_said ss (take a.end w)))
 act_all w [] a before simple = ap (λ b. after_step Step.Next [] (acting_of w a b)) (sym (append-nil before))
 act_all w (S.Echo ∷ ss) a before simple =
     act_all w ss a (before ++ take a.end w) simple

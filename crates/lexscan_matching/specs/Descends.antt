@@ -3,7 +3,8 @@ use Rattle.std.specs.Prelude.{◌≡◌, ℕ, ◌≤◌, ◌<◌, List, [], ◌�
 use Rattle.lex_semantics.specs.Text.{BeginsWith}
 use Rattle.lex_semantics.specs.Candidates.{Candidate}
 use Rattle.lex_semantics.specs.Acting as Scan
-use Rattle.lex_semantics.specs.Acting.{Ending, Status, StackFault, Matched, settle, perform}
+use Rattle.lex_semantics.specs.Acting.{Ending, Status, StackFault, Matched}
+use Rattle.lex_semantics.specs.ActionResults.{settle, perform_results}
 use Rattle.lex_semantics.specs.Machine.{Machine, rules_of_machine}
 use Rattle.lex_semantics.specs.Plain.{default_match}
 use Rattle.lex_semantics.specs.Trail.{falling}
@@ -32,7 +33,7 @@ conditions_at s = record { next = s.place.condition; stack = s.acting.stack }
 
 -- what the actions of these matches make of the bytes w, where a match starts at a place in them
 abbrev pub outcome : Machine → List ℕ → ℕ → List Candidate → List ℕ → Conditions → Option Matched
-outcome M w at ms before c = perform (rules_of_machine M) (take at w) (drop at w) ms before c.next c.stack
+outcome M w at ms before c = perform_results (rules_of_machine M) (take at w) (drop at w) ms before c.next c.stack
 
 -- all the matches that these states tell
 abbrev pub matches_of : Machine → List ℕ → ℕ → List ℕ → List Candidate

@@ -6,6 +6,7 @@ use Rattle.lex_semantics.specs.Acting.{Status, StackFault}
 use Rattle.lex_semantics.specs.Demand.{Consistent, GoesOnFrom}
 use Rattle.lex_semantics.specs.Machine.{Machine, rules_of_machine}
 use Rattle.lex_semantics.specs.MachineLaws.{MachineLaws}
+use Rattle.lex_semantics.specs.Run as Scan
 use Rattle.lex_semantics.specs.Run.{Place, Turns}
 use Rattle.lex_semantics.proofs.Ends.{Grows}
 use Rattle.lex_semantics.proofs.Growth.{turns_grow}
@@ -195,13 +196,14 @@ module _ (M : Machine) (laws : MachineLaws M) (x : List ℕ) (text : IsText x) (
       by OutOfMemory reads writes many failed f = stopped_by_memory
       by Stack reads writes many failed f =
           let ran : RanTo (rules_of_machine M) (h.given ++ got) (h.out ++ wrote) new.reading.at_end StackFault = f.fault refl in
+          let last : Scan.State = record { written = h.out ++ wrote; place = ran.place; ended = Some StackFault } in
           record {
             turns = h.turns;
             last = state_of h.out h.stands.start old;
             reached = reached;
             going = ap ending_of going;
             tokens = h.tokens_are;
-            why = inr (refl, ran.last, subst (λ n. Turns (rules_of_machine M) x n ran.last) (f.at_once refl) (ran.scanned x (text, goes_on)).turns, ran.ends);
+            why = inr (refl, last, subst (λ n. Turns (rules_of_machine M) x n last) (f.at_once refl) (ran.scanned x (text, goes_on)).turns, refl);
           }
 
 -- at the end

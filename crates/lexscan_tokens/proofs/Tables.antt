@@ -2,12 +2,14 @@
 use Rattle.std.proofs.Common.{◌≡◌, ℕ, zero, suc, ◌≤◌, ◌<◌, Bool, true, false, List, [], ◌∷◌, ◌++◌, take, drop, ◌⊎◌, inl, inr, Option, Some, None, refl, sym, ◌∙◌, ap, subst, arith}
 use Rattle.std.specs.Prelude.{nat_lt}
 use Rattle.std.proofs.lemmas.Bool.{cond-true, cond-false, lt-ltb, le-ltb, cases_lt}
+use Rattle.lex_semantics.proofs.ResultsAre.{results_are}
 use Rattle.lex_semantics.specs.Text.{IsText, Among, part, at_line_start}
 use Rattle.lex_semantics.specs.Spec.{Spec, Echo, has_reject, rejects}
 use Rattle.lex_semantics.specs.Sound.{IsSound}
 use Rattle.lex_semantics.specs.Rules.{Rules, Full, rules_of, statements_of}
 use Rattle.lex_semantics.specs.Candidates.{Candidate, Before, IsCandidate, Candidates}
-use Rattle.lex_semantics.specs.Acting.{Ending, Acting, Matched, ActionResult, Done, Again, Over, act, settle, perform}
+use Rattle.lex_semantics.specs.Acting.{Ending, Acting, Matched}
+use Rattle.lex_semantics.specs.ActionResults.{ActionResult, Done, Again, Over, act_result, settle, perform_results}
 use Rattle.lex_semantics.specs.Run.{Place}
 use Rattle.lex_semantics.specs.Machine.{Machine, rules_of_machine}
 use Rattle.lex_semantics.specs.MachineLaws.{MachineLaws}
@@ -23,17 +25,17 @@ use Rattle.lexscan_matching.proofs.Picking.{never_rejects}
 use Rattle.lexscan_tokens.specs.declared.listing.Token.{Token}
 use Rattle.lexscan_tokens.specs.Tokens.{IsToken, Appends, TokensOf, Tokenised}
 
-same_perform : (all : Bool) (R Q : Rules) (alike : Alike all R Q) (kept y : List ℕ) (ms : List Candidate) (out : List ℕ) (d : ℕ) (cs : List ℕ) → perform R kept y ms out d cs ≡ perform Q kept y ms out d cs
-unfolding perform
+same_perform : (all : Bool) (R Q : Rules) (alike : Alike all R Q) (kept y : List ℕ) (ms : List Candidate) (out : List ℕ) (d : ℕ) (cs : List ℕ) → perform_results R kept y ms out d cs ≡ perform_results Q kept y ms out d cs
+unfolding perform_results
 same_perform all R Q alike kept y [] out d cs = refl
 same_perform all R Q alike kept y (m ∷ ms) out d cs =
     let a : Acting = record { text = kept ++ take m.keep y; written = out; condition = d; stack = cs; more = false } in
-    ap (λ ss. settle (act ss a) (λ b. perform R kept y ms b.written b.condition b.stack)) (same_statements all R Q alike m.rule)
-    ∙ settle_same (act (statements_of Q m.rule) a) (λ b. perform R kept y ms b.written b.condition b.stack) (λ b. perform Q kept y ms b.written b.condition b.stack)
+    ap (λ ss. settle (act_result ss a) (λ b. perform_results R kept y ms b.written b.condition b.stack)) (same_statements all R Q alike m.rule)
+    ∙ settle_same (act_result (statements_of Q m.rule) a) (λ b. perform_results R kept y ms b.written b.condition b.stack) (λ b. perform_results Q kept y ms b.written b.condition b.stack)
     (λ b. same_perform all R Q alike kept y ms b.written b.condition b.stack)
 
 candidate_from : (R Q : Rules) (alike : Alike true R Q) (c : ℕ) (line_start : Bool) (y : List ℕ) (m : Candidate) → c < Q.conditions → IsText y → IsCandidate Q c line_start y m → IsCandidate R c line_start y m
-candidate_from R Q alike c line_start y m lt text h = record { inside = h.inside; fits = from h.fits }
+candidate_from R Q alike c line_start y m lt text h = (h.0, from h.1)
   where
     from : Full Q c line_start (take m.len y) m.rule m.keep → Full R c line_start (take m.len y) m.rule m.keep
     from (inl f) = inl (omega (arith, f.0, alike.count), alike.matches c line_start (take m.len y) m.rule m.keep lt (is_text_take m.len y text) f.1)
@@ -50,21 +52,21 @@ not_none (Done a) f never e = cc
 not_none (Again a) f never e = never a refl
 not_none (Over a d) f never e = cc
 
-decided : (R Q : Rules) (alike : Alike false R Q) (kept y : List ℕ) (m : Candidate) (ms : List Candidate) (d : ℕ) (cs : List ℕ) → perform R kept y (m ∷ ms) [] d cs ≡ None → ⊥
-unfolding perform
+decided : (R Q : Rules) (alike : Alike false R Q) (kept y : List ℕ) (m : Candidate) (ms : List Candidate) (d : ℕ) (cs : List ℕ) → perform_results R kept y (m ∷ ms) [] d cs ≡ None → ⊥
+unfolding perform_results
 decided R Q alike kept y m ms d cs e =
     let a : Acting = record { text = kept ++ take m.keep y; written = []; condition = d; stack = cs; more = false } in
-    not_none (act (statements_of R m.rule) a) (λ b. perform R kept y ms b.written b.condition b.stack)
+    not_none (act_result (statements_of R m.rule) a) (λ b. perform_results R kept y ms b.written b.condition b.stack)
     (λ b again. never_rejects (statements_of R m.rule) a b (ap has_reject (same_statements false R Q alike m.rule) ∙ rule_without_reject Q alike.matches.1 m.rule (cases_lt m.rule Q.count)) again) e
 
-none_performed : (R : Rules) (kept y : List ℕ) (d : ℕ) (cs : List ℕ) → perform R kept y [] [] d cs ≡ None
-unfolding perform
+none_performed : (R : Rules) (kept y : List ℕ) (d : ℕ) (cs : List ℕ) → perform_results R kept y [] [] d cs ≡ None
+unfolding perform_results
 none_performed R kept y d cs = refl
 
 -- the first match of Q is one of R
 first_from : (R Q : Rules) (alike : Alike false R Q) (c : ℕ) (line_start : Bool) (y : List ℕ) (n : Candidate) (ns : List Candidate) → c < Q.conditions → IsText y →
     Candidates Q c line_start y (n ∷ ns) → IsCandidate R c line_start y n
-first_from R Q alike c line_start y n ns lt text h = record { inside = own.inside; fits = from own.fits }
+first_from R Q alike c line_start y n ns lt text h = (own.0, from own.1)
   where
     own : IsCandidate Q c line_start y n
     own = (h.members n).0 (inl refl)
@@ -80,7 +82,7 @@ first_from R Q alike c line_start y n ns lt text h = record { inside = own.insid
         none : (j l : ℕ) → j < n.rule → Q.full c line_start (take n.len y) j l → ⊥
         none j l less g =
             let q : Candidate = record { len = n.len; rule = j; keep = l } in
-            not_after q refl less ((h.members q).1 (record { inside = own.inside; fits = inl (omega (arith, less, f.0), g) }))
+            not_after q refl less ((h.members q).1 ((own.0, inl (omega (arith, less, f.0), g))))
 
 -- a match that is carried out by R is carried out by Q
 carries_to : (all : Bool) (R Q : Rules) (alike : Alike all R Q) (x : List ℕ) (p : Place) (m : Candidate) (o : Matched) → IsText x → p.condition < Q.conditions → CarriesOut R x p m o → CarriesOut Q x p m o
@@ -99,10 +101,10 @@ carries_to true R Q alike x p m o text lt k =
       passed = k.passed;
       left = k.left;
       all = subst (Candidates Q p.condition line_start y) same listed.1;
-      rejected = sym (same_perform true R Q alike kept y k.passed [] p.condition p.stack) ∙ k.rejected;
-      carried = sym (same_perform true R Q alike kept y (k.passed ++ m ∷ []) [] p.condition p.stack) ∙ k.carried;
+      rejected = results_are _ _ _ _ _ _ _ ∙ sym (same_perform true R Q alike kept y k.passed [] p.condition p.stack) ∙ sym (results_are _ _ _ _ _ _ _) ∙ k.rejected;
+      carried = results_are _ _ _ _ _ _ _ ∙ sym (same_perform true R Q alike kept y (k.passed ++ m ∷ []) [] p.condition p.stack) ∙ sym (results_are _ _ _ _ _ _ _) ∙ k.carried;
     }
-carries_to false R Q alike x p m o text lt k = by_passed k.passed k.all k.rejected k.carried
+carries_to false R Q alike x p m o text lt k = by_passed k.passed k.all (sym (results_are _ _ _ _ _ _ _) ∙ k.rejected) (sym (results_are _ _ _ _ _ _ _) ∙ k.carried)
   where
     y : List ℕ
     y = drop p.at x
@@ -116,7 +118,7 @@ carries_to false R Q alike x p m o text lt k = by_passed k.passed k.all k.reject
     low : IsText y
     low = is_text_drop p.at x text
 
-    first : (left : List Candidate) → Candidates R p.condition line_start y (m ∷ left) → perform R kept y (m ∷ []) [] p.condition p.stack ≡ Some o → (ns : List Candidate) → Candidates Q p.condition line_start y ns → CarriesOut Q x p m o
+    first : (left : List Candidate) → Candidates R p.condition line_start y (m ∷ left) → perform_results R kept y (m ∷ []) [] p.condition p.stack ≡ Some o → (ns : List Candidate) → Candidates Q p.condition line_start y ns → CarriesOut Q x p m o
     first left mine done [] theirs = absurd ((theirs.members m).1 (candidate_to false R Q alike p.condition line_start y m lt low ((mine.members m).0 (inl refl))))
     first left mine done (n ∷ ns) theirs =
         let m_in : Among (n ∷ ns) m = (theirs.members m).1 (candidate_to false R Q alike p.condition line_start y m lt low ((mine.members m).0 (inl refl))) in
@@ -127,12 +129,12 @@ carries_to false R Q alike x p m o text lt k = by_passed k.passed k.all k.reject
           passed = [];
           left = ns;
           all = subst (λ z. Candidates Q p.condition line_start y (z ∷ ns)) same theirs;
-          rejected = none_performed Q kept y p.condition p.stack;
-          carried = sym (same_perform false R Q alike kept y (m ∷ []) [] p.condition p.stack) ∙ done;
+          rejected = results_are _ _ _ _ _ _ _ ∙ none_performed Q kept y p.condition p.stack;
+          carried = results_are _ _ _ _ _ _ _ ∙ sym (same_perform false R Q alike kept y (m ∷ []) [] p.condition p.stack) ∙ done;
         }
 
-    by_passed : (passed : List Candidate) → Candidates R p.condition line_start y (passed ++ m ∷ k.left) → perform R kept y passed [] p.condition p.stack ≡ None →
-        perform R kept y (passed ++ m ∷ []) [] p.condition p.stack ≡ Some o → CarriesOut Q x p m o
+    by_passed : (passed : List Candidate) → Candidates R p.condition line_start y (passed ++ m ∷ k.left) → perform_results R kept y passed [] p.condition p.stack ≡ None →
+        perform_results R kept y (passed ++ m ∷ []) [] p.condition p.stack ≡ Some o → CarriesOut Q x p m o
     by_passed [] mine rejected done = let listed = alike.exist p.condition line_start y in first k.left mine done listed.0 listed.1
     by_passed (q ∷ qs) mine rejected done = absurd (decided R Q alike kept y q qs p.condition p.stack rejected)
 

@@ -5,7 +5,8 @@ use Rattle.std.specs.Prelude.{Bool, false, map, get_or, if◌then◌else◌}
 use Rattle.lex_semantics.specs.Text.{BeginsWith}
 use Rattle.lex_semantics.specs.Spec.{Statement, Echo, Print, Begin, More, Less, Reject, End, Push, Pop}
 use Rattle.lex_semantics.specs.Acting as Scan
-use Rattle.lex_semantics.specs.Acting.{ActionResult, Over, StackFault, act, has_room, popped}
+use Rattle.lex_semantics.specs.Acting.{StackFault}
+use Rattle.lex_semantics.specs.ActionResults.{ActionResult, Over, act_result, has_room, popped}
 use Rattle.lexscan_window.specs.declared.act.ActionState.{ActionState}
 use Rattle.lexscan_window.specs.declared.act.Step.{Step}
 use Rattle.lex_machine.specs.declared.action.Statement.{Statement as Item}
@@ -34,7 +35,7 @@ empty_grows [] a next h = prefix_same a.written
 empty_grows (c ∷ cs) a next h = h c cs
 
 -- an action only adds to what was written
-pub act_grows : (ss : List Statement) (a : Scan.Acting) → IsPrefixOf a.written (written_of (act ss a))
+pub act_grows : (ss : List Statement) (a : Scan.Acting) → IsPrefixOf a.written (written_of (act_result ss a))
 act_grows [] a = prefix_same a.written
 act_grows (Echo ∷ ss) a = prefix_more a.written a.text _ (act_grows ss (record a { written = a.written ++ a.text }))
 act_grows (Print s ∷ ss) a = prefix_more a.written s _ (act_grows ss (record a { written = a.written ++ s }))
@@ -43,20 +44,20 @@ act_grows (More ∷ ss) a = act_grows ss (record a { more = true })
 act_grows (Less n ∷ ss) a = act_grows ss (record a { text = take n a.text })
 act_grows (Reject ∷ ss) a = prefix_same a.written
 act_grows (End s ∷ ss) a = prefix_same a.written
-act_grows (Push d ∷ ss) a = full_grows (has_room a.stack) a (act ss (record a { condition = d; stack = a.condition ∷ a.stack })) (act_grows ss (record a { condition = d; stack = a.condition ∷ a.stack }))
-act_grows (Pop ∷ ss) a = empty_grows a.stack a (λ c cs. act ss (record a { condition = c; stack = cs })) (λ c cs. act_grows ss (record a { condition = c; stack = cs }))
+act_grows (Push d ∷ ss) a = full_grows (has_room a.stack) a (act_result ss (record a { condition = d; stack = a.condition ∷ a.stack })) (act_grows ss (record a { condition = d; stack = a.condition ∷ a.stack }))
+act_grows (Pop ∷ ss) a = empty_grows a.stack a (λ c cs. act_result ss (record a { condition = c; stack = cs })) (λ c cs. act_grows ss (record a { condition = c; stack = cs }))
 
 -- and by what its first statement says
-says_grows : (st : Statement) (ss : List Statement) (a : Scan.Acting) → IsPrefixOf (a.written ++ said st a.text) (written_of (act (st ∷ ss) a))
+says_grows : (st : Statement) (ss : List Statement) (a : Scan.Acting) → IsPrefixOf (a.written ++ said st a.text) (written_of (act_result (st ∷ ss) a))
 says_grows Echo ss a = act_grows ss (record a { written = a.written ++ a.text })
 says_grows (Print s) ss a = act_grows ss (record a { written = a.written ++ s })
-says_grows (Begin d) ss a = subst (λ z. IsPrefixOf z (written_of (act (Begin d ∷ ss) a))) (sym (append-nil a.written)) (act_grows (Begin d ∷ ss) a)
-says_grows More ss a = subst (λ z. IsPrefixOf z (written_of (act (More ∷ ss) a))) (sym (append-nil a.written)) (act_grows (More ∷ ss) a)
-says_grows (Less n) ss a = subst (λ z. IsPrefixOf z (written_of (act (Less n ∷ ss) a))) (sym (append-nil a.written)) (act_grows (Less n ∷ ss) a)
-says_grows Reject ss a = subst (λ z. IsPrefixOf z (written_of (act (Reject ∷ ss) a))) (sym (append-nil a.written)) (act_grows (Reject ∷ ss) a)
-says_grows (End s) ss a = subst (λ z. IsPrefixOf z (written_of (act (End s ∷ ss) a))) (sym (append-nil a.written)) (act_grows (End s ∷ ss) a)
-says_grows (Push d) ss a = subst (λ z. IsPrefixOf z (written_of (act (Push d ∷ ss) a))) (sym (append-nil a.written)) (act_grows (Push d ∷ ss) a)
-says_grows Pop ss a = subst (λ z. IsPrefixOf z (written_of (act (Pop ∷ ss) a))) (sym (append-nil a.written)) (act_grows (Pop ∷ ss) a)
+says_grows (Begin d) ss a = subst (λ z. IsPrefixOf z (written_of (act_result (Begin d ∷ ss) a))) (sym (append-nil a.written)) (act_grows (Begin d ∷ ss) a)
+says_grows More ss a = subst (λ z. IsPrefixOf z (written_of (act_result (More ∷ ss) a))) (sym (append-nil a.written)) (act_grows (More ∷ ss) a)
+says_grows (Less n) ss a = subst (λ z. IsPrefixOf z (written_of (act_result (Less n ∷ ss) a))) (sym (append-nil a.written)) (act_grows (Less n ∷ ss) a)
+says_grows Reject ss a = subst (λ z. IsPrefixOf z (written_of (act_result (Reject ∷ ss) a))) (sym (append-nil a.written)) (act_grows (Reject ∷ ss) a)
+says_grows (End s) ss a = subst (λ z. IsPrefixOf z (written_of (act_result (End s ∷ ss) a))) (sym (append-nil a.written)) (act_grows (End s ∷ ss) a)
+says_grows (Push d) ss a = subst (λ z. IsPrefixOf z (written_of (act_result (Push d ∷ ss) a))) (sym (append-nil a.written)) (act_grows (Push d ∷ ss) a)
+says_grows Pop ss a = subst (λ z. IsPrefixOf z (written_of (act_result (Pop ∷ ss) a))) (sym (append-nil a.written)) (act_grows (Pop ∷ ss) a)
 
 -- nothing said
 pub nothing_said : (w : List ℕ) (a : ActionState) (before : List ℕ) → acting_of w a before ≡ acting_of w a (before ++ [])
@@ -68,18 +69,18 @@ left_is items i item lt is = ap (map statement_of) (drop_more items i item lt) �
 
 module _ {K : Type 0} (wrote : K → List ℕ → K → Type 0) (none : (s : K) → wrote s [] s) (join : (s t u : K) (xs ys : List ℕ) → wrote s xs t → wrote t ys u → wrote s (xs ++ ys) u) where
   pub carried_first : (s : K) (w : List ℕ) (ss : List Statement) (old : ActionState) → CarriedTo wrote s s w ss ss old old
-  carried_first s w ss old = record { out = []; sink = none s; acts = λ before. ap (act ss) (nothing_said w old before) }
+  carried_first s w ss old = record { out = []; sink = none s; acts = λ before. ap (act_result ss) (nothing_said w old before) }
 
   pub carried_next : (s t u : K) (w : List ℕ) (ss rest : List Statement) (st : Statement) (old mid new : ActionState) (left : List Statement) → left ≡ st ∷ rest → CarriedTo wrote s t w ss left old mid →
       wrote t (said st (take mid.end w)) u → Steps w st mid new Step.Next → CarriedTo wrote s u w ss rest old new
   carried_next s t u w ss rest st old mid new left e h put steps = record {
     out = h.out ++ said st (take mid.end w);
     sink = join s t u h.out (said st (take mid.end w)) h.sink put;
-    acts = λ before. h.acts before ∙ ap (λ z. act z (acting_of w mid (before ++ h.out))) e ∙ steps (before ++ h.out) rest ∙ ap (λ z. act rest (acting_of w new z)) (append_assoc before h.out (said st (take mid.end w)));
+    acts = λ before. h.acts before ∙ ap (λ z. act_result z (acting_of w mid (before ++ h.out))) e ∙ steps (before ++ h.out) rest ∙ ap (λ z. act_result rest (acting_of w new z)) (append_assoc before h.out (said st (take mid.end w)));
   }
 
   pub carried_last : (s t : K) (w : List ℕ) (ss left : List Statement) (old new : ActionState) → left ≡ [] → CarriedTo wrote s t w ss left old new → Carried wrote s t w ss old new Step.Next
-  carried_last s t w ss left old new e h = record { out = h.out; sink = h.sink; acts = λ before. h.acts before ∙ ap (λ z. act z (acting_of w new (before ++ h.out))) e }
+  carried_last s t w ss left old new e h = record { out = h.out; sink = h.sink; acts = λ before. h.acts before ∙ ap (λ z. act_result z (acting_of w new (before ++ h.out))) e }
 
   -- a statement after which none follows
   pub carried_stop : (s t u : K) (w : List ℕ) (ss rest : List Statement) (st : Statement) (old mid new : ActionState) (left : List Statement) (step : Step) → (step ≡ Step.Next → ⊥) → left ≡ st ∷ rest → CarriedTo wrote s t w ss left old mid →
@@ -87,7 +88,7 @@ module _ {K : Type 0} (wrote : K → List ℕ → K → Type 0) (none : (s : K) 
   carried_stop s t u w ss rest st old mid new left step stops e h put steps = record {
     out = h.out ++ said st (take mid.end w);
     sink = join s t u h.out (said st (take mid.end w)) h.sink put;
-    acts = λ before. h.acts before ∙ ap (λ z. act z (acting_of w mid (before ++ h.out))) e ∙ steps (before ++ h.out) rest
+    acts = λ before. h.acts before ∙ ap (λ z. act_result z (acting_of w mid (before ++ h.out))) e ∙ steps (before ++ h.out) rest
         ∙ ap (λ z. after_step step rest (acting_of w new z)) (append_assoc before h.out (said st (take mid.end w))) ∙ no_rest step stops (acting_of w new (before ++ (h.out ++ said st (take mid.end w))));
   }
     where
@@ -102,7 +103,7 @@ module _ {K : Type 0} (wrote : K → List ℕ → K → Type 0) (none : (s : K) 
   cut_short s t u w ss rest st old mid left e h (front, is_front, put) = record {
     out = h.out ++ front;
     sink = join s t u h.out front h.sink put;
-    front = λ before. subst (λ z. IsPrefixOf (before ++ (h.out ++ front)) (written_of z)) (sym (h.acts before ∙ ap (λ z. act z (acting_of w mid (before ++ h.out))) e))
-        (subst (λ z. IsPrefixOf z (written_of (act (st ∷ rest) (acting_of w mid (before ++ h.out))))) (append_assoc before h.out front)
+    front = λ before. subst (λ z. IsPrefixOf (before ++ (h.out ++ front)) (written_of z)) (sym (h.acts before ∙ ap (λ z. act_result z (acting_of w mid (before ++ h.out))) e))
+        (subst (λ z. IsPrefixOf z (written_of (act_result (st ∷ rest) (acting_of w mid (before ++ h.out))))) (append_assoc before h.out front)
         (prefix_trans ((before ++ h.out) ++ front) ((before ++ h.out) ++ said st (take mid.end w)) _ (is_front.0, ap (λ z. (before ++ h.out) ++ z) is_front.1 ∙ sym (append_assoc (before ++ h.out) front is_front.0)) (says_grows st rest (acting_of w mid (before ++ h.out)))));
   }

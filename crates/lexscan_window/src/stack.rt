@@ -1,6 +1,6 @@
 //! The stack of start conditions.
 ghost use Rattle.std.specs.Prelude.{◌≡◌, List, [], ◌∷◌, true, false, IfSome, IfNone};
-ghost use Rattle.lex_semantics.specs.Acting.{has_room};
+ghost use Rattle.lex_semantics.specs.ActionResults.{has_room};
 
 use arrayvec::ArrayVec;
 use lex_semantics::MAX_STACK;

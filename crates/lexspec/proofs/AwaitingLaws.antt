@@ -4,9 +4,9 @@ use Rattle.std.specs.Prelude.{codes}
 use Rattle.std.proofs.lemmas.List.{length-map}
 use Rattle.lex_semantics.specs.Spec as S
 use Rattle.lex_semantics.specs.Reading.{take_up_to, begins}
-use Rattle.lexspec.specs.Items.{Trailing, Subject, at_end, matching, Action, bar, spelled, Item, skipped, skipped_line, skipped_block, rule, IsSubject, IsLine, AreItems, starts_rule, action_of}
-use Rattle.lexspec.specs.RuleItems.{EndRule, AreRules}
-use Rattle.lexspec.specs.RuleReads.{acting, first_statements}
+use Rattle.lexspec.specs.Items.{Action, bar, spelled, starts_rule, action_of}
+use Rattle.lexspec.specs.RuleItems.{EndRule}
+use Rattle.lexspec.specs.RuleReads.{acting, first_statements, RulesFrom}
 use Rattle.lexspec.specs.Keeping.{HasRoom}
 use Rattle.lexspec.specs.EndOpenings.{opens_end, begins_end}
 use Rattle.lexspec.specs.RuleViews.{rule_of}
@@ -15,6 +15,7 @@ use Rattle.lexspec_lines.specs.declared.declarations.Declarations.{Declarations}
 use Rattle.lexspec.specs.declared.rule_text.Front.{Front}
 use Rattle.lexspec.specs.declared.rule_text.Front.TheVariants as F
 use Rattle.lexspec.specs.declared.rules_so_far.RulesSoFar.{RulesSoFar}
+use Rattle.lexspec.specs.ItemRuns.{ItemsFrom, Item, skipped, skipped_line, skipped_block, rule, IsLine, Trailing, Subject, at_end, matching, IsSubject}
 use Rattle.lexspec_lines.proofs.OneSection.{no_true, two_percents}
 use Rattle.lexspec.proofs.OneItems.{both_ways, AllBlank, StartsBlank, OpensBlock, tests_of, rule_tests, not_caret}
 use Rattle.lexspec.proofs.RulesLaws.{ActsAs, invert}
@@ -33,8 +34,8 @@ module _ (d : Declarations) where
       no_action (map rule_of s.waiting.items) h.subject h.u h.v (action_of h.text) (λ empty. some (sym (length-map s.waiting.items rule_of) ∙ ap length empty)) h.cut (sym (ap opens_end h.list) ∙ on) h.acts
 
   -- a text that begins with another rule spells one rule at least
-  some_later : (n : ℕ) (t : List ℕ) (later : List S.Rule) (E : List EndRule) (items : List (ℕ × Item)) → starts_rule t ≡ true → begins_end t ≡ false → AreItems n t items
-      → AreRules (names_in d) d.options d.stack d.definitions items later E → 1 ≤ length later
+  some_later : (n : ℕ) (t : List ℕ) (later : List S.Rule) (E : List EndRule) (items : List (ℕ × Item)) → starts_rule t ≡ true → begins_end t ≡ false → ItemsFrom n t items
+      → RulesFrom (names_in d) d.options d.stack d.definitions items later E → 1 ≤ length later
   unfolding take_up_to
   some_later n t later E [] starts off (inl e) are = no_true (sym (ap starts_rule e) ∙ starts)
   some_later n t later E [] starts off (inr e) are = let p = two_percents t e in no_true (sym (rule_tests (37 ∷ 37 ∷ p.0) (subst (λ z. starts_rule z ≡ true) p.1 starts)).2)

@@ -10,9 +10,11 @@ use Rattle.lexre.specs.Cutting.{IsCutting, piece_at}
 use Rattle.lexre.specs.Pieces.{Piece, IsPieces, dollar, other, slash, kind_at, slashes, ends_with_dollar}
 use Rattle.lexre.proofs.PieceLaws.{cutting_of}
 use Rattle.lexspec_lines.specs.DefinitionLines.{Definition, code_line, code_block, declares, options, ignored, defines, definition_at, definition_in, percent_line, IsUpTo}
-use Rattle.lexspec_lines.specs.SkippedCode.{IsDefinition, AreNumbered, AreFrom}
+use Rattle.lexspec_lines.specs.Skips.{IsDefinition, AreNumbered, AreFrom}
+use Rattle.lexspec.specs.ItemRuns.{Item, skipped, skipped_line, skipped_block, rule, IsLine, no_trail, line_end, pattern_after, at_end, matching, IsSides}
+use Rattle.lexspec.proofs.ItemRunLaws.{all_as, numbered_items, numbered_lines}
 use Rattle.lexspec_lines.specs.Lines.{after_block, without_returns}
-use Rattle.lexspec.specs.Items.{unlisted, every, only, no_trail, line_end, pattern_after, at_end, matching, bar, spelled, Item, IsSides, skipped, skipped_line, skipped_block, rule, conditions_at, after_string, after_piece, action_end, action_at, IsLine, AreItems}
+use Rattle.lexspec.specs.Items.{AreItems, unlisted, every, only, bar, spelled, conditions_at, after_string, after_piece, action_end, action_at}
 use Rattle.lexspec.specs.SpecExamples.{rules_section, user_code, whole_file, WholeSkips, short_file}
 
 -- the cutting of a pattern without a slash outside parentheses, by its pieces
@@ -262,29 +264,6 @@ end_here =
     let after = codes " { printf(\"end\"); yyterminate(); }\n" ++ from_user in
     (refl, from_end, after, codes "{ printf(\"end\"); yyterminate(); }", refl, (refl, refl, refl), refl, refl)
 
-end_items_here : AreItems 24 from_end_in_b end_items
-end_items_here = (from_end, refl, end_in_b_here, (from_user, refl, end_here, inr refl))
-
-last_items_here : AreItems 22 from_closing last_items
-last_items_here = (from_other, refl, closing_here, (from_end_in_b, refl, other_here, end_items_here))
-
-later_items_here : AreItems 20 from_opening later_items
-later_items_here = (from_closing, refl, opening_here, last_items_here)
-
-pub whole_second : AreItems 13 (rules_section ++ codes "%%\n" ++ user_code) whole_items
-unfolding after_block take_up_to is_blank
-whole_second = (
-  from_block,
-  refl,
-  (codes "  int n;", refl, refl, refl),
-  (
-    from_number,
-    refl,
-    (refl, refl),
-    (from_empty, refl, number_here, (from_letters, refl, ([], refl, refl), (from_opening, refl, letters_here, later_items_here))),
-  ),
-)
-
 -- the lines of the definitions, each with its number
 whole_lines : AreFrom IsDefinition 1 (without_returns whole_file) numbered_definitions from_separator
 unfolding definition_at definition_in name_at percent_line after_block take_up_to is_alpha is_upper is_lower is_alnum is_blank is_digit
@@ -303,17 +282,19 @@ whole_pieces =
     (from_empty, refl, number_here, (from_letters, refl, ([], refl, refl), (from_opening, refl, letters_here, last))) in
     (from_block, refl, (codes "  int n;", refl, refl, refl), (from_number, refl, (refl, refl), later))
 
+pub whole_second : AreItems 13 (rules_section ++ from_user) (all_as whole_items) from_user
+whole_second = numbered_items 28 13 (rules_section ++ from_user) whole_items from_user refl (inr refl) whole_pieces
+
 pub whole_skips : WholeSkips
 unfolding is_blank
 whole_skips = record {
   definitions = numbered_definitions;
   after = from_separator;
-  first_section = whole_lines;
+  first_section = numbered_lines 28 (without_returns whole_file) numbered_definitions from_separator whole_lines;
   separator = refl;
-  items = whole_items;
+  items = all_as whole_items;
   rest = from_user;
-  second_section = whole_pieces;
-  stops = inr refl;
+  second_section = whole_second;
   lines_are = refl;
 }
 
@@ -339,7 +320,7 @@ pub short_first : IsUpTo definition_at (without_returns short_file) (options (co
 unfolding definition_at percent_line take_up_to is_blank
 short_first = (codes "%%\na ECHO;", refl, refl)
 
-pub short_second : AreItems 3 (codes "a ECHO;") short_items
+pub short_second : AreItems 3 (codes "a ECHO;") (all_as short_items) []
 unfolding conditions_at take_up_to is_blank action_at action_end after_piece after_string until_quote
 short_second = (
   [],
@@ -354,5 +335,5 @@ short_second = (
     refl,
     refl,
   ),
-  inl refl,
+  (refl, inl refl),
 )

@@ -4,7 +4,7 @@ use Rattle.std.proofs.lemmas.Bool.{leb-true}
 use Rattle.std.specs.Cmp.Lexicographic.{nat_list_cmp_total}
 use Rattle.std.specs.FinMap.{get, from_entries, get-from_entries}
 use Rattle.std.specs.Prelude.{codes, length, count_by, IfSome}
-use Rattle.lex_semantics.specs.ByteSets.{has, set_below, set_of, empty_set, single, range_set, union, other_case, fold_case, is_upper, is_lower, is_alpha, is_digit, is_alnum, is_blank}
+use Rattle.lex_semantics.specs.ByteSets.{has, set_of, empty_set, single, range_set, union, other_case, fold_case, is_upper, is_lower, is_alpha, is_digit, is_alnum, is_blank}
 use Rattle.lex_semantics.specs.Escapes.{simple_escape, until_quote}
 use Rattle.lex_semantics.specs.Reading.{take_up_to}
 use Rattle.lex_semantics.specs.Limits.{max_conditions, max_file_bytes, max_rules}
@@ -30,14 +30,20 @@ use Rattle.lexspec_actions.specs.ActionSteps.{does, prints}
 use Rattle.lexspec_actions.proofs.SameActions.{balanced, one_balanced}
 use Rattle.lexspec_actions.specs.Bytes as B
 use Rattle.lexspec_actions.specs.Names.{known_in}
-use Rattle.lexspec_lines.specs.DefinitionLines.{options}
-use Rattle.lexspec.specs.Files.{AreSingle, lists_number}
-use Rattle.lexspec.specs.Items.{unlisted, every, only, no_trail, line_end, pattern_after, bar, spelled, Item, skipped}
-use Rattle.lexspec.specs.RuleReads.{IsRule}
-use Rattle.lexspec.specs.RuleItems.{EndRule, AreRules}
+use Rattle.lexspec_lines.specs.DefinitionLines.{options, all_conditions}
+use Rattle.lexspec_lines.specs.Declaring.{names_of}
+use Rattle.lexspec_lines.proofs.DeclaringLaws.{test_distinct}
+use Rattle.lexspec.specs.ItemRuns.{Item, skipped, no_trail, line_end, pattern_after}
+use Rattle.lexspec.specs.Endings.{lists_number}
+use Rattle.lexspec.specs.Files.{AreSingle}
+use Rattle.lexspec.specs.Items.{unlisted, every, only, bar, spelled}
+use Rattle.lexspec.specs.RuleReads.{IsRule, RulesFrom}
+use Rattle.lexspec.specs.RuleItems.{EndRule}
 use Rattle.lexspec.specs.SpecExamples.{whole_file, ended, open_at_end, number, letters, opening, closing, any_other, whole_spec, WholeFile, short_file, both_cases, ShortFile}
 use Rattle.lexspec.specs.Tests.{any_below, sound_tree, sound_trail, cut_fits}
-use Rattle.lexspec.proofs.ComputedSections.{whole_definitions, from_separator, other_item, letters_item, end_items, last_items, later_items, whole_items, whole_first, whole_second, short_items, short_first, short_second}
+use Rattle.lexspec.proofs.ComputedSections.{whole_definitions, from_separator, from_user, other_item, letters_item, end_items, last_items, later_items, whole_items, whole_first, whole_second, short_items, short_first, short_second}
+use Rattle.lexspec.proofs.ItemRunLaws.{all_as}
+use Rattle.lexspec.proofs.RuleRunLaws.{rules_first}
 use Rattle.lexspec.proofs.CutLaws.{cut_is_fit}
 use Rattle.lexspec.proofs.TestLaws.{tree_is_sound}
 
@@ -56,7 +62,7 @@ digit_named : get named (codes "D") ≡ Some (codes "[0-9]")
 digit_named = get-from_entries nat_list_cmp_total ((codes "D", codes "[0-9]") ∷ []) (codes "D")
 
 digit_spelled : SpellsWithin false (symbol_at false) (get named) 63 (codes "[0-9]") digit
-unfolding after_word run_at number_at name_at escape_at literal_byte_at class_name_at enclosed_by bracketed_at is_range range_at element_at elements_at class_at span union_set class_set symbol_at has set_below set_of empty_set range_set union is_alpha is_digit is_alnum take_up_to
+unfolding after_word run_at number_at name_at escape_at literal_byte_at class_name_at enclosed_by bracketed_at is_range range_at element_at elements_at class_at span union_set class_set symbol_at has set_of empty_set range_set union is_alpha is_digit is_alnum take_up_to
 digit_spelled = runs_spelled false (symbol_at false) (get named) 63 (codes "[0-9]") digit (found_runs false false (get named) 20 (state fresh [] 63) (codes "[0-9]") digit refl)
 
 -- the name, and then the sign
@@ -84,7 +90,7 @@ cut_as_tested r head trail fits = cut_is_fit r.cut r.head r.trail (tree_is_sound
     sound (Some t) h = tree_is_sound t h
 
 number_ruled : (is : List (ℕ × Item)) (rules : List Rule) → IsRule names plain true named 17 unlisted true (codes "{D}+") line_end (spelled (codes "ECHO;")) is rules number
-unfolding has set_below set_of single range_set any_below take_up_to is_alpha is_upper is_lower is_alnum is_blank is_digit after_word A.piece_at A.statement_at A.parts_of A.in_parentheses A.number_within A.second_word A.format_at A.after_statement A.condition_at run_at number_at name_at B.after_space B.skip B.next B.string_escape_at escape_at B.literal_at
+unfolding has set_of single range_set any_below take_up_to is_alpha is_upper is_lower is_alnum is_blank is_digit after_word A.piece_at A.statement_at A.parts_of A.in_parentheses A.number_within A.second_word A.format_at A.after_statement A.condition_at run_at number_at name_at B.after_space B.skip B.next B.string_escape_at escape_at B.literal_at
 number_ruled is rules = (
   record {
     line_is = refl;
@@ -99,7 +105,7 @@ number_ruled is rules = (
 )
 
 letters_ruled : IsRule names plain true named 19 (only (codes "A" ∷ codes "C" ∷ [])) false (codes "ab") (pattern_after (codes "c*")) bar later_items (opening ∷ closing ∷ any_other ∷ []) letters
-unfolding symbol_at literal_byte_at has set_below set_of single any_below
+unfolding symbol_at literal_byte_at has set_of single any_below
 letters_ruled = (
   record {
     line_is = refl;
@@ -197,9 +203,9 @@ ended_spelled = (
 abbrev whole_ends : List EndRule
 whole_ends = (Some (2 ∷ []), open_at_end) ∷ (None, ended) ∷ []
 
-whole_ruled : AreRules names plain true named whole_items whole_spec.rules whole_ends
+whole_ruled : RulesFrom names plain true named whole_items whole_spec.rules whole_ends
 whole_ruled =
-    let last : AreRules names plain true named last_items (closing ∷ any_other ∷ []) whole_ends = (
+    let last : RulesFrom names plain true named last_items (closing ∷ any_other ∷ []) whole_ends = (
       closing,
       any_other ∷ [],
       refl,
@@ -252,13 +258,14 @@ whole = record {
   after = from_separator;
   first_section = whole_first;
   separator = refl;
-  items = whole_items;
+  items = all_as whole_items;
+  rest = from_user;
   second_section = whole_second;
-  names = refl;
-  defined_once = refl;
+  names = test_distinct (names_of (all_conditions whole_definitions)) refl;
+  defined_once = test_distinct (codes "D" ∷ []) refl;
   options = refl;
   ends = whole_ends;
-  rules = whole_ruled;
+  rules = rules_first names plain true named whole_items whole_spec.rules whole_ends whole_ruled;
   one_end = whole_single;
   conditions = refl;
   few_conditions = leb-true 4 max_conditions refl;
@@ -267,8 +274,8 @@ whole = record {
 
 -- ---- the short file
 
-short_ruled : AreRules (codes "INITIAL" ∷ []) folding false (from_entries []) short_items (both_cases ∷ []) []
-unfolding symbol_at literal_byte_at has set_below set_of single fold_case other_case take_up_to is_alpha is_upper is_lower is_alnum is_blank is_digit after_word A.piece_at A.statement_at A.parts_of A.in_parentheses A.number_within A.second_word A.format_at A.after_statement A.condition_at run_at number_at name_at B.after_space B.skip B.next B.string_escape_at escape_at B.literal_at
+short_ruled : RulesFrom (codes "INITIAL" ∷ []) folding false (from_entries []) short_items (both_cases ∷ []) []
+unfolding symbol_at literal_byte_at has set_of single fold_case other_case take_up_to is_alpha is_upper is_lower is_alnum is_blank is_digit after_word A.piece_at A.statement_at A.parts_of A.in_parentheses A.number_within A.second_word A.format_at A.after_statement A.condition_at run_at number_at name_at B.after_space B.skip B.next B.string_escape_at escape_at B.literal_at
 short_ruled = (
   both_cases,
   [],
@@ -299,13 +306,14 @@ short = record {
   after = codes "%%\na ECHO;";
   first_section = short_first;
   separator = refl;
-  items = short_items;
+  items = all_as short_items;
+  rest = [];
   second_section = short_second;
-  names = refl;
-  defined_once = refl;
+  names = test_distinct (codes "INITIAL" ∷ []) refl;
+  defined_once = tt;
   options = refl;
   ends = [];
-  rules = short_ruled;
+  rules = rules_first (codes "INITIAL" ∷ []) folding false (from_entries []) short_items (both_cases ∷ []) [] short_ruled;
   one_end = short_single;
   conditions = refl;
   few_conditions = leb-true 1 max_conditions refl;

@@ -6,12 +6,13 @@ use Rattle.lex_semantics.specs.Reading.{after_blanks, after_run, take_run, begin
 use Rattle.lexspec_actions.specs.ByteSteps as C
 use Rattle.lexspec_actions.specs.ByteSteps.{slash, block, star, line, after_byte}
 use Rattle.lexspec_lines.specs.Lines.{line_in}
+use Rattle.lexspec.specs.ItemRuns.{Item, skipped, skipped_line, skipped_block, rule, IsLine, Subject, at_end, matching, IsSubject}
 use Rattle.lexspec.specs.ActionSteps.{Place, code, outside, string, escaped, action_in, with_byte, next_place, depth_after}
 use Rattle.lexspec.proofs.ActionPieces.{action_is}
 use Rattle.lexspec.proofs.SubjectLaws.{to_cut}
 use Rattle.lex_semantics.specs.Active.{lists}
 use Rattle.lexspec_lines.specs.Runs.{split_before}
-use Rattle.lexspec.specs.Items.{Conditions, unlisted, conditions_at, Subject, at_end, matching, IsSubject, Item, skipped, skipped_line, skipped_block, rule, IsLine}
+use Rattle.lexspec.specs.Items.{Conditions, unlisted, conditions_at}
 use Rattle.lexspec_lines.proofs.SectionLaws.{EndsWith, ends_on, after_line, after_block_ends, dropped, Each, each_some, each_none, each_if}
 use Rattle.lexspec.proofs.OneItems.{line_text}
 

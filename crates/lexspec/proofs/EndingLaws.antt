@@ -6,7 +6,7 @@ use Rattle.lex_semantics.specs.Active.{lists}
 use Rattle.std.proofs.lemmas.Bool.{and_parts, and_from, or_parts, eqb-true, eq-eqb, leb-true, ltb-true, le-leb, lt-ltb}
 use Rattle.std.proofs.lemmas.List.{drop_more, drop_all}
 use Rattle.std.proofs.lemmas.List.Sums.{sum_by-cons, sum_by-append}
-use Rattle.lexspec.specs.Files.{lists_number, AreSingle, end_in}
+use Rattle.lexspec.specs.Files.{AreSingle, end_in}
 use Rattle.lex_semantics.specs.Spec.{EndAction}
 use Rattle.std.specs.Option.{option_or}
 use Rattle.lexspec.specs.Items.{Conditions, unlisted, every, only}
@@ -15,7 +15,7 @@ use Rattle.lex_semantics.specs.Text.{listed}
 use Rattle.lexspec.specs.EndRules.{end_rule_of}
 use Rattle.lexspec.specs.declared.endings.EndRule.{EndRule as EndRuleKept}
 use Rattle.lexspec.specs.Tests.{ascend_from, sound_list}
-use Rattle.lexspec.specs.Endings.{numbers_kept, clashes, any_clashes, is_unlisted, unlisted_end, listed_end}
+use Rattle.lexspec.specs.Endings.{numbers_kept, clashes, any_clashes, is_unlisted, unlisted_end, listed_end, lists_number}
 use Rattle.lexspec_lines.proofs.OneSection.{no_true}
 
 -- counts

@@ -24,7 +24,7 @@ in_order t sound n e =
 
 join_in_order : (ts : Trees) → AreSoundTrees ts → (n : ℕ) → greatest_of_each ts ≡ Some n → least_of_each ts ≤ n
 join_in_order no_trees sound n e = omega arith
-join_in_order (tree t ts) sound n e = in_order (Cat (tree t ts)) (sound, tt) n e
+join_in_order (tree t ts) sound n e = in_order (Cat (tree t ts)) (sound, λ e. cc) n e
 
 plus_parts : (x y : Option ℕ) (n : ℕ) → plus x y ≡ Some n → (a : ℕ) × (b : ℕ) × (x ≡ Some a) × (y ≡ Some b) × (a + b ≡ n)
 plus_parts (Some a) (Some b) n e = (let f : a + b ≡ n = cc in (a, b, refl, refl, f))
@@ -56,7 +56,7 @@ least_of_two a b None = refl
 least_of_two a b (Some c) = refl
 
 pub all_of_some : (ts : Trees) → AreSoundTrees ts → HasPart ts → (n : ℕ) → HasOne (Alt ts) n → AllHaveOne ts n
-all_of_some no_trees sound some n h = absurd some
+all_of_some no_trees sound some n h = absurd (some refl)
 all_of_some (tree t no_trees) sound some n (l, g) =
     let p = larger_parts (greatest t) (Some 0) n g in
     let zero_is : p.1 ≡ 0 = (let f : Some 0 ≡ Some p.1 = p.3 in cc) in
@@ -67,18 +67,18 @@ all_of_some (tree t (tree s ss)) sound some n (l, g) =
     let rest = unwrap_or (least_of_some (tree s ss)) 0 in
     let lower : min (least t) rest ≡ n = sym (least_of_two (least t) (least s) (least_of_some ss)) ∙ l in
     let low : least t ≤ p.0 = in_order t sound.0 p.0 p.2 in
-    let others : rest ≤ p.1 = in_order (Alt (tree s ss)) (sound.1, tt) p.1 p.3 in
+    let others : rest ≤ p.1 = in_order (Alt (tree s ss)) (sound.1, λ e. cc) p.1 p.3 in
     let first : p.0 ≡ n = omega (arith, p.4) in
     let second : p.1 ≡ n = omega (arith, p.4) in
     let one : least t ≡ n = omega (arith, p.4) in
     let two : rest ≡ n = omega (arith, p.4) in
-    ((one, p.2 ∙ ap Some first), all_of_some (tree s ss) sound.1 tt n (two, p.3 ∙ ap Some second))
+    ((one, p.2 ∙ ap Some first), all_of_some (tree s ss) sound.1 (λ e. cc) n (two, p.3 ∙ ap Some second))
 
 pub some_of_all : (ts : Trees) → HasPart ts → (n : ℕ) → AllHaveOne ts n → HasOne (Alt ts) n
-some_of_all no_trees some n h = absurd some
+some_of_all no_trees some n h = absurd (some refl)
 some_of_all (tree t no_trees) some n h = (h.0.0, ap (λ x. larger x (Some 0)) h.0.1 ∙ ap Some (omega arith))
 some_of_all (tree t (tree s ss)) some n h =
-    let rest = some_of_all (tree s ss) tt n h.1 in
+    let rest = some_of_all (tree s ss) (λ e. cc) n h.1 in
     let least_is : min (least t) (unwrap_or (least_of_some (tree s ss)) 0) ≡ n = omega (arith, h.0.0, rest.0) in
     (least_of_two (least t) (least s) (least_of_some ss) ∙ least_is, ap (λ x. larger x (greatest_of_some (tree s ss))) h.0.1 ∙ ap (larger (Some n)) rest.1 ∙ ap Some (omega arith))
 

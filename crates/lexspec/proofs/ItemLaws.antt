@@ -4,6 +4,8 @@ use Rattle.std.proofs.lemmas.List.{length-map}
 use Rattle.lex_semantics.specs.Tree.{Tree}
 use Rattle.std.specs.Prelude.{Result, Ok, Err, OnErr, IfOk, IfErr, Vec, option_map}
 use Rattle.lexre.specs.Views.{tree_of}
+use Rattle.lexspec.specs.RuleReads.{IsTrail}
+use Rattle.lexspec.specs.ItemRuns.{Trailing, Subject, at_end, matching, IsSubject}
 use Rattle.lexspec.specs.RuleViews.{cut_of}
 use Rattle.lexspec.specs.declared.rule.Rule.{Rule}
 use Rattle.lexspec.specs.declared.rule_text.RuleText.{RuleText}
@@ -12,9 +14,9 @@ use Rattle.lexre.specs.Spelling.{Spells}
 use Rattle.lexspec_actions.specs.Names.{number_from, names_of}
 use Rattle.lexspec_actions.specs.declared.condition.Condition.{Condition}
 use Rattle.lex_semantics.specs.Reading.{after_blanks}
-use Rattle.lexspec.specs.Items.{Conditions, Trailing, Subject, at_end, matching, starts_rule, conditions_at, IsSubject, action_at}
+use Rattle.lexspec.specs.Items.{Conditions, starts_rule, conditions_at, action_at}
 use Rattle.lex_semantics.specs.Sound.{IsCutOf}
-use Rattle.lexspec.specs.RuleItems.{numbers_of, IsTrail}
+use Rattle.lexspec.specs.RuleItems.{numbers_of}
 use Rattle.lexspec.specs.ItemReads.{names_in, NoRules, NoSides, ReadsFront, ReadsItem}
 use Rattle.lexspec_lines.specs.declared.declarations.Declarations.{Declarations}
 use Rattle.lexre_bytes.specs.declared.refusals.SpecErrorKind.{SpecErrorKind}

@@ -12,6 +12,8 @@ pub mod ItemLaws
 pub mod SoFarLaws
 pub mod SkipLaws
 pub mod EndLaws
+pub mod ItemRunLaws
+pub mod RuleRunLaws
 pub mod StepLaws
 pub mod RestLaws
 pub mod AwaitingLaws

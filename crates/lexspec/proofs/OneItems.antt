@@ -7,8 +7,9 @@ use Rattle.lexre.specs.Cutting.{IsCutting}
 use Rattle.lex_semantics.specs.Reading.{after_blanks, begins, take_up_to}
 use Rattle.lex_semantics.specs.ByteSets.{is_blank}
 use Rattle.lexspec_lines.specs.Lines.{line_in, line_at, newlines, is_all_blank}
-use Rattle.lexspec.specs.Items.{Conditions, Trailing, Subject, at_end, matching, Action, Item, skipped, skipped_line, skipped_block, rule, action_at, action_of, starts_rule, IsSides, IsSubject, IsLine, AreItems}
+use Rattle.lexspec.specs.Items.{Conditions, Action, action_at, action_of, starts_rule}
 use Rattle.lexspec.specs.SubjectViews.{sides}
+use Rattle.lexspec.specs.ItemRuns.{ItemsFrom, Item, skipped, skipped_line, skipped_block, rule, IsLine, Trailing, Subject, at_end, matching, IsSides, IsSubject}
 use Rattle.lexspec.proofs.SubjectLaws.{to_cut}
 use Rattle.lexspec_lines.proofs.OneSection.{no_true, two_percents, some_pair}
 
@@ -172,12 +173,12 @@ module _ (cut_once : (t : List ℕ) (stop stop' : ℕ) (at at' : Option ℕ) (tw
   one_item t (rule asked subject action) skipped_block rest rest' a b h k = both_ways (OpensBlock t) b.2 a.2
 
   -- the items of a text are determined
-  pub one_items : (n : ℕ) (t : List ℕ) (is js : List (ℕ × Item)) → AreItems n t is → AreItems n t js → is ≡ js
+  pub one_items : (n : ℕ) (t : List ℕ) (is js : List (ℕ × Item)) → ItemsFrom n t is → ItemsFrom n t js → is ≡ js
   one_items n t [] [] h k = refl
   one_items n t [] (j ∷ js) h (rest, line, item, more) = absurd (no_item_at_end t j.1 rest h item)
   one_items n t (i ∷ is) [] (rest, line, item, more) k = absurd (no_item_at_end t i.1 rest k item)
   one_items n t (i ∷ is) (j ∷ js) (rest, line, item, more) (rest', line', item', more') =
       let same = one_item t i.1 j.1 rest rest' (tests_of t i.1 rest item) (tests_of t j.1 rest' item') item item' in
-      let later = one_items (n + (newlines t - newlines rest')) rest' is js (subst (λ z. AreItems (n + (newlines t - newlines z)) z is) same.1 more) more' in
+      let later = one_items (n + (newlines t - newlines rest')) rest' is js (subst (λ z. ItemsFrom (n + (newlines t - newlines z)) z is) same.1 more) more' in
       let first : ◌≡◌ {A = ℕ × Item} (i.0, i.1) (j.0, j.1) = ap (λ z. (z, i.1)) (line ∙ sym line') ∙ ap (λ z. (j.0, z)) same.0 in
       ap (λ z. z ∷ is) first ∙ ap (λ z. j ∷ z) later

@@ -13,13 +13,17 @@ use Rattle.lexspec_actions.specs.ActionSteps.{end_of}
 use Rattle.lexspec_actions.proofs.EndLemmas.{end_is}
 use Rattle.lexspec_actions.proofs.OneAction.{one_statements}
 use Rattle.lexspec_lines.specs.Lines.{without_returns, line_in, newlines}
-use Rattle.lexspec_lines.specs.DefinitionLines.{definition_at, all_conditions, names_of, has_name, substitutes_of, all_options}
-use Rattle.lexspec.specs.Items.{Conditions, Trailing, no_trail, line_end, pattern_after, at_end, matching, Action, bar, spelled, Item, skipped, skipped_line, skipped_block, rule, AreItems}
+use Rattle.lexspec_lines.specs.DefinitionLines.{definition_at, all_conditions, has_name, substitutes_of, all_options}
+use Rattle.lexspec_lines.specs.Declaring.{names_of}
+use Rattle.lexspec.specs.Items.{Conditions, Action, bar, spelled}
 use Rattle.lex_semantics.specs.Sound.{HasFixed, IsCutOf}
-use Rattle.lexspec.specs.RuleReads.{IsRule}
-use Rattle.lexspec.specs.RuleItems.{IsTrail, EndRule, IsActionOf, AreRules}
+use Rattle.lexspec.specs.RuleReads.{IsRule, RulesFrom, IsTrail, IsActionOf}
+use Rattle.lexspec.specs.RuleItems.{EndRule}
 use Rattle.lexspec.specs.Files.{conditions_with, SpellsSpec}
+use Rattle.lexspec.specs.ItemRuns.{ItemsFrom, Item, skipped, skipped_line, skipped_block, rule, Trailing, no_trail, line_end, pattern_after, at_end, matching}
 use Rattle.lexspec_lines.proofs.OneSection.{one_up_to, separator_ends}
+use Rattle.lexspec.proofs.RuleRunLaws.{file_rules}
+use Rattle.lexspec.proofs.ItemRunLaws.{without_rest}
 use Rattle.lexspec.proofs.OneItems.{one_items}
 use Rattle.lexspec_lines.specs.Folding.{with_fold}
 use Rattle.lexre.specs.declared.options.ReadOptions.{ReadOptions}
@@ -73,7 +77,7 @@ module _ (tree_once : (how : ReadOptions) (definitions : Definitions) (text : Li
 
   -- the rules and the ends of items are determined
   one_rules : (names : List (List ℕ)) (how : ReadOptions) (stack : Bool) (definitions : Definitions) (is : List (ℕ × Item)) (qs rs : List Rule) (es fs : List EndRule) →
-      AreRules names how stack definitions is qs es → AreRules names how stack definitions is rs fs → (qs ≡ rs) × (es ≡ fs)
+      RulesFrom names how stack definitions is qs es → RulesFrom names how stack definitions is rs fs → (qs ≡ rs) × (es ≡ fs)
   one_rules names how stack definitions [] qs rs es fs h k = (h.0 ∙ sym k.0, h.1 ∙ sym k.1)
   one_rules names how stack definitions ((n, skipped) ∷ is) qs rs es fs h k = one_rules names how stack definitions is qs rs es fs h k
   one_rules names how stack definitions ((n, skipped_line) ∷ is) qs rs es fs h k = one_rules names how stack definitions is qs rs es fs h k
@@ -99,12 +103,14 @@ module _ (tree_once : (how : ReadOptions) (definitions : Definitions) (text : Li
     pub one_specification : (how : ReadOptions) (file : List ℕ) (S T : Spec) → SpellsSpec how file S → SpellsSpec how file T → S ≡ T
     one_specification how file S T h k =
         let first = one_up_to definition_at (without_returns file) h.definitions k.definitions h.after k.after h.first_section k.first_section (separator_ends h.after h.separator) (separator_ends k.after k.separator) in
-        let items : h.items ≡ k.items = one_items cut_once (2 + newlines file - newlines k.after) (line_in k.after).1 h.items k.items
-        (subst (λ z. AreItems (2 + newlines file - newlines z) (line_in z).1 h.items) first.1 h.second_section) k.second_section in
-        let all : AreRules (names_of (all_conditions k.definitions)) (with_fold how (has_name (all_options k.definitions) (codes "case-insensitive"))) (has_name (all_options k.definitions) (codes "stack")) (from_entries (substitutes_of k.definitions)) k.items S.rules h.ends =
-        subst (λ z. AreRules (names_of (all_conditions k.definitions)) (with_fold how (has_name (all_options k.definitions) (codes "case-insensitive"))) (has_name (all_options k.definitions) (codes "stack")) (from_entries (substitutes_of k.definitions)) z S.rules h.ends) items
-        (subst (λ z. AreRules (names_of (all_conditions z)) (with_fold how (has_name (all_options z) (codes "case-insensitive"))) (has_name (all_options z) (codes "stack")) (from_entries (substitutes_of z)) h.items S.rules h.ends) first.0 h.rules) in
-        let both = one_rules (names_of (all_conditions k.definitions)) (with_fold how (has_name (all_options k.definitions) (codes "case-insensitive"))) (has_name (all_options k.definitions) (codes "stack")) (from_entries (substitutes_of k.definitions)) k.items S.rules T.rules h.ends k.ends all k.rules in
+        let (is, all_is, here) = without_rest (2 + newlines file - newlines h.after) (line_in h.after).1 h.items h.rest h.second_section in
+        let (js, all_js, here') = without_rest (2 + newlines file - newlines k.after) (line_in k.after).1 k.items k.rest k.second_section in
+        let items : is ≡ js = one_items cut_once (2 + newlines file - newlines k.after) (line_in k.after).1 is js
+        (subst (λ z. ItemsFrom (2 + newlines file - newlines z) (line_in z).1 is) first.1 here) here' in
+        let all : RulesFrom (names_of (all_conditions k.definitions)) (with_fold how (has_name (all_options k.definitions) (codes "case-insensitive"))) (has_name (all_options k.definitions) (codes "stack")) (from_entries (substitutes_of k.definitions)) js S.rules h.ends =
+        subst (λ z. RulesFrom (names_of (all_conditions k.definitions)) (with_fold how (has_name (all_options k.definitions) (codes "case-insensitive"))) (has_name (all_options k.definitions) (codes "stack")) (from_entries (substitutes_of k.definitions)) z S.rules h.ends) items
+        (subst (λ z. RulesFrom (names_of (all_conditions z)) (with_fold how (has_name (all_options z) (codes "case-insensitive"))) (has_name (all_options z) (codes "stack")) (from_entries (substitutes_of z)) is S.rules h.ends) first.0 (file_rules how file S h is all_is)) in
+        let both = one_rules (names_of (all_conditions k.definitions)) (with_fold how (has_name (all_options k.definitions) (codes "case-insensitive"))) (has_name (all_options k.definitions) (codes "stack")) (from_entries (substitutes_of k.definitions)) js S.rules T.rules h.ends k.ends all (file_rules how file T k js all_js) in
         let conditions : S.conditions ≡ T.conditions =
         h.conditions ∙ ap (λ z. conditions_with 0 (all_conditions z) h.ends) first.0 ∙ ap (λ z. conditions_with 0 (all_conditions k.definitions) z) both.1 ∙ sym k.conditions in
         λ i. record { conditions = conditions i; rules = both.0 i }

@@ -14,12 +14,13 @@ use Rattle.lexspec_actions.specs.ActionSteps.{end_of}
 use Rattle.lexspec_actions.proofs.EndLemmas.{end_is}
 use Rattle.lexspec_actions.specs.Statements.{literal_bytes}
 use Rattle.lexspec_actions.proofs.NormalLemmas.{legal_action, end_status}
-use Rattle.lexspec_lines.specs.DefinitionLines.{Declared, names_of}
-use Rattle.lexspec.specs.Files.{lists_number, end_in, conditions_with}
-use Rattle.lexspec.specs.Endings.{unlisted_end, listed_end}
-use Rattle.lexspec.specs.Items.{Conditions, Trailing, at_end, matching, Action, bar, spelled, Item, skipped, skipped_line, skipped_block, rule}
-use Rattle.lexspec.specs.RuleReads.{IsRule}
-use Rattle.lexspec.specs.RuleItems.{EndRule, IsActionOf, AreRules}
+use Rattle.lexspec_lines.specs.Declaring.{Declared, names_of}
+use Rattle.lexspec.specs.ItemRuns.{Item, skipped, skipped_line, skipped_block, rule, Trailing, at_end, matching}
+use Rattle.lexspec.specs.Files.{end_in, conditions_with}
+use Rattle.lexspec.specs.Endings.{unlisted_end, listed_end, lists_number}
+use Rattle.lexspec.specs.Items.{Conditions, Action, bar, spelled}
+use Rattle.lexspec.specs.RuleReads.{IsRule, RulesFrom, IsActionOf}
+use Rattle.lexspec.specs.RuleItems.{EndRule}
 use Rattle.lexspec_lines.specs.Declaring.{declared_of}
 use Rattle.lexspec.specs.ItemReads.{names_in}
 use Rattle.lexspec_lines.specs.declared.declarations.Declarations.{Declarations}
@@ -61,7 +62,7 @@ spelled_acts names stack text ss some h =
     let legal = legal_action names stack text ss some h in
     let few = and_parts (are_few ss && ends_last ss) (are_compatible ss) h.1 in (
       and_from (all_in_range n ss && ends_last ss && are_joined ss) (are_compatible ss)
-          (and_from (all_in_range n ss && ends_last ss) (are_joined ss) (and_from (all_in_range n ss) (ends_last ss) legal.ranges legal.last) legal.joined) legal.compatible,
+          (and_from (all_in_range n ss && ends_last ss) (are_joined ss) (and_from (all_in_range n ss) (ends_last ss) legal.0.ranges legal.0.last) legal.1) legal.0.compatible,
       (and_parts (are_few ss) (ends_last ss) few.0).0,
     )
 
@@ -93,7 +94,7 @@ module _ (names : List (List ℕ)) (how : ReadOptions) (stack : Bool) (defined :
       rule_passes (length names) r (numbers_ordered (number_from 0 names) (length names) asked r.conditions h.0.listed) sides
       (cut_is_tested r.cut r.head r.trail sides.0 sides.1 h.0.cut_is) (action_acts names stack action rs r.statements some h.2 pass)
 
-  pub rules_pass : (is : List (ℕ × Item)) (rs : List Rule) (ends : List EndRule) → AreRules names how stack defined is rs ends → HaveSoundSides rs → sound_rules (length names) rs ≡ true
+  pub rules_pass : (is : List (ℕ × Item)) (rs : List Rule) (ends : List EndRule) → RulesFrom names how stack defined is rs ends → HaveSoundSides rs → sound_rules (length names) rs ≡ true
   rules_pass [] rs ends h sides = ap (sound_rules (length names)) h.0
   rules_pass ((n, skipped) ∷ is) rs ends h sides = rules_pass is rs ends h sides
   rules_pass ((n, skipped_line) ∷ is) rs ends h sides = rules_pass is rs ends h sides
@@ -114,7 +115,7 @@ module _ (names : List (List ℕ)) (how : ReadOptions) (stack : Bool) (defined :
   AreSmall [] = Unit {0}
   AreSmall (e ∷ ends) = IsSmall e.1 × AreSmall ends
 
-  pub ends_small : (is : List (ℕ × Item)) (rs : List Rule) (ends : List EndRule) → AreRules names how stack defined is rs ends → AreSmall ends
+  pub ends_small : (is : List (ℕ × Item)) (rs : List Rule) (ends : List EndRule) → RulesFrom names how stack defined is rs ends → AreSmall ends
   ends_small [] rs ends h = subst AreSmall (sym h.1) tt
   ends_small ((n, skipped) ∷ is) rs ends h = ends_small is rs ends h
   ends_small ((n, skipped_line) ∷ is) rs ends h = ends_small is rs ends h
@@ -152,10 +153,10 @@ length_with k (c ∷ cs) ends = ap suc (length_with (suc k) cs ends)
 
 -- The specification passes: its conditions are few, its rules are few, and their sides are sound.
 pub spec_passes : (cs : List Declared) (how : ReadOptions) (stack : Bool) (defined : Definitions) (is : List (ℕ × Item)) (rs : List Rule) (ends : List EndRule) → 1 ≤ length cs → length cs ≤ max_conditions → length rs ≤ max_rules
-    → AreRules (names_of cs) how stack defined is rs ends → HaveSoundSides rs → is_sound (record { conditions = conditions_with 0 cs ends; rules = rs }) ≡ true
+    → RulesFrom (names_of cs) how stack defined is rs ends → HaveSoundSides rs → is_sound (record { conditions = conditions_with 0 cs ends; rules = rs }) ≡ true
 spec_passes cs how stack defined is rs ends some few few_rules h sides =
     let conditions = conditions_with 0 cs ends in
-    let named : length (names_of cs) ≡ length cs = length-map cs (λ (c : Declared). c.name) in
+    let named : length (names_of cs) ≡ length cs = length-map cs (λ (c : Declared). c.1) in
     let count : length conditions ≡ length cs = length_with 0 cs ends in
     let some_name : 1 ≤ length (names_of cs) = omega arith in
     let same : length (names_of cs) ≡ length conditions = named ∙ sym count in
@@ -169,7 +170,7 @@ spec_passes cs how stack defined is rs ends some few few_rules h sides =
 
 -- The same of what the code keeps: the declared conditions, with their ends.
 pub kept_passes : (d : Declarations) (how : ReadOptions) (stack : Bool) (defined : Definitions) (is : List (ℕ × Item)) (rs : List Rule) (ends : List EndRule) (cs : List Condition) → 1 ≤ length d.conditions.items
-    → length d.conditions.items ≤ max_conditions → length rs ≤ max_rules → AreRules (names_in d) how stack defined is rs ends → HaveSoundSides rs → cs ≡ conditions_with 0 (map declared_of d.conditions.items) ends
+    → length d.conditions.items ≤ max_conditions → length rs ≤ max_rules → RulesFrom (names_in d) how stack defined is rs ends → HaveSoundSides rs → cs ≡ conditions_with 0 (map declared_of d.conditions.items) ends
     → is_sound (record { conditions = cs; rules = rs }) ≡ true
 kept_passes d how stack defined is rs ends cs some few few_rules h sides are =
     let kept = map declared_of d.conditions.items in
@@ -177,4 +178,4 @@ kept_passes d how stack defined is rs ends cs some few few_rules h sides are =
     let some_kept : 1 ≤ length kept = omega arith in
     let few_kept : length kept ≤ max_conditions = omega arith in
     ap (λ z. is_sound (record { conditions = z; rules = rs })) are
-    ∙ spec_passes kept how stack defined is rs ends some_kept few_kept few_rules (subst (λ ns. AreRules ns how stack defined is rs ends) (sym (names_kept d.conditions.items)) h) sides
+    ∙ spec_passes kept how stack defined is rs ends some_kept few_kept few_rules (subst (λ ns. RulesFrom ns how stack defined is rs ends) (sym (names_kept d.conditions.items)) h) sides

@@ -1,18 +1,19 @@
 -- Whole files, from their sections.
 use Rattle.std.proofs.Common.{◌≡◌, ℕ, ◌+◌, ◌-◌, ◌≤◌, ◌==◌, ◌&&◌, Bool, true, false, if◌then◌else◌, List, [], ◌∷◌, ◌++◌, map, length, refl, sym, ap, subst, ◌∙◌, arith, length-append}
-use Rattle.std.specs.Prelude.{cond, codes, Result, Ok, Err, IfOk, IfErr}
+use Rattle.std.specs.Prelude.{Some, cond, codes, Result, Ok, Err, IfOk, IfErr}
 use Rattle.std.specs.FinMap.{from_entries}
 use Rattle.std.proofs.lemmas.List.{length-map}
 use Rattle.std.proofs.lemmas.List.Sums.{sum_by-cons}
 use Rattle.std.proofs.lemmas.Bool.{and_parts, eqb-true}
 use Rattle.lex_semantics.specs.Spec.{Spec}
-use Rattle.lex_semantics.specs.Reading.{begins}
+use Rattle.lex_semantics.specs.Reading.{◌>>=◌, IsCut, begins}
 use Rattle.lexspec_lines.specs.Lines.{without_returns, line_in, newlines}
-use Rattle.lexspec_lines.specs.DefinitionLines.{Definition, definition_at, IsUpTo, all_conditions, names_of, has_name, substitutes_of, all_options}
+use Rattle.lexspec_lines.specs.DefinitionLines.{Definition, definition_at, IsUpTo, all_conditions, has_name, substitutes_of, all_options}
+use Rattle.lexspec_lines.specs.Declaring.{names_of}
 use Rattle.lexspec_lines.specs.Declaring.{declared_of, AreAllowed}
-use Rattle.lexspec.specs.Items.{IsLine, AreItems}
-use Rattle.lexspec.specs.Skipped.{code_of_item, user_section, EndsRules, AreSkipped}
-use Rattle.lexspec.specs.RuleItems.{AreRules}
+use Rattle.lexspec.specs.RuleReads.{RulesFrom}
+use Rattle.lexspec.specs.Items.{AreItems}
+use Rattle.lexspec.specs.Skipped.{user_section, AreSkipped}
 use Rattle.lexspec.specs.Files.{AreSingle, conditions_with, SpellsSpec}
 use Rattle.lexspec.specs.ItemReads.{names_in}
 use Rattle.lexspec.specs.RulesReads.{HasRules}
@@ -28,16 +29,21 @@ use Rattle.lexre_bytes.specs.declared.refusals.SpecErrorKind.{SpecErrorKind}
 use Rattle.lexspec.specs.declared.spec.Spec.{Spec as SpecOfCode}
 use Rattle.lexspec_lines.specs.declared.declarations.Declarations.{Declarations}
 use Rattle.lexspec.specs.declared.rules_section.RulesSection.{RulesSection}
+use Rattle.lexspec.specs.ItemRuns.{ItemsFrom, EndsRules, IsLine, code_of_item}
 use Rattle.lexspec_lines.specs.declared.section.Section.{Section}
 use Rattle.lexspec_lines.specs.declared.skipped.Skipped.{Skipped}
-use Rattle.lexspec_lines.specs.SkippedCode.{told_lines, code_of_definition, AreFrom, code_in}
+use Rattle.lexspec_lines.specs.SkippedCode.{told_lines, code_of_definition}
+use Rattle.lexspec_lines.specs.Skips.{AreFrom}
+use Rattle.std.specs.Prelude.{flat_map}
 use Rattle.lexspec_lines.specs.Skips.{TellsPieces}
 use Rattle.lexspec_lines.proofs.CodeLaws.{lines_told}
-use Rattle.lexspec_lines.proofs.DeclaringLaws.{names_kept}
+use Rattle.lexspec_lines.proofs.DeclaringLaws.{names_kept, test_distinct, distinct_test}
 use Rattle.lexspec_lines.proofs.OneSection.{separator_ends, one_up_to}
 use Rattle.lexre_bytes.proofs.MemoryLaws.{unless_memory}
 use Rattle.lexspec.proofs.PassLaws.{kept_passes, length_with}
 use Rattle.lexspec.proofs.RestLaws.{newlines_few}
+use Rattle.lexspec.proofs.RuleRunLaws.{rules_first, file_rules}
+use Rattle.lexspec.proofs.ItemRunLaws.{all_as, same_code, with_rest, without_rest, numbered_items, numbered_lines}
 use Rattle.lexspec_lines.proofs.SectionLaws.{EndsWith, ends_on, definition_ends}
 use Rattle.lex_semantics.specs.Limits.{max_conditions, max_file_bytes, max_rules}
 use Rattle.lexspec_lines.specs.Folding.{with_fold}
@@ -105,23 +111,25 @@ spelled how file s S short h r =
     let line : s.line + 1 ≡ 2 + newlines file - newlines s.rest.now = omega (arith, h.line, newlines_kept file) in
     let count = count_is how (without_returns file) s h in
     let conditions : S.conditions ≡ conditions_with 0 (all_conditions h.definitions) r.ends = r.conditions ∙ ap (λ z. conditions_with 0 z r.ends) h.declares.conditions in
-    let few = h.allowed.0.1 in
+    let (rest, second) = with_rest (s.line + 1) (line_in s.rest.now).1 r.items r.here in
     record {
       short = short;
       definitions = h.definitions;
       after = s.rest.now;
       first_section = h.lines;
       separator = h.separator;
-      items = r.items;
-      second_section = subst (λ z. AreItems z (line_in s.rest.now).1 r.items) line r.here;
-      names = h.allowed.0.0;
-      defined_once = h.allowed.1;
+      items = all_as r.items;
+      rest = rest;
+      second_section = subst (λ z. AreItems z (line_in s.rest.now).1 (all_as r.items) rest) line second;
+      names = test_distinct (names_of (all_conditions h.definitions)) h.allowed.0.0;
+      defined_once = test_distinct (map (λ (d : List ℕ × List ℕ). d.0) (substitutes_of h.definitions)) h.allowed.1;
       options = h.allowed.2;
       ends = r.ends;
-      rules = subst (λ z. AreRules z (with_fold how (has_name (all_options h.definitions) (codes "case-insensitive"))) (has_name (all_options h.definitions) (codes "stack")) (from_entries (substitutes_of h.definitions)) r.items S.rules r.ends) names
-          (subst (λ z. AreRules (names_in d) z (has_name (all_options h.definitions) (codes "stack")) (from_entries (substitutes_of h.definitions)) r.items S.rules r.ends) h.declares.reads
-          (subst (λ z. AreRules (names_in d) d.options z (from_entries (substitutes_of h.definitions)) r.items S.rules r.ends) h.declares.stacks
-          (subst (λ z. AreRules (names_in d) d.options d.stack z r.items S.rules r.ends) h.declares.definitions r.are)));
+      rules = rules_first (names_of (all_conditions h.definitions)) (with_fold how (has_name (all_options h.definitions) (codes "case-insensitive"))) (has_name (all_options h.definitions) (codes "stack"))
+          (from_entries (substitutes_of h.definitions)) r.items S.rules r.ends (subst (λ z. RulesFrom z (with_fold how (has_name (all_options h.definitions) (codes "case-insensitive"))) (has_name (all_options h.definitions) (codes "stack")) (from_entries (substitutes_of h.definitions)) r.items S.rules r.ends) names
+          (subst (λ z. RulesFrom (names_in d) z (has_name (all_options h.definitions) (codes "stack")) (from_entries (substitutes_of h.definitions)) r.items S.rules r.ends) h.declares.reads
+          (subst (λ z. RulesFrom (names_in d) d.options z (from_entries (substitutes_of h.definitions)) r.items S.rules r.ends) h.declares.stacks
+          (subst (λ z. RulesFrom (names_in d) d.options d.stack z r.items S.rules r.ends) h.declares.definitions r.are))));
       one_end = subst (λ z. AreSingle z r.ends) count r.one_end;
       conditions = conditions;
       few_conditions = omega (arith, ap length conditions, length_with 0 (all_conditions h.definitions) r.ends);
@@ -131,19 +139,20 @@ spelled how file s S short h r =
 pub rest_of : (how : ReadOptions) (file : List ℕ) (s : Section) (S : Spec) → HasSection how (without_returns file) s → SpellsSpec how file S → SpellsRest s S
 rest_of how file s S h k =
     let d = s.declarations in
+    let (items, all, here) = without_rest (2 + newlines file - newlines k.after) (line_in k.after).1 k.items k.rest k.second_section in
     let same = one_up_to definition_at (without_returns file) k.definitions h.definitions k.after s.rest.now k.first_section h.lines (separator_ends k.after k.separator) (separator_ends s.rest.now h.separator) in
     let names : names_of (all_conditions h.definitions) ≡ names_in d = ap names_of (sym h.declares.conditions) ∙ names_kept d.conditions.items in
     let line : 2 + newlines file - newlines s.rest.now ≡ s.line + 1 = omega (arith, h.line, newlines_kept file) in
-    let are : AreRules (names_of (all_conditions h.definitions)) (with_fold how (has_name (all_options h.definitions) (codes "case-insensitive"))) (has_name (all_options h.definitions) (codes "stack")) (from_entries (substitutes_of h.definitions)) k.items S.rules k.ends =
-    subst (λ z. AreRules (names_of (all_conditions z)) (with_fold how (has_name (all_options z) (codes "case-insensitive"))) (has_name (all_options z) (codes "stack")) (from_entries (substitutes_of z)) k.items S.rules k.ends) same.0 k.rules in
+    let are : RulesFrom (names_of (all_conditions h.definitions)) (with_fold how (has_name (all_options h.definitions) (codes "case-insensitive"))) (has_name (all_options h.definitions) (codes "stack")) (from_entries (substitutes_of h.definitions)) items S.rules k.ends =
+    subst (λ z. RulesFrom (names_of (all_conditions z)) (with_fold how (has_name (all_options z) (codes "case-insensitive"))) (has_name (all_options z) (codes "stack")) (from_entries (substitutes_of z)) items S.rules k.ends) same.0 (file_rules how file S k items all) in
     record {
-      items = k.items;
-      here = subst (λ z. AreItems z (line_in s.rest.now).1 k.items) line (subst (λ z. AreItems (2 + newlines file - newlines z) (line_in z).1 k.items) same.1 k.second_section);
+      items = items;
+      here = subst (λ z. ItemsFrom z (line_in s.rest.now).1 items) line (subst (λ z. ItemsFrom (2 + newlines file - newlines z) (line_in z).1 items) same.1 here);
       ends = k.ends;
-      are = subst (λ z. AreRules (names_in d) d.options d.stack z k.items S.rules k.ends) (sym h.declares.definitions)
-          (subst (λ z. AreRules (names_in d) d.options z (from_entries (substitutes_of h.definitions)) k.items S.rules k.ends) (sym h.declares.stacks)
-          (subst (λ z. AreRules (names_in d) z (has_name (all_options h.definitions) (codes "stack")) (from_entries (substitutes_of h.definitions)) k.items S.rules k.ends) (sym h.declares.reads)
-          (subst (λ z. AreRules z (with_fold how (has_name (all_options h.definitions) (codes "case-insensitive"))) (has_name (all_options h.definitions) (codes "stack")) (from_entries (substitutes_of h.definitions)) k.items S.rules k.ends) names are)));
+      are = subst (λ z. RulesFrom (names_in d) d.options d.stack z items S.rules k.ends) (sym h.declares.definitions)
+          (subst (λ z. RulesFrom (names_in d) d.options z (from_entries (substitutes_of h.definitions)) items S.rules k.ends) (sym h.declares.stacks)
+          (subst (λ z. RulesFrom (names_in d) z (has_name (all_options h.definitions) (codes "stack")) (from_entries (substitutes_of h.definitions)) items S.rules k.ends) (sym h.declares.reads)
+          (subst (λ z. RulesFrom z (with_fold how (has_name (all_options h.definitions) (codes "case-insensitive"))) (has_name (all_options h.definitions) (codes "stack")) (from_entries (substitutes_of h.definitions)) items S.rules k.ends) names are)));
       one_end = subst (λ z. AreSingle z k.ends) (sym (count_is how (without_returns file) s h)) (subst (λ z. AreSingle (length (all_conditions z)) k.ends) same.0 k.one_end);
       conditions = k.conditions ∙ ap (λ z. conditions_with 0 (all_conditions z) k.ends) same.0 ∙ ap (λ z. conditions_with 0 z k.ends) (sym h.declares.conditions);
       few_rules = k.few_rules;
@@ -154,7 +163,8 @@ pub no_section : (how : ReadOptions) (file : List ℕ) → ((ds : List Definitio
     → (S : Spec) → SpellsSpec how file S → ⊥
 no_section how file none S k =
     let few : length (all_conditions k.definitions) ≤ max_conditions = omega (arith, k.few_conditions, ap length k.conditions, length_with 0 (all_conditions k.definitions) k.ends) in
-    none k.definitions k.after k.first_section k.separator ((k.names, few), k.defined_once, k.options)
+    none k.definitions k.after k.first_section k.separator
+    ((distinct_test (names_of (all_conditions k.definitions)) k.names, few), distinct_test (map (λ (d : List ℕ × List ℕ). d.0) (substitutes_of k.definitions)) k.defined_once, k.options)
 
 -- the answers of the reader
 
@@ -194,8 +204,8 @@ rest_skipped (Ok o) s x k text is told over line lines =
       rest = x.rest.now;
       pieces = subst (λ z. AreFrom IsLine (s.line + 1) z items x.rest.now) is told.numbered;
       stops = over;
-      lines_are = lines ∙ ap (λ z. s.declarations.skipped.lines.items ++ z ++ user_section x.line x.rest.now) (lines_told (code_in code_of_item items) k told.told)
-          ∙ ap (λ z. s.declarations.skipped.lines.items ++ told_lines 0 (code_in code_of_item items) ++ user_section z x.rest.now) place;
+      lines_are = lines ∙ ap (λ z. s.declarations.skipped.lines.items ++ z ++ user_section x.line x.rest.now) (lines_told (flat_map code_of_item items) k told.told)
+          ∙ ap (λ z. s.declarations.skipped.lines.items ++ told_lines 0 (flat_map code_of_item items) ++ user_section z x.rest.now) place;
     }
 
 skipped_all : (how : ReadOptions) (file lines : List ℕ) (s : Section) → HasSection how (without_returns file) s → SkipsRest s lines → AreSkipped file lines
@@ -205,15 +215,18 @@ skipped_all how file lines s h r =
     record {
       definitions = definitions;
       after = s.rest.now;
-      first_section = h.code.numbered;
+      first_section = subst (λ z. IsCut (λ t. definition_at t >>= λ (d, rest). Some ((1 + z - newlines t, d), rest)) (λ t. t ≡ s.rest.now) (without_returns file) definitions)
+          (newlines_kept file) (numbered_lines (1 + newlines (without_returns file)) (without_returns file) definitions s.rest.now h.code.numbered);
       separator = h.separator;
-      items = r.items;
+      items = all_as r.items;
       rest = r.rest;
-      second_section = subst (λ z. AreFrom IsLine z (line_in s.rest.now).1 r.items r.rest) line r.pieces;
-      stops = r.stops;
-      lines_are = r.lines_are ∙ ap (λ z. z ++ told_lines 0 (code_in code_of_item r.items) ++ user_section (s.line + 1 + newlines (line_in s.rest.now).1 - newlines r.rest) r.rest)
-          (lines_told (code_in code_of_definition definitions) s.declarations.skipped h.code.told)
-          ∙ ap (λ z. told_lines 0 (code_in code_of_definition definitions) ++ told_lines 0 (code_in code_of_item r.items) ++ user_section (z + newlines (line_in s.rest.now).1 - newlines r.rest) r.rest) line;
+      second_section = subst (λ z. AreItems z (line_in s.rest.now).1 (all_as r.items) r.rest) line
+          (numbered_items (s.line + 1 + newlines (line_in s.rest.now).1) (s.line + 1) (line_in s.rest.now).1 r.items r.rest refl r.stops r.pieces);
+      lines_are = r.lines_are ∙ ap (λ z. z ++ told_lines 0 (flat_map code_of_item r.items) ++ user_section (s.line + 1 + newlines (line_in s.rest.now).1 - newlines r.rest) r.rest)
+          (lines_told (flat_map code_of_definition definitions) s.declarations.skipped h.code.told)
+          ∙ ap (λ z. told_lines 0 (flat_map code_of_definition definitions) ++ told_lines 0 (flat_map code_of_item r.items) ++ user_section (z + newlines (line_in s.rest.now).1 - newlines r.rest) r.rest) line
+          ∙ ap (λ z. told_lines 0 (flat_map code_of_definition definitions) ++ told_lines 0 z
+          ++ user_section (2 + newlines file - newlines s.rest.now + newlines (line_in s.rest.now).1 - newlines r.rest) r.rest) (same_code r.items);
     }
 
 pub all_skipped : (r : Result SpecOfCode SpecError) (how : ReadOptions) (file kept : File) (s : Section) → kept ≡ without_returns file → HasSection how kept s

@@ -10,18 +10,24 @@ use Rattle.lexre.specs.Cutting.{IsCutting}
 use Rattle.lexre.specs.PatternExamples.{plain}
 use Rattle.lexre.proofs.CuttingLaws.{one_cutting}
 use Rattle.lexre_bytes.specs.Lexical.{name_at}
-use Rattle.lexspec_lines.specs.DefinitionLines.{Definition, declares, options, defines, definition_at, definition_in, percent_line, IsUpTo, all_conditions, names_of, has_name, substitutes_of, all_options, are_distinct}
+use Rattle.lexspec_lines.specs.DefinitionLines.{Definition, declares, options, defines, definition_at, definition_in, percent_line, IsUpTo, all_conditions, has_name, substitutes_of, all_options}
+use Rattle.lexspec_lines.specs.Declaring.{names_of, are_distinct}
 use Rattle.lexspec_lines.specs.DefinitionViews.{are_known}
 use Rattle.lexspec_lines.specs.Folding.{with_fold}
 use Rattle.lexspec_lines.specs.Lines.{without_returns, line_in, newlines}
+use Rattle.lexspec_lines.proofs.DeclaringLaws.{distinct_test}
 use Rattle.lexspec_lines.proofs.OneSection.{no_true, one_up_to, separator_ends}
+use Rattle.lexspec.specs.RuleReads.{RulesFrom}
 use Rattle.lexspec.specs.Files.{AreSingle, SpellsSpec}
 use Rattle.lexspec.specs.Endings.{is_unlisted}
-use Rattle.lexspec.specs.Items.{unlisted, only, no_trail, at_end, matching, bar, spelled, Item, rule, conditions_at, AreItems, after_piece, action_end, action_at}
-use Rattle.lexspec.specs.RuleItems.{EndRule, AreRules}
+use Rattle.lexspec.specs.Items.{unlisted, only, bar, spelled, conditions_at, after_piece, action_end, action_at}
+use Rattle.lexspec.specs.RuleItems.{EndRule}
 use Rattle.lexspec.specs.SpecExamples as Example
+use Rattle.lexspec.specs.ItemRuns.{ItemsFrom, Item, rule, no_trail, at_end, matching}
 use Rattle.lexspec.proofs.ComputedSections.{a_here}
 use Rattle.lexspec.proofs.OneItems.{one_items}
+use Rattle.lexspec.proofs.RuleRunLaws.{file_rules}
+use Rattle.lexspec.proofs.ItemRunLaws.{without_rest}
 
 -- the definitions of a file are those up to a text where there is none
 one_section : (file after : List ℕ) (ds : List Definition) → IsUpTo definition_at (without_returns file) ds after → definition_at after ≡ None
@@ -30,15 +36,16 @@ one_section file after ds first stop S h =
     one_up_to definition_at (without_returns file) h.definitions ds h.after after h.first_section first (separator_ends h.after h.separator) stop
 
 -- what a file without definitions spells, by its items
-spells_items : (file : List ℕ) (items : List (ℕ × Item)) → definition_at (without_returns file) ≡ None → AreItems (2 + newlines file - newlines (without_returns file)) (line_in (without_returns file)).1 items
-    → (S : Spec) → SpellsSpec plain file S → (ends : List EndRule) × AreRules (codes "INITIAL" ∷ []) plain false (from_entries []) items S.rules ends × AreSingle 1 ends
+spells_items : (file : List ℕ) (items : List (ℕ × Item)) → definition_at (without_returns file) ≡ None → ItemsFrom (2 + newlines file - newlines (without_returns file)) (line_in (without_returns file)).1 items
+    → (S : Spec) → SpellsSpec plain file S → (ends : List EndRule) × RulesFrom (codes "INITIAL" ∷ []) plain false (from_entries []) items S.rules ends × AreSingle 1 ends
 spells_items file items stop second S h =
     let same = one_section file (without_returns file) [] refl stop S h in
-    let all : h.items ≡ items = one_items cut_once (2 + newlines file - newlines (without_returns file)) (line_in (without_returns file)).1 h.items items
-    (subst (λ z. AreItems (2 + newlines file - newlines z) (line_in z).1 h.items) same.1 h.second_section) second in (
+    let (is, kept, here) = without_rest (2 + newlines file - newlines h.after) (line_in h.after).1 h.items h.rest h.second_section in
+    let all : is ≡ items = one_items cut_once (2 + newlines file - newlines (without_returns file)) (line_in (without_returns file)).1 is items
+    (subst (λ z. ItemsFrom (2 + newlines file - newlines z) (line_in z).1 is) same.1 here) second in (
       h.ends,
-      subst (λ z. AreRules (codes "INITIAL" ∷ []) plain false (from_entries []) z S.rules h.ends) all
-          (subst (λ ds. AreRules (names_of (all_conditions ds)) (with_fold plain (has_name (all_options ds) (codes "case-insensitive"))) (has_name (all_options ds) (codes "stack")) (from_entries (substitutes_of ds)) h.items S.rules h.ends) same.0 h.rules),
+      subst (λ z. RulesFrom (codes "INITIAL" ∷ []) plain false (from_entries []) z S.rules h.ends) all
+          (subst (λ ds. RulesFrom (names_of (all_conditions ds)) (with_fold plain (has_name (all_options ds) (codes "case-insensitive"))) (has_name (all_options ds) (codes "stack")) (from_entries (substitutes_of ds)) is S.rules h.ends) same.0 (file_rules plain file S h is kept)),
       subst (λ ds. AreSingle (length (all_conditions ds)) h.ends) same.0 h.one_end,
     )
   where
@@ -62,14 +69,14 @@ unfolding definition_at percent_line take_up_to is_alpha is_upper is_lower is_al
 declared_twice S h =
     let same =
     one_section (codes "%s A\n%x A\n%%\n") (codes "%%\n") (declares false (codes "A" ∷ []) ∷ declares true (codes "A" ∷ []) ∷ []) (codes "%x A\n%%\n", refl, (codes "%%\n", refl, refl)) refl S h in
-    no_true (sym (ap (λ ds. are_distinct (names_of (all_conditions ds))) same.0) ∙ h.names)
+    no_true (sym (ap (λ ds. are_distinct (names_of (all_conditions ds))) same.0) ∙ distinct_test (names_of (all_conditions h.definitions)) h.names)
 
 defined_twice : Example.IsNone (codes "D a\nD b\n%%\n")
 unfolding definition_at definition_in name_at take_up_to is_alpha is_upper is_lower is_alnum is_blank is_digit
 defined_twice S h =
     let same =
     one_section (codes "D a\nD b\n%%\n") (codes "%%\n") (defines (codes "D") (codes "a") ∷ defines (codes "D") (codes "b") ∷ []) (codes "D b\n%%\n", refl, (codes "%%\n", refl, refl)) refl S h in
-    no_true (sym (ap (λ ds. are_distinct (map (λ (d : List ℕ × List ℕ). d.0) (substitutes_of ds))) same.0) ∙ h.defined_once)
+    no_true (sym (ap (λ ds. are_distinct (map (λ (d : List ℕ × List ℕ). d.0) (substitutes_of ds))) same.0) ∙ distinct_test (map (λ (d : List ℕ × List ℕ). d.0) (substitutes_of h.definitions)) h.defined_once)
 
 not_declared : Example.IsNone (codes "%%\n<A>a ECHO;\n")
 unfolding definition_at conditions_at take_up_to is_blank action_at action_end after_piece

@@ -4,14 +4,12 @@ use Rattle.std.specs.Prelude.{Result, Ok, Err, IfOk, IfErr}
 use Rattle.std.proofs.lemmas.List.{append-nil, length-map}
 use Rattle.std.proofs.lemmas.List.Sums.{count_by-le-length}
 use Rattle.lex_semantics.specs.Spec as S
-use Rattle.lexspec.specs.Items.{Item, IsLine, AreItems}
-use Rattle.lexspec.specs.Skipped.{EndsRules, code_of_item}
 use Rattle.lexspec_lines.specs.Lines.{newlines}
 use Rattle.lexspec_lines.specs.SkippedCode.{Code}
 use Rattle.lexspec_lines.specs.Skips.{TellsCode, TellsPieces}
 use Rattle.lexspec_lines.specs.declared.skipped.Skipped.{Skipped}
-use Rattle.lexspec.specs.RuleItems.{EndRule, AreRules}
-use Rattle.lexspec.specs.RuleReads.{Left, may_wait}
+use Rattle.lexspec.specs.RuleItems.{EndRule}
+use Rattle.lexspec.specs.RuleReads.{Left, may_wait, RulesFrom}
 use Rattle.lexspec.specs.RuleViews.{rule_of}
 use Rattle.lexspec.specs.EndRules.{end_rule_of}
 use Rattle.lexspec.specs.ItemReads.{names_in, NoneLeft}
@@ -33,6 +31,7 @@ use Rattle.lexre_bytes.proofs.MemoryLaws.{unless_memory, always}
 use Rattle.lexspec.proofs.RulesLaws.{agree_first}
 use Rattle.lexspec_lines.proofs.CodeLaws.{tells_more}
 use Rattle.lexspec.specs.SkipViews.{TakesItem}
+use Rattle.lexspec.specs.ItemRuns.{ItemsFrom, EndsRules, Item, IsLine, code_of_item}
 use Rattle.lex_semantics.specs.Limits.{max_rules}
 
 pub over_empty : (t : List ℕ) → length t ≡ 0 → EndsRules t
@@ -52,7 +51,7 @@ module _ (d : Declarations) where
         on = (λ R E left. rw (e, f, g) (a.on R E left));
       }
 
-  left_of : (n : ℕ) (t : List ℕ) (items : List (ℕ × Item)) (R : List S.Rule) (E : List EndRule) → AreItems n t items → AreRules (names_in d) d.options d.stack d.definitions items R E
+  left_of : (n : ℕ) (t : List ℕ) (items : List (ℕ × Item)) (R : List S.Rule) (E : List EndRule) → ItemsFrom n t items → RulesFrom (names_in d) d.options d.stack d.definitions items R E
       → Left (names_in d) d.options d.stack d.definitions n t [] R E
   left_of n t items R E here are = record { items = items; here = here; later = R; are = are; next = refl; whole = refl }
 
@@ -69,7 +68,7 @@ module _ (d : Declarations) where
   pub end_waits : (n : ℕ) (t : List ℕ) (s : RulesSoFar) (e : SpecErrorKind) → EndsRules t → (length s.waiting.items ≡ 0 → ⊥) → UnlessMemory e (NoneLeft d s n t)
   end_waits n t s e over some = always e (NoneLeft d s n t) (λ R E left may. from s.waiting.items some left.items left.here left.next)
     where
-      from : (ws : List Rule) → (length ws ≡ 0 → ⊥) → (is : List (ℕ × Item)) → AreItems n t is → may_wait (map rule_of ws) is ≡ true → ⊥
+      from : (ws : List Rule) → (length ws ≡ 0 → ⊥) → (is : List (ℕ × Item)) → ItemsFrom n t is → may_wait (map rule_of ws) is ≡ true → ⊥
       from [] h is here next = h refl
       from (w ∷ ws) h [] here next = no_true next
       from (w ∷ ws) h (i ∷ is) (rest, first, item, more) next = no_item_at_end t i.1 rest over item
@@ -84,8 +83,8 @@ module _ (d : Declarations) where
       record {
         items = all.items;
         here = all.here;
-        are = rw (rules, ends) (subst (λ z. AreRules (names_in d) d.options d.stack d.definitions all.items z (map end_rule_of s.ends.items)) R
-            (subst (λ z. AreRules (names_in d) d.options d.stack d.definitions all.items all.later z) (append-nil (map end_rule_of s.ends.items)) all.are));
+        are = rw (rules, ends) (subst (λ z. RulesFrom (names_in d) d.options d.stack d.definitions all.items z (map end_rule_of s.ends.items)) R
+            (subst (λ z. RulesFrom (names_in d) d.options d.stack d.definitions all.items all.later z) (append-nil (map end_rule_of s.ends.items)) all.are));
         stops = subst EndsRules (sym rest) over;
         sound = subst (λ z. HaveSoundSides (map rule_of z)) (sym rules) keeps.sound.0;
         single = subst (λ z. AreSingle (length d.conditions.items) (map end_rule_of z)) (sym ends) keeps.single;

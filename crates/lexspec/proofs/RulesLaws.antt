@@ -13,11 +13,12 @@ use Rattle.lexre.proofs.OneTree.{one_tree}
 use Rattle.lexspec_actions.specs.Names.{number_from, known_in}
 use Rattle.lexspec_actions.specs.Actions.{SpellsAction, SpellsEndAction}
 use Rattle.lex_semantics.specs.Reading.{after_blanks, take_up_to}
-use Rattle.lexspec.specs.Items.{Conditions, Trailing, Subject, at_end, matching, Action, bar, spelled, Item, skipped, skipped_line, skipped_block, rule, conditions_at, IsSubject, action_at, action_of, starts_rule, IsLine, AreItems}
+use Rattle.lexspec.specs.Items.{Conditions, Action, bar, spelled, conditions_at, action_at, action_of, starts_rule}
 use Rattle.lexspec_lines.specs.Lines.{newlines}
 use Rattle.lex_semantics.specs.Sound.{IsCutOf}
-use Rattle.lexspec.specs.RuleItems.{numbers_of, IsTrail, EndRule, IsActionOf, goes_to_rule, AreRules, HasHead}
-use Rattle.lexspec.specs.RuleReads.{acting, first_statements, filled, may_wait, Left, IsRule}
+use Rattle.lexspec.specs.RuleItems.{numbers_of, EndRule}
+use Rattle.lexspec.specs.RuleReads.{acting, first_statements, filled, may_wait, Left, IsRule, goes_to_rule, RulesFrom, IsTrail, HasHead, IsActionOf}
+use Rattle.lexspec.specs.ItemRuns.{ItemsFrom, Item, skipped, skipped_line, skipped_block, rule, IsLine, Trailing, Subject, at_end, matching, IsSubject}
 use Rattle.lexspec_lines.proofs.OneSection.{no_true, two_percents, some_pair}
 use Rattle.lexspec.proofs.OneItems.{both_ways, AllBlank, StartsBlank, OpensBlock, tests_of, rule_tests, no_item_at_end, one_item, one_subject}
 use Rattle.lexspec.proofs.OneSpec.{one_rule, one_end, some_is}
@@ -35,9 +36,9 @@ cut_once t stop stop' at at' two two' special special' h k = let same = one_cutt
 pub record Behind (n : ℕ) (t : List ℕ) (i : Item) (rest : List ℕ) (items : List (ℕ × Item)) : Type 0 where
   pub others : List (ℕ × Item)
   pub all : items ≡ (n, i) ∷ others
-  pub here : AreItems (n + (newlines t - newlines rest)) rest others
+  pub here : ItemsFrom (n + (newlines t - newlines rest)) rest others
 
-pub behind : (n : ℕ) (t : List ℕ) (i : Item) (rest : List ℕ) (items : List (ℕ × Item)) → IsLine t i rest → AreItems n t items → Behind n t i rest items
+pub behind : (n : ℕ) (t : List ℕ) (i : Item) (rest : List ℕ) (items : List (ℕ × Item)) → IsLine t i rest → ItemsFrom n t items → Behind n t i rest items
 behind n t i rest [] item are = absurd (no_item_at_end t i rest are item)
 behind n t i rest (j ∷ js) item (rest', line, item', more) =
     let same = one_item cut_once t i j.1 rest rest' (tests_of t i rest item) (tests_of t j.1 rest' item') item item' in
@@ -45,7 +46,7 @@ behind n t i rest (j ∷ js) item (rest', line, item', more) =
     record {
       others = js;
       all = ap (λ z. z ∷ js) first;
-      here = subst (λ z. AreItems (n + (newlines t - newlines z)) z js) (sym same.1) more;
+      here = subst (λ z. ItemsFrom (n + (newlines t - newlines z)) z js) (sym same.1) more;
     }
 
 module _ (names : List (List ℕ)) (how : ReadOptions) (stack : Bool) (defined : Definitions) where
@@ -63,13 +64,13 @@ module _ (names : List (List ℕ)) (how : ReadOptions) (stack : Bool) (defined :
   wait_plain (r ∷ w) n skipped_block is h = refl
   wait_plain (r ∷ w) n (rule asked subject action) is h = no_true h
 
-  rules_plain : (n : ℕ) (i : Item) (is : List (ℕ × Item)) (rs : List Rule) (es : List EndRule) → is_plain i ≡ true → AreRules names how stack defined ((n, i) ∷ is) rs es → AreRules names how stack defined is rs es
+  rules_plain : (n : ℕ) (i : Item) (is : List (ℕ × Item)) (rs : List Rule) (es : List EndRule) → is_plain i ≡ true → RulesFrom names how stack defined ((n, i) ∷ is) rs es → RulesFrom names how stack defined is rs es
   rules_plain n skipped is rs es h are = are
   rules_plain n skipped_line is rs es h are = are
   rules_plain n skipped_block is rs es h are = are
   rules_plain n (rule asked subject action) is rs es h are = no_true h
 
-  plain_rules : (n : ℕ) (i : Item) (is : List (ℕ × Item)) (rs : List Rule) (es : List EndRule) → is_plain i ≡ true → AreRules names how stack defined is rs es → AreRules names how stack defined ((n, i) ∷ is) rs es
+  plain_rules : (n : ℕ) (i : Item) (is : List (ℕ × Item)) (rs : List Rule) (es : List EndRule) → is_plain i ≡ true → RulesFrom names how stack defined is rs es → RulesFrom names how stack defined ((n, i) ∷ is) rs es
   plain_rules n skipped is rs es h are = are
   plain_rules n skipped_line is rs es h are = are
   plain_rules n skipped_block is rs es h are = are
@@ -83,7 +84,7 @@ module _ (names : List (List ℕ)) (how : ReadOptions) (stack : Bool) (defined :
         items = b.others;
         here = b.here;
         later = left.later;
-        are = rules_plain n i b.others left.later E plain (subst (λ z. AreRules names how stack defined z left.later E) b.all left.are);
+        are = rules_plain n i b.others left.later E plain (subst (λ z. RulesFrom names how stack defined z left.later E) b.all left.are);
         next = sym (wait_plain w n i b.others plain) ∙ ap (may_wait w) (sym b.all) ∙ left.next;
         whole = left.whole;
       }
@@ -106,7 +107,7 @@ module _ (names : List (List ℕ)) (how : ReadOptions) (stack : Bool) (defined :
       → (F : List EndRule) × (E ≡ (numbers, e) ∷ F) × Left names how stack defined (n + (newlines t - newlines rest)) rest [] R F
   end_on n t asked text rest numbers e R E item listed acts left =
       let b = behind n t (rule asked at_end (spelled text)) rest left.items item left.here in
-      let (numbers', e', others, listed', acts', all, more) = subst (λ z. AreRules names how stack defined z left.later E) b.all left.are in
+      let (numbers', e', others, listed', acts', all, more) = subst (λ z. RulesFrom names how stack defined z left.later E) b.all left.are in
       let same : numbers' ≡ numbers = some_is numbers' numbers (sym listed' ∙ listed) in
       let act : e' ≡ e = one_end tree_once (known_in names stack) text e' e acts' acts in (
         others,
@@ -150,7 +151,7 @@ module _ (names : List (List ℕ)) (how : ReadOptions) (stack : Bool) (defined :
       → (S : List Rule) × (R ≡ (map (acting ss) w ++ acting ss r ∷ []) ++ S) × Left names how stack defined (n + (newlines t - newlines rest)) rest [] S E
   rule_on n t asked anchored head after text rest r ss w R E item h acts left =
       let b = behind n t (rule asked (matching anchored head after) (spelled text)) rest left.items item left.here in
-      let (q, others, all, one, more) = subst (λ z. AreRules names how stack defined z left.later E) b.all left.are in
+      let (q, others, all, one, more) = subst (λ z. RulesFrom names how stack defined z left.later E) b.all left.are in
       let same : q ≡ acting ss r = one_rule tree_once names how stack defined n asked anchored head after (spelled text) b.others others q (acting ss r) one
       (head_rule n asked anchored head after text b.others others r ss h acts) in
       let later : left.later ≡ acting ss r ∷ others = all ∙ ap (λ z. z ∷ others) same in (
@@ -203,7 +204,7 @@ module _ (names : List (List ℕ)) (how : ReadOptions) (stack : Bool) (defined :
       → Left names how stack defined n t w R E → Left names how stack defined (n + (newlines t - newlines rest)) rest (w ++ r ∷ []) R E
   bar_on n t asked anchored head after rest r w R E item h left =
       let b = behind n t (rule asked (matching anchored head after) bar) rest left.items item left.here in
-      let (q, others, all, one, more) = subst (λ z. AreRules names how stack defined z left.later E) b.all left.are in
+      let (q, others, all, one, more) = subst (λ z. RulesFrom names how stack defined z left.later E) b.all left.are in
       let f = first_statements others in
       let same : q ≡ acting f r = one_rule tree_once names how stack defined n asked anchored head after bar b.others others q (acting f r) one
       (bar_rule n asked anchored head after b.others others r h one.1 (has_first others q.statements one.2)) in
@@ -217,7 +218,7 @@ module _ (names : List (List ℕ)) (how : ReadOptions) (stack : Bool) (defined :
         whole = left.whole ∙ ap (filled w) later ∙ fill_more f w r others;
       }
 
-  goes_first : (is : List (ℕ × Item)) (rs : List Rule) (es : List EndRule) → goes_to_rule bar is ≡ true → AreRules names how stack defined is rs es
+  goes_first : (is : List (ℕ × Item)) (rs : List Rule) (es : List EndRule) → goes_to_rule bar is ≡ true → RulesFrom names how stack defined is rs es
       → IsActionOf (known_in names stack) bar rs (first_statements rs)
   goes_first [] rs es h are = no_true h
   goes_first ((n, rule asked at_end action) ∷ is) rs es h are = no_true h
@@ -320,7 +321,7 @@ module _ (names : List (List ℕ)) (how : ReadOptions) (stack : Bool) (defined :
     pub acts : ActsAs w subject (action_of text)
 
   acts_here : (w : List Rule) (n : ℕ) (asked : Conditions) (subject : Subject) (action : Action) (is : List (ℕ × Item)) (rs : List Rule) (es : List EndRule)
-      → AreRules names how stack defined ((n, rule asked subject action) ∷ is) rs es → may_wait w ((n, rule asked subject action) ∷ is) ≡ true
+      → RulesFrom names how stack defined ((n, rule asked subject action) ∷ is) rs es → may_wait w ((n, rule asked subject action) ∷ is) ≡ true
       → ((numbers : Option (List ℕ)) × (numbers_of (number_from 0 names) (length names) asked ≡ Some numbers)) × ActsAs w subject action
   acts_here w n asked at_end bar is rs es are next = absurd are
   acts_here [] n asked at_end (spelled text) is rs es (numbers, e, others, listed, acts, all, more) next = ((numbers, listed), (refl, e, acts))
@@ -330,7 +331,7 @@ module _ (names : List (List ℕ)) (how : ReadOptions) (stack : Bool) (defined :
       ((r.conditions, one.0.listed), (r, one.0.head_is, one.0.trail_is, one.0.cut_is, (r.statements, one.2)))
 
   rule_here : (t : List ℕ) (w : List Rule) (n : ℕ) (i : Item) (rest : List ℕ) (is : List (ℕ × Item)) (rs : List Rule) (es : List EndRule) → starts_rule t ≡ true → IsLine t i rest
-      → AreRules names how stack defined ((n, i) ∷ is) rs es → may_wait w ((n, i) ∷ is) ≡ true → RuleHere t w
+      → RulesFrom names how stack defined ((n, i) ∷ is) rs es → may_wait w ((n, i) ∷ is) ≡ true → RuleHere t w
   rule_here t w n skipped rest is rs es starts item are next = both_ways (AllBlank t) (tests_of t skipped rest item) (rule_tests t starts).0
   rule_here t w n skipped_line rest is rs es starts item are next = both_ways (StartsBlank t) (tests_of t skipped_line rest item).1 (rule_tests t starts).1
   rule_here t w n skipped_block rest is rs es starts item are next = both_ways (OpensBlock t) (tests_of t skipped_block rest item).2 (rule_tests t starts).3
@@ -355,7 +356,7 @@ module _ (names : List (List ℕ)) (how : ReadOptions) (stack : Bool) (defined :
   unfolding take_up_to
   invert n t w R E starts left = from left.items left.here left.are left.next
     where
-      from : (items : List (ℕ × Item)) → AreItems n t items → AreRules names how stack defined items left.later E → may_wait w items ≡ true → RuleHere t w
+      from : (items : List (ℕ × Item)) → ItemsFrom n t items → RulesFrom names how stack defined items left.later E → may_wait w items ≡ true → RuleHere t w
       from [] (inl e) are next = no_true (sym (ap starts_rule e) ∙ starts)
       from [] (inr e) are next = let p = two_percents t e in no_true (sym (rule_tests (37 ∷ 37 ∷ p.0) (subst (λ z. starts_rule z ≡ true) p.1 starts)).2)
       from ((m, i) ∷ is) (rest, line, item, more) are next = rule_here t w m i rest is left.later E starts item are next

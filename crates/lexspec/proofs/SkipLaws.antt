@@ -3,14 +3,14 @@ use Rattle.std.proofs.Common.{◌≡◌, ℕ, suc, ◌<◌, Bool, true, List, []
 use Rattle.std.specs.Prelude.{codes}
 use Rattle.lex_semantics.specs.Reading.{begins}
 use Rattle.lexspec_lines.specs.Lines.{line_in, after_block}
-use Rattle.lexspec.specs.Items.{Item, skipped, skipped_line, skipped_block, rule, IsLine}
+use Rattle.lexspec.specs.ItemRuns.{Item, skipped, skipped_line, skipped_block, rule, IsLine}
 use Rattle.lexspec.proofs.OneItems.{both_ways, AllBlank, StartsBlank, OpensBlock, tests_of, block_tests}
 use Rattle.lexspec_lines.proofs.SkipLaws.{line_shorter, block_same}
 
 abbrev Split : Type 0
 Split = List ℕ × List ℕ
 
-after_opening : (t text rest : List ℕ) → 0 < length t → ◌≡◌ {A = Split} (line_in t) (text, rest) → after_block (suc (length t)) (line_in t).1 ≡ after_block (suc (length rest)) rest
+pub after_opening : (t text rest : List ℕ) → 0 < length t → ◌≡◌ {A = Split} (line_in t) (text, rest) → after_block (suc (length t)) (line_in t).1 ≡ after_block (suc (length rest)) rest
 after_opening [] text rest h e = absurd (omega arith)
 after_opening (c ∷ t) text rest h e =
     let same : (line_in (c ∷ t)).1 ≡ rest = ap (λ (s : Split). s.1) e in

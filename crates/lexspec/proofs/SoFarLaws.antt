@@ -8,7 +8,8 @@ use Rattle.lexspec_actions.specs.Views.{end_action_of}
 use Rattle.lexspec_actions.specs.Actions.{SpellsAction, SpellsEndAction}
 use Rattle.lexspec_actions.specs.declared.condition.Condition.{Condition}
 use Rattle.lex_semantics.specs.Reading.{begins}
-use Rattle.lexspec.specs.Items.{Action, bar, spelled, at_end, matching, rule, action_of, IsLine}
+use Rattle.lexspec.specs.ItemRuns.{rule, IsLine, at_end, matching}
+use Rattle.lexspec.specs.Items.{Action, bar, spelled, action_of}
 use Rattle.lexspec_lines.specs.Lines.{newlines, is_all_blank}
 use Rattle.lexspec.specs.RuleItems.{numbers_of, EndRule}
 use Rattle.lexspec.specs.RuleReads.{acting, Left}

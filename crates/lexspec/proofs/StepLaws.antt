@@ -4,7 +4,7 @@ use Rattle.std.specs.Prelude.{codes}
 use Rattle.lex_semantics.specs.Reading.{after_blanks, begins, take_up_to}
 use Rattle.lexspec.specs.ActionSteps.{outside, action_in, with_byte, next_place, depth_after}
 use Rattle.lexspec.proofs.ActionPieces.{action_is}
-use Rattle.lexspec.specs.Items.{action_at, action_of, at_end, matching, Item, skipped, skipped_line, skipped_block, rule, starts_rule, IsLine, AreItems}
+use Rattle.lexspec.specs.Items.{action_at, action_of, starts_rule}
 use Rattle.lexspec_lines.specs.Lines.{newlines}
 use Rattle.lexspec.specs.RuleViews.{rule_of}
 use Rattle.lexspec.specs.ItemReads.{names_in, ReadsFront, ReadsItem, NoRules, NoRulesAfter, NoneLeft}
@@ -21,6 +21,7 @@ use Rattle.lexspec.specs.declared.rule_text.RuleText.{RuleText}
 use Rattle.lexspec.specs.declared.skips.Skip.{Skip}
 use Rattle.lexspec.specs.declared.skips.Skip.TheVariants.{Blank, Code, Block}
 use Rattle.lexspec.specs.declared.rules_so_far.RulesSoFar.{RulesSoFar}
+use Rattle.lexspec.specs.ItemRuns.{ItemsFrom, Item, skipped, skipped_line, skipped_block, rule, IsLine, at_end, matching}
 use Rattle.lexspec_lines.proofs.OneSection.{no_true, some_pair}
 use Rattle.lexspec.proofs.OneItems.{both_ways}
 use Rattle.lexre_bytes.proofs.MemoryLaws.{unless_memory, always}
@@ -101,7 +102,7 @@ module _ (d : Declarations) where
   pub plain_refused : (s : RulesSoFar) (n : ℕ) (t : List ℕ) (e : SpecErrorKind) → 0 < length t → begins (codes "%%") t ≡ false → ((i : Item) (rest : List ℕ) → IsLine t i rest → ⊥) → UnlessMemory e (NoneLeft d s n t)
   plain_refused s n t e some off none = always e (NoneLeft d s n t) (λ R E left may. from left.items left.here)
     where
-      from : (is : List (ℕ × Item)) → AreItems n t is → ⊥
+      from : (is : List (ℕ × Item)) → ItemsFrom n t is → ⊥
       from [] (inl e) = let z : length t ≡ 0 = ap length e in absurd (omega arith)
       from [] (inr e) = both_ways (begins (codes "%%") t) e off
       from (i ∷ is) (rest, first, item, more) = none i.1 rest item

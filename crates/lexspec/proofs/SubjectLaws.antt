@@ -7,7 +7,8 @@ use Rattle.lexspec_lines.specs.Lines.{line_in}
 use Rattle.lexspec_lines.specs.Runs.{split_before}
 use Rattle.lexre.specs.Cutting.{IsCutting}
 use Rattle.lexre.proofs.CuttingLaws.{one_cutting}
-use Rattle.lexspec.specs.Items.{Conditions, unlisted, every, only, conditions_at, Trailing, no_trail, line_end, pattern_after, Subject, at_end, matching, IsSides, IsSubject}
+use Rattle.lexspec.specs.ItemRuns.{Trailing, no_trail, line_end, pattern_after, Subject, at_end, matching, IsSides, IsSubject}
+use Rattle.lexspec.specs.Items.{Conditions, unlisted, every, only, conditions_at}
 use Rattle.lexspec_lines.proofs.OneSection.{no_true, some_pair}
 use Rattle.lexspec.specs.SubjectViews.{parts, sides}
 use Rattle.lexspec_lines.proofs.TextLaws.{Other, decide}

@@ -8,7 +8,7 @@ use Rattle.lex_semantics.specs.Tree.{Tree, Trees, Empty, Set, Cat, Alt, Star, Re
 use Rattle.lex_semantics.specs.Shapes.{IsSoundTree, AreSoundTrees, HasPart}
 use Rattle.lex_semantics.specs.Spec.{Spec, Rule, Condition, Statement}
 use Rattle.lex_semantics.specs.Legal.{all_in_range, ends_last, are_joined, are_compatible, IsLegal}
-use Rattle.lex_semantics.specs.Sound.{IsConditionList, IsSoundRule, IsSound}
+use Rattle.lex_semantics.specs.Sound.{IsSoundRule, IsSound}
 use Rattle.lexspec_actions.specs.Actions.{are_few}
 use Rattle.lexspec.specs.Tests.{any_below, are_bounds, has_part, sound_tree, sound_trees, sound_trail, cut_fits, ascend_from, sound_list, legal_action, sound_rule, sound_rules, sound_end, sound_conditions, is_sound}
 use Rattle.lexspec.proofs.CutLaws.{cut_is_fit}
@@ -64,10 +64,10 @@ order_of_bounds m (Some n) h = and_from (nat_le m n) (nat_le 1 n) (le-leb m n h.
 
 some_part : (ts : Trees) → has_part ts ≡ true → HasPart ts
 some_part no_trees h = no_true h
-some_part (tree t ts) h = tt
+some_part (tree t ts) h = λ e. cc
 
 part_some : (ts : Trees) → HasPart ts → has_part ts ≡ true
-part_some no_trees h = absurd h
+part_some no_trees h = absurd (h refl)
 part_some (tree t ts) h = refl
 
 mutual
@@ -116,7 +116,7 @@ ascending_list low n (d ∷ cs) h =
     let one = and_parts (nat_le low d && nat_lt d n) (ascend_from (suc d) n cs) h in
     (λ c k. (let later = ascending_above (suc d) n cs one.1 c k in omega (arith, later.0)), ascending_list (suc d) n cs one.1)
 
-list_is_sound : (n : ℕ) (cs : Option (List ℕ)) → sound_list n cs ≡ true → IfSome cs (IsConditionList n)
+list_is_sound : (n : ℕ) (cs : Option (List ℕ)) → sound_list n cs ≡ true → IfSome cs (λ l. Ascending l × ((c : ℕ) → Among l c → c < n))
 list_is_sound n None h = tt
 list_is_sound n (Some cs) h = (ascending_list 0 n cs h, λ c k. (ascending_above 0 n cs h c k).1)
 
@@ -129,7 +129,7 @@ legal_is n ss h =
     let three = and_parts (all_in_range n ss && ends_last ss && are_joined ss) (are_compatible ss) h in
     let two = and_parts (all_in_range n ss && ends_last ss) (are_joined ss) three.0 in
     let one = and_parts (all_in_range n ss) (ends_last ss) two.0 in
-    record { ranges = one.0; last = one.1; joined = two.1; compatible = three.1 }
+    (record { ranges = one.0; last = one.1; compatible = three.1 }, two.1)
 
 pub rule_is_sound : (n : ℕ) (r : Rule) → sound_rule n r ≡ true → IsSoundRule n r
 rule_is_sound n r h =

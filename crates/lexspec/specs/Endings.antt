@@ -1,14 +1,18 @@
 -- `<<EOF>>` rules that name a condition in common. (flex, End-of-File Rules.)
-use Rattle.std.specs.Prelude.{ℕ, Bool, true, false, if◌then◌else◌, List, [], ◌∷◌, Option, Some, None, is_none, option_map}
+use Rattle.std.specs.Prelude.{ℕ, Bool, true, false, if◌then◌else◌, List, [], ◌∷◌, Option, Some, None, is_none, option_map, unwrap_or}
 use Rattle.std.specs.List.{list_any}
 use Rattle.lex_semantics.specs.Spec.{EndAction}
-use Rattle.lexspec.specs.Files.{lists_number}
+use Rattle.lex_semantics.specs.Active.{lists}
 use Rattle.lexspec.specs.RuleItems.{EndRule}
 use Rattle.lexspec.specs.declared.endings.EndRule.{EndRule as EndRuleKept}
 
 -- the numbers of an `<<EOF>>` rule that the code keeps
 abbrev pub numbers_kept : EndRuleKept → Option (List ℕ)
 numbers_kept e = option_map (λ v. v.items) e.conditions
+
+-- whether a condition stands in the list of an `<<EOF>>` rule
+abbrev pub lists_number : Option (List ℕ) → ℕ → Bool
+lists_number asked c = lists (unwrap_or asked []) c
 
 -- some condition stands in both lists, or neither has a list
 abbrev pub clashes : Option (List ℕ) → Option (List ℕ) → Bool

@@ -1,39 +1,36 @@
 -- Which specification a file spells. (POSIX, lex, Input Files; flex, Format of the Input File. The bounds are this
 -- project's.)
-use Rattle.std.specs.Prelude.{◌≡◌, ℕ, suc, ◌+◌, ◌-◌, ◌≤◌, ◌<◌, Bool, true, List, [], ◌∷◌, map, find, length, count_by, Option, is_none, option_map, unwrap_or, codes}
+use Rattle.std.specs.Prelude.{◌≡◌, ◌≢◌, ℕ, suc, ◌+◌, ◌-◌, ◌≤◌, ◌<◌, Bool, true, false, ◌||◌, List, [], ◌∷◌, map, find, length, count_by, is_none, option_map, unwrap_or, codes}
 use Rattle.std.specs.List.{list_all}
 use Rattle.std.specs.Option.{option_or}
 use Rattle.std.specs.FinMap.{from_entries}
 use Rattle.lex_semantics.specs.Spec.{Spec, Condition, EndAction}
 use Rattle.lex_semantics.specs.Active.{lists}
 use Rattle.lex_semantics.specs.Reading.{IsCut, begins}
+use Rattle.lex_semantics.specs.Text.{Pairwise}
 use Rattle.lexspec_lines.specs.Lines.{without_returns, line_in, newlines}
-use Rattle.lexspec_lines.specs.DefinitionLines.{Definition, Declared, definition_at, all_conditions, names_of, has_name, are_distinct, substitutes_of, all_options, known_options}
+use Rattle.lexspec_lines.specs.DefinitionLines.{Definition, definition_at, all_conditions, has_name, substitutes_of, all_options, known_options}
 use Rattle.lexspec.specs.Items.{Item, AreItems}
 use Rattle.lexspec.specs.RuleItems.{EndRule, AreRules}
 use Rattle.lex_semantics.specs.Limits.{max_conditions, max_file_bytes, max_rules}
-use Rattle.lexspec_lines.specs.Folding.{with_fold}
 pub use Rattle.lexre.specs.declared.options.ReadOptions.{ReadOptions}
-
--- whether a condition stands in the list of an `<<EOF>>` rule
-abbrev pub lists_number : Option (List ℕ) → ℕ → Bool
-lists_number asked c = lists (unwrap_or asked []) c
 
 -- no condition is listed by two `<<EOF>>` rules, and one of them at most has no list
 abbrev pub AreSingle : ℕ → List EndRule → Type 0
-AreSingle count ends =
-    ((c : ℕ) → c < count → count_by (λ (e : EndRule). lists_number e.0 c) ends ≤ 1) × (count_by (λ (e : EndRule). is_none e.0) ends ≤ 1)
+AreSingle count ends = ((c : ℕ) → c < count → count_by (λ (e : EndRule). lists (unwrap_or e.0 []) c) ends ≤ 1)
+    × (count_by (λ (e : EndRule). is_none e.0) ends ≤ 1)
 
--- the end of condition c: that of the rule that lists it, else that of the rule without a list, else nothing, with status 0
+-- the end of condition c: that of the rule that lists it, else that of the rule without a list, else nothing, with
+-- status 0
 abbrev pub end_in : List EndRule → ℕ → EndAction
-end_in ends c =
-    let chosen = option_or (find (λ (e : EndRule). lists_number e.0 c) ends) (find (λ (e : EndRule). is_none e.0) ends) in
-    unwrap_or (option_map (λ (e : EndRule). e.1) chosen) (record { print = []; status = 0 })
+end_in ends c = unwrap_or (option_map (λ (e : EndRule). e.1)
+    (option_or (find (λ (e : EndRule). lists (unwrap_or e.0 []) c) ends) (find (λ (e : EndRule). is_none e.0) ends)))
+    (record { print = []; status = 0 })
 
 -- the conditions with their ends; the first one has the number k
-abbrev pub conditions_with : ℕ → List Declared → List EndRule → List Condition
-conditions_with k [] ends = []
-conditions_with k (c ∷ cs) ends = record { name = c.name; exclusive = c.exclusive; end = end_in ends k } ∷ conditions_with (suc k) cs ends
+abbrev pub conditions_with : ℕ → List (Bool × List ℕ) → List EndRule → List Condition
+conditions_with k [] E = []
+conditions_with k (c ∷ cs) E = record { exclusive = c.0; name = c.1; end = end_in E k } ∷ conditions_with (suc k) cs E
 
 -- The text is a file of this specification.
 pub record SpellsSpec (how : ReadOptions) (file : List ℕ) (S : Spec) : Type 0 where
@@ -43,12 +40,16 @@ pub record SpellsSpec (how : ReadOptions) (file : List ℕ) (S : Spec) : Type 0 
   pub first_section : IsCut definition_at (λ t. t ≡ after) (without_returns file) definitions
   pub separator : begins (codes "%%") after ≡ true
   pub items : List (ℕ × Item)
-  pub second_section : AreItems (2 + newlines file - newlines after) (line_in after).1 items
-  pub names : are_distinct (names_of (all_conditions definitions)) ≡ true
-  pub defined_once : are_distinct (map (λ (d : List ℕ × List ℕ). d.0) (substitutes_of definitions)) ≡ true
+  pub rest : List ℕ
+  pub second_section : AreItems (2 + newlines file - newlines after) (line_in after).1 items rest
+  pub names : Pairwise ◌≢◌ (map (λ c. c.1) (all_conditions definitions))
+  pub defined_once : Pairwise ◌≢◌ (map (λ d. d.0) (substitutes_of definitions))
   pub options : list_all (has_name known_options) (all_options definitions) ≡ true
   pub ends : List EndRule
-  pub rules : AreRules (names_of (all_conditions definitions)) (with_fold how (has_name (all_options definitions) (codes "case-insensitive"))) (has_name (all_options definitions) (codes "stack")) (from_entries (substitutes_of definitions)) items S.rules ends
+  pub rules : AreRules (map (λ c. c.1) (all_conditions definitions))
+      (record { fold = how.fold || has_name (all_options definitions) (codes "case-insensitive"); posix = how.posix })
+      (has_name (all_options definitions) (codes "stack")) (from_entries (substitutes_of definitions))
+      items S.rules ends false
   pub one_end : AreSingle (length (all_conditions definitions)) ends
   pub conditions : S.conditions ≡ conditions_with 0 (all_conditions definitions) ends
   pub few_conditions : length S.conditions ≤ max_conditions

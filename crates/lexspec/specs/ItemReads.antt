@@ -4,10 +4,11 @@ use Rattle.lex_semantics.specs.Spec.{Cut, Rule}
 use Rattle.lex_semantics.specs.Tree.{Tree}
 use Rattle.lexre.specs.Spelling.{Spells}
 use Rattle.lexspec_actions.specs.Names.{number_from, names_of}
-use Rattle.lexspec.specs.Items.{Conditions, Trailing, at_end, matching, rule, action_of, IsLine}
+use Rattle.lexspec.specs.ItemRuns.{rule, IsLine, Trailing, at_end, matching}
+use Rattle.lexspec.specs.Items.{Conditions, action_of}
 use Rattle.lex_semantics.specs.Sound.{IsCutOf}
-use Rattle.lexspec.specs.RuleItems.{numbers_of, IsTrail, EndRule, HasHead}
-use Rattle.lexspec.specs.RuleReads.{Left}
+use Rattle.lexspec.specs.RuleItems.{numbers_of, EndRule}
+use Rattle.lexspec.specs.RuleReads.{Left, IsTrail, HasHead}
 use Rattle.lexspec.specs.RuleViews.{rule_of}
 use Rattle.lexspec.specs.Keeping.{MayFollow}
 use Rattle.lexspec_lines.specs.declared.declarations.Declarations.{Declarations}

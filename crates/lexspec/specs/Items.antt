@@ -9,7 +9,8 @@ use Rattle.lex_semantics.specs.Escapes.{byte_with, until_quote}
 use Rattle.lex_semantics.specs.Reading.{◌>>=◌, Reader, after_blanks, is_empty, begins}
 use Rattle.lexspec_actions.specs.Comments.{after_star}
 use Rattle.lexspec_lines.specs.Runs.{split_before}
-use Rattle.lexspec_lines.specs.Lines.{line_in, line_at, is_all_blank, newlines, after_block}
+use Rattle.lexspec_lines.specs.DefinitionLines.{Definition, definition_at}
+use Rattle.lexspec_lines.specs.Lines.{line_in, is_all_blank, newlines}
 
 -- the condition list: none, `<*>`, or names
 pub data Conditions : Type 0 where
@@ -17,29 +18,21 @@ pub data Conditions : Type 0 where
   every : Conditions
   only : List (List ℕ) → Conditions
 
--- what follows the head: nothing, a newline (`$`), or a pattern
-pub data Trailing : Type 0 where
-  no_trail : Trailing
-  line_end : Trailing
-  pattern_after : List ℕ → Trailing
-
--- a rule as it stands in the file: texts, and the number of its line
+-- what stands before the action of a rule, as texts
 pub data Subject : Type 0 where
   -- `<<EOF>>`
   at_end : Subject
-  -- a pattern with its `^`
-  matching : (anchored : Bool) (head : List ℕ) (trail : Trailing) → Subject
+  -- a pattern with its `^`, and its trailing context, if it has one
+  matching : (anchored : Bool) (head : List ℕ) (trail : Option (List ℕ)) → Subject
 
 -- the action of a rule: that of the next one, or a text
 pub data Action : Type 0 where
   bar : Action
   spelled : List ℕ → Action
 
--- a line of the rules section, with what follows that belongs to it
+-- a line of the rules section, with what follows that belongs to it: one that is skipped, or a rule
 pub data Item : Type 0 where
-  skipped : Item
-  skipped_line : Item
-  skipped_block : Item
+  skipped : Definition → Item
   rule : Conditions → Subject → Action → Item
 
 -- `<..>`, on one line, with names between commas; a `<` always opens a list, unless it opens `<<EOF>>`
@@ -86,30 +79,33 @@ abbrev pub starts_rule : List ℕ → Bool
 starts_rule t = let (text, after) = line_in t in
     not (is_all_blank text || list_any is_blank (take 1 text) || begins (codes "%%") text || begins (codes "%{") text)
 
--- the text begins with a pattern: its head, and nothing, `$`, or `/` and a trailing context
-abbrev pub IsSides : List ℕ → List ℕ → Trailing → List ℕ → Type 0
-IsSides t head no_trail rest = (end : ℕ) × IsCutting t end None false false × (head ≡ take end t) × (rest ≡ drop end t)
-IsSides t head line_end rest = (end : ℕ) × IsCutting t end None false true × (head ≡ take (end - 1) t) × (rest ≡ drop end t)
-IsSides t head (pattern_after text) rest =
-    (end at : ℕ) × IsCutting t end (Some at) false false × (head ≡ take at t) × (text ≡ take (end - suc at) (drop (suc at) t)) × (rest ≡ drop end t)
+-- The text begins with a pattern: its head and its trailing context. A `$` at its end stands for the trailing context
+-- `\n`.
+abbrev pub IsSides : List ℕ → List ℕ → Option (List ℕ) → List ℕ → Type 0
+IsSides t head None rest = (end : ℕ) × IsCutting t end None false false × (head ≡ take end t) × (rest ≡ drop end t)
+IsSides t head (Some trail) rest = (end : ℕ) × (rest ≡ drop end t)
+    × ((IsCutting t end None false true × (head ≡ take (end - 1) t) × (trail ≡ codes "\\n"))
+    ⊎ ((at : ℕ) × IsCutting t end (Some at) false false × (head ≡ take at t)
+    × (trail ≡ take (end - suc at) (drop (suc at) t))))
 
 -- the text begins with the subject of a rule, and this follows; after `<<EOF>>` the text ends, or a blank or a newline stands
 abbrev pub IsSubject : List ℕ → Subject → List ℕ → Type 0
 IsSubject t at_end rest = (begins (codes "<<EOF>>") t ≡ true) × (rest ≡ drop 7 t) × (ends_pattern rest ≡ true)
-IsSubject t (matching anchored head after) rest =
+IsSubject t (matching anchored head trail) rest =
     let u = if anchored then drop 1 t else t in
-    (begins (codes "^") t ≡ anchored) × (begins (codes "<<EOF>>") u ≡ false) × IsSides u head after rest
+    (begins (codes "^") t ≡ anchored) × (begins (codes "<<EOF>>") u ≡ false) × IsSides u head trail rest
 
--- a line of the rules section, with what follows that belongs to it; one that begins with `%%` is none
+-- A line of the rules section, with what follows that belongs to it. One that begins with `%%` is none. A blank line
+-- and code are skipped, as in the definitions section.
 abbrev pub IsLine : List ℕ → Item → List ℕ → Type 0
-IsLine t skipped rest = (text : List ℕ) × (line_at t ≡ Some (text, rest)) × (is_all_blank text ≡ true)
-IsLine t skipped_line rest = (text : List ℕ) × (line_at t ≡ Some (text, rest)) × (is_all_blank text ≡ false) × (list_any is_blank (take 1 text) ≡ true)
-IsLine t skipped_block rest = (begins (codes "%{") t ≡ true) × (after_block (suc (length t)) (line_in t).1 ≡ Some rest)
+IsLine t (skipped line) rest = (starts_rule t ≡ false) × (definition_at t ≡ Some (line, rest))
 IsLine t (rule asked subject action) rest =
     (starts_rule t ≡ true) × (u v text : List ℕ) × (conditions_at t ≡ Some (asked, u)) × IsSubject u subject v
     × (action_at (after_blanks v) ≡ Some (text, rest)) × (action ≡ action_of text)
 
--- these items, each with its line, up to the end or a line that begins with `%%`; the first line here is n
-abbrev pub AreItems : ℕ → List ℕ → List (ℕ × Item) → Type 0
-AreItems n t [] = (t ≡ []) ⊎ (begins (codes "%%") t ≡ true)
-AreItems n t (i ∷ is) = (rest : List ℕ) × (i.0 ≡ n) × IsLine t i.1 rest × AreItems (n + (newlines t - newlines rest)) rest is
+-- These items, each with its line, up to the end or a line that begins with `%%`, and what is left there. The first
+-- line here is n.
+abbrev pub AreItems : ℕ → List ℕ → List (ℕ × Item) → List ℕ → Type 0
+AreItems n t [] rest = (t ≡ rest) × ((t ≡ []) ⊎ (begins (codes "%%") t ≡ true))
+AreItems n t (i ∷ is) rest =
+    (next : List ℕ) × (i.0 ≡ n) × IsLine t i.1 next × AreItems (n + (newlines t - newlines next)) next is rest

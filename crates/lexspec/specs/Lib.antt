@@ -2,6 +2,7 @@ pub mod Tests
 pub mod RuleViews
 pub mod Views
 pub mod Items
+pub mod ItemRuns
 pub mod Skipped
 pub mod RuleItems
 pub mod Files

@@ -2,10 +2,12 @@
 use Rattle.std.specs.Prelude.{◌≡◌, ℕ, ◌+◌, ◌-◌, ◌≤◌, List, ◌++◌, map, length}
 use Rattle.lex_semantics.specs.Spec.{Spec}
 use Rattle.lexspec_lines.specs.Lines.{line_in, newlines}
-use Rattle.lexspec_lines.specs.SkippedCode.{told_lines, AreFrom, code_in}
-use Rattle.lexspec.specs.Items.{Item, IsLine, AreItems}
-use Rattle.lexspec.specs.Skipped.{code_of_item, user_section, EndsRules}
-use Rattle.lexspec.specs.RuleItems.{EndRule, AreRules}
+use Rattle.lexspec_lines.specs.SkippedCode.{told_lines}
+use Rattle.lexspec_lines.specs.Skips.{AreFrom}
+use Rattle.std.specs.Prelude.{flat_map}
+use Rattle.lexspec.specs.RuleReads.{RulesFrom}
+use Rattle.lexspec.specs.Skipped.{user_section}
+use Rattle.lexspec.specs.RuleItems.{EndRule}
 use Rattle.lexspec.specs.RuleViews.{rule_of}
 use Rattle.lexspec.specs.EndRules.{end_rule_of}
 use Rattle.lexspec.specs.Files.{AreSingle, conditions_with}
@@ -13,6 +15,7 @@ use Rattle.lexspec_lines.specs.Declaring.{declared_of}
 use Rattle.lexspec.specs.ItemReads.{names_in}
 use Rattle.lexspec_lines.specs.declared.declarations.Declarations.{Declarations}
 use Rattle.lexspec.specs.declared.rules_section.RulesSection.{RulesSection}
+use Rattle.lexspec.specs.ItemRuns.{ItemsFrom, EndsRules, Item, IsLine, code_of_item}
 use Rattle.lexspec_lines.specs.declared.section.Section.{Section}
 use Rattle.lex_semantics.specs.Limits.{max_rules}
 
@@ -23,9 +26,9 @@ of_sections d x = record { conditions = conditions_with 0 (map declared_of d.con
 -- what follows the first section spells this specification, by what that declares
 pub record SpellsRest (s : Section) (S : Spec) : Type 0 where
   pub items : List (ℕ × Item)
-  pub here : AreItems (s.line + 1) (line_in s.rest.now).1 items
+  pub here : ItemsFrom (s.line + 1) (line_in s.rest.now).1 items
   pub ends : List EndRule
-  pub are : AreRules (names_in s.declarations) s.declarations.options s.declarations.stack s.declarations.definitions items S.rules ends
+  pub are : RulesFrom (names_in s.declarations) s.declarations.options s.declarations.stack s.declarations.definitions items S.rules ends
   pub one_end : AreSingle (length s.declarations.conditions.items) ends
   pub conditions : S.conditions ≡ conditions_with 0 (map declared_of s.declarations.conditions.items) ends
   pub few_rules : length S.rules ≤ max_rules
@@ -36,4 +39,4 @@ pub record SkipsRest (s : Section) (lines : List ℕ) : Type 0 where
   pub rest : List ℕ
   pub pieces : AreFrom IsLine (s.line + 1) (line_in s.rest.now).1 items rest
   pub stops : EndsRules rest
-  pub lines_are : lines ≡ s.declarations.skipped.lines.items ++ told_lines 0 (code_in code_of_item items) ++ user_section (s.line + 1 + newlines (line_in s.rest.now).1 - newlines rest) rest
+  pub lines_are : lines ≡ s.declarations.skipped.lines.items ++ told_lines 0 (flat_map code_of_item items) ++ user_section (s.line + 1 + newlines (line_in s.rest.now).1 - newlines rest) rest

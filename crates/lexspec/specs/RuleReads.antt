@@ -1,10 +1,16 @@
 -- Rules that are read one after another, some of which wait for the action of the next one.
-use Rattle.std.specs.Prelude.{◌≡◌, ℕ, Bool, true, List, [], ◌∷◌, ◌++◌, map}
-use Rattle.lex_semantics.specs.Spec.{Statement, Rule}
+use Rattle.std.specs.Prelude.{◌≡◌, ℕ, Bool, true, false, List, [], ◌∷◌, ◌++◌, map, length, Option, Some, None, slice_get, IsSomeAnd}
+use Rattle.lex_semantics.specs.Spec.{Statement, EndAction, Rule}
 use Rattle.lexre.specs.Definitions.{Definitions}
-use Rattle.lexspec.specs.Items.{Conditions, Trailing, Action, bar, Item, AreItems}
-use Rattle.lexspec_actions.specs.Names.{known_in}
-use Rattle.lexspec.specs.RuleItems.{EndRule, IsActionOf, HasHead, goes_to_rule, AreRules}
+use Rattle.lexspec.specs.Items.{Conditions, Action, bar, spelled}
+use Rattle.lexspec_actions.specs.Names.{number_from, Known, known_in}
+use Rattle.lexspec_actions.specs.Actions.{SpellsAction, SpellsEndAction}
+use Rattle.lexspec.specs.RuleItems.{numbers_of, EndRule}
+use Rattle.lex_semantics.specs.ByteSets.{single}
+use Rattle.lex_semantics.specs.Tree.{Tree, Set}
+use Rattle.lex_semantics.specs.Sound.{IsCutOf}
+use Rattle.lexre.specs.Spelling.{Spells}
+use Rattle.lexspec.specs.ItemRuns.{ItemsFrom, Item, rule, Trailing, no_trail, line_end, pattern_after, at_end, matching}
 use Rattle.lexre.specs.declared.options.ReadOptions.{ReadOptions}
 
 -- the rule with these statements
@@ -19,6 +25,48 @@ first_statements (r ∷ rs) = r.statements
 abbrev pub filled : List Rule → List Rule → List Rule
 filled waiting rs = map (acting (first_statements rs)) waiting ++ rs
 
+-- the tree of a trailing context, where there is one; `$` stands for a newline
+abbrev pub IsTrail : ReadOptions → Definitions → Trailing → Option Tree → Type 0
+IsTrail how defined no_trail t = t ≡ None
+IsTrail how defined line_end t = t ≡ Some (Set (single 10))
+IsTrail how defined (pattern_after text) t = IsSomeAnd t (Spells how defined text)
+
+-- the statements of an action: those that its text spells, or those of the next rule
+abbrev pub IsActionOf : Known → Action → List Rule → List Statement → Type 0
+IsActionOf known (spelled text) rules ss = SpellsAction known text ss
+IsActionOf known bar rules ss = IsSomeAnd (slice_get rules 0) (λ r. ss ≡ r.statements)
+
+-- after a `|` the next rule is there, and is no `<<EOF>>` rule
+abbrev pub goes_to_rule : Action → List (ℕ × Item) → Bool
+goes_to_rule (spelled text) is = true
+goes_to_rule bar [] = false
+goes_to_rule bar ((n, rule asked at_end action) ∷ is) = false
+goes_to_rule bar ((n, rule asked (matching anchored head after) action) ∷ is) = true
+goes_to_rule bar ((n, i) ∷ is) = goes_to_rule bar is
+
+module _ (names : List (List ℕ)) (how : ReadOptions) (stack : Bool) (defined : Definitions) where
+  -- a rule but for its statements
+  pub record HasHead (n : ℕ) (asked : Conditions) (anchored : Bool) (head : List ℕ) (after : Trailing) (r : Rule) : Type 0 where
+    pub line_is : r.line ≡ n
+    pub listed : numbers_of (number_from 0 names) (length names) asked ≡ Some r.conditions
+    pub anchor : r.anchored ≡ anchored
+    pub head_is : Spells how defined head r.head
+    pub trail_is : IsTrail how defined after r.trail
+    pub cut_is : IsCutOf r.head r.trail r.cut
+
+  -- the rules and the `<<EOF>>` rules of the items
+  abbrev pub RulesFrom : List (ℕ × Item) → List Rule → List EndRule → Type 0
+  RulesFrom [] rules ends = (rules ≡ []) × (ends ≡ [])
+  RulesFrom ((n, rule asked at_end (spelled text)) ∷ is) rules ends =
+      (numbers : Option (List ℕ)) × (e : EndAction) × (others : List EndRule)
+      × (numbers_of (number_from 0 names) (length names) asked ≡ Some numbers) × SpellsEndAction (known_in names stack) text e
+      × (ends ≡ (numbers, e) ∷ others) × RulesFrom is rules others
+  RulesFrom ((n, rule asked at_end bar) ∷ is) rules ends = ⊥
+  RulesFrom ((n, rule asked (matching anchored head after) action) ∷ is) rules ends =
+      (r : Rule) × (others : List Rule) × (rules ≡ r ∷ others) × (HasHead n asked anchored head after r × (goes_to_rule action is ≡ true)
+      × IsActionOf (known_in names stack) action others r.statements) × RulesFrom is others ends
+  RulesFrom ((n, i) ∷ is) rules ends = RulesFrom is rules ends
+
 -- the rule of an item with a pattern, where `rules` are those of the items after it
 abbrev pub IsRule : List (List ℕ) → ReadOptions → Bool → Definitions → ℕ → Conditions → Bool → List ℕ → Trailing → Action → List (ℕ × Item) → List Rule → Rule → Type 0
 IsRule names how stack defined n asked anchored head after action is rules r =
@@ -32,8 +80,8 @@ may_wait (w ∷ ws) is = goes_to_rule bar is
 -- the rules and `<<EOF>>` rules that a text spells from the line n on, after rules that wait for the next action
 pub record Left (names : List (List ℕ)) (how : ReadOptions) (stack : Bool) (defined : Definitions) (n : ℕ) (t : List ℕ) (waiting rules : List Rule) (ends : List EndRule) : Type 0 where
   pub items : List (ℕ × Item)
-  pub here : AreItems n t items
+  pub here : ItemsFrom n t items
   pub later : List Rule
-  pub are : AreRules names how stack defined items later ends
+  pub are : RulesFrom names how stack defined items later ends
   pub next : may_wait waiting items ≡ true
   pub whole : rules ≡ filled waiting later

@@ -1,9 +1,8 @@
 -- What the reader of the rules section answers.
 use Rattle.std.specs.Prelude.{ℕ, ◌≤◌, ◌-◌, Some, None, slice_get, List, map, length}
 use Rattle.lex_semantics.specs.Spec.{Rule}
-use Rattle.lexspec.specs.Items.{Item, AreItems}
-use Rattle.lexspec.specs.Skipped.{EndsRules}
-use Rattle.lexspec.specs.RuleItems.{EndRule, AreRules}
+use Rattle.lexspec.specs.RuleReads.{RulesFrom}
+use Rattle.lexspec.specs.RuleItems.{EndRule}
 use Rattle.lexspec.specs.RuleViews.{rule_of}
 use Rattle.lexspec.specs.EndRules.{end_rule_of}
 use Rattle.lexspec.specs.Files.{AreSingle}
@@ -12,13 +11,14 @@ use Rattle.lex_semantics.specs.Sound.{HaveSoundSides}
 use Rattle.lexspec_lines.specs.declared.declarations.Declarations.{Declarations}
 use Rattle.lexspec.specs.declared.rule.Rule.{Rule as RuleKept}
 use Rattle.lexspec.specs.declared.rules_section.RulesSection.{RulesSection}
+use Rattle.lexspec.specs.ItemRuns.{ItemsFrom, EndsRules, Item}
 use Rattle.lex_semantics.specs.Limits.{max_rules}
 
 -- the items of the text, which begins at the line n, and the rules that they spell; after them nothing is left, or a line of `%%`
 pub record HasRules (d : Declarations) (n : ℕ) (text : List ℕ) (s : RulesSection) : Type 0 where
   pub items : List (ℕ × Item)
-  pub here : AreItems n text items
-  pub are : AreRules (names_in d) d.options d.stack d.definitions items (map rule_of s.rules.items) (map end_rule_of s.ends.items)
+  pub here : ItemsFrom n text items
+  pub are : RulesFrom (names_in d) d.options d.stack d.definitions items (map rule_of s.rules.items) (map end_rule_of s.ends.items)
   pub stops : EndsRules s.rest.now
   pub sound : HaveSoundSides (map rule_of s.rules.items)
   pub single : AreSingle (length d.conditions.items) (map end_rule_of s.ends.items)
@@ -26,7 +26,7 @@ pub record HasRules (d : Declarations) (n : ℕ) (text : List ℕ) (s : RulesSec
 
 -- the items of the text spell no rules, or too many, or two ends of a condition
 abbrev pub NoSuchRules : Declarations → ℕ → List ℕ → Type 0
-NoSuchRules d n text = (items : List (ℕ × Item)) (rules : List Rule) (ends : List EndRule) → AreItems n text items → AreRules (names_in d) d.options d.stack d.definitions items rules ends
+NoSuchRules d n text = (items : List (ℕ × Item)) (rules : List Rule) (ends : List EndRule) → ItemsFrom n text items → RulesFrom (names_in d) d.options d.stack d.definitions items rules ends
     → length rules ≤ max_rules → AreSingle (length d.conditions.items) ends → ⊥
 
 -- the line of the last rule that waits for an action, or else n

@@ -1,7 +1,7 @@
 -- What skipped lines of the code stand for.
 use Rattle.std.specs.Prelude.{ℕ, List}
-use Rattle.lexspec.specs.Items as I
-use Rattle.lexspec.specs.Skipped.{code_of_item}
+use Rattle.lexspec.specs.ItemRuns.{code_of_item}
+use Rattle.lexspec.specs.ItemRuns as I
 use Rattle.lexspec_lines.specs.Skips.{AddsCode}
 use Rattle.lexspec_lines.specs.declared.skipped.Skipped.{Skipped}
 use Rattle.lexspec.specs.declared.skips.Skip.{Skip}
@@ -16,4 +16,4 @@ item_of Block = I.skipped_block
 pub record TakesItem (n : ℕ) (t rest : List ℕ) (s s' : Skipped) : Type 0 where
   pub item : I.Item
   pub here : I.IsLine t item rest
-  pub code : AddsCode s (code_of_item n item) s'
+  pub code : AddsCode s (code_of_item (n, item)) s'

@@ -1,10 +1,10 @@
 //! The ends of conditions, by the `<<EOF>>` rules. (flex, End-of-File Rules.)
 ghost use Rattle.std.specs.Prelude.{◌≡◌, ◌==◌, ◌≤◌, ℕ, true, false, List, [], ◌∷◌, ◌++◌, map, length, IfOk};
 ghost use Rattle.std.specs.List.{list_any};
-ghost use Rattle.lexspec.specs.Endings.{numbers_kept, clashes, unlisted_end as unlisted_end_in};
+ghost use Rattle.lexspec.specs.Endings.{numbers_kept, clashes, unlisted_end as unlisted_end_in, lists_number};
 ghost use Rattle.lexspec_actions.specs.Views.{condition_of, end_action_of};
 ghost use Rattle.lexspec_lines.specs.Declaring.{declared_of};
-ghost use Rattle.lexspec.specs.Files.{lists_number, end_in, conditions_with, AreSingle};
+ghost use Rattle.lexspec.specs.Files.{end_in, conditions_with, AreSingle};
 ghost use Rattle.lexspec.specs.EndRules.{end_rule_of};
 ghost use Rattle.lexspec.specs.RuleItems.{EndRule as EndRuleMeant};
 ghost use Rattle.lexspec.specs.Tests.{sound_list};

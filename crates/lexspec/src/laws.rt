@@ -1,10 +1,9 @@
 //! Laws over the definitions.
-ghost use Rattle.std.specs.Prelude.{◌≡◌, ◌≤◌, ℕ, ◌↔◌, Bool, true, List, length};
+ghost use Rattle.std.specs.Prelude.{◌≡◌, ◌≤◌, ℕ, ◌↔◌, Bool, true, false, List, map, length};
 ghost use Rattle.lex_semantics.specs.Tree.{Tree};
 ghost use Rattle.lex_semantics.specs.Shapes.{IsSoundTree};
 ghost use Rattle.lex_semantics.specs.Spec.{Rule, Spec};
 ghost use Rattle.lexre.specs.Definitions.{Definitions};
-ghost use Rattle.lexspec_lines.specs.DefinitionLines.{Declared, names_of};
 ghost use Rattle.lexspec.specs.Items.{Item};
 ghost use Rattle.lexspec.specs.RuleItems.{EndRule, AreRules};
 ghost use Rattle.lex_semantics.specs.Sound.{HaveSoundSides, IsSound};
@@ -33,10 +32,10 @@ pub fn one_specification()
 /// The rules that items spell, with the conditions and their ends, pass the test where each rule has sound sides, there
 /// are 1 to 255 conditions, and there are at most 4,096 rules.
 pub fn sound_specifications()
-    ensures { (cs : List Declared) (how : ReadOptions) (stack : Bool) (defined : Definitions) (items : List (ℕ
-        × Item)) (rules : List Rule) (ends : List EndRule)
+    ensures { (cs : List (Bool × List ℕ)) (how : ReadOptions) (stack : Bool) (defined : Definitions)
+        (items : List (ℕ × Item)) (rules : List Rule) (ends : List EndRule)
         → 1 ≤ length cs → length cs ≤ max_conditions → length rules ≤ max_rules
-        → AreRules (names_of cs) how stack defined items rules ends → HaveSoundSides rules
+        → AreRules (map (λ c. c.1) cs) how stack defined items rules ends false → HaveSoundSides rules
         → is_sound (record { conditions = conditions_with 0 cs ends; rules = rules }) ≡ true }
 {}
 

@@ -4,9 +4,10 @@ ghost use Rattle.lex_semantics.specs.Spec.{Spec as Meant};
 ghost use Rattle.lexspec.specs.Files.{SpellsSpec};
 ghost use Rattle.lexspec_lines.specs.Outcome.{UnlessMemory};
 ghost use Rattle.lexspec.specs.Readings.{of_sections, SpellsRest, SkipsRest};
-ghost use Rattle.lexspec.specs.Skipped.{has_text, user_section, AreSkipped};
+ghost use Rattle.lexspec.specs.Skipped.{user_section, AreSkipped};
 ghost use Rattle.lexspec.specs.Tests.{is_sound};
 ghost use Rattle.lexspec.specs.Views.{spec_of, skipped_in};
+ghost use Rattle.lexspec.specs.ItemRuns.{has_text};
 ghost use Rattle.lexre_bytes.specs.declared.refusals.SpecErrorKind.TheVariants.{OutOfMemory};
 ghost use Rattle.lex_semantics.specs.Limits.{max_conditions, max_file_bytes};
 

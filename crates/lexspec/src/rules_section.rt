@@ -3,12 +3,11 @@ ghost use Rattle.std.specs.Prelude.{◌≡◌, ℕ, ◌+◌, ◌-◌, ◌<◌, �
 ghost use Rattle.std.specs.Prelude.{false, length, take, codes, IfOk, IfErr, OnOk};
 ghost use Rattle.lex_semantics.specs.Reading.{begins};
 ghost use Rattle.lexspec_lines.specs.Lines.{newlines};
+ghost use Rattle.lexspec.specs.ItemRuns.{IsLine, code_of_item};
 ghost use Rattle.lexspec.specs.ItemReads.{NoneLeft};
 ghost use Rattle.lexspec.specs.Agreeing.{Agrees};
 ghost use Rattle.lexspec.specs.Keeping.{Keeps};
 ghost use Rattle.lexspec.specs.KeptNames.{AreKept};
-ghost use Rattle.lexspec.specs.Items.{IsLine};
-ghost use Rattle.lexspec.specs.Skipped.{code_of_item};
 ghost use Rattle.lexspec.specs.SkipViews.{item_of, TakesItem};
 ghost use Rattle.lexspec.specs.EndOpenings.{begins_end};
 ghost use Rattle.lexspec.specs.RulesReads.{HasRules, NoSuchRules, line_of_last};
@@ -53,7 +52,7 @@ fn begins_end(text: &[u8]) -> bool
 /// Keeps the line of what is skipped there, if it is code.
 fn add_skip(skipped: &mut Skipped, skip: Skip, line: u32) -> Result<(), AllocError>
     requires { line + 1 < 2 ^ 32 }
-    ensures { OnOk result (AddsCode skipped.old (code_of_item line (item_of skip)) skipped.new) }
+    ensures { OnOk result (AddsCode skipped.old (code_of_item (line, item_of skip)) skipped.new) }
 {
     match skip {
         Skip::Blank => Ok(()),

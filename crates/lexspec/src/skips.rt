@@ -1,7 +1,8 @@
 //! Lines of the rules section that are no rules. (POSIX, lex, Rules in lex; flex, Format of the Input File.)
 ghost use Rattle.std.specs.Prelude.{◌≡◌, ℕ, ◌<◌, List, true, false, length, codes, IfOk, IfErr, IfSome, IfNone, OnErr};
 ghost use Rattle.lex_semantics.specs.Reading.{begins};
-ghost use Rattle.lexspec.specs.Items.{Item, IsLine, starts_rule};
+ghost use Rattle.lexspec.specs.ItemRuns.{Item, IsLine};
+ghost use Rattle.lexspec.specs.Items.{starts_rule};
 ghost use Rattle.lexspec.specs.SkipViews.{item_of};
 ghost use Rattle.lexre_bytes.specs.declared.refusals.SpecErrorKind.TheVariants.{Unclosed};
 

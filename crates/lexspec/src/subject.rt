@@ -4,8 +4,9 @@ ghost use Rattle.std.specs.Prelude.{◌≡◌, ◌+◌, ◌<◌, ◌^◌, ℕ, L
 ghost use Rattle.std.specs.Prelude.{option_map, take, drop, IfOk, IfErr, OnErr};
 ghost use Rattle.std.specs.List.{list_all};
 ghost use Rattle.lex_semantics.specs.Reading.{is_white};
-ghost use Rattle.lexspec.specs.Items.{Conditions as AskedFor, Subject as SubjectMeant, Trailing as TrailMeant};
-ghost use Rattle.lexspec.specs.Items.{conditions_at, IsSides, IsSubject};
+ghost use Rattle.lexspec.specs.ItemRuns.{Subject as SubjectMeant, Trailing as TrailMeant, IsSides, IsSubject};
+ghost use Rattle.lexspec.specs.Items.{Conditions as AskedFor};
+ghost use Rattle.lexspec.specs.Items.{conditions_at};
 ghost use Rattle.lexspec.specs.SubjectFaults.{IsSubjectFault};
 ghost use Rattle.lexspec.specs.SubjectViews.{conditions_of, trailing_of, subject_of, sides};
 

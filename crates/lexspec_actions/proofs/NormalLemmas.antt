@@ -173,13 +173,14 @@ spelled_range names stack text ss some spells = steps_range names stack text ss 
 
 pub legal_action : (names : List (List ℕ)) (stack : Bool) (text : List ℕ) (ss : List Statement) → 1 ≤ length names → SpellsAction (known_in names stack) text ss → IsLegal (length names) ss
 legal_action names stack text ss some (spells, stands) =
-    let few_last = and_parts (are_few ss && ends_last ss) (are_compatible ss) stands in
-    record {
-      ranges = spelled_range names stack text ss some spells;
-      last = (and_parts (are_few ss) (ends_last ss) few_last.0).1;
-      joined = steps_joined (known_in names stack) text ss (to_steps (known_in names stack) text ss spells);
-      compatible = few_last.1;
-    }
+    let few_last = and_parts (are_few ss && ends_last ss) (are_compatible ss) stands in (
+      record {
+        ranges = spelled_range names stack text ss some spells;
+        last = (and_parts (are_few ss) (ends_last ss) few_last.0).1;
+        compatible = few_last.1;
+      },
+      steps_joined (known_in names stack) text ss (to_steps (known_in names stack) text ss spells),
+    )
 
 -- the status of an end action
 

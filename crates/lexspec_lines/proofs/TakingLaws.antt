@@ -11,7 +11,8 @@ use Rattle.std.proofs.lemmas.List.{map-append, append_assoc}
 use Rattle.lex_semantics.specs.ByteSets.{is_word}
 use Rattle.lexre.specs.Definitions.{Definitions}
 use Rattle.lexre.specs.declared.options.ReadOptions.{ReadOptions}
-use Rattle.lexspec_lines.specs.DefinitionLines.{Definition, code_line, code_block, declares, options, ignored, defines, Declared, declared, all_conditions, has_name, are_distinct, substitutes_of, all_options, known_options}
+use Rattle.lexspec_lines.specs.DefinitionLines.{Definition, code_line, code_block, declares, options, ignored, defines, all_conditions, has_name, substitutes_of, all_options, known_options}
+use Rattle.lexspec_lines.specs.Declaring.{Declared, declared, are_distinct}
 use Rattle.lexspec_lines.specs.DefinitionViews.{are_known}
 use Rattle.lexspec_lines.specs.Declaring.{declared_of, with_kind, AreGood, AreAllowed, Declares}
 use Rattle.lexspec_lines.specs.Folding.{with_fold}
@@ -32,7 +33,7 @@ declared_append (ignored ∷ ds) es = declared_append ds es
 declared_append (defines name text ∷ ds) es = declared_append ds es
 
 pub conditions_append : (ds es : List Definition) → all_conditions (ds ++ es) ≡ all_conditions ds ++ declared es
-conditions_append ds es = ap (λ z. record { exclusive = false; name = codes "INITIAL" } ∷ z) (declared_append ds es)
+conditions_append ds es = ap (λ z. (false, codes "INITIAL") ∷ z) (declared_append ds es)
 
 pub substitutes_append : (ds es : List Definition) → substitutes_of (ds ++ es) ≡ substitutes_of ds ++ substitutes_of es
 substitutes_append [] es = refl

@@ -1,20 +1,37 @@
 -- What the definitions section declares, as the code keeps it.
-use Rattle.std.specs.Prelude.{◌≡◌, ℕ, ◌≤◌, Bool, true, List, map, length, codes}
+use Rattle.std.specs.Prelude.{◌≡◌, ℕ, ◌≤◌, Bool, true, not, ◌&&◌, List, [], ◌∷◌, map, flat_map, length, codes}
 use Rattle.std.specs.FinMap.{from_entries}
 use Rattle.lexspec_actions.specs.declared.condition.Condition.{Condition}
-use Rattle.lexspec_lines.specs.DefinitionLines.{Definition, Declared, all_conditions, names_of, has_name, are_distinct, substitutes_of, known_options, all_options}
+use Rattle.lexspec_lines.specs.DefinitionLines.{Definition, declares, all_conditions, has_name, substitutes_of, known_options, all_options}
 use Rattle.std.specs.List.{list_all}
 use Rattle.lexspec_lines.specs.declared.declarations.Declarations.{Declarations}
 use Rattle.lex_semantics.specs.Limits.{max_conditions}
 use Rattle.lexspec_lines.specs.Folding.{with_fold}
 use Rattle.lexre.specs.declared.options.ReadOptions.{ReadOptions}
 
+-- a condition that is declared: whether it is exclusive, and its name
+abbrev pub Declared : Type 0
+Declared = Bool × List ℕ
+
+-- the conditions of `%s` and `%x`
+abbrev pub declared : List Definition → List Declared
+declared ds = flat_map (λ d. elim d [ declares exclusive names ↦ map (λ name. (exclusive, name)) names | _ ↦ [] ]) ds
+
+-- the names of conditions
+abbrev pub names_of : List Declared → List (List ℕ)
+names_of cs = map (λ c. c.1) cs
+
+-- no name stands twice, as a test
+abbrev pub are_distinct : List (List ℕ) → Bool
+are_distinct [] = true
+are_distinct (n ∷ ns) = not (has_name ns n) && are_distinct ns
+
 abbrev pub declared_of : Condition → Declared
-declared_of c = record { exclusive = c.exclusive; name = c.name.items }
+declared_of c = (c.exclusive, c.name.items)
 
 -- the names of a declaration, each as a condition
 abbrev pub with_kind : Bool → List (List ℕ) → List Declared
-with_kind exclusive names = map (λ n. record { exclusive = exclusive; name = n }) names
+with_kind exclusive names = map (λ name. (exclusive, name)) names
 
 -- no condition is declared twice, and there are not too many
 abbrev pub AreGood : List Declared → Type 0

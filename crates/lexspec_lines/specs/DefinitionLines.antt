@@ -73,31 +73,15 @@ IsUpTo item_at text xs rest = IsCut item_at (λ t. t ≡ rest) text xs
 
 -- What the lines declare.
 
--- a condition that is declared
-pub record Declared : Type 0 where
-  pub exclusive : Bool
-  pub name : List ℕ
-
--- the conditions of `%s` and `%x`
-abbrev pub declared : List Definition → List Declared
-declared ds = flat_map (λ d. elim d [ declares exclusive names ↦ map (λ n. record { exclusive = exclusive; name = n }) names | _ ↦ [] ]) ds
-
--- INITIAL, and the others in order of declaration
-abbrev pub all_conditions : List Definition → List Declared
-all_conditions ds = record { exclusive = false; name = codes "INITIAL" } ∷ declared ds
-
--- the names of conditions
-abbrev pub names_of : List Declared → List (List ℕ)
-names_of cs = map (λ c. c.name) cs
+-- INITIAL, and the conditions of `%s` and `%x` in order of declaration: whether each is exclusive, and its name
+abbrev pub all_conditions : List Definition → List (Bool × List ℕ)
+all_conditions ds =
+    (false, codes "INITIAL")
+    ∷ flat_map (λ d. elim d [ declares exclusive names ↦ map (λ name. (exclusive, name)) names | _ ↦ [] ]) ds
 
 -- the name is one of these
 abbrev pub has_name : List (List ℕ) → List ℕ → Bool
 has_name names name = list_any (λ n. is_word n name) names
-
--- no name stands twice
-abbrev pub are_distinct : List (List ℕ) → Bool
-are_distinct [] = true
-are_distinct (n ∷ ns) = not (has_name ns n) && are_distinct ns
 
 -- each name with its substitute
 abbrev pub substitutes_of : List Definition → List (List ℕ × List ℕ)

@@ -11,8 +11,8 @@ use Rattle.lex_semantics.specs.Reading.{begins}
 use Rattle.lexspec_lines.specs.DefinitionLines.{Definition, definition_at, IsUpTo}
 use Rattle.lexspec_lines.specs.Lines.{newlines}
 use Rattle.lexspec_lines.specs.Declaring.{AreAllowed, Declares}
-use Rattle.lexspec_lines.specs.SkippedCode.{IsDefinition, code_of_definition}
-use Rattle.lexspec_lines.specs.Skips.{TellsPieces}
+use Rattle.lexspec_lines.specs.SkippedCode.{code_of_definition}
+use Rattle.lexspec_lines.specs.Skips.{IsDefinition, TellsPieces}
 use Rattle.lexspec_lines.specs.declared.section.Section.{Section}
 
 -- the lines before the one that begins with `%%`, what they declare, the code among them, and the number of that line

@@ -3,7 +3,8 @@ ghost use Rattle.std.specs.Prelude.{◌≡◌, ◌≤◌, ◌<◌, ◌+◌, ◌^
 ghost use Rattle.std.specs.Prelude.{map, length, codes, is_some, IfOk, IfErr, IfSome, OnOk};
 ghost use Rattle.lexspec_lines.specs.Lines.{words};
 ghost use Rattle.lexspec_lines.specs.DefinitionLines.{Definition as Meant, has_name};
-ghost use Rattle.lexspec_lines.specs.DefinitionLines.{known_options, Declared};
+ghost use Rattle.lexspec_lines.specs.DefinitionLines.{known_options};
+ghost use Rattle.lexspec_lines.specs.Declaring.{Declared};
 ghost use Rattle.lexspec_lines.specs.DefinitionViews.{are_known};
 ghost use Rattle.lexspec_lines.specs.DefinitionViews.{definition_of};
 ghost use Rattle.lexspec_lines.specs.Declaring.{declared_of, with_kind, AreGood, AreAllowed, Declares};
@@ -39,7 +40,7 @@ pub struct Declarations {
 
 /// A condition without an end action.
 fn condition(alloc: Global, name: &[u8], exclusive: bool) -> Result<Condition, AllocError>
-    ensures { IfOk result (λ c. declared_of c ≡ record { exclusive = exclusive; name = name.now }) }
+    ensures { IfOk result (λ c. declared_of c ≡ (exclusive, name.now)) }
 {
     Ok(Condition {
         name: Vec::from_slice(alloc, name)?,
@@ -165,8 +166,8 @@ impl Declarations {
         ensures found { OnOk result ((how : Reading) (ds : List Meant) → Declares how ds self.old → AreAllowed ds
             → Declares how (ds ++ definition_of definition.entry ∷ []) self.new
             × AreAllowed (ds ++ definition_of definition.entry ∷ [])) }
-        ensures code { OnOk result (AddsCode self.old.skipped (code_of_definition line (definition_of definition.entry))
-            self.new.skipped) }
+        ensures code { OnOk result (AddsCode self.old.skipped
+            (code_of_definition (line, definition_of definition.entry)) self.new.skipped) }
         ensures none { IfErr result (λ e. UnlessMemory e ((how : Reading) (ds more : List Meant)
             → Declares how ds self.old → AreAllowed (ds ++ definition_of definition.entry ∷ more) → ⊥)) }
     {

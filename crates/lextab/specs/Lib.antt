@@ -7,6 +7,6 @@ pub use Rattle.lextab_packed.specs.Invariant
 pub use Rattle.lextab_packed.specs.Views
 pub use Rattle.lextab_packed.specs.Machines
 pub use Rattle.lextab_packing.specs.Packing
-pub use Rattle.lextab_packing.specs.Tables
+pub use Rattle.lextab_packing.specs.Columns
 pub use Rattle.lextab_file.specs.File
 pub use Rattle.lextab_file.specs.Refusals

@@ -564,7 +564,7 @@ action_is n stack ss few h =
       record {
         few = few;
         literals = omega (arith, f.literals);
-        legal = record { ranges = f.ranges; last = f.last; joined = f.joined; compatible = compatible_is (has_reject ss) (has_more ss) (has_less ss) (count_less ss) f.reject_alone f.less_alone f.one_less };
+        legal = (record { ranges = f.ranges; last = f.last; compatible = compatible_is (has_reject ss) (has_more ss) (has_less ss) (count_less ss) f.reject_alone f.less_alone f.one_less }, f.joined);
         bytes = f.bytes;
       },
       f.stacks,
@@ -572,12 +572,12 @@ action_is n stack ss few h =
 
 pub is_action : (n : ℕ) (stack : Bool) (ss : List Statement) → IsAction n ss → InVersion stack ss → EachFrom (MayStand n) seen_after (unseen stack (length ss)) ss
 is_action n stack ss a version =
-    let p = compatible_parts (has_reject ss) (has_more ss) (has_less ss) (count_less ss) a.legal.compatible in
+    let p = compatible_parts (has_reject ss) (has_more ss) (has_less ss) (count_less ss) a.legal.0.compatible in
     stand n (unseen stack (length ss)) ss (record {
-      ranges = a.legal.ranges;
-      last = a.legal.last;
+      ranges = a.legal.0.ranges;
+      last = a.legal.0.last;
       left = refl;
-      joined = a.legal.joined;
+      joined = a.legal.1;
       apart = λ e. absurd cc;
       literals = omega (arith, a.literals);
       less = λ e. absurd cc;

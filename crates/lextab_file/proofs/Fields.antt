@@ -67,9 +67,9 @@ reads_end = reads_as
 abbrev ConditionParts : Type 0
 ConditionParts = ℕ × (ℕ × EndAction)
 
-pub reads_condition : (z : Sizes) (i : ℕ) → z.states < 4294967296 → IsReader condition_text (IsCondition z i) (condition_at z.states)
+pub reads_condition : (z : Sizes) (i : ℕ) → z.states < 4294967296 → IsReader condition_text (IsCondition z.states i) (condition_at z.states)
 unfolding condition_at
-reads_condition z i h = reads_like condition_text (λ c. (c.start < z.states) × ((c.line_start < z.states) × (IsString 0 4096 c.end.print × (c.end.status < 64)))) (IsCondition z i) _
+reads_condition z i h = reads_like condition_text (λ c. (c.start < z.states) × ((c.line_start < z.states) × (IsString 0 4096 c.end.print × (c.end.status < 64)))) (IsCondition z.states i) _
     (reads_as
     (λ (p : ConditionParts). to_be_bytes w32 p.0 ++ (to_be_bytes w32 p.1.0 ++ end_text p.1.1))
     (λ p. (p.0 < z.states) × ((p.1.0 < z.states) × (IsString 0 4096 p.1.1.print × (p.1.1.status < 64))))
@@ -238,7 +238,7 @@ reads_statement conditions s low = record { takes = take; again = again }
 
 -- a rule that the version has
 abbrev pub IsRuleBy : Sizes → Bool → ℕ → RuleOfTable → Type 0
-IsRuleBy z stack i r = IsTableRule z i r × InVersion stack r.statements
+IsRuleBy z stack i r = IsTableRule z.conditions i r × InVersion stack r.statements
 
 pub reads_rule : (z : Sizes) (stack : Bool) (i : ℕ) → z.conditions ≤ 256 → IsReader rule_text (IsRuleBy z stack i) (rule_at z.conditions stack)
 unfolding rule_at
@@ -319,7 +319,7 @@ AreAccepted z rejects s rules = ((rejects ≡ false → length rules ≤ 1) × (
 abbrev AreRowParts : Sizes → Bool → ℕ → RowParts → Type 0
 AreRowParts z rejects s p = ((p.0 < z.states) × (s ≡ 0 → p.0 ≡ 0)) × (((p.1.0 + z.classes ≤ z.slots) × (s ≡ 0 → p.1.0 ≡ 0)) × AreAccepted z rejects s p.1.1)
 
-row_is : (z : Sizes) (rejects : Bool) (s : ℕ) (r : Row) → AreRowParts z rejects s (r.default_target, (r.base, r.rules)) → IsRow z rejects s r
+row_is : (z : Sizes) (rejects : Bool) (s : ℕ) (r : Row) → AreRowParts z rejects s (r.default_target, (r.base, r.rules)) → IsRow z.rules z.states z.classes z.slots rejects s r
 row_is z rejects s r l = record {
   default_target = l.0.0;
   base = l.1.0.0;
@@ -329,14 +329,14 @@ row_is z rejects s r l = record {
   dead = λ e. (l.0.1 e, l.1.0.1 e, nil_from_length r.rules (l.1.1.0.1 e));
 }
 
-is_row : (z : Sizes) (rejects : Bool) (s : ℕ) (r : Row) → IsRow z rejects s r → AreRowParts z rejects s (r.default_target, (r.base, r.rules))
+is_row : (z : Sizes) (rejects : Bool) (s : ℕ) (r : Row) → IsRow z.rules z.states z.classes z.slots rejects s r → AreRowParts z rejects s (r.default_target, (r.base, r.rules))
 is_row z rejects s r l =
     ((l.default_target, λ e. (l.dead e).0), ((l.base, λ e. (l.dead e).1), ((l.first_alone, λ e. ap length (l.dead e).2), ascent_climbs z.rules 0 r.rules (λ i a. omega arith) l.rules l.ascending)))
 
 -- where some rule has REJECT, the number of rules of a row is bounded by four bytes alone
-pub reads_row : (z : Sizes) (rejects : Bool) (s : ℕ) → z.states < 4294967296 → z.slots < 4294967296 → z.rules < 4294967296 → IsReader row_text (IsRow z rejects s) (row_at z rejects s)
+pub reads_row : (z : Sizes) (rejects : Bool) (s : ℕ) → z.states < 4294967296 → z.slots < 4294967296 → z.rules < 4294967296 → IsReader row_text (IsRow z.rules z.states z.classes z.slots rejects s) (row_at z rejects s)
 unfolding row_at
-reads_row z rejects s h k g = reads_like row_text (λ r. AreRowParts z rejects s (r.default_target, (r.base, r.rules))) (IsRow z rejects s) _
+reads_row z rejects s h k g = reads_like row_text (λ r. AreRowParts z rejects s (r.default_target, (r.base, r.rules))) (IsRow z.rules z.states z.classes z.slots rejects s) _
     (reads_as
     (λ (p : RowParts). to_be_bytes w32 p.0 ++ (to_be_bytes w32 p.1.0 ++ (to_be_bytes w32 (length p.1.1) ++ flat_map (to_be_bytes w32) p.1.1)))
     (AreRowParts z rejects s)
@@ -394,9 +394,9 @@ is_check z bases i (suc c) h =
     let some : 1 ≤ suc c = omega arith in
     rw (not_zero c) (is_and (nat_lt (suc c) z.states) _ (is_lt (suc c) z.states h.check) (is_and (nat_le (get_or bases (suc c) 0) i) _ (is_le (get_or bases (suc c) 0) i (h.from some)) (is_lt i (get_or bases (suc c) 0 + z.classes) (h.to some))))
 
-pub reads_slot : (z : Sizes) (bases : List ℕ) (i : ℕ) → 1 ≤ z.states → z.states < 4294967296 → IsReader slot_text (IsSlot z bases i) (slot_at z bases i)
+pub reads_slot : (z : Sizes) (bases : List ℕ) (i : ℕ) → 1 ≤ z.states → z.states < 4294967296 → IsReader slot_text (IsSlot z.states z.classes bases i) (slot_at z bases i)
 unfolding slot_at
-reads_slot z bases i some h = reads_like slot_text (λ s. IsCheck z bases i s.check × ((s.next < z.states) × (s.check ≡ 0 → s.next ≡ 0))) (IsSlot z bases i) _
+reads_slot z bases i some h = reads_like slot_text (λ s. IsCheck z bases i s.check × ((s.next < z.states) × (s.check ≡ 0 → s.next ≡ 0))) (IsSlot z.states z.classes bases i) _
     (reads_as (λ (p : ℕ × ℕ). to_be_bytes w32 p.0 ++ to_be_bytes w32 p.1) (λ p. IsCheck z bases i p.0 × ((p.1 < z.states) × (p.0 ≡ 0 → p.1 ≡ 0))) _ slot_from (λ s. (s.check, s.next))
     (reads_both (to_be_bytes w32) (IsCheck z bases i) _ (λ c. to_be_bytes w32) (λ c n. (n < z.states) × (c ≡ 0 → n ≡ 0)) _
     (reads_if (to_be_bytes w32) (λ n. n < 4294967296) (IsCheck z bases i) (good_check z bases i) (number_at w32) reads_long (λ n l e. check_is z bases i n some e) (λ n l. (is_check z bases i n l, let lt = l.check in omega arith)))

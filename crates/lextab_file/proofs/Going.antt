@@ -10,6 +10,7 @@ use Rattle.lex_semantics.specs.MachineLaws.{LeadsToAccept}
 use Rattle.lextab_packed.specs.Checks.{IsTable}
 use Rattle.lextab_packed.specs.Invariant as I
 use Rattle.lextab_packed.specs.Steps as S
+use Rattle.lextab_packed.proofs.Finding.{accepted_in}
 use Rattle.lextab_packed.specs.Views.{row_of, table_of}
 use Rattle.lextab_packed.specs.declared.parts.Row.{Row}
 use Rattle.lextab_packed.specs.declared.parts.TableParts.{TableParts}
@@ -57,13 +58,13 @@ module _ (p : TableParts) (ok : IsTable (table_of p)) (next : List ℕ) (len : l
   there : (s : ℕ) → s < length p.rows.items → LeadsOn next (map accepts p.rows.items) s → LeadsToAccept (plain p) s
   there s h (w, text, some, a) =
       let q = walk (plain p) s w in
-      let r = some_rule (S.accepted_in (table_of p) q) (sym (flag_at p.rows.items q) ∙ subst (λ (k : ℕ). flag (map accepts p.rows.items) k ≡ true) (same_after s w h text) a) in
+      let r = some_rule (accepted_in (table_of p) q) (sym (flag_at p.rows.items q) ∙ subst (λ (k : ℕ). flag (map accepts p.rows.items) k ≡ true) (same_after s w h text) a) in
       (w, text, some, r.0, r.1)
 
   back : (s : ℕ) → s < length p.rows.items → LeadsToAccept (plain p) s → LeadsOn next (map accepts p.rows.items) s
   back s h (w, text, some, i, a) =
       let q = walk (plain p) s w in
-      (w, text, some, subst (λ (k : ℕ). flag (map accepts p.rows.items) k ≡ true) (sym (same_after s w h text)) (flag_at p.rows.items q ∙ is_some (S.accepted_in (table_of p) q) i a))
+      (w, text, some, subst (λ (k : ℕ). flag (map accepts p.rows.items) k ≡ true) (sym (same_after s w h text)) (flag_at p.rows.items q ∙ is_some (accepted_in (table_of p) q) i a))
 
   pub goes_on : (live : List Bool) → AreLive next (map accepts p.rows.items) live → I.GoesOn (table_of p) live
   goes_on live l = record {

@@ -58,7 +58,7 @@ file_same p =
 
 -- ---- what a table's parts keep to can be written
 
-conditions_fit : (z : Sizes) (i : ℕ) (xs : List TableCondition) → Each (IsCondition z) i (map condition_of xs) → AllByRecursion FitsCondition xs
+conditions_fit : (z : Sizes) (i : ℕ) (xs : List TableCondition) → Each (IsCondition z.states) i (map condition_of xs) → AllByRecursion FitsCondition xs
 conditions_fit z i [] h = tt
 conditions_fit z i (x ∷ xs) h = (h.0.print, conditions_fit z (suc i) xs h.1)
 
@@ -68,7 +68,7 @@ statements_fit (x ∷ xs) h =
     let whole = sum_by-cons literal_bytes (statement_of x) (map statement_of xs) in
     (omega (arith, h, whole), statements_fit xs (omega (arith, h, whole)))
 
-rules_fit : (z : Sizes) (i : ℕ) (xs : List TableRule) → Each (IsTableRule z) i (map rule_of xs) → AllByRecursion FitsRule xs
+rules_fit : (z : Sizes) (i : ℕ) (xs : List TableRule) → Each (IsTableRule z.conditions) i (map rule_of xs) → AllByRecursion FitsRule xs
 rules_fit z i [] h = tt
 rules_fit z i (x ∷ xs) h = (
   record {
@@ -78,17 +78,17 @@ rules_fit z i (x ∷ xs) h = (
   rules_fit z (suc i) xs h.1,
 )
 
-rows_fit : (z : Sizes) (rejects : Bool) (i : ℕ) (xs : List Row) → z.rules ≤ 4096 → Each (IsRow z rejects) i (map row_of xs) → AllByRecursion FitsRow xs
+rows_fit : (z : Sizes) (rejects : Bool) (i : ℕ) (xs : List Row) → z.rules ≤ 4096 → Each (IsRow z.rules z.states z.classes z.slots rejects) i (map row_of xs) → AllByRecursion FitsRow xs
 rows_fit z rejects i [] low h = tt
 rows_fit z rejects i (x ∷ xs) low h = (let le = few_ascend z.rules x.rules.items h.0.rules h.0.ascending in omega (arith, le, low), rows_fit z rejects (suc i) xs low h.1)
 
 pub parts_fit : (p : TableParts) → IsTable (table_of p) → FitsParts p
 parts_fit p ok = record {
-  conditions = let le = ok.sizes.conditions.1 in omega (arith, length-map p.conditions.items condition_of);
-  rules = let le = ok.sizes.rules in omega (arith, length-map p.rules.items rule_of);
-  rows = let le = ok.sizes.states.1 in omega (arith, length-map p.rows.items row_of);
-  slots = ok.sizes.slots.1;
+  conditions = let le = ok.sizes.some_conditions.1 in omega (arith, length-map p.conditions.items condition_of);
+  rules = let le = ok.sizes.few_rules in omega (arith, length-map p.rules.items rule_of);
+  rows = let le = ok.sizes.some_states.1 in omega (arith, length-map p.rows.items row_of);
+  slots = ok.sizes.some_slots.1;
   each_condition = All-from_recursion FitsCondition p.conditions.items (conditions_fit (sizes_of (table_of p)) 0 p.conditions.items ok.conditions);
   each_rule = All-from_recursion FitsRule p.rules.items (rules_fit (sizes_of (table_of p)) 0 p.rules.items ok.rules);
-  each_row = All-from_recursion FitsRow p.rows.items (rows_fit (sizes_of (table_of p)) (some_rule_rejects (map rule_of p.rules.items)) 0 p.rows.items ok.sizes.rules ok.rows);
+  each_row = All-from_recursion FitsRow p.rows.items (rows_fit (sizes_of (table_of p)) (some_rule_rejects (map rule_of p.rules.items)) 0 p.rows.items ok.sizes.few_rules ok.rows);
 }

@@ -16,11 +16,11 @@ use Rattle.lextab_file.proofs.Forms.{IsReader, reads_both, reads_if, reads_as, r
 use Rattle.lextab_file.proofs.Actions.{and_is}
 use Rattle.lextab_file.proofs.Fields.{reads_within, reads_byte_below, reads_condition, IsRuleBy, reads_rule, reads_row, reads_slot, tag_is}
 
-reads_sizes : IsReader sizes_text AreSizes sizes_at
+reads_sizes : IsReader sizes_text (λ z. AreSizes z.conditions z.rules z.states z.classes z.slots) sizes_at
 unfolding sizes_at
 reads_sizes = reads_like sizes_text
     (λ z. ((1 ≤ z.conditions) × (z.conditions ≤ 255)) × (((0 ≤ z.rules) × (z.rules ≤ 4096)) × (((1 ≤ z.states) × (z.states ≤ 8192)) × (((1 ≤ z.classes) × (z.classes ≤ 256)) × ((z.classes ≤ z.slots) × (z.slots ≤ 2097152))))))
-    AreSizes _
+    (λ z. AreSizes z.conditions z.rules z.states z.classes z.slots) _
     (reads_as (λ (p : ℕ × (ℕ × (ℕ × (ℕ × ℕ)))). to_be_bytes w32 p.0 ++ (to_be_bytes w32 p.1.0 ++ (to_be_bytes w32 p.1.1.0 ++ (to_be_bytes w32 p.1.1.1.0 ++ to_be_bytes w32 p.1.1.1.1))))
     (λ p. ((1 ≤ p.0) × (p.0 ≤ 255)) × (((0 ≤ p.1.0) × (p.1.0 ≤ 4096)) × (((1 ≤ p.1.1.0) × (p.1.1.0 ≤ 8192)) × (((1 ≤ p.1.1.1.0) × (p.1.1.1.0 ≤ 256)) × ((p.1.1.1.0 ≤ p.1.1.1.1) × (p.1.1.1.1 ≤ 2097152))))))
     _ sizes_from (λ z. (z.conditions, (z.rules, (z.states, (z.classes, z.slots)))))
@@ -37,13 +37,13 @@ reads_sizes = reads_like sizes_text
     (reads_within 1 256 (omega arith)) (λ k l. reads_within k 2097152 (omega arith))))))
     (λ z. refl) (λ p l. refl))
     (λ z l. record {
-      conditions = l.0;
-      rules = l.1.0.1;
-      states = l.1.1.0;
-      classes = l.1.1.1.0;
-      slots = l.1.1.1.1;
+      some_conditions = l.0;
+      few_rules = l.1.0.1;
+      some_states = l.1.1.0;
+      some_classes = l.1.1.1.0;
+      some_slots = l.1.1.1.1;
     })
-    (λ z l. (l.conditions, ((omega arith, l.rules), (l.states, (l.classes, l.slots)))))
+    (λ z l. (l.some_conditions, ((omega arith, l.few_rules), (l.some_states, (l.some_classes, l.some_slots)))))
 
 magic_is : (xs : List ℕ) → length xs ≡ 6 → is_magic xs ≡ true → xs ≡ magic
 magic_is (a ∷ b ∷ c ∷ d ∷ e ∷ f ∷ []) len h =
@@ -99,12 +99,12 @@ no_stack : (b c : Bool) → (b || c) ≡ false → (b ≡ false) × (c ≡ false
 no_stack true c e = absurd cc
 no_stack false c e = (refl, e)
 
-each_by : (z : Sizes) (stack : Bool) (i : ℕ) (rs : List RuleOfTable) → (stack ≡ false → any_stack rs ≡ false) → Each (IsTableRule z) i rs → Each (IsRuleBy z stack) i rs
+each_by : (z : Sizes) (stack : Bool) (i : ℕ) (rs : List RuleOfTable) → (stack ≡ false → any_stack rs ≡ false) → Each (IsTableRule z.conditions) i rs → Each (IsRuleBy z stack) i rs
 each_by z stack i [] none l = tt
 each_by z stack i (r ∷ rs) none l =
     ((l.0, λ e. (no_stack (has_stack r.statements) (any_stack rs) (none e)).0), each_by z stack (suc i) rs (λ e. (no_stack (has_stack r.statements) (any_stack rs) (none e)).1) l.1)
 
-by_each : (z : Sizes) (stack : Bool) (i : ℕ) (rs : List RuleOfTable) → Each (IsRuleBy z stack) i rs → Each (IsTableRule z) i rs
+by_each : (z : Sizes) (stack : Bool) (i : ℕ) (rs : List RuleOfTable) → Each (IsRuleBy z stack) i rs → Each (IsTableRule z.conditions) i rs
 by_each z stack i [] l = tt
 by_each z stack i (r ∷ rs) l = (l.0.0, by_each z stack (suc i) rs l.1)
 
@@ -118,11 +118,11 @@ body_text p = flat_map condition_text p.0 ++ (flat_map rule_text p.1.0 ++ (flat_
 
 abbrev IsBody : ℕ → Sizes → Body → Type 0
 IsBody v z p =
-    ((length p.0 ≡ z.conditions) × Each (IsCondition z) 0 p.0)
-    × ((((length p.1.0 ≡ z.rules) × Each (IsTableRule z) 0 p.1.0) × (version_of p.1.0 ≡ v))
+    ((length p.0 ≡ z.conditions) × Each (IsCondition z.states) 0 p.0)
+    × ((((length p.1.0 ≡ z.rules) × Each (IsTableRule z.conditions) 0 p.1.0) × (version_of p.1.0 ≡ v))
     × (((length p.1.1.0 ≡ 256) × Each (λ b k. k < z.classes) 0 p.1.1.0)
-    × (((length p.1.1.1.0 ≡ z.states) × Each (IsRow z (some_rule_rejects p.1.0)) 0 p.1.1.1.0)
-    × ((length p.1.1.1.1 ≡ z.slots) × Each (IsSlot z (bases_of p.1.1.1.0)) 0 p.1.1.1.1))))
+    × (((length p.1.1.1.0 ≡ z.states) × Each (IsRow z.rules z.states z.classes z.slots (some_rule_rejects p.1.0)) 0 p.1.1.1.0)
+    × ((length p.1.1.1.1 ≡ z.slots) × Each (IsSlot z.states z.classes (bases_of p.1.1.1.0)) 0 p.1.1.1.1))))
 
 abbrev body_at : ℕ → Sizes → List ℕ → Option (Body × List ℕ)
 body_at v z = both (many (λ i. condition_at z.states) following z.conditions 0) (λ cs.
@@ -131,34 +131,34 @@ body_at v z = both (many (λ i. condition_at z.states) following z.conditions 0)
     both (many (row_at z (some_rule_rejects rs)) following z.states 0) (λ rows.
     many (slot_at z (bases_of rows)) following z.slots 0))))
 
-reads_body : (v : ℕ) (z : Sizes) → AreSizes z → IsReader body_text (IsBody v z) (body_at v z)
+reads_body : (v : ℕ) (z : Sizes) → AreSizes z.conditions z.rules z.states z.classes z.slots → IsReader body_text (IsBody v z) (body_at v z)
 reads_body v z ok =
-    let rows_low : z.states < 4294967296 = let le = ok.states.1 in omega arith in
-    let slots_low : z.slots < 4294967296 = let le = ok.slots.1 in omega arith in
-    let rules_low : z.rules < 4294967296 = let le = ok.rules in omega arith in
-    let classes_low : z.classes ≤ 256 = ok.classes.1 in
-    let conditions_low : z.conditions ≤ 256 = let le = ok.conditions.1 in omega arith in
-    reads_both (flat_map condition_text) (λ xs. (length xs ≡ z.conditions) × Each (IsCondition z) 0 xs) _
+    let rows_low : z.states < 4294967296 = let le = ok.some_states.1 in omega arith in
+    let slots_low : z.slots < 4294967296 = let le = ok.some_slots.1 in omega arith in
+    let rules_low : z.rules < 4294967296 = let le = ok.few_rules in omega arith in
+    let classes_low : z.classes ≤ 256 = ok.some_classes.1 in
+    let conditions_low : z.conditions ≤ 256 = let le = ok.some_conditions.1 in omega arith in
+    reads_both (flat_map condition_text) (λ xs. (length xs ≡ z.conditions) × Each (IsCondition z.states) 0 xs) _
     (λ cs (p : List RuleOfTable × (List ℕ × (List Row × List Slot))). flat_map rule_text p.0 ++ (flat_map byte p.1.0 ++ (flat_map row_text p.1.1.0 ++ flat_map slot_text p.1.1.1)))
-    (λ cs p. (((length p.0 ≡ z.rules) × Each (IsTableRule z) 0 p.0) × (version_of p.0 ≡ v)) × (((length p.1.0 ≡ 256) × Each (λ b k. k < z.classes) 0 p.1.0) × (((length p.1.1.0 ≡ z.states) × Each (IsRow z (some_rule_rejects p.0)) 0 p.1.1.0) × ((length p.1.1.1 ≡ z.slots) × Each (IsSlot z (bases_of p.1.1.0)) 0 p.1.1.1)))) _
-    (reads_places condition_text (IsCondition z) (λ i. condition_at z.states) (λ i. reads_condition z i rows_low) z.conditions)
+    (λ cs p. (((length p.0 ≡ z.rules) × Each (IsTableRule z.conditions) 0 p.0) × (version_of p.0 ≡ v)) × (((length p.1.0 ≡ 256) × Each (λ b k. k < z.classes) 0 p.1.0) × (((length p.1.1.0 ≡ z.states) × Each (IsRow z.rules z.states z.classes z.slots (some_rule_rejects p.0)) 0 p.1.1.0) × ((length p.1.1.1 ≡ z.slots) × Each (IsSlot z.states z.classes (bases_of p.1.1.0)) 0 p.1.1.1)))) _
+    (reads_places condition_text (IsCondition z.states) (λ i. condition_at z.states) (λ i. reads_condition z i rows_low) z.conditions)
     (λ cs l.
-    reads_both (flat_map rule_text) (λ xs. ((length xs ≡ z.rules) × Each (IsTableRule z) 0 xs) × (version_of xs ≡ v)) _
+    reads_both (flat_map rule_text) (λ xs. ((length xs ≡ z.rules) × Each (IsTableRule z.conditions) 0 xs) × (version_of xs ≡ v)) _
     (λ rs (p : List ℕ × (List Row × List Slot)). flat_map byte p.0 ++ (flat_map row_text p.1.0 ++ flat_map slot_text p.1.1))
-    (λ rs p. ((length p.0 ≡ 256) × Each (λ b k. k < z.classes) 0 p.0) × (((length p.1.0 ≡ z.states) × Each (IsRow z (some_rule_rejects rs)) 0 p.1.0) × ((length p.1.1 ≡ z.slots) × Each (IsSlot z (bases_of p.1.0)) 0 p.1.1))) _
-    (reads_if (flat_map rule_text) (λ xs. (length xs ≡ z.rules) × Each (IsRuleBy z (v == 2)) 0 xs) (λ xs. ((length xs ≡ z.rules) × Each (IsTableRule z) 0 xs) × (version_of xs ≡ v)) (λ rs. version_of rs == v) _
+    (λ rs p. ((length p.0 ≡ 256) × Each (λ b k. k < z.classes) 0 p.0) × (((length p.1.0 ≡ z.states) × Each (IsRow z.rules z.states z.classes z.slots (some_rule_rejects rs)) 0 p.1.0) × ((length p.1.1 ≡ z.slots) × Each (IsSlot z.states z.classes (bases_of p.1.0)) 0 p.1.1))) _
+    (reads_if (flat_map rule_text) (λ xs. (length xs ≡ z.rules) × Each (IsRuleBy z (v == 2)) 0 xs) (λ xs. ((length xs ≡ z.rules) × Each (IsTableRule z.conditions) 0 xs) × (version_of xs ≡ v)) (λ rs. version_of rs == v) _
     (reads_places rule_text (IsRuleBy z (v == 2)) (λ i. rule_at z.conditions (v == 2)) (λ i. reads_rule z (v == 2) i conditions_low) z.rules)
     (λ rs l e. ((l.0, by_each z (v == 2) 0 rs l.1), tag_is _ v e)) (λ rs l. (rw l.1 (same_tag v), (l.0.0, each_by z (v == 2) 0 rs (none_needed (any_stack rs) v l.1) l.0.1))))
     (λ rs l.
     reads_both (flat_map byte) (λ xs. (length xs ≡ 256) × Each (λ b k. k < z.classes) 0 xs) _
     (λ ks (p : List Row × List Slot). flat_map row_text p.0 ++ flat_map slot_text p.1)
-    (λ ks p. ((length p.0 ≡ z.states) × Each (IsRow z (some_rule_rejects rs)) 0 p.0) × ((length p.1 ≡ z.slots) × Each (IsSlot z (bases_of p.0)) 0 p.1)) _
+    (λ ks p. ((length p.0 ≡ z.states) × Each (IsRow z.rules z.states z.classes z.slots (some_rule_rejects rs)) 0 p.0) × ((length p.1 ≡ z.slots) × Each (IsSlot z.states z.classes (bases_of p.0)) 0 p.1)) _
     (reads_places byte (λ b k. k < z.classes) (class_at z.classes) (λ i. reads_byte_below z.classes classes_low) 256)
     (λ ks l.
-    reads_both (flat_map row_text) (λ xs. (length xs ≡ z.states) × Each (IsRow z (some_rule_rejects rs)) 0 xs) _
-    (λ rows. flat_map slot_text) (λ rows xs. (length xs ≡ z.slots) × Each (IsSlot z (bases_of rows)) 0 xs) _
-    (reads_places row_text (IsRow z (some_rule_rejects rs)) (row_at z (some_rule_rejects rs)) (λ i. reads_row z (some_rule_rejects rs) i rows_low slots_low rules_low) z.states)
-    (λ rows l. reads_places slot_text (IsSlot z (bases_of rows)) (slot_at z (bases_of rows)) (λ i. reads_slot z (bases_of rows) i ok.states.0 rows_low) z.slots))))
+    reads_both (flat_map row_text) (λ xs. (length xs ≡ z.states) × Each (IsRow z.rules z.states z.classes z.slots (some_rule_rejects rs)) 0 xs) _
+    (λ rows. flat_map slot_text) (λ rows xs. (length xs ≡ z.slots) × Each (IsSlot z.states z.classes (bases_of rows)) 0 xs) _
+    (reads_places row_text (IsRow z.rules z.states z.classes z.slots (some_rule_rejects rs)) (row_at z (some_rule_rejects rs)) (λ i. reads_row z (some_rule_rejects rs) i rows_low slots_low rules_low) z.states)
+    (λ rows l. reads_places slot_text (IsSlot z.states z.classes (bases_of rows)) (slot_at z (bases_of rows)) (λ i. reads_slot z (bases_of rows) i ok.some_states.0 rows_low) z.slots))))
   where
     same_tag : (v : ℕ) → (v == v) ≡ true
     same_tag v = grind (arith, nat_tests)
@@ -172,7 +172,7 @@ abbrev parts_of : Table → Parts
 parts_of t = (magic, (version_of t.rules, (sizes_of t, (t.conditions, (t.rules, (t.class_of, (t.rows, t.slots)))))))
 
 abbrev IsParts : Parts → Type 0
-IsParts p = (p.0 ≡ magic) × (IsVersion p.1.0 × (AreSizes p.1.1.0 × IsBody p.1.0 p.1.1.0 p.1.1.1))
+IsParts p = (p.0 ≡ magic) × (IsVersion p.1.0 × (AreSizes p.1.1.0.conditions p.1.1.0.rules p.1.1.0.states p.1.1.0.classes p.1.1.0.slots × IsBody p.1.0 p.1.1.0 p.1.1.1))
 
 parts_back : (p : Parts) → IsParts p → parts_of (table_from p) ≡ p
 parts_back p l =
@@ -186,11 +186,11 @@ pub reads_table : IsReader file_of IsTable table_at
 unfolding table_at
 reads_table = reads_like file_of (λ t. IsParts (parts_of t)) IsTable _
     (reads_as (λ (p : Parts). p.0 ++ (to_be_bytes w16 p.1.0 ++ (sizes_text p.1.1.0 ++ body_text p.1.1.1))) IsParts _ table_from parts_of
-    (reads_both (λ xs. xs) (λ xs. xs ≡ magic) _ (λ m (p : ℕ × (Sizes × Body)). to_be_bytes w16 p.0 ++ (sizes_text p.1.0 ++ body_text p.1.1)) (λ m p. IsVersion p.0 × (AreSizes p.1.0 × IsBody p.0 p.1.0 p.1.1)) _
+    (reads_both (λ xs. xs) (λ xs. xs ≡ magic) _ (λ m (p : ℕ × (Sizes × Body)). to_be_bytes w16 p.0 ++ (sizes_text p.1.0 ++ body_text p.1.1)) (λ m p. IsVersion p.0 × (AreSizes p.1.0.conditions p.1.0.rules p.1.0.states p.1.0.classes p.1.0.slots × IsBody p.0 p.1.0 p.1.1)) _
     reads_magic (λ m l.
-    reads_both (to_be_bytes w16) IsVersion _ (λ v (p : Sizes × Body). sizes_text p.0 ++ body_text p.1) (λ v p. AreSizes p.0 × IsBody v p.0 p.1) _
+    reads_both (to_be_bytes w16) IsVersion _ (λ v (p : Sizes × Body). sizes_text p.0 ++ body_text p.1) (λ v p. AreSizes p.0.conditions p.0.rules p.0.states p.0.classes p.0.slots × IsBody v p.0 p.1) _
     reads_version (λ v l.
-    reads_both sizes_text AreSizes sizes_at (λ z. body_text) (λ z. IsBody v z) (λ z. body_at v z)
+    reads_both sizes_text (λ z. AreSizes z.conditions z.rules z.states z.classes z.slots) sizes_at (λ z. body_text) (λ z. IsBody v z) (λ z. body_at v z)
     reads_sizes (λ z l. reads_body v z l))))
     (λ t. refl) parts_back)
     (λ t l. let b = l.1.1.1 in record { sizes = l.1.1.0; conditions = b.0.1; rules = b.1.0.0.1; bytes = b.1.1.0.0; class_of = b.1.1.0.1; rows = b.1.1.1.0.1; slots = b.1.1.1.1.1 })

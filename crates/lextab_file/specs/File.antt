@@ -4,7 +4,7 @@ use Rattle.std.specs.Int.{w16, w32, to_be_bytes}
 use Rattle.std.specs.List.{flat_map, list_any}
 use Rattle.lex_semantics.specs.Spec.{Statement, Echo, Print, Begin, More, Less, Reject, End, Push, Pop, EndAction, Cut, Whole, Head, Trail}
 use Rattle.lextab_packed.specs.Table.{ConditionOfTable, RuleOfTable, Row, Slot, Table}
-use Rattle.lextab_packed.specs.Checks.{Sizes, sizes_of, IsTable}
+use Rattle.lextab_packed.specs.Checks.{Sizes, IsTable}
 
 -- two and four bytes
 abbrev pub short : ℕ → List ℕ
@@ -38,11 +38,8 @@ statement_text (End status) = 6 ∷ byte status
 statement_text (Push c) = 7 ∷ byte c
 statement_text Pop = byte 8
 
-abbrev pub end_text : EndAction → List ℕ
-end_text e = string e.print ++ byte e.status
-
 abbrev pub condition_text : ConditionOfTable → List ℕ
-condition_text c = long c.start ++ (long c.line_start ++ end_text c.end)
+condition_text c = long c.start ++ (long c.line_start ++ (string c.end.print ++ byte c.end.status))
 
 abbrev pub rule_text : RuleOfTable → List ℕ
 rule_text r = cut_text r.cut ++ (long (length r.statements) ++ flat_map statement_text r.statements)
@@ -53,32 +50,20 @@ row_text r = long r.default_target ++ (long r.base ++ (long (length r.rules) ++ 
 abbrev pub slot_text : Slot → List ℕ
 slot_text s = long s.check ++ long s.next
 
--- the first bytes of each file
-abbrev pub magic : List ℕ
-magic = codes "LEXTAB"
-
 -- a statement of the stack of conditions
 abbrev pub is_stack : Statement → Bool
 is_stack (Push c) = true
 is_stack Pop = true
 is_stack _ = false
 
-abbrev pub has_stack : List Statement → Bool
-has_stack ss = list_any is_stack ss
-
-abbrev pub any_stack : List RuleOfTable → Bool
-any_stack rs = list_any (λ r. has_stack r.statements) rs
-
 -- the version that these rules need: 2 where one has a statement of the stack
 abbrev pub version_of : List RuleOfTable → ℕ
-version_of rules = if any_stack rules then 2 else 1
-
-abbrev pub sizes_text : Sizes → List ℕ
-sizes_text z = long z.conditions ++ (long z.rules ++ (long z.states ++ (long z.classes ++ long z.slots)))
+version_of rules = if list_any (λ r. list_any is_stack r.statements) rules then 2 else 1
 
 abbrev pub file_of : Table → List ℕ
 file_of t =
-    magic ++ (short (version_of t.rules) ++ (sizes_text (sizes_of t)
+    codes "LEXTAB" ++ (short (version_of t.rules) ++ ((long (length t.conditions)
+    ++ (long (length t.rules) ++ (long (length t.rows) ++ (long t.classes ++ long (length t.slots)))))
     ++ (flat_map condition_text t.conditions
     ++ (flat_map rule_text t.rules
     ++ (flat_map byte t.class_of
@@ -88,3 +73,19 @@ file_of t =
 -- the bytes are the file of the table, which keeps to what tables keep to
 abbrev pub IsFileOf : Table → List ℕ → Type 0
 IsFileOf t bytes = IsTable t × (bytes ≡ file_of t)
+
+-- Names that proofs have for parts of a file, and for whether an action or some rule has a statement of the stack.
+abbrev pub end_text : EndAction → List ℕ
+end_text e = string e.print ++ byte e.status
+
+abbrev pub magic : List ℕ
+magic = codes "LEXTAB"
+
+abbrev pub has_stack : List Statement → Bool
+has_stack ss = list_any is_stack ss
+
+abbrev pub any_stack : List RuleOfTable → Bool
+any_stack rs = list_any (λ r. has_stack r.statements) rs
+
+abbrev pub sizes_text : Sizes → List ℕ
+sizes_text z = long z.conditions ++ (long z.rules ++ (long z.states ++ (long z.classes ++ long z.slots)))

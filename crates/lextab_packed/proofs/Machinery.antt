@@ -11,15 +11,15 @@ use Rattle.lex_semantics.specs.Machine.{Machine, walk}
 use Rattle.lex_semantics.specs.MachineLaws.{MachineLaws, LeadsToAccept, StaysBelow}
 use Rattle.lextab_packed.specs.Table.{Table, ConditionOfTable, RuleOfTable}
 use Rattle.lextab_packed.specs.Checks.{Each, Sizes, sizes_of, IsCondition, IsTableRule, IsTable}
-use Rattle.lextab_packed.specs.Steps.{step_of, accepted_in, machine_of_table}
-use Rattle.lextab_packed.proofs.Finding.{start_at, statements_at}
+use Rattle.lextab_packed.specs.Steps.{step_of, machine_of_table}
+use Rattle.lextab_packed.proofs.Finding.{start_at, statements_at, accepted_in}
 use Rattle.lextab_packed.specs.Invariant.{GoesOn}
 use Rattle.lextab_packed.proofs.Places.{past_end, row_is, step_below, step_dead, dead_accepts, past_accepts, nowhere}
 
 same_bool : (a b : Bool) → IsProp (a ≡ b)
 same_bool a b = Prim.hlevel props
 
-legal_from : (z : Sizes) (n : ℕ) (rs : List RuleOfTable) (i : ℕ) → Each (IsTableRule z) n rs → i < length rs → IsAction z.conditions (statements_at (slice_get rs i))
+legal_from : (z : Sizes) (n : ℕ) (rs : List RuleOfTable) (i : ℕ) → Each (IsTableRule z.conditions) n rs → i < length rs → IsAction z.conditions (statements_at (slice_get rs i))
 legal_from z n [] i h lt = absurd (omega (arith, lt))
 legal_from z n (r ∷ rs) zero h lt = action_of z.conditions r.statements h.0.legal
 legal_from z n (r ∷ rs) (suc i) h lt = legal_from z (suc n) rs i h.1 (omega (arith, lt))
@@ -28,7 +28,7 @@ start_of : (n : ℕ) (c : ConditionOfTable) (line_start : Bool) → c.start < n 
 start_of n c true h k = k
 start_of n c false h k = h
 
-start_from : (z : Sizes) (n : ℕ) (cs : List ConditionOfTable) (i : ℕ) (line_start : Bool) → Each (IsCondition z) n cs → i < length cs → start_at (slice_get cs i) line_start < z.states
+start_from : (z : Sizes) (n : ℕ) (cs : List ConditionOfTable) (i : ℕ) (line_start : Bool) → Each (IsCondition z.states) n cs → i < length cs → start_at (slice_get cs i) line_start < z.states
 start_from z n [] i line_start h lt = absurd (omega (arith, lt))
 start_from z n (c ∷ cs) zero line_start h lt = start_of z.states c line_start h.0.start h.0.line_start
 start_from z n (c ∷ cs) (suc i) line_start h lt = start_from z (suc n) cs i line_start h.1 (omega (arith, lt))
@@ -80,7 +80,7 @@ module _ (t : Table) (ok : IsTable t) (flags : List Bool) (goes : GoesOn t flags
 
   pub machine_laws : MachineLaws M
   machine_laws = record {
-    some_condition = ok.sizes.conditions.0;
+    some_condition = ok.sizes.some_conditions.0;
     in_range = in_range;
     ascending = ascending;
     dead_stays = step_dead t ok;
@@ -91,7 +91,7 @@ module _ (t : Table) (ok : IsTable t) (flags : List Bool) (goes : GoesOn t flags
 
   pub stays_below : StaysBelow M (length t.rows)
   stays_below = record {
-    dead = ok.sizes.states.0;
+    dead = ok.sizes.some_states.0;
     start = λ c line_start h. start_from (sizes_of t) 0 t.conditions c line_start ok.conditions h;
     next = λ s b h k. step_below t ok s b;
     accepts = accepts_below;

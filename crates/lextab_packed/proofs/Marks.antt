@@ -41,7 +41,7 @@ state_in (Several rule) t r e low = omega (arith, e, low)
 
 module _ (t : Tables) where
   pub few_states : states_of t ≤ 8192
-  few_states = let s = t.lawful.sizes.states.1 in omega (arith, s, length-map t.parts.rows.items row_of)
+  few_states = let s = t.lawful.sizes.some_states.1 in omega (arith, s, length-map t.parts.rows.items row_of)
 
   -- a step from the state after some bytes
   module _ (first n : ℕ) (bytes : List ℕ) (lt : n < length bytes) (small : get_or bytes n 0 < 256) (known : walk (table_machine t) first (take n bytes) < states_of t) where

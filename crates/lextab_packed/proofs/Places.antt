@@ -7,8 +7,8 @@ use Rattle.lex_semantics.specs.Machine.{Machine, walk}
 use Rattle.lex_semantics.specs.MachineLaws.{LeadsToAccept}
 use Rattle.lextab_packed.specs.Table.{Table, Row, Slot}
 use Rattle.lextab_packed.specs.Checks.{Each, Sizes, sizes_of, bases_of, some_rule_rejects, IsRow, IsSlot, IsTable}
-use Rattle.lextab_packed.specs.Steps.{row_in, slot_in, target, step_of, accepted_in, machine_of_table}
-use Rattle.lextab_packed.proofs.Finding.{no_row, no_slot}
+use Rattle.lextab_packed.specs.Steps.{row_in, target, step_of, machine_of_table}
+use Rattle.lextab_packed.proofs.Finding.{no_row, no_slot, slot_in, accepted_in}
 
 each_from : {A : Type 0} (P : ℕ → A → Type 0) (n : ℕ) (xs : List A) (i : ℕ) (d : A) → Each P n xs → i < length xs → P (n + i) (get_or xs i d)
 each_from P n [] i d h lt = absurd (omega arith)
@@ -38,11 +38,11 @@ past_end [] i d h = refl
 past_end (x ∷ xs) zero d h = absurd (omega (arith, h))
 past_end (x ∷ xs) (suc i) d h = past_end xs i d (omega (arith, h))
 
-target_below : (z : Sizes) (bases : List ℕ) (i n : ℕ) (row : Row) (slot : Slot) → row.default_target < n → z.states ≡ n → IsSlot z bases i slot → (b : Bool) → cond b slot.next row.default_target < n
+target_below : (z : Sizes) (bases : List ℕ) (i n : ℕ) (row : Row) (slot : Slot) → row.default_target < n → z.states ≡ n → IsSlot z.states z.classes bases i slot → (b : Bool) → cond b slot.next row.default_target < n
 target_below z bases i n row slot o e h false = o
 target_below z bases i n row slot o e h true = let low = h.next in omega (arith, low, e)
 
-dead_slot : (z : Sizes) (bases : List ℕ) (i o : ℕ) (slot : Slot) → o ≡ 0 → IsSlot z bases i slot → (b : Bool) → (slot.check == 0) ≡ b → cond b slot.next o ≡ 0
+dead_slot : (z : Sizes) (bases : List ℕ) (i o : ℕ) (slot : Slot) → o ≡ 0 → IsSlot z.states z.classes bases i slot → (b : Bool) → (slot.check == 0) ≡ b → cond b slot.next o ≡ 0
 dead_slot z bases i o slot e h false q = e
 dead_slot z bases i o slot e h true q = h.unused (eqb-true slot.check 0 q)
 
@@ -55,11 +55,11 @@ zero_or_zero true x h = h refl
 zero_or_zero false x h = refl
 
 module _ (t : Table) (ok : IsTable t) where
-  pub row_is : (s : ℕ) → s < length t.rows → IsRow (sizes_of t) (some_rule_rejects t.rules) s (row_in t s)
-  row_is s lt = each_at (IsRow (sizes_of t) (some_rule_rejects t.rules)) t.rows s no_row ok.rows lt
+  pub row_is : (s : ℕ) → s < length t.rows → IsRow (sizes_of t).rules (sizes_of t).states (sizes_of t).classes (sizes_of t).slots (some_rule_rejects t.rules) s (row_in t s)
+  row_is s lt = each_at (IsRow (sizes_of t).rules (sizes_of t).states (sizes_of t).classes (sizes_of t).slots (some_rule_rejects t.rules)) t.rows s no_row ok.rows lt
 
-  slot_is : (i : ℕ) → i < length t.slots → IsSlot (sizes_of t) (bases_of t.rows) i (slice_index_or t.slots i no_slot)
-  slot_is i lt = each_at (IsSlot (sizes_of t) (bases_of t.rows)) t.slots i no_slot ok.slots lt
+  slot_is : (i : ℕ) → i < length t.slots → IsSlot (sizes_of t).states (sizes_of t).classes (bases_of t.rows) i (slice_index_or t.slots i no_slot)
+  slot_is i lt = each_at (IsSlot (sizes_of t).states (sizes_of t).classes (bases_of t.rows)) t.slots i no_slot ok.slots lt
 
   pub class_below : (b : ℕ) → b < 256 → get_or t.class_of b 0 < t.classes
   class_below b lt = let len = ok.bytes in each_at (λ i k. k < t.classes) t.class_of b 0 ok.class_of (omega (arith, len, lt))
@@ -74,7 +74,7 @@ module _ (t : Table) (ok : IsTable t) where
 
   -- states stay in range
   pub step_below : (s b : ℕ) → step_of t s b < length t.rows
-  step_below s b = in_range_or_zero (nat_lt s (length t.rows) && nat_lt b 256) (target (row_in t s) (slot_in t s b) s) (length t.rows) ok.sizes.states.0
+  step_below s b = in_range_or_zero (nat_lt s (length t.rows) && nat_lt b 256) (target (row_in t s) (slot_in t s b) s) (length t.rows) ok.sizes.some_states.0
       (λ e. let p = and_parts (nat_lt s (length t.rows)) (nat_lt b 256) e in target_in s b (ltb-true s (length t.rows) p.0) (ltb-true b 256 p.1))
 
   -- the dead state stays dead
@@ -86,7 +86,7 @@ module _ (t : Table) (ok : IsTable t) where
       dead_slot (sizes_of t) (bases_of t.rows) i (row_in t 0).default_target (slot_in t 0 b) ((row_is 0 h).dead refl).0 (slot_is i (place_below 0 b h k)) ((slot_in t 0 b).check == 0) refl)
 
   pub dead_accepts : accepted_in t 0 ≡ []
-  dead_accepts = ((row_is 0 ok.sizes.states.0).dead refl).2
+  dead_accepts = ((row_is 0 ok.sizes.some_states.0).dead refl).2
 
   -- a step of a state of the table, by a byte
   pub step_is : (s b : ℕ) → s < length t.rows → b < 256 → step_of t s b ≡ target (row_in t s) (slot_in t s b) s

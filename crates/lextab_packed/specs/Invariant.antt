@@ -44,7 +44,7 @@ HasText-prop i (End n) = Unit-prop
 HasText-prop i (Push c) = Unit-prop
 HasText-prop i Pop = Unit-prop
 
-IsCondition-prop : (z : Sizes) (i : ℕ) (c : ConditionOfTable) → IsProp (IsCondition z i c)
+IsCondition-prop : (z : Sizes) (i : ℕ) (c : ConditionOfTable) → IsProp (IsCondition z.states i c)
 IsCondition-prop z i c x y = λ k. record {
   start = le_prop x.start y.start k;
   line_start = le_prop x.line_start y.line_start k;
@@ -53,7 +53,7 @@ IsCondition-prop z i c x y = λ k. record {
   status = le_prop x.status y.status k;
 }
 
-IsRule-prop : (z : Sizes) (i : ℕ) (r : RuleOfTable) → IsProp (IsTableRule z i r)
+IsRule-prop : (z : Sizes) (i : ℕ) (r : RuleOfTable) → IsProp (IsTableRule z.conditions i r)
 IsRule-prop z i r x y = λ k. record {
   cut = IsCut-prop r.cut x.cut y.cut k;
   few = le_prop x.few y.few k;
@@ -62,7 +62,7 @@ IsRule-prop z i r x y = λ k. record {
   bytes = Each-prop HasText HasText-prop 0 r.statements x.bytes y.bytes k;
 }
 
-IsRow-prop : (z : Sizes) (rejects : Bool) (s : ℕ) (r : Row) → IsProp (IsRow z rejects s r)
+IsRow-prop : (z : Sizes) (rejects : Bool) (s : ℕ) (r : Row) → IsProp (IsRow z.rules z.states z.classes z.slots rejects s r)
 IsRow-prop z rejects s r x y = λ k. record {
   default_target = le_prop x.default_target y.default_target k;
   base = le_prop x.base y.base k;
@@ -72,7 +72,7 @@ IsRow-prop z rejects s r x y = λ k. record {
   dead = λ e. (let p : IsProp ((r.default_target ≡ 0) × (r.base ≡ 0) × (r.rules ≡ [])) = Prim.hlevel props in p) (x.dead e) (y.dead e) k;
 }
 
-IsSlot-prop : (z : Sizes) (bases : List ℕ) (i : ℕ) (s : Slot) → IsProp (IsSlot z bases i s)
+IsSlot-prop : (z : Sizes) (bases : List ℕ) (i : ℕ) (s : Slot) → IsProp (IsSlot z.states z.classes bases i s)
 IsSlot-prop z bases i s x y = λ k. record {
   next = le_prop x.next y.next k;
   check = le_prop x.check y.check k;
@@ -83,13 +83,13 @@ IsSlot-prop z bases i s x y = λ k. record {
 
 pub IsTable-prop : (t : Table) → IsProp (IsTable t)
 IsTable-prop t x y = λ k. record {
-  sizes = (let p : IsProp (AreSizes (sizes_of t)) = Prim.hlevel props in p) x.sizes y.sizes k;
-  conditions = Each-prop (IsCondition (sizes_of t)) (IsCondition-prop (sizes_of t)) 0 t.conditions x.conditions y.conditions k;
-  rules = Each-prop (IsTableRule (sizes_of t)) (IsRule-prop (sizes_of t)) 0 t.rules x.rules y.rules k;
+  sizes = (let p : IsProp (AreSizes (sizes_of t).conditions (sizes_of t).rules (sizes_of t).states (sizes_of t).classes (sizes_of t).slots) = Prim.hlevel props in p) x.sizes y.sizes k;
+  conditions = Each-prop (IsCondition (sizes_of t).states) (IsCondition-prop (sizes_of t)) 0 t.conditions x.conditions y.conditions k;
+  rules = Each-prop (IsTableRule (sizes_of t).conditions) (IsRule-prop (sizes_of t)) 0 t.rules x.rules y.rules k;
   bytes = (let p : IsProp (length t.class_of ≡ 256) = Prim.hlevel props in p) x.bytes y.bytes k;
   class_of = Each-prop (λ b c. c < t.classes) (λ b c. le_prop) 0 t.class_of x.class_of y.class_of k;
-  rows = Each-prop (IsRow (sizes_of t) (some_rule_rejects t.rules)) (IsRow-prop (sizes_of t) (some_rule_rejects t.rules)) 0 t.rows x.rows y.rows k;
-  slots = Each-prop (IsSlot (sizes_of t) (bases_of t.rows)) (IsSlot-prop (sizes_of t) (bases_of t.rows)) 0 t.slots x.slots y.slots k;
+  rows = Each-prop (IsRow (sizes_of t).rules (sizes_of t).states (sizes_of t).classes (sizes_of t).slots (some_rule_rejects t.rules)) (IsRow-prop (sizes_of t) (some_rule_rejects t.rules)) 0 t.rows x.rows y.rows k;
+  slots = Each-prop (IsSlot (sizes_of t).states (sizes_of t).classes (bases_of t.rows)) (IsSlot-prop (sizes_of t) (bases_of t.rows)) 0 t.slots x.slots y.slots k;
 }
 
 pub GoesOn-prop : (t : Table) (flags : List Bool) → IsProp (GoesOn t flags)

@@ -1,8 +1,10 @@
 -- What packed tables are made of, and their machine with its laws. (This project's.)
 use Rattle.std.specs.Prelude.{ℕ, Bool, List, length}
+use Rattle.lex_semantics.specs.Text.{flag}
 use Rattle.lex_semantics.specs.Machine.{Machine}
 use Rattle.lex_semantics.specs.MachineLaws.{MachineLaws, StaysBelow}
-use Rattle.lextab_packed.specs.Views.{machine_of_parts}
+use Rattle.lextab_packed.specs.Steps.{machine_of_table}
+use Rattle.lextab_packed.specs.Views.{table_of}
 use Rattle.lextab_packed.specs.declared.parts.TableParts.{TableParts}
 use Rattle.lextab_packed.specs.declared.tables.Tables.{Tables}
 
@@ -15,7 +17,7 @@ abbrev pub flags_of : Tables → List Bool
 flags_of t = t.goes_on.items
 
 abbrev pub table_machine : Tables → Machine
-table_machine t = machine_of_parts t.parts t.goes_on.items
+table_machine t = machine_of_table (table_of t.parts) (λ s. flag t.goes_on.items s)
 
 abbrev pub states_of : Tables → ℕ
 states_of t = length t.parts.rows.items

@@ -7,9 +7,8 @@ use Rattle.lextab_packed.specs.Table.{Row, Slot, Table}
 abbrev pub row_in : Table → ℕ → Row
 row_in t s = slice_index_or t.rows s (record { default_target = 0; base = 0; rules = [] })
 
--- the slot for a state and a byte
-abbrev pub slot_in : Table → ℕ → ℕ → Slot
-slot_in t s b = slice_index_or t.slots ((row_in t s).base + slice_index t.class_of b) (record { check = 0; next = 0 })
+abbrev pub slot_at : Table → ℕ → Slot
+slot_at t i = slice_index_or t.slots i (record { check = 0; next = 0 })
 
 -- the target in the slot where that is the state's, else the target of most classes
 abbrev pub target : Row → Slot → ℕ → ℕ
@@ -17,10 +16,8 @@ target row slot s = cond (slot.check == s) slot.next row.default_target
 
 -- the state after one byte more; out of range the dead state
 abbrev pub step_of : Table → ℕ → ℕ → ℕ
-step_of t s b = cond (nat_lt s (length t.rows) && nat_lt b 256) (target (row_in t s) (slot_in t s b) s) 0
-
-abbrev pub accepted_in : Table → ℕ → List ℕ
-accepted_in t s = (row_in t s).rules
+step_of t s b = cond (nat_lt s (length t.rows) && nat_lt b 256)
+    (target (row_in t s) (slot_at t ((row_in t s).base + slice_index t.class_of b)) s) 0
 
 -- the machine of a table, where these states go on
 abbrev pub machine_of_table : Table → (ℕ → Bool) → Machine
@@ -29,7 +26,7 @@ machine_of_table t goes_on = record {
   count = length t.rules;
   start = λ c line_start. unwrap_or (option_map (λ k. cond line_start k.line_start k.start) (slice_get t.conditions c)) 0;
   next = step_of t;
-  accepts = accepted_in t;
+  accepts = λ s. (row_in t s).rules;
   goes_on = goes_on;
   cut = λ i. unwrap_or (option_map (λ r. r.cut) (slice_get t.rules i)) Whole;
   statements = λ i. unwrap_or (option_map (λ r. r.statements) (slice_get t.rules i)) [];

@@ -30,9 +30,9 @@ legal_from n ss h =
     let three = and_parts (all_in_range n ss && ends_last ss && are_joined ss) (are_compatible ss) h in
     let two = and_parts (all_in_range n ss && ends_last ss) (are_joined ss) three.0 in
     let one = and_parts (all_in_range n ss) (ends_last ss) two.0 in
-    record { ranges = one.0; last = one.1; joined = two.1; compatible = three.1 }
+    (record { ranges = one.0; last = one.1; compatible = three.1 }, two.1)
 
-one_rule : (z : Sizes) (n i : ℕ) (r : S.Rule) → z.conditions ≡ n → sound_rule n r ≡ true → Each HasText 0 r.statements → IsTableRule z i (action_in r)
+one_rule : (z : Sizes) (n i : ℕ) (r : S.Rule) → z.conditions ≡ n → sound_rule n r ≡ true → Each HasText 0 r.statements → IsTableRule z.conditions i (action_in r)
 one_rule z n i r e h text =
     let five = and_parts (sound_list n r.conditions && sound_tree r.head && sound_trail r.trail && cut_fits r.cut r.head r.trail && legal_action n r.statements) (are_few r.statements) h in
     let four = and_parts (sound_list n r.conditions && sound_tree r.head && sound_trail r.trail && cut_fits r.cut r.head r.trail) (legal_action n r.statements) five.0 in
@@ -46,14 +46,14 @@ one_rule z n i r e h text =
       bytes = text;
     }
 
-pub each_rule : (z : Sizes) (n i : ℕ) (rs : List S.Rule) → z.conditions ≡ n → sound_rules n rs ≡ true → Each (λ k (r : T.RuleOfTable). Each HasText 0 r.statements) i (map action_in rs) → Each (IsTableRule z) i (map action_in rs)
+pub each_rule : (z : Sizes) (n i : ℕ) (rs : List S.Rule) → z.conditions ≡ n → sound_rules n rs ≡ true → Each (λ k (r : T.RuleOfTable). Each HasText 0 r.statements) i (map action_in rs) → Each (IsTableRule z.conditions) i (map action_in rs)
 each_rule z n i [] e h text = tt
 each_rule z n i (r ∷ rs) e h text =
     let both = and_parts (sound_rule n r) (sound_rules n rs) h in
     (one_rule z n i r e both.0 text.0, each_rule z n (suc i) rs e both.1 text.1)
 
 pub each_condition : (z : Sizes) (start : ℕ → Bool → ℕ) (i : ℕ) (cs : List S.Condition) → sound_conditions cs ≡ true → ((c : ℕ) (line_start : Bool) → c < i + length cs → start c line_start < z.states)
-    → Each (λ k (c : T.ConditionOfTable). IsText c.end.print) i (conditions_with start i cs) → Each (IsCondition z) i (conditions_with start i cs)
+    → Each (λ k (c : T.ConditionOfTable). IsText c.end.print) i (conditions_with start i cs) → Each (IsCondition z.states) i (conditions_with start i cs)
 each_condition z start i [] h below text = tt
 each_condition z start i (c ∷ cs) h below text =
     let both = and_parts (sound_end c.end) (sound_conditions cs) h in

@@ -3,7 +3,8 @@ use Rattle.std.specs.Prelude.{◌≡◌, ◌≢◌, ℕ, ◌+◌, ◌*◌, ◌<�
 use Rattle.std.proofs.Common.{inl, inr, sym, ◌∙◌, ap, subst, arith}
 use Rattle.std.proofs.lemmas.Nat.{row_fits, mul-le}
 use Rattle.lextab_packing.specs.Classes.{IsClassMap}
-use Rattle.lextab_packing.specs.Packing.{Packing, IsEntry, IsTaken, IsBase, IsSize, by_class, IsPacked, HasRanges}
+use Rattle.lextab_packing.specs.Columns.{Packing, IsEntry, IsTaken, IsBase, IsSize, by_class, IsPacking, HasRanges}
+use Rattle.lextab_packing.proofs.Counts.{there_is}
 use Rattle.lextab_packing.proofs.Orders.{strongly}
 use Rattle.lextab_packing.proofs.Steps.{class_target}
 
@@ -38,29 +39,29 @@ size_low n to count ds bs size x y few =
     let l = mul-le n count n 256 (omega arith) few in
     omega arith
 
-default_low : (n : ℕ) (go : ℕ → ℕ → ℕ) (p : Packing) → IsPacked n go p → ((s b : ℕ) → s < n → b < 256 → go s b < n)
+default_low : (n : ℕ) (go : ℕ → ℕ → ℕ) (p : Packing) → IsPacking n go p → ((s b : ℕ) → s < n → b < 256 → go s b < n)
     → (s : ℕ) → s < n → slice_index p.defaults s < n
 default_low n go p x below s h =
-    let t = ((x.rows).default s h).there in
+    let t = there_is (by_class go p.class_of s) p.class_count (slice_index p.defaults s) ((x.rows).default s h) (let l = (x.classes).below 0 (omega arith) in omega (arith, l)) in
     let u = (x.classes).used t.0 t.1 in
     let e = class_target n go p.class_of p.class_count x.classes s t.0 u.0 h u.1 u.2 in
     let b = below s u.0 h u.1 in
     let d = t.2 in
     omega arith
 
-default_zero : (n : ℕ) (go : ℕ → ℕ → ℕ) (p : Packing) → IsPacked n go p → 0 < n → ((b : ℕ) → b < 256 → go 0 b ≡ 0) → slice_index p.defaults 0 ≡ 0
+default_zero : (n : ℕ) (go : ℕ → ℕ → ℕ) (p : Packing) → IsPacking n go p → 0 < n → ((b : ℕ) → b < 256 → go 0 b ≡ 0) → slice_index p.defaults 0 ≡ 0
 default_zero n go p x some dead =
-    let t = ((x.rows).default 0 some).there in
+    let t = there_is (by_class go p.class_of 0) p.class_count (slice_index p.defaults 0) ((x.rows).default 0 some) (let l = (x.classes).below 0 (omega arith) in omega (arith, l)) in
     let u = (x.classes).used t.0 t.1 in
     sym t.2 ∙ class_target n go p.class_of p.class_count x.classes 0 t.0 u.0 some u.1 u.2 ∙ dead u.0 u.1
 
-no_dead_entry : (n : ℕ) (go : ℕ → ℕ → ℕ) (p : Packing) → IsPacked n go p → 0 < n → ((b : ℕ) → b < 256 → go 0 b ≡ 0)
+no_dead_entry : (n : ℕ) (go : ℕ → ℕ → ℕ) (p : Packing) → IsPacking n go p → 0 < n → ((b : ℕ) → b < 256 → go 0 b ≡ 0)
     → (k : ℕ) → IsEntry (by_class go p.class_of) p.class_count p.defaults 0 k → ⊥
 no_dead_entry n go p x some dead k e =
     let u = (x.classes).used k e.class in
     e.other (class_target n go p.class_of p.class_count x.classes 0 k u.0 some u.1 u.2 ∙ dead u.0 u.1 ∙ sym (default_zero n go p x some dead))
 
-pub ranges_of : (n : ℕ) (go : ℕ → ℕ → ℕ) (p : Packing) → IsPacked n go p → 0 < n → ((b : ℕ) → b < 256 → go 0 b ≡ 0)
+pub ranges_of : (n : ℕ) (go : ℕ → ℕ → ℕ) (p : Packing) → IsPacking n go p → 0 < n → ((b : ℕ) → b < 256 → go 0 b ≡ 0)
     → ((s b : ℕ) → s < n → b < 256 → go s b < n) → HasRanges n p
 ranges_of n go p x some dead below = record {
   some_class = (let b = (x.classes).below 0 (omega arith) in omega arith);

@@ -4,12 +4,12 @@ use Rattle.std.specs.Prelude.{cond, ◌&&◌, ◌==◌, nat_lt, slice_index, sli
 use Rattle.std.proofs.Math.ListN.{get_or-map}
 use Rattle.std.proofs.lemmas.Bool.{cond-true, and_from, lt-ltb}
 use Rattle.lextab_packed.specs.Table.{Table, Row, Slot}
-use Rattle.lextab_packed.specs.Steps.{row_in, slot_in, target, step_of}
-use Rattle.lextab_packed.proofs.Finding.{no_row, no_slot}
+use Rattle.lextab_packed.specs.Steps.{row_in, target, step_of}
+use Rattle.lextab_packed.proofs.Finding.{no_row, no_slot, slot_in}
 use Rattle.lextab_packed.specs.Views.{slots_of}
 use Rattle.lextab_packing.specs.Assembled.{rows_with}
-use Rattle.lextab_packing.specs.Packing.{packed_step}
-use Rattle.lextab_packing.specs.Tables.{packing_in}
+use Rattle.lextab_packing.specs.Columns.{packed_step}
+use Rattle.lextab_packing.specs.Columns.{packing_in}
 
 pub rows_len : (ds bs : List ℕ) (ls : List (List ℕ)) → length bs ≡ length ds → length ls ≡ length ds → length (rows_with ds bs ls) ≡ length ds
 rows_len [] bs ls h k = refl

@@ -4,17 +4,18 @@ use Rattle.std.specs.Prelude.{◌==◌, cond, slice_index}
 use Rattle.std.proofs.lemmas.Bool.{eqb-true, cond-true, cond-false, cases_Bool}
 use Rattle.lexauto_dfa.specs.Alike.{Alike}
 use Rattle.lexauto_dfa.proofs.Below.{holds}
-use Rattle.lextab_packing.specs.Packing.{IsDefault, IsEntry, IsTaken, AreFree, IsBase, IsSize, AreSlots, by_class, often}
+use Rattle.lextab_packing.specs.Columns.{IsDefault, IsEntry, IsTaken, AreFree, IsBase, IsSize, AreSlots, by_class, often, packing_in}
+use Rattle.lextab_packing.proofs.Tabled.{packed_of}
 use Rattle.lextab_packing.specs.PackingExamples.{by_a, twice_a, TwiceA}
 
 abbrev classes : List ℕ
 classes = twice_a.class_of
 
 abbrev defaults : List ℕ
-defaults = twice_a.defaults
+defaults = (packing_in twice_a).defaults
 
 abbrev bases : List ℕ
-bases = twice_a.bases
+bases = (packing_in twice_a).bases
 
 class_is : (b : ℕ) → b < 256 → slice_index classes b ≡ cond (b == 97) 1 0
 class_is b lt = eqb-true _ _ (holds 256 (λ c. slice_index classes c == cond (c == 97) 1 0) refl b lt)
@@ -86,18 +87,18 @@ no_bit t = elim (cases_Bool (0 == suc t)) [
 ]
 
 default : (s : ℕ) → s < 4 → IsDefault (to s) 2 (slice_index defaults s)
-default zero lt = record { there = (0, omega arith, refl); most = λ t. (let x = bit (0 == t) in omega (arith, x)); least = λ t e. omega arith }
-default (suc zero) lt = record { there = (0, omega arith, refl); most = most; least = λ t e. omega arith }
+default zero lt = record { most = λ t. (let x = bit (0 == t) in omega (arith, x)); least = λ t e. omega arith }
+default (suc zero) lt = record { most = most; least = λ t e. omega arith }
   where
     most : (t : ℕ) → often (to 1) 2 t ≤ often (to 1) 2 0
     most zero = omega arith
     most (suc t) = let x = bit (to 1 1 == suc t) in let y = no_bit t in omega (arith, x, y)
-default (suc (suc zero)) lt = record { there = (0, omega arith, refl); most = most; least = λ t e. omega arith }
+default (suc (suc zero)) lt = record { most = most; least = λ t e. omega arith }
   where
     most : (t : ℕ) → often (to 2) 2 t ≤ often (to 2) 2 0
     most zero = omega arith
     most (suc t) = let x = bit (to 2 1 == suc t) in let y = no_bit t in omega (arith, x, y)
-default (suc (suc (suc zero))) lt = record { there = (0, omega arith, refl); most = λ t. (let x = bit (0 == t) in omega (arith, x)); least = λ t e. omega arith }
+default (suc (suc (suc zero))) lt = record { most = λ t. (let x = bit (0 == t) in omega (arith, x)); least = λ t e. omega arith }
 default (suc (suc (suc (suc s)))) lt = absurd (omega (arith, lt))
 
 -- the states with an entry
@@ -163,11 +164,11 @@ size = record { all = all; one = (2, omega arith, refl) }
     all (suc (suc (suc zero))) lt = omega arith
     all (suc (suc (suc (suc s)))) lt = absurd (omega (arith, lt))
 
-slots : AreSlots 4 to 2 defaults bases twice_a.check twice_a.next
+slots : AreSlots 4 to 2 defaults bases (packing_in twice_a).check (packing_in twice_a).next
 slots = record { used = held; rest = rest }
   where
     at : ℕ → ℕ → Type 0
-    at s k = (slice_index twice_a.check (slice_index bases s + k) ≡ s) × (slice_index twice_a.next (slice_index bases s + k) ≡ to s k)
+    at s k = (slice_index (packing_in twice_a).check (slice_index bases s + k) ≡ s) × (slice_index (packing_in twice_a).next (slice_index bases s + k) ≡ to s k)
 
     held : (s k : ℕ) → s < 4 → IsEntry to 2 defaults s k → at s k
     held s k lt e = subst (λ n. at s n) (sym (entries s k lt e).0) (elim (entries s k lt e).1 [
@@ -175,14 +176,14 @@ slots = record { used = held; rest = rest }
       | inr x ↦ subst (λ n. at n 1) (sym x) (refl, refl)
     ])
 
-    rest : (i : ℕ) → i < 3 → IsTaken to 2 defaults bases 4 i ⊎ ((slice_index twice_a.check i ≡ 0) × (slice_index twice_a.next i ≡ 0))
+    rest : (i : ℕ) → i < 3 → IsTaken to 2 defaults bases 4 i ⊎ ((slice_index (packing_in twice_a).check i ≡ 0) × (slice_index (packing_in twice_a).next i ≡ 0))
     rest zero lt = inr (refl, refl)
     rest (suc zero) lt = inl (record { state = 1; class = 1; before = omega arith; entry = entry_of_1; here = refl })
     rest (suc (suc zero)) lt = inl (record { state = 2; class = 1; before = omega arith; entry = entry_of_2; here = refl })
     rest (suc (suc (suc i))) lt = absurd (omega (arith, lt))
 
 pub twice_a_packed : TwiceA
-twice_a_packed = record {
+twice_a_packed = packed_of 4 by_a twice_a (record {
   classes = record { bytes = refl; alike = alike; apart = apart; order = order; below = below; used = used };
   rows = record { defaults_len = refl; default = default; bases_len = refl; base = base; check_len = size; next_len = size; slots = slots };
-}
+})

@@ -2,7 +2,7 @@
 use Rattle.std.specs.Prelude.{◌≡◌, ◌≢◌, ℕ, zero, suc, ◌+◌, ◌*◌, ◌<◌, ◌≤◌, ◌⊎◌, ◌==◌, cond, List, [], ◌∷◌, ◌++◌, length, slice_index}
 use Rattle.std.proofs.Common.{inl, inr, refl, sym, ◌∙◌, ap, subst, arith, length-append}
 use Rattle.std.proofs.lemmas.List.{get_or_push, get_or_append_left}
-use Rattle.lextab_packing.specs.Packing.{often, IsDefault}
+use Rattle.lextab_packing.specs.Columns.{often, IsDefault}
 use Rattle.lextab_packing.specs.Searching.{AreEntries}
 use Rattle.lextab_packing.proofs.Orders.{same_or_not, test_same, test_other}
 
@@ -46,7 +46,6 @@ often_same f g (suc n) t e =
 pub default_is : (f : ℕ → ℕ) (n d : ℕ) → (k : ℕ) × (k < n) × (f k ≡ d) → ((j : ℕ) → j < n → often f n (f j) ≤ often f n d)
     → ((j : ℕ) → j < n → often f n (f j) ≡ often f n d → d ≤ f j) → IsDefault f n d
 default_is f n d there most least = record {
-  there = there;
   most = λ t. elim (often_or f n t) [
     | inl z ↦ omega (arith, z)
     | inr w ↦ subst (λ (u : ℕ). often f n u ≤ often f n d) w.2 (most w.0 w.1)
@@ -56,6 +55,13 @@ default_is f n d there most least = record {
     | inr w ↦ subst (λ (u : ℕ). d ≤ u) w.2 (least w.0 w.1 (ap (often f n) w.2 ∙ h))
   ];
 }
+
+-- the target of most classes is that of some class
+pub there_is : (f : ℕ → ℕ) (n d : ℕ) → IsDefault f n d → 0 < n → (k : ℕ) × (k < n) × (f k ≡ d)
+there_is f n d x some = elim (often_or f n d) [
+  | inl z ↦ absurd (let m = x.most (f 0) in let p = often_some f n (f 0) 0 some refl in omega (arith, m, p, z))
+  | inr w ↦ w
+]
 
 -- two targets share a row
 often_both : (f : ℕ → ℕ) (n t u : ℕ) → t ≢ u → often f n t + often f n u ≤ n
@@ -73,7 +79,6 @@ often_both f (suc n) t u d =
 -- the target of more than half of a row is the one of most
 pub default_of_most : (f : ℕ → ℕ) (n d : ℕ) → (k : ℕ) × (k < n) × (f k ≡ d) → n < 2 * often f n d → IsDefault f n d
 default_of_most f n d there half = record {
-  there = there;
   most = λ t. elim (same_or_not t d) [
     | inl e ↦ rw e (omega arith)
     | inr apart ↦ (let both = often_both f n t d apart in omega (arith, both, half))
@@ -86,7 +91,6 @@ default_of_most f n d there half = record {
 
 pub default_same : (f g : ℕ → ℕ) (n d : ℕ) → ((k : ℕ) → k < n → f k ≡ g k) → IsDefault f n d → IsDefault g n d
 default_same f g n d e x = record {
-  there = (let w = x.there in (w.0, w.1, sym (e w.0 w.1) ∙ w.2));
   most = λ t. (let m = x.most t in let a = often_same f g n t e in let b = often_same f g n d e in omega (arith, m, a, b));
   least = λ t h. x.least t (often_same f g n t e ∙ h ∙ sym (often_same f g n d e));
 }

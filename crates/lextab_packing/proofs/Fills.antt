@@ -1,7 +1,7 @@
 -- Filling the slots of one state after another.
 use Rattle.std.specs.Prelude.{◌≡◌, ◌≢◌, ℕ, zero, suc, ◌+◌, ◌<◌, ◌≤◌, ◌⊎◌, List, length, slice_index}
 use Rattle.std.proofs.Common.{inl, inr, sym, ◌∙◌, ap, subst, arith}
-use Rattle.lextab_packing.specs.Packing.{IsEntry, IsTaken, IsBase, AreSlots, AreRows}
+use Rattle.lextab_packing.specs.Columns.{IsEntry, IsTaken, IsBase, AreSlots, AreRows}
 use Rattle.lextab_packing.specs.Searching.{AreEntries, AreFilled}
 use Rattle.lextab_packing.proofs.Orders.{same_or_not}
 use Rattle.lextab_packing.proofs.Placements.{later}

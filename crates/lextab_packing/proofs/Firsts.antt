@@ -6,7 +6,7 @@ use Rattle.std.proofs.lemmas.Bool.{cases_eq}
 use Rattle.lex_semantics.specs.Text.{IsText, Among, Ascending}
 use Rattle.lex_semantics.specs.Spec.{Spec, rejects}
 use Rattle.lex_semantics.specs.Machine.{state_after}
-use Rattle.lex_semantics.specs.TableFor.{TableFor, Accepted, IsFirstFit}
+use Rattle.lex_semantics.specs.TableFor.{TableFor, Accepted}
 use Rattle.lexauto_dfa.specs.Parts.{states, conditions, start, accepts, IsReached}
 use Rattle.lexauto_dfa.specs.Invariant.{IsAutomaton}
 use Rattle.lexauto_dfa.specs.Automata.{machine_in}
@@ -19,8 +19,8 @@ one_at_most (x ∷ []) up h = omega arith
 one_at_most (x ∷ y ∷ ys) up h = absurd (h x y (inl refl) (inr (inl refl)) (up.0 y (inl refl)))
 
 module _ (p : Parts) (a : IsAutomaton p) (S : Spec) (count : conditions p ≡ length S.conditions) (table : TableFor (machine_in p S) S) (none : rejects S ≡ false) where
-  first_fits : (c : ℕ) (line_start : Bool) (w : List ℕ) (i : ℕ) → c < length S.conditions → IsText w → Among (accepts p (state_after (machine_in p S) c line_start w)) i → IsFirstFit S c line_start w i
-  first_fits c line_start w i low text among = subst (λ (b : Bool). Accepted b S c line_start w i) none ((table.accepts c line_start w i low text).0 among)
+  first_fits : (c : ℕ) (line_start : Bool) (w : List ℕ) (i : ℕ) → c < length S.conditions → IsText w → Among (accepts p (state_after (machine_in p S) c line_start w)) i → Accepted S c line_start w i
+  first_fits c line_start w i low text among = (table.accepts c line_start w i low text).0 among
 
   reached : (s : ℕ) → s < states p → IsReached p s → length (accepts p s) ≤ 1
   reached s h (c, line_start, w, low, text, e) =
@@ -29,7 +29,7 @@ module _ (p : Parts) (a : IsAutomaton p) (S : Spec) (count : conditions p ≡ le
       one_at_most (accepts p s) (a.ascending s h) (λ i j x y less.
       let f = first_fits c line_start w i known text (subst (λ (t : ℕ). Among (accepts p t) i) (sym there) x) in
       let g = first_fits c line_start w j known text (subst (λ (t : ℕ). Among (accepts p t) j) (sym there) y) in
-      g.1 i less f.0)
+      g.1 none i less f.0)
 
   pub first_alone : (s : ℕ) → s < states p → length (accepts p s) ≤ 1
   first_alone s h = elim (cases_eq s 0) [

@@ -17,15 +17,15 @@ use Rattle.lexauto_dfa.specs.declared.dfa.Parts.{Parts}
 use Rattle.lexauto_dfa.proofs.Machinery.{past_end}
 use Rattle.lextab_packed.specs.Table as T
 use Rattle.lextab_packed.specs.Checks.{Sizes, sizes_of, AreSizes, bases_of, some_rule_rejects, IsRow, IsSlot, IsTable}
-use Rattle.lextab_packed.specs.Steps.{row_in, slot_in, target, step_of, accepted_in, machine_of_table}
-use Rattle.lextab_packed.proofs.Finding.{no_row, no_slot}
+use Rattle.lextab_packed.specs.Steps.{row_in, target, step_of, machine_of_table}
+use Rattle.lextab_packed.proofs.Finding.{no_row, no_slot, slot_in, accepted_in}
 use Rattle.lextab_packed.specs.Invariant.{GoesOn}
 use Rattle.lextab_packed.proofs.Places.{each_of}
 use Rattle.lextab_packing.specs.Below.{below}
 use Rattle.lextab_packing.specs.Assembled.{start_in, action_in, assembled, HasTexts}
-use Rattle.lextab_packing.specs.Packing.{Packing, IsPacked, HasRanges}
+use Rattle.lextab_packing.specs.Columns.{Packing, IsPacking, HasRanges}
 use Rattle.lexauto_dfa.specs.Alike.{moves}
-use Rattle.lextab_packing.specs.Tables.{packing_in}
+use Rattle.lextab_packing.specs.Columns.{packing_in}
 use Rattle.lextab_packing.proofs.Unique.{same_size}
 use Rattle.lextab_packing.proofs.Steps.{goes_as}
 use Rattle.lextab_packing.proofs.Lifted.{packed_to}
@@ -35,7 +35,7 @@ use Rattle.lextab_packing.proofs.Actions.{each_rule, each_condition, conditions_
 
 slot_from : (z : Sizes) (bases : List ℕ) (i n classes : ℕ) (s : T.Slot) → z.states ≡ n → z.classes ≡ classes → 0 < n
     → ((s.check ≡ 0) × (s.next ≡ 0)) ⊎ ((1 ≤ s.check) × (s.check < n) × (slice_index bases s.check ≤ i) × (i < slice_index bases s.check + classes) × (s.next < n))
-    → IsSlot z bases i s
+    → IsSlot z.states z.classes bases i s
 slot_from z bases i n classes s e f some (inl h) =
     let none = h.0 in let zero_next = h.1 in
     record {
@@ -56,14 +56,14 @@ slot_from z bases i n classes s e f some (inr h) =
     }
 
 module _ (p : Parts) (a : IsAutomaton p) (S : S.Spec) (laws : MachineLaws (machine_in p S)) (count : conditions p ≡ length S.conditions) (sound : is_sound S ≡ true)
-    (q : Packing) (packed : IsPacked (states p) (moves p.next.items) q) where
+    (q : Packing) (packed : IsPacking (states p) (moves p.next.items) q) where
   -- the packing is that of the automaton
   same_moves : (s b : ℕ) → s < states p → b < 256 → moves p.next.items s b ≡ next p s b
   same_moves s b h k =
       let e : 256 * s + b ≡ s * 256 + b = omega arith in
       ap (λ (i : ℕ). slice_index p.next.items i) e ∙ sym (cond-true (nat_lt b 256) (slice_index p.next.items (s * 256 + b)) 0 (lt-ltb b 256 k))
 
-  pub packed_as : IsPacked (states p) (next p) q
+  pub packed_as : IsPacking (states p) (next p) q
   packed_as = packed_to (states p) (moves p.next.items) (next p) q same_moves packed
 
   ranges : HasRanges (states p) q
@@ -134,7 +134,7 @@ module _ (p : Parts) (a : IsAutomaton p) (S : S.Spec) (laws : MachineLaws (machi
       inside : (s b : ℕ) → s < states p → b < 256 → step_of (assembled p S q) s b ≡ next p s b
       inside s b h k =
           steps_as_packed (assembled p S q) s b (omega (arith, h, rows_are)) k
-          ∙ goes_as (states p) (next p) (packing_in (assembled p S q)) (subst (λ (r : Packing). IsPacked (states p) (next p) r) (sym has_packing) packed_as) (λ c l. a.dead_stays c) s b h k
+          ∙ goes_as (states p) (next p) (packing_in (assembled p S q)) (subst (λ (r : Packing). IsPacking (states p) (next p) r) (sym has_packing) packed_as) (λ c l. a.dead_stays c) s b h k
 
       and_right' : (s b : ℕ) → nat_lt b 256 ≡ false → (nat_lt s (length (assembled p S q).rows) && nat_lt b 256) ≡ false
       and_right' s b h = and_right (nat_lt s (length (assembled p S q).rows)) (nat_lt b 256) h
@@ -183,7 +183,7 @@ module _ (p : Parts) (a : IsAutomaton p) (S : S.Spec) (laws : MachineLaws (machi
   }
 
   -- and the table is one
-  sizes : AreSizes (sizes_of (assembled p S q))
+  sizes : AreSizes (sizes_of (assembled p S q)).conditions (sizes_of (assembled p S q)).rules (sizes_of (assembled p S q)).states (sizes_of (assembled p S q)).classes (sizes_of (assembled p S q)).slots
   sizes =
       let four = and_parts (nat_le 1 (length S.conditions) && nat_le (length S.conditions) 255 && nat_le (length S.rules) 4096 && sound_conditions S.conditions) (sound_rules (length S.conditions) S.rules) sound in
       let three = and_parts (nat_le 1 (length S.conditions) && nat_le (length S.conditions) 255 && nat_le (length S.rules) 4096) (sound_conditions S.conditions) four.0 in
@@ -201,15 +201,15 @@ module _ (p : Parts) (a : IsAutomaton p) (S : S.Spec) (laws : MachineLaws (machi
       let least_slots = ranges.slots in
       let most_slots = ranges.few_slots in
       record {
-        conditions = (omega (arith, least, conditions_are), omega (arith, most, conditions_are));
-        rules = omega (arith, few_rules, rules_len);
-        states = (omega (arith, n, some), omega (arith, n, few));
-        classes = (ranges.some_class, ranges.classes);
-        slots = (omega (arith, k, least_slots), omega (arith, k, most_slots, few));
+        some_conditions = (omega (arith, least, conditions_are), omega (arith, most, conditions_are));
+        few_rules = omega (arith, few_rules, rules_len);
+        some_states = (omega (arith, n, some), omega (arith, n, few));
+        some_classes = (ranges.some_class, ranges.classes);
+        some_slots = (omega (arith, k, least_slots), omega (arith, k, most_slots, few));
       }
 
   row_of_state : (firsts : some_reject S ≡ false → (s : ℕ) → s < states p → length (accepts p s) ≤ 1) (s : ℕ) → s < length (assembled p S q).rows
-      → IsRow (sizes_of (assembled p S q)) (some_rule_rejects (assembled p S q).rules) s (row_in (assembled p S q) s)
+      → IsRow (sizes_of (assembled p S q)).rules (sizes_of (assembled p S q)).states (sizes_of (assembled p S q)).classes (sizes_of (assembled p S q)).slots (some_rule_rejects (assembled p S q).rules) s (row_in (assembled p S q) s)
   row_of_state firsts s lt =
       let low : s < states p = omega (arith, lt, rows_are) in
       let o = otherwise_is s in
@@ -233,9 +233,9 @@ module _ (p : Parts) (a : IsAutomaton p) (S : S.Spec) (laws : MachineLaws (machi
         );
       }
 
-  slot_of_place : (i : ℕ) → i < length (assembled p S q).slots → IsSlot (sizes_of (assembled p S q)) (bases_of (assembled p S q).rows) i (slice_index_or (assembled p S q).slots i no_slot)
+  slot_of_place : (i : ℕ) → i < length (assembled p S q).slots → IsSlot (sizes_of (assembled p S q)).states (sizes_of (assembled p S q)).classes (bases_of (assembled p S q).rows) i (slice_index_or (assembled p S q).slots i no_slot)
   slot_of_place i lt =
-      subst (λ (bases : List ℕ). IsSlot (sizes_of (assembled p S q)) bases i (slice_index_or (assembled p S q).slots i no_slot)) (sym (bases_are q.defaults q.bases (lists_in p) bases_len lists_len))
+      subst (λ (bases : List ℕ). IsSlot (sizes_of (assembled p S q)).states (sizes_of (assembled p S q)).classes bases i (slice_index_or (assembled p S q).slots i no_slot)) (sym (bases_are q.defaults q.bases (lists_in p) bases_len lists_len))
       (slot_from (sizes_of (assembled p S q)) q.bases i (states p) q.class_count (slice_index_or (assembled p S q).slots i no_slot) rows_are refl a.some
       (seen (sym (check_is i)) (sym (next_is i)) (ranges.slot i (omega (arith, lt, slots_are)))))
     where
@@ -256,6 +256,6 @@ module _ (p : Parts) (a : IsAutomaton p) (S : S.Spec) (laws : MachineLaws (machi
         rules = each_rule (sizes_of (assembled p S q)) (length S.conditions) 0 S.rules (conditions_len (start_in p.starts.items p.line_starts.items) 0 S.conditions) four.1 texts.literals;
         bytes = packed_as.classes.bytes;
         class_of = each_of (λ i k. k < q.class_count) q.class_of 0 (λ b h. packed_as.classes.below b (let len = packed_as.classes.bytes in omega (arith, h, len)));
-        rows = each_of (IsRow (sizes_of (assembled p S q)) (some_rule_rejects (assembled p S q).rules)) (assembled p S q).rows no_row (row_of_state firsts);
-        slots = each_of (IsSlot (sizes_of (assembled p S q)) (bases_of (assembled p S q).rows)) (assembled p S q).slots no_slot slot_of_place;
+        rows = each_of (IsRow (sizes_of (assembled p S q)).rules (sizes_of (assembled p S q)).states (sizes_of (assembled p S q)).classes (sizes_of (assembled p S q)).slots (some_rule_rejects (assembled p S q).rules)) (assembled p S q).rows no_row (row_of_state firsts);
+        slots = each_of (IsSlot (sizes_of (assembled p S q)).states (sizes_of (assembled p S q)).classes (bases_of (assembled p S q).rows)) (assembled p S q).slots no_slot slot_of_place;
       }

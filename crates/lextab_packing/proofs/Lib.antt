@@ -15,4 +15,6 @@ pub mod Columns
 pub mod Actions
 pub mod Lawful
 pub mod Firsts
+pub mod Numbered
+pub mod Tabled
 pub mod ComputedPacking

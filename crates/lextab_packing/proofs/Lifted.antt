@@ -1,9 +1,10 @@
 -- Automata that go alike from their states pack alike.
-use Rattle.std.specs.Prelude.{◌≡◌, ℕ, ◌<◌, List}
+use Rattle.std.specs.Prelude.{◌≡◌, ℕ, ◌<◌, ◌==◌, List}
+use Rattle.std.specs.List.{position_or_len}
 use Rattle.std.proofs.Common.{sym, ◌∙◌, arith}
 use Rattle.lexauto_dfa.specs.Alike.{Alike}
-use Rattle.lextab_packing.specs.Classes.{IsClassMap, first_byte_of}
-use Rattle.lextab_packing.specs.Packing.{Packing, by_class, IsPacked}
+use Rattle.lextab_packing.specs.Classes.{IsClassMap}
+use Rattle.lextab_packing.specs.Columns.{Packing, by_class, IsPacking}
 use Rattle.lextab_packing.proofs.Steps.{first_is}
 use Rattle.lextab_packing.proofs.Fills.{rows_to}
 
@@ -20,11 +21,11 @@ classes_to n go ho cs count same x = record {
   used = x.used;
 }
 
-pub packed_to : (n : ℕ) (go ho : ℕ → ℕ → ℕ) (p : Packing) → ((s b : ℕ) → s < n → b < 256 → go s b ≡ ho s b) → IsPacked n go p → IsPacked n ho p
+pub packed_to : (n : ℕ) (go ho : ℕ → ℕ → ℕ) (p : Packing) → ((s b : ℕ) → s < n → b < 256 → go s b ≡ ho s b) → IsPacking n go p → IsPacking n ho p
 packed_to n go ho p same x = record {
   classes = classes_to n go ho p.class_of p.class_count same x.classes;
   rows = rows_to n (by_class go p.class_of) (by_class ho p.class_of) p.class_count p.defaults p.bases p.check p.next
-      (λ s k h l. same s (first_byte_of p.class_of k) h
+      (λ s k h l. same s (position_or_len (λ c. c == k) p.class_of) h
       (let u = (x.classes).used k l in let len = (x.classes).bytes in let f = (first_is p.class_of k u.0 (let u1 = u.1 in omega arith) u.2).0 in omega arith))
       x.rows;
 }

@@ -4,7 +4,7 @@ use Rattle.std.proofs.Common.{inl, inr, refl, sym, ◌∙◌, ap, subst, arith, 
 use Rattle.std.proofs.lemmas.List.{length-replicate}
 use Rattle.std.specs.Int.{bit_at}
 use Rattle.std.proofs.lemmas.List.{get_or_push, get_or_append_left, get_or-append_right, get_or-replicate, get_or_past, take-append-le, take_all}
-use Rattle.lextab_packing.specs.Packing.{IsEntry, IsTaken, IsBase}
+use Rattle.lextab_packing.specs.Columns.{IsEntry, IsTaken, IsBase}
 use Rattle.lextab_packing.specs.Searching.{AreEntries, slot_bit, Hits, IsFirstFit, IsMarked, IsEarlier, ArePlaced}
 use Rattle.lextab_packing.proofs.Orders.{same_or_not, less_or_not}
 use Rattle.lextab_packing.proofs.Counts.{length_append_one}

@@ -3,7 +3,7 @@ use Rattle.std.specs.Prelude.{◌≡◌, ℕ, ◌+◌, ◌<◌, List, length, sl
 use Rattle.std.proofs.Common.{inl, inr, refl, sym, ◌∙◌, subst, arith}
 use Rattle.std.proofs.lemmas.List.{ext_get_or}
 use Rattle.lextab_packing.specs.Classes.{IsClassMap}
-use Rattle.lextab_packing.specs.Packing.{Packing, IsDefault, IsTaken, IsBase, IsSize, AreSlots, AreRows, by_class, IsPacked}
+use Rattle.lextab_packing.specs.Columns.{Packing, IsDefault, IsTaken, IsBase, IsSize, AreSlots, AreRows, by_class, IsPacking}
 use Rattle.lextab_packing.proofs.Orders.{strongly, neither_less}
 
 class_not_less : (n : ℕ) (go : ℕ → ℕ → ℕ) (cs ds : List ℕ) (i j : ℕ) → IsClassMap n go cs i → IsClassMap n go ds j
@@ -110,7 +110,7 @@ same_checks n to count ds bs xs ys us vs x y =
       ext_get_or 0 us vs len2 (λ i h. (same_slot n to count ds bs xs us ys vs x.slots y.slots len i (omega arith)).1),
     )
 
-pub one_packing_is : (n : ℕ) (go : ℕ → ℕ → ℕ) (p q : Packing) → IsPacked n go p → IsPacked n go q → p ≡ q
+pub one_packing_is : (n : ℕ) (go : ℕ → ℕ → ℕ) (p q : Packing) → IsPacking n go p → IsPacking n go q → p ≡ q
 one_packing_is n go p q x y =
     let m = same_class_map n go p.class_of q.class_of p.class_count q.class_count x.classes y.classes in
     let to = by_class go p.class_of in

@@ -2,7 +2,7 @@
 use Rattle.std.specs.Prelude.{◌≡◌, ℕ, ◌<◌, List, length, slice_index}
 use Rattle.std.proofs.Common.{sym, ap, subst, arith}
 use Rattle.lextab_packing.specs.Classes.{IsClassMap}
-use Rattle.lextab_packing.specs.Packing.{IsDefault, IsBase, IsSize, AreSlots, AreRows, by_class, IsPacked}
+use Rattle.lextab_packing.specs.Columns.{IsDefault, IsBase, IsSize, AreSlots, AreRows, by_class, IsPacking}
 use Rattle.lexauto_dfa.specs.Alike.{moves}
 use Rattle.lextab_packing.specs.Searching.{by_head}
 use Rattle.lextab_packing.proofs.Steps.{class_target}
@@ -29,7 +29,7 @@ pub whole : (n : ℕ) (next cls hs ds bs cs xs : List ℕ) (count : ℕ) → cou
     → length ds ≡ n → ((s : ℕ) → s < n → IsDefault (by_head next hs s) (length hs) (slice_index ds s))
     → length bs ≡ n → ((s : ℕ) → s < length bs → IsBase (by_head next hs) (length hs) ds bs s (slice_index bs s))
     → IsSize (length bs) (length hs) bs (length cs) → IsSize (length bs) (length hs) bs (length xs) → AreSlots (length bs) (by_head next hs) (length hs) ds bs cs xs
-    → IsPacked n (moves next) (record { class_of = cls; class_count = count; defaults = ds; bases = bs; check = cs; next = xs })
+    → IsPacking n (moves next) (record { class_of = cls; class_count = count; defaults = ds; bases = bs; check = cs; next = xs })
 whole n next cls hs ds bs cs xs count e map heads dlen defaults blen bases csize xsize slots = record {
   classes = subst (λ (k : ℕ). IsClassMap n (moves next) cls k) (sym e) map;
   rows = subst (λ (k : ℕ). AreRows n (by_class (moves next) cls) k ds bs cs xs) (sym e)

@@ -7,7 +7,7 @@ use Rattle.lexauto_dfa.specs.declared.dfa.Parts.{Parts}
 use Rattle.lextab_packed.specs.Table as T
 use Rattle.lextab_packed.specs.Checks.{Each, HasText}
 use Rattle.lextab_packed.specs.Views.{slots_of}
-use Rattle.lextab_packing.specs.Packing.{Packing}
+use Rattle.lextab_packing.specs.Columns.{Packing}
 
 -- where matches start in a condition, by a column for each
 abbrev pub start_in : List ℕ → List ℕ → ℕ → Bool → ℕ

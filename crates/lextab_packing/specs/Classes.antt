@@ -1,5 +1,5 @@
 -- Bytes that no state tells apart. (This project's.)
-use Rattle.std.specs.Prelude.{◌≡◌, ℕ, suc, ◌<◌, ◌==◌, cond, List, [], ◌∷◌, length, slice_index}
+use Rattle.std.specs.Prelude.{◌≡◌, ℕ, ◌<◌, List, length, slice_index}
 use Rattle.lexauto_dfa.specs.Alike.{Alike}
 
 -- The class of each byte: alike bytes have one class, and the classes are numbered from 0 in order of their first byte.
@@ -10,8 +10,3 @@ pub record IsClassMap (n : ℕ) (go : ℕ → ℕ → ℕ) (class_of : List ℕ)
   pub order : (b k : ℕ) → b < 256 → k < slice_index class_of b → (c : ℕ) × (c < b) × (slice_index class_of c ≡ k)
   pub below : (b : ℕ) → b < 256 → slice_index class_of b < count
   pub used : (k : ℕ) → k < count → (b : ℕ) × (b < 256) × (slice_index class_of b ≡ k)
-
--- the first byte of the class k
-abbrev pub first_byte_of : List ℕ → ℕ → ℕ
-first_byte_of [] k = 0
-first_byte_of (c ∷ cs) k = cond (c == k) 0 (suc (first_byte_of cs k))

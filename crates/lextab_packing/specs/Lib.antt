@@ -2,8 +2,8 @@ pub mod Plain
 pub mod Below
 pub mod Classes
 pub mod Packing
+pub mod Columns
 pub mod PackingExamples
 pub mod Searching
 pub mod Views
 pub mod Assembled
-pub mod Tables

@@ -1,15 +1,14 @@
--- The rows of an automaton, packed: byte classes, defaults, bases and slots. (Aho, Sethi and Ullman, Compilers, 3.9;
--- which of equals is taken is this project's.)
-use Rattle.std.specs.Prelude.{◌≡◌, ◌≢◌, ℕ, zero, suc, ◌+◌, ◌*◌, ◌<◌, ◌≤◌, ◌⊎◌, ◌==◌, cond, List, length, slice_index}
-use Rattle.lextab_packing.specs.Classes.{IsClassMap, first_byte_of}
+-- The rows of an automaton, packed in a table: byte classes, defaults, bases and slots. (Aho, Sethi and Ullman, Compilers,
+-- 3.9; which of equals is taken is this project's.)
+use Rattle.std.specs.Prelude.{◌≡◌, ◌≢◌, ℕ, zero, suc, ◌+◌, ◌<◌, ◌≤◌, ◌⊎◌, ◌↔◌, ◌==◌, cond, List, map, length, slice_index}
+use Rattle.std.specs.List.{position_or_len}
+use Rattle.lexauto_dfa.specs.Numbering.{InOrder}
+use Rattle.lextab_packed.specs.Table.{Table}
+use Rattle.lextab_packed.specs.Steps.{row_in, slot_at}
 
-pub record Packing : Type 0 where
-  pub class_of : List ℕ
-  pub class_count : ℕ
-  pub defaults : List ℕ
-  pub bases : List ℕ
-  pub check : List ℕ
-  pub next : List ℕ
+-- where the state s goes by a class: by the first of its bytes
+abbrev pub by_class : (ℕ → ℕ → ℕ) → List ℕ → ℕ → ℕ → ℕ
+by_class go class_of s k = go s (position_or_len (λ c. c == k) class_of)
 
 -- how many of the first classes of a row go to t
 abbrev pub often : (ℕ → ℕ) → ℕ → ℕ → ℕ
@@ -18,80 +17,35 @@ often row (suc k) t = often row k t + cond (row k == t) 1 0
 
 -- the target of most classes, the smallest number of equals
 pub record IsDefault (row : ℕ → ℕ) (count d : ℕ) : Type 0 where
-  pub there : (k : ℕ) × (k < count) × (row k ≡ d)
   pub most : (t : ℕ) → often row count t ≤ often row count d
   pub least : (t : ℕ) → often row count t ≡ often row count d → d ≤ t
 
 -- the class k of the state s has another target than the default
-pub record IsEntry (to : ℕ → ℕ → ℕ) (count : ℕ) (defaults : List ℕ) (s k : ℕ) : Type 0 where
-  pub class : k < count
-  pub other : to s k ≢ slice_index defaults s
+abbrev pub IsException : (ℕ → ℕ → ℕ) → Table → ℕ → ℕ → Type 0
+IsException go t s k = (k < t.classes) × (by_class go t.class_of s k ≢ (row_in t s).default_target)
 
--- an entry of a state before s stands in the slot i
-pub record IsTaken (to : ℕ → ℕ → ℕ) (count : ℕ) (defaults bases : List ℕ) (s i : ℕ) : Type 0 where
-  pub state : ℕ
-  pub class : ℕ
-  pub before : state < s
-  pub entry : IsEntry to count defaults state class
-  pub here : slice_index bases state + class ≡ i
+-- an exception of a state before s stands in the slot i
+abbrev pub IsTakenIn : (ℕ → ℕ → ℕ) → Table → ℕ → ℕ → Type 0
+IsTakenIn go t s i = (r : ℕ) × (k : ℕ) × (r < s) × IsException go t r k × ((row_in t r).base + k ≡ i)
 
--- the entries of the state s, placed from b, fall on free slots
-abbrev pub AreFree : (ℕ → ℕ → ℕ) → ℕ → List ℕ → List ℕ → ℕ → ℕ → Type 0
-AreFree to count defaults bases s b = (k : ℕ) → IsEntry to count defaults s k → IsTaken to count defaults bases s (b + k) → ⊥
+-- the exceptions of the state s, placed from b, fall on free slots
+abbrev pub FitsAt : (ℕ → ℕ → ℕ) → Table → ℕ → ℕ → Type 0
+FitsAt go t s b = (k : ℕ) → IsException go t s k → IsTakenIn go t s (b + k) → ⊥
 
--- b is the least base at which the state s fits (0, if it has no entries)
-pub record IsBase (to : ℕ → ℕ → ℕ) (count : ℕ) (defaults bases : List ℕ) (s b : ℕ) : Type 0 where
-  pub fits : AreFree to count defaults bases s b
-  pub least : (c : ℕ) → c < b → AreFree to count defaults bases s c → ⊥
-
--- the greatest base and the number of classes
-pub record IsSize (n count : ℕ) (bases : List ℕ) (size : ℕ) : Type 0 where
-  pub all : (s : ℕ) → s < n → slice_index bases s + count ≤ size
-  pub one : (s : ℕ) × (s < n) × (slice_index bases s + count ≡ size)
-
--- an entry's slot has its state and its target, and every other slot 0 and 0
-pub record AreSlots (n : ℕ) (to : ℕ → ℕ → ℕ) (count : ℕ) (defaults bases check next : List ℕ) : Type 0 where
-  pub used : (s k : ℕ) → s < n → IsEntry to count defaults s k
-      → (slice_index check (slice_index bases s + k) ≡ s) × (slice_index next (slice_index bases s + k) ≡ to s k)
-  pub rest : (i : ℕ) → i < length check
-      → IsTaken to count defaults bases n i ⊎ ((slice_index check i ≡ 0) × (slice_index next i ≡ 0))
-
--- the rows of n states by classes, packed
-pub record AreRows (n : ℕ) (to : ℕ → ℕ → ℕ) (count : ℕ) (defaults bases check next : List ℕ) : Type 0 where
-  pub defaults_len : length defaults ≡ n
-  pub default : (s : ℕ) → s < n → IsDefault (to s) count (slice_index defaults s)
-  pub bases_len : length bases ≡ n
-  pub base : (s : ℕ) → s < n → IsBase to count defaults bases s (slice_index bases s)
-  pub check_len : IsSize n count bases (length check)
-  pub next_len : IsSize n count bases (length next)
-  pub slots : AreSlots n to count defaults bases check next
-
--- where a state goes by a class: by its first byte
-abbrev pub by_class : (ℕ → ℕ → ℕ) → List ℕ → ℕ → ℕ → ℕ
-by_class go class_of s k = go s (first_byte_of class_of k)
-
--- the automaton of n states, packed
-pub record IsPacked (n : ℕ) (go : ℕ → ℕ → ℕ) (p : Packing) : Type 0 where
-  pub classes : IsClassMap n go p.class_of p.class_count
-  pub rows : AreRows n (by_class go p.class_of) p.class_count p.defaults p.bases p.check p.next
-
--- where the packed table goes
-abbrev pub packed_step : Packing → ℕ → ℕ → ℕ
-packed_step p s b = slot (slice_index p.bases s + slice_index p.class_of b)
-  where
-    slot : ℕ → ℕ
-    slot i = cond (slice_index p.check i == s) (slice_index p.next i) (slice_index p.defaults s)
-
--- a packing within the limits of tables
-pub record HasRanges (n : ℕ) (p : Packing) : Type 0 where
-  pub some_class : 1 ≤ p.class_count
-  pub classes : p.class_count ≤ 256
-  pub slots : p.class_count ≤ length p.check
-  pub few_slots : length p.check ≤ n * 256
-  pub default : (s : ℕ) → s < n → slice_index p.defaults s < n
-  pub dead_default : slice_index p.defaults 0 ≡ 0
-  pub dead_base : slice_index p.bases 0 ≡ 0
-  pub base : (s : ℕ) → s < n → slice_index p.bases s + p.class_count ≤ length p.check
-  pub slot : (i : ℕ) → i < length p.check → ((slice_index p.check i ≡ 0) × (slice_index p.next i ≡ 0))
-      ⊎ ((1 ≤ slice_index p.check i) × (slice_index p.check i < n) × (slice_index p.bases (slice_index p.check i) ≤ i)
-      × (i < slice_index p.bases (slice_index p.check i) + p.class_count) × (slice_index p.next i < n))
+-- The table has the moves of n states, packed. Bytes are in one class where each state goes alike by them, and the classes
+-- are numbered by their first bytes. The base of a state is the least at which it fits. The last slot is that of the last
+-- class of some state. An exception's slot has its state and its target, and every other slot 0 and 0.
+pub record IsPacked (n : ℕ) (go : ℕ → ℕ → ℕ) (t : Table) : Type 0 where
+  pub bytes : length t.class_of ≡ 256
+  pub classes : (b c : ℕ) → b < 256 → c < 256 → (slice_index t.class_of b ≡ slice_index t.class_of c)
+      ↔ ((s : ℕ) → s < n → go s b ≡ go s c)
+  pub numbered : InOrder 0 (map suc t.class_of) t.classes
+  pub rows : length t.rows ≡ n
+  pub default : (s : ℕ) → s < n → IsDefault (by_class go t.class_of s) t.classes (row_in t s).default_target
+  pub fits : (s : ℕ) → s < n → FitsAt go t s (row_in t s).base
+  pub least : (s b : ℕ) → s < n → b < (row_in t s).base → FitsAt go t s b → ⊥
+  pub inside : (s : ℕ) → s < n → (row_in t s).base + t.classes ≤ length t.slots
+  pub last : (s : ℕ) × (s < n) × ((row_in t s).base + t.classes ≡ length t.slots)
+  pub used : (s k : ℕ) → s < n → IsException go t s k
+      → slot_at t ((row_in t s).base + k) ≡ record { check = s; next = by_class go t.class_of s k }
+  pub unused : (i : ℕ) → IsTakenIn go t n i ⊎ (slot_at t i ≡ record { check = 0; next = 0 })

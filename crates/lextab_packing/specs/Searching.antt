@@ -2,7 +2,7 @@
 use Rattle.std.specs.Prelude.{◌≡◌, ◌≢◌, ℕ, ◌+◌, ◌*◌, ◌/◌, ◌%◌, ◌<◌, ◌≤◌, ◌⊎◌, List, length, slice_index}
 use Rattle.std.specs.Int.{bit_at}
 use Rattle.lexauto_dfa.specs.Alike.{moves}
-use Rattle.lextab_packing.specs.Packing.{IsBase, IsEntry, IsTaken}
+use Rattle.lextab_packing.specs.Columns.{IsBase, IsEntry, IsTaken}
 
 -- those of the first n classes of a row whose target is not d
 pub record AreEntries (row : List ℕ) (d n : ℕ) (ks : List ℕ) : Type 0 where

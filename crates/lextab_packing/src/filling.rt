@@ -1,6 +1,6 @@
 //! The slots of the entries.
 ghost use Rattle.std.specs.Prelude.{◌≡◌, ◌≢◌, ℕ, ◌+◌, ◌*◌, ◌<◌, ◌≤◌, ◌^◌, length, slice_index, OnOk, IfOk};
-ghost use Rattle.lextab_packing.specs.Packing.{IsBase, IsSize, AreSlots};
+ghost use Rattle.lextab_packing.specs.Columns.{IsBase, IsSize, AreSlots};
 ghost use Rattle.lextab_packing.specs.Searching.{by_head, AreAllBytes, AreFilled};
 ghost use Rattle.lex_semantics.specs.Limits.{max_states};
 

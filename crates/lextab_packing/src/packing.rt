@@ -1,6 +1,6 @@
 //! Packing.
 ghost use Rattle.std.specs.Prelude.{◌≡◌, ℕ, ◌*◌, ◌<◌, ◌≤◌, length, slice_index, IfOk};
-ghost use Rattle.lextab_packing.specs.Packing.{IsPacked};
+ghost use Rattle.lextab_packing.specs.Columns.{IsPacking};
 ghost use Rattle.lexauto_dfa.specs.Alike.{moves};
 ghost use Rattle.lextab_packing.specs.Views.{packing_of};
 ghost use Rattle.lex_semantics.specs.Limits.{max_states};
@@ -28,7 +28,7 @@ pub(crate) fn pack_rows(alloc: Global, next: &[u32], states: usize) -> Result<Pa
     requires some { 0 < states }
     requires few { states ≤ max_states }
     requires below { (i : ℕ) → i < length next.now → slice_index next.now i < states }
-    ensures { IfOk result (λ p. IsPacked states (moves next.now) (packing_of p)) }
+    ensures { IfOk result (λ p. IsPacking states (moves next.now) (packing_of p)) }
 {
     let classes = classes_of(alloc, next, states)?;
     let mut counts = vec![in alloc; 0u32; states]?;

@@ -1,7 +1,7 @@
 //! Rows placed one over another, each at the first place that fits.
 ghost use Rattle.std.specs.Prelude.{◌≡◌, ◌≢◌, true, ℕ, ◌+◌, ◌*◌, ◌<◌, ◌≤◌, ◌^◌};
 ghost use Rattle.std.specs.Prelude.{length, vec_len, slice_index, OnOk, IfOk};
-ghost use Rattle.lextab_packing.specs.Packing.{IsBase, IsEntry};
+ghost use Rattle.lextab_packing.specs.Columns.{IsBase, IsEntry};
 ghost use Rattle.lextab_packing.specs.Searching.{slot_bit, AreAllBytes, Hits, IsFirstFit, IsMarked, IsEarlier, by_head};
 ghost use Rattle.lex_semantics.specs.Limits.{max_states};
 

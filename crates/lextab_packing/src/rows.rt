@@ -1,7 +1,7 @@
 //! Rows of targets, class by class.
 ghost use Rattle.std.specs.Prelude.{◌≡◌, true, ℕ, ◌≢◌, ◌+◌, ◌*◌, ◌<◌, ◌≤◌, ◌^◌};
 ghost use Rattle.std.specs.Prelude.{◌⊎◌, length, slice_index, map, OnOk, IfOk};
-ghost use Rattle.lextab_packing.specs.Packing.{often, IsDefault};
+ghost use Rattle.lextab_packing.specs.Columns.{often, IsDefault};
 ghost use Rattle.lextab_packing.specs.Searching.{AreAllBytes, AreEntries, by_head};
 
 use std::alloc::{AllocError, Global};

@@ -9,7 +9,6 @@ ghost use Rattle.lextab_packed.specs.Views.{table_of};
 ghost use Rattle.lextab_packed.specs.Machines.{table_machine, table_parts};
 ghost use Rattle.lextab_packing.specs.Assembled.{assembled, HasTexts};
 ghost use Rattle.lextab_packing.specs.Packing.{IsPacked};
-ghost use Rattle.lextab_packing.specs.Tables.{packing_in};
 ghost use Rattle.lextab_packing.specs.Views.{packing_of};
 
 use crate::assembling::{table_conditions, table_rows, table_rules};
@@ -53,8 +52,7 @@ fn table_parts(
 pub fn pack(alloc: Global, dfa: &Dfa, spec: &Spec) -> Result<Tables, OutOfMemory>
     requires conditions { conditions_of dfa.now ≡ length (conditions_in (spec_of spec.now)) }
     requires table { TableFor (machine_of dfa.now (spec_of spec.now)) (spec_of spec.now) }
-    ensures packed { IfOk result (λ t. IsPacked (states_of dfa.now) (next_of dfa.now)
-        (packing_in (table_of (table_parts t)))) }
+    ensures packed { IfOk result (λ t. IsPacked (states_of dfa.now) (next_of dfa.now) (table_of (table_parts t))) }
     ensures machine { IfOk result (λ t. table_machine t ≡ machine_of dfa.now (spec_of spec.now)) }
 {
     let parts = dfa.parts();

@@ -10,8 +10,8 @@ use Rattle.lex_semantics.specs.Machine.{Machine, walk}
 use Rattle.lex_semantics.specs.MachineLaws.{LeadsToAccept}
 use Rattle.lextab_packed.specs.Table.{Table, Slot}
 use Rattle.lextab_packed.specs.Checks.{IsTable}
-use Rattle.lextab_packed.specs.Steps.{target, step_of, accepted_in, machine_of_table}
-use Rattle.lextab_packed.proofs.Finding.{no_slot}
+use Rattle.lextab_packed.specs.Steps.{target, step_of, machine_of_table}
+use Rattle.lextab_packed.proofs.Finding.{no_slot, accepted_in}
 use Rattle.lextab_packed.specs.Invariant.{GoesOn}
 use Rattle.lextab_packed.proofs.Places.{each_of, step_dead, dead_after}
 
@@ -55,11 +55,11 @@ module _ (m : List ℕ) (len : length m ≡ 256) (one : slice_index m 97 ≡ 1) 
   pub letter_is : IsTable (letter m)
   letter_is = record {
     sizes = record {
-      conditions = (lit≤ tt, lit≤ tt);
-      rules = lit≤ tt;
-      states = (lit≤ tt, lit≤ tt);
-      classes = (lit≤ tt, lit≤ tt);
-      slots = (lit≤ tt, lit≤ tt);
+      some_conditions = (lit≤ tt, lit≤ tt);
+      few_rules = lit≤ tt;
+      some_states = (lit≤ tt, lit≤ tt);
+      some_classes = (lit≤ tt, lit≤ tt);
+      some_slots = (lit≤ tt, lit≤ tt);
     };
     conditions = (record { start = lit< tt; line_start = lit< tt; print = lit≤ tt; bytes = tt; status = lit≤ tt }, tt);
     rules = (record { cut = tt; few = lit≤ tt; literals = lit≤ tt; legal = record { ranges = refl; last = refl; joined = refl; compatible = refl }; bytes = (tt, tt) }, tt);

@@ -22,4 +22,4 @@ goes x given known ends ends' false e h = front x given known h.taken
 pub runs : (R : Rules) (given out : List ℕ) (status : ℕ) (known known' : Option (List ℕ)) (ends ends' : ℕ) → Gives known known' ends ends' given
     → RanTo R given out (nat_lt ends ends') (Status status) → IfSome known (λ x. IsText x → Run R x out (Status status))
 runs R given out status None known' ends ends' g h = tt
-runs R given out status (Some x) known' ends ends' g h = λ text. h.run x (text, goes x given known' ends ends' (nat_lt ends ends') refl g)
+runs R given out status (Some x) known' ends ends' g h = λ text. (h.turns, h.place, (h.scanned x (text, goes x given known' ends ends' (nat_lt ends ends') refl g)).turns)

@@ -48,7 +48,7 @@ goes x given rest ends ends' failures failures' false e h = (rest, h.taken)
 
 -- a scan to the end over a slice is the run over all of it
 pub whole_run : (R : Rules) (x given out rest : List ℕ) (ends ends' failures failures' : ℕ) (ending : Ending) → IsText x → Gave x rest ends ends' failures failures' given → RanTo R given out (nat_lt ends ends') ending → Run R x out ending
-whole_run R x given out rest ends ends' failures failures' ending text gave ran = ran.run x (text, goes x given rest ends ends' failures failures' (nat_lt ends ends') refl gave)
+whole_run R x given out rest ends ends' failures failures' ending text gave ran = (ran.turns, ran.place, (ran.scanned x (text, goes x given rest ends ends' failures failures' (nat_lt ends ends') refl gave)).turns)
 
 abbrev gave_by : Slice → List ℕ → Slice → Type 0
 gave_by s xs t = Gave s.rest.now t.rest.now s.ends t.ends s.failures t.failures xs

@@ -9,7 +9,6 @@ returns c =
     let m = c.in_ok-tables.ensures in
     record {
       automaton = c.args.least.now.automaton;
-      subsets = c.args.least.now.subsets;
       tables = m.tables;
       rule_lines = m.rule_lines;
       warnings = m.warnings;

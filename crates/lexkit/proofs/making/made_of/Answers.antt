@@ -1,12 +1,11 @@
 use Rattle.std.proofs.lemmas.Grind.{common_steps}
 use Rattle.std.proofs.Common.{◌++◌, ◌∙◌, ℕ, List, map, ap, subst, refl, arith}
-use Rattle.lex_semantics.specs.Text.{flag}
-use Rattle.lextab_packed.specs.Views.{table_of}
 use Rattle.std.specs.List.Sorted.{IsPermutation}
 use Rattle.lexauto_reports.specs.Warned.{of_code, of_rule}
 use Rattle.lex_semantics.specs.Spec.{Spec}
 use Rattle.lexspec.specs.Views.{spec_of, skipped_in, rules_in}
 use Rattle.lexkit.specs.Generated.{lines_of}
+use Rattle.lexkit.proofs.Refusing.{within}
 use Rattle.lexkit.proofs.making.made_of.Goals as goal
 
 pub returns : goal.returns
@@ -16,17 +15,12 @@ returns c =
     record {
       tables = record {
         sound = c.tested_specifications.ensures S c.args.spec.now.sound;
-        least = l;
-        packed = c.in_ok-tables.ensures.packed;
-        machine = c.in_ok-tables.ensures.machine;
+        within = within c.args.limits S c.args.least.now.subsets c.args.least.now.automaton l;
         canonical = record {
-          automaton = c.args.least.now.automaton;
           conditions = l.conditions;
           table_for = l.table;
           least = l.least;
           numbered = l.numbered;
-          table = table_of c.in_ok-tables.tables.parts;
-          goes_on = λ s. flag c.in_ok-tables.tables.goes_on.items s;
           machine = c.in_ok-tables.ensures.machine;
           packed = c.in_ok-tables.ensures.packed;
           file = (c.in_ok-tables.tables.lawful, refl);

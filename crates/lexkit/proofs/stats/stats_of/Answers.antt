@@ -13,7 +13,7 @@ use Rattle.lexkit.proofs.stats.stats_of.Goals as goal
 pub overflow_cast-result-4 : goal.overflow_cast-result-4
 overflow_cast-result-4 c =
     let p = c.args.tables.now.parts in
-    let many = c.args.tables.now.lawful.sizes.slots.1 in
+    let many = c.args.tables.now.lawful.sizes.some_slots.1 in
     let is = slots_length p.checks.items p.nexts.items in
     let parts : c.parts-parts.result.now ≡ p = c.parts-parts.ensures in
     let checks : c.len-2.result ≡ length p.checks.items = (let e : c.len-2.result ≡ length c.parts-parts.result.now.checks.items = search rules in e) ∙ ap (λ (q : TableParts). length q.checks.items) parts in
@@ -36,7 +36,7 @@ returns c =
       conditions = sym (length-map c.conditions.result.now _) ∙ ap length c.conditions.ensures.conditions;
       positions = c.unwrap_or.ensures ∙ found_count c.count_positions.result (all_positions (map rule_of c.rules-2.result.now)) c.args.limits.positions c.count_positions.ensures.found c.count_positions.ensures.none
           (subst (λ rs. all_positions rs ≤ c.args.limits.positions) (sym same) c.requires.few) ∙ ap all_positions same;
-      subsets_are = refl;
+      subsets = c.requires.subsets;
       states = (let e : c.len.result ≡ length c.parts-parts.result.now.rows.items = search rules in e) ∙ ap (λ (q : TableParts). length q.rows.items) parts ∙ sym (length-map p.rows.items row_of);
       classes = ap (λ (q : TableParts). q.classes) parts;
       slots = omega (arith, is, checks, nexts, least);

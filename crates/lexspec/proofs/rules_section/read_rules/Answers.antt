@@ -1,8 +1,7 @@
 use Rattle.std.proofs.Common.{sym, ◌∙◌, length, arith, refl, inr}
 use Rattle.std.proofs.lemmas.Bool.{eqb-true}
 use Rattle.lexspec.proofs.KeepLaws.{keeps_first}
-use Rattle.lexspec.specs.Items.{IsLine}
-use Rattle.lexspec.specs.Skipped.{EndsRules, code_of_item}
+use Rattle.lexspec.specs.ItemRuns.{EndsRules, IsLine, code_of_item}
 use Rattle.lexspec_lines.proofs.CodeLaws.{tells_none}
 use Rattle.lexspec.proofs.RestLaws.{over_empty, agrees_first, section_refused, item_read, ended_found, ended_line, ended_none, item_told, ended_code, newlines_few}
 use Rattle.lexspec.proofs.rules_section.read_rules.Goals.{then-items-test+else-not-starts_with, else-items-test}

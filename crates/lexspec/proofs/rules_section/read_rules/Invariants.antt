@@ -1,12 +1,11 @@
 use Rattle.std.proofs.Common.{◌≡◌, ◌+◌, ◌≤◌, List, length}
 use Rattle.lexspec_lines.specs.Lines.{newlines}
+use Rattle.lexspec.specs.ItemRuns.{IsLine, code_of_item}
 use Rattle.lexspec.specs.Agreeing.{Agrees}
 use Rattle.lexspec.specs.Keeping.{Keeps}
 use Rattle.lexspec.specs.KeptNames.{AreKept}
 use Rattle.lexspec_lines.specs.SkippedCode.{Code}
 use Rattle.lexspec_lines.specs.Skips.{TellsCode, TellsPieces}
-use Rattle.lexspec.specs.Items.{IsLine}
-use Rattle.lexspec.specs.Skipped.{code_of_item}
 use Rattle.lexspec.proofs.rules_section.read_rules.Given as goal
 
 abbrev pub invariant-items : goal.invariant-items

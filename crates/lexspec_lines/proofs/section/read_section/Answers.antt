@@ -2,7 +2,8 @@ use Rattle.std.proofs.lemmas.Grind.{common_steps}
 use Rattle.std.proofs.Common.{rules, arith, sym, ◌∙◌, ◌≡◌, [], length}
 use Rattle.lexre_bytes.proofs.MemoryLaws.{always}
 use Rattle.lexspec_lines.proofs.SectionLaws.{no_line, taking_refused, no_definition_at_end, no_separator_at_end, begin_reading, good_kept, read_line, line_counts}
-use Rattle.lexspec_lines.specs.SkippedCode.{IsDefinition, code_of_definition}
+use Rattle.lexspec_lines.specs.SkippedCode.{code_of_definition}
+use Rattle.lexspec_lines.specs.Skips.{IsDefinition}
 use Rattle.lexspec_lines.proofs.CodeLaws.{tells_none, tells_more}
 use Rattle.lexspec_lines.proofs.section.read_section.Goals as goal
 

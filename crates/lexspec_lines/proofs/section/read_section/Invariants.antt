@@ -1,8 +1,8 @@
 use Rattle.std.proofs.Common.{◌≡◌, ◌+◌, ◌≤◌, [], length}
 use Rattle.lexspec_lines.specs.Lines.{newlines}
 use Rattle.lexspec_lines.proofs.SectionLaws.{Reading}
-use Rattle.lexspec_lines.specs.SkippedCode.{IsDefinition, code_of_definition}
-use Rattle.lexspec_lines.specs.Skips.{TellsPieces}
+use Rattle.lexspec_lines.specs.SkippedCode.{code_of_definition}
+use Rattle.lexspec_lines.specs.Skips.{IsDefinition, TellsPieces}
 use Rattle.lexspec_lines.proofs.section.read_section.Given as goal
 
 abbrev pub invariant-lines : goal.invariant-lines

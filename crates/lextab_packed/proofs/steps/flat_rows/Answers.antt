@@ -8,10 +8,10 @@ use Rattle.lextab_packed.proofs.Columns.{index_more}
 use Rattle.lextab_packed.proofs.steps.flat_rows.Goals as goal
 
 pub overflow_mul-places : goal.overflow_mul-places
-overflow_mul-places c = let few = c.requires.sizes.states.1 in omega (arith, c.len-places.ensures, few, length-map c.args.parts.now.rows.items row_of)
+overflow_mul-places c = let few = c.requires.sizes.some_states.1 in omega (arith, c.len-places.ensures, few, length-map c.args.parts.now.rows.items row_of)
 
 pub overflow_cast-place : goal.overflow_cast-place
-overflow_cast-place c = let few = c.requires.sizes.states.1 in omega (arith, c.len-places.ensures, c.loop-place-test.true, few, length-map c.args.parts.now.rows.items row_of)
+overflow_cast-place c = let few = c.requires.sizes.some_states.1 in omega (arith, c.len-places.ensures, c.loop-place-test.true, few, length-map c.args.parts.now.rows.items row_of)
 
 pub loop-place-preserved : goal.loop-place-preserved
 loop-place-preserved c = (

@@ -1,5 +1,5 @@
 use Rattle.std.proofs.Common.{◌≡◌, length}
-use Rattle.lextab_packing.specs.Packing.{AreSlots}
+use Rattle.lextab_packing.specs.Columns.{AreSlots}
 use Rattle.lextab_packing.specs.Searching.{by_head}
 use Rattle.lextab_packing.proofs.filling.fill_all.Given as goal
 

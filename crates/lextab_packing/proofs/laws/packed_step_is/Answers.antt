@@ -1,5 +1,11 @@
+use Rattle.std.proofs.Common.{◌∙◌, ◌≡◌, length, sym, arith}
+use Rattle.lextab_packing.specs.Columns.{packing_in}
+use Rattle.lextab_packing.proofs.Columns.{steps_as_packed}
 use Rattle.lextab_packing.proofs.Steps.{goes_as}
+use Rattle.lextab_packing.proofs.Tabled.{packing_of}
 use Rattle.lextab_packing.proofs.laws.packed_step_is.Goals as goal
 
 pub returns : goal.returns
-returns c = goes_as
+returns c n go t x dead s b h k =
+    let rows : length t.rows ≡ n = x.rows in
+    steps_as_packed t s b (omega (arith, h, rows)) k ∙ goes_as n go (packing_in t) (packing_of n go t x) dead s b h k

@@ -1,5 +1,5 @@
 use Rattle.std.proofs.Common.{◌≡◌, ℕ, slice_index}
-use Rattle.lextab_packing.specs.Packing.{often}
+use Rattle.lextab_packing.specs.Columns.{often}
 use Rattle.lextab_packing.proofs.rows.count_up.Given as goal
 
 abbrev pub invariant-loop-target : goal.invariant-loop-target

@@ -1,7 +1,7 @@
 use Rattle.std.proofs.lemmas.Grind.{common_steps}
 use Rattle.std.proofs.Common.{rules, ◌≡◌, ℕ, List, ◌<◌, ◌+◌, ◌++◌, ◌∷◌, [], length, slice_index, ap, subst, sym, ◌∙◌, arith, inl, inr}
 use Rattle.std.proofs.lemmas.List.{get_or_push, get_or_append_left}
-use Rattle.lextab_packing.specs.Packing.{IsDefault}
+use Rattle.lextab_packing.specs.Columns.{IsDefault}
 use Rattle.lextab_packing.specs.Searching.{by_head}
 use Rattle.lextab_packing.proofs.Orders.{same_or_not}
 use Rattle.lextab_packing.proofs.Counts.{default_same}

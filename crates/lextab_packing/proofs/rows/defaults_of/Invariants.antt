@@ -1,5 +1,5 @@
 use Rattle.std.proofs.Common.{◌≡◌, ℕ, ◌<◌, length, slice_index}
-use Rattle.lextab_packing.specs.Packing.{IsDefault}
+use Rattle.lextab_packing.specs.Columns.{IsDefault}
 use Rattle.lextab_packing.specs.Searching.{by_head}
 use Rattle.lextab_packing.proofs.rows.defaults_of.Given as goal
 

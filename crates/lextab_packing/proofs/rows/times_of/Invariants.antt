@@ -1,5 +1,5 @@
 use Rattle.std.proofs.Common.{◌≡◌, slice_index}
-use Rattle.lextab_packing.specs.Packing.{often}
+use Rattle.lextab_packing.specs.Columns.{often}
 use Rattle.lextab_packing.proofs.rows.times_of.Given as goal
 
 abbrev pub invariant-loop-other : goal.invariant-loop-other

@@ -12,20 +12,21 @@ use Rattle.lextab_packed.specs.Views.{table_of}
 use Rattle.lextab_packed.specs.Invariant.{GoesOn}
 use Rattle.lextab_packed.specs.declared.parts.TableParts.{TableParts}
 use Rattle.lextab_packing.specs.Assembled.{assembled, HasTexts}
-use Rattle.lextab_packing.specs.Packing.{Packing, IsPacked}
+use Rattle.lextab_packing.specs.Columns.{Packing, IsPacking}
 use Rattle.lexauto_dfa.specs.Alike.{moves}
-use Rattle.lextab_packing.specs.Tables.{packing_in}
+use Rattle.lextab_packing.specs.Columns.{packing_in}
 use Rattle.lextab_packing.specs.Views.{packing_of}
 use Rattle.lexauto_dfa.proofs.Fitting.{fitting_laws}
 use Rattle.lextab_packing.proofs.Bounds.{class_count_low}
 use Rattle.lextab_packing.proofs.Firsts.{first_alone}
 use Rattle.lextab_packing.proofs.Lawful.{is_table, goes_on, same_machine, packed_as, has_packing}
+use Rattle.lextab_packing.proofs.Tabled.{packed_of as packed_of_table}
 use Rattle.lextab_packing.proofs.tables.pack.Goals as goal
 
-packed_of : (p r : Parts) (n : ℕ) (row : List ℕ) (q : Packing) → r ≡ p → n ≡ states r → row ≡ r.next.items → IsPacked n (moves row) q → IsPacked (states p) (moves p.next.items) q
+packed_of : (p r : Parts) (n : ℕ) (row : List ℕ) (q : Packing) → r ≡ p → n ≡ states r → row ≡ r.next.items → IsPacking n (moves row) q → IsPacking (states p) (moves p.next.items) q
 packed_of p r n row q same len rows h =
-    let a = subst (λ (m : ℕ). IsPacked m (moves row) q) (len ∙ ap (λ (x : Parts). states x) same) h in
-    subst (λ (l : List ℕ). IsPacked (states p) (moves l) q) (rows ∙ ap (λ (x : Parts). x.next.items) same) a
+    let a = subst (λ (m : ℕ). IsPacking m (moves row) q) (len ∙ ap (λ (x : Parts). states x) same) h in
+    subst (λ (l : List ℕ). IsPacking (states p) (moves l) q) (rows ∙ ap (λ (x : Parts). x.next.items) same) a
 
 pub table_parts-requires-clause-classes : goal.table_parts-requires-clause-classes
 table_parts-requires-clause-classes c =
@@ -68,8 +69,8 @@ returns-clause-packed c =
     let is : table_of c.new.result.parts ≡ assembled p spec q =
     ap (λ (x : TableParts). table_of x) c.new.ensures.parts ∙ c.in_ok-table.ensures.table ∙ ap (λ (x : Parts). assembled x spec q) c.parts-parts.ensures in
     let same = has_packing p a spec (fitting_laws p a spec (spec_is_sound spec c.args.spec.now.sound) c.requires.conditions c.requires.table) c.requires.conditions c.args.spec.now.sound q packed in
-    subst (λ (r : Packing). IsPacked (states p) (next p) r) (sym (ap (λ (t : Table). packing_in t) is ∙ same))
-    (packed_as p a spec (fitting_laws p a spec (spec_is_sound spec c.args.spec.now.sound) c.requires.conditions c.requires.table) c.requires.conditions c.args.spec.now.sound q packed)
+    packed_of_table (states p) (next p) (table_of c.new.result.parts) (subst (λ (r : Packing). IsPacking (states p) (next p) r) (sym (ap (λ (t : Table). packing_in t) is ∙ same))
+    (packed_as p a spec (fitting_laws p a spec (spec_is_sound spec c.args.spec.now.sound) c.requires.conditions c.requires.table) c.requires.conditions c.args.spec.now.sound q packed))
 
 pub returns-clause-machine : goal.returns-clause-machine
 returns-clause-machine c =

@@ -10,8 +10,8 @@ one_more [] p sound here = (here, tt)
 one_more (q ∷ ps) p sound here = (sound.0, one_more ps p sound.1 here)
 
 some_part : (ps : List Pattern) (p : Pattern) → HasPart (trees (map tree_of (ps ++ p ∷ [])))
-some_part [] p = tt
-some_part (q ∷ ps) p = tt
+some_part [] p = λ e. cc
+some_part (q ∷ ps) p = λ e. cc
 
 pub loop-preserved : goal.loop-preserved
 loop-preserved c = rw c.in_ok-push.ensures.items (one_more _ _ c.loop.invariant.0 c.byte.ensures, some_part _ _)
