@@ -62,7 +62,7 @@ module _ (m : List ℕ) (len : length m ≡ 256) (one : slice_index m 97 ≡ 1) 
       some_slots = (lit≤ tt, lit≤ tt);
     };
     conditions = (record { start = lit< tt; line_start = lit< tt; print = lit≤ tt; bytes = tt; status = lit≤ tt }, tt);
-    rules = (record { cut = tt; few = lit≤ tt; literals = lit≤ tt; legal = record { ranges = refl; last = refl; joined = refl; compatible = refl }; bytes = (tt, tt) }, tt);
+    rules = (record { cut = tt; few = lit≤ tt; literals = lit≤ tt; legal = (record { ranges = refl; last = refl; compatible = refl }, refl); bytes = (tt, tt) }, tt);
     bytes = len;
     class_of = each_of (λ i k. k < 2) m 0 (λ b h. low b);
     rows = (
