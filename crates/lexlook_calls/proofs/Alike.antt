@@ -4,9 +4,8 @@ use Rattle.std.specs.Prelude.{slice_get, take}
 use Rattle.std.specs.Prelude.{MatchOption}
 use Rattle.std.specs.Prelude.{drop}
 use Rattle.lex_semantics.specs.Tree.{In}
-use Rattle.lex_semantics.specs.Spec.{Spec, Rule, Condition, rejects}
+use Rattle.lex_semantics.specs.Spec.{Spec, Rule, Condition}
 use Rattle.lex_semantics.specs.Active.{active}
-use Rattle.lex_semantics.specs.Fits.{InTrail}
 use Rattle.lex_semantics.specs.Reports.{HasFit}
 use Rattle.lex_semantics.specs.TableFor.{Accepted}
 use Rattle.lex_semantics.specs.Positions.{Cell, Readings}

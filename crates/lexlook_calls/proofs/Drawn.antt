@@ -1,5 +1,5 @@
 -- Pictures that were written, whole or not.
-use Rattle.std.proofs.Common.{ℕ, List, Ok, Err, refl}
+use Rattle.std.proofs.Common.{ℕ, List, Err, refl}
 use Rattle.lex_io.specs.Sink.{Appended}
 use Rattle.lex_semantics.specs.Spec.{Spec}
 use Rattle.lexspec.specs.Files.{SpellsSpec}
@@ -15,9 +15,6 @@ use Rattle.lexlook_calls.specs.Looks.{IsPictureOf, Draws, picture_of}
 module _ {K : Type 0} (wrote : K → List ℕ → K → Type 0) (options : Options) (text : List ℕ) (s t : K) (S : Spec) (spells : SpellsSpec (reading options) text S) (d : Dfa) (least : (subsets : ℕ) × IsLeastOf options.limits S subsets d) where
   is_picture : IsPictureOf options.limits S (picture_of d S)
   is_picture = record { automaton = d; subsets = least.0; least = least.1; drawn = refl }
-
-  pub drawn_whole : wrote s (picture_of d S) t → Draws wrote options text s t (Ok tt)
-  drawn_whole w = record { spec = S; spells = spells; bytes = picture_of d S; is_picture = is_picture; written = w }
 
   pub drawn_in_part : (e : PictureError) → Appended {T = Unit {0}} (λ xs. wrote s xs t) (picture_of d S) (Err e) → Draws wrote options text s t (Err (told_of e))
   drawn_in_part OutOfMemory w = record { spec = S; spells = spells; bytes = picture_of d S; is_picture = is_picture; written = w }

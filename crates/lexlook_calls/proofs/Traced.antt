@@ -1,5 +1,5 @@
 -- What a scan leaves by the specification that tells its matches.
-use Rattle.std.proofs.Common.{◌≡◌, ℕ, refl, Bool, true, false, List, Result, Ok, Err, sym, ◌∙◌, ap, subst}
+use Rattle.std.proofs.Common.{◌≡◌, ℕ, refl, Bool, true, false, List, Result, Ok, Err, sym, ◌∙◌, ap}
 use Rattle.lex_semantics.specs.Spec.{Spec}
 use Rattle.std.specs.FinMap.{get}
 use Rattle.lexre_bytes.specs.Lexical.{symbol_at}
@@ -29,11 +29,6 @@ told gave wrote options text at_end s s' t t' S (Err (scans.Generate (gens.Build
 told gave wrote options text at_end s s' t t' S (Err (scans.Generate gens.OutOfMemory)) spells turns runs h = (tt, h.0, h.1)
 told gave wrote options text at_end s s' t t' S (Err (scans.Generate (gens.Spec e))) spells turns runs h = absurd h
 told gave wrote options text at_end s s' t t' S (Err (scans.Table e)) spells turns runs h = absurd h
-
-pub told_by : {A B : Type 0} (gave : A → List ℕ → A → Type 0) (wrote : B → List ℕ → B → Type 0) (options : Options) (text : List ℕ) (at_end : Bool) (s s' : A) (t t' : B) (S T : Spec) (answer : Result ℕ ScanError) →
-    T ≡ traced S → SpellsWithRoom options text S → TellsTurns S → TellsRuns S → ScansBy gave wrote options.limits T at_end s s' t t' answer → Traces gave wrote options text at_end s s' t t' answer
-told_by gave wrote options text at_end s s' t t' S T answer is spells turns runs h =
-    told gave wrote options text at_end s s' t t' S answer spells turns runs (subst (λ (z : Spec). ScansBy gave wrote options.limits z at_end s s' t t' answer) is h)
 
 -- a text spells one specification at most
 one_spec : (options : Options) (text : List ℕ) (S T : Spec) → SpellsSpec (reading options) text S → SpellsSpec (reading options) text T → S ≡ T

@@ -1,7 +1,7 @@
 -- One element more of a list that is gone over, and the words that lead to a rule.
 use Rattle.std.proofs.Common.{◌≡◌, ℕ, ◌+◌, ◌≤◌, ◌<◌, Bool, true, false, List, [], ◌∷◌, ◌++◌, length, take, ◌⊎◌, inl, inr, Option, None, Some, refl, sym, ◌∙◌, ap, subst, get_or, arith}
 use mathlib.Core.Logic.{∥∥₁_elim}
-use Rattle.std.proofs.lemmas.List.{take_more, take_all, length-append}
+use Rattle.std.proofs.lemmas.List.{take_more, length-append}
 use Rattle.lex_semantics.specs.Text.{IsText, Among}
 use Rattle.lex_semantics.specs.Machine.{Machine, walk, state_after}
 use Rattle.lex_semantics.specs.MachineLaws.{MachineLaws}
@@ -16,9 +16,6 @@ use Rattle.lexlook_lines.proofs.Searches.{among_either}
 
 pub among_front : (xs : List ℕ) (k x : ℕ) → k < length xs → Among (take (k + 1) xs) x → Among (take k xs) x ⊎ (x ≡ get_or xs k 0)
 among_front xs k x lt at = among_either (take k xs) (get_or xs k 0) x (subst (λ l. Among l x) (take_more xs k 0 lt) at)
-
-pub among_all : (xs : List ℕ) (k x : ℕ) → length xs ≤ k → Among xs x → Among (take k xs) x
-among_all xs k x le at = subst (λ l. Among l x) (sym (take_all k xs le)) at
 
 -- a list that is not empty has its first element among it
 none_among : (xs : List ℕ) (x : ℕ) → xs ≡ [] → Among xs x → ⊥

@@ -1,15 +1,13 @@
 -- Where no rule of a table has REJECT a state accepts one rule at most, so the first of them is all.
-use Rattle.std.proofs.Common.{◌≡◌, ℕ, ◌≤◌, ◌<◌, Bool, true, false, None, List, [], map, length, take, ◌⊎◌, inl, inr, refl, sym, ◌∙◌, ap, subst, arith}
+use Rattle.std.proofs.Common.{◌≡◌, ℕ, ◌≤◌, Bool, true, false, None, List, map, length, inl, inr, refl, sym, ◌∙◌, ap, subst, arith}
 use Rattle.std.proofs.lemmas.Bool.{cases_lt}
 use Rattle.std.proofs.lemmas.List.{get_or_past, take_all}
-use Rattle.lex_semantics.specs.Machine.{Machine, state_after}
+use Rattle.lex_semantics.specs.Machine.{state_after}
 use Rattle.lex_semantics.specs.MachineLaws.{NoReject}
-use Rattle.lex_semantics.specs.Text.{IsText}
 use Rattle.lextab_packed.specs.Checks.{some_rule_rejects}
 use Rattle.lextab_packed.specs.Machines.{table_machine}
-use Rattle.lextab_packed.specs.Steps.{row_in}
 use Rattle.lextab_packed.proofs.Finding.{no_row}
-use Rattle.lextab_packed.specs.Table.{RuleOfTable, Row}
+use Rattle.lextab_packed.specs.Table.{Row}
 use Rattle.lextab_packed.specs.Views.{table_of}
 use Rattle.lextab_packed.specs.declared.tables.Tables.{Tables}
 use Rattle.lextab_packed.proofs.Places.{row_is}

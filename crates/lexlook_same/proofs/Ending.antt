@@ -8,10 +8,8 @@ use Rattle.lex_semantics.specs.Machine.{Machine, walk, state_after}
 use Rattle.lex_semantics.proofs.MachineLaws.{walk-append}
 use Rattle.lexlook_same.specs.Same.{deeds_at, deeds_in, number_in, Agree, AreSame, Differs, key}
 use Rattle.lexlook_same.specs.declared.differing.Difference.{Difference}
-use Rattle.lexlook_same.specs.declared.pairs.From.{From}
-use Rattle.lexlook_same.specs.declared.pairs.From.TheVariants.{Start, Byte}
 use Rattle.lexlook_same.specs.declared.pairs.Pair.{Pair}
-use Rattle.lexlook_same.specs.Searching.{HasAt, KeyAt, IsKey, start_key, IsFrom, IsBefore, LeadBack, IsSeen, AreStarts, Searched, DifferAt, IsTextOf}
+use Rattle.lexlook_same.specs.Searching.{HasAt, KeyAt, IsKey, start_key, IsFrom, IsSeen, AreStarts, Searched, DifferAt, IsTextOf}
 use Rattle.lexauto_reports.specs.BackWords.{Precedes, NotAfter, Smaller}
 use Rattle.lexauto_reports.proofs.Orders as Words
 use Rattle.lexlook_same.proofs.Orders as Order
@@ -71,13 +69,6 @@ searched_none order all M N m n k ps seen h conditions size none = record {
     nowhere : (i c : ℕ) → (i < 0) ⊎ ((i ≡ 0) × (c < 0)) → ⊥
     nowhere i c (inl less) = omega (arith, less)
     nowhere i c (inr here) = (let l = here.1 in omega (arith, l))
-
-pub lead_back : (order : List ℕ) (all : Bool) (M N : Machine) (m n : ℕ) (ps : List Pair) (seen : List Bool) (place b : ℕ) → Searched order all M N m n ps seen place b → LeadBack ps
-lead_back order all M N m n ps seen place b h i p at = back p.from (h.linked i p at)
-  where
-    back : (f : From) → IsFrom order M N ps i p f → IsBefore i f
-    back (Start c line) w = tt
-    back (Byte j c) w = w.1
 
 module _ (order : List ℕ) (all : Bool) (M N : Machine) (m n : ℕ) (ps : List Pair) (seen : List Bool) (place b : ℕ) (h : Searched order all M N m n ps seen place b) where
   -- where each byte was tried

@@ -135,9 +135,6 @@ module _ (p : Parts) (rejects : List Bool) (places : List (Option ℕ)) (n i : �
         (least_alike (TakesAt p rejects places n i) (TakesAt p rejects places (n + 1) i) old (λ j. takes_at_not j none) least)
   ]
 
-pub none_at_first : (p : Parts) (rejects : List Bool) (places : List (Option ℕ)) (i j : ℕ) → TakesAt p rejects places 0 i j → ⊥
-none_at_first p rejects places i j t = let low = t.1 in omega (arith, low)
-
 -- the flags of the rules that take the texts of rule i, after a state more
 module _ (p : Parts) (rejects : List Bool) (places : List (Option ℕ)) (n i : ℕ) where
   pub below_more : (old new : List Bool) (k : ℕ) → length old ≡ length rejects → length new ≡ length old → IsPlacedAt places n k

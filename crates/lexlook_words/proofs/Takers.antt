@@ -1,10 +1,10 @@
 -- Which of the rules that a text fits take it.
-use Rattle.std.proofs.Common.{◌≡◌, ◌⊎◌, ◌↔◌, ◌<◌, ◌≤◌, ◌+◌, ℕ, suc, Bool, true, false, List, [], ◌∷◌, ◌++◌, length, take, drop, get_or, Option, Some, None, inl, inr, refl, sym, ap, subst, ◌∙◌, arith, append_assoc, append-nil}
+use Rattle.std.proofs.Common.{◌≡◌, ◌⊎◌, ◌↔◌, ◌<◌, ◌≤◌, ◌+◌, ℕ, suc, Bool, true, false, List, [], ◌∷◌, length, drop, get_or, Option, Some, None, inl, inr, refl, sym, ap, subst, ◌∙◌, arith}
 use Rattle.std.specs.Prelude.{cond, nat_eq}
 use Rattle.std.specs.List.{IsAnyAnswer}
 use Rattle.lexauto_reports.proofs.Accepting.{among_get}
 use Rattle.std.proofs.lemmas.Bool.{cases_Bool, cases_eq, cond-true, cond-false, eqb-true, eqb-false}
-use Rattle.std.proofs.lemmas.List.{take_more, drop_more, drop_all, take_all}
+use Rattle.std.proofs.lemmas.List.{drop_more, drop_all}
 use Rattle.lex_semantics.specs.Text.{Among, Ascending, flag}
 use Rattle.lexlook_words.specs.Placing.{takers}
 
@@ -79,27 +79,6 @@ kept_only rejects (x ∷ xs) j a f = elim (cases_Bool (flag rejects x)) [
     | inr r ↦ absurd (let g = r.0 in cc)
   ]
 ]
-
--- with none of these left, none is kept
-pub kept_none : (rejects : List Bool) (l : List ℕ) → first_kept rejects l ≡ None → (j : ℕ) → Among (takers rejects l) j → flag rejects j ≡ false → ⊥
-kept_none rejects l e j a f = (let g = kept_only rejects l j a f in cc)
-
--- a rule further
-pub takers_more : (rejects : List Bool) (l : List ℕ) (i : ℕ) → i < length l → flag rejects (get_or l i 0) ≡ true → takers rejects l ≡ take i l ++ takers rejects (drop i l) → takers rejects l ≡ take (i + 1) l ++ takers rejects (drop (i + 1) l)
-takers_more rejects l i low t h =
-    let here : takers rejects (drop i l) ≡ get_or l i 0 ∷ takers rejects (drop (i + 1) l) = ap (takers rejects) (drop_more l i 0 low) ∙ cond-true (flag rejects (get_or l i 0)) (get_or l i 0 ∷ takers rejects (drop (i + 1) l)) (get_or l i 0 ∷ []) t in
-    h ∙ ap (λ m. take i l ++ m) here ∙ sym (append_assoc (take i l) (get_or l i 0 ∷ []) (takers rejects (drop (i + 1) l))) ∙ ap (λ m. m ++ takers rejects (drop (i + 1) l)) (sym (take_more l i 0 low))
-
-pub takers_stop : (rejects : List Bool) (l : List ℕ) (i : ℕ) → i < length l → flag rejects (get_or l i 0) ≡ false → takers rejects l ≡ take i l ++ takers rejects (drop i l) → takers rejects l ≡ take (i + 1) l
-takers_stop rejects l i low f h =
-    let here : takers rejects (drop i l) ≡ get_or l i 0 ∷ [] = ap (takers rejects) (drop_more l i 0 low) ∙ cond-false (flag rejects (get_or l i 0)) (get_or l i 0 ∷ takers rejects (drop (i + 1) l)) (get_or l i 0 ∷ []) f in
-    h ∙ ap (λ m. take i l ++ m) here ∙ sym (take_more l i 0 low)
-
-pub takers_end : (rejects : List Bool) (l : List ℕ) (i : ℕ) → length l ≤ i → takers rejects l ≡ take i l ++ takers rejects (drop i l) → takers rejects l ≡ l
-takers_end rejects l i all h = h ∙ ap (λ m. take i l ++ takers rejects m) (drop_all i l all) ∙ append-nil (take i l) ∙ take_all i l all
-
-pub kept_more : (rejects : List Bool) (l : List ℕ) (i : ℕ) → i < length l → flag rejects (get_or l i 0) ≡ true → first_kept rejects l ≡ first_kept rejects (drop i l) → first_kept rejects l ≡ first_kept rejects (drop (i + 1) l)
-kept_more rejects l i low t h = h ∙ ap (first_kept rejects) (drop_more l i 0 low) ∙ cond-true (flag rejects (get_or l i 0)) (first_kept rejects (drop (i + 1) l)) (Some (get_or l i 0)) t
 
 pub kept_here : (rejects : List Bool) (l : List ℕ) (i : ℕ) → i < length l → flag rejects (get_or l i 0) ≡ false → first_kept rejects l ≡ first_kept rejects (drop i l) → first_kept rejects l ≡ Some (get_or l i 0)
 kept_here rejects l i low f h = h ∙ ap (first_kept rejects) (drop_more l i 0 low) ∙ cond-false (flag rejects (get_or l i 0)) (first_kept rejects (drop (i + 1) l)) (Some (get_or l i 0)) f

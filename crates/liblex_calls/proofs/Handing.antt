@@ -1,5 +1,5 @@
 -- What a scan by pieces hands on.
-use Rattle.std.proofs.Common.{◌≡◌, ℕ, zero, suc, ◌+◌, min, Bool, List, [], ◌∷◌, ◌++◌, length, take, drop, refl, sym, ap, subst, ◌∙◌, append_assoc, arith}
+use Rattle.std.proofs.Common.{◌≡◌, ℕ, min, Bool, List, [], ◌∷◌, ◌++◌, length, take, drop, refl, sym, ap, subst, ◌∙◌, append_assoc}
 use Rattle.std.proofs.lemmas.List.{length-take, take-append-drop}
 use Rattle.liblex_calls.specs.Buffers.{HandedOut}
 use Rattle.liblex_calls.specs.Backlogs.{rest}

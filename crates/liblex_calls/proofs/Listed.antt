@@ -1,16 +1,11 @@
 -- What listing tokens and lines hands out, by what it answers.
 use Rattle.std.proofs.Common.{ℕ, List, map}
 use Rattle.lex_semantics.specs.Acting.{Status}
-use Rattle.lex_semantics.specs.Spec.{Spec}
-use Rattle.lexspec.specs.Files.{SpellsSpec}
 use Rattle.lexscan_tokens.specs.declared.listing.Token.{Token}
 use Rattle.lexscan_tokens.specs.Tokens.{Tokenised}
-use Rattle.lexkit.specs.Generated.{lines_of}
-use Rattle.lexkit.specs.Headline.{reading}
-use Rattle.lexkit.specs.declared.options.Options.{Options}
 use Rattle.liblex_calls.specs.Buffers.{HandedOut, Fits}
 use Rattle.liblex_calls.specs.Files.{ByFile}
-use Rattle.liblex_calls.specs.Listing.{ListsInto, TellsLines, shown}
+use Rattle.liblex_calls.specs.Listing.{ListsInto, shown}
 use Rattle.liblex_calls.specs.declared.answer.Answer.{Answer}
 use Rattle.liblex_calls.specs.declared.answer.Answer.TheVariants as answers
 use Rattle.liblex_calls.specs.declared.listing.TextToken.{TextToken}
@@ -25,14 +20,3 @@ listed_out file input old new count status answers.Refused tokens listed handed 
 listed_out file input old new count status answers.Stack tokens listed handed fits = absurd fits
 listed_out file input old new count status answers.OutOfMemory tokens listed handed fits = absurd fits
 listed_out file input old new count status answers.TooManyReads tokens listed handed fits = absurd fits
-
--- all lines were handed out, as many as there is room for
-pub lines_out : (options : Options) (text old new : List ℕ) (count : ℕ) (answer : Answer) (S : Spec) → SpellsSpec (reading options) text S → HandedOut (lines_of S.rules) old new count → Fits (lines_of S.rules) old answer → TellsLines options text old new count answer
-lines_out options text old new count answers.Done S spells handed fits = record { spec = S; spells = spells; handed = handed; fits = fits }
-lines_out options text old new count answers.TooSmall S spells handed fits = record { spec = S; spells = spells; handed = handed; fits = fits }
-lines_out options text old new count answers.Ended S spells handed fits = absurd fits
-lines_out options text old new count answers.Closed S spells handed fits = absurd fits
-lines_out options text old new count answers.Refused S spells handed fits = absurd fits
-lines_out options text old new count answers.Stack S spells handed fits = absurd fits
-lines_out options text old new count answers.OutOfMemory S spells handed fits = absurd fits
-lines_out options text old new count answers.TooManyReads S spells handed fits = absurd fits

@@ -1,5 +1,5 @@
 -- How a scan by pieces stands. (What is written is that of POSIX and flex; the rest is own.)
-use Rattle.std.specs.Prelude.{◌≡◌, ℕ, ◌-◌, ◌^◌, ◌≤◌, min, Bool, true, false, List, [], ◌++◌, length, drop, None}
+use Rattle.std.specs.Prelude.{◌≡◌, ℕ, ◌-◌, ◌^◌, ◌≤◌, min, Bool, true, false, List, ◌++◌, length, drop, None}
 use Rattle.lex_semantics.specs.Text.{IsText, BeginsWith, flag}
 use Rattle.lex_semantics.specs.Rules.{Rules}
 use Rattle.lex_semantics.specs.Acting.{Ending, Status, StackFault}

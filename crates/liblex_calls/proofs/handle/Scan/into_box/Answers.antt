@@ -1,4 +1,4 @@
-use Rattle.std.proofs.Common.{◌≡◌, sym, ◌∙◌}
+use Rattle.std.proofs.Common.{sym, ◌∙◌}
 use Rattle.liblex_calls.proofs.Opened.{some_of}
 use Rattle.liblex_calls.proofs.handle.Scan.into_box.Goals as goal
 

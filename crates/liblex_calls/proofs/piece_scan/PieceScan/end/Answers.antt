@@ -1,4 +1,4 @@
-use Rattle.std.proofs.Common.{◌≡◌, ◌++◌, List, sym, ap, ◌∙◌, refl}
+use Rattle.std.proofs.Common.{◌++◌, ap, ◌∙◌, refl}
 use Rattle.liblex_calls.proofs.Piecing.{end_progress, end_still}
 use Rattle.liblex_calls.proofs.piece_scan.PieceScan.end.Goals as goal
 

@@ -1,8 +1,5 @@
-use Rattle.std.proofs.Common.{◌≡◌, List, [], ◌++◌, false, refl, sym, ap, subst}
-use Rattle.lex_semantics.specs.Machine.{Machine}
+use Rattle.std.proofs.Common.{[], ◌++◌, false, refl, sym, ap, subst}
 use Rattle.lextab_packed.specs.Machines.{table_machine}
-use Rattle.lexscan.specs.Pushes.{Fed}
-use Rattle.liblex_calls.specs.Backlogs.{rest}
 use Rattle.liblex_calls.specs.Progress.{IsMachineOf, StandsAt}
 use Rattle.liblex_calls.specs.declared.stage.Stage.TheVariants as stages
 use Rattle.liblex_calls.proofs.Piecing.{first_stands}

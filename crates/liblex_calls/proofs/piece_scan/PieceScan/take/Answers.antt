@@ -1,4 +1,4 @@
-use Rattle.std.proofs.Common.{◌≡◌, ◌++◌, List, sym, ap, ◌∙◌, arith, refl}
+use Rattle.std.proofs.Common.{◌++◌, ap, ◌∙◌, arith, refl}
 use Rattle.lex_machine.proofs.Growing.{is_text_from}
 use Rattle.liblex_calls.proofs.Piecing.{fed_progress, fed_still}
 use Rattle.liblex_calls.proofs.piece_scan.PieceScan.take.Goals as goal

@@ -1,17 +1,15 @@
 -- An empty place owns nothing.
-use Rattle.std.proofs.Common.{lit<, ◌≡◌, [], ◌∷◌, List, refl, ap, Option, None}
+use Rattle.std.proofs.Common.{lit<, ◌≡◌, [], ◌∷◌, refl, Option, None}
 use Rattle.std.proofs.raw_atomic.Walks.{proved_at, leaves}
-use base.Logic.{SProp, ent, emp, id⊢}
+use base.Logic.{SProp, emp, id⊢}
 use base.Fml.{ftrue}
 use mir.Val.{Val}
 use contract.Monad.{fact, fact_i}
 use contract.Running.{tables}
-use types.Kit.{‵, raw, ◌⊛◌, ◌$◌, ◌∵◌, !, qed, by, move, keep, drop, use0, split, join, fjoin}
-use types.Run.{enter, of_opd, lit, no_more, and_then, returns}
-use types.ByLocal.{alloc_all, pass_all, free_all, look_at, get, sets}
+use types.Kit.{‵, raw, ◌⊛◌, ◌$◌, ◌∵◌, !, qed, by, keep, use0}
+use types.Run.{enter, lit, no_more, and_then, returns}
+use types.ByLocal.{alloc_all, pass_all, free_all, look_at, sets}
 use types.Part.{agg}
-use denote.Exit.{yes}
-use denote.Signature.{plain}
 use denote.RawPtr.{null_ptr, ptr_val}
 use denote.Steps.{nothing}
 use denote.Triple.Walked.{Stays, walk_of}

@@ -1,33 +1,25 @@
 -- What the pointer owned, the place owns.
-use Rattle.std.proofs.Common.{◌≡◌, [], ◌∷◌, ◌++◌, List, Option, Some, refl, sym, ap, subst, ◌∙◌}
+use Rattle.std.proofs.Common.{◌≡◌, [], ◌∷◌, ◌++◌, List, Some, refl, sym, subst}
 use Rattle.std.proofs.raw_atomic.Walks.{proved_at, leaves}
-use Rattle.std.proofs.alloc.Calls.{Al, handle_tells, Goes-blank}
 use Rattle.std.proofs.alloc.Global.TheLaws as global_laws
-use Rattle.std.specs.contracts.alloc.Global as global
 use Rattle.std.specs.contracts.impls.GlobalAllocator.TheImpl.{ghosts}
-use Rattle.std.specs.Box.Ownership.{box_owns}
 use base.Logic.{SProp, ent, emp, id⊢}
 use base.Fml.{ftrue, fsep}
-use mir.Syntax.{impl, tnil, dnil}
 use mir.Val.{Val, vptr}
 use prog.Wp.{WpFn}
 use contract.Monad.{fact, fact_i}
 use contract.Running.{tables}
-use types.Kit.{‵, raw, ◌⊛◌, ◌$◌, ◌∵◌, !, qed, by, move, keep, drop, use0, use1, split, join, fsplit, fjoin, suffices}
+use types.Kit.{‵, raw, ◌⊛◌, ◌$◌, ◌∵◌, !, qed, by, move, keep, use0, split, fsplit, fjoin, suffices}
 use types.Run.{enter, stop, fld, of_opd, no_more, and_then, returns}
 use types.ByLocal.{alloc_all, pass_all, free_all, look_at, get, get_in, sets}
 use types.Part.{agg, sub, whole}
-use denote.Exit.{yes, no}
-use denote.RattleType.{owns}
+use denote.Exit.{yes}
 use denote.Signature.{plain}
-use denote.RawPtr.{block_ptr, ptr_val}
-use denote.Steps.{nothing, heard}
+use denote.RawPtr.{block_ptr}
+use denote.Steps.{nothing}
 use denote.Triple.Walked.{Stays, stay_dropped, walk_of, Goes-dropped}
-use Rattle.liblex_calls.proofs.Loosened.{Loose, both, loose_good, loose_in, loose_out}
-use Rattle.liblex_calls.proofs.Placed.{R, Z, one, place_in, place_out}
-use Rattle.liblex_calls.specs.declared.piece_scan.PieceScan.{PieceScan}
-use Rattle.liblex_calls.specs.contracts.place.Place as place
-use Rattle.liblex_calls.specs.Owned.{heap, owned_at}
+use Rattle.liblex_calls.proofs.Loosened.{Loose, both, loose_good, loose_out}
+use Rattle.liblex_calls.proofs.Placed.{R, Z, one, place_in}
 use Rattle.liblex_calls.specs.contracts.place.Place.filled.{ended, clauses}
 use Rattle.liblex_calls.specs.contracts.place.Place.filled.Key.{name as #self}
 use Rattle.liblex_calls.proofs.place.Place.filled.Statement.{statement}
