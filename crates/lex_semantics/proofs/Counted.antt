@@ -1,9 +1,9 @@
 -- A specification never has no count of subsets: rules and positions are finitely many, and so are their sets.
-use Rattle.std.proofs.Common.{◌≡◌, ℕ, zero, suc, ◌+◌, ◌-◌, ◌*◌, ◌≤◌, ◌<◌, min, Bool, List, [], ◌∷◌, ◌++◌, map, length, ◌⊎◌, inl, inr, ◌↔◌, Option, Some, None, refl, sym, ap, subst, arith}
+use Rattle.std.proofs.Common.{IfSome, ◌≡◌, ℕ, zero, suc, ◌+◌, ◌-◌, ◌*◌, ◌≤◌, ◌<◌, min, Bool, List, [], ◌∷◌, ◌++◌, map, length, ◌⊎◌, inl, inr, ◌↔◌, Option, Some, None, refl, sym, ap, subst, arith}
 use Rattle.std.specs.Prelude.{slice_get, take}
 use Rattle.std.proofs.Math.Nat.{mul-le-mul_right}
 use Rattle.lex_semantics.specs.Text.{IsText, Among, Ascending}
-use Rattle.lex_semantics.specs.Tree.{Tree, Trees, Empty, Set, Cat, Alt, Star, Repeat, no_trees, tree, UpTo, Passes}
+use Rattle.lex_semantics.specs.Tree.{Tree, Trees, Empty, Set, Cat, Alt, Star, Repeat, no_trees, tree, Passes}
 use Rattle.lex_semantics.specs.Positions.{copies, positions, positions_of, Cell, Readings, Reads, ReadsEach, ReadsSome}
 use Rattle.lex_semantics.specs.Spec.{Spec, Rule}
 use Rattle.lex_semantics.specs.Subsets.{positions_of_trail, positions_of_rule, all_positions, base_of, ReadsTrail, ReadsRule, ReadsActive, IsLast, IsActive, ListsSet, Distinct, AreStarts, AreLasts, Subsets}
@@ -42,7 +42,7 @@ no_passes : (R : ℕ → Readings) (hi k : ℕ) (rs : List Cell) → k ≡ 0 →
 no_passes R hi zero rs e h = below_none hi rs h
 no_passes R hi (suc k) rs e h = absurd (omega (arith, e))
 
-repeat_below : (t : Tree) (m : ℕ) (n : Option ℕ) (base k c : ℕ) → copies m n ≡ c → (rs : List Cell) → UpTo n k
+repeat_below : (t : Tree) (m : ℕ) (n : Option ℕ) (base k c : ℕ) → copies m n ≡ c → (rs : List Cell) → IfSome n (λ n. k ≤ n)
     → ((j : ℕ) (us : List Cell) → Reads t (base + min j (copies m n - 1) * positions t) us → Below (base + min j (copies m n - 1) * positions t + positions t) us)
     → Passes (λ j. Reads t (base + min j (copies m n - 1) * positions t)) 0 k rs → Below (base + copies m n * positions t) rs
 repeat_below t m None base k c e rs high each passes =

@@ -6,7 +6,7 @@ use Rattle.lex_semantics.specs.Text.{IsText, Among, part, at_line_start}
 use Rattle.lex_semantics.specs.Rules.{Rules, Full, statements_of}
 use Rattle.lex_semantics.specs.Laws.{Laws}
 use Rattle.lex_semantics.specs.Candidates.{Candidate, IsCandidate}
-use Rattle.lex_semantics.specs.Acting.{Ending, Acting, Matched}
+use Rattle.lex_semantics.specs.Acting.{Ending, Acting}
 use Rattle.lex_semantics.specs.ActionResults.{ActionResult, Done, Again, Over, act_result, settle, perform_results}
 use Rattle.lex_semantics.specs.Run.{Place, State, MatchTurn, NextFrom, Turns, next_start}
 use Rattle.lex_semantics.specs.Scanned.{Covered}
@@ -15,22 +15,22 @@ use Rattle.lex_semantics.proofs.Texts.{is_text_drop, take_longer}
 use Rattle.lex_semantics.proofs.Once.{one_state}
 use Rattle.lex_semantics.proofs.Ends.{no_longer, Leaves}
 
-settle_short : (n : ℕ) (w : ActionResult) (f : Acting → Option Matched) (o : Matched) → Leaves (λ b. length b.text ≤ n) w → ((a : Acting) → f a ≡ Some o → length o.after.text ≤ n) →
-    settle w f ≡ Some o → length o.after.text ≤ n
-settle_short n (Done a) f o h later e = let same : record { after = a; ended = None } ≡ o = cc in subst (λ (z : Matched). length z.after.text ≤ n) same h
+settle_short : (n : ℕ) (w : ActionResult) (f : Acting → Option Acting) (o : Acting) → Leaves (λ b. length b.text ≤ n) w → ((a : Acting) → f a ≡ Some o → length o.text ≤ n) →
+    settle w f ≡ Some o → length o.text ≤ n
+settle_short n (Done a) f o h later e = let same : record a { ended = None } ≡ o = cc in subst (λ (z : Acting). length z.text ≤ n) same h
 settle_short n (Again a) f o h later e = later a e
-settle_short n (Over a d) f o h later e = let same : record { after = a; ended = Some d } ≡ o = cc in subst (λ (z : Matched). length z.after.text ≤ n) same h
+settle_short n (Over a d) f o h later e = let same : record a { ended = Some d } ≡ o = cc in subst (λ (z : Acting). length z.text ≤ n) same h
 
 -- the text that a match leaves is no longer than what was kept and the longest text
-perform_short : (R : Rules) (kept y : List ℕ) (ms : List Candidate) (out : List ℕ) (c : ℕ) (cs : List ℕ) (n : ℕ) (o : Matched) → ((m : Candidate) → Among ms m → m.keep ≤ n) →
-    perform_results R kept y ms out c cs ≡ Some o → length o.after.text ≤ length kept + n
+perform_short : (R : Rules) (kept y : List ℕ) (ms : List Candidate) (out : List ℕ) (c : ℕ) (cs : List ℕ) (n : ℕ) (o : Acting) → ((m : Candidate) → Among ms m → m.keep ≤ n) →
+    perform_results R kept y ms out c cs ≡ Some o → length o.text ≤ length kept + n
 unfolding perform_results
 perform_short R kept y [] out c cs n o h e = absurd (no e)
   where
     no : None ≡ Some o → ⊥
     no p = cc
 perform_short R kept y (m ∷ ms) out c cs n o h e =
-    let a : Acting = record { text = kept ++ take m.keep y; written = out; condition = c; stack = cs; more = false } in
+    let a : Acting = record { text = kept ++ take m.keep y; written = out; condition = c; stack = cs; more = false; ended = None } in
     let k : m.keep ≤ n = h m (inl refl) in
     let short : length (take m.keep y) ≤ m.keep = rw length-take (omega arith) in
     let size : length (kept ++ take m.keep y) ≡ length kept + length (take m.keep y) = length-append kept (take m.keep y) in
@@ -74,7 +74,7 @@ match_covers R l x p r f t text h reach turn =
     let bound : (m : Candidate) → Among turn.matches m → m.keep ≤ r = λ m i. keep_bound m ((turn.all.members m).0 i) in
     let short = perform_short R (part x p.start p.at) (drop p.at x) turn.matches [] p.condition p.stack r turn.outcome bound (sym (results_are _ _ _ _ _ _ _) ∙ turn.performed) in
     subst (λ (z : State). Covered z.place (max f (p.at + r))) (sym turn.leaves)
-    (record { ordered = next_ordered p turn.outcome.after turn.outcome.ended turn.outcome.after.more; covered = omega (arith, h.ordered, kept, short) })
+    (record { ordered = next_ordered p turn.outcome turn.outcome.ended turn.outcome.more; covered = omega (arith, h.ordered, kept, short) })
   where
     keep_bound : (m : Candidate) → IsCandidate R p.condition (at_line_start x p.at) (drop p.at x) m → m.keep ≤ r
     keep_bound m k =

@@ -3,6 +3,7 @@ use Rattle.std.proofs.Common.{◌≡◌, ℕ, ◌+◌, ◌≤◌, Bool, List, []
 use Rattle.std.specs.Prelude.{slice_get}
 use Rattle.std.proofs.lemmas.List.{length-append, append_assoc}
 use Rattle.lex_semantics.proofs.Splits.{split_of}
+use Rattle.lex_semantics.proofs.WordReadings.{match_of, in_of_match}
 use Rattle.lex_semantics.specs.Text.{IsText}
 use Rattle.lex_semantics.specs.Limits.{max_fixed_length}
 use Rattle.lex_semantics.specs.Tree.{Tree, In}
@@ -18,21 +19,21 @@ pub same_rule : (S : Spec) (i : ℕ) (q r : Rule) → slice_get S.rules i ≡ So
 same_rule S i q r h k = cc
 
 fixed_is : (t : Tree) (n : ℕ) (w : List ℕ) → HasFixed t n → In t w → length w ≡ n
-fixed_is t n w h word = h.1 w word
+fixed_is t n w h word = h.1 w (match_of t w word)
 
 -- The lengths of a tree whose words have one length, and the converse.
 
 pub fixed_lengths : (t : Tree) (n : ℕ) → HasFixed t n → HasLengths (In t) n (Some n)
 fixed_lengths t n (some, each, few) = record {
-  shortest = (some.0, some.1, each some.0 some.1);
-  none_shorter = λ w h. (let e : length w ≡ n = each w h in omega (arith, e));
-  longest = ((some.0, some.1, each some.0 some.1), λ w h. (let e : length w ≡ n = each w h in omega (arith, e)));
+  shortest = (some.0, in_of_match t some.0 some.1, each some.0 some.1);
+  none_shorter = λ w h. (let e : length w ≡ n = each w (match_of t w h) in omega (arith, e));
+  longest = ((some.0, in_of_match t some.0 some.1, each some.0 some.1), λ w h. (let e : length w ≡ n = each w (match_of t w h) in omega (arith, e)));
 }
 
 pub lengths_fixed : (t : Tree) (n : ℕ) → HasLengths (In t) n (Some n) → n ≤ max_fixed_length → HasFixed t n
 lengths_fixed t n h few = (
-  (h.shortest.0, h.shortest.1),
-  λ w word. (let low : n ≤ length w = h.none_shorter w word in let high : length w ≤ n = h.longest.1 w word in omega (arith, low, high)),
+  (h.shortest.0, match_of t h.shortest.0 h.shortest.1),
+  λ w match. (let word = in_of_match t w match in let low : n ≤ length w = h.none_shorter w word in let high : length w ≤ n = h.longest.1 w word in omega (arith, low, high)),
   few,
 )
 

@@ -11,7 +11,7 @@ use Rattle.lex_semantics.specs.Laws.{Laws}
 use Rattle.lex_semantics.specs.Legal.{has_less, has_more, IsAction}
 use Rattle.lex_semantics.proofs.Actions.{LessFromOne, less_from_one, apart, echo_legal}
 use Rattle.lex_semantics.specs.Candidates.{Candidate, IsCandidate, Candidates}
-use Rattle.lex_semantics.specs.Acting.{Ending, Status, StackFault, Acting, Matched}
+use Rattle.lex_semantics.specs.Acting.{Ending, Status, StackFault, Acting}
 use Rattle.lex_semantics.specs.ActionResults.{ActionResult, Done, Again, Over, act_result, has_room, popped, settle, perform_results}
 use Rattle.lex_semantics.proofs.Once.{run_by}
 use Rattle.lex_semantics.specs.Run.{Place, State, Turn, NextFrom, Turns, Run, first_state, next_place, next_start}
@@ -127,14 +127,14 @@ act_goes_on n kept left ss a legal more some inside = from (apart n ss legal)
         on_went (λ b. 1 ≤ length b.text) (λ b. b.more ≡ false) (λ b. (1 ≤ length b.text) × (b.more ≡ false)) (act_result ss a) (not_empty ss a (less_from_one n ss legal.ranges) (omega arith)) (no_more ss a m more) (λ b p q. (p, q)) in
         on_went (λ b. length b.text ≤ kept + left) (λ b. (1 ≤ length b.text) × (b.more ≡ false)) (GoesOn kept left) (act_result ss a) size both (λ b p q. record { inside = p; grows = inr q })
 
-abbrev pub GoodMatch : ℕ → ℕ → Option Matched → Type 0
-GoodMatch kept left r = (o : Matched) × (r ≡ Some o) × GoesOn kept left o.after
+abbrev pub GoodMatch : ℕ → ℕ → Option Acting → Type 0
+GoodMatch kept left r = (o : Acting) × (r ≡ Some o) × GoesOn kept left o
 
 -- the action of a match settles it, or the next match does
-settle_good : (kept left : ℕ) (w : ActionResult) (f : Acting → Option Matched) → Leaves (GoesOn kept left) w → ((a : Acting) → w ≡ Again a → GoodMatch kept left (f a)) → GoodMatch kept left (settle w f)
-settle_good kept left (Done a) f h later = (record { after = a; ended = None }, refl, h)
+settle_good : (kept left : ℕ) (w : ActionResult) (f : Acting → Option Acting) → Leaves (GoesOn kept left) w → ((a : Acting) → w ≡ Again a → GoodMatch kept left (f a)) → GoodMatch kept left (settle w f)
+settle_good kept left (Done a) f h later = (record a { ended = None }, refl, record { inside = h.inside; grows = h.grows })
 settle_good kept left (Again a) f h later = later a refl
-settle_good kept left (Over a e) f h later = (record { after = a; ended = Some e }, refl, h)
+settle_good kept left (Over a e) f h later = (record a { ended = Some e }, refl, record { inside = h.inside; grows = h.grows })
 
 module _ (R : Rules) (legal : (i : ℕ) → i < R.count → IsAction R.conditions (R.statements i)) where
   pub legal_of : (i : ℕ) → (i < R.count) ⊎ (R.count ≤ i) → IsAction R.conditions (statements_of R i)
@@ -149,7 +149,7 @@ module _ (R : Rules) (legal : (i : ℕ) → i < R.count → IsAction R.condition
   unfolding perform_results
   perform_good kept y [] out c cs h d among is = absurd among
   perform_good kept y (m ∷ ms) out c cs h d among is =
-      let a : Acting = record { text = kept ++ take m.keep y; written = out; condition = c; stack = cs; more = false } in
+      let a : Acting = record { text = kept ++ take m.keep y; written = out; condition = c; stack = cs; more = false; ended = None } in
       let k = h m (inl refl) in
       let size : length (kept ++ take m.keep y) ≡ length kept + m.keep = length-append kept (take m.keep y) ∙ ap (λ n. length kept + n) (length-take-le m.keep y k.1) in
       settle_good (length kept) (length y) (act_result (statements_of R m.rule) a) (λ b. perform_results R kept y ms b.written b.condition b.stack)
@@ -196,12 +196,12 @@ place_from x p a h g false is q e =
     longer s (inl lt) = omega arith
     longer s (inr k) = omega (arith, k.0)
 
-moves_from : (x : List ℕ) (p : Place) (o : Matched) → Inside x p → GoesOn (p.at - p.start) (length x - p.at) o.after → (e : Option Ending) → o.ended ≡ e →
-    Moves x p (record { written = o.after.written; place = next_place p o; ended = o.ended })
+moves_from : (x : List ℕ) (p : Place) (o : Acting) → Inside x p → GoesOn (p.at - p.start) (length x - p.at) o → (e : Option Ending) → o.ended ≡ e →
+    Moves x p (record { written = o.written; place = next_place p o; ended = o.ended })
 moves_from x p o h g (Some e) is = inl (e, is)
 moves_from x p o h g None is =
-    let end : ℕ = p.start + length o.after.text in
-    let r = place_from x p o.after h g o.after.more refl (next_place p o) (ap (λ z. record { start = next_start z o.after.more p.start end; at = end; condition = o.after.condition; stack = o.after.stack }) is) in inr (is, r.0, r.1)
+    let end : ℕ = p.start + length o.text in
+    let r = place_from x p o h g o.more refl (next_place p o) (ap (λ z. record { start = next_start z o.more p.start end; at = end; condition = o.condition; stack = o.stack }) is) in inr (is, r.0, r.1)
 
 module _ (R : Rules) (l : Laws R) (legal : (i : ℕ) → i < R.count → IsAction R.conditions (R.statements i))
     (exist : (c : ℕ) (line_start : Bool) (y : List ℕ) → (ms : List Candidate) × Candidates R c line_start y ms) (x : List ℕ) where
@@ -233,9 +233,9 @@ module _ (R : Rules) (l : Laws R) (legal : (i : ℕ) → i < R.count → IsActio
           let some : 1 ≤ length y = omega arith in
           let among : Among listed.0 one = (listed.1.members one).1 (some, inr (refl, length-take-le 1 y some, refl)) in
           let good = perform_good R legal kept y listed.0 [] p.condition p.stack (λ m a. keep_bounds p.condition line_start y m ((listed.1.members m).0 a)) one among refl in
-          let o : Matched = good.0 in
-          let u : State = record { written = o.after.written; place = next_place p o; ended = o.ended } in
-          let goes : GoesOn (p.at - p.start) (length x - p.at) o.after = subst (λ n. GoesOn (p.at - p.start) n o.after) left (subst (λ n. GoesOn n (length y) o.after) before good.2) in
+          let o : Acting = good.0 in
+          let u : State = record { written = o.written; place = next_place p o; ended = o.ended } in
+          let goes : GoesOn (p.at - p.start) (length x - p.at) o = subst (λ n. GoesOn (p.at - p.start) n o) left (subst (λ n. GoesOn n (length y) o) before good.2) in
           (u, inl (record { before_end = lt; matches = listed.0; all = listed.1; outcome = o; performed = results_are _ _ _ _ _ _ _ ∙ good.1; leaves = refl }), moves_from x p o h goes o.ended refl)
 
   -- from a state that has not ended the scan ends

@@ -2,8 +2,8 @@
 use Rattle.std.proofs.Common.{◌≡◌, ℕ, zero, suc, Bool, true, List, [], ◌∷◌, ◌++◌, length, Some, refl, sym, ◌∙◌, ap, subst, arith}
 use Rattle.std.specs.Prelude.{codes, slice_get}
 use Rattle.std.proofs.lemmas.List.{append-nil}
-use Rattle.lex_semantics.proofs.WordReadings.{to_joined, of_joined}
-use Rattle.lex_semantics.specs.Tree.{Tree, Joined, In}
+use Rattle.lex_semantics.proofs.WordReadings.{Joined, to_joined, of_joined}
+use Rattle.lex_semantics.specs.Tree.{Tree, In}
 use Rattle.lex_semantics.specs.Spec.{Rule, Statement, Echo, Whole, Head}
 use Rattle.lex_semantics.specs.Fits.{Fits}
 use Rattle.lex_semantics.specs.SameRules.{SameRules}

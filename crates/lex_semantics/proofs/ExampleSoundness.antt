@@ -9,6 +9,7 @@ use Rattle.lex_semantics.specs.Legal.{IsLegal}
 use Rattle.lex_semantics.specs.Sound.{HasFixed, IsSoundRule, IsSound}
 use Rattle.lex_semantics.specs.Examples as E
 use Rattle.lex_semantics.specs.Examples.{letter, string, rule_before, initial}
+use Rattle.lex_semantics.proofs.WordReadings.{match_of, in_of_match}
 use Rattle.lex_semantics.proofs.ExampleWords.{AllAlone, is_a, is_b, is_c, is_d, is_newline, letter_is, letter_in, string_is, string_in}
 
 no_rules : (i : ℕ) (r : Rule) → slice_get {X = Rule} [] i ≡ Some r → ⊥
@@ -33,7 +34,7 @@ only_rule P q h (suc i) r e = absurd (no_rules i r e)
 
 -- a tree of one word
 one_word : (t : Tree) (v : List ℕ) → In t v → ((w : List ℕ) → In t w → w ≡ v) → length v ≤ 65535 → HasFixed t (length v)
-one_word t v word only few = ((v, word), λ w h. ap length (only w h), few)
+one_word t v word only few = ((v, match_of t v word), λ w h. ap length (only w (in_of_match t w h)), few)
 
 fixed_string : (bs : List ℕ) → AllAlone bs → length bs ≤ 65535 → HasFixed (string bs) (length bs)
 fixed_string bs alone few = one_word (string bs) bs (string_in bs alone) (string_is bs alone) few
@@ -70,7 +71,7 @@ trail_does_not h = (h.rules 0 _ refl).cut.0 2 (fixed_string (97 ∷ 98 ∷ []) a
 pub shorter_cut : IsSound (E.cut_by (Head 1)) → ⊥
 shorter_cut h =
     let fixed : HasFixed (string (codes "ab")) 1 = (h.rules 0 _ refl).cut in
-    let bad : ◌≡◌ {A = ℕ} 2 1 = fixed.1 (97 ∷ 98 ∷ []) (string_in (97 ∷ 98 ∷ []) ab) in
+    let bad : ◌≡◌ {A = ℕ} 2 1 = fixed.1 (97 ∷ 98 ∷ []) (match_of (string (codes "ab")) (97 ∷ 98 ∷ []) (string_in (97 ∷ 98 ∷ []) ab)) in
     omega arith
 
 -- blanks are no side of fixed length
@@ -85,8 +86,8 @@ space = (omega arith, refl)
 not_fixed : (m : ℕ) → HasFixed (Repeat blank 1 None) m → ⊥
 unfolding blank
 not_fixed m h =
-    let low : 1 ≡ m = h.1 (32 ∷ []) (1, omega arith, tt, (32 ∷ [], [], refl, (32, refl, space), refl)) in
-    let high : 2 ≡ m = h.1 (32 ∷ 32 ∷ []) (2, omega arith, tt, (32 ∷ [], 32 ∷ [], refl, (32, refl, space), (32 ∷ [], [], refl, (32, refl, space), refl))) in
+    let low : 1 ≡ m = h.1 (32 ∷ []) (match_of (Repeat blank 1 None) (32 ∷ []) (1, omega arith, tt, (32 ∷ [], [], refl, (32, refl, space), refl))) in
+    let high : 2 ≡ m = h.1 (32 ∷ 32 ∷ []) (match_of (Repeat blank 1 None) (32 ∷ 32 ∷ []) (2, omega arith, tt, (32 ∷ [], 32 ∷ [], refl, (32, refl, space), (32 ∷ [], [], refl, (32, refl, space), refl)))) in
     omega arith
 
 pub trail_cuts : IsSound E.trim_lines

@@ -6,7 +6,7 @@ use Rattle.std.proofs.lemmas.List.{append-nil, append_assoc}
 use Rattle.lex_semantics.specs.Text.{Among, Ascending, BeginsWith}
 use Rattle.lex_semantics.specs.Spec.{Statement, Echo, Print, Begin, More, Less, Reject, End, Push, Pop}
 use Rattle.lex_semantics.specs.Rules.{Rules, statements_of}
-use Rattle.lex_semantics.specs.Acting.{Acting, StackFault, Matched}
+use Rattle.lex_semantics.specs.Acting.{Acting, StackFault}
 use Rattle.lex_semantics.specs.ActionResults.{ActionResult, Done, Again, Over, act_result, has_room, popped, settle, perform_results}
 use Rattle.lex_semantics.specs.Candidates.{Candidate, Before, InOrder, Candidates}
 use Rattle.lex_semantics.specs.Machine.{Machine, rules_of_machine}
@@ -159,17 +159,17 @@ act_adds (Pop ∷ ss) a = empty_adds a.stack a (λ c cs. act_result ss (record a
 some_same : {A : Type 0} (a b : A) → Some a ≡ Some b → a ≡ b
 some_same a b e = cc
 
-pub settle_adds : (w : ActionResult) (f : Acting → Option Matched) (v : List ℕ) (o : Matched) → BeginsWith (acting_after w).written v → ((a : Acting) → f a ≡ Some o → BeginsWith o.after.written a.written) → settle w f ≡ Some o → BeginsWith o.after.written v
-settle_adds (Done a) f v o h later e = subst (λ (z : Matched). BeginsWith z.after.written v) (some_same (record { after = a; ended = None }) o e) h
-settle_adds (Again a) f v o h later e = begins_trans v a.written o.after.written (later a e) h
-settle_adds (Over a d) f v o h later e = subst (λ (z : Matched). BeginsWith z.after.written v) (some_same (record { after = a; ended = Some d }) o e) h
+pub settle_adds : (w : ActionResult) (f : Acting → Option Acting) (v : List ℕ) (o : Acting) → BeginsWith (acting_after w).written v → ((a : Acting) → f a ≡ Some o → BeginsWith o.written a.written) → settle w f ≡ Some o → BeginsWith o.written v
+settle_adds (Done a) f v o h later e = subst (λ (z : Acting). BeginsWith z.written v) (some_same (record a { ended = None }) o e) h
+settle_adds (Again a) f v o h later e = begins_trans v a.written o.written (later a e) h
+settle_adds (Over a d) f v o h later e = subst (λ (z : Acting). BeginsWith z.written v) (some_same (record a { ended = Some d }) o e) h
 
-pub perform_adds : (R : Rules) (kept y : List ℕ) (ms : List Candidate) (w : List ℕ) (c : ℕ) (cs : List ℕ) (o : Matched) → perform_results R kept y ms w c cs ≡ Some o → BeginsWith o.after.written w
+pub perform_adds : (R : Rules) (kept y : List ℕ) (ms : List Candidate) (w : List ℕ) (c : ℕ) (cs : List ℕ) (o : Acting) → perform_results R kept y ms w c cs ≡ Some o → BeginsWith o.written w
 unfolding perform_results
 perform_adds R kept y [] w c cs o e = absurd (no e)
   where
     no : None ≡ Some o → ⊥
     no p = cc
 perform_adds R kept y (m ∷ ms) w c cs o e =
-    let a : Acting = record { text = kept ++ take m.keep y; written = w; condition = c; stack = cs; more = false } in
+    let a : Acting = record { text = kept ++ take m.keep y; written = w; condition = c; stack = cs; more = false; ended = None } in
     settle_adds (act_result (statements_of R m.rule) a) (λ b. perform_results R kept y ms b.written b.condition b.stack) w o (act_adds (statements_of R m.rule) a) (λ b p. perform_adds R kept y ms b.written b.condition b.stack o p) e

@@ -1,11 +1,11 @@
 -- The plain program's fronts of a text are the words of the tree.
-use Rattle.std.proofs.Common.{zero-add, ◌≡◌, ℕ, zero, suc, ◌+◌, ◌-◌, ◌≤◌, ◌<◌, Bool, true, false, List, [], ◌∷◌, ◌++◌, length, ◌⊎◌, inl, inr, Option, Some, None, refl, sym, ◌∙◌, ap, subst, arith}
+use Rattle.std.proofs.Common.{IfSome, zero-add, ◌≡◌, ℕ, zero, suc, ◌+◌, ◌-◌, ◌≤◌, ◌<◌, Bool, true, false, List, [], ◌∷◌, ◌++◌, length, ◌⊎◌, inl, inr, Option, Some, None, refl, sym, ◌∙◌, ap, subst, arith}
 use Rattle.std.specs.Prelude.{nat_lt, nat_le, ◌&&◌, flat_map, if◌then◌else◌}
 use Rattle.std.proofs.lemmas.List.{append_assoc, length-append}
 use Rattle.std.proofs.lemmas.Bool.{ltb-true, lt-ltb, leb-true, le-leb, cond-true, and_parts, and_from}
-use Rattle.lex_semantics.proofs.WordReadings.{to_joined, of_joined}
+use Rattle.lex_semantics.proofs.WordReadings.{Joined, to_joined, of_joined}
 use Rattle.lex_semantics.specs.Text.{Among}
-use Rattle.lex_semantics.specs.Tree.{Tree, Trees, Empty, Set, Cat, Alt, Star, Repeat, no_trees, tree, In, InEach, InSome, Joined, Passes, UpTo}
+use Rattle.lex_semantics.specs.Tree.{Tree, Trees, Empty, Set, Cat, Alt, Star, Repeat, no_trees, tree, In, InEach, InSome, Passes}
 use Rattle.lex_semantics.specs.Plain.{Fronts, byte_front, times, up_to, shorter, rounds, any_times, repeated, fronts, fronts_each, fronts_some}
 use Rattle.lex_semantics.specs.ByteSets.{ByteSet, has}
 
@@ -83,9 +83,6 @@ pub record AreFronts (f : Fronts) (P : List ℕ → Type 0) : Type 0 where
 -- one word after another
 leaves_more : (P Q : List ℕ → Type 0) (w x v : List ℕ) → (a : Leaves P w x) → (b : Leaves Q x v) → w ≡ (a.0 ++ b.0) ++ v
 leaves_more P Q w x v a b = a.1 ∙ ap (λ z. a.0 ++ z) b.1 ∙ sym (append_assoc a.0 b.0 v)
-
-leaves_none : (P : List ℕ → Type 0) (w v : List ℕ) → v ≡ w → Leaves (λ u. u ≡ []) w v
-leaves_none P w v e = ([], sym e, refl)
 
 none_leaves : (w v : List ℕ) → Leaves (λ u. u ≡ []) w v → v ≡ w
 none_leaves w v h = sym (h.1 ∙ ap (λ z. z ++ v) h.2)
@@ -174,7 +171,7 @@ joined_apart P (suc m) j w h =
 
 -- the words of a repetition
 abbrev pub Times : (List ℕ → Type 0) → ℕ → Option ℕ → List ℕ → Type 0
-Times P m n w = (k : ℕ) × (m ≤ k) × UpTo n k × Passes (λ i. P) 0 k w
+Times P m n w = (k : ℕ) × (m ≤ k) × IfSome n (λ n. k ≤ n) × Passes (λ i. P) 0 k w
 
 module _ (f : Fronts) (P : List ℕ → Type 0) (are : AreFronts f P) where
   any_times_are : AreFronts (any_times f) (λ w. (k : ℕ) × Passes (λ i. P) 0 k w)

@@ -1,11 +1,11 @@
 -- A match is determined by the bytes that it asks for.
-use Rattle.std.proofs.Common.{◌≡◌, ℕ, ◌+◌, ◌-◌, ◌≤◌, ◌<◌, Bool, false, List, [], ◌∷◌, ◌++◌, length, take, ◌⊎◌, inl, inr, Option, refl, sym, ◌∙◌, ap, subst, arith}
+use Rattle.std.proofs.Common.{◌≡◌, ℕ, ◌+◌, ◌-◌, ◌≤◌, ◌<◌, Bool, false, List, [], ◌∷◌, ◌++◌, length, take, ◌⊎◌, inl, inr, Option, None, refl, sym, ◌∙◌, ap, subst, arith}
 use Rattle.std.proofs.lemmas.List.{take-append-le, length-append, length-take-le}
 use Rattle.lex_semantics.specs.Text.{Among, IsText}
 use Rattle.lex_semantics.specs.Rules.{Rules, Full, statements_of}
 use Rattle.lex_semantics.specs.Laws.{Laws}
 use Rattle.lex_semantics.specs.Candidates.{Candidate, IsCandidate, Candidates}
-use Rattle.lex_semantics.specs.Acting.{Acting, Matched}
+use Rattle.lex_semantics.specs.Acting.{Acting}
 use Rattle.lex_semantics.specs.ActionResults.{ActionResult, Done, Again, Over, act_result, settle, perform_results}
 use Rattle.lex_semantics.proofs.Texts.{is_text_take, take_past}
 
@@ -62,7 +62,7 @@ keep_inside R l c line_start v m h = from h.1
     from (inl f) = omega (arith, l.inside c line_start (take m.len v) m.rule m.keep f.1, e, h.0)
     from (inr f) = omega (arith, f.1, f.2, e, h.0)
 
-pub settle_same : (w : ActionResult) (f g : Acting → Option Matched) → ((a : Acting) → f a ≡ g a) → settle w f ≡ settle w g
+pub settle_same : (w : ActionResult) (f g : Acting → Option Acting) → ((a : Acting) → f a ≡ g a) → settle w f ≡ settle w g
 settle_same (Done a) f g h = refl
 settle_same (Again a) f g h = h a
 settle_same (Over a e) f g h = refl
@@ -73,7 +73,7 @@ pub same_performed : (R : Rules) (kept v w : List ℕ) (ms : List Candidate) (ou
 unfolding perform_results
 same_performed R kept v w [] out c cs h = refl
 same_performed R kept v w (m ∷ ms) out c cs h =
-    let next : (y : List ℕ) → Acting → Option Matched = λ y a. perform_results R kept y ms a.written a.condition a.stack in
-    let begin : List ℕ → Acting = λ t. record { text = kept ++ t; written = out; condition = c; stack = cs; more = false } in
+    let next : (y : List ℕ) → Acting → Option Acting = λ y a. perform_results R kept y ms a.written a.condition a.stack in
+    let begin : List ℕ → Acting = λ t. record { text = kept ++ t; written = out; condition = c; stack = cs; more = false; ended = None } in
     ap (λ t. settle (act_result (statements_of R m.rule) (begin t)) (next v)) (h m (inl refl))
     ∙ settle_same (act_result (statements_of R m.rule) (begin (take m.keep w))) (next v) (next w) (λ a. same_performed R kept v w ms a.written a.condition a.stack (λ n k. h n (inr k)))

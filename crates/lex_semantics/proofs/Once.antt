@@ -3,7 +3,7 @@ use Rattle.std.proofs.Common.{zero-add, ◌≡◌, ℕ, zero, suc, ◌+◌, ◌-
 use Rattle.lex_semantics.specs.Text.{Among, part}
 use Rattle.lex_semantics.specs.Rules.{Rules}
 use Rattle.lex_semantics.specs.Candidates.{Candidate, Before, InOrder, Candidates}
-use Rattle.lex_semantics.specs.Acting.{Ending, Matched}
+use Rattle.lex_semantics.specs.Acting.{Ending, Acting}
 use Rattle.lex_semantics.specs.Acting.{perform}
 use Rattle.lex_semantics.specs.Run.{Place, State, Turn, MatchTurn, NextFrom, Turns, Run, next_place}
 
@@ -45,7 +45,7 @@ one_match R x p s t h k =
     let same : h.matches ≡ k.matches = one_candidates R _ _ _ _ _ h.all k.all in
     let both : Some h.outcome ≡ Some k.outcome = sym h.performed ∙ ap (λ ms. perform R (part x p.start p.at) (drop p.at x) ms [] p.condition p.stack) same ∙ k.performed in
     let outcome : h.outcome ≡ k.outcome = some_inj _ _ both in
-    h.leaves ∙ ap (λ (o : Matched). record { written = o.after.written; place = next_place p o; ended = o.ended }) outcome ∙ sym k.leaves
+    h.leaves ∙ ap (λ (o : Acting). record { written = o.written; place = next_place p o; ended = o.ended }) outcome ∙ sym k.leaves
 
 -- a turn has at most one outcome
 pub one_turn : (R : Rules) (x : List ℕ) (p : Place) (s t : State) → Turn R x p s → Turn R x p t → s ≡ t

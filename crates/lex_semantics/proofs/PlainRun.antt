@@ -9,7 +9,7 @@ use Rattle.lex_semantics.specs.Tree.{Tree, In}
 use Rattle.lex_semantics.specs.Spec.{Spec, Rule}
 use Rattle.lex_semantics.specs.Rules.{Rules, Full, rules_of}
 use Rattle.lex_semantics.specs.Candidates.{Candidate, Candidates, IsCandidate}
-use Rattle.lex_semantics.specs.Acting.{Ending, Status, Matched}
+use Rattle.lex_semantics.specs.Acting.{Ending, Status, Acting}
 use Rattle.lex_semantics.specs.Acting.{perform}
 use Rattle.lex_semantics.proofs.Once.{run_by}
 use Rattle.lex_semantics.specs.Run.{State, Turn, NextFrom, Turns, Run, first_state, next_place}
@@ -234,12 +234,12 @@ some_state s t e = cc
 abbrev pub IsNext : Rules → List ℕ → State → State → Type 0
 IsNext R x s t = (u : State) × Turn R x s.place u × (t ≡ record { written = s.written ++ u.written; place = u.place; ended = u.ended })
 
-after_is : (R : Rules) (x : List ℕ) (s t : State) (ms : List Candidate) (o : Option Matched) → s.place.at < length x →
+after_is : (R : Rules) (x : List ℕ) (s t : State) (ms : List Candidate) (o : Option Acting) → s.place.at < length x →
     Candidates R s.place.condition (at_line_start x s.place.at) (drop s.place.at x) ms →
     perform R (part x s.place.start s.place.at) (drop s.place.at x) ms [] s.place.condition s.place.stack ≡ o → after_match s o ≡ Some t → IsNext R x s t
 after_is R x s t ms None lt all done e = no_state e
 after_is R x s t ms (Some o) lt all done e =
-    let u : State = record { written = o.after.written; place = next_place s.place o; ended = o.ended } in
+    let u : State = record { written = o.written; place = next_place s.place o; ended = o.ended } in
     (u, inl (record { before_end = lt; matches = ms; all = all; outcome = o; performed = done; leaves = refl }), sym (some_state (record { written = s.written ++ u.written; place = u.place; ended = u.ended }) t e))
 
 perform_is : (R : Rules) (x : List ℕ) (s t : State) (r : Option (List Candidate)) → s.place.at < length x →

@@ -6,7 +6,7 @@ use Rattle.lex_semantics.specs.Text.{part, at_line_start, IsText}
 use Rattle.lex_semantics.specs.Rules.{Rules}
 use Rattle.lex_semantics.specs.Laws.{Laws}
 use Rattle.lex_semantics.specs.Candidates.{Candidate, Candidates}
-use Rattle.lex_semantics.specs.Acting.{Ending, Matched}
+use Rattle.lex_semantics.specs.Acting.{Ending, Acting}
 use Rattle.lex_semantics.specs.ActionResults.{perform_results}
 use Rattle.lex_semantics.specs.Run.{Place, State, Turn, MatchTurn, NextFrom, Turns, next_place}
 use Rattle.lex_semantics.specs.Demand.{AsksAt, Reach, AsksForEnd, FarFrom, Far, EndAsked}
@@ -33,8 +33,8 @@ same_outcome R l c line_start kept v rest ms d cs h =
 pub match_turn : (R : Rules) (l : Laws R) (x : List ℕ) (p : Place) (v rest : List ℕ) → IsText rest → p.at < length x → drop p.at x ≡ v ++ rest → 1 ≤ length v →
     Suffices R p.condition (at_line_start x p.at) v rest →
     (ms : List Candidate) → Candidates R p.condition (at_line_start x p.at) v ms →
-    (o : Matched) → perform_results R (part x p.start p.at) v ms [] p.condition p.stack ≡ Some o →
-    MatchTurn R x p (record { written = o.after.written; place = next_place p o; ended = o.ended })
+    (o : Acting) → perform_results R (part x p.start p.at) v ms [] p.condition p.stack ≡ Some o →
+    MatchTurn R x p (record { written = o.written; place = next_place p o; ended = o.ended })
 match_turn R l x p v rest is_text before splits some enough ms h o done = record {
   before_end = before;
   matches = ms;

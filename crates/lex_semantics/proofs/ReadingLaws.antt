@@ -23,10 +23,6 @@ one_step c t = from (is_blank c)
     from true = refl
     from false = refl
 
--- a blank at the front is passed over
-pub blank_first : (c : ℕ) (t : List ℕ) → is_blank c ≡ true → after_blanks (c ∷ t) ≡ after_blanks t
-blank_first c t h = one_step c t ∙ ap (after_one c t) h
-
 -- and any other byte is not
 pub no_blank_first : (c : ℕ) (t : List ℕ) → is_blank c ≡ false → after_blanks (c ∷ t) ≡ c ∷ t
 no_blank_first c t h = one_step c t ∙ ap (after_one c t) h

@@ -1,5 +1,5 @@
 -- Each input has just one run of a specification.
-use Rattle.std.proofs.Common.{◌≡◌, ℕ, ◌<◌, List, length, subst, sym}
+use Rattle.std.proofs.Common.{ℕ, ◌<◌, List, length, subst, sym}
 use Rattle.std.specs.Prelude.{slice_get}
 use Rattle.lex_semantics.specs.Spec.{Spec, statements_at}
 use Rattle.lex_semantics.specs.Rules.{rules_of}
@@ -11,7 +11,6 @@ use Rattle.lex_semantics.proofs.Actions.{action_of}
 use Rattle.lex_semantics.proofs.Cuts.{laws_of}
 use Rattle.lex_semantics.proofs.Exists.{candidates_exist}
 use Rattle.lex_semantics.proofs.Ends.{run_exists}
-use Rattle.lex_semantics.proofs.Once.{one_run}
 use Rattle.lex_semantics.proofs.Table.{get_at}
 
 pub spec_legal : (S : Spec) → IsSound S → (i : ℕ) → i < length S.rules → IsAction (length S.conditions) (statements_at (slice_get S.rules i))
@@ -19,6 +18,3 @@ spec_legal S sound i lt = let r = get_at S.rules i lt in subst (λ o. IsAction (
 
 pub spec_run_exists : (S : Spec) → IsSound S → (x : List ℕ) → (w : List ℕ) × (e : Ending) × Run (rules_of S) x w e
 spec_run_exists S sound x = run_exists (rules_of S) (laws_of S sound) (spec_legal S sound) (λ c line_start y. (let r = candidates_exist S sound c line_start y in (r.0, r.2))) x
-
-pub spec_run_is_one : (S : Spec) (x v w : List ℕ) (d e : Ending) → Run (rules_of S) x v d → Run (rules_of S) x w e → (v ≡ w) × (d ≡ e)
-spec_run_is_one S x v w d e h k = one_run (rules_of S) x v w d e h k

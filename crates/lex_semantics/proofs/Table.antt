@@ -7,7 +7,7 @@ use Rattle.lex_semantics.specs.Text.{IsText, Among, AllBelow, part, at_line_star
 use Rattle.lex_semantics.specs.Spec.{Spec, Rule, Statement, Echo, Print, Begin, More, Less, Reject, End, Push, Pop, has_reject, EndAction, statements_at, rejects, any_reject}
 use Rattle.lex_semantics.specs.Rules.{Rules, Full, rules_of, statements_of}
 use Rattle.lex_semantics.specs.Candidates.{Candidate, Before, IsCandidate, Candidates}
-use Rattle.lex_semantics.specs.Acting.{Ending, Status, StackFault, Acting, Matched}
+use Rattle.lex_semantics.specs.Acting.{Ending, Status, StackFault, Acting}
 use Rattle.lex_semantics.specs.ActionResults.{ActionResult, Done, Again, Over, act_result, has_room, popped, settle, perform_results}
 use Rattle.lex_semantics.specs.Run.{Place, State, Turn, MatchTurn, EndTurn, NextFrom, Turns, Run}
 use Rattle.lex_semantics.specs.Demand.{AsksAt, Reach, AsksForEnd, FarFrom, Far, EndAsked}
@@ -44,15 +44,15 @@ pub record Alike (all : Bool) (R Q : Rules) : Type 0 where
 
 -- actions
 
-full_quiet : (b : Bool) (a : Acting) (w : ActionResult) (f g : Acting → Option Matched) → settle w f ≡ settle w g → settle (if b then w else Over a StackFault) f ≡ settle (if b then w else Over a StackFault) g
+full_quiet : (b : Bool) (a : Acting) (w : ActionResult) (f g : Acting → Option Acting) → settle w f ≡ settle w g → settle (if b then w else Over a StackFault) f ≡ settle (if b then w else Over a StackFault) g
 full_quiet true a w f g h = h
 full_quiet false a w f g h = refl
 
-empty_quiet : (cs : List ℕ) (a : Acting) (next : ℕ → List ℕ → ActionResult) (f g : Acting → Option Matched) → ((c : ℕ) (rest : List ℕ) → settle (next c rest) f ≡ settle (next c rest) g) → settle (popped cs a next) f ≡ settle (popped cs a next) g
+empty_quiet : (cs : List ℕ) (a : Acting) (next : ℕ → List ℕ → ActionResult) (f g : Acting → Option Acting) → ((c : ℕ) (rest : List ℕ) → settle (next c rest) f ≡ settle (next c rest) g) → settle (popped cs a next) f ≡ settle (popped cs a next) g
 empty_quiet [] a next f g h = refl
 empty_quiet (c ∷ cs) a next f g h = h c cs
 
-settle_quiet : (ss : List Statement) (a : Acting) (f g : Acting → Option Matched) → has_reject ss ≡ false → settle (act_result ss a) f ≡ settle (act_result ss a) g
+settle_quiet : (ss : List Statement) (a : Acting) (f g : Acting → Option Acting) → has_reject ss ≡ false → settle (act_result ss a) f ≡ settle (act_result ss a) g
 settle_quiet [] a f g h = refl
 settle_quiet (Echo ∷ ss) a f g h = settle_quiet ss (record a { written = a.written ++ a.text }) f g h
 settle_quiet (Print s ∷ ss) a f g h = settle_quiet ss (record a { written = a.written ++ s }) f g h
@@ -102,26 +102,26 @@ act_below n (Push d ∷ ss) a h k =
 act_below n (Pop ∷ ss) a h k =
     empty_below n a.stack a (λ c cs. act_result ss (record a { condition = c; stack = cs })) h h.1 (λ c cs below. act_below n ss (record a { condition = c; stack = cs }) below k)
 
-settle_below : (n : ℕ) (w : ActionResult) (f : Acting → Option Matched) (o : Matched) → ResultBelow n w → ((a : Acting) → Below n a.condition a.stack → f a ≡ Some o → Below n o.after.condition o.after.stack) →
-    settle w f ≡ Some o → Below n o.after.condition o.after.stack
-settle_below n (Done a) f o h later e = let same : record { after = a; ended = None } ≡ o = cc in subst (λ (z : Matched). Below n z.after.condition z.after.stack) same h
+settle_below : (n : ℕ) (w : ActionResult) (f : Acting → Option Acting) (o : Acting) → ResultBelow n w → ((a : Acting) → Below n a.condition a.stack → f a ≡ Some o → Below n o.condition o.stack) →
+    settle w f ≡ Some o → Below n o.condition o.stack
+settle_below n (Done a) f o h later e = let same : record a { ended = None } ≡ o = cc in subst (λ (z : Acting). Below n z.condition z.stack) same h
 settle_below n (Again a) f o h later e = later a h e
-settle_below n (Over a d) f o h later e = let same : record { after = a; ended = Some d } ≡ o = cc in subst (λ (z : Matched). Below n z.after.condition z.after.stack) same h
+settle_below n (Over a d) f o h later e = let same : record a { ended = Some d } ≡ o = cc in subst (λ (z : Acting). Below n z.condition z.stack) same h
 
 -- the statements of a rule, and the default rule's
 statements_below : (R : Rules) (i : ℕ) → ((j : ℕ) → j < R.count → BeginsBelow R.conditions (R.statements j)) → (i < R.count) ⊎ (R.count ≤ i) → BeginsBelow R.conditions (statements_of R i)
 statements_below R i h (inl lt) = subst (BeginsBelow R.conditions) (sym (cond-true (nat_lt i R.count) (R.statements i) (Echo ∷ []) (lt-ltb i R.count lt))) (h i lt)
 statements_below R i h (inr le) = subst (BeginsBelow R.conditions) (sym (cond-false (nat_lt i R.count) (R.statements i) (Echo ∷ []) (le-ltb i R.count le))) tt
 
-pub perform_below : (R : Rules) → ((j : ℕ) → j < R.count → BeginsBelow R.conditions (R.statements j)) → (kept y : List ℕ) (ms : List Candidate) (out : List ℕ) (c : ℕ) (cs : List ℕ) (o : Matched) →
-    Below R.conditions c cs → perform_results R kept y ms out c cs ≡ Some o → Below R.conditions o.after.condition o.after.stack
+pub perform_below : (R : Rules) → ((j : ℕ) → j < R.count → BeginsBelow R.conditions (R.statements j)) → (kept y : List ℕ) (ms : List Candidate) (out : List ℕ) (c : ℕ) (cs : List ℕ) (o : Acting) →
+    Below R.conditions c cs → perform_results R kept y ms out c cs ≡ Some o → Below R.conditions o.condition o.stack
 unfolding perform_results
 perform_below R h kept y [] out c cs o lt e = absurd (no e)
   where
     no : None ≡ Some o → ⊥
     no p = cc
 perform_below R h kept y (m ∷ ms) out c cs o lt e =
-    let a : Acting = record { text = kept ++ take m.keep y; written = out; condition = c; stack = cs; more = false } in
+    let a : Acting = record { text = kept ++ take m.keep y; written = out; condition = c; stack = cs; more = false; ended = None } in
     settle_below R.conditions (act_result (statements_of R m.rule) a) (λ b. perform_results R kept y ms b.written b.condition b.stack) o
     (act_below R.conditions (statements_of R m.rule) a lt (statements_below R m.rule h (cases_lt m.rule R.count)))
     (λ b below p. perform_below R h kept y ms b.written b.condition b.stack o below p) e
@@ -150,7 +150,7 @@ same_perform : (all : Bool) (R Q : Rules) (alike : Alike all R Q) (kept y : List
 unfolding perform_results
 same_perform all R Q alike kept y [] out d cs = refl
 same_perform all R Q alike kept y (m ∷ ms) out d cs =
-    let a : Acting = record { text = kept ++ take m.keep y; written = out; condition = d; stack = cs; more = false } in
+    let a : Acting = record { text = kept ++ take m.keep y; written = out; condition = d; stack = cs; more = false; ended = None } in
     ap (λ ss. settle (act_result ss a) (λ b. perform_results R kept y ms b.written b.condition b.stack)) (same_statements all R Q alike m.rule)
     ∙ settle_same (act_result (statements_of Q m.rule) a) (λ b. perform_results R kept y ms b.written b.condition b.stack) (λ b. perform_results Q kept y ms b.written b.condition b.stack)
     (λ b. same_perform all R Q alike kept y ms b.written b.condition b.stack)
@@ -164,7 +164,7 @@ head_performed : (R Q : Rules) (alike : Alike false R Q) (kept y : List ℕ) (m 
     perform_results R kept y (m ∷ ms) out d cs ≡ perform_results Q kept y (m ∷ ns) out d cs
 unfolding perform_results
 head_performed R Q alike kept y m ms ns out d cs =
-    let a : Acting = record { text = kept ++ take m.keep y; written = out; condition = d; stack = cs; more = false } in
+    let a : Acting = record { text = kept ++ take m.keep y; written = out; condition = d; stack = cs; more = false; ended = None } in
     ap (λ ss. settle (act_result ss a) (λ b. perform_results R kept y ms b.written b.condition b.stack)) (same_statements false R Q alike m.rule)
     ∙ settle_quiet (statements_of Q m.rule) a (λ b. perform_results R kept y ms b.written b.condition b.stack) (λ b. perform_results Q kept y ns b.written b.condition b.stack)
     (quiet_statements Q alike.matches.1 m.rule (cases_lt m.rule Q.count))
@@ -197,14 +197,14 @@ first_from R Q alike c line_start y n ns lt text h = (own.0, from own.1)
             let q : Candidate = record { len = n.len; rule = j; keep = l } in
             not_after q refl less ((h.members q).1 ((own.0, inl (omega (arith, less, f.0), g))))
 
-nothing_performed : (R : Rules) (kept y : List ℕ) (d : ℕ) (cs : List ℕ) (o : Matched) → perform_results R kept y [] [] d cs ≡ Some o → ⊥
+nothing_performed : (R : Rules) (kept y : List ℕ) (d : ℕ) (cs : List ℕ) (o : Acting) → perform_results R kept y [] [] d cs ≡ Some o → ⊥
 unfolding perform_results
 nothing_performed R kept y d cs o e = no e
   where
     no : None ≡ Some o → ⊥
     no p = cc
 
-performed_to : (all : Bool) (R Q : Rules) (alike : Alike all R Q) (c : ℕ) (line_start : Bool) (kept y : List ℕ) (ms ns : List Candidate) (d : ℕ) (cs : List ℕ) (o : Matched) → c < Q.conditions → IsText y →
+performed_to : (all : Bool) (R Q : Rules) (alike : Alike all R Q) (c : ℕ) (line_start : Bool) (kept y : List ℕ) (ms ns : List Candidate) (d : ℕ) (cs : List ℕ) (o : Acting) → c < Q.conditions → IsText y →
     Candidates R c line_start y ms → Candidates Q c line_start y ns → perform_results R kept y ms [] d cs ≡ Some o → perform_results Q kept y ns [] d cs ≡ Some o
 performed_to true R Q alike c line_start kept y ms ns d cs o lt text p q e =
     let same : ms ≡ ns = same_order ms ns p.in_order q.in_order (λ m. (

@@ -1,7 +1,7 @@
 -- A word is in the language of a tree exactly if it has a reading.
 use Rattle.std.proofs.Common.{◌≡◌, ℕ, zero, suc, ◌+◌, ◌-◌, ◌*◌, min, List, [], ◌∷◌, ◌++◌, inl, inr, ◌↔◌, refl, sym, ap, ◌∙◌, subst}
-use Rattle.lex_semantics.specs.Tree.{Tree, Trees, Empty, Set, Cat, Alt, Star, Repeat, no_trees, tree, Joined, In, InEach, InSome, Passes}
-use Rattle.lex_semantics.specs.Positions.{copies, positions, Cell, Readings, bytes_of, Reads, ReadsEach, ReadsSome, ReadsWord}
+use Rattle.lex_semantics.specs.Tree.{Tree, Trees, Empty, Set, Cat, Alt, Star, Repeat, no_trees, tree, In, InEach, InSome, Passes}
+use Rattle.lex_semantics.specs.Positions.{copies, positions, Cell, Readings, bytes_of, Reads, ReadsEach, ReadsSome, ReadsWord, Matches}
 
 pub bytes_join : (us vs : List Cell) → bytes_of (us ++ vs) ≡ bytes_of us ++ bytes_of vs
 bytes_join [] vs = refl
@@ -23,7 +23,11 @@ to_passes P R f (suc k) j w (u, v, e, here, rest) =
     let (vs, is_v, reads) = to_passes P R f k (suc j) v rest in
     (us ++ vs, bytes_join us vs ∙ ap (λ z. z ++ bytes_of vs) is_u ∙ ap (λ z. u ++ z) is_v ∙ sym e, (us, vs, refl, read, reads))
 
--- a joining of words of one language
+-- the joining of k words of one language
+abbrev pub Joined : (List ℕ → Type 0) → ℕ → List ℕ → Type 0
+Joined P zero w = w ≡ []
+Joined P (suc k) w = (u v : List ℕ) × (w ≡ u ++ v) × P u × Joined P k v
+
 pub to_joined : (P : List ℕ → Type 0) (j k : ℕ) (w : List ℕ) → Passes (λ i. P) j k w → Joined P k w
 to_joined P j zero w e = e
 to_joined P j (suc k) w (u, v, e, here, rest) = (u, v, e, here, to_joined P (suc j) k v rest)
@@ -80,3 +84,10 @@ mutual
 -- A word is in the language exactly if it has a reading, wherever the positions begin.
 pub word_readings : (t : Tree) (base : ℕ) (w : List ℕ) → In t w ↔ ReadsWord (Reads t base) w
 word_readings t base w = (λ h. reading_of t base w h, λ (rs, e, read). subst (In t) e (word_of t base rs read))
+
+-- the words that a tree matches
+pub match_of : (t : Tree) (w : List ℕ) → In t w → Matches t w
+match_of t w h = (word_readings t 0 w).0 h
+
+pub in_of_match : (t : Tree) (w : List ℕ) → Matches t w → In t w
+in_of_match t w h = (word_readings t 0 w).1 h

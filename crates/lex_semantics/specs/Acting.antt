@@ -11,45 +11,37 @@ pub data Ending : Type 0 where
   StackFault : Ending
 
 -- the current text, what the turn has written, the condition of the next match, the stack of conditions from its
--- top down, and whether the next text is appended to this one
+-- top down, whether the next text is appended to this one, and how the scan has ended, if it has
 pub record Acting : Type 0 where
   pub text : List ℕ
   pub written : List ℕ
   pub condition : ℕ
   pub stack : List ℕ
   pub more : Bool
-
--- the outcome of a match: how its actions leave the scan, and how the scan ends, if it does
-pub record Matched : Type 0 where
-  pub after : Acting
   pub ended : Option Ending
-
--- the outcome of a match that ends the scan
-abbrev pub over : Acting → Ending → Option Matched
-over a e = Some (record { after = a; ended = Some e })
 
 -- The outcome of these statements, from the first on; `reject` says what follows a REJECT. The stack has room for 255
 -- conditions. (flex, Start Conditions, has no bound; this one is own.)
-abbrev pub act : (reject : Acting → Option Matched) → List Statement → Acting → Option Matched
-act reject [] a = Some (record { after = a; ended = None })
+abbrev pub act : (reject : Acting → Option Acting) → List Statement → Acting → Option Acting
+act reject [] a = Some a
 act reject (Echo ∷ ss) a = act reject ss (record a { written = a.written ++ a.text })
 act reject (Print s ∷ ss) a = act reject ss (record a { written = a.written ++ s })
 act reject (Begin d ∷ ss) a = act reject ss (record a { condition = d })
 act reject (More ∷ ss) a = act reject ss (record a { more = true })
 act reject (Less n ∷ ss) a = act reject ss (record a { text = take n a.text })
 act reject (Reject ∷ ss) a = reject a
-act reject (End s ∷ ss) a = over a (Status s)
+act reject (End s ∷ ss) a = Some (record a { ended = Some (Status s) })
 act reject (Push d ∷ ss) a =
-    if nat_lt (length a.stack) max_stack
-    then act reject ss (record a { condition = d; stack = a.condition ∷ a.stack }) else over a StackFault
+    if nat_lt (length a.stack) max_stack then act reject ss (record a { condition = d; stack = a.condition ∷ a.stack })
+    else Some (record a { ended = Some StackFault })
 act reject (Pop ∷ ss) a =
-    if nat_lt 0 (length a.stack)
-    then act reject ss (record a { condition = slice_index a.stack 0; stack = drop 1 a.stack }) else over a StackFault
+    if nat_lt 0 (length a.stack) then act reject ss (record a { condition = slice_index a.stack 0; stack = drop 1 a.stack })
+    else Some (record a { ended = Some StackFault })
 
 -- The matches are taken in order, up to the first that is not rejected. The text is what yymore kept, and then
 -- the match's part of y. What was written stays written, and the condition and the stack stay.
-unfoldable pub perform : Rules → (kept y : List ℕ) → List Candidate → (written : List ℕ) → ℕ → List ℕ → Option Matched
+unfoldable pub perform : Rules → (kept y : List ℕ) → List Candidate → (written : List ℕ) → ℕ → List ℕ → Option Acting
 perform R kept y [] written condition stack = None
 perform R kept y (m ∷ ms) written condition stack =
     act (λ a. perform R kept y ms a.written a.condition a.stack) (statements_of R m.rule)
-    (record { text = kept ++ take m.keep y; written = written; condition = condition; stack = stack; more = false })
+    (record { text = kept ++ take m.keep y; written = written; condition = condition; stack = stack; more = false; ended = None })

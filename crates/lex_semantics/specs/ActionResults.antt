@@ -5,7 +5,7 @@ use Rattle.lex_semantics.specs.Limits.{max_stack}
 use Rattle.lex_semantics.specs.Spec.{Statement, Echo, Print, Begin, More, Less, Reject, End, Push, Pop}
 use Rattle.lex_semantics.specs.Rules.{Rules, statements_of}
 use Rattle.lex_semantics.specs.Candidates.{Candidate}
-use Rattle.lex_semantics.specs.Acting.{Ending, Status, StackFault, Acting, Matched}
+use Rattle.lex_semantics.specs.Acting.{Ending, Status, StackFault, Acting}
 
 -- how an action leaves the scan: it is done, it goes on to the next best match, or it ends the scan
 pub data ActionResult : Type 0 where
@@ -37,16 +37,16 @@ act_result (Push d ∷ ss) a =
 act_result (Pop ∷ ss) a = popped a.stack a (λ c cs. act_result ss (record a { condition = c; stack = cs }))
 
 -- the outcome of an action, where `next` is what follows a REJECT
-abbrev pub settle : ActionResult → (Acting → Option Matched) → Option Matched
-settle (Done a) next = Some (record { after = a; ended = None })
+abbrev pub settle : ActionResult → (Acting → Option Acting) → Option Acting
+settle (Done a) next = Some (record a { ended = None })
 settle (Again a) next = next a
-settle (Over a e) next = Some (record { after = a; ended = Some e })
+settle (Over a e) next = Some (record a { ended = Some e })
 
 -- The matches are taken in order, up to the first that is not rejected. The text is what yymore kept, and then
 -- the match's part of y. What was written stays written, and the condition and the stack stay.
-unfoldable pub perform_results : Rules → (kept y : List ℕ) → List Candidate → (written : List ℕ) → ℕ → List ℕ → Option Matched
+unfoldable pub perform_results : Rules → (kept y : List ℕ) → List Candidate → (written : List ℕ) → ℕ → List ℕ → Option Acting
 perform_results R kept y [] written condition stack = None
 perform_results R kept y (m ∷ ms) written condition stack =
     settle (act_result (statements_of R m.rule)
-    (record { text = kept ++ take m.keep y; written = written; condition = condition; stack = stack; more = false }))
+    (record { text = kept ++ take m.keep y; written = written; condition = condition; stack = stack; more = false; ended = None }))
     (λ a. perform_results R kept y ms a.written a.condition a.stack)

@@ -23,9 +23,6 @@ IsIn set byte = (byte < 256) × (has set byte ≡ true)
 unfoldable pub set_of : (ℕ → Bool) → ByteSet
 set_of test = sum_by (λ b. if test b then 2 ^ b else 0) (range_with_len 0 256)
 
-unfoldable pub empty_set : ByteSet
-empty_set = set_of (λ b. false)
-
 unfoldable pub single : ℕ → ByteSet
 single byte = set_of (λ b. b == byte)
 
@@ -33,22 +30,12 @@ single byte = set_of (λ b. b == byte)
 abbrev pub within : ℕ → ℕ → ℕ → Bool
 within lo hi b = nat_le lo b && nat_le b hi
 
-unfoldable pub range_set : ℕ → ℕ → ByteSet
-range_set lo hi = set_of (within lo hi)
-
-unfoldable pub union : ByteSet → ByteSet → ByteSet
-union s t = set_of (λ b. has s b || has t b)
-
 unfoldable pub complement : ByteSet → ByteSet
 complement s = set_of (λ b. not (has s b))
 
 -- the letter in the other case, and any other byte itself
 unfoldable pub other_case : ℕ → ℕ
 other_case b = if within 65 90 b then b + 32 else if within 97 122 b then b - 32 else b
-
--- closed under changing the case of ASCII letters (flex, Scanner Options: case-insensitive)
-unfoldable pub fold_case : ByteSet → ByteSet
-fold_case s = set_of (λ b. has s b || has s (other_case b))
 
 -- The character classes of the POSIX locale. (POSIX, Base Definitions, LC_CTYPE.)
 
@@ -95,8 +82,21 @@ named_set name = option_map set_of (lookup (is_word name) classes)
 abbrev pub bit_of : Bool → ℕ
 bit_of b = if b then 1 else 0
 
--- Names that the code and proofs have: for the tests of the other classes, for a set that has a byte, and for the set of
--- the numbers below n that pass the test.
+-- Names that the code and proofs have: for sets and for the tests of the other classes, for a set that has a byte, and for
+-- the set of the numbers below n that pass the test.
+
+unfoldable pub empty_set : ByteSet
+empty_set = set_of (λ b. false)
+
+unfoldable pub range_set : ℕ → ℕ → ByteSet
+range_set lo hi = set_of (within lo hi)
+
+unfoldable pub union : ByteSet → ByteSet → ByteSet
+union s t = set_of (λ b. has s b || has t b)
+
+-- closed under changing the case of ASCII letters (flex, Scanner Options: case-insensitive)
+unfoldable pub fold_case : ByteSet → ByteSet
+fold_case s = set_of (λ b. has s b || has s (other_case b))
 
 unfoldable pub set_below : ℕ → (ℕ → Bool) → ByteSet
 set_below zero test = 0

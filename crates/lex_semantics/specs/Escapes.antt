@@ -1,14 +1,13 @@
 -- The escapes that patterns and the strings of actions have in common.
 -- (POSIX, lex, Regular Expressions in lex: Escape Sequences in lex; C's strings have them too.)
-use Rattle.std.specs.Prelude.{ℕ, zero, suc, Bool, ◌==◌, nat_lt, if◌then◌else◌, List, [], ◌∷◌, Some, None}
+use Rattle.std.specs.Prelude.{ℕ, zero, suc, Bool, ◌==◌, nat_eq, nat_lt, if◌then◌else◌, List, [], ◌∷◌, zip, Some, None, unwrap_or, codes}
+use Rattle.std.specs.Map.{lookup}
 use Rattle.lex_semantics.specs.ByteSets.{within, is_xdigit}
 use Rattle.lex_semantics.specs.Reading.{◌>>=◌, Reader, is_empty, take_up_to, value}
 
 -- `\a \b \f \n \r \t \v` are C's; another byte is itself
 unfoldable pub simple_escape : ℕ → ℕ
-simple_escape c =
-    if c == 97 then 7 else if c == 98 then 8 else if c == 102 then 12 else if c == 110 then 10
-    else if c == 114 then 13 else if c == 116 then 9 else if c == 118 then 11 else c
+simple_escape c = unwrap_or (lookup (nat_eq c) (zip (codes "abfnrtv") (7 ∷ 8 ∷ 12 ∷ 10 ∷ 13 ∷ 9 ∷ 11 ∷ []))) c
 
 abbrev pub is_octal : ℕ → Bool
 is_octal c = within 48 55 c

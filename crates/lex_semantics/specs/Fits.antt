@@ -1,6 +1,7 @@
 -- The words that a rule matches, with its trailing context. (flex, Patterns: `r/s`; flex, How the Input Is Matched.)
 use Rattle.std.specs.Prelude.{◌≡◌, ℕ, ◌≤◌, Bool, true, List, [], ◌++◌, length, Option, Some, MatchOption, slice_get, take, drop}
 use Rattle.lex_semantics.specs.Tree.{Tree, In}
+use Rattle.lex_semantics.specs.Positions.{Matches}
 use Rattle.lex_semantics.specs.Spec.{Spec, Rule}
 use Rattle.lex_semantics.specs.Active.{active}
 
@@ -12,8 +13,8 @@ pub record Fits (S : Spec) (c : ℕ) (line_start : Bool) (w : List ℕ) (i k : �
   pub is_active : active S c line_start rule ≡ true
   pub not_empty : 1 ≤ k
   pub inside : k ≤ length w
-  pub in_head : In rule.head (take k w)
-  pub in_trail : MatchOption rule.trail (k ≡ length w) (λ t. In t (drop k w))
+  pub in_head : Matches rule.head (take k w)
+  pub in_trail : MatchOption rule.trail (k ≡ length w) (λ t. Matches t (drop k w))
 
 -- Names that proofs have: for what a rule's trailing context asks of the trail, and for a word that is a text and a
 -- trail.

@@ -1,9 +1,10 @@
 -- What the actions of a specification or a machine keep to.
 -- (POSIX, lex, Actions in lex; what may not stand in one action is this project's.)
-use Rattle.std.specs.Prelude.{◌≡◌, ℕ, Bool, true, false, not, ◌&&◌, ◌||◌, List, [], ◌∷◌, length, nat_le, nat_lt}
+use Rattle.std.specs.Prelude.{◌≡◌, ℕ, Bool, true, false, not, ◌&&◌, ◌||◌, List, [], ◌∷◌, length, take, ◌-◌, nat_le, nat_lt}
 use Rattle.std.specs.List.{filter, list_all, list_any}
 use Rattle.lex_semantics.specs.Limits.{max_kept, max_status}
 use Rattle.lex_semantics.specs.Spec.{Statement, Print, Begin, More, Less, Reject, End, Push, is_reject}
+use Rattle.lex_semantics.specs.Literals.{normal}
 
 -- what a statement names: a condition, one of n; a count of bytes, from 1 to 65,535; a status, up to 63. A literal has
 -- a byte.
@@ -21,15 +22,9 @@ ends_action Reject = true
 ends_action (End s) = true
 ends_action _ = false
 
--- the test passes for each statement and the next
-abbrev pub all_neighbours : (Statement → Statement → Bool) → List Statement → Bool
-all_neighbours test [] = true
-all_neighbours test (s ∷ []) = true
-all_neighbours test (s ∷ t ∷ ss) = test s t && all_neighbours test (t ∷ ss)
-
-abbrev pub is_literal : Statement → Bool
-is_literal (Print s) = true
-is_literal _ = false
+-- only the last statement may end the action
+abbrev pub ends_last : List Statement → Bool
+ends_last ss = list_all (λ s. not (ends_action s)) (take (length ss - 1) ss)
 
 abbrev pub is_yyless : Statement → Bool
 is_yyless (Less n) = true
@@ -48,23 +43,27 @@ are_compatible ss =
 -- An action, where there are n conditions. REJECT, yyterminate and exit stand last.
 pub record IsAction (n : ℕ) (ss : List Statement) : Type 0 where
   pub ranges : list_all (in_range n) ss ≡ true
-  pub last : all_neighbours (λ s t. not (ends_action s)) ss ≡ true
+  pub last : ends_last ss ≡ true
   pub compatible : are_compatible ss ≡ true
 
--- an action in normal form: no two literals are neighbours
+-- an action in normal form
 abbrev pub IsLegal : ℕ → List Statement → Type 0
-IsLegal n ss = IsAction n ss × (all_neighbours (λ s t. not (is_literal s && is_literal t)) ss ≡ true)
+IsLegal n ss = IsAction n ss × (normal ss ≡ ss)
 
 -- Names that the code has for these tests.
 
 abbrev pub all_in_range : ℕ → List Statement → Bool
 all_in_range n ss = list_all (in_range n) ss
 
-abbrev pub ends_last : List Statement → Bool
-ends_last ss = all_neighbours (λ s t. not (ends_action s)) ss
+abbrev pub is_literal : Statement → Bool
+is_literal (Print s) = true
+is_literal _ = false
 
+-- no two literals are neighbours
 abbrev pub are_joined : List Statement → Bool
-are_joined ss = all_neighbours (λ s t. not (is_literal s && is_literal t)) ss
+are_joined [] = true
+are_joined (s ∷ []) = true
+are_joined (s ∷ t ∷ ss) = not (is_literal s && is_literal t) && are_joined (t ∷ ss)
 
 abbrev pub has_more : List Statement → Bool
 has_more ss = list_any is_yymore ss

@@ -5,7 +5,7 @@ use Rattle.lex_semantics.specs.Tree.{Tree, Trees, Empty, Set, Cat, Alt, Star, Re
 use Rattle.lex_semantics.specs.Spec.{Spec, Rule}
 use Rattle.lex_semantics.specs.Rules.{Rules, rules_of}
 use Rattle.lex_semantics.specs.Candidates.{Candidate}
-use Rattle.lex_semantics.specs.Acting.{Ending, Status, Matched, perform}
+use Rattle.lex_semantics.specs.Acting.{Ending, Status, Acting, perform}
 use Rattle.lex_semantics.specs.Run.{State, first_state, next_place}
 use Rattle.lex_semantics.specs.ByteSets.{ByteSet, has}
 use Rattle.lex_semantics.specs.Active.{active}
@@ -109,9 +109,9 @@ ordered (m ∷ ms) = insert_to m (ordered ms)
 abbrev pub candidates_of : Spec → ℕ → Bool → List ℕ → Option (List Candidate)
 candidates_of S c line_start y = ordered (matches_of_rules S c line_start S.rules 0 y ++ default_match (length S.rules) y)
 
-abbrev pub after_match : State → Option Matched → Option State
+abbrev pub after_match : State → Option Acting → Option State
 after_match s None = None
-after_match s (Some o) = Some (record { written = s.written ++ o.after.written; place = next_place s.place o; ended = o.ended })
+after_match s (Some o) = Some (record { written = s.written ++ o.written; place = next_place s.place o; ended = o.ended })
 
 -- how the matches at a place are listed: condition, start of a line, and the input from there
 abbrev pub Listing : Type 0

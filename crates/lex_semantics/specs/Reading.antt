@@ -1,8 +1,8 @@
 -- Reading from the front of a text: the value, and what follows it. None means that nothing there is spelled so.
 -- (POSIX, lex, Definitions in lex: names and blanks; numbers as in C.)
-use Rattle.std.specs.Prelude.{◌≡◌, ℕ, zero, suc, ◌+◌, ◌*◌, ◌%◌, Bool, true, false, ◌||◌, ◌==◌, if◌then◌else◌, List, [], ◌∷◌, length, fold, Option, Some, option_and_then, nat_eq}
+use Rattle.std.specs.Prelude.{◌≡◌, ℕ, suc, ◌+◌, ◌*◌, ◌%◌, Bool, ◌||◌, ◌==◌, if◌then◌else◌, List, [], ◌∷◌, length, fold, Option, Some, option_and_then, nat_eq}
 use Rattle.std.specs.List.{starts_with}
-use Rattle.lex_semantics.specs.ByteSets.{is_alpha, is_alnum, is_blank, is_digit}
+use Rattle.lex_semantics.specs.ByteSets.{is_word, is_alpha, is_alnum, is_blank, is_digit}
 
 -- one step after another, where each may refuse
 infixl 10 ◌>>=◌
@@ -18,18 +18,16 @@ IsCut item_at Done text [] = Done text
 IsCut item_at Done text (x ∷ xs) = (rest : List ℕ) × (item_at text ≡ Some (x, rest)) × IsCut item_at Done rest xs
 
 abbrev pub is_empty : List ℕ → Bool
-is_empty [] = true
-is_empty (c ∷ t) = false
+is_empty t = is_word t []
 
 abbrev pub begins : List ℕ → List ℕ → Bool
 begins word t = starts_with nat_eq t word
 
 -- at most n bytes at the front that pass the test, and what follows them
 unfoldable pub take_up_to : ℕ → (ℕ → Bool) → List ℕ → List ℕ × List ℕ
-take_up_to zero test t = ([], t)
-take_up_to (suc n) test [] = ([], [])
 take_up_to (suc n) test (c ∷ t) =
     if test c then (let (cs, rest) = take_up_to n test t in (c ∷ cs, rest)) else ([], c ∷ t)
+take_up_to n test t = ([], t)
 
 -- all the bytes at the front that pass the test, and what follows them
 abbrev pub take_run : (ℕ → Bool) → List ℕ → List ℕ × List ℕ

@@ -3,7 +3,7 @@ use Rattle.std.specs.Prelude.{◌≡◌, ℕ, ◌+◌, ◌≤◌, ◌<◌, Bool,
 use Rattle.lex_semantics.specs.Text.{part, at_line_start}
 use Rattle.lex_semantics.specs.Rules.{Rules}
 use Rattle.lex_semantics.specs.Candidates.{Candidate, Candidates}
-use Rattle.lex_semantics.specs.Acting.{Matched}
+use Rattle.lex_semantics.specs.Acting.{Acting}
 use Rattle.lex_semantics.specs.ActionResults.{perform_results}
 use Rattle.lex_semantics.specs.Run.{Place, State, Turns, next_place}
 use Rattle.lex_semantics.specs.Demand.{AsksAt, Far, EndAsked, Consistent}
@@ -30,12 +30,12 @@ pub record Seen (R : Rules) (given : List ℕ) (p : Place) (r : ℕ) : Type 0 wh
   pub asked : (i : ℕ) → i < r → AsksAt R given p i
   pub matches : List Candidate
   pub all : Candidates R p.condition (at_line_start given p.at) (take r (drop p.at given)) matches
-  pub outcome : Matched
+  pub outcome : Acting
   pub performed :
       perform_results R (part given p.start p.at) (take r (drop p.at given)) matches [] p.condition p.stack ≡ Some outcome
 
-abbrev pub seen_turn : (p : Place) → Matched → State
-seen_turn p o = record { written = o.after.written; place = next_place p o; ended = o.ended }
+abbrev pub seen_turn : (p : Place) → Acting → State
+seen_turn p o = record { written = o.written; place = next_place p o; ended = o.ended }
 
 -- the place is in order, and not past f
 pub record Covered (p : Place) (f : ℕ) : Type 0 where

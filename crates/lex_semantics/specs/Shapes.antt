@@ -19,19 +19,24 @@ abbrev mutual
   AreSoundTrees no_trees = ⊤
   AreSoundTrees (tree t ts) = IsSoundTree t × AreSoundTrees ts
 
--- how many nodes a tree has
+-- What a tree counts: 1 for a set, and for another node what `node` makes of the count of its parts. Of the inner tree of a
+-- repetition first `times` makes the count of all copies.
 abbrev mutual
-  pub nodes : Tree → ℕ
-  nodes Empty = 1
-  nodes (Set s) = 1
-  nodes (Cat ts) = 1 + nodes_of ts
-  nodes (Alt ts) = 1 + nodes_of ts
-  nodes (Star t) = 1 + nodes t
-  nodes (Repeat t m n) = 1 + nodes t
+  pub weight : (ℕ → ℕ) → (ℕ → Option ℕ → ℕ → ℕ) → Tree → ℕ
+  weight node times Empty = node 0
+  weight node times (Set s) = 1
+  weight node times (Cat ts) = node (weight_of node times ts)
+  weight node times (Alt ts) = node (weight_of node times ts)
+  weight node times (Star t) = node (weight node times t)
+  weight node times (Repeat t m n) = node (times m n (weight node times t))
 
-  pub nodes_of : Trees → ℕ
-  nodes_of no_trees = 0
-  nodes_of (tree t ts) = nodes t + nodes_of ts
+  pub weight_of : (ℕ → ℕ) → (ℕ → Option ℕ → ℕ → ℕ) → Trees → ℕ
+  weight_of node times no_trees = 0
+  weight_of node times (tree t ts) = weight node times t + weight_of node times ts
+
+-- how many nodes a tree has
+abbrev pub nodes : Tree → ℕ
+nodes t = weight (λ k. 1 + k) (λ m n k. k) t
 
 -- a set of words
 abbrev pub Language : Type 1
@@ -48,6 +53,10 @@ pub record HasLengths (L : Language) (least : ℕ) (greatest : Option ℕ) : Typ
   pub none_shorter : (w : List ℕ) → L w → least ≤ length w
   pub longest : LongestIs L greatest
 
--- A name that the code and proofs have for a list that has a part.
+-- Names that the code and proofs have: for the nodes of all the parts, and for a list that has a part.
+
+abbrev pub nodes_of : Trees → ℕ
+nodes_of ts = weight_of (λ k. 1 + k) (λ m n k. k) ts
+
 abbrev pub HasPart : Trees → Type 0
 HasPart ts = ts ≢ no_trees

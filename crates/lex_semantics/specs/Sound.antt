@@ -2,15 +2,16 @@
 -- (POSIX, lex, Definitions in lex and Actions in lex; flex, Patterns: trailing context.)
 use Rattle.std.specs.Prelude.{◌≡◌, ℕ, ◌≤◌, ◌<◌, List, [], ◌∷◌, length, Option, Some, None, IfSome, slice_get, ⊤}
 use Rattle.lex_semantics.specs.Limits.{max_fixed_length, max_status, max_literal_bytes}
-use Rattle.lex_semantics.specs.Text.{Among, Ascending}
-use Rattle.lex_semantics.specs.Tree.{Tree, In}
+use Rattle.lex_semantics.specs.Text.{Among, Pairwise}
+use Rattle.lex_semantics.specs.Tree.{Tree}
+use Rattle.lex_semantics.specs.Positions.{Matches}
 use Rattle.lex_semantics.specs.Shapes.{IsSoundTree}
 use Rattle.lex_semantics.specs.Spec.{Spec, Rule, Condition, Cut, Whole, Head, Trail}
 use Rattle.lex_semantics.specs.Legal.{IsLegal}
 
 -- the tree has a word, each word of it has n bytes, and n is at most 65,535
 abbrev pub HasFixed : Tree → ℕ → Type 0
-HasFixed t n = ((w : List ℕ) × In t w) × ((w : List ℕ) → In t w → length w ≡ n) × (n ≤ max_fixed_length)
+HasFixed t n = ((w : List ℕ) × Matches t w) × ((w : List ℕ) → Matches t w → length w ≡ n) × (n ≤ max_fixed_length)
 
 -- A side of such a fixed length gives the cut: the head if it is one, and else the trailing context. Without trailing
 -- context the cut is the whole.
@@ -33,7 +34,7 @@ HaveSoundSides (r ∷ rs) = HasSoundSides r × HaveSoundSides rs
 
 -- A rule, where there are n conditions. Its list of them is in order.
 pub record IsSoundRule (n : ℕ) (r : Rule) : Type 0 where
-  pub listed : IfSome r.conditions (λ cs. Ascending cs × ((c : ℕ) → Among cs c → c < n))
+  pub listed : IfSome r.conditions (λ cs. Pairwise ◌<◌ cs × ((c : ℕ) → Among cs c → c < n))
   pub head : IsSoundTree r.head
   pub trail : IfSome r.trail IsSoundTree
   pub cut : IsCutOf r.head r.trail r.cut

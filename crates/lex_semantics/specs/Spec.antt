@@ -61,12 +61,9 @@ abbrev pub is_reject : Statement → Bool
 is_reject Reject = true
 is_reject _ = false
 
-abbrev pub has_reject : List Statement → Bool
-has_reject ss = list_any is_reject ss
-
 -- whether some rule has REJECT
 abbrev pub rejects : Spec → Bool
-rejects S = list_any (λ r. has_reject r.statements) S.rules
+rejects S = list_any (λ r. list_any is_reject r.statements) S.rules
 
 abbrev pub statements_at : Option Rule → List Statement
 statements_at r = option_map_or (λ r. r.statements) r []
@@ -74,6 +71,9 @@ statements_at r = option_map_or (λ r. r.statements) r []
 abbrev pub end_at : Option Condition → EndAction
 end_at k = option_map_or (λ k. k.end) k (record { print = []; status = 0 })
 
--- A name that the code has for this test over some rules.
+-- Names that the code has for these tests over an action, and over some rules.
+abbrev pub has_reject : List Statement → Bool
+has_reject ss = list_any is_reject ss
+
 abbrev pub any_reject : List Rule → Bool
 any_reject rs = list_any (λ r. has_reject r.statements) rs

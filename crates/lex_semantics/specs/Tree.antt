@@ -50,13 +50,3 @@ abbrev mutual
   pub InSome : Trees → List ℕ → Type 0
   InSome no_trees w = ⊥
   InSome (tree t ts) w = In t w ⊎ InSome ts w
-
--- Names that proofs have: for the joining of k words of one language, and for a count that is no more than the bound of
--- a repetition, where there is one.
-
-abbrev pub Joined : (List ℕ → Type 0) → ℕ → List ℕ → Type 0
-Joined P zero w = w ≡ []
-Joined P (suc k) w = (u v : List ℕ) × (w ≡ u ++ v) × P u × Joined P k v
-
-abbrev pub UpTo : Option ℕ → ℕ → Type 0
-UpTo n k = IfSome n (λ n. k ≤ n)

@@ -1,5 +1,5 @@
 -- What a `Dfa` tells, and the machine that it is with a specification's actions. (This project's.)
-use Rattle.std.specs.Prelude.{ℕ, Bool, false, List, length, slice_index_or, option_map, unwrap_or, slice_get}
+use Rattle.std.specs.Prelude.{ℕ, Bool, false, List, [], length, slice_index_or, option_map, unwrap_or, slice_get}
 use Rattle.lex_semantics.specs.Spec.{Spec, Whole, statements_at, end_at}
 use Rattle.lex_semantics.specs.Machine.{Machine}
 use Rattle.lexauto_dfa.specs.Invariant.{IsAutomaton}
@@ -50,3 +50,7 @@ machine_in p S = record {
 -- the automaton's states, with the actions of a specification
 abbrev pub machine_of : Dfa → Spec → Machine
 machine_of d S = machine_in d.parts S
+
+-- the lists' states, without actions
+abbrev pub bare : Parts → Machine
+bare p = record (machine_in p (record { conditions = []; rules = [] })) { conditions = conditions p }

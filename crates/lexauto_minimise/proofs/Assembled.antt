@@ -1,6 +1,6 @@
 -- The lists of a table of classes are the least automaton's.
 use mathlib.Core.Logic.{∥∥₁_map}
-use Rattle.std.proofs.Common.{inl, inr, ◌≡◌, ◌↔◌, ℕ, ◌+◌, ◌*◌, ◌++◌, ◌<◌, List, [], true, length, ap, sym, subst, ◌∙◌, arith, Vec, Global}
+use Rattle.std.proofs.Common.{inl, inr, ◌≡◌, ◌↔◌, ℕ, ◌+◌, ◌*◌, ◌-◌, ◌++◌, ◌<◌, List, [], true, length, ap, sym, subst, ◌∙◌, arith, Vec, Global}
 use Rattle.std.proofs.lemmas.List.{length-map}
 use Rattle.std.proofs.lemmas.Bool.{cases_Bool, cond-false, ltb-true}
 use Rattle.std.specs.Prelude.{slice_index, nat_lt}
@@ -21,6 +21,8 @@ use Rattle.lexauto_minimise.specs.Views.{automaton_of}
 use Rattle.lexauto_minimise.specs.declared.tables.ClassTable.{ClassTable}
 use Rattle.lexauto_minimise.proofs.ByTurns.{turns_length, turn_even, turn_odd}
 use Rattle.lexauto_minimise.proofs.Wholes.{is_whole}
+use Rattle.lexauto_dfa.specs.Numbering.{InOrder}
+use Rattle.lexauto_minimise.proofs.MachineLists.{calls_are}
 use Rattle.lexauto_minimise.proofs.Minimised.{minimised, own, future}
 use Rattle.lexauto_minimise.proofs.SameTable.{laws_again, table_again}
 use Rattle.lexauto_minimise.proofs.Joined.{accepts_as, dead_future, future_of, goes_on_as, is_least, least_stays, moved, reached_in}
@@ -138,7 +140,7 @@ module _ (p : Parts) (a : IsAutomaton p) (classes : List ℕ) (cl : AreClasses (
           accepts_alike = same;
           goes_on_alike = flags;
           least = is_least q is_automaton is_minimised.least;
-          numbered = is_minimised.numbered;
+          numbered = subst (λ l. InOrder 0 l (states q - 1)) (sym (calls_are q is_automaton.lines is_automaton.rows)) is_minimised.numbered;
           laws = λ S. laws_again p q S is_automaton accepts_member;
           table = λ S. table_again p q S same flags;
         }

@@ -1,5 +1,5 @@
 -- The worked examples of least automata, computed.
-use Rattle.std.proofs.Common.{◌≡◌, ℕ, zero, suc, ◌-◌, ◌<◌, Bool, true, false, List, [], ◌∷◌, ◌++◌, length, inl, inr, refl, sym, ap, subst, ◌∙◌, arith}
+use Rattle.std.proofs.Common.{◌≡◌, ℕ, zero, suc, ◌-◌, ◌*◌, ◌<◌, Bool, true, false, List, [], ◌∷◌, ◌++◌, length, inl, inr, refl, sym, ap, subst, ◌∙◌, arith}
 use Rattle.std.specs.Prelude.{◌==◌, nat_le, slice_index, slice_index_or, if◌then◌else◌, ◌≢◌}
 use Rattle.std.proofs.lemmas.Bool.{leb-true, eqb-true, cond-true, cond-false, cases_Bool}
 use Rattle.lex_semantics.specs.Text.{IsText}
@@ -8,7 +8,10 @@ use Rattle.lexauto_dfa.proofs.Below.{holds}
 use Rattle.lexauto_dfa.specs.Parts.{states, next, after, accepts, IsReached}
 use Rattle.lexauto_dfa.specs.declared.dfa.Parts.{Parts}
 use Rattle.lexauto_dfa.specs.Numbering.{InOrder}
-use Rattle.lexauto_minimise.specs.Least.{AreToldApart, by_turns, calls}
+use Rattle.lexauto_dfa.specs.Automata.{bare}
+use Rattle.lexauto_minimise.specs.LeastMachines.{AreToldApart}
+use Rattle.lexauto_minimise.specs.Least.{by_turns}
+use Rattle.lexauto_minimise.proofs.MachineLists.{starts_in, rows_in, calls_are}
 use Rattle.lexauto_minimise.specs.LeastExamples.{by_a, IsOfA, IsOfATwice, LeastOfA, NotLeast, NotNumbered}
 
 abbrev table : List ℕ
@@ -34,10 +37,10 @@ module _ (p : Parts) (is : IsOfA p) where
   reached (suc (suc (suc s))) lt not = absurd (omega (arith, lt, count))
 
   -- by the empty word and by `a`
-  by_none : (s t : ℕ) (x y : List ℕ) → slice_index_or lists s [] ≡ x → slice_index_or lists t [] ≡ y → x ≢ y → AreToldApart p s t
+  by_none : (s t : ℕ) (x y : List ℕ) → slice_index_or lists s [] ≡ x → slice_index_or lists t [] ≡ y → x ≢ y → AreToldApart (bare p) s t
   by_none s t x y at bt other = ([], tt, λ e. other (sym (has s ∙ at) ∙ e ∙ has t ∙ bt))
 
-  by_letter : (s t : ℕ) (x y : List ℕ) → slice_index_or lists (moving table s 97) [] ≡ x → slice_index_or lists (moving table t 97) [] ≡ y → x ≢ y → AreToldApart p s t
+  by_letter : (s t : ℕ) (x y : List ℕ) → slice_index_or lists (moving table s 97) [] ≡ x → slice_index_or lists (moving table t 97) [] ≡ y → x ≢ y → AreToldApart (bare p) s t
   by_letter s t x y at bt other =
       (97 ∷ [], (omega arith, tt), λ e. other (sym (ap (accepts p) (goes s 97) ∙ has (moving table s 97) ∙ at) ∙ e ∙ ap (accepts p) (goes t 97) ∙ has (moving table t 97) ∙ bt))
 
@@ -47,7 +50,7 @@ module _ (p : Parts) (is : IsOfA p) where
   none : ◌≢◌ {A = List ℕ} [] (0 ∷ [])
   none e = cc
 
-  apart : (s t : ℕ) → s < states p → t < states p → s ≢ t → AreToldApart p s t
+  apart : (s t : ℕ) → s < states p → t < states p → s ≢ t → AreToldApart (bare p) s t
   apart zero zero lt mt not = absurd (not refl)
   apart zero (suc zero) lt mt not = by_letter 0 1 [] (0 ∷ []) refl refl none
   apart zero (suc (suc zero)) lt mt not = by_none 0 2 [] (0 ∷ []) refl refl none
@@ -80,8 +83,9 @@ in_order n (x ∷ xs) m holding = elim (cases_Bool (nat_le x n)) [
 pub least_of_a : LeastOfA
 least_of_a p is = (record { reached = reached p is; apart = apart p is }, subst (λ xs. InOrder 0 xs (states p - 1)) (sym called) (subst (λ n. InOrder 0 (1 ∷ 1 ∷ table) (n - 1)) (sym (count p is)) (in_order 0 (1 ∷ 1 ∷ table) 2 refl)))
   where
-    called : calls p ≡ 1 ∷ 1 ∷ table
-    called = ap (λ xs. by_turns xs p.line_starts.items ++ p.next.items) is.starts ∙ ap (λ ys. by_turns (1 ∷ []) ys ++ p.next.items) is.line_starts ∙ ap (λ n. 1 ∷ 1 ∷ n) is.next
+    called : starts_in (bare p) ++ rows_in (bare p) (states p) ≡ 1 ∷ 1 ∷ table
+    called = calls_are p (ap (λ l. length l) is.line_starts ∙ sym (ap (λ l. length l) is.starts)) (ap (λ l. length l) is.next ∙ ap (λ n. 256 * n) (sym (count p is)))
+        ∙ ap (λ xs. by_turns xs p.line_starts.items ++ p.next.items) is.starts ∙ ap (λ ys. by_turns (1 ∷ []) ys ++ p.next.items) is.line_starts ∙ ap (λ n. 1 ∷ 1 ∷ n) is.next
 
 module _ (p : Parts) (is : IsOfATwice p) where
   abbrev twice : List ℕ
@@ -103,8 +107,12 @@ not_least p is least =
 pub not_numbered : NotNumbered
 not_numbered p is order = absurd (no (subst (λ xs. InOrder 0 xs (states p - 1)) called order))
   where
-    called : calls p ≡ 2 ∷ 2 ∷ by_a 0 ++ by_a 0 ++ by_a 1
-    called = ap (λ xs. by_turns xs p.line_starts.items ++ p.next.items) is.starts ∙ ap (λ ys. by_turns (2 ∷ []) ys ++ p.next.items) is.line_starts ∙ ap (λ n. 2 ∷ 2 ∷ n) is.next
+    three : states p ≡ 3
+    three = ap (λ l. length l) is.goes_on
+
+    called : starts_in (bare p) ++ rows_in (bare p) (states p) ≡ 2 ∷ 2 ∷ by_a 0 ++ by_a 0 ++ by_a 1
+    called = calls_are p (ap (λ l. length l) is.line_starts ∙ sym (ap (λ l. length l) is.starts)) (ap (λ l. length l) is.next ∙ ap (λ n. 256 * n) (sym three))
+        ∙ ap (λ xs. by_turns xs p.line_starts.items ++ p.next.items) is.starts ∙ ap (λ ys. by_turns (2 ∷ []) ys ++ p.next.items) is.line_starts ∙ ap (λ n. 2 ∷ 2 ∷ n) is.next
 
     no : InOrder 0 (2 ∷ 2 ∷ by_a 0 ++ by_a 0 ++ by_a 1) (states p - 1) → ⊥
     no (inl (le, rest)) = omega (arith, le)

@@ -1,6 +1,6 @@
 -- One list of starts and one table say what the lists of an automaton say.
 use mathlib.Core.Logic.{∥∥₁_map}
-use Rattle.std.specs.Prelude.{◌≡◌, ℕ, zero, suc, ◌+◌, ◌*◌, ◌/◌, ◌%◌, ◌<◌, ◌≤◌, Bool, true, false, cond, List, [], ◌∷◌, length, nat_lt, slice_index, slice_index_or}
+use Rattle.std.specs.Prelude.{◌≡◌, ℕ, zero, suc, ◌+◌, ◌*◌, ◌/◌, ◌%◌, ◌-◌, ◌<◌, ◌≤◌, Bool, true, false, cond, List, [], ◌∷◌, length, nat_lt, slice_index, slice_index_or}
 use Rattle.std.proofs.Common.{rules, inl, inr, refl, ap, sym, subst, ◌∙◌, arith}
 use Rattle.std.proofs.lemmas.Bool.{cases_lt, cond-true}
 use Rattle.lex_semantics.specs.Text.{IsText, Among}
@@ -10,13 +10,16 @@ use Rattle.lexauto_dfa.specs.declared.dfa.Parts.{Parts}
 use Rattle.lexauto_dfa.proofs.Machinery.{past_end, dead_after}
 use Rattle.lexauto_minimise.specs.Automata as A
 use Rattle.lexauto_minimise.specs.Quotients.{IsMinimised}
-use Rattle.lexauto_minimise.specs.Least.{SameFuture, AcceptsAs, GoesOnAs, IsLeast, AreSame, OneAutomaton}
+use Rattle.lexauto_minimise.specs.Least.{SameFuture, AcceptsAs, GoesOnAs, IsLeast, IsNumbered, AreSame, OneAutomaton}
 use Rattle.lexauto_minimise.specs.Least.{by_turns}
 use Rattle.lexauto_minimise.specs.Views.{automaton_of}
 use Rattle.lexauto_minimise.proofs.Swapped.{same_or_not}
 use Rattle.lexauto_minimise.proofs.GoesOn.{both_true}
 use Rattle.lexauto_minimise.proofs.ByTurns.{turns_length, turn_even, turn_odd, turn_at, turns_same}
 use Rattle.lexauto_minimise.proofs.Wholes.{is_whole}
+use Rattle.lexauto_minimise.proofs.MachineLists.{calls_are}
+use Rattle.lexauto_dfa.specs.Numbering.{InOrder}
+use Rattle.lexauto_dfa.specs.declared.dfa.Dfa.{Dfa}
 use Rattle.lexauto_minimise.proofs.OneLeast.{one_table, ext}
 
 lt_test : (a b : ℕ) → a < b → nat_lt a b ≡ true
@@ -193,4 +196,7 @@ module _ (p q : Parts) (a : IsAutomaton p) (b : IsAutomaton q) where
       alike e f s (x ∷ w) (low, text) = alike e f (next p s x) w text ∙ ap (λ (t : ℕ). accepts q (after q t w)) (same_next e s x)
 
 pub one_least : OneAutomaton
-one_least d e ld le nd ne count same = one_parts d.parts e.parts d.lawful e.lawful ld le nd ne count same
+one_least d e ld le nd ne count same = one_parts d.parts e.parts d.lawful e.lawful ld le (numbered d nd) (numbered e ne) count same
+  where
+    numbered : (d : Dfa) → IsNumbered d.parts → A.IsNumbered (automaton_of d.parts)
+    numbered d n = subst (λ l. InOrder 0 l (states d.parts - 1)) (calls_are d.parts d.lawful.lines d.lawful.rows) n

@@ -19,6 +19,8 @@ pub mod FirstBytes
 pub mod Bytes
 pub mod ByTurns
 pub mod Wholes
+pub mod MachineLists
+pub mod OneMachine
 pub mod Assembled
 pub mod OneLeast
 pub mod Joined

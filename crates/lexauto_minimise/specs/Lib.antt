@@ -1,3 +1,4 @@
+pub mod LeastMachines
 pub mod Least
 pub mod LeastExamples
 pub mod Futures

@@ -140,10 +140,6 @@ shared_follow on i base (r ∷ rules) p q o f =
           ])
     ]
 
--- a last position tells the rule
-pub last_of_either : (A B : Readings) (w : List ℕ) (p : ℕ) → IsLast (λ rs. A rs ⊎ B rs) w p → IsLast A w p ⊎ IsLast B w p
-last_of_either A B w p l = elim l.4 [ inl a ↦ inl (l.0, l.1, l.2, l.3, a) | inr b ↦ inr (l.0, l.1, l.2, l.3, b) ]
-
 gated_letter : (on : Bool) (x : Quad) (c : Cell) → Occurs (gated on x) c.1 → x.letter c → (gated on x).letter c
 gated_letter true x c o f = f
 gated_letter false x c o f = elim o [ inl g ↦ absurd g | inr g ↦ absurd g.1 ]

@@ -32,16 +32,6 @@ alike_on t u v h k = record { size = h.size ∙ k.size; left = h.left ∙ k.left
 pub all_alike_self : (ts : Trees) → AlikeAll ts ts
 all_alike_self ts = record { size = refl; each_left = refl; some_left = refl; each_next = refl; some_next = refl; letters = refl }
 
-pub all_alike_on : (ts us vs : Trees) → AlikeAll ts us → AlikeAll us vs → AlikeAll ts vs
-all_alike_on ts us vs h k = record {
-  size = h.size ∙ k.size;
-  each_left = h.each_left ∙ k.each_left;
-  some_left = h.some_left ∙ k.some_left;
-  each_next = h.each_next ∙ k.each_next;
-  some_next = h.some_next ∙ k.some_next;
-  letters = h.letters ∙ k.letters;
-}
-
 -- a tree without positions is walked like the empty text
 pub alike_nothing : (t : Tree) → IsSoundTree t → positions t ≡ 0 → Alike Empty t
 alike_nothing t h z = record {

@@ -139,9 +139,6 @@ pub not_left : (o l n : Bool) (m : ℕ) → o ≡ false → n ≡ (m == 0) → (
 not_left o l n zero h e z = absurd (z refl)
 not_left o l n (suc m) h e z = rw h (e ∙ ne_eqb (suc m) 0 (λ k. z k))
 
-pub or_left : (a b n : Bool) → a ≡ true → n ≡ a → n ≡ (a || b)
-or_left a b n h e = e ∙ rw h refl
-
 pub or_right : (a b n : Bool) → a ≡ false → n ≡ b → n ≡ (a || b)
 or_right a b n h e = e ∙ rw h refl
 
@@ -150,13 +147,6 @@ and_right a b n h e = e ∙ rw h refl
 
 pub and_left : (a b n : Bool) → a ≡ false → n ≡ a → n ≡ (a && b)
 and_left a b n h e = e ∙ rw h refl
-
-pub last_copy : (c k : ℕ) → k < c → (c - k == 1) ≡ is_zero (c - (k + 1))
-last_copy c k h = rw (one_copy c k h) (at (c - (k + 1)))
-  where
-    at : (n : ℕ) → (suc n == 1) ≡ is_zero n
-    at zero = refl
-    at (suc n) = ne_eqb (suc (suc n)) 1 (λ e. omega (arith, e))
 
 pub or_assoc : (a b c : Bool) → ((a || b) || c) ≡ (a || (b || c))
 or_assoc true b c = refl

@@ -1,5 +1,5 @@
 -- How a walk goes on in a list of positions.
-use Rattle.std.proofs.Common.{◌≡◌, ℕ, zero, suc, ◌+◌, ◌<◌, ◌≤◌, ◌⊎◌, ◌||◌, true, false, List, [], ◌∷◌, ◌++◌, length, inl, inr, refl, sym, ap, subst, ◌∙◌, arith}
+use Rattle.std.proofs.Common.{◌≡◌, ℕ, zero, suc, ◌+◌, ◌<◌, ◌≤◌, ◌⊎◌, ◌||◌, false, List, [], ◌∷◌, ◌++◌, length, inl, inr, refl, sym, ap, ◌∙◌, arith}
 use Rattle.std.specs.Prelude.{slice_index}
 use Rattle.lex_semantics.specs.Active.{lists}
 use Rattle.lex_semantics.specs.Text.{Among, Ascending}
@@ -68,26 +68,9 @@ module _ (l : List ℕ) (at base : ℕ) (c : IsCursor l at base) where
     pub quiet_next : (q : ℕ) → enters t (lists l) q base false ≡ false
     quiet_next = quiet_enters (lists l) t base (none_before (base + positions t) (omega arith) quiet)
 
-    pub quiet_cursor : IsCursor l at (base + positions t)
-    quiet_cursor = cursor_past (base + positions t) (omega arith) quiet
-
   module _ (lt : at < length l) (hit : slice_index l at < base + 1) where
     here : slice_index l at ≡ base
     here = let m = c.above at (omega arith) lt in omega (arith, m, hit)
-
-    pub hit_listed : lists l base ≡ true
-    hit_listed = (lists_is l base).1 (subst (λ (p : ℕ). Among l p) here (at_among l at lt))
-
-    pub hit_cursor : IsCursor l (at + 1) (base + 1)
-    hit_cursor = record {
-      increases = c.increases;
-      within = omega (arith, lt);
-      below = λ j g. elim (let d : (j < at) ⊎ (j ≡ at) = grind (arith, g) in d) [
-        | inl b ↦ (let m = c.below j b in omega (arith, m))
-        | inr e ↦ (let same : slice_index l j ≡ slice_index l at = ap (slice_index l) e in omega (arith, same, hit))
-      ];
-      above = λ j g k. let m = c.increases at j (omega (arith, g)) k in let e = here in omega (arith, m, e);
-    }
 
 -- all before `at` is less than `hi`, and nothing from there on
 pub cursor_at : (l : List ℕ) (at hi : ℕ) → Increases l → at ≤ length l → ((j : ℕ) → j < at → slice_index l j < hi)
@@ -138,15 +121,6 @@ turned p q = elim (cases_Bool (p == q)) [
 pub lists_more : (l : List ℕ) (b q : ℕ) → lists (l ++ b ∷ []) q ≡ (lists l q || (q == b))
 lists_more [] b q = or_false (b == q) ∙ turned b q
 lists_more (x ∷ l) b q = ap (λ k. (x == q) || k) (lists_more l b q) ∙ sym (or_assoc (x == q) (lists l q) (q == b))
-
--- before all of the list
-pub cursor_first : (l : List ℕ) → Increases l → IsCursor l 0 0
-cursor_first l h = record {
-  increases = h;
-  within = omega arith;
-  below = λ j g. absurd (omega (arith, g));
-  above = λ j g k. omega arith;
-}
 
 pub front_none : IsFront [] 0
 front_none = record { ascending = tt; below = λ j a. absurd a }

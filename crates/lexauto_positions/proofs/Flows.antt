@@ -90,20 +90,8 @@ module _ (S : ℕ → Type 0) where
     ]),
   )
 
-  pub exits_plus : (x : Quad) (i : Type 0) → Exits (plus x) i S ↔ Exits x (i ⊎ Exits x ⊥ S) S
-  exits_plus x i = (
-    (λ h. elim h [ inl a ↦ inl (inl a.0, a.1) | inr b ↦ inr b ]),
-    (λ h. elim h [
-      | inl a ↦ elim a.0 [ inl j ↦ inl (j, a.1) | inr (inl e) ↦ absurd e.0 | inr (inr e) ↦ inr e ]
-      | inr b ↦ inr b
-    ]),
-  )
-
   pub exits_opt : (x : Quad) (i : Type 0) → Exits (opt x) i S ↔ (i ⊎ Exits x i S)
   exits_opt x i = (
     (λ h. elim h [ inl a ↦ inl a.0 | inr b ↦ inr (inr b) ]),
     (λ h. elim h [ inl a ↦ inl (a, tt) | inr (inl a) ↦ inl (a.0, tt) | inr (inr b) ↦ inr b ]),
   )
-
-  pub enters_opt : (x : Quad) (i : Type 0) (q : ℕ) → Enters (opt x) i S q ↔ Enters x i S q
-  enters_opt x i q = ((λ h. h), (λ h. h))

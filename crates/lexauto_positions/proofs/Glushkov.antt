@@ -1,8 +1,8 @@
 -- Glushkov's theorem for patterns with counted repetition.
 use Rattle.std.specs.Prelude.{◌≡◌, ℕ, zero, suc, ◌+◌, ◌-◌, ◌*◌, ◌<◌, ◌≤◌, min, max, ◌⊎◌, List, [], ◌∷◌, ◌++◌, Option, Some, None}
-use Rattle.std.proofs.Common.{inl, inr, refl, ap, sym, subst, arith}
+use Rattle.std.proofs.Common.{IfSome, inl, inr, refl, ap, sym, subst, arith}
 use Rattle.lex_semantics.specs.ByteSets.{ByteSet, IsIn}
-use Rattle.lex_semantics.specs.Tree.{Tree, Trees, Empty, Set, Cat, Alt, Star, Repeat, no_trees, tree, UpTo, Passes}
+use Rattle.lex_semantics.specs.Tree.{Tree, Trees, Empty, Set, Cat, Alt, Star, Repeat, no_trees, tree, Passes}
 use Rattle.lex_semantics.specs.Positions.{Cell, Readings, copies, positions, positions_of, Reads, ReadsEach, ReadsSome}
 use Rattle.lexauto_positions.specs.PositionAutomaton.{Quad, fail, skip, leaf, cat, alt, plus, opt, times, chain, repeated, quad, quad_all, quad_one, Whole}
 use Rattle.lexauto_positions.proofs.Parts.{Within, cut, join, choose, chosen_left, chosen_right, cut_plus, in_star, in_some, opt_more, opt_less}
@@ -225,7 +225,7 @@ module _ (D : ℕ → Quad) (R : ℕ → Readings) (base s : ℕ) (each : (b : �
   lasting : (m i k : ℕ) → m ≤ i → m ≤ k → Lasting m i ≡ Lasting m k
   lasting m i k h g = ap (λ k. R (base + k * s)) (let e : min i (max (suc m) 1 - 1) ≡ min k (max (suc m) 1 - 1) = omega arith in e)
 
-  repeated_is : (m : ℕ) (n : Option ℕ) → Describes (repeated (λ j. D (base + j * s)) m n) (λ rs. (k : ℕ) × (m ≤ k) × UpTo n k × Passes (λ j. R (base + min j (copies m n - 1) * s)) 0 k rs) base (base + copies m n * s)
+  repeated_is : (m : ℕ) (n : Option ℕ) → Describes (repeated (λ j. D (base + j * s)) m n) (λ rs. (k : ℕ) × (m ≤ k) × IfSome n (λ n. k ≤ n) × Passes (λ j. R (base + min j (copies m n - 1) * s)) 0 k rs) base (base + copies m n * s)
   repeated_is m (Some n) =
       restate (times (λ j. D (base + j * s)) 0 m n) (Counted (λ j. D (base + j * s)) (λ j. R (base + min j (n - 1) * s)) base s 0 m n)
       (λ rs. (k : ℕ) × (m ≤ k) × (k ≤ n) × Passes (λ j. R (base + min j (n - 1) * s)) 0 k rs) (base + 0 * s) (base + (0 + n) * s) base (base + n * s) (omega arith) (omega arith) (λ rs r. r) (λ rs r. r)

@@ -37,9 +37,6 @@ module _ (b q : ℕ) where
         ap (λ j. j || each_read ts b q (base + positions t)) (nothing_read t (left_zero (positions t) (positions_of ts) z) base)
         ∙ nothing_read_each ts (right_zero (positions t) (positions_of ts) z) (base + positions t)
 
-  pub copies_nothing : (t : Tree) → positions t ≡ 0 → (base n : ℕ) → copies_read (reads t b q) base (positions t) n ≡ false
-  copies_nothing t z base n = copies_none (reads t b q) (nothing_read t z) base (positions t) n
-
 pub read_step : (one : ℕ → Bool) (base step c k : ℕ) → k < c → copies_read one base step (c - k) ≡ (one base || copies_read one (base + step) step (c - (k + 1)))
 read_step one base step c k h = ap (copies_read one base step) (one_copy c k h)
 

@@ -2,7 +2,7 @@
 use Rattle.std.specs.Prelude.{◌≡◌, ℕ, ◌+◌, ◌||◌, Bool, true, false, List, [], ◌∷◌, ◌++◌, Some}
 use Rattle.std.proofs.Common.{refl, ap, sym, subst, ◌∙◌, arith}
 use Rattle.std.proofs.Math.Path.{fun_ext}
-use Rattle.lex_semantics.specs.Tree.{Tree, Trees, Empty, Cat, Alt, no_trees, tree, trees}
+use Rattle.lex_semantics.specs.Tree.{Tree, Trees, Empty, Cat, Alt, trees}
 use Rattle.lex_semantics.specs.Positions.{positions, positions_of}
 use Rattle.lexauto_positions.specs.Flow.{exits, exits_each, exits_some, enters, enters_each, enters_some}
 use Rattle.lexauto_positions.specs.RuleFlow.{reads, each_read}
@@ -111,20 +111,3 @@ module _ (laid : List SizedPattern) (p : SizedPattern) (t : Tree) (rest : List T
   choice_more o k =
       alike_on (choice_of o (trees (trees_laid (laid ++ p ∷ []) ++ rest))) (choice_of o (trees (trees_laid laid ++ t ∷ rest))) whole
       (choice_alike o (trees (trees_laid (laid ++ p ∷ []) ++ rest)) (trees (trees_laid laid ++ t ∷ rest)) within) k
-
--- a tree alone is a series and a choice of it
-pub alone_series : (t : Tree) → Alike t (Cat (tree t no_trees))
-alone_series t = record {
-  size = omega arith;
-  left = refl;
-  next = fun_ext (λ on. fun_ext (λ q. fun_ext (λ base. fun_ext (λ i. sym (or_false (enters t on q base i))))));
-  letters = fun_ext (λ b. fun_ext (λ q. fun_ext (λ base. sym (or_false (reads t b q base)))));
-}
-
-pub alone_choice : (t : Tree) → Alike t (Alt (tree t no_trees))
-alone_choice t = record {
-  size = omega arith;
-  left = fun_ext (λ on. fun_ext (λ base. fun_ext (λ i. sym (or_false (exits t on base i)))));
-  next = fun_ext (λ on. fun_ext (λ q. fun_ext (λ base. fun_ext (λ i. sym (or_false (enters t on q base i))))));
-  letters = fun_ext (λ b. fun_ext (λ q. fun_ext (λ base. sym (or_false (reads t b q base)))));
-}

@@ -92,12 +92,3 @@ alike_any t = record {
     left : (on : ℕ → Bool) (base : ℕ) (i : Bool) → exits (Star t) on base i ≡ exits (Repeat t 0 None) on base i
     left on base true = refl
     left on base false = refl
-
--- a tree once is that tree
-pub alike_once : (t : Tree) → Alike t (Repeat t 1 (Some 1))
-alike_once t = record {
-  size = omega arith;
-  left = refl;
-  next = fun_ext (λ on. fun_ext (λ q. fun_ext (λ base. fun_ext (λ i. ap (enters t on q base) (sym (or_false i)) ∙ sym (or_false (enters t on q base (i || false)))))));
-  letters = fun_ext (λ b. fun_ext (λ q. fun_ext (λ base. sym (or_false (reads t b q base)))));
-}

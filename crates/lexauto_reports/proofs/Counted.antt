@@ -2,6 +2,7 @@
 use Rattle.std.proofs.Common.{◌≡◌, ◌<◌, ◌≤◌, ◌+◌, ◌*◌, ◌/◌, ◌%◌, ℕ, List, [], ◌∷◌, ◌++◌, length, sym, ap, refl, ◌∙◌, arith}
 use Rattle.std.specs.Prelude.{min}
 use Rattle.lex_semantics.proofs.Texts.{is_text_append}
+use Rattle.lexauto_dfa.specs.Automata.{bare}
 use Rattle.lexauto_dfa.specs.Parts.{start, next, after}
 use Rattle.lexauto_dfa.specs.declared.dfa.Parts.{Parts}
 use Rattle.lexauto_reports.specs.BackWords.{Leads}
@@ -26,12 +27,12 @@ from_start p s w =
     let n : min (0 + length w) 2 ≡ min (length w) 2 = omega arith in
     ap (λ (x : ℕ). walk p x w) e ∙ walk_is p s 0 w (omega arith) ∙ ap (λ (k : ℕ). 3 * after p s w + k) n
 
-pub leads_from : (p : Parts) (s : ℕ) (w : List ℕ) → LeadsTo p w (3 * s + 2) → Leads p s w
+pub leads_from : (p : Parts) (s : ℕ) (w : List ℕ) → LeadsTo p w (3 * s + 2) → Leads (bare p) s w
 leads_from p s w (y, (c, line_start, known, e), text, is) =
     let there : 3 * after p (start p c line_start) w + min (length w) 2 ≡ 3 * s + 2 = sym (from_start p (start p c line_start) w) ∙ ap (λ (x : ℕ). walk p x w) (sym e) ∙ is in
     (c, line_start, known, text, omega (arith, there), omega (arith, there))
 
-pub leads_into : (p : Parts) (s : ℕ) (w : List ℕ) → Leads p s w → LeadsTo p w (3 * s + 2)
+pub leads_into : (p : Parts) (s : ℕ) (w : List ℕ) → Leads (bare p) s w → LeadsTo p w (3 * s + 2)
 leads_into p s w (c, line_start, known, text, two, is) =
     let there = from_start p (start p c line_start) w in
     (3 * start p c line_start, (c, line_start, known, refl), text, omega (arith, there, two, is))

@@ -9,7 +9,7 @@ use Rattle.lex_semantics.specs.Machine.{state_after}
 use Rattle.lex_semantics.specs.TableFor.{TableFor}
 use Rattle.lex_semantics.proofs.TableReports.{back_word_is}
 use Rattle.lexauto_dfa.specs.Parts.{conditions, states, start, accepts, goes_on, after}
-use Rattle.lexauto_dfa.specs.Automata.{machine_in}
+use Rattle.lexauto_dfa.specs.Automata.{bare, machine_in}
 use Rattle.lexauto_dfa.specs.declared.dfa.Parts.{Parts}
 use Rattle.lexauto_dfa.proofs.Machinery.{past_end, walk_after}
 use Rattle.lexauto_reports.specs.BackWords.{NotAfter, IsFirstWord, BacksUp, IsAfterBackWord, states_in}
@@ -25,8 +25,8 @@ clash : (o : Option ℕ) (j : ℕ) → o ≡ None → o ≡ Some j → ⊥
 clash o j n e = absurd cc
 
 -- the word of a state's group is its first
-pub first_word : (p : Parts) (s j : ℕ) (words : List (List ℕ)) (places : List (Option ℕ)) (word : List ℕ) → AreFound p words places → place_of places (3 * s + 2) ≡ Some j → word ≡ at words j → IsFirstWord p s word
-first_word p s j words places word a e is = subst (IsFirstWord p s) (sym is) (
+pub first_word : (p : Parts) (s j : ℕ) (words : List (List ℕ)) (places : List (Option ℕ)) (word : List ℕ) → AreFound p words places → place_of places (3 * s + 2) ≡ Some j → word ≡ at words j → IsFirstWord (bare p) s word
+first_word p s j words places word a e is = subst (IsFirstWord (bare p) s) (sym is) (
   leads_from p s (at words j) (a.known (3 * s + 2) j e).1,
   λ v l. (let r = a.least (3 * s + 2) v (leads_into p s v l) in subst (λ i. NotAfter (at words i) v) (same_place (place_of places (3 * s + 2)) r.0 j r.1 e) r.2),
 )
@@ -42,9 +42,9 @@ is_state p s b = elim (cases_lt s (states p)) [ inl y ↦ y | inr n ↦ absurd (
 pub record AreEntries (p : Parts) (entries : List BackUp) (n : ℕ) : Type 0 where
   pub ascending : Ascending (states_in entries)
   pub states : (s : ℕ) → Among (states_in entries) s ↔ ((s < n) × BacksUp p s)
-  pub words : (e : BackUp) → Among entries e → IsFirstWord p e.state e.word.items
+  pub words : (e : BackUp) → Among entries e → IsFirstWord (bare p) e.state e.word.items
 
-pub one_entry : (p : Parts) (entries : List BackUp) (n : ℕ) (e : BackUp) → AreEntries p entries n → e.state ≡ n → BacksUp p n → IsFirstWord p n e.word.items → AreEntries p (entries ++ e ∷ []) (n + 1)
+pub one_entry : (p : Parts) (entries : List BackUp) (n : ℕ) (e : BackUp) → AreEntries p entries n → e.state ≡ n → BacksUp p n → IsFirstWord (bare p) n e.word.items → AreEntries p (entries ++ e ∷ []) (n + 1)
 one_entry p entries n e a is b word =
     let push = map_push (λ (f : BackUp). f.state) entries e in
     record {
@@ -61,7 +61,7 @@ one_entry p entries n e a is b word =
       );
       words = λ f m. elim ((among_push entries e f).0 m) [
         | inl o ↦ a.words f o
-        | inr same ↦ subst (λ (g : BackUp). IsFirstWord p g.state g.word.items) (sym same) (subst (λ s. IsFirstWord p s e.word.items) (sym is) word)
+        | inr same ↦ subst (λ (g : BackUp). IsFirstWord (bare p) g.state g.word.items) (sym same) (subst (λ s. IsFirstWord (bare p) s e.word.items) (sym is) word)
       ];
     }
 

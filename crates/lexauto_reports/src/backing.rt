@@ -3,7 +3,7 @@ ghost use Rattle.std.specs.Prelude.{◌≡◌, ◌<◌, ◌↔◌, ℕ, length, 
 ghost use Rattle.lex_semantics.specs.Text.{Among, Ascending};
 ghost use Rattle.lex_semantics.specs.Spec.{Spec};
 ghost use Rattle.lex_semantics.specs.TableFor.{TableFor};
-ghost use Rattle.lexauto_dfa.specs.Automata.{conditions_of, lists_of, machine_of, states_of};
+ghost use Rattle.lexauto_dfa.specs.Automata.{bare, conditions_of, lists_of, machine_of, states_of};
 ghost use Rattle.lexauto_reports.specs.BackWords.{states_in, BacksUp, IsAfterBackWord, IsEntry, IsFirstWord};
 ghost use Rattle.lexauto_reports.specs.Searching.{words_of, AreFound};
 ghost use Rattle.lexauto_reports.specs.declared.backup.BackUp.{BackUp};
@@ -20,7 +20,7 @@ pub fn backing_up(alloc: Global, dfa: &Dfa) -> Result<Vec<BackUp>, OutOfMemory>
     ensures ascending { IfOk result (λ v. Ascending (states_in v.items)) }
     ensures states { IfOk result (λ v. (s : ℕ) → Among (states_in v.items) s ↔ BacksUp (lists_of dfa.now) s) }
     ensures words { IfOk result (λ v. (e : BackUp) → Among v.items e
-        → IsFirstWord (lists_of dfa.now) e.state e.word.items) }
+        → IsFirstWord (bare (lists_of dfa.now)) e.state e.word.items) }
     ensures back_words { IfOk result (λ v. (S : Spec) → conditions_of dfa.now ≡ length S.conditions
         → TableFor (machine_of dfa.now S) S → (s : ℕ)
         → Among (states_in v.items) s ↔ IsAfterBackWord (machine_of dfa.now S) S s) }
@@ -36,7 +36,7 @@ fn entries(alloc: Global, dfa: &Dfa, found: &Found) -> Result<Vec<BackUp>, Alloc
     ensures ascending { IfOk result (λ v. Ascending (states_in v.items)) }
     ensures states { IfOk result (λ v. (s : ℕ) → Among (states_in v.items) s ↔ BacksUp (lists_of dfa.now) s) }
     ensures words { IfOk result (λ v. (e : BackUp) → Among v.items e
-        → IsFirstWord (lists_of dfa.now) e.state e.word.items) }
+        → IsFirstWord (bare (lists_of dfa.now)) e.state e.word.items) }
 {
     let mut entries = Vec::new(alloc);
     for state in 0..dfa.len() {

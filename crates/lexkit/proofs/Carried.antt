@@ -1,5 +1,5 @@
 -- What is told of a machine's rules is told of those of its specification.
-use Rattle.std.proofs.Common.{Some, ◌≡◌, ℕ, suc, ◌+◌, ◌-◌, ◌<◌, ◌≤◌, Bool, true, false, List, ◌++◌, length, refl, arith}
+use Rattle.std.proofs.Common.{Some, ◌≡◌, ℕ, suc, ◌+◌, ◌-◌, ◌<◌, ◌≤◌, Bool, true, false, cond, List, ◌++◌, length, refl, arith}
 use Rattle.std.specs.Prelude.{nat_lt}
 use Rattle.std.proofs.lemmas.Bool.{ltb-true}
 use Rattle.lex_semantics.specs.Spec.{Spec}
@@ -10,18 +10,17 @@ use Rattle.lex_semantics.specs.MachineLaws.{MachineLaws}
 use Rattle.lex_semantics.specs.TableFor.{TableFor}
 use Rattle.lex_semantics.specs.Acting.{Ending, StackFault}
 use Rattle.lex_semantics.proofs.Both.{same_after, same_run}
-use Rattle.lex_semantics.specs.ByteSets.{bit_of}
 use Rattle.lexscan_window.specs.declared.error.RunError.{RunError}
 use Rattle.lexscan.specs.Stands.{RanTo}
 use Rattle.lexscan.specs.Runs.{RanInto}
 
 -- the reads of a scan, by whether its end was answered
-pub few_reads : (given : List ℕ) (m fault e e' f f' : ℕ) → length given + (e' - e) + (f' - f) ≤ m → f' ≡ f + fault → length given + bit_of (nat_lt e e') + fault ≤ m
-few_reads given m fault e e' f f' few more = by_end (nat_lt e e') refl
+pub few_reads : (given : List ℕ) (m e e' f f' : ℕ) → length given + (e' - e) + (f' - f) ≤ m → length given + cond (nat_lt e e') 1 0 + (f' - f) ≤ m
+few_reads given m e e' f f' few = by_end (nat_lt e e') refl
   where
-    by_end : (b : Bool) → nat_lt e e' ≡ b → length given + bit_of b + fault ≤ m
-    by_end true q = let less : e < e' = ltb-true e e' q in omega (arith, few, more, less)
-    by_end false q = omega (arith, few, more)
+    by_end : (b : Bool) → nat_lt e e' ≡ b → length given + cond b 1 0 + (f' - f) ≤ m
+    by_end true q = let less : e < e' = ltb-true e e' q in omega (arith, few, less)
+    by_end false q = omega (arith, few)
 
 module _ (M : Machine) (laws : MachineLaws M) (S : Spec) (sound : IsSound S) (table : TableFor M S) where
   pub ran_to : (given out : List ℕ) (at_end : Bool) (d : Ending) → RanTo (rules_of_machine M) given out at_end d → RanTo (rules_of S) given out at_end d

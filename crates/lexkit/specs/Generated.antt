@@ -1,23 +1,23 @@
 -- What is made of the text of a specification. (Rules that cannot be matched: flex's warnings; states that back up: flex,
 -- Scanner Options: -b; the least automaton, its tables and the counts are this project's.)
-use Rattle.std.specs.Prelude.{◌≡◌, ◌↔◌, ℕ, ◌≤◌, List, ◌++◌, length, map, Result, Ok, Err, ⊤}
+use Rattle.std.specs.Prelude.{◌≡◌, ◌↔◌, ℕ, ◌<◌, ◌≤◌, true, false, slice_index_or, List, ◌++◌, length, map, Result, Ok, Err, ⊤}
 use Rattle.std.specs.List.Sorted.{IsPermutation}
-use Rattle.lex_semantics.specs.Text.{Ascending, Among, Pairwise, flag}
+use Rattle.lex_semantics.specs.Text.{Among, Pairwise}
 use Rattle.lex_semantics.specs.Spec.{Spec, Rule}
 use Rattle.lex_semantics.specs.Sound.{IsSound}
+use Rattle.lex_semantics.specs.Machine.{Machine}
 use Rattle.lex_semantics.specs.Reports.{Useless}
 use Rattle.lex_semantics.specs.Subsets.{Subsets, all_positions}
 use Rattle.lexspec.specs.Files.{SpellsSpec}
 use Rattle.lexspec.specs.Skipped.{AreSkipped}
-use Rattle.lexauto_dfa.specs.Automata.{machine_in}
-use Rattle.lexauto_dfa.specs.declared.dfa.Dfa.{Dfa}
 use Rattle.lexauto.specs.declared.subsets.Limits.{Limits}
 use Rattle.lexauto_reports.specs.BackWords.{IsFirstWord, IsAfterBackWord}
-use Rattle.lexauto_reports.specs.Warned.{of_code, of_rule, MayPrecede}
+use Rattle.lexauto_reports.specs.Warned.{of_rule, MayPrecede}
 use Rattle.lexauto_reports.specs.declared.backup.BackUp.{BackUp}
 use Rattle.lexauto_reports.specs.declared.warned.Warning.{Warning}
 use Rattle.lextab_packed.specs.Table.{Table}
 use Rattle.lextab_packed.specs.Views.{table_of}
+use Rattle.lextab_packed.specs.Machines.{table_machine}
 use Rattle.lextab_packed.specs.declared.tables.Tables.{Tables}
 use Rattle.lextab_file.specs.File.{file_of}
 use Rattle.lexkit.specs.Canonical.{IsCanonicalFor}
@@ -53,35 +53,34 @@ pub record AreCounts (S : Spec) (t : Table) (z : Stats) : Type 0 where
 -- one warning for each line of skipped code and for each useless rule, in order of line
 abbrev pub AreWarnings : Spec → List ℕ → List Warning → Type 0
 AreWarnings S skipped ws =
-    Pairwise MayPrecede ws × ((useless : List ℕ) × Ascending useless × ((i : ℕ) → Among useless i ↔ Useless S i)
-    × IsPermutation (map of_code skipped ++ map (of_rule S.rules) useless) ws)
+    Pairwise MayPrecede ws × ((useless : List ℕ) × Pairwise ◌<◌ useless × ((i : ℕ) → Among useless i ↔ Useless S i)
+    × IsPermutation (map (λ line. record { line = line; code = true }) skipped ++ map (of_rule S.rules) useless) ws)
 
 -- the states after back words, ascending, each with its first word
-pub record AreBackUps (d : Dfa) (S : Spec) (entries : List BackUp) : Type 0 where
-  pub ascending : Ascending (map (λ e. e.state) entries)
-  pub states : (s : ℕ) → Among (map (λ e. e.state) entries) s ↔ IsAfterBackWord (machine_in d.parts S) S s
-  pub words : (e : BackUp) → Among entries e → IsFirstWord d.parts e.state e.word.items
+pub record AreBackUps (M : Machine) (S : Spec) (entries : List BackUp) : Type 0 where
+  pub ascending : Pairwise ◌<◌ (map (λ e. e.state) entries)
+  pub states : (s : ℕ) → Among (map (λ e. e.state) entries) s ↔ IsAfterBackWord M S s
+  pub words : (e : BackUp) → Among entries e → IsFirstWord M e.state e.word.items
 
 -- the packed tables of the least automaton of a specification, whose file is the canonical one
-pub record AreTablesOf (limits : Limits) (S : Spec) (d : Dfa) (t : Tables) : Type 0 where
+pub record AreTablesOf (limits : Limits) (S : Spec) (t : Tables) : Type 0 where
   pub sound : IsSound S
   pub within : IsWithin limits S
-  pub canonical : IsCanonicalFor S d (table_of t.parts) (λ s. flag t.goes_on.items s) (file_of (table_of t.parts))
+  pub canonical : IsCanonicalFor S (table_of t.parts) (λ s. slice_index_or t.goes_on.items s false) (file_of (table_of t.parts))
 
 -- such tables with the lines of the rules, warnings and counts; `skipped` are the lines of skipped code
-pub record AreMadeOf (limits : Limits) (S : Spec) (skipped : List ℕ) (d : Dfa) (m : Made) : Type 0 where
-  pub tables : AreTablesOf limits S d m.tables
+pub record AreMadeOf (limits : Limits) (S : Spec) (skipped : List ℕ) (m : Made) : Type 0 where
+  pub tables : AreTablesOf limits S m.tables
   pub rule_lines : m.rule_lines.items ≡ map (λ r. r.line) S.rules
   pub warnings : AreWarnings S skipped m.warnings.items
   pub stats : AreCounts S (table_of m.tables.parts) m.stats
 
 -- the same with the back words
 pub record IsMadeOf (limits : Limits) (S : Spec) (skipped : List ℕ) (g : Generated) : Type 0 where
-  pub automaton : Dfa
-  pub tables : AreTablesOf limits S automaton g.tables
+  pub tables : AreTablesOf limits S g.tables
   pub rule_lines : g.rule_lines.items ≡ map (λ r. r.line) S.rules
   pub warnings : AreWarnings S skipped g.warnings.items
-  pub backup : AreBackUps automaton S g.backup.items
+  pub backup : AreBackUps (table_machine g.tables) S g.backup.items
   pub stats : AreCounts S (table_of g.tables.parts) g.stats
 
 -- what is made by a specification with these lines of skipped code
@@ -90,7 +89,7 @@ MakesBy limits S skipped (Ok g) = IsMadeOf limits S skipped g
 MakesBy limits S skipped (Err e) = SpecRefusal limits S e
 
 abbrev pub MakesTablesBy : Limits → Spec → List ℕ → Result Made GenError → Type 0
-MakesTablesBy limits S skipped (Ok m) = (automaton : Dfa) × AreMadeOf limits S skipped automaton m
+MakesTablesBy limits S skipped (Ok m) = AreMadeOf limits S skipped m
 MakesTablesBy limits S skipped (Err e) = SpecRefusal limits S e
 
 -- what is made of a text
@@ -104,4 +103,4 @@ MakesTables options text (Err e) = Refusal options text e
 
 -- the tables are those of the specification that the text spells
 abbrev pub HasTables : Options → List ℕ → Tables → Type 0
-HasTables options text t = (S : Spec) × SpellsSpec (reading options) text S × (automaton : Dfa) × AreTablesOf options.limits S automaton t
+HasTables options text t = (S : Spec) × SpellsSpec (reading options) text S × AreTablesOf options.limits S t

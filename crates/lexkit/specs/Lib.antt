@@ -3,6 +3,7 @@ pub mod Failures
 pub mod Headline
 pub mod ScanCounts
 pub mod Canonical
+pub mod CanonicalExamples
 pub mod LeastAutomata
 pub mod Generated
 pub mod FileScans

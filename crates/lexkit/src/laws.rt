@@ -3,14 +3,14 @@ ghost use Rattle.std.specs.Prelude.{◌≡◌, ℕ, List};
 ghost use Rattle.lex_semantics.specs.Spec.{Spec};
 ghost use Rattle.lex_semantics.specs.SameRules.{SameRules};
 ghost use Rattle.lexkit.specs.Canonical.{IsCanonical};
+ghost use Rattle.lexkit.specs.CanonicalExamples.{CanonicalOfTwo};
 ghost use Rattle.lexkit.specs.FileScans.{FileScans};
 ghost use Rattle.lexkit.specs.TextTokens.{TextTokens};
 
 use lex_semantics::same_rules_answers;
-use lexauto::one_automaton;
 use lexscan_tokens::table_tokens;
 use lextab::one_table;
-use lextab_packing::{one_packing, packing_of_same_moves};
+use lextab_packing::{examples_of_packings, one_packing, packing_of_same_moves};
 
 /// Specifications with the same rules, however their patterns are written, have the same canonical file, and each has
 /// at most one.
@@ -18,12 +18,19 @@ pub fn one_file()
     ensures { (S T : Spec) (f g : List ℕ) → SameRules S T → IsCanonical S f → IsCanonical T g → f ≡ g }
 {
     same_rules_answers();
-    one_automaton();
     one_packing();
     packing_of_same_moves();
 }
 
-/// A scan by the file of the tables that are made of a text is a scan by the specification that the text spells.
+/// A worked example of a canonical file: that of the rule `aa`, whose table is that of the example of a packing.
+pub fn example_of_canonical_files()
+    ensures { CanonicalOfTwo }
+{
+    examples_of_packings();
+    packing_of_same_moves();
+}
+
+/// A scan by the file of the tables that are made of a specification is a scan by the specification.
 pub fn file_scans()
     ensures { FileScans }
 {

@@ -7,6 +7,8 @@ ghost use Rattle.lexspec.specs.Views.{spec_of, skipped_in};
 ghost use Rattle.lexkit.specs.Headline.{Refusal, reading};
 ghost use Rattle.lexkit.specs.Generated.{lines_of, AreMadeOf, IsMadeOf, SpecRefusal};
 ghost use Rattle.lexkit.specs.LeastAutomata.{IsLeastOf};
+ghost use Rattle.lexauto_dfa.specs.Automata.{machine_of};
+ghost use Rattle.lextab_packed.specs.Machines.{table_machine};
 ghost use Rattle.lexkit.specs.Generated.{MakesBy, MakesTablesBy, Makes, MakesTables};
 ghost use Rattle.lex_semantics.specs.Limits.{max_positions, max_states};
 
@@ -152,8 +154,8 @@ pub fn lines_of(alloc: Global, rules: &[Rule]) -> Result<Vec<u32>, AllocError>
 /// The tables of a least automaton, and the reports but for that of states that back up.
 fn made_of(alloc: Global, spec: &Spec, limits: Limits, least: &Least) -> Result<Made, OutOfMemory>
     requires least { IsLeastOf limits (spec_of spec.now) least.now.subsets least.now.automaton }
-    ensures { IfOk result (AreMadeOf limits (spec_of spec.now) (skipped_in spec.now)
-        least.now.automaton) }
+    ensures made { IfOk result (AreMadeOf limits (spec_of spec.now) (skipped_in spec.now)) }
+    ensures machine { IfOk result (λ m. table_machine m.tables ≡ machine_of least.now.automaton (spec_of spec.now)) }
 {
     tested_specifications();
     let useless = useless_rules(alloc, spec, &least.automaton)?;

@@ -2,17 +2,15 @@
 ghost use Rattle.std.specs.Prelude.{◌≡◌, ℕ, ◌+◌, ◌-◌, ◌^◌, ◌<◌, ◌≤◌, List, Ok, nat_lt, IsErrOf};
 ghost use Rattle.lexspec.specs.Views.{spec_of};
 ghost use Rattle.lexscan_window.specs.declared.error.RunError.TheVariants.{Failed};
-ghost use Rattle.lexkit.specs.Headline.{Headline, ScansBy, TableHeadline};
+ghost use Rattle.lexkit.specs.Headline.{Headline, IsWithin, ScansBy, TableHeadline};
 ghost use Rattle.lexkit.specs.Generated.{HasTables};
-ghost use Rattle.lexkit.specs.LeastAutomata.{IsLeastOf};
 ghost use Rattle.lexkit.specs.declared.options.Options.{Options as Asked};
 ghost use Rattle.lexkit.specs.ScanCounts.{HandedOn, read_faults, write_faults};
 ghost use Rattle.lex_semantics.specs.Limits.{max_positions, max_states};
 ghost use Rattle.lex_semantics.specs.Sound.{IsSound};
 ghost use Rattle.lex_semantics.specs.Spec.{Spec as Meant};
+ghost use Rattle.lex_semantics.specs.TableFor.{TableFor};
 ghost use Rattle.lexauto.specs.declared.subsets.Limits.{Limits as Given};
-ghost use Rattle.lexauto_dfa.specs.Automata.{machine_of};
-ghost use Rattle.lexauto_dfa.specs.declared.dfa.Dfa.{Dfa};
 ghost use Rattle.lextab_packed.specs.Machines.{table_machine};
 
 use crate::errors::{GenError, ScanError};
@@ -43,8 +41,9 @@ pub fn scan_spec<S: Source, K: Sink>(
     requires few_ends { S.ends source.old < 2 ^ 64 - 1 }
     requires few_read_faults { S.failures source.old < 2 ^ 64 - 1 }
     requires few_write_faults { K.failures sink.old < 2 ^ 64 - 1 }
-    ensures told { Headline S.gave K.wrote options text.now
-        (nat_lt (S.ends source.old) (S.ends source.new)) source.old source.new sink.old sink.new result }
+    ensures told { Headline S.gave K.wrote source.old source.new sink.old sink.new
+        (nat_lt (S.ends source.old) (S.ends source.new)) (S.failures source.new - S.failures source.old)
+        options text.now result }
     ensures read_faults { S.failures source.new ≡ S.failures source.old + read_faults result }
     ensures write_faults { K.failures sink.new ≡ K.failures sink.old + write_faults result }
     ensures ends_stay { S.ends source.old ≤ S.ends source.new }
@@ -73,8 +72,9 @@ pub fn scan_by<S: Source, K: Sink>(
     requires few_ends { S.ends source.old < 2 ^ 64 - 1 }
     requires few_read_faults { S.failures source.old < 2 ^ 64 - 1 }
     requires few_write_faults { K.failures sink.old < 2 ^ 64 - 1 }
-    ensures told { ScansBy S.gave K.wrote limits (spec_of spec.now)
-        (nat_lt (S.ends source.old) (S.ends source.new)) source.old source.new sink.old sink.new result }
+    ensures told { ScansBy S.gave K.wrote source.old source.new sink.old sink.new
+        (nat_lt (S.ends source.old) (S.ends source.new)) (S.failures source.new - S.failures source.old)
+        limits (spec_of spec.now) result }
     ensures read_faults { S.failures source.new ≡ S.failures source.old + read_faults result }
     ensures write_faults { K.failures sink.new ≡ K.failures sink.old + write_faults result }
     ensures ends_stay { S.ends source.old ≤ S.ends source.new }
@@ -103,10 +103,11 @@ fn scan_tables<S: Source, K: Sink>(
     requires few_ends { S.ends source.old < 2 ^ 64 - 1 }
     requires few_read_faults { S.failures source.old < 2 ^ 64 - 1 }
     requires few_write_faults { K.failures sink.old < 2 ^ 64 - 1 }
-    ensures told { (limits : Given) (spec : Meant) (subsets : ℕ) (automaton : Dfa) → IsSound spec
-        → IsLeastOf limits spec subsets automaton → table_machine tables ≡ machine_of automaton spec
-        → ScansBy S.gave K.wrote limits spec
-        (nat_lt (S.ends source.old) (S.ends source.new)) source.old source.new sink.old sink.new result }
+    ensures told { (limits : Given) (spec : Meant) → IsSound spec → IsWithin limits spec
+        → TableFor (table_machine tables) spec
+        → ScansBy S.gave K.wrote source.old source.new sink.old sink.new
+        (nat_lt (S.ends source.old) (S.ends source.new)) (S.failures source.new - S.failures source.old)
+        limits spec result }
     ensures read_faults { S.failures source.new ≡ S.failures source.old + read_faults result }
     ensures write_faults { K.failures sink.new ≡ K.failures sink.old + write_faults result }
     ensures ends_stay { S.ends source.old ≤ S.ends source.new }
@@ -136,8 +137,9 @@ pub fn scan_made<S: Source, K: Sink>(
     requires few_read_faults { S.failures source.old < 2 ^ 64 - 1 }
     requires few_write_faults { K.failures sink.old < 2 ^ 64 - 1 }
     ensures told { (options : Asked) (text : List ℕ) → HasTables options text tables
-        → Headline S.gave K.wrote options text
-        (nat_lt (S.ends source.old) (S.ends source.new)) source.old source.new sink.old sink.new result }
+        → Headline S.gave K.wrote source.old source.new sink.old sink.new
+        (nat_lt (S.ends source.old) (S.ends source.new)) (S.failures source.new - S.failures source.old)
+        options text result }
     ensures read_faults { S.failures source.new ≡ S.failures source.old + read_faults result }
     ensures write_faults { K.failures sink.new ≡ K.failures sink.old + write_faults result }
     ensures ends_stay { S.ends source.old ≤ S.ends source.new }
@@ -160,8 +162,9 @@ pub fn scan_table<S: Source, K: Sink>(
     requires few_ends { S.ends source.old < 2 ^ 64 - 1 }
     requires few_read_faults { S.failures source.old < 2 ^ 64 - 1 }
     requires few_write_faults { K.failures sink.old < 2 ^ 64 - 1 }
-    ensures told { TableHeadline S.gave K.wrote bytes.now
-        (nat_lt (S.ends source.old) (S.ends source.new)) source.old source.new sink.old sink.new result }
+    ensures told { TableHeadline S.gave K.wrote source.old source.new sink.old sink.new
+        (nat_lt (S.ends source.old) (S.ends source.new)) (S.failures source.new - S.failures source.old)
+        bytes.now result }
     ensures read_faults { S.failures source.new ≡ S.failures source.old + read_faults result }
     ensures write_faults { K.failures sink.new ≡ K.failures sink.old + write_faults result }
     ensures ends_stay { S.ends source.old ≤ S.ends source.new }

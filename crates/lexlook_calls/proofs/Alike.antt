@@ -3,12 +3,11 @@ use Rattle.std.proofs.Common.{◌≡◌, ◌↔◌, ℕ, zero, suc, ◌+◌, Boo
 use Rattle.std.specs.Prelude.{slice_get, take}
 use Rattle.std.specs.Prelude.{MatchOption}
 use Rattle.std.specs.Prelude.{drop}
-use Rattle.lex_semantics.specs.Tree.{In}
 use Rattle.lex_semantics.specs.Spec.{Spec, Rule, Condition}
 use Rattle.lex_semantics.specs.Active.{active}
 use Rattle.lex_semantics.specs.Reports.{HasFit}
 use Rattle.lex_semantics.specs.TableFor.{Accepted}
-use Rattle.lex_semantics.specs.Positions.{Cell, Readings}
+use Rattle.lex_semantics.specs.Positions.{Cell, Readings, Matches}
 use Rattle.lex_semantics.specs.Subsets.{all_positions, positions_of_rule, AreLasts, AreStarts, IsActive, IsLast, ListsSet, ReadsActive, ReadsRule, Subsets}
 use Rattle.lexlook_words.specs.Rejecting.{rejecting, rejecting_rule}
 
@@ -34,8 +33,8 @@ fits_to S c line w i (k, f) =
         is_active = subst (λ (q : Rule). active (rejecting S) c line q ≡ true) g.2 f.is_active;
         not_empty = f.not_empty;
         inside = f.inside;
-        in_head = subst (λ (q : Rule). In q.head (take k w)) g.2 f.in_head;
-        in_trail = subst (λ (q : Rule). MatchOption q.trail (k ≡ length w) (λ t. In t (drop k w))) g.2 f.in_trail;
+        in_head = subst (λ (q : Rule). Matches q.head (take k w)) g.2 f.in_head;
+        in_trail = subst (λ (q : Rule). MatchOption q.trail (k ≡ length w) (λ t. Matches t (drop k w))) g.2 f.in_trail;
       },
     )
 

@@ -5,7 +5,9 @@ use Rattle.std.proofs.lemmas.Map.Keys.{any_passes_from_place}
 use Rattle.lex_semantics.specs.ByteSets.{is_word}
 use Rattle.lex_semantics.specs.Spec.{Spec, Statement, Echo, Print, Begin, More, Less, Reject, End, Push, Pop}
 use Rattle.lex_semantics.specs.Machine.{Machine, state_after}
-use Rattle.lexspec.specs.Files.{conditions_with, SpellsSpec}
+use Rattle.lexspec.specs.Files.{SpellsSpec}
+use Rattle.lexspec.specs.Endings.{conditions_with}
+use Rattle.lexspec.proofs.FileSections.{conditions_are}
 use Rattle.lexspec.specs.RuleItems.{EndRule}
 use Rattle.lexspec_lines.specs.Declaring as D
 use Rattle.lexspec_lines.proofs.DeclaringLaws.{distinct_test}
@@ -54,7 +56,7 @@ begins : (options : Options) (x y : List ℕ) (S T : Spec) (order : List ℕ) �
 begins options x y S T order p q named = stands_first (D.names_of (D.declared q.definitions)) (number_in order 0) (distinct_test (initial ∷ D.names_of (D.declared q.definitions)) q.names) at
   where
     names : (options' : Options) (z : List ℕ) (U : Spec) (r : SpellsSpec (reading options') z U) → names_of U.conditions ≡ initial ∷ D.names_of (D.declared r.definitions)
-    names options' z U r = ap names_of r.conditions ∙ names_with 0 (all_conditions r.definitions) r.ends
+    names options' z U r = ap names_of (r.conditions ∙ conditions_are 0 (all_conditions r.definitions) r.ends) ∙ names_with 0 (all_conditions r.definitions) r.ends
 
     some : 0 < length (names_of S.conditions)
     some = subst (λ l. 0 < length l) (sym (names options x S p)) (omega arith)

@@ -14,7 +14,6 @@ use Rattle.lexauto_minimise.specs.Least.{AcceptsAs, AreSame, OneAutomaton}
 use Rattle.lexauto.specs.declared.subsets.Limits.{Limits}
 use Rattle.lexkit.specs.LeastAutomata.{IsLeastOf}
 use Rattle.lexkit.proofs.Ordered.{one_order}
-use Rattle.lexkit.proofs.SameTables.{accepted, ordered}
 use Rattle.lexlook_pictures.specs.Pictures.{edges, head, node_line, picture, starts}
 use Rattle.lexlook_calls.specs.Looks.{OnePicture}
 
@@ -59,10 +58,10 @@ same_drawn d e names lines same =
 module _ (S : Spec) (d e : Dfa) (limits limits' : Limits) (n m : ℕ) (a : IsLeastOf limits S n d) (b : IsLeastOf limits' S m e) where
   alike : (c : ℕ) (line_start : Bool) (w : List ℕ) → c < length S.conditions → IsText w
       → accepts d.parts (after d.parts (start d.parts c line_start) w) ≡ accepts e.parts (after e.parts (start e.parts c line_start) w)
-  alike c line_start w low text = one_order _ _ (ordered d.parts S a.table c line_start w low text) (ordered e.parts S b.table c line_start w low text)
+  alike c line_start w low text = one_order _ _ (a.table.ascending c line_start w low text) (b.table.ascending c line_start w low text)
       (λ i. (
-        λ h. (accepted e.parts S b.table c line_start w i low text).1 ((accepted d.parts S a.table c line_start w i low text).0 h),
-        λ h. (accepted d.parts S a.table c line_start w i low text).1 ((accepted e.parts S b.table c line_start w i low text).0 h),
+        λ h. (b.table.accepts c line_start w i low text).1 ((a.table.accepts c line_start w i low text).0 h),
+        λ h. (a.table.accepts c line_start w i low text).1 ((b.table.accepts c line_start w i low text).0 h),
       ))
 
   accepts_alike : AcceptsAs d.parts e.parts

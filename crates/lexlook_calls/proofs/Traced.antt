@@ -21,14 +21,14 @@ use Rattle.lexlook_trace.specs.Traced.{has_room, traced}
 use Rattle.lexlook_trace.specs.TraceLaw.{TellsRuns, TellsTurns}
 
 -- a scan by it is a trace
-told : {A B : Type 0} (gave : A → List ℕ → A → Type 0) (wrote : B → List ℕ → B → Type 0) (options : Options) (text : List ℕ) (at_end : Bool) (s s' : A) (t t' : B) (S : Spec) (answer : Result ℕ ScanError) →
-    SpellsWithRoom options text S → TellsTurns S → TellsRuns S → ScansBy gave wrote options.limits (traced S) at_end s s' t t' answer → Traces gave wrote options text at_end s s' t t' answer
-told gave wrote options text at_end s s' t t' S (Ok status) spells turns runs h = record { spec = S; spells = spells; within = h.0; scans = h.1; turns = turns; runs = runs }
-told gave wrote options text at_end s s' t t' S (Err (scans.Run e)) spells turns runs h = record { spec = S; spells = spells; within = h.0; scans = h.1; turns = turns; runs = runs }
-told gave wrote options text at_end s s' t t' S (Err (scans.Generate (gens.Build e))) spells turns runs h = ((S, spells, h.0), h.1, h.2)
-told gave wrote options text at_end s s' t t' S (Err (scans.Generate gens.OutOfMemory)) spells turns runs h = (tt, h.0, h.1)
-told gave wrote options text at_end s s' t t' S (Err (scans.Generate (gens.Spec e))) spells turns runs h = absurd h
-told gave wrote options text at_end s s' t t' S (Err (scans.Table e)) spells turns runs h = absurd h
+told : {A B : Type 0} (gave : A → List ℕ → A → Type 0) (wrote : B → List ℕ → B → Type 0) (s s' : A) (t t' : B) (at_end : Bool) (faults : ℕ) (options : Options) (text : List ℕ) (S : Spec) (answer : Result ℕ ScanError) →
+    SpellsWithRoom options text S → TellsTurns S → TellsRuns S → ScansBy gave wrote s s' t t' at_end faults options.limits (traced S) answer → Traces gave wrote s s' t t' at_end faults options text answer
+told gave wrote s s' t t' at_end faults options text S (Ok status) spells turns runs h = record { spec = S; spells = spells; within = h.0; scans = h.1; turns = turns; runs = runs }
+told gave wrote s s' t t' at_end faults options text S (Err (scans.Run e)) spells turns runs h = record { spec = S; spells = spells; within = h.0; scans = h.1; turns = turns; runs = runs }
+told gave wrote s s' t t' at_end faults options text S (Err (scans.Generate (gens.Build e))) spells turns runs h = ((S, spells, h.0), h.1, h.2)
+told gave wrote s s' t t' at_end faults options text S (Err (scans.Generate gens.OutOfMemory)) spells turns runs h = (tt, h.0, h.1)
+told gave wrote s s' t t' at_end faults options text S (Err (scans.Generate (gens.Spec e))) spells turns runs h = absurd h
+told gave wrote s s' t t' at_end faults options text S (Err (scans.Table e)) spells turns runs h = absurd h
 
 -- a text spells one specification at most
 one_spec : (options : Options) (text : List ℕ) (S T : Spec) → SpellsSpec (reading options) text S → SpellsSpec (reading options) text T → S ≡ T

@@ -19,15 +19,6 @@ use Rattle.lexspec.specs.Outcome.{UnlessMemory}
 abbrev pub SpellsWithRoom : Options → List ℕ → Spec → Type 0
 SpellsWithRoom options text S = SpellsSpec (reading options) text S × (has_room S ≡ true)
 
--- The scan is that of the specification that tells, and writes the lines of the matches of the one that the text spells.
-pub record Traced {A B : Type 0} (gave : A → List ℕ → A → Type 0) (wrote : B → List ℕ → B → Type 0) (options : Options) (text : List ℕ) (at_end : Bool) (s s' : A) (t t' : B) (answer : Result ℕ RunError) : Type 0 where
-  pub spec : Spec
-  pub spells : SpellsWithRoom options text spec
-  pub within : IsWithin options.limits (traced spec)
-  pub scans : Scans gave wrote (rules_of (traced spec)) at_end s s' t t' answer
-  pub turns : TellsTurns spec
-  pub runs : TellsRuns spec
-
 -- A text is refused only where it spells no specification with room, or the automaton of the one that tells passes a limit, or memory
 -- ran out.
 abbrev pub TraceRefusal : Options → List ℕ → GenError → Type 0
@@ -35,9 +26,21 @@ TraceRefusal options text (gens.Spec e) = UnlessMemory e.kind ((S : Spec) → Sp
 TraceRefusal options text (gens.Build e) = (S : Spec) × SpellsWithRoom options text S × BuildRefusal options.limits (traced S) e
 TraceRefusal options text gens.OutOfMemory = ⊤
 
--- A text that is refused leaves both ends as they were.
-abbrev pub Traces : {A B : Type 0} → (A → List ℕ → A → Type 0) → (B → List ℕ → B → Type 0) → Options → List ℕ → Bool → A → A → B → B → Result ℕ ScanError → Type 0
-Traces gave wrote options text at_end s s' t t' (Ok status) = Traced gave wrote options text at_end s s' t t' (Ok status)
-Traces gave wrote options text at_end s s' t t' (Err (scans.Run e)) = Traced gave wrote options text at_end s s' t t' (Err e)
-Traces gave wrote options text at_end s s' t t' (Err (scans.Generate e)) = TraceRefusal options text e × (s' ≡ s) × (t' ≡ t)
-Traces gave wrote options text at_end s s' t t' (Err (scans.Table e)) = ⊥
+-- What the calls of the source from s to s' give, and what those of the sink from t to t' write; whether the source has answered its
+-- end, and how often it failed.
+module _ {A B : Type 0} (gave : A → List ℕ → A → Type 0) (wrote : B → List ℕ → B → Type 0) (s s' : A) (t t' : B) (at_end : Bool) (faults : ℕ) where
+  -- The scan is that of the specification that tells, and writes the lines of the matches of the one that the text spells.
+  pub record Traced (options : Options) (text : List ℕ) (answer : Result ℕ RunError) : Type 0 where
+    pub spec : Spec
+    pub spells : SpellsWithRoom options text spec
+    pub within : IsWithin options.limits (traced spec)
+    pub scans : Scans gave wrote s s' t t' at_end faults (rules_of (traced spec)) answer
+    pub turns : TellsTurns spec
+    pub runs : TellsRuns spec
+
+  -- A text that is refused leaves both ends as they were.
+  abbrev pub Traces : Options → List ℕ → Result ℕ ScanError → Type 0
+  Traces options text (Ok status) = Traced options text (Ok status)
+  Traces options text (Err (scans.Run e)) = Traced options text (Err e)
+  Traces options text (Err (scans.Generate e)) = TraceRefusal options text e × (s' ≡ s) × (t' ≡ t)
+  Traces options text (Err (scans.Table e)) = ⊥

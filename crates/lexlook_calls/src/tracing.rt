@@ -26,8 +26,9 @@ pub fn trace<S: Source, K: Sink>(
     requires few_ends { S.ends source.old < 2 ^ 64 - 1 }
     requires few_read_faults { S.failures source.old < 2 ^ 64 - 1 }
     requires few_write_faults { K.failures sink.old < 2 ^ 64 - 1 }
-    ensures told { Traces S.gave K.wrote options text.now
-        (nat_lt (S.ends source.old) (S.ends source.new)) source.old source.new sink.old sink.new result }
+    ensures told { Traces S.gave K.wrote source.old source.new sink.old sink.new
+        (nat_lt (S.ends source.old) (S.ends source.new)) (S.failures source.new - S.failures source.old)
+        options text.now result }
     ensures read_faults { S.failures source.new ≡ S.failures source.old + read_faults result }
     ensures write_faults { K.failures sink.new ≡ K.failures sink.old + write_faults result }
     ensures ends_stay { S.ends source.old ≤ S.ends source.new }

@@ -1,5 +1,5 @@
 -- What actions do that neither end the scan nor use the stack of conditions.
-use Rattle.std.proofs.Common.{◌≡◌, ℕ, ◌<◌, true, List, [], ◌∷◌, ◌++◌, take, ◌⊎◌, inl, inr, refl, sym, ◌∙◌}
+use Rattle.std.proofs.Common.{◌≡◌, ℕ, ◌<◌, true, List, [], ◌∷◌, ◌++◌, take, ◌⊎◌, inl, inr, refl, sym, ◌∙◌, ap}
 use Rattle.lex_semantics.specs.Text.{Among}
 use Rattle.lex_semantics.specs.Spec.{Statement, Echo, Print, Begin, More, Less, Reject, End, Push, Pop}
 use Rattle.lex_semantics.specs.Acting.{Acting}
@@ -83,3 +83,19 @@ does n (Reject ∷ ss) a h = (refl, λ none. refl, inl refl)
 does n (End status ∷ ss) a h = h.0 status (inl refl)
 does n (Push d ∷ ss) a h = absurd (h.1 d (inl refl))
 does n (Pop ∷ ss) a h = absurd (h.2 (inl refl))
+
+-- none of them ends the scan
+done_same : (a b : Acting) → Done a ≡ Done b → a ≡ b
+done_same a b e = cc
+
+pub stays_on : (ss : List Statement) (a b : Acting) → Plain ss → act_result ss a ≡ Done b → b.ended ≡ a.ended
+stays_on [] a b h e = ap (λ (z : Acting). z.ended) (sym (done_same a b e))
+stays_on (Echo ∷ ss) a b h e = stays_on ss (record a { written = a.written ++ a.text }) b (rest Echo ss h) e
+stays_on (Print s ∷ ss) a b h e = stays_on ss (record a { written = a.written ++ s }) b (rest (Print s) ss h) e
+stays_on (Begin d ∷ ss) a b h e = stays_on ss (record a { condition = d }) b (rest (Begin d) ss h) e
+stays_on (More ∷ ss) a b h e = stays_on ss (record a { more = true }) b (rest More ss h) e
+stays_on (Less k ∷ ss) a b h e = stays_on ss (record a { text = take k a.text }) b (rest (Less k) ss h) e
+stays_on (Reject ∷ ss) a b h e = absurd cc
+stays_on (End status ∷ ss) a b h e = absurd (h.0 status (inl refl))
+stays_on (Push d ∷ ss) a b h e = absurd (h.1 d (inl refl))
+stays_on (Pop ∷ ss) a b h e = absurd (h.2 (inl refl))

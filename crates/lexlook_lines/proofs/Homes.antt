@@ -100,7 +100,7 @@ module _ (M : Machine) (laws : MachineLaws M) (keeps : KeepsLines M) where
     a = begin (kept ++ take m.keep y) settled.out p.condition p.stack
 
     abbrev b : Acting
-    b = turn.outcome.after
+    b = turn.outcome
 
     abbrev ss : List Statement
     ss = statements_of R m.rule

@@ -6,7 +6,7 @@ use Rattle.std.proofs.lemmas.List.{length-append, append_assoc}
 use Rattle.lex_semantics.specs.Text.{part, byte_at, at_line_start}
 use Rattle.lex_semantics.specs.Rules.{Rules}
 use Rattle.lex_semantics.specs.Candidates.{Candidates}
-use Rattle.lex_semantics.specs.Acting.{Ending, Matched}
+use Rattle.lex_semantics.specs.Acting.{Ending, Acting}
 use Rattle.lex_semantics.specs.Acting.{perform}
 use Rattle.lex_semantics.specs.Run.{Place, State, Turn, NextFrom, Turns, next_place, next_start}
 use Rattle.lexlook_lines.proofs.Bytes.{byte_at_past}
@@ -34,12 +34,12 @@ module _ (R : Rules) (x y : List ℕ) (k : ℕ) (size : length x ≡ suc k) (new
   part_at : (i j : ℕ) → part (x ++ y) (n + i) (n + j) ≡ part y i j
   part_at i j = (let e : (n + j) - (n + i) ≡ j - i = omega arith in ap (λ z. take z (drop (n + i) (x ++ y))) e ∙ ap (take (j - i)) (drop-append-add x y i))
 
-  next_at : (p : Place) (o : Matched) → next_place (shift p) o ≡ shift (next_place p o)
-  next_at p o = (let e : (n + p.start) + length o.after.text ≡ n + (p.start + length o.after.text) = omega arith in
-      ap (λ z. record { start = next_start o.ended o.after.more (n + p.start) z; at = z; condition = o.after.condition; stack = o.after.stack }) e
-      ∙ ap (λ z. record { start = z; at = n + (p.start + length o.after.text); condition = o.after.condition; stack = o.after.stack }) (starts o.ended o.after.more))
+  next_at : (p : Place) (o : Acting) → next_place (shift p) o ≡ shift (next_place p o)
+  next_at p o = (let e : (n + p.start) + length o.text ≡ n + (p.start + length o.text) = omega arith in
+      ap (λ z. record { start = next_start o.ended o.more (n + p.start) z; at = z; condition = o.condition; stack = o.stack }) e
+      ∙ ap (λ z. record { start = z; at = n + (p.start + length o.text); condition = o.condition; stack = o.stack }) (starts o.ended o.more))
     where
-      starts : (e : Option Ending) (more : Bool) → next_start e more (n + p.start) (n + (p.start + length o.after.text)) ≡ n + next_start e more p.start (p.start + length o.after.text)
+      starts : (e : Option Ending) (more : Bool) → next_start e more (n + p.start) (n + (p.start + length o.text)) ≡ n + next_start e more p.start (p.start + length o.text)
       starts (Some d) more = refl
       starts None true = refl
       starts None false = refl
@@ -51,7 +51,7 @@ module _ (R : Rules) (x y : List ℕ) (k : ℕ) (size : length x ≡ suc k) (new
     all = subst (λ line. Candidates R p.condition line (drop (n + p.at) (x ++ y)) m.matches) (sym (line_at p.at)) (subst (λ w. Candidates R p.condition (at_line_start y p.at) w m.matches) (sym (drop-append-add x y p.at)) m.all);
     outcome = m.outcome;
     performed = ap (λ w. perform R w (drop (n + p.at) (x ++ y)) m.matches [] p.condition p.stack) (part_at p.start p.at) ∙ ap (λ w. perform R (part y p.start p.at) w m.matches [] p.condition p.stack) (drop-append-add x y p.at) ∙ m.performed;
-    leaves = ap (λ (z : State). record { written = z.written; place = shift z.place; ended = z.ended }) m.leaves ∙ ap (λ q. record { written = m.outcome.after.written; place = q; ended = m.outcome.ended }) (sym (next_at p m.outcome));
+    leaves = ap (λ (z : State). record { written = z.written; place = shift z.place; ended = z.ended }) m.leaves ∙ ap (λ q. record { written = m.outcome.written; place = q; ended = m.outcome.ended }) (sym (next_at p m.outcome));
   })
   turn_behind p t (inr m) = inr (record {
     at_end = (let e = length-append x y in let f = m.at_end in omega (arith, e, f));

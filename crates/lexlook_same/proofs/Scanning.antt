@@ -10,7 +10,7 @@ use Rattle.lex_semantics.specs.Text.{IsText, Among, AllBelow, Ascending, part, a
 use Rattle.lex_semantics.specs.Spec.{Statement, Echo, Print, Begin, More, Less, Reject, End, Push, Pop}
 use Rattle.lex_semantics.specs.Rules.{Rules, statements_of}
 use Rattle.lex_semantics.specs.Candidates.{Candidate, Before, InOrder, Candidates}
-use Rattle.lex_semantics.specs.Acting.{Ending, Status, StackFault, Acting, Matched}
+use Rattle.lex_semantics.specs.Acting.{Ending, Status, StackFault, Acting}
 use Rattle.lex_semantics.specs.ActionResults.{ActionResult, Done, Again, Over, act_result, has_room, popped, settle, perform_results}
 use Rattle.lex_semantics.specs.Run.{Place, State, Turn, MatchTurn, NextFrom, Turns, Run}
 use Rattle.lex_semantics.specs.Machine.{Machine, walk, rules_of_machine}
@@ -133,7 +133,7 @@ module _ (M : Machine) (laws : MachineLaws M) where
 -- What actions do, with the numbers that conditions have in the second machine.
 module _ (order : List ℕ) where
   abbrev image : Acting → Acting
-  image a = record { text = a.text; written = a.written; condition = number_in order a.condition; stack = map (number_in order) a.stack; more = a.more }
+  image a = record { text = a.text; written = a.written; condition = number_in order a.condition; stack = map (number_in order) a.stack; more = a.more; ended = a.ended }
 
   abbrev result_in : ActionResult → ActionResult
   result_in (Done a) = Done (image a)
@@ -166,9 +166,6 @@ module _ (order : List ℕ) where
       from rest [] = refl
       from rest (c ∷ cs) = rest (record a { condition = c; stack = cs })
 
-  abbrev matched_in : Matched → Matched
-  matched_in o = record { after = image o.after; ended = o.ended }
-
   -- matches that keep the same of their text, and whose actions are the same
   abbrev Alike : Rules → Rules → List Candidate → List Candidate → Type 0
   Alike R T [] [] = ⊤
@@ -182,13 +179,13 @@ module _ (order : List ℕ) where
   alike_joined R T (m ∷ ms) [] ps qs a b = absurd a
   alike_joined R T (m ∷ ms) (n ∷ ns) ps qs a b = (a.0, a.1, alike_joined R T ms ns ps qs a.2 b)
 
-  settled_in : (r : ActionResult) (f g : Acting → Option Matched) → ((a : Acting) → g (image a) ≡ option_map matched_in (f a)) → settle (result_in r) g ≡ option_map matched_in (settle r f)
+  settled_in : (r : ActionResult) (f g : Acting → Option Acting) → ((a : Acting) → g (image a) ≡ option_map image (f a)) → settle (result_in r) g ≡ option_map image (settle r f)
   settled_in (Done a) f g e = refl
   settled_in (Again a) f g e = e a
   settled_in (Over a d) f g e = refl
 
   perform_in : (R T : Rules) (kept y : List ℕ) (ms ns : List Candidate) → Alike R T ms ns → (out : List ℕ) (c : ℕ) (cs : List ℕ) →
-      perform_results T kept y ns out (number_in order c) (map (number_in order) cs) ≡ option_map matched_in (perform_results R kept y ms out c cs)
+      perform_results T kept y ns out (number_in order c) (map (number_in order) cs) ≡ option_map image (perform_results R kept y ms out c cs)
   unfolding perform_results
   perform_in R T kept y [] [] h out c cs = refl
   perform_in R T kept y [] (n ∷ ns) h out c cs = absurd h
@@ -198,14 +195,14 @@ module _ (order : List ℕ) where
       ∙ settled_in (act_result (statements_of R m.rule) a) (λ b. perform_results R kept y ms b.written b.condition b.stack) rest (λ b. perform_in R T kept y ms ns h.2 b.written b.condition b.stack)
     where
       a : Acting
-      a = record { text = kept ++ take m.keep y; written = out; condition = c; stack = cs; more = false }
+      a = record { text = kept ++ take m.keep y; written = out; condition = c; stack = cs; more = false; ended = None }
 
-      rest : Acting → Option Matched
+      rest : Acting → Option Acting
       rest b = perform_results T kept y ns b.written b.condition b.stack
 
-      same : act_result (statements_of T n.rule) (record { text = kept ++ take n.keep y; written = out; condition = number_in order c; stack = map (number_in order) cs; more = false }) ≡ act_result (statements_in (statements_of R m.rule)) (image a)
-      same = ap (λ ss. act_result ss (record { text = kept ++ take n.keep y; written = out; condition = number_in order c; stack = map (number_in order) cs; more = false })) (sym h.1)
-          ∙ ap (λ k. act_result (statements_in (statements_of R m.rule)) (record { text = kept ++ take k y; written = out; condition = number_in order c; stack = map (number_in order) cs; more = false })) (sym h.0)
+      same : act_result (statements_of T n.rule) (record { text = kept ++ take n.keep y; written = out; condition = number_in order c; stack = map (number_in order) cs; more = false; ended = None }) ≡ act_result (statements_in (statements_of R m.rule)) (image a)
+      same = ap (λ ss. act_result ss (record { text = kept ++ take n.keep y; written = out; condition = number_in order c; stack = map (number_in order) cs; more = false; ended = None })) (sym h.1)
+          ∙ ap (λ k. act_result (statements_in (statements_of R m.rule)) (record { text = kept ++ take k y; written = out; condition = number_in order c; stack = map (number_in order) cs; more = false; ended = None })) (sym h.0)
 
 -- conditions that there are
 record Known (n : ℕ) (c : ℕ) (cs : List ℕ) : Type 0 where
@@ -239,20 +236,20 @@ known_after n (Pop ∷ ss) a b h = from (λ m k. known_after n ss m b k) a.stack
     from rest [] k = h
     from rest (c ∷ cs) k = rest (record a { condition = c; stack = cs }) (record { condition = k.0; stack = k.1 })
 
-some_same : (a b : Matched) → Some a ≡ Some b → a ≡ b
+some_same : (a b : Acting) → Some a ≡ Some b → a ≡ b
 some_same a b e = cc
 
-known_settled : (n : ℕ) (r : ActionResult) (f : Acting → Option Matched) (o : Matched) → KnownAfter n r → ((a : Acting) → Known n a.condition a.stack → f a ≡ Some o → Known n o.after.condition o.after.stack) →
-    settle r f ≡ Some o → Known n o.after.condition o.after.stack
-known_settled n (Done a) f o h later e = subst (λ (z : Matched). Known n z.after.condition z.after.stack) (some_same (record { after = a; ended = None }) o e) h
+known_settled : (n : ℕ) (r : ActionResult) (f : Acting → Option Acting) (o : Acting) → KnownAfter n r → ((a : Acting) → Known n a.condition a.stack → f a ≡ Some o → Known n o.condition o.stack) →
+    settle r f ≡ Some o → Known n o.condition o.stack
+known_settled n (Done a) f o h later e = subst (λ (z : Acting). Known n z.condition z.stack) (some_same (record a { ended = None }) o e) h
 known_settled n (Again a) f o h later e = later a h e
-known_settled n (Over a d) f o h later e = subst (λ (z : Matched). Known n z.after.condition z.after.stack) (some_same (record { after = a; ended = Some d }) o e) h
+known_settled n (Over a d) f o h later e = subst (λ (z : Acting). Known n z.condition z.stack) (some_same (record a { ended = Some d }) o e) h
 
 module _ (M : Machine) (laws : MachineLaws M) where
   abbrev ruled : Rules
   ruled = rules_of_machine M
 
-  known_matched : (kept y : List ℕ) (ms : List Candidate) (out : List ℕ) (c : ℕ) (cs : List ℕ) (o : Matched) → Known M.conditions c cs → perform_results ruled kept y ms out c cs ≡ Some o → Known M.conditions o.after.condition o.after.stack
+  known_matched : (kept y : List ℕ) (ms : List Candidate) (out : List ℕ) (c : ℕ) (cs : List ℕ) (o : Acting) → Known M.conditions c cs → perform_results ruled kept y ms out c cs ≡ Some o → Known M.conditions o.condition o.stack
   unfolding perform_results
   known_matched kept y [] out c cs o h e = absurd cc
   known_matched kept y (m ∷ ms) out c cs o h e = known_settled M.conditions (act_result (statements_of ruled m.rule) a) (λ b. perform_results ruled kept y ms b.written b.condition b.stack) o
@@ -260,7 +257,7 @@ module _ (M : Machine) (laws : MachineLaws M) where
       (λ b k f. known_matched kept y ms b.written b.condition b.stack o k f) e
     where
       a : Acting
-      a = record { text = kept ++ take m.keep y; written = out; condition = c; stack = cs; more = false }
+      a = record { text = kept ++ take m.keep y; written = out; condition = c; stack = cs; more = false; ended = None }
 
 module _ (order : List ℕ) (M N : Machine) (laws : MachineLaws M) (other : MachineLaws N) (same : AreSame order true M N) (ends : HaveEnds order M N None) where
   abbrev R : Rules
@@ -329,9 +326,9 @@ module _ (order : List ℕ) (M N : Machine) (laws : MachineLaws M) (other : Mach
         before_end = m.before_end;
         matches = in_turn N (number_in order p.condition) line y;
         all = candidates_in_turn N other (number_in order p.condition) line y;
-        outcome = matched_in order m.outcome;
+        outcome = image order m.outcome;
         performed = results_are _ _ _ _ _ _ _ ∙ perform_in order R T (part x p.start p.at) y (in_turn M p.condition line y) (in_turn N (number_in order p.condition) line y) (alike p.condition line y k.condition (is_text_drop p.at x x_text)) [] p.condition p.stack
-            ∙ ap (option_map (matched_in order)) performed;
+            ∙ ap (option_map (image order)) performed;
         leaves = ap state_in m.leaves;
       },
       subst Stands (sym m.leaves) (known_matched M laws (part x p.start p.at) y (in_turn M p.condition line y) [] p.condition p.stack m.outcome k performed),

@@ -7,7 +7,7 @@ use Rattle.std.proofs.lemmas.Option.{slice_get_past}
 use Rattle.std.specs.Option.{option_map_or}
 use Rattle.std.specs.Prelude.{MatchOption}
 use Rattle.std.specs.Prelude.{drop}
-use Rattle.lex_semantics.specs.Acting.{Acting, Matched}
+use Rattle.lex_semantics.specs.Acting.{Acting}
 use Rattle.lex_semantics.specs.ActionResults.{ActionResult, Done, Again, Over, act_result, settle, perform_results}
 use Rattle.lex_semantics.specs.Active.{active, serves, lists}
 use Rattle.lex_semantics.specs.Candidates.{Candidate, Before, InOrder, IsCandidate, Candidates}
@@ -15,10 +15,11 @@ use Rattle.lex_semantics.specs.Fits.{Fits}
 use Rattle.lex_semantics.specs.Rules.{Rules, Full, rules_of, statements_of}
 use Rattle.lex_semantics.specs.Spec.{Spec, Rule, Condition, Echo, EndAction, statements_at, end_at}
 use Rattle.lex_semantics.specs.Text.{IsText, Among, listed}
-use Rattle.lex_semantics.specs.Tree.{In}
+use Rattle.lex_semantics.specs.Positions.{Matches}
 use Rattle.lex_semantics.proofs.Cuts.{same_rule}
 use Rattle.lex_semantics.proofs.Fronts.{among_append, among_left, among_right}
 use Rattle.lex_semantics.proofs.Table.{get_at}
+use Rattle.lex_semantics.proofs.WordReadings.{in_of_match}
 use Rattle.lex_semantics.proofs.Texts.{is_text_take}
 use Rattle.lexlook_trace.specs.Lines.{front_of, match_line, match_lines}
 use Rattle.lexlook_trace.specs.Traced.{end_line, telling, traced_rule, default_rule, traced_conditions, traced}
@@ -119,8 +120,8 @@ module _ (S : Spec) where
         is_active = sym (active_same c line r.0) ∙ subst (λ q. active (traced S) c line q ≡ true) same h.is_active;
         not_empty = h.not_empty;
         inside = h.inside;
-        in_head = subst (λ (q : Rule). In q.head (take k w)) same h.in_head;
-        in_trail = subst (λ (q : Rule). MatchOption q.trail (k ≡ length w) (λ t. In t (drop k w))) same h.in_trail;
+        in_head = subst (λ (q : Rule). Matches q.head (take k w)) same h.in_head;
+        in_trail = subst (λ (q : Rule). MatchOption q.trail (k ≡ length w) (λ t. Matches t (drop k w))) same h.in_trail;
       }
 
   -- the default rule takes one byte
@@ -134,16 +135,16 @@ module _ (S : Spec) where
     is_active = and_from (lists (listed (λ c. true) 0 (length S.conditions)) c) true (is_listed 0 (length S.conditions) c (omega arith) (omega (arith, lt))) refl;
     not_empty = omega arith;
     inside = omega arith;
-    in_head = (b, refl, (text.0, has_any b text.0));
+    in_head = ((b, 0) ∷ [], refl, (b, refl, (text.0, has_any b text.0)));
     in_trail = refl;
   }
 
   last_is_one : (c : ℕ) (line : Bool) (w : List ℕ) (i k : ℕ) → i ≡ count → Fits (traced S) c line w i k → (length w ≡ 1) × (k ≡ 1)
   last_is_one c line w i k is h =
       let same : h.rule ≡ last = same_rule (traced S) i h.rule last h.at (ap (slice_get (map traced_rule S.rules ++ last ∷ [])) is ∙ got_last S.rules last) in
-      let head : In last.head (take k w) = subst (λ (q : Rule). In q.head (take k w)) same h.in_head in
-      let whole : k ≡ length w = subst (λ (q : Rule). MatchOption q.trail (k ≡ length w) (λ t. In t (drop k w))) same h.in_trail in
-      let one : k ≡ 1 = sym (length-take-le k w h.inside) ∙ ap length head.1 in
+      let head : Matches last.head (take k w) = subst (λ (q : Rule). Matches q.head (take k w)) same h.in_head in
+      let whole : k ≡ length w = subst (λ (q : Rule). MatchOption q.trail (k ≡ length w) (λ t. Matches t (drop k w))) same h.in_trail in
+      let one : k ≡ 1 = sym (length-take-le k w h.inside) ∙ ap length (in_of_match last.head (take k w) head).1 in
       (sym whole ∙ one, one)
 
   -- the matches
@@ -237,27 +238,23 @@ module _ (S : Spec) where
           ∙ ap (λ o. telling (front_of o) (Echo ∷ [])) (sym (slice_get_past S.rules i more))
           ∙ ap (telling (front_of (slice_get S.rules i))) (sym (cond-false (nat_lt i count) (R.statements i) (Echo ∷ []) (le-ltb i count more)))
 
-  -- an outcome with other bytes written
-  abbrev pub outcome_told : List ℕ → Matched → Matched
-  outcome_told w o = record { after = anew w o.after; ended = o.ended }
-
   module _ (kept y : List ℕ) where
     -- the match that is carried out, those before it, and what the scan that tells does
-    pub record Taken (ms : List Candidate) (out told : List ℕ) (c : ℕ) (cs : List ℕ) (o : Matched) : Type 0 where
+    pub record Taken (ms : List Candidate) (out told : List ℕ) (c : ℕ) (cs : List ℕ) (o : Acting) : Type 0 where
       pub passed : List Candidate
       pub taken : Candidate
       pub left : List Candidate
       pub splits : ms ≡ passed ++ taken ∷ left
       pub rejected : perform_results R kept y passed out c cs ≡ None
       pub carried : perform_results R kept y (passed ++ taken ∷ []) out c cs ≡ Some o
-      pub performed : (more : List Candidate) → perform_results T kept y (ms ++ more) told c cs ≡ Some (outcome_told (told ++ match_lines S kept y (passed ++ taken ∷ [])) o)
+      pub performed : (more : List Candidate) → perform_results T kept y (ms ++ more) told c cs ≡ Some (anew (told ++ match_lines S kept y (passed ++ taken ∷ [])) o)
 
     nothing_taken : (out : List ℕ) (c : ℕ) (cs : List ℕ) → perform_results R kept y [] out c cs ≡ None
     unfolding perform_results
     nothing_taken out c cs = refl
 
     abbrev before : Candidate → (out : List ℕ) (c : ℕ) (cs : List ℕ) → Acting
-    before m out c cs = record { text = kept ++ take m.keep y; written = out; condition = c; stack = cs; more = false }
+    before m out c cs = record { text = kept ++ take m.keep y; written = out; condition = c; stack = cs; more = false; ended = None }
 
     abbrev line_of : Candidate → List ℕ
     line_of m = match_line (slice_get S.rules m.rule) (kept ++ take m.keep y)
@@ -276,7 +273,7 @@ module _ (S : Spec) where
         ap (λ ss. settle (act_result ss (before m told c cs)) (λ a. perform_results T kept y ms a.written a.condition a.stack)) (told_statements m.rule le)
         ∙ ap (λ r. settle r (λ a. perform_results T kept y ms a.written a.condition a.stack)) (telling_acts told (front_of (slice_get S.rules m.rule)) (statements_of R m.rule) (before m out c cs))
 
-    pub taken_of : (ms : List Candidate) (out told : List ℕ) (c : ℕ) (cs : List ℕ) (o : Matched) → ((m : Candidate) → Among ms m → m.rule ≤ count) → perform_results R kept y ms out c cs ≡ Some o → Taken ms out told c cs o
+    pub taken_of : (ms : List Candidate) (out told : List ℕ) (c : ℕ) (cs : List ℕ) (o : Acting) → ((m : Candidate) → Among ms m → m.rule ≤ count) → perform_results R kept y ms out c cs ≡ Some o → Taken ms out told c cs o
     taken_of [] out told c cs o below e = absurd (no (sym (nothing_taken out c cs) ∙ e))
       where
         no : None ≡ Some o → ⊥
@@ -289,7 +286,7 @@ module _ (S : Spec) where
         le = below m (inl refl)
 
         -- the first match is carried out
-        here : (q : Matched) → (r : ActionResult) → acted m out c cs ≡ r → ((f : Acting → Option Matched) → settle r f ≡ Some q) → ((f : Acting → Option Matched) → settle (retold (told ++ line_of m) r) f ≡ Some (outcome_told (told ++ line_of m) q)) → q ≡ o →
+        here : (q : Acting) → (r : ActionResult) → acted m out c cs ≡ r → ((f : Acting → Option Acting) → settle r f ≡ Some q) → ((f : Acting → Option Acting) → settle (retold (told ++ line_of m) r) f ≡ Some (anew (told ++ line_of m) q)) → q ≡ o →
             Taken (m ∷ ms) out told c cs o
         here q r is done done_told same = record {
           passed = [];
@@ -299,16 +296,16 @@ module _ (S : Spec) where
           rejected = nothing_taken out c cs;
           carried = one_step m [] out c cs ∙ ap (λ z. settle z (λ a. perform_results R kept y [] a.written a.condition a.stack)) is ∙ done (λ a. perform_results R kept y [] a.written a.condition a.stack) ∙ ap Some same;
           performed = λ more. (one_step_told m (ms ++ more) out told c cs le ∙ ap (λ z. settle (retold (told ++ line_of m) z) (λ a. perform_results T kept y (ms ++ more) a.written a.condition a.stack)) is
-              ∙ done_told (λ a. perform_results T kept y (ms ++ more) a.written a.condition a.stack) ∙ ap (λ z. Some (outcome_told (told ++ z) q)) (sym (append-nil (line_of m))) ∙ ap (λ z. Some (outcome_told (told ++ (line_of m ++ [])) z)) same);
+              ∙ done_told (λ a. perform_results T kept y (ms ++ more) a.written a.condition a.stack) ∙ ap (λ z. Some (anew (told ++ z) q)) (sym (append-nil (line_of m))) ∙ ap (λ z. Some (anew (told ++ (line_of m ++ [])) z)) same);
         }
 
-        same_outcome : (q : Matched) → Some q ≡ Some o → q ≡ o
+        same_outcome : (q : Acting) → Some q ≡ Some o → q ≡ o
         same_outcome q p = cc
 
         from : (r : ActionResult) → acted m out c cs ≡ r → settle r (λ a. perform_results R kept y ms a.written a.condition a.stack) ≡ Some o →
             ((w t : List ℕ) (d : ℕ) (ds : List ℕ) → perform_results R kept y ms w d ds ≡ Some o → Taken ms w t d ds o) → Taken (m ∷ ms) out told c cs o
-        from (Done a) is p later = here (record { after = a; ended = None }) (Done a) is (λ f. refl) (λ f. refl) (same_outcome _ p)
-        from (Over a d) is p later = here (record { after = a; ended = Some d }) (Over a d) is (λ f. refl) (λ f. refl) (same_outcome _ p)
+        from (Done a) is p later = here (record a { ended = None }) (Done a) is (λ f. refl) (λ f. refl) (same_outcome _ p)
+        from (Over a d) is p later = here (record a { ended = Some d }) (Over a d) is (λ f. refl) (λ f. refl) (same_outcome _ p)
         from (Again a) is p later =
             let k = later a.written (told ++ line_of m) a.condition a.stack p in
             record {
@@ -319,5 +316,5 @@ module _ (S : Spec) where
               rejected = one_step m k.passed out c cs ∙ ap (λ z. settle z (λ a. perform_results R kept y k.passed a.written a.condition a.stack)) is ∙ k.rejected;
               carried = one_step m (k.passed ++ k.taken ∷ []) out c cs ∙ ap (λ z. settle z (λ a. perform_results R kept y (k.passed ++ k.taken ∷ []) a.written a.condition a.stack)) is ∙ k.carried;
               performed = λ more. (one_step_told m (ms ++ more) out told c cs le ∙ ap (λ z. settle (retold (told ++ line_of m) z) (λ a. perform_results T kept y (ms ++ more) a.written a.condition a.stack)) is
-                  ∙ k.performed more ∙ ap (λ z. Some (outcome_told z o)) (append_assoc told (line_of m) (match_lines S kept y (k.passed ++ k.taken ∷ []))));
+                  ∙ k.performed more ∙ ap (λ z. Some (anew z o)) (append_assoc told (line_of m) (match_lines S kept y (k.passed ++ k.taken ∷ []))));
             }

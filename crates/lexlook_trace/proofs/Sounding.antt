@@ -6,6 +6,7 @@ use Rattle.std.proofs.lemmas.Bool.{and_parts, and_from, leb-true, le-leb, ltb-tr
 use Rattle.std.proofs.lemmas.List.{append_assoc, length-append, length-map}
 use Rattle.std.proofs.lemmas.List.Sums.{sum_by-cons}
 use Rattle.std.proofs.lemmas.Fmt.{length-decimal-le}
+use Rattle.lex_semantics.proofs.Legals.{ends_last_more}
 use Rattle.lex_semantics.specs.ByteSets.{has, complement, empty_set, set_of}
 use Rattle.lex_semantics.specs.Legal.{in_range, all_in_range, ends_action, ends_last, is_literal, are_joined, count_less, has_less, has_more, are_compatible}
 use Rattle.lex_semantics.specs.Limits.{max_conditions, max_literal_bytes, max_rules, max_status, max_statements}
@@ -43,11 +44,11 @@ ranges n (Pop ∷ ss) h = ranges n ss h
 -- a statement that ends no action may stand before others
 before_last : (s : Statement) (ss : List Statement) → ends_action s ≡ false → ends_last ss ≡ true → ends_last (s ∷ ss) ≡ true
 before_last s [] e h = refl
-before_last s (t ∷ ss) e h = and_from (not (ends_action s)) (ends_last (t ∷ ss)) (ap not e) h
+before_last s (t ∷ ss) e h = ends_last_more s t ss ∙ and_from (not (ends_action s)) (ends_last (t ∷ ss)) (ap not e) h
 
 rest_last : (s : Statement) (ss : List Statement) → ends_last (s ∷ ss) ≡ true → ends_last ss ≡ true
 rest_last s [] h = refl
-rest_last s (t ∷ ss) h = (and_parts (not (ends_action s)) (ends_last (t ∷ ss)) h).1
+rest_last s (t ∷ ss) h = (and_parts (not (ends_action s)) (ends_last (t ∷ ss)) (sym (ends_last_more s t ss) ∙ h)).1
 
 last : (ss : List Statement) → ends_last ss ≡ true → ends_last (kept ss) ≡ true
 last [] h = refl
@@ -59,9 +60,9 @@ last (Less k ∷ ss) h = before_last (Less k) (kept ss) refl (last ss (rest_last
 last (Push d ∷ ss) h = before_last (Push d) (kept ss) refl (last ss (rest_last (Push d) ss h))
 last (Pop ∷ ss) h = before_last Pop (kept ss) refl (last ss (rest_last Pop ss h))
 last (Reject ∷ []) h = refl
-last (Reject ∷ t ∷ ss) h = no_true h
+last (Reject ∷ t ∷ ss) h = no_true (sym (ends_last_more Reject t ss) ∙ h)
 last (End k ∷ []) h = refl
-last (End k ∷ t ∷ ss) h = no_true h
+last (End k ∷ t ∷ ss) h = no_true (sym (ends_last_more (End k) t ss) ∙ h)
 
 -- none of them is a literal
 apart : (s t : Statement) (ss : List Statement) → is_literal t ≡ false → are_joined (t ∷ ss) ≡ true → are_joined (s ∷ t ∷ ss) ≡ true
@@ -153,7 +154,7 @@ legal n front ss some h =
     (and_from (all_in_range n (telling front ss) && ends_last (telling front ss)) (are_joined (telling front ss))
     (and_from (all_in_range n (telling front ss)) (ends_last (telling front ss))
     (and_from (nat_le 1 (length front)) (all_in_range n (kept ss)) some (ranges n ss one.0))
-    (before_last (Print text_end) (kept ss) refl (last ss one.1)))
+    (before_last (Print front) (Echo ∷ Print text_end ∷ kept ss) refl (before_last Echo (Print text_end ∷ kept ss) refl (before_last (Print text_end) (kept ss) refl (last ss one.1)))))
     (joined (Print text_end) ss))
     (compatible ss three.1)
 

@@ -1,7 +1,7 @@
 -- The turns by the specification that tells.
 use Rattle.std.proofs.Common.{◌≡◌, ℕ, zero, suc, ◌≤◌, ◌<◌, Bool, List, [], ◌∷◌, ◌++◌, length, drop, inl, inr, Option, Some, None, refl, sym, ◌∙◌, ap, subst, arith, length-drop}
 use Rattle.lex_semantics.proofs.ResultsAre.{results_are}
-use Rattle.lex_semantics.specs.Acting.{Ending, Status, Matched}
+use Rattle.lex_semantics.specs.Acting.{Ending, Status, Acting}
 use Rattle.lex_semantics.specs.Candidates.{Candidates}
 use Rattle.lex_semantics.specs.Rules.{Rules, rules_of}
 use Rattle.lex_semantics.specs.Run.{Place, State, MatchTurn, EndTurn, Turn, NextFrom, Turns, Run}
@@ -16,6 +16,7 @@ use Rattle.lex_semantics.proofs.Texts.{is_text_drop}
 use Rattle.lexlook_trace.specs.Lines.{TurnLines, LinesFrom, Lines, match_lines}
 use Rattle.lexlook_trace.specs.TraceLaw.{with_lines, TellsTurns, TellsRun, TellsRuns}
 use Rattle.lexlook_trace.specs.Traced.{end_line, traced}
+use Rattle.lexlook_trace.proofs.Acts.{anew}
 use Rattle.lexlook_trace.proofs.Matching as M
 
 module _ (S : Spec) (sound : IsSound S) where
@@ -50,7 +51,7 @@ module _ (S : Spec) (sound : IsSound S) where
         let some : 1 ≤ length y = rw length-drop (omega (arith, h.before_end)) in
         let k = M.taken_of S kept y h.matches [] [] p.condition p.stack h.outcome (λ m a. M.rule_bound S p.condition line y lt.0 y_text some m ((h.all.members m).0 a)) (sym (results_are _ _ _ _ _ _ _) ∙ h.performed) in
         let lines : List ℕ = match_lines S kept y (k.passed ++ k.taken ∷ []) in
-        let told : Matched = M.outcome_told S lines h.outcome in
+        let told : Acting = anew lines h.outcome in
         record {
           lines = lines;
           are = inl (record {

@@ -1,7 +1,7 @@
 -- The lines of the matches of a scan. (flex, Options: `-d`; POSIX, Actions in lex: the longest match, then the earliest rule, REJECT goes
 -- on to the next.)
 use Rattle.std.specs.Prelude.{◌≡◌, ℕ, zero, suc, List, [], ◌∷◌, ◌++◌, ◌⊎◌, drop, take, Option, Some, None, slice_get}
-use Rattle.lex_semantics.specs.Acting.{Ending, Matched}
+use Rattle.lex_semantics.specs.Acting.{Ending, Acting}
 use Rattle.lex_semantics.specs.Candidates.{Candidate}
 use Rattle.lex_semantics.specs.Rules.{rules_of}
 use Rattle.lex_semantics.specs.Run.{Place, State, EndTurn, Turns}
@@ -26,7 +26,7 @@ match_lines S kept y (m ∷ ms) = match_line (slice_get S.rules m.rule) (kept ++
 -- the lines of a turn with a match: of each that REJECT gave up, and of the one that was carried out
 pub record MatchLines (S : Spec) (x : List ℕ) (p : Place) (lines : List ℕ) : Type 0 where
   pub taken : Candidate
-  pub outcome : Matched
+  pub outcome : Acting
   pub carries : CarriesOut (rules_of S) x p taken outcome
   pub lines_are : lines ≡ match_lines S (part x p.start p.at) (drop p.at x) (carries.passed ++ taken ∷ [])
 

@@ -1,11 +1,11 @@
 -- How many nodes a state counts, step by step.
 use Rattle.std.proofs.Common.{◌≡◌, ℕ, zero, suc, ◌+◌, ◌<◌, ◌≤◌, ◌^◌, Bool, true, false, nat_lt, List, [], ◌∷◌, ◌++◌, Option, Some, None, refl, sym, ap, ◌∙◌, arith}
 use Rattle.lex_semantics.specs.Shapes.{nodes, nodes_of}
-use Rattle.lex_semantics.specs.Tree.{Tree, Repeat, trees}
-use Rattle.lexre.specs.Counting.{series_nodes, frame_nodes, frames_nodes, state_nodes, extra, adds}
+use Rattle.lex_semantics.specs.Tree.{Tree, trees}
+use Rattle.lexre.specs.Counting.{series_nodes, frame_nodes, frames_nodes, state_nodes, extra, adds, AddsOne}
 use Rattle.lexre.specs.Outcome.{size_of}
 use Rattle.lexre.specs.Running.{series_tree, choice_tree, Signs, on_item, how_many, one_more, operand_signs, Frame, frame, State, state, pushed, onto_last, gathered, finished, step_of, Steps, Runs}
-use Rattle.lexre_bytes.specs.Symbols.{Symbol, Sign, item, name, opening, closing, bar, sign, interval, any_times, once_or_more, at_most_once, signed, Lexer}
+use Rattle.lexre_bytes.specs.Symbols.{Symbol, item, name, opening, closing, bar, sign, Lexer, IsCut}
 use Rattle.lexre.proofs.GrammarLaws.{chosen}
 use Rattle.lexre.proofs.OneTree.{some_is}
 
@@ -50,11 +50,6 @@ frame_changed [] parts t u j k h = series_changed parts t u h
 frame_changed (d ∷ []) parts t u j k h = omega (arith, series_changed parts t u h)
 frame_changed (d ∷ e ∷ ds) parts t u j k h = omega (arith, series_changed parts t u h)
 
-signed_nodes : (s : Sign) (t : Tree) → nodes (signed s t) ≡ 1 + nodes t
-signed_nodes any_times t = refl
-signed_nodes once_or_more t = refl
-signed_nodes at_most_once t = refl
-
 onto_nodes : (f : Tree → Tree) (st after : State) → ((t : Tree) → nodes (f t) ≡ 1 + nodes t) → onto_last f st ≡ Some after → state_nodes after ≡ state_nodes st + 1
 onto_nodes f (state (frame done parts None k) outer d) after h e = cc
 onto_nodes f (state (frame done parts (Some t) k) outer d) after h e =
@@ -78,32 +73,32 @@ closed_nodes : (done parts : List Tree) (t : Tree) (k : Signs) (f : Frame) (fs :
 closed_nodes done parts t k f fs = omega (arith, whole_frame done parts t k, pushed_nodes f (choice_tree done (series_tree parts t)))
 
 -- what a symbol that is no name brings
-pub step_grows : (posix : Bool) (s : Symbol) (st after : State) → step_of posix s st ≡ Some after → state_nodes st + adds s st ≤ state_nodes after
-step_grows posix (item t) (state here outer d) after e = let h = ap state_nodes (some_is _ _ e) in omega (arith, pushed_nodes here t)
-step_grows posix (name n) st after e = cc
-step_grows posix opening (state here outer zero) after e = cc
-step_grows posix opening (state here outer (suc d)) after e = let h = ap state_nodes (some_is _ _ e) in omega arith
-step_grows posix closing (state (frame done parts (Some t) k) (f ∷ fs) d) after e = let h = ap state_nodes (some_is _ _ e) in omega (arith, closed_nodes done parts t k f fs)
-step_grows posix closing (state (frame done parts (Some t) k) [] d) after e = cc
-step_grows posix closing (state (frame done parts None k) outer d) after e = cc
-step_grows posix bar (state (frame done parts None k) outer d) after e = cc
-step_grows posix bar (state (frame done parts (Some t) k) outer d) after e = let h = ap state_nodes (some_is _ _ e) in omega (arith, parted_nodes done parts t k)
-step_grows posix (sign s) st after e = omega (arith, onto_nodes (signed s) st after (signed_nodes s) e)
-step_grows posix (interval m n) st after e = omega (arith, onto_nodes (λ t. Repeat t m n) (gathered posix st) after (λ t. refl) e, gathered_nodes posix st)
+pub step_grows : (posix : Bool) (s : Symbol) → AddsOne s → (st after : State) → step_of posix s st ≡ Some after → state_nodes st + adds s st ≤ state_nodes after
+step_grows posix (item t) more (state here outer d) after e = let h = ap state_nodes (some_is _ _ e) in omega (arith, pushed_nodes here t)
+step_grows posix (name n) more st after e = cc
+step_grows posix opening more (state here outer zero) after e = cc
+step_grows posix opening more (state here outer (suc d)) after e = let h = ap state_nodes (some_is _ _ e) in omega arith
+step_grows posix closing more (state (frame done parts (Some t) k) (f ∷ fs) d) after e = let h = ap state_nodes (some_is _ _ e) in omega (arith, closed_nodes done parts t k f fs)
+step_grows posix closing more (state (frame done parts (Some t) k) [] d) after e = cc
+step_grows posix closing more (state (frame done parts None k) outer d) after e = cc
+step_grows posix bar more (state (frame done parts None k) outer d) after e = cc
+step_grows posix bar more (state (frame done parts (Some t) k) outer d) after e = let h = ap state_nodes (some_is _ _ e) in omega (arith, parted_nodes done parts t k)
+step_grows posix (sign false f) more st after e = omega (arith, onto_nodes f st after more e)
+step_grows posix (sign true f) more st after e = omega (arith, onto_nodes f (gathered posix st) after more e, gathered_nodes posix st)
 
 -- where it is few, it is just that
-pub step_nodes : (posix : Bool) (s : Symbol) (st after : State) → step_of posix s st ≡ Some after → adds s st < 2 ^ 32 → state_nodes after ≡ state_nodes st + adds s st
-step_nodes posix (item t) (state here outer d) after e few = let h = ap state_nodes (some_is _ _ e) in omega (arith, pushed_nodes here t)
-step_nodes posix (name n) st after e few = cc
-step_nodes posix opening (state here outer zero) after e few = cc
-step_nodes posix opening (state here outer (suc d)) after e few = let h = ap state_nodes (some_is _ _ e) in omega arith
-step_nodes posix closing (state (frame done parts (Some t) k) (f ∷ fs) d) after e few = let h = ap state_nodes (some_is _ _ e) in omega (arith, closed_nodes done parts t k f fs)
-step_nodes posix closing (state (frame done parts (Some t) k) [] d) after e few = cc
-step_nodes posix closing (state (frame done parts None k) outer d) after e few = cc
-step_nodes posix bar (state (frame done parts None k) outer d) after e few = cc
-step_nodes posix bar (state (frame done parts (Some t) k) outer d) after e few = let h = ap state_nodes (some_is _ _ e) in omega (arith, parted_nodes done parts t k)
-step_nodes posix (sign s) st after e few = onto_nodes (signed s) st after (signed_nodes s) e
-step_nodes posix (interval m n) st after e few = omega (arith, onto_nodes (λ t. Repeat t m n) (gathered posix st) after (λ t. refl) e, gathered_nodes posix st)
+pub step_nodes : (posix : Bool) (s : Symbol) → AddsOne s → (st after : State) → step_of posix s st ≡ Some after → adds s st < 2 ^ 32 → state_nodes after ≡ state_nodes st + adds s st
+step_nodes posix (item t) more (state here outer d) after e few = let h = ap state_nodes (some_is _ _ e) in omega (arith, pushed_nodes here t)
+step_nodes posix (name n) more st after e few = cc
+step_nodes posix opening more (state here outer zero) after e few = cc
+step_nodes posix opening more (state here outer (suc d)) after e few = let h = ap state_nodes (some_is _ _ e) in omega arith
+step_nodes posix closing more (state (frame done parts (Some t) k) (f ∷ fs) d) after e few = let h = ap state_nodes (some_is _ _ e) in omega (arith, closed_nodes done parts t k f fs)
+step_nodes posix closing more (state (frame done parts (Some t) k) [] d) after e few = cc
+step_nodes posix closing more (state (frame done parts None k) outer d) after e few = cc
+step_nodes posix bar more (state (frame done parts None k) outer d) after e few = cc
+step_nodes posix bar more (state (frame done parts (Some t) k) outer d) after e few = let h = ap state_nodes (some_is _ _ e) in omega (arith, parted_nodes done parts t k)
+step_nodes posix (sign false f) more st after e few = onto_nodes f st after more e
+step_nodes posix (sign true f) more st after e few = omega (arith, onto_nodes f (gathered posix st) after more e, gathered_nodes posix st)
 
 pub finished_nodes : (st : State) (tree : Tree) → finished st ≡ Some tree → state_nodes st ≡ nodes tree
 finished_nodes (state (frame done parts None k) outer d) tree e = cc
@@ -114,17 +109,18 @@ pub push_grows : (here : Frame) (outer : List Frame) (d : ℕ) (t : Tree) → st
 push_grows here outer d t = omega (arith, pushed_nodes here t)
 
 module _ (posix : Bool) (symbol_at : Lexer) (defined : List ℕ → Option (List ℕ)) where
-  pub steps_grow : (s : Symbol) (st after : State) → Steps posix symbol_at defined st s after → state_nodes st + size_of s ≤ state_nodes after
-  steps_grow (item t) (state here outer d) after e = let h = ap state_nodes (some_is _ _ e) in omega (arith, pushed_nodes here t)
-  steps_grow (name n) (state here outer zero) after e = absurd e
-  steps_grow (name n) (state here outer (suc d)) after (t, stands, e) = let h = ap state_nodes e in omega (arith, pushed_nodes here t)
-  steps_grow opening st after e = omega (arith, step_grows posix opening st after e)
-  steps_grow closing st after e = omega (arith, step_grows posix closing st after e)
-  steps_grow bar st after e = omega (arith, step_grows posix bar st after e)
-  steps_grow (sign s) st after e = omega (arith, step_grows posix (sign s) st after e)
-  steps_grow (interval m n) st after e = omega (arith, step_grows posix (interval m n) st after e)
+  pub steps_grow : (s : Symbol) → AddsOne s → (st after : State) → Steps posix symbol_at defined st s after → state_nodes st + size_of s ≤ state_nodes after
+  steps_grow (item t) more (state here outer d) after e = let h = ap state_nodes (some_is _ _ e) in omega (arith, pushed_nodes here t)
+  steps_grow (name n) more (state here outer zero) after e = absurd e
+  steps_grow (name n) more (state here outer (suc d)) after (t, stands, e) = let h = ap state_nodes e in omega (arith, pushed_nodes here t)
+  steps_grow opening more st after e = omega (arith, step_grows posix opening more st after e)
+  steps_grow closing more st after e = omega (arith, step_grows posix closing more st after e)
+  steps_grow bar more st after e = omega (arith, step_grows posix bar more st after e)
+  steps_grow (sign braces f) more st after e = omega (arith, step_grows posix (sign braces f) more st after e)
 
-  -- a tree has at least as many nodes as the state that it comes from counts
-  pub runs_grow : (ss : List Symbol) (st : State) (tree : Tree) → Runs posix symbol_at defined st ss tree → state_nodes st ≤ nodes tree
-  runs_grow [] st tree e = omega (arith, finished_nodes st tree e)
-  runs_grow (s ∷ ss) st tree (after, step, run) = omega (arith, steps_grow s st after step, runs_grow ss after tree run)
+  module _ (signs : (text rest : List ℕ) (s : Symbol) → symbol_at text ≡ Some (s, rest) → AddsOne s) where
+    -- a tree has at least as many nodes as the state that it comes from counts
+    pub runs_grow : (ss : List Symbol) (text : List ℕ) (st : State) (tree : Tree) → IsCut symbol_at text ss → Runs posix symbol_at defined st ss tree → state_nodes st ≤ nodes tree
+    runs_grow [] text st tree cut e = omega (arith, finished_nodes st tree e)
+    runs_grow (s ∷ ss) text st tree (rest, here, cut) (after, step, run) =
+        omega (arith, steps_grow s (signs text rest s here) st after step, runs_grow ss rest after tree cut run)

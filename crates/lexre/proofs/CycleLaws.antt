@@ -3,15 +3,15 @@ use Rattle.std.proofs.Common.{◌≡◌, ℕ, zero, suc, ◌<◌, ◌≤◌, Boo
 use Rattle.std.proofs.lemmas.Bool.{and_parts, or_cases, eqb-true}
 use Rattle.std.specs.FinMap.{get}
 use Rattle.lexre_bytes.specs.Lexical.{symbol_at}
-use Rattle.lexre_bytes.specs.Symbols.{Symbol, Sign, item, name, opening, closing, bar, sign, interval, Lexer, IsCut}
+use Rattle.lexre_bytes.specs.Symbols.{Symbol, item, name, opening, closing, bar, sign, grouped, Lexer, IsCut}
 use Rattle.lex_semantics.specs.ByteSets.{is_word}
 use Rattle.lex_semantics.specs.Text.{Among}
-use Rattle.lex_semantics.specs.Tree.{Tree}
+use Rattle.lex_semantics.specs.Tree.{Tree, Alt}
 use Rattle.lexre.specs.Cycles.{LeadsTo, LeadsToText, AllLead, AllLeadToText, AllLeadToSymbol}
 use Rattle.lexre.specs.Definitions.{Definitions}
-use Rattle.lexre.specs.Grammar.{IsItem, IsSeries, IsPattern, alone, group, defines, first, next, repeated, counted, repeated_whole, counted_whole, only, choice, SpellsWithin}
+use Rattle.lexre.specs.Grammar.{IsItem, IsSeries, IsPattern, alone, group, defines, first, next, repeated, repeated_whole, only, choice, SpellsWithin}
 use Rattle.lexre.specs.Reading.{SpellsIn, StandsIn, NoneWithin, is_among}
-use Rattle.lexre.specs.Running.{choice_tree, Stands}
+use Rattle.lexre.specs.Running.{Stands}
 use Rattle.lexre.specs.declared.options.ReadOptions.{ReadOptions}
 use Rattle.lex_semantics.proofs.Fronts.{among_append}
 use Rattle.lexre.proofs.OneTree.{pair_is}
@@ -34,11 +34,8 @@ no_closing n e = cc
 no_bar : (n : List ℕ) → name n ≡ bar → ⊥
 no_bar n e = cc
 
-no_sign : (n : List ℕ) (s : Sign) → name n ≡ sign s → ⊥
-no_sign n s e = cc
-
-no_interval : (n : List ℕ) (k : ℕ) (m : Option ℕ) → name n ≡ interval k m → ⊥
-no_interval n k m e = cc
+no_sign : (n : List ℕ) (braces : Bool) (f : Tree → Tree) → name n ≡ sign braces f → ⊥
+no_sign n braces f e = cc
 
 module _ (posix : Bool) (symbol_at : Lexer) (defined : List ℕ → Option (List ℕ)) where
   -- the name stands for a tree where fewer may be opened
@@ -60,34 +57,32 @@ module _ (posix : Bool) (symbol_at : Lexer) (defined : List ℕ → Option (List
     item_named : (d : ℕ) (ss : List Symbol) (t : Tree) → IsItem posix symbol_at defined d ss t → (n : List ℕ) → Among ss (name n) → Below d n
     item_named _ _ _ (alone d t) n (inl here) = absurd (no_item n t here)
     item_named _ _ _ (alone d t) n (inr more) = absurd more
-    item_named _ _ _ (group d ss ts t inside) n (inl here) = absurd (no_opening n here)
-    item_named _ _ _ (group d ss ts t inside) n (inr more) = deeper d n (pattern_named d ss ts t inside n (in_front ss closing n (no_closing n) more))
-    item_named _ _ _ (defines d m text ss ts t found cut inside) n (inl here) =
+    item_named _ _ _ (group d ss ts inside) n (inl here) = absurd (no_opening n here)
+    item_named _ _ _ (group d ss ts inside) n (inr more) = deeper d n (pattern_named d ss ts inside n (in_front ss closing n (no_closing n) more))
+    item_named _ _ _ (defines d m text ss ts found cut inside) n (inl here) =
         let same : m ≡ n = sym (name_is n m here) in
-        let P : List ℕ → Type 0 = λ x. Stands posix symbol_at defined d x (choice_tree ts t) in
-        (d, choice_tree ts t, omega arith, subst P same (text, found, (ss, ts, t, cut, inside, refl)))
-    item_named _ _ _ (defines d m text ss ts t found cut inside) n (inr more) = absurd more
+        let P : List ℕ → Type 0 = λ x. Stands posix symbol_at defined d x (grouped Alt ts) in
+        (d, grouped Alt ts, omega arith, subst P same (text, found, (ss, ts, cut, inside, refl)))
+    item_named _ _ _ (defines d m text ss ts found cut inside) n (inr more) = absurd more
 
-    series_named : (d : ℕ) (ss : List Symbol) (parts : List Tree) (last : Tree) (c : ℕ) (k : Option ℕ) → IsSeries posix symbol_at defined d ss parts last c k
+    series_named : (d : ℕ) (ss : List Symbol) (ts : List Tree) (c : ℕ) (k : Option ℕ) → IsSeries posix symbol_at defined d ss ts c k
         → (n : List ℕ) → Among ss (name n) → Below d n
-    series_named _ _ _ _ _ _ (first d ss t it) n among = item_named d ss t it n among
-    series_named _ _ _ _ _ _ (next d ss parts last c k more t before it) n among = elim (among_append ss more (name n) among) [
-      | inl left ↦ series_named d ss parts last c k before n left
+    series_named _ _ _ _ _ (first d ss t it) n among = item_named d ss t it n among
+    series_named _ _ _ _ _ (next d ss ts c k more t before it) n among = elim (among_append ss more (name n) among) [
+      | inl left ↦ series_named d ss ts c k before n left
       | inr right ↦ item_named d more t it n right
     ]
-    series_named _ _ _ _ _ _ (repeated d ss parts last c k s before below) n among = series_named d ss parts last c (Some k) before n (in_front ss (sign s) n (no_sign n s) among)
-    series_named _ _ _ _ _ _ (counted d ss parts last c k least most bare before below) n among =
-        series_named d ss parts last c (Some k) before n (in_front ss (interval least most) n (no_interval n least most) among)
-    series_named _ _ _ _ _ _ (repeated_whole d ss parts last c s before below) n among = series_named d ss parts last c None before n (in_front ss (sign s) n (no_sign n s) among)
-    series_named _ _ _ _ _ _ (counted_whole d ss parts last c k least most over before below) n among =
-        series_named d ss parts last c k before n (in_front ss (interval least most) n (no_interval n least most) among)
+    series_named _ _ _ _ _ (repeated d ss ts t c k braces f bare before below) n among =
+        series_named d ss (ts ++ t ∷ []) c (Some k) before n (in_front ss (sign braces f) n (no_sign n braces f) among)
+    series_named _ _ _ _ _ (repeated_whole d ss ts c k braces f over which before below) n among =
+        series_named d ss ts c k before n (in_front ss (sign braces f) n (no_sign n braces f) among)
 
-    pattern_named : (d : ℕ) (ss : List Symbol) (ts : List Tree) (t : Tree) → IsPattern posix symbol_at defined d ss ts t → (n : List ℕ) → Among ss (name n) → Below d n
-    pattern_named _ _ _ _ (only d ss parts last c k series) n among = series_named d ss parts last c k series n among
-    pattern_named _ _ _ _ (choice d ss ts t more parts last c k before series) n among = elim (among_append ss (bar ∷ more) (name n) among) [
-      | inl left ↦ pattern_named d ss ts t before n left
+    pattern_named : (d : ℕ) (ss : List Symbol) (ts : List Tree) → IsPattern posix symbol_at defined d ss ts → (n : List ℕ) → Among ss (name n) → Below d n
+    pattern_named _ _ _ (only d ss parts c k series) n among = series_named d ss parts c k series n among
+    pattern_named _ _ _ (choice d ss ts more parts c k before series) n among = elim (among_append ss (bar ∷ more) (name n) among) [
+      | inl left ↦ pattern_named d ss ts before n left
       | inr (inl here) ↦ absurd (no_bar n here)
-      | inr (inr right) ↦ series_named d more parts last c k series n right
+      | inr (inr right) ↦ series_named d more parts c k series n right
     ]
 
   -- each cut of the text ends with a cut of the rest
@@ -123,8 +118,8 @@ module _ (posix : Bool) (symbol_at : Lexer) (defined : List ℕ → Option (List
     -- a name in the text of a tree stands for a tree
     text_named : (d : ℕ) (text rest after : List ℕ) (n : List ℕ) (t : Tree) → EndsWith text rest → symbol_at rest ≡ Some (name n, after)
         → SpellsWithin posix symbol_at defined d text t → Below d n
-    text_named d text rest after n t ends here (ss, ts, last, cut, is, same) =
-        pattern_named d ss ts last is n (front_among text rest after (name n) ss ends here cut)
+    text_named d text rest after n t ends here (ss, ts, cut, is, same) =
+        pattern_named d ss ts is n (front_among text rest after (name n) ss ends here cut)
 
 -- Names that lead to others.
 
@@ -142,8 +137,7 @@ all_lead_front how definitions ns text rest after (name n) lead ends here = λ m
 all_lead_front how definitions ns text rest after opening lead ends here = tt
 all_lead_front how definitions ns text rest after closing lead ends here = tt
 all_lead_front how definitions ns text rest after bar lead ends here = tt
-all_lead_front how definitions ns text rest after (sign s) lead ends here = tt
-all_lead_front how definitions ns text rest after (interval k m) lead ends here = tt
+all_lead_front how definitions ns text rest after (sign braces f) lead ends here = tt
 
 -- a name leads to its own text
 own_text : (how : ReadOptions) (definitions : Definitions) (n text : List ℕ) → get definitions n ≡ Some text → LeadsToText how definitions n text

@@ -5,15 +5,15 @@ use Rattle.std.specs.List.{list_any}
 use Rattle.std.specs.Option.{option_or}
 use Rattle.lex_semantics.specs.Active.{lists}
 use Rattle.lex_semantics.specs.ByteSets.{single, complement, is_alnum, is_digit}
-use Rattle.lex_semantics.specs.Tree.{Set}
+use Rattle.lex_semantics.specs.Tree.{Set, Star, Repeat}
 use Rattle.lex_semantics.specs.Reading.{◌>>=◌, begins, is_empty, starts_name, take_up_to, value}
-use Rattle.lexre_bytes.specs.Lexical.{after_word, braces_at, class_at, class_set, elements_at, element_at, escape_at, folded, symbol_at, quoted_bytes, literal_byte_at}
-use Rattle.lexre_bytes.specs.BraceSteps.{bounded, interval_at, braces_from}
+use Rattle.lexre_bytes.specs.Lexical.{after_word, braces_at, class_at, class_set, elements_at, element_at, escape_at, folded, symbol_at, quoted_bytes}
+use Rattle.lexre_bytes.specs.BraceSteps.{bounded, interval, interval_at, braces_from}
 use Rattle.lexre_bytes.proofs.BraceForms.{braces_is}
 use Rattle.lexre_bytes.specs.Elements.{Element}
 use Rattle.lexre.specs.Fronts.{class_front, escape_front, quoted_front, name_front}
 use Rattle.lexre_bytes.specs.Quotes.{after_quotes}
-use Rattle.lexre_bytes.specs.Symbols.{Symbol, item, name, opening, closing, bar, sign, interval, any_times, once_or_more, at_most_once}
+use Rattle.lexre_bytes.specs.Symbols.{Symbol, item, name, opening, closing, bar, sign}
 use Rattle.lexre_bytes.proofs.PassingLaws.{quotes_shorter}
 use Rattle.lexre_bytes.proofs.QuoteLaws.{take_up_to_within, escape_shorter}
 use Rattle.lexre_bytes.proofs.ShorterLaws.{element_takes}
@@ -159,12 +159,12 @@ braces_within t = rw (braces_is t) (go (list_any is_digit (take 1 t)) (list_any 
 -- Symbols.
 
 symbol_within : (fold : Bool) (c : ℕ) (t : List ℕ) → IsUpTo (length t) (symbol_at fold (c ∷ t))
-unfolding symbol_at literal_byte_at
+unfolding symbol_at
 symbol_within fold c t =
     go (find (λ (row : ℕ × Symbol). c == row.0) signs) (lists (codes "\"") c) (lists (codes "[") c) (lists (codes "{") c) (lists (codes "/ \t") c)
   where
     signs : List (ℕ × Symbol)
-    signs = zip (codes "()|*+?.") (opening ∷ closing ∷ bar ∷ sign any_times ∷ sign once_or_more ∷ sign at_most_once ∷ item (Set (complement (single 10))) ∷ [])
+    signs = zip (codes "()|*+?.") (opening ∷ closing ∷ bar ∷ sign false Star ∷ sign false (λ t. Repeat t 1 None) ∷ sign false (λ t. Repeat t 0 (Some 1)) ∷ item (Set (complement (single 10))) ∷ [])
 
     byte : (p q : Bool) → IsUpTo {A = Symbol} (length t) ((if p then None else if q then escape_at t else Some (c, t)) >>= λ (b, rest). Some (item (Set (folded fold (single b))), rest))
     byte true q = tt

@@ -3,7 +3,7 @@ use Rattle.std.proofs.lemmas.Bool.{cases_lt}
 use Rattle.std.proofs.Common.{⊎_elim, ◌≡◌, ℕ, zero, suc, ◌+◌, ◌*◌, ◌^◌, ◌<◌, ◌≤◌, min, max, length, List, [], ◌∷◌, ◌++◌, Option, Some, None, Result, option_map, unwrap_or, IfSome, ◌⊎◌, inl, inr, refl, sym, ap, ◌∙◌, subst, arith, length-append}
 use Rattle.std.specs.Prelude.{IsSomeAnd}
 use Rattle.std.specs.Result.{OkIff, result_ok}
-use Rattle.lex_semantics.specs.Tree.{Tree, Trees, Empty, Set, Cat, Alt, Star, Repeat, no_trees, tree, Passes, UpTo, In, InEach, InSome}
+use Rattle.lex_semantics.specs.Tree.{Tree, Trees, Empty, Set, Cat, Alt, Star, Repeat, no_trees, tree, Passes, In, InEach, InSome}
 use Rattle.lex_semantics.specs.Shapes.{Language, LongestIs, HasLengths, IsSoundTree, AreSoundTrees, HasPart}
 use Rattle.lexre_bytes.proofs.Narrowing.{fits, too_large}
 use Rattle.lexre.specs.Lengths.{plus, larger, lesser, unbounded, repeated, least, least_of_each, least_of_some, greatest, greatest_of_each, greatest_of_some, capped, PassesLimit}
@@ -108,12 +108,12 @@ same_joined L w i j (suc k) =
 
 -- from least to most words
 abbrev Several : Language → ℕ → Option ℕ → Language
-Several L least most w = (k : ℕ) × (least ≤ k) × UpTo most k × Passes (λ i. L) 0 k w
+Several L least most w = (k : ℕ) × (least ≤ k) × IfSome most (λ n. k ≤ n) × Passes (λ i. L) 0 k w
 
-several_of : (L : Language) (least : ℕ) (most : Option ℕ) (w : List ℕ) → L w → (k : ℕ) → least ≤ k → UpTo most k → (v : List ℕ) × Several L least most v × (length v ≡ k * length w)
+several_of : (L : Language) (least : ℕ) (most : Option ℕ) (w : List ℕ) → L w → (k : ℕ) → least ≤ k → IfSome most (λ n. k ≤ n) → (v : List ℕ) × Several L least most v × (length v ≡ k * length w)
 several_of L least most w i k low high = (let (v, joined, e) = same_joined L w i 0 k in (v, (k, low, high, joined), e))
 
-fits_below : (least : ℕ) (most : Option ℕ) → IfSome most (λ n. (least ≤ n) × (1 ≤ n)) → UpTo most least
+fits_below : (least : ℕ) (most : Option ℕ) → IfSome most (λ n. (least ≤ n) × (1 ≤ n)) → IfSome most (λ n. least ≤ n)
 fits_below least None h = tt
 fits_below least (Some n) h = h.0
 

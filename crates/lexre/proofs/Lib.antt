@@ -19,3 +19,4 @@ pub mod QuotedLaws
 pub mod ReaderLaws
 pub mod ReadingLaws
 pub mod SoundLaws
+pub mod SymbolLaws

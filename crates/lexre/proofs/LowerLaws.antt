@@ -1,11 +1,11 @@
 -- Where more may be opened, and where fewer.
-use Rattle.std.proofs.Common.{◌≡◌, ℕ, zero, suc, ◌-◌, ◌≤◌, Bool, true, false, nat_lt, if◌then◌else◌, List, [], ◌∷◌, Option, Some, None, ap, ◌∙◌, refl, subst, arith}
+use Rattle.std.proofs.Common.{◌++◌, ◌≡◌, ℕ, zero, suc, ◌-◌, ◌≤◌, Bool, true, false, nat_lt, if◌then◌else◌, List, [], ◌∷◌, Option, Some, None, ap, ◌∙◌, refl, subst, arith}
 use Rattle.std.specs.FinMap.{get}
-use Rattle.lex_semantics.specs.Tree.{Tree, Repeat}
+use Rattle.lex_semantics.specs.Tree.{Tree}
 use Rattle.lexre_bytes.specs.Lexical.{symbol_at}
-use Rattle.lexre_bytes.specs.Symbols.{Symbol, item, name, opening, closing, bar, sign, interval, signed, Lexer}
+use Rattle.lexre_bytes.specs.Symbols.{Symbol, item, name, opening, closing, bar, sign, Lexer}
 use Rattle.lexre.specs.Definitions.{Definitions}
-use Rattle.lexre.specs.Grammar.{IsItem, IsSeries, IsPattern, alone, group, defines, first, next, repeated, counted, repeated_whole, counted_whole, only, choice, SpellsWithin}
+use Rattle.lexre.specs.Grammar.{IsItem, IsSeries, IsPattern, alone, group, defines, first, next, repeated, repeated_whole, only, choice, SpellsWithin}
 use Rattle.lexre.specs.Reading.{SpellsIn, StandsIn, StepsIn, lowered}
 use Rattle.lexre.specs.Running.{series_tree, choice_tree, how_many, one_more, frame, fresh, State, state, push, pushed, onto_last, gathered, opened, finished, step_of}
 use Rattle.lexre.specs.declared.options.ReadOptions.{ReadOptions}
@@ -17,30 +17,27 @@ module _ (posix : Bool) (symbol_at : Lexer) (defined : List ℕ → Option (List
   mutual
     item_rises : (d e : ℕ) (ss : List Symbol) (t : Tree) → IsItem posix symbol_at defined d ss t → d ≤ e → IsItem posix symbol_at defined e ss t
     item_rises _ e _ _ (alone d t) h = alone e t
-    item_rises _ zero _ _ (group d ss ts t inside) h = absurd (omega arith)
-    item_rises _ (suc e) _ _ (group d ss ts t inside) h = group e ss ts t (pattern_rises d e ss ts t inside (omega arith))
-    item_rises _ zero _ _ (defines d n text ss ts t found cut inside) h = absurd (omega arith)
-    item_rises _ (suc e) _ _ (defines d n text ss ts t found cut inside) h = defines e n text ss ts t found cut (pattern_rises d e ss ts t inside (omega arith))
+    item_rises _ zero _ _ (group d ss ts inside) h = absurd (omega arith)
+    item_rises _ (suc e) _ _ (group d ss ts inside) h = group e ss ts (pattern_rises d e ss ts inside (omega arith))
+    item_rises _ zero _ _ (defines d n text ss ts found cut inside) h = absurd (omega arith)
+    item_rises _ (suc e) _ _ (defines d n text ss ts found cut inside) h = defines e n text ss ts found cut (pattern_rises d e ss ts inside (omega arith))
 
-    series_rises : (d e : ℕ) (ss : List Symbol) (parts : List Tree) (last : Tree) (n : ℕ) (k : Option ℕ) → IsSeries posix symbol_at defined d ss parts last n k → d ≤ e
-        → IsSeries posix symbol_at defined e ss parts last n k
-    series_rises _ e _ _ _ _ _ (first d ss t it) h = first e ss t (item_rises d e ss t it h)
-    series_rises _ e _ _ _ _ _ (next d ss parts last n k more t before it) h =
-        next e ss parts last n k more t (series_rises d e ss parts last n k before h) (item_rises d e more t it h)
-    series_rises _ e _ _ _ _ _ (repeated d ss parts last n k s before below) h = repeated e ss parts last n k s (series_rises d e ss parts last n (Some k) before h) below
-    series_rises _ e _ _ _ _ _ (counted d ss parts last n k least most bare before below) h =
-        counted e ss parts last n k least most bare (series_rises d e ss parts last n (Some k) before h) below
-    series_rises _ e _ _ _ _ _ (repeated_whole d ss parts last n s before below) h = repeated_whole e ss parts last n s (series_rises d e ss parts last n None before h) below
-    series_rises _ e _ _ _ _ _ (counted_whole d ss parts last n k least most over before below) h =
-        counted_whole e ss parts last n k least most over (series_rises d e ss parts last n k before h) below
+    series_rises : (d e : ℕ) (ss : List Symbol) (ts : List Tree) (n : ℕ) (k : Option ℕ) → IsSeries posix symbol_at defined d ss ts n k → d ≤ e
+        → IsSeries posix symbol_at defined e ss ts n k
+    series_rises _ e _ _ _ _ (first d ss t it) h = first e ss t (item_rises d e ss t it h)
+    series_rises _ e _ _ _ _ (next d ss ts n k more t before it) h = next e ss ts n k more t (series_rises d e ss ts n k before h) (item_rises d e more t it h)
+    series_rises _ e _ _ _ _ (repeated d ss ts t n k braces f bare before below) h =
+        repeated e ss ts t n k braces f bare (series_rises d e ss (ts ++ t ∷ []) n (Some k) before h) below
+    series_rises _ e _ _ _ _ (repeated_whole d ss ts n k braces f over which before below) h =
+        repeated_whole e ss ts n k braces f over which (series_rises d e ss ts n k before h) below
 
-    pattern_rises : (d e : ℕ) (ss : List Symbol) (ts : List Tree) (t : Tree) → IsPattern posix symbol_at defined d ss ts t → d ≤ e → IsPattern posix symbol_at defined e ss ts t
-    pattern_rises _ e _ _ _ (only d ss parts last n k series) h = only e ss parts last n k (series_rises d e ss parts last n k series h)
-    pattern_rises _ e _ _ _ (choice d ss ts t more parts last n k before series) h =
-        choice e ss ts t more parts last n k (pattern_rises d e ss ts t before h) (series_rises d e more parts last n k series h)
+    pattern_rises : (d e : ℕ) (ss : List Symbol) (ts : List Tree) → IsPattern posix symbol_at defined d ss ts → d ≤ e → IsPattern posix symbol_at defined e ss ts
+    pattern_rises _ e _ _ (only d ss parts n k series) h = only e ss parts n k (series_rises d e ss parts n k series h)
+    pattern_rises _ e _ _ (choice d ss ts more parts n k before series) h =
+        choice e ss ts more parts n k (pattern_rises d e ss ts before h) (series_rises d e more parts n k series h)
 
   pub spelled_rises : (d e : ℕ) (text : List ℕ) (t : Tree) → SpellsWithin posix symbol_at defined d text t → d ≤ e → SpellsWithin posix symbol_at defined e text t
-  spelled_rises d e text t (ss, ts, last, cut, is, same) h = (ss, ts, last, cut, pattern_rises d e ss ts last is h, same)
+  spelled_rises d e text t (ss, ts, cut, is, same) h = (ss, ts, cut, pattern_rises d e ss ts is h, same)
 
 pub stands_rises : (how : ReadOptions) (definitions : Definitions) (d e : ℕ) (n : List ℕ) (t : Tree) → StandsIn how definitions d n t → d ≤ e → StandsIn how definitions e n t
 stands_rises how definitions zero e n t stands h = absurd stands
@@ -97,9 +94,8 @@ step_lower posix e closing (state (frame done parts (Some t) k) [] d) after h h'
 step_lower posix e closing (state (frame done parts None k) outer d) after h h' is = cc
 step_lower posix e bar (state (frame done parts None k) outer d) after h h' is = cc
 step_lower posix e bar (state (frame done parts (Some t) k) outer d) after h h' is = ap (λ x. Some (lowered e x)) (some_is _ _ is)
-step_lower posix e (sign s) st after h h' is = onto_lower e (signed s) st after is
-step_lower posix e (interval m n) st after h h' is =
-    ap (onto_last (λ t. Repeat t m n)) (gathered_lower e posix st) ∙ onto_lower e (λ t. Repeat t m n) (gathered posix st) after is
+step_lower posix e (sign false f) st after h h' is = onto_lower e f st after is
+step_lower posix e (sign true f) st after h h' is = ap (onto_last f) (gathered_lower e posix st) ∙ onto_lower e f (gathered posix st) after is
 
 pub name_lower : (how : ReadOptions) (definitions : Definitions) (e spare : ℕ) (st after : State) (n : List ℕ) (t : Tree) → e ≤ spare
     → StandsIn how definitions (left_of st - spare) n t → Some (push t st) ≡ Some after → StepsIn how definitions (lowered e st) (name n) (lowered e after)

@@ -1,7 +1,7 @@
 -- A text spells at most one tree.
-use Rattle.std.proofs.Common.{◌≡◌, ℕ, zero, suc, ◌+◌, ◌<◌, ◌≤◌, length, Bool, nat_lt, List, [], ◌∷◌, Option, Some, None, refl, sym, ap, ◌∙◌, subst, arith}
-use Rattle.lex_semantics.specs.Tree.{Tree, Repeat}
-use Rattle.lexre_bytes.specs.Symbols.{Symbol, item, name, opening, closing, bar, sign, interval, signed, Lexer, IsCut}
+use Rattle.std.proofs.Common.{◌≡◌, ℕ, zero, suc, ◌+◌, ◌<◌, ◌≤◌, length, Bool, true, false, nat_lt, List, [], ◌∷◌, Option, Some, None, refl, sym, ap, ◌∙◌, subst, arith}
+use Rattle.lex_semantics.specs.Tree.{Tree}
+use Rattle.lexre_bytes.specs.Symbols.{Symbol, item, name, opening, closing, bar, sign, Lexer, IsCut}
 use Rattle.lexre.specs.Grammar.{SpellsWithin}
 use Rattle.lexre.specs.Running.{how_many, one_more, frame, fresh, State, state, pushed, onto_last, gathered, Stands, Steps, Runs}
 use Rattle.lexre.proofs.GrammarLaws.{spelled_runs, chosen}
@@ -57,8 +57,7 @@ module _ (posix : Bool) (symbol_at : Lexer) (defined : List ℕ → Option (List
   same_step m unique opening st a b h e f = some_is _ _ (sym e ∙ f)
   same_step m unique closing st a b h e f = some_is _ _ (sym e ∙ f)
   same_step m unique bar st a b h e f = some_is _ _ (sym e ∙ f)
-  same_step m unique (sign s) st a b h e f = some_is _ _ (sym e ∙ f)
-  same_step m unique (interval k n) st a b h e f = some_is _ _ (sym e ∙ f)
+  same_step m unique (sign braces g) st a b h e f = some_is _ _ (sym e ∙ f)
 
   pub step_limit : (s : Symbol) (st a : State) → Steps posix symbol_at defined st s a → limit a ≡ limit st
   step_limit (item t) (state here outer d) a e = ap limit (sym (some_is _ _ e))
@@ -71,8 +70,8 @@ module _ (posix : Bool) (symbol_at : Lexer) (defined : List ℕ → Option (List
   step_limit closing (state (frame done parts None k) outer d) a e = cc
   step_limit bar (state (frame done parts None k) outer d) a e = cc
   step_limit bar (state (frame done parts (Some t) k) outer d) a e = ap limit (sym (some_is _ _ e))
-  step_limit (sign s) st a e = onto_limit (signed s) st a e
-  step_limit (interval k n) st a e = onto_limit (λ t. Repeat t k n) (gathered posix st) a e ∙ gathered_limit posix st
+  step_limit (sign false f) st a e = onto_limit f st a e
+  step_limit (sign true f) st a e = onto_limit f (gathered posix st) a e ∙ gathered_limit posix st
 
   same_run : (m : ℕ) → ((d : ℕ) → d < m → IsUnique d) → (ss : List Symbol) (st : State) (t t' : Tree) → limit st ≤ m
       → Runs posix symbol_at defined st ss t → Runs posix symbol_at defined st ss t' → t ≡ t'

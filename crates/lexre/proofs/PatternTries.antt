@@ -2,7 +2,7 @@
 use Rattle.std.proofs.Common.{◌≡◌, ℕ, zero, suc, Bool, true, false, cond, List, [], ◌∷◌, Option, Some, None, refl, sym, ap, ◌∙◌, subst}
 use Rattle.lex_semantics.specs.Tree.{Tree}
 use Rattle.lexre_bytes.specs.Lexical.{symbol_at}
-use Rattle.lexre_bytes.specs.Symbols.{Symbol, item, name, opening, closing, bar, sign, interval, IsCut}
+use Rattle.lexre_bytes.specs.Symbols.{Symbol, item, name, opening, closing, bar, sign, IsCut}
 use Rattle.lexre.specs.Running.{State, finished, step_of, Steps, Runs, RunsText}
 use Rattle.lexre.proofs.OneTree.{some_is, pair_is}
 
@@ -12,8 +12,7 @@ is_name (item t) = false
 is_name opening = false
 is_name closing = false
 is_name bar = false
-is_name (sign s) = false
-is_name (interval m n) = false
+is_name (sign braces f) = false
 
 -- what is known of a text from a state on: None is nothing, Some None is that there is no tree
 abbrev pub Tried : Type 0
@@ -48,8 +47,7 @@ module _ (posix fold : Bool) (defined : List ℕ → Option (List ℕ)) where
   steps_so opening st after e = e
   steps_so closing st after e = e
   steps_so bar st after e = e
-  steps_so (sign s) st after e = e
-  steps_so (interval m n) st after e = e
+  steps_so (sign braces f) st after e = e
 
   step_is : (s : Symbol) (st after : State) → is_name s ≡ false → Steps posix (symbol_at fold) defined st s after → step_of posix s st ≡ Some after
   step_is (item t) st after plain e = e
@@ -57,8 +55,7 @@ module _ (posix fold : Bool) (defined : List ℕ → Option (List ℕ)) where
   step_is opening st after plain e = e
   step_is closing st after plain e = e
   step_is bar st after plain e = e
-  step_is (sign s) st after plain e = e
-  step_is (interval m n) st after plain e = e
+  step_is (sign braces f) st after plain e = e
 
   -- A tree that is found is spelled.
 

@@ -8,7 +8,7 @@ use Rattle.lex_semantics.specs.Escapes.{simple_escape, octal_at, hexadecimal_at,
 use Rattle.lex_semantics.specs.Reading.{take_up_to}
 use Rattle.lex_semantics.specs.Shapes.{nodes}
 use Rattle.lex_semantics.specs.Tree.{Tree, Empty, Set, Cat, Alt, Star, Repeat, trees}
-use Rattle.lexre_bytes.specs.Lexical.{after_word, run_at, number_at, name_at, escape_at, literal_byte_at, quoted_tree, class_name_at, enclosed_by, bracketed_at, is_range, range_at, element_at, elements_at, class_at, span, union_set, class_set, bounded, interval_at, braces_at, symbol_at}
+use Rattle.lexre_bytes.specs.Lexical.{after_word, run_at, number_at, name_at, escape_at, quoted_tree, class_name_at, enclosed_by, bracketed_at, range_at, element_at, elements_at, class_at, span, class_set, bounded, interval_at, braces_at, symbol_at}
 use Rattle.lexre_bytes.specs.Symbols.{item, name}
 use Rattle.lexre.specs.Grammar.{SpellsWithin}
 use Rattle.lexre.specs.Limits.{max_nodes, max_open}
@@ -28,7 +28,7 @@ is_none how n text none = λ definitions t spells.
     (spelled_runs how.posix (symbol_at how.fold) (get definitions) max_open text t spells.0)
 
 pub items : Items
-unfolding after_word run_at number_at name_at escape_at literal_byte_at quoted_tree class_name_at enclosed_by bracketed_at is_range range_at element_at elements_at class_at span union_set class_set bounded interval_at braces_at symbol_at has set_of empty_set single range_set union complement other_case fold_case is_alpha is_digit is_alnum simple_escape octal_at hexadecimal_at until_quote take_up_to
+unfolding after_word run_at number_at name_at escape_at quoted_tree class_name_at enclosed_by bracketed_at range_at element_at elements_at class_at span class_set bounded interval_at braces_at symbol_at has set_of empty_set single range_set union complement other_case fold_case is_alpha is_digit is_alnum simple_escape octal_at hexadecimal_at until_quote take_up_to
 items = (
   is_tree plain 20 (codes "a") a refl refl,
   is_tree plain 20 (codes ".") (Set (complement (single 10))) refl refl,
@@ -41,7 +41,7 @@ items = (
 )
 
 pub folded : Folded
-unfolding after_word run_at number_at name_at escape_at literal_byte_at quoted_tree class_name_at enclosed_by bracketed_at is_range range_at element_at elements_at class_at span union_set class_set bounded interval_at braces_at symbol_at has set_of empty_set single range_set union complement other_case fold_case is_alpha is_digit is_alnum simple_escape octal_at hexadecimal_at until_quote take_up_to
+unfolding after_word run_at number_at name_at escape_at quoted_tree class_name_at enclosed_by bracketed_at range_at element_at elements_at class_at span class_set bounded interval_at braces_at symbol_at has set_of empty_set single range_set union complement other_case fold_case is_alpha is_digit is_alnum simple_escape octal_at hexadecimal_at until_quote take_up_to
 folded = (
   is_tree folding 20 (codes "a") (Set (2 ^ 65 + 2 ^ 97)) refl refl,
   is_tree folding 20 (codes "[A-B]") (Set (2 ^ 65 + 2 ^ 66 + 2 ^ 97 + 2 ^ 98)) refl refl,
@@ -49,7 +49,7 @@ folded = (
 )
 
 pub joined : Joined
-unfolding symbol_at literal_byte_at
+unfolding symbol_at
 joined = (
   is_tree plain 20 (codes "ab") ab refl refl,
   is_tree plain 20 (codes "abc") (Cat (trees (a ∷ b ∷ c ∷ []))) refl refl,
@@ -61,7 +61,7 @@ joined = (
 )
 
 pub operators : Operators
-unfolding symbol_at literal_byte_at
+unfolding symbol_at
 operators = (
   is_tree plain 20 (codes "a*") (Star a) refl refl,
   is_tree plain 20 (codes "a+") (Repeat a 1 None) refl refl,
@@ -73,7 +73,7 @@ operators = (
 )
 
 pub over_items : OverItems
-unfolding after_word run_at number_at name_at escape_at literal_byte_at quoted_tree class_name_at enclosed_by bracketed_at is_range range_at element_at elements_at class_at span union_set class_set bounded interval_at braces_at symbol_at is_alpha is_digit is_alnum simple_escape octal_at hexadecimal_at until_quote take_up_to
+unfolding after_word run_at number_at name_at escape_at quoted_tree class_name_at enclosed_by bracketed_at range_at element_at elements_at class_at span class_set bounded interval_at braces_at symbol_at is_alpha is_digit is_alnum simple_escape octal_at hexadecimal_at until_quote take_up_to
 over_items = (
   is_tree plain 20 (codes "a{2}") (Repeat a 2 (Some 2)) refl refl,
   is_tree plain 20 (codes "a{2,}") (Repeat a 2 None) refl refl,
@@ -83,7 +83,7 @@ over_items = (
 )
 
 pub over_series_too : OverSeries
-unfolding after_word run_at number_at name_at escape_at literal_byte_at quoted_tree class_name_at enclosed_by bracketed_at is_range range_at element_at elements_at class_at span union_set class_set bounded interval_at braces_at symbol_at is_alpha is_digit is_alnum simple_escape octal_at hexadecimal_at until_quote take_up_to
+unfolding after_word run_at number_at name_at escape_at quoted_tree class_name_at enclosed_by bracketed_at range_at element_at elements_at class_at span class_set bounded interval_at braces_at symbol_at is_alpha is_digit is_alnum simple_escape octal_at hexadecimal_at until_quote take_up_to
 over_series_too = (
   is_tree over_series 20 (codes "a{2}") (Repeat a 2 (Some 2)) refl refl,
   is_tree over_series 20 (codes "ab{2}") (Repeat ab 2 (Some 2)) refl refl,
@@ -94,7 +94,7 @@ over_series_too = (
 )
 
 pub bounds : Bounds
-unfolding symbol_at literal_byte_at
+unfolding symbol_at
 bounds = (
   is_tree plain 80 (signed_often 64) (repeated_often 64) refl refl,
   is_none plain 80 (signed_often 65) refl,
@@ -103,7 +103,7 @@ bounds = (
 )
 
 pub refused : Refused
-unfolding after_word run_at number_at name_at escape_at literal_byte_at quoted_tree class_name_at enclosed_by bracketed_at is_range range_at element_at elements_at class_at span union_set class_set bounded interval_at braces_at symbol_at has set_of empty_set single range_set union complement other_case fold_case is_upper is_lower is_alpha is_digit is_alnum simple_escape octal_at hexadecimal_at until_quote take_up_to
+unfolding after_word run_at number_at name_at escape_at quoted_tree class_name_at enclosed_by bracketed_at range_at element_at elements_at class_at span class_set bounded interval_at braces_at symbol_at has set_of empty_set single range_set union complement other_case fold_case is_upper is_lower is_alpha is_digit is_alnum simple_escape octal_at hexadecimal_at until_quote take_up_to
 refused = (
   is_none plain 20 [] refl,
   is_none plain 20 (codes "*a") refl,
@@ -122,7 +122,7 @@ refused = (
 
 -- the choice that a name stands for, and then the letter behind it
 pub named : Named
-unfolding after_word run_at number_at name_at escape_at literal_byte_at quoted_tree class_name_at enclosed_by bracketed_at is_range range_at element_at elements_at class_at span union_set class_set bounded interval_at braces_at symbol_at is_upper is_lower is_alpha is_digit is_alnum simple_escape octal_at hexadecimal_at until_quote take_up_to
+unfolding after_word run_at number_at name_at escape_at quoted_tree class_name_at enclosed_by bracketed_at range_at element_at elements_at class_at span class_set bounded interval_at braces_at symbol_at is_upper is_lower is_alpha is_digit is_alnum simple_escape octal_at hexadecimal_at until_quote take_up_to
 named = λ definitions found.
     let inside : SpellsWithin false (symbol_at false) (get definitions) 63 (codes "a|b") a_or_b =
     runs_spelled false (symbol_at false) (get definitions) 63 (codes "a|b") a_or_b (found_runs false false (get definitions) 20 (state fresh [] 63) (codes "a|b") a_or_b refl) in (

@@ -1,11 +1,11 @@
 -- Texts in quotes, read byte by byte.
 use Rattle.std.proofs.Common.{◌≡◌, ℕ, suc, ◌<◌, ◌≤◌, ◌==◌, Bool, true, false, if◌then◌else◌, List, [], ◌∷◌, ◌++◌, length, map, Option, Some, None, refl, sym, ap, ◌∙◌, append_assoc, append-nil, arith}
-use Rattle.lex_semantics.specs.Escapes.{until_quote}
+use Rattle.lex_semantics.specs.Escapes.{until_quote, byte_with}
 use Rattle.lex_semantics.specs.ByteSets.{single}
 use Rattle.lex_semantics.specs.Shapes.{nodes, nodes_of}
 use Rattle.lex_semantics.specs.Tree.{Tree, Set, Cat, trees}
 use Rattle.lex_semantics.specs.Reading.{◌>>=◌}
-use Rattle.lexre_bytes.specs.Lexical.{escape_at, folded, quoted_tree, literal_byte_at, quoted_bytes}
+use Rattle.lexre_bytes.specs.Lexical.{escape_at, folded, quoted_tree, quoted_bytes}
 use Rattle.lexre_bytes.specs.Quotes.{quoted_at}
 use Rattle.lexre_bytes.proofs.QuoteLaws.{differs, enough, escape_shorter}
 
@@ -34,13 +34,12 @@ with_more : (front : List ℕ) (b : ℕ) (o : Quoted) → with_front front (o >>
 with_more front b None = refl
 with_more front b (Some x) = ap (λ bs. Some (bs, x.1)) (sym (append_assoc front (b ∷ []) x.0))
 
-byte_step : (n : ℕ) (front rest : List ℕ) (b c : ℕ) (u : List ℕ) → (c ≡ 34 → ⊥) → ◌≡◌ {A = Found} (literal_byte_at (c ∷ u)) (Some (b, rest))
+byte_step : (n : ℕ) (front rest : List ℕ) (b c : ℕ) (u : List ℕ) → (c ≡ 34 → ⊥) → ◌≡◌ {A = Found} (byte_with escape_at (c ∷ u)) (Some (b, rest))
     → with_front front (quoted_at (suc n) (c ∷ u)) ≡ with_front (front ++ b ∷ []) (quoted_at n rest)
-unfolding until_quote literal_byte_at
+unfolding until_quote
 byte_step n front rest b c u quote byte = rw (differs c 34 quote, byte) (with_more front b (quoted_at n rest))
 
-byte_shorter : (t rest : List ℕ) (b : ℕ) → ◌≡◌ {A = Found} (literal_byte_at t) (Some (b, rest)) → length rest < length t
-unfolding literal_byte_at
+byte_shorter : (t rest : List ℕ) (b : ℕ) → ◌≡◌ {A = Found} (byte_with escape_at t) (Some (b, rest)) → length rest < length t
 byte_shorter [] rest b e = cc
 byte_shorter (c ∷ u) rest b e = go (c == 10) (c == 92) e
   where
@@ -49,13 +48,13 @@ byte_shorter (c ∷ u) rest b e = go (c == 10) (c == 92) e
     go false true e = omega (arith, escape_shorter u rest b e)
     go false false e = let same : u ≡ rest = ap (λ (f : Found). elim f [ Some y ↦ y.1 | None ↦ u ]) e in omega (arith, ap length same)
 
-pub quoted_shorter : (t rest : List ℕ) (b : ℕ) → ◌≡◌ {A = Found} (literal_byte_at t) (Some (b, rest)) → length rest < length t
+pub quoted_shorter : (t rest : List ℕ) (b : ℕ) → ◌≡◌ {A = Found} (byte_with escape_at t) (Some (b, rest)) → length rest < length t
 quoted_shorter t rest b e = byte_shorter t rest b e
 
 pub quoted_next : (text front t rest : List ℕ) (b c : ℕ) (u : List ℕ) → QuotedSo text front t → t ≡ c ∷ u → (c ≡ 34 → ⊥)
-    → ◌≡◌ {A = Found} (literal_byte_at t) (Some (b, rest)) → QuotedSo text (front ++ b ∷ []) rest
+    → ◌≡◌ {A = Found} (byte_with escape_at t) (Some (b, rest)) → QuotedSo text (front ++ b ∷ []) rest
 quoted_next text front t rest b c u so e quote byte =
-    let there : ◌≡◌ {A = Found} (literal_byte_at (c ∷ u)) (Some (b, rest)) = ap literal_byte_at (sym e) ∙ byte in
+    let there : ◌≡◌ {A = Found} (byte_with escape_at (c ∷ u)) (Some (b, rest)) = ap (byte_with escape_at) (sym e) ∙ byte in
     let less : length rest < length (c ∷ u) = byte_shorter (c ∷ u) rest b there in
     record {
       same = ap (with_front (front ++ b ∷ [])) (enough (suc (length rest)) (length (c ∷ u)) rest (omega arith) less)
@@ -63,25 +62,25 @@ quoted_next text front t rest b c u so e quote byte =
     }
 
 pub quoted_ends : (text front t : List ℕ) (c : ℕ) (u : List ℕ) → QuotedSo text front t → t ≡ c ∷ u → c ≡ 34 → ◌≡◌ {A = Quoted} (quoted_bytes text) (Some (front, u))
-unfolding until_quote literal_byte_at
+unfolding until_quote
 quoted_ends text front t c u so e quote =
     let last : with_front front (quoted_bytes (34 ∷ u)) ≡ Some (front, u) = ap (λ x. Some (x, u)) (append-nil front) in
     sym so.same ∙ ap (λ x. with_front front (quoted_bytes x)) (e ∙ ap (λ x. x ∷ u) quote) ∙ last
 
 pub quoted_open : (text front t : List ℕ) → QuotedSo text front t → length t ≡ 0 → ◌≡◌ {A = Quoted} (quoted_bytes text) None
-unfolding until_quote literal_byte_at
+unfolding until_quote
 quoted_open text front [] so e = sym so.same
 quoted_open text front (c ∷ t) so e = absurd (omega arith)
 
-stuck_here : (front : List ℕ) (n c : ℕ) (u : List ℕ) → (c ≡ 34 → ⊥) → ◌≡◌ {A = Found} (literal_byte_at (c ∷ u)) None
+stuck_here : (front : List ℕ) (n c : ℕ) (u : List ℕ) → (c ≡ 34 → ⊥) → ◌≡◌ {A = Found} (byte_with escape_at (c ∷ u)) None
     → with_front front (quoted_at (suc n) (c ∷ u)) ≡ None
-unfolding until_quote literal_byte_at
+unfolding until_quote
 stuck_here front n c u quote none = rw (differs c 34 quote, none) refl
 
 pub quoted_stuck : (text front t : List ℕ) (c : ℕ) (u : List ℕ) → QuotedSo text front t → t ≡ c ∷ u → (c ≡ 34 → ⊥)
-    → ◌≡◌ {A = Found} (literal_byte_at t) None → ◌≡◌ {A = Quoted} (quoted_bytes text) None
+    → ◌≡◌ {A = Found} (byte_with escape_at t) None → ◌≡◌ {A = Quoted} (quoted_bytes text) None
 quoted_stuck text front t c u so e quote none =
-    sym so.same ∙ ap (λ x. with_front front (quoted_bytes x)) e ∙ stuck_here front (length (c ∷ u)) c u quote (ap literal_byte_at (sym e) ∙ none)
+    sym so.same ∙ ap (λ x. with_front front (quoted_bytes x)) e ∙ stuck_here front (length (c ∷ u)) c u quote (ap (byte_with escape_at) (sym e) ∙ none)
 
 -- The tree of the bytes.
 

@@ -3,14 +3,14 @@ use Rattle.std.proofs.Common.{◌≡◌, ℕ, zero, suc, ◌+◌, ◌-◌, ◌<�
 use Rattle.std.specs.FinMap.{get}
 use Rattle.lex_semantics.specs.Shapes.{nodes}
 use Rattle.lex_semantics.specs.Tree.{Tree}
-use Rattle.lexre.specs.Counting.{state_nodes, adds, item_adds, capped_nodes}
+use Rattle.lexre.specs.Counting.{state_nodes, adds, AddsOne, item_adds, capped_nodes}
 use Rattle.lexre.specs.Definitions.{Definitions}
 use Rattle.lexre.specs.Grammar.{SpellsWithin}
 use Rattle.lexre_bytes.specs.Lexical.{symbol_at}
 use Rattle.lexre.specs.Outcome.{UnlessMemory, IsRefused}
 use Rattle.lexre.specs.Reading.{SpellsIn, StandsIn, StepsIn, NoneWithin}
 use Rattle.lexre.specs.Running.{State, state, fresh, push, pushed, finished, step_of, IsPlain, Stands, Steps, RunsText}
-use Rattle.lexre_bytes.specs.Symbols.{Symbol, item, name, opening, closing, bar, sign, interval, Lexer, IsCut}
+use Rattle.lexre_bytes.specs.Symbols.{Symbol, item, name, opening, closing, bar, sign, Lexer, IsCut}
 use Rattle.lexre_bytes.specs.declared.error.PatternErrorKind.{PatternErrorKind}
 use Rattle.lexre_bytes.specs.declared.error.PatternErrorKind.TheVariants.{OutOfMemory}
 use Rattle.lexre.specs.declared.options.ReadOptions.{ReadOptions}
@@ -46,9 +46,6 @@ module _ (posix : Bool) (symbol_at : Lexer) (defined : List ℕ → Option (List
     pub on : (tree : Tree) → RunsText posix symbol_at defined st text tree → RunsText posix symbol_at defined st' text' tree
     pub back : (tree : Tree) → RunsText posix symbol_at defined st' text' tree → RunsText posix symbol_at defined st text tree
 
-  pub agree_itself : (st : State) (text : List ℕ) → Agree st text st text
-  agree_itself st text = record { on = λ tree run. run; back = λ tree run. run }
-
   agree_then : (a : State) (x : List ℕ) (b : State) (y : List ℕ) (c : State) (z : List ℕ) → Agree a x b y → Agree b y c z → Agree a x c z
   agree_then a x b y c z p q = record { on = λ tree run. q.on tree (p.on tree run); back = λ tree run. p.back tree (q.back tree run) }
 
@@ -79,9 +76,6 @@ module _ (posix : Bool) (symbol_at : Lexer) (defined : List ℕ → Option (List
       → Agree st text begun whole → Agree after rest begun whole
   agree_step st after begun text rest whole s here step agree = agree_then after rest st text begun whole (agree_one st after text rest s here step) agree
 
-  counted : (st : State) (text : List ℕ) (tree : Tree) → RunsText posix symbol_at defined st text tree → state_nodes st ≤ nodes tree
-  counted st text tree (ss, cut, run) = runs_grow posix symbol_at defined ss st tree run
-
   -- no tree of so few nodes comes from the state
   abbrev pub NoRun : ℕ → State → List ℕ → Type 0
   NoRun most st text = (tree : Tree) → RunsText posix symbol_at defined st text tree → nodes tree ≤ most → ⊥
@@ -94,29 +88,33 @@ module _ (posix : Bool) (symbol_at : Lexer) (defined : List ℕ → Option (List
   refused kind P most d st rest text agree f h =
       unless_weaker kind P (NoTree most d text) (λ p t spells few. f p t (agree.back t (spelled_runs posix symbol_at defined d text t spells)) few) h
 
-  front_refused : (most : ℕ) (st : State) (rest : List ℕ) → (rest ≡ [] → ⊥) → most ≤ 65536 → IsRefused (symbol_at rest) → NoRun most st rest
-  front_refused most st rest some small h tree ([], end, run) few = some end
-  front_refused most st rest some small h tree (s ∷ ss, (rest', here, cut), (after, step, run)) few =
-      let big = h s rest' here in
-      omega (arith, steps_grow posix symbol_at defined s st after step, runs_grow posix symbol_at defined ss after tree run)
-
-  pub refused_front : (kind : PatternErrorKind) (most d : ℕ) (st : State) (rest text : List ℕ) → Agree st rest (state fresh [] d) text → (rest ≡ [] → ⊥) → most ≤ 65536
-      → UnlessMemory kind (IsRefused (symbol_at rest)) → UnlessMemory kind (NoTree most d text)
-  refused_front kind most d st rest text agree some small h = refused kind _ most d st rest text agree (front_refused most st rest some small) h
-
   -- no step leads to a state that counts so few
   abbrev pub NoStep : ℕ → State → Symbol → Type 0
   NoStep most st s = (after : State) → Steps posix symbol_at defined st s after → state_nodes after ≤ most → ⊥
 
-  step_refused : (most most' : ℕ) (st : State) (rest after : List ℕ) (s : Symbol) → symbol_at rest ≡ Some (s, after) → most ≤ most' → NoStep most' st s → NoRun most st rest
-  step_refused most most' st rest after s here le h tree run few =
-      let (next, step, run') = first_step st rest after s tree here run in
-      h next step (omega (arith, counted next after tree run'))
+  module _ (signs : (text rest : List ℕ) (s : Symbol) → symbol_at text ≡ Some (s, rest) → AddsOne s) where
+    counted : (st : State) (text : List ℕ) (tree : Tree) → RunsText posix symbol_at defined st text tree → state_nodes st ≤ nodes tree
+    counted st text tree (ss, cut, run) = runs_grow posix symbol_at defined signs ss text st tree cut run
 
-  pub refused_step : (kind : PatternErrorKind) (most most' d : ℕ) (st : State) (rest text after : List ℕ) (s : Symbol) → Agree st rest (state fresh [] d) text
-      → symbol_at rest ≡ Some (s, after) → most ≤ most' → UnlessMemory kind (NoStep most' st s) → UnlessMemory kind (NoTree most d text)
-  refused_step kind most most' d st rest text after s agree here le h =
-      refused kind _ most d st rest text agree (step_refused most most' st rest after s here le) h
+    front_refused : (most : ℕ) (st : State) (rest : List ℕ) → (rest ≡ [] → ⊥) → most ≤ 65536 → IsRefused (symbol_at rest) → NoRun most st rest
+    front_refused most st rest some small h tree ([], end, run) few = some end
+    front_refused most st rest some small h tree (s ∷ ss, (rest', here, cut), (after, step, run)) few =
+        let big = h s rest' here in
+        omega (arith, steps_grow posix symbol_at defined s (signs rest rest' s here) st after step, counted after rest' tree (ss, cut, run))
+
+    pub refused_front : (kind : PatternErrorKind) (most d : ℕ) (st : State) (rest text : List ℕ) → Agree st rest (state fresh [] d) text → (rest ≡ [] → ⊥) → most ≤ 65536
+        → UnlessMemory kind (IsRefused (symbol_at rest)) → UnlessMemory kind (NoTree most d text)
+    refused_front kind most d st rest text agree some small h = refused kind _ most d st rest text agree (front_refused most st rest some small) h
+
+    step_refused : (most most' : ℕ) (st : State) (rest after : List ℕ) (s : Symbol) → symbol_at rest ≡ Some (s, after) → most ≤ most' → NoStep most' st s → NoRun most st rest
+    step_refused most most' st rest after s here le h tree run few =
+        let (next, step, run') = first_step st rest after s tree here run in
+        h next step (omega (arith, counted next after tree run'))
+
+    pub refused_step : (kind : PatternErrorKind) (most most' d : ℕ) (st : State) (rest text after : List ℕ) (s : Symbol) → Agree st rest (state fresh [] d) text
+        → symbol_at rest ≡ Some (s, after) → most ≤ most' → UnlessMemory kind (NoStep most' st s) → UnlessMemory kind (NoTree most d text)
+    refused_step kind most most' d st rest text after s agree here le h =
+        refused kind _ most d st rest text agree (step_refused most most' st rest after s here le) h
 
   end_refused : (most : ℕ) (st : State) (rest : List ℕ) → rest ≡ [] → finished st ≡ None → NoRun most st rest
   end_refused most st rest end e tree ([], end', run) few = cc
@@ -153,10 +151,6 @@ stands_in how definitions (suc d) n sub t some found spells =
     let P : ℕ → Type 0 = λ x. SpellsIn how definitions x sub t in
     (sub, found, subst P e spells)
 
-pub undefined_name : (how : ReadOptions) (definitions : Definitions) (room left : ℕ) (n : List ℕ) → get definitions n ≡ None → NoneWithin room (StandsIn how definitions left n)
-undefined_name how definitions room zero n e t stands few = stands
-undefined_name how definitions room (suc d) n e t (sub, found, spells) few = cc
-
 pub none_left : (how : ReadOptions) (definitions : Definitions) (room left : ℕ) (n : List ℕ) → left ≡ 0 → NoneWithin room (StandsIn how definitions left n)
 none_left how definitions room zero n e t stands few = stands
 none_left how definitions room (suc d) n e t stands few = absurd (omega arith)
@@ -179,8 +173,7 @@ steps_from how definitions (name n) st after plain e = absurd plain
 steps_from how definitions opening st after plain e = e
 steps_from how definitions closing st after plain e = e
 steps_from how definitions bar st after plain e = e
-steps_from how definitions (sign s) st after plain e = e
-steps_from how definitions (interval m n) st after plain e = e
+steps_from how definitions (sign braces f) st after plain e = e
 
 steps_to : (how : ReadOptions) (definitions : Definitions) (s : Symbol) (st after : State) → IsPlain s → StepsIn how definitions st s after → step_of how.posix s st ≡ Some after
 steps_to how definitions (item t) st after plain e = e
@@ -188,8 +181,7 @@ steps_to how definitions (name n) st after plain e = absurd plain
 steps_to how definitions opening st after plain e = e
 steps_to how definitions closing st after plain e = e
 steps_to how definitions bar st after plain e = e
-steps_to how definitions (sign s) st after plain e = e
-steps_to how definitions (interval m n) st after plain e = e
+steps_to how definitions (sign braces f) st after plain e = e
 
 -- how many more may be opened
 abbrev pub left_of : State → ℕ
@@ -202,14 +194,6 @@ steps_name how definitions (state here outer (suc d)) after n t stands e = (t, s
 
 abbrev NoStepIn : ReadOptions → Definitions → ℕ → State → Symbol → Type 0
 NoStepIn how definitions most st s = (after : State) → StepsIn how definitions st s after → state_nodes after ≤ most → ⊥
-
-pub no_plain_step : (how : ReadOptions) (definitions : Definitions) (kind : PatternErrorKind) (most : ℕ) (st : State) (s : Symbol) → IsPlain s → UnlessMemory kind (step_of how.posix s st ≡ None)
-    → UnlessMemory kind (NoStepIn how definitions most st s)
-no_plain_step how definitions kind most st s plain h =
-    unless_weaker kind _ (NoStepIn how definitions most st s) (λ e after step few. let f = steps_to how definitions s st after plain step in absurd (never after e f)) h
-  where
-    never : (after : State) → step_of how.posix s st ≡ None → step_of how.posix s st ≡ Some after → ⊥
-    never after e f = cc
 
 pub no_push : (how : ReadOptions) (definitions : Definitions) (kind : PatternErrorKind) (most : ℕ) (st : State) (s : Symbol) (t : Tree) → UnlessMemory kind (Some (push t st) ≡ None)
     → UnlessMemory kind (NoStepIn how definitions most st s)
@@ -235,15 +219,14 @@ plain_of posix (name n) st after e = cc
 plain_of posix opening st after e = tt
 plain_of posix closing st after e = tt
 plain_of posix bar st after e = tt
-plain_of posix (sign s) st after e = tt
-plain_of posix (interval m n) st after e = tt
+plain_of posix (sign braces f) st after e = tt
 
-pub too_many_plain : (how : ReadOptions) (definitions : Definitions) (room n : ℕ) (st there : State) (s : Symbol) → step_of how.posix s st ≡ Some there → n ≡ adds s st → room < n
+pub too_many_plain : (how : ReadOptions) (definitions : Definitions) (room n : ℕ) (st there : State) (s : Symbol) → AddsOne s → step_of how.posix s st ≡ Some there → n ≡ adds s st → room < n
     → NoStepIn how definitions (state_nodes st + room) st s
-too_many_plain how definitions room n st there s is e big after step few = omega (arith, step_grows how.posix s st after (steps_to how definitions s st after (plain_of how.posix s st there is) step))
+too_many_plain how definitions room n st there s more is e big after step few = omega (arith, step_grows how.posix s more st after (steps_to how definitions s st after (plain_of how.posix s st there is) step))
 
-pub counted_plain : (posix : Bool) (room n : ℕ) (st there : State) (s : Symbol) → step_of posix s st ≡ Some there → n ≡ adds s st → n ≤ room → room ≤ 65536 → state_nodes there ≡ state_nodes st + n
-counted_plain posix room n st there s is e few small = step_nodes posix s st there is (omega arith) ∙ ap (λ k. state_nodes st + k) (sym e)
+pub counted_plain : (posix : Bool) (room n : ℕ) (st there : State) (s : Symbol) → AddsOne s → step_of posix s st ≡ Some there → n ≡ adds s st → n ≤ room → room ≤ 65536 → state_nodes there ≡ state_nodes st + n
+counted_plain posix room n st there s more is e few small = step_nodes posix s more st there is (omega arith) ∙ ap (λ k. state_nodes st + k) (sym e)
 
 pub one_stands : (how : ReadOptions) (definitions : Definitions) (d : ℕ) (n : List ℕ) (t u : Tree) → Stands how.posix (symbol_at how.fold) (get definitions) d n t → Stands how.posix (symbol_at how.fold) (get definitions) d n u → t ≡ u
 one_stands how definitions d n t u (sub, found, spells) (sub', found', spells') =
@@ -257,4 +240,4 @@ too_many_named how definitions room k (state here outer zero) n t stands e big a
 too_many_named how definitions room k (state here outer (suc d)) n t stands e big after (u, stands', f) few =
     let same : u ≡ t = one_stands how definitions d n u t stands' stands in
     let there : after ≡ state (pushed t here) outer (suc d) = f ∙ ap (λ x. state (pushed x here) outer (suc d)) same in
-    omega (arith, step_grows how.posix (item t) (state here outer (suc d)) after (ap Some (sym there)))
+    omega (arith, step_grows how.posix (item t) tt (state here outer (suc d)) after (ap Some (sym there)))

@@ -1,8 +1,8 @@
 -- Which positions a reading uses.
-use Rattle.std.proofs.Common.{◌≡◌, ℕ, zero, suc, ◌+◌, ◌-◌, ◌*◌, ◌≤◌, ◌<◌, min, List, [], ◌∷◌, ◌++◌, Option, Some, None, ◌⊎◌, inl, inr, ⊎_elim, ap, subst, arith}
+use Rattle.std.proofs.Common.{IfSome, ◌≡◌, ℕ, zero, suc, ◌+◌, ◌-◌, ◌*◌, ◌≤◌, ◌<◌, min, List, [], ◌∷◌, ◌++◌, Option, Some, None, ◌⊎◌, inl, inr, ⊎_elim, ap, subst, arith}
 use Rattle.lex_semantics.specs.Positions.{Cell, Readings, Reads, ReadsEach, ReadsSome, positions, positions_of, copies}
 use Rattle.lex_semantics.specs.Text.{Among}
-use Rattle.lex_semantics.specs.Tree.{Tree, Trees, Empty, Set, Cat, Alt, Star, Repeat, no_trees, tree, UpTo, Passes}
+use Rattle.lex_semantics.specs.Tree.{Tree, Trees, Empty, Set, Cat, Alt, Star, Repeat, no_trees, tree, Passes}
 use Rattle.lexre.specs.Readings.{UsesFrom}
 
 among_both : (us vs : List Cell) (c : Cell) → Among (us ++ vs) c → Among us c ⊎ Among vs c
@@ -29,7 +29,7 @@ passing R lo hi each j (suc k) rs (us, vs, e, here, rest) =
 copy_fits : (i c p : ℕ) → i < c → i * p + p ≤ c * p
 copy_fits i c p h = grind arith
 
-some_copy : (m : ℕ) (n : Option ℕ) (k : ℕ) → UpTo n (suc k) → 1 ≤ copies m n
+some_copy : (m : ℕ) (n : Option ℕ) (k : ℕ) → IfSome n (λ n. suc k ≤ n) → 1 ≤ copies m n
 some_copy m None k h = omega arith
 some_copy m (Some n) k h = omega arith
 

@@ -2,11 +2,11 @@
 use Rattle.std.proofs.Common.{◌≡◌, ℕ, zero, suc, ◌<◌, Bool, true, false, not, ◌==◌, nat_lt, List, [], ◌∷◌, ◌++◌, get_or, map, Some, None, ap, subst, arith}
 use Rattle.lex_semantics.specs.ByteSets.{has, set_of, single, complement}
 use Rattle.lex_semantics.specs.Shapes.{IsSoundTree, AreSoundTrees}
-use Rattle.lex_semantics.specs.Tree.{Tree, Set, Repeat, trees}
+use Rattle.lex_semantics.specs.Tree.{Tree, Set, trees}
 use Rattle.lexre_bytes.specs.Lexical.{folded, quoted_tree}
 use Rattle.lexre.specs.Running.{series_tree, choice_tree, how_many, one_more, Frame, frame, State, state, pushed, onto_last, gathered, finished, step_of}
-use Rattle.lexre.specs.Soundness.{IsSoundSymbol, IsSoundFrame, IsSoundState}
-use Rattle.lexre_bytes.specs.Symbols.{Symbol, Sign, item, name, opening, closing, bar, sign, interval, any_times, once_or_more, at_most_once, signed}
+use Rattle.lexre.specs.Soundness.{LeadsToSound, IsSoundFrame, IsSoundState}
+use Rattle.lexre_bytes.specs.Symbols.{Symbol, item, name, opening, closing, bar, sign}
 use Rattle.lexre.proofs.GrammarLaws.{chosen}
 use Rattle.lexre.proofs.OneTree.{some_is}
 use Rattle.lexre_bytes.proofs.SetLaws.{has-set_of}
@@ -53,17 +53,12 @@ sound_onto f (state (frame done parts (Some t) k) outer d) after h ((all, those,
     let both = chosen (nat_lt (how_many k) 64) (state (frame done parts (Some (f t)) (one_more k)) outer d) after e in
     subst IsSoundState both.1 ((all, those, h t last), rest)
 
-sound_signed : (s : Sign) (t : Tree) → IsSoundTree t → IsSoundTree (signed s t)
-sound_signed any_times t h = h
-sound_signed once_or_more t h = (h, tt)
-sound_signed at_most_once t h = (h, (omega arith, omega arith))
-
 sound_gathered : (posix : Bool) (st : State) → IsSoundState st → IsSoundState (gathered posix st)
 sound_gathered posix (state (frame done parts None k) outer d) sound = sound
 sound_gathered true (state (frame done parts (Some t) k) outer d) ((all, those, last), rest) = ((all, tt, sound_series parts t those last), rest)
 sound_gathered false (state (frame done parts (Some t) k) outer d) sound = sound
 
-pub sound_step : (posix : Bool) (s : Symbol) (st after : State) → IsSoundSymbol s → IsSoundState st → step_of posix s st ≡ Some after → IsSoundState after
+pub sound_step : (posix : Bool) (s : Symbol) (st after : State) → LeadsToSound s → IsSoundState st → step_of posix s st ≡ Some after → IsSoundState after
 sound_step posix (item t) (state here outer d) after h (mine, rest) e = subst IsSoundState (some_is _ _ e) (sound_pushed here t mine h, rest)
 sound_step posix (name n) st after h sound e = cc
 sound_step posix opening (state here outer zero) after h sound e = cc
@@ -75,8 +70,8 @@ sound_step posix closing (state (frame done parts None k) outer d) after h sound
 sound_step posix bar (state (frame done parts None k) outer d) after h sound e = cc
 sound_step posix bar (state (frame done parts (Some t) k) outer d) after h ((all, those, last), rest) e =
     subst IsSoundState (some_is _ _ e) ((sound_more done (series_tree parts t) all (sound_series parts t those last), tt, tt), rest)
-sound_step posix (sign s) st after h sound e = sound_onto (signed s) st after (sound_signed s) sound e
-sound_step posix (interval m n) st after h sound e = sound_onto (λ t. Repeat t m n) (gathered posix st) after (λ t k. (k, h)) (sound_gathered posix st sound) e
+sound_step posix (sign false f) st after h sound e = sound_onto f st after h sound e
+sound_step posix (sign true f) st after h sound e = sound_onto f (gathered posix st) after h (sound_gathered posix st sound) e
 
 pub sound_finished : (st : State) (tree : Tree) → IsSoundState st → finished st ≡ Some tree → IsSoundTree tree
 sound_finished (state (frame done parts None k) outer d) tree sound e = cc

@@ -1,8 +1,8 @@
 -- How many nodes the tree of a pattern will have at least, by what was read of it.
-use Rattle.std.specs.Prelude.{ℕ, ◌+◌, List, [], ◌∷◌, Option, Some, None}
+use Rattle.std.specs.Prelude.{◌≡◌, ℕ, ◌+◌, List, [], ◌∷◌, Option, Some, None, ⊤}
 use Rattle.lex_semantics.specs.Shapes.{nodes, nodes_of}
 use Rattle.lex_semantics.specs.Tree.{Tree, trees}
-use Rattle.lexre_bytes.specs.Symbols.{Symbol, item, name, opening, closing, bar, sign, interval}
+use Rattle.lexre_bytes.specs.Symbols.{Symbol, item, name, opening, closing, bar, sign}
 use Rattle.lexre.specs.Lengths.{capped}
 use Rattle.lexre.specs.Running.{Frame, frame, State, state}
 
@@ -56,5 +56,9 @@ adds (name n) st = 0
 adds opening st = 0
 adds closing st = closing_adds st
 adds bar st = 0
-adds (sign s) st = 1
-adds (interval m n) st = 1
+adds (sign braces f) st = 1
+
+-- a sign makes a tree of one node more
+abbrev pub AddsOne : Symbol → Type 0
+AddsOne (sign braces f) = (t : Tree) → nodes (f t) ≡ 1 + nodes t
+AddsOne _ = ⊤

@@ -1,6 +1,6 @@
 -- Names whose texts lead to other names. (That a name which stands inside its own text is refused is this project's.)
 use Rattle.std.specs.Prelude.{ℕ, ◌<◌, List, ⊤}
-use Rattle.lexre_bytes.specs.Symbols.{Symbol, item, name, opening, closing, bar, sign, interval}
+use Rattle.lexre_bytes.specs.Symbols.{Symbol, item, name, opening, closing, bar, sign}
 use Rattle.lex_semantics.specs.Text.{Among}
 use Rattle.lex_semantics.specs.Tree.{Tree}
 use Rattle.lexre.specs.Definitions.{Definitions}
@@ -30,5 +30,4 @@ AllLeadToSymbol how definitions ns (name n) = AllLead how definitions ns n
 AllLeadToSymbol how definitions ns opening = ⊤
 AllLeadToSymbol how definitions ns closing = ⊤
 AllLeadToSymbol how definitions ns bar = ⊤
-AllLeadToSymbol how definitions ns (sign s) = ⊤
-AllLeadToSymbol how definitions ns (interval m n) = ⊤
+AllLeadToSymbol how definitions ns (sign braces f) = ⊤

@@ -1,10 +1,15 @@
 -- Reading the symbols of a pattern from the left, with a stack of what is open. The grammar does not mention it: that it
 -- answers as the grammar says is proved.
-use Rattle.std.specs.Prelude.{◌≡◌, ℕ, zero, suc, nat_lt, Bool, if◌then◌else◌, List, [], ◌∷◌, ◌++◌, Option, Some, None}
-use Rattle.lex_semantics.specs.Tree.{Tree, Cat, Alt, Repeat}
-use Rattle.lexre_bytes.specs.Symbols.{Symbol, item, name, opening, closing, bar, sign, interval, signed, Lexer, IsCut}
-use Rattle.lexre.specs.Grammar.{joined, SpellsWithin}
+use Rattle.std.specs.Prelude.{◌≡◌, ℕ, zero, suc, nat_lt, Bool, true, false, if◌then◌else◌, List, [], ◌∷◌, ◌++◌, Option, Some, None}
+use Rattle.lex_semantics.specs.Tree.{Tree, Trees, trees, Cat, Alt}
+use Rattle.lexre_bytes.specs.Symbols.{Symbol, item, name, opening, closing, bar, sign, Lexer, IsCut}
+use Rattle.lexre.specs.Grammar.{SpellsWithin}
 use Rattle.lexre.specs.Limits.{max_signs}
+
+-- the tree of a series or of a choice, by its parts, of which the last stands apart
+abbrev pub joined : (Trees → Tree) → List Tree → Tree → Tree
+joined made [] last = last
+joined made (t ∷ ts) last = made (trees (t ∷ ts ++ last ∷ []))
 
 abbrev pub series_tree : List Tree → Tree → Tree
 series_tree parts last = joined Cat parts last
@@ -76,6 +81,11 @@ gathered posix (state (frame done parts None k) outer d) = state (frame done par
 gathered posix (state (frame done parts (Some t) k) outer d) =
     state (frame done (parts_before posix parts) (Some (operand posix parts t)) (operand_signs posix k)) outer d
 
+-- what a sign, in braces or not, applies to is the last part
+abbrev pub under_sign : Bool → Bool → State → State
+under_sign true posix st = gathered posix st
+under_sign false posix st = st
+
 abbrev pub opened : State → Option State
 opened (state here outer zero) = None
 opened (state here outer (suc d)) = Some (state fresh (here ∷ outer) d)
@@ -101,8 +111,7 @@ step_of posix (name n) st = None
 step_of posix opening st = opened st
 step_of posix closing st = closed st
 step_of posix bar st = parted st
-step_of posix (sign s) st = onto_last (signed s) st
-step_of posix (interval m n) st = onto_last (λ t. Repeat t m n) (gathered posix st)
+step_of posix (sign braces f) st = onto_last f (under_sign braces posix st)
 
 -- the symbol is no name
 abbrev pub IsPlain : Symbol → Type 0
@@ -111,8 +120,7 @@ IsPlain (name n) = ⊥
 IsPlain opening = Unit {0}
 IsPlain closing = Unit {0}
 IsPlain bar = Unit {0}
-IsPlain (sign s) = Unit {0}
-IsPlain (interval m n) = Unit {0}
+IsPlain (sign braces f) = Unit {0}
 
 module _ (posix : Bool) (symbol_at : Lexer) (defined : List ℕ → Option (List ℕ)) where
   -- the substitute of the name is a pattern, and this is its tree
@@ -129,8 +137,7 @@ module _ (posix : Bool) (symbol_at : Lexer) (defined : List ℕ → Option (List
   Steps st opening after = opened st ≡ Some after
   Steps st closing after = closed st ≡ Some after
   Steps st bar after = parted st ≡ Some after
-  Steps st (sign s) after = onto_last (signed s) st ≡ Some after
-  Steps st (interval m n) after = onto_last (λ t. Repeat t m n) (gathered posix st) ≡ Some after
+  Steps st (sign braces f) after = onto_last f (under_sign braces posix st) ≡ Some after
 
   -- from the state, reading these symbols to the end gives the tree
   abbrev pub Runs : State → List Symbol → Tree → Type 0

@@ -5,10 +5,10 @@ ghost use Rattle.lex_semantics.specs.ByteSets.{is_digit};
 ghost use Rattle.lexre.specs.Soundness.{IsSoundSymbol};
 ghost use Rattle.lexre.specs.SymbolViews.{Front, symbol_of};
 ghost use Rattle.lex_semantics.specs.Reading.{goes_on_name, take_up_to};
-ghost use Rattle.lexre_bytes.specs.BraceSteps.{bounded, interval_at};
+ghost use Rattle.lexre_bytes.specs.BraceSteps.{bounded, interval, interval_at};
 ghost use Rattle.lexre_bytes.specs.Lexical.{braces_at};
 ghost use Rattle.lexre.specs.Fronts.{name_front};
-ghost use Rattle.lexre_bytes.specs.Symbols.{interval, name};
+ghost use Rattle.lexre_bytes.specs.Symbols.{name};
 
 use crate::symbols::Symbol;
 use lexre_bytes::{
@@ -77,7 +77,7 @@ pub(crate) fn braces_at<'a>(
     ensures front { MatchResult result
         (λ x. ◌≡◌ {A = Front} (braces_at text.now) (Some (symbol_of x.0, x.1.now)))
         (λ _. ◌≡◌ {A = Front} (braces_at text.now) None) }
-    ensures sound { IfOk result (λ x. IsSoundSymbol (symbol_of x.0)) }
+    ensures sound { IfOk result (λ x. IsSoundSymbol x.0) }
 {
     let refused = FaultAt {
         kind: PatternErrorKind::BadInterval,

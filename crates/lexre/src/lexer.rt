@@ -24,7 +24,7 @@ fn quoted_item<'a>(
     ensures front { MatchResult result
         (λ x. ◌≡◌ {A = Front} (quoted_front fold text.now) (Some (symbol_of x.0, x.1.now)))
         (λ e. UnlessMemory e.kind (IsRefused (quoted_front fold text.now))) }
-    ensures sound { IfOk result (λ x. IsSoundSymbol (symbol_of x.0)) }
+    ensures sound { IfOk result (λ x. IsSoundSymbol x.0) }
 {
     let (bytes, rest) = match quoted_at(alloc, quote, text) {
         Ok(found) => found,
@@ -41,7 +41,7 @@ fn class_item<'a>(class: &'a [u8], fold: bool) -> Result<(Symbol<'a>, &'a [u8]),
     ensures front { MatchResult result
         (λ x. ◌≡◌ {A = Front} (class_front fold (drop 1 class.now)) (Some (symbol_of x.0, x.1.now)))
         (λ _. ◌≡◌ {A = Front} (class_front fold (drop 1 class.now)) None) }
-    ensures sound { IfOk result (λ x. IsSoundSymbol (symbol_of x.0)) }
+    ensures sound { IfOk result (λ x. IsSoundSymbol x.0) }
 {
     match class_at(class, fold) {
         Ok((set, rest)) => Ok((Symbol::Item(Pattern::Set(set)), rest)),
@@ -59,7 +59,7 @@ fn escape_item<'a>(
     ensures front { MatchResult result
         (λ x. ◌≡◌ {A = Front} (escape_front fold text.now) (Some (symbol_of x.0, x.1.now)))
         (λ _. ◌≡◌ {A = Front} (escape_front fold text.now) None) }
-    ensures sound { IfOk result (λ x. IsSoundSymbol (symbol_of x.0)) }
+    ensures sound { IfOk result (λ x. IsSoundSymbol x.0) }
 {
     match escape_at(text) {
         Some((byte, rest)) => Ok((Symbol::Item(byte_pattern(byte, fold)), rest)),
@@ -73,7 +73,7 @@ fn escape_item<'a>(
 /// The symbol at the front of the text, and what follows it. A fault is reported at its place: `MisplacedSlash` at a
 /// `/`, `MissingOperand` at a blank, a newline and the end, and the faults of quotes, classes, escapes and braces at
 /// theirs. A text in quotes that has too many nodes by itself is `TooBig`.
-#[tactic(auto, unfolding(lexre_bytes::specs::Lexical::symbol_at, lexre_bytes::specs::Lexical::literal_byte_at))]
+#[tactic(auto, unfolding(lexre_bytes::specs::Lexical::symbol_at))]
 pub(crate) fn symbol_at<'a>(
     alloc: Global,
     text: &'a [u8],
@@ -82,7 +82,7 @@ pub(crate) fn symbol_at<'a>(
     ensures front { MatchResult result
         (λ x. ◌≡◌ {A = Front} (symbol_at fold text.now) (Some (symbol_of x.0, x.1.now)))
         (λ e. UnlessMemory e.kind (IsRefused (symbol_at fold text.now))) }
-    ensures sound { IfOk result (λ x. IsSoundSymbol (symbol_of x.0)) }
+    ensures sound { IfOk result (λ x. IsSoundSymbol x.0) }
 {
     let missing = FaultAt {
         kind: PatternErrorKind::MissingOperand,

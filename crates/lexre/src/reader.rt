@@ -149,7 +149,7 @@ fn step(
     names: &mut Names,
 ) -> Result<Taken, PatternErrorKind>
     requires room { room ≤ max_nodes }
-    requires sound { IsSoundSymbol (symbol_of symbol) }
+    requires sound { IsSoundSymbol symbol }
     requires sound_so_far { IsSoundState (state_of stack.old) }
     requires known_so_far { AreKnown scope.options scope.definitions.now (trees_of names.old) }
     requires lead { AllLeadToSymbol scope.options scope.definitions.now (open_of names.old) (symbol_of symbol) }

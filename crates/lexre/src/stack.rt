@@ -9,8 +9,7 @@ ghost use Rattle.lexre.specs.Outcome.{UnlessMemory};
 ghost use Rattle.lexre.specs.Running.{State, closed, finished, fresh, gathered, onto_last};
 ghost use Rattle.lexre.specs.Running.{opened, parted, push, pushed, state, step_of};
 ghost use Rattle.lexre.specs.StackViews.{StepsTo, frame_of, signs_of, state_of};
-ghost use Rattle.lexre.specs.SymbolViews.{sign_of, symbol_of};
-ghost use Rattle.lexre_bytes.specs.Symbols.{signed};
+ghost use Rattle.lexre.specs.SymbolViews.{signed, symbol_of};
 ghost use Rattle.lexre.specs.Views.{tree_of};
 ghost use Rattle.lexre_bytes.specs.declared.error.PatternErrorKind.TheVariants.{OutOfMemory};
 ghost use Rattle.lexre.specs.Limits.{max_open, max_signs};
@@ -272,7 +271,7 @@ impl Stack {
 
     /// Repeats the last part, as the sign says.
     fn sign(&mut self, sign: Sign) -> Result<u64, PatternErrorKind>
-        ensures { StepsTo result (onto_last (signed (sign_of sign)) (state_of self.old)) 1 (state_of self.new) }
+        ensures { StepsTo result (onto_last (signed sign) (state_of self.old)) 1 (state_of self.new) }
     {
         let Some(last) = self.here.last.take() else {
             return Err(PatternErrorKind::MissingOperand);

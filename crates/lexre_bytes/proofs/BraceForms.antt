@@ -7,9 +7,9 @@ use Rattle.std.proofs.lemmas.Bool.Decides.{nat_tests}
 use Rattle.lex_semantics.specs.ByteSets.{is_alpha, is_upper, is_lower, is_digit}
 use Rattle.lex_semantics.specs.Reading.{◌>>=◌, is_empty, begins, take_up_to, take_run, starts_name, goes_on_name, value}
 use Rattle.lexre_bytes.specs.Lexical.{after_word, run_at, number_at, name_at, bounded, interval_at, braces_at}
-use Rattle.lexre_bytes.specs.BraceSteps.{braces_from}
+use Rattle.lexre_bytes.specs.BraceSteps.{braces_from, interval}
 use Rattle.lexre_bytes.specs.BraceSteps as steps
-use Rattle.lexre_bytes.specs.Symbols.{Symbol, interval, name}
+use Rattle.lexre_bytes.specs.Symbols.{Symbol, name}
 use Rattle.lexre_bytes.proofs.SignLaws.{by_sign, turned}
 
 abbrev Found : Type 0

@@ -1,11 +1,11 @@
 -- The set of a class, element by element.
 use Rattle.std.proofs.Common.{◌≡◌, ℕ, zero, suc, ◌<◌, ◌≤◌, ◌^◌, Bool, true, false, not, ◌&&◌, ◌||◌, ◌==◌, if◌then◌else◌, List, [], ◌∷◌, length, drop, length-drop, Option, Some, None, refl, sym, ap, ◌∙◌, subst, nat_le, arith}
-use Rattle.std.specs.Prelude.{codes}
+use Rattle.std.specs.Prelude.{codes, is_none, unwrap_or}
 use Rattle.lex_semantics.specs.ByteSets.{ByteSet, has, set_of, empty_set, union, complement, range_set, is_word, classes, named_set}
 use Rattle.lex_semantics.specs.Reading.{◌>>=◌, begins}
-use Rattle.lexre_bytes.specs.Lexical.{span, after_word, folded, class_name_at, enclosed_by, bracketed_at, literal_byte_at, element_at, is_range, range_at, elements_at, union_set, class_at, class_set}
-use Rattle.lexre_bytes.specs.Elements.{Element, named, unsupported}
-use Rattle.lexre_bytes.specs.ClassSets.{member_at, members_at, class_set_at}
+use Rattle.lexre_bytes.specs.Lexical.{span, after_word, folded, class_name_at, enclosed_by, bracketed_at, element_at, range_at, elements_at, class_at, class_set, escape_at}
+use Rattle.lexre_bytes.specs.Elements.{Element, named, unsupported, is_range}
+use Rattle.lexre_bytes.specs.ClassSets.{member_at, members_at, class_set_at, union_set}
 use Rattle.std.specs.Map.{lookup}
 use Rattle.std.specs.Option.{option_map, option_or}
 use Rattle.lexre_bytes.specs.Brackets.{named_at, unsupported_at}
@@ -14,6 +14,8 @@ use Rattle.lexre_bytes.proofs.IntervalLaws.{begun, not_begun}
 use Rattle.lexre_bytes.proofs.QuoteLaws.{differs}
 use Rattle.lexre_bytes.proofs.SetLaws.{empty_is, has-set_of, set_of-lt, same_set_of, is_set_of}
 use Rattle.lexre_bytes.proofs.ShorterLaws.{element_takes}
+use Rattle.lex_semantics.specs.Escapes.{byte_with}
+use Rattle.std.specs.List.{list_any}
 
 abbrev Found : Type 0
 Found = Option (ByteSet × List ℕ)
@@ -102,7 +104,7 @@ closing n t h = rw h refl
 -- The number that bounds the elements tells nothing once there is room.
 
 nothing_there : ◌≡◌ {A = One} (element_at []) None
-unfolding element_at bracketed_at class_name_at enclosed_by literal_byte_at after_word
+unfolding element_at bracketed_at class_name_at enclosed_by after_word
 nothing_there = refl
 
 none_of_nothing : (m : ℕ) (first : Bool) → ◌≡◌ {A = Many} (elements_at m first []) None
@@ -175,7 +177,7 @@ bracketed_bytes t = let P : One → Type 0 = λ f. ReadsBytes f in subst P (sym 
 
 range_bytes : (lo : ℕ) (t : List ℕ) → ReadsBytes (range_at lo t)
 unfolding range_at
-range_bytes lo t = go (bracketed_at t) (literal_byte_at t)
+range_bytes lo t = go (bracketed_at t) (byte_with escape_at t)
   where
     go : (a : One) (b : Option (ℕ × List ℕ)) → ReadsBytes (option_or (a >>= λ (e, rest). Some (None, rest)) (b >>= λ (hi, rest). Some (span lo hi, rest)))
     go (Some x) b = no_set
@@ -184,7 +186,7 @@ range_bytes lo t = go (bracketed_at t) (literal_byte_at t)
 
 element_bytes : (t : List ℕ) → ReadsBytes (element_at t)
 unfolding element_at
-element_bytes t = go (bracketed_at t) (literal_byte_at t) (bracketed_bytes t)
+element_bytes t = go (bracketed_at t) (byte_with escape_at t) (bracketed_bytes t)
   where
     low : (b : Bool) (lo : ℕ) (r : List ℕ) → ReadsBytes (if b then range_at lo (drop 1 r) else Some (span lo lo, r))
     low true lo r = range_bytes lo (drop 1 r)
@@ -268,16 +270,31 @@ kept fold negated o = o >>= λ (s, rest).
     else if complement (folded fold s) == 0 then None
     else Some (complement (folded fold s))) >>= λ s. Some (s, rest)
 
+-- the union of the sets of all elements is the set of the bytes that are in one of them
+union_is : (es : List Element) → ◌≡◌ {A = Option ByteSet} (union_set es) (if list_any is_none es then None else Some (set_of (λ b. list_any (λ e. has (unwrap_or e 0) b) es)))
+unfolding union_set empty_set union
+union_is [] = refl
+union_is (None ∷ es) = refl
+union_is (Some s ∷ es) = go (list_any is_none es) (union_set es) (union_is es)
+  where
+    p : ℕ → Bool
+    p b = list_any (λ e. has (unwrap_or e 0) b) es
+
+    go : (n : Bool) (o : Option ByteSet) → o ≡ (if n then None else Some (set_of p))
+        → ◌≡◌ {A = Option ByteSet} (o >>= λ rest. Some (set_of (λ b. has s b || has rest b))) (if n then None else Some (set_of (λ b. has s b || p b)))
+    go true o e = rw e refl
+    go false o e = rw e (ap Some (same_set_of _ _ (λ b h. ap (λ x. has s b || x) (has-set_of p b h))))
+
 set_of_many : (fold negated : Bool) (q : Many) → (q >>= λ (es, rest). class_set fold negated es >>= λ s. Some (s, rest)) ≡ kept fold negated (united q)
 unfolding class_set
 set_of_many fold negated None = refl
-set_of_many fold negated (Some x) = go negated (union_set x.0)
+set_of_many fold negated (Some x) = rw (union_is x.0) (go negated (list_any is_none x.0) (set_of (λ b. list_any (λ e. has (unwrap_or e 0) b) x.0)))
   where
-    go : (b : Bool) (o : Option ByteSet) → ◌≡◌ {A = Found} ((o >>= λ u. (let s = if b then complement (folded fold u) else folded fold u in if b && s == 0 then None else Some s)) >>= λ s. Some (s, x.1))
-        (kept fold b (o >>= λ s. Some (s, x.1)))
-    go b None = refl
-    go true (Some s) = refl
-    go false (Some s) = refl
+    go : (b n : Bool) (u : ByteSet) → ◌≡◌ {A = Found} ((let f = folded fold u in let s = if b then complement f else f in if n || (b && s == 0) then None else Some s) >>= λ s. Some (s, x.1))
+        (kept fold b ((if n then None else Some u) >>= λ s. Some (s, x.1)))
+    go b true u = refl
+    go true false u = refl
+    go false false u = refl
 
 abbrev marked : Bool → Many → Option (Bool × List Element × List ℕ)
 marked negated q = q >>= λ (es, rest). Some (negated, es, rest)

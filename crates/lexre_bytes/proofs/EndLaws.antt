@@ -3,12 +3,12 @@ use Rattle.std.proofs.Common.{◌≡◌, ℕ, zero, suc, ◌≤◌, ◌-◌, Boo
 use Rattle.std.specs.List.{ends_with}
 use Rattle.std.specs.Prelude.{codes}
 use Rattle.lex_semantics.specs.ByteSets.{ByteSet, is_alpha, is_xdigit, within}
-use Rattle.lex_semantics.specs.Escapes.{simple_escape, octal_at, hexadecimal_at}
+use Rattle.lex_semantics.specs.Escapes.{simple_escape, octal_at, hexadecimal_at, byte_with}
 use Rattle.lex_semantics.specs.Reading.{◌>>=◌, take_up_to, value, is_empty, begins}
 use Rattle.lexre_bytes.specs.EscapeSteps.{escape_from}
 use Rattle.lexre_bytes.proofs.EscapeForms.{escape_is}
-use Rattle.lexre_bytes.specs.Lexical.{span, after_word, escape_at, literal_byte_at, bracketed_at, is_range, range_at, element_at}
-use Rattle.lexre_bytes.specs.Elements.{Element}
+use Rattle.lexre_bytes.specs.Lexical.{span, after_word, escape_at, bracketed_at, range_at, element_at}
+use Rattle.lexre_bytes.specs.Elements.{Element, is_range}
 use Rattle.lexre_bytes.specs.Brackets.{letters_at, named_at, enclosed_at, unsupported_at}
 use Rattle.lexre_bytes.specs.ClassSets.{member_at}
 use Rattle.lexre_bytes.specs.Stops.{stop_of, inside}
@@ -178,8 +178,7 @@ escape_ends (c ∷ t) = rw (escape_is (c ∷ t)) (go (c == 10) (within 48 55 c) 
     go false false true = end_next c t _ (or_itself c t (hexadecimal_at t) (hexadecimal_ends t))
     go false false false = end_next c t t (end_itself t)
 
-byte_ends : (t : List ℕ) → Ends t (literal_byte_at t)
-unfolding literal_byte_at
+byte_ends : (t : List ℕ) → Ends t (byte_with escape_at t)
 byte_ends [] = tt
 byte_ends (c ∷ t) = go (c == 10) (c == 92)
   where
@@ -192,7 +191,7 @@ range_ends : (lo : ℕ) (t : List ℕ) → Ends t (range_at lo t)
 range_ends lo t = first (bracketed_at t) refl (bracketed_ends t)
   where
     first : (o : Found) → ◌≡◌ {A = Found} (bracketed_at t) o → Ends t o → Ends t (range_at lo t)
-    first None e h = rw (range_of_bytes lo t e) (follows t (literal_byte_at t) _ (byte_ends t) (λ x k. k))
+    first None e h = rw (range_of_bytes lo t e) (follows t (byte_with escape_at t) _ (byte_ends t) (λ x k. k))
     first (Some x) e h = rw (range_of_bracket lo t x e) h
 
 after_low : (t : List ℕ) (lo : ℕ) (rest : List ℕ) → IsEnd t rest → Ends t (if is_range rest then range_at lo (drop 1 rest) else Some (span lo lo, rest))
@@ -206,13 +205,13 @@ element_ends : (t : List ℕ) → Ends t (element_at t)
 element_ends t = first (bracketed_at t) refl (bracketed_ends t)
   where
     first : (o : Found) → ◌≡◌ {A = Found} (bracketed_at t) o → Ends t o → Ends t (element_at t)
-    first None e h = rw (element_of_byte t e) (follows t (literal_byte_at t) _ (byte_ends t) (λ x k. after_low t x.0 x.1 k))
+    first None e h = rw (element_of_byte t e) (follows t (byte_with escape_at t) _ (byte_ends t) (λ x k. after_low t x.0 x.1 k))
     first (Some x) e h = rw (element_of_bracket t x e) h
 
 pub element_rest : (t rest : List ℕ) (e : Element) → ◌≡◌ {A = Found} (element_at t) (Some (e, rest)) → IsEnd t rest
 element_rest t rest e h = let P : Found → Type 0 = λ f. Ends t f in subst P h (element_ends t)
 
-pub byte_rest : (t rest : List ℕ) (b : ℕ) → ◌≡◌ {A = Byte} (literal_byte_at t) (Some (b, rest)) → IsEnd t rest
+pub byte_rest : (t rest : List ℕ) (b : ℕ) → ◌≡◌ {A = Byte} (byte_with escape_at t) (Some (b, rest)) → IsEnd t rest
 byte_rest t rest b h = let P : Byte → Type 0 = λ f. Ends t f in subst P h (byte_ends t)
 
 -- Stops.
@@ -299,6 +298,6 @@ member_known t rest s x e f h = known_on t rest s e (go (element_at t) (element_
     go None k g = cc
     go (Some y) k g = inner y y.0 k g
 
-pub range_known : (t rest after s : List ℕ) (low c : ℕ) → s ≡ stop_of t → ◌≡◌ {A = Byte} (literal_byte_at t) (Some (low, rest)) → rest ≡ c ∷ after → length s ≤ length after → s ≡ stop_of after
+pub range_known : (t rest after s : List ℕ) (low c : ℕ) → s ≡ stop_of t → ◌≡◌ {A = Byte} (byte_with escape_at t) (Some (low, rest)) → rest ≡ c ∷ after → length s ≤ length after → s ≡ stop_of after
 range_known t rest after s low c e f g h =
     known_on t after s e (end_then t rest after (byte_rest t rest low f) (c ∷ [], g)) h

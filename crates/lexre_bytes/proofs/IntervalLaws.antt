@@ -7,8 +7,8 @@ use Rattle.std.specs.Result.{OkIff, result_ok}
 use Rattle.lex_semantics.specs.ByteSets.{is_digit}
 use Rattle.lex_semantics.specs.Reading.{take_up_to, value, is_empty, begins}
 use Rattle.lexre_bytes.specs.Lexical.{after_word}
-use Rattle.lexre_bytes.specs.BraceSteps.{bounded, interval_at}
-use Rattle.lexre_bytes.specs.Symbols.{Symbol, interval}
+use Rattle.lexre_bytes.specs.BraceSteps.{bounded, interval_at, interval}
+use Rattle.lexre_bytes.specs.Symbols.{Symbol}
 use Rattle.lexre_bytes.proofs.Narrowing.{fits, too_large}
 use Rattle.lexre_bytes.specs.Limits.{max_times, number_cap}
 

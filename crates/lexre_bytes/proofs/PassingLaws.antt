@@ -3,12 +3,12 @@ use Rattle.std.proofs.Common.{◌≡◌, ℕ, zero, suc, ◌<◌, ◌≤◌, ◌
 use Rattle.std.proofs.lemmas.Bool.{ne_eqb}
 use Rattle.std.specs.Prelude.{codes, option_map}
 use Rattle.std.specs.List.{ends_with}
-use Rattle.lex_semantics.specs.Escapes.{until_quote}
+use Rattle.lex_semantics.specs.Escapes.{until_quote, byte_with}
 use Rattle.lex_semantics.specs.ByteSets.{is_alpha}
 use Rattle.lex_semantics.specs.Reading.{◌>>=◌, take_up_to, take_run, is_empty, begins}
 use Rattle.lexre_bytes.specs.Stops.{inside}
-use Rattle.lexre_bytes.specs.Lexical.{after_word, escape_at, span, literal_byte_at, class_name_at, enclosed_by, bracketed_at, is_range, range_at, element_at, elements_at, class_at}
-use Rattle.lexre_bytes.specs.Elements.{Element, named, unsupported}
+use Rattle.lexre_bytes.specs.Lexical.{after_word, escape_at, span, class_name_at, enclosed_by, bracketed_at, range_at, element_at, elements_at, class_at}
+use Rattle.lexre_bytes.specs.Elements.{Element, named, unsupported, is_range}
 use Rattle.lexre_bytes.specs.Quotes.{quoted_at, after_quotes}
 use Rattle.lexre_bytes.specs.Brackets.{letters_at, named_at, enclosed_at, unsupported_at}
 use Rattle.lexre_bytes.specs.Passing.{rest_of_class}
@@ -127,8 +127,7 @@ escape_below : (n : ℕ) (t : List ℕ) → length t ≤ n → (o : Option (ℕ 
 escape_below n t within None e = tt
 escape_below n t within (Some x) e = let h : length x.1 < length t = escape_shorter t x.1 x.0 e in omega arith
 
-byte_below : (t : List ℕ) → IsBelow (length t) (rest_of (literal_byte_at t))
-unfolding literal_byte_at
+byte_below : (t : List ℕ) → IsBelow (length t) (rest_of (byte_with escape_at t))
 byte_below [] = tt
 byte_below (c ∷ t) = go (c == 10) (c == 92) (escape_below (suc (length t)) t (omega arith) (escape_at t) refl)
   where
@@ -143,7 +142,7 @@ weaker n m (Some r) h le = omega arith
 
 range_below : (lo : ℕ) (t : List ℕ) → IsBelow (length t) (rest_of (range_at lo t))
 unfolding range_at
-range_below lo t = go (bracketed_at t) (literal_byte_at t) (bracketed_below t) (byte_below t)
+range_below lo t = go (bracketed_at t) (byte_with escape_at t) (bracketed_below t) (byte_below t)
   where
     go : (a : Option (Element × List ℕ)) (b : Option (ℕ × List ℕ)) → IsBelow (length t) (rest_of a) → IsBelow (length t) (rest_of b)
         → IsBelow (length t) (rest_of {A = Element} (option_or (a >>= λ (e, rest). Some (unsupported, rest)) (b >>= λ (hi, rest). Some (span lo hi, rest))))
@@ -153,7 +152,7 @@ range_below lo t = go (bracketed_at t) (literal_byte_at t) (bracketed_below t) (
 
 element_below : (t : List ℕ) → IsBelow (length t) (rest_of (element_at t))
 unfolding element_at
-element_below t = go (bracketed_at t) (literal_byte_at t) (bracketed_below t) (byte_below t)
+element_below t = go (bracketed_at t) (byte_with escape_at t) (bracketed_below t) (byte_below t)
   where
     ranged : (b : Bool) (lo : ℕ) (r : List ℕ) → length r < length t → IsBelow (length r) (rest_of (range_at lo (drop 1 r)))
         → IsBelow (length t) (rest_of {A = Element} (if b then range_at lo (drop 1 r) else Some (span lo lo, r)))
@@ -172,7 +171,7 @@ pub element_shorter : (t rest : List ℕ) → rest_of (element_at t) ≡ Some re
 element_shorter t rest e = below (length t) (rest_of (element_at t)) rest (element_below t) e
 
 quoted_below : (n : ℕ) (t : List ℕ) → IsBelow (length t) (rest_of (quoted_at n t))
-unfolding until_quote literal_byte_at
+unfolding until_quote
 quoted_below zero t = tt
 quoted_below (suc n) [] = tt
 quoted_below (suc n) (c ∷ t) = go (c == 34) (c == 10) (c == 92) (escape_below (suc (length t)) t (omega arith) (escape_at t) refl) (λ r. quoted_below n r)
@@ -239,7 +238,7 @@ unfolding elements_at
 elements_end n t = refl
 
 no_element : element_at [] ≡ None
-unfolding element_at bracketed_at class_name_at enclosed_by literal_byte_at after_word
+unfolding element_at bracketed_at class_name_at enclosed_by after_word
 no_element = refl
 
 no_elements : (n : ℕ) → rest_of (elements_at n false []) ≡ None

@@ -7,7 +7,7 @@ use Rattle.lex_semantics.specs.Escapes.{octal_at, hexadecimal_at, simple_escape,
 use Rattle.lex_semantics.specs.Reading.{take_up_to, value, is_empty, ◌>>=◌}
 use Rattle.lexre_bytes.specs.EscapeSteps.{escape_from}
 use Rattle.lexre_bytes.proofs.EscapeForms.{escape_is}
-use Rattle.lexre_bytes.specs.Lexical.{escape_at, literal_byte_at}
+use Rattle.lexre_bytes.specs.Lexical.{escape_at}
 use Rattle.lexre_bytes.specs.Quotes.{quoted_at, after_quotes}
 
 abbrev Found : Type 0
@@ -102,7 +102,7 @@ same_after n m k (Some x) h same = ap (with_byte x.0) (same x.1 h)
 
 -- the number that bounds the bytes tells nothing once there is room
 pub enough : (n m : ℕ) (t : List ℕ) → length t < n → length t < m → quoted_at n t ≡ quoted_at m t
-unfolding until_quote literal_byte_at
+unfolding until_quote
 enough zero m t h k = absurd (omega arith)
 enough (suc n) zero t h k = absurd (omega arith)
 enough (suc n) (suc m) [] h k = refl
@@ -121,19 +121,19 @@ unfolding after_quotes
 with_room n t h = ap rest_of (enough n (suc (length t)) t h (omega arith))
 
 pub after_nothing : after_quotes [] ≡ None
-unfolding after_quotes until_quote literal_byte_at
+unfolding after_quotes until_quote
 after_nothing = refl
 
 pub after_closing : (t : List ℕ) → after_quotes (34 ∷ t) ≡ Some t
-unfolding after_quotes until_quote literal_byte_at
+unfolding after_quotes until_quote
 after_closing t = refl
 
 pub after_newline : (t : List ℕ) → after_quotes (10 ∷ t) ≡ None
-unfolding after_quotes until_quote literal_byte_at
+unfolding after_quotes until_quote
 after_newline t = refl
 
 at_backslash : (t : List ℕ) → after_quotes (92 ∷ t) ≡ rest_of (after_byte (suc (length t)) (escape_at t))
-unfolding after_quotes until_quote literal_byte_at
+unfolding after_quotes until_quote
 at_backslash t = refl
 
 pub after_escape : (t rest : List ℕ) (b : ℕ) → ◌≡◌ {A = Found} (escape_at t) (Some (b, rest)) → after_quotes (92 ∷ t) ≡ after_quotes rest
@@ -145,7 +145,7 @@ pub after_bad_escape : (t : List ℕ) → ◌≡◌ {A = Found} (escape_at t) No
 after_bad_escape t e = at_backslash t ∙ ap (λ f. rest_of (after_byte (suc (length t)) f)) e
 
 at_other : (c : ℕ) (t : List ℕ) → (c == 34) ≡ false → (c == 10) ≡ false → (c == 92) ≡ false → after_quotes (c ∷ t) ≡ rest_of (after_byte (suc (length t)) (Some (c, t)))
-unfolding after_quotes until_quote literal_byte_at
+unfolding after_quotes until_quote
 at_other c t h k l = rw (h, k, l) refl
 
 pub after_other : (c : ℕ) (t : List ℕ) → (c == 34) ≡ false → (c == 10) ≡ false → (c == 92) ≡ false → after_quotes (c ∷ t) ≡ after_quotes t

@@ -93,11 +93,6 @@ has-set_of p b h = ap (λ s. bit_at s b == 1) (set_of-below p) ∙ ap (λ x. x =
 pub set_of-lt : (p : ℕ → Bool) → set_of p < 2 ^ 256
 set_of-lt p = subst (λ s. s < 2 ^ 256) (sym (set_of-below p)) (set_below-lt 256 p)
 
--- a set has bytes alone
-pub has-above : (s b : ℕ) → s < 2 ^ 256 → 256 ≤ b → has s b ≡ false
-unfolding has
-has-above s b h k = ap (λ x. x == 1) (bit_at_above s 256 b h k)
-
 -- equal tests make equal sets
 pub same_set_of : (p q : ℕ → Bool) → ((b : ℕ) → b < 256 → p b ≡ q b) → set_of p ≡ set_of q
 same_set_of p q h = set_of-below p ∙ same_below 256 p q h ∙ sym (set_of-below q)

@@ -5,12 +5,13 @@ use Rattle.std.specs.Prelude.{codes}
 use Rattle.lex_semantics.specs.ByteSets.{is_alpha}
 use Rattle.lex_semantics.specs.Reading.{◌>>=◌, take_up_to, is_empty, begins}
 use Rattle.lexre_bytes.specs.Stops.{inside}
-use Rattle.lexre_bytes.specs.Lexical.{span, after_word, escape_at, literal_byte_at, bracketed_at, is_range, range_at, element_at}
-use Rattle.lexre_bytes.specs.Elements.{Element, named, unsupported}
+use Rattle.lexre_bytes.specs.Lexical.{span, after_word, escape_at, bracketed_at, range_at, element_at}
+use Rattle.lexre_bytes.specs.Elements.{Element, named, unsupported, is_range}
 use Rattle.lexre_bytes.specs.Brackets.{letters_at, named_at, enclosed_at, unsupported_at}
 use Rattle.lexre_bytes.proofs.BracketForms.{bracketed_form}
 use Rattle.lexre_bytes.proofs.BracketLaws.{negated_then, equivalence_then, collating_then}
 use Rattle.lexre_bytes.proofs.QuoteLaws.{escape_shorter, take_up_to_within}
+use Rattle.lex_semantics.specs.Escapes.{byte_with}
 
 abbrev IsShorter : {A : Type 0} → ℕ → Option (A × List ℕ) → Type 0
 IsShorter n None = Unit {0}
@@ -122,8 +123,7 @@ bracketed_shorter t = first (named_at t) refl (named_shorter t)
     first None e h = second (unsupported_at t) e refl (unsupported_shorter t)
     first (Some x) e h = rw (named_is t x e) h
 
-byte_shorter : (t : List ℕ) → IsShorter (length t) (literal_byte_at t)
-unfolding literal_byte_at
+byte_shorter : (t : List ℕ) → IsShorter (length t) (byte_with escape_at t)
 byte_shorter [] = tt
 byte_shorter (c ∷ t) = go (c == 10) (c == 92) (escape_at t) refl
   where
@@ -136,7 +136,7 @@ byte_shorter (c ∷ t) = go (c == 10) (c == 92) (escape_at t) refl
 abbrev byte_end : ℕ → Byte → Found
 byte_end lo o = o >>= λ (hi, rest). Some (span lo hi, rest)
 
-pub range_of_bytes : (lo : ℕ) (t : List ℕ) → ◌≡◌ {A = Found} (bracketed_at t) None → ◌≡◌ {A = Found} (range_at lo t) (byte_end lo (literal_byte_at t))
+pub range_of_bytes : (lo : ℕ) (t : List ℕ) → ◌≡◌ {A = Found} (bracketed_at t) None → ◌≡◌ {A = Found} (range_at lo t) (byte_end lo (byte_with escape_at t))
 unfolding range_at
 range_of_bytes lo t e = rw (e, range_at) refl
 
@@ -148,7 +148,7 @@ range_shorter : (lo : ℕ) (t : List ℕ) → IsShorter (length t) (range_at lo 
 range_shorter lo t = first (bracketed_at t) refl (bracketed_shorter t)
   where
     first : (o : Found) → ◌≡◌ {A = Found} (bracketed_at t) o → IsShorter (length t) o → IsShorter (length t) (range_at lo t)
-    first None e h = rw (range_of_bytes lo t e) (follows (length t) (literal_byte_at t) _ (byte_shorter t) (λ x k. k))
+    first None e h = rw (range_of_bytes lo t e) (follows (length t) (byte_with escape_at t) _ (byte_shorter t) (λ x k. k))
     first (Some x) e h = rw (range_of_bracket lo t x e) h
 
 after_low : (n lo : ℕ) (rest : List ℕ) → length rest < n → IsShorter n (if is_range rest then range_at lo (drop 1 rest) else Some (span lo lo, rest))
@@ -161,7 +161,7 @@ after_low n lo rest h = go (is_range rest)
 abbrev after_byte : Byte → Found
 after_byte o = o >>= λ (lo, rest). if is_range rest then range_at lo (drop 1 rest) else Some (span lo lo, rest)
 
-pub element_of_byte : (t : List ℕ) → ◌≡◌ {A = Found} (bracketed_at t) None → ◌≡◌ {A = Found} (element_at t) (after_byte (literal_byte_at t))
+pub element_of_byte : (t : List ℕ) → ◌≡◌ {A = Found} (bracketed_at t) None → ◌≡◌ {A = Found} (element_at t) (after_byte (byte_with escape_at t))
 unfolding element_at
 element_of_byte t e = rw (e, element_at) refl
 
@@ -173,7 +173,7 @@ element_shorter : (t : List ℕ) → IsShorter (length t) (element_at t)
 element_shorter t = first (bracketed_at t) refl (bracketed_shorter t)
   where
     first : (o : Found) → ◌≡◌ {A = Found} (bracketed_at t) o → IsShorter (length t) o → IsShorter (length t) (element_at t)
-    first None e h = rw (element_of_byte t e) (follows (length t) (literal_byte_at t) _ (byte_shorter t) (λ x k. after_low (length t) x.0 x.1 k))
+    first None e h = rw (element_of_byte t e) (follows (length t) (byte_with escape_at t) _ (byte_shorter t) (λ x k. after_low (length t) x.0 x.1 k))
     first (Some x) e h = rw (element_of_bracket t x e) h
 
 pub element_takes : (t rest : List ℕ) (e : Element) → ◌≡◌ {A = Found} (element_at t) (Some (e, rest)) → length rest < length t

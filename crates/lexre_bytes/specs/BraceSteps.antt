@@ -1,11 +1,16 @@
 -- What stands between braces, step by step, as the code reads it.
-use Rattle.std.specs.Prelude.{ℕ, not, ◌&&◌, nat_le, if◌then◌else◌, Some, None, take, drop, codes}
+use Rattle.std.specs.Prelude.{ℕ, true, not, ◌&&◌, nat_le, if◌then◌else◌, Option, Some, None, take, drop, codes}
 use Rattle.std.specs.List.{list_any}
 use Rattle.lex_semantics.specs.ByteSets.{is_digit}
 use Rattle.lex_semantics.specs.Reading.{◌>>=◌, Reader, is_empty, begins, take_run, starts_name, goes_on_name, value}
 use Rattle.lexre_bytes.specs.Lexical.{after_word}
-use Rattle.lexre_bytes.specs.Symbols.{Symbol, name, interval}
+use Rattle.lex_semantics.specs.Tree.{Repeat}
+use Rattle.lexre_bytes.specs.Symbols.{Symbol, name, sign}
 use Rattle.lexre_bytes.specs.Limits.{max_times}
+
+-- `{m,n}`, or `{m,}`
+abbrev pub interval : ℕ → Option ℕ → Symbol
+interval m most = sign true (λ t. Repeat t m most)
 
 -- from m to n times, n from 1 on
 unfoldable pub bounded : ℕ → ℕ → Reader Symbol

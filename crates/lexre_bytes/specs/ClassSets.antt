@@ -1,8 +1,13 @@
 -- A class as one set, and what follows it. None where the class is not closed, or has an element that may not stand.
-use Rattle.std.specs.Prelude.{ℕ, Bool, Some}
-use Rattle.lex_semantics.specs.ByteSets.{ByteSet}
+use Rattle.std.specs.Prelude.{ℕ, Bool, Some, List, Option, ◌∷◌, []}
+use Rattle.lex_semantics.specs.ByteSets.{ByteSet, empty_set, union}
 use Rattle.lex_semantics.specs.Reading.{◌>>=◌, Reader}
-use Rattle.lexre_bytes.specs.Lexical.{element_at, elements_at, union_set, class_at, class_set}
+use Rattle.lexre_bytes.specs.Lexical.{element_at, elements_at, class_at, class_set}
+
+-- the bytes of all elements, if each has a set
+unfoldable pub union_set : List (Option ByteSet) → Option ByteSet
+union_set [] = Some empty_set
+union_set (e ∷ es) = e >>= λ s. union_set es >>= λ rest. Some (union s rest)
 
 -- the set of the element at the front of the text
 abbrev pub member_at : Reader ByteSet

@@ -1,14 +1,14 @@
 -- The symbols of a pattern, by their bytes. None means that the text begins with no symbol.
 -- (POSIX, lex, Regular Expressions in lex: quotes, escapes, bracket expressions, definitions; flex, Patterns.)
-use Rattle.std.specs.Prelude.{ℕ, zero, suc, Bool, true, false, not, ◌&&◌, ◌==◌, nat_le, nat_lt, nat_eq, if◌then◌else◌, List, [], ◌∷◌, ◌++◌, map, slice_get, find, zip, length, take, drop, Option, Some, None, unwrap_or, codes}
+use Rattle.std.specs.Prelude.{ℕ, zero, suc, Bool, true, false, not, ◌&&◌, ◌==◌, nat_le, nat_lt, nat_eq, if◌then◌else◌, List, [], ◌∷◌, ◌++◌, map, slice_get, find, zip, length, take, drop, Option, Some, None, unwrap_or, codes, is_none, ◌||◌}
 use Rattle.std.specs.List.{ends_with, list_any}
 use Rattle.std.specs.Option.{option_or}
-use Rattle.lex_semantics.specs.ByteSets.{ByteSet, empty_set, single, range_set, union, complement, fold_case, named_set, is_alpha, is_digit}
+use Rattle.lex_semantics.specs.ByteSets.{ByteSet, single, complement, named_set, is_alpha, is_digit, set_of, has, within, other_case}
 use Rattle.lex_semantics.specs.Reading.{◌>>=◌, Reader, is_empty, begins, take_run, starts_name, goes_on_name, value}
 use Rattle.lex_semantics.specs.Active.{lists}
 use Rattle.lex_semantics.specs.Escapes.{simple_escape, is_octal, octal_at, hexadecimal_at, byte_with, until_quote}
-use Rattle.lex_semantics.specs.Tree.{Tree, Empty, Set, Cat, trees}
-use Rattle.lexre_bytes.specs.Symbols.{Symbol, item, name, opening, closing, bar, sign, interval, any_times, once_or_more, at_most_once}
+use Rattle.lex_semantics.specs.Tree.{Tree, Set, Cat, Star, Repeat}
+use Rattle.lexre_bytes.specs.Symbols.{Symbol, item, name, opening, closing, bar, sign, grouped}
 use Rattle.lexre_bytes.specs.Limits.{max_times}
 
 -- what follows the word, where the text begins with it
@@ -27,9 +27,9 @@ number_at t = run_at is_digit t >>= λ (digits, rest). Some (value 10 digits, re
 unfoldable pub name_at : Reader (List ℕ)
 name_at t = if list_any starts_name (take 1 t) then Some (take_run goes_on_name t) else None
 
--- under `fold` a set has each letter in both cases
+-- under `fold` a set has each letter in both cases (flex, Scanner Options: case-insensitive)
 abbrev pub folded : Bool → ByteSet → ByteSet
-folded fold s = if fold then fold_case s else s
+folded fold s = if fold then set_of (λ b. has s b || has s (other_case b)) else s
 
 -- Escapes.
 
@@ -40,21 +40,15 @@ escape_at t = slice_get t 0 >>= λ c.
     else if is_octal c then octal_at t
     else option_or (after_word (codes "x") t >>= hexadecimal_at) (Some (simple_escape c, drop 1 t))
 
--- a byte between quotes or brackets: an escape, or any byte but a newline
-unfoldable pub literal_byte_at : Reader ℕ
-literal_byte_at t = byte_with escape_at t
-
 -- Texts in quotes.
 
 -- the bytes of a text in quotes, after its first quote, and what follows its last
 abbrev pub quoted_bytes : Reader (List ℕ)
-quoted_bytes t = until_quote literal_byte_at (suc (length t)) t
+quoted_bytes t = until_quote (byte_with escape_at) (suc (length t)) t
 
 -- its bytes in order, where a byte alone is its set
 unfoldable pub quoted_tree : Bool → List ℕ → Tree
-quoted_tree fold [] = Empty
-quoted_tree fold (b ∷ []) = Set (folded fold (single b))
-quoted_tree fold (b ∷ c ∷ bs) = Cat (trees (map (λ x. Set (folded fold (single x))) (b ∷ c ∷ bs)))
+quoted_tree fold bs = grouped Cat (map (λ b. Set (folded fold (single b))) bs)
 
 -- Bracket expressions, here called classes.
 
@@ -63,7 +57,7 @@ quoted_tree fold (b ∷ c ∷ bs) = Cat (trees (map (λ x. Set (folded fold (sin
 
 -- the bytes from the first to the second, both in it
 unfoldable pub span : ℕ → ℕ → Option ByteSet
-span lo hi = if nat_le lo hi then Some (range_set lo hi) else None
+span lo hi = if nat_le lo hi then Some (set_of (within lo hi)) else None
 
 -- this front, at least one letter, and `:]`: the letters, and what follows
 unfoldable pub class_name_at : List ℕ → Reader (List ℕ)
@@ -83,18 +77,15 @@ bracketed_at t =
     option_or (class_name_at (codes "[:") t >>= λ (letters, rest). Some (named_set letters, rest))
     (option_or (class_name_at (codes "[:^") t >>= λ (letters, rest). Some rest) (option_or (enclosed_by (codes "=") t) (enclosed_by (codes ".") t)) >>= λ rest. Some (None, rest))
 
--- a `-` that is followed by anything but an unescaped `]`
-unfoldable pub is_range : List ℕ → Bool
-is_range (c ∷ d ∷ t) = lists (codes "-") c && not (lists (codes "]") d)
-is_range _ = false
-
 -- after the first end of a range and its `-`: its set, and what follows it
 unfoldable pub range_at : ℕ → Reader (Option ByteSet)
-range_at lo t = option_or (bracketed_at t >>= λ (e, rest). Some (None, rest)) (literal_byte_at t >>= λ (hi, rest). Some (span lo hi, rest))
+range_at lo t = option_or (bracketed_at t >>= λ (e, rest). Some (None, rest)) (byte_with escape_at t >>= λ (hi, rest). Some (span lo hi, rest))
 
--- an element between brackets, a range, or a byte
+-- An element between brackets, a range, or a byte. A range is a byte and a `-` before anything but an unescaped `]`.
 unfoldable pub element_at : Reader (Option ByteSet)
-element_at t = option_or (bracketed_at t) (literal_byte_at t >>= λ (lo, rest). if is_range rest then range_at lo (drop 1 rest) else Some (span lo lo, rest))
+element_at t = option_or (bracketed_at t) (byte_with escape_at t >>= λ (lo, rest).
+    if begins (codes "-") rest && list_any (λ c. not (lists (codes "]") c)) (take 1 (drop 1 rest)) then range_at lo (drop 1 rest)
+    else Some (span lo lo, rest))
 
 -- The elements up to the closing bracket, and what follows it. A `]` that comes first is an element. The number bounds them.
 unfoldable pub elements_at : ℕ → Bool → Reader (List (Option ByteSet))
@@ -109,16 +100,12 @@ class_at t =
     let negated = begins (codes "^") t in
     elements_at (length t) true (if negated then drop 1 t else t) >>= λ (es, rest). Some (negated, es, rest)
 
--- the bytes of all elements, if each has a set
-unfoldable pub union_set : List (Option ByteSet) → Option ByteSet
-union_set [] = Some empty_set
-union_set (e ∷ es) = e >>= λ s. union_set es >>= λ rest. Some (union s rest)
-
--- closed under case first, and negated then, where a byte is left
+-- the bytes of all elements, if each has a set: closed under case first, and negated then, where a byte is left
 unfoldable pub class_set : Bool → Bool → List (Option ByteSet) → Option ByteSet
-class_set fold negated es = union_set es >>= λ u.
-    let s = if negated then complement (folded fold u) else folded fold u in
-    if negated && s == 0 then None else Some s
+class_set fold negated es =
+    let u = folded fold (set_of (λ b. list_any (λ e. has (unwrap_or e 0) b) es)) in
+    let s = if negated then complement u else u in
+    if list_any is_none es || (negated && s == 0) then None else Some s
 
 -- Intervals and names, after `{`.
 
@@ -126,7 +113,7 @@ class_set fold negated es = union_set es >>= λ u.
 unfoldable pub bounded : ℕ → Option ℕ → Reader Symbol
 bounded m most rest =
     let n = unwrap_or most max_times in
-    if nat_le m n && nat_le 1 n && nat_le n max_times then Some (interval m most, rest) else None
+    if nat_le m n && nat_le 1 n && nat_le n max_times then Some (sign true (λ t. Repeat t m most), rest) else None
 
 -- `m}`, `m,}` or `m,n}`
 unfoldable pub interval_at : Reader Symbol
@@ -147,10 +134,11 @@ braces_at t = option_or (interval_at t) (name_at t >>= λ (letters, rest).
 unfoldable pub symbol_at : Bool → Reader Symbol
 symbol_at fold [] = None
 symbol_at fold (c ∷ t) =
-    let signs = zip (codes "()|*+?.") (opening ∷ closing ∷ bar ∷ sign any_times ∷ sign once_or_more ∷ sign at_most_once ∷ item (Set (complement (single 10))) ∷ []) in
+    let signs = zip (codes "()|*+?.") (opening ∷ closing ∷ bar ∷ sign false Star ∷ sign false (λ t. Repeat t 1 None)
+    ∷ sign false (λ t. Repeat t 0 (Some 1)) ∷ item (Set (complement (single 10))) ∷ []) in
     option_or (find (λ row. c == row.0) signs >>= λ row. Some (row.1, t))
     (if lists (codes "\"") c then (quoted_bytes t >>= λ (bs, rest). Some (item (quoted_tree fold bs), rest))
     else if lists (codes "[") c then (class_at t >>= λ (negated, es, rest). class_set fold negated es >>= λ s. Some (item (Set s), rest))
     else if lists (codes "{") c then braces_at t
     else if lists (codes "/ \t") c then None
-    else literal_byte_at (c ∷ t) >>= λ (b, rest). Some (item (Set (folded fold (single b))), rest))
+    else byte_with escape_at (c ∷ t) >>= λ (b, rest). Some (item (Set (folded fold (single b))), rest))

@@ -1,14 +1,8 @@
 -- The symbols of a pattern. (POSIX, lex, Regular Expressions in lex; intervals as in flex, Patterns.)
-use Rattle.std.specs.Prelude.{◌≡◌, ℕ, List, [], Option, Some, None}
+use Rattle.std.specs.Prelude.{◌≡◌, ℕ, Bool, List, [], ◌∷◌}
 use Rattle.lex_semantics.specs.Reading.{Reader}
 use Rattle.lex_semantics.specs.Reading as reading
-use Rattle.lex_semantics.specs.Tree.{Tree, Star, Repeat}
-
--- `*`, `+` or `?`
-pub data Sign : Type 0 where
-  any_times : Sign
-  once_or_more : Sign
-  at_most_once : Sign
+use Rattle.lex_semantics.specs.Tree.{Tree, Trees, trees, Empty}
 
 pub data Symbol : Type 0 where
   -- what is an item by itself: a byte, an escape, `.`, a class, or a text in quotes
@@ -18,14 +12,14 @@ pub data Symbol : Type 0 where
   opening : Symbol
   closing : Symbol
   bar : Symbol
-  sign : Sign → Symbol
-  -- `{m,n}`, or `{m,}`
-  interval : ℕ → Option ℕ → Symbol
+  -- `*`, `+` or `?`, or in braces `{m,n}` or `{m,}`: the tree that it makes of the one to its left
+  sign : (braces : Bool) → (Tree → Tree) → Symbol
 
-abbrev pub signed : Sign → Tree → Tree
-signed any_times t = Star t
-signed once_or_more t = Repeat t 1 None
-signed at_most_once t = Repeat t 0 (Some 1)
+-- the tree of these parts: none are the empty text, and one is itself
+abbrev pub grouped : (Trees → Tree) → List Tree → Tree
+grouped made [] = Empty
+grouped made (t ∷ []) = t
+grouped made (t ∷ u ∷ ts) = made (trees (t ∷ u ∷ ts))
 
 -- where a text begins with a symbol: the symbol, and what follows it
 abbrev pub Lexer : Type 0

@@ -1,7 +1,8 @@
 //! What stands between brackets inside a class. (POSIX, Base Definitions, RE Bracket Expression.)
 ghost use Rattle.std.specs.Prelude.{◌≡◌, ◌≤◌, ℕ, List, length, Option, Some, None, MatchResult, IfErr, option_map};
 ghost use Rattle.lexre_bytes.specs.Faults.{IsByteFault};
-ghost use Rattle.lexre_bytes.specs.Lexical.{literal_byte_at};
+ghost use Rattle.lexre_bytes.specs.Lexical.{escape_at};
+ghost use Rattle.lex_semantics.specs.Escapes.{byte_with};
 ghost use Rattle.lexre_bytes.specs.Brackets.{enclosed_at, letters_at, named_at, unsupported_at};
 ghost use Rattle.lexre_bytes.specs.Stops.{stop_of};
 
@@ -87,8 +88,8 @@ pub(crate) fn class_byte_at<'a>(
     text: &'a [u8],
 ) -> Result<(u8, &'a [u8]), FaultAt<'a>>
     ensures found { MatchResult result
-        (λ x. ◌≡◌ {A = Option (ℕ × List ℕ)} (literal_byte_at text.now) (Some (x.0, x.1.now)))
-        (λ _. ◌≡◌ {A = Option (ℕ × List ℕ)} (literal_byte_at text.now) None) }
+        (λ x. ◌≡◌ {A = Option (ℕ × List ℕ)} (byte_with escape_at text.now) (Some (x.0, x.1.now)))
+        (λ _. ◌≡◌ {A = Option (ℕ × List ℕ)} (byte_with escape_at text.now) None) }
     ensures fault { IfErr result (λ f. IsByteFault f.kind) }
 {
     match literal_byte_at(text) {

@@ -1,8 +1,8 @@
 //! The elements of a class. (POSIX, Base Definitions, RE Bracket Expression.)
 ghost use Rattle.std.specs.Prelude.{◌≡◌, ◌≤◌, List, length, ℕ, Option, Some, None};
 ghost use Rattle.std.specs.Prelude.{MatchResult, IfErr, IfOk, IfSome, option_map};
-ghost use Rattle.lexre_bytes.specs.Lexical.{bracketed_at, element_at, is_range, range_at};
-ghost use Rattle.lexre_bytes.specs.Elements.{element_of, Element};
+ghost use Rattle.lexre_bytes.specs.Lexical.{bracketed_at, element_at, range_at};
+ghost use Rattle.lexre_bytes.specs.Elements.{element_of, is_range, Element};
 ghost use Rattle.lexre_bytes.specs.Faults.{IsByteFault, HasPartFault};
 ghost use Rattle.lexre_bytes.specs.Stops.{stop_of};
 
@@ -31,7 +31,6 @@ fn bracketed_at<'a>(text: &'a [u8], stop: &[u8]) -> Option<(ClassItem<'a>, &'a [
 }
 
 /// Whether a range goes on here: a `-` that is followed by anything but an unescaped `]`.
-#[tactic(auto, unfolding(crate::specs::Lexical::is_range))]
 fn is_range(text: &[u8]) -> bool
     ensures { result ≡ is_range text.now }
 {

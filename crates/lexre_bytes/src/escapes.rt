@@ -1,7 +1,8 @@
 //! Escapes. (POSIX, lex, Regular Expressions in lex; flex, Patterns.)
 ghost use Rattle.std.specs.Prelude.{◌≡◌, ℕ, List, Option, option_map};
 ghost use Rattle.lex_semantics.specs.Escapes.{simple_escape, hexadecimal_at, octal_at};
-ghost use Rattle.lexre_bytes.specs.Lexical.{escape_at, literal_byte_at};
+ghost use Rattle.lexre_bytes.specs.Lexical.{escape_at};
+ghost use Rattle.lex_semantics.specs.Escapes.{byte_with};
 
 use crate::classes::Class;
 use crate::digits::capped_value;
@@ -22,9 +23,8 @@ pub fn escape_at(text: &[u8]) -> Option<(u8, &[u8])>
 }
 
 /// A byte between quotes or brackets, and what follows it: an escape, or any byte but a newline.
-#[tactic(auto, unfolding(crate::specs::Lexical::literal_byte_at))]
 pub fn literal_byte_at(text: &[u8]) -> Option<(u8, &[u8])>
-    ensures { ◌≡◌ {A = Option (ℕ × List ℕ)} (literal_byte_at text.now) (option_map (λ x. (x.0, x.1.now)) result) }
+    ensures { ◌≡◌ {A = Option (ℕ × List ℕ)} (byte_with escape_at text.now) (option_map (λ x. (x.0, x.1.now)) result) }
 {
     let (&byte, after) = text.split_first()?;
     match byte {

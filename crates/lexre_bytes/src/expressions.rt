@@ -25,7 +25,7 @@ fn span(low: u8, high: u8) -> ByteSet
 
 /// The set of the element at the front of the text, and what follows it. `class` is the text from the class on, and
 /// `stop` the text from its first `]` or newline on.
-#[tactic(auto, unfolding(crate::specs::Lexical::span), using(crate::proofs::FaultLaws::byte_fault_of_class, crate::proofs::FaultLaws::part_fault_of_class))]
+#[tactic(auto, unfolding(crate::specs::Lexical::span, lex_semantics::specs::ByteSets::range_set), using(crate::proofs::FaultLaws::byte_fault_of_class, crate::proofs::FaultLaws::part_fault_of_class))]
 fn member_at<'a>(
     class: &'a [u8],
     text: &'a [u8],
@@ -87,6 +87,7 @@ fn members_at<'a>(class: &'a [u8], text: &'a [u8]) -> Result<(ByteSet, &'a [u8])
 }
 
 /// The set, with each letter in both cases under `fold`. (flex, Scanner Options: case-insensitive.)
+#[tactic(auto, unfolding(lex_semantics::specs::ByteSets::fold_case))]
 pub fn fold_if(fold: bool, set: ByteSet) -> ByteSet
     ensures { result ≡ folded fold set }
 {

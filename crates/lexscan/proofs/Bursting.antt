@@ -298,7 +298,7 @@ module _ (M : Machine) (laws : MachineLaws M) (text : List ℕ) (bytes : IsText 
       rule_is = heads.is;
       rejected = λ before. Down.no_outcome M w 0 before cs;
       carried = λ before. (
-        record { after = acting_of w (acting_after_gist longest.gist longest.keep cs) (before ++ written_by longest.gist (take (0 + longest.keep) w)); ended = None },
+        record (acting_of w (acting_after_gist longest.gist longest.keep cs) (before ++ written_by longest.gist (take (0 + longest.keep) w))) { ended = None },
         λ rest.
             head_outcome M w 0 (record { len = heads.len; rule = heads.rule; keep = longest.keep }) rest before cs
             ∙ ap (λ l. settle (act_result l (acting_of w (start_of 0 longest.keep cs) before)) (λ a. outcome M w 0 rest a.written (conditions_in a))) (sym heads.does)
@@ -307,8 +307,8 @@ module _ (M : Machine) (laws : MachineLaws M) (text : List ℕ) (bytes : IsText 
       );
     }
 
-    cut : (front : List ℕ) → BeginsWith (written_by longest.gist (take longest.keep (drop c text))) front → wrote t front u → (before : List ℕ) (o : Scan.Matched) →
-        outcome M w 0 (matches_of M w 0 path) before cs ≡ Some o → BeginsWith o.after.written (before ++ front)
+    cut : (front : List ℕ) → BeginsWith (written_by longest.gist (take longest.keep (drop c text))) front → wrote t front u → (before : List ℕ) (o : Scan.Acting) →
+        outcome M w 0 (matches_of M w 0 path) before cs ≡ Some o → BeginsWith o.written (before ++ front)
     cut front begins put before o e =
         Down.cut_front M wrote none join w 0 t u (record { len = heads.len; rule = heads.rule; keep = longest.keep }) heads.others cs (statements_in longest.gist) heads.does
         (record { out = front; sink = put; front = λ b. said_front w longest.gist longest.keep cs b front is heads.simple (subst (λ l. BeginsWith (written_by longest.gist l) front) (sym said_here) begins) }) before o
@@ -429,7 +429,7 @@ module _ (M : Machine) (laws : MachineLaws M) (text : List ℕ) (bytes : IsText 
         let short : CutAll M wrote t u v.reading.window.bytes 0 (matches_of M v.reading.window.bytes 0 (path_of M p v.reading.window.bytes way.count)) cs = record {
           out = front;
           sink = put;
-          front = subst (λ z. (before : List ℕ) (o : Scan.Matched) → outcome M z 0 (matches_of M z 0 (path_of M p z way.count)) before cs ≡ Some o → BeginsWith o.after.written (before ++ front)) (sym b.bytes_are) (cut front begins put);
+          front = subst (λ z. (before : List ℕ) (o : Scan.Acting) → outcome M z 0 (matches_of M z 0 (path_of M p z way.count)) before cs ≡ Some o → BeginsWith o.written (before ++ front)) (sym b.bytes_are) (cut front begins put);
         } in
         let m : Refused M Nothing wrote tt tt t u (record old { failed = true }) v Write = record {
           took = record {

@@ -3,7 +3,7 @@ use Rattle.std.proofs.Common.{◌≡◌, ℕ, zero, suc, ◌+◌, ◌-◌, ◌�
 use Rattle.std.proofs.lemmas.List.{length-append, length-drop, drop-drop}
 use Rattle.lex_semantics.specs.Text.{part, at_line_start}
 use Rattle.lex_semantics.specs.Candidates.{Candidates}
-use Rattle.lex_semantics.specs.Acting.{Matched}
+use Rattle.lex_semantics.specs.Acting.{Acting}
 use Rattle.lex_semantics.specs.ActionResults.{perform_results}
 use Rattle.lex_semantics.specs.Demand.{AsksAt}
 use Rattle.lex_semantics.specs.Scanned.{Seen}
@@ -71,7 +71,7 @@ module _ (M : Machine) (laws : MachineLaws M) (given got : List ℕ) (start : �
     asks_here zero lt = inl refl
     asks_here (suc i) lt = inr (to_input (suc i) (h.asked (suc i) (omega arith) lt))
 
-    pub seen_here : (o : Matched) → outcome M w p.at (matches_of M w p.at path) [] (record { next = p.condition; stack = cs }) ≡ Some o →
+    pub seen_here : (o : Acting) → outcome M w p.at (matches_of M w p.at path) [] (record { next = p.condition; stack = cs }) ≡ Some o →
         (s : Seen (rules_of_machine M) (given ++ got) (record { start = start; at = start + p.at; condition = p.condition; stack = cs }) reach) × (s.outcome ≡ o)
     seen_here o is =
         let yw : List ℕ = drop p.at w in

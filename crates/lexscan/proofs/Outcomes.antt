@@ -7,7 +7,6 @@ use Rattle.lex_semantics.specs.Legal.{IsAction}
 use Rattle.lex_semantics.specs.Rules.{Rules, statements_of}
 use Rattle.lex_semantics.specs.Candidates.{Candidate, Candidates}
 use Rattle.lex_semantics.specs.Acting as Scan
-use Rattle.lex_semantics.specs.Acting.{Matched}
 use Rattle.lex_semantics.specs.ActionResults.{ActionResult, Done, Again, Over, act_result, settle, perform_results}
 use Rattle.lex_semantics.specs.Machine.{Machine, rules_of_machine}
 use Rattle.lex_semantics.specs.MachineLaws.{MachineLaws}
@@ -28,21 +27,21 @@ use Rattle.lexscan_matching.specs.Descends.{Conditions, outcome, matches_of}
 use Rattle.lexscan_matching.proofs.Descending.{default_one}
 
 -- the conditions stay in range
-settle_below : (n : ℕ) (w : ActionResult) (f : Scan.Acting → Option Matched) (o : Matched) → ResultBelow n w → ((a : Scan.Acting) → Below n a.condition a.stack → f a ≡ Some o → Below n o.after.condition o.after.stack) → settle w f ≡ Some o →
-    Below n o.after.condition o.after.stack
-settle_below n (Done a) f o h later e = subst (λ (z : Matched). Below n z.after.condition z.after.stack) (some_inj (record { after = a; ended = None }) o e) h
+settle_below : (n : ℕ) (w : ActionResult) (f : Scan.Acting → Option Scan.Acting) (o : Scan.Acting) → ResultBelow n w → ((a : Scan.Acting) → Below n a.condition a.stack → f a ≡ Some o → Below n o.condition o.stack) → settle w f ≡ Some o →
+    Below n o.condition o.stack
+settle_below n (Done a) f o h later e = subst (λ (z : Scan.Acting). Below n z.condition z.stack) (some_inj (record a { ended = None }) o e) h
 settle_below n (Again a) f o h later e = later a h e
-settle_below n (Over a d) f o h later e = subst (λ (z : Matched). Below n z.after.condition z.after.stack) (some_inj (record { after = a; ended = Some d }) o e) h
+settle_below n (Over a d) f o h later e = subst (λ (z : Scan.Acting). Below n z.condition z.stack) (some_inj (record a { ended = Some d }) o e) h
 
-pub perform_below : (R : Rules) → ((i : ℕ) → i < R.count → IsAction R.conditions (R.statements i)) → (kept y : List ℕ) (ms : List Candidate) (out : List ℕ) (c : ℕ) (cs : List ℕ) (o : Matched) → Below R.conditions c cs →
-    perform_results R kept y ms out c cs ≡ Some o → Below R.conditions o.after.condition o.after.stack
+pub perform_below : (R : Rules) → ((i : ℕ) → i < R.count → IsAction R.conditions (R.statements i)) → (kept y : List ℕ) (ms : List Candidate) (out : List ℕ) (c : ℕ) (cs : List ℕ) (o : Scan.Acting) → Below R.conditions c cs →
+    perform_results R kept y ms out c cs ≡ Some o → Below R.conditions o.condition o.stack
 unfolding perform_results
 perform_below R legal kept y [] out c cs o lt e = absurd (no e)
   where
     no : None ≡ Some o → ⊥
     no p = cc
 perform_below R legal kept y (m ∷ ms) out c cs o lt e =
-    let a : Scan.Acting = record { text = kept ++ take m.keep y; written = out; condition = c; stack = cs; more = false } in
+    let a : Scan.Acting = record { text = kept ++ take m.keep y; written = out; condition = c; stack = cs; more = false; ended = None } in
     let ok : IsAction R.conditions (statements_of R m.rule) = legal_of R legal m.rule (cases_lt m.rule R.count) in
     settle_below R.conditions (act_result (statements_of R m.rule) a) (λ b. perform_results R kept y ms b.written b.condition b.stack) o
     (act_below R.conditions (statements_of R m.rule) a lt (begins_below R.conditions (statements_of R m.rule) ok.ranges))
@@ -89,11 +88,11 @@ module _ (M : Machine) (laws : MachineLaws M) (p : TextPlace) (w : List ℕ) (re
       refl
 
   -- its text is not empty
-  pub some_text : (o : Matched) (out : List ℕ) (c : Conditions) → outcome M w p.at (matches_of M w p.at path) out c ≡ Some o → 1 ≤ length o.after.text
+  pub some_text : (o : Scan.Acting) (out : List ℕ) (c : Conditions) → outcome M w p.at (matches_of M w p.at path) out c ≡ Some o → 1 ≤ length o.text
   some_text o out c e =
       let q = good out c in
       let same : q.0 ≡ o = some_inj q.0 o (sym q.1 ∙ sym (seen_outcome out c) ∙ e) in
-      subst (λ (z : Matched). 1 ≤ length z.after.text) same (from q.0.after q.2.grows)
+      subst (λ (z : Scan.Acting). 1 ≤ length z.text) same (from q.0 q.2.grows)
     where
       from : (a : Scan.Acting) → (length (take p.at w) < length a.text) ⊎ ((1 ≤ length a.text) × (a.more ≡ false)) → 1 ≤ length a.text
       from a (inl lt) = omega (arith, lt)

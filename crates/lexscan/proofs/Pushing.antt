@@ -1,6 +1,6 @@
 -- Scans by pieces.
-use Rattle.std.proofs.Common.{◌≡◌, ℕ, suc, ◌+◌, ◌-◌, ◌<◌, ◌≤◌, inl, inr, Bool, true, false, List, [], ◌++◌, length, take, drop, min, Option, Some, None, Result, Ok, Err, refl, sym, ap, subst, ◌∙◌, append_assoc, append-nil, arith}
-use Rattle.std.specs.Prelude.{IsErrOf, IfSome}
+use Rattle.std.proofs.Common.{◌≡◌, ℕ, suc, ◌+◌, ◌-◌, ◌<◌, ◌≤◌, inl, inr, Bool, true, false, List, [], ◌++◌, length, take, drop, min, Option, Some, None, Ok, Err, refl, sym, ap, subst, ◌∙◌, append_assoc, append-nil, arith}
+use Rattle.std.specs.Prelude.{IfSome}
 use Rattle.std.proofs.lemmas.Bool.{cases_lt, cases_eq, cases_Bool}
 use Rattle.std.proofs.lemmas.List.{length-append, drop-append-le, nil_from_length, take-append-le, length-drop, drop_all}
 use Rattle.std.proofs.Math.Seq.{take-append_seam, drop-append_seam, drop-append-add}
@@ -18,9 +18,9 @@ use Rattle.lex_semantics.proofs.Written.{run_begins}
 use Rattle.lexscan_window.specs.declared.state.State.{State}
 use Rattle.lexscan.specs.declared.turn.Turn.{Turn}
 use Rattle.lexscan_window.specs.declared.error.RunError.{RunError}
-use Rattle.lexscan_window.specs.declared.error.RunError.TheVariants.{Read, TooManyReads}
+use Rattle.lexscan_window.specs.declared.error.RunError.TheVariants.{TooManyReads}
 use Rattle.lex_semantics.specs.ByteSets.{bit_of}
-use Rattle.lexscan_window.specs.Reads.{read_fault_count, end_step}
+use Rattle.lexscan_window.specs.Reads.{end_step}
 use Rattle.lexscan_matching.specs.Descends.{ending_of}
 use Rattle.lexscan.specs.Stands.{state_of, Stands, Fell, NoneAfterEnd}
 use Rattle.lexscan.specs.Pushes.{AsksForMore, Standing, MadeTurns, Pauses, Fed, RunsTo, WritesFirst, AfterFeed, AfterFinish, GoesOnOver, WalksOn, IsAsking}
@@ -197,9 +197,6 @@ module _ (M : Machine) (old new : State) (waiting left : List ℕ) (ends ends' :
 pub consistent_end : (g rest : List ℕ) (b : Bool) → (b ≡ true → rest ≡ []) → GoesOnFrom g b (g ++ rest)
 consistent_end g rest true none = ap (λ l. g ++ l) (none refl) ∙ append-nil g
 consistent_end g rest false none = (rest, refl)
-
-pub read_not : {T : Type 0} (result : Result T RunError) → 0 ≡ 0 + read_fault_count result → IsErrOf result Read → ⊥
-read_not result none is = let one : read_fault_count result ≡ 1 = ap read_fault_count is in omega (arith, none, one)
 
 -- a text that goes on from more goes on from less
 pub begins_less : (x g rest : List ℕ) → BeginsWith x (g ++ rest) → BeginsWith x g

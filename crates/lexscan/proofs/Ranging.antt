@@ -17,6 +17,6 @@ conditions_below M laws gave wrote s s' t t' old new turn (inl m) lt =
     subst (λ cs. Below M.conditions new.place.condition cs) (sym m.acted.left.stack)
     (subst (λ c. Below M.conditions c m.acted.acting.stack) (sym m.acted.left.condition)
     (perform_below (rules_of_machine M) laws.legal (take old.place.at m.mid.window.bytes) (drop old.place.at m.mid.window.bytes) (matches_of M m.mid.window.bytes old.place.at m.path) [] old.place.condition old.acting.stack
-    (record { after = acting_of m.mid.window.bytes m.acted.acting m.acted.performed.out; ended = ending_of m.acted.ended }) lt (m.acted.performed.acts [])))
+    (record (acting_of m.mid.window.bytes m.acted.acting m.acted.performed.out) { ended = ending_of m.acted.ended }) lt (m.acted.performed.acts [])))
 conditions_below M laws gave wrote s s' t t' old new turn (inr m) lt =
     subst (λ cs. Below M.conditions new.place.condition cs) (sym m.left.stack) (subst (λ c. Below M.conditions c old.acting.stack) (sym m.left.condition) lt)

@@ -172,7 +172,7 @@ module _ {S K : Type 0} (M : Machine) (laws : MachineLaws M) (gave : S → List 
       let q = good M laws old.place w looked.reach looked.state path looked.some looked.so_far [] (conditions_at old) in
       let is : outcome M w old.place.at (matches_of M w old.place.at path) [] (conditions_at old) ≡ Some q.0 = seen_outcome M laws old.place w looked.reach looked.state path looked.some looked.so_far [] (conditions_at old) ∙ q.1 in
       let ahead = seen_here M laws given m.took.got h.start old.place old.acting.stack w h.covered win h.line looked.reach looked.state path looked.some looked.so_far q.0 is in
-      let wrote_all : BeginsWith ahead.0.outcome.after.written cut.out = subst (λ (z : Scan.Matched). BeginsWith z.after.written cut.out) (sym ahead.1) (cut.front [] q.0 is) in
+      let wrote_all : BeginsWith ahead.0.outcome.written cut.out = subst (λ (z : Scan.Acting). BeginsWith z.written cut.out) (sym ahead.1) (cut.front [] q.0 is) in
       (λ x k v e run.
       let split = with_rest (given ++ m.took.got) new.reading.at_end x k.1 in
       part_begins (rules_of_machine M) x n (state_of out h.start old) (seen_turn (record { start = h.start; at = h.start + old.place.at; condition = old.place.condition; stack = old.acting.stack }) ahead.0.outcome) cut.out v e (after_before x k).turns (ap ending_of going)
@@ -205,7 +205,7 @@ module _ {S K : Type 0} (M : Machine) (laws : MachineLaws M) (gave : S → List 
       front = front;
       within = within;
       asks_end = λ is. wants_end (wants is);
-      whole = λ early. sym (append-nil out) ∙ ap (λ z. out ++ z) (sym (quiet early));
+      whole = λ sink stack. sym (append-nil out) ∙ ap (λ z. out ++ z) (sym (quiet (sink, stack)));
     };
     held = sym win;
     taken = m.took.taken ∙ ap (λ k. k + length m.took.got) h.taken ∙ sym longer;

@@ -78,7 +78,7 @@ module _ {S K : Type 0} (M : Machine) (laws : MachineLaws M) (gave : S → List 
       let longer : length g ≡ length given + length m.took.got = length-append given m.took.got in
       let by : Option ℕ = m.acted.ended in
       let after : Scan.Acting = acting_of w m.acted.acting m.acted.performed.out in
-      let o : Scan.Matched = record { after = after; ended = ending_of by } in
+      let o : Scan.Acting = record after { ended = ending_of by } in
       let start : ℕ = next_start (ending_of by) m.acted.acting.more h.start (h.start + len) in
       let place : start + new.place.at ≡ h.start + len = left_place by m.acted.acting.more h.start len m.acted.acting.end new.place.at same m.acted.left.at in
       let ahead = seen_here M laws given m.took.got h.start p old.acting.stack w h.covered win h.line m.looked.reach m.looked.state m.path m.looked.some m.looked.so_far o (m.acted.performed.acts []) in
@@ -173,12 +173,12 @@ module _ {S K : Type 0} (M : Machine) (laws : MachineLaws M) (gave : S → List 
   faulted_ran path looked fault =
       let w : List ℕ = new.reading.window.bytes in
       let win : drop h.start (given ++ took.got) ≡ w = drop-append-le h.start given took.got (omega (arith, h.covered)) ∙ ap (λ z. z ++ took.got) (sym h.held) ∙ sym took.held in
-      let o : Scan.Matched = record { after = acting_of w fault.acting fault.performed.out; ended = Some StackFault } in
+      let o : Scan.Acting = record (acting_of w fault.acting fault.performed.out) { ended = Some StackFault } in
       let ahead = seen_here M laws given took.got h.start old.place old.acting.stack w h.covered win h.line looked.reach looked.state path looked.some looked.so_far o (fault.performed.acts []) in
       let last : Run.State = then_turn (state_of out h.start old) (seen_turn (record { start = h.start; at = h.start + old.place.at; condition = old.place.condition; stack = old.acting.stack }) ahead.0.outcome) in
       let scanned : Scanned (rules_of_machine M) (given ++ took.got) new.reading.at_end (suc n) last = over_fault win path looked ahead.0 looked.stops in
-      let writes : last.written ≡ out ++ fault.performed.out = ap (λ (z : Scan.Matched). out ++ z.after.written) ahead.1 in
-      let ends : last.ended ≡ Some StackFault = ap (λ (z : Scan.Matched). z.ended) ahead.1 in (
+      let writes : last.written ≡ out ++ fault.performed.out = ap (λ (z : Scan.Acting). out ++ z.written) ahead.1 in
+      let ends : last.ended ≡ Some StackFault = ap (λ (z : Scan.Acting). z.ended) ahead.1 in (
         record {
           text = is_text_append given took.got h.text took.text;
           turns = suc n;

@@ -6,7 +6,7 @@ use Rattle.lex_semantics.proofs.ResultsAre.{results_are}
 use Rattle.lex_semantics.specs.Text.{Among, IsText, part, at_line_start}
 use Rattle.lex_semantics.specs.Rules.{Rules}
 use Rattle.lex_semantics.specs.Candidates.{Candidate, Candidates}
-use Rattle.lex_semantics.specs.Acting.{Matched as Outcome}
+use Rattle.lex_semantics.specs.Acting.{Acting as Outcome}
 use Rattle.lex_semantics.specs.ActionResults.{perform_results}
 use Rattle.lex_semantics.specs.Demand.{Consistent, GoesOnFrom}
 use Rattle.lex_semantics.specs.Run.{Place}
@@ -38,8 +38,8 @@ with_rest given false x h = (h.0, h.1, λ e. absurd (no e))
     no p = cc
 
 -- what is told of a match
-tells_by : (R : Rules) (given : List ℕ) (at_end : Bool) (p : Place) (rule : Option MatchedRule) (new : State) (m : Candidate) (o : Outcome) → IsRule R.count rule m.rule → text_start new ≡ p.start → new.acting.end ≡ length o.after.text →
-    last_of new.acting.end (kept_before new) ≡ o.after.text → text_start new + new.acting.end ≤ length given → part given (text_start new) (text_start new + new.acting.end) ≡ o.after.text →
+tells_by : (R : Rules) (given : List ℕ) (at_end : Bool) (p : Place) (rule : Option MatchedRule) (new : State) (m : Candidate) (o : Outcome) → IsRule R.count rule m.rule → text_start new ≡ p.start → new.acting.end ≡ length o.text →
+    last_of new.acting.end (kept_before new) ≡ o.text → text_start new + new.acting.end ≤ length given → part given (text_start new) (text_start new + new.acting.end) ≡ o.text →
     ((x : List ℕ) → Consistent given at_end x → CarriesOut R x p m o) → TellsMatch R given at_end p (match_by rule new) (text_of (match_by rule new) new)
 tells_by R given at_end p None new m o is start long text inside here carries = absurd is
 tells_by R given at_end p (Some rule) new m o is start long text inside here carries =
@@ -79,9 +79,9 @@ module _ {S K : Type 0} (M : Machine) (laws : MachineLaws M) (gave : S → List 
       reach = m.looked.reach
 
       o : Outcome
-      o = record { after = acting_of w m.acted.acting m.acted.performed.out; ended = ending_of m.acted.ended }
+      o = record (acting_of w m.acted.acting m.acted.performed.out) { ended = ending_of m.acted.ended }
 
-      same : length o.after.text ≡ m.acted.acting.end
+      same : length o.text ≡ m.acted.acting.end
       same = length-take-le m.acted.acting.end w m.acted.inside
 
       win : drop h.start g ≡ w
@@ -103,7 +103,7 @@ module _ {S K : Type 0} (M : Machine) (laws : MachineLaws M) (gave : S → List 
           (m.acted.left.at ∙ ap (left_at (stays m.acted.acting.more (is_over m.acted.ended))) (sym m.acted.left.end))
           (omega (arith, taken_all, longer, h.covered)) (ap length (sym win) ∙ length-drop h.start g ∙ ap (λ z. z - h.start) (sym taken_all)) (omega (arith, m.acted.left.end, m.acted.inside))
 
-      here : part g (text_start new) (text_start new + new.acting.end) ≡ o.after.text
+      here : part g (text_start new) (text_start new + new.acting.end) ≡ o.text
       here =
           let size : h.start + m.acted.acting.end - h.start ≡ m.acted.acting.end = omega arith in
           ap (λ i. part g i (i + new.acting.end)) start ∙ ap (λ e. part g h.start (h.start + e)) m.acted.left.end ∙ ap (λ k. take k (drop h.start g)) size ∙ ap (take m.acted.acting.end) win

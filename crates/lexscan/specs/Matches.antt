@@ -3,7 +3,7 @@ use Rattle.std.specs.Prelude.{◌≡◌, ℕ, ◌+◌, ◌-◌, ◌<◌, ◌≤�
 use Rattle.lex_semantics.specs.Text.{part, at_line_start}
 use Rattle.lex_semantics.specs.Rules.{Rules}
 use Rattle.lex_semantics.specs.Candidates.{Candidate, Candidates}
-use Rattle.lex_semantics.specs.Acting.{Matched, perform}
+use Rattle.lex_semantics.specs.Acting.{Acting, perform}
 use Rattle.lex_semantics.specs.Run.{Place}
 use Rattle.lex_semantics.specs.Demand.{Consistent}
 use Rattle.lexscan_window.specs.declared.matched.Match.{Match}
@@ -13,7 +13,7 @@ use Rattle.lexscan_matching.specs.Descends.{IsRule}
 use Rattle.lexscan_window.specs.Window.{last_of}
 
 -- The match m is carried out at a place, with this outcome: those before it go on to the next one, and it does not.
-pub record CarriesOut (R : Rules) (x : List ℕ) (p : Place) (m : Candidate) (o : Matched) : Type 0 where
+pub record CarriesOut (R : Rules) (x : List ℕ) (p : Place) (m : Candidate) (o : Acting) : Type 0 where
   pub before_end : p.at < length x
   pub passed : List Candidate
   pub left : List Candidate
@@ -48,14 +48,14 @@ text_of (Some m) s = last_of m.length (kept_before s)
 -- the bytes given.
 pub record MatchedBy (R : Rules) (given : List ℕ) (at_end : Bool) (p : Place) (told : Match) (text : List ℕ) : Type 0 where
   pub taken : Candidate
-  pub outcome : Matched
+  pub outcome : Acting
   pub carries : (x : List ℕ) → Consistent given at_end x → CarriesOut R x p taken outcome
   pub rule_is : IsRule R.count (Some told.rule) taken.rule
   pub start_is : told.start ≡ p.start
-  pub length_is : told.length ≡ length outcome.after.text
-  pub text_is : text ≡ outcome.after.text
+  pub length_is : told.length ≡ length outcome.text
+  pub text_is : text ≡ outcome.text
   pub inside : told.start + told.length ≤ length given
-  pub part_is : part given told.start (told.start + told.length) ≡ outcome.after.text
+  pub part_is : part given told.start (told.start + told.length) ≡ outcome.text
 
 -- A turn tells its match and the text of it; or the place is at the end of the input, and it tells none.
 abbrev pub TellsMatch : Rules → List ℕ → Bool → Place → Option Match → List ℕ → Type 0

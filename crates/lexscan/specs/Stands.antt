@@ -1,5 +1,5 @@
 -- What is known of a scanner after some turns.
-use Rattle.std.specs.Prelude.{◌≡◌, ℕ, suc, ◌+◌, ◌≤◌, Bool, true, false, List, [], ◌++◌, length, drop, Some, None, Result, Ok, Err}
+use Rattle.std.specs.Prelude.{◌≡◌, ◌≢◌, ℕ, suc, ◌+◌, ◌≤◌, Bool, true, false, List, [], ◌++◌, length, drop, Some, None, Result, Ok, Err}
 use Rattle.lex_semantics.specs.Text.{IsText, BeginsWith, at_line_start}
 use Rattle.lex_semantics.specs.Rules.{Rules}
 use Rattle.lex_semantics.specs.Acting.{Ending, StackFault}
@@ -11,7 +11,7 @@ use Rattle.lex_semantics.specs.Machine.{Machine, rules_of_machine}
 use Rattle.lexscan_window.specs.declared.state.State.{State}
 use Rattle.lexscan.specs.declared.turn.Turn.{Turn}
 use Rattle.lexscan_window.specs.declared.error.RunError.{RunError}
-use Rattle.lexscan_window.specs.declared.error.RunError.TheVariants.{TooManyReads, Stack}
+use Rattle.lexscan_window.specs.declared.error.RunError.TheVariants.{TooManyReads, Stack, Write}
 use Rattle.lexscan_matching.specs.Descends.{ending_of}
 use Rattle.lexscan_window.specs.Ends.{IsEarly}
 use Rattle.lexscan.specs.Moves.{Says}
@@ -51,7 +51,7 @@ pub record GaveUp (R : Rules) (n : ℕ) (given got out : List ℕ) (at_end : Boo
   pub front : (x : List ℕ) → Consistent (given ++ got) at_end x → (w : List ℕ) (d : Ending) → Run R x w d → BeginsWith w out
   pub within : (x : List ℕ) → Consistent (given ++ got) at_end x → (t : Scan.State) (far : ℕ) (asked : Bool) → AfterTurns R x (suc n) t far asked → length (given ++ got) ≤ far
   pub asks_end : e ≡ TooManyReads → (end_before ≡ false) × ((t : Scan.State) (far : ℕ) (asked : Bool) → AfterTurns R (given ++ got) (suc n) t far asked → asked ≡ true)
-  pub whole : IsEarly e → before.written ≡ out
+  pub whole : e ≢ Write → e ≢ Stack → before.written ≡ out
 
 -- The scan has ended: the bytes given are a text, and the turns over every consistent input write this and end so. They
 -- ask for just what the source has told.

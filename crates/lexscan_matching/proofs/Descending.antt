@@ -10,7 +10,7 @@ use Rattle.lex_semantics.specs.Spec.{Statement, Echo}
 use Rattle.lex_semantics.specs.Rules.{statements_of}
 use Rattle.lex_semantics.specs.Candidates.{Candidate}
 use Rattle.lex_semantics.specs.Acting as Scan
-use Rattle.lex_semantics.specs.Acting.{Ending, Status, Matched}
+use Rattle.lex_semantics.specs.Acting.{Ending, Status}
 use Rattle.lex_semantics.specs.ActionResults.{ActionResult, Done, Again, Over, act_result, settle, perform_results}
 use Rattle.lex_semantics.specs.Machine.{Machine, rules_of_machine}
 use Rattle.lex_semantics.specs.PlainMachine.{kept_by, match_of}
@@ -38,7 +38,7 @@ written_same (Done a) = refl
 written_same (Again a) = refl
 written_same (Over a e) = refl
 
-settle_stop : (step : Step) (a : Scan.Acting) (f g : Scan.Acting → Option Matched) → (step ≡ Step.Again → ⊥) → settle (after_step step [] a) f ≡ settle (after_step step [] a) g
+settle_stop : (step : Step) (a : Scan.Acting) (f g : Scan.Acting → Option Scan.Acting) → (step ≡ Step.Again → ⊥) → settle (after_step step [] a) f ≡ settle (after_step step [] a) g
 settle_stop Step.Next a f g never = refl
 settle_stop Step.Again a f g never = absurd (never refl)
 settle_stop (Step.Over s) a f g never = refl
@@ -52,7 +52,7 @@ pub head_outcome : (M : Machine) (w : List ℕ) (at : ℕ) (m : Candidate) (ms :
 unfolding perform_results
 head_outcome M w at m ms before c =
     let text : take at w ++ take m.keep (drop at w) ≡ take (at + m.keep) w = sym (take-add at m.keep w) in
-    ap (λ t. settle (act_result (statements_of (rules_of_machine M) m.rule) (record { text = t; written = before; condition = c.next; stack = c.stack; more = false })) (λ a. outcome M w at ms a.written (conditions_in a))) text
+    ap (λ t. settle (act_result (statements_of (rules_of_machine M) m.rule) (record { text = t; written = before; condition = c.next; stack = c.stack; more = false; ended = None })) (λ a. outcome M w at ms a.written (conditions_in a))) text
 
 pub statements_are : (M : Machine) (i : ℕ) → i < M.count → statements_of (rules_of_machine M) i ≡ M.statements i
 statements_are M i lt = cond-true (nat_lt i M.count) (M.statements i) (Echo ∷ []) (lt-ltb i M.count lt)
@@ -65,7 +65,7 @@ ended_by Step.Next = None
 ended_by Step.Again = None
 ended_by (Step.Over f) = Some f
 
-pub settled : (step : Step) (a : Scan.Acting) (f : Scan.Acting → Option Matched) → (step ≡ Step.Again → ⊥) → settle (after_step step [] a) f ≡ Some (record { after = a; ended = finished_of (ended_by step) })
+pub settled : (step : Step) (a : Scan.Acting) (f : Scan.Acting → Option Scan.Acting) → (step ≡ Step.Again → ⊥) → settle (after_step step [] a) f ≡ Some (record a { ended = finished_of (ended_by step) })
 settled Step.Next a f never = refl
 settled Step.Again a f never = absurd (never refl)
 settled (Step.Over s) a f never = refl
@@ -143,7 +143,7 @@ module _ {K : Type 0} (M : Machine) (wrote : K → List ℕ → K → Type 0) (n
     rule_is = is;
     rejected = λ before. no_outcome M w at before d;
     carried = λ before. (
-      record { after = acting_of w new (before ++ k.out); ended = finished_of (ended_by step) },
+      record (acting_of w new (before ++ k.out)) { ended = finished_of (ended_by step) },
       λ rest. did t u m rest d ss new step same k before ∙ settled step (acting_of w new (before ++ k.out)) (λ a. outcome M w at rest a.written (conditions_in a)) never,
     );
   }
@@ -196,7 +196,7 @@ module _ {K : Type 0} (M : Machine) (wrote : K → List ℕ → K → Type 0) (n
 
   -- or cut short
   pub cut_front : (t u : K) (m : Candidate) (ms : List Candidate) (d : Conditions) (ss : List Statement) → ss ≡ statements_of (rules_of_machine M) m.rule → (k : CutShort wrote t u w ss (start_of at m.keep d)) →
-      (before : List ℕ) (o : Matched) → outcome M w at (m ∷ ms) before d ≡ Some o → BeginsWith o.after.written (before ++ k.out)
+      (before : List ℕ) (o : Scan.Acting) → outcome M w at (m ∷ ms) before d ≡ Some o → BeginsWith o.written (before ++ k.out)
   cut_front t u m ms d ss same k before o e =
       settle_adds went (λ a. outcome M w at ms a.written (conditions_in a)) (before ++ k.out) o
       (subst (λ z. BeginsWith z (before ++ k.out)) (sym (written_same went)) (k.front before))
@@ -213,7 +213,7 @@ module _ {K : Type 0} (M : Machine) (wrote : K → List ℕ → K → Type 0) (n
     out = h.out ++ k.out;
     sink = join s t u h.out k.out h.sink k.sink;
     front = λ before rest o is.
-        subst (BeginsWith o.after.written) (append_assoc before h.out k.out)
+        subst (BeginsWith o.written) (append_assoc before h.out k.out)
         (cut_front t u (record { len = len; rule = get_or rules i 0; keep = keep }) (filter_map (match_of M len) (drop (i + 1) rules) ++ rest) d ss (same ∙ sym (statements_are M (get_or rules i 0) below)) k (before ++ h.out) o
         (ap (λ l. outcome M w at (l ++ rest) (before ++ h.out) d) (sym (left_match rules i len keep lt e)) ∙ sym (passed_acts h before rest) ∙ is));
   }
@@ -244,7 +244,7 @@ takes_default M w at c lt = record {
   rule_is = refl;
   rejected = λ before. no_outcome M w at before c;
   carried = λ before. (
-    record { after = acting_of w (start_of at 1 c) (before ++ take (at + 1) w); ended = None },
+    record (acting_of w (start_of at 1 c) (before ++ take (at + 1) w)) { ended = None },
     λ rest. head_outcome M w at one rest before c
         ∙ ap (λ l. settle (act_result l (acting_of w (start_of at 1 c) before)) (λ a. outcome M w at rest a.written (conditions_in a))) (default_is M),
   );
@@ -293,7 +293,7 @@ module _ {K : Type 0} (M : Machine) (wrote : K → List ℕ → K → Type 0) (j
     sink = join s t u h.out k.out h.sink k.sink;
     front = λ before o is.
         let more : List Candidate = default_match M.count (drop at w) in
-        subst (BeginsWith o.after.written) (append_assoc before h.out k.out)
+        subst (BeginsWith o.written) (append_assoc before h.out k.out)
         (k.front (before ++ h.out) (falling M 0 (take n path) ++ more) o
         (ap (λ l. outcome M w at l (before ++ h.out) d) (sym (append_assoc (here n) (falling M 0 (take n path)) more)) ∙ ap (λ l. outcome M w at (l ++ more) (before ++ h.out) d) (sym (falling_take M path n lt))
         ∙ sym (passed_acts h before more) ∙ is));
@@ -320,7 +320,7 @@ module _ {K : Type 0} (M : Machine) (wrote : K → List ℕ → K → Type 0) (j
 
   -- the default match
   default_acts : (s t : K) (c d : Conditions) → at < length w → (h : Passed M wrote s t w at (falling M 0 path) [] c d) → (before : List ℕ) (rest : List Candidate) →
-      outcome M w at ((falling M 0 path ++ default_match M.count (drop at w)) ++ rest) before c ≡ Some (record { after = acting_of w (start_of at 1 d) (before ++ (h.out ++ take (at + 1) w)); ended = None })
+      outcome M w at ((falling M 0 path ++ default_match M.count (drop at w)) ++ rest) before c ≡ Some (record (acting_of w (start_of at 1 d) (before ++ (h.out ++ take (at + 1) w))) { ended = None })
   default_acts s t c d lt h before rest =
       let some : 1 ≤ length (drop at w) = omega (arith, length-drop at w, lt) in
       let one : Candidate = record { len = 1; rule = M.count; keep = 1 } in
@@ -329,7 +329,7 @@ module _ {K : Type 0} (M : Machine) (wrote : K → List ℕ → K → Type 0) (j
       ∙ ap (λ l. outcome M w at (l ++ rest) (before ++ h.out) d) (default_one M (drop at w) some)
       ∙ head_outcome M w at one rest (before ++ h.out) d
       ∙ ap (λ l. settle (act_result l (acting_of w (start_of at 1 d) (before ++ h.out))) (λ a. outcome M w at rest a.written (conditions_in a))) (default_is M)
-      ∙ ap (λ z. Some (record { after = acting_of w (start_of at 1 d) z; ended = None })) (append_assoc before h.out (take (at + 1) w))
+      ∙ ap (λ z. Some (record (acting_of w (start_of at 1 d) z) { ended = None })) (append_assoc before h.out (take (at + 1) w))
 
   pub default_stop : (s t u : K) (c d : Conditions) → at < length w → Passed M wrote s t w at (falling M 0 path) [] c d → wrote t (take (at + 1) w) u → Performed M wrote s u w at (matches_of M w at path) c (start_of at 1 d) None
   default_stop s t u c d lt h put = record {
@@ -343,13 +343,13 @@ module _ {K : Type 0} (M : Machine) (wrote : K → List ℕ → K → Type 0) (j
     out = h.out ++ front;
     sink = join s t u h.out front h.sink put;
     front = λ before o is.
-        let same : Some (record { after = acting_of w (start_of at 1 d) (before ++ (h.out ++ take (at + 1) w)); ended = None }) ≡ Some o =
+        let same : Some (record (acting_of w (start_of at 1 d) (before ++ (h.out ++ take (at + 1) w))) { ended = None }) ≡ Some o =
         sym (default_acts s t c d lt h before []) ∙ ap (λ l. outcome M w at l before c) (append-nil (falling M 0 path ++ default_match M.count (drop at w))) ∙ is in
-        subst (λ (z : Matched). BeginsWith z.after.written (before ++ (h.out ++ front))) (some_same (record { after = acting_of w (start_of at 1 d) (before ++ (h.out ++ take (at + 1) w)); ended = None }) o same)
+        subst (λ (z : Scan.Acting). BeginsWith z.written (before ++ (h.out ++ front))) (some_same (record (acting_of w (start_of at 1 d) (before ++ (h.out ++ take (at + 1) w))) { ended = None }) o same)
         (is_front.0, ap (λ z. before ++ (h.out ++ z)) is_front.1 ∙ ap (λ z. before ++ z) (sym (append_assoc h.out front is_front.0)) ∙ sym (append_assoc before (h.out ++ front) is_front.0));
   }
     where
-      some_same : (a b : Matched) → Some a ≡ Some b → a ≡ b
+      some_same : (a b : Scan.Acting) → Some a ≡ Some b → a ≡ b
       some_same a b e = cc
 
 -- bytes written and then a flush
@@ -367,19 +367,19 @@ performed_cut M wrote s t u w at all c new ended join h k = record {
   out = h.out;
   sink = wrote_flushed wrote s t u h.out join h.sink k;
   front = λ before o is.
-      let same : Some (record { after = acting_of w new (before ++ h.out); ended = ended }) ≡ Some o = sym (h.acts before) ∙ is in
-      subst (λ (z : Matched). BeginsWith z.after.written (before ++ h.out)) (some_one (record { after = acting_of w new (before ++ h.out); ended = ended }) o same) ([], sym (append-nil (before ++ h.out)));
+      let same : Some (record (acting_of w new (before ++ h.out)) { ended = ended }) ≡ Some o = sym (h.acts before) ∙ is in
+      subst (λ (z : Scan.Acting). BeginsWith z.written (before ++ h.out)) (some_one (record (acting_of w new (before ++ h.out)) { ended = ended }) o same) ([], sym (append-nil (before ++ h.out)));
 }
   where
-    some_one : (a b : Matched) → Some a ≡ Some b → a ≡ b
+    some_one : (a b : Scan.Acting) → Some a ≡ Some b → a ≡ b
     some_one a b e = cc
 
 -- the matches were tried
 pub performed_front : {K : Type 0} (M : Machine) (wrote : K → List ℕ → K → Type 0) (s t : K) (w : List ℕ) (at : ℕ) (all : List Candidate) (c : Conditions) (new : ActionState) (ended : Option Ending) →
-    (h : Performed M wrote s t w at all c new ended) → (before : List ℕ) (o : Matched) → outcome M w at all before c ≡ Some o → BeginsWith o.after.written (before ++ h.out)
+    (h : Performed M wrote s t w at all c new ended) → (before : List ℕ) (o : Scan.Acting) → outcome M w at all before c ≡ Some o → BeginsWith o.written (before ++ h.out)
 performed_front M wrote s t w at all c new ended h before o is =
-    let same : Some (record { after = acting_of w new (before ++ h.out); ended = ended }) ≡ Some o = sym (h.acts before) ∙ is in
-    subst (λ (z : Matched). BeginsWith z.after.written (before ++ h.out)) (some_one (record { after = acting_of w new (before ++ h.out); ended = ended }) o same) ([], sym (append-nil (before ++ h.out)))
+    let same : Some (record (acting_of w new (before ++ h.out)) { ended = ended }) ≡ Some o = sym (h.acts before) ∙ is in
+    subst (λ (z : Scan.Acting). BeginsWith z.written (before ++ h.out)) (some_one (record (acting_of w new (before ++ h.out)) { ended = ended }) o same) ([], sym (append-nil (before ++ h.out)))
   where
-    some_one : (a b : Matched) → Some a ≡ Some b → a ≡ b
+    some_one : (a b : Scan.Acting) → Some a ≡ Some b → a ≡ b
     some_one a b e = cc

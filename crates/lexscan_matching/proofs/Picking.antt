@@ -6,7 +6,7 @@ use Rattle.lex_semantics.specs.Spec.{Statement, Echo, Print, Begin, More, Less, 
 use Rattle.lex_semantics.specs.Candidates.{Candidate}
 use Rattle.lex_semantics.specs.Acting as Scan
 use Rattle.lex_semantics.specs.ActionResults as Results
-use Rattle.lex_semantics.specs.Acting.{Matched, StackFault}
+use Rattle.lex_semantics.specs.Acting.{StackFault}
 use Rattle.lex_semantics.specs.ActionResults.{ActionResult, Done, Over, act_result, has_room, popped, settle}
 use Rattle.lex_semantics.specs.Machine.{Machine, walk, rules_of_machine}
 use Rattle.lex_semantics.specs.Rules.{statements_of}
@@ -135,10 +135,10 @@ module _ {K : Type 0} (M : Machine) (wrote : K → List ℕ → K → Type 0) (n
   none_picked s path c e = subst (λ l. Passed M wrote s s w at (falling M 0 path) l c c) e (Down.passed_first M wrote none join w at s (falling M 0 path) c)
 
 -- what is not rejected has an outcome, whatever follows
-settle_some : (r : ActionResult) → ((b : Scan.Acting) → r ≡ Results.Again b → ⊥) → (o : Matched) × ((f : Scan.Acting → Option Matched) → settle r f ≡ Some o)
-settle_some (Done a) never = (record { after = a; ended = None }, λ f. refl)
+settle_some : (r : ActionResult) → ((b : Scan.Acting) → r ≡ Results.Again b → ⊥) → (o : Scan.Acting) × ((f : Scan.Acting → Option Scan.Acting) → settle r f ≡ Some o)
+settle_some (Done a) never = (record a { ended = None }, λ f. refl)
 settle_some (Results.Again a) never = absurd (never a refl)
-settle_some (Over a e) never = (record { after = a; ended = Some e }, λ f. refl)
+settle_some (Over a e) never = (record a { ended = Some e }, λ f. refl)
 
 -- where no rule has REJECT the first match is carried out, or the default match
 pub picked_takes : (M : Machine) (w : List ℕ) (at : ℕ) (path : List ℕ) (pick : Option Pick) (c : Conditions) → NoReject M → at < length w → IsFirst (falling M 0 path) pick → IfSome pick (λ p. p.rule < M.count) →
@@ -161,7 +161,7 @@ picked_takes M w at path (Some p) c no_reject lt (len, rest, e) known =
     m : Candidate
     m = record { len = len; rule = p.rule; keep = p.keep }
 
-    went : (before : List ℕ) → (o : Matched) × ((f : Scan.Acting → Option Matched) → settle (act_result (statements_of (rules_of_machine M) p.rule) (acting_of w (start_of at p.keep c) before)) f ≡ Some o)
+    went : (before : List ℕ) → (o : Scan.Acting) × ((f : Scan.Acting → Option Scan.Acting) → settle (act_result (statements_of (rules_of_machine M) p.rule) (acting_of w (start_of at p.keep c) before)) f ≡ Some o)
     went before =
         settle_some (act_result (statements_of (rules_of_machine M) p.rule) (acting_of w (start_of at p.keep c) before))
         (λ b. never_rejects (statements_of (rules_of_machine M) p.rule) (acting_of w (start_of at p.keep c) before) b (ap has_reject (statements_are M p.rule known) ∙ no_reject p.rule known))

@@ -38,10 +38,6 @@ tells_none M first bytes n longest (inr (inr any)) last = inr (inr any)
 pub tells_here : (M : Machine) (first : ℕ) (bytes : List ℕ) (n : ℕ) (gist : Gist) → 1 ≤ n → Gists M (walk M first (take n bytes)) gist → Tells M first bytes n (record { gist = gist; keep = n })
 tells_here M first bytes n gist some known = inl (some, omega arith, λ i more le. absurd (omega (arith, more, le)), known)
 
--- no rule is accepted before the first byte
-pub tells_start : (M : Machine) (first : ℕ) (bytes : List ℕ) → Tells M first bytes 0 (record { gist = Echo; keep = 1 })
-tells_start M first bytes = inr (inl (refl, refl, λ i more le. absurd (omega (arith, more, le))))
-
 none_front : (M : Machine) (first : ℕ) (bytes : List ℕ) (few n : ℕ) → NoneAfter M first (take n bytes) few n → NoneAfter M first bytes few n
 none_front M first bytes few n none i more le = subst (λ l. M.accepts (walk M first l) ≡ []) (take-take i n bytes le) (none i more le)
 
@@ -112,9 +108,6 @@ pub record SaidTo {K : Type 0} (wrote : K → List ℕ → K → Type 0) (s t : 
   pub said_is : all_said ss text ≡ out ++ all_said rest text
   pub begun_is : all_begun ss old ≡ all_begun rest new
 
-pub said_first : {K : Type 0} (wrote : K → List ℕ → K → Type 0) (s : K) (text : List ℕ) (ss : List S.Statement) (c : ℕ) → wrote s [] s → SaidTo wrote s s text ss ss c c
-said_first wrote s text ss c none = record { out = []; sink = none; said_is = refl; begun_is = refl }
-
 module _ {K : Type 0} (wrote : K → List ℕ → K → Type 0) (join : (s t u : K) (xs ys : List ℕ) → wrote s xs t → wrote t ys u → wrote s (xs ++ ys) u) (s t u : K) (text : List ℕ) (ss rest left : List S.Statement) (st : S.Statement) (old new : ℕ) (e : rest ≡ st ∷ left) (h : SaidTo wrote s t text ss rest old new) where
   pub said_next : wrote t (said st text) u → (after : ℕ) → after ≡ begun st new → SaidTo wrote s u text ss left old after
   said_next put after is = record {
@@ -134,9 +127,3 @@ module _ {K : Type 0} (wrote : K → List ℕ → K → Type 0) (join : (s t u :
     ),
     join s t u h.out front h.sink put,
   )
-
-pub said_last : {K : Type 0} (wrote : K → List ℕ → K → Type 0) (s t : K) (text : List ℕ) (ss rest : List S.Statement) (old new : ℕ) → rest ≡ [] → SaidTo wrote s t text ss rest old new → wrote s (all_said ss text) t × (new ≡ all_begun ss old)
-said_last wrote s t text ss rest old new e h = (
-  subst (λ l. wrote s l t) (sym (h.said_is ∙ ap (λ l. h.out ++ all_said l text) e ∙ append-nil h.out)) h.sink,
-  sym (h.begun_is ∙ ap (λ l. all_begun l new) e),
-)

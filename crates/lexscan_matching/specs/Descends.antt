@@ -3,7 +3,7 @@ use Rattle.std.specs.Prelude.{◌≡◌, ℕ, ◌≤◌, ◌<◌, List, [], ◌�
 use Rattle.lex_semantics.specs.Text.{BeginsWith}
 use Rattle.lex_semantics.specs.Candidates.{Candidate}
 use Rattle.lex_semantics.specs.Acting as Scan
-use Rattle.lex_semantics.specs.Acting.{Ending, Status, StackFault, Matched}
+use Rattle.lex_semantics.specs.Acting.{Ending, Status, StackFault}
 use Rattle.lex_semantics.specs.ActionResults.{settle, perform_results}
 use Rattle.lex_semantics.specs.Machine.{Machine, rules_of_machine}
 use Rattle.lex_semantics.specs.Plain.{default_match}
@@ -32,7 +32,7 @@ abbrev pub conditions_at : State → Conditions
 conditions_at s = record { next = s.place.condition; stack = s.acting.stack }
 
 -- what the actions of these matches make of the bytes w, where a match starts at a place in them
-abbrev pub outcome : Machine → List ℕ → ℕ → List Candidate → List ℕ → Conditions → Option Matched
+abbrev pub outcome : Machine → List ℕ → ℕ → List Candidate → List ℕ → Conditions → Option Scan.Acting
 outcome M w at ms before c = perform_results (rules_of_machine M) (take at w) (drop at w) ms before c.next c.stack
 
 -- all the matches that these states tell
@@ -58,13 +58,13 @@ pub record Tried {K : Type 0} (M : Machine) (wrote : K → List ℕ → K → Ty
 pub record CutOff {K : Type 0} (M : Machine) (wrote : K → List ℕ → K → Type 0) (s t : K) (w : List ℕ) (at : ℕ) (all : List Candidate) (old : Conditions) : Type 0 where
   pub out : List ℕ
   pub sink : wrote s out t
-  pub front : (before : List ℕ) (rest : List Candidate) (o : Matched) → outcome M w at (all ++ rest) before old ≡ Some o → BeginsWith o.after.written (before ++ out)
+  pub front : (before : List ℕ) (rest : List Candidate) (o : Scan.Acting) → outcome M w at (all ++ rest) before old ≡ Some o → BeginsWith o.written (before ++ out)
 
 -- The same, where no others follow.
 pub record CutAll {K : Type 0} (M : Machine) (wrote : K → List ℕ → K → Type 0) (s t : K) (w : List ℕ) (at : ℕ) (all : List Candidate) (old : Conditions) : Type 0 where
   pub out : List ℕ
   pub sink : wrote s out t
-  pub front : (before : List ℕ) (o : Matched) → outcome M w at all before old ≡ Some o → BeginsWith o.after.written (before ++ out)
+  pub front : (before : List ℕ) (o : Scan.Acting) → outcome M w at all before old ≡ Some o → BeginsWith o.written (before ++ out)
 
 abbrev pub ending_of : Option ℕ → Option Ending
 ending_of None = None
@@ -78,7 +78,7 @@ finished_of (Some f) = Some (finish_of f)
 pub record Performed {K : Type 0} (M : Machine) (wrote : K → List ℕ → K → Type 0) (s t : K) (w : List ℕ) (at : ℕ) (all : List Candidate) (old : Conditions) (new : ActionState) (ended : Option Ending) : Type 0 where
   pub out : List ℕ
   pub sink : wrote s out t
-  pub acts : (before : List ℕ) → outcome M w at all before old ≡ Some (record { after = acting_of w new (before ++ out); ended = ended })
+  pub acts : (before : List ℕ) → outcome M w at all before old ≡ Some (record (acting_of w new (before ++ out)) { ended = ended })
 
 -- One of them was not rejected, and the stack of conditions was at fault in it.
 pub record Faulted {K : Type 0} (M : Machine) (wrote : K → List ℕ → K → Type 0) (s t : K) (w : List ℕ) (at : ℕ) (all : List Candidate) (old : Conditions) : Type 0 where
@@ -100,7 +100,7 @@ pub record Takes (M : Machine) (w : List ℕ) (at : ℕ) (all : List Candidate) 
   pub in_order : all ≡ passed ++ taken ∷ left
   pub rule_is : IsRule M.count rule taken.rule
   pub rejected : (before : List ℕ) → outcome M w at passed before old ≡ None
-  pub carried : (before : List ℕ) → (o : Matched) × ((rest : List Candidate) → outcome M w at (passed ++ taken ∷ rest) before old ≡ Some o)
+  pub carried : (before : List ℕ) → (o : Scan.Acting) × ((rest : List Candidate) → outcome M w at (passed ++ taken ∷ rest) before old ≡ Some o)
 
 -- unless all were rejected
 abbrev pub TakesUnlessAgain : Machine → List ℕ → ℕ → List Candidate → Conditions → Option MatchedRule → Step → Type 0

@@ -14,7 +14,7 @@ use Rattle.lex_semantics.proofs.MachineLaws.{machine_laws}
 use Rattle.lex_semantics.proofs.Texts.{part_front}
 use Rattle.lex_semantics.proofs.MachineRun.{machine_candidates_exist}
 use Rattle.lex_io.specs.Source.{Gives}
-use Rattle.lex_io.specs.SourceLaws.{Gives-nil, Gives-trans}
+use Rattle.lex_io.specs.SourceLaws.{Gives-trans}
 use Rattle.lexscan_window.specs.declared.matched.Match.{Match}
 use Rattle.lexscan_window.specs.declared.state.State.{State}
 use Rattle.lexscan.specs.declared.turn.Turn.{Turn}
@@ -71,21 +71,6 @@ pub record Listed (M : Machine) (x : List ℕ) (known : Option (List ℕ)) (ends
   pub appended : list' ≡ list ++ tokens
   pub lie : LieIn (length x) 0 tokens
   pub last : s.ended ≡ None → last_start 0 tokens ≤ stands.start
-
--- before the first turn
-pub listed_first : (M : Machine) (x : List ℕ) (known : Option (List ℕ)) (ends : ℕ) (list : List Token) (s : State) → known ≡ Some x → Stands M 0 [] [] s → Listed M x known ends ends list list s
-listed_first M x known ends list s is stands = record {
-  turns = 0;
-  given = [];
-  out = [];
-  gives = subst (λ k. Gives (Some x) k ends ends []) (sym is) (Gives-nil (Some x) ends);
-  stands = stands;
-  tokens = [];
-  tokens_are = refl;
-  appended = sym (append-nil list);
-  lie = tt;
-  last = λ going. omega arith;
-}
 
 no_earlier : (p q : Place) → Grows p q → p.start ≤ q.start
 no_earlier p q (inl less) = omega (arith, less)

@@ -8,7 +8,7 @@ use Rattle.lex_semantics.specs.Spec.{Spec, Echo, has_reject, rejects}
 use Rattle.lex_semantics.specs.Sound.{IsSound}
 use Rattle.lex_semantics.specs.Rules.{Rules, Full, rules_of, statements_of}
 use Rattle.lex_semantics.specs.Candidates.{Candidate, Before, IsCandidate, Candidates}
-use Rattle.lex_semantics.specs.Acting.{Ending, Acting, Matched}
+use Rattle.lex_semantics.specs.Acting.{Ending, Acting}
 use Rattle.lex_semantics.specs.ActionResults.{ActionResult, Done, Again, Over, act_result, settle, perform_results}
 use Rattle.lex_semantics.specs.Run.{Place}
 use Rattle.lex_semantics.specs.Machine.{Machine, rules_of_machine}
@@ -29,7 +29,7 @@ same_perform : (all : Bool) (R Q : Rules) (alike : Alike all R Q) (kept y : List
 unfolding perform_results
 same_perform all R Q alike kept y [] out d cs = refl
 same_perform all R Q alike kept y (m ∷ ms) out d cs =
-    let a : Acting = record { text = kept ++ take m.keep y; written = out; condition = d; stack = cs; more = false } in
+    let a : Acting = record { text = kept ++ take m.keep y; written = out; condition = d; stack = cs; more = false; ended = None } in
     ap (λ ss. settle (act_result ss a) (λ b. perform_results R kept y ms b.written b.condition b.stack)) (same_statements all R Q alike m.rule)
     ∙ settle_same (act_result (statements_of Q m.rule) a) (λ b. perform_results R kept y ms b.written b.condition b.stack) (λ b. perform_results Q kept y ms b.written b.condition b.stack)
     (λ b. same_perform all R Q alike kept y ms b.written b.condition b.stack)
@@ -47,7 +47,7 @@ rule_without_reject : (Q : Rules) → ((i : ℕ) → i < Q.count → has_reject 
 rule_without_reject Q h i (inl lt) = ap has_reject (cond-true (nat_lt i Q.count) (Q.statements i) (Echo ∷ []) (lt-ltb i Q.count lt)) ∙ h i lt
 rule_without_reject Q h i (inr le) = ap has_reject (cond-false (nat_lt i Q.count) (Q.statements i) (Echo ∷ []) (le-ltb i Q.count le))
 
-not_none : (w : ActionResult) (f : Acting → Option Matched) → ((b : Acting) → w ≡ Again b → ⊥) → settle w f ≡ None → ⊥
+not_none : (w : ActionResult) (f : Acting → Option Acting) → ((b : Acting) → w ≡ Again b → ⊥) → settle w f ≡ None → ⊥
 not_none (Done a) f never e = cc
 not_none (Again a) f never e = never a refl
 not_none (Over a d) f never e = cc
@@ -55,7 +55,7 @@ not_none (Over a d) f never e = cc
 decided : (R Q : Rules) (alike : Alike false R Q) (kept y : List ℕ) (m : Candidate) (ms : List Candidate) (d : ℕ) (cs : List ℕ) → perform_results R kept y (m ∷ ms) [] d cs ≡ None → ⊥
 unfolding perform_results
 decided R Q alike kept y m ms d cs e =
-    let a : Acting = record { text = kept ++ take m.keep y; written = []; condition = d; stack = cs; more = false } in
+    let a : Acting = record { text = kept ++ take m.keep y; written = []; condition = d; stack = cs; more = false; ended = None } in
     not_none (act_result (statements_of R m.rule) a) (λ b. perform_results R kept y ms b.written b.condition b.stack)
     (λ b again. never_rejects (statements_of R m.rule) a b (ap has_reject (same_statements false R Q alike m.rule) ∙ rule_without_reject Q alike.matches.1 m.rule (cases_lt m.rule Q.count)) again) e
 
@@ -85,7 +85,7 @@ first_from R Q alike c line_start y n ns lt text h = (own.0, from own.1)
             not_after q refl less ((h.members q).1 ((own.0, inl (omega (arith, less, f.0), g))))
 
 -- a match that is carried out by R is carried out by Q
-carries_to : (all : Bool) (R Q : Rules) (alike : Alike all R Q) (x : List ℕ) (p : Place) (m : Candidate) (o : Matched) → IsText x → p.condition < Q.conditions → CarriesOut R x p m o → CarriesOut Q x p m o
+carries_to : (all : Bool) (R Q : Rules) (alike : Alike all R Q) (x : List ℕ) (p : Place) (m : Candidate) (o : Acting) → IsText x → p.condition < Q.conditions → CarriesOut R x p m o → CarriesOut Q x p m o
 carries_to true R Q alike x p m o text lt k =
     let y : List ℕ = drop p.at x in
     let line_start : Bool = at_line_start x p.at in

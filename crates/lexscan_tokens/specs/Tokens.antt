@@ -4,7 +4,7 @@ use Rattle.std.specs.Prelude.{◌≡◌, ℕ, zero, suc, ◌+◌, ◌≤◌, Lis
 use Rattle.lex_semantics.specs.Text.{IsText, part}
 use Rattle.lex_semantics.specs.Rules.{Rules}
 use Rattle.lex_semantics.specs.Candidates.{Candidate}
-use Rattle.lex_semantics.specs.Acting.{Ending, StackFault, Matched}
+use Rattle.lex_semantics.specs.Acting.{Ending, StackFault, Acting}
 use Rattle.lex_semantics.specs.Run.{Place, State, Turns}
 use Rattle.lexscan_window.specs.declared.matched.Match.{Match}
 use Rattle.lexscan_window.specs.declared.error.RunError.{RunError}
@@ -25,13 +25,13 @@ tokens_by (Some m) condition = token_by m condition ∷ []
 -- that part of the input.
 pub record IsToken (R : Rules) (x : List ℕ) (p : Place) (t : Token) : Type 0 where
   pub taken : Candidate
-  pub outcome : Matched
+  pub outcome : Acting
   pub carries : CarriesOut R x p taken outcome
   pub rule_is : IsRule R.count (Some t.rule) taken.rule
   pub start_is : t.start ≡ p.start
-  pub end_is : t.end ≡ p.start + length outcome.after.text
+  pub end_is : t.end ≡ p.start + length outcome.text
   pub condition_is : t.condition ≡ p.condition
-  pub text_is : part x t.start t.end ≡ outcome.after.text
+  pub text_is : part x t.start t.end ≡ outcome.text
 
 -- A turn appends its token. At the end of the input there is none.
 abbrev pub Appends : Rules → List ℕ → Place → List Token → List Token → Type 0

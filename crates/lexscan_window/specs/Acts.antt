@@ -1,5 +1,5 @@
 -- What the statements of an action do.
-use Rattle.std.specs.Prelude.{◌≡◌, ℕ, List, [], ◌∷◌, ◌++◌, take}
+use Rattle.std.specs.Prelude.{◌≡◌, ℕ, List, [], ◌∷◌, ◌++◌, take, None}
 use Rattle.lex_semantics.specs.Text.{BeginsWith}
 use Rattle.lex_semantics.specs.Spec.{Statement, Echo, Print, Begin, More, Less, Reject, End, Push, Pop}
 use Rattle.lex_semantics.specs.Acting as Scan
@@ -12,7 +12,7 @@ use Rattle.lexscan_window.specs.declared.act.Step.{Step}
 
 -- over these bytes, after so much was written
 abbrev pub acting_of : List ℕ → ActionState → List ℕ → Scan.Acting
-acting_of w a before = record { text = take a.end w; written = before; condition = a.condition; stack = a.stack; more = a.more }
+acting_of w a before = record { text = take a.end w; written = before; condition = a.condition; stack = a.stack; more = a.more; ended = None }
 
 -- what a statement writes of a text
 abbrev pub said : Statement → List ℕ → List ℕ

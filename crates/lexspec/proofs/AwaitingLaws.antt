@@ -1,12 +1,12 @@
 -- An `<<EOF>>` rule where rules wait for an action, and another rule where there are enough.
-use Rattle.std.proofs.Common.{◌≡◌, ℕ, ◌+◌, ◌≤◌, ◌<◌, Bool, true, false, List, [], ◌∷◌, map, length, inl, inr, refl, sym, ap, subst, ◌∙◌, arith, length-append}
+use Rattle.std.proofs.Common.{◌≡◌, ℕ, ◌+◌, ◌≤◌, ◌<◌, Bool, true, false, List, [], ◌∷◌, map, length, inl, inr, refl, sym, ap, subst, ◌∙◌, arith, length-append, Option, Some, None}
 use Rattle.std.specs.Prelude.{codes}
 use Rattle.std.proofs.lemmas.List.{length-map}
 use Rattle.lex_semantics.specs.Spec as S
 use Rattle.lex_semantics.specs.Reading.{take_up_to, begins}
-use Rattle.lexspec.specs.Items.{Action, bar, spelled, starts_rule, action_of}
+use Rattle.lexspec.specs.Items.{starts_rule, action_of}
 use Rattle.lexspec.specs.RuleItems.{EndRule}
-use Rattle.lexspec.specs.RuleReads.{acting, first_statements, RulesFrom}
+use Rattle.lexspec.specs.WaitingRules.{acting, first_statements, RulesFrom}
 use Rattle.lexspec.specs.Keeping.{HasRoom}
 use Rattle.lexspec.specs.EndOpenings.{opens_end, begins_end}
 use Rattle.lexspec.specs.RuleViews.{rule_of}
@@ -22,9 +22,9 @@ use Rattle.lexspec.proofs.RulesLaws.{ActsAs, invert}
 use Rattle.lex_semantics.specs.Limits.{max_rules}
 
 module _ (d : Declarations) where
-  no_action : (w : List S.Rule) (s : Subject) (u v : List ℕ) (action : Action) → (w ≡ [] → ⊥) → IsSubject u s v → begins (codes "<<EOF>>") u ≡ true → ActsAs (names_in d) d.options d.stack d.definitions w s action → ⊥
-  no_action w at_end u v bar some is on acts = acts
-  no_action w at_end u v (spelled text) some is on (empty, e, spells) = some empty
+  no_action : (w : List S.Rule) (s : Subject) (u v : List ℕ) (action : Option (List ℕ)) → (w ≡ [] → ⊥) → IsSubject u s v → begins (codes "<<EOF>>") u ≡ true → ActsAs (names_in d) d.options d.stack d.definitions w s action → ⊥
+  no_action w at_end u v None some is on acts = acts
+  no_action w at_end u v (Some text) some is on (empty, e, spells) = some empty
   no_action w (matching true head after) u v action some (caret, not_end, p) on acts = both_ways (begins (codes "^") u) caret (not_caret u on)
   no_action w (matching false head after) u v action some (caret, not_end, p) on acts = both_ways (begins (codes "<<EOF>>") u) on not_end
 

@@ -4,7 +4,7 @@ use Rattle.std.specs.Prelude.{codes, ◌++◌, length}
 use Rattle.lex_semantics.specs.ByteSets.{is_upper, is_lower, is_alpha, is_digit, is_alnum, is_blank}
 use Rattle.lex_semantics.specs.Escapes.{simple_escape, until_quote}
 use Rattle.lex_semantics.specs.Reading.{take_up_to}
-use Rattle.lexre_bytes.specs.Lexical.{after_word, name_at, escape_at, literal_byte_at}
+use Rattle.lexre_bytes.specs.Lexical.{after_word, name_at, escape_at}
 use Rattle.lexre_bytes.specs.Quotes.{after_quotes}
 use Rattle.lexre.specs.Cutting.{IsCutting, piece_at}
 use Rattle.lexre.specs.Pieces.{Piece, IsPieces, dollar, other, slash, kind_at, slashes, ends_with_dollar}
@@ -14,8 +14,9 @@ use Rattle.lexspec_lines.specs.Skips.{IsDefinition, AreNumbered, AreFrom}
 use Rattle.lexspec.specs.ItemRuns.{Item, skipped, skipped_line, skipped_block, rule, IsLine, no_trail, line_end, pattern_after, at_end, matching, IsSides}
 use Rattle.lexspec.proofs.ItemRunLaws.{all_as, numbered_items, numbered_lines}
 use Rattle.lexspec_lines.specs.Lines.{after_block, without_returns}
-use Rattle.lexspec.specs.Items.{AreItems, unlisted, every, only, bar, spelled, conditions_at, after_string, after_piece, action_end, action_at}
+use Rattle.lexspec.specs.Items.{AreItems, unlisted, every, only, conditions_at, after_string, after_piece, action_end, action_at}
 use Rattle.lexspec.specs.SpecExamples.{rules_section, user_code, whole_file, WholeSkips, short_file}
+use Rattle.lexspec.proofs.FileSections.{cut_by}
 
 -- the cutting of a pattern without a slash outside parentheses, by its pieces
 without_slash : (t : List ℕ) (pieces : List (Piece × ℕ)) (end : ℕ) (special : Bool) → IsPieces 0 t pieces end → slashes 0 pieces ≡ Some [] → ends_with_dollar pieces ≡ special → IsCutting t end None false special
@@ -94,25 +95,25 @@ abbrev pub from_block : List ℕ
 from_block = codes "%{\nn = 0;\n%}\n" ++ from_number
 
 abbrev pub number_item : Item
-number_item = rule unlisted (matching true (codes "{D}+") line_end) (spelled (codes "ECHO;"))
+number_item = rule unlisted (matching true (codes "{D}+") line_end) (Some (codes "ECHO;"))
 
 abbrev pub letters_item : Item
-letters_item = rule (only (codes "A" ∷ codes "C" ∷ [])) (matching false (codes "ab") (pattern_after (codes "c*"))) bar
+letters_item = rule (only (codes "A" ∷ codes "C" ∷ [])) (matching false (codes "ab") (pattern_after (codes "c*"))) None
 
 abbrev pub opening_item : Item
-opening_item = rule unlisted (matching false (codes "\"/*\"") no_trail) (spelled (codes "{ yy_push_state(B); /* } */\n  yymore(); }"))
+opening_item = rule unlisted (matching false (codes "\"/*\"") no_trail) (Some (codes "{ yy_push_state(B); /* } */\n  yymore(); }"))
 
 abbrev pub closing_item : Item
-closing_item = rule (only (codes "B" ∷ [])) (matching false (codes "\"*/\"") no_trail) (spelled (codes "yy_pop_state();"))
+closing_item = rule (only (codes "B" ∷ [])) (matching false (codes "\"*/\"") no_trail) (Some (codes "yy_pop_state();"))
 
 abbrev pub other_item : Item
-other_item = rule every (matching false (codes ".|\\n") no_trail) (spelled (codes ";"))
+other_item = rule every (matching false (codes ".|\\n") no_trail) (Some (codes ";"))
 
 abbrev pub end_in_b_item : Item
-end_in_b_item = rule (only (codes "B" ∷ [])) at_end (spelled (codes "{ printf(\"open\"); exit(2); }"))
+end_in_b_item = rule (only (codes "B" ∷ [])) at_end (Some (codes "{ printf(\"open\"); exit(2); }"))
 
 abbrev pub end_item : Item
-end_item = rule unlisted at_end (spelled (codes "{ printf(\"end\"); yyterminate(); }"))
+end_item = rule unlisted at_end (Some (codes "{ printf(\"end\"); yyterminate(); }"))
 
 -- the items from the last rule on, and so on back to the first
 abbrev pub end_items : List (ℕ × Item)
@@ -184,7 +185,7 @@ letters_here =
     )
 
 opening_here : IsLine from_opening opening_item from_closing
-unfolding conditions_at kind_at piece_at slashes ends_with_dollar take_up_to is_blank after_quotes until_quote literal_byte_at action_at action_end after_piece after_string
+unfolding conditions_at kind_at piece_at slashes ends_with_dollar take_up_to is_blank after_quotes until_quote action_at action_end after_piece after_string
 opening_here =
     let after = codes " { yy_push_state(B); /* } */\n  yymore(); }\n" ++ from_closing in (
       refl,
@@ -207,7 +208,7 @@ opening_here =
     )
 
 closing_here : IsLine from_closing closing_item from_other
-unfolding conditions_at kind_at piece_at slashes ends_with_dollar take_up_to is_blank after_quotes until_quote literal_byte_at action_at action_end after_piece after_string
+unfolding conditions_at kind_at piece_at slashes ends_with_dollar take_up_to is_blank after_quotes until_quote action_at action_end after_piece after_string
 closing_here =
     let after = codes " yy_pop_state();\n" ++ from_other in (
       refl,
@@ -289,12 +290,9 @@ pub whole_skips : WholeSkips
 unfolding is_blank
 whole_skips = record {
   definitions = numbered_definitions;
-  after = from_separator;
-  first_section = numbered_lines 28 (without_returns whole_file) numbered_definitions from_separator whole_lines;
-  separator = refl;
   items = all_as whole_items;
   rest = from_user;
-  second_section = whole_second;
+  sections = cut_by _ _ (without_returns whole_file) numbered_definitions from_separator (numbered_lines 28 (without_returns whole_file) numbered_definitions from_separator whole_lines) (refl, whole_second);
   lines_are = refl;
 }
 
@@ -314,7 +312,7 @@ a_here rest = (
 -- ---- the short file
 
 abbrev pub short_items : List (ℕ × Item)
-short_items = (3, rule unlisted (matching false (codes "a") no_trail) (spelled (codes "ECHO;"))) ∷ []
+short_items = (3, rule unlisted (matching false (codes "a") no_trail) (Some (codes "ECHO;"))) ∷ []
 
 pub short_first : IsUpTo definition_at (without_returns short_file) (options (codes "case-insensitive" ∷ []) ∷ []) (codes "%%\na ECHO;")
 unfolding definition_at percent_line take_up_to is_blank

@@ -11,9 +11,9 @@ use Rattle.lex_semantics.specs.Limits.{max_conditions, max_file_bytes, max_rules
 use Rattle.lex_semantics.specs.Shapes.{IsSoundTree, nodes}
 use Rattle.lex_semantics.specs.Sound.{IsCutOf}
 use Rattle.lex_semantics.specs.Spec.{Rule, Echo, Print, More, End, Push, Pop}
-use Rattle.lex_semantics.specs.Tree.{Tree, Set, Star}
-use Rattle.lexre_bytes.specs.Lexical.{after_word, run_at, number_at, name_at, escape_at, literal_byte_at, quoted_tree, class_name_at, enclosed_by, bracketed_at, is_range, range_at, element_at, elements_at, class_at, span, union_set, class_set, interval_at, braces_at, symbol_at}
-use Rattle.lexre_bytes.specs.Symbols.{name, sign, once_or_more}
+use Rattle.lex_semantics.specs.Tree.{Tree, Set, Star, Repeat}
+use Rattle.lexre_bytes.specs.Lexical.{after_word, run_at, number_at, name_at, escape_at, quoted_tree, class_name_at, enclosed_by, bracketed_at, range_at, element_at, elements_at, class_at, span, class_set, interval_at, braces_at, symbol_at}
+use Rattle.lexre_bytes.specs.Symbols.{name, sign}
 use Rattle.lexre.specs.Definitions.{Definitions}
 use Rattle.lexre.specs.Grammar.{SpellsWithin}
 use Rattle.lexre.specs.Limits.{max_nodes}
@@ -36,8 +36,8 @@ use Rattle.lexspec_lines.proofs.DeclaringLaws.{test_distinct}
 use Rattle.lexspec.specs.ItemRuns.{Item, skipped, no_trail, line_end, pattern_after}
 use Rattle.lexspec.specs.Endings.{lists_number}
 use Rattle.lexspec.specs.Files.{AreSingle}
-use Rattle.lexspec.specs.Items.{unlisted, every, only, bar, spelled}
-use Rattle.lexspec.specs.RuleReads.{IsRule, RulesFrom}
+use Rattle.lexspec.specs.Items.{unlisted, every, only}
+use Rattle.lexspec.specs.WaitingRules.{IsRule, RulesFrom}
 use Rattle.lexspec.specs.RuleItems.{EndRule}
 use Rattle.lexspec.specs.SpecExamples.{whole_file, ended, open_at_end, number, letters, opening, closing, any_other, whole_spec, WholeFile, short_file, both_cases, ShortFile}
 use Rattle.lexspec.specs.Tests.{any_below, sound_tree, sound_trail, cut_fits}
@@ -46,6 +46,7 @@ use Rattle.lexspec.proofs.ItemRunLaws.{all_as}
 use Rattle.lexspec.proofs.RuleRunLaws.{rules_first}
 use Rattle.lexspec.proofs.CutLaws.{cut_is_fit}
 use Rattle.lexspec.proofs.TestLaws.{tree_is_sound}
+use Rattle.lexspec.proofs.FileSections.{from_sections}
 
 -- ---- the whole file
 
@@ -62,7 +63,7 @@ digit_named : get named (codes "D") ≡ Some (codes "[0-9]")
 digit_named = get-from_entries nat_list_cmp_total ((codes "D", codes "[0-9]") ∷ []) (codes "D")
 
 digit_spelled : SpellsWithin false (symbol_at false) (get named) 63 (codes "[0-9]") digit
-unfolding after_word run_at number_at name_at escape_at literal_byte_at class_name_at enclosed_by bracketed_at is_range range_at element_at elements_at class_at span union_set class_set symbol_at has set_of empty_set range_set union is_alpha is_digit is_alnum take_up_to
+unfolding after_word run_at number_at name_at escape_at class_name_at enclosed_by bracketed_at range_at element_at elements_at class_at span class_set symbol_at has set_of empty_set range_set union is_alpha is_digit is_alnum take_up_to
 digit_spelled = runs_spelled false (symbol_at false) (get named) 63 (codes "[0-9]") digit (found_runs false false (get named) 20 (state fresh [] 63) (codes "[0-9]") digit refl)
 
 -- the name, and then the sign
@@ -70,7 +71,7 @@ number_spelled : Spells plain named (codes "{D}+") number.head
 unfolding after_word run_at number_at name_at interval_at braces_at symbol_at is_upper is_lower is_alpha is_digit is_alnum take_up_to
 number_spelled = (
   runs_spelled false (symbol_at false) (get named) 64 (codes "{D}+") number.head (
-    name (codes "D") ∷ sign once_or_more ∷ [],
+    name (codes "D") ∷ sign false (λ t. Repeat t 1 None) ∷ [],
     (codes "+", refl, ([], refl, refl)),
     (
       state (pushed digit fresh) [] 64,
@@ -89,8 +90,8 @@ cut_as_tested r head trail fits = cut_is_fit r.cut r.head r.trail (tree_is_sound
     sound None h = tt
     sound (Some t) h = tree_is_sound t h
 
-number_ruled : (is : List (ℕ × Item)) (rules : List Rule) → IsRule names plain true named 17 unlisted true (codes "{D}+") line_end (spelled (codes "ECHO;")) is rules number
-unfolding has set_of single range_set any_below take_up_to is_alpha is_upper is_lower is_alnum is_blank is_digit after_word A.piece_at A.statement_at A.parts_of A.in_parentheses A.number_within A.second_word A.format_at A.after_statement A.condition_at run_at number_at name_at B.after_space B.skip B.next B.string_escape_at escape_at B.literal_at
+number_ruled : (is : List (ℕ × Item)) (rules : List Rule) → IsRule names plain true named 17 unlisted true (codes "{D}+") line_end (Some (codes "ECHO;")) is rules number
+unfolding has set_of single range_set any_below take_up_to is_alpha is_upper is_lower is_alnum is_blank is_digit after_word A.next_piece A.statement_at A.parts_of A.in_parentheses A.number_within A.second_word A.format_at A.after_statement A.condition_at run_at number_at name_at B.after_space B.skip B.expect B.string_escape_at escape_at B.literal_at
 number_ruled is rules = (
   record {
     line_is = refl;
@@ -104,8 +105,8 @@ number_ruled is rules = (
   ((([], Echo ∷ []) ∷ [], ([], refl, refl), one_balanced (does Echo), refl), refl),
 )
 
-letters_ruled : IsRule names plain true named 19 (only (codes "A" ∷ codes "C" ∷ [])) false (codes "ab") (pattern_after (codes "c*")) bar later_items (opening ∷ closing ∷ any_other ∷ []) letters
-unfolding symbol_at literal_byte_at has set_of single any_below
+letters_ruled : IsRule names plain true named 19 (only (codes "A" ∷ codes "C" ∷ [])) false (codes "ab") (pattern_after (codes "c*")) None later_items (opening ∷ closing ∷ any_other ∷ []) letters
+unfolding symbol_at has set_of single any_below
 letters_ruled = (
   record {
     line_is = refl;
@@ -119,8 +120,8 @@ letters_ruled = (
   refl,
 )
 
-opening_ruled : (is : List (ℕ × Item)) (rules : List Rule) → IsRule names plain true named 20 unlisted false (codes "\"/*\"") no_trail (spelled (codes "{ yy_push_state(B); /* } */\n  yymore(); }")) is rules opening
-unfolding symbol_at until_quote literal_byte_at quoted_tree take_up_to is_alpha is_upper is_lower is_alnum is_blank is_digit after_word A.piece_at A.statement_at A.parts_of A.in_parentheses A.number_within A.second_word A.format_at A.after_statement A.condition_at run_at number_at name_at B.after_space B.skip B.next B.string_escape_at escape_at B.literal_at
+opening_ruled : (is : List (ℕ × Item)) (rules : List Rule) → IsRule names plain true named 20 unlisted false (codes "\"/*\"") no_trail (Some (codes "{ yy_push_state(B); /* } */\n  yymore(); }")) is rules opening
+unfolding symbol_at until_quote quoted_tree take_up_to is_alpha is_upper is_lower is_alnum is_blank is_digit after_word A.next_piece A.statement_at A.parts_of A.in_parentheses A.number_within A.second_word A.format_at A.after_statement A.condition_at run_at number_at name_at B.after_space B.skip B.expect B.string_escape_at escape_at B.literal_at
 opening_ruled is rules = (
   record {
     line_is = refl;
@@ -142,8 +143,8 @@ opening_ruled is rules = (
   ),
 )
 
-closing_ruled : (is : List (ℕ × Item)) (rules : List Rule) → IsRule names plain true named 22 (only (codes "B" ∷ [])) false (codes "\"*/\"") no_trail (spelled (codes "yy_pop_state();")) is rules closing
-unfolding symbol_at until_quote literal_byte_at quoted_tree take_up_to is_alpha is_upper is_lower is_alnum is_blank is_digit after_word A.piece_at A.statement_at A.parts_of A.in_parentheses A.number_within A.second_word A.format_at A.after_statement A.condition_at run_at number_at name_at B.after_space B.skip B.next B.string_escape_at escape_at B.literal_at
+closing_ruled : (is : List (ℕ × Item)) (rules : List Rule) → IsRule names plain true named 22 (only (codes "B" ∷ [])) false (codes "\"*/\"") no_trail (Some (codes "yy_pop_state();")) is rules closing
+unfolding symbol_at until_quote quoted_tree take_up_to is_alpha is_upper is_lower is_alnum is_blank is_digit after_word A.next_piece A.statement_at A.parts_of A.in_parentheses A.number_within A.second_word A.format_at A.after_statement A.condition_at run_at number_at name_at B.after_space B.skip B.expect B.string_escape_at escape_at B.literal_at
 closing_ruled is rules = (
   record {
     line_is = refl;
@@ -157,8 +158,8 @@ closing_ruled is rules = (
   ((([], Pop ∷ []) ∷ [], ([], refl, refl), one_balanced (does Pop), refl), refl),
 )
 
-other_ruled : (is : List (ℕ × Item)) (rules : List Rule) → IsRule names plain true named 23 every false (codes ".|\\n") no_trail (spelled (codes ";")) is rules any_other
-unfolding symbol_at literal_byte_at escape_at simple_escape take_up_to is_blank after_word A.piece_at A.statement_at A.parts_of A.in_parentheses A.number_within A.second_word A.format_at A.after_statement A.condition_at run_at number_at name_at B.after_space B.skip B.next B.string_escape_at B.literal_at
+other_ruled : (is : List (ℕ × Item)) (rules : List Rule) → IsRule names plain true named 23 every false (codes ".|\\n") no_trail (Some (codes ";")) is rules any_other
+unfolding symbol_at escape_at simple_escape take_up_to is_blank after_word A.next_piece A.statement_at A.parts_of A.in_parentheses A.number_within A.second_word A.format_at A.after_statement A.condition_at run_at number_at name_at B.after_space B.skip B.expect B.string_escape_at B.literal_at
 other_ruled is rules = (
   record {
     line_is = refl;
@@ -173,7 +174,7 @@ other_ruled is rules = (
 )
 
 open_spelled : SpellsEndAction (known_in names true) (codes "{ printf(\"open\"); exit(2); }") open_at_end
-unfolding take_up_to is_alpha is_upper is_lower is_alnum is_blank is_digit simple_escape until_quote after_word A.piece_at A.statement_at A.parts_of A.in_parentheses A.number_within A.second_word A.format_at A.after_statement A.condition_at run_at number_at name_at B.after_space B.skip B.next B.string_escape_at escape_at B.literal_at
+unfolding take_up_to is_alpha is_upper is_lower is_alnum is_blank is_digit simple_escape until_quote after_word A.next_piece A.statement_at A.parts_of A.in_parentheses A.number_within A.second_word A.format_at A.after_statement A.condition_at run_at number_at name_at B.after_space B.skip B.expect B.string_escape_at escape_at B.literal_at
 open_spelled = (
   Print (codes "open") ∷ End 2 ∷ [],
   (
@@ -187,7 +188,7 @@ open_spelled = (
 )
 
 ended_spelled : SpellsEndAction (known_in names true) (codes "{ printf(\"end\"); yyterminate(); }") ended
-unfolding take_up_to is_alpha is_upper is_lower is_alnum is_blank is_digit simple_escape until_quote after_word A.piece_at A.statement_at A.parts_of A.in_parentheses A.number_within A.second_word A.format_at A.after_statement A.condition_at run_at number_at name_at B.after_space B.skip B.next B.string_escape_at escape_at B.literal_at
+unfolding take_up_to is_alpha is_upper is_lower is_alnum is_blank is_digit simple_escape until_quote after_word A.next_piece A.statement_at A.parts_of A.in_parentheses A.number_within A.second_word A.format_at A.after_statement A.condition_at run_at number_at name_at B.after_space B.skip B.expect B.string_escape_at escape_at B.literal_at
 ended_spelled = (
   Print (codes "end") ∷ End 0 ∷ [],
   (
@@ -255,12 +256,8 @@ unfolding is_blank
 whole = record {
   short = leb-true (length whole_file) max_file_bytes refl;
   definitions = whole_definitions;
-  after = from_separator;
-  first_section = whole_first;
-  separator = refl;
   items = all_as whole_items;
-  rest = from_user;
-  second_section = whole_second;
+  sections = from_sections whole_file whole_definitions (all_as whole_items) (record { after = from_separator; first = whole_first; separator = refl; rest = from_user; second = whole_second });
   names = test_distinct (names_of (all_conditions whole_definitions)) refl;
   defined_once = test_distinct (codes "D" ∷ []) refl;
   options = refl;
@@ -275,7 +272,7 @@ whole = record {
 -- ---- the short file
 
 short_ruled : RulesFrom (codes "INITIAL" ∷ []) folding false (from_entries []) short_items (both_cases ∷ []) []
-unfolding symbol_at literal_byte_at has set_of single fold_case other_case take_up_to is_alpha is_upper is_lower is_alnum is_blank is_digit after_word A.piece_at A.statement_at A.parts_of A.in_parentheses A.number_within A.second_word A.format_at A.after_statement A.condition_at run_at number_at name_at B.after_space B.skip B.next B.string_escape_at escape_at B.literal_at
+unfolding symbol_at has set_of single fold_case other_case take_up_to is_alpha is_upper is_lower is_alnum is_blank is_digit after_word A.next_piece A.statement_at A.parts_of A.in_parentheses A.number_within A.second_word A.format_at A.after_statement A.condition_at run_at number_at name_at B.after_space B.skip B.expect B.string_escape_at escape_at B.literal_at
 short_ruled = (
   both_cases,
   [],
@@ -303,12 +300,14 @@ unfolding is_blank
 short = record {
   short = leb-true (length short_file) max_file_bytes refl;
   definitions = options (codes "case-insensitive" ∷ []) ∷ [];
-  after = codes "%%\na ECHO;";
-  first_section = short_first;
-  separator = refl;
   items = all_as short_items;
-  rest = [];
-  second_section = short_second;
+  sections = from_sections short_file (options (codes "case-insensitive" ∷ []) ∷ []) (all_as short_items) (record {
+    after = codes "%%\na ECHO;";
+    first = short_first;
+    separator = refl;
+    rest = [];
+    second = short_second;
+  });
   names = test_distinct (codes "INITIAL" ∷ []) refl;
   defined_once = tt;
   options = refl;

@@ -3,7 +3,7 @@ use Rattle.std.proofs.Common.{◌≡◌, ℕ, zero, suc, ◌+◌, ◌*◌, ◌<�
 use Rattle.std.proofs.lemmas.List.{drop_more, drop_all}
 use Rattle.lex_semantics.specs.Limits.{max_fixed_length}
 use Rattle.lex_semantics.specs.Shapes.{LongestIs, HasLengths, IsSoundTree, AreSoundTrees, HasPart}
-use Rattle.lex_semantics.specs.Tree.{Tree, Trees, Cat, Alt, Star, Repeat, no_trees, tree, trees, In}
+use Rattle.lex_semantics.specs.Tree.{Tree, Trees, Cat, Alt, Repeat, no_trees, tree, trees, In}
 use Rattle.lexre.specs.Lengths.{plus, larger, lesser, unbounded, least, least_of_each, least_of_some, greatest, greatest_of_each, greatest_of_some}
 use Rattle.lexre.proofs.LengthLaws.{has_lengths}
 use Rattle.lex_semantics.proofs.Cuts.{fixed_lengths, lengths_fixed}
@@ -127,17 +127,6 @@ copy_has_one t sound m (Some k) bounds n (l, g) =
 module _ (t : Tree) (sound : IsSoundTree t) (m : ℕ) where
   pub none_of_none : (k : Option ℕ) → IfSome k (λ n. (m ≤ n) × (1 ≤ n)) → TellsLength (HasOne t) None → TellsLength (HasOne (Repeat t m k)) None
   none_of_none k bounds none = λ n h few. (let c = copy_has_one t sound m k bounds n h in none c.0 c.1 (omega (arith, c.2, few)))
-
--- any number of times is from none on
-star_is : (t : Tree) (n : ℕ) → HasOne (Star t) n → HasOne (Repeat t 0 None) n
-star_is t n (l, g) = ((let z : 0 * least t ≡ 0 = omega arith in z ∙ l), g)
-
-is_star : (t : Tree) (n : ℕ) → HasOne (Repeat t 0 None) n → HasOne (Star t) n
-is_star t n (l, g) = ((let z : 0 ≡ 0 * least t = omega arith in z ∙ l), g)
-
-pub tells_star : (t : Tree) (r : Option ℕ) → TellsLength (HasOne (Repeat t 0 None)) r → TellsLength (HasOne (Star t)) r
-tells_star t (Some n) (h, few) = (is_star t n h, few)
-tells_star t None none = λ n h few. none n (star_is t n h) few
 
 pub tells_some : (ts : Trees) → AreSoundTrees ts → HasPart ts → (r : Option ℕ) → TellsLength (AllHaveOne ts) r → TellsLength (HasOne (Alt ts)) r
 tells_some ts sound some (Some n) (h, few) = (some_of_all ts some n h, few)

@@ -4,7 +4,7 @@ use Rattle.std.proofs.lemmas.List.{length-map}
 use Rattle.lex_semantics.specs.Tree.{Tree}
 use Rattle.std.specs.Prelude.{Result, Ok, Err, OnErr, IfOk, IfErr, Vec, option_map}
 use Rattle.lexre.specs.Views.{tree_of}
-use Rattle.lexspec.specs.RuleReads.{IsTrail}
+use Rattle.lexspec.specs.WaitingRules.{IsTrail}
 use Rattle.lexspec.specs.ItemRuns.{Trailing, Subject, at_end, matching, IsSubject}
 use Rattle.lexspec.specs.RuleViews.{cut_of}
 use Rattle.lexspec.specs.declared.rule.Rule.{Rule}

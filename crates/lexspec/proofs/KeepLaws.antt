@@ -4,7 +4,7 @@ use Rattle.std.proofs.lemmas.List.{map-append, length-map}
 use Rattle.lex_semantics.specs.Spec as S
 use Rattle.lexspec.specs.Files.{AreSingle}
 use Rattle.lexspec.specs.EndRules.{end_rule_of}
-use Rattle.lexspec.specs.RuleReads.{acting}
+use Rattle.lexspec.specs.WaitingRules.{acting}
 use Rattle.lexspec.specs.RuleViews.{rule_of}
 use Rattle.lexspec.specs.Keeping.{HasRoom, Keeps}
 use Rattle.lexspec.specs.SoundSides.{HasSoundFront}

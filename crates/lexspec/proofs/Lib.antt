@@ -13,6 +13,7 @@ pub mod SoFarLaws
 pub mod SkipLaws
 pub mod EndLaws
 pub mod ItemRunLaws
+pub mod FileSections
 pub mod RuleRunLaws
 pub mod StepLaws
 pub mod RestLaws

@@ -7,7 +7,7 @@ use Rattle.lexre.specs.Cutting.{IsCutting}
 use Rattle.lex_semantics.specs.Reading.{after_blanks, begins, take_up_to}
 use Rattle.lex_semantics.specs.ByteSets.{is_blank}
 use Rattle.lexspec_lines.specs.Lines.{line_in, line_at, newlines, is_all_blank}
-use Rattle.lexspec.specs.Items.{Conditions, Action, action_at, action_of, starts_rule}
+use Rattle.lexspec.specs.Items.{Conditions, action_at, action_of, starts_rule}
 use Rattle.lexspec.specs.SubjectViews.{sides}
 use Rattle.lexspec.specs.ItemRuns.{ItemsFrom, Item, skipped, skipped_line, skipped_block, rule, IsLine, Trailing, Subject, at_end, matching, IsSides, IsSubject}
 use Rattle.lexspec.proofs.SubjectLaws.{to_cut}
@@ -142,7 +142,7 @@ no_item_at_end t i rest (inr e) h = let p = two_percents t e in none i p.0 (subs
 
 module _ (cut_once : (t : List ℕ) (stop stop' : ℕ) (at at' : Option ℕ) (two two' special special' : Bool) → IsCutting t stop at two special → IsCutting t stop' at' two' special' →
     (stop ≡ stop') × (at ≡ at') × (special ≡ special')) where
-  one_rule : (t : List ℕ) (asked asked' : Conditions) (subject subject' : Subject) (action action' : Action) (rest rest' : List ℕ) →
+  one_rule : (t : List ℕ) (asked asked' : Conditions) (subject subject' : Subject) (action action' : Option (List ℕ)) (rest rest' : List ℕ) →
       IsLine t (rule asked subject action) rest → IsLine t (rule asked' subject' action') rest' → (rule asked subject action ≡ rule asked' subject' action') × (rest ≡ rest')
   one_rule t asked asked' subject subject' action action' rest rest' (starts, u, v, text, here, is, acts, act) (starts', u', v', text', here', is', acts', act') =
       let first = some_pair asked asked' u u' (sym here ∙ here') in

@@ -3,6 +3,7 @@ use Rattle.std.proofs.Common.{◌≡◌, ℕ, suc, ◌≤◌, Bool, true, false,
 use Rattle.std.specs.Prelude.{nat_le, sum_by}
 use Rattle.std.proofs.lemmas.Bool.{and_parts, and_from, le-leb, leb-true}
 use Rattle.std.proofs.lemmas.List.{length-map}
+use Rattle.lex_semantics.proofs.Legals.{joined_of_normal}
 use Rattle.lex_semantics.specs.Shapes.{IsSoundTree}
 use Rattle.lex_semantics.specs.Tree.{Tree}
 use Rattle.lex_semantics.specs.Legal.{all_in_range, ends_last, are_joined, are_compatible}
@@ -16,10 +17,11 @@ use Rattle.lexspec_actions.specs.Statements.{literal_bytes}
 use Rattle.lexspec_actions.proofs.NormalLemmas.{legal_action, end_status}
 use Rattle.lexspec_lines.specs.Declaring.{Declared, names_of}
 use Rattle.lexspec.specs.ItemRuns.{Item, skipped, skipped_line, skipped_block, rule, Trailing, at_end, matching}
-use Rattle.lexspec.specs.Files.{end_in, conditions_with}
+use Rattle.lexspec.specs.Files.{end_in}
+use Rattle.lexspec.specs.Endings.{conditions_with}
 use Rattle.lexspec.specs.Endings.{unlisted_end, listed_end, lists_number}
-use Rattle.lexspec.specs.Items.{Conditions, Action, bar, spelled}
-use Rattle.lexspec.specs.RuleReads.{IsRule, RulesFrom, IsActionOf}
+use Rattle.lexspec.specs.Items.{Conditions}
+use Rattle.lexspec.specs.WaitingRules.{IsRule, RulesFrom, IsActionOf}
 use Rattle.lexspec.specs.RuleItems.{EndRule}
 use Rattle.lexspec_lines.specs.Declaring.{declared_of}
 use Rattle.lexspec.specs.ItemReads.{names_in}
@@ -62,15 +64,15 @@ spelled_acts names stack text ss some h =
     let legal = legal_action names stack text ss some h in
     let few = and_parts (are_few ss && ends_last ss) (are_compatible ss) h.1 in (
       and_from (all_in_range n ss && ends_last ss && are_joined ss) (are_compatible ss)
-          (and_from (all_in_range n ss && ends_last ss) (are_joined ss) (and_from (all_in_range n ss) (ends_last ss) legal.0.ranges legal.0.last) legal.1) legal.0.compatible,
+          (and_from (all_in_range n ss && ends_last ss) (are_joined ss) (and_from (all_in_range n ss) (ends_last ss) legal.0.ranges legal.0.last) (joined_of_normal ss legal.1)) legal.0.compatible,
       (and_parts (are_few ss) (ends_last ss) few.0).0,
     )
 
-action_acts : (names : List (List ℕ)) (stack : Bool) (action : Action) (rs : List Rule) (ss : List Statement) → 1 ≤ length names → IsActionOf (known_in names stack) action rs ss → sound_rules (length names) rs ≡ true
+action_acts : (names : List (List ℕ)) (stack : Bool) (action : Option (List ℕ)) (rs : List Rule) (ss : List Statement) → 1 ≤ length names → IsActionOf (known_in names stack) action rs ss → sound_rules (length names) rs ≡ true
     → MayAct (length names) ss
-action_acts names stack (spelled text) rs ss some h pass = spelled_acts names stack text ss some h
-action_acts names stack bar [] ss some h pass = absurd h
-action_acts names stack bar (r ∷ rs) ss some h pass =
+action_acts names stack (Some text) rs ss some h pass = spelled_acts names stack text ss some h
+action_acts names stack None [] ss some h pass = absurd h
+action_acts names stack None (r ∷ rs) ss some h pass =
     subst (MayAct (length names)) (sym h) (rule_acts (length names) r (and_parts (sound_rule (length names) r) (sound_rules (length names) rs) pass).0)
 
 -- an end action prints the literal of its statements
@@ -88,7 +90,7 @@ end_print : (e : EndAction) (ss : List Statement) → are_few ss ≡ true → en
 end_print e ss few is = end_print_of ss e (leb-true (sum_by literal_bytes ss) max_literal_bytes (and_parts (nat_le (length ss) max_statements) (nat_le (sum_by literal_bytes ss) max_literal_bytes) few).1) is
 
 module _ (names : List (List ℕ)) (how : ReadOptions) (stack : Bool) (defined : Definitions) (some : 1 ≤ length names) where
-  item_passes : (n : ℕ) (asked : Conditions) (anchored : Bool) (head : List ℕ) (after : Trailing) (action : Action) (is : List (ℕ × Item)) (rs : List Rule) (r : Rule)
+  item_passes : (n : ℕ) (asked : Conditions) (anchored : Bool) (head : List ℕ) (after : Trailing) (action : Option (List ℕ)) (is : List (ℕ × Item)) (rs : List Rule) (r : Rule)
       → IsRule names how stack defined n asked anchored head after action is rs r → HasSoundSides r → sound_rules (length names) rs ≡ true → sound_rule (length names) r ≡ true
   item_passes n asked anchored head after action is rs r h sides pass =
       rule_passes (length names) r (numbers_ordered (number_from 0 names) (length names) asked r.conditions h.0.listed) sides
@@ -99,8 +101,8 @@ module _ (names : List (List ℕ)) (how : ReadOptions) (stack : Bool) (defined :
   rules_pass ((n, skipped) ∷ is) rs ends h sides = rules_pass is rs ends h sides
   rules_pass ((n, skipped_line) ∷ is) rs ends h sides = rules_pass is rs ends h sides
   rules_pass ((n, skipped_block) ∷ is) rs ends h sides = rules_pass is rs ends h sides
-  rules_pass ((n, rule asked at_end (spelled text)) ∷ is) rs ends h sides = rules_pass is rs h.2 h.6 sides
-  rules_pass ((n, rule asked at_end bar) ∷ is) rs ends h sides = absurd h
+  rules_pass ((n, rule asked at_end (Some text)) ∷ is) rs ends h sides = rules_pass is rs h.2 h.6 sides
+  rules_pass ((n, rule asked at_end None) ∷ is) rs ends h sides = absurd h
   rules_pass ((n, rule asked (matching anchored head after) action) ∷ is) rs ends h sides =
       let both = subst HaveSoundSides h.2 sides in
       let later = rules_pass is h.1 ends h.4 both.1 in
@@ -120,9 +122,9 @@ module _ (names : List (List ℕ)) (how : ReadOptions) (stack : Bool) (defined :
   ends_small ((n, skipped) ∷ is) rs ends h = ends_small is rs ends h
   ends_small ((n, skipped_line) ∷ is) rs ends h = ends_small is rs ends h
   ends_small ((n, skipped_block) ∷ is) rs ends h = ends_small is rs ends h
-  ends_small ((n, rule asked at_end (spelled text)) ∷ is) rs ends h =
+  ends_small ((n, rule asked at_end (Some text)) ∷ is) rs ends h =
       subst AreSmall (sym h.5) ((end_status names stack text h.1 some h.4, end_print h.1 h.4.0 h.4.2 (end_is h.4.0 h.1 h.4.3)), ends_small is rs h.2 h.6)
-  ends_small ((n, rule asked at_end bar) ∷ is) rs ends h = absurd h
+  ends_small ((n, rule asked at_end None) ∷ is) rs ends h = absurd h
   ends_small ((n, rule asked (matching anchored head after) action) ∷ is) rs ends h = ends_small is h.1 ends h.4
 
   small_unlisted : (ends : List EndRule) → AreSmall ends → IsSmall (unlisted_end ends)

@@ -11,10 +11,11 @@ use Rattle.lexspec_lines.specs.Lines.{without_returns, line_in, newlines}
 use Rattle.lexspec_lines.specs.DefinitionLines.{Definition, definition_at, IsUpTo, all_conditions, has_name, substitutes_of, all_options}
 use Rattle.lexspec_lines.specs.Declaring.{names_of}
 use Rattle.lexspec_lines.specs.Declaring.{declared_of, AreAllowed}
-use Rattle.lexspec.specs.RuleReads.{RulesFrom}
+use Rattle.lexspec.specs.WaitingRules.{RulesFrom}
 use Rattle.lexspec.specs.Items.{AreItems}
 use Rattle.lexspec.specs.Skipped.{user_section, AreSkipped}
-use Rattle.lexspec.specs.Files.{AreSingle, conditions_with, SpellsSpec}
+use Rattle.lexspec.specs.Files.{AreSingle, SpellsSpec}
+use Rattle.lexspec.specs.Endings.{conditions_with}
 use Rattle.lexspec.specs.ItemReads.{names_in}
 use Rattle.lexspec.specs.RulesReads.{HasRules}
 use Rattle.lexspec_lines.specs.Sections.{HasSection}
@@ -43,6 +44,7 @@ use Rattle.lexre_bytes.proofs.MemoryLaws.{unless_memory}
 use Rattle.lexspec.proofs.PassLaws.{kept_passes, length_with}
 use Rattle.lexspec.proofs.RestLaws.{newlines_few}
 use Rattle.lexspec.proofs.RuleRunLaws.{rules_first, file_rules}
+use Rattle.lexspec.proofs.FileSections.{cut_by, sections_of, from_sections, conditions_are, user_line}
 use Rattle.lexspec.proofs.ItemRunLaws.{all_as, same_code, with_rest, without_rest, numbered_items, numbered_lines}
 use Rattle.lexspec_lines.proofs.SectionLaws.{EndsWith, ends_on, definition_ends}
 use Rattle.lex_semantics.specs.Limits.{max_conditions, max_file_bytes, max_rules}
@@ -115,12 +117,14 @@ spelled how file s S short h r =
     record {
       short = short;
       definitions = h.definitions;
-      after = s.rest.now;
-      first_section = h.lines;
-      separator = h.separator;
       items = all_as r.items;
-      rest = rest;
-      second_section = subst (λ z. AreItems z (line_in s.rest.now).1 (all_as r.items) rest) line second;
+      sections = from_sections file h.definitions (all_as r.items) (record {
+        after = s.rest.now;
+        first = h.lines;
+        separator = h.separator;
+        rest = rest;
+        second = subst (λ z. AreItems z (line_in s.rest.now).1 (all_as r.items) rest) line second;
+      });
       names = test_distinct (names_of (all_conditions h.definitions)) h.allowed.0.0;
       defined_once = test_distinct (map (λ (d : List ℕ × List ℕ). d.0) (substitutes_of h.definitions)) h.allowed.1;
       options = h.allowed.2;
@@ -131,7 +135,7 @@ spelled how file s S short h r =
           (subst (λ z. RulesFrom (names_in d) d.options z (from_entries (substitutes_of h.definitions)) r.items S.rules r.ends) h.declares.stacks
           (subst (λ z. RulesFrom (names_in d) d.options d.stack z r.items S.rules r.ends) h.declares.definitions r.are))));
       one_end = subst (λ z. AreSingle z r.ends) count r.one_end;
-      conditions = conditions;
+      conditions = conditions ∙ sym (conditions_are 0 (all_conditions h.definitions) r.ends);
       few_conditions = omega (arith, ap length conditions, length_with 0 (all_conditions h.definitions) r.ends);
       few_rules = r.few_rules;
     }
@@ -139,8 +143,9 @@ spelled how file s S short h r =
 pub rest_of : (how : ReadOptions) (file : List ℕ) (s : Section) (S : Spec) → HasSection how (without_returns file) s → SpellsSpec how file S → SpellsRest s S
 rest_of how file s S h k =
     let d = s.declarations in
-    let (items, all, here) = without_rest (2 + newlines file - newlines k.after) (line_in k.after).1 k.items k.rest k.second_section in
-    let same = one_up_to definition_at (without_returns file) k.definitions h.definitions k.after s.rest.now k.first_section h.lines (separator_ends k.after k.separator) (separator_ends s.rest.now h.separator) in
+    let cut = sections_of file k.definitions k.items k.sections in
+    let (items, all, here) = without_rest (2 + newlines file - newlines cut.after) (line_in cut.after).1 k.items cut.rest cut.second in
+    let same = one_up_to definition_at (without_returns file) k.definitions h.definitions cut.after s.rest.now cut.first h.lines (separator_ends cut.after cut.separator) (separator_ends s.rest.now h.separator) in
     let names : names_of (all_conditions h.definitions) ≡ names_in d = ap names_of (sym h.declares.conditions) ∙ names_kept d.conditions.items in
     let line : 2 + newlines file - newlines s.rest.now ≡ s.line + 1 = omega (arith, h.line, newlines_kept file) in
     let are : RulesFrom (names_of (all_conditions h.definitions)) (with_fold how (has_name (all_options h.definitions) (codes "case-insensitive"))) (has_name (all_options h.definitions) (codes "stack")) (from_entries (substitutes_of h.definitions)) items S.rules k.ends =
@@ -154,7 +159,7 @@ rest_of how file s S h k =
           (subst (λ z. RulesFrom (names_in d) z (has_name (all_options h.definitions) (codes "stack")) (from_entries (substitutes_of h.definitions)) items S.rules k.ends) (sym h.declares.reads)
           (subst (λ z. RulesFrom z (with_fold how (has_name (all_options h.definitions) (codes "case-insensitive"))) (has_name (all_options h.definitions) (codes "stack")) (from_entries (substitutes_of h.definitions)) items S.rules k.ends) names are)));
       one_end = subst (λ z. AreSingle z k.ends) (sym (count_is how (without_returns file) s h)) (subst (λ z. AreSingle (length (all_conditions z)) k.ends) same.0 k.one_end);
-      conditions = k.conditions ∙ ap (λ z. conditions_with 0 (all_conditions z) k.ends) same.0 ∙ ap (λ z. conditions_with 0 z k.ends) (sym h.declares.conditions);
+      conditions = k.conditions ∙ conditions_are 0 (all_conditions k.definitions) k.ends ∙ ap (λ z. conditions_with 0 (all_conditions z) k.ends) same.0 ∙ ap (λ z. conditions_with 0 z k.ends) (sym h.declares.conditions);
       few_rules = k.few_rules;
     }
 
@@ -162,8 +167,9 @@ rest_of how file s S h k =
 pub no_section : (how : ReadOptions) (file : List ℕ) → ((ds : List Definition) (after : List ℕ) → IsUpTo definition_at (without_returns file) ds after → begins (codes "%%") after ≡ true → AreAllowed ds → ⊥)
     → (S : Spec) → SpellsSpec how file S → ⊥
 no_section how file none S k =
-    let few : length (all_conditions k.definitions) ≤ max_conditions = omega (arith, k.few_conditions, ap length k.conditions, length_with 0 (all_conditions k.definitions) k.ends) in
-    none k.definitions k.after k.first_section k.separator
+    let few : length (all_conditions k.definitions) ≤ max_conditions = omega (arith, k.few_conditions, ap length (k.conditions ∙ conditions_are 0 (all_conditions k.definitions) k.ends), length_with 0 (all_conditions k.definitions) k.ends) in
+    let cut = sections_of file k.definitions k.items k.sections in
+    none k.definitions cut.after cut.first cut.separator
     ((distinct_test (names_of (all_conditions k.definitions)) k.names, few), distinct_test (map (λ (d : List ℕ × List ℕ). d.0) (substitutes_of k.definitions)) k.defined_once, k.options)
 
 -- the answers of the reader
@@ -211,22 +217,23 @@ rest_skipped (Ok o) s x k text is told over line lines =
 skipped_all : (how : ReadOptions) (file lines : List ℕ) (s : Section) → HasSection how (without_returns file) s → SkipsRest s lines → AreSkipped file lines
 skipped_all how file lines s h r =
     let definitions = h.code.pieces in
+    let count : s.line + newlines s.rest.now ≡ 1 + newlines file = omega (arith, h.line, newlines_kept file) in
     let line : s.line + 1 ≡ 2 + newlines file - newlines s.rest.now = omega (arith, h.line, newlines_kept file) in
     record {
       definitions = definitions;
-      after = s.rest.now;
-      first_section = subst (λ z. IsCut (λ t. definition_at t >>= λ (d, rest). Some ((1 + z - newlines t, d), rest)) (λ t. t ≡ s.rest.now) (without_returns file) definitions)
-          (newlines_kept file) (numbered_lines (1 + newlines (without_returns file)) (without_returns file) definitions s.rest.now h.code.numbered);
-      separator = h.separator;
       items = all_as r.items;
       rest = r.rest;
-      second_section = subst (λ z. AreItems z (line_in s.rest.now).1 (all_as r.items) r.rest) line
-          (numbered_items (s.line + 1 + newlines (line_in s.rest.now).1) (s.line + 1) (line_in s.rest.now).1 r.items r.rest refl r.stops r.pieces);
+      sections = cut_by _ _ (without_returns file) definitions s.rest.now (subst (λ z. IsCut (λ t. definition_at t >>= λ (d, rest). Some ((1 + z - newlines t, d), rest)) (λ t. t ≡ s.rest.now) (without_returns file) definitions)
+          (newlines_kept file) (numbered_lines (1 + newlines (without_returns file)) (without_returns file) definitions s.rest.now h.code.numbered)) (
+            h.separator,
+            subst (λ z. AreItems z (line_in s.rest.now).1 (all_as r.items) r.rest) line
+                (numbered_items (s.line + 1 + newlines (line_in s.rest.now).1) (s.line + 1) (line_in s.rest.now).1 r.items r.rest refl r.stops r.pieces),
+          );
       lines_are = r.lines_are ∙ ap (λ z. z ++ told_lines 0 (flat_map code_of_item r.items) ++ user_section (s.line + 1 + newlines (line_in s.rest.now).1 - newlines r.rest) r.rest)
           (lines_told (flat_map code_of_definition definitions) s.declarations.skipped h.code.told)
-          ∙ ap (λ z. told_lines 0 (flat_map code_of_definition definitions) ++ told_lines 0 (flat_map code_of_item r.items) ++ user_section (z + newlines (line_in s.rest.now).1 - newlines r.rest) r.rest) line
-          ∙ ap (λ z. told_lines 0 (flat_map code_of_definition definitions) ++ told_lines 0 z
-          ++ user_section (2 + newlines file - newlines s.rest.now + newlines (line_in s.rest.now).1 - newlines r.rest) r.rest) (same_code r.items);
+          ∙ ap (λ z. told_lines 0 (flat_map code_of_definition definitions) ++ told_lines 0 (flat_map code_of_item r.items) ++ z)
+          (user_line s.line (s.line + 1 + newlines (line_in s.rest.now).1) (1 + newlines file) s.rest.now r.items r.rest count r.pieces)
+          ∙ ap (λ z. told_lines 0 (flat_map code_of_definition definitions) ++ told_lines 0 z ++ user_section (1 + newlines file - newlines r.rest) r.rest) (same_code r.items);
     }
 
 pub all_skipped : (r : Result SpecOfCode SpecError) (how : ReadOptions) (file kept : File) (s : Section) → kept ≡ without_returns file → HasSection how kept s

@@ -17,10 +17,10 @@ use Rattle.lexspec_lines.specs.Folding.{with_fold}
 use Rattle.lexspec_lines.specs.Lines.{without_returns, line_in, newlines}
 use Rattle.lexspec_lines.proofs.DeclaringLaws.{distinct_test}
 use Rattle.lexspec_lines.proofs.OneSection.{no_true, one_up_to, separator_ends}
-use Rattle.lexspec.specs.RuleReads.{RulesFrom}
+use Rattle.lexspec.specs.WaitingRules.{RulesFrom}
 use Rattle.lexspec.specs.Files.{AreSingle, SpellsSpec}
 use Rattle.lexspec.specs.Endings.{is_unlisted}
-use Rattle.lexspec.specs.Items.{unlisted, only, bar, spelled, conditions_at, after_piece, action_end, action_at}
+use Rattle.lexspec.specs.Items.{unlisted, only, conditions_at, after_piece, action_end, action_at}
 use Rattle.lexspec.specs.RuleItems.{EndRule}
 use Rattle.lexspec.specs.SpecExamples as Example
 use Rattle.lexspec.specs.ItemRuns.{ItemsFrom, Item, rule, no_trail, at_end, matching}
@@ -28,19 +28,22 @@ use Rattle.lexspec.proofs.ComputedSections.{a_here}
 use Rattle.lexspec.proofs.OneItems.{one_items}
 use Rattle.lexspec.proofs.RuleRunLaws.{file_rules}
 use Rattle.lexspec.proofs.ItemRunLaws.{without_rest}
+use Rattle.lexspec.proofs.FileSections.{sections_of}
 
 -- the definitions of a file are those up to a text where there is none
 one_section : (file after : List ℕ) (ds : List Definition) → IsUpTo definition_at (without_returns file) ds after → definition_at after ≡ None
-    → (S : Spec) (h : SpellsSpec plain file S) → (h.definitions ≡ ds) × (h.after ≡ after)
+    → (S : Spec) (h : SpellsSpec plain file S) → (h.definitions ≡ ds) × ((sections_of file h.definitions h.items h.sections).after ≡ after)
 one_section file after ds first stop S h =
-    one_up_to definition_at (without_returns file) h.definitions ds h.after after h.first_section first (separator_ends h.after h.separator) stop
+    let cut = sections_of file h.definitions h.items h.sections in
+    one_up_to definition_at (without_returns file) h.definitions ds cut.after after cut.first first (separator_ends cut.after cut.separator) stop
 
 -- what a file without definitions spells, by its items
 spells_items : (file : List ℕ) (items : List (ℕ × Item)) → definition_at (without_returns file) ≡ None → ItemsFrom (2 + newlines file - newlines (without_returns file)) (line_in (without_returns file)).1 items
     → (S : Spec) → SpellsSpec plain file S → (ends : List EndRule) × RulesFrom (codes "INITIAL" ∷ []) plain false (from_entries []) items S.rules ends × AreSingle 1 ends
 spells_items file items stop second S h =
     let same = one_section file (without_returns file) [] refl stop S h in
-    let (is, kept, here) = without_rest (2 + newlines file - newlines h.after) (line_in h.after).1 h.items h.rest h.second_section in
+    let cut = sections_of file h.definitions h.items h.sections in
+    let (is, kept, here) = without_rest (2 + newlines file - newlines cut.after) (line_in cut.after).1 h.items cut.rest cut.second in
     let all : is ≡ items = one_items cut_once (2 + newlines file - newlines (without_returns file)) (line_in (without_returns file)).1 is items
     (subst (λ z. ItemsFrom (2 + newlines file - newlines z) (line_in z).1 is) same.1 here) second in (
       h.ends,
@@ -56,7 +59,7 @@ no_separator : Example.IsNone (codes "D [0-9]\n")
 unfolding definition_at definition_in name_at take_up_to is_alpha is_upper is_lower is_alnum is_blank is_digit
 no_separator S h =
     let same = one_section (codes "D [0-9]\n") [] (defines (codes "D") (codes "[0-9]") ∷ []) ([], refl, refl) refl S h in
-    no_true (sym (ap (begins (codes "%%")) same.1) ∙ h.separator)
+    no_true (sym (ap (begins (codes "%%")) same.1) ∙ (sections_of (codes "D [0-9]\n") h.definitions h.items h.sections).separator)
 
 no_option : Example.IsNone (codes "%option none\n%%\n")
 unfolding definition_at percent_line take_up_to is_blank
@@ -81,7 +84,7 @@ defined_twice S h =
 not_declared : Example.IsNone (codes "%%\n<A>a ECHO;\n")
 unfolding definition_at conditions_at take_up_to is_blank action_at action_end after_piece
 not_declared S h =
-    let item = rule (only (codes "A" ∷ [])) (matching false (codes "a") no_trail) (spelled (codes "ECHO;")) in
+    let item = rule (only (codes "A" ∷ [])) (matching false (codes "a") no_trail) (Some (codes "ECHO;")) in
     let found = spells_items (codes "%%\n<A>a ECHO;\n") ((2, item) ∷ []) refl (
       [],
       refl,
@@ -96,7 +99,7 @@ not_declared S h =
 bar_at_end : Example.IsNone (codes "%%\na |\n")
 unfolding definition_at conditions_at take_up_to is_blank action_at action_end after_piece
 bar_at_end S h =
-    let item = rule unlisted (matching false (codes "a") no_trail) bar in
+    let item = rule unlisted (matching false (codes "a") no_trail) None in
     let found = spells_items (codes "%%\na |\n") ((2, item) ∷ []) refl (
       [],
       refl,
@@ -121,8 +124,8 @@ two_unlisted ends others more m n e f listed listed' first second one =
 two_ends : Example.IsNone (codes "%%\n<<EOF>> exit(1);\n<<EOF>> exit(2);\n")
 unfolding definition_at conditions_at take_up_to is_blank action_at action_end after_piece
 two_ends S h =
-    let first = rule unlisted at_end (spelled (codes "exit(1);")) in
-    let second = rule unlisted at_end (spelled (codes "exit(2);")) in
+    let first = rule unlisted at_end (Some (codes "exit(1);")) in
+    let second = rule unlisted at_end (Some (codes "exit(2);")) in
     let left = codes "<<EOF>> exit(2);\n" in
     let found = spells_items (codes "%%\n<<EOF>> exit(1);\n<<EOF>> exit(2);\n") ((2, first) ∷ (3, second) ∷ []) refl (
       left,

@@ -9,7 +9,7 @@ use Rattle.lexspec_lines.specs.SkippedCode.{Code}
 use Rattle.lexspec_lines.specs.Skips.{TellsCode, TellsPieces}
 use Rattle.lexspec_lines.specs.declared.skipped.Skipped.{Skipped}
 use Rattle.lexspec.specs.RuleItems.{EndRule}
-use Rattle.lexspec.specs.RuleReads.{Left, may_wait, RulesFrom}
+use Rattle.lexspec.specs.WaitingRules.{Left, may_wait, RulesFrom}
 use Rattle.lexspec.specs.RuleViews.{rule_of}
 use Rattle.lexspec.specs.EndRules.{end_rule_of}
 use Rattle.lexspec.specs.ItemReads.{names_in, NoneLeft}

@@ -14,7 +14,7 @@ use Rattle.lex_semantics.specs.ByteSets.{is_word, has, set_below, set_of, single
 use Rattle.lex_semantics.specs.Escapes.{simple_escape}
 use Rattle.lex_semantics.specs.Reading.{take_up_to}
 use Rattle.lex_semantics.specs.Tree.{Tree, Set}
-use Rattle.lexre_bytes.specs.Lexical.{after_word, escape_at, literal_byte_at, symbol_at}
+use Rattle.lexre_bytes.specs.Lexical.{after_word, escape_at, symbol_at}
 use Rattle.lexre.specs.Limits.{max_open}
 use Rattle.lexre.specs.Running.{state, fresh}
 use Rattle.lexre.specs.Spelling.{Spells}
@@ -26,11 +26,11 @@ use Rattle.lexre.specs.declared.options.ReadOptions.{ReadOptions}
 use Rattle.lexspec_actions.specs.Names.{number_from, Known, known_in}
 use Rattle.lexspec_actions.specs.Actions.{SpellsAction, SpellsEndAction}
 use Rattle.lexspec.specs.Items as F
-use Rattle.lexspec.specs.Items.{Conditions, Action, bar, spelled}
+use Rattle.lexspec.specs.Items.{Conditions}
 use Rattle.lexspec.specs.RuleItems as Of
 use Rattle.lexspec.specs.RuleItems.{numbers_of, EndRule, AreRules}
 use Rattle.lexspec.proofs.ItemRunLaws.{trail_as, all_as}
-use Rattle.lexspec.specs.RuleReads.{goes_to_rule, RulesFrom, IsTrail, HasHead}
+use Rattle.lexspec.specs.WaitingRules.{goes_to_rule, RulesFrom, IsTrail, HasHead}
 
 not_after : (b : Bool) → (b ≡ true → false ≡ true) → b ≡ false
 not_after false h = refl
@@ -39,7 +39,7 @@ not_after true h = sym (h refl)
 -- `$` is spelled as `\n` is
 
 found : (posix fold : Bool) → tried posix fold 20 (state fresh [] max_open) (codes "\\n") ≡ Some (Some (Set (single 10)))
-unfolding symbol_at literal_byte_at escape_at after_word simple_escape has set_below set_of single fold_case other_case take_up_to
+unfolding symbol_at escape_at after_word simple_escape has set_below set_of single fold_case other_case take_up_to
 found true true = refl
 found true false = refl
 found false true = refl
@@ -138,50 +138,50 @@ module _ (names : List (List ℕ)) (how : ReadOptions) (stack : Bool) (defined :
   spelled_off text ss h = subst (λ k. SpellsAction k text ss) (sym known_same) h
 
   pub rules_on : (b : Bool) (is : List (ℕ × Item)) (rs : List Rule) (es : List EndRule) → RulesFrom names how stack defined is rs es
-      → (b ≡ true → goes_to_rule bar is ≡ true) → Are b (all_as is) rs es
+      → (b ≡ true → goes_to_rule None is ≡ true) → Are b (all_as is) rs es
   rules_on b [] rs es h go = subst (λ z. Are b [] z es) (sym h.0) (subst (λ z. Are b [] [] z) (sym h.1) tt)
   rules_on b ((n, skipped) ∷ is) rs es h go = rules_on b is rs es h go
   rules_on b ((n, skipped_line) ∷ is) rs es h go = rules_on b is rs es h go
   rules_on b ((n, skipped_block) ∷ is) rs es h go = rules_on b is rs es h go
-  rules_on b ((n, rule asked at_end (spelled text)) ∷ is) rs es (numbers, e, others, listed, acts, all, more) go =
-      let here : Are false ((n, F.rule asked F.at_end (spelled text)) ∷ all_as is) rs ((numbers, e) ∷ others) =
+  rules_on b ((n, rule asked at_end (Some text)) ∷ is) rs es (numbers, e, others, listed, acts, all, more) go =
+      let here : Are false ((n, F.rule asked F.at_end (Some text)) ∷ all_as is) rs ((numbers, e) ∷ others) =
       (subst (λ k. SpellsEndAction k text e) known_same acts, numbers_on asked numbers listed, rules_on false is rs others more (λ x. cc)) in
-      subst (λ z. Are z ((n, F.rule asked F.at_end (spelled text)) ∷ all_as is) rs es) (sym (not_after b go))
-      (subst (λ z. Are false ((n, F.rule asked F.at_end (spelled text)) ∷ all_as is) rs z) (sym all) here)
-  rules_on b ((n, rule asked at_end bar) ∷ is) rs es h go = absurd h
-  rules_on b ((n, rule asked (matching anchored head after) (spelled text)) ∷ is) rs es (r, others, all, (has, goes, acts), more) go =
-      subst (λ z. Are b ((n, F.rule asked (F.matching anchored head (trail_as after)) (spelled text)) ∷ all_as is) z es) (sym all)
+      subst (λ z. Are z ((n, F.rule asked F.at_end (Some text)) ∷ all_as is) rs es) (sym (not_after b go))
+      (subst (λ z. Are false ((n, F.rule asked F.at_end (Some text)) ∷ all_as is) rs z) (sym all) here)
+  rules_on b ((n, rule asked at_end None) ∷ is) rs es h go = absurd h
+  rules_on b ((n, rule asked (matching anchored head after) (Some text)) ∷ is) rs es (r, others, all, (has, goes, acts), more) go =
+      subst (λ z. Are b ((n, F.rule asked (F.matching anchored head (trail_as after)) (Some text)) ∷ all_as is) z es) (sym all)
       (head_on n asked anchored head after r has, spelled_on text r.statements acts, rules_on false is others es more (λ x. cc))
-  rules_on b ((n, rule asked (matching anchored head after) bar) ∷ is) rs es (r, [], all, (has, goes, acts), more) go = absurd acts
-  rules_on b ((n, rule asked (matching anchored head after) bar) ∷ is) rs es (r, q ∷ others, all, (has, goes, acts), more) go =
-      subst (λ z. Are b ((n, F.rule asked (F.matching anchored head (trail_as after)) bar) ∷ all_as is) z es) (sym all)
+  rules_on b ((n, rule asked (matching anchored head after) None) ∷ is) rs es (r, [], all, (has, goes, acts), more) go = absurd acts
+  rules_on b ((n, rule asked (matching anchored head after) None) ∷ is) rs es (r, q ∷ others, all, (has, goes, acts), more) go =
+      subst (λ z. Are b ((n, F.rule asked (F.matching anchored head (trail_as after)) None) ∷ all_as is) z es) (sym all)
       (head_on n asked anchored head after r has, acts, rules_on true is (q ∷ others) es more (λ x. goes))
 
   pub rules_off : (b : Bool) (is : List (ℕ × Item)) (rs : List Rule) (es : List EndRule) → Are b (all_as is) rs es
-      → RulesFrom names how stack defined is rs es × (b ≡ true → 1 ≤ length rs → goes_to_rule bar is ≡ true)
+      → RulesFrom names how stack defined is rs es × (b ≡ true → 1 ≤ length rs → goes_to_rule None is ≡ true)
   rules_off b [] [] [] h = ((refl, refl), λ x some. absurd (omega (arith, some)))
   rules_off b [] [] (e ∷ es) h = absurd h
   rules_off b [] (r ∷ rs) es h = absurd h
   rules_off b ((n, skipped) ∷ is) rs es h = rules_off b is rs es h
   rules_off b ((n, skipped_line) ∷ is) rs es h = rules_off b is rs es h
   rules_off b ((n, skipped_block) ∷ is) rs es h = rules_off b is rs es h
-  rules_off true ((n, rule asked at_end (spelled text)) ∷ is) rs [] h = absurd h
-  rules_off true ((n, rule asked at_end (spelled text)) ∷ is) rs (end ∷ es) h = absurd h
-  rules_off false ((n, rule asked at_end (spelled text)) ∷ is) rs [] h = absurd h
-  rules_off false ((n, rule asked at_end (spelled text)) ∷ is) rs (end ∷ es) (acts, listed, more) =
+  rules_off true ((n, rule asked at_end (Some text)) ∷ is) rs [] h = absurd h
+  rules_off true ((n, rule asked at_end (Some text)) ∷ is) rs (end ∷ es) h = absurd h
+  rules_off false ((n, rule asked at_end (Some text)) ∷ is) rs [] h = absurd h
+  rules_off false ((n, rule asked at_end (Some text)) ∷ is) rs (end ∷ es) (acts, listed, more) =
       ((end.0, end.1, es, numbers_off asked end.0 listed, subst (λ k. SpellsEndAction k text end.1) (sym known_same) acts, refl, (rules_off false is rs es more).0), λ x some. cc)
-  rules_off true ((n, rule asked at_end bar) ∷ is) rs es h = absurd h
-  rules_off false ((n, rule asked at_end bar) ∷ is) rs [] h = absurd h
-  rules_off false ((n, rule asked at_end bar) ∷ is) rs (end ∷ es) h = absurd h
-  rules_off true ((n, rule asked (matching anchored head after) (spelled text)) ∷ is) [] es h = absurd h
-  rules_off true ((n, rule asked (matching anchored head after) bar) ∷ is) [] es h = absurd h
-  rules_off false ((n, rule asked (matching anchored head after) (spelled text)) ∷ is) [] es h = absurd h
-  rules_off false ((n, rule asked (matching anchored head after) bar) ∷ is) [] es h = absurd h
-  rules_off b ((n, rule asked (matching anchored head after) (spelled text)) ∷ is) (r ∷ rs) es (front, acts, more) =
+  rules_off true ((n, rule asked at_end None) ∷ is) rs es h = absurd h
+  rules_off false ((n, rule asked at_end None) ∷ is) rs [] h = absurd h
+  rules_off false ((n, rule asked at_end None) ∷ is) rs (end ∷ es) h = absurd h
+  rules_off true ((n, rule asked (matching anchored head after) (Some text)) ∷ is) [] es h = absurd h
+  rules_off true ((n, rule asked (matching anchored head after) None) ∷ is) [] es h = absurd h
+  rules_off false ((n, rule asked (matching anchored head after) (Some text)) ∷ is) [] es h = absurd h
+  rules_off false ((n, rule asked (matching anchored head after) None) ∷ is) [] es h = absurd h
+  rules_off b ((n, rule asked (matching anchored head after) (Some text)) ∷ is) (r ∷ rs) es (front, acts, more) =
       ((r, rs, refl, (head_off n asked anchored head after r front, refl, spelled_off text r.statements acts), (rules_off false is rs es more).0), λ x some. refl)
-  rules_off true ((n, rule asked (matching anchored head after) bar) ∷ is) (r ∷ []) es h = absurd h
-  rules_off false ((n, rule asked (matching anchored head after) bar) ∷ is) (r ∷ []) es h = absurd h
-  rules_off b ((n, rule asked (matching anchored head after) bar) ∷ is) (r ∷ q ∷ rs) es (front, acts, more) =
+  rules_off true ((n, rule asked (matching anchored head after) None) ∷ is) (r ∷ []) es h = absurd h
+  rules_off false ((n, rule asked (matching anchored head after) None) ∷ is) (r ∷ []) es h = absurd h
+  rules_off b ((n, rule asked (matching anchored head after) None) ∷ is) (r ∷ q ∷ rs) es (front, acts, more) =
       let later = rules_off true is (q ∷ rs) es more in
       ((r, q ∷ rs, refl, (head_off n asked anchored head after r front, later.1 refl (omega arith), acts), later.0), λ x some. refl)
 
@@ -205,25 +205,25 @@ module _ (names : List (List ℕ)) (how : ReadOptions) (stack : Bool) (defined :
       → Given b (all_as (as_passed is)) rs es
   same_rules b [] rs es h = h
   same_rules b ((n, F.skipped line) ∷ is) rs es h = same_rules b is rs es h
-  same_rules true ((n, F.rule asked F.at_end (spelled text)) ∷ is) rs [] h = absurd h
-  same_rules true ((n, F.rule asked F.at_end (spelled text)) ∷ is) rs (end ∷ es) h = absurd h
-  same_rules false ((n, F.rule asked F.at_end (spelled text)) ∷ is) rs [] h = absurd h
-  same_rules false ((n, F.rule asked F.at_end (spelled text)) ∷ is) rs (end ∷ es) (acts, listed, more) = (acts, listed, same_rules false is rs es more)
-  same_rules true ((n, F.rule asked F.at_end bar) ∷ is) rs es h = absurd h
-  same_rules false ((n, F.rule asked F.at_end bar) ∷ is) rs [] h = absurd h
-  same_rules false ((n, F.rule asked F.at_end bar) ∷ is) rs (end ∷ es) h = absurd h
-  same_rules true ((n, F.rule asked (F.matching anchored head trail) (spelled text)) ∷ is) [] es h = absurd h
-  same_rules true ((n, F.rule asked (F.matching anchored head trail) bar) ∷ is) [] es h = absurd h
-  same_rules false ((n, F.rule asked (F.matching anchored head trail) (spelled text)) ∷ is) [] es h = absurd h
-  same_rules false ((n, F.rule asked (F.matching anchored head trail) bar) ∷ is) [] es h = absurd h
-  same_rules b ((n, F.rule asked (F.matching anchored head None) (spelled text)) ∷ is) (r ∷ rs) es (front, acts, more) = (front, acts, same_rules false is rs es more)
-  same_rules true ((n, F.rule asked (F.matching anchored head None) bar) ∷ is) (r ∷ []) es h = absurd h
-  same_rules false ((n, F.rule asked (F.matching anchored head None) bar) ∷ is) (r ∷ []) es h = absurd h
-  same_rules b ((n, F.rule asked (F.matching anchored head None) bar) ∷ is) (r ∷ q ∷ rs) es (front, acts, more) = (front, acts, same_rules true is (q ∷ rs) es more)
-  same_rules b ((n, F.rule asked (F.matching anchored head (Some trail)) (spelled text)) ∷ is) (r ∷ rs) es (front, acts, more) = (front, acts, same_rules false is rs es more)
-  same_rules true ((n, F.rule asked (F.matching anchored head (Some trail)) bar) ∷ is) (r ∷ []) es h = absurd h
-  same_rules false ((n, F.rule asked (F.matching anchored head (Some trail)) bar) ∷ is) (r ∷ []) es h = absurd h
-  same_rules b ((n, F.rule asked (F.matching anchored head (Some trail)) bar) ∷ is) (r ∷ q ∷ rs) es (front, acts, more) = (front, acts, same_rules true is (q ∷ rs) es more)
+  same_rules true ((n, F.rule asked F.at_end (Some text)) ∷ is) rs [] h = absurd h
+  same_rules true ((n, F.rule asked F.at_end (Some text)) ∷ is) rs (end ∷ es) h = absurd h
+  same_rules false ((n, F.rule asked F.at_end (Some text)) ∷ is) rs [] h = absurd h
+  same_rules false ((n, F.rule asked F.at_end (Some text)) ∷ is) rs (end ∷ es) (acts, listed, more) = (acts, listed, same_rules false is rs es more)
+  same_rules true ((n, F.rule asked F.at_end None) ∷ is) rs es h = absurd h
+  same_rules false ((n, F.rule asked F.at_end None) ∷ is) rs [] h = absurd h
+  same_rules false ((n, F.rule asked F.at_end None) ∷ is) rs (end ∷ es) h = absurd h
+  same_rules true ((n, F.rule asked (F.matching anchored head trail) (Some text)) ∷ is) [] es h = absurd h
+  same_rules true ((n, F.rule asked (F.matching anchored head trail) None) ∷ is) [] es h = absurd h
+  same_rules false ((n, F.rule asked (F.matching anchored head trail) (Some text)) ∷ is) [] es h = absurd h
+  same_rules false ((n, F.rule asked (F.matching anchored head trail) None) ∷ is) [] es h = absurd h
+  same_rules b ((n, F.rule asked (F.matching anchored head None) (Some text)) ∷ is) (r ∷ rs) es (front, acts, more) = (front, acts, same_rules false is rs es more)
+  same_rules true ((n, F.rule asked (F.matching anchored head None) None) ∷ is) (r ∷ []) es h = absurd h
+  same_rules false ((n, F.rule asked (F.matching anchored head None) None) ∷ is) (r ∷ []) es h = absurd h
+  same_rules b ((n, F.rule asked (F.matching anchored head None) None) ∷ is) (r ∷ q ∷ rs) es (front, acts, more) = (front, acts, same_rules true is (q ∷ rs) es more)
+  same_rules b ((n, F.rule asked (F.matching anchored head (Some trail)) (Some text)) ∷ is) (r ∷ rs) es (front, acts, more) = (front, acts, same_rules false is rs es more)
+  same_rules true ((n, F.rule asked (F.matching anchored head (Some trail)) None) ∷ is) (r ∷ []) es h = absurd h
+  same_rules false ((n, F.rule asked (F.matching anchored head (Some trail)) None) ∷ is) (r ∷ []) es h = absurd h
+  same_rules b ((n, F.rule asked (F.matching anchored head (Some trail)) None) ∷ is) (r ∷ q ∷ rs) es (front, acts, more) = (front, acts, same_rules true is (q ∷ rs) es more)
 
   pub rules_passed : (is : List (ℕ × F.Item)) (rs : List Rule) (es : List EndRule) → Given false is rs es
       → RulesFrom names how stack defined (as_passed is) rs es

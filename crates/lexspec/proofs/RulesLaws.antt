@@ -13,11 +13,11 @@ use Rattle.lexre.proofs.OneTree.{one_tree}
 use Rattle.lexspec_actions.specs.Names.{number_from, known_in}
 use Rattle.lexspec_actions.specs.Actions.{SpellsAction, SpellsEndAction}
 use Rattle.lex_semantics.specs.Reading.{after_blanks, take_up_to}
-use Rattle.lexspec.specs.Items.{Conditions, Action, bar, spelled, conditions_at, action_at, action_of, starts_rule}
+use Rattle.lexspec.specs.Items.{Conditions, conditions_at, action_at, action_of, starts_rule}
 use Rattle.lexspec_lines.specs.Lines.{newlines}
 use Rattle.lex_semantics.specs.Sound.{IsCutOf}
 use Rattle.lexspec.specs.RuleItems.{numbers_of, EndRule}
-use Rattle.lexspec.specs.RuleReads.{acting, first_statements, filled, may_wait, Left, IsRule, goes_to_rule, RulesFrom, IsTrail, HasHead, IsActionOf}
+use Rattle.lexspec.specs.WaitingRules.{acting, first_statements, filled, may_wait, Left, IsRule, goes_to_rule, RulesFrom, IsTrail, HasHead, IsActionOf}
 use Rattle.lexspec.specs.ItemRuns.{ItemsFrom, Item, skipped, skipped_line, skipped_block, rule, IsLine, Trailing, Subject, at_end, matching, IsSubject}
 use Rattle.lexspec_lines.proofs.OneSection.{no_true, two_percents, some_pair}
 use Rattle.lexspec.proofs.OneItems.{both_ways, AllBlank, StartsBlank, OpensBlock, tests_of, rule_tests, no_item_at_end, one_item, one_subject}
@@ -102,11 +102,11 @@ module _ (names : List (List ℕ)) (how : ReadOptions) (stack : Bool) (defined :
 
   -- an `<<EOF>>` rule, for which no rule waits
   pub end_on : (n : ℕ) (t : List ℕ) (asked : Conditions) (text rest : List ℕ) (numbers : Option (List ℕ)) (e : EndAction) (R : List Rule) (E : List EndRule)
-      → IsLine t (rule asked at_end (spelled text)) rest → numbers_of (number_from 0 names) (length names) asked ≡ Some numbers → SpellsEndAction (known_in names stack) text e
+      → IsLine t (rule asked at_end (Some text)) rest → numbers_of (number_from 0 names) (length names) asked ≡ Some numbers → SpellsEndAction (known_in names stack) text e
       → Left names how stack defined n t [] R E
       → (F : List EndRule) × (E ≡ (numbers, e) ∷ F) × Left names how stack defined (n + (newlines t - newlines rest)) rest [] R F
   end_on n t asked text rest numbers e R E item listed acts left =
-      let b = behind n t (rule asked at_end (spelled text)) rest left.items item left.here in
+      let b = behind n t (rule asked at_end (Some text)) rest left.items item left.here in
       let (numbers', e', others, listed', acts', all, more) = subst (λ z. RulesFrom names how stack defined z left.later E) b.all left.are in
       let same : numbers' ≡ numbers = some_is numbers' numbers (sym listed' ∙ listed) in
       let act : e' ≡ e = one_end tree_once (known_in names stack) text e' e acts' acts in (
@@ -116,10 +116,10 @@ module _ (names : List (List ℕ)) (how : ReadOptions) (stack : Bool) (defined :
       )
 
   pub end_back : (n : ℕ) (t : List ℕ) (asked : Conditions) (text rest : List ℕ) (numbers : Option (List ℕ)) (e : EndAction) (R : List Rule) (E : List EndRule)
-      → IsLine t (rule asked at_end (spelled text)) rest → numbers_of (number_from 0 names) (length names) asked ≡ Some numbers → SpellsEndAction (known_in names stack) text e
+      → IsLine t (rule asked at_end (Some text)) rest → numbers_of (number_from 0 names) (length names) asked ≡ Some numbers → SpellsEndAction (known_in names stack) text e
       → Left names how stack defined (n + (newlines t - newlines rest)) rest [] R E → Left names how stack defined n t [] R ((numbers, e) ∷ E)
   end_back n t asked text rest numbers e R E item listed acts left = record {
-    items = (n, rule asked at_end (spelled text)) ∷ left.items;
+    items = (n, rule asked at_end (Some text)) ∷ left.items;
     here = (rest, refl, item, left.here);
     later = left.later;
     are = (numbers, e, E, listed, acts, refl, left.are);
@@ -142,17 +142,17 @@ module _ (names : List (List ℕ)) (how : ReadOptions) (stack : Bool) (defined :
 
   head_rule : (n : ℕ) (asked : Conditions) (anchored : Bool) (head : List ℕ) (after : Trailing) (text : List ℕ) (is : List (ℕ × Item)) (rs : List Rule) (r : Rule) (ss : List Statement)
       → HasHead names how stack defined n asked anchored head after r → SpellsAction (known_in names stack) text ss
-      → IsRule names how stack defined n asked anchored head after (spelled text) is rs (acting ss r)
+      → IsRule names how stack defined n asked anchored head after (Some text) is rs (acting ss r)
   head_rule n asked anchored head after text is rs r ss h acts = (with_statements n asked anchored head after r _ h, refl, acts)
 
   pub rule_on : (n : ℕ) (t : List ℕ) (asked : Conditions) (anchored : Bool) (head : List ℕ) (after : Trailing) (text rest : List ℕ) (r : Rule) (ss : List Statement) (w R : List Rule) (E : List EndRule)
-      → IsLine t (rule asked (matching anchored head after) (spelled text)) rest → HasHead names how stack defined n asked anchored head after r → SpellsAction (known_in names stack) text ss
+      → IsLine t (rule asked (matching anchored head after) (Some text)) rest → HasHead names how stack defined n asked anchored head after r → SpellsAction (known_in names stack) text ss
       → Left names how stack defined n t w R E
       → (S : List Rule) × (R ≡ (map (acting ss) w ++ acting ss r ∷ []) ++ S) × Left names how stack defined (n + (newlines t - newlines rest)) rest [] S E
   rule_on n t asked anchored head after text rest r ss w R E item h acts left =
-      let b = behind n t (rule asked (matching anchored head after) (spelled text)) rest left.items item left.here in
+      let b = behind n t (rule asked (matching anchored head after) (Some text)) rest left.items item left.here in
       let (q, others, all, one, more) = subst (λ z. RulesFrom names how stack defined z left.later E) b.all left.are in
-      let same : q ≡ acting ss r = one_rule tree_once names how stack defined n asked anchored head after (spelled text) b.others others q (acting ss r) one
+      let same : q ≡ acting ss r = one_rule tree_once names how stack defined n asked anchored head after (Some text) b.others others q (acting ss r) one
       (head_rule n asked anchored head after text b.others others r ss h acts) in
       let later : left.later ≡ acting ss r ∷ others = all ∙ ap (λ z. z ∷ others) same in (
         others,
@@ -160,39 +160,39 @@ module _ (names : List (List ℕ)) (how : ReadOptions) (stack : Bool) (defined :
         record { items = b.others; here = b.here; later = others; are = more; next = refl; whole = refl },
       )
 
-  wait_rule : (w : List Rule) (n : ℕ) (asked : Conditions) (anchored : Bool) (head : List ℕ) (after : Trailing) (action : Action) (is : List (ℕ × Item))
+  wait_rule : (w : List Rule) (n : ℕ) (asked : Conditions) (anchored : Bool) (head : List ℕ) (after : Trailing) (action : Option (List ℕ)) (is : List (ℕ × Item))
       → may_wait w ((n, rule asked (matching anchored head after) action) ∷ is) ≡ true
   wait_rule [] n asked anchored head after action is = refl
   wait_rule (r ∷ w) n asked anchored head after action is = refl
 
   pub rule_back : (n : ℕ) (t : List ℕ) (asked : Conditions) (anchored : Bool) (head : List ℕ) (after : Trailing) (text rest : List ℕ) (r : Rule) (ss : List Statement) (w S : List Rule) (E : List EndRule)
-      → IsLine t (rule asked (matching anchored head after) (spelled text)) rest → HasHead names how stack defined n asked anchored head after r → SpellsAction (known_in names stack) text ss
+      → IsLine t (rule asked (matching anchored head after) (Some text)) rest → HasHead names how stack defined n asked anchored head after r → SpellsAction (known_in names stack) text ss
       → Left names how stack defined (n + (newlines t - newlines rest)) rest [] S E → Left names how stack defined n t w ((map (acting ss) w ++ acting ss r ∷ []) ++ S) E
   rule_back n t asked anchored head after text rest r ss w S E item h acts left = record {
-    items = (n, rule asked (matching anchored head after) (spelled text)) ∷ left.items;
+    items = (n, rule asked (matching anchored head after) (Some text)) ∷ left.items;
     here = (rest, refl, item, left.here);
     later = acting ss r ∷ left.later;
     are = (acting ss r, left.later, refl, head_rule n asked anchored head after text left.items left.later r ss h acts, left.are);
-    next = wait_rule w n asked anchored head after (spelled text) left.items;
+    next = wait_rule w n asked anchored head after (Some text) left.items;
     whole = append_assoc (map (acting ss) w) (acting ss r ∷ []) S ∙ ap (λ z. map (acting ss) w ++ acting ss r ∷ z) left.whole;
   }
 
   -- a rule that waits for the action of the next one
 
-  takes_first : (rs : List Rule) (ss : List Statement) → IsActionOf (known_in names stack) bar rs ss → ss ≡ first_statements rs
+  takes_first : (rs : List Rule) (ss : List Statement) → IsActionOf (known_in names stack) None rs ss → ss ≡ first_statements rs
   takes_first [] ss h = absurd h
   takes_first (r ∷ rs) ss h = h
 
-  has_first : (rs : List Rule) (ss : List Statement) → IsActionOf (known_in names stack) bar rs ss → IsActionOf (known_in names stack) bar rs (first_statements rs)
+  has_first : (rs : List Rule) (ss : List Statement) → IsActionOf (known_in names stack) None rs ss → IsActionOf (known_in names stack) None rs (first_statements rs)
   has_first [] ss h = absurd h
   has_first (r ∷ rs) ss h = refl
 
   bar_rule : (n : ℕ) (asked : Conditions) (anchored : Bool) (head : List ℕ) (after : Trailing) (is : List (ℕ × Item)) (rs : List Rule) (r : Rule)
-      → HasHead names how stack defined n asked anchored head after r → goes_to_rule bar is ≡ true → IsActionOf (known_in names stack) bar rs (first_statements rs)
-      → IsRule names how stack defined n asked anchored head after bar is rs (acting (first_statements rs) r)
+      → HasHead names how stack defined n asked anchored head after r → goes_to_rule None is ≡ true → IsActionOf (known_in names stack) None rs (first_statements rs)
+      → IsRule names how stack defined n asked anchored head after None is rs (acting (first_statements rs) r)
   bar_rule n asked anchored head after is rs r h next takes = (with_statements n asked anchored head after r _ h, next, takes)
 
-  wait_more : (w : List Rule) (r : Rule) (is : List (ℕ × Item)) → may_wait (w ++ r ∷ []) is ≡ goes_to_rule bar is
+  wait_more : (w : List Rule) (r : Rule) (is : List (ℕ × Item)) → may_wait (w ++ r ∷ []) is ≡ goes_to_rule None is
   wait_more [] r is = refl
   wait_more (q ∷ w) r is = refl
 
@@ -200,13 +200,13 @@ module _ (names : List (List ℕ)) (how : ReadOptions) (stack : Bool) (defined :
   fill_more ss w r rs = sym (append_assoc (map (acting ss) w) (acting ss r ∷ []) rs) ∙ ap (λ z. z ++ rs) (sym (map-append (acting ss) w (r ∷ [])))
 
   pub bar_on : (n : ℕ) (t : List ℕ) (asked : Conditions) (anchored : Bool) (head : List ℕ) (after : Trailing) (rest : List ℕ) (r : Rule) (w R : List Rule) (E : List EndRule)
-      → IsLine t (rule asked (matching anchored head after) bar) rest → HasHead names how stack defined n asked anchored head after r
+      → IsLine t (rule asked (matching anchored head after) None) rest → HasHead names how stack defined n asked anchored head after r
       → Left names how stack defined n t w R E → Left names how stack defined (n + (newlines t - newlines rest)) rest (w ++ r ∷ []) R E
   bar_on n t asked anchored head after rest r w R E item h left =
-      let b = behind n t (rule asked (matching anchored head after) bar) rest left.items item left.here in
+      let b = behind n t (rule asked (matching anchored head after) None) rest left.items item left.here in
       let (q, others, all, one, more) = subst (λ z. RulesFrom names how stack defined z left.later E) b.all left.are in
       let f = first_statements others in
-      let same : q ≡ acting f r = one_rule tree_once names how stack defined n asked anchored head after bar b.others others q (acting f r) one
+      let same : q ≡ acting f r = one_rule tree_once names how stack defined n asked anchored head after None b.others others q (acting f r) one
       (bar_rule n asked anchored head after b.others others r h one.1 (has_first others q.statements one.2)) in
       let later : left.later ≡ acting f r ∷ others = all ∙ ap (λ z. z ∷ others) same in
       record {
@@ -218,29 +218,29 @@ module _ (names : List (List ℕ)) (how : ReadOptions) (stack : Bool) (defined :
         whole = left.whole ∙ ap (filled w) later ∙ fill_more f w r others;
       }
 
-  goes_first : (is : List (ℕ × Item)) (rs : List Rule) (es : List EndRule) → goes_to_rule bar is ≡ true → RulesFrom names how stack defined is rs es
-      → IsActionOf (known_in names stack) bar rs (first_statements rs)
+  goes_first : (is : List (ℕ × Item)) (rs : List Rule) (es : List EndRule) → goes_to_rule None is ≡ true → RulesFrom names how stack defined is rs es
+      → IsActionOf (known_in names stack) None rs (first_statements rs)
   goes_first [] rs es h are = no_true h
   goes_first ((n, rule asked at_end action) ∷ is) rs es h are = no_true h
-  goes_first ((n, rule asked (matching anchored head after) bar) ∷ is) rs es h (r, others, all, one, more) = subst (λ z. IsActionOf (known_in names stack) bar z (first_statements z)) (sym all) refl
-  goes_first ((n, rule asked (matching anchored head after) (spelled text)) ∷ is) rs es h (r, others, all, one, more) =
-      subst (λ z. IsActionOf (known_in names stack) bar z (first_statements z)) (sym all) refl
+  goes_first ((n, rule asked (matching anchored head after) None) ∷ is) rs es h (r, others, all, one, more) = subst (λ z. IsActionOf (known_in names stack) None z (first_statements z)) (sym all) refl
+  goes_first ((n, rule asked (matching anchored head after) (Some text)) ∷ is) rs es h (r, others, all, one, more) =
+      subst (λ z. IsActionOf (known_in names stack) None z (first_statements z)) (sym all) refl
   goes_first ((n, skipped) ∷ is) rs es h are = goes_first is rs es h are
   goes_first ((n, skipped_line) ∷ is) rs es h are = goes_first is rs es h are
   goes_first ((n, skipped_block) ∷ is) rs es h are = goes_first is rs es h are
 
   pub bar_back : (n : ℕ) (t : List ℕ) (asked : Conditions) (anchored : Bool) (head : List ℕ) (after : Trailing) (rest : List ℕ) (r : Rule) (w R : List Rule) (E : List EndRule)
-      → IsLine t (rule asked (matching anchored head after) bar) rest → HasHead names how stack defined n asked anchored head after r
+      → IsLine t (rule asked (matching anchored head after) None) rest → HasHead names how stack defined n asked anchored head after r
       → Left names how stack defined (n + (newlines t - newlines rest)) rest (w ++ r ∷ []) R E → Left names how stack defined n t w R E
   bar_back n t asked anchored head after rest r w R E item h left =
-      let goes : goes_to_rule bar left.items ≡ true = sym (wait_more w r left.items) ∙ left.next in
+      let goes : goes_to_rule None left.items ≡ true = sym (wait_more w r left.items) ∙ left.next in
       let f = first_statements left.later in
       record {
-        items = (n, rule asked (matching anchored head after) bar) ∷ left.items;
+        items = (n, rule asked (matching anchored head after) None) ∷ left.items;
         here = (rest, refl, item, left.here);
         later = acting f r ∷ left.later;
         are = (acting f r, left.later, refl, bar_rule n asked anchored head after left.items left.later r h goes (goes_first left.items left.later E goes left.are), left.are);
-        next = wait_rule w n asked anchored head after bar left.items;
+        next = wait_rule w n asked anchored head after None left.items;
         whole = left.whole ∙ sym (fill_more f w r left.later);
       }
 
@@ -261,7 +261,7 @@ module _ (names : List (List ℕ)) (how : ReadOptions) (stack : Bool) (defined :
   }
 
   pub agree_end : (start : ℕ) (whole_text : List ℕ) (done : List Rule) (ends : List EndRule) (n : ℕ) (t : List ℕ) (asked : Conditions) (text rest : List ℕ) (numbers : Option (List ℕ)) (e : EndAction)
-      → IsLine t (rule asked at_end (spelled text)) rest → numbers_of (number_from 0 names) (length names) asked ≡ Some numbers → SpellsEndAction (known_in names stack) text e
+      → IsLine t (rule asked at_end (Some text)) rest → numbers_of (number_from 0 names) (length names) asked ≡ Some numbers → SpellsEndAction (known_in names stack) text e
       → Agree start whole_text done ends [] n t → Agree start whole_text done (ends ++ (numbers, e) ∷ []) [] (n + (newlines t - newlines rest)) rest
   agree_end start whole_text done ends n t asked text rest numbers e item listed acts a = record {
     back = (λ R E left. subst (λ z. Left names how stack defined start whole_text [] (done ++ R) z) (sym (append_assoc ends ((numbers, e) ∷ []) E))
@@ -274,7 +274,7 @@ module _ (names : List (List ℕ)) (how : ReadOptions) (stack : Bool) (defined :
 
   pub agree_rule : (start : ℕ) (whole_text : List ℕ) (done : List Rule) (ends : List EndRule) (w : List Rule) (n : ℕ) (t : List ℕ)
       (asked : Conditions) (anchored : Bool) (head : List ℕ) (after : Trailing) (text rest : List ℕ) (r : Rule) (ss : List Statement)
-      → IsLine t (rule asked (matching anchored head after) (spelled text)) rest → HasHead names how stack defined n asked anchored head after r → SpellsAction (known_in names stack) text ss
+      → IsLine t (rule asked (matching anchored head after) (Some text)) rest → HasHead names how stack defined n asked anchored head after r → SpellsAction (known_in names stack) text ss
       → Agree start whole_text done ends w n t → Agree start whole_text (done ++ (map (acting ss) w ++ acting ss r ∷ [])) ends [] (n + (newlines t - newlines rest)) rest
   agree_rule start whole_text done ends w n t asked anchored head after text rest r ss item h acts a = record {
     back = (λ R E left. subst (λ z. Left names how stack defined start whole_text [] z (ends ++ E)) (sym (append_assoc done (map (acting ss) w ++ acting ss r ∷ []) R))
@@ -287,7 +287,7 @@ module _ (names : List (List ℕ)) (how : ReadOptions) (stack : Bool) (defined :
 
   pub agree_bar : (start : ℕ) (whole_text : List ℕ) (done : List Rule) (ends : List EndRule) (w : List Rule) (n : ℕ) (t : List ℕ)
       (asked : Conditions) (anchored : Bool) (head : List ℕ) (after : Trailing) (rest : List ℕ) (r : Rule)
-      → IsLine t (rule asked (matching anchored head after) bar) rest → HasHead names how stack defined n asked anchored head after r
+      → IsLine t (rule asked (matching anchored head after) None) rest → HasHead names how stack defined n asked anchored head after r
       → Agree start whole_text done ends w n t → Agree start whole_text done ends (w ++ r ∷ []) (n + (newlines t - newlines rest)) rest
   agree_bar start whole_text done ends w n t asked anchored head after rest r item h a = record {
     back = (λ R E left. a.back R E (bar_back n t asked anchored head after rest r w R E item h left));
@@ -296,13 +296,13 @@ module _ (names : List (List ℕ)) (how : ReadOptions) (stack : Bool) (defined :
 
   -- What the rule that begins a text is.
 
-  abbrev pub IsSpelled : Action → Type 0
-  IsSpelled bar = Unit {0}
-  IsSpelled (spelled text) = (ss : List Statement) × SpellsAction (known_in names stack) text ss
+  abbrev pub IsSpelled : Option (List ℕ) → Type 0
+  IsSpelled None = Unit {0}
+  IsSpelled (Some text) = (ss : List Statement) × SpellsAction (known_in names stack) text ss
 
-  abbrev pub ActsAs : List Rule → Subject → Action → Type 0
-  ActsAs w at_end bar = ⊥
-  ActsAs w at_end (spelled text) = (w ≡ []) × (e : EndAction) × SpellsEndAction (known_in names stack) text e
+  abbrev pub ActsAs : List Rule → Subject → Option (List ℕ) → Type 0
+  ActsAs w at_end None = ⊥
+  ActsAs w at_end (Some text) = (w ≡ []) × (e : EndAction) × SpellsEndAction (known_in names stack) text e
   ActsAs w (matching anchored head after) action =
       (r : Rule) × Spells how defined head r.head × IsTrail how defined after r.trail × IsCutOf r.head r.trail r.cut × IsSpelled action
 
@@ -320,14 +320,14 @@ module _ (names : List (List ℕ)) (how : ReadOptions) (stack : Bool) (defined :
     pub numbered : numbers_of (number_from 0 names) (length names) asked ≡ Some numbers
     pub acts : ActsAs w subject (action_of text)
 
-  acts_here : (w : List Rule) (n : ℕ) (asked : Conditions) (subject : Subject) (action : Action) (is : List (ℕ × Item)) (rs : List Rule) (es : List EndRule)
+  acts_here : (w : List Rule) (n : ℕ) (asked : Conditions) (subject : Subject) (action : Option (List ℕ)) (is : List (ℕ × Item)) (rs : List Rule) (es : List EndRule)
       → RulesFrom names how stack defined ((n, rule asked subject action) ∷ is) rs es → may_wait w ((n, rule asked subject action) ∷ is) ≡ true
       → ((numbers : Option (List ℕ)) × (numbers_of (number_from 0 names) (length names) asked ≡ Some numbers)) × ActsAs w subject action
-  acts_here w n asked at_end bar is rs es are next = absurd are
-  acts_here [] n asked at_end (spelled text) is rs es (numbers, e, others, listed, acts, all, more) next = ((numbers, listed), (refl, e, acts))
-  acts_here (q ∷ w) n asked at_end (spelled text) is rs es are next = no_true next
-  acts_here w n asked (matching anchored head after) bar is rs es (r, others, all, one, more) next = ((r.conditions, one.0.listed), (r, one.0.head_is, one.0.trail_is, one.0.cut_is, tt))
-  acts_here w n asked (matching anchored head after) (spelled text) is rs es (r, others, all, one, more) next =
+  acts_here w n asked at_end None is rs es are next = absurd are
+  acts_here [] n asked at_end (Some text) is rs es (numbers, e, others, listed, acts, all, more) next = ((numbers, listed), (refl, e, acts))
+  acts_here (q ∷ w) n asked at_end (Some text) is rs es are next = no_true next
+  acts_here w n asked (matching anchored head after) None is rs es (r, others, all, one, more) next = ((r.conditions, one.0.listed), (r, one.0.head_is, one.0.trail_is, one.0.cut_is, tt))
+  acts_here w n asked (matching anchored head after) (Some text) is rs es (r, others, all, one, more) next =
       ((r.conditions, one.0.listed), (r, one.0.head_is, one.0.trail_is, one.0.cut_is, (r.statements, one.2)))
 
   rule_here : (t : List ℕ) (w : List Rule) (n : ℕ) (i : Item) (rest : List ℕ) (is : List (ℕ × Item)) (rs : List Rule) (es : List EndRule) → starts_rule t ≡ true → IsLine t i rest
@@ -417,7 +417,7 @@ module _ (names : List (List ℕ)) (how : ReadOptions) (stack : Bool) (defined :
       let k = known n t u v asked subject w R E starts list cut left in no_some (k.0, k.1) (action_at (after_blanks v)) k.2 none
 
   -- the action of the rule that begins a text
-  pub acts_of : (n : ℕ) (t : List ℕ) (asked : Conditions) (subject : Subject) (action : Action) (rest : List ℕ) (w R : List Rule) (E : List EndRule) → IsLine t (rule asked subject action) rest
+  pub acts_of : (n : ℕ) (t : List ℕ) (asked : Conditions) (subject : Subject) (action : Option (List ℕ)) (rest : List ℕ) (w R : List Rule) (E : List EndRule) → IsLine t (rule asked subject action) rest
       → Left names how stack defined n t w R E → ActsAs w subject action
   acts_of n t asked subject action rest w R E (starts, u, v, text, list, cut, ends, is) left =
       let k = known n t u v asked subject w R E starts list cut left in

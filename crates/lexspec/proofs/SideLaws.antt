@@ -2,7 +2,7 @@
 use Rattle.std.proofs.Common.{◌≡◌, List, [], ◌∷◌, ◌++◌, map, sym, ap, subst, ◌∙◌}
 use Rattle.std.proofs.lemmas.List.{map-append}
 use Rattle.lex_semantics.specs.Spec as S
-use Rattle.lexspec.specs.RuleReads.{acting}
+use Rattle.lexspec.specs.WaitingRules.{acting}
 use Rattle.lexspec.specs.RuleViews.{rule_of}
 use Rattle.lexspec.specs.SoundSides.{HasSoundFront}
 use Rattle.lex_semantics.specs.Sound.{HaveSoundSides}

@@ -1,5 +1,5 @@
 -- One rule more.
-use Rattle.std.proofs.Common.{◌≡◌, ℕ, ◌+◌, ◌-◌, Bool, true, false, ◌&&◌, if◌then◌else◌, List, [], ◌∷◌, ◌++◌, map, length, drop, Option, Some, Global, refl, sym, ap, subst, ◌∙◌, arith}
+use Rattle.std.proofs.Common.{◌≡◌, ℕ, ◌+◌, ◌-◌, Bool, true, false, ◌&&◌, if◌then◌else◌, List, [], ◌∷◌, ◌++◌, map, length, drop, Option, Some, Global, refl, sym, ap, subst, ◌∙◌, arith, None}
 use Rattle.std.specs.Prelude.{codes, option_map, Vec}
 use Rattle.std.proofs.lemmas.List.{map-append, length-map}
 use Rattle.lex_semantics.specs.Spec as S
@@ -9,10 +9,10 @@ use Rattle.lexspec_actions.specs.Actions.{SpellsAction, SpellsEndAction}
 use Rattle.lexspec_actions.specs.declared.condition.Condition.{Condition}
 use Rattle.lex_semantics.specs.Reading.{begins}
 use Rattle.lexspec.specs.ItemRuns.{rule, IsLine, at_end, matching}
-use Rattle.lexspec.specs.Items.{Action, bar, spelled, action_of}
+use Rattle.lexspec.specs.Items.{action_of}
 use Rattle.lexspec_lines.specs.Lines.{newlines, is_all_blank}
 use Rattle.lexspec.specs.RuleItems.{numbers_of, EndRule}
-use Rattle.lexspec.specs.RuleReads.{acting, Left}
+use Rattle.lexspec.specs.WaitingRules.{acting, Left}
 use Rattle.lexspec.specs.RuleViews.{rule_of}
 use Rattle.lexspec.specs.EndRules.{end_rule_of}
 use Rattle.lexspec.specs.ItemReads.{names_in, ReadsFront, NoRulesAfter}
@@ -33,11 +33,11 @@ use Rattle.lexspec.proofs.RulesLaws.{Agree, end_on, agree_end, agree_rule, agree
 
 -- an action is a bar, or its text
 
-pub action_bar : (a : List ℕ) (b : Bool) → b ≡ (begins (codes "|") a && is_all_blank (drop 1 a)) → b ≡ true → action_of a ≡ bar
-action_bar a b e h = ap (λ z. if z then bar else spelled a) (sym e ∙ h)
+pub action_bar : (a : List ℕ) (b : Bool) → b ≡ (begins (codes "|") a && is_all_blank (drop 1 a)) → b ≡ true → action_of a ≡ None
+action_bar a b e h = ap (λ z. if z then None else Some a) (sym e ∙ h)
 
-pub action_spelled : (a : List ℕ) (b : Bool) → b ≡ (begins (codes "|") a && is_all_blank (drop 1 a)) → b ≡ false → action_of a ≡ spelled a
-action_spelled a b e h = ap (λ z. if z then bar else spelled a) (sym e ∙ h)
+pub action_spelled : (a : List ℕ) (b : Bool) → b ≡ (begins (codes "|") a && is_all_blank (drop 1 a)) → b ≡ false → action_of a ≡ Some a
+action_spelled a b e h = ap (λ z. if z then None else Some a) (sym e ∙ h)
 
 module _ (d : Declarations) where
   abbrev Now : ℕ → List ℕ → List S.Rule → List EndRule → List S.Rule → ℕ → List ℕ → Type 0
@@ -54,7 +54,7 @@ module _ (d : Declarations) where
       (subst (λ z. Now start whole done z (map rule_of s.waiting.items) n t) (sym f) (subst (λ z. Now start whole done ends z n t) (sym g) a)) in
       record { back = same.back; on = same.on }
 
-  pub bar_taken : (r : Rule) (action : List ℕ) (s s' : RulesSoFar) → action_of action ≡ bar
+  pub bar_taken : (r : Rule) (action : List ℕ) (s s' : RulesSoFar) → action_of action ≡ None
       → s'.rules.items ≡ s.rules.items → s'.ends.items ≡ s.ends.items → s'.waiting.items ≡ s.waiting.items ++ r ∷ [] → GoesOn d (F.Matching r) action s s'
   bar_taken r action s s' is rules ends waiting start n whole t rest h a =
       from start whole s' (n + (newlines t - newlines rest)) rest (map rule_of s.rules.items) (map end_rule_of s.ends.items) (map rule_of s.waiting.items ++ rule_of r ∷ [])
@@ -62,7 +62,7 @@ module _ (d : Declarations) where
       (agree_bar (names_in d) d.options d.stack d.definitions start whole (map rule_of s.rules.items) (map end_rule_of s.ends.items) (map rule_of s.waiting.items) n t h.asked h.anchored h.head h.after rest (rule_of r)
       (subst (λ z. IsLine t (rule h.asked (matching h.anchored h.head h.after) z) rest) is h.item) h.has_head (to start whole s n t a))
 
-  pub rule_taken : (r : Rule) (action : List ℕ) (ss : List S.Statement) (cs : List Condition) (s s' : RulesSoFar) → action_of action ≡ spelled action
+  pub rule_taken : (r : Rule) (action : List ℕ) (ss : List S.Statement) (cs : List Condition) (s s' : RulesSoFar) → action_of action ≡ Some action
       → cs ≡ d.conditions.items → SpellsAction (known_in (names_of cs) d.stack) action ss
       → map rule_of s'.rules.items ≡ map rule_of s.rules.items ++ (map (acting ss) (map rule_of s.waiting.items) ++ acting ss (rule_of r) ∷ [])
       → s'.ends.items ≡ s.ends.items → s'.waiting.items ≡ [] → GoesOn d (F.Matching r) action s s'
@@ -73,7 +73,7 @@ module _ (d : Declarations) where
       (rule_of r) ss (subst (λ z. IsLine t (rule h.asked (matching h.anchored h.head h.after) z) rest) is h.item) h.has_head
       (subst (λ z. SpellsAction (known_in (names_of z) d.stack) action ss) same acts) (to start whole s n t a))
 
-  pub rule_refused : (r : Rule) (action : List ℕ) (kind : SpecErrorKind) (cs : List Condition) (s : RulesSoFar) → action_of action ≡ spelled action
+  pub rule_refused : (r : Rule) (action : List ℕ) (kind : SpecErrorKind) (cs : List Condition) (s : RulesSoFar) → action_of action ≡ Some action
       → cs ≡ d.conditions.items → UnlessMemory kind ((ss : List S.Statement) → SpellsAction (known_in (names_of cs) d.stack) action ss → ⊥)
       → UnlessMemory kind (NoRulesAfter d s (F.Matching r) action)
   rule_refused r action kind cs s is same none =
@@ -81,12 +81,12 @@ module _ (d : Declarations) where
       act none_is (acting_here n t rest R E reads left)) none
     where
       acting_here : (n : ℕ) (t rest : List ℕ) (R : List S.Rule) (E : List EndRule) → ReadsFront d n t action rest (F.Matching r) → Left (names_in d) d.options d.stack d.definitions n t (map rule_of s.waiting.items) R E
-          → IsSpelled (names_in d) d.options d.stack d.definitions (spelled action)
+          → IsSpelled (names_in d) d.options d.stack d.definitions (Some action)
       acting_here n t rest R E h left =
           let acts = acts_of (names_in d) d.options d.stack d.definitions n t h.asked (matching h.anchored h.head h.after) (action_of action) rest (map rule_of s.waiting.items) R E h.item left in
           subst (IsSpelled (names_in d) d.options d.stack d.definitions) is acts.4
 
-      act : ((ss : List S.Statement) → SpellsAction (known_in (names_of cs) d.stack) action ss → ⊥) → IsSpelled (names_in d) d.options d.stack d.definitions (spelled action) → ⊥
+      act : ((ss : List S.Statement) → SpellsAction (known_in (names_of cs) d.stack) action ss → ⊥) → IsSpelled (names_in d) d.options d.stack d.definitions (Some action) → ⊥
       act none_is (ss, spells) = none_is ss (subst (λ z. SpellsAction (known_in (names_of z) d.stack) action ss) (sym same) spells)
 
   -- `<<EOF>>` rules
@@ -99,7 +99,7 @@ module _ (d : Declarations) where
   no_items [] h = refl
   no_items (y ∷ ys) h = absurd (omega arith)
 
-  pub end_taken : (numbers : Option (Vec ℕ Global)) (action : List ℕ) (e : EndRuleKept) (cs : List Condition) (s s' : RulesSoFar) → e.conditions ≡ numbers → action_of action ≡ spelled action
+  pub end_taken : (numbers : Option (Vec ℕ Global)) (action : List ℕ) (e : EndRuleKept) (cs : List Condition) (s s' : RulesSoFar) → e.conditions ≡ numbers → action_of action ≡ Some action
       → cs ≡ d.conditions.items → SpellsEndAction (known_in (names_of cs) d.stack) action (end_action_of e.action) → length s.waiting.items ≡ 0
       → s'.rules.items ≡ s.rules.items → s'.ends.items ≡ s.ends.items ++ e ∷ [] → s'.waiting.items ≡ s.waiting.items → GoesOn d (F.AtEnd numbers) action s s'
   end_taken numbers action e cs s s' listed is same acts empty rules ends waiting start n whole t rest h a =
@@ -112,33 +112,33 @@ module _ (d : Declarations) where
       (subst (λ z. SpellsEndAction (known_in (names_of z) d.stack) action (end_action_of e.action)) same acts)
       (subst (λ z. Now start whole (map rule_of s.rules.items) (map end_rule_of s.ends.items) z n t) none (to start whole s n t a)))
 
-  pub end_refused : (numbers : Option (Vec ℕ Global)) (action : List ℕ) (kind : SpecErrorKind) (cs : List Condition) (s : RulesSoFar) → action_of action ≡ spelled action
+  pub end_refused : (numbers : Option (Vec ℕ Global)) (action : List ℕ) (kind : SpecErrorKind) (cs : List Condition) (s : RulesSoFar) → action_of action ≡ Some action
       → cs ≡ d.conditions.items
       → UnlessMemory kind ((e : S.EndAction) → SpellsEndAction (known_in (names_of cs) d.stack) action e → ⊥) → UnlessMemory kind (NoRulesAfter d s (F.AtEnd numbers) action)
   end_refused numbers action kind cs s is same none =
       unless_memory kind ((e : S.EndAction) → SpellsEndAction (known_in (names_of cs) d.stack) action e → ⊥) (NoRulesAfter d s (F.AtEnd numbers) action) (λ none_is n t rest R E reads left may.
       act none_is (subst (ActsAs (names_in d) d.options d.stack d.definitions (map rule_of s.waiting.items) at_end) is (end_acts numbers action n t rest (map rule_of s.waiting.items) R E reads left))) none
     where
-      act : ((e : S.EndAction) → SpellsEndAction (known_in (names_of cs) d.stack) action e → ⊥) → ActsAs (names_in d) d.options d.stack d.definitions (map rule_of s.waiting.items) at_end (spelled action) → ⊥
+      act : ((e : S.EndAction) → SpellsEndAction (known_in (names_of cs) d.stack) action e → ⊥) → ActsAs (names_in d) d.options d.stack d.definitions (map rule_of s.waiting.items) at_end (Some action) → ⊥
       act none_is (empty, e, spells) = none_is e (subst (λ z. SpellsEndAction (known_in (names_of z) d.stack) action e) (sym same) spells)
 
-  pub end_bar_refused : (numbers : Option (Vec ℕ Global)) (action : List ℕ) (s : RulesSoFar) → action_of action ≡ bar → NoRulesAfter d s (F.AtEnd numbers) action
+  pub end_bar_refused : (numbers : Option (Vec ℕ Global)) (action : List ℕ) (s : RulesSoFar) → action_of action ≡ None → NoRulesAfter d s (F.AtEnd numbers) action
   end_bar_refused numbers action s is n t rest R E reads left may =
       subst (ActsAs (names_in d) d.options d.stack d.definitions (map rule_of s.waiting.items) at_end) is (end_acts numbers action n t rest (map rule_of s.waiting.items) R E reads left)
 
   pub end_awaited : (numbers : Option (Vec ℕ Global)) (action : List ℕ) (s : RulesSoFar) → (length s.waiting.items ≡ 0 → ⊥) → NoRulesAfter d s (F.AtEnd numbers) action
   end_awaited numbers action s some n t rest R E reads left may = act (action_of action) s.waiting.items some (end_acts numbers action n t rest (map rule_of s.waiting.items) R E reads left)
     where
-      act : (action : Action) (ws : List Rule) → (length ws ≡ 0 → ⊥) → ActsAs (names_in d) d.options d.stack d.definitions (map rule_of ws) at_end action → ⊥
-      act bar ws none h = h
-      act (spelled text) [] none h = none refl
-      act (spelled text) (w ∷ ws) none (empty, e, spells) = no_list empty
+      act : (action : Option (List ℕ)) (ws : List Rule) → (length ws ≡ 0 → ⊥) → ActsAs (names_in d) d.options d.stack d.definitions (map rule_of ws) at_end action → ⊥
+      act None ws none h = h
+      act (Some text) [] none h = none refl
+      act (Some text) (w ∷ ws) none (empty, e, spells) = no_list empty
         where
           no_list : ◌≡◌ {A = List S.Rule} (rule_of w ∷ map rule_of ws) [] → ⊥
           no_list e = cc
 
   -- a rule that clashes with one before it
-  pub end_twice : (numbers : Option (Vec ℕ Global)) (action : List ℕ) (e : EndRuleKept) (old : List EndRuleKept) (cs : List Condition) (s : RulesSoFar) → old ≡ s.ends.items → e.conditions ≡ numbers → action_of action ≡ spelled action
+  pub end_twice : (numbers : Option (Vec ℕ Global)) (action : List ℕ) (e : EndRuleKept) (old : List EndRuleKept) (cs : List Condition) (s : RulesSoFar) → old ≡ s.ends.items → e.conditions ≡ numbers → action_of action ≡ Some action
       → cs ≡ d.conditions.items → SpellsEndAction (known_in (names_of cs) d.stack) action (end_action_of e.action) → length s.waiting.items ≡ 0
       → ((count : ℕ) (more : List EndRule) → sound_list count (numbers_kept e) ≡ true → AreSingle count (map end_rule_of old ++ end_rule_of e ∷ more) → ⊥)
       → NoRulesAfter d s (F.AtEnd numbers) action

@@ -9,7 +9,7 @@ use Rattle.lexre.specs.Cutting.{IsCutting}
 use Rattle.lexre.proofs.CuttingLaws.{one_cutting}
 use Rattle.lexspec.specs.ItemRuns.{Trailing, no_trail, line_end, pattern_after, Subject, at_end, matching, IsSides, IsSubject}
 use Rattle.lexspec.specs.Items.{Conditions, unlisted, every, only, conditions_at}
-use Rattle.lexspec_lines.proofs.OneSection.{no_true, some_pair}
+use Rattle.lexspec_lines.proofs.OneSection.{no_true}
 use Rattle.lexspec.specs.SubjectViews.{parts, sides}
 use Rattle.lexspec_lines.proofs.TextLaws.{Other, decide}
 use Rattle.lex_semantics.specs.Active.{lists}
@@ -149,21 +149,6 @@ to_cut t head no_trail rest (stop, cut, head_is, rest_is) = (stop, None, false, 
 to_cut t head line_end rest (stop, cut, head_is, rest_is) = (stop, None, true, cut, ap (λ z. Some (z, line_end)) (sym head_is), rest_is)
 to_cut t head (pattern_after text) rest (stop, at, cut, head_is, text_is, rest_is) =
     (stop, Some at, false, cut, ap (λ z. Some (z, pattern_after (take (stop - suc at) (drop (suc at) t)))) (sym head_is) ∙ ap (λ z. Some (head, pattern_after z)) (sym text_is), rest_is)
-
-pub from_cut : (t head : List ℕ) (after : Trailing) (rest : List ℕ) → CutPattern t head after rest → IsSides t head after rest
-from_cut t head after rest (stop, None, false, cut, sides_are, rest_is) =
-    let both = some_pair (take stop t) head no_trail after sides_are in
-    subst (λ a. IsSides t head a rest) both.1 (stop, cut, sym both.0, rest_is)
-from_cut t head after rest (stop, None, true, cut, sides_are, rest_is) =
-    let both = some_pair (take (stop - 1) t) head line_end after sides_are in
-    subst (λ a. IsSides t head a rest) both.1 (stop, cut, sym both.0, rest_is)
-from_cut t head after rest (stop, Some at, false, cut, sides_are, rest_is) =
-    let both = some_pair (take at t) head (pattern_after (take (stop - suc at) (drop (suc at) t))) after sides_are in
-    subst (λ a. IsSides t head a rest) both.1 (stop, at, cut, sym both.0, refl, rest_is)
-from_cut t head after rest (stop, Some at, true, cut, sides_are, rest_is) = absurd (none sides_are)
-  where
-    none : ◌≡◌ {A = Option (List ℕ × Trailing)} None (Some (head, after)) → ⊥
-    none e = cc
 
 abbrev pub NoPattern : List ℕ → Type 0
 NoPattern t = (head : List ℕ) (after : Trailing) (rest : List ℕ) → IsSides t head after rest → ⊥

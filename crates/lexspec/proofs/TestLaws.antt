@@ -2,6 +2,7 @@
 use Rattle.std.proofs.Common.{◌≡◌, ℕ, zero, suc, ◌≤◌, ◌<◌, Bool, true, false, List, [], ◌∷◌, length, ◌⊎◌, inl, inr, Option, Some, None, IfSome, refl, sym, ◌∙◌, ap, subst, arith}
 use Rattle.std.specs.Prelude.{◌&&◌, ◌||◌, nat_le, nat_lt, slice_get}
 use Rattle.std.proofs.lemmas.Bool.{and_parts, and_from, leb-true, le-leb, ltb-true}
+use Rattle.lex_semantics.proofs.Legals.{normal_of_joined}
 use Rattle.lex_semantics.specs.Text.{Among, Ascending}
 use Rattle.lex_semantics.specs.ByteSets.{has}
 use Rattle.lex_semantics.specs.Tree.{Tree, Trees, Empty, Set, Cat, Alt, Star, Repeat, no_trees, tree}
@@ -129,7 +130,7 @@ legal_is n ss h =
     let three = and_parts (all_in_range n ss && ends_last ss && are_joined ss) (are_compatible ss) h in
     let two = and_parts (all_in_range n ss && ends_last ss) (are_joined ss) three.0 in
     let one = and_parts (all_in_range n ss) (ends_last ss) two.0 in
-    (record { ranges = one.0; last = one.1; compatible = three.1 }, two.1)
+    (record { ranges = one.0; last = one.1; compatible = three.1 }, normal_of_joined n ss one.0 two.1)
 
 pub rule_is_sound : (n : ℕ) (r : Rule) → sound_rule n r ≡ true → IsSoundRule n r
 rule_is_sound n r h =

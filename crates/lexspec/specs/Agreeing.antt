@@ -2,7 +2,7 @@
 use Rattle.std.specs.Prelude.{◌≡◌, ℕ, ◌+◌, ◌-◌, List, [], ◌++◌, map}
 use Rattle.lex_semantics.specs.Spec.{Rule}
 use Rattle.lexspec.specs.RuleItems.{EndRule}
-use Rattle.lexspec.specs.RuleReads.{Left}
+use Rattle.lexspec.specs.WaitingRules.{Left}
 use Rattle.lexspec.specs.RuleViews.{rule_of}
 use Rattle.lexspec.specs.EndRules.{end_rule_of}
 use Rattle.lexspec_lines.specs.Lines.{newlines}

@@ -1,7 +1,8 @@
 -- `<<EOF>>` rules that name a condition in common. (flex, End-of-File Rules.)
-use Rattle.std.specs.Prelude.{ℕ, Bool, true, false, if◌then◌else◌, List, [], ◌∷◌, Option, Some, None, is_none, option_map, unwrap_or}
+use Rattle.std.specs.Prelude.{ℕ, suc, Bool, true, false, if◌then◌else◌, List, [], ◌∷◌, Option, Some, None, is_none, option_map, unwrap_or}
 use Rattle.std.specs.List.{list_any}
-use Rattle.lex_semantics.specs.Spec.{EndAction}
+use Rattle.lex_semantics.specs.Spec.{EndAction, Condition}
+use Rattle.lexspec.specs.Files.{end_in}
 use Rattle.lex_semantics.specs.Active.{lists}
 use Rattle.lexspec.specs.RuleItems.{EndRule}
 use Rattle.lexspec.specs.declared.endings.EndRule.{EndRule as EndRuleKept}
@@ -38,3 +39,8 @@ unlisted_end ((Some cs, e) ∷ ends) = unlisted_end ends
 abbrev pub listed_end : List EndRule → List EndRule → ℕ → EndAction
 listed_end all [] c = unlisted_end all
 listed_end all (e ∷ ends) c = if lists_number e.0 c then e.1 else listed_end all ends c
+
+-- the conditions with their ends, as the code makes them one by one; the first one has the number k
+abbrev pub conditions_with : ℕ → List (Bool × List ℕ) → List EndRule → List Condition
+conditions_with k [] E = []
+conditions_with k (c ∷ cs) E = record { exclusive = c.0; name = c.1; end = end_in E k } ∷ conditions_with (suc k) cs E

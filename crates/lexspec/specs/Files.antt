@@ -1,10 +1,10 @@
 -- Which specification a file spells. (POSIX, lex, Input Files; flex, Format of the Input File. The bounds are this
 -- project's.)
-use Rattle.std.specs.Prelude.{◌≡◌, ◌≢◌, ℕ, suc, ◌+◌, ◌-◌, ◌≤◌, ◌<◌, Bool, true, false, ◌||◌, List, [], ◌∷◌, map, find, length, count_by, is_none, option_map, unwrap_or, codes}
-use Rattle.std.specs.List.{list_all}
+use Rattle.std.specs.Prelude.{◌≡◌, ◌≢◌, ℕ, ◌+◌, ◌-◌, ◌≤◌, ◌<◌, true, false, ◌||◌, List, [], map, find, length, count_by, is_none, option_map, unwrap_or, codes, zip}
+use Rattle.std.specs.List.{list_all, range_with_len}
 use Rattle.std.specs.Option.{option_or}
 use Rattle.std.specs.FinMap.{from_entries}
-use Rattle.lex_semantics.specs.Spec.{Spec, Condition, EndAction}
+use Rattle.lex_semantics.specs.Spec.{Spec, EndAction}
 use Rattle.lex_semantics.specs.Active.{lists}
 use Rattle.lex_semantics.specs.Reading.{IsCut, begins}
 use Rattle.lex_semantics.specs.Text.{Pairwise}
@@ -27,21 +27,13 @@ end_in ends c = unwrap_or (option_map (λ (e : EndRule). e.1)
     (option_or (find (λ (e : EndRule). lists (unwrap_or e.0 []) c) ends) (find (λ (e : EndRule). is_none e.0) ends)))
     (record { print = []; status = 0 })
 
--- the conditions with their ends; the first one has the number k
-abbrev pub conditions_with : ℕ → List (Bool × List ℕ) → List EndRule → List Condition
-conditions_with k [] E = []
-conditions_with k (c ∷ cs) E = record { exclusive = c.0; name = c.1; end = end_in E k } ∷ conditions_with (suc k) cs E
-
--- The text is a file of this specification.
+-- The text is a file of this specification: definitions up to a line that begins with `%%`, and items behind that line.
 pub record SpellsSpec (how : ReadOptions) (file : List ℕ) (S : Spec) : Type 0 where
   pub short : length file ≤ max_file_bytes
   pub definitions : List Definition
-  pub after : List ℕ
-  pub first_section : IsCut definition_at (λ t. t ≡ after) (without_returns file) definitions
-  pub separator : begins (codes "%%") after ≡ true
   pub items : List (ℕ × Item)
-  pub rest : List ℕ
-  pub second_section : AreItems (2 + newlines file - newlines after) (line_in after).1 items rest
+  pub sections : IsCut definition_at (λ t. (begins (codes "%%") t ≡ true)
+      × ((rest : List ℕ) × AreItems (2 + newlines file - newlines t) (line_in t).1 items rest)) (without_returns file) definitions
   pub names : Pairwise ◌≢◌ (map (λ c. c.1) (all_conditions definitions))
   pub defined_once : Pairwise ◌≢◌ (map (λ d. d.0) (substitutes_of definitions))
   pub options : list_all (has_name known_options) (all_options definitions) ≡ true
@@ -51,6 +43,7 @@ pub record SpellsSpec (how : ReadOptions) (file : List ℕ) (S : Spec) : Type 0 
       (has_name (all_options definitions) (codes "stack")) (from_entries (substitutes_of definitions))
       items S.rules ends false
   pub one_end : AreSingle (length (all_conditions definitions)) ends
-  pub conditions : S.conditions ≡ conditions_with 0 (all_conditions definitions) ends
+  pub conditions : S.conditions ≡ map (λ (k, c). record { exclusive = c.0; name = c.1; end = end_in ends k })
+      (zip (range_with_len 0 (length (all_conditions definitions))) (all_conditions definitions))
   pub few_conditions : length S.conditions ≤ max_conditions
   pub few_rules : length S.rules ≤ max_rules

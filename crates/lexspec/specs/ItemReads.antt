@@ -8,7 +8,7 @@ use Rattle.lexspec.specs.ItemRuns.{rule, IsLine, Trailing, at_end, matching}
 use Rattle.lexspec.specs.Items.{Conditions, action_of}
 use Rattle.lex_semantics.specs.Sound.{IsCutOf}
 use Rattle.lexspec.specs.RuleItems.{numbers_of, EndRule}
-use Rattle.lexspec.specs.RuleReads.{Left, IsTrail, HasHead}
+use Rattle.lexspec.specs.WaitingRules.{Left, IsTrail, HasHead}
 use Rattle.lexspec.specs.RuleViews.{rule_of}
 use Rattle.lexspec.specs.Keeping.{MayFollow}
 use Rattle.lexspec_lines.specs.declared.declarations.Declarations.{Declarations}

@@ -1,12 +1,12 @@
 -- The lines of the rules section, as the reader passes them.
-use Rattle.std.specs.Prelude.{◌≡◌, ℕ, suc, ◌+◌, ◌-◌, Bool, true, false, not, List, [], ◌∷◌, if◌then◌else◌, length, take, drop, Some, None, codes, ◌⊎◌}
+use Rattle.std.specs.Prelude.{◌≡◌, ℕ, suc, ◌+◌, ◌-◌, Bool, true, false, not, List, [], ◌∷◌, if◌then◌else◌, length, take, drop, Some, None, codes, ◌⊎◌, Option}
 use Rattle.std.specs.List.{list_any}
 use Rattle.lex_semantics.specs.ByteSets.{is_blank}
 use Rattle.lex_semantics.specs.Reading.{after_blanks, begins, is_white}
 use Rattle.lexspec_lines.specs.Lines.{line_in, line_at, is_all_blank, newlines, after_block}
 use Rattle.lexspec_lines.specs.SkippedCode.{Code, line, block}
 use Rattle.lexre.specs.Cutting.{IsCutting, ends_pattern}
-use Rattle.lexspec.specs.Items.{Conditions, Action, starts_rule, conditions_at, action_at, action_of}
+use Rattle.lexspec.specs.Items.{Conditions, starts_rule, conditions_at, action_at, action_of}
 
 -- what follows the head: nothing, a newline (`$`), or a pattern
 pub data Trailing : Type 0 where
@@ -40,7 +40,7 @@ pub data Item : Type 0 where
   skipped : Item
   skipped_line : Item
   skipped_block : Item
-  rule : Conditions → Subject → Action → Item
+  rule : Conditions → Subject → Option (List ℕ) → Item
 
 -- a line of the rules section, with what follows that belongs to it; one that begins with `%%` is none
 abbrev pub IsLine : List ℕ → Item → List ℕ → Type 0

@@ -25,15 +25,11 @@ pub data Subject : Type 0 where
   -- a pattern with its `^`, and its trailing context, if it has one
   matching : (anchored : Bool) (head : List ℕ) (trail : Option (List ℕ)) → Subject
 
--- the action of a rule: that of the next one, or a text
-pub data Action : Type 0 where
-  bar : Action
-  spelled : List ℕ → Action
-
--- a line of the rules section, with what follows that belongs to it: one that is skipped, or a rule
+-- A line of the rules section, with what follows that belongs to it: one that is skipped, or a rule. Its action is a text, or
+-- None for a `|`, which stands for the action of the next rule.
 pub data Item : Type 0 where
   skipped : Definition → Item
-  rule : Conditions → Subject → Action → Item
+  rule : Conditions → Subject → Option (List ℕ) → Item
 
 -- `<..>`, on one line, with names between commas; a `<` always opens a list, unless it opens `<<EOF>>`
 unfoldable pub conditions_at : Reader Conditions
@@ -70,9 +66,9 @@ action_end (suc bound) n t =
 unfoldable pub action_at : Reader (List ℕ)
 action_at t = action_end (suc (length t)) 0 t >>= λ rest. Some (take (length t - length rest) t, drop 1 rest)
 
--- a `|` alone stands for the action of the next rule
-abbrev pub action_of : List ℕ → Action
-action_of text = if begins (codes "|") text && is_all_blank (drop 1 text) then bar else spelled text
+-- the action of a text, which is None for a `|` alone
+abbrev pub action_of : List ℕ → Option (List ℕ)
+action_of text = if begins (codes "|") text && is_all_blank (drop 1 text) then None else Some text
 
 -- a line that is not blank, not code, no `%%` and no `%{`
 abbrev pub starts_rule : List ℕ → Bool

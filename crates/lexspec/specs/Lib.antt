@@ -11,7 +11,7 @@ pub mod ActionSteps
 pub mod ActionViews
 pub mod SubjectViews
 pub mod SubjectFaults
-pub mod RuleReads
+pub mod WaitingRules
 pub mod ItemReads
 pub mod Agreeing
 pub mod SkipViews

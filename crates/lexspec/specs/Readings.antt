@@ -5,12 +5,13 @@ use Rattle.lexspec_lines.specs.Lines.{line_in, newlines}
 use Rattle.lexspec_lines.specs.SkippedCode.{told_lines}
 use Rattle.lexspec_lines.specs.Skips.{AreFrom}
 use Rattle.std.specs.Prelude.{flat_map}
-use Rattle.lexspec.specs.RuleReads.{RulesFrom}
+use Rattle.lexspec.specs.WaitingRules.{RulesFrom}
 use Rattle.lexspec.specs.Skipped.{user_section}
 use Rattle.lexspec.specs.RuleItems.{EndRule}
 use Rattle.lexspec.specs.RuleViews.{rule_of}
 use Rattle.lexspec.specs.EndRules.{end_rule_of}
-use Rattle.lexspec.specs.Files.{AreSingle, conditions_with}
+use Rattle.lexspec.specs.Files.{AreSingle}
+use Rattle.lexspec.specs.Endings.{conditions_with}
 use Rattle.lexspec_lines.specs.Declaring.{declared_of}
 use Rattle.lexspec.specs.ItemReads.{names_in}
 use Rattle.lexspec_lines.specs.declared.declarations.Declarations.{Declarations}

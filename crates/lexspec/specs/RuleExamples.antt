@@ -1,6 +1,6 @@
 -- Worked examples of condition lists and actions, each with what it spells.
 use Rattle.std.specs.Prelude.{◌≡◌, ℕ, List, [], ◌∷◌, Option, Some, None, codes}
-use Rattle.lexspec.specs.Items.{Conditions, every, only, bar, conditions_at, action_at, action_of}
+use Rattle.lexspec.specs.Items.{Conditions, every, only, conditions_at, action_at, action_of}
 
 -- `<a,b>x` and `<*>x`
 abbrev pub ConditionLists : Type 0
@@ -13,4 +13,4 @@ abbrev pub Actions : Type 0
 Actions =
     ◌≡◌ {A = Option (List ℕ × List ℕ)} (action_at (codes "{ /* } */ ECHO; }")) (Some (codes "{ /* } */ ECHO; }", []))
     × (action_at (codes "{ ECHO;") ≡ None)
-    × (action_of (codes "|  ") ≡ bar)
+    × (action_of (codes "|  ") ≡ None)

@@ -1,25 +1,25 @@
 -- Which rules the items of the rules section spell.
 -- (POSIX, lex, Rules in lex and Actions in lex; flex, Patterns: trailing context, End-of-File Rules.)
 use Rattle.std.specs.Prelude.{◌≡◌, ⊤, ℕ, position, Bool, true, false, if◌then◌else◌, List, [], ◌∷◌, length, filter_map, Option, Some, None, is_some, IsSomeAnd, MatchOption}
-use Rattle.std.specs.List.{list_all}
+use Rattle.std.specs.List.{filter, list_all, range_with_len}
 use Rattle.lex_semantics.specs.ByteSets.{is_word}
 use Rattle.lex_semantics.specs.Active.{lists}
-use Rattle.lex_semantics.specs.Text.{listed}
 use Rattle.lex_semantics.specs.Spec.{EndAction, Rule}
 use Rattle.lex_semantics.specs.Sound.{IsCutOf}
 use Rattle.lexre.specs.Definitions.{Definitions}
 use Rattle.lexre.specs.Spelling.{Spells}
 use Rattle.lexspec_actions.specs.Names.{Known}
 use Rattle.lexspec_actions.specs.Actions.{SpellsAction, SpellsEndAction}
-use Rattle.lexspec.specs.Items.{Conditions, unlisted, every, only, at_end, matching, bar, spelled, Item, skipped, rule}
+use Rattle.lexspec.specs.Items.{Conditions, unlisted, every, only, at_end, matching, Item, skipped, rule}
 use Rattle.lexre.specs.declared.options.ReadOptions.{ReadOptions}
 
 -- the numbers of a condition list among n conditions: none without a list
 abbrev pub numbers_of : (List ℕ → Option ℕ) → ℕ → Conditions → Option (Option (List ℕ))
 numbers_of number n unlisted = Some None
-numbers_of number n every = Some (Some (listed (λ c. true) 0 n))
+numbers_of number n every = Some (Some (range_with_len 0 n))
 numbers_of number n (only names) =
-    if list_all (λ name. is_some (number name)) names then Some (Some (listed (lists (filter_map number names)) 0 n)) else None
+    if list_all (λ name. is_some (number name)) names
+    then Some (Some (filter (lists (filter_map number names)) (range_with_len 0 n))) else None
 
 -- an `<<EOF>>` rule, by the numbers of its conditions and its action
 abbrev pub EndRule : Type 0
@@ -46,10 +46,10 @@ module _ (names : List (List ℕ)) (how : ReadOptions) (stack : Bool) (defined :
   abbrev pub AreRules : List (ℕ × Item) → List Rule → List EndRule → Bool → Type 0
   AreRules [] [] [] after_bar = ⊤
   AreRules ((n, skipped line) ∷ is) rules ends after_bar = AreRules is rules ends after_bar
-  AreRules ((n, rule asked at_end (spelled text)) ∷ is) rules (end ∷ ends) false = SpellsEndAction known text end.1
+  AreRules ((n, rule asked at_end (Some text)) ∷ is) rules (end ∷ ends) false = SpellsEndAction known text end.1
       × (numbers_of known.number (length names) asked ≡ Some end.0) × AreRules is rules ends false
-  AreRules ((n, rule asked (matching anchored head trail) (spelled text)) ∷ is) (r ∷ rules) ends after_bar =
+  AreRules ((n, rule asked (matching anchored head trail) (Some text)) ∷ is) (r ∷ rules) ends after_bar =
       HasHead n asked anchored head trail r × SpellsAction known text r.statements × AreRules is rules ends false
-  AreRules ((n, rule asked (matching anchored head trail) bar) ∷ is) (r ∷ next ∷ rules) ends after_bar =
+  AreRules ((n, rule asked (matching anchored head trail) None) ∷ is) (r ∷ next ∷ rules) ends after_bar =
       HasHead n asked anchored head trail r × (r.statements ≡ next.statements) × AreRules is (next ∷ rules) ends true
   AreRules is rules ends after_bar = ⊥

@@ -1,7 +1,7 @@
 -- What the reader of the rules section answers.
 use Rattle.std.specs.Prelude.{ℕ, ◌≤◌, ◌-◌, Some, None, slice_get, List, map, length}
 use Rattle.lex_semantics.specs.Spec.{Rule}
-use Rattle.lexspec.specs.RuleReads.{RulesFrom}
+use Rattle.lexspec.specs.WaitingRules.{RulesFrom}
 use Rattle.lexspec.specs.RuleItems.{EndRule}
 use Rattle.lexspec.specs.RuleViews.{rule_of}
 use Rattle.lexspec.specs.EndRules.{end_rule_of}

@@ -20,13 +20,10 @@ user_section n t = if list_any (λ c. not (is_white c)) (line_in t).1 then n ∷
 -- The lines at which the file has code: those of the definitions, of the rules, and of the user section.
 pub record AreSkipped (file lines : List ℕ) : Type 0 where
   pub definitions : List (ℕ × Definition)
-  pub after : List ℕ
-  pub first_section : IsCut (λ t. definition_at t >>= λ (d, rest). Some ((1 + newlines file - newlines t, d), rest))
-      (λ t. t ≡ after) (without_returns file) definitions
-  pub separator : begins (codes "%%") after ≡ true
   pub items : List (ℕ × Item)
   pub rest : List ℕ
-  pub second_section : AreItems (2 + newlines file - newlines after) (line_in after).1 items rest
+  pub sections : IsCut (λ t. definition_at t >>= λ (d, rest). Some ((1 + newlines file - newlines t, d), rest))
+      (λ t. (begins (codes "%%") t ≡ true) × AreItems (2 + newlines file - newlines t) (line_in t).1 items rest)
+      (without_returns file) definitions
   pub lines_are : lines ≡ told_lines 0 (flat_map code_of_definition definitions)
-      ++ told_lines 0 (flat_map code_of_item items)
-      ++ user_section (2 + newlines file - newlines after + newlines (line_in after).1 - newlines rest) rest
+      ++ told_lines 0 (flat_map code_of_item items) ++ user_section (1 + newlines file - newlines rest) rest

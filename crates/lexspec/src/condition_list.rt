@@ -4,7 +4,7 @@ ghost use Rattle.std.specs.Prelude.{option_map, filter_map, length, slice_index_
 ghost use Rattle.lex_semantics.specs.Active.{lists};
 ghost use Rattle.lexspec_actions.specs.Names.{number_from, names_of};
 ghost use Rattle.lexspec.specs.RuleItems.{numbers_of};
-ghost use Rattle.lex_semantics.specs.Text.{listed};
+ghost use Rattle.std.specs.List.{filter, range_with_len};
 ghost use Rattle.lexspec.specs.SubjectViews.{all_numbered, conditions_of, parts};
 ghost use Rattle.lexspec_lines.specs.Outcome.{UnlessMemory};
 ghost use Rattle.lex_semantics.specs.Limits.{max_conditions};
@@ -43,7 +43,7 @@ fn listed(conditions: &[Condition], names: &[u8]) -> Option<[bool; MAX_CONDITION
 fn numbers_where(alloc: Global, flags: &[bool], count: u8) -> Result<Vec<u8>, AllocError>
     requires { length flags.now ≡ max_conditions }
     ensures { IfOk result (λ v. (test : ℕ → Bool)
-        → ((c : ℕ) → c < max_conditions → slice_index_or flags.now c false ≡ test c) → v.items ≡ listed test 0 count) }
+        → ((c : ℕ) → c < max_conditions → slice_index_or flags.now c false ≡ test c) → v.items ≡ filter test (range_with_len 0 count)) }
 {
     let mut numbers = Vec::new(alloc);
     for number in 0..count {

@@ -6,7 +6,7 @@ ghost use Rattle.lex_semantics.specs.Shapes.{IsSoundTree};
 ghost use Rattle.lexre.specs.Views.{tree_of};
 ghost use Rattle.lexre.specs.Spelling.{Spells};
 ghost use Rattle.lex_semantics.specs.Reading.{after_blanks};
-ghost use Rattle.lexspec.specs.RuleReads.{IsTrail};
+ghost use Rattle.lexspec.specs.WaitingRules.{IsTrail};
 ghost use Rattle.lexspec.specs.Items.{starts_rule, action_at};
 ghost use Rattle.lex_semantics.specs.Sound.{IsCutOf};
 ghost use Rattle.lexspec.specs.RuleViews.{cut_of};

@@ -1,7 +1,7 @@
 //! Rules with their actions. (POSIX, lex, Actions in lex.)
 ghost use Rattle.std.specs.Prelude.{◌≡◌, ◌++◌, ◌∷◌, [], map, IfOk};
 ghost use Rattle.lexspec_actions.specs.Views.{statement_of};
-ghost use Rattle.lexspec.specs.RuleReads.{acting};
+ghost use Rattle.lexspec.specs.WaitingRules.{acting};
 ghost use Rattle.lexspec.specs.RuleViews.{rule_of};
 
 use crate::rule::Rule;

@@ -1,6 +1,6 @@
 -- Statements, by their parts.
 use Rattle.std.proofs.Common.{codes, sym, option_map, ◌≡◌, ℕ, List, Option, Some, None, refl, ap, ◌∙◌}
-use Rattle.lexspec_actions.specs.Bytes.{next}
+use Rattle.lexspec_actions.specs.Bytes.{expect}
 use Rattle.lexre_bytes.specs.Lexical.{name_at}
 use Rattle.lex_semantics.specs.Spec.{Begin, Push}
 use Rattle.lexspec_actions.specs.Names.{Known}
@@ -15,13 +15,13 @@ module _ (condition : List ℕ → Option ℕ) where
   mapped None rest = refl
   mapped (Some n) rest = refl
 
-  pub begin_closed : (t inside rest : List ℕ) (number : Option ℕ) (said : Option Said) → next (codes "(") t ≡ Some inside → closed_condition condition inside ≡ option_map (with_rest rest) number
+  pub begin_closed : (t inside rest : List ℕ) (number : Option ℕ) (said : Option Said) → expect (codes "(") t ≡ Some inside → closed_condition condition inside ≡ option_map (with_rest rest) number
       → said ≡ option_map (λ n. does (Begin n)) number → begin_at condition t ≡ option_map (with_rest rest) said
   unfolding begin_at
   begin_closed t inside rest number said first here is =
       ap (begin_from condition t) first ∙ ap (begins condition) here ∙ mapped number rest ∙ ap (option_map (with_rest rest)) (sym is)
 
-  pub begin_bare : (t rest : List ℕ) (number : Option ℕ) (said : Option Said) → next (codes "(") t ≡ None → condition_at condition t ≡ option_map (with_rest rest) number
+  pub begin_bare : (t rest : List ℕ) (number : Option ℕ) (said : Option Said) → expect (codes "(") t ≡ None → condition_at condition t ≡ option_map (with_rest rest) number
       → said ≡ option_map (λ n. does (Begin n)) number → begin_at condition t ≡ option_map (with_rest rest) said
   unfolding begin_at
   begin_bare t rest number said none here is =
@@ -31,7 +31,7 @@ module _ (condition : List ℕ → Option ℕ) where
   pushed None rest = refl
   pushed (Some n) rest = refl
 
-  pub push_closed : (t inside rest : List ℕ) (number : Option ℕ) (said : Option Said) → next (codes "(") t ≡ Some inside → closed_condition condition inside ≡ option_map (with_rest rest) number
+  pub push_closed : (t inside rest : List ℕ) (number : Option ℕ) (said : Option Said) → expect (codes "(") t ≡ Some inside → closed_condition condition inside ≡ option_map (with_rest rest) number
       → said ≡ option_map (λ n. does (Push n)) number → push_at condition t ≡ option_map (with_rest rest) said
   unfolding push_at
   push_closed t inside rest number said first here is =

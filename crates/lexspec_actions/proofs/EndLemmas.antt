@@ -1,7 +1,7 @@
 -- The statements of an end action, by their cases.
 use Rattle.std.proofs.Common.{◌≡◌, ℕ, List, [], ◌∷◌, ◌⊎◌, inl, inr, Some, None, refl, sym, ap, ◌∙◌, subst}
 use Rattle.lex_semantics.specs.Spec.{EndAction, Statement, Print, End}
-use Rattle.lexspec_actions.specs.Statements.{before, normal}
+use Rattle.lex_semantics.specs.Literals.{before, normal}
 use Rattle.lexspec_actions.specs.ActionSteps.{end_of}
 
 -- a literal and an end, or a literal alone

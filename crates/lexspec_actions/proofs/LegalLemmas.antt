@@ -1,7 +1,8 @@
 -- What may stand in one action, from the left.
-use Rattle.std.proofs.Common.{◌≡◌, ◌≤◌, ◌<◌, Bool, true, false, List, [], ◌∷◌, refl, ap}
+use Rattle.std.proofs.Common.{◌≡◌, ◌≤◌, ◌<◌, Bool, true, false, List, [], ◌∷◌, refl, sym, ap, ◌∙◌}
 use Rattle.std.specs.Prelude.{not, ◌&&◌, ◌||◌, nat_le}
 use Rattle.std.proofs.lemmas.Bool.{le-leb, lt-leb}
+use Rattle.lex_semantics.proofs.Legals.{ends_last_more}
 use Rattle.lex_semantics.specs.Spec.{Statement, has_reject}
 use Rattle.lex_semantics.specs.Legal.{ends_action, ends_last, has_less, has_more, count_less, are_compatible}
 use Rattle.lexspec_actions.specs.Actions.{are_few}
@@ -18,7 +19,7 @@ ends_last_is (s ∷ []) = from (ends_action s)
   where
     from : (b : Bool) → ends_after b [] ≡ true
     from b = refl
-ends_last_is (s ∷ t ∷ ss) = ap (λ b. not (ends_action s) && b) (ends_last_is (t ∷ ss))
+ends_last_is (s ∷ t ∷ ss) = ap (λ b. not (ends_action s) && b) (ends_last_is (t ∷ ss)) ∙ sym (ends_last_more s t ss)
 
 -- the test, by its parts
 abbrev stands : (few last reject more less one : Bool) → Bool

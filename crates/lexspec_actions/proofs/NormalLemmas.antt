@@ -2,6 +2,7 @@
 use Rattle.std.proofs.Common.{◌≡◌, ℕ, suc, ◌+◌, ◌≤◌, ◌<◌, Bool, true, false, List, [], ◌∷◌, ◌++◌, length, Some, None, IfSome, refl, sym, ap, ◌∙◌, subst, arith}
 use Rattle.std.specs.Prelude.{not, ◌&&◌, nat_le}
 use Rattle.std.proofs.lemmas.Bool.{and_parts, and_from, le-leb, leb-true}
+use Rattle.lex_semantics.proofs.Legals.{normal_of_joined}
 use Rattle.lex_semantics.specs.Spec.{EndAction, Statement, Echo, Print, Begin, More, Less, Reject, End, Push, Pop}
 use Rattle.lex_semantics.specs.Legal.{in_range, all_in_range, is_literal, are_joined, ends_last, are_compatible, IsLegal}
 use Rattle.lexspec_actions.specs.Names.{Known, number_from, known_in}
@@ -124,10 +125,6 @@ print_joined (s ∷ t ∷ ss) (b ∷ bs) h =
     joined_from s (then_print (t ∷ ss) (b ∷ bs)) (ap (λ z. is_literal s && z) (print_first t ss b bs) ∙ both.0) (print_joined (t ∷ ss) (b ∷ bs) both.1)
 
 -- a statement that is no literal, at the end
-other_first : (s : Statement) (ss : List Statement) (o : Statement) → first_literal ((s ∷ ss) ++ o ∷ []) ≡ is_literal s
-unfolding first_literal
-other_first s ss o = refl
-
 other_joined : (ss : List Statement) (o : Statement) → is_literal o ≡ false → are_joined ss ≡ true → are_joined (ss ++ o ∷ []) ≡ true
 unfolding first_literal
 other_joined [] o plain h = refl
@@ -173,13 +170,14 @@ spelled_range names stack text ss some spells = steps_range names stack text ss 
 
 pub legal_action : (names : List (List ℕ)) (stack : Bool) (text : List ℕ) (ss : List Statement) → 1 ≤ length names → SpellsAction (known_in names stack) text ss → IsLegal (length names) ss
 legal_action names stack text ss some (spells, stands) =
-    let few_last = and_parts (are_few ss && ends_last ss) (are_compatible ss) stands in (
+    let few_last = and_parts (are_few ss && ends_last ss) (are_compatible ss) stands in
+    let ranges = spelled_range names stack text ss some spells in (
       record {
-        ranges = spelled_range names stack text ss some spells;
+        ranges = ranges;
         last = (and_parts (are_few ss) (ends_last ss) few_last.0).1;
         compatible = few_last.1;
       },
-      steps_joined (known_in names stack) text ss (to_steps (known_in names stack) text ss spells),
+      normal_of_joined (length names) ss ranges (steps_joined (known_in names stack) text ss (to_steps (known_in names stack) text ss spells)),
     )
 
 -- the status of an end action

@@ -7,7 +7,7 @@ use Rattle.lex_semantics.specs.Legal.{in_range}
 use Rattle.lex_semantics.specs.ByteSets.{is_word, within}
 use Rattle.lex_semantics.specs.Reading.{◌>>=◌, IsCut}
 use Rattle.lexspec_actions.specs.Names.{number_from, Known}
-use Rattle.lexspec_actions.specs.Bytes.{next, literal_at, skip}
+use Rattle.lexspec_actions.specs.Bytes.{expect, literal_at, skip}
 use Rattle.lexspec_actions.specs.ByteSteps.{digits_at}
 use Rattle.lexre_bytes.specs.Lexical.{name_at}
 use Rattle.lexspec_actions.specs.ActionSteps.{Said, does, prints, prints_text, said_by, Piece, semicolon, opens, closes, says, statements_of, NoPiece, no_argument, number_argument, second_word, parts_of, without_text, with_text, formatted_at, printf_at, fputs_at, puts_at, yymore_at, yyless_at, yyterminate_at, exit_at, condition_at, closed_condition, begins, begin_from, begin_at, pushes, push_from, push_at, pop_at, stack_word, after_word, after_statement, statement_at, piece_from, piece_at}
@@ -57,7 +57,7 @@ text_good n (front, Some back) after = refl
 
 formatted_good : (n : ℕ) (text t : List ℕ) → IfSome (formatted_at text t) (Good n)
 unfolding formatted_at
-formatted_good n text t = if_bind (Good n) (parts_of text) _ (λ parts e. from parts (next (codes ")") t))
+formatted_good n text t = if_bind (Good n) (parts_of text) _ (λ parts e. from parts (expect (codes ")") t))
   where
     from : (parts : List ℕ × Option (List ℕ)) (o : Option (List ℕ)) → IfSome (elim o [
       | Some after ↦ without_text parts >>= λ s. Some (s, after)
@@ -68,15 +68,15 @@ formatted_good n text t = if_bind (Good n) (parts_of text) _ (λ parts e. from p
 
 printf_good : (n : ℕ) (t : List ℕ) → IfSome (printf_at t) (Good n)
 unfolding printf_at
-printf_good n t = if_bind (Good n) (next (codes "(") t) _ (λ inside e. if_bind (Good n) (literal_at inside) _ (λ found e. formatted_good n found.0 found.1))
+printf_good n t = if_bind (Good n) (expect (codes "(") t) _ (λ inside e. if_bind (Good n) (literal_at inside) _ (λ found e. formatted_good n found.0 found.1))
 
 fputs_good : (n : ℕ) (t : List ℕ) → IfSome (fputs_at t) (Good n)
 unfolding fputs_at
-fputs_good n t = if_bind (Good n) (next (codes "(") t) _ (λ inside e. if_bind (Good n) (literal_at inside) _ (λ found e. if_bind (Good n) (second_word (codes "yyout") found.1) _ (λ after e. refl)))
+fputs_good n t = if_bind (Good n) (expect (codes "(") t) _ (λ inside e. if_bind (Good n) (literal_at inside) _ (λ found e. if_bind (Good n) (second_word (codes "yyout") found.1) _ (λ after e. refl)))
 
 puts_good : (n : ℕ) (t : List ℕ) → IfSome (puts_at t) (Good n)
 unfolding puts_at
-puts_good n t = if_bind (Good n) (next (codes "(") t) _ (λ inside e. if_bind (Good n) (literal_at inside) _ (λ found e. if_bind (Good n) (next (codes ")") found.1) _ (λ after e. refl)))
+puts_good n t = if_bind (Good n) (expect (codes "(") t) _ (λ inside e. if_bind (Good n) (literal_at inside) _ (λ found e. if_bind (Good n) (expect (codes ")") found.1) _ (λ after e. refl)))
 
 yymore_good : (n : ℕ) (t : List ℕ) → IfSome (yymore_at t) (Good n)
 unfolding yymore_at
@@ -124,7 +124,7 @@ module _ (condition : List ℕ → Option ℕ) (n : ℕ) (some : 1 ≤ n) (below
   closed_good : (t : List ℕ) → IfSome (closed_condition condition t) (Numbered n)
   unfolding closed_condition
   closed_good t = if_bind (Numbered n) (condition_at condition t) _ (λ found e.
-      if_bind (Numbered n) (next (codes ")") found.1) _ (λ after e'. some_of (Numbered n) (condition_at condition t) found (condition_good t) e))
+      if_bind (Numbered n) (expect (codes ")") found.1) _ (λ after e'. some_of (Numbered n) (condition_at condition t) found (condition_good t) e))
 
   begins_good : (o : Option (ℕ × List ℕ)) → IfSome o (Numbered n) → IfSome (begins condition o) (Good n)
   begins_good None h = tt
@@ -132,7 +132,7 @@ module _ (condition : List ℕ → Option ℕ) (n : ℕ) (some : 1 ≤ n) (below
 
   begin_good : (t : List ℕ) → IfSome (begin_at condition t) (Good n)
   unfolding begin_at
-  begin_good t = from (next (codes "(") t)
+  begin_good t = from (expect (codes "(") t)
     where
       from : (o : Option (List ℕ)) → IfSome (begin_from condition t o) (Good n)
       from (Some inside) = begins_good (closed_condition condition inside) (closed_good inside)
@@ -144,7 +144,7 @@ module _ (condition : List ℕ → Option ℕ) (n : ℕ) (some : 1 ≤ n) (below
 
   push_good : (t : List ℕ) → IfSome (push_at condition t) (Good n)
   unfolding push_at
-  push_good t = from (next (codes "(") t)
+  push_good t = from (expect (codes "(") t)
     where
       from : (o : Option (List ℕ)) → IfSome (push_from condition o) (Good n)
       from (Some inside) = pushes_good (closed_condition condition inside) (closed_good inside)

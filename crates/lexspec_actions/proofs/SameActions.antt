@@ -10,23 +10,23 @@ use Rattle.lex_semantics.specs.Limits.{max_kept, max_status}
 use Rattle.lex_semantics.specs.Spec.{Statement, Echo, Print, Begin, More, Less, End, Push, Pop}
 use Rattle.lexre_bytes.specs.Lexical.{after_word}
 use Rattle.lexspec_actions.specs.Names.{Known}
-use Rattle.lexspec_actions.specs.Bytes.{skip, next, literal_at}
+use Rattle.lexspec_actions.specs.Bytes.{skip, expect, literal_at}
 use Rattle.lexspec_actions.specs.ByteSteps.{digits_at}
 use Rattle.lexre_bytes.specs.Lexical.{run_at, number_at, name_at}
 use Rattle.lexre_bytes.proofs.BraceForms.{digit_no_name}
 use Rattle.lexspec_actions.specs.ByteSteps.{first_is}
 use Rattle.lexspec_actions.specs.Actions as A
-use Rattle.lexspec_actions.specs.Actions.{says_only, in_parentheses, number_within, format_at, statements, statement_at, piece_at, punctuators, AreBalanced}
+use Rattle.lexspec_actions.specs.Actions.{says_only, in_parentheses, number_within, format_at, statements, statement_at, next_piece, punctuators, AreBalanced}
 use Rattle.lexspec_actions.specs.ActionSteps as S
 use Rattle.lexspec_actions.specs.ActionSteps.{Said, does, prints, prints_text, said_by, onto, split, parts_in, without_text, with_text, no_argument, number_argument, formatted_at, printf_at, fputs_at, puts_at, yymore_at, yyterminate_at, yyless_at, pop_at, exit_at, closed_condition, begins as begins_with, begin_from, begin_at, pushes, push_from, push_at, stack_word}
-use Rattle.lexspec_actions.specs.Statements.{normal}
+use Rattle.lex_semantics.specs.Literals.{normal}
 use Rattle.lexre_bytes.proofs.SignLaws.{by_sign, turned}
 use Rattle.lexspec_actions.proofs.SameBytes.{next_is}
 use Rattle.lexspec_actions.proofs.SameNormal.{normal_is}
 
 -- ---- formats
 
-onto_is : (c : ℕ) (o : Option (List ℕ × Option (List ℕ))) → option_map (λ parts. (c ∷ parts.0, parts.1)) o ≡ onto c o
+onto_is : (c : ℕ) (o : Option (List ℕ × Option (List ℕ))) → (o >>= λ (front, back). Some (c ∷ front, back)) ≡ onto c o
 onto_is c None = refl
 onto_is c (Some parts) = refl
 
@@ -36,17 +36,16 @@ split_is None = refl
 split_is (Some (front, None)) = refl
 split_is (Some (front, Some back)) = refl
 
-pub parts_are : (t : List ℕ) → A.parts_of t ≡ parts_in false t
+pub parts_are : (percent : Bool) (t : List ℕ) → A.parts_of percent t ≡ parts_in percent t
 unfolding A.parts_of
-parts_are [] = refl
-parts_are (c ∷ []) = by_sign c 37 (λ e. rw e refl) (λ n. rw (ne_eqb c 37 n, turned c 37 n) refl)
-parts_are (c ∷ d ∷ t) = by_sign c 37
-    (λ e. rw e (by_sign d 115
-    (λ f. rw (f, parts_are t) (split_is (parts_in false t)))
-    (λ m. rw (ne_eqb d 115 m, turned d 115 m) (by_sign d 37
-    (λ f. rw (f, parts_are t) (onto_is 37 (parts_in false t)))
-    (λ k. rw (ne_eqb d 37 k, turned d 37 k) refl)))))
-    (λ n. rw (ne_eqb c 37 n, turned c 37 n, parts_are (d ∷ t)) (onto_is c (parts_in false (d ∷ t))))
+parts_are true [] = refl
+parts_are false [] = refl
+parts_are false (c ∷ t) = by_sign c 37 (λ e. rw e (parts_are true t))
+    (λ n. rw (ne_eqb c 37 n, turned c 37 n, parts_are false t) (onto_is c (parts_in false t)))
+parts_are true (c ∷ t) = by_sign c 115 (λ e. rw (e, parts_are false t) (split_is (parts_in false t)))
+    (λ m. rw (ne_eqb c 115 m, turned c 115 m) (by_sign c 37
+    (λ e. rw (e, parts_are false t) (onto_is 37 (parts_in false t)))
+    (λ n. rw (ne_eqb c 37 n, turned c 37 n) refl)))
 
 -- ---- what follows a word
 
@@ -66,17 +65,17 @@ twice_told (Some x) f g h e = e x
 -- `()`
 empty_told : (s : Statement) (t : List ℕ) → in_parentheses (says_only s) t ≡ told (no_argument t >>= λ rest. Some (does s, rest))
 unfolding in_parentheses no_argument
-empty_told s t = twice_told (next (codes "(") t) _ _ _ (λ inside. bind_told (next (codes ")") inside) _ _ (λ after. refl))
+empty_told s t = twice_told (expect (codes "(") t) _ _ _ (λ inside. bind_told (expect (codes ")") inside) _ _ (λ after. refl))
 
 -- `(n)`
 number_told : (low high : ℕ) (s : ℕ → Statement) (test : ℕ → Bool) (t : List ℕ) → ((n : ℕ) → within low high n ≡ test n)
     → in_parentheses (number_within low high s) t ≡ told (number_argument t >>= λ (n, rest). if test n then Some (does (s n), rest) else None)
 unfolding in_parentheses number_within number_at number_argument
-number_told low high s test t same = twice_told (next (codes "(") t) _ _ _ (λ inside. from (digits_at (skip inside)))
+number_told low high s test t same = twice_told (expect (codes "(") t) _ _ _ (λ inside. from (digits_at (skip inside)))
   where
-    ends : (n : ℕ) (rest : List ℕ) (b : Bool) (o : Option (List ℕ)) → within low high n ≡ b → next (codes ")") rest ≡ o → test n ≡ b
-        → ((if◌then◌else◌ {A = Option (List Statement × List ℕ)} (within low high n) (says_only (s n) rest) None) >>= λ (ss, r). next (codes ")") r >>= λ after. Some (ss, after))
-        ≡ told ((next (codes ")") rest >>= λ after. Some (n, after)) >>= λ (m, r). if◌then◌else◌ {A = Option (Said × List ℕ)} (test m) (Some (does (s m), r)) None)
+    ends : (n : ℕ) (rest : List ℕ) (b : Bool) (o : Option (List ℕ)) → within low high n ≡ b → expect (codes ")") rest ≡ o → test n ≡ b
+        → ((if◌then◌else◌ {A = Option (List Statement × List ℕ)} (within low high n) (says_only (s n) rest) None) >>= λ (ss, r). expect (codes ")") r >>= λ after. Some (ss, after))
+        ≡ told ((expect (codes ")") rest >>= λ after. Some (n, after)) >>= λ (m, r). if◌then◌else◌ {A = Option (Said × List ℕ)} (test m) (Some (does (s m), r)) None)
     ends n rest true None e f g = rw (e, f) refl
     ends n rest false None e f g = rw (e, f) refl
     ends n rest true (Some after) e f g = rw (e, f, g) refl
@@ -84,10 +83,10 @@ number_told low high s test t same = twice_told (next (codes "(") t) _ _ _ (λ i
 
     from : (o : Option (List ℕ × List ℕ))
         → (((o >>= λ (digits, rest). Some (value 10 digits, rest)) >>= λ (n, rest). if◌then◌else◌ {A = Option (List Statement × List ℕ)} (within low high n) (says_only (s n) rest) None)
-        >>= λ (ss, rest). next (codes ")") rest >>= λ after. Some (ss, after))
-        ≡ told ((o >>= λ (digits, rest). next (codes ")") rest >>= λ after. Some (value 10 digits, after)) >>= λ (n, rest). if◌then◌else◌ {A = Option (Said × List ℕ)} (test n) (Some (does (s n), rest)) None)
+        >>= λ (ss, rest). expect (codes ")") rest >>= λ after. Some (ss, after))
+        ≡ told ((o >>= λ (digits, rest). expect (codes ")") rest >>= λ after. Some (value 10 digits, after)) >>= λ (n, rest). if◌then◌else◌ {A = Option (Said × List ℕ)} (test n) (Some (does (s n), rest)) None)
     from None = refl
-    from (Some (digits, rest)) = ends (value 10 digits) rest (test (value 10 digits)) (next (codes ")") rest) (same (value 10 digits)) refl refl
+    from (Some (digits, rest)) = ends (value 10 digits) rest (test (value 10 digits)) (expect (codes ")") rest) (same (value 10 digits)) refl refl
 
 -- what begins a name is no digit
 no_digits : (u : List ℕ) (found : List ℕ × List ℕ) → name_at u ≡ Some found → digits_at u ≡ None
@@ -139,7 +138,7 @@ module _ (known : Known) where
       from None h = digits (digits_at (skip t))
 
   closed : (s : ℕ → Statement) (inside : List ℕ)
-      → (A.condition_at known s inside >>= λ (ss, rest). next (codes ")") rest >>= λ after. Some (ss, after)) ≡ numbered s (closed_condition known.number inside)
+      → (A.condition_at known s inside >>= λ (ss, rest). expect (codes ")") rest >>= λ after. Some (ss, after)) ≡ numbered s (closed_condition known.number inside)
   unfolding closed_condition
   closed s inside = rw (condition_numbered s inside) (from (S.condition_at known.number inside))
     where
@@ -147,10 +146,10 @@ module _ (known : Known) where
       ends c None = refl
       ends c (Some after) = refl
 
-      from : (o : Option (ℕ × List ℕ)) → (numbered s o >>= λ (ss, rest). next (codes ")") rest >>= λ after. Some (ss, after))
-          ≡ numbered s (o >>= λ (c, rest). next (codes ")") rest >>= λ after. Some (c, after))
+      from : (o : Option (ℕ × List ℕ)) → (numbered s o >>= λ (ss, rest). expect (codes ")") rest >>= λ after. Some (ss, after))
+          ≡ numbered s (o >>= λ (c, rest). expect (codes ")") rest >>= λ after. Some (c, after))
       from None = refl
-      from (Some (c, rest)) = ends c (next (codes ")") rest)
+      from (Some (c, rest)) = ends c (expect (codes ")") rest)
 
   begins_told : (o : Option (ℕ × List ℕ)) → numbered Begin o ≡ told (begins_with known.number o)
   begins_told None = refl
@@ -162,45 +161,45 @@ module _ (known : Known) where
 
   push_told : (t : List ℕ) → in_parentheses (A.condition_at known Push) t ≡ told (push_at known.number t)
   unfolding in_parentheses push_at
-  push_told t = from (next (codes "(") t)
+  push_told t = from (expect (codes "(") t)
     where
-      from : (o : Option (List ℕ)) → (o >>= λ inside. A.condition_at known Push inside >>= λ (ss, rest). next (codes ")") rest >>= λ after. Some (ss, after)) ≡ told (push_from known.number o)
+      from : (o : Option (List ℕ)) → (o >>= λ inside. A.condition_at known Push inside >>= λ (ss, rest). expect (codes ")") rest >>= λ after. Some (ss, after)) ≡ told (push_from known.number o)
       from None = refl
       from (Some inside) = closed Push inside ∙ pushes_told (closed_condition known.number inside)
 
   begin_told : (t : List ℕ) → (if begins (codes "(") (skip t) then in_parentheses (A.condition_at known Begin) t else A.condition_at known Begin t) ≡ told (begin_at known.number t)
-  unfolding in_parentheses begin_at next after_word
+  unfolding in_parentheses begin_at expect after_word
   begin_told t = from (begins (codes "(") (skip t))
     where
-      from : (b : Bool) → (if b then ((if b then Some (drop 1 (skip t)) else None) >>= λ inside. A.condition_at known Begin inside >>= λ (ss, rest). next (codes ")") rest >>= λ after. Some (ss, after)) else A.condition_at known Begin t)
+      from : (b : Bool) → (if b then ((if b then Some (drop 1 (skip t)) else None) >>= λ inside. A.condition_at known Begin inside >>= λ (ss, rest). expect (codes ")") rest >>= λ after. Some (ss, after)) else A.condition_at known Begin t)
           ≡ told (begin_from known.number t (if b then Some (drop 1 (skip t)) else None))
       from true = closed Begin (drop 1 (skip t)) ∙ begins_told (closed_condition known.number (drop 1 (skip t)))
       from false = condition_numbered Begin t ∙ begins_told (S.condition_at known.number t)
 
 -- `, word)`
-second_told : {X : Type 0} (word t : List ℕ) (x : X) → ◌≡◌ {A = Option (X × List ℕ)} (A.second_word word t >>= λ after. next (codes ")") after >>= λ last. Some (x, last)) (S.second_word word t >>= λ last. Some (x, last))
+second_told : {X : Type 0} (word t : List ℕ) (x : X) → ◌≡◌ {A = Option (X × List ℕ)} (A.second_word word t >>= λ after. expect (codes ")") after >>= λ last. Some (x, last)) (S.second_word word t >>= λ last. Some (x, last))
 unfolding A.second_word S.second_word S.this_word
-second_told {X} word t x = from (next (codes ",") t)
+second_told {X} word t x = from (expect (codes ",") t)
   where
-    ends : (b : Bool) (after : List ℕ) → ◌≡◌ {A = Option (X × List ℕ)} ((if b then Some after else None) >>= λ after. next (codes ")") after >>= λ last. Some (x, last))
-        (((if b then Some after else None) >>= λ rest. next (codes ")") rest) >>= λ last. Some (x, last))
+    ends : (b : Bool) (after : List ℕ) → ◌≡◌ {A = Option (X × List ℕ)} ((if b then Some after else None) >>= λ after. expect (codes ")") after >>= λ last. Some (x, last))
+        (((if b then Some after else None) >>= λ rest. expect (codes ")") rest) >>= λ last. Some (x, last))
     ends false after = refl
     ends true after = refl
 
     named : (o : Option (List ℕ × List ℕ))
-        → ◌≡◌ {A = Option (X × List ℕ)} ((o >>= λ (name, after). if is_word name word then Some after else None) >>= λ after. next (codes ")") after >>= λ last. Some (x, last))
-        (((o >>= λ (name, rest). if is_word name word then Some rest else None) >>= λ rest. next (codes ")") rest) >>= λ last. Some (x, last))
+        → ◌≡◌ {A = Option (X × List ℕ)} ((o >>= λ (name, after). if is_word name word then Some after else None) >>= λ after. expect (codes ")") after >>= λ last. Some (x, last))
+        (((o >>= λ (name, rest). if is_word name word then Some rest else None) >>= λ rest. expect (codes ")") rest) >>= λ last. Some (x, last))
     named None = refl
     named (Some (name, after)) = ends (is_word name word) after
 
     from : (o : Option (List ℕ))
-        → ◌≡◌ {A = Option (X × List ℕ)} ((o >>= λ rest. name_at (skip rest) >>= λ (name, after). if is_word name word then Some after else None) >>= λ after. next (codes ")") after >>= λ last. Some (x, last))
-        ((o >>= λ rest. (name_at (skip rest) >>= λ (name, rest). if is_word name word then Some rest else None) >>= λ rest. next (codes ")") rest) >>= λ last. Some (x, last))
+        → ◌≡◌ {A = Option (X × List ℕ)} ((o >>= λ rest. name_at (skip rest) >>= λ (name, after). if is_word name word then Some after else None) >>= λ after. expect (codes ")") after >>= λ last. Some (x, last))
+        ((o >>= λ rest. (name_at (skip rest) >>= λ (name, rest). if is_word name word then Some rest else None) >>= λ rest. expect (codes ")") rest) >>= λ last. Some (x, last))
     from None = refl
     from (Some rest) = named (name_at (skip rest))
 
 -- two punctuators do not come next at one place
-one_sign : (c d : ℕ) (t after : List ℕ) → (c ≡ d → ⊥) → next (c ∷ []) t ≡ Some after → next (d ∷ []) t ≡ None
+one_sign : (c d : ℕ) (t after : List ℕ) → (c ≡ d → ⊥) → expect (c ∷ []) t ≡ Some after → expect (d ∷ []) t ≡ None
 one_sign c d t after other h = next_is d t ∙ from (skip t) (sym (next_is c t) ∙ h)
   where
     from : (u : List ℕ) → first_is c u ≡ Some after → first_is d u ≡ None
@@ -212,31 +211,31 @@ one_sign c d t after other h = next_is d t ∙ from (skip t) (sym (next_is c t) 
 
 puts_told : (t : List ℕ) → in_parentheses (λ u. literal_at u >>= λ (text, rest). says_only (Print (text ++ codes "\n")) rest) t ≡ told (puts_at t)
 unfolding in_parentheses puts_at
-puts_told t = bind_told (next (codes "(") t) _ _ (λ inside. from (literal_at inside))
+puts_told t = bind_told (expect (codes "(") t) _ _ (λ inside. from (literal_at inside))
   where
     from : (o : Option (List ℕ × List ℕ))
-        → ((o >>= λ (text, rest). says_only (Print (text ++ codes "\n")) rest) >>= λ (ss, rest). next (codes ")") rest >>= λ after. Some (ss, after))
-        ≡ told (o >>= λ (text, rest). next (codes ")") rest >>= λ after. Some (prints (text ++ 10 ∷ []), after))
+        → ((o >>= λ (text, rest). says_only (Print (text ++ codes "\n")) rest) >>= λ (ss, rest). expect (codes ")") rest >>= λ after. Some (ss, after))
+        ≡ told (o >>= λ (text, rest). expect (codes ")") rest >>= λ after. Some (prints (text ++ 10 ∷ []), after))
     from None = refl
-    from (Some (text, rest)) = bind_told (next (codes ")") rest) _ _ (λ after. refl)
+    from (Some (text, rest)) = bind_told (expect (codes ")") rest) _ _ (λ after. refl)
 
 fputs_told : (t : List ℕ) → in_parentheses (λ u. literal_at u >>= λ (text, rest). A.second_word (codes "yyout") rest >>= says_only (Print text)) t ≡ told (fputs_at t)
 unfolding in_parentheses fputs_at
-fputs_told t = bind_told (next (codes "(") t) _ _ (λ inside. from (literal_at inside))
+fputs_told t = bind_told (expect (codes "(") t) _ _ (λ inside. from (literal_at inside))
   where
-    assoc : (o : Option (List ℕ)) (ss : List Statement) → ◌≡◌ {A = Option (List Statement × List ℕ)} ((o >>= λ after. Some (ss, after)) >>= λ (ss, rest). next (codes ")") rest >>= λ last. Some (ss, last))
-        (o >>= λ after. next (codes ")") after >>= λ last. Some (ss, last))
+    assoc : (o : Option (List ℕ)) (ss : List Statement) → ◌≡◌ {A = Option (List Statement × List ℕ)} ((o >>= λ after. Some (ss, after)) >>= λ (ss, rest). expect (codes ")") rest >>= λ last. Some (ss, last))
+        (o >>= λ after. expect (codes ")") after >>= λ last. Some (ss, last))
     assoc None ss = refl
     assoc (Some after) ss = refl
 
     from : (o : Option (List ℕ × List ℕ))
-        → ((o >>= λ (text, rest). A.second_word (codes "yyout") rest >>= says_only (Print text)) >>= λ (ss, rest). next (codes ")") rest >>= λ after. Some (ss, after))
+        → ((o >>= λ (text, rest). A.second_word (codes "yyout") rest >>= says_only (Print text)) >>= λ (ss, rest). expect (codes ")") rest >>= λ after. Some (ss, after))
         ≡ told (o >>= λ (text, rest). S.second_word (codes "yyout") rest >>= λ after. Some (prints text, after))
     from None = refl
     from (Some (text, rest)) = assoc (A.second_word (codes "yyout") rest) (Print text ∷ []) ∙ second_told (codes "yyout") rest (Print text ∷ [])
         ∙ bind_told (S.second_word (codes "yyout") rest) _ _ (λ after. refl)
 
-no_second : (word t : List ℕ) → next (codes ",") t ≡ None → S.second_word word t ≡ None
+no_second : (word t : List ℕ) → expect (codes ",") t ≡ None → S.second_word word t ≡ None
 unfolding S.second_word
 no_second word t h = rw h refl
 
@@ -256,14 +255,14 @@ no_parts (front, Some end) o e = absurd (no e)
     no p = cc
 
 parts_told : (parts : List ℕ × Option (List ℕ)) (rest : List ℕ)
-    → (parts_said rest parts >>= λ (ss, rest). next (codes ")") rest >>= λ after. Some (ss, after))
-    ≡ told (elim (next (codes ")") rest) [
+    → (parts_said rest parts >>= λ (ss, rest). expect (codes ")") rest >>= λ after. Some (ss, after))
+    ≡ told (elim (expect (codes ")") rest) [
       | Some after ↦ without_text parts >>= λ s. Some (s, after)
       | None ↦ S.second_word (codes "yytext") rest >>= λ after. with_text parts >>= λ s. Some (s, after)
     ])
-parts_told (front, None) rest = from (next (codes ")") rest) refl
+parts_told (front, None) rest = from (expect (codes ")") rest) refl
   where
-    from : (o : Option (List ℕ)) → next (codes ")") rest ≡ o → (next (codes ")") rest >>= λ after. Some (Print front ∷ [], after))
+    from : (o : Option (List ℕ)) → expect (codes ")") rest ≡ o → (expect (codes ")") rest >>= λ after. Some (Print front ∷ [], after))
         ≡ told (elim o [
           | Some after ↦ Some (prints front, after)
           | None ↦ S.second_word (codes "yytext") rest >>= λ after. None
@@ -271,14 +270,14 @@ parts_told (front, None) rest = from (next (codes ")") rest) refl
     from (Some after) e = rw e refl
     from None e = rw e (sym (ap told (no_parts (front, None) (S.second_word (codes "yytext") rest) refl)))
 parts_told (front, Some end) rest = assoc (A.second_word (codes "yytext") rest) ∙ second_told (codes "yytext") rest (Print front ∷ Echo ∷ Print end ∷ [])
-    ∙ from (next (codes ")") rest) refl
+    ∙ from (expect (codes ")") rest) refl
   where
-    assoc : (o : Option (List ℕ)) → ◌≡◌ {A = Option (List Statement × List ℕ)} ((o >>= λ after. Some (Print front ∷ Echo ∷ Print end ∷ [], after)) >>= λ (ss, rest). next (codes ")") rest >>= λ last. Some (ss, last))
-        (o >>= λ after. next (codes ")") after >>= λ last. Some (Print front ∷ Echo ∷ Print end ∷ [], last))
+    assoc : (o : Option (List ℕ)) → ◌≡◌ {A = Option (List Statement × List ℕ)} ((o >>= λ after. Some (Print front ∷ Echo ∷ Print end ∷ [], after)) >>= λ (ss, rest). expect (codes ")") rest >>= λ last. Some (ss, last))
+        (o >>= λ after. expect (codes ")") after >>= λ last. Some (Print front ∷ Echo ∷ Print end ∷ [], last))
     assoc None = refl
     assoc (Some after) = refl
 
-    from : (o : Option (List ℕ)) → next (codes ")") rest ≡ o → (S.second_word (codes "yytext") rest >>= λ last. Some (Print front ∷ Echo ∷ Print end ∷ [], last))
+    from : (o : Option (List ℕ)) → expect (codes ")") rest ≡ o → (S.second_word (codes "yytext") rest >>= λ last. Some (Print front ∷ Echo ∷ Print end ∷ [], last))
         ≡ told (elim o [
           | Some after ↦ None
           | None ↦ S.second_word (codes "yytext") rest >>= λ after. Some (prints_text front end, after)
@@ -288,11 +287,11 @@ parts_told (front, Some end) rest = assoc (A.second_word (codes "yytext") rest) 
 
 printf_told : (t : List ℕ) → in_parentheses format_at t ≡ told (printf_at t)
 unfolding in_parentheses format_at printf_at formatted_at S.parts_of
-printf_told t = bind_told (next (codes "(") t) _ _ (λ inside. from (literal_at inside))
+printf_told t = bind_told (expect (codes "(") t) _ _ (λ inside. from (literal_at inside))
   where
     parted : (o : Option (List ℕ × Option (List ℕ))) (rest : List ℕ)
-        → ((o >>= parts_said rest) >>= λ (ss, rest). next (codes ")") rest >>= λ after. Some (ss, after))
-        ≡ told (o >>= λ parts. elim (next (codes ")") rest) [
+        → ((o >>= parts_said rest) >>= λ (ss, rest). expect (codes ")") rest >>= λ after. Some (ss, after))
+        ≡ told (o >>= λ parts. elim (expect (codes ")") rest) [
           | Some after ↦ without_text parts >>= λ s. Some (s, after)
           | None ↦ S.second_word (codes "yytext") rest >>= λ after. with_text parts >>= λ s. Some (s, after)
         ])
@@ -300,10 +299,10 @@ printf_told t = bind_told (next (codes "(") t) _ _ (λ inside. from (literal_at 
     parted (Some parts) rest = parts_told parts rest
 
     from : (o : Option (List ℕ × List ℕ))
-        → ((o >>= λ (text, rest). A.parts_of text >>= parts_said rest) >>= λ (ss, rest). next (codes ")") rest >>= λ after. Some (ss, after))
+        → ((o >>= λ (text, rest). A.parts_of false text >>= parts_said rest) >>= λ (ss, rest). expect (codes ")") rest >>= λ after. Some (ss, after))
         ≡ told (o >>= λ (text, rest). formatted_at text rest)
     from None = refl
-    from (Some (text, rest)) = rw (parts_are text) (parted (parts_in false text) rest)
+    from (Some (text, rest)) = rw (parts_are false text) (parted (parts_in false text) rest)
 
 some_is : {X : Type 0} (x y : X) → Some x ≡ Some y → x ≡ y
 some_is x y e = cc
@@ -428,7 +427,7 @@ module _ (known : Known) where
 
   after_is : (t : List ℕ) → A.after_statement t ≡ S.after_statement t
   unfolding A.after_statement S.after_statement
-  after_is t = from (next (codes ";") t)
+  after_is t = from (expect (codes ";") t)
     where
       from : (o : Option (List ℕ)) → ◌≡◌ {A = Option (List ℕ)} (option_or o (if is_empty (skip t) || begins (codes "}") (skip t) then Some t else None)) (elim o [
         | Some rest ↦ Some rest
@@ -459,8 +458,8 @@ module _ (known : Known) where
   abbrev pieces_told : Option (S.Piece × List ℕ) → Option (A.Piece × List ℕ)
   pieces_told o = option_map (λ (p, rest). (piece_told p, rest)) o
 
-  piece_is : (t : List ℕ) → piece_at known t ≡ pieces_told (S.piece_at known t)
-  unfolding piece_at S.piece_from
+  piece_is : (t : List ℕ) → next_piece known t ≡ pieces_told (S.piece_at known t)
+  unfolding next_piece S.piece_from
   piece_is t = from (skip t)
     where
       said : {o : Option (List Statement × List ℕ)} (p : Option (Said × List ℕ)) → o ≡ told p
@@ -481,7 +480,7 @@ module _ (known : Known) where
           (λ e. rw e refl)
           (λ k. rw (ne_eqb c 125 k, turned c 125 k) (said (S.statement_at known (c ∷ u)) (statement_told (c ∷ u))))))))
 
-  pub none_left : (t : List ℕ) → skip t ≡ [] → piece_at known t ≡ None
+  pub none_left : (t : List ℕ) → skip t ≡ [] → next_piece known t ≡ None
   unfolding S.piece_from
   none_left t done = piece_is t ∙ ap (λ u. pieces_told (S.piece_from known u)) done
 
@@ -490,7 +489,7 @@ module _ (known : Known) where
   abbrev OldCut : List ℕ → List A.Piece → Type 0
   OldCut text qs = (ps : List S.Piece) × IsCut (S.piece_at known) S.NoPiece text ps × (qs ≡ map piece_told ps)
 
-  old_cut : (text : List ℕ) (qs : List A.Piece) → IsCut (piece_at known) (λ t. skip t ≡ []) text qs → OldCut text qs
+  old_cut : (text : List ℕ) (qs : List A.Piece) → IsCut (next_piece known) (λ t. skip t ≡ []) text qs → OldCut text qs
   old_cut text [] done = ([], done, refl)
   old_cut text (q ∷ qs) (rest, here, cut) = from (S.piece_at known text) refl (sym (piece_is text) ∙ here) (old_cut rest qs cut)
     where
@@ -506,7 +505,7 @@ module _ (known : Known) where
           let start : q ∷ qs ≡ map piece_told (p ∷ ps) = cc in
           (p ∷ ps, (rest, e ∙ ap (λ x. Some (p, x)) left, old), start)
 
-  new_cut : (text : List ℕ) (ps : List S.Piece) → IsCut (S.piece_at known) S.NoPiece text ps → IsCut (piece_at known) (λ t. skip t ≡ []) text (map piece_told ps)
+  new_cut : (text : List ℕ) (ps : List S.Piece) → IsCut (S.piece_at known) S.NoPiece text ps → IsCut (next_piece known) (λ t. skip t ≡ []) text (map piece_told ps)
   new_cut text [] done = done
   new_cut text (p ∷ ps) (rest, here, cut) = (rest, piece_is text ∙ ap pieces_told here, new_cut rest ps cut)
 

@@ -15,7 +15,7 @@ use Rattle.lexre_bytes.specs.EscapeSteps as pattern
 use Rattle.lexre_bytes.proofs.QuoteLaws.{take_up_to_within}
 use Rattle.lexspec_actions.specs.Comments.{after_star}
 use Rattle.lexspec_actions.specs.ByteSteps.{outside, slash, block, star, line}
-use Rattle.lexspec_actions.specs.Bytes.{after_space, skip, next, string_escape_at, literal_at}
+use Rattle.lexspec_actions.specs.Bytes.{after_space, skip, expect, string_escape_at, literal_at}
 use Rattle.lexspec_actions.specs.ByteSteps.{skip_in, first_is, as_byte, plain_escape, escape_from, string_byte_at, string_at}
 
 -- in a `/* .. */` comment, also after a star
@@ -111,8 +111,8 @@ unfolding after_word
 first_word c [] = refl
 first_word c (d ∷ t) = by_sign d c (λ e. rw (e, eq-eqb c c refl) refl) (λ n. rw (ne_eqb d c n, turned d c n) refl)
 
-pub next_is : (c : ℕ) (t : List ℕ) → next (c ∷ []) t ≡ first_is c (skip t)
-unfolding next
+pub next_is : (c : ℕ) (t : List ℕ) → expect (c ∷ []) t ≡ first_is c (skip t)
+unfolding expect
 next_is c t = first_word c (skip t)
 
 found_first : (c : ℕ) (here : List ℕ) → 1 ≤ length here → get_or here 0 0 ≡ c → Some (take (length here - 1) (drop 1 here)) ≡ first_is c here
@@ -121,7 +121,7 @@ found_first c (d ∷ u) some same =
     let all : take (suc (length u) - 1) u ≡ u = take_all (suc (length u) - 1) u (omega arith) in
     rw (eq-eqb d c same) (ap (λ x. Some x) all)
 
-pub next_found : (c : ℕ) (t here : List ℕ) → here ≡ skip t → 1 ≤ length here → get_or here 0 0 ≡ c → Some (take (length here - 1) (drop 1 here)) ≡ next (c ∷ []) t
+pub next_found : (c : ℕ) (t here : List ℕ) → here ≡ skip t → 1 ≤ length here → get_or here 0 0 ≡ c → Some (take (length here - 1) (drop 1 here)) ≡ expect (c ∷ []) t
 next_found c t here is some same = found_first c here some same ∙ ap (first_is c) is ∙ sym (next_is c t)
 
 -- strings
@@ -178,9 +178,9 @@ with_same : (f g : Reader ℕ) → ((t : List ℕ) → f t ≡ g t) → (t : Lis
 with_same f g h [] = refl
 with_same f g h (c ∷ t) = rw (h t) refl
 
-pub literal_is : (t : List ℕ) → literal_at t ≡ (next (codes "\"") t >>= λ inside. string_at (suc (length inside)) inside)
+pub literal_is : (t : List ℕ) → literal_at t ≡ (expect (codes "\"") t >>= λ inside. string_at (suc (length inside)) inside)
 unfolding literal_at string_byte_at
-literal_is t = from (next (codes "\"") t)
+literal_is t = from (expect (codes "\"") t)
   where
     from : (o : Option (List ℕ)) → (o >>= λ inside. until_quote (byte_with string_escape_at) (suc (length inside)) inside) ≡ (o >>= λ inside. string_at (suc (length inside)) inside)
     from None = refl

@@ -1,7 +1,8 @@
 -- The normal form from the right is that from the left.
 use Rattle.std.proofs.Common.{◌≡◌, ℕ, List, [], ◌∷◌, ◌++◌, refl, sym, ap, ◌∙◌, append_assoc, append-nil}
 use Rattle.lex_semantics.specs.Spec.{Statement, Print}
-use Rattle.lexspec_actions.specs.Statements.{before, normal, then_print, then_one, then_all}
+use Rattle.lex_semantics.specs.Literals.{before, normal}
+use Rattle.lexspec_actions.specs.Statements.{then_print, then_one, then_all}
 
 -- a statement before others, and a literal after them
 both_prints : (t : Statement) (y : List Statement) (c : ℕ) (cs : List ℕ) → then_print (before t y) (c ∷ cs) ≡ before t (then_print y (c ∷ cs))

@@ -6,7 +6,7 @@ use Rattle.lex_semantics.specs.Reading.{◌>>=◌, Reader, IsCut, value}
 use Rattle.lex_semantics.specs.Legal.{ends_last, are_compatible}
 use Rattle.lexspec_actions.specs.Names.{Known}
 use Rattle.lexspec_actions.specs.Actions.{are_few}
-use Rattle.lexspec_actions.specs.Bytes.{skip, next, literal_at}
+use Rattle.lexspec_actions.specs.Bytes.{skip, expect, literal_at}
 use Rattle.lexspec_actions.specs.ByteSteps.{digits_at}
 use Rattle.lexre_bytes.specs.Lexical.{name_at}
 use Rattle.lex_semantics.specs.Spec.{EndAction, Statement, Echo, Print, Begin, More, Less, Reject, End, Push, Pop}
@@ -56,35 +56,35 @@ this_word word t = name_at (skip t) >>= λ (name, rest). if is_word name word th
 
 -- `()`
 unfoldable pub no_argument : List ℕ → Option (List ℕ)
-no_argument t = next (codes "(") t >>= λ inside. next (codes ")") inside
+no_argument t = expect (codes "(") t >>= λ inside. expect (codes ")") inside
 
 -- `(n)`
 unfoldable pub number_argument : Reader ℕ
 number_argument t =
-    next (codes "(") t >>= λ inside. digits_at (skip inside) >>= λ (digits, rest). next (codes ")") rest >>= λ after. Some (value 10 digits, after)
+    expect (codes "(") t >>= λ inside. digits_at (skip inside) >>= λ (digits, rest). expect (codes ")") rest >>= λ after. Some (value 10 digits, after)
 
 -- `, word)`
 unfoldable pub second_word : List ℕ → List ℕ → Option (List ℕ)
-second_word word t = next (codes ",") t >>= λ rest. this_word word rest >>= λ rest. next (codes ")") rest
+second_word word t = expect (codes ",") t >>= λ rest. this_word word rest >>= λ rest. expect (codes ")") rest
 
 -- after the string of a `printf`
 unfoldable pub formatted_at : List ℕ → Reader Said
-formatted_at text t = parts_of text >>= λ parts. elim (next (codes ")") t) [
+formatted_at text t = parts_of text >>= λ parts. elim (expect (codes ")") t) [
   | Some after ↦ without_text parts >>= λ s. Some (s, after)
   | None ↦ second_word (codes "yytext") t >>= λ after. with_text parts >>= λ s. Some (s, after)
 ]
 
 -- after `printf`
 unfoldable pub printf_at : Reader Said
-printf_at t = next (codes "(") t >>= λ inside. literal_at inside >>= λ (text, rest). formatted_at text rest
+printf_at t = expect (codes "(") t >>= λ inside. literal_at inside >>= λ (text, rest). formatted_at text rest
 
 -- after `fputs`
 unfoldable pub fputs_at : Reader Said
-fputs_at t = next (codes "(") t >>= λ inside. literal_at inside >>= λ (text, rest). second_word (codes "yyout") rest >>= λ after. Some (prints text, after)
+fputs_at t = expect (codes "(") t >>= λ inside. literal_at inside >>= λ (text, rest). second_word (codes "yyout") rest >>= λ after. Some (prints text, after)
 
 -- after `puts`
 unfoldable pub puts_at : Reader Said
-puts_at t = next (codes "(") t >>= λ inside. literal_at inside >>= λ (text, rest). next (codes ")") rest >>= λ after. Some (prints (text ++ 10 ∷ []), after)
+puts_at t = expect (codes "(") t >>= λ inside. literal_at inside >>= λ (text, rest). expect (codes ")") rest >>= λ after. Some (prints (text ++ 10 ∷ []), after)
 
 -- after `yymore`, `yyterminate`, `yyless`, `yy_pop_state` and `exit`
 unfoldable pub yymore_at : Reader Said
@@ -118,7 +118,7 @@ may_end (c ∷ t) = c == 125
 
 -- the `;` of a statement, which may be absent before `}` and at the end
 unfoldable pub after_statement : List ℕ → Option (List ℕ)
-after_statement t = elim (next (codes ";") t) [
+after_statement t = elim (expect (codes ";") t) [
   | Some rest ↦ Some rest
   | None ↦ if may_end (skip t) then Some t else None
 ]
@@ -159,7 +159,7 @@ module _ (condition : List ℕ → Option ℕ) where
 
   -- a condition, and `)`
   unfoldable pub closed_condition : Reader ℕ
-  closed_condition t = condition_at t >>= λ (c, rest). next (codes ")") rest >>= λ after. Some (c, after)
+  closed_condition t = condition_at t >>= λ (c, rest). expect (codes ")") rest >>= λ after. Some (c, after)
 
   abbrev pub begins : Option (ℕ × List ℕ) → Option (Said × List ℕ)
   begins None = None
@@ -171,7 +171,7 @@ module _ (condition : List ℕ → Option ℕ) where
   begin_from t None = begins (condition_at t)
 
   unfoldable pub begin_at : Reader Said
-  begin_at t = begin_from t (next (codes "(") t)
+  begin_at t = begin_from t (expect (codes "(") t)
 
   abbrev pub pushes : Option (ℕ × List ℕ) → Option (Said × List ℕ)
   pushes None = None
@@ -183,7 +183,7 @@ module _ (condition : List ℕ → Option ℕ) where
   push_from None = None
 
   unfoldable pub push_at : Reader Said
-  push_at t = push_from (next (codes "(") t)
+  push_at t = push_from (expect (codes "(") t)
 
   -- the statements of the stack, by their first word
   unfoldable pub stack_word : List ℕ → Reader Said

@@ -1,25 +1,25 @@
 -- The action of a rule: which statements a text spells. (POSIX, lex, Actions in lex; flex, Actions, Start Conditions.)
-use Rattle.std.specs.Prelude.{◌≡◌, ◌≤◌, ◌⊎◌, ℕ, Bool, true, not, ◌&&◌, ◌||◌, nat_le, if◌then◌else◌, List, [], ◌∷◌, ◌++◌, length, take, drop, find, sum_by, count_by, flat_map, Option, Some, None, is_some, option_map, codes}
+use Rattle.std.specs.Prelude.{◌≡◌, ◌≤◌, ◌⊎◌, ℕ, Bool, true, not, ◌&&◌, ◌||◌, nat_le, if◌then◌else◌, List, [], ◌∷◌, ◌++◌, length, take, drop, find, sum_by, count_by, flat_map, Option, Some, None, is_some, codes, false}
 use Rattle.std.specs.Option.{option_or}
 use Rattle.lex_semantics.specs.ByteSets.{is_word, within, is_digit}
 use Rattle.lex_semantics.specs.Reading.{◌>>=◌, Reader, IsCut, begins, is_empty}
 use Rattle.lexspec_actions.specs.Names.{Known}
-use Rattle.lexspec_actions.specs.Bytes.{skip, next, literal_at}
+use Rattle.lexspec_actions.specs.Bytes.{skip, expect, literal_at}
 use Rattle.lexre_bytes.specs.Lexical.{run_at, number_at, name_at}
 use Rattle.lex_semantics.specs.Spec.{EndAction, Statement, Echo, Print, Begin, More, Less, Reject, End, Push, Pop}
 use Rattle.lex_semantics.specs.Legal.{ends_last, are_compatible}
-use Rattle.lexspec_actions.specs.Statements.{normal, literal_bytes}
+use Rattle.lex_semantics.specs.Literals.{literal_of, normal}
 use Rattle.lex_semantics.specs.Limits.{max_statements, max_literal_bytes, max_kept, max_status}
+use Rattle.lex_semantics.specs.Active.{lists}
 
--- what a format prints before its `%s` and after it, where it has one: `%%` is a percent sign, and no other `%` may stand
-unfoldable pub parts_of : List ℕ → Option (List ℕ × Option (List ℕ))
-parts_of [] = Some ([], None)
-parts_of (c ∷ []) = if begins (codes "%") (c ∷ []) then None else Some (c ∷ [], None)
-parts_of (c ∷ d ∷ t) =
-    if begins (codes "%s") (c ∷ d ∷ t) then (parts_of t >>= λ (front, back). if is_some back then None else Some ([], Some front))
-    else if begins (codes "%%") (c ∷ d ∷ t) then option_map (λ parts. (c ∷ parts.0, parts.1)) (parts_of t)
-    else if begins (codes "%") (c ∷ d ∷ t) then None
-    else option_map (λ parts. (c ∷ parts.0, parts.1)) (parts_of (d ∷ t))
+-- What a format prints before its `%s` and after it, where it has one: `%%` is a percent sign, and no other `%` may stand. It is told
+-- whether a `%` stands before the text.
+unfoldable pub parts_of : Bool → List ℕ → Option (List ℕ × Option (List ℕ))
+parts_of percent [] = if percent then None else Some ([], None)
+parts_of percent (c ∷ t) =
+    if percent && lists (codes "s") c then (parts_of false t >>= λ (front, back). if is_some back then None else Some ([], Some front))
+    else if not percent && lists (codes "%") c then parts_of true t
+    else if percent && not (lists (codes "%") c) then None else parts_of false t >>= λ (front, back). Some (c ∷ front, back)
 
 -- What follows the first word of a statement: what the statement says, and what stands after it.
 
@@ -30,7 +30,7 @@ says_only s t = Some (s ∷ [], t)
 -- `(`, what is read, and `)`
 unfoldable pub in_parentheses : Reader (List Statement) → Reader (List Statement)
 in_parentheses read t =
-    next (codes "(") t >>= λ inside. read inside >>= λ (ss, rest). next (codes ")") rest >>= λ after. Some (ss, after)
+    expect (codes "(") t >>= λ inside. read inside >>= λ (ss, rest). expect (codes ")") rest >>= λ after. Some (ss, after)
 
 -- a number from low to high
 unfoldable pub number_within : ℕ → ℕ → (ℕ → Statement) → Reader (List Statement)
@@ -38,18 +38,18 @@ number_within low high s t = number_at (skip t) >>= λ (n, rest). if within low 
 
 -- `, word`
 unfoldable pub second_word : List ℕ → List ℕ → Option (List ℕ)
-second_word word t = next (codes ",") t >>= λ rest. name_at (skip rest) >>= λ (name, after). if is_word name word then Some after else None
+second_word word t = expect (codes ",") t >>= λ rest. name_at (skip rest) >>= λ (name, after). if is_word name word then Some after else None
 
 -- a format, and `, yytext` where it has a `%s`
 unfoldable pub format_at : Reader (List Statement)
-format_at t = literal_at t >>= λ (text, rest). parts_of text >>= λ (front, back). elim back [
+format_at t = literal_at t >>= λ (text, rest). parts_of false text >>= λ (front, back). elim back [
   | None ↦ says_only (Print front) rest
   | Some end ↦ second_word (codes "yytext") rest >>= λ after. Some (Print front ∷ Echo ∷ Print end ∷ [], after)
 ]
 
 -- the `;` of a statement, which may be absent before `}` and at the end
 unfoldable pub after_statement : List ℕ → Option (List ℕ)
-after_statement t = option_or (next (codes ";") t) (if is_empty (skip t) || begins (codes "}") (skip t) then Some t else None)
+after_statement t = option_or (expect (codes ";") t) (if is_empty (skip t) || begins (codes "}") (skip t) then Some t else None)
 
 -- a piece of an action: the punctuator that it is, where it is `{`, `}` or `;` alone, and what it says
 abbrev pub Piece : Type 0
@@ -92,19 +92,19 @@ module _ (known : Known) where
       after_statement after >>= λ last. Some (ss, last)
 
   -- the piece that comes next
-  unfoldable pub piece_at : Reader Piece
-  piece_at t = elim (find (λ word. begins word (skip t)) (codes "{" ∷ codes "}" ∷ codes ";" ∷ [])) [
+  unfoldable pub next_piece : Reader Piece
+  next_piece t = elim (find (λ word. begins word (skip t)) (codes "{" ∷ codes "}" ∷ codes ";" ∷ [])) [
     | Some word ↦ Some ((word, []), drop 1 (skip t))
     | None ↦ statement_at (skip t) >>= λ (ss, rest). Some (([], ss), rest)
   ]
 
   -- The text is an action, and these are its statements in normal form. After the last piece only blanks and comments are left.
   abbrev pub SpellsStatements : List ℕ → List Statement → Type 0
-  SpellsStatements text ss = (ps : List Piece) × IsCut piece_at (λ t. skip t ≡ []) text ps × AreBalanced ps × (ss ≡ normal (flat_map (λ p. p.1) ps))
+  SpellsStatements text ss = (ps : List Piece) × IsCut next_piece (λ t. skip t ≡ []) text ps × AreBalanced ps × (ss ≡ normal (flat_map (λ p. p.1) ps))
 
 -- there are no more statements and literal bytes than an action may have
 abbrev pub are_few : List Statement → Bool
-are_few ss = nat_le (length ss) max_statements && nat_le (sum_by literal_bytes ss) max_literal_bytes
+are_few ss = nat_le (length ss) max_statements && nat_le (sum_by (λ s. length (literal_of s)) ss) max_literal_bytes
 
 -- the action of a rule
 abbrev pub SpellsAction : Known → List ℕ → List Statement → Type 0

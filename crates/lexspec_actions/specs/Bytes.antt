@@ -23,8 +23,8 @@ unfoldable pub skip : List ℕ → List ℕ
 skip t = fold (λ rest c. unwrap_or (after_space rest) rest) t t
 
 -- what follows the word, where that comes next
-unfoldable pub next : List ℕ → List ℕ → Option (List ℕ)
-next word t = after_word word (skip t)
+unfoldable pub expect : List ℕ → List ℕ → Option (List ℕ)
+expect word t = after_word word (skip t)
 
 -- after a backslash: one to three octal digits, a letter or sign of C's, or `x` and one or two hexadecimal digits: the byte
 -- from 1 to 255 that these write, as in a pattern
@@ -36,4 +36,4 @@ string_escape_at t =
 
 -- a string: its bytes are escapes, and any but a newline
 unfoldable pub literal_at : Reader (List ℕ)
-literal_at t = next (codes "\"") t >>= λ inside. until_quote (byte_with string_escape_at) (suc (length inside)) inside
+literal_at t = expect (codes "\"") t >>= λ inside. until_quote (byte_with string_escape_at) (suc (length inside)) inside

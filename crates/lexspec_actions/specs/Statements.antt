@@ -1,19 +1,7 @@
--- Actions in normal form: no literal is empty, and no two are neighbours. (This project's.)
+-- Actions in normal form, as the code puts statements at the end. (This project's.)
 use Rattle.std.specs.Prelude.{ℕ, List, [], ◌∷◌, ◌++◌}
 use Rattle.lex_semantics.specs.Spec.{Statement, Print}
 pub use Rattle.lex_machine.specs.Literals.{literal_bytes}
-
--- a statement before others in normal form: an empty literal is dropped, and one before another is joined with it
-abbrev pub before : Statement → List Statement → List Statement
-before (Print []) ss = ss
-before (Print (b ∷ bs)) (Print more ∷ ss) = Print (b ∷ bs ++ more) ∷ ss
-before s ss = s ∷ ss
-
-abbrev pub normal : List Statement → List Statement
-normal [] = []
-normal (s ∷ ss) = before s (normal ss)
-
--- The same from the left, as the code puts statements at the end.
 
 -- a literal after the statements: dropped where it is empty, and joined with one that stands last
 abbrev pub then_print : List Statement → List ℕ → List Statement

@@ -4,7 +4,7 @@ ghost use Rattle.std.specs.Prelude.{◌∷◌, [], MatchOption, IfSome, IfOk, If
 ghost use Rattle.lex_semantics.specs.Reading.{take_run, is_white, starts_name};
 ghost use Rattle.lex_semantics.specs.ByteSets.{is_digit};
 ghost use Rattle.lexre_bytes.specs.Lexical.{name_at};
-ghost use Rattle.lexspec_actions.specs.Bytes.{skip, next};
+ghost use Rattle.lexspec_actions.specs.Bytes.{skip, expect};
 ghost use Rattle.lexspec_actions.specs.ByteSteps.{digits_at};
 ghost use Rattle.lexspec_actions.specs.ByteSteps.{skip_in, as_byte};
 ghost use Rattle.lexspec_actions.specs.Bytes.{literal_at};
@@ -129,7 +129,7 @@ pub(crate) fn skip(text: &[u8]) -> &[u8]
 /// What follows the byte, where that comes next.
 #[tactic(auto, using(crate::proofs::SameBytes::next_is))]
 pub(crate) fn next(byte: u8, text: &[u8]) -> Option<&[u8]>
-    ensures next { option_map (λ r. r.now) result ≡ next (byte ∷ []) text.now }
+    ensures next { option_map (λ r. r.now) result ≡ expect (byte ∷ []) text.now }
     ensures shorter { IfSome result (λ r. length r.now < length text.now) }
 {
     match skip(text) {

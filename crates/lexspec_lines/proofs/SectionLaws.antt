@@ -6,7 +6,7 @@ use Rattle.std.proofs.Math.Seq.{take-append_seam}
 use Rattle.std.proofs.lemmas.List.Sums.{sum_by-append}
 use Rattle.lex_semantics.specs.Reading.{◌>>=◌, Reader, begins}
 use Rattle.lex_semantics.specs.ByteSets.{is_blank}
-use Rattle.lexspec_lines.specs.Lines.{line_in, after_block, after_comment, newlines, is_all_blank}
+use Rattle.lexspec_lines.specs.Lines.{line_in, after_block, newlines, is_all_blank}
 use Rattle.lexspec_lines.specs.DefinitionLines.{Definition, ignored, code_line, code_block, definition_in, percent_line, definition_at, IsUpTo}
 use Rattle.lexspec_lines.specs.Declaring.{declared_of, AreGood, AreAllowed, Declares}
 use Rattle.lexspec_lines.specs.declared.declarations.Declarations.{Declarations}
@@ -143,10 +143,6 @@ after_star_ends (c ∷ t) =
     each_if (EndsWith (c ∷ t)) (begins (codes "*/") (c ∷ t)) (Some (drop 1 t)) (after_star t) (each_some (EndsWith (c ∷ t)) (drop 1 t) (longer c t (drop 1 t) (dropped 1 t)))
     (λ rest e. longer c t rest (after_star_ends t rest e))
 
-after_comment_ends : (t : List ℕ) → Each (after_comment t) (EndsWith t)
-after_comment_ends t =
-    each_bind (EndsWith t) (EndsWith t) (after_star t) _ (after_star_ends t) (λ rest h. each_some (EndsWith t) (line_in rest).1 (ends_on t rest (line_in rest).1 h (after_line rest)))
-
 -- a line with what belongs to it is the front of the text
 pub definition_ends : (t : List ℕ) → Each (definition_at t) (λ x. EndsWith t x.1)
 unfolding definition_at
@@ -162,7 +158,8 @@ definition_ends (c ∷ t) =
     (each_if P (begins (codes "%{") s.0) _ _
     (each_bind (EndsWith s.1) P (after_block (suc (length s.1)) s.1) _ (after_block_ends (suc (length s.1)) s.1) (λ after h. each_some P (code_block, after) (ends_on u s.1 after line h)))
     (each_if P (begins (codes "/*") s.0) _ _
-    (each_bind (EndsWith (drop 2 u)) P (after_comment (drop 2 u)) _ (after_comment_ends (drop 2 u)) (λ after h. each_some P (ignored, after) (ends_on u (drop 2 u) after (dropped 2 u) h)))
+    (each_bind (EndsWith (drop 2 u)) P (after_star (drop 2 u)) _ (after_star_ends (drop 2 u)) (λ after h. each_some P (ignored, (line_in after).1)
+    (ends_on u (drop 2 u) (line_in after).1 (dropped 2 u) (ends_on (drop 2 u) after (line_in after).1 h (after_line after)))))
     (each_if P (begins (codes "%") s.0) _ _
     (each_bind (λ d. Unit {0}) P (percent_line s.0) _ (λ d e. tt) (λ d h. each_some P (d, s.1) line))
     (each_bind (λ d. Unit {0}) P (definition_in s.0) _ (λ d e. tt) (λ d h. each_some P (d, s.1) line)))))))

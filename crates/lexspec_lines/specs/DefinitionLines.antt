@@ -5,7 +5,8 @@ use Rattle.lex_semantics.specs.Reading.{◌>>=◌, Reader, IsCut, after_blanks, 
 use Rattle.lex_semantics.specs.ByteSets.{is_digit, is_word, is_blank}
 use Rattle.lexre_bytes.specs.Lexical.{name_at}
 use Rattle.lexspec_lines.specs.Runs.{split_before}
-use Rattle.lexspec_lines.specs.Lines.{line_at, is_all_blank, words, after_block, after_comment}
+use Rattle.lexspec_lines.specs.Lines.{line_in, line_at, is_all_blank, words, after_block}
+use Rattle.lexspec_actions.specs.Comments.{after_star}
 
 pub data Definition : Type 0 where
   -- a line of code, or a block of it
@@ -63,7 +64,7 @@ definition_at t = line_at t >>= λ (line, rest).
     else if list_any is_blank (take 1 line) then Some (code_line, rest)
     else if begins (codes "%%") line then None
     else if begins (codes "%{") line then (after_block (suc (length rest)) rest >>= λ after. Some (code_block, after))
-    else if begins (codes "/*") line then (after_comment (drop 2 t) >>= λ after. Some (ignored, after))
+    else if begins (codes "/*") line then (after_star (drop 2 t) >>= λ after. Some (ignored, (line_in after).1))
     else if begins (codes "%") line then (percent_line line >>= λ d. Some (d, rest))
     else (definition_in line >>= λ d. Some (d, rest))
 

@@ -48,7 +48,6 @@ pub(crate) enum DefinitionFault<'a> {
 }
 
 /// Whether the word is a name.
-#[tactic(auto, using(crate::proofs::TextLaws::run_all))]
 fn is_name(word: &[u8]) -> bool
     ensures { result ≡ is_name word.now }
 {

@@ -1,9 +1,10 @@
 -- Statements that may stand one after another, as the reader goes, are a legal action.
-use Rattle.std.proofs.Common.{◌≡◌, ℕ, suc, ◌+◌, ◌-◌, ◌<◌, ◌≤◌, Bool, true, false, List, [], ◌∷◌, length, refl, ap, arith}
+use Rattle.std.proofs.Common.{◌≡◌, ℕ, suc, ◌+◌, ◌-◌, ◌<◌, ◌≤◌, Bool, true, false, List, [], ◌∷◌, length, refl, ap, arith, sym, ◌∙◌}
 use Rattle.std.specs.Prelude.{◌&&◌, ◌||◌, not, nat_le, nat_lt, sum_by}
 use Rattle.std.proofs.lemmas.Bool.Decides.{nat_tests}
 use Rattle.std.proofs.lemmas.List.{nil_from_length}
 use Rattle.std.proofs.lemmas.List.Sums.{sum_by-cons}
+use Rattle.lex_semantics.proofs.Legals.{ends_last_more, joined_of_normal, normal_of_joined}
 use Rattle.lex_semantics.specs.Spec.{Statement, Echo, Print, Begin, More, Less, Reject, End, Push, Pop, has_reject}
 use Rattle.lex_semantics.specs.Legal.{all_in_range, ends_action, ends_last, is_literal, are_joined, has_less, has_more, count_less, IsLegal}
 use Rattle.lex_machine.specs.Literals.{literal_bytes}
@@ -64,11 +65,11 @@ starts_literal (x ∷ ss) = is_literal x
 
 last_more : (x : Statement) (ss : List Statement) → (ends_action x ≡ true → ss ≡ []) → ends_last ss ≡ true → ends_last (x ∷ ss) ≡ true
 last_more x [] h k = refl
-last_more x (y ∷ ss) h k = let e = not_true (ends_action x) (λ e. no_first y ss (h e)) in is_and (not (ends_action x)) (ends_last (y ∷ ss)) (ap not e) k
+last_more x (y ∷ ss) h k = let e = not_true (ends_action x) (λ e. no_first y ss (h e)) in ends_last_more x y ss ∙ is_and (not (ends_action x)) (ends_last (y ∷ ss)) (ap not e) k
 
 last_less : (x : Statement) (ss : List Statement) → ends_last (x ∷ ss) ≡ true → (ends_last ss ≡ true) × (ends_action x ≡ true → ss ≡ [])
 last_less x [] h = (refl, λ e. refl)
-last_less x (y ∷ ss) h = let p = and_is (not (ends_action x)) (ends_last (y ∷ ss)) h in (p.1, λ e. absurd (not_both (ends_action x) p.0 e))
+last_less x (y ∷ ss) h = let p = and_is (not (ends_action x)) (ends_last (y ∷ ss)) (sym (ends_last_more x y ss) ∙ h) in (p.1, λ e. absurd (not_both (ends_action x) p.0 e))
   where
     not_both : (b : Bool) → not b ≡ true → b ≡ true → ⊥
     not_both true h k = absurd cc
@@ -564,7 +565,7 @@ action_is n stack ss few h =
       record {
         few = few;
         literals = omega (arith, f.literals);
-        legal = (record { ranges = f.ranges; last = f.last; compatible = compatible_is (has_reject ss) (has_more ss) (has_less ss) (count_less ss) f.reject_alone f.less_alone f.one_less }, f.joined);
+        legal = (record { ranges = f.ranges; last = f.last; compatible = compatible_is (has_reject ss) (has_more ss) (has_less ss) (count_less ss) f.reject_alone f.less_alone f.one_less }, normal_of_joined n ss f.ranges f.joined);
         bytes = f.bytes;
       },
       f.stacks,
@@ -577,7 +578,7 @@ is_action n stack ss a version =
       ranges = a.legal.0.ranges;
       last = a.legal.0.last;
       left = refl;
-      joined = a.legal.1;
+      joined = joined_of_normal ss a.legal.1;
       apart = λ e. absurd cc;
       literals = omega (arith, a.literals);
       less = λ e. absurd cc;

@@ -42,9 +42,6 @@ module _ {S : Type 0} (wrote : S → List ℕ → S → Type 0) (more : (s t u :
   pub loop_done : {X : Type 0} (text : X → List ℕ) (xs : List X) (i : ℕ) (s t : S) → length xs ≤ i → wrote s (flat_map text (take i xs)) t → wrote s (flat_map text xs) t
   loop_done text xs i s t le h = subst (λ ys. wrote s (flat_map text ys) t) (take_all i xs le) h
 
-  pub loop_none : {X : Type 0} (text : X → List ℕ) (s : S) → wrote s [] s → wrote s (flat_map text []) s
-  loop_none text s h = h
-
 -- within a list the default does not count
 pub either_default : {X : Type 0} (xs : List X) (i : ℕ) (d e : X) → i < length xs → get_or xs i d ≡ get_or xs i e
 either_default [] i d e h = absurd (omega arith)

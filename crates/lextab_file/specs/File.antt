@@ -13,9 +13,6 @@ short n = to_be_bytes w16 n
 abbrev pub long : ℕ → List ℕ
 long n = to_be_bytes w32 n
 
-abbrev pub byte : ℕ → List ℕ
-byte b = b ∷ []
-
 -- the length and the bytes
 abbrev pub string : List ℕ → List ℕ
 string bytes = long (length bytes) ++ bytes
@@ -28,18 +25,18 @@ cut_text (Trail n) = 2 ∷ long n
 
 -- the tag and what it says more
 abbrev pub statement_text : Statement → List ℕ
-statement_text Echo = byte 0
+statement_text Echo = 0 ∷ []
 statement_text (Print bytes) = 1 ∷ string bytes
-statement_text (Begin c) = 2 ∷ byte c
-statement_text More = byte 3
+statement_text (Begin c) = 2 ∷ c ∷ []
+statement_text More = 3 ∷ []
 statement_text (Less n) = 4 ∷ short n
-statement_text Reject = byte 5
-statement_text (End status) = 6 ∷ byte status
-statement_text (Push c) = 7 ∷ byte c
-statement_text Pop = byte 8
+statement_text Reject = 5 ∷ []
+statement_text (End status) = 6 ∷ status ∷ []
+statement_text (Push c) = 7 ∷ c ∷ []
+statement_text Pop = 8 ∷ []
 
 abbrev pub condition_text : ConditionOfTable → List ℕ
-condition_text c = long c.start ++ (long c.line_start ++ (string c.end.print ++ byte c.end.status))
+condition_text c = long c.start ++ (long c.line_start ++ (string c.end.print ++ c.end.status ∷ []))
 
 abbrev pub rule_text : RuleOfTable → List ℕ
 rule_text r = cut_text r.cut ++ (long (length r.statements) ++ flat_map statement_text r.statements)
@@ -66,7 +63,7 @@ file_of t =
     ++ (long (length t.rules) ++ (long (length t.rows) ++ (long t.classes ++ long (length t.slots)))))
     ++ (flat_map condition_text t.conditions
     ++ (flat_map rule_text t.rules
-    ++ (flat_map byte t.class_of
+    ++ (flat_map (λ b. b ∷ []) t.class_of
     ++ (flat_map row_text t.rows
     ++ flat_map slot_text t.slots))))))
 
@@ -75,8 +72,11 @@ abbrev pub IsFileOf : Table → List ℕ → Type 0
 IsFileOf t bytes = IsTable t × (bytes ≡ file_of t)
 
 -- Names that proofs have for parts of a file, and for whether an action or some rule has a statement of the stack.
+abbrev pub byte : ℕ → List ℕ
+byte b = b ∷ []
+
 abbrev pub end_text : EndAction → List ℕ
-end_text e = string e.print ++ byte e.status
+end_text e = string e.print ++ e.status ∷ []
 
 abbrev pub magic : List ℕ
 magic = codes "LEXTAB"

@@ -1,7 +1,7 @@
 -- Parts whose lengths four bytes hold. (A device of the writer.)
 use Rattle.std.specs.Prelude.{◌≤◌, length, All}
 use Rattle.lex_machine.specs.Views.{statement_of}
-use Rattle.lex_machine.specs.Literals.{literal_bytes}
+use Rattle.lex_semantics.specs.Literals.{literal_of}
 use Rattle.lex_machine.specs.declared.action.Statement.{Statement}
 use Rattle.lextab_packed.specs.Views.{slots_of}
 use Rattle.lextab_packed.specs.declared.parts.TableCondition.{TableCondition}
@@ -11,7 +11,7 @@ use Rattle.lextab_packed.specs.declared.parts.TableParts.{TableParts}
 use Rattle.lex_semantics.specs.Limits.{max_conditions, max_statements, max_literal_bytes, max_rules, max_states, max_slots}
 
 abbrev pub FitsStatement : Statement → Type 0
-FitsStatement s = literal_bytes (statement_of s) ≤ max_literal_bytes
+FitsStatement s = length (literal_of (statement_of s)) ≤ max_literal_bytes
 
 pub record FitsRule (r : TableRule) : Type 0 where
   pub few : length r.statements.items ≤ max_statements

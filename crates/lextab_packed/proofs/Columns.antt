@@ -2,10 +2,8 @@
 use Rattle.std.proofs.Common.{◌≡◌, ℕ, zero, suc, ◌+◌, ◌-◌, ◌<◌, ◌≤◌, Bool, true, false, List, [], ◌∷◌, ◌++◌, length, cond, Some, None, inl, inr, refl, sym, ap, subst, ◌∙◌, arith}
 use Rattle.std.specs.Prelude.{slice_get, slice_index, map, ⊤}
 use Rattle.std.proofs.lemmas.Bool.{cases_lt}
-use Rattle.lex_semantics.specs.Text.{Among}
 use Rattle.lex_semantics.specs.Spec as S
 use Rattle.lex_semantics.specs.Machine.{Machine}
-use Rattle.lex_semantics.specs.MachineLaws.{MachineLaws}
 use Rattle.lex_machine.specs.declared.action.Statement.{Statement as Item}
 use Rattle.lex_machine.specs.declared.glance.Gist.TheVariants as Gist
 use Rattle.lex_machine.specs.Views.{statement_of}
@@ -110,9 +108,6 @@ knows_first M s (rule ∷ others) e = keeping M s rule others e (M.cut rule) ref
 -- what is known of a state by its kind
 pub knows : (M : Machine) (s : ℕ) (k : Kind) → k ≡ kind_of M s → Knows M s k
 knows M s k e = subst (Knows M s) (sym e) (knows_first M s (M.accepts s) refl)
-
-pub first_below : (M : Machine) (s rule : ℕ) → MachineLaws M → Firstly M s rule → rule < M.count
-first_below M s rule laws f = laws.in_range s rule (subst (λ l. Among l rule) (sym f.accepts) (inl refl))
 
 -- the only statement is this one
 pub only_is : (items : List Item) (item : Item) (a b : S.Statement) → Some item ≡ slice_get items 0 → statement_of item ≡ a → map statement_of items ≡ b ∷ [] → map statement_of items ≡ a ∷ []

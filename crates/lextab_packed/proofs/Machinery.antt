@@ -33,6 +33,22 @@ start_from z n [] i line_start h lt = absurd (omega (arith, lt))
 start_from z n (c ∷ cs) zero line_start h lt = start_of z.states c line_start h.0.start h.0.line_start
 start_from z n (c ∷ cs) (suc i) line_start h lt = start_from z (suc n) cs i line_start h.1 (omega (arith, lt))
 
+module _ (t : Table) (ok : IsTable t) where
+  accepts_below : (s i : ℕ) → Among (accepted_in t s) i → s < length t.rows
+  accepts_below s i among = elim (cases_lt s (length t.rows)) [
+    | inl h ↦ h
+    | inr h ↦ absurd (subst (λ (l : List ℕ). Among l i) (past_accepts t ok s h) among)
+  ]
+
+  -- the machine stays in the table's states, whatever is said to go on
+  pub below_of_table : (goes_on : ℕ → Bool) → StaysBelow (machine_of_table t goes_on) (length t.rows)
+  below_of_table goes_on = record {
+    dead = ok.sizes.some_states.0;
+    start = λ c line_start h. start_from (sizes_of t) 0 t.conditions c line_start ok.conditions h;
+    next = λ s b h k. step_below t ok s b;
+    accepts = accepts_below;
+  }
+
 module _ (t : Table) (ok : IsTable t) (flags : List Bool) (goes : GoesOn t flags) where
   abbrev M : Machine
   M = machine_of_table t (λ s. flag flags s)
@@ -72,12 +88,6 @@ module _ (t : Table) (ok : IsTable t) (flags : List Bool) (goes : GoesOn t flags
     | inr h ↦ subst Ascending (sym (past_accepts t ok s h)) tt
   ]
 
-  accepts_below : (s i : ℕ) → Among (accepted_in t s) i → s < length t.rows
-  accepts_below s i among = elim (cases_lt s (length t.rows)) [
-    | inl h ↦ h
-    | inr h ↦ absurd (subst (λ (l : List ℕ). Among l i) (past_accepts t ok s h) among)
-  ]
-
   pub machine_laws : MachineLaws M
   machine_laws = record {
     some_condition = ok.sizes.some_conditions.0;
@@ -90,9 +100,4 @@ module _ (t : Table) (ok : IsTable t) (flags : List Bool) (goes : GoesOn t flags
   }
 
   pub stays_below : StaysBelow M (length t.rows)
-  stays_below = record {
-    dead = ok.sizes.some_states.0;
-    start = λ c line_start h. start_from (sizes_of t) 0 t.conditions c line_start ok.conditions h;
-    next = λ s b h k. step_below t ok s b;
-    accepts = accepts_below;
-  }
+  stays_below = below_of_table t ok (λ s. flag flags s)

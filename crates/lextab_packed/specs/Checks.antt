@@ -2,9 +2,10 @@
 use Rattle.std.specs.Prelude.{◌≡◌, ℕ, ◌+◌, ◌<◌, ◌≤◌, Bool, false, List, [], length, map, sum_by, slice_index, ⊤}
 use Rattle.std.specs.List.{list_any}
 use Rattle.lex_semantics.specs.Limits.{max_conditions, max_rules, max_states, max_classes, max_slots, max_literal_bytes, max_status, max_fixed_length, max_statements}
-use Rattle.lex_semantics.specs.Text.{IsText, Ascending, Among}
-use Rattle.lex_semantics.specs.Spec.{Cut, Whole, Head, Trail, has_reject}
+use Rattle.lex_semantics.specs.Text.{IsText, Among, Pairwise}
+use Rattle.lex_semantics.specs.Spec.{Cut, Whole, Head, Trail, has_reject, is_reject}
 use Rattle.lex_semantics.specs.Legal.{IsLegal}
+use Rattle.lex_semantics.specs.Literals.{literal_of}
 pub use Rattle.lex_machine.specs.Literals.{Each, HasText, literal_bytes}
 use Rattle.lextab_packed.specs.Table.{ConditionOfTable, RuleOfTable, Row, Slot, Table}
 
@@ -32,16 +33,16 @@ IsCutInRange (Trail n) = n ≤ max_fixed_length
 pub record IsTableRule (conditions : ℕ) (i : ℕ) (r : RuleOfTable) : Type 0 where
   pub cut : IsCutInRange r.cut
   pub few : length r.statements ≤ max_statements
-  pub literals : sum_by literal_bytes r.statements ≤ max_literal_bytes
+  pub literals : sum_by (λ s. length (literal_of s)) r.statements ≤ max_literal_bytes
   pub legal : IsLegal conditions r.statements
-  pub bytes : Each HasText 0 r.statements
+  pub bytes : Each (λ i s. IsText (literal_of s)) 0 r.statements
 
 -- the row of state s, where some rule has REJECT or none has: then a state accepts at most one
 pub record IsRow (rule_count states classes slots : ℕ) (rejects : Bool) (s : ℕ) (r : Row) : Type 0 where
   pub default_target : r.default_target < states
   pub base : r.base + classes ≤ slots
   pub rules : (i : ℕ) → Among r.rules i → i < rule_count
-  pub ascending : Ascending r.rules
+  pub ascending : Pairwise ◌<◌ r.rules
   pub first_alone : rejects ≡ false → length r.rules ≤ 1
   -- state 0 is dead
   pub dead : s ≡ 0 → (r.default_target ≡ 0) × (r.base ≡ 0) × (r.rules ≡ [])
@@ -61,7 +62,7 @@ pub record IsTable (t : Table) : Type 0 where
   pub bytes : length t.class_of ≡ 256
   pub class_of : Each (λ b k. k < t.classes) 0 t.class_of
   pub rows : Each (IsRow (length t.rules) (length t.rows) t.classes (length t.slots)
-      (list_any (λ r. has_reject r.statements) t.rules)) 0 t.rows
+      (list_any (λ r. list_any is_reject r.statements) t.rules)) 0 t.rows
   pub slots : Each (IsSlot (length t.rows) t.classes (map (λ r. r.base) t.rows)) 0 t.slots
 
 -- Names that proofs have: how many there are of each kind, whether some rule has REJECT, and the bases of rows.

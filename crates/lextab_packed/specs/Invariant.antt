@@ -1,20 +1,21 @@
 -- When states go on, and that there is one proof at most of what a table keeps to, so a type may keep it.
 -- (This project's.)
-use Rattle.std.specs.Prelude.{◌≡◌, ℕ, suc, ◌<◌, Bool, true, false, List, [], ◌∷◌, length, ◌↔◌}
+use Rattle.std.specs.Prelude.{◌≡◌, ℕ, suc, ◌<◌, Bool, true, false, List, [], ◌∷◌, length, ◌↔◌, slice_index_or}
 use Rattle.std.specs.Coded.{×_prop, Unit-prop, le_prop}
 use Rattle.std.proofs.Props.{props}
 use Rattle.lex_semantics.specs.Text.{IsText, Ascending, flag}
-use Rattle.lex_semantics.specs.Spec.{Statement, Echo, Print, Begin, More, Less, Reject, End, Push, Pop, Cut, Whole, Head, Trail}
+use Rattle.lex_semantics.specs.Spec.{Statement, Cut, Whole, Head, Trail}
+use Rattle.lex_semantics.specs.Literals.{literal_of}
 use Rattle.lex_semantics.specs.Legal.{IsLegal}
 use Rattle.lex_semantics.specs.MachineLaws.{LeadsToAccept}
 use Rattle.lextab_packed.specs.Table.{ConditionOfTable, RuleOfTable, Row, Slot, Table}
-use Rattle.lextab_packed.specs.Checks.{Each, Sizes, sizes_of, AreSizes, IsCondition, IsCutInRange, HasText, IsTableRule, IsRow, IsSlot, IsTable, some_rule_rejects, bases_of}
+use Rattle.lextab_packed.specs.Checks.{Each, Sizes, sizes_of, AreSizes, IsCondition, IsCutInRange, IsTableRule, IsRow, IsSlot, IsTable, some_rule_rejects, bases_of}
 use Rattle.lextab_packed.specs.Steps.{machine_of_table}
 
 -- the flags tell which states go on: those from which a text leads to one that accepts a rule
 pub record GoesOn (t : Table) (flags : List Bool) : Type 0 where
   pub len : length flags ≡ length t.rows
-  pub leads : (s : ℕ) → s < length t.rows → (flag flags s ≡ true) ↔ ∥ LeadsToAccept (machine_of_table t (λ q. false)) s ∥₁
+  pub leads : (s : ℕ) → s < length t.rows → (slice_index_or flags s false ≡ true) ↔ ∥ LeadsToAccept (machine_of_table t (λ q. false)) s ∥₁
 
 Each-prop : {A : Type 0} (P : ℕ → A → Type 0) → ((i : ℕ) (x : A) → IsProp (P i x)) → (i : ℕ) (xs : List A) → IsProp (Each P i xs)
 Each-prop P one i [] = Unit-prop
@@ -33,16 +34,8 @@ IsCut-prop Whole = Unit-prop
 IsCut-prop (Head n) = le_prop
 IsCut-prop (Trail n) = le_prop
 
-HasText-prop : (i : ℕ) (s : Statement) → IsProp (HasText i s)
-HasText-prop i Echo = Unit-prop
-HasText-prop i (Print bs) = IsText-prop bs
-HasText-prop i (Begin c) = Unit-prop
-HasText-prop i More = Unit-prop
-HasText-prop i (Less n) = Unit-prop
-HasText-prop i Reject = Unit-prop
-HasText-prop i (End n) = Unit-prop
-HasText-prop i (Push c) = Unit-prop
-HasText-prop i Pop = Unit-prop
+HasText-prop : (i : ℕ) (s : Statement) → IsProp (IsText (literal_of s))
+HasText-prop i s = IsText-prop (literal_of s)
 
 IsCondition-prop : (z : Sizes) (i : ℕ) (c : ConditionOfTable) → IsProp (IsCondition z.states i c)
 IsCondition-prop z i c x y = λ k. record {
@@ -59,7 +52,7 @@ IsRule-prop z i r x y = λ k. record {
   few = le_prop x.few y.few k;
   literals = le_prop x.literals y.literals k;
   legal = (let p : IsProp (IsLegal z.conditions r.statements) = Prim.hlevel props in p) x.legal y.legal k;
-  bytes = Each-prop HasText HasText-prop 0 r.statements x.bytes y.bytes k;
+  bytes = Each-prop (λ i s. IsText (literal_of s)) HasText-prop 0 r.statements x.bytes y.bytes k;
 }
 
 IsRow-prop : (z : Sizes) (rejects : Bool) (s : ℕ) (r : Row) → IsProp (IsRow z.rules z.states z.classes z.slots rejects s r)

@@ -1,6 +1,5 @@
 -- What packed tables are made of, and their machine with its laws. (This project's.)
-use Rattle.std.specs.Prelude.{ℕ, Bool, List, length}
-use Rattle.lex_semantics.specs.Text.{flag}
+use Rattle.std.specs.Prelude.{ℕ, Bool, List, length, slice_index_or, false}
 use Rattle.lex_semantics.specs.Machine.{Machine}
 use Rattle.lex_semantics.specs.MachineLaws.{MachineLaws, StaysBelow}
 use Rattle.lextab_packed.specs.Steps.{machine_of_table}
@@ -17,7 +16,7 @@ abbrev pub flags_of : Tables → List Bool
 flags_of t = t.goes_on.items
 
 abbrev pub table_machine : Tables → Machine
-table_machine t = machine_of_table (table_of t.parts) (λ s. flag t.goes_on.items s)
+table_machine t = machine_of_table (table_of t.parts) (λ s. slice_index_or t.goes_on.items s false)
 
 abbrev pub states_of : Tables → ℕ
 states_of t = length t.parts.rows.items

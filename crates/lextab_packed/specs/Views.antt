@@ -10,12 +10,9 @@ use Rattle.lextab_packed.specs.declared.parts.TableRule.{TableRule}
 use Rattle.lextab_packed.specs.declared.parts.Row.{Row}
 use Rattle.lextab_packed.specs.declared.parts.TableParts.{TableParts}
 
-abbrev pub condition_of : TableCondition → T.ConditionOfTable
-condition_of c = record { start = c.start; line_start = c.line_start; end = end_action_of c.end }
-
 abbrev pub table_of : TableParts → T.Table
 table_of p = record {
-  conditions = map condition_of p.conditions.items;
+  conditions = map (λ c. record { start = c.start; line_start = c.line_start; end = end_action_of c.end }) p.conditions.items;
   rules = map (λ r. record { cut = cut_of r.cut; statements = map statement_of r.statements.items }) p.rules.items;
   classes = p.classes;
   class_of = p.class_of.items;
@@ -23,7 +20,10 @@ table_of p = record {
   slots = map (λ s. record { check = s.0; next = s.1 }) (zip p.checks.items p.nexts.items);
 }
 
--- Names that proofs have for a rule, a row, the slots of two columns, and the machine of parts.
+-- Names that proofs have for a condition, a rule, a row, the slots of two columns, and the machine of parts.
+abbrev pub condition_of : TableCondition → T.ConditionOfTable
+condition_of c = record { start = c.start; line_start = c.line_start; end = end_action_of c.end }
+
 abbrev pub rule_of : TableRule → T.RuleOfTable
 rule_of r = record { cut = cut_of r.cut; statements = map statement_of r.statements.items }
 

@@ -2,6 +2,7 @@
 use Rattle.std.proofs.Common.{◌≡◌, ℕ, zero, suc, ◌+◌, ◌<◌, ◌≤◌, Bool, true, false, List, [], ◌∷◌, length, map, refl, sym, ap, subst, ◌∙◌, arith, Option, Some, None}
 use Rattle.std.specs.Prelude.{◌&&◌, ◌||◌, not, nat_le, cond, slice_get, sum_by}
 use Rattle.std.proofs.lemmas.Bool.{and_parts, leb-true, false≢true}
+use Rattle.lex_semantics.proofs.Legals.{normal_of_joined}
 use Rattle.lex_semantics.specs.Text.{IsText}
 use Rattle.lex_semantics.specs.Tree.{Tree}
 use Rattle.lex_semantics.specs.Spec as S
@@ -30,7 +31,7 @@ legal_from n ss h =
     let three = and_parts (all_in_range n ss && ends_last ss && are_joined ss) (are_compatible ss) h in
     let two = and_parts (all_in_range n ss && ends_last ss) (are_joined ss) three.0 in
     let one = and_parts (all_in_range n ss) (ends_last ss) two.0 in
-    (record { ranges = one.0; last = one.1; compatible = three.1 }, two.1)
+    (record { ranges = one.0; last = one.1; compatible = three.1 }, normal_of_joined n ss one.0 two.1)
 
 one_rule : (z : Sizes) (n i : ℕ) (r : S.Rule) → z.conditions ≡ n → sound_rule n r ≡ true → Each HasText 0 r.statements → IsTableRule z.conditions i (action_in r)
 one_rule z n i r e h text =

@@ -1,5 +1,5 @@
 -- What a call hands out, by what it answers.
-use Rattle.std.proofs.Common.{◌≡◌, ℕ, ◌≤◌, Bool, true, false, List, [], ◌++◌, length, Result, Ok, Err, refl, sym, ap, subst, ◌∙◌, append-nil, length-append, arith}
+use Rattle.std.proofs.Common.{◌≡◌, ℕ, ◌-◌, ◌≤◌, Bool, true, false, List, [], ◌++◌, length, Result, Ok, Err, refl, sym, ap, subst, ◌∙◌, append-nil, length-append, arith}
 use Rattle.std.specs.Prelude.{nat_lt}
 use Rattle.std.proofs.lemmas.Bool.{ltb-true}
 use Rattle.lex_semantics.specs.Text.{IsText, flag}
@@ -63,7 +63,7 @@ module _ (file input old new : List ℕ) (count : ℕ) (s s' : Slice) (t t' : Si
   kept_all : (out : List ℕ) → wrote_by t out t' → t'.bytes.items ≡ out
   kept_all out h = h ∙ ap (λ l. l ++ out) empty
 
-  run_out : (answer : Result ℕ RunError) (h : ScansTable gave_by wrote_by file (nat_lt s.ends s'.ends) s s' t t' answer) (ending : Ending) → RanTo (rules_of_machine (machine_of_table h.table (λ state. flag h.goes_on state))) h.scans.given h.scans.out (nat_lt s.ends s'.ends) ending → RunsByFile file input t'.bytes.items ending
+  run_out : (answer : Result ℕ RunError) (h : ScansTable gave_by wrote_by s s' t t' (nat_lt s.ends s'.ends) (s'.failures - s.failures) file answer) (ending : Ending) → RanTo (rules_of_machine (machine_of_table h.table (λ state. flag h.goes_on state))) h.scans.given h.scans.out (nat_lt s.ends s'.ends) ending → RunsByFile file input t'.bytes.items ending
   run_out answer h ending ran =
       let R : Rules = rules_of_machine (machine_of_table h.table (λ state. flag h.goes_on state)) in
       record {
@@ -75,7 +75,7 @@ module _ (file input old new : List ℕ) (count : ℕ) (s s' : Slice) (t t' : Si
       }
 
   -- the scan came to its end
-  pub ended_out : (end : ℕ) (answer : Answer) → TableHeadline gave_by wrote_by file (nat_lt s.ends s'.ends) s s' t t' (Ok end) → HandedOut t'.bytes.items old new count → Fits t'.bytes.items old answer → ScansInto file input old new count end answer
+  pub ended_out : (end : ℕ) (answer : Answer) → TableHeadline gave_by wrote_by s s' t t' (nat_lt s.ends s'.ends) (s'.failures - s.failures) file (Ok end) → HandedOut t'.bytes.items old new count → Fits t'.bytes.items old answer → ScansInto file input old new count end answer
   ended_out end answers.Done told handed fits = record { out = t'.bytes.items; run = run_out (Ok end) told (Status end) told.scans.ran; handed = handed; fits = fits }
   ended_out end answers.TooSmall told handed fits = record { out = t'.bytes.items; run = run_out (Ok end) told (Status end) told.scans.ran; handed = handed; fits = fits }
   ended_out end answers.Ended told handed fits = absurd fits
@@ -92,14 +92,14 @@ module _ (file input old new : List ℕ) (count : ℕ) (s s' : Slice) (t t' : Si
   refused answer none h = subst (λ a. ScansInto file input old new count 0 a) (sym h.0) (none, h.1, refl)
 
   -- it was refused, or it stopped
-  pub stopped_out : (error : ScanError) (answer : Answer) → TableHeadline gave_by wrote_by file (nat_lt s.ends s'.ends) s s' t t' (Err error) → Tells error t'.bytes.items old new count answer → ScansInto file input old new count 0 answer
+  pub stopped_out : (error : ScanError) (answer : Answer) → TableHeadline gave_by wrote_by s s' t t' (nat_lt s.ends s'.ends) (s'.failures - s.failures) file (Err error) → Tells error t'.bytes.items old new count answer → ScansInto file input old new count 0 answer
   stopped_out (scans.Generate e) answer told tells = absurd told
   stopped_out (scans.Table tables.OutOfMemory) answer told tells = no_memory answer tells
-  stopped_out (scans.Table tables.BadMagic) answer told tells = refused answer (told.0 refl) tells
-  stopped_out (scans.Table tables.BadVersion) answer told tells = refused answer (told.0 refl) tells
-  stopped_out (scans.Table tables.Truncated) answer told tells = refused answer (told.0 refl) tells
-  stopped_out (scans.Table tables.TrailingBytes) answer told tells = refused answer (told.0 refl) tells
-  stopped_out (scans.Table (tables.BadField at)) answer told tells = refused answer (told.0 refl) tells
+  stopped_out (scans.Table tables.BadMagic) answer told tells = refused answer told.0 tells
+  stopped_out (scans.Table tables.BadVersion) answer told tells = refused answer told.0 tells
+  stopped_out (scans.Table tables.Truncated) answer told tells = refused answer told.0 tells
+  stopped_out (scans.Table tables.TrailingBytes) answer told tells = refused answer told.0 tells
+  stopped_out (scans.Table (tables.BadField at)) answer told tells = refused answer told.0 tells
   stopped_out (scans.Run runs.Stack) answer told tells =
       subst (λ a. ScansInto file input old new count 0 a) (sym tells.0) (record { out = t'.bytes.items; run = run_out (Err runs.Stack) told StackFault (told.scans.ran.fault refl); handed = tells.1 }, refl)
   stopped_out (scans.Run runs.TooManyReads) answer told tells =

@@ -1,21 +1,19 @@
+use Rattle.std.proofs.Common.{sym}
 use Rattle.lex_semantics.specs.Spec.{Spec}
 use Rattle.lexspec.specs.Views.{spec_of}
+use Rattle.lexkit.proofs.Canonical.{back_ups_of}
 use Rattle.lexkit.proofs.making.all_of.Goals as goal
 
 pub returns : goal.returns
 returns c =
     let S : Spec = spec_of c.args.spec.now in
     let l = c.requires.least in
-    let m = c.in_ok-tables.ensures in
+    let m = c.in_ok-tables.ensures.made in
+    let b = c.in_ok-backup.ensures in
     record {
-      automaton = c.args.least.now.automaton;
       tables = m.tables;
       rule_lines = m.rule_lines;
       warnings = m.warnings;
-      backup = record {
-        ascending = c.in_ok-backup.ensures.ascending;
-        states = c.in_ok-backup.ensures.back_words S l.conditions l.table;
-        words = c.in_ok-backup.ensures.words;
-      };
+      backup = back_ups_of S c.args.least.now.automaton c.in_ok-tables.field-0.tables c.in_ok-backup.backup.items l.conditions c.in_ok-tables.ensures.machine b.ascending (b.back_words S l.conditions l.table) b.words;
       stats = m.stats;
     }

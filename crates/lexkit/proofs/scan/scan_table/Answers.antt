@@ -1,5 +1,5 @@
 use Rattle.std.proofs.lemmas.Grind.{common_steps}
-use Rattle.std.proofs.Common.{Bool, subst, arith}
+use Rattle.std.proofs.Common.{Bool, refl, subst, arith}
 use Rattle.std.specs.Prelude.{nat_lt}
 use Rattle.lex_semantics.specs.Machine.{rules_of_machine}
 use Rattle.lextab_packed.specs.Views.{table_of}
@@ -8,6 +8,7 @@ use Rattle.lexscan.specs.Stands.{RanTo}
 use Rattle.lexscan.specs.Runs.{RanInto}
 use Rattle.lexkit.specs.Headline.{max_reads}
 use Rattle.lexkit.proofs.Carried as Same
+use Rattle.lexkit.proofs.Refusing.{table_refusal}
 use Rattle.lexkit.proofs.scan.scan_table.Goals as goal
 
 pub returns-in-Err-run-clause-told : goal.returns-in-Err-run-clause-told
@@ -25,7 +26,7 @@ returns-in-Err-run-clause-told g c =
         source = h.2;
         sink = h.3;
         ran = subst (λ N. RanInto (rules_of_machine N) h.0 h.1 b max_reads c.in-Err-run.error) c.in-Ok-new.ensures.machine h.4;
-        few_reads = Same.few_reads h.0 max_reads _ _ _ _ _ h.5 c.in-Err-run.ensures.read_faults;
+        few_reads = Same.few_reads h.0 max_reads _ _ _ _ h.5;
       };
     }
 
@@ -44,7 +45,7 @@ returns-clause-told g c =
         source = h.2;
         sink = h.3;
         ran = subst (λ N. RanTo (rules_of_machine N) h.0 h.1 b (Status c.in-Ok-run.answer)) c.in-Ok-new.ensures.machine h.4;
-        few_reads = Same.few_reads h.0 max_reads _ _ _ _ _ h.5 c.in-Ok-run.ensures.read_faults;
+        few_reads = Same.few_reads h.0 max_reads _ _ _ _ h.5;
       };
     }
 
@@ -82,7 +83,7 @@ pub returns-in-Err-clause-read_faults : goal.returns-in-Err-clause-read_faults
 returns-in-Err-clause-read_faults = grind (arith, common_steps)
 
 pub returns-in-Err-clause-told : goal.returns-in-Err-clause-told
-returns-in-Err-clause-told = grind (arith, common_steps)
+returns-in-Err-clause-told g c = (table_refusal c.args.bytes.now c.in-Err.error c.in-Err.ensures.none, refl, refl)
 
 pub returns-in-Err-clause-write_faults : goal.returns-in-Err-clause-write_faults
 returns-in-Err-clause-write_faults = grind (arith, common_steps)

@@ -19,6 +19,7 @@ use Rattle.lexre.proofs.NameLaws.{known_usable, still_known, too_many_known}
 use Rattle.lexre.proofs.OneTree.{some_is, step_limit}
 use Rattle.lexre.proofs.ReaderLaws.{nothing_at, nothing_left, something_left, unless_weaker, retold, agree_step, refused_front, refused_step, refused_end, found_at_end, few_at_end, counted_at_end, no_substitute, left_of, steps_from, steps_name, plain_of, no_name_step, too_many_named, too_many_plain, counted_plain}
 use Rattle.lexre.proofs.SoundLaws.{sound_step, sound_finished}
+use Rattle.lexre.proofs.SymbolLaws.{symbol_adds, signs_add, sound_symbol}
 use Rattle.lexre.proofs.reader.+read.Goals as goal
 use Rattle.lexre.proofs.reader.+read.Goals.{step-in-Name+in_ok-tree-in-Name+in_ok-nodes-in-Name, step-in_default+in_ok-nodes-in_default}
 use Rattle.lexre.specs.declared.reader.Taken.{Taken}
@@ -41,12 +42,12 @@ read_name-returns-then-is_open-clause-none t c =
 pub read_within-returns-in-Err-clause-none : goal.read_within-returns-in-Err-clause-none
 read_within-returns-in-Err-clause-none t c =
     retold c.in-Err.fault.kind _ _ c.reported.ensures
-    (refused_front c.args.scope.options.posix (symbol_at c.args.scope.options.fold) (get c.args.scope.definitions.now) (nothing_at c.args.scope.options.fold) c.in-Err.fault.kind c.args.room c.args.left (state_of c.loop-rest.stack) c.loop-rest.rest.now c.args.text.now
+    (refused_front c.args.scope.options.posix (symbol_at c.args.scope.options.fold) (get c.args.scope.definitions.now) (nothing_at c.args.scope.options.fold) (signs_add c.args.scope.options.fold) c.in-Err.fault.kind c.args.room c.args.left (state_of c.loop-rest.stack) c.loop-rest.rest.now c.args.text.now
     c.loop-rest.invariant.agree (something_left _ (search rules)) c.requires.room c.in-Err.ensures.front)
 
 pub read_within-returns-in-Err-step-clause-none : goal.read_within-returns-in-Err-step-clause-none
 read_within-returns-in-Err-step-clause-none t c =
-    rw c.fault.ensures (refused_step c.args.scope.options.posix (symbol_at c.args.scope.options.fold) (get c.args.scope.definitions.now) (nothing_at c.args.scope.options.fold) c.in-Err-step.kind c.args.room _ c.args.left (state_of c.loop-rest.stack) c.loop-rest.rest.now c.args.text.now _ _
+    rw c.fault.ensures (refused_step c.args.scope.options.posix (symbol_at c.args.scope.options.fold) (get c.args.scope.definitions.now) (nothing_at c.args.scope.options.fold) (signs_add c.args.scope.options.fold) c.in-Err-step.kind c.args.room _ c.args.left (state_of c.loop-rest.stack) c.loop-rest.rest.now c.args.text.now _ _
     c.loop-rest.invariant.agree c.in-Ok.ensures.front (let k = c.loop-rest.invariant.counted in omega arith) c.in-Err-step.ensures.none)
 
 pub read_within-step-requires : goal.read_within-step-requires
@@ -198,7 +199,7 @@ step-returns-then-taken-room-clause-none t c = elim c.match-symbol.branch [
       (stands_rises c.args.scope.options c.args.scope.definitions.now (c.args.stack.now.left - w.in_ok-tree-in-Name.field-0.spare) c.args.stack.now.left w.in-Name.name.now (tree_of w.in_ok-tree-in-Name.field-0.tree.pattern) w.in_ok-tree-in-Name.ensures.found (omega arith))
       (ap nodes_of w.taken-is ∙ w.in_ok-nodes-in-Name.ensures.1) c.if-taken-room.true)
   | step-in_default+in_ok-nodes-in_default w ↦
-      too_many_plain c.args.scope.options c.args.scope.definitions.now c.args.room c.match-symbol.taken.nodes (state_of c.args.stack.now) (state_of w.take.new.self) (symbol_of c.args.symbol)
+      too_many_plain c.args.scope.options c.args.scope.definitions.now c.args.room c.match-symbol.taken.nodes (state_of c.args.stack.now) (state_of w.take.new.self) (symbol_of c.args.symbol) (symbol_adds c.args.symbol)
       w.in_ok-nodes-in_default.ensures.0 (ap nodes_of w.taken-is ∙ w.in_ok-nodes-in_default.ensures.1) c.if-taken-room.true
 ]
 
@@ -236,10 +237,10 @@ step-returns-clause-spare t c = elim c.match-symbol.branch [
 pub step-returns-clause-counted : goal.step-returns-clause-counted
 step-returns-clause-counted t c = elim c.match-symbol.branch [
   | step-in-Name+in_ok-tree-in-Name+in_ok-nodes-in-Name w ↦
-      rw w.stack-is (counted_plain c.args.scope.options.posix c.args.room c.match-symbol.taken.nodes (state_of c.args.stack.now) (state_of w.push.new.self) (item (tree_of w.in_ok-tree-in-Name.field-0.tree.pattern))
+      rw w.stack-is (counted_plain c.args.scope.options.posix c.args.room c.match-symbol.taken.nodes (state_of c.args.stack.now) (state_of w.push.new.self) (item (tree_of w.in_ok-tree-in-Name.field-0.tree.pattern)) tt
       w.in_ok-nodes-in-Name.ensures.0 (ap nodes_of w.taken-is ∙ w.in_ok-nodes-in-Name.ensures.1) c.if-taken-room.false c.requires.room)
   | step-in_default+in_ok-nodes-in_default w ↦
-      rw w.stack-is (counted_plain c.args.scope.options.posix c.args.room c.match-symbol.taken.nodes (state_of c.args.stack.now) (state_of w.take.new.self) (symbol_of c.args.symbol)
+      rw w.stack-is (counted_plain c.args.scope.options.posix c.args.room c.match-symbol.taken.nodes (state_of c.args.stack.now) (state_of w.take.new.self) (symbol_of c.args.symbol) (symbol_adds c.args.symbol)
       w.in_ok-nodes-in_default.ensures.0 (ap nodes_of w.taken-is ∙ w.in_ok-nodes-in_default.ensures.1) c.if-taken-room.false c.requires.room)
 ]
 
@@ -249,7 +250,7 @@ step-returns-clause-sound t c = elim c.match-symbol.branch [
       rw w.stack-is (sound_step c.args.scope.options.posix (item (tree_of w.in_ok-tree-in-Name.field-0.tree.pattern)) (state_of c.args.stack.now) (state_of w.push.new.self) w.in_ok-tree-in-Name.ensures.sound c.requires.sound_so_far
       w.in_ok-nodes-in-Name.ensures.0)
   | step-in_default+in_ok-nodes-in_default w ↦
-      rw w.stack-is (sound_step c.args.scope.options.posix (symbol_of c.args.symbol) (state_of c.args.stack.now) (state_of w.take.new.self) c.requires.sound c.requires.sound_so_far w.in_ok-nodes-in_default.ensures.0)
+      rw w.stack-is (sound_step c.args.scope.options.posix (symbol_of c.args.symbol) (state_of c.args.stack.now) (state_of w.take.new.self) (sound_symbol c.args.symbol c.requires.sound) c.requires.sound_so_far w.in_ok-nodes-in_default.ensures.0)
 ]
 
 pub step-returns-clause-known : goal.step-returns-clause-known

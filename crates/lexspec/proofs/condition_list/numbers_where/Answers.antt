@@ -1,8 +1,12 @@
 use Rattle.std.proofs.Common.{arith, ◌++◌, ◌∷◌, [], ◌+◌, ◌-◌, ◌≡◌, true, false, sym, ap, ◌∙◌, append_assoc}
 use Rattle.lex_semantics.specs.Text.{listed}
+use Rattle.lex_semantics.proofs.Listed.{listed_is}
 use Rattle.lexspec.proofs.ListedLaws.{number_here, number_not}
 use Rattle.lexspec.proofs.condition_list.numbers_where.Goals as goal
 use Rattle.lexspec.proofs.condition_list.numbers_where.Goals.{then-flags-number+in_ok-push, else-flags-number}
+
+pub loop-number-init : goal.loop-number-init
+loop-number-init c = λ test is. rw c.new-numbers.ensures.items (ap (listed test 0) (let all : c.args.count - 0 ≡ c.args.count = omega arith in all) ∙ sym (listed_is test 0 c.args.count))
 
 pub loop-number-preserved : goal.loop-number-preserved
 loop-number-preserved c = λ test is.

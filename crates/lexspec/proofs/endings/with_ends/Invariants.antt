@@ -2,7 +2,7 @@ use Rattle.std.proofs.Common.{◌≡◌, ◌++◌, ◌+◌, map, length}
 use Rattle.std.specs.Vec.Iter.{into_iter_items}
 use Rattle.lexspec_actions.specs.Views.{condition_of}
 use Rattle.lexspec_lines.specs.Declaring.{declared_of}
-use Rattle.lexspec.specs.Files.{conditions_with}
+use Rattle.lexspec.specs.Endings.{conditions_with}
 use Rattle.lexspec.specs.EndRules.{end_rule_of}
 use Rattle.lexspec.proofs.endings.with_ends.Given as goal
 

@@ -1,7 +1,7 @@
 use Rattle.std.proofs.Common.{◌≡◌, ◌++◌, map}
 use Rattle.std.specs.Vec.Iter.{into_iter_items}
 use Rattle.lexspec_actions.specs.Views.{statement_of}
-use Rattle.lexspec.specs.RuleReads.{acting}
+use Rattle.lexspec.specs.WaitingRules.{acting}
 use Rattle.lexspec.specs.RuleViews.{rule_of}
 use Rattle.lexspec.proofs.statements.finish.Given as goal
 

@@ -9,7 +9,7 @@ use Rattle.lextest_product.proofs.caller.filtered.Goals as goal
 
 pub returns : goal.returns
 returns g c =
-    let (S, spells, (within, scans)) = c.in_ok-scan_spec.ensures.told in
+    let (S, spells, within, scans) = c.in_ok-scan_spec.ensures.told in
     let s' = c.scan_spec.new.source in
     let source = subst (λ r. Gives (g.R.Read.remaining r) (g.R.Read.remaining s'.reader) c.new-source.result.ends s'.ends scans.given) c.new-source.ensures.reader scans.source in
     let sink = subst (λ w. Appends (g.W.Write.contents w) (g.W.Write.contents c.scan_spec.new.sink.writer) scans.out) c.new-sink.ensures.writer scans.sink in (

@@ -9,4 +9,4 @@ pub returns : goal.returns
 returns c =
     let (S, spells, skipped, lines, by) = c.in-Ok.ensures in
     let same = c.as_slice.ensures.value ∙ c.in-Ok-file_bytes.ensures in
-    file_out c.args.options c.args.text.now c.as_slice.result.now c.args.buffer.now c.hand_out.new.buffer c.hand_out.new.count c.hand_out.result S spells (subst (IsCanonical S) (sym same) (by.0, table_of c.in-Ok.made.tables.parts, (λ s. flag c.in-Ok.made.tables.goes_on.items s), by.1.tables.canonical)) c.hand_out.ensures.handed c.hand_out.ensures.fits
+    file_out c.args.options c.args.text.now c.as_slice.result.now c.args.buffer.now c.hand_out.new.buffer c.hand_out.new.count c.hand_out.result S spells (subst (IsCanonical S) (sym same) (table_of c.in-Ok.made.tables.parts, (λ s. flag c.in-Ok.made.tables.goes_on.items s), by.tables.canonical)) c.hand_out.ensures.handed c.hand_out.ensures.fits

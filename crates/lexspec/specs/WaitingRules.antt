@@ -2,7 +2,7 @@
 use Rattle.std.specs.Prelude.{◌≡◌, ℕ, Bool, true, false, List, [], ◌∷◌, ◌++◌, map, length, Option, Some, None, slice_get, IsSomeAnd}
 use Rattle.lex_semantics.specs.Spec.{Statement, EndAction, Rule}
 use Rattle.lexre.specs.Definitions.{Definitions}
-use Rattle.lexspec.specs.Items.{Conditions, Action, bar, spelled}
+use Rattle.lexspec.specs.Items.{Conditions}
 use Rattle.lexspec_actions.specs.Names.{number_from, Known, known_in}
 use Rattle.lexspec_actions.specs.Actions.{SpellsAction, SpellsEndAction}
 use Rattle.lexspec.specs.RuleItems.{numbers_of, EndRule}
@@ -32,17 +32,17 @@ IsTrail how defined line_end t = t ≡ Some (Set (single 10))
 IsTrail how defined (pattern_after text) t = IsSomeAnd t (Spells how defined text)
 
 -- the statements of an action: those that its text spells, or those of the next rule
-abbrev pub IsActionOf : Known → Action → List Rule → List Statement → Type 0
-IsActionOf known (spelled text) rules ss = SpellsAction known text ss
-IsActionOf known bar rules ss = IsSomeAnd (slice_get rules 0) (λ r. ss ≡ r.statements)
+abbrev pub IsActionOf : Known → Option (List ℕ) → List Rule → List Statement → Type 0
+IsActionOf known (Some text) rules ss = SpellsAction known text ss
+IsActionOf known None rules ss = IsSomeAnd (slice_get rules 0) (λ r. ss ≡ r.statements)
 
 -- after a `|` the next rule is there, and is no `<<EOF>>` rule
-abbrev pub goes_to_rule : Action → List (ℕ × Item) → Bool
-goes_to_rule (spelled text) is = true
-goes_to_rule bar [] = false
-goes_to_rule bar ((n, rule asked at_end action) ∷ is) = false
-goes_to_rule bar ((n, rule asked (matching anchored head after) action) ∷ is) = true
-goes_to_rule bar ((n, i) ∷ is) = goes_to_rule bar is
+abbrev pub goes_to_rule : Option (List ℕ) → List (ℕ × Item) → Bool
+goes_to_rule (Some text) is = true
+goes_to_rule None [] = false
+goes_to_rule None ((n, rule asked at_end action) ∷ is) = false
+goes_to_rule None ((n, rule asked (matching anchored head after) action) ∷ is) = true
+goes_to_rule None ((n, i) ∷ is) = goes_to_rule None is
 
 module _ (names : List (List ℕ)) (how : ReadOptions) (stack : Bool) (defined : Definitions) where
   -- a rule but for its statements
@@ -57,25 +57,25 @@ module _ (names : List (List ℕ)) (how : ReadOptions) (stack : Bool) (defined :
   -- the rules and the `<<EOF>>` rules of the items
   abbrev pub RulesFrom : List (ℕ × Item) → List Rule → List EndRule → Type 0
   RulesFrom [] rules ends = (rules ≡ []) × (ends ≡ [])
-  RulesFrom ((n, rule asked at_end (spelled text)) ∷ is) rules ends =
+  RulesFrom ((n, rule asked at_end (Some text)) ∷ is) rules ends =
       (numbers : Option (List ℕ)) × (e : EndAction) × (others : List EndRule)
       × (numbers_of (number_from 0 names) (length names) asked ≡ Some numbers) × SpellsEndAction (known_in names stack) text e
       × (ends ≡ (numbers, e) ∷ others) × RulesFrom is rules others
-  RulesFrom ((n, rule asked at_end bar) ∷ is) rules ends = ⊥
+  RulesFrom ((n, rule asked at_end None) ∷ is) rules ends = ⊥
   RulesFrom ((n, rule asked (matching anchored head after) action) ∷ is) rules ends =
       (r : Rule) × (others : List Rule) × (rules ≡ r ∷ others) × (HasHead n asked anchored head after r × (goes_to_rule action is ≡ true)
       × IsActionOf (known_in names stack) action others r.statements) × RulesFrom is others ends
   RulesFrom ((n, i) ∷ is) rules ends = RulesFrom is rules ends
 
 -- the rule of an item with a pattern, where `rules` are those of the items after it
-abbrev pub IsRule : List (List ℕ) → ReadOptions → Bool → Definitions → ℕ → Conditions → Bool → List ℕ → Trailing → Action → List (ℕ × Item) → List Rule → Rule → Type 0
+abbrev pub IsRule : List (List ℕ) → ReadOptions → Bool → Definitions → ℕ → Conditions → Bool → List ℕ → Trailing → Option (List ℕ) → List (ℕ × Item) → List Rule → Rule → Type 0
 IsRule names how stack defined n asked anchored head after action is rules r =
     HasHead names how stack defined n asked anchored head after r × (goes_to_rule action is ≡ true) × IsActionOf (known_in names stack) action rules r.statements
 
 -- where some rule waits, the next rule is there, and is no `<<EOF>>` rule
 abbrev pub may_wait : List Rule → List (ℕ × Item) → Bool
 may_wait [] is = true
-may_wait (w ∷ ws) is = goes_to_rule bar is
+may_wait (w ∷ ws) is = goes_to_rule None is
 
 -- the rules and `<<EOF>>` rules that a text spells from the line n on, after rules that wait for the next action
 pub record Left (names : List (List ℕ)) (how : ReadOptions) (stack : Bool) (defined : Definitions) (n : ℕ) (t : List ℕ) (waiting rules : List Rule) (ends : List EndRule) : Type 0 where
