@@ -7,7 +7,7 @@ use Rattle.lex_semantics.specs.Rules.{Live}
 use Rattle.lex_semantics.specs.Fits.{Fits}
 use Rattle.lex_semantics.specs.Reports.{HasFit, Useless, BackWord}
 use Rattle.lex_semantics.specs.Examples as E
-use Rattle.lex_semantics.specs.Examples.{letter, letters_of, string, rule}
+use Rattle.lex_semantics.specs.Examples.{letter, string, rule}
 use Rattle.lex_semantics.proofs.ExampleWords.{is_a, is_b, is_c, letter_in, string_is, string_in, word_fits, fits_word}
 
 a : List ℕ

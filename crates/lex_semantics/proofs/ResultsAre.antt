@@ -1,5 +1,5 @@
 -- What an action does is what its result says.
-use Rattle.std.proofs.Common.{suc, arith, ◌≡◌, ℕ, Bool, true, false, List, [], ◌∷◌, ◌++◌, length, take, nat_lt, if◌then◌else◌, Option, Some, None, refl, ◌∙◌, ap, sym}
+use Rattle.std.proofs.Common.{suc, arith, ◌≡◌, ℕ, Bool, true, false, List, [], ◌∷◌, ◌++◌, length, take, nat_lt, if◌then◌else◌, Option, Some, None, refl, ◌∙◌, ap}
 use Rattle.std.proofs.lemmas.Bool.{cond-true, lt-ltb}
 use Rattle.lex_semantics.specs.Limits.{max_stack}
 use Rattle.lex_semantics.specs.Spec.{Statement, Echo, Print, Begin, More, Less, Reject, End, Push, Pop}

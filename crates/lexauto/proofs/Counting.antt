@@ -94,9 +94,6 @@ lasts_list ([] ∷ ks) = lasts_list ks
 lasts_list ((zero ∷ xs) ∷ ks) = lasts_list ks
 lasts_list ((suc n ∷ xs) ∷ ks) = xs ∷ lasts_list ks
 
-at_later : (k : Key) (ks : List Key) (i : ℕ) (q : Key) → At ks i q → At (k ∷ ks) (suc i) q
-at_later k ks i q h = h
-
 rest_apart : (k : Key) (ks : List Key) → Apart (k ∷ ks) → Apart ks
 rest_apart k ks h i j q a b = let e = h (suc i) (suc j) q a b in omega (arith, e)
 

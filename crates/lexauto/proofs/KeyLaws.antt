@@ -1,5 +1,5 @@
 -- Sets of numbers as keys, and the numbers that are marked.
-use Rattle.std.specs.Prelude.{◌≡◌, ◌↔◌, ℕ, zero, suc, ◌-◌, ◌<◌, Bool, true, false, ◌⊎◌, List, [], ◌∷◌, length, slice_index, ◌&&◌, nat_lt}
+use Rattle.std.specs.Prelude.{◌≡◌, ◌↔◌, ℕ, ◌-◌, ◌<◌, Bool, true, false, ◌⊎◌, List, [], ◌∷◌, length, slice_index, ◌&&◌, nat_lt}
 use Rattle.std.proofs.Common.{rules, inl, inr, refl, ap, sym, ◌∙◌, arith}
 use Rattle.std.proofs.lemmas.Bool.{cases_Bool, ltb-true}
 use Rattle.std.proofs.Math.Path.{fun_ext}
@@ -9,7 +9,6 @@ use Rattle.lex_semantics.specs.Spec.{Rule}
 use Rattle.lex_semantics.specs.Subsets.{all_positions}
 use Rattle.lexauto_positions.specs.Cursors.{Increases}
 use Rattle.lexauto_positions.specs.RuleFlow.{rules_left}
-use Rattle.lexauto.specs.Keys.{Key}
 use Rattle.lexauto.specs.Sets.{marked, tagged, starts_in, lasts_in}
 use Rattle.lexauto_positions.proofs.CursorLaws.{among_at, at_among}
 use Rattle.lexauto_positions.proofs.FlowMeaning.{both, and_is, no_true}
@@ -39,12 +38,6 @@ lasts_tagged (x ∷ xs) = refl
 pub no_lasts_tagged : (xs : List ℕ) → lasts_in (tagged 0 xs) ≡ []
 no_lasts_tagged [] = refl
 no_lasts_tagged (x ∷ xs) = refl
-
--- a key tells of starts or of last positions, and not of both
-pub starts_or_lasts : (k : Key) → (starts_in k ≡ []) ⊎ (lasts_in k ≡ [])
-starts_or_lasts [] = inl refl
-starts_or_lasts (zero ∷ xs) = inr refl
-starts_or_lasts (suc kind ∷ xs) = inl refl
 
 pub none_marked : (n i : ℕ) (xs : List ℕ) → xs ≡ [] → false ≡ marked n xs i
 none_marked n i xs e = from (nat_lt i n) ∙ ap (λ (ys : List ℕ). marked n ys i) (sym e)

@@ -1,8 +1,7 @@
 -- What the code of a step holds, against what a step is.
-use Rattle.std.specs.Prelude.{◌≡◌, ℕ, zero, suc, ◌<◌, ◌≤◌, ◌^◌, ◌&&◌, nat_le, Bool, true, false, List, [], ◌∷◌, ◌++◌, ◌+◌, cond, length, map, slice_get, slice_index, Some, Vec}
-use Rattle.std.proofs.Common.{refl, ap, sym, ◌∙◌, arith, Global, get_or, replicate, inl, inr}
-use Rattle.std.proofs.lemmas.Bool.{cases_lt, leb-true}
-use Rattle.std.proofs.lemmas.List.{get_or_push, get_or_append_left}
+use Rattle.std.specs.Prelude.{◌≡◌, ℕ, zero, suc, ◌<◌, ◌≤◌, ◌^◌, ◌&&◌, nat_le, Bool, true, false, List, [], ◌∷◌, cond, length, map, slice_get, slice_index, Some, Vec}
+use Rattle.std.proofs.Common.{refl, ap, sym, ◌∙◌, arith, Global, get_or, replicate}
+use Rattle.std.proofs.lemmas.Bool.{leb-true}
 use Rattle.std.proofs.Math.Path.{fun_ext}
 use Rattle.std.proofs.Math.Bool.{beq}
 use Rattle.std.specs.Bool.{Decides}
@@ -98,18 +97,6 @@ pub flag_none : (n q : ℕ) → flag (replicate n false) q ≡ false
 flag_none zero q = refl
 flag_none (suc n) zero = refl
 flag_none (suc n) (suc q) = flag_none n q
-
--- one more fact of a list of keys
-pub told_more : {A : Type 0} (none : A) (f : Key → A) (keys : List Key) (told : List A) (n : ℕ) (k : Key) (x : A) → length told ≡ n → slice_get keys n ≡ Some k → x ≡ f k
-    → ((i : ℕ) (q : Key) → i < n → slice_get keys i ≡ Some q → get_or told i none ≡ f q)
-    → (i : ℕ) (q : Key) → i < n + 1 → slice_get keys i ≡ Some q → get_or (told ++ x ∷ []) i none ≡ f q
-told_more none f keys told n k x len here is before i q lt at =
-    elim (cases_lt i n) [
-      | inl h ↦ (let low : i < length told = omega arith in rw (get_or_append_left told (x ∷ []) none i low) (before i q h at))
-      | inr h ↦ (let same : i ≡ n = omega arith in
-          let key : k ≡ q = (let e : Some k ≡ Some q = sym here ∙ ap (slice_get keys) (sym same) ∙ at in cc) in
-          rw (same, get_or_push told x none n len) (is ∙ ap f key))
-    ]
 
 -- where nothing is marked no key is read
 pub none_marked : (marks : List Bool) → length marks ≡ 0 → (l : List ℕ) → tagged 1 (filter (flag marks) l) ≡ []

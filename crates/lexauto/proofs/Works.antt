@@ -55,16 +55,6 @@ module _ (step : Key → ℕ → Key) where
     is_key : (keys : List Key) (i : ℕ) → i < length keys → At keys i (key_at keys i)
     is_key keys i h = slice_get-get_or keys i [] h
 
-    pub nothing_yet : (find : Key → Option ℕ) (limit : ℕ) → Finds find root → length root ≤ limit → Exploring step root find root [] limit
-    nothing_yet find limit f r = record {
-      finds = f;
-      starts = λ i k a. a;
-      only = λ i k a. (i, k, a, ([], tt, refl));
-      moves = λ j g. absurd (omega arith);
-      behind = omega arith;
-      room = r;
-    }
-
     grown : (keys new : List Key) (k : Key) → Found keys k new → (i : ℕ) (q : Key) → At keys i q → At new i q
     grown keys new k (inl h) i q a = rw h.2 a
     grown keys new k (inr h) i q a = rw h.1 (at_longer keys k i q a)

@@ -1,5 +1,5 @@
 -- Lists of noted blocks.
-use Rattle.std.proofs.Common.{◌≡◌, ℕ, ◌+◌, ◌<◌, ◌⊎◌, Bool, true, false, List, [], ◌∷◌, ◌++◌, length, get_or, ap, sym, subst, ◌∙◌, refl, inl, inr, arith, length-append, Vec, Global}
+use Rattle.std.proofs.Common.{◌≡◌, ℕ, ◌+◌, ◌<◌, ◌⊎◌, Bool, true, List, [], ◌∷◌, ◌++◌, length, get_or, ap, sym, subst, ◌∙◌, refl, inl, inr, arith, length-append, Vec, Global}
 use Rattle.std.proofs.lemmas.List.{get_or_append_left, get_or-append-add}
 use Rattle.std.specs.Prelude.{slice_index}
 use Rattle.lexauto_minimise.specs.Sources.{Has, HasBelow}
@@ -33,15 +33,6 @@ marks_then a b c P Q R f g split left right =
       ];
     }
 
-pub marks_as : (a b : Blocks) (P R : ℕ → Type 0) → Marks a P b → ((x : ℕ) → P x → R x) → ((x : ℕ) → R x → P x) → Marks a R b
-marks_as a b P R f to back = record {
-  block = f.block;
-  first = f.first;
-  marked = λ x h r. f.marked x h (back x r);
-  keeps = f.keeps;
-  only = λ x h m. elim (f.only x h m) [ inl o ↦ inl o | inr p ↦ inr (to x p) ];
-}
-
 pub below_more : (xs : List ℕ) (n t c : ℕ) → slice_index xs n ≡ t → HasBelow xs (n + 1) c → HasBelow xs n c ⊎ (c ≡ t)
 below_more xs n t c e (i, h, f) = elim (less i n h) [ inl g ↦ inl (i, g, f) | inr q ↦ inr (sym f ∙ ap (λ (j : ℕ). slice_index xs j) q ∙ e) ]
   where
@@ -63,19 +54,6 @@ module _ (old new : Blocks) (x : ℕ) (first : Bool) (block : new.block ≡ old.
     keeps = keeps;
     only = only;
   }
-
-  -- it is not the first of its block
-  pub noted_already : (touched : List ℕ) → first ≡ false → Notes touched old → Notes touched new
-  noted_already touched later notes = record {
-    all = λ c h t. elim (touches c t) [
-      | inl o ↦ notes.all c (omega (arith, same_count, h)) o
-      | inr (e, now) ↦ absurd (clash first now later)
-    ];
-    blocks = λ i h. let b = notes.blocks i h in omega (arith, b, same_count);
-  }
-    where
-      clash : (b : Bool) → b ≡ true → b ≡ false → ⊥
-      clash b h k = absurd cc
 
   -- its block is noted
   pub noted : (touched : List ℕ) → block_of old x < count old → Notes touched old → Notes (touched ++ block_of old x ∷ []) new

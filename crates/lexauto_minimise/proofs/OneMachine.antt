@@ -1,16 +1,15 @@
 -- Two least machines with canonical numbers that accept alike are the same.
-use Rattle.std.proofs.Common.{◌≡◌, ℕ, zero, suc, ◌+◌, ◌-◌, ◌*◌, ◌/◌, ◌%◌, ◌<◌, Bool, true, false, List, [], ◌∷◌, map, length, fold, refl, sym, ap, subst, ◌∙◌, inl, inr, arith}
+use Rattle.std.proofs.Common.{◌≡◌, ℕ, zero, suc, ◌+◌, ◌-◌, ◌*◌, ◌/◌, ◌%◌, ◌<◌, Bool, true, false, List, [], ◌∷◌, map, length, fold, refl, sym, ap, subst, ◌∙◌, arith}
 use Rattle.std.specs.Prelude.{slice_index, slice_index_or}
 use Rattle.std.specs.List.{range_with_len}
 use Rattle.std.proofs.lemmas.List.FromFn.{get_or-map-range_with_len, length-map-range_with_len}
 use Rattle.lex_semantics.specs.Text.{IsText}
 use Rattle.lex_semantics.specs.Machine.{Machine, state_after}
 use Rattle.lex_semantics.specs.MachineLaws.{StaysBelow}
-use Rattle.lexauto_dfa.specs.Numbering.{InOrder}
 use Rattle.lexauto_minimise.specs.Automata as A
 use Rattle.lexauto_minimise.specs.Least.{by_turns}
-use Rattle.lexauto_minimise.specs.LeastMachines.{IsReached, IsLeast, IsNumbered}
-use Rattle.lexauto_minimise.proofs.ByTurns.{turns_length, turns_below, turn_even, turn_odd}
+use Rattle.lexauto_minimise.specs.LeastMachines.{IsLeast, IsNumbered}
+use Rattle.lexauto_minimise.proofs.ByTurns.{turns_length, turn_even, turn_odd}
 use Rattle.lexauto_minimise.proofs.MachineLists.{starts_in, rows_in, lists_of, starts_by_turns, rows_len, row_at}
 use Rattle.lexauto_minimise.proofs.OneLeast.{one_table}
 

@@ -6,7 +6,7 @@ use Rattle.std.specs.Prelude.{nat_le, ◌&&◌, slice_get, Some}
 use Rattle.std.proofs.lemmas.Bool.{cases_Bool, cases_lt, cases_eq, and_parts, leb-true}
 use Rattle.std.proofs.lemmas.List.{take_at, take_more, get_or-set_same, get_or-set_other, length-map}
 use Rattle.lex_semantics.specs.Text.{Among, Ascending, flag}
-use Rattle.lex_semantics.specs.Spec.{Spec, Rule, rejects}
+use Rattle.lex_semantics.specs.Spec.{Spec, Rule}
 use Rattle.lex_semantics.specs.Reports.{Useless}
 use Rattle.lex_semantics.specs.Machine.{state_after}
 use Rattle.lex_semantics.specs.TableFor.{TableFor}

@@ -1,7 +1,6 @@
 -- Words in a text that grows.
-use Rattle.std.proofs.Common.{◌≡◌, ◌<◌, ◌≤◌, ◌-◌, ℕ, zero, suc, List, [], ◌∷◌, ◌++◌, length, Bool, true, false, cond, get_or, map, take, drop, sym, ap, refl, subst, ◌∙◌, arith, append_assoc}
+use Rattle.std.proofs.Common.{◌≡◌, ◌<◌, ◌≤◌, ◌-◌, ℕ, zero, suc, List, [], ◌∷◌, ◌++◌, length, Bool, true, false, cond, get_or, map, take, drop, sym, ap, refl, subst, ◌∙◌, arith}
 use Rattle.std.proofs.lemmas.List.{take_all, length-drop, take-append-le, drop-append-le, map_push}
-use Rattle.std.proofs.Math.Seq.{drop-append_seam}
 use Rattle.lexauto_reports.specs.Searching.{word_in}
 use Rattle.lexauto_reports.specs.Stretches.{AreWithin}
 use Rattle.lexauto_reports.specs.declared.groups.Group.{Group}
@@ -40,16 +39,6 @@ same_words text xs (g ∷ gs) a =
 -- the word that stands last
 pub last_word : (text : List ℕ) (s : ℕ) → take (length text - s) (drop s text) ≡ drop s text
 last_word text s = let n = length-drop s text in take_all (length text - s) (drop s text) (omega (arith, n))
-
--- a word at the end of the text, with a byte more
-pub longer_there : (text : List ℕ) (s e b : ℕ) → s ≤ e → e ≡ length text → drop s (text ++ b ∷ []) ≡ take (e - s) (drop s text) ++ b ∷ []
-longer_there text s e b h is =
-    drop-append-le s text (b ∷ []) (omega (arith, h, is))
-    ∙ ap (λ (w : List ℕ). w ++ b ∷ []) (sym (ap (λ (n : ℕ). take (n - s) (drop s text)) is ∙ last_word text s))
-
--- a word put behind the text, with a byte more
-pub longer_behind : (text w : List ℕ) (b : ℕ) → drop (length text) ((text ++ w) ++ b ∷ []) ≡ w ++ b ∷ []
-longer_behind text w b = ap (drop (length text)) (append_assoc text w (b ∷ [])) ∙ drop-append_seam text (w ++ b ∷ [])
 
 -- the groups with one more, whose word stands last
 pub words_more : (text xs w : List ℕ) (gs : List Group) (g : Group) → AreWithin (length text) gs → g.end ≡ length (text ++ xs) → drop g.start (text ++ xs) ≡ w

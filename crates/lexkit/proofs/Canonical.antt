@@ -1,9 +1,8 @@
 -- The packed tables of a least automaton are canonical.
-use Rattle.std.proofs.Common.{◌≡◌, ℕ, ◌-◌, ◌<◌, Bool, true, false, List, [], ◌∷◌, ◌++◌, map, length, ◌↔◌, sym, ap, subst, ◌∙◌, refl, arith}
+use Rattle.std.proofs.Common.{◌≡◌, ℕ, ◌-◌, true, false, List, [], ◌∷◌, ◌++◌, map, length, ◌↔◌, sym, ap, subst, refl, arith}
 use Rattle.std.specs.List.{flat_map, range_with_len}
 use Rattle.lex_semantics.specs.Text.{Among, Ascending, flag}
 use Rattle.lex_semantics.specs.Spec.{Spec}
-use Rattle.lex_semantics.specs.Machine.{Machine}
 use Rattle.lex_semantics.specs.TableFor.{TableFor}
 use Rattle.lexauto_dfa.specs.Automata.{bare, machine_in, machine_of}
 use Rattle.lexauto_dfa.specs.Numbering.{InOrder}

@@ -1,5 +1,5 @@
 -- The worked example of a canonical file: what its table is.
-use Rattle.std.proofs.Common.{◌≡◌, ◌≢◌, ◌↔◌, ◌⊎◌, ℕ, zero, suc, ◌+◌, ◌<◌, ◌≤◌, Bool, true, false, List, [], ◌∷◌, ◌++◌, length, map, fold, inl, inr, Some, None, refl, sym, ap, subst, ◌∙◌, arith}
+use Rattle.std.proofs.Common.{◌≡◌, ◌≢◌, ◌↔◌, ◌⊎◌, ℕ, zero, suc, ◌+◌, ◌<◌, ◌≤◌, Bool, true, false, List, [], ◌∷◌, ◌++◌, length, map, fold, inl, inr, Some, refl, sym, ap, subst, ◌∙◌, arith}
 use Rattle.std.specs.Prelude.{◌==◌, cond, codes, nat_le, slice_get, slice_index, slice_index_or, if◌then◌else◌}
 use Rattle.std.specs.List.{flat_map, range_with_len}
 use Rattle.std.proofs.lemmas.List.{append-nil}
@@ -10,11 +10,11 @@ use Rattle.lex_semantics.specs.Fits.{Fits}
 use Rattle.lex_semantics.specs.Rules.{Live}
 use Rattle.lex_semantics.specs.Machine.{Machine, state_after}
 use Rattle.lex_semantics.specs.TableFor.{TableFor, Accepted}
-use Rattle.lex_semantics.specs.Examples.{letters_of, rule, string}
-use Rattle.lex_semantics.proofs.ExampleWords.{is_a, string_is, string_in, word_fits, fits_word, fits_length}
+use Rattle.lex_semantics.specs.Examples.{rule, string}
+use Rattle.lex_semantics.proofs.ExampleWords.{is_a, string_is, string_in, word_fits, fits_word}
 use Rattle.lexauto_dfa.proofs.Below.{holds}
 use Rattle.lexauto_dfa.specs.Numbering.{InOrder}
-use Rattle.lexauto_minimise.specs.LeastMachines.{AreToldApart, IsLeast, IsNumbered, IsReached}
+use Rattle.lexauto_minimise.specs.LeastMachines.{AreToldApart, IsNumbered, IsReached}
 use Rattle.lextab_packed.specs.Table.{Table}
 use Rattle.lextab_packed.specs.Checks.{IsTable, IsRow}
 use Rattle.lextab_packed.specs.Steps.{step_of, machine_of_table}
@@ -22,8 +22,6 @@ use Rattle.lextab_packed.proofs.Places.{each_of}
 use Rattle.lextab_packing.specs.Packing.{IsPacked}
 use Rattle.lextab_packing.specs.PackingExamples.{by_a, twice_a, TwiceA}
 use Rattle.lextab_packing.proofs.Tabled.{packing_of, packed_of}
-use Rattle.lextab_file.specs.File.{file_of}
-use Rattle.lexkit.specs.Canonical.{IsCanonicalFor}
 use Rattle.lexkit.specs.CanonicalExamples.{two_as, table_of_two_as, CanonicalOfTwo}
 
 abbrev goes_on : ℕ → Bool

@@ -1,5 +1,5 @@
 -- Lists that are determined by their members or columns.
-use Rattle.std.proofs.Common.{◌≡◌, ℕ, ◌<◌, List, [], ◌∷◌, length, map, inl, inr, refl, sym, ap, ◌∙◌, ◌↔◌, ◌⊎◌, arith}
+use Rattle.std.proofs.Common.{◌≡◌, ℕ, ◌<◌, List, [], ◌∷◌, map, inl, inr, refl, sym, ◌∙◌, ◌↔◌, ◌⊎◌, arith}
 use Rattle.lex_semantics.specs.Text.{Among, Ascending}
 use Rattle.lextab_packed.specs.Table.{Slot}
 

@@ -1,23 +1,21 @@
 -- Canonical tables for specifications with the same rules are the same.
-use Rattle.std.proofs.Common.{◌≡◌, ℕ, zero, suc, ◌<◌, ◌≤◌, Bool, true, false, List, [], ◌∷◌, length, map, inl, inr, refl, sym, ap, subst, ◌∙◌, ◌↔◌, Some, arith}
+use Rattle.std.proofs.Common.{◌≡◌, ℕ, zero, suc, ◌<◌, Bool, true, false, List, [], ◌∷◌, length, refl, sym, ap, subst, ◌∙◌, Some, arith}
 use Rattle.std.specs.Prelude.{slice_get, slice_index, slice_index_or}
 use Rattle.std.proofs.Math.ListN.{get_or-map}
-use Rattle.std.proofs.lemmas.Bool.{cases_lt}
-use Rattle.std.proofs.lemmas.List.{ext_get_or, length-map}
+use Rattle.std.proofs.lemmas.List.{ext_get_or}
 use Rattle.std.proofs.lemmas.Option.{slice_get-get_or}
-use Rattle.lex_semantics.specs.Text.{IsText, Among, Ascending}
+use Rattle.lex_semantics.specs.Text.{IsText}
 use Rattle.lex_semantics.specs.Spec as Words
-use Rattle.lex_semantics.specs.Spec.{Spec, rejects}
+use Rattle.lex_semantics.specs.Spec.{Spec}
 use Rattle.lex_semantics.specs.SameRules.{SameRules}
 use Rattle.lex_semantics.specs.TableLaws.{SameAnswers}
-use Rattle.lex_semantics.specs.TableFor.{TableFor, Accepted}
 use Rattle.lex_semantics.specs.Machine.{Machine, state_after}
 use Rattle.lexauto_minimise.proofs.OneMachine.{IsMachine, AreSameMachines, one_machine}
 use Rattle.lextab_packed.specs.Checks.{IsTable}
 use Rattle.lextab_packed.specs.Steps.{step_of, machine_of_table}
 use Rattle.lextab_packed.proofs.Places.{step_dead, dead_accepts}
 use Rattle.lextab_packed.proofs.Machinery.{below_of_table}
-use Rattle.lextab_packed.specs.Table.{Table, ConditionOfTable, RuleOfTable, Row, Slot}
+use Rattle.lextab_packed.specs.Table.{Table, ConditionOfTable, RuleOfTable, Row}
 use Rattle.lextab_packed.proofs.Finding.{no_row, start_at, ending_at, cut_at, statements_at}
 use Rattle.lextab_packing.specs.Packing.{IsPacked}
 use Rattle.lextab_packing.specs.Columns.{Packing, packing_in}

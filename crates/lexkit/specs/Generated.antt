@@ -1,6 +1,6 @@
 -- What is made of the text of a specification. (Rules that cannot be matched: flex's warnings; states that back up: flex,
 -- Scanner Options: -b; the least automaton, its tables and the counts are this project's.)
-use Rattle.std.specs.Prelude.{◌≡◌, ◌↔◌, ℕ, ◌<◌, ◌≤◌, true, false, slice_index_or, List, ◌++◌, length, map, Result, Ok, Err, ⊤}
+use Rattle.std.specs.Prelude.{◌≡◌, ◌↔◌, ℕ, ◌<◌, true, false, slice_index_or, List, ◌++◌, length, map, Result, Ok, Err, ⊤}
 use Rattle.std.specs.List.Sorted.{IsPermutation}
 use Rattle.lex_semantics.specs.Text.{Among, Pairwise}
 use Rattle.lex_semantics.specs.Spec.{Spec, Rule}

@@ -6,7 +6,7 @@ use Rattle.lex_semantics.specs.Rules.{Rules}
 use Rattle.lex_semantics.specs.Acting as Scan
 use Rattle.lex_semantics.specs.Acting.{Ending, Status, StackFault}
 use Rattle.lex_semantics.specs.Run as Run
-use Rattle.lex_semantics.specs.Run.{Place, Turn, Turns}
+use Rattle.lex_semantics.specs.Run.{Place, Turns}
 use Rattle.lex_semantics.specs.Demand.{AsksAt, FarFrom, Far, Consistent, GoesOnFrom}
 use Rattle.lex_semantics.specs.Scanned.{AfterTurns, seen_turn}
 use Rattle.lex_semantics.specs.Machine.{Machine, rules_of_machine}

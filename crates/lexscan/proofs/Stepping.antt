@@ -6,7 +6,7 @@ use Rattle.lex_semantics.specs.Text.{at_line_start, byte_at}
 use Rattle.lex_semantics.specs.Acting as Scan
 use Rattle.lex_semantics.specs.Acting.{Ending, Status, StackFault}
 use Rattle.lex_semantics.specs.Run as Run
-use Rattle.lex_semantics.specs.Run.{Place, EndTurn, next_start}
+use Rattle.lex_semantics.specs.Run.{next_start}
 use Rattle.lex_semantics.specs.Scanned.{Scanned, Seen, seen_turn, then_turn}
 use Rattle.lex_semantics.specs.Machine.{Machine, rules_of_machine}
 use Rattle.lex_semantics.specs.MachineLaws.{MachineLaws}

@@ -4,7 +4,7 @@ use Rattle.lex_semantics.specs.Text.{IsText, BeginsWith, at_line_start}
 use Rattle.lex_semantics.specs.Rules.{Rules}
 use Rattle.lex_semantics.specs.Acting.{Ending, StackFault}
 use Rattle.lex_semantics.specs.Run as Scan
-use Rattle.lex_semantics.specs.Run.{Turns, Run}
+use Rattle.lex_semantics.specs.Run.{Run}
 use Rattle.lex_semantics.specs.Demand.{Consistent}
 use Rattle.lex_semantics.specs.Scanned.{AfterTurns, Scanned}
 use Rattle.lex_semantics.specs.Machine.{Machine, rules_of_machine}

@@ -10,7 +10,7 @@ use Rattle.lex_semantics.specs.Spec.{Statement, Echo}
 use Rattle.lex_semantics.specs.Rules.{statements_of}
 use Rattle.lex_semantics.specs.Candidates.{Candidate}
 use Rattle.lex_semantics.specs.Acting as Scan
-use Rattle.lex_semantics.specs.Acting.{Ending, Status}
+use Rattle.lex_semantics.specs.Acting.{Ending}
 use Rattle.lex_semantics.specs.ActionResults.{ActionResult, Done, Again, Over, act_result, settle, perform_results}
 use Rattle.lex_semantics.specs.Machine.{Machine, rules_of_machine}
 use Rattle.lex_semantics.specs.PlainMachine.{kept_by, match_of}

@@ -1,7 +1,7 @@
 -- Worked examples of table files, byte for byte.
 use Rattle.std.specs.Prelude.{◌≡◌, ℕ, List, [], ◌∷◌, ◌++◌, length, replicate}
 use Rattle.lex_semantics.specs.Spec.{Statement, Echo, Print, Push, Pop, Whole}
-use Rattle.lextab_packed.specs.Table.{ConditionOfTable, RuleOfTable, Row, Slot, Table}
+use Rattle.lextab_packed.specs.Table.{ConditionOfTable, RuleOfTable, Table}
 use Rattle.lextab_file.specs.File.{file_of}
 
 -- a condition whose end does nothing, where matches start in this state

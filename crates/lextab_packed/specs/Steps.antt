@@ -1,5 +1,5 @@
 -- How a table goes from state to state. (Aho, Sethi and Ullman, Compilers, 3.9.)
-use Rattle.std.specs.Prelude.{ℕ, ◌+◌, Bool, cond, ◌&&◌, ◌==◌, nat_lt, List, [], length, slice_index, slice_index_or, slice_get, option_map, unwrap_or}
+use Rattle.std.specs.Prelude.{ℕ, ◌+◌, Bool, cond, ◌&&◌, ◌==◌, nat_lt, [], length, slice_index, slice_index_or, slice_get, option_map, unwrap_or}
 use Rattle.lex_semantics.specs.Spec.{Whole}
 use Rattle.lex_semantics.specs.Machine.{Machine}
 use Rattle.lextab_packed.specs.Table.{Row, Slot, Table}

@@ -1,6 +1,6 @@
 -- Numbers in the order of their first uses, by places.
 use Rattle.std.specs.Prelude.{◌≡◌, ◌≢◌, ℕ, zero, suc, ◌<◌, ◌≤◌, List, [], ◌∷◌, length, slice_index}
-use Rattle.std.proofs.Common.{inl, inr, refl, sym, ◌∙◌, arith}
+use Rattle.std.proofs.Common.{inl, inr, arith}
 use Rattle.lexauto_dfa.specs.Numbering.{InOrder}
 use Rattle.lextab_packing.proofs.Orders.{same_or_not, less_or_not}
 

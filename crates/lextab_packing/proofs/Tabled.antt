@@ -4,7 +4,7 @@ use Rattle.std.proofs.Common.{inl, inr, refl, sym, ap, ◌∙◌, subst, arith}
 use Rattle.std.proofs.lemmas.List.{length-map, get_or-map, get_or_past}
 use Rattle.lexauto_dfa.specs.Numbering.{InOrder}
 use Rattle.lextab_packed.specs.Table.{Table, Row, Slot}
-use Rattle.lextab_packed.specs.Steps.{row_in, slot_at}
+use Rattle.lextab_packed.specs.Steps.{slot_at}
 use Rattle.lextab_packing.specs.Classes.{IsClassMap}
 use Rattle.lextab_packing.specs.Columns.{IsEntry, IsTaken, AreFree, IsSize, IsPacking, packing_in}
 use Rattle.lextab_packing.specs.Packing.{by_class, IsDefault, IsException, IsTakenIn, FitsAt, IsPacked}

@@ -1,4 +1,4 @@
-use Rattle.std.proofs.Common.{◌≡◌, Bool, ℕ, List, [], ◌++◌, sym, ap, subst}
+use Rattle.std.proofs.Common.{◌≡◌, ℕ, List, [], ◌++◌, sym, ap, subst}
 use Rattle.lex_semantics.specs.Machine.{rules_of_machine}
 use Rattle.lextab_packed.specs.Machines.{table_machine}
 use Rattle.lextab_packed.specs.Table.{Table}

@@ -1,4 +1,3 @@
-use Rattle.std.proofs.Common.{sym}
 use Rattle.lex_semantics.specs.Spec.{Spec}
 use Rattle.lexspec.specs.Views.{spec_of}
 use Rattle.lexkit.proofs.Canonical.{back_ups_of}

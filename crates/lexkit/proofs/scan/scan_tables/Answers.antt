@@ -1,5 +1,5 @@
 use Rattle.std.proofs.lemmas.Grind.{common_steps}
-use Rattle.std.proofs.Common.{◌≡◌, ◌∙◌, Bool, subst, arith}
+use Rattle.std.proofs.Common.{◌≡◌, Bool, subst, arith}
 use Rattle.std.specs.Prelude.{nat_lt}
 use Rattle.lex_semantics.specs.Machine.{Machine, rules_of_machine}
 use Rattle.lextab_packed.specs.Machines.{table_machine}

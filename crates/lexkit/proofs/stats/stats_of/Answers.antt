@@ -1,5 +1,5 @@
 use Rattle.std.proofs.lemmas.Grind.{common_steps}
-use Rattle.std.proofs.Common.{rules, ◌≡◌, ◌≤◌, ◌<◌, ◌^◌, ◌∙◌, length, map, min, arith, ap, refl, sym, subst}
+use Rattle.std.proofs.Common.{rules, ◌≡◌, ◌≤◌, ◌<◌, ◌^◌, ◌∙◌, length, map, min, arith, ap, sym, subst}
 use Rattle.lex_semantics.specs.Subsets.{all_positions}
 use Rattle.std.proofs.lemmas.List.{length-map}
 use Rattle.lexspec.specs.RuleViews.{rule_of}

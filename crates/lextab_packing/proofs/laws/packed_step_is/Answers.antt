@@ -1,4 +1,4 @@
-use Rattle.std.proofs.Common.{◌∙◌, ◌≡◌, length, sym, arith}
+use Rattle.std.proofs.Common.{◌∙◌, ◌≡◌, length, arith}
 use Rattle.lextab_packing.specs.Columns.{packing_in}
 use Rattle.lextab_packing.proofs.Columns.{steps_as_packed}
 use Rattle.lextab_packing.proofs.Steps.{goes_as}
