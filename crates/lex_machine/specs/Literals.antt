@@ -1,4 +1,4 @@
--- The bytes that an action writes beside the text. (POSIX, Actions in lex; the limit on them is own.)
+-- The bytes that an action writes beside the text. (POSIX, Actions in lex.)
 use Rattle.std.specs.Prelude.{ℕ, suc, length, List, [], ◌∷◌, ⊤}
 use Rattle.lex_semantics.specs.Spec.{Statement}
 use Rattle.lex_semantics.specs.Literals.{literal_of}

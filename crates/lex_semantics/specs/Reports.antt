@@ -1,4 +1,5 @@
--- What the reports say: rules that cannot be matched, and states that back up. (flex, Scanner Options: -b; flex, Performance Considerations.)
+-- What the reports say: rules that cannot be matched, and states that back up. (flex, Diagnostics; flex, Performance
+-- Considerations; flex, Scanner Options: -b.)
 use Rattle.std.specs.Prelude.{◌≡◌, ℕ, ◌≤◌, ◌<◌, Bool, false, List, length}
 use Rattle.lex_semantics.specs.Text.{IsText}
 use Rattle.lex_semantics.specs.Spec.{Spec, rejects}

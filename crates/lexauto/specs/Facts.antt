@@ -12,7 +12,7 @@ use Rattle.lex_semantics.specs.Reading.{is_empty}
 abbrev pub accepted_by : Spec → Key → List ℕ
 accepted_by S k = chosen (rejects S) (rules_left S.rules (marked (all_positions S.rules) (lasts_in k)) 0 0)
 
--- whether some byte leads on from a state
+-- whether some position is next after a state's
 abbrev pub goes_on_by : Spec → Key → Bool
 goes_on_by S k = not (is_empty (followers_in S.rules (all_positions S.rules) k))
 

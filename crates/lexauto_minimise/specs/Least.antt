@@ -39,7 +39,7 @@ pub record AreSame (p q : Parts) : Type 0 where
   pub accepts : lists_in p ≡ lists_in q
   pub goes_on : p.goes_on.items ≡ q.goes_on.items
 
--- the law by which there is one least automaton, and so one file, for each specification
+-- the law by which there is one least automaton at most, numbered so, that accepts alike
 abbrev pub OneAutomaton : Type 0
 OneAutomaton = (d e : Dfa) → IsLeast (lists_of d) → IsLeast (lists_of e) → IsNumbered (lists_of d) → IsNumbered (lists_of e)
     → conditions_of d ≡ conditions_of e → AcceptsAs (lists_of d) (lists_of e) → AreSame (lists_of d) (lists_of e)

@@ -1,4 +1,4 @@
--- Worked examples of least automata: one for the rule `a`, and one with a state too many.
+-- Worked examples of least automata: that of the rule `a`, one with two states too many, and one with its states exchanged.
 use Rattle.std.specs.Prelude.{◌≡◌, ℕ, true, false, List, [], ◌∷◌, ◌++◌, replicate}
 use Rattle.lexauto_dfa.specs.Parts.{lists_in}
 use Rattle.lexauto_dfa.specs.declared.dfa.Parts.{Parts}

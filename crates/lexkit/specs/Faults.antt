@@ -86,8 +86,8 @@ fault_words faults.Output = codes "write fault"
 abbrev pub line_of : List ℕ → List ℕ
 line_of words = codes "lex: " ++ words ++ (10 ∷ [])
 
--- The statuses: 64 a command line, 65 a specification, its automaton or a table, 66 a file that cannot be read, 71 want of memory,
--- 74 a read or a write.
+-- The statuses: 64 a command line, 65 a specification, its automaton or a table, 66 a file that cannot be read, 70 a fault of the stack of
+-- conditions, 71 want of memory, 74 a read, a write or too many reads.
 abbrev pub spec_status : SpecError → ℕ
 spec_status e = if lacks_memory e.kind then 71 else 65
 

@@ -49,14 +49,14 @@ abbrev pub is_nothing : Option Obstacle → Bool
 is_nothing None = true
 is_nothing (Some o) = false
 
--- What was told of cuts: nothing where pieces may be scanned apart, and else the line of what stands against it; of it a front at `Err`.
+-- What was told of cuts: nothing, and then pieces may be scanned apart, or the line of an obstacle that is there; of it a front at `Err`.
 pub record CutTold {K : Type 0} (wrote : K → List ℕ → K → Type 0) (M : Machine) (given : Option Spec) (s t : K) (answer : Result Bool LookError) : Type 0 where
   pub found : Option Obstacle
   pub none : found ≡ None → ScansApart (rules_of_machine M)
   pub some : IfSome found (Hinders M)
   pub written : Appended (λ xs. wrote s xs t) (cut_line given found) answer
 
--- the answer says whether they may; where memory runs out the sink is as it was
+-- the answer says whether no obstacle was found; where memory runs out the sink is as it was
 abbrev pub CutsOf : {K : Type 0} → (K → List ℕ → K → Type 0) → Machine → Option Spec → K → K → Result Bool LookError → Type 0
 CutsOf wrote M given s t (Ok may) = (x : CutTold wrote M given s t (Ok may)) × (may ≡ is_nothing x.found)
 CutsOf wrote M given s t (Err Write) = CutTold wrote M given s t (Err Write)

@@ -14,7 +14,7 @@ abbrev pub SameScanAlike : Type 0
 SameScanAlike = (options : Options) (g h : Given) (a b : Side) (order : List ℕ) → IsSideOf options g a → IsSideOf options h b
     → Holds a b order Same → ScanAlike a.machine b.machine
 
--- Table files of the same bytes are found to do the same, and nothing else holds of them.
+-- Of table files of the same bytes nothing else holds than that they do the same.
 abbrev pub EqualAreSame : Type 0
 EqualAreSame = (options : Options) (g h : Given) (a b : Side) (order : List ℕ) (told : Comparison) → is_table_file g.bytes.now ≡ true
     → g.bytes.now ≡ h.bytes.now → IsSideOf options g a → IsSideOf options h b → Holds a b order told → told ≡ Same

@@ -1,4 +1,4 @@
--- What a scan that tells its matches leaves. (flex, Options: `-d`. What is taken from the source, the limits and the refusals are this
+-- What a scan that tells its matches leaves. (flex, Scanner Options: `-d`. What is taken from the source, the limits and the refusals are this
 -- project's.)
 use Rattle.std.specs.Prelude.{◌≡◌, ℕ, Bool, true, List, Result, Ok, Err, ⊤}
 use Rattle.lex_semantics.specs.Rules.{rules_of}

@@ -133,9 +133,9 @@ fn tell_cuts<K: Sink>(alloc: Global, side: &Side, sink: &mut K) -> Result<bool, 
     }
 }
 
-/// Says whether an input may be cut after any newline, and its pieces scanned apart, by what a file stands for: a
-/// specification or a table file. Where it may not, it writes a line that says why. Where the file is refused, nothing
-/// is written.
+/// Looks for an obstacle to cutting inputs after a newline, by what a file stands for: a specification or a table file.
+/// Where none is found, the pieces may be scanned apart. Else it writes the obstacle's line, and the pieces may or may not
+/// be. Where the file is refused, nothing is written.
 pub fn tell_lines<K: Sink>(
     alloc: Global,
     bytes: &[u8],

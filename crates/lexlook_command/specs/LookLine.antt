@@ -121,7 +121,7 @@ IsLookOf (Some p) look = ((p.0 ≡ codes "picture") × AsksToDraw p.1 look)
     ⊎ ((p.0 ≡ codes "words") × AsksToFind p.1 look)
     ⊎ ((p.0 ≡ codes "trace") × AsksToTrace p.1 look)
 
--- The words ask for the help if one of them is `--help`. Else they are a line of the program's, and ask for what the
+-- The words ask for the help if one of them is `--help`, before any `--`. Else they are a line of the program's, and ask for what the
 -- subcommand does.
 abbrev pub AsksFor : List Text → Look → Type 0
 AsksFor words Help = has_help words ≡ true

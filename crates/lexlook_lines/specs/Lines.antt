@@ -56,7 +56,7 @@ after_line M c line w = state_after M c line (w ++ 10 ∷ [])
 abbrev pub EndsLineAfter : Machine → ℕ → Bool → List ℕ → Type 0
 EndsLineAfter M c line w = (i : ℕ) → Among (M.accepts (after_line M c line w)) i → may_keep_last (M.cut i) ≡ true → ends_line c (M.statements i) ≡ true
 
--- a newline alone is taken by some rule, and not by the default rule (POSIX, lex, Rules)
+-- a newline alone is taken by some rule, and not by the default rule (POSIX, Actions in lex)
 pub record TakesLine (M : Machine) (c : ℕ) (line : Bool) : Type 0 where
   pub rule : ℕ
   pub accepted : Among (M.accepts (after_line M c line [])) rule

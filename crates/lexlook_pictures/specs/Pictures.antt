@@ -12,7 +12,7 @@ quoted_byte b = if (b == 34) || (b == 92) then 92 ∷ b ∷ [] else b ∷ []
 abbrev pub quoted : List ℕ → List ℕ
 quoted text = flat_map quoted_byte text
 
--- a start: a node with the condition's name, and an arrow from it, unless nothing is accepted from the state
+-- a start: a node with the condition's name, and an arrow from it, unless the state is the dead one
 abbrev pub arrow : List ℕ → ℕ → List ℕ
 arrow node s = if s == 0 then [] else concat (node ∷ codes " -> " ∷ decimal s ∷ codes ";\n" ∷ [])
 

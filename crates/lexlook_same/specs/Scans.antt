@@ -10,6 +10,6 @@ use Rattle.lexlook_same.specs.Same.{number_in}
 abbrev pub ScanAlike : Machine → Machine → Type 0
 ScanAlike M N = (x written : List ℕ) (e : Ending) → IsText x → Run (rules_of_machine M) x written e ↔ Run (rules_of_machine N) x written e
 
--- Condition 0, in which a scan begins, has the number 0 in the second machine too (POSIX, lex, Rules in lex: INITIAL).
+-- Condition 0, in which a scan begins, has the number 0 in the second machine too (POSIX, Actions in lex: BEGIN).
 abbrev pub BeginTogether : List ℕ → Type 0
 BeginTogether order = number_in order 0 ≡ 0

@@ -1,4 +1,4 @@
--- The lines of the matches of a scan. (flex, Options: `-d`; POSIX, Actions in lex: the longest match, then the earliest rule, REJECT goes
+-- The lines of the matches of a scan. (flex, Scanner Options: `-d`; POSIX, Actions in lex: the longest match, then the earliest rule, REJECT goes
 -- on to the next.)
 use Rattle.std.specs.Prelude.{◌≡◌, ℕ, zero, suc, List, [], ◌∷◌, ◌++◌, ◌⊎◌, drop, take, Option, Some, None, slice_get}
 use Rattle.lex_semantics.specs.Acting.{Ending, Acting}

@@ -113,7 +113,7 @@ OverSeries =
     × Is over_series (codes "c|ab{2}") (Alt (trees (c ∷ Repeat ab 2 (Some 2) ∷ [])))
     × Is over_series (codes "a*b") (Cat (trees (Star a ∷ b ∷ [])))
 
--- `{D}+`: a name stands for its text as if in parentheses.
+-- `{D}c`: a name stands for its text as if in parentheses.
 abbrev pub Named : Type 0
 Named =
     (definitions : Definitions) → get definitions (codes "D") ≡ Some (codes "a|b")
@@ -140,7 +140,7 @@ Bounds =
     × IsNone plain (enclosed 65)
 
 -- Nothing, an operator or a bar without an item, parentheses without others, an interval whose bounds are out of order or
--- pass 255, a class and a text in quotes without an end, a range that is out of order, and a class without a byte.
+-- pass 255, a class and a text in quotes without an end, a range that is out of order, and a blank outside quotes.
 abbrev pub Refused : Type 0
 Refused =
     IsNone plain []

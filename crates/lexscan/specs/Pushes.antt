@@ -74,7 +74,7 @@ abbrev pub TurnsOver : {S K : Type 0} → Machine → (S → List ℕ → S → 
 TurnsOver {S} M gave wrote s s' t t' old new result =
     (got : List ℕ) × (put : List ℕ) × (mid : S) × gave s got mid × wrote t put t' × TurnsTo M gave mid s' old new got put result
 
--- What was fed and what was written, after some turns: they asked for the first of the bytes fed, and the others wait.
+-- What was fed and what was written, after some turns: they asked for the first of the bytes fed, and the others wait, until the scan ends.
 pub record Fed (M : Machine) (fed out : List ℕ) (s : State) (waiting : List ℕ) : Type 0 where
   pub turns : ℕ
   pub given : List ℕ
@@ -92,13 +92,13 @@ RunsTo R fed out ending = (x : List ℕ) → IsText x → BeginsWith x fed → R
 abbrev pub WritesFirst : Rules → List ℕ → List ℕ → Type 0
 WritesFirst R fed out = (x : List ℕ) → IsText x → BeginsWith x fed → (w : List ℕ) (ending : Ending) → Run R x w ending → BeginsWith w out
 
--- After a feed these bytes were fed, and these were written: the next turn asks for more, or the scan has ended, or a turn was refused.
+-- After a feed these bytes were fed, and these were written: the next turn asks for more, or the scan has ended, or the feed was refused.
 abbrev pub AfterFeed : Machine → List ℕ → List ℕ → State → List ℕ → Result Turn RunError → Type 0
 AfterFeed M fed out s waiting (Ok Turn.Went) = (h : Fed M fed out s waiting) × (s.ended ≡ None) × (IsText fed → AsksForMore (rules_of_machine M) h.turns fed)
 AfterFeed M fed out s waiting (Ok (Turn.Ended status)) = Fed M fed out s waiting × (s.ended ≡ Some status) × RunsTo (rules_of_machine M) fed out (Status status)
 AfterFeed M fed out s waiting (Err e) = WritesFirst (rules_of_machine M) fed out × (e ≡ Stack → RunsTo (rules_of_machine M) fed out StackFault)
 
--- After the end of the bytes fed: what was written is the run of them, or begins it where a turn was refused.
+-- After the end of the bytes fed: what was written is the run of them, or begins it where the call was refused.
 abbrev pub AfterFinish : Rules → List ℕ → List ℕ → Result ℕ RunError → Type 0
 AfterFinish R fed out (Ok status) = IsText fed → Run R fed out (Status status)
 AfterFinish R fed out (Err e) = IsText fed → ((w : List ℕ) (ending : Ending) → Run R fed w ending → BeginsWith w out) × (e ≡ Stack → Run R fed out StackFault)

@@ -38,7 +38,7 @@ module _ {M : Type 0} {of_machine : Machine.Ghosts M} where
   abbrev pub push_machine : PushScanner M of_machine → M
   push_machine s = s.machine
 
-  -- the bytes that were fed and that no turn has asked for
+  -- the bytes that were fed and that no turn has asked for, until the scan ends or is refused
   abbrev pub push_waiting : PushScanner M of_machine → List ℕ
   push_waiting s = s.waiting.items
 

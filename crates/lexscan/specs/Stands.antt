@@ -75,7 +75,7 @@ pub record Fell (M : Machine) (n : ℕ) (given got out : List ℕ) (s : State) (
 abbrev pub NoneAfterEnd : State → State → List ℕ → Type 0
 NoneAfterEnd old new got = old.reading.at_end ≡ true → (got ≡ []) × (new.reading.at_end ≡ true)
 
--- What a turn tells of its match, where the facts hold for some turns before it.
+-- What a turn before the end tells of its match, where the facts hold for some turns before it.
 abbrev pub TurnTells : Machine → State → State → List ℕ → Type 0
 TurnTells M old new got = old.ended ≡ None → (n : ℕ) (given out : List ℕ) → (h : Stands M n given out old) →
     TellsMatch (rules_of_machine M) (given ++ got) new.reading.at_end (state_of out h.start old).place (match_in new) (text_of (match_in new) new)

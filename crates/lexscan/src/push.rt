@@ -168,7 +168,7 @@ pub struct PushScanner<M: Machine> {
     path: StatePath,
     memo: Memo,
     state: State,
-    /// The bytes that were fed and that no turn has asked for.
+    /// The bytes that were fed and that no turn has asked for, until the scan ends or is refused.
     waiting: Vec<u8>,
     /// The machine's state after all of them, where the next match asks for more.
     asking: Option<u32>,

@@ -62,7 +62,7 @@ keyword_file =
 abbrev pub KeywordFile : Type 0
 KeywordFile = (file_of keyword_table ≡ keyword_file) × (length keyword_file ≡ 471)
 
--- a table whose one rule uses the stack has version 2, and each statement a byte of its own
+-- the parts of a table, without rows and classes, whose one rule uses the stack: version 2, and each statement a byte of its own
 abbrev pub stack_table : Table
 stack_table = record {
   conditions = plain_condition 0 ∷ [];

@@ -8,7 +8,7 @@ use Rattle.liblex_calls.specs.declared.answer.Answer.TheVariants as answers
 use Rattle.liblex_calls.specs.declared.stage.Stage.{Stage}
 use Rattle.liblex_calls.specs.declared.stage.Stage.TheVariants as stages
 
--- after a refusal; a sink over memory fails only where memory is refused
+-- after a refusal; any other fault counts as want of memory, as a sink over memory fails only where memory is refused
 abbrev pub fault_of : RunError → Stage
 fault_of runs.Stack = stages.Stack
 fault_of runs.TooManyReads = stages.TooManyReads
