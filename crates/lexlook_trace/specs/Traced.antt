@@ -1,5 +1,5 @@
 -- The specification that tells its matches. (flex, Scanner Options: `-d`. What becomes of statements that write is this project's.)
-use Rattle.std.specs.Prelude.{ℕ, suc, ◌&&◌, Bool, true, false, nat_lt, List, [], ◌∷◌, ◌++◌, length, map, Some, None, codes}
+use Rattle.std.specs.Prelude.{ℕ, suc, ◌&&◌, Bool, true, false, nat_lt, List, [], ◌∷◌, ◌++◌, length, map, Some, None, codes, decimal}
 use Rattle.std.specs.List.{concat, filter}
 use Rattle.lex_semantics.specs.ByteSets.{complement, empty_set}
 use Rattle.lex_semantics.specs.Limits.{max_rules}
