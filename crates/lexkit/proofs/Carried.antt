@@ -46,7 +46,8 @@ module _ (M : Machine) (laws : MachineLaws M) (S : Spec) (sound : IsSound S) (ta
       front = λ x k w d r. h.gave_up.front x k w d ((same_run M laws S sound table x k.0 w d).1 r);
       within = λ x k t far asked after. h.gave_up.within x k t far asked ((same_after M laws S sound table x k.0 (suc h.turns) t far asked).1 after);
       whole = h.gave_up.whole;
-      asks_end = λ is. (let q = h.gave_up.asks_end is in (q.0, λ t far asked after. q.1 t far asked ((same_after M laws S sound table (h.had ++ h.got) h.gave_up.text (suc h.turns) t far asked).1 after)));
+      not_before = h.gave_up.not_before;
+      asks_end = λ is t far asked after. h.gave_up.asks_end is t far asked ((same_after M laws S sound table (h.had ++ h.got) h.gave_up.text (suc h.turns) t far asked).1 after);
     };
     too_many = h.too_many;
     fault = λ is. ran_to given out at_end StackFault (h.fault is);

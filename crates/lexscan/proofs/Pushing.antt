@@ -112,7 +112,7 @@ module _ (M : Machine) (n : ℕ) (given got out out' : List ℕ) (old mid new : 
       }
 
   pub asks_more : AsksForMore (rules_of_machine M) n all
-  asks_more = (fell.gave_up.asks_end refl).1
+  asks_more = fell.gave_up.asks_end (inl refl)
 
 -- some turns, and then some more
 pub made_then : (M : Machine) (old mid new : State) (a b : ℕ) (got put got' put' : List ℕ) → MadeTurns M old mid a got put → MadeTurns M mid new b got' put' → MadeTurns M old new (b + a) (got ++ got') (put ++ put')

@@ -28,7 +28,7 @@ use Rattle.lexscan_window.specs.Ends.{IsEarly}
 use Rattle.lexscan.specs.Moves.{Refused}
 use Rattle.lexscan.specs.Stands.{state_of, Stands, Fell, RanTo}
 use Rattle.lexscan.proofs.Outcomes.{good, seen_outcome}
-use Rattle.lexscan.proofs.Lifting.{seen_here, dead_here, asks_here, inside_here, wants_here}
+use Rattle.lexscan.proofs.Lifting.{seen_here, dead_here, live_here, asks_here, inside_here, wants_here}
 
 -- an input that goes on from more goes on from less
 pub earlier : (given got : List ℕ) (a b : Bool) (x : List ℕ) → (a ≡ true → got ≡ []) → (a ≡ true → b ≡ true) → GoesOnFrom (given ++ got) b x → GoesOnFrom given a x
@@ -98,13 +98,48 @@ module _ {S K : Type 0} (M : Machine) (laws : MachineLaws M) (gave : S → List 
   abbrev pub Within : Type 0
   Within = (x : List ℕ) → Consistent (given ++ m.took.got) new.reading.at_end x → (t : Run.State) (far : ℕ) (asked : Bool) → AfterTurns (rules_of_machine M) x (suc n) t far asked → length (given ++ m.took.got) ≤ far
 
+  -- the end is asked for
+  abbrev pub AsksEnd : Type 0
+  AsksEnd = (t : Run.State) (far : ℕ) (asked : Bool) → AfterTurns (rules_of_machine M) (given ++ m.took.got) (suc n) t far asked → asked ≡ true
+
+  over_these : AfterTurns (rules_of_machine M) (given ++ m.took.got) n (state_of out h.start old) (length given) old.reading.at_end
+  over_these = after_before (given ++ m.took.got) (is_text_append given m.took.got h.text m.took.text, just_these (given ++ m.took.got) new.reading.at_end)
+
+  -- it was answered before this turn, if at all
+  pub kept_end : new.reading.at_end ≡ old.reading.at_end → new.reading.at_end ≡ true → AsksEnd
+  kept_end same ended = (λ t far asked after. after.end.1 (inl (over_these.end.0 (sym same ∙ ended))))
+
+  pub unmet_end : Unmet M old.place old.reading new.reading → new.reading.at_end ≡ true → AsksEnd
+  unmet_end (inl wants) ended = absurd (no (sym ended ∙ wants.reading))
+    where
+      no : true ≡ false → ⊥
+      no e = cc
+  unmet_end (inr same) ended = kept_end same.1 ended
+
+  -- the turn is at the end
+  pub end_end : LookedAtEnd old.place old.reading new.reading → new.reading.at_end ≡ true → AsksEnd
+  end_end looked ended = (λ t far asked after. after.end.1 (inr (state_of out h.start old, over_these.turns, ap ending_of going, inl (omega (arith, size, looked.all, longer, h.covered)))))
+
+  -- the match asks for the byte after those held
+  pub match_end : (path : List ℕ) → Looked M old.place old.reading new.reading path → new.reading.at_end ≡ true → AsksEnd
+  match_end path looked ended = from looked.stops
+    where
+      from : ((M.goes_on looked.state ≡ false) × (new.reading.at_end ≡ old.reading.at_end)) ⊎ ((M.goes_on looked.state ≡ true) × (old.place.at + looked.reach ≡ length new.reading.window.bytes) × (new.reading.at_end ≡ true)) → AsksEnd
+      from (inl q) = kept_end q.1 ended
+      from (inr q) = (λ t far asked after.
+          let g : List ℕ = given ++ m.took.got in
+          let p : Place = record { start = h.start; at = h.start + old.place.at; condition = old.place.condition; stack = old.acting.stack } in
+          let live : AsksAt (rules_of_machine M) g p looked.reach = live_here M laws given m.took.got h.start old.place old.acting.stack new.reading.window.bytes h.covered win h.line looked.reach looked.state path looked.some looked.so_far q.0 in
+          let fits : h.start + old.place.at + looked.reach ≤ length g = inside_here M laws given m.took.got h.start old.place old.acting.stack new.reading.window.bytes h.covered win h.line looked.reach looked.state path looked.some looked.so_far in
+          let last : looked.reach ≡ length g - (h.start + old.place.at) = omega (arith, size, q.1, fits) in
+          after.end.1 (inr (state_of out h.start old, over_these.turns, ap ending_of going, inr (omega (arith, fits, looked.some), subst (AsksAt (rules_of_machine M) g p) last live))))
+
   pub wants_end : Wants M old.place new.reading → (old.reading.at_end ≡ false) × ((t : Run.State) (far : ℕ) (asked : Bool) → AfterTurns (rules_of_machine M) (given ++ m.took.got) (suc n) t far asked → asked ≡ true)
   wants_end wants =
       let g : List ℕ = given ++ m.took.got in
       let more : WantsMore (rules_of_machine M) g (record { start = h.start; at = h.start + old.place.at; condition = old.place.condition; stack = old.acting.stack }) =
       wants_here M laws given m.took.got h.start old.place old.acting.stack new.reading.window.bytes h.covered win h.line new.reading refl wants in
-      let over = after_before g (is_text_append given m.took.got h.text m.took.text, just_these g new.reading.at_end) in
-      (not_before old.reading.at_end refl, λ t far asked after. wanted_end (rules_of_machine M) g n (state_of out h.start old) t far asked over.turns (ap ending_of going) more after)
+      (not_before old.reading.at_end refl, λ t far asked after. wanted_end (rules_of_machine M) g n (state_of out h.start old) t far asked over_these.turns (ap ending_of going) more after)
     where
       no : true ≡ false → ⊥
       no p = cc
@@ -125,7 +160,7 @@ module _ {S K : Type 0} (M : Machine) (laws : MachineLaws M) (gave : S → List 
       omega (arith, longer, took, ap length same, le))
 
   pub unmet_within : Unmet M old.place old.reading new.reading → Within
-  unmet_within (inr same) = nothing_within same
+  unmet_within (inr same) = nothing_within same.0
   unmet_within (inl wants) = (λ x k t far asked after.
       let g : List ℕ = given ++ m.took.got in
       let split = with_rest g new.reading.at_end x k.1 in
@@ -192,9 +227,9 @@ module _ {S K : Type 0} (M : Machine) (laws : MachineLaws M) (gave : S → List 
           let left : length (drop (h.start + old.place.at) g) ≡ length g - (h.start + old.place.at) = length-drop (h.start + old.place.at) g in
           inl (ap (λ z. drop looked.reach (drop (h.start + old.place.at) g) ++ z) none ∙ append-nil (drop looked.reach (drop (h.start + old.place.at) g)) ∙ drop_all looked.reach (drop (h.start + old.place.at) g) (omega (arith, size, left, q.1)))
 
-  pub fell : new.failed ≡ true → (error ≡ TooManyReads → Wants M old.place new.reading) → (w : List ℕ) → Fronts w → Within →
+  pub fell : new.failed ≡ true → (error ≡ TooManyReads → Wants M old.place new.reading) → (w : List ℕ) → Fronts w → Within → (new.reading.at_end ≡ true → AsksEnd) →
       (error ≡ Stack → (r : RanTo (rules_of_machine M) (given ++ m.took.got) (out ++ w) new.reading.at_end StackFault) × (r.turns ≡ suc n)) → (IsEarly error → w ≡ []) → Fell M n given m.took.got (out ++ w) new error
-  fell failed wants w front within fault quiet = record {
+  fell failed wants w front within ended fault quiet = record {
     failed = failed;
     gave_up = record {
       text = is_text_append given m.took.got h.text m.took.text;
@@ -204,7 +239,8 @@ module _ {S K : Type 0} (M : Machine) (laws : MachineLaws M) (gave : S → List 
       going = ap ending_of going;
       front = front;
       within = within;
-      asks_end = λ is. wants_end (wants is);
+      not_before = λ is. (wants_end (wants is)).0;
+      asks_end = λ asks. elim asks [ inl is ↦ (wants_end (wants is)).1 | inr is ↦ ended is ];
       whole = λ sink stack. sym (append-nil out) ∙ ap (λ z. out ++ z) (sym (quiet (sink, stack)));
     };
     held = sym win;

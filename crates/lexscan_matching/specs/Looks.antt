@@ -43,4 +43,4 @@ pub record Wants (M : Machine) (p : TextPlace) (new : Reading) : Type 0 where
 
 -- A byte was wanted and not had, or there was no memory for the state after one that was held.
 abbrev pub Unmet : Machine → TextPlace → Reading → Reading → Type 0
-Unmet M p old new = Wants M p new ⊎ (new.window.bytes ≡ old.window.bytes)
+Unmet M p old new = Wants M p new ⊎ ((new.window.bytes ≡ old.window.bytes) × (new.at_end ≡ old.at_end))

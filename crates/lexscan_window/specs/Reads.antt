@@ -28,7 +28,7 @@ IsWanted old new next = (new.window.bytes ≡ old.window.bytes) × (length new.w
 
 -- There was no memory for the state after a byte that is held.
 abbrev pub IsShort : Reading → Reading → ℕ → Type 0
-IsShort old new next = (new.window.bytes ≡ old.window.bytes) × (next < length old.window.bytes)
+IsShort old new next = (new.window.bytes ≡ old.window.bytes) × (next < length old.window.bytes) × (new.at_end ≡ old.at_end)
 
 -- whether the end was answered
 abbrev pub is_end : {T E : Type 0} → Result (Option T) E → Bool
