@@ -45,6 +45,7 @@ module _ (M : Machine) (laws : MachineLaws M) (S : Spec) (sound : IsSound S) (ta
       going = h.gave_up.going;
       front = λ x k w d r. h.gave_up.front x k w d ((same_run M laws S sound table x k.0 w d).1 r);
       within = λ x k t far asked after. h.gave_up.within x k t far asked ((same_after M laws S sound table x k.0 (suc h.turns) t far asked).1 after);
+      kept = h.gave_up.kept;
       whole = h.gave_up.whole;
       not_before = h.gave_up.not_before;
       asks_end = λ is t far asked after. h.gave_up.asks_end is t far asked ((same_after M laws S sound table (h.had ++ h.got) h.gave_up.text (suc h.turns) t far asked).1 after);

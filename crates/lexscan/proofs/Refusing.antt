@@ -241,6 +241,7 @@ module _ {S K : Type 0} (M : Machine) (laws : MachineLaws M) (gave : S → List 
       within = within;
       not_before = λ is. (wants_end (wants is)).0;
       asks_end = λ asks. elim asks [ inl is ↦ (wants_end (wants is)).1 | inr is ↦ ended is ];
+      kept = (w, refl);
       whole = λ sink stack. sym (append-nil out) ∙ ap (λ z. out ++ z) (sym (quiet (sink, stack)));
     };
     held = sym win;

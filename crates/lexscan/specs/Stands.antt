@@ -39,10 +39,10 @@ pub record Stands (M : Machine) (n : ℕ) (given out : List ℕ) (s : State) : T
   pub taken : s.reading.taken ≡ length given
 
 -- The turn after n was refused. Those before it have not ended the scan, and ask for just the bytes that were given before.
--- What was written is a front of what the run writes, and the bytes taken are no more than the turns ask for with this one.
--- They ask for the end, if the bytes given are all, where the source has answered it, and where no more reads were allowed;
--- then the turns before do not. Where the turn was refused before its action, what was written is what the turns before
--- wrote.
+-- What was written begins with what they wrote, and is a front of what the run writes. The bytes taken are no more than the
+-- turns ask for with this one. They ask for the end, if the bytes given are all, where the source has answered it, and where
+-- no more reads were allowed; then the turns before do not. Where the turn was refused before its action, what was written is
+-- what the turns before wrote.
 pub record GaveUp (R : Rules) (n : ℕ) (given got out : List ℕ) (at_end : Bool) (e : RunError) : Type 0 where
   pub text : IsText (given ++ got)
   pub before : Scan.State
@@ -53,6 +53,7 @@ pub record GaveUp (R : Rules) (n : ℕ) (given got out : List ℕ) (at_end : Boo
   pub within : (x : List ℕ) → Consistent (given ++ got) at_end x → (t : Scan.State) (far : ℕ) (asked : Bool) → AfterTurns R x (suc n) t far asked → length (given ++ got) ≤ far
   pub not_before : e ≡ TooManyReads → end_before ≡ false
   pub asks_end : (e ≡ TooManyReads) ⊎ (at_end ≡ true) → (t : Scan.State) (far : ℕ) (asked : Bool) → AfterTurns R (given ++ got) (suc n) t far asked → asked ≡ true
+  pub kept : BeginsWith out before.written
   pub whole : e ≢ Write → e ≢ Stack → before.written ≡ out
 
 -- The scan has ended: the bytes given are a text, and the turns over every consistent input write this and end so. They
