@@ -15,7 +15,7 @@ import sys
 
 ROOT = os.path.dirname(os.path.dirname(os.path.realpath(__file__)))
 CRATES = os.path.join(ROOT, "crates")
-SURFACE = ["lexre", "lexspec", "lexauto", "lextab", "lexscan", "lexkit", "lexlook_pictures", "lexlook_calls", "lexlook_same", "lexlook_lines", "lexlook_trace", "lexlook_words"]
+SURFACE = ["lexre", "lexspec", "lexauto", "lextab", "lexscan", "lexkit", "lexlook_pictures", "lexlook_calls", "lexlook_same", "lexlook_lines", "lexlook_trace", "lexlook_words", "liblex_calls"]
 NAME = r"[A-Za-z_][\w'-]*"
 # A word and its path. A field of something in parentheses is none, nor is the name of a field of a record that is written.
 WORD = re.compile(rf"(?<![\w.'])({NAME}(?:\.{NAME})*|>>=)(?! = )")
