@@ -1,0 +1,469 @@
+#!/usr/bin/env python3
+"""Tries wrong bodies in batches: puts those of many functions into one copy of a crate, checks these functions, and tells for each
+whether the prover refuses it in its own function, and by which clause.
+
+    scripts/wrong-bodies.py [CRATE..]        those of these crates, or of all
+        --changed REV     of the crates whose src/ or specs/ differ from REV, and of those above whose inherited contracts do
+        --jobs N          N checks side by side (as many as processors)
+        --itself          two bodies of lex_machine that are right, which must be told as proved, and one that is wrong
+
+The bodies stand in three folders of a crate, each a file with lines 'file:', 'old:' and 'new:' as `rt help` has them:
+
+    must-fail/*.edit      those that the gate tries too, one by one
+    wrong-bodies/*.edit   the others
+    misreadings/*.edit    changes of a definition
+
+Where the text stands in no function, as in the last, a line 'function:' names the one whose proof must refuse it.
+
+A line of the answer begins with one of these words, and the status is 1 where one is not 'refused':
+
+    refused      in its own function; the clause, or what else the prover says first of that function
+    name         in its own function, but only since a proof file cites what the edit took away
+    elsewhere    only another function is refused: nothing shows that the contract of its own refuses it
+    proves       the whole crate is still proved
+    bad          it cannot be applied or read, so no contract was tried
+
+Libraries below a crate have to be built: by `rt ci` here, or by `rt check`, which this calls where one is missing. Where `rt check` has
+kept its work in crates/NAME/out/incremental, checks begin with a copy of that, else from nothing."""
+import argparse
+import importlib.util
+import os
+import re
+import shutil
+import subprocess
+import sys
+import tempfile
+import threading
+from collections import Counter
+from concurrent.futures import ThreadPoolExecutor
+from pathlib import Path
+from typing import NamedTuple
+
+sys.dont_write_bytecode = True
+ROOT = Path(__file__).resolve().parent.parent
+FOLDERS = ("must-fail", "wrong-bodies", "misreadings")
+PARTS = ("src", "specs", "proofs")
+FUNCTION = re.compile(r"^\s*(?:pub(?:\([^)]*\))?\s+)?(?:const\s+)?(?:unsafe\s+)?(?:ghost\s+)?fn\s+(\w+)")
+IMPL = re.compile(r"^\s*(?:unsafe\s+)?impl\b")
+CYCLE = re.compile(r"^\s*#\[cycle\((\w+)\)\]")
+# What the prover says of functions, of itself and of places.
+SAID = re.compile(r"^fn (\S+): (proved|not proved|no proof)(.*)$", re.M)
+INHERITED = re.compile(r"it calls \S+, (?:which|whose)|its? callee")
+LOST = re.compile(r"error\[[\w-]+\]|^rattle: ", re.M)
+GONE = re.compile(r"has no `[^`]*` that can be named from here|is not in scope|has no field")
+TOLD = re.compile(r"^(?:note: )?(?:\./)?((?:src|specs|proofs)/[^:\s]+):(\d+):\d+: (?:error: |it is not proved that )(.*)$", re.M)
+GOAL = re.compile(r"`([\w+-]+)`")
+
+
+# Where the kit's inside is used: how it calls the prover for a crate.
+
+def kit():
+    """The kit's own module on crates. Kits 13b and 13f have what is used of it: crates_below, words, below, is_built, RATTLE."""
+    program = shutil.which("rt")
+    try:
+        path = Path(program or "rt").resolve().parent / "rtlib.py"
+        spec = importlib.util.spec_from_file_location("rtlib", path)
+        made = importlib.util.module_from_spec(spec)
+        sys.modules["rtlib"] = made
+        spec.loader.exec_module(made)
+        assert all(hasattr(made, name) for name in ("crates_below", "RATTLE"))
+        assert all(hasattr(made.Crate, name) for name in ("words", "below", "is_built"))
+        return made
+    except (OSError, AssertionError, AttributeError, SyntaxError) as error:
+        sys.exit(f"wrong-bodies: this kit calls its prover otherwise than kits 13b and 13f ({error or 'a name is gone'}): see kit() in {__file__}")
+
+
+class Edit(NamedTuple):
+    """A wrong body: its crate, folder and name, its pairs of old and new texts by file, and the functions that it changes."""
+
+    crate: str
+    folder: str
+    name: str
+    pairs: tuple
+    functions: tuple
+
+    def __str__(self):
+        return f"{self.crate}/{self.folder}/{self.name}"
+
+
+class BadEdit(Exception):
+    """Why an edit cannot be applied."""
+
+
+# The functions that an edit changes, by the names that the prover has for them.
+
+def owner(line):
+    """The words of an impl's type, then of its trait, but for its own parameters, and whether there is a trait."""
+    head = re.sub(r"^\s*(?:unsafe\s+)?impl\s*|\s*\{?\s*$|\'\w+", "", line)
+    own = re.match(r"<((?:[^<>]|<[^<>]*>)*)>", head)
+    hidden = set(re.findall(r"(?:^|,)\s*(\w+)", own[1])) if own else set()
+    head = re.sub(r"(\w)(\w*)::", lambda it: it[1].upper() + it[2], head[own.end() :] if own else head)
+    behind, _, kind = head.rpartition(" for ")
+    return "".join(word for word in re.findall(r"\w+", f"{kind} {behind}") if word not in hidden | {"_"}), bool(behind)
+
+
+def holder(lines, at):
+    """The impl, whether it is a trait's, and the function (or its cycle) whose text holds line AT, if one does."""
+    found, depth, cycle = None, None, None
+    for number in range(at, -1, -1):
+        line = lines[number]
+        indent = len(line) - len(line.lstrip())
+        named = FUNCTION.match(line)
+        if found is None and line == "}":
+            return None
+        if found is None and named:
+            found, depth = named[1], indent
+            above = CYCLE.match(lines[number - 1])
+            cycle = above and f"+{above[1]}"
+        elif found is not None and indent < depth and IMPL.match(line):
+            return (*owner(line), cycle or found)
+        elif found is not None and indent < depth and (trait := re.match(r"\s*(?:pub(?:\([^)]*\))? )?trait (\w+)", line)):
+            return trait[1], True, cycle or found
+        if found is not None and depth == 0:
+            return "", False, cycle or found
+    return None
+
+
+def module(file):
+    """The module of a file of src/."""
+    name = re.sub(r"^src/|(/mod)?\.rt$", "", file)
+    return [] if name in ("lib", "main") else name.split("/")
+
+
+def home(folder, kind):
+    """The module that declares a type."""
+    for path in sorted((folder / "src").rglob("*.rt")):
+        if re.search(rf"^\s*(?:pub(?:\([^)]*\))?\s+)?(?:struct|enum)\s+{kind}\b", path.read_text(), re.M):
+            return module(str(path.relative_to(folder)))
+    return []
+
+
+def function_at(folder, file, lines, at):
+    """The name that the prover has for the function whose text holds line AT."""
+    held = holder(lines, at)
+    if not held:
+        return None
+    kind, is_trait, function = held
+    at_home = home(folder, kind) if kind and not is_trait else module(file)
+    return "::".join([*at_home, *([kind] if kind else []), function])
+
+
+def read(folder, kind, path):
+    """An edit, with the functions that it changes."""
+    file, old, pairs, functions = "", None, [], []
+    texts = {}
+    for line in path.read_text().split("\n"):
+        if line.startswith("file: "):
+            file = line[6:].strip()
+        elif line.startswith("old: "):
+            old = line[5:]
+        elif line.startswith("function: "):
+            functions.append(line[10:].strip())
+        elif line.startswith("new:") and old is not None:
+            new = line[4:].removeprefix(" ")
+            try:
+                text = texts.get(file) or (folder / file).read_text()
+            except OSError:
+                raise BadEdit(f"there is no file {file}") from None
+            if text.count(old) != 1:
+                raise BadEdit(f"an 'old:' text stands {text.count(old)} times in {file}")
+            at = text[: text.index(old)].count("\n")
+            if file.startswith("src/"):
+                named = function_at(folder, file, text.split("\n"), at)
+                functions += [named] if named and named not in functions else []
+            texts[file] = text.replace(old, new)
+            pairs.append((file, old, new))
+            old = None
+    if not pairs:
+        raise BadEdit("it has no 'old:' and 'new:'")
+    if not functions:
+        raise BadEdit("no function holds its text, and it has no line 'function:'")
+    return Edit(folder.name, kind, path.stem, tuple(pairs), tuple(functions))
+
+
+def edits_of(folder):
+    """The edits of a crate, and what is wrong with those that cannot be applied."""
+    good, bad = [], []
+    for kind in FOLDERS:
+        for path in sorted((folder / kind).glob("*.edit")):
+            try:
+                good.append(read(folder, kind, path))
+            except BadEdit as why:
+                bad.append((f"{folder.name}/{kind}/{path.stem}", str(why)))
+    return good, bad
+
+
+# A check of a copy.
+
+def linked(source, to):
+    """Copies kept work: what was proved by links, since a check replaces such a file and changes none."""
+
+    def copy(one, other):
+        try:
+            return os.link(one, other) if one.endswith(".oantt") else shutil.copy2(one, other)
+        except OSError:
+            return shutil.copy2(one, other)
+
+    shutil.copytree(source, to, symlinks=True, copy_function=copy)
+
+
+class Checked(NamedTuple):
+    """What a check said: all of it, of each function, and its status."""
+
+    text: str
+    functions: dict
+    status: int
+
+
+class Crate:
+    """A crate whose edits are tried."""
+
+    def __init__(self, rtlib, made):
+        self.rtlib, self.made, self.folder = rtlib, made, Path(made.folder)
+
+    def build_below(self):
+        """Builds the libraries below, where one is missing or older than its text."""
+        def is_fresh(it):
+            format = Path(it.rlib) / "format"
+            newest = max((path.stat().st_mtime for part in PARTS[:2] for path in (Path(it.folder) / part).rglob("*.*")), default=0)
+            return it.is_built() or format.is_file() and newest < format.stat().st_mtime
+
+        if not all(is_fresh(it) for it in self.made.below()):
+            subprocess.run(["rt", "check", "--only", ""], cwd=self.folder, stdout=subprocess.DEVNULL, check=False)
+
+    def check(self, edits, functions):
+        """Checks a copy with these edits: these functions and what they call, or, where none is named, the whole crate."""
+        texts = {}
+        for edit in edits:
+            for file, old, new in edit.pairs:
+                text = texts.get(file) or (self.folder / file).read_text()
+                if text.count(old) != 1:
+                    raise BadEdit(f"an 'old:' text stands {text.count(old)} times in {file}")
+                texts[file] = text.replace(old, new)
+        with tempfile.TemporaryDirectory(prefix="wrong-bodies-") as room:
+            for part in PARTS:
+                if (self.folder / part).is_dir():
+                    shutil.copytree(self.folder / part, f"{room}/{part}")
+            for file, text in texts.items():
+                Path(room, file).write_text(text)
+            kept = self.folder / "out/incremental"
+            words = ["--jobs", "1"]
+            for name in functions:
+                words += ["--only", name]
+            words = [self.rtlib.RATTLE, "check", *self.made.words(words, keeps=False)]
+            if kept.is_dir():
+                linked(kept, f"{room}/kept")
+                words += ["--incremental", f"{room}/kept"]
+            ran = subprocess.run(words, cwd=room, stdin=subprocess.DEVNULL, stdout=subprocess.PIPE, stderr=subprocess.STDOUT, errors="replace", text=True, check=False)
+        said = {it[1]: (it[2], it[3]) for it in SAID.finditer(ran.stdout)}
+        return Checked(ran.stdout, said, ran.returncode)
+
+
+# What is told of an edit.
+
+def is_of(name, function, crate):
+    """Whether the prover's name is that of this function, or of a closure in it."""
+    path = name.removeprefix(f"{crate}::")
+    inside = "::".join([*function.split("::")[:-1], "fn", function.split("::")[-1]])
+    owned = re.sub(r"(\w+)::(\w+)$", r"fn::\1::\2", function)
+    return path == function or path.startswith((f"{inside}::", f"{owned}::"))
+
+
+def told_of(checked, edit):
+    """What the prover says of the edit's functions: what is not proved, or what is wrong in a proof file."""
+    folder = ROOT / "crates" / edit.crate
+    proofs = tuple(f"proofs/{name.replace('::', '/')}/" for name in edit.functions)
+    sources = {file: (folder / file).read_text().split("\n") for file, _, _ in edit.pairs}
+    for file, line, text in TOLD.findall(checked.text):
+        # (an edit is one line for one line, so that lines keep their numbers)
+        is_source = file in sources and function_at(folder, file, sources[file], min(int(line), len(sources[file])) - 1) in edit.functions
+        if file.startswith(proofs) or is_source or edit.folder == "misreadings":
+            yield text
+
+
+def clause(checked, edit):
+    """The first clause that the prover refuses of the edit's functions; or else the first goal, or what it says first."""
+    told = list(told_of(checked, edit))
+    goals = [(goal[1], text) for text in told for goal in [GOAL.search(text)] if goal]
+    if edit.folder == "misreadings" and goals:
+        return f"example {goals[0][0]}"
+    for goal, text in goals:
+        if "-clause-" in goal:
+            return f"clause {goal.rpartition('-clause-')[2]}"
+    if not goals:
+        return told[0][:90] if told else "no place told"
+    what = goals[0][1].split(" (`")[0]
+    return goals[0][0] if what.startswith(("what the function ensures", "`")) else f"{goals[0][0]} ({what})"
+
+
+def is_gone(checked, edit):
+    """Whether all that the prover says of the edit's functions is that a proof file cites what is no more."""
+    told = list(told_of(checked, edit))
+    return bool(told) and edit.folder != "misreadings" and all(GONE.search(text) for text in told)
+
+
+def judge(checked, edit, others):
+    """What a check of a batch says of one of its edits: a word and why, or None where it must be tried again, and without which."""
+    own = {name: said for name, said in checked.functions.items() if any(is_of(name, it, edit.crate) for it in edit.functions)}
+    refused = [name for name, (word, why) in own.items() if word == "not proved" or word == "no proof" and not INHERITED.search(why)]
+    if refused:
+        return "name" if is_gone(checked, edit) else "refused", f"{refused[0].removeprefix(edit.crate + '::')}: {clause(checked, edit)}"
+    if not own or any(word != "proved" for word, _ in own.values()) or len(others) > 1:
+        return None
+    return "proves", "its functions are proved"
+
+
+def whole(crate, edit):
+    """What a check of the whole crate says of an edit whose own functions are proved."""
+    checked = crate.check([edit], [])
+    if checked.status == 0:
+        return "proves", "the whole crate is proved"
+    judged = judge(checked, edit, [edit])
+    if judged and judged[0] != "proves":
+        return judged
+    refused = [name for name, (word, why) in checked.functions.items() if word != "proved" and not INHERITED.search(why)]
+    if refused:
+        return "elsewhere", f"by {', '.join(it.removeprefix(edit.crate + '::') for it in refused[:3])}"
+    lost = LOST.search(checked.text)
+    return "bad", (checked.text[lost.start() :] if lost else checked.text[-300:]).strip().split("\n")[0][:200]
+
+
+def batch_of(pending):
+    """The edits of a next batch: of each function one, each definition alone."""
+    taken, batch = set(), []
+    for edit in pending:
+        if edit.folder == "misreadings":
+            if not batch:
+                return [edit]
+            continue
+        if not taken & set(edit.functions):
+            taken |= set(edit.functions)
+            batch.append(edit)
+    return batch
+
+
+def tries(crate, batch):
+    """What each edit of a batch comes to. Those that the batch hides are tried in smaller ones."""
+    functions = [name for edit in batch for name in edit.functions]
+    checked = crate.check(batch, functions)
+    if not checked.functions and len(batch) > 1:
+        # (one of them cannot be read, or is in a function that the prover names otherwise)
+        half = len(batch) // 2
+        return {**tries(crate, batch[:half]), **tries(crate, batch[half:])}
+    told = {edit: judge(checked, edit, batch) for edit in batch}
+    hidden = [edit for edit in batch if not told[edit]]
+    if len(batch) == 1:
+        edit = batch[0]
+        return {edit: told[edit] if told[edit] and told[edit][0] != "proves" else whole(crate, edit)}
+    if len(hidden) == len(batch):
+        half = len(batch) // 2
+        return {**tries(crate, batch[:half]), **tries(crate, batch[half:])}
+    return {**told, **(tries(crate, hidden) if hidden else {})}
+
+
+# Which crates.
+
+def statements(text):
+    """The lines of a source file that stand outside the functions' bodies."""
+    kept, end = [], None
+    for line in text.split("\n"):
+        if end is None:
+            kept.append(line)
+            head = re.match(r"(\s*)(?:.*\bfn \w.*)?\{$", line)
+            if head and ("fn " in line or line.strip() == "{"):
+                end = f"{head[1]}}}"
+        elif line == end:
+            end = None
+    return kept
+
+
+def changed(crates, revision):
+    """The crates whose src/ or specs/ differ from a revision, and those above one whose contracts do."""
+    listed = subprocess.run(["git", "diff", "--name-only", revision, "--", "crates"], cwd=ROOT, stdout=subprocess.PIPE, text=True, check=True).stdout.split()
+    here, above = set(), set()
+    for path in listed:
+        _, name, part, *_ = [*path.split("/"), "", ""]
+        if part not in ("src", "specs", *FOLDERS):
+            continue
+        here.add(name)
+        old = subprocess.run(["git", "show", f"{revision}:{path}"], cwd=ROOT, stdout=subprocess.PIPE, stderr=subprocess.DEVNULL, text=True, check=False).stdout
+        new = (ROOT / path).read_text() if (ROOT / path).is_file() else ""
+        if part == "specs" or part == "src" and statements(old) != statements(new):
+            above.add(name)
+    return [it for it in crates if it.name in here or any(dep.name in above for dep in it.below())]
+
+
+ITSELF = (
+    ("it changes nothing", "proves", (("src/action.rt", "        matches!(self, Statement::More)", "        matches!(&*self, Statement::More)"),)),
+    ("its body is right but slower", "proves", (("src/action.rt", "        matches!(self, Statement::Reject)", "        let is_reject = matches!(self, Statement::Reject); is_reject == true"),)),
+    ("its body is wrong", "refused", (("src/action.rt", "        matches!(self, Statement::Less(_))", "        matches!(self, Statement::Less(_) | Statement::More)"),)),
+)
+
+
+def itself(rtlib, crates):
+    """Tries the script on bodies of which it is known what they come to."""
+    made = next(it for it in crates if it.name == "lex_machine")
+    crate, failed = Crate(rtlib, made), 0
+    crate.build_below()
+    functions = [("action::Statement::is_yymore",), ("action::Statement::is_reject",), ("action::Statement::is_yyless",)]
+    edits = [Edit("lex_machine", "itself", name, pairs, named) for (name, _, pairs), named in zip(ITSELF, functions)]
+    told = tries(crate, edits)
+    for edit, (name, want, _) in zip(edits, ITSELF):
+        word, why = told[edit]
+        failed += word != want
+        print(f"{word:10}{name}: {why}{'' if word == want else f'; wanted: {want}'}")
+    return failed
+
+
+def main():
+    parser = argparse.ArgumentParser(usage=__doc__, add_help=False)
+    parser.add_argument("crates", nargs="*")
+    parser.add_argument("--changed")
+    parser.add_argument("--jobs", type=int, default=len(os.sched_getaffinity(0)))
+    parser.add_argument("--itself", action="store_true")
+    given = parser.parse_args()
+    os.chdir(ROOT)
+    rtlib = kit()
+    crates = rtlib.crates_below(str(ROOT))
+    for it in crates:
+        it.out = open(os.devnull, "w")
+    if given.itself:
+        return 1 if itself(rtlib, crates) else 0
+    lacking = set(given.crates) - {it.name for it in crates}
+    if lacking:
+        sys.exit(f"wrong-bodies: no crate is named {' '.join(sorted(lacking))}")
+    chosen = changed(crates, given.changed) if given.changed else crates
+    chosen = [it for it in chosen if not given.crates or it.name in given.crates]
+    count, lock = Counter(), threading.Lock()
+
+    def tell(name, word, why):
+        with lock:
+            count[word] += 1
+            print(f"{word:10} {name}: {why}", flush=True)
+
+    tasks = []
+    for made in chosen:
+        edits, bad = edits_of(Path(made.folder))
+        for name, why in bad:
+            tell(name, "bad", why)
+        if edits:
+            crate = Crate(rtlib, made)
+            crate.build_below()
+            while edits:
+                batch = batch_of(edits)
+                edits = [it for it in edits if it not in batch]
+                tasks.append((crate, batch))
+
+    def work(task):
+        crate, batch = task
+        for edit, (word, why) in tries(crate, batch).items():
+            tell(edit, word, why)
+
+    with ThreadPoolExecutor(given.jobs) as pool:
+        list(pool.map(work, sorted(tasks, key=lambda it: -len(it[1]))))
+    print(f"{sum(count.values())} wrong bodies of {len({it[0].made.name for it in tasks})} crates, in {len(tasks)} batches: " + ", ".join(f"{number} {word}" for word, number in count.items()))
+    return 1 if sum(count.values()) != count["refused"] else 0
+
+
+if __name__ == "__main__":
+    sys.exit(main())
